@@ -1,0 +1,5 @@
+pub mod SerialOrder
+pub mod InternetSum
+pub mod Ends
+pub mod MemoryEnds
+pub mod StatusCode

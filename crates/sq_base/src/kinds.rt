@@ -1,0 +1,67 @@
+//! Plain types that several layers speak of.
+
+ghost use Rattle.std.specs.Prelude.{◌≡◌};
+
+/// How a run of the program ended.
+#[derive(Clone, Copy, Debug, PartialEq, Eq)]
+pub enum Status {
+    /// The output was written whole.
+    Ok,
+    /// The words are refused.
+    Usage,
+    NoMemory,
+    /// The input couldn't be read.
+    ReadFault,
+    /// The output couldn't be written.
+    WriteFault,
+    /// The input is no capture.
+    BadCapture,
+    /// The input has too many bytes or records.
+    TooLarge,
+    /// A call names a connection that isn't there.
+    NoConnection,
+}
+
+impl Status {
+    ghost use Rattle.sq_base.specs.StatusCode.{code_of};
+
+    /// The exit status of the process.
+    pub fn code(self) -> u8
+        ensures { result ≡ code_of self }
+    {
+        match self {
+            Status::Ok => 0,
+            Status::Usage => 2,
+            Status::NoMemory => 3,
+            Status::ReadFault => 4,
+            Status::WriteFault => 5,
+            Status::BadCapture => 6,
+            Status::TooLarge => 7,
+            Status::NoConnection => 8,
+        }
+    }
+}
+
+/// An IPv4 address, its first byte highest (RFC 791).
+#[derive(Clone, Copy, Debug, PartialEq, Eq, Hash)]
+pub struct Addr(pub u32);
+
+/// The link layer of a capture (libpcap's link types).
+#[derive(Clone, Copy, Debug, PartialEq, Eq)]
+pub enum Link {
+    /// Ethernet, type 1.
+    Ethernet,
+    /// The datagram alone, type 101.
+    RawIp,
+    /// Linux cooked, type 113.
+    Cooked,
+}
+
+/// The two ends of a connection, the client being the one that opens it.
+#[derive(Clone, Copy, Debug, PartialEq, Eq, Hash)]
+pub struct Tuple {
+    pub client: Addr,
+    pub client_port: u16,
+    pub server: Addr,
+    pub server_port: u16,
+}
