@@ -1,0 +1,5 @@
+pub mod Pieces
+pub mod Outcomes
+pub mod OneOutcome
+pub mod SomeOutcome
+pub mod Times

@@ -1,0 +1,5 @@
+pub mod Form
+pub mod Header
+pub mod CaptureFile
+pub mod Outcome
+pub mod SoFar

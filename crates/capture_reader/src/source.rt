@@ -1,0 +1,54 @@
+//! A capture from a source, which is read to the end of its input.
+
+ghost use Rattle.std.specs.Prelude.{◌≡◌, ◌≤◌, length, IfOk, IfErr, Err};
+ghost use Rattle.sq_base.specs.Ends.{Rose};
+ghost use Rattle.capture_reader.specs.Outcome.{IsCapture, ReadsWhole, ReadFails, Takes};
+ghost use Rattle.capture_reader.specs.SoFar.{FailsEarly};
+
+use crate::capture::{Capture, MOST_BYTES, parse_capture};
+use crate::fault::CaptureFault;
+use sq_base::{Failed, Octets, Source};
+use std::alloc::Global;
+
+/// How many bytes one call asks for at most.
+const PIECE: usize = 65_536;
+
+/// The capture that a source gives. `Read` comes only where the source's count of faults rose. `TooLarge(67108865)` comes
+/// where that byte was taken, and with no other answer but want of memory it was.
+pub fn read_capture<S: Source>(alloc: Global, src: &mut S) -> Result<Capture, CaptureFault>
+    ensures ok { IfOk result (λ c. ReadsWhole (S.rest src.old) (S.rest src.new) c.bytes × IsCapture c) }
+    ensures err { IfErr result (ReadFails (S.rest src.old) (S.rest src.new)) }
+    ensures read { result ≡ Err CaptureFault.Read → Rose (S.read_faults src.old) (S.read_faults src.new) }
+    ensures few { Takes (λ n. n ≤ 67108865) (S.rest src.old) (S.rest src.new) }
+    ensures never_falls { S.read_faults src.old ≤ S.read_faults src.new }
+{
+    let bytes = read_all(alloc, src)?;
+    parse_capture(alloc, Octets::wrap(bytes))
+}
+
+/// All that a source gives, within the size.
+fn read_all<S: Source>(alloc: Global, src: &mut S) -> Result<Vec<u8>, CaptureFault>
+    ensures ok { IfOk result (λ v. ReadsWhole (S.rest src.old) (S.rest src.new) v.items × (length v.items ≤ 67108864)) }
+    ensures err { IfErr result (FailsEarly (S.rest src.old) (S.rest src.new)) }
+    ensures read { result ≡ Err CaptureFault.Read → Rose (S.read_faults src.old) (S.read_faults src.new) }
+    ensures few { Takes (λ n. n ≤ 67108865) (S.rest src.old) (S.rest src.new) }
+    ensures never_falls { S.read_faults src.old ≤ S.read_faults src.new }
+{
+    let mut bytes = Vec::new(alloc);
+    let mut buf = [0; PIECE];
+    loop {
+        // Never more than one byte past the size is asked for.
+        let room = PIECE.min(MOST_BYTES + 1 - bytes.len());
+        let n = match src.read(&mut buf[..room]) {
+            Ok(0) => return Ok(bytes),
+            Ok(n) => n,
+            Err(Failed) => return Err(CaptureFault::Read),
+        };
+        bytes
+            .extend_from_slice(&buf[..n])
+            .map_err(|_| CaptureFault::NoMemory)?;
+        if bytes.len() > MOST_BYTES {
+            return Err(CaptureFault::TooLarge(bytes.len() as u64));
+        }
+    }
+}
