@@ -1,0 +1,4 @@
+pub mod OptionLemmas
+pub mod Joins
+pub mod SumLemmas
+pub mod SentIsReadLemmas

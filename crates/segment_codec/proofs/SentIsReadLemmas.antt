@@ -1,0 +1,136 @@
+-- What is sent is read again.
+use Rattle.std.proofs.Common.{◌≡◌, ℕ, ◌+◌, ◌*◌, ◌<◌, ◌≤◌, List, [], ◌∷◌, ◌++◌, length, drop, take, Option, None, Some, Bool, true, false, refl, sym, ap, ◌∙◌, arith, cond, eqb, ltb, ◌&&◌, inl, inr, length-append, subst}
+use Rattle.std.proofs.lemmas.Bool.Decides.{nat_tests}
+use Rattle.std.proofs.lemmas.List.{take_all, take_at, drop_at, drop-take}
+use Rattle.sq_base.specs.InternetSum.{word_sum, reduced}
+use Rattle.sq_base.specs.declared.kinds.Tuple.{Tuple}
+use Rattle.segment_codec.specs.declared.packet.Reply.{Reply}
+use Rattle.segment_codec.specs.declared.packet.Seg.{Seg}
+use Rattle.segment_codec.specs.declared.packet.Packet.TheVariants as packet
+use Rattle.segment_codec.specs.Places.{byte, word, long, high}
+use Rattle.segment_codec.specs.Packet.{packet_in, datagram, tcp_packet, segment_of, sums_hold}
+use Rattle.segment_codec.specs.Options.{mss_in, scale_in, options_in}
+use Rattle.byteorder.specs.Endian.{big_bytes}
+use Rattle.segment_codec.specs.SegmentBytes.{segment_bytes, ip_with, tcp_with, option_bytes, offset_of, ip_sum, tcp_sum}
+use Rattle.segment_codec.specs.SentIsRead.{AreSent, Fits, ReadsAgain}
+use Rattle.segment_codec.proofs.SumLemmas.{sum_completes, header_sums}
+
+-- a whole datagram without options, fragments or padding
+datagram_whole : (verify : Bool) (ip : List ℕ) (from : ℕ) → 20 ≤ length ip → byte ip 0 ≡ 69 → word ip 2 ≡ length ip → word ip 6 ≡ 16384 → byte ip 9 ≡ 6
+    → datagram verify ip from ≡ tcp_packet verify ip (take 20 ip) (drop 20 ip) (from + 20)
+unfolding datagram
+datagram_whole verify ip from size first total flags proto =
+    let t1 : eqb (length ip) 0 ≡ false = grind (arith, nat_tests) in
+    let t2 : ltb (length ip) 20 ≡ false = grind (arith, nat_tests) in
+    let t3 : ltb (length ip) (length ip) ≡ false = grind (arith, nat_tests) in
+    let all : take (length ip) ip ≡ ip = take_all (length ip) ip (omega arith) in
+    simp (first, total, t1, t2, t3, flags, proto, all)
+
+-- a whole TCP part whose sums hold
+tcp_whole : (ip header tcp : List ℕ) (from d : ℕ) → high (byte tcp 12) ≡ d → 5 ≤ d → 4 * d ≤ length tcp → sums_hold ip header tcp ≡ true
+    → tcp_packet true ip header tcp from ≡ packet.Segment (segment_of ip tcp from)
+unfolding tcp_packet
+tcp_whole ip header tcp from d offset low_enough fits sums =
+    let t1 : ltb (length tcp) 20 ≡ false = grind (arith, nat_tests) in
+    let t2 : ltb d 5 ≡ false = grind (arith, nat_tests) in
+    let t3 : ltb (length tcp) (4 * d) ≡ false = grind (arith, nat_tests) in
+    simp (offset, t1, t2, t3, sums)
+
+-- the field of the TCP sum is added
+word_sum-tcp_with : (t : Tuple) (r : Reply) (sum : ℕ) → sum < 65536 → word_sum (tcp_with t r sum) ≡ word_sum (tcp_with t r 0) + sum
+word_sum-tcp_with t r sum h = omega arith
+
+length-tcp_with : (t : Tuple) (r : Reply) (sum : ℕ) → length (tcp_with t r sum) ≡ 20 + length (option_bytes r) + length r.text
+length-tcp_with t r sum = omega (arith, length-append (option_bytes r) r.text)
+
+-- the sums of what is sent hold
+sums_sent : (t : Tuple) (r : Reply) (total : ℕ) → length (tcp_with t r 0) < 65536
+    → sums_hold (ip_with t total (ip_sum t total) ++ tcp_with t r (tcp_sum t r)) (ip_with t total (ip_sum t total)) (tcp_with t r (tcp_sum t r)) ≡ true
+unfolding sums_hold tcp_sum
+sums_sent t r total small =
+    let sum = tcp_sum t r in
+    let fits : sum < 65536 = omega arith in
+    let a : eqb (reduced (word_sum (ip_with t total (ip_sum t total)))) 65535 ≡ true = ap (λ (n : ℕ). eqb n 65535) (header_sums t total) in
+    let same : length (tcp_with t r sum) ≡ length (tcp_with t r 0) = length-tcp_with t r sum ∙ sym (length-tcp_with t r 0) in
+    let b : ltb (length (tcp_with t r sum)) 65536 ≡ true = grind (arith, nat_tests, same) in
+    let whole : word_sum (drop 12 (take 20 (ip_with t total (ip_sum t total) ++ tcp_with t r sum))) + 6 + length (tcp_with t r sum) + word_sum (tcp_with t r sum)
+    ≡ word_sum (big_bytes 4 t.server.0) + word_sum (big_bytes 4 t.client.0) + 6 + length (tcp_with t r 0) + word_sum (tcp_with t r 0) + sum
+    = omega (arith, same, word_sum-tcp_with t r sum fits) in
+    let c : eqb (reduced (word_sum (drop 12 (take 20 (ip_with t total (ip_sum t total) ++ tcp_with t r sum))) + 6 + length (tcp_with t r sum) + word_sum (tcp_with t r sum))) 65535 ≡ true
+    = ap (λ (n : ℕ). eqb (reduced n) 65535) whole ∙ ap (λ (n : ℕ). eqb n 65535) (sum_completes (word_sum (big_bytes 4 t.server.0) + word_sum (big_bytes 4 t.client.0) + 6 + length (tcp_with t r 0) + word_sum (tcp_with t r 0))) in
+    ap (λ p. p && (ltb (length (tcp_with t r sum)) 65536 && eqb (reduced (word_sum (drop 12 (take 20 (ip_with t total (ip_sum t total) ++ tcp_with t r sum))) + 6 + length (tcp_with t r sum) + word_sum (tcp_with t r sum))) 65535)) a
+    ∙ (ap (λ p. p && eqb (reduced (word_sum (drop 12 (take 20 (ip_with t total (ip_sum t total) ++ tcp_with t r sum))) + 6 + length (tcp_with t r sum) + word_sum (tcp_with t r sum))) 65535) b ∙ c)
+
+abbrev seg_of : ℕ → ℕ → ℕ → ℕ → ℕ → ℕ → ℕ → ℕ → Option ℕ → Option ℕ → ℕ → ℕ → Seg
+seg_of src dst src_port dst_port seq ack flags wnd mss scale from len =
+    record { src = record { 0 = src }; dst = record { 0 = dst }; src_port = src_port; dst_port = dst_port; seq = seq; ack = ack; flags = flags; wnd = wnd; mss = mss; scale = scale; text_from = from; text_len = len }
+
+same_seg : (a b c d e f g h : ℕ) (m n : Option ℕ) (i j a' b' c' d' e' f' g' h' : ℕ) (m' n' : Option ℕ) (i' j' : ℕ)
+    → a ≡ a' → b ≡ b' → c ≡ c' → d ≡ d' → e ≡ e' → f ≡ f' → g ≡ g' → h ≡ h' → m ≡ m' → n ≡ n' → i ≡ i' → j ≡ j'
+    → seg_of a b c d e f g h m n i j ≡ seg_of a' b' c' d' e' f' g' h' m' n' i' j'
+same_seg a b c d e f g h m n i j a' b' c' d' e' f' g' h' m' n' i' j' p q r s t u v w x o y z =
+    rw (p, q, r, s, t, u, v, w, x, o, y, z) refl
+
+-- the TCP header without its options
+abbrev fixed_with : Tuple → Reply → ℕ → List ℕ
+fixed_with t r sum =
+    big_bytes 2 t.server_port ++ (big_bytes 2 t.client_port ++ (big_bytes 4 r.seq ++ (big_bytes 4 r.ack
+    ++ (offset_of r * 16 ∷ r.flags ∷ (big_bytes 2 r.wnd ++ (big_bytes 2 sum ++ (0 ∷ 0 ∷ [])))))))
+
+-- the options stand between the fixed header and the text
+options_between : (fixed options text : List ℕ) (n : ℕ) → length fixed ≡ 20 → n ≡ 20 + length options → drop 20 (take n (fixed ++ (options ++ text))) ≡ options
+options_between fixed options text n long e =
+    ap (λ (k : ℕ). drop 20 (take k (fixed ++ (options ++ text)))) e
+    ∙ (drop-take 20 (length options) (fixed ++ (options ++ text))
+    ∙ (ap (take (length options)) (drop_at fixed (options ++ text) 20 long)
+    ∙ take_at options text (length options) refl))
+
+-- what is sent with options that are read again
+reads_with : (t : Tuple) (r : Reply) (k : ℕ) → Fits t r → length (option_bytes r) ≡ 4 * k → k ≤ 2 → mss_in (option_bytes r) ≡ r.mss → scale_in (option_bytes r) ≡ r.scale → ReadsAgain t r
+unfolding packet_in segment_bytes segment_of word long
+reads_with t r k fits options few mss scale =
+    let total = 20 + length (tcp_with t r 0) in
+    let tcp = tcp_with t r (tcp_sum t r) in
+    let ip = ip_with t total (ip_sum t total) in
+    let all = ip ++ tcp in
+    let long_tcp : length tcp ≡ 20 + 4 * k + length r.text = length-tcp_with t r (tcp_sum t r) ∙ omega (arith, options) in
+    let long_blank : length (tcp_with t r 0) ≡ 20 + 4 * k + length r.text = length-tcp_with t r 0 ∙ omega (arith, options) in
+    let size : length all ≡ 40 + 4 * k + length r.text = omega (arith, long_tcp) in
+    let raw : (ltb 0 (length all) && false) ≡ false = grind (arith, nat_tests) in
+    let named : word all 2 ≡ length all = omega (arith, size, long_blank, fits.text, few) in
+    let sums : sums_hold all ip tcp ≡ true = sums_sent t r total (omega (arith, long_blank, fits.text, few)) in
+    let offset : high (byte tcp 12) ≡ 5 + k = omega (arith, options) in
+    let between : drop 20 (take (4 * high (byte tcp 12)) tcp) ≡ option_bytes r =
+    options_between (fixed_with t r (tcp_sum t r)) (option_bytes r) r.text (4 * high (byte tcp 12)) refl (omega (arith, offset, options)) in
+    ap (λ b. cond b packet.Other (datagram true all 0)) raw
+    ∙ (datagram_whole true all 0 (omega (arith, size)) refl named refl refl
+    ∙ (tcp_whole all ip tcp 20 (5 + k) offset (omega arith) (omega (arith, long_tcp)) sums
+    ∙ ap (λ (s : Seg). packet.Segment s) (same_seg _ _ _ _ _ _ _ _ _ _ _ _ _ _ _ _ _ _ _ _ _ _ _ _
+    (omega (arith, fits.server)) (omega (arith, fits.client)) (omega (arith, fits.server_port)) (omega (arith, fits.client_port))
+    (omega (arith, fits.seq)) (omega (arith, fits.ack)) (omega (arith, fits.flags)) (omega (arith, fits.wnd))
+    (ap mss_in between ∙ mss) (ap scale_in between ∙ scale) (omega (arith, offset, options)) (omega (arith, long_tcp, offset)))))
+
+abbrev carrying : Reply → Option ℕ → Option ℕ → Reply
+carrying r mss scale = record r { mss = mss; scale = scale }
+
+-- the options that are sent are read again
+record OptionsRead (r : Reply) : Type 0 where
+  words : ℕ
+  size : length (option_bytes r) ≡ 4 * words
+  few : words ≤ 2
+  mss : mss_in (option_bytes r) ≡ r.mss
+  scale : scale_in (option_bytes r) ≡ r.scale
+
+carries : (r : Reply) (mss scale : Option ℕ) → r.mss ≡ mss → r.scale ≡ scale → r ≡ carrying r mss scale
+carries r mss scale p q = ap (λ (m : Option ℕ). carrying r m r.scale) p ∙ ap (carrying r mss) q
+
+options_read : (r : Reply) → AreSent r → OptionsRead r
+unfolding mss_in scale_in options_in word
+options_read r (inl e) = subst OptionsRead (sym (carries r None None e.0 e.1)) (record { words = 0; size = refl; few = omega arith; mss = refl; scale = refl })
+options_read r (inr (inl e)) = subst OptionsRead (sym (carries r (Some 1460) None e.0 e.1)) (record { words = 1; size = refl; few = omega arith; mss = refl; scale = refl })
+options_read r (inr (inr e)) = subst OptionsRead (sym (carries r (Some 1460) (Some 5) e.0 e.1)) (record { words = 2; size = refl; few = omega arith; mss = refl; scale = refl })
+
+pub reads_again : (t : Tuple) (r : Reply) → Fits t r → ReadsAgain t r
+reads_again t r fits =
+    let again = options_read r fits.options in
+    reads_with t r again.words fits again.size again.few again.mss again.scale

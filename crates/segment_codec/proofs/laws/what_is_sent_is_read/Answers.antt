@@ -1,0 +1,5 @@
+use Rattle.segment_codec.proofs.SentIsReadLemmas.{reads_again}
+use Rattle.segment_codec.proofs.laws.what_is_sent_is_read.Goals as goal
+
+pub returns : goal.returns
+returns c = reads_again

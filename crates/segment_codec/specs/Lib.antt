@@ -1,0 +1,5 @@
+pub mod Places
+pub mod Options
+pub mod Packet
+pub mod SegmentBytes
+pub mod SentIsRead

@@ -1,0 +1,43 @@
+-- What is sent is read again.
+use Rattle.std.specs.Prelude.{◌≡◌, ◌+◌, ◌<◌, ◌^◌, ◌≤◌, ◌⊎◌, true, length, None, Some, All}
+use Rattle.sq_base.specs.declared.kinds.Link.TheVariants.{RawIp}
+use Rattle.sq_base.specs.declared.kinds.Tuple.{Tuple}
+use Rattle.segment_codec.specs.declared.packet.Reply.{Reply}
+use Rattle.segment_codec.specs.declared.packet.Packet.TheVariants as packet
+use Rattle.segment_codec.specs.Packet.{packet_in}
+use Rattle.segment_codec.specs.SegmentBytes.{segment_bytes, option_bytes}
+
+-- the options that are sent: none, the maximum segment size 1460, or that and the window scale 5
+abbrev pub AreSent : Reply → Type 0
+AreSent r = ((r.mss ≡ None) × (r.scale ≡ None)) ⊎ (((r.mss ≡ Some 1460) × (r.scale ≡ None)) ⊎ ((r.mss ≡ Some 1460) × (r.scale ≡ Some 5)))
+
+-- a tuple and a reply whose numbers fit their fields, and whose options and flags are those that are sent
+pub record Fits (t : Tuple) (r : Reply) : Type 0 where
+  pub client : t.client.0 < 2 ^ 32
+  pub server : t.server.0 < 2 ^ 32
+  pub client_port : t.client_port < 2 ^ 16
+  pub server_port : t.server_port < 2 ^ 16
+  pub seq : r.seq < 2 ^ 32
+  pub ack : r.ack < 2 ^ 32
+  pub wnd : r.wnd < 2 ^ 16
+  pub flags : r.flags < 64
+  pub options : AreSent r
+  pub text : length r.text ≤ 1460
+  pub bytes : All (λ b. b < 256) r.text
+
+-- its bytes decode to its own fields, and the text stands behind both headers
+abbrev pub ReadsAgain : Tuple → Reply → Type 0
+ReadsAgain t r = packet_in RawIp (segment_bytes t r) true ≡ packet.Segment (record {
+  src = t.server;
+  src_port = t.server_port;
+  dst = t.client;
+  dst_port = t.client_port;
+  seq = r.seq;
+  ack = r.ack;
+  flags = r.flags;
+  wnd = r.wnd;
+  mss = r.mss;
+  scale = r.scale;
+  text_from = 40 + length (option_bytes r);
+  text_len = length r.text;
+})

@@ -1,0 +1,69 @@
+//! What a record holds, and what is sent.
+
+use sq_base::{Addr, Octets};
+
+/// The fields of a segment (RFC 9293, 3.1).
+///
+/// The ports, the sequence number `seq`, the acknowledgement number `ack` and the window `wnd` are the header's own;
+/// `flags` are its lower six bits (FIN 1, SYN 2, RST 4, PSH 8, ACK 16, URG 32). `mss` is the option for the maximum
+/// segment size and `scale` the shift of the window scale (RFC 7323), wherever they stand; no rule on flags is applied.
+/// The text is the `text_len` bytes of the record's body from `text_from` on.
+#[derive(Clone, Copy, Debug, PartialEq, Eq)]
+pub struct Seg {
+    pub src: Addr,
+    pub src_port: u16,
+    pub dst: Addr,
+    pub dst_port: u16,
+    pub seq: u32,
+    pub ack: u32,
+    pub flags: u8,
+    pub wnd: u16,
+    pub mss: Option<u16>,
+    pub scale: Option<u8>,
+    pub text_from: u32,
+    pub text_len: u32,
+}
+
+/// Which number of a datagram contradicts another, or what RFC 791 or RFC 9293 demands of it.
+#[derive(Clone, Copy, Debug, PartialEq, Eq)]
+pub enum Why {
+    /// The version isn't 4.
+    Version,
+    /// The IPv4 header is shorter than 20 bytes.
+    HeaderLength,
+    /// The total length is shorter than the IPv4 header.
+    TotalLength,
+    /// The TCP part is shorter than 20 bytes.
+    TcpLength,
+    /// The TCP header is shorter than 20 bytes, or longer than the TCP part.
+    DataOffset,
+}
+
+/// What a record's bytes hold.
+#[derive(Clone, Copy, Debug, PartialEq, Eq)]
+pub enum Packet {
+    /// A whole TCP segment.
+    Segment(Seg),
+    /// Another protocol than TCP over IPv4.
+    Other,
+    /// A fragment of an IPv4 datagram.
+    Fragment,
+    /// The capture holds fewer bytes than the headers name.
+    Cut,
+    Malformed(Why),
+    /// A checksum is wrong. Given only where checksums are to be verified.
+    BadSum,
+}
+
+/// A segment that is sent: its time `at` in microseconds, the fields of its header, the options that it carries, and its text.
+#[derive(Debug, Drop)]
+pub struct Reply {
+    pub at: u64,
+    pub flags: u8,
+    pub seq: u32,
+    pub ack: u32,
+    pub wnd: u16,
+    pub mss: Option<u16>,
+    pub scale: Option<u8>,
+    pub text: Octets,
+}

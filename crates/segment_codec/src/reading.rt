@@ -1,0 +1,156 @@
+//! From a record to a packet: one function for each layer, and the first answer ends it.
+
+ghost use Rattle.std.specs.Prelude.{◌≡◌, ◌+◌, ◌*◌, ◌/◌, ◌<◌, ◌≤◌, ◌^◌, length, slice_index};
+ghost use Rattle.segment_codec.specs.Packet.{packet_in, datagram, tcp_packet, segment_of, sums_hold};
+
+use crate::options::{mss_in, scale_in};
+use crate::packet::{Packet, Seg, Why};
+use crate::places::{front, long_at, rest_at, word_at};
+use sq_base::{Addr, Link, inet_sum};
+
+const IPV4: u16 = 0x0800;
+
+const TAGGED: u16 = 0x8100;
+
+const TCP: u8 = 6;
+
+/// The packet in a record's bytes. `BadSum` comes only with `verify`.
+#[tactic(auto, unfolding(crate::specs::Packet::packet_in))]
+pub fn decode(link: Link, body: &[u8], verify: bool) -> Packet
+    requires { length body.now < 2 ^ 32 }
+    ensures { result ≡ packet_in link body.now verify }
+{
+    match link {
+        Link::Ethernet => {
+            if body.len() < 14 {
+                Packet::Cut
+            } else if word_at(body, 12) == TAGGED {
+                if body.len() < 18 {
+                    Packet::Cut
+                } else if word_at(body, 16) == IPV4 {
+                    decode_datagram(rest_at(body, 18), 18, verify)
+                } else {
+                    Packet::Other
+                }
+            } else if word_at(body, 12) == IPV4 {
+                decode_datagram(rest_at(body, 14), 14, verify)
+            } else {
+                Packet::Other
+            }
+        }
+        Link::Cooked => {
+            if body.len() < 16 {
+                Packet::Cut
+            } else if word_at(body, 14) == IPV4 {
+                decode_datagram(rest_at(body, 16), 16, verify)
+            } else {
+                Packet::Other
+            }
+        }
+        Link::RawIp => {
+            if !body.is_empty() && body[0] >> 4 == 6 {
+                Packet::Other
+            } else {
+                decode_datagram(body, 0, verify)
+            }
+        }
+    }
+}
+
+/// The packet in the datagram that starts at the place `from` of the record's body.
+#[tactic(auto, unfolding(crate::specs::Packet::datagram))]
+fn decode_datagram(ip: &[u8], from: u32, verify: bool) -> Packet
+    requires { length ip.now + from < 2 ^ 32 }
+    ensures { result ≡ datagram verify ip.now from }
+{
+    if ip.is_empty() {
+        return Packet::Cut;
+    }
+    if ip[0] >> 4 != 4 {
+        return Packet::Malformed(Why::Version);
+    }
+    let ihl = 4 * usize::from(ip[0] & 15);
+    if ihl < 20 {
+        return Packet::Malformed(Why::HeaderLength);
+    }
+    if ip.len() < 20 {
+        return Packet::Cut;
+    }
+    let named = usize::from(word_at(ip, 2));
+    if named != 0 && named < ihl {
+        return Packet::Malformed(Why::TotalLength);
+    }
+    if word_at(ip, 6) & 0x3fff != 0 {
+        return Packet::Fragment;
+    }
+    if ip[9] != TCP {
+        return Packet::Other;
+    }
+    let total = if named == 0 { ip.len() } else { named };
+    if ip.len() < total || ip.len() < ihl {
+        return Packet::Cut;
+    }
+    let tcp = rest_at(front(ip, total), ihl);
+    decode_tcp(ip, front(ip, ihl), tcp, from + ihl as u32, verify)
+}
+
+/// The packet in the TCP part that starts at the place `from` of the record's body.
+#[tactic(auto, unfolding(crate::specs::Packet::tcp_packet))]
+fn decode_tcp(ip: &[u8], header: &[u8], tcp: &[u8], from: u32, verify: bool) -> Packet
+    requires ip { 20 ≤ length ip.now }
+    requires fits { length tcp.now + from < 2 ^ 32 }
+    ensures { result ≡ tcp_packet verify ip.now header.now tcp.now from }
+{
+    if tcp.len() < 20 {
+        return Packet::Malformed(Why::TcpLength);
+    }
+    let offset = usize::from(tcp[12] >> 4);
+    if offset < 5 || tcp.len() < 4 * offset {
+        return Packet::Malformed(Why::DataOffset);
+    }
+    if verify && !sums_hold(ip, header, tcp) {
+        return Packet::BadSum;
+    }
+    Packet::Segment(segment_of(ip, tcp, from))
+}
+
+#[tactic(auto, unfolding(crate::specs::Packet::sums_hold))]
+fn sums_hold(ip: &[u8], header: &[u8], tcp: &[u8]) -> bool
+    requires { 20 ≤ length ip.now }
+    ensures { result ≡ sums_hold ip.now header.now tcp.now }
+{
+    // A length that the pseudo-header can't hold has no right sum.
+    if inet_sum(0, header) != 0xffff || tcp.len() > 0xffff {
+        return false;
+    }
+    let start = inet_sum(u16::from(TCP), rest_at(front(ip, 20), 12));
+    let start = inet_sum(start, &(tcp.len() as u16).to_be_bytes());
+    inet_sum(start, tcp) == 0xffff
+}
+
+#[tactic(auto, unfolding(crate::specs::Packet::segment_of))]
+fn segment_of(ip: &[u8], tcp: &[u8], from: u32) -> Seg
+    requires ip { 20 ≤ length ip.now }
+    requires tcp { 20 ≤ length tcp.now }
+    requires offset { 5 ≤ slice_index tcp.now 12 / 16 }
+    requires options { 4 * (slice_index tcp.now 12 / 16) ≤ length tcp.now }
+    requires fits { length tcp.now + from < 2 ^ 32 }
+    ensures { result ≡ segment_of ip.now tcp.now from }
+{
+    let header = 4 * usize::from(tcp[12] >> 4);
+    let options = rest_at(front(tcp, header), 20);
+    Seg {
+        src: Addr(long_at(ip, 12)),
+        src_port: word_at(tcp, 0),
+        dst: Addr(long_at(ip, 16)),
+        dst_port: word_at(tcp, 2),
+        seq: long_at(tcp, 4),
+        ack: long_at(tcp, 8),
+        flags: tcp[13] & 63,
+        wnd: word_at(tcp, 14),
+        mss: mss_in(options),
+        scale: scale_in(options),
+        text_from: from + header as u32,
+        text_len: (tcp.len() - header) as u32,
+    }
+}
