@@ -1,0 +1,14 @@
+pub mod Perimeter
+pub mod History
+pub mod Deeds
+pub mod Legal
+pub mod Blocks
+pub mod Residing
+pub mod Backlog
+pub mod Ending
+pub mod Knowledge
+pub mod Numbered
+pub mod SmallPerimeter
+pub mod Logging
+pub mod LogLaws
+pub mod Worked

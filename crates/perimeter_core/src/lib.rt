@@ -1,0 +1,27 @@
+//! The machine of one perimeter: its state, its marks, its legal histories and their laws.
+//!
+//! A perimeter is what one squeue protects: the blocks of the connections that are here, processed by at most one owner
+//! at a time. The state of a perimeter changes by marks alone, and a history is the list of all marks so far. Everything
+//! that the crates above claim of threads is said of legal histories. This crate has no thread, no lock and no queue in
+//! memory; a gate above ties each history to what threads do.
+#![tactic(auto)]
+
+pub mod entries;
+pub mod few;
+mod flags;
+pub mod hook;
+pub mod laws;
+pub mod logs;
+pub mod machine;
+pub mod marks;
+pub mod resident;
+#[cfg(test)]
+mod tests;
+pub mod worked;
+
+pub use entries::{Act, Entry, Feed};
+pub use few::Few;
+pub use hook::{Hook, NoHook};
+pub use machine::Core;
+pub use marks::{Mark, Own, SynchAct};
+pub use resident::Resident;
