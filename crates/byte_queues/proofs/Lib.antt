@@ -1,0 +1,6 @@
+pub mod ListLemmas
+pub mod CellLemmas
+pub mod RunLemmas
+pub mod JoinLemmas
+pub mod QueueLemmas
+pub mod PlaceLemmas

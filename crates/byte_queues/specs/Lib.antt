@@ -1,0 +1,4 @@
+pub mod ReceiveQueue
+pub mod SendQueue
+pub mod Runs
+pub mod Inside
