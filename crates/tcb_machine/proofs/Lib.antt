@@ -1,0 +1,5 @@
+pub mod PieceLemmas
+pub mod KeepLemmas
+pub mod TimeLemmas
+pub mod QueueLemmas
+pub mod SteadyLemmas

@@ -1,0 +1,176 @@
+-- The block of a connection (RFC 9293, 3.3.1), and what is read off it.
+use Rattle.std.specs.Prelude.{ℕ, ◌+◌, ◌-◌, ◌*◌, ◌%◌, ◌/◌, ◌^◌, ◌==◌, ◌≡◌, ◌<◌, ◌≤◌, min, Bool, false, not, List, [], ◌∷◌, ◌++◌, length, drop, Option, None, Some, if◌then◌else◌, bit_and}
+use Rattle.byte_queues.specs.ReceiveQueue.{Recv, empty_recv, next_of, window_of}
+use Rattle.tcb_machine.specs.declared.kinds.State.{State}
+use Rattle.tcb_machine.specs.declared.kinds.State.TheVariants.{Listen}
+use Rattle.tcb_machine.specs.States.{is_consumed}
+use Rattle.segment_codec.specs.declared.packet.Reply.{Reply}
+use Rattle.segment_codec.specs.declared.packet.Seg.{Seg}
+
+pub record Block : Type 0 where
+  pub state : State
+  -- ISS, IRS, SND.UNA, SND.WND, SND.WL1, SND.WL2
+  pub iss : ℕ
+  pub irs : ℕ
+  pub una : ℕ
+  pub wnd : ℕ
+  pub wl1 : ℕ
+  pub wl2 : ℕ
+  -- the most text of a segment that is sent (RFC 9293, 3.7.1)
+  pub mss : ℕ
+  -- the receive space asked for, whether the SYN carried a window scale, and Snd.Wind.Shift (RFC 7323, 2.2)
+  pub want : ℕ
+  pub scaled : Bool
+  pub snd_shift : ℕ
+  pub recv : Recv
+  -- the bytes offered that aren't acknowledged, how many were acknowledged before them, and how many were sent in all
+  pub out : List ℕ
+  pub acked : ℕ
+  pub sent : ℕ
+  pub fin_wanted : Bool
+  pub fin_sent : Bool
+  -- RTO, and the two deadlines, of which at most one is set (RFC 9293, 3.8.1; RFC 6298)
+  pub rto : ℕ
+  pub retransmit_at : Option ℕ
+  pub time_wait_at : Option ℕ
+  pub retransmissions : ℕ
+  pub clock : ℕ
+  pub ack_due : Bool
+  pub replies : List Reply
+
+abbrev pub second : ℕ
+second = 1000000
+
+-- a block in LISTEN: all is as new but for the receive space asked for, the retransmissions made, the clock and the replies
+abbrev pub listening : ℕ → ℕ → ℕ → List Reply → Block
+listening want retransmissions clock replies = record {
+  state = Listen;
+  iss = 0;
+  irs = 0;
+  una = 0;
+  wnd = 0;
+  wl1 = 0;
+  wl2 = 0;
+  mss = 536;
+  want = want;
+  scaled = false;
+  snd_shift = 0;
+  recv = empty_recv want;
+  out = [];
+  acked = 0;
+  sent = 0;
+  fin_wanted = false;
+  fin_sent = false;
+  rto = second;
+  retransmit_at = None;
+  time_wait_at = None;
+  retransmissions = retransmissions;
+  clock = clock;
+  ack_due = false;
+  replies = replies;
+}
+
+unfoldable pub new_block : Block
+new_block = listening 1048576 0 0 []
+
+unfoldable pub to_listen : Block → Block
+to_listen b = listening b.want b.retransmissions b.clock b.replies
+
+abbrev pub one_if : Bool → ℕ
+one_if b = if b then 1 else 0
+
+unfoldable pub rcv_nxt : Block → ℕ
+rcv_nxt b = (b.irs + 1 + next_of b.recv + one_if (is_consumed b.state)) % 2 ^ 32
+
+unfoldable pub rcv_wnd : Block → ℕ
+rcv_wnd b = window_of b.recv
+
+-- the sequence number behind the last byte that was sent, and SND.NXT
+unfoldable pub snd_end : Block → ℕ
+snd_end b = (b.iss + 1 + b.sent) % 2 ^ 32
+
+unfoldable pub snd_nxt : Block → ℕ
+snd_nxt b = (b.iss + 1 + b.sent + one_if b.fin_sent) % 2 ^ 32
+
+-- the bytes that weren't sent yet, and how many were sent and aren't acknowledged
+unfoldable pub unsent : Block → List ℕ
+unsent b = drop (b.sent - b.acked) b.out
+
+abbrev pub in_flight : Block → ℕ
+in_flight b = b.sent - b.acked
+
+unfoldable pub offered : Block → ℕ
+offered b = b.acked + length b.out
+
+-- the control bits (RFC 9293, 3.1)
+abbrev pub fin : ℕ
+fin = 1
+
+abbrev pub syn : ℕ
+syn = 2
+
+abbrev pub rst : ℕ
+rst = 4
+
+abbrev pub psh : ℕ
+psh = 8
+
+abbrev pub ack : ℕ
+ack = 16
+
+abbrev pub has : ℕ → ℕ → Bool
+has flags flag = not (bit_and flags flag == 0)
+
+-- SEG.LEN, SEG.WND (RFC 7323, 2.3: a SYN's window isn't scaled, and isn't used)
+unfoldable pub seg_len : Seg → List ℕ → ℕ
+seg_len s text = length text + one_if (has s.flags syn) + one_if (has s.flags fin)
+
+unfoldable pub seg_wnd : Seg → Block → ℕ
+seg_wnd s b = s.wnd * 2 ^ b.snd_shift
+
+-- the window field of a segment that is sent without SYN (RFC 7323, 2.3)
+unfoldable pub sent_window : Block → ℕ
+sent_window b = if b.scaled then rcv_wnd b / 32 else rcv_wnd b
+
+-- <SEQ=..><ACK=RCV.NXT> with control bits and a text
+unfoldable pub segment_of : ℕ → ℕ → List ℕ → Block → Reply
+segment_of flags seq text b =
+    record { at = b.clock; flags = flags; seq = seq; ack = rcv_nxt b; wnd = sent_window b; mss = None; scale = None; text = text }
+
+-- <SEQ=ISS><ACK=RCV.NXT><CTL=SYN,ACK> with the options
+unfoldable pub syn_ack_of : Block → Reply
+syn_ack_of b = record {
+  at = b.clock;
+  flags = syn + ack;
+  seq = b.iss;
+  ack = rcv_nxt b;
+  wnd = min (rcv_wnd b) 65535;
+  mss = Some 1460;
+  scale = if b.scaled then Some 5 else None;
+  text = [];
+}
+
+-- <SEQ=SEG.ACK><CTL=RST>
+unfoldable pub rst_of : Seg → Block → Reply
+rst_of s b = record { at = b.clock; flags = rst; seq = s.ack; ack = 0; wnd = 0; mss = None; scale = None; text = [] }
+
+-- one reply more
+abbrev pub sends : Reply → Block → Block
+sends r b = record b { replies = b.replies ++ r ∷ [] }
+
+-- <SEQ=SND.NXT><ACK=RCV.NXT><CTL=ACK>
+abbrev pub sends_ack : Block → Block
+sends_ack b = sends (segment_of ack (snd_nxt b) [] b) b
+
+-- the options that a reply may carry: none, the MSS of 1,460, or beside it the window scale of 5
+abbrev pub OurOptions : Option ℕ → Option ℕ → Type 0
+OurOptions None None = Unit {0}
+OurOptions None (Some shift) = ⊥
+OurOptions (Some mss) None = mss ≡ 1460
+OurOptions (Some mss) (Some shift) = (mss ≡ 1460) × (shift ≡ 5)
+
+-- what every reply of a block is
+pub record IsOurs (r : Reply) : Type 0 where
+  pub text : length r.text ≤ 1460
+  pub flags : r.flags < 64
+  pub options : OurOptions r.mss r.scale

@@ -1,0 +1,59 @@
+-- What the fields of a block stand for.
+use Rattle.std.specs.Prelude.{◌≡◌, true, false, None, ◌+◌, ◌*◌, ◌^◌, ◌≤◌, length, All}
+use Rattle.byte_queues.specs.ReceiveQueue.{next_of}
+use Rattle.tcb_machine.specs.BlockState.{Block, IsOurs, second}
+use Rattle.tcb_machine.specs.States.{is_listen}
+use Rattle.tcb_machine.specs.declared.tcb.Tcb.TheInside.{Inside}
+
+abbrev pub block_of : Inside → Block
+block_of a = record {
+  state = a.state;
+  iss = a.iss;
+  irs = a.irs;
+  una = a.una;
+  wnd = a.wnd;
+  wl1 = a.wl1;
+  wl2 = a.wl2;
+  mss = a.mss;
+  want = a.want;
+  scaled = a.scaled;
+  snd_shift = a.snd_shift;
+  recv = a.recv;
+  out = a.send;
+  acked = a.acked;
+  sent = a.sent;
+  fin_wanted = a.fin_wanted;
+  fin_sent = a.fin_sent;
+  rto = a.rto;
+  retransmit_at = a.retransmit_at;
+  time_wait_at = a.time_wait_at;
+  retransmissions = a.retransmissions;
+  clock = a.clock;
+  ack_due = a.ack_due;
+  replies = a.replies.items;
+}
+
+pub record IsSound (a : Inside) : Type 0 where
+  pub want : a.want ≤ 1048576
+  pub shift : a.snd_shift ≤ 14
+  pub mss : 64 ≤ a.mss
+  pub most : a.mss ≤ 1460
+  -- the window that is announced fits its field
+  pub space : a.recv.edge ≤ a.recv.taken + 1048576
+  pub read : a.recv.taken ≤ next_of a.recv
+  pub below : a.recv.taken + length a.recv.got ≤ a.recv.edge
+  pub cap : a.recv.cap ≤ 1048576
+  pub announced : is_listen a.state ≡ false → a.scaled ≡ false → a.recv.edge ≤ a.recv.taken + 65535
+  pub plain : is_listen a.state ≡ false → a.scaled ≡ false → a.recv.cap ≤ 65535
+  -- the counts of the send side
+  pub held : length a.send ≤ 65535
+  pub sent_acked : a.acked ≤ a.sent
+  pub sent_out : a.sent ≤ a.acked + length a.send
+  pub few : a.acked ≤ 2 ^ 61
+  -- the timers
+  pub rto : a.rto ≤ 60 * second
+  pub tries : a.retransmissions ≤ 64
+  pub clock : a.clock ≤ 2 ^ 62
+  pub idle : is_listen a.state ≡ true → a.retransmit_at ≡ None
+  pub quiet : is_listen a.state ≡ true → a.ack_due ≡ false
+  pub replies : All IsOurs a.replies.items

@@ -1,0 +1,7 @@
+pub mod States
+pub mod BlockState
+pub mod TcpStep
+pub mod Output
+pub mod Timers
+pub mod CallAnswers
+pub mod Inside

@@ -1,0 +1,13 @@
+//! The server side of one TCP connection (RFC 9293), with window scale (RFC 7323).
+//!
+//! A block is given the segments of its peer with their times, the times at which its timers are looked at, and the calls of
+//! programs. It keeps what it sends in a list of replies. It knows no other connection, no thread and no clock of its own.
+#![tactic(auto)]
+
+mod kinds;
+mod laws;
+mod tcb;
+
+pub use kinds::{AckKind, Answer, Call, Next, State, Step};
+pub use laws::{output_moves_no_text, timers_move_no_text};
+pub use tcb::Tcb;

@@ -1,0 +1,249 @@
+//! The block of a connection: its variables (RFC 9293, 3.3.1), and what is read off them.
+//!
+//! `arrival` has the checks of an arriving segment, `text` the last two of them, `replies` the segments that are sent, `output` the
+//! rule by which text, FIN and acknowledgements go out, `timers` the deadlines, and `calls` what programs and services do.
+
+ghost use Rattle.std.specs.Prelude.{true, false, ◌≡◌, ℕ, ◌+◌, ◌-◌, ◌*◌, ◌%◌, ◌/◌, ◌^◌, ◌<◌, ◌≤◌, List, [], ◌∷◌, ◌++◌, length, take, drop, min, max, None, Some, IfOk, OnOk, OnErr, slice_get};
+
+mod arrival;
+mod calls;
+mod output;
+mod replies;
+mod text;
+mod timers;
+
+use crate::kinds::{State, is_consumed};
+use byte_queues::{RecvQueue, SendQueue};
+use segment_codec::Reply;
+use sq_base::seq_dist;
+use std::alloc::Global;
+use std::marker::Model;
+
+const FIN: u8 = 1;
+
+const SYN: u8 = 2;
+
+const RST: u8 = 4;
+
+const PSH: u8 = 8;
+
+const ACK: u8 = 16;
+
+const SECOND: u64 = 1_000_000;
+
+/// The receive space of a connection whose SYN carries a window scale, until a program asks for another.
+const SPACE: u32 = 1_048_576;
+
+/// The largest window without window scale.
+const PLAIN_SPACE: u32 = 65_535;
+
+/// The block of a connection.
+#[derive(Drop)]
+pub struct Tcb {
+    state: State,
+    iss: u32,
+    irs: u32,
+    una: u32,
+    /// SND.WND, with the peer's window scale.
+    wnd: u32,
+    wl1: u32,
+    wl2: u32,
+    /// The most text of a segment that is sent.
+    mss: u16,
+    /// The receive space asked for.
+    want: u32,
+    /// The SYN carried a window scale.
+    scaled: bool,
+    /// The shift of the windows that arrive (Snd.Wind.Shift).
+    snd_shift: u8,
+    recv: RecvQueue,
+    send: SendQueue,
+    /// How many bytes were acknowledged, and how many were sent, since LISTEN.
+    acked: u64,
+    sent: u64,
+    fin_wanted: bool,
+    fin_sent: bool,
+    rto: u64,
+    /// At most one of the two deadlines is set.
+    retransmit_at: Option<u64>,
+    time_wait_at: Option<u64>,
+    /// How many retransmissions and probes were made in the block's life.
+    retransmissions: u32,
+    clock: u64,
+    ack_due: bool,
+    replies: Vec<Reply>,
+}
+
+impl Model for Tcb {
+    ghost use Rattle.tcb_machine.specs.BlockState.{Block};
+
+    ghost Value = { Block };
+
+    ghost use Rattle.tcb_machine.specs.Inside.{block_of, IsSound};
+
+    ghost view = { block_of };
+
+    ghost invariant = { IsSound };
+}
+
+impl Tcb {
+    ghost use Rattle.tcb_machine.specs.BlockState.{new_block, to_listen, rcv_nxt, rcv_wnd, snd_nxt, snd_end, unsent, in_flight, IsOurs};
+    ghost use Rattle.tcb_machine.specs.States.{is_consumed, is_listen};
+    ghost use Rattle.tcb_machine.specs.TcpStep.{is_fin_acked, in_time_wait};
+
+    /// A block in LISTEN. It takes no memory.
+    #[tactic(auto, unfolding(crate::specs::BlockState::new_block))]
+    pub fn make(alloc: Global) -> Tcb
+        ensures { result ≡ new_block }
+    {
+        Tcb {
+            state: State::Listen,
+            iss: 0,
+            irs: 0,
+            una: 0,
+            wnd: 0,
+            wl1: 0,
+            wl2: 0,
+            mss: 536,
+            want: SPACE,
+            scaled: false,
+            snd_shift: 0,
+            recv: RecvQueue::make(alloc, SPACE),
+            send: SendQueue::make(alloc),
+            acked: 0,
+            sent: 0,
+            fin_wanted: false,
+            fin_sent: false,
+            rto: SECOND,
+            retransmit_at: None,
+            time_wait_at: None,
+            retransmissions: 0,
+            clock: 0,
+            ack_due: false,
+            replies: Vec::new(alloc),
+        }
+    }
+
+    pub fn state(&self) -> State
+        ensures { result ≡ self.now.state }
+    {
+        self.state
+    }
+
+    /// How many segments were sent.
+    pub fn replies(&self) -> usize
+        ensures { result ≡ length self.now.replies }
+    {
+        self.replies.len()
+    }
+
+    /// Segment `i` of those that were sent, from 0.
+    pub fn reply(&self, i: usize) -> &Reply
+        requires { i < length self.now.replies }
+        ensures reply { slice_get self.now.replies i ≡ Some result.now }
+        ensures ours { IsOurs result.now }
+    {
+        &self.replies[i]
+    }
+
+    /// RCV.NXT.
+    #[tactic(auto, unfolding(crate::specs::BlockState::rcv_nxt))]
+    fn rcv_nxt(&self) -> u32
+        ensures { result ≡ rcv_nxt self.now }
+    {
+        let low = (self.recv.next() & 0xffff_ffff) as u32;
+        self.irs
+            .wrapping_add(1)
+            .wrapping_add(low)
+            .wrapping_add(u32::from(is_consumed(self.state)))
+    }
+
+    /// RCV.WND.
+    #[tactic(auto, unfolding(crate::specs::BlockState::rcv_wnd))]
+    fn rcv_wnd(&self) -> u32
+        ensures is { result ≡ rcv_wnd self.now }
+        ensures small { result ≤ 1048576 }
+        ensures fits { result ≤ self.now.recv.edge - self.now.recv.taken }
+    {
+        self.recv.window()
+    }
+
+    /// SND.NXT.
+    #[tactic(auto, unfolding(crate::specs::BlockState::snd_nxt, crate::specs::BlockState::snd_end))]
+    fn snd_nxt(&self) -> u32
+        ensures { result ≡ snd_nxt self.now }
+    {
+        self.snd_end().wrapping_add(u32::from(self.fin_sent))
+    }
+
+    /// The sequence number behind the last byte that was sent.
+    #[tactic(auto, unfolding(crate::specs::BlockState::snd_end))]
+    fn snd_end(&self) -> u32
+        ensures { result ≡ snd_end self.now }
+    {
+        let low = (self.sent & 0xffff_ffff) as u32;
+        self.iss.wrapping_add(1).wrapping_add(low)
+    }
+
+    /// How many bytes were sent and aren't acknowledged.
+    fn in_flight(&self) -> u32
+        ensures flight { result ≡ in_flight self.now }
+        ensures held { result ≤ length self.now.out }
+    {
+        (self.sent - self.acked) as u32
+    }
+
+    /// How many bytes weren't sent yet.
+    #[tactic(auto, unfolding(crate::specs::BlockState::unsent))]
+    fn unsent(&self) -> u32
+        ensures { result ≡ length (unsent self.now) }
+    {
+        self.send.held() - self.in_flight()
+    }
+
+    /// Our FIN was sent, and all was acknowledged.
+    #[tactic(auto, unfolding(crate::specs::TcpStep::is_fin_acked))]
+    fn is_fin_acked(&self) -> bool
+        ensures { result ≡ is_fin_acked self.now }
+    {
+        self.fin_sent && self.una == self.snd_nxt()
+    }
+
+    /// Back to LISTEN: all is as new but for the receive space asked for, the retransmissions made, the clock and the replies.
+    #[tactic(auto, unfolding(crate::specs::BlockState::to_listen))]
+    fn go_to_listen(&mut self, alloc: Global)
+        ensures { self.new ≡ to_listen self.old }
+    {
+        self.state = State::Listen;
+        self.iss = 0;
+        self.irs = 0;
+        self.una = 0;
+        self.wnd = 0;
+        self.wl1 = 0;
+        self.wl2 = 0;
+        self.mss = 536;
+        self.scaled = false;
+        self.snd_shift = 0;
+        self.recv = RecvQueue::make(alloc, self.want);
+        self.send = SendQueue::make(alloc);
+        self.acked = 0;
+        self.sent = 0;
+        self.fin_wanted = false;
+        self.fin_sent = false;
+        self.rto = SECOND;
+        self.retransmit_at = None;
+        self.time_wait_at = None;
+        self.ack_due = false;
+    }
+
+    /// Into TIME-WAIT, for twice the maximum segment lifetime of 120 s.
+    #[tactic(auto, unfolding(crate::specs::TcpStep::in_time_wait))]
+    fn wait(&mut self)
+        requires open { is_listen self.old.state ≡ false }
+        ensures { self.new ≡ in_time_wait self.old }
+    {
+        self.state = State::TimeWait;
+        self.time_wait_at = Some(self.clock + 240 * SECOND);
+        self.retransmit_at = None;
+    }
+}

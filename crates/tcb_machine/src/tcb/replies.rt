@@ -1,0 +1,128 @@
+//! The segments that are sent.
+
+ghost use Rattle.std.specs.Prelude.{true, false, ◌≡◌, ℕ, ◌+◌, ◌-◌, ◌*◌, ◌%◌, ◌/◌, ◌^◌, ◌<◌, ◌≤◌, List, [], ◌∷◌, ◌++◌, length, take, drop, min, max, None, Some, IfOk, OnOk, OnErr, slice_get};
+ghost use Rattle.tcb_machine.specs.BlockState.{Block, new_block, to_listen, rcv_nxt, rcv_wnd, snd_nxt, snd_end, unsent, in_flight, has, seg_wnd, sent_window, segment_of, syn_ack_of, rst_of, sends, sends_ack, IsOurs, offered};
+ghost use Rattle.tcb_machine.specs.States.{is_consumed, is_listen};
+ghost use Rattle.tcb_machine.specs.TcpStep.{over, go, on, listen, opened, sends_syn_ack, send_mss, is_in_window, is_acceptable, check_sequence, check_reset, syn_again, ack_kind, with_window, takes_window, takes_ack, is_fin_acked, in_time_wait, after_ack, acknowledged, check_ack, first_checks, repeated, ahead, takes_fin, takes_text, closes, check_text, tcp_segment, said, step_said};
+ghost use Rattle.tcb_machine.specs.Output.{sends_text};
+
+use super::{ACK, FIN, PLAIN_SPACE, RST, SYN, Tcb};
+use segment_codec::{Reply, Seg};
+use sq_base::Octets;
+use std::alloc::{AllocError, Global};
+
+impl Tcb {
+    /// The window field of a segment without SYN: RCV.WND, with our window scale of 5 where the SYN carried one.
+    #[tactic(auto, unfolding(crate::specs::BlockState::sent_window))]
+    fn sent_window(&self) -> u16
+        requires { is_listen self.now.state ≡ false }
+        ensures { result ≡ sent_window self.now }
+    {
+        if self.scaled {
+            (self.rcv_wnd() / 32) as u16
+        } else {
+            self.rcv_wnd() as u16
+        }
+    }
+
+    fn send(&mut self, reply: Reply) -> Result<(), AllocError>
+        requires { IsOurs reply }
+        ensures { OnOk result (self.new ≡ sends reply self.old) }
+    {
+        self.replies.push(reply)?;
+        Ok(())
+    }
+
+    /// <SEQ=seq><ACK=RCV.NXT> with control bits and a text.
+    #[tactic(auto, unfolding(crate::specs::BlockState::segment_of))]
+    pub(super) fn send_segment(
+        &mut self,
+        flags: u8,
+        seq: u32,
+        text: Octets,
+    ) -> Result<(), AllocError>
+        requires open { is_listen self.old.state ≡ false }
+        requires text { length text ≤ 1460 }
+        requires flags { flags < 64 }
+        ensures { OnOk result (self.new ≡ sends (segment_of flags seq text self.old) self.old) }
+    {
+        let reply = Reply {
+            at: self.clock,
+            flags,
+            seq,
+            ack: self.rcv_nxt(),
+            wnd: self.sent_window(),
+            mss: None,
+            scale: None,
+            text,
+        };
+        self.send(reply)
+    }
+
+    /// <SEQ=SND.NXT><ACK=RCV.NXT><CTL=ACK>
+    pub(super) fn send_ack(&mut self, alloc: Global) -> Result<(), AllocError>
+        requires open { is_listen self.old.state ≡ false }
+        ensures { OnOk result (self.new ≡ sends_ack self.old) }
+    {
+        self.send_segment(ACK, self.snd_nxt(), Octets::wrap(Vec::new(alloc)))
+    }
+
+    /// <SEQ=seq><ACK=RCV.NXT><CTL=FIN,ACK>
+    pub(super) fn send_fin(&mut self, alloc: Global, seq: u32) -> Result<(), AllocError>
+        requires open { is_listen self.old.state ≡ false }
+        ensures { OnOk result (self.new ≡ sends (segment_of 17 seq [] self.old) self.old) }
+    {
+        self.send_segment(FIN | ACK, seq, Octets::wrap(Vec::new(alloc)))
+    }
+
+    /// <SEQ=SEG.ACK><CTL=RST>
+    #[tactic(auto, unfolding(crate::specs::BlockState::rst_of))]
+    pub(super) fn send_rst(&mut self, alloc: Global, seg: &Seg) -> Result<(), AllocError>
+        ensures { OnOk result (self.new ≡ sends (rst_of seg.now self.old) self.old) }
+    {
+        let reply = Reply {
+            at: self.clock,
+            flags: RST,
+            seq: seg.ack,
+            ack: 0,
+            wnd: 0,
+            mss: None,
+            scale: None,
+            text: Octets::wrap(Vec::new(alloc)),
+        };
+        self.send(reply)
+    }
+
+    /// <SEQ=ISS><ACK=RCV.NXT><CTL=SYN,ACK> with the MSS, and a window scale where the SYN carried one.
+    #[tactic(auto, unfolding(crate::specs::BlockState::syn_ack_of))]
+    pub(super) fn send_syn_ack(&mut self, alloc: Global) -> Result<(), AllocError>
+        ensures { OnOk result (self.new ≡ sends_syn_ack self.old) }
+    {
+        let reply = Reply {
+            at: self.clock,
+            flags: SYN | ACK,
+            seq: self.iss,
+            ack: self.rcv_nxt(),
+            wnd: self.rcv_wnd().min(PLAIN_SPACE) as u16,
+            mss: Some(1460),
+            scale: if self.scaled { Some(5) } else { None },
+            text: Octets::wrap(Vec::new(alloc)),
+        };
+        self.send(reply)
+    }
+
+    /// A segment of the next `n` bytes that weren't sent yet.
+    #[tactic(auto, unfolding(crate::specs::Output::sends_text, crate::specs::BlockState::unsent))]
+    pub(super) fn send_text(&mut self, alloc: Global, flags: u8, n: u32) -> Result<(), AllocError>
+        requires open { is_listen self.old.state ≡ false }
+        requires within { n ≤ length (unsent self.old) }
+        requires small { n ≤ 1460 }
+        requires flags { flags < 64 }
+        ensures { OnOk result (self.new ≡ sends_text flags (take n (unsent self.old)) self.old) }
+    {
+        let text = self.send.slice(alloc, self.in_flight(), n)?;
+        self.send_segment(flags, self.snd_nxt(), text)?;
+        self.sent += u64::from(n);
+        Ok(())
+    }
+}

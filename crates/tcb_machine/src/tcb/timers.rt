@@ -1,0 +1,144 @@
+//! The deadlines (RFC 9293, 3.8.1 and 3.10.8; RFC 6298).
+
+ghost use Rattle.std.specs.Prelude.{true, false, ◌≡◌, ℕ, ◌+◌, ◌-◌, ◌*◌, ◌%◌, ◌/◌, ◌^◌, ◌<◌, ◌≤◌, List, [], ◌∷◌, ◌++◌, length, take, drop, min, max, None, Some, IfOk, OnOk, IfSome, IfNone, IsSome};
+ghost use Rattle.std.specs.Option.{ForSome};
+ghost use Rattle.tcb_machine.specs.BlockState.{Block, new_block, to_listen, rcv_nxt, rcv_wnd, snd_nxt, snd_end, unsent, in_flight, has, seg_wnd, sent_window, segment_of, syn_ack_of, rst_of, sends, sends_ack, IsOurs, offered};
+ghost use Rattle.tcb_machine.specs.States.{is_consumed, is_listen};
+ghost use Rattle.tcb_machine.specs.Timers.{tcp_time, fired, fires, retransmission, sends_again, retransmits};
+
+use super::{ACK, PSH, SECOND, Tcb};
+use crate::kinds::State;
+use std::alloc::{AllocError, Global};
+
+/// How many retransmissions and probes a block makes in its life.
+const MOST_RETRANSMISSIONS: u32 = 64;
+
+/// The longest retransmission timeout.
+const LONGEST_RTO: u64 = 60 * SECOND;
+
+impl Tcb {
+    /// Runs the timers up to a time, in microseconds. After NoMemory nothing more is promised.
+    pub fn time(&mut self, alloc: Global, to: u64) -> Result<(), AllocError>
+        requires clock { self.old.clock ≤ to }
+        requires time { to ≤ 2 ^ 62 }
+        ensures time { OnOk result (self.new ≡ tcp_time to self.old) }
+        ensures clock { OnOk result (self.new.clock ≡ to) }
+    {
+        self.run_timers(alloc, to)?;
+        self.clock = to;
+        Ok(())
+    }
+
+    /// The deadlines up to a time fire.
+    fn run_timers(&mut self, alloc: Global, to: u64) -> Result<(), AllocError>
+        requires clock { self.old.clock ≤ to }
+        requires time { to ≤ 2 ^ 62 }
+        ensures { OnOk result (record self.new { clock = to } ≡ tcp_time to self.old) }
+    {
+        match self.time_wait_at {
+            Some(at) => {
+                if at <= to {
+                    self.go_to_listen(alloc);
+                }
+                Ok(())
+            }
+            None => self.retransmissions_up_to(alloc, to),
+        }
+    }
+
+    fn retransmissions_up_to(&mut self, alloc: Global, to: u64) -> Result<(), AllocError>
+        requires clock { self.old.clock ≤ to }
+        requires time { to ≤ 2 ^ 62 }
+        requires none { self.old.time_wait_at ≡ None }
+        ensures { OnOk result (record self.new { clock = to } ≡ tcp_time to self.old) }
+    {
+        while let Some(at) = self.retransmission_due(to) {
+            self.fire(alloc, at)?;
+        }
+        Ok(())
+    }
+
+    /// The retransmission deadline fires. Where all retransmissions were made, the block returns to LISTEN without a word.
+    #[tactic(auto, unfolding(crate::specs::Timers::fires))]
+    fn fire(&mut self, alloc: Global, at: u64) -> Result<(), AllocError>
+        requires due { self.old.retransmit_at ≡ Some at }
+        requires time { at ≤ 2 ^ 62 }
+        requires open { is_listen self.old.state ≡ false }
+        ensures { OnOk result (self.new ≡ fired at self.old) }
+    {
+        self.clock = self.clock.max(at);
+        if self.retransmissions < MOST_RETRANSMISSIONS {
+            self.retransmit(alloc)
+        } else {
+            self.go_to_listen(alloc);
+            Ok(())
+        }
+    }
+
+    /// The retransmission deadline, where it isn't after a time.
+    fn retransmission_due(&self, to: u64) -> Option<u64>
+        ensures due { IfSome result (λ at. (self.now.retransmit_at ≡ Some at) × (at ≤ to)) }
+        ensures idle { IfNone result (ForSome self.now.retransmit_at (λ at. to < at)) }
+        ensures open { IsSome self.now.retransmit_at → is_listen self.now.state ≡ false }
+        ensures tries { self.now.retransmissions ≤ 64 }
+    {
+        match self.retransmit_at {
+            Some(at) if at <= to => Some(at),
+            _ => None,
+        }
+    }
+
+    /// One segment is sent again, and the next timeout is twice as long, up to 60 s (RFC 6298, 5.5).
+    #[tactic(auto, unfolding(crate::specs::Timers::fires))]
+    fn retransmit(&mut self, alloc: Global) -> Result<(), AllocError>
+        requires open { is_listen self.old.state ≡ false }
+        requires few { self.old.retransmissions < 64 }
+        ensures { OnOk result (self.new ≡ fires (retransmission self.old.clock) self.old) }
+    {
+        self.resend(alloc)?;
+        self.retransmissions += 1;
+        self.rto = (2 * self.rto).min(LONGEST_RTO);
+        self.retransmit_at = Some(self.clock + self.rto);
+        Ok(())
+    }
+
+    /// What is sent again: in SYN-RECEIVED the SYN,ACK, with the same options.
+    fn resend(&mut self, alloc: Global) -> Result<(), AllocError>
+        requires open { is_listen self.old.state ≡ false }
+        ensures is { OnOk result (self.new ≡ retransmits self.old.state self.old) }
+        ensures state { OnOk result (self.new.state ≡ self.old.state) }
+        ensures tries { OnOk result (self.new.retransmissions ≡ self.old.retransmissions) }
+        ensures rto { OnOk result (self.new.rto ≡ self.old.rto) }
+        ensures clock { OnOk result (self.new.clock ≡ self.old.clock) }
+    {
+        if matches!(self.state, State::SynReceived) {
+            self.send_syn_ack(alloc)
+        } else {
+            self.send_again(alloc)
+        }
+    }
+
+    /// The first unacknowledged bytes, else our FIN, else one byte to probe a closed window (RFC 9293, 3.8.6.1).
+    #[tactic(auto, unfolding(crate::specs::Timers::sends_again, crate::specs::Output::sends_text))]
+    fn send_again(&mut self, alloc: Global) -> Result<(), AllocError>
+        requires open { is_listen self.old.state ≡ false }
+        ensures is { OnOk result (self.new ≡ sends_again self.old) }
+        ensures state { OnOk result (self.new.state ≡ self.old.state) }
+        ensures tries { OnOk result (self.new.retransmissions ≡ self.old.retransmissions) }
+        ensures rto { OnOk result (self.new.rto ≡ self.old.rto) }
+        ensures clock { OnOk result (self.new.clock ≡ self.old.clock) }
+    {
+        if self.in_flight() > 0 {
+            let n = self
+                .in_flight()
+                .min(self.wnd.max(1))
+                .min(u32::from(self.mss));
+            let text = self.send.slice(alloc, 0, n)?;
+            self.send_segment(PSH | ACK, self.una, text)
+        } else if self.fin_sent && self.una != self.snd_nxt() {
+            self.send_fin(alloc, self.snd_end())
+        } else {
+            self.send_text(alloc, PSH | ACK, self.unsent().min(1))
+        }
+    }
+}
