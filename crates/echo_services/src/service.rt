@@ -1,0 +1,89 @@
+//! Which service a port has, and what it does with what was received.
+
+ghost use Rattle.std.specs.Prelude.{◌≡◌, ◌+◌, ◌≤◌, ◌⊎◌, min, OnOk};
+ghost use Rattle.tcb_machine.specs.BlockState.{Block, offered};
+ghost use Rattle.echo_services.specs.Pump.{service_of, moves, echoes_in, ends, echoes, pump};
+ghost use Rattle.byte_queues.specs.ReceiveQueue.{ready_of};
+ghost use Rattle.byte_queues.specs.SendQueue.{room_of};
+
+use std::alloc::{AllocError, Global};
+use tcb_machine::{State, Tcb};
+
+/// The services of RFC 862 and RFC 863.
+#[derive(Clone, Copy, Debug, PartialEq, Eq)]
+pub enum Service {
+    Echo,
+    Discard,
+}
+
+impl Service {
+    /// The service of a port: 7 is echo, 9 discard.
+    pub fn of(port: u16) -> Service
+        requires { (port ≡ 7) ⊎ (port ≡ 9) }
+        ensures { result ≡ service_of port }
+    {
+        if port == 7 {
+            Service::Echo
+        } else {
+            Service::Discard
+        }
+    }
+}
+
+/// Moves what is ready: echo offers it again as far as there is room, discard throws it away. Where the peer has closed and
+/// nothing is ready any more, our FIN is wanted too. After NoMemory the block promises nothing more.
+#[tactic(auto, unfolding(crate::specs::Pump::pump))]
+pub fn pump(service: Service, tcb: &mut Tcb, alloc: Global) -> Result<(), AllocError>
+    ensures moved { OnOk result (tcb.new ≡ pump service tcb.old) }
+    ensures clock { OnOk result (tcb.new.clock ≡ tcb.old.clock) }
+    ensures taken { OnOk result (tcb.new.recv.taken ≤ tcb.old.recv.taken + 1048576) }
+    ensures offered { OnOk result (offered tcb.new ≤ offered tcb.old + 65535) }
+{
+    move_text(service, tcb, alloc)?;
+    end(tcb);
+    Ok(())
+}
+
+/// What is ready is thrown away or comes back.
+#[tactic(auto, unfolding(byte_queues::specs::ReceiveQueue::without, byte_queues::specs::ReceiveQueue::ready_of, tcb_machine::specs::BlockState::offered))]
+fn move_text(service: Service, tcb: &mut Tcb, alloc: Global) -> Result<(), AllocError>
+    ensures moved { OnOk result (tcb.new ≡ moves service tcb.old.fin_wanted tcb.old) }
+    ensures clock { OnOk result (tcb.new.clock ≡ tcb.old.clock) }
+    ensures taken { OnOk result (tcb.new.recv.taken ≤ tcb.old.recv.taken + 1048576) }
+    ensures offered { OnOk result (offered tcb.new ≤ offered tcb.old + 65535) }
+{
+    if tcb.fin_wanted() || matches!(service, Service::Discard) {
+        tcb.skip(tcb.ready());
+        return Ok(());
+    }
+    match tcb.state() {
+        State::Established | State::CloseWait => echo(tcb, alloc),
+        _ => Ok(()),
+    }
+}
+
+/// The next bytes are offered as they came.
+#[tactic(auto, using(crate::proofs::PumpLemmas::next_length, crate::proofs::PumpLemmas::echo_length), unfolding(byte_queues::specs::ReceiveQueue::without, byte_queues::specs::ReceiveQueue::ready_of, tcb_machine::specs::BlockState::offered))]
+fn echo(tcb: &mut Tcb, alloc: Global) -> Result<(), AllocError>
+    ensures moved { OnOk result (tcb.new ≡ echoes (min (ready_of tcb.old.recv) (room_of tcb.old.out)) tcb.old) }
+    ensures clock { OnOk result (tcb.new.clock ≡ tcb.old.clock) }
+    ensures taken { OnOk result (tcb.new.recv.taken ≤ tcb.old.recv.taken + 1048576) }
+    ensures offered { OnOk result (offered tcb.new ≤ offered tcb.old + 65535) }
+{
+    let n = tcb.ready().min(tcb.room());
+    let text = tcb.take(alloc, n)?;
+    tcb.offer(text.as_slice())
+}
+
+/// Where the peer has closed and all came back, our FIN is wanted.
+#[tactic(auto, unfolding(tcb_machine::specs::BlockState::offered))]
+fn end(tcb: &mut Tcb)
+    ensures ended { tcb.new ≡ ends tcb.old }
+    ensures clock { tcb.new.clock ≡ tcb.old.clock }
+    ensures taken { tcb.new.recv.taken ≡ tcb.old.recv.taken }
+    ensures offered { offered tcb.new ≡ offered tcb.old }
+{
+    if matches!(tcb.state(), State::CloseWait) && tcb.ready() == 0 && !tcb.fin_wanted() {
+        tcb.want_fin();
+    }
+}
