@@ -1,0 +1,13 @@
+mod Distinct
+mod Mapped
+mod Conns
+mod HintLemmas
+mod ItemLemmas
+mod OneKey
+mod SortLemmas
+mod Tallies
+mod PlanFacts
+mod TextWithin
+mod OrderLaw
+mod PlanLaw
+mod RingLaw

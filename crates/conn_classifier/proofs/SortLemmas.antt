@@ -1,0 +1,275 @@
+-- What is sorted out, one record further.
+use Rattle.std.proofs.Common.{◌≡◌, ℕ, ◌+◌, ◌-◌, ◌<◌, ◌≤◌, Bool, true, false, List, [], ◌∷◌, ◌++◌, zero, suc, length, map, take, set, get_or, replicate, Option, Some, None, refl, sym, ap, ◌∙◌, arith, if◌then◌else◌, append-nil, append_assoc, filter}
+use Rattle.std.specs.List.{list_any, IsDistinct}
+use Rattle.std.specs.Option.{option_map, option_and_then}
+use Rattle.std.proofs.lemmas.Iterator.Adapters.{position_from-zero}
+use Rattle.std.proofs.lemmas.List.{map-append, map-set, length-map, get_or-map}
+use Rattle.sq_base.specs.declared.kinds.Tuple.{Tuple}
+use Rattle.segment_codec.specs.declared.packet.Packet.{Packet}
+use Rattle.segment_codec.specs.declared.packet.Packet.TheVariants as packet
+use Rattle.segment_codec.specs.declared.packet.Seg.{Seg}
+use Rattle.capture_reader.specs.CaptureFile.{Packet as Captured}
+use Rattle.conn_classifier.specs.Connections.{is_served_port, tuple_of, tuple_eq, served_in}
+use Rattle.conn_classifier.specs.Classes.{class_in, counts_of}
+use Rattle.conn_classifier.specs.Items.{Seen, arrival, arrivals, of_conn}
+use Rattle.conn_classifier.specs.Sorting.{seen_of, number_in, conn_in, place_in, order_of, SortedOf, sorted_of, counted, total}
+use Rattle.conn_classifier.specs.declared.kinds.Arrival.{Arrival}
+use Rattle.conn_classifier.specs.declared.kinds.Class.{Class}
+use Rattle.conn_classifier.specs.declared.kinds.Class.TheVariants as class
+use Rattle.conn_classifier.proofs.Conns.{push_none, push_some, same}
+use Rattle.conn_classifier.proofs.Distinct.{filter_push}
+use Rattle.conn_classifier.proofs.OneKey.{grown_none, grown_some, none_any, some_any}
+use Rattle.conn_classifier.proofs.Tallies.{counts_push, total-counts}
+
+none_some : {A Q : Type 0} {x : A} → None ≡ Some x → Q
+none_some e = absurd (let no : ⊥ = cc in no)
+
+some_is : {A : Type 0} {x y : A} → Some x ≡ Some y → x ≡ y
+some_is e = cc
+
+some_none : {A Q : Type 0} {x : A} → Some x ≡ None → Q
+some_none e = absurd (let no : ⊥ = cc in no)
+
+pub arrivals_push : (n : ℕ) (xs : List Seen) (x : Seen) → arrivals n (xs ++ x ∷ []) ≡ arrivals n xs ++ arrival (n + length xs) x.0 (served_in x.1)
+arrivals_push n [] x =
+    let none : n + 0 ≡ n = omega arith in
+    append-nil (arrival n x.0 (served_in x.1)) ∙ ap (λ m. arrival m x.0 (served_in x.1)) (sym none)
+arrivals_push n (y ∷ ys) x =
+    let on : suc n + length ys ≡ n + suc (length ys) = omega arith in
+    ap (λ l. arrival n y.0 (served_in y.1) ++ l) (arrivals_push (suc n) ys x ∙ ap (λ m. arrivals (suc n) ys ++ arrival m x.0 (served_in x.1)) on)
+    ∙ sym (append_assoc (arrival n y.0 (served_in y.1)) (arrivals (suc n) ys) (arrival (n + suc (length ys)) x.0 (served_in x.1)))
+
+module _ (xs : List Seen) (x : Seen) where
+  arrivals_more : arrivals 0 (xs ++ x ∷ []) ≡ arrivals 0 xs ++ arrival (length xs) x.0 (served_in x.1)
+  arrivals_more = let zero : 0 + length xs ≡ length xs = omega arith in arrivals_push 0 xs x ∙ ap (λ n. arrivals 0 xs ++ arrival n x.0 (served_in x.1)) zero
+
+  conn_none : (t : Tuple) → served_in x.1 ≡ None → of_conn t (xs ++ x ∷ []) ≡ of_conn t xs
+  unfolding of_conn
+  conn_none t e =
+      ap (filter (λ a. tuple_eq (tuple_of a.seg) t)) (arrivals_more ∙ ap (λ o. arrivals 0 xs ++ arrival (length xs) x.0 o) e ∙ append-nil (arrivals 0 xs))
+
+  conn_some : (s : Seg) → served_in x.1 ≡ Some s → (t : Tuple)
+      → of_conn t (xs ++ x ∷ []) ≡ of_conn t xs ++ (if tuple_eq (tuple_of s) t then record { rec = length xs; at = x.0; seg = s } ∷ [] else [])
+  unfolding of_conn
+  conn_some s e t =
+      ap (filter (λ a. tuple_eq (tuple_of a.seg) t)) (arrivals_more ∙ ap (λ o. arrivals 0 xs ++ arrival (length xs) x.0 o) e)
+      ∙ filter_push (λ a. tuple_eq (tuple_of a.seg) t) (arrivals 0 xs) (record { rec = length xs; at = x.0; seg = s })
+
+-- what a place says of the class
+module _ (ts : List Tuple) where
+  class_none : (p : Packet) → place_in ts p ≡ None → class_in ts p ≡ class_in [] p
+  class_none (packet.Segment s) e = by (is_served_port s.dst_port) refl e
+    where
+      unfit : number_in ts s ≡ None → list_any (tuple_eq (tuple_of s)) ts ≡ false
+      unfit h = none_any {X = ℕ} (tuple_eq (tuple_of s)) (λ t. []) 0 0 ts (sym (position_from-zero (tuple_eq (tuple_of s)) ts) ∙ h)
+
+      out : (o : Option ℕ) → number_in ts s ≡ o → option_map {U = ℕ × Seg} (λ c. (c, s)) (number_in ts s) ≡ None → number_in ts s ≡ None
+      out None q h = q
+      out (Some c) q h = some_none (rw q at h)
+
+      by : (b : Bool) → is_served_port s.dst_port ≡ b → place_in ts (packet.Segment s) ≡ None → class_in ts (packet.Segment s) ≡ class_in [] (packet.Segment s)
+      by true q h = rw (q, unfit (out (number_in ts s) refl (rw q at h))) refl
+      by false q h = rw q refl
+  class_none packet.Other e = refl
+  class_none packet.Fragment e = refl
+  class_none packet.Cut e = refl
+  class_none (packet.Malformed why) e = refl
+  class_none packet.BadSum e = refl
+
+  class_some : (p : Packet) (c : ℕ) (s : Seg) → place_in ts p ≡ Some (c, s) → class_in ts p ≡ class.Served
+  class_some (packet.Segment s) c t e = by (is_served_port s.dst_port) refl e
+    where
+      out : (o : Option ℕ) → number_in ts s ≡ o → option_map {U = ℕ × Seg} (λ c. (c, s)) (number_in ts s) ≡ Some (c, t) → list_any (tuple_eq (tuple_of s)) ts ≡ true
+      out None q h = none_some (rw q at h)
+      out (Some j) q h = some_any {X = ℕ} (tuple_eq (tuple_of s)) (λ t. []) 0 0 j ts (sym (position_from-zero (tuple_eq (tuple_of s)) ts) ∙ q)
+
+      by : (b : Bool) → is_served_port s.dst_port ≡ b → place_in ts (packet.Segment s) ≡ Some (c, t) → class_in ts (packet.Segment s) ≡ class.Served
+      by true q h = rw (q, out (number_in ts s) refl (rw q at h)) refl
+      by false q h = none_some (rw q at h)
+  class_some packet.Other c s e = none_some e
+  class_some packet.Fragment c s e = none_some e
+  class_some packet.Cut c s e = none_some e
+  class_some (packet.Malformed why) c s e = none_some e
+  class_some packet.BadSum c s e = none_some e
+
+  -- a place is the number of the served segment
+  pub record IsPlace (p : Packet) (c : ℕ) (s : Seg) : Type 0 where
+    pub served : served_in p ≡ Some s
+    pub number : number_in ts s ≡ Some c
+
+  place_is : (p : Packet) (c : ℕ) (s : Seg) → place_in ts p ≡ Some (c, s) → IsPlace p c s
+  place_is p c s e = by (served_in p) refl e
+    where
+      inner : (t : Seg) (o : Option ℕ) → served_in p ≡ Some t → number_in ts t ≡ o → option_map {U = ℕ × Seg} (λ c. (c, t)) (number_in ts t) ≡ Some (c, s) → IsPlace p c s
+      inner t None f q h = none_some (rw q at h)
+      inner t (Some j) f q h =
+          let pair : ◌≡◌ {A = Option (ℕ × Seg)} (Some (j, t)) (Some (c, s)) = rw q at h in
+          let pairs = some_is pair in
+          let num : j ≡ c = ap (λ p. p.0) pairs in
+          let seg : t ≡ s = ap (λ p. p.1) pairs in
+          record { served = f ∙ ap Some seg; number = ap (number_in ts) (sym seg) ∙ q ∙ ap Some num }
+
+      by : (o : Option Seg) → served_in p ≡ o → place_in ts p ≡ Some (c, s) → IsPlace p c s
+      by None f h = none_some (rw f at h)
+      by (Some t) f h = inner t (number_in ts t) f refl (rw f at h)
+
+  -- no place: no served segment, or none of these connections
+  place_not : (p : Packet) → place_in ts p ≡ None → (Q : Type 0) → (served_in p ≡ None → Q) → ((s : Seg) → served_in p ≡ Some s → number_in ts s ≡ None → Q) → Q
+  place_not p e Q none some = by (served_in p) refl e
+    where
+      inner : (t : Seg) (o : Option ℕ) → served_in p ≡ Some t → number_in ts t ≡ o → option_map {U = ℕ × Seg} (λ c. (c, t)) (number_in ts t) ≡ None → Q
+      inner t None f q h = some t f q
+      inner t (Some j) f q h = some_none (rw q at h)
+
+      by : (o : Option Seg) → served_in p ≡ o → place_in ts p ≡ None → Q
+      by None f h = none f
+      by (Some t) f h = inner t (number_in ts t) f refl (rw f at h)
+
+-- one record further
+module _ (records : ℕ) (cut : Bool) (ts : List Tuple) (xs : List Seen) (x : Seen) where
+  classes_push : (c : Class) → class_in ts x.1 ≡ c
+      → counts_of records cut (map (λ y. class_in ts y.1) (xs ++ x ∷ [])) ≡ counted c (counts_of records cut (map (λ y. class_in ts y.1) xs))
+  classes_push c e =
+      ap (counts_of records cut) (map-append (λ y. class_in ts y.1) xs (x ∷ []) ∙ ap (λ k. map (λ y. class_in ts y.1) xs ++ k ∷ []) e)
+      ∙ counts_push records cut (map (λ y. class_in ts y.1) xs) c
+
+  order_none : conn_in ts x.1 ≡ None → order_of ts (xs ++ x ∷ []) ≡ order_of ts xs
+  unfolding order_of
+  order_none e = push_none (λ y. conn_in ts y.1) xs x e
+
+  order_some : (c : ℕ) → conn_in ts x.1 ≡ Some c → order_of ts (xs ++ x ∷ []) ≡ order_of ts xs ++ c ∷ []
+  unfolding order_of
+  order_some c e = push_some (λ y. conn_in ts y.1) xs x c e
+
+  record Stays : Type 0 where
+    lists : map (λ t. of_conn t (xs ++ x ∷ [])) ts ≡ map (λ t. of_conn t xs) ts
+    order : order_of ts (xs ++ x ∷ []) ≡ order_of ts xs
+
+  stays : place_in ts x.1 ≡ None → Stays
+  stays e = place_not ts x.1 e Stays
+      (λ f. record { lists = (λ k. map (λ t. conn_none xs x t f k) ts); order = order_none (ap (option_and_then (number_in ts)) f) })
+      (λ s f q. record {
+        lists = (λ k. map (λ t. conn_some xs x s f t k) ts)
+            ∙ grown_none (tuple_eq (tuple_of s)) (λ t. of_conn t xs) (record { rec = length xs; at = x.0; seg = s }) ts (sym (position_from-zero (tuple_eq (tuple_of s)) ts) ∙ q);
+        order = order_none (ap (option_and_then (number_in ts)) f ∙ q);
+      })
+
+  pub turn_none : place_in ts x.1 ≡ None
+      → sorted_of records cut ts (xs ++ x ∷ []) ≡ record (sorted_of records cut ts xs) { counts = counted (class_in [] x.1) (sorted_of records cut ts xs).counts }
+  turn_none e =
+      let h = stays e in
+      let n = classes_push (class_in [] x.1) (class_none ts x.1 e) in
+      (λ k. record { lists = h.lists k; order = h.order k; counts = n k })
+
+  pub record Turns (c : ℕ) (s : Seg) : Type 0 where
+    pub within : c < length ts
+    pub all : sorted_of records cut ts (xs ++ x ∷ []) ≡ record (sorted_of records cut ts xs) {
+      lists = set (map (λ t. of_conn t xs) ts) c (get_or (map (λ t. of_conn t xs) ts) c [] ++ record { rec = length xs; at = x.0; seg = s } ∷ []);
+      order = order_of ts xs ++ c ∷ [];
+      counts = counted class.Served (sorted_of records cut ts xs).counts;
+    }
+
+  pub turn_some : (c : ℕ) (s : Seg) → IsDistinct tuple_eq ts → place_in ts x.1 ≡ Some (c, s) → Turns c s
+  turn_some c s d e =
+      let p = place_is ts x.1 c s e in
+      let g = grown_some (tuple_eq (tuple_of s)) (λ t. of_conn t xs) (record { rec = length xs; at = x.0; seg = s }) tuple_eq apart c ts d (sym (position_from-zero (tuple_eq (tuple_of s)) ts) ∙ p.number) in
+      let zero : c - 0 ≡ c = omega arith in
+      let within : c < length ts = omega (arith, g.within) in
+      let n = classes_push class.Served (class_some ts x.1 c s e) in
+      let o = order_some c (ap (option_and_then (number_in ts)) p.served ∙ p.number) in
+      let one = (λ k. map (λ t. conn_some xs x s p.served t k) ts) ∙ g.one
+      ∙ ap (λ m. set (map (λ t. of_conn t xs) ts) m (get_or (map (λ t. of_conn t xs) ts) m [] ++ record { rec = length xs; at = x.0; seg = s } ∷ [])) zero in
+      record { within = within; all = (λ k. record { lists = one k; order = o k; counts = n k }) }
+    where
+      apart : (t u : Tuple) → tuple_eq (tuple_of s) t ≡ true → tuple_eq t u ≡ false → tuple_eq (tuple_of s) u ≡ false
+      apart t u q h = ap (λ v. tuple_eq v u) (same (tuple_of s) t q) ∙ h
+
+-- one list grown, seen in the lists' elements
+pub grown_at : {V X : Type 0} (f : V → List X) (vs : List V) (c : ℕ) (v w : V) (x : X) → c < length (map f vs) → v ≡ get_or vs c v → f w ≡ f v ++ x ∷ []
+    → map f (set vs c w) ≡ set (map f vs) c (get_or (map f vs) c [] ++ x ∷ [])
+grown_at f vs c v w x lt is e =
+    let less : c < length vs = omega (arith, length-map vs f) in
+    map-set f vs c w ∙ ap (set (map f vs) c) (e ∙ ap (λ l. l ++ x ∷ []) (ap f is ∙ sym (get_or-map f vs c v [] less)))
+
+pub seen_nil : (rs : List Captured) → seen_of rs [] ≡ []
+seen_nil [] = refl
+seen_nil (r ∷ rs) = refl
+
+-- the records seen, one further
+pub seen_more : (rs : List Captured) (ps : List Packet) (i : ℕ) (r : Captured) (p : Packet) → i < length rs → i < length ps
+    → seen_of rs (take (i + 1) ps) ≡ seen_of rs (take i ps) ++ ((get_or rs i r).time, get_or ps i p) ∷ []
+seen_more rs ps i r p a b = let on : i + 1 ≡ suc i = omega arith in ap (λ n. seen_of rs (take n ps)) on ∙ more rs ps i a b
+  where
+    none : {A : Type 0} {n : ℕ} → n < 0 → A
+    none h = absurd (let no : ⊥ = omega arith in no)
+
+    more : (rs : List Captured) (ps : List Packet) (i : ℕ) → i < length rs → i < length ps
+        → seen_of rs (take (suc i) ps) ≡ seen_of rs (take i ps) ++ ((get_or rs i r).time, get_or ps i p) ∷ []
+    more [] ps i a b = none a
+    more (x ∷ xs) [] i a b = none b
+    more (x ∷ xs) (y ∷ ys) zero a b = ap (λ l. (x.time, y) ∷ l) (seen_nil xs)
+    more (x ∷ xs) (y ∷ ys) (suc i) a b =
+        let c : i < length xs = omega (arith, a) in
+        let d : i < length ys = omega (arith, b) in
+        ap (λ l. (x.time, y) ∷ l) (more xs ys i c d)
+
+pub length-seen : (rs : List Captured) (ps : List Packet) (i : ℕ) → i ≤ length rs → i ≤ length ps → length (seen_of rs (take i ps)) ≡ i
+length-seen rs ps zero a b = ap length (seen_nil rs)
+length-seen [] ps (suc i) a b = absurd (let no : ⊥ = omega arith in no)
+length-seen (r ∷ rs) [] (suc i) a b = absurd (let no : ⊥ = omega arith in no)
+length-seen (r ∷ rs) (p ∷ ps) (suc i) a b =
+    let c : i ≤ length rs = omega (arith, a) in
+    let d : i ≤ length ps = omega (arith, b) in
+    ap suc (length-seen rs ps i c d)
+
+-- one turn of the pass
+module _ (records : ℕ) (cut : Bool) (ts : List Tuple) (rs : List Captured) (ps : List Packet) (i : ℕ) (r : Captured) (d : Packet)
+    (a : i < length rs) (b : i < length ps) (s : SortedOf) (so_far : s ≡ sorted_of records cut ts (seen_of rs (take i ps))) where
+  many : length (seen_of rs (take i ps)) ≡ i
+  many = let c : i ≤ length rs = omega (arith, a) in let e : i ≤ length ps = omega (arith, b) in length-seen rs ps i c e
+
+  pub total_here : total s.counts ≡ i
+  total_here = ap (λ (t : SortedOf). total t.counts) so_far ∙ total-counts records cut (map (λ x. class_in ts x.1) (seen_of rs (take i ps)))
+      ∙ length-map (seen_of rs (take i ps)) (λ x. class_in ts x.1) ∙ many
+
+  pub length_here : length s.lists ≡ length ts
+  length_here = ap (λ (t : SortedOf). length t.lists) so_far ∙ length-map ts (λ t. of_conn t (seen_of rs (take i ps)))
+
+  pub passes : place_in ts (get_or ps i d) ≡ None → (k : Class) → k ≡ class_in [] (get_or ps i d)
+      → record s { counts = counted k s.counts } ≡ sorted_of records cut ts (seen_of rs (take (i + 1) ps))
+  passes q k e =
+      (λ j. record (so_far j) { counts = counted (e j) (so_far j).counts })
+      ∙ sym (turn_none records cut ts (seen_of rs (take i ps)) ((get_or rs i r).time, get_or ps i d) q)
+      ∙ ap (sorted_of records cut ts) (sym (seen_more rs ps i r d a b))
+
+  module _ (c : ℕ) (g : Seg) (apart : IsDistinct tuple_eq ts) (q : place_in ts (get_or ps i d) ≡ Some (c, g)) where
+    turn : Turns records cut ts (seen_of rs (take i ps)) ((get_or rs i r).time, get_or ps i d) c g
+    turn = turn_some records cut ts (seen_of rs (take i ps)) ((get_or rs i r).time, get_or ps i d) c g apart q
+
+    pub fits : c < length ts
+    fits = turn.within
+
+    pub adds : (at : ℕ) → at ≡ (get_or rs i r).time
+        → record s {
+          lists = set s.lists c (get_or s.lists c [] ++ record { rec = i; at = at; seg = g } ∷ []);
+          order = s.order ++ c ∷ [];
+          counts = counted class.Served s.counts;
+        } ≡ sorted_of records cut ts (seen_of rs (take (i + 1) ps))
+    adds at same_time =
+        let number = sym many in
+        (λ k. record (so_far k) {
+          lists = set (so_far k).lists c (get_or (so_far k).lists c [] ++ record { rec = number k; at = same_time k; seg = g } ∷ []);
+          order = (so_far k).order ++ c ∷ [];
+          counts = counted class.Served (so_far k).counts;
+        })
+        ∙ sym turn.all ∙ ap (sorted_of records cut ts) (sym (seen_more rs ps i r d a b))
+
+-- nothing sorted yet
+pub starts : (records : ℕ) (cut : Bool) (ts : List Tuple) (rs : List Captured) (ps : List Packet)
+    → record { lists = replicate (length ts) []; order = []; counts = counts_of records cut [] } ≡ sorted_of records cut ts (seen_of rs (take 0 ps))
+unfolding of_conn order_of
+starts records cut ts rs ps = (λ k. record { lists = empty ts k; order = []; counts = counts_of records cut [] }) ∙ ap (sorted_of records cut ts) (sym (seen_nil rs))
+  where
+    empty : (ts : List Tuple) → ◌≡◌ {A = List (List Arrival)} (replicate (length ts) []) (map (λ t. of_conn t []) ts)
+    empty [] = refl
+    empty (t ∷ ts) = ap (λ l. [] ∷ l) (empty ts)

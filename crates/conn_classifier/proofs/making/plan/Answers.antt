@@ -1,0 +1,36 @@
+use Rattle.std.proofs.Common.{◌≡◌, ◌≤◌, length, ap, sym, subst, ◌∙◌, arith}
+use Rattle.std.proofs.lemmas.List.{length-map}
+use Rattle.segment_codec.specs.Packet.{packet_in}
+use Rattle.capture_reader.specs.CaptureFile.{last_time}
+use Rattle.conn_classifier.specs.Plan.{IsPlan}
+use Rattle.conn_classifier.specs.Sorting.{sorted_of, seen_of}
+use Rattle.conn_classifier.proofs.PlanLaw.{is_plan, few_conns, items_made, made}
+use Rattle.conn_classifier.proofs.making.plan.Goals as goal
+
+pub sort-requires-clause-all : goal.sort-requires-clause-all
+sort-requires-clause-all g c =
+    let file = c.args.capture.now in
+    ap length c.as_slice-2.ensures.value ∙ ap length c.in_ok-packets.ensures.value ∙ length-map file.packets (λ r. packet_in file.link r.body c.args.verify)
+
+pub sort-requires-clause-few : goal.sort-requires-clause-few
+sort-requires-clause-few g c =
+    omega (arith, ap length c.in_ok-tuples.ensures, few_conns c.as_slice.result.now)
+
+pub invariant_of-result : goal.invariant_of-result
+invariant_of-result g c =
+    let file = c.args.capture.now in
+    let last : c.last_time.result ≡ last_time file.packets = c.last_time.ensures.value in
+    let few : length file.packets ≤ 1048576 =
+    omega (arith, c.in_ok-packets.ensures.most, ap length c.in_ok-packets.ensures.value, length-map file.packets (λ r. packet_in file.link r.body c.args.verify)) in
+    let most : last_time file.packets ≤ 9007199254740992 = omega (arith, last, c.last_time.ensures.most) in
+    subst IsPlan (sym (made file c.args.verify c.as_slice.result.now _ _ _ _ _ (c.as_slice.ensures.value ∙ c.in_ok-packets.ensures.value) c.in_ok-tuples.ensures
+    (c.sorted.view_is ∙ c.in_ok-sorted.ensures ∙ ap (λ l. sorted_of (length file.packets) file.cut c.in_ok-tuples.tuples.keys (seen_of file.packets l)) (c.as_slice-2.ensures.value ∙ sym c.as_slice.ensures.value))
+    (items_made (λ v. v.items) (last_time file.packets) c.last_time.result c.sorted.inside.lists.items c.as_slice-3.result.now _ c.in_ok-items.ensures c.as_slice-3.ensures.value c.last_time.ensures.value)))
+    (is_plan file c.args.verify few most)
+
+pub returns : goal.returns
+returns g c =
+    let file = c.args.capture.now in
+    made file c.args.verify c.as_slice.result.now _ _ _ _ _ (c.as_slice.ensures.value ∙ c.in_ok-packets.ensures.value) c.in_ok-tuples.ensures
+    (c.sorted.view_is ∙ c.in_ok-sorted.ensures ∙ ap (λ l. sorted_of (length file.packets) file.cut c.in_ok-tuples.tuples.keys (seen_of file.packets l)) (c.as_slice-2.ensures.value ∙ sym c.as_slice.ensures.value))
+    (items_made (λ v. v.items) (last_time file.packets) c.last_time.result c.sorted.inside.lists.items c.as_slice-3.result.now _ c.in_ok-items.ensures c.as_slice-3.ensures.value c.last_time.ensures.value)

@@ -1,0 +1,50 @@
+-- The connections of a capture: the distinct tuples of the segments to served ports, by first appearance, at most 4,096.
+use Rattle.std.specs.Prelude.{ℕ, ◌==◌, ◌||◌, ◌&&◌, not, Bool, List, [], ◌∷◌, take, map, filter, Option, None, Some, if◌then◌else◌}
+use Rattle.std.specs.List.{filter_map}
+use Rattle.std.specs.Option.{option_map}
+use Rattle.sq_base.specs.declared.kinds.Tuple.{Tuple}
+use Rattle.capture_reader.specs.Outcome.{CaptureFile}
+use Rattle.segment_codec.specs.declared.packet.Packet.{Packet}
+use Rattle.segment_codec.specs.declared.packet.Packet.TheVariants as packet
+use Rattle.segment_codec.specs.declared.packet.Seg.{Seg}
+use Rattle.segment_codec.specs.Packet.{packet_in}
+
+-- what each record of a capture holds
+abbrev pub decoded : CaptureFile → Bool → List Packet
+decoded file verify = map (λ r. packet_in file.link r.body verify) file.packets
+
+-- echo (RFC 862) and discard (RFC 863)
+abbrev pub is_served_port : ℕ → Bool
+is_served_port n = (n == 7) || (n == 9)
+
+-- the connection of a segment: its source is the client, its destination the server
+abbrev pub tuple_of : Seg → Tuple
+tuple_of s = record {
+  client = s.src;
+  client_port = s.src_port;
+  server = s.dst;
+  server_port = s.dst_port;
+}
+
+abbrev pub tuple_eq : Tuple → Tuple → Bool
+tuple_eq a b = (a.client.0 == b.client.0) && ((a.client_port == b.client_port) && ((a.server.0 == b.server.0) && (a.server_port == b.server_port)))
+
+-- the segment that a record holds, where it goes to a served port
+abbrev pub served_in : Packet → Option Seg
+served_in (packet.Segment s) = if is_served_port s.dst_port then Some s else None
+served_in packet.Other = None
+served_in packet.Fragment = None
+served_in packet.Cut = None
+served_in (packet.Malformed why) = None
+served_in packet.BadSum = None
+
+abbrev pub served_tuple : Packet → Option Tuple
+served_tuple p = option_map tuple_of (served_in p)
+
+-- the different tuples, each where it comes first
+abbrev pub distinct : List Tuple → List Tuple
+distinct [] = []
+distinct (t ∷ ts) = t ∷ filter (λ u. not (tuple_eq u t)) (distinct ts)
+
+unfoldable pub conns : List Packet → List Tuple
+conns ps = take 4096 (distinct (filter_map served_tuple ps))

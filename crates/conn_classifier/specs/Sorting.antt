@@ -1,0 +1,74 @@
+-- What one pass over the records sorts out: the arrivals of each connection, the connection of each arrival, and the counts.
+use Rattle.std.specs.Prelude.{ℕ, ◌+◌, Bool, List, [], ◌∷◌, ◌++◌, map, set, get_or, Option, None, Some, position}
+use Rattle.std.specs.List.{filter_map}
+use Rattle.std.specs.Option.{option_map, option_and_then}
+use Rattle.sq_base.specs.declared.kinds.Tuple.{Tuple}
+use Rattle.segment_codec.specs.declared.packet.Packet.{Packet}
+use Rattle.segment_codec.specs.declared.packet.Seg.{Seg}
+use Rattle.capture_reader.specs.CaptureFile.{Packet as Captured}
+use Rattle.conn_classifier.specs.Connections.{served_in, tuple_of, tuple_eq}
+use Rattle.conn_classifier.specs.Classes.{class_in, counts_of}
+use Rattle.conn_classifier.specs.Items.{Seen, of_conn}
+use Rattle.conn_classifier.specs.declared.kinds.Arrival.{Arrival}
+use Rattle.conn_classifier.specs.declared.kinds.Class.{Class}
+use Rattle.conn_classifier.specs.declared.kinds.Class.TheVariants as class
+use Rattle.conn_classifier.specs.declared.kinds.Counts.{Counts}
+
+-- the records with their packets
+abbrev pub seen_of : List Captured → List Packet → List Seen
+seen_of [] ps = []
+seen_of (r ∷ rs) [] = []
+seen_of (r ∷ rs) (p ∷ ps) = (r.time, p) ∷ seen_of rs ps
+
+-- the number of a segment's connection among these
+abbrev pub number_in : List Tuple → Seg → Option ℕ
+number_in ts s = position (tuple_eq (tuple_of s)) ts
+
+-- the number of a record's connection, where it is among these
+abbrev pub conn_in : List Tuple → Packet → Option ℕ
+conn_in ts p = option_and_then (number_in ts) (served_in p)
+
+-- that number and the segment
+abbrev pub place_in : List Tuple → Packet → Option (ℕ × Seg)
+place_in ts p = option_and_then (λ s. option_map (λ c. (c, s)) (number_in ts s)) (served_in p)
+
+-- the connection of each record that is of one, in record order
+unfoldable pub order_of : List Tuple → List Seen → List ℕ
+order_of ts xs = filter_map (λ x. conn_in ts x.1) xs
+
+pub record SortedOf : Type 0 where
+  pub lists : List (List Arrival)
+  pub order : List ℕ
+  pub counts : Counts
+
+-- all that is sorted out of the records seen, in a capture with this many records and a cut tail or none
+abbrev pub sorted_of : ℕ → Bool → List Tuple → List Seen → SortedOf
+sorted_of records cut ts xs = record {
+  lists = map (λ t. of_conn t xs) ts;
+  order = order_of ts xs;
+  counts = counts_of records cut (map (λ x. class_in ts x.1) xs);
+}
+
+-- one more record of this class
+abbrev pub counted : Class → Counts → Counts
+counted class.Served c = record c { served = c.served + 1 }
+counted class.NoFit c = record c { nofit = c.nofit + 1 }
+counted class.Server c = record c { server = c.server + 1 }
+counted class.Other c = record c { other = c.other + 1 }
+counted class.Fragment c = record c { fragment = c.fragment + 1 }
+counted class.Cut c = record c { cut = c.cut + 1 }
+counted class.Malformed c = record c { malformed = c.malformed + 1 }
+counted class.BadSum c = record c { badsum = c.badsum + 1 }
+
+-- how many records were counted
+abbrev pub total : Counts → ℕ
+total c = c.served + c.nofit + c.server + c.other + c.fragment + c.cut + c.malformed + c.badsum
+
+-- one more record: its number and time, its place, and its class where it is of no connection
+abbrev pub with_record : ℕ → ℕ → Option (ℕ × Seg) → Class → SortedOf → SortedOf
+with_record rec at None c s = record s { counts = counted c s.counts }
+with_record rec at (Some p) c s = record s {
+  lists = set s.lists p.0 (get_or s.lists p.0 [] ++ record { rec = rec; at = at; seg = p.1 } ∷ []);
+  order = s.order ++ p.0 ∷ [];
+  counts = counted class.Served s.counts;
+}

@@ -1,0 +1,62 @@
+//! The hints of a connection's segments.
+
+ghost use Rattle.std.specs.Prelude.{◌≡◌, List, ◌∷◌, IfOk, if◌then◌else◌};
+ghost use Rattle.conn_classifier.specs.Items.{syn, rst, ack, hint};
+ghost use Rattle.conn_classifier.specs.Hints.{hints_of, said, IsAhead};
+
+use crate::kinds::Arrival;
+use std::alloc::{AllocError, Global};
+
+/// What the later segments say: nothing, an acknowledgement, or a SYN that comes first.
+#[derive(Clone, Copy, Debug, PartialEq, Eq)]
+pub enum Ahead {
+    Nothing,
+    Acked(u32),
+    Syn(u32, u32),
+}
+
+impl Ahead {
+    fn said(self, seq: u32) -> u32
+        ensures { result ≡ said self seq }
+    {
+        match self {
+            Ahead::Nothing => 0,
+            Ahead::Acked(iss) => iss,
+            Ahead::Syn(other, iss) => { if other == seq { iss } else { 0 } }
+        }
+    }
+
+    /// What the segments say, with this one before them, and its own hint.
+    fn before(self, arrival: &Arrival) -> (Ahead, u32)
+        ensures hint { (more : List Arrival) → IsAhead self more → result.1 ≡ hint arrival.now.seg more }
+        ensures ahead { (more : List Arrival) → IsAhead self more → IsAhead result.0 (arrival.now ∷ more) }
+    {
+        let seg = arrival.seg;
+        if seg.flags & 2 == 2 {
+            let iss = self.said(seg.seq);
+            (Ahead::Syn(seg.seq, iss), iss)
+        } else if seg.flags & 4 == 4 {
+            (self, 0)
+        } else if seg.flags & 16 == 16 {
+            (Ahead::Acked(seg.ack.wrapping_sub(1)), 0)
+        } else {
+            (self, 0)
+        }
+    }
+}
+
+/// The hint of each segment of a connection.
+pub fn hints(alloc: Global, arrivals: &[Arrival]) -> Result<Vec<u32>, AllocError>
+    ensures { IfOk result (λ v. v.items ≡ hints_of arrivals.now) }
+{
+    let mut hints = vec![in alloc; 0u32; arrivals.len()]?;
+    let mut ahead = Ahead::Nothing;
+    let mut i = arrivals.len();
+    while i > 0 {
+        i -= 1;
+        let (now, iss) = ahead.before(&arrivals[i]);
+        hints[i] = iss;
+        ahead = now;
+    }
+    Ok(hints)
+}

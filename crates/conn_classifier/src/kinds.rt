@@ -1,0 +1,64 @@
+//! The items of a connection, and what the records of a capture count as.
+
+use segment_codec::Seg;
+
+/// One entry of a connection. Times are in microseconds and never fall from one item to the next.
+#[derive(Clone, Copy, Debug, PartialEq, Eq)]
+pub enum Item {
+    /// The clock moves on to `at` with nothing received, so that due timers fire.
+    Time {
+        at: u64,
+    },
+
+    /// The segment of record number `rec` is received at `at`. `iss` is the hint: the initial sequence number that the
+    /// client's later segments acknowledge, or 0.
+    Segment {
+        at: u64,
+        rec: u32,
+        iss: u32,
+        seg: Seg,
+    },
+}
+
+/// A served segment, with its record's number and time.
+#[derive(Clone, Copy, Debug, PartialEq, Eq)]
+pub struct Arrival {
+    pub rec: u32,
+    pub at: u64,
+    pub seg: Seg,
+}
+
+/// What one record of a capture counts as.
+#[derive(Clone, Copy, Debug, PartialEq, Eq)]
+pub enum Class {
+    Served,
+    NoFit,
+    Server,
+    Other,
+    Fragment,
+    Cut,
+    Malformed,
+    BadSum,
+}
+
+/// How many records there are, whether the last one was cut (1) or not (0), and how many of the records count as what.
+/// Each record counts in exactly one class.
+#[derive(Clone, Copy, Debug, PartialEq, Eq)]
+pub struct Counts {
+    pub records: u32,
+    pub tail: u32,
+    /// To an echo or discard port, and of one of the first 4,096 connections.
+    pub served: u32,
+    /// To an echo or discard port, and of a later connection.
+    pub nofit: u32,
+    /// From an echo or discard port to another port.
+    pub server: u32,
+    /// Between other ports, or no TCP over IPv4.
+    pub other: u32,
+    pub fragment: u32,
+    /// Fewer bytes were captured than the datagram has.
+    pub cut: u32,
+    pub malformed: u32,
+    /// A wrong checksum, where checksums decide.
+    pub badsum: u32,
+}

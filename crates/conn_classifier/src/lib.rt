@@ -1,0 +1,20 @@
+//! The connections of a capture and their items: what the rings bring to the squeues, and in which order.
+//!
+//! The records are decoded in several threads, in record order, and then gone through once by one thread, with a hashed
+//! set of the connections; each connection's segments are gone through once from the back, for the hints.
+#![tactic(auto)]
+
+mod ahead;
+mod decoding;
+mod items;
+mod kinds;
+mod making;
+mod planned;
+mod rings;
+mod sorting;
+mod tuples;
+
+pub use kinds::{Counts, Item};
+pub use making::plan;
+pub use perimeter_core::Feed;
+pub use planned::Plan;

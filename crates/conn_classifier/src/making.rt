@@ -1,0 +1,53 @@
+//! A plan is made of a capture.
+
+ghost use Rattle.std.specs.Prelude.{◌≡◌, IfOk, map};
+ghost use Rattle.conn_classifier.specs.Items.{items_of};
+ghost use Rattle.conn_classifier.specs.Plan.{plan_of};
+
+use crate::ahead::hints;
+use crate::decoding::decode_all;
+use crate::items::items_in;
+use crate::kinds::{Arrival, Item};
+use crate::planned::{Plan, Table};
+use crate::sorting::sort;
+use crate::tuples::tuples_of;
+use capture_reader::Capture;
+use std::alloc::{AllocError, Global};
+use std::thread::Threads;
+
+/// The items of each list of segments, where this is the greatest time of all records.
+fn all_items(alloc: Global, last: u64, lists: &[Vec<Arrival>]) -> Result<Vec<Vec<Item>>, AllocError>
+    ensures { IfOk result (λ v. map (λ x. x.items) v.items ≡ map (λ l. items_of last l.items) lists.now) }
+{
+    let mut items = Vec::with_capacity(alloc, lists.len())?;
+    for list in lists {
+        let hints = hints(alloc, list.as_slice())?;
+        items.push(items_in(alloc, last, list.as_slice(), hints.as_slice())?)?;
+    }
+    Ok(items)
+}
+
+/// The plan of a capture. With `verify` a record whose checksums are wrong counts as `badsum`. Fails only for want of
+/// memory.
+pub fn plan<'c>(
+    rt: &(impl Threads + Sync),
+    alloc: Global,
+    capture: &'c Capture,
+    verify: bool,
+) -> Result<Plan<'c>, AllocError>
+    ensures { IfOk result (λ p. p ≡ plan_of capture.entry.now verify) }
+{
+    let packets = decode_all(rt, alloc, capture, verify)?;
+    let tuples = tuples_of(alloc, packets.as_slice())?;
+    let sorted = sort(alloc, capture, &tuples, packets.as_slice())?;
+    let items = all_items(alloc, capture.last_time(), sorted.lists.as_slice())?;
+    Ok(Plan {
+        capture,
+        table: Table {
+            tuples,
+            items,
+            order: sorted.order,
+            counts: sorted.counts,
+        },
+    })
+}

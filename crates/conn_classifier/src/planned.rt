@@ -1,0 +1,135 @@
+//! The plan of a capture, as the layers above see it.
+
+ghost use Rattle.std.specs.Prelude.{◌≡◌, ℕ, ◌+◌, ◌<◌, ◌≤◌, ◌%◌, true, length, slice_get, get_or, IfSome, Some};
+ghost use Rattle.conn_classifier.specs.Connections.{is_served_port};
+ghost use Rattle.conn_classifier.specs.Plan.{items_in, time_of, text_of, text_len_of};
+
+use crate::kinds::{Counts, Item};
+use capture_reader::Capture;
+use indexmap::IndexSet;
+use sq_base::Tuple;
+use std::marker::Model;
+
+/// What a plan owns.
+#[derive(Drop)]
+pub(crate) struct Table {
+    pub(crate) tuples: IndexSet<Tuple>,
+    pub(crate) items: Vec<Vec<Item>>,
+    /// The connection of each served segment, in record order.
+    pub(crate) order: Vec<u32>,
+    pub(crate) counts: Counts,
+}
+
+/// The connections of a capture, numbered from 0 by first appearance, at most 4,096, and their items, numbered from 0.
+#[derive(Drop)]
+pub struct Plan<'c> {
+    pub(crate) capture: &'c Capture,
+    pub(crate) table: Table,
+}
+
+impl<'c> Model for Plan<'c> {
+    ghost use Rattle.std.specs.Prelude.{map};
+    ghost use Rattle.conn_classifier.specs.Plan.{PlanOf, IsPlan};
+
+    ghost Value = { PlanOf };
+
+    ghost view = { λ p. record {
+      file = p.capture.now;
+      tuples = p.table.tuples.keys;
+      items = map (λ v. v.items) p.table.items.items;
+      order = p.table.order.items;
+      counts = p.table.counts;
+    } };
+
+    ghost invariant = { λ p. IsPlan (record {
+      file = p.capture.now;
+      tuples = p.table.tuples.keys;
+      items = map (λ v. v.items) p.table.items.items;
+      order = p.table.order.items;
+      counts = p.table.counts;
+    }) };
+}
+
+impl<'c> Plan<'c> {
+    /// How many connections there are.
+    pub fn conns(&self) -> u32
+        ensures value { result ≡ length self.now.tuples }
+        ensures most { result ≤ 4096 }
+    {
+        self.table.tuples.len() as u32
+    }
+
+    /// How many records count as what.
+    pub fn counts(&self) -> Counts
+        ensures { result ≡ self.now.counts }
+    {
+        self.table.counts
+    }
+
+    /// The two ends of connection `c`. The server's port is that of echo or of discard.
+    pub fn tuple(&self, c: u32) -> Tuple
+        requires { c < length self.now.tuples }
+        ensures value { slice_get self.now.tuples c ≡ Some result }
+        ensures served { is_served_port result.server_port ≡ true }
+    {
+        match self.table.tuples.get_index(c as usize) {
+            Some(tuple) => *tuple,
+            None => unreachable!(),
+        }
+    }
+
+    /// How many items connection `c` has.
+    pub fn items(&self, c: u32) -> u32
+        requires { c < length self.now.tuples }
+        ensures value { result ≡ length (items_in self.now c) }
+        ensures some { 0 < result }
+        ensures most { result ≤ 2097153 }
+    {
+        self.table.items[c as usize].len() as u32
+    }
+
+    /// The ring that brings connection `c`, of so many.
+    pub fn ring_of(&self, c: u32, rings: u32) -> u32
+        requires conn { c < length self.now.tuples }
+        requires some { 1 ≤ rings }
+        ensures { result ≡ c % rings }
+    {
+        c % rings
+    }
+
+    /// The squeue at which connection `c` starts, of so many.
+    pub fn first_squeue(&self, c: u32, squeues: u32) -> u32
+        requires conn { c < length self.now.tuples }
+        requires some { 1 ≤ squeues }
+        ensures { result ≡ c % squeues }
+    {
+        c % squeues
+    }
+
+    /// Item `n` of connection `c`. Times never fall from an item to a later one.
+    pub fn item(&self, c: u32, n: u32) -> Item
+        requires conn { c < length self.now.tuples }
+        requires item { n < length (items_in self.now c) }
+        ensures value { slice_get (items_in self.now c) n ≡ Some result }
+        ensures most { time_of result ≤ 9007199254740992 }
+        ensures rises { (m : ℕ) → m ≤ n → IfSome (slice_get (items_in self.now c) m) (λ before. time_of before ≤ time_of result) }
+    {
+        self.table.items[c as usize][n as usize]
+    }
+
+    /// The text of item `n` of connection `c`: the segment's, or none for a time item.
+    pub fn text(&self, c: u32, n: u32) -> &[u8]
+        requires conn { c < length self.now.tuples }
+        requires item { n < length (items_in self.now c) }
+        ensures value { IfSome (slice_get (items_in self.now c) n) (λ item. result.now ≡ text_of self.now.file item) }
+        ensures whole { IfSome (slice_get (items_in self.now c) n) (λ item. length result.now ≡ text_len_of item) }
+    {
+        match self.item(c, n) {
+            Item::Time { .. } => &[],
+            Item::Segment { rec, seg, .. } => {
+                let from = seg.text_from as usize;
+                &self.capture.body(rec)[from..from + seg.text_len as usize]
+            }
+        }
+    }
+}

@@ -1,0 +1,55 @@
+//! The connections of a capture: the distinct tuples of its served segments, by first appearance.
+
+ghost use Rattle.std.specs.Prelude.{◌≡◌, IfOk};
+ghost use Rattle.conn_classifier.specs.Connections.{conns, served_in, tuple_of, is_served_port};
+
+use indexmap::IndexSet;
+use segment_codec::{Packet, Seg};
+use sq_base::Tuple;
+use std::alloc::{AllocError, Global};
+
+const MOST_CONNECTIONS: usize = 4096;
+
+/// Echo (RFC 862) and discard (RFC 863) are served.
+pub fn is_served(port: u16) -> bool
+    ensures { result ≡ is_served_port port }
+{
+    port == 7 || port == 9
+}
+
+/// A segment's connection: its source is the client, its destination the server.
+pub fn tuple(seg: &Seg) -> Tuple
+    ensures { result ≡ tuple_of seg.now }
+{
+    Tuple {
+        client: seg.src,
+        client_port: seg.src_port,
+        server: seg.dst,
+        server_port: seg.dst_port,
+    }
+}
+
+/// The segment that a record holds, where it goes to a served port.
+pub fn served(packet: &Packet) -> Option<Seg>
+    ensures { result ≡ served_in packet.now }
+{
+    match packet {
+        Packet::Segment(seg) if is_served(seg.dst_port) => Some(*seg),
+        _ => None,
+    }
+}
+
+/// The first 4,096 connections.
+pub fn tuples_of(alloc: Global, packets: &[Packet]) -> Result<IndexSet<Tuple>, AllocError>
+    ensures { IfOk result (λ s. s.keys ≡ conns packets.now) }
+{
+    let mut tuples = IndexSet::new(alloc);
+    for packet in packets {
+        if let Some(seg) = served(packet) {
+            if tuples.len() < MOST_CONNECTIONS {
+                tuples.insert(tuple(&seg))?;
+            }
+        }
+    }
+    Ok(tuples)
+}
