@@ -1,0 +1,19 @@
+-- The calls of the application threads: by thread, and each thread's in order.
+use Rattle.std.specs.Prelude.{ℕ, ◌+◌, List, [], ◌∷◌, length, get_or, slice_get, Option}
+use Rattle.tcb_machine.specs.declared.kinds.Call.{Call}
+
+-- by thread: each call's connection, and what is asked
+abbrev pub CallLists : Type 0
+CallLists = List (List (ℕ × Call))
+
+abbrev pub calls_of : CallLists → ℕ → List (ℕ × Call)
+calls_of calls j = get_or calls j []
+
+-- call k of thread j
+abbrev pub call_at : CallLists → ℕ → ℕ → Option (ℕ × Call)
+call_at calls j k = slice_get (calls_of calls j) k
+
+-- how many there are
+abbrev pub call_count : CallLists → ℕ
+call_count [] = 0
+call_count (l ∷ ls) = length l + call_count ls

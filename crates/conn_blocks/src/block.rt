@@ -1,0 +1,211 @@
+//! A block, and one order served.
+
+ghost use Rattle.std.specs.Prelude.{◌≡◌, ℕ, ◌+◌, ◌<◌, ◌≤◌, ◌^◌, false, true, [], ◌∷◌, ◌++◌, length, slice_get, Some, IfOk, OnOk, IfSome};
+ghost use Rattle.std.specs.List.{AllByRecursion};
+ghost use Rattle.tcb_machine.specs.BlockState.{new_block, offered};
+ghost use Rattle.tcb_machine.specs.CallAnswers.{tcp_call};
+ghost use Rattle.tcb_machine.specs.TcpStep.{said};
+ghost use Rattle.conn_classifier.specs.Plan.{items_in, time_of, text_len_of, text_of};
+ghost use Rattle.echo_services.specs.Pump.{followed};
+ghost use Rattle.conn_blocks.specs.CallLists.{calls_of, call_at};
+ghost use Rattle.conn_blocks.specs.ServeOrder.{receives, serve, serves_act, service_in, serving_of, IsActOf, FeedsRise, IsTimely, SetsClock};
+
+use crate::calls::Calls;
+use conn_classifier::{Item, Plan};
+use echo_services::{Service, pump};
+use perimeter_core::Act;
+use std::alloc::{AllocError, Global};
+use std::marker::Model;
+use tcb_machine::{Answer, Call, Next, Tcb};
+
+/// A connection's TCP state with the acts that made it, in order, and the answers of its calls.
+#[derive(Drop)]
+pub struct Block {
+    service: Service,
+    tcb: Tcb,
+    order: Vec<Act>,
+    /// Thread, number and answer of each call served.
+    answers: Vec<(u32, u32, Answer)>,
+    short: bool,
+}
+
+impl Model for Block {
+    ghost use Rattle.conn_blocks.specs.ServeOrder.{BlockOf};
+
+    ghost Value = { BlockOf };
+
+    ghost view = { λ b. record {
+      service = b.service;
+      tcb = b.tcb;
+      order = b.order.items;
+      answers = b.answers.items;
+      short = b.short;
+    } };
+}
+
+impl Block {
+    /// A new block of connection `c`, in LISTEN, with room for all its acts and answers.
+    pub fn make(alloc: Global, plan: &Plan, calls: &Calls, c: u32) -> Result<Box<Block>, AllocError>
+        requires { c < length plan.now.tuples }
+        ensures made { IfOk result (λ b. b.value ≡ record {
+          service = service_in plan.now c;
+          tcb = new_block;
+          order = [];
+          answers = [];
+          short = false;
+        }) }
+        // the most items that a connection has
+        ensures items { IfOk result (λ _. length (items_in plan.now c) ≤ 2097153) }
+    {
+        let asked = calls.count_on(c);
+        let block = Block {
+            service: Service::of(plan.tuple(c).server_port),
+            tcb: Tcb::make(alloc),
+            order: Vec::with_capacity(alloc, plan.items(c) as usize + asked)?,
+            answers: Vec::with_capacity(alloc, asked)?,
+            short: false,
+        };
+        Ok(Box::new(alloc, block)?)
+    }
+
+    /// The acts served, in order.
+    pub fn order(&self) -> &[Act]
+        ensures { result.now ≡ self.now.order }
+    {
+        self.order.as_slice()
+    }
+
+    pub fn tcb(&self) -> &Tcb
+        ensures { result.now ≡ self.now.tcb }
+    {
+        &self.tcb
+    }
+
+    /// How many calls were served.
+    pub fn answers(&self) -> usize
+        ensures { result ≡ length self.now.answers }
+    {
+        self.answers.len()
+    }
+
+    /// The thread, the number and the answer of the call that was served as number `i`.
+    pub fn answer(&self, i: usize) -> (u32, u32, Answer)
+        requires { i < length self.now.answers }
+        ensures { slice_get self.now.answers i ≡ Some result }
+    {
+        self.answers[i]
+    }
+
+    /// Whether memory ran out in an act. A short block promises nothing of its replies.
+    pub fn short(&self) -> bool
+        ensures { result ≡ self.now.short }
+    {
+        self.short
+    }
+
+    /// Pump and output, where an act asks for them.
+    fn follow(&mut self, alloc: Global, next: Next) -> Result<(), AllocError>
+        ensures step { OnOk result (self.new ≡ record self.old { tcb = followed self.old.service (said next self.old.tcb) }) }
+        ensures clock { OnOk result (self.new.tcb.clock ≡ self.old.tcb.clock) }
+        ensures taken { OnOk result (self.new.tcb.recv.taken ≤ self.old.tcb.recv.taken + 2 ^ 20) }
+        ensures offered { OnOk result (offered self.new.tcb ≤ offered self.old.tcb + 2 ^ 16) }
+    {
+        match next {
+            Next::Over => Ok(()),
+            Next::Go => {
+                pump(self.service, &mut self.tcb, alloc)?;
+                self.tcb.output(alloc)
+            }
+        }
+    }
+
+    /// An item of the connection is received.
+    fn receive(&mut self, alloc: Global, item: Item, text: &[u8]) -> Result<(), AllocError>
+        requires clock { self.old.tcb.clock ≤ time_of item }
+        requires time { time_of item ≤ 9007199254740992 }
+        requires text { length text.now ≡ text_len_of item }
+        requires taken { self.old.tcb.recv.taken < 2 ^ 60 }
+        requires offered { offered self.old.tcb < 2 ^ 60 }
+        ensures step { OnOk result (self.new ≡ record self.old { tcb = receives self.old.service item text.now self.old.tcb }) }
+        ensures clock { OnOk result (self.new.tcb.clock ≡ time_of item) }
+        ensures taken { OnOk result (self.new.tcb.recv.taken ≤ self.old.tcb.recv.taken + 2 ^ 20) }
+        ensures offered { OnOk result (offered self.new.tcb ≤ offered self.old.tcb + 2 ^ 16) }
+    {
+        match item {
+            Item::Time { at } => self.tcb.time(alloc, at),
+            Item::Segment { at, iss, seg, .. } => {
+                // What is ready bounds how far the received text stands past what was taken.
+                let _ready = self.tcb.ready();
+                let next = self.tcb.segment(alloc, at, iss, &seg, text)?;
+                self.follow(alloc, next)
+            }
+        }
+    }
+
+    /// Call `k` of thread `j` is made.
+    fn answer_call(&mut self, alloc: Global, j: u32, k: u32, call: Call) -> Result<(), AllocError>
+        ensures step { OnOk result (self.new ≡ record self.old {
+          tcb = followed self.old.service (tcp_call call self.old.tcb).verdict;
+          answers = self.old.answers ++ (j, k, (tcp_call call self.old.tcb).answer) ∷ [];
+        }) }
+        ensures clock { OnOk result (self.new.tcb.clock ≡ self.old.tcb.clock) }
+        ensures taken { OnOk result (self.new.tcb.recv.taken ≤ self.old.tcb.recv.taken + 2 ^ 20) }
+        ensures offered { OnOk result (offered self.new.tcb ≤ offered self.old.tcb + 2 ^ 16) }
+    {
+        let (answer, next) = self.tcb.call(alloc, call)?;
+        self.answers.push((j, k, answer))?;
+        self.follow(alloc, next)
+    }
+
+    /// One act of connection `c`.
+    fn serve(
+        &mut self,
+        alloc: Global,
+        plan: &Plan,
+        calls: &Calls,
+        c: u32,
+        act: Act,
+    ) -> Result<(), AllocError>
+        requires conn { c < length plan.now.tuples }
+        requires act { IsActOf plan.now calls.now c act }
+        requires clock { IsTimely plan.now c act self.old.tcb.clock }
+        requires taken { self.old.tcb.recv.taken < 2 ^ 60 }
+        requires offered { offered self.old.tcb < 2 ^ 60 }
+        ensures order { OnOk result (self.new.order ≡ self.old.order ++ act ∷ []) }
+        ensures same { OnOk result ((self.new.service ≡ self.old.service) × (self.new.short ≡ self.old.short)) }
+        ensures step { OnOk result (serving_of self.new ≡ serves_act plan.now calls.now c self.old.service act (serving_of self.old)) }
+        ensures clock { OnOk result (SetsClock plan.now c act self.old.tcb.clock self.new.tcb.clock) }
+        ensures taken { OnOk result (self.new.tcb.recv.taken ≤ self.old.tcb.recv.taken + 2 ^ 20) }
+        ensures offered { OnOk result (offered self.new.tcb ≤ offered self.old.tcb + 2 ^ 16) }
+    {
+        self.order.push(act)?;
+        match act {
+            Act::Feed { n } => self.receive(alloc, plan.item(c, n), plan.text(c, n)),
+            Act::Call { j, k } => self.answer_call(alloc, j, k, calls.get(j, k).1),
+        }
+    }
+}
+
+/// Connection `c` served on one thread: the acts in this order, from a new block. The feeds' numbers rise, and there are no more
+/// acts than an order has in which none stands twice.
+pub fn serve_one(
+    alloc: Global,
+    plan: &Plan,
+    calls: &Calls,
+    c: u32,
+    order: &[Act],
+) -> Result<Box<Block>, AllocError>
+    requires conn { c < length plan.now.tuples }
+    requires acts { AllByRecursion (IsActOf plan.now calls.now c) order.now }
+    requires rising { FeedsRise 0 order.now }
+    requires few { length order.now ≤ length (items_in plan.now c) + 4096 }
+    ensures order { IfOk result (λ b. b.value.order ≡ order.now) }
+    ensures whole { IfOk result (λ b. b.value.short ≡ false) }
+    ensures served { IfOk result (λ b. serving_of b.value ≡ serve plan.now calls.now c order.now) }
+{
+    let mut block = Block::make(alloc, plan, calls, c)?;
+    for act in order {
+        block.serve(alloc, plan, calls, c, *act)?;
+    }
+    Ok(block)
+}

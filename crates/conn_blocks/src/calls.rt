@@ -1,0 +1,113 @@
+//! The calls that the application threads make.
+
+ghost use Rattle.std.specs.Prelude.{◌≡◌, ℕ, ◌+◌, ◌<◌, ◌≤◌, [], ◌∷◌, ◌++◌, length, set, get_or, slice_get, Some, OnOk, OnErr};
+ghost use Rattle.conn_blocks.specs.CallLists.{calls_of, call_at, call_count};
+
+use std::alloc::{AllocError, Global};
+use std::marker::Model;
+use tcb_machine::Call;
+
+/// The calls of the four application threads, each thread's in the order in which it makes them. At most 1,024 in all.
+#[derive(Drop)]
+pub struct Calls {
+    first: Vec<(u32, Call)>,
+    second: Vec<(u32, Call)>,
+    third: Vec<(u32, Call)>,
+    fourth: Vec<(u32, Call)>,
+}
+
+impl Model for Calls {
+    ghost use Rattle.std.specs.Prelude.{◌≤◌, [], ◌∷◌};
+    ghost use Rattle.conn_blocks.specs.CallLists.{CallLists, call_count};
+
+    ghost Value = { CallLists };
+
+    ghost view = { λ c. c.first.items ∷ c.second.items ∷ c.third.items ∷ c.fourth.items ∷ [] };
+
+    ghost invariant = { λ c. call_count (c.first.items ∷ c.second.items ∷ c.third.items ∷ c.fourth.items ∷ []) ≤ 1024 };
+}
+
+/// How many of a thread's calls are on connection `c`.
+fn count_of(thread: &[(u32, Call)], c: u32) -> usize
+    ensures { result ≤ length thread.now }
+{
+    let mut count = 0;
+    for call in thread {
+        if call.0 == c {
+            count += 1;
+        }
+    }
+    count
+}
+
+impl Calls {
+    /// No calls. Takes no memory.
+    pub fn make(alloc: Global) -> Calls
+        ensures { result ≡ [] ∷ [] ∷ [] ∷ [] ∷ [] }
+    {
+        Calls {
+            first: Vec::new(alloc),
+            second: Vec::new(alloc),
+            third: Vec::new(alloc),
+            fourth: Vec::new(alloc),
+        }
+    }
+
+    /// One more call of thread `j`, on connection `c`.
+    pub fn push(&mut self, j: u32, c: u32, call: Call) -> Result<(), AllocError>
+        requires thread { j < 4 }
+        requires few { call_count self.old < 1024 }
+        ensures ok { OnOk result (self.new ≡ set self.old j (calls_of self.old j ++ (c, call) ∷ [])) }
+        ensures err { OnErr result (self.new ≡ self.old) }
+    {
+        match j {
+            0 => self.first.push((c, call))?,
+            1 => self.second.push((c, call))?,
+            2 => self.third.push((c, call))?,
+            _ => self.fourth.push((c, call))?,
+        }
+        Ok(())
+    }
+
+    /// How many calls thread `j` makes.
+    pub fn len(&self, j: u32) -> u32
+        requires { j < 4 }
+        ensures value { result ≡ length (calls_of self.now j) }
+        ensures most { result ≤ 1024 }
+    {
+        self.thread(j).len() as u32
+    }
+
+    /// Call `k` of thread `j`: the connection that it is on, and what is asked of it.
+    pub fn get(&self, j: u32, k: u32) -> (u32, Call)
+        requires thread { j < 4 }
+        requires call { k < length (calls_of self.now j) }
+        ensures { call_at self.now j k ≡ Some result }
+    {
+        self.thread(j)[k as usize]
+    }
+
+    /// The calls of thread `j`.
+    fn thread(&self, j: u32) -> &[(u32, Call)]
+        requires { j < 4 }
+        ensures value { result.now ≡ calls_of self.now j }
+        ensures most { length result.now ≤ 1024 }
+    {
+        match j {
+            0 => self.first.as_slice(),
+            1 => self.second.as_slice(),
+            2 => self.third.as_slice(),
+            _ => self.fourth.as_slice(),
+        }
+    }
+
+    /// How many calls are on connection `c`.
+    pub(crate) fn count_on(&self, c: u32) -> usize
+        ensures { result ≤ 4096 }
+    {
+        count_of(self.thread(0), c)
+            + count_of(self.thread(1), c)
+            + count_of(self.thread(2), c)
+            + count_of(self.thread(3), c)
+    }
+}

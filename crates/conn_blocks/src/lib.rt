@@ -1,0 +1,11 @@
+//! A connection's block: its TCP state, what was done to it, and in which order.
+//!
+//! `serve_one` serves one order of acts on one thread. It knows no squeue and no other connection.
+#![tactic(auto)]
+
+mod block;
+mod calls;
+
+pub use block::{Block, serve_one};
+pub use calls::Calls;
+pub use perimeter_core::Act;
