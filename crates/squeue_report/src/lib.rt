@@ -1,0 +1,9 @@
+//! The report of a run, and the one line that sums up a generated run.
+#![tactic(auto)]
+
+mod names;
+mod reporting;
+mod summing;
+
+pub use reporting::report;
+pub use summing::summary;
