@@ -1,0 +1,212 @@
+-- What clap's rows hold for each name after the uses, and when all uses are permitted.
+use Rattle.std.proofs.Common.{◌≡◌, ◌∙◌, Bool, cond, true, false, true≢false, refl, sym, ap, codes, List, [], ◌∷◌, ◌++◌, Option, Some, None, ◌||◌, not, is_some, append_assoc}
+use Rattle.std.specs.Prelude.{find, option_map, unwrap_or}
+use Rattle.std.specs.List.{list_any}
+use Rattle.std.specs.Str.{bytes_eq}
+use Rattle.std.proofs.lemmas.List.{append-nil}
+use Rattle.std.proofs.lemmas.Slice.Eq.{bytes_eq-Decides}
+use Rattle.clap.specs.Words.{Row}
+use Rattle.clap.specs.Walk.{Rule, has_row, more_values, reading_by, stronger, with_values, without}
+use Rattle.clap.specs.declared.builder.value_parser.Reading.{Reading}
+use Rattle.clap.specs.declared.parser.matches.ValueSource.{ValueSource}
+use Rattle.clap.specs.declared.parser.matches.ValueSource.TheVariants.{CommandLine}
+use Rattle.squeue_run.specs.Words.{Text, Use, value, verify, call, is_option, is_verify, value_of, calls_in}
+use Rattle.squeue_run.specs.Command.{values_at}
+use Rattle.squeue_run.proofs.Rows.{fresh, find_first, find_last}
+use Rattle.squeue_run.proofs.Uses.{and_left, and_right, apply, apply_all, fine, permitted, rule_for}
+
+abbrev pub look : Text → List Row → Option Row
+look id rows = find (λ r. bytes_eq r.id id) rows
+
+abbrev pub row_with : Rule → Text → List Text → Row
+row_with rule id values = record { id = id; values = values; count = None; source = Some CommandLine; reading = reading_by rule }
+
+abbrev pub option_row : Text → Text → Row
+option_row name v = row_with (rule_for (value name v)) name (v ∷ [])
+
+abbrev pub flag_row : Row
+flag_row = row_with (rule_for verify) (codes "verify") (codes "true" ∷ [])
+
+-- a name without a row has none taken away
+without_none : (id : Text) (rows : List Row) → has_row id rows ≡ false → without id rows ≡ rows
+without_none id rows e = fresh id (λ r. []) [] rows e ∙ append-nil rows
+
+set_once : (id : Text) (how : Reading) (s : ValueSource) (values : List Text) (rows : List Row) → has_row id rows ≡ false
+    → with_values id how s values (without id rows) ≡ rows ++ record { id = id; values = values; count = None; source = Some s; reading = how } ∷ []
+set_once id how s values rows e =
+    ap (with_values id how s values) (without_none id rows e) ∙ fresh id (more_values s values) (record { id = id; values = values; count = None; source = Some s; reading = how } ∷ []) rows e
+
+pub apply_value : (name v : Text) (rows : List Row) → has_row name rows ≡ false → apply (value name v) rows ≡ rows ++ option_row name v ∷ []
+apply_value name v rows e = set_once name (reading_by (rule_for (value name v))) CommandLine (v ∷ []) rows e
+
+pub apply_verify : (rows : List Row) → has_row (codes "verify") rows ≡ false → apply verify rows ≡ rows ++ flag_row ∷ []
+apply_verify rows e = set_once (codes "verify") (reading_by (rule_for verify)) CommandLine (codes "true" ∷ []) rows e
+
+-- ---- what a changed row leaves alone
+
+true_from : (a b : Text) → bytes_eq a b ≡ true → a ≡ b
+true_from a b e = (bytes_eq-Decides a b).0 e
+
+-- a row that is changed in place keeps its id, so another name's row stays
+pub look_other : (id other : Text) (how : Reading) (s : ValueSource) (values : List Text) (rows : List Row) → bytes_eq id other ≡ false → look other (with_values id how s values rows) ≡ look other rows
+look_other id other how s values [] e = ap (λ b. cond b (Some (record { id = id; values = values; count = None; source = Some s; reading = how })) None) e
+look_other id other how s values (r ∷ rs) e = go (bytes_eq r.id id) refl (look_other id other how s values rs e)
+  where
+    go : (b : Bool) → bytes_eq r.id id ≡ b → look other (with_values id how s values rs) ≡ look other rs → look other (cond b (more_values s values r ++ rs) (r ∷ with_values id how s values rs)) ≡ look other (r ∷ rs)
+    go true f more =
+        let apart : bytes_eq r.id other ≡ false = ap (λ (t : Text). bytes_eq t other) (true_from r.id id f) ∙ e in
+        ap (λ (b : Bool). cond b (Some (record r { values = r.values ++ values; source = Some (stronger r.source s) })) (look other rs)) apart ∙ sym (ap (λ (b : Bool). cond b (Some r) (look other rs)) apart)
+    go false f more = ap (λ (o : Option Row). cond (bytes_eq r.id other) (Some r) o) more
+
+pub has_other : (id other : Text) (how : Reading) (s : ValueSource) (values : List Text) (rows : List Row) → bytes_eq id other ≡ false → has_row other (with_values id how s values rows) ≡ has_row other rows
+has_other id other how s values [] e = ap (λ b. b || false) e
+has_other id other how s values (r ∷ rs) e = go (bytes_eq r.id id) (has_other id other how s values rs e)
+  where
+    go : (b : Bool) → has_row other (with_values id how s values rs) ≡ has_row other rs → has_row other (cond b (more_values s values r ++ rs) (r ∷ with_values id how s values rs)) ≡ has_row other (r ∷ rs)
+    go true more = refl
+    go false more = ap (λ b. bytes_eq r.id other || b) more
+
+-- values are added at the end
+pub values_more : (id : Text) (how : Reading) (s : ValueSource) (values : List Text) (rows : List Row) → bytes_eq id id ≡ true → values_at id (with_values id how s values rows) ≡ values_at id rows ++ values
+values_more id how s values [] e = ap (λ b. unwrap_or (option_map (λ (r : Row). r.values) (cond b (Some (record { id = id; values = values; count = None; source = Some s; reading = how })) None)) []) e
+values_more id how s values (r ∷ rs) e = go (bytes_eq r.id id) refl (values_more id how s values rs e)
+  where
+    go : (b : Bool) → bytes_eq r.id id ≡ b → values_at id (with_values id how s values rs) ≡ values_at id rs ++ values
+        → unwrap_or (option_map (λ (x : Row). x.values) (look id (cond b (more_values s values r ++ rs) (r ∷ with_values id how s values rs)))) []
+        ≡ unwrap_or (option_map (λ (x : Row). x.values) (cond b (Some r) (look id rs))) [] ++ values
+    go true f more = ap (λ b. unwrap_or (option_map (λ (x : Row). x.values) (cond b (Some (record r { values = r.values ++ values; source = Some (stronger r.source s) })) (look id rs))) []) f
+    go false f more = ap (λ b. unwrap_or (option_map (λ (x : Row). x.values) (cond b (Some r) (look id (with_values id how s values rs)))) []) f ∙ more
+
+-- ---- rows with one more at the end
+
+pub has_row-push : (id : Text) (rows : List Row) (r : Row) → has_row id (rows ++ r ∷ []) ≡ (has_row id rows || bytes_eq r.id id)
+has_row-push id [] r = go (bytes_eq r.id id)
+  where
+    go : (b : Bool) → (b || false) ≡ b
+    go true = refl
+    go false = refl
+has_row-push id (x ∷ xs) r = ap (λ b. bytes_eq x.id id || b) (has_row-push id xs r) ∙ go (bytes_eq x.id id)
+  where
+    go : (b : Bool) → (b || (has_row id xs || bytes_eq r.id id)) ≡ ((b || has_row id xs) || bytes_eq r.id id)
+    go true = refl
+    go false = refl
+
+has_row-look : (id : Text) (rows : List Row) → has_row id rows ≡ is_some (look id rows)
+has_row-look id [] = refl
+has_row-look id (r ∷ rs) = go (bytes_eq r.id id) (has_row-look id rs)
+  where
+    go : (b : Bool) → has_row id rs ≡ is_some (look id rs) → (b || has_row id rs) ≡ is_some (cond b (Some r) (look id rs))
+    go true more = refl
+    go false more = more
+
+pub look_none : (id : Text) (rows : List Row) → has_row id rows ≡ false → look id rows ≡ None
+look_none id rows e = go (look id rows) (sym (has_row-look id rows) ∙ e)
+  where
+    go : (o : Option Row) → is_some o ≡ false → o ≡ None
+    go None f = refl
+    go (Some r) f = absurd (true≢false f)
+
+-- ---- what each name has after uses that are all permitted
+
+abbrev pub or_first : Option Row → Option Row → Option Row
+or_first None o = o
+or_first (Some r) o = Some r
+
+or_first-none : (o : Option Row) → or_first o None ≡ o
+or_first-none None = refl
+or_first-none (Some r) = refl
+
+not_true : (b : Bool) → not b ≡ true → b ≡ false
+not_true true e = absurd (true≢false (sym e))
+not_true false e = refl
+
+-- two names of which one is an option's and the other isn't
+option_apart : (name other : Text) → is_option name ≡ true → is_option other ≡ false → bytes_eq name other ≡ false
+option_apart name other e f = go (bytes_eq name other) refl
+  where
+    go : (b : Bool) → bytes_eq name other ≡ b → bytes_eq name other ≡ false
+    go true g = absurd (true≢false (sym e ∙ (ap is_option (true_from name other g) ∙ f)))
+    go false g = g
+
+pub other_apart : (name other : Text) → is_option name ≡ false → is_option other ≡ true → bytes_eq name other ≡ false
+other_apart name other e f = go (bytes_eq name other) refl
+  where
+    go : (b : Bool) → bytes_eq name other ≡ b → bytes_eq name other ≡ false
+    go true g = absurd (true≢false (sym f ∙ (ap is_option (sym (true_from name other g)) ∙ e)))
+    go false g = g
+
+-- a row of another name at the end
+push_other : (id : Text) (rows : List Row) (r : Row) → bytes_eq r.id id ≡ false → look id (rows ++ r ∷ []) ≡ look id rows
+push_other id rows r e = find_first (λ (x : Row). bytes_eq x.id id) rows r e
+
+push_own : (id : Text) (rows : List Row) (r : Row) → bytes_eq r.id id ≡ true → has_row id rows ≡ false → look id (rows ++ r ∷ []) ≡ Some r
+push_own id rows r e none = find_last (λ (x : Row). bytes_eq x.id id) rows r e (look_none id rows none)
+
+abbrev pub value_row : Text → Option Text → Option Row
+value_row name v = option_map (option_row name) v
+
+-- an option has the row of its first value
+pub look_option : (name : Text) → is_option name ≡ true → (us : List Use) (rows : List Row) → fine us rows ≡ true → look name (apply_all us rows) ≡ or_first (look name rows) (value_row name (value_of name us))
+look_option name known [] rows good = sym (or_first-none (look name rows))
+look_option name known (value n v ∷ us) rows good =
+    let may = and_left (permitted (value n v) rows) (fine us (apply (value n v) rows)) good in
+    let none : has_row n rows ≡ false = not_true (has_row n rows) (and_right (is_option n) (not (has_row n rows)) may) in
+    let added : apply (value n v) rows ≡ rows ++ option_row n v ∷ [] = apply_value n v rows none in
+    look_option name known us (apply (value n v) rows) (and_right (permitted (value n v) rows) (fine us (apply (value n v) rows)) good)
+    ∙ (ap (λ (l : List Row). or_first (look name l) (value_row name (value_of name us))) added ∙ go (bytes_eq n name) refl none)
+  where
+    go : (b : Bool) → bytes_eq n name ≡ b → has_row n rows ≡ false → or_first (look name (rows ++ option_row n v ∷ [])) (value_row name (value_of name us)) ≡ or_first (look name rows) (value_row name (cond b (Some v) (value_of name us)))
+    go true e none =
+        let same : n ≡ name = true_from n name e in
+        let mine : has_row name rows ≡ false = ap (λ (t : Text). has_row t rows) (sym same) ∙ none in
+        ap (λ (o : Option Row). or_first o (value_row name (value_of name us))) (push_own name rows (option_row n v) e mine)
+        ∙ (ap (λ (t : Text). Some (option_row t v)) same
+        ∙ sym (ap (λ (o : Option Row). or_first o (value_row name (Some v))) (look_none name rows mine)))
+    go false e none = ap (λ (o : Option Row). or_first o (value_row name (value_of name us))) (push_other name rows (option_row n v) e)
+look_option name known (verify ∷ us) rows good =
+    let none : has_row (codes "verify") rows ≡ false = not_true (has_row (codes "verify") rows) (and_left (permitted verify rows) (fine us (apply verify rows)) good) in
+    look_option name known us (apply verify rows) (and_right (permitted verify rows) (fine us (apply verify rows)) good)
+    ∙ ap (λ (o : Option Row). or_first o (value_row name (value_of name us)))
+    (ap (look name) (apply_verify rows none) ∙ push_other name rows flag_row (other_apart (codes "verify") name refl known))
+look_option name known (call word ∷ us) rows good =
+    look_option name known us (apply (call word) rows) good
+    ∙ ap (λ (o : Option Row). or_first o (value_row name (value_of name us)))
+    (look_other (codes "calls") name (reading_by (rule_for (call word))) CommandLine (word ∷ []) rows (other_apart (codes "calls") name refl known))
+
+-- the flag has its row where it is used
+pub look_flag : (us : List Use) (rows : List Row) → fine us rows ≡ true → look (codes "verify") (apply_all us rows) ≡ or_first (look (codes "verify") rows) (cond (list_any is_verify us) (Some flag_row) None)
+look_flag [] rows good = sym (or_first-none (look (codes "verify") rows))
+look_flag (value n v ∷ us) rows good =
+    let may = and_left (permitted (value n v) rows) (fine us (apply (value n v) rows)) good in
+    let none : has_row n rows ≡ false = not_true (has_row n rows) (and_right (is_option n) (not (has_row n rows)) may) in
+    look_flag us (apply (value n v) rows) (and_right (permitted (value n v) rows) (fine us (apply (value n v) rows)) good)
+    ∙ ap (λ (o : Option Row). or_first o (cond (list_any is_verify us) (Some flag_row) None))
+    (ap (look (codes "verify")) (apply_value n v rows none) ∙ push_other (codes "verify") rows (option_row n v) (option_apart n (codes "verify") (and_left (is_option n) (not (has_row n rows)) may) refl))
+look_flag (verify ∷ us) rows good =
+    let none : has_row (codes "verify") rows ≡ false = not_true (has_row (codes "verify") rows) (and_left (permitted verify rows) (fine us (apply verify rows)) good) in
+    look_flag us (apply verify rows) (and_right (permitted verify rows) (fine us (apply verify rows)) good)
+    ∙ (ap (λ (o : Option Row). or_first o (cond (list_any is_verify us) (Some flag_row) None)) (ap (look (codes "verify")) (apply_verify rows none) ∙ push_own (codes "verify") rows flag_row refl none)
+    ∙ sym (ap (λ (o : Option Row). or_first o (Some flag_row)) (look_none (codes "verify") rows none)))
+look_flag (call word ∷ us) rows good =
+    look_flag us (apply (call word) rows) good
+    ∙ ap (λ (o : Option Row). or_first o (cond (list_any is_verify us) (Some flag_row) None))
+    (look_other (codes "calls") (codes "verify") (reading_by (rule_for (call word))) CommandLine (word ∷ []) rows refl)
+
+-- the CALLs are all there, in order
+pub values_calls : (us : List Use) (rows : List Row) → fine us rows ≡ true → values_at (codes "calls") (apply_all us rows) ≡ values_at (codes "calls") rows ++ calls_in us
+values_calls [] rows good = sym (append-nil (values_at (codes "calls") rows))
+values_calls (value n v ∷ us) rows good =
+    let may = and_left (permitted (value n v) rows) (fine us (apply (value n v) rows)) good in
+    let none : has_row n rows ≡ false = not_true (has_row n rows) (and_right (is_option n) (not (has_row n rows)) may) in
+    values_calls us (apply (value n v) rows) (and_right (permitted (value n v) rows) (fine us (apply (value n v) rows)) good)
+    ∙ ap (λ (o : Option Row). unwrap_or (option_map (λ (x : Row). x.values) o) [] ++ calls_in us)
+    (ap (look (codes "calls")) (apply_value n v rows none) ∙ push_other (codes "calls") rows (option_row n v) (option_apart n (codes "calls") (and_left (is_option n) (not (has_row n rows)) may) refl))
+values_calls (verify ∷ us) rows good =
+    let none : has_row (codes "verify") rows ≡ false = not_true (has_row (codes "verify") rows) (and_left (permitted verify rows) (fine us (apply verify rows)) good) in
+    values_calls us (apply verify rows) (and_right (permitted verify rows) (fine us (apply verify rows)) good)
+    ∙ ap (λ (o : Option Row). unwrap_or (option_map (λ (x : Row). x.values) o) [] ++ calls_in us)
+    (ap (look (codes "calls")) (apply_verify rows none) ∙ push_other (codes "calls") rows flag_row refl)
+values_calls (call word ∷ us) rows good =
+    values_calls us (apply (call word) rows) good
+    ∙ (ap (λ (vs : List Text). vs ++ calls_in us) (values_more (codes "calls") (reading_by (rule_for (call word))) CommandLine (word ∷ []) rows refl)
+    ∙ append_assoc (values_at (codes "calls") rows) (word ∷ []) (calls_in us))

@@ -1,0 +1,20 @@
+pub mod Looks
+pub mod Names
+pub mod Known
+pub mod Ends
+pub mod Uses
+pub mod Turns
+pub mod Unknown
+pub mod Agree
+pub mod Rows
+pub mod Found
+pub mod Once
+pub mod Matches
+pub mod Characters
+pub mod Simple
+pub mod Texts
+pub mod Accepted
+pub mod Answered
+pub mod Threads
+pub mod Missing
+mod Records

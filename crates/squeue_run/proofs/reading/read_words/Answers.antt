@@ -1,0 +1,10 @@
+use Rattle.std.proofs.Common.{◌≤◌, ◌<◌, length, subst, sym}
+use Rattle.std.specs.List.{AllByRecursion}
+use Rattle.squeue_run.proofs.Threads.{few_asked}
+use Rattle.squeue_run.proofs.reading.read_words.Goals as goal
+
+pub lists_in-requires-clause-few : goal.lists_in-requires-clause-few
+lists_in-requires-clause-few c = subst (λ l. length l ≤ 1024) (sym c.deref.ensures.value) (few_asked _ _ c.in-Ok.ensures.ok).count
+
+pub lists_in-requires-clause-threads : goal.lists_in-requires-clause-threads
+lists_in-requires-clause-threads c = subst (λ l. AllByRecursion (λ w. w.thread < 4) l) (sym c.deref.ensures.value) (few_asked _ _ c.in-Ok.ensures.ok).threads

@@ -1,0 +1,6 @@
+pub mod Command
+pub mod Words
+pub mod Asked
+pub mod CallWords
+pub mod Lines
+pub mod Ran

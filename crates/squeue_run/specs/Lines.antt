@@ -1,0 +1,44 @@
+-- The lines that the program writes where it gives no output.
+use Rattle.std.specs.Prelude.{ℕ, List, [], ◌∷◌, ◌++◌, codes}
+use Rattle.std.specs.Fmt.{decimal}
+use Rattle.hex.specs.Hex.{encode_lower}
+use Rattle.capture_reader.specs.declared.fault.CaptureFault.{CaptureFault}
+use Rattle.capture_reader.specs.declared.fault.CaptureFault.TheVariants as fault
+
+-- a line
+abbrev pub line : List ℕ → List ℕ
+line text = text ++ 10 ∷ []
+
+abbrev pub usage_line : List ℕ
+usage_line = line (codes "usage: sqrun [--squeues N] [--rings N] [--mode process|nodrain|fill] [--budget N] [--spread N] [--verify] [--gen N] [CALL]...")
+
+abbrev pub memory_line : List ℕ
+memory_line = line (codes "sqrun: out of memory")
+
+abbrev pub read_line : List ℕ
+read_line = line (codes "sqrun: read fault")
+
+abbrev pub write_line : List ℕ
+write_line = line (codes "sqrun: write fault")
+
+abbrev pub many_bytes_line : List ℕ
+many_bytes_line = line (codes "sqrun: too large: more than 67108864 bytes")
+
+abbrev pub many_records_line : List ℕ
+many_records_line = line (codes "sqrun: too large: more than 1048576 records")
+
+-- the line of a bad capture, with what it shows; the other faults have lines of their own
+unfoldable pub bad_line : CaptureFault → List ℕ
+bad_line (fault.ShortHeader n) = codes "sqrun: bad capture: short header of " ++ (decimal n ++ line (codes " bytes"))
+bad_line (fault.Magic magic) = codes "sqrun: bad capture: magic " ++ (encode_lower magic ++ line [])
+bad_line (fault.Version major minor) = codes "sqrun: bad capture: version " ++ (decimal major ++ (codes "." ++ (decimal minor ++ line [])))
+bad_line (fault.Link n) = codes "sqrun: bad capture: link type " ++ (decimal n ++ line [])
+bad_line (fault.RecordLength index len) = codes "sqrun: bad capture: record " ++ (decimal index ++ (codes " has length " ++ (decimal len ++ line [])))
+bad_line fault.TooManyRecords = []
+bad_line (fault.TooLarge n) = []
+bad_line fault.Read = []
+bad_line fault.NoMemory = []
+
+-- the line of a CALL on connection c of n
+unfoldable pub missing_line : ℕ → ℕ → List ℕ
+missing_line c n = codes "sqrun: call on connection " ++ (decimal c ++ (codes " of " ++ (decimal n ++ line [])))

@@ -1,0 +1,74 @@
+//! The CALLs of the words.
+
+ghost use Rattle.std.specs.Prelude.{◌≡◌, option_map, option_and_then};
+ghost use Rattle.squeue_run.specs.Asked.{asked_of, buffer_by, call_by, call_of, split_at};
+
+use crate::numbers::number_between;
+use tcb_machine::Call;
+
+/// One CALL: the thread that makes it (0 to 3), the connection that it is on, and what it asks.
+#[derive(Clone, Copy, Debug, PartialEq, Eq)]
+pub struct CallWord {
+    pub thread: u32,
+    pub connection: u32,
+    pub call: Call,
+}
+
+/// What a CALL asks: `status`, `close` or `buffer=N`.
+fn asked_in(text: &str) -> Option<Call>
+    ensures { result ≡ asked_of text.now }
+{
+    match text {
+        "status" => Some(Call::Status),
+        "close" => Some(Call::Close),
+        _ => buffer_in(text),
+    }
+}
+
+/// `buffer=N`.
+fn buffer_in(text: &str) -> Option<Call>
+    ensures { result ≡ option_and_then buffer_by (split_at 61 text.now) }
+{
+    let (name, size) = at_equals(text)?;
+    if name != "buffer" {
+        return None;
+    }
+    let size = number_between(size, 0, 65_535)?;
+    Some(Call::Buffer(size as u16))
+}
+
+/// What stands before and behind the first `=`.
+fn at_equals(text: &str) -> Option<(&str, &str)>
+    ensures { option_map (λ parts. (parts.0.now, parts.1.now)) result ≡ split_at 61 text.now }
+{
+    text.split_once('=')
+}
+
+/// What stands before and behind the first colon.
+fn at_colon(text: &str) -> Option<(&str, &str)>
+    ensures { option_map (λ parts. (parts.0.now, parts.1.now)) result ≡ split_at 58 text.now }
+{
+    text.split_once(':')
+}
+
+/// The CALL that a word is.
+pub fn call_in(word: &str) -> Option<CallWord>
+    ensures { result ≡ call_of word.now }
+{
+    let (thread, rest) = at_colon(word)?;
+    let (connection, asked) = at_colon(rest)?;
+    call_by(thread, connection, asked)
+}
+
+fn call_by(thread: &str, connection: &str, asked: &str) -> Option<CallWord>
+    ensures { result ≡ call_by thread.now connection.now asked.now }
+{
+    if thread.len() != 1 {
+        return None;
+    }
+    Some(CallWord {
+        thread: number_between(thread, 0, 3)?,
+        connection: number_between(connection, 0, u32::MAX)?,
+        call: asked_in(asked)?,
+    })
+}

@@ -1,0 +1,60 @@
+//! `sqrun`: replays a capture from standard input, and writes per connection every segment that the serving side sends.
+//!
+//! `words`, `command`, `numbers`, `calls` and `reading` read the command line, `generator` makes an input from a number, `run` is the
+//! top call, `lines` has what is written where there is no report. The real ends stand in `main` alone.
+#![tactic(auto)]
+
+mod calls;
+mod command;
+mod generator;
+mod lines;
+mod numbers;
+mod reading;
+mod refusal;
+mod run;
+mod words;
+
+pub use calls::CallWord;
+pub use generator::generate;
+use lines::{NO_MEMORY, USAGE, tell};
+pub use reading::{Words, read_words};
+pub use run::squeue_run;
+use sq_base::{Status, StdSink, StdSource};
+use std::process::ExitCode;
+use std::{env, io};
+pub use words::WordFault;
+
+fn words_of(rt: &HostRuntime) -> io::Result<Vec<String>> {
+    let mut words = Vec::new(rt.alloc());
+    for word in env::args(rt)?.skip(1) {
+        words.push(word)?;
+    }
+    Ok(words)
+}
+
+fn main(rt: HostRuntime) -> ExitCode {
+    let mut err = StdSink::over(rt.stderr());
+    let words = match words_of(&rt) {
+        Ok(words) => words,
+        // A word that isn't UTF-8 is none of the usage line's.
+        Err(error) if error.kind() == io::ErrorKind::InvalidData => {
+            tell(&mut err, USAGE);
+            return ExitCode::from(Status::Usage.code());
+        }
+        Err(_) => {
+            tell(&mut err, NO_MEMORY);
+            return ExitCode::from(Status::NoMemory.code());
+        }
+    };
+    let mut src = StdSource::over(rt.reader());
+    let mut out = StdSink::over(io::writer(&rt));
+    let status = squeue_run(
+        &rt,
+        rt.alloc(),
+        words.as_slice(),
+        &mut src,
+        &mut out,
+        &mut err,
+    );
+    ExitCode::from(status.code())
+}

@@ -1,0 +1,62 @@
+//! The words of the command line, as the program goes on with them.
+
+ghost use Rattle.std.specs.Prelude.{◌≡◌, ◌<◌, ◌≤◌, None, Some, Err, IfOk, map, length};
+ghost use Rattle.std.specs.List.{AllByRecursion};
+ghost use Rattle.std.specs.String.{string_bytes};
+ghost use Rattle.squeue_run.specs.Asked.{asked};
+ghost use Rattle.squeue_run.specs.CallWords.{lists_of};
+
+use crate::calls::CallWord;
+use crate::words::{WordFault, words_asked};
+use conn_blocks::Calls;
+use ring_threads::Setup;
+use std::alloc::{AllocError, Global};
+
+/// What the words ask for.
+#[derive(Drop)]
+pub struct Words {
+    pub setup: Setup,
+    /// Whether checksums decide.
+    pub verify: bool,
+    /// The number of a generated input, where one is asked for.
+    pub number: Option<u32>,
+    /// The CALLs by thread.
+    pub calls: Calls,
+    /// The CALLs in word order.
+    pub named: Vec<CallWord>,
+}
+
+/// What the words of the command line, without the program's name, ask for. `Usage` comes exactly where they are refused.
+pub fn read_words(alloc: Global, words: &[String]) -> Result<Words, WordFault>
+    ensures ok { IfOk result (λ w. asked (map (λ s. string_bytes s) words.now) ≡ Some (record { setup = w.setup; verify = w.verify; number = w.number; calls = w.named.items })) }
+    ensures calls { IfOk result (λ w. w.calls ≡ lists_of w.named.items) }
+    ensures usage { result ≡ Err WordFault.Usage → asked (map (λ s. string_bytes s) words.now) ≡ None }
+{
+    let given = match words_asked(alloc, words) {
+        Ok(given) => given,
+        Err(fault) => return Err(fault),
+    };
+    match lists_in(alloc, &given.calls) {
+        Ok(calls) => Ok(Words {
+            setup: given.setup,
+            verify: given.verify,
+            number: given.number,
+            calls,
+            named: given.calls,
+        }),
+        Err(_) => Err(WordFault::NoMemory),
+    }
+}
+
+/// The CALLs by thread.
+fn lists_in(alloc: Global, named: &[CallWord]) -> Result<Calls, AllocError>
+    requires few { length named.now ≤ 1024 }
+    requires threads { AllByRecursion (λ w. w.thread < 4) named.now }
+    ensures { IfOk result (λ calls. calls ≡ lists_of named.now) }
+{
+    let mut calls = Calls::make(alloc);
+    for word in named {
+        calls.push(word.thread, word.connection, word.call)?;
+    }
+    Ok(calls)
+}

@@ -1,0 +1,74 @@
+//! Why a run gives no output, and what it then writes.
+
+ghost use Rattle.std.specs.Prelude.{◌≡◌, ◌⊎◌, MatchResult, string_bytes};
+ghost use Rattle.std.specs.Io.KnownBytes.{Appends};
+ghost use Rattle.sq_base.specs.Ends.{Rose};
+ghost use Rattle.squeue_run.specs.Lines.{memory_line};
+ghost use Rattle.squeue_run.specs.Ran.{Told};
+
+use crate::lines::{
+    MANY_BYTES, MANY_RECORDS, NO_MEMORY, READ_FAULT, USAGE, bad_capture, no_connection, tell,
+};
+use capture_reader::CaptureFault;
+use sq_base::{Sink, Status};
+use std::alloc::{AllocError, Global};
+
+/// Why there is no output.
+#[derive(Debug, Drop)]
+pub enum Refusal {
+    NoMemory,
+    Usage,
+    Capture(CaptureFault),
+    /// A CALL on connection `c` of `conns`.
+    NoConnection { c: u32, conns: u32 },
+}
+
+impl From<AllocError> for Refusal {
+    ghost use Rattle.squeue_run.specs.declared.refusal.Refusal.TheVariants.{NoMemory};
+
+    ghost from_gives = { λ _ e. e ≡ NoMemory };
+
+    fn from(_error: AllocError) -> Refusal {
+        Refusal::NoMemory
+    }
+}
+
+/// Writes the line of a refusal, and gives its status. Where memory for the line is missing, that is the refusal.
+pub fn refuse<E: Sink>(alloc: Global, err: &mut E, refusal: &Refusal) -> Status
+    ensures { Told refusal.now (record { was = E.contents err.old; is = E.contents err.new; faults_were = E.write_faults err.old; faults_are = E.write_faults err.new }) result }
+{
+    match refusal {
+        Refusal::Usage => told(err, USAGE, Status::Usage),
+        Refusal::NoMemory | Refusal::Capture(CaptureFault::NoMemory) => {
+            told(err, NO_MEMORY, Status::NoMemory)
+        }
+        Refusal::Capture(CaptureFault::Read) => told(err, READ_FAULT, Status::ReadFault),
+        Refusal::Capture(CaptureFault::TooLarge(_)) => told(err, MANY_BYTES, Status::TooLarge),
+        Refusal::Capture(CaptureFault::TooManyRecords) => {
+            told(err, MANY_RECORDS, Status::TooLarge)
+        }
+        Refusal::Capture(fault) => { told_line(err, bad_capture(alloc, fault), Status::BadCapture) }
+        Refusal::NoConnection { c, conns } => {
+            told_line(err, no_connection(alloc, *c, *conns), Status::NoConnection)
+        }
+    }
+}
+
+fn told<E: Sink>(err: &mut E, line: &[u8], status: Status) -> Status
+    ensures status { result ≡ status }
+    ensures line { (Rose (E.write_faults err.old) (E.write_faults err.new) → ⊥) → Appends (E.contents err.old) (E.contents err.new) line.now }
+{
+    tell(err, line);
+    status
+}
+
+fn told_line<E: Sink>(err: &mut E, line: Result<String, AllocError>, status: Status) -> Status
+    ensures { MatchResult line
+        (λ text. (result ≡ status) × ((Rose (E.write_faults err.old) (E.write_faults err.new) → ⊥) → Appends (E.contents err.old) (E.contents err.new) (string_bytes text)))
+        (λ _. (result ≡ Status.NoMemory) × ((Rose (E.write_faults err.old) (E.write_faults err.new) → ⊥) → Appends (E.contents err.old) (E.contents err.new) memory_line)) }
+{
+    match line {
+        Ok(line) => told(err, line.as_bytes(), status),
+        Err(_) => told(err, NO_MEMORY, Status::NoMemory),
+    }
+}

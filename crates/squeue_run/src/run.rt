@@ -1,0 +1,111 @@
+//! The top call: from the words and the bytes of a capture to the bytes of a report.
+
+ghost use Rattle.std.specs.Prelude.{MatchOption, MatchResult, IfErr};
+ghost use Rattle.squeue_run.specs.CallWords.{AllThere, IsFirstMissing};
+ghost use Rattle.squeue_run.specs.Ran.{ReplayFails, GeneratedFails, conns_of};
+
+use crate::calls::CallWord;
+use crate::generator::generate;
+use crate::lines::{WRITE_FAULT, tell};
+use crate::reading::{Words, read_words};
+use crate::refusal::{Refusal, refuse};
+use crate::words::WordFault;
+use capture_reader::{Capture, parse_capture, read_capture};
+use conn_classifier::plan;
+use ring_threads::serve_plain;
+use sq_base::{Octets, Sink, Source, Status, put};
+use squeue_report::{report, summary};
+use std::alloc::Global;
+use std::thread::Threads;
+
+/// Reads the words and the input, serves it, and writes the report; or writes why not as one line to `err`.
+pub fn squeue_run<S: Source, K: Sink, E: Sink>(
+    rt: &(impl Threads + Sync),
+    alloc: Global,
+    words: &[String],
+    src: &mut S,
+    out: &mut K,
+    err: &mut E,
+) -> Status {
+    match output(rt, alloc, words, src) {
+        Err(refusal) => refuse(alloc, err, &refusal),
+        Ok(text) => match put(out, text.as_slice()) {
+            Ok(()) => Status::Ok,
+            Err(_) => {
+                tell(err, WRITE_FAULT);
+                Status::WriteFault
+            }
+        },
+    }
+}
+
+/// What is to be written, or why there is none.
+fn output<S: Source>(
+    rt: &(impl Threads + Sync),
+    alloc: Global,
+    words: &[String],
+    src: &mut S,
+) -> Result<Octets, Refusal> {
+    let words = match read_words(alloc, words) {
+        Ok(words) => words,
+        Err(WordFault::Usage) => return Err(Refusal::Usage),
+        Err(WordFault::NoMemory) => return Err(Refusal::NoMemory),
+    };
+    match words.number {
+        Some(number) => generated(rt, alloc, &words, number),
+        None => match read_capture(alloc, src) {
+            Ok(capture) => replayed(rt, alloc, &words, &capture),
+            Err(fault) => Err(Refusal::Capture(fault)),
+        },
+    }
+}
+
+/// The first CALL, in word order, whose connection isn't below `conns`.
+fn missing(named: &[CallWord], conns: u32) -> Option<u32>
+    ensures { MatchOption result (AllThere conns named.now) (λ c. IsFirstMissing conns c named.now) }
+{
+    for word in named {
+        if word.connection >= conns {
+            return Some(word.connection);
+        }
+    }
+    None
+}
+
+/// The report of a capture.
+fn replayed(
+    rt: &(impl Threads + Sync),
+    alloc: Global,
+    words: &Words,
+    capture: &Capture,
+) -> Result<Octets, Refusal>
+    ensures { MatchResult result
+        (λ _. AllThere (conns_of capture.now words.now.verify) words.now.named.items)
+        (ReplayFails (conns_of capture.now words.now.verify) words.now.named.items) }
+{
+    let plan = plan(rt, alloc, capture, words.verify)?;
+    let conns = plan.conns();
+    if let Some(c) = missing(&words.named, conns) {
+        return Err(Refusal::NoConnection { c, conns });
+    }
+    let served = serve_plain(alloc, &plan, &words.calls)?;
+    Ok(report(alloc, &plan, &served)?)
+}
+
+/// The summary of the run over the generated capture.
+fn generated(
+    rt: &(impl Threads + Sync),
+    alloc: Global,
+    words: &Words,
+    number: u32,
+) -> Result<Octets, Refusal>
+    ensures { IfErr result GeneratedFails }
+{
+    let capture = match parse_capture(alloc, generate(alloc, number)?) {
+        Ok(capture) => capture,
+        Err(fault) => return Err(Refusal::Capture(fault)),
+    };
+    let plan = plan(rt, alloc, &capture, words.verify)?;
+    let served = serve_plain(alloc, &plan, &words.calls)?;
+    Ok(summary(alloc, number, capture.bytes(), &plan, &served)?)
+}

@@ -1,0 +1,161 @@
+//! The words of the command line, read whole: `clap` takes them apart, and numbers, modes and CALLs are tested here.
+
+ghost use Rattle.std.specs.Prelude.{◌≡◌, ◌≢◌, List, None, Some, Err, IfOk, map, option_and_then, option_map};
+ghost use Rattle.std.specs.String.{string_bytes};
+ghost use Rattle.clap.specs.Words.{found_of, rows_of};
+ghost use Rattle.squeue_run.specs.Words.{Given, given};
+ghost use Rattle.squeue_run.specs.Command.{Holds};
+ghost use Rattle.squeue_run.specs.Asked.{asked, calls_of, input_of, is_count, setup_by, setup_of};
+
+use crate::calls::{CallWord, call_in};
+use crate::command::parse;
+use crate::numbers::{mode_or_process, number_between, number_or};
+use clap::ArgMatches;
+use clap::error::ErrorKind;
+use ring_threads::Setup;
+use std::alloc::Global;
+use thiserror::Error;
+
+const MOST_CALLS: usize = 1024;
+
+/// What the words ask for: the setup, whether checksums decide, the number of a generated input, and the CALLs in word order.
+#[derive(Debug, Drop)]
+pub struct AskedWords {
+    pub setup: Setup,
+    pub verify: bool,
+    pub number: Option<u32>,
+    pub calls: Vec<CallWord>,
+}
+
+/// Why there are no words.
+#[derive(Clone, Copy, Debug, PartialEq, Eq, Error)]
+pub enum WordFault {
+    /// The words are none of the usage line.
+    #[error("the words are none of the usage line")]
+    Usage,
+    #[error("out of memory")]
+    NoMemory,
+}
+
+/// What the words of the command line, without the program's name, ask for. `Usage` comes exactly where they are refused.
+pub fn words_asked(alloc: Global, words: &[String]) -> Result<AskedWords, WordFault>
+    ensures ok { IfOk result (λ w. asked (map (λ s. string_bytes s) words.now) ≡ Some (record { setup = w.setup; verify = w.verify; number = w.number; calls = w.calls.items })) }
+    ensures usage { result ≡ Err WordFault.Usage → asked (map (λ s. string_bytes s) words.now) ≡ None }
+{
+    let matches = matches_in(alloc, words)?;
+    let Some(setup) = setup_in(&matches) else {
+        return Err(WordFault::Usage);
+    };
+    let Some(number) = input_in(&matches) else {
+        return Err(WordFault::Usage);
+    };
+    let named = matches.get_strs("calls").unwrap_or(&[]);
+    if !is_count(number, named) {
+        return Err(WordFault::Usage);
+    }
+    let calls = calls_in(alloc, named)?;
+    Ok(AskedWords {
+        setup,
+        verify: verify_in(&matches),
+        number,
+        calls,
+    })
+}
+
+/// The texts of the words, as clap finds them.
+fn matches_in<'a>(alloc: Global, words: &'a [String]) -> Result<ArgMatches<'a>, WordFault>
+    ensures ok { IfOk result (λ m. (g : Given) × (given (map (λ s. string_bytes s) words.entry.now) ≡ Some g) × Holds (rows_of (found_of m)) g) }
+    ensures usage { result ≡ Err WordFault.Usage → given (map (λ s. string_bytes s) words.entry.now) ≡ None }
+{
+    match parse(alloc, words) {
+        Ok(matches) => Ok(matches),
+        Err(error) => Err(fault_of(error.kind())),
+    }
+}
+
+/// Want of memory is no fault of the words.
+fn fault_of(kind: ErrorKind) -> WordFault
+    ensures { result ≡ WordFault.Usage → kind ≢ ErrorKind.OutOfMemory }
+{
+    match kind {
+        ErrorKind::OutOfMemory => WordFault::NoMemory,
+        _ => WordFault::Usage,
+    }
+}
+
+fn setup_in(matches: &ArgMatches) -> Option<Setup>
+    ensures { (g : Given) → Holds (rows_of (found_of matches.now)) g → result ≡ setup_of g }
+{
+    setup_by(
+        matches.get_str("squeues"),
+        matches.get_str("rings"),
+        matches.get_str("mode"),
+        matches.get_str("budget"),
+        matches.get_str("spread"),
+    )
+}
+
+/// The setup that the texts name, where each is in range.
+fn setup_by(
+    squeues: Option<&str>,
+    rings: Option<&str>,
+    mode: Option<&str>,
+    budget: Option<&str>,
+    spread: Option<&str>,
+) -> Option<Setup>
+    ensures { result ≡ setup_by (option_map (λ t. t.now) squeues.entry) (option_map (λ t. t.now) rings.entry) (option_map (λ t. t.now) mode.entry) (option_map (λ t. t.now) budget.entry) (option_map (λ t. t.now) spread.entry) }
+{
+    Some(Setup {
+        squeues: number_or(1, 1, 16, squeues)?,
+        rings: number_or(1, 1, 8, rings)?,
+        mode: mode_or_process(mode)?,
+        budget: number_or(64, 1, 65_535, budget)?,
+        spread: number_or(0, 0, 65_535, spread)?,
+    })
+}
+
+/// The number of a generated input, where one is given and in range.
+fn input_in(matches: &ArgMatches) -> Option<Option<u32>>
+    ensures { (g : Given) → Holds (rows_of (found_of matches.now)) g → result ≡ input_of g.number }
+{
+    input_by(matches.get_str("gen"))
+}
+
+fn input_by(text: Option<&str>) -> Option<Option<u32>>
+    ensures { result ≡ input_of (option_map (λ t. t.now) text.entry) }
+{
+    match text {
+        Some(text) => Some(Some(number_between(text, 0, u32::MAX)?)),
+        None => Some(None),
+    }
+}
+
+fn verify_in(matches: &ArgMatches) -> bool
+    ensures { (g : Given) → Holds (rows_of (found_of matches.now)) g → result ≡ g.verify }
+{
+    matches.get_flag("verify")
+}
+
+/// Whether so many CALLs are allowed, beside a generated input or without one.
+fn is_count(number: Option<u32>, named: &[&str]) -> bool
+    ensures { result ≡ is_count number (map (λ w. w.now) named.now) }
+{
+    named.len() <= MOST_CALLS && !(number.is_some() && !named.is_empty())
+}
+
+/// The CALLs that words are, in their order.
+fn calls_in(alloc: Global, words: &[&str]) -> Result<Vec<CallWord>, WordFault>
+    ensures ok { IfOk result (λ v. calls_of (map (λ w. w.now) words.now) ≡ Some v.items) }
+    ensures usage { result ≡ Err WordFault.Usage → calls_of (map (λ w. w.now) words.now) ≡ None }
+{
+    let mut calls = Vec::new(alloc);
+    for word in words {
+        let Some(call) = call_in(word) else {
+            return Err(WordFault::Usage);
+        };
+        if calls.push(call).is_err() {
+            return Err(WordFault::NoMemory);
+        }
+    }
+    Ok(calls)
+}
