@@ -39,16 +39,20 @@ impl Storied for Tally {
 impl Tally {
     ghost use Rattle.gate_bench.specs.Tally.{IsTally, taker};
 
-    pub fn turns(&self) -> u64 {
+    pub(crate) fn turns(&self) -> u64
+        ensures { result ≡ self.now.turns }
+    {
         self.turns
     }
 
-    pub fn mixed(&self) -> u64 {
+    pub(crate) fn mixed(&self) -> u64
+        ensures { result ≡ self.now.mixed }
+    {
         self.mixed
     }
 
     /// The tally after so many threads took so many turns each.
-    pub fn of_threads<R: Threads + Wait + Sync>(
+    pub(crate) fn of_threads<R: Threads + Wait + Sync>(
         rt: &R,
         alloc: Global,
         threads: u32,
