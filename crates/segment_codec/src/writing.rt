@@ -7,6 +7,9 @@ use crate::packet::Reply;
 use sq_base::{Octets, Tuple, inet_sum};
 use std::alloc::{AllocError, Global};
 
+/// The most bytes of a TCP header that is sent: with a maximum segment size and a window scale.
+const MOST_HEADER: usize = 28;
+
 /// The IPv4 datagram of a reply from the tuple's server to its client, with both checksums.
 #[tactic(auto, unfolding(crate::specs::SegmentBytes::segment_bytes))]
 pub fn encode(alloc: Global, tuple: &Tuple, reply: &Reply) -> Result<Octets, AllocError>
@@ -46,12 +49,12 @@ fn tcp_sum(alloc: Global, tuple: &Tuple, reply: &Reply) -> Result<(u16, u16), Al
     Ok((0xffff - inet_sum(start, &blank), len))
 }
 
-/// The IPv4 header with this checksum.
+/// The IPv4 header with this checksum, in a vector with room for the whole datagram.
 #[tactic(auto, using(crate::proofs::Joins::joins))]
 fn header_of(alloc: Global, tuple: &Tuple, total: u16, sum: u16) -> Result<Vec<u8>, AllocError>
     ensures { IfOk result (λ v. v.items ≡ ip_with tuple.now total sum) }
 {
-    let mut out = Vec::new(alloc);
+    let mut out = Vec::with_capacity(alloc, usize::from(total))?;
     out.extend_from_slice(&[0x45, 0])?;
     out.extend_from_slice(&total.to_be_bytes())?;
     out.extend_from_slice(&[0, 0, 0x40, 0, 0x40, 6])?;
@@ -64,9 +67,10 @@ fn header_of(alloc: Global, tuple: &Tuple, total: u16, sum: u16) -> Result<Vec<u
 /// The TCP part with this checksum.
 #[tactic(auto, using(crate::proofs::Joins::joins))]
 fn tcp_of(alloc: Global, tuple: &Tuple, reply: &Reply, sum: u16) -> Result<Vec<u8>, AllocError>
+    requires { length reply.now.text ≤ 1460 }
     ensures { IfOk result (λ v. v.items ≡ tcp_with tuple.now reply.now sum) }
 {
-    let mut out = Vec::new(alloc);
+    let mut out = Vec::with_capacity(alloc, MOST_HEADER + reply.text.as_slice().len())?;
     out.extend_from_slice(&tuple.server_port.to_be_bytes())?;
     out.extend_from_slice(&tuple.client_port.to_be_bytes())?;
     out.extend_from_slice(&reply.seq.to_be_bytes())?;
