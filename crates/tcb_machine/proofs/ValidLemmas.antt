@@ -742,7 +742,7 @@ call-next call.Status b = omega arith
 call-next (call.Buffer n) b = buffer-next b.state n b
 call-next call.Close b = close-next b.state b
 
-buffer-offered : (st : State) (n : ℕ) (b : Block) → offered (with_buffer st n b) ≡ offered b
+pub buffer-offered : (st : State) (n : ℕ) (b : Block) → offered (with_buffer st n b) ≡ offered b
 unfolding offered
 buffer-offered Listen n b = refl
 buffer-offered SynReceived n b = refl
