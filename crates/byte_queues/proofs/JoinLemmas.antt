@@ -1,5 +1,5 @@
 -- A text and the runs that it touches as one run: the cells for which it stands.
-use Rattle.std.proofs.Common.{◌≡◌, ◌≢◌, ℕ, ◌+◌, ◌-◌, ◌^◌, ◌<◌, ◌≤◌, List, [], ◌∷◌, ◌++◌, Bool, true, false, cond, leb, ltb, length, take, drop, min, max, refl, sym, ap, ◌∙◌, subst, arith, length-drop, length-append, append_assoc, drop-cons, get_or, set, eqb, ◌⊎◌, inl, inr}
+use Rattle.std.proofs.Common.{◌≡◌, ℕ, ◌+◌, ◌-◌, ◌<◌, ◌≤◌, List, [], ◌∷◌, ◌++◌, Bool, true, false, cond, leb, ltb, length, take, drop, min, refl, sym, ap, ◌∙◌, subst, arith, length-drop, length-append, append_assoc, drop-cons, get_or, set, eqb, ◌⊎◌, inl, inr}
 use Rattle.std.specs.Prelude.{suc, zero}
 use Rattle.std.proofs.lemmas.Bool.Decides.{nat_tests, leb_tells}
 use Rattle.std.proofs.lemmas.List.{drop-drop, drop-take, length-take-le, take-take}
@@ -8,7 +8,7 @@ use Rattle.std.specs.List.{slice_range}
 use Rattle.byte_queues.specs.Runs.{end_of, front_of, cells_from, IsSpaced, count_before, count_up_to, part, fill, start_of, joined_run, joined}
 use Rattle.byte_queues.specs.declared.run.Run.{Run}
 use Rattle.byte_queues.proofs.CellLemmas.{gap-more, held-append, over-gap, over-held, over-part, over-under, over-bytes}
-use Rattle.byte_queues.proofs.RunLemmas.{spaced-low, spaced-lower, spaced-higher, runs-is}
+use Rattle.byte_queues.proofs.RunLemmas.{spaced-low, spaced-lower, runs-is}
 
 -- the tests of a first run
 

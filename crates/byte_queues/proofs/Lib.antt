@@ -4,3 +4,4 @@ pub mod RunLemmas
 pub mod JoinLemmas
 pub mod QueueLemmas
 pub mod PlaceLemmas
+pub mod WholeLemmas

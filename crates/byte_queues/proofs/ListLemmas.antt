@@ -1,5 +1,5 @@
 -- Parts of a list, with ends that reach past it.
-use Rattle.std.proofs.Common.{◌≡◌, ℕ, ◌+◌, ◌-◌, ◌<◌, ◌≤◌, List, [], ◌∷◌, ◌++◌, length, take, drop, min, refl, sym, ap, ◌∙◌, arith, length-take, length-drop}
+use Rattle.std.proofs.Common.{◌≡◌, ℕ, ◌-◌, List, [], ◌∷◌, length, take, drop, min, ap, ◌∙◌, arith}
 use Rattle.std.specs.Prelude.{suc, zero}
 use Rattle.byte_queues.specs.Runs.{part}
 

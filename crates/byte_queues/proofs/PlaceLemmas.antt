@@ -3,14 +3,14 @@ use Rattle.std.proofs.Common.{◌≡◌, ℕ, ◌+◌, ◌-◌, ◌^◌, ◌<◌
 use Rattle.std.specs.Prelude.{suc, zero}
 use Rattle.std.proofs.lemmas.Bool.Decides.{nat_tests}
 use Rattle.byte_queues.specs.ReceiveQueue.{Cells, Recv, gap, held, up_to, front, runs, over_cells, cells_at, next_of, ready_of, holding, placed, laid, without}
-use Rattle.byte_queues.specs.Runs.{front_of, cells_from, dropped, IsSpaced, count_before, count_up_to, joined}
+use Rattle.byte_queues.specs.Runs.{cells_from, dropped, IsSpaced, count_before, count_up_to, joined}
 use Rattle.byte_queues.specs.Inside.{recv_of, IsQueue}
 use Rattle.byte_queues.specs.declared.run.Run.{Run}
 use Rattle.byte_queues.specs.declared.recv.RecvQueue.TheInside.{Inside}
 use Rattle.byte_queues.proofs.CellLemmas.{runs-drop, front-drop, front-over, cells-text, over-none}
-use Rattle.byte_queues.proofs.RunLemmas.{spaced-low, spaced-higher, front-is, dropped-cells, dropped-spaced}
+use Rattle.byte_queues.proofs.RunLemmas.{spaced-higher, front-is, dropped-cells, dropped-spaced}
 use Rattle.byte_queues.proofs.JoinLemmas.{join-cells, join-spaced, join-more, join-few}
-use Rattle.byte_queues.proofs.QueueLemmas.{ahead, ready-within, taken-small, ahead-small}
+use Rattle.byte_queues.proofs.QueueLemmas.{ahead, ready-within, ahead-small}
 
 abbrev high : Inside → ℕ
 high a = min (a.edge + 1) (2 ^ 62 + 2 ^ 32)

@@ -1,12 +1,11 @@
 -- What the invariant of a receive queue says of the counts that are read off it.
-use Rattle.std.proofs.Common.{◌≡◌, ℕ, ◌+◌, ◌-◌, ◌^◌, ◌<◌, ◌≤◌, Option, None, Some, true, length, drop, take, map, min, max, subst, sym, ap, ◌∙◌, arith}
+use Rattle.std.proofs.Common.{◌≡◌, ℕ, ◌+◌, ◌^◌, ◌<◌, ◌≤◌, Option, None, Some, true, length, drop, take, map, min, sym, ap, ◌∙◌, arith}
 use Rattle.std.proofs.lemmas.List.{length-map}
-use Rattle.byte_queues.specs.ReceiveQueue.{Recv, up_to, front, runs, runs_of, next_of, ready_of, next_bytes, without, bytes}
+use Rattle.byte_queues.specs.ReceiveQueue.{up_to, runs, runs_of, next_of, ready_of, next_bytes}
 use Rattle.byte_queues.specs.Runs.{front_of, cells_from, dropped}
 use Rattle.byte_queues.specs.Inside.{recv_of, IsQueue}
 use Rattle.byte_queues.specs.declared.recv.RecvQueue.TheInside.{Inside}
-use Rattle.byte_queues.proofs.CellLemmas.{runs-drop, front-drop}
-use Rattle.byte_queues.proofs.RunLemmas.{spaced-low, spaced-higher, front-is, front-small, runs-is, cells-runs, dropped-cells, dropped-spaced, front-bytes, shown}
+use Rattle.byte_queues.proofs.RunLemmas.{spaced-low, front-is, front-small, runs-is, cells-runs, dropped-cells, front-bytes, shown}
 
 abbrev high : Inside → ℕ
 high a = min (a.edge + 1) (2 ^ 62 + 2 ^ 32)

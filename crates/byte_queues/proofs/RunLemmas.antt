@@ -1,5 +1,5 @@
 -- Runs as cells: the next byte, the count of runs, and what leaves in front.
-use Rattle.std.proofs.Common.{◌≡◌, ◌≢◌, ℕ, ◌+◌, ◌-◌, ◌^◌, ◌<◌, ◌≤◌, List, [], ◌∷◌, ◌++◌, Option, None, Some, Bool, true, false, cond, eqb, length, take, drop, map, refl, sym, ap, ◌∙◌, subst, arith, length-drop, min, get_or, ◌⊎◌, inl, inr}
+use Rattle.std.proofs.Common.{◌≡◌, ◌≢◌, ℕ, ◌+◌, ◌-◌, ◌^◌, ◌<◌, ◌≤◌, List, [], ◌∷◌, Some, Bool, true, false, cond, eqb, length, take, drop, map, refl, sym, ap, ◌∙◌, subst, arith, length-drop, min, get_or, ◌⊎◌, inl, inr}
 use Rattle.std.specs.Prelude.{suc, zero, All, slice_get}
 use Rattle.std.proofs.lemmas.Bool.Decides.{nat_tests}
 use Rattle.byte_queues.specs.ReceiveQueue.{Cells, gap, held, front, runs, bytes, runs_of, grown}

@@ -1,5 +1,5 @@
 -- What the fields of a receive queue stand for.
-use Rattle.std.specs.Prelude.{◌≡◌, ◌+◌, ◌^◌, ◌≤◌, true, min}
+use Rattle.std.specs.Prelude.{◌+◌, ◌^◌, ◌≤◌, true, min}
 use Rattle.byte_queues.specs.ReceiveQueue.{Recv, runs, next_of}
 use Rattle.byte_queues.specs.Runs.{cells_from, IsSpaced}
 use Rattle.byte_queues.specs.declared.recv.RecvQueue.TheInside.{Inside}

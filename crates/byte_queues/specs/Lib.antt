@@ -2,3 +2,4 @@ pub mod ReceiveQueue
 pub mod SendQueue
 pub mod Runs
 pub mod Inside
+pub mod WholeStreams

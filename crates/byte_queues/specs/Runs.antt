@@ -1,5 +1,5 @@
 -- Runs of bytes, and the cells for which they stand.
-use Rattle.std.specs.Prelude.{ℕ, ◌+◌, ◌-◌, ◌<◌, ◌≤◌, ◌==◌, nat_lt, nat_le, min, Bool, List, [], ◌∷◌, ◌++◌, length, take, drop, suc, if◌then◌else◌}
+use Rattle.std.specs.Prelude.{ℕ, ◌+◌, ◌-◌, ◌<◌, ◌≤◌, ◌==◌, nat_lt, nat_le, min, List, [], ◌∷◌, ◌++◌, length, take, drop, suc, if◌then◌else◌}
 use Rattle.byte_queues.specs.ReceiveQueue.{Cells, gap, held}
 use Rattle.byte_queues.specs.declared.run.Run.{Run}
 

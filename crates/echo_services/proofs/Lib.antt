@@ -1,1 +1,3 @@
 pub mod PumpLemmas
+pub mod ServingLemmas
+pub mod WorkedRows

@@ -1,1 +1,4 @@
 pub mod Pump
+pub mod Serving
+pub mod WholeStreams
+pub mod Worked

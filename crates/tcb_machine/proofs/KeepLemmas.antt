@@ -1,6 +1,6 @@
 -- What the output rule and the timers leave as it was.
 use Rattle.std.proofs.Common.{◌≡◌, ℕ, ◌+◌, ◌≤◌, List, [], ◌∷◌, Option, None, Some, Bool, true, false, cond, not, ltb, ◌==◌, ◌&&◌, ◌||◌, length, take, min, max, refl, ap, arith}
-use Rattle.byte_queues.specs.ReceiveQueue.{Recv}
+use Rattle.byte_queues.specs.ReceiveQueue.{Recv, next_of}
 use Rattle.segment_codec.specs.declared.packet.Reply.{Reply}
 use Rattle.tcb_machine.specs.BlockState.{Block, offered, to_listen, sends, segment_of, in_flight, snd_nxt, snd_end, unsent}
 use Rattle.tcb_machine.specs.Output.{sends_text, sends_pieces, pieces, sendable, outputs_text, outputs_fin, outputs_ack, outputs_deadline, starts, is_sending, output}
@@ -77,6 +77,7 @@ output-offered b = let k = output-same b in let a = k.acked in let o = ap length
 
 pub record Less (b c : Block) : Type 0 where
   pub taken : c.recv.taken ≤ b.recv.taken
+  pub next : next_of c.recv ≤ next_of b.recv
   pub offered : c.acked + length c.out ≤ b.acked + length b.out
 
 three : (t u : Bool) (q r : Reply) (flags : ℕ) (text : List ℕ) (b : Block) → Same b (cond t (sends q b) (cond u (sends r b) (sends_text flags text b)))
@@ -104,31 +105,34 @@ resent-same LastAck b = again-same b
 resent-same TimeWait b = again-same b
 
 fires-less : (f : Firing) (b : Block) → Less b (fires f b)
-unfolding fires to_listen
-fires-less (time_wait at) b = record { taken = omega arith; offered = omega arith }
-fires-less (gives_up at) b = record { taken = omega arith; offered = omega arith }
+unfolding fires to_listen next_of
+fires-less (time_wait at) b = record { taken = omega arith; next = omega arith; offered = omega arith }
+fires-less (gives_up at) b = record { taken = omega arith; next = omega arith; offered = omega arith }
 fires-less (retransmission at) b =
     let k = resent-same b.state (record b { clock = at }) in
     let r = ap (λ (q : Recv). q.taken) k.recv in
     let a = k.acked in
     let o = ap length k.out in
-    record { taken = omega (arith, r); offered = omega (arith, a, o) }
+    let n = ap next_of k.recv in
+    record { taken = omega (arith, r); next = omega (arith, n); offered = omega (arith, a, o) }
 
 all-less : (fs : List Firing) (a b : Block) → Less a b → Less a (fires_all fs b)
 all-less [] a b h = h
 all-less (f ∷ fs) a b h =
     let k = fires-less f b in
     let t1 = k.taken in
+    let n1 = k.next in
+    let n2 = h.next in
     let o1 = k.offered in
     let t2 = h.taken in
     let o2 = h.offered in
-    all-less fs a (fires f b) (record { taken = omega (arith, t1, t2); offered = omega (arith, o1, o2) })
+    all-less fs a (fires f b) (record { taken = omega (arith, t1, t2); next = omega (arith, n1, n2); offered = omega (arith, o1, o2) })
 
 pub time-less : (to : ℕ) (b : Block) → Less b (tcp_time to b)
 unfolding tcp_time
 time-less to b =
-    let k = all-less (firings to b) b b (record { taken = omega arith; offered = omega arith }) in
-    record { taken = k.taken; offered = k.offered }
+    let k = all-less (firings to b) b b (record { taken = omega arith; next = omega arith; offered = omega arith }) in
+    record { taken = k.taken; next = k.next; offered = k.offered }
 
 pub time-offered : (to : ℕ) (b : Block) → offered (tcp_time to b) ≤ offered b
 unfolding offered

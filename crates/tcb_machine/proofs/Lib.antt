@@ -3,3 +3,4 @@ pub mod KeepLemmas
 pub mod TimeLemmas
 pub mod QueueLemmas
 pub mod SteadyLemmas
+pub mod ValidLemmas

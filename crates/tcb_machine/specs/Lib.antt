@@ -5,3 +5,4 @@ pub mod Output
 pub mod Timers
 pub mod CallAnswers
 pub mod Inside
+pub mod Validity

@@ -1,9 +1,15 @@
-//! What the definitions say of the counts that a long run must keep small, as functions with an empty body.
+//! What the definitions say of every block: each law is a function that does nothing, whose contract is the law.
 
-ghost use Rattle.std.specs.Prelude.{◌≡◌, ℕ, ◌+◌, ◌≤◌};
-ghost use Rattle.tcb_machine.specs.BlockState.{Block, offered};
+ghost use Rattle.std.specs.Prelude.{◌≡◌, ℕ, ◌+◌, ◌^◌, ◌<◌, ◌≤◌, List};
+ghost use Rattle.byte_queues.specs.ReceiveQueue.{next_of};
+ghost use Rattle.segment_codec.specs.declared.packet.Seg.{Seg};
+ghost use Rattle.tcb_machine.specs.BlockState.{Block, new_block, offered};
+ghost use Rattle.tcb_machine.specs.CallAnswers.{tcp_call};
 ghost use Rattle.tcb_machine.specs.Output.{output};
+ghost use Rattle.tcb_machine.specs.TcpStep.{tcp_segment};
 ghost use Rattle.tcb_machine.specs.Timers.{tcp_time};
+ghost use Rattle.tcb_machine.specs.Validity.{IsValid, IsAskable, left_by};
+ghost use Rattle.tcb_machine.specs.declared.kinds.Call.{Call};
 
 /// The output rule sets no clock, takes nothing from the receive queue and offers nothing.
 pub fn output_moves_no_text()
@@ -16,4 +22,23 @@ pub fn output_moves_no_text()
 pub fn timers_move_no_text()
     ensures taken { (to : ℕ) (b : Block) → (tcp_time to b).recv.taken ≤ b.recv.taken }
     ensures offered { (to : ℕ) (b : Block) → offered (tcp_time to b) ≤ offered b }
+{}
+
+/// A new block is valid, and whatever is given to a valid block leaves a valid one. So each of its replies has at most 1,460 bytes of
+/// text and no options but the MSS of 1,460 and beside it the window scale of 5, and in LISTEN all is as new.
+pub fn every_block_is_valid()
+    ensures new { IsValid new_block }
+    ensures segment { (now iss : ℕ) (s : Seg) (text : List ℕ) (b : Block) → IsValid b → IsValid (left_by (tcp_segment now iss s text b)) }
+    ensures time { (to : ℕ) (b : Block) → IsValid b → IsValid (tcp_time to b) }
+    ensures call { (call : Call) (b : Block) → IsAskable call → IsValid b → IsValid (left_by (tcp_call call b).verdict) }
+    ensures output { (b : Block) → IsValid b → IsValid (output b) }
+{}
+
+/// A segment raises the number of the next byte by less than 2^21, and offers nothing; calls and timers raise neither.
+pub fn a_segment_adds_little()
+    ensures next { (now iss : ℕ) (s : Seg) (text : List ℕ) (b : Block) → IsValid b → next_of (left_by (tcp_segment now iss s text b)).recv < next_of b.recv + 2 ^ 21 }
+    ensures offered { (now iss : ℕ) (s : Seg) (text : List ℕ) (b : Block) → IsValid b → offered (left_by (tcp_segment now iss s text b)) ≤ offered b }
+    ensures next_timed { (to : ℕ) (b : Block) → next_of (tcp_time to b).recv ≤ next_of b.recv }
+    ensures next_called { (call : Call) (b : Block) → next_of (left_by (tcp_call call b).verdict).recv ≤ next_of b.recv }
+    ensures offered_called { (call : Call) (b : Block) → offered (left_by (tcp_call call b).verdict) ≡ offered b }
 {}

@@ -1,7 +1,7 @@
-use Rattle.std.proofs.Common.{◌≡◌, ℕ, Option, ◌+◌, ◌≤◌, length, Some, None, subst, sym, ap, ◌∙◌, arith, rules}
+use Rattle.std.proofs.Common.{◌≡◌, ℕ, Option, ◌+◌, length, Some, subst, sym, ap, ◌∙◌, arith}
 use Rattle.byte_queues.specs.ReceiveQueue.{Recv, up_to, next_of}
 use Rattle.byte_queues.specs.Runs.{front_of}
-use Rattle.byte_queues.proofs.QueueLemmas.{ahead, ahead-small, next-is, up-to-le}
+use Rattle.byte_queues.proofs.QueueLemmas.{ahead, ahead-small, next-is}
 use Rattle.byte_queues.proofs.recv.RecvQueue.next.Goals as goal
 
 pub overflow_add-held : goal.overflow_add-held

@@ -1,4 +1,4 @@
-use Rattle.std.proofs.Common.{◌≡◌, ℕ, List, Option, ◌-◌, ◌≤◌, ◌<◌, length, take, min, IfOk, sym, ap, ◌∙◌, subst, arith, rules}
+use Rattle.std.proofs.Common.{◌≡◌, ℕ, List, Option, ◌-◌, ◌<◌, length, take, IfOk, sym, ap, ◌∙◌, subst, arith, rules}
 use Rattle.byte_queues.specs.ReceiveQueue.{Recv, up_to, placed, placed_as, laid}
 use Rattle.byte_queues.proofs.ListLemmas.{take_clamped}
 use Rattle.byte_queues.proofs.PlaceLemmas.{placed-none, placed-laid}

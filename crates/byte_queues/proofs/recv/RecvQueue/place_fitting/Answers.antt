@@ -1,12 +1,10 @@
-use Rattle.std.proofs.Common.{◌≡◌, ℕ, List, Bool, true, ◌+◌, ◌-◌, ◌^◌, ◌≤◌, ◌<◌, length, length-drop, drop, min, sym, ap, ◌∙◌, subst, arith, rules}
-use Rattle.byte_queues.specs.ReceiveQueue.{Recv, next_of, up_to, front, laid}
-use Rattle.byte_queues.specs.Runs.{IsSpaced, count_before, count_up_to, joined}
-use Rattle.byte_queues.specs.Inside.{recv_of}
+use Rattle.std.proofs.Common.{◌≡◌, List, ◌+◌, ◌^◌, ◌≤◌, length, length-drop, drop, min, sym, ap, ◌∙◌, subst, arith, rules}
+use Rattle.byte_queues.specs.ReceiveQueue.{Recv, next_of, laid}
+use Rattle.byte_queues.specs.Runs.{count_before, count_up_to}
 use Rattle.byte_queues.specs.declared.run.Run.{Run}
-use Rattle.byte_queues.specs.declared.recv.RecvQueue.TheInside.{Inside}
 use Rattle.byte_queues.proofs.JoinLemmas.{before-within, up-within}
 use Rattle.byte_queues.proofs.RunLemmas.{spaced-small, spaced-lower, spaced-higher}
-use Rattle.byte_queues.proofs.PlaceLemmas.{Fitting, touched, touched-is, text-is, room-is, with_text, room, place-sound, place-held, place-blocks}
+use Rattle.byte_queues.proofs.PlaceLemmas.{Fitting, touched, touched-is, text-is, room-is, with_text, place-sound, place-held, place-blocks}
 use Rattle.byte_queues.proofs.recv.RecvQueue.place_fitting.Goals as goal
 
 pub runs_before-first-requires : goal.runs_before-first-requires

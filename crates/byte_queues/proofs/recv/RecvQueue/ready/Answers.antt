@@ -1,4 +1,4 @@
-use Rattle.std.proofs.Common.{◌≡◌, ◌+◌, subst, sym, ap, ◌∙◌, arith}
+use Rattle.std.proofs.Common.{◌+◌, sym, ap, ◌∙◌, arith}
 use Rattle.byte_queues.specs.ReceiveQueue.{next_of}
 use Rattle.byte_queues.proofs.QueueLemmas.{ahead, ahead-fits, next-is, up-to-le}
 use Rattle.byte_queues.proofs.recv.RecvQueue.ready.Goals as goal

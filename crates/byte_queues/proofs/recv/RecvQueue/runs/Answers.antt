@@ -1,4 +1,4 @@
-use Rattle.std.proofs.Common.{◌≡◌, length, subst, sym, ap, ◌∙◌, arith}
+use Rattle.std.proofs.Common.{◌≡◌, length, subst, arith}
 use Rattle.byte_queues.specs.ReceiveQueue.{Recv, runs_of}
 use Rattle.byte_queues.proofs.QueueLemmas.{few-runs, runs-count}
 use Rattle.byte_queues.proofs.recv.RecvQueue.runs.Goals as goal

@@ -1,4 +1,4 @@
-use Rattle.std.proofs.Common.{◌≡◌, ◌-◌, true, length, min, subst, sym, ap, ◌∙◌, arith}
+use Rattle.std.proofs.Common.{◌≡◌, ◌-◌, true, length, subst, ap, ◌∙◌, arith}
 use Rattle.byte_queues.specs.ReceiveQueue.{Recv, runs}
 use Rattle.byte_queues.specs.Runs.{front_of}
 use Rattle.byte_queues.proofs.QueueLemmas.{ahead, above-is}

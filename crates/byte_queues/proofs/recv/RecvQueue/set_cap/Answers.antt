@@ -1,5 +1,5 @@
-use Rattle.std.proofs.Common.{ℕ, ◌+◌, ◌^◌, min, max, arith}
-use Rattle.byte_queues.specs.ReceiveQueue.{up_to, front, next_of}
+use Rattle.std.proofs.Common.{◌+◌, ◌^◌, min, arith}
+use Rattle.byte_queues.specs.ReceiveQueue.{next_of}
 use Rattle.byte_queues.proofs.RunLemmas.{spaced-low, spaced-higher}
 use Rattle.byte_queues.proofs.recv.RecvQueue.set_cap.Goals as goal
 

@@ -1,7 +1,7 @@
-use Rattle.std.proofs.Common.{◌≡◌, ◌≤◌, length, subst, sym, ap, ◌∙◌, arith}
-use Rattle.byte_queues.specs.ReceiveQueue.{Recv, ready_of, next_of, up_to, front, without}
+use Rattle.std.proofs.Common.{◌≤◌, subst, sym, ap, ◌∙◌, arith}
+use Rattle.byte_queues.specs.ReceiveQueue.{Recv, ready_of, next_of, without}
 use Rattle.byte_queues.proofs.PlaceLemmas.{skip-sound, skip-view}
-use Rattle.byte_queues.proofs.QueueLemmas.{ahead, ahead-small, ready-within}
+use Rattle.byte_queues.proofs.QueueLemmas.{ahead-small, ready-within}
 use Rattle.byte_queues.proofs.recv.RecvQueue.skip.Goals as goal
 
 pub drop_front-requires-clause-within : goal.drop_front-requires-clause-within

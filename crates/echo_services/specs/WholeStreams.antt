@@ -1,0 +1,73 @@
+-- Serving with the whole streams since LISTEN beside the block, of which the block keeps what isn't taken and what isn't acknowledged.
+use Rattle.std.specs.Prelude.{◌≡◌, ℕ, ◌-◌, List, [], ◌∷◌, ◌++◌, map, take, length, Some, if◌then◌else◌}
+use Rattle.byte_queues.specs.ReceiveQueue.{Cells, next_bytes}
+use Rattle.tcb_machine.specs.BlockState.{Block, new_block}
+use Rattle.tcb_machine.specs.CallAnswers.{tcp_call}
+use Rattle.tcb_machine.specs.Output.{output}
+use Rattle.tcb_machine.specs.States.{is_listen}
+use Rattle.tcb_machine.specs.TcpStep.{Verdict, over, go, on, tcp_segment}
+use Rattle.tcb_machine.specs.Timers.{tcp_time}
+use Rattle.tcb_machine.specs.Validity.{IsAskable}
+use Rattle.echo_services.specs.Pump.{pump}
+use Rattle.echo_services.specs.Serving.{Entry, segment, time, asks}
+use Rattle.echo_services.specs.declared.service.Service.{Service}
+
+pub record Whole : Type 0 where
+  pub block : Block
+  -- the bytes that the service took, and the bytes that were acknowledged
+  pub read : List ℕ
+  pub confirmed : List ℕ
+
+-- the byte at each position of the peer's stream, and all bytes offered
+abbrev pub received : Whole → Cells
+received w = map (λ x. Some x) w.read ++ w.block.recv.got
+
+abbrev pub all_offered : Whole → List ℕ
+all_offered w = w.confirmed ++ w.block.out
+
+-- the block after a step, and with it what left it; in LISTEN all is as new
+abbrev pub follows : Whole → Block → Whole
+follows w b = record {
+  block = b;
+  read = if is_listen b.state then [] else w.read ++ next_bytes (b.recv.taken - w.block.recv.taken) w.block.recv;
+  confirmed = if is_listen b.state then [] else w.confirmed ++ take (b.acked - w.block.acked) w.block.out;
+}
+
+abbrev pub whole_followed : Service → Whole → Verdict → Whole
+whole_followed service w (over b) = follows w b
+whole_followed service w (go b) = follows (follows (follows w b) (pump service b)) (output (pump service b))
+whole_followed service w (on b) = follows w b
+
+abbrev pub whole_enters : Service → Entry → Whole → Whole
+whole_enters service (segment now iss s text) w = whole_followed service w (tcp_segment now iss s text w.block)
+whole_enters service (time to) w = follows w (tcp_time to w.block)
+whole_enters service (asks call) w = whole_followed service w (tcp_call call w.block).verdict
+
+abbrev pub whole_serves : Service → List Entry → Whole → Whole
+whole_serves service [] w = w
+whole_serves service (e ∷ es) w = whole_serves service es (whole_enters service e w)
+
+abbrev pub whole_new : Whole
+whole_new = record { block = new_block; read = []; confirmed = [] }
+
+-- the lists beside a block have as many bytes as it counts
+pub record IsBeside (w : Whole) : Type 0 where
+  pub read : length w.read ≡ w.block.recv.taken
+  pub confirmed : length w.confirmed ≡ w.block.acked
+
+-- a call's receive space fits 16 bits
+abbrev pub IsEntry : Entry → Type 0
+IsEntry (segment now iss s text) = Unit {0}
+IsEntry (time to) = Unit {0}
+IsEntry (asks call) = IsAskable call
+
+abbrev pub AreEntries : List Entry → Type 0
+AreEntries [] = Unit {0}
+AreEntries (e ∷ es) = IsEntry e × AreEntries es
+
+-- entries between two segments
+abbrev pub AreBetween : List Entry → Type 0
+AreBetween [] = Unit {0}
+AreBetween (segment now iss s text ∷ es) = ⊥
+AreBetween (time to ∷ es) = AreBetween es
+AreBetween (asks call ∷ es) = IsAskable call × AreBetween es

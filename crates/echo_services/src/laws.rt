@@ -1,0 +1,29 @@
+//! What the definitions say of a connection that is served: each law is a function that does nothing, whose contract is the law.
+
+ghost use Rattle.std.specs.Prelude.{◌≡◌, ℕ, ◌+◌, ◌^◌, ◌<◌, ◌≤◌, List, ◌∷◌};
+ghost use Rattle.byte_queues.specs.ReceiveQueue.{next_of};
+ghost use Rattle.segment_codec.specs.declared.packet.Seg.{Seg};
+ghost use Rattle.tcb_machine.specs.BlockState.{Block, new_block, offered};
+ghost use Rattle.tcb_machine.specs.Validity.{IsValid};
+ghost use Rattle.echo_services.specs.Serving.{Entry, segment, serves};
+ghost use Rattle.echo_services.specs.WholeStreams.{IsBeside, AreEntries, AreBetween, whole_serves, whole_new};
+ghost use Rattle.echo_services.specs.declared.service.Service.{Service};
+
+/// Whatever a connection is given leaves it a valid block, from a new one on.
+pub fn every_served_block_is_valid()
+    ensures { (service : Service) (es : List Entry) (b : Block) → AreEntries es → IsValid b → IsValid (serves service es b) }
+{}
+
+/// Serving with the whole streams beside the block gives the same block, and so the same replies and state. The lists beside it have as many
+/// bytes as the block counts as taken and as acknowledged: with what the block keeps they are the whole streams.
+pub fn serving_is_kept()
+    ensures block { (service : Service) (es : List Entry) → (whole_serves service es whole_new).block ≡ serves service es new_block }
+    ensures beside { (service : Service) (es : List Entry) → AreEntries es → IsBeside (whole_serves service es whole_new) }
+{}
+
+/// From one segment to the next, whatever calls and times stand between, the number of the next byte and the bytes offered
+/// rise by less than 2^21 each.
+pub fn a_segment_adds_little()
+    ensures next { (service : Service) (now iss : ℕ) (s : Seg) (text : List ℕ) (es : List Entry) (b : Block) → AreBetween es → IsValid b → next_of (serves service (segment now iss s text ∷ es) b).recv < next_of b.recv + 2 ^ 21 }
+    ensures offered { (service : Service) (now iss : ℕ) (s : Seg) (text : List ℕ) (es : List Entry) (b : Block) → AreBetween es → IsValid b → offered (serves service (segment now iss s text ∷ es) b) < offered b + 2 ^ 21 }
+{}

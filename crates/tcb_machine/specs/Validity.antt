@@ -1,0 +1,43 @@
+-- What holds of the block of a connection from a new one on, whatever it is given.
+use Rattle.std.specs.Prelude.{ℕ, ◌≡◌, ◌+◌, ◌≤◌, true, List, length, All}
+use Rattle.byte_queues.specs.ReceiveQueue.{Recv, next_of}
+use Rattle.tcb_machine.specs.BlockState.{Block, IsOurs, to_listen}
+use Rattle.tcb_machine.specs.States.{is_listen}
+use Rattle.tcb_machine.specs.TcpStep.{Verdict, over, go, on}
+use Rattle.tcb_machine.specs.declared.kinds.Call.{Call}
+use Rattle.tcb_machine.specs.declared.kinds.Call.TheVariants.{Status, Buffer, Close}
+
+-- the receive side, with the receive space asked for
+pub record IsReceiving (want : ℕ) (q : Recv) : Type 0 where
+  pub asked : want ≤ 1048576
+  pub cap : q.cap ≤ 1048576
+  pub space : q.edge ≤ q.taken + 1048576
+  -- nothing is held at or above the edge, and all that was taken was held
+  pub below : q.taken + length q.got ≤ q.edge
+  pub read : q.taken ≤ next_of q
+
+-- the send side: bytes acknowledged, sent, and offered
+pub record IsSending (acked sent : ℕ) (out : List ℕ) : Type 0 where
+  pub acked_sent : acked ≤ sent
+  pub sent_out : sent ≤ acked + length out
+
+pub record IsValid (b : Block) : Type 0 where
+  pub recv : IsReceiving b.want b.recv
+  pub send : IsSending b.acked b.sent b.out
+  pub mss : b.mss ≤ 1460
+  -- what was sent: at most 1,460 bytes of text, and no options but ours
+  pub ours : All IsOurs b.replies
+  -- in LISTEN all is as new
+  pub new : is_listen b.state ≡ true → b ≡ to_listen b
+
+-- the receive space that a call asks for fits 16 bits
+abbrev pub IsAskable : Call → Type 0
+IsAskable Status = Unit {0}
+IsAskable (Buffer n) = n ≤ 65535
+IsAskable Close = Unit {0}
+
+-- the block that a step leaves, before pump and output
+abbrev pub left_by : Verdict → Block
+left_by (over b) = b
+left_by (go b) = b
+left_by (on b) = b
