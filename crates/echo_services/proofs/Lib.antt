@@ -1,3 +1,4 @@
+pub mod EchoLemmas
 pub mod PumpLemmas
 pub mod ServingLemmas
 pub mod WorkedRows

@@ -151,7 +151,7 @@ followed-valid service b (go c) h =
     moved-valid d (output d) (output-moved d (pumps-valid c d v (pumping service c h.opened v)))
 followed-valid service b (on c) h = moves-valid b c h
 
-enters-valid : (service : Service) (e : Entry) (b : Block) → IsEntry e → IsValid b → IsValid (enters service e b)
+pub enters-valid : (service : Service) (e : Entry) (b : Block) → IsEntry e → IsValid b → IsValid (enters service e b)
 enters-valid service (segment now iss s text) b h v = followed-valid service (record b { clock = now }) (tcp_segment now iss s text b) (segment-says now iss s text b v)
 enters-valid service (time to) b h v = moved-valid b (tcp_time to b) (time-moved to b v)
 enters-valid service (asks c) b h v = followed-valid service b (tcp_call c b).verdict (call-says c b h v)
@@ -167,7 +167,7 @@ followed-block service w (over b) = refl
 followed-block service w (go b) = refl
 followed-block service w (on b) = refl
 
-enters-block : (service : Service) (e : Entry) (w : Whole) → (whole_enters service e w).block ≡ enters service e w.block
+pub enters-block : (service : Service) (e : Entry) (w : Whole) → (whole_enters service e w).block ≡ enters service e w.block
 enters-block service (segment now iss s text) w = followed-block service w (tcp_segment now iss s text w.block)
 enters-block service (time to) w = refl
 enters-block service (asks c) w = followed-block service w (tcp_call c w.block).verdict

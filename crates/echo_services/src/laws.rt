@@ -1,13 +1,14 @@
 //! What the definitions say of a connection that is served: each law is a function that does nothing, whose contract is the law.
 
-ghost use Rattle.std.specs.Prelude.{◌≡◌, ℕ, ◌+◌, ◌^◌, ◌<◌, ◌≤◌, List, ◌∷◌};
+ghost use Rattle.std.specs.Prelude.{◌≡◌, false, ℕ, ◌+◌, ◌^◌, ◌<◌, ◌≤◌, List, ◌∷◌};
 ghost use Rattle.byte_queues.specs.ReceiveQueue.{next_of};
 ghost use Rattle.segment_codec.specs.declared.packet.Seg.{Seg};
 ghost use Rattle.tcb_machine.specs.BlockState.{Block, new_block, offered};
 ghost use Rattle.tcb_machine.specs.Validity.{IsValid};
 ghost use Rattle.echo_services.specs.Serving.{Entry, segment, serves};
-ghost use Rattle.echo_services.specs.WholeStreams.{IsBeside, AreEntries, AreBetween, whole_serves, whole_new};
+ghost use Rattle.echo_services.specs.WholeStreams.{IsBeside, AreEntries, AreBetween, all_offered, whole_serves, whole_new};
 ghost use Rattle.echo_services.specs.declared.service.Service.{Service};
+ghost use Rattle.echo_services.specs.declared.service.Service.TheVariants.{Echo};
 
 /// Whatever a connection is given leaves it a valid block, from a new one on.
 pub fn every_served_block_is_valid()
@@ -26,4 +27,9 @@ pub fn serving_is_kept()
 pub fn a_segment_adds_little()
     ensures next { (service : Service) (now iss : ℕ) (s : Seg) (text : List ℕ) (es : List Entry) (b : Block) → AreBetween es → IsValid b → next_of (serves service (segment now iss s text ∷ es) b).recv < next_of b.recv + 2 ^ 21 }
     ensures offered { (service : Service) (now iss : ℕ) (s : Seg) (text : List ℕ) (es : List Entry) (b : Block) → AreBetween es → IsValid b → offered (serves service (segment now iss s text ∷ es) b) < offered b + 2 ^ 21 }
+{}
+
+/// What echo has offered since LISTEN is what it took, byte for byte, as long as our FIN isn't wanted (RFC 862).
+pub fn echo_offers_what_it_took()
+    ensures { (es : List Entry) → AreEntries es → (whole_serves Echo es whole_new).block.fin_wanted ≡ false → all_offered (whole_serves Echo es whole_new) ≡ (whole_serves Echo es whole_new).read }
 {}

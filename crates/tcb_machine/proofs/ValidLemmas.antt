@@ -2,6 +2,7 @@
 use Rattle.std.proofs.Common.{◌≡◌, ℕ, ◌+◌, ◌-◌, ◌^◌, ◌<◌, ◌≤◌, List, [], ◌∷◌, ◌++◌, Option, None, Some, Bool, true, false, cond, not, ◌==◌, ◌&&◌, ◌||◌, length, drop, take, min, max, refl, sym, ap, ◌∙◌, subst, arith, length-drop, length-take}
 use Rattle.std.specs.Prelude.{suc, zero, All, nat_lt, nat_le}
 use Rattle.std.proofs.lemmas.Bool.{false≢true, leb-true}
+use Rattle.std.proofs.lemmas.List.{drop-drop}
 use Rattle.std.proofs.lemmas.List.Elements.{All-append, All-cons}
 use Rattle.segment_codec.specs.declared.packet.Seg.{Seg}
 use Rattle.segment_codec.specs.declared.packet.Reply.{Reply}
@@ -23,6 +24,9 @@ use Rattle.tcb_machine.specs.declared.kinds.AckKind.{AckKind}
 use Rattle.tcb_machine.specs.declared.kinds.AckKind.TheVariants.{Fresh, Equal, Old, Beyond}
 use Rattle.tcb_machine.proofs.QueueLemmas.{next_near, placed_taken, placed_edge, placed_cap, placed_below, placed_read}
 
+none-gone : (n : ℕ) (xs : List ℕ) → xs ≡ drop (n - n) xs
+none-gone n xs = let e : 0 ≡ n - n = omega arith in ap (λ (k : ℕ). drop k xs) e
+
 -- from one block to a valid one, by a step that takes no text
 pub record Keeps (b c : Block) : Type 0 where
   pub recv : IsReceiving c.want c.recv
@@ -32,6 +36,8 @@ pub record Keeps (b c : Block) : Type 0 where
   pub taken : c.recv.taken ≡ b.recv.taken
   pub from : b.acked ≤ c.acked
   pub offered : c.acked + length c.out ≤ b.acked + length b.out
+  pub out : c.out ≡ drop (c.acked - b.acked) b.out
+  pub wanted : c.fin_wanted ≡ false → b.fin_wanted ≡ false
 
 -- outside LISTEN
 pub record Moves (b c : Block) : Type 0 where
@@ -54,7 +60,7 @@ moved-valid b c (moves m) = moves-valid b c m
 moved-valid b c (as_new e v) = v
 
 pub valid-keeps : (b : Block) → IsValid b → Keeps b b
-valid-keeps b v = record { recv = v.recv; send = v.send; mss = v.mss; ours = v.ours; taken = refl; from = omega arith; offered = omega arith }
+valid-keeps b v = record { recv = v.recv; send = v.send; mss = v.mss; ours = v.ours; taken = refl; from = omega arith; offered = omega arith; out = none-gone b.acked b.out; wanted = λ e. e }
 
 -- as new
 
@@ -107,7 +113,7 @@ syn-ours c = record { text = omega arith; flags = omega arith; options = by c.sc
     by false = refl
 
 pub sent-keeps : (r : Reply) (b c : Block) → IsOurs r → Keeps b c → Keeps b (sends r c)
-sent-keeps r b c o k = record { recv = k.recv; send = k.send; mss = k.mss; ours = ours-more c.replies r k.ours o; taken = k.taken; from = k.from; offered = k.offered }
+sent-keeps r b c o k = record { recv = k.recv; send = k.send; mss = k.mss; ours = ours-more c.replies r k.ours o; taken = k.taken; from = k.from; offered = k.offered; out = k.out; wanted = k.wanted }
 
 sent-moves : (r : Reply) (b c : Block) → IsOurs r → Moves b c → Moves b (sends r c)
 sent-moves r b c o m = record { opened = m.opened; keeps = sent-keeps r b c o m.keeps }
@@ -151,9 +157,9 @@ new-acked b e = ap (λ (x : Block). x.acked) e
 scaled : (o : Option ℕ) (b : Block) → b.recv.taken ≡ 0 → IsValid b → Keeps b (with_scale o b)
 scaled None b z v =
     let h = v.recv.asked in
-    record { recv = empty-receiving b.want (min b.want 65535) h (omega (arith, h)); send = v.send; mss = v.mss; ours = v.ours; taken = sym z; from = omega arith; offered = omega arith }
+    record { recv = empty-receiving b.want (min b.want 65535) h (omega (arith, h)); send = v.send; mss = v.mss; ours = v.ours; taken = sym z; from = omega arith; offered = omega arith; out = none-gone b.acked b.out; wanted = λ e. e }
 scaled (Some s) b z v =
-    record { recv = empty-receiving b.want b.want v.recv.asked v.recv.asked; send = v.send; mss = v.mss; ours = v.ours; taken = sym z; from = omega arith; offered = omega arith }
+    record { recv = empty-receiving b.want b.want v.recv.asked v.recv.asked; send = v.send; mss = v.mss; ours = v.ours; taken = sym z; from = omega arith; offered = omega arith; out = none-gone b.acked b.out; wanted = λ e. e }
 
 mss-most : (o : Option ℕ) → send_mss o ≤ 1460
 mss-most None = omega arith
@@ -163,7 +169,7 @@ opens : (s : Seg) (iss : ℕ) (b : Block) → b.recv.taken ≡ 0 → IsValid b �
 unfolding opened
 opens s iss b z v =
     let k = scaled s.scale b z v in
-    record { opened = refl; keeps = record { recv = k.recv; send = k.send; mss = mss-most s.mss; ours = k.ours; taken = k.taken; from = k.from; offered = k.offered } }
+    record { opened = refl; keeps = record { recv = k.recv; send = k.send; mss = mss-most s.mss; ours = k.ours; taken = k.taken; from = k.from; offered = k.offered; out = k.out; wanted = k.wanted } }
 
 listens : (s : Seg) (iss : ℕ) (b : Block) → is_listen b.state ≡ true → IsValid b → Says b (listen s iss b)
 unfolding listen
@@ -184,7 +190,7 @@ refuses s b c m =
     (says-cond (is_time_wait c.state && has s.flags fin) b (over (waits (sends_ack c))) (over (sends_ack c)) (moves (later (sends_ack c) (sent-moves (segment_of ack (snd_nxt c) [] c) b c (ack-ours c) m))) (acks b c m))
   where
     later : (d : Block) → Moves b d → Moves b (waits d)
-    later d n = let k = n.keeps in record { opened = n.opened; keeps = record { recv = k.recv; send = k.send; mss = k.mss; ours = k.ours; taken = k.taken; from = k.from; offered = k.offered } }
+    later d n = let k = n.keeps in record { opened = n.opened; keeps = record { recv = k.recv; send = k.send; mss = k.mss; ours = k.ours; taken = k.taken; from = k.from; offered = k.offered; out = k.out; wanted = k.wanted } }
 
 sequences : (s : Seg) (text : List ℕ) (b c : Block) → Moves b c → Says b (check_sequence s text c)
 unfolding check_sequence
@@ -216,7 +222,7 @@ moves-cond true b x y p q = p
 moves-cond false b x y p q = q
 
 windows : (s : Seg) (b c : Block) → Moves b c → Moves b (with_window s c)
-windows s b c m = let k = m.keeps in record { opened = m.opened; keeps = record { recv = k.recv; send = k.send; mss = k.mss; ours = k.ours; taken = k.taken; from = k.from; offered = k.offered } }
+windows s b c m = let k = m.keeps in record { opened = m.opened; keeps = record { recv = k.recv; send = k.send; mss = k.mss; ours = k.ours; taken = k.taken; from = k.from; offered = k.offered; out = k.out; wanted = k.wanted } }
 
 takes-window : (s : Seg) (b c : Block) → Moves b c → Moves b (takes_window s c)
 unfolding takes_window
@@ -242,15 +248,17 @@ takes-ack s b c m =
         taken = k.taken;
         from = omega (arith, f);
         offered = omega (arith, l, o, a, w);
+        out = ap (drop n) k.out ∙ (drop-drop n (c.acked - b.acked) b.out ∙ ap (λ (i : ℕ). drop i b.out) (omega (arith, f)));
+        wanted = k.wanted;
       };
     }
 
 waits-on : (b c : Block) → Moves b c → Moves b (in_time_wait c)
 unfolding in_time_wait
-waits-on b c m = let k = m.keeps in record { opened = refl; keeps = record { recv = k.recv; send = k.send; mss = k.mss; ours = k.ours; taken = k.taken; from = k.from; offered = k.offered } }
+waits-on b c m = let k = m.keeps in record { opened = refl; keeps = record { recv = k.recv; send = k.send; mss = k.mss; ours = k.ours; taken = k.taken; from = k.from; offered = k.offered; out = k.out; wanted = k.wanted } }
 
 becomes : (st : State) (b c : Block) → is_listen st ≡ false → Moves b c → Moves b (record c { state = st })
-becomes st b c e m = let k = m.keeps in record { opened = e; keeps = record { recv = k.recv; send = k.send; mss = k.mss; ours = k.ours; taken = k.taken; from = k.from; offered = k.offered } }
+becomes st b c e m = let k = m.keeps in record { opened = e; keeps = record { recv = k.recv; send = k.send; mss = k.mss; ours = k.ours; taken = k.taken; from = k.from; offered = k.offered; out = k.out; wanted = k.wanted } }
 
 after-ack : (st : State) (t : Bool) (b c : Block) → Moves b c → Says b (after_ack st t c)
 after-ack Established t b c m = m
@@ -297,7 +305,7 @@ checks-ack s b c m = says-cond (has s.flags ack) b (ack_in c.state (ack_kind s.a
 -- text and FIN
 
 due : (b c : Block) → Moves b c → Moves b (record c { ack_due = true })
-due b c m = let k = m.keeps in record { opened = m.opened; keeps = record { recv = k.recv; send = k.send; mss = k.mss; ours = k.ours; taken = k.taken; from = k.from; offered = k.offered } }
+due b c m = let k = m.keeps in record { opened = m.opened; keeps = record { recv = k.recv; send = k.send; mss = k.mss; ours = k.ours; taken = k.taken; from = k.from; offered = k.offered; out = k.out; wanted = k.wanted } }
 
 consumes-fin : (st : State) (b c : Block) → Moves b c → Moves b (consumes st c)
 consumes-fin Listen b c m = m
@@ -315,7 +323,7 @@ unfolding closes
 closing b c m = says-cond (is_ended c.recv) b (go (consumes c.state (record c { ack_due = true }))) (go c) (consumes-fin c.state b (record c { ack_due = true }) (due b c m)) m
 
 receives : (b c : Block) (q : Recv) → Moves b c → IsReceiving c.want q → q.taken ≡ c.recv.taken → Moves b (record c { recv = q; ack_due = true })
-receives b c q m r e = let k = m.keeps in record { opened = m.opened; keeps = record { recv = r; send = k.send; mss = k.mss; ours = k.ours; taken = e ∙ k.taken; from = k.from; offered = k.offered } }
+receives b c q m r e = let k = m.keeps in record { opened = m.opened; keeps = record { recv = r; send = k.send; mss = k.mss; ours = k.ours; taken = e ∙ k.taken; from = k.from; offered = k.offered; out = k.out; wanted = k.wanted } }
 
 up-to-most : (e : Option ℕ) (n : ℕ) → up_to e n ≤ n
 up-to-most None n = omega arith
@@ -474,7 +482,7 @@ unfolding sends_text
 sends-text flags text b c f t w m =
     let k = (sent-moves (segment_of flags (snd_nxt c) text c) b c (segment-ours flags (snd_nxt c) text c f t) m).keeps in
     let a = k.send.acked_sent in
-    record { opened = m.opened; keeps = record { recv = k.recv; send = record { acked_sent = omega (arith, a); sent_out = w }; mss = k.mss; ours = k.ours; taken = k.taken; from = k.from; offered = k.offered } }
+    record { opened = m.opened; keeps = record { recv = k.recv; send = record { acked_sent = omega (arith, a); sent_out = w }; mss = k.mss; ours = k.ours; taken = k.taken; from = k.from; offered = k.offered; out = k.out; wanted = k.wanted } }
 
 sends-pieces : (ps : List (List ℕ)) (b c : Block) → AreSmall ps → c.sent + total ps ≤ c.acked + length c.out → Moves b c → Moves b (sends_pieces ps c)
 unfolding total AreSmall sends_text
@@ -500,7 +508,7 @@ outputs-fin b c m =
     moves-cond (c.fin_wanted && (not c.fin_sent && (length (unsent c) == 0))) b (record (sends r c) { fin_sent = true }) c (finished (sends r c) (sent-moves r b c (segment-ours 17 (snd_nxt c) [] c (omega arith) (omega arith)) m)) m
   where
     finished : (d : Block) → Moves b d → Moves b (record d { fin_sent = true })
-    finished d n = let k = n.keeps in record { opened = n.opened; keeps = record { recv = k.recv; send = k.send; mss = k.mss; ours = k.ours; taken = k.taken; from = k.from; offered = k.offered } }
+    finished d n = let k = n.keeps in record { opened = n.opened; keeps = record { recv = k.recv; send = k.send; mss = k.mss; ours = k.ours; taken = k.taken; from = k.from; offered = k.offered; out = k.out; wanted = k.wanted } }
 
 outputs-ack : (n : ℕ) (b c : Block) → Moves b c → Moves b (outputs_ack n c)
 unfolding outputs_ack
@@ -509,14 +517,14 @@ outputs-ack n b c m =
     quiet (cond (c.ack_due && (length c.replies == n)) (sends r c) c) (moves-cond (c.ack_due && (length c.replies == n)) b (sends r c) c (sent-moves r b c (ack-ours c) m) m)
   where
     quiet : (d : Block) → Moves b d → Moves b (record d { ack_due = false })
-    quiet d n = let k = n.keeps in record { opened = n.opened; keeps = record { recv = k.recv; send = k.send; mss = k.mss; ours = k.ours; taken = k.taken; from = k.from; offered = k.offered } }
+    quiet d n = let k = n.keeps in record { opened = n.opened; keeps = record { recv = k.recv; send = k.send; mss = k.mss; ours = k.ours; taken = k.taken; from = k.from; offered = k.offered; out = k.out; wanted = k.wanted } }
 
 sets-deadline : (o : Option ℕ) (b c : Block) → Moves b c → Moves b (record c { retransmit_at = o })
-sets-deadline o b c m = let k = m.keeps in record { opened = m.opened; keeps = record { recv = k.recv; send = k.send; mss = k.mss; ours = k.ours; taken = k.taken; from = k.from; offered = k.offered } }
+sets-deadline o b c m = let k = m.keeps in record { opened = m.opened; keeps = record { recv = k.recv; send = k.send; mss = k.mss; ours = k.ours; taken = k.taken; from = k.from; offered = k.offered; out = k.out; wanted = k.wanted } }
 
 starting : (o : Option ℕ) (b c : Block) → Moves b c → Moves b (starts o c)
 starting (Some at) b c m = m
-starting None b c m = let k = m.keeps in record { opened = m.opened; keeps = record { recv = k.recv; send = k.send; mss = k.mss; ours = k.ours; taken = k.taken; from = k.from; offered = k.offered } }
+starting None b c m = let k = m.keeps in record { opened = m.opened; keeps = record { recv = k.recv; send = k.send; mss = k.mss; ours = k.ours; taken = k.taken; from = k.from; offered = k.offered; out = k.out; wanted = k.wanted } }
 
 outputs-deadline : (b c : Block) → Moves b c → Moves b (outputs_deadline c)
 unfolding outputs_deadline
@@ -574,10 +582,10 @@ retransmitting LastAck b c m = sends-again b c m
 retransmitting TimeWait b c m = sends-again b c m
 
 at-time : (n : ℕ) (b c : Block) → Moves b c → Moves b (record c { clock = n })
-at-time n b c m = let k = m.keeps in record { opened = m.opened; keeps = record { recv = k.recv; send = k.send; mss = k.mss; ours = k.ours; taken = k.taken; from = k.from; offered = k.offered } }
+at-time n b c m = let k = m.keeps in record { opened = m.opened; keeps = record { recv = k.recv; send = k.send; mss = k.mss; ours = k.ours; taken = k.taken; from = k.from; offered = k.offered; out = k.out; wanted = k.wanted } }
 
 counted : (n rto : ℕ) (o : Option ℕ) (b c : Block) → Moves b c → Moves b (record c { retransmissions = n; rto = rto; retransmit_at = o })
-counted n rto o b c m = let k = m.keeps in record { opened = m.opened; keeps = record { recv = k.recv; send = k.send; mss = k.mss; ours = k.ours; taken = k.taken; from = k.from; offered = k.offered } }
+counted n rto o b c m = let k = m.keeps in record { opened = m.opened; keeps = record { recv = k.recv; send = k.send; mss = k.mss; ours = k.ours; taken = k.taken; from = k.from; offered = k.offered; out = k.out; wanted = k.wanted } }
 
 fires-again : (at : ℕ) (b c : Block) → Moves b c → Moves b (fires (retransmission at) c)
 unfolding fires
@@ -611,7 +619,7 @@ unfolding tcp_time firings to_listen
 time-new to b e = ap (tcp_time to) e
 
 later-keeps : (n : ℕ) (b : Block) → IsValid b → Keeps b (record b { clock = n })
-later-keeps n b v = record { recv = v.recv; send = v.send; mss = v.mss; ours = v.ours; taken = refl; from = omega arith; offered = omega arith }
+later-keeps n b v = record { recv = v.recv; send = v.send; mss = v.mss; ours = v.ours; taken = refl; from = omega arith; offered = omega arith; out = none-gone b.acked b.out; wanted = λ e. e }
 
 pub time-moved : (to : ℕ) (b : Block) → IsValid b → Moved b (tcp_time to b)
 unfolding tcp_time firings
@@ -639,7 +647,7 @@ cap-receiving want n q h r =
 
 capped : (n : ℕ) (b : Block) → is_listen b.state ≡ false → n ≤ 65535 → IsValid b → Moved b (record b { want = n; recv = with_cap n b.recv })
 unfolding with_cap
-capped n b e h v = moves (record { opened = e; keeps = record { recv = cap-receiving b.want n b.recv h v.recv; send = v.send; mss = v.mss; ours = v.ours; taken = refl; from = omega arith; offered = omega arith } })
+capped n b e h v = moves (record { opened = e; keeps = record { recv = cap-receiving b.want n b.recv h v.recv; send = v.send; mss = v.mss; ours = v.ours; taken = refl; from = omega arith; offered = omega arith; out = none-gone b.acked b.out; wanted = λ e. e } })
 
 asked-new : (n : ℕ) (b : Block) → b ≡ to_listen b → record b { want = n; recv = empty_recv n } ≡ to_listen (record b { want = n; recv = empty_recv n })
 unfolding to_listen
@@ -657,7 +665,7 @@ buffers LastAck n b e h v = capped n b (ap is_listen e) h v
 buffers TimeWait n b e h v = capped n b (ap is_listen e) h v
 
 pub wanting : (st : State) (b : Block) → is_listen st ≡ false → IsValid b → Moves b (wants_fin st b)
-wanting st b e v = let k = valid-keeps b v in record { opened = e; keeps = record { recv = k.recv; send = k.send; mss = k.mss; ours = k.ours; taken = k.taken; from = k.from; offered = k.offered } }
+wanting st b e v = let k = valid-keeps b v in record { opened = e; keeps = record { recv = k.recv; send = k.send; mss = k.mss; ours = k.ours; taken = k.taken; from = k.from; offered = k.offered; out = k.out; wanted = λ f. absurd (false≢true (sym f)) } }
 
 closes-in : (st : State) (b : Block) → IsValid b → Says b (close_in st b).verdict
 closes-in Listen b v = stays b v
