@@ -18,3 +18,4 @@ pub mod Answered
 pub mod Threads
 pub mod Missing
 mod Records
+pub mod Runs

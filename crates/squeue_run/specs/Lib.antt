@@ -4,3 +4,4 @@ pub mod Asked
 pub mod CallWords
 pub mod Lines
 pub mod Ran
+pub mod Causes
