@@ -1,1 +1,4 @@
 mod SoFar
+pub mod Rising
+pub mod Settling
+mod WholeOrders

@@ -74,6 +74,7 @@ impl Calls {
         requires { j < 4 }
         ensures value { result ≡ length (calls_of self.now j) }
         ensures most { result ≤ 1024 }
+        ensures threads { length self.now ≡ 4 }
     {
         self.thread(j).len() as u32
     }
@@ -92,6 +93,7 @@ impl Calls {
         requires { j < 4 }
         ensures value { result.now ≡ calls_of self.now j }
         ensures most { length result.now ≤ 1024 }
+        ensures threads { length self.now ≡ 4 }
     {
         match j {
             0 => self.first.as_slice(),

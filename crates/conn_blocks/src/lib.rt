@@ -5,6 +5,7 @@
 
 mod block;
 mod calls;
+pub mod laws;
 
 pub use block::{Block, serve_one};
 pub use calls::Calls;

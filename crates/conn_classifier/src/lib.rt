@@ -8,6 +8,7 @@ mod ahead;
 mod decoding;
 mod items;
 mod kinds;
+pub mod laws;
 mod making;
 mod planned;
 mod rings;

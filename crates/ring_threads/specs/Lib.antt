@@ -1,1 +1,2 @@
+pub mod PlainOrder
 pub mod ServedBlocks

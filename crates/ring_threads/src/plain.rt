@@ -1,10 +1,13 @@
 //! All connections of a plan, served by one thread.
 
-ghost use Rattle.std.specs.Prelude.{◌≡◌, ◌++◌, ◌+◌, ◌-◌, ◌<◌, ◌≤◌, length, take, drop, IfOk};
+ghost use Rattle.std.specs.Prelude.{◌≡◌, ◌++◌, ◌+◌, ◌-◌, ◌*◌, ◌/◌, ◌<◌, ◌≤◌, nat_le, length, map, take, drop, IfOk};
 ghost use Rattle.std.specs.List.{AllByRecursion};
+ghost use Rattle.perimeter_core.specs.declared.entries.Act.TheVariants as Act;
 ghost use Rattle.conn_classifier.specs.Plan.{items_in};
 ghost use Rattle.conn_blocks.specs.ServeOrder.{IsActOf, IsCallOn, FeedsRise};
-ghost use Rattle.ring_threads.specs.ServedBlocks.{AreServed};
+ghost use Rattle.conn_blocks.specs.Orders.{numbers_on, IsWhole};
+ghost use Rattle.ring_threads.specs.PlainOrder.{asked_by};
+ghost use Rattle.ring_threads.specs.ServedBlocks.{AreServed, AreWhole};
 
 use crate::served::Served;
 use conn_blocks::{Act, Calls, serve_one};
@@ -19,6 +22,8 @@ fn push_calls(acts: &mut Vec<Act>, calls: &Calls, c: u32, j: u32) -> Result<(), 
     requires calls { AllByRecursion (IsCallOn calls.now c) acts.old.items }
     ensures calls { IfOk result (λ _. AllByRecursion (IsCallOn calls.now c) acts.new.items) }
     ensures few { IfOk result (λ _. length acts.new.items ≤ length acts.old.items + 1024) }
+    ensures added { IfOk result (λ _. acts.new.items ≡ acts.old.items ++ map (Act.Call j) (numbers_on calls.now c j)) }
+    ensures threads { length calls.now ≡ 4 }
 {
     for k in 0..calls.len(j) {
         if calls.get(j, k).0 == c {
@@ -32,6 +37,8 @@ fn push_calls(acts: &mut Vec<Act>, calls: &Calls, c: u32, j: u32) -> Result<(), 
 fn calls_on(alloc: Global, calls: &Calls, c: u32) -> Result<Vec<Act>, AllocError>
     ensures calls { IfOk result (λ v. AllByRecursion (IsCallOn calls.now c) v.items) }
     ensures few { IfOk result (λ v. length v.items ≤ 4096) }
+    ensures all { IfOk result (λ v. v.items ≡ asked_by calls.now c 4) }
+    ensures threads { IfOk result (λ _. length calls.now ≡ 4) }
 {
     let mut acts = Vec::new(alloc);
     for j in 0..THREADS {
@@ -53,6 +60,7 @@ fn push_due(
     requires few { length asked.now ≤ 4096 }
     ensures within { IfOk result (λ next. (made ≤ next) × (next ≤ length asked.now)) }
     ensures added { IfOk result (λ next. order.new.items ≡ order.old.items ++ take (next - made) (drop made asked.now)) }
+    ensures last { n + 1 ≡ items → IfOk result (λ next. next ≡ length asked.now) }
 {
     let mut next = made;
     while next < asked.len() && is_due(next, asked.len(), n, items) {
@@ -66,6 +74,7 @@ fn push_due(
 fn is_due(i: usize, m: usize, n: u32, items: u32) -> bool
     requires call { i < m }
     requires few { m ≤ 4096 }
+    ensures { result ≡ nat_le (i * items / m) n }
 {
     i as u64 * u64::from(items) / m as u64 <= u64::from(n)
 }
@@ -76,6 +85,7 @@ fn order_of(alloc: Global, plan: &Plan, calls: &Calls, c: u32) -> Result<Vec<Act
     ensures acts { IfOk result (λ v. AllByRecursion (IsActOf plan.now calls.now c) v.items) }
     ensures rising { IfOk result (λ v. FeedsRise 0 v.items) }
     ensures few { IfOk result (λ v. length v.items ≤ length (items_in plan.now c) + 4096) }
+    ensures whole { IfOk result (λ v. IsWhole plan.now calls.now c v.items) }
 {
     let asked = calls_on(alloc, calls, c)?;
     let items = plan.items(c);
@@ -88,9 +98,10 @@ fn order_of(alloc: Global, plan: &Plan, calls: &Calls, c: u32) -> Result<Vec<Act
     Ok(order)
 }
 
-/// Serves every connection on this thread, one after another.
+/// Serves every connection on this thread, one after another, each with all its items and calls.
 pub fn serve_plain(alloc: Global, plan: &Plan, calls: &Calls) -> Result<Served, AllocError>
-    ensures { IfOk result (AreServed plan.now calls.now) }
+    ensures served { IfOk result (AreServed plan.now calls.now) }
+    ensures whole { IfOk result (AreWhole plan.now calls.now) }
 {
     let mut blocks = Vec::with_capacity(alloc, plan.conns() as usize)?;
     for c in 0..plan.conns() {
