@@ -1,0 +1,3 @@
+pub mod Names
+pub mod ReportText
+pub mod SummaryText

@@ -1,10 +1,16 @@
 //! The words of a report.
 
+ghost use Rattle.std.specs.Prelude.{◌≡◌};
+ghost use Rattle.squeue_report.specs.Names.{state_word, service_word};
+
 use echo_services::Service;
 use tcb_machine::State;
 
 /// The state's name as RFC 9293, 3.3.2, has it.
-pub fn state_name(state: State) -> &'static str {
+#[tactic(auto, unfolding(crate::specs::Names::state_word))]
+pub fn state_name(state: State) -> &'static str
+    ensures { result.now ≡ state_word state }
+{
     match state {
         State::Listen => "LISTEN",
         State::SynReceived => "SYN-RECEIVED",
@@ -18,7 +24,10 @@ pub fn state_name(state: State) -> &'static str {
     }
 }
 
-pub fn service_name(service: Service) -> &'static str {
+#[tactic(auto, unfolding(crate::specs::Names::service_word))]
+pub fn service_name(service: Service) -> &'static str
+    ensures { result.now ≡ service_word service }
+{
     match service {
         Service::Echo => "echo",
         Service::Discard => "discard",

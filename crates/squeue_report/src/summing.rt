@@ -1,6 +1,9 @@
 //! The line that sums up a generated run.
 
-ghost use Rattle.std.specs.Prelude.{◌≡◌, ◌<◌, ◌≤◌, ◌^◌, ◌*◌, length};
+ghost use Rattle.std.specs.Prelude.{◌≡◌, ◌≤◌, ◌^◌, ◌*◌, ◌++◌, length, map, IfOk, OnOk, sum_by, string_bytes};
+ghost use Rattle.conn_blocks.specs.CallLists.{CallLists};
+ghost use Rattle.ring_threads.specs.ServedBlocks.{AreServed};
+ghost use Rattle.squeue_report.specs.SummaryText.{check_of, text_size, digits_of, summary_line, summary_text};
 
 use crate::reporting::report;
 use conn_classifier::Plan;
@@ -10,7 +13,10 @@ use std::alloc::{AllocError, Global};
 use tcb_machine::Tcb;
 
 /// The check value of a report: each byte in turn, at the multiplier of the 64-bit FNV hash, from 0.
-fn check_of(text: &[u8]) -> u64 {
+#[tactic(auto, unfolding(crate::specs::SummaryText::check_of))]
+fn check_of(text: &[u8]) -> u64
+    ensures { result ≡ check_of text.now }
+{
     let mut check = 0u64;
     for byte in text {
         check = check
@@ -23,6 +29,8 @@ fn check_of(text: &[u8]) -> u64 {
 /// The number of replies, and the bytes of text in them.
 fn totals(plan: &Plan, served: &Served) -> (u128, u128)
     requires { length served.now ≡ length plan.now.tuples }
+    ensures replies { result.0 ≡ sum_by (λ b. length b.tcb.replies) served.now }
+    ensures octets { result.1 ≡ sum_by (λ b. text_size b.tcb.replies) served.now }
 {
     let mut replies = 0u128;
     let mut octets = 0u128;
@@ -36,7 +44,8 @@ fn totals(plan: &Plan, served: &Served) -> (u128, u128)
 
 /// The bytes of text in a connection's replies.
 fn octets_of(tcb: &Tcb) -> u128
-    ensures { result ≤ 1460 * 2 ^ 64 }
+    ensures value { result ≡ text_size tcb.now.replies }
+    ensures most { result ≤ 1460 * 2 ^ 64 }
 {
     let mut octets = 0u128;
     for i in 0..tcb.replies() {
@@ -45,7 +54,44 @@ fn octets_of(tcb: &Tcb) -> u128
     octets
 }
 
+/// What a summary counts.
+#[derive(Clone, Copy, Debug)]
+struct Sums {
+    bytes: usize,
+    records: u32,
+    conns: u32,
+    replies: u128,
+    octets: u128,
+}
+
+/// The check value's sixteen digits.
+fn digits_of(alloc: Global, check: u64) -> Result<String, AllocError>
+    ensures { IfOk result (λ text. string_bytes text ≡ digits_of check) }
+{
+    hex::encode(alloc, check.to_be_bytes().as_slice())
+}
+
+/// The summary's line.
+fn push_line(text: &mut String, number: u32, sums: &Sums, check: &str) -> Result<(), AllocError>
+    ensures { OnOk result (string_bytes text.new ≡ string_bytes text.old
+        ++ summary_line number sums.now.bytes sums.now.records sums.now.conns sums.now.replies sums.now.octets check.now) }
+{
+    write!(
+        text,
+        "generated {number} bytes {} records {}",
+        sums.bytes, sums.records
+    )?;
+    write!(
+        text,
+        " connections {} replies {} octets {}",
+        sums.conns, sums.replies, sums.octets
+    )?;
+    writeln!(text, " check {check}")?;
+    Ok(())
+}
+
 /// The summary of the run over the input generated for `number`.
+#[tactic(auto, using(crate::proofs::Sums::replies_are, crate::proofs::Sums::octets_are), unfolding(crate::specs::SummaryText::summary_text))]
 pub fn summary(
     alloc: Global,
     number: u32,
@@ -54,14 +100,20 @@ pub fn summary(
     served: &Served,
 ) -> Result<Octets, AllocError>
     requires { length served.now ≡ length plan.now.tuples }
+    ensures { IfOk result (λ text. (calls : CallLists) → AreServed plan.now calls served.now
+        → text ≡ summary_text number input.now plan.now calls (map (λ b. b.order) served.now)) }
 {
     let check = check_of(report(alloc, plan, served)?.as_slice());
     let (replies, octets) = totals(plan, served);
-    let bytes = input.len();
-    let records = plan.counts().records;
-    let conns = plan.conns();
-    let text = format!(in alloc;
-        "generated {number} bytes {bytes} records {records} connections {conns} replies {replies} octets {octets} check {check:016x}\n"
-    )?;
+    let sums = Sums {
+        bytes: input.len(),
+        records: plan.counts().records,
+        conns: plan.conns(),
+        replies,
+        octets,
+    };
+    let digits = digits_of(alloc, check)?;
+    let mut text = String::new(alloc);
+    push_line(&mut text, number, &sums, digits.as_str())?;
     Ok(Octets::wrap(text.into_bytes()))
 }

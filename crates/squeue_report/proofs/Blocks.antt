@@ -1,0 +1,90 @@
+-- The text of all connections, by their blocks and by their orders.
+use Rattle.std.proofs.Common.{◌≡◌, ℕ, ◌+◌, ◌<◌, ◌≤◌, List, [], ◌∷◌, ◌++◌, suc, zero, length, drop, get_or, map, slice_get, codes, Option, Some, None, IfSome, refl, sym, ap, subst, ◌∙◌, append_assoc, arith, add-one}
+use Rattle.std.specs.List.{flat_map, enumerate_from}
+use Rattle.std.specs.Option.{option_map}
+use Rattle.std.proofs.lemmas.List.{drop_all, append-nil}
+use Rattle.std.proofs.lemmas.Option.{get_or_from_slice_get, slice_get-map}
+use Rattle.perimeter_core.specs.declared.entries.Act.{Act}
+use Rattle.sq_base.specs.declared.kinds.Tuple.{Tuple}
+use Rattle.conn_classifier.specs.Plan.{PlanOf}
+use Rattle.conn_blocks.specs.CallLists.{CallLists}
+use Rattle.conn_blocks.specs.ServeOrder.{BlockOf, serve, serving_of}
+use Rattle.ring_threads.specs.ServedBlocks.{AreServed}
+use Rattle.squeue_report.specs.ReportText.{conn_text, line, counts_line, report_text}
+
+-- the connections from number c on, each with its block
+abbrev pub blocks_text : ℕ → List Tuple → List BlockOf → List ℕ
+blocks_text c [] bs = []
+blocks_text c (t ∷ ts) [] = []
+blocks_text c (t ∷ ts) (b ∷ bs) = conn_text c t b.order (serving_of b) ++ blocks_text (c + 1) ts bs
+
+from_place : {X : Type 0} (xs : List X) (c : ℕ) (x : X) → slice_get xs c ≡ Some x → drop c xs ≡ x ∷ drop (c + 1) xs
+from_place [] zero x e = cc
+from_place [] (suc c) x e = cc
+from_place (y ∷ xs) zero x e = let same : y ≡ x = cc in ap (λ z. z ∷ xs) same
+from_place (y ∷ xs) (suc c) x e = rw add-one (let more = from_place xs c x e in rw add-one at more)
+
+-- one connection more
+pub block_more : (ts : List Tuple) (bs : List BlockOf) (whole was new : List ℕ) (c : ℕ) (t : Tuple) (b : BlockOf)
+    → was ++ blocks_text c (drop c ts) (drop c bs) ≡ whole → slice_get ts c ≡ Some t → slice_get bs c ≡ Some b
+    → new ≡ was ++ conn_text c t b.order (serving_of b) → new ++ blocks_text (c + 1) (drop (c + 1) ts) (drop (c + 1) bs) ≡ whole
+block_more ts bs whole was new c t b so_far e f n =
+    let tuples = from_place ts c t e in
+    let blocks = from_place bs c b f in
+    let rest = blocks_text (c + 1) (drop (c + 1) ts) (drop (c + 1) bs) in
+    ap (λ l. l ++ rest) n ∙ append_assoc was (conn_text c t b.order (serving_of b)) rest
+    ∙ sym ((λ k. was ++ blocks_text c (tuples k) (blocks k))) ∙ so_far
+
+-- all connections
+pub blocks_end : (ts : List Tuple) (bs : List BlockOf) (text whole : List ℕ) (c : ℕ) → length ts ≤ c → text ++ blocks_text c (drop c ts) (drop c bs) ≡ whole → text ≡ whole
+blocks_end ts bs text whole c past h =
+    sym (append-nil text) ∙ sym (ap (λ l. text ++ blocks_text c l (drop c bs)) (drop_all c ts past)) ∙ h
+
+module _ (p : PlanOf) (calls : CallLists) (orders : List (List Act)) where
+  abbrev pub told : ℕ × Tuple → List ℕ
+  told (c, t) = conn_text c t (get_or orders c []) (serve p calls c (get_or orders c []))
+
+  -- a block is the serving of the order of its number
+  abbrev pub Agrees : ℕ → BlockOf → Type 0
+  Agrees c b = (serving_of b ≡ serve p calls c b.order) × (get_or orders c [] ≡ b.order)
+
+  pub agree : (i : ℕ) (ts : List Tuple) (bs : List BlockOf) → length bs ≡ length ts
+      → ((k c : ℕ) → c ≡ i + k → k < length ts → IfSome (slice_get bs k) (Agrees c))
+      → blocks_text i ts bs ≡ flat_map told (enumerate_from i ts)
+  agree i [] bs same each = refl
+  agree i (t ∷ ts) [] same each = absurd (let no : ⊥ = omega arith in no)
+  agree i (t ∷ ts) (b ∷ bs) same each =
+      let here : Agrees i b = each 0 i (omega arith) (omega arith) in
+      let order = sym here.1 in
+      let rest : blocks_text (i + 1) ts bs ≡ flat_map told (enumerate_from (i + 1) ts) = agree (i + 1) ts bs (omega arith) (λ k c e lt. each (suc k) c (omega arith) (omega (arith, lt))) in
+      ap (λ s. conn_text i t b.order s ++ blocks_text (i + 1) ts bs) here.0
+      ∙ (λ k. conn_text i t (order k) (serve p calls i (order k)) ++ rest k)
+
+pub agrees : (p : PlanOf) (calls : CallLists) (bs : List BlockOf) → AreServed p calls bs → (k c : ℕ) → c ≡ 0 + k → k < length p.tuples
+    → IfSome (slice_get bs k) (Agrees p calls (map (λ b. b.order) bs) c)
+agrees p calls bs served k c e lt =
+    let same : k ≡ c = omega arith in
+    let short : c < length p.tuples = omega arith in
+    subst (λ n. IfSome (slice_get bs n) (Agrees p calls (map (λ b. b.order) bs) c)) (sym same)
+    (IfSome_known (slice_get bs c) (served.each c short) (λ b there h. (h.served, order_at b there)))
+  where
+    IfSome_known : (r : Option BlockOf) {P Q : BlockOf → Type 0} → IfSome r P → ((x : BlockOf) → r ≡ Some x → P x → Q x) → IfSome r Q
+    IfSome_known None h f = tt
+    IfSome_known (Some x) h f = f x refl h
+
+    order_at : (b : BlockOf) → slice_get bs c ≡ Some b → get_or (map (λ x. x.order) bs) c [] ≡ b.order
+    order_at b there = get_or_from_slice_get (map (λ x. x.order) bs) c b.order [] (slice_get-map (λ x. x.order) bs c ∙ ap (option_map (λ x. x.order)) there)
+
+-- the whole text
+pub reported : (p : PlanOf) (calls : CallLists) (bs : List BlockOf) (first counts conns text : List ℕ) → AreServed p calls bs
+    → first ≡ line (codes "report" ∷ codes "1" ∷ []) → counts ≡ first ++ counts_line p.counts (length p.tuples) → conns ≡ counts ++ blocks_text 0 p.tuples bs
+    → text ≡ conns ++ line (codes "done" ∷ []) → text ≡ report_text p calls (map (λ b. b.order) bs)
+unfolding report_text
+reported p calls bs first counts conns text served f n c t =
+    let body = agree p calls (map (λ b. b.order) bs) 0 p.tuples bs served.count (agrees p calls bs served) in
+    let head = line (codes "report" ∷ codes "1" ∷ []) in
+    let mid = counts_line p.counts (length p.tuples) in
+    let done = line (codes "done" ∷ []) in
+    t ∙ ap (λ l. l ++ done) (c ∙ (λ k. (n ∙ ap (λ l. l ++ mid) f) k ++ body k))
+    ∙ append_assoc (head ++ mid) (flat_map (told p calls (map (λ b. b.order) bs)) (enumerate_from 0 p.tuples)) done
+    ∙ append_assoc head mid (flat_map (told p calls (map (λ b. b.order) bs)) (enumerate_from 0 p.tuples) ++ done)
