@@ -19,3 +19,5 @@ pub mod Threads
 pub mod Missing
 mod Records
 pub mod Runs
+pub mod Reports
+pub mod Complete

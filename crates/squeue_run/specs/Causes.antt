@@ -11,7 +11,8 @@ use Rattle.squeue_run.specs.declared.calls.CallWord.{CallWord}
 use Rattle.squeue_run.specs.declared.refusal.Refusal.{Refusal}
 use Rattle.squeue_run.specs.declared.refusal.Refusal.TheVariants as refusal
 use Rattle.squeue_run.specs.Lines.{usage_line, memory_line, read_line, bad_line, many_bytes_line, many_records_line, missing_line}
-use Rattle.squeue_run.specs.Ran.{End, GetsLine, IsReport, IsSummary, IsUntouched, Reads, conns_of}
+use Rattle.squeue_run.specs.Output.{IsReport, IsSummary}
+use Rattle.squeue_run.specs.Ran.{End, GetsLine, IsUntouched, Reads, conns_of}
 
 -- the line and the status of a refusal; where memory for the line is missing, that is the refusal
 abbrev pub LineOrMemory : Status → List ℕ → End → Status → Type 0
@@ -33,7 +34,7 @@ Told (refusal.NoConnection c conns) err s = LineOrMemory status.NoConnection (mi
 
 -- what the replay of a capture gives, or why it gives nothing
 abbrev pub Replays : CaptureFile → Asked → List ℕ → Type 0
-Replays file a text = AllThere (conns_of file a.verify) a.calls × IsReport file a text
+Replays file a text = AllThere (conns_of file a.verify) a.calls × IsReport file a.verify a.calls text
 
 abbrev pub ReplayFails : CaptureFile → Asked → Refusal → Type 0
 ReplayFails file a refusal.NoMemory = Unit {0}

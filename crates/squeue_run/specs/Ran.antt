@@ -10,6 +10,7 @@ use Rattle.capture_reader.specs.declared.fault.CaptureFault.TheVariants as fault
 use Rattle.conn_classifier.specs.Plan.{plan_of}
 use Rattle.squeue_run.specs.Asked.{Asked}
 use Rattle.squeue_run.specs.CallWords.{AllThere, IsFirstMissing}
+use Rattle.squeue_run.specs.Output.{IsReport, IsSummary}
 use Rattle.squeue_run.specs.Lines.{usage_line, memory_line, read_line, write_line, bad_line, many_bytes_line, many_records_line, missing_line}
 
 -- an end before and after the call: its bytes, where they are known, and its count of faults
@@ -66,14 +67,6 @@ IsBad fault.NoMemory = ⊥
 abbrev pub conns_of : CaptureFile → Bool → ℕ
 conns_of file verify = length (plan_of file verify).tuples
 
--- the report of a capture
-abbrev pub IsReport : CaptureFile → Asked → List ℕ → Type 0
-IsReport file a text = Unit {0}
-
--- the summary of a generated run
-abbrev pub IsSummary : ℕ → Bool → List ℕ → Type 0
-IsSummary number verify text = Unit {0}
-
 -- refused words
 abbrev pub RanRefused : End → End → Status → Type 0
 RanRefused out err status.Usage = OnlyTells out err usage_line
@@ -92,9 +85,9 @@ RanGenerated number verify out err _ = ⊥
 -- an input that was read
 abbrev pub RanRead : Asked → End → End → End → Status → Type 0
 RanRead a source out err status.Ok =
-    (file : CaptureFile) × Reads source file × AllThere (conns_of file a.verify) a.calls × GetsWhole (IsReport file a) out × IsUntouched err
+    (file : CaptureFile) × Reads source file × AllThere (conns_of file a.verify) a.calls × GetsWhole (IsReport file a.verify a.calls) out × IsUntouched err
 RanRead a source out err status.WriteFault =
-    (file : CaptureFile) × Reads source file × AllThere (conns_of file a.verify) a.calls × GetsFront (IsReport file a) out × GetsLine err write_line
+    (file : CaptureFile) × Reads source file × AllThere (conns_of file a.verify) a.calls × GetsFront (IsReport file a.verify a.calls) out × GetsLine err write_line
 RanRead a source out err status.NoConnection =
     (file : CaptureFile) × Reads source file × ((c : ℕ) × IsFirstMissing (conns_of file a.verify) c a.calls × OnlyTells out err (missing_line c (conns_of file a.verify)))
 RanRead a source out err status.BadCapture = (why : CaptureFault) × IsBad why × ReadsRefused source.was source.is why × OnlyTells out err (bad_line why)
@@ -113,3 +106,25 @@ RanBy None a source out err s = RanRead a source out err s
 abbrev pub Ran : Option Asked → End → End → End → Status → Type 0
 Ran None source out err s = IsUntouched source × RanRefused out err s
 Ran (Some a) source out err s = RanBy a.number a source out err s
+
+-- what a source has left is a capture within the size, with a connection for each CALL
+pub record HoldsCapture (a : Asked) (left : Option (List ℕ)) : Type 0 where
+  pub file : CaptureFile
+  pub bytes : left ≡ Some file.bytes
+  pub capture : IsCapture file
+  pub there : AllThere (conns_of file a.verify) a.calls
+
+abbrev pub AcceptsBy : Option ℕ → Asked → Option (List ℕ) → Type 0
+AcceptsBy (Some number) a left = ⊥
+AcceptsBy None a left = HoldsCapture a left
+
+-- the words are accepted, and so is what the source has left
+abbrev pub Accepts : Option Asked → Option (List ℕ) → Type 0
+Accepts None left = ⊥
+Accepts (Some a) left = AcceptsBy a.number a left
+
+-- the whole output was written, or memory was missing
+abbrev pub IsDone : Status → Type 0
+IsDone status.Ok = Unit {0}
+IsDone status.NoMemory = Unit {0}
+IsDone _ = ⊥

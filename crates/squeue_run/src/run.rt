@@ -1,10 +1,12 @@
 //! The top call: from the words and the bytes of a capture to the bytes of a report.
 
-ghost use Rattle.std.specs.Prelude.{map, MatchOption, MatchResult};
+ghost use Rattle.std.specs.Prelude.{◌≡◌, map, MatchOption, MatchResult};
 ghost use Rattle.std.specs.String.{string_bytes};
 ghost use Rattle.squeue_run.specs.Asked.{asked};
-ghost use Rattle.squeue_run.specs.CallWords.{AllThere, IsFirstMissing};
-ghost use Rattle.squeue_run.specs.Ran.{Ran, IsSummary};
+ghost use Rattle.squeue_run.specs.CallWords.{AllThere, IsFirstMissing, lists_of};
+ghost use Rattle.sq_base.specs.Ends.{Rose};
+ghost use Rattle.squeue_run.specs.Output.{IsSummary};
+ghost use Rattle.squeue_run.specs.Ran.{Ran, Accepts, IsDone};
 ghost use Rattle.squeue_run.specs.Causes.{Gives, Fails, GivesBy, FailsBy, Replays, ReplayFails, GeneratedFails};
 
 use crate::calls::CallWord;
@@ -14,6 +16,7 @@ use crate::reading::{Words, read_words};
 use crate::refusal::{Refusal, refuse};
 use crate::words::WordFault;
 use capture_reader::{Capture, parse_capture, read_capture};
+use conn_blocks::Calls;
 use conn_classifier::plan;
 use ring_threads::serve_plain;
 use sq_base::{Octets, Sink, Source, Status, put};
@@ -23,6 +26,26 @@ use std::thread::Threads;
 
 /// Reads the words and the input, serves it, and writes the report; or writes why not as one line to `err`.
 pub fn squeue_run<S: Source, K: Sink, E: Sink>(
+    rt: &(impl Threads + Sync),
+    alloc: Global,
+    words: &[String],
+    src: &mut S,
+    out: &mut K,
+    err: &mut E,
+) -> Status
+    ensures ran { Ran (asked (map (λ s. string_bytes s) words.now))
+        (record { was = S.rest src.old; is = S.rest src.new; faults_were = S.read_faults src.old; faults_are = S.read_faults src.new })
+        (record { was = K.contents out.old; is = K.contents out.new; faults_were = K.write_faults out.old; faults_are = K.write_faults out.new })
+        (record { was = E.contents err.old; is = E.contents err.new; faults_were = E.write_faults err.old; faults_are = E.write_faults err.new })
+        result }
+    ensures complete { Accepts (asked (map (λ s. string_bytes s) words.now)) (S.rest src.old)
+        → (Rose (S.read_faults src.old) (S.read_faults src.new) → ⊥) → (Rose (K.write_faults out.old) (K.write_faults out.new) → ⊥) → IsDone result }
+{
+    whole_run(rt, alloc, words, src, out, err)
+}
+
+/// The run; that it is complete follows from how it ends.
+fn whole_run<S: Source, K: Sink, E: Sink>(
     rt: &(impl Threads + Sync),
     alloc: Global,
     words: &[String],
@@ -73,6 +96,7 @@ fn output_for<S: Source>(
     words: &Words,
     src: &mut S,
 ) -> Result<Octets, Refusal>
+    requires { words.now.calls ≡ lists_of words.now.named.items }
     ensures { MatchResult result
         (GivesBy words.now.number (record { setup = words.now.setup; verify = words.now.verify; number = words.now.number; calls = words.now.named.items }) (record { was = S.rest src.old; is = S.rest src.new; faults_were = S.read_faults src.old; faults_are = S.read_faults src.new }))
         (FailsBy words.now.number (record { setup = words.now.setup; verify = words.now.verify; number = words.now.number; calls = words.now.named.items }) (record { was = S.rest src.old; is = S.rest src.new; faults_were = S.read_faults src.old; faults_are = S.read_faults src.new })) }
@@ -105,17 +129,20 @@ fn replayed(
     words: &Words,
     capture: &Capture,
 ) -> Result<Octets, Refusal>
+    requires { words.now.calls ≡ lists_of words.now.named.items }
     ensures { MatchResult result
         (Replays capture.now (record { setup = words.now.setup; verify = words.now.verify; number = words.now.number; calls = words.now.named.items }))
         (ReplayFails capture.now (record { setup = words.now.setup; verify = words.now.verify; number = words.now.number; calls = words.now.named.items })) }
 {
     let plan = plan(rt, alloc, capture, words.verify)?;
     let conns = plan.conns();
-    if let Some(c) = missing(&words.named, conns) {
-        return Err(Refusal::NoConnection { c, conns });
+    match missing(&words.named, conns) {
+        Some(c) => Err(Refusal::NoConnection { c, conns }),
+        None => {
+            let served = serve_plain(alloc, &plan, &words.calls)?;
+            Ok(report(alloc, &plan, &served)?)
+        }
     }
-    let served = serve_plain(alloc, &plan, &words.calls)?;
-    Ok(report(alloc, &plan, &served)?)
 }
 
 /// The summary of the run over the generated capture.
@@ -132,6 +159,6 @@ fn generated(
         Err(fault) => return Err(Refusal::Capture(fault)),
     };
     let plan = plan(rt, alloc, &capture, words.verify)?;
-    let served = serve_plain(alloc, &plan, &words.calls)?;
+    let served = serve_plain(alloc, &plan, &Calls::make(alloc))?;
     Ok(summary(alloc, number, capture.bytes(), &plan, &served)?)
 }
