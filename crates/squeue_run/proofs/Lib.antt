@@ -18,3 +18,6 @@ pub mod Answered
 pub mod Threads
 pub mod Missing
 mod Records
+mod GeneratorSteps
+mod GeneratorNumbers
+mod GeneratorReady

@@ -4,3 +4,5 @@ pub mod Asked
 pub mod CallWords
 pub mod Lines
 pub mod Ran
+pub mod GeneratedCapture
+pub mod GeneratorState
