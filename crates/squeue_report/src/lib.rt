@@ -4,6 +4,8 @@
 mod names;
 mod reporting;
 mod summing;
+#[cfg(test)]
+mod tests;
 
 pub use reporting::report;
 pub use summing::summary;

@@ -21,3 +21,6 @@ mod Records
 pub mod Runs
 pub mod Reports
 pub mod Complete
+mod GeneratorSteps
+mod GeneratorNumbers
+mod GeneratorReady

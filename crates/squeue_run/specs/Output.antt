@@ -10,6 +10,7 @@ use Rattle.conn_blocks.specs.Orders.{IsWhole}
 use Rattle.squeue_report.specs.ReportText.{report_text}
 use Rattle.squeue_report.specs.SummaryText.{summary_text}
 use Rattle.squeue_run.specs.CallWords.{lists_of}
+use Rattle.squeue_run.specs.GeneratedCapture.{generated}
 use Rattle.squeue_run.specs.declared.calls.CallWord.{CallWord}
 
 -- by number each connection's order: its captured items once, in capture order, and each call on it once, in its thread's order
@@ -28,8 +29,9 @@ pub record IsReport (file : CaptureFile) (verify : Bool) (calls : List CallWord)
   pub alone : calls ≡ [] → orders ≡ items_alone (plan_of file verify)
   pub says : text ≡ report_text (plan_of file verify) (lists_of calls) orders
 
--- the input that is generated for a number: a capture
+-- the input that is generated for a number
 pub record IsGenerated (number : ℕ) (file : CaptureFile) : Type 0 where
+  pub bytes : file.bytes ≡ generated number
   pub capture : IsCapture file
 
 -- the summary of the report of a generated input

@@ -1,0 +1,107 @@
+use crate::names::{service_name, state_name};
+use crate::{report, summary};
+use capture_reader::{Capture, parse_capture};
+use conn_blocks::Calls;
+use conn_classifier::plan;
+use echo_services::Service;
+use ring_threads::serve_plain;
+use sq_base::Octets;
+use std::test::Fail;
+use tcb_machine::{Call, State};
+
+/// A capture of one echo connection in five segments: the header, and the records.
+const FIVE: &str = concat!(
+    "d4c3b2a10200040000000000000000000000040065000000",
+    "000000000000000028000000280000004500002800004000400600000a0000010a0000020fa0000700000064000000005002100000000000",
+    "00000000e803000028000000280000004500002800004000400600000a0000010a0000020fa0000700000065000001f55010100000000000",
+    "00000000d00700002d0000002d0000004500002d00004000400600000a0000010a0000020fa0000700000065000001f5501810000000000068656c6c6f",
+    "00000000b80b000028000000280000004500002800004000400600000a0000010a0000020fa000070000006a000001fa5011100000000000",
+    "00000000a00f000028000000280000004500002800004000400600000a0000010a0000020fa000070000006b000001fb5010100000000000",
+);
+
+const FIVE_REPORT: &str = concat!(
+    "report 1\n",
+    "records 5 tail 0 served 5 nofit 0 server 0 other 0 fragment 0 cut 0 malformed 0 badsum 0 connections 1\n",
+    "conn 0 10.0.0.1:4000 10.0.0.2:7 echo\n",
+    "order f0-5\n",
+    "reply 0 4500002c00004000400626ca0a0000020a00000100070fa0000001f4000000656012ffff72140000020405b4\n",
+    "reply 2000 4500002d00004000400626c90a0000020a00000100070fa0000001f50000006a5018ffff45ed000068656c6c6f\n",
+    "reply 3000 4500002800004000400626ce0a0000020a00000100070fa0000001fa0000006b5011ffff89c50000\n",
+    "end LISTEN\n",
+    "done\n",
+);
+
+/// The same capture with calls: a close and a status of thread 0, a buffer of thread 1, two closes of thread 2.
+const CALLS_REPORT: &str = concat!(
+    "report 1\n",
+    "records 5 tail 0 served 5 nofit 0 server 0 other 0 fragment 0 cut 0 malformed 0 badsum 0 connections 1\n",
+    "conn 0 10.0.0.1:4000 10.0.0.2:7 echo\n",
+    "order c0.0 f0 c0.1 f1 c1.0 f2 c2.0 f3 c2.1 f4-5\n",
+    "reply 0 4500002c00004000400626ca0a0000020a00000100070fa0000001f4000000656012ffff72140000020405b4\n",
+    "reply 2000 4500002d00004000400626c90a0000020a00000100070fa0000001f50000006a5018fffa45f2000068656c6c6f\n",
+    "reply 2000 4500002800004000400626ce0a0000020a00000100070fa0000001fa0000006a5011fffa89cb0000\n",
+    "reply 3000 4500002800004000400626ce0a0000020a00000100070fa0000001fb0000006b5010fffa89ca0000\n",
+    "answer 0 0 notopen\n",
+    "answer 0 1 SYN-RECEIVED 0 0 0\n",
+    "answer 1 0 ok\n",
+    "answer 2 0 ok\n",
+    "answer 2 1 already\n",
+    "end TIME-WAIT\n",
+    "done\n",
+);
+
+fn five(rt: &HostRuntime) -> Result<Capture, Fail> {
+    let bytes = hex::decode(rt.alloc(), FIVE)?;
+    Ok(parse_capture(rt.alloc(), Octets::wrap(bytes))?)
+}
+
+#[test]
+fn five_segment_echo(rt: HostRuntime) -> Result<(), Fail> {
+    let capture = five(&rt)?;
+    let plan = plan(&rt, rt.alloc(), &capture, false)?;
+    let served = serve_plain(rt.alloc(), &plan, &Calls::make(rt.alloc()))?;
+    let text = report(rt.alloc(), &plan, &served)?;
+    assert_eq!(rt; text.as_slice(), FIVE_REPORT.as_bytes());
+    let line = summary(rt.alloc(), 7, capture.bytes(), &plan, &served)?;
+    assert_eq!(rt;
+        line.as_slice(),
+        b"generated 7 bytes 309 records 5 connections 1 replies 3 octets 5 check b5fcd616e44526af\n".as_slice()
+    );
+    Ok(())
+}
+
+#[test]
+fn answers_in_the_order_served(rt: HostRuntime) -> Result<(), Fail> {
+    let capture = five(&rt)?;
+    let plan = plan(&rt, rt.alloc(), &capture, false)?;
+    let mut calls = Calls::make(rt.alloc());
+    calls.push(0, 0, Call::Close)?;
+    calls.push(0, 0, Call::Status)?;
+    calls.push(1, 0, Call::Buffer(100))?;
+    calls.push(2, 0, Call::Close)?;
+    calls.push(2, 0, Call::Close)?;
+    let served = serve_plain(rt.alloc(), &plan, &calls)?;
+    let text = report(rt.alloc(), &plan, &served)?;
+    assert_eq!(rt; text.as_slice(), CALLS_REPORT.as_bytes());
+    Ok(())
+}
+
+#[test]
+fn names(rt: HostRuntime) {
+    let states = [
+        (State::Listen, "LISTEN"),
+        (State::SynReceived, "SYN-RECEIVED"),
+        (State::Established, "ESTABLISHED"),
+        (State::FinWait1, "FIN-WAIT-1"),
+        (State::FinWait2, "FIN-WAIT-2"),
+        (State::CloseWait, "CLOSE-WAIT"),
+        (State::Closing, "CLOSING"),
+        (State::LastAck, "LAST-ACK"),
+        (State::TimeWait, "TIME-WAIT"),
+    ];
+    for (state, name) in states {
+        assert_eq!(rt; state_name(state), name);
+    }
+    assert_eq!(rt; service_name(Service::Echo), "echo");
+    assert_eq!(rt; service_name(Service::Discard), "discard");
+}
