@@ -18,3 +18,9 @@ pub mod Answered
 pub mod Threads
 pub mod Missing
 mod Records
+pub mod Runs
+pub mod Reports
+pub mod Complete
+mod GeneratorSteps
+mod GeneratorNumbers
+mod GeneratorReady

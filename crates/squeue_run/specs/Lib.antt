@@ -3,4 +3,8 @@ pub mod Words
 pub mod Asked
 pub mod CallWords
 pub mod Lines
+pub mod GeneratedCapture
+pub mod GeneratorState
+pub mod Output
 pub mod Ran
+pub mod Causes

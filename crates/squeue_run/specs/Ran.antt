@@ -1,29 +1,56 @@
--- What is told where there is no report, and why a replay or a generated run gives none.
-use Rattle.std.specs.Prelude.{◌≡◌, ◌≢◌, ℕ, List, Option, length, ◌⊎◌, Bool}
-use Rattle.std.specs.Io.KnownBytes.{Appends}
-use Rattle.sq_base.specs.Ends.{Rose}
+-- How a run ends: by its status, what was read, what was written, and which line was told.
+use Rattle.std.specs.Prelude.{◌≡◌, ℕ, ◌<◌, List, Option, Some, None, length, ◌⊎◌, Bool}
+use Rattle.std.specs.Io.KnownBytes.{Keeps, Appends}
+use Rattle.sq_base.specs.Ends.{Rose, AppendsProperly}
 use Rattle.sq_base.specs.declared.kinds.Status.{Status}
 use Rattle.sq_base.specs.declared.kinds.Status.TheVariants as status
-use Rattle.capture_reader.specs.Outcome.{CaptureFile}
+use Rattle.capture_reader.specs.Outcome.{CaptureFile, IsCapture, IsRefused, ReadsWhole, ReadsRefused, TakesTooMany}
 use Rattle.capture_reader.specs.declared.fault.CaptureFault.{CaptureFault}
 use Rattle.capture_reader.specs.declared.fault.CaptureFault.TheVariants as fault
 use Rattle.conn_classifier.specs.Plan.{plan_of}
-use Rattle.squeue_run.specs.CallWords.{IsFirstMissing}
-use Rattle.squeue_run.specs.declared.calls.CallWord.{CallWord}
-use Rattle.squeue_run.specs.declared.refusal.Refusal.{Refusal}
-use Rattle.squeue_run.specs.declared.refusal.Refusal.TheVariants as refusal
-use Rattle.squeue_run.specs.Lines.{usage_line, memory_line, read_line, bad_line, many_bytes_line, many_records_line, missing_line}
+use Rattle.squeue_run.specs.Asked.{Asked}
+use Rattle.squeue_run.specs.CallWords.{AllThere, IsFirstMissing}
+use Rattle.squeue_run.specs.GeneratedCapture.{generated}
+use Rattle.squeue_run.specs.Output.{IsReport, IsSummary}
+use Rattle.squeue_run.specs.Lines.{usage_line, memory_line, read_line, write_line, bad_line, many_bytes_line, many_records_line, missing_line}
 
 -- an end before and after the call: its bytes, where they are known, and its count of faults
-pub record Port : Type 0 where
+pub record End : Type 0 where
   pub was : Option (List ℕ)
   pub is : Option (List ℕ)
   pub faults_were : ℕ
   pub faults_are : ℕ
 
+-- nothing happened there
+pub record IsUntouched (end : End) : Type 0 where
+  pub bytes : Keeps end.was end.is
+  pub faults : end.faults_are ≡ end.faults_were
+
 -- this line was appended, unless a write failed
-abbrev pub GetsLine : Port → List ℕ → Type 0
-GetsLine port text = (Rose port.faults_were port.faults_are → ⊥) → Appends port.was port.is text
+abbrev pub GetsLine : End → List ℕ → Type 0
+GetsLine end text = (Rose end.faults_were end.faults_are → ⊥) → Appends end.was end.is text
+
+-- nothing was written to `out`, and this line to `err`
+abbrev pub OnlyTells : End → End → List ℕ → Type 0
+OnlyTells out err text = IsUntouched out × GetsLine err text
+
+-- such an output was written whole
+pub record GetsWhole (IsOutput : List ℕ → Type 0) (out : End) : Type 0 where
+  pub text : List ℕ
+  pub output : IsOutput text
+  pub written : Appends out.was out.is text
+
+-- a write failed: a front of such an output was written, and not all of it
+pub record GetsFront (IsOutput : List ℕ → Type 0) (out : End) : Type 0 where
+  pub text : List ℕ
+  pub output : IsOutput text
+  pub written : AppendsProperly out.was out.is text
+  pub failed : Rose out.faults_were out.faults_are
+
+-- the source was read to its end: this capture, within the size
+pub record Reads (source : End) (file : CaptureFile) : Type 0 where
+  pub read : ReadsWhole source.was source.is file.bytes
+  pub capture : IsCapture file
 
 -- which refusals of a capture are a bad one
 abbrev pub IsBad : CaptureFault → Type 0
@@ -41,34 +68,66 @@ IsBad fault.NoMemory = ⊥
 abbrev pub conns_of : CaptureFile → Bool → ℕ
 conns_of file verify = length (plan_of file verify).tuples
 
--- the line and the status of a refusal; where memory for the line is missing, that is the refusal
-abbrev pub LineOrMemory : Status → List ℕ → Port → Status → Type 0
-LineOrMemory wanted text err s = ((s ≡ wanted) × GetsLine err text) ⊎ ((s ≡ status.NoMemory) × GetsLine err memory_line)
+-- refused words
+abbrev pub RanRefused : End → End → Status → Type 0
+RanRefused out err status.Usage = OnlyTells out err usage_line
+RanRefused out err status.NoMemory = OnlyTells out err memory_line
+RanRefused out err _ = ⊥
 
-abbrev pub Told : Refusal → Port → Status → Type 0
-Told refusal.NoMemory err s = (s ≡ status.NoMemory) × GetsLine err memory_line
-Told refusal.Usage err s = (s ≡ status.Usage) × GetsLine err usage_line
-Told (refusal.Capture fault.NoMemory) err s = (s ≡ status.NoMemory) × GetsLine err memory_line
-Told (refusal.Capture fault.Read) err s = (s ≡ status.ReadFault) × GetsLine err read_line
-Told (refusal.Capture (fault.TooLarge n)) err s = (s ≡ status.TooLarge) × GetsLine err many_bytes_line
-Told (refusal.Capture fault.TooManyRecords) err s = (s ≡ status.TooLarge) × GetsLine err many_records_line
-Told (refusal.Capture (fault.ShortHeader n)) err s = LineOrMemory status.BadCapture (bad_line (fault.ShortHeader n)) err s
-Told (refusal.Capture (fault.Magic magic)) err s = LineOrMemory status.BadCapture (bad_line (fault.Magic magic)) err s
-Told (refusal.Capture (fault.Version major minor)) err s = LineOrMemory status.BadCapture (bad_line (fault.Version major minor)) err s
-Told (refusal.Capture (fault.Link n)) err s = LineOrMemory status.BadCapture (bad_line (fault.Link n)) err s
-Told (refusal.Capture (fault.RecordLength index len)) err s = LineOrMemory status.BadCapture (bad_line (fault.RecordLength index len)) err s
-Told (refusal.NoConnection c conns) err s = LineOrMemory status.NoConnection (missing_line c conns) err s
+-- an input that was generated for a number
+abbrev pub RanGenerated : ℕ → Bool → End → End → Status → Type 0
+RanGenerated number verify out err status.Ok = GetsWhole (IsSummary number verify) out × IsUntouched err
+RanGenerated number verify out err status.WriteFault = GetsFront (IsSummary number verify) out × GetsLine err write_line
+RanGenerated number verify out err status.NoMemory = OnlyTells out err memory_line
+RanGenerated number verify out err status.BadCapture = (why : CaptureFault) × IsBad why × IsRefused (generated number) why × OnlyTells out err (bad_line why)
+RanGenerated number verify out err status.TooLarge =
+    ((67108864 < length (generated number)) × OnlyTells out err many_bytes_line)
+    ⊎ (IsRefused (generated number) fault.TooManyRecords × OnlyTells out err many_records_line)
+RanGenerated number verify out err _ = ⊥
 
--- why the replay of a capture with so many connections gave nothing
-abbrev pub ReplayFails : ℕ → List CallWord → Refusal → Type 0
-ReplayFails n calls refusal.NoMemory = Unit {0}
-ReplayFails n calls refusal.Usage = ⊥
-ReplayFails n calls (refusal.Capture f) = ⊥
-ReplayFails n calls (refusal.NoConnection c conns) = (conns ≡ n) × IsFirstMissing n c calls
+-- an input that was read
+abbrev pub RanRead : Asked → End → End → End → Status → Type 0
+RanRead a source out err status.Ok =
+    (file : CaptureFile) × Reads source file × AllThere (conns_of file a.verify) a.calls × GetsWhole (IsReport file a.verify a.calls) out × IsUntouched err
+RanRead a source out err status.WriteFault =
+    (file : CaptureFile) × Reads source file × AllThere (conns_of file a.verify) a.calls × GetsFront (IsReport file a.verify a.calls) out × GetsLine err write_line
+RanRead a source out err status.NoConnection =
+    (file : CaptureFile) × Reads source file × ((c : ℕ) × IsFirstMissing (conns_of file a.verify) c a.calls × OnlyTells out err (missing_line c (conns_of file a.verify)))
+RanRead a source out err status.BadCapture = (why : CaptureFault) × IsBad why × ReadsRefused source.was source.is why × OnlyTells out err (bad_line why)
+RanRead a source out err status.TooLarge =
+    (TakesTooMany source.was source.is × OnlyTells out err many_bytes_line)
+    ⊎ (ReadsRefused source.was source.is fault.TooManyRecords × OnlyTells out err many_records_line)
+RanRead a source out err status.ReadFault = Rose source.faults_were source.faults_are × OnlyTells out err read_line
+RanRead a source out err status.NoMemory = OnlyTells out err memory_line
+RanRead a source out err status.Usage = ⊥
 
--- why a generated run gave nothing
-abbrev pub GeneratedFails : Refusal → Type 0
-GeneratedFails refusal.NoMemory = Unit {0}
-GeneratedFails refusal.Usage = ⊥
-GeneratedFails (refusal.Capture f) = f ≢ fault.Read
-GeneratedFails (refusal.NoConnection c conns) = ⊥
+-- a run for what the words ask; where they are refused, or the input is generated, nothing was read
+abbrev pub RanBy : Option ℕ → Asked → End → End → End → Status → Type 0
+RanBy (Some number) a source out err s = IsUntouched source × RanGenerated number a.verify out err s
+RanBy None a source out err s = RanRead a source out err s
+
+abbrev pub Ran : Option Asked → End → End → End → Status → Type 0
+Ran None source out err s = IsUntouched source × RanRefused out err s
+Ran (Some a) source out err s = RanBy a.number a source out err s
+
+-- what a source has left is a capture within the size, with a connection for each CALL
+pub record HoldsCapture (a : Asked) (left : Option (List ℕ)) : Type 0 where
+  pub file : CaptureFile
+  pub bytes : left ≡ Some file.bytes
+  pub capture : IsCapture file
+  pub there : AllThere (conns_of file a.verify) a.calls
+
+abbrev pub AcceptsBy : Option ℕ → Asked → Option (List ℕ) → Type 0
+AcceptsBy (Some number) a left = ⊥
+AcceptsBy None a left = HoldsCapture a left
+
+-- the words are accepted, and so is what the source has left
+abbrev pub Accepts : Option Asked → Option (List ℕ) → Type 0
+Accepts None left = ⊥
+Accepts (Some a) left = AcceptsBy a.number a left
+
+-- the whole output was written, or memory was missing
+abbrev pub IsDone : Status → Type 0
+IsDone status.Ok = Unit {0}
+IsDone status.NoMemory = Unit {0}
+IsDone _ = ⊥

@@ -1,6 +1,8 @@
 //! A large valid input, made from a number: 1,000 connections with 100 segments each.
 
-ghost use Rattle.std.specs.Prelude.{◌≡◌, ◌<◌, ◌≤◌, ◌^◌, length, IfOk};
+ghost use Rattle.std.specs.Prelude.{◌≡◌, ℕ, ◌+◌, ◌/◌, ◌%◌, ◌<◌, ◌≤◌, ◌^◌, ◌++◌, length, if◌then◌else◌, IfOk, OnOk};
+ghost use Rattle.squeue_run.specs.GeneratedCapture.{next_state, state_at, text_len, drawn_text, text_at, numbers_at, ends_of, record_of, record_at, round_before, file_header, generated};
+ghost use Rattle.squeue_run.specs.GeneratorState.{client_at, Ready};
 
 use segment_codec::{Reply, encode};
 use sq_base::{Addr, Octets, Tuple};
@@ -31,7 +33,10 @@ struct Draws {
 }
 
 impl Draws {
-    fn draw(&mut self) -> u32 {
+    fn draw(&mut self) -> u32
+        ensures state { self.new.state ≡ next_state self.old.state }
+        ensures value { result ≡ self.new.state / 2 ^ 32 }
+    {
         self.state = self
             .state
             .wrapping_mul(6364136223846793005)
@@ -52,18 +57,26 @@ struct Client {
 
 impl Client {
     /// The sequence number of the next byte of text.
-    fn seq(&self) -> u32 {
+    fn seq(&self) -> u32
+        ensures { result ≡ (self.now.isn + 1 + self.now.sent) % 2 ^ 32 }
+    {
         self.isn.wrapping_add(1).wrapping_add(self.sent)
     }
 
     /// The acknowledgement of all that the service has sent back.
-    fn ack(&self) -> u32 {
+    fn ack(&self) -> u32
+        ensures { result ≡ (self.now.iss + 1 + (if self.now.echoed then self.now.sent else 0)) % 2 ^ 32 }
+    {
         let echo = if self.echoed { self.sent } else { 0 };
         self.iss.wrapping_add(1).wrapping_add(echo)
     }
 
     /// Flags, sequence number and acknowledgement number of the segment of this round.
-    fn numbers(&self, round: u32) -> (u8, u32, u32) {
+    fn numbers(&self, round: u32) -> (u8, u32, u32)
+        ensures flags { (number c : ℕ) → result.0 ≡ (numbers_at number round c).flags }
+        ensures seq { (number c : ℕ) → self.now ≡ client_at number round c → result.1 ≡ (numbers_at number round c).seq }
+        ensures ack { (number c : ℕ) → self.now ≡ client_at number round c → result.2 ≡ (numbers_at number round c).ack }
+    {
         match round {
             0 => (SYN, self.isn, 0),
             1 => (ACK, self.seq(), self.ack()),
@@ -77,6 +90,7 @@ impl Client {
 /// The client of connection `c` as the sender, and its service as the receiver.
 fn tuple(c: u32) -> Tuple
     requires { c < CONNS }
+    ensures { result ≡ ends_of c }
 {
     Tuple {
         client: Addr(0x0a00_0002),
@@ -87,7 +101,7 @@ fn tuple(c: u32) -> Tuple
 }
 
 fn clients(alloc: Global, draws: &mut Draws) -> Result<Vec<Client>, AllocError>
-    ensures { IfOk result (λ v. length v.items ≡ CONNS) }
+    ensures { IfOk result (λ v. Ready draws.old.state 0 0 draws.new.state v.items) }
 {
     let mut all = Vec::with_capacity(alloc, CONNS as usize)?;
     for c in 0..CONNS {
@@ -103,17 +117,30 @@ fn clients(alloc: Global, draws: &mut Draws) -> Result<Vec<Client>, AllocError>
     Ok(all)
 }
 
+/// How many bytes of text connection `c` sends in this round.
+#[tactic(auto, unfolding(crate::specs::GeneratedCapture::text_len))]
+fn text_len(c: u32, round: u32) -> u32
+    requires conn { c < CONNS }
+    requires round { round < ROUNDS }
+    ensures value { result ≡ text_len round c }
+    ensures short { result ≤ 96 }
+{
+    if FIRST_TEXT <= round && round <= LAST_TEXT {
+        1 + (c + round) % 96
+    } else {
+        0
+    }
+}
+
 /// The text of connection `c` in this round.
 fn text(alloc: Global, draws: &mut Draws, c: u32, round: u32) -> Result<Octets, AllocError>
     requires conn { c < CONNS }
     requires round { round < ROUNDS }
-    ensures { IfOk result (λ text. length text ≤ 96) }
+    ensures short { IfOk result (λ text. length text ≤ 96) }
+    ensures text { IfOk result (λ text. (number from : ℕ) → draws.old.state ≡ state_at number from → text ≡ drawn_text number from (text_len round c)) }
+    ensures drawn { OnOk result ((number from : ℕ) → draws.old.state ≡ state_at number from → draws.new.state ≡ state_at number (from + text_len round c)) }
 {
-    let len = if FIRST_TEXT <= round && round <= LAST_TEXT {
-        1 + (c + round) % 96
-    } else {
-        0
-    };
+    let len = text_len(c, round);
     let mut bytes = Vec::with_capacity(alloc, len as usize)?;
     for _ in 0..len {
         bytes.push((draws.draw() % 256) as u8)?;
@@ -124,23 +151,28 @@ fn text(alloc: Global, draws: &mut Draws, c: u32, round: u32) -> Result<Octets, 
 /// A record of the capture file: its header and its body, at this time in microseconds.
 fn push_record(file: &mut Vec<u8>, at: u32, body: &[u8]) -> Result<(), AllocError>
     requires { length body.now < 2 ^ 32 }
+    ensures { OnOk result (file.new.items ≡ file.old.items ++ record_of at body.now) }
 {
     let len = body.len() as u32;
     file.extend_from_slice(&(at / 1_000_000).to_le_bytes())?;
     file.extend_from_slice(&(at % 1_000_000).to_le_bytes())?;
     file.extend_from_slice(&len.to_le_bytes())?;
     file.extend_from_slice(&len.to_le_bytes())?;
-    file.extend_from_slice(body)
+    file.extend_from_slice(body)?;
+    Ok(())
 }
 
 /// The file's header: little-endian, microseconds, version 2.4, raw IP.
-fn push_header(file: &mut Vec<u8>) -> Result<(), AllocError> {
+fn push_header(file: &mut Vec<u8>) -> Result<(), AllocError>
+    ensures { OnOk result (file.new.items ≡ file.old.items ++ file_header) }
+{
     file.extend_from_slice(&0xa1b2_c3d4u32.to_le_bytes())?;
     file.extend_from_slice(&2u16.to_le_bytes())?;
     file.extend_from_slice(&4u16.to_le_bytes())?;
     file.extend_from_slice(&[0; 8])?;
     file.extend_from_slice(&262_144u32.to_le_bytes())?;
-    file.extend_from_slice(&101u32.to_le_bytes())
+    file.extend_from_slice(&101u32.to_le_bytes())?;
+    Ok(())
 }
 
 /// One segment of a client, as a record.
@@ -155,6 +187,10 @@ fn push_segment(
     requires conn { c < CONNS }
     requires round { round < ROUNDS }
     requires text { length text ≤ 96 }
+    ensures file { OnOk result ((number : ℕ) → client.old ≡ client_at number round c → text ≡ text_at number round c
+        → file.new.items ≡ file.old.items ++ record_at number round c) }
+    ensures client { OnOk result ((number : ℕ) → client.old ≡ client_at number round c → text ≡ text_at number round c
+        → client.new ≡ client_at number (round + 1) c) }
 {
     let at = 10 * (CONNS * round + c);
     let (flags, seq, ack) = client.numbers(round);
@@ -184,6 +220,10 @@ fn push_round(
 ) -> Result<(), AllocError>
     requires all { length clients.old ≡ CONNS }
     requires round { round < ROUNDS }
+    ensures file { OnOk result ((number : ℕ) → Ready number round 0 draws.old.state clients.old
+        → file.new.items ≡ file.old.items ++ round_before number round 1000) }
+    ensures ready { OnOk result ((number : ℕ) → Ready number round 0 draws.old.state clients.old
+        → Ready number (round + 1) 0 draws.new.state clients.new) }
 {
     for c in 0..CONNS {
         let text = text(alloc, draws, c, round)?;
@@ -193,7 +233,9 @@ fn push_round(
 }
 
 /// The capture file for a number.
-pub fn generate(alloc: Global, number: u32) -> Result<Octets, AllocError> {
+pub fn generate(alloc: Global, number: u32) -> Result<Octets, AllocError>
+    ensures { IfOk result (λ bytes. bytes ≡ generated number) }
+{
     let mut draws = Draws {
         state: u64::from(number),
     };

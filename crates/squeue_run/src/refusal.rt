@@ -4,7 +4,7 @@ ghost use Rattle.std.specs.Prelude.{◌≡◌, ◌⊎◌, MatchResult, string_by
 ghost use Rattle.std.specs.Io.KnownBytes.{Appends};
 ghost use Rattle.sq_base.specs.Ends.{Rose};
 ghost use Rattle.squeue_run.specs.Lines.{memory_line};
-ghost use Rattle.squeue_run.specs.Ran.{Told};
+ghost use Rattle.squeue_run.specs.Causes.{Told};
 
 use crate::lines::{
     MANY_BYTES, MANY_RECORDS, NO_MEMORY, READ_FAULT, USAGE, bad_capture, no_connection, tell,

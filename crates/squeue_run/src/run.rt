@@ -1,8 +1,13 @@
 //! The top call: from the words and the bytes of a capture to the bytes of a report.
 
-ghost use Rattle.std.specs.Prelude.{MatchOption, MatchResult, IfErr};
-ghost use Rattle.squeue_run.specs.CallWords.{AllThere, IsFirstMissing};
-ghost use Rattle.squeue_run.specs.Ran.{ReplayFails, GeneratedFails, conns_of};
+ghost use Rattle.std.specs.Prelude.{◌≡◌, map, MatchOption, MatchResult};
+ghost use Rattle.std.specs.String.{string_bytes};
+ghost use Rattle.squeue_run.specs.Asked.{asked};
+ghost use Rattle.squeue_run.specs.CallWords.{AllThere, IsFirstMissing, lists_of};
+ghost use Rattle.sq_base.specs.Ends.{Rose};
+ghost use Rattle.squeue_run.specs.Output.{IsSummary};
+ghost use Rattle.squeue_run.specs.Ran.{Ran, Accepts, IsDone};
+ghost use Rattle.squeue_run.specs.Causes.{Gives, Fails, GivesBy, FailsBy, Replays, ReplayFails, GeneratedFails};
 
 use crate::calls::CallWord;
 use crate::generator::generate;
@@ -11,6 +16,7 @@ use crate::reading::{Words, read_words};
 use crate::refusal::{Refusal, refuse};
 use crate::words::WordFault;
 use capture_reader::{Capture, parse_capture, read_capture};
+use conn_blocks::Calls;
 use conn_classifier::plan;
 use ring_threads::serve_plain;
 use sq_base::{Octets, Sink, Source, Status, put};
@@ -26,7 +32,33 @@ pub fn squeue_run<S: Source, K: Sink, E: Sink>(
     src: &mut S,
     out: &mut K,
     err: &mut E,
-) -> Status {
+) -> Status
+    ensures ran { Ran (asked (map (λ s. string_bytes s) words.now))
+        (record { was = S.rest src.old; is = S.rest src.new; faults_were = S.read_faults src.old; faults_are = S.read_faults src.new })
+        (record { was = K.contents out.old; is = K.contents out.new; faults_were = K.write_faults out.old; faults_are = K.write_faults out.new })
+        (record { was = E.contents err.old; is = E.contents err.new; faults_were = E.write_faults err.old; faults_are = E.write_faults err.new })
+        result }
+    ensures complete { Accepts (asked (map (λ s. string_bytes s) words.now)) (S.rest src.old)
+        → (Rose (S.read_faults src.old) (S.read_faults src.new) → ⊥) → (Rose (K.write_faults out.old) (K.write_faults out.new) → ⊥) → IsDone result }
+{
+    whole_run(rt, alloc, words, src, out, err)
+}
+
+/// The run; that it is complete follows from how it ends.
+fn whole_run<S: Source, K: Sink, E: Sink>(
+    rt: &(impl Threads + Sync),
+    alloc: Global,
+    words: &[String],
+    src: &mut S,
+    out: &mut K,
+    err: &mut E,
+) -> Status
+    ensures { Ran (asked (map (λ s. string_bytes s) words.now))
+        (record { was = S.rest src.old; is = S.rest src.new; faults_were = S.read_faults src.old; faults_are = S.read_faults src.new })
+        (record { was = K.contents out.old; is = K.contents out.new; faults_were = K.write_faults out.old; faults_are = K.write_faults out.new })
+        (record { was = E.contents err.old; is = E.contents err.new; faults_were = E.write_faults err.old; faults_are = E.write_faults err.new })
+        result }
+{
     match output(rt, alloc, words, src) {
         Err(refusal) => refuse(alloc, err, &refusal),
         Ok(text) => match put(out, text.as_slice()) {
@@ -45,16 +77,34 @@ fn output<S: Source>(
     alloc: Global,
     words: &[String],
     src: &mut S,
-) -> Result<Octets, Refusal> {
-    let words = match read_words(alloc, words) {
-        Ok(words) => words,
-        Err(WordFault::Usage) => return Err(Refusal::Usage),
-        Err(WordFault::NoMemory) => return Err(Refusal::NoMemory),
-    };
+) -> Result<Octets, Refusal>
+    ensures { MatchResult result
+        (Gives (asked (map (λ s. string_bytes s) words.now)) (record { was = S.rest src.old; is = S.rest src.new; faults_were = S.read_faults src.old; faults_are = S.read_faults src.new }))
+        (Fails (asked (map (λ s. string_bytes s) words.now)) (record { was = S.rest src.old; is = S.rest src.new; faults_were = S.read_faults src.old; faults_are = S.read_faults src.new })) }
+{
+    match read_words(alloc, words) {
+        Ok(words) => output_for(rt, alloc, &words, src),
+        Err(WordFault::Usage) => Err(Refusal::Usage),
+        Err(WordFault::NoMemory) => Err(Refusal::NoMemory),
+    }
+}
+
+/// What is to be written for accepted words.
+fn output_for<S: Source>(
+    rt: &(impl Threads + Sync),
+    alloc: Global,
+    words: &Words,
+    src: &mut S,
+) -> Result<Octets, Refusal>
+    requires { words.now.calls ≡ lists_of words.now.named.items }
+    ensures { MatchResult result
+        (GivesBy words.now.number (record { setup = words.now.setup; verify = words.now.verify; number = words.now.number; calls = words.now.named.items }) (record { was = S.rest src.old; is = S.rest src.new; faults_were = S.read_faults src.old; faults_are = S.read_faults src.new }))
+        (FailsBy words.now.number (record { setup = words.now.setup; verify = words.now.verify; number = words.now.number; calls = words.now.named.items }) (record { was = S.rest src.old; is = S.rest src.new; faults_were = S.read_faults src.old; faults_are = S.read_faults src.new })) }
+{
     match words.number {
-        Some(number) => generated(rt, alloc, &words, number),
+        Some(number) => generated(rt, alloc, words, number),
         None => match read_capture(alloc, src) {
-            Ok(capture) => replayed(rt, alloc, &words, &capture),
+            Ok(capture) => replayed(rt, alloc, words, &capture),
             Err(fault) => Err(Refusal::Capture(fault)),
         },
     }
@@ -79,17 +129,20 @@ fn replayed(
     words: &Words,
     capture: &Capture,
 ) -> Result<Octets, Refusal>
+    requires { words.now.calls ≡ lists_of words.now.named.items }
     ensures { MatchResult result
-        (λ _. AllThere (conns_of capture.now words.now.verify) words.now.named.items)
-        (ReplayFails (conns_of capture.now words.now.verify) words.now.named.items) }
+        (Replays capture.now (record { setup = words.now.setup; verify = words.now.verify; number = words.now.number; calls = words.now.named.items }))
+        (ReplayFails capture.now (record { setup = words.now.setup; verify = words.now.verify; number = words.now.number; calls = words.now.named.items })) }
 {
     let plan = plan(rt, alloc, capture, words.verify)?;
     let conns = plan.conns();
-    if let Some(c) = missing(&words.named, conns) {
-        return Err(Refusal::NoConnection { c, conns });
+    match missing(&words.named, conns) {
+        Some(c) => Err(Refusal::NoConnection { c, conns }),
+        None => {
+            let served = serve_plain(alloc, &plan, &words.calls)?;
+            Ok(report(alloc, &plan, &served)?)
+        }
     }
-    let served = serve_plain(alloc, &plan, &words.calls)?;
-    Ok(report(alloc, &plan, &served)?)
 }
 
 /// The summary of the run over the generated capture.
@@ -99,13 +152,13 @@ fn generated(
     words: &Words,
     number: u32,
 ) -> Result<Octets, Refusal>
-    ensures { IfErr result GeneratedFails }
+    ensures { MatchResult result (IsSummary number words.now.verify) (GeneratedFails number) }
 {
     let capture = match parse_capture(alloc, generate(alloc, number)?) {
         Ok(capture) => capture,
         Err(fault) => return Err(Refusal::Capture(fault)),
     };
     let plan = plan(rt, alloc, &capture, words.verify)?;
-    let served = serve_plain(alloc, &plan, &words.calls)?;
+    let served = serve_plain(alloc, &plan, &Calls::make(alloc))?;
     Ok(summary(alloc, number, capture.bytes(), &plan, &served)?)
 }

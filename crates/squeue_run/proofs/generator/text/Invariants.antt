@@ -1,5 +1,11 @@
-use Rattle.std.proofs.Common.{◌≡◌, ◌≤◌, length}
+use Rattle.std.proofs.Common.{◌≡◌, ◌+◌, ◌≤◌, ℕ, length}
+use Rattle.squeue_run.specs.GeneratedCapture.{state_at, drawn_text, text_len}
 use Rattle.squeue_run.proofs.generator.text.Given as goal
 
 abbrev pub invariant-loop : goal.invariant-loop
-invariant-loop l = (length l.bytes.items ≡ l.counter) × (l.len ≤ 96)
+invariant-loop l = record {
+  count : length l.bytes.items ≡ l.counter;
+  few : l.len ≤ 96;
+  text : (number from : ℕ) → l.initial.draws.state ≡ state_at number from → l.bytes.items ≡ drawn_text number from l.counter;
+  drawn : (number from : ℕ) → l.initial.draws.state ≡ state_at number from → l.draws.state ≡ state_at number (from + l.counter);
+}

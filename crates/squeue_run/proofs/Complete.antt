@@ -1,0 +1,99 @@
+-- Accepted words and an accepted capture end with the whole output, where nothing fails.
+use Rattle.std.proofs.Common.{◌≡◌, ◌∙◌, ℕ, ◌+◌, ◌<◌, ◌≤◌, List, [], ◌∷◌, ◌++◌, length, Option, Some, None, Result, Ok, Err, ◌⊎◌, inl, inr, subst, sym, refl, ap, arith, length-append}
+use Rattle.std.proofs.lemmas.List.{append-nil}
+use Rattle.std.specs.Io.KnownBytes.{Consumes}
+use Rattle.sq_base.specs.Ends.{Rose}
+use Rattle.sq_base.specs.declared.kinds.Status.{Status}
+use Rattle.sq_base.specs.declared.kinds.Status.TheVariants as status
+use Rattle.capture_reader.specs.CaptureFile.{Contents, Meets, Refused}
+use Rattle.capture_reader.specs.Outcome.{CaptureFile, IsCapture, ReadsRefused, ReadsWhole, TakesTooMany, contents_of}
+use Rattle.capture_reader.specs.declared.fault.CaptureFault.{CaptureFault}
+use Rattle.capture_reader.specs.declared.fault.CaptureFault.TheVariants as fault
+use Rattle.capture_reader.proofs.OneOutcome.{meets_once}
+use Rattle.squeue_run.specs.Asked.{Asked}
+use Rattle.squeue_run.specs.CallWords.{AllThere, IsFirstMissing}
+use Rattle.squeue_run.specs.Ran.{Accepts, AcceptsBy, HoldsCapture, End, IsDone, Ran, RanBy, RanRead, Reads, conns_of}
+use Rattle.squeue_run.specs.declared.calls.CallWord.{CallWord}
+
+whole_some : (xs bs : List ℕ) (is : Option (List ℕ)) → ReadsWhole (Some xs) is bs → bs ≡ xs
+whole_some xs bs None r = absurd r.taken
+whole_some xs bs (Some ys) r = sym (append-nil bs) ∙ ap (λ rest. bs ++ rest) (sym r.ended) ∙ sym r.taken
+
+whole_is : (xs bs : List ℕ) (was is : Option (List ℕ)) → was ≡ Some xs → ReadsWhole was is bs → bs ≡ xs
+whole_is xs bs was is e r =
+    let Whole : Option (List ℕ) → Type 0 = λ w. ReadsWhole w is bs in
+    whole_some xs bs is (subst Whole e r)
+
+taken_some : (xs bs : List ℕ) (is : Option (List ℕ)) → Consumes (Some xs) is bs → length bs ≤ length xs
+taken_some xs bs None t = absurd t
+taken_some xs bs (Some ys) t = let sizes : length xs ≡ length bs + length ys = ap length t ∙ length-append bs ys in omega arith
+
+not_too_many : (xs : List ℕ) (was is : Option (List ℕ)) → was ≡ Some xs → length xs ≤ 67108864 → TakesTooMany was is → ⊥
+not_too_many xs was is e small t =
+    let Taken : Option (List ℕ) → Type 0 = λ w. Consumes w is t.bytes in
+    let few : length t.bytes ≤ length xs = taken_some xs t.bytes is (subst Taken e t.taken) in
+    let many : length t.bytes ≡ 67108865 = t.count in
+    omega (arith, few, many, small)
+
+abbrev Outcome : Type 0
+Outcome = Result Contents CaptureFault
+
+abbrev accepted : Contents → Outcome
+accepted x = Ok x
+
+abbrev refused : CaptureFault → Outcome
+refused f = Err f
+
+same_contents : (x y : Contents) → accepted x ≡ accepted y → x ≡ y
+same_contents x y e = cc
+
+not_both : (x : Contents) (f : CaptureFault) → accepted x ≡ refused f → ⊥
+not_both x f e = cc
+
+same_file : (f g : CaptureFile) → f.bytes ≡ g.bytes → contents_of f ≡ contents_of g → f ≡ g
+same_file f g bytes contents =
+    ap (λ b. record { bytes = b; link = f.link; packets = f.packets; cut = f.cut }) bytes
+    ∙ ap (λ c. record { bytes = g.bytes; link = c.link; packets = c.packets; cut = c.cut }) contents
+
+-- the capture that was read is the one that was there
+read_once : (file found : CaptureFile) (source : End) → source.was ≡ Some file.bytes → IsCapture file → Reads source found → found ≡ file
+read_once file found source there capture r =
+    let bytes : found.bytes ≡ file.bytes = whole_is file.bytes found.bytes source.was source.is there r.read in
+    let Says : List ℕ → Type 0 = λ b. Meets b (Ok (contents_of found)) in
+    same_file found file bytes (same_contents (contents_of found) (contents_of file)
+    (meets_once file.bytes (accepted (contents_of found)) (accepted (contents_of file)) (subst Says bytes r.capture.captured) capture.captured))
+
+not_refused : (file : CaptureFile) (why : CaptureFault) (source : End) → source.was ≡ Some file.bytes → IsCapture file → ReadsRefused source.was source.is why → ⊥
+not_refused file why source there capture r =
+    let bytes : r.0 ≡ file.bytes = whole_is file.bytes r.0 source.was source.is there r.1 in
+    let Says : List ℕ → Type 0 = λ b. Refused b why in
+    not_both (contents_of file) why (meets_once file.bytes (accepted (contents_of file)) (refused why) capture.captured (subst Says bytes r.2.1))
+
+not_missing : (n c : ℕ) (ws : List CallWord) → AllThere n ws → IsFirstMissing n c ws → ⊥
+not_missing n c [] a m = m
+not_missing n c (w ∷ ws) a (inl m) = omega (arith, a.0, m.0)
+not_missing n c (w ∷ ws) a (inr m) = not_missing n c ws a.1 m.1
+
+read_done : (a : Asked) (source out err : End) (s : Status) → HoldsCapture a source.was → (Rose source.faults_were source.faults_are → ⊥) → (Rose out.faults_were out.faults_are → ⊥)
+    → RanRead a source out err s → IsDone s
+read_done a source out err status.Ok can nr nw h = tt
+read_done a source out err status.NoMemory can nr nw h = tt
+read_done a source out err status.Usage can nr nw h = h
+read_done a source out err status.ReadFault can nr nw h = nr h.0
+read_done a source out err status.WriteFault can nr nw h = nw h.3.failed
+read_done a source out err status.BadCapture can nr nw h = not_refused can.file h.0 source can.bytes can.capture h.2
+read_done a source out err status.TooLarge can nr nw (inl h) = not_too_many can.file.bytes source.was source.is can.bytes can.capture.small h.0
+read_done a source out err status.TooLarge can nr nw (inr h) = not_refused can.file fault.TooManyRecords source can.bytes can.capture h.0
+read_done a source out err status.NoConnection can nr nw h =
+    let Named : CaptureFile → Type 0 = λ f. IsFirstMissing (conns_of f a.verify) h.2.0 a.calls in
+    not_missing (conns_of can.file a.verify) h.2.0 a.calls can.there (subst Named (read_once can.file h.0 source can.bytes can.capture h.1) h.2.1)
+
+done_by : (number : Option ℕ) (a : Asked) (source out err : End) (s : Status) → AcceptsBy number a source.was → (Rose source.faults_were source.faults_are → ⊥) → (Rose out.faults_were out.faults_are → ⊥)
+    → RanBy number a source out err s → IsDone s
+done_by (Some n) a source out err s can nr nw h = absurd can
+done_by None a source out err s can nr nw h = read_done a source out err s can nr nw h
+
+pub is_done : (words : Option Asked) (source out err : End) (s : Status) → Ran words source out err s → Accepts words source.was
+    → (Rose source.faults_were source.faults_are → ⊥) → (Rose out.faults_were out.faults_are → ⊥) → IsDone s
+is_done None source out err s h can nr nw = absurd can
+is_done (Some a) source out err s h can nr nw = done_by a.number a source out err s can nr nw h

@@ -1,0 +1,93 @@
+-- How a run ends, from what its steps say.
+use Rattle.std.proofs.Common.{◌≡◌, ℕ, ◌<◌, length, arith, List, Option, Some, None, ◌⊎◌, inl, inr, subst, sym}
+use Rattle.std.specs.Io.KnownBytes.{Appends}
+use Rattle.sq_base.specs.Ends.{Rose, AppendsProperly}
+use Rattle.sq_base.specs.declared.kinds.Status.{Status}
+use Rattle.sq_base.specs.declared.kinds.Status.TheVariants as status
+use Rattle.capture_reader.specs.declared.fault.CaptureFault.TheVariants as fault
+use Rattle.squeue_run.specs.Asked.{Asked}
+use Rattle.squeue_run.specs.CallWords.{IsFirstMissing}
+use Rattle.squeue_run.specs.declared.refusal.Refusal.{Refusal}
+use Rattle.squeue_run.specs.declared.refusal.Refusal.TheVariants as refusal
+use Rattle.squeue_run.specs.GeneratedCapture.{generated}
+use Rattle.squeue_run.specs.Lines.{memory_line, write_line, bad_line, missing_line}
+use Rattle.squeue_run.specs.Ran.{End, GetsLine, IsUntouched, Ran, RanBy, RanGenerated, RanRead, RanRefused, conns_of}
+use Rattle.squeue_run.specs.Causes.{Fails, FailsBy, GeneratedFails, Gives, GivesBy, LineOrMemory, ReadingFails, RefusedWords, Told}
+
+line_or_memory : (P : Status → Type 0) (wanted : Status) (text : List ℕ) (err : End) (s : Status)
+    → (GetsLine err text → P wanted) → (GetsLine err memory_line → P status.NoMemory) → LineOrMemory wanted text err s → P s
+line_or_memory P wanted text err s line memory (inl t) = subst P (sym t.0) (line t.1)
+line_or_memory P wanted text err s line memory (inr t) = subst P (sym t.0) (memory t.1)
+
+refused_words : (why : Refusal) (out err : End) (s : Status) → IsUntouched out → RefusedWords why → Told why err s → RanRefused out err s
+refused_words refusal.NoMemory out err s u h t = subst (RanRefused out err) (sym t.0) (u, t.1)
+refused_words refusal.Usage out err s u h t = subst (RanRefused out err) (sym t.0) (u, t.1)
+refused_words (refusal.Capture f) out err s u h t = absurd h
+refused_words (refusal.NoConnection c n) out err s u h t = absurd h
+
+too_long : (n k : ℕ) → k ≡ length (generated n) → 67108864 < k → 67108864 < length (generated n)
+too_long n k e more = omega (arith, e, more)
+
+not_generated : (n : ℕ) (a : Asked) (why : Refusal) (out err : End) (s : Status) → IsUntouched out → GeneratedFails n why → Told why err s → RanGenerated n a.verify out err s
+not_generated n a refusal.NoMemory out err s u h t = subst (RanGenerated n a.verify out err) (sym t.0) (u, t.1)
+not_generated n a refusal.Usage out err s u h t = absurd h
+not_generated n a (refusal.Capture fault.Read) out err s u h t = absurd h
+not_generated n a (refusal.Capture fault.NoMemory) out err s u h t = subst (RanGenerated n a.verify out err) (sym t.0) (u, t.1)
+not_generated n a (refusal.Capture (fault.TooLarge k)) out err s u h t = subst (RanGenerated n a.verify out err) (sym t.0) (inl (too_long n k h.0 h.1, (u, t.1)))
+not_generated n a (refusal.Capture fault.TooManyRecords) out err s u h t = subst (RanGenerated n a.verify out err) (sym t.0) (inr (h, (u, t.1)))
+not_generated n a (refusal.Capture (fault.ShortHeader k)) out err s u h t = line_or_memory (RanGenerated n a.verify out err) status.BadCapture (bad_line (fault.ShortHeader k)) err s (λ g. (fault.ShortHeader k, tt, h, (u, g))) (λ g. (u, g)) t
+not_generated n a (refusal.Capture (fault.Magic k)) out err s u h t = line_or_memory (RanGenerated n a.verify out err) status.BadCapture (bad_line (fault.Magic k)) err s (λ g. (fault.Magic k, tt, h, (u, g))) (λ g. (u, g)) t
+not_generated n a (refusal.Capture (fault.Version i j)) out err s u h t = line_or_memory (RanGenerated n a.verify out err) status.BadCapture (bad_line (fault.Version i j)) err s (λ g. (fault.Version i j, tt, h, (u, g))) (λ g. (u, g)) t
+not_generated n a (refusal.Capture (fault.Link k)) out err s u h t = line_or_memory (RanGenerated n a.verify out err) status.BadCapture (bad_line (fault.Link k)) err s (λ g. (fault.Link k, tt, h, (u, g))) (λ g. (u, g)) t
+not_generated n a (refusal.Capture (fault.RecordLength i j)) out err s u h t = line_or_memory (RanGenerated n a.verify out err) status.BadCapture (bad_line (fault.RecordLength i j)) err s (λ g. (fault.RecordLength i j, tt, h, (u, g))) (λ g. (u, g)) t
+not_generated n a (refusal.NoConnection c k) out err s u h t = absurd h
+
+not_read : (a : Asked) (why : Refusal) (source out err : End) (s : Status) → IsUntouched out → ReadingFails a source why → Told why err s → RanRead a source out err s
+not_read a refusal.NoMemory source out err s u h t = subst (RanRead a source out err) (sym t.0) (u, t.1)
+not_read a refusal.Usage source out err s u h t = absurd h
+not_read a (refusal.Capture fault.Read) source out err s u h t = subst (RanRead a source out err) (sym t.0) (h.1 (λ i. fault.Read), (u, t.1))
+not_read a (refusal.Capture fault.NoMemory) source out err s u h t = subst (RanRead a source out err) (sym t.0) (u, t.1)
+not_read a (refusal.Capture (fault.TooLarge k)) source out err s u h t = subst (RanRead a source out err) (sym t.0) (inl (h.0.1, (u, t.1)))
+not_read a (refusal.Capture fault.TooManyRecords) source out err s u h t = subst (RanRead a source out err) (sym t.0) (inr (h.0, (u, t.1)))
+not_read a (refusal.Capture (fault.ShortHeader k)) source out err s u h t = line_or_memory (RanRead a source out err) status.BadCapture (bad_line (fault.ShortHeader k)) err s (λ g. (fault.ShortHeader k, tt, h.0, (u, g))) (λ g. (u, g)) t
+not_read a (refusal.Capture (fault.Magic k)) source out err s u h t = line_or_memory (RanRead a source out err) status.BadCapture (bad_line (fault.Magic k)) err s (λ g. (fault.Magic k, tt, h.0, (u, g))) (λ g. (u, g)) t
+not_read a (refusal.Capture (fault.Version i j)) source out err s u h t = line_or_memory (RanRead a source out err) status.BadCapture (bad_line (fault.Version i j)) err s (λ g. (fault.Version i j, tt, h.0, (u, g))) (λ g. (u, g)) t
+not_read a (refusal.Capture (fault.Link k)) source out err s u h t = line_or_memory (RanRead a source out err) status.BadCapture (bad_line (fault.Link k)) err s (λ g. (fault.Link k, tt, h.0, (u, g))) (λ g. (u, g)) t
+not_read a (refusal.Capture (fault.RecordLength i j)) source out err s u h t = line_or_memory (RanRead a source out err) status.BadCapture (bad_line (fault.RecordLength i j)) err s (λ g. (fault.RecordLength i j, tt, h.0, (u, g))) (λ g. (u, g)) t
+not_read a (refusal.NoConnection c conns) source out err s u h t =
+    let IsFirst : ℕ → Type 0 = λ n. IsFirstMissing n c a.calls in
+    let Gets : ℕ → Type 0 = λ n. GetsLine err (missing_line c n) in
+    line_or_memory (RanRead a source out err) status.NoConnection (missing_line c conns) err s
+    (λ g. (h.0, h.1, (c, subst IsFirst h.2.0 h.2.1, (u, subst Gets h.2.0 g)))) (λ g. (u, g)) t
+
+not_written : (number : Option ℕ) (a : Asked) (why : Refusal) (source out err : End) (s : Status) → IsUntouched out → FailsBy number a source why → Told why err s → RanBy number a source out err s
+not_written (Some n) a why source out err s u h t = (h.0, not_generated n a why out err s u h.1 t)
+not_written None a why source out err s u h t = not_read a why source out err s u h t
+
+pub refused : (words : Option Asked) (why : Refusal) (source out err : End) (s : Status) → IsUntouched out → Fails words source why → Told why err s → Ran words source out err s
+refused None why source out err s u h t = (h.0, refused_words why out err s u h.1 t)
+refused (Some a) why source out err s u h t = not_written a.number a why source out err s u h t
+
+done_by : (number : Option ℕ) (a : Asked) (source out err : End) (text : List ℕ) → GivesBy number a source text → Appends out.was out.is text → IsUntouched err → RanBy number a source out err status.Ok
+done_by (Some n) a source out err text h w u = (h.0, (record { text = text; output = h.1; written = w }, u))
+done_by None a source out err text h w u = (h.0, h.1, h.2.0, record { text = text; output = h.2.1; written = w }, u)
+
+pub done : (words : Option Asked) (source out err : End) (text bytes : List ℕ) → Gives words source text → bytes ≡ text → Appends out.was out.is bytes → IsUntouched err → Ran words source out err status.Ok
+done None source out err text bytes h e w u = absurd h
+done (Some a) source out err text bytes h e w u = done_by a.number a source out err text h (subst (Appends out.was out.is) e w) u
+
+cut_by : (number : Option ℕ) (a : Asked) (source out err : End) (text : List ℕ) → GivesBy number a source text → AppendsProperly out.was out.is text → Rose out.faults_were out.faults_are → GetsLine err write_line → RanBy number a source out err status.WriteFault
+cut_by (Some n) a source out err text h w r g = (h.0, (record { text = text; output = h.1; written = w; failed = r }, g))
+cut_by None a source out err text h w r g = (h.0, h.1, h.2.0, record { text = text; output = h.2.1; written = w; failed = r }, g)
+
+pub cut : (words : Option Asked) (source out err : End) (text bytes : List ℕ) → Gives words source text → bytes ≡ text → AppendsProperly out.was out.is bytes → Rose out.faults_were out.faults_are → GetsLine err write_line → Ran words source out err status.WriteFault
+cut None source out err text bytes h e w r g = absurd h
+cut (Some a) source out err text bytes h e w r g = cut_by a.number a source out err text h (subst (AppendsProperly out.was out.is) e w) r g
+
+no_memory_by : (number : Option ℕ) (a : Asked) (source : End) → IsUntouched source → FailsBy number a source refusal.NoMemory
+no_memory_by (Some n) a source u = (u, tt)
+no_memory_by None a source u = tt
+
+pub no_memory : (words : Option Asked) (source : End) → IsUntouched source → Fails words source refusal.NoMemory
+no_memory None source u = (u, tt)
+no_memory (Some a) source u = no_memory_by a.number a source u

@@ -1,0 +1,82 @@
+-- What the steps of a run say to each other: what is to be written, or why nothing is.
+use Rattle.std.specs.Prelude.{◌≡◌, ℕ, List, Option, Some, None, ◌⊎◌}
+use Rattle.sq_base.specs.Ends.{Rose}
+use Rattle.sq_base.specs.declared.kinds.Status.{Status}
+use Rattle.sq_base.specs.declared.kinds.Status.TheVariants as status
+use Rattle.capture_reader.specs.Outcome.{CaptureFile, ParseFails, ReadFails}
+use Rattle.capture_reader.specs.declared.fault.CaptureFault.TheVariants as fault
+use Rattle.squeue_run.specs.Asked.{Asked}
+use Rattle.squeue_run.specs.CallWords.{AllThere, IsFirstMissing}
+use Rattle.squeue_run.specs.declared.calls.CallWord.{CallWord}
+use Rattle.squeue_run.specs.declared.refusal.Refusal.{Refusal}
+use Rattle.squeue_run.specs.declared.refusal.Refusal.TheVariants as refusal
+use Rattle.squeue_run.specs.Lines.{usage_line, memory_line, read_line, bad_line, many_bytes_line, many_records_line, missing_line}
+use Rattle.squeue_run.specs.GeneratedCapture.{generated}
+use Rattle.squeue_run.specs.Output.{IsReport, IsSummary}
+use Rattle.squeue_run.specs.Ran.{End, GetsLine, IsUntouched, Reads, conns_of}
+
+-- the line and the status of a refusal; where memory for the line is missing, that is the refusal
+abbrev pub LineOrMemory : Status → List ℕ → End → Status → Type 0
+LineOrMemory wanted text err s = ((s ≡ wanted) × GetsLine err text) ⊎ ((s ≡ status.NoMemory) × GetsLine err memory_line)
+
+abbrev pub Told : Refusal → End → Status → Type 0
+Told refusal.NoMemory err s = (s ≡ status.NoMemory) × GetsLine err memory_line
+Told refusal.Usage err s = (s ≡ status.Usage) × GetsLine err usage_line
+Told (refusal.Capture fault.NoMemory) err s = (s ≡ status.NoMemory) × GetsLine err memory_line
+Told (refusal.Capture fault.Read) err s = (s ≡ status.ReadFault) × GetsLine err read_line
+Told (refusal.Capture (fault.TooLarge n)) err s = (s ≡ status.TooLarge) × GetsLine err many_bytes_line
+Told (refusal.Capture fault.TooManyRecords) err s = (s ≡ status.TooLarge) × GetsLine err many_records_line
+Told (refusal.Capture (fault.ShortHeader n)) err s = LineOrMemory status.BadCapture (bad_line (fault.ShortHeader n)) err s
+Told (refusal.Capture (fault.Magic magic)) err s = LineOrMemory status.BadCapture (bad_line (fault.Magic magic)) err s
+Told (refusal.Capture (fault.Version major minor)) err s = LineOrMemory status.BadCapture (bad_line (fault.Version major minor)) err s
+Told (refusal.Capture (fault.Link n)) err s = LineOrMemory status.BadCapture (bad_line (fault.Link n)) err s
+Told (refusal.Capture (fault.RecordLength index len)) err s = LineOrMemory status.BadCapture (bad_line (fault.RecordLength index len)) err s
+Told (refusal.NoConnection c conns) err s = LineOrMemory status.NoConnection (missing_line c conns) err s
+
+-- what the replay of a capture gives, or why it gives nothing
+abbrev pub Replays : CaptureFile → Asked → List ℕ → Type 0
+Replays file a text = AllThere (conns_of file a.verify) a.calls × IsReport file a.verify a.calls text
+
+abbrev pub ReplayFails : CaptureFile → Asked → Refusal → Type 0
+ReplayFails file a refusal.NoMemory = Unit {0}
+ReplayFails file a refusal.Usage = ⊥
+ReplayFails file a (refusal.Capture f) = ⊥
+ReplayFails file a (refusal.NoConnection c conns) = (conns ≡ conns_of file a.verify) × IsFirstMissing conns c a.calls
+
+-- why a generated run gives nothing
+abbrev pub GeneratedFails : ℕ → Refusal → Type 0
+GeneratedFails number refusal.NoMemory = Unit {0}
+GeneratedFails number refusal.Usage = ⊥
+GeneratedFails number (refusal.Capture f) = ParseFails (generated number) f
+GeneratedFails number (refusal.NoConnection c conns) = ⊥
+
+-- why an input that is read gives nothing
+abbrev pub ReadingFails : Asked → End → Refusal → Type 0
+ReadingFails a source refusal.NoMemory = Unit {0}
+ReadingFails a source refusal.Usage = ⊥
+ReadingFails a source (refusal.Capture f) = ReadFails source.was source.is f × (f ≡ fault.Read → Rose source.faults_were source.faults_are)
+ReadingFails a source (refusal.NoConnection c conns) = (file : CaptureFile) × Reads source file × ReplayFails file a (refusal.NoConnection c conns)
+
+-- what is to be written for accepted words, or why nothing is
+abbrev pub GivesBy : Option ℕ → Asked → End → List ℕ → Type 0
+GivesBy (Some number) a source text = IsUntouched source × IsSummary number a.verify text
+GivesBy None a source text = (file : CaptureFile) × Reads source file × Replays file a text
+
+abbrev pub FailsBy : Option ℕ → Asked → End → Refusal → Type 0
+FailsBy (Some number) a source why = IsUntouched source × GeneratedFails number why
+FailsBy None a source why = ReadingFails a source why
+
+-- what is to be written for these words, or why nothing is
+abbrev pub Gives : Option Asked → End → List ℕ → Type 0
+Gives None source text = ⊥
+Gives (Some a) source text = GivesBy a.number a source text
+
+abbrev pub RefusedWords : Refusal → Type 0
+RefusedWords refusal.NoMemory = Unit {0}
+RefusedWords refusal.Usage = Unit {0}
+RefusedWords (refusal.Capture f) = ⊥
+RefusedWords (refusal.NoConnection c conns) = ⊥
+
+abbrev pub Fails : Option Asked → End → Refusal → Type 0
+Fails None source why = IsUntouched source × RefusedWords why
+Fails (Some a) source why = FailsBy a.number a source why
