@@ -21,3 +21,5 @@ mod Records
 mod GeneratorSteps
 mod GeneratorNumbers
 mod GeneratorReady
+mod WorkedGenerator
+mod GeneratedSize

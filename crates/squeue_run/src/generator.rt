@@ -234,7 +234,8 @@ fn push_round(
 
 /// The capture file for a number.
 pub fn generate(alloc: Global, number: u32) -> Result<Octets, AllocError>
-    ensures { IfOk result (λ bytes. bytes ≡ generated number) }
+    ensures bytes { IfOk result (λ bytes. bytes ≡ generated number) }
+    ensures size { IfOk result (λ bytes. length bytes ≡ 10256024) }
 {
     let mut draws = Draws {
         state: u64::from(number),
