@@ -1,6 +1,5 @@
 -- How long the generated capture is: 24 bytes, and for each of 100,000 records 56 with its text, of which each connection sends 4,656 bytes.
-use Rattle.std.proofs.Common.{◌≡◌, ℕ, ◌+◌, ◌*◌, ◌<◌, ◌≤◌, List, [], ◌∷◌, ◌++◌, suc, zero, length, sum_by, refl, sym, ap, ◌∙◌, arith}
-use Rattle.std.specs.List.{flat_map, range_with_len}
+use Rattle.std.proofs.Common.{◌≡◌, ℕ, ◌+◌, ◌*◌, List, [], ◌∷◌, suc, length, sum_by, refl, sym, ap, ◌∙◌, arith}
 use Rattle.std.proofs.lemmas.List.{length-append}
 use Rattle.std.proofs.lemmas.List.FromFn.{length-range_with_len}
 use Rattle.std.proofs.lemmas.List.Concat.{length-flat_map}
@@ -8,8 +7,7 @@ use Rattle.std.proofs.lemmas.List.Sums.{sum_by-cons}
 use Rattle.sq_base.specs.declared.kinds.Tuple.{Tuple}
 use Rattle.segment_codec.specs.declared.packet.Reply.{Reply}
 use Rattle.segment_codec.specs.SegmentBytes.{segment_bytes, option_bytes, ip_with, tcp_with, ip_sum, tcp_sum}
-use Rattle.byteorder.specs.Endian.{little_bytes}
-use Rattle.squeue_run.specs.GeneratedCapture.{below, text_len, sent_before, round_text, text_before, text_at, segment_at, ends_of, record_of, record_at, round_before, rounds_before, file_header, generated}
+use Rattle.squeue_run.specs.GeneratedCapture.{below, text_len, sent_before, round_text, text_before, segment_at, ends_of, record_of, record_at, round_before, rounds_before, file_header, generated}
 use Rattle.squeue_run.proofs.GeneratorSteps.{text_at_len, all_sent}
 
 tcp_size : (t : Tuple) (r : Reply) (sum : ℕ) → option_bytes r ≡ [] → length (tcp_with t r sum) ≡ 20 + length r.text

@@ -23,3 +23,5 @@ mod GeneratorNumbers
 mod GeneratorReady
 mod WorkedGenerator
 mod GeneratedSize
+mod GeneratedAccepted
+mod GeneratedRead

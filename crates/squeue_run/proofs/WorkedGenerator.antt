@@ -1,5 +1,5 @@
 -- Worked examples of the capture generated for 7: its first draws, its header, and records of the first three rounds.
-use Rattle.std.proofs.Common.{◌≡◌, ℕ, codes, refl}
+use Rattle.std.proofs.Common.{◌≡◌, codes, refl}
 use Rattle.hex.specs.Hex.{encode_lower, encode_with}
 use Rattle.segment_codec.specs.SegmentBytes.{segment_bytes, ip_sum, tcp_sum}
 use Rattle.squeue_run.specs.GeneratedCapture.{state_at, draw, text_len, sent_before, round_text, text_before, drawn_text, text_at, numbers_at, segment_at, record_of, record_at, file_header}
