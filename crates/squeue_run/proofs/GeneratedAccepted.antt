@@ -119,4 +119,5 @@ accepted n = (
     split = split n;
     ends = (refl, let few : length (records n 1000 100) ≤ 1048576 = omega (arith, count n 1000 100) in few);
     named = refl;
-  })
+  },
+)
