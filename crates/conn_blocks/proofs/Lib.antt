@@ -1,4 +1,10 @@
 mod SoFar
 pub mod Rising
+pub mod Numbers
 pub mod Settling
 mod WholeOrders
+mod Counting
+mod Settled
+mod Held
+mod LettingGo
+mod NewBlock

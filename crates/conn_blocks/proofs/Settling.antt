@@ -64,7 +64,7 @@ module _ (j k : ℕ) where
       by false = refl
 
   -- a call is one thing
-  is_it : (i m : ℕ) → is_call j k (act.Call i m) ≡ true → (i ≡ j) × (m ≡ k)
+  pub is_it : (i m : ℕ) → is_call j k (act.Call i m) ≡ true → (i ≡ j) × (m ≡ k)
   is_it i m e = let parts = and_parts (i == j) (m == k) e in (eqb-true i j parts.0, eqb-true m k parts.1)
 
   along : (i m : ℕ) (xs : List Act) → is_call j k (act.Call i m) ≡ true → has_call i m xs ≡ true → has_call j k xs ≡ true
@@ -219,6 +219,10 @@ module _ (calls : CallLists) (c : ℕ) (came kept : List Act) (so_far : Settling
                 let is_kept : has_call i r kept ≡ true =
                 all_at (λ k. has_call i k kept) (λ k. nat_lt k m) r (numbers_on calls c i) ready in_numbers (lt-ltb r m (less q)) in
                 absurd (both_ways (has r (call_numbers i kept)) (not_before r rest 0 (call_numbers i kept) rising) (sym (has_numbers i r kept) ∙ is_kept))
+
+    pub next_split : has m (numbers_on calls c i) ≡ true → has_call i m kept ≡ false → is_next calls c kept i m ≡ true
+        → (rest : List ℕ) × (numbers_on calls c i ≡ call_numbers i kept ++ m ∷ rest)
+    next_split on new ready = let found = next_is_first on new ready in (found.0, whole ∙ ap (λ l. call_numbers i kept ++ l) found.1)
 
     -- a call that isn't next
     settling_held : is_next calls c kept i m ≡ false → Settling calls c (came ++ act.Call i m ∷ []) kept

@@ -1,3 +1,4 @@
 pub mod CallLists
-pub mod ServeOrder
+pub mod Holding
 pub mod Orders
+pub mod ServeOrder

@@ -1,12 +1,12 @@
 -- One connection served on one thread: the acts of an order, one after another, from a new block.
-use Rattle.std.specs.Prelude.{◌≡◌, ℕ, ◌+◌, ◌<◌, ◌≤◌, Bool, List, [], ◌∷◌, ◌++◌, length, slice_get, Some, IfSome, ◌⊎◌}
+use Rattle.std.specs.Prelude.{◌≡◌, ℕ, ◌+◌, ◌<◌, ◌≤◌, ◌^◌, Bool, false, List, [], ◌∷◌, ◌++◌, length, slice_get, Some, IfSome, ◌⊎◌}
 use Rattle.std.specs.Option.{option_map, option_map_or}
 use Rattle.perimeter_core.specs.declared.entries.Act.{Act}
 use Rattle.perimeter_core.specs.declared.entries.Act.TheVariants as act
 use Rattle.conn_classifier.specs.declared.kinds.Item.{Item}
 use Rattle.conn_classifier.specs.declared.kinds.Item.TheVariants as item
 use Rattle.conn_classifier.specs.Plan.{PlanOf, items_in, text_of, time_of}
-use Rattle.tcb_machine.specs.BlockState.{Block, new_block}
+use Rattle.tcb_machine.specs.BlockState.{Block, new_block, offered}
 use Rattle.tcb_machine.specs.TcpStep.{tcp_segment}
 use Rattle.tcb_machine.specs.Timers.{tcp_time}
 use Rattle.tcb_machine.specs.CallAnswers.{tcp_call}
@@ -14,6 +14,7 @@ use Rattle.tcb_machine.specs.declared.kinds.Answer.{Answer}
 use Rattle.tcb_machine.specs.declared.kinds.Call.{Call}
 use Rattle.echo_services.specs.Pump.{followed, service_of}
 use Rattle.echo_services.specs.declared.service.Service.{Service}
+use Rattle.conn_blocks.specs.declared.stages.Stage.{Stage}
 use Rattle.conn_blocks.specs.CallLists.{CallLists, calls_of, call_at}
 
 -- an item with its text
@@ -64,13 +65,16 @@ FeedsRise n [] = Unit {0}
 FeedsRise n (act.Feed m ∷ order) = (n ≤ m) × FeedsRise (m + 1) order
 FeedsRise n (act.Call j k ∷ order) = FeedsRise n order
 
--- what a block is to the layers above
+-- what a block is to the layers above; the stage of each call, by number and then by thread, and how many acts and answers there is room for
 pub record BlockOf : Type 0 where
   pub service : Service
   pub tcb : Block
   pub order : List Act
   pub answers : List (ℕ × ℕ × Answer)
   pub short : Bool
+  pub stages : List Stage
+  pub order_room : ℕ
+  pub answers_room : ℕ
 
 -- the clock is 0, or the time of an item before number n
 abbrev pub ClockIsPast : PlanOf → ℕ → ℕ → ℕ → Type 0
@@ -86,5 +90,17 @@ abbrev pub SetsClock : PlanOf → ℕ → Act → ℕ → ℕ → Type 0
 SetsClock p c (act.Feed n) old new = option_map time_of (slice_get (items_in p c) n) ≡ Some new
 SetsClock p c (act.Call j k) old new = new ≡ old
 
+-- what an act that is served leaves as it was
+abbrev pub SameOrder : BlockOf → BlockOf → Type 0
+SameOrder new old = (new.service ≡ old.service) × (new.order ≡ old.order) × (new.stages ≡ old.stages) × (new.order_room ≡ old.order_room) × (old.answers_room ≤ new.answers_room)
+
 abbrev pub serving_of : BlockOf → Serving
 serving_of b = record { block = b.tcb; answers = b.answers }
+
+-- an act was done to a block that isn't short, and all of it
+pub record IsDone (p : PlanOf) (calls : CallLists) (c : ℕ) (a : Act) (old new : BlockOf) : Type 0 where
+  pub before : old.short ≡ false
+  pub step : serving_of new ≡ serves_act p calls c old.service a (serving_of old)
+  pub clock : SetsClock p c a old.tcb.clock new.tcb.clock
+  pub taken : new.tcb.recv.taken ≤ old.tcb.recv.taken + 2 ^ 20
+  pub offered_more : offered new.tcb ≤ offered old.tcb + 2 ^ 16

@@ -8,9 +8,11 @@ ghost use Rattle.tcb_machine.specs.TcpStep.{said};
 ghost use Rattle.conn_classifier.specs.Plan.{items_in, time_of, text_len_of, text_of};
 ghost use Rattle.echo_services.specs.Pump.{followed};
 ghost use Rattle.conn_blocks.specs.CallLists.{calls_of, call_at};
-ghost use Rattle.conn_blocks.specs.ServeOrder.{receives, serve, serves_act, service_in, serving_of, IsActOf, FeedsRise, IsTimely, SetsClock};
+ghost use Rattle.conn_blocks.specs.Holding.{IsNew};
+ghost use Rattle.conn_blocks.specs.ServeOrder.{asks, receives, serve, serves_act, service_in, serving_of, IsActOf, IsDone, FeedsRise, IsTimely, SameOrder, SetsClock};
 
 use crate::calls::Calls;
+use crate::stages::Stage;
 use conn_classifier::{Item, Plan};
 use echo_services::{Service, pump};
 use perimeter_core::Act;
@@ -27,9 +29,12 @@ pub struct Block {
     /// Thread, number and answer of each call served.
     answers: Vec<(u32, u32, Answer)>,
     short: bool,
+    /// The stage of each call of all threads, where calls may come early.
+    pub(crate) stages: Vec<Stage>,
 }
 
 impl Model for Block {
+    ghost use Rattle.std.specs.Prelude.{vec_capacity};
     ghost use Rattle.conn_blocks.specs.ServeOrder.{BlockOf};
 
     ghost Value = { BlockOf };
@@ -40,22 +45,18 @@ impl Model for Block {
       order = b.order.items;
       answers = b.answers.items;
       short = b.short;
+      stages = b.stages.items;
+      order_room = vec_capacity b.order;
+      answers_room = vec_capacity b.answers;
     } };
 }
 
 impl Block {
-    /// A new block of connection `c`, in LISTEN, with room for all its acts and answers.
+    /// A new block of connection `c`, in LISTEN, with all the room that its acts, their answers and calls that come early
+    /// will take.
     pub fn make(alloc: Global, plan: &Plan, calls: &Calls, c: u32) -> Result<Box<Block>, AllocError>
         requires { c < length plan.now.tuples }
-        ensures made { IfOk result (λ b. b.value ≡ record {
-          service = service_in plan.now c;
-          tcb = new_block;
-          order = [];
-          answers = [];
-          short = false;
-        }) }
-        // the most items that a connection has
-        ensures items { IfOk result (λ _. length (items_in plan.now c) ≤ 2097153) }
+        ensures { IfOk result (λ b. IsNew plan.now calls.now c b.value) }
     {
         let asked = calls.count_on(c);
         let block = Block {
@@ -64,6 +65,7 @@ impl Block {
             order: Vec::with_capacity(alloc, plan.items(c) as usize + asked)?,
             answers: Vec::with_capacity(alloc, asked)?,
             short: false,
+            stages: vec![in alloc; Stage::Unasked; 4 * calls.longest() as usize]?,
         };
         Ok(Box::new(alloc, block)?)
     }
@@ -109,6 +111,7 @@ impl Block {
         ensures clock { OnOk result (self.new.tcb.clock ≡ self.old.tcb.clock) }
         ensures taken { OnOk result (self.new.tcb.recv.taken ≤ self.old.tcb.recv.taken + 2 ^ 20) }
         ensures offered { OnOk result (offered self.new.tcb ≤ offered self.old.tcb + 2 ^ 16) }
+        ensures same { SameOrder self.new self.old × (self.new.short ≡ self.old.short) }
     {
         match next {
             Next::Over => Ok(()),
@@ -130,6 +133,7 @@ impl Block {
         ensures clock { OnOk result (self.new.tcb.clock ≡ time_of item) }
         ensures taken { OnOk result (self.new.tcb.recv.taken ≤ self.old.tcb.recv.taken + 2 ^ 20) }
         ensures offered { OnOk result (offered self.new.tcb ≤ offered self.old.tcb + 2 ^ 16) }
+        ensures same { SameOrder self.new self.old × (self.new.short ≡ self.old.short) }
     {
         match item {
             Item::Time { at } => self.tcb.time(alloc, at),
@@ -144,20 +148,44 @@ impl Block {
 
     /// Call `k` of thread `j` is made.
     fn answer_call(&mut self, alloc: Global, j: u32, k: u32, call: Call) -> Result<(), AllocError>
-        ensures step { OnOk result (self.new ≡ record self.old {
-          tcb = followed self.old.service (tcp_call call self.old.tcb).verdict;
-          answers = self.old.answers ++ (j, k, (tcp_call call self.old.tcb).answer) ∷ [];
-        }) }
+        ensures step { OnOk result (serving_of self.new ≡ asks self.old.service j k call (serving_of self.old)) }
         ensures clock { OnOk result (self.new.tcb.clock ≡ self.old.tcb.clock) }
         ensures taken { OnOk result (self.new.tcb.recv.taken ≤ self.old.tcb.recv.taken + 2 ^ 20) }
         ensures offered { OnOk result (offered self.new.tcb ≤ offered self.old.tcb + 2 ^ 16) }
+        ensures same { SameOrder self.new self.old × (self.new.short ≡ self.old.short) }
     {
         let (answer, next) = self.tcb.call(alloc, call)?;
         self.answers.push((j, k, answer))?;
         self.follow(alloc, next)
     }
 
-    /// One act of connection `c`.
+    /// One act of connection `c` is done.
+    fn apply(
+        &mut self,
+        alloc: Global,
+        plan: &Plan,
+        calls: &Calls,
+        c: u32,
+        act: Act,
+    ) -> Result<(), AllocError>
+        requires conn { c < length plan.now.tuples }
+        requires act { IsActOf plan.now calls.now c act }
+        requires clock { IsTimely plan.now c act self.old.tcb.clock }
+        requires taken { self.old.tcb.recv.taken < 2 ^ 60 }
+        requires offered { offered self.old.tcb < 2 ^ 60 }
+        ensures same { SameOrder self.new self.old × (self.new.short ≡ self.old.short) }
+        ensures step { OnOk result (serving_of self.new ≡ serves_act plan.now calls.now c self.old.service act (serving_of self.old)) }
+        ensures clock { OnOk result (SetsClock plan.now c act self.old.tcb.clock self.new.tcb.clock) }
+        ensures taken { OnOk result (self.new.tcb.recv.taken ≤ self.old.tcb.recv.taken + 2 ^ 20) }
+        ensures offered { OnOk result (offered self.new.tcb ≤ offered self.old.tcb + 2 ^ 16) }
+    {
+        match act {
+            Act::Feed { n } => self.receive(alloc, plan.item(c, n), plan.text(c, n)),
+            Act::Call { j, k } => self.answer_call(alloc, j, k, calls.get(j, k).1),
+        }
+    }
+
+    /// One act of connection `c` joins the order and is done.
     fn serve(
         &mut self,
         alloc: Global,
@@ -179,9 +207,27 @@ impl Block {
         ensures offered { OnOk result (offered self.new.tcb ≤ offered self.old.tcb + 2 ^ 16) }
     {
         self.order.push(act)?;
-        match act {
-            Act::Feed { n } => self.receive(alloc, plan.item(c, n), plan.text(c, n)),
-            Act::Call { j, k } => self.answer_call(alloc, j, k, calls.get(j, k).1),
+        self.apply(alloc, plan, calls, c, act)
+    }
+
+    /// An act that comes next joins the order, in room that is there. A block that isn't short does it, and is short from
+    /// then on where memory is missing.
+    pub(crate) fn keep(&mut self, alloc: Global, plan: &Plan, calls: &Calls, c: u32, act: Act)
+        requires conn { c < length plan.now.tuples }
+        requires act { IsActOf plan.now calls.now c act }
+        requires room { length self.old.order < self.old.order_room }
+        requires clock { self.old.short ≡ false → IsTimely plan.now c act self.old.tcb.clock }
+        requires taken { self.old.short ≡ false → self.old.tcb.recv.taken < 2 ^ 60 }
+        requires offered { self.old.short ≡ false → offered self.old.tcb < 2 ^ 60 }
+        ensures order { self.new.order ≡ self.old.order ++ act ∷ [] }
+        ensures same { (self.new.service ≡ self.old.service) × (self.new.stages ≡ self.old.stages) × (self.new.order_room ≡ self.old.order_room)
+            × (self.old.answers_room ≤ self.new.answers_room) }
+        ensures short { self.old.short ≡ true → self.new.short ≡ true }
+        ensures done { self.new.short ≡ false → IsDone plan.now calls.now c act self.old self.new }
+    {
+        self.order.push_reserved(act);
+        if !self.short {
+            self.short = self.apply(alloc, plan, calls, c, act).is_err();
         }
     }
 }

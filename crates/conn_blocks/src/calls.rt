@@ -2,6 +2,8 @@
 
 ghost use Rattle.std.specs.Prelude.{◌≡◌, ℕ, ◌+◌, ◌<◌, ◌≤◌, [], ◌∷◌, ◌++◌, length, set, get_or, slice_get, Some, OnOk, OnErr};
 ghost use Rattle.conn_blocks.specs.CallLists.{calls_of, call_at, call_count};
+ghost use Rattle.conn_blocks.specs.Holding.{calls_on};
+ghost use Rattle.conn_blocks.specs.Orders.{numbers_from};
 
 use std::alloc::{AllocError, Global};
 use std::marker::Model;
@@ -29,7 +31,8 @@ impl Model for Calls {
 
 /// How many of a thread's calls are on connection `c`.
 fn count_of(thread: &[(u32, Call)], c: u32) -> usize
-    ensures { result ≤ length thread.now }
+    ensures value { result ≡ length (numbers_from 0 c thread.now) }
+    ensures most { result ≤ length thread.now }
 {
     let mut count = 0;
     for call in thread {
@@ -105,11 +108,24 @@ impl Calls {
 
     /// How many calls are on connection `c`.
     pub(crate) fn count_on(&self, c: u32) -> usize
-        ensures { result ≤ 4096 }
+        ensures value { result ≡ calls_on self.now c }
+        ensures most { result ≤ 4096 }
+        ensures threads { length self.now ≡ 4 }
     {
         count_of(self.thread(0), c)
             + count_of(self.thread(1), c)
             + count_of(self.thread(2), c)
             + count_of(self.thread(3), c)
+    }
+
+    /// The most calls that a thread makes.
+    pub(crate) fn longest(&self) -> u32
+        ensures longest { (j : ℕ) → j < 4 → length (calls_of self.now j) ≤ result }
+        ensures most { result ≤ 1024 }
+    {
+        self.len(0)
+            .max(self.len(1))
+            .max(self.len(2))
+            .max(self.len(3))
     }
 }

@@ -1,12 +1,14 @@
-//! The laws of settled and whole orders. Each is a function that does nothing, whose contract is the law.
+//! The laws of settled and whole orders, and of blocks that get their acts one by one. Each is a function that does nothing, whose contract is the law.
 
-ghost use Rattle.std.specs.Prelude.{◌≡◌, ℕ, List, [], map, length};
+ghost use Rattle.std.specs.Prelude.{◌≡◌, ℕ, ◌<◌, false, List, [], map, length};
 ghost use Rattle.std.specs.List.{range_with_len};
 ghost use Rattle.perimeter_core.specs.declared.entries.Act.{Act};
 ghost use Rattle.perimeter_core.specs.declared.entries.Act.TheVariants as Act;
 ghost use Rattle.conn_classifier.specs.Plan.{PlanOf, items_in};
-ghost use Rattle.conn_blocks.specs.CallLists.{CallLists};
-ghost use Rattle.conn_blocks.specs.Orders.{numbers_on, settle, IsAll, IsWhole};
+ghost use Rattle.conn_blocks.specs.CallLists.{CallLists, calls_of};
+ghost use Rattle.conn_blocks.specs.Orders.{is_held, numbers_on, settle, IsAll, IsWhole};
+ghost use Rattle.conn_blocks.specs.ServeOrder.{serve, serving_of, BlockOf};
+ghost use Rattle.conn_blocks.specs.Holding.{is_held_back, stage_at, IsNew, StandsFor};
 
 /// Where all feeds came in order, and all calls in any order, what is kept is a whole order.
 pub fn a_settled_order_is_whole()
@@ -19,4 +21,18 @@ pub fn whole_orders_without_calls_are_equal()
         → order ≡ map Act.Feed (range_with_len 0 (length (items_in p c))) }
     ensures equal { (p : PlanOf) (calls : CallLists) (c : ℕ) (order other : List Act) → ((j : ℕ) → numbers_on calls c j ≡ [])
         → IsWhole p calls c order → IsWhole p calls c other → order ≡ other }
+{}
+
+/// A new block has had no acts.
+pub fn a_new_block_stands_for_no_acts()
+    ensures { (p : PlanOf) (calls : CallLists) (c : ℕ) (b : BlockOf) → IsNew p calls c b → StandsFor p calls c [] b }
+{}
+
+/// What a block has had fixes its order: what settling keeps. It holds back the calls that came and weren't kept.
+pub fn a_block_holds_back_what_settling_holds()
+    ensures order { (p : PlanOf) (calls : CallLists) (c : ℕ) (came : List Act) (b : BlockOf) → StandsFor p calls c came b → b.order ≡ settle calls c came }
+    ensures held { (p : PlanOf) (calls : CallLists) (c : ℕ) (came : List Act) (b : BlockOf) (j k : ℕ) → StandsFor p calls c came b → j < 4
+        → k < length (calls_of calls j) → is_held_back (stage_at b.stages j k) ≡ is_held came (settle calls c came) j k }
+    ensures served { (p : PlanOf) (calls : CallLists) (c : ℕ) (came : List Act) (b : BlockOf) → StandsFor p calls c came b → b.short ≡ false
+        → serving_of b ≡ serve p calls c (settle calls c came) }
 {}

@@ -5,7 +5,9 @@
 
 mod block;
 mod calls;
+mod holding;
 pub mod laws;
+mod stages;
 
 pub use block::{Block, serve_one};
 pub use calls::Calls;
