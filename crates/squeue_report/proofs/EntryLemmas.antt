@@ -1,5 +1,5 @@
 -- Entries and the acts that they stand for.
-use Rattle.std.proofs.Common.{◌≡◌, ℕ, ◌+◌, ◌-◌, ◌≤◌, Bool, true, false, List, [], ◌∷◌, ◌++◌, suc, zero, map, refl, sym, ap, subst, ◌∙◌, ◌⊎◌, inl, inr, cond, eqb, arith}
+use Rattle.std.proofs.Common.{◌≡◌, ℕ, ◌+◌, ◌-◌, ◌≤◌, List, [], ◌∷◌, ◌++◌, suc, zero, map, refl, sym, ap, subst, ◌∙◌, inl, inr, cond, eqb, arith}
 use Rattle.std.specs.List.{flat_map, range_with_len, AllByRecursion}
 use Rattle.std.proofs.lemmas.Bool.Decides.{eqb_tells}
 use Rattle.perimeter_core.specs.declared.entries.Act.{Act}

@@ -1,6 +1,6 @@
 -- The entries of an order give its acts again, and no two runs beside each other could be one.
-use Rattle.std.specs.Prelude.{◌≡◌, ℕ, ◌+◌, ◌-◌, List, [], ◌∷◌, map}
-use Rattle.std.specs.List.{flat_map, range_with_len}
+use Rattle.std.specs.Prelude.{◌≡◌, ◌+◌, ◌-◌, List, [], ◌∷◌, map}
+use Rattle.std.specs.List.{range_with_len}
 use Rattle.perimeter_core.specs.declared.entries.Act.{Act}
 use Rattle.perimeter_core.specs.declared.entries.Act.TheVariants as act
 use Rattle.squeue_report.specs.ReportText.{Entry, feeds, call}

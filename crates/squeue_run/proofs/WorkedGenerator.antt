@@ -34,3 +34,20 @@ text = refl
 next_text : encode_lower (record_at 7 2 1) ≡ codes "000000002a4e00002c0000002c0000004500002c00004000400626c90a0100010a0000029c400009e8155a6345d2b7235018ffff35960000cc5abe1b"
 unfolding record_at record_of segment_at numbers_at sent_before text_at drawn_text text_len round_text text_before draw state_at encode_with segment_bytes ip_sum tcp_sum
 next_text = refl
+
+-- the numbers of the last rounds
+last_text : numbers_at 7 97 4 ≡ record { flags = 24; seq = 0xfb37f3e1; ack = 0xb5a95f18 }
+unfolding numbers_at sent_before text_len draw state_at
+last_text = refl
+
+last_len : text_len 97 4 ≡ 6
+unfolding text_len
+last_len = refl
+
+fin : numbers_at 7 98 1 ≡ record { flags = 17; seq = 0xe8156c93; ack = 0x45d2b723 }
+unfolding numbers_at draw state_at
+fin = refl
+
+last_ack : numbers_at 7 99 2 ≡ record { flags = 16; seq = 0x44318404; ack = 0x236fa439 }
+unfolding numbers_at draw state_at
+last_ack = refl

@@ -79,10 +79,6 @@ abbrev pub RanGenerated : ℕ → Bool → End → End → Status → Type 0
 RanGenerated number verify out err status.Ok = GetsWhole (IsSummary number verify) out × IsUntouched err
 RanGenerated number verify out err status.WriteFault = GetsFront (IsSummary number verify) out × GetsLine err write_line
 RanGenerated number verify out err status.NoMemory = OnlyTells out err memory_line
-RanGenerated number verify out err status.BadCapture = (why : CaptureFault) × IsBad why × IsRefused (generated number) why × OnlyTells out err (bad_line why)
-RanGenerated number verify out err status.TooLarge =
-    ((67108864 < length (generated number)) × OnlyTells out err many_bytes_line)
-    ⊎ (IsRefused (generated number) fault.TooManyRecords × OnlyTells out err many_records_line)
 RanGenerated number verify out err _ = ⊥
 
 -- an input that was read
@@ -118,10 +114,10 @@ pub record HoldsCapture (a : Asked) (left : Option (List ℕ)) : Type 0 where
   pub there : AllThere (conns_of file a.verify) a.calls
 
 abbrev pub AcceptsBy : Option ℕ → Asked → Option (List ℕ) → Type 0
-AcceptsBy (Some number) a left = ⊥
+AcceptsBy (Some number) a left = Unit {0}
 AcceptsBy None a left = HoldsCapture a left
 
--- the words are accepted, and so is what the source has left
+-- the words are accepted, and so is what the source has left, where it is read
 abbrev pub Accepts : Option Asked → Option (List ℕ) → Type 0
 Accepts None left = ⊥
 Accepts (Some a) left = AcceptsBy a.number a left
