@@ -1,5 +1,5 @@
 -- The clauses of a squeue's calls.
-use Rattle.std.specs.Prelude.{Bool, false, ◌≡◌, ◌≤◌, ◌+◌, ℕ, Option, Some, None, is_some, List, [], ◌∷◌, ◌++◌, length, slice_index_or}
+use Rattle.std.specs.Prelude.{Bool, false, ◌≡◌, ◌<◌, ◌≤◌, ◌^◌, ◌+◌, ℕ, Option, Some, None, is_some, List, [], ◌∷◌, ◌++◌, length, slice_index_or}
 use Rattle.turn_gate.specs.History.{Begins, only}
 use Rattle.turn_gate.specs.Passes.{IsPassOf, number, seen, mine}
 use Rattle.turn_gate.specs.Helds.{IsHeldOf, held_number, held_seen, held_mine, held_value}
@@ -10,7 +10,7 @@ use Rattle.turn_gate.specs.declared.gate.Gate.{Gate}
 use Rattle.perimeter_core.specs.declared.entries.Act.{Act}
 use Rattle.perimeter_core.specs.declared.marks.SynchAct.{SynchAct}
 use Rattle.perimeter_core.specs.Perimeter.{processed, unprocessed}
-use Rattle.perimeter_core.specs.History.{Element, Setting, Limits, worker, run}
+use Rattle.perimeter_core.specs.History.{Element, Setting, Limits, worker, feed_quotas, run}
 use Rattle.perimeter_core.specs.Legal.{Legal}
 use Rattle.perimeter_core.specs.Ending.{IsOver}
 use Rattle.perimeter_core.specs.Blocks.{Blocks, peri, with_feeds, with_act}
@@ -44,6 +44,8 @@ pub record Found {R : Type 0} (limits : R → Limits) (s : Named R) (p : Pass El
   pub goes_on : Begins (seen p) u.found
   pub legal : Legal (setting_of limits s.given) u.found
   pub own : only number_of u.number u.found ≡ u.mine
+  -- so what is queued can be counted in 32 bits
+  pub few : (length s.given.quotas < 64) × (feed_quotas s.given.quotas ≤ 2 ^ 30)
 
 -- the pass afterwards has seen what the turn found and then the element
 pub record Marked {R : Type 0} (u : Turned R) (e : Element) (p : Pass Element) : Type 0 where
