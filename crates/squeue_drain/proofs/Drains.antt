@@ -146,6 +146,6 @@ module _ {R O : Type 0} (stands : R → Blocks → Type 0) (limits : R → Limit
   served_one o n to same none off =
       let last : plain off.last ≡ gone (number n.pass) 0 Done.None [] = ap plain (off.leaves refl ∙ ap (λ (xs : List Entry). On.Leave (number n.pass) (length xs) Done.None) none) in
       subst (λ (p : Pass Element). GoesOn limits s p to × (made_by (number p) off.since ≡ []) × (seen to ≡ (seen p ++ off.since) ++ gone (number p) 0 Done.None [] ∷ [])
-          × (mine to ≡ mine p ++ gone (number p) 0 Done.None [] ∷ []) × (is_closed (run (setting_of limits s.given) (seen p)) (number p) ≡ false → Idle (run (setting_of limits s.given) (seen to)) (number p)) → ServedOne limits s o to) (sym same)
+      × (mine to ≡ mine p ++ gone (number p) 0 Done.None [] ∷ []) × (is_closed (run (setting_of limits s.given) (seen p)) (number p) ≡ false → Idle (run (setting_of limits s.given) (seen to)) (number p)) → ServedOne limits s o to) (sym same)
       (λ k. record { goes_on = k.0; since = off.since; others = k.1; now_seen = k.2; now_mine = k.3; idle = k.4 })
       (off.goes_on, off.others, off.now_seen ∙ ap (λ (e : Element). (seen n.pass ++ off.since) ++ e ∷ []) last, off.now_mine ∙ ap (λ (e : Element). mine n.pass ++ e ∷ []) last, off.idle)

@@ -122,12 +122,7 @@ pub(crate) fn decide<R: Resident, W: Wait>(
 }
 
 // Leaves with what is left of the hand.
-fn leave<R: Resident>(
-    sq: &Squeue<R>,
-    turn: Turn<R>,
-    resident: R,
-    hand: Hand,
-) -> (Pass, u32, bool)
+fn leave<R: Resident>(sq: &Squeue<R>, turn: Turn<R>, resident: R, hand: Hand) -> (Pass, u32, bool)
     requires squeue { turn.squeue ≡ sq.now }
     requires hand { IsLeft R.limits sq.now.given turn.found hand }
     requires resident { IsPeri R.stands R.limits R.size R.origin sq.now.given resident (peri_left R.limits sq.now.given turn.found hand Done.None []) }
@@ -147,12 +142,7 @@ fn leave<R: Resident>(
 }
 
 // Hands the perimeter to the pass whose Ask is next.
-fn grant<R: Resident>(
-    sq: &Squeue<R>,
-    turn: Turn<R>,
-    resident: R,
-    hand: Hand,
-) -> (Pass, u32, bool)
+fn grant<R: Resident>(sq: &Squeue<R>, turn: Turn<R>, resident: R, hand: Hand) -> (Pass, u32, bool)
     requires squeue { turn.squeue ≡ sq.now }
     requires hand { IsLeft R.limits sq.now.given turn.found hand }
     requires first { first_entry hand.left ≡ Some (Entry'.Ask (asker hand.left)) }

@@ -1,4 +1,4 @@
-use Rattle.std.proofs.Common.{◌≡◌, ◌<◌, ◌+◌, length, List, [], ◌∷◌, refl, ap, sym, ◌∙◌, arith}
+use Rattle.std.proofs.Common.{length, ap, sym, ◌∙◌, arith}
 use Rattle.perimeter_core.specs.Perimeter.{State}
 use Rattle.perimeter_core.specs.History.{run}
 use Rattle.squeue_state.specs.Naming.{setting_of}

@@ -1,4 +1,4 @@
-use Rattle.std.proofs.Common.{◌≡◌, List, [], drop, ap, ◌∙◌}
+use Rattle.std.proofs.Common.{List, drop, ap, ◌∙◌}
 use Rattle.perimeter_core.specs.declared.entries.Entry.{Entry}
 use Rattle.squeue_drain.proofs.Drains.{served_one, still_has, none_of_some}
 use Rattle.squeue_drain.proofs.draining.serve_one.Goals as goal
