@@ -1,0 +1,4 @@
+pub mod Carrying
+pub mod Entries
+pub mod Choosing
+pub mod Answering

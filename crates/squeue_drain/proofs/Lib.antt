@@ -1,0 +1,9 @@
+pub mod Hands
+pub mod OwnersFacts
+pub mod Marks
+pub mod Stepping
+pub mod Turning
+pub mod Deciding
+pub mod Drains
+pub mod Fresh
+pub mod Workers

@@ -1,0 +1,4 @@
+pub mod Owning
+pub mod Draining
+pub mod Working
+pub mod Rounds

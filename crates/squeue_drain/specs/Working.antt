@@ -1,0 +1,19 @@
+-- What the worker does.
+use Rattle.std.specs.Prelude.{◌≡◌, ℕ, List, [], ◌∷◌, ◌++◌}
+use Rattle.turn_gate.specs.Passes.{number, seen}
+use Rattle.turn_gate.specs.declared.pass.Pass.{Pass}
+use Rattle.perimeter_core.specs.History.{Element, Setting, Limits, pass_of, run}
+use Rattle.squeue_state.specs.Naming.{Named, setting_of}
+use Rattle.squeue_drain.specs.Draining.{GoesOn, LeavesNothing}
+
+-- wherever a mark of p among these elements leaves, it leaves nothing; they stand behind the past
+abbrev pub OnlyLeavesNothing : Setting → ℕ → List Element → List Element → Type 0
+OnlyLeavesNothing S p past [] = Unit {0}
+OnlyLeavesNothing S p past (e ∷ K) = (pass_of e.mark ≡ p → LeavesNothing (run S past) e.mark) × OnlyLeavesNothing S p (past ++ e ∷ []) K
+
+-- The pass has gone on. Wherever it left, it left nothing of its hand, in a turn that found nothing queued
+pub record Worked {R : Type 0} (limits : R → Limits) (s : Named R) (from to : Pass Element) : Type 0 where
+  pub goes_on : GoesOn limits s from to
+  pub since : List Element
+  pub now_seen : seen to ≡ seen from ++ since
+  pub leaves : OnlyLeavesNothing (setting_of limits s.given) (number from) (seen from) since

@@ -1,0 +1,79 @@
+-- What an entry into a squeue needs, and what it adds to the history.
+use Rattle.std.specs.Prelude.{◌≡◌, ◌≢◌, ℕ, ◌+◌, ◌≤◌, ◌<◌, true, List, [], ◌∷◌, ◌++◌, length, replicate}
+use Rattle.turn_gate.specs.History.{Begins, only}
+use Rattle.turn_gate.specs.Passes.{IsPassOf, number, seen, mine}
+use Rattle.turn_gate.specs.declared.pass.Pass.{Pass}
+use Rattle.perimeter_core.specs.declared.entries.Feed.{Feed}
+use Rattle.perimeter_core.specs.declared.marks.SynchAct.TheVariants as Done
+use Rattle.perimeter_core.specs.declared.marks.Mark.{Mark}
+use Rattle.perimeter_core.specs.Perimeter.{Idle, is_free, is_empty}
+use Rattle.perimeter_core.specs.History.{Element, Setting, Limits, feed_quota, run, made_by}
+use Rattle.perimeter_core.specs.Deeds.{entries, due, done}
+use Rattle.perimeter_core.specs.Legal.{Legal, Enters, feeds_by, feed_count}
+use Rattle.squeue_state.specs.Naming.{Named, setting_of}
+use Rattle.squeue_state.specs.Elements.{number_of, filled, fasted, claimed, took, gone}
+use Rattle.squeue_drain.specs.Draining.{plain, Ends, is_leave, GoesOn}
+use Rattle.squeue_enter.specs.declared.Mode.{Mode}
+use Rattle.squeue_enter.specs.declared.entering.How.{How}
+use Rattle.squeue_enter.specs.declared.entering.How.TheVariants as How'
+use Rattle.squeue_enter.specs.declared.entering.Way.{Way}
+use Rattle.squeue_enter.specs.declared.entering.Way.TheVariants as Way'
+use Rattle.squeue_enter.specs.declared.entering.Entered.{Entered}
+use Rattle.squeue_enter.specs.Ways.{way_of, is_one}
+
+-- After what the pass has seen it may enter these feeds, one after another: it isn't closed, owner, granted or waiting; the
+-- block of each is here and the pass is its ring's; each is the next one of its connection and below the limit; and the
+-- pass has so many feeds left
+pub record MayEnter {R : Type 0} (limits : R → Limits) (s : Named R) (p : Pass Element) (es : List Feed) : Type 0 where
+  pub pass : IsPassOf number_of s.gate p
+  pub no_worker : number p < length s.given.quotas
+  pub idle : Idle (run (setting_of limits s.given) (seen p)) (number p)
+  pub enters : Enters (setting_of limits s.given) (run (setting_of limits s.given) (seen p)) (number p) (due (seen p)) (entries es)
+  pub quota : feeds_by (number p) (seen p) + length es ≤ feed_quota (setting_of limits s.given) (number p)
+
+-- From the history H on, in which it made M, the pass p drained: it took the queue some times, and then left or granted. It
+-- processed at most `budget` feeds, and left with something queued only where it processed just as many
+pub record DrainsFrom (S : Setting) (p budget : ℕ) (H M : List Element) (to : Pass Element) : Type 0 where
+  pub between : List Element
+  pub takes : ℕ
+  pub last : Mark
+  pub ends : Ends p last
+  pub now_seen : seen to ≡ H ++ (between ++ plain last ∷ [])
+  pub now_mine : mine to ≡ M ++ (replicate takes (took p) ++ plain last ∷ [])
+  pub most : feed_count (done S (seen to)) ≤ feed_count (done S H) + budget
+  pub full : is_leave last ≡ true → (run S (seen to)).chain ≢ [] → feed_count (done S (seen to)) ≡ feed_count (done S H) + budget
+
+-- From H on the pass left after it has processed its hand, while others made what stands between
+pub record LeavesFrom (p : ℕ) (H M : List Element) (to : Pass Element) : Type 0 where
+  pub between : List Element
+  pub others : made_by p between ≡ []
+  pub now_seen : seen to ≡ H ++ (between ++ gone p 0 Done.None [] ∷ [])
+  pub now_mine : mine to ≡ M ++ gone p 0 Done.None [] ∷ []
+
+-- What the entry of es added where its turn found H, in which the pass had made M, and what it answers
+abbrev pub Went : Setting → Way → ℕ → ℕ → List Feed → List Element → List Element → Pass Element → How → Type 0
+Went S Way'.Fill p budget es H M to how = (how ≡ How'.Queued (is_free (run S H).own)) × (seen to ≡ H ++ filled p es ∷ []) × (mine to ≡ M ++ filled p es ∷ [])
+Went S Way'.Fast p budget es H M to how = (f : Feed) × (es ≡ f ∷ []) × (how ≡ How'.Fast (length (run S (seen to)).chain)) × DrainsFrom S p budget (H ++ fasted p f ∷ []) (M ++ fasted p f ∷ []) to
+Went S Way'.Alone p budget es H M to how = (f : Feed) × (es ≡ f ∷ []) × (how ≡ How'.Fast (length (run S (seen to)).chain)) × LeavesFrom p (H ++ fasted p f ∷ []) (M ++ fasted p f ∷ []) to
+Went S Way'.Claim p budget es H M to how = (how ≡ How'.Drained (length (run S (seen to)).chain)) × DrainsFrom S p budget (H ++ claimed p es ∷ []) (M ++ claimed p es ∷ []) to
+
+-- The entry of es: its deciding turn found a legal history, and it went the way of the table for the state after it
+pub record HasEntered {R : Type 0} (limits : R → Limits) (s : Named R) (mode : Mode) (budget : ℕ) (es : List Feed) (from : Pass Element) (r : Entered) : Type 0 where
+  pub goes_on : GoesOn limits s from r.pass
+  pub idle : Idle (run (setting_of limits s.given) (seen r.pass)) (number from)
+  pub found : List Element
+  pub begins : Begins (seen from) found
+  pub legal : Legal (setting_of limits s.given) found
+  pub own : only number_of (number from) found ≡ mine from
+  pub went : Went (setting_of limits s.given) (way_of mode (is_free (run (setting_of limits s.given) found).own) (is_empty (run (setting_of limits s.given) found).chain) (is_one es)) (number from) budget es found (mine from) r.pass r.how
+  pub polling : r.polling ≡ (run (setting_of limits s.given) (seen r.pass)).polling
+
+-- The pass filled: a turn found a legal history, and queued the feeds
+pub record HasFilled {R : Type 0} (limits : R → Limits) (s : Named R) (from : Pass Element) (es : List Feed) (to : Pass Element) : Type 0 where
+  pub goes_on : GoesOn limits s from to
+  pub idle : Idle (run (setting_of limits s.given) (seen to)) (number from)
+  pub found : List Element
+  pub begins : Begins (seen from) found
+  pub legal : Legal (setting_of limits s.given) found
+  pub now_seen : seen to ≡ found ++ filled (number from) es ∷ []
+  pub now_mine : mine to ≡ mine from ++ filled (number from) es ∷ []

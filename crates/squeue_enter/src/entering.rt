@@ -1,0 +1,124 @@
+//! Entering with a chain of feeds.
+ghost use Rattle.std.specs.Prelude.{◌≡◌, ◌+◌, ◌≤◌, ◌<◌, ◌∷◌, [], Bool, length, MatchResult};
+ghost use Rattle.turn_gate.specs.Passes.{IsReturned, missed, number, seen, steps};
+ghost use Rattle.perimeter_core.specs.Perimeter.{Idle, is_free as free};
+ghost use Rattle.perimeter_core.specs.History.{run};
+ghost use Rattle.squeue_state.specs.Naming.{setting_of};
+ghost use Rattle.squeue_state.specs.Elements.{number_of, filled};
+ghost use Rattle.squeue_state.specs.Words.{Added};
+ghost use Rattle.squeue_enter.specs.Ways.{way_of};
+ghost use Rattle.squeue_enter.specs.Entering.{MayEnter, HasEntered, HasFilled};
+
+use crate::Mode;
+use perimeter_core::{Feed, Hook, Own, Resident};
+use squeue_drain::{Owner, drain, is_polling, serve_one};
+use squeue_state::{Missed, Pass, Squeue};
+use std::alloc::Global;
+use std::sync::Wait;
+
+/// What an entry did: it took the perimeter with its one feed; it took it with all that was queued; or it queued its chain,
+/// and woke the worker where nobody had the perimeter. `rest` is the number of entries that are queued after it.
+#[derive(Clone, Copy, Debug, PartialEq, Eq)]
+pub enum How {
+    Fast { rest: u32 },
+    Drained { rest: u32 },
+    Queued { woke: bool },
+}
+
+/// An entry's answer: the pass, what it did, and whether the ring is to bring chains from now on. It must be spent.
+pub struct Entered {
+    pub pass: Pass,
+    pub how: How,
+    pub polling: bool,
+}
+
+// The ways of an entry. `Alone` is `Fast` without a drain.
+#[derive(Clone, Copy)]
+pub(crate) enum Way {
+    Fill,
+    Fast,
+    Alone,
+    Claim,
+}
+
+/// Enters the feeds of the chain, which isn't empty. The first turn decides by the mode.
+pub fn enter<R: Resident, H: Hook, W: Wait>(
+    sq: &Squeue<R>,
+    rt: &W,
+    alloc: Global,
+    hook: &H,
+    pass: Pass,
+    chain: &[Feed],
+    mode: Mode,
+    budget: u32,
+) -> Entered
+    requires some { 0 < length chain.now }
+    requires may { MayEnter R.limits sq.now pass chain.now }
+    requires budget { 1 ≤ budget }
+    ensures { HasEntered R.limits sq.now mode budget chain.now pass result }
+{
+    let turn = sq.turn(rt, pass);
+    let woke = is_free(turn.own());
+    match choose(mode, woke, turn.chain_len() == 0, chain.len() == 1) {
+        Way::Fill => {
+            let polling = is_polling(turn.chain_len() + chain.len() as u32, turn.polling());
+            let pass = sq.fill(turn, chain);
+            let how = How::Queued { woke };
+            Entered { pass, how, polling }
+        }
+        Way::Fast => {
+            let owner = Owner::of(sq.fast(turn, chain[0]));
+            let (pass, rest, polling) = drain(sq, rt, alloc, hook, owner, budget);
+            let how = How::Fast { rest };
+            Entered { pass, how, polling }
+        }
+        Way::Alone => {
+            let owner = Owner::of(sq.fast(turn, chain[0]));
+            let (pass, rest, polling) = serve_one(sq, rt, alloc, hook, owner, chain[0]);
+            let how = How::Fast { rest };
+            Entered { pass, how, polling }
+        }
+        Way::Claim => {
+            let owner = Owner::of(sq.claim(turn, chain));
+            let (pass, rest, polling) = drain(sq, rt, alloc, hook, owner, budget);
+            let how = How::Drained { rest };
+            Entered { pass, how, polling }
+        }
+    }
+}
+
+/// Queues one feed where the gate is free, and doesn't wait. Where the gate is held nothing is entered.
+pub fn try_fill<R: Resident>(sq: &Squeue<R>, pass: Pass, feed: Feed) -> Result<Pass, Missed>
+    requires { MayEnter R.limits sq.now pass (feed ∷ []) }
+    ensures { MatchResult result (λ q. HasFilled R.limits sq.now pass (feed ∷ []) q) (λ m. missed (steps pass) m × IsReturned number_of sq.now.gate pass m.pass) }
+{
+    match sq.try_turn(pass) {
+        Ok(turn) => Ok(sq.fill(turn, &[feed])),
+        Err(missed) => Err(missed),
+    }
+}
+
+// Which way the entry goes, by whether nobody has the perimeter, nothing is queued, and one feed is brought.
+fn choose(mode: Mode, free: bool, empty: bool, one: bool) -> Way
+    ensures { result ≡ way_of mode free empty one }
+{
+    match mode {
+        Mode::Process if !free => Way::Fill,
+        Mode::Process if empty && one => Way::Fast,
+        Mode::Process => Way::Claim,
+        Mode::NoDrain if free && empty && one => Way::Alone,
+        Mode::NoDrain => Way::Fill,
+        Mode::Fill => Way::Fill,
+    }
+}
+
+// Whether nobody has the perimeter.
+fn is_free(own: Own) -> bool
+    ensures { result ≡ free own }
+{
+    match own {
+        Own::Free => true,
+        Own::Out(_) => false,
+        Own::Granted(_) => false,
+    }
+}

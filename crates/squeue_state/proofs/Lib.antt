@@ -1,0 +1,11 @@
+pub mod Steps
+pub mod Bounds
+pub mod Turns
+pub mod Reading
+pub mod Makers
+pub mod KeptMarks
+pub mod RoomMade
+pub mod Granting
+pub mod Closing
+pub mod Finish
+pub mod Opening

@@ -1,0 +1,60 @@
+-- What lies behind the gate of a new squeue stands for the empty history.
+use mathlib.Core.Path.{fun_ext}
+use Rattle.std.proofs.Common.{◌≡◌, ◌+◌, ◌*◌, ◌<◌, ◌≤◌, ◌^◌, if◌then◌else◌, ℕ, Bool, true, false, Option, Some, None, List, [], length, map, get_or, ap, sym, ◌∙◌, subst, refl, arith}
+use Rattle.std.specs.Prelude.{replicate, is_some, vec_capacity}
+use Rattle.perimeter_core.specs.declared.entries.Act.{Act}
+use Rattle.perimeter_core.specs.declared.marks.Own.TheVariants.{Free}
+use Rattle.perimeter_core.specs.History.{Limits, all_quotas, feed_quotas}
+use Rattle.perimeter_core.specs.Blocks.{Blocks, peri}
+use Rattle.squeue_trace.specs.Told.{Traced, mark_of}
+use Rattle.squeue_state.specs.declared.inner.Inner.{Inner}
+use Rattle.squeue_state.specs.Naming.{Given, setting_of}
+use Rattle.squeue_state.specs.Behind.{Behind, Noted, HasEmpty, room_of}
+use Rattle.squeue_state.specs.Words.{StandsEmpty, ask_quotas}
+use Rattle.squeue_state.proofs.RoomMade.{all_both}
+
+new_at : (b : Bool) (o : Option (List Act)) → b ≡ is_some o → ((had : List Act) → o ≡ Some had → had ≡ []) → (if b then Some [] else None) ≡ o
+new_at true None is empty = cc is
+new_at true (Some had) is empty = ap (λ (xs : List Act). Some xs) (sym (empty had refl))
+new_at false None is empty = refl
+new_at false (Some had) is empty = cc is
+
+-- the blocks of a resident that is as new
+new_blocks : {R : Type 0} (limits : R → Limits) (g : Given R) (blocks : Blocks) → ((c : ℕ) → get_or g.starts c false ≡ is_some (blocks c)) → ((c : ℕ) (had : List Act) → blocks c ≡ Some had → had ≡ []) → blocks ≡ peri (setting_of limits g) []
+new_blocks limits g blocks here empty = fun_ext (λ c. sym (new_at (get_or g.starts c false) (blocks c) (here c) (empty c)))
+
+both_none : {A : Type 0} (b : Bool) (xs : List A) → (if b then xs else xs) ≡ xs
+both_none true xs = refl
+both_none false xs = refl
+
+module _ {R O : Type 0} (stands : R → Blocks → Type 0) (limits : R → Limits) (size : R → ℕ) (origin : R → O) where
+  pub opens : (g : Given R) (i : Inner R) (r : R) (qs : List (ℕ × ℕ)) → g.quotas ≡ qs → g.first ≡ r → length g.starts ≡ size r → ((blocks : Blocks) (c : ℕ) → stands r blocks → get_or g.starts c false ≡ is_some (blocks c))
+      → StandsEmpty (stands r) → length qs ≤ 63 → feed_quotas qs ≤ 2 ^ 30 → ask_quotas qs ≤ 2 ^ 40
+      → i.own ≡ Free → i.chain.items ≡ [] → i.wake ≡ false → i.polling ≡ false → i.here.items ≡ g.starts → i.closed.items ≡ replicate (length qs + 1) false → i.resident ≡ Some r → HasEmpty (room_of qs) i.spare → room_of qs ≤ vec_capacity i.chain
+      → Behind stands limits size origin g i []
+  opens g i r qs is first conns here new few feeds asks own chain wake polling flags closed resident spare room =
+      let same = new_blocks limits g new.0 (λ c. here new.0 c new.1) new.2 in
+      record {
+        legal = tt;
+        own = own;
+        chain = chain;
+        wake = wake;
+        polling = polling;
+        here = flags;
+        closed = closed ∙ ap (λ (q : List (ℕ × ℕ)). replicate (length q + 1) false) (sym is);
+        resident = rw (own, resident) (record { stands_for = subst (stands r) same new.1; same_limits = ap limits (sym first); same_size = sym conns; same_origin = ap origin (sym first) });
+        spare = rw own (subst (λ (q : List (ℕ × ℕ)). HasEmpty (room_of q) i.spare) (sym is) spare);
+        room = subst (λ (q : List (ℕ × ℕ)). room_of q ≤ vec_capacity i.chain) (sym is) room;
+        few = subst (λ (q : List (ℕ × ℕ)). (all_quotas q ≤ 2 ^ 41) × (length q < 64) × (feed_quotas q ≤ 2 ^ 30)) (sym is) (let both = all_both qs in omega (arith, both, feeds, asks), omega (arith, few), feeds);
+      }
+
+pub notes_none : {R : Type 0} (g : Given R) (kept : Bool) (t : Traced) (qs : List (ℕ × ℕ)) → g.quotas ≡ qs → g.traced ≡ kept → t.marks ≡ [] → t.entries ≡ []
+    → (kept ≡ true → 8 * all_quotas qs + 4 * (length qs + 1) ≤ t.mark_room) → (kept ≡ true → all_quotas qs ≤ t.entry_room) → Noted g kept t []
+notes_none g kept t qs is on marks entries mark_room entry_room =
+    record {
+      same = sym on;
+      marks = ap (map (mark_of t.entries)) marks ∙ sym (both_none kept []);
+      entries = omega (arith, ap length entries);
+      mark_room = subst (λ (q : List (ℕ × ℕ)). kept ≡ true → 8 * all_quotas q + 4 * (length q + 1) ≤ t.mark_room) (sym is) mark_room;
+      entry_room = subst (λ (q : List (ℕ × ℕ)). kept ≡ true → all_quotas q ≤ t.entry_room) (sym is) entry_room;
+    }

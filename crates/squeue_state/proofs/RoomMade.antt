@@ -1,0 +1,63 @@
+-- What a squeue takes when it is made.
+use Rattle.std.proofs.Common.{◌≡◌, ◌+◌, ◌<◌, ◌≤◌, ◌⊎◌, inl, inr, ℕ, zero, suc, Bool, false, Option, Some, None, List, [], ◌∷◌, ◌++◌, length, take, get_or, ap, ◌∙◌, refl, arith}
+use Rattle.std.specs.Prelude.{is_some}
+use Rattle.std.proofs.lemmas.List.{take_more, take_all}
+use Rattle.std.proofs.Math.ListN.{get_or-eq_default}
+use Rattle.perimeter_core.specs.declared.entries.Act.{Act}
+use Rattle.perimeter_core.specs.History.{all_quotas, feed_quotas}
+use Rattle.perimeter_core.specs.Blocks.{Blocks}
+use Rattle.squeue_state.specs.declared.guarded.Quota.{Quota}
+use Rattle.squeue_state.specs.Behind.{pairs}
+use Rattle.squeue_state.specs.Words.{ask_quotas}
+
+pub all_both : (qs : List (ℕ × ℕ)) → all_quotas qs ≡ feed_quotas qs + ask_quotas qs
+all_both [] = omega arith
+all_both (q ∷ qs) = omega (arith, all_both qs)
+
+feeds_push : (qs : List Quota) (q : Quota) → feed_quotas (pairs (qs ++ q ∷ [])) ≡ feed_quotas (pairs qs) + q.feeds
+feeds_push [] q = omega arith
+feeds_push (x ∷ qs) q = omega (arith, feeds_push qs q)
+
+asks_push : (qs : List Quota) (q : Quota) → ask_quotas (pairs (qs ++ q ∷ [])) ≡ ask_quotas (pairs qs) + q.asks
+asks_push [] q = omega arith
+asks_push (x ∷ qs) q = omega (arith, asks_push qs q)
+
+pub feeds_next : (qs : List Quota) (i : ℕ) (d : Quota) → i < length qs → feed_quotas (pairs (take (i + 1) qs)) ≡ feed_quotas (pairs (take i qs)) + (get_or qs i d).feeds
+feeds_next qs i d h = ap (λ xs. feed_quotas (pairs xs)) (take_more qs i d h) ∙ feeds_push (take i qs) (get_or qs i d)
+
+pub asks_next : (qs : List Quota) (i : ℕ) (d : Quota) → i < length qs → ask_quotas (pairs (take (i + 1) qs)) ≡ ask_quotas (pairs (take i qs)) + (get_or qs i d).asks
+asks_next qs i d h = ap (λ xs. ask_quotas (pairs xs)) (take_more qs i d h) ∙ asks_push (take i qs) (get_or qs i d)
+
+pub feeds_part : (qs : List Quota) (i : ℕ) → feed_quotas (pairs (take i qs)) ≤ feed_quotas (pairs qs)
+feeds_part [] zero = omega arith
+feeds_part [] (suc i) = omega arith
+feeds_part (q ∷ qs) zero = omega arith
+feeds_part (q ∷ qs) (suc i) = omega (arith, feeds_part qs i)
+
+pub asks_part : (qs : List Quota) (i : ℕ) → ask_quotas (pairs (take i qs)) ≤ ask_quotas (pairs qs)
+asks_part [] zero = omega arith
+asks_part [] (suc i) = omega arith
+asks_part (q ∷ qs) zero = omega arith
+asks_part (q ∷ qs) (suc i) = omega (arith, asks_part qs i)
+
+pub pairs_all : (qs : List Quota) (i : ℕ) → length qs ≤ i → pairs (take i qs) ≡ pairs qs
+pairs_all qs i h = ap pairs (take_all i qs h)
+
+below_or : (c n : ℕ) → (c < n) ⊎ (n ≤ c)
+below_or c zero = inr (omega arith)
+below_or zero (suc n) = inl (omega arith)
+below_or (suc c) (suc n) = elim (below_or c n) [ inl h ↦ inl (omega (arith, h)) | inr h ↦ inr (omega (arith, h)) ]
+
+none_above : (b : Option (List Act)) (c n : ℕ) → ((had : List Act) → b ≡ Some had → c < n) → n ≤ c → false ≡ is_some b
+none_above None c n small above = refl
+none_above (Some had) c n small above = let lt = small had refl in absurd (omega (arith, lt, above))
+
+-- the flags of all connections, and none behind them
+pub all_flags : {R : Type 0} (stands : R → Blocks → Type 0) (size : R → ℕ) (in_range : (r : R) (blocks : Blocks) (c : ℕ) (had : List Act) → stands r blocks → blocks c ≡ Some had → c < size r) (r : R) (xs : List Bool) (n : ℕ)
+    → length xs ≡ n → size r ≤ n → ((blocks : Blocks) (c : ℕ) → stands r blocks → c < n → get_or xs c false ≡ is_some (blocks c))
+    → (blocks : Blocks) (c : ℕ) → stands r blocks → get_or xs c false ≡ is_some (blocks c)
+all_flags stands size in_range r xs n count all each blocks c s =
+    elim (below_or c n) [
+      | inl h ↦ each blocks c s h
+      | inr h ↦ get_or-eq_default xs false (omega (arith, count, h)) ∙ none_above (blocks c) c n (λ had is. let lt = in_range r blocks c had s is in omega (arith, lt, all)) h
+    ]

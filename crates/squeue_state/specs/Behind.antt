@@ -1,0 +1,106 @@
+-- The value behind a gate stands for a legal history.
+use Rattle.std.specs.Prelude.{◌≡◌, ◌<◌, ◌≤◌, ◌+◌, ◌*◌, ◌^◌, ℕ, Bool, true, if◌then◌else◌, Option, Some, None, List, [], map, length, vec_capacity}
+use Rattle.std.specs.Prelude.{Vec}
+use Rattle.perimeter_core.specs.declared.entries.Entry.{Entry}
+use Rattle.perimeter_core.specs.declared.marks.SynchAct.{SynchAct}
+use Rattle.perimeter_core.specs.declared.marks.SynchAct.TheVariants as Done
+use Rattle.perimeter_core.specs.declared.marks.Own.{Own}
+use Rattle.perimeter_core.specs.declared.marks.Own.TheVariants.{Free, Out, Granted}
+use Rattle.perimeter_core.specs.Perimeter.{unprocessed}
+use Rattle.perimeter_core.specs.History.{Element, Limits, run, all_quotas, feed_quotas}
+use Rattle.perimeter_core.specs.Legal.{Legal}
+use Rattle.perimeter_core.specs.Blocks.{Blocks, peri}
+use Rattle.squeue_state.specs.declared.inner.Inner.{Inner}
+use Rattle.squeue_state.specs.declared.guarded.Guarded.{Guarded}
+use Rattle.squeue_state.specs.declared.guarded.Quota.{Quota}
+use Rattle.squeue_trace.specs.Told.{Traced, marks_of}
+use Rattle.perimeter_core.specs.Deeds.{entered}
+use Rattle.squeue_state.specs.Naming.{Given, setting_of}
+
+-- a slice of quotas, as contracts see it
+abbrev pub pairs : List Quota → List (ℕ × ℕ)
+pairs quotas = map (λ q. (q.feeds, q.asks)) quotas
+
+-- what the squeue was made with, by the value that its gate was made with
+abbrev pub given_of : {R : Type 0} → Guarded R → Given R
+given_of v =
+    record {
+      number = v.facts.value.number;
+      rings = v.facts.value.rings;
+      quotas = v.facts.value.quotas;
+      starts = v.facts.value.starts;
+      traced = v.facts.value.traced;
+      first = v.first.value;
+    }
+
+-- how many entries may be queued: all feeds, and one ask for each pass
+abbrev pub room_of : List (ℕ × ℕ) → ℕ
+room_of qs = feed_quotas qs + (length qs + 1)
+
+module _ {R O : Type 0} (stands : R → Blocks → Type 0) (limits : R → Limits) (size : R → ℕ) (origin : R → O) where
+  -- one of the squeue's residents, which stands for these blocks
+  pub record IsPeri (g : Given R) (r : R) (blocks : Blocks) : Type 0 where
+    pub stands_for : stands r blocks
+    pub same_limits : limits r ≡ limits g.first
+    pub same_size : size r ≡ length g.starts
+    pub same_origin : origin r ≡ origin g.first
+
+  -- the resident lies in the gate unless a pass is out
+  abbrev pub Lies : Given R → Own → Option R → Blocks → Type 0
+  Lies g (Out p) None blocks = Unit {0}
+  Lies g (Out p) (Some r) blocks = ⊥
+  Lies g Free None blocks = ⊥
+  Lies g Free (Some r) blocks = IsPeri g r blocks
+  Lies g (Granted p) None blocks = ⊥
+  Lies g (Granted p) (Some r) blocks = IsPeri g r blocks
+
+-- there is an empty buffer with room for n entries
+abbrev pub HasEmpty : {A : Type 0} → ℕ → Option (Vec Entry A) → Type 0
+HasEmpty n None = ⊥
+HasEmpty n (Some v) = (v.items ≡ []) × (n ≤ vec_capacity v)
+
+-- so does the second buffer, empty
+abbrev pub Spare : {A : Type 0} → ℕ → Own → Option (Vec Entry A) → Type 0
+Spare room (Out p) None = Unit {0}
+Spare room (Out p) (Some v) = ⊥
+Spare room Free s = HasEmpty room s
+Spare room (Granted p) s = HasEmpty room s
+
+module _ {R O : Type 0} (stands : R → Blocks → Type 0) (limits : R → Limits) (size : R → ℕ) (origin : R → O) where
+  -- what lies behind the gate stands for the history; the counts are few enough for what counts marks and entries
+  pub record Behind (g : Given R) (i : Inner R) (H : List Element) : Type 0 where
+    pub legal : Legal (setting_of limits g) H
+    pub own : i.own ≡ (run (setting_of limits g) H).own
+    pub chain : i.chain.items ≡ (run (setting_of limits g) H).chain
+    pub wake : i.wake ≡ (run (setting_of limits g) H).wake
+    pub polling : i.polling ≡ (run (setting_of limits g) H).polling
+    pub here : i.here.items ≡ (run (setting_of limits g) H).here
+    pub closed : i.closed.items ≡ (run (setting_of limits g) H).closed
+    pub resident : Lies stands limits size origin g i.own i.resident (peri (setting_of limits g) H)
+    pub spare : Spare (room_of g.quotas) i.own i.spare
+    pub room : room_of g.quotas ≤ vec_capacity i.chain
+    pub few : (all_quotas g.quotas ≤ 2 ^ 41) × (length g.quotas < 64) × (feed_quotas g.quotas ≤ 2 ^ 30)
+
+-- The marks of the history are kept where that was asked for, with room for all that may come
+pub record Noted {R : Type 0} (g : Given R) (traced : Bool) (t : Traced) (H : List Element) : Type 0 where
+  pub same : traced ≡ g.traced
+  pub marks : marks_of t ≡ (if traced then map (λ e. e.mark) H else [])
+  pub entries : length t.entries ≤ length (entered H)
+  pub mark_room : traced ≡ true → 8 * all_quotas g.quotas + 4 * (length g.quotas + 1) ≤ t.mark_room
+  pub entry_room : traced ≡ true → all_quotas g.quotas ≤ t.entry_room
+
+module _ {R O : Type 0} (stands : R → Blocks → Type 0) (limits : R → Limits) (size : R → ℕ) (origin : R → O) where
+  -- in a gate made with the value f, the value v stands for the history
+  abbrev pub StandsFor : Guarded R → Guarded R → List Element → Type 0
+  StandsFor f v H = Behind stands limits size origin (given_of f) v.inner H × Noted (given_of f) v.traced v.trace H
+
+-- the act's connection has a flag
+abbrev pub ActBelow : ℕ → SynchAct → Type 0
+ActBelow n (Done.Out c) = c < n
+ActBelow n (Done.In c) = c < n
+ActBelow n _ = Unit {0}
+
+-- what is left of the squeue's hand, in a buffer with room for all that may be queued
+pub record LiesAs {R : Type 0} (g : Given R) (capacity rest : ℕ) (entries hand : List Entry) : Type 0 where
+  pub is_left : entries ≡ unprocessed rest hand
+  pub has_room : room_of g.quotas ≤ capacity

@@ -1,0 +1,111 @@
+//! The calls that end a turn with what enters, asks or closes.
+//!
+//! Each adds exactly its mark, and has the mark's conditions on the history that the turn found. None takes memory.
+ghost use Rattle.std.specs.Prelude.{◌≡◌, [], length};
+ghost use Rattle.perimeter_core.specs.Legal.{May};
+ghost use Rattle.perimeter_core.specs.Blocks.{peri};
+ghost use Rattle.squeue_state.specs.Naming.{setting_of};
+ghost use Rattle.squeue_state.specs.Behind.{IsPeri};
+ghost use Rattle.squeue_state.specs.Elements.{filled, fasted, claimed, claimed_ask, asked, closed_by};
+ghost use Rattle.squeue_state.specs.Words.{Marked, IsWhole};
+ghost use Rattle.turn_gate.specs.Passes.{seen};
+
+use crate::hand::Hand;
+use crate::release::end_turn;
+use crate::squeue::{Pass, Squeue};
+use crate::turn::Turn;
+use perimeter_core::{Feed, Resident};
+use squeue_trace::Kind;
+use std::marker::Brand;
+
+impl<R: Resident> Squeue<R> {
+    /// Queues the feeds.
+    pub fn fill(&self, turn: Turn<R>, es: &[Feed]) -> Pass
+        requires squeue { turn.squeue ≡ self.now }
+        requires may { May (setting_of R.limits self.now.given) turn.found (filled turn.number es.now) }
+        ensures { Marked turn (filled turn.number es.now) result }
+    {
+        let Turn { mut held, of: _ } = turn;
+        held.value().inner.fill(es);
+        end_turn::<R, Brand>(&self.gate, held, Kind::Fill, es)
+    }
+
+    /// Takes the perimeter with one feed, where nobody has it and nothing is queued.
+    pub fn fast(&self, turn: Turn<R>, e: Feed) -> (Pass, R, Hand)
+        requires squeue { turn.squeue ≡ self.now }
+        requires may { May (setting_of R.limits self.now.given) turn.found (fasted turn.number e) }
+        ensures pass { Marked turn (fasted turn.number e) result.0 }
+        ensures resident { IsPeri R.stands R.limits R.size R.origin self.now.given result.1 (peri (setting_of R.limits self.now.given) (seen result.0)) }
+        ensures hand { IsWhole R.limits self.now.given (seen result.0) result.2 }
+    {
+        let Turn { mut held, of: _ } = turn;
+        let p = held.number();
+        let (resident, entries) = held.value().inner.fast(p, e);
+        let Some(resident) = resident else {
+            unreachable!()
+        };
+        let kind = Kind::Fast { c: e.c, n: e.n };
+        let pass = end_turn::<R, Brand>(&self.gate, held, kind, &[]);
+        (pass, resident, Hand { entries, at: 0 })
+    }
+
+    /// Queues the feeds, and takes the perimeter and all that is queued, where nobody has it.
+    pub fn claim(&self, turn: Turn<R>, es: &[Feed]) -> (Pass, R, Hand)
+        requires squeue { turn.squeue ≡ self.now }
+        requires may { May (setting_of R.limits self.now.given) turn.found (claimed turn.number es.now) }
+        ensures pass { Marked turn (claimed turn.number es.now) result.0 }
+        ensures resident { IsPeri R.stands R.limits R.size R.origin self.now.given result.1 (peri (setting_of R.limits self.now.given) (seen result.0)) }
+        ensures hand { IsWhole R.limits self.now.given (seen result.0) result.2 }
+    {
+        let Turn { mut held, of: _ } = turn;
+        let p = held.number();
+        let (resident, entries) = held.value().inner.claim(p, es);
+        let Some(resident) = resident else {
+            unreachable!()
+        };
+        let pass = end_turn::<R, Brand>(&self.gate, held, Kind::Claim, es);
+        (pass, resident, Hand { entries, at: 0 })
+    }
+
+    /// Queues the pass's own Ask, and takes the perimeter and all that is queued, where nobody has it.
+    pub fn claim_ask(&self, turn: Turn<R>) -> (Pass, R, Hand)
+        requires squeue { turn.squeue ≡ self.now }
+        requires may { May (setting_of R.limits self.now.given) turn.found (claimed_ask turn.number) }
+        ensures pass { Marked turn (claimed_ask turn.number) result.0 }
+        ensures resident { IsPeri R.stands R.limits R.size R.origin self.now.given result.1 (peri (setting_of R.limits self.now.given) (seen result.0)) }
+        ensures hand { IsWhole R.limits self.now.given (seen result.0) result.2 }
+    {
+        let Turn { mut held, of: _ } = turn;
+        let p = held.number();
+        let (resident, entries) = held.value().inner.claim_ask(p);
+        let Some(resident) = resident else {
+            unreachable!()
+        };
+        let pass = end_turn::<R, Brand>(&self.gate, held, Kind::ClaimAsk, &[]);
+        (pass, resident, Hand { entries, at: 0 })
+    }
+
+    /// Queues the pass's wish to own the perimeter, where somebody has it.
+    pub fn ask(&self, turn: Turn<R>) -> Pass
+        requires squeue { turn.squeue ≡ self.now }
+        requires may { May (setting_of R.limits self.now.given) turn.found (asked turn.number) }
+        ensures { Marked turn (asked turn.number) result }
+    {
+        let Turn { mut held, of: _ } = turn;
+        let p = held.number();
+        held.value().inner.ask(p);
+        end_turn::<R, Brand>(&self.gate, held, Kind::Ask, &[])
+    }
+
+    /// Closes the pass.
+    pub fn close(&self, turn: Turn<R>) -> Pass
+        requires squeue { turn.squeue ≡ self.now }
+        requires may { May (setting_of R.limits self.now.given) turn.found (closed_by turn.number) }
+        ensures { Marked turn (closed_by turn.number) result }
+    {
+        let Turn { mut held, of: _ } = turn;
+        let p = held.number();
+        held.value().inner.close(p);
+        end_turn::<R, Brand>(&self.gate, held, Kind::Close, &[])
+    }
+}

@@ -1,0 +1,234 @@
+//! What the gate keeps of a perimeter, and how each mark changes it.
+//!
+//! Each method makes one mark: where the perimeter stood for a history before, it stands for the history with the mark
+//! afterwards. The two buffers are swapped and never grow, since what is queued always fits.
+ghost use Rattle.std.specs.Prelude.{◌||◌, not, ◌≡◌, ◌^◌, ℕ, ◌+◌, ◌<◌, ◌≤◌, List, [], ◌∷◌, ◌++◌, length, drop, vec_len, vec_capacity, None, Some, IsSome, IfOk, replicate, false};
+ghost use Rattle.perimeter_core.specs.declared.entries.Entry.TheVariants as Entry';
+ghost use Rattle.perimeter_core.specs.declared.entries.Act.{Act};
+ghost use Rattle.perimeter_core.specs.declared.marks.Own.TheVariants as Own';
+ghost use Rattle.perimeter_core.specs.Perimeter.{polls, is_free, is_empty, processed, here_after};
+ghost use Rattle.perimeter_core.specs.History.{Element, run};
+ghost use Rattle.perimeter_core.specs.Legal.{May};
+ghost use Rattle.perimeter_core.specs.Deeds.{entries};
+ghost use Rattle.perimeter_core.specs.Blocks.{peri, with_feeds, with_act};
+ghost use Rattle.squeue_state.specs.Naming.{Given, setting_of};
+ghost use Rattle.squeue_state.specs.Behind.{Behind, IsPeri, ActBelow, HasEmpty, LiesAs, room_of};
+ghost use Rattle.squeue_state.specs.Elements.{filled, fasted, claimed, claimed_ask, took, gone, asked, granted, accepted, worked, closed_by};
+
+use crate::room::{append, put_back, queue_feeds};
+use perimeter_core::{Entry, Feed, Own, Resident, SynchAct};
+use std::mem;
+
+/// What a gate keeps of a perimeter. Where a pass is out, the resident and the second buffer are with it.
+#[derive(Drop)]
+pub struct Inner<R> {
+    pub(crate) own: Own,
+    pub(crate) chain: Vec<Entry>,
+    pub(crate) spare: Option<Vec<Entry>>,
+    pub(crate) wake: bool,
+    pub(crate) polling: bool,
+    pub(crate) here: Vec<bool>,
+    pub(crate) closed: Vec<bool>,
+    pub(crate) resident: Option<R>,
+}
+
+// Whether the worker is to run after entries were queued.
+fn wakes(own: Own, wake: bool) -> bool
+    ensures { result ≡ (is_free own || wake) }
+{
+    own == Own::Free || wake
+}
+
+// Whether an entry is queued.
+fn holds_some(queue: &[Entry]) -> bool
+    ensures { result ≡ not (is_empty queue.now) }
+{
+    !queue.is_empty()
+}
+
+// Which blocks are here after the act.
+fn set_here(here: &mut [bool], act: SynchAct)
+    requires { ActBelow (length here.old) act }
+    ensures { here.new ≡ here_after act here.old }
+{
+    match act {
+        SynchAct::Out { c } => here[c as usize] = false,
+        SynchAct::In { c } => here[c as usize] = true,
+        _ => {}
+    }
+}
+
+impl<R: Resident> Inner<R> {
+    // Sets what each change of the chain sets.
+    fn poll(&mut self)
+        ensures { self.new ≡ record self.old { polling = polls self.old.chain.items self.old.polling } }
+    {
+        self.polling = self.chain.len() >= 16 || (self.polling && !self.chain.is_empty());
+    }
+
+    // Takes the perimeter and all that is queued.
+    fn take_all(&mut self, p: u32) -> (Option<R>, Vec<Entry>)
+        requires { IsSome self.old.spare }
+        ensures same { (result.0 ≡ self.old.resident) × (result.1 ≡ self.old.chain) }
+        ensures taken { self.new ≡ record self.old { own = Own'.Out p; chain = self.new.chain; spare = None; wake = false; polling = polls self.new.chain.items self.old.polling; resident = None } }
+        ensures empty { (n : ℕ) → HasEmpty n self.old.spare → (self.new.chain.items ≡ []) × (n ≤ vec_capacity self.new.chain) }
+    {
+        let spare = match self.spare.take() {
+            Some(spare) => spare,
+            None => unreachable!(),
+        };
+        let hand = mem::replace(&mut self.chain, spare);
+        self.own = Own::Out(p);
+        self.wake = false;
+        self.poll();
+        (self.resident.take(), hand)
+    }
+
+    // Puts the resident back, and what is left of the hand before the chain.
+    fn give_back(&mut self, resident: R, entries: Vec<Entry>, at: usize)
+        requires at { at ≤ vec_len entries }
+        requires room { length (drop at entries.items) + length self.old.chain.items ≤ vec_capacity entries }
+        requires out { (self.old.resident ≡ None) × (self.old.spare ≡ None) }
+        ensures same { self.new ≡ record self.old { chain = self.new.chain; spare = self.new.spare; resident = Some resident } }
+        ensures queue { self.new.chain.items ≡ drop at entries.items ++ self.old.chain.items }
+        ensures room { vec_capacity entries ≤ vec_capacity self.new.chain }
+        ensures spare { HasEmpty (vec_capacity self.old.chain) self.new.spare }
+    {
+        let queue = put_back(entries, at, &self.chain);
+        self.chain.clear();
+        let spare = mem::replace(&mut self.chain, queue);
+        let old = self.spare.replace(spare);
+        let None = old else { unreachable!() };
+        let old = self.resident.replace(resident);
+        let None = old else { unreachable!() };
+    }
+}
+
+impl<R: Resident> Inner<R> {
+    /// Queues the feeds.
+    pub(crate) fn fill(&mut self, es: &[Feed])
+        requires room { vec_len self.old.chain + length es.now ≤ vec_capacity self.old.chain }
+        ensures behind { (g : Given R) (H : List Element) (p : ℕ) → Behind R.stands R.limits R.size R.origin g self.old H → May (setting_of R.limits g) H (filled p es.now) → Behind R.stands R.limits R.size R.origin g self.new (H ++ filled p es.now ∷ []) }
+    {
+        queue_feeds(&mut self.chain, es);
+        self.wake = wakes(self.own, self.wake);
+        self.poll();
+    }
+
+    /// Takes the perimeter with one feed, where nothing is queued.
+    pub(crate) fn fast(&mut self, p: u32, e: Feed) -> (Option<R>, Vec<Entry>)
+        requires { HasEmpty 1 self.old.spare }
+        ensures same { (result.0 ≡ self.old.resident) × (result.1.items ≡ Entry'.Feed e.c e.n ∷ []) }
+        ensures room { (n : ℕ) → HasEmpty n self.old.spare → n ≤ vec_capacity result.1 }
+        ensures behind { (g : Given R) (H : List Element) → Behind R.stands R.limits R.size R.origin g self.old H → May (setting_of R.limits g) H (fasted p e) → Behind R.stands R.limits R.size R.origin g self.new (H ++ fasted p e ∷ []) }
+    {
+        let mut hand = match self.spare.take() {
+            Some(spare) => spare,
+            None => unreachable!(),
+        };
+        append(&mut hand, &[Entry::Feed { c: e.c, n: e.n }]);
+        self.own = Own::Out(p);
+        self.poll();
+        (self.resident.take(), hand)
+    }
+
+    /// Queues the feeds, and takes the perimeter and all that is queued.
+    pub(crate) fn claim(&mut self, p: u32, es: &[Feed]) -> (Option<R>, Vec<Entry>)
+        requires spare { IsSome self.old.spare }
+        requires room { vec_len self.old.chain + length es.now ≤ vec_capacity self.old.chain }
+        ensures same { (result.0 ≡ self.old.resident) × (result.1.items ≡ self.old.chain.items ++ entries es.now) }
+        ensures room { vec_capacity self.old.chain ≤ vec_capacity result.1 }
+        ensures behind { (g : Given R) (H : List Element) → Behind R.stands R.limits R.size R.origin g self.old H → May (setting_of R.limits g) H (claimed p es.now) → Behind R.stands R.limits R.size R.origin g self.new (H ++ claimed p es.now ∷ []) }
+    {
+        queue_feeds(&mut self.chain, es);
+        self.take_all(p)
+    }
+
+    /// Queues the pass's own Ask, and takes the perimeter and all that is queued.
+    pub(crate) fn claim_ask(&mut self, p: u32) -> (Option<R>, Vec<Entry>)
+        requires spare { IsSome self.old.spare }
+        requires room { vec_len self.old.chain < vec_capacity self.old.chain }
+        ensures same { (result.0 ≡ self.old.resident) × (result.1.items ≡ self.old.chain.items ++ Entry'.Ask p ∷ []) }
+        ensures room { vec_capacity self.old.chain ≤ vec_capacity result.1 }
+        ensures behind { (g : Given R) (H : List Element) → Behind R.stands R.limits R.size R.origin g self.old H → May (setting_of R.limits g) H (claimed_ask p) → Behind R.stands R.limits R.size R.origin g self.new (H ++ claimed_ask p ∷ []) }
+    {
+        append(&mut self.chain, &[Entry::Ask { p }]);
+        self.take_all(p)
+    }
+
+    /// Takes the perimeter and all that is queued, as the worker.
+    pub(crate) fn work(&mut self, p: u32) -> (Option<R>, Vec<Entry>)
+        requires { IsSome self.old.spare }
+        ensures same { (result.0 ≡ self.old.resident) × (result.1 ≡ self.old.chain) }
+        ensures behind { (g : Given R) (H : List Element) → Behind R.stands R.limits R.size R.origin g self.old H → May (setting_of R.limits g) H (worked p) → Behind R.stands R.limits R.size R.origin g self.new (H ++ worked p ∷ []) }
+    {
+        self.take_all(p)
+    }
+
+    /// Queues the wish of the pass to own the perimeter.
+    pub(crate) fn ask(&mut self, p: u32)
+        requires { vec_len self.old.chain < vec_capacity self.old.chain }
+        ensures behind { (g : Given R) (H : List Element) → Behind R.stands R.limits R.size R.origin g self.old H → May (setting_of R.limits g) H (asked p) → Behind R.stands R.limits R.size R.origin g self.new (H ++ asked p ∷ []) }
+    {
+        append(&mut self.chain, &[Entry::Ask { p }]);
+        self.poll();
+    }
+
+    /// Closes the pass.
+    pub(crate) fn close(&mut self, p: u32)
+        requires { p < vec_len self.old.closed }
+        ensures behind { (g : Given R) (H : List Element) → Behind R.stands R.limits R.size R.origin g self.old H → May (setting_of R.limits g) H (closed_by p) → Behind R.stands R.limits R.size R.origin g self.new (H ++ closed_by p ∷ []) }
+    {
+        self.closed[p as usize] = true;
+        self.poll();
+    }
+
+    /// Takes the perimeter that was granted.
+    pub(crate) fn accept(&mut self, p: u32) -> (Option<R>, Option<Vec<Entry>>)
+        ensures same { (result.0 ≡ self.old.resident) × (result.1 ≡ self.old.spare) }
+        ensures behind { (g : Given R) (H : List Element) → Behind R.stands R.limits R.size R.origin g self.old H → May (setting_of R.limits g) H (accepted p) → Behind R.stands R.limits R.size R.origin g self.new (H ++ accepted p ∷ []) }
+    {
+        self.own = Own::Out(p);
+        self.poll();
+        (self.resident.take(), self.spare.take())
+    }
+
+    /// Takes what is queued, for a buffer that is used up.
+    pub(crate) fn take(&mut self, buffer: Vec<Entry>) -> Vec<Entry>
+        ensures same { result ≡ self.old.chain }
+        ensures behind { (g : Given R) (H : List Element) (p : ℕ) → Behind R.stands R.limits R.size R.origin g self.old H → room_of g.quotas ≤ vec_capacity buffer → May (setting_of R.limits g) H (took p) → Behind R.stands R.limits R.size R.origin g self.new (H ++ took p ∷ []) }
+    {
+        let mut buffer = buffer;
+        buffer.clear();
+        let hand = mem::replace(&mut self.chain, buffer);
+        self.poll();
+        hand
+    }
+
+    /// Gives the perimeter back, with what is left of the hand before the chain.
+    pub(crate) fn leave(&mut self, resident: R, entries: Vec<Entry>, at: usize, act: SynchAct)
+        requires at { at ≤ vec_len entries }
+        requires room { length (drop at entries.items) + length self.old.chain.items ≤ vec_capacity entries }
+        requires range { ActBelow (vec_len self.old.here) act }
+        requires out { (self.old.resident ≡ None) × (self.old.spare ≡ None) }
+        ensures behind { (g : Given R) (H : List Element) (note : List Act) (p rest : ℕ) → Behind R.stands R.limits R.size R.origin g self.old H → LiesAs g (vec_capacity entries) rest (drop at entries.items) (run (setting_of R.limits g) H).hand → IsPeri R.stands R.limits R.size R.origin g resident (with_act act note (with_feeds (processed rest (run (setting_of R.limits g) H).hand) (peri (setting_of R.limits g) H))) → May (setting_of R.limits g) H (gone p rest act note) → Behind R.stands R.limits R.size R.origin g self.new (H ++ gone p rest act note ∷ []) }
+    {
+        self.give_back(resident, entries, at);
+        set_here(&mut self.here, act);
+        self.wake = holds_some(&self.chain);
+        self.own = Own::Free;
+        self.poll();
+    }
+
+    /// Gives the perimeter to pass `j`, with what is left of the hand before the chain.
+    pub(crate) fn grant(&mut self, resident: R, entries: Vec<Entry>, at: usize, j: u32)
+        requires at { at ≤ vec_len entries }
+        requires room { length (drop at entries.items) + length self.old.chain.items ≤ vec_capacity entries }
+        requires out { (self.old.resident ≡ None) × (self.old.spare ≡ None) }
+        ensures behind { (g : Given R) (H : List Element) (p rest : ℕ) → Behind R.stands R.limits R.size R.origin g self.old H → LiesAs g (vec_capacity entries) rest (drop at entries.items) (run (setting_of R.limits g) H).hand → IsPeri R.stands R.limits R.size R.origin g resident (with_feeds (processed rest (run (setting_of R.limits g) H).hand) (peri (setting_of R.limits g) H)) → May (setting_of R.limits g) H (granted p j rest) → Behind R.stands R.limits R.size R.origin g self.new (H ++ granted p j rest ∷ []) }
+    {
+        self.give_back(resident, entries, at);
+        self.own = Own::Granted(j);
+        self.poll();
+    }
+}

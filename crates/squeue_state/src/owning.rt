@@ -1,0 +1,111 @@
+//! The calls that end a turn of who is, or becomes, owner, but for those that enter.
+//!
+//! Each adds exactly its mark, and has the mark's conditions on the history that the turn found. None takes memory. An
+//! owner gives back what is left of its hand, and the resident with all else of the hand processed.
+ghost use Rattle.std.specs.Prelude.{◌≡◌, ◌-◌, [], Some, length};
+ghost use Rattle.perimeter_core.specs.declared.entries.Entry.TheVariants as Entry';
+ghost use Rattle.perimeter_core.specs.declared.marks.SynchAct.TheVariants as Done;
+ghost use Rattle.perimeter_core.specs.Legal.{May};
+ghost use Rattle.perimeter_core.specs.Blocks.{peri};
+ghost use Rattle.squeue_state.specs.Naming.{setting_of};
+ghost use Rattle.squeue_state.specs.Behind.{IsPeri};
+ghost use Rattle.squeue_state.specs.Elements.{took, gone, granted, accepted, worked};
+ghost use Rattle.squeue_state.specs.Words.{Marked, IsLeft, IsWhole, peri_left, first_entry, asker};
+ghost use Rattle.turn_gate.specs.Passes.{seen};
+
+use crate::event::Notes;
+use crate::hand::Hand;
+use crate::release::end_turn;
+use crate::squeue::{Pass, Squeue};
+use crate::turn::Turn;
+use perimeter_core::{Entry, Resident, SynchAct};
+use squeue_trace::Kind;
+use std::marker::Brand;
+
+impl<R: Resident> Squeue<R> {
+    /// Takes what is queued, when the hand is used up.
+    pub fn take(&self, turn: Turn<R>, hand: Hand) -> (Pass, Hand)
+        requires squeue { turn.squeue ≡ self.now }
+        requires hand { IsLeft R.limits self.now.given turn.found hand × (hand.left ≡ []) }
+        requires may { May (setting_of R.limits self.now.given) turn.found (took turn.number) }
+        ensures pass { Marked turn (took turn.number) result.0 }
+        ensures hand { IsWhole R.limits self.now.given (seen result.0) result.1 }
+    {
+        let Turn { mut held, of: _ } = turn;
+        let Hand { entries, at: _ } = hand;
+        let entries = held.value().inner.take(entries);
+        let pass = end_turn::<R, Brand>(&self.gate, held, Kind::Take, &[]);
+        (pass, Hand { entries, at: 0 })
+    }
+
+    /// Gives the perimeter back, with what is left of the hand, and reports the act. `N` names the note of an `In`.
+    pub fn leave<N: Notes>(&self, turn: Turn<R>, resident: R, hand: Hand, act: SynchAct) -> Pass
+        requires squeue { turn.squeue ≡ self.now }
+        requires hand { IsLeft R.limits self.now.given turn.found hand }
+        requires resident { IsPeri R.stands R.limits R.size R.origin self.now.given resident (peri_left R.limits self.now.given turn.found hand act N.note) }
+        requires may { May (setting_of R.limits self.now.given) turn.found (gone turn.number (length hand.left) act N.note) }
+        ensures { Marked turn (gone turn.number (length hand.left) act N.note) result }
+    {
+        let Turn { mut held, of: _ } = turn;
+        let Hand { entries, at } = hand;
+        let rest = (entries.len() - at) as u32;
+        held.value().inner.leave(resident, entries, at, act);
+        end_turn::<R, N>(&self.gate, held, Kind::Leave { rest, act }, &[])
+    }
+
+    /// Gives the perimeter to the pass whose Ask is the first entry of the hand, and the other entries back.
+    pub fn grant(&self, turn: Turn<R>, resident: R, hand: Hand) -> Pass
+        requires squeue { turn.squeue ≡ self.now }
+        requires hand { IsLeft R.limits self.now.given turn.found hand }
+        requires first { first_entry hand.left ≡ Some (Entry'.Ask (asker hand.left)) }
+        requires resident { IsPeri R.stands R.limits R.size R.origin self.now.given resident (peri_left R.limits self.now.given turn.found hand Done.None []) }
+        requires may { May (setting_of R.limits self.now.given) turn.found (granted turn.number (asker hand.left) (length hand.left - 1)) }
+        ensures { Marked turn (granted turn.number (asker hand.left) (length hand.left - 1)) result }
+    {
+        let Turn { mut held, of: _ } = turn;
+        let Hand { entries, at } = hand;
+        let Entry::Ask { p: j } = entries[at] else {
+            unreachable!()
+        };
+        let rest = (entries.len() - at - 1) as u32;
+        held.value().inner.grant(resident, entries, at + 1, j);
+        end_turn::<R, Brand>(&self.gate, held, Kind::Grant { j, rest }, &[])
+    }
+
+    /// Takes the perimeter that was granted.
+    pub fn accept(&self, turn: Turn<R>) -> (Pass, R, Hand)
+        requires squeue { turn.squeue ≡ self.now }
+        requires may { May (setting_of R.limits self.now.given) turn.found (accepted turn.number) }
+        ensures pass { Marked turn (accepted turn.number) result.0 }
+        ensures resident { IsPeri R.stands R.limits R.size R.origin self.now.given result.1 (peri (setting_of R.limits self.now.given) (seen result.0)) }
+        ensures hand { IsWhole R.limits self.now.given (seen result.0) result.2 }
+    {
+        let Turn { mut held, of: _ } = turn;
+        let p = held.number();
+        let (resident, spare) = held.value().inner.accept(p);
+        let Some(resident) = resident else {
+            unreachable!()
+        };
+        let Some(entries) = spare else { unreachable!() };
+        let pass = end_turn::<R, Brand>(&self.gate, held, Kind::Accept, &[]);
+        (pass, resident, Hand { entries, at: 0 })
+    }
+
+    /// Takes the perimeter and all that is queued, as the worker.
+    pub fn work(&self, turn: Turn<R>) -> (Pass, R, Hand)
+        requires squeue { turn.squeue ≡ self.now }
+        requires may { May (setting_of R.limits self.now.given) turn.found (worked turn.number) }
+        ensures pass { Marked turn (worked turn.number) result.0 }
+        ensures resident { IsPeri R.stands R.limits R.size R.origin self.now.given result.1 (peri (setting_of R.limits self.now.given) (seen result.0)) }
+        ensures hand { IsWhole R.limits self.now.given (seen result.0) result.2 }
+    {
+        let Turn { mut held, of: _ } = turn;
+        let p = held.number();
+        let (resident, entries) = held.value().inner.work(p);
+        let Some(resident) = resident else {
+            unreachable!()
+        };
+        let pass = end_turn::<R, Brand>(&self.gate, held, Kind::Work, &[]);
+        (pass, resident, Hand { entries, at: 0 })
+    }
+}

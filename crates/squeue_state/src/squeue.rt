@@ -1,0 +1,244 @@
+//! The squeue object: how it is made, its turns, and its end.
+ghost use Rattle.std.specs.Prelude.{◌≡◌, ◌≢◌, ℕ, ◌+◌, ◌*◌, ◌<◌, ◌≤◌, ◌^◌, Bool, true, List, [], ◌∷◌, ◌++◌, length, map, if◌then◌else◌, MatchResult, IfOk, IsSome, Some, slice_index_or, is_some};
+ghost use Rattle.perimeter_core.specs.Perimeter.{Idle};
+ghost use Rattle.perimeter_core.specs.History.{Element, run, all_quotas, feed_quotas};
+ghost use Rattle.perimeter_core.specs.Blocks.{Blocks, peri};
+ghost use Rattle.squeue_trace.specs.Told.{marks_of};
+ghost use Rattle.squeue_state.specs.Naming.{Chosen, Given, Ending, setting_of};
+ghost use Rattle.squeue_state.specs.Endings.{ending_of, HasEnded, seen_by};
+ghost use Rattle.squeue_state.specs.Behind.{IsPeri, pairs, room_of};
+ghost use Rattle.squeue_state.specs.Elements.{number_of, closed_by};
+ghost use Rattle.squeue_state.specs.Words.{Found, Unmarked, Added, HasSeenEnd, Knows, IsMade, StandsEmpty, ask_quotas};
+ghost use Rattle.turn_gate.specs.Passes.{IsPassOf, IsReturned, AreAll, AreFresh, missed, number, seen, steps};
+ghost use Rattle.turn_gate.specs.History.{Each};
+
+use crate::ended::Ended;
+use crate::event::{End, Event, Facts};
+use crate::guarded::{Guarded, Quota};
+use crate::inner::Inner;
+use crate::room::{Room, flags, here_flags, room_for};
+use crate::turn::Turn;
+use known::Known;
+use perimeter_core::{Own, Resident};
+use squeue_trace::Trace;
+use std::alloc::{AllocError, Global};
+use std::marker::Model;
+use std::sync::Wait;
+use turn_gate::Gate;
+
+/// A pass of a squeue. It must be spent.
+pub type Pass = turn_gate::Pass<Event>;
+
+/// The gate of a squeue was held. It must be spent, for the pass is in it.
+pub type Missed = turn_gate::Missed<Event>;
+
+/// A perimeter behind a gate. Threads share it by reference. Contracts see which gate it has, and what it was made with.
+pub struct Squeue<R: Resident> {
+    pub(crate) gate: Gate<Guarded<R>>,
+    number: u32,
+}
+
+impl<R: Resident> Model for Squeue<R> {
+    ghost use Rattle.std.specs.Prelude.{◌≡◌, ◌+◌, length};
+    ghost use Rattle.turn_gate.specs.Gates.{passes_of};
+    ghost use Rattle.squeue_state.specs.Naming.{Named};
+    ghost use Rattle.squeue_state.specs.Words.{named_of};
+
+    ghost Value = { Named R };
+
+    ghost view = { λ s. named_of s.gate };
+
+    ghost invariant = { λ s. ((named_of s.gate).given.number ≡ s.number) × (passes_of s.gate ≡ length (named_of s.gate).given.quotas + 1) };
+}
+
+impl<R: Resident> Squeue<R> {
+    /// Makes a squeue and its passes, one for each quota and the worker's last. It takes all memory that the squeue will
+    /// ever need: two buffers for what may be queued, a flag for each connection and each pass, and with `trace` room for
+    /// all marks that may come. The resident's blocks are as new. After an error the resident is dropped.
+    pub fn make(
+        alloc: Global,
+        number: u32,
+        resident: R,
+        rings: u32,
+        quotas: &[Quota],
+        trace: bool,
+    ) -> Result<(Squeue<R>, Vec<Pass>), AllocError>
+    where
+        R: Drop,
+        requires few { (1 ≤ length quotas.now) × (length quotas.now ≤ 63) }
+        requires rings { (1 ≤ rings) × (rings ≤ length quotas.now) }
+        requires feeds { feed_quotas (pairs quotas.now) ≤ 2 ^ 30 }
+        requires asks { ask_quotas (pairs quotas.now) ≤ 2 ^ 40 }
+        requires fresh { StandsEmpty (R.stands resident) }
+        ensures given { IfOk result (λ r. IsMade R.stands R.size number rings (pairs quotas.now) trace resident r.0.given) }
+        ensures passes { IfOk result (λ r. (length r.1.items ≡ length quotas.now + 1) × AreFresh number_of r.0.gate 0 r.1.items) }
+    {
+        let room = room_for(quotas);
+        let count = quotas.len() + 1;
+        let here = here_flags(alloc, &resident)?;
+        let facts = chosen(number, rings, quotas, &here, trace);
+        let first = Known::of(&resident);
+        let inner = Inner {
+            own: Own::Free,
+            chain: Vec::with_capacity(alloc, room.queue)?,
+            spare: Some(Vec::with_capacity(alloc, room.queue)?),
+            wake: false,
+            polling: false,
+            here,
+            closed: flags(alloc, count)?,
+            resident: Some(resident),
+        };
+        let guarded = Guarded {
+            inner,
+            traced: trace,
+            trace: new_trace(alloc, trace, room)?,
+            facts,
+            first,
+        };
+        let (gate, passes) = Gate::make(alloc, guarded, count as u32)?;
+        Ok((Squeue { gate, number }, passes))
+    }
+
+    /// The squeue's number.
+    pub fn number(&self) -> u32
+        ensures { result ≡ self.now.given.number }
+    {
+        self.number
+    }
+
+    /// Waits for the gate.
+    pub fn turn<W: Wait>(&self, rt: &W, pass: Pass) -> Turn<R>
+        requires { IsPassOf number_of self.now.gate pass }
+        ensures { Found R.limits self.now pass result }
+    {
+        Turn {
+            held: self.gate.hold(rt, pass),
+            of: Known::of(self),
+        }
+    }
+
+    /// Takes the gate where it is free, and doesn't wait.
+    pub fn try_turn(&self, pass: Pass) -> Result<Turn<R>, Missed>
+        requires { IsPassOf number_of self.now.gate pass }
+        ensures { MatchResult result (λ t. Found R.limits self.now pass t) (λ m. missed (steps pass) m × IsReturned number_of self.now.gate pass m.pass) }
+    {
+        let held = self.gate.try_hold(pass)?;
+        Ok(Turn {
+            held,
+            of: Known::of(self),
+        })
+    }
+
+    /// Ends a turn without a mark.
+    pub fn plain(&self, turn: Turn<R>) -> Pass
+        requires { turn.squeue ≡ self.now }
+        ensures { Unmarked turn result }
+    {
+        let Turn { held, of: _ } = turn;
+        self.gate.release_plain(held)
+    }
+
+    /// Closes the pass, which then enters, asks and closes no more.
+    pub fn close_pass<W: Wait>(&self, rt: &W, pass: Pass) -> Pass
+        requires pass { IsPassOf number_of self.now.gate pass }
+        requires other { number pass < length self.now.given.quotas }
+        requires idle { Idle (run (setting_of R.limits self.now.given) (seen pass)) (number pass) }
+        ensures { Added R.limits self.now pass (closed_by (number pass)) result }
+    {
+        let turn = self.turn(rt, pass);
+        self.close(turn)
+    }
+
+    /// Takes the squeue apart after its end, which the worker's pass has seen. What it gives is all by one history, of
+    /// which every pass has seen a beginning.
+    pub fn finish(self, passes: Vec<Pass>) -> (R, Ended, Trace)
+        requires all { AreAll number_of self.gate (length self.given.quotas + 1) passes.items }
+        requires over { Each (HasSeenEnd (setting_of R.limits self.given)) passes.items }
+        ensures setting { (result.1.number ≡ self.given.number) × (result.1.setting ≡ setting_of R.limits self.given) }
+        ensures ended { HasEnded result.1 }
+        ensures passes { Each (Knows result.1.history) passes.items }
+        ensures resident { IsPeri R.stands R.limits R.size R.origin self.given result.0 (peri (setting_of R.limits self.given) result.1.history) }
+        ensures trace { marks_of result.2 ≡ (if self.given.traced then map (λ e. e.mark) result.1.history else []) }
+    {
+        let ending = ending(&self, &passes);
+        let Squeue { gate, number } = self;
+        let (resident, trace) = parts_of(gate.close(passes));
+        (resident, Ended { number, ending }, trace)
+    }
+}
+
+// An empty trace, which has room where marks are kept.
+fn new_trace(alloc: Global, kept: bool, room: Room) -> Result<Trace, AllocError>
+    ensures empty { IfOk result (λ t. (t.marks ≡ []) × (t.entries ≡ [])) }
+    ensures room { IfOk result (λ t. kept ≡ true → (room.marks ≤ t.mark_room) × (room.entries ≤ t.entry_room)) }
+{
+    if kept {
+        Trace::with_room(alloc, room.marks, room.entries)
+    } else {
+        Trace::with_room(alloc, 0, 0)
+    }
+}
+
+// What the squeue is made with, for contracts.
+fn chosen(number: u32, rings: u32, quotas: &[Quota], here: &[bool], trace: bool) -> Known<Facts>
+    ensures { result.value ≡ record { number = number; rings = rings; quotas = pairs quotas.now; starts = here.now; traced = trace } }
+{
+    chosen_as(number, rings, quotas, here, trace)
+}
+
+// What the facts are made of is passed beside them, since a pick sees the call's arguments alone.
+fn chosen_as(
+    _number: u32,
+    _rings: u32,
+    _quotas: &[Quota],
+    _here: &[bool],
+    _trace: bool,
+) -> Known<Facts>
+    ghost chosen: { Chosen }
+    ensures { result.value ≡ chosen }
+{
+    Known::pick()
+}
+
+// How the squeue ends, where the worker's pass has seen its end.
+fn ending<R: Resident>(squeue: &Squeue<R>, passes: &Vec<Pass>) -> Known<End>
+    ensures { result.value ≡ ending_of R.limits squeue.now.given (seen_by (length squeue.now.given.quotas) passes.now.items) }
+{
+    picked(squeue, passes)
+}
+
+// What the ending is made of is passed beside it, since a pick sees the call's arguments alone.
+fn picked<R: Resident>(_squeue: &Squeue<R>, _passes: &Vec<Pass>) -> Known<End>
+    ghost ending: { Ending }
+    ensures { result.value ≡ ending }
+{
+    Known::pick()
+}
+
+// The resident, where it lies in the gate, and the marks.
+fn parts_of<R: Resident>(value: Guarded<R>) -> (R, Trace)
+    requires { IsSome value.inner.resident }
+    ensures { (value.inner.resident ≡ Some result.0) × (result.1 ≡ value.trace) }
+{
+    let Guarded {
+        inner,
+        traced: _,
+        trace,
+        facts: _,
+        first: _,
+    } = value;
+    let Inner {
+        own: _,
+        chain: _,
+        spare: _,
+        wake: _,
+        polling: _,
+        here: _,
+        closed: _,
+        resident,
+    } = inner;
+    match resident {
+        Some(resident) => (resident, trace),
+        None => unreachable!(),
+    }
+}

@@ -1,0 +1,90 @@
+//! A turn at a squeue's gate, and what it tells.
+ghost use Rattle.std.specs.Prelude.{◌≡◌, ℕ, ◌+◌, ◌<◌, true, false, length, slice_index_or, ◌↔◌};
+ghost use Rattle.perimeter_core.specs.Perimeter.{is_here, is_closed};
+ghost use Rattle.perimeter_core.specs.History.{run};
+ghost use Rattle.squeue_state.specs.Naming.{setting_of};
+
+use crate::guarded::Guarded;
+use crate::squeue::Squeue;
+use known::Known;
+use perimeter_core::{Own, Resident};
+use std::marker::Model;
+use turn_gate::Held;
+
+/// A squeue's gate is held, and its state can be read. A turn must be spent by a call of its squeue that ends it.
+/// Contracts see its squeue, its pass's number, the history that it found, and the pass's own elements in it.
+pub struct Turn<R: Resident> {
+    pub(crate) held: Held<Guarded<R>>,
+    pub(crate) of: Known<Squeue<R>>,
+}
+
+impl<R: Resident> Model for Turn<R> {
+    ghost use Rattle.squeue_state.specs.Naming.{Turned};
+    ghost use Rattle.squeue_state.specs.Words.{IsTurnOf, turned_of};
+
+    ghost Value = { Turned R };
+
+    ghost view = { λ t. turned_of t.of.value t.held };
+
+    ghost invariant = { λ t. IsTurnOf R.stands R.limits R.size R.origin t.of.value t.held };
+}
+
+impl<R: Resident> Turn<R> {
+    /// The number of the turn's pass.
+    pub fn number(&self) -> u32
+        ensures { result ≡ self.now.number }
+    {
+        self.held.number()
+    }
+
+    /// Who has the perimeter.
+    pub fn own(&self) -> Own
+        ensures { result ≡ (run (setting_of R.limits self.now.squeue.given) self.now.found).own }
+    {
+        self.held.get().inner.own
+    }
+
+    /// How many entries are queued.
+    pub fn chain_len(&self) -> u32
+        ensures { result ≡ length (run (setting_of R.limits self.now.squeue.given) self.now.found).chain }
+    {
+        self.held.get().inner.chain.len() as u32
+    }
+
+    /// Whether the worker is to run.
+    pub fn wake(&self) -> bool
+        ensures { result ≡ (run (setting_of R.limits self.now.squeue.given) self.now.found).wake }
+    {
+        self.held.get().inner.wake
+    }
+
+    /// Whether rings are to bring chains.
+    pub fn polling(&self) -> bool
+        ensures { result ≡ (run (setting_of R.limits self.now.squeue.given) self.now.found).polling }
+    {
+        self.held.get().inner.polling
+    }
+
+    /// Whether the connection's block is here.
+    pub fn is_here(&self, c: u32) -> bool
+        requires { c < length self.now.squeue.given.starts }
+        ensures { result ≡ is_here (run (setting_of R.limits self.now.squeue.given) self.now.found) c }
+    {
+        self.held.get().inner.here[c as usize]
+    }
+
+    /// Whether every pass but the worker's is closed.
+    pub fn others_closed(&self) -> bool
+        ensures { (result ≡ true) ↔ ((p : ℕ) → p < length self.now.squeue.given.quotas → is_closed (run (setting_of R.limits self.now.squeue.given) self.now.found) p ≡ true) }
+    {
+        all_but_last(&self.held.get().inner.closed)
+    }
+}
+
+// Whether all flags are set but the last.
+fn all_but_last(flags: &[bool]) -> bool
+    requires { 0 < length flags.now }
+    ensures { (result ≡ true) ↔ ((p : ℕ) → p + 1 < length flags.now → slice_index_or flags.now p false ≡ true) }
+{
+    flags[..flags.len() - 1].iter().all(|closed| *closed)
+}
