@@ -5,8 +5,6 @@
 mod borrowed;
 mod moves;
 mod shared;
-#[cfg(test)]
-mod tests;
 
 pub use borrowed::{Borrowed, look};
 pub use moves::leave_from;
