@@ -5,6 +5,8 @@
 mod borrowed;
 mod moves;
 mod shared;
+#[cfg(test)]
+mod tests;
 
 pub use borrowed::{Borrowed, look};
 pub use moves::leave_from;
