@@ -8,3 +8,4 @@ mod Settled
 mod Held
 mod LettingGo
 mod NewBlock
+pub mod FeedsInOrder

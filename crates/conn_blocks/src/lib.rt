@@ -8,6 +8,8 @@ mod calls;
 mod holding;
 pub mod laws;
 mod stages;
+#[cfg(test)]
+mod tests;
 
 pub use block::{Block, serve_one};
 pub use calls::Calls;

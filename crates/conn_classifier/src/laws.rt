@@ -9,5 +9,5 @@ ghost use Rattle.conn_classifier.specs.Plan.{items_in, plan_of, Rises};
 /// the reader's bounds on records and times.
 pub fn times_never_fall()
     ensures { (file : CaptureFile) (verify : Bool) (c : ℕ) → length file.packets ≤ 1048576 → last_time file.packets ≤ 9007199254740992
-      → c < length (plan_of file verify).tuples → Rises 0 9007199254740992 (items_in (plan_of file verify) c) }
+        → c < length (plan_of file verify).tuples → Rises 0 9007199254740992 (items_in (plan_of file verify) c) }
 {}

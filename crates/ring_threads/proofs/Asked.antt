@@ -1,56 +1,29 @@
 -- The calls on a connection, taken one by one.
-use Rattle.std.proofs.Common.{◌≡◌, ℕ, ◌+◌, ◌==◌, ◌<◌, ◌≤◌, zero, suc, Bool, true, false, List, [], ◌∷◌, ◌++◌, length, map, take, slice_get, Some, refl, append_assoc, sym, ap, ◌∙◌, ◌⊎◌, inl, inr, arith, eq-eqb}
+use Rattle.std.proofs.Common.{◌≡◌, ℕ, ◌+◌, ◌<◌, ◌≤◌, zero, suc, Bool, true, false, List, [], ◌∷◌, ◌++◌, length, map, take, slice_get, Some, append_assoc, sym, ap, ◌∙◌, ◌⊎◌, inl, inr, arith}
 use Rattle.std.specs.Prelude.{nat_lt, if◌then◌else◌}
 use Rattle.std.proofs.lemmas.Bool.{ne_eqb, cases_lt, cases_order, lt-ltb, le-ltb}
-use Rattle.std.proofs.lemmas.List.{map-append, append-nil, length-take, get_or_past}
+use Rattle.std.proofs.lemmas.List.{map-append, append-nil, get_or_past}
 use Rattle.perimeter_core.specs.declared.entries.Act.{Act}
 use Rattle.perimeter_core.specs.declared.entries.Act.TheVariants as act
 use Rattle.tcb_machine.specs.declared.kinds.Call.{Call}
 use Rattle.conn_blocks.specs.CallLists.{CallLists}
 use Rattle.conn_blocks.specs.Orders.{numbers_from, numbers_on, call_numbers}
+use Rattle.conn_blocks.proofs.Numbers.{taken_one, taken_none}
 use Rattle.conn_blocks.proofs.Settling.{calls_append, calls_of_thread, calls_of_other}
 use Rattle.ring_threads.specs.PlainOrder.{asked_by}
-
-numbers_push : (c n : ℕ) (xs : List (ℕ × Call)) (x : ℕ × Call) → numbers_from n c (xs ++ x ∷ []) ≡ numbers_from n c xs ++ (if x.0 == c then (n + length xs) ∷ [] else [])
-numbers_push c n [] x = by (x.0 == c)
-  where
-    by : (b : Bool) → (if b then n ∷ [] else []) ≡ (if b then (n + 0) ∷ [] else [])
-    by true = let e : n ≡ n + 0 = omega arith in ap (λ m. m ∷ []) e
-    by false = refl
-numbers_push c n (y ∷ xs) x = by (y.0 == c) (numbers_push c (suc n) xs x ∙ ap (λ m. numbers_from (suc n) c xs ++ (if x.0 == c then m ∷ [] else [])) (let e : suc n + length xs ≡ n + suc (length xs) = omega arith in e))
-  where
-    by : (b : Bool) → numbers_from (suc n) c (xs ++ x ∷ []) ≡ numbers_from (suc n) c xs ++ (if x.0 == c then (n + suc (length xs)) ∷ [] else [])
-        → (if b then n ∷ numbers_from (suc n) c (xs ++ x ∷ []) else numbers_from (suc n) c (xs ++ x ∷ []))
-        ≡ (if b then n ∷ numbers_from (suc n) c xs else numbers_from (suc n) c xs) ++ (if x.0 == c then (n + suc (length xs)) ∷ [] else [])
-    by true h = ap (λ l. n ∷ l) h
-    by false h = h
-
-take_some : {X : Type 0} (xs : List X) (k : ℕ) (x : X) → slice_get xs k ≡ Some x → take (suc k) xs ≡ take k xs ++ x ∷ []
-take_some [] zero x e = absurd cc
-take_some [] (suc k) x e = absurd cc
-take_some (y ∷ xs) zero x e = let same : y ≡ x = cc in ap (λ z. z ∷ []) same
-take_some (y ∷ xs) (suc k) x e = ap (λ l. y ∷ l) (take_some xs k x e)
 
 -- one more call of a thread, which is on the connection or not
 module _ (j c k : ℕ) (xs : List (ℕ × Call)) (x : ℕ × Call) (lt : k < length xs) (here : slice_get xs k ≡ Some x) (old acts : List Act)
     (so_far : acts ≡ old ++ map (act.Call j) (numbers_from 0 c (take k xs))) where
-  taken : numbers_from 0 c (take (k + 1) xs) ≡ numbers_from 0 c (take k xs) ++ (if x.0 == c then k ∷ [] else [])
-  taken =
-      let next : k + 1 ≡ suc k = omega arith in
-      let place : 0 + length (take k xs) ≡ k = omega (arith, length-take k xs, lt) in
-      ap (λ n. numbers_from 0 c (take n xs)) next ∙ ap (numbers_from 0 c) (take_some xs k x here) ∙ numbers_push c 0 (take k xs) x
-      ∙ ap (λ m. numbers_from 0 c (take k xs) ++ (if x.0 == c then m ∷ [] else [])) place
-
   pub one_more : (new : List Act) → x.0 ≡ c → new ≡ acts ++ act.Call j k ∷ [] → new ≡ old ++ map (act.Call j) (numbers_from 0 c (take (k + 1) xs))
   one_more new e pushed =
-      let now : numbers_from 0 c (take (k + 1) xs) ≡ numbers_from 0 c (take k xs) ++ k ∷ [] = taken ∙ ap (λ b. numbers_from 0 c (take k xs) ++ (if b then k ∷ [] else [])) (eq-eqb x.0 c e) in
+      let now : numbers_from 0 c (take (k + 1) xs) ≡ numbers_from 0 c (take k xs) ++ k ∷ [] = taken_one c k xs x lt here e in
       pushed ∙ ap (λ l. l ++ act.Call j k ∷ []) so_far ∙ append_assoc old (map (act.Call j) (numbers_from 0 c (take k xs))) (act.Call j k ∷ [])
       ∙ ap (λ l. old ++ l) (sym (ap (map (act.Call j)) now ∙ map-append (act.Call j) (numbers_from 0 c (take k xs)) (k ∷ [])))
 
   pub none_more : (x.0 ≡ c → ⊥) → acts ≡ old ++ map (act.Call j) (numbers_from 0 c (take (k + 1) xs))
   none_more e =
-      let now : numbers_from 0 c (take (k + 1) xs) ≡ numbers_from 0 c (take k xs) =
-      taken ∙ ap (λ b. numbers_from 0 c (take k xs) ++ (if b then k ∷ [] else [])) (ne_eqb x.0 c e) ∙ append-nil (numbers_from 0 c (take k xs)) in
+      let now : numbers_from 0 c (take (k + 1) xs) ≡ numbers_from 0 c (take k xs) = taken_none c k xs x lt here e in
       so_far ∙ ap (λ l. old ++ map (act.Call j) l) (sym now)
 
 -- all calls on the connection are those of the four threads

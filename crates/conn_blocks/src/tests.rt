@@ -1,0 +1,382 @@
+ghost use Rattle.std.specs.Prelude.{◌≡◌, ℕ, ◌+◌, ◌<◌, ◌≤◌, true, List, length, IfOk};
+ghost use Rattle.std.specs.List.{AllByRecursion};
+ghost use Rattle.perimeter_core.specs.declared.entries.Act.{Act};
+ghost use Rattle.perimeter_core.specs.declared.entries.Act.TheVariants as Act;
+ghost use Rattle.conn_classifier.specs.Plan.{items_in};
+ghost use Rattle.conn_blocks.specs.ServeOrder.{IsActOf, IsCallOn, FeedsRise};
+ghost use Rattle.conn_blocks.specs.Orders.{feed_numbers};
+ghost use Rattle.conn_blocks.specs.Holding.{StandsFor};
+
+use crate::{Act, Block, Calls, serve_one};
+use capture_reader::{Capture, parse_capture};
+use conn_classifier::{Plan, plan};
+use sq_base::Octets;
+use std::alloc::{AllocError, Global};
+use std::test::Fail;
+use tcb_machine::{Answer, Call, State};
+
+/// The header of a capture file: little-endian, microseconds, raw IP.
+const HEADER: [u8; 24] = [
+    0xd4, 0xc3, 0xb2, 0xa1, 2, 0, 4, 0, 0, 0, 0, 0, 0, 0, 0, 0, 0, 0, 0, 0, 101, 0, 0, 0,
+];
+
+const SYN: u8 = 2;
+
+const ACK: u8 = 16;
+
+const SYN_ACK: u8 = 18;
+
+const PSH_ACK: u8 = 24;
+
+const FIN_ACK: u8 = 17;
+
+/// A segment from 10.0.0.1:4000 to 10.0.0.2:7 with window 4096: time in microseconds, flags, sequence number, acknowledgement
+/// number, text.
+type Row<'t> = (u32, u8, u32, u32, &'t [u8]);
+
+/// One more record: a datagram without sums.
+fn add(bytes: &mut Vec<u8>, row: &Row<'_>) -> Result<(), Fail> {
+    let &(at, flags, seq, ack, text) = row;
+    let total = 40 + text.len().min(200) as u8;
+    bytes.extend_from_slice(&0u32.to_le_bytes())?;
+    bytes.extend_from_slice(&at.to_le_bytes())?;
+    bytes.extend_from_slice(&[total, 0, 0, 0, total, 0, 0, 0])?;
+    bytes.extend_from_slice(&[0x45, 0, 0, total, 0, 0, 0x40, 0, 0x40, 6, 0, 0])?;
+    bytes.extend_from_slice(&[10, 0, 0, 1, 10, 0, 0, 2])?;
+    bytes.extend_from_slice(&4000u16.to_be_bytes())?;
+    bytes.extend_from_slice(&7u16.to_be_bytes())?;
+    bytes.extend_from_slice(&seq.to_be_bytes())?;
+    bytes.extend_from_slice(&ack.to_be_bytes())?;
+    bytes.extend_from_slice(&[0x50, flags, 16, 0, 0, 0, 0, 0])?;
+    bytes.extend_from_slice(text)?;
+    Ok(())
+}
+
+fn captured(rt: &HostRuntime, rows: &[Row<'_>]) -> Result<Capture, Fail> {
+    let mut bytes = Vec::from_slice(rt.alloc(), &HEADER)?;
+    for row in rows {
+        add(&mut bytes, row)?;
+    }
+    Ok(parse_capture(rt.alloc(), Octets::of(rt.alloc(), &bytes)?)?)
+}
+
+/// A connection that is opened, sends "hello" and closes: feeds 0 to 4, and the last time item.
+fn five_segments(rt: &HostRuntime) -> Result<Capture, Fail> {
+    captured(
+        rt,
+        &[
+            (0, SYN, 100, 0, b"".as_slice()),
+            (1000, ACK, 101, 501, b"".as_slice()),
+            (2000, PSH_ACK, 101, 501, b"hello".as_slice()),
+            (3000, FIN_ACK, 106, 506, b"".as_slice()),
+            (4000, ACK, 107, 507, b"".as_slice()),
+        ],
+    )
+}
+
+/// Thread 0 asks for the status and closes, thread 1 asks for the status.
+fn two_threads(alloc: Global) -> Result<Calls, AllocError> {
+    let mut calls = Calls::make(alloc);
+    calls.push(0, 0, Call::Status)?;
+    calls.push(0, 0, Call::Close)?;
+    calls.push(1, 0, Call::Status)?;
+    Ok(calls)
+}
+
+/// Whether this is a call on connection 0.
+fn is_call(calls: &Calls, j: u32, k: u32) -> bool
+    ensures { result ≡ true → IsCallOn calls.now 0 (Act.Call j k) }
+{
+    j < 4 && k < calls.len(j) && calls.get(j, k).0 == 0
+}
+
+/// Whether connection 0 can be served in this order.
+fn can_serve(plan: &Plan, calls: &Calls, order: &[Act]) -> bool
+    requires { 0 < length plan.now.tuples }
+    ensures acts { result ≡ true → AllByRecursion (IsActOf plan.now calls.now 0) order.now }
+    ensures rising { result ≡ true → FeedsRise 0 order.now }
+    ensures few { result ≡ true → length order.now ≤ length (items_in plan.now 0) + 4096 }
+{
+    if order.len() > 4096 {
+        return false;
+    }
+    let mut least = 0;
+    for act in order {
+        match *act {
+            Act::Feed { n } => {
+                if n < least || n >= plan.items(0) {
+                    return false;
+                }
+                least = n + 1;
+            }
+            Act::Call { j, k } => {
+                if !is_call(calls, j, k) {
+                    return false;
+                }
+            }
+        }
+    }
+    true
+}
+
+/// How many feeds an order has.
+fn feeds(order: &[Act]) -> usize
+    ensures { result ≡ length (feed_numbers order.now) }
+{
+    let mut count = 0;
+    for act in order {
+        match *act {
+            Act::Feed { .. } => count += 1,
+            Act::Call { .. } => {}
+        }
+    }
+    count
+}
+
+/// An act comes to the block of connection 0, where there is such an act and it can come now.
+fn give(block: &mut Block, alloc: Global, plan: &Plan, calls: &Calls, act: Act) -> bool
+    requires conn { 0 < length plan.now.tuples }
+    requires stands { (came : List Act) × StandsFor plan.now calls.now 0 came block.old }
+    ensures { (came : List Act) × StandsFor plan.now calls.now 0 came block.new }
+{
+    match act {
+        Act::Feed { n } => {
+            if n >= plan.items(0) || n as usize != feeds(block.order()) {
+                return false;
+            }
+            block.feed(alloc, plan, calls, 0, n);
+        }
+        Act::Call { j, k } => {
+            if !is_call(calls, j, k) {
+                return false;
+            }
+            block.call(alloc, plan, calls, 0, j, k);
+        }
+    }
+    true
+}
+
+/// Acts come to the block of connection 0, one after another.
+fn give_all(block: &mut Block, alloc: Global, plan: &Plan, calls: &Calls, acts: &[Act]) -> bool
+    requires conn { 0 < length plan.now.tuples }
+    requires stands { (came : List Act) × StandsFor plan.now calls.now 0 came block.old }
+    ensures { (came : List Act) × StandsFor plan.now calls.now 0 came block.new }
+{
+    for act in acts {
+        if !give(block, alloc, plan, calls, *act) {
+            return false;
+        }
+    }
+    true
+}
+
+/// The block of connection 0 to which these acts came.
+fn given(
+    alloc: Global,
+    plan: &Plan,
+    calls: &Calls,
+    acts: &[Act],
+) -> Result<Option<Box<Block>>, AllocError> {
+    if plan.conns() == 0 {
+        return Ok(None);
+    }
+    let mut block = Block::make(alloc, plan, calls, 0)?;
+    let all = give_all(&mut block, alloc, plan, calls, acts);
+    Ok(all.then_some(block))
+}
+
+/// A block's replies without their text: time, flags, sequence number, acknowledgement number, window.
+fn replies(rt: &HostRuntime, block: &Block) -> Result<Vec<(u64, u8, u32, u32, u16)>, Fail> {
+    let mut replies = Vec::new(rt.alloc());
+    for i in 0..block.tcb().replies() {
+        let reply = block.tcb().reply(i);
+        replies.push((reply.at, reply.flags, reply.seq, reply.ack, reply.wnd))?;
+    }
+    Ok(replies)
+}
+
+/// All text that a block sent.
+fn sent(rt: &HostRuntime, block: &Block) -> Result<Vec<u8>, Fail> {
+    let mut text = Vec::new(rt.alloc());
+    for i in 0..block.tcb().replies() {
+        text.extend_from_slice(block.tcb().reply(i).text.as_slice())?;
+    }
+    Ok(text)
+}
+
+/// A block's answers: thread, number, answer.
+fn answers(rt: &HostRuntime, block: &Block) -> Result<Vec<(u32, u32, Answer)>, Fail> {
+    let mut answers = Vec::new(rt.alloc());
+    for i in 0..block.answers() {
+        answers.push(block.answer(i))?;
+    }
+    Ok(answers)
+}
+
+fn status(state: State, received: u64, offered: u64, unacked: u32) -> Answer {
+    Answer::Status {
+        state,
+        received,
+        offered,
+        unacked,
+    }
+}
+
+/// Connection 0 served in this order, where it can be.
+fn served(
+    alloc: Global,
+    plan: &Plan,
+    calls: &Calls,
+    order: &[Act],
+) -> Result<Option<Box<Block>>, AllocError> {
+    if plan.conns() == 0 || !can_serve(plan, calls, order) {
+        return Ok(None);
+    }
+    Ok(Some(serve_one(alloc, plan, calls, 0, order)?))
+}
+
+/// A connection that is opened and sends "abcdef".
+fn six_bytes(rt: &HostRuntime) -> Result<Capture, Fail> {
+    captured(
+        rt,
+        &[
+            (0, SYN, 100, 0, b"".as_slice()),
+            (1000, ACK, 101, 501, b"".as_slice()),
+            (2000, PSH_ACK, 101, 501, b"abcdef".as_slice()),
+        ],
+    )
+}
+
+/// Thread 0 makes the buffer 4 bytes large.
+fn buffer_of_four(alloc: Global) -> Result<Calls, AllocError> {
+    let mut calls = Calls::make(alloc);
+    calls.push(0, 0, Call::Buffer(4))?;
+    Ok(calls)
+}
+
+/// The order c0.0 f0 f1 f2.
+const BUFFER_FIRST: [Act; 4] = [
+    Act::Call { j: 0, k: 0 },
+    Act::Feed { n: 0 },
+    Act::Feed { n: 1 },
+    Act::Feed { n: 2 },
+];
+
+/// Whether a block has that order, and what serving it gives.
+fn served_four_bytes(rt: &HostRuntime, block: &Block) -> Result<bool, Fail> {
+    let wanted = [(0, SYN_ACK, 500, 101, 4), (2000, PSH_ACK, 501, 105, 4)];
+    let as_wanted = replies(rt, block)?.as_slice() == wanted.as_slice();
+    let sent_four = sent(rt, block)?.as_slice() == b"abcd".as_slice();
+    let as_answered = answers(rt, block)?.as_slice() == [(0, 0, Answer::Done)].as_slice();
+    let in_order = block.order() == BUFFER_FIRST.as_slice();
+    Ok(!block.short() && in_order && as_wanted && sent_four && as_answered)
+}
+
+#[test]
+fn small_buffer(rt: HostRuntime) -> Result<(), Fail> {
+    let capture = six_bytes(&rt)?;
+    let plan = plan(&rt, rt.alloc(), &capture, false)?;
+    let calls = buffer_of_four(rt.alloc())?;
+    let Some(block) = served(rt.alloc(), &plan, &calls, &BUFFER_FIRST)? else {
+        panic!(rt; "the order can't be served")
+    };
+    assert!(rt; served_four_bytes(&rt, &block)?);
+    Ok(())
+}
+
+/// The order f0 f1 f2 c0.0 c0.1 c1.0 f3 f4 f5.
+const TWO_THREADS: [Act; 9] = [
+    Act::Feed { n: 0 },
+    Act::Feed { n: 1 },
+    Act::Feed { n: 2 },
+    Act::Call { j: 0, k: 0 },
+    Act::Call { j: 0, k: 1 },
+    Act::Call { j: 1, k: 0 },
+    Act::Feed { n: 3 },
+    Act::Feed { n: 4 },
+    Act::Feed { n: 5 },
+];
+
+/// Whether a block has that order, and what serving it gives.
+fn served_two_threads(rt: &HostRuntime, block: &Block) -> Result<bool, Fail> {
+    let wanted = [
+        (0, SYN_ACK, 500, 101, 65535),
+        (2000, PSH_ACK, 501, 106, 65535),
+        (2000, FIN_ACK, 506, 106, 65535),
+        (3000, ACK, 507, 107, 65535),
+    ];
+    let answered = [
+        (0, 0, status(State::Established, 5, 5, 5)),
+        (0, 1, Answer::Done),
+        (1, 0, status(State::FinWait1, 5, 5, 5)),
+    ];
+    let as_wanted = replies(rt, block)?.as_slice() == wanted.as_slice();
+    let sent_hello = sent(rt, block)?.as_slice() == b"hello".as_slice();
+    let as_answered = answers(rt, block)?.as_slice() == answered.as_slice();
+    let in_order = block.order() == TWO_THREADS.as_slice();
+    let ended = block.tcb().state() == State::TimeWait;
+    Ok(!block.short() && in_order && as_wanted && sent_hello && as_answered && ended)
+}
+
+#[test]
+fn calls_of_two_threads(rt: HostRuntime) -> Result<(), Fail> {
+    let capture = five_segments(&rt)?;
+    let plan = plan(&rt, rt.alloc(), &capture, false)?;
+    let calls = two_threads(rt.alloc())?;
+    assert_eq!(rt; (calls.len(0), calls.len(1), calls.len(2)), (2, 1, 0));
+    let Some(block) = served(rt.alloc(), &plan, &calls, &TWO_THREADS)? else {
+        panic!(rt; "the order can't be served")
+    };
+    assert!(rt; served_two_threads(&rt, &block)?);
+    Ok(())
+}
+
+/// The same acts, with calls that come early and again.
+const EARLY_AND_AGAIN: [Act; 13] = [
+    Act::Feed { n: 0 },
+    Act::Feed { n: 1 },
+    Act::Call { j: 0, k: 1 },
+    Act::Call { j: 0, k: 1 },
+    Act::Feed { n: 2 },
+    Act::Call { j: 0, k: 0 },
+    Act::Call { j: 0, k: 0 },
+    Act::Call { j: 1, k: 0 },
+    Act::Call { j: 0, k: 1 },
+    Act::Feed { n: 3 },
+    Act::Feed { n: 4 },
+    Act::Feed { n: 5 },
+    Act::Call { j: 1, k: 0 },
+];
+
+#[test]
+fn early_repeated_and_late_calls(rt: HostRuntime) -> Result<(), Fail> {
+    let capture = five_segments(&rt)?;
+    let plan = plan(&rt, rt.alloc(), &capture, false)?;
+    let calls = two_threads(rt.alloc())?;
+    let Some(block) = given(rt.alloc(), &plan, &calls, &EARLY_AND_AGAIN)? else {
+        panic!(rt; "an act can't come")
+    };
+    assert!(rt; served_two_threads(&rt, &block)?);
+    Ok(())
+}
+
+/// Call 1 of thread 0 comes, and call 0 never does.
+const NEVER_LET_GO: [Act; 3] = [
+    Act::Call { j: 0, k: 1 },
+    Act::Feed { n: 0 },
+    Act::Call { j: 1, k: 0 },
+];
+
+#[test]
+fn call_held_to_the_end(rt: HostRuntime) -> Result<(), Fail> {
+    let capture = five_segments(&rt)?;
+    let plan = plan(&rt, rt.alloc(), &capture, false)?;
+    let calls = two_threads(rt.alloc())?;
+    let Some(block) = given(rt.alloc(), &plan, &calls, &NEVER_LET_GO)? else {
+        panic!(rt; "an act can't come")
+    };
+    let order = [Act::Feed { n: 0 }, Act::Call { j: 1, k: 0 }];
+    assert_eq!(rt; block.order(), order.as_slice());
+    assert_eq!(rt; block.answers(), 1);
+    Ok(())
+}
