@@ -1,6 +1,7 @@
 mod Joins
 mod Lines
 mod Runs
+mod EntryLemmas
 mod Blocks
 mod Sums
 mod SummaryParts

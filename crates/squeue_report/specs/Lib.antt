@@ -1,3 +1,4 @@
 pub mod Names
 pub mod ReportText
 pub mod SummaryText
+pub mod OrderLaw

@@ -1,5 +1,5 @@
 -- Accepted words and an accepted capture end with the whole output, where nothing fails.
-use Rattle.std.proofs.Common.{◌≡◌, ◌∙◌, ℕ, ◌+◌, ◌<◌, ◌≤◌, List, [], ◌∷◌, ◌++◌, length, Option, Some, None, Result, Ok, Err, ◌⊎◌, inl, inr, subst, sym, refl, ap, arith, length-append}
+use Rattle.std.proofs.Common.{◌≡◌, ◌∙◌, Bool, ℕ, ◌+◌, ◌<◌, ◌≤◌, List, [], ◌∷◌, ◌++◌, length, Option, Some, None, Result, Ok, Err, ◌⊎◌, inl, inr, subst, sym, refl, ap, arith, length-append}
 use Rattle.std.proofs.lemmas.List.{append-nil}
 use Rattle.std.specs.Io.KnownBytes.{Consumes}
 use Rattle.sq_base.specs.Ends.{Rose}
@@ -12,7 +12,7 @@ use Rattle.capture_reader.specs.declared.fault.CaptureFault.TheVariants as fault
 use Rattle.capture_reader.proofs.OneOutcome.{meets_once}
 use Rattle.squeue_run.specs.Asked.{Asked}
 use Rattle.squeue_run.specs.CallWords.{AllThere, IsFirstMissing}
-use Rattle.squeue_run.specs.Ran.{Accepts, AcceptsBy, HoldsCapture, End, IsDone, Ran, RanBy, RanRead, Reads, conns_of}
+use Rattle.squeue_run.specs.Ran.{Accepts, AcceptsBy, HoldsCapture, End, IsDone, Ran, RanBy, RanGenerated, RanRead, Reads, conns_of}
 use Rattle.squeue_run.specs.declared.calls.CallWord.{CallWord}
 
 whole_some : (xs bs : List ℕ) (is : Option (List ℕ)) → ReadsWhole (Some xs) is bs → bs ≡ xs
@@ -88,9 +88,19 @@ read_done a source out err status.NoConnection can nr nw h =
     let Named : CaptureFile → Type 0 = λ f. IsFirstMissing (conns_of f a.verify) h.2.0 a.calls in
     not_missing (conns_of can.file a.verify) h.2.0 a.calls can.there (subst Named (read_once can.file h.0 source can.bytes can.capture h.1) h.2.1)
 
+generated_done : (n : ℕ) (verify : Bool) (out err : End) (s : Status) → (Rose out.faults_were out.faults_are → ⊥) → RanGenerated n verify out err s → IsDone s
+generated_done n verify out err status.Ok nw h = tt
+generated_done n verify out err status.NoMemory nw h = tt
+generated_done n verify out err status.WriteFault nw h = nw h.0.failed
+generated_done n verify out err status.Usage nw h = h
+generated_done n verify out err status.ReadFault nw h = h
+generated_done n verify out err status.BadCapture nw h = h
+generated_done n verify out err status.TooLarge nw h = h
+generated_done n verify out err status.NoConnection nw h = h
+
 done_by : (number : Option ℕ) (a : Asked) (source out err : End) (s : Status) → AcceptsBy number a source.was → (Rose source.faults_were source.faults_are → ⊥) → (Rose out.faults_were out.faults_are → ⊥)
     → RanBy number a source out err s → IsDone s
-done_by (Some n) a source out err s can nr nw h = absurd can
+done_by (Some n) a source out err s can nr nw h = generated_done n a.verify out err s nw h.1
 done_by None a source out err s can nr nw h = read_done a source out err s can nr nw h
 
 pub is_done : (words : Option Asked) (source out err : End) (s : Status) → Ran words source out err s → Accepts words source.was

@@ -7,7 +7,7 @@ use Rattle.std.proofs.lemmas.List.Sums.{sum_by-append}
 use Rattle.std.proofs.lemmas.List.Folds.{list_all_at}
 use Rattle.std.proofs.lemmas.Bool.{eqb-true, leb-true}
 use Rattle.std.proofs.lemmas.Grind.{flat_map-append}
-use Rattle.squeue_run.specs.GeneratedCapture.{below, next_state, state_at, draw, text_len, sent_before, round_text, text_before, drawn_text, text_at, record_at, round_before, rounds_before, file_header, generated}
+use Rattle.squeue_run.specs.GeneratedCapture.{below, next_state, state_at, draw, text_len, sent_before, round_text, text_before, drawn_text, text_at, record_at, round_before, rounds_before}
 
 pub ruleset joins = (append_assoc, length-append)
 

@@ -24,3 +24,7 @@ pub mod Complete
 mod GeneratorSteps
 mod GeneratorNumbers
 mod GeneratorReady
+mod WorkedGenerator
+mod GeneratedSize
+mod GeneratedAccepted
+mod GeneratedRead

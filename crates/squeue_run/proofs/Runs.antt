@@ -1,15 +1,15 @@
 -- How a run ends, from what its steps say.
-use Rattle.std.proofs.Common.{◌≡◌, ℕ, ◌<◌, length, arith, List, Option, Some, None, ◌⊎◌, inl, inr, subst, sym}
+use Rattle.std.proofs.Common.{◌≡◌, ℕ, List, Option, Some, None, ◌⊎◌, inl, inr, subst, sym}
 use Rattle.std.specs.Io.KnownBytes.{Appends}
 use Rattle.sq_base.specs.Ends.{Rose, AppendsProperly}
 use Rattle.sq_base.specs.declared.kinds.Status.{Status}
 use Rattle.sq_base.specs.declared.kinds.Status.TheVariants as status
+use Rattle.capture_reader.specs.declared.fault.CaptureFault.{CaptureFault}
 use Rattle.capture_reader.specs.declared.fault.CaptureFault.TheVariants as fault
 use Rattle.squeue_run.specs.Asked.{Asked}
 use Rattle.squeue_run.specs.CallWords.{IsFirstMissing}
 use Rattle.squeue_run.specs.declared.refusal.Refusal.{Refusal}
 use Rattle.squeue_run.specs.declared.refusal.Refusal.TheVariants as refusal
-use Rattle.squeue_run.specs.GeneratedCapture.{generated}
 use Rattle.squeue_run.specs.Lines.{memory_line, write_line, bad_line, missing_line}
 use Rattle.squeue_run.specs.Ran.{End, GetsLine, IsUntouched, Ran, RanBy, RanGenerated, RanRead, RanRefused, conns_of}
 use Rattle.squeue_run.specs.Causes.{Fails, FailsBy, GeneratedFails, Gives, GivesBy, LineOrMemory, ReadingFails, RefusedWords, Told}
@@ -25,21 +25,13 @@ refused_words refusal.Usage out err s u h t = subst (RanRefused out err) (sym t.
 refused_words (refusal.Capture f) out err s u h t = absurd h
 refused_words (refusal.NoConnection c n) out err s u h t = absurd h
 
-too_long : (n k : ℕ) → k ≡ length (generated n) → 67108864 < k → 67108864 < length (generated n)
-too_long n k e more = omega (arith, e, more)
-
-not_generated : (n : ℕ) (a : Asked) (why : Refusal) (out err : End) (s : Status) → IsUntouched out → GeneratedFails n why → Told why err s → RanGenerated n a.verify out err s
+not_generated : (n : ℕ) (a : Asked) (why : Refusal) (out err : End) (s : Status) → IsUntouched out → GeneratedFails why → Told why err s → RanGenerated n a.verify out err s
 not_generated n a refusal.NoMemory out err s u h t = subst (RanGenerated n a.verify out err) (sym t.0) (u, t.1)
 not_generated n a refusal.Usage out err s u h t = absurd h
-not_generated n a (refusal.Capture fault.Read) out err s u h t = absurd h
-not_generated n a (refusal.Capture fault.NoMemory) out err s u h t = subst (RanGenerated n a.verify out err) (sym t.0) (u, t.1)
-not_generated n a (refusal.Capture (fault.TooLarge k)) out err s u h t = subst (RanGenerated n a.verify out err) (sym t.0) (inl (too_long n k h.0 h.1, (u, t.1)))
-not_generated n a (refusal.Capture fault.TooManyRecords) out err s u h t = subst (RanGenerated n a.verify out err) (sym t.0) (inr (h, (u, t.1)))
-not_generated n a (refusal.Capture (fault.ShortHeader k)) out err s u h t = line_or_memory (RanGenerated n a.verify out err) status.BadCapture (bad_line (fault.ShortHeader k)) err s (λ g. (fault.ShortHeader k, tt, h, (u, g))) (λ g. (u, g)) t
-not_generated n a (refusal.Capture (fault.Magic k)) out err s u h t = line_or_memory (RanGenerated n a.verify out err) status.BadCapture (bad_line (fault.Magic k)) err s (λ g. (fault.Magic k, tt, h, (u, g))) (λ g. (u, g)) t
-not_generated n a (refusal.Capture (fault.Version i j)) out err s u h t = line_or_memory (RanGenerated n a.verify out err) status.BadCapture (bad_line (fault.Version i j)) err s (λ g. (fault.Version i j, tt, h, (u, g))) (λ g. (u, g)) t
-not_generated n a (refusal.Capture (fault.Link k)) out err s u h t = line_or_memory (RanGenerated n a.verify out err) status.BadCapture (bad_line (fault.Link k)) err s (λ g. (fault.Link k, tt, h, (u, g))) (λ g. (u, g)) t
-not_generated n a (refusal.Capture (fault.RecordLength i j)) out err s u h t = line_or_memory (RanGenerated n a.verify out err) status.BadCapture (bad_line (fault.RecordLength i j)) err s (λ g. (fault.RecordLength i j, tt, h, (u, g))) (λ g. (u, g)) t
+not_generated n a (refusal.Capture f) out err s u h t =
+    let Tells : CaptureFault → Type 0 = λ g. Told (refusal.Capture g) err s in
+    let told = subst Tells h t in
+    subst (RanGenerated n a.verify out err) (sym told.0) (u, told.1)
 not_generated n a (refusal.NoConnection c k) out err s u h t = absurd h
 
 not_read : (a : Asked) (why : Refusal) (source out err : End) (s : Status) → IsUntouched out → ReadingFails a source why → Told why err s → RanRead a source out err s

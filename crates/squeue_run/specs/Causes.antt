@@ -3,7 +3,7 @@ use Rattle.std.specs.Prelude.{◌≡◌, ℕ, List, Option, Some, None, ◌⊎�
 use Rattle.sq_base.specs.Ends.{Rose}
 use Rattle.sq_base.specs.declared.kinds.Status.{Status}
 use Rattle.sq_base.specs.declared.kinds.Status.TheVariants as status
-use Rattle.capture_reader.specs.Outcome.{CaptureFile, ParseFails, ReadFails}
+use Rattle.capture_reader.specs.Outcome.{CaptureFile, ReadFails}
 use Rattle.capture_reader.specs.declared.fault.CaptureFault.TheVariants as fault
 use Rattle.squeue_run.specs.Asked.{Asked}
 use Rattle.squeue_run.specs.CallWords.{AllThere, IsFirstMissing}
@@ -11,7 +11,6 @@ use Rattle.squeue_run.specs.declared.calls.CallWord.{CallWord}
 use Rattle.squeue_run.specs.declared.refusal.Refusal.{Refusal}
 use Rattle.squeue_run.specs.declared.refusal.Refusal.TheVariants as refusal
 use Rattle.squeue_run.specs.Lines.{usage_line, memory_line, read_line, bad_line, many_bytes_line, many_records_line, missing_line}
-use Rattle.squeue_run.specs.GeneratedCapture.{generated}
 use Rattle.squeue_run.specs.Output.{IsReport, IsSummary}
 use Rattle.squeue_run.specs.Ran.{End, GetsLine, IsUntouched, Reads, conns_of}
 
@@ -44,11 +43,11 @@ ReplayFails file a (refusal.Capture f) = ⊥
 ReplayFails file a (refusal.NoConnection c conns) = (conns ≡ conns_of file a.verify) × IsFirstMissing conns c a.calls
 
 -- why a generated run gives nothing
-abbrev pub GeneratedFails : ℕ → Refusal → Type 0
-GeneratedFails number refusal.NoMemory = Unit {0}
-GeneratedFails number refusal.Usage = ⊥
-GeneratedFails number (refusal.Capture f) = ParseFails (generated number) f
-GeneratedFails number (refusal.NoConnection c conns) = ⊥
+abbrev pub GeneratedFails : Refusal → Type 0
+GeneratedFails refusal.NoMemory = Unit {0}
+GeneratedFails refusal.Usage = ⊥
+GeneratedFails (refusal.Capture f) = f ≡ fault.NoMemory
+GeneratedFails (refusal.NoConnection c conns) = ⊥
 
 -- why an input that is read gives nothing
 abbrev pub ReadingFails : Asked → End → Refusal → Type 0
@@ -63,7 +62,7 @@ GivesBy (Some number) a source text = IsUntouched source × IsSummary number a.v
 GivesBy None a source text = (file : CaptureFile) × Reads source file × Replays file a text
 
 abbrev pub FailsBy : Option ℕ → Asked → End → Refusal → Type 0
-FailsBy (Some number) a source why = IsUntouched source × GeneratedFails number why
+FailsBy (Some number) a source why = IsUntouched source × GeneratedFails why
 FailsBy None a source why = ReadingFails a source why
 
 -- what is to be written for these words, or why nothing is

@@ -1,10 +1,14 @@
 -- The capture that is made from a number: 1,000 connections with 100 segments each, one of each connection in a round.
-use Rattle.std.specs.Prelude.{ℕ, suc, zero, ◌+◌, ◌*◌, ◌/◌, ◌%◌, ◌^◌, ◌==◌, nat_le, ◌&&◌, List, [], ◌∷◌, ◌++◌, length, map, sum_by, None, if◌then◌else◌}
+use Rattle.std.specs.Prelude.{◌≡◌, ℕ, suc, zero, ◌+◌, ◌*◌, ◌/◌, ◌%◌, ◌^◌, ◌==◌, nat_le, ◌&&◌, List, ◌∷◌, ◌++◌, length, map, sum_by, None, if◌then◌else◌}
 use Rattle.std.specs.List.{flat_map, range_with_len}
 use Rattle.byteorder.specs.Endian.{little_bytes}
 use Rattle.sq_base.specs.declared.kinds.Tuple.{Tuple}
 use Rattle.segment_codec.specs.declared.packet.Reply.{Reply}
 use Rattle.segment_codec.specs.SegmentBytes.{segment_bytes}
+use Rattle.capture_reader.specs.declared.fault.CaptureFault.{CaptureFault}
+use Rattle.capture_reader.specs.declared.fault.CaptureFault.TheVariants as fault
+use Rattle.capture_reader.specs.CaptureFile.{Contents, Captured}
+use Rattle.capture_reader.specs.Outcome.{ParseFails}
 
 -- the numbers below n
 abbrev pub below : ℕ → List ℕ
@@ -109,3 +113,11 @@ file_header = little_bytes 4 0xa1b2_c3d4 ++ (little_bytes 2 2 ++ (little_bytes 2
 
 unfoldable pub generated : ℕ → List ℕ
 generated number = file_header ++ rounds_before number 100
+
+-- the bytes are a capture
+abbrev pub IsAccepted : List ℕ → Type 0
+IsAccepted bytes = (contents : Contents) × Captured bytes contents
+
+-- a reader refuses them only where memory is missing
+abbrev pub IsUnrefused : List ℕ → Type 0
+IsUnrefused bytes = (f : CaptureFault) → ParseFails bytes f → f ≡ fault.NoMemory

@@ -1,16 +1,15 @@
 -- How a run ends: by its status, what was read, what was written, and which line was told.
-use Rattle.std.specs.Prelude.{◌≡◌, ℕ, ◌<◌, List, Option, Some, None, length, ◌⊎◌, Bool}
+use Rattle.std.specs.Prelude.{◌≡◌, ℕ, List, Option, Some, None, length, ◌⊎◌, Bool}
 use Rattle.std.specs.Io.KnownBytes.{Keeps, Appends}
 use Rattle.sq_base.specs.Ends.{Rose, AppendsProperly}
 use Rattle.sq_base.specs.declared.kinds.Status.{Status}
 use Rattle.sq_base.specs.declared.kinds.Status.TheVariants as status
-use Rattle.capture_reader.specs.Outcome.{CaptureFile, IsCapture, IsRefused, ReadsWhole, ReadsRefused, TakesTooMany}
+use Rattle.capture_reader.specs.Outcome.{CaptureFile, IsCapture, ReadsWhole, ReadsRefused, TakesTooMany}
 use Rattle.capture_reader.specs.declared.fault.CaptureFault.{CaptureFault}
 use Rattle.capture_reader.specs.declared.fault.CaptureFault.TheVariants as fault
 use Rattle.conn_classifier.specs.Plan.{plan_of}
 use Rattle.squeue_run.specs.Asked.{Asked}
 use Rattle.squeue_run.specs.CallWords.{AllThere, IsFirstMissing}
-use Rattle.squeue_run.specs.GeneratedCapture.{generated}
 use Rattle.squeue_run.specs.Output.{IsReport, IsSummary}
 use Rattle.squeue_run.specs.Lines.{usage_line, memory_line, read_line, write_line, bad_line, many_bytes_line, many_records_line, missing_line}
 
@@ -79,10 +78,6 @@ abbrev pub RanGenerated : ℕ → Bool → End → End → Status → Type 0
 RanGenerated number verify out err status.Ok = GetsWhole (IsSummary number verify) out × IsUntouched err
 RanGenerated number verify out err status.WriteFault = GetsFront (IsSummary number verify) out × GetsLine err write_line
 RanGenerated number verify out err status.NoMemory = OnlyTells out err memory_line
-RanGenerated number verify out err status.BadCapture = (why : CaptureFault) × IsBad why × IsRefused (generated number) why × OnlyTells out err (bad_line why)
-RanGenerated number verify out err status.TooLarge =
-    ((67108864 < length (generated number)) × OnlyTells out err many_bytes_line)
-    ⊎ (IsRefused (generated number) fault.TooManyRecords × OnlyTells out err many_records_line)
 RanGenerated number verify out err _ = ⊥
 
 -- an input that was read
@@ -118,10 +113,10 @@ pub record HoldsCapture (a : Asked) (left : Option (List ℕ)) : Type 0 where
   pub there : AllThere (conns_of file a.verify) a.calls
 
 abbrev pub AcceptsBy : Option ℕ → Asked → Option (List ℕ) → Type 0
-AcceptsBy (Some number) a left = ⊥
+AcceptsBy (Some number) a left = Unit {0}
 AcceptsBy None a left = HoldsCapture a left
 
--- the words are accepted, and so is what the source has left
+-- the words are accepted, and so is what the source has left; where the input is generated it isn't read
 abbrev pub Accepts : Option Asked → Option (List ℕ) → Type 0
 Accepts None left = ⊥
 Accepts (Some a) left = AcceptsBy a.number a left

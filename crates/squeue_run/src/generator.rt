@@ -1,7 +1,7 @@
 //! A large valid input, made from a number: 1,000 connections with 100 segments each.
 
 ghost use Rattle.std.specs.Prelude.{◌≡◌, ℕ, ◌+◌, ◌/◌, ◌%◌, ◌<◌, ◌≤◌, ◌^◌, ◌++◌, length, if◌then◌else◌, IfOk, OnOk};
-ghost use Rattle.squeue_run.specs.GeneratedCapture.{next_state, state_at, text_len, drawn_text, text_at, numbers_at, ends_of, record_of, record_at, round_before, file_header, generated};
+ghost use Rattle.squeue_run.specs.GeneratedCapture.{next_state, state_at, text_len, drawn_text, text_at, numbers_at, ends_of, record_of, record_at, round_before, file_header, generated, IsAccepted, IsUnrefused};
 ghost use Rattle.squeue_run.specs.GeneratorState.{client_at, Ready};
 
 use segment_codec::{Reply, encode};
@@ -234,7 +234,10 @@ fn push_round(
 
 /// The capture file for a number.
 pub fn generate(alloc: Global, number: u32) -> Result<Octets, AllocError>
-    ensures { IfOk result (λ bytes. bytes ≡ generated number) }
+    ensures bytes { IfOk result (λ bytes. bytes ≡ generated number) }
+    ensures size { IfOk result (λ bytes. length bytes ≡ 10256024) }
+    ensures accepted { IfOk result (λ bytes. IsAccepted bytes) }
+    ensures unrefused { IfOk result (λ bytes. IsUnrefused bytes) }
 {
     let mut draws = Draws {
         state: u64::from(number),

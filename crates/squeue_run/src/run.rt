@@ -152,7 +152,7 @@ fn generated(
     words: &Words,
     number: u32,
 ) -> Result<Octets, Refusal>
-    ensures { MatchResult result (IsSummary number words.now.verify) (GeneratedFails number) }
+    ensures { MatchResult result (IsSummary number words.now.verify) GeneratedFails }
 {
     let capture = match parse_capture(alloc, generate(alloc, number)?) {
         Ok(capture) => capture,

@@ -1,4 +1,4 @@
-use Rattle.std.proofs.Common.{◌≡◌, ◌*◌, length}
+use Rattle.std.proofs.Common.{◌≡◌, ◌*◌}
 use Rattle.squeue_run.specs.GeneratedCapture.{state_at}
 use Rattle.squeue_run.proofs.GeneratorReady.{new_clients}
 use Rattle.squeue_run.proofs.generator.clients.Given as goal

@@ -1,9 +1,12 @@
-use Rattle.std.proofs.Common.{◌≡◌, ◌+◌, List, ◌++◌, length, ap, sym, subst, ◌∙◌, append_assoc, arith}
+use Rattle.std.proofs.Common.{◌≡◌, ℕ, ◌+◌, List, ◌++◌, length, ap, sym, subst, ◌∙◌, append_assoc, arith}
 use Rattle.std.proofs.lemmas.List.{append-nil}
-use Rattle.squeue_run.specs.GeneratedCapture.{generated, file_header, round_before, rounds_before}
+use Rattle.squeue_run.specs.GeneratedCapture.{generated, file_header, round_before, rounds_before, IsAccepted, IsUnrefused}
 use Rattle.squeue_run.specs.GeneratorState.{Ready}
 use Rattle.squeue_run.proofs.GeneratorSteps.{no_rounds, rounds_more}
 use Rattle.squeue_run.proofs.GeneratorReady.{given_back}
+use Rattle.squeue_run.proofs.GeneratedAccepted.{accepted}
+use Rattle.squeue_run.proofs.GeneratedRead.{unrefused}
+use Rattle.squeue_run.proofs.GeneratedSize.{generated_size}
 use Rattle.squeue_run.proofs.generator.generate.Goals as goal
 
 pub loop-round-init : goal.loop-round-init
@@ -29,8 +32,23 @@ loop-round-preserved c =
           (sym (given_back c.loop-round.clients.len c.push_round.new.clients c.loop-round.clients.items len done.count so_far.ready.count)) done;
     }
 
-pub returns : goal.returns
+-- the file once all rounds are made
+whole : (number round : ℕ) (file : List ℕ) → file ≡ file_header ++ rounds_before number round → round ≡ 100 → file ≡ generated number
 unfolding generated
-returns c =
-    let all : c.loop-round.round ≡ 100 = omega arith in
-    c.wrap.ensures ∙ c.loop-round.invariant.file ∙ ap (λ r. file_header ++ rounds_before c.args.number r) all
+whole number round file e all = e ∙ ap (λ r. file_header ++ rounds_before number r) all
+
+is_generated : (c : goal.After-drop-clients-2) → c.wrap.result ≡ generated c.args.number
+is_generated c = c.wrap.ensures ∙ whole c.args.number c.loop-round.round _ c.loop-round.invariant.file (omega arith)
+
+pub returns-clause-bytes : goal.returns-clause-bytes
+returns-clause-bytes c = is_generated c
+
+pub returns-clause-size : goal.returns-clause-size
+returns-clause-size c = ap length (is_generated c) ∙ generated_size c.args.number
+
+pub returns-clause-accepted : goal.returns-clause-accepted
+returns-clause-accepted c = subst IsAccepted (sym (is_generated c)) (accepted c.args.number)
+
+pub returns-clause-unrefused : goal.returns-clause-unrefused
+returns-clause-unrefused c =
+    subst IsUnrefused (sym (is_generated c)) (unrefused (generated c.args.number) (generated_size c.args.number) (accepted c.args.number))

@@ -1,4 +1,4 @@
-use Rattle.std.proofs.Common.{◌≡◌, ◌++◌, length}
+use Rattle.std.proofs.Common.{◌≡◌, ◌++◌}
 use Rattle.squeue_run.specs.GeneratedCapture.{rounds_before, file_header}
 use Rattle.squeue_run.specs.GeneratorState.{Ready}
 use Rattle.squeue_run.proofs.generator.generate.Given as goal

@@ -1,4 +1,4 @@
-use Rattle.std.proofs.Common.{◌≡◌, ◌++◌, ◌≤◌, ◌+◌, ◌*◌, length, ap, ◌∙◌, subst, sym, refl, arith}
+use Rattle.std.proofs.Common.{◌++◌, ◌≤◌, length, ap, ◌∙◌, subst, sym, refl, arith}
 use Rattle.squeue_run.proofs.Records.{segment_len}
 use Rattle.squeue_run.proofs.GeneratorSteps.{text_at_len}
 use Rattle.squeue_run.proofs.GeneratorReady.{segment_is, record_is, client_next}

@@ -1,5 +1,5 @@
 use Rattle.std.proofs.Common.{◌≡◌, ◌+◌, ◌≤◌, ℕ, length}
-use Rattle.squeue_run.specs.GeneratedCapture.{state_at, drawn_text, text_len}
+use Rattle.squeue_run.specs.GeneratedCapture.{state_at, drawn_text}
 use Rattle.squeue_run.proofs.generator.text.Given as goal
 
 abbrev pub invariant-loop : goal.invariant-loop

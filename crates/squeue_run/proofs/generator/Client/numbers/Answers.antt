@@ -1,4 +1,4 @@
-use Rattle.std.proofs.Common.{◌≡◌, ◌≤◌, ◌+◌, ◌%◌, ◌^◌, ◌∙◌, sym, ap, arith}
+use Rattle.std.proofs.Common.{◌≤◌, ◌+◌, ◌%◌, ◌^◌, ◌∙◌, sym, ap, arith}
 use Rattle.squeue_run.proofs.GeneratorNumbers.{syn_flags, syn_seq, syn_ack, ack_flags, ack_seq, ack_ack, in_text, text_seq, text_ack, in_fin, fin_seq, fin_ack, in_last, last_seq, last_ack}
 use Rattle.squeue_run.proofs.generator.Client.numbers.Goals as goal
 
