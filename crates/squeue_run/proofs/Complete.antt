@@ -1,5 +1,5 @@
 -- Accepted words and an accepted capture end with the whole output, where nothing fails.
-use Rattle.std.proofs.Common.{Bool, ◌≡◌, ◌∙◌, ℕ, ◌+◌, ◌<◌, ◌≤◌, List, [], ◌∷◌, ◌++◌, length, Option, Some, None, Result, Ok, Err, ◌⊎◌, inl, inr, subst, sym, refl, ap, arith, length-append}
+use Rattle.std.proofs.Common.{◌≡◌, ◌∙◌, Bool, ℕ, ◌+◌, ◌<◌, ◌≤◌, List, [], ◌∷◌, ◌++◌, length, Option, Some, None, Result, Ok, Err, ◌⊎◌, inl, inr, subst, sym, refl, ap, arith, length-append}
 use Rattle.std.proofs.lemmas.List.{append-nil}
 use Rattle.std.specs.Io.KnownBytes.{Consumes}
 use Rattle.sq_base.specs.Ends.{Rose}
@@ -88,15 +88,15 @@ read_done a source out err status.NoConnection can nr nw h =
     let Named : CaptureFile → Type 0 = λ f. IsFirstMissing (conns_of f a.verify) h.2.0 a.calls in
     not_missing (conns_of can.file a.verify) h.2.0 a.calls can.there (subst Named (read_once can.file h.0 source can.bytes can.capture h.1) h.2.1)
 
-generated_done : (number : ℕ) (verify : Bool) (out err : End) (s : Status) → (Rose out.faults_were out.faults_are → ⊥) → RanGenerated number verify out err s → IsDone s
-generated_done number verify out err status.Ok nw h = tt
-generated_done number verify out err status.NoMemory nw h = tt
-generated_done number verify out err status.WriteFault nw h = nw h.0.failed
-generated_done number verify out err status.Usage nw h = h
-generated_done number verify out err status.ReadFault nw h = h
-generated_done number verify out err status.BadCapture nw h = h
-generated_done number verify out err status.TooLarge nw h = h
-generated_done number verify out err status.NoConnection nw h = h
+generated_done : (n : ℕ) (verify : Bool) (out err : End) (s : Status) → (Rose out.faults_were out.faults_are → ⊥) → RanGenerated n verify out err s → IsDone s
+generated_done n verify out err status.Ok nw h = tt
+generated_done n verify out err status.NoMemory nw h = tt
+generated_done n verify out err status.WriteFault nw h = nw h.0.failed
+generated_done n verify out err status.Usage nw h = h
+generated_done n verify out err status.ReadFault nw h = h
+generated_done n verify out err status.BadCapture nw h = h
+generated_done n verify out err status.TooLarge nw h = h
+generated_done n verify out err status.NoConnection nw h = h
 
 done_by : (number : Option ℕ) (a : Asked) (source out err : End) (s : Status) → AcceptsBy number a source.was → (Rose source.faults_were source.faults_are → ⊥) → (Rose out.faults_were out.faults_are → ⊥)
     → RanBy number a source out err s → IsDone s

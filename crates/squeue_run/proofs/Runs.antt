@@ -1,5 +1,5 @@
 -- How a run ends, from what its steps say.
-use Rattle.std.proofs.Common.{◌≡◌, ℕ, ◌<◌, length, arith, List, Option, Some, None, ◌⊎◌, inl, inr, subst, sym}
+use Rattle.std.proofs.Common.{◌≡◌, ℕ, List, Option, Some, None, ◌⊎◌, inl, inr, subst, sym}
 use Rattle.std.specs.Io.KnownBytes.{Appends}
 use Rattle.sq_base.specs.Ends.{Rose, AppendsProperly}
 use Rattle.sq_base.specs.declared.kinds.Status.{Status}
@@ -10,7 +10,6 @@ use Rattle.squeue_run.specs.Asked.{Asked}
 use Rattle.squeue_run.specs.CallWords.{IsFirstMissing}
 use Rattle.squeue_run.specs.declared.refusal.Refusal.{Refusal}
 use Rattle.squeue_run.specs.declared.refusal.Refusal.TheVariants as refusal
-use Rattle.squeue_run.specs.GeneratedCapture.{generated}
 use Rattle.squeue_run.specs.Lines.{memory_line, write_line, bad_line, missing_line}
 use Rattle.squeue_run.specs.Ran.{End, GetsLine, IsUntouched, Ran, RanBy, RanGenerated, RanRead, RanRefused, conns_of}
 use Rattle.squeue_run.specs.Causes.{Fails, FailsBy, GeneratedFails, Gives, GivesBy, LineOrMemory, ReadingFails, RefusedWords, Told}
@@ -31,8 +30,8 @@ not_generated n a refusal.NoMemory out err s u h t = subst (RanGenerated n a.ver
 not_generated n a refusal.Usage out err s u h t = absurd h
 not_generated n a (refusal.Capture f) out err s u h t =
     let Tells : CaptureFault → Type 0 = λ g. Told (refusal.Capture g) err s in
-    let tells : Told (refusal.Capture fault.NoMemory) err s = subst Tells h t in
-    subst (RanGenerated n a.verify out err) (sym tells.0) (u, tells.1)
+    let told = subst Tells h t in
+    subst (RanGenerated n a.verify out err) (sym told.0) (u, told.1)
 not_generated n a (refusal.NoConnection c k) out err s u h t = absurd h
 
 not_read : (a : Asked) (why : Refusal) (source out err : End) (s : Status) → IsUntouched out → ReadingFails a source why → Told why err s → RanRead a source out err s

@@ -1,16 +1,15 @@
 -- How a run ends: by its status, what was read, what was written, and which line was told.
-use Rattle.std.specs.Prelude.{◌≡◌, ℕ, ◌<◌, List, Option, Some, None, length, ◌⊎◌, Bool}
+use Rattle.std.specs.Prelude.{◌≡◌, ℕ, List, Option, Some, None, length, ◌⊎◌, Bool}
 use Rattle.std.specs.Io.KnownBytes.{Keeps, Appends}
 use Rattle.sq_base.specs.Ends.{Rose, AppendsProperly}
 use Rattle.sq_base.specs.declared.kinds.Status.{Status}
 use Rattle.sq_base.specs.declared.kinds.Status.TheVariants as status
-use Rattle.capture_reader.specs.Outcome.{CaptureFile, IsCapture, IsRefused, ReadsWhole, ReadsRefused, TakesTooMany}
+use Rattle.capture_reader.specs.Outcome.{CaptureFile, IsCapture, ReadsWhole, ReadsRefused, TakesTooMany}
 use Rattle.capture_reader.specs.declared.fault.CaptureFault.{CaptureFault}
 use Rattle.capture_reader.specs.declared.fault.CaptureFault.TheVariants as fault
 use Rattle.conn_classifier.specs.Plan.{plan_of}
 use Rattle.squeue_run.specs.Asked.{Asked}
 use Rattle.squeue_run.specs.CallWords.{AllThere, IsFirstMissing}
-use Rattle.squeue_run.specs.GeneratedCapture.{generated}
 use Rattle.squeue_run.specs.Output.{IsReport, IsSummary}
 use Rattle.squeue_run.specs.Lines.{usage_line, memory_line, read_line, write_line, bad_line, many_bytes_line, many_records_line, missing_line}
 
@@ -117,7 +116,7 @@ abbrev pub AcceptsBy : Option ℕ → Asked → Option (List ℕ) → Type 0
 AcceptsBy (Some number) a left = Unit {0}
 AcceptsBy None a left = HoldsCapture a left
 
--- the words are accepted, and so is what the source has left, where it is read
+-- the words are accepted, and so is what the source has left; where the input is generated it isn't read
 abbrev pub Accepts : Option Asked → Option (List ℕ) → Type 0
 Accepts None left = ⊥
 Accepts (Some a) left = AcceptsBy a.number a left

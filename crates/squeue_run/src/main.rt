@@ -12,6 +12,8 @@ mod numbers;
 mod reading;
 mod refusal;
 mod run;
+#[cfg(test)]
+mod tests;
 mod words;
 
 pub use calls::CallWord;

@@ -1,0 +1,336 @@
+use crate::tests::{A, F, P, R, S, Seg, Sent, Syn, Udp, capture, check_of, expect, ran};
+use sq_base::Status;
+use std::alloc::Global;
+use std::process::Abort;
+use std::test::Fail;
+use std::thread::Threads;
+
+/// What a client sends, and what is reported of its connection.
+#[derive(Clone, Copy, Drop)]
+struct Dialogue<'a> {
+    name: &'a str,
+    sent: &'a [Sent<'a>],
+    counts: &'a str,
+    order: &'a str,
+    replies: &'a [&'a str],
+    end: &'a str,
+}
+
+const SEQUENCE_NUMBERS_WRAP: Dialogue = Dialogue {
+    name: "sequence_numbers_wrap",
+    sent: &[
+        Seg(0, S, 4_294_967_294, 0, 4096, b""),
+        Seg(1000, A, 4_294_967_295, 501, 4096, b""),
+        Seg(2000, P | A, 4_294_967_295, 501, 4096, b"abcd"),
+        Seg(3000, F | A, 3, 505, 4096, b""),
+    ],
+    counts: "records 4 tail 0 served 4 nofit 0 server 0 other 0 fragment 0 cut 0 malformed 0 badsum 0 connections 1",
+    order: "order f0-4",
+    replies: &[
+        "reply 0 4500002c00004000400626ca0a0000020a00000100070fa0000001f4ffffffff6012ffff72790000020405b4",
+        "reply 2000 4500002c00004000400626ca0a0000020a00000100070fa0000001f5000000035018ffffc560000061626364",
+        "reply 3000 4500002800004000400626ce0a0000020a00000100070fa0000001f9000000045011ffff8a2d0000",
+    ],
+    end: "end LAST-ACK",
+};
+
+const TEXT_OUT_OF_ORDER: Dialogue = Dialogue {
+    name: "text_out_of_order",
+    sent: &[
+        Seg(0, S, 100, 0, 4096, b""),
+        Seg(1000, A, 101, 501, 4096, b""),
+        Seg(2000, P | A, 104, 501, 4096, b"def"),
+        Seg(3000, P | A, 101, 501, 4096, b"abc"),
+        Seg(4000, P | A, 101, 501, 4096, b"abc"),
+    ],
+    counts: "records 5 tail 0 served 5 nofit 0 server 0 other 0 fragment 0 cut 0 malformed 0 badsum 0 connections 1",
+    order: "order f0-5",
+    replies: &[
+        "reply 0 4500002c00004000400626ca0a0000020a00000100070fa0000001f4000000656012ffff72140000020405b4",
+        "reply 2000 4500002800004000400626ce0a0000020a00000100070fa0000001f5000000655010ffff89d10000",
+        "reply 3000 4500002e00004000400626c80a0000020a00000100070fa0000001f50000006b5018ffff5f900000616263646566",
+        "reply 4000 4500002800004000400626ce0a0000020a00000100070fa0000001fb0000006b5010ffff89c50000",
+    ],
+    end: "end ESTABLISHED",
+};
+
+const ZERO_WINDOW_PROBE: Dialogue = Dialogue {
+    name: "zero_window_probe",
+    sent: &[
+        Seg(0, S, 100, 0, 4096, b""),
+        Seg(1000, A, 101, 501, 0, b""),
+        Seg(2000, P | A, 101, 501, 0, b"xyz"),
+        Seg(1_500_000, A, 104, 501, 4096, b""),
+    ],
+    counts: "records 4 tail 0 served 4 nofit 0 server 0 other 0 fragment 0 cut 0 malformed 0 badsum 0 connections 1",
+    order: "order f0-5",
+    replies: &[
+        "reply 0 4500002c00004000400626ca0a0000020a00000100070fa0000001f4000000656012ffff72140000020405b4",
+        "reply 2000 4500002800004000400626ce0a0000020a00000100070fa0000001f5000000685010ffff89ce0000",
+        "reply 1002000 4500002900004000400626cd0a0000020a00000100070fa0000001f5000000685018ffff11c5000078",
+        "reply 1500000 4500002a00004000400626cc0a0000020a00000100070fa0000001f6000000685018ffff10490000797a",
+    ],
+    end: "end ESTABLISHED",
+};
+
+const RESETS_AT_THE_NEXT_NUMBER: Dialogue = Dialogue {
+    name: "resets: at the next number",
+    sent: &[
+        Seg(0, S, 100, 0, 4096, b""),
+        Seg(1000, A, 101, 501, 4096, b""),
+        Seg(2000, R, 101, 0, 0, b""),
+    ],
+    counts: "records 3 tail 0 served 3 nofit 0 server 0 other 0 fragment 0 cut 0 malformed 0 badsum 0 connections 1",
+    order: "order f0-3",
+    replies: &[
+        "reply 0 4500002c00004000400626ca0a0000020a00000100070fa0000001f4000000656012ffff72140000020405b4",
+    ],
+    end: "end LISTEN",
+};
+
+const RESETS_IN_THE_WINDOW: Dialogue = Dialogue {
+    name: "resets: in the window",
+    sent: &[
+        Seg(0, S, 100, 0, 4096, b""),
+        Seg(1000, A, 101, 501, 4096, b""),
+        Seg(2000, R, 102, 0, 0, b""),
+    ],
+    counts: "records 3 tail 0 served 3 nofit 0 server 0 other 0 fragment 0 cut 0 malformed 0 badsum 0 connections 1",
+    order: "order f0-3",
+    replies: &[
+        "reply 0 4500002c00004000400626ca0a0000020a00000100070fa0000001f4000000656012ffff72140000020405b4",
+        "reply 2000 4500002800004000400626ce0a0000020a00000100070fa0000001f5000000655010ffff89d10000",
+    ],
+    end: "end ESTABLISHED",
+};
+
+const RESETS_BEFORE_THE_WINDOW: Dialogue = Dialogue {
+    name: "resets: before the window",
+    sent: &[
+        Seg(0, S, 100, 0, 4096, b""),
+        Seg(1000, A, 101, 501, 4096, b""),
+        Seg(2000, R, 100, 0, 0, b""),
+    ],
+    counts: "records 3 tail 0 served 3 nofit 0 server 0 other 0 fragment 0 cut 0 malformed 0 badsum 0 connections 1",
+    order: "order f0-3",
+    replies: &[
+        "reply 0 4500002c00004000400626ca0a0000020a00000100070fa0000001f4000000656012ffff72140000020405b4",
+    ],
+    end: "end ESTABLISHED",
+};
+
+const RESETS_BEHIND_THE_WINDOW: Dialogue = Dialogue {
+    name: "resets: behind the window",
+    sent: &[
+        Seg(0, S, 100, 0, 4096, b""),
+        Seg(1000, A, 101, 501, 4096, b""),
+        Seg(2000, R, 65636, 0, 0, b""),
+    ],
+    counts: "records 3 tail 0 served 3 nofit 0 server 0 other 0 fragment 0 cut 0 malformed 0 badsum 0 connections 1",
+    order: "order f0-3",
+    replies: &[
+        "reply 0 4500002c00004000400626ca0a0000020a00000100070fa0000001f4000000656012ffff72140000020405b4",
+    ],
+    end: "end ESTABLISHED",
+};
+
+const HANDSHAKE_RETRANSMISSIONS: Dialogue = Dialogue {
+    name: "handshake_retransmissions",
+    sent: &[Seg(0, S, 100, 0, 4096, b""), Udp(130_000_000)],
+    counts: "records 2 tail 0 served 1 nofit 0 server 0 other 1 fragment 0 cut 0 malformed 0 badsum 0 connections 1",
+    order: "order f0-1",
+    replies: &[
+        "reply 0 4500002c00004000400626ca0a0000020a00000100070fa000000000000000656012ffff74080000020405b4",
+        "reply 1000000 4500002c00004000400626ca0a0000020a00000100070fa000000000000000656012ffff74080000020405b4",
+        "reply 3000000 4500002c00004000400626ca0a0000020a00000100070fa000000000000000656012ffff74080000020405b4",
+        "reply 7000000 4500002c00004000400626ca0a0000020a00000100070fa000000000000000656012ffff74080000020405b4",
+        "reply 15000000 4500002c00004000400626ca0a0000020a00000100070fa000000000000000656012ffff74080000020405b4",
+        "reply 31000000 4500002c00004000400626ca0a0000020a00000100070fa000000000000000656012ffff74080000020405b4",
+        "reply 63000000 4500002c00004000400626ca0a0000020a00000100070fa000000000000000656012ffff74080000020405b4",
+        "reply 123000000 4500002c00004000400626ca0a0000020a00000100070fa000000000000000656012ffff74080000020405b4",
+    ],
+    end: "end SYN-RECEIVED",
+};
+
+const TUPLE_USED_AGAIN: Dialogue = Dialogue {
+    name: "tuple_used_again",
+    sent: &[
+        Seg(0, S, 100, 0, 4096, b""),
+        Seg(1000, A, 101, 501, 4096, b""),
+        Seg(2000, P | A, 101, 501, 4096, b"hello"),
+        Seg(3000, F | A, 106, 506, 4096, b""),
+        Seg(4000, A, 107, 507, 4096, b""),
+        Seg(5000, S, 9000, 0, 4096, b""),
+        Seg(6000, A, 9001, 701, 4096, b""),
+    ],
+    counts: "records 7 tail 0 served 7 nofit 0 server 0 other 0 fragment 0 cut 0 malformed 0 badsum 0 connections 1",
+    order: "order f0-7",
+    replies: &[
+        "reply 0 4500002c00004000400626ca0a0000020a00000100070fa0000001f4000000656012ffff72140000020405b4",
+        "reply 2000 4500002d00004000400626c90a0000020a00000100070fa0000001f50000006a5018ffff45ed000068656c6c6f",
+        "reply 3000 4500002800004000400626ce0a0000020a00000100070fa0000001fa0000006b5011ffff89c50000",
+        "reply 5000 4500002c00004000400626ca0a0000020a00000100070fa0000002bc000023296012ffff4e880000020405b4",
+    ],
+    end: "end ESTABLISHED",
+};
+
+const REPEATED_SYN: Dialogue = Dialogue {
+    name: "repeated_syn",
+    sent: &[
+        Seg(0, S, 100, 0, 4096, b""),
+        Seg(500, S, 100, 0, 4096, b""),
+        Seg(1000, A, 101, 501, 4096, b""),
+        Seg(2000, P | A, 101, 501, 4096, b"hello"),
+        Seg(3000, F | A, 106, 506, 4096, b""),
+        Seg(4000, A, 107, 507, 4096, b""),
+    ],
+    counts: "records 6 tail 0 served 6 nofit 0 server 0 other 0 fragment 0 cut 0 malformed 0 badsum 0 connections 1",
+    order: "order f0-6",
+    replies: &[
+        "reply 0 4500002c00004000400626ca0a0000020a00000100070fa0000001f4000000656012ffff72140000020405b4",
+        "reply 500 4500002800004000400626ce0a0000020a00000100070fa0000001f5000000655010ffff89d10000",
+        "reply 2000 4500002d00004000400626c90a0000020a00000100070fa0000001f50000006a5018ffff45ed000068656c6c6f",
+        "reply 3000 4500002800004000400626ce0a0000020a00000100070fa0000001fa0000006b5011ffff89c50000",
+    ],
+    end: "end LISTEN",
+};
+
+const SCALED_FIVE_SEGMENT_ECHO: Dialogue = Dialogue {
+    name: "scaled_five_segment_echo",
+    sent: &[
+        Syn(&[3, 3, 7, 0]),
+        Seg(1000, A, 101, 501, 4096, b""),
+        Seg(2000, P | A, 101, 501, 4096, b"hello"),
+        Seg(3000, F | A, 106, 506, 4096, b""),
+        Seg(4000, A, 107, 507, 4096, b""),
+    ],
+    counts: "records 5 tail 0 served 5 nofit 0 server 0 other 0 fragment 0 cut 0 malformed 0 badsum 0 connections 1",
+    order: "order f0-5",
+    replies: &[
+        "reply 0 4500003000004000400626c60a0000020a00000100070fa0000001f4000000657012ffff5e080000020405b401030305",
+        "reply 2000 4500002d00004000400626c90a0000020a00000100070fa0000001f50000006a50188000c5ec000068656c6c6f",
+        "reply 3000 4500002800004000400626ce0a0000020a00000100070fa0000001fa0000006b5011800009c50000",
+    ],
+    end: "end LISTEN",
+};
+
+const SCALED_SMALL_WINDOW: Dialogue = Dialogue {
+    name: "scaled_small_window",
+    sent: &[
+        Syn(&[3, 3, 2, 0]),
+        Seg(1000, A, 101, 501, 1, b""),
+        Seg(2000, P | A, 101, 501, 1, b"abcdef"),
+        Seg(3000, A, 107, 505, 1, b""),
+    ],
+    counts: "records 4 tail 0 served 4 nofit 0 server 0 other 0 fragment 0 cut 0 malformed 0 badsum 0 connections 1",
+    order: "order f0-4",
+    replies: &[
+        "reply 0 4500003000004000400626c60a0000020a00000100070fa0000001f4000000657012ffff5e080000020405b401030305",
+        "reply 2000 4500002c00004000400626ca0a0000020a00000100070fa0000001f50000006b5018800044f8000061626364",
+        "reply 3000 4500002a00004000400626cc0a0000020a00000100070fa0000001f90000006b50188000a45600006566",
+    ],
+    end: "end ESTABLISHED",
+};
+
+/// The report of one connection.
+fn report<'a>(alloc: Global, dialogue: &Dialogue<'a>) -> Result<Vec<&'a str>, Fail> {
+    let mut lines = Vec::new(alloc);
+    lines.push("report 1")?;
+    lines.push(dialogue.counts)?;
+    lines.push("conn 0 10.0.0.1:4000 10.0.0.2:7 echo")?;
+    lines.push(dialogue.order)?;
+    for &line in dialogue.replies {
+        lines.push(line)?;
+    }
+    lines.push(dialogue.end)?;
+    lines.push("done")?;
+    Ok(lines)
+}
+
+fn expect_all(
+    rt: &(impl Abort + Threads + Sync),
+    alloc: Global,
+    dialogues: &[Dialogue],
+) -> Result<(), Fail> {
+    for dialogue in dialogues {
+        let ran = ran(rt, alloc, "", capture(alloc, dialogue.sent)?.as_slice())?;
+        let lines = report(alloc, dialogue)?;
+        expect(
+            rt,
+            alloc,
+            dialogue.name,
+            &ran,
+            Status::Ok,
+            lines.as_slice(),
+            &[],
+        )?;
+    }
+    Ok(())
+}
+
+#[test]
+fn sequence_numbers_wrap(rt: HostRuntime) -> Result<(), Fail> {
+    expect_all(&rt, rt.alloc(), &[SEQUENCE_NUMBERS_WRAP])
+}
+
+#[test]
+fn text_out_of_order(rt: HostRuntime) -> Result<(), Fail> {
+    expect_all(&rt, rt.alloc(), &[TEXT_OUT_OF_ORDER])
+}
+
+#[test]
+fn zero_window_probe(rt: HostRuntime) -> Result<(), Fail> {
+    expect_all(&rt, rt.alloc(), &[ZERO_WINDOW_PROBE])
+}
+
+#[test]
+fn resets(rt: HostRuntime) -> Result<(), Fail> {
+    expect_all(
+        &rt,
+        rt.alloc(),
+        &[
+            RESETS_AT_THE_NEXT_NUMBER,
+            RESETS_IN_THE_WINDOW,
+            RESETS_BEFORE_THE_WINDOW,
+            RESETS_BEHIND_THE_WINDOW,
+        ],
+    )
+}
+
+#[test]
+fn handshake_retransmissions(rt: HostRuntime) -> Result<(), Fail> {
+    expect_all(&rt, rt.alloc(), &[HANDSHAKE_RETRANSMISSIONS])
+}
+
+#[test]
+fn repeated_connections(rt: HostRuntime) -> Result<(), Fail> {
+    expect_all(&rt, rt.alloc(), &[TUPLE_USED_AGAIN, REPEATED_SYN])
+}
+
+#[test]
+fn scaled_windows(rt: HostRuntime) -> Result<(), Fail> {
+    expect_all(
+        &rt,
+        rt.alloc(),
+        &[SCALED_FIVE_SEGMENT_ECHO, SCALED_SMALL_WINDOW],
+    )
+}
+
+/// A scale of 15 counts as 14: a window of 16,384 bytes, and 20,000 bytes of text to echo.
+#[test]
+fn scale_over_fourteen(rt: HostRuntime) -> Result<(), Fail> {
+    let mut text = Vec::new(rt.alloc());
+    for i in 0..20_000u32 {
+        text.push((i % 251) as u8)?;
+    }
+    let sent = [
+        Syn(&[3, 3, 15, 0]),
+        Seg(1000, A, 101, 501, 1, b""),
+        Seg(2000, P | A, 101, 501, 1, text.as_slice()),
+    ];
+    let ran = ran(&rt, rt.alloc(), "", capture(rt.alloc(), &sent)?.as_slice())?;
+    assert_eq!(rt; ran.status, Status::Ok);
+    assert_eq!(rt; ran.out.bytes().len(), 35906);
+    assert_eq!(rt; check_of(ran.out.bytes()), 0x97459c6288b5fc31);
+    Ok(())
+}

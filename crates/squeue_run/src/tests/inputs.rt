@@ -1,0 +1,227 @@
+use crate::tests::{FIVE, HEADER, capture, expect, front, ran};
+use sq_base::Status;
+use std::alloc::Global;
+use std::test::Fail;
+
+/// A session as tcpdump writes it on the client's host, record by record: Ethernet with a tag, padding behind each datagram of
+/// the server, options, and wrong checksums by offload.
+const ON_THE_CLIENT: [&str; 10] = [
+    "d4c3b2a10200040000000000000000000000040001000000",
+    "00f15365000000004e0000004e0000000000000000000000000000008100000a08004500003c0000400040060000c0a8010ac0a80114c93a00073b9aca0000000000a002faf000000000020405b40402080a000000010000000001030307",
+    "00f153651027000052000000520000000000000000000000000000008100000a08004500003c000040004006b74dc0a80114c0a8010a0007c93a773594003b9aca01a012fe88ebe30000020405b40402080a00000001000000000103030700000000",
+    "00f15365204e000046000000460000000000000000000000000000008100000a0800450000340000400040060000c0a8010ac0a80114c93a00073b9aca0177359401801001f6000000000101080a0000000100000002",
+    "00f15365307500004b0000004b0000000000000000000000000000008100000a0800450000390000400040060000c0a8010ac0a80114c93a00073b9aca0177359401801801f6000000000101080a000000010000000270696e670a",
+    "00f15365409c00004f0000004f0000000000000000000000000000008100000a080045000039000040004006b750c0a80114c0a8010a0007c93a773594013b9aca06801801fe2e5600000101080a000000010000000270696e670a00000000",
+    "00f1536550c3000046000000460000000000000000000000000000008100000a0800450000340000400040060000c0a8010ac0a80114c93a00073b9aca0677359406801001f6000000000101080a0000000100000002",
+    "00f1536560ea000046000000460000000000000000000000000000008100000a0800450000340000400040060000c0a8010ac0a80114c93a00073b9aca0677359406801101f6000000000101080a0000000100000002",
+    "00f15365701101004a0000004a0000000000000000000000000000008100000a080045000034000040004006b755c0a80114c0a8010a0007c93a773594063b9aca07801101fe172d00000101080a000000010000000200000000",
+    "00f153658038010046000000460000000000000000000000000000008100000a0800450000340000400040060000c0a8010ac0a80114c93a00073b9aca0777359407801001f6000000000101080a0000000100000002",
+];
+
+const CLIENT_REPORT: [&str; 9] = [
+    "report 1",
+    "records 9 tail 0 served 6 nofit 0 server 3 other 0 fragment 0 cut 0 malformed 0 badsum 0 connections 1",
+    "conn 0 192.168.1.10:51514 192.168.1.20:7 echo",
+    "order f0-6",
+    "reply 1700000000000000 45000030000040004006b759c0a80114c0a8010a0007c93a773594003b9aca017012ffff26880000020405b401030305",
+    "reply 1700000000030000 4500002d000040004006b75cc0a80114c0a8010a0007c93a773594013b9aca0650188000e96d000070696e670a",
+    "reply 1700000000060000 45000028000040004006b761c0a80114c0a8010a0007c93a773594063b9aca0750118000d2440000",
+    "end LISTEN",
+    "done",
+];
+
+const CLIENT_VERIFIED: [&str; 3] = [
+    "report 1",
+    "records 9 tail 0 served 0 nofit 0 server 3 other 0 fragment 0 cut 0 malformed 0 badsum 6 connections 0",
+    "done",
+];
+
+fn from_hex(alloc: Global, lines: &[&str]) -> Result<Vec<u8>, Fail> {
+    let mut bytes = Vec::new(alloc);
+    for line in lines {
+        bytes.extend_from_slice(hex::decode(alloc, *line)?.as_slice())?;
+    }
+    Ok(bytes)
+}
+
+#[test]
+fn client_host_capture(rt: HostRuntime) -> Result<(), Fail> {
+    let input = from_hex(rt.alloc(), &ON_THE_CLIENT)?;
+    let plain = ran(&rt, rt.alloc(), "", input.as_slice())?;
+    expect(
+        &rt,
+        rt.alloc(),
+        "client_host_capture",
+        &plain,
+        Status::Ok,
+        &CLIENT_REPORT,
+        &[],
+    )?;
+    let verified = ran(&rt, rt.alloc(), "--verify", input.as_slice())?;
+    expect(
+        &rt,
+        rt.alloc(),
+        "verified",
+        &verified,
+        Status::Ok,
+        &CLIENT_VERIFIED,
+        &[],
+    )
+}
+
+const NOTHING: &str =
+    "records 0 tail 0 served 0 nofit 0 server 0 other 0 fragment 0 cut 0 malformed 0 badsum 0 connections 0";
+
+#[test]
+fn empty_capture(rt: HostRuntime) -> Result<(), Fail> {
+    let ran = ran(&rt, rt.alloc(), "", &HEADER)?;
+    expect(
+        &rt,
+        rt.alloc(),
+        "empty_capture",
+        &ran,
+        Status::Ok,
+        &["report 1", NOTHING, "done"],
+        &[],
+    )
+}
+
+/// The file's header with another byte at a place.
+fn header_with(at: usize, byte: u8) -> [u8; 24] {
+    let mut header = HEADER;
+    if at < 24 {
+        header[at] = byte;
+    }
+    header
+}
+
+#[test]
+fn refused_headers(rt: HostRuntime) -> Result<(), Fail> {
+    let mut other_link = header_with(20, 0x14);
+    other_link[21] = 1;
+    let table: [(&[u8], &str); 5] = [
+        (&[], "sqrun: bad capture: short header of 0 bytes"),
+        (
+            &HEADER[..23],
+            "sqrun: bad capture: short header of 23 bytes",
+        ),
+        (&[0x0a; 24], "sqrun: bad capture: magic 0a0a0a0a"),
+        (&header_with(6, 3), "sqrun: bad capture: version 2.3"),
+        (&other_link, "sqrun: bad capture: link type 276"),
+    ];
+    for (input, line) in table {
+        expect(
+            &rt,
+            rt.alloc(),
+            line,
+            &ran(&rt, rt.alloc(), "", input)?,
+            Status::BadCapture,
+            &[],
+            &[line],
+        )?;
+    }
+    Ok(())
+}
+
+/// From which length on a front of the session has so many whole records: the counts where nothing is cut, and where the
+/// next record is, and how the report ends.
+const FRONTS: [(usize, &str, &str, &str); 6] = [
+    (
+        24,
+        "records 0 tail 0 served 0 nofit 0 server 0 other 0 fragment 0 cut 0 malformed 0 badsum 0 connections 0",
+        "records 0 tail 1 served 0 nofit 0 server 0 other 0 fragment 0 cut 0 malformed 0 badsum 0 connections 0",
+        "done\n",
+    ),
+    (
+        80,
+        "records 1 tail 0 served 1 nofit 0 server 0 other 0 fragment 0 cut 0 malformed 0 badsum 0 connections 1",
+        "records 1 tail 1 served 1 nofit 0 server 0 other 0 fragment 0 cut 0 malformed 0 badsum 0 connections 1",
+        "end SYN-RECEIVED\ndone\n",
+    ),
+    (
+        136,
+        "records 2 tail 0 served 2 nofit 0 server 0 other 0 fragment 0 cut 0 malformed 0 badsum 0 connections 1",
+        "records 2 tail 1 served 2 nofit 0 server 0 other 0 fragment 0 cut 0 malformed 0 badsum 0 connections 1",
+        "end ESTABLISHED\ndone\n",
+    ),
+    (
+        197,
+        "records 3 tail 0 served 3 nofit 0 server 0 other 0 fragment 0 cut 0 malformed 0 badsum 0 connections 1",
+        "records 3 tail 1 served 3 nofit 0 server 0 other 0 fragment 0 cut 0 malformed 0 badsum 0 connections 1",
+        "end ESTABLISHED\ndone\n",
+    ),
+    (
+        253,
+        "records 4 tail 0 served 4 nofit 0 server 0 other 0 fragment 0 cut 0 malformed 0 badsum 0 connections 1",
+        "records 4 tail 1 served 4 nofit 0 server 0 other 0 fragment 0 cut 0 malformed 0 badsum 0 connections 1",
+        "end LAST-ACK\ndone\n",
+    ),
+    (
+        309,
+        "records 5 tail 0 served 5 nofit 0 server 0 other 0 fragment 0 cut 0 malformed 0 badsum 0 connections 1",
+        "",
+        "end LISTEN\ndone\n",
+    ),
+];
+
+const CUT_REPORT: [&str; 9] = [
+    "report 1",
+    "records 4 tail 1 served 4 nofit 0 server 0 other 0 fragment 0 cut 0 malformed 0 badsum 0 connections 1",
+    "conn 0 10.0.0.1:4000 10.0.0.2:7 echo",
+    "order f0-4",
+    "reply 0 4500002c00004000400626ca0a0000020a00000100070fa0000001f4000000656012ffff72140000020405b4",
+    "reply 2000 4500002d00004000400626c90a0000020a00000100070fa0000001f50000006a5018ffff45ed000068656c6c6f",
+    "reply 3000 4500002800004000400626ce0a0000020a00000100070fa0000001fa0000006b5011ffff89c50000",
+    "end LAST-ACK",
+    "done",
+];
+
+#[test]
+fn cut_tails(rt: HostRuntime) -> Result<(), Fail> {
+    let whole = capture(rt.alloc(), &FIVE)?;
+    for len in [308, 268] {
+        let ran = ran(&rt, rt.alloc(), "", front(whole.as_slice(), len))?;
+        expect(
+            &rt,
+            rt.alloc(),
+            "cut_tails",
+            &ran,
+            Status::Ok,
+            &CUT_REPORT,
+            &[],
+        )?;
+    }
+    Ok(())
+}
+
+#[test]
+fn every_front_of_five_segments(rt: HostRuntime) -> Result<(), Fail> {
+    let whole = capture(rt.alloc(), &FIVE)?;
+    assert_eq!(rt; whole.len(), 309);
+    for len in 0..310 {
+        let ran = ran(&rt, rt.alloc(), "", front(whole.as_slice(), len))?;
+        let Some(&(from, all, cut, end)) = FRONTS.iter().rev().find(|known| known.0 <= len) else {
+            let line = format!(in rt.alloc(); "sqrun: bad capture: short header of {len} bytes")?;
+            let lines = [line.as_str()];
+            expect(
+                &rt,
+                rt.alloc(),
+                "a short header",
+                &ran,
+                Status::BadCapture,
+                &[],
+                &lines,
+            )?;
+            continue;
+        };
+        let counts = if from == len { all } else { cut };
+        let begin = format!(in rt.alloc(); "report 1\n{counts}\n")?;
+        assert_eq!(rt; ran.status, Status::Ok, "{len} bytes");
+        assert!(rt;
+            ran.out.bytes().starts_with(begin.as_bytes()),
+            "{len} bytes"
+        );
+        assert!(rt; ran.out.bytes().ends_with(end.as_bytes()), "{len} bytes");
+    }
+    Ok(())
+}
