@@ -19,3 +19,6 @@ pub use kinds::{Counts, Item};
 pub use making::plan;
 pub use perimeter_core::Feed;
 pub use planned::Plan;
+
+#[cfg(test)]
+mod tests;

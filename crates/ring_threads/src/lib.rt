@@ -8,3 +8,6 @@ mod setup;
 pub use plain::serve_plain;
 pub use served::Served;
 pub use setup::Setup;
+
+#[cfg(test)]
+mod tests;

@@ -1,0 +1,131 @@
+use crate::serve_plain;
+use capture_reader::{Capture, parse_capture};
+use conn_blocks::{Act, Block, Calls};
+use conn_classifier::plan;
+use sq_base::Octets;
+use std::alloc::{AllocError, Global};
+use std::test::Fail;
+use tcb_machine::{Answer, Call, State};
+
+/// A capture of an echo connection, opened, with "hello" sent and closed, and of a discard connection with "x" sent: the
+/// header, and the records.
+const TWO: &str = concat!(
+    "d4c3b2a10200040000000000000000000000040065000000",
+    "000000000000000028000000280000004500002800004000400600000a0000010a0000020fa0000700000064000000005002100000000000",
+    "00000000f401000028000000280000004500002800004000400600000a0000010a0000020fa1000900000384000000005002100000000000",
+    "00000000e803000028000000280000004500002800004000400600000a0000010a0000020fa0000700000065000001f55010100000000000",
+    "00000000d00700002d0000002d0000004500002d00004000400600000a0000010a0000020fa0000700000065000001f5501810000000000068656c6c6f",
+    "00000000c409000029000000290000004500002900004000400600000a0000010a0000020fa1000900000385000002bd501810000000000078",
+    "00000000b80b000028000000280000004500002800004000400600000a0000010a0000020fa000070000006a000001fa5011100000000000",
+    "00000000a00f000028000000280000004500002800004000400600000a0000010a0000020fa000070000006b000001fb5010100000000000",
+);
+
+const SYN_ACK: u8 = 18;
+
+const PSH_ACK: u8 = 24;
+
+const FIN_ACK: u8 = 17;
+
+const ACK: u8 = 16;
+
+fn two(rt: &HostRuntime) -> Result<Capture, Fail> {
+    let bytes = hex::decode(rt.alloc(), TWO)?;
+    Ok(parse_capture(rt.alloc(), Octets::wrap(bytes))?)
+}
+
+/// Calls of three threads, all on connection 0.
+fn five_calls(alloc: Global) -> Result<Calls, AllocError> {
+    let mut calls = Calls::make(alloc);
+    calls.push(0, 0, Call::Close)?;
+    calls.push(0, 0, Call::Status)?;
+    calls.push(1, 0, Call::Buffer(100))?;
+    calls.push(2, 0, Call::Close)?;
+    calls.push(2, 0, Call::Close)?;
+    Ok(calls)
+}
+
+/// The order c0.0 f0 c0.1 f1 c1.0 f2 c2.0 f3 c2.1 f4 f5: the calls evenly among the feeds.
+const WITH_CALLS: [Act; 11] = [
+    Act::Call { j: 0, k: 0 },
+    Act::Feed { n: 0 },
+    Act::Call { j: 0, k: 1 },
+    Act::Feed { n: 1 },
+    Act::Call { j: 1, k: 0 },
+    Act::Feed { n: 2 },
+    Act::Call { j: 2, k: 0 },
+    Act::Feed { n: 3 },
+    Act::Call { j: 2, k: 1 },
+    Act::Feed { n: 4 },
+    Act::Feed { n: 5 },
+];
+
+/// A reply without its text: time, flags, sequence number, acknowledgement number, window.
+type Sent = (u64, u8, u32, u32, u16);
+
+fn replies(rt: &HostRuntime, block: &Block) -> Result<Vec<Sent>, Fail> {
+    let mut replies = Vec::new(rt.alloc());
+    for i in 0..block.tcb().replies() {
+        let reply = block.tcb().reply(i);
+        replies.push((reply.at, reply.flags, reply.seq, reply.ack, reply.wnd))?;
+    }
+    Ok(replies)
+}
+
+/// Whether a block is what serving the echo connection in that order gives.
+fn is_echo(rt: &HostRuntime, block: &Block) -> Result<bool, Fail> {
+    let wanted = [
+        (0, SYN_ACK, 500, 101, 65535),
+        (2000, PSH_ACK, 501, 106, 65530),
+        (2000, FIN_ACK, 506, 106, 65530),
+        (3000, ACK, 507, 107, 65530),
+    ];
+    let answered = [
+        (0, 0, Answer::NotOpen),
+        (
+            0,
+            1,
+            Answer::Status {
+                state: State::SynReceived,
+                received: 0,
+                offered: 0,
+                unacked: 0,
+            },
+        ),
+        (1, 0, Answer::Done),
+        (2, 0, Answer::Done),
+        (2, 1, Answer::Already),
+    ];
+    let mut answers = Vec::new(rt.alloc());
+    for i in 0..block.answers() {
+        answers.push(block.answer(i))?;
+    }
+    let as_wanted = replies(rt, block)?.as_slice() == wanted.as_slice();
+    let as_answered = answers.as_slice() == answered.as_slice();
+    let in_order = block.order() == WITH_CALLS.as_slice();
+    Ok(in_order && as_wanted && as_answered && block.tcb().state() == State::TimeWait)
+}
+
+/// Whether a block is what serving the discard connection gives.
+fn is_discard(rt: &HostRuntime, block: &Block) -> Result<bool, Fail> {
+    let wanted = [
+        (500, SYN_ACK, 700, 901, 65535),
+        (2500, ACK, 701, 902, 65535),
+    ];
+    let order = [Act::Feed { n: 0 }, Act::Feed { n: 1 }, Act::Feed { n: 2 }];
+    let as_wanted = replies(rt, block)?.as_slice() == wanted.as_slice();
+    let in_order = block.order() == order.as_slice();
+    let ended = block.tcb().state() == State::Established;
+    Ok(in_order && as_wanted && block.answers() == 0 && ended)
+}
+
+#[test]
+fn calls_among_the_feeds(rt: HostRuntime) -> Result<(), Fail> {
+    let capture = two(&rt)?;
+    let plan = plan(&rt, rt.alloc(), &capture, false)?;
+    let calls = five_calls(rt.alloc())?;
+    let served = serve_plain(rt.alloc(), &plan, &calls)?;
+    assert_eq!(rt; plan.conns(), 2);
+    assert!(rt; is_echo(&rt, served.block(0))?);
+    assert!(rt; is_discard(&rt, served.block(1))?);
+    Ok(())
+}
