@@ -3,6 +3,8 @@ use perimeter_core::logs::Logs;
 use perimeter_core::{Act, Entry, Feed, NoHook, SynchAct};
 use squeue_drain::worker;
 use squeue_enter::{Entered, How, Mode, enter, try_fill};
+use synch_enter::{Hints, put_block, synch_enter, synch_exit, take_block};
+use std::marker::Brand;
 use squeue_state::{Pass, Quota, Squeue, TraceMark};
 use turn_gate::Missed;
 use std::alloc::Global;
@@ -115,5 +117,54 @@ fn polling_mark(rt: HostRuntime) -> Result<(), Fail> {
     passes.push_reserved(worker(&squeue, &rt, alloc, &NoHook, last));
     let (logs, _ended, _trace) = squeue.finish(passes);
     assert_eq!(rt; logs.log(0).ok_or("here")?.acts().len(), 20);
+    Ok(())
+}
+
+#[test]
+fn one_migration(rt: HostRuntime) -> Result<(), Fail> {
+    let alloc = rt.alloc();
+    let here = Logs::make(alloc, &[true], 2, 1, Vec::new(alloc))?;
+    let there = Logs::make(alloc, &[false], 2, 0, Vec::new(alloc))?;
+    let (a, mut passes_a) = Squeue::make(alloc, 0, here, 1, &[Quota { feeds: 2, asks: 1 }], true)?;
+    let (b, mut passes_b) = Squeue::make(alloc, 1, there, 1, &[Quota { feeds: 0, asks: 1 }], true).expect(&rt, "memory");
+    let hints = Hints::make(alloc, 1, 2).expect(&rt, "memory");
+    let last_a = passes_a.pop().expect(&rt, "pass");
+    let last_b = passes_b.pop().expect(&rt, "pass");
+    let pass_a = passes_a.pop().expect(&rt, "pass");
+    let pass_b = passes_b.pop().expect(&rt, "pass");
+    let woke = How::Queued { woke: true };
+    let pass_a = enters(&rt, alloc, &a, pass_a, &[feed(0, 0), feed(0, 1)], Mode::Fill, woke, false);
+    let mut owner = synch_enter(&a, &rt, alloc, &NoHook, pass_a);
+    let part = take_block(&mut owner, 0);
+    let pass_a = synch_exit::<Logs, Brand, HostRuntime>(&a, &rt, owner);
+    let mut owner = synch_enter(&b, &rt, alloc, &NoHook, pass_b);
+    put_block(&mut owner, 0, part);
+    hints.set(0, b.number());
+    let pass_b = synch_exit::<Logs, Brand, HostRuntime>(&b, &rt, owner);
+    assert_eq!(rt; hints.get(0), 1);
+    passes_a.push_reserved(a.close_pass(&rt, pass_a));
+    passes_a.push_reserved(worker(&a, &rt, alloc, &NoHook, last_a));
+    passes_b.push_reserved(b.close_pass(&rt, pass_b));
+    passes_b.push_reserved(worker(&b, &rt, alloc, &NoHook, last_b));
+    let (_gone, _ended, trace) = a.finish(passes_a);
+    let marks = [
+        TraceMark::Fill { p: 0, first: 0, len: 2 },
+        TraceMark::Claim { p: 0, first: 2, len: 1 },
+        TraceMark::Leave { p: 0, rest: 0, act: SynchAct::Out { c: 0 } },
+        TraceMark::Close { p: 0 },
+    ];
+    for i in 0..4u64 {
+        assert_eq!(rt; trace.mark(i), marks[i as usize]);
+    }
+    let (logs, _ended, trace) = b.finish(passes_b);
+    let marks = [
+        TraceMark::Claim { p: 0, first: 0, len: 1 },
+        TraceMark::Leave { p: 0, rest: 0, act: SynchAct::In { c: 0 } },
+        TraceMark::Close { p: 0 },
+    ];
+    for i in 0..3u64 {
+        assert_eq!(rt; trace.mark(i), marks[i as usize]);
+    }
+    assert_eq!(rt; logs.log(0).ok_or("here")?.acts(), [Act::Feed { n: 0 }, Act::Feed { n: 1 }].as_slice());
     Ok(())
 }
