@@ -1,6 +1,9 @@
 //! Coming to a perimeter as owner.
-ghost use Rattle.std.specs.Prelude.{◌≡◌, ◌<◌, [], length, false, MatchResult};
-ghost use Rattle.turn_gate.specs.Passes.{number};
+ghost use Rattle.std.specs.Prelude.{◌≡◌, ◌<◌, [], true, length, MatchResult};
+ghost use Rattle.turn_gate.specs.History.{Begins};
+ghost use Rattle.turn_gate.specs.Passes.{IsPassOf, number, seen};
+ghost use Rattle.perimeter_core.specs.declared.marks.Own.TheVariants as Own';
+ghost use Rattle.squeue_state.specs.Elements.{number_of};
 ghost use Rattle.perimeter_core.specs.declared.marks.SynchAct.TheVariants as Done;
 ghost use Rattle.synch_enter.specs.Synch.{MayAsk, StandsAtItsAsk};
 
@@ -81,14 +84,32 @@ fn hand_over<R: Resident, W: Wait>(sq: &Squeue<R>, rt: &W, owner: Owner<R>) -> P
 }
 
 // Waits until a turn finds the perimeter granted to the pass, and takes it.
-fn wait_for_grant<R: Resident, W: Wait>(sq: &Squeue<R>, rt: &W, pass: Pass) -> Owner<R> {
+fn wait_for_grant<R: Resident, W: Wait>(sq: &Squeue<R>, rt: &W, pass: Pass) -> Owner<R>
+    requires pass { IsPassOf number_of sq.now.gate pass }
+    requires no_worker { number pass < length sq.now.given.quotas }
+    ensures owner { StandsAtItsAsk R.stands R.limits R.size R.origin sq.now [] result }
+    ensures no_act { result.act ≡ Done.None }
+    ensures number { number result.pass ≡ number pass }
+    ensures grows { Begins (seen pass) (seen result.pass) }
+{
     let mut pass = pass;
     for _ in rt.forever() {
         let turn = sq.turn(rt, pass);
-        if turn.own() == Own::Granted(turn.number()) {
+        if is_granted(turn.own(), turn.number()) {
             return Owner::of(sq.accept(turn));
         }
         pass = sq.plain(turn);
     }
     unreachable!()
+}
+
+// Whether the perimeter is granted to the pass of this number.
+fn is_granted(own: Own, me: u32) -> bool
+    ensures { result ≡ true → own ≡ Own'.Granted me }
+{
+    match own {
+        Own::Granted(p) => p == me,
+        Own::Free => false,
+        Own::Out(_) => false,
+    }
 }
