@@ -1,0 +1,8 @@
+use Rattle.std.proofs.Common.{true, false, [], ◌∷◌}
+use Rattle.perimeter_core.specs.Logging.{none_done}
+use Rattle.squeue_trial.proofs.Ends.{none_had}
+use Rattle.squeue_trial.proofs.tests.opened.Goals as goal
+
+pub make-requires-2-clause-fresh : goal.make-requires-2-clause-fresh
+make-requires-2-clause-fresh c =
+    (none_done (true ∷ false ∷ []), c.in_ok-logs.ensures.stands, none_had (true ∷ false ∷ []))
