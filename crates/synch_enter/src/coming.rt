@@ -1,11 +1,18 @@
 //! Coming to a perimeter as owner.
-ghost use Rattle.std.specs.Prelude.{◌≡◌, ◌<◌, [], true, length, MatchResult};
+ghost use Rattle.std.specs.Prelude.{◌≡◌, ◌≢◌, ◌↔◌, ℕ, ◌<◌, ◌∷◌, [], ◌++◌, List, Option, Some, true, false, length, MatchResult};
 ghost use Rattle.turn_gate.specs.History.{Begins};
-ghost use Rattle.turn_gate.specs.Passes.{IsPassOf, number, seen};
+ghost use Rattle.turn_gate.specs.Passes.{IsPassOf, number, seen, mine};
+ghost use Rattle.perimeter_core.specs.declared.entries.Entry.{Entry};
+ghost use Rattle.perimeter_core.specs.declared.entries.Entry.TheVariants as Entry';
 ghost use Rattle.perimeter_core.specs.declared.marks.Own.TheVariants as Own';
-ghost use Rattle.squeue_state.specs.Elements.{number_of};
+ghost use Rattle.perimeter_core.specs.Perimeter.{is_closed, is_free as free};
+ghost use Rattle.perimeter_core.specs.History.{run};
+ghost use Rattle.squeue_state.specs.Elements.{number_of, accepted};
+ghost use Rattle.squeue_state.specs.Naming.{setting_of};
 ghost use Rattle.perimeter_core.specs.declared.marks.SynchAct.TheVariants as Done;
-ghost use Rattle.synch_enter.specs.Synch.{MayAsk, StandsAtItsAsk};
+ghost use Rattle.squeue_drain.specs.Owning.{Feeds};
+ghost use Rattle.synch_enter.specs.Synch.{MayAsk, MayAskAt, StandsAtItsAsk, Came, CameFor, CameBehind, NotFound};
+ghost use Rattle.synch_enter.specs.HandingOn.{AskIsNext, HandedOn};
 
 use perimeter_core::{Entry, Hook, Own, Resident};
 use squeue_drain::{Owner, process};
@@ -24,7 +31,7 @@ pub fn synch_enter<R: Resident, H: Hook, W: Wait>(
     requires { MayAsk R.limits sq.now pass }
     ensures owner { StandsAtItsAsk R.stands R.limits R.size R.origin sq.now [] result }
     ensures no_act { result.act ≡ Done.None }
-    ensures number { number result.pass ≡ number pass }
+    ensures came { Came R.limits sq.now pass result.pass }
 {
     let turn = sq.turn(rt, pass);
     come(sq, rt, alloc, hook, turn)
@@ -41,6 +48,8 @@ pub fn synch_try<R: Resident, H: Hook, W: Wait>(
 ) -> Result<Owner<R>, Pass>
     requires may { MayAsk R.limits sq.now pass }
     requires range { c < length sq.now.given.starts }
+    ensures owner { MatchResult result (λ o. StandsAtItsAsk R.stands R.limits R.size R.origin sq.now [] o × (o.act ≡ Done.None)) (λ q. NotFound R.limits sq.now c pass q) }
+    ensures came { MatchResult result (λ o. CameFor R.limits sq.now c pass o.pass) (λ q. number q ≡ number pass) }
 {
     let turn = sq.turn(rt, pass);
     if !turn.is_here(c) {
@@ -56,23 +65,52 @@ fn come<R: Resident, H: Hook, W: Wait>(
     alloc: Global,
     hook: &H,
     turn: Turn<R>,
-) -> Owner<R> {
-    if turn.own() != Own::Free {
-        return wait_for_grant(sq, rt, sq.ask(turn));
+) -> Owner<R>
+    requires { MayAskAt R.limits sq.now turn }
+    ensures owner { StandsAtItsAsk R.stands R.limits R.size R.origin sq.now [] result }
+    ensures no_act { result.act ≡ Done.None }
+    ensures number { number result.pass ≡ turn.number }
+    ensures came { CameBehind (setting_of R.limits sq.now.given) turn.number turn.found turn.mine result.pass }
+{
+    if is_free(turn.own()) {
+        claim(sq, rt, alloc, hook, turn)
+    } else {
+        wait_for_grant(sq, rt, sq.ask(turn))
     }
+}
+
+// The same, where nobody has the perimeter.
+fn claim<R: Resident, H: Hook, W: Wait>(
+    sq: &Squeue<R>,
+    rt: &W,
+    alloc: Global,
+    hook: &H,
+    turn: Turn<R>,
+) -> Owner<R>
+    requires may { MayAskAt R.limits sq.now turn }
+    requires free { (run (setting_of R.limits sq.now.given) turn.found).own ≡ Own'.Free }
+    ensures owner { StandsAtItsAsk R.stands R.limits R.size R.origin sq.now [] result }
+    ensures no_act { result.act ≡ Done.None }
+    ensures number { number result.pass ≡ turn.number }
+    ensures came { CameBehind (setting_of R.limits sq.now.given) turn.number turn.found turn.mine result.pass }
+{
     let me = turn.number();
     let mut owner = Owner::of(sq.claim_ask(turn));
     let all = owner.hand.len();
     process(sq, alloc, hook, &mut owner, all);
-    if owner.hand.first() == Some(Entry::Ask { p: me }) {
+    if is_ask_of(owner.hand.first(), me) {
         owner.hand.pass_first();
         return owner;
     }
-    wait_for_grant(sq, rt, hand_over(sq, rt, owner))
+    wait_for_grant(sq, rt, hand_on(sq, rt, owner))
 }
 
 // Grants to the pass whose Ask is next.
-fn hand_over<R: Resident, W: Wait>(sq: &Squeue<R>, rt: &W, owner: Owner<R>) -> Pass {
+fn hand_on<R: Resident, W: Wait>(sq: &Squeue<R>, rt: &W, owner: Owner<R>) -> Pass
+    requires feeds { Feeds R.stands R.limits R.size R.origin sq.now owner }
+    requires next { AskIsNext owner }
+    ensures { HandedOn R.limits sq.now owner result }
+{
     let Owner {
         pass,
         resident,
@@ -87,10 +125,12 @@ fn hand_over<R: Resident, W: Wait>(sq: &Squeue<R>, rt: &W, owner: Owner<R>) -> P
 fn wait_for_grant<R: Resident, W: Wait>(sq: &Squeue<R>, rt: &W, pass: Pass) -> Owner<R>
     requires pass { IsPassOf number_of sq.now.gate pass }
     requires no_worker { number pass < length sq.now.given.quotas }
+    requires open_pass { is_closed (run (setting_of R.limits sq.now.given) (seen pass)) (number pass) ≡ false }
     ensures owner { StandsAtItsAsk R.stands R.limits R.size R.origin sq.now [] result }
     ensures no_act { result.act ≡ Done.None }
     ensures number { number result.pass ≡ number pass }
     ensures grows { Begins (seen pass) (seen result.pass) }
+    ensures mine { mine result.pass ≡ mine pass ++ accepted (number pass) ∷ [] }
 {
     let mut pass = pass;
     for _ in rt.forever() {
@@ -111,5 +151,27 @@ fn is_granted(own: Own, me: u32) -> bool
         Own::Granted(p) => p == me,
         Own::Free => false,
         Own::Out(_) => false,
+    }
+}
+
+// Whether nobody has the perimeter.
+fn is_free(own: Own) -> bool
+    ensures { result ≡ free own }
+{
+    match own {
+        Own::Free => true,
+        Own::Out(_) => false,
+        Own::Granted(_) => false,
+    }
+}
+
+// Whether the entry is the Ask of the pass of this number.
+fn is_ask_of(entry: Option<Entry>, me: u32) -> bool
+    ensures { (result ≡ true) ↔ (entry ≡ Some (Entry'.Ask me)) }
+{
+    match entry {
+        Some(Entry::Ask { p }) => p == me,
+        Some(Entry::Feed { c: _, n: _ }) => false,
+        None => false,
     }
 }

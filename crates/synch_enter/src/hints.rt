@@ -1,5 +1,5 @@
 //! Where the block of each connection is to be looked for first.
-ghost use Rattle.std.specs.Prelude.{◌≡◌, ◌+◌, ◌<◌, ◌≤◌, ◌%◌, IfOk, vec_len};
+ghost use Rattle.std.specs.Prelude.{◌≡◌, ◌<◌, ◌≤◌, IfOk};
 
 use crossbeam_utils::CachePadded;
 use std::alloc::{AllocError, Global};
@@ -15,10 +15,13 @@ pub struct Hints {
 }
 
 impl Hints {
+    ghost use Rattle.synch_enter.specs.Hinting.{conns_of, squeues_of};
+
     /// Each connection's first squeue: its number modulo the number of squeues.
     pub fn make(alloc: Global, conns: u32, squeues: u32) -> Result<Hints, AllocError>
         requires { 1 ≤ squeues }
-        ensures { IfOk result (λ h. (vec_len h.words ≡ conns) × (h.squeues ≡ squeues)) }
+        ensures conns { IfOk result (λ h. conns_of h ≡ conns) }
+        ensures squeues { IfOk result (λ h. squeues_of h ≡ squeues) }
     {
         let mut words = Vec::with_capacity(alloc, conns as usize)?;
         for c in 0..conns {
@@ -29,16 +32,16 @@ impl Hints {
 
     /// The hint of connection `c`.
     pub fn get(&self, c: u32) -> u32
-        requires { c < vec_len self.now.words }
-        ensures { result < self.now.squeues }
+        requires { c < conns_of self.now }
+        ensures { result < squeues_of self.now }
     {
         self.words[c as usize].load(Ordering::SeqCst) % self.squeues
     }
 
     /// Writes the hint of connection `c`.
     pub fn set(&self, c: u32, q: u32)
-        requires range { c < vec_len self.now.words }
-        requires squeue { q < self.now.squeues }
+        requires range { c < conns_of self.now }
+        requires squeue { q < squeues_of self.now }
     {
         self.words[c as usize].store(q, Ordering::SeqCst);
     }
