@@ -1,3 +1,4 @@
 pub mod Accepting
 pub mod Acting
+pub mod OneAct
 pub mod Exiting
