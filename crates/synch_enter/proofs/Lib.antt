@@ -2,3 +2,5 @@ pub mod Accepting
 pub mod Acting
 pub mod OneAct
 pub mod Exiting
+pub mod Asking
+pub mod Claiming

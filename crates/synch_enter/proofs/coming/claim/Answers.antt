@@ -1,0 +1,1 @@
+use Rattle.synch_enter.proofs.coming.claim.Goals as goal

@@ -1,0 +1,1 @@
+use Rattle.synch_enter.proofs.coming.come.Goals as goal
