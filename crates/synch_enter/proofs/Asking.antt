@@ -28,8 +28,8 @@ use Rattle.squeue_drain.specs.Draining.{GoesOn}
 use Rattle.squeue_drain.specs.Owning.{Feeds}
 use Rattle.squeue_drain.proofs.Fresh.{fresh}
 use Rattle.squeue_drain.proofs.Turning.{others}
-use Rattle.squeue_drain.proofs.Deciding.{begins_trans}
-use Rattle.synch_enter.specs.Synch.{MayAsk, MayAskAt, Came, CameBehind, IsWay, NotFound}
+use Rattle.squeue_drain.proofs.Deciding.{begins_trans, same_state}
+use Rattle.synch_enter.specs.Synch.{MayAsk, MayAskAt, Came, CameFor, CameBehind, IsWay, NotFound}
 
 by_append : (p : ℕ) (H K : List Element) → (feeds_by p (H ++ K) ≡ feeds_by p H + feeds_by p K) × (asks_by p (H ++ K) ≡ asks_by p H + asks_by p K)
 by_append p [] K = (omega arith, omega arith)
@@ -61,6 +61,13 @@ is_free_of (Granted p) h = absurd (cc h)
 
 pub not_free_of : (own : Own) → is_free own ≡ false → own ≢ Free
 not_free_of own h e = absurd (cc (h, ap is_free e))
+
+-- what a turn tells is of its squeue
+pub same_free : {R : Type 0} (limits : R → Limits) (t s : Named R) (h : List Element) (own : Own) (b : Bool) → t ≡ s → own ≡ (run (setting_of limits t.given) h).own → b ≡ is_free own → b ≡ is_free (run (setting_of limits s.given) h).own
+same_free limits t s h own b same is told = told ∙ ap is_free (is ∙ ap (λ (x : State). x.own) (same_state limits t s h same))
+
+pub same_here : {R : Type 0} (limits : R → Limits) (t s : Named R) (h : List Element) (c : ℕ) (b : Bool) → t ≡ s → b ≡ is_here (run (setting_of limits t.given) h) c → b ≡ is_here (run (setting_of limits s.given) h) c
+same_here limits t s h c b same is = is ∙ ap (λ (x : State). is_here x c) (same_state limits t s h same)
 
 module _ {R : Type 0} (limits : R → Limits) (s : Named R) where
   abbrev S : Setting
@@ -122,12 +129,17 @@ module _ {R : Type 0} (limits : R → Limits) (s : Named R) where
         behind = subst (λ (M : List Element). CameBehind S (number p) u.found M q) f.same_mine (subst (λ (k : ℕ). CameBehind S k u.found u.mine q) f.same_number b);
       }
 
+  pub came_for : (p : Pass Element) (u : Turned R) (q : Pass Element) (c : ℕ) → IsPassOf number_of s.gate p → Found limits s p u → IsPassOf number_of s.gate q → Legal S (seen q) → number q ≡ u.number → CameBehind S u.number u.found u.mine q
+      → is_here (run S u.found) c ≡ true → CameFor limits s c p q
+  unfolding came
+  came_for p u q c is f is_pass legal same b here = (came p u q is f is_pass legal same b, here)
+
   module _ (u : Turned R) (may : MayAskAt limits s u) where
     pub may_ask : is_free (run S u.found).own ≡ false → May S u.found (asked u.number)
     may_ask busy =
         record {
           step = not_free_of (run S u.found).own busy;
-          range = (omega (arith, may.no_worker), omega (arith, may.no_worker), tt);
+          range = (omega (arith, may.no_worker), (omega (arith, may.no_worker), tt));
           worker_only = λ e. absurd (omega (arith, may.no_worker, e));
           idle = may.idle;
           kind = tt;
@@ -144,7 +156,7 @@ module _ {R : Type 0} (limits : R → Limits) (s : Named R) where
     may_claim free =
         record {
           step = (free, λ e. cc e);
-          range = (omega (arith, may.no_worker), omega (arith, may.no_worker), tt);
+          range = (omega (arith, may.no_worker), (omega (arith, may.no_worker), tt));
           worker_only = λ e. absurd (omega (arith, may.no_worker, e));
           idle = may.idle;
           kind = inr refl;

@@ -105,6 +105,9 @@ module _ {R O : Type 0} (stands : R → Blocks → Type 0) (limits : R → Limit
         now_mine = m.now_mine;
       }
 
+  pub has_claimed_by : (u : Turned R) (q p : Pass Element) → MayAskAt limits s u → Marked u (claimed_ask u.number) q → p ≡ q → HasClaimed limits s u p
+  has_claimed_by u q p may m same = subst (λ (x : Pass Element). HasClaimed limits s u x) (sym same) (has_claimed u q may m)
+
   pub claims : (u : Turned R) (q : Pass Element) (r : R) (h : Handed) → MayAskAt limits s u → (run S u.found).own ≡ Free → Marked u (claimed_ask u.number) q → IsWhole limits s.given (seen q) h
       → IsPeri stands limits size origin s.given r (peri S (seen q)) → Feeds stands limits size origin s record { pass = q; resident = r; hand = h; act = Done.None }
   claims u q r h may free m whole is =
