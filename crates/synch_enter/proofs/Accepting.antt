@@ -1,14 +1,12 @@
 -- A pass to which the perimeter was granted.
-use Rattle.std.proofs.Common.{◌≡◌, ℕ, ◌+◌, ◌<◌, true, false, inl, List, [], ◌∷◌, ◌++◌, length, refl, ap, sym, ◌∙◌, subst, arith}
-use Rattle.turn_gate.specs.History.{Begins}
+use Rattle.std.proofs.Common.{◌≡◌, ℕ, ◌<◌, false, inl, List, [], ◌++◌, length, refl, ap, sym, ◌∙◌, subst, arith}
 use Rattle.turn_gate.specs.Passes.{IsPassOf, number, seen}
 use Rattle.turn_gate.specs.declared.pass.Pass.{Pass}
-use Rattle.perimeter_core.specs.declared.entries.Entry.{Entry}
 use Rattle.perimeter_core.specs.declared.marks.SynchAct.TheVariants as Done
 use Rattle.perimeter_core.specs.declared.marks.Own.TheVariants.{Out, Granted}
 use Rattle.perimeter_core.specs.declared.marks.Mark.TheVariants as On
-use Rattle.perimeter_core.specs.Perimeter.{State, after, processed, is_closed}
-use Rattle.perimeter_core.specs.History.{Element, Setting, Limits, start, worker, passes, run}
+use Rattle.perimeter_core.specs.Perimeter.{State, after, is_closed}
+use Rattle.perimeter_core.specs.History.{Element, Setting, Limits, start, worker, run}
 use Rattle.perimeter_core.specs.Legal.{May, Legal, only_last_ask}
 use Rattle.perimeter_core.specs.Blocks.{Blocks, peri}
 use Rattle.perimeter_core.proofs.OneMore.{run_push}
@@ -16,7 +14,6 @@ use Rattle.squeue_state.specs.Naming.{Named, Turned, Handed, setting_of}
 use Rattle.squeue_state.specs.Behind.{IsPeri}
 use Rattle.squeue_state.specs.Elements.{number_of, accepted}
 use Rattle.squeue_state.specs.Words.{Found, Marked, IsWhole}
-use Rattle.squeue_drain.specs.declared.owner.Owner.{Owner}
 use Rattle.perimeter_core.proofs.Since.{known_since}
 use Rattle.squeue_drain.proofs.Turning.{others}
 use Rattle.squeue_drain.proofs.Marks.{quota_kept}

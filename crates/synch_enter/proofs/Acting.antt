@@ -1,16 +1,15 @@
 -- An owner at its Ask that does its one act.
-use Rattle.std.proofs.Common.{◌≡◌, ◌≢◌, ℕ, ◌+◌, ◌<◌, ◌≤◌, ◌%◌, ◌⊎◌, Bool, true, false, if◌then◌else◌, zero, suc, Option, Some, None, is_some, List, [], ◌∷◌, ◌++◌, length, refl, ap, sym, ◌∙◌, subst, arith}
-use Rattle.std.specs.Prelude.{slice_index, slice_index_or, Contains, All}
+use Rattle.std.proofs.Common.{◌≡◌, ℕ, ◌<◌, ◌%◌, ◌⊎◌, Bool, true, false, if◌then◌else◌, zero, suc, Some, None, is_some, List, [], ◌∷◌, ◌++◌, length, refl, ap, sym, ◌∙◌, subst, arith}
+use Rattle.std.specs.Prelude.{slice_index_or}
 use Rattle.turn_gate.specs.Passes.{number, seen}
 use Rattle.turn_gate.specs.declared.pass.Pass.{Pass}
 use Rattle.perimeter_core.specs.declared.entries.Act.{Act}
-use Rattle.perimeter_core.specs.declared.marks.Own.{Own}
 use Rattle.perimeter_core.specs.declared.marks.Own.TheVariants.{Out}
 use Rattle.perimeter_core.specs.declared.marks.SynchAct.{SynchAct}
 use Rattle.perimeter_core.specs.declared.marks.SynchAct.TheVariants as Done
 use Rattle.perimeter_core.specs.declared.marks.Mark.TheVariants as On
 use Rattle.perimeter_core.specs.Perimeter.{State, after, is_here, is_free, ends_with_ask}
-use Rattle.perimeter_core.specs.History.{Element, Setting, Limits, start, worker, run}
+use Rattle.perimeter_core.specs.History.{Element, Setting, Limits, start, run}
 use Rattle.perimeter_core.specs.Deeds.{acts, feed_acts, feeds_of, times_left}
 use Rattle.perimeter_core.specs.Legal.{Legal, ActFits, ActInRange, NoteFits}
 use Rattle.perimeter_core.specs.Blocks.{Blocks, peri, longer, with_feeds, with_act}
@@ -20,7 +19,6 @@ use Rattle.perimeter_core.proofs.BlocksFollow.{flags}
 use Rattle.perimeter_core.proofs.Elsewhere.{taken_between}
 use Rattle.perimeter_core.proofs.AtItsAsk.{nothing_queued}
 use Rattle.squeue_state.specs.Naming.{Named, setting_of}
-use Rattle.squeue_state.specs.Behind.{IsPeri}
 use Rattle.squeue_drain.specs.declared.owner.Owner.{Owner}
 use Rattle.squeue_drain.specs.Owning.{state_of, processed_by}
 use Rattle.synch_enter.specs.Synch.{StandsAtItsAsk, IsWay, CameFor, acts_at}

@@ -1,32 +1,22 @@
 -- A pass that asks, or claims with its Ask.
-use Rattle.std.proofs.Common.{◌≡◌, ◌≢◌, ℕ, ◌+◌, ◌<◌, ◌≤◌, Bool, true, false, if◌then◌else◌, ◌==◌, inl, inr, List, [], ◌∷◌, ◌++◌, length, refl, ap, sym, ◌∙◌, subst, append_assoc, arith}
-use Rattle.std.proofs.lemmas.List.{append-nil}
+use Rattle.std.proofs.Common.{◌≡◌, ◌≢◌, ℕ, ◌+◌, ◌<◌, Bool, true, false, if◌then◌else◌, ◌==◌, inr, List, [], ◌∷◌, ◌++◌, length, refl, ap, sym, ◌∙◌, subst, append_assoc, arith}
 use Rattle.std.proofs.lemmas.Bool.Decides.{nat_tests}
 use Rattle.turn_gate.specs.History.{Begins}
 use Rattle.turn_gate.specs.Passes.{IsPassOf, number, seen, mine}
 use Rattle.turn_gate.specs.declared.pass.Pass.{Pass}
-use Rattle.perimeter_core.specs.declared.entries.Entry.{Entry}
 use Rattle.perimeter_core.specs.declared.entries.Entry.TheVariants as Entry'
-use Rattle.perimeter_core.specs.declared.marks.SynchAct.TheVariants as Done
 use Rattle.perimeter_core.specs.declared.marks.Own.{Own}
 use Rattle.perimeter_core.specs.declared.marks.Own.TheVariants.{Free, Out, Granted}
-use Rattle.perimeter_core.specs.declared.marks.Mark.TheVariants as On
-use Rattle.perimeter_core.specs.Perimeter.{State, Idle, after, is_closed, is_free, is_here}
-use Rattle.perimeter_core.specs.History.{Element, Setting, Limits, start, worker, ask_quota, pass_of, run, made_by}
+use Rattle.perimeter_core.specs.Perimeter.{State, Idle, is_closed, is_free, is_here}
+use Rattle.perimeter_core.specs.History.{Element, Setting, Limits, start, ask_quota, pass_of, run, made_by}
 use Rattle.perimeter_core.specs.Deeds.{entries_of}
 use Rattle.perimeter_core.specs.Legal.{May, Legal, WithinQuota, feeds_by, asks_by, feed_count, ask_count}
-use Rattle.perimeter_core.specs.Blocks.{Blocks, peri}
-use Rattle.perimeter_core.proofs.OneMore.{run_push, legal_more}
+use Rattle.perimeter_core.proofs.OneMore.{run_push}
 use Rattle.perimeter_core.proofs.Quotas.{within}
 use Rattle.perimeter_core.proofs.Since.{known_since, none_made}
-use Rattle.squeue_state.specs.Naming.{Named, Turned, Handed, setting_of}
-use Rattle.squeue_state.specs.Behind.{IsPeri}
+use Rattle.squeue_state.specs.Naming.{Named, Turned, setting_of}
 use Rattle.squeue_state.specs.Elements.{number_of, asked, claimed_ask, accepted}
-use Rattle.squeue_state.specs.Words.{Found, Marked, Unmarked, IsWhole}
-use Rattle.squeue_drain.specs.declared.owner.Owner.{Owner}
-use Rattle.squeue_drain.specs.Draining.{GoesOn}
-use Rattle.squeue_drain.specs.Owning.{Feeds}
-use Rattle.squeue_drain.proofs.Fresh.{fresh}
+use Rattle.squeue_state.specs.Words.{Found, Marked, Unmarked}
 use Rattle.squeue_drain.proofs.Turning.{others}
 use Rattle.squeue_drain.proofs.Deciding.{begins_trans, same_state}
 use Rattle.synch_enter.specs.Synch.{MayAsk, MayAskAt, Came, CameFor, CameBehind, IsWay, NotFound}

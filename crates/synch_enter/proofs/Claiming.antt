@@ -1,8 +1,8 @@
 -- An owner that claimed with its own Ask last.
-use Rattle.std.proofs.Common.{◌≡◌, ◌≢◌, ℕ, ◌+◌, ◌-◌, ◌<◌, ◌≤◌, Bool, true, false, ◌==◌, ◌||◌, inl, inr, Some, List, [], ◌∷◌, ◌++◌, length, drop, refl, ap, sym, ◌∙◌, subst, append_assoc, arith, length-append}
+use Rattle.std.proofs.Common.{◌≡◌, ℕ, ◌-◌, ◌<◌, ◌≤◌, Bool, true, false, ◌==◌, ◌||◌, inl, inr, Some, List, [], ◌∷◌, ◌++◌, length, drop, refl, ap, sym, ◌∙◌, subst, append_assoc, arith, length-append}
 use Rattle.std.proofs.lemmas.List.{append-nil}
 use Rattle.turn_gate.specs.History.{Begins}
-use Rattle.turn_gate.specs.Passes.{IsPassOf, number, seen, mine}
+use Rattle.turn_gate.specs.Passes.{number, seen, mine}
 use Rattle.turn_gate.specs.declared.pass.Pass.{Pass}
 use Rattle.perimeter_core.specs.declared.entries.Entry.{Entry}
 use Rattle.perimeter_core.specs.declared.entries.Entry.TheVariants as Entry'
@@ -21,13 +21,13 @@ use Rattle.perimeter_core.proofs.FeedActs.{with_none, with_twice}
 use Rattle.perimeter_core.proofs.QueuedRange.{queued_range, range_right}
 use Rattle.squeue_state.specs.Naming.{Named, Turned, Handed, setting_of}
 use Rattle.squeue_state.specs.Behind.{IsPeri, room_of}
-use Rattle.squeue_state.specs.Elements.{number_of, claimed_ask, granted, accepted}
+use Rattle.squeue_state.specs.Elements.{claimed_ask, granted, accepted}
 use Rattle.squeue_state.specs.Words.{Found, Marked, IsWhole, peri_left, first_entry, asker}
 use Rattle.squeue_drain.specs.declared.owner.Owner.{Owner}
 use Rattle.squeue_drain.specs.Draining.{plain}
 use Rattle.squeue_drain.specs.Owning.{Feeds, NoFeedFirst, processed_by, state_of}
 use Rattle.squeue_drain.proofs.Fresh.{fresh}
-use Rattle.squeue_drain.proofs.Hands.{parts, within, none_left, Passed, passed, only_last_push, ends_at_ask}
+use Rattle.squeue_drain.proofs.Hands.{within, none_left, Passed, passed, only_last_push, ends_at_ask}
 use Rattle.squeue_drain.proofs.Marks.{may_grant}
 use Rattle.squeue_drain.proofs.Turning.{AtTurn, at_turn}
 use Rattle.squeue_drain.proofs.Deciding.{marked_on, ask_first, asks, granted_is, begins_trans}

@@ -1,5 +1,5 @@
 -- An owner at its Ask that leaves.
-use Rattle.std.proofs.Common.{◌≡◌, ◌≢◌, ℕ, ◌+◌, ◌<◌, ◌≤◌, ◌%◌, ◌⊎◌, inl, Bool, true, false, if◌then◌else◌, Option, Some, None, List, [], ◌∷◌, ◌++◌, length, refl, ap, sym, ◌∙◌, subst, arith}
+use Rattle.std.proofs.Common.{◌≡◌, ◌≢◌, ℕ, ◌<◌, ◌%◌, ◌⊎◌, inl, Bool, true, false, if◌then◌else◌, Some, None, List, [], ◌∷◌, ◌++◌, length, refl, ap, sym, ◌∙◌, subst, arith}
 use Rattle.std.proofs.lemmas.List.{append-nil}
 use Rattle.std.specs.Prelude.{slice_index, slice_index_or}
 use Rattle.turn_gate.specs.History.{only as by_number}
@@ -10,12 +10,11 @@ use Rattle.perimeter_core.specs.declared.entries.Entry.{Entry}
 use Rattle.perimeter_core.specs.declared.marks.Own.TheVariants.{Out}
 use Rattle.perimeter_core.specs.declared.marks.SynchAct.{SynchAct}
 use Rattle.perimeter_core.specs.declared.marks.SynchAct.TheVariants as Done
-use Rattle.perimeter_core.specs.declared.marks.Mark.{Mark}
 use Rattle.perimeter_core.specs.declared.marks.Mark.TheVariants as On
 use Rattle.perimeter_core.specs.Perimeter.{State, Idle, after, is_here, is_closed, has_ask, ends_with_ask, processed, unprocessed}
-use Rattle.perimeter_core.specs.History.{Element, Setting, Limits, start, worker, run, made_by}
-use Rattle.perimeter_core.specs.Deeds.{acts, acts_after, feed_acts, feeds_of, times_left}
-use Rattle.perimeter_core.specs.Legal.{May, Legal, ActFits, ActInRange, NoteFits, only_last_ask}
+use Rattle.perimeter_core.specs.History.{Element, Setting, Limits, start, run, made_by}
+use Rattle.perimeter_core.specs.Deeds.{acts, acts_after, feed_acts, times_left}
+use Rattle.perimeter_core.specs.Legal.{May, Legal, ActFits, NoteFits, only_last_ask}
 use Rattle.perimeter_core.specs.Blocks.{Blocks, peri}
 use Rattle.perimeter_core.proofs.OneMore.{run_push, legal_front}
 use Rattle.perimeter_core.proofs.BlocksFollow.{acts_push}
@@ -29,7 +28,7 @@ use Rattle.squeue_state.specs.Elements.{number_of, gone}
 use Rattle.squeue_state.specs.Words.{Found, Marked, Added}
 use Rattle.squeue_state.proofs.Makers.{made-append}
 use Rattle.squeue_drain.specs.declared.owner.Owner.{Owner}
-use Rattle.squeue_drain.specs.Owning.{state_of, processed_by}
+use Rattle.squeue_drain.specs.Owning.{state_of}
 use Rattle.squeue_drain.proofs.Hands.{none_left, within}
 use Rattle.squeue_drain.proofs.OwnersFacts.{owner_below}
 use Rattle.squeue_drain.proofs.Marks.{quota_kept}

@@ -1,12 +1,12 @@
 -- The acts of an owner at its Ask, each as its contract says it.
-use Rattle.std.proofs.Common.{◌≡◌, ◌≢◌, ℕ, ◌+◌, ◌<◌, ◌≤◌, ◌%◌, Bool, true, false, Some, is_some, List, [], length, refl, ap, sym, ◌∙◌, subst, arith}
-use Rattle.std.specs.Prelude.{Contains, All}
+use Rattle.std.proofs.Common.{◌≡◌, ℕ, ◌<◌, true, false, Some, is_some, List, [], refl, sym, subst, arith}
+use Rattle.std.specs.Prelude.{Contains}
 use Rattle.std.proofs.lemmas.List.Elements.{All-contains}
-use Rattle.turn_gate.specs.Passes.{number, seen}
+use Rattle.turn_gate.specs.Passes.{seen}
 use Rattle.perimeter_core.specs.declared.entries.Act.{Act}
 use Rattle.perimeter_core.specs.declared.marks.SynchAct.TheVariants as Done
 use Rattle.perimeter_core.specs.Perimeter.{is_here}
-use Rattle.perimeter_core.specs.History.{Limits, run}
+use Rattle.perimeter_core.specs.History.{Limits}
 use Rattle.perimeter_core.specs.Blocks.{Blocks, with_feeds, with_act, peri}
 use Rattle.perimeter_core.specs.Residing.{Here, NotHere, IsWithin}
 use Rattle.squeue_state.specs.Naming.{Named, setting_of}

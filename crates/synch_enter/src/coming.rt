@@ -1,5 +1,5 @@
 //! Coming to a perimeter as owner.
-ghost use Rattle.std.specs.Prelude.{◌≡◌, ◌≢◌, ◌↔◌, ℕ, ◌<◌, ◌∷◌, [], ◌++◌, List, Option, Some, true, false, length, MatchResult};
+ghost use Rattle.std.specs.Prelude.{◌≡◌, ◌≢◌, ◌↔◌, ℕ, ◌<◌, ◌∷◌, [], ◌++◌, List, Option, Some, true, false, length, IfOk, MatchResult};
 ghost use Rattle.turn_gate.specs.History.{Begins};
 ghost use Rattle.turn_gate.specs.Passes.{IsPassOf, number, seen, mine};
 ghost use Rattle.perimeter_core.specs.declared.entries.Entry.{Entry};
@@ -48,8 +48,8 @@ pub fn synch_try<R: Resident, H: Hook, W: Wait>(
 ) -> Result<Owner<R>, Pass>
     requires may { MayAsk R.limits sq.now pass }
     requires range { c < length sq.now.given.starts }
-    ensures owner { MatchResult result (λ o. StandsAtItsAsk R.stands R.limits R.size R.origin sq.now [] o × (o.act ≡ Done.None)) (λ q. NotFound R.limits sq.now c pass q) }
-    ensures came { MatchResult result (λ o. CameFor R.limits sq.now c pass o.pass) (λ q. number q ≡ number pass) }
+    ensures found { MatchResult result (λ o. StandsAtItsAsk R.stands R.limits R.size R.origin sq.now [] o × (o.act ≡ Done.None)) (λ q. NotFound R.limits sq.now c pass q) }
+    ensures came { IfOk result (λ o. CameFor R.limits sq.now c pass o.pass) }
 {
     let turn = sq.turn(rt, pass);
     if !turn.is_here(c) {
