@@ -4,3 +4,4 @@ pub mod OneAct
 pub mod Exiting
 pub mod Asking
 pub mod Claiming
+pub mod Knowing
