@@ -1,0 +1,65 @@
+-- What a ring knew of its connection before it came to a perimeter still holds there.
+use Rattle.std.proofs.Common.{◌≡◌, ℕ, ◌+◌, ◌%◌, Bool, true, false, if◌then◌else◌, inl, inr, List, [], ◌∷◌, ◌++◌, refl, ap, sym, ◌∙◌, subst, arith}
+use Rattle.turn_gate.specs.History.{only}
+use Rattle.turn_gate.specs.Passes.{IsPassOf, number, seen, mine}
+use Rattle.turn_gate.specs.declared.pass.Pass.{Pass}
+use Rattle.perimeter_core.specs.Perimeter.{is_free, is_here}
+use Rattle.perimeter_core.specs.History.{Element, Setting, Limits, start, run, made_by}
+use Rattle.perimeter_core.specs.Deeds.{puts_in, takes_out, times_left}
+use Rattle.perimeter_core.specs.Legal.{Legal}
+use Rattle.perimeter_core.specs.Knowledge.{here_by}
+use Rattle.perimeter_core.proofs.OneMore.{legal_front}
+use Rattle.perimeter_core.proofs.RingKnows.{ring_knows}
+use Rattle.squeue_state.specs.Naming.{Named, setting_of}
+use Rattle.squeue_state.specs.Elements.{number_of}
+use Rattle.squeue_state.proofs.Makers.{only_made}
+use Rattle.synch_enter.specs.Synch.{Came, IsWay}
+
+here_append : (c : ℕ) (b : Bool) (M N : List Element) → here_by c b (M ++ N) ≡ here_by c (here_by c b M) N
+here_append c b [] N = refl
+here_append c b (e ∷ M) N = here_append c (if puts_in c e.mark then true else if takes_out c e.mark then false else b) M N
+
+left_append : (c : ℕ) (M N : List Element) → times_left c (M ++ N) ≡ times_left c M + times_left c N
+left_append c [] N = omega arith
+left_append c (e ∷ M) N = omega (arith, left_append c M N)
+
+-- what a pass makes to come neither puts in nor takes out
+coming : (c : ℕ) (b f : Bool) (p : ℕ) (ask : Element) (marks : List Element) → IsWay f p ask marks → (here_by c b (ask ∷ marks) ≡ b) × (times_left c (ask ∷ marks) ≡ 0)
+coming c b false p ask marks w = rw (w.0, w.1) (refl, refl)
+coming c b true p ask marks w =
+    elim w.1 [
+      | inl none ↦ rw (w.0, none) (refl, refl)
+      | inr hands ↦ rw (w.0, hands.3) (refl, refl)
+    ]
+
+module _ {R : Type 0} (limits : R → Limits) (s : Named R) (from to : Pass Element) (c : ℕ) (is : IsPassOf number_of s.gate from) (came : Came limits s from to) (ring : number from ≡ c % s.given.rings) where
+  abbrev S : Setting
+  S = setting_of limits s.given
+
+  before : made_by (c % s.given.rings) (seen from) ≡ mine from
+  before = ap (λ (k : ℕ). made_by k (seen from)) (sym ring) ∙ (sym (only_made (number from) (seen from)) ∙ is.2)
+
+  after : made_by (c % s.given.rings) (seen to) ≡ mine from ++ (came.behind.ask ∷ came.behind.marks)
+  after =
+      ap (λ (k : ℕ). made_by k (seen to)) (sym ring ∙ sym came.goes_on.same_number)
+      ∙ (sym (only_made (number to) (seen to)) ∙ (came.goes_on.is_pass.2 ∙ came.behind.now_mine))
+
+  legal : Legal S (seen from)
+  legal = legal_front S (seen from) came.goes_on.grows.0 (subst (λ (H : List Element). Legal S H) came.goes_on.grows.1 came.goes_on.legal)
+
+  pub still_here : is_here (run S (seen to)) c ≡ is_here (run S (seen from)) c
+  still_here =
+      let b : Bool = is_here (start S) c in
+      let way = coming c (here_by c (is_here (start S) c) (mine from)) (is_free (run S came.found).own) (number from) came.behind.ask came.behind.marks came.behind.way in
+      (ring_knows S (seen to) c came.goes_on.legal).here
+      ∙ (ap (here_by c (is_here (start S) c)) after
+      ∙ (here_append c (is_here (start S) c) (mine from) (came.behind.ask ∷ came.behind.marks)
+      ∙ (way.0
+      ∙ (ap (here_by c (is_here (start S) c)) (sym before) ∙ sym (ring_knows S (seen from) c legal).here))))
+
+  pub still_left : times_left c (seen to) ≡ times_left c (seen from)
+  still_left =
+      let way = coming c true (is_free (run S came.found).own) (number from) came.behind.ask came.behind.marks came.behind.way in
+      let now = (ring_knows S (seen to) c came.goes_on.legal).left ∙ ap (times_left c) after in
+      let was = ap (times_left c) (sym before) ∙ sym (ring_knows S (seen from) c legal).left in
+      omega (arith, now, was, left_append c (mine from) (came.behind.ask ∷ came.behind.marks), way.1)

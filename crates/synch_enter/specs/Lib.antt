@@ -1,0 +1,3 @@
+pub mod Synch
+pub mod HandingOn
+pub mod Hinting
