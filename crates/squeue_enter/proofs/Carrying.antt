@@ -71,13 +71,13 @@ pub length_entries : (fs : List FeedOf) → length (entries fs) ≡ length fs
 length_entries [] = refl
 length_entries (f ∷ fs) = omega (arith, length_entries fs)
 
-no_asks_in : (es : List Entry) → all_feeds es ≡ true → ask_count es ≡ 0
+pub no_asks_in : (es : List Entry) → all_feeds es ≡ true → ask_count es ≡ 0
 no_asks_in [] f = refl
 no_asks_in (Feed c n ∷ es) f = no_asks_in es f
 no_asks_in (Ask q ∷ es) f = absurd (cc f)
 
 -- what a pass has entered, with what others made behind it and one element more
-by_append : (p : ℕ) (H K : List Element) → (feeds_by p (H ++ K) ≡ feeds_by p H + feeds_by p K) × (asks_by p (H ++ K) ≡ asks_by p H + asks_by p K)
+pub by_append : (p : ℕ) (H K : List Element) → (feeds_by p (H ++ K) ≡ feeds_by p H + feeds_by p K) × (asks_by p (H ++ K) ≡ asks_by p H + asks_by p K)
 by_append p [] K = (omega arith, omega arith)
 by_append p (e ∷ H) K = let r = by_append p H K in (omega (arith, r.0), omega (arith, r.1))
 

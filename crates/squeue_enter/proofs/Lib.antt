@@ -2,3 +2,4 @@ pub mod Carrying
 pub mod Entries
 pub mod Choosing
 pub mod Answering
+pub mod Bringing

@@ -1,15 +1,15 @@
 -- What an entry into a squeue needs, and what it adds to the history.
-use Rattle.std.specs.Prelude.{◌≡◌, ◌≢◌, ℕ, ◌+◌, ◌≤◌, ◌<◌, true, List, [], ◌∷◌, ◌++◌, length, replicate}
+use Rattle.std.specs.Prelude.{◌≡◌, ◌≢◌, ℕ, ◌+◌, ◌%◌, ◌≤◌, ◌<◌, true, List, [], ◌∷◌, ◌++◌, length, replicate}
 use Rattle.turn_gate.specs.History.{Begins, only}
 use Rattle.turn_gate.specs.Passes.{IsPassOf, number, seen, mine}
 use Rattle.turn_gate.specs.declared.pass.Pass.{Pass}
 use Rattle.perimeter_core.specs.declared.entries.Feed.{Feed}
 use Rattle.perimeter_core.specs.declared.marks.SynchAct.TheVariants as Done
 use Rattle.perimeter_core.specs.declared.marks.Mark.{Mark}
-use Rattle.perimeter_core.specs.Perimeter.{Idle, is_free, is_empty}
+use Rattle.perimeter_core.specs.Perimeter.{Idle, is_free, is_empty, is_here}
 use Rattle.perimeter_core.specs.History.{Element, Setting, Limits, feed_quota, run, made_by}
-use Rattle.perimeter_core.specs.Deeds.{entries, due, done}
-use Rattle.perimeter_core.specs.Legal.{Legal, Enters, feeds_by, feed_count}
+use Rattle.perimeter_core.specs.Deeds.{entries, feeds_of, times_left, due, done}
+use Rattle.perimeter_core.specs.Legal.{Legal, Enters, feeds_by, asks_by, feed_count}
 use Rattle.squeue_state.specs.Naming.{Named, setting_of}
 use Rattle.squeue_state.specs.Elements.{number_of, filled, fasted, claimed, took, gone}
 use Rattle.squeue_drain.specs.Draining.{plain, Ends, is_leave, GoesOn}
@@ -77,3 +77,16 @@ pub record HasFilled {R : Type 0} (limits : R → Limits) (s : Named R) (from : 
   pub legal : Legal (setting_of limits s.given) found
   pub now_seen : seen to ≡ found ++ filled (number from) es ∷ []
   pub now_mine : mine to ≡ mine from ++ filled (number from) es ∷ []
+
+-- What a ring knows after it has entered these feeds: so many more are entered and no Ask is; the next feed of each of its
+-- connections is so many further, and its block has neither come nor gone
+pub record Brought {R : Type 0} (limits : R → Limits) (s : Named R) (es : List Feed) (from to : Pass Element) : Type 0 where
+  pub feeds : feeds_by (number from) (seen to) ≡ feeds_by (number from) (seen from) + length es
+  pub asks : asks_by (number from) (seen to) ≡ asks_by (number from) (seen from)
+  pub next : (c : ℕ) → number from ≡ c % s.given.rings → due (seen to) c ≡ due (seen from) c + length (feeds_of c (entries es))
+  pub here : (c : ℕ) → number from ≡ c % s.given.rings → is_here (run (setting_of limits s.given) (seen to)) c ≡ is_here (run (setting_of limits s.given) (seen from)) c
+  pub left : (c : ℕ) → number from ≡ c % s.given.rings → times_left c (seen to) ≡ times_left c (seen from)
+
+-- What the pass might have entered behind these feeds it may enter now
+abbrev pub MayGoOn : {R : Type 0} → (R → Limits) → Named R → List Feed → Pass Element → Pass Element → Type 0
+MayGoOn limits s es from to = (more : List Feed) → MayEnter limits s from (es ++ more) → MayEnter limits s to more

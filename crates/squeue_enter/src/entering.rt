@@ -1,5 +1,5 @@
 //! Entering with a chain of feeds.
-ghost use Rattle.std.specs.Prelude.{◌≡◌, ◌+◌, ◌≤◌, ◌<◌, ◌∷◌, [], Bool, length, MatchResult};
+ghost use Rattle.std.specs.Prelude.{◌≡◌, ◌+◌, ◌≤◌, ◌<◌, ◌∷◌, [], Bool, length, IfOk, MatchResult};
 ghost use Rattle.turn_gate.specs.Passes.{IsReturned, missed, number, seen, steps};
 ghost use Rattle.perimeter_core.specs.Perimeter.{Idle, is_free as free};
 ghost use Rattle.perimeter_core.specs.History.{run};
@@ -7,7 +7,7 @@ ghost use Rattle.squeue_state.specs.Naming.{setting_of};
 ghost use Rattle.squeue_state.specs.Elements.{number_of, filled};
 ghost use Rattle.squeue_state.specs.Words.{Added};
 ghost use Rattle.squeue_enter.specs.Ways.{way_of};
-ghost use Rattle.squeue_enter.specs.Entering.{MayEnter, HasEntered, HasFilled};
+ghost use Rattle.squeue_enter.specs.Entering.{MayEnter, HasEntered, HasFilled, Brought, MayGoOn};
 
 use crate::Mode;
 use perimeter_core::{Feed, Hook, Own, Resident};
@@ -55,7 +55,9 @@ pub fn enter<R: Resident, H: Hook, W: Wait>(
     requires some { 0 < length chain.now }
     requires may { MayEnter R.limits sq.now pass chain.now }
     requires budget { 1 ≤ budget }
-    ensures { HasEntered R.limits sq.now mode budget chain.now pass result }
+    ensures entered { HasEntered R.limits sq.now mode budget chain.now pass result }
+    ensures brought { Brought R.limits sq.now chain.now pass result.pass }
+    ensures more { MayGoOn R.limits sq.now chain.now pass result.pass }
 {
     let turn = sq.turn(rt, pass);
     let woke = is_free(turn.own());
@@ -90,7 +92,9 @@ pub fn enter<R: Resident, H: Hook, W: Wait>(
 /// Queues one feed where the gate is free, and doesn't wait. Where the gate is held nothing is entered.
 pub fn try_fill<R: Resident>(sq: &Squeue<R>, pass: Pass, feed: Feed) -> Result<Pass, Missed>
     requires { MayEnter R.limits sq.now pass (feed ∷ []) }
-    ensures { MatchResult result (λ q. HasFilled R.limits sq.now pass (feed ∷ []) q) (λ m. missed (steps pass) m × IsReturned number_of sq.now.gate pass m.pass) }
+    ensures filled { MatchResult result (λ q. HasFilled R.limits sq.now pass (feed ∷ []) q) (λ m. missed (steps pass) m × IsReturned number_of sq.now.gate pass m.pass) }
+    ensures brought { IfOk result (λ q. Brought R.limits sq.now (feed ∷ []) pass q) }
+    ensures more { IfOk result (λ q. MayGoOn R.limits sq.now (feed ∷ []) pass q) }
 {
     match sq.try_turn(pass) {
         Ok(turn) => Ok(sq.fill(turn, &[feed])),
