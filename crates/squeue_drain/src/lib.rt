@@ -12,5 +12,5 @@ mod owner;
 mod working;
 
 pub use draining::{drain, is_polling, serve_one};
-pub use owner::{Owner, process};
+pub use owner::{Owner, is_free, process};
 pub use working::worker;

@@ -2,9 +2,10 @@
 ghost use Rattle.std.specs.Prelude.{◌≡◌, ◌+◌, ◌≤◌, ◌⊎◌, [], ◌∷◌, length, drop};
 ghost use Rattle.perimeter_core.specs.declared.entries.Entry.TheVariants as Entry';
 ghost use Rattle.perimeter_core.specs.declared.marks.SynchAct.TheVariants as Done;
+ghost use Rattle.perimeter_core.specs.Perimeter.{is_free as free};
 ghost use Rattle.squeue_drain.specs.Owning.{Feeds, IsFeedFirst, NoFeedFirst};
 
-use perimeter_core::{Entry, Hook, Resident, SynchAct};
+use perimeter_core::{Entry, Hook, Own, Resident, SynchAct};
 use squeue_state::{Hand, Pass, Squeue};
 use std::alloc::Global;
 
@@ -77,4 +78,15 @@ pub(crate) fn process_first<R: Resident, H: Hook>(
     hook.before(sq.number(), c, n);
     owner.resident.feed(alloc, c, n);
     owner.hand.pass_first();
+}
+
+/// Whether nobody has the perimeter.
+pub fn is_free(own: Own) -> bool
+    ensures { result ≡ free own }
+{
+    match own {
+        Own::Free => true,
+        Own::Out(_) => false,
+        Own::Granted(_) => false,
+    }
 }

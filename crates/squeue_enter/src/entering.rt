@@ -1,7 +1,7 @@
 //! Entering with a chain of feeds.
 ghost use Rattle.std.specs.Prelude.{◌≡◌, ◌+◌, ◌≤◌, ◌<◌, ◌∷◌, [], Bool, length, IfOk, MatchResult};
 ghost use Rattle.turn_gate.specs.Passes.{IsReturned, missed, number, seen, steps};
-ghost use Rattle.perimeter_core.specs.Perimeter.{Idle, is_free as free};
+ghost use Rattle.perimeter_core.specs.Perimeter.{Idle};
 ghost use Rattle.perimeter_core.specs.History.{run};
 ghost use Rattle.squeue_state.specs.Naming.{setting_of};
 ghost use Rattle.squeue_state.specs.Elements.{number_of, filled};
@@ -10,8 +10,8 @@ ghost use Rattle.squeue_enter.specs.Ways.{way_of};
 ghost use Rattle.squeue_enter.specs.Entering.{MayEnter, HasEntered, HasFilled, Brought, MayGoOn};
 
 use crate::Mode;
-use perimeter_core::{Feed, Hook, Own, Resident};
-use squeue_drain::{Owner, drain, is_polling, serve_one};
+use perimeter_core::{Feed, Hook, Resident};
+use squeue_drain::{Owner, drain, is_free, is_polling, serve_one};
 use squeue_state::{Missed, Pass, Squeue};
 use std::alloc::Global;
 use std::sync::Wait;
@@ -113,16 +113,5 @@ fn choose(mode: Mode, free: bool, empty: bool, one: bool) -> Way
         Mode::NoDrain if free && empty && one => Way::Alone,
         Mode::NoDrain => Way::Fill,
         Mode::Fill => Way::Fill,
-    }
-}
-
-// Whether nobody has the perimeter.
-fn is_free(own: Own) -> bool
-    ensures { result ≡ free own }
-{
-    match own {
-        Own::Free => true,
-        Own::Out(_) => false,
-        Own::Granted(_) => false,
     }
 }

@@ -5,7 +5,7 @@ ghost use Rattle.turn_gate.specs.Passes.{IsPassOf, number, seen, mine};
 ghost use Rattle.perimeter_core.specs.declared.entries.Entry.{Entry};
 ghost use Rattle.perimeter_core.specs.declared.entries.Entry.TheVariants as Entry';
 ghost use Rattle.perimeter_core.specs.declared.marks.Own.TheVariants as Own';
-ghost use Rattle.perimeter_core.specs.Perimeter.{is_closed, is_free as free};
+ghost use Rattle.perimeter_core.specs.Perimeter.{is_closed};
 ghost use Rattle.perimeter_core.specs.History.{run};
 ghost use Rattle.squeue_state.specs.Elements.{number_of, accepted};
 ghost use Rattle.squeue_state.specs.Naming.{setting_of};
@@ -15,7 +15,7 @@ ghost use Rattle.synch_enter.specs.Synch.{MayAsk, MayAskAt, StandsAtItsAsk, Came
 ghost use Rattle.synch_enter.specs.HandingOn.{AskIsNext, HandedOn};
 
 use perimeter_core::{Entry, Hook, Own, Resident};
-use squeue_drain::{Owner, process};
+use squeue_drain::{Owner, is_free, process};
 use squeue_state::{Pass, Squeue, Turn};
 use std::alloc::Global;
 use std::sync::Wait;
@@ -151,17 +151,6 @@ fn is_granted(own: Own, me: u32) -> bool
         Own::Granted(p) => p == me,
         Own::Free => false,
         Own::Out(_) => false,
-    }
-}
-
-// Whether nobody has the perimeter.
-fn is_free(own: Own) -> bool
-    ensures { result ≡ free own }
-{
-    match own {
-        Own::Free => true,
-        Own::Out(_) => false,
-        Own::Granted(_) => false,
     }
 }
 
