@@ -1,16 +1,33 @@
 -- What the worked rows begin with.
-use Rattle.std.specs.Prelude.{Bool, true, List, [], ◌∷◌}
-use Rattle.perimeter_core.specs.History.{Setting}
+use Rattle.std.specs.Prelude.{◌≡◌, ℕ, zero, suc, Bool, true, List, [], ◌∷◌, length, replicate}
+use Rattle.perimeter_core.specs.declared.entries.Feed.{Feed}
+use Rattle.perimeter_core.specs.History.{Setting, Limits}
+use Rattle.perimeter_core.specs.Blocks.{Blocks}
+use Rattle.perimeter_core.specs.Logging.{none_done}
+
+-- each of n connections may have so many feeds, no block may leave, and no call exists
+abbrev pub plain_limits : ℕ → ℕ → Limits
+plain_limits n feeds = record { feeds = replicate n feeds; leaves = replicate n 0; calls = [] }
+
+-- a resident that is as new: the connections with a flag are here, and each may have so many feeds
+abbrev pub IsNew : {R : Type 0} → (R → Blocks → Type 0) → (R → Limits) → (R → ℕ) → List Bool → ℕ → R → Type 0
+IsNew stands limits size starts feeds r = stands r (none_done starts) × (size r ≡ length starts) × (limits r ≡ plain_limits (length starts) feeds)
 
 abbrev pub all_here : List Bool
 all_here = true ∷ true ∷ true ∷ true ∷ []
 
 -- three rings and a worker over four connections that are all here; the rings may bring two feeds, two and one
 abbrev pub four_here : Setting
-four_here =
-    record {
-      rings = 3;
-      quotas = (2, 0) ∷ (2, 0) ∷ (1, 0) ∷ [];
-      starts = all_here;
-      limits = record { feeds = 2 ∷ 2 ∷ 2 ∷ 2 ∷ []; leaves = 0 ∷ 0 ∷ 0 ∷ 0 ∷ []; calls = [] };
-    }
+four_here = record { rings = 3; quotas = (2, 0) ∷ (2, 0) ∷ (1, 0) ∷ []; starts = all_here; limits = plain_limits 4 2 }
+
+abbrev pub the_one : List Bool
+the_one = true ∷ []
+
+-- one ring and a worker over one connection that is here; the ring may bring twenty feeds
+abbrev pub one_here : Setting
+one_here = record { rings = 1; quotas = (20, 0) ∷ []; starts = the_one; limits = plain_limits 1 20 }
+
+-- count feeds of connection c, from number n on
+abbrev pub in_order : ℕ → ℕ → ℕ → List Feed
+in_order c n zero = []
+in_order c n (suc count) = record { c = c; n = n } ∷ in_order c (suc n) count

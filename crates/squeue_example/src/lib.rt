@@ -1,6 +1,7 @@
 //! Worked rows of a squeue.
 //!
-//! Each test makes a squeue of logs, brings feeds with `enter`, and reads from the trace and from the logs what was done.
+//! Each test makes a squeue, brings feeds with `enter`, and reads from the trace and from the resident what was done.
+//! The resident is of logs, or one that finds memory wanting at one act.
 #![tactic(auto)]
 
 #[cfg(test)]
