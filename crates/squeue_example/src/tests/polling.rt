@@ -15,7 +15,7 @@ use perimeter_core::{Feed, NoHook, Resident};
 use squeue_drain::worker;
 use squeue_enter::{How, Mode};
 use squeue_state::{Pass, Quota, Squeue};
-use squeue_trace::TraceMark;
+use squeue_trace::{Trace, TraceMark};
 use std::alloc::{AllocError, Global};
 use std::process::Abort;
 use std::sync::Wait;
@@ -130,6 +130,12 @@ fn polls<R: Resident + Drop, W: Wait + Abort>(
     passes.push_reserved(zero);
     passes.push_reserved(last);
     let (resident, _ended, trace) = squeue.finish(passes);
+    tells(rt, &trace);
+    Ok(resident)
+}
+
+// The trace tells of the six entries. The first drain leaves seven, since its budget is ten.
+fn tells<A: Abort>(rt: &A, trace: &Trace) {
     let marks = [
         filled(0, 0, 15),
         filled(0, 15, 1),
@@ -151,8 +157,7 @@ fn polls<R: Resident + Drop, W: Wait + Abort>(
         left(0, 0),
         TraceMark::Close { p: 0 },
     ];
-    has_marks(rt, &trace, &marks);
-    Ok(resident)
+    has_marks(rt, trace, &marks);
 }
 
 #[test]

@@ -8,11 +8,11 @@ ghost use Rattle.turn_gate.specs.Passes.{AreFresh};
 use super::short::{Short, has_done};
 use super::{enters, feed, filled, has_filled, has_had, has_marks, left};
 use perimeter_core::logs::Logs;
-use perimeter_core::{NoHook, Resident};
+use perimeter_core::{Feed, NoHook, Resident};
 use squeue_drain::worker;
 use squeue_enter::{How, Mode};
 use squeue_state::{Pass, Quota, Squeue};
-use squeue_trace::TraceMark;
+use squeue_trace::{Trace, TraceMark};
 use std::alloc::{AllocError, Global};
 use std::process::Abort;
 use std::sync::Wait;
@@ -73,6 +73,12 @@ fn three_passes<R: Resident + Drop, W: Wait + Abort>(
     passes.push_reserved(two);
     passes.push_reserved(last);
     let (resident, _ended, trace) = squeue.finish(passes);
+    tells(rt, &trace, &first, &second, &third);
+    Ok(resident)
+}
+
+// The trace tells of three entries and of the worker that processed them.
+fn tells<A: Abort>(rt: &A, trace: &Trace, first: &[Feed], second: &[Feed], third: &[Feed]) {
     let marks = [
         filled(0, 0, 2),
         filled(1, 2, 2),
@@ -83,11 +89,10 @@ fn three_passes<R: Resident + Drop, W: Wait + Abort>(
         TraceMark::Work { p: 3 },
         left(3, 0),
     ];
-    has_marks(rt, &trace, &marks);
-    has_filled(rt, &trace, 0, &first);
-    has_filled(rt, &trace, 1, &second);
-    has_filled(rt, &trace, 2, &third);
-    Ok(resident)
+    has_marks(rt, trace, &marks);
+    has_filled(rt, trace, 0, first);
+    has_filled(rt, trace, 1, second);
+    has_filled(rt, trace, 2, third);
 }
 
 #[test]
