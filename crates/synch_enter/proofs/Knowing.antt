@@ -1,5 +1,5 @@
 -- What a ring knew of its connection before it came to a perimeter still holds there.
-use Rattle.std.proofs.Common.{◌≡◌, ℕ, ◌+◌, ◌%◌, Bool, true, false, if◌then◌else◌, inl, inr, List, [], ◌∷◌, ◌++◌, refl, ap, sym, ◌∙◌, subst, arith}
+use Rattle.std.proofs.Common.{◌≡◌, ℕ, ◌+◌, ◌%◌, ◌<◌, Bool, true, false, if◌then◌else◌, inl, inr, List, [], ◌∷◌, ◌++◌, length, refl, ap, sym, ◌∙◌, subst, arith}
 use Rattle.turn_gate.specs.Passes.{IsPassOf, number, seen, mine}
 use Rattle.turn_gate.specs.declared.pass.Pass.{Pass}
 use Rattle.perimeter_core.specs.Perimeter.{is_free, is_here}
@@ -10,9 +10,16 @@ use Rattle.perimeter_core.specs.Knowledge.{here_by}
 use Rattle.perimeter_core.proofs.OneMore.{legal_front}
 use Rattle.perimeter_core.proofs.RingKnows.{ring_knows}
 use Rattle.squeue_state.specs.Naming.{Named, setting_of}
-use Rattle.squeue_state.specs.Elements.{number_of}
 use Rattle.squeue_state.proofs.Makers.{only_made}
-use Rattle.synch_enter.specs.Synch.{Came, IsWay}
+use Rattle.squeue_state.specs.Elements.{number_of, gone}
+use Rattle.squeue_drain.specs.declared.owner.Owner.{Owner}
+use Rattle.perimeter_core.specs.declared.entries.Act.{Act}
+use Rattle.perimeter_core.specs.declared.entries.Entry.{Entry}
+use Rattle.perimeter_core.specs.declared.marks.SynchAct.{SynchAct}
+use Rattle.perimeter_core.specs.declared.marks.SynchAct.TheVariants as Done
+use Rattle.perimeter_core.specs.Blocks.{Blocks}
+use Rattle.std.specs.Prelude.{slice_index}
+use Rattle.synch_enter.specs.Synch.{MayAsk, Came, IsWay, StandsAtItsAsk, MayTake, MayPut, acts_at}
 
 here_append : (c : ℕ) (b : Bool) (M N : List Element) → here_by c b (M ++ N) ≡ here_by c (here_by c b M) N
 here_append c b [] N = refl
@@ -62,3 +69,35 @@ module _ {R : Type 0} (limits : R → Limits) (s : Named R) (from to : Pass Elem
       let now = (ring_knows S (seen to) c came.goes_on.legal).left ∙ ap (times_left c) after in
       let was = ap (times_left c) (sym before) ∙ sym (ring_knows S (seen from) c legal).left in
       omega (arith, now, was, left_append c (mine from) (came.behind.ask ∷ came.behind.marks), way.1)
+
+module _ {R O : Type 0} (stands : R → Blocks → Type 0) (limits : R → Limits) (size : R → ℕ) (origin : R → O) (s : Named R) (from : Pass Element) (o : Owner R) (c : ℕ) (may : MayAsk limits s from) (came : Came limits s from o.pass) (at : StandsAtItsAsk stands limits size origin s [] o) (none : o.act ≡ Done.None) (ring : number from ≡ c % s.given.rings) where
+  -- so a mover knows before it asks what it may do as owner
+  pub may_take : is_here (run (setting_of limits s.given) (seen from)) c ≡ true → times_left c (seen from) < slice_index (limits s.given.first).leaves c → MayTake stands limits size origin s c o
+  may_take here leaves =
+      record {
+        stands_at = at;
+        no_act = none;
+        ring = came.goes_on.same_number ∙ ring;
+        here = still_here limits s from o.pass c may.pass came ring ∙ here;
+        leaves = subst (λ (n : ℕ). n < slice_index (limits s.given.first).leaves c) (sym (still_left limits s from o.pass c may.pass came ring)) leaves;
+      }
+
+  pub may_put : {P : Type 0} (is_part_of : O → ℕ → P → Type 0) (part : P) → c < length s.given.starts → is_here (run (setting_of limits s.given) (seen from)) c ≡ false → is_part_of (origin s.given.first) c part
+      → MayPut stands limits size origin s is_part_of c part o
+  may_put is_part_of part range away of =
+      record {
+        stands_at = at;
+        no_act = none;
+        ring = came.goes_on.same_number ∙ ring;
+        range = range;
+        away = still_here limits s from o.pass c may.pass came ring ∙ away;
+        part_of = of;
+      }
+
+-- an act leaves pass and hand, and so the acts that were done to a block
+pub acts_at_same : {R : Type 0} (limits : R → Limits) (s : Named R) (c : ℕ) (o n : Owner R) → n.pass ≡ o.pass → n.hand ≡ o.hand → acts_at limits s c n ≡ acts_at limits s c o
+acts_at_same limits s c o n pass hand = rw (pass, hand) refl
+
+-- the mark of an owner that leaves nothing
+pub gone_with_nothing : (p q : ℕ) (left : List Entry) (a b : SynchAct) (note : List Act) → p ≡ q → left ≡ [] → a ≡ b → gone p (length left) a note ≡ gone q 0 b note
+gone_with_nothing p q left a b note same none act = rw (same, none, act) refl

@@ -29,6 +29,7 @@ pub enum Called {
 pub fn call<R: Resident>(owner: &mut Owner<R>, alloc: Global, c: u32, j: u32, k: u32) -> Called
     requires { (s : Named R) × MayCall R.stands R.limits R.size R.origin s c j k owner.old }
     ensures pass { owner.new.pass ≡ owner.old.pass }
+    ensures hand { owner.new.hand ≡ owner.old.hand }
     ensures called { (s : Named R) → MayCall R.stands R.limits R.size R.origin s c j k owner.old → HasCalled R.stands R.limits R.size R.origin s c j k owner.old owner.new result }
 {
     if owner.resident.is_here(c) {
@@ -45,6 +46,7 @@ pub fn call<R: Resident>(owner: &mut Owner<R>, alloc: Global, c: u32, j: u32, k:
 pub fn take_block<R: Resident>(owner: &mut Owner<R>, c: u32) -> R::Part
     requires { (s : Named R) × MayTake R.stands R.limits R.size R.origin s c owner.old }
     ensures pass { owner.new.pass ≡ owner.old.pass }
+    ensures hand { owner.new.hand ≡ owner.old.hand }
     ensures taken { (s : Named R) → MayTake R.stands R.limits R.size R.origin s c owner.old → HasTaken R.stands R.limits R.size R.origin s R.part_stands R.is_part_of c owner.old owner.new result }
 {
     owner.act = SynchAct::Out { c };
@@ -55,6 +57,7 @@ pub fn take_block<R: Resident>(owner: &mut Owner<R>, c: u32) -> R::Part
 pub fn put_block<R: Resident>(owner: &mut Owner<R>, c: u32, part: R::Part)
     requires { (s : Named R) × MayPut R.stands R.limits R.size R.origin s R.is_part_of c part owner.old }
     ensures pass { owner.new.pass ≡ owner.old.pass }
+    ensures hand { owner.new.hand ≡ owner.old.hand }
     ensures put { (s : Named R) (note : List Act) → MayPut R.stands R.limits R.size R.origin s R.is_part_of c part owner.old → R.part_stands part note → HasPut R.stands R.limits R.size R.origin s c note owner.new }
 {
     owner.act = SynchAct::In { c };

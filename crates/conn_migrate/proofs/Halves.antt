@@ -1,0 +1,48 @@
+-- The two halves of a move.
+use Rattle.std.proofs.Common.{◌≡◌, ℕ, List, [], length, sym, ◌∙◌, subst}
+use Rattle.turn_gate.specs.Passes.{number, seen}
+use Rattle.turn_gate.specs.declared.pass.Pass.{Pass}
+use Rattle.perimeter_core.specs.declared.entries.Act.{Act}
+use Rattle.perimeter_core.specs.Blocks.{Blocks}
+use Rattle.perimeter_core.specs.declared.marks.SynchAct.{SynchAct}
+use Rattle.perimeter_core.specs.declared.marks.SynchAct.TheVariants as Done
+use Rattle.perimeter_core.specs.Perimeter.{Idle}
+use Rattle.perimeter_core.specs.History.{Element, Limits, run}
+use Rattle.squeue_state.specs.Naming.{Named, setting_of}
+use Rattle.squeue_state.specs.Elements.{gone}
+use Rattle.squeue_state.specs.Words.{Added}
+use Rattle.squeue_drain.specs.declared.owner.Owner.{Owner}
+use Rattle.squeue_drain.specs.Draining.{GoesOn}
+use Rattle.squeue_drain.proofs.Deciding.{begins_trans}
+use Rattle.synch_enter.specs.Synch.{Came, StandsAtItsAsk, MayTake, MayPut}
+use Rattle.synch_enter.proofs.Knowing.{may_take, may_put, gone_with_nothing}
+use Rattle.conn_migrate.specs.Moving.{MayLeave, MayCome, Moved}
+
+module _ {R O : Type 0} {stands : R → Blocks → Type 0} {limits : R → Limits} {size : R → ℕ} {origin : R → O} {s : Named R} {c : ℕ} {from : Pass Element} {o : Owner R} (came : Came limits s from o.pass) (at : StandsAtItsAsk stands limits size origin s [] o) (none : o.act ≡ Done.None) where
+  -- what the pass might do before it came, it may do as owner
+  pub takes : MayLeave limits s c from → MayTake stands limits size origin s c o
+  takes may = may_take stands limits size origin s from o c may.may_ask came at none may.ring may.here may.leaves
+
+  pub puts : {P : Type 0} {is_part_of : O → ℕ → P → Type 0} {part : P} → MayCome limits s c from → is_part_of (origin s.given.first) c part → MayPut stands limits size origin s is_part_of c part o
+  puts {P} {is_part_of} {part} may of = may_put stands limits size origin s from o c may.may_ask came at none may.ring is_part_of part may.range may.away of
+
+-- an owner that came, did its act and left, moved
+pub moved : {R : Type 0} {limits : R → Limits} {s : Named R} {act : SynchAct} {note : List Act} {from to : Pass Element} (o n : Owner R) → Came limits s from o.pass → n.pass ≡ o.pass → n.hand.left ≡ [] → n.act ≡ act → GoesOn limits s n.pass to
+    → Idle (run (setting_of limits s.given) (seen to)) (number n.pass) → Added limits s n.pass (gone (number n.pass) (length n.hand.left) n.act note) to → Moved limits s act note from to
+moved {R} {limits} {s} {act} {note} {from} {to} o n came pass none did goes idle left =
+    let at : Came limits s from n.pass = subst (λ (q : Pass Element). Came limits s from q) (sym pass) came in
+    let same : number n.pass ≡ number from = at.goes_on.same_number in
+    record {
+      goes_on = record {
+        is_pass = goes.is_pass;
+        same_number = goes.same_number ∙ same;
+        grows = begins_trans (seen from) (seen n.pass) (seen to) at.goes_on.grows goes.grows;
+        legal = goes.legal;
+      };
+      idle = subst (λ (k : ℕ). Idle (run (setting_of limits s.given) (seen to)) k) same idle;
+      owner = n.pass;
+      came = at;
+      left =
+          subst (λ (e : Element). Added limits s n.pass e to)
+          (gone_with_nothing (number n.pass) (number from) n.hand.left n.act act note same none did) left;
+    }

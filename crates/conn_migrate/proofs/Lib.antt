@@ -1,0 +1,3 @@
+pub mod OwnMarks
+pub mod Halves
+pub mod NextFeeds

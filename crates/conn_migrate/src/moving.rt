@@ -1,0 +1,89 @@
+//! A move and its two halves.
+ghost use Rattle.std.specs.Prelude.{◌≡◌, ◌<◌, [], true, false};
+ghost use Rattle.perimeter_core.specs.declared.marks.SynchAct.TheVariants as Done;
+ghost use Rattle.perimeter_core.specs.Deeds.{acts, due};
+ghost use Rattle.squeue_state.specs.Naming.{setting_of};
+ghost use Rattle.synch_enter.specs.Hinting.{conns_of, squeues_of};
+ghost use Rattle.turn_gate.specs.Passes.{seen};
+ghost use Rattle.conn_migrate.specs.Moving.{MayLeave, MayCome, Moved, Knows};
+
+use perimeter_core::{Hook, Resident};
+use squeue_state::{Notes, Pass, Squeue};
+use std::alloc::Global;
+use std::marker::Brand;
+use std::sync::Wait;
+use synch_enter::{Hints, put_block, synch_enter, synch_exit, take_block};
+
+/// Moves the block of connection `c` from squeue `a` to squeue `b`. The passes are those of its ring. The hint of `c` names
+/// `b` before the ring leaves there.
+pub fn migrate<R: Resident, H: Hook, W: Wait>(
+    rt: &W,
+    alloc: Global,
+    hook: &H,
+    a: &Squeue<R>,
+    pass_a: Pass,
+    b: &Squeue<R>,
+    pass_b: Pass,
+    c: u32,
+    hints: &Hints,
+) -> (Pass, Pass)
+    requires from { MayLeave R.limits a.now c pass_a }
+    requires to { MayCome R.limits b.now c pass_b }
+    requires origin { R.origin a.now.given.first ≡ R.origin b.now.given.first }
+    requires hint { (c < conns_of hints.now) × (b.now.given.number < squeues_of hints.now) }
+    ensures out { Moved R.limits a.now (Done.Out c) [] pass_a result.0 }
+    ensures put { Moved R.limits b.now (Done.In c) (acts (setting_of R.limits a.now.given) (seen result.0) c) pass_b result.1 }
+    ensures left { Knows R.limits a.now c false 1 pass_a result.0 }
+    ensures come { Knows R.limits b.now c true 0 pass_b result.1 }
+    ensures next { due (seen result.0) c ≡ due (seen pass_a) c }
+    ensures due { due (seen result.1) c ≡ due (seen result.0) c }
+{
+    let (left, part) = take_from(rt, alloc, hook, a, pass_a, c);
+    let come = put_into::<R, Brand, H, W>(rt, alloc, hook, b, pass_b, c, part, hints, a, &left);
+    (left, come)
+}
+
+// Takes the block out, behind all that was queued for it, and leaves.
+fn take_from<R: Resident, H: Hook, W: Wait>(
+    rt: &W,
+    alloc: Global,
+    hook: &H,
+    sq: &Squeue<R>,
+    pass: Pass,
+    c: u32,
+) -> (Pass, R::Part)
+    requires { MayLeave R.limits sq.now c pass }
+    ensures moved { Moved R.limits sq.now (Done.Out c) [] pass result.0 }
+    ensures had { R.part_stands result.1 (acts (setting_of R.limits sq.now.given) (seen result.0) c) }
+    ensures part { R.is_part_of (R.origin sq.now.given.first) c result.1 }
+{
+    let mut owner = synch_enter(sq, rt, alloc, hook, pass);
+    let part = take_block(&mut owner, c);
+    (synch_exit::<R, Brand, W>(sq, rt, owner), part)
+}
+
+// Puts the block in, writes its hint, and leaves. `N` names what the part stands for. What that is made of is passed beside
+// it, since a pick sees the call's arguments alone.
+fn put_into<R: Resident, N: Notes, H: Hook, W: Wait>(
+    rt: &W,
+    alloc: Global,
+    hook: &H,
+    sq: &Squeue<R>,
+    pass: Pass,
+    c: u32,
+    part: R::Part,
+    hints: &Hints,
+    _from: &Squeue<R>,
+    _left: &Pass,
+) -> Pass
+    requires may { MayCome R.limits sq.now c pass }
+    requires had { R.part_stands part N.note }
+    requires part { R.is_part_of (R.origin sq.now.given.first) c part }
+    requires hint { (c < conns_of hints.now) × (sq.now.given.number < squeues_of hints.now) }
+    ensures { Moved R.limits sq.now (Done.In c) N.note pass result }
+{
+    let mut arrived = synch_enter(sq, rt, alloc, hook, pass);
+    put_block(&mut arrived, c, part);
+    hints.set(c, sq.number());
+    synch_exit::<R, N, W>(sq, rt, arrived)
+}
