@@ -5,7 +5,7 @@
 //! wait is bounded, so the row ends in any case.
 ghost use Rattle.std.specs.Prelude.{◌≡◌, [], ◌∷◌, length, IfOk};
 ghost use Rattle.perimeter_core.specs.Logging.{limits_of, size_of};
-ghost use Rattle.squeue_example.specs.Rows.{Holds, IsIdle, MayBring, both_here, two_here};
+ghost use Rattle.squeue_example.specs.Rows.{Holds, IsIdle, MayBring, two_here};
 ghost use Rattle.squeue_state.specs.Elements.{number_of};
 ghost use Rattle.squeue_state.specs.Naming.{setting_of};
 ghost use Rattle.turn_gate.specs.Passes.{AreFresh};

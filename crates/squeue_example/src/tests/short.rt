@@ -59,7 +59,7 @@ impl Short {
 }
 
 impl Resident for Short {
-    ghost use Rattle.perimeter_core.specs.Logging.{Stands, IsLogOf, limits_of, size_of};
+    ghost use Rattle.perimeter_core.specs.Logging.{IsLogOf};
     ghost use Rattle.perimeter_core.specs.LogLaws.{logs_in_range, logs_within, log_same_feeds, logs_same_feeds};
 
     type Part = Log;
