@@ -1,18 +1,21 @@
-//! The two ends of a ring. Contracts see an end by its ring and its count.
+//! The two ends of a ring. Each holds a pass of the ring's queue, which knows in contracts what the end's count is at run
+//! time.
 
 ghost use Rattle.std.specs.Prelude.{◌≡◌, ◌≤◌, []};
 ghost use Rattle.crossbeam_queue.specs.Passes.{view as known};
-ghost use Rattle.poll_ring.specs.Rings.{FeedCount, PollCount, feeder, poller};
+ghost use Rattle.poll_ring.specs.Rings.{FeedCount, PollCount};
+ghost use Rattle.poll_ring.specs.Rule.{feeder, poller};
 
 use crate::rule::View;
 use crossbeam_queue::Pass;
 use std::marker::Model;
 
-/// The end that puts. A ring has one. Contracts see its ring and how many numbers were put.
+/// The end of a ring that puts numbers. There is one for each ring. Contracts see whose it is, and how many numbers were
+/// put.
 #[derive(Drop)]
 pub struct FeedEnd {
     pub(crate) pass: Pass<u32, View>,
-    // how many numbers were put, which is the next one
+    // How many numbers were put, and so the next one.
     pub(crate) put: u32,
 }
 
@@ -24,11 +27,12 @@ impl Model for FeedEnd {
     ghost invariant = { λ e. (e.pass.me.1 ≡ []) × (known e.pass ≡ feeder e.put) × (e.put ≤ e.pass.table_id.slots) };
 }
 
-/// The end that takes. A ring has one. Contracts see its ring and how many numbers were popped.
+/// The end of a ring that pops numbers. There is one for each ring. Contracts see whose it is, and how many numbers were
+/// popped.
 #[derive(Drop)]
 pub struct PollEnd {
     pub(crate) pass: Pass<u32, View>,
-    // how many numbers were popped, which is the next one
+    // How many numbers were popped, and so the next one.
     pub(crate) popped: u32,
 }
 

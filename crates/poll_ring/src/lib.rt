@@ -1,19 +1,23 @@
-//! A receive ring: where the numbers of received packets pass from the thread that brings them to the thread that
-//! enters them.
+//! A receive ring: where the numbers of received packets go from the thread that brings them to the thread that enters
+//! them.
 //!
-//! A network device fills a ring of its own. In interrupt mode it puts one packet after another and asks for nothing; in
-//! polling mode the thread that serves the ring comes for a whole chain of packets at once, as many as it can carry. A
-//! `Ring` has these two sides: the `FeedEnd` puts, one number at a time, and the `PollEnd` takes chains. One thread has
-//! the one end, another the other, and both share the ring.
+//! In illumos a receive ring of a network device belongs to one squeue, and has two sides. The device puts packets, one
+//! by one, as they arrive, and never asks who takes them. While the squeue is busy it turns interrupts off, and its poll
+//! thread takes a whole chain of packets at once, as many as may come. So each side has a thread of its own, and neither
+//! holds a lock while it works on the packets.
 //!
-//! A ring gives the numbers 0, 1, 2 up to its capacity, each once and in order, and is then spent. It is a bounded queue
-//! with room for all of them, so a put is never refused. Between any two steps the queue holds the numbers from how many
-//! were popped to how many were put, and each end knows its own count: this is the rule of the ring (`specs/Rings.antt`),
-//! from which it follows that a popped number is the next one, whatever the other end does at the same time.
+//! A `Ring` here gives the numbers 0, 1, 2 up to its capacity, each once and in order, and is then spent. A `FeedEnd`
+//! puts the next number, and a `PollEnd` takes a chain of those that were put. One thread has the one end, another the
+//! other, and both share the ring. It is a bounded queue with room for all numbers, so that a put can't be refused.
+//! Between any two steps the queue holds the numbers from how many were popped to how many were put less one, and each
+//! end knows its own count. This rule (`specs/Rule.antt`) survives each step, so a popped number is the next one,
+//! whatever the other end does at the same time, and no number is lost or comes twice.
 //!
-//! A ring takes no memory after `make`. It never waits for a number that isn't put yet, but in `cleanup`. An end that is
-//! dropped leaves what was put in the ring: the other end still puts or pops, but a `cleanup` whose feeder is gone early
-//! waits for ever. Whoever drops the ring drops the numbers left in it, and its ends are of no use then.
+//! A ring takes no memory after `make`, and waits for a number that isn't put yet in `cleanup` alone.
+//!
+//! Ring and ends may be dropped at any time and in any order. An end that is gone changes nothing at the other end: what
+//! was put is still popped, and puts are still taken in. But nothing makes a new end, so a `cleanup` waits for ever where
+//! the feeder's end went early. The numbers that a ring still holds go with it, and its ends fit no other ring.
 #![tactic(auto)]
 
 mod ends;

@@ -1,4 +1,4 @@
-//! The ring, over a bounded queue that keeps the ring's rule.
+//! The ring itself. What its calls give is what the queue gave; the ends count.
 
 ghost use Rattle.std.specs.Prelude.{◌≡◌, ◌+◌, ◌^◌, ◌<◌, ◌≤◌, IfOk, MatchOption};
 ghost use Rattle.crossbeam_queue.specs.Passes.{ruled_capacity};
@@ -12,10 +12,11 @@ use std::marker::Model;
 use std::sync::Wait;
 use std::thread;
 
-/// A ring of the numbers from 0 up to its capacity. Threads share it by reference. Contracts see which one it is, and
-/// its capacity.
+/// A ring, which gives the numbers 0, 1, 2 up to its capacity. Threads share it by reference. Contracts see which one it
+/// is, and its capacity.
 #[derive(Drop)]
 pub struct Ring {
+    // It has a slot for each number, and so no slot is used twice.
     queue: RuledArrayQueue<u32, View, NextOnes>,
     capacity: u32,
 }
@@ -29,7 +30,7 @@ impl Model for Ring {
 }
 
 impl Ring {
-    /// A ring with nothing in it, and its two ends. It takes the memory for all numbers at once.
+    /// A ring in which nothing was put, and its two ends. All memory that the ring ever needs is taken here.
     pub fn make(alloc: Global, capacity: u32) -> Result<(Ring, FeedEnd, PollEnd), AllocError>
         requires some { 1 ≤ capacity }
         ensures capacity { IfOk result (λ r. r.0.capacity ≡ capacity) }
@@ -46,7 +47,7 @@ impl Ring {
         Ok((Ring { queue, capacity }, feed, poll))
     }
 
-    /// Puts the next number. It can't be refused, since the queue has room for all numbers.
+    /// Puts the next number. There is room for it, so it can't be refused.
     pub fn push<W: Wait>(&self, rt: &W, end: &mut FeedEnd)
         requires ring { end.old.ring ≡ self.now.ring }
         requires room { end.old.put < self.now.capacity }
@@ -58,8 +59,9 @@ impl Ring {
         end.put += 1;
     }
 
-    /// Takes the next numbers: the first one, and how many, at most `most`. Fewer come only where a pop of this call
-    /// found the ring empty, or where all were popped. It doesn't wait for a number that isn't put yet.
+    /// Takes a chain: its first number, and how many numbers it has, at most `most`. Fewer come only where a pop of this
+    /// call found the ring empty, or where all were popped. A `push` that is under way may be waited for, one that
+    /// hasn't begun never is.
     pub fn pop_chain<W: Wait>(&self, rt: &W, end: &mut PollEnd, most: u32) -> (u32, u32)
         requires ring { end.old.ring ≡ self.now.ring }
         requires most { (1 ≤ most) × (most ≤ 32) }
@@ -77,8 +79,8 @@ impl Ring {
         (first, end.popped - first)
     }
 
-    /// Takes all numbers that are left up to the capacity, and waits for those that aren't put yet: the first one, and
-    /// how many.
+    /// Takes all numbers that are left up to the capacity as one chain: its first number, and how many numbers it has.
+    /// It waits for those that aren't put yet.
     pub fn cleanup<W: Wait>(&self, rt: &W, end: &mut PollEnd) -> (u32, u32)
         requires ring { end.old.ring ≡ self.now.ring }
         ensures first { result.0 ≡ end.old.popped }
@@ -97,7 +99,7 @@ impl Ring {
         (first, end.popped - first)
     }
 
-    /// How many numbers are still to be popped: the capacity less those that were.
+    /// How many numbers are still to be popped: the capacity less those that were popped.
     pub fn left(&self, end: &PollEnd) -> u32
         requires ring { end.now.ring ≡ self.now.ring }
         ensures { end.now.popped + result ≡ self.now.capacity }
@@ -105,7 +107,7 @@ impl Ring {
         self.capacity - end.popped
     }
 
-    // Takes the next number, where one was put.
+    // Takes the next number, or finds the ring empty.
     fn pop<W: Wait>(&self, rt: &W, end: &mut PollEnd) -> Option<u32>
         requires ring { end.old.ring ≡ self.now.ring }
         requires some { end.old.popped < self.now.capacity }

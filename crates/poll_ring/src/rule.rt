@@ -1,16 +1,16 @@
-//! The rule that a ring's queue keeps between any two steps, and what each step tells the end that makes it. These types
-//! are for contracts alone, and no value of them is made.
+//! The rule of a ring's queue, and what each step tells the end that makes it. These types are for contracts alone, and
+//! no value of them is made.
 
-ghost use Rattle.std.specs.Prelude.{◌≡◌, ◌+◌, ◌≤◌, true, false, length, ⊤};
-ghost use Rattle.poll_ring.specs.Rings.{Keeps, feeder, poller};
+ghost use Rattle.std.specs.Prelude.{◌≡◌, ◌+◌, ◌≤◌, length, ⊤};
+ghost use Rattle.poll_ring.specs.Rule.{Keeps, feeder, poller, unsplit};
 
 use crossbeam_queue::protocol::{Lesson, Outcome, Protocol, Split};
 
-/// What a pass of the queue knows.
+/// What a pass of the queue may do, and what it has done.
 pub struct View {
     /// It may put numbers.
     pub feeds: bool,
-    /// It may pop them.
+    /// It may pop numbers.
     pub polls: bool,
     /// How many it put.
     pub put: u32,
@@ -18,16 +18,16 @@ pub struct View {
     pub popped: u32,
 }
 
-/// The queue holds the numbers from how many were popped to how many were put.
+/// The queue holds the next numbers, in order.
 pub struct NextOnes;
 
 impl Protocol<u32, View> for NextOnes {
     ghost holds = { Keeps };
 
-    ghost first = { record { feeds = true; polls = true; put = 0; popped = 0 } };
+    ghost first = { unsplit };
 }
 
-/// The first pass of a queue becomes those of its two ends.
+/// The first pass becomes those of the two ends.
 pub(crate) struct TwoEnds;
 
 impl Split<View> for TwoEnds {
@@ -36,14 +36,14 @@ impl Split<View> for TwoEnds {
     ghost right = { λ v. poller v.popped };
 }
 
-/// A number was put.
+/// One more number was put.
 pub(crate) struct Put;
 
 impl Outcome<u32, View> for Put {
     ghost then = { λ v n w. w ≡ feeder (v.put + 1) };
 }
 
-// No more numbers lie in the queue than were put.
+// The queue never holds more numbers than were put, so with room for all of them it is never full at a put.
 impl Lesson<u32, View> for Put {
     ghost fact = { λ v numbers. length numbers ≤ v.put };
 }
@@ -55,7 +55,7 @@ impl Outcome<u32, View> for Popped {
     ghost then = { λ v n w. (n ≡ v.popped) × (w ≡ poller (v.popped + 1)) };
 }
 
-// An end that finds the queue empty learns nothing of the other end.
+// A pop that finds the queue empty tells nothing of how many were put.
 impl Lesson<u32, View> for Popped {
     ghost fact = { λ v numbers. ⊤ };
 }
