@@ -34,14 +34,14 @@ all_set F views pass w mine others j u e = ⊎_elim (λ (x : (j ≡ pass) × (w 
 -- ---- the steps
 pub begins : Keeps [] (unsplit ∷ [])
 begins = record {
-    put = 0;
-    popped = 0;
-    count = refl;
-    next_ones = refl;
-    feeding = 0;
-    polling = 0;
-    each = all_set (Knows 0 0 0 0) (unsplit ∷ []) 0 unsplit ((λ _. (refl, refl)), λ _. (refl, refl)) (λ j u other e. absurd (other (at_end [] _ u j (λ x. some-ne-none u (sym x)) e)));
-  }
+  put = 0;
+  popped = 0;
+  count = refl;
+  next_ones = refl;
+  feeding = 0;
+  polling = 0;
+  each = all_set (Knows 0 0 0 0) (unsplit ∷ []) 0 unsplit ((λ _. (refl, refl)), λ _. (refl, refl)) (λ j u other e. absurd (other (at_end [] _ u j (λ x. some-ne-none u (sym x)) e)));
+}
 
 -- the first pass becomes those of the two ends
 pub splits : (pass : ℕ) (v : View) → v.feeds ≡ true → v.polls ≡ true → Forks Keeps pass v (feeder v.put) (poller v.popped)

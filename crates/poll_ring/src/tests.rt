@@ -1,3 +1,5 @@
+//! Worked rows on one thread, and a ring between two threads.
+
 ghost use Rattle.std.specs.Prelude.{◌≡◌, ◌+◌, ◌≤◌};
 
 use super::*;
@@ -38,7 +40,7 @@ fn a_chain_is_as_long_as_it_may_be(rt: HostRuntime) -> Result<(), Fail> {
     Ok(())
 }
 
-// An end may be dropped, and so may the ring before its ends.
+// An end that is gone changes nothing at the other end, and the ring may go before its ends.
 #[test]
 fn what_was_put_outlives_its_feeder(rt: HostRuntime) -> Result<(), Fail> {
     let (ring, mut feed, mut poll) = Ring::make(rt.alloc(), 2)?;
@@ -104,7 +106,6 @@ fn finds_all<W: Wait + Abort>(rt: &W, ring: &Ring, end: &mut PollEnd, patience: 
             ring.cleanup(rt, end)
         };
         assert_eq!(rt; first, next);
-        assert!(rt; count <= 32 || empty >= patience);
         next = next.checked_add(count).expect(rt, "a count");
         if count == 0 {
             empty = empty.saturating_add(1);
