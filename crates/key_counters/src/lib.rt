@@ -1,0 +1,10 @@
+//! Counters by key behind one squeue: a resident of one's own, served from several threads.
+//!
+//! Each key has a list of amounts, and a counter that adds them up. Several rings bring the items of their keys beside each
+//! other, a worker adds what they leave in the queue, and the totals are the plain sums of the amounts. `counters` is the
+//! resident, `running` what the threads do, `counting` the whole from the amounts to the totals.
+#![tactic(auto)]
+
+mod counters;
+
+pub use counters::{Counter, Counters};
