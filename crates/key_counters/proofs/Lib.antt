@@ -1,1 +1,2 @@
 pub mod CounterSteps
+pub mod Chains

@@ -6,5 +6,9 @@
 #![tactic(auto)]
 
 mod counters;
+mod job;
+mod running;
 
 pub use counters::{Counter, Counters};
+pub use job::{Job, Pace, Task};
+pub use running::{bring, run};
