@@ -1,2 +1,3 @@
 pub mod CounterSteps
 pub mod Chains
+pub mod RingLists

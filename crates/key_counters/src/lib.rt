@@ -7,8 +7,12 @@
 
 mod counters;
 mod job;
+mod lists;
 mod running;
+mod serving;
 
 pub use counters::{Counter, Counters};
 pub use job::{Job, Pace, Task};
+pub use lists::{quotas, ring_lists};
 pub use running::{bring, run};
+pub use serving::serve;
