@@ -1,3 +1,6 @@
 pub mod CounterSteps
 pub mod Chains
 pub mod RingLists
+pub mod Passing
+pub mod FreshRings
+pub mod Ending
