@@ -100,7 +100,7 @@ feed_stands rows cs blocks c n amount k next lt e had within is key more total o
     (λ d ne. let other : (c == d) ≡ false = grind (arith, nat_tests) in rw other (longer_none (blocks d)))
 
 -- where the block is here its counter is there
-counter_there : (rows : List (List ℕ)) (cs : List (Option Counter)) (c : ℕ) → Here (CountersStand rows cs) c → (k : Counter) × (slice_get cs c ≡ Some (Some k))
+pub counter_there : (rows : List (List ℕ)) (cs : List (Option Counter)) (c : ℕ) → Here (CountersStand rows cs) c → (k : Counter) × (slice_get cs c ≡ Some (Some k))
 counter_there rows cs c h = go (slice_get cs c) refl (subst (λ (b : Option (List Act)). CounterAt rows c (slice_get cs c) b) h.here (h.stands c))
   where
     go : (o : Option (Option Counter)) → slice_get cs c ≡ o → CounterAt rows c o (Some h.had) → (k : Counter) × (slice_get cs c ≡ Some (Some k))

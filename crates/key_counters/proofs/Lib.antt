@@ -4,3 +4,4 @@ pub mod RingLists
 pub mod Passing
 pub mod FreshRings
 pub mod Ending
+pub mod Totals

@@ -6,13 +6,15 @@
 #![tactic(auto)]
 
 mod counters;
+mod counting;
 mod job;
 mod lists;
 mod running;
 mod serving;
 
 pub use counters::{Counter, Counters};
+pub use counting::count;
 pub use job::{Job, Pace, Task};
-pub use lists::{quotas, ring_lists};
+pub use lists::{ring_lists, ring_quotas};
 pub use running::{bring, run};
 pub use serving::serve;

@@ -58,7 +58,7 @@ fn push_items(list: &mut Vec<Feed>, c: u32, count: u32) -> Result<(), AllocError
 }
 
 /// Each ring may enter the feeds of its list, and asks nothing.
-pub fn quotas(alloc: Global, lists: &[Vec<Feed>]) -> Result<Vec<Quota>, AllocError>
+pub fn ring_quotas(alloc: Global, lists: &[Vec<Feed>]) -> Result<Vec<Quota>, AllocError>
     requires { All (λ list. length list.items < 2 ^ 32) lists.now }
     ensures { IfOk result (λ v. pairs v.items ≡ no_asks lists.now) }
 {
