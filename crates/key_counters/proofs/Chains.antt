@@ -1,14 +1,14 @@
 -- A ring that brings one chain after another, and then closes.
-use Rattle.std.proofs.Common.{◌≡◌, ℕ, zero, suc, take, drop, ◌+◌, ◌%◌, ◌<◌, List, [], ◌∷◌, ◌++◌, length, refl, ap, sym, ◌∙◌, subst, arith, append_assoc, length-append}
+use Rattle.std.proofs.Common.{◌≡◌, ℕ, take, drop, ◌+◌, ◌%◌, List, [], ◌∷◌, ◌++◌, length, refl, ap, sym, ◌∙◌, subst, arith, append_assoc, length-append}
 use Rattle.std.proofs.lemmas.List.{append-nil, take-append-drop}
 use Rattle.turn_gate.specs.History.{Begins, only}
 use Rattle.turn_gate.specs.Passes.{IsPassOf, number, seen, mine}
 use Rattle.turn_gate.specs.declared.pass.Pass.{Pass}
 use Rattle.perimeter_core.specs.declared.entries.Feed.{Feed as FeedOf}
 use Rattle.perimeter_core.specs.declared.entries.Entry.{Entry}
-use Rattle.perimeter_core.specs.declared.entries.Entry.TheVariants.{Feed, Ask}
+use Rattle.perimeter_core.specs.declared.entries.Entry.TheVariants.{Feed}
 use Rattle.perimeter_core.specs.Perimeter.{State, is_here}
-use Rattle.perimeter_core.specs.History.{Element, Setting, Limits, start, run, made_by}
+use Rattle.perimeter_core.specs.History.{Element, Limits, start, run, made_by}
 use Rattle.perimeter_core.specs.Deeds.{entries, feeds_of, due}
 use Rattle.perimeter_core.specs.Legal.{Legal, feeds_by, asks_by}
 use Rattle.perimeter_core.proofs.FeedLists.{feeds_of-append}

@@ -1,15 +1,14 @@
 -- What the jobs have done, and what the history is then.
-use Rattle.std.proofs.Common.{◌≡◌, ◌≢◌, ℕ, zero, suc, ◌+◌, ◌%◌, ◌<◌, ◌≤◌, Bool, true, false, if◌then◌else◌, inl, inr, Option, Some, None, List, [], ◌∷◌, ◌++◌, length, slice_index, slice_index_or, refl, ap, sym, ◌∙◌, subst, arith}
+use Rattle.std.proofs.Common.{◌≡◌, ◌≢◌, ℕ, suc, ◌+◌, ◌%◌, ◌<◌, Bool, true, if◌then◌else◌, inl, inr, Option, Some, None, List, [], ◌∷◌, ◌++◌, length, slice_index, slice_index_or, refl, ap, sym, ◌∙◌, arith}
 use Rattle.turn_gate.specs.History.{Each, Has}
-use Rattle.turn_gate.specs.Passes.{IsPassOf, number, seen}
+use Rattle.turn_gate.specs.Passes.{number, seen}
 use Rattle.turn_gate.specs.declared.pass.Pass.{Pass}
 use Rattle.perimeter_core.specs.declared.entries.Feed.{Feed as FeedOf}
 use Rattle.perimeter_core.specs.declared.entries.Entry.{Entry}
-use Rattle.perimeter_core.specs.declared.marks.Own.{Own}
 use Rattle.perimeter_core.specs.declared.marks.Own.TheVariants.{Free, Out}
-use Rattle.perimeter_core.specs.Perimeter.{State, is_here}
-use Rattle.perimeter_core.specs.History.{Element, Setting, Limits, start, run, worker}
-use Rattle.perimeter_core.specs.Deeds.{entries, feeds_of, fed, due, acts}
+use Rattle.perimeter_core.specs.Perimeter.{is_here}
+use Rattle.perimeter_core.specs.History.{Element, Setting, Limits, run}
+use Rattle.perimeter_core.specs.Deeds.{entries, feeds_of, due, acts}
 use Rattle.perimeter_core.specs.Legal.{Legal}
 use Rattle.perimeter_core.specs.Ending.{IsOver}
 use Rattle.perimeter_core.specs.Backlog.{queue}

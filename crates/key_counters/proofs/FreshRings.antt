@@ -5,9 +5,8 @@ use Rattle.turn_gate.specs.Passes.{IsPassOf, number, seen}
 use Rattle.turn_gate.specs.declared.pass.Pass.{Pass}
 use Rattle.perimeter_core.specs.declared.entries.Feed.{Feed as FeedOf}
 use Rattle.perimeter_core.specs.declared.entries.Entry.{Entry}
-use Rattle.perimeter_core.specs.declared.entries.Entry.TheVariants.{Feed, Ask}
 use Rattle.perimeter_core.specs.Perimeter.{State, Idle, is_here}
-use Rattle.perimeter_core.specs.History.{Element, Setting, Limits, start, run, feed_quota}
+use Rattle.perimeter_core.specs.History.{Element, Setting, Limits, start, run}
 use Rattle.perimeter_core.specs.Deeds.{entries, due}
 use Rattle.perimeter_core.specs.Legal.{Enters, one_more, feeds_by}
 use Rattle.squeue_state.specs.Naming.{Named, setting_of}
@@ -18,7 +17,7 @@ use Rattle.key_counters.specs.declared.job.Job.{Job}
 use Rattle.key_counters.specs.declared.job.Task.{Task}
 use Rattle.key_counters.specs.declared.job.Task.TheVariants as Task'
 use Rattle.key_counters.specs.Lists.{items_of, list_of}
-use Rattle.key_counters.specs.Running.{MayRun, ReadyFor, IsReady}
+use Rattle.key_counters.specs.Running.{ReadyFor, IsReady}
 use Rattle.key_counters.specs.Serving.{ServesRings, IsNewFor, IsNew, items_in}
 use Rattle.key_counters.proofs.Chains.{entries_append}
 
@@ -28,9 +27,14 @@ enters_items : (S : Setting) (s : State) (p c n k : ℕ) (next : ℕ → ℕ) (e
 enters_items S s p c n zero next es mine here is within rest = rest next (λ d other. refl)
 enters_items S s p c n (suc k) next es mine here is within rest =
     let one : (c == c) ≡ true = grind (arith, nat_tests) in
-    let more : suc n ≡ (if c == c then next c + 1 else next c) = rw one (omega (arith, is)) in
-    (mine, here, is, omega arith, enters_items S s p c (suc n) k (one_more c next) es mine here more (omega arith)
-    (λ later same. rest later (λ d other. let b : (c == d) ≡ false = grind (arith, nat_tests) in same d other ∙ (rw b refl))))
+    let more : suc n ≡ (if c == c then next c + 1 else next c) = rw one (omega (arith, is)) in (
+      mine,
+      here,
+      is,
+      omega arith,
+      enters_items S s p c (suc n) k (one_more c next) es mine here more (omega arith)
+          (λ later same. rest later (λ d other. let b : (c == d) ≡ false = grind (arith, nat_tests) in same d other ∙ (rw b refl))),
+    )
 
 enters_key : (S : Setting) (s : State) (p c k : ℕ) (next : ℕ → ℕ) (es : List Entry) (b : Bool) → (c % S.rings == p) ≡ b → is_here s c ≡ true → next c ≡ 0 → k ≤ slice_index S.limits.feeds c
     → ((later : ℕ → ℕ) → ((d : ℕ) → c ≢ d → later d ≡ next d) → Enters S s p later es) → Enters S s p next (entries (if b then items_of c 0 k else []) ++ es)

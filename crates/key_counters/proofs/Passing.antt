@@ -1,10 +1,10 @@
 -- Passes that go to jobs and come back.
-use Rattle.std.proofs.Common.{◌≡◌, ℕ, ◌+◌, ◌<◌, ◌≤◌, ◌⊎◌, inl, inr, Option, Some, None, List, [], ◌∷◌, ◌++◌, length, take, drop, slice_index_or, refl, ap, sym, ◌∙◌, subst, arith, zero, suc}
+use Rattle.std.proofs.Common.{◌≡◌, ℕ, ◌+◌, ◌<◌, ◌≤◌, ◌⊎◌, inl, inr, Option, Some, None, List, [], ◌∷◌, ◌++◌, length, take, drop, slice_index_or, refl, ap, subst, arith, zero, suc}
 use Rattle.std.proofs.lemmas.Bool.{cases_eq}
 use Rattle.std.specs.Prelude.{All}
 use Rattle.std.proofs.lemmas.List.Elements.{All-nil, All-cons}
 use Rattle.turn_gate.specs.History.{Each, Has}
-use Rattle.turn_gate.specs.Passes.{IsPassOf, AreAll, AreFresh, number, seen}
+use Rattle.turn_gate.specs.Passes.{IsPassOf, AreFresh, number, seen}
 use Rattle.turn_gate.specs.declared.pass.Pass.{Pass}
 use Rattle.atomic_table.specs.Seated.{TableId}
 use Rattle.perimeter_core.specs.History.{Element, Limits}
@@ -96,10 +96,10 @@ pub somewhere_next : (n : ℕ) (left : List Job) (j : Job) (ps : List (Pass Elem
 somewhere_next n left j ps p is old q b =
     elim (old q b) [
       | inl h ↦
-        elim (has_last (λ (j : Job). HasNumber q j.pass) left j h) [
-          | inl k ↦ inl k
-          | inr k ↦ inr (has_end (λ (p : Pass Element). number p ≡ q) ps p (subst (HasNumber q) is k))
-        ]
+          elim (has_last (λ (j : Job). HasNumber q j.pass) left j h) [
+            | inl k ↦ inl k
+            | inr k ↦ inr (has_end (λ (p : Pass Element). number p ≡ q) ps p (subst (HasNumber q) is k))
+          ]
       | inr h ↦ inr (has_front (λ (p : Pass Element). number p ≡ q) ps p h)
     ]
 

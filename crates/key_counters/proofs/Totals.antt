@@ -1,5 +1,5 @@
 -- From what a squeue of counters is made with to the totals.
-use Rattle.std.proofs.Common.{◌≡◌, ◌≢◌, ℕ, zero, suc, ◌+◌, ◌^◌, ◌<◌, ◌≤◌, Bool, true, false, nat_lt, if◌then◌else◌, Option, Some, None, Result, Ok, Err, IfOk, List, [], ◌∷◌, ◌++◌, Vec, length, map, take, sum, slice_get, slice_index, slice_index_or, is_some, refl, ap, sym, ◌∙◌, subst, arith}
+use Rattle.std.proofs.Common.{◌≡◌, ℕ, zero, suc, ◌+◌, ◌^◌, ◌<◌, ◌≤◌, Bool, true, false, nat_lt, if◌then◌else◌, Option, Some, None, Result, Ok, Err, IfOk, List, [], ◌∷◌, Vec, length, map, take, sum, slice_get, slice_index_or, is_some, refl, ap, sym, ◌∙◌, arith}
 use Rattle.std.specs.Prelude.{All}
 use Rattle.std.proofs.lemmas.Bool.Decides.{nat_tests}
 use Rattle.std.proofs.lemmas.List.{length-map, take_all}
@@ -8,14 +8,13 @@ use Rattle.std.proofs.lemmas.List.Sums.{sum_by-cons}
 use Rattle.perimeter_core.specs.declared.entries.Act.{Act}
 use Rattle.perimeter_core.specs.declared.entries.Feed.{Feed as FeedOf}
 use Rattle.perimeter_core.specs.History.{feed_quotas}
-use Rattle.perimeter_core.specs.Blocks.{Blocks}
 use Rattle.perimeter_core.specs.Residing.{HadFeeds}
 use Rattle.perimeter_core.proofs.LogSteps.{here_of_feeds}
 use Rattle.squeue_state.specs.Naming.{Given}
 use Rattle.squeue_state.specs.Words.{IsMade, StandsEmpty, ask_quotas}
 use Rattle.key_counters.specs.declared.counters.Counter.{Counter}
 use Rattle.key_counters.specs.declared.counters.Counters.{Counters}
-use Rattle.key_counters.specs.Counting.{CountersStand, Stands, all_new, limits_of, size_of, rows_of, row_of, total_of}
+use Rattle.key_counters.specs.Counting.{CountersStand, Stands, all_new, limits_of, size_of, row_of, total_of}
 use Rattle.key_counters.specs.Lists.{list_of, AreLists, no_asks}
 use Rattle.key_counters.specs.Serving.{ServesRings}
 use Rattle.key_counters.proofs.CounterSteps.{counter_there, its_counter}

@@ -1,5 +1,5 @@
 -- The feeds that each ring brings.
-use Rattle.std.specs.Prelude.{◌≡◌, ℕ, ◌+◌, ◌%◌, ◌==◌, if◌then◌else◌, List, [], ◌∷◌, ◌++◌, Vec, length, map, zero, suc}
+use Rattle.std.specs.Prelude.{◌≡◌, ℕ, ◌%◌, ◌==◌, if◌then◌else◌, List, [], ◌∷◌, ◌++◌, Vec, length, map, zero, suc}
 use Rattle.perimeter_core.specs.declared.entries.Feed.{Feed}
 
 -- k feeds of key c, from number n on

@@ -1,6 +1,6 @@
 -- What is known of passes and jobs at the beginning and at the end of a run.
 use Rattle.std.specs.Prelude.{◌≡◌, ℕ, ◌%◌, ◌<◌, ◌≤◌, true, false, Option, Some, None, List, [], length, slice_index, slice_index_or}
-use Rattle.turn_gate.specs.History.{Each, Has}
+use Rattle.turn_gate.specs.History.{Has}
 use Rattle.turn_gate.specs.Passes.{IsPassOf, number, seen}
 use Rattle.turn_gate.specs.declared.pass.Pass.{Pass}
 use Rattle.perimeter_core.specs.Perimeter.{is_here}

@@ -11,6 +11,8 @@ mod job;
 mod lists;
 mod running;
 mod serving;
+#[cfg(test)]
+mod tests;
 
 pub use counters::{Counter, Counters};
 pub use counting::count;

@@ -32,7 +32,12 @@ pub fn run<R: Resident + Send, H: Hook + Sync, W: Threads + Wait + Sync>(
         return;
     }
     let threads = jobs.len();
-    for_each_mut(rt, jobs, threads, &|_, job: &mut Job| run_job(rt, sq, alloc, hook, pace, job));
+    for_each_mut(
+        rt,
+        jobs,
+        threads,
+        &|_, job: &mut Job| run_job(rt, sq, alloc, hook, pace, job),
+    );
 }
 
 fn run_job<R: Resident, H: Hook, W: Wait>(

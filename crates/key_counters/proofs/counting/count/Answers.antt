@@ -58,7 +58,7 @@ serve-counters-requires-clause-lists g c κs within =
     let counts : (limits_of counters).feeds ≡ map (λ row. length row.items) rows = ap (map length) c.in_ok-counters.ensures.amounts ∙ lengths_of (λ row. row.items) rows in (
       c.in_ok-lists.ensures.count ∙ sym m.its_rings,
       subst (λ (n : ℕ). AreLists n (limits_of c.in-Ok.squeue.given.first).feeds 0 lists) (sym m.its_rings)
-      (subst (λ (ns : List ℕ). AreLists c.args.rings ns 0 lists) (sym (ap (λ (x : Counters). (limits_of x).feeds) m.its_first ∙ counts)) c.in_ok-lists.ensures.lists),
+          (subst (λ (ns : List ℕ). AreLists c.args.rings ns 0 lists) (sym (ap (λ (x : Counters). (limits_of x).feeds) m.its_first ∙ counts)) c.in_ok-lists.ensures.lists),
     )
 
 pub returns-in-Ok : goal.returns-in-Ok
@@ -71,6 +71,6 @@ returns-in-Ok g c =
     let rows : rows_of r ≡ map (λ row. row.items) amounts = same ∙ (ap rows_of c.in-Ok.ensures.given.its_first ∙ c.in_ok-counters.ensures.amounts) in
     let long : length r.counters.items ≡ length (rows_of r) = r.places ∙ sym (length-map r.amounts.now (λ row. row.items)) in
     let had : (i : ℕ) → i < length (rows_of r) → HadFeeds (CountersStand (rows_of r) r.counters.items) i (length (row_of (rows_of r) i)) =
-        λ i lt. subst (HadFeeds (CountersStand (rows_of r) r.counters.items) i) (limit_is (rows_of first) i ∙ ap (λ (xs : List (List ℕ)). length (row_of xs i)) (sym same)) (end.fed i (omega (arith, lt, long, end.size))) in
+    λ i lt. subst (HadFeeds (CountersStand (rows_of r) r.counters.items) i) (limit_is (rows_of first) i ∙ ap (λ (xs : List (List ℕ)). length (row_of xs i)) (sym same)) (end.fed i (omega (arith, lt, long, end.size))) in
     let sums : map total_of r.counters.items ≡ map (λ row. sum row.items) amounts = totals_are (rows_of r) r.counters.items long had ∙ (ap (map sum) rows ∙ sums_of (λ row. row.items) amounts) in
     if_ok _ _ c.totals.result (λ v is. is ∙ sums) c.totals.ensures

@@ -1,5 +1,4 @@
-use Rattle.std.proofs.Common.{◌≡◌, ◌+◌, ◌∷◌, [], length, map, sym, subst, arith, length-append}
-use Rattle.key_counters.specs.Lists.{AreLists}
+use Rattle.std.proofs.Common.{◌∷◌, [], length, map, arith, length-append}
 use Rattle.key_counters.proofs.RingLists.{lists_more}
 use Rattle.key_counters.proofs.lists.ring_lists.Goals as goal
 

@@ -1,4 +1,3 @@
-use Rattle.std.proofs.Common.{◌≡◌, ◌++◌, sym, ◌∙◌}
 use Rattle.key_counters.proofs.Chains.{may_chain, one_chain, split}
 use Rattle.key_counters.proofs.running.bring.Goals as goal
 

@@ -1,4 +1,4 @@
-use Rattle.std.proofs.Common.{◌≡◌, ◌+◌, ◌<◌, ℕ, Some, List, [], ◌∷◌, ◌++◌, length, sym, ap, ◌∙◌, subst, arith, rules, length-append}
+use Rattle.std.proofs.Common.{◌≡◌, ◌+◌, ℕ, Some, List, [], ◌∷◌, length, sym, ap, ◌∙◌, subst, arith, rules, length-append}
 use Rattle.turn_gate.specs.History.{Each, Has}
 use Rattle.turn_gate.specs.Passes.{AreFresh, number}
 use Rattle.squeue_state.specs.Elements.{number_of}

@@ -1,4 +1,4 @@
-use Rattle.std.proofs.Common.{◌≡◌, ◌+◌, ◌<◌, ℕ, List, length, sym, ap, ◌∙◌, subst, arith}
+use Rattle.std.proofs.Common.{◌≡◌, length, sym, ap, subst, arith}
 use Rattle.turn_gate.specs.History.{Each, Has}
 use Rattle.perimeter_core.specs.History.{Setting, run}
 use Rattle.perimeter_core.specs.Legal.{Legal}

@@ -1,4 +1,4 @@
-use Rattle.std.proofs.Common.{◌≡◌, ◌+◌, ◌<◌, ◌++◌, Some, inl, List, [], ◌∷◌, length, sym, ap, ◌∙◌, subst, arith, rules, length-append}
+use Rattle.std.proofs.Common.{◌≡◌, ◌+◌, inl, List, [], ◌∷◌, length, sym, ap, subst, arith, rules, length-append}
 use Rattle.turn_gate.specs.History.{Each}
 use Rattle.key_counters.specs.declared.job.Job.{Job}
 use Rattle.key_counters.specs.Serving.{IsDone, HasDone}

@@ -1,4 +1,4 @@
-use Rattle.std.proofs.Common.{◌≡◌, ◌+◌, ◌≤◌, length, vec_capacity}
+use Rattle.std.proofs.Common.{◌+◌, ◌≤◌, length, vec_capacity}
 use Rattle.turn_gate.specs.History.{Each}
 use Rattle.key_counters.specs.Serving.{IsDone, HasDone}
 use Rattle.key_counters.proofs.Passing.{Somewhere}
