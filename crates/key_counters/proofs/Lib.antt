@@ -1,0 +1,7 @@
+pub mod CounterSteps
+pub mod Chains
+pub mod RingLists
+pub mod Passing
+pub mod FreshRings
+pub mod Ending
+pub mod Totals

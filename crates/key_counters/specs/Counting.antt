@@ -1,0 +1,61 @@
+-- What the resident of counters stands for.
+use Rattle.std.specs.Prelude.{◌≡◌, ◌≤◌, ℕ, Option, Some, None, List, [], length, map, sum, take, if◌then◌else◌, nat_lt, slice_get, slice_index_or}
+use Rattle.perimeter_core.specs.declared.entries.Act.{Act}
+use Rattle.perimeter_core.specs.History.{Limits}
+use Rattle.perimeter_core.specs.Deeds.{feed_numbers}
+use Rattle.perimeter_core.specs.Blocks.{Blocks}
+use Rattle.perimeter_core.specs.Backlog.{up}
+use Rattle.key_counters.specs.declared.counters.Counter.{Counter}
+use Rattle.key_counters.specs.declared.counters.Counters.{Counters}
+
+-- for each key its amounts
+abbrev pub rows_of : Counters → List (List ℕ)
+rows_of r = map (λ row. row.items) r.amounts.now
+
+abbrev pub row_of : List (List ℕ) → ℕ → List ℕ
+row_of rows c = slice_index_or rows c []
+
+-- The counter of key c, whose amounts are given: its total is the sum of as many first amounts as it had
+pub record Counts (c : ℕ) (row : List ℕ) (k : Counter) : Type 0 where
+  pub key : k.key ≡ c
+  pub within : k.had ≤ length row
+  pub total : k.total ≡ sum (take k.had row)
+
+abbrev pub IsPartOf : List (List ℕ) → ℕ → Counter → Type 0
+IsPartOf rows c k = Counts c (row_of rows c) k
+
+-- the counter has had the feeds from 0 on
+abbrev pub HasHad : Counter → List Act → Type 0
+HasHad k had = feed_numbers had ≡ up 0 k.had
+
+-- what stands at the place of key c is its counter, and there is one exactly where the key is here
+abbrev pub CounterAt : List (List ℕ) → ℕ → Option (Option Counter) → Option (List Act) → Type 0
+CounterAt rows c (Some (Some k)) (Some had) = IsPartOf rows c k × HasHad k had
+CounterAt rows c (Some (Some k)) None = ⊥
+CounterAt rows c (Some None) (Some had) = ⊥
+CounterAt rows c (Some None) None = Unit {0}
+CounterAt rows c None (Some had) = ⊥
+CounterAt rows c None None = Unit {0}
+
+abbrev pub CountersStand : List (List ℕ) → List (Option Counter) → Blocks → Type 0
+CountersStand rows counters blocks = (c : ℕ) → CounterAt rows c (slice_get counters c) (blocks c)
+
+abbrev pub Stands : Counters → Blocks → Type 0
+Stands r blocks = CountersStand (rows_of r) r.counters.items blocks
+
+-- how many keys there are
+abbrev pub size_of : Counters → ℕ
+size_of r = length r.counters.items
+
+-- each key has a feed for each of its amounts; no counter leaves, and there are no calls
+abbrev pub limits_of : Counters → Limits
+limits_of r = record { feeds = map length (rows_of r); leaves = []; calls = [] }
+
+-- n keys are here, and nothing was done to their counters
+abbrev pub all_new : ℕ → Blocks
+all_new n c = if nat_lt c n then Some [] else None
+
+-- what a place holds for the totals
+abbrev pub total_of : Option Counter → ℕ
+total_of (Some k) = k.total
+total_of None = 0

@@ -1,0 +1,5 @@
+pub mod Counting
+pub mod CounterLaws
+pub mod Running
+pub mod Lists
+pub mod Serving

@@ -1,0 +1,57 @@
+-- What the threads of a run need, and what they do.
+use Rattle.std.specs.Prelude.{◌≡◌, ℕ, ◌+◌, ◌%◌, Option, Some, None, List, length}
+use Rattle.turn_gate.specs.Passes.{IsPassOf, number, seen}
+use Rattle.turn_gate.specs.declared.pass.Pass.{Pass}
+use Rattle.perimeter_core.specs.declared.entries.Feed.{Feed}
+use Rattle.perimeter_core.specs.Perimeter.{is_here}
+use Rattle.perimeter_core.specs.History.{Element, Limits, run, worker}
+use Rattle.perimeter_core.specs.Deeds.{entries, feeds_of, due}
+use Rattle.perimeter_core.specs.Ending.{IsOver}
+use Rattle.squeue_state.specs.Naming.{Named, setting_of}
+use Rattle.squeue_state.specs.Elements.{number_of}
+use Rattle.squeue_enter.specs.Entering.{MayEnter}
+use Rattle.key_counters.specs.declared.job.Job.{Job}
+use Rattle.key_counters.specs.declared.job.Task.{Task}
+use Rattle.key_counters.specs.declared.job.Task.TheVariants as Task'
+
+-- A ring has entered these feeds and closed its pass: the next feed of each of its connections is so many further, and its
+-- block has neither come nor gone
+pub record HasClosed {R : Type 0} (limits : R → Limits) (s : Named R) (es : List Feed) (from to : Pass Element) : Type 0 where
+  pub is_pass : IsPassOf number_of s.gate to
+  pub same_number : number to ≡ number from
+  pub next : (c : ℕ) → number from ≡ c % s.given.rings → due (seen to) c ≡ due (seen from) c + length (feeds_of c (entries es))
+  pub here : (c : ℕ) → number from ≡ c % s.given.rings → is_here (run (setting_of limits s.given) (seen to)) c ≡ is_here (run (setting_of limits s.given) (seen from)) c
+
+-- The worker has seen the end
+pub record HasWorked {R : Type 0} (limits : R → Limits) (s : Named R) (from to : Pass Element) : Type 0 where
+  pub is_pass : IsPassOf number_of s.gate to
+  pub same_number : number to ≡ number from
+  pub over : IsOver (setting_of limits s.given) (run (setting_of limits s.given) (seen to))
+
+module _ {R : Type 0} (limits : R → Limits) (s : Named R) where
+  -- what a task needs of its pass
+  abbrev pub MayRun : Task → Pass Element → Type 0
+  MayRun (Task'.Bring list) p = MayEnter limits s p list.items
+  MayRun Task'.Work p = IsPassOf number_of s.gate p × (number p ≡ worker (setting_of limits s.given))
+
+  -- what a pass has done
+  abbrev pub HasRun : Task → Pass Element → Pass Element → Type 0
+  HasRun (Task'.Bring list) from to = HasClosed limits s list.items from to
+  HasRun Task'.Work from to = HasWorked limits s from to
+
+  abbrev pub ReadyFor : Task → Option (Pass Element) → Type 0
+  ReadyFor task None = ⊥
+  ReadyFor task (Some p) = MayRun task p
+
+  -- the job has a pass for its task
+  abbrev pub IsReady : Job → Type 0
+  IsReady j = ReadyFor j.task j.pass
+
+  abbrev pub RanFor : Task → Option (Pass Element) → Option (Pass Element) → Type 0
+  RanFor task (Some p) (Some q) = HasRun task p q
+  RanFor task (Some p) None = ⊥
+  RanFor task None q = ⊥
+
+  -- the job is done
+  abbrev pub Ran : Job → Job → Type 0
+  Ran old new = RanFor old.task old.pass new.pass

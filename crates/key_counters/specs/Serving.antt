@@ -1,0 +1,61 @@
+-- What is known of passes and jobs at the beginning and at the end of a run.
+use Rattle.std.specs.Prelude.{◌≡◌, ℕ, ◌%◌, ◌<◌, ◌≤◌, true, false, Option, Some, None, List, [], length, slice_index, slice_index_or}
+use Rattle.turn_gate.specs.History.{Has}
+use Rattle.turn_gate.specs.Passes.{IsPassOf, number, seen}
+use Rattle.turn_gate.specs.declared.pass.Pass.{Pass}
+use Rattle.perimeter_core.specs.Perimeter.{is_here}
+use Rattle.perimeter_core.specs.History.{Element, Limits, run, worker}
+use Rattle.perimeter_core.specs.Deeds.{due}
+use Rattle.perimeter_core.specs.Ending.{IsOver}
+use Rattle.squeue_state.specs.Naming.{Given, Named, setting_of}
+use Rattle.squeue_state.specs.Elements.{number_of}
+use Rattle.key_counters.specs.declared.job.Job.{Job}
+use Rattle.key_counters.specs.declared.job.Task.{Task}
+use Rattle.key_counters.specs.declared.job.Task.TheVariants as Task'
+use Rattle.key_counters.specs.Lists.{list_of}
+
+module _ {R : Type 0} (limits : R → Limits) where
+  -- how many feeds each connection may have
+  abbrev pub items_in : Given R → List ℕ
+  items_in g = (limits g.first).feeds
+
+  -- A squeue that serves rings alone: all connections are here, and each ring may enter all feeds of its connections
+  pub record ServesRings (g : Given R) : Type 0 where
+    pub rings : g.rings ≡ length g.quotas
+    pub few : 1 ≤ g.rings
+    pub here : (c : ℕ) → c < length g.starts → slice_index_or g.starts c false ≡ true
+    pub counts : length (items_in g) ≤ length g.starts
+    pub quotas : (r : ℕ) → r < g.rings → (slice_index_or g.quotas r (0, 0)).0 ≡ length (list_of g.rings r 0 (items_in g))
+
+module _ {R : Type 0} (limits : R → Limits) (s : Named R) where
+  -- a pass of the squeue that has seen nothing, with its task: a ring brings its list, the last pass works
+  abbrev pub IsNewFor : Task → Option (Pass Element) → Type 0
+  IsNewFor task None = ⊥
+  IsNewFor (Task'.Bring list) (Some p) = IsPassOf number_of s.gate p × (seen p ≡ []) × (number p < s.given.rings) × (list.items ≡ list_of s.given.rings (number p) 0 (items_in limits s.given))
+  IsNewFor Task'.Work (Some p) = IsPassOf number_of s.gate p × (seen p ≡ []) × (number p ≡ worker (setting_of limits s.given))
+
+  abbrev pub IsNew : Job → Type 0
+  IsNew j = IsNewFor j.task j.pass
+
+  -- The pass has brought all feeds of its connections, which are here; the worker's has seen the end
+  pub record HasDone (p : Pass Element) : Type 0 where
+    pub is_pass : IsPassOf number_of s.gate p
+    pub brought : (c : ℕ) → number p ≡ c % s.given.rings → due (seen p) c ≡ slice_index (items_in limits s.given) c
+    pub here : (c : ℕ) → c < length s.given.starts → number p ≡ c % s.given.rings → is_here (run (setting_of limits s.given) (seen p)) c ≡ true
+    pub over : number p ≡ worker (setting_of limits s.given) → IsOver (setting_of limits s.given) (run (setting_of limits s.given) (seen p))
+
+  abbrev pub HasDoneIn : Option (Pass Element) → Type 0
+  HasDoneIn None = ⊥
+  HasDoneIn (Some p) = HasDone p
+
+  abbrev pub IsDone : Job → Type 0
+  IsDone j = HasDoneIn j.pass
+
+-- the pass in the place has this number
+abbrev pub HasNumber : ℕ → Option (Pass Element) → Type 0
+HasNumber q None = ⊥
+HasNumber q (Some p) = number p ≡ q
+
+-- there is a job for each of n passes
+abbrev pub AreNumbered : ℕ → List Job → Type 0
+AreNumbered n jobs = (q : ℕ) → q < n → Has (λ (j : Job). HasNumber q j.pass) jobs

@@ -1,0 +1,41 @@
+//! From the amounts to the totals.
+ghost use Rattle.std.specs.Prelude.{◌≡◌, ◌^◌, ◌<◌, ◌≤◌, IfOk, length, map, sum};
+
+use crate::counters::Counters;
+use crate::job::Pace;
+use crate::lists::{ring_lists, ring_quotas};
+use crate::serving::serve;
+use perimeter_core::NoHook;
+use squeue_state::Squeue;
+use std::alloc::{AllocError, Global};
+use std::sync::Wait;
+use std::thread::Threads;
+
+/// The sum of each key's amounts, added up by one squeue that `rings` rings and a worker serve beside each other.
+pub fn count<W: Threads + Wait + Sync>(
+    rt: &W,
+    alloc: Global,
+    amounts: &[Vec<u32>],
+    rings: u32,
+    pace: Pace,
+) -> Result<Vec<u64>, AllocError>
+    requires rings { (1 ≤ rings) × (rings ≤ 63) }
+    requires keys { length amounts.now < 2 ^ 32 }
+    requires items { sum (map (λ row. length row.items) amounts.now) ≤ 2 ^ 30 }
+    ensures { IfOk result (λ v. v.items ≡ map (λ row. sum row.items) amounts.now) }
+{
+    let lists = ring_lists(alloc, amounts, rings)?;
+    let quotas = ring_quotas(alloc, &lists)?;
+    let counters = Counters::make(alloc, amounts)?;
+    let jobs = Vec::with_capacity(alloc, quotas.len() + 1)?;
+    match Squeue::make(alloc, 0, counters, rings, &quotas, false) {
+        Ok((squeue, passes)) => {
+            let counters = serve(rt, squeue, alloc, &NoHook, pace, passes, lists, jobs);
+            counters.totals(alloc)
+        }
+        Err(error) => {
+            jobs.destroy_empty();
+            Err(error)
+        }
+    }
+}

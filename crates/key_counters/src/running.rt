@@ -1,0 +1,111 @@
+//! The threads of a run: each ring enters its feeds and closes its pass, and the worker processes what they leave queued.
+//! All of them run beside each other, and share the squeue by reference. Nothing here knows which resident is served.
+ghost use Rattle.std.specs.Prelude.{◌≡◌, ◌<◌, ℕ, All, length, slice_index_or};
+ghost use Rattle.turn_gate.specs.Passes.{number};
+ghost use Rattle.squeue_enter.specs.Entering.{MayEnter, Brought, MayGoOn};
+ghost use Rattle.key_counters.specs.declared.job.Job.{Job};
+ghost use Rattle.key_counters.specs.Running.{MayRun, HasRun, IsReady, Ran};
+
+use crate::job::{Job, Pace, Task};
+use perimeter_core::{Feed, Hook, Resident};
+use squeue_drain::worker;
+use squeue_enter::{Entered, enter};
+use squeue_state::{Pass, Squeue};
+use std::alloc::Global;
+use std::sync::Wait;
+use std::thread::{Threads, for_each_mut};
+
+/// Runs the jobs beside each other, each in a thread of its own, until all are done. The worker's job waits for the others,
+/// so it stands last: where no thread can be made they run in order.
+pub fn run<R: Resident + Send, H: Hook + Sync, W: Threads + Wait + Sync>(
+    rt: &W,
+    sq: &Squeue<R>,
+    alloc: Global,
+    hook: &H,
+    pace: Pace,
+    jobs: &mut [Job],
+)
+    requires { All (IsReady R.limits sq.now) jobs.old }
+    ensures { (k : ℕ) (d : Job) → k < length jobs.old → Ran R.limits sq.now (slice_index_or jobs.old k d) (slice_index_or jobs.new k d) }
+{
+    if jobs.is_empty() {
+        return;
+    }
+    let threads = jobs.len();
+    for_each_mut(
+        rt,
+        jobs,
+        threads,
+        &|_, job: &mut Job| run_job(rt, sq, alloc, hook, pace, job),
+    );
+}
+
+fn run_job<R: Resident, H: Hook, W: Wait>(
+    rt: &W,
+    sq: &Squeue<R>,
+    alloc: Global,
+    hook: &H,
+    pace: Pace,
+    job: &mut Job,
+)
+    requires { IsReady R.limits sq.now job.old }
+    ensures { Ran R.limits sq.now job.old job.new }
+{
+    let taken = job.pass.take();
+    let Some(pass) = taken else { unreachable!() };
+    let pass = run_pass(rt, sq, alloc, hook, pace, pass, &job.task);
+    let old = job.pass.replace(pass);
+    let None = old else { unreachable!() };
+}
+
+fn run_pass<R: Resident, H: Hook, W: Wait>(
+    rt: &W,
+    sq: &Squeue<R>,
+    alloc: Global,
+    hook: &H,
+    pace: Pace,
+    pass: Pass,
+    task: &Task,
+) -> Pass
+    requires { MayRun R.limits sq.now task.now pass }
+    ensures { HasRun R.limits sq.now task.now pass result }
+{
+    match task {
+        Task::Bring(list) => {
+            let pass = bring(rt, sq, alloc, hook, pace, pass, list);
+            sq.close_pass(rt, pass)
+        }
+        Task::Work => worker(sq, rt, alloc, hook, pass),
+    }
+}
+
+/// Enters the feeds of the list, one chain after another.
+pub fn bring<R: Resident, H: Hook, W: Wait>(
+    rt: &W,
+    sq: &Squeue<R>,
+    alloc: Global,
+    hook: &H,
+    pace: Pace,
+    pass: Pass,
+    list: &[Feed],
+) -> Pass
+    requires { MayEnter R.limits sq.now pass list.now }
+    ensures number { number result ≡ number pass }
+    ensures brought { Brought R.limits sq.now list.now pass result }
+    ensures more { MayGoOn R.limits sq.now list.now pass result }
+{
+    let mut pass = pass;
+    let mut rest = list;
+    'chains: while !rest.is_empty() {
+        let (chain, behind) = rest.split_at(rest.len().min(pace.chain as usize));
+        let entered = enter(sq, rt, alloc, hook, pass, chain, pace.mode, pace.budget);
+        let Entered {
+            pass: next,
+            how: _,
+            polling: _,
+        } = entered;
+        pass = next;
+        rest = behind;
+    }
+    pass
+}

@@ -1,0 +1,97 @@
+ghost use Rattle.std.specs.Prelude.{◌≡◌, ◌+◌, ◌<◌, ◌≤◌, IfOk, length};
+
+use crate::{Counters, Pace, count};
+use perimeter_core::Resident;
+use squeue_enter::Mode;
+use std::alloc::{AllocError, Global};
+use std::test::*;
+
+// So many amounts, the first of them given, each one more than that before it.
+fn rising(alloc: Global, first: u32, len: u32) -> Result<Vec<u32>, AllocError>
+    ensures { IfOk result (λ v. length v.items ≡ len) }
+{
+    let mut row = Vec::new(alloc);
+    for i in 0..len {
+        row.push(first.saturating_add(i))?;
+    }
+    Ok(row)
+}
+
+// What a plain loop adds up.
+fn summed(row: &[u32]) -> u64 {
+    let mut sum: u64 = 0;
+    for amount in row {
+        sum = sum.saturating_add(u64::from(*amount));
+    }
+    sum
+}
+
+// A mode, the feeds of a chain, and a budget.
+fn pace(mode: Mode, chain: u32, budget: u32) -> Pace
+    requires { (1 ≤ chain) × (1 ≤ budget) }
+{
+    Pace {
+        mode,
+        chain,
+        budget,
+    }
+}
+
+#[test]
+fn totals_are_sums(rt: HostRuntime) -> Result<(), Fail> {
+    let alloc = rt.alloc();
+    let rows = [
+        [1, 2, 3].to_vec(alloc)?,
+        Vec::new(alloc),
+        [u32::MAX, u32::MAX, 1].to_vec(alloc)?,
+        rising(alloc, 5, 200)?,
+        [7].to_vec(alloc)?,
+        rising(alloc, 1_000_000, 70)?,
+    ];
+    let wanted = [6, 0, 8_589_934_591, summed(&rows[3]), 7, summed(&rows[5])];
+    let paces = [
+        pace(Mode::Process, 1, 64),
+        pace(Mode::Process, 32, 64),
+        pace(Mode::Process, 5, 1),
+        pace(Mode::NoDrain, 1, 64),
+        pace(Mode::NoDrain, 32, 64),
+        pace(Mode::Fill, 1, 64),
+        pace(Mode::Fill, 32, 64),
+    ];
+    for rings in [1, 2, 4, 9] {
+        for (i, pace) in paces.iter().enumerate() {
+            let totals = count(&rt, alloc, &rows, rings, *pace)?;
+            assert_eq!(rt;
+                totals.as_slice(),
+                wanted.as_slice(),
+                "{rings} rings, pace {i}"
+            );
+        }
+    }
+    Ok(())
+}
+
+#[test]
+fn no_keys(rt: HostRuntime) -> Result<(), Fail> {
+    let totals = count(&rt, rt.alloc(), &[], 2, pace(Mode::Process, 32, 64))?;
+    assert!(rt; totals.is_empty());
+    Ok(())
+}
+
+#[test]
+fn a_counter_leaves_and_comes_back(rt: HostRuntime) -> Result<(), Fail> {
+    let alloc = rt.alloc();
+    let rows = [[5, 6].to_vec(alloc)?, [7].to_vec(alloc)?];
+    let mut counters = Counters::make(alloc, &rows)?;
+    assert_eq!(rt; counters.conns(), 2);
+    counters.feed(alloc, 0, 0);
+    counters.feed(alloc, 1, 0);
+    assert_eq!(rt; counters.totals(alloc)?.as_slice(), [5, 7].as_slice());
+    let part = counters.take_out(0);
+    assert_eq!(rt; (counters.is_here(0), counters.is_here(1)), (false, true));
+    assert_eq!(rt; counters.totals(alloc)?.as_slice(), [0, 7].as_slice());
+    counters.put_in(0, part);
+    counters.feed(alloc, 0, 1);
+    assert_eq!(rt; counters.totals(alloc)?.as_slice(), [11, 7].as_slice());
+    Ok(())
+}
