@@ -8,7 +8,8 @@ use Rattle.perimeter_core.specs.declared.entries.Act.{Act}
 use Rattle.perimeter_core.specs.declared.entries.Act.TheVariants as Did
 use Rattle.perimeter_core.specs.declared.entries.Entry.TheVariants as Entry'
 use Rattle.perimeter_core.specs.Deeds.{fed, feed_numbers}
-use Rattle.perimeter_core.specs.Blocks.{Blocks, longer, with_feeds}
+use Rattle.perimeter_core.specs.declared.marks.SynchAct.TheVariants as Done
+use Rattle.perimeter_core.specs.Blocks.{Blocks, longer, with_feeds, with_act}
 use Rattle.perimeter_core.specs.Residing.{HadFeeds, Here}
 use Rattle.perimeter_core.specs.Backlog.{up}
 use Rattle.perimeter_core.proofs.FeedLists.{length-up, up-append}
@@ -98,6 +99,26 @@ feed_stands rows cs blocks c n amount k next lt e had within is key more total o
     ) in
     counters_set rows cs c (Some next) blocks (with_feeds (Entry'.Feed c n ∷ []) blocks) lt old (rw one here)
     (λ d ne. let other : (c == d) ≡ false = grind (arith, nat_tests) in rw other (longer_none (blocks d)))
+
+-- one reading more
+pub reading_stands : (rows : List (List ℕ)) (cs : List (Option Counter)) (blocks : Blocks) (c j i : ℕ) (k next : Counter) → c < length cs → slice_get cs c ≡ Some (Some k) → next.key ≡ k.key → next.had ≡ k.had → next.total ≡ k.total
+    → CountersStand rows cs blocks → CountersStand rows (slice_set cs c (Some next)) (with_act (Done.Call c j i) [] blocks)
+reading_stands rows cs blocks c j i k next lt e key had total old =
+    let f = found rows c (slice_get cs c) (blocks c) k e (old c) in
+    let one : (c == c) ≡ true = grind (arith, nat_tests) in
+    let part : IsPartOf rows c next =
+    record {
+      key = key ∙ f.2.key;
+      within = omega (arith, had, f.2.within);
+      total = total ∙ (f.2.total ∙ ap (λ (n : ℕ). sum (take n (row_of rows c))) (sym had));
+    } in
+    let here : CounterAt rows c (Some (Some next)) (longer (Did.Call j i ∷ []) (blocks c)) =
+    rw (some_longer (blocks c) f.0 (Did.Call j i ∷ []) f.1) (
+      part,
+      numbers-append f.0 (Did.Call j i ∷ []) ∙ (append-nil (feed_numbers f.0) ∙ (f.3 ∙ ap (up 0) (sym had))),
+    ) in
+    counters_set rows cs c (Some next) blocks (with_act (Done.Call c j i) [] blocks) lt old (rw one here)
+    (λ d ne. let other : (c == d) ≡ false = grind (arith, nat_tests) in rw other refl)
 
 -- where the block is here its counter is there
 pub counter_there : (rows : List (List ℕ)) (cs : List (Option Counter)) (c : ℕ) → Here (CountersStand rows cs) c → (k : Counter) × (slice_get cs c ≡ Some (Some k))

@@ -1,15 +1,14 @@
 -- The laws of the resident of counters.
-use Rattle.std.specs.Prelude.{◌≡◌, ℕ, ◌<◌, Option, Some, None, List, [], ◌∷◌, length, slice_get}
+use Rattle.std.specs.Prelude.{◌≡◌, ℕ, ◌<◌, All, Option, Some, None, List, [], ◌∷◌, length, slice_get}
 use Rattle.std.proofs.Common.{ap, sym, ◌∙◌, refl, suc, zero, subst, arith}
 use Rattle.std.proofs.lemmas.List.{length-map}
-use Rattle.std.proofs.lemmas.List.Elements.{All-nil}
 use Rattle.perimeter_core.specs.declared.entries.Act.{Act}
 use Rattle.perimeter_core.specs.Deeds.{feed_numbers}
 use Rattle.perimeter_core.specs.Blocks.{Blocks}
 use Rattle.perimeter_core.specs.Residing.{IsWithin, feeds_had, feeds_in}
 use Rattle.key_counters.specs.declared.counters.Counter.{Counter}
 use Rattle.key_counters.specs.declared.counters.Counters.{Counters}
-use Rattle.key_counters.specs.Counting.{HasHad, CounterAt, Stands, rows_of, size_of, limits_of}
+use Rattle.key_counters.specs.Counting.{HasHad, CounterAt, Stands, rows_of, readings_of, size_of, limits_of}
 
 pub counter_same_feeds : (k : Counter) (a b : List Act) → HasHad k a → HasHad k b → feed_numbers a ≡ feed_numbers b
 counter_same_feeds k a b x y = x ∙ sym y
@@ -42,5 +41,5 @@ counters_within r =
     record {
       feeds = omega (arith, r.places, length-map (rows_of r) length, length-map r.amounts.now (λ row. row.items));
       leaves = omega arith;
-      calls = All-nil (λ call. call.0 < size_of r);
+      calls = subst (λ (n : ℕ). All (λ call. call.0 < n) (readings_of r)) (sym r.places) r.named;
     }

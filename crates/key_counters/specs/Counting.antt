@@ -1,5 +1,5 @@
 -- What the resident of counters stands for.
-use Rattle.std.specs.Prelude.{◌≡◌, ◌≤◌, ℕ, Option, Some, None, List, [], length, map, sum, take, if◌then◌else◌, nat_lt, slice_get, slice_index_or}
+use Rattle.std.specs.Prelude.{◌≡◌, ◌≤◌, ℕ, Option, Some, None, List, [], length, map, sum, take, if◌then◌else◌, nat_lt, slice_get, slice_index_or, option_map}
 use Rattle.perimeter_core.specs.declared.entries.Act.{Act}
 use Rattle.perimeter_core.specs.History.{Limits}
 use Rattle.perimeter_core.specs.Deeds.{feed_numbers}
@@ -47,9 +47,13 @@ Stands r blocks = CountersStand (rows_of r) r.counters.items blocks
 abbrev pub size_of : Counters → ℕ
 size_of r = length r.counters.items
 
--- each key has a feed for each of its amounts; no counter leaves, and there are no calls
+-- the readings that there are: key, thread and number
+abbrev pub readings_of : Counters → List (ℕ × ℕ × ℕ)
+readings_of r = r.readings.items
+
+-- each key has a feed for each of its amounts, no counter leaves, and the calls are the readings
 abbrev pub limits_of : Counters → Limits
-limits_of r = record { feeds = map length (rows_of r); leaves = []; calls = [] }
+limits_of r = record { feeds = map length (rows_of r); leaves = []; calls = readings_of r }
 
 -- n keys are here, and nothing was done to their counters
 abbrev pub all_new : ℕ → Blocks
@@ -59,3 +63,7 @@ all_new n c = if nat_lt c n then Some [] else None
 abbrev pub total_of : Option Counter → ℕ
 total_of (Some k) = k.total
 total_of None = 0
+
+-- what the last reading of a key found, if its counter is here
+abbrev pub reading_at : Counters → ℕ → Option ℕ
+reading_at r c = option_map (λ k. k.read) (slice_index_or r.counters.items c None)

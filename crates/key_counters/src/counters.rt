@@ -5,12 +5,13 @@ use perimeter_core::Resident;
 use std::alloc::{AllocError, Global};
 use std::collections::LinkedList;
 
-/// How many amounts of a key were added up, always the first ones, and their sum.
+/// How many amounts of a key were added up, always the first ones, their sum, and the sum that the last reading found.
 #[derive(Drop)]
 pub struct Counter {
     key: u32,
     had: u32,
     total: u64,
+    read: u64,
     ghost bounded: { total ≤ had * 4294967295 },
 }
 
@@ -25,28 +26,45 @@ impl Counter {
         self.total += u64::from(amount);
         self.had += 1;
     }
+
+    // Notes the total as it stands.
+    fn note(&mut self)
+        ensures { self.new ≡ record self.old { read = self.old.total } }
+    {
+        self.read = self.total;
+    }
 }
 
-/// A place for the counter of each key, over the amounts of all keys. A key's feed `n` adds its amount `n`.
+/// A place for the counter of each key, over the amounts of all keys. A key's feed `n` adds its amount `n`, and a call on it is
+/// a reading: it notes the total as it stands. The readings that there are are given: `(c, j, k)` where call `k` of thread `j`
+/// reads key `c`.
 #[derive(Drop)]
 pub struct Counters<'a> {
     amounts: &'a [Vec<u32>],
+    readings: Vec<(u32, u32, u32)>,
     counters: Vec<Option<Counter>>,
     ghost places: { length counters.items ≡ length amounts.now },
     ghost few: { length amounts.now < 2 ^ 32 },
     ghost short: { All (λ row. length row.items < 2 ^ 32) amounts.now },
+    ghost named: { All (λ call. call.0 < length amounts.now) readings.items },
 }
 
 impl<'a> Counters<'a> {
-    ghost use Rattle.key_counters.specs.Counting.{Stands, all_new, size_of, rows_of, total_of};
+    ghost use Rattle.key_counters.specs.Counting.{Stands, all_new, size_of, rows_of, readings_of, reading_at, total_of};
 
     /// The counters of all keys are here, and nothing was added.
-    pub fn make(alloc: Global, amounts: &'a [Vec<u32>]) -> Result<Counters<'a>, AllocError>
+    pub fn make(
+        alloc: Global,
+        amounts: &'a [Vec<u32>],
+        readings: Vec<(u32, u32, u32)>,
+    ) -> Result<Counters<'a>, AllocError>
         requires few { length amounts.now < 2 ^ 32 }
         requires short { All (λ row. length row.items < 2 ^ 32) amounts.now }
+        requires named { All (λ call. call.0 < length amounts.now) readings.items }
         ensures stands { IfOk result (λ r. Stands r (all_new (length amounts.now))) }
         ensures count { IfOk result (λ r. size_of r ≡ length amounts.now) }
         ensures amounts { IfOk result (λ r. rows_of r ≡ map (λ row. row.items) amounts.now) }
+        ensures readings { IfOk result (λ r. readings_of r ≡ readings.items) }
     {
         let mut counters = Vec::with_capacity(alloc, amounts.len())?;
         for key in 0..amounts.len() {
@@ -54,9 +72,14 @@ impl<'a> Counters<'a> {
                 key: key as u32,
                 had: 0,
                 total: 0,
+                read: 0,
             }));
         }
-        Ok(Counters { amounts, counters })
+        Ok(Counters {
+            amounts,
+            readings,
+            counters,
+        })
     }
 
     /// The total of each key, and 0 for one whose counter isn't here.
@@ -67,6 +90,17 @@ impl<'a> Counters<'a> {
             .iter()
             .map(|place| Self::total_at(place))
             .collect(alloc)
+    }
+
+    /// The total that the last reading of the key found, if its counter is here; 0 before the first reading.
+    pub fn last_reading(&self, c: u32) -> Option<u64>
+        requires { c < size_of self.now }
+        ensures { result ≡ reading_at self.now c }
+    {
+        match &self.counters[c as usize] {
+            Some(counter) => Some(counter.read),
+            None => None,
+        }
     }
 
     // What a place holds for the totals.
@@ -115,9 +149,10 @@ impl Resident for Counters<'_> {
         }
     }
 
-    // No call exists.
-    fn call(&mut self, _alloc: Global, _c: u32, _j: u32, _k: u32) {
-        unreachable!()
+    fn call(&mut self, _alloc: Global, c: u32, _j: u32, _k: u32) {
+        if let Some(counter) = &mut self.counters[c as usize] {
+            counter.note();
+        }
     }
 
     fn take_out(&mut self, c: u32) -> Counter {

@@ -26,7 +26,7 @@ pub fn count<W: Threads + Wait + Sync>(
 {
     let lists = ring_lists(alloc, amounts, rings)?;
     let quotas = ring_quotas(alloc, &lists)?;
-    let counters = Counters::make(alloc, amounts)?;
+    let counters = Counters::make(alloc, amounts, Vec::new(alloc))?;
     let jobs = Vec::with_capacity(alloc, quotas.len() + 1)?;
     match Squeue::make(alloc, 0, counters, rings, &quotas, false) {
         Ok((squeue, passes)) => {

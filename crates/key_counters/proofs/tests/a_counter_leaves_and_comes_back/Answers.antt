@@ -23,6 +23,9 @@ one_out = with_act (Done.Out 0) [] fed_two
 abbrev one_back : Blocks
 one_back = with_act (Done.In 0) one_had one_out
 
+abbrev one_read : Blocks
+one_read = with_act (Done.Call 0 0 0) [] one_back
+
 pub feed-requires-clause-next : goal.feed-requires-clause-next
 feed-requires-clause-next g c = record { blocks = all_new 2; had = []; stands = c.in_ok-counters.ensures.stands; here = refl; feeds = refl }
 
@@ -46,13 +49,24 @@ put_in-requires-clause-away g c =
       away = refl;
     }
 
-pub feed-requires-3-clause-next : goal.feed-requires-3-clause-next
-feed-requires-3-clause-next g c =
+pub call-requires-clause-here : goal.call-requires-clause-here
+call-requires-clause-here g c =
     let two = c.feed-2.ensures.stands fed_one (c.feed.ensures.stands (all_new 2) c.in_ok-counters.ensures.stands) in
     record {
       blocks = one_back;
       had = one_had;
       stands = c.put_in.ensures.stands one_out one_had (c.take_out-part.ensures.stands fed_two two) (c.take_out-part.ensures.part fed_two one_had two refl);
+      here = refl;
+    }
+
+pub feed-requires-3-clause-next : goal.feed-requires-3-clause-next
+feed-requires-3-clause-next g c =
+    let two = c.feed-2.ensures.stands fed_one (c.feed.ensures.stands (all_new 2) c.in_ok-counters.ensures.stands) in
+    let back = c.put_in.ensures.stands one_out one_had (c.take_out-part.ensures.stands fed_two two) (c.take_out-part.ensures.part fed_two one_had two refl) in
+    record {
+      blocks = one_read;
+      had = Did.Feed 0 ∷ Did.Call 0 0 ∷ [];
+      stands = c.call.ensures.stands one_back back;
       here = refl;
       feeds = refl;
     }
