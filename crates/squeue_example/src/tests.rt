@@ -12,6 +12,7 @@ mod beside;
 mod polling;
 mod short;
 mod three_passes;
+mod turns;
 
 use perimeter_core::logs::Logs;
 use perimeter_core::{Act, Entry, Feed, NoHook, Resident, SynchAct};

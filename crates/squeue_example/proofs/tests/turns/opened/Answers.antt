@@ -1,7 +1,7 @@
 use Rattle.std.proofs.Common.{true, false, [], ◌∷◌}
 use Rattle.perimeter_core.specs.Logging.{none_done}
-use Rattle.squeue_trial.proofs.Ends.{none_had}
-use Rattle.squeue_trial.proofs.tests.opened.Goals as goal
+use Rattle.squeue_example.proofs.Starting.{none_had}
+use Rattle.squeue_example.proofs.tests.turns.opened.Goals as goal
 
 pub make-requires-2-clause-fresh : goal.make-requires-2-clause-fresh
 make-requires-2-clause-fresh c =
