@@ -7,6 +7,7 @@
 //! and no memory is taken but in the residents.
 #![tactic(auto)]
 
+pub mod laws;
 mod moving;
 #[cfg(test)]
 mod tests;
