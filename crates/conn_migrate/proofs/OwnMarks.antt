@@ -17,7 +17,7 @@ use Rattle.squeue_state.specs.Naming.{Named, setting_of}
 use Rattle.squeue_state.specs.Elements.{number_of, gone, asked, claimed_ask, granted, accepted}
 use Rattle.squeue_state.proofs.Makers.{only_made}
 use Rattle.synch_enter.specs.Synch.{IsWay}
-use Rattle.conn_migrate.specs.Moving.{Moved, IsKept, Knows}
+use Rattle.conn_migrate.specs.Moving.{Moved, IsKept, RingLearns}
 
 -- what a pass has entered is in its own elements
 counted : (p : ℕ) (e : Element) (H K : List Element) (b : Bool) → (pass_of e.mark == p) ≡ b → (feeds_by p H ≡ feeds_by p K) × (asks_by p H ≡ asks_by p K)
@@ -181,7 +181,7 @@ module _ {R : Type 0} {limits : R → Limits} {s : Named R} {act : SynchAct} {no
       }
 
   knows : (c times : ℕ) (b : Bool) (next : ℕ → ℕ) → number from ≡ c % s.given.rings → Tells (number from) c 0 times (λ x. b) next (gone (number from) 0 act note ∷ [])
-      → ((d : ℕ) → d ≢ c → Tells (number from) d 0 0 (λ x. x) (λ n. n) (gone (number from) 0 act note ∷ [])) → Knows limits s c b times from to
+      → ((d : ℕ) → d ≢ c → Tells (number from) d 0 0 (λ x. x) (λ n. n) (gone (number from) 0 act note ∷ [])) → RingLearns limits s c b times from to
   knows c times b next ring t others =
       let all = tells_all c times (λ x. b) next t in
       let now = own_counts p (seen to) in
@@ -190,7 +190,7 @@ module _ {R : Type 0} {limits : R → Limits} {s : Named R} {act : SynchAct} {no
       let feeds : feeds_by p (made_by p (seen to)) ≡ feeds_by p (made_by p (seen from) ++ own) = ap (feeds_by p) made_now in
       let asks : asks_by p (made_by p (seen to)) ≡ asks_by p (made_by p (seen from) ++ own) = ap (asks_by p) made_now in
       record {
-        is_here = here_now c times (λ x. b) next ring t;
+        now_here = here_now c times (λ x. b) next ring t;
         left = left_now c times (λ x. b) next ring t;
         asks = omega (arith, now.1, asks, more.1, before.1, all.asks_made);
         feeds = omega (arith, now.0, feeds, more.0, before.0, all.feeds);
@@ -198,10 +198,10 @@ module _ {R : Type 0} {limits : R → Limits} {s : Named R} {act : SynchAct} {no
       }
 
 module _ {R : Type 0} {limits : R → Limits} {s : Named R} {c : ℕ} {note : List Act} {from to : Pass Element} (is : IsPassOf number_of s.gate from) (ring : number from ≡ c % s.given.rings) where
-  pub knows_out : Moved limits s (Done.Out c) note from to → Knows limits s c false 1 from to
+  pub knows_out : Moved limits s (Done.Out c) note from to → RingLearns limits s c false 1 from to
   knows_out m = knows is m c 1 false (λ n. n) ring (tells_out (number from) c note) (λ d other. tells_out_of (number from) c d note other)
 
-  pub knows_in : Moved limits s (Done.In c) note from to → Knows limits s c true 0 from to
+  pub knows_in : Moved limits s (Done.In c) note from to → RingLearns limits s c true 0 from to
   knows_in m = knows is m c 0 true (λ n. fed note) ring (tells_in (number from) c note) (λ d other. tells_in_of (number from) c d note other)
 
   pub next_out : Moved limits s (Done.Out c) note from to → due (seen to) c ≡ due (seen from) c

@@ -11,5 +11,6 @@ pub mod laws;
 mod moving;
 #[cfg(test)]
 mod tests;
+pub mod worked;
 
 pub use moving::migrate;
