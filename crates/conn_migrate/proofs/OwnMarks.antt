@@ -8,7 +8,7 @@ use Rattle.perimeter_core.specs.declared.marks.SynchAct.{SynchAct}
 use Rattle.perimeter_core.specs.declared.marks.SynchAct.TheVariants as Done
 use Rattle.perimeter_core.specs.Perimeter.{is_free, is_here}
 use Rattle.perimeter_core.specs.History.{Element, Limits, Setting, start, run, pass_of, made_by}
-use Rattle.perimeter_core.specs.Deeds.{entries_of, fed, puts_in, takes_out, due_after, due_from, due, times_left}
+use Rattle.perimeter_core.specs.Deeds.{entries_of, fed, due_after, due_from, due, times_left}
 use Rattle.perimeter_core.specs.Legal.{Legal, feeds_by, asks_by, feed_count, ask_count}
 use Rattle.perimeter_core.specs.Knowledge.{here_by}
 use Rattle.perimeter_core.proofs.OneMore.{legal_front}
@@ -17,6 +17,8 @@ use Rattle.squeue_state.specs.Naming.{Named, setting_of}
 use Rattle.squeue_state.specs.Elements.{number_of, gone, asked, claimed_ask, granted, accepted}
 use Rattle.squeue_state.proofs.Makers.{only_made}
 use Rattle.synch_enter.specs.Synch.{IsWay}
+use Rattle.synch_enter.proofs.Asking.{by_append}
+use Rattle.synch_enter.proofs.Knowing.{here_append, left_append}
 use Rattle.conn_migrate.specs.Moving.{Moved, IsKept, RingLearns}
 
 -- what a pass has entered is in its own elements
@@ -29,21 +31,9 @@ own_counts : (p : ℕ) (H : List Element) → (feeds_by p H ≡ feeds_by p (made
 own_counts p [] = (refl, refl)
 own_counts p (e ∷ H) = counted p e H (made_by p H) (pass_of e.mark == p) refl (own_counts p H)
 
-by_append : (p : ℕ) (H K : List Element) → (feeds_by p (H ++ K) ≡ feeds_by p H + feeds_by p K) × (asks_by p (H ++ K) ≡ asks_by p H + asks_by p K)
-by_append p [] K = (omega arith, omega arith)
-by_append p (e ∷ H) K = let r = by_append p H K in (omega (arith, r.0), omega (arith, r.1))
-
 due_append : (c n : ℕ) (H K : List Element) → due_from c n (H ++ K) ≡ due_from c (due_from c n H) K
 due_append c n [] K = refl
 due_append c n (e ∷ H) K = due_append c (due_after c n e) H K
-
-here_append : (c : ℕ) (b : Bool) (H K : List Element) → here_by c b (H ++ K) ≡ here_by c (here_by c b H) K
-here_append c b [] K = refl
-here_append c b (e ∷ H) K = here_append c (if puts_in c e.mark then true else if takes_out c e.mark then false else b) H K
-
-left_append : (c : ℕ) (H K : List Element) → times_left c (H ++ K) ≡ times_left c H + times_left c K
-left_append c [] K = omega arith
-left_append c (e ∷ H) K = omega (arith, left_append c H K)
 
 -- Elements T of the pass p, with no feed and so many Asks; after them connection d is here or not, has left so many times
 -- more, and has its next feed, by what it was before
