@@ -1,3 +1,5 @@
 pub mod OwnMarks
 pub mod Halves
 pub mod NextFeeds
+pub mod OneSqueue
+pub mod StaysJoin

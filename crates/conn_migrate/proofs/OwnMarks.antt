@@ -8,7 +8,7 @@ use Rattle.perimeter_core.specs.declared.marks.SynchAct.{SynchAct}
 use Rattle.perimeter_core.specs.declared.marks.SynchAct.TheVariants as Done
 use Rattle.perimeter_core.specs.Perimeter.{is_free, is_here}
 use Rattle.perimeter_core.specs.History.{Element, Limits, Setting, start, run, pass_of, made_by}
-use Rattle.perimeter_core.specs.Deeds.{entries_of, fed, puts_in, takes_out, due_after, due_from, due, times_left}
+use Rattle.perimeter_core.specs.Deeds.{entries_of, fed, due_after, due_from, due, times_left}
 use Rattle.perimeter_core.specs.Legal.{Legal, feeds_by, asks_by, feed_count, ask_count}
 use Rattle.perimeter_core.specs.Knowledge.{here_by}
 use Rattle.perimeter_core.proofs.OneMore.{legal_front}
@@ -17,7 +17,9 @@ use Rattle.squeue_state.specs.Naming.{Named, setting_of}
 use Rattle.squeue_state.specs.Elements.{number_of, gone, asked, claimed_ask, granted, accepted}
 use Rattle.squeue_state.proofs.Makers.{only_made}
 use Rattle.synch_enter.specs.Synch.{IsWay}
-use Rattle.conn_migrate.specs.Moving.{Moved, IsKept, Knows}
+use Rattle.synch_enter.proofs.Asking.{by_append}
+use Rattle.synch_enter.proofs.Knowing.{here_append, left_append}
+use Rattle.conn_migrate.specs.Moving.{Moved, IsKept, RingLearns}
 
 -- what a pass has entered is in its own elements
 counted : (p : ℕ) (e : Element) (H K : List Element) (b : Bool) → (pass_of e.mark == p) ≡ b → (feeds_by p H ≡ feeds_by p K) × (asks_by p H ≡ asks_by p K)
@@ -29,21 +31,9 @@ own_counts : (p : ℕ) (H : List Element) → (feeds_by p H ≡ feeds_by p (made
 own_counts p [] = (refl, refl)
 own_counts p (e ∷ H) = counted p e H (made_by p H) (pass_of e.mark == p) refl (own_counts p H)
 
-by_append : (p : ℕ) (H K : List Element) → (feeds_by p (H ++ K) ≡ feeds_by p H + feeds_by p K) × (asks_by p (H ++ K) ≡ asks_by p H + asks_by p K)
-by_append p [] K = (omega arith, omega arith)
-by_append p (e ∷ H) K = let r = by_append p H K in (omega (arith, r.0), omega (arith, r.1))
-
 due_append : (c n : ℕ) (H K : List Element) → due_from c n (H ++ K) ≡ due_from c (due_from c n H) K
 due_append c n [] K = refl
 due_append c n (e ∷ H) K = due_append c (due_after c n e) H K
-
-here_append : (c : ℕ) (b : Bool) (H K : List Element) → here_by c b (H ++ K) ≡ here_by c (here_by c b H) K
-here_append c b [] K = refl
-here_append c b (e ∷ H) K = here_append c (if puts_in c e.mark then true else if takes_out c e.mark then false else b) H K
-
-left_append : (c : ℕ) (H K : List Element) → times_left c (H ++ K) ≡ times_left c H + times_left c K
-left_append c [] K = omega arith
-left_append c (e ∷ H) K = omega (arith, left_append c H K)
 
 -- Elements T of the pass p, with no feed and so many Asks; after them connection d is here or not, has left so many times
 -- more, and has its next feed, by what it was before
@@ -181,7 +171,7 @@ module _ {R : Type 0} {limits : R → Limits} {s : Named R} {act : SynchAct} {no
       }
 
   knows : (c times : ℕ) (b : Bool) (next : ℕ → ℕ) → number from ≡ c % s.given.rings → Tells (number from) c 0 times (λ x. b) next (gone (number from) 0 act note ∷ [])
-      → ((d : ℕ) → d ≢ c → Tells (number from) d 0 0 (λ x. x) (λ n. n) (gone (number from) 0 act note ∷ [])) → Knows limits s c b times from to
+      → ((d : ℕ) → d ≢ c → Tells (number from) d 0 0 (λ x. x) (λ n. n) (gone (number from) 0 act note ∷ [])) → RingLearns limits s c b times from to
   knows c times b next ring t others =
       let all = tells_all c times (λ x. b) next t in
       let now = own_counts p (seen to) in
@@ -190,7 +180,7 @@ module _ {R : Type 0} {limits : R → Limits} {s : Named R} {act : SynchAct} {no
       let feeds : feeds_by p (made_by p (seen to)) ≡ feeds_by p (made_by p (seen from) ++ own) = ap (feeds_by p) made_now in
       let asks : asks_by p (made_by p (seen to)) ≡ asks_by p (made_by p (seen from) ++ own) = ap (asks_by p) made_now in
       record {
-        is_here = here_now c times (λ x. b) next ring t;
+        now_here = here_now c times (λ x. b) next ring t;
         left = left_now c times (λ x. b) next ring t;
         asks = omega (arith, now.1, asks, more.1, before.1, all.asks_made);
         feeds = omega (arith, now.0, feeds, more.0, before.0, all.feeds);
@@ -198,10 +188,10 @@ module _ {R : Type 0} {limits : R → Limits} {s : Named R} {act : SynchAct} {no
       }
 
 module _ {R : Type 0} {limits : R → Limits} {s : Named R} {c : ℕ} {note : List Act} {from to : Pass Element} (is : IsPassOf number_of s.gate from) (ring : number from ≡ c % s.given.rings) where
-  pub knows_out : Moved limits s (Done.Out c) note from to → Knows limits s c false 1 from to
+  pub knows_out : Moved limits s (Done.Out c) note from to → RingLearns limits s c false 1 from to
   knows_out m = knows is m c 1 false (λ n. n) ring (tells_out (number from) c note) (λ d other. tells_out_of (number from) c d note other)
 
-  pub knows_in : Moved limits s (Done.In c) note from to → Knows limits s c true 0 from to
+  pub knows_in : Moved limits s (Done.In c) note from to → RingLearns limits s c true 0 from to
   knows_in m = knows is m c 0 true (λ n. fed note) ring (tells_in (number from) c note) (λ d other. tells_in_of (number from) c d note other)
 
   pub next_out : Moved limits s (Done.Out c) note from to → due (seen to) c ≡ due (seen from) c

@@ -28,8 +28,8 @@ pub record MayCome {R : Type 0} (limits : R → Limits) (s : Named R) (c : ℕ) 
   pub range : c < length s.given.starts
   pub away : is_here (run (setting_of limits s.given) (seen p)) c ≡ false
 
--- The pass came to be owner, and there left with this act and note, and with nothing of its hand. It made no other mark, and
--- stands idle again
+-- The pass came to be owner, by the marks of its coming, and then left with this act and note, and with nothing of its hand.
+-- That is its last mark, and it stands idle again
 pub record Moved {R : Type 0} (limits : R → Limits) (s : Named R) (act : SynchAct) (note : List Act) (from to : Pass Element) : Type 0 where
   pub goes_on : GoesOn limits s from to
   pub idle : Idle (run (setting_of limits s.given) (seen to)) (number from)
@@ -45,8 +45,8 @@ pub record IsKept (S : Setting) (d : ℕ) (before now : List Element) : Type 0 w
 
 -- What the ring knows after a move of c: whether c is here, and that it has left so many times more; the pass entered one
 -- Ask and no feed; and of the ring's other connections nothing has changed
-pub record Knows {R : Type 0} (limits : R → Limits) (s : Named R) (c : ℕ) (here : Bool) (times : ℕ) (from to : Pass Element) : Type 0 where
-  pub is_here : is_here (run (setting_of limits s.given) (seen to)) c ≡ here
+pub record RingLearns {R : Type 0} (limits : R → Limits) (s : Named R) (c : ℕ) (here : Bool) (times : ℕ) (from to : Pass Element) : Type 0 where
+  pub now_here : is_here (run (setting_of limits s.given) (seen to)) c ≡ here
   pub left : times_left c (seen to) ≡ times_left c (seen from) + times
   pub asks : asks_by (number from) (seen to) ≡ asks_by (number from) (seen from) + 1
   pub feeds : feeds_by (number from) (seen to) ≡ feeds_by (number from) (seen from)

@@ -7,8 +7,10 @@
 //! and no memory is taken but in the residents.
 #![tactic(auto)]
 
+pub mod laws;
 mod moving;
 #[cfg(test)]
 mod tests;
+pub mod worked;
 
 pub use moving::migrate;

@@ -5,7 +5,7 @@ ghost use Rattle.perimeter_core.specs.Deeds.{acts, due};
 ghost use Rattle.squeue_state.specs.Naming.{setting_of};
 ghost use Rattle.synch_enter.specs.Hinting.{conns_of, squeues_of};
 ghost use Rattle.turn_gate.specs.Passes.{seen};
-ghost use Rattle.conn_migrate.specs.Moving.{MayLeave, MayCome, Moved, Knows};
+ghost use Rattle.conn_migrate.specs.Moving.{MayLeave, MayCome, Moved, RingLearns};
 
 use perimeter_core::{Hook, Resident};
 use squeue_state::{Notes, Pass, Squeue};
@@ -33,8 +33,8 @@ pub fn migrate<R: Resident, H: Hook, W: Wait>(
     requires hint { (c < conns_of hints.now) × (b.now.given.number < squeues_of hints.now) }
     ensures out { Moved R.limits a.now (Done.Out c) [] pass_a result.0 }
     ensures put { Moved R.limits b.now (Done.In c) (acts (setting_of R.limits a.now.given) (seen result.0) c) pass_b result.1 }
-    ensures left { Knows R.limits a.now c false 1 pass_a result.0 }
-    ensures come { Knows R.limits b.now c true 0 pass_b result.1 }
+    ensures left { RingLearns R.limits a.now c false 1 pass_a result.0 }
+    ensures come { RingLearns R.limits b.now c true 0 pass_b result.1 }
     ensures next { due (seen result.0) c ≡ due (seen pass_a) c }
     ensures due { due (seen result.1) c ≡ due (seen result.0) c }
 {

@@ -21,11 +21,11 @@ use Rattle.perimeter_core.specs.Blocks.{Blocks}
 use Rattle.std.specs.Prelude.{slice_index}
 use Rattle.synch_enter.specs.Synch.{MayAsk, Came, IsWay, StandsAtItsAsk, MayTake, MayPut, acts_at}
 
-here_append : (c : ℕ) (b : Bool) (M N : List Element) → here_by c b (M ++ N) ≡ here_by c (here_by c b M) N
+pub here_append : (c : ℕ) (b : Bool) (M N : List Element) → here_by c b (M ++ N) ≡ here_by c (here_by c b M) N
 here_append c b [] N = refl
 here_append c b (e ∷ M) N = here_append c (if puts_in c e.mark then true else if takes_out c e.mark then false else b) M N
 
-left_append : (c : ℕ) (M N : List Element) → times_left c (M ++ N) ≡ times_left c M + times_left c N
+pub left_append : (c : ℕ) (M N : List Element) → times_left c (M ++ N) ≡ times_left c M + times_left c N
 left_append c [] N = omega arith
 left_append c (e ∷ M) N = omega (arith, left_append c M N)
 

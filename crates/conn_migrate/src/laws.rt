@@ -1,0 +1,27 @@
+//! What the histories of several squeues together tell of a block. Each law is a function that does nothing, whose contract is
+//! the law.
+ghost use Rattle.std.specs.Prelude.{◌≡◌, ℕ, true, List, [], ◌∷◌, ◌++◌, Some, slice_get};
+ghost use Rattle.perimeter_core.specs.declared.entries.Act.{Act};
+ghost use Rattle.perimeter_core.specs.declared.marks.SynchAct.TheVariants as Done;
+ghost use Rattle.perimeter_core.specs.Perimeter.{is_here};
+ghost use Rattle.perimeter_core.specs.History.{Element, Setting, run};
+ghost use Rattle.perimeter_core.specs.Deeds.{acts};
+ghost use Rattle.perimeter_core.specs.Legal.{Legal};
+ghost use Rattle.squeue_state.specs.Elements.{gone};
+ghost use Rattle.squeue_state.specs.Naming.{Ending};
+ghost use Rattle.conn_migrate.specs.Stays.{all_in, begun, stays, EndsAStay, AreLegal, StartsAtHome, IsLinked, AreOfAllStays};
+
+/// An Out ends the stay that goes on.
+pub fn an_out_ends_a_stay()
+    ensures { (S : Setting) (H : List Element) (p rest c : ℕ) → Legal S (H ++ gone p rest (Done.Out c) [] ∷ []) → EndsAStay S H (gone p rest (Done.Out c) []) c }
+{}
+
+/// An In begins a stay, with its note.
+pub fn an_in_begins_a_stay()
+    ensures { (S : Setting) (H : List Element) (p rest c : ℕ) (note : List Act) → stays S (H ++ gone p rest (Done.In c) note ∷ []) c ≡ record { ended = all_in (stays S H c); now = Some (begun note) } }
+{}
+
+/// Where the block of a connection is, its acts are those of all its stays, one after another.
+pub fn acts_are_those_of_all_stays()
+    ensures { (hs : List Ending) (c q : ℕ) (h : Ending) → AreLegal hs → StartsAtHome hs c → IsLinked hs c → slice_get hs q ≡ Some h → is_here (run h.setting h.history) c ≡ true → AreOfAllStays hs c (acts h.setting h.history c) }
+{}
