@@ -1,6 +1,7 @@
 -- A ring that brings one chain after another, and then closes.
-use Rattle.std.proofs.Common.{◌≡◌, ℕ, take, drop, ◌+◌, ◌%◌, List, [], ◌∷◌, ◌++◌, length, refl, ap, sym, ◌∙◌, subst, arith, append_assoc, length-append}
-use Rattle.std.proofs.lemmas.List.{append-nil, take-append-drop}
+use Rattle.std.proofs.Common.{◌≡◌, ℕ, Bool, true, false, ◌==◌, ◌<◌, take, drop, ◌+◌, ◌%◌, List, [], ◌∷◌, ◌++◌, length, refl, ap, sym, ◌∙◌, subst, arith, append_assoc, length-append}
+use Rattle.std.proofs.lemmas.List.{append-nil, take-append-drop, nil_from_length}
+use Rattle.std.proofs.lemmas.Bool.Decides.{nat_tests}
 use Rattle.turn_gate.specs.History.{Begins, only}
 use Rattle.turn_gate.specs.Passes.{IsPassOf, number, seen, mine}
 use Rattle.turn_gate.specs.declared.pass.Pass.{Pass}
@@ -35,30 +36,35 @@ count_append c es fs =
 pub split : (xs ys zs : List FeedOf) (n : ℕ) → ys ≡ take n xs → zs ≡ drop n xs → xs ≡ ys ++ zs
 split xs ys zs n front back = sym (take-append-drop n xs) ∙ (rw (front, back) refl)
 
+-- whether anything is left
+pub none_rest : (xs : List FeedOf) (b : Bool) → b ≡ (length xs == 0) → b ≡ true → xs ≡ []
+none_rest xs b is t = let e : (length xs == 0) ≡ true = sym is ∙ t in let z : length xs ≡ 0 = grind (arith, nat_tests) in nil_from_length xs z
+
+pub some_rest : (xs : List FeedOf) (b : Bool) → b ≡ (length xs == 0) → b ≡ false → 0 < length xs
+some_rest xs b is f = let e : (length xs == 0) ≡ false = sym is ∙ f in grind (arith, nat_tests)
+
 module _ {R : Type 0} (limits : R → Limits) (s : Named R) where
-  -- so far the pass brought a front of the list
-  pub record SoFar (list rest : List FeedOf) (from to : Pass Element) : Type 0 where
-    pub done : List FeedOf
+  -- so far the pass brought this front of the list
+  pub record SoFar (done list rest : List FeedOf) (from to : Pass Element) : Type 0 where
     pub is : done ++ rest ≡ list
     pub same_number : number to ≡ number from
     pub brought : Brought limits s done from to
     pub more : MayGoOn limits s done from to
 
-  pub none_yet : (list : List FeedOf) (p : Pass Element) → SoFar list list p p
+  pub none_yet : (list : List FeedOf) (p : Pass Element) → SoFar [] list list p p
   none_yet list p =
       record {
-        done = [];
         is = refl;
         same_number = refl;
         brought = record { feeds = omega arith; asks = refl; next = λ c is. omega arith; here = λ c is. refl; left = λ c is. refl };
         more = λ more may. may;
       }
 
-  pub may_rest : (list rest : List FeedOf) (from to : Pass Element) → SoFar list rest from to → MayEnter limits s from list → MayEnter limits s to rest
-  may_rest list rest from to k may = k.more rest (subst (MayEnter limits s from) (sym k.is) may)
+  pub may_rest : (done list rest : List FeedOf) (from to : Pass Element) → SoFar done list rest from to → MayEnter limits s from list → MayEnter limits s to rest
+  may_rest done list rest from to k may = k.more rest (subst (MayEnter limits s from) (sym k.is) may)
 
-  pub may_chain : (list rest chain behind : List FeedOf) (from to : Pass Element) → SoFar list rest from to → MayEnter limits s from list → rest ≡ chain ++ behind → MayEnter limits s to chain
-  may_chain list rest chain behind from to k may is = may_front limits s to chain behind (subst (MayEnter limits s to) is (may_rest list rest from to k may))
+  pub may_chain : (done list rest chain behind : List FeedOf) (from to : Pass Element) → SoFar done list rest from to → MayEnter limits s from list → rest ≡ chain ++ behind → MayEnter limits s to chain
+  may_chain done list rest chain behind from to k may is = may_front limits s to chain behind (subst (MayEnter limits s to) is (may_rest done list rest from to k may))
 
   both : (es fs : List FeedOf) (a b c : Pass Element) → number b ≡ number a → Brought limits s es a b → Brought limits s fs b c → Brought limits s (es ++ fs) a c
   both es fs a b c same x y =
@@ -72,24 +78,23 @@ module _ {R : Type 0} (limits : R → Limits) (s : Named R) where
         left = λ d is. y.left d (same ∙ is) ∙ x.left d is;
       }
 
-  pub one_chain : (list rest chain behind : List FeedOf) (from at to : Pass Element) → SoFar list rest from at → rest ≡ chain ++ behind → number to ≡ number at → Brought limits s chain at to → MayGoOn limits s chain at to → SoFar list behind from to
-  one_chain list rest chain behind from at to k is same b more =
+  pub one_chain : (done list rest chain behind : List FeedOf) (from at to : Pass Element) → SoFar done list rest from at → rest ≡ chain ++ behind → number to ≡ number at → Brought limits s chain at to → MayGoOn limits s chain at to → SoFar (done ++ chain) list behind from to
+  one_chain done list rest chain behind from at to k is same b more =
       record {
-        done = k.done ++ chain;
-        is = append_assoc k.done chain behind ∙ (ap (λ (xs : List FeedOf). k.done ++ xs) (sym is) ∙ k.is);
+        is = append_assoc done chain behind ∙ (ap (λ (xs : List FeedOf). done ++ xs) (sym is) ∙ k.is);
         same_number = same ∙ k.same_number;
-        brought = both k.done chain from at to k.same_number k.brought b;
-        more = λ xs may. more xs (k.more (chain ++ xs) (subst (MayEnter limits s from) (append_assoc k.done chain xs) may));
+        brought = both done chain from at to k.same_number k.brought b;
+        more = λ xs may. more xs (k.more (chain ++ xs) (subst (MayEnter limits s from) (append_assoc done chain xs) may));
       }
 
-  all_done : (list rest : List FeedOf) (from to : Pass Element) (k : SoFar list rest from to) → rest ≡ [] → k.done ≡ list
-  all_done list rest from to k none = sym (append-nil k.done) ∙ (ap (λ (xs : List FeedOf). k.done ++ xs) (sym none) ∙ k.is)
+  pub all_done : (done list rest : List FeedOf) (from to : Pass Element) → SoFar done list rest from to → rest ≡ [] → done ≡ list
+  all_done done list rest from to k none = sym (append-nil done) ∙ (ap (λ (xs : List FeedOf). done ++ xs) (sym none) ∙ k.is)
 
-  pub brought_all : (list rest : List FeedOf) (from to : Pass Element) → SoFar list rest from to → rest ≡ [] → Brought limits s list from to
-  brought_all list rest from to k none = subst (λ (xs : List FeedOf). Brought limits s xs from to) (all_done list rest from to k none) k.brought
+  pub brought_all : (done list rest : List FeedOf) (from to : Pass Element) → SoFar done list rest from to → rest ≡ [] → Brought limits s list from to
+  brought_all done list rest from to k none = subst (λ (xs : List FeedOf). Brought limits s xs from to) (all_done done list rest from to k none) k.brought
 
-  pub more_all : (list rest : List FeedOf) (from to : Pass Element) → SoFar list rest from to → rest ≡ [] → MayGoOn limits s list from to
-  more_all list rest from to k none = subst (λ (xs : List FeedOf). MayGoOn limits s xs from to) (all_done list rest from to k none) k.more
+  pub more_all : (done list rest : List FeedOf) (from to : Pass Element) → SoFar done list rest from to → rest ≡ [] → MayGoOn limits s list from to
+  more_all done list rest from to k none = subst (λ (xs : List FeedOf). MayGoOn limits s xs from to) (all_done done list rest from to k none) k.more
 
   pub left_to_enter : (list : List FeedOf) (from to : Pass Element) → MayGoOn limits s list from to → MayEnter limits s from list → MayEnter limits s to []
   left_to_enter list from to more may = more [] (subst (MayEnter limits s from) (sym (append-nil list)) may)

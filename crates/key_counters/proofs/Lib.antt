@@ -1,5 +1,6 @@
 pub mod CounterSteps
 pub mod Chains
+pub mod Cuts
 pub mod RingLists
 pub mod Passing
 pub mod FreshRings

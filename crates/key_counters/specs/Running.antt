@@ -1,5 +1,5 @@
 -- What the threads of a run need, and what they do.
-use Rattle.std.specs.Prelude.{◌≡◌, ℕ, ◌+◌, ◌%◌, Option, Some, None, List, length}
+use Rattle.std.specs.Prelude.{◌≡◌, ℕ, zero, suc, ◌+◌, ◌*◌, ◌%◌, ◌<◌, ◌≤◌, Option, Some, None, List, [], ◌++◌, length}
 use Rattle.turn_gate.specs.Passes.{IsPassOf, number, seen}
 use Rattle.turn_gate.specs.declared.pass.Pass.{Pass}
 use Rattle.perimeter_core.specs.declared.entries.Feed.{Feed}
@@ -9,10 +9,30 @@ use Rattle.perimeter_core.specs.Deeds.{entries, feeds_of, due}
 use Rattle.perimeter_core.specs.Ending.{IsOver}
 use Rattle.squeue_state.specs.Naming.{Named, setting_of}
 use Rattle.squeue_state.specs.Elements.{number_of}
-use Rattle.squeue_enter.specs.Entering.{MayEnter}
+use Rattle.squeue_enter.specs.declared.Mode.{Mode}
+use Rattle.squeue_enter.specs.declared.entering.Entered.{Entered}
+use Rattle.squeue_enter.specs.Entering.{MayEnter, HasEntered}
 use Rattle.key_counters.specs.declared.job.Job.{Job}
 use Rattle.key_counters.specs.declared.job.Task.{Task}
 use Rattle.key_counters.specs.declared.job.Task.TheVariants as Task'
+
+-- One chain more was entered behind the feeds that `Before` tells of: n chains, each of so many feeds
+pub record NextChain {R : Type 0} (limits : R → Limits) (s : Named R) (mode : Mode) (budget most n : ℕ) (Before : List Feed → Pass Element → Type 0) (es : List Feed) (to : Pass Element) : Type 0 where
+  pub front : List Feed
+  pub chain : List Feed
+  pub at : Pass Element
+  pub answer : Entered
+  pub is : es ≡ front ++ chain
+  pub whole : length front ≡ n * most
+  pub some : (0 < length chain) × (length chain ≤ most)
+  pub before : Before front at
+  pub entered : HasEntered limits s mode budget chain at answer
+  pub then_is : to ≡ answer.pass
+
+-- The feeds were entered in n chains, one after another, each of `most` feeds but the last
+abbrev pub InChains : {R : Type 0} → (R → Limits) → Named R → Mode → ℕ → ℕ → Pass Element → ℕ → List Feed → Pass Element → Type 0
+InChains limits s mode budget most from zero es to = (es ≡ []) × (to ≡ from)
+InChains limits s mode budget most from (suc n) es to = NextChain limits s mode budget most n (InChains limits s mode budget most from n) es to
 
 -- A ring has entered these feeds and closed its pass: the next feed of each of its connections is so many further, and its
 -- block has neither come nor gone

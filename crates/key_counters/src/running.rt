@@ -4,7 +4,7 @@ ghost use Rattle.std.specs.Prelude.{◌≡◌, ◌<◌, ℕ, All, length, slice_
 ghost use Rattle.turn_gate.specs.Passes.{number};
 ghost use Rattle.squeue_enter.specs.Entering.{MayEnter, Brought, MayGoOn};
 ghost use Rattle.key_counters.specs.declared.job.Job.{Job};
-ghost use Rattle.key_counters.specs.Running.{MayRun, HasRun, IsReady, Ran};
+ghost use Rattle.key_counters.specs.Running.{InChains, MayRun, HasRun, IsReady, Ran};
 
 use crate::job::{Job, Pace, Task};
 use perimeter_core::{Feed, Hook, Resident};
@@ -93,6 +93,7 @@ pub fn bring<R: Resident, H: Hook, W: Wait>(
     ensures number { number result ≡ number pass }
     ensures brought { Brought R.limits sq.now list.now pass result }
     ensures more { MayGoOn R.limits sq.now list.now pass result }
+    ensures chains { (n : ℕ) × InChains R.limits sq.now pace.mode pace.budget pace.chain pass n list.now result }
 {
     let mut pass = pass;
     let mut rest = list;
