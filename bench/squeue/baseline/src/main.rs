@@ -1,6 +1,6 @@
 //! The entries of `squeue_bench` through two plain queues: a `VecDeque` under std's `Mutex`, whose worker a `Condvar`
 //! wakes, and std's channel with one consumer. Words: `mutex` or `channel`, and then THREADS QUEUES CHAIN ENTRIES as
-//! `squeue_bench` takes them, where CHAIN is 1 or 32.
+//! `squeue_bench` takes THREADS SQUEUES CHAIN ENTRIES, where CHAIN is 1 or 32.
 
 use std::collections::VecDeque;
 use std::mem;
@@ -8,9 +8,6 @@ use std::sync::mpsc::{Receiver, Sender, channel};
 use std::sync::{Condvar, Mutex, MutexGuard};
 use std::thread::scope;
 use std::time::Instant;
-
-/// How many keys each queue has.
-const KEYS: u32 = 16;
 
 /// Item `n` of a key. Its amount is looked up when it is processed.
 #[derive(Clone, Copy)]
@@ -49,16 +46,11 @@ trait Entrance<const N: usize> {
     fn bring(&self, chain: [Item; N]);
 }
 
-/// Brings each item of each key of the thread to each queue, going round the queues chain by chain.
-fn bring_all<const N: usize>(thread: u32, threads: u32, items: u32, queues: &[impl Entrance<N>]) {
-    for key in (thread..KEYS).step_by(threads as usize) {
-        for from in (0..items).step_by(N) {
-            for queue in queues {
-                queue.bring(std::array::from_fn(|k| Item {
-                    key,
-                    n: from + k as u32,
-                }));
-            }
+/// Brings all items to each queue, and goes round the queues chain by chain.
+fn bring_all<const N: usize>(items: &[Item], queues: &[impl Entrance<N>]) {
+    for chain in items.as_chunks().0 {
+        for queue in queues {
+            queue.bring(*chain);
         }
     }
 }
@@ -77,12 +69,12 @@ struct Locked {
 
 impl Locked {
     fn new() -> Locked {
-        let items = VecDeque::new();
+        let waiting = Waiting {
+            items: VecDeque::new(),
+            closed: false,
+        };
         Locked {
-            waiting: Mutex::new(Waiting {
-                items,
-                closed: false,
-            }),
+            waiting: Mutex::new(waiting),
             filled: Condvar::new(),
         }
     }
@@ -143,20 +135,19 @@ fn consume<const N: usize>(from: Receiver<[Item; N]>, counters: &mut Counters<'_
     }
 }
 
-fn run_locked<const N: usize>(threads: u32, items: u32, workers: &mut [Counters<'_>]) {
+fn run_locked<const N: usize>(rings: &[Vec<Item>], workers: &mut [Counters<'_>]) {
     let queues: Vec<Locked> = workers.iter().map(|_| Locked::new()).collect();
-    scope(|s| {
+    let entrances: Vec<&Locked> = queues.iter().collect();
+    scope(|threads| {
         for (queue, counters) in queues.iter().zip(workers) {
-            s.spawn(move || queue.work(counters));
+            threads.spawn(move || queue.work(counters));
         }
-        let rings: Vec<_> = (0..threads)
-            .map(|thread| {
-                let entrances: Vec<&Locked> = queues.iter().collect();
-                s.spawn(move || bring_all::<N>(thread, threads, items, &entrances))
-            })
+        let bringing: Vec<_> = rings
+            .iter()
+            .map(|items| threads.spawn(|| bring_all::<N>(items, &entrances)))
             .collect();
-        for ring in rings {
-            ring.join().expect("no thread panics");
+        for thread in bringing {
+            thread.join().expect("no thread panics");
         }
         for queue in &queues {
             queue.close();
@@ -164,25 +155,25 @@ fn run_locked<const N: usize>(threads: u32, items: u32, workers: &mut [Counters<
     });
 }
 
-fn run_channels<const N: usize>(threads: u32, items: u32, workers: &mut [Counters<'_>]) {
-    scope(|s| {
+fn run_channels<const N: usize>(rings: &[Vec<Item>], workers: &mut [Counters<'_>]) {
+    scope(|threads| {
         let mut entrances = Vec::new();
         for counters in workers {
-            let (to, from) = channel::<[Item; N]>();
+            let (to, from) = channel();
             entrances.push(to);
-            s.spawn(move || consume(from, counters));
+            threads.spawn(move || consume::<N>(from, counters));
         }
-        for thread in 0..threads {
+        for items in rings {
             let entrances = entrances.clone();
-            s.spawn(move || bring_all(thread, threads, items, &entrances));
+            threads.spawn(move || bring_all(items, &entrances));
         }
     });
 }
 
-fn run<const N: usize>(kind: &str, threads: u32, items: u32, workers: &mut [Counters<'_>]) {
+fn run<const N: usize>(kind: &str, rings: &[Vec<Item>], workers: &mut [Counters<'_>]) {
     match kind {
-        "mutex" => run_locked::<N>(threads, items, workers),
-        _ => run_channels::<N>(threads, items, workers),
+        "mutex" => run_locked::<N>(rings, workers),
+        _ => run_channels::<N>(rings, workers),
     }
 }
 
@@ -190,20 +181,23 @@ fn main() {
     let words: Vec<String> = std::env::args().skip(1).collect();
     let number = |i: usize| words[i].parse::<u32>().expect("a number");
     let (threads, queues, chain, entries) = (number(1), number(2), number(3), number(4));
-    let items = entries / (queues * KEYS) / 32 * 32;
-    let amounts: Amounts = (0..KEYS)
+    let items = entries / (queues * threads) / 32 * 32;
+    let amounts: Amounts = (0..threads)
         .map(|key| (0..items).map(|n| (key + n) % 100).collect())
+        .collect();
+    let rings: Vec<Vec<Item>> = (0..threads)
+        .map(|key| (0..items).map(|n| Item { key, n }).collect())
         .collect();
     let mut workers: Vec<Counters<'_>> = (0..queues).map(|_| Counters::new(&amounts)).collect();
     let start = Instant::now();
     match chain {
-        1 => run::<1>(&words[0], threads, items, &mut workers),
-        _ => run::<32>(&words[0], threads, items, &mut workers),
+        1 => run::<1>(&words[0], &rings, &mut workers),
+        _ => run::<32>(&words[0], &rings, &mut workers),
     }
     let nanos = start.elapsed().as_nanos();
     let sum: u64 = workers.iter().map(Counters::sum).sum();
     println!(
         "entries {} nanos {nanos} total {sum}",
-        queues * KEYS * items
+        queues * threads * items
     );
 }
