@@ -1,0 +1,203 @@
+//! The entries of `squeue_bench` through two plain queues: a `VecDeque` under std's `Mutex`, whose worker a `Condvar`
+//! wakes, and std's channel with one consumer. Words: `mutex` or `channel`, and then THREADS QUEUES CHAIN ENTRIES as
+//! `squeue_bench` takes THREADS SQUEUES CHAIN ENTRIES, where CHAIN is 1 or 32.
+
+use std::collections::VecDeque;
+use std::mem;
+use std::sync::mpsc::{Receiver, Sender, channel};
+use std::sync::{Condvar, Mutex, MutexGuard};
+use std::thread::scope;
+use std::time::Instant;
+
+/// Item `n` of a key. Its amount is looked up when it is processed.
+#[derive(Clone, Copy)]
+struct Item {
+    key: u32,
+    n: u32,
+}
+
+/// For each key the amounts of its items.
+type Amounts = Vec<Vec<u32>>;
+
+/// For each key the sum of the amounts that came.
+struct Counters<'a> {
+    amounts: &'a Amounts,
+    totals: Vec<u64>,
+}
+
+impl<'a> Counters<'a> {
+    fn new(amounts: &'a Amounts) -> Counters<'a> {
+        let totals = vec![0; amounts.len()];
+        Counters { amounts, totals }
+    }
+
+    fn add(&mut self, item: Item) {
+        let key = item.key as usize;
+        self.totals[key] += u64::from(self.amounts[key][item.n as usize]);
+    }
+
+    fn sum(&self) -> u64 {
+        self.totals.iter().sum()
+    }
+}
+
+/// Where a thread brings chains of N items.
+trait Entrance<const N: usize> {
+    fn bring(&self, chain: [Item; N]);
+}
+
+/// Brings all items to each queue, and goes round the queues chain by chain.
+fn bring_all<const N: usize>(items: &[Item], queues: &[impl Entrance<N>]) {
+    for chain in items.as_chunks().0 {
+        for queue in queues {
+            queue.bring(*chain);
+        }
+    }
+}
+
+/// What waits in a queue, and whether nothing more will come.
+struct Waiting {
+    items: VecDeque<Item>,
+    closed: bool,
+}
+
+/// A queue under a lock. Who finds it empty wakes the worker.
+struct Locked {
+    waiting: Mutex<Waiting>,
+    filled: Condvar,
+}
+
+impl Locked {
+    fn new() -> Locked {
+        let waiting = Waiting {
+            items: VecDeque::new(),
+            closed: false,
+        };
+        Locked {
+            waiting: Mutex::new(waiting),
+            filled: Condvar::new(),
+        }
+    }
+
+    fn lock(&self) -> MutexGuard<'_, Waiting> {
+        self.waiting.lock().expect("no thread panics")
+    }
+
+    fn close(&self) {
+        self.lock().closed = true;
+        self.filled.notify_one();
+    }
+
+    /// Takes all that waits, and processes it outside of the lock.
+    fn work(&self, counters: &mut Counters<'_>) {
+        let mut taken = VecDeque::new();
+        loop {
+            let mut waiting = self.lock();
+            while waiting.items.is_empty() {
+                if waiting.closed {
+                    return;
+                }
+                waiting = self.filled.wait(waiting).expect("no thread panics");
+            }
+            mem::swap(&mut waiting.items, &mut taken);
+            drop(waiting);
+            for item in taken.drain(..) {
+                counters.add(item);
+            }
+        }
+    }
+}
+
+impl<const N: usize> Entrance<N> for &Locked {
+    fn bring(&self, chain: [Item; N]) {
+        let mut waiting = self.lock();
+        let was_empty = waiting.items.is_empty();
+        waiting.items.extend(chain);
+        drop(waiting);
+        if was_empty {
+            self.filled.notify_one();
+        }
+    }
+}
+
+impl<const N: usize> Entrance<N> for Sender<[Item; N]> {
+    fn bring(&self, chain: [Item; N]) {
+        self.send(chain)
+            .expect("the consumer receives until all senders are gone");
+    }
+}
+
+fn consume<const N: usize>(from: Receiver<[Item; N]>, counters: &mut Counters<'_>) {
+    for chain in from {
+        for item in chain {
+            counters.add(item);
+        }
+    }
+}
+
+fn run_locked<const N: usize>(rings: &[Vec<Item>], workers: &mut [Counters<'_>]) {
+    let queues: Vec<Locked> = workers.iter().map(|_| Locked::new()).collect();
+    let entrances: Vec<&Locked> = queues.iter().collect();
+    scope(|threads| {
+        for (queue, counters) in queues.iter().zip(workers) {
+            threads.spawn(move || queue.work(counters));
+        }
+        let bringing: Vec<_> = rings
+            .iter()
+            .map(|items| threads.spawn(|| bring_all::<N>(items, &entrances)))
+            .collect();
+        for thread in bringing {
+            thread.join().expect("no thread panics");
+        }
+        for queue in &queues {
+            queue.close();
+        }
+    });
+}
+
+fn run_channels<const N: usize>(rings: &[Vec<Item>], workers: &mut [Counters<'_>]) {
+    scope(|threads| {
+        let mut entrances = Vec::new();
+        for counters in workers {
+            let (to, from) = channel();
+            entrances.push(to);
+            threads.spawn(move || consume::<N>(from, counters));
+        }
+        for items in rings {
+            let entrances = entrances.clone();
+            threads.spawn(move || bring_all(items, &entrances));
+        }
+    });
+}
+
+fn run<const N: usize>(kind: &str, rings: &[Vec<Item>], workers: &mut [Counters<'_>]) {
+    match kind {
+        "mutex" => run_locked::<N>(rings, workers),
+        _ => run_channels::<N>(rings, workers),
+    }
+}
+
+fn main() {
+    let words: Vec<String> = std::env::args().skip(1).collect();
+    let number = |i: usize| words[i].parse::<u32>().expect("a number");
+    let (threads, queues, chain, entries) = (number(1), number(2), number(3), number(4));
+    let items = entries / (queues * threads) / 32 * 32;
+    let amounts: Amounts = (0..threads)
+        .map(|key| (0..items).map(|n| (key + n) % 100).collect())
+        .collect();
+    let rings: Vec<Vec<Item>> = (0..threads)
+        .map(|key| (0..items).map(|n| Item { key, n }).collect())
+        .collect();
+    let mut workers: Vec<Counters<'_>> = (0..queues).map(|_| Counters::new(&amounts)).collect();
+    let start = Instant::now();
+    match chain {
+        1 => run::<1>(&words[0], &rings, &mut workers),
+        _ => run::<32>(&words[0], &rings, &mut workers),
+    }
+    let nanos = start.elapsed().as_nanos();
+    let sum: u64 = workers.iter().map(Counters::sum).sum();
+    println!(
+        "entries {} nanos {nanos} total {sum}",
+        queues * threads * items
+    );
+}

@@ -1,0 +1,4 @@
+pub mod Places
+pub mod Bringing
+pub mod Starting
+pub mod Ending

@@ -1,0 +1,150 @@
+//! How many entries squeues take. Without words it makes short fixed runs and prints what was counted. With the words
+//! THREADS SQUEUES CHAIN ENTRIES MODE it measures: so many rings bring so many entries in all to so many squeues, in chains
+//! of at most CHAIN and in the mode `process`, `nodrain` or `fill`; each squeue has a worker in a thread of its own. It
+//! prints the nanoseconds from before the threads start to after they have ended.
+#![tactic(auto)]
+
+mod items;
+mod runs;
+mod threads;
+
+ghost use Rattle.std.specs.Prelude.{◌≡◌, ◌*◌, ◌≤◌, ◌^◌};
+
+use items::{amounts_of, items_each, quotas_of};
+use key_counters::Counters;
+use runs::{finish_all, make_rings, make_squeues, spend};
+use squeue_enter::Mode;
+use std::alloc::{AllocError, Global};
+use std::sync::Wait;
+use std::thread::Threads;
+use std::time::{Clock, Duration, Instant};
+use std::{env, io};
+use threads::{Way, run_all};
+
+/// What is measured: so many rings bring so many items each to each of so many squeues.
+#[derive(Clone, Copy)]
+struct Case {
+    rings: u32,
+    squeues: u32,
+    items: u32,
+    way: Way,
+}
+
+/// Makes a run, and tells how long its threads took, and the sum of all counters in the end.
+fn measure<W: Threads + Wait + Clock + Sync>(
+    rt: &W,
+    alloc: Global,
+    case: Case,
+) -> io::Result<(Duration, u64)>
+    requires few { (1 ≤ case.rings) × (case.rings ≤ 63) × (case.rings * case.items ≤ 2 ^ 30) }
+    requires chain { 1 ≤ case.way.chain }
+{
+    let Case {
+        rings,
+        squeues: wanted,
+        items,
+        way,
+    } = case;
+    let amounts = amounts_of(alloc, rings, items)?;
+    let quotas = quotas_of(alloc, rings, items)?;
+    let mut ends = Vec::with_capacity(alloc, wanted as usize)?;
+    let mut squeues = Vec::with_capacity(alloc, wanted as usize)?;
+    let Ok(mut workers) = Vec::with_capacity(alloc, wanted as usize) else {
+        squeues.destroy_empty();
+        return Err(AllocError.into());
+    };
+    let Ok(mut rings) = make_rings(alloc, rings, items, wanted as usize) else {
+        squeues.destroy_empty();
+        workers.destroy_empty();
+        return Err(AllocError.into());
+    };
+    make_squeues(
+        alloc,
+        &amounts,
+        items,
+        &quotas,
+        wanted,
+        &mut squeues,
+        &mut rings,
+        &mut workers,
+    );
+    let start = Instant::now(rt);
+    run_all(rt, alloc, &squeues, &mut rings, &mut workers, way);
+    let end = Instant::now(rt);
+    finish_all(squeues, &mut rings, workers, &mut ends);
+    spend(rings);
+    if ends.len() < wanted as usize {
+        return Err(AllocError.into());
+    }
+    Ok((end?.duration_since(start?), sum_of(alloc, &ends)?))
+}
+
+// The sum of all counters. A sum that is too great wraps.
+fn sum_of(alloc: Global, ends: &[Counters<'_>]) -> Result<u64, AllocError> {
+    let mut sum = 0u64;
+    for counters in ends {
+        for total in &counters.totals(alloc)? {
+            sum = sum.wrapping_add(*total);
+        }
+    }
+    Ok(sum)
+}
+
+fn number(word: Option<String>) -> u32 {
+    match word {
+        Some(word) => word.parse().unwrap_or(0),
+        None => 0,
+    }
+}
+
+fn mode(word: Option<String>) -> Mode {
+    match word.as_deref() {
+        Some("fill") => Mode::Fill,
+        Some("nodrain") => Mode::NoDrain,
+        _ => Mode::Process,
+    }
+}
+
+fn main(rt: HostRuntime) -> io::Result<()> {
+    let mut words = env::args(&rt)?.skip(1);
+    let Some(first) = words.next() else {
+        for (rings, squeues, chain) in [(1, 1, 1), (2, 4, 1), (4, 2, 32)] {
+            let way = Way {
+                mode: Mode::Process,
+                chain,
+            };
+            let case = Case {
+                rings,
+                squeues,
+                items: 96,
+                way,
+            };
+            let (_, total) = measure(&rt, rt.alloc(), case)?;
+            println!(rt; "threads {rings} squeues {squeues} chain {chain} total {total}")?;
+        }
+        return Ok(());
+    };
+    let rings = number(Some(first));
+    let squeues = number(words.next());
+    let chain = number(words.next()) as usize;
+    let entries = number(words.next());
+    let mode = mode(words.next());
+    if rings < 1 || rings > 32 || squeues < 1 || squeues > 32 || chain < 1 || entries > 1 << 30 {
+        return Ok(());
+    }
+    let items = items_each(entries, squeues, rings);
+    let way = Way { mode, chain };
+    let case = Case {
+        rings,
+        squeues,
+        items,
+        way,
+    };
+    let (time, total) = measure(&rt, rt.alloc(), case)?;
+    println!(rt;
+        "entries {} nanos {} total {total}",
+        squeues * rings * items,
+        time.as_nanos()
+    )?;
+    Ok(())
+}
