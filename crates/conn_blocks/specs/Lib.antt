@@ -2,3 +2,4 @@ pub mod CallLists
 pub mod Holding
 pub mod Orders
 pub mod ServeOrder
+pub mod SettledFeeds

@@ -5,6 +5,7 @@
 
 mod block;
 mod calls;
+mod facts;
 mod holding;
 pub mod laws;
 mod stages;

@@ -4,12 +4,12 @@ ghost use Rattle.perimeter_core.specs.declared.entries.Act.{Act};
 ghost use Rattle.perimeter_core.specs.declared.entries.Act.TheVariants as Act;
 ghost use Rattle.conn_classifier.specs.Plan.{items_in};
 ghost use Rattle.conn_blocks.specs.ServeOrder.{IsActOf, IsCallOn, FeedsRise};
-ghost use Rattle.conn_blocks.specs.Orders.{feed_numbers};
+ghost use Rattle.perimeter_core.specs.Deeds.{feed_numbers};
 ghost use Rattle.conn_blocks.specs.Holding.{StandsFor};
 
 use crate::{Act, Block, Calls, serve_one};
 use capture_reader::{Capture, parse_capture};
-use conn_classifier::{Plan, plan};
+use conn_classifier::{Plan, PlanView, plan};
 use sq_base::Octets;
 use std::alloc::{AllocError, Global};
 use std::test::Fail;
@@ -134,7 +134,7 @@ fn feeds(order: &[Act]) -> usize
 }
 
 /// An act comes to the block of connection 0, where there is such an act and it can come now.
-fn give(block: &mut Block, alloc: Global, plan: &Plan, calls: &Calls, act: Act) -> bool
+fn give(block: &mut Block, alloc: Global, plan: &PlanView<'_>, calls: &Calls, act: Act) -> bool
     requires conn { 0 < length plan.now.tuples }
     requires stands { (came : List Act) × StandsFor plan.now calls.now 0 came block.old }
     ensures { (came : List Act) × StandsFor plan.now calls.now 0 came block.new }
@@ -157,7 +157,13 @@ fn give(block: &mut Block, alloc: Global, plan: &Plan, calls: &Calls, act: Act) 
 }
 
 /// Acts come to the block of connection 0, one after another.
-fn give_all(block: &mut Block, alloc: Global, plan: &Plan, calls: &Calls, acts: &[Act]) -> bool
+fn give_all(
+    block: &mut Block,
+    alloc: Global,
+    plan: &PlanView<'_>,
+    calls: &Calls,
+    acts: &[Act],
+) -> bool
     requires conn { 0 < length plan.now.tuples }
     requires stands { (came : List Act) × StandsFor plan.now calls.now 0 came block.old }
     ensures { (came : List Act) × StandsFor plan.now calls.now 0 came block.new }
@@ -173,14 +179,14 @@ fn give_all(block: &mut Block, alloc: Global, plan: &Plan, calls: &Calls, acts: 
 /// The block of connection 0 to which these acts came.
 fn given(
     alloc: Global,
-    plan: &Plan,
+    plan: &PlanView<'_>,
     calls: &Calls,
     acts: &[Act],
 ) -> Result<Option<Box<Block>>, AllocError> {
     if plan.conns() == 0 {
         return Ok(None);
     }
-    let mut block = Block::make(alloc, plan, calls, 0)?;
+    let mut block = Block::fresh(alloc, plan, calls, 0)?;
     let all = give_all(&mut block, alloc, plan, calls, acts);
     Ok(all.then_some(block))
 }
@@ -353,7 +359,7 @@ fn early_repeated_and_late_calls(rt: HostRuntime) -> Result<(), Fail> {
     let capture = five_segments(&rt)?;
     let plan = plan(&rt, rt.alloc(), &capture, false)?;
     let calls = two_threads(rt.alloc())?;
-    let Some(block) = given(rt.alloc(), &plan, &calls, &EARLY_AND_AGAIN)? else {
+    let Some(block) = given(rt.alloc(), &plan.view(), &calls, &EARLY_AND_AGAIN)? else {
         panic!(rt; "an act can't come")
     };
     assert!(rt; served_two_threads(&rt, &block)?);
@@ -372,7 +378,7 @@ fn call_held_to_the_end(rt: HostRuntime) -> Result<(), Fail> {
     let capture = five_segments(&rt)?;
     let plan = plan(&rt, rt.alloc(), &capture, false)?;
     let calls = two_threads(rt.alloc())?;
-    let Some(block) = given(rt.alloc(), &plan, &calls, &NEVER_LET_GO)? else {
+    let Some(block) = given(rt.alloc(), &plan.view(), &calls, &NEVER_LET_GO)? else {
         panic!(rt; "an act can't come")
     };
     let order = [Act::Feed { n: 0 }, Act::Call { j: 1, k: 0 }];
