@@ -65,6 +65,11 @@ FeedsRise n [] = Unit {0}
 FeedsRise n (act.Feed m ∷ order) = (n ≤ m) × FeedsRise (m + 1) order
 FeedsRise n (act.Call j k ∷ order) = FeedsRise n order
 
+-- what all connections of a run have in common
+pub record OriginOf : Type 0 where
+  pub plan : PlanOf
+  pub calls : CallLists
+
 -- a connection of a plan, with the calls of the threads
 pub record ConnectionOf : Type 0 where
   pub plan : PlanOf

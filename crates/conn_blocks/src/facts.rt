@@ -23,6 +23,20 @@ impl Model for Connection {
     ghost view = { λ x. elim x.never [ ] };
 }
 
+/// A plan with the calls of the threads: what all blocks of a run have in common.
+#[derive(Drop)]
+pub struct Origin {
+    never: Infallible,
+}
+
+impl Model for Origin {
+    ghost use Rattle.conn_blocks.specs.ServeOrder.{OriginOf};
+
+    ghost Value = { OriginOf };
+
+    ghost view = { λ x. elim x.never [ ] };
+}
+
 /// Whose block it is, for contracts.
 pub(crate) fn connection_of(plan: &PlanView<'_>, calls: &Calls, c: u32) -> Known<Connection>
     ensures { result.value ≡ record { plan = plan.now; calls = calls.now; c = c } }

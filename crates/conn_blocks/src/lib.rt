@@ -4,6 +4,7 @@
 #![tactic(auto)]
 
 mod block;
+mod blocks;
 mod calls;
 mod facts;
 mod holding;
@@ -13,5 +14,7 @@ mod stages;
 mod tests;
 
 pub use block::{Block, serve_one};
+pub use blocks::Blocks;
 pub use calls::Calls;
+pub use facts::Origin;
 pub use perimeter_core::Act;
