@@ -9,4 +9,4 @@ mod Held
 mod LettingGo
 mod NewBlock
 pub mod FeedsInOrder
-mod PlaceSteps
+pub mod PlaceSteps

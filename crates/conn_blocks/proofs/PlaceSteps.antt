@@ -46,6 +46,24 @@ get_seam : {A : Type 0} (xs : List A) (x : A) → slice_get (xs ++ x ∷ []) (le
 get_seam [] x = refl
 get_seam (y ∷ xs) x = get_seam xs x
 
+not_past : {A : Type 0} (xs : List A) (c : ℕ) → c < length xs → slice_get xs c ≡ None → ⊥
+not_past [] c lt e = omega (arith, lt)
+not_past (x ∷ xs) zero lt e = cc e
+not_past (x ∷ xs) (suc c) lt e = not_past xs c (omega (arith, lt)) e
+
+-- at first those connections are here whose first squeue it is
+pub here_first : (n k squeues c : ℕ) → c < n → c % squeues ≡ k → first_here n k squeues c ≡ Some []
+here_first n k squeues c lt e = let below : nat_lt c n ≡ true = grind (arith, nat_tests) in let same : (c % squeues == k) ≡ true = grind (arith, nat_tests) in rw (below, same) refl
+
+pub away_first : (n k squeues c : ℕ) → c % squeues ≢ k → first_here n k squeues c ≡ None
+away_first n k squeues c ne =
+    let other : (c % squeues == k) ≡ false = grind (arith, nat_tests) in
+    let no : (nat_lt c n && (c % squeues == k)) ≡ false = by (nat_lt c n) (c % squeues == k) other in rw no refl
+  where
+    by : (b d : Bool) → d ≡ false → (b && d) ≡ false
+    by false d e = refl
+    by true d e = e
+
 fed_is : (xs : List Act) → fed xs ≡ length (feed_numbers xs)
 fed_is [] = refl
 fed_is (act.Feed n ∷ xs) = omega (arith, fed_is xs)
@@ -230,3 +248,23 @@ module _ (p : PlanOf) (calls : CallLists) where
   no_block places c d x lt h is none =
       let b = block_there places c h in
       let at = got places c x d lt is in none b.0 (cc (at, b.1))
+
+  -- the block of a connection that is here lies at its place, and the place of another one is empty
+  pub block_of : (places : List (Option (Box BlockOf Global))) (blocks : Had) (c : ℕ) (came : List Act) → PlacesStand p calls places blocks → blocks c ≡ Some came
+      → (b : Box BlockOf Global) × (slice_get places c ≡ Some (Some b)) × StandsFor p calls c came b.value
+  block_of places blocks c came h e = go (slice_get places c) refl (subst (λ (b : Option (List Act)). PlaceFits p calls c (slice_get places c) b) e (h c))
+    where
+      go : (o : Option (Option (Box BlockOf Global))) → slice_get places c ≡ o → PlaceFits p calls c o (Some came)
+          → (b : Box BlockOf Global) × (slice_get places c ≡ Some (Some b)) × StandsFor p calls c came b.value
+      go (Some (Some b)) is fits = (b, is, fits)
+      go (Some None) is fits = absurd fits
+      go None is fits = absurd fits
+
+  pub no_block_of : (places : List (Option (Box BlockOf Global))) (blocks : Had) (c : ℕ) → PlacesStand p calls places blocks → blocks c ≡ None → c < length places
+      → slice_get places c ≡ Some None
+  no_block_of places blocks c h e lt = go (slice_get places c) refl (subst (λ (b : Option (List Act)). PlaceFits p calls c (slice_get places c) b) e (h c))
+    where
+      go : (o : Option (Option (Box BlockOf Global))) → slice_get places c ≡ o → PlaceFits p calls c o None → slice_get places c ≡ Some None
+      go (Some (Some b)) is fits = absurd fits
+      go (Some None) is fits = is
+      go None is fits = absurd (not_past places c lt is)

@@ -19,6 +19,7 @@ use std::alloc::{AllocError, Global};
 pub struct Blocks<'p> {
     plan: PlanView<'p>,
     calls: &'p Calls,
+    /// These three numbers say how often a block may leave, for contracts alone.
     squeue: u32,
     squeues: u32,
     spread: u32,

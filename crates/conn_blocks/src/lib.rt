@@ -1,6 +1,7 @@
 //! A connection's block: its TCP state, what was done to it, and in which order.
 //!
-//! `serve_one` serves one order of acts on one thread. It knows no squeue and no other connection.
+//! `serve_one` serves one order of acts on one thread. `Blocks` is what a squeue serves: the blocks of the connections that are
+//! at it. A block knows no squeue and no other connection.
 #![tactic(auto)]
 
 mod block;
