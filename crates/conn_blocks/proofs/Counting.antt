@@ -8,7 +8,8 @@ use Rattle.perimeter_core.specs.declared.entries.Act.TheVariants as act
 use Rattle.conn_classifier.specs.Plan.{PlanOf}
 use Rattle.conn_blocks.specs.CallLists.{CallLists}
 use Rattle.conn_blocks.specs.ServeOrder.{BlockOf}
-use Rattle.conn_blocks.specs.Orders.{numbers_from, numbers_on, feed_numbers, call_numbers}
+use Rattle.perimeter_core.specs.Deeds.{feed_numbers}
+use Rattle.conn_blocks.specs.Orders.{numbers_from, numbers_on, call_numbers}
 use Rattle.conn_blocks.specs.Holding.{fed, Begins, IsSettled, ComesNext}
 
 -- one of the four threads, or none

@@ -14,13 +14,15 @@ use Rattle.conn_blocks.specs.declared.stages.Stage.{Stage}
 use Rattle.conn_blocks.specs.declared.stages.Stage.TheVariants as stage
 use Rattle.conn_blocks.specs.CallLists.{CallLists, calls_of}
 use Rattle.conn_blocks.specs.ServeOrder.{BlockOf, IsActOf, IsCallOn, serve, serving_of}
-use Rattle.conn_blocks.specs.Orders.{numbers_from, numbers_on, feed_numbers, call_numbers, is_call, has_call, is_held, is_next, let_go, keeps, settles, settle}
+use Rattle.perimeter_core.specs.Deeds.{feed_numbers}
+use Rattle.conn_blocks.specs.Orders.{numbers_from, numbers_on, call_numbers, is_call, has_call, is_held, is_next, let_go, keeps, settles, settle}
 use Rattle.conn_blocks.specs.Holding.{all_made, is_held_back, is_made, stage_at, stage_of, Fits, IsSettled, StandsFor}
 use Rattle.conn_blocks.proofs.FeedsInOrder.{all_snoc}
 use Rattle.conn_blocks.proofs.Rising.{Up, has, up_numbers, before, behind, run_yes, run_no}
 use Rattle.conn_blocks.proofs.Numbers.{split_at, left_one, is_among}
 use Rattle.conn_blocks.proofs.Settled.{settled_stages}
-use Rattle.conn_blocks.proofs.Settling.{has_one, is_it, feeds_settle, IsOn, Settling, settling, next_split}
+use Rattle.conn_blocks.specs.SettledFeeds.{feeds_settle}
+use Rattle.conn_blocks.proofs.Settling.{has_one, is_it, IsOn, Settling, settling, next_split}
 
 settles_more : (calls : CallLists) (c : ℕ) (came kept acts : List Act) (a : Act)
     → settles calls c came kept (acts ++ a ∷ []) ≡ keeps calls c (came ++ acts) (settles calls c came kept acts) a

@@ -9,3 +9,4 @@ mod Held
 mod LettingGo
 mod NewBlock
 pub mod FeedsInOrder
+pub mod PlaceSteps

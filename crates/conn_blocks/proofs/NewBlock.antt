@@ -7,7 +7,8 @@ use Rattle.conn_classifier.specs.Plan.{PlanOf}
 use Rattle.conn_blocks.specs.declared.stages.Stage.TheVariants as stage
 use Rattle.conn_blocks.specs.CallLists.{CallLists}
 use Rattle.conn_blocks.specs.ServeOrder.{BlockOf, serve}
-use Rattle.conn_blocks.specs.Orders.{numbers_on, feed_numbers, call_numbers, has_call, settle}
+use Rattle.perimeter_core.specs.Deeds.{feed_numbers}
+use Rattle.conn_blocks.specs.Orders.{numbers_on, call_numbers, has_call, settle}
 use Rattle.conn_blocks.specs.Holding.{stage_at, stage_of, IsSettled, IsSound, StandsFor, IsNew}
 
 module _ (p : PlanOf) (calls : CallLists) (c : ℕ) (b : BlockOf) (new : IsNew p calls c b) where
@@ -27,6 +28,7 @@ module _ (p : PlanOf) (calls : CallLists) (c : ℕ) (b : BlockOf) (new : IsNew p
   new_settled =
       let none : length (feed_numbers b.order) ≡ 0 = ap (λ l. length (feed_numbers l)) new.order in
       record {
+        of = new.of;
         threads = new.threads;
         service = new.service;
         feeds = ap feed_numbers new.order ∙ ap (range_with_len 0) (sym none);

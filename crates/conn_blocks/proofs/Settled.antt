@@ -11,10 +11,12 @@ use Rattle.conn_classifier.specs.Plan.{PlanOf, items_in}
 use Rattle.conn_blocks.specs.declared.stages.Stage.{Stage}
 use Rattle.conn_blocks.specs.CallLists.{CallLists, calls_of}
 use Rattle.conn_blocks.specs.ServeOrder.{BlockOf, Serving, ClockIsPast, IsDone, IsTimely, SetsClock, serve, serves, serves_act, service_in}
-use Rattle.conn_blocks.specs.Orders.{numbers_on, feed_numbers, call_numbers}
+use Rattle.perimeter_core.specs.Deeds.{feed_numbers}
+use Rattle.conn_blocks.specs.Orders.{numbers_on, call_numbers}
 use Rattle.conn_blocks.specs.Holding.{fed, Begins, IsSettled, IsSound, ComesNext}
 use Rattle.conn_blocks.proofs.Counting.{few_acts}
-use Rattle.conn_blocks.proofs.Settling.{feeds_append, calls_append, calls_of_thread, calls_of_other}
+use Rattle.conn_blocks.specs.SettledFeeds.{feeds_append}
+use Rattle.conn_blocks.proofs.Settling.{calls_append, calls_of_thread, calls_of_other}
 
 serves_more : (p : PlanOf) (calls : CallLists) (c : ℕ) (order : List Act) (a : Act) (s : Serving)
     → serves p calls c (service_in p c) (order ++ a ∷ []) s ≡ serves_act p calls c (service_in p c) a (serves p calls c (service_in p c) order s)
@@ -87,10 +89,11 @@ module _ (p : PlanOf) (calls : CallLists) (c : ℕ) (old : BlockOf) (is : IsSett
         let same : fed new ≡ fed old = ap length (e ∙ append-nil (feed_numbers old.order)) in
         subst (λ m. ClockIsPast p c m new.tcb.clock) (sym same) (subst (ClockIsPast p c (fed old)) (sym set) past)
 
-    pub settled_more : new.service ≡ old.service → new.order_room ≡ old.order_room → old.answers_room ≤ new.answers_room
+    pub settled_more : new.of ≡ old.of → new.service ≡ old.service → new.order_room ≡ old.order_room → old.answers_room ≤ new.answers_room
         → ((j k : ℕ) → j < 4 → k < length (calls_of calls j) → 4 * k + j < length new.stages)
         → (new.short ≡ false → IsDone p calls c a old new) → IsSettled p calls c new
-    settled_more service room answers table done = record {
+    settled_more of service room answers table done = record {
+      of = of ∙ is.of;
       threads = is.threads;
       service = service ∙ is.service;
       feeds = (counted a next feeds_now).0;
@@ -120,6 +123,7 @@ module _ (p : PlanOf) (calls : CallLists) (c : ℕ) (old : BlockOf) (is : IsSett
 pub settled_stages : (p : PlanOf) (calls : CallLists) (c : ℕ) (b : BlockOf) → IsSettled p calls c b → (s : List Stage) → length s ≡ length b.stages
     → IsSettled p calls c (record b { stages = s })
 settled_stages p calls c b is s e = record {
+  of = is.of;
   threads = is.threads;
   service = is.service;
   feeds = is.feeds;

@@ -7,17 +7,8 @@ use Rattle.std.proofs.lemmas.Bool.{eqb-true, and_parts, or_right, or_left, or_ca
 use Rattle.perimeter_core.specs.declared.entries.Act.{Act}
 use Rattle.perimeter_core.specs.declared.entries.Act.TheVariants as act
 use Rattle.conn_blocks.specs.CallLists.{CallLists, calls_of}
-use Rattle.conn_blocks.specs.Orders.{numbers_on, feed_numbers, call_numbers, is_call, has_call, is_held, is_next, let_go, keeps, settles, settle}
+use Rattle.conn_blocks.specs.Orders.{numbers_on, call_numbers, is_call, has_call, is_held, is_next, let_go, keeps, settles, settle}
 use Rattle.conn_blocks.proofs.Rising.{Up, has, up_numbers, up_behind, not_before, before, behind, none_below, has_append, all_by, all_at, Run, FailsFirst, run, run_yes, run_no}
-
-pub feeds_append : (xs ys : List Act) → feed_numbers (xs ++ ys) ≡ feed_numbers xs ++ feed_numbers ys
-feeds_append [] ys = refl
-feeds_append (act.Feed n ∷ xs) ys = ap (λ l. n ∷ l) (feeds_append xs ys)
-feeds_append (act.Call j k ∷ xs) ys = feeds_append xs ys
-
-pub feeds_of_calls : (j : ℕ) (ks : List ℕ) → feed_numbers (map (act.Call j) ks) ≡ []
-feeds_of_calls j [] = refl
-feeds_of_calls j (k ∷ ks) = feeds_of_calls j ks
 
 module _ (j : ℕ) where
   pub calls_append : (xs ys : List Act) → call_numbers j (xs ++ ys) ≡ call_numbers j xs ++ call_numbers j ys
@@ -382,34 +373,3 @@ settling_none calls c = record {
 pub settling : (calls : CallLists) (c : ℕ) (acts : List Act) → AllByRecursion (IsOn calls c) acts → Settling calls c acts (settle calls c acts)
 unfolding settle
 settling calls c acts on = settling_all calls c [] [] acts on (settling_none calls c)
-
--- feeds are kept where they come
-feeds_kept : (calls : CallLists) (c : ℕ) (came kept : List Act) (a : Act) → feed_numbers (keeps calls c came kept a) ≡ feed_numbers kept ++ feed_numbers (a ∷ [])
-feeds_kept calls c came kept (act.Feed n) = feeds_append kept (act.Feed n ∷ [])
-feeds_kept calls c came kept (act.Call j k) = by (has_call j k came) (is_next calls c kept j k)
-  where
-    nothing : (l : List ℕ) → l ≡ l ++ []
-    nothing [] = refl
-    nothing (x ∷ l) = ap (λ m. x ∷ m) (nothing l)
-
-    by : (b d : Bool) → feed_numbers (if b then kept else if d then kept ++ let_go calls c came kept j k else kept) ≡ feed_numbers kept ++ []
-    by true d = nothing (feed_numbers kept)
-    by false false = nothing (feed_numbers kept)
-    by false true = feeds_append kept (let_go calls c came kept j k)
-        ∙ ap (λ l. feed_numbers kept ++ l) (feeds_of_calls j (k ∷ take_while (is_held came kept j) (filter (λ i. nat_lt k i) (numbers_on calls c j))))
-
-feeds_settled : (calls : CallLists) (c : ℕ) (came kept acts : List Act) → feed_numbers (settles calls c came kept acts) ≡ feed_numbers kept ++ feed_numbers acts
-feeds_settled calls c came kept [] = nothing (feed_numbers kept)
-  where
-    nothing : (l : List ℕ) → l ≡ l ++ []
-    nothing [] = refl
-    nothing (x ∷ l) = ap (λ m. x ∷ m) (nothing l)
-feeds_settled calls c came kept (a ∷ acts) =
-    feeds_settled calls c (came ++ a ∷ []) (keeps calls c came kept a) acts
-    ∙ ap (λ l. l ++ feed_numbers acts) (feeds_kept calls c came kept a)
-    ∙ append_assoc (feed_numbers kept) (feed_numbers (a ∷ [])) (feed_numbers acts)
-    ∙ ap (λ l. feed_numbers kept ++ l) (sym (feeds_append (a ∷ []) acts))
-
-pub feeds_settle : (calls : CallLists) (c : ℕ) (acts : List Act) → feed_numbers (settle calls c acts) ≡ feed_numbers acts
-unfolding settle
-feeds_settle calls c acts = feeds_settled calls c [] [] acts

@@ -8,9 +8,11 @@ use Rattle.perimeter_core.specs.declared.entries.Act.{Act}
 use Rattle.perimeter_core.specs.declared.entries.Act.TheVariants as act
 use Rattle.conn_classifier.specs.Plan.{PlanOf, items_in}
 use Rattle.conn_blocks.specs.CallLists.{CallLists, calls_of}
-use Rattle.conn_blocks.specs.Orders.{numbers_on, feed_numbers, call_numbers, has_call, settle, IsAll, IsWhole}
+use Rattle.perimeter_core.specs.Deeds.{feed_numbers}
+use Rattle.conn_blocks.specs.Orders.{numbers_on, call_numbers, has_call, settle, IsAll, IsWhole}
 use Rattle.conn_blocks.proofs.Rising.{Up, has, up_numbers, not_before, has_append}
-use Rattle.conn_blocks.proofs.Settling.{has_numbers, Waits, Stuck, IsOn, settling, feeds_settle}
+use Rattle.conn_blocks.specs.SettledFeeds.{feeds_settle}
+use Rattle.conn_blocks.proofs.Settling.{has_numbers, Waits, Stuck, IsOn, settling}
 
 -- acts whose calls are all on the connection
 all_on : (calls : CallLists) (c : ℕ) (acts : List Act) → ((j k : ℕ) → has_call j k acts ≡ true → has k (numbers_on calls c j) ≡ true) → AllByRecursion (IsOn calls c) acts

@@ -9,7 +9,8 @@ use Rattle.conn_blocks.specs.declared.stages.Stage.{Stage}
 use Rattle.conn_blocks.specs.declared.stages.Stage.TheVariants as stage
 use Rattle.conn_blocks.specs.CallLists.{CallLists, calls_of}
 use Rattle.conn_blocks.specs.ServeOrder.{BlockOf, ClockIsPast, IsActOf, serve, service_in, serving_of}
-use Rattle.conn_blocks.specs.Orders.{numbers_on, feed_numbers, call_numbers, has_call, settle}
+use Rattle.perimeter_core.specs.Deeds.{feed_numbers}
+use Rattle.conn_blocks.specs.Orders.{numbers_on, call_numbers, has_call, settle}
 
 -- how many calls of all threads are on connection c
 abbrev pub calls_on : CallLists → ℕ → ℕ
@@ -59,6 +60,7 @@ pub record IsSound (p : PlanOf) (calls : CallLists) (c : ℕ) (b : BlockOf) : Ty
 
 -- the feeds of the order are the first items, its calls each thread's first ones on the connection, and there is room for all
 pub record IsSettled (p : PlanOf) (calls : CallLists) (c : ℕ) (b : BlockOf) : Type 0 where
+  pub of : b.of ≡ record { plan = p; calls = calls; c = c }
   pub threads : length calls ≡ 4
   pub service : b.service ≡ service_in p c
   pub feeds : feed_numbers b.order ≡ range_with_len 0 (fed b)
@@ -80,6 +82,7 @@ pub record StandsFor (p : PlanOf) (calls : CallLists) (c : ℕ) (came : List Act
 
 -- a new block
 pub record IsNew (p : PlanOf) (calls : CallLists) (c : ℕ) (b : BlockOf) : Type 0 where
+  pub of : b.of ≡ record { plan = p; calls = calls; c = c }
   pub service : b.service ≡ service_in p c
   pub tcb : b.tcb ≡ new_block
   pub order : b.order ≡ []

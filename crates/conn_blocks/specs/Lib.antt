@@ -1,4 +1,9 @@
+pub mod Allowed
 pub mod CallLists
 pub mod Holding
+pub mod Homes
 pub mod Orders
+pub mod PlaceLaws
+pub mod Places
 pub mod ServeOrder
+pub mod SettledFeeds

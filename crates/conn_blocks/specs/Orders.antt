@@ -3,6 +3,7 @@ use Rattle.std.specs.Prelude.{◌≡◌, ℕ, ◌==◌, ◌&&◌, nat_lt, not, s
 use Rattle.std.specs.List.{list_any, list_all, range_with_len}
 use Rattle.perimeter_core.specs.declared.entries.Act.{Act}
 use Rattle.perimeter_core.specs.declared.entries.Act.TheVariants as act
+use Rattle.perimeter_core.specs.Deeds.{feed_numbers}
 use Rattle.tcb_machine.specs.declared.kinds.Call.{Call}
 use Rattle.conn_classifier.specs.Plan.{PlanOf, items_in}
 use Rattle.conn_blocks.specs.CallLists.{CallLists, calls_of}
@@ -15,12 +16,6 @@ numbers_from n c (x ∷ xs) = if x.0 == c then n ∷ numbers_from (suc n) c xs e
 -- the numbers of the calls of thread j that are on connection c
 abbrev pub numbers_on : CallLists → ℕ → ℕ → List ℕ
 numbers_on calls c j = numbers_from 0 c (calls_of calls j)
-
--- the feeds of an order
-abbrev pub feed_numbers : List Act → List ℕ
-feed_numbers [] = []
-feed_numbers (act.Feed n ∷ acts) = n ∷ feed_numbers acts
-feed_numbers (act.Call j k ∷ acts) = feed_numbers acts
 
 -- the calls of thread j in an order
 abbrev pub call_numbers : ℕ → List Act → List ℕ

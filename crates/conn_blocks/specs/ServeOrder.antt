@@ -65,8 +65,20 @@ FeedsRise n [] = Unit {0}
 FeedsRise n (act.Feed m ∷ order) = (n ≤ m) × FeedsRise (m + 1) order
 FeedsRise n (act.Call j k ∷ order) = FeedsRise n order
 
--- what a block is to the layers above; the stage of each call, by number and then by thread, and how many acts and answers there is room for
+-- what all connections of a run have in common
+pub record OriginOf : Type 0 where
+  pub plan : PlanOf
+  pub calls : CallLists
+
+-- a connection of a plan, with the calls of the threads
+pub record ConnectionOf : Type 0 where
+  pub plan : PlanOf
+  pub calls : CallLists
+  pub c : ℕ
+
+-- what a block is to the layers above; whose it is, the stage of each call, by number and then by thread, and how many acts and answers there is room for
 pub record BlockOf : Type 0 where
+  pub of : ConnectionOf
   pub service : Service
   pub tcb : Block
   pub order : List Act
@@ -92,7 +104,7 @@ SetsClock p c (act.Call j k) old new = new ≡ old
 
 -- what an act that is served leaves as it was
 abbrev pub SameOrder : BlockOf → BlockOf → Type 0
-SameOrder new old = (new.service ≡ old.service) × (new.order ≡ old.order) × (new.stages ≡ old.stages) × (new.order_room ≡ old.order_room) × (old.answers_room ≤ new.answers_room)
+SameOrder new old = (new.service ≡ old.service) × (new.order ≡ old.order) × (new.stages ≡ old.stages) × (new.order_room ≡ old.order_room) × (old.answers_room ≤ new.answers_room) × (new.of ≡ old.of)
 
 abbrev pub serving_of : BlockOf → Serving
 serving_of b = record { block = b.tcb; answers = b.answers }

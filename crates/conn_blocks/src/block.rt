@@ -12,9 +12,11 @@ ghost use Rattle.conn_blocks.specs.Holding.{IsNew};
 ghost use Rattle.conn_blocks.specs.ServeOrder.{asks, receives, serve, serves_act, service_in, serving_of, IsActOf, IsDone, FeedsRise, IsTimely, SameOrder, SetsClock};
 
 use crate::calls::Calls;
+use crate::facts::{Connection, connection_of};
 use crate::stages::Stage;
-use conn_classifier::{Item, Plan};
+use conn_classifier::{Item, Plan, PlanView};
 use echo_services::{Service, pump};
+use known::Known;
 use perimeter_core::Act;
 use std::alloc::{AllocError, Global};
 use std::marker::Model;
@@ -23,6 +25,8 @@ use tcb_machine::{Answer, Call, Next, Tcb};
 /// A connection's TCP state with the acts that made it, in order, and the answers of its calls.
 #[derive(Drop)]
 pub struct Block {
+    /// Whose block it is, for contracts alone.
+    of: Known<Connection>,
     service: Service,
     tcb: Tcb,
     order: Vec<Act>,
@@ -40,6 +44,7 @@ impl Model for Block {
     ghost Value = { BlockOf };
 
     ghost view = { λ b. record {
+      of = b.of.value;
       service = b.service;
       tcb = b.tcb;
       order = b.order.items;
@@ -58,8 +63,22 @@ impl Block {
         requires { c < length plan.now.tuples }
         ensures { IfOk result (λ b. IsNew plan.now calls.now c b.value) }
     {
+        Block::fresh(alloc, &plan.view(), calls, c)
+    }
+
+    /// The same, of a plan that is borrowed.
+    pub(crate) fn fresh(
+        alloc: Global,
+        plan: &PlanView<'_>,
+        calls: &Calls,
+        c: u32,
+    ) -> Result<Box<Block>, AllocError>
+        requires { c < length plan.now.tuples }
+        ensures { IfOk result (λ b. IsNew plan.now calls.now c b.value) }
+    {
         let asked = calls.count_on(c);
         let block = Block {
+            of: connection_of(plan, calls, c),
             service: Service::of(plan.tuple(c).server_port),
             tcb: Tcb::make(alloc),
             order: Vec::with_capacity(alloc, plan.items(c) as usize + asked)?,
@@ -163,7 +182,7 @@ impl Block {
     fn apply(
         &mut self,
         alloc: Global,
-        plan: &Plan,
+        plan: &PlanView<'_>,
         calls: &Calls,
         c: u32,
         act: Act,
@@ -189,7 +208,7 @@ impl Block {
     fn serve(
         &mut self,
         alloc: Global,
-        plan: &Plan,
+        plan: &PlanView<'_>,
         calls: &Calls,
         c: u32,
         act: Act,
@@ -212,7 +231,14 @@ impl Block {
 
     /// An act that comes next joins the order, in room that is there. A block that isn't short does it, and is short from
     /// then on where memory is missing.
-    pub(crate) fn keep(&mut self, alloc: Global, plan: &Plan, calls: &Calls, c: u32, act: Act)
+    pub(crate) fn keep(
+        &mut self,
+        alloc: Global,
+        plan: &PlanView<'_>,
+        calls: &Calls,
+        c: u32,
+        act: Act,
+    )
         requires conn { c < length plan.now.tuples }
         requires act { IsActOf plan.now calls.now c act }
         requires room { length self.old.order < self.old.order_room }
@@ -221,7 +247,7 @@ impl Block {
         requires offered { self.old.short ≡ false → offered self.old.tcb < 2 ^ 60 }
         ensures order { self.new.order ≡ self.old.order ++ act ∷ [] }
         ensures same { (self.new.service ≡ self.old.service) × (self.new.stages ≡ self.old.stages) × (self.new.order_room ≡ self.old.order_room)
-            × (self.old.answers_room ≤ self.new.answers_room) }
+            × (self.old.answers_room ≤ self.new.answers_room) × (self.new.of ≡ self.old.of) }
         ensures short { self.old.short ≡ true → self.new.short ≡ true }
         ensures done { self.new.short ≡ false → IsDone plan.now calls.now c act self.old self.new }
     {
@@ -249,7 +275,26 @@ pub fn serve_one(
     ensures whole { IfOk result (λ b. b.value.short ≡ false) }
     ensures served { IfOk result (λ b. serving_of b.value ≡ serve plan.now calls.now c order.now) }
 {
-    let mut block = Block::make(alloc, plan, calls, c)?;
+    serve_order(alloc, &plan.view(), calls, c, order)
+}
+
+/// The same, of a plan that is borrowed.
+fn serve_order(
+    alloc: Global,
+    plan: &PlanView<'_>,
+    calls: &Calls,
+    c: u32,
+    order: &[Act],
+) -> Result<Box<Block>, AllocError>
+    requires conn { c < length plan.now.tuples }
+    requires acts { AllByRecursion (IsActOf plan.now calls.now c) order.now }
+    requires rising { FeedsRise 0 order.now }
+    requires few { length order.now ≤ length (items_in plan.now c) + 4096 }
+    ensures order { IfOk result (λ b. b.value.order ≡ order.now) }
+    ensures whole { IfOk result (λ b. b.value.short ≡ false) }
+    ensures served { IfOk result (λ b. serving_of b.value ≡ serve plan.now calls.now c order.now) }
+{
+    let mut block = Block::fresh(alloc, plan, calls, c)?;
     for act in order {
         block.serve(alloc, plan, calls, c, *act)?;
     }

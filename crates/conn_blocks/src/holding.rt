@@ -11,19 +11,20 @@ ghost use Rattle.conn_classifier.specs.Plan.{items_in};
 ghost use Rattle.conn_blocks.specs.declared.stages.Stage.TheVariants as Stage;
 ghost use Rattle.conn_blocks.specs.CallLists.{calls_of};
 ghost use Rattle.conn_blocks.specs.ServeOrder.{IsActOf, IsCallOn};
-ghost use Rattle.conn_blocks.specs.Orders.{call_numbers, feed_numbers, numbers_from, numbers_on};
+ghost use Rattle.perimeter_core.specs.Deeds.{feed_numbers};
+ghost use Rattle.conn_blocks.specs.Orders.{call_numbers, numbers_from, numbers_on};
 ghost use Rattle.conn_blocks.specs.Holding.{all_made, is_held_back, is_made, stage_at, ComesNext, Fits, IsSettled, StandsFor};
 
 use crate::block::Block;
 use crate::calls::Calls;
 use crate::stages::{Stage, place};
-use conn_classifier::Plan;
+use conn_classifier::PlanView;
 use perimeter_core::Act;
 use std::alloc::Global;
 
 impl Block {
     /// Feed `n` of connection `c` comes, which is the block's next one.
-    pub(crate) fn feed(&mut self, alloc: Global, plan: &Plan, calls: &Calls, c: u32, n: u32)
+    pub(crate) fn feed(&mut self, alloc: Global, plan: &PlanView<'_>, calls: &Calls, c: u32, n: u32)
         requires conn { c < length plan.now.tuples }
         requires item { n < length (items_in plan.now c) }
         requires next { (came : List Act) × StandsFor plan.now calls.now c came self.old × (length (feed_numbers came) ≡ n) }
@@ -33,7 +34,15 @@ impl Block {
     }
 
     /// Call `k` of thread `j` comes, which is on connection `c`, for the first time or again, in its turn or early.
-    pub(crate) fn call(&mut self, alloc: Global, plan: &Plan, calls: &Calls, c: u32, j: u32, k: u32)
+    pub(crate) fn call(
+        &mut self,
+        alloc: Global,
+        plan: &PlanView<'_>,
+        calls: &Calls,
+        c: u32,
+        j: u32,
+        k: u32,
+    )
         requires conn { c < length plan.now.tuples }
         requires exists { IsCallOn calls.now c (Act.Call j k) }
         requires stands { (came : List Act) × StandsFor plan.now calls.now c came self.old }
@@ -46,7 +55,15 @@ impl Block {
     }
 
     /// Call `k` of thread `j` comes for the first time.
-    fn first_call(&mut self, alloc: Global, plan: &Plan, calls: &Calls, c: u32, j: u32, k: u32)
+    fn first_call(
+        &mut self,
+        alloc: Global,
+        plan: &PlanView<'_>,
+        calls: &Calls,
+        c: u32,
+        j: u32,
+        k: u32,
+    )
         requires conn { c < length plan.now.tuples }
         requires exists { IsCallOn calls.now c (Act.Call j k) }
         requires stands { (came : List Act) × StandsFor plan.now calls.now c came self.old }
@@ -99,7 +116,15 @@ impl Block {
     }
 
     /// The calls of thread `j` on connection `c` from number `from` on are made, up to the first that isn't held back.
-    fn let_go(&mut self, alloc: Global, plan: &Plan, calls: &Calls, c: u32, j: u32, from: u32)
+    fn let_go(
+        &mut self,
+        alloc: Global,
+        plan: &PlanView<'_>,
+        calls: &Calls,
+        c: u32,
+        j: u32,
+        from: u32,
+    )
         requires conn { c < length plan.now.tuples }
         requires thread { j < 4 }
         requires settled { IsSettled plan.now calls.now c self.old }
@@ -120,7 +145,15 @@ impl Block {
     }
 
     /// Call `k` of thread `j` is made, which is the thread's next one on connection `c`.
-    fn make_call(&mut self, alloc: Global, plan: &Plan, calls: &Calls, c: u32, j: u32, k: u32)
+    fn make_call(
+        &mut self,
+        alloc: Global,
+        plan: &PlanView<'_>,
+        calls: &Calls,
+        c: u32,
+        j: u32,
+        k: u32,
+    )
         requires conn { c < length plan.now.tuples }
         requires exists { IsCallOn calls.now c (Act.Call j k) }
         requires settled { IsSettled plan.now calls.now c self.old }
@@ -134,7 +167,7 @@ impl Block {
     }
 
     /// An act that comes next is kept.
-    fn keep_next(&mut self, alloc: Global, plan: &Plan, calls: &Calls, c: u32, act: Act)
+    fn keep_next(&mut self, alloc: Global, plan: &PlanView<'_>, calls: &Calls, c: u32, act: Act)
         requires conn { c < length plan.now.tuples }
         requires act { IsActOf plan.now calls.now c act }
         requires settled { IsSettled plan.now calls.now c self.old }

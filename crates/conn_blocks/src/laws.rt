@@ -1,14 +1,17 @@
-//! The laws of settled and whole orders, and of blocks that get their acts one by one. Each is a function that does nothing, whose contract is the law.
+//! The laws of settled and whole orders, of blocks that get their acts one by one, and of the places where blocks lie. Each is a function that does nothing, whose contract is the law.
 
-ghost use Rattle.std.specs.Prelude.{◌≡◌, ℕ, ◌<◌, false, List, [], map, length};
+ghost use Rattle.std.specs.Prelude.{◌≡◌, ℕ, ◌<◌, false, List, [], Option, Some, None, Box, map, length, slice_get};
 ghost use Rattle.std.specs.List.{range_with_len};
+ghost use Rattle.std.specs.declared.alloc.Global.{Global};
 ghost use Rattle.perimeter_core.specs.declared.entries.Act.{Act};
 ghost use Rattle.perimeter_core.specs.declared.entries.Act.TheVariants as Act;
+ghost use Rattle.perimeter_core.specs.Blocks.{Blocks as Had};
 ghost use Rattle.conn_classifier.specs.Plan.{PlanOf, items_in};
 ghost use Rattle.conn_blocks.specs.CallLists.{CallLists, calls_of};
 ghost use Rattle.conn_blocks.specs.Orders.{is_held, numbers_on, settle, IsAll, IsWhole};
 ghost use Rattle.conn_blocks.specs.ServeOrder.{serve, serving_of, BlockOf};
 ghost use Rattle.conn_blocks.specs.Holding.{is_held_back, stage_at, IsNew, StandsFor};
+ghost use Rattle.conn_blocks.specs.Places.{PlacesStand};
 
 /// Where all feeds came in order, and all calls in any order, what is kept is a whole order.
 pub fn a_settled_order_is_whole()
@@ -35,4 +38,13 @@ pub fn a_block_holds_back_what_settling_holds()
         → k < length (calls_of calls j) → is_held_back (stage_at b.stages j k) ≡ is_held came (settle calls c came) j k }
     ensures served { (p : PlanOf) (calls : CallLists) (c : ℕ) (came : List Act) (b : BlockOf) → StandsFor p calls c came b → b.short ≡ false
         → serving_of b ≡ serve p calls c (settle calls c came) }
+{}
+
+/// Where places stand for what was done to blocks, the block of each connection that is here lies at its place and stands for
+/// what was done to it. The place of a connection that isn't here is empty.
+pub fn each_block_lies_at_its_place()
+    ensures here { (p : PlanOf) (calls : CallLists) (places : List (Option (Box BlockOf Global))) (blocks : Had) (c : ℕ) (came : List Act) → PlacesStand p calls places blocks
+        → blocks c ≡ Some came → (b : Box BlockOf Global) × (slice_get places c ≡ Some (Some b)) × StandsFor p calls c came b.value }
+    ensures away { (p : PlanOf) (calls : CallLists) (places : List (Option (Box BlockOf Global))) (blocks : Had) (c : ℕ) → PlacesStand p calls places blocks
+        → blocks c ≡ None → c < length places → slice_get places c ≡ Some None }
 {}

@@ -1,10 +1,13 @@
 //! A connection's block: its TCP state, what was done to it, and in which order.
 //!
-//! `serve_one` serves one order of acts on one thread. It knows no squeue and no other connection.
+//! `serve_one` serves one order of acts on one thread. `Blocks` is what a squeue serves: the blocks of the connections that are
+//! at it. A block knows no squeue and no other connection.
 #![tactic(auto)]
 
 mod block;
+mod blocks;
 mod calls;
+mod facts;
 mod holding;
 pub mod laws;
 mod stages;
@@ -12,5 +15,7 @@ mod stages;
 mod tests;
 
 pub use block::{Block, serve_one};
+pub use blocks::Blocks;
 pub use calls::Calls;
+pub use facts::Origin;
 pub use perimeter_core::Act;

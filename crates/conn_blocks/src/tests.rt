@@ -1,17 +1,21 @@
-ghost use Rattle.std.specs.Prelude.{◌≡◌, ℕ, ◌+◌, ◌<◌, ◌≤◌, true, List, length, IfOk};
+ghost use Rattle.std.specs.Prelude.{◌≡◌, ℕ, ◌+◌, ◌<◌, ◌≤◌, true, All, Contains, List, length, slice_index, IfOk};
 ghost use Rattle.std.specs.List.{AllByRecursion};
 ghost use Rattle.perimeter_core.specs.declared.entries.Act.{Act};
 ghost use Rattle.perimeter_core.specs.declared.entries.Act.TheVariants as Act;
+ghost use Rattle.perimeter_core.specs.Residing.{HadFeeds, NotHere};
 ghost use Rattle.conn_classifier.specs.Plan.{items_in};
+ghost use Rattle.conn_blocks.specs.Allowed.{all_calls};
 ghost use Rattle.conn_blocks.specs.ServeOrder.{IsActOf, IsCallOn, FeedsRise};
-ghost use Rattle.conn_blocks.specs.Orders.{feed_numbers};
+ghost use Rattle.perimeter_core.specs.Deeds.{feed_numbers};
 ghost use Rattle.conn_blocks.specs.Holding.{StandsFor};
 
-use crate::{Act, Block, Calls, serve_one};
+use crate::{Act, Block, Blocks, Calls, serve_one};
 use capture_reader::{Capture, parse_capture};
-use conn_classifier::{Plan, plan};
+use conn_classifier::{Plan, PlanView, plan};
+use perimeter_core::Resident;
 use sq_base::Octets;
 use std::alloc::{AllocError, Global};
+use std::process::Abort;
 use std::test::Fail;
 use tcb_machine::{Answer, Call, State};
 
@@ -75,7 +79,12 @@ fn five_segments(rt: &HostRuntime) -> Result<Capture, Fail> {
 }
 
 /// Thread 0 asks for the status and closes, thread 1 asks for the status.
-fn two_threads(alloc: Global) -> Result<Calls, AllocError> {
+fn two_threads(alloc: Global) -> Result<Calls, AllocError>
+    ensures below { IfOk result (λ calls. All (λ call. call.0 < 1) (all_calls calls)) }
+    ensures status { IfOk result (λ calls. Contains (all_calls calls) (0, 0, 0)) }
+    ensures close { IfOk result (λ calls. Contains (all_calls calls) (0, 0, 1)) }
+    ensures other { IfOk result (λ calls. Contains (all_calls calls) (0, 1, 0)) }
+{
     let mut calls = Calls::make(alloc);
     calls.push(0, 0, Call::Status)?;
     calls.push(0, 0, Call::Close)?;
@@ -134,7 +143,7 @@ fn feeds(order: &[Act]) -> usize
 }
 
 /// An act comes to the block of connection 0, where there is such an act and it can come now.
-fn give(block: &mut Block, alloc: Global, plan: &Plan, calls: &Calls, act: Act) -> bool
+fn give(block: &mut Block, alloc: Global, plan: &PlanView<'_>, calls: &Calls, act: Act) -> bool
     requires conn { 0 < length plan.now.tuples }
     requires stands { (came : List Act) × StandsFor plan.now calls.now 0 came block.old }
     ensures { (came : List Act) × StandsFor plan.now calls.now 0 came block.new }
@@ -157,7 +166,13 @@ fn give(block: &mut Block, alloc: Global, plan: &Plan, calls: &Calls, act: Act) 
 }
 
 /// Acts come to the block of connection 0, one after another.
-fn give_all(block: &mut Block, alloc: Global, plan: &Plan, calls: &Calls, acts: &[Act]) -> bool
+fn give_all(
+    block: &mut Block,
+    alloc: Global,
+    plan: &PlanView<'_>,
+    calls: &Calls,
+    acts: &[Act],
+) -> bool
     requires conn { 0 < length plan.now.tuples }
     requires stands { (came : List Act) × StandsFor plan.now calls.now 0 came block.old }
     ensures { (came : List Act) × StandsFor plan.now calls.now 0 came block.new }
@@ -173,14 +188,14 @@ fn give_all(block: &mut Block, alloc: Global, plan: &Plan, calls: &Calls, acts: 
 /// The block of connection 0 to which these acts came.
 fn given(
     alloc: Global,
-    plan: &Plan,
+    plan: &PlanView<'_>,
     calls: &Calls,
     acts: &[Act],
 ) -> Result<Option<Box<Block>>, AllocError> {
     if plan.conns() == 0 {
         return Ok(None);
     }
-    let mut block = Block::make(alloc, plan, calls, 0)?;
+    let mut block = Block::fresh(alloc, plan, calls, 0)?;
     let all = give_all(&mut block, alloc, plan, calls, acts);
     Ok(all.then_some(block))
 }
@@ -353,7 +368,7 @@ fn early_repeated_and_late_calls(rt: HostRuntime) -> Result<(), Fail> {
     let capture = five_segments(&rt)?;
     let plan = plan(&rt, rt.alloc(), &capture, false)?;
     let calls = two_threads(rt.alloc())?;
-    let Some(block) = given(rt.alloc(), &plan, &calls, &EARLY_AND_AGAIN)? else {
+    let Some(block) = given(rt.alloc(), &plan.view(), &calls, &EARLY_AND_AGAIN)? else {
         panic!(rt; "an act can't come")
     };
     assert!(rt; served_two_threads(&rt, &block)?);
@@ -372,11 +387,145 @@ fn call_held_to_the_end(rt: HostRuntime) -> Result<(), Fail> {
     let capture = five_segments(&rt)?;
     let plan = plan(&rt, rt.alloc(), &capture, false)?;
     let calls = two_threads(rt.alloc())?;
-    let Some(block) = given(rt.alloc(), &plan, &calls, &NEVER_LET_GO)? else {
+    let Some(block) = given(rt.alloc(), &plan.view(), &calls, &NEVER_LET_GO)? else {
         panic!(rt; "an act can't come")
     };
     let order = [Act::Feed { n: 0 }, Act::Call { j: 1, k: 0 }];
     assert_eq!(rt; block.order(), order.as_slice());
     assert_eq!(rt; block.answers(), 1);
+    Ok(())
+}
+
+/// Feed `n` of connection 0 comes to a resident, which is the next one.
+fn feed_next<R: Resident>(resident: &mut R, alloc: Global, n: u32)
+    requires range { 0 < R.size resident.old }
+    requires next { HadFeeds (R.stands resident.old) 0 n }
+    requires limit { n < slice_index (R.limits resident.old).feeds 0 }
+    ensures next { HadFeeds (R.stands resident.new) 0 (n + 1) }
+    ensures size { R.size resident.new ≡ R.size resident.old }
+    ensures limits { R.limits resident.new ≡ R.limits resident.old }
+    ensures origin { R.origin resident.new ≡ R.origin resident.old }
+{
+    resident.feed(alloc, 0, n);
+}
+
+/// Call `k` of thread `j` comes to a resident, on connection 0, which has had `_n` feeds.
+fn call_now<R: Resident>(resident: &mut R, alloc: Global, _n: u32, j: u32, k: u32)
+    requires range { 0 < R.size resident.old }
+    requires here { HadFeeds (R.stands resident.old) 0 _n }
+    requires exists { Contains (R.limits resident.old).calls (0, j, k) }
+    ensures here { HadFeeds (R.stands resident.new) 0 _n }
+    ensures size { R.size resident.new ≡ R.size resident.old }
+    ensures limits { R.limits resident.new ≡ R.limits resident.old }
+    ensures origin { R.origin resident.new ≡ R.origin resident.old }
+{
+    resident.call(alloc, 0, j, k);
+}
+
+/// Of the acts with calls that come early and again those before feed 2.
+fn first_acts<R: Resident>(resident: &mut R, alloc: Global)
+    requires range { 0 < R.size resident.old }
+    requires fresh { HadFeeds (R.stands resident.old) 0 0 }
+    requires limit { slice_index (R.limits resident.old).feeds 0 ≡ 6 }
+    requires close { Contains (R.limits resident.old).calls (0, 0, 1) }
+    ensures here { HadFeeds (R.stands resident.new) 0 2 }
+    ensures size { R.size resident.new ≡ R.size resident.old }
+    ensures origin { R.origin resident.new ≡ R.origin resident.old }
+{
+    feed_next(resident, alloc, 0);
+    feed_next(resident, alloc, 1);
+    call_now(resident, alloc, 2, 0, 1);
+    call_now(resident, alloc, 2, 0, 1);
+}
+
+/// The others of these acts, up to the last feeds.
+fn middle_acts<R: Resident>(resident: &mut R, alloc: Global)
+    requires range { 0 < R.size resident.old }
+    requires here { HadFeeds (R.stands resident.old) 0 2 }
+    requires limit { slice_index (R.limits resident.old).feeds 0 ≡ 6 }
+    requires status { Contains (R.limits resident.old).calls (0, 0, 0) }
+    requires close { Contains (R.limits resident.old).calls (0, 0, 1) }
+    requires other { Contains (R.limits resident.old).calls (0, 1, 0) }
+    ensures here { HadFeeds (R.stands resident.new) 0 3 }
+    ensures size { R.size resident.new ≡ R.size resident.old }
+    ensures limits { R.limits resident.new ≡ R.limits resident.old }
+{
+    feed_next(resident, alloc, 2);
+    call_now(resident, alloc, 3, 0, 0);
+    call_now(resident, alloc, 3, 0, 0);
+    call_now(resident, alloc, 3, 1, 0);
+    call_now(resident, alloc, 3, 0, 1);
+}
+
+/// The last feeds, and a call once more.
+fn last_acts<R: Resident>(resident: &mut R, alloc: Global)
+    requires range { 0 < R.size resident.old }
+    requires here { HadFeeds (R.stands resident.old) 0 3 }
+    requires limit { slice_index (R.limits resident.old).feeds 0 ≡ 6 }
+    requires other { Contains (R.limits resident.old).calls (0, 1, 0) }
+{
+    feed_next(resident, alloc, 3);
+    feed_next(resident, alloc, 4);
+    feed_next(resident, alloc, 5);
+    call_now(resident, alloc, 6, 1, 0);
+}
+
+/// The block of connection 0, after two feeds, goes from one resident to another.
+fn move_over<R: Resident>(from: &mut R, to: &mut R)
+    requires from { 0 < R.size from.old }
+    requires to { 0 < R.size to.old }
+    requires here { HadFeeds (R.stands from.old) 0 2 }
+    requires away { NotHere (R.stands to.old) 0 }
+    requires origin { R.origin from.old ≡ R.origin to.old }
+    ensures here { HadFeeds (R.stands to.new) 0 2 }
+    ensures from { R.size from.new ≡ R.size from.old }
+    ensures to { R.size to.new ≡ R.size to.old }
+    ensures limits { R.limits to.new ≡ R.limits to.old }
+{
+    let part = from.take_out(0);
+    to.put_in(0, part);
+}
+
+/// The places of squeue 1 of two, to which connection 0 came before feed 2.
+fn moved(
+    rt: &impl Abort,
+    alloc: Global,
+    plan: &Plan,
+    calls: &Calls,
+) -> Result<Vec<Option<Box<Block>>>, AllocError>
+    requires below { All (λ call. call.0 < 1) (all_calls calls.now) }
+    requires status { Contains (all_calls calls.now) (0, 0, 0) }
+    requires close { Contains (all_calls calls.now) (0, 0, 1) }
+    requires other { Contains (all_calls calls.now) (0, 1, 0) }
+{
+    assert!(rt; plan.conns() == 1 && plan.items(0) == 6);
+    let mut first = Blocks::make(alloc, plan, calls, 0, 2, 2)?;
+    let mut second = Blocks::make(alloc, plan, calls, 1, 2, 2)?;
+    assert_eq!(rt;
+        (first.conns(), first.is_here(0), second.is_here(0)),
+        (1, true, false)
+    );
+    first_acts(&mut first, alloc);
+    move_over(&mut first, &mut second);
+    assert_eq!(rt;
+        (second.conns(), first.is_here(0), second.is_here(0)),
+        (1, false, true)
+    );
+    middle_acts(&mut second, alloc);
+    last_acts(&mut second, alloc);
+    Ok(second.into_places())
+}
+
+#[test]
+fn acts_at_two_squeues(rt: HostRuntime) -> Result<(), Fail> {
+    let capture = five_segments(&rt)?;
+    let plan = plan(&rt, rt.alloc(), &capture, false)?;
+    let calls = two_threads(rt.alloc())?;
+    let mut places = moved(&rt, rt.alloc(), &plan, &calls)?;
+    let Some(Some(block)) = places.pop() else {
+        panic!(rt; "the block isn't at its place")
+    };
+    assert!(rt; served_two_threads(&rt, &block)?);
+    assert!(rt; places.is_empty());
     Ok(())
 }

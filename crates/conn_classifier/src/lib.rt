@@ -14,11 +14,13 @@ mod planned;
 mod rings;
 mod sorting;
 mod tuples;
+mod view;
 
 pub use kinds::{Counts, Item};
 pub use making::plan;
 pub use perimeter_core::Feed;
 pub use planned::Plan;
+pub use view::PlanView;
 
 #[cfg(test)]
 mod tests;

@@ -5,6 +5,7 @@ ghost use Rattle.conn_classifier.specs.Connections.{is_served_port};
 ghost use Rattle.conn_classifier.specs.Plan.{items_in, time_of, text_of, text_len_of};
 
 use crate::kinds::{Counts, Item};
+use crate::view::PlanView;
 use capture_reader::Capture;
 use indexmap::IndexSet;
 use sq_base::Tuple;
@@ -51,12 +52,22 @@ impl<'c> Model for Plan<'c> {
 }
 
 impl<'c> Plan<'c> {
+    /// The same plan, borrowed.
+    pub fn view(&self) -> PlanView<'_>
+        ensures { result ≡ self.now }
+    {
+        PlanView {
+            capture: self.capture,
+            table: &self.table,
+        }
+    }
+
     /// How many connections there are.
     pub fn conns(&self) -> u32
         ensures value { result ≡ length self.now.tuples }
         ensures most { result ≤ 4096 }
     {
-        self.table.tuples.len() as u32
+        self.view().conns()
     }
 
     /// How many records count as what.
@@ -72,10 +83,7 @@ impl<'c> Plan<'c> {
         ensures value { slice_get self.now.tuples c ≡ Some result }
         ensures served { is_served_port result.server_port ≡ true }
     {
-        match self.table.tuples.get_index(c as usize) {
-            Some(tuple) => *tuple,
-            None => unreachable!(),
-        }
+        self.view().tuple(c)
     }
 
     /// How many items connection `c` has.
@@ -85,7 +93,7 @@ impl<'c> Plan<'c> {
         ensures some { 0 < result }
         ensures most { result ≤ 2097153 }
     {
-        self.table.items[c as usize].len() as u32
+        self.view().items(c)
     }
 
     /// The ring that brings connection `c`, of so many.
@@ -114,7 +122,7 @@ impl<'c> Plan<'c> {
         ensures most { time_of result ≤ 9007199254740992 }
         ensures rises { (m : ℕ) → m ≤ n → IfSome (slice_get (items_in self.now c) m) (λ before. time_of before ≤ time_of result) }
     {
-        self.table.items[c as usize][n as usize]
+        self.view().item(c, n)
     }
 
     /// The text of item `n` of connection `c`: the segment's, or none for a time item.
@@ -124,12 +132,6 @@ impl<'c> Plan<'c> {
         ensures value { IfSome (slice_get (items_in self.now c) n) (λ item. result.now ≡ text_of self.now.file item) }
         ensures whole { IfSome (slice_get (items_in self.now c) n) (λ item. length result.now ≡ text_len_of item) }
     {
-        match self.item(c, n) {
-            Item::Time { .. } => &[],
-            Item::Segment { rec, seg, .. } => {
-                let from = seg.text_from as usize;
-                &self.capture.body(rec)[from..from + seg.text_len as usize]
-            }
-        }
+        self.view().text(c, n)
     }
 }

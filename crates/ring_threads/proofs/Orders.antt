@@ -11,8 +11,9 @@ use Rattle.perimeter_core.specs.declared.entries.Act.{Act}
 use Rattle.perimeter_core.specs.declared.entries.Act.TheVariants as act
 use Rattle.conn_blocks.specs.CallLists.{CallLists}
 use Rattle.conn_blocks.specs.ServeOrder.{BlockOf, serve, serving_of, IsActOf, IsCallOn, FeedsRise}
-use Rattle.conn_blocks.specs.Orders.{feed_numbers, call_numbers, numbers_on, IsWhole}
-use Rattle.conn_blocks.proofs.Settling.{feeds_append}
+use Rattle.perimeter_core.specs.Deeds.{feed_numbers}
+use Rattle.conn_blocks.specs.Orders.{call_numbers, numbers_on, IsWhole}
+use Rattle.conn_blocks.specs.SettledFeeds.{feeds_append}
 use Rattle.ring_threads.specs.ServedBlocks.{IsServing}
 
 pub all_append : {X : Type 0} (P : X → Type 0) (xs ys : List X) → AllByRecursion P xs → AllByRecursion P ys → AllByRecursion P (xs ++ ys)

@@ -11,7 +11,8 @@ use Rattle.capture_reader.specs.Outcome.{CaptureFile}
 use Rattle.conn_classifier.specs.Plan.{PlanOf, items_in, plan_of}
 use Rattle.conn_classifier.specs.declared.kinds.Item.{Item}
 use Rattle.conn_blocks.specs.CallLists.{CallLists}
-use Rattle.conn_blocks.specs.Orders.{IsWhole, call_numbers, feed_numbers, numbers_on}
+use Rattle.perimeter_core.specs.Deeds.{feed_numbers}
+use Rattle.conn_blocks.specs.Orders.{IsWhole, call_numbers, numbers_on}
 use Rattle.conn_blocks.specs.ServeOrder.{BlockOf}
 use Rattle.ring_threads.specs.ServedBlocks.{AreServed, AreWhole}
 use Rattle.tcb_machine.specs.declared.kinds.Call.{Call}

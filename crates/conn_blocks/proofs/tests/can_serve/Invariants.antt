@@ -1,6 +1,5 @@
-use Rattle.std.proofs.Common.{◌≤◌, length, take}
+use Rattle.std.proofs.Common.{take}
 use Rattle.std.specs.List.{AllByRecursion}
-use Rattle.conn_classifier.specs.Plan.{items_in}
 use Rattle.conn_blocks.specs.ServeOrder.{IsActOf}
 use Rattle.conn_blocks.proofs.FeedsInOrder.{RisesTo}
 use Rattle.conn_blocks.proofs.tests.can_serve.Given as goal

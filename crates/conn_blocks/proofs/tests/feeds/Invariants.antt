@@ -1,5 +1,5 @@
 use Rattle.std.proofs.Common.{◌≡◌, ◌≤◌, length, take}
-use Rattle.conn_blocks.specs.Orders.{feed_numbers}
+use Rattle.perimeter_core.specs.Deeds.{feed_numbers}
 use Rattle.conn_blocks.proofs.tests.feeds.Given as goal
 
 abbrev pub invariant-loop-act : goal.invariant-loop-act

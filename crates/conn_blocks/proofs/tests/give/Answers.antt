@@ -1,5 +1,5 @@
 use Rattle.std.proofs.Common.{◌≡◌, length, refl, sym, ap, ◌∙◌, arith}
-use Rattle.conn_blocks.specs.Orders.{feed_numbers}
+use Rattle.perimeter_core.specs.Deeds.{feed_numbers}
 use Rattle.conn_blocks.proofs.Held.{feed_is_next}
 use Rattle.conn_blocks.proofs.tests.give.Goals as goal
 

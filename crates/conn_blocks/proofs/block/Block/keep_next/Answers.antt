@@ -19,5 +19,5 @@ pub returns-clause-settled : goal.returns-clause-settled
 returns-clause-settled c =
     let e = c.keep.ensures in
     let old = c.args.self.now in
-    settled_more c.args.plan.now c.args.calls.now c.args.c old c.requires.settled c.args.act c.requires.next c.keep.new.self e.order e.same.0 e.same.2 e.same.3
+    settled_more c.args.plan.now c.args.calls.now c.args.c old c.requires.settled c.args.act c.requires.next c.keep.new.self e.order e.same.4 e.same.0 e.same.2 e.same.3
     (λ j k lj lk. subst (λ l. 4 * k + j < length l) (sym e.same.1) (c.requires.settled.table j k lj lk)) e.done

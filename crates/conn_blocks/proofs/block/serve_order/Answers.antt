@@ -3,7 +3,7 @@ use Rattle.std.proofs.lemmas.List.{drop_more, take_more}
 use Rattle.tcb_machine.specs.BlockState.{Block as Tcp, new_block, offered}
 use Rattle.conn_blocks.specs.ServeOrder.{BlockOf, serve, serves, service_in}
 use Rattle.conn_blocks.proofs.SoFar.{SoFar, starts, more}
-use Rattle.conn_blocks.proofs.block.serve_one.Goals as goal
+use Rattle.conn_blocks.proofs.block.serve_order.Goals as goal
 
 pub loop-act-init : goal.loop-act-init
 unfolding serve new_block offered

@@ -1,0 +1,101 @@
+//! The reading of a plan: what each call of `Plan` looks up, on borrows alone, so that a value that keeps a plan borrowed has
+//! one lifetime. It takes no memory.
+
+ghost use Rattle.std.specs.Prelude.{◌≡◌, ℕ, ◌<◌, ◌≤◌, true, length, slice_get, get_or, IfSome, Some};
+ghost use Rattle.conn_classifier.specs.Connections.{is_served_port};
+ghost use Rattle.conn_classifier.specs.Plan.{items_in, time_of, text_of, text_len_of};
+
+use crate::kinds::Item;
+use crate::planned::Table;
+use capture_reader::Capture;
+use sq_base::Tuple;
+use std::marker::Model;
+
+/// A plan that is borrowed, with its reading calls.
+#[derive(Drop)]
+pub struct PlanView<'p> {
+    pub(crate) capture: &'p Capture,
+    pub(crate) table: &'p Table,
+}
+
+impl<'p> Model for PlanView<'p> {
+    ghost use Rattle.std.specs.Prelude.{map};
+    ghost use Rattle.conn_classifier.specs.Plan.{PlanOf, IsPlan};
+
+    ghost Value = { PlanOf };
+
+    ghost view = { λ p. record {
+      file = p.capture.now;
+      tuples = p.table.now.tuples.keys;
+      items = map (λ v. v.items) p.table.now.items.items;
+      order = p.table.now.order.items;
+      counts = p.table.now.counts;
+    } };
+
+    ghost invariant = { λ p. IsPlan (record {
+      file = p.capture.now;
+      tuples = p.table.now.tuples.keys;
+      items = map (λ v. v.items) p.table.now.items.items;
+      order = p.table.now.order.items;
+      counts = p.table.now.counts;
+    }) };
+}
+
+impl<'p> PlanView<'p> {
+    /// How many connections there are.
+    pub fn conns(&self) -> u32
+        ensures value { result ≡ length self.now.tuples }
+        ensures most { result ≤ 4096 }
+    {
+        self.table.tuples.len() as u32
+    }
+
+    /// The two ends of connection `c`. The server's port is that of echo or of discard.
+    pub fn tuple(&self, c: u32) -> Tuple
+        requires { c < length self.now.tuples }
+        ensures value { slice_get self.now.tuples c ≡ Some result }
+        ensures served { is_served_port result.server_port ≡ true }
+    {
+        match self.table.tuples.get_index(c as usize) {
+            Some(tuple) => *tuple,
+            None => unreachable!(),
+        }
+    }
+
+    /// How many items connection `c` has.
+    pub fn items(&self, c: u32) -> u32
+        requires { c < length self.now.tuples }
+        ensures value { result ≡ length (items_in self.now c) }
+        ensures some { 0 < result }
+        ensures most { result ≤ 2097153 }
+    {
+        self.table.items[c as usize].len() as u32
+    }
+
+    /// Item `n` of connection `c`. Times never fall from an item to a later one.
+    pub fn item(&self, c: u32, n: u32) -> Item
+        requires conn { c < length self.now.tuples }
+        requires item { n < length (items_in self.now c) }
+        ensures value { slice_get (items_in self.now c) n ≡ Some result }
+        ensures most { time_of result ≤ 9007199254740992 }
+        ensures rises { (m : ℕ) → m ≤ n → IfSome (slice_get (items_in self.now c) m) (λ before. time_of before ≤ time_of result) }
+    {
+        self.table.items[c as usize][n as usize]
+    }
+
+    /// The text of item `n` of connection `c`: the segment's, or none for a time item.
+    pub fn text(&self, c: u32, n: u32) -> &'p [u8]
+        requires conn { c < length self.now.tuples }
+        requires item { n < length (items_in self.now c) }
+        ensures value { IfSome (slice_get (items_in self.now c) n) (λ item. result.now ≡ text_of self.now.file item) }
+        ensures whole { IfSome (slice_get (items_in self.now c) n) (λ item. length result.now ≡ text_len_of item) }
+    {
+        match self.item(c, n) {
+            Item::Time { .. } => &[],
+            Item::Segment { rec, seg, .. } => {
+                let from = seg.text_from as usize;
+                &self.capture.body(rec)[from..from + seg.text_len as usize]
+            }
+        }
+    }
+}
