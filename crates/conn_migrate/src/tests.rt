@@ -47,7 +47,7 @@ fn one_migration(rt: HostRuntime) -> Result<(), Fail> {
     let (ring_a, ring_b) = migrate(&rt, alloc, &NoHook, &a, ring_a, &b, ring_b, 0, &hints);
     assert_eq!(rt; hints.get(0), 1);
 
-    let (logs, trace) = ended(&rt, alloc, a, room_a, ring_a, thread_a, last_a);
+    let (logs, _ended, trace) = ended(&rt, alloc, a, room_a, ring_a, thread_a, last_a);
     let act = SynchAct::Out { c: 0 };
     let marks = [
         TraceMark::Fill {
@@ -70,7 +70,7 @@ fn one_migration(rt: HostRuntime) -> Result<(), Fail> {
     has_entries(&rt, &trace, 1, &[Entry::Ask { p: 0 }]);
     assert!(rt; logs.log(0).is_none());
 
-    let (logs, trace) = ended(&rt, alloc, b, room_b, ring_b, thread_b, last_b);
+    let (logs, _ended, trace) = ended(&rt, alloc, b, room_b, ring_b, thread_b, last_b);
     let act = SynchAct::In { c: 0 };
     let marks = [
         TraceMark::Claim {

@@ -1,16 +1,19 @@
 //! The end of a small squeue.
-ghost use Rattle.std.specs.Prelude.{◌≡◌, ◌≤◌, [], length, vec_capacity};
-ghost use Rattle.perimeter_core.specs.Logging.{limits_of, size_of};
+ghost use Rattle.std.specs.Prelude.{◌≡◌, ◌≤◌, [], true, length, map, vec_capacity};
+ghost use Rattle.perimeter_core.specs.Blocks.{peri};
+ghost use Rattle.perimeter_core.specs.Logging.{Stands, limits_of, size_of};
 ghost use Rattle.perimeter_core.specs.Perimeter.{Idle};
 ghost use Rattle.perimeter_core.specs.History.{run};
+ghost use Rattle.squeue_state.specs.Endings.{HasEnded};
 ghost use Rattle.squeue_state.specs.Naming.{setting_of};
 ghost use Rattle.squeue_state.specs.Elements.{number_of};
+ghost use Rattle.squeue_trace.specs.Told.{marks_of};
 ghost use Rattle.turn_gate.specs.Passes.{IsPassOf, number, seen};
 
 use perimeter_core::NoHook;
 use perimeter_core::logs::Logs;
 use squeue_drain::worker;
-use squeue_state::{Pass, Squeue};
+use squeue_state::{Ended, Pass, Squeue};
 use squeue_trace::Trace;
 use std::alloc::Global;
 use std::sync::Wait;
@@ -25,18 +28,21 @@ pub fn ended<W: Wait>(
     ring: Pass,
     thread: Pass,
     last: Pass,
-) -> (Logs, Trace)
+) -> (Logs, Ended, Trace)
     requires room { (room.items ≡ []) × (3 ≤ vec_capacity room) }
     requires given { length squeue.given.quotas ≡ 2 }
     requires are { IsPassOf number_of squeue.gate ring × IsPassOf number_of squeue.gate thread × IsPassOf number_of squeue.gate last }
     requires numbers { (number ring ≡ 0) × (number thread ≡ 1) × (number last ≡ 2) }
     requires idle { Idle (run (setting_of limits_of squeue.given) (seen ring)) (number ring) × Idle (run (setting_of limits_of squeue.given) (seen thread)) (number thread) }
     ensures size { size_of result.0 ≡ length squeue.given.starts }
+    ensures stands { Stands result.0 (peri (setting_of limits_of squeue.given) result.1.history) }
+    ensures ended { HasEnded result.1 }
+    ensures setting { result.1.setting ≡ setting_of limits_of squeue.given }
+    ensures trace { squeue.given.traced ≡ true → marks_of result.2 ≡ map (λ e. e.mark) result.1.history }
 {
     let mut passes = room;
     passes.push_reserved(squeue.close_pass(rt, ring));
     passes.push_reserved(squeue.close_pass(rt, thread));
     passes.push_reserved(worker(&squeue, rt, alloc, &NoHook, last));
-    let (logs, _ended, trace) = squeue.finish(passes);
-    (logs, trace)
+    squeue.finish(passes)
 }

@@ -1,5 +1,5 @@
 //! A new squeue and its passes.
-ghost use Rattle.std.specs.Prelude.{◌≡◌, ◌≤◌, ◌^◌, ◌∷◌, [], false, length, slice_index_or, vec_capacity, IfOk};
+ghost use Rattle.std.specs.Prelude.{◌≡◌, ◌≤◌, ◌^◌, ◌∷◌, [], true, false, length, slice_index_or, vec_capacity, IfOk};
 ghost use Rattle.perimeter_core.specs.Logging.{limits_of};
 ghost use Rattle.squeue_state.specs.Elements.{number_of};
 ghost use Rattle.turn_gate.specs.Passes.{AreFresh};
@@ -20,6 +20,7 @@ pub fn opened(
     requires { feeds ≤ 2 ^ 30 }
     ensures passes { IfOk result (λ r. (length r.1.items ≡ 3) × AreFresh number_of r.0.gate 0 r.1.items) }
     ensures number { IfOk result (λ r. r.0.given.number ≡ number) }
+    ensures traced { IfOk result (λ r. r.0.given.traced ≡ true) }
     ensures given { IfOk result (λ r. (r.0.given.quotas ≡ (feeds, 1) ∷ (0, 1) ∷ []) × (r.0.given.rings ≡ 1) × (length r.0.given.starts ≡ 1)) }
     ensures here { IfOk result (λ r. slice_index_or r.0.given.starts 0 false ≡ here) }
     ensures limits { IfOk result (λ r. limits_of r.0.given.first ≡ record { feeds = feeds ∷ []; leaves = 1 ∷ []; calls = (0, 0, 0) ∷ [] }) }

@@ -78,7 +78,7 @@ fn a_call_here(rt: HostRuntime) -> Result<(), Fail> {
     let (ring, thread, last) = three(&mut passes);
     let (thread, called, found) = tries(&rt, alloc, &squeue, thread, 0, 0, 0);
     assert_eq!(rt; (called, found), (Called::Done, true));
-    let (logs, trace) = ended(&rt, alloc, squeue, passes, ring, thread, last);
+    let (logs, _ended, trace) = ended(&rt, alloc, squeue, passes, ring, thread, last);
     let act = SynchAct::Call { c: 0, j: 0, k: 0 };
     let marks = [
         TraceMark::Claim {
@@ -104,7 +104,7 @@ fn a_call_elsewhere(rt: HostRuntime) -> Result<(), Fail> {
     let (ring, thread, last) = three(&mut passes);
     let (thread, called, found) = tries(&rt, alloc, &squeue, thread, 0, 0, 0);
     assert_eq!(rt; (called, found), (Called::Elsewhere, false));
-    let (logs, trace) = ended(&rt, alloc, squeue, passes, ring, thread, last);
+    let (logs, _ended, trace) = ended(&rt, alloc, squeue, passes, ring, thread, last);
     let act = SynchAct::Away;
     let marks = [
         TraceMark::Claim {
