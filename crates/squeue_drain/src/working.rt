@@ -15,10 +15,11 @@ use perimeter_core::{Hook, Own, Resident, SynchAct};
 use squeue_state::{Pass, Squeue, Turn};
 use std::alloc::Global;
 use std::sync::Wait;
+use std::thread::yield_now;
 
 /// Works until every other pass is closed, nothing is queued and nobody has the perimeter, as a turn of its own has found.
 /// Where something waits for the worker it takes the queue, and drains without a budget until a turn finds nothing queued or
-/// it grants. Else it releases the gate and may wait.
+/// it grants. Else it releases the gate and lets other threads run.
 pub fn worker<R: Resident, H: Hook, W: Wait>(
     sq: &Squeue<R>,
     rt: &W,
@@ -58,7 +59,10 @@ fn work_once<R: Resident, H: Hook, W: Wait>(
     let turn = sq.turn(rt, pass);
     if !waits_for_worker(&turn) {
         let over = is_over(&turn);
-        return (sq.plain(turn), over);
+        let pass = sq.plain(turn);
+        // The gate is handed over in order: who comes next isn't to wait for a worker that isn't running.
+        yield_now();
+        return (pass, over);
     }
     let (pass, resident, hand) = sq.work(turn);
     let owner = Owner {

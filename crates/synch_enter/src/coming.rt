@@ -19,6 +19,7 @@ use squeue_drain::{Owner, is_free, process};
 use squeue_state::{Pass, Squeue, Turn};
 use std::alloc::Global;
 use std::sync::Wait;
+use std::thread::yield_now;
 
 /// Waits to be owner, and returns at the pass's own Ask.
 pub fn synch_enter<R: Resident, H: Hook, W: Wait>(
@@ -139,6 +140,7 @@ fn wait_for_grant<R: Resident, W: Wait>(sq: &Squeue<R>, rt: &W, pass: Pass) -> O
             return Owner::of(sq.accept(turn));
         }
         pass = sq.plain(turn);
+        yield_now();
     }
     unreachable!()
 }

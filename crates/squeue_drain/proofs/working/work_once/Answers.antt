@@ -2,7 +2,7 @@ use Rattle.squeue_drain.proofs.Workers.{worked_trans, worked_plain, worked_on, w
 use Rattle.squeue_drain.proofs.working.work_once.Goals as goal
 
 pub returns-then-not-waits_for_worker-clause-worked : goal.returns-then-not-waits_for_worker-clause-worked
-returns-then-not-waits_for_worker-clause-worked g c = worked_plain g.R.Resident.limits c.args.sq.now c.args.pass c.plain.result c.turn-turn.result c.requires.pass c.turn-turn.ensures c.plain.ensures
+returns-then-not-waits_for_worker-clause-worked g c = worked_plain g.R.Resident.limits c.args.sq.now c.args.pass c.plain-pass.result c.turn-turn.result c.requires.pass c.turn-turn.ensures c.plain-pass.ensures
 
 pub work-pass-requires-clause-may : goal.work-pass-requires-clause-may
 work-pass-requires-clause-may g c = may_here g.R.Resident.limits c.args.sq.now c.args.pass c.turn-turn.result c.turn-turn.ensures c.requires.worker (c.waits_for_worker.ensures c.if-not-waits_for_worker.false)
