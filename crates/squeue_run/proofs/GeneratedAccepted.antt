@@ -13,6 +13,7 @@ use Rattle.capture_reader.specs.declared.form.Form.{Form}
 use Rattle.capture_reader.specs.declared.fault.CaptureFault.TheVariants as fault
 use Rattle.capture_reader.specs.Form.{number, form_of}
 use Rattle.capture_reader.specs.Header.{header_answer, magic_answer}
+use Rattle.capture_reader.specs.Limits.{most_records}
 use Rattle.capture_reader.specs.CaptureFile.{IsSpelling, named_length, packets_of, IsSplit}
 use Rattle.squeue_run.specs.GeneratedCapture.{below, text_len, ends_of, segment_at, record_of, record_at, round_before, rounds_before, file_header, generated, IsAccepted}
 use Rattle.squeue_run.proofs.GeneratedSize.{body_size, record_size, generated_size, length_below, same_sum}
@@ -117,7 +118,7 @@ accepted n = (
     pieces = records n 1000 100;
     rest = [];
     split = split n;
-    ends = (refl, let few : length (records n 1000 100) ≤ 1048576 = omega (arith, count n 1000 100) in few);
+    ends = (refl, let few : length (records n 1000 100) ≤ most_records = omega (arith, count n 1000 100) in few);
     named = refl;
   },
 )
