@@ -6,9 +6,18 @@ use Rattle.turn_gate.specs.Rule.{row, view}
 use Rattle.turn_gate.specs.declared.views.Row.{Row}
 use Rattle.turn_gate.specs.declared.views.View.{View}
 use Rattle.turn_gate.specs.declared.views.LockStep.{LockStep}
-use Rattle.turn_gate.specs.declared.views.LockStep.TheVariants.{Exchange, Load}
+use Rattle.turn_gate.specs.declared.views.LockStep.TheVariants.{Exchange, Load, Serve}
 use Rattle.turn_gate.specs.declared.pass.Pass.{Pass}
 use Rattle.turn_gate.specs.declared.pass.Missed.{Missed}
+
+-- the call made two steps on the lock word: it loaded it, and then made an exchange from 256 times the ticket that was
+-- served in the word loaded, which found just that
+abbrev pub hit : List LockStep → List LockStep → Type 0
+hit before after = (w : ℕ) × (after ≡ before ++ Load w ∷ Exchange (w / 256 * 256) (w / 256 * 256) ∷ [])
+
+-- the call made one step on the lock word, and served the next ticket by it
+abbrev pub freed_once : List LockStep → List LockStep → Type 0
+freed_once before after = (w : ℕ) × (after ≡ before ++ Serve w ∷ [])
 
 module _ {E : Type 0} where
   -- the one view of a badge, and the one row of a view; where there is none, one that knows nothing

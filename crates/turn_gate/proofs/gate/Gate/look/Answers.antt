@@ -18,7 +18,7 @@ load-requires g c = let i = c.loop.invariant in let w = c.requires.waits in (
 )
 
 pub returns-then-found-ticket-clause-served : goal.returns-then-found-ticket-clause-served
-returns-then-found-ticket-clause-served g c = let i = c.loop.invariant in λ is. took_still g.G.Tells.tells g.T.Storied.number c.args.ticket c.args.seat.now.me c.loop.seat.me c.load-found.new.seat.me i.1 (c.load-found.ensures.2.1 c.args.ticket (i.1.1 ∙ c.requires.waits.2) is)
+returns-then-found-ticket-clause-served g c = let i = c.loop.invariant in λ is. took_still g.G.Tells.tells g.T.Storied.number c.args.ticket c.args.seat.now.me c.loop.seat.me c.load-found.new.seat.me i.1 (c.load-found.ensures.2.2 c.args.ticket (i.1.1 ∙ c.requires.waits.2) is)
 
 pub returns-clause-served : goal.returns-clause-served
-returns-clause-served g c = let i = c.loop.invariant in λ is. took_still g.G.Tells.tells g.T.Storied.number c.args.ticket c.args.seat.now.me c.loop.seat.me c.load.new.seat.me i.1 (c.load.ensures.2.1 c.args.ticket (i.1.1 ∙ c.requires.waits.2) is)
+returns-clause-served g c = let i = c.loop.invariant in λ is. took_still g.G.Tells.tells g.T.Storied.number c.args.ticket c.args.seat.now.me c.loop.seat.me c.load.new.seat.me i.1 (c.load.ensures.2.2 c.args.ticket (i.1.1 ∙ c.requires.waits.2) is)
