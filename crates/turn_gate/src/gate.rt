@@ -2,7 +2,8 @@
 //!
 //! `hold` draws the next ticket and waits until it is served; the seat that loads its own ticket takes the value out of
 //! the slot. A release puts the value back, stores the length of the history where it adds an element, and serves the
-//! next ticket. `try_hold` draws a ticket only where none is out. `hold_soon` tries that for a while, and then holds.
+//! next ticket. `try_hold` draws a ticket only where none is out. `hold_soon` tries that for a while, sleeps between, and
+//! holds in the end.
 
 ghost use Rattle.std.specs.Prelude.{◌≡◌, ◌≤◌};
 
@@ -25,13 +26,16 @@ use std::sync::atomic::Ordering::SeqCst;
 /// How often `hold` looks at the lock word before it parks.
 const LOOKS: u32 = 64;
 
-/// How often `hold_soon` tries before it draws a ticket.
-const TRIES: u32 = 20;
+/// How often `hold_soon` tries before it sleeps.
+const TRIES: u32 = 16;
+
+/// How often `hold_soon` sleeps before it draws a ticket.
+const SLEEPS: u32 = 16;
 
 /// A ticket lock round one value. Threads share it by reference, where the value may be sent between them.
 pub struct Gate<T: Storied> {
     table: Table<Option<Kept<T>>, View<T::Element>, Made<T>, GateRule<T>, Global>,
-    // How many threads park on the lock word, or are about to. It has no rule, and nothing is claimed of it.
+    // How many threads sleep on the lock word, or are about to. It has no rule, and nothing is claimed of it.
     parked: AtomicU64,
     ghost sized: { (table.shared.table_id.words ≡ 2) × (table.shared.table_id.slots ≡ 1) × (1 ≤ table.shared.key.passes) },
 }
@@ -91,16 +95,25 @@ impl<T: Storied> Gate<T> {
     }
 
     /// Takes the gate, and waits for it. It tries for a while, each time where no ticket seems to be out, and pauses longer
-    /// after each try; only then it draws a ticket. So a thread that runs goes before one that doesn't.
+    /// after each try; then it sleeps until a release, and tries again. Only after some sleeps it draws a ticket. So a
+    /// thread that runs goes before one that doesn't.
     pub fn hold_soon<R: Wait>(&self, rt: &R, pass: Pass<T::Element>) -> Held<T>
         requires { IsPassOf T.number (gate_id self.now) pass }
         ensures takes { Takes (T.stands (first_of self.now)) T.number (gate_id self.now) pass result }
         ensures steps { Begins (steps pass) (held_steps result) }
     {
-        match self.attempts(pass) {
-            Ok(held) => held,
-            Err(pass) => self.hold(rt, pass),
+        let mut pass = pass;
+        for _ in 0..SLEEPS {
+            match self.attempts(pass) {
+                Ok(held) => return held,
+                Err(back) => pass = back,
+            }
+            let shown = self.table.shared.peek(0);
+            if shown % 256 > 0 {
+                self.sleep(rt, shown);
+            }
         }
+        self.hold(rt, pass)
     }
 
     // Tries to take the gate, but not for ever.
@@ -207,12 +220,30 @@ impl<T: Storied> Gate<T> {
             if shown / 256 == ticket {
                 return self.taken::<G>(seat, number);
             }
-            // Who releases afterwards wakes, and who released before has changed the word.
-            self.parked.fetch_add(1, SeqCst);
-            self.table.shared.park(rt, 0, (shown % (1 << 32)) as u32);
-            self.parked.fetch_sub(1, SeqCst);
+            self.sleep(rt, shown);
         }
         unreachable!()
+    }
+
+    // Sleeps while the lock word is as shown, which has a ticket out. Who releases afterwards wakes, and who released
+    // before has changed the word.
+    fn sleep<R: Wait>(&self, rt: &R, shown: u64) {
+        self.parked.fetch_add(1, SeqCst);
+        self.table.shared.park(rt, 0, (shown % (1 << 32)) as u32);
+        self.parked.fetch_sub(1, SeqCst);
+    }
+
+    // Wakes who sleeps, if anybody does. Where other tickets are out, the next one is somewhere among the sleepers, so all
+    // are woken; else any one may try.
+    fn wake(&self, others_out: bool) {
+        if self.parked.load(SeqCst) == 0 {
+            return;
+        }
+        if others_out {
+            self.table.shared.wake_all(0);
+        } else {
+            self.table.shared.wake_one(0);
+        }
     }
 
     // Looks at the lock word until it shows the ticket, but not for ever, and returns what it found last.
@@ -312,8 +343,7 @@ impl<T: Storied> Gate<T> {
         seat
     }
 
-    // Gives the slot back and serves the next ticket. Only where other tickets are out, threads may be parked; the next
-    // one is somewhere among them, so all are woken.
+    // Gives the slot back and serves the next ticket.
     fn serve_next(
         &self,
         mut seat: Seat<Option<Kept<T>>, View<T::Element>>,
@@ -325,9 +355,7 @@ impl<T: Storied> Gate<T> {
         ensures steps { freed_once seat.me.0.steps (steps result) }
     {
         let found = self.table.shared.fetch_add::<Free>(&mut seat, 0, 255);
-        if found % 256 > 1 && self.parked.load(SeqCst) > 0 {
-            self.table.shared.wake_all(0);
-        }
+        self.wake(found % 256 > 1);
         let badge = seat.into_badge();
         Pass {
             badge,
