@@ -7,8 +7,8 @@ use Rattle.perimeter_core.specs.Legal.{May}
 use Rattle.perimeter_core.specs.Blocks.{Blocks, peri}
 use Rattle.perimeter_core.proofs.BlocksFollow.{peri_push}
 use Rattle.perimeter_core.proofs.FeedActs.{with_none}
-use Rattle.turn_gate.specs.Passes.{IsPassOf, number, seen, mine}
-use Rattle.turn_gate.specs.Helds.{held_value, held_seen, held_mine, held_number}
+use Rattle.turn_gate.specs.Passes.{IsPassOf, freed_once, number, seen, mine, steps}
+use Rattle.turn_gate.specs.Helds.{held_value, held_seen, held_mine, held_number, held_steps}
 use Rattle.turn_gate.specs.declared.held.Held.{Held}
 use Rattle.squeue_state.specs.declared.inner.Inner.{Inner}
 use Rattle.squeue_state.specs.declared.guarded.Guarded.{Guarded}
@@ -73,14 +73,16 @@ module _ {R O : Type 0} (stands : R → Blocks → Type 0) (limits : R → Limit
 
 -- what the release says of the pass, by the turn
 pub marked : {R : Type 0} (t s : Named R) (G : Gate (Guarded R) Kind Element) (h : Held (Guarded R) Kind Element) (u : Turned R) (e : ℕ → Element) (x : Element) (p : Pass Element) → turned_of t h ≡ u → u.squeue ≡ s → named_of G ≡ s → e u.number ≡ x
-    → IsPassOf number_of (gate_id G) p × (number p ≡ held_number h) → seen p ≡ held_seen h ++ e (held_number h) ∷ [] → mine p ≡ held_mine h ++ e (held_number h) ∷ [] → Marked u x p
-marked {R} t s G h u e x p is sq gs ex its saw made =
+    → IsPassOf number_of (gate_id G) p × (number p ≡ held_number h) → seen p ≡ held_seen h ++ e (held_number h) ∷ [] → mine p ≡ held_mine h ++ e (held_number h) ∷ []
+    → freed_once (held_steps h) (steps p) → Marked u x p
+marked {R} t s G h u e x p is sq gs ex its saw made freed =
     let same : named_of G ≡ u.squeue = gs ∙ sym sq in
     record {
       is_pass = subst (λ (n : Named R). IsPassOf number_of n.gate p) same its.0;
       same_number = its.1 ∙ ap (λ (v : Turned R). v.number) is;
       now_seen = saw ∙ (ap (λ (v : Turned R). v.found ++ e v.number ∷ []) is ∙ ap (λ y. u.found ++ y ∷ []) ex);
       now_mine = made ∙ (ap (λ (v : Turned R). v.mine ++ e v.number ∷ []) is ∙ ap (λ y. u.mine ++ y ∷ []) ex);
+      one_step = subst (λ (v : Turned R). freed_once v.made (steps p)) is freed;
     }
 
 -- the hand after the mark
