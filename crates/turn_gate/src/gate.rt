@@ -44,7 +44,7 @@ impl<T: Storied> Gate<T> {
     ghost use Rattle.std.specs.Prelude.{◌+◌, ◌<◌, ◌/◌, ◌^◌, ◌++◌, ◌≢◌, [], ◌∷◌, ℕ, List, length, map, vec_capacity, Some, None, false, MatchResult, IfOk};
     ghost use Rattle.turn_gate.specs.Gates.{gate_id, passes_of, first_of};
     ghost use Rattle.turn_gate.specs.History.{Begins, Each, IsOneOf, only};
-    ghost use Rattle.turn_gate.specs.Passes.{IsPassOf, AreFresh, AreAll, IsReturned, freed_once, hit, missed, row_of, number, seen, mine, steps, own};
+    ghost use Rattle.turn_gate.specs.Passes.{IsPassOf, AreFresh, AreAll, IsReturned, freed_once, hit, missed, waited, row_of, number, seen, mine, steps, own};
     ghost use Rattle.turn_gate.specs.Helds.{IsHeldOf, Takes, held_number, held_seen, held_mine, held_steps, held_value, held_row};
     ghost use Rattle.turn_gate.specs.Seats.{HasValue};
     ghost use Rattle.turn_gate.specs.Rule.{dealer, Took, Stays};
@@ -89,7 +89,7 @@ impl<T: Storied> Gate<T> {
     pub fn hold<R: Wait>(&self, rt: &R, pass: Pass<T::Element>) -> Held<T>
         requires { IsPassOf T.number (gate_id self.now) pass }
         ensures takes { Takes (T.stands (first_of self.now)) T.number (gate_id self.now) pass result }
-        ensures steps { Begins (steps pass) (held_steps result) }
+        ensures steps { waited (steps pass) (held_steps result) }
     {
         self.hold_as::<R, Brand>(rt, pass)
     }
@@ -100,7 +100,7 @@ impl<T: Storied> Gate<T> {
     pub fn hold_soon<R: Wait>(&self, rt: &R, pass: Pass<T::Element>) -> Held<T>
         requires { IsPassOf T.number (gate_id self.now) pass }
         ensures takes { Takes (T.stands (first_of self.now)) T.number (gate_id self.now) pass result }
-        ensures steps { Begins (steps pass) (held_steps result) }
+        ensures steps { waited (steps pass) (held_steps result) }
     {
         let mut pass = pass;
         for _ in 0..SLEEPS {
@@ -108,38 +108,57 @@ impl<T: Storied> Gate<T> {
                 Ok(held) => return held,
                 Err(back) => pass = back,
             }
-            let shown = self.table.shared.peek(0);
-            if shown % 256 > 0 {
-                self.sleep(rt, shown);
-            }
+            self.sleep_while_taken(rt);
         }
         self.hold(rt, pass)
+    }
+
+    // Sleeps until a release, where a ticket is out.
+    fn sleep_while_taken<R: Wait>(&self, rt: &R) {
+        let shown = self.table.shared.peek(0);
+        if shown % 256 > 0 {
+            self.sleep(rt, shown);
+        }
     }
 
     // Tries to take the gate, but not for ever.
     fn attempts(&self, pass: Pass<T::Element>) -> Result<Held<T>, Pass<T::Element>>
         requires { IsPassOf T.number (gate_id self.now) pass }
         ensures { MatchResult result
-            (λ h. Takes (T.stands (first_of self.now)) T.number (gate_id self.now) pass h × Begins (steps pass) (held_steps h))
-            (λ q. IsReturned T.number (gate_id self.now) pass q × Begins (steps pass) (steps q)) }
+            (λ h. Takes (T.stands (first_of self.now)) T.number (gate_id self.now) pass h × waited (steps pass) (held_steps h))
+            (λ q. IsReturned T.number (gate_id self.now) pass q × waited (steps pass) (steps q)) }
     {
         let mut pass = pass;
         for k in 0..TRIES {
-            if self.table.shared.peek(0) % 256 == 0 {
-                match self.try_hold(pass) {
-                    Ok(held) => return Ok(held),
-                    Err(
-                        Missed {
-                            pass: back,
-                            expected: _,
-                            found: _,
-                        },
-                    ) => pass = back,
-                }
+            match self.try_once(pass) {
+                Ok(held) => return Ok(held),
+                Err(back) => pass = back,
             }
             back_off(k);
         }
         Err(pass)
+    }
+
+    // Tries where no ticket seems to be out.
+    fn try_once(&self, pass: Pass<T::Element>) -> Result<Held<T>, Pass<T::Element>>
+        requires { IsPassOf T.number (gate_id self.now) pass }
+        ensures { MatchResult result
+            (λ h. Takes (T.stands (first_of self.now)) T.number (gate_id self.now) pass h × waited (steps pass) (held_steps h))
+            (λ q. IsReturned T.number (gate_id self.now) pass q × waited (steps pass) (steps q)) }
+    {
+        if self.table.shared.peek(0) % 256 > 0 {
+            return Err(pass);
+        }
+        match self.try_hold(pass) {
+            Ok(held) => Ok(held),
+            Err(
+                Missed {
+                    pass,
+                    expected: _,
+                    found: _,
+                },
+            ) => Err(pass),
+        }
     }
 
     /// Takes the gate where it is free, and doesn't wait. It loads the lock word once and makes one exchange. `Missed` where
@@ -209,7 +228,7 @@ impl<T: Storied> Gate<T> {
         requires pass { IsPassOf T.number (gate_id self.now) pass }
         requires told { (x : T) (h : List T.Element) → T.stands (first_of self.now) x h → G.tells x h }
         ensures takes { Takes G.tells T.number (gate_id self.now) pass result }
-        ensures steps { Begins (steps pass) (held_steps result) }
+        ensures steps { waited (steps pass) (held_steps result) }
     {
         let Pass { badge, number } = pass;
         let mut seat = badge.into_seat();
@@ -258,7 +277,7 @@ impl<T: Storied> Gate<T> {
         ensures table { seat.new.table_id ≡ seat.old.table_id }
         ensures served { result / 256 ≡ ticket → Took G.tells T.number ticket seat.old.me seat.new.me }
         ensures waits { result / 256 ≢ ticket → Stays seat.old.me seat.new.me }
-        ensures steps { Begins seat.old.me.0.steps seat.new.me.0.steps }
+        ensures steps { waited seat.old.me.0.steps seat.new.me.0.steps }
     {
         for _ in 0..LOOKS {
             let found = self.table.shared.load::<Watch<T, G>>(seat, 0);
