@@ -1,5 +1,5 @@
 -- Nothing queued is forgotten.
-use Rattle.std.proofs.Common.{◌≡◌, ◌≢◌, ◌⊎◌, inl, inr, ℕ, true, Option, Some, List, [], refl, sym, ap, ◌∙◌}
+use Rattle.std.proofs.Common.{◌≡◌, ◌⊎◌, inl, inr, ℕ, true, Option, List, refl, sym, ◌∙◌}
 use Rattle.atomic_table.specs.Table.{State}
 use Rattle.turn_gate.specs.Rule.{Holds, IsFree}
 use Rattle.turn_gate.specs.declared.kept.Kept.{Kept}

@@ -1,5 +1,5 @@
 -- One more element behind the gate.
-use Rattle.std.proofs.Common.{◌≡◌, ◌≤◌, ℕ, ◌||◌, List, [], ◌∷◌, ◌++◌, ap, sym, ◌∙◌, None, Some, Option, not, Bool, true, false, refl, length, length-set, slice_set, arith}
+use Rattle.std.proofs.Common.{◌≡◌, ℕ, ◌||◌, List, [], ◌∷◌, ◌++◌, ap, sym, ◌∙◌, None, Some, Option, not, Bool, true, false, refl, length, length-set, slice_set, arith}
 use Rattle.std.specs.Prelude.{vec_capacity}
 use Rattle.std.specs.Prelude.{Vec}
 use Rattle.perimeter_core.specs.declared.entries.Entry.{Entry}

@@ -1,5 +1,5 @@
 -- What a call knows of the value that its turn holds.
-use Rattle.std.proofs.Common.{◌≡◌, ℕ, List, [], ◌∷◌, ◌++◌, ap, sym, ◌∙◌, subst, refl, Some, None, Option}
+use Rattle.std.proofs.Common.{◌≡◌, ◌+◌, arith, ℕ, List, [], ◌∷◌, ◌++◌, ap, sym, ◌∙◌, subst, refl, Some, None, Option}
 use Rattle.perimeter_core.specs.declared.marks.Own.{Own}
 use Rattle.perimeter_core.specs.declared.marks.Own.TheVariants.{Free, Granted}
 use Rattle.perimeter_core.specs.History.{Element, Setting, Limits}
@@ -7,7 +7,7 @@ use Rattle.perimeter_core.specs.Legal.{May}
 use Rattle.perimeter_core.specs.Blocks.{Blocks, peri}
 use Rattle.perimeter_core.proofs.BlocksFollow.{peri_push}
 use Rattle.perimeter_core.proofs.FeedActs.{with_none}
-use Rattle.turn_gate.specs.Passes.{IsPassOf, freed_once, number, seen, mine, steps}
+use Rattle.turn_gate.specs.Passes.{IsPassOf, freed_once, turns_of, waited, number, seen, mine, steps}
 use Rattle.turn_gate.specs.Helds.{held_value, held_seen, held_mine, held_number, held_steps}
 use Rattle.turn_gate.specs.declared.held.Held.{Held}
 use Rattle.squeue_state.specs.declared.inner.Inner.{Inner}
@@ -22,6 +22,9 @@ use Rattle.perimeter_core.specs.History.{start, run}
 use Rattle.perimeter_core.specs.Perimeter.{after}
 use Rattle.perimeter_core.proofs.OneMore.{run_push}
 use Rattle.turn_gate.specs.Gates.{gate_id, first_of}
+use Rattle.turn_gate.specs.declared.views.LockStep.{LockStep}
+use Rattle.turn_gate.specs.declared.views.LockStep.TheVariants.{Serve}
+use Rattle.turn_gate.proofs.Passing.{turns_of-append}
 use Rattle.turn_gate.specs.declared.gate.Gate.{Gate}
 use Rattle.turn_gate.specs.declared.pass.Pass.{Pass}
 use Rattle.turn_gate.specs.Helds.{Takes}
@@ -103,3 +106,10 @@ accepted_same S H p m = peri_push S H (accepted p) m ∙ with_none (peri S H)
 
 pub worked_same : (S : Setting) (H : List Element) (p : ℕ) → May S H (worked p) → peri S (H ++ worked p ∷ []) ≡ peri S H
 worked_same S H p m = peri_push S H (worked p) m ∙ with_none (peri S H)
+
+-- steps that free the lock by none of them, and then one that does, are one turn
+pub one_turn : (xs ys zs : List LockStep) → waited xs ys → freed_once ys zs → turns_of zs ≡ turns_of xs + 1
+one_turn xs ys zs w f =
+    let a = turns_of-append xs w.0 in
+    let b = turns_of-append ys (Serve f.0 ∷ []) in
+    omega (arith, a, b, w.2, ap turns_of w.1, ap turns_of f.1)

@@ -1,7 +1,7 @@
 -- The clauses of a squeue's calls.
 use Rattle.std.specs.Prelude.{Bool, false, ◌≡◌, ◌<◌, ◌≤◌, ◌^◌, ◌+◌, ℕ, Option, Some, None, is_some, List, [], ◌∷◌, ◌++◌, length, slice_index_or}
 use Rattle.turn_gate.specs.History.{Begins, only}
-use Rattle.turn_gate.specs.Passes.{IsPassOf, freed_once, number, seen, mine, steps}
+use Rattle.turn_gate.specs.Passes.{IsPassOf, freed_once, turns_of, waited, number, seen, mine, steps}
 use Rattle.turn_gate.specs.Helds.{IsHeldOf, held_number, held_seen, held_mine, held_steps, held_value}
 use Rattle.turn_gate.specs.Gates.{gate_id, first_of}
 use Rattle.turn_gate.specs.declared.pass.Pass.{Pass}
@@ -37,7 +37,7 @@ abbrev pub turned_of : {R : Type 0} → Named R → Held (Guarded R) Kind Elemen
 turned_of s h = record { squeue = s; number = held_number h; found = held_seen h; mine = held_mine h; made = held_steps h }
 
 -- The turn has found a legal history, which goes on from what the pass has seen with elements of others. The pass keeps its
--- steps on the lock word
+-- steps on the lock word, and has not freed the lock since
 pub record Found {R : Type 0} (limits : R → Limits) (s : Named R) (p : Pass Element) (u : Turned R) : Type 0 where
   pub squeue : u.squeue ≡ s
   pub same_number : u.number ≡ number p
@@ -45,7 +45,7 @@ pub record Found {R : Type 0} (limits : R → Limits) (s : Named R) (p : Pass El
   pub goes_on : Begins (seen p) u.found
   pub legal : Legal (setting_of limits s.given) u.found
   pub own : only number_of u.number u.found ≡ u.mine
-  pub steps_go_on : Begins (steps p) u.made
+  pub no_turn_yet : waited (steps p) u.made
   -- so what is queued can be counted in 32 bits
   pub few : (length s.given.quotas < 64) × (feed_quotas s.given.quotas ≤ 2 ^ 30)
 
@@ -90,7 +90,8 @@ asker [] = 0
 asker (Entry'.Feed c n ∷ es) = 0
 asker (Entry'.Ask j ∷ es) = j
 
--- the pass left one mark, where its turn found a legal history that goes on from what the pass had seen with elements of others
+-- the pass left one mark in one turn, which found a legal history that goes on from what the pass had seen with elements of
+-- others
 pub record Added {R : Type 0} (limits : R → Limits) (s : Named R) (p : Pass Element) (e : Element) (q : Pass Element) : Type 0 where
   pub found : List Element
   pub goes_on : Begins (seen p) found
@@ -100,7 +101,7 @@ pub record Added {R : Type 0} (limits : R → Limits) (s : Named R) (p : Pass El
   pub same_number : number q ≡ number p
   pub now_seen : seen q ≡ found ++ e ∷ []
   pub now_mine : mine q ≡ mine p ++ e ∷ []
-  pub steps_go_on : Begins (steps p) (steps q)
+  pub one_turn : turns_of (steps q) ≡ turns_of (steps p) + 1
 
 -- the worker's pass has seen the end
 abbrev pub HasSeenEnd : Setting → Pass Element → Type 0
