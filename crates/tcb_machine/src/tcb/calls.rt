@@ -1,10 +1,9 @@
 //! The calls of programs, and what a service does with the two streams.
 
-ghost use Rattle.std.specs.Prelude.{true, false, ◌≡◌, ℕ, ◌+◌, ◌-◌, ◌*◌, ◌%◌, ◌/◌, ◌^◌, ◌<◌, ◌≤◌, List, [], ◌∷◌, ◌++◌, length, take, drop, min, max, None, Some, IfOk, OnOk, OnErr, slice_get};
-ghost use Rattle.tcb_machine.specs.BlockState.{Block, new_block, to_listen, rcv_nxt, rcv_wnd, snd_nxt, snd_end, unsent, in_flight, has, seg_wnd, sent_window, segment_of, syn_ack_of, rst_of, sends, sends_ack, IsOurs, offered};
-ghost use Rattle.tcb_machine.specs.States.{is_consumed, is_listen};
-ghost use Rattle.byte_queues.specs.ReceiveQueue.{next_of, ready_of, placed, next_bytes, without};
-ghost use Rattle.tcb_machine.specs.CallAnswers.{Called, tcp_call, with_buffer, close_in, wants_fin};
+ghost use Rattle.std.specs.Prelude.{true, false, ◌≡◌, ◌+◌, ◌-◌, ◌<◌, ◌≤◌, ◌++◌, length, take, IfOk, OnOk};
+ghost use Rattle.tcb_machine.specs.BlockState.{offered};
+ghost use Rattle.byte_queues.specs.ReceiveQueue.{next_of, ready_of, next_bytes, without};
+ghost use Rattle.tcb_machine.specs.CallAnswers.{tcp_call, with_buffer, close_in, wants_fin};
 ghost use Rattle.tcb_machine.specs.TcpStep.{said};
 ghost use Rattle.byte_queues.specs.SendQueue.{room_of};
 

@@ -1,9 +1,9 @@
 //! The deadlines (RFC 9293, 3.8.1 and 3.10.8; RFC 6298).
 
-ghost use Rattle.std.specs.Prelude.{true, false, ◌≡◌, ℕ, ◌+◌, ◌-◌, ◌*◌, ◌%◌, ◌/◌, ◌^◌, ◌<◌, ◌≤◌, List, [], ◌∷◌, ◌++◌, length, take, drop, min, max, None, Some, IfOk, OnOk, IfSome, IfNone, IsSome};
+ghost use Rattle.std.specs.Prelude.{false, ◌≡◌, ◌+◌, ◌-◌, ◌*◌, ◌^◌, ◌<◌, ◌≤◌, min, max, None, Some, OnOk, IfSome, IfNone, IsSome};
 ghost use Rattle.std.specs.Option.{ForSome};
-ghost use Rattle.tcb_machine.specs.BlockState.{Block, new_block, to_listen, rcv_nxt, rcv_wnd, snd_nxt, snd_end, unsent, in_flight, has, seg_wnd, sent_window, segment_of, syn_ack_of, rst_of, sends, sends_ack, IsOurs, offered};
-ghost use Rattle.tcb_machine.specs.States.{is_consumed, is_listen};
+ghost use Rattle.tcb_machine.specs.BlockState.{snd_nxt, snd_end, unsent, in_flight};
+ghost use Rattle.tcb_machine.specs.States.{is_listen};
 ghost use Rattle.tcb_machine.specs.Timers.{tcp_time, fired, fires, retransmission, sends_again, retransmits};
 
 use super::{ACK, PSH, SECOND, Tcb};
