@@ -23,6 +23,7 @@ use Rattle.tcb_machine.specs.declared.kinds.State.TheVariants.{Listen, SynReceiv
 use Rattle.tcb_machine.specs.declared.kinds.AckKind.{AckKind}
 use Rattle.tcb_machine.specs.declared.kinds.AckKind.TheVariants.{Fresh, Equal, Old, Beyond}
 use Rattle.tcb_machine.proofs.QueueLemmas.{next_near, placed_taken, placed_edge, placed_cap, placed_below, placed_read}
+use Rattle.tcb_machine.specs.Limits.{most_mss, most_retransmissions, our_shift, plain_space, whole_space}
 
 none-gone : (n : ℕ) (xs : List ℕ) → xs ≡ drop (n - n) xs
 none-gone n xs = let e : 0 ≡ n - n = omega arith in ap (λ (k : ℕ). drop k xs) e
@@ -31,7 +32,7 @@ none-gone n xs = let e : 0 ≡ n - n = omega arith in ap (λ (k : ℕ). drop k x
 pub record Keeps (b c : Block) : Type 0 where
   pub recv : IsReceiving c.want c.recv
   pub send : IsSending c.acked c.sent c.out
-  pub mss : c.mss ≤ 1460
+  pub mss : c.mss ≤ most_mss
   pub ours : All IsOurs c.replies
   pub taken : c.recv.taken ≡ b.recv.taken
   pub from : b.acked ≤ c.acked
@@ -64,16 +65,16 @@ valid-keeps b v = record { recv = v.recv; send = v.send; mss = v.mss; ours = v.o
 
 -- as new
 
-empty-receiving : (want n : ℕ) → want ≤ 1048576 → n ≤ 1048576 → IsReceiving want (empty_recv n)
+empty-receiving : (want n : ℕ) → want ≤ whole_space → n ≤ whole_space → IsReceiving want (empty_recv n)
 unfolding next_of
 empty-receiving want n h w = record { asked = h; cap = w; space = omega (arith, w); below = omega arith; read = omega arith }
 
-pub listen-valid : (want retransmissions clock : ℕ) (replies : List Reply) → want ≤ 1048576 → All IsOurs replies → IsValid (listening want retransmissions clock replies)
+pub listen-valid : (want retransmissions clock : ℕ) (replies : List Reply) → want ≤ whole_space → All IsOurs replies → IsValid (listening want retransmissions clock replies)
 unfolding to_listen
 listen-valid want retransmissions clock replies h r =
     record { recv = empty-receiving want want h h; send = record { acked_sent = omega arith; sent_out = omega arith }; mss = omega arith; ours = r; new = λ e. refl }
 
-pub listened : (c : Block) → c.want ≤ 1048576 → All IsOurs c.replies → IsValid (to_listen c)
+pub listened : (c : Block) → c.want ≤ whole_space → All IsOurs c.replies → IsValid (to_listen c)
 unfolding to_listen
 listened c h r = listen-valid c.want c.retransmissions c.clock c.replies h r
 
@@ -91,9 +92,9 @@ ours-more rs r h o = All-append IsOurs rs (r ∷ []) h (All-cons IsOurs r [] o n
 
 pub new-valid : IsValid new_block
 unfolding new_block
-new-valid = listen-valid 1048576 0 0 [] (omega arith) none-ours
+new-valid = listen-valid whole_space 0 0 [] (omega arith) none-ours
 
-pub segment-ours : (flags seq : ℕ) (text : List ℕ) (c : Block) → flags < 64 → length text ≤ 1460 → IsOurs (segment_of flags seq text c)
+pub segment-ours : (flags seq : ℕ) (text : List ℕ) (c : Block) → flags < 64 → length text ≤ most_mss → IsOurs (segment_of flags seq text c)
 unfolding segment_of
 segment-ours flags seq text c f t = record { text = t; flags = f; options = tt }
 
@@ -108,7 +109,7 @@ pub syn-ours : (c : Block) → IsOurs (syn_ack_of c)
 unfolding syn_ack_of
 syn-ours c = record { text = omega arith; flags = omega arith; options = by c.scaled }
   where
-    by : (t : Bool) → OurOptions (Some 1460) (cond t (Some 5) None)
+    by : (t : Bool) → OurOptions (Some most_mss) (cond t (Some our_shift) None)
     by true = (refl, refl)
     by false = refl
 
@@ -157,11 +158,11 @@ new-acked b e = ap (λ (x : Block). x.acked) e
 scaled : (o : Option ℕ) (b : Block) → b.recv.taken ≡ 0 → IsValid b → Keeps b (with_scale o b)
 scaled None b z v =
     let h = v.recv.asked in
-    record { recv = empty-receiving b.want (min b.want 65535) h (omega (arith, h)); send = v.send; mss = v.mss; ours = v.ours; taken = sym z; from = omega arith; offered = omega arith; out = none-gone b.acked b.out; wanted = λ e. e }
+    record { recv = empty-receiving b.want (min b.want plain_space) h (omega (arith, h)); send = v.send; mss = v.mss; ours = v.ours; taken = sym z; from = omega arith; offered = omega arith; out = none-gone b.acked b.out; wanted = λ e. e }
 scaled (Some s) b z v =
     record { recv = empty-receiving b.want b.want v.recv.asked v.recv.asked; send = v.send; mss = v.mss; ours = v.ours; taken = sym z; from = omega arith; offered = omega arith; out = none-gone b.acked b.out; wanted = λ e. e }
 
-mss-most : (o : Option ℕ) → send_mss o ≤ 1460
+mss-most : (o : Option ℕ) → send_mss o ≤ most_mss
 mss-most None = omega arith
 mss-most (Some n) = omega arith
 
@@ -449,7 +450,7 @@ total (t ∷ ts) = length t + total ts
 
 AreSmall : List (List ℕ) → Type 0
 AreSmall [] = Unit {0}
-AreSmall (t ∷ ts) = (length t ≤ 1460) × AreSmall ts
+AreSmall (t ∷ ts) = (length t ≤ most_mss) × AreSmall ts
 
 total-cond : (x : Bool) (p : List ℕ) (ps : List (List ℕ)) (n : ℕ) → length p + total ps ≤ n → total (cond x [] (p ∷ ps)) ≤ n
 unfolding total
@@ -465,19 +466,19 @@ pieces-total (suc k) n t =
     let d = length-drop n t in
     total-cond (length t == 0) (take n t) (pieces k n (drop n t)) (length t) (omega (arith, r, l, d))
 
-small-cond : (x : Bool) (p : List ℕ) (ps : List (List ℕ)) → length p ≤ 1460 → AreSmall ps → AreSmall (cond x [] (p ∷ ps))
+small-cond : (x : Bool) (p : List ℕ) (ps : List (List ℕ)) → length p ≤ most_mss → AreSmall ps → AreSmall (cond x [] (p ∷ ps))
 unfolding AreSmall
 small-cond true p ps h w = tt
 small-cond false p ps h w = (h, w)
 
-pieces-small : (k n : ℕ) (t : List ℕ) → n ≤ 1460 → AreSmall (pieces k n t)
+pieces-small : (k n : ℕ) (t : List ℕ) → n ≤ most_mss → AreSmall (pieces k n t)
 unfolding AreSmall
 pieces-small zero n t h = tt
 pieces-small (suc k) n t h =
     let l = length-take n t in
     small-cond (length t == 0) (take n t) (pieces k n (drop n t)) (omega (arith, l, h)) (pieces-small k n (drop n t) h)
 
-sends-text : (flags : ℕ) (text : List ℕ) (b c : Block) → flags < 64 → length text ≤ 1460 → c.sent + length text ≤ c.acked + length c.out → Moves b c → Moves b (sends_text flags text c)
+sends-text : (flags : ℕ) (text : List ℕ) (b c : Block) → flags < 64 → length text ≤ most_mss → c.sent + length text ≤ c.acked + length c.out → Moves b c → Moves b (sends_text flags text c)
 unfolding sends_text
 sends-text flags text b c f t w m =
     let k = (sent-moves (segment_of flags (snd_nxt c) text c) b c (segment-ours flags (snd_nxt c) text c f t) m).keeps in
@@ -608,7 +609,7 @@ all-timers (Some at) retransmit to b m =
     let n = max b.clock at in
     fires-cond (nat_le n to) (time_wait n) [] b b m (goes-to-listen b (record b { clock = n }) (at-time n b b m).keeps)
 all-timers None None to b m = moves m
-all-timers None (Some at) to b m = all-from (64 - b.retransmissions) b.rto (max b.clock at) to b b m
+all-timers None (Some at) to b m = all-from (most_retransmissions - b.retransmissions) b.rto (max b.clock at) to b b m
 
 moved-at-time : (n : ℕ) (b c : Block) → Moved b c → Moved b (record c { clock = n })
 moved-at-time n b c (moves m) = moves (at-time n b c m)
@@ -638,14 +639,14 @@ stays b v = chosen (is_listen b.state) refl
     chosen true e = as_new e v
     chosen false e = moves (own b e v)
 
-cap-receiving : (want n : ℕ) (q : Recv) → n ≤ 65535 → IsReceiving want q → IsReceiving n (with_cap n q)
+cap-receiving : (want n : ℕ) (q : Recv) → n ≤ plain_space → IsReceiving want q → IsReceiving n (with_cap n q)
 unfolding with_cap next_of
 cap-receiving want n q h r =
     let s = r.space in
     let w = r.below in
     record { asked = omega (arith, h); cap = omega (arith, h); space = omega (arith, s, h); below = omega (arith, w); read = r.read }
 
-capped : (n : ℕ) (b : Block) → is_listen b.state ≡ false → n ≤ 65535 → IsValid b → Moved b (record b { want = n; recv = with_cap n b.recv })
+capped : (n : ℕ) (b : Block) → is_listen b.state ≡ false → n ≤ plain_space → IsValid b → Moved b (record b { want = n; recv = with_cap n b.recv })
 unfolding with_cap
 capped n b e h v = moves (record { opened = e; keeps = record { recv = cap-receiving b.want n b.recv h v.recv; send = v.send; mss = v.mss; ours = v.ours; taken = refl; from = omega arith; offered = omega arith; out = none-gone b.acked b.out; wanted = λ e. e } })
 
@@ -653,7 +654,7 @@ asked-new : (n : ℕ) (b : Block) → b ≡ to_listen b → record b { want = n;
 unfolding to_listen
 asked-new n b e = ap (λ (x : Block). record x { want = n; recv = empty_recv n }) e
 
-buffers : (st : State) (n : ℕ) (b : Block) → b.state ≡ st → n ≤ 65535 → IsValid b → Moved b (with_buffer st n b)
+buffers : (st : State) (n : ℕ) (b : Block) → b.state ≡ st → n ≤ plain_space → IsValid b → Moved b (with_buffer st n b)
 buffers Listen n b e h v = as_new (ap is_listen e) (record { recv = empty-receiving n n (omega (arith, h)) (omega (arith, h)); send = v.send; mss = v.mss; ours = v.ours; new = λ f. asked-new n b (v.new f) })
 buffers SynReceived n b e h v = capped n b (ap is_listen e) h v
 buffers Established n b e h v = capped n b (ap is_listen e) h v
@@ -697,7 +698,7 @@ new-out : (b : Block) → b ≡ to_listen b → length b.out ≡ 0
 unfolding to_listen
 new-out b e = ap (λ (x : Block). length x.out) e
 
-pub moved-next : (b c : Block) → Moved b c → b.recv.taken ≤ next_of b.recv → next_of c.recv ≤ next_of b.recv + 1048576
+pub moved-next : (b c : Block) → Moved b c → b.recv.taken ≤ next_of b.recv → next_of c.recv ≤ next_of b.recv + whole_space
 moved-next b c (moves m) h =
     let r = m.keeps.recv in
     let n = next_near c.recv r.below r.space in

@@ -1,3 +1,4 @@
+pub mod Limits
 pub mod States
 pub mod BlockState
 pub mod TcpStep

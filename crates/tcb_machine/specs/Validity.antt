@@ -6,12 +6,13 @@ use Rattle.tcb_machine.specs.States.{is_listen}
 use Rattle.tcb_machine.specs.TcpStep.{Verdict, over, go, on}
 use Rattle.tcb_machine.specs.declared.kinds.Call.{Call}
 use Rattle.tcb_machine.specs.declared.kinds.Call.TheVariants.{Status, Buffer, Close}
+use Rattle.tcb_machine.specs.Limits.{most_mss, whole_space}
 
 -- the receive side, with the receive space asked for
 pub record IsReceiving (want : ℕ) (q : Recv) : Type 0 where
-  pub asked : want ≤ 1048576
-  pub cap : q.cap ≤ 1048576
-  pub space : q.edge ≤ q.taken + 1048576
+  pub asked : want ≤ whole_space
+  pub cap : q.cap ≤ whole_space
+  pub space : q.edge ≤ q.taken + whole_space
   -- nothing is held at or above the edge, and all that was taken was held
   pub below : q.taken + length q.got ≤ q.edge
   pub read : q.taken ≤ next_of q
@@ -24,7 +25,7 @@ pub record IsSending (acked sent : ℕ) (out : List ℕ) : Type 0 where
 pub record IsValid (b : Block) : Type 0 where
   pub recv : IsReceiving b.want b.recv
   pub send : IsSending b.acked b.sent b.out
-  pub mss : b.mss ≤ 1460
+  pub mss : b.mss ≤ most_mss
   -- what was sent: at most 1,460 bytes of text, and no options but ours
   pub ours : All IsOurs b.replies
   -- in LISTEN all is as new

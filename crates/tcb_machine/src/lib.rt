@@ -6,6 +6,7 @@
 
 mod kinds;
 mod laws;
+mod limits;
 mod tcb;
 
 pub use kinds::{AckKind, Answer, Call, Next, State, Step};

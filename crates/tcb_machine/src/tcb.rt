@@ -4,6 +4,7 @@
 //! rule by which text, FIN and acknowledgements go out, `timers` the deadlines, and `calls` what programs and services do.
 
 ghost use Rattle.std.specs.Prelude.{false, ◌≡◌, ◌+◌, ◌-◌, ◌*◌, ◌<◌, ◌≤◌, length, None, Some, slice_get};
+ghost use Rattle.tcb_machine.specs.Limits.{whole_space};
 
 mod arrival;
 mod calls;
@@ -13,6 +14,7 @@ mod text;
 mod timers;
 
 use crate::kinds::{State, is_consumed};
+use crate::limits::{DEFAULT_MSS, FIRST_TIMEOUT, TIME_WAIT, WHOLE_SPACE};
 use byte_queues::{RecvQueue, SendQueue};
 use segment_codec::Reply;
 use sq_base::seq_dist;
@@ -28,14 +30,6 @@ const RST: u8 = 4;
 const PSH: u8 = 8;
 
 const ACK: u8 = 16;
-
-const SECOND: u64 = 1_000_000;
-
-/// The receive space of a connection whose SYN carries a window scale, until a program asks for another.
-const SPACE: u32 = 1_048_576;
-
-/// The largest window without window scale.
-const PLAIN_SPACE: u32 = 65_535;
 
 /// The block of a connection.
 #[derive(Drop)]
@@ -104,17 +98,17 @@ impl Tcb {
             wnd: 0,
             wl1: 0,
             wl2: 0,
-            mss: 536,
-            want: SPACE,
+            mss: DEFAULT_MSS,
+            want: WHOLE_SPACE,
             scaled: false,
             snd_shift: 0,
-            recv: RecvQueue::make(alloc, SPACE),
+            recv: RecvQueue::make(alloc, WHOLE_SPACE),
             send: SendQueue::make(alloc),
             acked: 0,
             sent: 0,
             fin_wanted: false,
             fin_sent: false,
-            rto: SECOND,
+            rto: FIRST_TIMEOUT,
             retransmit_at: None,
             time_wait_at: None,
             retransmissions: 0,
@@ -162,7 +156,7 @@ impl Tcb {
     #[tactic(auto, unfolding(crate::specs::BlockState::rcv_wnd))]
     fn rcv_wnd(&self) -> u32
         ensures is { result ≡ rcv_wnd self.now }
-        ensures small { result ≤ 1048576 }
+        ensures small { result ≤ whole_space }
         ensures fits { result ≤ self.now.recv.edge - self.now.recv.taken }
     {
         self.recv.window()
@@ -221,7 +215,7 @@ impl Tcb {
         self.wnd = 0;
         self.wl1 = 0;
         self.wl2 = 0;
-        self.mss = 536;
+        self.mss = DEFAULT_MSS;
         self.scaled = false;
         self.snd_shift = 0;
         self.recv = RecvQueue::make(alloc, self.want);
@@ -230,7 +224,7 @@ impl Tcb {
         self.sent = 0;
         self.fin_wanted = false;
         self.fin_sent = false;
-        self.rto = SECOND;
+        self.rto = FIRST_TIMEOUT;
         self.retransmit_at = None;
         self.time_wait_at = None;
         self.ack_due = false;
@@ -243,7 +237,7 @@ impl Tcb {
         ensures { self.new ≡ in_time_wait self.old }
     {
         self.state = State::TimeWait;
-        self.time_wait_at = Some(self.clock + 240 * SECOND);
+        self.time_wait_at = Some(self.clock + TIME_WAIT);
         self.retransmit_at = None;
     }
 }

@@ -6,8 +6,9 @@ ghost use Rattle.tcb_machine.specs.States.{is_listen};
 ghost use Rattle.tcb_machine.specs.TcpStep.{over, listen, opened, send_mss, is_in_window, is_acceptable, check_sequence, refused, check_reset, syn_again, ack_kind, with_window, takes_window, takes_ack, is_fin_acked, after_ack, acknowledged, check_ack, first_checks, check_text, in_state, tcp_segment, said, step_said};
 ghost use Rattle.byte_queues.specs.ReceiveQueue.{next_of};
 
-use super::{ACK, FIN, PLAIN_SPACE, RST, SECOND, SYN, Tcb};
+use super::{ACK, FIN, RST, SYN, Tcb};
 use crate::kinds::{AckKind, Next, State, Step};
+use crate::limits::{DEFAULT_MSS, FIRST_TIMEOUT, LEAST_MSS, MOST_MSS, MOST_SHIFT, PLAIN_SPACE, TIME_WAIT};
 use byte_queues::RecvQueue;
 use segment_codec::Seg;
 use sq_base::{seq_dist, seq_lt};
@@ -96,7 +97,7 @@ impl Tcb {
             }
             Some(shift) => {
                 self.scaled = true;
-                self.snd_shift = shift.min(14);
+                self.snd_shift = shift.min(MOST_SHIFT);
                 self.recv = RecvQueue::make(alloc, self.want);
             }
         }
@@ -105,8 +106,8 @@ impl Tcb {
         self.iss = iss;
         self.una = iss;
         self.mss = send_mss(seg.mss);
-        self.rto = SECOND;
-        self.retransmit_at = Some(self.clock + SECOND);
+        self.rto = FIRST_TIMEOUT;
+        self.retransmit_at = Some(self.clock + FIRST_TIMEOUT);
     }
 
     /// Checks 1 to 5 of a segment in a state other than LISTEN (3.10.7.4). `On` says that text and FIN are to be looked at.
@@ -171,7 +172,7 @@ impl Tcb {
         }
         self.send_ack(alloc)?;
         if matches!(self.state, State::TimeWait) && seg.flags & FIN != 0 {
-            self.time_wait_at = Some(self.clock + 240 * SECOND);
+            self.time_wait_at = Some(self.clock + TIME_WAIT);
         }
         Ok(())
     }
@@ -285,7 +286,7 @@ impl Tcb {
         self.send.acked(gone);
         self.una = seg.ack;
         self.acked += u64::from(gone);
-        self.rto = SECOND;
+        self.rto = FIRST_TIMEOUT;
         self.retransmit_at = None;
     }
 
@@ -349,8 +350,8 @@ fn send_mss(mss: Option<u16>) -> u16
     ensures { result ≡ send_mss mss }
 {
     match mss {
-        None => 536,
-        Some(n) => n.max(64).min(1460),
+        None => DEFAULT_MSS,
+        Some(n) => n.max(LEAST_MSS).min(MOST_MSS),
     }
 }
 

@@ -6,6 +6,7 @@ ghost use Rattle.byte_queues.specs.ReceiveQueue.{next_of, ready_of, next_bytes, 
 ghost use Rattle.tcb_machine.specs.CallAnswers.{tcp_call, with_buffer, close_in, wants_fin};
 ghost use Rattle.tcb_machine.specs.TcpStep.{said};
 ghost use Rattle.byte_queues.specs.SendQueue.{room_of};
+ghost use Rattle.tcb_machine.specs.Limits.{plain_space, whole_space};
 
 use super::Tcb;
 use crate::kinds::{Answer, Call, Next, State};
@@ -48,7 +49,7 @@ impl Tcb {
     /// In LISTEN there is nothing to keep, and the edge may fall.
     #[tactic(auto, unfolding(byte_queues::specs::ReceiveQueue::with_cap, crate::specs::BlockState::offered, byte_queues::specs::ReceiveQueue::next_of))]
     fn set_buffer(&mut self, alloc: Global, n: u32)
-        requires { n ≤ 65535 }
+        requires { n ≤ plain_space }
         ensures set { self.new ≡ with_buffer self.old.state n self.old }
         ensures clock { self.new.clock ≡ self.old.clock }
         ensures taken { self.new.recv.taken ≤ self.old.recv.taken }
@@ -90,7 +91,7 @@ impl Tcb {
     #[tactic(auto, using(crate::proofs::QueueLemmas::next_near))]
     pub fn ready(&self) -> u32
         ensures is { result ≡ ready_of self.now.recv }
-        ensures near { next_of self.now.recv ≤ self.now.recv.taken + 1048576 }
+        ensures near { next_of self.now.recv ≤ self.now.recv.taken + whole_space }
     {
         self.recv.ready()
     }

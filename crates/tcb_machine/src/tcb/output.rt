@@ -5,8 +5,9 @@ ghost use Rattle.tcb_machine.specs.BlockState.{snd_nxt, unsent, segment_of, offe
 ghost use Rattle.tcb_machine.specs.States.{is_listen};
 ghost use Rattle.tcb_machine.specs.Output.{output, outputs_text, outputs_fin, outputs_ack, outputs_deadline};
 
-use super::{ACK, PSH, SECOND, Tcb};
+use super::{ACK, PSH, Tcb};
 use crate::kinds::State;
+use crate::limits::FIRST_TIMEOUT;
 use sq_base::seq_dist;
 use std::alloc::{AllocError, Global};
 
@@ -106,8 +107,8 @@ impl Tcb {
         if self.una == self.snd_nxt() && self.unsent() == 0 {
             self.retransmit_at = None;
         } else if self.retransmit_at.is_none() {
-            self.rto = SECOND;
-            self.retransmit_at = Some(self.clock + SECOND);
+            self.rto = FIRST_TIMEOUT;
+            self.retransmit_at = Some(self.clock + FIRST_TIMEOUT);
         }
     }
 }

@@ -5,8 +5,10 @@ ghost use Rattle.tcb_machine.specs.BlockState.{rcv_nxt, rcv_wnd, snd_nxt, unsent
 ghost use Rattle.tcb_machine.specs.States.{is_listen};
 ghost use Rattle.tcb_machine.specs.TcpStep.{sends_syn_ack};
 ghost use Rattle.tcb_machine.specs.Output.{sends_text};
+ghost use Rattle.tcb_machine.specs.Limits.{most_mss};
 
-use super::{ACK, FIN, PLAIN_SPACE, RST, SYN, Tcb};
+use super::{ACK, FIN, RST, SYN, Tcb};
+use crate::limits::{MOST_MSS, OUR_SHIFT, PLAIN_SPACE};
 use segment_codec::{Reply, Seg};
 use sq_base::Octets;
 use std::alloc::{AllocError, Global};
@@ -42,7 +44,7 @@ impl Tcb {
         text: Octets,
     ) -> Result<(), AllocError>
         requires open { is_listen self.old.state ≡ false }
-        requires text { length text ≤ 1460 }
+        requires text { length text ≤ most_mss }
         requires flags { flags < 64 }
         ensures { OnOk result (self.new ≡ sends (segment_of flags seq text self.old) self.old) }
     {
@@ -104,8 +106,8 @@ impl Tcb {
             seq: self.iss,
             ack: self.rcv_nxt(),
             wnd: self.rcv_wnd().min(PLAIN_SPACE) as u16,
-            mss: Some(1460),
-            scale: if self.scaled { Some(5) } else { None },
+            mss: Some(MOST_MSS),
+            scale: if self.scaled { Some(OUR_SHIFT) } else { None },
             text: Octets::wrap(Vec::new(alloc)),
         };
         self.send(reply)
@@ -116,7 +118,7 @@ impl Tcb {
     pub(super) fn send_text(&mut self, alloc: Global, flags: u8, n: u32) -> Result<(), AllocError>
         requires open { is_listen self.old.state ≡ false }
         requires within { n ≤ length (unsent self.old) }
-        requires small { n ≤ 1460 }
+        requires small { n ≤ most_mss }
         requires flags { flags < 64 }
         ensures { OnOk result (self.new ≡ sends_text flags (take n (unsent self.old)) self.old) }
     {

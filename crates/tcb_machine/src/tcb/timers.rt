@@ -5,16 +5,12 @@ ghost use Rattle.std.specs.Option.{ForSome};
 ghost use Rattle.tcb_machine.specs.BlockState.{snd_nxt, snd_end, unsent, in_flight};
 ghost use Rattle.tcb_machine.specs.States.{is_listen};
 ghost use Rattle.tcb_machine.specs.Timers.{tcp_time, fired, fires, retransmission, sends_again, retransmits};
+ghost use Rattle.tcb_machine.specs.Limits.{most_retransmissions};
 
-use super::{ACK, PSH, SECOND, Tcb};
+use super::{ACK, PSH, Tcb};
 use crate::kinds::State;
+use crate::limits::{LONGEST_TIMEOUT, MOST_RETRANSMISSIONS};
 use std::alloc::{AllocError, Global};
-
-/// How many retransmissions and probes a block makes in its life.
-const MOST_RETRANSMISSIONS: u32 = 64;
-
-/// The longest retransmission timeout.
-const LONGEST_RTO: u64 = 60 * SECOND;
 
 impl Tcb {
     /// Runs the timers up to a time, in microseconds. After NoMemory nothing more is promised.
@@ -80,7 +76,7 @@ impl Tcb {
         ensures due { IfSome result (λ at. (self.now.retransmit_at ≡ Some at) × (at ≤ to)) }
         ensures idle { IfNone result (ForSome self.now.retransmit_at (λ at. to < at)) }
         ensures open { IsSome self.now.retransmit_at → is_listen self.now.state ≡ false }
-        ensures tries { self.now.retransmissions ≤ 64 }
+        ensures tries { self.now.retransmissions ≤ most_retransmissions }
     {
         match self.retransmit_at {
             Some(at) if at <= to => Some(at),
@@ -92,12 +88,12 @@ impl Tcb {
     #[tactic(auto, unfolding(crate::specs::Timers::fires))]
     fn retransmit(&mut self, alloc: Global) -> Result<(), AllocError>
         requires open { is_listen self.old.state ≡ false }
-        requires few { self.old.retransmissions < 64 }
+        requires few { self.old.retransmissions < most_retransmissions }
         ensures { OnOk result (self.new ≡ fires (retransmission self.old.clock) self.old) }
     {
         self.resend(alloc)?;
         self.retransmissions += 1;
-        self.rto = (2 * self.rto).min(LONGEST_RTO);
+        self.rto = (2 * self.rto).min(LONGEST_TIMEOUT);
         self.retransmit_at = Some(self.clock + self.rto);
         Ok(())
     }
