@@ -1,5 +1,5 @@
 -- What the output rule and the timers leave as it was.
-use Rattle.std.proofs.Common.{◌≡◌, ℕ, ◌+◌, ◌≤◌, List, [], ◌∷◌, Option, None, Some, Bool, true, false, cond, not, ltb, ◌==◌, ◌&&◌, ◌||◌, length, take, min, max, refl, ap, arith}
+use Rattle.std.proofs.Common.{◌≡◌, ℕ, ◌+◌, ◌≤◌, List, [], ◌∷◌, Option, None, Some, Bool, true, false, cond, not, ltb, ◌==◌, ◌&&◌, ◌||◌, length, take, min, max, refl, sym, ap, subst, arith}
 use Rattle.byte_queues.specs.ReceiveQueue.{Recv, next_of}
 use Rattle.segment_codec.specs.declared.packet.Reply.{Reply}
 use Rattle.tcb_machine.specs.BlockState.{Block, offered, to_listen, sends, segment_of, in_flight, snd_nxt, snd_end, unsent}
@@ -137,3 +137,10 @@ time-less to b =
 pub time-offered : (to : ℕ) (b : Block) → offered (tcp_time to b) ≤ offered b
 unfolding offered
 time-offered to b = (time-less to b).offered
+
+-- where the clock is set at last
+pub time-kept : (to : ℕ) (b y : Block) → record y { clock = to } ≡ tcp_time to b → Less b y
+time-kept to b y e =
+    let k = time-less to b in
+    let less : Less b (record y { clock = to }) = subst (λ (x : Block). Less b x) (sym e) k in
+    record { taken = less.taken; next = less.next; offered = less.offered }

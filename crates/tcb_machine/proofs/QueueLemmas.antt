@@ -132,3 +132,12 @@ without_read n q w h =
     let reach : q.taken + n + front (drop n q.got) ≡ q.taken + front q.got = omega (arith, d) in
     let same = ap (up_to q.stream_end) reach in
     omega (arith, w, h, same)
+
+-- what leaves was counted
+pub next_without : (n : ℕ) (q : Recv) → n ≤ ready_of q → next_of (without n q) ≡ next_of q
+unfolding without next_of ready_of
+next_without n q w =
+    let u = up-le q.stream_end (q.taken + front q.got) in
+    let d = front-drop n q.got (omega (arith, w, u)) in
+    let reach : q.taken + n + front (drop n q.got) ≡ q.taken + front q.got = omega (arith, d) in
+    ap (up_to q.stream_end) reach

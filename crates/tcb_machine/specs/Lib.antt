@@ -7,3 +7,5 @@ pub mod Timers
 pub mod CallAnswers
 pub mod Inside
 pub mod Validity
+pub mod Room
+pub mod Endings

@@ -33,6 +33,15 @@ time_of (time_wait at) = at
 time_of (retransmission at) = at
 time_of (gives_up at) = at
 
+-- the time of the first one
+abbrev pub first_time : List Firing → Option ℕ
+first_time [] = None
+first_time (f ∷ fs) = Some (time_of f)
+
+-- when the next deadline fires, where nothing arrives: not before the clock
+unfoldable pub next_deadline : Block → Option ℕ
+next_deadline b = first_time (timers b.time_wait_at b.retransmit_at b)
+
 -- the front of a list up to a time
 abbrev pub until : ℕ → List Firing → List Firing
 until to [] = []

@@ -9,7 +9,7 @@ mod laws;
 mod limits;
 mod tcb;
 
-pub use kinds::{AckKind, Answer, Call, Next, State, Step};
+pub use kinds::{AckKind, Answer, Call, Ending, Next, State, Step};
 pub use laws::{
     a_segment_adds_little, every_block_is_valid, output_moves_no_text, timers_move_no_text,
 };

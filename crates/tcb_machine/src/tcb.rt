@@ -3,8 +3,9 @@
 //! `arrival` has the checks of an arriving segment, `text` the last two of them, `replies` the segments that are sent, `output` the
 //! rule by which text, FIN and acknowledgements go out, `timers` the deadlines, and `calls` what programs and services do.
 
-ghost use Rattle.std.specs.Prelude.{false, ◌≡◌, ◌+◌, ◌-◌, ◌*◌, ◌<◌, ◌≤◌, length, None, Some, slice_get};
+ghost use Rattle.std.specs.Prelude.{false, ◌≡◌, ◌+◌, ◌-◌, ◌*◌, ◌<◌, ◌≤◌, length, None, Some, slice_get, All, IsTrue, ◌↔◌, []};
 ghost use Rattle.tcb_machine.specs.Limits.{whole_space};
+ghost use Rattle.tcb_machine.specs.Room.{HasRoom};
 
 mod arrival;
 mod calls;
@@ -20,16 +21,20 @@ use segment_codec::Reply;
 use sq_base::seq_dist;
 use std::alloc::Global;
 use std::marker::Model;
+use std::mem::replace;
 
 const FIN: u8 = 1;
 
-const SYN: u8 = 2;
+pub(crate) const SYN: u8 = 2;
 
-const RST: u8 = 4;
+pub(crate) const RST: u8 = 4;
 
 const PSH: u8 = 8;
 
 const ACK: u8 = 16;
+
+/// A block takes no segment once so many bytes of a stream have come.
+const MOST_STREAMED: u64 = 1 << 61;
 
 /// The block of a connection.
 #[derive(Drop)]
@@ -124,7 +129,32 @@ impl Tcb {
         self.state
     }
 
-    /// How many segments were sent.
+    /// The time of the last segment or timer run, in microseconds, and 0 before the first: neither takes an earlier one.
+    pub fn clock(&self) -> u64
+        ensures { result ≡ self.now.clock }
+    {
+        self.clock
+    }
+
+    /// Whether the block takes a segment: 2^61 bytes of neither stream have come. One that has come so far can only be left.
+    #[tactic(auto, unfolding(crate::specs::BlockState::offered))]
+    pub fn has_room(&self) -> bool
+        ensures { IsTrue result ↔ HasRoom self.now }
+    {
+        self.recv.next() < MOST_STREAMED && self.acked + u64::from(self.send.held()) < MOST_STREAMED
+    }
+
+    /// As new, at the block's clock. So a block for which memory was missing is of use again.
+    #[tactic(auto, unfolding(crate::specs::BlockState::new_block))]
+    pub fn reset(&mut self, alloc: Global)
+        ensures { self.new ≡ record new_block { clock = self.old.clock } }
+    {
+        let clock = self.clock;
+        *self = Tcb::make(alloc);
+        self.clock = clock;
+    }
+
+    /// How many segments were sent, since they were last taken.
     pub fn replies(&self) -> usize
         ensures { result ≡ length self.now.replies }
     {
@@ -138,6 +168,15 @@ impl Tcb {
         ensures ours { IsOurs result.now }
     {
         &self.replies[i]
+    }
+
+    /// The segments that were sent, in order, which leave the block. All else of it stays as it is.
+    pub fn take_replies(&mut self, alloc: Global) -> Vec<Reply>
+        ensures taken { result.items ≡ self.old.replies }
+        ensures rest { self.new ≡ record self.old { replies = [] } }
+        ensures ours { All IsOurs result.items }
+    {
+        replace(&mut self.replies, Vec::new(alloc))
     }
 
     /// RCV.NXT.

@@ -2,6 +2,8 @@
 
 ghost use Rattle.std.specs.Prelude.{true, false, ◌≡◌, ◌+◌, ◌-◌, ◌*◌, ◌%◌, ◌^◌, ◌<◌, ◌≤◌, length, min, max, None, Some, IfOk, OnOk};
 ghost use Rattle.tcb_machine.specs.BlockState.{rcv_nxt, rcv_wnd, snd_nxt, in_flight, has, seg_wnd, offered};
+ghost use Rattle.tcb_machine.specs.Limits.{whole_space};
+ghost use Rattle.tcb_machine.specs.Room.{HasRoom};
 ghost use Rattle.tcb_machine.specs.States.{is_listen};
 ghost use Rattle.tcb_machine.specs.TcpStep.{over, listen, opened, send_mss, is_in_window, is_acceptable, check_sequence, refused, check_reset, syn_again, ack_kind, with_window, takes_window, takes_ack, is_fin_acked, after_ack, acknowledged, check_ack, first_checks, check_text, in_state, tcp_segment, said, step_said};
 ghost use Rattle.byte_queues.specs.ReceiveQueue.{next_of};
@@ -28,15 +30,18 @@ impl Tcb {
     ) -> Result<Next, AllocError>
         requires clock { self.old.clock ≤ now }
         requires time { now ≤ 2 ^ 62 }
-        requires next { next_of self.old.recv < 2 ^ 61 }
-        requires offered { offered self.old < 2 ^ 61 }
+        requires room { HasRoom self.old }
         ensures step { IfOk result (λ next. tcp_segment now iss seg.now text.now self.old ≡ said next self.new) }
         ensures clock { OnOk result (self.new.clock ≡ now) }
         ensures taken { OnOk result (self.new.recv.taken ≤ self.old.recv.taken) }
+        ensures next { OnOk result (next_of self.new.recv ≤ next_of self.old.recv + whole_space) }
         ensures offered { OnOk result (offered self.new ≤ offered self.old) }
     {
         self.clock = now;
-        self.arrive(alloc, iss, seg, text)
+        let next = self.arrive(alloc, iss, seg, text)?;
+        // The fields bound how far the received text stands past what was taken.
+        let _ = &self.recv;
+        Ok(next)
     }
 
     /// The checks, in the block's state.
@@ -123,7 +128,7 @@ impl Tcb {
             return Ok(Step::Over);
         }
         if seg.flags & RST != 0 {
-            self.reset(alloc, seg)?;
+            self.check_reset(alloc, seg)?;
             return Ok(Step::Over);
         }
         if seg.flags & SYN != 0 {
@@ -179,7 +184,7 @@ impl Tcb {
 
     /// Second, RST, with the challenge of RFC 5961.
     #[tactic(auto, unfolding(crate::specs::TcpStep::check_reset))]
-    fn reset(&mut self, alloc: Global, seg: &Seg) -> Result<(), AllocError>
+    fn check_reset(&mut self, alloc: Global, seg: &Seg) -> Result<(), AllocError>
         requires open { is_listen self.old.state ≡ false }
         requires rst { has seg.now.flags 4 ≡ true }
         ensures { OnOk result (check_reset seg.now self.old ≡ over self.new) }

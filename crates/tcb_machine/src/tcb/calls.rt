@@ -21,6 +21,7 @@ impl Tcb {
         ensures called { IfOk result (λ r. tcp_call call self.old ≡ record { answer = r.0; verdict = said r.1 self.new }) }
         ensures clock { OnOk result (self.new.clock ≡ self.old.clock) }
         ensures taken { OnOk result (self.new.recv.taken ≤ self.old.recv.taken) }
+        ensures next { OnOk result (next_of self.new.recv ≤ next_of self.old.recv) }
         ensures offered { OnOk result (offered self.new ≡ offered self.old) }
     {
         match call {
@@ -53,6 +54,7 @@ impl Tcb {
         ensures set { self.new ≡ with_buffer self.old.state n self.old }
         ensures clock { self.new.clock ≡ self.old.clock }
         ensures taken { self.new.recv.taken ≤ self.old.recv.taken }
+        ensures next { next_of self.new.recv ≤ next_of self.old.recv }
         ensures offered { offered self.new ≡ offered self.old }
     {
         self.want = n;
@@ -69,6 +71,7 @@ impl Tcb {
         ensures closed { close_in self.old.state self.old ≡ record { answer = result.0; verdict = said result.1 self.new } }
         ensures clock { self.new.clock ≡ self.old.clock }
         ensures taken { self.new.recv.taken ≤ self.old.recv.taken }
+        ensures next { next_of self.new.recv ≤ next_of self.old.recv }
         ensures offered { offered self.new ≡ offered self.old }
     {
         match self.state {
@@ -111,20 +114,22 @@ impl Tcb {
     }
 
     /// The next `n` received bytes, which leave the block.
-    #[tactic(auto, using(crate::proofs::QueueLemmas::without_below, crate::proofs::QueueLemmas::without_read), unfolding(byte_queues::specs::ReceiveQueue::without))]
+    #[tactic(auto, using(crate::proofs::QueueLemmas::without_below, crate::proofs::QueueLemmas::without_read, crate::proofs::QueueLemmas::next_without), unfolding(byte_queues::specs::ReceiveQueue::without))]
     pub fn take(&mut self, alloc: Global, n: u32) -> Result<Octets, AllocError>
         requires { n ≤ ready_of self.old.recv }
         ensures bytes { IfOk result (λ text. text ≡ next_bytes n self.old.recv) }
         ensures rest { OnOk result (self.new ≡ record self.old { recv = without n self.old.recv }) }
+        ensures next { OnOk result (next_of self.new.recv ≡ next_of self.old.recv) }
     {
         self.recv.take(alloc, n)
     }
 
     /// Throws the next `n` received bytes away.
-    #[tactic(auto, using(crate::proofs::QueueLemmas::without_below, crate::proofs::QueueLemmas::without_read), unfolding(byte_queues::specs::ReceiveQueue::without))]
+    #[tactic(auto, using(crate::proofs::QueueLemmas::without_below, crate::proofs::QueueLemmas::without_read, crate::proofs::QueueLemmas::next_without), unfolding(byte_queues::specs::ReceiveQueue::without))]
     pub fn skip(&mut self, n: u32)
         requires { n ≤ ready_of self.old.recv }
-        ensures { self.new ≡ record self.old { recv = without n self.old.recv } }
+        ensures rest { self.new ≡ record self.old { recv = without n self.old.recv } }
+        ensures next { next_of self.new.recv ≡ next_of self.old.recv }
     {
         self.recv.skip(n);
     }

@@ -4,7 +4,9 @@ ghost use Rattle.std.specs.Prelude.{false, ◌≡◌, ◌+◌, ◌-◌, ◌*◌,
 ghost use Rattle.std.specs.Option.{ForSome};
 ghost use Rattle.tcb_machine.specs.BlockState.{snd_nxt, snd_end, unsent, in_flight};
 ghost use Rattle.tcb_machine.specs.States.{is_listen};
-ghost use Rattle.tcb_machine.specs.Timers.{tcp_time, fired, fires, retransmission, sends_again, retransmits};
+ghost use Rattle.tcb_machine.specs.Timers.{next_deadline, tcp_time, fired, fires, retransmission, sends_again, retransmits};
+ghost use Rattle.byte_queues.specs.ReceiveQueue.{next_of};
+ghost use Rattle.tcb_machine.specs.BlockState.{offered};
 ghost use Rattle.tcb_machine.specs.Limits.{most_retransmissions};
 
 use super::{ACK, PSH, Tcb};
@@ -13,12 +15,28 @@ use crate::limits::{LONGEST_TIMEOUT, MOST_RETRANSMISSIONS};
 use std::alloc::{AllocError, Global};
 
 impl Tcb {
+    /// When the next deadline fires, in microseconds and not before the block's clock, or `None` where none is set. Until then
+    /// `time` sets the clock and does nothing else.
+    #[tactic(auto, using(crate::proofs::TimeLemmas::first_retransmission), unfolding(crate::specs::Timers::next_deadline))]
+    pub fn next_deadline(&self) -> Option<u64>
+        ensures { result ≡ next_deadline self.now }
+    {
+        match (self.time_wait_at, self.retransmit_at) {
+            (Some(at), _) => Some(self.clock.max(at)),
+            (None, Some(at)) => Some(self.clock.max(at)),
+            (None, None) => None,
+        }
+    }
+
     /// Runs the timers up to a time, in microseconds. After NoMemory nothing more is promised.
     pub fn time(&mut self, alloc: Global, to: u64) -> Result<(), AllocError>
         requires clock { self.old.clock ≤ to }
         requires time { to ≤ 2 ^ 62 }
         ensures time { OnOk result (self.new ≡ tcp_time to self.old) }
         ensures clock { OnOk result (self.new.clock ≡ to) }
+        ensures taken { OnOk result (self.new.recv.taken ≤ self.old.recv.taken) }
+        ensures next { OnOk result (next_of self.new.recv ≤ next_of self.old.recv) }
+        ensures offered { OnOk result (offered self.new ≤ offered self.old) }
     {
         self.run_timers(alloc, to)?;
         self.clock = to;
