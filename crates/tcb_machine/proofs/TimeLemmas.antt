@@ -8,7 +8,7 @@ use Rattle.tcb_machine.specs.declared.kinds.State.TheVariants.{Listen, SynReceiv
 use Rattle.tcb_machine.specs.BlockState.{Block, to_listen, sends, segment_of, in_flight, snd_nxt, snd_end, unsent}
 use Rattle.segment_codec.specs.declared.packet.Reply.{Reply}
 use Rattle.tcb_machine.specs.Output.{sends_text}
-use Rattle.tcb_machine.specs.Timers.{Firing, time_of, first_time, next_deadline, time_wait, fired, retransmission, gives_up, backed_off, retransmissions_from, timers, until, firings, sends_again, retransmits, fires, fires_all, tcp_time}
+use Rattle.tcb_machine.specs.Timers.{Firing, first_time, time_wait, fired, retransmission, gives_up, backed_off, retransmissions_from, timers, until, firings, sends_again, retransmits, fires, fires_all, tcp_time}
 use Rattle.tcb_machine.specs.Limits.{most_retransmissions}
 
 record Kept (b c : Block) : Type 0 where

@@ -2,6 +2,7 @@
 use Rattle.std.proofs.Common.{◌≡◌, ℕ, ◌+◌, ◌-◌, ◌^◌, ◌<◌, ◌≤◌, List, [], ◌∷◌, ◌++◌, Option, None, Some, Bool, true, false, cond, not, ◌==◌, ◌&&◌, ◌||◌, length, drop, take, min, max, refl, sym, ap, ◌∙◌, subst, arith, length-drop, length-take}
 use Rattle.std.specs.Prelude.{suc, zero, All, nat_lt, nat_le}
 use Rattle.std.proofs.lemmas.Bool.{false≢true, leb-true}
+use Rattle.std.proofs.lemmas.Option.{none-some}
 use Rattle.std.proofs.lemmas.List.{drop-drop}
 use Rattle.std.proofs.lemmas.List.Elements.{All-append, All-cons}
 use Rattle.segment_codec.specs.declared.packet.Seg.{Seg}
@@ -16,8 +17,9 @@ use Rattle.tcb_machine.specs.Timers.{Firing, time_wait, retransmission, gives_up
 use Rattle.tcb_machine.specs.CallAnswers.{tcp_call, with_buffer, close_in, wants_fin}
 use Rattle.tcb_machine.specs.declared.kinds.Call.{Call}
 use Rattle.tcb_machine.specs.declared.kinds.Call.TheVariants as call
+use Rattle.tcb_machine.proofs.KeepLemmas.{rest-same, resent-same}
 use Rattle.tcb_machine.proofs.PieceLemmas.{unsent-length}
-use Rattle.tcb_machine.specs.Validity.{IsReceiving, IsSending, IsValid, IsAskable, left_by}
+use Rattle.tcb_machine.specs.Validity.{IsReceiving, IsSending, IsTimed, IsValid, IsAskable, left_by}
 use Rattle.tcb_machine.specs.declared.kinds.State.{State}
 use Rattle.tcb_machine.specs.declared.kinds.State.TheVariants.{Listen, SynReceived, Established, FinWait1, FinWait2, CloseWait, Closing, LastAck, TimeWait}
 use Rattle.tcb_machine.specs.declared.kinds.AckKind.{AckKind}
@@ -39,6 +41,7 @@ pub record Keeps (b c : Block) : Type 0 where
   pub offered : c.acked + length c.out ≤ b.acked + length b.out
   pub out : c.out ≡ drop (c.acked - b.acked) b.out
   pub wanted : c.fin_wanted ≡ false → b.fin_wanted ≡ false
+  pub timed : IsTimed c.state c.time_wait_at c.retransmit_at
 
 -- outside LISTEN
 pub record Moves (b c : Block) : Type 0 where
@@ -54,14 +57,14 @@ not-listen : (st : State) (b : Block) → is_listen st ≡ false → is_listen s
 not-listen st b e f = absurd (false≢true (sym e ∙ f))
 
 pub moves-valid : (b c : Block) → Moves b c → IsValid c
-moves-valid b c m = let k = m.keeps in record { recv = k.recv; send = k.send; mss = k.mss; ours = k.ours; new = not-listen c.state c m.opened }
+moves-valid b c m = let k = m.keeps in record { recv = k.recv; send = k.send; mss = k.mss; timed = k.timed; ours = k.ours; new = not-listen c.state c m.opened }
 
 pub moved-valid : (b c : Block) → Moved b c → IsValid c
 moved-valid b c (moves m) = moves-valid b c m
 moved-valid b c (as_new e v) = v
 
 pub valid-keeps : (b : Block) → IsValid b → Keeps b b
-valid-keeps b v = record { recv = v.recv; send = v.send; mss = v.mss; ours = v.ours; taken = refl; from = omega arith; offered = omega arith; out = none-gone b.acked b.out; wanted = λ e. e }
+valid-keeps b v = record { recv = v.recv; send = v.send; mss = v.mss; ours = v.ours; taken = refl; from = omega arith; offered = omega arith; out = none-gone b.acked b.out; wanted = λ e. e; timed = v.timed }
 
 -- as new
 
@@ -72,7 +75,7 @@ empty-receiving want n h w = record { asked = h; cap = w; space = omega (arith, 
 pub listen-valid : (want retransmissions clock : ℕ) (replies : List Reply) → want ≤ whole_space → All IsOurs replies → IsValid (listening want retransmissions clock replies)
 unfolding to_listen
 listen-valid want retransmissions clock replies h r =
-    record { recv = empty-receiving want want h h; send = record { acked_sent = omega arith; sent_out = omega arith }; mss = omega arith; ours = r; new = λ e. refl }
+    record { recv = empty-receiving want want h h; send = record { acked_sent = omega arith; sent_out = omega arith }; mss = omega arith; timed = record { elsewhere = λ e. refl; there = λ e. refl }; ours = r; new = λ e. refl }
 
 pub listened : (c : Block) → c.want ≤ whole_space → All IsOurs c.replies → IsValid (to_listen c)
 unfolding to_listen
@@ -114,7 +117,7 @@ syn-ours c = record { text = omega arith; flags = omega arith; options = by c.sc
     by false = refl
 
 pub sent-keeps : (r : Reply) (b c : Block) → IsOurs r → Keeps b c → Keeps b (sends r c)
-sent-keeps r b c o k = record { recv = k.recv; send = k.send; mss = k.mss; ours = ours-more c.replies r k.ours o; taken = k.taken; from = k.from; offered = k.offered; out = k.out; wanted = k.wanted }
+sent-keeps r b c o k = record { recv = k.recv; send = k.send; mss = k.mss; ours = ours-more c.replies r k.ours o; taken = k.taken; from = k.from; offered = k.offered; out = k.out; wanted = k.wanted; timed = k.timed }
 
 sent-moves : (r : Reply) (b c : Block) → IsOurs r → Moves b c → Moves b (sends r c)
 sent-moves r b c o m = record { opened = m.opened; keeps = sent-keeps r b c o m.keeps }
@@ -133,6 +136,14 @@ says-cond : (t : Bool) (b : Block) (v w : Verdict) → Says b v → Says b w →
 says-cond true b v w p q = p
 says-cond false b v w p q = q
 
+says-if : (t : Bool) (b : Block) (v w : Verdict) → (t ≡ true → Says b v) → Says b w → Says b (cond t v w)
+says-if true b v w p q = p refl
+says-if false b v w p q = q
+
+both-left : (x y : Bool) → (x && y) ≡ true → x ≡ true
+both-left true y e = refl
+both-left false y e = absurd (false≢true e)
+
 says-then : (b : Block) (v : Verdict) (f : Block → Verdict) → Says b v → ((c : Block) → Moves b c → Says b (f c)) → Says b (and_then v f)
 says-then b (over c) f h g = h
 says-then b (go c) f h g = h
@@ -145,7 +156,7 @@ unfolding to_listen
 sends-new r b e = ap (sends r) e
 
 sends-valid : (r : Reply) (b : Block) → IsOurs r → IsValid b → IsValid (sends r b)
-sends-valid r b o v = record { recv = v.recv; send = v.send; mss = v.mss; ours = ours-more b.replies r v.ours o; new = λ e. sends-new r b (v.new e) }
+sends-valid r b o v = record { recv = v.recv; send = v.send; mss = v.mss; timed = v.timed; ours = ours-more b.replies r v.ours o; new = λ e. sends-new r b (v.new e) }
 
 new-taken : (b : Block) → b ≡ to_listen b → b.recv.taken ≡ 0
 unfolding to_listen
@@ -158,25 +169,40 @@ new-acked b e = ap (λ (x : Block). x.acked) e
 scaled : (o : Option ℕ) (b : Block) → b.recv.taken ≡ 0 → IsValid b → Keeps b (with_scale o b)
 scaled None b z v =
     let h = v.recv.asked in
-    record { recv = empty-receiving b.want (min b.want plain_space) h (omega (arith, h)); send = v.send; mss = v.mss; ours = v.ours; taken = sym z; from = omega arith; offered = omega arith; out = none-gone b.acked b.out; wanted = λ e. e }
+    record { recv = empty-receiving b.want (min b.want plain_space) h (omega (arith, h)); send = v.send; mss = v.mss; ours = v.ours; taken = sym z; from = omega arith; offered = omega arith; out = none-gone b.acked b.out; wanted = λ e. e; timed = v.timed }
 scaled (Some s) b z v =
-    record { recv = empty-receiving b.want b.want v.recv.asked v.recv.asked; send = v.send; mss = v.mss; ours = v.ours; taken = sym z; from = omega arith; offered = omega arith; out = none-gone b.acked b.out; wanted = λ e. e }
+    record { recv = empty-receiving b.want b.want v.recv.asked v.recv.asked; send = v.send; mss = v.mss; ours = v.ours; taken = sym z; from = omega arith; offered = omega arith; out = none-gone b.acked b.out; wanted = λ e. e; timed = v.timed }
 
 mss-most : (o : Option ℕ) → send_mss o ≤ most_mss
 mss-most None = omega arith
 mss-most (Some n) = omega arith
 
-opens : (s : Seg) (iss : ℕ) (b : Block) → b.recv.taken ≡ 0 → IsValid b → Moves b (opened s iss b)
+scale-waits : (o : Option ℕ) (b : Block) → b.time_wait_at ≡ None → (with_scale o b).time_wait_at ≡ None
+scale-waits None b w = w
+scale-waits (Some s) b w = w
+
+opens : (s : Seg) (iss : ℕ) (b : Block) → b.recv.taken ≡ 0 → b.time_wait_at ≡ None → IsValid b → Moves b (opened s iss b)
 unfolding opened
-opens s iss b z v =
+opens s iss b z w v =
     let k = scaled s.scale b z v in
-    record { opened = refl; keeps = record { recv = k.recv; send = k.send; mss = mss-most s.mss; ours = k.ours; taken = k.taken; from = k.from; offered = k.offered; out = k.out; wanted = k.wanted } }
+    record { opened = refl; keeps = record { recv = k.recv; send = k.send; mss = mss-most s.mss; ours = k.ours; taken = k.taken; from = k.from; offered = k.offered; out = k.out; wanted = k.wanted; timed = record { elsewhere = λ e. scale-waits s.scale b w; there = λ e. absurd (false≢true e) } } }
+
+listen-elsewhere : (st : State) → is_listen st ≡ true → is_time_wait st ≡ false
+listen-elsewhere Listen e = refl
+listen-elsewhere SynReceived e = refl
+listen-elsewhere Established e = refl
+listen-elsewhere FinWait1 e = refl
+listen-elsewhere FinWait2 e = refl
+listen-elsewhere CloseWait e = refl
+listen-elsewhere Closing e = refl
+listen-elsewhere LastAck e = refl
+listen-elsewhere TimeWait e = absurd (false≢true e)
 
 listens : (s : Seg) (iss : ℕ) (b : Block) → is_listen b.state ≡ true → IsValid b → Says b (listen s iss b)
 unfolding listen
 listens s iss b e v =
     let quiet : Says b (over b) = as_new e v in
-    let open_one = opens s iss b (new-taken b (v.new e)) v in
+    let open_one = opens s iss b (new-taken b (v.new e)) (v.timed.elsewhere (listen-elsewhere b.state e)) v in
     says-cond (has s.flags rst) b (over b) _ quiet
     (says-cond (has s.flags ack) b (over (sends (rst_of s b) b)) _ (as_new e (sends-valid (rst_of s b) b (reset-ours s b) v))
     (says-cond (has s.flags syn) b (over (sends_syn_ack (opened s iss b))) (over b)
@@ -188,10 +214,10 @@ refuses : (s : Seg) (b c : Block) → Moves b c → Says b (refused s c)
 unfolding refused
 refuses s b c m =
     says-cond (has s.flags rst) b (over c) _ (moves m)
-    (says-cond (is_time_wait c.state && has s.flags fin) b (over (waits (sends_ack c))) (over (sends_ack c)) (moves (later (sends_ack c) (sent-moves (segment_of ack (snd_nxt c) [] c) b c (ack-ours c) m))) (acks b c m))
+    (says-if (is_time_wait c.state && has s.flags fin) b (over (waits (sends_ack c))) (over (sends_ack c)) (λ e. moves (later (sends_ack c) (both-left (is_time_wait c.state) (has s.flags fin) e) (sent-moves (segment_of ack (snd_nxt c) [] c) b c (ack-ours c) m))) (acks b c m))
   where
-    later : (d : Block) → Moves b d → Moves b (waits d)
-    later d n = let k = n.keeps in record { opened = n.opened; keeps = record { recv = k.recv; send = k.send; mss = k.mss; ours = k.ours; taken = k.taken; from = k.from; offered = k.offered; out = k.out; wanted = k.wanted } }
+    later : (d : Block) → is_time_wait d.state ≡ true → Moves b d → Moves b (waits d)
+    later d e n = let k = n.keeps in record { opened = n.opened; keeps = record { recv = k.recv; send = k.send; mss = k.mss; ours = k.ours; taken = k.taken; from = k.from; offered = k.offered; out = k.out; wanted = k.wanted; timed = record { elsewhere = λ f. absurd (false≢true (sym f ∙ e)); there = k.timed.there } } }
 
 sequences : (s : Seg) (text : List ℕ) (b c : Block) → Moves b c → Says b (check_sequence s text c)
 unfolding check_sequence
@@ -223,7 +249,7 @@ moves-cond true b x y p q = p
 moves-cond false b x y p q = q
 
 windows : (s : Seg) (b c : Block) → Moves b c → Moves b (with_window s c)
-windows s b c m = let k = m.keeps in record { opened = m.opened; keeps = record { recv = k.recv; send = k.send; mss = k.mss; ours = k.ours; taken = k.taken; from = k.from; offered = k.offered; out = k.out; wanted = k.wanted } }
+windows s b c m = let k = m.keeps in record { opened = m.opened; keeps = record { recv = k.recv; send = k.send; mss = k.mss; ours = k.ours; taken = k.taken; from = k.from; offered = k.offered; out = k.out; wanted = k.wanted; timed = k.timed } }
 
 takes-window : (s : Seg) (b c : Block) → Moves b c → Moves b (takes_window s c)
 unfolding takes_window
@@ -251,80 +277,83 @@ takes-ack s b c m =
         offered = omega (arith, l, o, a, w);
         out = ap (drop n) k.out ∙ (drop-drop n (c.acked - b.acked) b.out ∙ ap (λ (i : ℕ). drop i b.out) (omega (arith, f)));
         wanted = k.wanted;
+        timed = record { elsewhere = k.timed.elsewhere; there = λ e. refl };
       };
     }
 
 waits-on : (b c : Block) → Moves b c → Moves b (in_time_wait c)
 unfolding in_time_wait
-waits-on b c m = let k = m.keeps in record { opened = refl; keeps = record { recv = k.recv; send = k.send; mss = k.mss; ours = k.ours; taken = k.taken; from = k.from; offered = k.offered; out = k.out; wanted = k.wanted } }
+waits-on b c m = let k = m.keeps in record { opened = refl; keeps = record { recv = k.recv; send = k.send; mss = k.mss; ours = k.ours; taken = k.taken; from = k.from; offered = k.offered; out = k.out; wanted = k.wanted; timed = record { elsewhere = λ e. absurd (false≢true (sym e)); there = λ e. refl } } }
 
-becomes : (st : State) (b c : Block) → is_listen st ≡ false → Moves b c → Moves b (record c { state = st })
-becomes st b c e m = let k = m.keeps in record { opened = e; keeps = record { recv = k.recv; send = k.send; mss = k.mss; ours = k.ours; taken = k.taken; from = k.from; offered = k.offered; out = k.out; wanted = k.wanted } }
+becomes : (st : State) (b c : Block) → is_listen st ≡ false → is_time_wait st ≡ false → is_time_wait c.state ≡ false → Moves b c → Moves b (record c { state = st })
+becomes st b c e w from m =
+    let k = m.keeps in
+    record { opened = e; keeps = record { recv = k.recv; send = k.send; mss = k.mss; ours = k.ours; taken = k.taken; from = k.from; offered = k.offered; out = k.out; wanted = k.wanted; timed = record { elsewhere = λ f. k.timed.elsewhere from; there = λ f. absurd (false≢true (sym w ∙ f)) } } }
 
-after-ack : (st : State) (t : Bool) (b c : Block) → Moves b c → Says b (after_ack st t c)
-after-ack Established t b c m = m
-after-ack FinWait1 true b c m = becomes FinWait2 b c refl m
-after-ack FinWait1 false b c m = m
-after-ack FinWait2 t b c m = m
-after-ack CloseWait t b c m = m
-after-ack Closing true b c m = waits-on b c m
-after-ack Closing false b c m = m
-after-ack LastAck true b c m = goes-to-listen b c m.keeps
-after-ack LastAck false b c m = m
-after-ack Listen t b c m = moves m
-after-ack SynReceived t b c m = moves m
-after-ack TimeWait t b c m = moves m
+after-ack : (st : State) (t : Bool) (b c : Block) → c.state ≡ st → Moves b c → Says b (after_ack st t c)
+after-ack Established t b c e m = m
+after-ack FinWait1 true b c e m = becomes FinWait2 b c refl refl (ap is_time_wait e) m
+after-ack FinWait1 false b c e m = m
+after-ack FinWait2 t b c e m = m
+after-ack CloseWait t b c e m = m
+after-ack Closing true b c e m = waits-on b c m
+after-ack Closing false b c e m = m
+after-ack LastAck true b c e m = goes-to-listen b c m.keeps
+after-ack LastAck false b c e m = m
+after-ack Listen t b c e m = moves m
+after-ack SynReceived t b c e m = moves m
+after-ack TimeWait t b c e m = moves m
 
 acknowledges : (k : AckKind) (s : Seg) (b c : Block) → Moves b c → Says b (acknowledged k s c)
 unfolding acknowledged
-acknowledges Fresh s b c m = let d = takes_window s (takes_ack s c) in after-ack d.state (is_fin_acked d) b d (takes-window s b (takes_ack s c) (takes-ack s b c m))
-acknowledges Equal s b c m = let d = takes_window s c in after-ack d.state (is_fin_acked d) b d (takes-window s b c m)
-acknowledges Old s b c m = after-ack c.state (is_fin_acked c) b c m
+acknowledges Fresh s b c m = let d = takes_window s (takes_ack s c) in after-ack d.state (is_fin_acked d) b d refl (takes-window s b (takes_ack s c) (takes-ack s b c m))
+acknowledges Equal s b c m = let d = takes_window s c in after-ack d.state (is_fin_acked d) b d refl (takes-window s b c m)
+acknowledges Old s b c m = after-ack c.state (is_fin_acked c) b c refl m
 acknowledges Beyond s b c m = acks b c m
 
-establishes : (k : AckKind) (s : Seg) (b c : Block) → Moves b c → Says b (established k s c)
-establishes Fresh s b c m = acknowledges Fresh s b (record (with_window s c) { state = Established }) (becomes Established b (with_window s c) refl (windows s b c m))
-establishes Equal s b c m = moves (sent-moves (rst_of s c) b c (reset-ours s c) m)
-establishes Old s b c m = moves (sent-moves (rst_of s c) b c (reset-ours s c) m)
-establishes Beyond s b c m = moves (sent-moves (rst_of s c) b c (reset-ours s c) m)
+establishes : (k : AckKind) (s : Seg) (b c : Block) → is_time_wait c.state ≡ false → Moves b c → Says b (established k s c)
+establishes Fresh s b c w m = acknowledges Fresh s b (record (with_window s c) { state = Established }) (becomes Established b (with_window s c) refl refl w (windows s b c m))
+establishes Equal s b c w m = moves (sent-moves (rst_of s c) b c (reset-ours s c) m)
+establishes Old s b c w m = moves (sent-moves (rst_of s c) b c (reset-ours s c) m)
+establishes Beyond s b c w m = moves (sent-moves (rst_of s c) b c (reset-ours s c) m)
 
-ack-in : (st : State) (k : AckKind) (s : Seg) (b c : Block) → Moves b c → Says b (ack_in st k s c)
-ack-in Listen k s b c m = moves m
-ack-in SynReceived k s b c m = establishes k s b c m
-ack-in Established k s b c m = acknowledges k s b c m
-ack-in FinWait1 k s b c m = acknowledges k s b c m
-ack-in FinWait2 k s b c m = acknowledges k s b c m
-ack-in CloseWait k s b c m = acknowledges k s b c m
-ack-in Closing k s b c m = acknowledges k s b c m
-ack-in LastAck k s b c m = acknowledges k s b c m
-ack-in TimeWait k s b c m = moves m
+ack-in : (st : State) (k : AckKind) (s : Seg) (b c : Block) → c.state ≡ st → Moves b c → Says b (ack_in st k s c)
+ack-in Listen k s b c e m = moves m
+ack-in SynReceived k s b c e m = establishes k s b c (ap is_time_wait e) m
+ack-in Established k s b c e m = acknowledges k s b c m
+ack-in FinWait1 k s b c e m = acknowledges k s b c m
+ack-in FinWait2 k s b c e m = acknowledges k s b c m
+ack-in CloseWait k s b c e m = acknowledges k s b c m
+ack-in Closing k s b c e m = acknowledges k s b c m
+ack-in LastAck k s b c e m = acknowledges k s b c m
+ack-in TimeWait k s b c e m = moves m
 
 checks-ack : (s : Seg) (b c : Block) → Moves b c → Says b (check_ack s c)
 unfolding check_ack
-checks-ack s b c m = says-cond (has s.flags ack) b (ack_in c.state (ack_kind s.ack c) s c) (over c) (ack-in c.state (ack_kind s.ack c) s b c m) (moves m)
+checks-ack s b c m = says-cond (has s.flags ack) b (ack_in c.state (ack_kind s.ack c) s c) (over c) (ack-in c.state (ack_kind s.ack c) s b c refl m) (moves m)
 
 -- text and FIN
 
 due : (b c : Block) → Moves b c → Moves b (record c { ack_due = true })
-due b c m = let k = m.keeps in record { opened = m.opened; keeps = record { recv = k.recv; send = k.send; mss = k.mss; ours = k.ours; taken = k.taken; from = k.from; offered = k.offered; out = k.out; wanted = k.wanted } }
+due b c m = let k = m.keeps in record { opened = m.opened; keeps = record { recv = k.recv; send = k.send; mss = k.mss; ours = k.ours; taken = k.taken; from = k.from; offered = k.offered; out = k.out; wanted = k.wanted; timed = k.timed } }
 
-consumes-fin : (st : State) (b c : Block) → Moves b c → Moves b (consumes st c)
-consumes-fin Listen b c m = m
-consumes-fin SynReceived b c m = m
-consumes-fin Established b c m = becomes CloseWait b c refl m
-consumes-fin FinWait1 b c m = becomes Closing b c refl m
-consumes-fin FinWait2 b c m = waits-on b c m
-consumes-fin CloseWait b c m = m
-consumes-fin Closing b c m = m
-consumes-fin LastAck b c m = m
-consumes-fin TimeWait b c m = m
+consumes-fin : (st : State) (b c : Block) → c.state ≡ st → Moves b c → Moves b (consumes st c)
+consumes-fin Listen b c e m = m
+consumes-fin SynReceived b c e m = m
+consumes-fin Established b c e m = becomes CloseWait b c refl refl (ap is_time_wait e) m
+consumes-fin FinWait1 b c e m = becomes Closing b c refl refl (ap is_time_wait e) m
+consumes-fin FinWait2 b c e m = waits-on b c m
+consumes-fin CloseWait b c e m = m
+consumes-fin Closing b c e m = m
+consumes-fin LastAck b c e m = m
+consumes-fin TimeWait b c e m = m
 
 closing : (b c : Block) → Moves b c → Says b (closes c)
 unfolding closes
-closing b c m = says-cond (is_ended c.recv) b (go (consumes c.state (record c { ack_due = true }))) (go c) (consumes-fin c.state b (record c { ack_due = true }) (due b c m)) m
+closing b c m = says-cond (is_ended c.recv) b (go (consumes c.state (record c { ack_due = true }))) (go c) (consumes-fin c.state b (record c { ack_due = true }) refl (due b c m)) m
 
 receives : (b c : Block) (q : Recv) → Moves b c → IsReceiving c.want q → q.taken ≡ c.recv.taken → Moves b (record c { recv = q; ack_due = true })
-receives b c q m r e = let k = m.keeps in record { opened = m.opened; keeps = record { recv = r; send = k.send; mss = k.mss; ours = k.ours; taken = e ∙ k.taken; from = k.from; offered = k.offered; out = k.out; wanted = k.wanted } }
+receives b c q m r e = let k = m.keeps in record { opened = m.opened; keeps = record { recv = r; send = k.send; mss = k.mss; ours = k.ours; taken = e ∙ k.taken; from = k.from; offered = k.offered; out = k.out; wanted = k.wanted; timed = k.timed } }
 
 up-to-most : (e : Option ℕ) (n : ℕ) → up_to e n ≤ n
 up-to-most None n = omega arith
@@ -422,7 +451,7 @@ unfolding to_listen
 clock-new n b e = ap (λ (x : Block). record x { clock = n }) e
 
 pub clock-valid : (n : ℕ) (b : Block) → IsValid b → IsValid (record b { clock = n })
-clock-valid n b v = record { recv = v.recv; send = v.send; mss = v.mss; ours = v.ours; new = λ e. clock-new n b (v.new e) }
+clock-valid n b v = record { recv = v.recv; send = v.send; mss = v.mss; timed = v.timed; ours = v.ours; new = λ e. clock-new n b (v.new e) }
 
 -- from the block with its clock set
 pub segment-says : (now iss : ℕ) (s : Seg) (text : List ℕ) (b : Block) → IsValid b → Says (record b { clock = now }) (tcp_segment now iss s text b)
@@ -483,7 +512,7 @@ unfolding sends_text
 sends-text flags text b c f t w m =
     let k = (sent-moves (segment_of flags (snd_nxt c) text c) b c (segment-ours flags (snd_nxt c) text c f t) m).keeps in
     let a = k.send.acked_sent in
-    record { opened = m.opened; keeps = record { recv = k.recv; send = record { acked_sent = omega (arith, a); sent_out = w }; mss = k.mss; ours = k.ours; taken = k.taken; from = k.from; offered = k.offered; out = k.out; wanted = k.wanted } }
+    record { opened = m.opened; keeps = record { recv = k.recv; send = record { acked_sent = omega (arith, a); sent_out = w }; mss = k.mss; ours = k.ours; taken = k.taken; from = k.from; offered = k.offered; out = k.out; wanted = k.wanted; timed = k.timed } }
 
 sends-pieces : (ps : List (List ℕ)) (b c : Block) → AreSmall ps → c.sent + total ps ≤ c.acked + length c.out → Moves b c → Moves b (sends_pieces ps c)
 unfolding total AreSmall sends_text
@@ -509,7 +538,7 @@ outputs-fin b c m =
     moves-cond (c.fin_wanted && (not c.fin_sent && (length (unsent c) == 0))) b (record (sends r c) { fin_sent = true }) c (finished (sends r c) (sent-moves r b c (segment-ours 17 (snd_nxt c) [] c (omega arith) (omega arith)) m)) m
   where
     finished : (d : Block) → Moves b d → Moves b (record d { fin_sent = true })
-    finished d n = let k = n.keeps in record { opened = n.opened; keeps = record { recv = k.recv; send = k.send; mss = k.mss; ours = k.ours; taken = k.taken; from = k.from; offered = k.offered; out = k.out; wanted = k.wanted } }
+    finished d n = let k = n.keeps in record { opened = n.opened; keeps = record { recv = k.recv; send = k.send; mss = k.mss; ours = k.ours; taken = k.taken; from = k.from; offered = k.offered; out = k.out; wanted = k.wanted; timed = k.timed } }
 
 outputs-ack : (n : ℕ) (b c : Block) → Moves b c → Moves b (outputs_ack n c)
 unfolding outputs_ack
@@ -518,23 +547,38 @@ outputs-ack n b c m =
     quiet (cond (c.ack_due && (length c.replies == n)) (sends r c) c) (moves-cond (c.ack_due && (length c.replies == n)) b (sends r c) c (sent-moves r b c (ack-ours c) m) m)
   where
     quiet : (d : Block) → Moves b d → Moves b (record d { ack_due = false })
-    quiet d n = let k = n.keeps in record { opened = n.opened; keeps = record { recv = k.recv; send = k.send; mss = k.mss; ours = k.ours; taken = k.taken; from = k.from; offered = k.offered; out = k.out; wanted = k.wanted } }
+    quiet d n = let k = n.keeps in record { opened = n.opened; keeps = record { recv = k.recv; send = k.send; mss = k.mss; ours = k.ours; taken = k.taken; from = k.from; offered = k.offered; out = k.out; wanted = k.wanted; timed = k.timed } }
 
-sets-deadline : (o : Option ℕ) (b c : Block) → Moves b c → Moves b (record c { retransmit_at = o })
-sets-deadline o b c m = let k = m.keeps in record { opened = m.opened; keeps = record { recv = k.recv; send = k.send; mss = k.mss; ours = k.ours; taken = k.taken; from = k.from; offered = k.offered; out = k.out; wanted = k.wanted } }
+sets-deadline : (o : Option ℕ) (b c : Block) → is_time_wait c.state ≡ false → Moves b c → Moves b (record c { retransmit_at = o })
+sets-deadline o b c w m = let k = m.keeps in record { opened = m.opened; keeps = record { recv = k.recv; send = k.send; mss = k.mss; ours = k.ours; taken = k.taken; from = k.from; offered = k.offered; out = k.out; wanted = k.wanted; timed = record { elsewhere = k.timed.elsewhere; there = λ e. absurd (false≢true (sym w ∙ e)) } } }
 
-starting : (o : Option ℕ) (b c : Block) → Moves b c → Moves b (starts o c)
-starting (Some at) b c m = m
-starting None b c m = let k = m.keeps in record { opened = m.opened; keeps = record { recv = k.recv; send = k.send; mss = k.mss; ours = k.ours; taken = k.taken; from = k.from; offered = k.offered; out = k.out; wanted = k.wanted } }
+starting : (o : Option ℕ) (b c : Block) → is_time_wait c.state ≡ false → Moves b c → Moves b (starts o c)
+starting (Some at) b c w m = m
+starting None b c w m = let k = m.keeps in record { opened = m.opened; keeps = record { recv = k.recv; send = k.send; mss = k.mss; ours = k.ours; taken = k.taken; from = k.from; offered = k.offered; out = k.out; wanted = k.wanted; timed = record { elsewhere = k.timed.elsewhere; there = λ e. absurd (false≢true (sym w ∙ e)) } } }
 
-outputs-deadline : (b c : Block) → Moves b c → Moves b (outputs_deadline c)
+outputs-deadline : (b c : Block) → is_time_wait c.state ≡ false → Moves b c → Moves b (outputs_deadline c)
 unfolding outputs_deadline
-outputs-deadline b c m =
-    moves-cond (not (c.una == snd_nxt c) || nat_lt 0 (length (unsent c))) b (starts c.retransmit_at c) (record c { retransmit_at = None }) (starting c.retransmit_at b c m) (sets-deadline None b c m)
+outputs-deadline b c w m =
+    moves-cond (not (c.una == snd_nxt c) || nat_lt 0 (length (unsent c))) b (starts c.retransmit_at c) (record c { retransmit_at = None }) (starting c.retransmit_at b c w m) (sets-deadline None b c w m)
 
 output-new : (b : Block) → b ≡ to_listen b → output b ≡ to_listen b
 unfolding output outputs_ack to_listen
 output-new b e = ap output e
+
+sending-elsewhere : (st : State) → is_sending st ≡ true → is_time_wait st ≡ false
+sending-elsewhere Listen e = refl
+sending-elsewhere SynReceived e = refl
+sending-elsewhere Established e = refl
+sending-elsewhere FinWait1 e = refl
+sending-elsewhere FinWait2 e = refl
+sending-elsewhere CloseWait e = refl
+sending-elsewhere Closing e = refl
+sending-elsewhere LastAck e = refl
+sending-elsewhere TimeWait e = absurd (false≢true e)
+
+moves-if : (t : Bool) (b x y : Block) → (t ≡ true → Moves b x) → Moves b y → Moves b (cond t x y)
+moves-if true b x y p q = p refl
+moves-if false b x y p q = q
 
 outputs-all : (b : Block) → Moves b b → Moves b (output b)
 unfolding output
@@ -543,7 +587,7 @@ outputs-all b m =
     let b1 = outputs_text b in
     let b2 = outputs_fin b1 in
     let b3 = outputs_ack n b2 in
-    moves-cond (is_sending b.state) b (outputs_deadline b3) (outputs_ack n b) (outputs-deadline b b3 (outputs-ack n b b2 (outputs-fin b b1 (outputs-text b b m)))) (outputs-ack n b b m)
+    moves-if (is_sending b.state) b (outputs_deadline b3) (outputs_ack n b) (λ e. outputs-deadline b b3 (ap is_time_wait (rest-same n b).state ∙ sending-elsewhere b.state e) (outputs-ack n b b2 (outputs-fin b b1 (outputs-text b b m)))) (outputs-ack n b b m)
 
 pub output-moved : (b : Block) → IsValid b → Moved b (output b)
 output-moved b v = chosen (is_listen b.state) refl
@@ -583,33 +627,40 @@ retransmitting LastAck b c m = sends-again b c m
 retransmitting TimeWait b c m = sends-again b c m
 
 at-time : (n : ℕ) (b c : Block) → Moves b c → Moves b (record c { clock = n })
-at-time n b c m = let k = m.keeps in record { opened = m.opened; keeps = record { recv = k.recv; send = k.send; mss = k.mss; ours = k.ours; taken = k.taken; from = k.from; offered = k.offered; out = k.out; wanted = k.wanted } }
+at-time n b c m = let k = m.keeps in record { opened = m.opened; keeps = record { recv = k.recv; send = k.send; mss = k.mss; ours = k.ours; taken = k.taken; from = k.from; offered = k.offered; out = k.out; wanted = k.wanted; timed = k.timed } }
 
-counted : (n rto : ℕ) (o : Option ℕ) (b c : Block) → Moves b c → Moves b (record c { retransmissions = n; rto = rto; retransmit_at = o })
-counted n rto o b c m = let k = m.keeps in record { opened = m.opened; keeps = record { recv = k.recv; send = k.send; mss = k.mss; ours = k.ours; taken = k.taken; from = k.from; offered = k.offered; out = k.out; wanted = k.wanted } }
+counted : (n rto : ℕ) (o : Option ℕ) (b c : Block) → is_time_wait c.state ≡ false → Moves b c → Moves b (record c { retransmissions = n; rto = rto; retransmit_at = o })
+counted n rto o b c w m = let k = m.keeps in record { opened = m.opened; keeps = record { recv = k.recv; send = k.send; mss = k.mss; ours = k.ours; taken = k.taken; from = k.from; offered = k.offered; out = k.out; wanted = k.wanted; timed = record { elsewhere = k.timed.elsewhere; there = λ e. absurd (false≢true (sym w ∙ e)) } } }
 
-fires-again : (at : ℕ) (b c : Block) → Moves b c → Moves b (fires (retransmission at) c)
+fires-again : (at : ℕ) (b c : Block) → is_time_wait c.state ≡ false → Moves b c → Moves b (fires (retransmission at) c)
 unfolding fires
-fires-again at b c m = counted (c.retransmissions + 1) (backed_off c.rto) (Some (at + backed_off c.rto)) b (retransmits c.state (record c { clock = at })) (retransmitting c.state b (record c { clock = at }) (at-time at b c m))
+fires-again at b c w m = counted (c.retransmissions + 1) (backed_off c.rto) (Some (at + backed_off c.rto)) b (retransmits c.state (record c { clock = at })) (ap is_time_wait (resent-same c.state (record c { clock = at })).state ∙ w) (retransmitting c.state b (record c { clock = at }) (at-time at b c m))
 
 fires-cond : (t : Bool) (f : Firing) (fs : List Firing) (b c : Block) → Moves b c → Moved b (fires_all fs (fires f c)) → Moved b (fires_all (cond t (f ∷ fs) []) c)
 fires-cond true f fs b c m h = h
 fires-cond false f fs b c m h = moves m
 
-all-from : (left rto at to : ℕ) (b c : Block) → Moves b c → Moved b (fires_all (until to (retransmissions_from left rto at)) c)
+all-from : (left rto at to : ℕ) (b c : Block) → is_time_wait c.state ≡ false → Moves b c → Moved b (fires_all (until to (retransmissions_from left rto at)) c)
 unfolding fires
-all-from zero rto at to b c m = fires-cond (nat_le at to) (gives_up at) [] b c m (goes-to-listen b (record c { clock = at }) (at-time at b c m).keeps)
-all-from (suc left) rto at to b c m =
+all-from zero rto at to b c w m = fires-cond (nat_le at to) (gives_up at) [] b c m (goes-to-listen b (record c { clock = at }) (at-time at b c m).keeps)
+all-from (suc left) rto at to b c w m =
     fires-cond (nat_le at to) (retransmission at) (until to (retransmissions_from left (backed_off rto) (at + backed_off rto))) b c m
-    (all-from left (backed_off rto) (at + backed_off rto) to b (fires (retransmission at) c) (fires-again at b c m))
+    (all-from left (backed_off rto) (at + backed_off rto) to b (fires (retransmission at) c) (ap is_time_wait (resent-same c.state (record c { clock = at })).state ∙ w) (fires-again at b c w m))
 
-all-timers : (wait retransmit : Option ℕ) (to : ℕ) (b : Block) → Moves b b → Moved b (fires_all (until to (timers wait retransmit b)) b)
+some-elsewhere : (b : Block) (at : ℕ) → b.retransmit_at ≡ Some at → IsTimed b.state b.time_wait_at b.retransmit_at → is_time_wait b.state ≡ false
+some-elsewhere b at e i = chosen (is_time_wait b.state) refl
+  where
+    chosen : (t : Bool) → is_time_wait b.state ≡ t → is_time_wait b.state ≡ false
+    chosen true f = absurd (none-some at (sym (i.there f) ∙ e))
+    chosen false f = f
+
+all-timers : (wait retransmit : Option ℕ) (to : ℕ) (b : Block) → b.retransmit_at ≡ retransmit → Moves b b → Moved b (fires_all (until to (timers wait retransmit b)) b)
 unfolding fires
-all-timers (Some at) retransmit to b m =
+all-timers (Some at) retransmit to b e m =
     let n = max b.clock at in
     fires-cond (nat_le n to) (time_wait n) [] b b m (goes-to-listen b (record b { clock = n }) (at-time n b b m).keeps)
-all-timers None None to b m = moves m
-all-timers None (Some at) to b m = all-from (most_retransmissions - b.retransmissions) b.rto (max b.clock at) to b b m
+all-timers None None to b e m = moves m
+all-timers None (Some at) to b e m = all-from (most_retransmissions - b.retransmissions) b.rto (max b.clock at) to b b (some-elsewhere b at e m.keeps.timed) m
 
 moved-at-time : (n : ℕ) (b c : Block) → Moved b c → Moved b (record c { clock = n })
 moved-at-time n b c (moves m) = moves (at-time n b c m)
@@ -620,7 +671,7 @@ unfolding tcp_time firings to_listen
 time-new to b e = ap (tcp_time to) e
 
 later-keeps : (n : ℕ) (b : Block) → IsValid b → Keeps b (record b { clock = n })
-later-keeps n b v = record { recv = v.recv; send = v.send; mss = v.mss; ours = v.ours; taken = refl; from = omega arith; offered = omega arith; out = none-gone b.acked b.out; wanted = λ e. e }
+later-keeps n b v = record { recv = v.recv; send = v.send; mss = v.mss; ours = v.ours; taken = refl; from = omega arith; offered = omega arith; out = none-gone b.acked b.out; wanted = λ e. e; timed = v.timed }
 
 pub time-moved : (to : ℕ) (b : Block) → IsValid b → Moved b (tcp_time to b)
 unfolding tcp_time firings
@@ -628,7 +679,7 @@ time-moved to b v = chosen (is_listen b.state) refl
   where
     chosen : (t : Bool) → is_listen b.state ≡ t → Moved b (tcp_time to b)
     chosen true e = subst (λ (x : Block). Moved b x) (sym (time-new to b (v.new e))) (goes-to-listen b (record b { clock = to }) (later-keeps to b v))
-    chosen false e = moved-at-time to b (fires_all (firings to b) b) (all-timers b.time_wait_at b.retransmit_at to b (own b e v))
+    chosen false e = moved-at-time to b (fires_all (firings to b) b) (all-timers b.time_wait_at b.retransmit_at to b refl (own b e v))
 
 -- calls
 
@@ -648,14 +699,14 @@ cap-receiving want n q h r =
 
 capped : (n : ℕ) (b : Block) → is_listen b.state ≡ false → n ≤ plain_space → IsValid b → Moved b (record b { want = n; recv = with_cap n b.recv })
 unfolding with_cap
-capped n b e h v = moves (record { opened = e; keeps = record { recv = cap-receiving b.want n b.recv h v.recv; send = v.send; mss = v.mss; ours = v.ours; taken = refl; from = omega arith; offered = omega arith; out = none-gone b.acked b.out; wanted = λ e. e } })
+capped n b e h v = moves (record { opened = e; keeps = record { recv = cap-receiving b.want n b.recv h v.recv; send = v.send; mss = v.mss; ours = v.ours; taken = refl; from = omega arith; offered = omega arith; out = none-gone b.acked b.out; wanted = λ e. e; timed = v.timed } })
 
 asked-new : (n : ℕ) (b : Block) → b ≡ to_listen b → record b { want = n; recv = empty_recv n } ≡ to_listen (record b { want = n; recv = empty_recv n })
 unfolding to_listen
 asked-new n b e = ap (λ (x : Block). record x { want = n; recv = empty_recv n }) e
 
 buffers : (st : State) (n : ℕ) (b : Block) → b.state ≡ st → n ≤ plain_space → IsValid b → Moved b (with_buffer st n b)
-buffers Listen n b e h v = as_new (ap is_listen e) (record { recv = empty-receiving n n (omega (arith, h)) (omega (arith, h)); send = v.send; mss = v.mss; ours = v.ours; new = λ f. asked-new n b (v.new f) })
+buffers Listen n b e h v = as_new (ap is_listen e) (record { recv = empty-receiving n n (omega (arith, h)) (omega (arith, h)); send = v.send; mss = v.mss; timed = v.timed; ours = v.ours; new = λ f. asked-new n b (v.new f) })
 buffers SynReceived n b e h v = capped n b (ap is_listen e) h v
 buffers Established n b e h v = capped n b (ap is_listen e) h v
 buffers FinWait1 n b e h v = capped n b (ap is_listen e) h v
@@ -665,25 +716,25 @@ buffers Closing n b e h v = capped n b (ap is_listen e) h v
 buffers LastAck n b e h v = capped n b (ap is_listen e) h v
 buffers TimeWait n b e h v = capped n b (ap is_listen e) h v
 
-pub wanting : (st : State) (b : Block) → is_listen st ≡ false → IsValid b → Moves b (wants_fin st b)
-wanting st b e v = let k = valid-keeps b v in record { opened = e; keeps = record { recv = k.recv; send = k.send; mss = k.mss; ours = k.ours; taken = k.taken; from = k.from; offered = k.offered; out = k.out; wanted = λ f. absurd (false≢true (sym f)) } }
+pub wanting : (st : State) (b : Block) → is_listen st ≡ false → is_time_wait st ≡ false → is_time_wait b.state ≡ false → IsValid b → Moves b (wants_fin st b)
+wanting st b e w from v = let k = valid-keeps b v in record { opened = e; keeps = record { recv = k.recv; send = k.send; mss = k.mss; ours = k.ours; taken = k.taken; from = k.from; offered = k.offered; out = k.out; wanted = λ f. absurd (false≢true (sym f)); timed = record { elsewhere = λ f. v.timed.elsewhere from; there = λ f. absurd (false≢true (sym w ∙ f)) } } }
 
-closes-in : (st : State) (b : Block) → IsValid b → Says b (close_in st b).verdict
-closes-in Listen b v = stays b v
-closes-in SynReceived b v = stays b v
-closes-in Established b v = wanting FinWait1 b refl v
-closes-in CloseWait b v = wanting LastAck b refl v
-closes-in FinWait1 b v = stays b v
-closes-in FinWait2 b v = stays b v
-closes-in Closing b v = stays b v
-closes-in LastAck b v = stays b v
-closes-in TimeWait b v = stays b v
+closes-in : (st : State) (b : Block) → b.state ≡ st → IsValid b → Says b (close_in st b).verdict
+closes-in Listen b e v = stays b v
+closes-in SynReceived b e v = stays b v
+closes-in Established b e v = wanting FinWait1 b refl refl (ap is_time_wait e) v
+closes-in CloseWait b e v = wanting LastAck b refl refl (ap is_time_wait e) v
+closes-in FinWait1 b e v = stays b v
+closes-in FinWait2 b e v = stays b v
+closes-in Closing b e v = stays b v
+closes-in LastAck b e v = stays b v
+closes-in TimeWait b e v = stays b v
 
 pub call-says : (c : Call) (b : Block) → IsAskable c → IsValid b → Says b (tcp_call c b).verdict
 unfolding tcp_call
 call-says call.Status b h v = stays b v
 call-says (call.Buffer n) b h v = buffers b.state n b refl h v
-call-says call.Close b h v = closes-in b.state b v
+call-says call.Close b h v = closes-in b.state b refl v
 
 pub call-moved : (c : Call) (b : Block) → IsAskable c → IsValid b → Moved b (left_by (tcp_call c b).verdict)
 call-moved c b h v = says-moved b (tcp_call c b).verdict (call-says c b h v)

@@ -1,5 +1,5 @@
 -- What the fields of a block stand for.
-use Rattle.std.specs.Prelude.{◌≡◌, true, false, None, ◌+◌, ◌*◌, ◌^◌, ◌≤◌, length, All}
+use Rattle.std.specs.Prelude.{◌≡◌, true, false, None, ◌+◌, ◌^◌, ◌≤◌, length, All}
 use Rattle.byte_queues.specs.ReceiveQueue.{next_of}
 use Rattle.tcb_machine.specs.BlockState.{Block, IsOurs}
 use Rattle.tcb_machine.specs.States.{is_listen}

@@ -1,10 +1,11 @@
 -- What holds of the block of a connection from a new one on, whatever it is given.
-use Rattle.std.specs.Prelude.{ℕ, ◌≡◌, ◌+◌, ◌≤◌, true, List, length, All}
+use Rattle.std.specs.Prelude.{ℕ, ◌≡◌, ◌+◌, ◌≤◌, true, false, List, Option, None, length, All}
 use Rattle.byte_queues.specs.ReceiveQueue.{Recv, next_of}
 use Rattle.tcb_machine.specs.BlockState.{Block, IsOurs, to_listen}
 use Rattle.tcb_machine.specs.States.{is_listen}
-use Rattle.tcb_machine.specs.TcpStep.{Verdict, over, go, on}
+use Rattle.tcb_machine.specs.TcpStep.{Verdict, over, go, on, is_time_wait}
 use Rattle.tcb_machine.specs.declared.kinds.Call.{Call}
+use Rattle.tcb_machine.specs.declared.kinds.State.{State}
 use Rattle.tcb_machine.specs.declared.kinds.Call.TheVariants.{Status, Buffer, Close}
 use Rattle.tcb_machine.specs.Limits.{most_mss, whole_space}
 
@@ -22,10 +23,16 @@ pub record IsSending (acked sent : ℕ) (out : List ℕ) : Type 0 where
   pub acked_sent : acked ≤ sent
   pub sent_out : sent ≤ acked + length out
 
+-- the deadlines, of which at most one is set: that of TIME-WAIT only there, that of retransmission only elsewhere
+pub record IsTimed (state : State) (time_wait_at retransmit_at : Option ℕ) : Type 0 where
+  pub elsewhere : is_time_wait state ≡ false → time_wait_at ≡ None
+  pub there : is_time_wait state ≡ true → retransmit_at ≡ None
+
 pub record IsValid (b : Block) : Type 0 where
   pub recv : IsReceiving b.want b.recv
   pub send : IsSending b.acked b.sent b.out
   pub mss : b.mss ≤ most_mss
+  pub timed : IsTimed b.state b.time_wait_at b.retransmit_at
   -- what was sent: at most 1,460 bytes of text, and no options but ours
   pub ours : All IsOurs b.replies
   -- in LISTEN all is as new

@@ -1,4 +1,4 @@
-use Rattle.std.proofs.Common.{◌≡◌, ◌+◌, ◌≤◌, arith, ap}
+use Rattle.std.proofs.Common.{arith, ap}
 use Rattle.byte_queues.specs.ReceiveQueue.{Recv, next_of}
 use Rattle.tcb_machine.specs.BlockState.{Block, offered}
 use Rattle.tcb_machine.specs.Inside.{block_of}

@@ -1,4 +1,4 @@
-use Rattle.std.proofs.Common.{◌≡◌, ap, ◌∙◌}
+use Rattle.std.proofs.Common.{ap, ◌∙◌}
 use Rattle.tcb_machine.specs.BlockState.{Block, offered}
 use Rattle.tcb_machine.specs.Inside.{block_of}
 use Rattle.tcb_machine.proofs.KeepLemmas.{time-kept}
