@@ -1,6 +1,8 @@
 -- The list of firings, one firing after another: what a loop over the deadlines needs.
 use Rattle.std.proofs.Common.{◌≡◌, ℕ, ◌+◌, ◌-◌, ◌<◌, ◌≤◌, List, [], ◌∷◌, Bool, true, false, cond, leb, ltb, not, ◌&&◌, ◌==◌, take, Option, None, Some, min, max, ◌*◌, inl, inr, refl, sym, ap, ◌∙◌, subst, arith}
-use Rattle.std.specs.Prelude.{suc, zero}
+use Rattle.std.specs.Prelude.{suc, zero, IsTrue, ◌↔◌}
+use Rattle.sq_base.specs.SerialOrder.{IsBefore}
+use Rattle.tcb_machine.specs.TcpStep.{is_before}
 use Rattle.std.specs.Option.{ForSome}
 use Rattle.std.proofs.lemmas.Bool.Decides.{nat_tests, leb_tells}
 use Rattle.tcb_machine.specs.declared.kinds.State.{State}
@@ -8,7 +10,7 @@ use Rattle.tcb_machine.specs.declared.kinds.State.TheVariants.{Listen, SynReceiv
 use Rattle.tcb_machine.specs.BlockState.{Block, to_listen, sends, segment_of, in_flight, snd_nxt, snd_end, unsent}
 use Rattle.segment_codec.specs.declared.packet.Reply.{Reply}
 use Rattle.tcb_machine.specs.Output.{sends_text}
-use Rattle.tcb_machine.specs.Timers.{Firing, first_time, time_wait, fired, retransmission, gives_up, backed_off, retransmissions_from, timers, until, firings, sends_again, retransmits, fires, fires_all, tcp_time}
+use Rattle.tcb_machine.specs.Timers.{Firing, first_time, next_deadline, time_wait, fired, retransmission, gives_up, backed_off, retransmissions_from, timers, until, firings, sends_again, retransmits, fires, fires_all, tcp_time}
 use Rattle.tcb_machine.specs.Limits.{most_retransmissions}
 
 record Kept (b c : Block) : Type 0 where
@@ -96,26 +98,26 @@ later-none : (k to rto t : ℕ) → to < t → until to (retransmissions_from k 
 later-none zero to rto t h = ap (λ (c : Bool). cond c (gives_up t ∷ []) []) (passed t to h)
 later-none (suc k) to rto t h = ap (λ (c : Bool). cond c (retransmission t ∷ until to (retransmissions_from k (backed_off rto) (t + backed_off rto))) []) (passed t to h)
 
-pub time-later : (to at : ℕ) (b : Block) → b.time_wait_at ≡ None → b.retransmit_at ≡ Some at → to < at → tcp_time to b ≡ record b { clock = to }
+pub time-later : (to at : ℕ) (b : Block) → b.time_wait_at ≡ None → b.retransmit_at ≡ Some at → to < max b.clock at → tcp_time to b ≡ record b { clock = to }
 unfolding tcp_time firings
 time-later to at b none some late =
     ap (λ (fs : List Firing). record (fires_all fs b) { clock = to })
     (ap (λ (o : Option ℕ). until to (timers o b.retransmit_at b)) none
     ∙ (ap (λ (o : Option ℕ). until to (timers None o b)) some
-    ∙ later-none (most_retransmissions - b.retransmissions) to b.rto (max b.clock at) (omega (arith, late))))
+    ∙ later-none (most_retransmissions - b.retransmissions) to b.rto (max b.clock at) late))
 
 pub time-rest : (to : ℕ) (o : Option ℕ) (b : Block) → b.time_wait_at ≡ None → b.retransmit_at ≡ o → ForSome o (λ at. to < at) → tcp_time to b ≡ record b { clock = to }
 time-rest to None b none is late = time-idle to b none is
-time-rest to (Some at) b none is late = time-later to at b none is (late at refl)
+time-rest to (Some at) b none is late = let l = late at refl in time-later to at b none is (omega (arith, l))
 
 -- the TIME-WAIT deadline
-pub time_waits : (to at : ℕ) (b : Block) → b.time_wait_at ≡ Some at → to < at → tcp_time to b ≡ record b { clock = to }
+pub time_waits : (to at : ℕ) (b : Block) → b.time_wait_at ≡ Some at → to < max b.clock at → tcp_time to b ≡ record b { clock = to }
 unfolding tcp_time firings
 time_waits to at b some late =
     let t = max b.clock at in
     ap (λ (fs : List Firing). record (fires_all fs b) { clock = to })
     (ap (λ (o : Option ℕ). until to (timers o b.retransmit_at b)) some
-    ∙ ap (λ (c : Bool). cond c (time_wait t ∷ []) []) (passed t to (omega (arith, late))))
+    ∙ ap (λ (c : Bool). cond c (time_wait t ∷ []) []) (passed t to late))
 
 pub time_ends : (to at : ℕ) (b : Block) → b.time_wait_at ≡ Some at → at ≤ to → b.clock ≤ to → tcp_time to b ≡ record (to_listen b) { clock = to }
 unfolding tcp_time firings fires to_listen
@@ -177,3 +179,16 @@ turn to at b none some due now most =
 pub first_retransmission : (left rto at : ℕ) → first_time (retransmissions_from left rto at) ≡ Some at
 first_retransmission zero rto at = refl
 first_retransmission (suc left) rto at = refl
+
+until-quiet : (to : ℕ) (wait retransmit : Option ℕ) (b : Block) → b.time_wait_at ≡ wait → b.retransmit_at ≡ retransmit → ForSome (first_time (timers wait retransmit b)) (λ at. to < at) → tcp_time to b ≡ record b { clock = to }
+until-quiet to (Some at) retransmit b w r late = time_waits to at b w (late (max b.clock at) refl)
+until-quiet to None None b w r late = time-idle to b w r
+until-quiet to None (Some at) b w r late = time-later to at b w r (late (max b.clock at) (first_retransmission (most_retransmissions - b.retransmissions) b.rto (max b.clock at)))
+
+pub time-quiet : (to : ℕ) (b : Block) → ForSome (next_deadline b) (λ at. to < at) → tcp_time to b ≡ record b { clock = to }
+unfolding next_deadline
+time-quiet to b late = until-quiet to b.time_wait_at b.retransmit_at b refl refl late
+
+-- the order of sequence numbers, as a test and as a relation
+pub one-order : (a b : ℕ) → IsTrue (is_before a b) ↔ IsBefore a b
+one-order a b = grind (arith, nat_tests)

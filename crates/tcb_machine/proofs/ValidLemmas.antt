@@ -1,5 +1,5 @@
 -- Every step takes a valid block to a valid one. Beside it: where the block isn't in LISTEN then, no byte was taken, and what was acknowledged was offered.
-use Rattle.std.proofs.Common.{◌≡◌, ℕ, ◌+◌, ◌-◌, ◌^◌, ◌<◌, ◌≤◌, List, [], ◌∷◌, ◌++◌, Option, None, Some, Bool, true, false, cond, not, ◌==◌, ◌&&◌, ◌||◌, length, drop, take, min, max, refl, sym, ap, ◌∙◌, subst, arith, length-drop, length-take}
+use Rattle.std.proofs.Common.{◌⊎◌, inl, inr, ◌≡◌, ℕ, ◌+◌, ◌-◌, ◌^◌, ◌<◌, ◌≤◌, List, [], ◌∷◌, ◌++◌, Option, None, Some, Bool, true, false, cond, not, ◌==◌, ◌&&◌, ◌||◌, length, drop, take, min, max, refl, sym, ap, ◌∙◌, subst, arith, length-drop, length-take}
 use Rattle.std.specs.Prelude.{suc, zero, All, nat_lt, nat_le}
 use Rattle.std.proofs.lemmas.Bool.{false≢true, leb-true}
 use Rattle.std.proofs.lemmas.Option.{none-some}
@@ -831,3 +831,11 @@ unfolding tcp_call
 call-offered call.Status b = refl
 call-offered (call.Buffer n) b = buffer-offered b.state n b
 call-offered call.Close b = close-offered b.state b
+
+-- at most one deadline is set
+pub one-deadline : (b : Block) → IsValid b → (b.time_wait_at ≡ None) ⊎ (b.retransmit_at ≡ None)
+one-deadline b v = chosen (is_time_wait b.state) refl
+  where
+    chosen : (t : Bool) → is_time_wait b.state ≡ t → (b.time_wait_at ≡ None) ⊎ (b.retransmit_at ≡ None)
+    chosen true e = inr (v.timed.there e)
+    chosen false e = inl (v.timed.elsewhere e)

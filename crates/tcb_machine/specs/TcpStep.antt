@@ -1,6 +1,6 @@
 -- The arrival of a segment (RFC 9293, 3.10.7), check by check.
-use Rattle.std.specs.Prelude.{ℕ, ◌+◌, ◌-◌, ◌%◌, ◌^◌, ◌==◌, nat_lt, nat_le, min, max, ◌&&◌, ◌||◌, Bool, true, false, not, List, length, drop, Option, None, Some, if◌then◌else◌}
-use Rattle.sq_base.specs.SerialOrder.{dist}
+use Rattle.std.specs.Prelude.{ℕ, ◌↔◌, IsTrue, ◌+◌, ◌-◌, ◌%◌, ◌^◌, ◌==◌, nat_lt, nat_le, min, max, ◌&&◌, ◌||◌, Bool, true, false, not, List, length, drop, Option, None, Some, if◌then◌else◌}
+use Rattle.sq_base.specs.SerialOrder.{IsBefore, dist}
 use Rattle.byte_queues.specs.ReceiveQueue.{Recv, empty_recv, next_of, is_ended, placed, with_end}
 use Rattle.tcb_machine.specs.BlockState.{Block, to_listen, rcv_nxt, rcv_wnd, snd_nxt, fin, syn, rst, ack, has, seg_len, seg_wnd, syn_ack_of, rst_of, sends, sends_ack, in_flight}
 use Rattle.tcb_machine.specs.declared.kinds.State.{State}
@@ -128,8 +128,12 @@ ack_kind n b =
     else if nat_le (2 ^ 31) d then Old
     else Beyond
 
+-- the order of `sq_base`, as a test
 abbrev pub is_before : ℕ → ℕ → Bool
 is_before a b = nat_lt 0 (dist a b) && nat_lt (dist a b) (2 ^ 31)
+
+abbrev pub OneSerialOrder : Type 0
+OneSerialOrder = (a b : ℕ) → IsTrue (is_before a b) ↔ IsBefore a b
 
 abbrev pub with_window : Seg → Block → Block
 with_window s b = record b { wnd = seg_wnd s b; wl1 = s.seq; wl2 = s.ack }

@@ -1,5 +1,5 @@
 -- What holds of the block of a connection from a new one on, whatever it is given.
-use Rattle.std.specs.Prelude.{ℕ, ◌≡◌, ◌+◌, ◌≤◌, true, false, List, Option, None, length, All}
+use Rattle.std.specs.Prelude.{ℕ, ◌≡◌, ◌+◌, ◌≤◌, true, false, ◌⊎◌, List, Option, None, length, All}
 use Rattle.byte_queues.specs.ReceiveQueue.{Recv, next_of}
 use Rattle.tcb_machine.specs.BlockState.{Block, IsOurs, to_listen}
 use Rattle.tcb_machine.specs.States.{is_listen}
@@ -49,3 +49,8 @@ abbrev pub left_by : Verdict → Block
 left_by (over b) = b
 left_by (go b) = b
 left_by (on b) = b
+
+-- laws of a valid block
+
+abbrev pub AtMostOneDeadline : Type 0
+AtMostOneDeadline = (b : Block) → IsValid b → (b.time_wait_at ≡ None) ⊎ (b.retransmit_at ≡ None)
