@@ -473,7 +473,7 @@ says-moved b (on c) h = moves h
 
 -- output
 
-total : List (List ℕ) → ℕ
+unfoldable pub total : List (List ℕ) → ℕ
 total [] = 0
 total (t ∷ ts) = length t + total ts
 
@@ -486,7 +486,7 @@ unfolding total
 total-cond true p ps n h = omega arith
 total-cond false p ps n h = h
 
-pieces-total : (k n : ℕ) (t : List ℕ) → total (pieces k n t) ≤ length t
+pub pieces-total : (k n : ℕ) (t : List ℕ) → total (pieces k n t) ≤ length t
 unfolding total
 pieces-total zero n t = omega arith
 pieces-total (suc k) n t =

@@ -9,3 +9,4 @@ pub mod Inside
 pub mod Validity
 pub mod Room
 pub mod Endings
+pub mod Numbering

@@ -5,6 +5,7 @@ ghost use Rattle.byte_queues.specs.ReceiveQueue.{next_of};
 ghost use Rattle.segment_codec.specs.declared.packet.Seg.{Seg};
 ghost use Rattle.tcb_machine.specs.BlockState.{Block, new_block, offered};
 ghost use Rattle.tcb_machine.specs.CallAnswers.{tcp_call};
+ghost use Rattle.tcb_machine.specs.Numbering.{IsNumbered, SegmentKeepsNumbers, TimeKeepsNumbers, CallKeepsNumbers, OutputKeepsNumbers};
 ghost use Rattle.tcb_machine.specs.Output.{output};
 ghost use Rattle.tcb_machine.specs.Room.{StreamsBelow, SegmentAddsLittle, TimeAddsNothing, CallAddsNothing, OutputAddsNothing};
 ghost use Rattle.tcb_machine.specs.TcpStep.{tcp_segment, OneSerialOrder};
@@ -67,4 +68,14 @@ pub fn nothing_fires_before_the_next_deadline()
 /// Sequence numbers have one order, that of `sq_base`.
 pub fn sequence_numbers_have_one_order()
     ensures { OneSerialOrder }
+{}
+
+/// SND.UNA and the count of acknowledged bytes go together: behind the handshake SND.UNA stands behind our SYN, the bytes that were
+/// acknowledged, and our FIN where it was (RFC 9293, 3.4).
+pub fn acknowledged_numbers_and_bytes_go_together()
+    ensures new { IsNumbered new_block }
+    ensures segment { SegmentKeepsNumbers }
+    ensures time { TimeKeepsNumbers }
+    ensures call { CallKeepsNumbers }
+    ensures output { OutputKeepsNumbers }
 {}
