@@ -10,7 +10,9 @@ ghost use Rattle.byte_queues.specs.ReceiveQueue.{next_of};
 
 use super::{ACK, FIN, RST, SYN, Tcb};
 use crate::kinds::{AckKind, Next, State, Step};
-use crate::limits::{DEFAULT_MSS, FIRST_TIMEOUT, LEAST_MSS, MOST_MSS, MOST_SHIFT, PLAIN_SPACE, TIME_WAIT};
+use crate::limits::{
+    DEFAULT_MSS, FIRST_TIMEOUT, LEAST_MSS, MOST_MSS, MOST_SHIFT, PLAIN_SPACE, TIME_WAIT,
+};
 use byte_queues::RecvQueue;
 use segment_codec::Seg;
 use sq_base::{seq_dist, seq_lt};

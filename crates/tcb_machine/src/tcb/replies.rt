@@ -21,7 +21,7 @@ impl Tcb {
         ensures { result ≡ sent_window self.now }
     {
         if self.scaled {
-            (self.rcv_wnd() / 32) as u16
+            (self.rcv_wnd() >> OUR_SHIFT) as u16
         } else {
             self.rcv_wnd() as u16
         }
