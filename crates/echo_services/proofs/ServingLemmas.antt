@@ -1,13 +1,11 @@
 -- A served connection: its block stays valid, the lists beside it keep their counts, and a segment adds little.
-use Rattle.std.proofs.Common.{◌≡◌, ℕ, ◌+◌, ◌-◌, ◌^◌, ◌<◌, ◌≤◌, List, [], ◌∷◌, ◌++◌, Bool, true, false, cond, not, ◌==◌, ◌&&◌, length, drop, take, min, refl, sym, ap, ◌∙◌, subst, arith, length-take, length-append}
+use Rattle.std.proofs.Common.{◌≡◌, ℕ, ◌+◌, ◌-◌, ◌^◌, ◌<◌, ◌≤◌, List, [], ◌∷◌, ◌++◌, Bool, true, false, cond, not, ◌==◌, ◌&&◌, length, take, min, refl, sym, ap, ◌∙◌, subst, arith, length-take, length-append}
 use Rattle.std.specs.Prelude.{All}
 use Rattle.std.proofs.lemmas.Bool.{false≢true}
 use Rattle.segment_codec.specs.declared.packet.Seg.{Seg}
 use Rattle.segment_codec.specs.declared.packet.Reply.{Reply}
-use Rattle.byte_queues.specs.ReceiveQueue.{Recv, front, up_to, next_of, ready_of, next_bytes, without}
+use Rattle.byte_queues.specs.ReceiveQueue.{Recv, next_of, ready_of, next_bytes, without}
 use Rattle.byte_queues.specs.SendQueue.{room_of}
-use Rattle.byte_queues.proofs.CellLemmas.{front-drop}
-use Rattle.byte_queues.proofs.QueueLemmas.{up-to-le}
 use Rattle.byte_queues.proofs.WholeLemmas.{next-count}
 use Rattle.tcb_machine.specs.BlockState.{Block, IsOurs, new_block, offered, to_listen}
 use Rattle.tcb_machine.specs.CallAnswers.{tcp_call, close_in, wants_fin}
