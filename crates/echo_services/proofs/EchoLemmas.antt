@@ -79,7 +79,7 @@ echoing-moved w c h (as_new e v) = echoing-new w c e v
 
 -- with the clock set first
 clock-moves : (n : ℕ) (b c : Block) → Moves (record b { clock = n }) c → Moves b c
-clock-moves n b c m = let k = m.keeps in record { opened = m.opened; keeps = record { recv = k.recv; send = k.send; mss = k.mss; ours = k.ours; taken = k.taken; from = k.from; offered = k.offered; out = k.out; wanted = k.wanted } }
+clock-moves n b c m = let k = m.keeps in record { opened = m.opened; keeps = record { recv = k.recv; send = k.send; mss = k.mss; ours = k.ours; taken = k.taken; from = k.from; offered = k.offered; out = k.out; wanted = k.wanted; timed = k.timed } }
 
 clock-moved : (n : ℕ) (b c : Block) → Moved (record b { clock = n }) c → Moved b c
 clock-moved n b c (moves m) = moves (clock-moves n b c m)

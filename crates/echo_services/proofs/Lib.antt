@@ -2,3 +2,4 @@ pub mod EchoLemmas
 pub mod PumpLemmas
 pub mod ServingLemmas
 pub mod WorkedRows
+pub mod ExchangeRows
