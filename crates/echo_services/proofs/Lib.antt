@@ -3,3 +3,4 @@ pub mod PumpLemmas
 pub mod ServingLemmas
 pub mod WorkedRows
 pub mod ExchangeRows
+pub mod CloseLemmas

@@ -6,8 +6,9 @@ ghost use Rattle.tcb_machine.specs.BlockState.{offered};
 ghost use Rattle.tcb_machine.specs.CallAnswers.{tcp_call};
 ghost use Rattle.tcb_machine.specs.Room.{HasRoom};
 ghost use Rattle.tcb_machine.specs.TcpStep.{said};
+ghost use Rattle.tcb_machine.specs.Timers.{tcp_time};
 ghost use Rattle.echo_services.specs.Pump.{followed};
-ghost use Rattle.echo_services.specs.Serving.{asks, enters, segment, time};
+ghost use Rattle.echo_services.specs.Serving.{asks, enters, segment};
 
 use crate::service::{Service, pump};
 use segment_codec::Seg;
@@ -43,7 +44,7 @@ pub fn serve(
 pub fn tick(tcb: &mut Tcb, alloc: Global, now: u64) -> Result<(), AllocError>
     requires clock { tcb.old.clock ≤ now }
     requires time { now ≤ 2 ^ 62 }
-    ensures step { OnOk result ((service : Service) → tcb.new ≡ enters service (time now) tcb.old) }
+    ensures step { OnOk result (tcb.new ≡ tcp_time now tcb.old) }
     ensures clock { OnOk result (tcb.new.clock ≡ now) }
     ensures next { OnOk result (next_of tcb.new.recv ≤ next_of tcb.old.recv) }
     ensures offered { OnOk result (offered tcb.new ≤ offered tcb.old) }
@@ -53,12 +54,7 @@ pub fn tick(tcb: &mut Tcb, alloc: Global, now: u64) -> Result<(), AllocError>
 
 /// A program's call, at the block's clock (RFC 9293, 3.10): pump and output follow a close that is done. After NoMemory nothing
 /// more is promised of the block, until it is reset.
-pub fn ask(
-    service: Service,
-    tcb: &mut Tcb,
-    alloc: Global,
-    call: Call,
-) -> Result<Answer, AllocError>
+pub fn ask(service: Service, tcb: &mut Tcb, alloc: Global, call: Call) -> Result<Answer, AllocError>
     ensures answer { IfOk result (λ answer. answer ≡ (tcp_call call tcb.old).answer) }
     ensures step { OnOk result (tcb.new ≡ enters service (asks call) tcb.old) }
     ensures clock { OnOk result (tcb.new.clock ≡ tcb.old.clock) }
