@@ -2,13 +2,13 @@
 use Rattle.std.specs.Prelude.{ℕ, ◌+◌, ◌-◌, ◌^◌, ◌<◌, ◌≤◌, min, Option, List, length, take}
 use Rattle.std.specs.Io.KnownBytes.{Appends}
 
--- A count rose: it is larger, or it stands at its last number.
-abbrev pub Rose : ℕ → ℕ → Type 0
-Rose old new = min (old + 1) (2 ^ 64 - 1) ≤ new
-
--- the next value of such a count
+-- the next value of a count of 64 bits, which stays at its last number
 abbrev pub raised : ℕ → ℕ
 raised n = min (n + 1) (2 ^ 64 - 1)
+
+-- A count rose: it is larger, or it stands at its last number.
+abbrev pub Rose : ℕ → ℕ → Type 0
+Rose old new = raised old ≤ new
 
 -- known bytes grew by a front of bs that isn't all of bs
 abbrev pub AppendsProperly : Option (List ℕ) → Option (List ℕ) → List ℕ → Type 0

@@ -58,7 +58,7 @@ impl MemSource {
 }
 
 impl Source for MemSource {
-    ghost use Rattle.std.specs.Prelude.{◌≡◌, ℕ, ◌≤◌, true, false, Some, MatchResult, min, length, take, drop, OnErr, IfOk};
+    ghost use Rattle.std.specs.Prelude.{◌≡◌, ℕ, ◌≤◌, true, false, Some, MatchResult, min, length, take, drop, OnOk, OnErr, IfOk};
     ghost use Rattle.std.specs.Io.KnownBytes.{ReadConsumes};
     ghost use Rattle.sq_base.specs.Ends.{Rose, raised};
     ghost use Rattle.sq_base.specs.MemoryEnds.{is_failing};
@@ -71,6 +71,7 @@ impl Source for MemSource {
         ensures bound { IfOk result (λ n. n ≤ length buf.new) }
         ensures bytes { ReadConsumes (Some self.old.left) (Some self.new.left) result buf.new }
         ensures never_falls { self.old.faults ≤ self.new.faults }
+        ensures kept { OnOk result (self.new.faults ≡ self.old.faults) }
         ensures failed { OnErr result (Rose self.old.faults self.new.faults) }
 
         // which call fails, and how many bytes another one gives
@@ -154,7 +155,7 @@ impl MemSink {
 }
 
 impl Sink for MemSink {
-    ghost use Rattle.std.specs.Prelude.{◌≡◌, ℕ, ◌+◌, ◌-◌, ◌<◌, ◌≤◌, true, false, Some, MatchResult, min, length, take, ◌++◌, OnErr, IfOk, ◌&&◌, ◌||◌, nat_lt, ◌==◌};
+    ghost use Rattle.std.specs.Prelude.{◌≡◌, ℕ, ◌+◌, ◌-◌, ◌<◌, ◌≤◌, true, false, Some, MatchResult, min, length, take, ◌++◌, OnOk, OnErr, IfOk, ◌&&◌, ◌||◌, nat_lt, ◌==◌};
     ghost use Rattle.std.specs.Io.KnownBytes.{WriteAppends};
     ghost use Rattle.sq_base.specs.Ends.{Rose, raised};
     ghost use Rattle.sq_base.specs.MemoryEnds.{is_failing};
@@ -168,6 +169,7 @@ impl Sink for MemSink {
         ensures some { 0 < length piece.now → IfOk result (λ n. 0 < n) }
         ensures bytes { WriteAppends (Some self.old.written) (Some self.new.written) result piece.now }
         ensures never_falls { self.old.faults ≤ self.new.faults }
+        ensures kept { OnOk result (self.new.faults ≡ self.old.faults) }
         ensures failed { OnErr result (Rose self.old.faults self.new.faults) }
 
         // which call fails, and how many bytes another one takes

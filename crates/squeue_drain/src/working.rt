@@ -15,11 +15,10 @@ use perimeter_core::{Hook, Own, Resident, SynchAct};
 use squeue_state::{Pass, Squeue, Turn};
 use std::alloc::Global;
 use std::sync::Wait;
-use std::thread::yield_now;
 
 /// Works until every other pass is closed, nothing is queued and nobody has the perimeter, as a turn of its own has found.
 /// Where something waits for the worker it takes the queue, and drains without a budget until a turn finds nothing queued or
-/// it grants. Else it releases the gate and lets other threads run.
+/// it grants. Else it releases the gate and sleeps until there may be work.
 pub fn worker<R: Resident, H: Hook, W: Wait>(
     sq: &Squeue<R>,
     rt: &W,
@@ -56,12 +55,14 @@ fn work_once<R: Resident, H: Hook, W: Wait>(
     ensures worked { Worked R.limits sq.now pass result.0 }
     ensures over { result.1 ≡ true → IsOver (setting_of R.limits sq.now.given) (run (setting_of R.limits sq.now.given) (seen result.0)) }
 {
+    sq.listen();
     let turn = sq.turn(rt, pass);
     if !waits_for_worker(&turn) {
         let over = is_over(&turn);
         let pass = sq.plain(turn);
-        // The gate is handed over in order: who comes next isn't to wait for a worker that isn't running.
-        yield_now();
+        if !over {
+            sq.sleep(rt);
+        }
         return (pass, over);
     }
     let (pass, resident, hand) = sq.work(turn);

@@ -1,6 +1,6 @@
 use Rattle.std.proofs.Common.{arith, take, ◌++◌, length-append, length-take}
 use Rattle.std.proofs.KnownBytes.{Consumes-trans}
-use Rattle.capture_reader.proofs.source.read_all.Goals as goal
+use Rattle.capture_reader.proofs.source.read_bytes.Goals as goal
 
 pub returns-in_err-map_err-clause-few : goal.returns-in_err-map_err-clause-few
 returns-in_err-map_err-clause-few g c =
