@@ -4,10 +4,10 @@ from pathlib import Path
 from struct import unpack_from
 
 from files import Records
+from packets import SERVED, SERVICES, classify
 
 FIN, SYN, RST, PSH, ACK = 1, 2, 4, 8, 16
 TIMER_GAP = 100_000         # microseconds without a segment, after which sqrun is told the time
-SERVICES = {7: "echo", 9: "discard"}
 MOST_CONNECTIONS = 4_096
 
 
@@ -66,50 +66,16 @@ def options(data):
     return mss, scale
 
 
-def tcp_segment(at, datagram, header, end):
-    """Ports and segment of a datagram whose IPv4 header and whole have these lengths."""
-    sp, dp, seq, ack, offset, flags, window = unpack_from(">HHIIBBH", datagram, header)
+def tcp_segment(at, datagram, header):
+    """The segment of a datagram whose IPv4 header has this length."""
+    seq, ack, offset, flags, window = unpack_from(">4xIIBBH", datagram, header)
     text = header + (offset >> 2 & 60)
     mss, scale = options(datagram[header + 20:text])
-    return sp, dp, Segment(at, seq, ack, flags & 63, window, end - text, scale, mss, datagram)
+    return Segment(at, seq, ack, flags & 63, window, len(datagram) - text, scale, mss, datagram)
 
 
-def total(data):
-    """The ones' complement sum."""
-    n = int.from_bytes(data + b"\0" * (len(data) & 1), "big")
-    return (n - 1) % 0xffff + 1 if n else 0
-
-
-def datagram_of(link, body):
-    """The IPv4 datagram of a body, with what may follow it there, or nothing."""
-    if link == 1:
-        tag = 4 if body[12:14] == b"\x81\0" else 0
-        return body[14 + tag:] if body[12 + tag:14 + tag] == b"\x08\0" else b""
-    if link == 113:
-        return body[16:] if body[14:16] == b"\x08\0" else b""
-    return body
-
-
-def whole_segment(ip, verify):
-    """Where a datagram's TCP header stands and where it ends, if it is a whole segment that sqrun takes; else None."""
-    if len(ip) < 20 or ip[0] >> 4 != 4:
-        return None
-    header, length = 4 * (ip[0] & 15), ip[2] << 8 | ip[3]
-    if header < 20 or length and length < header or (ip[6] << 8 | ip[7]) & 0x3fff or ip[9] != 6:
-        return None
-    length = length or len(ip)              # an offloaded datagram is as long as it was captured
-    if len(ip) < max(length, header) or length - header < 20 or not 20 <= (ip[header + 12] >> 2 & 60) <= length - header:
-        return None
-    if verify:
-        tcp = ip[header:length]
-        pseudo = ip[12:20] + bytes((0, 6)) + (len(tcp) & 0xffff).to_bytes(2, "big")
-        if len(tcp) > 65_535 or total(ip[:header]) != 0xffff or total(pseudo + tcp) != 0xffff:
-            return None
-    return header, length
-
-
-def address(ip, port):
-    return ".".join(map(str, ip)) + f":{port}"
+def address(data, at, port_at):
+    return ".".join(map(str, data[at:at + 4])) + f":{data[port_at] << 8 | data[port_at + 1]}"
 
 
 def read(path, verify=False):
@@ -118,25 +84,25 @@ def read(path, verify=False):
     conns, number, last = {}, 0, 0
     for at, body in records:
         last = max(last, at)
-        ip = datagram_of(records.link, body)
-        found = whole_segment(ip, verify)
-        if found:
-            sp, dp, segment = tcp_segment(at, ip[:found[1]], *found)
+        kind, ip, tcp, end = classify(body, 0, len(body), records.link, verify)
+        if ip is not None:
+            segment = tcp_segment(at, body[ip:end], tcp - ip)
             segment.record = number
-            place(conns, address(ip[12:16], sp), sp, address(ip[16:20], dp), dp, segment)
+            source, destination = address(body, ip + 12, tcp), address(body, ip + 16, tcp + 2)
+            place(conns, kind, source, destination, body[tcp + 3], segment)
         number += 1
     for conn in conns.values():
         conn.items = items(conn.client, last)
     return Capture(list(conns.values()), number, last)
 
 
-def place(conns, source, sp, destination, dp, segment):
-    """Puts a segment where it belongs, if it is one between a client and a served port."""
-    if dp in SERVICES:
+def place(conns, kind, source, destination, port, segment):
+    """Puts a segment to or from a served port where it belongs."""
+    if kind == SERVED:
         key = f"{source} {destination}"
         if key in conns or len(conns) < MOST_CONNECTIONS:
-            conns.setdefault(key, Connection(key, SERVICES[dp])).client.append(segment)
-    elif sp in SERVICES and f"{destination} {source}" in conns:
+            conns.setdefault(key, Connection(key, SERVICES[port])).client.append(segment)
+    elif f"{destination} {source}" in conns:
         conns[f"{destination} {source}"].server.append(segment)
 
 

@@ -4,8 +4,8 @@ from dataclasses import dataclass, field
 
 from capture import Connection, tcp_segment
 from files import Refused
+from packets import KINDS
 
-KINDS = ("served", "nofit", "server", "other", "fragment", "cut", "malformed", "badsum")
 STATES = "LISTEN|SYN-RECEIVED|ESTABLISHED|FIN-WAIT-1|FIN-WAIT-2|CLOSE-WAIT|CLOSING|LAST-ACK|TIME-WAIT"
 ENDPOINT = r"\d+\.\d+\.\d+\.\d+:\d+"
 LINES = {name: re.compile(form) for name, form in {
@@ -120,7 +120,7 @@ class Reader:
 
     def take_reply(self, found):
         data = bytes.fromhex(found[2])
-        self.current().replies.append(tcp_segment(int(found[1]), data, 20, len(data))[2])
+        self.current().replies.append(tcp_segment(int(found[1]), data, 20))
 
     def take_answer(self, found):
         self.current().answers[int(found[1]), int(found[2])] = found[3]
