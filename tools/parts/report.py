@@ -10,10 +10,10 @@ STATES = "LISTEN|SYN-RECEIVED|ESTABLISHED|FIN-WAIT-1|FIN-WAIT-2|CLOSE-WAIT|CLOSI
 ENDPOINT = r"\d+\.\d+\.\d+\.\d+:\d+"
 LINES = {name: re.compile(form) for name, form in {
     "records": r"records (\d+) tail ([01]) " + " ".join(rf"{kind} (\d+)" for kind in KINDS) + r" connections (\d+)",
-    "conn": rf"conn (\d+) ({ENDPOINT} {ENDPOINT}) (\w+)",
+    "conn": rf"conn (\d+) ({ENDPOINT} {ENDPOINT}) (echo|discard)",
     "order": r"order((?: f\d+(?:-\d+)?| c[0-3]\.\d+)+)",
     "reply": r"reply (\d+) ((?:[0-9a-f]{2}){40,})",
-    "answer": r"answer ([0-3]) (\d+) (.+)",
+    "answer": rf"answer ([0-3]) (\d+) ((?:{STATES}) \d+ \d+ \d+|ok|notopen|already)",
     "end": rf"end ({STATES})",
     "setup": r"setup squeues (\d+) rings (\d+) mode (process|nodrain|fill) budget (\d+) spread (\d+) verify ([01])",
     "call": r"call ([0-3]):(\d+):(status|close|buffer=\d+)",

@@ -21,7 +21,6 @@ import re
 import shutil
 import sys
 from array import array
-from pathlib import Path
 from struct import Struct
 
 from files import MOST_BODY, Records, Refused, header, is_pcapng

@@ -47,9 +47,9 @@ def model(command, path, *words):
     return output([sys.executable, MODEL, command, *words], Path(path).read_bytes())
 
 
-def traced(path, *words):
-    """A report with marks: until sqrun has --trace, one that the model simulates."""
-    return model("simulate", path, "--trace", *words)
+def traced(path, seed, *words):
+    """A report with marks: until sqrun has --trace, one that the model simulates under a schedule made from the seed."""
+    return model("simulate", path, "--seed", seed, "--trace", *words)
 
 
 def kept_traces():
