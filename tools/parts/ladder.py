@@ -84,8 +84,10 @@ class Ladder:
         self.y += ROW
 
 
-def draw(ident, number, conn, served, lives, calls):
+def draw(ident, number, conn, served, lives, calls, alone=False):
+    """The figure; alone it is no wider than it needs to be."""
     listed = rows(conn, served)
+    beside = any(kind in ("call", "time") for _, kind, _ in listed)
     if len(listed) > MOST:
         listed = listed[:FIRST] + [(None, "left out", len(listed) - FIRST - LAST)] + listed[-LAST:]
     ladder = Ladder(served, lives, calls)
@@ -99,7 +101,7 @@ def draw(ident, number, conn, served, lives, calls):
              text(RIGHT, bottom + 18, served.end, "b c"), text(LEFT - 12, 52, "seconds", "m s e")]
     desc = (f"{plural(len(conn.client), 'segment')} from the client and {len(served.replies):,} {'reply' if len(served.replies) == 1 else 'replies'}, "
             f"in the order served; it ends in {served.end}.")
-    return figure(ident, WIDTH, bottom + 30, f"Connection {number}: who sent what", desc, "".join(frame + ladder.out))
+    return figure(ident, WIDTH if beside or not alone else RIGHT + LEFT, bottom + 30, f"Connection {number}: who sent what", desc, "".join(frame + ladder.out))
 
 
 STYLE = """

@@ -8,7 +8,7 @@ import unittest
 from pathlib import Path
 from xml.etree import ElementTree
 
-from common import MODEL, TOOLS, captures, kept_traces, need, output, sqrun, traced
+from common import MODEL, TOOLS, TOP, captures, kept_traces, need, output, sqrun, traced
 import capture
 import drawing
 import perimeter
@@ -18,7 +18,7 @@ from browser import COMMAND, Browser
 from generated import records, write
 
 SVG = "{http://www.w3.org/2000/svg}"
-EXAMPLE = captures()[0]
+EXAMPLE = TOP / "examples" / "echo_short.pcap"
 
 
 def plot(text, *words, status=0):
@@ -164,6 +164,11 @@ class Graphs(unittest.TestCase):
             svg = ElementTree.fromstring(plot(text, "--capture", EXAMPLE, "--figure", "ladder", "--conn", c))
             self.assertEqual(drawn(svg, "path", "reply"), len(said.replies))
             self.assertEqual(drawn(svg, "path", "segment"), len(capture.read(EXAMPLE).conns[c].client))
+
+    def test_picture_in_the_docs(self):
+        """It is drawn from a run of sqrun on the repository's capture."""
+        drawn_now = plot(sqrun(EXAMPLE).decode(), "--capture", EXAMPLE, "--conn", 1, "--figure", "ladder")
+        self.assertEqual((TOP / "docs" / "pictures" / "echo.svg").read_text(), drawn_now)
 
     def test_kinds_of_segments(self):
         def seg(seq, length, flags=16):

@@ -3,10 +3,12 @@ import json
 import os
 import random
 import shutil
+import socket
 import struct
 import subprocess
 import sys
 import tempfile
+import time
 import unittest
 from pathlib import Path
 
@@ -244,6 +246,37 @@ class Shards(unittest.TestCase):
             lists = [line.split(": ")[1] for line in seen.read_text().splitlines()]
             counts = {sum(int(b or a) - int(a) + 1 for a, _, b in (part.partition("-") for part in one.split(","))) for one in lists}
             self.assertEqual(counts, kept)
+
+    def test_over_ssh(self):
+        """Served by a machine behind a real ssh: this one, with a server and keys of the test's own. Nothing is left there."""
+        need("ssh"), need("rsync")
+        server = shutil.which("sshd", path=f"{os.environ['PATH']}:/usr/sbin")
+        if not server:
+            self.skipTest("sshd isn't installed")
+        for key in ("host", "user"):
+            output(["ssh-keygen", "-q", "-t", "ed25519", "-N", "", "-f", self.folder / key])
+        with socket.create_server(("127.0.0.1", 0)) as free:
+            port = free.getsockname()[1]
+        home = self.folder / "home"
+        home.mkdir()
+        (self.folder / "config").write_text(f"ListenAddress 127.0.0.1:{port}\nHostKey {self.folder}/host\nAuthorizedKeysFile {self.folder}/user.pub\n"
+                                            f"StrictModes no\nUsePAM no\nPidFile none\nPermitRootLogin yes\nSetEnv HOME={home}\n")
+        Path("/run/sshd").mkdir(exist_ok=True) if os.geteuid() == 0 else None
+        daemon = subprocess.Popen([server, "-D", "-f", self.folder / "config"], stderr=subprocess.DEVNULL)
+        self.addCleanup(daemon.wait)
+        self.addCleanup(daemon.terminate)
+        for _ in range(100):
+            with socket.socket() as probe:
+                if probe.connect_ex(("127.0.0.1", port)) == 0:
+                    break
+            time.sleep(.1)
+        known = f"-o StrictHostKeyChecking=no -o UserKnownHostsFile={self.folder}/known -o LogLevel=ERROR"
+        (self.folder / "nodes").write_text(f"2/ssh -p {port} -i {self.folder}/user {known} 127.0.0.1\n")
+        path = self.folder / "a.pcap"
+        write(path, records(3, 2000, 30), 101)
+        self.assertEqual(self.merged([path], "--verify", "--nodes", self.folder / "nodes", program=os.path.abspath(SQRUN), size=20_000), sqrun(path, "--verify"))
+        left = [path for folder in (home, Path.home() / ".parallel") for path in folder.rglob("*") if path.name in ("shards", "reports", "0-head")]
+        self.assertEqual(left, [])
 
     def test_slurm_script(self):
         """The array script's loop, with Slurm's variables set by hand."""
