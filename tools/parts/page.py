@@ -17,6 +17,7 @@ STYLE = drawing.STYLE + timeseq.PLOT_STYLE + ladder.STYLE + squeues.STYLE
 LADDER_MOST = 400       # segments and replies
 LADDER_OPEN = 60
 TABLE_MOST = 500
+TABLE_OPEN = 12         # connections
 TABLES_MOST = 60
 COUNTED_MOST = 300
 HINT = "Drag to zoom, double click for all. Arrow keys walk the segments, + and − zoom, Escape for all."
@@ -101,7 +102,8 @@ def page(title, report, conns, drawn, chosen_squeues, marks, left_out):
            f'<p class="quiet">{plural(counts["records"], "record")}, {counts["served"]:,} served in {plural(counts["connections"], "connection")}{beside}.</p>',
            f'<p class="quiet">{NOT_PROVED}</p>']
     if conns:
-        out.append(f'<details{" open" if len(conns) <= 12 else ""}><summary>{plural(len(conns), "connection")}</summary>{table(conns, report, set(drawn))}</details>')
+        out.append(f'<details{" open" if len(conns) <= TABLE_OPEN else ""}><summary>{plural(len(conns), "connection")}</summary>'
+                   f'{table(conns, report, set(drawn))}</details>')
     if left_out:
         out.append(f"<p>{left_out}</p>")
     if report.squeues:

@@ -230,8 +230,8 @@ class Graphs(unittest.TestCase):
             return sum(w * (c / 12.92 if c <= .04045 else ((c + .055) / 1.055) ** 2.4) for w, c in zip((.2126, .7152, .0722), parts))
         for theme in drawing.STYLE.split("@media"):
             colours = dict(re.findall(r"--(\w+):#(\w+)", theme))
-            for name, least in (("ink", 4.5), ("muted", 4.5), ("again", 4.5), ("thread", 4.5), ("data", 3), ("ackd", 3), ("room", 3), ("real", 3), ("ring", 3),
-                                ("worker", 3), ("move", 3)):
+            for name, least in (("ink", 4.5), ("muted", 4.5), ("again", 4.5), ("thread", 4.5), ("data", 3), ("ackd", 3), ("room", 3), ("real", 3), ("ring", 4.5),
+                                ("worker", 4.5), ("move", 3)):
                 a, b = sorted((light(colours[name]), light(colours["paper"])))
                 self.assertGreaterEqual((b + .05) / (a + .05), least, name)
 
