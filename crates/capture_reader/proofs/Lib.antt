@@ -3,3 +3,4 @@ pub mod Outcomes
 pub mod OneOutcome
 pub mod SomeOutcome
 pub mod Times
+pub mod ShortBodies

@@ -1,5 +1,5 @@
 -- There is one way to cut bytes into spellings.
-use Rattle.std.proofs.Common.{◌≡◌, ℕ, ◌+◌, ◌<◌, ◌≤◌, Bool, true, false, List, [], ◌∷◌, ◌++◌, length, take, drop, map, Result, Ok, Err, ◌⊎◌, inl, inr, subst, sym, ap, ◌∙◌, refl, arith, length-append, length-drop, append_assoc}
+use Rattle.std.proofs.Common.{◌≡◌, ℕ, ◌+◌, ◌<◌, ◌≤◌, Bool, true, false, List, [], ◌∷◌, ◌++◌, length, take, drop, Result, Ok, Err, ◌⊎◌, inl, inr, subst, sym, ap, ◌∙◌, refl, arith, length-append, length-drop, append_assoc}
 use Rattle.std.proofs.lemmas.List.{take_at, drop_at, drop-append-le}
 use Rattle.std.specs.List.{concat, AllByRecursion}
 use Rattle.sq_base.specs.declared.kinds.Link.{Link}
@@ -7,7 +7,8 @@ use Rattle.capture_reader.specs.declared.form.Form.{Form}
 use Rattle.capture_reader.specs.declared.fault.CaptureFault.{CaptureFault}
 use Rattle.capture_reader.specs.declared.fault.CaptureFault.TheVariants as fault
 use Rattle.capture_reader.specs.Header.{header_answer}
-use Rattle.capture_reader.specs.CaptureFile.{Packet, IsSplit, IsSpelling, IsPartial, IsTooLong, Ends, packet_of, named_length}
+use Rattle.capture_reader.specs.CaptureFile.{Packet, IsSplit, IsSpelling, IsPartial, IsTooLong, Ends, packets_of, named_length}
+use Rattle.capture_reader.specs.Limits.{most_records}
 use Rattle.capture_reader.specs.Form.{number}
 use Rattle.capture_reader.specs.CaptureFile.{Contents, Meets}
 use Rattle.capture_reader.proofs.Pieces.{number-append}
@@ -92,9 +93,9 @@ outcome too_many = Err fault.TooManyRecords
 
 -- what an ending says of the pieces and the rest
 abbrev Tells : Ending → Form → Link → List (List ℕ) → List ℕ → Type 0
-Tells (whole c) form link ps z = (c.link ≡ link) × (c.packets ≡ map (packet_of form) ps) × Ends c.cut form (length ps) z
-Tells (too_long index len) form link ps z = (length ps ≡ index) × (index < 1048576) × IsTooLong len form z
-Tells too_many form link ps z = (length ps ≡ 1048576) × (0 < length z)
+Tells (whole c) form link ps z = (c.link ≡ link) × (c.packets ≡ packets_of form 24 ps) × Ends c.cut form (length ps) z
+Tells (too_long index len) form link ps z = (length ps ≡ index) × (index < most_records) × IsTooLong len form z
+Tells too_many form link ps z = (length ps ≡ most_records) × (0 < length z)
 
 record Later (bytes : List ℕ) (x : Result Contents CaptureFault) : Type 0 where
   ending : Ending
@@ -121,8 +122,8 @@ stage bytes (Err (fault.TooLarge n)) h = absurd h
 
 -- it stops there, or there are as many as may be
 record Bounded (form : Form) (ps : List (List ℕ)) (z : List ℕ) : Type 0 where
-  few : length ps ≤ 1048576
-  stops : Stops form z ⊎ (length ps ≡ 1048576)
+  few : length ps ≤ most_records
+  stops : Stops form z ⊎ (length ps ≡ most_records)
 
 bounded_ends : (cut : Bool) (form : Form) (ps : List (List ℕ)) (z : List ℕ) → Ends cut form (length ps) z → Bounded form ps z
 bounded_ends false form ps z h = record { few = h.1; stops = inl (subst (Stops form) (sym h.0) (stops_none form)) }
@@ -134,7 +135,7 @@ bounded (too_long index len) form link ps z h = record { few = omega (arith, h.0
 bounded too_many form link ps z h = record { few = omega (arith, h.0); stops = inr h.0 }
 
 as_many : (form : Form) (ps qs : List (List ℕ)) (x y : List ℕ) → AllByRecursion (IsSpelling form) ps → AllByRecursion (IsSpelling form) qs
-    → concat ps ++ x ≡ concat qs ++ y → (length ps ≤ 1048576) → (length qs ≤ 1048576) → Stops form x ⊎ (length ps ≡ 1048576) → Stops form y ⊎ (length qs ≡ 1048576) → length ps ≡ length qs
+    → concat ps ++ x ≡ concat qs ++ y → (length ps ≤ most_records) → (length qs ≤ most_records) → Stops form x ⊎ (length ps ≡ most_records) → Stops form y ⊎ (length qs ≡ most_records) → length ps ≡ length qs
 as_many form ps qs x y a b e m n (inl s) (inl t) = omega (arith, most_pieces form ps qs x y a b s e, most_pieces form qs ps y x b a t (sym e))
 as_many form ps qs x y a b e m n (inl s) (inr t) = omega (arith, most_pieces form ps qs x y a b s e, m, t)
 as_many form ps qs x y a b e m n (inr s) (inl t) = omega (arith, most_pieces form qs ps y x b a t (sym e), n, s)
@@ -151,7 +152,7 @@ not_both : (c : Bool) (form : Form) (n len : ℕ) (z : List ℕ) → Ends c form
 not_both false form n len z h k = omega (arith, ap length h.0, k.0)
 not_both true form n len z h k = omega (arith, (h.0.1 k.0).0, k.1, k.2)
 
-not_many : (c : Bool) (form : Form) (n : ℕ) (z : List ℕ) → Ends c form n z → n ≡ 1048576 → 0 < length z → ⊥
+not_many : (c : Bool) (form : Form) (n : ℕ) (z : List ℕ) → Ends c form n z → n ≡ most_records → 0 < length z → ⊥
 not_many false form n z h e k = omega (arith, ap length h.0, k)
 not_many true form n z h e k = omega (arith, h.1, e)
 

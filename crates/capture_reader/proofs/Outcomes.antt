@@ -10,8 +10,9 @@ use Rattle.capture_reader.specs.declared.fault.CaptureFault.TheVariants as fault
 use Rattle.capture_reader.specs.Form.{number, form_of, link_of}
 use Rattle.capture_reader.specs.Header.{header_answer, magic_answer, link_answer}
 use Rattle.capture_reader.specs.CaptureFile.{Ends, Captured, Refused}
-use Rattle.capture_reader.specs.SoFar.{StopsAt, Fails, packet_at}
-use Rattle.capture_reader.specs.Outcome.{ParseFails}
+use Rattle.capture_reader.specs.SoFar.{StopsAt, Fails}
+use Rattle.capture_reader.specs.Limits.{most_bytes}
+use Rattle.capture_reader.specs.Outcome.{ParseFails, packet_at}
 use Rattle.capture_reader.proofs.Pieces.{split_there}
 
 -- one of the refusals that a header meets
@@ -74,7 +75,7 @@ header_refuses bytes (fault.TooLarge n) e = absurd (subst FailsOfHeader e (heade
 header_refuses bytes (fault.RecordLength index len) e = absurd (subst FailsOfHeader e (header_of_header bytes))
 header_refuses bytes fault.TooManyRecords e = absurd (subst FailsOfHeader e (header_of_header bytes))
 
-pub header_fails : (bytes : List ℕ) (f : CaptureFault) → length bytes ≤ 67108864 → header_answer bytes ≡ Err f → ParseFails bytes f
+pub header_fails : (bytes : List ℕ) (f : CaptureFault) → length bytes ≤ most_bytes → header_answer bytes ≡ Err f → ParseFails bytes f
 header_fails bytes (fault.ShortHeader n) small e = (small, e)
 header_fails bytes (fault.Magic magic) small e = (small, e)
 header_fails bytes (fault.Version major minor) small e = (small, e)
@@ -85,7 +86,7 @@ header_fails bytes (fault.TooLarge n) small e = absurd (subst FailsOfHeader e (h
 header_fails bytes (fault.RecordLength index len) small e = absurd (subst FailsOfHeader e (header_of_header bytes))
 header_fails bytes fault.TooManyRecords small e = absurd (subst FailsOfHeader e (header_of_header bytes))
 
-pub records_fail : (bytes : List ℕ) (form : Form) (link : Link) (f : CaptureFault) → length bytes ≤ 67108864 → header_answer bytes ≡ Ok (form, link) → Fails form bytes f → ParseFails bytes f
+pub records_fail : (bytes : List ℕ) (form : Form) (link : Link) (f : CaptureFault) → length bytes ≤ most_bytes → header_answer bytes ≡ Ok (form, link) → Fails form bytes f → ParseFails bytes f
 records_fail bytes form link fault.NoMemory small says h = tt
 records_fail bytes form link (fault.RecordLength index len) small says h = (
   small,

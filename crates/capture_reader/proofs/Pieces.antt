@@ -1,5 +1,5 @@
 -- One piece after another, and that there is one way to cut bytes into pieces.
-use Rattle.std.proofs.Common.{◌≡◌, ℕ, ◌+◌, ◌*◌, ◌≤◌, List, [], ◌∷◌, ◌++◌, length, take, drop, map, sym, ap, ◌∙◌, refl, arith, length-drop, append_assoc, Ok}
+use Rattle.std.proofs.Common.{◌≡◌, ℕ, ◌+◌, ◌*◌, ◌≤◌, List, [], ◌∷◌, ◌++◌, length, take, drop, sym, ap, ◌∙◌, refl, arith, length-drop, length-append, append_assoc, Ok}
 use Rattle.std.proofs.lemmas.List.{append-nil, drop-append-le, take-append-drop, length-take-le, drop-take, drop-drop, map_push, length_push}
 use Rattle.std.proofs.lemmas.List.Folds.{concat-append}
 use Rattle.std.proofs.Math.Seq.{take-add}
@@ -10,11 +10,13 @@ use Rattle.capture_reader.specs.declared.capture.Record.{Record}
 use Rattle.capture_reader.specs.Form.{number}
 use Rattle.sq_base.specs.declared.kinds.Link.{Link}
 use Rattle.capture_reader.specs.Header.{header_answer}
-use Rattle.capture_reader.specs.CaptureFile.{Packet, IsSplit, IsSpelling, packet_of, named_length, micros}
-use Rattle.capture_reader.specs.SoFar.{ReadsTo, IsInside, packet_at}
+use Rattle.capture_reader.specs.CaptureFile.{Packet, IsSplit, IsSpelling, packet_of, named_length, named_time, packets_of, micros}
+use Rattle.capture_reader.specs.Limits.{longest_body, latest_time}
+use Rattle.capture_reader.specs.Outcome.{IsInside, packet_at}
+use Rattle.capture_reader.specs.SoFar.{ReadsTo}
 
-abbrev packet_with : ℕ → List ℕ → Packet
-packet_with time body = record { time = time; body = body }
+abbrev packet_with : ℕ → ℕ → List ℕ → Packet
+packet_with time from body = record { time = time; from = from; body = body }
 
 -- a number is in its own bytes
 pub number-append : (form : Form) (n : ℕ) (xs ys : List ℕ) → n ≤ length xs → number form n (xs ++ ys) ≡ number form n xs
@@ -39,6 +41,7 @@ pub reads_none : (form : Form) (bytes : List ℕ) → 24 ≤ length bytes → Re
 reads_none form bytes h = record {
   pieces = [];
   within = h;
+  place = refl;
   front = sym (append-nil (take 24 bytes));
   spelled = tt;
   counted = refl;
@@ -47,26 +50,33 @@ reads_none form bytes h = record {
 }
 
 -- the front of a rest that spells a packet
-pub front_spells : (form : Form) (rest : List ℕ) → 16 ≤ length rest → named_length form rest ≤ 262144 → 16 + named_length form rest ≤ length rest → IsSpelling form (take (16 + named_length form rest) rest)
+pub front_spells : (form : Form) (rest : List ℕ) → 16 ≤ length rest → named_length form rest ≤ longest_body → 16 + named_length form rest ≤ length rest → IsSpelling form (take (16 + named_length form rest) rest)
 front_spells form rest header most whole =
     let size = 16 + named_length form rest in
     let long : length (take size rest) ≡ size = length-take-le size rest whole in
     let same : named_length form (take size rest) ≡ named_length form rest = number-take form 4 8 size rest (omega arith) whole in
     record { header = omega arith; most = omega arith; whole = omega arith }
 
-same_packet : (t u : ℕ) (a b : List ℕ) → t ≡ u → a ≡ b → packet_with t a ≡ packet_with u b
-same_packet t u a b p q = ap (λ (n : ℕ). packet_with n a) p ∙ ap (packet_with u) q
+same_packet : (t u m n : ℕ) (a b : List ℕ) → t ≡ u → m ≡ n → a ≡ b → packet_with t m a ≡ packet_with u n b
+same_packet t u m n a b p q r = cc
+
+-- one more spelling
+packets_push : (form : Form) (at : ℕ) (pieces : List (List ℕ)) (piece : List ℕ) → packets_of form at (pieces ++ piece ∷ []) ≡ packets_of form at pieces ++ packet_of form (at + length (concat pieces)) piece ∷ []
+packets_push form at [] piece = let here : at ≡ at + 0 = omega arith in ap (λ (n : ℕ). packet_of form n piece ∷ []) here
+packets_push form at (x ∷ xs) piece =
+    let there : at + length x + length (concat xs) ≡ at + length (x ++ concat xs) = omega (arith, length-append x (concat xs)) in
+    ap (λ (ps : List Packet). packet_of form at x ∷ ps) (packets_push form (at + length x) xs piece ∙ ap (λ (n : ℕ). packets_of form (at + length x) xs ++ packet_of form n piece ∷ []) there)
 
 -- and its packet is what the record names
 pub front_packet : (form : Form) (bytes : List ℕ) (at : ℕ) (r : Record) → 16 + named_length form (drop at bytes) ≤ length (drop at bytes)
-    → r.at ≡ (packet_of form (drop at bytes)).time → r.from ≡ at + 16 → r.len ≡ named_length form (drop at bytes)
-    → packet_at bytes r ≡ packet_of form (take (16 + named_length form (drop at bytes)) (drop at bytes))
+    → r.at ≡ named_time form (drop at bytes) → r.from ≡ at + 16 → r.len ≡ named_length form (drop at bytes)
+    → packet_at bytes r ≡ packet_of form at (take (16 + named_length form (drop at bytes)) (drop at bytes))
 front_packet form bytes at r whole time from len =
     let rest = drop at bytes in
     let size = 16 + named_length form rest in
     let seconds : number form 4 (take size rest) ≡ number form 4 rest = number-take form 4 0 size rest (omega arith) whole in
     let fraction : number form 4 (drop 4 (take size rest)) ≡ number form 4 (drop 4 rest) = number-take form 4 4 size rest (omega arith) whole in
-    let t : r.at ≡ (packet_of form (take size rest)).time =
+    let t : r.at ≡ named_time form (take size rest) =
     time ∙ (ap (λ (n : ℕ). n * 1000000 + micros form (number form 4 (drop 4 rest))) (sym seconds)
     ∙ ap (λ (n : ℕ). number form 4 (take size rest) * 1000000 + micros form n) (sym fraction)) in
     let b : take r.len (drop r.from bytes) ≡ drop 16 (take size rest) =
@@ -74,12 +84,12 @@ front_packet form bytes at r whole time from len =
     ∙ (ap (λ (n : ℕ). take (named_length form rest) (drop n bytes)) from
     ∙ (ap (take (named_length form rest)) (sym (drop-drop 16 at bytes))
     ∙ sym (drop-take 16 (named_length form rest) rest))) in
-    same_packet _ _ _ _ t b
+    same_packet _ _ _ _ _ _ t from b
 
 -- one more packet
 pub reads_more : (form : Form) (bytes : List ℕ) (at : ℕ) (records : List Record) (r : Record) → ReadsTo form bytes at records
-    → 16 ≤ length (drop at bytes) → named_length form (drop at bytes) ≤ 262144 → 16 + named_length form (drop at bytes) ≤ length (drop at bytes)
-    → r.at ≡ (packet_of form (drop at bytes)).time → r.from ≡ at + 16 → r.len ≡ named_length form (drop at bytes) → r.at ≤ 9007199254740992
+    → 16 ≤ length (drop at bytes) → named_length form (drop at bytes) ≤ longest_body → 16 + named_length form (drop at bytes) ≤ length (drop at bytes)
+    → r.at ≡ named_time form (drop at bytes) → r.from ≡ at + 16 → r.len ≡ named_length form (drop at bytes) → r.at ≤ latest_time
     → ReadsTo form bytes (at + (16 + named_length form (drop at bytes))) (records ++ r ∷ [])
 reads_more form bytes at records r s header most whole time from len small =
     let rest = drop at bytes in
@@ -88,15 +98,16 @@ reads_more form bytes at records r s header most whole time from len small =
     record {
       pieces = s.pieces ++ piece ∷ [];
       within = omega (arith, length-drop at bytes);
+      place = omega (arith, s.place, ap length (concat-append s.pieces (piece ∷ [])), length-append (concat s.pieces) (piece ++ []), ap length (append-nil piece), length-take-le size rest whole);
       front = take-add at size bytes ∙ (ap (λ (xs : List ℕ). xs ++ piece) s.front ∙ (append_assoc (take 24 bytes) (concat s.pieces) piece
           ∙ ap (λ (xs : List ℕ). take 24 bytes ++ xs) (sym (concat-append s.pieces (piece ∷ []) ∙ ap (λ (xs : List ℕ). concat s.pieces ++ xs) (append-nil piece)))));
       spelled = all_push (IsSpelling form) s.pieces piece s.spelled (front_spells form rest header most whole);
       counted = length_push s.pieces piece ∙ (ap (λ (n : ℕ). n + 1) s.counted ∙ sym (length_push records r));
       named = map_push (packet_at bytes) records r
           ∙ (ap (λ (ps : List Packet). ps ++ packet_at bytes r ∷ []) s.named
-          ∙ (ap (λ (p : Packet). map (packet_of form) s.pieces ++ p ∷ []) (front_packet form bytes at r whole time from len)
-          ∙ sym (map_push (packet_of form) s.pieces piece)));
-      inside = all_push (IsInside bytes) records r s.inside (record { room = omega (arith, length-drop at bytes); most = omega (arith, len, most); time = small });
+          ∙ (ap (λ (p : Packet). packets_of form 24 s.pieces ++ p ∷ []) (front_packet form bytes at r whole time from len ∙ ap (λ (n : ℕ). packet_of form n piece) s.place)
+          ∙ sym (packets_push form 24 s.pieces piece)));
+      inside = all_push (IsInside bytes) records r s.inside (record { room = omega (arith, length-drop at bytes); time = small });
     }
 
 -- where reading stops, the bytes are split

@@ -1,5 +1,5 @@
 -- Bytes can be cut up: as many spellings as there are, within a number, and then a rest.
-use Rattle.std.proofs.Common.{◌≡◌, ℕ, zero, suc, ◌+◌, ◌<◌, ◌≤◌, Bool, true, false, List, [], ◌∷◌, ◌++◌, length, take, drop, map, Result, Ok, Err, ◌⊎◌, inl, inr, sym, ap, ◌∙◌, refl, arith, append_assoc, ltb}
+use Rattle.std.proofs.Common.{◌≡◌, ℕ, zero, suc, ◌+◌, ◌<◌, ◌≤◌, Bool, true, false, List, [], ◌∷◌, ◌++◌, length, take, drop, Result, Ok, Err, ◌⊎◌, inl, inr, sym, ap, ◌∙◌, refl, arith, append_assoc, ltb}
 use Rattle.std.proofs.lemmas.Bool.Decides.{nat_tests}
 use Rattle.std.proofs.lemmas.List.{take-append-drop, length-take-le}
 use Rattle.std.specs.List.{concat, AllByRecursion}
@@ -8,7 +8,8 @@ use Rattle.capture_reader.specs.declared.form.Form.{Form}
 use Rattle.capture_reader.specs.declared.fault.CaptureFault.{CaptureFault}
 use Rattle.capture_reader.specs.declared.fault.CaptureFault.TheVariants as fault
 use Rattle.capture_reader.specs.Header.{header_answer}
-use Rattle.capture_reader.specs.CaptureFile.{Contents, IsSplit, IsSpelling, IsPartial, IsTooLong, Meets, packet_of, named_length}
+use Rattle.capture_reader.specs.CaptureFile.{Contents, IsSplit, IsSpelling, IsPartial, IsTooLong, Meets, packets_of, named_length}
+use Rattle.capture_reader.specs.Limits.{most_records, longest_body}
 use Rattle.capture_reader.proofs.Pieces.{front_spells}
 use Rattle.capture_reader.proofs.Outcomes.{header_long, header_refuses}
 
@@ -26,24 +27,24 @@ Stopped form z = (z ≡ []) ⊎ (IsPartial form z ⊎ IsTooLong (named_length fo
 -- a spelling begins here
 record Begins (form : Form) (z : List ℕ) : Type 0 where
   header : 16 ≤ length z
-  most : named_length form z ≤ 262144
+  most : named_length form z ≤ longest_body
   whole : 16 + named_length form z ≤ length z
 
 looks : (form : Form) (z : List ℕ) → Stopped form z ⊎ Begins form z
 looks form [] = inl (inl refl)
 looks form (x ∷ xs) = by_header (order (length (x ∷ xs)) 16)
   where
-    by_body : 16 ≤ length (x ∷ xs) → named_length form (x ∷ xs) ≤ 262144 → (length (x ∷ xs) < 16 + named_length form (x ∷ xs)) ⊎ (16 + named_length form (x ∷ xs) ≤ length (x ∷ xs)) → Stopped form (x ∷ xs) ⊎ Begins form (x ∷ xs)
+    by_body : 16 ≤ length (x ∷ xs) → named_length form (x ∷ xs) ≤ longest_body → (length (x ∷ xs) < 16 + named_length form (x ∷ xs)) ⊎ (16 + named_length form (x ∷ xs) ≤ length (x ∷ xs)) → Stopped form (x ∷ xs) ⊎ Begins form (x ∷ xs)
     by_body header most (inl short) = inl (inr (inl (omega arith, λ room. (most, short))))
     by_body header most (inr whole) = inr (record { header = header; most = most; whole = whole })
 
-    by_length : 16 ≤ length (x ∷ xs) → (262144 < named_length form (x ∷ xs)) ⊎ (named_length form (x ∷ xs) ≤ 262144) → Stopped form (x ∷ xs) ⊎ Begins form (x ∷ xs)
+    by_length : 16 ≤ length (x ∷ xs) → (longest_body < named_length form (x ∷ xs)) ⊎ (named_length form (x ∷ xs) ≤ longest_body) → Stopped form (x ∷ xs) ⊎ Begins form (x ∷ xs)
     by_length header (inl great) = inl (inr (inr (header, refl, great)))
     by_length header (inr most) = by_body header most (order (length (x ∷ xs)) (16 + named_length form (x ∷ xs)))
 
     by_header : (length (x ∷ xs) < 16) ⊎ (16 ≤ length (x ∷ xs)) → Stopped form (x ∷ xs) ⊎ Begins form (x ∷ xs)
     by_header (inl short) = inl (inr (inl (omega arith, λ room. absurd (omega (arith, short, room)))))
-    by_header (inr header) = by_length header (order 262144 (named_length form (x ∷ xs)))
+    by_header (inr header) = by_length header (order longest_body (named_length form (x ∷ xs)))
 
 -- the bytes are at most n spellings and a rest, which begins none unless there are n
 record CutUp (n : ℕ) (form : Form) (z : List ℕ) : Type 0 where
@@ -78,9 +79,9 @@ Outcome bytes = (x : Result Contents CaptureFault) × Meets bytes x
 
 -- what pieces and a rest are
 ending : (bytes : List ℕ) (form : Form) (link : Link) (pieces : List (List ℕ)) (rest : List ℕ) → IsSplit bytes form link pieces rest
-    → (length pieces ≡ 1048576) ⊎ ((length pieces < 1048576) × Stopped form rest) → Outcome bytes
+    → (length pieces ≡ most_records) ⊎ ((length pieces < most_records) × Stopped form rest) → Outcome bytes
 ending bytes form link pieces [] split (inl e) = (
-  Ok (record { link = link; packets = map (packet_of form) pieces; cut = false }),
+  Ok (record { link = link; packets = packets_of form 24 pieces; cut = false }),
   record { form = form; pieces = pieces; rest = []; split = split; ends = (refl, omega (arith, e)); named = refl },
 )
 ending bytes form link pieces (x ∷ xs) split (inl e) = (
@@ -88,11 +89,11 @@ ending bytes form link pieces (x ∷ xs) split (inl e) = (
   record { form = form; link = link; pieces = pieces; rest = x ∷ xs; split = split; counted = e; goes_on = omega arith },
 )
 ending bytes form link pieces rest split (inr (few, inl e)) = (
-  Ok (record { link = link; packets = map (packet_of form) pieces; cut = false }),
+  Ok (record { link = link; packets = packets_of form 24 pieces; cut = false }),
   record { form = form; pieces = pieces; rest = rest; split = split; ends = (e, omega (arith, few)); named = refl },
 )
 ending bytes form link pieces rest split (inr (few, inr (inl partial))) = (
-  Ok (record { link = link; packets = map (packet_of form) pieces; cut = true }),
+  Ok (record { link = link; packets = packets_of form 24 pieces; cut = true }),
   record { form = form; pieces = pieces; rest = rest; split = split; ends = (partial, few); named = refl },
 )
 ending bytes form link pieces rest split (inr (few, inr (inr great))) = (
@@ -103,7 +104,7 @@ ending bytes form link pieces rest split (inr (few, inr (inr great))) = (
 by_header : (bytes : List ℕ) (answer : Result (Form × Link) CaptureFault) → header_answer bytes ≡ answer → Outcome bytes
 by_header bytes (Err f) e = (Err f, header_refuses bytes f e)
 by_header bytes (Ok p) e =
-    let cut = cut_up 1048576 p.0 (drop 24 bytes) in
+    let cut = cut_up most_records p.0 (drop 24 bytes) in
     let split : IsSplit bytes p.0 p.1 cut.pieces cut.rest = record {
       header = take 24 bytes;
       size = length-take-le 24 bytes (header_long bytes p e);

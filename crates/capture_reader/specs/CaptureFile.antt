@@ -1,16 +1,18 @@
 -- The capture file (libpcap file format 2.4): a header of 24 bytes, the spellings of the packets joined, and what an interrupted capture left of the next.
-use Rattle.std.specs.Prelude.{◌≡◌, ℕ, ◌+◌, ◌*◌, ◌/◌, ◌<◌, ◌≤◌, max, Bool, true, false, List, [], ◌++◌, length, drop, map, fold, if◌then◌else◌, Result, Ok, Err}
+use Rattle.std.specs.Prelude.{◌≡◌, ℕ, ◌+◌, ◌*◌, ◌/◌, ◌<◌, ◌≤◌, max, Bool, true, false, List, [], ◌∷◌, ◌++◌, length, drop, map, fold, if◌then◌else◌, Result, Ok, Err}
 use Rattle.std.specs.List.{concat, AllByRecursion}
 use Rattle.sq_base.specs.declared.kinds.Link.{Link}
 use Rattle.capture_reader.specs.declared.form.Form.{Form}
+use Rattle.capture_reader.specs.Limits.{most_records, longest_body}
 use Rattle.capture_reader.specs.Form.{number}
 use Rattle.capture_reader.specs.Header.{header_answer}
 use Rattle.capture_reader.specs.declared.fault.CaptureFault.{CaptureFault}
 use Rattle.capture_reader.specs.declared.fault.CaptureFault.TheVariants as fault
 
--- a packet: its time in microseconds, and the bytes that were captured
+-- a packet: its time in microseconds, the bytes that were captured, and where these begin in the file
 pub record Packet : Type 0 where
   pub time : ℕ
+  pub from : ℕ
   pub body : List ℕ
 
 -- what a capture file says: its link, its packets, and whether the last one was cut
@@ -23,21 +25,31 @@ pub record Contents : Type 0 where
 abbrev pub named_length : Form → List ℕ → ℕ
 named_length form bytes = number form 4 (drop 8 bytes)
 
--- such a header, which names a length up to 262,144, and a body of that length
+-- such a header, which names a length within the limit, and a body of that length
 pub record IsSpelling (form : Form) (bytes : List ℕ) : Type 0 where
   pub header : 16 ≤ length bytes
-  pub most : named_length form bytes ≤ 262144
+  pub most : named_length form bytes ≤ longest_body
   pub whole : length bytes ≡ 16 + named_length form bytes
 
 abbrev pub micros : Form → ℕ → ℕ
 micros form fraction = if form.nanoseconds then fraction / 1000 else fraction
 
--- the packet that a spelling stands for: seconds, a fraction, the captured length, the original length, the body
-abbrev pub packet_of : Form → List ℕ → Packet
-packet_of form bytes = record {
-  time = number form 4 bytes * 1000000 + micros form (number form 4 (drop 4 bytes));
+-- the time that a packet's header names, in microseconds: whole seconds, and a fraction
+abbrev pub named_time : Form → List ℕ → ℕ
+named_time form bytes = number form 4 bytes * 1000000 + micros form (number form 4 (drop 4 bytes))
+
+-- the packet of a spelling that begins at a place: its time, the captured length and the original length, then its body
+abbrev pub packet_of : Form → ℕ → List ℕ → Packet
+packet_of form at bytes = record {
+  time = named_time form bytes;
+  from = at + 16;
   body = drop 16 bytes;
 }
+
+-- the packets of spellings that stand one behind the other, the first of them at a place
+abbrev pub packets_of : Form → ℕ → List (List ℕ) → List Packet
+packets_of form at [] = []
+packets_of form at (piece ∷ pieces) = packet_of form at piece ∷ packets_of form (at + length piece) pieces
 
 -- the bytes are a header that isn't refused, spellings, and a rest
 pub record IsSplit (bytes : List ℕ) (form : Form) (link : Link) (pieces : List (List ℕ)) (rest : List ℕ) : Type 0 where
@@ -47,14 +59,14 @@ pub record IsSplit (bytes : List ℕ) (form : Form) (link : Link) (pieces : List
   pub says : header_answer bytes ≡ Ok (form, link)
   pub spelled : AllByRecursion (IsSpelling form) pieces
 
--- less than a whole spelling: no whole header, or one that names a body up to 262,144 bytes, which isn't whole
+-- less than a whole spelling: no whole header, or one that names a body that is short enough and isn't whole
 abbrev pub IsPartial : Form → List ℕ → Type 0
-IsPartial form rest = (0 < length rest) × (16 ≤ length rest → (named_length form rest ≤ 262144) × (length rest < 16 + named_length form rest))
+IsPartial form rest = (0 < length rest) × (16 ≤ length rest → (named_length form rest ≤ longest_body) × (length rest < 16 + named_length form rest))
 
 -- how a capture of so many packets ends: nothing is left, or a cut tail
 abbrev pub Ends : Bool → Form → ℕ → List ℕ → Type 0
-Ends false form count rest = (rest ≡ []) × (count ≤ 1048576)
-Ends true form count rest = IsPartial form rest × (count < 1048576)
+Ends false form count rest = (rest ≡ []) × (count ≤ most_records)
+Ends true form count rest = IsPartial form rest × (count < most_records)
 
 -- the bytes are a capture of these packets
 pub record Captured (bytes : List ℕ) (contents : Contents) : Type 0 where
@@ -63,7 +75,7 @@ pub record Captured (bytes : List ℕ) (contents : Contents) : Type 0 where
   pub rest : List ℕ
   pub split : IsSplit bytes form contents.link pieces rest
   pub ends : Ends contents.cut form (length pieces) rest
-  pub named : contents.packets ≡ map (packet_of form) pieces
+  pub named : contents.packets ≡ packets_of form 24 pieces
 
 -- so many spellings, and then a rest
 pub record HasPackets (bytes : List ℕ) (count : ℕ) (Rest : Form → List ℕ → Type 0) : Type 0 where
@@ -77,7 +89,7 @@ pub record HasPackets (bytes : List ℕ) (count : ℕ) (Rest : Form → List ℕ
 
 -- a whole header that names too great a length
 abbrev pub IsTooLong : ℕ → Form → List ℕ → Type 0
-IsTooLong len form rest = (16 ≤ length rest) × (len ≡ named_length form rest) × (262144 < len)
+IsTooLong len form rest = (16 ≤ length rest) × (len ≡ named_length form rest) × (longest_body < len)
 
 -- the bytes are refused for this cause; a fault, want of memory and the file's size are no causes of the bytes' own
 abbrev pub Refused : List ℕ → CaptureFault → Type 0
@@ -85,8 +97,8 @@ Refused bytes (fault.ShortHeader n) = header_answer bytes ≡ Err (fault.ShortHe
 Refused bytes (fault.Magic magic) = header_answer bytes ≡ Err (fault.Magic magic)
 Refused bytes (fault.Version major minor) = header_answer bytes ≡ Err (fault.Version major minor)
 Refused bytes (fault.Link n) = header_answer bytes ≡ Err (fault.Link n)
-Refused bytes (fault.RecordLength index len) = (index < 1048576) × HasPackets bytes index (IsTooLong len)
-Refused bytes fault.TooManyRecords = HasPackets bytes 1048576 (λ form rest. 0 < length rest)
+Refused bytes (fault.RecordLength index len) = (index < most_records) × HasPackets bytes index (IsTooLong len)
+Refused bytes fault.TooManyRecords = HasPackets bytes most_records (λ form rest. 0 < length rest)
 Refused bytes fault.Read = ⊥
 Refused bytes fault.NoMemory = ⊥
 Refused bytes (fault.TooLarge n) = ⊥

@@ -1,9 +1,12 @@
 -- What the calls of this crate answer: a capture within the size, or why there is none.
-use Rattle.std.specs.Prelude.{ℕ, ◌≡◌, ◌≤◌, ◌<◌, Bool, List, Option, length}
+use Rattle.std.specs.Prelude.{ℕ, ◌≡◌, ◌≤◌, ◌+◌, ◌<◌, Bool, List, Option, length, drop, take}
+use Rattle.std.specs.List.{AllByRecursion}
 use Rattle.std.specs.Io.KnownBytes.{Consumes, IsAtEnd}
 use Rattle.sq_base.specs.declared.kinds.Link.{Link}
+use Rattle.capture_reader.specs.declared.capture.Record.{Record}
 use Rattle.capture_reader.specs.declared.fault.CaptureFault.{CaptureFault}
 use Rattle.capture_reader.specs.declared.fault.CaptureFault.TheVariants as fault
+use Rattle.capture_reader.specs.Limits.{most_bytes, most_taken, latest_time, longest_body}
 use Rattle.capture_reader.specs.CaptureFile.{Packet, Contents, Captured, Refused}
 
 -- a capture as its readers see it: the file's bytes, and what they say
@@ -16,19 +19,32 @@ pub record CaptureFile : Type 0 where
 abbrev pub contents_of : CaptureFile → Contents
 contents_of file = record { link = file.link; packets = file.packets; cut = file.cut }
 
+-- the packet that a record names: its time, and a place in the file's bytes
+abbrev pub packet_at : List ℕ → Record → Packet
+packet_at bytes r = record { time = r.at; from = r.from; body = take r.len (drop r.from bytes) }
+
+-- the body lies in the bytes, and the time is at most the greatest
+pub record IsInside (bytes : List ℕ) (r : Record) : Type 0 where
+  pub room : r.from + r.len ≤ length bytes
+  pub time : r.at ≤ latest_time
+
 -- the file's bytes say this, and are at most 64 MiB
 pub record IsCapture (file : CaptureFile) : Type 0 where
-  pub small : length file.bytes ≤ 67108864
+  pub small : length file.bytes ≤ most_bytes
   pub captured : Captured file.bytes (contents_of file)
 
 -- the bytes are within the size, and refused for this cause
 abbrev pub IsRefused : List ℕ → CaptureFault → Type 0
-IsRefused bytes f = (length bytes ≤ 67108864) × Refused bytes f
+IsRefused bytes f = (length bytes ≤ most_bytes) × Refused bytes f
+
+-- each packet of a capture that was read is within the limit
+abbrev pub HasShortBodies : CaptureFile → Type 0
+HasShortBodies file = AllByRecursion (λ p. length p.body ≤ longest_body) file.packets
 
 -- why bytes gave no capture
 abbrev pub ParseFails : List ℕ → CaptureFault → Type 0
 ParseFails bytes fault.NoMemory = Unit {0}
-ParseFails bytes (fault.TooLarge n) = (n ≡ length bytes) × (67108864 < n)
+ParseFails bytes (fault.TooLarge n) = (n ≡ length bytes) × (most_bytes < n)
 ParseFails bytes fault.Read = ⊥
 ParseFails bytes (fault.ShortHeader n) = IsRefused bytes (fault.ShortHeader n)
 ParseFails bytes (fault.Magic magic) = IsRefused bytes (fault.Magic magic)
@@ -50,7 +66,14 @@ pub record Takes (Count : ℕ → Type 0) (old new : Option (List ℕ)) : Type 0
 
 -- one byte more than the size was taken
 abbrev pub TakesTooMany : Option (List ℕ) → Option (List ℕ) → Type 0
-TakesTooMany old new = Takes (λ n. n ≡ 67108865) old new
+TakesTooMany old new = Takes (λ n. n ≡ most_taken) old new
+
+-- why a source's bytes were not all read: a fault, want of memory, or too many bytes, and nothing else
+abbrev pub BytesFail : Option (List ℕ) → Option (List ℕ) → CaptureFault → Type 0
+BytesFail old new fault.Read = Takes (λ n. n ≤ most_bytes) old new
+BytesFail old new fault.NoMemory = Unit {0}
+BytesFail old new (fault.TooLarge n) = (n ≡ most_taken) × TakesTooMany old new
+BytesFail old new _ = ⊥
 
 -- the source was read to its end, and its bytes are refused for this cause
 abbrev pub ReadsRefused : Option (List ℕ) → Option (List ℕ) → CaptureFault → Type 0
@@ -58,9 +81,9 @@ ReadsRefused old new f = (bytes : List ℕ) × ReadsWhole old new bytes × IsRef
 
 -- why what a source gave is no capture
 abbrev pub ReadFails : Option (List ℕ) → Option (List ℕ) → CaptureFault → Type 0
-ReadFails old new fault.Read = Takes (λ n. n ≤ 67108864) old new
+ReadFails old new fault.Read = Takes (λ n. n ≤ most_bytes) old new
 ReadFails old new fault.NoMemory = Unit {0}
-ReadFails old new (fault.TooLarge n) = (n ≡ 67108865) × TakesTooMany old new
+ReadFails old new (fault.TooLarge n) = (n ≡ most_taken) × TakesTooMany old new
 ReadFails old new (fault.ShortHeader n) = ReadsRefused old new (fault.ShortHeader n)
 ReadFails old new (fault.Magic magic) = ReadsRefused old new (fault.Magic magic)
 ReadFails old new (fault.Version major minor) = ReadsRefused old new (fault.Version major minor)

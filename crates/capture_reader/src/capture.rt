@@ -1,35 +1,42 @@
-//! The packets of a capture file, found in one pass over its bytes.
+//! A capture: packets that are places in the bytes of a file. Those of a libpcap file are found here, in one pass over its bytes.
 
-ghost use Rattle.std.specs.Prelude.{◌≡◌, ◌+◌, ◌<◌, ◌≤◌, ◌==◌, length, slice_get, IfSome, IfOk, IfErr, MatchResult, Some, fold, max};
-ghost use Rattle.capture_reader.specs.Outcome.{IsCapture, ParseFails};
-ghost use Rattle.capture_reader.specs.CaptureFile.{Ends, packet_of, last_time};
-ghost use Rattle.capture_reader.specs.SoFar.{StopsAt, Fails, packet_at};
+ghost use Rattle.std.specs.Prelude.{◌≡◌, ◌+◌, ◌<◌, ◌≤◌, ◌^◌, ◌==◌, length, slice_get, IfSome, IfOk, IfErr, MatchResult, Some, fold, max};
+ghost use Rattle.capture_reader.specs.Limits.{most_bytes, most_records, latest_time};
+ghost use Rattle.capture_reader.specs.Outcome.{IsCapture, ParseFails, packet_at};
+ghost use Rattle.capture_reader.specs.CaptureFile.{Ends, named_time, last_time};
+ghost use Rattle.capture_reader.specs.SoFar.{StopsAt, Fails};
 
 use crate::fault::CaptureFault;
 use crate::form::{Form, rest_at};
 use crate::header::{HEADER, header_of};
 use sq_base::{Link, Octets};
-use std::alloc::Global;
+use std::alloc::{AllocError, Global};
 use std::marker::Model;
 
+/// The bytes of a packet's header.
 const RECORD_HEADER: usize = 16;
 
+/// The most captured bytes of a packet.
 const LONGEST: u32 = 262_144;
 
+/// The most packets of a capture.
 const MOST_RECORDS: usize = 1_048_576;
 
 /// The most bytes of a capture.
 pub const MOST_BYTES: usize = 67_108_864;
 
-/// One packet: its time in microseconds, and the place and length of its bytes in the file.
+/// One packet.
 #[derive(Clone, Copy, Debug, PartialEq, Eq)]
 pub struct Record {
+    /// Its time in microseconds, since 1970 in a file that follows its format.
     pub at: u64,
+    /// Where its captured bytes begin in the file.
     pub from: u32,
+    /// How many captured bytes it has.
     pub len: u32,
 }
 
-/// A capture file that was read. It has at most 1,048,576 packets, numbered from 0.
+/// The packets of a file, at most 1,048,576, numbered from 0, beside the file's bytes, which stay as they are.
 #[derive(Debug, Drop)]
 pub struct Capture {
     bytes: Octets,
@@ -41,8 +48,8 @@ pub struct Capture {
 impl Model for Capture {
     ghost use Rattle.std.specs.Prelude.{◌≤◌, length, map};
     ghost use Rattle.std.specs.List.{AllByRecursion};
-    ghost use Rattle.capture_reader.specs.Outcome.{CaptureFile};
-    ghost use Rattle.capture_reader.specs.SoFar.{packet_at, IsInside};
+    ghost use Rattle.capture_reader.specs.Limits.{most_records};
+    ghost use Rattle.capture_reader.specs.Outcome.{CaptureFile, packet_at, IsInside};
 
     ghost Value = { CaptureFile };
 
@@ -53,10 +60,35 @@ impl Model for Capture {
       cut = c.cut;
     } };
 
-    ghost invariant = { λ c. AllByRecursion (IsInside c.bytes) c.records.items × (length c.records.items ≤ 1048576) };
+    ghost invariant = { λ c. AllByRecursion (IsInside c.bytes) c.records.items × (length c.records.items ≤ most_records) };
 }
 
 impl Capture {
+    ghost use Rattle.std.specs.Prelude.{map};
+    ghost use Rattle.std.specs.List.{AllByRecursion};
+    ghost use Rattle.capture_reader.specs.Outcome.{IsInside};
+
+    /// The capture of these records of a file in another form, its packets in their order. `cut_tail` says whether an interrupted
+    /// capture cut the last packet, which is none of the records.
+    pub fn make(
+        alloc: Global,
+        link: Link,
+        bytes: Octets,
+        records: &[Record],
+        cut_tail: bool,
+    ) -> Result<Capture, AllocError>
+        requires few { length records.now ≤ most_records }
+        requires inside { AllByRecursion (IsInside bytes) records.now }
+        ensures { IfOk result (λ c. c ≡ record { bytes = bytes; link = link; packets = map (packet_at bytes) records.now; cut = cut_tail }) }
+    {
+        Ok(Capture {
+            bytes,
+            link,
+            records: Vec::from_slice(alloc, records)?,
+            cut: cut_tail,
+        })
+    }
+
     /// The link layer of all packets.
     pub fn link(&self) -> Link
         ensures { result ≡ self.now.link }
@@ -67,7 +99,7 @@ impl Capture {
     /// How many packets there are.
     pub fn len(&self) -> u32
         ensures value { result ≡ length self.now.packets }
-        ensures most { result ≤ 1048576 }
+        ensures most { result ≤ most_records }
     {
         self.records.len() as u32
     }
@@ -78,29 +110,28 @@ impl Capture {
         self.records.is_empty()
     }
 
-    /// Whether an interrupted capture cut the last packet, which is left out.
+    /// Whether an interrupted capture cut the end of the file; what was cut is left out.
     pub fn cut_tail(&self) -> bool
         ensures { result ≡ self.now.cut }
     {
         self.cut
     }
 
-    /// The time and the place of a packet.
+    /// The time of packet `i` in microseconds, and the place of its captured bytes in the file.
     pub fn rec(&self, i: u32) -> Record
         requires { i < length self.now.packets }
         ensures packet { slice_get self.now.packets i ≡ Some (packet_at self.now.bytes result) }
         ensures inside { result.from + result.len ≤ length self.now.bytes }
-        ensures most { result.len ≤ 262144 }
-        ensures time { result.at ≤ 9007199254740992 }
+        ensures time { result.at ≤ latest_time }
     {
         self.records[i as usize]
     }
 
-    /// The bytes of a packet.
+    /// The captured bytes of packet `i`.
     pub fn body(&self, i: u32) -> &[u8]
         requires { i < length self.now.packets }
         ensures value { IfSome (slice_get self.now.packets i) (λ p. result.now ≡ p.body) }
-        ensures most { length result.now ≤ 262144 }
+        ensures most { length result.now < 2 ^ 32 }
     {
         let record = self.rec(i);
         let rest = rest_at(self.bytes.as_slice(), record.from as usize);
@@ -114,17 +145,17 @@ impl Capture {
         self.bytes.as_slice()
     }
 
-    /// The greatest time of all packets, and 0 where there is none.
+    /// The greatest time of all packets in microseconds, and 0 where there is none.
     #[tactic(auto, using(crate::proofs::Times::last_time_of, crate::proofs::Times::latest_below))]
     pub fn last_time(&self) -> u64
         ensures value { result ≡ last_time self.now.packets }
-        ensures most { result ≤ 9007199254740992 }
+        ensures most { result ≤ latest_time }
     {
         latest(&self.records)
     }
 }
 
-/// The capture that the bytes are, or the first refusal that they meet. `Read` is never answered, and `TooLarge` exactly
+/// The capture that the bytes are (libpcap file format 2.4), or the first refusal that they meet. `Read` is never answered, and `TooLarge` exactly
 /// where there are more than 67,108,864 bytes.
 pub fn parse_capture(alloc: Global, bytes: Octets) -> Result<Capture, CaptureFault>
     ensures ok { IfOk result (λ c. IsCapture c × (c.bytes ≡ bytes)) }
@@ -147,7 +178,7 @@ pub fn parse_capture(alloc: Global, bytes: Octets) -> Result<Capture, CaptureFau
 /// The packets behind the header, and whether the last one is cut.
 fn records_of(alloc: Global, form: Form, bytes: &[u8]) -> Result<(Vec<Record>, bool), CaptureFault>
     requires header { 24 ≤ length bytes.now }
-    requires small { length bytes.now ≤ 67108864 }
+    requires small { length bytes.now ≤ most_bytes }
     ensures { MatchResult result (λ x. StopsAt form bytes.now x.0.items (Ends x.1 form (length x.0.items))) (Fails form bytes.now) }
 {
     let mut at = HEADER;
@@ -198,8 +229,8 @@ fn latest(records: &[Record]) -> u64
 /// The time in a packet's header, in microseconds.
 fn time_of(form: Form, bytes: &[u8]) -> u64
     requires { 8 ≤ length bytes.now }
-    ensures value { result ≡ (packet_of form bytes.now).time }
-    ensures small { result ≤ 9007199254740992 }
+    ensures value { result ≡ named_time form bytes.now }
+    ensures small { result ≤ latest_time }
 {
     let fraction = form.u32_at(bytes, 4);
     let micros = if form.nanoseconds {

@@ -1,6 +1,7 @@
 //! The header of a capture file: the first refusal that it meets, or the form and the link of what follows.
 
 ghost use Rattle.std.specs.Prelude.{◌≡◌, ◌≤◌, length};
+ghost use Rattle.capture_reader.specs.Limits.{most_bytes};
 ghost use Rattle.capture_reader.specs.Form.{link_of};
 ghost use Rattle.capture_reader.specs.Header.{header_answer};
 
@@ -15,7 +16,7 @@ pub const HEADER: usize = 24;
 /// What the header says, or which refusal it meets.
 #[tactic(auto, unfolding(crate::specs::Header::header_answer))]
 pub fn header_of(bytes: &[u8]) -> Result<(Form, Link), CaptureFault>
-    requires { length bytes.now ≤ 67108864 }
+    requires { length bytes.now ≤ most_bytes }
     ensures { result ≡ header_answer bytes.now }
 {
     if bytes.len() < HEADER {

@@ -1,4 +1,5 @@
-//! Reads a capture file (libpcap file format 2.4): its link and its packets, each with its time and its bytes.
+//! Reads a capture file (libpcap file format 2.4): its link and its packets, each with its time and its bytes. A reader of another
+//! form takes the bytes by `read_bytes` and gives what it found to `Capture::make`.
 //!
 //! The file is read whole and kept as it is; a packet is a place in it, found in one pass. What can't be read is refused
 //! with the place and the value that refuse it. A last packet that an interrupted capture cut is left out and noted.
@@ -14,7 +15,7 @@ mod source;
 
 pub use capture::{Capture, Record, parse_capture};
 pub use fault::CaptureFault;
-pub use source::read_capture;
+pub use source::{read_bytes, read_capture};
 
 #[cfg(test)]
 mod tests;

@@ -1,9 +1,9 @@
-//! A capture from a source, which is read to the end of its input.
+//! A capture, or its bytes alone, from a source, which is read to the end of its input.
 
 ghost use Rattle.std.specs.Prelude.{◌≡◌, ◌≤◌, length, IfOk, IfErr, Err};
+ghost use Rattle.capture_reader.specs.Limits.{most_bytes, most_taken};
 ghost use Rattle.sq_base.specs.Ends.{Rose};
-ghost use Rattle.capture_reader.specs.Outcome.{IsCapture, ReadsWhole, ReadFails, Takes};
-ghost use Rattle.capture_reader.specs.SoFar.{FailsEarly};
+ghost use Rattle.capture_reader.specs.Outcome.{IsCapture, ReadsWhole, ReadFails, BytesFail, Takes};
 
 use crate::capture::{Capture, MOST_BYTES, parse_capture};
 use crate::fault::CaptureFault;
@@ -13,25 +13,29 @@ use std::alloc::Global;
 /// How many bytes one call asks for at most.
 const PIECE: usize = 65_536;
 
-/// The capture that a source gives. `Read` comes only where the source's count of faults rose. `TooLarge(67108865)` comes
-/// where that byte was taken, and with no other answer but want of memory it was.
+/// The capture that a source gives (libpcap file format 2.4). `Read` comes only where the source's count of faults rose, and with
+/// any other answer it didn't. `TooLarge(67108865)` comes where that byte was taken, and with no other answer but want of memory
+/// it was.
 pub fn read_capture<S: Source>(alloc: Global, src: &mut S) -> Result<Capture, CaptureFault>
     ensures ok { IfOk result (λ c. ReadsWhole (S.rest src.old) (S.rest src.new) c.bytes × IsCapture c) }
     ensures err { IfErr result (ReadFails (S.rest src.old) (S.rest src.new)) }
     ensures read { result ≡ Err CaptureFault.Read → Rose (S.read_faults src.old) (S.read_faults src.new) }
-    ensures few { Takes (λ n. n ≤ 67108865) (S.rest src.old) (S.rest src.new) }
+    ensures kept { (result ≡ Err CaptureFault.Read → ⊥) → S.read_faults src.new ≡ S.read_faults src.old }
+    ensures few { Takes (λ n. n ≤ most_taken) (S.rest src.old) (S.rest src.new) }
     ensures never_falls { S.read_faults src.old ≤ S.read_faults src.new }
 {
-    let bytes = read_all(alloc, src)?;
-    parse_capture(alloc, Octets::wrap(bytes))
+    let bytes = read_bytes(alloc, src)?;
+    parse_capture(alloc, bytes)
 }
 
-/// All that a source gives, within the size.
-fn read_all<S: Source>(alloc: Global, src: &mut S) -> Result<Vec<u8>, CaptureFault>
-    ensures ok { IfOk result (λ v. ReadsWhole (S.rest src.old) (S.rest src.new) v.items × (length v.items ≤ 67108864)) }
-    ensures err { IfErr result (FailsEarly (S.rest src.old) (S.rest src.new)) }
+/// All bytes that a source gives, 67,108,864 at most, whatever they mean. It answers `Read`, `NoMemory` and `TooLarge` where
+/// `read_capture` does, and no other fault.
+pub fn read_bytes<S: Source>(alloc: Global, src: &mut S) -> Result<Octets, CaptureFault>
+    ensures ok { IfOk result (λ bytes. ReadsWhole (S.rest src.old) (S.rest src.new) bytes × (length bytes ≤ most_bytes)) }
+    ensures err { IfErr result (BytesFail (S.rest src.old) (S.rest src.new)) }
     ensures read { result ≡ Err CaptureFault.Read → Rose (S.read_faults src.old) (S.read_faults src.new) }
-    ensures few { Takes (λ n. n ≤ 67108865) (S.rest src.old) (S.rest src.new) }
+    ensures kept { (result ≡ Err CaptureFault.Read → ⊥) → S.read_faults src.new ≡ S.read_faults src.old }
+    ensures few { Takes (λ n. n ≤ most_taken) (S.rest src.old) (S.rest src.new) }
     ensures never_falls { S.read_faults src.old ≤ S.read_faults src.new }
 {
     let mut bytes = Vec::new(alloc);
@@ -40,7 +44,7 @@ fn read_all<S: Source>(alloc: Global, src: &mut S) -> Result<Vec<u8>, CaptureFau
         // Never more than one byte past the size is asked for.
         let room = PIECE.min(MOST_BYTES + 1 - bytes.len());
         let n = match src.read(&mut buf[..room]) {
-            Ok(0) => return Ok(bytes),
+            Ok(0) => return Ok(Octets::wrap(bytes)),
             Ok(n) => n,
             Err(Failed) => return Err(CaptureFault::Read),
         };

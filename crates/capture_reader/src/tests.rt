@@ -1,4 +1,4 @@
-use crate::{Capture, CaptureFault, Record, parse_capture, read_capture};
+use crate::{Capture, CaptureFault, Record, parse_capture, read_bytes, read_capture};
 use sq_base::{Failed, Link, MemSource, Octets, Source};
 use std::test::Fail;
 
@@ -154,6 +154,30 @@ fn record_limits(rt: HostRuntime) -> Result<(), Fail> {
     Ok(())
 }
 
+#[test]
+fn a_capture_of_records_in_other_places(rt: HostRuntime) -> Result<(), Fail> {
+    let bytes = Octets::of(rt.alloc(), b"0123456789")?;
+    let (early, late) = (
+        Record {
+            at: 7,
+            from: 8,
+            len: 2,
+        },
+        Record {
+            at: 5,
+            from: 10,
+            len: 0,
+        },
+    );
+    let capture = Capture::make(rt.alloc(), Link::Cooked, bytes, &[early, late], true)?;
+    assert_eq!(rt; (capture.len(), capture.last_time()), (2, 7));
+    assert_eq!(rt; (capture.rec(0), capture.rec(1)), (early, late));
+    assert_eq!(rt; capture.body(0), b"89".as_slice());
+    assert_eq!(rt; capture.link(), Link::Cooked);
+    assert!(rt; capture.cut_tail());
+    Ok(())
+}
+
 /// Zero bytes without an end.
 #[derive(Drop)]
 struct Zeros;
@@ -179,6 +203,16 @@ fn sources_that_fail_or_do_not_end(rt: HostRuntime) -> Result<(), Fail> {
             assert_eq!(rt; answer?.len(), 5);
         }
     }
+    let mut source = MemSource::make(rt.alloc(), &bytes, 100, &[])?;
+    assert_eq!(rt;
+        read_bytes(rt.alloc(), &mut source)?.as_slice(),
+        bytes.as_slice()
+    );
+    let mut failing = MemSource::make(rt.alloc(), &bytes, 100, &[1])?;
+    assert_eq!(rt;
+        read_bytes(rt.alloc(), &mut failing).err(),
+        Some(CaptureFault::Read)
+    );
     let endless = read_capture(rt.alloc(), &mut Zeros);
     assert_eq!(rt; endless.err(), Some(CaptureFault::TooLarge(67_108_865)));
     let zeros = vec![in rt.alloc(); 0u8; 67_108_866]?;

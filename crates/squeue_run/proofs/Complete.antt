@@ -6,13 +6,14 @@ use Rattle.sq_base.specs.Ends.{Rose}
 use Rattle.sq_base.specs.declared.kinds.Status.{Status}
 use Rattle.sq_base.specs.declared.kinds.Status.TheVariants as status
 use Rattle.capture_reader.specs.CaptureFile.{Contents, Meets, Refused}
+use Rattle.capture_reader.specs.Limits.{most_bytes, most_taken}
 use Rattle.capture_reader.specs.Outcome.{CaptureFile, IsCapture, ReadsRefused, ReadsWhole, TakesTooMany, contents_of}
 use Rattle.capture_reader.specs.declared.fault.CaptureFault.{CaptureFault}
 use Rattle.capture_reader.specs.declared.fault.CaptureFault.TheVariants as fault
 use Rattle.capture_reader.proofs.OneOutcome.{meets_once}
 use Rattle.squeue_run.specs.Asked.{Asked}
 use Rattle.squeue_run.specs.CallWords.{AllThere, IsFirstMissing}
-use Rattle.squeue_run.specs.Ran.{Accepts, AcceptsBy, HoldsCapture, End, IsDone, Ran, RanBy, RanGenerated, RanRead, Reads, conns_of}
+use Rattle.squeue_run.specs.Ran.{Accepts, AcceptsBy, HasRead, HoldsCapture, End, IsDone, Ran, RanBy, RanGenerated, RanRead, Reads, conns_of}
 use Rattle.squeue_run.specs.declared.calls.CallWord.{CallWord}
 
 whole_some : (xs bs : List ℕ) (is : Option (List ℕ)) → ReadsWhole (Some xs) is bs → bs ≡ xs
@@ -28,11 +29,11 @@ taken_some : (xs bs : List ℕ) (is : Option (List ℕ)) → Consumes (Some xs) 
 taken_some xs bs None t = absurd t
 taken_some xs bs (Some ys) t = let sizes : length xs ≡ length bs + length ys = ap length t ∙ length-append bs ys in omega arith
 
-not_too_many : (xs : List ℕ) (was is : Option (List ℕ)) → was ≡ Some xs → length xs ≤ 67108864 → TakesTooMany was is → ⊥
+not_too_many : (xs : List ℕ) (was is : Option (List ℕ)) → was ≡ Some xs → length xs ≤ most_bytes → TakesTooMany was is → ⊥
 not_too_many xs was is e small t =
     let Taken : Option (List ℕ) → Type 0 = λ w. Consumes w is t.bytes in
     let few : length t.bytes ≤ length xs = taken_some xs t.bytes is (subst Taken e t.taken) in
-    let many : length t.bytes ≡ 67108865 = t.count in
+    let many : length t.bytes ≡ most_taken = t.count in
     omega (arith, few, many, small)
 
 abbrev Outcome : Type 0
@@ -75,18 +76,18 @@ not_missing n c (w ∷ ws) a (inl m) = omega (arith, a.0, m.0)
 not_missing n c (w ∷ ws) a (inr m) = not_missing n c ws a.1 m.1
 
 read_done : (a : Asked) (source out err : End) (s : Status) → HoldsCapture a source.was → (Rose source.faults_were source.faults_are → ⊥) → (Rose out.faults_were out.faults_are → ⊥)
-    → RanRead a source out err s → IsDone s
+    → HasRead source s × RanRead a source out err s → IsDone s
 read_done a source out err status.Ok can nr nw h = tt
 read_done a source out err status.NoMemory can nr nw h = tt
-read_done a source out err status.Usage can nr nw h = h
-read_done a source out err status.ReadFault can nr nw h = nr h.0
-read_done a source out err status.WriteFault can nr nw h = nw h.3.failed
-read_done a source out err status.BadCapture can nr nw h = not_refused can.file h.0 source can.bytes can.capture h.2
-read_done a source out err status.TooLarge can nr nw (inl h) = not_too_many can.file.bytes source.was source.is can.bytes can.capture.small h.0
-read_done a source out err status.TooLarge can nr nw (inr h) = not_refused can.file fault.TooManyRecords source can.bytes can.capture h.0
+read_done a source out err status.Usage can nr nw h = absurd h.1
+read_done a source out err status.ReadFault can nr nw h = absurd (nr h.0.0)
+read_done a source out err status.WriteFault can nr nw h = nw h.1.3.failed
+read_done a source out err status.BadCapture can nr nw h = not_refused can.file h.1.0 source can.bytes can.capture h.1.2
+read_done a source out err status.TooLarge can nr nw (r, inl h) = not_too_many can.file.bytes source.was source.is can.bytes can.capture.small h.0
+read_done a source out err status.TooLarge can nr nw (r, inr h) = not_refused can.file fault.TooManyRecords source can.bytes can.capture h.0
 read_done a source out err status.NoConnection can nr nw h =
-    let Named : CaptureFile → Type 0 = λ f. IsFirstMissing (conns_of f a.verify) h.2.0 a.calls in
-    not_missing (conns_of can.file a.verify) h.2.0 a.calls can.there (subst Named (read_once can.file h.0 source can.bytes can.capture h.1) h.2.1)
+    let Named : CaptureFile → Type 0 = λ f. IsFirstMissing (conns_of f a.verify) h.1.2.0 a.calls in
+    not_missing (conns_of can.file a.verify) h.1.2.0 a.calls can.there (subst Named (read_once can.file h.1.0 source can.bytes can.capture h.1.1) h.1.2.1)
 
 generated_done : (n : ℕ) (verify : Bool) (out err : End) (s : Status) → (Rose out.faults_were out.faults_are → ⊥) → RanGenerated n verify out err s → IsDone s
 generated_done n verify out err status.Ok nw h = tt

@@ -13,7 +13,8 @@ use Rattle.capture_reader.specs.declared.form.Form.{Form}
 use Rattle.capture_reader.specs.declared.fault.CaptureFault.TheVariants as fault
 use Rattle.capture_reader.specs.Form.{number, form_of}
 use Rattle.capture_reader.specs.Header.{header_answer, magic_answer}
-use Rattle.capture_reader.specs.CaptureFile.{IsSpelling, named_length, packet_of, IsSplit}
+use Rattle.capture_reader.specs.Limits.{most_records}
+use Rattle.capture_reader.specs.CaptureFile.{IsSpelling, named_length, packets_of, IsSplit}
 use Rattle.squeue_run.specs.GeneratedCapture.{below, text_len, ends_of, segment_at, record_of, record_at, round_before, rounds_before, file_header, generated, IsAccepted}
 use Rattle.squeue_run.proofs.GeneratedSize.{body_size, record_size, generated_size, length_below, same_sum}
 
@@ -111,13 +112,13 @@ split n = record {
 
 pub accepted : (n : ℕ) → IsAccepted (generated n)
 accepted n = (
-  record { link = RawIp; packets = map (packet_of little) (records n 1000 100); cut = false },
+  record { link = RawIp; packets = packets_of little 24 (records n 1000 100); cut = false },
   record {
     form = little;
     pieces = records n 1000 100;
     rest = [];
     split = split n;
-    ends = (refl, let few : length (records n 1000 100) ≤ 1048576 = omega (arith, count n 1000 100) in few);
+    ends = (refl, let few : length (records n 1000 100) ≤ most_records = omega (arith, count n 1000 100) in few);
     named = refl;
   },
 )

@@ -1,6 +1,7 @@
 -- How a run ends, from what its steps say.
-use Rattle.std.proofs.Common.{◌≡◌, ℕ, List, Option, Some, None, ◌⊎◌, inl, inr, subst, sym}
+use Rattle.std.proofs.Common.{◌≡◌, ℕ, List, [], Option, Some, None, ◌⊎◌, inl, inr, subst, sym, arith}
 use Rattle.std.specs.Io.KnownBytes.{Appends}
+use Rattle.std.proofs.KnownBytes.{Consumes-kept, Consumes-nil}
 use Rattle.sq_base.specs.Ends.{Rose, AppendsProperly}
 use Rattle.sq_base.specs.declared.kinds.Status.{Status}
 use Rattle.sq_base.specs.declared.kinds.Status.TheVariants as status
@@ -11,8 +12,8 @@ use Rattle.squeue_run.specs.CallWords.{IsFirstMissing}
 use Rattle.squeue_run.specs.declared.refusal.Refusal.{Refusal}
 use Rattle.squeue_run.specs.declared.refusal.Refusal.TheVariants as refusal
 use Rattle.squeue_run.specs.Lines.{memory_line, write_line, bad_line, missing_line}
-use Rattle.squeue_run.specs.Ran.{End, GetsLine, IsUntouched, Ran, RanBy, RanGenerated, RanRead, RanRefused, conns_of}
-use Rattle.squeue_run.specs.Causes.{Fails, FailsBy, GeneratedFails, Gives, GivesBy, LineOrMemory, ReadingFails, RefusedWords, Told}
+use Rattle.squeue_run.specs.Ran.{End, GetsLine, IsUntouched, Ran, RanBy, RanGenerated, RanRead, RanRefused, HasRead, MetNoFault, TakesFew, conns_of}
+use Rattle.squeue_run.specs.Causes.{CountsFaults, Fails, FailsBy, GeneratedFails, Gives, GivesBy, LineOrMemory, ReadingFails, RefusedWords, Told}
 
 line_or_memory : (P : Status → Type 0) (wanted : Status) (text : List ℕ) (err : End) (s : Status)
     → (GetsLine err text → P wanted) → (GetsLine err memory_line → P status.NoMemory) → LineOrMemory wanted text err s → P s
@@ -37,40 +38,57 @@ not_generated n a (refusal.NoConnection c k) out err s u h t = absurd h
 not_read : (a : Asked) (why : Refusal) (source out err : End) (s : Status) → IsUntouched out → ReadingFails a source why → Told why err s → RanRead a source out err s
 not_read a refusal.NoMemory source out err s u h t = subst (RanRead a source out err) (sym t.0) (u, t.1)
 not_read a refusal.Usage source out err s u h t = absurd h
-not_read a (refusal.Capture fault.Read) source out err s u h t = subst (RanRead a source out err) (sym t.0) (h.1 (λ i. fault.Read), (u, t.1))
+not_read a (refusal.Capture fault.Read) source out err s u h t = subst (RanRead a source out err) (sym t.0) (u, t.1)
 not_read a (refusal.Capture fault.NoMemory) source out err s u h t = subst (RanRead a source out err) (sym t.0) (u, t.1)
-not_read a (refusal.Capture (fault.TooLarge k)) source out err s u h t = subst (RanRead a source out err) (sym t.0) (inl (h.0.1, (u, t.1)))
-not_read a (refusal.Capture fault.TooManyRecords) source out err s u h t = subst (RanRead a source out err) (sym t.0) (inr (h.0, (u, t.1)))
-not_read a (refusal.Capture (fault.ShortHeader k)) source out err s u h t = line_or_memory (RanRead a source out err) status.BadCapture (bad_line (fault.ShortHeader k)) err s (λ g. (fault.ShortHeader k, tt, h.0, (u, g))) (λ g. (u, g)) t
-not_read a (refusal.Capture (fault.Magic k)) source out err s u h t = line_or_memory (RanRead a source out err) status.BadCapture (bad_line (fault.Magic k)) err s (λ g. (fault.Magic k, tt, h.0, (u, g))) (λ g. (u, g)) t
-not_read a (refusal.Capture (fault.Version i j)) source out err s u h t = line_or_memory (RanRead a source out err) status.BadCapture (bad_line (fault.Version i j)) err s (λ g. (fault.Version i j, tt, h.0, (u, g))) (λ g. (u, g)) t
-not_read a (refusal.Capture (fault.Link k)) source out err s u h t = line_or_memory (RanRead a source out err) status.BadCapture (bad_line (fault.Link k)) err s (λ g. (fault.Link k, tt, h.0, (u, g))) (λ g. (u, g)) t
-not_read a (refusal.Capture (fault.RecordLength i j)) source out err s u h t = line_or_memory (RanRead a source out err) status.BadCapture (bad_line (fault.RecordLength i j)) err s (λ g. (fault.RecordLength i j, tt, h.0, (u, g))) (λ g. (u, g)) t
+not_read a (refusal.Capture (fault.TooLarge k)) source out err s u h t = subst (RanRead a source out err) (sym t.0) (inl (h.1, (u, t.1)))
+not_read a (refusal.Capture fault.TooManyRecords) source out err s u h t = subst (RanRead a source out err) (sym t.0) (inr (h, (u, t.1)))
+not_read a (refusal.Capture (fault.ShortHeader k)) source out err s u h t = line_or_memory (RanRead a source out err) status.BadCapture (bad_line (fault.ShortHeader k)) err s (λ g. (fault.ShortHeader k, tt, h, (u, g))) (λ g. (u, g)) t
+not_read a (refusal.Capture (fault.Magic k)) source out err s u h t = line_or_memory (RanRead a source out err) status.BadCapture (bad_line (fault.Magic k)) err s (λ g. (fault.Magic k, tt, h, (u, g))) (λ g. (u, g)) t
+not_read a (refusal.Capture (fault.Version i j)) source out err s u h t = line_or_memory (RanRead a source out err) status.BadCapture (bad_line (fault.Version i j)) err s (λ g. (fault.Version i j, tt, h, (u, g))) (λ g. (u, g)) t
+not_read a (refusal.Capture (fault.Link k)) source out err s u h t = line_or_memory (RanRead a source out err) status.BadCapture (bad_line (fault.Link k)) err s (λ g. (fault.Link k, tt, h, (u, g))) (λ g. (u, g)) t
+not_read a (refusal.Capture (fault.RecordLength i j)) source out err s u h t = line_or_memory (RanRead a source out err) status.BadCapture (bad_line (fault.RecordLength i j)) err s (λ g. (fault.RecordLength i j, tt, h, (u, g))) (λ g. (u, g)) t
 not_read a (refusal.NoConnection c conns) source out err s u h t =
     let IsFirst : ℕ → Type 0 = λ n. IsFirstMissing n c a.calls in
     let Gets : ℕ → Type 0 = λ n. GetsLine err (missing_line c n) in
     line_or_memory (RanRead a source out err) status.NoConnection (missing_line c conns) err s
     (λ g. (h.0, h.1, (c, subst IsFirst h.2.0 h.2.1, (u, subst Gets h.2.0 g)))) (λ g. (u, g)) t
 
+by_line : (source err : End) (wanted s : Status) (text : List ℕ) → HasRead source wanted → HasRead source status.NoMemory → LineOrMemory wanted text err s → HasRead source s
+by_line source err wanted s text h m t = line_or_memory (HasRead source) wanted text err s (λ g. h) (λ g. m) t
+
+has_read : (source err : End) (why : Refusal) (s : Status) → CountsFaults source why → TakesFew source → Told why err s → HasRead source s
+has_read source err refusal.NoMemory s c f t = subst (HasRead source) (sym t.0) (c, f)
+has_read source err refusal.Usage s c f t = subst (HasRead source) (sym t.0) (c, f)
+has_read source err (refusal.Capture fault.Read) s c f t = subst (HasRead source) (sym t.0) (c, f)
+has_read source err (refusal.Capture fault.NoMemory) s c f t = subst (HasRead source) (sym t.0) (c, f)
+has_read source err (refusal.Capture (fault.TooLarge k)) s c f t = subst (HasRead source) (sym t.0) (c, f)
+has_read source err (refusal.Capture fault.TooManyRecords) s c f t = subst (HasRead source) (sym t.0) (c, f)
+has_read source err (refusal.Capture (fault.ShortHeader k)) s c f t = by_line source err status.BadCapture s (bad_line (fault.ShortHeader k)) (c, f) (c, f) t
+has_read source err (refusal.Capture (fault.Magic k)) s c f t = by_line source err status.BadCapture s (bad_line (fault.Magic k)) (c, f) (c, f) t
+has_read source err (refusal.Capture (fault.Version i j)) s c f t = by_line source err status.BadCapture s (bad_line (fault.Version i j)) (c, f) (c, f) t
+has_read source err (refusal.Capture (fault.Link k)) s c f t = by_line source err status.BadCapture s (bad_line (fault.Link k)) (c, f) (c, f) t
+has_read source err (refusal.Capture (fault.RecordLength i j)) s c f t = by_line source err status.BadCapture s (bad_line (fault.RecordLength i j)) (c, f) (c, f) t
+has_read source err (refusal.NoConnection k conns) s c f t = by_line source err status.NoConnection s (missing_line k conns) (c, f) (c, f) t
+
 not_written : (number : Option ℕ) (a : Asked) (why : Refusal) (source out err : End) (s : Status) → IsUntouched out → FailsBy number a source why → Told why err s → RanBy number a source out err s
 not_written (Some n) a why source out err s u h t = (h.0, not_generated n a why out err s u h.1 t)
-not_written None a why source out err s u h t = not_read a why source out err s u h t
+not_written None a why source out err s u h t = (has_read source err why s h.0 h.1 t, not_read a why source out err s u h.2 t)
 
 pub refused : (words : Option Asked) (why : Refusal) (source out err : End) (s : Status) → IsUntouched out → Fails words source why → Told why err s → Ran words source out err s
 refused None why source out err s u h t = (h.0, refused_words why out err s u h.1 t)
 refused (Some a) why source out err s u h t = not_written a.number a why source out err s u h t
 
-done_by : (number : Option ℕ) (a : Asked) (source out err : End) (text : List ℕ) → GivesBy number a source text → Appends out.was out.is text → IsUntouched err → RanBy number a source out err status.Ok
-done_by (Some n) a source out err text h w u = (h.0, (record { text = text; output = h.1; written = w }, u))
-done_by None a source out err text h w u = (h.0, h.1, h.2.0, record { text = text; output = h.2.1; written = w }, u)
+done_by : (number : Option ℕ) (a : Asked) (source out err : End) (text : List ℕ) → GivesBy number a source text → Appends out.was out.is text → MetNoFault out → IsUntouched err → RanBy number a source out err status.Ok
+done_by (Some n) a source out err text h w k u = (h.0, (record { text = text; output = h.1; written = w; unfailing = k }, u))
+done_by None a source out err text h w k u = ((h.0, h.1), (h.2.0, h.2.1, h.2.2.0, record { text = text; output = h.2.2.1; written = w; unfailing = k }, u))
 
-pub done : (words : Option Asked) (source out err : End) (text bytes : List ℕ) → Gives words source text → bytes ≡ text → Appends out.was out.is bytes → IsUntouched err → Ran words source out err status.Ok
-done None source out err text bytes h e w u = absurd h
-done (Some a) source out err text bytes h e w u = done_by a.number a source out err text h (subst (Appends out.was out.is) e w) u
+pub done : (words : Option Asked) (source out err : End) (text bytes : List ℕ) → Gives words source text → bytes ≡ text → Appends out.was out.is bytes → MetNoFault out → IsUntouched err → Ran words source out err status.Ok
+done None source out err text bytes h e w k u = absurd h
+done (Some a) source out err text bytes h e w k u = done_by a.number a source out err text h (subst (Appends out.was out.is) e w) k u
 
 cut_by : (number : Option ℕ) (a : Asked) (source out err : End) (text : List ℕ) → GivesBy number a source text → AppendsProperly out.was out.is text → Rose out.faults_were out.faults_are → GetsLine err write_line → RanBy number a source out err status.WriteFault
 cut_by (Some n) a source out err text h w r g = (h.0, (record { text = text; output = h.1; written = w; failed = r }, g))
-cut_by None a source out err text h w r g = (h.0, h.1, h.2.0, record { text = text; output = h.2.1; written = w; failed = r }, g)
+cut_by None a source out err text h w r g = ((h.0, h.1), (h.2.0, h.2.1, h.2.2.0, record { text = text; output = h.2.2.1; written = w; failed = r }, g))
 
 pub cut : (words : Option Asked) (source out err : End) (text bytes : List ℕ) → Gives words source text → bytes ≡ text → AppendsProperly out.was out.is bytes → Rose out.faults_were out.faults_are → GetsLine err write_line → Ran words source out err status.WriteFault
 cut None source out err text bytes h e w r g = absurd h
@@ -78,7 +96,7 @@ cut (Some a) source out err text bytes h e w r g = cut_by a.number a source out 
 
 no_memory_by : (number : Option ℕ) (a : Asked) (source : End) → IsUntouched source → FailsBy number a source refusal.NoMemory
 no_memory_by (Some n) a source u = (u, tt)
-no_memory_by None a source u = tt
+no_memory_by None a source u = (u.faults, record { bytes = []; taken = Consumes-kept source.was source.was source.is [] (Consumes-nil source.was) u.bytes; count = omega arith }, tt)
 
 pub no_memory : (words : Option Asked) (source : End) → IsUntouched source → Fails words source refusal.NoMemory
 no_memory None source u = (u, tt)

@@ -8,11 +8,12 @@ use Rattle.capture_reader.specs.declared.fault.CaptureFault.TheVariants as fault
 use Rattle.squeue_run.specs.Asked.{Asked}
 use Rattle.squeue_run.specs.CallWords.{AllThere, IsFirstMissing}
 use Rattle.squeue_run.specs.declared.calls.CallWord.{CallWord}
+use Rattle.squeue_run.specs.declared.reading.Words.{Words}
 use Rattle.squeue_run.specs.declared.refusal.Refusal.{Refusal}
 use Rattle.squeue_run.specs.declared.refusal.Refusal.TheVariants as refusal
 use Rattle.squeue_run.specs.Lines.{usage_line, memory_line, read_line, bad_line, many_bytes_line, many_records_line, missing_line}
 use Rattle.squeue_run.specs.Output.{IsReport, IsSummary}
-use Rattle.squeue_run.specs.Ran.{End, GetsLine, IsUntouched, Reads, conns_of}
+use Rattle.squeue_run.specs.Ran.{End, GetsLine, IsUntouched, MetNoFault, Reads, TakesFew, conns_of}
 
 -- the line and the status of a refusal; where memory for the line is missing, that is the refusal
 abbrev pub LineOrMemory : Status → List ℕ → End → Status → Type 0
@@ -31,6 +32,10 @@ Told (refusal.Capture (fault.Version major minor)) err s = LineOrMemory status.B
 Told (refusal.Capture (fault.Link n)) err s = LineOrMemory status.BadCapture (bad_line (fault.Link n)) err s
 Told (refusal.Capture (fault.RecordLength index len)) err s = LineOrMemory status.BadCapture (bad_line (fault.RecordLength index len)) err s
 Told (refusal.NoConnection c conns) err s = LineOrMemory status.NoConnection (missing_line c conns) err s
+
+-- what the words ask, from what the program holds of them
+abbrev pub asked_by_words : Words → Asked
+asked_by_words w = record { setup = w.setup; verify = w.verify; number = w.number; calls = w.named.items }
 
 -- what the replay of a capture gives, or why it gives nothing
 abbrev pub Replays : CaptureFile → Asked → List ℕ → Type 0
@@ -53,17 +58,22 @@ GeneratedFails (refusal.NoConnection c conns) = ⊥
 abbrev pub ReadingFails : Asked → End → Refusal → Type 0
 ReadingFails a source refusal.NoMemory = Unit {0}
 ReadingFails a source refusal.Usage = ⊥
-ReadingFails a source (refusal.Capture f) = ReadFails source.was source.is f × (f ≡ fault.Read → Rose source.faults_were source.faults_are)
+ReadingFails a source (refusal.Capture f) = ReadFails source.was source.is f
 ReadingFails a source (refusal.NoConnection c conns) = (file : CaptureFile) × Reads source file × ReplayFails file a (refusal.NoConnection c conns)
+
+-- the source's count rose exactly where a read fault is the cause
+abbrev pub CountsFaults : End → Refusal → Type 0
+CountsFaults source (refusal.Capture fault.Read) = Rose source.faults_were source.faults_are
+CountsFaults source _ = MetNoFault source
 
 -- what is to be written for accepted words, or why nothing is
 abbrev pub GivesBy : Option ℕ → Asked → End → List ℕ → Type 0
 GivesBy (Some number) a source text = IsUntouched source × IsSummary number a.verify text
-GivesBy None a source text = (file : CaptureFile) × Reads source file × Replays file a text
+GivesBy None a source text = MetNoFault source × TakesFew source × ((file : CaptureFile) × Reads source file × Replays file a text)
 
 abbrev pub FailsBy : Option ℕ → Asked → End → Refusal → Type 0
 FailsBy (Some number) a source why = IsUntouched source × GeneratedFails why
-FailsBy None a source why = ReadingFails a source why
+FailsBy None a source why = CountsFaults source why × TakesFew source × ReadingFails a source why
 
 -- what is to be written for these words, or why nothing is
 abbrev pub Gives : Option Asked → End → List ℕ → Type 0

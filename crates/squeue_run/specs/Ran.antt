@@ -1,10 +1,11 @@
 -- How a run ends: by its status, what was read, what was written, and which line was told.
-use Rattle.std.specs.Prelude.{◌≡◌, ℕ, List, Option, Some, None, length, ◌⊎◌, Bool}
+use Rattle.std.specs.Prelude.{◌≡◌, ◌≤◌, ℕ, List, Option, Some, None, length, ◌⊎◌, Bool}
 use Rattle.std.specs.Io.KnownBytes.{Keeps, Appends}
 use Rattle.sq_base.specs.Ends.{Rose, AppendsProperly}
 use Rattle.sq_base.specs.declared.kinds.Status.{Status}
 use Rattle.sq_base.specs.declared.kinds.Status.TheVariants as status
-use Rattle.capture_reader.specs.Outcome.{CaptureFile, IsCapture, ReadsWhole, ReadsRefused, TakesTooMany}
+use Rattle.capture_reader.specs.Limits.{most_taken}
+use Rattle.capture_reader.specs.Outcome.{CaptureFile, IsCapture, ReadsWhole, ReadsRefused, Takes, TakesTooMany}
 use Rattle.capture_reader.specs.declared.fault.CaptureFault.{CaptureFault}
 use Rattle.capture_reader.specs.declared.fault.CaptureFault.TheVariants as fault
 use Rattle.conn_classifier.specs.Plan.{plan_of}
@@ -20,10 +21,18 @@ pub record End : Type 0 where
   pub faults_were : ℕ
   pub faults_are : ℕ
 
+-- the end of a source or a sink of this kind, from what it was and what it is
+abbrev pub end_of : {X : Type 0} → (X → Option (List ℕ)) → (X → ℕ) → X → X → End
+end_of bytes faults old new = record { was = bytes old; is = bytes new; faults_were = faults old; faults_are = faults new }
+
+-- no read or write failed there, not even one that was tried again
+abbrev pub MetNoFault : End → Type 0
+MetNoFault end = end.faults_are ≡ end.faults_were
+
 -- nothing happened there
 pub record IsUntouched (end : End) : Type 0 where
   pub bytes : Keeps end.was end.is
-  pub faults : end.faults_are ≡ end.faults_were
+  pub faults : MetNoFault end
 
 -- this line was appended, unless a write failed
 abbrev pub GetsLine : End → List ℕ → Type 0
@@ -33,11 +42,12 @@ GetsLine end text = (Rose end.faults_were end.faults_are → ⊥) → Appends en
 abbrev pub OnlyTells : End → End → List ℕ → Type 0
 OnlyTells out err text = IsUntouched out × GetsLine err text
 
--- such an output was written whole
+-- such an output was written whole, and no write failed
 pub record GetsWhole (IsOutput : List ℕ → Type 0) (out : End) : Type 0 where
   pub text : List ℕ
   pub output : IsOutput text
   pub written : Appends out.was out.is text
+  pub unfailing : MetNoFault out
 
 -- a write failed: a front of such an output was written, and not all of it
 pub record GetsFront (IsOutput : List ℕ → Type 0) (out : End) : Type 0 where
@@ -45,6 +55,10 @@ pub record GetsFront (IsOutput : List ℕ → Type 0) (out : End) : Type 0 where
   pub output : IsOutput text
   pub written : AppendsProperly out.was out.is text
   pub failed : Rose out.faults_were out.faults_are
+
+-- at most one byte more than the size was taken
+abbrev pub TakesFew : End → Type 0
+TakesFew source = Takes (λ n. n ≤ most_taken) source.was source.is
 
 -- the source was read to its end: this capture, within the size
 pub record Reads (source : End) (file : CaptureFile) : Type 0 where
@@ -62,6 +76,11 @@ IsBad fault.TooManyRecords = ⊥
 IsBad (fault.TooLarge n) = ⊥
 IsBad fault.Read = ⊥
 IsBad fault.NoMemory = ⊥
+
+-- At a read fault, and only there, a read failed. However the run ended, few bytes were taken.
+abbrev pub HasRead : End → Status → Type 0
+HasRead source status.ReadFault = Rose source.faults_were source.faults_are × TakesFew source
+HasRead source _ = MetNoFault source × TakesFew source
 
 -- how many connections the capture has
 abbrev pub conns_of : CaptureFile → Bool → ℕ
@@ -92,14 +111,14 @@ RanRead a source out err status.BadCapture = (why : CaptureFault) × IsBad why �
 RanRead a source out err status.TooLarge =
     (TakesTooMany source.was source.is × OnlyTells out err many_bytes_line)
     ⊎ (ReadsRefused source.was source.is fault.TooManyRecords × OnlyTells out err many_records_line)
-RanRead a source out err status.ReadFault = Rose source.faults_were source.faults_are × OnlyTells out err read_line
+RanRead a source out err status.ReadFault = OnlyTells out err read_line
 RanRead a source out err status.NoMemory = OnlyTells out err memory_line
 RanRead a source out err status.Usage = ⊥
 
 -- a run for what the words ask; where they are refused, or the input is generated, nothing was read
 abbrev pub RanBy : Option ℕ → Asked → End → End → End → Status → Type 0
 RanBy (Some number) a source out err s = IsUntouched source × RanGenerated number a.verify out err s
-RanBy None a source out err s = RanRead a source out err s
+RanBy None a source out err s = HasRead source s × RanRead a source out err s
 
 abbrev pub Ran : Option Asked → End → End → End → Status → Type 0
 Ran None source out err s = IsUntouched source × RanRefused out err s

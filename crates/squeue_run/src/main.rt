@@ -4,6 +4,10 @@
 //! top call, `lines` has what is written where there is no report. The real ends stand in `main` alone.
 #![tactic(auto)]
 
+ghost use Rattle.std.specs.Prelude.{◌≡◌};
+ghost use Rattle.std.specs.Process.{exit_status};
+ghost use Rattle.sq_base.specs.StatusCode.{code_of};
+
 mod calls;
 mod command;
 mod generator;
@@ -26,6 +30,14 @@ use std::process::ExitCode;
 use std::{env, io};
 pub use words::WordFault;
 
+/// What the process ends with.
+fn exit_code(status: Status) -> ExitCode
+    ensures { exit_status result ≡ code_of status }
+{
+    ExitCode::from(status.code())
+}
+
+/// The words after the program's name.
 fn words_of(rt: &HostRuntime) -> io::Result<Vec<String>> {
     let mut words = Vec::new(rt.alloc());
     for word in env::args(rt)?.skip(1) {
@@ -41,11 +53,11 @@ fn main(rt: HostRuntime) -> ExitCode {
         // A word that isn't UTF-8 is none of the usage line's.
         Err(error) if error.kind() == io::ErrorKind::InvalidData => {
             tell(&mut err, USAGE);
-            return ExitCode::from(Status::Usage.code());
+            return exit_code(Status::Usage);
         }
         Err(_) => {
             tell(&mut err, NO_MEMORY);
-            return ExitCode::from(Status::NoMemory.code());
+            return exit_code(Status::NoMemory);
         }
     };
     let mut src = StdSource::over(rt.reader());
@@ -58,5 +70,5 @@ fn main(rt: HostRuntime) -> ExitCode {
         &mut out,
         &mut err,
     );
-    ExitCode::from(status.code())
+    exit_code(status)
 }

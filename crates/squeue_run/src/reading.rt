@@ -5,6 +5,7 @@ ghost use Rattle.std.specs.List.{AllByRecursion};
 ghost use Rattle.std.specs.String.{string_bytes};
 ghost use Rattle.squeue_run.specs.Asked.{asked};
 ghost use Rattle.squeue_run.specs.CallWords.{lists_of};
+ghost use Rattle.squeue_run.specs.Causes.{asked_by_words};
 
 use crate::calls::CallWord;
 use crate::words::{WordFault, words_asked};
@@ -28,7 +29,7 @@ pub struct Words {
 
 /// What the words of the command line, without the program's name, ask for. `Usage` comes exactly where they are refused.
 pub fn read_words(alloc: Global, words: &[String]) -> Result<Words, WordFault>
-    ensures ok { IfOk result (λ w. asked (map (λ s. string_bytes s) words.now) ≡ Some (record { setup = w.setup; verify = w.verify; number = w.number; calls = w.named.items })) }
+    ensures ok { IfOk result (λ w. asked (map (λ s. string_bytes s) words.now) ≡ Some (asked_by_words w)) }
     ensures calls { IfOk result (λ w. w.calls ≡ lists_of w.named.items) }
     ensures usage { result ≡ Err WordFault.Usage → asked (map (λ s. string_bytes s) words.now) ≡ None }
 {

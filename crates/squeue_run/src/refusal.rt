@@ -5,6 +5,7 @@ ghost use Rattle.std.specs.Io.KnownBytes.{Appends};
 ghost use Rattle.sq_base.specs.Ends.{Rose};
 ghost use Rattle.squeue_run.specs.Lines.{memory_line};
 ghost use Rattle.squeue_run.specs.Causes.{Told};
+ghost use Rattle.squeue_run.specs.Ran.{end_of};
 
 use crate::lines::{
     MANY_BYTES, MANY_RECORDS, NO_MEMORY, READ_FAULT, USAGE, bad_capture, no_connection, tell,
@@ -35,7 +36,7 @@ impl From<AllocError> for Refusal {
 
 /// Writes the line of a refusal, and gives its status. Where memory for the line is missing, that is the refusal.
 pub fn refuse<E: Sink>(alloc: Global, err: &mut E, refusal: &Refusal) -> Status
-    ensures { Told refusal.now (record { was = E.contents err.old; is = E.contents err.new; faults_were = E.write_faults err.old; faults_are = E.write_faults err.new }) result }
+    ensures { Told refusal.now (end_of E.contents E.write_faults err.old err.new) result }
 {
     match refusal {
         Refusal::Usage => told(err, USAGE, Status::Usage),

@@ -6,8 +6,8 @@ ghost use Rattle.squeue_run.specs.Asked.{asked};
 ghost use Rattle.squeue_run.specs.CallWords.{AllThere, IsFirstMissing, lists_of};
 ghost use Rattle.sq_base.specs.Ends.{Rose};
 ghost use Rattle.squeue_run.specs.Output.{IsSummary};
-ghost use Rattle.squeue_run.specs.Ran.{Ran, Accepts, IsDone};
-ghost use Rattle.squeue_run.specs.Causes.{Gives, Fails, GivesBy, FailsBy, Replays, ReplayFails, GeneratedFails};
+ghost use Rattle.squeue_run.specs.Ran.{Ran, Accepts, IsDone, end_of};
+ghost use Rattle.squeue_run.specs.Causes.{Gives, Fails, GivesBy, FailsBy, Replays, ReplayFails, GeneratedFails, asked_by_words};
 
 use crate::calls::CallWord;
 use crate::generator::generate;
@@ -34,9 +34,9 @@ pub fn squeue_run<S: Source, K: Sink, E: Sink>(
     err: &mut E,
 ) -> Status
     ensures ran { Ran (asked (map (λ s. string_bytes s) words.now))
-        (record { was = S.rest src.old; is = S.rest src.new; faults_were = S.read_faults src.old; faults_are = S.read_faults src.new })
-        (record { was = K.contents out.old; is = K.contents out.new; faults_were = K.write_faults out.old; faults_are = K.write_faults out.new })
-        (record { was = E.contents err.old; is = E.contents err.new; faults_were = E.write_faults err.old; faults_are = E.write_faults err.new })
+        (end_of S.rest S.read_faults src.old src.new)
+        (end_of K.contents K.write_faults out.old out.new)
+        (end_of E.contents E.write_faults err.old err.new)
         result }
     ensures complete { Accepts (asked (map (λ s. string_bytes s) words.now)) (S.rest src.old)
         → (Rose (S.read_faults src.old) (S.read_faults src.new) → ⊥) → (Rose (K.write_faults out.old) (K.write_faults out.new) → ⊥) → IsDone result }
@@ -54,9 +54,9 @@ fn whole_run<S: Source, K: Sink, E: Sink>(
     err: &mut E,
 ) -> Status
     ensures { Ran (asked (map (λ s. string_bytes s) words.now))
-        (record { was = S.rest src.old; is = S.rest src.new; faults_were = S.read_faults src.old; faults_are = S.read_faults src.new })
-        (record { was = K.contents out.old; is = K.contents out.new; faults_were = K.write_faults out.old; faults_are = K.write_faults out.new })
-        (record { was = E.contents err.old; is = E.contents err.new; faults_were = E.write_faults err.old; faults_are = E.write_faults err.new })
+        (end_of S.rest S.read_faults src.old src.new)
+        (end_of K.contents K.write_faults out.old out.new)
+        (end_of E.contents E.write_faults err.old err.new)
         result }
 {
     match output(rt, alloc, words, src) {
@@ -79,8 +79,8 @@ fn output<S: Source>(
     src: &mut S,
 ) -> Result<Octets, Refusal>
     ensures { MatchResult result
-        (Gives (asked (map (λ s. string_bytes s) words.now)) (record { was = S.rest src.old; is = S.rest src.new; faults_were = S.read_faults src.old; faults_are = S.read_faults src.new }))
-        (Fails (asked (map (λ s. string_bytes s) words.now)) (record { was = S.rest src.old; is = S.rest src.new; faults_were = S.read_faults src.old; faults_are = S.read_faults src.new })) }
+        (Gives (asked (map (λ s. string_bytes s) words.now)) (end_of S.rest S.read_faults src.old src.new))
+        (Fails (asked (map (λ s. string_bytes s) words.now)) (end_of S.rest S.read_faults src.old src.new)) }
 {
     match read_words(alloc, words) {
         Ok(words) => output_for(rt, alloc, &words, src),
@@ -98,8 +98,8 @@ fn output_for<S: Source>(
 ) -> Result<Octets, Refusal>
     requires { words.now.calls ≡ lists_of words.now.named.items }
     ensures { MatchResult result
-        (GivesBy words.now.number (record { setup = words.now.setup; verify = words.now.verify; number = words.now.number; calls = words.now.named.items }) (record { was = S.rest src.old; is = S.rest src.new; faults_were = S.read_faults src.old; faults_are = S.read_faults src.new }))
-        (FailsBy words.now.number (record { setup = words.now.setup; verify = words.now.verify; number = words.now.number; calls = words.now.named.items }) (record { was = S.rest src.old; is = S.rest src.new; faults_were = S.read_faults src.old; faults_are = S.read_faults src.new })) }
+        (GivesBy words.now.number (asked_by_words words.now) (end_of S.rest S.read_faults src.old src.new))
+        (FailsBy words.now.number (asked_by_words words.now) (end_of S.rest S.read_faults src.old src.new)) }
 {
     match words.number {
         Some(number) => generated(rt, alloc, words, number),
@@ -131,8 +131,8 @@ fn replayed(
 ) -> Result<Octets, Refusal>
     requires { words.now.calls ≡ lists_of words.now.named.items }
     ensures { MatchResult result
-        (Replays capture.now (record { setup = words.now.setup; verify = words.now.verify; number = words.now.number; calls = words.now.named.items }))
-        (ReplayFails capture.now (record { setup = words.now.setup; verify = words.now.verify; number = words.now.number; calls = words.now.named.items })) }
+        (Replays capture.now (asked_by_words words.now))
+        (ReplayFails capture.now (asked_by_words words.now)) }
 {
     let plan = plan(rt, alloc, capture, words.verify)?;
     let conns = plan.conns();

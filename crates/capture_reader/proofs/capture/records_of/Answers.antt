@@ -1,5 +1,6 @@
 use Rattle.std.proofs.Common.{rules, arith, ◌≡◌, ◌+◌, ◌≤◌, length, drop, ℕ, ◌++◌, ◌∷◌, [], subst, sym, refl}
 use Rattle.capture_reader.specs.CaptureFile.{named_length}
+use Rattle.capture_reader.specs.Limits.{longest_body}
 use Rattle.capture_reader.specs.SoFar.{ReadsTo}
 use Rattle.capture_reader.specs.declared.capture.Record.{Record}
 use Rattle.capture_reader.proofs.Pieces.{reads_more}
@@ -16,7 +17,7 @@ loop-rest-preserved c =
     let e : len ≡ named_length form (drop at bytes) = search rules in
     let items : c.push.new.self.items ≡ old ++ r ∷ [] = search rules in
     let header : 16 ≤ length (drop at bytes) = search rules in
-    let most : named_length form (drop at bytes) ≤ 262144 = subst (λ (n : ℕ). n ≤ 262144) e (omega arith) in
+    let most : named_length form (drop at bytes) ≤ longest_body = subst (λ (n : ℕ). n ≤ longest_body) e (omega arith) in
     let whole : 16 + named_length form (drop at bytes) ≤ length (drop at bytes) = subst (λ (n : ℕ). 16 + n ≤ length (drop at bytes)) e (search rules) in
     let more : ReadsTo form bytes (at + (16 + named_length form (drop at bytes))) (old ++ r ∷ []) =
     reads_more form bytes at old r c.loop-rest.invariant.read header most whole (search rules) refl e c.time_of.ensures.small in

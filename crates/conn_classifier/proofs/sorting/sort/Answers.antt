@@ -8,7 +8,7 @@ use Rattle.conn_classifier.proofs.sorting.sort.Goals as goal
 use Rattle.conn_classifier.proofs.sorting.sort.Goals.{in-Some+in_ok-add-in-Some, in-None}
 
 none : Captured
-none = record { time = 0; body = [] }
+none = record { time = 0; from = 0; body = [] }
 
 pub loop-i-init : goal.loop-i-init
 loop-i-init c =
