@@ -6,4 +6,3 @@ pub mod Passing
 pub mod FreshRings
 pub mod Ending
 pub mod Totals
-pub mod OneSqueue

@@ -1,4 +1,0 @@
-pub mod AtEach
-pub mod Lent
-pub mod Coming
-pub mod Unused
