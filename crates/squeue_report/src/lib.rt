@@ -1,8 +1,7 @@
 //! The report of a run, and the one line that sums up a generated run.
 #![tactic(auto)]
 
-pub mod digits;
-mod laws;
+pub mod laws;
 mod names;
 mod reporting;
 mod summing;
