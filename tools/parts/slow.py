@@ -11,10 +11,10 @@ TCP = struct.Struct(">HHIIBBHHH")
 WINDOW = 65_535
 
 
-def record(at, seq, ack, flags, text=b"", options=b"", port=PORT, client=CLIENT, window=WINDOW, service=7):
+def record(at, seq, ack, flags, text=b"", options=b"", port=PORT, client=CLIENT, window=WINDOW, service=7, server=SERVER):
     """A record at so many microseconds."""
     header = 20 + len(options)
-    data = IP.pack(0x45, 0, 20 + header + len(text), 0, 0, 64, 6, 0, client, SERVER) + TCP.pack(
+    data = IP.pack(0x45, 0, 20 + header + len(text), 0, 0, 64, 6, 0, client, server) + TCP.pack(
         port, service, seq & 0xffffffff, ack & 0xffffffff, header << 2, flags, window, 0, 0) + options + text
     return HEAD.pack(at // 1_000_000, at % 1_000_000, len(data), len(data)) + data
 
@@ -76,6 +76,12 @@ def new_connections(count):
     return [record(n, FIRST, 0, SYN, port=1024 + n % 60_000, client=CLIENT + n // 60_000) for n in range(count)]
 
 
+def many_servers(count, servers):
+    """One client opens a connection to each server, and then again to any of them."""
+    rnd = random.Random(1)
+    return [record(n, FIRST, 0, SYN, server=servers[n] if n < len(servers) else rnd.choice(servers)) for n in range(count)]
+
+
 def many_options(count):
     """Forty bytes of options that say nothing, one by one."""
     out = opened(9)
@@ -86,6 +92,16 @@ def long_texts(count):
     """Text of a thousand bytes that is echoed and acknowledged late."""
     out = opened()
     return out + [record(2 + n, FIRST + 1 + 100 * n, 1 + 100 * max(0, n - 50), PSH | ACK, b"x" * 100) for n in range(count - len(out))]
+
+
+def fitting(listed, most=67_108_864):
+    """As many of the records as one run takes."""
+    size = 24
+    for n, data in enumerate(listed):
+        size += len(data)
+        if size > most:
+            return listed[:n]
+    return listed
 
 
 SLOW = (repeated_syn, alternating_syns, sixty_four_runs, descending_bytes, overlapping_text, probes, new_connections, many_options, long_texts)

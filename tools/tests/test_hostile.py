@@ -43,14 +43,14 @@ class Hostile(unittest.TestCase):
             self.skipTest("no sqrun: run ./build, or name it by SQRUN")
         status, said = self.table(SQRUN, "memory five_segment_echo fill", "memory traced fill", "reads fill", "writes fill", "steps fill", "ends fill")
         self.assertEqual(status, 0, said)
-        self.assertRegex(said, r"\n\d rows passed, 0 failed, \d skipped\n$")
+        self.assertRegex(said, r"\n\d rows passed, 0 failed, 0 known to fail, \d skipped\n$")
 
     def test_a_careless_program_fails(self):
         (self.folder / "careless.c").write_text(CARELESS)
         subprocess.run(["cc", "-o", self.folder / "careless", self.folder / "careless.c"], check=True)
         status, said = self.table(self.folder / "careless", "memory four sessions fill", "reads fill", "writes fill", "steps fill", "ends fill")
         self.assertEqual(status, 1, said)
-        self.assertIn("\n0 rows passed, 5 failed, 0 skipped\n", said)
+        self.assertIn("\n0 rows passed, 5 failed, 0 known to fail, 0 skipped\n", said)
 
     def test_no_program(self):
         status, said = self.table(self.folder / "none")

@@ -1,5 +1,5 @@
 -- What the threads of a run need, and what they do.
-use Rattle.std.specs.Prelude.{◌≡◌, ℕ, zero, suc, ◌+◌, ◌*◌, ◌%◌, ◌<◌, ◌≤◌, Option, Some, None, List, [], ◌++◌, length}
+use Rattle.std.specs.Prelude.{◌≡◌, ℕ, zero, suc, ◌+◌, ◌*◌, ◌%◌, ◌<◌, ◌≤◌, Option, Some, None, List, [], ◌∷◌, ◌++◌, length}
 use Rattle.turn_gate.specs.Passes.{IsPassOf, number, seen}
 use Rattle.turn_gate.specs.declared.pass.Pass.{Pass}
 use Rattle.perimeter_core.specs.declared.entries.Feed.{Feed}
@@ -12,7 +12,7 @@ use Rattle.squeue_state.specs.Elements.{number_of}
 use Rattle.squeue_enter.specs.declared.Mode.{Mode}
 use Rattle.squeue_enter.specs.declared.entering.Entered.{Entered}
 use Rattle.squeue_enter.specs.Entering.{MayEnter, HasEntered}
-use Rattle.key_counters.specs.declared.job.Job.{Job}
+use Rattle.squeue_serve.specs.declared.jobs.Job.{Job}
 use Rattle.key_counters.specs.declared.job.Task.{Task}
 use Rattle.key_counters.specs.declared.job.Task.TheVariants as Task'
 
@@ -48,6 +48,12 @@ pub record HasWorked {R : Type 0} (limits : R → Limits) (s : Named R) (from to
   pub same_number : number to ≡ number from
   pub over : IsOver (setting_of limits s.given) (run (setting_of limits s.given) (seen to))
 
+-- the pass that lies in one place, where there is no other
+abbrev pub pass_in : List (Option (Pass Element)) → Option (Pass Element)
+pass_in [] = None
+pass_in (o ∷ []) = o
+pass_in (o ∷ n ∷ os) = None
+
 module _ {R : Type 0} (limits : R → Limits) (s : Named R) where
   -- what a task needs of its pass
   abbrev pub MayRun : Task → Pass Element → Type 0
@@ -64,8 +70,8 @@ module _ {R : Type 0} (limits : R → Limits) (s : Named R) where
   ReadyFor task (Some p) = MayRun task p
 
   -- the job has a pass for its task
-  abbrev pub IsReady : Job → Type 0
-  IsReady j = ReadyFor j.task j.pass
+  abbrev pub IsReady : Job Task → Type 0
+  IsReady j = ReadyFor j.task (pass_in j.places.items)
 
   abbrev pub RanFor : Task → Option (Pass Element) → Option (Pass Element) → Type 0
   RanFor task (Some p) (Some q) = HasRun task p q
@@ -73,5 +79,5 @@ module _ {R : Type 0} (limits : R → Limits) (s : Named R) where
   RanFor task None q = ⊥
 
   -- the job is done
-  abbrev pub Ran : Job → Job → Type 0
-  Ran old new = RanFor old.task old.pass new.pass
+  abbrev pub Ran : Job Task → Job Task → Type 0
+  Ran old new = RanFor old.task (pass_in old.places.items) (pass_in new.places.items)

@@ -1,7 +1,8 @@
 //! The report of a run, and the one line that sums up a generated run.
 #![tactic(auto)]
 
-pub mod laws;
+pub mod digits;
+mod laws;
 mod names;
 mod reporting;
 mod summing;

@@ -9,12 +9,13 @@ ghost use Rattle.conn_blocks.specs.ServeOrder.{serving_of};
 ghost use Rattle.ring_threads.specs.ServedBlocks.{AreServed};
 ghost use Rattle.squeue_report.specs.ReportText.{counts_line, end_field, conn_line, entries_of, entry_field, feeds, line_end, order_line, reply_line, answer_line, conn_text, report_text};
 
+use crate::digits::push_hex;
 use crate::names::{service_name, state_name};
 use conn_blocks::{Act, Block};
 use conn_classifier::{Counts, Plan};
 use echo_services::Service;
 use ring_threads::Served;
-use segment_codec::{Reply, encode};
+use segment_codec::{Reply, encode_into};
 use sq_base::{Addr, Octets, Tuple};
 use std::alloc::{AllocError, Global};
 use tcb_machine::{Answer, Tcb};
@@ -27,10 +28,12 @@ pub fn report(alloc: Global, plan: &Plan, served: &Served) -> Result<Octets, All
         → text ≡ report_text plan.now calls (map (λ b. b.order) served.now)) }
 {
     let mut text = String::new(alloc);
+    // One datagram after another, in room that is kept.
+    let mut datagram = Vec::new(alloc);
     text.push_str("report 1\n")?;
     push_counts(&mut text, &plan.counts(), plan.conns())?;
     for c in 0..plan.conns() {
-        push_conn(alloc, &mut text, c, &plan.tuple(c), served.block(c))?;
+        push_conn(&mut text, &mut datagram, c, &plan.tuple(c), served.block(c))?;
     }
     text.push_str("done\n")?;
     Ok(Octets::wrap(text.into_bytes()))
@@ -81,8 +84,8 @@ fn push_head(text: &mut String, c: u32, tuple: &Tuple) -> Result<(), AllocError>
 /// What connection `c` has in the report.
 #[tactic(auto, using(crate::proofs::Joins::joins), unfolding(crate::specs::ReportText::conn_text, crate::specs::ReportText::end_line))]
 fn push_conn(
-    alloc: Global,
     text: &mut String,
+    datagram: &mut Vec<u8>,
     c: u32,
     tuple: &Tuple,
     block: &Block,
@@ -92,7 +95,7 @@ fn push_conn(
 {
     push_head(text, c, tuple)?;
     push_order(text, block.order())?;
-    push_replies(alloc, text, tuple, block.tcb())?;
+    push_replies(text, datagram, tuple, block.tcb())?;
     push_answers(text, block)?;
     writeln!(text, "end {}", state_name(block.tcb().state()))
 }
@@ -151,32 +154,34 @@ fn push_run<'a>(text: &mut String, n: u32, more: &'a [Act]) -> Result<&'a [Act],
 }
 
 fn push_replies(
-    alloc: Global,
     text: &mut String,
+    datagram: &mut Vec<u8>,
     tuple: &Tuple,
     tcb: &Tcb,
 ) -> Result<(), AllocError>
     ensures { OnOk result (string_bytes text.new ≡ string_bytes text.old ++ flat_map (reply_line tuple.now) tcb.now.replies) }
 {
     for i in 0..tcb.replies() {
-        push_reply(alloc, text, tuple, tcb.reply(i))?;
+        push_reply(text, datagram, tuple, tcb.reply(i))?;
     }
     Ok(())
 }
 
 #[tactic(auto, using(crate::proofs::Joins::joins), unfolding(crate::specs::ReportText::reply_line))]
 fn push_reply(
-    alloc: Global,
     text: &mut String,
+    datagram: &mut Vec<u8>,
     tuple: &Tuple,
     reply: &Reply,
 ) -> Result<(), AllocError>
     requires { IsOurs reply.now }
     ensures { OnOk result (string_bytes text.new ≡ string_bytes text.old ++ reply_line tuple.now reply.now) }
 {
-    let bytes = encode(alloc, tuple, reply)?;
-    let digits = hex::encode(alloc, bytes.as_slice())?;
-    writeln!(text, "reply {} {}", reply.at, digits.as_str())
+    datagram.clear();
+    encode_into(datagram, tuple, reply)?;
+    write!(text, "reply {} ", reply.at)?;
+    push_hex(text, datagram.as_slice())?;
+    text.push('\n')
 }
 
 fn push_answers(text: &mut String, block: &Block) -> Result<(), AllocError>

@@ -1,0 +1,7 @@
+pub mod Limits
+pub mod Numbers
+pub mod Options
+pub mod Frame
+pub mod Blocks
+pub mod PcapngFile
+pub mod SoFar
