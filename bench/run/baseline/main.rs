@@ -1,48 +1,129 @@
-// The plain loop that sqrun is measured beside: reads a capture file whole, groups the records by connection in a hash map, and
-// writes each TCP text in hexadecimal. Std only; no checks but those of slices.
+//! The plain loop that sqrun is measured beside: the least that the job can cost. It reads a capture file whole, finds the TCP
+//! segment in each record, groups those to ports 7 and 9 by connection in a hash map, and writes each text in hexadecimal.
+//! It has no TCP, no replies, no order of times, and checks no sums. Std only; no checks but those of slices.
 use std::collections::HashMap;
-use std::io::{self, Read, Write};
+use std::io::{self, Write};
 
-fn word(bytes: &[u8], at: usize) -> usize {
-    usize::from(bytes[at]) << 8 | usize::from(bytes[at + 1])
+/// The client's address and port, then the server's.
+type Ends = (u32, u16, u32, u16);
+
+/// A segment's time in microseconds, and the bytes of the file that are its text.
+type Text = (u64, usize, usize);
+
+struct Capture<'a> {
+    bytes: &'a [u8],
+    is_big_endian: bool,
+    units_per_microsecond: u64,
+    link: u32,
+}
+
+impl<'a> Capture<'a> {
+    fn of(bytes: &'a [u8]) -> Capture<'a> {
+        let (is_big_endian, units_per_microsecond) = match bytes[..4] {
+            [0xd4, 0xc3, 0xb2, 0xa1] => (false, 1),
+            [0x4d, 0x3c, 0xb2, 0xa1] => (false, 1000),
+            [0xa1, 0xb2, 0xc3, 0xd4] => (true, 1),
+            [0xa1, 0xb2, 0x3c, 0x4d] => (true, 1000),
+            _ => panic!("this is no capture file"),
+        };
+        let mut capture = Capture { bytes, is_big_endian, units_per_microsecond, link: 0 };
+        capture.link = capture.field(20);
+        capture
+    }
+
+    /// A number of the capture file's own headers.
+    fn field(&self, at: usize) -> u32 {
+        let word = [self.bytes[at], self.bytes[at + 1], self.bytes[at + 2], self.bytes[at + 3]];
+        if self.is_big_endian { u32::from_be_bytes(word) } else { u32::from_le_bytes(word) }
+    }
+
+    fn word(&self, at: usize) -> u16 {
+        u16::from_be_bytes([self.bytes[at], self.bytes[at + 1]])
+    }
+
+    fn long(&self, at: usize) -> u32 {
+        u32::from_be_bytes([self.bytes[at], self.bytes[at + 1], self.bytes[at + 2], self.bytes[at + 3]])
+    }
+
+    fn time(&self, at: usize) -> u64 {
+        u64::from(self.field(at)) * 1_000_000 + u64::from(self.field(at + 4)) / self.units_per_microsecond
+    }
+
+    /// Where the IPv4 datagram of a body begins: behind the header of Ethernet, with a tag or none, or of a cooked capture.
+    fn datagram(&self, body: usize, end: usize) -> Option<usize> {
+        match self.link {
+            1 if body + 18 <= end => match (self.word(body + 12), self.word(body + 16)) {
+                (0x0800, _) => Some(body + 14),
+                (0x8100, 0x0800) => Some(body + 18),
+                _ => None,
+            },
+            113 => (body + 16 <= end && self.word(body + 14) == 0x0800).then_some(body + 16),
+            1 => None,
+            _ => Some(body),
+        }
+    }
+
+    /// The ends and the text's place of the segment in a datagram, where it goes to a served port.
+    fn segment(&self, ip: usize, end: usize) -> Option<(Ends, usize, usize)> {
+        if ip + 20 > end || self.bytes[ip] >> 4 != 4 {
+            return None;
+        }
+        let header = usize::from(self.bytes[ip] & 15) * 4;
+        let total = match usize::from(self.word(ip + 2)) {
+            0 => end - ip,
+            total => total,
+        };
+        let is_fragment = self.word(ip + 6) & 0x3fff != 0;
+        if header < 20 || is_fragment || self.bytes[ip + 9] != 6 || ip + total > end || total < header + 20 {
+            return None;
+        }
+        let tcp = ip + header;
+        let offset = usize::from(self.bytes[tcp + 12] >> 4) * 4;
+        let ends = (self.long(ip + 12), self.word(tcp), self.long(ip + 16), self.word(tcp + 2));
+        let is_served = offset >= 20 && header + offset <= total && matches!(ends.3, 7 | 9);
+        is_served.then_some((ends, tcp + offset, ip + total))
+    }
+
+    /// The served texts of each connection, in the order of the file.
+    fn connections(&self) -> Vec<(Ends, Vec<Text>)> {
+        let mut numbers: HashMap<Ends, usize> = HashMap::new();
+        let mut connections: Vec<(Ends, Vec<Text>)> = Vec::new();
+        let mut at = 24;
+        while at + 16 <= self.bytes.len() {
+            let body = at + 16;
+            let end = body + self.field(at + 8) as usize;
+            if end > self.bytes.len() {
+                break;
+            }
+            let found = self.datagram(body, end).and_then(|ip| self.segment(ip, end));
+            if let Some((ends, from, to)) = found {
+                let c = *numbers.entry(ends).or_insert_with(|| {
+                    connections.push((ends, Vec::new()));
+                    connections.len() - 1
+                });
+                connections[c].1.push((self.time(at), from, to));
+            }
+            at = end;
+        }
+        connections
+    }
 }
 
 fn main() -> io::Result<()> {
-    let mut file = Vec::new();
-    io::stdin().lock().read_to_end(&mut file)?;
-    let mut order: Vec<Vec<(u64, &[u8])>> = Vec::new();
-    let mut numbers: HashMap<[u8; 12], usize> = HashMap::new();
-    let mut at = 24;
-    while at + 16 <= file.len() {
-        let long = |i: usize| u32::from_le_bytes([file[at + i], file[at + i + 1], file[at + i + 2], file[at + i + 3]]);
-        let len = long(8) as usize;
-        let time = u64::from(long(0)) * 1_000_000 + u64::from(long(4));
-        if at + 16 + len > file.len() {
-            break;
-        }
-        let ip = &file[at + 16..at + 16 + len];
-        let tcp = &ip[4 * usize::from(ip[0] & 15)..word(ip, 2)];
-        let mut key = [0; 12];
-        key[..8].copy_from_slice(&ip[12..20]);
-        key[8..].copy_from_slice(&tcp[..4]);
-        let c = *numbers.entry(key).or_insert_with(|| {
-            order.push(Vec::new());
-            order.len() - 1
-        });
-        order[c].push((time, &tcp[4 * usize::from(tcp[12] >> 4)..]));
-        at += 16 + len;
-    }
-    let mut text = String::new();
-    for (c, segments) in order.iter().enumerate() {
-        text.push_str(&format!("conn {c}\n"));
-        for (time, bytes) in segments {
-            text.push_str(&format!("segment {time} "));
-            for byte in *bytes {
-                text.push(char::from(b"0123456789abcdef"[usize::from(byte >> 4)]));
-                text.push(char::from(b"0123456789abcdef"[usize::from(byte & 15)]));
+    // The size of a file that is standard input is known before it is read.
+    let bytes = std::fs::read("/dev/stdin")?;
+    const DIGITS: &[u8; 16] = b"0123456789abcdef";
+    let mut report: Vec<u8> = Vec::with_capacity(1 << 20);
+    for (ends, texts) in Capture::of(&bytes).connections() {
+        writeln!(report, "conn {:08x}:{} {:08x}:{}", ends.0, ends.1, ends.2, ends.3)?;
+        for (at, from, to) in texts {
+            write!(report, "{at} ")?;
+            for byte in &bytes[from..to] {
+                report.push(DIGITS[usize::from(byte >> 4)]);
+                report.push(DIGITS[usize::from(byte & 15)]);
             }
-            text.push('\n');
+            report.push(b'\n');
         }
     }
-    io::stdout().lock().write_all(text.as_bytes())
+    io::stdout().write_all(&report)
 }

@@ -10,3 +10,5 @@ mod LettingGo
 mod NewBlock
 pub mod FeedsInOrder
 pub mod PlaceSteps
+pub mod SettledOrders
+pub mod Named

@@ -2,6 +2,7 @@
 use Rattle.std.proofs.Common.{◌≡◌, ℕ, ◌+◌, ◌*◌, ◌<◌, ◌++◌, false, [], length, sym, ap, ◌∙◌, inl, arith}
 use Rattle.std.specs.List.{range_with_len}
 use Rattle.std.proofs.lemmas.List.{length-replicate, get_or-replicate}
+use Rattle.byte_queues.specs.ReceiveQueue.{next_of}
 use Rattle.tcb_machine.specs.BlockState.{Block as Tcp, new_block, offered}
 use Rattle.conn_classifier.specs.Plan.{PlanOf}
 use Rattle.conn_blocks.specs.declared.stages.Stage.TheVariants as stage
@@ -13,14 +14,14 @@ use Rattle.conn_blocks.specs.Holding.{stage_at, stage_of, IsSettled, IsSound, St
 
 module _ (p : PlanOf) (calls : CallLists) (c : ℕ) (b : BlockOf) (new : IsNew p calls c b) where
   new_sound : IsSound p calls c b
-  unfolding serve new_block offered
+  unfolding serve new_block offered next_of
   new_sound =
-      let taken : b.tcb.recv.taken ≡ 0 = ap (λ (t : Tcp). t.recv.taken) new.tcb in
+      let received : next_of b.tcb.recv ≡ 0 = ap (λ (t : Tcp). next_of t.recv) new.tcb in
       let gone : offered b.tcb ≡ 0 = ap offered new.tcb in
       record {
         served = (λ i. record { block = new.tcb i; answers = new.answers i }) ∙ ap (serve p calls c) (sym new.order);
         clock = inl (ap (λ (t : Tcp). t.clock) new.tcb);
-        taken_most = omega (arith, taken);
+        received_most = omega (arith, received);
         offered_most = omega (arith, gone);
       }
 

@@ -4,6 +4,7 @@ use Rattle.std.specs.List.{range_with_len}
 use Rattle.std.proofs.lemmas.Bool.{eqb-true}
 use Rattle.std.proofs.lemmas.List.{append-nil, length_push}
 use Rattle.std.proofs.lemmas.List.FromFn.{map-range_with_len_more}
+use Rattle.byte_queues.specs.ReceiveQueue.{next_of}
 use Rattle.tcb_machine.specs.BlockState.{offered}
 use Rattle.perimeter_core.specs.declared.entries.Act.{Act}
 use Rattle.perimeter_core.specs.declared.entries.Act.TheVariants as act
@@ -41,8 +42,8 @@ module _ (p : PlanOf) (calls : CallLists) (c : ℕ) (old : BlockOf) (is : IsSett
   act_is_timely (act.Feed n) h e = subst (λ m. ClockIsPast p c m old.tcb.clock) (sym h.0) (is.sound e).clock
   act_is_timely (act.Call j k) h e = tt
 
-  pub taken_few : old.short ≡ false → old.tcb.recv.taken < 2 ^ 60
-  taken_few e = let most = (is.sound e).taken_most in omega (arith, most, few_acts p calls c old is)
+  pub received_few : old.short ≡ false → next_of old.tcb.recv < 2 ^ 60
+  received_few e = let most = (is.sound e).received_most in omega (arith, most, few_acts p calls c old is)
 
   pub offered_few : old.short ≡ false → offered old.tcb < 2 ^ 60
   offered_few e = let most = (is.sound e).offered_most in omega (arith, most, few_acts p calls c old is)
@@ -111,11 +112,11 @@ module _ (p : PlanOf) (calls : CallLists) (c : ℕ) (old : BlockOf) (is : IsSett
         sound_now d =
             let before = is.sound d.before in
             let more : length new.order ≡ length old.order + 1 = ap length longer ∙ length_push old.order a in
-            let t = d.taken in let o = d.offered_more in let tm = before.taken_most in let om = before.offered_most in
+            let t = d.received in let o = d.offered_more in let tm = before.received_most in let om = before.offered_most in
             record {
               served = d.step ∙ (λ i. serves_act p calls c (is.service i) a (before.served i)) ∙ sym (serve_more p calls c old.order a) ∙ ap (serve p calls c) (sym longer);
               clock = clock_now a next feeds_now before.clock d.clock;
-              taken_most = omega (arith, t, tm, more);
+              received_most = omega (arith, t, tm, more);
               offered_most = omega (arith, o, om, more);
             }
 
@@ -137,7 +138,7 @@ settled_stages p calls c b is s e = record {
   sound = λ h. (let was = is.sound h in record {
     served = was.served;
     clock = was.clock;
-    taken_most = was.taken_most;
+    received_most = was.received_most;
     offered_most = was.offered_most;
   });
 }

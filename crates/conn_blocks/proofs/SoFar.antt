@@ -2,6 +2,7 @@
 use Rattle.std.proofs.Common.{◌≡◌, ℕ, ◌+◌, ◌*◌, ◌<◌, ◌≤◌, ◌^◌, inl, inr, false, List, [], ◌∷◌, ◌++◌, length, take, drop, slice_get, Some, None, Option, IfSome, sym, ap, subst, ◌∙◌, arith}
 use Rattle.std.specs.List.{AllByRecursion}
 use Rattle.std.specs.Option.{option_map}
+use Rattle.byte_queues.specs.ReceiveQueue.{next_of}
 use Rattle.tcb_machine.specs.BlockState.{offered}
 use Rattle.conn_classifier.specs.declared.kinds.Item.{Item}
 use Rattle.conn_classifier.specs.Plan.{PlanOf, items_in, time_of}
@@ -22,7 +23,7 @@ pub record SoFar (p : PlanOf) (calls : CallLists) (c : ℕ) (order : List Act) (
   pub within : feeds ≤ 2097153
   pub rising : FeedsRise feeds (drop i order)
   pub clock : ClockIsPast p c feeds b.tcb.clock
-  pub taken_most : b.tcb.recv.taken ≤ i * 2 ^ 20
+  pub received_most : next_of b.tcb.recv ≤ i * 2 ^ 20
   pub offered_most : offered b.tcb ≤ i * 2 ^ 16
 
 -- the clock isn't after the item
@@ -37,7 +38,7 @@ timely p c n clock x (inr (m, lt, e)) rises = let le : m ≤ n = omega (arith, l
 
 module _ (p : PlanOf) (calls : CallLists) (c : ℕ) (order : List Act) (items : length (items_in p c) ≤ 2097153) where
   pub starts : (b : BlockOf) → b.order ≡ [] → b.short ≡ false → b.service ≡ service_in p c → serves p calls c (service_in p c) order (serving_of b) ≡ serve p calls c order
-      → AllByRecursion (IsActOf p calls c) order → FeedsRise 0 order → b.tcb.clock ≡ 0 → b.tcb.recv.taken ≡ 0 → offered b.tcb ≡ 0 → SoFar p calls c order 0 b
+      → AllByRecursion (IsActOf p calls c) order → FeedsRise 0 order → b.tcb.clock ≡ 0 → next_of b.tcb.recv ≡ 0 → offered b.tcb ≡ 0 → SoFar p calls c order 0 b
   starts b e s v l a r k n o = record {
     served = e;
     whole = s;
@@ -48,7 +49,7 @@ module _ (p : PlanOf) (calls : CallLists) (c : ℕ) (order : List Act) (items : 
     within = omega arith;
     rising = r;
     clock = inl k;
-    taken_most = omega (arith, n);
+    received_most = omega (arith, n);
     offered_most = omega (arith, o);
   }
 
@@ -75,13 +76,13 @@ module _ (p : PlanOf) (calls : CallLists) (c : ℕ) (order : List Act) (items : 
 
     pub more : (new : BlockOf) → take (i + 1) order ≡ take i order ++ a ∷ [] → new.order ≡ b.order ++ a ∷ [] → new.service ≡ b.service → new.short ≡ b.short
         → serving_of new ≡ serves_act p calls c b.service a (serving_of b) → SetsClock p c a b.tcb.clock new.tcb.clock
-        → new.tcb.recv.taken ≤ b.tcb.recv.taken + 2 ^ 20 → offered new.tcb ≤ offered b.tcb + 2 ^ 16
+        → next_of new.tcb.recv ≤ next_of b.tcb.recv + 2 ^ 20 → offered new.tcb ≤ offered b.tcb + 2 ^ 16
         → SoFar p calls c order (i + 1) new
     more new t o v s step k g f = by a acts_here rising_here step k g f (ap (λ l. l ++ a ∷ []) so_far.served) here t o
       where
         by : (a : Act) → AllByRecursion (IsActOf p calls c) (a ∷ drop (i + 1) order) → FeedsRise so_far.feeds (a ∷ drop (i + 1) order)
             → serving_of new ≡ serves_act p calls c b.service a (serving_of b) → SetsClock p c a b.tcb.clock new.tcb.clock
-            → new.tcb.recv.taken ≤ b.tcb.recv.taken + 2 ^ 20 → offered new.tcb ≤ offered b.tcb + 2 ^ 16
+            → next_of new.tcb.recv ≤ next_of b.tcb.recv + 2 ^ 20 → offered new.tcb ≤ offered b.tcb + 2 ^ 16
             → b.order ++ a ∷ [] ≡ take i order ++ a ∷ [] → drop i order ≡ a ∷ drop (i + 1) order → take (i + 1) order ≡ take i order ++ a ∷ [] → new.order ≡ b.order ++ a ∷ []
             → SoFar p calls c order (i + 1) new
         by (act.Feed n) acts rise step k g f front here t o = record {
@@ -95,7 +96,7 @@ module _ (p : PlanOf) (calls : CallLists) (c : ℕ) (order : List Act) (items : 
           within = let lt : n < length (items_in p c) = acts.0 in omega (arith, lt, items);
           rising = rise.1;
           clock = inr (n, omega arith, k);
-          taken_most = omega (arith, g, so_far.taken_most);
+          received_most = omega (arith, g, so_far.received_most);
           offered_most = omega (arith, f, so_far.offered_most);
         }
         by (act.Call j m) acts rise step k g f front here t o = record {
@@ -109,6 +110,6 @@ module _ (p : PlanOf) (calls : CallLists) (c : ℕ) (order : List Act) (items : 
           within = so_far.within;
           rising = rise;
           clock = subst (ClockIsPast p c so_far.feeds) (sym k) so_far.clock;
-          taken_most = omega (arith, g, so_far.taken_most);
+          received_most = omega (arith, g, so_far.received_most);
           offered_most = omega (arith, f, so_far.offered_most);
         }

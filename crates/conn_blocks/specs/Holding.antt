@@ -3,6 +3,7 @@ use Rattle.std.specs.Prelude.{◌≡◌, ℕ, ◌+◌, ◌*◌, ◌<◌, ◌≤�
 use Rattle.std.specs.List.{AllByRecursion, list_all, range_with_len}
 use Rattle.perimeter_core.specs.declared.entries.Act.{Act}
 use Rattle.perimeter_core.specs.declared.entries.Act.TheVariants as act
+use Rattle.byte_queues.specs.ReceiveQueue.{next_of}
 use Rattle.tcb_machine.specs.BlockState.{new_block, offered}
 use Rattle.conn_classifier.specs.Plan.{PlanOf, items_in}
 use Rattle.conn_blocks.specs.declared.stages.Stage.{Stage}
@@ -47,6 +48,10 @@ pub record Begins (front whole : List ℕ) : Type 0 where
   pub rest : List ℕ
   pub joined : whole ≡ front ++ rest
 
+-- of each thread an order has the first calls on the connection, in order and once
+abbrev pub HasFirstCalls : CallLists → ℕ → List Act → Type 0
+HasFirstCalls calls c order = (j : ℕ) → Begins (call_numbers j order) (numbers_on calls c j)
+
 -- how many feeds a block has had
 abbrev pub fed : BlockOf → ℕ
 fed b = length (feed_numbers b.order)
@@ -55,7 +60,7 @@ fed b = length (feed_numbers b.order)
 pub record IsSound (p : PlanOf) (calls : CallLists) (c : ℕ) (b : BlockOf) : Type 0 where
   pub served : serving_of b ≡ serve p calls c b.order
   pub clock : ClockIsPast p c (fed b) b.tcb.clock
-  pub taken_most : b.tcb.recv.taken ≤ length b.order * 2 ^ 20
+  pub received_most : next_of b.tcb.recv ≤ length b.order * 2 ^ 20
   pub offered_most : offered b.tcb ≤ length b.order * 2 ^ 16
 
 -- the feeds of the order are the first items, its calls each thread's first ones on the connection, and there is room for all

@@ -1,5 +1,6 @@
 -- What the blocks of a squeue stand for: at the place of each connection that is here lies its block, which has had these acts.
-use Rattle.std.specs.Prelude.{◌≡◌, ℕ, ◌%◌, ◌==◌, ◌&&◌, nat_lt, Option, Some, None, List, [], Box, length, slice_get, if◌then◌else◌}
+use Rattle.std.specs.Prelude.{◌≡◌, ℕ, false, ◌%◌, ◌==◌, ◌&&◌, nat_lt, Option, Some, None, List, [], Box, length, slice_get, if◌then◌else◌}
+use Rattle.std.specs.List.{AllByRecursion}
 use Rattle.std.specs.declared.alloc.Global.{Global}
 use Rattle.perimeter_core.specs.declared.entries.Act.{Act}
 use Rattle.perimeter_core.specs.History.{Limits}
@@ -25,6 +26,14 @@ PlacesStand p calls places blocks = (c : ℕ) → PlaceFits p calls c (slice_get
 
 abbrev pub Stands : Blocks → Had → Type 0
 Stands r blocks = PlacesStand r.plan r.calls.now r.places.items blocks
+
+-- memory was never missing in what lies at a place, or at any
+abbrev pub NotShort : Option (Box BlockOf Global) → Type 0
+NotShort None = Unit {0}
+NotShort (Some b) = b.value.short ≡ false
+
+abbrev pub NoneShort : Blocks → Type 0
+NoneShort r = AllByRecursion NotShort r.places.items
 
 -- how many connections there are
 abbrev pub size_of : Blocks → ℕ

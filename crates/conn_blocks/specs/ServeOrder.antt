@@ -6,6 +6,7 @@ use Rattle.perimeter_core.specs.declared.entries.Act.TheVariants as act
 use Rattle.conn_classifier.specs.declared.kinds.Item.{Item}
 use Rattle.conn_classifier.specs.declared.kinds.Item.TheVariants as item
 use Rattle.conn_classifier.specs.Plan.{PlanOf, items_in, text_of, time_of}
+use Rattle.byte_queues.specs.ReceiveQueue.{next_of}
 use Rattle.tcb_machine.specs.BlockState.{Block, new_block, offered}
 use Rattle.tcb_machine.specs.TcpStep.{tcp_segment}
 use Rattle.tcb_machine.specs.Timers.{tcp_time}
@@ -114,5 +115,5 @@ pub record IsDone (p : PlanOf) (calls : CallLists) (c : ℕ) (a : Act) (old new 
   pub before : old.short ≡ false
   pub step : serving_of new ≡ serves_act p calls c old.service a (serving_of old)
   pub clock : SetsClock p c a old.tcb.clock new.tcb.clock
-  pub taken : new.tcb.recv.taken ≤ old.tcb.recv.taken + 2 ^ 20
+  pub received : next_of new.tcb.recv ≤ next_of old.tcb.recv + 2 ^ 20
   pub offered_more : offered new.tcb ≤ offered old.tcb + 2 ^ 16

@@ -4,7 +4,7 @@ ghost use Rattle.std.specs.Prelude.{◌≡◌, ℕ, ◌+◌, ◌<◌, ◌≤◌,
 ghost use Rattle.std.specs.List.{AllByRecursion};
 ghost use Rattle.tcb_machine.specs.BlockState.{new_block, offered};
 ghost use Rattle.tcb_machine.specs.CallAnswers.{tcp_call};
-ghost use Rattle.tcb_machine.specs.TcpStep.{said};
+ghost use Rattle.byte_queues.specs.ReceiveQueue.{next_of};
 ghost use Rattle.conn_classifier.specs.Plan.{items_in, time_of, text_len_of, text_of};
 ghost use Rattle.echo_services.specs.Pump.{followed};
 ghost use Rattle.conn_blocks.specs.CallLists.{calls_of, call_at};
@@ -15,12 +15,12 @@ use crate::calls::Calls;
 use crate::facts::{Connection, connection_of};
 use crate::stages::Stage;
 use conn_classifier::{Item, Plan, PlanView};
-use echo_services::{Service, pump};
+use echo_services::{Service, ask, serve, tick};
 use known::Known;
 use perimeter_core::Act;
 use std::alloc::{AllocError, Global};
 use std::marker::Model;
-use tcb_machine::{Answer, Call, Next, Tcb};
+use tcb_machine::{Answer, Call, Tcb};
 
 /// A connection's TCP state with the acts that made it, in order, and the answers of its calls.
 #[derive(Drop)]
@@ -124,43 +124,23 @@ impl Block {
         self.short
     }
 
-    /// Pump and output, where an act asks for them.
-    fn follow(&mut self, alloc: Global, next: Next) -> Result<(), AllocError>
-        ensures step { OnOk result (self.new ≡ record self.old { tcb = followed self.old.service (said next self.old.tcb) }) }
-        ensures clock { OnOk result (self.new.tcb.clock ≡ self.old.tcb.clock) }
-        ensures taken { OnOk result (self.new.tcb.recv.taken ≤ self.old.tcb.recv.taken + 2 ^ 20) }
-        ensures offered { OnOk result (offered self.new.tcb ≤ offered self.old.tcb + 2 ^ 16) }
-        ensures same { SameOrder self.new self.old × (self.new.short ≡ self.old.short) }
-    {
-        match next {
-            Next::Over => Ok(()),
-            Next::Go => {
-                pump(self.service, &mut self.tcb, alloc)?;
-                self.tcb.output(alloc)
-            }
-        }
-    }
-
     /// An item of the connection is received.
     fn receive(&mut self, alloc: Global, item: Item, text: &[u8]) -> Result<(), AllocError>
         requires clock { self.old.tcb.clock ≤ time_of item }
         requires time { time_of item ≤ 9007199254740992 }
         requires text { length text.now ≡ text_len_of item }
-        requires taken { self.old.tcb.recv.taken < 2 ^ 60 }
+        requires received { next_of self.old.tcb.recv < 2 ^ 60 }
         requires offered { offered self.old.tcb < 2 ^ 60 }
         ensures step { OnOk result (self.new ≡ record self.old { tcb = receives self.old.service item text.now self.old.tcb }) }
         ensures clock { OnOk result (self.new.tcb.clock ≡ time_of item) }
-        ensures taken { OnOk result (self.new.tcb.recv.taken ≤ self.old.tcb.recv.taken + 2 ^ 20) }
+        ensures received { OnOk result (next_of self.new.tcb.recv ≤ next_of self.old.tcb.recv + 2 ^ 20) }
         ensures offered { OnOk result (offered self.new.tcb ≤ offered self.old.tcb + 2 ^ 16) }
         ensures same { SameOrder self.new self.old × (self.new.short ≡ self.old.short) }
     {
         match item {
-            Item::Time { at } => self.tcb.time(alloc, at),
+            Item::Time { at } => tick(&mut self.tcb, alloc, at),
             Item::Segment { at, iss, seg, .. } => {
-                // What is ready bounds how far the received text stands past what was taken.
-                let _ready = self.tcb.ready();
-                let next = self.tcb.segment(alloc, at, iss, &seg, text)?;
-                self.follow(alloc, next)
+                serve(self.service, &mut self.tcb, alloc, at, iss, &seg, text)
             }
         }
     }
@@ -169,13 +149,13 @@ impl Block {
     fn answer_call(&mut self, alloc: Global, j: u32, k: u32, call: Call) -> Result<(), AllocError>
         ensures step { OnOk result (serving_of self.new ≡ asks self.old.service j k call (serving_of self.old)) }
         ensures clock { OnOk result (self.new.tcb.clock ≡ self.old.tcb.clock) }
-        ensures taken { OnOk result (self.new.tcb.recv.taken ≤ self.old.tcb.recv.taken + 2 ^ 20) }
+        ensures received { OnOk result (next_of self.new.tcb.recv ≤ next_of self.old.tcb.recv + 2 ^ 20) }
         ensures offered { OnOk result (offered self.new.tcb ≤ offered self.old.tcb + 2 ^ 16) }
         ensures same { SameOrder self.new self.old × (self.new.short ≡ self.old.short) }
     {
-        let (answer, next) = self.tcb.call(alloc, call)?;
+        let answer = ask(self.service, &mut self.tcb, alloc, call)?;
         self.answers.push((j, k, answer))?;
-        self.follow(alloc, next)
+        Ok(())
     }
 
     /// One act of connection `c` is done.
@@ -190,12 +170,12 @@ impl Block {
         requires conn { c < length plan.now.tuples }
         requires act { IsActOf plan.now calls.now c act }
         requires clock { IsTimely plan.now c act self.old.tcb.clock }
-        requires taken { self.old.tcb.recv.taken < 2 ^ 60 }
+        requires received { next_of self.old.tcb.recv < 2 ^ 60 }
         requires offered { offered self.old.tcb < 2 ^ 60 }
         ensures same { SameOrder self.new self.old × (self.new.short ≡ self.old.short) }
         ensures step { OnOk result (serving_of self.new ≡ serves_act plan.now calls.now c self.old.service act (serving_of self.old)) }
         ensures clock { OnOk result (SetsClock plan.now c act self.old.tcb.clock self.new.tcb.clock) }
-        ensures taken { OnOk result (self.new.tcb.recv.taken ≤ self.old.tcb.recv.taken + 2 ^ 20) }
+        ensures received { OnOk result (next_of self.new.tcb.recv ≤ next_of self.old.tcb.recv + 2 ^ 20) }
         ensures offered { OnOk result (offered self.new.tcb ≤ offered self.old.tcb + 2 ^ 16) }
     {
         match act {
@@ -216,13 +196,13 @@ impl Block {
         requires conn { c < length plan.now.tuples }
         requires act { IsActOf plan.now calls.now c act }
         requires clock { IsTimely plan.now c act self.old.tcb.clock }
-        requires taken { self.old.tcb.recv.taken < 2 ^ 60 }
+        requires received { next_of self.old.tcb.recv < 2 ^ 60 }
         requires offered { offered self.old.tcb < 2 ^ 60 }
         ensures order { OnOk result (self.new.order ≡ self.old.order ++ act ∷ []) }
         ensures same { OnOk result ((self.new.service ≡ self.old.service) × (self.new.short ≡ self.old.short)) }
         ensures step { OnOk result (serving_of self.new ≡ serves_act plan.now calls.now c self.old.service act (serving_of self.old)) }
         ensures clock { OnOk result (SetsClock plan.now c act self.old.tcb.clock self.new.tcb.clock) }
-        ensures taken { OnOk result (self.new.tcb.recv.taken ≤ self.old.tcb.recv.taken + 2 ^ 20) }
+        ensures received { OnOk result (next_of self.new.tcb.recv ≤ next_of self.old.tcb.recv + 2 ^ 20) }
         ensures offered { OnOk result (offered self.new.tcb ≤ offered self.old.tcb + 2 ^ 16) }
     {
         self.order.push(act)?;
@@ -243,7 +223,7 @@ impl Block {
         requires act { IsActOf plan.now calls.now c act }
         requires room { length self.old.order < self.old.order_room }
         requires clock { self.old.short ≡ false → IsTimely plan.now c act self.old.tcb.clock }
-        requires taken { self.old.short ≡ false → self.old.tcb.recv.taken < 2 ^ 60 }
+        requires received { self.old.short ≡ false → next_of self.old.tcb.recv < 2 ^ 60 }
         requires offered { self.old.short ≡ false → offered self.old.tcb < 2 ^ 60 }
         ensures order { self.new.order ≡ self.old.order ++ act ∷ [] }
         ensures same { (self.new.service ≡ self.old.service) × (self.new.stages ≡ self.old.stages) × (self.new.order_room ≡ self.old.order_room)

@@ -4,6 +4,7 @@
 //! from then on, and its order goes on. It knows nothing of squeues but which one it is of.
 
 ghost use Rattle.std.specs.Prelude.{◌≡◌, ◌%◌, ◌==◌, ◌<◌, All, IfOk, Some, None, [], length, if◌then◌else◌};
+ghost use Rattle.std.specs.List.{AllByRecursion};
 ghost use Rattle.conn_blocks.specs.Allowed.{all_calls, limits_in};
 
 use crate::block::Block;
@@ -30,7 +31,7 @@ pub struct Blocks<'p> {
 
 impl<'p> Blocks<'p> {
     ghost use Rattle.perimeter_core.specs.Blocks.{Blocks as Had};
-    ghost use Rattle.conn_blocks.specs.Places.{PlaceFits, PlacesStand, Stands, first_here, limits_of, origin_of, size_of};
+    ghost use Rattle.conn_blocks.specs.Places.{NoneShort, NotShort, PlaceFits, PlacesStand, Stands, first_here, limits_of, origin_of, size_of};
 
     /// A place for each connection of the plan, and new blocks of those whose first squeue is number `squeue`.
     pub fn make(
@@ -43,6 +44,7 @@ impl<'p> Blocks<'p> {
     ) -> Result<Blocks<'p>, AllocError>
         requires squeue { squeue < squeues }
         requires calls { All (λ call. call.0 < length plan.now.tuples) (all_calls calls.now) }
+        ensures whole { IfOk result (λ r. NoneShort r) }
         ensures stands { IfOk result (λ r. Stands r (first_here (length plan.now.tuples) squeue squeues)) }
         ensures size { IfOk result (λ r. size_of r ≡ length plan.now.tuples) }
         ensures limits { IfOk result (λ r. limits_of r ≡ limits_in plan.now calls.now squeue squeues spread) }
@@ -69,6 +71,7 @@ impl<'p> Blocks<'p> {
         squeues: u32,
     ) -> Result<Vec<Option<Box<Block>>>, AllocError>
         requires { squeue < squeues }
+        ensures whole { IfOk result (λ v. AllByRecursion NotShort v.items) }
         ensures stand { IfOk result (λ v. PlacesStand plan.now calls.now v.items (first_here (length plan.now.tuples) squeue squeues)) }
         ensures each { IfOk result (λ v. length v.items ≡ length plan.now.tuples) }
     {
@@ -88,7 +91,8 @@ impl<'p> Blocks<'p> {
         here: bool,
     ) -> Result<Option<Box<Block>>, AllocError>
         requires { c < length plan.now.tuples }
-        ensures { IfOk result (λ place. PlaceFits plan.now calls.now c (Some place) (if here then Some [] else None)) }
+        ensures whole { IfOk result (λ place. NotShort place) }
+        ensures fits { IfOk result (λ place. PlaceFits plan.now calls.now c (Some place) (if here then Some [] else None)) }
     {
         if !here {
             return Ok(None);

@@ -1,16 +1,19 @@
-//! The laws of settled and whole orders, of blocks that get their acts one by one, and of the places where blocks lie. Each is a function that does nothing, whose contract is the law.
+//! The laws of settled and whole orders, of blocks that get their acts one by one, and of the places where blocks lie. Each is a
+//! function that does nothing, whose contract is the law.
 
-ghost use Rattle.std.specs.Prelude.{◌≡◌, ℕ, ◌<◌, false, List, [], Option, Some, None, Box, map, length, slice_get};
+ghost use Rattle.std.specs.Prelude.{◌≡◌, ℕ, ◌<◌, Contains, false, List, [], Option, Some, None, Box, map, length, slice_get};
 ghost use Rattle.std.specs.List.{range_with_len};
 ghost use Rattle.std.specs.declared.alloc.Global.{Global};
 ghost use Rattle.perimeter_core.specs.declared.entries.Act.{Act};
 ghost use Rattle.perimeter_core.specs.declared.entries.Act.TheVariants as Act;
 ghost use Rattle.perimeter_core.specs.Blocks.{Blocks as Had};
 ghost use Rattle.conn_classifier.specs.Plan.{PlanOf, items_in};
-ghost use Rattle.conn_blocks.specs.CallLists.{CallLists, calls_of};
+ghost use Rattle.tcb_machine.specs.declared.kinds.Call.{Call};
+ghost use Rattle.conn_blocks.specs.Allowed.{all_calls};
+ghost use Rattle.conn_blocks.specs.CallLists.{CallLists, call_at, calls_of};
 ghost use Rattle.conn_blocks.specs.Orders.{is_held, numbers_on, settle, IsAll, IsWhole};
 ghost use Rattle.conn_blocks.specs.ServeOrder.{serve, serving_of, BlockOf};
-ghost use Rattle.conn_blocks.specs.Holding.{is_held_back, stage_at, IsNew, StandsFor};
+ghost use Rattle.conn_blocks.specs.Holding.{is_held_back, stage_at, HasFirstCalls, IsNew, StandsFor};
 ghost use Rattle.conn_blocks.specs.Places.{PlacesStand};
 
 /// Where all feeds came in order, and all calls in any order, what is kept is a whole order.
@@ -47,4 +50,14 @@ pub fn each_block_lies_at_its_place()
         → blocks c ≡ Some came → (b : Box BlockOf Global) × (slice_get places c ≡ Some (Some b)) × StandsFor p calls c came b.value }
     ensures away { (p : PlanOf) (calls : CallLists) (places : List (Option (Box BlockOf Global))) (blocks : Had) (c : ℕ) → PlacesStand p calls places blocks
         → blocks c ≡ None → c < length places → slice_get places c ≡ Some None }
+{}
+
+/// Settling keeps an order as it is where the calls of each thread stand in order and once, as its first ones on the connection.
+pub fn calls_in_order_settle_to_themselves()
+    ensures { (calls : CallLists) (c : ℕ) (order : List Act) → HasFirstCalls calls c order → settle calls c order ≡ order }
+{}
+
+/// A call of the lists stands among all calls.
+pub fn each_call_stands_among_all()
+    ensures { (calls : CallLists) (c j k : ℕ) (call : Call) → call_at calls j k ≡ Some (c, call) → Contains (all_calls calls) (c, j, k) }
 {}

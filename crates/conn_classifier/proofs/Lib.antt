@@ -11,3 +11,4 @@ mod TextWithin
 mod OrderLaw
 mod PlanLaw
 mod RingLaw
+mod ItemsTogether

@@ -1,12 +1,13 @@
 -- The connections of the served segments stand in record order, and each connection's items are of its own records.
-use Rattle.std.proofs.Common.{◌≡◌, ℕ, ◌+◌, ◌<◌, ◌==◌, nat_lt, max, Bool, true, false, List, [], ◌∷◌, ◌++◌, suc, zero, length, map, filter, get_or, Option, Some, None, refl, sym, ap, ◌∙◌, arith, eq-eqb}
+use Rattle.std.proofs.Common.{◌≡◌, ℕ, ◌+◌, ◌<◌, ◌≤◌, ◌==◌, nat_lt, max, Bool, true, false, List, [], ◌∷◌, ◌++◌, suc, zero, length, map, filter, get_or, Option, Some, None, refl, sym, ap, ◌∙◌, arith, eq-eqb}
 use Rattle.std.specs.List.{AllByRecursion, IsDistinct, position_from, position_or_len, filter_map}
 use Rattle.std.proofs.lemmas.Bool.{ne_eqb, ltb-true}
-use Rattle.std.proofs.lemmas.List.{get_or-map}
+use Rattle.std.proofs.lemmas.List.{get_or-map, length-map}
 use Rattle.std.proofs.lemmas.Iterator.Adapters.{position_from-zero}
 use Rattle.sq_base.specs.declared.kinds.Tuple.{Tuple}
 use Rattle.segment_codec.specs.declared.packet.Packet.{Packet}
 use Rattle.segment_codec.specs.declared.packet.Seg.{Seg}
+use Rattle.segment_codec.specs.Packet.{packet_in}
 use Rattle.capture_reader.specs.CaptureFile.{last_time}
 use Rattle.capture_reader.specs.Outcome.{CaptureFile}
 use Rattle.conn_classifier.specs.declared.kinds.Arrival.{Arrival}
@@ -93,6 +94,15 @@ module _ (ts : List Tuple) where
       by None e rest = rw e rest
       by (Some c) e rest = rw e (ap (λ l. c ∷ l) rest)
 
+  places_few : (n : ℕ) (xs : List Seen) → length (places n xs) ≤ length xs
+  unfolding place places
+  places_few n [] = omega arith
+  places_few n (x ∷ xs) = by (conn_in ts x.1) refl (places_few (suc n) xs)
+    where
+      by : (o : Option ℕ) → conn_in ts x.1 ≡ o → length (places (suc n) xs) ≤ length xs → length (places n (x ∷ xs)) ≤ length (x ∷ xs)
+      by None e rest = rw e (omega (arith, rest))
+      by (Some c) e rest = rw e (omega (arith, rest))
+
   places_climb : (n : ℕ) (xs : List Seen) → Climbs n (map (λ q. q.1) (places n xs))
   unfolding place places
   places_climb n [] = tt
@@ -151,13 +161,14 @@ records_items last (a ∷ arrived) = ap (λ l. a.rec ∷ l) (records_after last 
 nobody : Tuple
 nobody = record { client = record { 0 = 0 }; client_port = 0; server = record { 0 = 0 }; server_port = 0 }
 
-pub is_ordered : (file : CaptureFile) (verify : Bool) → IsDistinct tuple_eq (conns (decoded file verify)) → IsOrdered (plan_of file verify)
+pub is_ordered : (file : CaptureFile) (verify : Bool) → length file.packets ≤ 1048576 → IsDistinct tuple_eq (conns (decoded file verify)) → IsOrdered (plan_of file verify)
 unfolding plan_of order_of conn_items of_conn
-is_ordered file verify apart =
+is_ordered file verify few apart =
     let ts = conns (decoded file verify) in
     let xs = seen file verify in
     record {
       places = places ts 0 xs;
+      few = omega (arith, few, places_few ts 0 xs, length-map {B = Seen} file.packets (λ r. (r.time, packet_in file.link r.body verify)));
       order = order_is ts 0 xs;
       rising = places_climb ts 0 xs;
       within = places_within ts 0 xs;

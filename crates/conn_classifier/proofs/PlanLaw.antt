@@ -52,7 +52,7 @@ all_distinct : (P : Tuple → Type 0) (ts : List Tuple) → AllByRecursion P ts 
 all_distinct P [] h = tt
 all_distinct P (t ∷ ts) h = (h.0, all_filter P (λ u. not (tuple_eq u t)) (distinct ts) (all_distinct P ts h.1))
 
-length-filter_le : {X : Type 0} (p : X → Bool) (xs : List X) → length (filter p xs) ≤ length xs
+pub length-filter_le : {X : Type 0} (p : X → Bool) (xs : List X) → length (filter p xs) ≤ length xs
 length-filter_le p [] = omega arith
 length-filter_le p (x ∷ xs) = by (p x) refl (length-filter_le p xs)
   where
@@ -285,7 +285,7 @@ module _ (file : CaptureFile) (verify : Bool) (few : length file.packets ≤ 104
     listed = length-map (conns (decoded file verify)) (λ t. conn_items (last_time file.packets) t (seen file verify));
     served = all_to _ _ (λ t is. is.served) _ all_are_conns;
     each = all_map (IsItems file) (λ t. conn_items (last_time file.packets) t (seen file verify)) _ (all_to _ _ conn_is _ all_are_conns);
-    ordered = is_ordered file verify (apart_conns (decoded file verify));
+    ordered = is_ordered file verify few (apart_conns (decoded file verify));
   }
 
 twice : {X Y Z : Type 0} (f : Y → Z) (g : X → Y) (xs : List X) → map f (map g xs) ≡ map (λ x. f (g x)) xs

@@ -1,10 +1,11 @@
 -- The plan of a capture: its connections by number, and the items of each by number.
-use Rattle.std.specs.Prelude.{ℕ, ◌≡◌, ◌==◌, filter, ◌+◌, ◌<◌, ◌≤◌, Bool, true, List, [], ◌∷◌, take, drop, length, map, get_or, slice_get, IfSome}
+use Rattle.std.specs.Prelude.{sum_by, ℕ, ◌≡◌, ◌==◌, filter, ◌+◌, ◌<◌, ◌≤◌, Bool, true, List, [], ◌∷◌, take, drop, length, map, get_or, slice_get, IfSome}
 use Rattle.std.specs.List.{AllByRecursion}
 use Rattle.std.specs.Option.{option_map_or}
 use Rattle.sq_base.specs.declared.kinds.Tuple.{Tuple}
 use Rattle.segment_codec.specs.Packet.{packet_in}
 use Rattle.capture_reader.specs.CaptureFile.{last_time}
+use Rattle.capture_reader.specs.Limits.{most_records}
 use Rattle.capture_reader.specs.Outcome.{CaptureFile}
 use Rattle.conn_classifier.specs.Connections.{conns, decoded, is_served_port}
 use Rattle.conn_classifier.specs.Classes.{class_in, counts_of}
@@ -95,6 +96,7 @@ pub record IsItems (file : CaptureFile) (xs : List Item) : Type 0 where
 pub record IsOrdered (p : PlanOf) : Type 0 where
   -- by segment: its connection and its record
   pub places : List (ℕ × ℕ)
+  pub few : length places ≤ most_records
   pub order : p.order ≡ map (λ q. q.0) places
   pub rising : Climbs 0 (map (λ q. q.1) places)
   pub within : AllByRecursion (λ (q : ℕ × ℕ). q.0 < length p.tuples) places
@@ -107,3 +109,7 @@ pub record IsPlan (p : PlanOf) : Type 0 where
   pub served : AllByRecursion (λ t. is_served_port t.server_port ≡ true) p.tuples
   pub each : AllByRecursion (IsItems p.file) p.items
   pub ordered : IsOrdered p
+
+-- how many items all connections have together
+abbrev pub items_together : PlanOf → ℕ
+items_together p = sum_by (λ xs. length xs) p.items

@@ -156,7 +156,7 @@ fn hints(rt: HostRuntime) -> Result<(), Fail> {
     Ok(())
 }
 
-/// A file with eleven records of all classes but one, and a cut tail.
+/// A file with eleven records of different classes, and a cut tail.
 fn all_classes(rt: &HostRuntime) -> Result<Capture, Fail> {
     let mut bytes = Vec::from_slice(rt.alloc(), &HEADER)?;
     for (from, to) in [(4000, 7), (9, 7), (4000, 9), (7, 4000), (4000, 4001)] {

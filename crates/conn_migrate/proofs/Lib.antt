@@ -3,3 +3,4 @@ pub mod Halves
 pub mod NextFeeds
 pub mod OneSqueue
 pub mod StaysJoin
+pub mod StaysKept

@@ -7,15 +7,15 @@ use Rattle.perimeter_core.specs.declared.entries.Act.{Act}
 use Rattle.perimeter_core.specs.declared.marks.SynchAct.TheVariants as Done
 use Rattle.perimeter_core.specs.Perimeter.{State, after, is_here}
 use Rattle.perimeter_core.specs.History.{Element, Setting, start, run, run_from}
-use Rattle.perimeter_core.specs.Deeds.{acts, acts_from, acts_after, puts_in, takes_out}
+use Rattle.perimeter_core.specs.Deeds.{acts, acts_from, acts_after, reported, puts_in, takes_out}
 use Rattle.perimeter_core.specs.Legal.{Legal}
 use Rattle.perimeter_core.proofs.OneMore.{run_push, legal_ind, legal_front, legal_next}
 use Rattle.perimeter_core.proofs.BlocksFollow.{acts_push, flags}
 use Rattle.perimeter_core.proofs.RingKnows.{here_step}
 use Rattle.squeue_state.specs.Elements.{gone}
-use Rattle.conn_migrate.specs.Stays.{Stay, Stays, as_list, all_in, begun, longer_by, reported, stays_after, stays_from, stays, EndsAStay}
+use Rattle.conn_migrate.specs.Stays.{Stay, Stays, as_list, all_in, begun, longer_by, stays_after, stays_from, stays, EndsAStay}
 
-stays_push : (c : ℕ) (s : State) (had : List Act) (v : Stays) (H : List Element) (e : Element) → stays_from c s had v (H ++ e ∷ []) ≡ stays_after c (run_from s H) (acts_from c s had H) (stays_from c s had v H) e
+pub stays_push : (c : ℕ) (s : State) (had : List Act) (v : Stays) (H : List Element) (e : Element) → stays_from c s had v (H ++ e ∷ []) ≡ stays_after c (run_from s H) (acts_from c s had H) (stays_from c s had v H) e
 stays_push c s had v [] e = refl
 stays_push c s had v (x ∷ H) e = stays_push c (after s x.mark) (acts_after c s had x) (stays_after c s had v x) H e
 
@@ -76,7 +76,7 @@ fits S c H l =
     legal_ind S (λ (G : List Element). Fits (is_here (run S G) c) (acts S G c) (stays S G c)) (fits_start (is_here (start S) c))
     (λ G e k i m.
     rw (run_push (start S) G e, acts_push c (start S) [] G e, stays_push c (start S) [] record { ended = []; now = if is_here (start S) c then Some (begun []) else None } G e, here_step S (run S G) e.mark c m.range (flags (start S) G))
-    (fits_after (puts_in c e.mark) (takes_out c e.mark) (is_here (run S G) c) (acts S G c) (reported c (run S G) e) e.note (stays S G c) i))
+    (fits_after (puts_in c e.mark) (takes_out c e.mark) (is_here (run S G) c) (acts S G c) (reported c (run S G) e.mark) e.note (stays S G c) i))
     H l
 
 -- the first stay, if there is one from the start, came with nothing
@@ -105,7 +105,7 @@ begins_from : (c : ℕ) (s : State) (had : List Act) (v : Stays) (H : List Eleme
 begins_from c s had v [] h = h
 begins_from c s had v (e ∷ H) h =
     begins_from c (after s e.mark) (acts_after c s had e) (stays_after c s had v e) H
-    (begins_after (puts_in c e.mark) (takes_out c e.mark) (reported c s e) (acts_after c s had e) e.note v h)
+    (begins_after (puts_in c e.mark) (takes_out c e.mark) (reported c s e.mark) (acts_after c s had e) e.note v h)
 
 pub begins : (S : Setting) (c : ℕ) (H : List Element) → is_here (start S) c ≡ true → BeginsWithNothing (all_in (stays S H c))
 begins S c H here = begins_from c (start S) [] record { ended = []; now = if is_here (start S) c then Some (begun []) else None } H (rw here refl)
@@ -157,9 +157,9 @@ out_ends S H p rest c l =
     let same : (c == c) ≡ true = grind (arith, nat_tests) in
     let had : List Act = acts_after c s (acts S H c) e in
     record {
-      last = record { note = now.0.note; own = now.0.own ++ reported c s e; had = acts_after c s (acts S H c) e };
+      last = record { note = now.0.note; own = now.0.own ++ reported c s e.mark; had = acts_after c s (acts S H c) e };
       ends =
           stays_push c (start S) [] record { ended = []; now = if is_here (start S) c then Some (begun []) else None } H e
-          ∙ ended_with (c == c) (reported c s e) had v.ended v.now now.0 same now.1;
+          ∙ ended_with (c == c) (reported c s e.mark) had v.ended v.now now.0 same now.1;
       has_all = sym (acts_push c (start S) [] H e);
     }

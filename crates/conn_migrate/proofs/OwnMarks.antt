@@ -13,6 +13,7 @@ use Rattle.perimeter_core.specs.Legal.{Legal, feeds_by, asks_by, feed_count, ask
 use Rattle.perimeter_core.specs.Knowledge.{here_by}
 use Rattle.perimeter_core.proofs.OneMore.{legal_front}
 use Rattle.perimeter_core.proofs.RingKnows.{ring_knows}
+use Rattle.perimeter_core.proofs.OwnCounts.{own_counts}
 use Rattle.squeue_state.specs.Naming.{Named, setting_of}
 use Rattle.squeue_state.specs.Elements.{number_of, gone, asked, claimed_ask, granted, accepted}
 use Rattle.squeue_state.proofs.Makers.{only_made}
@@ -20,16 +21,6 @@ use Rattle.synch_enter.specs.Synch.{IsWay}
 use Rattle.synch_enter.proofs.Asking.{by_append}
 use Rattle.synch_enter.proofs.Knowing.{here_append, left_append}
 use Rattle.conn_migrate.specs.Moving.{Moved, IsKept, RingLearns}
-
--- what a pass has entered is in its own elements
-counted : (p : ℕ) (e : Element) (H K : List Element) (b : Bool) → (pass_of e.mark == p) ≡ b → (feeds_by p H ≡ feeds_by p K) × (asks_by p H ≡ asks_by p K)
-    → ((if b then feed_count (entries_of e.mark) else 0) + feeds_by p H ≡ feeds_by p (if b then e ∷ K else K)) × ((if b then ask_count (entries_of e.mark) else 0) + asks_by p H ≡ asks_by p (if b then e ∷ K else K))
-counted p e H K true is same = rw is (omega (arith, same.0), omega (arith, same.1))
-counted p e H K false is same = (omega (arith, same.0), omega (arith, same.1))
-
-own_counts : (p : ℕ) (H : List Element) → (feeds_by p H ≡ feeds_by p (made_by p H)) × (asks_by p H ≡ asks_by p (made_by p H))
-own_counts p [] = (refl, refl)
-own_counts p (e ∷ H) = counted p e H (made_by p H) (pass_of e.mark == p) refl (own_counts p H)
 
 due_append : (c n : ℕ) (H K : List Element) → due_from c n (H ++ K) ≡ due_from c (due_from c n H) K
 due_append c n [] K = refl

@@ -3,7 +3,7 @@ use Rattle.std.specs.Prelude.{◌≡◌, ℕ, zero, suc, ◌+◌, ◌/◌, ◌%�
 use Rattle.perimeter_core.specs.declared.entries.Act.{Act}
 use Rattle.perimeter_core.specs.Perimeter.{State, after, is_here}
 use Rattle.perimeter_core.specs.History.{Element, Setting, start}
-use Rattle.perimeter_core.specs.Deeds.{acts, acts_after, call_act, done_by, feed_acts, puts_in, takes_out}
+use Rattle.perimeter_core.specs.Deeds.{acts, acts_after, reported, puts_in, takes_out}
 use Rattle.perimeter_core.specs.Legal.{Legal}
 use Rattle.squeue_state.specs.Naming.{Ending}
 
@@ -34,16 +34,12 @@ abbrev pub longer_by : List Act → List Act → Option Stay → Option Stay
 longer_by more had None = None
 longer_by more had (Some v) = Some (record { note = v.note; own = v.own ++ more; had = had })
 
--- what a mark in the state s reports of c
-abbrev pub reported : ℕ → State → Element → List Act
-reported c s e = feed_acts c (done_by s e.mark) ++ call_act c e.mark
-
 -- An In begins a stay. What any other mark reports is done in the stay that goes on, and an Out then ends it
 abbrev pub stays_after : ℕ → State → List Act → Stays → Element → Stays
 stays_after c s had v e =
     if puts_in c e.mark then record { ended = all_in v; now = Some (begun e.note) }
-    else if takes_out c e.mark then record { ended = v.ended ++ as_list (longer_by (reported c s e) (acts_after c s had e) v.now); now = None }
-    else record { ended = v.ended; now = longer_by (reported c s e) (acts_after c s had e) v.now }
+    else if takes_out c e.mark then record { ended = v.ended ++ as_list (longer_by (reported c s e.mark) (acts_after c s had e) v.now); now = None }
+    else record { ended = v.ended; now = longer_by (reported c s e.mark) (acts_after c s had e) v.now }
 
 abbrev pub stays_from : ℕ → State → List Act → Stays → List Element → Stays
 stays_from c s had v [] = v
@@ -52,6 +48,28 @@ stays_from c s had v (e ∷ H) = stays_from c (after s e.mark) (acts_after c s h
 -- where the block is here at the start, its first stay begins there
 abbrev pub stays : Setting → List Element → ℕ → Stays
 stays S H c = stays_from c (start S) [] record { ended = []; now = if is_here (start S) c then Some (begun []) else None } H
+
+-- all that a history reports of c, in order
+abbrev pub reports_from : ℕ → State → List Element → List Act
+reports_from c s [] = []
+reports_from c s (e ∷ H) = reported c s e.mark ++ reports_from c (after s e.mark) H
+
+abbrev pub reports : Setting → List Element → ℕ → List Act
+reports S H c = reports_from c (start S) H
+
+-- what was done in stays, one after another
+abbrev pub done_in : List Stay → List Act
+done_in [] = []
+done_in (v ∷ vs) = v.own ++ done_in vs
+
+abbrev pub note_of : Option Stay → Option (List Act)
+note_of None = None
+note_of (Some v) = Some v.note
+
+-- the same stays have ended, and the one that goes on came with the same note
+pub record AreSameStays (before now : Stays) : Type 0 where
+  pub ended : now.ended ≡ before.ended
+  pub note : note_of now.now ≡ note_of before.now
 
 -- The element ended the stay that went on, which then has all that was ever done to the block
 pub record EndsAStay (S : Setting) (H : List Element) (e : Element) (c : ℕ) : Type 0 where
@@ -84,6 +102,12 @@ StartsAtHome hs c = (q : ℕ) (h : Ending) → slice_get hs q ≡ Some h → is_
 -- The In that begins stay s + 1 notes all that was done to the block up to and including the Out that ended stay s
 abbrev pub IsLinked : List Ending → ℕ → Type 0
 IsLinked hs c = (s : ℕ) (v : Stay) → stay hs c (s + 1) ≡ Some v → (u : Stay) × (ended_stay hs c s ≡ Some u) × (v.note ≡ u.had)
+
+-- The histories of all squeues, in which connections 0 to n - 1 begin at home and go from stay to stay
+pub record AreLinked (n : ℕ) (hs : List Ending) : Type 0 where
+  pub legal : AreLegal hs
+  pub home : (c : ℕ) → c < n → StartsAtHome hs c
+  pub linked : (c : ℕ) → c < n → IsLinked hs c
 
 abbrev pub own_of : Option Stay → List Act
 own_of None = []

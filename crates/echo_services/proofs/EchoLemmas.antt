@@ -29,15 +29,15 @@ record Leaves (b c : Block) : Type 0 where
   wanted : c.fin_wanted ≡ false → b.fin_wanted ≡ false
   out : c.fin_wanted ≡ false → take (c.acked - b.acked) b.out ++ c.out ≡ b.out ++ next_bytes (c.recv.taken - b.recv.taken) b.recv
 
-join-open : (t : Bool) (xs ys zs : List ℕ) → t ≡ false → xs ++ zs ≡ ys → cond t [] xs ++ zs ≡ cond t [] ys
+pub join-open : (t : Bool) (xs ys zs : List ℕ) → t ≡ false → xs ++ zs ≡ ys → cond t [] xs ++ zs ≡ cond t [] ys
 join-open true xs ys zs e h = absurd (false≢true (sym e))
 join-open false xs ys zs e h = h
 
-join-new : (t : Bool) (xs ys zs : List ℕ) → t ≡ true → zs ≡ [] → cond t [] xs ++ zs ≡ cond t [] ys
+pub join-new : (t : Bool) (xs ys zs : List ℕ) → t ≡ true → zs ≡ [] → cond t [] xs ++ zs ≡ cond t [] ys
 join-new true xs ys zs e h = h
 join-new false xs ys zs e h = absurd (false≢true e)
 
-new-out : (b : Block) → b ≡ to_listen b → b.out ≡ []
+pub new-out : (b : Block) → b ≡ to_listen b → b.out ≡ []
 unfolding to_listen
 new-out b e = ap (λ (x : Block). x.out) e
 
@@ -54,7 +54,7 @@ echoing-open w c h l f =
 echoing-new : (w : Whole) (c : Block) → is_listen c.state ≡ true → IsValid c → IsEchoing (follows w c)
 echoing-new w c e v f = join-new (is_listen c.state) _ _ c.out e (new-out c (v.new e))
 
-no-bytes : (n : ℕ) (q : Recv) → n ≡ 0 → next_bytes n q ≡ []
+pub no-bytes : (n : ℕ) (q : Recv) → n ≡ 0 → next_bytes n q ≡ []
 unfolding next_bytes
 no-bytes n q e = ap (λ (k : ℕ). next_bytes k q) e
 
@@ -79,7 +79,7 @@ echoing-moved w c h (as_new e v) = echoing-new w c e v
 
 -- with the clock set first
 clock-moves : (n : ℕ) (b c : Block) → Moves (record b { clock = n }) c → Moves b c
-clock-moves n b c m = let k = m.keeps in record { opened = m.opened; keeps = record { recv = k.recv; send = k.send; mss = k.mss; ours = k.ours; taken = k.taken; from = k.from; offered = k.offered; out = k.out; wanted = k.wanted } }
+clock-moves n b c m = let k = m.keeps in record { opened = m.opened; keeps = record { recv = k.recv; send = k.send; mss = k.mss; ours = k.ours; taken = k.taken; from = k.from; offered = k.offered; out = k.out; wanted = k.wanted; timed = k.timed } }
 
 clock-moved : (n : ℕ) (b c : Block) → Moved (record b { clock = n }) c → Moved b c
 clock-moved n b c (moves m) = moves (clock-moves n b c m)
@@ -87,10 +87,10 @@ clock-moved n b c (as_new e v) = as_new e v
 
 -- the pump
 
-record Echoed (b c : Block) : Type 0 where
-  acked : c.acked ≡ b.acked
-  wanted : c.fin_wanted ≡ b.fin_wanted
-  out : c.out ≡ b.out ++ next_bytes (c.recv.taken - b.recv.taken) b.recv
+pub record Echoed (b c : Block) : Type 0 where
+  pub acked : c.acked ≡ b.acked
+  pub wanted : c.fin_wanted ≡ b.fin_wanted
+  pub out : c.out ≡ b.out ++ next_bytes (c.recv.taken - b.recv.taken) b.recv
 
 rests : (b : Block) → Echoed b b
 rests b = record { acked = refl; wanted = refl; out = sym (append-nil b.out) ∙ ap (λ (xs : List ℕ). b.out ++ xs) (sym (no-bytes (b.recv.taken - b.recv.taken) b.recv (omega arith))) }
@@ -99,7 +99,7 @@ gives-back : (n : ℕ) (b : Block) → Echoed b (echoes n b)
 unfolding without
 gives-back n b = let e : n ≡ b.recv.taken + n - b.recv.taken = omega arith in record { acked = refl; wanted = refl; out = ap (λ (k : ℕ). b.out ++ next_bytes k b.recv) e }
 
-echoed-in : (st : State) (b : Block) → Echoed b (echoes_in st b)
+pub echoed-in : (st : State) (b : Block) → Echoed b (echoes_in st b)
 echoed-in Listen b = rests b
 echoed-in SynReceived b = rests b
 echoed-in Established b = gives-back (min (ready_of b.recv) (room_of b.out)) b
@@ -110,7 +110,7 @@ echoed-in Closing b = rests b
 echoed-in LastAck b = rests b
 echoed-in TimeWait b = rests b
 
-nothing-gone : (n : ℕ) (xs ys : List ℕ) → n ≡ 0 → take n xs ++ ys ≡ ys
+pub nothing-gone : (n : ℕ) (xs ys : List ℕ) → n ≡ 0 → take n xs ++ ys ≡ ys
 nothing-gone n xs ys e = ap (λ (k : ℕ). take k xs ++ ys) e
 
 -- where our FIN isn't wanted afterwards
@@ -161,7 +161,7 @@ echoing-followed w (go c) h s =
     let w2 = follows w1 d in
     echoing-moved w2 (output d) (echoing-pumped w1 s.opened v (echoing-moved w c h (moves s))) (output-moved d (pumps-valid c d v (pumping Echo c s.opened v)))
 
-clock-says : (n : ℕ) (b : Block) (v : Verdict) → Says (record b { clock = n }) v → Says b v
+pub clock-says : (n : ℕ) (b : Block) (v : Verdict) → Says (record b { clock = n }) v → Says b v
 clock-says n b (over c) s = clock-moved n b c s
 clock-says n b (go c) s = clock-moves n b c s
 clock-says n b (on c) s = clock-moves n b c s

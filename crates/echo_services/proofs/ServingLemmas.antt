@@ -1,27 +1,25 @@
 -- A served connection: its block stays valid, the lists beside it keep their counts, and a segment adds little.
-use Rattle.std.proofs.Common.{◌≡◌, ℕ, ◌+◌, ◌-◌, ◌^◌, ◌<◌, ◌≤◌, List, [], ◌∷◌, ◌++◌, Bool, true, false, cond, not, ◌==◌, ◌&&◌, length, drop, take, min, refl, sym, ap, ◌∙◌, subst, arith, length-take, length-append}
+use Rattle.std.proofs.Common.{◌≡◌, ℕ, ◌+◌, ◌-◌, ◌^◌, ◌<◌, ◌≤◌, List, [], ◌∷◌, ◌++◌, Bool, true, false, cond, not, ◌==◌, ◌&&◌, length, take, min, refl, sym, ap, ◌∙◌, subst, arith, length-take, length-append}
 use Rattle.std.specs.Prelude.{All}
 use Rattle.std.proofs.lemmas.Bool.{false≢true}
 use Rattle.segment_codec.specs.declared.packet.Seg.{Seg}
 use Rattle.segment_codec.specs.declared.packet.Reply.{Reply}
-use Rattle.byte_queues.specs.ReceiveQueue.{Recv, front, up_to, next_of, ready_of, next_bytes, without}
+use Rattle.byte_queues.specs.ReceiveQueue.{Recv, next_of, ready_of, next_bytes, without}
 use Rattle.byte_queues.specs.SendQueue.{room_of}
-use Rattle.byte_queues.proofs.CellLemmas.{front-drop}
-use Rattle.byte_queues.proofs.QueueLemmas.{up-to-le}
 use Rattle.byte_queues.proofs.WholeLemmas.{next-count}
 use Rattle.tcb_machine.specs.BlockState.{Block, IsOurs, new_block, offered, to_listen}
 use Rattle.tcb_machine.specs.CallAnswers.{tcp_call, close_in, wants_fin}
 use Rattle.tcb_machine.specs.Output.{output}
 use Rattle.tcb_machine.specs.States.{is_listen}
-use Rattle.tcb_machine.specs.TcpStep.{Verdict, over, go, on, tcp_segment}
+use Rattle.tcb_machine.specs.TcpStep.{Verdict, over, go, on, is_time_wait, tcp_segment}
 use Rattle.tcb_machine.specs.Timers.{tcp_time}
-use Rattle.tcb_machine.specs.Validity.{IsValid, IsReceiving, IsSending, left_by}
+use Rattle.tcb_machine.specs.Validity.{IsValid, IsReceiving, IsSending, IsTimed, left_by}
 use Rattle.tcb_machine.specs.declared.kinds.Call.{Call}
 use Rattle.tcb_machine.specs.declared.kinds.Call.TheVariants as call
 use Rattle.tcb_machine.specs.declared.kinds.State.{State}
 use Rattle.tcb_machine.specs.declared.kinds.State.TheVariants.{Listen, SynReceived, Established, FinWait1, FinWait2, CloseWait, Closing, LastAck, TimeWait}
 use Rattle.tcb_machine.proofs.KeepLemmas.{output-same, output-offered, time-less, time-offered}
-use Rattle.tcb_machine.proofs.QueueLemmas.{without_below, without_read}
+use Rattle.tcb_machine.proofs.QueueLemmas.{without_below, without_read, next_without}
 use Rattle.tcb_machine.proofs.ValidLemmas.{Moved, moves, as_new, Says, new-valid, moves-valid, moved-valid, segment-says, segment-next, segment-offered, call-says, call-next, buffer-offered, output-moved, time-moved}
 use Rattle.echo_services.specs.Pump.{throws, echoes, echoes_in, moves as moves_text, is_close_wait, ends, pump, followed}
 use Rattle.echo_services.specs.Serving.{Entry, segment, time, asks, enters, serves}
@@ -35,20 +33,13 @@ pub record Pumps (b c : Block) : Type 0 where
   pub recv : IsReceiving c.want c.recv
   pub send : IsSending c.acked c.sent c.out
   pub mss : c.mss ≡ b.mss
+  pub timed : IsTimed c.state c.time_wait_at c.retransmit_at
   pub replies : c.replies ≡ b.replies
   pub least : b.recv.taken ≤ c.recv.taken
   pub most : c.recv.taken - b.recv.taken ≤ ready_of b.recv
   pub next : next_of c.recv ≡ next_of b.recv
   pub acked : c.acked ≡ b.acked
   pub out : length c.out ≤ length b.out + 65535
-
-next-without : (n : ℕ) (q : Recv) → n ≤ ready_of q → next_of (without n q) ≡ next_of q
-unfolding without next_of ready_of
-next-without n q w =
-    let u = up-to-le q.stream_end (q.taken + front q.got) in
-    let d = front-drop n q.got (omega (arith, w, u)) in
-    let reach : q.taken + n + front (drop n q.got) ≡ q.taken + front q.got = omega (arith, d) in
-    ap (up_to q.stream_end) reach
 
 without-receiving : (want n : ℕ) (q : Recv) → n ≤ ready_of q → IsReceiving want q → IsReceiving want (without n q)
 unfolding without
@@ -69,10 +60,11 @@ taking n text b e v w t =
       recv = without-receiving b.want n b.recv w v.recv;
       send = record { acked_sent = a; sent_out = omega (arith, s, l) };
       mss = refl;
+      timed = v.timed;
       replies = refl;
       least = omega arith;
       most = omega (arith, w);
-      next = next-without n b.recv w;
+      next = next_without n b.recv w;
       acked = refl;
       out = omega (arith, l, t);
     }
@@ -86,16 +78,17 @@ throwing b e v =
       recv = without-receiving b.want n b.recv (omega arith) v.recv;
       send = v.send;
       mss = refl;
+      timed = v.timed;
       replies = refl;
       least = omega arith;
       most = omega arith;
-      next = next-without n b.recv (omega arith);
+      next = next_without n b.recv (omega arith);
       acked = refl;
       out = omega arith;
     }
 
 resting : (b : Block) → is_listen b.state ≡ false → IsValid b → Pumps b b
-resting b e v = record { opened = e; recv = v.recv; send = v.send; mss = refl; replies = refl; least = omega arith; most = omega arith; next = refl; acked = refl; out = omega arith }
+resting b e v = record { opened = e; recv = v.recv; send = v.send; mss = refl; timed = v.timed; replies = refl; least = omega arith; most = omega arith; next = refl; acked = refl; out = omega arith }
 
 echoing : (b : Block) → is_listen b.state ≡ false → IsValid b → Pumps b (echoes (min (ready_of b.recv) (room_of b.out)) b)
 echoing b e v =
@@ -119,14 +112,26 @@ moving Discard wanted b e v = throwing b e v
 moving Echo true b e v = throwing b e v
 moving Echo false b e v = echoing-in b.state b e v
 
-pumps-cond : (t : Bool) (b x y : Block) → Pumps b x → Pumps b y → Pumps b (cond t x y)
-pumps-cond true b x y p q = p
-pumps-cond false b x y p q = q
+pumps-if : (t : Bool) (b x y : Block) → (t ≡ true → Pumps b x) → Pumps b y → Pumps b (cond t x y)
+pumps-if true b x y p q = p refl
+pumps-if false b x y p q = q
+
+closed-elsewhere : (st : State) (t : Bool) → (is_close_wait st && t) ≡ true → is_time_wait st ≡ false
+closed-elsewhere CloseWait t e = refl
+closed-elsewhere Listen t e = refl
+closed-elsewhere SynReceived t e = refl
+closed-elsewhere Established t e = refl
+closed-elsewhere FinWait1 t e = refl
+closed-elsewhere FinWait2 t e = refl
+closed-elsewhere Closing t e = refl
+closed-elsewhere LastAck t e = refl
+closed-elsewhere TimeWait t e = absurd (false≢true e)
 
 ending : (b c : Block) → Pumps b c → Pumps b (ends c)
 ending b c p =
-    pumps-cond (is_close_wait c.state && ((ready_of c.recv == 0) && not c.fin_wanted)) b (wants_fin LastAck c) c
-    (record { opened = refl; recv = p.recv; send = p.send; mss = p.mss; replies = p.replies; least = p.least; most = p.most; next = p.next; acked = p.acked; out = p.out }) p
+    let rest = (ready_of c.recv == 0) && not c.fin_wanted in
+    pumps-if (is_close_wait c.state && rest) b (wants_fin LastAck c) c
+    (λ e. record { opened = refl; recv = p.recv; send = p.send; mss = p.mss; timed = record { elsewhere = λ f. p.timed.elsewhere (closed-elsewhere c.state rest e); there = λ f. absurd (false≢true f) }; replies = p.replies; least = p.least; most = p.most; next = p.next; acked = p.acked; out = p.out }) p
 
 pub pumping : (service : Service) (b : Block) → is_listen b.state ≡ false → IsValid b → Pumps b (pump service b)
 unfolding pump
@@ -139,7 +144,7 @@ pub pumps-valid : (b c : Block) → IsValid b → Pumps b c → IsValid c
 pumps-valid b c v p =
     let m = p.mss in
     let o = v.mss in
-    record { recv = p.recv; send = p.send; mss = omega (arith, m, o); ours = subst (λ (rs : List Reply). All IsOurs rs) (sym p.replies) v.ours; new = closed c.state c p.opened }
+    record { recv = p.recv; send = p.send; mss = omega (arith, m, o); timed = p.timed; ours = subst (λ (rs : List Reply). All IsOurs rs) (sym p.replies) v.ours; new = closed c.state c p.opened }
 
 -- the block after pump and output, where they follow
 

@@ -2,3 +2,4 @@ pub mod Pump
 pub mod Serving
 pub mod WholeStreams
 pub mod Worked
+pub mod Exchanges

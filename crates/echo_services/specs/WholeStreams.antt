@@ -8,6 +8,8 @@ use Rattle.tcb_machine.specs.States.{is_listen}
 use Rattle.tcb_machine.specs.TcpStep.{Verdict, over, go, on, tcp_segment}
 use Rattle.tcb_machine.specs.Timers.{tcp_time}
 use Rattle.tcb_machine.specs.Validity.{IsAskable}
+use Rattle.tcb_machine.specs.declared.kinds.Call.{Call}
+use Rattle.tcb_machine.specs.declared.kinds.Call.TheVariants as call
 use Rattle.echo_services.specs.Pump.{pump}
 use Rattle.echo_services.specs.Serving.{Entry, segment, time, asks}
 use Rattle.echo_services.specs.declared.service.Service.{Service}
@@ -71,3 +73,18 @@ AreBetween [] = Unit {0}
 AreBetween (segment now iss s text ∷ es) = ⊥
 AreBetween (time to ∷ es) = AreBetween es
 AreBetween (asks call ∷ es) = IsAskable call × AreBetween es
+
+-- no program closes
+abbrev pub IsNotClose : Call → Type 0
+IsNotClose call.Close = ⊥
+IsNotClose call.Status = Unit {0}
+IsNotClose (call.Buffer n) = Unit {0}
+
+abbrev pub IsNoClose : Entry → Type 0
+IsNoClose (segment now iss s text) = Unit {0}
+IsNoClose (time to) = Unit {0}
+IsNoClose (asks c) = IsNotClose c
+
+abbrev pub HasNoClose : List Entry → Type 0
+HasNoClose [] = Unit {0}
+HasNoClose (e ∷ es) = IsNoClose e × HasNoClose es

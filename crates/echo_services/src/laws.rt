@@ -6,7 +6,7 @@ ghost use Rattle.segment_codec.specs.declared.packet.Seg.{Seg};
 ghost use Rattle.tcb_machine.specs.BlockState.{Block, new_block, offered};
 ghost use Rattle.tcb_machine.specs.Validity.{IsValid};
 ghost use Rattle.echo_services.specs.Serving.{Entry, segment, serves};
-ghost use Rattle.echo_services.specs.WholeStreams.{IsBeside, AreEntries, AreBetween, all_offered, whole_serves, whole_new};
+ghost use Rattle.echo_services.specs.WholeStreams.{IsBeside, AreEntries, AreBetween, HasNoClose, all_offered, whole_serves, whole_new};
 ghost use Rattle.echo_services.specs.declared.service.Service.{Service};
 ghost use Rattle.echo_services.specs.declared.service.Service.TheVariants.{Echo};
 
@@ -29,7 +29,10 @@ pub fn a_segment_adds_little()
     ensures offered { (service : Service) (now iss : ℕ) (s : Seg) (text : List ℕ) (es : List Entry) (b : Block) → AreBetween es → IsValid b → offered (serves service (segment now iss s text ∷ es) b) < offered b + 2 ^ 21 }
 {}
 
-/// What echo has offered since LISTEN is what it took, byte for byte, as long as our FIN isn't wanted (RFC 862).
+/// What echo has offered since LISTEN is what it took, byte for byte, as long as our FIN isn't wanted (RFC 862). Where no program
+/// closes, it is so behind the close too: our FIN follows all that the peer sent before its own.
 pub fn echo_offers_what_it_took()
-    ensures { (es : List Entry) → AreEntries es → (whole_serves Echo es whole_new).block.fin_wanted ≡ false → all_offered (whole_serves Echo es whole_new) ≡ (whole_serves Echo es whole_new).read }
+    ensures before { (es : List Entry) → AreEntries es → (whole_serves Echo es whole_new).block.fin_wanted ≡ false
+        → all_offered (whole_serves Echo es whole_new) ≡ (whole_serves Echo es whole_new).read }
+    ensures behind { (es : List Entry) → AreEntries es → HasNoClose es → all_offered (whole_serves Echo es whole_new) ≡ (whole_serves Echo es whole_new).read }
 {}

@@ -3,7 +3,7 @@
 ghost use Rattle.std.specs.Prelude.{◌≡◌, ◌+◌, ◌≤◌, ◌⊎◌, min, OnOk};
 ghost use Rattle.tcb_machine.specs.BlockState.{Block, offered};
 ghost use Rattle.echo_services.specs.Pump.{service_of, moves, echoes_in, ends, echoes, pump};
-ghost use Rattle.byte_queues.specs.ReceiveQueue.{ready_of};
+ghost use Rattle.byte_queues.specs.ReceiveQueue.{next_of, ready_of};
 ghost use Rattle.byte_queues.specs.SendQueue.{room_of};
 
 use std::alloc::{AllocError, Global};
@@ -37,6 +37,7 @@ pub fn pump(service: Service, tcb: &mut Tcb, alloc: Global) -> Result<(), AllocE
     ensures moved { OnOk result (tcb.new ≡ pump service tcb.old) }
     ensures clock { OnOk result (tcb.new.clock ≡ tcb.old.clock) }
     ensures taken { OnOk result (tcb.new.recv.taken ≤ tcb.old.recv.taken + 1048576) }
+    ensures next { OnOk result (next_of tcb.new.recv ≡ next_of tcb.old.recv) }
     ensures offered { OnOk result (offered tcb.new ≤ offered tcb.old + 65535) }
 {
     move_text(service, tcb, alloc)?;
@@ -50,6 +51,7 @@ fn move_text(service: Service, tcb: &mut Tcb, alloc: Global) -> Result<(), Alloc
     ensures moved { OnOk result (tcb.new ≡ moves service tcb.old.fin_wanted tcb.old) }
     ensures clock { OnOk result (tcb.new.clock ≡ tcb.old.clock) }
     ensures taken { OnOk result (tcb.new.recv.taken ≤ tcb.old.recv.taken + 1048576) }
+    ensures next { OnOk result (next_of tcb.new.recv ≡ next_of tcb.old.recv) }
     ensures offered { OnOk result (offered tcb.new ≤ offered tcb.old + 65535) }
 {
     if tcb.fin_wanted() || matches!(service, Service::Discard) {
@@ -68,6 +70,7 @@ fn echo(tcb: &mut Tcb, alloc: Global) -> Result<(), AllocError>
     ensures moved { OnOk result (tcb.new ≡ echoes (min (ready_of tcb.old.recv) (room_of tcb.old.out)) tcb.old) }
     ensures clock { OnOk result (tcb.new.clock ≡ tcb.old.clock) }
     ensures taken { OnOk result (tcb.new.recv.taken ≤ tcb.old.recv.taken + 1048576) }
+    ensures next { OnOk result (next_of tcb.new.recv ≡ next_of tcb.old.recv) }
     ensures offered { OnOk result (offered tcb.new ≤ offered tcb.old + 65535) }
 {
     let n = tcb.ready().min(tcb.room());
@@ -81,6 +84,7 @@ fn end(tcb: &mut Tcb)
     ensures ended { tcb.new ≡ ends tcb.old }
     ensures clock { tcb.new.clock ≡ tcb.old.clock }
     ensures taken { tcb.new.recv.taken ≡ tcb.old.recv.taken }
+    ensures next { next_of tcb.new.recv ≡ next_of tcb.old.recv }
     ensures offered { offered tcb.new ≡ offered tcb.old }
 {
     if matches!(tcb.state(), State::CloseWait) && tcb.ready() == 0 && !tcb.fin_wanted() {

@@ -1,6 +1,8 @@
 //! Worked exchanges, computed on the definitions: what one connection is given, what the echo service sends, and the state then.
 //! Each is a function that does nothing, whose contract is the exchange.
 
+ghost use Rattle.std.specs.List.{AllByRecursion};
+ghost use Rattle.echo_services.specs.Exchanges.{IsAnswered, exchanges as all_exchanges};
 ghost use Rattle.echo_services.specs.Worked as row;
 ghost use Rattle.echo_services.specs.Worked.{IsEchoed};
 
@@ -82,4 +84,9 @@ pub fn scaled_small_window()
 /// A shift over 14 counts as 14.
 pub fn scale_over_fourteen()
     ensures { IsEchoed row.scale_over_fourteen }
+{}
+
+/// All further exchanges: each state, each check of a segment, each deadline, and discard.
+pub fn exchanges()
+    ensures { AllByRecursion IsAnswered all_exchanges }
 {}

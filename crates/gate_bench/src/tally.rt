@@ -120,7 +120,7 @@ impl Tally {
     {
         let mut pass = pass;
         for _ in 0..turns {
-            let held = gate.hold(rt, pass);
+            let held = gate.hold_soon(rt, pass);
             pass = Tally::take_turn(gate, held, rounds);
         }
         pass

@@ -1,9 +1,9 @@
 //! A value that keeps its own history: each element is a line of the diary, and it has no other lines.
 
-ghost use Rattle.std.specs.Prelude.{◌≡◌, [], ◌∷◌, ◌++◌, ◌⊎◌, IfOk};
+ghost use Rattle.std.specs.Prelude.{◌≡◌, [], ◌∷◌, ◌++◌, IfOk};
 ghost use Rattle.turn_gate.specs.Gates.{gate_id};
-ghost use Rattle.turn_gate.specs.Passes.{IsPassOf, number, mine};
-ghost use Rattle.turn_gate.specs.Helds.{IsHeldOf, held_number, held_seen, held_mine, held_value};
+ghost use Rattle.turn_gate.specs.Passes.{IsPassOf, freed_once, number, mine, steps};
+ghost use Rattle.turn_gate.specs.Helds.{IsHeldOf, held_number, held_seen, held_mine, held_steps, held_value};
 
 use std::alloc::{AllocError, Global};
 use std::marker::Brand;
@@ -35,28 +35,32 @@ impl Storied for Diary {
 }
 
 impl Diary {
-    ghost use Rattle.gate_trial.specs.Diary.{IsDiary, writer, line, lines_of};
+    ghost use Rattle.gate_trial.specs.Diary.{HasRoom, IsDiary, writer, line, lines_of, room_of};
 
     /// An empty diary with room for so many lines.
     pub fn with_room(alloc: Global, room: usize) -> Result<Diary, AllocError>
-        ensures { IfOk result (λ d. lines_of d ≡ []) }
+        ensures { IfOk result (λ d. (lines_of d ≡ []) × (room_of d ≡ room)) }
     {
         let lines = Vec::with_capacity(alloc, room)?;
         Ok(Diary { lines })
     }
 
+    /// The lines, in the order in which they were written.
     pub fn lines(&self) -> &[Line]
         ensures { result.now ≡ lines_of self.now }
     {
         &self.lines
     }
 
-    /// Writes a line of the pass that holds the gate, where the diary has room for it, and releases the gate.
+    /// Writes a line of the pass that holds the gate, where the diary has room for it, and releases the gate. Where it hasn't,
+    /// or 2^63 lines were written, the diary stays as it is.
     pub fn write(gate: &Gate<Diary>, mut held: Held<Diary>, nth: u32) -> Pass<Line>
         requires held { IsHeldOf writer (gate_id gate.now) held }
         requires diary { IsDiary (held_value held) (held_seen held) }
         ensures gate { IsPassOf writer (gate_id gate.now) result × (number result ≡ held_number held) }
-        ensures mine { (mine result ≡ held_mine held) ⊎ (mine result ≡ held_mine held ++ line (held_number held) nth ∷ []) }
+        ensures written { HasRoom (held_value held) (held_seen held) → mine result ≡ held_mine held ++ line (held_number held) nth ∷ [] }
+        ensures full { ¬ HasRoom (held_value held) (held_seen held) → mine result ≡ held_mine held }
+        ensures steps { freed_once (held_steps held) (steps result) }
     {
         let is_full = held.get().lines.len() == held.get().lines.capacity();
         if is_full || held.count() >= 1 << 63 {

@@ -3,7 +3,7 @@
 ghost use Rattle.std.specs.Prelude.{◌≡◌, ◌≤◌, [], All, vec_len, vec_capacity};
 ghost use Rattle.turn_gate.specs.Gates.{gate_id, passes_of};
 ghost use Rattle.turn_gate.specs.Passes.{AreAll, AreFresh};
-ghost use Rattle.gate_trial.specs.Counted.{CountDown};
+ghost use Rattle.gate_trial.specs.Counted.{AreFrom, CountDown};
 ghost use Rattle.gate_trial.specs.Jobs.{IsReady};
 
 use crate::jobs::Job;
@@ -37,6 +37,7 @@ pub fn take_back<T: Storied>(
     requires numbers { CountDown (passes_of gate.now) jobs.old.items × (vec_len jobs.old ≡ passes_of gate.now) }
     requires room { (all.old.items ≡ []) × (vec_len jobs.old ≤ vec_capacity all.old) }
     ensures all { AreAll T.number (gate_id gate.now) (passes_of gate.now) all.new.items }
+    ensures order { AreFrom T.number (gate_id gate.now) 0 all.new.items }
     ensures jobs { jobs.new.items ≡ [] }
 {
     while let Some(job) = jobs.pop() {

@@ -1,9 +1,9 @@
 //! A value that may be sent to another thread but not shared with one: a gate round it may be.
 
-ghost use Rattle.std.specs.Prelude.{◌≡◌, [], ◌<◌, All};
+ghost use Rattle.std.specs.Prelude.{◌≡◌, [], ◌<◌, ◌+◌, All};
 ghost use Rattle.turn_gate.specs.Gates.{gate_id};
 ghost use Rattle.gate_trial.specs.Diary.{writer};
-ghost use Rattle.gate_trial.specs.Jobs.{IsReady, job_number, SameNumbers};
+ghost use Rattle.gate_trial.specs.Jobs.{IsReady, TookTurns, job_number, job_turns, SameNumbers};
 
 use crate::diary::Line;
 use crate::jobs::Job;
@@ -39,6 +39,7 @@ pub fn count_all<R: Threads + Wait + Sync>(
     requires jobs { All (IsReady writer (gate_id gate.now)) jobs.old }
     ensures jobs { All (IsReady writer (gate_id gate.now)) jobs.new }
     ensures numbers { SameNumbers jobs.old jobs.new }
+    ensures turns { TookTurns 1 jobs.old jobs.new }
 {
     for_each_mut(
         rt,
@@ -46,14 +47,14 @@ pub fn count_all<R: Threads + Wait + Sync>(
         threads,
         &|_, job: &mut Job<Line>|
             requires { IsReady writer (gate_id gate.now) job.now }
-            ensures { IsReady writer (gate_id gate.entry.now) job.exit.now × (job_number job.exit.now ≡ job_number job.entry.now) }
+            ensures { IsReady writer (gate_id gate.entry.now) job.exit.now × (job_number job.exit.now ≡ job_number job.entry.now) × (job_turns job.exit.now ≡ job_turns job.entry.now + 1) }
         { count_once(rt, gate, job) },
     );
 }
 
 fn count_once<R: Wait>(rt: &R, gate: &Gate<Unshared>, job: &mut Job<Line>)
     requires { IsReady writer (gate_id gate.now) job.old }
-    ensures { IsReady writer (gate_id gate.now) job.new × (job_number job.new ≡ job_number job.old) }
+    ensures { IsReady writer (gate_id gate.now) job.new × (job_number job.new ≡ job_number job.old) × (job_turns job.new ≡ job_turns job.old + 1) }
 {
     let taken = job.pass.take();
     let Some(pass) = taken else { unreachable!() };

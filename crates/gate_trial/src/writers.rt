@@ -1,10 +1,10 @@
 //! Threads that write a diary together.
 
-ghost use Rattle.std.specs.Prelude.{◌≡◌, ◌<◌, All, ℕ, length, slice_index_or};
+ghost use Rattle.std.specs.Prelude.{◌≡◌, ◌<◌, ◌+◌, All, ℕ, length, slice_index_or};
 ghost use Rattle.turn_gate.specs.Gates.{gate_id};
-ghost use Rattle.turn_gate.specs.Passes.{IsPassOf, number};
+ghost use Rattle.turn_gate.specs.Passes.{IsPassOf, turns_of, number, steps};
 ghost use Rattle.gate_trial.specs.Diary.{writer};
-ghost use Rattle.gate_trial.specs.Jobs.{IsReady, job_number, SameNumbers};
+ghost use Rattle.gate_trial.specs.Jobs.{IsReady, TookTurns, job_number, job_turns, SameNumbers};
 
 use crate::diary::{Diary, Line};
 use crate::jobs::Job;
@@ -13,8 +13,8 @@ use std::sync::Wait;
 use std::thread::{Threads, for_each_mut};
 use turn_gate::{Gate, Pass};
 
-/// Every job's pass takes the gate `turns` times and writes a line each time; it spins for `pause` rounds while it holds
-/// the gate. The jobs are shared out among at most `threads` threads.
+/// Every job's pass takes the gate `turns` times and writes a line each time, where the diary has room for it; it spins for
+/// `pause` rounds while it holds the gate. The jobs are shared out among at most `threads` threads.
 pub fn write_all<R: Threads + Wait + Sync>(
     rt: &R,
     gate: &Gate<Diary>,
@@ -27,6 +27,7 @@ pub fn write_all<R: Threads + Wait + Sync>(
     requires jobs { All (IsReady writer (gate_id gate.now)) jobs.old }
     ensures jobs { All (IsReady writer (gate_id gate.now)) jobs.new }
     ensures numbers { SameNumbers jobs.old jobs.new }
+    ensures turns { TookTurns turns jobs.old jobs.new }
 {
     for_each_mut(
         rt,
@@ -34,14 +35,14 @@ pub fn write_all<R: Threads + Wait + Sync>(
         threads,
         &|_, job: &mut Job<Line>|
             requires { IsReady writer (gate_id gate.now) job.now }
-            ensures { IsReady writer (gate_id gate.entry.now) job.exit.now × (job_number job.exit.now ≡ job_number job.entry.now) }
+            ensures { IsReady writer (gate_id gate.entry.now) job.exit.now × (job_number job.exit.now ≡ job_number job.entry.now) × (job_turns job.exit.now ≡ job_turns job.entry.now + turns) }
         { run(rt, gate, job, turns, pause) },
     );
 }
 
 fn run<R: Wait>(rt: &R, gate: &Gate<Diary>, job: &mut Job<Line>, turns: u32, pause: u32)
     requires { IsReady writer (gate_id gate.now) job.old }
-    ensures { IsReady writer (gate_id gate.now) job.new × (job_number job.new ≡ job_number job.old) }
+    ensures { IsReady writer (gate_id gate.now) job.new × (job_number job.new ≡ job_number job.old) × (job_turns job.new ≡ job_turns job.old + turns) }
 {
     let taken = job.pass.take();
     let Some(pass) = taken else { unreachable!() };
@@ -58,7 +59,7 @@ fn write_often<R: Wait>(
     pause: u32,
 ) -> Pass<Line>
     requires { IsPassOf writer (gate_id gate.now) pass }
-    ensures { IsPassOf writer (gate_id gate.now) result × (number result ≡ number pass) }
+    ensures { IsPassOf writer (gate_id gate.now) result × (number result ≡ number pass) × (turns_of (steps result) ≡ turns_of (steps pass) + turns) }
 {
     let mut pass = pass;
     for nth in 0..turns {

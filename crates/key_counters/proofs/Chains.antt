@@ -121,6 +121,7 @@ module _ {R : Type 0} (limits : R → Limits) (s : Named R) where
       record {
         is_pass = added.is_pass;
         same_number = added.same_number ∙ same;
+        closes = (at, subst (λ (p : ℕ). Added limits s at (closed_by p) to) same added);
         next = λ c ring.
             ap (λ (K : List Element). due K c) added.now_seen ∙ (due_push c 0 added.found (closed_by (number at)) ∙ (omega (arith, still_due at added.found is added.goes_on added.legal added.own c (same ∙ ring)) ∙ b.next c ring));
         here = λ c ring.

@@ -1,5 +1,5 @@
 -- What the jobs have done, and what the history is then.
-use Rattle.std.proofs.Common.{◌≡◌, ◌≢◌, ℕ, suc, ◌+◌, ◌%◌, ◌<◌, Bool, true, if◌then◌else◌, inl, inr, Option, Some, None, List, [], ◌∷◌, ◌++◌, length, slice_index, slice_index_or, refl, ap, sym, ◌∙◌, arith}
+use Rattle.std.proofs.Common.{◌≡◌, ◌≢◌, ℕ, suc, ◌+◌, ◌%◌, ◌<◌, ◌≤◌, zero, Bool, true, if◌then◌else◌, inl, inr, Option, Some, None, List, [], ◌∷◌, ◌++◌, length, slice_get, slice_index, slice_index_or, refl, ap, sym, ◌∙◌, arith, subst}
 use Rattle.turn_gate.specs.History.{Each, Has}
 use Rattle.turn_gate.specs.Passes.{number, seen}
 use Rattle.turn_gate.specs.declared.pass.Pass.{Pass}
@@ -18,12 +18,22 @@ use Rattle.perimeter_core.proofs.NextFeed.{had}
 use Rattle.perimeter_core.proofs.OrderAndWake.{sound, wake_of_sound}
 use Rattle.squeue_state.specs.Naming.{Named, setting_of}
 use Rattle.squeue_state.specs.Words.{Knows, HasSeenEnd}
-use Rattle.key_counters.specs.declared.job.Job.{Job}
+use Rattle.squeue_serve.specs.declared.jobs.Job.{Job}
+use Rattle.squeue_serve.specs.Places.{AtEach, Holds}
+use Rattle.squeue_serve.specs.Lending.{AreHanded, AreLent, holder, lent_to, tasks_in}
+use Rattle.squeue_serve.proofs.Lent.{lent_got, past_jobs, some_at}
+use Rattle.squeue_serve.proofs.Coming.{each_got, holds_last, holds_other}
+use Rattle.std.proofs.lemmas.Option.{get_or_from_slice_get, slice_get_within}
+use Rattle.std.proofs.lemmas.Bool.{cases_eq}
+use Rattle.turn_gate.specs.Passes.{AreFresh, IsPassOf}
+use Rattle.squeue_state.specs.Elements.{number_of}
 use Rattle.key_counters.specs.declared.job.Task.{Task}
 use Rattle.key_counters.specs.declared.job.Task.TheVariants as Task'
 use Rattle.key_counters.specs.Lists.{list_of}
-use Rattle.key_counters.specs.Running.{RanFor, Ran}
-use Rattle.key_counters.specs.Serving.{ServesRings, IsNewFor, IsNew, HasDone, HasDoneIn, IsDone, HasNumber, items_in}
+use Rattle.key_counters.specs.Running.{IsReady, ReadyFor, RanFor, Ran, pass_in}
+use Rattle.key_counters.specs.Serving.{AreTasks, HasDone, HasDoneAs, IsNewFor, IsTask, ServesRings, items_in}
+use Rattle.key_counters.proofs.FreshRings.{ready_at}
+use Rattle.key_counters.proofs.Passing.{fresh_at}
 use Rattle.key_counters.proofs.Chains.{still_due, still_here}
 use Rattle.key_counters.proofs.RingLists.{has_all}
 
@@ -38,43 +48,113 @@ module _ {R : Type 0} (limits : R → Limits) (s : Named R) (serves : ServesRing
       let all : length (feeds_of c (entries es)) ≡ slice_index (items_in limits s.given) c = ap (λ (fs : List FeedOf). length (feeds_of c (entries fs))) list ∙ has_all s.given.rings c (items_in limits s.given) (number p) ring in
       omega (arith, is, zero_due, all)
 
-  done_at : (task : Task) (o n : Option (Pass Element)) → IsNewFor limits s task o → RanFor limits s task o n → HasDoneIn limits s n × ((q : ℕ) → HasNumber q o → HasNumber q n)
-  done_at (Task'.Bring list) None n h ran = absurd h
-  done_at Task'.Work None n h ran = absurd h
-  done_at (Task'.Bring list) (Some p) None h ran = absurd ran
-  done_at Task'.Work (Some p) None h ran = absurd ran
-  done_at (Task'.Bring list) (Some p) (Some q) h ran = (
+  done_at : (task : Task) (p : Pass Element) (n : Option (Pass Element)) → IsNewFor limits s task (Some p) → RanFor limits s task (Some p) n → (q : Pass Element) × (n ≡ Some q) × HasDoneAs limits s (number p) q
+  done_at (Task'.Bring list) p None h ran = absurd ran
+  done_at Task'.Work p None h ran = absurd ran
+  done_at (Task'.Bring list) p (Some q) h ran = (
+    q,
+    refl,
     record {
-      is_pass = ran.is_pass;
-      brought = λ c is. let ring = sym ran.same_number ∙ is in brought_all list.items p q c h.1 h.3 ring (ran.next c ring);
-      here = λ c lt is. ran.here c (sym ran.same_number ∙ is) ∙ (ap (λ (H : List Element). is_here (run S H) c) h.1 ∙ serves.here c lt);
-      over = λ is. absurd (omega (arith, is, ran.same_number, h.2, serves.rings));
+      done =
+          record {
+            is_pass = ran.is_pass;
+            brought = λ c is. let ring = sym ran.same_number ∙ is in brought_all list.items p q c h.1 h.3 ring (ran.next c ring);
+            here = λ c lt is. ran.here c (sym ran.same_number ∙ is) ∙ (ap (λ (H : List Element). is_here (run S H) c) h.1 ∙ serves.here c lt);
+            over = λ is. absurd (omega (arith, is, ran.same_number, h.2, serves.rings));
+          };
+      is_number = ran.same_number;
     },
-    λ k is. ran.same_number ∙ is,
   )
-  done_at Task'.Work (Some p) (Some q) h ran = (
+  done_at Task'.Work p (Some q) h ran = (
+    q,
+    refl,
     record {
-      is_pass = ran.is_pass;
-      brought = λ c is. absurd (omega (arith, is, ran.same_number, h.2, serves.rings, serves.few));
-      here = λ c lt is. absurd (omega (arith, is, ran.same_number, h.2, serves.rings, serves.few));
-      over = λ is. ran.over;
+      done =
+          record {
+            is_pass = ran.is_pass;
+            brought = λ c is. absurd (omega (arith, is, ran.same_number, h.2, serves.rings, serves.few));
+            here = λ c lt is. absurd (omega (arith, is, ran.same_number, h.2, serves.rings, serves.few));
+            over = λ is. ran.over;
+          };
+      is_number = ran.same_number;
     },
-    λ k is. ran.same_number ∙ is,
   )
 
-  pub all_done : (old new : List Job) → length old ≡ length new → ((k : ℕ) (d : Job) → k < length old → Ran limits s (slice_index_or old k d) (slice_index_or new k d)) → Each (IsNew limits s) old
-      → Each (IsDone limits s) new × ((q : ℕ) → Has (λ (j : Job). HasNumber q j.pass) old → Has (λ (j : Job). HasNumber q j.pass) new)
-  all_done [] [] n ran e = (tt, λ q h. h)
-  all_done [] (y ∷ ys) n ran e = absurd (omega (arith, n))
-  all_done (x ∷ xs) [] n ran e = absurd (omega (arith, n))
-  all_done (x ∷ xs) (y ∷ ys) n ran e =
-      let here = done_at x.task x.pass y.pass e.0 (ran 0 x (omega arith)) in
-      let rest = all_done xs ys (omega (arith, n)) (λ k d lt. ran (suc k) d (omega arith)) e.1 in
-      ((here.0, rest.0), λ q h. elim h [ inl a ↦ inl (here.1 q a) | inr b ↦ inr (rest.1 q b) ])
+  -- the job holds a new pass of this number for its task
+  abbrev pub NewAt : ℕ → Job Task → Type 0
+  NewAt k j = (x : Pass Element) × (j.places.items ≡ Some x ∷ []) × IsNewFor limits s j.task (Some x) × (number x ≡ k)
 
-  pub end_seen : (ps : List (Pass Element)) → Each (HasDone limits s) ps → Each (HasSeenEnd S) ps
-  end_seen [] e = tt
-  end_seen (p ∷ ps) e = (e.0.over, end_seen ps e.1)
+  new_for : (task : Task) (x : Pass Element) (k : ℕ) → IsTask s.given.rings (items_in limits s.given) k task → IsPassOf number_of s.gate x → number x ≡ k → seen x ≡ [] → IsNewFor limits s task (Some x)
+  new_for (Task'.Bring list) x k t pass n none = (pass, none, (let lt : k < s.given.rings = t.0 in omega (arith, n, lt)), t.1 ∙ ap (λ (i : ℕ). list_of s.given.rings i 0 (items_in limits s.given)) (sym n))
+  new_for Task'.Work x k t pass n none = (pass, none, (let e : k ≡ s.given.rings = t in omega (arith, n, e, serves.rings)))
+
+  pub all_new : (count : ℕ) (jobs : List (Job Task)) (passes : List (Pass Element)) (old : ℕ → List (Option (Pass Element))) → AreTasks s.given.rings (items_in limits s.given) (tasks_in jobs) → AreHanded 0 count 0 passes old (lent_to jobs)
+      → ((i : ℕ) → old i ≡ []) → AreFresh number_of s.gate 0 passes → (k : ℕ) (j : Job Task) → k ≤ count → slice_get jobs k ≡ Some j → NewAt k j
+  all_new count jobs passes old tasks handed none fresh k j le is =
+      let r = handed.each k le in
+      let at : holder 0 count 0 k ≡ k = elim (cases_eq k count) [
+        | inl e ↦ ap (holder 0 count 0) e ∙ (holds_last 0 count 0 ∙ (let e : 0 + count + 0 ≡ k = omega (arith, e) in e))
+        | inr n ↦ holds_other 0 count 0 k (omega (arith, le, n)) ∙ (let e : 0 + k ≡ k = omega arith in e)
+      ] in
+      let f = fresh_at number_of s.gate 0 passes k r.0 fresh r.1 in
+      let n : number r.0 ≡ k = omega (arith, f.1) in
+      let places : j.places.items ≡ Some r.0 ∷ [] = sym (lent_got jobs k j is) ∙ (ap (lent_to jobs) (sym at) ∙ (r.2 ∙ ap (λ l. l ++ Some r.0 ∷ []) (none (holder 0 count 0 k)))) in
+      (r.0, places, new_for j.task r.0 k (tasks.each k j.task (task_got jobs k j is)) f.0 n f.2, n)
+    where
+      task_got : (jobs : List (Job Task)) (k : ℕ) (j : Job Task) → slice_get jobs k ≡ Some j → slice_get (tasks_in jobs) k ≡ Some j.task
+      task_got [] k j is = cc is
+      task_got (o ∷ jobs) zero j is = let same : o ≡ j = cc is in ap (λ (j : Job Task). Some j.task) same
+      task_got (o ∷ jobs) (suc k) j is = task_got jobs k j is
+
+  pub all_ready : (jobs : List (Job Task)) → ((k : ℕ) (j : Job Task) → slice_get jobs k ≡ Some j → NewAt k j) → (k : ℕ) (d : Job Task) → k < length jobs → IsReady limits s (slice_index_or jobs k d)
+  all_ready jobs new k d lt =
+      let o = some_at jobs k lt in
+      let n = new k o.0 o.1 in
+      subst (IsReady limits s) (sym (get_or_from_slice_get jobs k o.0 d o.1))
+      (subst (ReadyFor limits s o.0.task) (ap pass_in (sym n.1)) (ready_at limits s serves o.0.task (Some n.0) n.2))
+
+  one_place : (os : List (Option (Pass Element))) (q : Pass Element) → pass_in os ≡ Some q → os ≡ Some q ∷ []
+  one_place [] q is = cc is
+  one_place (o ∷ []) q is = ap (λ (o : Option (Pass Element)). o ∷ []) is
+  one_place (o ∷ n ∷ os) q is = cc is
+
+  all_done : (old new : List (Job Task)) → length old ≡ length new → ((k : ℕ) (d : Job Task) → k < length old → Ran limits s (slice_index_or old k d) (slice_index_or new k d)) → ((k : ℕ) (j : Job Task) → slice_get old k ≡ Some j → NewAt k j)
+      → (k : ℕ) (j : Job Task) → slice_get new k ≡ Some j → (q : Pass Element) × (j.places.items ≡ Some q ∷ []) × HasDoneAs limits s k q
+  all_done old new n ran are k j is =
+      let lt : k < length old = omega (arith, slice_get_within new k j is, n) in
+      let o = some_at old k lt in
+      let w = are k o.0 o.1 in
+      let r = subst (λ (a : Job Task). Ran limits s a (slice_index_or new k j)) (get_or_from_slice_get old k o.0 j o.1) (ran k j lt) in
+      let t = subst (λ (b : Job Task). Ran limits s o.0 b) (get_or_from_slice_get new k j j is) r in
+      let d = done_at o.0.task w.0 (pass_in j.places.items) w.2 (subst (λ (a : Option (Pass Element)). RanFor limits s o.0.task a (pass_in j.places.items)) (ap pass_in w.1) t) in
+      (d.0, one_place j.places.items d.0 d.1, subst (λ (m : ℕ). HasDoneAs limits s m d.0) w.3 d.2)
+
+  -- so the passes are lent when all jobs are done
+  pub done_lent : (count : ℕ) (old new : List (Job Task)) → count ≡ s.given.rings → length new ≡ count + 1 → length old ≡ length new → ((k : ℕ) (d : Job Task) → k < length old → Ran limits s (slice_index_or old k d) (slice_index_or new k d))
+      → ((k : ℕ) (j : Job Task) → slice_get old k ≡ Some j → NewAt k j) → AreLent (λ p t x. HasDoneAs limits t p x) 0 count (s ∷ []) (lent_to new)
+  done_lent count old new c m n ran are =
+      record {
+        counts = ((let e : length s.given.quotas ≡ count = omega (arith, serves.rings, c) in e), tt);
+        others = λ p lt.
+            let z : 0 + p ≡ p = omega arith in
+            let j = some_at new p (omega (arith, lt, m)) in
+            let d = all_done old new n ran are p j.0 j.1 in
+            subst (AtEach (λ t o. Holds (HasDoneAs limits t p) o) (s ∷ [])) (sym (ap (lent_to new) z ∙ (lent_got new p j.0 j.1 ∙ d.1))) (d.2, tt);
+        workers = last;
+        first_none = λ i lt. absurd (omega (arith, lt));
+        last_none = λ i le. past_jobs new i (omega (arith, le, m));
+      }
+    where
+      last : (q : ℕ) (t : Named R) → slice_get (s ∷ []) q ≡ Some t → (x : Pass Element) × (lent_to new (0 + count + q) ≡ Some x ∷ []) × HasDoneAs limits t count x
+      last zero t is =
+          let z : 0 + count + 0 ≡ count = omega arith in
+          let j = some_at new count (omega (arith, m)) in
+          let d = all_done old new n ran are count j.0 j.1 in
+          (d.0, ap (lent_to new) z ∙ (lent_got new count j.0 j.1 ∙ d.1), (let same : s ≡ t = cc is in subst (λ (t : Named R). HasDoneAs limits t count d.0) same d.2))
+      last (suc q) t is = cc is
+
+  pub each_done : (ps : List (Pass Element)) → ((k : ℕ) (x : Pass Element) → slice_get ps k ≡ Some x → HasDoneAs limits s k x) → Each (HasDone limits s) ps
+  each_done ps h = each_got (HasDone limits s) ps (λ k x is. (h k x is).done)
 
   -- the pass of this number, and what it knows
   find : (H : List Element) (q : ℕ) (ps : List (Pass Element)) → Each (HasDone limits s) ps → Each (Knows H) ps → Has (λ (p : Pass Element). number p ≡ q) ps → (p : Pass Element) × HasDone limits s p × Knows H p × (number p ≡ q)

@@ -12,13 +12,11 @@ use Rattle.perimeter_core.specs.Legal.{Enters, one_more, feeds_by}
 use Rattle.squeue_state.specs.Naming.{Named, setting_of}
 use Rattle.squeue_state.specs.Elements.{number_of}
 use Rattle.squeue_enter.specs.Entering.{MayEnter}
-use Rattle.turn_gate.specs.History.{Each}
-use Rattle.key_counters.specs.declared.job.Job.{Job}
 use Rattle.key_counters.specs.declared.job.Task.{Task}
 use Rattle.key_counters.specs.declared.job.Task.TheVariants as Task'
 use Rattle.key_counters.specs.Lists.{items_of, list_of}
-use Rattle.key_counters.specs.Running.{ReadyFor, IsReady}
-use Rattle.key_counters.specs.Serving.{ServesRings, IsNewFor, IsNew, items_in}
+use Rattle.key_counters.specs.Running.{ReadyFor}
+use Rattle.key_counters.specs.Serving.{ServesRings, IsNewFor, items_in}
 use Rattle.key_counters.proofs.Chains.{entries_append}
 
 -- the feeds of one key, and what comes behind them
@@ -87,12 +85,8 @@ module _ {R : Type 0} (limits : R → Limits) (s : Named R) (serves : ServesRing
         quota = omega (arith, zero_by, ap length is, serves.quotas (number p) ring);
       }
 
-  ready_at : (task : Task) (o : Option (Pass Element)) → IsNewFor limits s task o → ReadyFor limits s task o
+  pub ready_at : (task : Task) (o : Option (Pass Element)) → IsNewFor limits s task o → ReadyFor limits s task o
   ready_at (Task'.Bring list) None h = h
   ready_at Task'.Work None h = h
   ready_at (Task'.Bring list) (Some p) h = may_new p list.items h.0 h.1 h.2 h.3
   ready_at Task'.Work (Some p) h = (h.0, h.2)
-
-  pub all_ready : (js : List Job) → Each (IsNew limits s) js → Each (IsReady limits s) js
-  all_ready [] e = tt
-  all_ready (j ∷ js) e = (ready_at j.task j.pass e.0, all_ready js e.1)

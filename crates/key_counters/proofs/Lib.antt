@@ -6,3 +6,4 @@ pub mod Passing
 pub mod FreshRings
 pub mod Ending
 pub mod Totals
+pub mod OneSqueue

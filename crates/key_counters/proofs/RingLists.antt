@@ -1,11 +1,15 @@
 -- The lists of the rings.
-use Rattle.std.proofs.Common.{◌≡◌, ◌≢◌, ℕ, zero, suc, ◌+◌, ◌%◌, ◌<◌, ◌≤◌, Bool, true, false, if◌then◌else◌, ◌==◌, List, [], ◌∷◌, ◌++◌, Vec, length, take, get_or, sum, slice_index, refl, ap, sym, ◌∙◌, arith, append_assoc, length-append}
+use Rattle.std.proofs.Common.{◌≡◌, ◌≢◌, ℕ, zero, suc, ◌+◌, ◌%◌, ◌<◌, ◌≤◌, Bool, true, false, if◌then◌else◌, ◌==◌, Some, Global, List, [], ◌∷◌, ◌++◌, Vec, length, map, slice_get, subst, take, get_or, sum, slice_index, refl, ap, sym, ◌∙◌, arith, append_assoc, length-append}
 use Rattle.std.proofs.lemmas.List.{append-nil, take_more}
 use Rattle.std.proofs.lemmas.List.Sums.{sum_by-cons}
 use Rattle.std.proofs.lemmas.Bool.Decides.{nat_tests}
 use Rattle.perimeter_core.specs.declared.entries.Feed.{Feed as FeedOf}
 use Rattle.perimeter_core.specs.History.{feed_quotas}
 use Rattle.perimeter_core.specs.Deeds.{entries, feeds_of}
+use Rattle.std.proofs.lemmas.List.{length-map}
+use Rattle.key_counters.specs.declared.job.Task.{Task}
+use Rattle.key_counters.specs.declared.job.Task.TheVariants as Task'
+use Rattle.key_counters.specs.Serving.{AreTasks, IsTask}
 use Rattle.key_counters.specs.Lists.{items_of, list_of, AreLists, no_asks}
 use Rattle.key_counters.proofs.Chains.{count_append}
 
@@ -157,3 +161,22 @@ pub has_all : (rings c : ℕ) (counts : List ℕ) (r : ℕ) → r ≡ c % rings 
 has_all rings c counts r is =
     let z : 0 + c ≡ c = omega arith in
     rw z at (all_from rings r 0 c counts (is ∙ ap (λ (d : ℕ). d % rings) (sym z)))
+
+-- a task for each list, and then the worker's
+pub are_tasks : (rings : ℕ) (counts : List ℕ) (lists : List (Vec FeedOf Global)) → length lists ≡ rings → AreLists rings counts 0 lists → AreTasks rings counts (map (λ v. Task'.Bring v) lists ++ Task'.Work ∷ [])
+are_tasks rings counts lists n are =
+    record {
+      count = omega (arith, length-append (map (λ v. Task'.Bring v) lists) (Task'.Work ∷ []), length-map lists (λ v. Task'.Bring v), n);
+      each = λ k t is. let z : 0 + k ≡ k = omega arith in subst (λ (i : ℕ). IsTask rings counts i t) z (at 0 lists k t (omega (arith, n)) are is);
+    }
+  where
+    at : (r : ℕ) (lists : List (Vec FeedOf Global)) (k : ℕ) (t : Task) → r + length lists ≡ rings → AreLists rings counts r lists → slice_get (map (λ v. Task'.Bring v) lists ++ Task'.Work ∷ []) k ≡ Some t → IsTask rings counts (r + k) t
+    at r [] zero t n are is = let same : Task'.Work ≡ t = cc is in subst (IsTask rings counts (r + 0)) same (let e : r + 0 ≡ rings = omega (arith, n) in e)
+    at r [] (suc k) t n are is = cc is
+    at r (v ∷ lists) zero t n are is =
+        let same : Task'.Bring v ≡ t = cc is in
+        let z : r ≡ r + 0 = omega arith in
+        subst (IsTask rings counts (r + 0)) same (omega (arith, n), are.0 ∙ ap (λ (i : ℕ). list_of rings i 0 counts) z)
+    at r (v ∷ lists) (suc k) t n are is =
+        let e : suc r + k ≡ r + suc k = omega arith in
+        subst (λ (i : ℕ). IsTask rings counts i t) e (at (suc r) lists k t (omega (arith, n)) are.1 is)

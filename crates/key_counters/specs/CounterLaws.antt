@@ -11,10 +11,10 @@ use Rattle.key_counters.specs.declared.counters.Counters.{Counters}
 use Rattle.key_counters.specs.Counting.{HasHad, CounterAt, Stands, rows_of, readings_of, size_of, limits_of}
 
 pub counter_same_feeds : (k : Counter) (a b : List Act) → HasHad k a → HasHad k b → feed_numbers a ≡ feed_numbers b
-counter_same_feeds k a b x y = x ∙ sym y
+counter_same_feeds k a b x y = x.feeds ∙ sym y.feeds
 
 same_at : (rows : List (List ℕ)) (c : ℕ) (o : Option (Option Counter)) (a b : Option (List Act)) → CounterAt rows c o a → CounterAt rows c o b → feeds_in a ≡ feeds_in b
-same_at rows c (Some (Some k)) (Some x) (Some y) h j = ap Some (h.1 ∙ sym j.1)
+same_at rows c (Some (Some k)) (Some x) (Some y) h j = ap Some (h.1.feeds ∙ sym j.1.feeds)
 same_at rows c (Some (Some k)) (Some x) None h j = absurd j
 same_at rows c (Some (Some k)) None b h j = absurd h
 same_at rows c (Some None) (Some x) b h j = absurd h

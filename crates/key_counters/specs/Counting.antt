@@ -1,8 +1,9 @@
 -- What the resident of counters stands for.
-use Rattle.std.specs.Prelude.{◌≡◌, ◌≤◌, ℕ, Option, Some, None, List, [], length, map, sum, take, if◌then◌else◌, nat_lt, slice_get, slice_index_or, option_map}
+use Rattle.std.specs.Prelude.{◌≡◌, ◌≤◌, ℕ, Bool, true, false, Option, Some, None, List, [], ◌∷◌, length, map, sum, take, if◌then◌else◌, nat_lt, slice_get, slice_index_or, option_map}
 use Rattle.perimeter_core.specs.declared.entries.Act.{Act}
 use Rattle.perimeter_core.specs.History.{Limits}
-use Rattle.perimeter_core.specs.Deeds.{feed_numbers}
+use Rattle.perimeter_core.specs.declared.entries.Act.TheVariants as Did
+use Rattle.perimeter_core.specs.Deeds.{fed, feed_numbers}
 use Rattle.perimeter_core.specs.Blocks.{Blocks}
 use Rattle.perimeter_core.specs.Backlog.{up}
 use Rattle.key_counters.specs.declared.counters.Counter.{Counter}
@@ -15,18 +16,31 @@ rows_of r = map (λ row. row.items) r.amounts.now
 abbrev pub row_of : List (List ℕ) → ℕ → List ℕ
 row_of rows c = slice_index_or rows c []
 
--- The counter of key c, whose amounts are given: its total is the sum of as many first amounts as it had
+-- The counter of key c, whose amounts are given: its total is the sum of as many first amounts as it had, and what its last
+-- reading found is the sum of as many as there were then
 pub record Counts (c : ℕ) (row : List ℕ) (k : Counter) : Type 0 where
   pub key : k.key ≡ c
   pub within : k.had ≤ length row
   pub total : k.total ≡ sum (take k.had row)
+  pub read : k.read ≡ sum (take k.read_at row)
 
 abbrev pub IsPartOf : List (List ℕ) → ℕ → Counter → Type 0
 IsPartOf rows c k = Counts c (row_of rows c) k
 
--- the counter has had the feeds from 0 on
-abbrev pub HasHad : Counter → List Act → Type 0
-HasHad k had = feed_numbers had ≡ up 0 k.had
+abbrev pub has_reading : List Act → Bool
+has_reading [] = false
+has_reading (Did.Feed n ∷ acts) = has_reading acts
+has_reading (Did.Call j k ∷ acts) = true
+
+-- the acts before the last reading; none where there is no reading
+abbrev pub before_last_reading : List Act → List Act
+before_last_reading [] = []
+before_last_reading (act ∷ acts) = if has_reading acts then act ∷ before_last_reading acts else []
+
+-- the counter has had the feeds from 0 on, and its last reading found as many as stand before it
+pub record HasHad (k : Counter) (had : List Act) : Type 0 where
+  pub feeds : feed_numbers had ≡ up 0 k.had
+  pub read : fed (before_last_reading had) ≡ k.read_at
 
 -- what stands at the place of key c is its counter, and there is one exactly where the key is here
 abbrev pub CounterAt : List (List ℕ) → ℕ → Option (Option Counter) → Option (List Act) → Type 0
@@ -67,3 +81,7 @@ total_of None = 0
 -- what the last reading of a key found, if its counter is here
 abbrev pub reading_at : Counters → ℕ → Option ℕ
 reading_at r c = option_map (λ k. k.read) (slice_index_or r.counters.items c None)
+
+-- what the last reading of a key with these amounts found, by the acts on its counter
+abbrev pub found_by_reading : List ℕ → List Act → ℕ
+found_by_reading row had = sum (take (fed (before_last_reading had)) row)

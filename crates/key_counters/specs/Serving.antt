@@ -1,6 +1,5 @@
 -- What is known of passes and jobs at the beginning and at the end of a run.
-use Rattle.std.specs.Prelude.{◌≡◌, ℕ, ◌%◌, ◌<◌, ◌≤◌, true, false, Option, Some, None, List, [], length, slice_index, slice_index_or}
-use Rattle.turn_gate.specs.History.{Has}
+use Rattle.std.specs.Prelude.{◌≡◌, ℕ, ◌+◌, ◌%◌, ◌<◌, ◌≤◌, true, false, Option, Some, None, List, [], length, slice_get, slice_index, slice_index_or}
 use Rattle.turn_gate.specs.Passes.{IsPassOf, number, seen}
 use Rattle.turn_gate.specs.declared.pass.Pass.{Pass}
 use Rattle.perimeter_core.specs.Perimeter.{is_here}
@@ -9,10 +8,11 @@ use Rattle.perimeter_core.specs.Deeds.{due}
 use Rattle.perimeter_core.specs.Ending.{IsOver}
 use Rattle.squeue_state.specs.Naming.{Given, Named, setting_of}
 use Rattle.squeue_state.specs.Elements.{number_of}
-use Rattle.key_counters.specs.declared.job.Job.{Job}
+use Rattle.squeue_serve.specs.declared.jobs.Job.{Job}
 use Rattle.key_counters.specs.declared.job.Task.{Task}
 use Rattle.key_counters.specs.declared.job.Task.TheVariants as Task'
 use Rattle.key_counters.specs.Lists.{list_of}
+use Rattle.key_counters.specs.Running.{pass_in}
 
 module _ {R : Type 0} (limits : R → Limits) where
   -- how many feeds each connection may have
@@ -34,8 +34,8 @@ module _ {R : Type 0} (limits : R → Limits) (s : Named R) where
   IsNewFor (Task'.Bring list) (Some p) = IsPassOf number_of s.gate p × (seen p ≡ []) × (number p < s.given.rings) × (list.items ≡ list_of s.given.rings (number p) 0 (items_in limits s.given))
   IsNewFor Task'.Work (Some p) = IsPassOf number_of s.gate p × (seen p ≡ []) × (number p ≡ worker (setting_of limits s.given))
 
-  abbrev pub IsNew : Job → Type 0
-  IsNew j = IsNewFor j.task j.pass
+  abbrev pub IsNewTask : Job Task → Type 0
+  IsNewTask j = IsNewFor j.task (pass_in j.places.items)
 
   -- The pass has brought all feeds of its connections, which are here; the worker's has seen the end
   pub record HasDone (p : Pass Element) : Type 0 where
@@ -44,18 +44,17 @@ module _ {R : Type 0} (limits : R → Limits) (s : Named R) where
     pub here : (c : ℕ) → c < length s.given.starts → number p ≡ c % s.given.rings → is_here (run (setting_of limits s.given) (seen p)) c ≡ true
     pub over : number p ≡ worker (setting_of limits s.given) → IsOver (setting_of limits s.given) (run (setting_of limits s.given) (seen p))
 
-  abbrev pub HasDoneIn : Option (Pass Element) → Type 0
-  HasDoneIn None = ⊥
-  HasDoneIn (Some p) = HasDone p
+  -- the pass of this number has
+  pub record HasDoneAs (p : ℕ) (x : Pass Element) : Type 0 where
+    pub done : HasDone x
+    pub is_number : number x ≡ p
 
-  abbrev pub IsDone : Job → Type 0
-  IsDone j = HasDoneIn j.pass
+-- the task of the pass of this number: each ring brings its list, and the last pass works
+abbrev pub IsTask : ℕ → List ℕ → ℕ → Task → Type 0
+IsTask rings counts k (Task'.Bring list) = (k < rings) × (list.items ≡ list_of rings k 0 counts)
+IsTask rings counts k Task'.Work = k ≡ rings
 
--- the pass in the place has this number
-abbrev pub HasNumber : ℕ → Option (Pass Element) → Type 0
-HasNumber q None = ⊥
-HasNumber q (Some p) = number p ≡ q
-
--- there is a job for each of n passes
-abbrev pub AreNumbered : ℕ → List Job → Type 0
-AreNumbered n jobs = (q : ℕ) → q < n → Has (λ (j : Job). HasNumber q j.pass) jobs
+-- there is one for each pass, by number
+pub record AreTasks (rings : ℕ) (counts : List ℕ) (tasks : List Task) : Type 0 where
+  pub count : length tasks ≡ rings + 1
+  pub each : (k : ℕ) (t : Task) → slice_get tasks k ≡ Some t → IsTask rings counts k t

@@ -1,16 +1,18 @@
 //! The resident: the block of a key is its counter. It takes no memory after it is made.
-ghost use Rattle.std.specs.Prelude.{◌≡◌, ◌+◌, ◌*◌, ◌^◌, ◌<◌, ◌≤◌, All, IfOk, length, map};
+ghost use Rattle.std.specs.Prelude.{◌≡◌, ◌+◌, ◌*◌, ◌^◌, ◌<◌, ◌≤◌, All, IfOk, Some, List, length, map};
 
 use perimeter_core::Resident;
 use std::alloc::{AllocError, Global};
 use std::collections::LinkedList;
 
-/// How many amounts of a key were added up, always the first ones, their sum, and the sum that the last reading found.
+/// How many amounts of a key were added up, always the first ones, and their sum; how many the last reading found, and their
+/// sum, both 0 before the first.
 #[derive(Drop)]
 pub struct Counter {
     key: u32,
     had: u32,
     total: u64,
+    read_at: u32,
     read: u64,
     ghost bounded: { total ≤ had * 4294967295 },
 }
@@ -22,6 +24,8 @@ impl Counter {
         ensures key { self.new.key ≡ self.old.key }
         ensures had { self.new.had ≡ self.old.had + 1 }
         ensures total { self.new.total ≡ self.old.total + amount }
+        ensures read_at { self.new.read_at ≡ self.old.read_at }
+        ensures read { self.new.read ≡ self.old.read }
     {
         self.total += u64::from(amount);
         self.had += 1;
@@ -29,8 +33,9 @@ impl Counter {
 
     // Notes the total as it stands.
     fn note(&mut self)
-        ensures { self.new ≡ record self.old { read = self.old.total } }
+        ensures { self.new ≡ record self.old { read_at = self.old.had; read = self.old.total } }
     {
+        self.read_at = self.had;
         self.read = self.total;
     }
 }
@@ -50,7 +55,9 @@ pub struct Counters<'a> {
 }
 
 impl<'a> Counters<'a> {
-    ghost use Rattle.key_counters.specs.Counting.{Stands, all_new, size_of, rows_of, readings_of, reading_at, total_of};
+    ghost use Rattle.key_counters.specs.Counting.{Stands, all_new, size_of, rows_of, row_of, readings_of, reading_at, found_by_reading, total_of};
+    ghost use Rattle.perimeter_core.specs.Blocks.{Blocks};
+    ghost use Rattle.perimeter_core.specs.declared.entries.Act.{Act};
 
     /// The counters of all keys are here, and nothing was added.
     pub fn make(
@@ -72,6 +79,7 @@ impl<'a> Counters<'a> {
                 key: key as u32,
                 had: 0,
                 total: 0,
+                read_at: 0,
                 read: 0,
             }));
         }
@@ -92,10 +100,12 @@ impl<'a> Counters<'a> {
             .collect(alloc)
     }
 
-    /// The total that the last reading of the key found, if its counter is here; 0 before the first reading.
+    /// The total that the last reading of the key found, if its counter is here: the sum of the amounts that were added before
+    /// it; 0 before the first reading.
     pub fn last_reading(&self, c: u32) -> Option<u64>
         requires { c < size_of self.now }
-        ensures { result ≡ reading_at self.now c }
+        ensures place { result ≡ reading_at self.now c }
+        ensures found { (blocks : Blocks) (had : List Act) → Stands self.now blocks → blocks c ≡ Some had → result ≡ Some (found_by_reading (row_of (rows_of self.now) c) had) }
     {
         match &self.counters[c as usize] {
             Some(counter) => Some(counter.read),

@@ -3,9 +3,10 @@ ghost use Rattle.std.specs.Prelude.{◌≡◌, ◌^◌, ◌<◌, ◌≤◌, IfOk
 
 use crate::counters::Counters;
 use crate::job::Pace;
-use crate::lists::{ring_lists, ring_quotas};
+use crate::lists::{ring_lists, ring_quotas, tasks_of};
 use crate::serving::serve;
 use perimeter_core::NoHook;
+use squeue_serve::{Squeues, discard, jobs_of};
 use squeue_state::Squeue;
 use std::alloc::{AllocError, Global};
 use std::sync::Wait;
@@ -27,14 +28,21 @@ pub fn count<W: Threads + Wait + Sync>(
     let lists = ring_lists(alloc, amounts, rings)?;
     let quotas = ring_quotas(alloc, &lists)?;
     let counters = Counters::make(alloc, amounts, Vec::new(alloc))?;
-    let jobs = Vec::with_capacity(alloc, quotas.len() + 1)?;
-    match Squeue::make(alloc, 0, counters, rings, &quotas, false) {
-        Ok((squeue, passes)) => {
-            let counters = serve(rt, squeue, alloc, &NoHook, pace, passes, lists, jobs);
-            counters.totals(alloc)
-        }
+    let jobs = jobs_of(alloc, tasks_of(alloc, lists)?, 1)?;
+    match Squeues::with_room(alloc, 1) {
+        Ok(squeues) => match Squeue::make(alloc, 0, counters, rings, &quotas, false) {
+            Ok((squeue, passes)) => {
+                let counters = serve(rt, squeue, alloc, &NoHook, pace, passes, jobs, squeues);
+                counters.totals(alloc)
+            }
+            Err(error) => {
+                discard(jobs);
+                squeues.destroy_empty();
+                Err(error)
+            }
+        },
         Err(error) => {
-            jobs.destroy_empty();
+            discard(jobs);
             Err(error)
         }
     }

@@ -1,22 +1,14 @@
-//! What a thread is lent.
+//! What a thread does with the pass that it is lent.
 ghost use Rattle.std.specs.Prelude.{◌≤◌};
 
 use perimeter_core::Feed;
 use squeue_enter::Mode;
-use squeue_state::Pass;
 
 /// What a pass is used for: a ring brings feeds, the worker processes what is left in the queue.
 #[derive(Drop)]
 pub enum Task {
     Bring(Vec<Feed>),
     Work,
-}
-
-/// A pass and its task. A pass must be spent, so a thread gets it in a place of its own by `&mut`, takes it out to use it,
-/// and puts it back.
-pub struct Job {
-    pub pass: Option<Pass>,
-    pub task: Task,
 }
 
 /// How a ring enters its feeds: the mode, how many feeds it brings at once, and how many it processes at most in one entry.

@@ -16,7 +16,7 @@ mod tests;
 
 pub use counters::{Counter, Counters};
 pub use counting::count;
-pub use job::{Job, Pace, Task};
-pub use lists::{ring_lists, ring_quotas};
+pub use job::{Pace, Task};
+pub use lists::{ring_lists, ring_quotas, tasks_of};
 pub use running::{bring, run};
 pub use serving::serve;

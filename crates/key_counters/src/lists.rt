@@ -1,8 +1,10 @@
 //! Which feeds each ring brings, and the quotas that this takes.
-ghost use Rattle.std.specs.Prelude.{◌≡◌, ◌+◌, ◌^◌, ◌<◌, ◌≤◌, ◌++◌, All, IfOk, OnOk, length, map};
+ghost use Rattle.std.specs.Prelude.{◌≡◌, ◌+◌, ◌^◌, ◌<◌, ◌≤◌, ◌++◌, ℕ, All, IfOk, List, OnOk, length, map};
 ghost use Rattle.squeue_state.specs.Behind.{pairs};
+ghost use Rattle.key_counters.specs.Serving.{AreTasks};
 ghost use Rattle.key_counters.specs.Lists.{items_of, list_of, AreLists, no_asks};
 
+use crate::job::Task;
 use perimeter_core::Feed;
 use squeue_state::Quota;
 use std::alloc::{AllocError, Global};
@@ -70,4 +72,18 @@ pub fn ring_quotas(alloc: Global, lists: &[Vec<Feed>]) -> Result<Vec<Quota>, All
         })?;
     }
     Ok(quotas)
+}
+
+/// The tasks of the passes: each ring brings its list, and the last pass works.
+pub fn tasks_of(alloc: Global, lists: Vec<Vec<Feed>>) -> Result<Vec<Task>, AllocError>
+    ensures { (rings : ℕ) (counts : List ℕ) → length lists.items ≡ rings → AreLists rings counts 0 lists.items → IfOk result (λ v. AreTasks rings counts v.items) }
+{
+    let mut lists = lists;
+    let mut tasks = Vec::with_capacity(alloc, lists.len() + 1)?;
+    lists.reverse();
+    while let Some(list) = lists.pop() {
+        tasks.push_reserved(Task::Bring(list));
+    }
+    tasks.push_reserved(Task::Work);
+    Ok(tasks)
 }

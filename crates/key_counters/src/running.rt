@@ -3,13 +3,15 @@
 ghost use Rattle.std.specs.Prelude.{◌≡◌, ◌<◌, ℕ, All, length, slice_index_or};
 ghost use Rattle.turn_gate.specs.Passes.{number};
 ghost use Rattle.squeue_enter.specs.Entering.{MayEnter, Brought, MayGoOn};
-ghost use Rattle.key_counters.specs.declared.job.Job.{Job};
+ghost use Rattle.key_counters.specs.declared.job.Task.{Task};
+ghost use Rattle.squeue_serve.specs.declared.jobs.Job.{Job};
 ghost use Rattle.key_counters.specs.Running.{InChains, MayRun, HasRun, IsReady, Ran};
 
-use crate::job::{Job, Pace, Task};
+use crate::job::{Pace, Task};
 use perimeter_core::{Feed, Hook, Resident};
 use squeue_drain::worker;
 use squeue_enter::{Entered, enter};
+use squeue_serve::{Job, put_pass, take_pass};
 use squeue_state::{Pass, Squeue};
 use std::alloc::Global;
 use std::sync::Wait;
@@ -23,10 +25,10 @@ pub fn run<R: Resident + Send, H: Hook + Sync, W: Threads + Wait + Sync>(
     alloc: Global,
     hook: &H,
     pace: Pace,
-    jobs: &mut [Job],
+    jobs: &mut [Job<Task>],
 )
     requires { All (IsReady R.limits sq.now) jobs.old }
-    ensures { (k : ℕ) (d : Job) → k < length jobs.old → Ran R.limits sq.now (slice_index_or jobs.old k d) (slice_index_or jobs.new k d) }
+    ensures { (k : ℕ) (d : Job Task) → k < length jobs.old → Ran R.limits sq.now (slice_index_or jobs.old k d) (slice_index_or jobs.new k d) }
 {
     if jobs.is_empty() {
         return;
@@ -36,7 +38,7 @@ pub fn run<R: Resident + Send, H: Hook + Sync, W: Threads + Wait + Sync>(
         rt,
         jobs,
         threads,
-        &|_, job: &mut Job| run_job(rt, sq, alloc, hook, pace, job),
+        &|_, job: &mut Job<Task>| run_job(rt, sq, alloc, hook, pace, job),
     );
 }
 
@@ -46,16 +48,14 @@ fn run_job<R: Resident, H: Hook, W: Wait>(
     alloc: Global,
     hook: &H,
     pace: Pace,
-    job: &mut Job,
+    job: &mut Job<Task>,
 )
     requires { IsReady R.limits sq.now job.old }
     ensures { Ran R.limits sq.now job.old job.new }
 {
-    let taken = job.pass.take();
-    let Some(pass) = taken else { unreachable!() };
+    let pass = take_pass(&mut job.places[0]);
     let pass = run_pass(rt, sq, alloc, hook, pace, pass, &job.task);
-    let old = job.pass.replace(pass);
-    let None = old else { unreachable!() };
+    put_pass(&mut job.places[0], pass);
 }
 
 fn run_pass<R: Resident, H: Hook, W: Wait>(

@@ -28,3 +28,6 @@ pub mod Elsewhere
 pub mod NextFeed
 pub mod NumberedActs
 pub mod AtItsAsk
+pub mod OwnCounts
+pub mod LeavesFew
+pub mod OwnersReport

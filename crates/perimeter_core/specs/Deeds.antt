@@ -95,9 +95,13 @@ abbrev pub call_act : ℕ → Mark → List Act
 call_act c (On.Leave p rest (Done.Call d j k)) = if d == c then Did.Call j k ∷ [] else []
 call_act c _ = []
 
+-- what a mark reports of c: the feeds that were processed, and the call that was made
+abbrev pub reported : ℕ → State → Mark → List Act
+reported c s m = feed_acts c (done_by s m) ++ call_act c m
+
 -- the acts on c: the note of the last In of c, and the feeds and calls done since
 abbrev pub acts_after : ℕ → State → List Act → Element → List Act
-acts_after c s had e = if puts_in c e.mark then e.note else had ++ (feed_acts c (done_by s e.mark) ++ call_act c e.mark)
+acts_after c s had e = if puts_in c e.mark then e.note else had ++ reported c s e.mark
 
 abbrev pub acts_from : ℕ → State → List Act → List Element → List Act
 acts_from c s had [] = had

@@ -1,12 +1,12 @@
 //! The laws of legal histories. Each is a function that does nothing, whose contract is the law.
-ghost use Rattle.std.specs.Prelude.{◌⊎◌, ◌≡◌, ◌≢◌, ℕ, ◌+◌, ◌*◌, ◌%◌, ◌<◌, ◌≤◌, true, false, List, [], ◌∷◌, ◌++◌, length};
+ghost use Rattle.std.specs.Prelude.{◌⊎◌, ◌≡◌, ◌≢◌, ℕ, ◌+◌, ◌*◌, ◌%◌, ◌<◌, ◌≤◌, true, false, List, [], ◌∷◌, ◌++◌, length, slice_index};
 ghost use Rattle.perimeter_core.specs.declared.marks.Own.TheVariants as Own;
 ghost use Rattle.perimeter_core.specs.declared.entries.Entry.{Entry};
 ghost use Rattle.perimeter_core.specs.declared.entries.Entry.TheVariants as Entry;
 ghost use Rattle.perimeter_core.specs.Perimeter.{ends_with_ask, is_empty, is_here};
 ghost use Rattle.perimeter_core.specs.History.{Setting, Element, passes, all_quotas, run, pass_of, made_by};
-ghost use Rattle.perimeter_core.specs.Deeds.{done_by, due, fed, feeds_of, times_left, acts};
-ghost use Rattle.perimeter_core.specs.Legal.{May, Legal};
+ghost use Rattle.perimeter_core.specs.Deeds.{done_by, due, fed, feeds_of, call_act, reported, times_left, acts};
+ghost use Rattle.perimeter_core.specs.Legal.{May, Legal, feeds_by, asks_by};
 ghost use Rattle.perimeter_core.specs.Blocks.{peri, PeriGoesOn};
 ghost use Rattle.perimeter_core.specs.Backlog.{queue, OrderKept, WakeKept, FeedsInOrder, NoneBehind, QueuedInRange, WaitsNoMore, room};
 ghost use Rattle.perimeter_core.specs.Ending.{IsOver};
@@ -113,6 +113,27 @@ pub fn a_block_that_is_gone_was_taken_out()
 /// While a connection is elsewhere, no feed of it is processed.
 pub fn nothing_of_a_block_elsewhere_is_processed()
     ensures { (S : Setting) (H : List Element) (e : Element) (c : ℕ) → Legal S H → May S H e → is_here (run S H) c ≡ false → feeds_of c (done_by (run S H) e.mark) ≡ [] }
+{}
+
+/// While a connection is elsewhere, no mark reports a feed or a call of it.
+pub fn nothing_is_reported_of_a_block_elsewhere()
+    ensures { (S : Setting) (H : List Element) (e : Element) (c : ℕ) → Legal S H → May S H e → is_here (run S H) c ≡ false → reported c (run S H) e.mark ≡ [] }
+{}
+
+/// While a pass is owner or granted, no mark of another reports that anything was processed or called.
+pub fn only_the_owner_reports()
+    ensures { (S : Setting) (H : List Element) (e : Element) (p : ℕ) → May S H e → HasIt (run S H) p → pass_of e.mark ≢ p
+        → (done_by (run S H) e.mark ≡ []) × ((c : ℕ) → call_act c e.mark ≡ []) }
+{}
+
+/// A block leaves at most as often as it may.
+pub fn a_block_leaves_within_its_limit()
+    ensures { (S : Setting) (H : List Element) (c : ℕ) → Legal S H → times_left c H ≤ slice_index S.limits.leaves c }
+{}
+
+/// How many feeds and asks a pass has entered is told by its own elements.
+pub fn a_pass_knows_what_it_entered()
+    ensures { (p : ℕ) (H : List Element) → (feeds_by p H ≡ feeds_by p (made_by p H)) × (asks_by p H ≡ asks_by p (made_by p H)) }
 {}
 
 /// The hand of an owner is empty exactly where its last mark is Accept.

@@ -1,19 +1,20 @@
 -- What is sent is read again.
-use Rattle.std.proofs.Common.{◌≡◌, ℕ, ◌+◌, ◌*◌, ◌<◌, ◌≤◌, List, [], ◌∷◌, ◌++◌, length, drop, take, Option, None, Some, Bool, true, false, refl, sym, ap, ◌∙◌, arith, cond, eqb, ltb, ◌&&◌, inl, inr, length-append, subst}
+use Rattle.std.proofs.Common.{◌≡◌, ℕ, ◌+◌, ◌*◌, ◌<◌, ◌≤◌, List, [], ◌∷◌, ◌++◌, length, drop, take, Option, None, Some, Bool, true, false, refl, sym, ap, ◌∙◌, arith, cond, eqb, ltb, ◌&&◌, inl, inr, subst}
 use Rattle.std.proofs.lemmas.Bool.Decides.{nat_tests}
 use Rattle.std.proofs.lemmas.List.{take_all, take_at, drop_at, drop-take}
 use Rattle.sq_base.specs.InternetSum.{word_sum, reduced}
 use Rattle.sq_base.specs.declared.kinds.Tuple.{Tuple}
 use Rattle.segment_codec.specs.declared.packet.Reply.{Reply}
 use Rattle.segment_codec.specs.declared.packet.Seg.{Seg}
+use Rattle.sq_base.specs.declared.kinds.Link.TheVariants.{RawIp}
 use Rattle.segment_codec.specs.declared.packet.Packet.TheVariants as packet
 use Rattle.segment_codec.specs.Places.{byte, word, long, high}
 use Rattle.segment_codec.specs.Packet.{packet_in, datagram, tcp_packet, segment_of, sums_hold}
 use Rattle.segment_codec.specs.Options.{mss_in, scale_in, options_in}
 use Rattle.byteorder.specs.Endian.{big_bytes}
 use Rattle.segment_codec.specs.SegmentBytes.{segment_bytes, ip_with, tcp_with, option_bytes, offset_of, ip_sum, tcp_sum}
-use Rattle.segment_codec.specs.SentIsRead.{AreSent, Fits, ReadsAgain}
-use Rattle.segment_codec.proofs.SumLemmas.{sum_completes, header_sums}
+use Rattle.segment_codec.specs.SentIsRead.{AreSent, Fits, ReadsAgain, seg_sent, text_in}
+use Rattle.segment_codec.proofs.SumLemmas.{sum_completes, header_sums, length-tcp_with}
 
 -- a whole datagram without options, fragments or padding
 datagram_whole : (verify : Bool) (ip : List ℕ) (from : ℕ) → 20 ≤ length ip → byte ip 0 ≡ 69 → word ip 2 ≡ length ip → word ip 6 ≡ 16384 → byte ip 9 ≡ 6
@@ -39,9 +40,6 @@ tcp_whole ip header tcp from d offset low_enough fits sums =
 -- the field of the TCP sum is added
 word_sum-tcp_with : (t : Tuple) (r : Reply) (sum : ℕ) → sum < 65536 → word_sum (tcp_with t r sum) ≡ word_sum (tcp_with t r 0) + sum
 word_sum-tcp_with t r sum h = omega arith
-
-length-tcp_with : (t : Tuple) (r : Reply) (sum : ℕ) → length (tcp_with t r sum) ≡ 20 + length (option_bytes r) + length r.text
-length-tcp_with t r sum = omega (arith, length-append (option_bytes r) r.text)
 
 -- the sums of what is sent hold
 sums_sent : (t : Tuple) (r : Reply) (total : ℕ) → length (tcp_with t r 0) < 65536
@@ -86,7 +84,8 @@ options_between fixed options text n long e =
     ∙ take_at options text (length options) refl))
 
 -- what is sent with options that are read again
-reads_with : (t : Tuple) (r : Reply) (k : ℕ) → Fits t r → length (option_bytes r) ≡ 4 * k → k ≤ 2 → mss_in (option_bytes r) ≡ r.mss → scale_in (option_bytes r) ≡ r.scale → ReadsAgain t r
+reads_with : (t : Tuple) (r : Reply) (k : ℕ) → Fits t r → length (option_bytes r) ≡ 4 * k → k ≤ 2 → mss_in (option_bytes r) ≡ r.mss → scale_in (option_bytes r) ≡ r.scale
+    → packet_in RawIp (segment_bytes t r) true ≡ packet.Segment (seg_sent t r)
 unfolding packet_in segment_bytes segment_of word long
 reads_with t r k fits options few mss scale =
     let total = 20 + length (tcp_with t r 0) in
@@ -130,7 +129,18 @@ options_read r (inl e) = subst OptionsRead (sym (carries r None None e.0 e.1)) (
 options_read r (inr (inl e)) = subst OptionsRead (sym (carries r (Some 1460) None e.0 e.1)) (record { words = 1; size = refl; few = omega arith; mss = refl; scale = refl })
 options_read r (inr (inr e)) = subst OptionsRead (sym (carries r (Some 1460) (Some 5) e.0 e.1)) (record { words = 2; size = refl; few = omega arith; mss = refl; scale = refl })
 
+-- all that is sent before the text
+abbrev headers_with : Tuple → Reply → ℕ → ℕ → List ℕ
+headers_with t r total sum = ip_with t total (ip_sum t total) ++ (fixed_with t r sum ++ option_bytes r)
+
+text_read : (t : Tuple) (r : Reply) → text_in (seg_sent t r) (segment_bytes t r) ≡ r.text
+unfolding segment_bytes
+text_read t r =
+    let before = headers_with t r (20 + length (tcp_with t r 0)) (tcp_sum t r) in
+    let size : length before ≡ 40 + length (option_bytes r) = omega arith in
+    ap (take (length r.text)) (drop_at before r.text (40 + length (option_bytes r)) size) ∙ take_all (length r.text) r.text (omega arith)
+
 pub reads_again : (t : Tuple) (r : Reply) → Fits t r → ReadsAgain t r
 reads_again t r fits =
     let again = options_read r fits.options in
-    reads_with t r again.words fits again.size again.few again.mss again.scale
+    record { fields = reads_with t r again.words fits again.size again.few again.mss again.scale; text = text_read t r }

@@ -3,3 +3,4 @@ pub mod Options
 pub mod Packet
 pub mod SegmentBytes
 pub mod SentIsRead
+pub mod Refusal

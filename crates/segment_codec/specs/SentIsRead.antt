@@ -1,8 +1,9 @@
 -- What is sent is read again.
-use Rattle.std.specs.Prelude.{◌≡◌, ◌+◌, ◌<◌, ◌^◌, ◌≤◌, ◌⊎◌, true, length, None, Some, All}
+use Rattle.std.specs.Prelude.{ℕ, List, take, drop, ◌≡◌, ◌+◌, ◌<◌, ◌^◌, ◌≤◌, ◌⊎◌, true, length, None, Some, All}
 use Rattle.sq_base.specs.declared.kinds.Link.TheVariants.{RawIp}
 use Rattle.sq_base.specs.declared.kinds.Tuple.{Tuple}
 use Rattle.segment_codec.specs.declared.packet.Reply.{Reply}
+use Rattle.segment_codec.specs.declared.packet.Seg.{Seg}
 use Rattle.segment_codec.specs.declared.packet.Packet.TheVariants as packet
 use Rattle.segment_codec.specs.Packet.{packet_in}
 use Rattle.segment_codec.specs.SegmentBytes.{segment_bytes, option_bytes}
@@ -25,9 +26,9 @@ pub record Fits (t : Tuple) (r : Reply) : Type 0 where
   pub text : length r.text ≤ 1460
   pub bytes : All (λ b. b < 256) r.text
 
--- its bytes decode to its own fields, and the text stands behind both headers
-abbrev pub ReadsAgain : Tuple → Reply → Type 0
-ReadsAgain t r = packet_in RawIp (segment_bytes t r) true ≡ packet.Segment (record {
+-- the segment with its fields, whose text stands behind both headers
+abbrev pub seg_sent : Tuple → Reply → Seg
+seg_sent t r = record {
   src = t.server;
   src_port = t.server_port;
   dst = t.client;
@@ -40,4 +41,13 @@ ReadsAgain t r = packet_in RawIp (segment_bytes t r) true ≡ packet.Segment (re
   scale = r.scale;
   text_from = 40 + length (option_bytes r);
   text_len = length r.text;
-})
+}
+
+-- the text of a segment in a record's bytes
+abbrev pub text_in : Seg → List ℕ → List ℕ
+text_in s body = take s.text_len (drop s.text_from body)
+
+-- its bytes decode to its own fields, and hold its text where these say
+pub record ReadsAgain (t : Tuple) (r : Reply) : Type 0 where
+  pub fields : packet_in RawIp (segment_bytes t r) true ≡ packet.Segment (seg_sent t r)
+  pub text : text_in (seg_sent t r) (segment_bytes t r) ≡ r.text

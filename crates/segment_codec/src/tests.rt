@@ -1,4 +1,4 @@
-use crate::{Packet, Reply, Seg, Why, decode, encode};
+use crate::{Packet, Reply, Seg, Why, decode, encode, encode_into, refusal, tuple_of};
 use sq_base::{Addr, Link, Octets, Tuple};
 use std::test::Fail;
 
@@ -223,5 +223,55 @@ fn sent_segments_in_bytes(rt: HostRuntime) -> Result<(), Fail> {
         let sent = encode(rt.alloc(), &tuple, &reply)?;
         assert_eq!(rt; sent.as_slice(), spelled(&rt, bytes)?.as_slice());
     }
+    Ok(())
+}
+
+/// Segments for a port that isn't served, and the resets that RFC 9293, 3.10.7.1, gives for them: flags, sequence number,
+/// acknowledgement number.
+#[test]
+fn refusals(rt: HostRuntime) -> Result<(), Fail> {
+    let table = [
+        // flags, sequence number, acknowledgement number, text
+        ((0x02, 100, 0, 0), Some((0x14, 0, 101))),
+        ((0x02, 100, 0, 5), Some((0x14, 0, 106))),
+        ((0x00, u32::MAX, 9, 3), Some((0x14, 0, 2))),
+        ((0x01, 7, 9, 0), Some((0x14, 0, 8))),
+        ((0x10, 100, 501, 4), Some((0x04, 501, 0))),
+        ((0x12, 100, 501, 0), Some((0x04, 501, 0))),
+        ((0x04, 100, 0, 0), None),
+        ((0x14, 100, 501, 0), None),
+    ];
+    for ((flags, seq, ack, text_len), wanted) in table {
+        let seg = Seg {
+            flags,
+            seq,
+            ack,
+            text_len,
+            ..syn_at(40, None, None)
+        };
+        let answer = refusal(rt.alloc(), 9, &seg);
+        let numbers = answer
+            .as_ref()
+            .map(|reset| (reset.flags, reset.seq, reset.ack));
+        assert_eq!(rt; numbers, wanted);
+    }
+    Ok(())
+}
+
+/// A reset behind bytes that stood in the buffer, with sums that another implementation computed.
+#[test]
+fn encode_into_appends(rt: HostRuntime) -> Result<(), Fail> {
+    let seg = syn_at(40, None, None);
+    let mut out = Vec::from_slice(rt.alloc(), &[7, 9])?;
+    let reset = refusal(rt.alloc(), 0, &seg);
+    if let Some(reset) = &reset {
+        assert!(rt; reset.text.as_slice().is_empty() && reset.scale.is_none());
+        encode_into(&mut out, &tuple_of(&seg), reset)?;
+    }
+    let wanted = spelled(
+        &rt,
+        "07094500002800004000400626ce0a0000020a00000100070fa00000000000000065501400008bc20000",
+    )?;
+    assert_eq!(rt; out.as_slice(), wanted.as_slice());
     Ok(())
 }

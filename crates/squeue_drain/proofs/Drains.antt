@@ -1,6 +1,6 @@
 -- A drain, turn by turn.
 use Rattle.std.specs.Prelude.{replicate}
-use Rattle.std.proofs.Common.{◌<◌, ◌≡◌, ◌≢◌, ℕ, zero, suc, ◌+◌, Bool, true, false, List, [], ◌∷◌, ◌++◌, length, refl, ap, sym, ◌∙◌, subst, append_assoc, arith}
+use Rattle.std.proofs.Common.{◌<◌, ◌≤◌, ◌≡◌, ◌≢◌, ℕ, zero, suc, ◌+◌, Bool, true, false, List, [], ◌∷◌, ◌++◌, length, refl, ap, sym, ◌∙◌, subst, append_assoc, arith}
 use Rattle.std.proofs.lemmas.List.{append-nil}
 use Rattle.turn_gate.specs.Passes.{number, seen, mine}
 use Rattle.turn_gate.specs.declared.pass.Pass.{Pass}
@@ -16,9 +16,10 @@ use Rattle.perimeter_core.specs.declared.marks.Mark.TheVariants as On
 use Rattle.squeue_state.specs.Elements.{took, gone}
 use Rattle.squeue_drain.specs.declared.owner.Owner.{Owner}
 use Rattle.squeue_drain.specs.Owning.{Feeds, HasFeeds, processed_by, state_of, fed_so_far}
-use Rattle.squeue_drain.specs.Draining.{plain, is_leave, Ends, GoesOn, TookOnly, Drained, Off, Onward, ServedOne}
+use Rattle.squeue_drain.specs.Draining.{plain, is_leave, Ends, StaysBelow, GoesOn, TookOnly, Drained, Off, Onward, ServedOne}
 use Rattle.squeue_drain.proofs.Hands.{parts, count_feeds}
 use Rattle.squeue_drain.proofs.Deciding.{begins_trans}
+use Rattle.perimeter_core.proofs.Since.{none_made}
 use Rattle.std.proofs.Common.{length-append}
 
 -- one more of the same
@@ -38,6 +39,20 @@ grown : (a b c d : List Element) (e : Element) → d ≡ a ++ b → (d ++ c) ++ 
 grown a b c d e h =
     ap (λ (x : List Element). (x ++ c) ++ e ∷ []) h
     ∙ (ap (λ (x : List Element). x ++ e ∷ []) (append_assoc a b c) ∙ append_assoc a (b ++ c) (e ∷ []))
+
+-- others neither take nor grant as p
+others_below : (S : Setting) (p most : ℕ) (H K : List Element) → made_by p K ≡ [] → StaysBelow S p most H K
+others_below S p most H [] none = tt
+others_below S p most H (e ∷ K) none = let n = none_made p e K none in (λ is _. absurd (n.0 is), others_below S p most (H ++ e ∷ []) K n.1)
+
+join_below : (S : Setting) (p most : ℕ) (H K L : List Element) → StaysBelow S p most H K → StaysBelow S p most (H ++ K) L → StaysBelow S p most H (K ++ L)
+join_below S p most H [] L a b = subst (λ (G : List Element). StaysBelow S p most G L) (append-nil H) b
+join_below S p most H (e ∷ K) L a b = (a.0, join_below S p most (H ++ e ∷ []) K L a.1 (subst (λ (G : List Element). StaysBelow S p most G L) (sym (append_assoc H (e ∷ []) K)) b))
+
+-- others' elements, and then one of p's
+below_more : (S : Setting) (p most : ℕ) (H K L : List Element) (e : Element) → StaysBelow S p most H K → made_by p L ≡ [] → (is_leave e.mark ≡ false → feed_count (done S ((H ++ (K ++ L)) ++ e ∷ [])) < most)
+    → StaysBelow S p most H ((K ++ L) ++ e ∷ [])
+below_more S p most H K L e a none few = join_below S p most H (K ++ L) (e ∷ []) (join_below S p most H K L a (others_below S p most (H ++ K) L none)) (λ _ on. few on, tt)
 
 module _ {R : Type 0} (limits : R → Limits) (s : Named R) where
   pub on_same : (p q : Pass Element) → GoesOn limits s p p → q ≡ p → GoesOn limits s p q
@@ -86,9 +101,12 @@ module _ {R O : Type 0} (stands : R → Blocks → Type 0) (limits : R → Limit
     pub took_only : TookOnly (number first.pass) first.pass o.pass
     pub count : fed_so_far limits s o + rest ≡ fed_so_far limits s first + budget
     pub closed : is_closed (state_of limits s o) (number first.pass) ≡ is_closed (state_of limits s first) (number first.pass)
+    pub made : List Element
+    pub so_far : seen o.pass ≡ seen first.pass ++ made
+    pub below : StaysBelow S (number first.pass) (fed_so_far limits s first + budget) (seen first.pass) made
 
   pub since_start : (budget : ℕ) (o : Owner R) → Feeds stands limits size origin s o → Since budget budget o o
-  since_start budget o is = record { goes_on = on_start o is; took_only = took_none (number o.pass) o.pass; count = refl; closed = refl }
+  since_start budget o is = record { goes_on = on_start o is; took_only = took_none (number o.pass) o.pass; count = refl; closed = refl; made = []; so_far = sym (append-nil (seen o.pass)); below = tt }
 
   pub since_fed : (budget a b : ℕ) (first o next : Owner R) → Since budget b first o → Feeds stands limits size origin s o → Feeds stands limits size origin s next → next.pass ≡ o.pass
       → length next.hand.left + b ≡ length o.hand.left + a → Since budget a first next
@@ -98,32 +116,48 @@ module _ {R O : Type 0} (stands : R → Blocks → Type 0) (limits : R → Limit
         took_only = subst (λ (p : Pass Element). TookOnly (number first.pass) first.pass p) (sym same) k.took_only;
         count = omega (arith, k.count, fed_on o next a b is more same count);
         closed = ap (λ (p : Pass Element). is_closed (run S (seen p)) (number first.pass)) same ∙ k.closed;
+        made = k.made;
+        so_far = ap (λ (p : Pass Element). seen p) same ∙ k.so_far;
+        below = k.below;
       }
 
-  pub since_taken : (budget rest : ℕ) (first o next : Owner R) → Since budget rest first o → Onward stands limits size origin s o next → Since budget rest first next
-  since_taken budget rest first o next k on =
+  pub since_taken : (budget rest : ℕ) (first o next : Owner R) → 1 ≤ rest → Since budget rest first o → Onward stands limits size origin s o next → Since budget rest first next
+  since_taken budget rest first o next some k on =
       let same : number o.pass ≡ number first.pass = k.goes_on.same_number in
+      let e : Element = took (number o.pass) in
+      let saw : seen next.pass ≡ seen first.pass ++ ((k.made ++ on.since) ++ e ∷ []) = on.now_seen ∙ grown (seen first.pass) k.made on.since (seen o.pass) e k.so_far in
+      let whole : (seen first.pass ++ (k.made ++ on.since)) ++ e ∷ [] ≡ seen next.pass = append_assoc (seen first.pass) (k.made ++ on.since) (e ∷ []) ∙ sym saw in
+      let few : feed_count (done S ((seen first.pass ++ (k.made ++ on.since)) ++ e ∷ [])) < fed_so_far limits s first + budget =
+      let c : feed_count (done S ((seen first.pass ++ (k.made ++ on.since)) ++ e ∷ [])) ≡ feed_count (done S (seen next.pass)) = ap (λ (h : List Element). feed_count (done S h)) whole in
+      omega (arith, c, on.count, k.count, some) in
       record {
         goes_on = on_trans limits s first.pass o.pass next.pass k.goes_on on.goes_on;
         took_only = took_more (number first.pass) (number o.pass) first.pass o.pass next.pass k.took_only same on.now_mine;
         count = omega (arith, k.count, on.count);
         closed = subst (λ (n : ℕ). is_closed (state_of limits s next) n ≡ is_closed (state_of limits s o) n) same on.closed ∙ k.closed;
+        made = (k.made ++ on.since) ++ e ∷ [];
+        so_far = saw;
+        below = below_more S (number first.pass) (fed_so_far limits s first + budget) (seen first.pass) k.made on.since e k.below (subst (λ (n : ℕ). made_by n on.since ≡ []) same on.others) (λ _. few);
       }
 
-  pub drained : (budget rest : ℕ) (first o : Owner R) (spent : Bool) (to : Pass Element) → Since budget rest first o → (spent ≡ true → rest ≡ 0) → Off limits s spent o to → Drained limits s budget first to
-  drained budget rest first o spent to k when off =
+  pub drained : (budget rest : ℕ) (first o : Owner R) (spent : Bool) (to : Pass Element) → Since budget rest first o → (spent ≡ true → rest ≡ 0) → (spent ≡ false → 1 ≤ rest) → Off limits s spent o to → Drained limits s budget first to
+  drained budget rest first o spent to k when before off =
       let same : number o.pass ≡ number first.pass = k.goes_on.same_number in
       let tk = k.took_only in
+      let saw : seen to ≡ seen first.pass ++ ((k.made ++ off.since) ++ plain off.last ∷ []) = off.now_seen ∙ grown (seen first.pass) k.made off.since (seen o.pass) (plain off.last) k.so_far in
+      let whole : (seen first.pass ++ (k.made ++ off.since)) ++ plain off.last ∷ [] ≡ seen to = append_assoc (seen first.pass) (k.made ++ off.since) (plain off.last ∷ []) ∙ sym saw in
       record {
         goes_on = on_trans limits s first.pass o.pass to k.goes_on off.goes_on;
         takes = tk.0;
-        between = k.goes_on.grows.0 ++ off.since;
+        between = k.made ++ off.since;
         last = off.last;
         ends = subst (λ (n : ℕ). Ends n off.last) same off.ends;
-        now_seen = off.now_seen ∙ grown (seen first.pass) k.goes_on.grows.0 off.since (seen o.pass) (plain off.last) k.goes_on.grows.1;
+        now_seen = saw;
         now_mine = off.now_mine ∙ (ap (λ (h : List Element). h ++ plain off.last ∷ []) tk.1 ∙ append_assoc (mine first.pass) (replicate tk.0 (took (number first.pass))) (plain off.last ∷ []));
         most = omega (arith, off.count, k.count);
         full = λ leave some. all spent refl leave some;
+        spent = below_more S (number first.pass) (fed_so_far limits s first + budget) (seen first.pass) k.made off.since (plain off.last) k.below (subst (λ (n : ℕ). made_by n off.since ≡ []) same off.others)
+            (λ on. subst (λ (h : List Element). feed_count (done S h) < fed_so_far limits s first + budget) (sym whole) (few spent refl on));
         idle = λ open_pass.
             subst (λ (n : ℕ). Idle (run S (seen to)) n) same
             (off.idle (subst (λ (n : ℕ). is_closed (state_of limits s o) n ≡ false) (sym same) (k.closed ∙ open_pass)));
@@ -132,6 +166,10 @@ module _ {R O : Type 0} (stands : R → Blocks → Type 0) (limits : R → Limit
       all : (b : Bool) → spent ≡ b → is_leave off.last ≡ true → (run S (seen to)).chain ≢ [] → feed_count (done S (seen to)) ≡ fed_so_far limits s first + budget
       all true is leave some = let none = when is in omega (arith, none, off.count, k.count)
       all false is leave some = absurd (some (off.empty is leave))
+
+      few : (b : Bool) → spent ≡ b → is_leave off.last ≡ false → feed_count (done S (seen to)) < fed_so_far limits s first + budget
+      few true is on = absurd (let l = ap is_leave (off.leaves is) in cc)
+      few false is on = let some = before is in omega (arith, some, off.count, k.count)
 
 -- the owner of one feed
 module _ {R O : Type 0} (stands : R → Blocks → Type 0) (limits : R → Limits) (size : R → ℕ) (origin : R → O) (s : Named R) where

@@ -7,3 +7,4 @@ pub mod Deciding
 pub mod Drains
 pub mod Fresh
 pub mod Workers
+pub mod OneOwner

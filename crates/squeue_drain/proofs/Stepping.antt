@@ -72,7 +72,7 @@ module _ {R O : Type 0} (stands : R → Blocks → Type 0) (limits : R → Limit
           own = is.owns.own;
           hand = record {
             is_left = subst (λ (xs : List Entry). xs ≡ unprocessed (length xs) hand) (sym left) step.is_left;
-            has_room = subst (λ (k : ℕ). room_of s.given.quotas ≤ k) (sym room) is.owns.hand.has_room;
+            has_room = subst (λ (k : ℕ). room_of s.given.quotas ≡ k) (sym room) is.owns.hand.has_room;
           };
           resident = record {
             stands_for = subst (λ (act : SynchAct). stands r (with_act act [] (with_feeds (processed (length h.left) hand) (peri S (seen o.pass))))) (sym is.no_act) new;

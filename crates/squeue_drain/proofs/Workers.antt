@@ -6,6 +6,7 @@ use Rattle.turn_gate.specs.declared.pass.Pass.{Pass}
 use Rattle.perimeter_core.specs.declared.entries.Entry.{Entry}
 use Rattle.perimeter_core.specs.declared.marks.SynchAct.TheVariants as Done
 use Rattle.perimeter_core.specs.declared.marks.Own.TheVariants.{Free, Out}
+use Rattle.perimeter_core.specs.declared.marks.Mark.{Mark}
 use Rattle.perimeter_core.specs.declared.marks.Mark.TheVariants as On
 use Rattle.perimeter_core.specs.Perimeter.{State, after, has_ask}
 use Rattle.perimeter_core.specs.History.{Element, Setting, Limits, start, worker, run, made_by}
@@ -21,8 +22,8 @@ use Rattle.squeue_state.specs.Elements.{number_of, took, worked}
 use Rattle.squeue_state.specs.Words.{Found, Marked, Unmarked, IsWhole}
 use Rattle.squeue_drain.specs.declared.owner.Owner.{Owner}
 use Rattle.squeue_drain.specs.Owning.{Feeds, HasFeeds, NoFeedFirst}
-use Rattle.squeue_drain.specs.Draining.{plain, LeavesNothing, GoesOn, Off, Onward}
-use Rattle.squeue_drain.specs.Working.{OnlyLeavesNothing, Worked}
+use Rattle.squeue_drain.specs.Draining.{plain, is_leave, Ends, LeavesNothing, GoesOn, Off, Onward}
+use Rattle.squeue_drain.specs.Working.{OnlyLeavesNothing, SomethingWaits, Worked}
 use Rattle.squeue_drain.proofs.Marks.{may_work}
 use Rattle.squeue_drain.proofs.Fresh.{fresh, no_worker_ask}
 use Rattle.squeue_drain.proofs.Turning.{others}
@@ -42,6 +43,23 @@ join S p H (e ∷ K) L a b = (a.0, join S p (H ++ e ∷ []) K L a.1 (subst (λ (
 one_behind : (S : Setting) (p : ℕ) (H K : List Element) (e : Element) → made_by p K ≡ [] → LeavesNothing (run S (H ++ K)) e.mark → OnlyLeavesNothing S p H (K ++ e ∷ [])
 one_behind S p H K e none leaves = join S p H K (e ∷ []) (others_leave S p H K none) (λ is. leaves, tt)
 
+-- where a pass has the perimeter, nothing waits for the worker
+taken_calm : (t : State) (p : ℕ) → t.own ≡ Out p → ¬ SomethingWaits t
+taken_calm t p out w = absurd (let e = sym out ∙ w.0 in cc)
+
+-- nor does anything after a mark that leaves nothing queued, or grants
+off_calm : (S : Setting) (H : List Element) (p : ℕ) (m : Mark) (to : List Element) → to ≡ H ++ plain m ∷ [] → Legal S to → Ends p m → (is_leave m ≡ true → (run S to).chain ≡ []) → ¬ SomethingWaits (run S to)
+off_calm S H p (On.Leave q rest act) to e l ends none w = (((wake_of_sound (run S to) (sound S to l)).wake.0 w.1).1) (none refl)
+off_calm S H p (On.Grant q j rest) to e l ends none w = absurd (let g = ap (λ (h : List Element). (run S h).own) e ∙ ap (λ (t : State). t.own) (run_push (start S) H (plain (On.Grant q j rest))) in let o = sym g ∙ w.0 in cc)
+off_calm S H p (On.Fill q es) to e l ends none w = absurd ends
+off_calm S H p (On.Fast q f) to e l ends none w = absurd ends
+off_calm S H p (On.Claim q es) to e l ends none w = absurd ends
+off_calm S H p (On.Take q) to e l ends none w = absurd ends
+off_calm S H p (On.Ask q) to e l ends none w = absurd ends
+off_calm S H p (On.Accept q) to e l ends none w = absurd ends
+off_calm S H p (On.Work q) to e l ends none w = absurd ends
+off_calm S H p (On.Close q) to e l ends none w = absurd ends
+
 pub no_feed : (xs : List Entry) (result b old : ℕ) → (result ≡ 0) ⊎ NoFeedFirst xs → length xs + b ≡ old + result → b ≡ old → NoFeedFirst xs
 no_feed xs result b old why count all =
     elim why [
@@ -60,11 +78,12 @@ module _ {R : Type 0} (limits : R → Limits) (s : Named R) where
         since = f.since ++ g.since;
         now_seen = g.now_seen ∙ (ap (λ (G : List Element). G ++ g.since) f.now_seen ∙ append_assoc (seen a) f.since g.since);
         leaves = join S (number a) (seen a) f.since g.since f.leaves leaves;
+        nothing_waits = g.nothing_waits;
       }
 
-  pub worked_none : (a b : Pass Element) → GoesOn limits s a a → b ≡ a → Worked limits s a b
-  worked_none a b g same =
-      subst (λ (p : Pass Element). Worked limits s a p) (sym same) record { goes_on = g; since = []; now_seen = sym (append-nil (seen a)); leaves = tt }
+  pub worked_none : (a b : Pass Element) → GoesOn limits s a a → (run (setting_of limits s.given) (seen a)).own ≡ Out (number a) → b ≡ a → Worked limits s a b
+  worked_none a b g out same =
+      subst (λ (p : Pass Element). Worked limits s a p) (sym same) record { goes_on = g; since = []; now_seen = sym (append-nil (seen a)); leaves = tt; nothing_waits = taken_calm (run (setting_of limits s.given) (seen a)) (number a) out }
 
   pub worked_off : (o : Owner R) (to : Pass Element) → Off limits s false o to → Worked limits s o.pass to
   worked_off o to off =
@@ -73,11 +92,12 @@ module _ {R : Type 0} (limits : R → Limits) (s : Named R) where
         since = off.since ++ plain off.last ∷ [];
         now_seen = off.now_seen ∙ append_assoc (seen o.pass) off.since (plain off.last ∷ []);
         leaves = one_behind (setting_of limits s.given) (number o.pass) (seen o.pass) off.since (plain off.last) off.others (off.nothing refl);
+        nothing_waits = off_calm (setting_of limits s.given) ((seen o.pass) ++ off.since) (number o.pass) off.last (seen to) off.now_seen off.goes_on.legal off.ends (off.empty refl);
       }
 
   -- a turn without a mark
-  pub worked_plain : (p q : Pass Element) (u : Turned R) → IsPassOf number_of s.gate p → Found limits s p u → Unmarked u q → Worked limits s p q
-  worked_plain p q u is f m =
+  pub worked_plain : (p q : Pass Element) (u : Turned R) → IsPassOf number_of s.gate p → Found limits s p u → ¬ SomethingWaits (run (setting_of limits u.squeue.given) u.found) → Unmarked u q → Worked limits s p q
+  worked_plain p q u is f calm m =
       record {
         goes_on = record {
           is_pass = subst (λ (t : Named R). IsPassOf number_of t.gate q) f.squeue m.is_pass;
@@ -88,6 +108,7 @@ module _ {R : Type 0} (limits : R → Limits) (s : Named R) where
         since = f.goes_on.0;
         now_seen = m.now_seen ∙ f.goes_on.1;
         leaves = others_leave (setting_of limits s.given) (number p) (seen p) f.goes_on.0 (others limits s p u is f);
+        nothing_waits = λ w. calm (subst SomethingWaits (ap (run (setting_of limits s.given)) m.now_seen ∙ sym (same_state limits u.squeue s u.found f.squeue)) w);
       }
 
   -- a turn in which the worker took the queue
@@ -98,6 +119,7 @@ module _ {R : Type 0} (limits : R → Limits) (s : Named R) where
         since = f.goes_on.0 ++ worked u.number ∷ [];
         now_seen = m.now_seen ∙ (ap (λ (G : List Element). G ++ worked u.number ∷ []) f.goes_on.1 ∙ append_assoc (seen p) f.goes_on.0 (worked u.number ∷ []));
         leaves = one_behind (setting_of limits s.given) (number p) (seen p) f.goes_on.0 (worked u.number) (others limits s p u is f) tt;
+        nothing_waits = taken_calm (run (setting_of limits s.given) (seen q)) u.number (ap (λ (h : List Element). (run (setting_of limits s.given) h).own) m.now_seen ∙ ap (λ (t : State). t.own) (run_push (start (setting_of limits s.given)) u.found (worked u.number)));
       }
 
 module _ {R O : Type 0} (stands : R → Blocks → Type 0) (limits : R → Limits) (size : R → ℕ) (origin : R → O) (s : Named R) where
@@ -108,6 +130,7 @@ module _ {R O : Type 0} (stands : R → Blocks → Type 0) (limits : R → Limit
         since = on.since ++ took (number o.pass) ∷ [];
         now_seen = on.now_seen ∙ append_assoc (seen o.pass) on.since (took (number o.pass) ∷ []);
         leaves = one_behind (setting_of limits s.given) (number o.pass) (seen o.pass) on.since (took (number o.pass)) on.others tt;
+        nothing_waits = taken_calm (run (setting_of limits s.given) (seen next.pass)) (number next.pass) on.feeds.owns.own;
       }
 
   -- the worker as owner

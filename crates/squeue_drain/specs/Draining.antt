@@ -1,5 +1,5 @@
 -- What a drain does.
-use Rattle.std.specs.Prelude.{◌≡◌, ◌≢◌, ℕ, ◌+◌, ◌≤◌, Bool, true, false, List, [], ◌∷◌, ◌++◌, length, replicate}
+use Rattle.std.specs.Prelude.{◌≡◌, ◌≢◌, ℕ, ◌+◌, ◌<◌, ◌≤◌, Bool, true, false, List, [], ◌∷◌, ◌++◌, length, replicate}
 use Rattle.turn_gate.specs.History.{Begins}
 use Rattle.turn_gate.specs.Passes.{IsPassOf, number, seen, mine}
 use Rattle.turn_gate.specs.declared.pass.Pass.{Pass}
@@ -7,7 +7,7 @@ use Rattle.perimeter_core.specs.declared.marks.SynchAct.TheVariants as Done
 use Rattle.perimeter_core.specs.declared.marks.Mark.{Mark}
 use Rattle.perimeter_core.specs.declared.marks.Mark.TheVariants as On
 use Rattle.perimeter_core.specs.Perimeter.{State, Idle, is_closed}
-use Rattle.perimeter_core.specs.History.{Element, Limits, run, made_by}
+use Rattle.perimeter_core.specs.History.{Element, Setting, Limits, pass_of, run, made_by}
 use Rattle.perimeter_core.specs.Deeds.{done}
 use Rattle.perimeter_core.specs.Legal.{Legal, feed_count}
 use Rattle.perimeter_core.specs.Blocks.{Blocks}
@@ -51,8 +51,15 @@ pub record Tells {R : Type 0} (limits : R → Limits) (s : Named R) (p : Pass El
 abbrev pub TookOnly : ℕ → Pass Element → Pass Element → Type 0
 TookOnly p from to = (takes : ℕ) × (mine to ≡ mine from ++ replicate takes (took p))
 
+-- Wherever a mark of p among these elements doesn't leave, fewer than so many feeds were processed until then; the elements
+-- stand behind the past
+abbrev pub StaysBelow : Setting → ℕ → ℕ → List Element → List Element → Type 0
+StaysBelow S p most past [] = Unit {0}
+StaysBelow S p most past (e ∷ K) = (pass_of e.mark ≡ p → is_leave e.mark ≡ false → feed_count (done S (past ++ e ∷ [])) < most) × StaysBelow S p most (past ++ e ∷ []) K
+
 -- An owner drained: it took the queue some times, and then left or granted. It processed at most `budget` feeds, and left
--- with something queued only where it processed just as many
+-- with something queued only where it processed just as many. Once it has processed so many it leaves: it takes the queue, or
+-- grants to an Ask that is next, only before
 pub record Drained {R : Type 0} (limits : R → Limits) (s : Named R) (budget : ℕ) (o : Owner R) (to : Pass Element) : Type 0 where
   pub goes_on : GoesOn limits s o.pass to
   pub takes : ℕ
@@ -63,6 +70,7 @@ pub record Drained {R : Type 0} (limits : R → Limits) (s : Named R) (budget : 
   pub now_mine : mine to ≡ mine o.pass ++ (replicate takes (took (number o.pass)) ++ plain last ∷ [])
   pub most : feed_count (done (setting_of limits s.given) (seen to)) ≤ fed_so_far limits s o + budget
   pub full : is_leave last ≡ true → (run (setting_of limits s.given) (seen to)).chain ≢ [] → feed_count (done (setting_of limits s.given) (seen to)) ≡ fed_so_far limits s o + budget
+  pub spent : StaysBelow (setting_of limits s.given) (number o.pass) (fed_so_far limits s o + budget) (seen o.pass) (between ++ plain last ∷ [])
   -- a pass that isn't closed may enter again
   pub idle : is_closed (state_of limits s o) (number o.pass) ≡ false → Idle (run (setting_of limits s.given) (seen to)) (number o.pass)
 

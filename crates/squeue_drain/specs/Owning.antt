@@ -1,5 +1,5 @@
 -- What is known of an owner.
-use Rattle.std.specs.Prelude.{◌≡◌, ◌≢◌, ℕ, ◌+◌, true, false, List, [], ◌∷◌, length}
+use Rattle.std.specs.Prelude.{◌≡◌, ◌≢◌, ℕ, ◌+◌, true, false, List, [], ◌∷◌, ◌++◌, length}
 use Rattle.turn_gate.specs.Passes.{IsPassOf, number, seen}
 use Rattle.perimeter_core.specs.declared.entries.Act.{Act}
 use Rattle.perimeter_core.specs.declared.entries.Entry.{Entry}
@@ -7,7 +7,7 @@ use Rattle.perimeter_core.specs.declared.entries.Entry.TheVariants as Entry'
 use Rattle.perimeter_core.specs.declared.marks.SynchAct.TheVariants as Done
 use Rattle.perimeter_core.specs.declared.marks.Own.TheVariants.{Out}
 use Rattle.perimeter_core.specs.Perimeter.{State, has_ask, processed}
-use Rattle.perimeter_core.specs.History.{Limits, run}
+use Rattle.perimeter_core.specs.History.{Element, Limits, run, made_by}
 use Rattle.perimeter_core.specs.Deeds.{done}
 use Rattle.perimeter_core.specs.Legal.{Legal, all_feeds, feed_count}
 use Rattle.perimeter_core.specs.Blocks.{Blocks}
@@ -47,6 +47,10 @@ pub record HasFeeds {R : Type 0} (limits : R → Limits) (s : Named R) (o : Owne
 -- how many feeds were processed until now
 abbrev pub fed_so_far : {R : Type 0} → (R → Limits) → Named R → Owner R → ℕ
 fed_so_far limits s o = feed_count (done (setting_of limits s.given) (seen o.pass)) + feed_count (processed_by limits s o)
+
+-- the owner's pass has seen a beginning of the history, and made nothing behind it
+abbrev pub NothingSince : {R : Type 0} → List Element → Owner R → Type 0
+NothingSince H o = (since : List Element) × (H ≡ seen o.pass ++ since) × (made_by (number o.pass) since ≡ [])
 
 -- a feed stands first
 abbrev pub IsFeedFirst : ℕ → ℕ → List Entry → Type 0

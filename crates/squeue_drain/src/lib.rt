@@ -8,6 +8,7 @@
 #![tactic(auto)]
 
 mod draining;
+pub mod laws;
 mod owner;
 mod working;
 

@@ -1,13 +1,12 @@
 //! The worker: it comes where something is queued and nobody has the perimeter.
 ghost use Rattle.std.specs.Prelude.{◌≡◌, ◌≢◌, ◌↔◌, ℕ, true, [], length};
 ghost use Rattle.turn_gate.specs.Passes.{IsPassOf, number, seen};
-ghost use Rattle.perimeter_core.specs.declared.marks.Own.TheVariants as Own';
 ghost use Rattle.perimeter_core.specs.Ending.{IsOver};
 ghost use Rattle.perimeter_core.specs.History.{run, worker as worker_of};
 ghost use Rattle.squeue_state.specs.Elements.{number_of};
 ghost use Rattle.squeue_state.specs.Naming.{setting_of};
 ghost use Rattle.squeue_drain.specs.Owning.{Feeds, HasFeeds};
-ghost use Rattle.squeue_drain.specs.Working.{Worked};
+ghost use Rattle.squeue_drain.specs.Working.{SomethingWaits, Worked};
 
 use crate::draining::{Round, decide};
 use crate::owner::{Owner, process};
@@ -15,11 +14,10 @@ use perimeter_core::{Hook, Own, Resident, SynchAct};
 use squeue_state::{Pass, Squeue, Turn};
 use std::alloc::Global;
 use std::sync::Wait;
-use std::thread::yield_now;
 
 /// Works until every other pass is closed, nothing is queued and nobody has the perimeter, as a turn of its own has found.
 /// Where something waits for the worker it takes the queue, and drains without a budget until a turn finds nothing queued or
-/// it grants. Else it releases the gate and lets other threads run.
+/// it grants. Else it releases the gate without a mark, and sleeps until there may be work.
 pub fn worker<R: Resident, H: Hook, W: Wait>(
     sq: &Squeue<R>,
     rt: &W,
@@ -56,12 +54,14 @@ fn work_once<R: Resident, H: Hook, W: Wait>(
     ensures worked { Worked R.limits sq.now pass result.0 }
     ensures over { result.1 ≡ true → IsOver (setting_of R.limits sq.now.given) (run (setting_of R.limits sq.now.given) (seen result.0)) }
 {
+    sq.listen(&pass);
     let turn = sq.turn(rt, pass);
     if !waits_for_worker(&turn) {
         let over = is_over(&turn);
         let pass = sq.plain(turn);
-        // The gate is handed over in order: who comes next isn't to wait for a worker that isn't running.
-        yield_now();
+        if !over {
+            sq.sleep(rt, &pass);
+        }
         return (pass, over);
     }
     let (pass, resident, hand) = sq.work(turn);
@@ -100,7 +100,7 @@ fn drain_all<R: Resident, H: Hook, W: Wait>(
 
 // Whether something is queued for the worker, and nobody has the perimeter.
 fn waits_for_worker<R: Resident>(turn: &Turn<R>) -> bool
-    ensures { result ≡ true → ((run (setting_of R.limits turn.now.squeue.given) turn.now.found).own ≡ Own'.Free) × ((run (setting_of R.limits turn.now.squeue.given) turn.now.found).wake ≡ true) }
+    ensures { (result ≡ true) ↔ SomethingWaits (run (setting_of R.limits turn.now.squeue.given) turn.now.found) }
 {
     turn.own() == Own::Free && turn.wake()
 }

@@ -22,7 +22,7 @@ use Rattle.squeue_state.specs.Behind.{IsPeri}
 use Rattle.squeue_state.specs.Elements.{filled, fasted, claimed, took}
 use Rattle.squeue_state.specs.Words.{Found, Marked, IsWhole}
 use Rattle.squeue_drain.specs.Owning.{Feeds, HasFeeds, fed_so_far}
-use Rattle.squeue_drain.specs.Draining.{plain, Ends, GoesOn, Drained}
+use Rattle.squeue_drain.specs.Draining.{StaysBelow, plain, Ends, GoesOn, Drained}
 use Rattle.perimeter_core.proofs.FeedLists.{nil_right}
 use Rattle.squeue_drain.proofs.Hands.{whole_left}
 use Rattle.squeue_drain.proofs.Fresh.{fresh}
@@ -217,6 +217,11 @@ module _ {R O : Type 0} (stands : R → Blocks → Type 0) (limits : R → Limit
             ∙ ap (λ (k : ℕ). (mine p ++ e (number p) ∷ []) ++ (replicate d.takes (took k) ++ plain d.last ∷ [])) came.same);
         most = omega (arith, d.most, count, came.none_fed);
         full = λ leave some. let all = d.full leave some in omega (arith, all, count, came.none_fed);
+        spent =
+            let fed : fed_so_far limits s record { pass = q; resident = r; hand = h; act = Done.None } + budget ≡ feed_count (done T (u.found ++ e (number p) ∷ [])) + budget = omega (arith, count, came.none_fed) in
+            subst (λ (H : List Element). StaysBelow T (number p) (feed_count (done T (u.found ++ e (number p) ∷ [])) + budget) H (d.between ++ plain d.last ∷ [])) at
+            (subst (λ (k : ℕ). StaysBelow T k (feed_count (done T (u.found ++ e (number p) ∷ [])) + budget) (seen q) (d.between ++ plain d.last ∷ [])) came.same
+            (subst (λ (n : ℕ). StaysBelow T (number q) n (seen q) (d.between ++ plain d.last ∷ [])) fed d.spent));
       }
 
   -- the hand of the entry of one feed

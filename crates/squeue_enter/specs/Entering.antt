@@ -1,7 +1,8 @@
 -- What an entry into a squeue needs, and what it adds to the history.
 use Rattle.std.specs.Prelude.{◌≡◌, ◌≢◌, ℕ, ◌+◌, ◌%◌, ◌≤◌, ◌<◌, true, List, [], ◌∷◌, ◌++◌, length, replicate}
 use Rattle.turn_gate.specs.History.{Begins, only}
-use Rattle.turn_gate.specs.Passes.{IsPassOf, number, seen, mine}
+use Rattle.turn_gate.specs.Passes.{IsPassOf, freed_once, hit, number, seen, mine}
+use Rattle.turn_gate.specs.declared.views.LockStep.{LockStep}
 use Rattle.turn_gate.specs.declared.pass.Pass.{Pass}
 use Rattle.perimeter_core.specs.declared.entries.Feed.{Feed}
 use Rattle.perimeter_core.specs.declared.marks.SynchAct.TheVariants as Done
@@ -12,7 +13,7 @@ use Rattle.perimeter_core.specs.Deeds.{entries, feeds_of, times_left, due, done}
 use Rattle.perimeter_core.specs.Legal.{Legal, Enters, feeds_by, asks_by, feed_count}
 use Rattle.squeue_state.specs.Naming.{Named, setting_of}
 use Rattle.squeue_state.specs.Elements.{number_of, filled, fasted, claimed, took, gone}
-use Rattle.squeue_drain.specs.Draining.{plain, Ends, is_leave, GoesOn}
+use Rattle.squeue_drain.specs.Draining.{plain, Ends, StaysBelow, is_leave, GoesOn}
 use Rattle.squeue_enter.specs.declared.Mode.{Mode}
 use Rattle.squeue_enter.specs.declared.entering.How.{How}
 use Rattle.squeue_enter.specs.declared.entering.How.TheVariants as How'
@@ -32,7 +33,8 @@ pub record MayEnter {R : Type 0} (limits : R → Limits) (s : Named R) (p : Pass
   pub quota : feeds_by (number p) (seen p) + length es ≤ feed_quota (setting_of limits s.given) (number p)
 
 -- From the history H on, in which it made M, the pass p drained: it took the queue some times, and then left or granted. It
--- processed at most `budget` feeds, and left with something queued only where it processed just as many
+-- processed at most `budget` feeds, and left with something queued only where it processed just as many. Once it has
+-- processed so many it leaves
 pub record DrainsFrom (S : Setting) (p budget : ℕ) (H M : List Element) (to : Pass Element) : Type 0 where
   pub between : List Element
   pub takes : ℕ
@@ -42,6 +44,7 @@ pub record DrainsFrom (S : Setting) (p budget : ℕ) (H M : List Element) (to : 
   pub now_mine : mine to ≡ M ++ (replicate takes (took p) ++ plain last ∷ [])
   pub most : feed_count (done S (seen to)) ≤ feed_count (done S H) + budget
   pub full : is_leave last ≡ true → (run S (seen to)).chain ≢ [] → feed_count (done S (seen to)) ≡ feed_count (done S H) + budget
+  pub spent : StaysBelow S p (feed_count (done S H) + budget) H (between ++ plain last ∷ [])
 
 -- From H on the pass left after it has processed its hand, while others made what stands between
 pub record LeavesFrom (p : ℕ) (H M : List Element) (to : Pass Element) : Type 0 where
@@ -77,6 +80,10 @@ pub record HasFilled {R : Type 0} (limits : R → Limits) (s : Named R) (from : 
   pub legal : Legal (setting_of limits s.given) found
   pub now_seen : seen to ≡ found ++ filled (number from) es ∷ []
   pub now_mine : mine to ≡ mine from ++ filled (number from) es ∷ []
+
+-- The call made three steps on the lock word: two took the gate at once, and one freed it
+abbrev pub HasTurned : List LockStep → List LockStep → Type 0
+HasTurned before after = (held : List LockStep) × hit before held × freed_once held after
 
 -- What a ring knows after it has entered these feeds: so many more are entered and no Ask is; the next feed of each of its
 -- connections is so many further, and its block has neither come nor gone

@@ -7,7 +7,7 @@ ghost use Rattle.squeue_state.specs.Naming.{setting_of};
 ghost use Rattle.squeue_state.specs.Elements.{number_of, filled};
 ghost use Rattle.squeue_state.specs.Words.{Added};
 ghost use Rattle.squeue_enter.specs.Ways.{way_of};
-ghost use Rattle.squeue_enter.specs.Entering.{MayEnter, HasEntered, HasFilled, Brought, MayGoOn};
+ghost use Rattle.squeue_enter.specs.Entering.{MayEnter, HasEntered, HasFilled, HasTurned, Brought, MayGoOn};
 
 use crate::Mode;
 use perimeter_core::{Feed, Hook, Resident};
@@ -92,7 +92,7 @@ pub fn enter<R: Resident, H: Hook, W: Wait>(
 /// Queues one feed where the gate is free, and doesn't wait. Where the gate is held nothing is entered.
 pub fn try_fill<R: Resident>(sq: &Squeue<R>, pass: Pass, feed: Feed) -> Result<Pass, Missed>
     requires { MayEnter R.limits sq.now pass (feed ∷ []) }
-    ensures filled { MatchResult result (λ q. HasFilled R.limits sq.now pass (feed ∷ []) q) (λ m. missed (steps pass) m × IsReturned number_of sq.now.gate pass m.pass) }
+    ensures filled { MatchResult result (λ q. HasFilled R.limits sq.now pass (feed ∷ []) q × HasTurned (steps pass) (steps q)) (λ m. missed (steps pass) m × IsReturned number_of sq.now.gate pass m.pass) }
     ensures brought { IfOk result (λ q. Brought R.limits sq.now (feed ∷ []) pass q) }
     ensures more { IfOk result (λ q. MayGoOn R.limits sq.now (feed ∷ []) pass q) }
 {

@@ -1,11 +1,11 @@
 -- One more mark kept.
-use Rattle.std.proofs.Common.{◌≡◌, ◌+◌, ◌<◌, ◌≤◌, ℕ, Bool, true, false, if◌then◌else◌, List, [], ◌∷◌, ◌++◌, length, map, ap, sym, ◌∙◌, subst, arith, length-append}
+use Rattle.std.proofs.Common.{◌≡◌, ◌+◌, ◌*◌, ◌<◌, ◌≤◌, ℕ, Bool, true, false, if◌then◌else◌, List, [], ◌∷◌, ◌++◌, length, map, ap, sym, ◌∙◌, subst, arith, length-append}
 use Rattle.std.proofs.lemmas.List.{map-append, length-map}
 use Rattle.perimeter_core.specs.declared.marks.Mark.{Mark}
 use Rattle.perimeter_core.specs.History.{Element}
 use Rattle.perimeter_core.specs.Deeds.{entered, entries_of}
 use Rattle.perimeter_core.specs.Legal.{Legal}
-use Rattle.perimeter_core.specs.History.{Limits}
+use Rattle.perimeter_core.specs.History.{Limits, all_quotas}
 use Rattle.perimeter_core.proofs.OneMore.{entered_push}
 use Rattle.perimeter_core.proofs.Quotas.{entered_within}
 use Rattle.perimeter_core.proofs.HistoryLength.{length_bounded}
@@ -25,7 +25,7 @@ entered_more H e = ap length (entered_push H e) ∙ length-append (entered H) (e
 module _ {R : Type 0} (g : Given R) (t u : Traced) (H : List Element) (e : Element) (m : Mark) where
   -- where the marks are kept
   pub noted_one : (kept : Bool) → kept ≡ true → e.mark ≡ m → Noted g kept t H → marks_of u ≡ marks_of t ++ m ∷ [] → length u.entries ≤ length t.entries + length (entries_of m)
-      → t.mark_room ≤ u.mark_room → t.entry_room ≤ u.entry_room → Noted g kept u (H ++ e ∷ [])
+      → u.mark_room ≡ t.mark_room → u.entry_room ≡ t.entry_room → Noted g kept u (H ++ e ∷ [])
   noted_one kept on is n marks entries mark_room entry_room =
       let was : marks_of t ≡ map (λ x. x.mark) H = n.marks ∙ ap (λ b. if b then map (λ x. x.mark) H else []) on in
       let now : marks_of u ≡ map (λ x. x.mark) (H ++ e ∷ []) =
@@ -34,8 +34,8 @@ module _ {R : Type 0} (g : Given R) (t u : Traced) (H : List Element) (e : Eleme
         same = n.same;
         marks = now ∙ ap (λ b. if b then map (λ x. x.mark) (H ++ e ∷ []) else []) (sym on);
         entries = omega (arith, n.entries, entries, entered_more H e, ap (λ x. length (entries_of x)) is);
-        mark_room = λ k. omega (arith, n.mark_room k, mark_room);
-        entry_room = λ k. omega (arith, n.entry_room k, entry_room);
+        mark_room = mark_room ∙ n.mark_room;
+        entry_room = entry_room ∙ n.entry_room;
       }
 
   -- where they aren't
@@ -59,7 +59,9 @@ room_left limits g t H e kept l n on =
     let bound = length_bounded S (H ++ e ∷ []) l in
     let all = entered_within S (H ++ e ∷ []) l in
     let more = length-append H (e ∷ []) in
-    (omega (arith, count, bound, more, n.mark_room on), omega (arith, all, entered_more H e, n.entries, n.entry_room on))
+    let marks = n.mark_room ∙ ap (λ b. if b then 8 * all_quotas g.quotas + 4 * (length g.quotas + 1) else 0) on in
+    let entries = n.entry_room ∙ ap (λ b. if b then all_quotas g.quotas else 0) on in
+    (omega (arith, count, bound, more, marks), omega (arith, all, entered_more H e, n.entries, entries))
 
 -- the same of the value that is lent
 pub room_at : {R : Type 0} (limits : R → Limits) (g : Given R) (v w : Guarded R) (H : List Element) (p q : ℕ) (kind : Kind) (es : List Feed) (note : List Act) → v ≡ w → p ≡ q → Legal (setting_of limits g) (H ++ element_of q kind es note ∷ []) → Noted g w.traced w.trace H

@@ -9,3 +9,4 @@ pub mod Granting
 pub mod Closing
 pub mod Finish
 pub mod Opening
+pub mod Comes

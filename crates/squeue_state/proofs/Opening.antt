@@ -30,7 +30,7 @@ both_none false xs = refl
 module _ {R O : Type 0} (stands : R → Blocks → Type 0) (limits : R → Limits) (size : R → ℕ) (origin : R → O) where
   pub opens : (g : Given R) (i : Inner R) (r : R) (qs : List (ℕ × ℕ)) → g.quotas ≡ qs → g.first ≡ r → length g.starts ≡ size r → ((blocks : Blocks) (c : ℕ) → stands r blocks → get_or g.starts c false ≡ is_some (blocks c))
       → StandsEmpty (stands r) → length qs ≤ 63 → feed_quotas qs ≤ 2 ^ 30 → ask_quotas qs ≤ 2 ^ 40
-      → i.own ≡ Free → i.chain.items ≡ [] → i.wake ≡ false → i.polling ≡ false → i.here.items ≡ g.starts → i.closed.items ≡ replicate (length qs + 1) false → i.resident ≡ Some r → HasEmpty (room_of qs) i.spare → room_of qs ≤ vec_capacity i.chain
+      → i.own ≡ Free → i.chain.items ≡ [] → i.wake ≡ false → i.polling ≡ false → i.here.items ≡ g.starts → i.closed.items ≡ replicate (length qs + 1) false → i.resident ≡ Some r → HasEmpty (room_of qs) i.spare → room_of qs ≡ vec_capacity i.chain
       → Behind stands limits size origin g i []
   opens g i r qs is first conns here new few feeds asks own chain wake polling flags closed resident spare room =
       let same = new_blocks limits g new.0 (λ c. here new.0 c new.1) new.2 in
@@ -44,17 +44,17 @@ module _ {R O : Type 0} (stands : R → Blocks → Type 0) (limits : R → Limit
         closed = closed ∙ ap (λ (q : List (ℕ × ℕ)). replicate (length q + 1) false) (sym is);
         resident = rw (own, resident) (record { stands_for = subst (stands r) same new.1; same_limits = ap limits (sym first); same_size = sym conns; same_origin = ap origin (sym first) });
         spare = rw own (subst (λ (q : List (ℕ × ℕ)). HasEmpty (room_of q) i.spare) (sym is) spare);
-        room = subst (λ (q : List (ℕ × ℕ)). room_of q ≤ vec_capacity i.chain) (sym is) room;
+        room = subst (λ (q : List (ℕ × ℕ)). room_of q ≡ vec_capacity i.chain) (sym is) room;
         few = subst (λ (q : List (ℕ × ℕ)). (all_quotas q ≤ 2 ^ 41) × (length q < 64) × (feed_quotas q ≤ 2 ^ 30)) (sym is) (let both = all_both qs in omega (arith, both, feeds, asks), omega (arith, few), feeds);
       }
 
 pub notes_none : {R : Type 0} (g : Given R) (kept : Bool) (t : Traced) (qs : List (ℕ × ℕ)) → g.quotas ≡ qs → g.traced ≡ kept → t.marks ≡ [] → t.entries ≡ []
-    → (kept ≡ true → 8 * all_quotas qs + 4 * (length qs + 1) ≤ t.mark_room) → (kept ≡ true → all_quotas qs ≤ t.entry_room) → Noted g kept t []
+    → t.mark_room ≡ (if kept then 8 * all_quotas qs + 4 * (length qs + 1) else 0) → t.entry_room ≡ (if kept then all_quotas qs else 0) → Noted g kept t []
 notes_none g kept t qs is on marks entries mark_room entry_room =
     record {
       same = sym on;
       marks = ap (map (mark_of t.entries)) marks ∙ sym (both_none kept []);
       entries = omega (arith, ap length entries);
-      mark_room = subst (λ (q : List (ℕ × ℕ)). kept ≡ true → 8 * all_quotas q + 4 * (length q + 1) ≤ t.mark_room) (sym is) mark_room;
-      entry_room = subst (λ (q : List (ℕ × ℕ)). kept ≡ true → all_quotas q ≤ t.entry_room) (sym is) entry_room;
+      mark_room = subst (λ (q : List (ℕ × ℕ)). t.mark_room ≡ (if kept then 8 * all_quotas q + 4 * (length q + 1) else 0)) (sym is) mark_room;
+      entry_room = subst (λ (q : List (ℕ × ℕ)). t.entry_room ≡ (if kept then all_quotas q else 0)) (sym is) entry_room;
     }

@@ -1,5 +1,5 @@
 -- One more element behind the gate.
-use Rattle.std.proofs.Common.{◌≡◌, ◌≤◌, ℕ, ◌||◌, List, [], ◌∷◌, ◌++◌, ap, sym, ◌∙◌, None, Some, Option, not, Bool, true, false, refl, length, length-set, slice_set, arith}
+use Rattle.std.proofs.Common.{◌≡◌, ℕ, ◌||◌, List, [], ◌∷◌, ◌++◌, ap, sym, ◌∙◌, None, Some, Option, not, Bool, true, false, refl, length, length-set, slice_set, arith}
 use Rattle.std.specs.Prelude.{vec_capacity}
 use Rattle.std.specs.Prelude.{Vec}
 use Rattle.perimeter_core.specs.declared.entries.Entry.{Entry}
@@ -48,7 +48,7 @@ module _ {R O : Type 0} (stands : R → Blocks → Type 0) (limits : R → Limit
   pub goes_on : (e : Element) → B i H → May S H e
       → j.own ≡ (after (run S H) e.mark).own → j.chain.items ≡ (after (run S H) e.mark).chain → j.wake ≡ (after (run S H) e.mark).wake → j.polling ≡ (after (run S H) e.mark).polling
       → j.here.items ≡ (after (run S H) e.mark).here → j.closed.items ≡ (after (run S H) e.mark).closed
-      → Lies stands limits size origin g j.own j.resident (peri S (H ++ e ∷ [])) → Spare (room_of g.quotas) j.own j.spare → room_of g.quotas ≤ vec_capacity j.chain
+      → Lies stands limits size origin g j.own j.resident (peri S (H ++ e ∷ [])) → Spare (room_of g.quotas) j.own j.spare → room_of g.quotas ≡ vec_capacity j.chain
       → B j (H ++ e ∷ [])
   goes_on e b m own chain wake polling here closed resident spare room =
       let s = sym (run_push (start S) H e) in
@@ -68,7 +68,7 @@ module _ {R O : Type 0} (stands : R → Blocks → Type 0) (limits : R → Limit
 
   pub fill_behind : (p : ℕ) (es : List Feed) → B i H → May S H (filled p es)
       → j.own ≡ i.own → j.chain.items ≡ i.chain.items ++ entries es → j.wake ≡ (is_free i.own || i.wake) → j.polling ≡ polls (i.chain.items ++ entries es) i.polling
-      → j.here.items ≡ i.here.items → j.closed.items ≡ i.closed.items → j.resident ≡ i.resident → j.spare ≡ i.spare → room_of g.quotas ≤ vec_capacity j.chain → B j (H ++ filled p es ∷ [])
+      → j.here.items ≡ i.here.items → j.closed.items ≡ i.closed.items → j.resident ≡ i.resident → j.spare ≡ i.spare → room_of g.quotas ≡ vec_capacity j.chain → B j (H ++ filled p es ∷ [])
   fill_behind p es b m own chain wake polling here closed resident spare room =
       let e = filled p es in
       goes_on e b m (own ∙ b.own) (rw b.chain at chain) (rw (b.own, b.wake) at wake) (rw (b.chain, b.polling) at polling) (here ∙ b.here) (closed ∙ b.closed)
@@ -77,7 +77,7 @@ module _ {R O : Type 0} (stands : R → Blocks → Type 0) (limits : R → Limit
 
   pub close_behind : (p : ℕ) → B i H → May S H (closed_by p)
       → j.own ≡ i.own → j.chain.items ≡ i.chain.items → j.wake ≡ i.wake → j.polling ≡ polls i.chain.items i.polling
-      → j.here.items ≡ i.here.items → j.closed.items ≡ slice_set i.closed.items p true → j.resident ≡ i.resident → j.spare ≡ i.spare → room_of g.quotas ≤ vec_capacity j.chain → B j (H ++ closed_by p ∷ [])
+      → j.here.items ≡ i.here.items → j.closed.items ≡ slice_set i.closed.items p true → j.resident ≡ i.resident → j.spare ≡ i.spare → room_of g.quotas ≡ vec_capacity j.chain → B j (H ++ closed_by p ∷ [])
   close_behind p b m own chain wake polling here closed resident spare room =
       let e = closed_by p in
       goes_on e b m (own ∙ b.own) (chain ∙ b.chain) (wake ∙ b.wake) (rw (b.chain, b.polling) at polling) (here ∙ b.here) (rw b.closed at closed)
@@ -86,7 +86,7 @@ module _ {R O : Type 0} (stands : R → Blocks → Type 0) (limits : R → Limit
 
   pub accept_behind : (p : ℕ) → B i H → May S H (accepted p)
       → j.own ≡ Out p → j.chain.items ≡ i.chain.items → j.wake ≡ i.wake → j.polling ≡ polls i.chain.items i.polling
-      → j.here.items ≡ i.here.items → j.closed.items ≡ i.closed.items → j.resident ≡ None → j.spare ≡ None → room_of g.quotas ≤ vec_capacity j.chain → B j (H ++ accepted p ∷ [])
+      → j.here.items ≡ i.here.items → j.closed.items ≡ i.closed.items → j.resident ≡ None → j.spare ≡ None → room_of g.quotas ≡ vec_capacity j.chain → B j (H ++ accepted p ∷ [])
   accept_behind p b m own chain wake polling here closed resident spare room =
       let e = accepted p in
       goes_on e b m own (chain ∙ b.chain) (wake ∙ b.wake) (rw (b.chain, b.polling) at polling) (here ∙ b.here) (closed ∙ b.closed)
@@ -96,38 +96,38 @@ module _ {R O : Type 0} (stands : R → Blocks → Type 0) (limits : R → Limit
   pub out_behind : (e : Element) (p : ℕ) → B i H → May S H e
       → (after (run S H) e.mark).own ≡ Out p → (after (run S H) e.mark).here ≡ (run S H).here → (after (run S H) e.mark).closed ≡ (run S H).closed
       → j.own ≡ Out p → j.chain.items ≡ (after (run S H) e.mark).chain → j.wake ≡ (after (run S H) e.mark).wake → j.polling ≡ (after (run S H) e.mark).polling
-      → j.here.items ≡ i.here.items → j.closed.items ≡ i.closed.items → j.resident ≡ None → j.spare ≡ None → room_of g.quotas ≤ vec_capacity j.chain → B j (H ++ e ∷ [])
+      → j.here.items ≡ i.here.items → j.closed.items ≡ i.closed.items → j.resident ≡ None → j.spare ≡ None → room_of g.quotas ≡ vec_capacity j.chain → B j (H ++ e ∷ [])
   out_behind e p b m out same_here same_closed own chain wake polling here closed resident spare room =
       goes_on e b m (own ∙ sym out) chain wake polling (here ∙ (b.here ∙ sym same_here)) (closed ∙ (b.closed ∙ sym same_closed))
       (rw (own, resident) tt) (rw (own, spare) tt) room
 
   pub work_behind : (p : ℕ) → B i H → May S H (worked p)
       → j.own ≡ Out p → j.chain.items ≡ [] → j.wake ≡ false → j.polling ≡ polls j.chain.items i.polling
-      → j.here.items ≡ i.here.items → j.closed.items ≡ i.closed.items → j.resident ≡ None → j.spare ≡ None → room_of g.quotas ≤ vec_capacity j.chain → B j (H ++ worked p ∷ [])
+      → j.here.items ≡ i.here.items → j.closed.items ≡ i.closed.items → j.resident ≡ None → j.spare ≡ None → room_of g.quotas ≡ vec_capacity j.chain → B j (H ++ worked p ∷ [])
   work_behind p b m own chain wake polling here closed resident spare room =
       out_behind (worked p) p b m refl refl refl own chain wake (rw (chain, b.polling) at polling) here closed resident spare room
 
   pub claim_behind : (p : ℕ) (es : List Feed) → B i H → May S H (claimed p es)
       → j.own ≡ Out p → j.chain.items ≡ [] → j.wake ≡ false → j.polling ≡ polls j.chain.items i.polling
-      → j.here.items ≡ i.here.items → j.closed.items ≡ i.closed.items → j.resident ≡ None → j.spare ≡ None → room_of g.quotas ≤ vec_capacity j.chain → B j (H ++ claimed p es ∷ [])
+      → j.here.items ≡ i.here.items → j.closed.items ≡ i.closed.items → j.resident ≡ None → j.spare ≡ None → room_of g.quotas ≡ vec_capacity j.chain → B j (H ++ claimed p es ∷ [])
   claim_behind p es b m own chain wake polling here closed resident spare room =
       out_behind (claimed p es) p b m refl refl refl own chain wake (rw (chain, b.polling) at polling) here closed resident spare room
 
   pub claim_ask_behind : (p : ℕ) → B i H → May S H (claimed_ask p)
       → j.own ≡ Out p → j.chain.items ≡ [] → j.wake ≡ false → j.polling ≡ polls j.chain.items i.polling
-      → j.here.items ≡ i.here.items → j.closed.items ≡ i.closed.items → j.resident ≡ None → j.spare ≡ None → room_of g.quotas ≤ vec_capacity j.chain → B j (H ++ claimed_ask p ∷ [])
+      → j.here.items ≡ i.here.items → j.closed.items ≡ i.closed.items → j.resident ≡ None → j.spare ≡ None → room_of g.quotas ≡ vec_capacity j.chain → B j (H ++ claimed_ask p ∷ [])
   claim_ask_behind p b m own chain wake polling here closed resident spare room =
       out_behind (claimed_ask p) p b m refl refl refl own chain wake (rw (chain, b.polling) at polling) here closed resident spare room
 
   pub fast_behind : (p : ℕ) (e : Feed) → B i H → May S H (fasted p e)
       → j.own ≡ Out p → j.chain.items ≡ i.chain.items → j.wake ≡ i.wake → j.polling ≡ polls i.chain.items i.polling
-      → j.here.items ≡ i.here.items → j.closed.items ≡ i.closed.items → j.resident ≡ None → j.spare ≡ None → room_of g.quotas ≤ vec_capacity j.chain → B j (H ++ fasted p e ∷ [])
+      → j.here.items ≡ i.here.items → j.closed.items ≡ i.closed.items → j.resident ≡ None → j.spare ≡ None → room_of g.quotas ≡ vec_capacity j.chain → B j (H ++ fasted p e ∷ [])
   fast_behind p e b m own chain wake polling here closed resident spare room =
       out_behind (fasted p e) p b m refl refl refl own (chain ∙ b.chain) (wake ∙ b.wake) (rw (b.chain, b.polling) at polling) here closed resident spare room
 
   pub take_behind : (p : ℕ) → B i H → May S H (took p)
       → j.own ≡ i.own → j.chain.items ≡ [] → j.wake ≡ i.wake → j.polling ≡ polls [] i.polling
-      → j.here.items ≡ i.here.items → j.closed.items ≡ i.closed.items → j.resident ≡ i.resident → j.spare ≡ i.spare → room_of g.quotas ≤ vec_capacity j.chain → B j (H ++ took p ∷ [])
+      → j.here.items ≡ i.here.items → j.closed.items ≡ i.closed.items → j.resident ≡ i.resident → j.spare ≡ i.spare → room_of g.quotas ≡ vec_capacity j.chain → B j (H ++ took p ∷ [])
   take_behind p b m own chain wake polling here closed resident spare room =
       let out : i.own ≡ Out p = b.own ∙ m.step.0 in
       out_behind (took p) p b m m.step.0 refl refl (own ∙ out) chain (wake ∙ b.wake) (rw b.polling at polling) here closed
@@ -135,7 +135,7 @@ module _ {R O : Type 0} (stands : R → Blocks → Type 0) (limits : R → Limit
 
   pub ask_behind : (p : ℕ) → B i H → May S H (asked p)
       → j.own ≡ i.own → j.chain.items ≡ i.chain.items ++ Entry'.Ask p ∷ [] → j.wake ≡ i.wake → j.polling ≡ polls (i.chain.items ++ Entry'.Ask p ∷ []) i.polling
-      → j.here.items ≡ i.here.items → j.closed.items ≡ i.closed.items → j.resident ≡ i.resident → j.spare ≡ i.spare → room_of g.quotas ≤ vec_capacity j.chain → B j (H ++ asked p ∷ [])
+      → j.here.items ≡ i.here.items → j.closed.items ≡ i.closed.items → j.resident ≡ i.resident → j.spare ≡ i.spare → room_of g.quotas ≡ vec_capacity j.chain → B j (H ++ asked p ∷ [])
   ask_behind p b m own chain wake polling here closed resident spare room =
       let e = asked p in
       goes_on e b m (own ∙ b.own) (rw b.chain at chain) (wake ∙ b.wake) (rw (b.chain, b.polling) at polling) (here ∙ b.here) (closed ∙ b.closed)
@@ -145,7 +145,7 @@ module _ {R O : Type 0} (stands : R → Blocks → Type 0) (limits : R → Limit
   pub leave_behind : (p rest : ℕ) (act : SynchAct) (note : List Act) (left : List Entry) (r : R)
       → B i H → left ≡ unprocessed rest (run S H).hand → IsPeri stands limits size origin g r (with_act act note (with_feeds (processed rest (run S H).hand) (peri S H))) → May S H (gone p rest act note)
       → j.own ≡ Free → j.chain.items ≡ left ++ i.chain.items → j.wake ≡ not (is_empty (left ++ i.chain.items)) → j.polling ≡ polls (left ++ i.chain.items) i.polling
-      → j.here.items ≡ here_after act i.here.items → j.closed.items ≡ i.closed.items → j.resident ≡ Some r → HasEmpty (room_of g.quotas) j.spare → room_of g.quotas ≤ vec_capacity j.chain
+      → j.here.items ≡ here_after act i.here.items → j.closed.items ≡ i.closed.items → j.resident ≡ Some r → HasEmpty (room_of g.quotas) j.spare → room_of g.quotas ≡ vec_capacity j.chain
       → B j (H ++ gone p rest act note ∷ [])
   leave_behind p rest act note left r b is peri_r m own chain wake polling here closed resident spare room =
       let e = gone p rest act note in
@@ -155,7 +155,7 @@ module _ {R O : Type 0} (stands : R → Blocks → Type 0) (limits : R → Limit
   pub grant_behind : (p j' rest : ℕ) (left : List Entry) (r : R)
       → B i H → left ≡ unprocessed rest (run S H).hand → IsPeri stands limits size origin g r (with_feeds (processed rest (run S H).hand) (peri S H)) → May S H (granted p j' rest)
       → j.own ≡ Granted j' → j.chain.items ≡ left ++ i.chain.items → j.wake ≡ i.wake → j.polling ≡ polls (left ++ i.chain.items) i.polling
-      → j.here.items ≡ i.here.items → j.closed.items ≡ i.closed.items → j.resident ≡ Some r → HasEmpty (room_of g.quotas) j.spare → room_of g.quotas ≤ vec_capacity j.chain
+      → j.here.items ≡ i.here.items → j.closed.items ≡ i.closed.items → j.resident ≡ Some r → HasEmpty (room_of g.quotas) j.spare → room_of g.quotas ≡ vec_capacity j.chain
       → B j (H ++ granted p j' rest ∷ [])
   grant_behind p j' rest left r b is peri_r m own chain wake polling here closed resident spare room =
       let e = granted p j' rest in
@@ -170,17 +170,17 @@ same_flags (Done.Out c) here = length-set here c false
 same_flags (Done.In c) here = length-set here c true
 
 -- where nobody is out, the second buffer is there
-pub empty_more : {A : Type 0} (n k : ℕ) (s t : Option (Vec Entry A)) → t ≡ s → k ≤ n → HasEmpty n s → HasEmpty k t
+pub empty_more : {A : Type 0} (n k : ℕ) (s t : Option (Vec Entry A)) → t ≡ s → k ≡ n → HasEmpty n s → HasEmpty k t
 empty_more n k None t is le h = absurd h
 empty_more n k (Some v) t is le h = rw is (h.0, omega (arith, le, h.1))
 
 pub empty_free : {A : Type 0} (room : ℕ) (o : Own) (s : Option (Vec Entry A)) → Spare room o s → o ≡ Free → HasEmpty room s
 empty_free room o s sp free = rw free at sp
 
-pub spare_free : {A : Type 0} (room : ℕ) (o : Own) (s : Option (Vec Entry A)) (v : Vec Entry A) → Spare room o s → o ≡ Free → s ≡ Some v → (v.items ≡ []) × (room ≤ vec_capacity v)
+pub spare_free : {A : Type 0} (room : ℕ) (o : Own) (s : Option (Vec Entry A)) (v : Vec Entry A) → Spare room o s → o ≡ Free → s ≡ Some v → (v.items ≡ []) × (room ≡ vec_capacity v)
 spare_free room o s v sp free is = rw (free, is) at sp
 
-pub spare_granted : {A : Type 0} (room : ℕ) (o : Own) (p : ℕ) (s : Option (Vec Entry A)) (v : Vec Entry A) → Spare room o s → o ≡ Granted p → s ≡ Some v → (v.items ≡ []) × (room ≤ vec_capacity v)
+pub spare_granted : {A : Type 0} (room : ℕ) (o : Own) (p : ℕ) (s : Option (Vec Entry A)) (v : Vec Entry A) → Spare room o s → o ≡ Granted p → s ≡ Some v → (v.items ≡ []) × (room ≡ vec_capacity v)
 spare_granted room o p s v sp granted is = rw (granted, is) at sp
 
 pub act_below : (n : ℕ) (S : Setting) (p rest : ℕ) (act : SynchAct) → n ≡ conns S → InRange S (On.Leave p rest act) → ActBelow n act

@@ -1,5 +1,5 @@
 -- What a call knows of the value that its turn holds.
-use Rattle.std.proofs.Common.{◌≡◌, ℕ, List, [], ◌∷◌, ◌++◌, ap, sym, ◌∙◌, subst, refl, Some, None, Option}
+use Rattle.std.proofs.Common.{◌≡◌, ◌+◌, arith, ℕ, List, [], ◌∷◌, ◌++◌, ap, sym, ◌∙◌, subst, refl, Some, None, Option}
 use Rattle.perimeter_core.specs.declared.marks.Own.{Own}
 use Rattle.perimeter_core.specs.declared.marks.Own.TheVariants.{Free, Granted}
 use Rattle.perimeter_core.specs.History.{Element, Setting, Limits}
@@ -7,8 +7,8 @@ use Rattle.perimeter_core.specs.Legal.{May}
 use Rattle.perimeter_core.specs.Blocks.{Blocks, peri}
 use Rattle.perimeter_core.proofs.BlocksFollow.{peri_push}
 use Rattle.perimeter_core.proofs.FeedActs.{with_none}
-use Rattle.turn_gate.specs.Passes.{IsPassOf, number, seen, mine}
-use Rattle.turn_gate.specs.Helds.{held_value, held_seen, held_mine, held_number}
+use Rattle.turn_gate.specs.Passes.{IsPassOf, freed_once, turns_of, waited, number, seen, mine, steps}
+use Rattle.turn_gate.specs.Helds.{held_value, held_seen, held_mine, held_number, held_steps}
 use Rattle.turn_gate.specs.declared.held.Held.{Held}
 use Rattle.squeue_state.specs.declared.inner.Inner.{Inner}
 use Rattle.squeue_state.specs.declared.guarded.Guarded.{Guarded}
@@ -22,6 +22,9 @@ use Rattle.perimeter_core.specs.History.{start, run}
 use Rattle.perimeter_core.specs.Perimeter.{after}
 use Rattle.perimeter_core.proofs.OneMore.{run_push}
 use Rattle.turn_gate.specs.Gates.{gate_id, first_of}
+use Rattle.turn_gate.specs.declared.views.LockStep.{LockStep}
+use Rattle.turn_gate.specs.declared.views.LockStep.TheVariants.{Serve}
+use Rattle.turn_gate.proofs.Passing.{turns_of-append}
 use Rattle.turn_gate.specs.declared.gate.Gate.{Gate}
 use Rattle.turn_gate.specs.declared.pass.Pass.{Pass}
 use Rattle.turn_gate.specs.Helds.{Takes}
@@ -73,14 +76,16 @@ module _ {R O : Type 0} (stands : R → Blocks → Type 0) (limits : R → Limit
 
 -- what the release says of the pass, by the turn
 pub marked : {R : Type 0} (t s : Named R) (G : Gate (Guarded R) Kind Element) (h : Held (Guarded R) Kind Element) (u : Turned R) (e : ℕ → Element) (x : Element) (p : Pass Element) → turned_of t h ≡ u → u.squeue ≡ s → named_of G ≡ s → e u.number ≡ x
-    → IsPassOf number_of (gate_id G) p × (number p ≡ held_number h) → seen p ≡ held_seen h ++ e (held_number h) ∷ [] → mine p ≡ held_mine h ++ e (held_number h) ∷ [] → Marked u x p
-marked {R} t s G h u e x p is sq gs ex its saw made =
+    → IsPassOf number_of (gate_id G) p × (number p ≡ held_number h) → seen p ≡ held_seen h ++ e (held_number h) ∷ [] → mine p ≡ held_mine h ++ e (held_number h) ∷ []
+    → freed_once (held_steps h) (steps p) → Marked u x p
+marked {R} t s G h u e x p is sq gs ex its saw made freed =
     let same : named_of G ≡ u.squeue = gs ∙ sym sq in
     record {
       is_pass = subst (λ (n : Named R). IsPassOf number_of n.gate p) same its.0;
       same_number = its.1 ∙ ap (λ (v : Turned R). v.number) is;
       now_seen = saw ∙ (ap (λ (v : Turned R). v.found ++ e v.number ∷ []) is ∙ ap (λ y. u.found ++ y ∷ []) ex);
       now_mine = made ∙ (ap (λ (v : Turned R). v.mine ++ e v.number ∷ []) is ∙ ap (λ y. u.mine ++ y ∷ []) ex);
+      one_step = subst (λ (v : Turned R). freed_once v.made (steps p)) is freed;
     }
 
 -- the hand after the mark
@@ -101,3 +106,10 @@ accepted_same S H p m = peri_push S H (accepted p) m ∙ with_none (peri S H)
 
 pub worked_same : (S : Setting) (H : List Element) (p : ℕ) → May S H (worked p) → peri S (H ++ worked p ∷ []) ≡ peri S H
 worked_same S H p m = peri_push S H (worked p) m ∙ with_none (peri S H)
+
+-- steps that free the lock by none of them, and then one that does, are one turn
+pub one_turn : (xs ys zs : List LockStep) → waited xs ys → freed_once ys zs → turns_of zs ≡ turns_of xs + 1
+one_turn xs ys zs w f =
+    let a = turns_of-append xs w.0 in
+    let b = turns_of-append ys (Serve f.0 ∷ []) in
+    omega (arith, a, b, w.2, ap turns_of w.1, ap turns_of f.1)

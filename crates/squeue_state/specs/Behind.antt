@@ -1,5 +1,5 @@
 -- The value behind a gate stands for a legal history.
-use Rattle.std.specs.Prelude.{◌≡◌, ◌<◌, ◌≤◌, ◌+◌, ◌*◌, ◌^◌, ℕ, Bool, true, if◌then◌else◌, Option, Some, None, List, [], map, length, vec_capacity}
+use Rattle.std.specs.Prelude.{◌≡◌, ◌<◌, ◌≤◌, ◌+◌, ◌*◌, ◌^◌, ℕ, Bool, if◌then◌else◌, Option, Some, None, List, [], map, length, vec_capacity}
 use Rattle.std.specs.Prelude.{Vec}
 use Rattle.perimeter_core.specs.declared.entries.Entry.{Entry}
 use Rattle.perimeter_core.specs.declared.marks.SynchAct.{SynchAct}
@@ -54,10 +54,10 @@ module _ {R O : Type 0} (stands : R → Blocks → Type 0) (limits : R → Limit
   Lies g (Granted p) None blocks = ⊥
   Lies g (Granted p) (Some r) blocks = IsPeri g r blocks
 
--- there is an empty buffer with room for n entries
+-- there is an empty buffer with room for just n entries
 abbrev pub HasEmpty : {A : Type 0} → ℕ → Option (Vec Entry A) → Type 0
 HasEmpty n None = ⊥
-HasEmpty n (Some v) = (v.items ≡ []) × (n ≤ vec_capacity v)
+HasEmpty n (Some v) = (v.items ≡ []) × (n ≡ vec_capacity v)
 
 -- so does the second buffer, empty
 abbrev pub Spare : {A : Type 0} → ℕ → Own → Option (Vec Entry A) → Type 0
@@ -67,7 +67,8 @@ Spare room Free s = HasEmpty room s
 Spare room (Granted p) s = HasEmpty room s
 
 module _ {R O : Type 0} (stands : R → Blocks → Type 0) (limits : R → Limits) (size : R → ℕ) (origin : R → O) where
-  -- what lies behind the gate stands for the history; the counts are few enough for what counts marks and entries
+  -- What lies behind the gate stands for the history. The chain has its room of the beginning. The counts are few enough for
+  -- what counts marks and entries
   pub record Behind (g : Given R) (i : Inner R) (H : List Element) : Type 0 where
     pub legal : Legal (setting_of limits g) H
     pub own : i.own ≡ (run (setting_of limits g) H).own
@@ -78,16 +79,16 @@ module _ {R O : Type 0} (stands : R → Blocks → Type 0) (limits : R → Limit
     pub closed : i.closed.items ≡ (run (setting_of limits g) H).closed
     pub resident : Lies stands limits size origin g i.own i.resident (peri (setting_of limits g) H)
     pub spare : Spare (room_of g.quotas) i.own i.spare
-    pub room : room_of g.quotas ≤ vec_capacity i.chain
+    pub room : room_of g.quotas ≡ vec_capacity i.chain
     pub few : (all_quotas g.quotas ≤ 2 ^ 41) × (length g.quotas < 64) × (feed_quotas g.quotas ≤ 2 ^ 30)
 
--- The marks of the history are kept where that was asked for, with room for all that may come
+-- The marks of the history are kept where that was asked for, with room for just all that may come
 pub record Noted {R : Type 0} (g : Given R) (traced : Bool) (t : Traced) (H : List Element) : Type 0 where
   pub same : traced ≡ g.traced
   pub marks : marks_of t ≡ (if traced then map (λ e. e.mark) H else [])
   pub entries : length t.entries ≤ length (entered H)
-  pub mark_room : traced ≡ true → 8 * all_quotas g.quotas + 4 * (length g.quotas + 1) ≤ t.mark_room
-  pub entry_room : traced ≡ true → all_quotas g.quotas ≤ t.entry_room
+  pub mark_room : t.mark_room ≡ (if traced then 8 * all_quotas g.quotas + 4 * (length g.quotas + 1) else 0)
+  pub entry_room : t.entry_room ≡ (if traced then all_quotas g.quotas else 0)
 
 module _ {R O : Type 0} (stands : R → Blocks → Type 0) (limits : R → Limits) (size : R → ℕ) (origin : R → O) where
   -- in a gate made with the value f, the value v stands for the history
@@ -100,7 +101,7 @@ ActBelow n (Done.Out c) = c < n
 ActBelow n (Done.In c) = c < n
 ActBelow n _ = Unit {0}
 
--- what is left of the squeue's hand, in a buffer with room for all that may be queued
+-- what is left of the squeue's hand, in a buffer with room for just all that may be queued
 pub record LiesAs {R : Type 0} (g : Given R) (capacity rest : ℕ) (entries hand : List Entry) : Type 0 where
   pub is_left : entries ≡ unprocessed rest hand
-  pub has_room : room_of g.quotas ≤ capacity
+  pub has_room : room_of g.quotas ≡ capacity

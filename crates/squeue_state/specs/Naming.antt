@@ -3,6 +3,7 @@ use Rattle.std.specs.Prelude.{ℕ, Bool, List}
 use Rattle.atomic_table.specs.Seated.{TableId}
 use Rattle.perimeter_core.specs.declared.entries.Entry.{Entry}
 use Rattle.perimeter_core.specs.History.{Element, Setting, Limits}
+use Rattle.turn_gate.specs.declared.views.LockStep.{LockStep}
 
 -- what a squeue was made with, but for its resident: of each pass but the worker's, how many feeds and asks it may enter;
 -- for each connection, whether its block was here; and whether the marks are kept
@@ -27,12 +28,14 @@ pub record Named (R : Type 0) : Type 0 where
   pub gate : TableId
   pub given : Given R
 
--- a turn: its squeue, its pass's number, the history that it found, and the pass's own elements in it
+-- a turn: its squeue, its pass's number, the history that it found, the pass's own elements in it, and all its pass's steps
+-- on the lock word
 pub record Turned (R : Type 0) : Type 0 where
   pub squeue : Named R
   pub number : ℕ
   pub found : List Element
   pub mine : List Element
+  pub made : List LockStep
 
 -- what is left of a hand, and the room of its buffer
 pub record Handed : Type 0 where

@@ -1,8 +1,8 @@
 -- The clauses of a squeue's calls.
 use Rattle.std.specs.Prelude.{Bool, false, ◌≡◌, ◌<◌, ◌≤◌, ◌^◌, ◌+◌, ℕ, Option, Some, None, is_some, List, [], ◌∷◌, ◌++◌, length, slice_index_or}
 use Rattle.turn_gate.specs.History.{Begins, only}
-use Rattle.turn_gate.specs.Passes.{IsPassOf, number, seen, mine}
-use Rattle.turn_gate.specs.Helds.{IsHeldOf, held_number, held_seen, held_mine, held_value}
+use Rattle.turn_gate.specs.Passes.{IsPassOf, freed_once, turns_of, waited, number, seen, mine, steps}
+use Rattle.turn_gate.specs.Helds.{IsHeldOf, held_number, held_seen, held_mine, held_steps, held_value}
 use Rattle.turn_gate.specs.Gates.{gate_id, first_of}
 use Rattle.turn_gate.specs.declared.pass.Pass.{Pass}
 use Rattle.turn_gate.specs.declared.held.Held.{Held}
@@ -34,9 +34,10 @@ module _ {R O : Type 0} (stands : R → Blocks → Type 0) (limits : R → Limit
       × Noted s.given (held_value h).traced (held_value h).trace (held_seen h)
 
 abbrev pub turned_of : {R : Type 0} → Named R → Held (Guarded R) Kind Element → Turned R
-turned_of s h = record { squeue = s; number = held_number h; found = held_seen h; mine = held_mine h }
+turned_of s h = record { squeue = s; number = held_number h; found = held_seen h; mine = held_mine h; made = held_steps h }
 
--- the turn has found a legal history, which goes on from what the pass has seen with elements of others
+-- The turn has found a legal history, which goes on from what the pass has seen with elements of others. The pass keeps its
+-- steps on the lock word, and has not freed the lock since
 pub record Found {R : Type 0} (limits : R → Limits) (s : Named R) (p : Pass Element) (u : Turned R) : Type 0 where
   pub squeue : u.squeue ≡ s
   pub same_number : u.number ≡ number p
@@ -44,32 +45,35 @@ pub record Found {R : Type 0} (limits : R → Limits) (s : Named R) (p : Pass El
   pub goes_on : Begins (seen p) u.found
   pub legal : Legal (setting_of limits s.given) u.found
   pub own : only number_of u.number u.found ≡ u.mine
+  pub no_turn_yet : waited (steps p) u.made
   -- so what is queued can be counted in 32 bits
   pub few : (length s.given.quotas < 64) × (feed_quotas s.given.quotas ≤ 2 ^ 30)
 
--- the pass afterwards has seen what the turn found and then the element
+-- the pass afterwards has seen what the turn found and then the element, and made one more step, which freed the lock
 pub record Marked {R : Type 0} (u : Turned R) (e : Element) (p : Pass Element) : Type 0 where
   pub is_pass : IsPassOf number_of u.squeue.gate p
   pub same_number : number p ≡ u.number
   pub now_seen : seen p ≡ u.found ++ e ∷ []
   pub now_mine : mine p ≡ u.mine ++ e ∷ []
+  pub one_step : freed_once u.made (steps p)
 
--- the turn left no mark
+-- the turn left no mark, and made one more step, which freed the lock
 pub record Unmarked {R : Type 0} (u : Turned R) (p : Pass Element) : Type 0 where
   pub is_pass : IsPassOf number_of u.squeue.gate p
   pub same_number : number p ≡ u.number
   pub now_seen : seen p ≡ u.found
   pub now_mine : mine p ≡ u.mine
+  pub one_step : freed_once u.made (steps p)
 
 -- the hand is what is left of the squeue's hand
 pub record IsLeft {R : Type 0} (limits : R → Limits) (g : Given R) (h : List Element) (hand : Handed) : Type 0 where
   pub is_left : hand.left ≡ unprocessed (length hand.left) (run (setting_of limits g) h).hand
-  pub has_room : room_of g.quotas ≤ hand.room
+  pub has_room : room_of g.quotas ≡ hand.room
 
 -- the hand is the squeue's whole hand
 pub record IsWhole {R : Type 0} (limits : R → Limits) (g : Given R) (h : List Element) (hand : Handed) : Type 0 where
   pub is_whole : hand.left ≡ (run (setting_of limits g) h).hand
-  pub has_room : room_of g.quotas ≤ hand.room
+  pub has_room : room_of g.quotas ≡ hand.room
 
 -- what the resident stands for when all but what is left of the hand is processed, and the act is done
 abbrev pub peri_left : {R : Type 0} → (R → Limits) → Given R → List Element → Handed → SynchAct → List Act → Blocks
@@ -86,7 +90,8 @@ asker [] = 0
 asker (Entry'.Feed c n ∷ es) = 0
 asker (Entry'.Ask j ∷ es) = j
 
--- the pass left one mark, where its turn found a legal history that goes on from what the pass had seen with elements of others
+-- the pass left one mark in one turn, which found a legal history that goes on from what the pass had seen with elements of
+-- others
 pub record Added {R : Type 0} (limits : R → Limits) (s : Named R) (p : Pass Element) (e : Element) (q : Pass Element) : Type 0 where
   pub found : List Element
   pub goes_on : Begins (seen p) found
@@ -96,6 +101,7 @@ pub record Added {R : Type 0} (limits : R → Limits) (s : Named R) (p : Pass El
   pub same_number : number q ≡ number p
   pub now_seen : seen q ≡ found ++ e ∷ []
   pub now_mine : mine q ≡ mine p ++ e ∷ []
+  pub one_turn : turns_of (steps q) ≡ turns_of (steps p) + 1
 
 -- the worker's pass has seen the end
 abbrev pub HasSeenEnd : Setting → Pass Element → Type 0

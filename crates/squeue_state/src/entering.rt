@@ -27,7 +27,12 @@ impl<R: Resident> Squeue<R> {
     {
         let Turn { mut held, of: _ } = turn;
         held.value().inner.fill(es);
-        end_turn::<R, Brand>(&self.gate, held, Kind::Fill, es)
+        let wakes = held.get().inner.wake;
+        let pass = end_turn::<R, Brand>(&self.gate, held, Kind::Fill, es);
+        if wakes {
+            self.bells.ring_worker();
+        }
+        pass
     }
 
     /// Takes the perimeter with one feed, where nobody has it and nothing is queued.
@@ -106,6 +111,8 @@ impl<R: Resident> Squeue<R> {
         let Turn { mut held, of: _ } = turn;
         let p = held.number();
         held.value().inner.close(p);
-        end_turn::<R, Brand>(&self.gate, held, Kind::Close, &[])
+        let pass = end_turn::<R, Brand>(&self.gate, held, Kind::Close, &[]);
+        self.bells.ring_worker();
+        pass
     }
 }

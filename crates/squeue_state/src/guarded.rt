@@ -24,8 +24,8 @@ pub struct Quota {
 /// by contracts alone.
 #[derive(Drop)]
 pub struct Guarded<R> {
-    pub(crate) inner: Inner<R>,
     pub(crate) traced: bool,
+    pub(crate) inner: Inner<R>,
     pub(crate) trace: Trace,
     pub(crate) facts: Known<Facts>,
     pub(crate) first: Known<R>,

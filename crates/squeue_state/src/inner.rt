@@ -23,13 +23,13 @@ use std::mem;
 #[derive(Drop)]
 pub struct Inner<R> {
     pub(crate) own: Own,
-    pub(crate) chain: Vec<Entry>,
-    pub(crate) spare: Option<Vec<Entry>>,
     pub(crate) wake: bool,
     pub(crate) polling: bool,
+    pub(crate) chain: Vec<Entry>,
+    pub(crate) spare: Option<Vec<Entry>>,
+    pub(crate) resident: Option<R>,
     pub(crate) here: Vec<bool>,
     pub(crate) closed: Vec<bool>,
-    pub(crate) resident: Option<R>,
 }
 
 // Whether the worker is to run after entries were queued.
@@ -71,7 +71,7 @@ impl<R: Resident> Inner<R> {
         requires { IsSome self.old.spare }
         ensures same { (result.0 ≡ self.old.resident) × (result.1 ≡ self.old.chain) }
         ensures taken { self.new ≡ record self.old { own = Own'.Out p; chain = self.new.chain; spare = None; wake = false; polling = polls self.new.chain.items self.old.polling; resident = None } }
-        ensures empty { (n : ℕ) → HasEmpty n self.old.spare → (self.new.chain.items ≡ []) × (n ≤ vec_capacity self.new.chain) }
+        ensures empty { (n : ℕ) → HasEmpty n self.old.spare → (self.new.chain.items ≡ []) × (n ≡ vec_capacity self.new.chain) }
     {
         let spare = match self.spare.take() {
             Some(spare) => spare,
@@ -91,7 +91,7 @@ impl<R: Resident> Inner<R> {
         requires out { (self.old.resident ≡ None) × (self.old.spare ≡ None) }
         ensures same { self.new ≡ record self.old { chain = self.new.chain; spare = self.new.spare; resident = Some resident } }
         ensures queue { self.new.chain.items ≡ drop at entries.items ++ self.old.chain.items }
-        ensures room { vec_capacity entries ≤ vec_capacity self.new.chain }
+        ensures room { vec_capacity self.new.chain ≡ vec_capacity entries }
         ensures spare { HasEmpty (vec_capacity self.old.chain) self.new.spare }
     {
         let queue = put_back(entries, at, &self.chain);
@@ -117,9 +117,9 @@ impl<R: Resident> Inner<R> {
 
     /// Takes the perimeter with one feed, where nothing is queued.
     pub(crate) fn fast(&mut self, p: u32, e: Feed) -> (Option<R>, Vec<Entry>)
-        requires { HasEmpty 1 self.old.spare }
+        requires { (n : ℕ) × (1 ≤ n) × HasEmpty n self.old.spare }
         ensures same { (result.0 ≡ self.old.resident) × (result.1.items ≡ Entry'.Feed e.c e.n ∷ []) }
-        ensures room { (n : ℕ) → HasEmpty n self.old.spare → n ≤ vec_capacity result.1 }
+        ensures room { (n : ℕ) → HasEmpty n self.old.spare → n ≡ vec_capacity result.1 }
         ensures behind { (g : Given R) (H : List Element) → Behind R.stands R.limits R.size R.origin g self.old H → May (setting_of R.limits g) H (fasted p e) → Behind R.stands R.limits R.size R.origin g self.new (H ++ fasted p e ∷ []) }
     {
         let mut hand = match self.spare.take() {
@@ -137,7 +137,7 @@ impl<R: Resident> Inner<R> {
         requires spare { IsSome self.old.spare }
         requires room { vec_len self.old.chain + length es.now ≤ vec_capacity self.old.chain }
         ensures same { (result.0 ≡ self.old.resident) × (result.1.items ≡ self.old.chain.items ++ entries es.now) }
-        ensures room { vec_capacity self.old.chain ≤ vec_capacity result.1 }
+        ensures room { vec_capacity result.1 ≡ vec_capacity self.old.chain }
         ensures behind { (g : Given R) (H : List Element) → Behind R.stands R.limits R.size R.origin g self.old H → May (setting_of R.limits g) H (claimed p es.now) → Behind R.stands R.limits R.size R.origin g self.new (H ++ claimed p es.now ∷ []) }
     {
         queue_feeds(&mut self.chain, es);
@@ -149,7 +149,7 @@ impl<R: Resident> Inner<R> {
         requires spare { IsSome self.old.spare }
         requires room { vec_len self.old.chain < vec_capacity self.old.chain }
         ensures same { (result.0 ≡ self.old.resident) × (result.1.items ≡ self.old.chain.items ++ Entry'.Ask p ∷ []) }
-        ensures room { vec_capacity self.old.chain ≤ vec_capacity result.1 }
+        ensures room { vec_capacity result.1 ≡ vec_capacity self.old.chain }
         ensures behind { (g : Given R) (H : List Element) → Behind R.stands R.limits R.size R.origin g self.old H → May (setting_of R.limits g) H (claimed_ask p) → Behind R.stands R.limits R.size R.origin g self.new (H ++ claimed_ask p ∷ []) }
     {
         append(&mut self.chain, &[Entry::Ask { p }]);
@@ -196,7 +196,7 @@ impl<R: Resident> Inner<R> {
     /// Takes what is queued, for a buffer that is used up.
     pub(crate) fn take(&mut self, buffer: Vec<Entry>) -> Vec<Entry>
         ensures same { result ≡ self.old.chain }
-        ensures behind { (g : Given R) (H : List Element) (p : ℕ) → Behind R.stands R.limits R.size R.origin g self.old H → room_of g.quotas ≤ vec_capacity buffer → May (setting_of R.limits g) H (took p) → Behind R.stands R.limits R.size R.origin g self.new (H ++ took p ∷ []) }
+        ensures behind { (g : Given R) (H : List Element) (p : ℕ) → Behind R.stands R.limits R.size R.origin g self.old H → room_of g.quotas ≡ vec_capacity buffer → May (setting_of R.limits g) H (took p) → Behind R.stands R.limits R.size R.origin g self.new (H ++ took p ∷ []) }
     {
         let mut buffer = buffer;
         buffer.clear();

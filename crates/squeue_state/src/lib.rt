@@ -6,12 +6,14 @@
 //! never grow, since what is queued always fits, and neither does the trace, since a history is bounded.
 #![tactic(auto)]
 
+mod bell;
 mod ended;
 mod entering;
 mod event;
 mod guarded;
 mod hand;
 mod inner;
+pub mod laws;
 mod owning;
 mod release;
 mod room;

@@ -50,7 +50,12 @@ impl<R: Resident> Squeue<R> {
         let Hand { entries, at } = hand;
         let rest = (entries.len() - at) as u32;
         held.value().inner.leave(resident, entries, at, act);
-        end_turn::<R, N>(&self.gate, held, Kind::Leave { rest, act }, &[])
+        let wakes = held.get().inner.wake;
+        let pass = end_turn::<R, N>(&self.gate, held, Kind::Leave { rest, act }, &[]);
+        if wakes {
+            self.bells.ring_worker();
+        }
+        pass
     }
 
     /// Gives the perimeter to the pass whose Ask is the first entry of the hand, and the other entries back.
@@ -69,7 +74,9 @@ impl<R: Resident> Squeue<R> {
         };
         let rest = (entries.len() - at - 1) as u32;
         held.value().inner.grant(resident, entries, at + 1, j);
-        end_turn::<R, Brand>(&self.gate, held, Kind::Grant { j, rest }, &[])
+        let pass = end_turn::<R, Brand>(&self.gate, held, Kind::Grant { j, rest }, &[]);
+        self.bells.of(j).ring();
+        pass
     }
 
     /// Takes the perimeter that was granted.

@@ -1,8 +1,8 @@
 //! How a turn ends with a mark.
 ghost use Rattle.std.specs.Prelude.{◌≡◌, ◌<◌, ◌^◌, [], ◌∷◌, ◌++◌, length};
 ghost use Rattle.turn_gate.specs.History.{IsOneOf};
-ghost use Rattle.turn_gate.specs.Passes.{IsPassOf, number, seen, mine};
-ghost use Rattle.turn_gate.specs.Helds.{IsHeldOf, held_number, held_seen, held_mine, held_value};
+ghost use Rattle.turn_gate.specs.Passes.{IsPassOf, freed_once, number, seen, mine, steps};
+ghost use Rattle.turn_gate.specs.Helds.{IsHeldOf, held_number, held_seen, held_mine, held_steps, held_value};
 ghost use Rattle.turn_gate.specs.Gates.{gate_id, first_of};
 ghost use Rattle.squeue_state.specs.Behind.{Behind, Noted, StandsFor, given_of};
 ghost use Rattle.squeue_state.specs.Elements.{number_of, element_of};
@@ -28,6 +28,7 @@ pub(crate) fn end_turn<R: Resident, N: Notes>(
     ensures gate { IsPassOf number_of (gate_id gate.now) result × (number result ≡ held_number held) }
     ensures seen { seen result ≡ held_seen held ++ element_of (held_number held) kind es.now N.note ∷ [] }
     ensures mine { mine result ≡ held_mine held ++ element_of (held_number held) kind es.now N.note ∷ [] }
+    ensures steps { freed_once (held_steps held) (steps result) }
 {
     let mut held = held;
     let p = held.number();
@@ -49,6 +50,7 @@ fn end_by<R: Resident, E: Names<Event>>(
     ensures gate { IsPassOf number_of (gate_id gate.now) result × (number result ≡ held_number held) }
     ensures seen { seen result ≡ held_seen held ++ E.elements }
     ensures mine { mine result ≡ held_mine held ++ E.elements }
+    ensures steps { freed_once (held_steps held) (steps result) }
 {
     gate.release::<E>(held, kind)
 }

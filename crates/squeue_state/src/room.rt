@@ -14,10 +14,10 @@ use std::alloc::{AllocError, Global};
 pub(crate) fn queue_feeds(chain: &mut Vec<Entry>, es: &[Feed])
     requires { vec_len chain.old + length es.now ≤ vec_capacity chain.old }
     ensures items { chain.new.items ≡ chain.old.items ++ entries es.now }
-    ensures room { vec_capacity chain.old ≤ vec_capacity chain.new }
+    ensures room { vec_capacity chain.new ≡ vec_capacity chain.old }
 {
     for f in es {
-        let _ = chain.push(Entry::Feed { c: f.c, n: f.n });
+        chain.push_reserved(Entry::Feed { c: f.c, n: f.n });
     }
 }
 
@@ -25,11 +25,10 @@ pub(crate) fn queue_feeds(chain: &mut Vec<Entry>, es: &[Feed])
 pub(crate) fn append(chain: &mut Vec<Entry>, es: &[Entry])
     requires { vec_len chain.old + length es.now ≤ vec_capacity chain.old }
     ensures items { chain.new.items ≡ chain.old.items ++ es.now }
-    ensures room { vec_capacity chain.old ≤ vec_capacity chain.new }
+    ensures room { vec_capacity chain.new ≡ vec_capacity chain.old }
 {
-    match chain.extend_from_slice(es) {
-        Ok(()) => {}
-        Err(_) => unreachable!(),
+    for e in es {
+        chain.push_reserved(*e);
     }
 }
 
@@ -38,7 +37,7 @@ pub(crate) fn put_back(entries: Vec<Entry>, at: usize, chain: &[Entry]) -> Vec<E
     requires at { at ≤ vec_len entries }
     requires room { length (drop at entries.items) + length chain.now ≤ vec_capacity entries }
     ensures queue { result.items ≡ drop at entries.items ++ chain.now }
-    ensures room { vec_capacity entries ≤ vec_capacity result }
+    ensures room { vec_capacity result ≡ vec_capacity entries }
 {
     let mut queue = entries;
     queue.drain(..at);

@@ -9,9 +9,10 @@ ghost use Rattle.squeue_state.specs.Endings.{ending_of, HasEnded, seen_by};
 ghost use Rattle.squeue_state.specs.Behind.{IsPeri, pairs, room_of};
 ghost use Rattle.squeue_state.specs.Elements.{number_of, closed_by};
 ghost use Rattle.squeue_state.specs.Words.{Found, Unmarked, Added, HasSeenEnd, Knows, IsMade, StandsEmpty, ask_quotas};
-ghost use Rattle.turn_gate.specs.Passes.{IsPassOf, IsReturned, AreAll, AreFresh, missed, number, seen, steps};
+ghost use Rattle.turn_gate.specs.Passes.{IsPassOf, IsReturned, AreAll, AreFresh, hit, missed, number, seen, steps};
 ghost use Rattle.turn_gate.specs.History.{Each};
 
+use crate::bell::Bells;
 use crate::ended::Ended;
 use crate::event::{End, Event, Facts};
 use crate::guarded::{Guarded, Quota};
@@ -35,6 +36,7 @@ pub type Missed = turn_gate::Missed<Event>;
 /// A perimeter behind a gate. Threads share it by reference. Contracts see which gate it has, and what it was made with.
 pub struct Squeue<R: Resident> {
     pub(crate) gate: Gate<Guarded<R>>,
+    pub(crate) bells: Bells,
     number: u32,
 }
 
@@ -53,8 +55,8 @@ impl<R: Resident> Model for Squeue<R> {
 
 impl<R: Resident> Squeue<R> {
     /// Makes a squeue and its passes, one for each quota and the worker's last. It takes all memory that the squeue will
-    /// ever need: two buffers for what may be queued, a flag for each connection and each pass, and with `trace` room for
-    /// all marks that may come. The resident's blocks are as new. After an error the resident is dropped.
+    /// ever need: two buffers for what may be queued, a flag for each connection and each pass, a bell for each pass, and with
+    /// `trace` room for all marks that may come. The resident's blocks are as new. After an error the resident is dropped.
     pub fn make(
         alloc: Global,
         number: u32,
@@ -95,8 +97,16 @@ impl<R: Resident> Squeue<R> {
             facts,
             first,
         };
+        let bells = Bells::for_passes(alloc, quotas.len())?;
         let (gate, passes) = Gate::make(alloc, guarded, count as u32)?;
-        Ok((Squeue { gate, number }, passes))
+        Ok((
+            Squeue {
+                gate,
+                bells,
+                number,
+            },
+            passes,
+        ))
     }
 
     /// The squeue's number.
@@ -112,7 +122,7 @@ impl<R: Resident> Squeue<R> {
         ensures { Found R.limits self.now pass result }
     {
         Turn {
-            held: self.gate.hold(rt, pass),
+            held: self.gate.hold_soon(rt, pass),
             of: Known::of(self),
         }
     }
@@ -120,7 +130,7 @@ impl<R: Resident> Squeue<R> {
     /// Takes the gate where it is free, and doesn't wait.
     pub fn try_turn(&self, pass: Pass) -> Result<Turn<R>, Missed>
         requires { IsPassOf number_of self.now.gate pass }
-        ensures { MatchResult result (λ t. Found R.limits self.now pass t) (λ m. missed (steps pass) m × IsReturned number_of self.now.gate pass m.pass) }
+        ensures { MatchResult result (λ t. Found R.limits self.now pass t × hit (steps pass) t.made) (λ m. missed (steps pass) m × IsReturned number_of self.now.gate pass m.pass) }
     {
         let held = self.gate.try_hold(pass)?;
         Ok(Turn {
@@ -136,6 +146,18 @@ impl<R: Resident> Squeue<R> {
     {
         let Turn { held, of: _ } = turn;
         self.gate.release_plain(held)
+    }
+
+    /// The pass is about to look, in a turn, for what it waits for: the worker's for entries that wait for it or a pass that
+    /// is closed, another one for the perimeter to be granted to it. From now on a mark that brings this rings for it.
+    pub fn listen(&self, pass: &Pass) {
+        self.bells.of(pass.number()).listen();
+    }
+
+    /// Sleeps until it was rung for the pass since it began to listen, after it has looked for that for a short while. It may
+    /// return without a ring, and no clause says when it does.
+    pub fn sleep<W: Wait>(&self, rt: &W, pass: &Pass) {
+        self.bells.of(pass.number()).sleep(rt);
     }
 
     /// Closes the pass, which then enters, asks and closes no more.
@@ -161,7 +183,11 @@ impl<R: Resident> Squeue<R> {
         ensures trace { marks_of result.2 ≡ (if self.given.traced then map (λ e. e.mark) result.1.history else []) }
     {
         let ending = ending(&self, &passes);
-        let Squeue { gate, number } = self;
+        let Squeue {
+            gate,
+            bells: _,
+            number,
+        } = self;
         let (resident, trace) = parts_of(gate.close(passes));
         (resident, Ended { number, ending }, trace)
     }
@@ -170,7 +196,7 @@ impl<R: Resident> Squeue<R> {
 // An empty trace, which has room where marks are kept.
 fn new_trace(alloc: Global, kept: bool, room: Room) -> Result<Trace, AllocError>
     ensures empty { IfOk result (λ t. (t.marks ≡ []) × (t.entries ≡ [])) }
-    ensures room { IfOk result (λ t. kept ≡ true → (room.marks ≤ t.mark_room) × (room.entries ≤ t.entry_room)) }
+    ensures room { IfOk result (λ t. (t.mark_room ≡ (if kept then room.marks else 0)) × (t.entry_room ≡ (if kept then room.entries else 0))) }
 {
     if kept {
         Trace::with_room(alloc, room.marks, room.entries)

@@ -12,7 +12,8 @@ use std::marker::Model;
 use turn_gate::Held;
 
 /// A squeue's gate is held, and its state can be read. A turn must be spent by a call of its squeue that ends it.
-/// Contracts see its squeue, its pass's number, the history that it found, and the pass's own elements in it.
+/// Contracts see its squeue, its pass's number, the history that it found, the pass's own elements in it, and all the
+/// pass's steps on the lock word.
 pub struct Turn<R: Resident> {
     pub(crate) held: Held<Guarded<R>>,
     pub(crate) of: Known<Squeue<R>>,

@@ -58,7 +58,7 @@ impl Trace {
     /// An empty trace with room for so many marks and entries.
     pub fn with_room(alloc: Global, marks: usize, entries: usize) -> Result<Trace, AllocError>
         ensures empty { IfOk result (λ t. (t.marks ≡ []) × (t.entries ≡ [])) }
-        ensures room { IfOk result (λ t. (marks ≤ t.mark_room) × (entries ≤ t.entry_room)) }
+        ensures room { IfOk result (λ t. (t.mark_room ≡ marks) × (t.entry_room ≡ entries)) }
     {
         let marks = Vec::with_capacity(alloc, marks)?;
         let entries = Vec::with_capacity(alloc, entries)?;
@@ -94,7 +94,7 @@ impl Trace {
         requires { length self.old.entries < self.old.entry_room }
         ensures entries { self.new.entries ≡ self.old.entries ++ e ∷ [] }
         ensures told { marks_of self.new ≡ marks_of self.old }
-        ensures same { (self.new.marks ≡ self.old.marks) × (self.old.mark_room ≤ self.new.mark_room) × (self.old.entry_room ≤ self.new.entry_room) }
+        ensures same { (self.new.marks ≡ self.old.marks) × (self.new.mark_room ≡ self.old.mark_room) × (self.new.entry_room ≡ self.old.entry_room) }
     {
         self.entries.push_reserved(e);
     }
@@ -104,7 +104,7 @@ impl Trace {
         requires { length self.old.entries + length es.now ≤ self.old.entry_room }
         ensures entries { self.new.entries ≡ self.old.entries ++ entries es.now }
         ensures told { marks_of self.new ≡ marks_of self.old }
-        ensures same { (self.new.marks ≡ self.old.marks) × (self.old.mark_room ≤ self.new.mark_room) × (self.old.entry_room ≤ self.new.entry_room) }
+        ensures same { (self.new.marks ≡ self.old.marks) × (self.new.mark_room ≡ self.old.mark_room) × (self.new.entry_room ≡ self.old.entry_room) }
     {
         for f in es {
             self.enter(Entry::Feed { c: f.c, n: f.n });
@@ -118,7 +118,7 @@ impl Trace {
         ensures places { Within (length self.new.entries) result }
         ensures entries { self.new.entries ≡ self.old.entries ++ noted_entries kind (mark_by p kind es.now) }
         ensures told { marks_of self.new ≡ marks_of self.old }
-        ensures same { (self.new.marks ≡ self.old.marks) × (self.old.mark_room ≤ self.new.mark_room) × (self.old.entry_room ≤ self.new.entry_room) }
+        ensures same { (self.new.marks ≡ self.old.marks) × (self.new.mark_room ≡ self.old.mark_room) × (self.new.entry_room ≡ self.old.entry_room) }
     {
         let first = self.entries.len() as u64;
         let len = es.len() as u64;
@@ -149,7 +149,7 @@ impl Trace {
         requires entries { length self.old.entries + length (entries_of (mark_by p kind es.now)) ≤ self.old.entry_room }
         ensures noted { marks_of self.new ≡ marks_of self.old ++ mark_by p kind es.now ∷ [] }
         ensures entered { length self.new.entries ≤ length self.old.entries + length (entries_of (mark_by p kind es.now)) }
-        ensures room { (self.old.mark_room ≤ self.new.mark_room) × (self.old.entry_room ≤ self.new.entry_room) }
+        ensures room { (self.new.mark_room ≡ self.old.mark_room) × (self.new.entry_room ≡ self.old.entry_room) }
     {
         let mark = self.told(p, kind, es);
         self.marks.push_reserved(mark);

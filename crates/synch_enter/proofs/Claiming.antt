@@ -139,7 +139,7 @@ module _ {R O : Type 0} (stands : R → Blocks → Type 0) (limits : R → Limit
             own = is.owns.own;
             hand = record {
               is_left = subst (λ (xs : List Entry). xs ≡ unprocessed (length xs) (state_of limits s o).hand) (sym now) one.is_left;
-              has_room = subst (λ (k : ℕ). room_of s.given.quotas ≤ k) (sym room) is.owns.hand.has_room;
+              has_room = subst (λ (k : ℕ). room_of s.given.quotas ≡ k) (sym room) is.owns.hand.has_room;
             };
             resident = record {
               stands_for = subst (λ (blocks : Blocks). stands o.resident (with_act o.act [] blocks)) (sym same) is.owns.resident.stands_for;

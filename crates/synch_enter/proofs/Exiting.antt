@@ -3,7 +3,7 @@ use Rattle.std.proofs.Common.{◌≡◌, ◌≢◌, ℕ, ◌<◌, ◌%◌, ◌�
 use Rattle.std.proofs.lemmas.List.{append-nil}
 use Rattle.std.specs.Prelude.{slice_index, slice_index_or}
 use Rattle.turn_gate.specs.History.{only as by_number}
-use Rattle.turn_gate.specs.Passes.{IsPassOf, number, seen, mine}
+use Rattle.turn_gate.specs.Passes.{IsPassOf, number, seen, mine, steps}
 use Rattle.turn_gate.specs.declared.pass.Pass.{Pass}
 use Rattle.perimeter_core.specs.declared.entries.Act.{Act}
 use Rattle.perimeter_core.specs.declared.entries.Entry.{Entry}
@@ -27,6 +27,7 @@ use Rattle.squeue_state.specs.Naming.{Named, Turned, setting_of}
 use Rattle.squeue_state.specs.Elements.{number_of, gone}
 use Rattle.squeue_state.specs.Words.{Found, Marked, Added}
 use Rattle.squeue_state.proofs.Makers.{made-append}
+use Rattle.squeue_state.proofs.Turns.{one_turn}
 use Rattle.squeue_drain.specs.declared.owner.Owner.{Owner}
 use Rattle.squeue_drain.specs.Owning.{state_of}
 use Rattle.squeue_drain.proofs.Hands.{none_left, within}
@@ -151,6 +152,7 @@ module _ {R O : Type 0} (stands : R → Blocks → Type 0) (limits : R → Limit
         same_number = m.same_number ∙ f.same_number;
         now_seen = m.now_seen ∙ ap (λ (e : Element). u.found ++ e ∷ []) same;
         now_mine = m.now_mine ∙ (ap (λ (h : List Element). h ++ gone u.number (length o.hand.left) o.act note ∷ []) f.same_mine ∙ ap (λ (e : Element). mine o.pass ++ e ∷ []) same);
+        one_turn = one_turn (steps o.pass) u.made (steps q) f.no_turn_yet m.one_step;
       }
 
   state : (q : Pass Element) → Marked u (gone u.number (length o.hand.left) o.act note) q → run S (seen q) ≡ after (run S u.found) (On.Leave u.number (length o.hand.left) o.act)

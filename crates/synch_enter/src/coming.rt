@@ -19,7 +19,6 @@ use squeue_drain::{Owner, is_free, process};
 use squeue_state::{Pass, Squeue, Turn};
 use std::alloc::Global;
 use std::sync::Wait;
-use std::thread::yield_now;
 
 /// Waits to be owner, and returns at the pass's own Ask.
 pub fn synch_enter<R: Resident, H: Hook, W: Wait>(
@@ -122,7 +121,8 @@ fn hand_on<R: Resident, W: Wait>(sq: &Squeue<R>, rt: &W, owner: Owner<R>) -> Pas
     sq.grant(turn, resident, hand)
 }
 
-// Waits until a turn finds the perimeter granted to the pass, and takes it.
+// Waits until a turn finds the perimeter granted to the pass, and takes it. After each other turn it sleeps until the
+// perimeter may have been granted to it.
 fn wait_for_grant<R: Resident, W: Wait>(sq: &Squeue<R>, rt: &W, pass: Pass) -> Owner<R>
     requires pass { IsPassOf number_of sq.now.gate pass }
     requires no_worker { number pass < length sq.now.given.quotas }
@@ -135,19 +135,20 @@ fn wait_for_grant<R: Resident, W: Wait>(sq: &Squeue<R>, rt: &W, pass: Pass) -> O
 {
     let mut pass = pass;
     for _ in rt.forever() {
+        sq.listen(&pass);
         let turn = sq.turn(rt, pass);
         if is_granted(turn.own(), turn.number()) {
             return Owner::of(sq.accept(turn));
         }
         pass = sq.plain(turn);
-        yield_now();
+        sq.sleep(rt, &pass);
     }
     unreachable!()
 }
 
 // Whether the perimeter is granted to the pass of this number.
 fn is_granted(own: Own, me: u32) -> bool
-    ensures { result ≡ true → own ≡ Own'.Granted me }
+    ensures { (result ≡ true) ↔ (own ≡ Own'.Granted me) }
 {
     match own {
         Own::Granted(p) => p == me,

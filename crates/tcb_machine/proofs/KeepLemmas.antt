@@ -1,5 +1,5 @@
 -- What the output rule and the timers leave as it was.
-use Rattle.std.proofs.Common.{◌≡◌, ℕ, ◌+◌, ◌≤◌, List, [], ◌∷◌, Option, None, Some, Bool, true, false, cond, not, ltb, ◌==◌, ◌&&◌, ◌||◌, length, take, min, max, refl, ap, arith}
+use Rattle.std.proofs.Common.{◌≡◌, ℕ, ◌+◌, ◌≤◌, List, [], ◌∷◌, Option, None, Some, Bool, true, false, cond, not, ltb, ◌==◌, ◌&&◌, ◌||◌, length, take, min, max, refl, sym, ap, subst, arith}
 use Rattle.byte_queues.specs.ReceiveQueue.{Recv, next_of}
 use Rattle.segment_codec.specs.declared.packet.Reply.{Reply}
 use Rattle.tcb_machine.specs.BlockState.{Block, offered, to_listen, sends, segment_of, in_flight, snd_nxt, snd_end, unsent}
@@ -9,6 +9,7 @@ use Rattle.tcb_machine.specs.declared.kinds.State.{State}
 use Rattle.tcb_machine.specs.declared.kinds.State.TheVariants.{Listen, SynReceived, Established, FinWait1, FinWait2, CloseWait, Closing, LastAck, TimeWait}
 
 pub record Same (b c : Block) : Type 0 where
+  pub state : c.state ≡ b.state
   pub clock : c.clock ≡ b.clock
   pub recv : c.recv ≡ b.recv
   pub acked : c.acked ≡ b.acked
@@ -19,11 +20,11 @@ chosen true a b c p q = p
 chosen false a b c p q = q
 
 sent-same : (r : Reply) (a b : Block) → Same a b → Same a (sends r b)
-sent-same r a b h = record { clock = h.clock; recv = h.recv; acked = h.acked; out = h.out }
+sent-same r a b h = record { state = h.state; clock = h.clock; recv = h.recv; acked = h.acked; out = h.out }
 
 text-sent : (flags : ℕ) (text : List ℕ) (a b : Block) → Same a b → Same a (sends_text flags text b)
 unfolding sends_text
-text-sent flags text a b h = record { clock = h.clock; recv = h.recv; acked = h.acked; out = h.out }
+text-sent flags text a b h = record { state = h.state; clock = h.clock; recv = h.recv; acked = h.acked; out = h.out }
 
 pieces-same : (ps : List (List ℕ)) (a b : Block) → Same a b → Same a (sends_pieces ps b)
 pieces-same [] a b h = h
@@ -38,7 +39,7 @@ fin-same : (a b : Block) → Same a b → Same a (outputs_fin b)
 unfolding outputs_fin
 fin-same a b h =
     let fin = record (sends (segment_of 17 (snd_nxt b) [] b) b) { fin_sent = true } in
-    chosen (b.fin_wanted && (not b.fin_sent && (length (unsent b) == 0))) a fin b (record { clock = h.clock; recv = h.recv; acked = h.acked; out = h.out }) h
+    chosen (b.fin_wanted && (not b.fin_sent && (length (unsent b) == 0))) a fin b (record { state = h.state; clock = h.clock; recv = h.recv; acked = h.acked; out = h.out }) h
 
 ack-same : (n : ℕ) (a b : Block) → Same a b → Same a (outputs_ack n b)
 unfolding outputs_ack
@@ -47,22 +48,26 @@ ack-same n a b h =
     quiet _ (chosen (b.ack_due && (length b.replies == n)) a ack b (sent-same (segment_of 16 (snd_nxt b) [] b) a b h) h)
   where
     quiet : (c : Block) → Same a c → Same a (record c { ack_due = false })
-    quiet c k = record { clock = k.clock; recv = k.recv; acked = k.acked; out = k.out }
+    quiet c k = record { state = k.state; clock = k.clock; recv = k.recv; acked = k.acked; out = k.out }
 
 starts-same : (o : Option ℕ) (a b : Block) → Same a b → Same a (starts o b)
-starts-same None a b h = record { clock = h.clock; recv = h.recv; acked = h.acked; out = h.out }
+starts-same None a b h = record { state = h.state; clock = h.clock; recv = h.recv; acked = h.acked; out = h.out }
 starts-same (Some at) a b h = h
 
 deadline-same : (a b : Block) → Same a b → Same a (outputs_deadline b)
 unfolding outputs_deadline
 deadline-same a b h =
     chosen (not (b.una == snd_nxt b) || ltb 0 (length (unsent b))) a (starts b.retransmit_at b) (record b { retransmit_at = None })
-    (starts-same b.retransmit_at a b h) (record { clock = h.clock; recv = h.recv; acked = h.acked; out = h.out })
+    (starts-same b.retransmit_at a b h) (record { state = h.state; clock = h.clock; recv = h.recv; acked = h.acked; out = h.out })
+
+-- text, FIN and acknowledgement
+pub rest-same : (n : ℕ) (b : Block) → Same b (outputs_ack n (outputs_fin (outputs_text b)))
+rest-same n b = ack-same n b (outputs_fin (outputs_text b)) (fin-same b (outputs_text b) (text-same b b (record { state = refl; clock = refl; recv = refl; acked = refl; out = refl })))
 
 pub output-same : (b : Block) → Same b (output b)
 unfolding output
 output-same b =
-    let own : Same b b = record { clock = refl; recv = refl; acked = refl; out = refl } in
+    let own : Same b b = record { state = refl; clock = refl; recv = refl; acked = refl; out = refl } in
     let n = length b.replies in
     let b1 = outputs_text b in
     let b2 = outputs_fin b1 in
@@ -82,9 +87,9 @@ pub record Less (b c : Block) : Type 0 where
 
 three : (t u : Bool) (q r : Reply) (flags : ℕ) (text : List ℕ) (b : Block) → Same b (cond t (sends q b) (cond u (sends r b) (sends_text flags text b)))
 unfolding sends_text
-three true u q r flags text b = record { clock = refl; recv = refl; acked = refl; out = refl }
-three false true q r flags text b = record { clock = refl; recv = refl; acked = refl; out = refl }
-three false false q r flags text b = record { clock = refl; recv = refl; acked = refl; out = refl }
+three true u q r flags text b = record { state = refl; clock = refl; recv = refl; acked = refl; out = refl }
+three false true q r flags text b = record { state = refl; clock = refl; recv = refl; acked = refl; out = refl }
+three false false q r flags text b = record { state = refl; clock = refl; recv = refl; acked = refl; out = refl }
 
 again-same : (b : Block) → Same b (sends_again b)
 unfolding sends_again
@@ -93,9 +98,9 @@ again-same b =
     (segment_of 24 b.una (take (min b.mss (min (in_flight b) (max 1 b.wnd))) b.out) b)
     (segment_of 17 (snd_end b) [] b) 24 (take 1 (unsent b)) b
 
-resent-same : (st : State) (b : Block) → Same b (retransmits st b)
+pub resent-same : (st : State) (b : Block) → Same b (retransmits st b)
 resent-same Listen b = again-same b
-resent-same SynReceived b = record { clock = refl; recv = refl; acked = refl; out = refl }
+resent-same SynReceived b = record { state = refl; clock = refl; recv = refl; acked = refl; out = refl }
 resent-same Established b = again-same b
 resent-same FinWait1 b = again-same b
 resent-same FinWait2 b = again-same b
@@ -137,3 +142,10 @@ time-less to b =
 pub time-offered : (to : ℕ) (b : Block) → offered (tcp_time to b) ≤ offered b
 unfolding offered
 time-offered to b = (time-less to b).offered
+
+-- where the clock is set at last
+pub time-kept : (to : ℕ) (b y : Block) → record y { clock = to } ≡ tcp_time to b → Less b y
+time-kept to b y e =
+    let k = time-less to b in
+    let less : Less b (record y { clock = to }) = subst (λ (x : Block). Less b x) (sym e) k in
+    record { taken = less.taken; next = less.next; offered = less.offered }

@@ -4,3 +4,4 @@ pub mod TimeLemmas
 pub mod QueueLemmas
 pub mod SteadyLemmas
 pub mod ValidLemmas
+pub mod NumberLemmas

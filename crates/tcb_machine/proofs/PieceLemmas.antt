@@ -7,6 +7,7 @@ use Rattle.sq_base.specs.SerialOrder.{dist}
 use Rattle.tcb_machine.specs.BlockState.{Block, unsent, psh, ack, snd_nxt}
 use Rattle.tcb_machine.specs.States.{is_listen}
 use Rattle.tcb_machine.specs.Output.{pieces, sends_pieces, sends_text, sendable, outputs_text}
+use Rattle.tcb_machine.specs.Limits.{least_mss, most_mss}
 
 not_zero : (n : ℕ) → 0 < n → eqb n 0 ≡ false
 not_zero n h = grind (arith, nat_tests)
@@ -116,8 +117,8 @@ text-first u left b e l =
 pub record Left (left most : ℕ) (b old : Block) : Type 0 where
   pub opened : is_listen b.state ≡ false
   pub size : most ≡ b.mss
-  pub some : 64 ≤ most
-  pub small : most ≤ 1460
+  pub some : least_mss ≤ most
+  pub small : most ≤ most_mss
   pub within : left ≤ length (unsent b)
   pub ordered : b.acked ≤ b.sent
   pub state : b.state ≡ old.state

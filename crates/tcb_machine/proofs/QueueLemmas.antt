@@ -2,6 +2,7 @@
 use Rattle.std.proofs.Common.{◌≡◌, ℕ, ◌+◌, ◌-◌, ◌≤◌, List, [], ◌∷◌, Option, None, Some, Bool, true, false, cond, length, take, drop, refl, ap, sym, arith, length-take, length-drop, ◌⊎◌, inl, inr}
 use Rattle.std.specs.Prelude.{suc, zero}
 use Rattle.byte_queues.specs.ReceiveQueue.{Recv, Cells, gap, held, front, over_cells, cells_at, up_to, placed, without, next_of, ready_of}
+use Rattle.tcb_machine.specs.Limits.{whole_space}
 
 record Kept (cs : Cells) (q r : Recv) : Type 0 where
   taken : r.taken ≡ q.taken
@@ -87,7 +88,7 @@ unfolding without
 without_below n q h = let l = length-drop n q.got in omega (arith, l, h)
 
 -- the next byte isn't far behind the ones that were taken
-pub next_near : (q : Recv) → q.taken + length q.got ≤ q.edge → q.edge ≤ q.taken + 1048576 → next_of q ≤ q.taken + 1048576
+pub next_near : (q : Recv) → q.taken + length q.got ≤ q.edge → q.edge ≤ q.taken + whole_space → next_of q ≤ q.taken + whole_space
 unfolding next_of
 next_near q h w = let u = up-le q.stream_end (q.taken + front q.got) in let f = front_length q.got in omega (arith, u, f, h, w)
 
@@ -131,3 +132,12 @@ without_read n q w h =
     let reach : q.taken + n + front (drop n q.got) ≡ q.taken + front q.got = omega (arith, d) in
     let same = ap (up_to q.stream_end) reach in
     omega (arith, w, h, same)
+
+-- what leaves was counted
+pub next_without : (n : ℕ) (q : Recv) → n ≤ ready_of q → next_of (without n q) ≡ next_of q
+unfolding without next_of ready_of
+next_without n q w =
+    let u = up-le q.stream_end (q.taken + front q.got) in
+    let d = front-drop n q.got (omega (arith, w, u)) in
+    let reach : q.taken + n + front (drop n q.got) ≡ q.taken + front q.got = omega (arith, d) in
+    ap (up_to q.stream_end) reach

@@ -1,5 +1,5 @@
 -- An arriving segment sets the clock, and raises neither the count of bytes taken nor that of bytes offered.
-use Rattle.std.proofs.Common.{◌≡◌, ℕ, ◌+◌, ◌-◌, ◌≤◌, List, Option, None, Some, Bool, true, false, cond, not, ◌==◌, ◌&&◌, ◌||◌, length, drop, min, Result, Ok, Err, IfOk, OnOk, refl, ap, ◌∙◌, subst, arith, length-drop}
+use Rattle.std.proofs.Common.{◌≡◌, ℕ, ◌+◌, ◌-◌, ◌≤◌, List, Option, None, Some, Bool, true, false, cond, not, ◌==◌, ◌&&◌, ◌||◌, length, drop, min, refl, ap, ◌∙◌, subst, arith, length-drop}
 use Rattle.segment_codec.specs.declared.packet.Seg.{Seg}
 use Rattle.byte_queues.specs.ReceiveQueue.{Recv, next_of, placed, with_end, is_ended}
 use Rattle.sq_base.specs.SerialOrder.{dist}
@@ -255,7 +255,8 @@ said-block : (n : Next) (y : Block) → block_in (said n y) ≡ y
 said-block Over y = refl
 said-block Go y = refl
 
--- what a successful answer says of the block that it leaves
-pub ok-steady : {E : Type 0} (r : Result Next E) (b y : Block) (v : Verdict) (P : Type 0) → Says b v → IfOk r (λ n. v ≡ said n y) → (Steady b y → P) → OnOk r P
-ok-steady (Ok n) b y v P s h f = f (subst (λ (x : Block). Steady b x) (ap block_in h ∙ said-block n y) s.steady)
-ok-steady (Err e) b y v P s h f = tt
+-- what an answer says of the block that it leaves, from the block before
+pub steady-said : (now iss : ℕ) (s : Seg) (text : List ℕ) (n : Next) (a b y : Block) → a ≡ b → a.sent ≤ a.acked + length a.out → tcp_segment now iss s text a ≡ said n y → Steady (record b { clock = now }) y
+steady-said now iss s text n a b y same sent h =
+    subst (λ (x : Block). Steady (record x { clock = now }) y) same
+    (subst (λ (x : Block). Steady (record a { clock = now }) x) (ap block_in h ∙ said-block n y) (segment-steady now iss s text a sent).steady)

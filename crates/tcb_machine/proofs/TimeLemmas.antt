@@ -1,6 +1,8 @@
 -- The list of firings, one firing after another: what a loop over the deadlines needs.
 use Rattle.std.proofs.Common.{◌≡◌, ℕ, ◌+◌, ◌-◌, ◌<◌, ◌≤◌, List, [], ◌∷◌, Bool, true, false, cond, leb, ltb, not, ◌&&◌, ◌==◌, take, Option, None, Some, min, max, ◌*◌, inl, inr, refl, sym, ap, ◌∙◌, subst, arith}
-use Rattle.std.specs.Prelude.{suc, zero}
+use Rattle.std.specs.Prelude.{suc, zero, IsTrue, ◌↔◌}
+use Rattle.sq_base.specs.SerialOrder.{IsBefore}
+use Rattle.tcb_machine.specs.TcpStep.{is_before}
 use Rattle.std.specs.Option.{ForSome}
 use Rattle.std.proofs.lemmas.Bool.Decides.{nat_tests, leb_tells}
 use Rattle.tcb_machine.specs.declared.kinds.State.{State}
@@ -8,7 +10,8 @@ use Rattle.tcb_machine.specs.declared.kinds.State.TheVariants.{Listen, SynReceiv
 use Rattle.tcb_machine.specs.BlockState.{Block, to_listen, sends, segment_of, in_flight, snd_nxt, snd_end, unsent}
 use Rattle.segment_codec.specs.declared.packet.Reply.{Reply}
 use Rattle.tcb_machine.specs.Output.{sends_text}
-use Rattle.tcb_machine.specs.Timers.{Firing, time_wait, fired, retransmission, gives_up, backed_off, retransmissions_from, timers, until, firings, sends_again, retransmits, fires, fires_all, tcp_time}
+use Rattle.tcb_machine.specs.Timers.{Firing, first_time, next_deadline, time_wait, fired, retransmission, gives_up, backed_off, retransmissions_from, timers, until, firings, sends_again, retransmits, fires, fires_all, tcp_time}
+use Rattle.tcb_machine.specs.Limits.{most_retransmissions}
 
 record Kept (b c : Block) : Type 0 where
   wait : c.time_wait_at ≡ b.time_wait_at
@@ -45,18 +48,18 @@ passed : (t to : ℕ) → to < t → leb t to ≡ false
 passed t to h = grind (arith, nat_tests)
 
 -- the retransmission deadline is due
-pub time-retransmits : (to at : ℕ) (b : Block) → b.time_wait_at ≡ None → b.retransmit_at ≡ Some at → at ≤ to → b.clock ≤ to → b.retransmissions < 64
+pub time-retransmits : (to at : ℕ) (b : Block) → b.time_wait_at ≡ None → b.retransmit_at ≡ Some at → at ≤ to → b.clock ≤ to → b.retransmissions < most_retransmissions
     → tcp_time to b ≡ tcp_time to (fires (retransmission (max b.clock at)) b)
 unfolding tcp_time firings fires
 time-retransmits to at b none some due now few =
     let t = max b.clock at in
     let rto = backed_off b.rto in
-    let rest = until to (retransmissions_from (63 - b.retransmissions) rto (t + rto)) in
+    let rest = until to (retransmissions_from (most_retransmissions - 1 - b.retransmissions) rto (t + rto)) in
     let b' = fires (retransmission t) b in
     let kept = retransmits-kept b.state (record b { clock = t }) in
     let wait : b'.time_wait_at ≡ None = kept.wait ∙ none in
-    let count : 64 - b.retransmissions ≡ suc (63 - b.retransmissions) = omega (arith, few) in
-    let left : 64 - (b.retransmissions + 1) ≡ 63 - b.retransmissions = omega arith in
+    let count : most_retransmissions - b.retransmissions ≡ suc (most_retransmissions - 1 - b.retransmissions) = omega (arith, few) in
+    let left : most_retransmissions - (b.retransmissions + 1) ≡ most_retransmissions - 1 - b.retransmissions = omega arith in
     let on : t ≤ to = omega (arith, due, now) in
     let later : max b'.clock (t + rto) ≡ t + rto = omega (arith, kept.clock) in
     let here : firings to b ≡ retransmission t ∷ rest =
@@ -67,17 +70,17 @@ time-retransmits to at b none some due now few =
     let there : firings to b' ≡ rest =
     ap (λ (o : Option ℕ). until to (timers o (Some (t + rto)) b')) wait
     ∙ (ap (λ (k : ℕ). until to (retransmissions_from k rto (max b'.clock (t + rto)))) left
-    ∙ ap (λ (k : ℕ). until to (retransmissions_from (63 - b.retransmissions) rto k)) later) in
+    ∙ ap (λ (k : ℕ). until to (retransmissions_from (most_retransmissions - 1 - b.retransmissions) rto k)) later) in
     ap (λ (fs : List Firing). record (fires_all fs b) { clock = to }) here ∙ ap (λ (fs : List Firing). record (fires_all fs b') { clock = to }) (sym there)
 
 -- all retransmissions were made
-pub time-gives-up : (to at : ℕ) (b : Block) → b.time_wait_at ≡ None → b.retransmit_at ≡ Some at → at ≤ to → b.clock ≤ to → b.retransmissions ≡ 64
+pub time-gives-up : (to at : ℕ) (b : Block) → b.time_wait_at ≡ None → b.retransmit_at ≡ Some at → at ≤ to → b.clock ≤ to → b.retransmissions ≡ most_retransmissions
     → tcp_time to b ≡ record (to_listen b) { clock = to }
 unfolding tcp_time firings fires to_listen
 time-gives-up to at b none some due now all =
     let t = max b.clock at in
     let on : t ≤ to = omega (arith, due, now) in
-    let count : 64 - b.retransmissions ≡ zero = omega (arith, all) in
+    let count : most_retransmissions - b.retransmissions ≡ zero = omega (arith, all) in
     let here : firings to b ≡ gives_up t ∷ [] =
     ap (λ (o : Option ℕ). until to (timers o b.retransmit_at b)) none
     ∙ (ap (λ (o : Option ℕ). until to (timers None o b)) some
@@ -95,26 +98,26 @@ later-none : (k to rto t : ℕ) → to < t → until to (retransmissions_from k 
 later-none zero to rto t h = ap (λ (c : Bool). cond c (gives_up t ∷ []) []) (passed t to h)
 later-none (suc k) to rto t h = ap (λ (c : Bool). cond c (retransmission t ∷ until to (retransmissions_from k (backed_off rto) (t + backed_off rto))) []) (passed t to h)
 
-pub time-later : (to at : ℕ) (b : Block) → b.time_wait_at ≡ None → b.retransmit_at ≡ Some at → to < at → tcp_time to b ≡ record b { clock = to }
+pub time-later : (to at : ℕ) (b : Block) → b.time_wait_at ≡ None → b.retransmit_at ≡ Some at → to < max b.clock at → tcp_time to b ≡ record b { clock = to }
 unfolding tcp_time firings
 time-later to at b none some late =
     ap (λ (fs : List Firing). record (fires_all fs b) { clock = to })
     (ap (λ (o : Option ℕ). until to (timers o b.retransmit_at b)) none
     ∙ (ap (λ (o : Option ℕ). until to (timers None o b)) some
-    ∙ later-none (64 - b.retransmissions) to b.rto (max b.clock at) (omega (arith, late))))
+    ∙ later-none (most_retransmissions - b.retransmissions) to b.rto (max b.clock at) late))
 
 pub time-rest : (to : ℕ) (o : Option ℕ) (b : Block) → b.time_wait_at ≡ None → b.retransmit_at ≡ o → ForSome o (λ at. to < at) → tcp_time to b ≡ record b { clock = to }
 time-rest to None b none is late = time-idle to b none is
-time-rest to (Some at) b none is late = time-later to at b none is (late at refl)
+time-rest to (Some at) b none is late = let l = late at refl in time-later to at b none is (omega (arith, l))
 
 -- the TIME-WAIT deadline
-pub time_waits : (to at : ℕ) (b : Block) → b.time_wait_at ≡ Some at → to < at → tcp_time to b ≡ record b { clock = to }
+pub time_waits : (to at : ℕ) (b : Block) → b.time_wait_at ≡ Some at → to < max b.clock at → tcp_time to b ≡ record b { clock = to }
 unfolding tcp_time firings
 time_waits to at b some late =
     let t = max b.clock at in
     ap (λ (fs : List Firing). record (fires_all fs b) { clock = to })
     (ap (λ (o : Option ℕ). until to (timers o b.retransmit_at b)) some
-    ∙ ap (λ (c : Bool). cond c (time_wait t ∷ []) []) (passed t to (omega (arith, late))))
+    ∙ ap (λ (c : Bool). cond c (time_wait t ∷ []) []) (passed t to late))
 
 pub time_ends : (to at : ℕ) (b : Block) → b.time_wait_at ≡ Some at → at ≤ to → b.clock ≤ to → tcp_time to b ≡ record (to_listen b) { clock = to }
 unfolding tcp_time firings fires to_listen
@@ -134,9 +137,9 @@ pub record Turn (to : ℕ) (b c : Block) : Type 0 where
   pub same : tcp_time to b ≡ tcp_time to c
   pub none : c.time_wait_at ≡ None
   pub clock : c.clock ≤ to
-  pub smaller : 2 * (64 - c.retransmissions) + is_set c.retransmit_at < 2 * (64 - b.retransmissions) + is_set b.retransmit_at
+  pub smaller : 2 * (most_retransmissions - c.retransmissions) + is_set c.retransmit_at < 2 * (most_retransmissions - b.retransmissions) + is_set b.retransmit_at
 
-turn-retransmits : (to at : ℕ) (b : Block) → b.time_wait_at ≡ None → b.retransmit_at ≡ Some at → at ≤ to → b.clock ≤ to → b.retransmissions < 64 → Turn to b (fires (retransmission (max b.clock at)) b)
+turn-retransmits : (to at : ℕ) (b : Block) → b.time_wait_at ≡ None → b.retransmit_at ≡ Some at → at ≤ to → b.clock ≤ to → b.retransmissions < most_retransmissions → Turn to b (fires (retransmission (max b.clock at)) b)
 unfolding fires
 turn-retransmits to at b none some due now few =
     let kept = retransmits-kept b.state (record b { clock = max b.clock at }) in
@@ -148,7 +151,7 @@ turn-retransmits to at b none some due now few =
       smaller = omega (arith, size, few);
     }
 
-turn-gives-up : (to at : ℕ) (b : Block) → b.time_wait_at ≡ None → b.retransmit_at ≡ Some at → at ≤ to → b.clock ≤ to → b.retransmissions ≡ 64 → Turn to b (fires (gives_up (max b.clock at)) b)
+turn-gives-up : (to at : ℕ) (b : Block) → b.time_wait_at ≡ None → b.retransmit_at ≡ Some at → at ≤ to → b.clock ≤ to → b.retransmissions ≡ most_retransmissions → Turn to b (fires (gives_up (max b.clock at)) b)
 unfolding fires to_listen
 turn-gives-up to at b none some due now all =
     let size : is_set b.retransmit_at ≡ 1 = ap is_set some in
@@ -160,9 +163,9 @@ turn-gives-up to at b none some due now all =
       smaller = omega (arith, size);
     }
 
-pub turn : (to at : ℕ) (b : Block) → b.time_wait_at ≡ None → b.retransmit_at ≡ Some at → at ≤ to → b.clock ≤ to → b.retransmissions ≤ 64 → Turn to b (fired at b)
+pub turn : (to at : ℕ) (b : Block) → b.time_wait_at ≡ None → b.retransmit_at ≡ Some at → at ≤ to → b.clock ≤ to → b.retransmissions ≤ most_retransmissions → Turn to b (fired at b)
 turn to at b none some due now most =
-    elim (leb_tells (suc b.retransmissions) 64) [
+    elim (leb_tells (suc b.retransmissions) most_retransmissions) [
       | inl e ↦
           subst (λ (t : Bool). Turn to b (cond t (fires (retransmission (max b.clock at)) b) (fires (gives_up (max b.clock at)) b))) (sym e.0)
           (let few = e.1 in turn-retransmits to at b none some due now (omega (arith, few)))
@@ -170,3 +173,22 @@ turn to at b none some due now most =
           subst (λ (t : Bool). Turn to b (cond t (fires (retransmission (max b.clock at)) b) (fires (gives_up (max b.clock at)) b))) (sym e.0)
           (let all = e.1 in turn-gives-up to at b none some due now (omega (arith, all, most)))
     ]
+
+-- the first of the firings to come
+
+pub first_retransmission : (left rto at : ℕ) → first_time (retransmissions_from left rto at) ≡ Some at
+first_retransmission zero rto at = refl
+first_retransmission (suc left) rto at = refl
+
+until-quiet : (to : ℕ) (wait retransmit : Option ℕ) (b : Block) → b.time_wait_at ≡ wait → b.retransmit_at ≡ retransmit → ForSome (first_time (timers wait retransmit b)) (λ at. to < at) → tcp_time to b ≡ record b { clock = to }
+until-quiet to (Some at) retransmit b w r late = time_waits to at b w (late (max b.clock at) refl)
+until-quiet to None None b w r late = time-idle to b w r
+until-quiet to None (Some at) b w r late = time-later to at b w r (late (max b.clock at) (first_retransmission (most_retransmissions - b.retransmissions) b.rto (max b.clock at)))
+
+pub time-quiet : (to : ℕ) (b : Block) → ForSome (next_deadline b) (λ at. to < at) → tcp_time to b ≡ record b { clock = to }
+unfolding next_deadline
+time-quiet to b late = until-quiet to b.time_wait_at b.retransmit_at b refl refl late
+
+-- the order of sequence numbers, as a test and as a relation
+pub one-order : (a b : ℕ) → IsTrue (is_before a b) ↔ IsBefore a b
+one-order a b = grind (arith, nat_tests)

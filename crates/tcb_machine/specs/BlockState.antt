@@ -6,6 +6,7 @@ use Rattle.tcb_machine.specs.declared.kinds.State.TheVariants.{Listen}
 use Rattle.tcb_machine.specs.States.{is_consumed}
 use Rattle.segment_codec.specs.declared.packet.Reply.{Reply}
 use Rattle.segment_codec.specs.declared.packet.Seg.{Seg}
+use Rattle.tcb_machine.specs.Limits.{default_mss, first_timeout, most_mss, our_shift, plain_space, whole_space}
 
 pub record Block : Type 0 where
   pub state : State
@@ -38,9 +39,6 @@ pub record Block : Type 0 where
   pub ack_due : Bool
   pub replies : List Reply
 
-abbrev pub second : ℕ
-second = 1000000
-
 -- a block in LISTEN: all is as new but for the receive space asked for, the retransmissions made, the clock and the replies
 abbrev pub listening : ℕ → ℕ → ℕ → List Reply → Block
 listening want retransmissions clock replies = record {
@@ -51,7 +49,7 @@ listening want retransmissions clock replies = record {
   wnd = 0;
   wl1 = 0;
   wl2 = 0;
-  mss = 536;
+  mss = default_mss;
   want = want;
   scaled = false;
   snd_shift = 0;
@@ -61,7 +59,7 @@ listening want retransmissions clock replies = record {
   sent = 0;
   fin_wanted = false;
   fin_sent = false;
-  rto = second;
+  rto = first_timeout;
   retransmit_at = None;
   time_wait_at = None;
   retransmissions = retransmissions;
@@ -71,7 +69,7 @@ listening want retransmissions clock replies = record {
 }
 
 unfoldable pub new_block : Block
-new_block = listening 1048576 0 0 []
+new_block = listening whole_space 0 0 []
 
 unfoldable pub to_listen : Block → Block
 to_listen b = listening b.want b.retransmissions b.clock b.replies
@@ -130,7 +128,7 @@ seg_wnd s b = s.wnd * 2 ^ b.snd_shift
 
 -- the window field of a segment that is sent without SYN (RFC 7323, 2.3)
 unfoldable pub sent_window : Block → ℕ
-sent_window b = if b.scaled then rcv_wnd b / 32 else rcv_wnd b
+sent_window b = if b.scaled then rcv_wnd b / 2 ^ our_shift else rcv_wnd b
 
 -- <SEQ=..><ACK=RCV.NXT> with control bits and a text
 unfoldable pub segment_of : ℕ → ℕ → List ℕ → Block → Reply
@@ -144,9 +142,9 @@ syn_ack_of b = record {
   flags = syn + ack;
   seq = b.iss;
   ack = rcv_nxt b;
-  wnd = min (rcv_wnd b) 65535;
-  mss = Some 1460;
-  scale = if b.scaled then Some 5 else None;
+  wnd = min (rcv_wnd b) plain_space;
+  mss = Some most_mss;
+  scale = if b.scaled then Some our_shift else None;
   text = [];
 }
 
@@ -166,11 +164,11 @@ sends_ack b = sends (segment_of ack (snd_nxt b) [] b) b
 abbrev pub OurOptions : Option ℕ → Option ℕ → Type 0
 OurOptions None None = Unit {0}
 OurOptions None (Some shift) = ⊥
-OurOptions (Some mss) None = mss ≡ 1460
-OurOptions (Some mss) (Some shift) = (mss ≡ 1460) × (shift ≡ 5)
+OurOptions (Some mss) None = mss ≡ most_mss
+OurOptions (Some mss) (Some shift) = (mss ≡ most_mss) × (shift ≡ our_shift)
 
 -- what every reply of a block is
 pub record IsOurs (r : Reply) : Type 0 where
-  pub text : length r.text ≤ 1460
+  pub text : length r.text ≤ most_mss
   pub flags : r.flags < 64
   pub options : OurOptions r.mss r.scale

@@ -1,9 +1,10 @@
 -- What the fields of a block stand for.
-use Rattle.std.specs.Prelude.{◌≡◌, true, false, None, ◌+◌, ◌*◌, ◌^◌, ◌≤◌, length, All}
+use Rattle.std.specs.Prelude.{◌≡◌, true, false, None, ◌+◌, ◌^◌, ◌≤◌, length, All}
 use Rattle.byte_queues.specs.ReceiveQueue.{next_of}
-use Rattle.tcb_machine.specs.BlockState.{Block, IsOurs, second}
+use Rattle.tcb_machine.specs.BlockState.{Block, IsOurs}
 use Rattle.tcb_machine.specs.States.{is_listen}
 use Rattle.tcb_machine.specs.declared.tcb.Tcb.TheInside.{Inside}
+use Rattle.tcb_machine.specs.Limits.{least_mss, longest_timeout, most_mss, most_retransmissions, most_shift, plain_space, whole_space}
 
 abbrev pub block_of : Inside → Block
 block_of a = record {
@@ -34,25 +35,25 @@ block_of a = record {
 }
 
 pub record IsSound (a : Inside) : Type 0 where
-  pub want : a.want ≤ 1048576
-  pub shift : a.snd_shift ≤ 14
-  pub mss : 64 ≤ a.mss
-  pub most : a.mss ≤ 1460
+  pub want : a.want ≤ whole_space
+  pub shift : a.snd_shift ≤ most_shift
+  pub mss : least_mss ≤ a.mss
+  pub most : a.mss ≤ most_mss
   -- the window that is announced fits its field
-  pub space : a.recv.edge ≤ a.recv.taken + 1048576
+  pub space : a.recv.edge ≤ a.recv.taken + whole_space
   pub read : a.recv.taken ≤ next_of a.recv
   pub below : a.recv.taken + length a.recv.got ≤ a.recv.edge
-  pub cap : a.recv.cap ≤ 1048576
-  pub announced : is_listen a.state ≡ false → a.scaled ≡ false → a.recv.edge ≤ a.recv.taken + 65535
-  pub plain : is_listen a.state ≡ false → a.scaled ≡ false → a.recv.cap ≤ 65535
+  pub cap : a.recv.cap ≤ whole_space
+  pub announced : is_listen a.state ≡ false → a.scaled ≡ false → a.recv.edge ≤ a.recv.taken + plain_space
+  pub plain : is_listen a.state ≡ false → a.scaled ≡ false → a.recv.cap ≤ plain_space
   -- the counts of the send side
   pub held : length a.send ≤ 65535
   pub sent_acked : a.acked ≤ a.sent
   pub sent_out : a.sent ≤ a.acked + length a.send
   pub few : a.acked ≤ 2 ^ 61
   -- the timers
-  pub rto : a.rto ≤ 60 * second
-  pub tries : a.retransmissions ≤ 64
+  pub rto : a.rto ≤ longest_timeout
+  pub tries : a.retransmissions ≤ most_retransmissions
   pub clock : a.clock ≤ 2 ^ 62
   pub idle : is_listen a.state ≡ true → a.retransmit_at ≡ None
   pub quiet : is_listen a.state ≡ true → a.ack_due ≡ false

@@ -1,3 +1,4 @@
+pub mod Limits
 pub mod States
 pub mod BlockState
 pub mod TcpStep
@@ -6,3 +7,6 @@ pub mod Timers
 pub mod CallAnswers
 pub mod Inside
 pub mod Validity
+pub mod Room
+pub mod Endings
+pub mod Numbering

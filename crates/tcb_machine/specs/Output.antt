@@ -1,9 +1,10 @@
 -- The output rule (RFC 9293, 3.8.6 and 3.10.2): text, FIN, ACK, deadline.
 use Rattle.std.specs.Prelude.{ℕ, ◌+◌, ◌-◌, ◌==◌, nat_lt, ◌&&◌, ◌||◌, Bool, true, false, not, List, [], ◌∷◌, length, take, drop, Option, None, Some, suc, zero, if◌then◌else◌}
 use Rattle.sq_base.specs.SerialOrder.{dist}
-use Rattle.tcb_machine.specs.BlockState.{Block, second, fin, ack, psh, segment_of, sends, sends_ack, snd_nxt, unsent}
+use Rattle.tcb_machine.specs.BlockState.{Block, fin, ack, psh, segment_of, sends, sends_ack, snd_nxt, unsent}
 use Rattle.tcb_machine.specs.declared.kinds.State.{State}
 use Rattle.tcb_machine.specs.declared.kinds.State.TheVariants.{Listen, SynReceived, Established, FinWait1, FinWait2, CloseWait, Closing, LastAck, TimeWait}
+use Rattle.tcb_machine.specs.Limits.{first_timeout}
 
 -- a text in pieces of n bytes, the last one shorter; the first number bounds how many
 abbrev pub pieces : ℕ → ℕ → List ℕ → List (List ℕ)
@@ -39,7 +40,7 @@ outputs_ack count b = record (if b.ack_due && (length b.replies == count) then s
 
 abbrev pub starts : Option ℕ → Block → Block
 starts (Some at) b = b
-starts None b = record b { rto = second; retransmit_at = Some (b.clock + second) }
+starts None b = record b { rto = first_timeout; retransmit_at = Some (b.clock + first_timeout) }
 
 -- the retransmission timer runs while something is unacknowledged or unsent (RFC 6298, 5.1 and 5.2)
 unfoldable pub outputs_deadline : Block → Block

@@ -1,8 +1,8 @@
 -- The arrival of a segment (RFC 9293, 3.10.7), check by check.
-use Rattle.std.specs.Prelude.{ℕ, ◌+◌, ◌-◌, ◌*◌, ◌%◌, ◌^◌, ◌==◌, nat_lt, nat_le, min, max, ◌&&◌, ◌||◌, Bool, true, false, not, List, length, drop, Option, None, Some, if◌then◌else◌}
-use Rattle.sq_base.specs.SerialOrder.{dist}
+use Rattle.std.specs.Prelude.{ℕ, ◌↔◌, IsTrue, ◌+◌, ◌-◌, ◌%◌, ◌^◌, ◌==◌, nat_lt, nat_le, min, max, ◌&&◌, ◌||◌, Bool, true, false, not, List, length, drop, Option, None, Some, if◌then◌else◌}
+use Rattle.sq_base.specs.SerialOrder.{IsBefore, dist}
 use Rattle.byte_queues.specs.ReceiveQueue.{Recv, empty_recv, next_of, is_ended, placed, with_end}
-use Rattle.tcb_machine.specs.BlockState.{Block, second, to_listen, rcv_nxt, rcv_wnd, snd_nxt, fin, syn, rst, ack, has, seg_len, seg_wnd, syn_ack_of, rst_of, sends, sends_ack, in_flight}
+use Rattle.tcb_machine.specs.BlockState.{Block, to_listen, rcv_nxt, rcv_wnd, snd_nxt, fin, syn, rst, ack, has, seg_len, seg_wnd, syn_ack_of, rst_of, sends, sends_ack, in_flight}
 use Rattle.tcb_machine.specs.declared.kinds.State.{State}
 use Rattle.tcb_machine.specs.declared.kinds.State.TheVariants.{Listen, SynReceived, Established, FinWait1, FinWait2, CloseWait, Closing, LastAck, TimeWait}
 use Rattle.segment_codec.specs.declared.packet.Seg.{Seg}
@@ -12,6 +12,7 @@ use Rattle.tcb_machine.specs.declared.kinds.Step.{Step}
 use Rattle.tcb_machine.specs.declared.kinds.Step.TheVariants as step
 use Rattle.tcb_machine.specs.declared.kinds.AckKind.{AckKind}
 use Rattle.tcb_machine.specs.declared.kinds.AckKind.TheVariants.{Fresh, Equal, Old, Beyond}
+use Rattle.tcb_machine.specs.Limits.{default_mss, first_timeout, least_mss, most_mss, most_shift, plain_space, time_wait_length}
 
 -- what a check says: the arrival is over, or pump and output follow, or the next check does
 pub data Verdict : Type 0 where
@@ -28,13 +29,13 @@ and_then (on b) f = f b
 
 -- SendMSS (3.7.1)
 abbrev pub send_mss : Option ℕ → ℕ
-send_mss None = 536
-send_mss (Some n) = min 1460 (max 64 n)
+send_mss None = default_mss
+send_mss (Some n) = min most_mss (max least_mss n)
 
 -- RFC 7323, 2.3
 abbrev pub with_scale : Option ℕ → Block → Block
-with_scale None b = record b { scaled = false; snd_shift = 0; recv = empty_recv (min b.want 65535) }
-with_scale (Some s) b = record b { scaled = true; snd_shift = min s 14; recv = empty_recv b.want }
+with_scale None b = record b { scaled = false; snd_shift = 0; recv = empty_recv (min b.want plain_space) }
+with_scale (Some s) b = record b { scaled = true; snd_shift = min s most_shift; recv = empty_recv b.want }
 
 unfoldable pub opened : Seg → ℕ → Block → Block
 opened s iss b = record (with_scale s.scale b) {
@@ -43,8 +44,8 @@ opened s iss b = record (with_scale s.scale b) {
   iss = iss;
   una = iss;
   mss = send_mss s.mss;
-  rto = second;
-  retransmit_at = Some (b.clock + second);
+  rto = first_timeout;
+  retransmit_at = Some (b.clock + first_timeout);
 }
 
 abbrev pub sends_syn_ack : Block → Block
@@ -84,7 +85,7 @@ is_time_wait TimeWait = true
 
 -- 2 MSL from now
 abbrev pub waits : Block → Block
-waits b = record b { time_wait_at = Some (b.clock + 240 * second) }
+waits b = record b { time_wait_at = Some (b.clock + time_wait_length) }
 
 -- what a segment that isn't acceptable does
 unfoldable pub refused : Seg → Block → Verdict
@@ -127,8 +128,12 @@ ack_kind n b =
     else if nat_le (2 ^ 31) d then Old
     else Beyond
 
+-- the order of `sq_base`, as a test
 abbrev pub is_before : ℕ → ℕ → Bool
 is_before a b = nat_lt 0 (dist a b) && nat_lt (dist a b) (2 ^ 31)
+
+abbrev pub OneSerialOrder : Type 0
+OneSerialOrder = (a b : ℕ) → IsTrue (is_before a b) ↔ IsBefore a b
 
 abbrev pub with_window : Seg → Block → Block
 with_window s b = record b { wnd = seg_wnd s b; wl1 = s.seq; wl2 = s.ack }
@@ -141,13 +146,13 @@ takes_window s b =
 unfoldable pub takes_ack : Seg → Block → Block
 takes_ack s b =
     let n = min (in_flight b) (dist b.una s.ack) in
-    record b { una = s.ack; acked = b.acked + n; out = drop n b.out; rto = second; retransmit_at = None }
+    record b { una = s.ack; acked = b.acked + n; out = drop n b.out; rto = first_timeout; retransmit_at = None }
 
 unfoldable pub is_fin_acked : Block → Bool
 is_fin_acked b = b.fin_sent && (b.una == snd_nxt b)
 
 unfoldable pub in_time_wait : Block → Block
-in_time_wait b = record b { state = TimeWait; time_wait_at = Some (b.clock + 240 * second); retransmit_at = None }
+in_time_wait b = record b { state = TimeWait; time_wait_at = Some (b.clock + time_wait_length); retransmit_at = None }
 
 -- what the state becomes; the flag says whether our FIN is acknowledged
 abbrev pub after_ack : State → Bool → Block → Verdict

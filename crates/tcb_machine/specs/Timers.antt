@@ -1,10 +1,12 @@
 -- A time entry: the deadlines that fire, in order of time (RFC 9293, 3.8.1 and 3.10.8; RFC 6298).
-use Rattle.std.specs.Prelude.{ℕ, ◌+◌, ◌-◌, ◌*◌, ◌==◌, nat_le, nat_lt, min, max, ◌&&◌, not, List, [], ◌∷◌, take, Option, None, Some, suc, zero, if◌then◌else◌}
-use Rattle.tcb_machine.specs.BlockState.{Block, second, to_listen, fin, psh, ack, segment_of, sends, snd_nxt, snd_end, unsent, in_flight}
+use Rattle.std.specs.Prelude.{ℕ, ◌≡◌, ◌<◌, ◌+◌, ◌-◌, ◌*◌, ◌==◌, nat_le, nat_lt, min, max, ◌&&◌, not, List, [], ◌∷◌, take, Option, None, Some, suc, zero, if◌then◌else◌}
+use Rattle.std.specs.Option.{ForSome}
+use Rattle.tcb_machine.specs.BlockState.{Block, to_listen, fin, psh, ack, segment_of, sends, snd_nxt, snd_end, unsent, in_flight}
 use Rattle.tcb_machine.specs.TcpStep.{sends_syn_ack}
 use Rattle.tcb_machine.specs.Output.{sends_text}
 use Rattle.tcb_machine.specs.declared.kinds.State.{State}
 use Rattle.tcb_machine.specs.declared.kinds.State.TheVariants.{Listen, SynReceived, Established, FinWait1, FinWait2, CloseWait, Closing, LastAck, TimeWait}
+use Rattle.tcb_machine.specs.Limits.{longest_timeout, most_retransmissions}
 
 -- a deadline that fires, with its time
 pub data Firing : Type 0 where
@@ -15,7 +17,7 @@ pub data Firing : Type 0 where
 
 -- RTO doubles, up to 60 s (RFC 6298, 5.5)
 abbrev pub backed_off : ℕ → ℕ
-backed_off rto = min (2 * rto) (60 * second)
+backed_off rto = min (2 * rto) longest_timeout
 
 -- all firings to come, where nothing arrives: so many retransmissions are left
 abbrev pub retransmissions_from : ℕ → ℕ → ℕ → List Firing
@@ -25,12 +27,21 @@ retransmissions_from (suc left) rto at = retransmission at ∷ retransmissions_f
 abbrev pub timers : Option ℕ → Option ℕ → Block → List Firing
 timers (Some at) retransmit b = time_wait (max b.clock at) ∷ []
 timers None None b = []
-timers None (Some at) b = retransmissions_from (64 - b.retransmissions) b.rto (max b.clock at)
+timers None (Some at) b = retransmissions_from (most_retransmissions - b.retransmissions) b.rto (max b.clock at)
 
 abbrev pub time_of : Firing → ℕ
 time_of (time_wait at) = at
 time_of (retransmission at) = at
 time_of (gives_up at) = at
+
+-- the time of the first one
+abbrev pub first_time : List Firing → Option ℕ
+first_time [] = None
+first_time (f ∷ fs) = Some (time_of f)
+
+-- when the next deadline fires, where nothing arrives: not before the clock
+unfoldable pub next_deadline : Block → Option ℕ
+next_deadline b = first_time (timers b.time_wait_at b.retransmit_at b)
 
 -- the front of a list up to a time
 abbrev pub until : ℕ → List Firing → List Firing
@@ -71,7 +82,7 @@ fires (retransmission at) b = record (retransmits b.state (record b { clock = at
 
 -- the retransmission deadline fires
 abbrev pub fired : ℕ → Block → Block
-fired at b = if nat_lt b.retransmissions 64 then fires (retransmission (max b.clock at)) b else fires (gives_up (max b.clock at)) b
+fired at b = if nat_lt b.retransmissions most_retransmissions then fires (retransmission (max b.clock at)) b else fires (gives_up (max b.clock at)) b
 
 abbrev pub fires_all : List Firing → Block → Block
 fires_all [] b = b
@@ -79,3 +90,7 @@ fires_all (f ∷ fs) b = fires_all fs (fires f b)
 
 unfoldable pub tcp_time : ℕ → Block → Block
 tcp_time to b = record (fires_all (firings to b) b) { clock = to }
+
+-- until the next deadline the time sets the clock, and does nothing else
+abbrev pub QuietBeforeDeadline : Type 0
+QuietBeforeDeadline = (to : ℕ) (b : Block) → ForSome (next_deadline b) (λ at. to < at) → tcp_time to b ≡ record b { clock = to }

@@ -49,6 +49,21 @@ pub enum Answer {
     Already,
 }
 
+/// Why a connection is over and its block back in LISTEN (RFC 9293, 3.10.7.4 and 3.10.8).
+#[derive(Clone, Copy, Debug, PartialEq, Eq)]
+pub enum Ending {
+    /// RST at RCV.NXT.
+    Reset,
+    /// A SYN in the window of SYN-RECEIVED.
+    SynAgain,
+    /// The acknowledgement of our FIN in LAST-ACK.
+    LastAck,
+    /// All retransmissions of the block's life were made.
+    GaveUp,
+    /// TIME-WAIT is over.
+    TimeWaitOver,
+}
+
 /// What a check of an arriving segment says: it is over, pump and output follow, or the next check does.
 #[derive(Clone, Copy, Debug, PartialEq, Eq)]
 pub enum Step {
@@ -67,7 +82,12 @@ pub enum AckKind {
 }
 
 ghost use Rattle.std.specs.Prelude.{◌≡◌};
+ghost use Rattle.tcb_machine.specs.BlockState.{has};
+ghost use Rattle.tcb_machine.specs.Endings.{ending_by, ending_by_segment, ending_by_time, is_over};
 ghost use Rattle.tcb_machine.specs.States.{is_consumed};
+
+use crate::tcb::{RST, SYN};
+use segment_codec::Seg;
 
 /// The peer's FIN was consumed.
 pub fn is_consumed(state: State) -> bool
@@ -77,4 +97,48 @@ pub fn is_consumed(state: State) -> bool
         state,
         State::CloseWait | State::Closing | State::LastAck | State::TimeWait
     )
+}
+
+impl Ending {
+    /// Why a connection is over that a segment and what followed it took from one state to another; `None` where it isn't over.
+    pub fn by_segment(before: State, seg: &Seg, after: State) -> Option<Ending>
+        ensures { result ≡ ending_by_segment before seg.now after }
+    {
+        if is_over(before, after) {
+            Some(ending_by(seg))
+        } else {
+            None
+        }
+    }
+
+    /// Why a connection is over that the timers took from one state to another; `None` where it isn't over.
+    pub fn by_time(before: State, after: State) -> Option<Ending>
+        ensures { result ≡ ending_by_time before after }
+    {
+        if !is_over(before, after) {
+            None
+        } else if matches!(before, State::TimeWait) {
+            Some(Ending::TimeWaitOver)
+        } else {
+            Some(Ending::GaveUp)
+        }
+    }
+}
+
+fn is_over(before: State, after: State) -> bool
+    ensures { result ≡ is_over before after }
+{
+    !matches!(before, State::Listen) && matches!(after, State::Listen)
+}
+
+fn ending_by(seg: &Seg) -> Ending
+    ensures { result ≡ ending_by seg.now }
+{
+    if seg.flags & RST != 0 {
+        Ending::Reset
+    } else if seg.flags & SYN != 0 {
+        Ending::SynAgain
+    } else {
+        Ending::LastAck
+    }
 }

@@ -5,10 +5,12 @@ ghost use Rattle.byte_queues.specs.ReceiveQueue.{next_of};
 ghost use Rattle.segment_codec.specs.declared.packet.Seg.{Seg};
 ghost use Rattle.tcb_machine.specs.BlockState.{Block, new_block, offered};
 ghost use Rattle.tcb_machine.specs.CallAnswers.{tcp_call};
+ghost use Rattle.tcb_machine.specs.Numbering.{IsNumbered, SegmentKeepsNumbers, TimeKeepsNumbers, CallKeepsNumbers, OutputKeepsNumbers};
 ghost use Rattle.tcb_machine.specs.Output.{output};
-ghost use Rattle.tcb_machine.specs.TcpStep.{tcp_segment};
-ghost use Rattle.tcb_machine.specs.Timers.{tcp_time};
-ghost use Rattle.tcb_machine.specs.Validity.{IsValid, IsAskable, left_by};
+ghost use Rattle.tcb_machine.specs.Room.{StreamsBelow, SegmentAddsLittle, TimeAddsNothing, CallAddsNothing, OutputAddsNothing};
+ghost use Rattle.tcb_machine.specs.TcpStep.{tcp_segment, OneSerialOrder};
+ghost use Rattle.tcb_machine.specs.Timers.{tcp_time, QuietBeforeDeadline};
+ghost use Rattle.tcb_machine.specs.Validity.{IsValid, IsAskable, AtMostOneDeadline, left_by};
 ghost use Rattle.tcb_machine.specs.declared.kinds.Call.{Call};
 
 /// The output rule sets no clock, takes nothing from the receive queue and offers nothing.
@@ -41,4 +43,39 @@ pub fn a_segment_adds_little()
     ensures next_timed { (to : ℕ) (b : Block) → next_of (tcp_time to b).recv ≤ next_of b.recv }
     ensures next_called { (call : Call) (b : Block) → next_of (left_by (tcp_call call b).verdict).recv ≤ next_of b.recv }
     ensures offered_called { (call : Call) (b : Block) → offered (left_by (tcp_call call b).verdict) ≡ offered b }
+{}
+
+/// A new block has room, and while it stands below a number a segment takes neither stream 2^21 further, and nothing else takes one
+/// further. So a connection of fewer than 2^40 segments has room all the time.
+pub fn streams_grow_little()
+    ensures new { StreamsBelow 1 new_block }
+    ensures segment { SegmentAddsLittle }
+    ensures time { TimeAddsNothing }
+    ensures call { CallAddsNothing }
+    ensures output { OutputAddsNothing }
+{}
+
+/// At most one deadline of a valid block is set.
+pub fn at_most_one_deadline_is_set()
+    ensures { AtMostOneDeadline }
+{}
+
+/// Until the next deadline the time sets the clock, and does nothing else.
+pub fn nothing_fires_before_the_next_deadline()
+    ensures { QuietBeforeDeadline }
+{}
+
+/// Sequence numbers have one order, that of `sq_base`.
+pub fn sequence_numbers_have_one_order()
+    ensures { OneSerialOrder }
+{}
+
+/// SND.UNA and the count of acknowledged bytes go together: behind the handshake SND.UNA stands behind our SYN, the bytes that were
+/// acknowledged, and our FIN where it was (RFC 9293, 3.4).
+pub fn acknowledged_numbers_and_bytes_go_together()
+    ensures new { IsNumbered new_block }
+    ensures segment { SegmentKeepsNumbers }
+    ensures time { TimeKeepsNumbers }
+    ensures call { CallKeepsNumbers }
+    ensures output { OutputKeepsNumbers }
 {}

@@ -3,7 +3,9 @@
 //! `arrival` has the checks of an arriving segment, `text` the last two of them, `replies` the segments that are sent, `output` the
 //! rule by which text, FIN and acknowledgements go out, `timers` the deadlines, and `calls` what programs and services do.
 
-ghost use Rattle.std.specs.Prelude.{true, false, ◌≡◌, ℕ, ◌+◌, ◌-◌, ◌*◌, ◌%◌, ◌/◌, ◌^◌, ◌<◌, ◌≤◌, List, [], ◌∷◌, ◌++◌, length, take, drop, min, max, None, Some, IfOk, OnOk, OnErr, slice_get};
+ghost use Rattle.std.specs.Prelude.{false, ◌≡◌, ◌+◌, ◌-◌, ◌*◌, ◌<◌, ◌≤◌, length, None, Some, slice_get, All, IsTrue, ◌↔◌, []};
+ghost use Rattle.tcb_machine.specs.Limits.{whole_space};
+ghost use Rattle.tcb_machine.specs.Room.{HasRoom};
 
 mod arrival;
 mod calls;
@@ -13,29 +15,26 @@ mod text;
 mod timers;
 
 use crate::kinds::{State, is_consumed};
+use crate::limits::{DEFAULT_MSS, FIRST_TIMEOUT, TIME_WAIT, WHOLE_SPACE};
 use byte_queues::{RecvQueue, SendQueue};
 use segment_codec::Reply;
 use sq_base::seq_dist;
 use std::alloc::Global;
 use std::marker::Model;
+use std::mem::replace;
 
 const FIN: u8 = 1;
 
-const SYN: u8 = 2;
+pub(crate) const SYN: u8 = 2;
 
-const RST: u8 = 4;
+pub(crate) const RST: u8 = 4;
 
 const PSH: u8 = 8;
 
 const ACK: u8 = 16;
 
-const SECOND: u64 = 1_000_000;
-
-/// The receive space of a connection whose SYN carries a window scale, until a program asks for another.
-const SPACE: u32 = 1_048_576;
-
-/// The largest window without window scale.
-const PLAIN_SPACE: u32 = 65_535;
+/// A block takes no segment once so many bytes of a stream have come.
+const MOST_STREAMED: u64 = 1 << 61;
 
 /// The block of a connection.
 #[derive(Drop)]
@@ -104,17 +103,17 @@ impl Tcb {
             wnd: 0,
             wl1: 0,
             wl2: 0,
-            mss: 536,
-            want: SPACE,
+            mss: DEFAULT_MSS,
+            want: WHOLE_SPACE,
             scaled: false,
             snd_shift: 0,
-            recv: RecvQueue::make(alloc, SPACE),
+            recv: RecvQueue::make(alloc, WHOLE_SPACE),
             send: SendQueue::make(alloc),
             acked: 0,
             sent: 0,
             fin_wanted: false,
             fin_sent: false,
-            rto: SECOND,
+            rto: FIRST_TIMEOUT,
             retransmit_at: None,
             time_wait_at: None,
             retransmissions: 0,
@@ -130,7 +129,32 @@ impl Tcb {
         self.state
     }
 
-    /// How many segments were sent.
+    /// The time of the last segment or timer run, in microseconds, and 0 before the first: neither takes an earlier one.
+    pub fn clock(&self) -> u64
+        ensures { result ≡ self.now.clock }
+    {
+        self.clock
+    }
+
+    /// Whether the block takes a segment: 2^61 bytes of neither stream have come. One that has come so far can only be left.
+    #[tactic(auto, unfolding(crate::specs::BlockState::offered))]
+    pub fn has_room(&self) -> bool
+        ensures { IsTrue result ↔ HasRoom self.now }
+    {
+        self.recv.next() < MOST_STREAMED && self.acked + u64::from(self.send.held()) < MOST_STREAMED
+    }
+
+    /// As new, at the block's clock. So a block for which memory was missing is of use again.
+    #[tactic(auto, unfolding(crate::specs::BlockState::new_block))]
+    pub fn reset(&mut self, alloc: Global)
+        ensures { self.new ≡ record new_block { clock = self.old.clock } }
+    {
+        let clock = self.clock;
+        *self = Tcb::make(alloc);
+        self.clock = clock;
+    }
+
+    /// How many segments were sent, since they were last taken.
     pub fn replies(&self) -> usize
         ensures { result ≡ length self.now.replies }
     {
@@ -144,6 +168,15 @@ impl Tcb {
         ensures ours { IsOurs result.now }
     {
         &self.replies[i]
+    }
+
+    /// The segments that were sent, in order, which leave the block. All else of it stays as it is.
+    pub fn take_replies(&mut self, alloc: Global) -> Vec<Reply>
+        ensures taken { result.items ≡ self.old.replies }
+        ensures rest { self.new ≡ record self.old { replies = [] } }
+        ensures ours { All IsOurs result.items }
+    {
+        replace(&mut self.replies, Vec::new(alloc))
     }
 
     /// RCV.NXT.
@@ -162,7 +195,7 @@ impl Tcb {
     #[tactic(auto, unfolding(crate::specs::BlockState::rcv_wnd))]
     fn rcv_wnd(&self) -> u32
         ensures is { result ≡ rcv_wnd self.now }
-        ensures small { result ≤ 1048576 }
+        ensures small { result ≤ whole_space }
         ensures fits { result ≤ self.now.recv.edge - self.now.recv.taken }
     {
         self.recv.window()
@@ -221,7 +254,7 @@ impl Tcb {
         self.wnd = 0;
         self.wl1 = 0;
         self.wl2 = 0;
-        self.mss = 536;
+        self.mss = DEFAULT_MSS;
         self.scaled = false;
         self.snd_shift = 0;
         self.recv = RecvQueue::make(alloc, self.want);
@@ -230,7 +263,7 @@ impl Tcb {
         self.sent = 0;
         self.fin_wanted = false;
         self.fin_sent = false;
-        self.rto = SECOND;
+        self.rto = FIRST_TIMEOUT;
         self.retransmit_at = None;
         self.time_wait_at = None;
         self.ack_due = false;
@@ -243,7 +276,7 @@ impl Tcb {
         ensures { self.new ≡ in_time_wait self.old }
     {
         self.state = State::TimeWait;
-        self.time_wait_at = Some(self.clock + 240 * SECOND);
+        self.time_wait_at = Some(self.clock + TIME_WAIT);
         self.retransmit_at = None;
     }
 }

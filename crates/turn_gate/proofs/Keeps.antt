@@ -8,7 +8,7 @@ use lib.ListN.{get_elem?}
 use Rattle.atomic_table.specs.Table.{State, Me, step, stepped, keeps, takes, gives, Allows, Splits, Joins, rest, put_back, opening, Final, Seen}
 use Rattle.atomic_table.proofs.Lists.{at_set, set_here, set_else, at_longer, at_last}
 use Rattle.turn_gate.specs.History.{Begins, only, Each, Has}
-use Rattle.turn_gate.specs.Rule.{row, view, fresh, dealer, dealt, dealt_one, joined, spent, ticket_at, Knows, Fits, AtHome, Away, Holds, tried, watched, added, drew, glanced, freed}
+use Rattle.turn_gate.specs.Rule.{row, view, fresh, dealer, dealt, dealt_one, joined, spent, ticket_at, Knows, Fits, AtHome, Away, Holds, HasWhole, tried, watched, added, drew, glanced, freed}
 use Rattle.turn_gate.specs.declared.views.Row.{Row}
 use Rattle.turn_gate.specs.declared.views.View.{View}
 use Rattle.turn_gate.specs.declared.kept.Kept.{Kept}
@@ -72,7 +72,7 @@ module _ {T E : Type 0} (stands : T → List E → Type 0) (num : E → ℕ) (n 
   }
 
   pub looks : (slots id : ℕ) (me : M) → Allows Rule slots id me 0 (λ x. x) (glanced (step slots 0 0 0 mo.none) me)
-  looks slots id me s h _ at _ = (view me.0.rows me.0.ticket me.0.has (me.0.steps ++ Load (get_or s.words 0 0) ∷ []), keeps, tt, unmoved s h id me (me.0.steps ++ Load (get_or s.words 0 0) ∷ []) at, refl)
+  looks slots id me s h _ at _ = (view me.0.rows me.0.ticket me.0.has (me.0.steps ++ Load (get_or s.words 0 0) ∷ []), keeps, tt, unmoved s h id me (me.0.steps ++ Load (get_or s.words 0 0) ∷ []) at, (refl, refl))
 
   in_queue : (s : St) (h : Rule s) (i q : ℕ) → get_elem? h.queue i ≡ mo.some q → i < 256
   in_queue s h i q e = let a = within h.queue i q e in let o = h.out in omega arith
@@ -127,7 +127,7 @@ module _ {T E : Type 0} (stands : T → List E → Type 0) (num : E → ℕ) (n 
           absent = h.absent;
           home = elim h.home [ inl a ↦ inl a | inr a ↦ inr (a.0, a.1, at_longer h.queue (r.number ∷ []) 0 a.0 a.2, set_else s.views id (h.place a.0) w (idle_else s h id me.0 at idle 0 a.0 a.2) ∙ a.3, a.4) ];
         },
-        refl,
+        (refl, refl),
       )
 
   -- the seat takes the slot; the word and the queue become such that it is served
@@ -181,12 +181,13 @@ module _ {T E : Type 0} (stands : T → List E → Type 0) (num : E → ℕ) (n 
         watch_hit s h id me r st one at first a.0 a.1,
         (
           refl,
-          (λ t' e' _ r' one'. subst (λ (z : Row E). (x : Kept T) × (h' : List E) × (w.rows ≡ row z.number h' z.mine ∷ []) × (w.ticket ≡ Some t') × (w.has ≡ true) × ((0, Some a.0) ∷ me.1 ≡ (0, Some x) ∷ me.1) × Begins z.seen h' × (only num z.number h' ≡ z.mine) × tells x.value h' × (x.count ≡ length h'))
-              (one_item me.0.rows r r' one one') (a.0, h.story, refl, e', refl, refl, k.seen, k.mine, told a.0.value h.story a.3, a.2)),
+          refl,
+          (λ t' e' _ r' one'. subst (λ (z : Row E). (x : Kept T) × (h' : List E) × (w.rows ≡ row z.number h' z.mine ∷ []) × (w.ticket ≡ Some t') × (w.has ≡ true) × ((0, Some a.0) ∷ me.1 ≡ (0, Some x) ∷ me.1) × Begins z.seen h' × (only num z.number h' ≡ z.mine) × tells x.value.value h' × (x.count ≡ length h'))
+              (one_item me.0.rows r r' one one') (a.0, h.story, refl, e', refl, refl, k.seen, k.mine, told a.0.value.value h.story a.3, a.2)),
           λ t' e' ne. absurd (ne (is ∙ same_t t' e')),
         ),
       ))
-      (λ not. (view me.0.rows me.0.ticket me.0.has st, keeps, tt, unmoved s h id me st at, (refl, (λ t' e' is. absurd (not (is ∙ sym (same_t t' e')))), λ _ _ _. (refl, refl, refl, refl))))
+      (λ not. (view me.0.rows me.0.ticket me.0.has st, keeps, tt, unmoved s h id me st at, (refl, refl, (λ t' e' is. absurd (not (is ∙ sym (same_t t' e')))), λ _ _ _. (refl, refl, refl, refl))))
 
   nothing_at : (l : List ℕ) (i q : ℕ) → l ≡ [] → get_elem? l i ≡ mo.some q → ⊥
   nothing_at l i q e at = mo.some-ne-none q (sym at ∙ ap (λ (z : List ℕ). get_elem? z i) e)
@@ -233,8 +234,9 @@ module _ {T E : Type 0} (stands : T → List E → Type 0) (num : E → ℕ) (n 
         subst (λ (b : ℕ). Rule (stepped s 0 b id me.1 w (takes 0 (Some a.0)))) (sym (ap (λ (b : Bool). either b new x) (eq-eqb x old is) ∙ up)) (try_hit s h id old me r st one at lock_is round tight a.0 a.1),
         (
           refl,
-          (λ _ r' one'. subst (λ (z : Row E). (x' : Kept T) × (h' : List E) × (w.rows ≡ row z.number h' z.mine ∷ []) × (w.ticket ≡ Some (x / 256)) × (w.has ≡ true) × ((0, Some a.0) ∷ me.1 ≡ (0, Some x') ∷ me.1) × Begins z.seen h' × (only num z.number h' ≡ z.mine) × tells x'.value h' × (x'.count ≡ length h'))
-              (one_item me.0.rows r r' one one') (a.0, h.story, refl, ap (λ (z : ℕ). Some (z / 256)) (sym is), refl, refl, k.seen, k.mine, told a.0.value h.story a.3, a.2)),
+          refl,
+          (λ _ r' one'. subst (λ (z : Row E). (x' : Kept T) × (h' : List E) × (w.rows ≡ row z.number h' z.mine ∷ []) × (w.ticket ≡ Some (x / 256)) × (w.has ≡ true) × ((0, Some a.0) ∷ me.1 ≡ (0, Some x') ∷ me.1) × Begins z.seen h' × (only num z.number h' ≡ z.mine) × tells x'.value.value h' × (x'.count ≡ length h'))
+              (one_item me.0.rows r r' one one') (a.0, h.story, refl, ap (λ (z : ℕ). Some (z / 256)) (sym is), refl, refl, k.seen, k.mine, told a.0.value.value h.story a.3, a.2)),
           λ not. absurd (not is),
         ),
       ))
@@ -243,7 +245,7 @@ module _ {T E : Type 0} (stands : T → List E → Type 0) (num : E → ℕ) (n 
         keeps,
         tt,
         subst (λ (b : ℕ). Rule (stepped s 0 b id me.1 (view me.0.rows me.0.ticket me.0.has st) keeps)) (sym (ap (λ (b : Bool). either b new x) (ne_eqb x old not))) (unmoved s h id me st at),
-        (refl, (λ is. absurd (not is)), λ _. (refl, refl, refl, refl)),
+        (refl, refl, (λ is. absurd (not is)), λ _. (refl, refl, refl, refl)),
       ))
 
   pub adds : (slots id : ℕ) (me : M) (r : Row E) (e : E) (c : ℕ) → me.0.rows ≡ r ∷ [] → me.0.has ≡ true → num e ≡ r.number → c ≡ length r.seen + 1
@@ -293,7 +295,7 @@ module _ {T E : Type 0} (stands : T → List E → Type 0) (num : E → ℕ) (n 
           absent = λ q big. only-append num q h.story (e ∷ []) ∙ (λ i. h.absent q big i ++ only_other num q e (λ is. let few : r.number < n = k.small in let same : r.number ≡ q = sym right ∙ is in omega arith) i);
           home = inr (r.number, w, o.3 ∙ ap (λ (z : Row E). mo.some z.number) rows0, ap (get_elem? (set s.views id w)) k.here ∙ set_here s.views id w (within s.views id me.0 at), has);
         },
-        λ z is. ap (λ (q : Row E). (view (row q.number (q.seen ++ e ∷ []) (q.mine ++ e ∷ []) ∷ []) me.0.ticket me.0.has me.0.steps, me.1)) (one_item me.0.rows r z one is),
+        (refl, λ z is. ap (λ (q : Row E). (view (row q.number (q.seen ++ e ∷ []) (q.mine ++ e ∷ []) ∷ []) me.0.ticket me.0.has me.0.steps, me.1)) (one_item me.0.rows r z one is)),
       )
 
   nat_cases : (i : ℕ) → (i ≡ 0) ⊎ ((j : ℕ) × (i ≡ suc j))
@@ -323,7 +325,7 @@ module _ {T E : Type 0} (stands : T → List E → Type 0) (num : E → ℕ) (n 
   later : (lock i : ℕ) → lock < 2 ^ 64 → 0 < lock % 256 → ticket_at lock (suc i) ≡ ticket_at ((lock + 255) % 2 ^ 64) i
   later lock i tight some_out = omega (arith, next_ticket (lock / 256) i, frees_serving lock tight some_out)
 
-  pub frees : (slots id : ℕ) (me : M) (r : Row E) (x : Kept T) → me.0.rows ≡ r ∷ [] → me.0.has ≡ true → me.1 ≡ (0, Some x) ∷ [] → x.count ≡ length r.seen → stands x.value r.seen
+  pub frees : (slots id : ℕ) (me : M) (r : Row E) (x : Kept T) → me.0.rows ≡ r ∷ [] → me.0.has ≡ true → me.1 ≡ (0, Some x) ∷ [] → x.count ≡ length r.seen → stands x.value.value r.seen
       → Allows Rule slots id me 0 (λ z. (z + 255) % 2 ^ 64) (freed (step slots 0 255 0 mo.none) me)
   frees slots id me r x one has carried count right s h _ at small = let found : ℕ = get_or s.words 0 0 in let fl = found_lock s h in let tight : h.lock < 2 ^ 64 = omega arith in
       let old = h.each id me.0 at in let o = old.has has in let k = own_row s h id me r one at in let rows0 : o.0 ≡ r = one_item me.0.rows o.0 r o.1 one in
@@ -361,9 +363,9 @@ module _ {T E : Type 0} (stands : T → List E → Type 0) (num : E → ℕ) (n 
             t.5,
           );
           absent = h.absent;
-          home = inl (x, (λ i. put_back (o.4 i) (carried i)), count ∙ ap (λ (l : List E). length l) whole, subst (stands x.value) whole right);
+          home = inl (x, (λ i. put_back (o.4 i) (carried i)), count ∙ ap (λ (l : List E). length l) whole, subst (stands x.value.value) whole right);
         },
-        λ i. (w, rest (carried i)),
+        (refl, λ i. (w, rest (carried i))),
       )
 
   -- a seat that has the value has a ticket, so it is no seat without one
@@ -469,7 +471,7 @@ module _ {T E : Type 0} (stands : T → List E → Type 0) (num : E → ℕ) (n 
   only_first v w zero e = (refl, mo.some-injective v w e)
   only_first v w (suc j) e = absurd (mo.some-ne-none w (sym e))
 
-  pub starts : (x : Kept T) → n ≤ 64 → x.count ≡ 0 → stands x.value [] → Rule (opening (0 ∷ 0 ∷ []) (Some x ∷ []) (dealer 0 n))
+  pub starts : (x : Kept T) → n ≤ 64 → x.count ≡ 0 → stands x.value.value [] → Rule (opening (0 ∷ 0 ∷ []) (Some x ∷ []) (dealer 0 n))
   starts x few none_yet right = record {
     lock = 0;
     story = [];
@@ -485,9 +487,18 @@ module _ {T E : Type 0} (stands : T → List E → Type 0) (num : E → ℕ) (n 
     home = inl (x, refl, none_yet, right);
   }
 
+  -- where no ticket is out nobody is in the queue, so nobody has the value
+  pub whole_of_free : (s : St) → Rule s → get_or s.words 0 0 % 256 ≡ 0 → HasWhole stands num s
+  whole_of_free s h free = let none_yet : h.queue ≡ [] = empty_list h.queue (h.out ∙ (ap (λ (z : ℕ). z % 256) (sym (found_lock s h)) ∙ free)) in record {
+    story = h.story;
+    value = elim h.home [ inl a ↦ a | inr a ↦ absurd (nothing_at h.queue 0 a.0 none_yet a.2) ];
+    count = ap (λ (ws : List ℕ). get_or ws 1 0) h.words;
+    seats = λ j v at. all_to (Knows stands num n h.story h.place j) (λ (r : Row E). Begins r.seen h.story × (only num r.number h.story ≡ r.mine)) (λ z y. (y.seen, y.mine)) v.rows (h.each j v at).rows;
+  }
+
   -- no seat of the gate but this one has a number, so none has the value
   pub finishes : (id : ℕ) (v : V) (words : List ℕ) (slots : List S) → v.ticket ≡ None → ((q : ℕ) → q < n → Has (λ (r : Row E). r.number ≡ q) v.rows) → Final (Seen Rule id v) words slots
-      → (x : Kept T) × (h : List E) × (get_elem? slots 0 ≡ mo.some (Some x)) × stands x.value h × Each (λ (r : Row E). Begins r.seen h × (only num r.number h ≡ r.mine)) v.rows × ((q : ℕ) → n ≤ q → only num q h ≡ [])
+      → (x : Kept T) × (h : List E) × (get_elem? slots 0 ≡ mo.some (Some x)) × stands x.value.value h × Each (λ (r : Row E). Begins r.seen h × (only num r.number h ≡ r.mine)) v.rows × ((q : ℕ) → n ≤ q → only num q h ≡ [])
   finishes id v words slots idle all f = let s = f.0 in let h : Rule s = f.1.0 in let at = f.1.1 in let fit = h.each id v at in
       let told : Each (λ (r : Row E). Begins r.seen h.story × (only num r.number h.story ≡ r.mine)) v.rows = all_to (Knows stands num n h.story h.place id) (λ (r : Row E). Begins r.seen h.story × (only num r.number h.story ≡ r.mine)) (λ z y. (y.seen, y.mine)) v.rows fit.rows in
       let a : AtHome stands num h.story s.homes = elim h.home [

@@ -1,15 +1,17 @@
 -- Passes and lists of them.
-use Rattle.std.proofs.Common.{◌≡◌, ℕ, ◌+◌, List, [], ◌∷◌, ◌++◌, length, Option, Some, None, false, arith, sym, ap, subst, refl, ◌∙◌}
+use Rattle.std.proofs.Common.{◌/◌, ◌*◌, append_assoc, append-nil, ◌≡◌, ℕ, ◌+◌, List, [], ◌∷◌, ◌++◌, length, Option, Some, None, false, arith, sym, ap, subst, refl, ◌∙◌}
 use Rattle.atomic_table.specs.Seated.{TableId}
-use Rattle.turn_gate.specs.Passes.{IsPassOf, AreFresh, number, seen, mine, steps, own, view_in}
+use Rattle.turn_gate.specs.Passes.{IsPassOf, AreFresh, hit, missed, turns_of, waited, number, seen, mine, steps, own, view_in}
 use Rattle.atomic_table.specs.Table.{Me}
 use Rattle.turn_gate.specs.Rule.{row, view, Took, Stays}
 use Rattle.turn_gate.specs.declared.kept.Kept.{Kept}
 use Rattle.turn_gate.specs.declared.views.View.{View}
 use Rattle.turn_gate.specs.declared.views.LockStep.{LockStep}
+use Rattle.turn_gate.specs.declared.views.LockStep.TheVariants.{Draw, Load, Exchange, Serve}
 use Rattle.turn_gate.specs.History.{Each, only}
 use Rattle.turn_gate.proofs.Histories.{each_first, each_last}
 use Rattle.turn_gate.specs.declared.pass.Pass.{Pass}
+use Rattle.turn_gate.specs.declared.pass.Missed.{Missed}
 
 module _ {E : Type 0} (num : E → ℕ) (id : TableId) where
   pub fresh_more : (k c : ℕ) (ps : List (Pass E)) (p : Pass E) → AreFresh num id k ps → k + length ps ≡ c → IsPassOf num id p × (number p ≡ c) × (seen p ≡ []) × (mine p ≡ []) × (steps p ≡ []) → AreFresh num id k (ps ++ p ∷ [])
@@ -44,3 +46,28 @@ module _ {T E : Type 0} (stands : T → List E → Type 0) (num : E → ℕ) whe
   -- what a seat took, it took from where it stood before some steps that changed nothing else
   pub took_still : (t : ℕ) (m n w : Me (Option (Kept T)) (View E)) → Stays m n → Took stands num t n w → Took stands num t m w
   took_still t m n w still took r one = let k = took r (still.0 ∙ one) in (k.0, k.1, k.2, k.3, k.4, k.5 ∙ ap (λ (l : List (ℕ × Option (Kept T))). (0, Some k.0) ∷ l) still.3, k.6, k.7, k.8, k.9)
+
+pub turns_of-append : (xs ys : List LockStep) → turns_of (xs ++ ys) ≡ turns_of xs + turns_of ys
+turns_of-append [] ys = omega arith
+turns_of-append (Draw w ∷ xs) ys = turns_of-append xs ys
+turns_of-append (Load w ∷ xs) ys = turns_of-append xs ys
+turns_of-append (Exchange e w ∷ xs) ys = turns_of-append xs ys
+turns_of-append (Serve w ∷ xs) ys = let r = turns_of-append xs ys in omega (arith, r)
+
+pub waited_not : (xs : List LockStep) → waited xs xs
+waited_not xs = ([], sym (append-nil xs), refl)
+
+pub waited_more : (xs ys zs : List LockStep) → waited xs ys → waited ys zs → waited xs zs
+waited_more xs ys zs a b = (a.0 ++ b.0, b.1 ∙ (ap (λ l. l ++ b.0) a.1 ∙ append_assoc xs a.0 b.0), (let r = turns_of-append a.0 b.0 in let p = a.2 in let q = b.2 in omega (arith, r, p, q)))
+
+pub draw_waits : (xs ys : List LockStep) (x : ℕ) → ys ≡ xs ++ Draw x ∷ [] → waited xs ys
+draw_waits xs ys x e = (Draw x ∷ [], e, refl)
+
+pub load_waits : (xs ys zs : List LockStep) (x : ℕ) → waited xs ys → zs ≡ ys ++ Load x ∷ [] → waited xs zs
+load_waits xs ys zs x a e = waited_more xs ys zs a (Load x ∷ [], e, refl)
+
+pub hit_waits : (xs ys zs : List LockStep) → waited xs ys → hit ys zs → waited xs zs
+hit_waits xs ys zs a h = waited_more xs ys zs a (Load h.0 ∷ Exchange (h.0 / 256 * 256) (h.0 / 256 * 256) ∷ [], h.1, refl)
+
+pub miss_waits : {E : Type 0} (xs ys : List LockStep) (m : Missed E) → waited xs ys → missed ys m → waited xs (steps m.pass)
+miss_waits xs ys m a h = waited_more xs ys (steps m.pass) a (Load h.0 ∷ Exchange m.expected m.found ∷ [], h.1, refl)

@@ -37,14 +37,14 @@ module _ {T M E : Type 0} where
   held_steps h = h.seat.me.0.steps
 
   abbrev pub held_value : Held T M E → T
-  held_value h = h.value
+  held_value h = h.value.value
 
   abbrev pub held_count : Held T M E → ℕ
   held_count h = h.count
 
   -- the same, with this value
   abbrev pub held_with : Held T M E → T → Held T M E
-  held_with h w = record h { value = w }
+  held_with h w = record h { value = record h.value { value = w } }
 
   -- the gate is this one, and its whole history is seen
   abbrev pub IsHeldOf : (E → ℕ) → TableId → Held T M E → Type 0

@@ -6,9 +6,30 @@ use Rattle.turn_gate.specs.Rule.{row, view}
 use Rattle.turn_gate.specs.declared.views.Row.{Row}
 use Rattle.turn_gate.specs.declared.views.View.{View}
 use Rattle.turn_gate.specs.declared.views.LockStep.{LockStep}
-use Rattle.turn_gate.specs.declared.views.LockStep.TheVariants.{Exchange, Load}
+use Rattle.turn_gate.specs.declared.views.LockStep.TheVariants.{Draw, Exchange, Load, Serve}
 use Rattle.turn_gate.specs.declared.pass.Pass.{Pass}
 use Rattle.turn_gate.specs.declared.pass.Missed.{Missed}
+
+-- how often the lock was freed by these steps
+abbrev pub turns_of : List LockStep → ℕ
+turns_of [] = 0
+turns_of (Draw w ∷ ss) = turns_of ss
+turns_of (Load w ∷ ss) = turns_of ss
+turns_of (Exchange e w ∷ ss) = turns_of ss
+turns_of (Serve w ∷ ss) = turns_of ss + 1
+
+-- the call made some steps on the lock word, and freed the lock by none of them
+abbrev pub waited : List LockStep → List LockStep → Type 0
+waited before after = (rest : List LockStep) × (after ≡ before ++ rest) × (turns_of rest ≡ 0)
+
+-- the call made two steps on the lock word: it loaded it, and then made an exchange from 256 times the ticket that was
+-- served in the word loaded, which found just that
+abbrev pub hit : List LockStep → List LockStep → Type 0
+hit before after = (w : ℕ) × (after ≡ before ++ Load w ∷ Exchange (w / 256 * 256) (w / 256 * 256) ∷ [])
+
+-- the call made one step on the lock word, and served the next ticket by it
+abbrev pub freed_once : List LockStep → List LockStep → Type 0
+freed_once before after = (w : ℕ) × (after ≡ before ++ Serve w ∷ [])
 
 module _ {E : Type 0} where
   -- the one view of a badge, and the one row of a view; where there is none, one that knows nothing

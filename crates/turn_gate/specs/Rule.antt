@@ -1,5 +1,5 @@
 -- The rule that a gate's table keeps between any two atomic steps, and what each step tells the seat that makes it.
-use Rattle.std.specs.Prelude.{◌≡◌, ◌≢◌, ℕ, zero, suc, ◌+◌, ◌<◌, Bool, true, false, List, [], ◌∷◌, ◌++◌, length, take, drop, Option, Some, ◌≤◌, ◌/◌, ◌%◌, ◌^◌, ◌⊎◌, None}
+use Rattle.std.specs.Prelude.{◌≡◌, ◌≢◌, ℕ, zero, suc, ◌+◌, ◌<◌, Bool, true, false, List, [], ◌∷◌, ◌++◌, length, take, drop, Option, Some, ◌≤◌, ◌/◌, ◌%◌, ◌^◌, ◌⊎◌, None, slice_index}
 use mathlib.Core.Option as mo
 use lib.ListN.{get_elem?}
 use Rattle.atomic_table.specs.Table.{State, Me, Step}
@@ -9,6 +9,10 @@ use Rattle.turn_gate.specs.declared.views.View.{View}
 use Rattle.turn_gate.specs.declared.kept.Kept.{Kept}
 use Rattle.turn_gate.specs.declared.views.LockStep.{LockStep}
 use Rattle.turn_gate.specs.declared.views.LockStep.TheVariants.{Draw, Load, Exchange, Serve}
+
+-- the lock is free: no ticket is out
+abbrev pub IsFree : {S V : Type 0} → State S V → Type 0
+IsFree s = slice_index s.words 0 % 256 ≡ 0
 
 -- the lock word is 256 times the ticket that is served, plus the number of tickets that are out
 abbrev pub served : ℕ → ℕ
@@ -66,7 +70,7 @@ module _ {T E : Type 0} (stands : T → List E → Type 0) (num : E → ℕ) whe
 
   -- the value is at home, and stands for the history
   abbrev pub AtHome : List E → List (mo.Option (Option (Kept T))) → Type 0
-  AtHome story homes = (x : Kept T) × (homes ≡ mo.some (Some x) ∷ []) × (x.count ≡ length story) × stands x.value story
+  AtHome story homes = (x : Kept T) × (homes ≡ mo.some (Some x) ∷ []) × (x.count ≡ length story) × stands x.value.value story
 
   -- the seat that is served has it
   abbrev pub Away : (ℕ → ℕ) → List ℕ → List (View E) → Type 0
@@ -90,10 +94,18 @@ module _ {T E : Type 0} (stands : T → List E → Type 0) (num : E → ℕ) whe
     pub absent : (q : ℕ) → n ≤ q → only num q story ≡ []
     pub home : AtHome story s.homes ⊎ Away place queue s.views
 
+  -- the value is at home and stands for the whole history, which is as long as the second word says; each seat has seen a
+  -- beginning of it, and has the elements of its numbers
+  pub record HasWhole (s : State (Option (Kept T)) (View E)) : Type 0 where
+    pub story : List E
+    pub value : AtHome story s.homes
+    pub count : slice_index s.words 1 ≡ length story
+    pub seats : (j : ℕ) (v : View E) → get_elem? s.views j ≡ mo.some v → Each (λ r. Begins r.seen story × (only num r.number story ≡ r.mine)) v.rows
+
   -- the seat m with ticket t took the value, which stands for a history that goes on from what the seat had seen
   abbrev pub Took : ℕ → Me (Option (Kept T)) (View E) → Me (Option (Kept T)) (View E) → Type 0
   Took t m w = (r : Row E) → m.0.rows ≡ r ∷ [] → (x : Kept T) × (h : List E) × (w.0.rows ≡ row r.number h r.mine ∷ []) × (w.0.ticket ≡ Some t) × (w.0.has ≡ true) × (w.1 ≡ (0, Some x) ∷ m.1)
-      × Begins r.seen h × (only num r.number h ≡ r.mine) × stands x.value h × (x.count ≡ length h)
+      × Begins r.seen h × (only num r.number h ≡ r.mine) × stands x.value.value h × (x.count ≡ length h)
 
 -- all but the steps stays
 abbrev pub Stays : {S E : Type 0} → Me S (View E) → Me S (View E) → Type 0
@@ -102,29 +114,29 @@ Stays m w = (w.0.rows ≡ m.0.rows) × (w.0.ticket ≡ m.0.ticket) × (w.0.has �
 module _ {T E : Type 0} (stands : T → List E → Type 0) (num : E → ℕ) where
   -- the compare-exchange of `try_hold`
   abbrev pub tried : Step (Option (Kept T)) → Me (Option (Kept T)) (View E) → ℕ → Me (Option (Kept T)) (View E) → Type 0
-  tried st m found w = (w.0.steps ≡ m.0.steps ++ Exchange st.first found ∷ [])
+  tried st m found w = (st.word ≡ 0) × (w.0.steps ≡ m.0.steps ++ Exchange st.first found ∷ [])
       × (found ≡ st.first → Took stands num (served found) m w)
       × (found ≢ st.first → Stays m w)
 
   -- a load by a seat that has a ticket
   abbrev pub watched : Step (Option (Kept T)) → Me (Option (Kept T)) (View E) → ℕ → Me (Option (Kept T)) (View E) → Type 0
-  watched st m found w = (w.0.steps ≡ m.0.steps ++ Load found ∷ [])
+  watched st m found w = (st.word ≡ 0) × (w.0.steps ≡ m.0.steps ++ Load found ∷ [])
       × ((t : ℕ) → m.0.ticket ≡ Some t → served found ≡ t → Took stands num t m w)
       × ((t : ℕ) → m.0.ticket ≡ Some t → served found ≢ t → Stays m w)
 
 module _ {T E : Type 0} where
   -- the store of the count: the elements joined the history
   abbrev pub added : List E → Step (Option (Kept T)) → Me (Option (Kept T)) (View E) → ℕ → Me (Option (Kept T)) (View E) → Type 0
-  added es st m found w = (r : Row E) → m.0.rows ≡ r ∷ [] → w ≡ (view (row r.number (r.seen ++ es) (r.mine ++ es) ∷ []) m.0.ticket m.0.has m.0.steps, m.1)
+  added es st m found w = (st.word ≡ 1) × ((r : Row E) → m.0.rows ≡ r ∷ [] → w ≡ (view (row r.number (r.seen ++ es) (r.mine ++ es) ∷ []) m.0.ticket m.0.has m.0.steps, m.1))
 
   -- the fetch-add of 1: a ticket was drawn, the one behind all that were out
   abbrev pub drew : Step (Option (Kept T)) → Me (Option (Kept T)) (View E) → ℕ → Me (Option (Kept T)) (View E) → Type 0
-  drew st m found w = w ≡ (view m.0.rows (Some (ticket_at found (found % 256))) m.0.has (m.0.steps ++ Draw found ∷ []), m.1)
+  drew st m found w = (st.word ≡ 0) × (w ≡ (view m.0.rows (Some (ticket_at found (found % 256))) m.0.has (m.0.steps ++ Draw found ∷ []), m.1))
 
   -- the load of `try_hold`
   abbrev pub glanced : Step (Option (Kept T)) → Me (Option (Kept T)) (View E) → ℕ → Me (Option (Kept T)) (View E) → Type 0
-  glanced st m found w = w ≡ (view m.0.rows m.0.ticket m.0.has (m.0.steps ++ Load found ∷ []), m.1)
+  glanced st m found w = (st.word ≡ 0) × (w ≡ (view m.0.rows m.0.ticket m.0.has (m.0.steps ++ Load found ∷ []), m.1))
 
   -- the fetch-add of 255: the value is at home again, and the next ticket is served
   abbrev pub freed : Step (Option (Kept T)) → Me (Option (Kept T)) (View E) → ℕ → Me (Option (Kept T)) (View E) → Type 0
-  freed st m found w = w ≡ (view m.0.rows None false (m.0.steps ++ Serve found ∷ []), [])
+  freed st m found w = (st.word ≡ 0) × (w ≡ (view m.0.rows None false (m.0.steps ++ Serve found ∷ []), []))

@@ -12,4 +12,4 @@ module _ {T E : Type 0} (stands : T → List E → Type 0) (num : E → ℕ) whe
   abbrev pub HasValue : TableId → ℕ → Seat (Option (Kept T)) (View E) → Type 0
   HasValue id k s = (s.table_id ≡ id)
       × ((h m : List E) × (t : ℕ) × (x : Kept T) × (s.me ≡ (view (row k h m ∷ []) (Some t) true s.me.0.steps, (0, Some x) ∷ []))
-      × stands x.value h × (x.count ≡ length h) × (only num k h ≡ m))
+      × stands x.value.value h × (x.count ≡ length h) × (only num k h ≡ m))

@@ -2,7 +2,8 @@
 //!
 //! `hold` draws the next ticket and waits until it is served; the seat that loads its own ticket takes the value out of
 //! the slot. A release puts the value back, stores the length of the history where it adds an element, and serves the
-//! next ticket. `try_hold` draws a ticket only where none is out.
+//! next ticket. `try_hold` draws a ticket only where none is out. `hold_soon` tries that for a while, sleeps between, and
+//! holds in the end.
 
 ghost use Rattle.std.specs.Prelude.{◌≡◌, ◌≤◌};
 
@@ -19,13 +20,23 @@ use std::hint::spin_loop;
 use std::marker::Brand;
 use std::snapshot::Snapshot;
 use std::sync::Wait;
+use std::sync::atomic::AtomicU64;
+use std::sync::atomic::Ordering::SeqCst;
 
 /// How often `hold` looks at the lock word before it parks.
 const LOOKS: u32 = 64;
 
+/// How often `hold_soon` tries before it sleeps.
+const TRIES: u32 = 16;
+
+/// How often `hold_soon` sleeps before it draws a ticket.
+const SLEEPS: u32 = 16;
+
 /// A ticket lock round one value. Threads share it by reference, where the value may be sent between them.
 pub struct Gate<T: Storied> {
     table: Table<Option<Kept<T>>, View<T::Element>, Made<T>, GateRule<T>, Global>,
+    // How many threads sleep on the lock word, or are about to. It has no rule, and nothing is claimed of it.
+    parked: AtomicU64,
     ghost sized: { (table.shared.table_id.words ≡ 2) × (table.shared.table_id.slots ≡ 1) × (1 ≤ table.shared.key.passes) },
 }
 
@@ -33,7 +44,7 @@ impl<T: Storied> Gate<T> {
     ghost use Rattle.std.specs.Prelude.{◌+◌, ◌<◌, ◌/◌, ◌^◌, ◌++◌, ◌≢◌, [], ◌∷◌, ℕ, List, length, map, vec_capacity, Some, None, false, MatchResult, IfOk};
     ghost use Rattle.turn_gate.specs.Gates.{gate_id, passes_of, first_of};
     ghost use Rattle.turn_gate.specs.History.{Begins, Each, IsOneOf, only};
-    ghost use Rattle.turn_gate.specs.Passes.{IsPassOf, AreFresh, AreAll, IsReturned, missed, row_of, number, seen, mine, steps, own};
+    ghost use Rattle.turn_gate.specs.Passes.{IsPassOf, AreFresh, AreAll, IsReturned, freed_once, hit, missed, waited, row_of, number, seen, mine, steps, own};
     ghost use Rattle.turn_gate.specs.Helds.{IsHeldOf, Takes, held_number, held_seen, held_mine, held_steps, held_value, held_row};
     ghost use Rattle.turn_gate.specs.Seats.{HasValue};
     ghost use Rattle.turn_gate.specs.Rule.{dealer, Took, Stays};
@@ -56,31 +67,106 @@ impl<T: Storied> Gate<T> {
             first: Snapshot::of(&value),
         };
         let mut slots = Vec::with_capacity(alloc, 1)?;
-        slots.push_reserved(Some(Kept { value, count: 0 }));
+        let boxed = Box::new(alloc, value)?;
+        slots.push_reserved(Some(Kept {
+            value: boxed,
+            count: 0,
+        }));
         let all = Vec::with_capacity(alloc, passes as usize)?;
         let Ok((table, seat)) = Table::new(alloc, &[0, 0], slots, &made) else {
             all.destroy_empty();
             return Err(AllocError);
         };
-        let gate = Gate { table };
+        let gate = Gate {
+            table,
+            parked: AtomicU64::new(0),
+        };
         let all = gate.deal_all(seat, passes, all);
         Ok((gate, all))
     }
 
-    /// Takes the gate, and waits for it: looks at the lock word some times, and then parks on it.
+    /// Takes the gate in its turn, and waits for it: draws a ticket, looks at the lock word some times, and then parks on it.
     pub fn hold<R: Wait>(&self, rt: &R, pass: Pass<T::Element>) -> Held<T>
         requires { IsPassOf T.number (gate_id self.now) pass }
         ensures takes { Takes (T.stands (first_of self.now)) T.number (gate_id self.now) pass result }
-        ensures steps { Begins (steps pass) (held_steps result) }
+        ensures steps { waited (steps pass) (held_steps result) }
     {
         self.hold_as::<R, Brand>(rt, pass)
     }
 
-    /// Takes the gate where it is free, and doesn't wait. It loads the lock word once and makes one exchange.
+    /// Takes the gate, and waits for it. It tries for a while, each time where no ticket seems to be out, and pauses longer
+    /// after each try; then it sleeps until a release, and tries again. Only after some sleeps it draws a ticket. So a
+    /// thread that runs goes before one that doesn't.
+    pub fn hold_soon<R: Wait>(&self, rt: &R, pass: Pass<T::Element>) -> Held<T>
+        requires { IsPassOf T.number (gate_id self.now) pass }
+        ensures takes { Takes (T.stands (first_of self.now)) T.number (gate_id self.now) pass result }
+        ensures steps { waited (steps pass) (held_steps result) }
+    {
+        let mut pass = pass;
+        for _ in 0..SLEEPS {
+            match self.attempts(pass) {
+                Ok(held) => return held,
+                Err(back) => pass = back,
+            }
+            self.sleep_while_taken(rt);
+        }
+        self.hold(rt, pass)
+    }
+
+    // Sleeps until a release, where a ticket is out.
+    fn sleep_while_taken<R: Wait>(&self, rt: &R) {
+        let shown = self.table.shared.peek(0);
+        if shown % 256 > 0 {
+            self.sleep(rt, shown);
+        }
+    }
+
+    // Tries to take the gate, but not for ever.
+    fn attempts(&self, pass: Pass<T::Element>) -> Result<Held<T>, Pass<T::Element>>
+        requires { IsPassOf T.number (gate_id self.now) pass }
+        ensures { MatchResult result
+            (λ h. Takes (T.stands (first_of self.now)) T.number (gate_id self.now) pass h × waited (steps pass) (held_steps h))
+            (λ q. IsReturned T.number (gate_id self.now) pass q × waited (steps pass) (steps q)) }
+    {
+        let mut pass = pass;
+        for k in 0..TRIES {
+            match self.try_once(pass) {
+                Ok(held) => return Ok(held),
+                Err(back) => pass = back,
+            }
+            back_off(k);
+        }
+        Err(pass)
+    }
+
+    // Tries where no ticket seems to be out.
+    fn try_once(&self, pass: Pass<T::Element>) -> Result<Held<T>, Pass<T::Element>>
+        requires { IsPassOf T.number (gate_id self.now) pass }
+        ensures { MatchResult result
+            (λ h. Takes (T.stands (first_of self.now)) T.number (gate_id self.now) pass h × waited (steps pass) (held_steps h))
+            (λ q. IsReturned T.number (gate_id self.now) pass q × waited (steps pass) (steps q)) }
+    {
+        if self.table.shared.peek(0) % 256 > 0 {
+            return Err(pass);
+        }
+        match self.try_hold(pass) {
+            Ok(held) => Ok(held),
+            Err(
+                Missed {
+                    pass,
+                    expected: _,
+                    found: _,
+                },
+            ) => Err(pass),
+        }
+    }
+
+    /// Takes the gate where it is free, and doesn't wait. It loads the lock word once and makes one exchange. `Missed` where
+    /// that found a ticket out, or another turn had passed since the load.
     pub fn try_hold(&self, pass: Pass<T::Element>) -> Result<Held<T>, Missed<T::Element>>
         requires { IsPassOf T.number (gate_id self.now) pass }
         ensures { MatchResult result
-            (λ h. Takes (T.stands (first_of self.now)) T.number (gate_id self.now) pass h × Begins (steps pass) (held_steps h))
+            (λ h. Takes (T.stands (first_of self.now)) T.number (gate_id self.now) pass h × hit (steps pass) (held_steps h))
             (λ m. missed (steps pass) m × IsReturned T.number (gate_id self.now) pass m.pass) }
     {
         self.try_hold_as::<Brand>(pass)
@@ -95,7 +181,7 @@ impl<T: Storied> Gate<T> {
         ensures gate { IsPassOf T.number (gate_id self.now) result × (number result ≡ held_number held) }
         ensures seen { seen result ≡ held_seen held ++ N.elements }
         ensures mine { mine result ≡ held_mine held ++ N.elements }
-        ensures steps { Begins (held_steps held) (steps result) }
+        ensures steps { freed_once (held_steps held) (steps result) }
     {
         let _ = mark;
         let number = held.number;
@@ -112,7 +198,7 @@ impl<T: Storied> Gate<T> {
         ensures gate { IsPassOf T.number (gate_id self.now) result × (number result ≡ held_number held) }
         ensures seen { seen result ≡ held_seen held }
         ensures mine { mine result ≡ held_mine held }
-        ensures steps { Begins (held_steps held) (steps result) }
+        ensures steps { freed_once (held_steps held) (steps result) }
     {
         let number = held.number;
         let count = held.count;
@@ -127,14 +213,14 @@ impl<T: Storied> Gate<T> {
         ensures { (story : List T.Element) × T.stands (first_of self) result story × Each (λ p. Begins (seen p) story × (only T.number (number p) story ≡ mine p)) passes.items × ((q : ℕ) → passes_of self ≤ q → only T.number q story ≡ []) }
     {
         let seat = self.gather(passes);
-        let Gate { table } = self;
+        let Gate { table, parked: _ } = self;
         let mut closed = table.close_with(seat);
         let slot = closed.take(0);
         closed.free();
         let Some(Kept { value, count: _ }) = slot else {
             unreachable!()
         };
-        value
+        Box::into_inner(value)
     }
 
     // `hold`, where the seat learns what `G` says of a value that stands for a history.
@@ -142,7 +228,7 @@ impl<T: Storied> Gate<T> {
         requires pass { IsPassOf T.number (gate_id self.now) pass }
         requires told { (x : T) (h : List T.Element) → T.stands (first_of self.now) x h → G.tells x h }
         ensures takes { Takes G.tells T.number (gate_id self.now) pass result }
-        ensures steps { Begins (steps pass) (held_steps result) }
+        ensures steps { waited (steps pass) (held_steps result) }
     {
         let Pass { badge, number } = pass;
         let mut seat = badge.into_seat();
@@ -153,9 +239,30 @@ impl<T: Storied> Gate<T> {
             if shown / 256 == ticket {
                 return self.taken::<G>(seat, number);
             }
-            self.table.shared.park(rt, 0, (shown % (1 << 32)) as u32);
+            self.sleep(rt, shown);
         }
         unreachable!()
+    }
+
+    // Sleeps while the lock word is as shown, which has a ticket out. Who releases afterwards wakes, and who released
+    // before has changed the word.
+    fn sleep<R: Wait>(&self, rt: &R, shown: u64) {
+        self.parked.fetch_add(1, SeqCst);
+        self.table.shared.park(rt, 0, (shown % (1 << 32)) as u32);
+        self.parked.fetch_sub(1, SeqCst);
+    }
+
+    // Wakes who sleeps, if anybody does. Where other tickets are out, the next one is somewhere among the sleepers, so all
+    // are woken; else any one may try.
+    fn wake(&self, others_out: bool) {
+        if self.parked.load(SeqCst) == 0 {
+            return;
+        }
+        if others_out {
+            self.table.shared.wake_all(0);
+        } else {
+            self.table.shared.wake_one(0);
+        }
     }
 
     // Looks at the lock word until it shows the ticket, but not for ever, and returns what it found last.
@@ -170,7 +277,7 @@ impl<T: Storied> Gate<T> {
         ensures table { seat.new.table_id ≡ seat.old.table_id }
         ensures served { result / 256 ≡ ticket → Took G.tells T.number ticket seat.old.me seat.new.me }
         ensures waits { result / 256 ≢ ticket → Stays seat.old.me seat.new.me }
-        ensures steps { Begins seat.old.me.0.steps seat.new.me.0.steps }
+        ensures steps { waited seat.old.me.0.steps seat.new.me.0.steps }
     {
         for _ in 0..LOOKS {
             let found = self.table.shared.load::<Watch<T, G>>(seat, 0);
@@ -190,7 +297,7 @@ impl<T: Storied> Gate<T> {
         requires pass { IsPassOf T.number (gate_id self.now) pass }
         requires told { (x : T) (h : List T.Element) → T.stands (first_of self.now) x h → G.tells x h }
         ensures { MatchResult result
-            (λ h. Takes G.tells T.number (gate_id self.now) pass h × Begins (steps pass) (held_steps h))
+            (λ h. Takes G.tells T.number (gate_id self.now) pass h × hit (steps pass) (held_steps h))
             (λ m. missed (steps pass) m × IsReturned T.number (gate_id self.now) pass m.pass) }
     {
         let Pass { badge, number } = pass;
@@ -239,7 +346,7 @@ impl<T: Storied> Gate<T> {
     fn put_back(&self, held: Held<T>, count: u64) -> Seat<Option<Kept<T>>, View<T::Element>>
         requires { IsHeldOf T.number (gate_id self.now) held }
         ensures table { result.table_id ≡ gate_id self.now }
-        ensures me { result.me ≡ (held.seat.me.0, (0, Some (record { value = held_value held; count = count })) ∷ []) }
+        ensures me { result.me ≡ (held.seat.me.0, (0, Some (record { value = held.value; count = count })) ∷ []) }
     {
         let Held {
             mut seat,
@@ -255,8 +362,7 @@ impl<T: Storied> Gate<T> {
         seat
     }
 
-    // Gives the slot back and serves the next ticket. Only where other tickets are out, threads may be parked; the next
-    // one is somewhere among them, so all are woken.
+    // Gives the slot back and serves the next ticket.
     fn serve_next(
         &self,
         mut seat: Seat<Option<Kept<T>>, View<T::Element>>,
@@ -265,12 +371,10 @@ impl<T: Storied> Gate<T> {
         requires { HasValue (T.stands (first_of self.now)) T.number (gate_id self.now) holder seat }
         ensures gate { IsPassOf T.number (gate_id self.now) result × (number result ≡ holder) }
         ensures row { row_of result ≡ own seat.me.0.rows }
-        ensures steps { Begins seat.me.0.steps (steps result) }
+        ensures steps { freed_once seat.me.0.steps (steps result) }
     {
         let found = self.table.shared.fetch_add::<Free>(&mut seat, 0, 255);
-        if found % 256 > 1 {
-            self.table.shared.wake_all(0);
-        }
+        self.wake(found % 256 > 1);
         let badge = seat.into_badge();
         Pass {
             badge,
@@ -314,5 +418,12 @@ impl<T: Storied> Gate<T> {
         }
         passes.destroy_empty();
         seat
+    }
+}
+
+// Waits a little, and longer after more tries.
+fn back_off(tries: u32) {
+    for _ in 0..1u32 << tries.min(8) {
+        spin_loop();
     }
 }

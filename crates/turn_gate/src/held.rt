@@ -10,7 +10,7 @@ use atomic_table::Seat;
 /// A gate that is held, with the value. It must be spent, by a release.
 pub struct Held<T: Storied> {
     pub(crate) seat: Seat<Option<Kept<T>>, View<T::Element>>,
-    pub(crate) value: T,
+    pub(crate) value: Box<T>,
     pub(crate) count: u64,
     pub(crate) number: u32,
 }
@@ -38,7 +38,7 @@ impl<T: Storied> Held<T> {
     pub fn get(&self) -> &T
         ensures { result.now ≡ held_value self.now }
     {
-        &self.value
+        &*self.value
     }
 
     /// The value. When the borrow ends, the held gate has what was written through it.
@@ -46,6 +46,6 @@ impl<T: Storied> Held<T> {
         ensures* writes_back { sem 𝓛 (Lends (the_row T.row T.Mark.row T.Element.row) T.row self.entry result (held_with self.old)) }
         ensures value { result.now ≡ held_value self.old }
     {
-        &mut self.value
+        &mut *self.value
     }
 }

@@ -2,10 +2,10 @@
 
 use std::snapshot::Snapshot;
 
-/// The value, and the length of the history that it stands for.
+/// The value, which is moved by its pointer, and the length of the history that it stands for.
 #[derive(Drop)]
 pub struct Kept<T> {
-    pub value: T,
+    pub value: Box<T>,
     pub count: u64,
 }
 

@@ -4,12 +4,13 @@
 //! may add one element to the history of the value. The history exists in contracts alone: a pass knows a beginning of
 //! it and which elements of it are its own, and a `Held` knows the whole.
 //!
-//! The gate never waits but in `hold`, takes no memory after `make`, and never says who is next.
+//! The gate never waits but in `hold` and `hold_soon`, takes no memory after `make`, and never says who is next.
 #![tactic(auto)]
 
 mod gate;
 mod held;
 mod kept;
+pub mod laws;
 mod pass;
 mod plays;
 mod rule;

@@ -1,13 +1,18 @@
 //! The arrival of a segment (RFC 9293, 3.10.7): LISTEN, and the first five checks of the other states.
 
-ghost use Rattle.std.specs.Prelude.{true, false, ◌≡◌, ℕ, ◌+◌, ◌-◌, ◌*◌, ◌%◌, ◌/◌, ◌^◌, ◌<◌, ◌≤◌, List, [], ◌∷◌, ◌++◌, length, take, drop, min, max, None, Some, IfOk, OnOk, OnErr, slice_get};
-ghost use Rattle.tcb_machine.specs.BlockState.{Block, new_block, to_listen, rcv_nxt, rcv_wnd, snd_nxt, snd_end, unsent, in_flight, has, seg_wnd, sent_window, segment_of, syn_ack_of, rst_of, sends, sends_ack, IsOurs, offered};
-ghost use Rattle.tcb_machine.specs.States.{is_consumed, is_listen};
-ghost use Rattle.tcb_machine.specs.TcpStep.{over, go, on, listen, opened, sends_syn_ack, send_mss, is_in_window, is_acceptable, check_sequence, refused, check_reset, syn_again, ack_kind, with_window, takes_window, takes_ack, is_fin_acked, in_time_wait, after_ack, acknowledged, check_ack, first_checks, repeated, ahead, takes_fin, takes_text, closes, check_text, in_state, tcp_segment, said, step_said};
-ghost use Rattle.byte_queues.specs.ReceiveQueue.{next_of, ready_of, placed, next_bytes, without};
+ghost use Rattle.std.specs.Prelude.{true, false, ◌≡◌, ◌+◌, ◌-◌, ◌*◌, ◌%◌, ◌^◌, ◌<◌, ◌≤◌, length, min, max, None, Some, IfOk, OnOk};
+ghost use Rattle.tcb_machine.specs.BlockState.{rcv_nxt, rcv_wnd, snd_nxt, in_flight, has, seg_wnd, offered};
+ghost use Rattle.tcb_machine.specs.Limits.{whole_space};
+ghost use Rattle.tcb_machine.specs.Room.{HasRoom};
+ghost use Rattle.tcb_machine.specs.States.{is_listen};
+ghost use Rattle.tcb_machine.specs.TcpStep.{over, listen, opened, send_mss, is_in_window, is_acceptable, check_sequence, refused, check_reset, syn_again, ack_kind, with_window, takes_window, takes_ack, is_fin_acked, after_ack, acknowledged, check_ack, first_checks, check_text, in_state, tcp_segment, said, step_said};
+ghost use Rattle.byte_queues.specs.ReceiveQueue.{next_of};
 
-use super::{ACK, FIN, PLAIN_SPACE, RST, SECOND, SYN, Tcb};
+use super::{ACK, FIN, RST, SYN, Tcb};
 use crate::kinds::{AckKind, Next, State, Step};
+use crate::limits::{
+    DEFAULT_MSS, FIRST_TIMEOUT, LEAST_MSS, MOST_MSS, MOST_SHIFT, PLAIN_SPACE, TIME_WAIT,
+};
 use byte_queues::RecvQueue;
 use segment_codec::Seg;
 use sq_base::{seq_dist, seq_lt};
@@ -27,15 +32,18 @@ impl Tcb {
     ) -> Result<Next, AllocError>
         requires clock { self.old.clock ≤ now }
         requires time { now ≤ 2 ^ 62 }
-        requires next { next_of self.old.recv < 2 ^ 61 }
-        requires offered { offered self.old < 2 ^ 61 }
+        requires room { HasRoom self.old }
         ensures step { IfOk result (λ next. tcp_segment now iss seg.now text.now self.old ≡ said next self.new) }
         ensures clock { OnOk result (self.new.clock ≡ now) }
         ensures taken { OnOk result (self.new.recv.taken ≤ self.old.recv.taken) }
+        ensures next { OnOk result (next_of self.new.recv ≤ next_of self.old.recv + whole_space) }
         ensures offered { OnOk result (offered self.new ≤ offered self.old) }
     {
         self.clock = now;
-        self.arrive(alloc, iss, seg, text)
+        let next = self.arrive(alloc, iss, seg, text)?;
+        // The fields bound how far the received text stands past what was taken.
+        let _ = &self.recv;
+        Ok(next)
     }
 
     /// The checks, in the block's state.
@@ -96,7 +104,7 @@ impl Tcb {
             }
             Some(shift) => {
                 self.scaled = true;
-                self.snd_shift = shift.min(14);
+                self.snd_shift = shift.min(MOST_SHIFT);
                 self.recv = RecvQueue::make(alloc, self.want);
             }
         }
@@ -105,8 +113,8 @@ impl Tcb {
         self.iss = iss;
         self.una = iss;
         self.mss = send_mss(seg.mss);
-        self.rto = SECOND;
-        self.retransmit_at = Some(self.clock + SECOND);
+        self.rto = FIRST_TIMEOUT;
+        self.retransmit_at = Some(self.clock + FIRST_TIMEOUT);
     }
 
     /// Checks 1 to 5 of a segment in a state other than LISTEN (3.10.7.4). `On` says that text and FIN are to be looked at.
@@ -122,7 +130,7 @@ impl Tcb {
             return Ok(Step::Over);
         }
         if seg.flags & RST != 0 {
-            self.reset(alloc, seg)?;
+            self.check_reset(alloc, seg)?;
             return Ok(Step::Over);
         }
         if seg.flags & SYN != 0 {
@@ -171,14 +179,14 @@ impl Tcb {
         }
         self.send_ack(alloc)?;
         if matches!(self.state, State::TimeWait) && seg.flags & FIN != 0 {
-            self.time_wait_at = Some(self.clock + 240 * SECOND);
+            self.time_wait_at = Some(self.clock + TIME_WAIT);
         }
         Ok(())
     }
 
     /// Second, RST, with the challenge of RFC 5961.
     #[tactic(auto, unfolding(crate::specs::TcpStep::check_reset))]
-    fn reset(&mut self, alloc: Global, seg: &Seg) -> Result<(), AllocError>
+    fn check_reset(&mut self, alloc: Global, seg: &Seg) -> Result<(), AllocError>
         requires open { is_listen self.old.state ≡ false }
         requires rst { has seg.now.flags 4 ≡ true }
         ensures { OnOk result (check_reset seg.now self.old ≡ over self.new) }
@@ -285,7 +293,7 @@ impl Tcb {
         self.send.acked(gone);
         self.una = seg.ack;
         self.acked += u64::from(gone);
-        self.rto = SECOND;
+        self.rto = FIRST_TIMEOUT;
         self.retransmit_at = None;
     }
 
@@ -349,8 +357,8 @@ fn send_mss(mss: Option<u16>) -> u16
     ensures { result ≡ send_mss mss }
 {
     match mss {
-        None => 536,
-        Some(n) => n.max(64).min(1460),
+        None => DEFAULT_MSS,
+        Some(n) => n.max(LEAST_MSS).min(MOST_MSS),
     }
 }
 

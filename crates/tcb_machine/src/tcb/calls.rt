@@ -1,12 +1,12 @@
 //! The calls of programs, and what a service does with the two streams.
 
-ghost use Rattle.std.specs.Prelude.{true, false, ◌≡◌, ℕ, ◌+◌, ◌-◌, ◌*◌, ◌%◌, ◌/◌, ◌^◌, ◌<◌, ◌≤◌, List, [], ◌∷◌, ◌++◌, length, take, drop, min, max, None, Some, IfOk, OnOk, OnErr, slice_get};
-ghost use Rattle.tcb_machine.specs.BlockState.{Block, new_block, to_listen, rcv_nxt, rcv_wnd, snd_nxt, snd_end, unsent, in_flight, has, seg_wnd, sent_window, segment_of, syn_ack_of, rst_of, sends, sends_ack, IsOurs, offered};
-ghost use Rattle.tcb_machine.specs.States.{is_consumed, is_listen};
-ghost use Rattle.byte_queues.specs.ReceiveQueue.{next_of, ready_of, placed, next_bytes, without};
-ghost use Rattle.tcb_machine.specs.CallAnswers.{Called, tcp_call, with_buffer, close_in, wants_fin};
+ghost use Rattle.std.specs.Prelude.{true, false, ◌≡◌, ◌+◌, ◌-◌, ◌<◌, ◌≤◌, ◌++◌, length, take, IfOk, OnOk};
+ghost use Rattle.tcb_machine.specs.BlockState.{offered};
+ghost use Rattle.byte_queues.specs.ReceiveQueue.{next_of, ready_of, next_bytes, without};
+ghost use Rattle.tcb_machine.specs.CallAnswers.{tcp_call, with_buffer, close_in, wants_fin};
 ghost use Rattle.tcb_machine.specs.TcpStep.{said};
 ghost use Rattle.byte_queues.specs.SendQueue.{room_of};
+ghost use Rattle.tcb_machine.specs.Limits.{plain_space, whole_space};
 
 use super::Tcb;
 use crate::kinds::{Answer, Call, Next, State};
@@ -21,6 +21,7 @@ impl Tcb {
         ensures called { IfOk result (λ r. tcp_call call self.old ≡ record { answer = r.0; verdict = said r.1 self.new }) }
         ensures clock { OnOk result (self.new.clock ≡ self.old.clock) }
         ensures taken { OnOk result (self.new.recv.taken ≤ self.old.recv.taken) }
+        ensures next { OnOk result (next_of self.new.recv ≤ next_of self.old.recv) }
         ensures offered { OnOk result (offered self.new ≡ offered self.old) }
     {
         match call {
@@ -49,10 +50,11 @@ impl Tcb {
     /// In LISTEN there is nothing to keep, and the edge may fall.
     #[tactic(auto, unfolding(byte_queues::specs::ReceiveQueue::with_cap, crate::specs::BlockState::offered, byte_queues::specs::ReceiveQueue::next_of))]
     fn set_buffer(&mut self, alloc: Global, n: u32)
-        requires { n ≤ 65535 }
+        requires { n ≤ plain_space }
         ensures set { self.new ≡ with_buffer self.old.state n self.old }
         ensures clock { self.new.clock ≡ self.old.clock }
         ensures taken { self.new.recv.taken ≤ self.old.recv.taken }
+        ensures next { next_of self.new.recv ≤ next_of self.old.recv }
         ensures offered { offered self.new ≡ offered self.old }
     {
         self.want = n;
@@ -69,6 +71,7 @@ impl Tcb {
         ensures closed { close_in self.old.state self.old ≡ record { answer = result.0; verdict = said result.1 self.new } }
         ensures clock { self.new.clock ≡ self.old.clock }
         ensures taken { self.new.recv.taken ≤ self.old.recv.taken }
+        ensures next { next_of self.new.recv ≤ next_of self.old.recv }
         ensures offered { offered self.new ≡ offered self.old }
     {
         match self.state {
@@ -91,7 +94,7 @@ impl Tcb {
     #[tactic(auto, using(crate::proofs::QueueLemmas::next_near))]
     pub fn ready(&self) -> u32
         ensures is { result ≡ ready_of self.now.recv }
-        ensures near { next_of self.now.recv ≤ self.now.recv.taken + 1048576 }
+        ensures near { next_of self.now.recv ≤ self.now.recv.taken + whole_space }
     {
         self.recv.ready()
     }
@@ -111,20 +114,22 @@ impl Tcb {
     }
 
     /// The next `n` received bytes, which leave the block.
-    #[tactic(auto, using(crate::proofs::QueueLemmas::without_below, crate::proofs::QueueLemmas::without_read), unfolding(byte_queues::specs::ReceiveQueue::without))]
+    #[tactic(auto, using(crate::proofs::QueueLemmas::without_below, crate::proofs::QueueLemmas::without_read, crate::proofs::QueueLemmas::next_without), unfolding(byte_queues::specs::ReceiveQueue::without))]
     pub fn take(&mut self, alloc: Global, n: u32) -> Result<Octets, AllocError>
         requires { n ≤ ready_of self.old.recv }
         ensures bytes { IfOk result (λ text. text ≡ next_bytes n self.old.recv) }
         ensures rest { OnOk result (self.new ≡ record self.old { recv = without n self.old.recv }) }
+        ensures next { OnOk result (next_of self.new.recv ≡ next_of self.old.recv) }
     {
         self.recv.take(alloc, n)
     }
 
     /// Throws the next `n` received bytes away.
-    #[tactic(auto, using(crate::proofs::QueueLemmas::without_below, crate::proofs::QueueLemmas::without_read), unfolding(byte_queues::specs::ReceiveQueue::without))]
+    #[tactic(auto, using(crate::proofs::QueueLemmas::without_below, crate::proofs::QueueLemmas::without_read, crate::proofs::QueueLemmas::next_without), unfolding(byte_queues::specs::ReceiveQueue::without))]
     pub fn skip(&mut self, n: u32)
         requires { n ≤ ready_of self.old.recv }
-        ensures { self.new ≡ record self.old { recv = without n self.old.recv } }
+        ensures rest { self.new ≡ record self.old { recv = without n self.old.recv } }
+        ensures next { next_of self.new.recv ≡ next_of self.old.recv }
     {
         self.recv.skip(n);
     }

@@ -1,12 +1,13 @@
 //! What goes out: text, FIN, acknowledgement, and the retransmission deadline (RFC 9293, 3.8.6 and 3.10.2).
 
-ghost use Rattle.std.specs.Prelude.{true, false, ◌≡◌, ℕ, ◌+◌, ◌-◌, ◌*◌, ◌%◌, ◌/◌, ◌^◌, ◌<◌, ◌≤◌, List, [], ◌∷◌, ◌++◌, length, take, drop, min, max, None, Some, IfOk, OnOk, OnErr, slice_get};
-ghost use Rattle.tcb_machine.specs.BlockState.{Block, new_block, to_listen, rcv_nxt, rcv_wnd, snd_nxt, snd_end, unsent, in_flight, has, seg_wnd, sent_window, segment_of, syn_ack_of, rst_of, sends, sends_ack, IsOurs, offered};
-ghost use Rattle.tcb_machine.specs.States.{is_consumed, is_listen};
+ghost use Rattle.std.specs.Prelude.{true, false, ◌≡◌, ◌+◌, ◌-◌, ◌<◌, min, None, Some, OnOk};
+ghost use Rattle.tcb_machine.specs.BlockState.{snd_nxt, unsent, segment_of, offered};
+ghost use Rattle.tcb_machine.specs.States.{is_listen};
 ghost use Rattle.tcb_machine.specs.Output.{output, outputs_text, outputs_fin, outputs_ack, outputs_deadline};
 
-use super::{ACK, PSH, SECOND, Tcb};
+use super::{ACK, PSH, Tcb};
 use crate::kinds::State;
+use crate::limits::FIRST_TIMEOUT;
 use sq_base::seq_dist;
 use std::alloc::{AllocError, Global};
 
@@ -106,8 +107,8 @@ impl Tcb {
         if self.una == self.snd_nxt() && self.unsent() == 0 {
             self.retransmit_at = None;
         } else if self.retransmit_at.is_none() {
-            self.rto = SECOND;
-            self.retransmit_at = Some(self.clock + SECOND);
+            self.rto = FIRST_TIMEOUT;
+            self.retransmit_at = Some(self.clock + FIRST_TIMEOUT);
         }
     }
 }

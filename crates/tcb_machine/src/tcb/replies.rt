@@ -1,12 +1,14 @@
 //! The segments that are sent.
 
-ghost use Rattle.std.specs.Prelude.{true, false, ◌≡◌, ℕ, ◌+◌, ◌-◌, ◌*◌, ◌%◌, ◌/◌, ◌^◌, ◌<◌, ◌≤◌, List, [], ◌∷◌, ◌++◌, length, take, drop, min, max, None, Some, IfOk, OnOk, OnErr, slice_get};
-ghost use Rattle.tcb_machine.specs.BlockState.{Block, new_block, to_listen, rcv_nxt, rcv_wnd, snd_nxt, snd_end, unsent, in_flight, has, seg_wnd, sent_window, segment_of, syn_ack_of, rst_of, sends, sends_ack, IsOurs, offered};
-ghost use Rattle.tcb_machine.specs.States.{is_consumed, is_listen};
-ghost use Rattle.tcb_machine.specs.TcpStep.{over, go, on, listen, opened, sends_syn_ack, send_mss, is_in_window, is_acceptable, check_sequence, check_reset, syn_again, ack_kind, with_window, takes_window, takes_ack, is_fin_acked, in_time_wait, after_ack, acknowledged, check_ack, first_checks, repeated, ahead, takes_fin, takes_text, closes, check_text, tcp_segment, said, step_said};
+ghost use Rattle.std.specs.Prelude.{false, ◌≡◌, ◌+◌, ◌-◌, ◌/◌, ◌<◌, ◌≤◌, [], length, take, min, None, Some, OnOk};
+ghost use Rattle.tcb_machine.specs.BlockState.{rcv_nxt, rcv_wnd, snd_nxt, unsent, in_flight, sent_window, segment_of, syn_ack_of, rst_of, sends, sends_ack, IsOurs};
+ghost use Rattle.tcb_machine.specs.States.{is_listen};
+ghost use Rattle.tcb_machine.specs.TcpStep.{sends_syn_ack};
 ghost use Rattle.tcb_machine.specs.Output.{sends_text};
+ghost use Rattle.tcb_machine.specs.Limits.{most_mss};
 
-use super::{ACK, FIN, PLAIN_SPACE, RST, SYN, Tcb};
+use super::{ACK, FIN, RST, SYN, Tcb};
+use crate::limits::{MOST_MSS, OUR_SHIFT, PLAIN_SPACE};
 use segment_codec::{Reply, Seg};
 use sq_base::Octets;
 use std::alloc::{AllocError, Global};
@@ -19,7 +21,7 @@ impl Tcb {
         ensures { result ≡ sent_window self.now }
     {
         if self.scaled {
-            (self.rcv_wnd() / 32) as u16
+            (self.rcv_wnd() >> OUR_SHIFT) as u16
         } else {
             self.rcv_wnd() as u16
         }
@@ -42,7 +44,7 @@ impl Tcb {
         text: Octets,
     ) -> Result<(), AllocError>
         requires open { is_listen self.old.state ≡ false }
-        requires text { length text ≤ 1460 }
+        requires text { length text ≤ most_mss }
         requires flags { flags < 64 }
         ensures { OnOk result (self.new ≡ sends (segment_of flags seq text self.old) self.old) }
     {
@@ -104,8 +106,8 @@ impl Tcb {
             seq: self.iss,
             ack: self.rcv_nxt(),
             wnd: self.rcv_wnd().min(PLAIN_SPACE) as u16,
-            mss: Some(1460),
-            scale: if self.scaled { Some(5) } else { None },
+            mss: Some(MOST_MSS),
+            scale: if self.scaled { Some(OUR_SHIFT) } else { None },
             text: Octets::wrap(Vec::new(alloc)),
         };
         self.send(reply)
@@ -116,7 +118,7 @@ impl Tcb {
     pub(super) fn send_text(&mut self, alloc: Global, flags: u8, n: u32) -> Result<(), AllocError>
         requires open { is_listen self.old.state ≡ false }
         requires within { n ≤ length (unsent self.old) }
-        requires small { n ≤ 1460 }
+        requires small { n ≤ most_mss }
         requires flags { flags < 64 }
         ensures { OnOk result (self.new ≡ sends_text flags (take n (unsent self.old)) self.old) }
     {

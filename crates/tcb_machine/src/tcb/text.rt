@@ -1,10 +1,10 @@
 //! The last two checks of an arriving segment: text and FIN (RFC 9293, 3.10.7.4, seventh and eighth).
 
-ghost use Rattle.std.specs.Prelude.{true, false, ◌≡◌, ℕ, ◌+◌, ◌-◌, ◌*◌, ◌%◌, ◌/◌, ◌^◌, ◌<◌, ◌≤◌, List, [], ◌∷◌, ◌++◌, length, take, drop, min, max, None, Some, IfOk, OnOk, OnErr, slice_get};
-ghost use Rattle.tcb_machine.specs.BlockState.{Block, new_block, to_listen, rcv_nxt, rcv_wnd, snd_nxt, snd_end, unsent, in_flight, has, seg_wnd, sent_window, segment_of, syn_ack_of, rst_of, sends, sends_ack, IsOurs, offered};
-ghost use Rattle.tcb_machine.specs.States.{is_consumed, is_listen};
-ghost use Rattle.tcb_machine.specs.TcpStep.{over, go, on, listen, opened, sends_syn_ack, send_mss, is_in_window, is_acceptable, check_sequence, check_reset, syn_again, ack_kind, with_window, takes_window, takes_ack, is_fin_acked, in_time_wait, after_ack, acknowledged, check_ack, first_checks, repeated, ahead, takes_fin, takes_text, closes, check_text, tcp_segment, said, step_said};
-ghost use Rattle.byte_queues.specs.ReceiveQueue.{next_of, ready_of, placed, next_bytes, without};
+ghost use Rattle.std.specs.Prelude.{true, false, ◌≡◌, ◌+◌, ◌-◌, ◌^◌, ◌<◌, ◌≤◌, min, None, Some, OnOk};
+ghost use Rattle.tcb_machine.specs.BlockState.{rcv_nxt};
+ghost use Rattle.tcb_machine.specs.States.{is_listen};
+ghost use Rattle.tcb_machine.specs.TcpStep.{go, in_time_wait, repeated, ahead, takes_fin, takes_text, closes, check_text};
+ghost use Rattle.byte_queues.specs.ReceiveQueue.{next_of, placed};
 ghost use Rattle.tcb_machine.specs.TcpStep.{is_end_kept};
 
 use super::{FIN, Tcb};

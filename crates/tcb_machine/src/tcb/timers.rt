@@ -1,28 +1,42 @@
 //! The deadlines (RFC 9293, 3.8.1 and 3.10.8; RFC 6298).
 
-ghost use Rattle.std.specs.Prelude.{true, false, ◌≡◌, ℕ, ◌+◌, ◌-◌, ◌*◌, ◌%◌, ◌/◌, ◌^◌, ◌<◌, ◌≤◌, List, [], ◌∷◌, ◌++◌, length, take, drop, min, max, None, Some, IfOk, OnOk, IfSome, IfNone, IsSome};
+ghost use Rattle.std.specs.Prelude.{false, ◌≡◌, ◌+◌, ◌-◌, ◌*◌, ◌^◌, ◌<◌, ◌≤◌, min, max, None, Some, OnOk, IfSome, IfNone, IsSome};
 ghost use Rattle.std.specs.Option.{ForSome};
-ghost use Rattle.tcb_machine.specs.BlockState.{Block, new_block, to_listen, rcv_nxt, rcv_wnd, snd_nxt, snd_end, unsent, in_flight, has, seg_wnd, sent_window, segment_of, syn_ack_of, rst_of, sends, sends_ack, IsOurs, offered};
-ghost use Rattle.tcb_machine.specs.States.{is_consumed, is_listen};
-ghost use Rattle.tcb_machine.specs.Timers.{tcp_time, fired, fires, retransmission, sends_again, retransmits};
+ghost use Rattle.tcb_machine.specs.BlockState.{snd_nxt, snd_end, unsent, in_flight};
+ghost use Rattle.tcb_machine.specs.States.{is_listen};
+ghost use Rattle.tcb_machine.specs.Timers.{next_deadline, tcp_time, fired, fires, retransmission, sends_again, retransmits};
+ghost use Rattle.byte_queues.specs.ReceiveQueue.{next_of};
+ghost use Rattle.tcb_machine.specs.BlockState.{offered};
+ghost use Rattle.tcb_machine.specs.Limits.{most_retransmissions};
 
-use super::{ACK, PSH, SECOND, Tcb};
+use super::{ACK, PSH, Tcb};
 use crate::kinds::State;
+use crate::limits::{LONGEST_TIMEOUT, MOST_RETRANSMISSIONS};
 use std::alloc::{AllocError, Global};
 
-/// How many retransmissions and probes a block makes in its life.
-const MOST_RETRANSMISSIONS: u32 = 64;
-
-/// The longest retransmission timeout.
-const LONGEST_RTO: u64 = 60 * SECOND;
-
 impl Tcb {
+    /// When the next deadline fires, in microseconds and not before the block's clock, or `None` where none is set. Until then
+    /// `time` sets the clock and does nothing else.
+    #[tactic(auto, using(crate::proofs::TimeLemmas::first_retransmission), unfolding(crate::specs::Timers::next_deadline))]
+    pub fn next_deadline(&self) -> Option<u64>
+        ensures { result ≡ next_deadline self.now }
+    {
+        match (self.time_wait_at, self.retransmit_at) {
+            (Some(at), _) => Some(self.clock.max(at)),
+            (None, Some(at)) => Some(self.clock.max(at)),
+            (None, None) => None,
+        }
+    }
+
     /// Runs the timers up to a time, in microseconds. After NoMemory nothing more is promised.
     pub fn time(&mut self, alloc: Global, to: u64) -> Result<(), AllocError>
         requires clock { self.old.clock ≤ to }
         requires time { to ≤ 2 ^ 62 }
         ensures time { OnOk result (self.new ≡ tcp_time to self.old) }
         ensures clock { OnOk result (self.new.clock ≡ to) }
+        ensures taken { OnOk result (self.new.recv.taken ≤ self.old.recv.taken) }
+        ensures next { OnOk result (next_of self.new.recv ≤ next_of self.old.recv) }
+        ensures offered { OnOk result (offered self.new ≤ offered self.old) }
     {
         self.run_timers(alloc, to)?;
         self.clock = to;
@@ -80,7 +94,7 @@ impl Tcb {
         ensures due { IfSome result (λ at. (self.now.retransmit_at ≡ Some at) × (at ≤ to)) }
         ensures idle { IfNone result (ForSome self.now.retransmit_at (λ at. to < at)) }
         ensures open { IsSome self.now.retransmit_at → is_listen self.now.state ≡ false }
-        ensures tries { self.now.retransmissions ≤ 64 }
+        ensures tries { self.now.retransmissions ≤ most_retransmissions }
     {
         match self.retransmit_at {
             Some(at) if at <= to => Some(at),
@@ -92,12 +106,12 @@ impl Tcb {
     #[tactic(auto, unfolding(crate::specs::Timers::fires))]
     fn retransmit(&mut self, alloc: Global) -> Result<(), AllocError>
         requires open { is_listen self.old.state ≡ false }
-        requires few { self.old.retransmissions < 64 }
+        requires few { self.old.retransmissions < most_retransmissions }
         ensures { OnOk result (self.new ≡ fires (retransmission self.old.clock) self.old) }
     {
         self.resend(alloc)?;
         self.retransmissions += 1;
-        self.rto = (2 * self.rto).min(LONGEST_RTO);
+        self.rto = (2 * self.rto).min(LONGEST_TIMEOUT);
         self.retransmit_at = Some(self.clock + self.rto);
         Ok(())
     }

@@ -8,6 +8,8 @@ use Rattle.squeue_state.specs.Words.{ask_quotas}
 use Rattle.key_counters.specs.declared.counters.Counters.{Counters}
 use Rattle.key_counters.specs.Counting.{CountersStand, limits_of, rows_of, row_of, total_of}
 use Rattle.key_counters.specs.Lists.{AreLists, no_asks}
+use Rattle.squeue_serve.specs.Lending.{tasks_in}
+use Rattle.key_counters.specs.Serving.{AreTasks}
 use Rattle.key_counters.proofs.CounterSteps.{limit_is}
 use Rattle.key_counters.proofs.RingLists.{quotas_within}
 use Rattle.key_counters.proofs.Totals.{all_short, lists_short, no_asks_asked, new_empty, serves, totals_are, sums_of, lengths_of, if_ok}
@@ -24,19 +26,19 @@ ring_quotas-requires g c =
 pub make-requires-clause-short : goal.make-requires-clause-short
 make-requires-clause-short g c = all_short (λ row. length row.items) c.args.amounts.now c.requires.items
 
-pub make-requires-2-clause-feeds : goal.make-requires-2-clause-feeds
-make-requires-2-clause-feeds g c =
+pub make-requires-in-Ok-clause-feeds : goal.make-requires-in-Ok-clause-feeds
+make-requires-in-Ok-clause-feeds g c =
     let counts = map (λ row. length row.items) c.args.amounts.now in
-    let are = ap pairs c.deref-2.ensures.value ∙ (c.in_ok-quotas.ensures ∙ ap no_asks c.deref.ensures.value) in
+    let are = ap pairs c.deref-in-Ok.ensures.value ∙ (c.in_ok-quotas.ensures ∙ ap no_asks c.deref.ensures.value) in
     omega (arith, ap feed_quotas are, quotas_within c.args.rings counts c.in_ok-lists.lists.items c.in_ok-lists.ensures.lists, c.requires.items)
 
-pub make-requires-2-clause-asks : goal.make-requires-2-clause-asks
-make-requires-2-clause-asks g c =
-    let are = ap pairs c.deref-2.ensures.value ∙ (c.in_ok-quotas.ensures ∙ ap no_asks c.deref.ensures.value) in
+pub make-requires-in-Ok-clause-asks : goal.make-requires-in-Ok-clause-asks
+make-requires-in-Ok-clause-asks g c =
+    let are = ap pairs c.deref-in-Ok.ensures.value ∙ (c.in_ok-quotas.ensures ∙ ap no_asks c.deref.ensures.value) in
     omega (arith, ap ask_quotas are, no_asks_asked c.in_ok-lists.lists.items)
 
-pub make-requires-2-clause-fresh : goal.make-requires-2-clause-fresh
-make-requires-2-clause-fresh g c = new_empty c.in_ok-counters.counters (length c.args.amounts.now) c.in_ok-counters.ensures.stands
+pub make-requires-in-Ok-clause-fresh : goal.make-requires-in-Ok-clause-fresh
+make-requires-in-Ok-clause-fresh g c = new_empty c.in_ok-counters.counters (length c.args.amounts.now) c.in_ok-counters.ensures.stands
 
 pub serve-counters-requires-clause-squeue : goal.serve-counters-requires-clause-squeue
 serve-counters-requires-clause-squeue g c κs within =
@@ -44,31 +46,30 @@ serve-counters-requires-clause-squeue g c κs within =
     let rows = c.args.amounts.now in
     let lists = c.in_ok-lists.lists.items in
     let counters = c.in_ok-counters.counters in
-    let are = ap pairs c.deref-2.ensures.value ∙ (c.in_ok-quotas.ensures ∙ ap no_asks c.deref.ensures.value) in
+    let are = ap pairs c.deref-in-Ok.ensures.value ∙ (c.in_ok-quotas.ensures ∙ ap no_asks c.deref.ensures.value) in
     let counts : (limits_of counters).feeds ≡ map (λ row. length row.items) rows = ap (map length) c.in_ok-counters.ensures.amounts ∙ lengths_of (λ row. row.items) rows in
-    serves 0 rings (length rows) (pairs c.deref-2.result.now) _ counters c.in-Ok.squeue.given lists c.in-Ok.ensures.given c.requires.rings.0 are c.in_ok-lists.ensures.count
+    serves 0 rings (length rows) (pairs c.deref-in-Ok.result.now) _ counters c.in-Ok-make.squeue.given lists c.in-Ok-make.ensures.given c.requires.rings.0 are c.in_ok-lists.ensures.count
     (subst (λ (ns : List ℕ). AreLists rings ns 0 lists) (sym counts) c.in_ok-lists.ensures.lists) c.in_ok-counters.ensures.stands c.in_ok-counters.ensures.count (ap length counts ∙ length-map rows (λ row. length row.items))
 
-pub serve-counters-requires-clause-lists : goal.serve-counters-requires-clause-lists
-serve-counters-requires-clause-lists g c κs within =
+pub serve-counters-requires-clause-tasks : goal.serve-counters-requires-clause-tasks
+serve-counters-requires-clause-tasks g c κs within =
     let rows = c.args.amounts.now in
-    let lists = c.in_ok-lists.lists.items in
     let counters = c.in_ok-counters.counters in
-    let m = c.in-Ok.ensures.given in
-    let counts : (limits_of counters).feeds ≡ map (λ row. length row.items) rows = ap (map length) c.in_ok-counters.ensures.amounts ∙ lengths_of (λ row. row.items) rows in (
-      c.in_ok-lists.ensures.count ∙ sym m.its_rings,
-      subst (λ (n : ℕ). AreLists n (limits_of c.in-Ok.squeue.given.first).feeds 0 lists) (sym m.its_rings)
-          (subst (λ (ns : List ℕ). AreLists c.args.rings ns 0 lists) (sym (ap (λ (x : Counters). (limits_of x).feeds) m.its_first ∙ counts)) c.in_ok-lists.ensures.lists),
-    )
+    let m = c.in-Ok-make.ensures.given in
+    let counts : (limits_of counters).feeds ≡ map (λ row. length row.items) rows = ap (map length) c.in_ok-counters.ensures.amounts ∙ lengths_of (λ row. row.items) rows in
+    let are = c.in_ok-tasks_of.ensures c.args.rings (map (λ row. length row.items) rows) c.in_ok-lists.ensures.count c.in_ok-lists.ensures.lists in
+    subst (λ (n : ℕ). AreTasks n (limits_of c.in-Ok-make.squeue.given.first).feeds (tasks_in c.in_ok-jobs.jobs.items)) (sym m.its_rings)
+    (subst (λ (ns : List ℕ). AreTasks c.args.rings ns (tasks_in c.in_ok-jobs.jobs.items)) (sym (ap (λ (x : Counters). (limits_of x).feeds) m.its_first ∙ counts))
+    (subst (AreTasks c.args.rings (map (λ row. length row.items) rows)) (sym c.in_ok-jobs.ensures.tasks) are))
 
-pub returns-in-Ok : goal.returns-in-Ok
-returns-in-Ok g c =
+pub returns-in-Ok-make : goal.returns-in-Ok-make
+returns-in-Ok-make g c =
     let amounts = c.args.amounts.now in
     let r = c.serve-counters.result in
-    let first = c.in-Ok.squeue.given.first in
+    let first = c.in-Ok-make.squeue.given.first in
     let end = c.serve-counters.ensures in
     let same : rows_of r ≡ rows_of first = end.origin in
-    let rows : rows_of r ≡ map (λ row. row.items) amounts = same ∙ (ap rows_of c.in-Ok.ensures.given.its_first ∙ c.in_ok-counters.ensures.amounts) in
+    let rows : rows_of r ≡ map (λ row. row.items) amounts = same ∙ (ap rows_of c.in-Ok-make.ensures.given.its_first ∙ c.in_ok-counters.ensures.amounts) in
     let long : length r.counters.items ≡ length (rows_of r) = r.places ∙ sym (length-map r.amounts.now (λ row. row.items)) in
     let had : (i : ℕ) → i < length (rows_of r) → HadFeeds (CountersStand (rows_of r) r.counters.items) i (length (row_of (rows_of r) i)) =
     λ i lt. subst (HadFeeds (CountersStand (rows_of r) r.counters.items) i) (limit_is (rows_of first) i ∙ ap (λ (xs : List (List ℕ)). length (row_of xs i)) (sym same)) (end.fed i (omega (arith, lt, long, end.size))) in

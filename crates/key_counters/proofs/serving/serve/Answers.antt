@@ -1,56 +1,98 @@
-use Rattle.std.proofs.Common.{◌≡◌, length, sym, ap, subst, arith}
-use Rattle.turn_gate.specs.History.{Each, Has}
-use Rattle.perimeter_core.specs.History.{Setting, run}
-use Rattle.perimeter_core.specs.Legal.{Legal}
-use Rattle.perimeter_core.specs.Ending.{IsOver}
-use Rattle.key_counters.specs.declared.job.Job.{Job}
+use Rattle.std.proofs.Common.{◌≡◌, ◌+◌, ◌-◌, ◌≤◌, ◌<◌, ℕ, Some, Option, List, [], ◌∷◌, ◌++◌, length, take, drop, slice_get, slice_index_or, refl, sym, ap, ◌∙◌, subst, arith}
+use Rattle.squeue_state.specs.Naming.{Named}
+use Rattle.squeue_serve.specs.declared.jobs.Job.{Job}
+use Rattle.squeue_serve.specs.Lending.{AreHanded, AreLent, holder, lent_to, tasks_in}
+use Rattle.squeue_serve.specs.Places.{MayEnd}
+use Rattle.squeue_serve.proofs.Lent.{lent_none, none_lent_to}
+use Rattle.key_counters.specs.declared.job.Task.{Task}
 use Rattle.key_counters.specs.Running.{IsReady}
-use Rattle.key_counters.specs.Serving.{IsNew, IsDone, HasNumber}
-use Rattle.key_counters.proofs.Passing.{each_get, whole_back}
-use Rattle.key_counters.proofs.FreshRings.{all_ready}
-use Rattle.key_counters.proofs.Ending.{all_done, end_seen, fed_all}
+use Rattle.key_counters.specs.Serving.{HasDoneAs}
+use Rattle.key_counters.proofs.Passing.{whole_back}
+use Rattle.key_counters.proofs.Ending.{all_ready}
+use Rattle.key_counters.proofs.OneSqueue.{is_single, is_it, count_is, news, done, all_may_end, nothing_left, is_fed}
 use Rattle.key_counters.proofs.serving.serve.Goals as goal
 
+pub lend-requires-clause-fit : goal.lend-requires-clause-fit
+lend-requires-clause-fit g c p le =
+    let e = ap length (lent_none c.args.jobs.items c.requires.jobs.0 (holder 0 (c.len-count.result - 1) (length c.args.squeues.all.items) p)) in
+    omega (arith, e)
+
 pub run-requires-after_bounds : goal.run-requires-after_bounds
-run-requires-after_bounds g c κs within =
+run-requires-after_bounds g c κs within k d lt =
     let limits = g.R.Resident.limits in
     let s = c.args.squeue in
     let jobs = c.deref_mut.result.now in
-    λ k d lt. each_get (IsReady limits s) jobs k d lt (all_ready limits s c.requires.squeue jobs (subst (Each (IsNew limits s)) (sym c.deref_mut.ensures.value) c.lend.ensures.jobs))
+    let n = c.len-count.result in
+    let counted : n ≡ length c.args.jobs.items = omega (arith, c.len-count.ensures, c.args.jobs.ok) in
+    let kept : tasks_in jobs ≡ tasks_in c.args.jobs.items = ap tasks_in c.deref_mut.ensures.value ∙ c.lend.ensures.tasks in
+    let handed = subst (λ (l : List (Job Task)). AreHanded 0 (n - 1) (length c.args.squeues.all.items) c.args.passes.items (lent_to c.args.jobs.items) (lent_to l)) (sym c.deref_mut.ensures.value) c.lend.ensures.handed in
+    let are = news limits s c.requires.squeue c.args.jobs.items jobs n counted c.requires.tasks kept c.args.squeues.all.items c.args.passes.items c.requires.jobs.0 c.requires.squeues.0 handed c.requires.passes.1 in
+    let it = is_it limits s c.requires.squeue c.lend.new.squeues.all.items c.index.result.now (is_single limits s c.requires.squeue c.args.squeues.all.items c.lend.new.squeues.all.items c.requires.squeues.0 c.lend.ensures.squeues) c.index.ensures in
+    subst (λ (t : Named g.row.R.Denot). IsReady limits t (slice_index_or jobs k d)) (sym it) (all_ready limits s c.requires.squeue jobs are k d lt)
 
-pub take_back-requires-clause-jobs : goal.take_back-requires-clause-jobs
-take_back-requires-clause-jobs g c =
+pub end_last-ended-requires-clause-lent : goal.end_last-ended-requires-clause-lent
+end_last-ended-requires-clause-lent g c =
     let limits = g.R.Resident.limits in
     let s = c.args.squeue in
     let jobs = c.deref_mut.result.now in
+    let n = c.len-count.result in
     let lent = c.lend.new.jobs in
+    let counted : n ≡ length c.args.jobs.items = omega (arith, c.len-count.ensures, c.args.jobs.ok) in
+    let kept : tasks_in jobs ≡ tasks_in c.args.jobs.items = ap tasks_in c.deref_mut.ensures.value ∙ c.lend.ensures.tasks in
+    let handed = subst (λ (l : List (Job Task)). AreHanded 0 (n - 1) (length c.args.squeues.all.items) c.args.passes.items (lent_to c.args.jobs.items) (lent_to l)) (sym c.deref_mut.ensures.value) c.lend.ensures.handed in
+    let are = news limits s c.requires.squeue c.args.jobs.items jobs n counted c.requires.tasks kept c.args.squeues.all.items c.args.passes.items c.requires.jobs.0 c.requires.squeues.0 handed c.requires.passes.1 in
+    let single = is_single limits s c.requires.squeue c.args.squeues.all.items c.lend.new.squeues.all.items c.requires.squeues.0 c.lend.ensures.squeues in
+    let it = is_it limits s c.requires.squeue c.lend.new.squeues.all.items c.index.result.now single c.index.ensures in
     let same : length jobs ≡ length c.run.new.jobs = omega (arith, c.run.auto.jobs) in
     let long : length lent.items ≡ lent.len = sym lent.ok.0 in
     let count : length c.run.new.jobs ≡ lent.len = omega (arith, same, long, ap length c.deref_mut.ensures.value) in
-    let done = all_done limits s c.requires.squeue jobs c.run.new.jobs same c.run.ensures (subst (Each (IsNew limits s)) (sym c.deref_mut.ensures.value) c.lend.ensures.jobs) in
-    subst (Each (IsDone limits s)) (sym (whole_back lent.len lent.items c.run.new.jobs count long)) done.0
+    let d = done limits s c.requires.squeue c.args.jobs.items jobs n counted c.requires.tasks kept c.run.new.jobs c.index.result.now it same c.run.ensures are in
+    subst (λ (l : List (Job Task)). AreLent (MayEnd limits) 0 (n - 1) c.lend.new.squeues.all.items (lent_to l)) (sym (whole_back lent.len lent.items c.run.new.jobs count long))
+    (all_may_end limits s c.requires.squeue (n - 1) c.lend.new.squeues.all.items (lent_to c.run.new.jobs) single d)
 
-pub take_back-requires-clause-numbers : goal.take_back-requires-clause-numbers
-take_back-requires-clause-numbers g c =
+pub discard-requires : goal.discard-requires
+discard-requires g c =
     let limits = g.R.Resident.limits in
     let s = c.args.squeue in
     let jobs = c.deref_mut.result.now in
+    let n = c.len-count.result in
     let lent = c.lend.new.jobs in
+    let counted : n ≡ length c.args.jobs.items = omega (arith, c.len-count.ensures, c.args.jobs.ok) in
+    let kept : tasks_in jobs ≡ tasks_in c.args.jobs.items = ap tasks_in c.deref_mut.ensures.value ∙ c.lend.ensures.tasks in
+    let handed = subst (λ (l : List (Job Task)). AreHanded 0 (n - 1) (length c.args.squeues.all.items) c.args.passes.items (lent_to c.args.jobs.items) (lent_to l)) (sym c.deref_mut.ensures.value) c.lend.ensures.handed in
+    let are = news limits s c.requires.squeue c.args.jobs.items jobs n counted c.requires.tasks kept c.args.squeues.all.items c.args.passes.items c.requires.jobs.0 c.requires.squeues.0 handed c.requires.passes.1 in
+    let single = is_single limits s c.requires.squeue c.args.squeues.all.items c.lend.new.squeues.all.items c.requires.squeues.0 c.lend.ensures.squeues in
+    let it = is_it limits s c.requires.squeue c.lend.new.squeues.all.items c.index.result.now single c.index.ensures in
     let same : length jobs ≡ length c.run.new.jobs = omega (arith, c.run.auto.jobs) in
     let long : length lent.items ≡ lent.len = sym lent.ok.0 in
     let count : length c.run.new.jobs ≡ lent.len = omega (arith, same, long, ap length c.deref_mut.ensures.value) in
-    let done = all_done limits s c.requires.squeue jobs c.run.new.jobs same c.run.ensures (subst (Each (IsNew limits s)) (sym c.deref_mut.ensures.value) c.lend.ensures.jobs) in
-    λ q b. subst (Has (λ (j : Job). HasNumber q j.pass)) (sym (whole_back lent.len lent.items c.run.new.jobs count long))
-    (done.1 q (subst (Has (λ (j : Job). HasNumber q j.pass)) (sym c.deref_mut.ensures.value) (c.lend.ensures.numbers q b)))
-
-pub finish-resident-requires-clause-over : goal.finish-resident-requires-clause-over
-finish-resident-requires-clause-over g c = end_seen g.R.Resident.limits c.args.squeue c.requires.squeue c.take_back.new.passes.items c.take_back.ensures.passes
+    let d = done limits s c.requires.squeue c.args.jobs.items jobs n counted c.requires.tasks kept c.run.new.jobs c.index.result.now it same c.run.ensures are in
+    let back : take lent.len (c.run.new.jobs ++ drop (length c.run.new.jobs) lent.items) ≡ c.run.new.jobs = whole_back lent.len lent.items c.run.new.jobs count long in
+    let h = subst (λ (l : List (Job Task)). AreLent (λ p t x. HasDoneAs limits t p x) 0 (n - 1) (s ∷ []) (lent_to l)) (sym back) d in
+    let some = c.in-Some.ensures.some in
+    none_lent_to c.end_last-ended.new.jobs.items
+    (nothing_left limits s c.requires.squeue g.R.Resident.stands g.R.Resident.size g.R.Resident.origin (n - 1) c.lend.new.squeues.all.items c.end_last-ended.new.squeues.all.items some.0 (lent_to (take lent.len (c.run.new.jobs ++ drop (length c.run.new.jobs) lent.items))) (lent_to c.end_last-ended.new.jobs.items) _ _ _ single some.1
+    (count_is limits s c.requires.squeue c.args.jobs.items jobs n counted c.requires.tasks kept) h some.2)
 
 pub returns-clause-fed : goal.returns-clause-fed
-returns-clause-fed g c i lt =
-    let ended = c.finish-resident.ensures in
-    let history = c.finish-resident.result.1.history in
-    fed_all g.R.Resident.limits c.args.squeue c.requires.squeue (g.R.Resident.stands c.finish-resident.result.0) history c.take_back.new.passes.items i lt
-    (subst (λ (S : Setting). Legal S history) ended.setting.1 ended.ended.legal)
-    (subst (λ (S : Setting). IsOver S (run S history)) ended.setting.1 ended.ended.over)
-    c.take_back.ensures.passes ended.passes c.take_back.ensures.all.1 ended.resident.stands_for
+returns-clause-fed g c =
+    let limits = g.R.Resident.limits in
+    let s = c.args.squeue in
+    let jobs = c.deref_mut.result.now in
+    let n = c.len-count.result in
+    let lent = c.lend.new.jobs in
+    let counted : n ≡ length c.args.jobs.items = omega (arith, c.len-count.ensures, c.args.jobs.ok) in
+    let kept : tasks_in jobs ≡ tasks_in c.args.jobs.items = ap tasks_in c.deref_mut.ensures.value ∙ c.lend.ensures.tasks in
+    let handed = subst (λ (l : List (Job Task)). AreHanded 0 (n - 1) (length c.args.squeues.all.items) c.args.passes.items (lent_to c.args.jobs.items) (lent_to l)) (sym c.deref_mut.ensures.value) c.lend.ensures.handed in
+    let are = news limits s c.requires.squeue c.args.jobs.items jobs n counted c.requires.tasks kept c.args.squeues.all.items c.args.passes.items c.requires.jobs.0 c.requires.squeues.0 handed c.requires.passes.1 in
+    let single = is_single limits s c.requires.squeue c.args.squeues.all.items c.lend.new.squeues.all.items c.requires.squeues.0 c.lend.ensures.squeues in
+    let it = is_it limits s c.requires.squeue c.lend.new.squeues.all.items c.index.result.now single c.index.ensures in
+    let same : length jobs ≡ length c.run.new.jobs = omega (arith, c.run.auto.jobs) in
+    let long : length lent.items ≡ lent.len = sym lent.ok.0 in
+    let count : length c.run.new.jobs ≡ lent.len = omega (arith, same, long, ap length c.deref_mut.ensures.value) in
+    let d = done limits s c.requires.squeue c.args.jobs.items jobs n counted c.requires.tasks kept c.run.new.jobs c.index.result.now it same c.run.ensures are in
+    let back : take lent.len (c.run.new.jobs ++ drop (length c.run.new.jobs) lent.items) ≡ c.run.new.jobs = whole_back lent.len lent.items c.run.new.jobs count long in
+    let h = subst (λ (l : List (Job Task)). AreLent (λ p t x. HasDoneAs limits t p x) 0 (n - 1) (s ∷ []) (lent_to l)) (sym back) d in
+    let some = c.in-Some.ensures.some in
+    is_fed limits s c.requires.squeue g.R.Resident.stands g.R.Resident.size g.R.Resident.origin (n - 1) c.lend.new.squeues.all.items c.end_last-ended.new.squeues.all.items some.0 (lent_to (take lent.len (c.run.new.jobs ++ drop (length c.run.new.jobs) lent.items))) (lent_to c.end_last-ended.new.jobs.items) _ _ _ single some.1
+    (count_is limits s c.requires.squeue c.args.jobs.items jobs n counted c.requires.tasks kept) h some.2

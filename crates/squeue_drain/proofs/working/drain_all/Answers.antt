@@ -11,7 +11,7 @@ loop-init g c =
     record {
       feeds = c.requires.feeds;
       has = c.requires.has;
-      worked = worked_none g.R.Resident.limits c.args.sq.now c.args.owner.pass c.args.owner.pass (on_start g.R.Resident.stands g.R.Resident.limits g.R.Resident.size g.R.Resident.origin c.args.sq.now c.args.owner c.requires.feeds) refl;
+      worked = worked_none g.R.Resident.limits c.args.sq.now c.args.owner.pass c.args.owner.pass (on_start g.R.Resident.stands g.R.Resident.limits g.R.Resident.size g.R.Resident.origin c.args.sq.now c.args.owner c.requires.feeds) c.requires.feeds.owns.own refl;
     }
 
 pub decide-requires-clause-front : goal.decide-requires-clause-front

@@ -5,13 +5,13 @@ use Rattle.squeue_enter.proofs.Bringing.{brought_filled, goes_on_filled}
 use Rattle.squeue_enter.proofs.entering.try_fill.Goals as goal
 
 pub fill-requires-clause-may : goal.fill-requires-clause-may
-fill-requires-clause-may g c = may_fill g.R.Resident.limits c.args.sq.now c.args.pass (c.args.feed ∷ []) c.in-Ok.turn c.requires c.in-Ok.ensures (omega arith)
+fill-requires-clause-may g c = may_fill g.R.Resident.limits c.args.sq.now c.args.pass (c.args.feed ∷ []) c.in-Ok.turn c.requires c.in-Ok.ensures.0 (omega arith)
 
 pub returns-in-Ok-clause-filled : goal.returns-in-Ok-clause-filled
-returns-in-Ok-clause-filled g c = has_filled g.R.Resident.limits c.args.sq.now c.args.pass (c.args.feed ∷ []) c.in-Ok.turn c.requires c.in-Ok.ensures (omega arith) c.fill.result c.fill.ensures
+returns-in-Ok-clause-filled g c = (has_filled g.R.Resident.limits c.args.sq.now c.args.pass (c.args.feed ∷ []) c.in-Ok.turn c.requires c.in-Ok.ensures.0 (omega arith) c.fill.result c.fill.ensures, (c.in-Ok.turn.made, c.in-Ok.ensures.1, c.fill.ensures.one_step))
 
 pub returns-in-Ok-clause-brought : goal.returns-in-Ok-clause-brought
-returns-in-Ok-clause-brought g c = brought_filled c.requires.pass (returns-in-Ok-clause-filled g c)
+returns-in-Ok-clause-brought g c = brought_filled c.requires.pass (returns-in-Ok-clause-filled g c).0
 
 pub returns-in-Ok-clause-more : goal.returns-in-Ok-clause-more
-returns-in-Ok-clause-more g c = goes_on_filled c.requires.pass (returns-in-Ok-clause-filled g c)
+returns-in-Ok-clause-more g c = goes_on_filled c.requires.pass (returns-in-Ok-clause-filled g c).0

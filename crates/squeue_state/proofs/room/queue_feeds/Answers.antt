@@ -13,10 +13,10 @@ loop-f-preserved c =
     let d : Feed = record { c = 0; n = 0 } in
     let now = get_or fs i d in
     let more : entries (take (i + 1) fs) ≡ entries (take i fs) ++ Entry'.Feed now.c now.n ∷ [] = ap entries (take_more fs i d c.loop-f-test.true) ∙ entries_push (take i fs) now in
-    let pushed : c.push.new.self.items ≡ c.loop-f.chain.items ++ Entry'.Feed now.c now.n ∷ [] = search rules in
+    let pushed : c.push_reserved.new.self.items ≡ c.loop-f.chain.items ++ Entry'.Feed now.c now.n ∷ [] = search rules in
     record {
       room = search rules;
-      grown = search rules;
+      same = search rules;
       chain = pushed ∙ (ap (λ xs. xs ++ Entry'.Feed now.c now.n ∷ []) c.loop-f.invariant.chain ∙ (append_assoc c.args.chain.now.items (entries (take i fs)) (Entry'.Feed now.c now.n ∷ []) ∙ ap (λ xs. c.args.chain.now.items ++ xs) (sym more)));
     }
 
@@ -24,5 +24,5 @@ pub returns : goal.returns
 returns c =
     record {
       items = c.loop-f.invariant.chain ∙ ap (λ xs. c.args.chain.now.items ++ entries xs) (take_all c.loop-f.f-index c.args.es.now c.loop-f-test.false);
-      room = c.loop-f.invariant.grown;
+      room = c.loop-f.invariant.same;
     }

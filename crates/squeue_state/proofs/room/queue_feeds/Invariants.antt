@@ -6,6 +6,6 @@ abbrev pub invariant-loop-f : goal.invariant-loop-f
 invariant-loop-f l =
     record {
       room : vec_len l.chain + (length l.es - l.f-index) ≤ vec_capacity l.chain;
-      grown : vec_capacity l.initial.chain ≤ vec_capacity l.chain;
+      same : vec_capacity l.chain ≡ vec_capacity l.initial.chain;
       chain : l.chain.items ≡ l.initial.chain.items ++ entries (take l.f-index l.es);
     }

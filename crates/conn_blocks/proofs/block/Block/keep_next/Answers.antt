@@ -1,6 +1,6 @@
 use Rattle.std.proofs.Common.{◌+◌, ◌*◌, ◌<◌, length, sym, subst}
 use Rattle.conn_blocks.proofs.Counting.{has_room}
-use Rattle.conn_blocks.proofs.Settled.{act_is_timely, taken_few, offered_few, settled_more}
+use Rattle.conn_blocks.proofs.Settled.{act_is_timely, received_few, offered_few, settled_more}
 use Rattle.conn_blocks.proofs.block.Block.keep_next.Goals as goal
 
 pub keep-requires-clause-room : goal.keep-requires-clause-room
@@ -9,8 +9,8 @@ keep-requires-clause-room c = has_room c.args.plan.now c.args.calls.now c.args.c
 pub keep-requires-clause-clock : goal.keep-requires-clause-clock
 keep-requires-clause-clock c = act_is_timely c.args.plan.now c.args.calls.now c.args.c c.args.self.now c.requires.settled c.args.act c.requires.next
 
-pub keep-requires-clause-taken : goal.keep-requires-clause-taken
-keep-requires-clause-taken c = taken_few c.args.plan.now c.args.calls.now c.args.c c.args.self.now c.requires.settled
+pub keep-requires-clause-received : goal.keep-requires-clause-received
+keep-requires-clause-received c = received_few c.args.plan.now c.args.calls.now c.args.c c.args.self.now c.requires.settled
 
 pub keep-requires-clause-offered : goal.keep-requires-clause-offered
 keep-requires-clause-offered c = offered_few c.args.plan.now c.args.calls.now c.args.c c.args.self.now c.requires.settled

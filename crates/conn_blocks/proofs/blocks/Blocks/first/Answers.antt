@@ -1,5 +1,7 @@
 use Rattle.std.proofs.Common.{◌≡◌, ◌+◌, ◌∷◌, [], length, length-append, ap, sym, subst, arith}
-use Rattle.conn_blocks.specs.Places.{PlacesStand, first_here}
+use Rattle.std.specs.List.{AllByRecursion}
+use Rattle.conn_blocks.proofs.FeedsInOrder.{all_snoc}
+use Rattle.conn_blocks.specs.Places.{NotShort, PlacesStand, first_here}
 use Rattle.conn_blocks.proofs.PlaceSteps.{none_stand, push_stands}
 use Rattle.conn_blocks.proofs.blocks.Blocks.first.Goals as goal
 
@@ -10,6 +12,7 @@ loop-c-init c =
     let none = c.new-places.ensures.items in
     record {
       each = ap length none;
+      whole = subst (AllByRecursion NotShort) (sym none) tt;
       stand = subst (λ l. PlacesStand p calls l (first_here 0 c.args.squeue c.args.squeues)) (sym none) (none_stand p calls c.args.squeue c.args.squeues);
     }
 
@@ -24,8 +27,9 @@ loop-c-preserved c =
     let longer = c.in_ok-push.ensures.items in
     record {
       each = omega (arith, ap length longer, length-append places (place ∷ []), so_far.each);
+      whole = subst (AllByRecursion NotShort) (sym longer) (all_snoc NotShort places place so_far.whole c.in_ok-place.ensures.whole);
       stand = subst (λ l. PlacesStand p calls l (first_here (n + 1) c.args.squeue c.args.squeues)) (sym longer)
-          (push_stands p calls places place n c.args.squeue c.args.squeues so_far.each so_far.stand c.in_ok-place.ensures);
+          (push_stands p calls places place n c.args.squeue c.args.squeues so_far.each so_far.stand c.in_ok-place.ensures.fits);
     }
 
 pub returns-clause-stand : goal.returns-clause-stand

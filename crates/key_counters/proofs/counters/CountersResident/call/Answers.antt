@@ -9,7 +9,7 @@ pub returns-in-Some-clause-stands : goal.returns-in-Some-clause-stands
 returns-in-Some-clause-stands c blocks old =
     let cs = c.args.self.now.counters.items in
     let at = got cs c.args.c c.index_mut.result.now _ c.requires.range c.index_mut.ensures.value ∙ ap Some c.in-Some.is in
-    reading_stands (rows_of c.args.self.now) cs blocks c.args.c c.args._j c.args._k c.in-Some.counter c.note.new.self c.requires.range at (ap (λ (k : Counter). k.key) c.note.ensures) (ap (λ (k : Counter). k.had) c.note.ensures) (ap (λ (k : Counter). k.total) c.note.ensures) old
+    reading_stands (rows_of c.args.self.now) cs blocks c.args.c c.args._j c.args._k c.in-Some.counter c.note.new.self c.requires.range at (ap (λ (k : Counter). k.key) c.note.ensures) (ap (λ (k : Counter). k.had) c.note.ensures) (ap (λ (k : Counter). k.total) c.note.ensures) (ap (λ (k : Counter). k.read_at) c.note.ensures) (ap (λ (k : Counter). k.read) c.note.ensures) old
 
 pub returns-in_default-clause-stands : goal.returns-in_default-clause-stands
 returns-in_default-clause-stands c =

@@ -28,7 +28,7 @@ returns-in-Some-clause-stands c blocks old =
     let within : c.args.n < length (row_of rows c.args.c) = subst (λ (k : ℕ). c.args.n < k) (limit_is rows c.args.c) c.requires.limit in
     let same = ap (λ v. get_or v.items c.args.n c.index-amount.result.now) (sym c.index-self-c.is) ∙ ap (λ (xs : List ℕ). get_or xs c.args.n c.index-amount.result.now) row in
     let amount : c.index-amount.result.now ≡ get_or (row_of rows c.args.c) c.args.n 0 = get_or_read (row_of rows c.args.c) c.args.n c.index-amount.result.now within (c.index-amount.ensures ∙ same) 0 in
-    feed_stands rows cs blocks c.args.c c.args.n c.index-amount.result.now c.in-Some.counter c.add.new.self c.requires.range at c.requires.next within amount c.add.ensures.key c.add.ensures.had c.add.ensures.total old
+    feed_stands rows cs blocks c.args.c c.args.n c.index-amount.result.now c.in-Some.counter c.add.new.self c.requires.range at c.requires.next within amount c.add.ensures.key c.add.ensures.had c.add.ensures.total c.add.ensures.read_at c.add.ensures.read old
 
 pub returns-in_default-clause-stands : goal.returns-in_default-clause-stands
 returns-in_default-clause-stands c =

@@ -1,4 +1,4 @@
-use Rattle.std.proofs.Common.{◌≤◌, ap, sym, subst, rules, vec_capacity}
+use Rattle.std.proofs.Common.{◌≡◌, ap, sym, subst, rules, vec_capacity}
 use Rattle.squeue_state.specs.Behind.{room_of}
 use Rattle.squeue_state.proofs.Steps.{fast_behind}
 use Rattle.squeue_state.proofs.inner.Inner.fast.Goals as goal
@@ -6,4 +6,4 @@ use Rattle.squeue_state.proofs.inner.Inner.fast.Goals as goal
 pub returns-clause-behind : goal.returns-clause-behind
 returns-clause-behind g c = λ G H b m.
     fast_behind g.R.Resident.stands g.R.Resident.limits g.R.Resident.size g.R.Resident.origin G c.args.self.now _ H c.args.p c.args.e b m (search rules) (search rules) (search rules) (search rules) (search rules) (search rules) (search rules) (search rules)
-    (subst (λ n. room_of G.quotas ≤ n) (sym (ap (λ w. vec_capacity w.chain) c.poll.ensures)) b.room)
+    (subst (λ n. room_of G.quotas ≡ n) (sym (ap (λ w. vec_capacity w.chain) c.poll.ensures)) b.room)

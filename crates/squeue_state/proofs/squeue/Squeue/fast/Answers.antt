@@ -1,4 +1,4 @@
-use Rattle.std.proofs.Common.{◌≡◌, ◌++◌, ◌∷◌, [], ◌∙◌, List, refl, ap, sym, subst, Some, length, arith}
+use Rattle.std.proofs.Common.{◌≡◌, ◌++◌, ◌∷◌, [], ◌∙◌, List, ap, sym, subst, Some, length, arith}
 use Rattle.perimeter_core.specs.History.{Element, run}
 use Rattle.perimeter_core.specs.Legal.{May}
 use Rattle.perimeter_core.specs.Blocks.{Blocks, peri}
@@ -8,7 +8,7 @@ use Rattle.squeue_state.specs.Words.{named_of}
 use Rattle.squeue_state.specs.Elements.{fasted}
 use Rattle.squeue_state.proofs.Turns.{lent, noted, ends, lies_free, hand_after, fasted_same}
 use Rattle.squeue_state.proofs.Bounds.{few_hand}
-use Rattle.squeue_state.proofs.Steps.{empty_free, empty_more}
+use Rattle.squeue_state.proofs.Steps.{empty_free}
 use Rattle.squeue_state.proofs.squeue.Squeue.fast.Goals as goal
 
 pub fast-resident-requires : goal.fast-resident-requires
@@ -16,7 +16,7 @@ fast-resident-requires g c =
     let b = lent g.R.Resident.stands g.R.Resident.limits g.R.Resident.size g.R.Resident.origin c.turn.inside.of.value c.turn.inside.held c.args.turn c.args.self.now c.turn.invariant c.turn.view_is c.requires.squeue c.value.result.now c.value.ensures.value in
     let S = setting_of g.R.Resident.limits c.args.self.now.given in
     let n = (c.number-p.ensures ∙ ap (λ (u : Turned g.row.R.Denot). u.number) c.turn.view_is) in
-    empty_more (room_of c.args.self.now.given.quotas) 1 c.value.result.now.inner.spare c.value.result.now.inner.spare refl (omega arith) (empty_free (room_of c.args.self.now.given.quotas) c.value.result.now.inner.own c.value.result.now.inner.spare b.spare (b.own ∙ c.requires.may.step.0))
+    (room_of c.args.self.now.given.quotas, omega arith, empty_free (room_of c.args.self.now.given.quotas) c.value.result.now.inner.own c.value.result.now.inner.spare b.spare (b.own ∙ c.requires.may.step.0))
 
 pub end_turn-pass-requires-clause-value : goal.end_turn-pass-requires-clause-value
 end_turn-pass-requires-clause-value g c =

@@ -1,4 +1,4 @@
-use Rattle.std.proofs.Common.{◌≡◌, ◌+◌, ◌∙◌, ℕ, false, ap, sym, refl, get_or, length, arith}
+use Rattle.std.proofs.Common.{if◌then◌else◌, ◌≡◌, ◌+◌, ◌∙◌, ℕ, false, ap, sym, refl, get_or, length, arith}
 use Rattle.std.specs.Prelude.{replicate}
 use Rattle.std.proofs.lemmas.List.{length-map}
 use Rattle.squeue_state.specs.Naming.{Chosen}
@@ -19,9 +19,9 @@ make-requires-clause-start g c =
           (λ blocks k s. ap (λ xs. get_or xs k false) starts ∙ c.in_ok-here.ensures.here blocks k s)
           c.requires.fresh (omega (arith, count, c.requires.few.1)) c.requires.feeds c.requires.asks
           refl c.in_ok-with_capacity.ensures.items refl refl (sym starts) (c.in_ok-flags.ensures ∙ ap (λ (n : ℕ). replicate (n + 1) false) (sym count)) refl
-          (c.in_ok-with_capacity-2.ensures.items, omega (arith, c.in_ok-with_capacity-2.ensures.capacity, room.queue))
-          (omega (arith, c.in_ok-with_capacity.ensures.capacity, room.queue)),
+          (c.in_ok-with_capacity-2.ensures.items, omega (arith, c.in_ok-with_capacity-2.ensures.exact, room.queue))
+          (omega (arith, c.in_ok-with_capacity.ensures.exact, room.queue)),
       notes_none _ c.args.trace c.in_ok-new_trace.field-0 qs is (ap (λ (f : Chosen). f.traced) facts) c.in_ok-new_trace.ensures.empty.0 c.in_ok-new_trace.ensures.empty.1
-          (λ on. let r = c.in_ok-new_trace.ensures.room on in omega (arith, r.0, room.marks, count))
-          (λ on. let r = c.in_ok-new_trace.ensures.room on in omega (arith, r.1, room.entries)),
+          (c.in_ok-new_trace.ensures.room.0 ∙ ap (λ (n : ℕ). if c.args.trace then n else 0) (omega (arith, room.marks, count)))
+          (c.in_ok-new_trace.ensures.room.1 ∙ ap (λ (n : ℕ). if c.args.trace then n else 0) room.entries),
     )

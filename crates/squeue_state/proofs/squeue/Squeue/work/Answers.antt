@@ -1,4 +1,4 @@
-use Rattle.std.proofs.Common.{◌≡◌, ◌≤◌, ◌++◌, ◌∷◌, [], ◌∙◌, List, ap, sym, subst, Some, vec_capacity, length, arith}
+use Rattle.std.proofs.Common.{◌≡◌, ◌++◌, ◌∷◌, [], ◌∙◌, List, ap, sym, subst, Some, vec_capacity, length, arith}
 use Rattle.perimeter_core.specs.History.{Element, start, run}
 use Rattle.perimeter_core.specs.Legal.{May}
 use Rattle.perimeter_core.specs.Blocks.{Blocks, peri}
@@ -37,7 +37,7 @@ returns-clause-hand g c =
     let chain = c.work-resident.ensures.same.1 in
     record {
       is_whole = ap (λ v. v.items) chain ∙ (b.chain ∙ sym (ap (λ (H : List Element). (run S H).hand) seen_is ∙ ap (λ s. s.hand) (run_push (start S) c.args.turn.found (worked c.args.turn.number))));
-      has_room = subst (λ k. room_of c.args.self.now.given.quotas ≤ k) (sym (ap (λ v. vec_capacity v) chain)) b.room;
+      has_room = subst (λ k. room_of c.args.self.now.given.quotas ≡ k) (sym (ap (λ v. vec_capacity v) chain)) b.room;
     }
 
 pub end_turn-pass-requires-clause-noted : goal.end_turn-pass-requires-clause-noted

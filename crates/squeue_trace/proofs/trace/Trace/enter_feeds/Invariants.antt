@@ -9,5 +9,5 @@ invariant-loop-f l =
       entries : l.self.entries ≡ l.initial.self.entries ++ entries (take l.f-index l.es);
       room : length l.self.entries + (length l.es - l.f-index) ≤ l.self.entry_room;
       told : marks_of l.self ≡ marks_of l.initial.self;
-      same : (l.self.marks ≡ l.initial.self.marks) × (l.initial.self.mark_room ≤ l.self.mark_room) × (l.initial.self.entry_room ≤ l.self.entry_room);
+      same : (l.self.marks ≡ l.initial.self.marks) × (l.self.mark_room ≡ l.initial.self.mark_room) × (l.self.entry_room ≡ l.initial.self.entry_room);
     }

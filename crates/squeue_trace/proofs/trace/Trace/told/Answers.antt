@@ -43,5 +43,5 @@ returns-in_default c =
       places = c.bare.ensures.places (length c.args.self.now.entries);
       entries = sym (ap (λ xs. c.args.self.now.entries ++ xs) (c.bare.ensures.none c.args.es.now) ∙ append-nil c.args.self.now.entries);
       told = refl;
-      same = (refl, omega arith, omega arith);
+      same = (refl, refl, refl);
     }

@@ -1,4 +1,4 @@
-use Rattle.std.proofs.Common.{◌≡◌, sym, ◌∙◌, subst, Some, None}
+use Rattle.std.proofs.Common.{◌≡◌, ap, sym, ◌∙◌, subst, Some, None}
 use mathlib.Core.Option as mo
 use Rattle.std.specs.Slots.{slots_items}
 use Rattle.turn_gate.specs.History.{Begins, only, Each, Has}
@@ -22,7 +22,7 @@ returns g c = let s = c.gather-seat.result in
     let same : f.0 ≡ c.in-Some.field-0 = cc in
     let Told = λ (r : Row g.row.T-Element.Denot). Begins r.seen f.1 × (only g.T.Storied.number r.number f.1 ≡ r.mine) in (
       f.1,
-      subst (λ x. (g.T.Storied.stands c.args.self.table.shared.key.first.value) x.value f.1) same f.3,
+      subst (λ v. (g.T.Storied.stands c.args.self.table.shared.key.first.value) v f.1) (ap (λ x. x.value.value) same ∙ sym c.into_inner.ensures) f.3,
       each_of_map _ _ row_of Told c.args.passes.items (subst (Each Told) c.gather-seat.ensures.3 f.4),
       f.5,
     )

@@ -1,7 +1,8 @@
-use Rattle.std.proofs.Common.{rules, ap, ◌∙◌, ◌∷◌, Some}
-use Rattle.turn_gate.specs.Passes.{row_of, own}
+use Rattle.std.proofs.Common.{rules, ap, sym, subst, ◌∙◌, ◌∷◌, Some}
+use Rattle.turn_gate.specs.Passes.{row_of, own, waited}
 use Rattle.turn_gate.specs.Rule.{view}
 use Rattle.turn_gate.proofs.Keeps.{draws}
+use Rattle.turn_gate.proofs.Passing.{waited_more}
 use Rattle.turn_gate.proofs.Histories.{one_item}
 use Rattle.turn_gate.proofs.gate.Gate.hold_as.Goals as goal
 
@@ -19,3 +20,9 @@ taken-requires g c = let i = c.loop.invariant in let t = c.look-shown.ensures.se
 pub returns-then-shown-ticket-clause-takes : goal.returns-then-shown-ticket-clause-takes
 returns-then-shown-ticket-clause-takes g c = let i = c.loop.invariant in let t = c.look-shown.ensures.served c.if-shown-ticket.true (row_of c.args.pass) i.1 in
     let e = c.taken.ensures.same.1 ∙ ap own t.2 in (c.taken.ensures.held.0, c.taken.ensures.same.0, (t.6.0, ap (λ z. z.seen) e ∙ t.6.1), ap (λ z. z.mine) e, c.taken.ensures.held.1)
+
+pub returns-then-shown-ticket-clause-steps : goal.returns-then-shown-ticket-clause-steps
+returns-then-shown-ticket-clause-steps g c = waited_more _ _ _ c.loop.invariant.5 (subst (waited c.loop.seat.me.0.steps) (sym c.taken.ensures.same.2) c.look-shown.ensures.steps)
+
+pub loop-preserved : goal.loop-preserved
+loop-preserved g c = (search rules, search rules, search rules, search rules, search rules, waited_more _ _ _ c.loop.invariant.5 c.look-shown.ensures.steps)

@@ -19,7 +19,7 @@ store-requires g c = let h = c.requires.gate in let one = c.requires.element in 
 
 pub serve_next-requires : goal.serve_next-requires
 serve_next-requires g c = let h = c.requires.gate in let es = g.N.Names.elements in let p = c.put_back-seat.ensures.me in let v = ap (λ x. x.0) p ∙ ap (λ x. x.0) h.1 in
-    let a = c.store.ensures.2 (held_row c.args.held) (ap (λ x. x.rows) v) in let kept : Kept g.row.T.Denot = record { value = c.args.held.value; count = c.args.held.count + 1 } in (
+    let a = c.store.ensures.2.1 (held_row c.args.held) (ap (λ x. x.rows) v) in let kept : Kept g.row.T.Denot = record { value = c.args.held.value; count = c.args.held.count + 1 } in (
       search rules,
       (
         held_seen c.args.held ++ es,

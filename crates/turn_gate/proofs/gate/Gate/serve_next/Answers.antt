@@ -15,6 +15,6 @@ fetch_add-found-requires g c = let q = c.requires.1 in (
 
 pub returns-clause-gate : goal.returns-clause-gate
 returns-clause-gate g c = let q = c.requires.1 in let found = c.fetch_add-found.result in
-    let views = c.into_badge-badge.ensures.2 ∙ (ap (λ x. x.0 ∷ []) c.fetch_add-found.ensures.2 ∙ ap (λ x. view x.0.rows None false (x.0.steps ++ Serve found ∷ []) ∷ []) q.4) in
+    let views = c.into_badge-badge.ensures.2 ∙ (ap (λ x. x.0 ∷ []) c.fetch_add-found.ensures.2.1 ∙ ap (λ x. view x.0.rows None false (x.0.steps ++ Serve found ∷ []) ∷ []) q.4) in
     let p = pass_is g.T.Storied.number (gate_id c.args.self.now) c.args.holder q.0 q.1 (c.args.seat.me.0.steps ++ Serve found ∷ []) (record { badge = c.into_badge-badge.result; number = c.args.holder }) (search rules) views q.7 refl in
     (p.0, p.1)

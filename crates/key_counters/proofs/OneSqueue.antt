@@ -1,0 +1,86 @@
+-- One squeue is lent to the jobs of its passes, and comes back when all are done.
+use Rattle.std.proofs.Common.{◌≡◌, ℕ, ◌+◌, ◌-◌, ◌<◌, ◌≤◌, Option, Some, List, [], ◌∷◌, ◌++◌, All, length, slice_get, slice_index, slice_index_or, refl, ap, sym, ◌∙◌, subst, arith}
+use Rattle.std.proofs.lemmas.List.{length-map}
+use Rattle.std.proofs.lemmas.Option.{slice_get_within}
+use Rattle.turn_gate.specs.History.{Each, Has}
+use Rattle.turn_gate.specs.Passes.{AreFresh, number}
+use Rattle.turn_gate.specs.declared.pass.Pass.{Pass}
+use Rattle.perimeter_core.specs.History.{Element, Limits, Setting, run}
+use Rattle.perimeter_core.specs.Legal.{Legal}
+use Rattle.perimeter_core.specs.Ending.{IsOver}
+use Rattle.perimeter_core.specs.Blocks.{Blocks}
+use Rattle.perimeter_core.specs.Residing.{HadFeeds}
+use Rattle.squeue_trace.specs.Told.{Traced}
+use Rattle.squeue_state.specs.Naming.{Ending, Named, setting_of}
+use Rattle.squeue_state.specs.Elements.{number_of}
+use Rattle.squeue_serve.specs.declared.jobs.Job.{Job}
+use Rattle.squeue_serve.specs.Places.{MayEnd}
+use Rattle.squeue_serve.specs.Lending.{AreHanded, AreLent, HasCome, lent_to, tasks_in}
+use Rattle.squeue_serve.proofs.Lent.{lent_none}
+use Rattle.squeue_serve.proofs.Coming.{came, has_got, less_lent, lent_as, none_lent_at_all, one_only}
+use Rattle.key_counters.specs.declared.job.Task.{Task}
+use Rattle.key_counters.specs.Running.{IsReady, Ran}
+use Rattle.key_counters.specs.Serving.{AreTasks, HasDone, HasDoneAs, ServesRings, items_in}
+use Rattle.key_counters.proofs.Ending.{NewAt, all_new, all_ready, done_lent, each_done, fed_all}
+
+module _ {R : Type 0} (limits : R → Limits) (s : Named R) (serves : ServesRings limits s.given) where
+  pub is_single : (old all : List (Named R)) → old ≡ [] → all ≡ old ++ s ∷ [] → all ≡ s ∷ []
+  is_single old all none is = is ∙ ap (λ l. l ++ s ∷ []) none
+
+  pub is_it : (all : List (Named R)) (t : Named R) → all ≡ s ∷ [] → t ≡ slice_index_or all 0 t → t ≡ s
+  is_it all t is at = at ∙ ap (λ l. slice_index_or l 0 t) is
+
+  module _ (first jobs : List (Job Task)) (n : ℕ) (counted : n ≡ length first) (tasks : AreTasks s.given.rings (items_in limits s.given) (tasks_in first)) (kept : tasks_in jobs ≡ tasks_in first) where
+    pub count_is : n - 1 ≡ s.given.rings
+    count_is = omega (arith, counted, tasks.count, length-map first (λ (j : Job Task). j.task))
+
+    pub as_many : length jobs ≡ (n - 1) + 1
+    as_many = omega (arith, counted, tasks.count, length-map first (λ (j : Job Task). j.task), ap length kept, length-map jobs (λ (j : Job Task). j.task))
+
+    pub news : (old : List (Named R)) (passes : List (Pass Element)) → All (λ j. j.places.items ≡ []) first → old ≡ [] → AreHanded 0 (n - 1) (length old) passes (lent_to first) (lent_to jobs) → AreFresh number_of s.gate 0 passes
+        → (k : ℕ) (j : Job Task) → slice_get jobs k ≡ Some j → NewAt limits s serves k j
+    news old passes empty none handed fresh k j is =
+        all_new limits s serves (n - 1) jobs passes (lent_to first) (subst (AreTasks s.given.rings (items_in limits s.given)) (sym kept) tasks)
+        (subst (λ (q : ℕ). AreHanded 0 (n - 1) q passes (lent_to first) (lent_to jobs)) (ap length none) handed) (lent_none first empty) fresh k j (let lt = slice_get_within jobs k j is in omega (arith, lt, as_many)) is
+
+    pub done : (new : List (Job Task)) (t : Named R) → t ≡ s → length jobs ≡ length new → ((k : ℕ) (d : Job Task) → k < length jobs → Ran limits t (slice_index_or jobs k d) (slice_index_or new k d)) → ((k : ℕ) (j : Job Task) → slice_get jobs k ≡ Some j → NewAt limits s serves k j)
+        → AreLent (λ p t x. HasDoneAs limits t p x) 0 (n - 1) (s ∷ []) (lent_to new)
+    done new t is same ran are =
+        done_lent limits s serves (n - 1) jobs new count_is (omega (arith, as_many, same)) same
+        (subst (λ (t : Named R). (k : ℕ) (d : Job Task) → k < length jobs → Ran limits t (slice_index_or jobs k d) (slice_index_or new k d)) is ran) are
+
+  pub may_end : (p : ℕ) (t : Named R) (x : Pass Element) → HasDoneAs limits t p x → MayEnd limits p t x
+  may_end p t x d = record { pass = d.done.is_pass; is_number = d.is_number; over = d.done.over }
+
+  pub all_may_end : (count : ℕ) (all : List (Named R)) (lent : ℕ → List (Option (Pass Element))) → all ≡ s ∷ [] → AreLent (λ p t x. HasDoneAs limits t p x) 0 count (s ∷ []) lent → AreLent (MayEnd limits) 0 count all lent
+  all_may_end count all lent is h = subst (λ (l : List (Named R)). AreLent (MayEnd limits) 0 count l lent) (sym is) (lent_as (λ p t x. HasDoneAs limits t p x) (MayEnd limits) may_end 0 count lent (s ∷ []) h)
+
+  module _ {O : Type 0} (stands : R → Blocks → Type 0) (size : R → ℕ) (origin : R → O) (count : ℕ) (all left : List (Named R)) (t : Named R) (having without : ℕ → List (Option (Pass Element))) (r : R) (e : Ending) (trace : Traced)
+      (is : all ≡ s ∷ []) (split : all ≡ left ++ t ∷ []) (rings : count ≡ s.given.rings) (lent : AreLent (λ p t x. HasDoneAs limits t p x) 0 count (s ∷ []) having) (come : HasCome stands limits size origin 0 count (length left) t having without r e trace) where
+    both : (left ≡ []) × (t ≡ s)
+    both = one_only left t s (sym split ∙ is)
+
+    its : HasCome stands limits size origin 0 count 0 s having without r e trace
+    its =
+        subst (λ (x : Named R). HasCome stands limits size origin 0 count 0 x having without r e trace) both.1
+        (subst (λ (l : List (Named R)). HasCome stands limits size origin 0 count (length l) t having without r e trace) both.0 come)
+
+    pub nothing_left : (i : ℕ) → without i ≡ []
+    nothing_left = none_lent_at_all (λ p t x. HasDoneAs limits t p x) 0 count without (less_lent (λ p t x. HasDoneAs limits t p x) 0 count [] s its.passes without having its.handed lent)
+
+    at : (k : ℕ) (x : Pass Element) → slice_get its.passes k ≡ Some x → HasDoneAs limits s k x
+    at k x got =
+        let lt = slice_get_within its.passes k x got in
+        let c = came (λ p t x. HasDoneAs limits t p x) 0 count [] s its.passes without having its.handed lent k (omega (arith, lt, its.handed.all)) in
+        let same : c.0 ≡ x = cc (sym c.1 ∙ got) in
+        subst (HasDoneAs limits s k) same c.2
+
+    numbered : (q : ℕ) → q < length s.given.quotas + 1 → Has (λ (p : Pass Element). number p ≡ q) its.passes
+    numbered q lt =
+        let c = came (λ p t x. HasDoneAs limits t p x) 0 count [] s its.passes without having its.handed lent q (omega (arith, lt, rings, serves.rings)) in
+        has_got (λ (p : Pass Element). number p ≡ q) its.passes q c.0 c.1 c.2.is_number
+
+    pub is_fed : (c : ℕ) → c < length s.given.starts → HadFeeds (stands r) c (slice_index (items_in limits s.given) c)
+    is_fed c lt =
+        fed_all limits s serves (stands r) e.history its.passes c lt (subst (λ (S : Setting). Legal S e.history) its.its_setting its.ended.legal) (subst (λ (S : Setting). IsOver S (run S e.history)) its.its_setting its.ended.over)
+        (each_done limits s serves its.passes at) its.knows numbered its.resident.stands_for

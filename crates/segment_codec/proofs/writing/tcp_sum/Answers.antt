@@ -1,0 +1,17 @@
+use Rattle.std.proofs.Common.{ℕ, ◌-◌, ap, ◌∙◌, arith}
+use Rattle.sq_base.specs.InternetSum.{reduced, word_sum}
+use Rattle.segment_codec.specs.SegmentBytes.{tcp_sum}
+use Rattle.segment_codec.proofs.SumLemmas.{goes_on, word_sum_parts, length-tcp_with}
+use Rattle.segment_codec.proofs.writing.tcp_sum.Goals as goal
+
+pub returns : goal.returns
+unfolding tcp_sum
+returns c =
+    let t = c.args.tuple.now in
+    let r = c.args.reply.now in
+    let server = goes_on _ _ _ _ c.inet_sum-sum.ensures c.inet_sum-sum-2.ensures in
+    let pseudo = goes_on _ _ _ _ server c.inet_sum-sum-3.ensures in
+    let fields = goes_on _ _ _ _ pseudo c.sum_fields.ensures in
+    let options = goes_on _ _ _ _ fields c.sum_options-sum.ensures in
+    let text = goes_on _ _ _ _ options c.inet_sum.ensures in
+    ap (λ (n : ℕ). 65535 - n) (text ∙ ap reduced (omega (arith, c.requires, ap word_sum c.to_be_bytes.ensures, ap word_sum c.to_be_bytes-2.ensures, ap word_sum c.to_be_bytes-3.ensures, ap word_sum c.as_slice.ensures, word_sum_parts t r, length-tcp_with t r 0)))

@@ -1,0 +1,4 @@
+pub mod AtEach
+pub mod Lent
+pub mod Coming
+pub mod Unused
