@@ -3,7 +3,7 @@
 use crate::{PcapngFault, parse_pcapng};
 use capture_reader::{Capture, Record};
 use sq_base::{Link, Octets};
-use std::alloc::Global;
+use std::alloc::{AllocError, Global};
 use std::process::Abort;
 use std::test::Fail;
 
@@ -42,12 +42,15 @@ fn expect(rt: &impl Abort, alloc: Global, bytes: Vec<u8>, case: &Case) {
             assert_eq!(rt; capture.link(), link, "link of {name}");
             assert_eq!(rt; capture.cut_tail(), cut, "tail of {name}");
             assert_eq!(rt; capture.len() as usize, records.len(), "packets of {name}");
-            for (i, &(at, from, len)) in (0..capture.len()).zip(records) {
+            let mut i = 0;
+            for &(at, from, len) in records {
+                assert!(rt; i < capture.len());
                 assert_eq!(rt;
                     capture.rec(i),
                     Record { at, from, len },
                     "packet {i} of {name}"
                 );
+                i += 1;
             }
         }
         (Ok(_), Outcome::Refused(_)) => assert!(rt; false, "{name} is read"),
@@ -55,15 +58,25 @@ fn expect(rt: &impl Abort, alloc: Global, bytes: Vec<u8>, case: &Case) {
     }
 }
 
+/// The bytes of a file.
+fn joined(alloc: Global, blocks: &[&[u8]]) -> Result<Vec<u8>, AllocError> {
+    let mut bytes = Vec::new(alloc);
+    for &block in blocks {
+        bytes.extend_from_slice(block)?;
+    }
+    Ok(bytes)
+}
+
+fn expect_all(rt: &impl Abort, alloc: Global, cases: &[Case]) -> Result<(), AllocError> {
+    for case in cases {
+        expect(rt, alloc, joined(alloc, case.blocks)?, case);
+    }
+    Ok(())
+}
+
 #[test]
 fn files_and_refusals(rt: HostRuntime) -> Result<(), Fail> {
-    for case in &cases::CASES {
-        let mut bytes = Vec::new(rt.alloc());
-        for block in case.blocks {
-            bytes.extend_from_slice(block)?;
-        }
-        expect(&rt, rt.alloc(), bytes, case);
-    }
+    expect_all(&rt, rt.alloc(), &cases::CASES)?;
     Ok(())
 }
 
@@ -80,10 +93,7 @@ const ENDS: [(usize, u32); 7] = [
 
 #[test]
 fn every_front_of_five_segments(rt: HostRuntime) -> Result<(), Fail> {
-    let mut whole = Vec::new(rt.alloc());
-    for block in &cases::FIVE {
-        whole.extend_from_slice(block)?;
-    }
+    let whole = joined(rt.alloc(), &cases::FIVE)?;
     assert_eq!(rt; whole.len(), 416);
     for n in 4..417 {
         let Some(front) = whole.as_slice().get(..n) else {
