@@ -1,5 +1,6 @@
-#!/bin/sh
-# Nanoseconds per entry: the best of five measurements of each case, the candidates by turns.
+#!/bin/bash
+# Nanoseconds per entry by the clock, and in brackets those of processors, summed over all threads: the best of five
+# measurements of each case by the clock, the candidates by turns.
 set -e
 cd "$(dirname "$0")"
 (cd baseline && cargo build --release --offline --quiet)
@@ -8,33 +9,41 @@ squeue=../../crates/squeue_bench/out/squeue_bench
 base=baseline/target/release/baseline
 times=$(mktemp -d)
 trap 'rm -r "$times"' EXIT
+TIMEFORMAT='%U %S'
 
-# The first word names the candidate. Beside the time stands what was counted.
+# The first word names the candidate. A line of its file has the time by the clock and the processor time of an entry, and
+# what was counted. The processor time is the whole process's, with the making of its items.
 measure() {
     candidate=$1
     shift
-    "$@" | awk '{ printf "%.1f %s\n", $4 / $2, $6 }' >>"$times/$candidate"
+    { time "$@" >"$times/.said"; } 2>"$times/.used"
+    cat "$times/.said" "$times/.used" |
+        awk 'NR == 1 { entries = $2; nanos = $4; total = $6 }
+            NR == 2 { printf "%.1f %.1f %s\n", nanos / entries, ($1 + $2) * 1e9 / entries, total }' >>"$times/$candidate"
 }
 
 best() {
-    sort -n "$times/$1" | head -1 | cut -d ' ' -f 1
+    sort -n "$times/$1" | head -1 | awk '{ printf "%s (%.0f)", $1, $2 }'
 }
 
-echo "| threads | squeues | chain | process | fill | Mutex | channel |"
-echo "|---|---|---|---|---|---|---|"
+echo "load at the start: $(cut -d ' ' -f 1-3 /proc/loadavg)"
+echo
+echo "| threads | squeues | chain | process | fill | Mutex | channel | combining | segments |"
+echo "|---|---|---|---|---|---|---|---|---|"
 while read -r threads squeues chain entries; do
     rm -f "$times"/*
     for _ in 1 2 3 4 5; do
         measure process $squeue "$threads" "$squeues" "$chain" "$entries" process
         measure fill $squeue "$threads" "$squeues" "$chain" "$entries" fill
-        measure mutex $base mutex "$threads" "$squeues" "$chain" "$entries"
-        measure channel $base channel "$threads" "$squeues" "$chain" "$entries"
+        for kind in mutex channel combining segments; do
+            measure $kind $base $kind "$threads" "$squeues" "$chain" "$entries"
+        done
     done
-    if [ "$(cut -d ' ' -f 2 "$times"/* | sort -u | wc -l)" != 1 ]; then
+    if [ "$(cut -d ' ' -f 3 "$times"/* | sort -u | wc -l)" != 1 ]; then
         echo "the candidates counted different totals" >&2
         exit 1
     fi
-    echo "| $threads | $squeues | $chain | $(best process) | $(best fill) | $(best mutex) | $(best channel) |"
+    echo "| $threads | $squeues | $chain | $(best process) | $(best fill) | $(best mutex) | $(best channel) | $(best combining) | $(best segments) |"
 done <<CASES
 1 1 1 400000
 1 1 32 4000000
@@ -42,6 +51,8 @@ done <<CASES
 2 1 32 4000000
 4 1 1 400000
 4 1 32 4000000
+16 1 1 400000
+16 1 32 4000000
 1 4 1 400000
 1 4 32 4000000
 2 4 1 400000

@@ -1,7 +1,13 @@
-//! The entries of `squeue_bench` through two plain queues: a `VecDeque` under std's `Mutex`, whose worker a `Condvar`
-//! wakes, and std's channel with one consumer. Words: `mutex` or `channel`, and then THREADS QUEUES CHAIN ENTRIES as
-//! `squeue_bench` takes THREADS SQUEUES CHAIN ENTRIES, where CHAIN is 1 or 32.
+//! The entries of `squeue_bench` through four queues in plain Rust: a `VecDeque` under std's `Mutex`, whose worker a `Condvar`
+//! wakes; std's channel with one consumer; flat combining; and a queue of segments with one consumer. Words: `mutex`,
+//! `channel`, `combining` or `segments`, and then THREADS QUEUES CHAIN ENTRIES as `squeue_bench` takes THREADS SQUEUES CHAIN
+//! ENTRIES, where CHAIN is 1 or 32.
 
+mod combining;
+mod segments;
+
+use combining::{At, Combining};
+use segments::Segments;
 use std::collections::VecDeque;
 use std::mem;
 use std::sync::mpsc::{Receiver, Sender, channel};
@@ -170,10 +176,49 @@ fn run_channels<const N: usize>(rings: &[Vec<Item>], workers: &mut [Counters<'_>
     });
 }
 
+fn run_combining<const N: usize>(rings: &[Vec<Item>], workers: &mut [Counters<'_>]) {
+    let queues: Vec<Combining<'_, '_, N>> = workers
+        .iter_mut()
+        .map(|counters| Combining::new(rings.len(), counters))
+        .collect();
+    scope(|threads| {
+        for (place, items) in rings.iter().enumerate() {
+            let entrances: Vec<At<'_, '_, '_, N>> =
+                queues.iter().map(|queue| At { queue, place }).collect();
+            threads.spawn(move || bring_all(items, &entrances));
+        }
+    });
+    for queue in &queues {
+        queue.close();
+    }
+}
+
+fn run_segments<const N: usize>(rings: &[Vec<Item>], workers: &mut [Counters<'_>]) {
+    let queues: Vec<Segments<N>> = workers.iter().map(|_| Segments::new()).collect();
+    let entrances: Vec<&Segments<N>> = queues.iter().collect();
+    scope(|threads| {
+        for (queue, counters) in queues.iter().zip(workers) {
+            threads.spawn(move || queue.consume(counters));
+        }
+        let bringing: Vec<_> = rings
+            .iter()
+            .map(|items| threads.spawn(|| bring_all::<N>(items, &entrances)))
+            .collect();
+        for thread in bringing {
+            thread.join().expect("no thread panics");
+        }
+        for queue in &queues {
+            queue.close();
+        }
+    });
+}
+
 fn run<const N: usize>(kind: &str, rings: &[Vec<Item>], workers: &mut [Counters<'_>]) {
     match kind {
         "mutex" => run_locked::<N>(rings, workers),
-        _ => run_channels::<N>(rings, workers),
+        "channel" => run_channels::<N>(rings, workers),
+        "combining" => run_combining::<N>(rings, workers),
+        _ => run_segments::<N>(rings, workers),
     }
 }
 
