@@ -74,13 +74,17 @@ pub fn bad_pcapng(alloc: Global, fault: &PcapngFault) -> Result<String, AllocErr
             major,
             minor,
         } => {
-            format!(in alloc; "sqrun: bad capture: pcapng version {major}.{minor} in block {index}\n")
+            format!(in alloc;
+                "sqrun: bad capture: pcapng version {major}.{minor} in block {index}\n"
+            )
         }
         PcapngFault::Link { index, link } => {
             format!(in alloc; "sqrun: bad capture: pcapng link type {link} in block {index}\n")
         }
         PcapngFault::MixedLink { index, link } => {
-            format!(in alloc; "sqrun: bad capture: pcapng second link type {link} in block {index}\n")
+            format!(in alloc;
+                "sqrun: bad capture: pcapng second link type {link} in block {index}\n"
+            )
         }
         PcapngFault::NoInterface { index, id } => {
             format!(in alloc; "sqrun: bad capture: pcapng interface {id} in block {index}\n")
