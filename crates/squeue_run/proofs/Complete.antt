@@ -5,12 +5,17 @@ use Rattle.std.specs.Io.KnownBytes.{Consumes}
 use Rattle.sq_base.specs.Ends.{Rose}
 use Rattle.sq_base.specs.declared.kinds.Status.{Status}
 use Rattle.sq_base.specs.declared.kinds.Status.TheVariants as status
-use Rattle.capture_reader.specs.CaptureFile.{Contents, Meets, Refused}
+use Rattle.capture_reader.specs.CaptureFile.{Contents, Meets}
 use Rattle.capture_reader.specs.Limits.{most_bytes, most_taken}
-use Rattle.capture_reader.specs.Outcome.{CaptureFile, IsCapture, ReadsRefused, ReadsWhole, TakesTooMany, contents_of}
+use Rattle.capture_reader.specs.Outcome.{CaptureFile, ReadsWhole, TakesTooMany, contents_of}
 use Rattle.capture_reader.specs.declared.fault.CaptureFault.{CaptureFault}
 use Rattle.capture_reader.specs.declared.fault.CaptureFault.TheVariants as fault
 use Rattle.capture_reader.proofs.OneOutcome.{meets_once}
+use Rattle.pcapng_reader.proofs.Outcomes.{meets_once as ng_meets_once}
+use Rattle.pcapng_reader.specs.PcapngFile.{BeginsSection, Captured}
+use Rattle.pcapng_reader.specs.declared.fault.PcapngFault.{PcapngFault}
+use Rattle.pcapng_reader.specs.declared.fault.PcapngFault.TheVariants as pcapng
+use Rattle.squeue_run.specs.Input.{IsInput, IsRefusedCapture, IsRefusedPcapng, ReadsSuch}
 use Rattle.squeue_run.specs.Asked.{Asked}
 use Rattle.squeue_run.specs.CallWords.{AllThere, IsFirstMissing}
 use Rattle.squeue_run.specs.Ran.{Accepts, AcceptsBy, HasRead, HoldsCapture, End, IsDone, Ran, RanBy, RanGenerated, RanRead, Reads, conns_of}
@@ -56,19 +61,52 @@ same_file f g bytes contents =
     ap (λ b. record { bytes = b; link = f.link; packets = f.packets; cut = f.cut }) bytes
     ∙ ap (λ c. record { bytes = g.bytes; link = c.link; packets = c.packets; cut = c.cut }) contents
 
+abbrev NgOutcome : Type 0
+NgOutcome = Result Contents PcapngFault
+
+abbrev ng_accepted : Contents → NgOutcome
+ng_accepted x = Ok x
+
+abbrev ng_refused : PcapngFault → NgOutcome
+ng_refused f = Err f
+
+same_ng : (x y : Contents) → ng_accepted x ≡ ng_accepted y → x ≡ y
+same_ng x y e = cc
+
+not_both_ng : (x : Contents) (f : PcapngFault) → ng_accepted x ≡ ng_refused f → ⊥
+not_both_ng x f e = cc
+
+-- bytes are one capture, in whichever form
+same_contents_of : (file found : CaptureFile) → found.bytes ≡ file.bytes → IsInput file → IsInput found → contents_of found ≡ contents_of file
+same_contents_of file found bytes (inl p) (inl q) =
+    same_ng (contents_of found) (contents_of file)
+    (ng_meets_once file.bytes (ng_accepted (contents_of found)) (ng_accepted (contents_of file)) (subst (λ b. Captured b (contents_of found)) bytes q.captured) p.captured)
+same_contents_of file found bytes (inl p) (inr q) = absurd (q.0 (subst BeginsSection (sym bytes) p.begins))
+same_contents_of file found bytes (inr p) (inl q) = absurd (p.0 (subst BeginsSection bytes q.begins))
+same_contents_of file found bytes (inr p) (inr q) =
+    same_contents (contents_of found) (contents_of file)
+    (meets_once file.bytes (accepted (contents_of found)) (accepted (contents_of file)) (subst (λ b. Meets b (Ok (contents_of found))) bytes q.1.captured) p.1.captured)
+
 -- the capture that was read is the one that was there
-read_once : (file found : CaptureFile) (source : End) → source.was ≡ Some file.bytes → IsCapture file → Reads source found → found ≡ file
+read_once : (file found : CaptureFile) (source : End) → source.was ≡ Some file.bytes → IsInput file → Reads source found → found ≡ file
 read_once file found source there capture r =
     let bytes : found.bytes ≡ file.bytes = whole_is file.bytes found.bytes source.was source.is there r.read in
-    let Says : List ℕ → Type 0 = λ b. Meets b (Ok (contents_of found)) in
-    same_file found file bytes (same_contents (contents_of found) (contents_of file)
-    (meets_once file.bytes (accepted (contents_of found)) (accepted (contents_of file)) (subst Says bytes r.capture.captured) capture.captured))
+    same_file found file bytes (same_contents_of file found bytes capture r.capture)
 
-not_refused : (file : CaptureFile) (why : CaptureFault) (source : End) → source.was ≡ Some file.bytes → IsCapture file → ReadsRefused source.was source.is why → ⊥
-not_refused file why source there capture r =
-    let bytes : r.0 ≡ file.bytes = whole_is file.bytes r.0 source.was source.is there r.1 in
-    let Says : List ℕ → Type 0 = λ b. Refused b why in
-    not_both (contents_of file) why (meets_once file.bytes (accepted (contents_of file)) (refused why) capture.captured (subst Says bytes r.2.1))
+input_small : (file : CaptureFile) → IsInput file → length file.bytes ≤ most_bytes
+input_small file (inl p) = p.small
+input_small file (inr p) = p.1.small
+
+refused_not : (file : CaptureFile) (why : CaptureFault) → IsInput file → IsRefusedCapture why file.bytes → ⊥
+refused_not file why (inl p) r = r.0 p.begins
+refused_not file why (inr p) r = not_both (contents_of file) why (meets_once file.bytes (accepted (contents_of file)) (refused why) p.1.captured r.1.1)
+
+refused_not_ng : (file : CaptureFile) (why : PcapngFault) → IsInput file → IsRefusedPcapng why file.bytes → ⊥
+refused_not_ng file why (inl p) r = not_both_ng (contents_of file) why (ng_meets_once file.bytes (ng_accepted (contents_of file)) (ng_refused why) p.captured r.2)
+refused_not_ng file why (inr p) r = p.0 r.0
+
+not_refused : (Such : List ℕ → Type 0) (file : CaptureFile) (source : End) → source.was ≡ Some file.bytes → (Such file.bytes → ⊥) → ReadsSuch Such source.was source.is → ⊥
+not_refused Such file source there not r = not (subst Such (whole_is file.bytes r.0 source.was source.is there r.1) r.2)
 
 not_missing : (n c : ℕ) (ws : List CallWord) → AllThere n ws → IsFirstMissing n c ws → ⊥
 not_missing n c [] a m = m
@@ -82,9 +120,11 @@ read_done a source out err status.NoMemory can nr nw h = tt
 read_done a source out err status.Usage can nr nw h = absurd h.1
 read_done a source out err status.ReadFault can nr nw h = absurd (nr h.0.0)
 read_done a source out err status.WriteFault can nr nw h = nw h.1.3.failed
-read_done a source out err status.BadCapture can nr nw h = not_refused can.file h.1.0 source can.bytes can.capture h.1.2
-read_done a source out err status.TooLarge can nr nw (r, inl h) = not_too_many can.file.bytes source.was source.is can.bytes can.capture.small h.0
-read_done a source out err status.TooLarge can nr nw (r, inr h) = not_refused can.file fault.TooManyRecords source can.bytes can.capture h.0
+read_done a source out err status.BadCapture can nr nw (r, inl h) = not_refused (IsRefusedCapture h.0) can.file source can.bytes (refused_not can.file h.0 can.capture) h.2
+read_done a source out err status.BadCapture can nr nw (r, inr h) = not_refused (IsRefusedPcapng h.0) can.file source can.bytes (refused_not_ng can.file h.0 can.capture) h.2
+read_done a source out err status.TooLarge can nr nw (r, inl h) = not_too_many can.file.bytes source.was source.is can.bytes (input_small can.file can.capture) h.0
+read_done a source out err status.TooLarge can nr nw (r, inr (inl h)) = not_refused (IsRefusedCapture fault.TooManyRecords) can.file source can.bytes (refused_not can.file fault.TooManyRecords can.capture) h.0
+read_done a source out err status.TooLarge can nr nw (r, inr (inr h)) = not_refused (IsRefusedPcapng pcapng.TooManyRecords) can.file source can.bytes (refused_not_ng can.file pcapng.TooManyRecords can.capture) h.0
 read_done a source out err status.NoConnection can nr nw h =
     let Named : CaptureFile → Type 0 = λ f. IsFirstMissing (conns_of f a.verify) h.1.2.0 a.calls in
     not_missing (conns_of can.file a.verify) h.1.2.0 a.calls can.there (subst Named (read_once can.file h.1.0 source can.bytes can.capture h.1.1) h.1.2.1)

@@ -1,5 +1,5 @@
 -- How a run ends, from what its steps say.
-use Rattle.std.proofs.Common.{◌≡◌, ℕ, List, [], Option, Some, None, ◌⊎◌, inl, inr, subst, sym, arith}
+use Rattle.std.proofs.Common.{◌≡◌, ℕ, List, [], Option, Some, None, ◌⊎◌, inl, inr, subst, sym, ap, refl, arith, Bool, true, false}
 use Rattle.std.specs.Io.KnownBytes.{Appends}
 use Rattle.std.proofs.KnownBytes.{Consumes-kept, Consumes-nil}
 use Rattle.sq_base.specs.Ends.{Rose, AppendsProperly}
@@ -7,11 +7,13 @@ use Rattle.sq_base.specs.declared.kinds.Status.{Status}
 use Rattle.sq_base.specs.declared.kinds.Status.TheVariants as status
 use Rattle.capture_reader.specs.declared.fault.CaptureFault.{CaptureFault}
 use Rattle.capture_reader.specs.declared.fault.CaptureFault.TheVariants as fault
+use Rattle.pcapng_reader.specs.declared.fault.PcapngFault.{PcapngFault}
+use Rattle.pcapng_reader.specs.declared.fault.PcapngFault.TheVariants as pcapng
 use Rattle.squeue_run.specs.Asked.{Asked}
 use Rattle.squeue_run.specs.CallWords.{IsFirstMissing}
 use Rattle.squeue_run.specs.declared.refusal.Refusal.{Refusal}
 use Rattle.squeue_run.specs.declared.refusal.Refusal.TheVariants as refusal
-use Rattle.squeue_run.specs.Lines.{memory_line, write_line, bad_line, missing_line}
+use Rattle.squeue_run.specs.Lines.{memory_line, write_line, bad_line, pcapng_line, missing_line}
 use Rattle.squeue_run.specs.Ran.{End, GetsLine, IsUntouched, Ran, RanBy, RanGenerated, RanRead, RanRefused, HasRead, MetNoFault, TakesFew, conns_of}
 use Rattle.squeue_run.specs.Causes.{CountsFaults, Fails, FailsBy, GeneratedFails, Gives, GivesBy, LineOrMemory, ReadingFails, RefusedWords, Told}
 
@@ -24,6 +26,7 @@ refused_words : (why : Refusal) (out err : End) (s : Status) → IsUntouched out
 refused_words refusal.NoMemory out err s u h t = subst (RanRefused out err) (sym t.0) (u, t.1)
 refused_words refusal.Usage out err s u h t = subst (RanRefused out err) (sym t.0) (u, t.1)
 refused_words (refusal.Capture f) out err s u h t = absurd h
+refused_words (refusal.Pcapng f) out err s u h t = absurd h
 refused_words (refusal.NoConnection c n) out err s u h t = absurd h
 
 not_generated : (n : ℕ) (a : Asked) (why : Refusal) (out err : End) (s : Status) → IsUntouched out → GeneratedFails why → Told why err s → RanGenerated n a.verify out err s
@@ -33,20 +36,71 @@ not_generated n a (refusal.Capture f) out err s u h t =
     let Tells : CaptureFault → Type 0 = λ g. Told (refusal.Capture g) err s in
     let told = subst Tells h t in
     subst (RanGenerated n a.verify out err) (sym told.0) (u, told.1)
+not_generated n a (refusal.Pcapng f) out err s u h t = absurd h
 not_generated n a (refusal.NoConnection c k) out err s u h t = absurd h
+
+-- memory isn't missing where another fault is told
+abbrev is_memory : PcapngFault → Bool
+is_memory pcapng.NoMemory = true
+is_memory _ = false
+
+no_memory_told : (f : PcapngFault) → is_memory f ≡ false → f ≡ pcapng.NoMemory → ⊥
+no_memory_told f other e = let is : is_memory f ≡ true = ap is_memory e in cc
 
 not_read : (a : Asked) (why : Refusal) (source out err : End) (s : Status) → IsUntouched out → ReadingFails a source why → Told why err s → RanRead a source out err s
 not_read a refusal.NoMemory source out err s u h t = subst (RanRead a source out err) (sym t.0) (u, t.1)
 not_read a refusal.Usage source out err s u h t = absurd h
 not_read a (refusal.Capture fault.Read) source out err s u h t = subst (RanRead a source out err) (sym t.0) (u, t.1)
 not_read a (refusal.Capture fault.NoMemory) source out err s u h t = subst (RanRead a source out err) (sym t.0) (u, t.1)
-not_read a (refusal.Capture (fault.TooLarge k)) source out err s u h t = subst (RanRead a source out err) (sym t.0) (inl (h.1, (u, t.1)))
-not_read a (refusal.Capture fault.TooManyRecords) source out err s u h t = subst (RanRead a source out err) (sym t.0) (inr (h, (u, t.1)))
-not_read a (refusal.Capture (fault.ShortHeader k)) source out err s u h t = line_or_memory (RanRead a source out err) status.BadCapture (bad_line (fault.ShortHeader k)) err s (λ g. (fault.ShortHeader k, tt, h, (u, g))) (λ g. (u, g)) t
-not_read a (refusal.Capture (fault.Magic k)) source out err s u h t = line_or_memory (RanRead a source out err) status.BadCapture (bad_line (fault.Magic k)) err s (λ g. (fault.Magic k, tt, h, (u, g))) (λ g. (u, g)) t
-not_read a (refusal.Capture (fault.Version i j)) source out err s u h t = line_or_memory (RanRead a source out err) status.BadCapture (bad_line (fault.Version i j)) err s (λ g. (fault.Version i j, tt, h, (u, g))) (λ g. (u, g)) t
-not_read a (refusal.Capture (fault.Link k)) source out err s u h t = line_or_memory (RanRead a source out err) status.BadCapture (bad_line (fault.Link k)) err s (λ g. (fault.Link k, tt, h, (u, g))) (λ g. (u, g)) t
-not_read a (refusal.Capture (fault.RecordLength i j)) source out err s u h t = line_or_memory (RanRead a source out err) status.BadCapture (bad_line (fault.RecordLength i j)) err s (λ g. (fault.RecordLength i j, tt, h, (u, g))) (λ g. (u, g)) t
+not_read a (refusal.Capture (fault.TooLarge k)) source out err s u (inl h) t = subst (RanRead a source out err) (sym t.0) (inl (h.1, (u, t.1)))
+not_read a (refusal.Capture (fault.TooLarge k)) source out err s u (inr h) t = absurd h.2.1.1
+not_read a (refusal.Capture fault.TooManyRecords) source out err s u (inl h) t = absurd h
+not_read a (refusal.Capture fault.TooManyRecords) source out err s u (inr h) t = subst (RanRead a source out err) (sym t.0) (inr (inl (h, (u, t.1))))
+not_read a (refusal.Capture (fault.ShortHeader k)) source out err s u (inl h) t = absurd h
+not_read a (refusal.Capture (fault.ShortHeader k)) source out err s u (inr h) t =
+    line_or_memory (RanRead a source out err) status.BadCapture (bad_line (fault.ShortHeader k)) err s (λ g. inl (fault.ShortHeader k, tt, h, (u, g))) (λ g. (u, g)) t
+not_read a (refusal.Capture (fault.Magic k)) source out err s u (inl h) t = absurd h
+not_read a (refusal.Capture (fault.Magic k)) source out err s u (inr h) t =
+    line_or_memory (RanRead a source out err) status.BadCapture (bad_line (fault.Magic k)) err s (λ g. inl (fault.Magic k, tt, h, (u, g))) (λ g. (u, g)) t
+not_read a (refusal.Capture (fault.Version i j)) source out err s u (inl h) t = absurd h
+not_read a (refusal.Capture (fault.Version i j)) source out err s u (inr h) t =
+    line_or_memory (RanRead a source out err) status.BadCapture (bad_line (fault.Version i j)) err s (λ g. inl (fault.Version i j, tt, h, (u, g))) (λ g. (u, g)) t
+not_read a (refusal.Capture (fault.Link k)) source out err s u (inl h) t = absurd h
+not_read a (refusal.Capture (fault.Link k)) source out err s u (inr h) t =
+    line_or_memory (RanRead a source out err) status.BadCapture (bad_line (fault.Link k)) err s (λ g. inl (fault.Link k, tt, h, (u, g))) (λ g. (u, g)) t
+not_read a (refusal.Capture (fault.RecordLength i j)) source out err s u (inl h) t = absurd h
+not_read a (refusal.Capture (fault.RecordLength i j)) source out err s u (inr h) t =
+    line_or_memory (RanRead a source out err) status.BadCapture (bad_line (fault.RecordLength i j)) err s (λ g. inl (fault.RecordLength i j, tt, h, (u, g))) (λ g. (u, g)) t
+not_read a (refusal.Pcapng pcapng.NoMemory) source out err s u h t = subst (RanRead a source out err) (sym t.0) (u, t.1)
+not_read a (refusal.Pcapng pcapng.TooManyRecords) source out err s u (inl e) t = absurd (no_memory_told pcapng.TooManyRecords refl e)
+not_read a (refusal.Pcapng pcapng.TooManyRecords) source out err s u (inr h) t = subst (RanRead a source out err) (sym t.0) (inr (inr (h, (u, t.1))))
+not_read a (refusal.Pcapng (pcapng.ShortSection k)) source out err s u (inl e) t = absurd (no_memory_told (pcapng.ShortSection k) refl e)
+not_read a (refusal.Pcapng (pcapng.ShortSection k)) source out err s u (inr h) t =
+    line_or_memory (RanRead a source out err) status.BadCapture (pcapng_line (pcapng.ShortSection k)) err s (λ g. inr (pcapng.ShortSection k, tt, h, (u, g))) (λ g. (u, g)) t
+not_read a (refusal.Pcapng (pcapng.Magic i k)) source out err s u (inl e) t = absurd (no_memory_told (pcapng.Magic i k) refl e)
+not_read a (refusal.Pcapng (pcapng.Magic i k)) source out err s u (inr h) t =
+    line_or_memory (RanRead a source out err) status.BadCapture (pcapng_line (pcapng.Magic i k)) err s (λ g. inr (pcapng.Magic i k, tt, h, (u, g))) (λ g. (u, g)) t
+not_read a (refusal.Pcapng (pcapng.BlockLength i k)) source out err s u (inl e) t = absurd (no_memory_told (pcapng.BlockLength i k) refl e)
+not_read a (refusal.Pcapng (pcapng.BlockLength i k)) source out err s u (inr h) t =
+    line_or_memory (RanRead a source out err) status.BadCapture (pcapng_line (pcapng.BlockLength i k)) err s (λ g. inr (pcapng.BlockLength i k, tt, h, (u, g))) (λ g. (u, g)) t
+not_read a (refusal.Pcapng (pcapng.EndLength i k)) source out err s u (inl e) t = absurd (no_memory_told (pcapng.EndLength i k) refl e)
+not_read a (refusal.Pcapng (pcapng.EndLength i k)) source out err s u (inr h) t =
+    line_or_memory (RanRead a source out err) status.BadCapture (pcapng_line (pcapng.EndLength i k)) err s (λ g. inr (pcapng.EndLength i k, tt, h, (u, g))) (λ g. (u, g)) t
+not_read a (refusal.Pcapng (pcapng.Version i j k)) source out err s u (inl e) t = absurd (no_memory_told (pcapng.Version i j k) refl e)
+not_read a (refusal.Pcapng (pcapng.Version i j k)) source out err s u (inr h) t =
+    line_or_memory (RanRead a source out err) status.BadCapture (pcapng_line (pcapng.Version i j k)) err s (λ g. inr (pcapng.Version i j k, tt, h, (u, g))) (λ g. (u, g)) t
+not_read a (refusal.Pcapng (pcapng.Link i k)) source out err s u (inl e) t = absurd (no_memory_told (pcapng.Link i k) refl e)
+not_read a (refusal.Pcapng (pcapng.Link i k)) source out err s u (inr h) t =
+    line_or_memory (RanRead a source out err) status.BadCapture (pcapng_line (pcapng.Link i k)) err s (λ g. inr (pcapng.Link i k, tt, h, (u, g))) (λ g. (u, g)) t
+not_read a (refusal.Pcapng (pcapng.MixedLink i k)) source out err s u (inl e) t = absurd (no_memory_told (pcapng.MixedLink i k) refl e)
+not_read a (refusal.Pcapng (pcapng.MixedLink i k)) source out err s u (inr h) t =
+    line_or_memory (RanRead a source out err) status.BadCapture (pcapng_line (pcapng.MixedLink i k)) err s (λ g. inr (pcapng.MixedLink i k, tt, h, (u, g))) (λ g. (u, g)) t
+not_read a (refusal.Pcapng (pcapng.NoInterface i k)) source out err s u (inl e) t = absurd (no_memory_told (pcapng.NoInterface i k) refl e)
+not_read a (refusal.Pcapng (pcapng.NoInterface i k)) source out err s u (inr h) t =
+    line_or_memory (RanRead a source out err) status.BadCapture (pcapng_line (pcapng.NoInterface i k)) err s (λ g. inr (pcapng.NoInterface i k, tt, h, (u, g))) (λ g. (u, g)) t
+not_read a (refusal.Pcapng (pcapng.PacketLength i k)) source out err s u (inl e) t = absurd (no_memory_told (pcapng.PacketLength i k) refl e)
+not_read a (refusal.Pcapng (pcapng.PacketLength i k)) source out err s u (inr h) t =
+    line_or_memory (RanRead a source out err) status.BadCapture (pcapng_line (pcapng.PacketLength i k)) err s (λ g. inr (pcapng.PacketLength i k, tt, h, (u, g))) (λ g. (u, g)) t
 not_read a (refusal.NoConnection c conns) source out err s u h t =
     let IsFirst : ℕ → Type 0 = λ n. IsFirstMissing n c a.calls in
     let Gets : ℕ → Type 0 = λ n. GetsLine err (missing_line c n) in
@@ -68,6 +122,17 @@ has_read source err (refusal.Capture (fault.Magic k)) s c f t = by_line source e
 has_read source err (refusal.Capture (fault.Version i j)) s c f t = by_line source err status.BadCapture s (bad_line (fault.Version i j)) (c, f) (c, f) t
 has_read source err (refusal.Capture (fault.Link k)) s c f t = by_line source err status.BadCapture s (bad_line (fault.Link k)) (c, f) (c, f) t
 has_read source err (refusal.Capture (fault.RecordLength i j)) s c f t = by_line source err status.BadCapture s (bad_line (fault.RecordLength i j)) (c, f) (c, f) t
+has_read source err (refusal.Pcapng pcapng.NoMemory) s c f t = subst (HasRead source) (sym t.0) (c, f)
+has_read source err (refusal.Pcapng pcapng.TooManyRecords) s c f t = subst (HasRead source) (sym t.0) (c, f)
+has_read source err (refusal.Pcapng (pcapng.ShortSection k)) s c f t = by_line source err status.BadCapture s (pcapng_line (pcapng.ShortSection k)) (c, f) (c, f) t
+has_read source err (refusal.Pcapng (pcapng.Magic i k)) s c f t = by_line source err status.BadCapture s (pcapng_line (pcapng.Magic i k)) (c, f) (c, f) t
+has_read source err (refusal.Pcapng (pcapng.BlockLength i k)) s c f t = by_line source err status.BadCapture s (pcapng_line (pcapng.BlockLength i k)) (c, f) (c, f) t
+has_read source err (refusal.Pcapng (pcapng.EndLength i k)) s c f t = by_line source err status.BadCapture s (pcapng_line (pcapng.EndLength i k)) (c, f) (c, f) t
+has_read source err (refusal.Pcapng (pcapng.Version i j k)) s c f t = by_line source err status.BadCapture s (pcapng_line (pcapng.Version i j k)) (c, f) (c, f) t
+has_read source err (refusal.Pcapng (pcapng.Link i k)) s c f t = by_line source err status.BadCapture s (pcapng_line (pcapng.Link i k)) (c, f) (c, f) t
+has_read source err (refusal.Pcapng (pcapng.MixedLink i k)) s c f t = by_line source err status.BadCapture s (pcapng_line (pcapng.MixedLink i k)) (c, f) (c, f) t
+has_read source err (refusal.Pcapng (pcapng.NoInterface i k)) s c f t = by_line source err status.BadCapture s (pcapng_line (pcapng.NoInterface i k)) (c, f) (c, f) t
+has_read source err (refusal.Pcapng (pcapng.PacketLength i k)) s c f t = by_line source err status.BadCapture s (pcapng_line (pcapng.PacketLength i k)) (c, f) (c, f) t
 has_read source err (refusal.NoConnection k conns) s c f t = by_line source err status.NoConnection s (missing_line k conns) (c, f) (c, f) t
 
 not_written : (number : Option ℕ) (a : Asked) (why : Refusal) (source out err : End) (s : Status) → IsUntouched out → FailsBy number a source why → Told why err s → RanBy number a source out err s

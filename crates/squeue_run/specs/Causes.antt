@@ -3,15 +3,17 @@ use Rattle.std.specs.Prelude.{◌≡◌, ℕ, List, Option, Some, None, ◌⊎�
 use Rattle.sq_base.specs.Ends.{Rose}
 use Rattle.sq_base.specs.declared.kinds.Status.{Status}
 use Rattle.sq_base.specs.declared.kinds.Status.TheVariants as status
-use Rattle.capture_reader.specs.Outcome.{CaptureFile, ReadFails}
+use Rattle.capture_reader.specs.Outcome.{CaptureFile, BytesFail}
 use Rattle.capture_reader.specs.declared.fault.CaptureFault.TheVariants as fault
+use Rattle.pcapng_reader.specs.declared.fault.PcapngFault.TheVariants as pcapng
 use Rattle.squeue_run.specs.Asked.{Asked}
 use Rattle.squeue_run.specs.CallWords.{AllThere, IsFirstMissing}
 use Rattle.squeue_run.specs.declared.calls.CallWord.{CallWord}
 use Rattle.squeue_run.specs.declared.reading.Words.{Words}
 use Rattle.squeue_run.specs.declared.refusal.Refusal.{Refusal}
 use Rattle.squeue_run.specs.declared.refusal.Refusal.TheVariants as refusal
-use Rattle.squeue_run.specs.Lines.{usage_line, memory_line, read_line, bad_line, many_bytes_line, many_records_line, missing_line}
+use Rattle.squeue_run.specs.Lines.{usage_line, memory_line, read_line, bad_line, pcapng_line, many_bytes_line, many_records_line, missing_line}
+use Rattle.squeue_run.specs.Input.{IsInput, IsRefusedCapture, IsRefusedPcapng, ReadsSuch}
 use Rattle.squeue_run.specs.Output.{IsReport, IsSummary}
 use Rattle.squeue_run.specs.Ran.{End, GetsLine, IsUntouched, MetNoFault, Reads, TakesFew, conns_of}
 
@@ -31,6 +33,17 @@ Told (refusal.Capture (fault.Magic magic)) err s = LineOrMemory status.BadCaptur
 Told (refusal.Capture (fault.Version major minor)) err s = LineOrMemory status.BadCapture (bad_line (fault.Version major minor)) err s
 Told (refusal.Capture (fault.Link n)) err s = LineOrMemory status.BadCapture (bad_line (fault.Link n)) err s
 Told (refusal.Capture (fault.RecordLength index len)) err s = LineOrMemory status.BadCapture (bad_line (fault.RecordLength index len)) err s
+Told (refusal.Pcapng pcapng.NoMemory) err s = (s ≡ status.NoMemory) × GetsLine err memory_line
+Told (refusal.Pcapng pcapng.TooManyRecords) err s = (s ≡ status.TooLarge) × GetsLine err many_records_line
+Told (refusal.Pcapng (pcapng.ShortSection n)) err s = LineOrMemory status.BadCapture (pcapng_line (pcapng.ShortSection n)) err s
+Told (refusal.Pcapng (pcapng.Magic i found)) err s = LineOrMemory status.BadCapture (pcapng_line (pcapng.Magic i found)) err s
+Told (refusal.Pcapng (pcapng.BlockLength i n)) err s = LineOrMemory status.BadCapture (pcapng_line (pcapng.BlockLength i n)) err s
+Told (refusal.Pcapng (pcapng.EndLength i n)) err s = LineOrMemory status.BadCapture (pcapng_line (pcapng.EndLength i n)) err s
+Told (refusal.Pcapng (pcapng.Version i major minor)) err s = LineOrMemory status.BadCapture (pcapng_line (pcapng.Version i major minor)) err s
+Told (refusal.Pcapng (pcapng.Link i n)) err s = LineOrMemory status.BadCapture (pcapng_line (pcapng.Link i n)) err s
+Told (refusal.Pcapng (pcapng.MixedLink i n)) err s = LineOrMemory status.BadCapture (pcapng_line (pcapng.MixedLink i n)) err s
+Told (refusal.Pcapng (pcapng.NoInterface i n)) err s = LineOrMemory status.BadCapture (pcapng_line (pcapng.NoInterface i n)) err s
+Told (refusal.Pcapng (pcapng.PacketLength i n)) err s = LineOrMemory status.BadCapture (pcapng_line (pcapng.PacketLength i n)) err s
 Told (refusal.NoConnection c conns) err s = LineOrMemory status.NoConnection (missing_line c conns) err s
 
 -- what the words ask, from what the program holds of them
@@ -45,6 +58,7 @@ abbrev pub ReplayFails : CaptureFile → Asked → Refusal → Type 0
 ReplayFails file a refusal.NoMemory = Unit {0}
 ReplayFails file a refusal.Usage = ⊥
 ReplayFails file a (refusal.Capture f) = ⊥
+ReplayFails file a (refusal.Pcapng f) = ⊥
 ReplayFails file a (refusal.NoConnection c conns) = (conns ≡ conns_of file a.verify) × IsFirstMissing conns c a.calls
 
 -- why a generated run gives nothing
@@ -52,13 +66,23 @@ abbrev pub GeneratedFails : Refusal → Type 0
 GeneratedFails refusal.NoMemory = Unit {0}
 GeneratedFails refusal.Usage = ⊥
 GeneratedFails (refusal.Capture f) = f ≡ fault.NoMemory
+GeneratedFails (refusal.Pcapng f) = ⊥
 GeneratedFails (refusal.NoConnection c conns) = ⊥
+
+-- why bytes within the size are no capture
+abbrev pub InputFails : List ℕ → Refusal → Type 0
+InputFails bytes refusal.NoMemory = Unit {0}
+InputFails bytes refusal.Usage = ⊥
+InputFails bytes (refusal.Capture f) = (f ≡ fault.NoMemory) ⊎ IsRefusedCapture f bytes
+InputFails bytes (refusal.Pcapng f) = (f ≡ pcapng.NoMemory) ⊎ IsRefusedPcapng f bytes
+InputFails bytes (refusal.NoConnection c conns) = ⊥
 
 -- why an input that is read gives nothing
 abbrev pub ReadingFails : Asked → End → Refusal → Type 0
 ReadingFails a source refusal.NoMemory = Unit {0}
 ReadingFails a source refusal.Usage = ⊥
-ReadingFails a source (refusal.Capture f) = ReadFails source.was source.is f
+ReadingFails a source (refusal.Capture f) = BytesFail source.was source.is f ⊎ ReadsSuch (IsRefusedCapture f) source.was source.is
+ReadingFails a source (refusal.Pcapng f) = (f ≡ pcapng.NoMemory) ⊎ ReadsSuch (IsRefusedPcapng f) source.was source.is
 ReadingFails a source (refusal.NoConnection c conns) = (file : CaptureFile) × Reads source file × ReplayFails file a (refusal.NoConnection c conns)
 
 -- the source's count rose exactly where a read fault is the cause
@@ -84,6 +108,7 @@ abbrev pub RefusedWords : Refusal → Type 0
 RefusedWords refusal.NoMemory = Unit {0}
 RefusedWords refusal.Usage = Unit {0}
 RefusedWords (refusal.Capture f) = ⊥
+RefusedWords (refusal.Pcapng f) = ⊥
 RefusedWords (refusal.NoConnection c conns) = ⊥
 
 abbrev pub Fails : Option Asked → End → Refusal → Type 0

@@ -1,3 +1,4 @@
+pub mod Input
 pub mod Command
 pub mod Words
 pub mod Asked

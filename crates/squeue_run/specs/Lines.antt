@@ -4,6 +4,8 @@ use Rattle.std.specs.Fmt.{decimal}
 use Rattle.hex.specs.Hex.{encode_lower}
 use Rattle.capture_reader.specs.declared.fault.CaptureFault.{CaptureFault}
 use Rattle.capture_reader.specs.declared.fault.CaptureFault.TheVariants as fault
+use Rattle.pcapng_reader.specs.declared.fault.PcapngFault.{PcapngFault}
+use Rattle.pcapng_reader.specs.declared.fault.PcapngFault.TheVariants as pcapng
 
 -- a line
 abbrev pub line : List ℕ → List ℕ
@@ -38,6 +40,21 @@ bad_line fault.TooManyRecords = []
 bad_line (fault.TooLarge n) = []
 bad_line fault.Read = []
 bad_line fault.NoMemory = []
+
+-- the line of a bad pcapng file; the other faults have lines of their own
+unfoldable pub pcapng_line : PcapngFault → List ℕ
+pcapng_line (pcapng.ShortSection n) = codes "sqrun: bad capture: pcapng short section of " ++ (decimal n ++ line (codes " bytes"))
+pcapng_line (pcapng.Magic index found) = codes "sqrun: bad capture: pcapng magic " ++ (encode_lower found ++ (codes " in block " ++ (decimal index ++ line [])))
+pcapng_line (pcapng.BlockLength index len) = codes "sqrun: bad capture: pcapng block " ++ (decimal index ++ (codes " has length " ++ (decimal len ++ line [])))
+pcapng_line (pcapng.EndLength index len) = codes "sqrun: bad capture: pcapng block " ++ (decimal index ++ (codes " ends with length " ++ (decimal len ++ line [])))
+pcapng_line (pcapng.Version index major minor) =
+    codes "sqrun: bad capture: pcapng version " ++ (decimal major ++ (codes "." ++ (decimal minor ++ (codes " in block " ++ (decimal index ++ line [])))))
+pcapng_line (pcapng.Link index link) = codes "sqrun: bad capture: pcapng link type " ++ (decimal link ++ (codes " in block " ++ (decimal index ++ line [])))
+pcapng_line (pcapng.MixedLink index link) = codes "sqrun: bad capture: pcapng second link type " ++ (decimal link ++ (codes " in block " ++ (decimal index ++ line [])))
+pcapng_line (pcapng.NoInterface index id) = codes "sqrun: bad capture: pcapng interface " ++ (decimal id ++ (codes " in block " ++ (decimal index ++ line [])))
+pcapng_line (pcapng.PacketLength index len) = codes "sqrun: bad capture: pcapng packet of " ++ (decimal len ++ (codes " bytes in block " ++ (decimal index ++ line [])))
+pcapng_line pcapng.TooManyRecords = []
+pcapng_line pcapng.NoMemory = []
 
 -- the line of a CALL on connection c of n
 unfoldable pub missing_line : ℕ → ℕ → List ℕ

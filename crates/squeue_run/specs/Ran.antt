@@ -5,14 +5,17 @@ use Rattle.sq_base.specs.Ends.{Rose, AppendsProperly}
 use Rattle.sq_base.specs.declared.kinds.Status.{Status}
 use Rattle.sq_base.specs.declared.kinds.Status.TheVariants as status
 use Rattle.capture_reader.specs.Limits.{most_taken}
-use Rattle.capture_reader.specs.Outcome.{CaptureFile, IsCapture, ReadsWhole, ReadsRefused, Takes, TakesTooMany}
+use Rattle.capture_reader.specs.Outcome.{CaptureFile, ReadsWhole, Takes, TakesTooMany}
 use Rattle.capture_reader.specs.declared.fault.CaptureFault.{CaptureFault}
 use Rattle.capture_reader.specs.declared.fault.CaptureFault.TheVariants as fault
+use Rattle.pcapng_reader.specs.declared.fault.PcapngFault.{PcapngFault}
+use Rattle.pcapng_reader.specs.declared.fault.PcapngFault.TheVariants as pcapng
 use Rattle.conn_classifier.specs.Plan.{plan_of}
 use Rattle.squeue_run.specs.Asked.{Asked}
 use Rattle.squeue_run.specs.CallWords.{AllThere, IsFirstMissing}
+use Rattle.squeue_run.specs.Input.{IsInput, IsRefusedCapture, IsRefusedPcapng, ReadsSuch}
 use Rattle.squeue_run.specs.Output.{IsReport, IsSummary}
-use Rattle.squeue_run.specs.Lines.{usage_line, memory_line, read_line, write_line, bad_line, many_bytes_line, many_records_line, missing_line}
+use Rattle.squeue_run.specs.Lines.{usage_line, memory_line, read_line, write_line, bad_line, pcapng_line, many_bytes_line, many_records_line, missing_line}
 
 -- an end before and after the call: its bytes, where they are known, and its count of faults
 pub record End : Type 0 where
@@ -63,7 +66,7 @@ TakesFew source = Takes (λ n. n ≤ most_taken) source.was source.is
 -- the source was read to its end: this capture, within the size
 pub record Reads (source : End) (file : CaptureFile) : Type 0 where
   pub read : ReadsWhole source.was source.is file.bytes
-  pub capture : IsCapture file
+  pub capture : IsInput file
 
 -- which refusals of a capture are a bad one
 abbrev pub IsBad : CaptureFault → Type 0
@@ -76,6 +79,12 @@ IsBad fault.TooManyRecords = ⊥
 IsBad (fault.TooLarge n) = ⊥
 IsBad fault.Read = ⊥
 IsBad fault.NoMemory = ⊥
+
+-- and which of a pcapng file
+abbrev pub IsBadPcapng : PcapngFault → Type 0
+IsBadPcapng pcapng.NoMemory = ⊥
+IsBadPcapng pcapng.TooManyRecords = ⊥
+IsBadPcapng _ = Unit {0}
 
 -- At a read fault, and only there, a read failed. However the run ended, few bytes were taken.
 abbrev pub HasRead : End → Status → Type 0
@@ -107,10 +116,13 @@ RanRead a source out err status.WriteFault =
     (file : CaptureFile) × Reads source file × AllThere (conns_of file a.verify) a.calls × GetsFront (IsReport file a.verify a.calls) out × GetsLine err write_line
 RanRead a source out err status.NoConnection =
     (file : CaptureFile) × Reads source file × ((c : ℕ) × IsFirstMissing (conns_of file a.verify) c a.calls × OnlyTells out err (missing_line c (conns_of file a.verify)))
-RanRead a source out err status.BadCapture = (why : CaptureFault) × IsBad why × ReadsRefused source.was source.is why × OnlyTells out err (bad_line why)
+RanRead a source out err status.BadCapture =
+    ((why : CaptureFault) × IsBad why × ReadsSuch (IsRefusedCapture why) source.was source.is × OnlyTells out err (bad_line why))
+    ⊎ ((why : PcapngFault) × IsBadPcapng why × ReadsSuch (IsRefusedPcapng why) source.was source.is × OnlyTells out err (pcapng_line why))
 RanRead a source out err status.TooLarge =
     (TakesTooMany source.was source.is × OnlyTells out err many_bytes_line)
-    ⊎ (ReadsRefused source.was source.is fault.TooManyRecords × OnlyTells out err many_records_line)
+    ⊎ (ReadsSuch (IsRefusedCapture fault.TooManyRecords) source.was source.is × OnlyTells out err many_records_line)
+    ⊎ (ReadsSuch (IsRefusedPcapng pcapng.TooManyRecords) source.was source.is × OnlyTells out err many_records_line)
 RanRead a source out err status.ReadFault = OnlyTells out err read_line
 RanRead a source out err status.NoMemory = OnlyTells out err memory_line
 RanRead a source out err status.Usage = ⊥
@@ -128,7 +140,7 @@ Ran (Some a) source out err s = RanBy a.number a source out err s
 pub record HoldsCapture (a : Asked) (left : Option (List ℕ)) : Type 0 where
   pub file : CaptureFile
   pub bytes : left ≡ Some file.bytes
-  pub capture : IsCapture file
+  pub capture : IsInput file
   pub there : AllThere (conns_of file a.verify) a.calls
 
 abbrev pub AcceptsBy : Option ℕ → Asked → Option (List ℕ) → Type 0

@@ -3,10 +3,11 @@
 ghost use Rattle.std.specs.Prelude.{◌≡◌, IfOk, string_bytes};
 ghost use Rattle.std.specs.Io.KnownBytes.{Appends};
 ghost use Rattle.sq_base.specs.Ends.{Rose};
-ghost use Rattle.squeue_run.specs.Lines.{bad_line, missing_line};
-ghost use Rattle.squeue_run.specs.Ran.{IsBad};
+ghost use Rattle.squeue_run.specs.Lines.{bad_line, pcapng_line, missing_line};
+ghost use Rattle.squeue_run.specs.Ran.{IsBad, IsBadPcapng};
 
 use capture_reader::CaptureFault;
+use pcapng_reader::PcapngFault;
 use sq_base::{Sink, put};
 use std::alloc::{AllocError, Global};
 
@@ -43,6 +44,53 @@ pub fn bad_capture(alloc: Global, fault: &CaptureFault) -> Result<String, AllocE
         CaptureFault::Link(n) => format!(in alloc; "sqrun: bad capture: link type {n}\n"),
         CaptureFault::RecordLength { index, len } => {
             format!(in alloc; "sqrun: bad capture: record {index} has length {len}\n")
+        }
+        _ => unreachable!(),
+    }
+}
+
+/// The line of a bad pcapng file.
+#[tactic(auto, unfolding(crate::specs::Lines::pcapng_line))]
+pub fn bad_pcapng(alloc: Global, fault: &PcapngFault) -> Result<String, AllocError>
+    requires { IsBadPcapng fault.now }
+    ensures { IfOk result (λ text. string_bytes text ≡ pcapng_line fault.now) }
+{
+    match fault {
+        PcapngFault::ShortSection(n) => {
+            format!(in alloc; "sqrun: bad capture: pcapng short section of {n} bytes\n")
+        }
+        PcapngFault::Magic { index, found } => {
+            let digits = hex::encode(alloc, found.as_slice())?;
+            format!(in alloc; "sqrun: bad capture: pcapng magic {digits} in block {index}\n")
+        }
+        PcapngFault::BlockLength { index, len } => {
+            format!(in alloc; "sqrun: bad capture: pcapng block {index} has length {len}\n")
+        }
+        PcapngFault::EndLength { index, len } => {
+            format!(in alloc; "sqrun: bad capture: pcapng block {index} ends with length {len}\n")
+        }
+        PcapngFault::Version {
+            index,
+            major,
+            minor,
+        } => {
+            format!(in alloc;
+                "sqrun: bad capture: pcapng version {major}.{minor} in block {index}\n"
+            )
+        }
+        PcapngFault::Link { index, link } => {
+            format!(in alloc; "sqrun: bad capture: pcapng link type {link} in block {index}\n")
+        }
+        PcapngFault::MixedLink { index, link } => {
+            format!(in alloc;
+                "sqrun: bad capture: pcapng second link type {link} in block {index}\n"
+            )
+        }
+        PcapngFault::NoInterface { index, id } => {
+            format!(in alloc; "sqrun: bad capture: pcapng interface {id} in block {index}\n")
+        }
+        PcapngFault::PacketLength { index, len } => {
+            format!(in alloc; "sqrun: bad capture: pcapng packet of {len} bytes in block {index}\n")
         }
         _ => unreachable!(),
     }

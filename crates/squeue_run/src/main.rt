@@ -1,7 +1,7 @@
 //! `sqrun`: replays a capture from standard input, and writes per connection every segment that the serving side sends.
 //!
-//! `words`, `command`, `numbers`, `calls` and `reading` read the command line, `generator` makes an input from a number, `run` is the
-//! top call, `lines` has what is written where there is no report. The real ends stand in `main` alone.
+//! `words`, `command`, `numbers`, `calls` and `reading` read the command line, `input` tells the forms of a capture apart, `generator` makes an input from a
+//! number, `run` is the top call, `lines` has what is written where there is no report. The real ends stand in `main` alone.
 #![tactic(auto)]
 
 ghost use Rattle.std.specs.Prelude.{◌≡◌};
@@ -11,6 +11,7 @@ ghost use Rattle.sq_base.specs.StatusCode.{code_of};
 mod calls;
 mod command;
 mod generator;
+mod input;
 mod lines;
 mod numbers;
 mod reading;

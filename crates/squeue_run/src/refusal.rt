@@ -8,9 +8,11 @@ ghost use Rattle.squeue_run.specs.Causes.{Told};
 ghost use Rattle.squeue_run.specs.Ran.{end_of};
 
 use crate::lines::{
-    MANY_BYTES, MANY_RECORDS, NO_MEMORY, READ_FAULT, USAGE, bad_capture, no_connection, tell,
+    MANY_BYTES, MANY_RECORDS, NO_MEMORY, READ_FAULT, USAGE, bad_capture, bad_pcapng, no_connection,
+    tell,
 };
 use capture_reader::CaptureFault;
+use pcapng_reader::PcapngFault;
 use sq_base::{Sink, Status};
 use std::alloc::{AllocError, Global};
 
@@ -20,6 +22,7 @@ pub enum Refusal {
     NoMemory,
     Usage,
     Capture(CaptureFault),
+    Pcapng(PcapngFault),
     /// A CALL on connection `c` of `conns`.
     NoConnection { c: u32, conns: u32 },
 }
@@ -40,15 +43,17 @@ pub fn refuse<E: Sink>(alloc: Global, err: &mut E, refusal: &Refusal) -> Status
 {
     match refusal {
         Refusal::Usage => told(err, USAGE, Status::Usage),
-        Refusal::NoMemory | Refusal::Capture(CaptureFault::NoMemory) => {
-            told(err, NO_MEMORY, Status::NoMemory)
-        }
+        Refusal::NoMemory
+        | Refusal::Capture(CaptureFault::NoMemory)
+        | Refusal::Pcapng(PcapngFault::NoMemory) => told(err, NO_MEMORY, Status::NoMemory),
         Refusal::Capture(CaptureFault::Read) => told(err, READ_FAULT, Status::ReadFault),
         Refusal::Capture(CaptureFault::TooLarge(_)) => told(err, MANY_BYTES, Status::TooLarge),
-        Refusal::Capture(CaptureFault::TooManyRecords) => {
+        Refusal::Capture(CaptureFault::TooManyRecords)
+        | Refusal::Pcapng(PcapngFault::TooManyRecords) => {
             told(err, MANY_RECORDS, Status::TooLarge)
         }
         Refusal::Capture(fault) => { told_line(err, bad_capture(alloc, fault), Status::BadCapture) }
+        Refusal::Pcapng(fault) => told_line(err, bad_pcapng(alloc, fault), Status::BadCapture),
         Refusal::NoConnection { c, conns } => {
             told_line(err, no_connection(alloc, *c, *conns), Status::NoConnection)
         }

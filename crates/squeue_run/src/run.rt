@@ -11,11 +11,12 @@ ghost use Rattle.squeue_run.specs.Causes.{Gives, Fails, GivesBy, FailsBy, Replay
 
 use crate::calls::CallWord;
 use crate::generator::generate;
+use crate::input::captured;
 use crate::lines::{WRITE_FAULT, tell};
 use crate::reading::{Words, read_words};
 use crate::refusal::{Refusal, refuse};
 use crate::words::WordFault;
-use capture_reader::{Capture, parse_capture, read_capture};
+use capture_reader::{Capture, parse_capture, read_bytes};
 use conn_blocks::Calls;
 use conn_classifier::plan;
 use ring_threads::serve_plain;
@@ -103,8 +104,11 @@ fn output_for<S: Source>(
 {
     match words.number {
         Some(number) => generated(rt, alloc, words, number),
-        None => match read_capture(alloc, src) {
-            Ok(capture) => replayed(rt, alloc, words, &capture),
+        None => match read_bytes(alloc, src) {
+            Ok(bytes) => {
+                let capture = captured(alloc, bytes)?;
+                replayed(rt, alloc, words, &capture)
+            }
             Err(fault) => Err(Refusal::Capture(fault)),
         },
     }

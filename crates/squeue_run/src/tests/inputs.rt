@@ -1,4 +1,4 @@
-use crate::tests::{FIVE, HEADER, capture, expect, front, ran};
+use crate::tests::{FIVE, FIVE_REPORT, HEADER, capture, expect, front, ran};
 use sq_base::Status;
 use std::alloc::Global;
 use std::test::Fail;
@@ -222,6 +222,68 @@ fn every_front_of_five_segments(rt: HostRuntime) -> Result<(), Fail> {
             "{len} bytes"
         );
         assert!(rt; ran.out.bytes().ends_with(end.as_bytes()), "{len} bytes");
+    }
+    Ok(())
+}
+
+/// The five segments in pcapng, block by block: a section header, an interface, and five packets.
+const IN_PCAPNG: [&str; 7] = [
+    "0a0d0d0a1c0000004d3c2b1a01000000ffffffffffffffff1c000000",
+    "0100000014000000650000000000040014000000",
+    "060000004800000000000000000000000000000028000000280000004500002800004000400600000a0000010a0000020fa000070000006400000000500210000000000048000000",
+    "06000000480000000000000000000000e803000028000000280000004500002800004000400600000a0000010a0000020fa0000700000065000001f5501010000000000048000000",
+    "06000000500000000000000000000000d00700002d0000002d0000004500002d00004000400600000a0000010a0000020fa0000700000065000001f5501810000000000068656c6c6f00000050000000",
+    "06000000480000000000000000000000b80b000028000000280000004500002800004000400600000a0000010a0000020fa000070000006a000001fa501110000000000048000000",
+    "06000000480000000000000000000000a00f000028000000280000004500002800004000400600000a0000010a0000020fa000070000006b000001fb501010000000000048000000",
+];
+
+/// A second interface, of Ethernet.
+const SECOND_INTERFACE: &str = "0100000014000000010000000000040014000000";
+
+#[test]
+fn pcapng_five_segment_echo(rt: HostRuntime) -> Result<(), Fail> {
+    let whole = from_hex(rt.alloc(), &IN_PCAPNG)?;
+    let [section, interface, packet, ..] = IN_PCAPNG;
+    let unnamed = from_hex(rt.alloc(), &[section, packet])?;
+    let mixed = from_hex(rt.alloc(), &[section, interface, SECOND_INTERFACE])?;
+    let table = [
+        (whole.as_slice(), Status::Ok, FIVE_REPORT.as_slice(), None),
+        (
+            front(whole.as_slice(), 415),
+            Status::Ok,
+            CUT_REPORT.as_slice(),
+            None,
+        ),
+        (
+            front(whole.as_slice(), 27),
+            Status::BadCapture,
+            &[],
+            Some("sqrun: bad capture: pcapng short section of 27 bytes"),
+        ),
+        (
+            unnamed.as_slice(),
+            Status::BadCapture,
+            &[],
+            Some("sqrun: bad capture: pcapng interface 0 in block 1"),
+        ),
+        (
+            mixed.as_slice(),
+            Status::BadCapture,
+            &[],
+            Some("sqrun: bad capture: pcapng second link type 1 in block 2"),
+        ),
+    ];
+    for (input, status, out, told) in table {
+        let ran = ran(&rt, rt.alloc(), "", input)?;
+        expect(
+            &rt,
+            rt.alloc(),
+            "pcapng",
+            &ran,
+            status,
+            out,
+            told.as_slice(),
+        )?;
     }
     Ok(())
 }
