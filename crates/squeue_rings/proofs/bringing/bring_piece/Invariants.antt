@@ -1,0 +1,17 @@
+use Rattle.std.proofs.Common.{◌≡◌, ◌++◌, ℕ, List, length}
+use Rattle.perimeter_core.specs.declared.entries.Feed.{Feed}
+use Rattle.squeue_rings.specs.Bringing.{AreAt, IsReady}
+use Rattle.squeue_rings.proofs.bringing.bring_piece.Given as goal
+
+abbrev pub invariant-loop-rest : goal.invariant-loop-rest
+invariant-loop-rest g l =
+    record {
+      front : List Feed;
+      is : l.fn.piece ≡ front ++ l.rest;
+      at : (r : ℕ) (list done behind : List Feed) → IsReady g.R.Resident.limits l.pace.homes.squeues l.pace.homes.spread r list l.squeues done l.fn.piece behind l.fn.places.items
+          → AreAt g.R.Resident.limits l.pace.homes.squeues l.pace.homes.spread r l.squeues (done ++ front) (done ++ front) l.places.items;
+      polling : length l.polling.items ≡ l.pace.homes.squeues;
+    }
+
+abbrev pub decreases-loop-rest : goal.decreases-loop-rest
+decreases-loop-rest g l = length l.rest

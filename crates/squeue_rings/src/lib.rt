@@ -1,0 +1,14 @@
+//! A ring over several squeues: where its connections are at home, and how their feeds come there.
+//!
+//! A ring takes the places of its feeds from its receive ring, and enters each feed at the squeue where its connection is at home.
+//! Before a feed whose home is another one than that of the feed before, it moves the connection. `homes` says where a feed is
+//! at home, `bringing` what a ring does. It serves any resident.
+#![tactic(auto)]
+
+mod bringing;
+mod homes;
+mod places;
+
+pub use bringing::{Pace, bring_all, bring_piece};
+pub use homes::Homes;
+pub use places::{put_at, take_at};
