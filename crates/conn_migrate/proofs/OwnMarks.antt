@@ -94,6 +94,12 @@ tells_in_of p c d note other =
     let e : (c == d) ≡ false = grind (arith, nat_tests) in
     record { feeds = none_count (p == p); asks_made = none_count (p == p); is_here_now = λ b. rw e refl; next_feed = λ n. rw e (omega arith); left = refl }
 
+tells_call : (p c j k d : ℕ) (note : List Act) → Tells p d 0 0 (λ b. b) (λ n. n) (gone p 0 (Done.Call c j k) note ∷ [])
+tells_call p c j k d note = record { feeds = none_count (p == p); asks_made = none_count (p == p); is_here_now = λ b. refl; next_feed = λ n. omega arith; left = refl }
+
+tells_away : (p d : ℕ) (note : List Act) → Tells p d 0 0 (λ b. b) (λ n. n) (gone p 0 Done.Away note ∷ [])
+tells_away p d note = record { feeds = none_count (p == p); asks_made = none_count (p == p); is_here_now = λ b. refl; next_feed = λ n. omega arith; left = refl }
+
 module _ {R : Type 0} {limits : R → Limits} {s : Named R} {act : SynchAct} {note : List Act} {from to : Pass Element} (is : IsPassOf number_of s.gate from) (moved : Moved limits s act note from to) where
   abbrev S : Setting
   S = setting_of limits s.given
@@ -161,6 +167,16 @@ module _ {R : Type 0} {limits : R → Limits} {s : Named R} {act : SynchAct} {no
         left = let e = left_now d 0 (λ b. b) (λ n. n) ring t in omega (arith, e);
       }
 
+  -- one Ask more, whatever the act
+  asks_once : Tells (number from) 0 0 0 (λ b. b) (λ n. n) (gone (number from) 0 act note ∷ []) → asks_by (number from) (seen to) ≡ asks_by (number from) (seen from) + 1
+  asks_once t =
+      let all = tells_all 0 0 (λ b. b) (λ n. n) t in
+      let now = own_counts p (seen to) in
+      let before = own_counts p (seen from) in
+      let more = by_append p (made_by p (seen from)) own in
+      let asks : asks_by p (made_by p (seen to)) ≡ asks_by p (made_by p (seen from) ++ own) = ap (asks_by p) made_now in
+      omega (arith, now.1, asks, more.1, before.1, all.asks_made)
+
   knows : (c times : ℕ) (b : Bool) (next : ℕ → ℕ) → number from ≡ c % s.given.rings → Tells (number from) c 0 times (λ x. b) next (gone (number from) 0 act note ∷ [])
       → ((d : ℕ) → d ≢ c → Tells (number from) d 0 0 (λ x. x) (λ n. n) (gone (number from) 0 act note ∷ [])) → RingLearns limits s c b times from to
   knows c times b next ring t others =
@@ -190,3 +206,11 @@ module _ {R : Type 0} {limits : R → Limits} {s : Named R} {c : ℕ} {note : Li
 
   pub next_in : Moved limits s (Done.In c) note from to → due (seen to) c ≡ fed note
   next_in m = next_now is m c 0 (λ b. true) (λ n. fed note) ring (tells_in (number from) c note)
+
+-- a caller asks once for a call, and once where the block is elsewhere
+module _ {R : Type 0} {limits : R → Limits} {s : Named R} {note : List Act} {from to : Pass Element} (is : IsPassOf number_of s.gate from) where
+  pub asks_called : (c j k : ℕ) → Moved limits s (Done.Call c j k) note from to → asks_by (number from) (seen to) ≡ asks_by (number from) (seen from) + 1
+  asks_called c j k moved = asks_once is moved (tells_call (number from) c j k 0 note)
+
+  pub asks_away : Moved limits s Done.Away note from to → asks_by (number from) (seen to) ≡ asks_by (number from) (seen from) + 1
+  asks_away moved = asks_once is moved (tells_away (number from) 0 note)

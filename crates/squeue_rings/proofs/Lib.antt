@@ -5,3 +5,5 @@ pub mod Moving
 pub mod Slots
 pub mod Reaching
 pub mod Running
+pub mod Trying
+pub mod CallersMake

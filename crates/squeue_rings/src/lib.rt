@@ -2,13 +2,16 @@
 //!
 //! A ring takes the places of its feeds from its receive ring, and enters each feed at the squeue where its connection is at home.
 //! Before a feed whose home is another one than that of the feed before, it moves the connection. `homes` says where a feed is
-//! at home, `bringing` what a ring does. It serves any resident.
+//! at home, `bringing` what a ring does; `calling` what an application thread does, which makes each of its calls where its block
+//! is. Both know what they know by the passes that they alone are lent. They serve any resident.
 #![tactic(auto)]
 
 mod bringing;
+mod calling;
 mod homes;
 mod places;
 
 pub use bringing::{Pace, bring_all, bring_piece};
+pub use calling::{make_calls, try_call};
 pub use homes::Homes;
 pub use places::{put_at, take_at};

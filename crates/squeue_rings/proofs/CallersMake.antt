@@ -1,0 +1,64 @@
+-- A caller makes a call, wherever its block is.
+use Rattle.std.proofs.Common.{◌≡◌, ◌≢◌, ℕ, ◌+◌, ◌<◌, ◌≤◌, inl, inr, Bool, true, false, Option, Some, None, List, [], ◌∷◌, ◌++◌, length, slice_get, slice_index_or, slice_set, refl, ap, sym, ◌∙◌, subst, arith}
+use Rattle.std.proofs.lemmas.Bool.{cases_eq}
+use Rattle.turn_gate.specs.History.{Each}
+use Rattle.turn_gate.specs.declared.pass.Pass.{Pass}
+use Rattle.perimeter_core.specs.History.{Element, Limits}
+use Rattle.squeue_state.specs.Naming.{Named}
+use Rattle.squeue_serve.specs.Places.{AtEach, Became, Holds}
+use Rattle.squeue_rings.specs.Calling.{CallerAt, CallersAt, HasTried, MayMake, MayMakeAll, MayTry, TriesAt}
+use Rattle.squeue_rings.proofs.Reaching.{each_at, held, hold}
+use Rattle.squeue_rings.proofs.Slots.{at_got, at_length, at_made, got_at, got_other, got_same, set_length, within}
+use Rattle.squeue_rings.proofs.Trying.{begins, ends, has_made, may_try, still_tries}
+
+module _ {R : Type 0} (limits : R → Limits) (j k : ℕ) (cs : List ℕ) (c : ℕ) (ss : List (Named R)) where
+  abbrev pub Tries : List (Option (Pass Element)) → Type 0
+  Tries places = AtEach (λ s o. Holds (TriesAt limits s j cs c) o) ss places
+
+  pub all_begin : (places : List (Option (Pass Element))) → CallersAt limits j cs ss places → Tries places
+  all_begin places h =
+      at_made (λ s o. Holds (TriesAt limits s j cs c) o) ss places (at_length (λ s o. Holds (CallerAt limits s j cs) o) ss places h)
+      (λ i s o is it. let x = held (CallerAt limits s j cs) o (at_got (λ s o. Holds (CallerAt limits s j cs) o) ss places i s o h is it) in hold (TriesAt limits s j cs c) x.0 o x.1 (begins limits s j cs c x.0 x.2))
+
+  module _ (may : MayMakeAll limits j k cs c ss) (places : List (Option (Pass Element))) (h : Tries places) (q : ℕ) (s : Named R) (o : Option (Pass Element)) (lq : q < length ss) (is : s ≡ slice_index_or ss q s) (it : o ≡ slice_index_or places q o) where
+    lo : q < length places
+    lo = omega (arith, lq, at_length (λ s o. Holds (TriesAt limits s j cs c) o) ss places h)
+
+    there : slice_get ss q ≡ Some s
+    there = got_at ss q s lq is
+
+    x : (x : Pass Element) × (o ≡ Some x) × TriesAt limits s j cs c x
+    x = held (TriesAt limits s j cs c) o (at_got (λ s o. Holds (TriesAt limits s j cs c) o) ss places q s o h there (got_at places q o lo it))
+
+    pub one_may_try : Holds (λ x. MayTry limits s c j k x) o
+    one_may_try = hold (λ x. MayTry limits s c j k x) x.0 o x.1 (may_try limits s j k cs c x.0 (each_at (λ s. MayMake limits s j k cs c) ss q s may there) x.2)
+
+    became : (b : Bool) (n : Option (Pass Element)) → Became (λ x y. HasTried limits s b c j k x y) o n → (y : Pass Element) × (n ≡ Some y) × HasTried limits s b c j k x.0 y
+    became b n h = by n (subst (λ (o : Option (Pass Element)). Became (λ x y. HasTried limits s b c j k x y) o n) x.1 h)
+      where
+        by : (n : Option (Pass Element)) → Became (λ x y. HasTried limits s b c j k x y) (Some x.0) n → (y : Pass Element) × (n ≡ Some y) × HasTried limits s b c j k x.0 y
+        by None h = absurd h
+        by (Some y) h = (y, refl, h)
+
+    changed : (P : Named R → Pass Element → Type 0) (n : Option (Pass Element)) → Holds (P s) n → ((t : Named R) (x : Pass Element) → TriesAt limits t j cs c x → P t x) → AtEach (λ t o. Holds (P t) o) ss (slice_set places q n)
+    changed P n new others =
+        at_made (λ t o. Holds (P t) o) ss (slice_set places q n) (set_length places q n ∙ at_length (λ s o. Holds (TriesAt limits s j cs c) o) ss places h)
+        (λ i t p at got. elim (cases_eq i q) [
+          | inl e ↦
+              let a : t ≡ s = (let d : Some t ≡ Some s = sym at ∙ (ap (slice_get ss) e ∙ there) in cc d) in
+              let b : p ≡ n = (let d : Some p ≡ Some n = sym got ∙ (ap (slice_get (slice_set places q n)) e ∙ got_same places q n lo) in cc d) in
+              subst (λ (t : Named R). Holds (P t) p) (sym a) (subst (Holds (P s)) (sym b) new)
+          | inr apart ↦
+              let u = held (TriesAt limits t j cs c) p (at_got (λ s o. Holds (TriesAt limits s j cs c) o) ss places i t p h at (sym (got_other places q i n apart) ∙ got)) in
+              hold (P t) u.0 p u.1 (others t u.0 u.2)
+        ])
+
+    pub not_yet : (b : Bool) (n : Option (Pass Element)) → b ≡ false → Became (λ x y. HasTried limits s b c j k x y) o n → Tries (slice_set places q n)
+    not_yet b n no_call ran =
+        let y = became false n (subst (λ (b : Bool). Became (λ x y. HasTried limits s b c j k x y) o n) no_call ran) in
+        changed (λ t x. TriesAt limits t j cs c x) n (hold (TriesAt limits s j cs c) y.0 n y.1 (still_tries limits s j k cs c x.0 y.0 x.2 y.2)) (λ t x h. h)
+
+    pub now_made : (b : Bool) (n : Option (Pass Element)) → b ≡ true → Became (λ x y. HasTried limits s b c j k x y) o n → CallersAt limits j (cs ++ c ∷ []) ss (slice_set places q n)
+    now_made b n made ran =
+        let y = became true n (subst (λ (b : Bool). Became (λ x y. HasTried limits s b c j k x y) o n) made ran) in
+        changed (λ t x. CallerAt limits t j (cs ++ c ∷ []) x) n (hold (CallerAt limits s j (cs ++ c ∷ [])) y.0 n y.1 (has_made limits s j k cs c x.0 y.0 x.2 y.2)) (λ t x h. ends limits t j cs c x h)
