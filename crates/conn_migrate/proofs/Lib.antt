@@ -1,6 +1,7 @@
-pub mod OwnMarks
 pub mod Halves
 pub mod NextFeeds
 pub mod OneSqueue
+pub mod OwnMarks
 pub mod StaysJoin
 pub mod StaysKept
+pub mod ThreeLogs

@@ -7,9 +7,9 @@ use Rattle.perimeter_core.specs.declared.entries.Act.{Act}
 use Rattle.perimeter_core.specs.declared.marks.SynchAct.{SynchAct}
 use Rattle.perimeter_core.specs.declared.marks.SynchAct.TheVariants as Done
 use Rattle.perimeter_core.specs.Perimeter.{is_free, is_here}
-use Rattle.perimeter_core.specs.History.{Element, Limits, Setting, start, run, pass_of, made_by}
-use Rattle.perimeter_core.specs.Deeds.{entries_of, fed, due_after, due_from, due, times_left}
-use Rattle.perimeter_core.specs.Legal.{Legal, feeds_by, asks_by, feed_count, ask_count}
+use Rattle.perimeter_core.specs.History.{Element, Limits, Setting, start, run, made_by}
+use Rattle.perimeter_core.specs.Deeds.{fed, due_after, due_from, due, times_left}
+use Rattle.perimeter_core.specs.Legal.{Legal, feeds_by, asks_by}
 use Rattle.perimeter_core.specs.Knowledge.{here_by}
 use Rattle.perimeter_core.proofs.OneMore.{legal_front}
 use Rattle.perimeter_core.proofs.RingKnows.{ring_knows}

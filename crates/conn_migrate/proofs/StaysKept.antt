@@ -7,11 +7,11 @@ use Rattle.perimeter_core.specs.Perimeter.{State, after, is_here}
 use Rattle.perimeter_core.specs.History.{Element, Setting, start, run, run_from, pass_of, made_by}
 use Rattle.perimeter_core.specs.Deeds.{acts, acts_after, reported, puts_in, takes_out}
 use Rattle.perimeter_core.specs.Legal.{May, LegalFrom, Legal}
-use Rattle.perimeter_core.proofs.OneMore.{run_push, legal_ind, legal_from_back}
+use Rattle.perimeter_core.proofs.OneMore.{legal_ind, legal_from_back}
 use Rattle.perimeter_core.proofs.OthersMarks.{puts_other}
 use Rattle.perimeter_core.proofs.FeedOrder.{puts_away}
 use Rattle.perimeter_core.proofs.OwnersReport.{none_reported}
-use Rattle.conn_migrate.specs.Stays.{Stay, Stays, as_list, all_in, begun, longer_by, stays_after, stays, reports_from, reports, done_in, note_of, AreSameStays}
+use Rattle.conn_migrate.specs.Stays.{Stay, Stays, as_list, all_in, begun, longer_by, stays, reports_from, reports, done_in, note_of, AreSameStays}
 use Rattle.conn_migrate.proofs.OneSqueue.{stays_push, fits}
 
 -- the stays before anything happened

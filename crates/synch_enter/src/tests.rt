@@ -8,6 +8,8 @@ ghost use Rattle.squeue_state.specs.Naming.{setting_of};
 ghost use Rattle.squeue_state.specs.Elements.{number_of};
 ghost use Rattle.synch_enter.specs.Synch.{MayAsk, StandsAtItsAsk};
 
+mod beside;
+
 use crate::{Called, Hints, call, synch_enter, synch_exit, synch_try};
 use perimeter_core::{Act, NoHook, Resident, SynchAct};
 use small_squeue::{ended, has_marks, opened, three};
