@@ -2,7 +2,7 @@
 
 ghost use Rattle.std.specs.Prelude.{◌≡◌, ℕ, ◌+◌, ◌<◌, ◌≤◌, ◌%◌, true, length, slice_get, get_or, IfSome, Some};
 ghost use Rattle.conn_classifier.specs.Connections.{is_served_port};
-ghost use Rattle.conn_classifier.specs.Plan.{items_in, time_of, text_of, text_len_of};
+ghost use Rattle.conn_classifier.specs.Plan.{IsPlan, items_in, time_of, text_of, text_len_of};
 
 use crate::kinds::{Counts, Item};
 use crate::view::PlanView;
@@ -60,6 +60,13 @@ impl<'c> Plan<'c> {
             capture: self.capture,
             table: &self.table,
         }
+    }
+
+    /// What holds of every plan. It does nothing.
+    pub fn is_sound(&self)
+        ensures { IsPlan self.now }
+    {
+        let _table = &self.table;
     }
 
     /// How many connections there are.
