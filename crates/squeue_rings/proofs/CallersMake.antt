@@ -1,26 +1,37 @@
 -- A caller makes a call, wherever its block is.
-use Rattle.std.proofs.Common.{◌≡◌, ◌≢◌, ℕ, ◌+◌, ◌<◌, ◌≤◌, inl, inr, Bool, true, false, Option, Some, None, List, [], ◌∷◌, ◌++◌, length, slice_get, slice_index_or, slice_set, refl, ap, sym, ◌∙◌, subst, arith}
+use Rattle.std.proofs.Common.{◌≡◌, ℕ, ◌+◌, ◌<◌, ◌==◌, ◌&&◌, if◌then◌else◌, inl, inr, Bool, true, false, Option, Some, None, List, [], ◌∷◌, ◌++◌, length, slice_get, slice_index_or, slice_set, refl, ap, sym, ◌∙◌, subst, arith}
 use Rattle.std.proofs.lemmas.Bool.{cases_eq}
-use Rattle.turn_gate.specs.History.{Each}
 use Rattle.turn_gate.specs.declared.pass.Pass.{Pass}
 use Rattle.perimeter_core.specs.History.{Element, Limits}
 use Rattle.squeue_state.specs.Naming.{Named}
 use Rattle.squeue_serve.specs.Places.{AtEach, Became, Holds}
+use Rattle.squeue_rings.specs.Made.{made_in, once_on}
 use Rattle.squeue_rings.specs.Calling.{CallerAt, CallersAt, HasTried, MayMake, MayMakeAll, MayTry, TriesAt}
 use Rattle.squeue_rings.proofs.Reaching.{each_at, held, hold}
-use Rattle.squeue_rings.proofs.Slots.{at_got, at_length, at_made, got_at, got_other, got_same, set_length, within}
+use Rattle.squeue_rings.proofs.Slots.{at_got, at_length, at_made, got_at, got_other, got_same, set_length}
+use Rattle.squeue_rings.proofs.OnceEach.{once_more, one_changed}
+use Rattle.squeue_rings.proofs.CallsCounted.{no_call, one_call}
 use Rattle.squeue_rings.proofs.Trying.{begins, ends, has_made, may_try, still_tries}
 
 module _ {R : Type 0} (limits : R → Limits) (j k : ℕ) (cs : List ℕ) (c : ℕ) (ss : List (Named R)) where
-  abbrev pub Tries : List (Option (Pass Element)) → Type 0
-  Tries places = AtEach (λ s o. Holds (TriesAt limits s j cs c) o) ss places
+  -- while it tries the call, its passes know so, and it has made those before
+  pub record Tries (places : List (Option (Pass Element))) : Type 0 where
+    pub each : AtEach (λ s o. Holds (TriesAt limits s j cs c) o) ss places
+    pub made : (d m : ℕ) → made_in d j m places ≡ once_on cs d m
 
   pub all_begin : (places : List (Option (Pass Element))) → CallersAt limits j cs ss places → Tries places
   all_begin places h =
-      at_made (λ s o. Holds (TriesAt limits s j cs c) o) ss places (at_length (λ s o. Holds (CallerAt limits s j cs) o) ss places h)
-      (λ i s o is it. let x = held (CallerAt limits s j cs) o (at_got (λ s o. Holds (CallerAt limits s j cs) o) ss places i s o h is it) in hold (TriesAt limits s j cs c) x.0 o x.1 (begins limits s j cs c x.0 x.2))
+      record {
+        each =
+            at_made (λ s o. Holds (TriesAt limits s j cs c) o) ss places (at_length (λ s o. Holds (CallerAt limits s j cs) o) ss places h.each)
+            (λ i s o is it. let x = held (CallerAt limits s j cs) o (at_got (λ s o. Holds (CallerAt limits s j cs) o) ss places i s o h.each is it) in hold (TriesAt limits s j cs c) x.0 o x.1 (begins limits s j cs c x.0 x.2));
+        made = h.made;
+      }
 
-  module _ (may : MayMakeAll limits j k cs c ss) (places : List (Option (Pass Element))) (h : Tries places) (q : ℕ) (s : Named R) (o : Option (Pass Element)) (lq : q < length ss) (is : s ≡ slice_index_or ss q s) (it : o ≡ slice_index_or places q o) where
+  module _ (may : MayMakeAll limits j k cs c ss) (places : List (Option (Pass Element))) (tries : Tries places) (q : ℕ) (s : Named R) (o : Option (Pass Element)) (lq : q < length ss) (is : s ≡ slice_index_or ss q s) (it : o ≡ slice_index_or places q o) where
+    h : AtEach (λ s o. Holds (TriesAt limits s j cs c) o) ss places
+    h = tries.each
+
     lo : q < length places
     lo = omega (arith, lq, at_length (λ s o. Holds (TriesAt limits s j cs c) o) ss places h)
 
@@ -53,12 +64,31 @@ module _ {R : Type 0} (limits : R → Limits) (j k : ℕ) (cs : List ℕ) (c : �
               hold (P t) u.0 p u.1 (others t u.0 u.2)
         ])
 
-    pub not_yet : (b : Bool) (n : Option (Pass Element)) → b ≡ false → Became (λ x y. HasTried limits s b c j k x y) o n → Tries (slice_set places q n)
-    not_yet b n no_call ran =
-        let y = became false n (subst (λ (b : Bool). Became (λ x y. HasTried limits s b c j k x y) o n) no_call ran) in
-        changed (λ t x. TriesAt limits t j cs c x) n (hold (TriesAt limits s j cs c) y.0 n y.1 (still_tries limits s j k cs c x.0 y.0 x.2 y.2)) (λ t x h. h)
+    -- the place whose pass tries it
+    had : slice_get places q ≡ Some (Some x.0)
+    had = got_at places q o lo it ∙ ap Some x.1
 
-    pub now_made : (b : Bool) (n : Option (Pass Element)) → b ≡ true → Became (λ x y. HasTried limits s b c j k x y) o n → CallersAt limits j (cs ++ c ∷ []) ss (slice_set places q n)
-    now_made b n made ran =
+    pub not_yet : (b : Bool) (n : Option (Pass Element)) → b ≡ false → Became (λ x y. HasTried limits s b c j k x y) o n → Tries (slice_set places q n)
+    not_yet b n none ran =
+        let y = became false n (subst (λ (b : Bool). Became (λ x y. HasTried limits s b c j k x y) o n) none ran) in
+        record {
+          each = changed (λ t x. TriesAt limits t j cs c x) n (hold (TriesAt limits s j cs c) y.0 n y.1 (still_tries limits s j k cs c x.0 y.0 x.2 y.2)) (λ t x h. h);
+          made = λ d m.
+              let one = one_changed d j m places q x.0 y.0 had in
+              let new = ap (λ (o : Option (Pass Element)). made_in d j m (slice_set places q o)) y.1 in
+              let kept = no_call limits s j x.0 y.0 x.2.pass x.2.is_number x.2.legal c k y.2 d m in
+              omega (arith, one, new, kept, tries.made d m);
+        }
+
+    pub now_made : (b : Bool) (n : Option (Pass Element)) → length cs ≡ k → b ≡ true → Became (λ x y. HasTried limits s b c j k x y) o n → CallersAt limits j (cs ++ c ∷ []) ss (slice_set places q n)
+    now_made b n is_next made ran =
         let y = became true n (subst (λ (b : Bool). Became (λ x y. HasTried limits s b c j k x y) o n) made ran) in
-        changed (λ t x. CallerAt limits t j (cs ++ c ∷ []) x) n (hold (CallerAt limits s j (cs ++ c ∷ [])) y.0 n y.1 (has_made limits s j k cs c x.0 y.0 x.2 y.2)) (λ t x h. ends limits t j cs c x h)
+        record {
+          each = changed (λ t x. CallerAt limits t j (cs ++ c ∷ []) x) n (hold (CallerAt limits s j (cs ++ c ∷ [])) y.0 n y.1 (has_made limits s j k cs c x.0 y.0 x.2 y.2)) (λ t x h. ends limits t j cs c x h);
+          made = λ d m.
+              let one = one_changed d j m places q x.0 y.0 had in
+              let new = ap (λ (o : Option (Pass Element)). made_in d j m (slice_set places q o)) y.1 in
+              let more = one_call limits s j x.0 y.0 x.2.pass x.2.is_number x.2.legal c k y.2 d m in
+              let asked = once_more cs c d m ∙ ap (λ (n : ℕ). once_on cs d m + (if (c == d) && (n == m) then 1 else 0)) is_next in
+              omega (arith, one, new, more, asked, tries.made d m);
+        }

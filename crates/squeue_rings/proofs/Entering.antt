@@ -1,26 +1,22 @@
 -- A run of feeds with one home may be entered there, and what the ring's passes know afterwards.
-use Rattle.std.proofs.Common.{◌≡◌, ◌≢◌, ℕ, zero, suc, ◌+◌, ◌-◌, ◌%◌, ◌<◌, ◌≤◌, ◌==◌, ◌&&◌, not, ◌⊎◌, inl, inr, Bool, true, false, if◌then◌else◌, List, [], ◌∷◌, ◌++◌, length, slice_index, refl, ap, sym, ◌∙◌, subst, arith, append_assoc, length-append}
+use Rattle.std.proofs.Common.{◌≡◌, ◌≢◌, ℕ, ◌+◌, ◌-◌, ◌%◌, ◌<◌, ◌≤◌, ◌==◌, ◌⊎◌, inl, inr, Bool, true, false, List, [], ◌∷◌, ◌++◌, length, slice_index, refl, ap, sym, ◌∙◌, subst, arith, append_assoc}
 use Rattle.std.proofs.lemmas.Bool.{cases_eq}
-use Rattle.std.proofs.lemmas.Bool.Decides.{nat_tests}
 use Rattle.turn_gate.specs.History.{Each}
 use Rattle.turn_gate.specs.Passes.{IsPassOf, number, seen}
 use Rattle.turn_gate.specs.declared.pass.Pass.{Pass}
 use Rattle.perimeter_core.specs.declared.entries.Feed.{Feed as FeedOf}
-use Rattle.perimeter_core.specs.declared.entries.Entry.{Entry}
 use Rattle.perimeter_core.specs.Perimeter.{State, Idle, is_here}
 use Rattle.perimeter_core.specs.History.{Element, Limits, Setting, feed_quota, run}
-use Rattle.perimeter_core.specs.Deeds.{due, entries, feeds_of, times_left}
+use Rattle.perimeter_core.specs.Deeds.{due, entries}
 use Rattle.perimeter_core.specs.Legal.{Enters, asks_by, feeds_by, one_more}
 use Rattle.squeue_state.specs.Naming.{Named, setting_of}
 use Rattle.squeue_state.specs.Elements.{number_of}
-use Rattle.squeue_enter.specs.declared.Mode.{Mode}
-use Rattle.squeue_enter.specs.declared.entering.Entered.{Entered}
-use Rattle.squeue_enter.specs.Entering.{Brought, HasEntered, MayEnter}
+use Rattle.squeue_enter.specs.Entering.{Brought, MayEnter}
 use Rattle.conn_blocks.specs.Homes.{home}
-use Rattle.squeue_rings.specs.Runs.{InOrder, brought, comes, count, home_before, home_of, is_at, is_left_by, leaves, moves, place}
+use Rattle.squeue_rings.specs.Runs.{InOrder, brought, comes, count, home_of, is_at, is_left_by, leaves, moves, place}
 use Rattle.squeue_rings.specs.Rings.{MayBring, RingAt}
-use Rattle.squeue_rings.proofs.Counting.{are_same, brought_more, brought_other, brought_own, count_all, count_more, count_none, differ, each_as, each_behind, each_front, number_below, number_is, other_more, own_more, same}
-use Rattle.squeue_rings.proofs.Standing.{no_come, no_leave, not_left, place_before, place_kept, place_other, place_own, same_home}
+use Rattle.squeue_rings.proofs.Counting.{are_same, brought_more, count_all, count_more, count_none, differ, each_as, each_behind, each_front, number_below, number_is, other_more, own_more, same}
+use Rattle.squeue_rings.proofs.Standing.{no_come, no_leave, not_left, place_before, place_kept, place_own, same_home}
 
 -- the feeds behind the first of a run: at home at squeue q, without a move
 abbrev pub Stay : ℕ → ℕ → ℕ → FeedOf → Type 0

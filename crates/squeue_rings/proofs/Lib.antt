@@ -3,7 +3,15 @@ pub mod Standing
 pub mod Entering
 pub mod Moving
 pub mod Slots
+pub mod Linking
+pub mod StaysSeen
+pub mod RingStays
 pub mod Reaching
 pub mod Running
+pub mod Starting
 pub mod Trying
 pub mod CallersMake
+pub mod CallMarks
+pub mod OnceEach
+pub mod CallsCounted
+pub mod NewCallers

@@ -1,18 +1,18 @@
 -- What a ring's passes know when it has moved a connection, or needn't, before the next feed.
-use Rattle.std.proofs.Common.{◌≡◌, ◌≢◌, ℕ, ◌+◌, ◌-◌, ◌%◌, ◌<◌, ◌==◌, ◌&&◌, not, inl, inr, Bool, true, false, List, [], ◌∷◌, ◌++◌, length, refl, ap, sym, ◌∙◌, subst, arith}
+use Rattle.std.proofs.Common.{◌≡◌, ◌≢◌, ℕ, ◌+◌, ◌%◌, ◌==◌, ◌&&◌, not, inl, inr, Bool, true, false, List, [], ◌∷◌, ◌++◌, refl, ap, sym, ◌∙◌, subst, arith}
 use Rattle.std.proofs.lemmas.Bool.{cases_eq}
-use Rattle.turn_gate.specs.Passes.{number, seen}
+use Rattle.turn_gate.specs.Passes.{seen}
 use Rattle.turn_gate.specs.declared.pass.Pass.{Pass}
 use Rattle.perimeter_core.specs.declared.entries.Act.{Act}
 use Rattle.perimeter_core.specs.declared.entries.Feed.{Feed as FeedOf}
 use Rattle.perimeter_core.specs.declared.marks.SynchAct.{SynchAct}
 use Rattle.perimeter_core.specs.Perimeter.{Idle, is_here}
-use Rattle.perimeter_core.specs.History.{Element, Limits, Setting, run}
+use Rattle.perimeter_core.specs.History.{Element, Limits, run}
 use Rattle.perimeter_core.specs.Deeds.{due, times_left}
 use Rattle.perimeter_core.specs.Legal.{asks_by, feeds_by}
 use Rattle.squeue_state.specs.Naming.{Named, setting_of}
-use Rattle.conn_migrate.specs.Moving.{IsKept, Moved, RingLearns}
-use Rattle.squeue_rings.specs.Runs.{brought, comes, count, home_before, home_of, is_at, is_left_by, leaves, moves, place}
+use Rattle.conn_migrate.specs.Moving.{Moved, RingLearns}
+use Rattle.squeue_rings.specs.Runs.{brought, comes, count, home_before, home_of, is_left_by, leaves, moves, place}
 use Rattle.squeue_rings.specs.Rings.{RingAt}
 use Rattle.squeue_rings.proofs.Counting.{count_one, differ, same}
 use Rattle.squeue_rings.proofs.Standing.{no_come, no_leave, not_left, other_home, place_before, place_kept, place_other, place_own}

@@ -1,5 +1,5 @@
 -- The next feed of a ring is reached: its connection is moved where it isn't at home.
-use Rattle.std.proofs.Common.{◌≡◌, ◌≢◌, ℕ, zero, suc, ◌+◌, ◌-◌, ◌%◌, ◌<◌, ◌≤◌, ◌==◌, ◌&&◌, not, inl, inr, Bool, true, false, if◌then◌else◌, Option, Some, None, List, [], ◌∷◌, ◌++◌, length, slice_get, slice_index, refl, ap, sym, ◌∙◌, subst, arith}
+use Rattle.std.proofs.Common.{◌≡◌, ◌≢◌, ℕ, zero, suc, ◌+◌, ◌%◌, ◌<◌, ◌≤◌, ◌==◌, ◌&&◌, not, inl, inr, Bool, true, false, if◌then◌else◌, Option, Some, None, List, [], ◌∷◌, ◌++◌, length, slice_get, refl, ap, sym, ◌∙◌, subst, arith}
 use Rattle.std.proofs.lemmas.Bool.{cases_eq}
 use Rattle.turn_gate.specs.History.{Each}
 use Rattle.turn_gate.specs.Passes.{number, seen}
@@ -13,13 +13,16 @@ use Rattle.perimeter_core.specs.Legal.{asks_by}
 use Rattle.squeue_state.specs.Naming.{Named, setting_of}
 use Rattle.synch_enter.specs.Synch.{MayAsk}
 use Rattle.conn_migrate.specs.Moving.{MayCome, MayLeave}
-use Rattle.squeue_serve.specs.Places.{AtEach, Holds}
+use Rattle.conn_migrate.specs.Stays.{IsLinked}
+use Rattle.squeue_serve.specs.Places.{Holds}
 use Rattle.squeue_rings.specs.Runs.{brought, comes, count, home_before, home_of, is_left_by, leaves, moves, place}
 use Rattle.squeue_rings.specs.Rings.{AreNumbered, MayBring, RingAt}
-use Rattle.squeue_rings.specs.Bringing.{AllBelow, AreAt, AreOneRun, HasMoved, IsReady}
+use Rattle.squeue_rings.specs.Bringing.{AreAt, HasMoved, IsReady}
+use Rattle.squeue_rings.specs.Seen.{seen_ends}
 use Rattle.squeue_rings.proofs.Counting.{count_more, differ, each_behind, number_is, same}
 use Rattle.squeue_rings.proofs.Standing.{other_home, place_before}
 use Rattle.squeue_rings.proofs.Moving.{has_come, has_left, not_moved, reached}
+use Rattle.squeue_rings.proofs.RingStays.{linked_others, linked_own}
 use Rattle.squeue_rings.proofs.Slots.{at_got, at_length, at_made, within}
 
 pub each_at : {A : Type 0} (P : A → Type 0) (xs : List A) (k : ℕ) (x : A) → Each P xs → slice_get xs k ≡ Some x → P x
@@ -48,7 +51,7 @@ module _ {R : Type 0} (limits : R → Limits) (squeues spread r : ℕ) (list : L
       (each_behind (λ (g : FeedOf). (r ≡ g.c % s.given.rings) × (g.c < length s.given.starts)) done (f ∷ behind) (subst (Each (λ (g : FeedOf). (r ≡ g.c % s.given.rings) × (g.c < length s.given.starts))) ready.is m.own)).0
 
   at : (k : ℕ) (s : Named R) (x : Pass Element) → slice_get ss k ≡ Some s → slice_get old k ≡ Some (Some x) → RingAt limits squeues spread r done done s x
-  at k s x is it = at_got (λ s o. Holds (RingAt limits squeues spread r done done s) o) ss old k s (Some x) ready.at is it
+  at k s x is it = at_got (λ s o. Holds (RingAt limits squeues spread r done done s) o) ss old k s (Some x) ready.at.each is it
 
   -- what a test finds in the list is what it finds in the front, at the feed and behind it
   found : (test : FeedOf → Bool) → count test list ≡ count test done + ((if test f then 1 else 0) + count test behind)
@@ -126,24 +129,61 @@ module _ {R : Type 0} (limits : R → Limits) (squeues spread r : ℕ) (list : L
         }
 
     -- all passes of the ring know it
-    pub moved_all : (new : List (Option (Pass Element))) → AreNumbered ss → HasMoved limits squeues spread f ss old new → AreAt limits squeues spread r ss done (done ++ f ∷ []) new
-    moved_all new numbered h =
-        let P = λ (s : Named R) (o : Option (Pass Element)). Holds (RingAt limits squeues spread r done (done ++ f ∷ []) s) o in
-        at_made P ss new (h.count ∙ at_length (λ s o. Holds (RingAt limits squeues spread r done done s) o) ss old ready.at) (λ k s o is it. each k s o is it)
+    pub moved_all : (new : List (Option (Pass Element))) → length ss ≡ squeues → AreNumbered ss → HasMoved limits squeues spread f ss old new
+        → AreAt limits squeues spread r ss done (done ++ f ∷ []) new
+    moved_all new count numbered h =
+        record {
+          each =
+              let P = λ (s : Named R) (o : Option (Pass Element)). Holds (RingAt limits squeues spread r done (done ++ f ∷ []) s) o in
+              at_made P ss new (h.count ∙ long) (λ k s o is it. each k s o is it);
+          linked = λ c owned.
+              elim (cases_eq f.c c) [
+                | inl e ↦
+                    subst (λ (d : ℕ). IsLinked (seen_ends limits ss old) d → IsLinked (seen_ends limits ss new) d) e
+                    (linked_own limits squeues spread f ss old new h long count moved here away) (ready.at.linked c owned)
+                | inr other ↦
+                    let pa : number h.pa ≡ c % h.a.given.rings = was_a.is_number ∙ (each_at (IsOwn c) ss hb h.a owned h.from).0 in
+                    let pb : number h.pb ≡ c % h.b.given.rings = was_b.is_number ∙ (each_at (IsOwn c) ss ho h.b owned h.to).0 in
+                    linked_others limits squeues spread f ss old new h long c (h.left.others c (λ e. other (sym e)) pa)
+                    (h.come.others c (λ e. other (sym e)) pb) (ready.at.linked c owned)
+              ];
+        }
       where
+        IsOwn : ℕ → Named R → Type 0
+        IsOwn c s = (r ≡ c % s.given.rings) × (c < length s.given.starts)
+
+        long : length old ≡ length ss
+        long = at_length (λ s o. Holds (RingAt limits squeues spread r done done s) o) ss old ready.at.each
+
         hb : ℕ
         hb = home_before squeues spread f
 
         ho : ℕ
         ho = home_of squeues spread f
 
+        was_a : RingAt limits squeues spread r done done h.a h.pa
+        was_a = at hb h.a h.pa h.from h.was_from
+
+        was_b : RingAt limits squeues spread r done done h.b h.pb
+        was_b = at ho h.b h.pb h.to h.was_to
+
+        here : is_here (run (setting_of limits h.a.given) (seen h.pa)) f.c ≡ true
+        here =
+            let o = own hb h.a h.from in
+            was_a.here f.c o.0 o.1 ∙ same (place squeues spread f.c done) h.a.given.number (place_before squeues spread done f f_number ∙ sym (numbered hb h.a h.from))
+
+        away : is_here (run (setting_of limits h.b.given) (seen h.pb)) f.c ≡ false
+        away =
+            let o = own ho h.b h.to in
+            was_b.here f.c o.0 o.1 ∙ differ (place squeues spread f.c done) h.b.given.number (λ e. apart (sym (place_before squeues spread done f f_number) ∙ (e ∙ numbered ho h.b h.to)))
+
         at_a : RingAt limits squeues spread r done (done ++ f ∷ []) h.a h.qa
-        at_a = has_left limits squeues spread r done f f_number moved h.a h.pa h.qa (Done.Out f.c) [] (numbered hb h.a h.from) (own hb h.a h.from).0 (at hb h.a h.pa h.from h.was_from) h.out h.left
+        at_a = has_left limits squeues spread r done f f_number moved h.a h.pa h.qa (Done.Out f.c) [] (numbered hb h.a h.from) (own hb h.a h.from).0 was_a h.out h.left
 
         at_b : RingAt limits squeues spread r done (done ++ f ∷ []) h.b h.qb
         at_b = has_come limits squeues spread r done f f_number moved h.b h.pb h.qb (Done.In f.c) (acts (setting_of limits h.a.given) (seen h.qa) f.c) (numbered ho h.b h.to) (own ho h.b h.to).0
-            (h.due ∙ (h.next ∙ (at hb h.a h.pa h.from h.was_from).next f.c (own hb h.a h.from).0 (own hb h.a h.from).1 (place_before squeues spread done f f_number ∙ sym (numbered hb h.a h.from))))
-            (at ho h.b h.pb h.to h.was_to) h.put h.come
+            (h.due ∙ (h.next ∙ was_a.next f.c (own hb h.a h.from).0 (own hb h.a h.from).1 (place_before squeues spread done f f_number ∙ sym (numbered hb h.a h.from))))
+            was_b h.put h.come
 
         each : (k : ℕ) (s : Named R) (o : Option (Pass Element)) → slice_get ss k ≡ Some s → slice_get new k ≡ Some o → Holds (RingAt limits squeues spread r done (done ++ f ∷ []) s) o
         each k s o is it =
@@ -159,7 +199,7 @@ module _ {R : Type 0} (limits : R → Limits) (squeues spread r : ℕ) (list : L
                     hold (RingAt limits squeues spread r done (done ++ f ∷ []) s) h.qb o b (subst (λ (t : Named R). RingAt limits squeues spread r done (done ++ f ∷ []) t h.qb) (sym a) at_b)
                 | inr v ↦
                     let n = numbered k s is in
-                    let x = held (RingAt limits squeues spread r done done s) o (at_got (λ s o. Holds (RingAt limits squeues spread r done done s) o) ss old k s o ready.at is (sym (h.others k u v) ∙ it)) in
+                    let x = held (RingAt limits squeues spread r done done s) o (at_got (λ s o. Holds (RingAt limits squeues spread r done done s) o) ss old k s o ready.at.each is (sym (h.others k u v) ∙ it)) in
                     hold (RingAt limits squeues spread r done (done ++ f ∷ []) s) x.0 o x.1 (not_moved limits squeues spread r done f f_number moved s x.0 (λ e. u (sym n ∙ e)) (λ e. v (sym n ∙ e)) x.2)
               ]
             ]
@@ -167,18 +207,22 @@ module _ {R : Type 0} (limits : R → Limits) (squeues spread r : ℕ) (list : L
   -- where it is at home already nothing is done
   pub stays_all : moves squeues spread f ≡ false → AreAt limits squeues spread r ss done (done ++ f ∷ []) old
   stays_all still =
-      at_made (λ s o. Holds (RingAt limits squeues spread r done (done ++ f ∷ []) s) o) ss old (at_length (λ s o. Holds (RingAt limits squeues spread r done done s) o) ss old ready.at)
-      (λ k s o is it.
-      let x = held (RingAt limits squeues spread r done done s) o (at_got (λ s o. Holds (RingAt limits squeues spread r done done s) o) ss old k s o ready.at is it) in
-      hold (RingAt limits squeues spread r done (done ++ f ∷ []) s) x.0 o x.1 (reached limits squeues spread r done f f_number still s x.0 x.2))
+      record {
+        each =
+            at_made (λ s o. Holds (RingAt limits squeues spread r done (done ++ f ∷ []) s) o) ss old (at_length (λ s o. Holds (RingAt limits squeues spread r done done s) o) ss old ready.at.each)
+            (λ k s o is it.
+            let x = held (RingAt limits squeues spread r done done s) o (at_got (λ s o. Holds (RingAt limits squeues spread r done done s) o) ss old k s o ready.at.each is it) in
+            hold (RingAt limits squeues spread r done (done ++ f ∷ []) s) x.0 o x.1 (reached limits squeues spread r done f f_number still s x.0 x.2));
+        linked = ready.at.linked;
+      }
 
   -- the pass of a squeue
   pub pass_at : (k : ℕ) (s : Named R) → slice_get ss k ≡ Some s → (x : Pass Element) × (slice_get old k ≡ Some (Some x))
   pass_at k s is =
-      let n = at_length (λ s o. Holds (RingAt limits squeues spread r done done s) o) ss old ready.at in
+      let n = at_length (λ s o. Holds (RingAt limits squeues spread r done done s) o) ss old ready.at.each in
       let lt = within ss k s is in
       let o = some_place old k (omega (arith, n, lt)) in
-      let x = held (RingAt limits squeues spread r done done s) o.0 (at_got (λ s o. Holds (RingAt limits squeues spread r done done s) o) ss old k s o.0 ready.at is o.1) in
+      let x = held (RingAt limits squeues spread r done done s) o.0 (at_got (λ s o. Holds (RingAt limits squeues spread r done done s) o) ss old k s o.0 ready.at.each is o.1) in
       (x.0, o.1 ∙ ap Some x.1)
     where
       some_place : {A : Type 0} (xs : List A) (k : ℕ) → k < length xs → (x : A) × (slice_get xs k ≡ Some x)

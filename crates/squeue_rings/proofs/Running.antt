@@ -1,5 +1,5 @@
 -- The first run of what a ring has left is entered at its home.
-use Rattle.std.proofs.Common.{◌≡◌, ◌≢◌, ℕ, zero, suc, ◌+◌, ◌-◌, ◌%◌, ◌<◌, ◌≤◌, ◌==◌, ◌&&◌, not, inl, inr, Bool, true, false, if◌then◌else◌, Option, Some, None, List, [], ◌∷◌, ◌++◌, length, take, drop, slice_get, refl, ap, sym, ◌∙◌, subst, arith, append_assoc}
+use Rattle.std.proofs.Common.{◌≡◌, ◌≢◌, ℕ, zero, suc, ◌+◌, ◌%◌, ◌<◌, ◌≤◌, ◌==◌, ◌&&◌, not, inl, inr, Bool, true, false, if◌then◌else◌, Option, Some, None, List, [], ◌∷◌, ◌++◌, length, take, drop, slice_get, refl, ap, sym, ◌∙◌, subst, arith, append_assoc}
 use Rattle.std.proofs.lemmas.Bool.{cases_eq}
 use Rattle.turn_gate.specs.History.{Each}
 use Rattle.turn_gate.specs.Passes.{IsPassOf, number, seen}
@@ -9,16 +9,18 @@ use Rattle.perimeter_core.specs.Perimeter.{Idle}
 use Rattle.perimeter_core.specs.History.{Element, Limits, run}
 use Rattle.squeue_state.specs.Naming.{Named, setting_of}
 use Rattle.squeue_state.specs.Elements.{number_of}
+use Rattle.squeue_drain.specs.Draining.{GoesOn}
 use Rattle.squeue_enter.specs.declared.Mode.{Mode}
 use Rattle.squeue_enter.specs.Entering.{Brought, MayEnter}
-use Rattle.squeue_serve.specs.Places.{AtEach, Became, Holds}
+use Rattle.squeue_serve.specs.Places.{Became, Holds}
 use Rattle.squeue_rings.specs.Runs.{home_of, moves, run_of}
 use Rattle.squeue_rings.specs.Rings.{AreNumbered, MayBring, RingAt}
 use Rattle.squeue_rings.specs.Bringing.{AreAt, HasBrought, IsFar, IsReady}
 use Rattle.squeue_rings.proofs.Counting.{are_same}
 use Rattle.squeue_rings.proofs.Entering.{Stay, may_enter_run, run_elsewhere, run_entered}
 use Rattle.squeue_rings.proofs.Reaching.{each_at, held, hold}
-use Rattle.squeue_rings.proofs.Slots.{all_taken, at_got, at_length, at_made, take_next, three_parts, within}
+use Rattle.squeue_rings.proofs.RingStays.{alike_kept, linked_entered}
+use Rattle.squeue_rings.proofs.Slots.{all_taken, at_got, at_length, at_made, take_next, three_parts}
 
 pub cut : {A : Type 0} (n : ℕ) (xs : List A) → xs ≡ take n xs ++ drop n xs
 cut zero xs = refl
@@ -73,7 +75,7 @@ module _ {R : Type 0} (limits : R → Limits) (squeues spread r : ℕ) (list : L
 
     pub may_enter : (o : Option (Pass Element)) (es : List FeedOf) → slice_get mid q ≡ Some o → es ≡ f ∷ fs → Holds (λ x. MayEnter limits s x es) o
     may_enter o es it e =
-        let x = held (RingAt limits squeues spread r done (done ++ f ∷ []) s) o (at_got (λ s o. Holds (RingAt limits squeues spread r done (done ++ f ∷ []) s) o) ss mid q s o at here it) in
+        let x = held (RingAt limits squeues spread r done (done ++ f ∷ []) s) o (at_got (λ s o. Holds (RingAt limits squeues spread r done (done ++ f ∷ []) s) o) ss mid q s o at.each here it) in
         hold (λ x. MayEnter limits s x es) x.0 o x.1 (subst (MayEnter limits s x.0) (sym e) (may_enter_run limits squeues spread r list done fs rest f ready.all.order cut_so stay s x.0 may x.2 (numbered q s here)))
 
     became : (P : Pass Element → Pass Element → Type 0) (x : Pass Element) (o n : Option (Pass Element)) → o ≡ Some x → Became P o n → (y : Pass Element) × (n ≡ Some y) × P x y
@@ -87,13 +89,24 @@ module _ {R : Type 0} (limits : R → Limits) (squeues spread r : ℕ) (list : L
         → ((k : ℕ) → k ≢ q → slice_get new k ≡ slice_get mid k) → AreAt limits squeues spread r ss (done ++ es) (done ++ es) new
     all_entered o n es mode budget new it e ran counted now others =
         subst (λ (es : List FeedOf). AreAt limits squeues spread r ss (done ++ es) (done ++ es) new) (sym e)
-        (at_made (λ s o. Holds (RingAt limits squeues spread r (done ++ f ∷ fs) (done ++ f ∷ fs) s) o) ss new (counted ∙ at_length (λ s o. Holds (RingAt limits squeues spread r done (done ++ f ∷ []) s) o) ss mid at) each)
+        (record {
+          each = at_made (λ s o. Holds (RingAt limits squeues spread r (done ++ f ∷ fs) (done ++ f ∷ fs) s) o) ss new (counted ∙ long) each;
+          linked = λ c owned.
+              let ring : number x.0 ≡ c % s.given.rings = x.2.is_number ∙ (each_at (λ s. (r ≡ c % s.given.rings) × (c < length s.given.starts)) ss q s owned here).0 in
+              let b = y.2 in
+              let on = subst (GoesOn limits s x.0) (sym b.its_pass) b.entered.goes_on in
+              linked_entered limits ss c mid new q s x.0 y.0 long (counted ∙ long) here (it ∙ ap Some x.1) (now ∙ ap Some y.1) others
+              (alike_kept limits ss c s x.0 y.0 on (b.brought.here c ring) (b.brought.left c ring)) (at.linked c owned);
+        })
       where
         P : Named R → Pass Element → Type 0
         P t = RingAt limits squeues spread r (done ++ f ∷ fs) (done ++ f ∷ fs) t
 
+        long : length mid ≡ length ss
+        long = at_length (λ s o. Holds (RingAt limits squeues spread r done (done ++ f ∷ []) s) o) ss mid at.each
+
         x : (x : Pass Element) × (o ≡ Some x) × RingAt limits squeues spread r done (done ++ f ∷ []) s x
-        x = held (RingAt limits squeues spread r done (done ++ f ∷ []) s) o (at_got (λ s o. Holds (RingAt limits squeues spread r done (done ++ f ∷ []) s) o) ss mid q s o at here it)
+        x = held (RingAt limits squeues spread r done (done ++ f ∷ []) s) o (at_got (λ s o. Holds (RingAt limits squeues spread r done (done ++ f ∷ []) s) o) ss mid q s o at.each here it)
 
         y : (y : Pass Element) × (n ≡ Some y) × HasBrought limits s mode budget es x.0 y
         y = became (λ x y. HasBrought limits s mode budget es x y) x.0 o n x.1 ran
@@ -113,7 +126,7 @@ module _ {R : Type 0} (limits : R → Limits) (squeues spread r : ℕ) (list : L
                   let b : p ≡ Some y.0 = (let d : Some p ≡ Some n = sym got ∙ (ap (slice_get new) i ∙ now) in let u : p ≡ n = cc d in u ∙ y.1) in
                   hold (P t) y.0 p b (subst (λ (t : Named R). P t y.0) (sym a) at_home)
               | inr away ↦
-                  let u = held (RingAt limits squeues spread r done (done ++ f ∷ []) t) p (at_got (λ s o. Holds (RingAt limits squeues spread r done (done ++ f ∷ []) s) o) ss mid k t p at there (sym (others k away) ∙ got)) in
+                  let u = held (RingAt limits squeues spread r done (done ++ f ∷ []) t) p (at_got (λ s o. Holds (RingAt limits squeues spread r done (done ++ f ∷ []) s) o) ss mid k t p at.each there (sym (others k away) ∙ got)) in
                   let m = each_at (MayBring limits squeues spread r list) ss k t ready.all.may there in
                   hold (P t) u.0 p u.1 (run_elsewhere limits squeues spread r list done fs rest f ready.all.order cut_so stay t u.0 m u.2 (λ h. away (sym (numbered k t there) ∙ h)))
             ]

@@ -1,11 +1,11 @@
 -- Where connections are, when a run is entered.
-use Rattle.std.proofs.Common.{◌≡◌, ◌≢◌, ℕ, zero, suc, ◌+◌, ◌-◌, ◌<◌, ◌≤◌, ◌==◌, ◌&&◌, not, ◌⊎◌, inl, inr, Bool, true, false, if◌then◌else◌, List, [], ◌∷◌, ◌++◌, length, refl, ap, sym, ◌∙◌, subst, arith, append_assoc}
+use Rattle.std.proofs.Common.{◌≡◌, ◌≢◌, ℕ, ◌-◌, ◌==◌, ◌&&◌, not, inl, inr, Bool, true, false, List, [], ◌∷◌, ◌++◌, refl, ap, sym, ◌∙◌, subst, arith}
 use Rattle.std.proofs.lemmas.Bool.{cases_eq}
 use Rattle.std.proofs.lemmas.Bool.Decides.{nat_tests}
 use Rattle.perimeter_core.specs.declared.entries.Feed.{Feed as FeedOf}
 use Rattle.conn_blocks.specs.Homes.{home}
-use Rattle.squeue_rings.specs.Runs.{InOrder, brought, comes, count, home_before, home_of, is_at, is_left_by, leaves, moves, place}
-use Rattle.squeue_rings.proofs.Counting.{brought_more, brought_other, brought_own, count_one, number_is, other_more, own_more}
+use Rattle.squeue_rings.specs.Runs.{brought, comes, home_before, home_of, is_left_by, leaves, moves, place}
+use Rattle.squeue_rings.proofs.Counting.{other_more, own_more}
 
 module _ (squeues spread : ℕ) where
   -- a feed reached: its connection is at the feed's home, and every other one where it was

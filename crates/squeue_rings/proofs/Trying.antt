@@ -1,12 +1,12 @@
 -- What a try to make a call did.
-use Rattle.std.proofs.Common.{◌≡◌, ◌≢◌, ℕ, ◌+◌, ◌<◌, ◌≤◌, ◌⊎◌, inl, inr, Bool, true, false, if◌then◌else◌, List, [], ◌∷◌, ◌++◌, length, slice_index, refl, ap, sym, ◌∙◌, subst, arith, append_assoc}
+use Rattle.std.proofs.Common.{◌≡◌, ℕ, ◌+◌, ◌<◌, ◌≤◌, inl, inr, Bool, true, false, if◌then◌else◌, List, [], ◌∷◌, ◌++◌, length, slice_index, refl, ap, sym, ◌∙◌, subst, arith}
 use Rattle.turn_gate.specs.Passes.{IsPassOf, mine, number, seen}
 use Rattle.turn_gate.specs.declared.pass.Pass.{Pass}
 use Rattle.perimeter_core.specs.declared.marks.SynchAct.{SynchAct}
 use Rattle.perimeter_core.specs.declared.marks.SynchAct.TheVariants as Done
 use Rattle.perimeter_core.specs.Blocks.{Blocks}
 use Rattle.perimeter_core.specs.Perimeter.{Idle}
-use Rattle.perimeter_core.specs.History.{Element, Limits, Setting, ask_quota, made_by, run}
+use Rattle.perimeter_core.specs.History.{Element, Limits, ask_quota, made_by, run}
 use Rattle.perimeter_core.specs.Deeds.{takes_out, times_left}
 use Rattle.perimeter_core.specs.Legal.{Legal, asks_by}
 use Rattle.perimeter_core.proofs.LeavesFew.{leaves_few}
@@ -20,12 +20,11 @@ use Rattle.squeue_drain.specs.Draining.{GoesOn}
 use Rattle.squeue_drain.proofs.Deciding.{begins_trans}
 use Rattle.synch_enter.specs.declared.acts.Called.{Called}
 use Rattle.synch_enter.specs.declared.acts.Called.TheVariants as Called'
-use Rattle.synch_enter.specs.Synch.{Answers, Came, CameFor, HasCalled, MayAsk, MayCall, NotFound, StandsAtItsAsk}
-use Rattle.squeue_drain.specs.Owning.{state_of}
+use Rattle.synch_enter.specs.Synch.{CameFor, HasCalled, MayCall, StandsAtItsAsk}
 use Rattle.synch_enter.proofs.Knowing.{gone_with_nothing}
 use Rattle.conn_migrate.specs.Moving.{Moved}
 use Rattle.conn_migrate.proofs.OwnMarks.{asks_away, asks_called}
-use Rattle.squeue_rings.specs.Calling.{CallerAt, HasTried, MayMake, MayTry, TriesAt, WasGone, asks_for, is_done}
+use Rattle.squeue_rings.specs.Calling.{CallerAt, HasTried, MayMake, MayTry, TriesAt, asks_for, is_done}
 
 module _ {R O : Type 0} (stands : R → Blocks → Type 0) (limits : R → Limits) (size : R → ℕ) (origin : R → O) (s : Named R) (c j k : ℕ) (from : Pass Element) (o : Owner R) (try : MayTry limits s c j k from) (at : StandsAtItsAsk stands limits size origin s [] o × (o.act ≡ Done.None)) (came : CameFor limits s c from o.pass) where
   pub may_call : MayCall stands limits size origin s c j k o

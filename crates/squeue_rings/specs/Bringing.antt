@@ -1,5 +1,5 @@
 -- What bringing adds to what a ring's passes know.
-use Rattle.std.specs.Prelude.{◌≡◌, ◌≢◌, ℕ, true, false, Option, Some, None, List, [], ◌∷◌, ◌++◌, length, slice_get, take, ◌≤◌}
+use Rattle.std.specs.Prelude.{◌≡◌, ◌≢◌, ℕ, true, false, Option, Some, List, [], ◌++◌, length, slice_get, take, ◌%◌, ◌<◌, ◌≤◌}
 use Rattle.turn_gate.specs.History.{Each}
 use Rattle.turn_gate.specs.Passes.{seen}
 use Rattle.turn_gate.specs.declared.pass.Pass.{Pass}
@@ -12,9 +12,11 @@ use Rattle.squeue_enter.specs.declared.Mode.{Mode}
 use Rattle.squeue_enter.specs.declared.entering.Entered.{Entered}
 use Rattle.squeue_enter.specs.Entering.{Brought, HasEntered}
 use Rattle.conn_migrate.specs.Moving.{Moved, RingLearns}
+use Rattle.conn_migrate.specs.Stays.{IsLinked}
 use Rattle.squeue_serve.specs.Places.{AtEach, Holds}
 use Rattle.squeue_rings.specs.Runs.{InOrder, home_before, home_of}
 use Rattle.squeue_rings.specs.Rings.{AreNumbered, MayBring, RingAt}
+use Rattle.squeue_rings.specs.Seen.{seen_ends}
 
 -- the pass has entered these feeds as one chain, and knows what a ring knows then
 pub record HasBrought {R : Type 0} (limits : R → Limits) (s : Named R) (mode : Mode) (budget : ℕ) (es : List Feed) (from to : Pass Element) : Type 0 where
@@ -58,9 +60,10 @@ abbrev pub AllBelow : {R : Type 0} → ℕ → List (Named R) → Type 0
 AllBelow conns ss = Each (λ s. length s.given.starts ≤ conns) ss
 
 module _ {R : Type 0} (limits : R → Limits) (squeues spread r : ℕ) (ss : List (Named R)) where
-  -- each pass of the ring knows what has been brought
-  abbrev pub AreAt : List Feed → List Feed → List (Option (Pass Element)) → Type 0
-  AreAt entered reached places = AtEach (λ s o. Holds (RingAt limits squeues spread r entered reached s) o) ss places
+  -- each pass of the ring knows what has been brought, and its connections went from stay to stay
+  pub record AreAt (entered reached : List Feed) (places : List (Option (Pass Element))) : Type 0 where
+    pub each : AtEach (λ s o. Holds (RingAt limits squeues spread r entered reached s) o) ss places
+    pub linked : (c : ℕ) → Each (λ s. (r ≡ c % s.given.rings) × (c < length s.given.starts)) ss → IsLinked (seen_ends limits ss places) c
 
 module _ {R : Type 0} (limits : R → Limits) (squeues spread r : ℕ) (list : List Feed) (ss : List (Named R)) where
   -- each squeue's setting suffices for the list, whose feeds are in order

@@ -15,6 +15,7 @@ use Rattle.synch_enter.specs.Synch.{MayAsk, NotFound}
 use Rattle.conn_blocks.specs.CallLists.{CallLists, calls_of}
 use Rattle.conn_migrate.specs.Moving.{Moved}
 use Rattle.squeue_serve.specs.Places.{AtEach, Holds}
+use Rattle.squeue_rings.specs.Made.{made_in, once_on}
 use Rattle.turn_gate.specs.History.{Each}
 
 abbrev pub is_done : Called → Bool
@@ -68,9 +69,10 @@ module _ {R : Type 0} (limits : R → Limits) (s : Named R) where
     pub quota : asks_for cs + (1 + slice_index (limits s.given.first).leaves c) ≤ ask_quota (setting_of limits s.given) (s.given.rings + j)
 
 module _ {R : Type 0} (limits : R → Limits) (j : ℕ) where
-  -- its passes of all squeues know so
-  abbrev pub CallersAt : List ℕ → List (Named R) → List (Option (Pass Element)) → Type 0
-  CallersAt cs ss places = AtEach (λ s o. Holds (CallerAt limits s j cs) o) ss places
+  -- its passes of all squeues know so, and together they made each of these calls once, and no other
+  pub record CallersAt (cs : List ℕ) (ss : List (Named R)) (places : List (Option (Pass Element))) : Type 0 where
+    pub each : AtEach (λ s o. Holds (CallerAt limits s j cs) o) ss places
+    pub made : (c k : ℕ) → made_in c j k places ≡ once_on cs c k
 
   -- and may make the call at each
   abbrev pub MayMakeAll : ℕ → List ℕ → ℕ → List (Named R) → Type 0

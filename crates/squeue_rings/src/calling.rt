@@ -84,8 +84,9 @@ fn make_call<R: Resident, H: Hook, W: Wait>(
     places: &mut Vec<Option<Pass>>,
 )
     requires hints { (c < conns_of hints.now) × (squeues_of hints.now ≡ length squeues.now) }
-    requires ready { (cs : List ℕ) × MayMakeAll R.limits j k cs c squeues.now × CallersAt R.limits j cs squeues.now places.old.items }
-    ensures { (cs : List ℕ) → MayMakeAll R.limits j k cs c squeues.now → CallersAt R.limits j cs squeues.now places.old.items → CallersAt R.limits j (cs ++ c ∷ []) squeues.now places.new.items }
+    requires ready { (cs : List ℕ) × (length cs ≡ k) × MayMakeAll R.limits j k cs c squeues.now × CallersAt R.limits j cs squeues.now places.old.items }
+    ensures { (cs : List ℕ) → length cs ≡ k → MayMakeAll R.limits j k cs c squeues.now → CallersAt R.limits j cs squeues.now places.old.items
+        → CallersAt R.limits j (cs ++ c ∷ []) squeues.now places.new.items }
 {
     for _ in rt.forever() {
         let q = hints.get(c) as usize;
@@ -97,7 +98,7 @@ fn make_call<R: Resident, H: Hook, W: Wait>(
     unreachable!()
 }
 
-/// Makes the calls of thread `j`, in order.
+/// Makes the calls of thread `j`, in order, each once.
 pub fn make_calls<R: Resident, H: Hook, W: Wait>(
     rt: &W,
     alloc: Global,

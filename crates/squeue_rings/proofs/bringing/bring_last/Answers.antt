@@ -1,4 +1,4 @@
-use Rattle.std.proofs.Common.{◌≡◌, ◌+◌, ◌-◌, ℕ, List, Option, length, take, drop, sym, ap, ◌∙◌, subst, arith}
+use Rattle.std.proofs.Common.{◌+◌, ◌-◌, take, drop, arith}
 use Rattle.squeue_rings.proofs.Running.{last_far, next_ready}
 use Rattle.squeue_rings.proofs.Slots.{part_is}
 use Rattle.squeue_rings.proofs.bringing.bring_last.Goals as goal

@@ -1,7 +1,7 @@
-use Rattle.std.proofs.Common.{◌≡◌, ◌++◌, [], ℕ, List, Option, length, take, refl, sym, ap, ◌∙◌, subst, append_assoc}
+use Rattle.std.proofs.Common.{◌≡◌, ◌++◌, [], List, refl, sym, ap, ◌∙◌, subst, append_assoc}
 use Rattle.std.proofs.lemmas.List.{append-nil}
 use Rattle.perimeter_core.specs.declared.entries.Feed.{Feed}
-use Rattle.squeue_rings.specs.Bringing.{AreAt, IsReady}
+use Rattle.squeue_rings.specs.Bringing.{AreAt}
 use Rattle.squeue_rings.proofs.Running.{further, goes_on, part_ready}
 use Rattle.squeue_rings.proofs.Slots.{none_left, parted}
 use Rattle.squeue_rings.proofs.bringing.bring_rest.Goals as goal

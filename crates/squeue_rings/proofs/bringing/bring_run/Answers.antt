@@ -1,7 +1,4 @@
-use Rattle.std.proofs.Common.{◌≡◌, ◌≢◌, ◌+◌, ◌-◌, ◌<◌, ◌≤◌, [], ◌∷◌, ◌++◌, ℕ, List, Option, length, take, drop, slice_get, slice_index_or, refl, sym, ap, ◌∙◌, subst, arith}
-use Rattle.turn_gate.specs.declared.pass.Pass.{Pass}
-use Rattle.perimeter_core.specs.History.{Element}
-use Rattle.perimeter_core.specs.declared.entries.Feed.{Feed}
+use Rattle.std.proofs.Common.{◌≡◌, ◌-◌, ◌<◌, [], ◌∷◌, ◌++◌, ℕ, length, take, drop, slice_get, slice_index_or, sym, ap, ◌∙◌, arith}
 use Rattle.squeue_serve.specs.Places.{Holds}
 use Rattle.squeue_rings.specs.Rings.{RingAt}
 use Rattle.squeue_rings.specs.Runs.{home_of, run_of}
@@ -29,7 +26,7 @@ index_mut-requires g c =
     let is = head_rest feeds (record { c = 0; n = 0 }) c.requires.some in
     let first = first_ready limits sq sp ready.0 ready.1 c.args.squeues.now ready.2 feeds ready.3 c.args.places.now.items ready.4 f tail is in
     let at = c.reach.ensures.reached ready.0 ready.1 ready.2 (tail ++ ready.3) first in
-    let n = at_length (λ s o. Holds (RingAt limits sq sp ready.0 ready.2 (ready.2 ++ f ∷ []) s) o) c.args.squeues.now c.reach.new.places.items at in
+    let n = at_length (λ s o. Holds (RingAt limits sq sp ready.0 ready.2 (ready.2 ++ f ∷ []) s) o) c.args.squeues.now c.reach.new.places.items at.each in
     omega (arith, n, c.home-home.ensures.range, c.requires.run.count, c.reach.new.places.ok)
 
 pub enter_at-requires-clause-may : goal.enter_at-requires-clause-may
@@ -46,7 +43,7 @@ enter_at-requires-clause-may g c =
     let first = first_ready limits sq sp ready.0 ready.1 ss ready.2 feeds ready.3 c.args.places.now.items ready.4 f tail is in
     let mid = c.reach.new.places.items in
     let at = c.reach.ensures.reached ready.0 ready.1 ready.2 (tail ++ ready.3) first in
-    let count = at_length (λ s o. Holds (RingAt limits sq sp ready.0 ready.2 (ready.2 ++ f ∷ []) s) o) ss mid at in
+    let count = at_length (λ s o. Holds (RingAt limits sq sp ready.0 ready.2 (ready.2 ++ f ∷ []) s) o) ss mid at.each in
     let q = c.home-home.result in
     let e : q ≡ home_of sq sp f = c.home-home.ensures.home in
     let lq : q < length ss = omega (arith, c.home-home.ensures.range, c.requires.run.count) in
@@ -71,7 +68,7 @@ returns-clause-brought g c r list done behind ready =
     let first = first_ready limits sq sp r list ss done feeds behind c.args.places.now.items ready f tail is in
     let mid = c.reach.new.places.items in
     let at = c.reach.ensures.reached r list done (tail ++ behind) first in
-    let count = at_length (λ s o. Holds (RingAt limits sq sp r done (done ++ f ∷ []) s) o) ss mid at in
+    let count = at_length (λ s o. Holds (RingAt limits sq sp r done (done ++ f ∷ []) s) o) ss mid at.each in
     let q = c.home-home.result in
     let e : q ≡ home_of sq sp f = c.home-home.ensures.home in
     let lq : q < length ss = omega (arith, c.home-home.ensures.range, c.requires.run.count) in

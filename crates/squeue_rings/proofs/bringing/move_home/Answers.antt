@@ -1,6 +1,4 @@
-use Rattle.std.proofs.Common.{◌≡◌, ◌≢◌, ◌<◌, ℕ, Option, Some, length, slice_get, sym, ap, ◌∙◌, subst, arith}
-use Rattle.turn_gate.specs.declared.pass.Pass.{Pass}
-use Rattle.perimeter_core.specs.History.{Element}
+use Rattle.std.proofs.Common.{◌≡◌, ◌≢◌, ◌<◌, length, slice_get, sym, ap, ◌∙◌, subst, arith}
 use Rattle.conn_migrate.specs.Moving.{MayCome, MayLeave}
 use Rattle.squeue_serve.proofs.Lent.{some_at}
 use Rattle.squeue_rings.specs.Runs.{home_before, home_of}

@@ -1,4 +1,4 @@
-use Rattle.std.proofs.Common.{◌≡◌, ◌+◌, ◌<◌, ◌≤◌, ℕ, length, slice_get, sym, ap, ◌∙◌, arith}
+use Rattle.std.proofs.Common.{◌≤◌, length, sym, ◌∙◌, arith}
 use Rattle.squeue_serve.proofs.Lent.{some_at}
 use Rattle.squeue_rings.specs.Runs.{home_before, home_of}
 use Rattle.squeue_rings.proofs.Reaching.{each_at, may_come, may_leave, moved_all, own, pass_at, stays_all}
@@ -34,7 +34,7 @@ pub returns-then-moves : goal.returns-then-moves
 returns-then-moves g c =
     record {
       reached = λ r list done behind ready.
-          moved_all g.R.Resident.limits c.args.homes.squeues c.args.homes.spread r list c.args.squeues.now done behind c.args.feed c.args.places.now.items ready (sym c.moves.ensures ∙ c.if-moves.true) c.move_home.new.places.items c.requires.run.numbered
+          moved_all g.R.Resident.limits c.args.homes.squeues c.args.homes.spread r list c.args.squeues.now done behind c.args.feed c.args.places.now.items ready (sym c.moves.ensures ∙ c.if-moves.true) c.move_home.new.places.items c.requires.run.count c.requires.run.numbered
           c.move_home.ensures;
     }
 

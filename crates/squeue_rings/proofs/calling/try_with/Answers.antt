@@ -1,4 +1,3 @@
-use Rattle.std.proofs.Common.{◌≡◌, ap, ◌∙◌}
 use Rattle.squeue_rings.proofs.Trying.{may_call, tried}
 use Rattle.squeue_rings.proofs.calling.try_with.Goals as goal
 

@@ -1,0 +1,44 @@
+//! What is so before a ring or an application thread begins, and how often calls were made, by histories and by what a thread has
+//! seen of them. Each law is a function that does nothing, whose contract is the law.
+ghost use Rattle.std.specs.Prelude.{◌≡◌, ◌<◌, ◌≤◌, ◌+◌, ℕ, List, [], ◌++◌, Contains, Option, length};
+ghost use Rattle.turn_gate.specs.History.{Each};
+ghost use Rattle.turn_gate.specs.declared.pass.Pass.{Pass};
+ghost use Rattle.perimeter_core.specs.History.{Element, Setting, made_by, worker};
+ghost use Rattle.perimeter_core.specs.Legal.{Legal};
+ghost use Rattle.squeue_state.specs.Naming.{Named};
+ghost use Rattle.squeue_serve.specs.Places.{AtEach, Holds, IsNew};
+ghost use Rattle.squeue_rings.specs.Rings.{AreNumbered};
+ghost use Rattle.squeue_rings.specs.Starts.{StartAtHome};
+ghost use Rattle.squeue_rings.specs.Bringing.{AreAt};
+ghost use Rattle.squeue_rings.specs.Made.{times_made};
+ghost use Rattle.squeue_rings.specs.Calling.{CallersAt};
+
+use perimeter_core::Resident;
+
+/// The new passes of a ring have brought nothing.
+pub fn new_passes_have_brought_nothing<R: Resident>()
+    ensures { (squeues spread r : ℕ) (ss : List (Named R)) (places : List (Option (Pass Element))) → 1 ≤ squeues → length ss ≡ squeues → AreNumbered ss
+        → StartAtHome R.limits squeues ss → Each (λ s. r < length s.given.quotas) ss
+        → AtEach (λ s o. Holds (IsNew r s) o) ss places → AreAt R.limits squeues spread r ss [] [] places }
+{}
+
+/// A call is made by its own thread alone, so what a thread has seen of it stays as it is.
+pub fn a_thread_knows_its_calls()
+    ensures { (S : Setting) (H K : List Element) (c j k : ℕ) → Legal S (H ++ K) → made_by (S.rings + j) K ≡ [] → times_made c j k (H ++ K) ≡ times_made c j k H }
+{}
+
+/// Only calls that the limits have are made.
+pub fn nobody_makes_other_calls()
+    ensures { (S : Setting) (H : List Element) (c j k : ℕ) → Legal S H → ¬ Contains S.limits.calls (c, j, k) → times_made c j k H ≡ 0 }
+{}
+
+/// Only threads that have a pass make calls.
+pub fn no_thread_beyond_calls()
+    ensures { (S : Setting) (H : List Element) (c j k : ℕ) → Legal S H → worker S ≤ S.rings + j → times_made c j k H ≡ 0 }
+{}
+
+/// The new passes of an application thread have made nothing.
+pub fn new_passes_have_made_nothing<R: Resident>()
+    ensures { (j : ℕ) (ss : List (Named R)) (places : List (Option (Pass Element))) → Each (λ s. s.given.rings + j < length s.given.quotas) ss
+        → AtEach (λ s o. Holds (IsNew (s.given.rings + j) s) o) ss places → CallersAt R.limits j [] ss places }
+{}
