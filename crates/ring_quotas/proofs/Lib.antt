@@ -1,0 +1,5 @@
+pub mod Moving
+pub mod Listing
+pub mod Totals
+pub mod Sufficing
+pub mod Adding

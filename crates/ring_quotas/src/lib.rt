@@ -1,0 +1,18 @@
+//! How a run over several squeues is set up, and what each pass of each squeue may enter in it.
+//!
+//! A connection is at home at one squeue after another, so how many feeds a ring enters at a squeue, and how often its connections
+//! come and leave there, is fixed before the run by the plan alone; what an application thread may ask, by its calls and these
+//! moves. `shares` counts for one connection, by closed forms, `quotas` for each pass. The laws say that these quotas suffice for
+//! the list of each ring and the calls of each application thread.
+#![tactic(auto)]
+
+pub mod laws;
+mod quotas;
+mod setup;
+mod shares;
+
+pub use quotas::{CALLERS, quotas_at};
+pub use setup::Setup;
+
+#[cfg(test)]
+mod tests;

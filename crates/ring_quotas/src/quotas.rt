@@ -1,0 +1,94 @@
+//! How many feeds and asks each pass of a squeue may enter.
+
+ghost use Rattle.std.specs.Prelude.{◌≡◌, ◌<◌, ◌≤◌, ◌+◌, ◌*◌, ◌^◌, All, IfOk, length};
+ghost use Rattle.perimeter_core.specs.History.{feed_quotas};
+ghost use Rattle.squeue_state.specs.Behind.{pairs};
+ghost use Rattle.squeue_state.specs.Words.{ask_quotas};
+ghost use Rattle.conn_blocks.specs.Allowed.{all_calls};
+ghost use Rattle.ring_quotas.specs.Quotas.{IsInRange, caller_asks, quotas_of, ring_asks, ring_feeds};
+
+use crate::setup::Setup;
+use crate::shares::{coming, feeds, leaving};
+use conn_blocks::Calls;
+use conn_classifier::Plan;
+use conn_classifier::laws::all_items_are_few;
+use squeue_state::Quota;
+use std::alloc::{AllocError, Global};
+
+/// How many application threads there are.
+pub const CALLERS: u32 = 4;
+
+/// The quotas of the passes of squeue `q` but the worker's: those of the rings, then those of the application threads. Fails only
+/// for want of memory.
+pub fn quotas_at(
+    alloc: Global,
+    plan: &Plan<'_>,
+    calls: &Calls,
+    setup: &Setup,
+    q: u32,
+) -> Result<Vec<Quota>, AllocError>
+    requires range { IsInRange setup.now }
+    requires squeue { q < setup.now.squeues }
+    requires calls { All (λ call. call.0 < length plan.now.tuples) (all_calls calls.now) }
+    ensures quotas { IfOk result (λ v. pairs v.items ≡ quotas_of plan.now calls.now setup.now.squeues setup.now.rings setup.now.spread q) }
+    ensures count { IfOk result (λ v. length v.items ≡ setup.now.rings + 4) }
+    ensures feeds { IfOk result (λ v. feed_quotas (pairs v.items) ≤ 2 ^ 30) }
+    ensures asks { IfOk result (λ v. ask_quotas (pairs v.items) ≤ 2 ^ 40) }
+{
+    let mut quotas = Vec::with_capacity(alloc, (setup.rings + CALLERS) as usize)?;
+    for ring in 0..setup.rings {
+        quotas.push_reserved(ring_quota(plan, setup, ring, q));
+    }
+    for thread in 0..CALLERS {
+        quotas.push_reserved(Quota {
+            feeds: 0,
+            asks: caller_asks(plan, calls, setup, thread, q),
+        });
+    }
+    Ok(quotas)
+}
+
+// A ring's feeds are those of its connections that are at home at the squeue, its asks the moves of them out of it and into it.
+fn ring_quota(plan: &Plan<'_>, setup: &Setup, ring: u32, q: u32) -> Quota
+    requires range { IsInRange setup.now }
+    requires squeue { q < setup.now.squeues }
+    ensures feeds { result.feeds ≡ ring_feeds plan.now setup.now.squeues setup.now.rings setup.now.spread q ring }
+    ensures asks { result.asks ≡ ring_asks plan.now setup.now.squeues setup.now.rings setup.now.spread q ring }
+    ensures few { (result.feeds ≤ 2101248) × (result.asks ≤ 4202496) }
+{
+    plan.is_sound();
+    all_items_are_few();
+    let homes = setup.homes();
+    let mut entered = 0;
+    let mut asks = 0;
+    for c in 0..plan.conns() {
+        if c % setup.rings == ring {
+            let items = plan.items(c);
+            entered += feeds(homes, c, items, q);
+            asks += u64::from(leaving(homes, c, items, q)) + u64::from(coming(homes, c, items, q));
+        }
+    }
+    Quota {
+        feeds: entered,
+        asks,
+    }
+}
+
+// An application thread's asks are one for each of its calls, and one more for each time that the call's connection leaves the
+// squeue.
+fn caller_asks(plan: &Plan<'_>, calls: &Calls, setup: &Setup, thread: u32, q: u32) -> u64
+    requires range { IsInRange setup.now }
+    requires squeue { q < setup.now.squeues }
+    requires thread { thread < 4 }
+    requires calls { All (λ call. call.0 < length plan.now.tuples) (all_calls calls.now) }
+    ensures value { result ≡ caller_asks plan.now calls.now setup.now.squeues setup.now.spread q thread }
+    ensures few { result ≤ 1024 * 2097154 }
+{
+    let homes = setup.homes();
+    let mut asks = 0;
+    for k in 0..calls.len(thread) {
+        let c = calls.get(thread, k).0;
+        asks += 1 + u64::from(leaving(homes, c, plan.items(c), q));
+    }
+    asks
+}

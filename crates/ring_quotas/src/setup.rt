@@ -1,0 +1,31 @@
+//! How a run is set up.
+
+ghost use Rattle.std.specs.Prelude.{◌≡◌, ◌≤◌};
+
+use squeue_enter::Mode;
+use squeue_rings::Homes;
+
+/// The squeues (1 to 16), the rings (1 to 8), how rings enter, the most entries that an entering thread processes (1 to
+/// 65,535), and after how many feeds a connection moves on (0 to 65,535; 0 never). None of it changes a report.
+#[derive(Clone, Copy, Debug, PartialEq, Eq)]
+pub struct Setup {
+    pub squeues: u32,
+    pub rings: u32,
+    pub mode: Mode,
+    pub budget: u32,
+    pub spread: u32,
+}
+
+impl Setup {
+    /// Where connections are at home.
+    pub fn homes(&self) -> Homes
+        requires { 1 ≤ self.now.squeues }
+        ensures squeues { result.squeues ≡ self.now.squeues }
+        ensures spread { result.spread ≡ self.now.spread }
+    {
+        Homes {
+            squeues: self.squeues,
+            spread: self.spread,
+        }
+    }
+}

@@ -1,0 +1,5 @@
+pub mod AllActs
+pub mod Called
+pub mod Ends
+pub mod SameCounts
+pub mod Sums

@@ -1,0 +1,5 @@
+use Rattle.run_histories.proofs.Ends.{all_fed}
+use Rattle.run_histories.proofs.laws.feeds_of_a_block.Goals as goal
+
+pub returns : goal.returns
+returns c = all_fed
