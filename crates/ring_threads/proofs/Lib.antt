@@ -1,2 +1,12 @@
-mod Orders
-mod Asked
+mod AtTheEnd
+mod Back
+mod Closing
+mod MadeSqueues
+mod WholeRun
+mod FewFeeds
+mod Tasked
+mod Fed
+mod Closes
+mod Works
+mod Ready
+mod Finished

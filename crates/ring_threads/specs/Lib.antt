@@ -1,2 +1,7 @@
-pub mod PlainOrder
+pub mod Served
 pub mod ServedBlocks
+pub mod Gathering
+pub mod Ends
+pub mod Settings
+pub mod Tasks
+pub mod Running

@@ -22,9 +22,9 @@ use tcb_machine::{Answer, Tcb};
 /// The report of what was served: the counts, and for each connection its order, its replies, its answers and its last state.
 /// There is a block for each connection of the plan.
 pub fn report(alloc: Global, plan: &Plan, served: &Served) -> Result<Octets, AllocError>
-    requires { length served.now ≡ length plan.now.tuples }
-    ensures { IfOk result (λ text. (calls : CallLists) → AreServed plan.now calls served.now
-        → text ≡ report_text plan.now calls (map (λ b. b.order) served.now)) }
+    requires { length served.now.blocks ≡ length plan.now.tuples }
+    ensures { IfOk result (λ text. (calls : CallLists) → AreServed plan.now calls served.now.blocks
+        → text ≡ report_text plan.now calls (map (λ b. b.order) served.now.blocks)) }
 {
     let mut text = String::new(alloc);
     text.push_str("report 1\n")?;

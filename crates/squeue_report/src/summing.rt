@@ -28,9 +28,9 @@ fn check_of(text: &[u8]) -> u64
 
 /// The number of replies, and the bytes of text in them.
 fn totals(plan: &Plan, served: &Served) -> (u128, u128)
-    requires { length served.now ≡ length plan.now.tuples }
-    ensures replies { result.0 ≡ sum_by (λ b. length b.tcb.replies) served.now }
-    ensures octets { result.1 ≡ sum_by (λ b. text_size b.tcb.replies) served.now }
+    requires { length served.now.blocks ≡ length plan.now.tuples }
+    ensures replies { result.0 ≡ sum_by (λ b. length b.tcb.replies) served.now.blocks }
+    ensures octets { result.1 ≡ sum_by (λ b. text_size b.tcb.replies) served.now.blocks }
 {
     let mut replies = 0u128;
     let mut octets = 0u128;
@@ -99,9 +99,9 @@ pub fn summary(
     plan: &Plan,
     served: &Served,
 ) -> Result<Octets, AllocError>
-    requires { length served.now ≡ length plan.now.tuples }
-    ensures { IfOk result (λ text. (calls : CallLists) → AreServed plan.now calls served.now
-        → text ≡ summary_text number input.now plan.now calls (map (λ b. b.order) served.now)) }
+    requires { length served.now.blocks ≡ length plan.now.tuples }
+    ensures { IfOk result (λ text. (calls : CallLists) → AreServed plan.now calls served.now.blocks
+        → text ≡ summary_text number input.now plan.now calls (map (λ b. b.order) served.now.blocks)) }
 {
     let check = check_of(report(alloc, plan, served)?.as_slice());
     let (replies, octets) = totals(plan, served);

@@ -5,7 +5,7 @@ use Rattle.std.proofs.lemmas.List.{take_more, take-append-drop, map-append}
 use Rattle.squeue_run.specs.Command.{flag_text}
 use Rattle.squeue_run.specs.Words.{Given, Text, given}
 use Rattle.squeue_run.specs.Asked.{Asked, asked, asked_by, call_of, calls_of, input_of, is_count, setup_by, setup_of}
-use Rattle.ring_threads.specs.declared.setup.Setup.{Setup}
+use Rattle.ring_quotas.specs.declared.setup.Setup.{Setup}
 use Rattle.squeue_run.specs.declared.calls.CallWord.{CallWord}
 use Rattle.squeue_run.proofs.Texts.{calls_of-bad, calls_of-push}
 

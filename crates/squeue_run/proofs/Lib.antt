@@ -15,7 +15,10 @@ pub mod Simple
 pub mod Texts
 pub mod Accepted
 pub mod Answered
+pub mod Chains
+pub mod InRange
 pub mod Threads
+pub mod Named
 pub mod Missing
 mod Records
 pub mod Runs

@@ -1,5 +1,5 @@
 -- What was served has whole orders, and without calls only one order is whole.
-use Rattle.std.proofs.Common.{◌≡◌, ◌∙◌, ℕ, ◌+◌, ◌<◌, ◌≤◌, ◌==◌, Bool, true, false, List, [], ◌∷◌, length, map, get_or, slice_get, Option, Some, IfSome, subst, sym, refl, ap, zero, suc, arith, eq-eqb}
+use Rattle.std.proofs.Common.{◌≡◌, ◌∙◌, ℕ, ◌<◌, ◌==◌, Bool, true, false, List, [], ◌∷◌, length, map, get_or, slice_get, Option, Some, IfSome, subst, sym, refl, ap, zero, suc, arith, eq-eqb}
 use Rattle.std.specs.Prelude.{if◌then◌else◌}
 use Rattle.std.specs.List.{range_with_len}
 use Rattle.std.proofs.lemmas.Bool.{both_ways}
@@ -14,19 +14,21 @@ use Rattle.conn_blocks.specs.CallLists.{CallLists}
 use Rattle.perimeter_core.specs.Deeds.{feed_numbers}
 use Rattle.conn_blocks.specs.Orders.{IsWhole, call_numbers, numbers_on}
 use Rattle.conn_blocks.specs.ServeOrder.{BlockOf}
+use Rattle.ring_quotas.specs.declared.setup.Setup.{Setup}
+use Rattle.ring_threads.specs.Served.{HasServed, ServedOf}
 use Rattle.ring_threads.specs.ServedBlocks.{AreServed, AreWhole}
-use Rattle.tcb_machine.specs.declared.kinds.Call.{Call}
 use Rattle.squeue_report.specs.ReportText.{report_text}
 use Rattle.squeue_report.specs.SummaryText.{summary_text}
+use Rattle.squeue_run.specs.Asked.{Asked}
 use Rattle.squeue_run.specs.CallWords.{AllThere, lists_of}
-use Rattle.squeue_run.specs.Output.{AreOrders, IsGenerated, IsReport, IsSummary, items_alone}
+use Rattle.squeue_run.specs.Output.{AreOrders, IsGenerated, IsReport, IsSummary, items_alone, orders_of}
 use Rattle.squeue_run.specs.Ran.{conns_of}
 use Rattle.squeue_run.specs.declared.calls.CallWord.{CallWord}
 
-abbrev orders_of : List BlockOf → List (List Act)
-orders_of bs = map (λ b. b.order) bs
+abbrev orders_in : List BlockOf → List (List Act)
+orders_in bs = map (λ b. b.order) bs
 
-at_order : (P : List Act → Type 0) (b : BlockOf) (bs : List BlockOf) (c : ℕ) → c < length bs → IfSome (slice_get bs c) (λ x. P x.order) → P (get_or (orders_of bs) c [])
+at_order : (P : List Act → Type 0) (b : BlockOf) (bs : List BlockOf) (c : ℕ) → c < length bs → IfSome (slice_get bs c) (λ x. P x.order) → P (get_or (orders_in bs) c [])
 at_order P b bs c lt h =
     let there : slice_get bs c ≡ Some (get_or bs c b) = slice_get-get_or bs c b lt in
     let If : Option BlockOf → Type 0 = λ r. IfSome r (λ x. P x.order) in
@@ -37,7 +39,7 @@ first_of : (bs : List BlockOf) (c : ℕ) → c < length bs → BlockOf
 first_of [] c lt = absurd (let no : ⊥ = omega arith in no)
 first_of (b ∷ bs) c lt = b
 
-are_orders : (p : PlanOf) (calls : CallLists) (bs : List BlockOf) → AreServed p calls bs → AreWhole p calls bs → AreOrders p calls (orders_of bs)
+are_orders : (p : PlanOf) (calls : CallLists) (bs : List BlockOf) → AreServed p calls bs → AreWhole p calls bs → AreOrders p calls (orders_in bs)
 are_orders p calls bs served whole = record {
   count = length-map bs (λ b. b.order) ∙ served.count;
   whole = λ c lt. let within : c < length bs = subst (λ n. c < n) (sym served.count) lt in at_order (IsWhole p calls c) (first_of bs c within) bs c within (whole c lt);
@@ -77,46 +79,47 @@ alone file verify orders are =
     (λ c lt. is_feeds p (lists_of []) c (get_or orders c []) (no_call c) (are.whole c (subst (λ n. c < n) are.count lt))
     ∙ sym (get_or-map feeds p.items c [] [] (subst (λ n. c < n) count lt)))
 
--- what the steps say of the blocks that were served
-abbrev Served : (PlanOf → CallLists → List (List Act) → List ℕ) → List BlockOf → List ℕ → PlanOf → CallLists → Type 0
-Served text_of bs text p calls = AreServed p calls bs × AreWhole p calls bs × (text ≡ text_of p calls (orders_of bs))
+-- a setup's squeues and rings served the plan with these calls
+abbrev Served : Setup → ServedOf → PlanOf → CallLists → Type 0
+Served s v p calls = HasServed p calls s.squeues s.rings s.spread v
 
 -- the plan is that of the capture, and the calls are those of the words
-at_home : (text_of : PlanOf → CallLists → List (List Act) → List ℕ) (bs : List BlockOf) (text : List ℕ) (p q : PlanOf) (calls others : CallLists)
-    → p ≡ q → calls ≡ others → Served text_of bs text p calls → Served text_of bs text q others
-at_home text_of bs text p q calls others same equal s =
-    let Of : PlanOf → Type 0 = λ r. Served text_of bs text r calls in
-    let By : CallLists → Type 0 = λ k. Served text_of bs text q k in
-    subst By equal (subst Of same s)
+at_home : (s : Setup) (v : ServedOf) (p q : PlanOf) (calls others : CallLists) → p ≡ q → calls ≡ others → Served s v p calls → Served s v q others
+at_home s v p q calls others same equal h =
+    let Of : PlanOf → Type 0 = λ r. Served s v r calls in
+    let By : CallLists → Type 0 = λ k. Served s v q k in
+    subst By equal (subst Of same h)
 
-reported : (file : CaptureFile) (verify : Bool) (ws : List CallWord) (bs : List BlockOf) (text : List ℕ) → Served report_text bs text (plan_of file verify) (lists_of ws) → IsReport file verify ws text
-reported file verify ws bs text s =
-    let are = are_orders (plan_of file verify) (lists_of ws) bs s.0 s.1 in
-    let Orders : List CallWord → Type 0 = λ vs. AreOrders (plan_of file verify) (lists_of vs) (orders_of bs) in
+pub is_report : (file : CaptureFile) (a : Asked) (p : PlanOf) (calls : CallLists) (v : ServedOf) (text : List ℕ)
+    → p ≡ plan_of file a.verify → calls ≡ lists_of a.calls → HasServed p calls a.setup.squeues a.setup.rings a.setup.spread v
+    → ((k : CallLists) → AreServed p k v.blocks → text ≡ report_text p k (orders_of v)) → IsReport file a v text
+is_report file a p calls v text same equal h says =
+    let q = plan_of file a.verify in
+    let served : Served a.setup v q (lists_of a.calls) = at_home a.setup v p q calls (lists_of a.calls) same equal h in
+    let are = are_orders q (lists_of a.calls) v.blocks served.served served.whole in
+    let Orders : List CallWord → Type 0 = λ ws. AreOrders q (lists_of ws) (orders_of v) in
     record {
-      orders = orders_of bs;
+      served = served;
       whole = are;
-      alone = λ none. alone file verify (orders_of bs) (subst Orders none are);
-      says = s.2;
+      alone = λ none. alone file a.verify (orders_of v) (subst Orders none are);
+      says = says calls h.served ∙ ap (λ r. report_text r calls (orders_of v)) same ∙ ap (λ k. report_text q k (orders_of v)) equal;
     }
 
-pub is_report : (file : CaptureFile) (verify : Bool) (ws : List CallWord) (p : PlanOf) (calls : CallLists) (bs : List BlockOf) (text : List ℕ)
-    → p ≡ plan_of file verify → calls ≡ lists_of ws → AreServed p calls bs → AreWhole p calls bs
-    → ((k : CallLists) → AreServed p k bs → text ≡ report_text p k (orders_of bs)) → IsReport file verify ws text
-is_report file verify ws p calls bs text same equal served whole says =
-    reported file verify ws bs text (at_home report_text bs text p (plan_of file verify) calls (lists_of ws) same equal (served, whole, says calls served))
-
-pub is_summary : (number : ℕ) (file : CaptureFile) (verify : Bool) (p : PlanOf) (calls : CallLists) (bs : List BlockOf) (input text : List ℕ) → IsGenerated number file
-    → p ≡ plan_of file verify → calls ≡ lists_of [] → input ≡ file.bytes → AreServed p calls bs → AreWhole p calls bs
-    → ((k : CallLists) → AreServed p k bs → text ≡ summary_text number input p k (orders_of bs)) → IsSummary number verify text
-is_summary number file verify p calls bs input text generated same equal bytes served whole says =
-    let q = plan_of file verify in
-    let s = at_home (summary_text number input) bs text p q calls (lists_of []) same equal (served, whole, says calls served) in
+pub is_summary : (number : ℕ) (file : CaptureFile) (a : Asked) (p : PlanOf) (calls : CallLists) (v : ServedOf) (input text : List ℕ) → IsGenerated number file
+    → p ≡ plan_of file a.verify → calls ≡ lists_of [] → input ≡ file.bytes → HasServed p calls a.setup.squeues a.setup.rings a.setup.spread v
+    → ((k : CallLists) → AreServed p k v.blocks → text ≡ summary_text number input p k (orders_of v)) → IsSummary number a v text
+is_summary number file a p calls v input text generated same equal bytes h says =
+    let q = plan_of file a.verify in
+    let served : Served a.setup v q (lists_of []) = at_home a.setup v p q calls (lists_of []) same equal h in
+    let items : orders_of v ≡ items_alone q = alone file a.verify (orders_of v) (are_orders q (lists_of []) v.blocks served.served served.whole) in
     record {
       file = file;
       generated = generated;
-      says = s.2
-          ∙ ap (summary_text number input q (lists_of [])) (alone file verify (orders_of bs) (are_orders q (lists_of []) bs s.0 s.1))
+      served = served;
+      alone = items;
+      says = says (lists_of []) (subst (λ k. AreServed p k v.blocks) equal h.served)
+          ∙ ap (λ r. summary_text number input r (lists_of []) (orders_of v)) same
+          ∙ ap (summary_text number input q (lists_of [])) items
           ∙ ap (λ b. summary_text number b q (lists_of []) (items_alone q)) bytes;
     }
 

@@ -1,5 +1,5 @@
 -- How a run ends, from what its steps say.
-use Rattle.std.proofs.Common.{◌≡◌, ℕ, List, [], Option, Some, None, ◌⊎◌, inl, inr, subst, sym, ap, refl, arith, Bool, true, false}
+use Rattle.std.proofs.Common.{◌≡◌, ℕ, List, [], Option, Some, None, inl, inr, subst, sym, ap, refl, arith, Bool, true, false}
 use Rattle.std.specs.Io.KnownBytes.{Appends}
 use Rattle.std.proofs.KnownBytes.{Consumes-kept, Consumes-nil}
 use Rattle.sq_base.specs.Ends.{Rose, AppendsProperly}
@@ -9,12 +9,13 @@ use Rattle.capture_reader.specs.declared.fault.CaptureFault.{CaptureFault}
 use Rattle.capture_reader.specs.declared.fault.CaptureFault.TheVariants as fault
 use Rattle.pcapng_reader.specs.declared.fault.PcapngFault.{PcapngFault}
 use Rattle.pcapng_reader.specs.declared.fault.PcapngFault.TheVariants as pcapng
+use Rattle.ring_threads.specs.Served.{ServedOf}
 use Rattle.squeue_run.specs.Asked.{Asked}
 use Rattle.squeue_run.specs.CallWords.{IsFirstMissing}
 use Rattle.squeue_run.specs.declared.refusal.Refusal.{Refusal}
 use Rattle.squeue_run.specs.declared.refusal.Refusal.TheVariants as refusal
 use Rattle.squeue_run.specs.Lines.{memory_line, write_line, bad_line, pcapng_line, missing_line}
-use Rattle.squeue_run.specs.Ran.{End, GetsLine, IsUntouched, Ran, RanBy, RanGenerated, RanRead, RanRefused, HasRead, MetNoFault, TakesFew, conns_of}
+use Rattle.squeue_run.specs.Ran.{End, GetsLine, HandsBack, HasRan, IsUntouched, RanBy, RanFor, RanGenerated, RanRead, RanRefused, HasRead, MetNoFault, TakesFew}
 use Rattle.squeue_run.specs.Causes.{CountsFaults, Fails, FailsBy, GeneratedFails, Gives, GivesBy, LineOrMemory, ReadingFails, RefusedWords, Told}
 
 line_or_memory : (P : Status → Type 0) (wanted : Status) (text : List ℕ) (err : End) (s : Status)
@@ -29,13 +30,13 @@ refused_words (refusal.Capture f) out err s u h t = absurd h
 refused_words (refusal.Pcapng f) out err s u h t = absurd h
 refused_words (refusal.NoConnection c n) out err s u h t = absurd h
 
-not_generated : (n : ℕ) (a : Asked) (why : Refusal) (out err : End) (s : Status) → IsUntouched out → GeneratedFails why → Told why err s → RanGenerated n a.verify out err s
-not_generated n a refusal.NoMemory out err s u h t = subst (RanGenerated n a.verify out err) (sym t.0) (u, t.1)
+not_generated : (n : ℕ) (a : Asked) (why : Refusal) (out err : End) (s : Status) → IsUntouched out → GeneratedFails why → Told why err s → RanGenerated n a out err None s
+not_generated n a refusal.NoMemory out err s u h t = subst (RanGenerated n a out err None) (sym t.0) (u, t.1)
 not_generated n a refusal.Usage out err s u h t = absurd h
 not_generated n a (refusal.Capture f) out err s u h t =
     let Tells : CaptureFault → Type 0 = λ g. Told (refusal.Capture g) err s in
     let told = subst Tells h t in
-    subst (RanGenerated n a.verify out err) (sym told.0) (u, told.1)
+    subst (RanGenerated n a out err None) (sym told.0) (u, told.1)
 not_generated n a (refusal.Pcapng f) out err s u h t = absurd h
 not_generated n a (refusal.NoConnection c k) out err s u h t = absurd h
 
@@ -47,64 +48,64 @@ is_memory _ = false
 no_memory_told : (f : PcapngFault) → is_memory f ≡ false → f ≡ pcapng.NoMemory → ⊥
 no_memory_told f other e = let is : is_memory f ≡ true = ap is_memory e in cc
 
-not_read : (a : Asked) (why : Refusal) (source out err : End) (s : Status) → IsUntouched out → ReadingFails a source why → Told why err s → RanRead a source out err s
-not_read a refusal.NoMemory source out err s u h t = subst (RanRead a source out err) (sym t.0) (u, t.1)
+not_read : (a : Asked) (why : Refusal) (source out err : End) (s : Status) → IsUntouched out → ReadingFails a source why → Told why err s → RanRead a source out err None s
+not_read a refusal.NoMemory source out err s u h t = subst (RanRead a source out err None) (sym t.0) (u, t.1)
 not_read a refusal.Usage source out err s u h t = absurd h
-not_read a (refusal.Capture fault.Read) source out err s u h t = subst (RanRead a source out err) (sym t.0) (u, t.1)
-not_read a (refusal.Capture fault.NoMemory) source out err s u h t = subst (RanRead a source out err) (sym t.0) (u, t.1)
-not_read a (refusal.Capture (fault.TooLarge k)) source out err s u (inl h) t = subst (RanRead a source out err) (sym t.0) (inl (h.1, (u, t.1)))
+not_read a (refusal.Capture fault.Read) source out err s u h t = subst (RanRead a source out err None) (sym t.0) (u, t.1)
+not_read a (refusal.Capture fault.NoMemory) source out err s u h t = subst (RanRead a source out err None) (sym t.0) (u, t.1)
+not_read a (refusal.Capture (fault.TooLarge k)) source out err s u (inl h) t = subst (RanRead a source out err None) (sym t.0) (inl (h.1, (u, t.1)))
 not_read a (refusal.Capture (fault.TooLarge k)) source out err s u (inr h) t = absurd h.2.1.1
 not_read a (refusal.Capture fault.TooManyRecords) source out err s u (inl h) t = absurd h
-not_read a (refusal.Capture fault.TooManyRecords) source out err s u (inr h) t = subst (RanRead a source out err) (sym t.0) (inr (inl (h, (u, t.1))))
+not_read a (refusal.Capture fault.TooManyRecords) source out err s u (inr h) t = subst (RanRead a source out err None) (sym t.0) (inr (inl (h, (u, t.1))))
 not_read a (refusal.Capture (fault.ShortHeader k)) source out err s u (inl h) t = absurd h
 not_read a (refusal.Capture (fault.ShortHeader k)) source out err s u (inr h) t =
-    line_or_memory (RanRead a source out err) status.BadCapture (bad_line (fault.ShortHeader k)) err s (λ g. inl (fault.ShortHeader k, tt, h, (u, g))) (λ g. (u, g)) t
+    line_or_memory (RanRead a source out err None) status.BadCapture (bad_line (fault.ShortHeader k)) err s (λ g. inl (fault.ShortHeader k, tt, h, (u, g))) (λ g. (u, g)) t
 not_read a (refusal.Capture (fault.Magic k)) source out err s u (inl h) t = absurd h
 not_read a (refusal.Capture (fault.Magic k)) source out err s u (inr h) t =
-    line_or_memory (RanRead a source out err) status.BadCapture (bad_line (fault.Magic k)) err s (λ g. inl (fault.Magic k, tt, h, (u, g))) (λ g. (u, g)) t
+    line_or_memory (RanRead a source out err None) status.BadCapture (bad_line (fault.Magic k)) err s (λ g. inl (fault.Magic k, tt, h, (u, g))) (λ g. (u, g)) t
 not_read a (refusal.Capture (fault.Version i j)) source out err s u (inl h) t = absurd h
 not_read a (refusal.Capture (fault.Version i j)) source out err s u (inr h) t =
-    line_or_memory (RanRead a source out err) status.BadCapture (bad_line (fault.Version i j)) err s (λ g. inl (fault.Version i j, tt, h, (u, g))) (λ g. (u, g)) t
+    line_or_memory (RanRead a source out err None) status.BadCapture (bad_line (fault.Version i j)) err s (λ g. inl (fault.Version i j, tt, h, (u, g))) (λ g. (u, g)) t
 not_read a (refusal.Capture (fault.Link k)) source out err s u (inl h) t = absurd h
 not_read a (refusal.Capture (fault.Link k)) source out err s u (inr h) t =
-    line_or_memory (RanRead a source out err) status.BadCapture (bad_line (fault.Link k)) err s (λ g. inl (fault.Link k, tt, h, (u, g))) (λ g. (u, g)) t
+    line_or_memory (RanRead a source out err None) status.BadCapture (bad_line (fault.Link k)) err s (λ g. inl (fault.Link k, tt, h, (u, g))) (λ g. (u, g)) t
 not_read a (refusal.Capture (fault.RecordLength i j)) source out err s u (inl h) t = absurd h
 not_read a (refusal.Capture (fault.RecordLength i j)) source out err s u (inr h) t =
-    line_or_memory (RanRead a source out err) status.BadCapture (bad_line (fault.RecordLength i j)) err s (λ g. inl (fault.RecordLength i j, tt, h, (u, g))) (λ g. (u, g)) t
-not_read a (refusal.Pcapng pcapng.NoMemory) source out err s u h t = subst (RanRead a source out err) (sym t.0) (u, t.1)
+    line_or_memory (RanRead a source out err None) status.BadCapture (bad_line (fault.RecordLength i j)) err s (λ g. inl (fault.RecordLength i j, tt, h, (u, g))) (λ g. (u, g)) t
+not_read a (refusal.Pcapng pcapng.NoMemory) source out err s u h t = subst (RanRead a source out err None) (sym t.0) (u, t.1)
 not_read a (refusal.Pcapng pcapng.TooManyRecords) source out err s u (inl e) t = absurd (no_memory_told pcapng.TooManyRecords refl e)
-not_read a (refusal.Pcapng pcapng.TooManyRecords) source out err s u (inr h) t = subst (RanRead a source out err) (sym t.0) (inr (inr (h, (u, t.1))))
+not_read a (refusal.Pcapng pcapng.TooManyRecords) source out err s u (inr h) t = subst (RanRead a source out err None) (sym t.0) (inr (inr (h, (u, t.1))))
 not_read a (refusal.Pcapng (pcapng.ShortSection k)) source out err s u (inl e) t = absurd (no_memory_told (pcapng.ShortSection k) refl e)
 not_read a (refusal.Pcapng (pcapng.ShortSection k)) source out err s u (inr h) t =
-    line_or_memory (RanRead a source out err) status.BadCapture (pcapng_line (pcapng.ShortSection k)) err s (λ g. inr (pcapng.ShortSection k, tt, h, (u, g))) (λ g. (u, g)) t
+    line_or_memory (RanRead a source out err None) status.BadCapture (pcapng_line (pcapng.ShortSection k)) err s (λ g. inr (pcapng.ShortSection k, tt, h, (u, g))) (λ g. (u, g)) t
 not_read a (refusal.Pcapng (pcapng.Magic i k)) source out err s u (inl e) t = absurd (no_memory_told (pcapng.Magic i k) refl e)
 not_read a (refusal.Pcapng (pcapng.Magic i k)) source out err s u (inr h) t =
-    line_or_memory (RanRead a source out err) status.BadCapture (pcapng_line (pcapng.Magic i k)) err s (λ g. inr (pcapng.Magic i k, tt, h, (u, g))) (λ g. (u, g)) t
+    line_or_memory (RanRead a source out err None) status.BadCapture (pcapng_line (pcapng.Magic i k)) err s (λ g. inr (pcapng.Magic i k, tt, h, (u, g))) (λ g. (u, g)) t
 not_read a (refusal.Pcapng (pcapng.BlockLength i k)) source out err s u (inl e) t = absurd (no_memory_told (pcapng.BlockLength i k) refl e)
 not_read a (refusal.Pcapng (pcapng.BlockLength i k)) source out err s u (inr h) t =
-    line_or_memory (RanRead a source out err) status.BadCapture (pcapng_line (pcapng.BlockLength i k)) err s (λ g. inr (pcapng.BlockLength i k, tt, h, (u, g))) (λ g. (u, g)) t
+    line_or_memory (RanRead a source out err None) status.BadCapture (pcapng_line (pcapng.BlockLength i k)) err s (λ g. inr (pcapng.BlockLength i k, tt, h, (u, g))) (λ g. (u, g)) t
 not_read a (refusal.Pcapng (pcapng.EndLength i k)) source out err s u (inl e) t = absurd (no_memory_told (pcapng.EndLength i k) refl e)
 not_read a (refusal.Pcapng (pcapng.EndLength i k)) source out err s u (inr h) t =
-    line_or_memory (RanRead a source out err) status.BadCapture (pcapng_line (pcapng.EndLength i k)) err s (λ g. inr (pcapng.EndLength i k, tt, h, (u, g))) (λ g. (u, g)) t
+    line_or_memory (RanRead a source out err None) status.BadCapture (pcapng_line (pcapng.EndLength i k)) err s (λ g. inr (pcapng.EndLength i k, tt, h, (u, g))) (λ g. (u, g)) t
 not_read a (refusal.Pcapng (pcapng.Version i j k)) source out err s u (inl e) t = absurd (no_memory_told (pcapng.Version i j k) refl e)
 not_read a (refusal.Pcapng (pcapng.Version i j k)) source out err s u (inr h) t =
-    line_or_memory (RanRead a source out err) status.BadCapture (pcapng_line (pcapng.Version i j k)) err s (λ g. inr (pcapng.Version i j k, tt, h, (u, g))) (λ g. (u, g)) t
+    line_or_memory (RanRead a source out err None) status.BadCapture (pcapng_line (pcapng.Version i j k)) err s (λ g. inr (pcapng.Version i j k, tt, h, (u, g))) (λ g. (u, g)) t
 not_read a (refusal.Pcapng (pcapng.Link i k)) source out err s u (inl e) t = absurd (no_memory_told (pcapng.Link i k) refl e)
 not_read a (refusal.Pcapng (pcapng.Link i k)) source out err s u (inr h) t =
-    line_or_memory (RanRead a source out err) status.BadCapture (pcapng_line (pcapng.Link i k)) err s (λ g. inr (pcapng.Link i k, tt, h, (u, g))) (λ g. (u, g)) t
+    line_or_memory (RanRead a source out err None) status.BadCapture (pcapng_line (pcapng.Link i k)) err s (λ g. inr (pcapng.Link i k, tt, h, (u, g))) (λ g. (u, g)) t
 not_read a (refusal.Pcapng (pcapng.MixedLink i k)) source out err s u (inl e) t = absurd (no_memory_told (pcapng.MixedLink i k) refl e)
 not_read a (refusal.Pcapng (pcapng.MixedLink i k)) source out err s u (inr h) t =
-    line_or_memory (RanRead a source out err) status.BadCapture (pcapng_line (pcapng.MixedLink i k)) err s (λ g. inr (pcapng.MixedLink i k, tt, h, (u, g))) (λ g. (u, g)) t
+    line_or_memory (RanRead a source out err None) status.BadCapture (pcapng_line (pcapng.MixedLink i k)) err s (λ g. inr (pcapng.MixedLink i k, tt, h, (u, g))) (λ g. (u, g)) t
 not_read a (refusal.Pcapng (pcapng.NoInterface i k)) source out err s u (inl e) t = absurd (no_memory_told (pcapng.NoInterface i k) refl e)
 not_read a (refusal.Pcapng (pcapng.NoInterface i k)) source out err s u (inr h) t =
-    line_or_memory (RanRead a source out err) status.BadCapture (pcapng_line (pcapng.NoInterface i k)) err s (λ g. inr (pcapng.NoInterface i k, tt, h, (u, g))) (λ g. (u, g)) t
+    line_or_memory (RanRead a source out err None) status.BadCapture (pcapng_line (pcapng.NoInterface i k)) err s (λ g. inr (pcapng.NoInterface i k, tt, h, (u, g))) (λ g. (u, g)) t
 not_read a (refusal.Pcapng (pcapng.PacketLength i k)) source out err s u (inl e) t = absurd (no_memory_told (pcapng.PacketLength i k) refl e)
 not_read a (refusal.Pcapng (pcapng.PacketLength i k)) source out err s u (inr h) t =
-    line_or_memory (RanRead a source out err) status.BadCapture (pcapng_line (pcapng.PacketLength i k)) err s (λ g. inr (pcapng.PacketLength i k, tt, h, (u, g))) (λ g. (u, g)) t
+    line_or_memory (RanRead a source out err None) status.BadCapture (pcapng_line (pcapng.PacketLength i k)) err s (λ g. inr (pcapng.PacketLength i k, tt, h, (u, g))) (λ g. (u, g)) t
 not_read a (refusal.NoConnection c conns) source out err s u h t =
     let IsFirst : ℕ → Type 0 = λ n. IsFirstMissing n c a.calls in
     let Gets : ℕ → Type 0 = λ n. GetsLine err (missing_line c n) in
-    line_or_memory (RanRead a source out err) status.NoConnection (missing_line c conns) err s
+    line_or_memory (RanRead a source out err None) status.NoConnection (missing_line c conns) err s
     (λ g. (h.0, h.1, (c, subst IsFirst h.2.0 h.2.1, (u, subst Gets h.2.0 g)))) (λ g. (u, g)) t
 
 by_line : (source err : End) (wanted s : Status) (text : List ℕ) → HasRead source wanted → HasRead source status.NoMemory → LineOrMemory wanted text err s → HasRead source s
@@ -135,29 +136,56 @@ has_read source err (refusal.Pcapng (pcapng.NoInterface i k)) s c f t = by_line 
 has_read source err (refusal.Pcapng (pcapng.PacketLength i k)) s c f t = by_line source err status.BadCapture s (pcapng_line (pcapng.PacketLength i k)) (c, f) (c, f) t
 has_read source err (refusal.NoConnection k conns) s c f t = by_line source err status.NoConnection s (missing_line k conns) (c, f) (c, f) t
 
-not_written : (number : Option ℕ) (a : Asked) (why : Refusal) (source out err : End) (s : Status) → IsUntouched out → FailsBy number a source why → Told why err s → RanBy number a source out err s
+not_written : (number : Option ℕ) (a : Asked) (why : Refusal) (source out err : End) (s : Status) → IsUntouched out → FailsBy number a source why → Told why err s → RanBy number a source out err None s
 not_written (Some n) a why source out err s u h t = (h.0, not_generated n a why out err s u h.1 t)
 not_written None a why source out err s u h t = (has_read source err why s h.0 h.1 t, not_read a why source out err s u h.2 t)
 
-pub refused : (words : Option Asked) (why : Refusal) (source out err : End) (s : Status) → IsUntouched out → Fails words source why → Told why err s → Ran words source out err s
-refused None why source out err s u h t = (h.0, refused_words why out err s u h.1 t)
-refused (Some a) why source out err s u h t = not_written a.number a why source out err s u h t
+no_output : (words : Option Asked) (why : Refusal) (source out err : End) (s : Status) → IsUntouched out → Fails words source why → Told why err s → RanFor words source out err None s
+no_output None why source out err s u h t = (h.0, refused_words why out err s u h.1 t)
+no_output (Some a) why source out err s u h t = not_written a.number a why source out err s u h t
 
-done_by : (number : Option ℕ) (a : Asked) (source out err : End) (text : List ℕ) → GivesBy number a source text → Appends out.was out.is text → MetNoFault out → IsUntouched err → RanBy number a source out err status.Ok
-done_by (Some n) a source out err text h w k u = (h.0, (record { text = text; output = h.1; written = w; unfailing = k }, u))
-done_by None a source out err text h w k u = ((h.0, h.1), (h.2.0, h.2.1, h.2.2.0, record { text = text; output = h.2.2.1; written = w; unfailing = k }, u))
+-- nothing is handed back with nothing
+nothing_back : (s : Status) → HandsBack None s
+nothing_back status.Ok = tt
+nothing_back status.Usage = refl
+nothing_back status.ReadFault = refl
+nothing_back status.WriteFault = refl
+nothing_back status.BadCapture = refl
+nothing_back status.TooLarge = refl
+nothing_back status.NoMemory = refl
+nothing_back status.NoConnection = refl
 
-pub done : (words : Option Asked) (source out err : End) (text bytes : List ℕ) → Gives words source text → bytes ≡ text → Appends out.was out.is bytes → MetNoFault out → IsUntouched err → Ran words source out err status.Ok
-done None source out err text bytes h e w k u = absurd h
-done (Some a) source out err text bytes h e w k u = done_by a.number a source out err text h (subst (Appends out.was out.is) e w) k u
+pub refused : (words : Option Asked) (why : Refusal) (source out err : End) (s : Status) → IsUntouched out → Fails words source why → Told why err s → HasRan words source out err None s
+refused words why source out err s u h t = record { ran = no_output words why source out err s u h t; handed = nothing_back s }
 
-cut_by : (number : Option ℕ) (a : Asked) (source out err : End) (text : List ℕ) → GivesBy number a source text → AppendsProperly out.was out.is text → Rose out.faults_were out.faults_are → GetsLine err write_line → RanBy number a source out err status.WriteFault
-cut_by (Some n) a source out err text h w r g = (h.0, (record { text = text; output = h.1; written = w; failed = r }, g))
-cut_by None a source out err text h w r g = ((h.0, h.1), (h.2.0, h.2.1, h.2.2.0, record { text = text; output = h.2.2.1; written = w; failed = r }, g))
+done_by : (number : Option ℕ) (a : Asked) (source out err : End) (v : ServedOf) (text : List ℕ) → GivesBy number a source v text → Appends out.was out.is text → MetNoFault out → IsUntouched err
+    → RanBy number a source out err (Some v) status.Ok
+done_by (Some n) a source out err v text h w k u = (h.0, (record { served = v; handed = refl; text = text; output = h.1; written = w; unfailing = k }, u))
+done_by None a source out err v text h w k u =
+    ((h.0, h.1), (h.2.0, h.2.1, h.2.2.0, record { served = v; handed = refl; text = text; output = h.2.2.1; written = w; unfailing = k }, u))
 
-pub cut : (words : Option Asked) (source out err : End) (text bytes : List ℕ) → Gives words source text → bytes ≡ text → AppendsProperly out.was out.is bytes → Rose out.faults_were out.faults_are → GetsLine err write_line → Ran words source out err status.WriteFault
-cut None source out err text bytes h e w r g = absurd h
-cut (Some a) source out err text bytes h e w r g = cut_by a.number a source out err text h (subst (AppendsProperly out.was out.is) e w) r g
+done_for : (words : Option Asked) (source out err : End) (v : ServedOf) (text bytes : List ℕ) → Gives words source v text → bytes ≡ text → Appends out.was out.is bytes → MetNoFault out → IsUntouched err
+    → RanFor words source out err (Some v) status.Ok
+done_for None source out err v text bytes h e w k u = absurd h
+done_for (Some a) source out err v text bytes h e w k u = done_by a.number a source out err v text h (subst (Appends out.was out.is) e w) k u
+
+pub done : (words : Option Asked) (source out err : End) (v : ServedOf) (text bytes : List ℕ) → Gives words source v text → bytes ≡ text → Appends out.was out.is bytes → MetNoFault out → IsUntouched err
+    → HasRan words source out err (Some v) status.Ok
+done words source out err v text bytes h e w k u = record { ran = done_for words source out err v text bytes h e w k u; handed = tt }
+
+cut_by : (number : Option ℕ) (a : Asked) (source out err : End) (v : ServedOf) (text : List ℕ) → GivesBy number a source v text → AppendsProperly out.was out.is text → Rose out.faults_were out.faults_are → GetsLine err write_line
+    → RanBy number a source out err None status.WriteFault
+cut_by (Some n) a source out err v text h w r g = (h.0, (record { served = v; text = text; output = h.1; written = w; failed = r }, g))
+cut_by None a source out err v text h w r g = ((h.0, h.1), (h.2.0, h.2.1, h.2.2.0, record { served = v; text = text; output = h.2.2.1; written = w; failed = r }, g))
+
+cut_for : (words : Option Asked) (source out err : End) (v : ServedOf) (text bytes : List ℕ) → Gives words source v text → bytes ≡ text → AppendsProperly out.was out.is bytes → Rose out.faults_were out.faults_are
+    → GetsLine err write_line → RanFor words source out err None status.WriteFault
+cut_for None source out err v text bytes h e w r g = absurd h
+cut_for (Some a) source out err v text bytes h e w r g = cut_by a.number a source out err v text h (subst (AppendsProperly out.was out.is) e w) r g
+
+pub cut : (words : Option Asked) (source out err : End) (v : ServedOf) (text bytes : List ℕ) → Gives words source v text → bytes ≡ text → AppendsProperly out.was out.is bytes → Rose out.faults_were out.faults_are
+    → GetsLine err write_line → HasRan words source out err None status.WriteFault
+cut words source out err v text bytes h e w r g = record { ran = cut_for words source out err v text bytes h e w r g; handed = refl }
 
 no_memory_by : (number : Option ℕ) (a : Asked) (source : End) → IsUntouched source → FailsBy number a source refusal.NoMemory
 no_memory_by (Some n) a source u = (u, tt)

@@ -1,52 +1,16 @@
 -- The CALLs of accepted words: at most 1,024, of the four threads; and their lists, one CALL further.
-use Rattle.std.proofs.Common.{◌≡◌, ℕ, ◌<◌, ◌≤◌, ◌==◌, Bool, true, false, List, [], ◌∷◌, ◌++◌, suc, length, map, filter, zero, get_or, set, Option, Some, None, refl, sym, ap, subst, ◌∙◌, arith, ◌&&◌, if◌then◌else◌, append-nil, eq-eqb, ◌⊎◌, inl, inr}
-use Rattle.std.specs.Prelude.{option_map, option_and_then, nat_le}
+use Rattle.std.proofs.Common.{◌≡◌, ℕ, ◌<◌, ◌≤◌, ◌==◌, Bool, true, false, List, [], ◌∷◌, ◌++◌, suc, length, map, filter, zero, get_or, set, Some, refl, sym, ap, subst, ◌∙◌, arith, if◌then◌else◌, append-nil, eq-eqb, ◌⊎◌, inl, inr}
 use Rattle.std.specs.List.{AllByRecursion}
-use Rattle.std.specs.Str.Parse.{digits_value}
-use Rattle.std.proofs.lemmas.Bool.{leb-true, false≢true, cases_lt, eqb-true}
+use Rattle.std.proofs.lemmas.Bool.{leb-true, cases_lt, eqb-true}
 use Rattle.std.proofs.lemmas.List.{map-append}
 use Rattle.std.proofs.lemmas.List.Elements.{filter-append}
 use Rattle.tcb_machine.specs.declared.kinds.Call.{Call}
 use Rattle.conn_blocks.specs.CallLists.{calls_of as list_of, call_count}
 use Rattle.squeue_run.specs.Words.{Text, given}
-use Rattle.squeue_run.specs.Asked.{Asked, asked, asked_by, calls_of, call_of, call_by, asked_of, number_between, is_number, is_count, input_of, setup_of, split_at}
+use Rattle.squeue_run.specs.Asked.{Asked, asked, asked_by, calls_of, call_of, call_by, asked_of, number_between, is_count, input_of, setup_of, split_at}
 use Rattle.squeue_run.specs.CallWords.{lists_of}
 use Rattle.squeue_run.specs.declared.calls.CallWord.{CallWord}
-
-some_is : {A : Type 0} {x y : A} → Some x ≡ Some y → x ≡ y
-some_is e = cc
-
-record Chained {A B : Type 0} (f : A → Option B) (o : Option A) (y : B) : Type 0 where
-  value : A
-  found : o ≡ Some value
-  gives : f value ≡ Some y
-
-chained : {A B : Type 0} (f : A → Option B) (o : Option A) (y : B) → option_and_then f o ≡ Some y → Chained f o y
-chained f None y e = absurd (let no : ⊥ = cc in no)
-chained f (Some x) y e = record { value = x; found = refl; gives = e }
-
-record Mapped {A B : Type 0} (f : A → B) (o : Option A) (y : B) : Type 0 where
-  value : A
-  found : o ≡ Some value
-  gives : f value ≡ y
-
-mapped : {A B : Type 0} (f : A → B) (o : Option A) (y : B) → option_map f o ≡ Some y → Mapped f o y
-mapped f None y e = absurd (let no : ⊥ = cc in no)
-mapped f (Some x) y e = record { value = x; found = refl; gives = some_is e }
-
-guarded : {A : Type 0} (b : Bool) (o : Option A) (y : A) → (if b then o else None) ≡ Some y → (b ≡ true) × (o ≡ Some y)
-guarded true o y e = (refl, e)
-guarded false o y e = absurd (let no : ⊥ = cc in no)
-
-third : (a b c : Bool) → (a && (b && c)) ≡ true → c ≡ true
-third true true c e = e
-third true false c e = absurd (false≢true e)
-third false b c e = absurd (false≢true e)
-
-number_most : (least most : ℕ) (text : Text) (n : ℕ) → number_between least most text ≡ Some n → n ≤ most
-number_most least most text n e =
-    let g = guarded (is_number text && (nat_le least (digits_value 10 text) && nat_le (digits_value 10 text) most)) (Some (digits_value 10 text)) n e in
-    subst (λ k. k ≤ most) (some_is g.1) (leb-true (digits_value 10 text) most (third (is_number text) (nat_le least (digits_value 10 text)) (nat_le (digits_value 10 text) most) g.0))
+use Rattle.squeue_run.proofs.Chains.{some_is, chained, mapped, guarded, first_of_both, number_within}
 
 call_thread : (thread connection what : Text) (w : CallWord) → call_by thread connection what ≡ Some w → w.thread < 4
 call_thread thread connection what w e =
@@ -54,7 +18,7 @@ call_thread thread connection what w e =
     let j = chained _ (number_between 0 3 thread) w g.1 in
     let c = chained _ (number_between 0 4294967295 connection) w j.gives in
     let m = mapped _ (asked_of what) w c.gives in
-    let most = number_most 0 3 thread j.value j.found in
+    let most = (number_within 0 3 thread j.value j.found).1 in
     let same : j.value ≡ w.thread = ap (λ (v : CallWord). v.thread) m.gives in
     omega (arith, most, same)
 
@@ -76,10 +40,6 @@ few_calls (t ∷ ts) ws e =
     let rest = few_calls ts more.value more.found in
     subst (FewCalls (t ∷ ts)) more.gives (record { count = ap suc rest.count; threads = (word_thread t one.value one.found, rest.threads) })
 
-both : (a b : Bool) → (a && b) ≡ true → a ≡ true
-both true b e = refl
-both false b e = absurd (false≢true e)
-
 pub record Few (ws : List CallWord) : Type 0 where
   pub count : length ws ≤ 1024
   pub threads : AllByRecursion (λ w. w.thread < 4) ws
@@ -93,7 +53,7 @@ few_asked words a e =
     let m = mapped _ (calls_of g.value.calls) a c.1 in
     let few = few_calls g.value.calls m.value m.found in
     let same : m.value ≡ a.calls = ap (λ (b : Asked). b.calls) m.gives in
-    let most = leb-true (length g.value.calls) 1024 (both _ _ c.0) in
+    let most = leb-true (length g.value.calls) 1024 (first_of_both _ _ c.0) in
     subst Few same (record { count = omega (arith, few.count, most); threads = few.threads })
 
 -- a filter of one element

@@ -5,7 +5,7 @@ use Rattle.std.specs.Str.{bytes_eq}
 use Rattle.std.specs.Char.{is_ascii_digit}
 use Rattle.std.specs.Str.Parse.{digits_value}
 use Rattle.squeue_run.specs.Words.{Text, Given, given}
-use Rattle.ring_threads.specs.declared.setup.Setup.{Setup}
+use Rattle.ring_quotas.specs.declared.setup.Setup.{Setup}
 use Rattle.squeue_enter.specs.declared.Mode.{Mode}
 use Rattle.squeue_enter.specs.declared.Mode.TheVariants as mode
 use Rattle.tcb_machine.specs.declared.kinds.Call.{Call}

@@ -1,4 +1,4 @@
--- What the steps of a run say to each other: what is to be written, or why nothing is.
+-- What the steps of a run say to each other: what was served and is to be written, or why nothing is.
 use Rattle.std.specs.Prelude.{◌≡◌, ℕ, List, Option, Some, None, ◌⊎◌}
 use Rattle.sq_base.specs.Ends.{Rose}
 use Rattle.sq_base.specs.declared.kinds.Status.{Status}
@@ -6,14 +6,14 @@ use Rattle.sq_base.specs.declared.kinds.Status.TheVariants as status
 use Rattle.capture_reader.specs.Outcome.{CaptureFile, BytesFail}
 use Rattle.capture_reader.specs.declared.fault.CaptureFault.TheVariants as fault
 use Rattle.pcapng_reader.specs.declared.fault.PcapngFault.TheVariants as pcapng
+use Rattle.ring_threads.specs.Served.{ServedOf}
 use Rattle.squeue_run.specs.Asked.{Asked}
 use Rattle.squeue_run.specs.CallWords.{AllThere, IsFirstMissing}
-use Rattle.squeue_run.specs.declared.calls.CallWord.{CallWord}
 use Rattle.squeue_run.specs.declared.reading.Words.{Words}
 use Rattle.squeue_run.specs.declared.refusal.Refusal.{Refusal}
 use Rattle.squeue_run.specs.declared.refusal.Refusal.TheVariants as refusal
 use Rattle.squeue_run.specs.Lines.{usage_line, memory_line, read_line, bad_line, pcapng_line, many_bytes_line, many_records_line, missing_line}
-use Rattle.squeue_run.specs.Input.{IsInput, IsRefusedCapture, IsRefusedPcapng, ReadsSuch}
+use Rattle.squeue_run.specs.Input.{IsRefusedCapture, IsRefusedPcapng, ReadsSuch}
 use Rattle.squeue_run.specs.Output.{IsReport, IsSummary}
 use Rattle.squeue_run.specs.Ran.{End, GetsLine, IsUntouched, MetNoFault, Reads, TakesFew, conns_of}
 
@@ -50,9 +50,9 @@ Told (refusal.NoConnection c conns) err s = LineOrMemory status.NoConnection (mi
 abbrev pub asked_by_words : Words → Asked
 asked_by_words w = record { setup = w.setup; verify = w.verify; number = w.number; calls = w.named.items }
 
--- what the replay of a capture gives, or why it gives nothing
-abbrev pub Replays : CaptureFile → Asked → List ℕ → Type 0
-Replays file a text = AllThere (conns_of file a.verify) a.calls × IsReport file a.verify a.calls text
+-- what was served in the replay of a capture, and what it writes, or why it gives nothing
+abbrev pub Replays : CaptureFile → Asked → ServedOf → List ℕ → Type 0
+Replays file a v text = AllThere (conns_of file a.verify) a.calls × IsReport file a v text
 
 abbrev pub ReplayFails : CaptureFile → Asked → Refusal → Type 0
 ReplayFails file a refusal.NoMemory = Unit {0}
@@ -90,19 +90,19 @@ abbrev pub CountsFaults : End → Refusal → Type 0
 CountsFaults source (refusal.Capture fault.Read) = Rose source.faults_were source.faults_are
 CountsFaults source _ = MetNoFault source
 
--- what is to be written for accepted words, or why nothing is
-abbrev pub GivesBy : Option ℕ → Asked → End → List ℕ → Type 0
-GivesBy (Some number) a source text = IsUntouched source × IsSummary number a.verify text
-GivesBy None a source text = MetNoFault source × TakesFew source × ((file : CaptureFile) × Reads source file × Replays file a text)
+-- what was served and is to be written for accepted words, or why nothing is
+abbrev pub GivesBy : Option ℕ → Asked → End → ServedOf → List ℕ → Type 0
+GivesBy (Some number) a source v text = IsUntouched source × IsSummary number a v text
+GivesBy None a source v text = MetNoFault source × TakesFew source × ((file : CaptureFile) × Reads source file × Replays file a v text)
 
 abbrev pub FailsBy : Option ℕ → Asked → End → Refusal → Type 0
 FailsBy (Some number) a source why = IsUntouched source × GeneratedFails why
 FailsBy None a source why = CountsFaults source why × TakesFew source × ReadingFails a source why
 
--- what is to be written for these words, or why nothing is
-abbrev pub Gives : Option Asked → End → List ℕ → Type 0
-Gives None source text = ⊥
-Gives (Some a) source text = GivesBy a.number a source text
+-- what was served and is to be written for these words, or why nothing is
+abbrev pub Gives : Option Asked → End → ServedOf → List ℕ → Type 0
+Gives None source v text = ⊥
+Gives (Some a) source v text = GivesBy a.number a source v text
 
 abbrev pub RefusedWords : Refusal → Type 0
 RefusedWords refusal.NoMemory = Unit {0}

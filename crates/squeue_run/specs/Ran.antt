@@ -1,4 +1,4 @@
--- How a run ends: by its status, what was read, what was written, and which line was told.
+-- How a run ends: by its status, what was read, what was written, which line was told, and what is handed back.
 use Rattle.std.specs.Prelude.{◌≡◌, ◌≤◌, ℕ, List, Option, Some, None, length, ◌⊎◌, Bool}
 use Rattle.std.specs.Io.KnownBytes.{Keeps, Appends}
 use Rattle.sq_base.specs.Ends.{Rose, AppendsProperly}
@@ -11,6 +11,7 @@ use Rattle.capture_reader.specs.declared.fault.CaptureFault.TheVariants as fault
 use Rattle.pcapng_reader.specs.declared.fault.PcapngFault.{PcapngFault}
 use Rattle.pcapng_reader.specs.declared.fault.PcapngFault.TheVariants as pcapng
 use Rattle.conn_classifier.specs.Plan.{plan_of}
+use Rattle.ring_threads.specs.Served.{ServedOf}
 use Rattle.squeue_run.specs.Asked.{Asked}
 use Rattle.squeue_run.specs.CallWords.{AllThere, IsFirstMissing}
 use Rattle.squeue_run.specs.Input.{IsInput, IsRefusedCapture, IsRefusedPcapng, ReadsSuch}
@@ -45,17 +46,20 @@ GetsLine end text = (Rose end.faults_were end.faults_are → ⊥) → Appends en
 abbrev pub OnlyTells : End → End → List ℕ → Type 0
 OnlyTells out err text = IsUntouched out × GetsLine err text
 
--- such an output was written whole, and no write failed
-pub record GetsWhole (IsOutput : List ℕ → Type 0) (out : End) : Type 0 where
+-- such an output of what is handed back was written whole, and no write failed
+pub record GetsWhole (IsOutput : ServedOf → List ℕ → Type 0) (out : End) (back : Option ServedOf) : Type 0 where
+  pub served : ServedOf
+  pub handed : back ≡ Some served
   pub text : List ℕ
-  pub output : IsOutput text
+  pub output : IsOutput served text
   pub written : Appends out.was out.is text
   pub unfailing : MetNoFault out
 
 -- a write failed: a front of such an output was written, and not all of it
-pub record GetsFront (IsOutput : List ℕ → Type 0) (out : End) : Type 0 where
+pub record GetsFront (IsOutput : ServedOf → List ℕ → Type 0) (out : End) : Type 0 where
+  pub served : ServedOf
   pub text : List ℕ
-  pub output : IsOutput text
+  pub output : IsOutput served text
   pub written : AppendsProperly out.was out.is text
   pub failed : Rose out.faults_were out.faults_are
 
@@ -91,6 +95,11 @@ abbrev pub HasRead : End → Status → Type 0
 HasRead source status.ReadFault = Rose source.faults_were source.faults_are × TakesFew source
 HasRead source _ = MetNoFault source × TakesFew source
 
+-- At status 0 what was served is handed back (GetsWhole), and at every other nothing is.
+abbrev pub HandsBack : Option ServedOf → Status → Type 0
+HandsBack back status.Ok = Unit {0}
+HandsBack back _ = back ≡ None
+
 -- how many connections the capture has
 abbrev pub conns_of : CaptureFile → Bool → ℕ
 conns_of file verify = length (plan_of file verify).tuples
@@ -102,39 +111,44 @@ RanRefused out err status.NoMemory = OnlyTells out err memory_line
 RanRefused out err _ = ⊥
 
 -- an input that was generated for a number
-abbrev pub RanGenerated : ℕ → Bool → End → End → Status → Type 0
-RanGenerated number verify out err status.Ok = GetsWhole (IsSummary number verify) out × IsUntouched err
-RanGenerated number verify out err status.WriteFault = GetsFront (IsSummary number verify) out × GetsLine err write_line
-RanGenerated number verify out err status.NoMemory = OnlyTells out err memory_line
-RanGenerated number verify out err _ = ⊥
+abbrev pub RanGenerated : ℕ → Asked → End → End → Option ServedOf → Status → Type 0
+RanGenerated number a out err back status.Ok = GetsWhole (IsSummary number a) out back × IsUntouched err
+RanGenerated number a out err back status.WriteFault = GetsFront (IsSummary number a) out × GetsLine err write_line
+RanGenerated number a out err back status.NoMemory = OnlyTells out err memory_line
+RanGenerated number a out err back _ = ⊥
 
 -- an input that was read
-abbrev pub RanRead : Asked → End → End → End → Status → Type 0
-RanRead a source out err status.Ok =
-    (file : CaptureFile) × Reads source file × AllThere (conns_of file a.verify) a.calls × GetsWhole (IsReport file a.verify a.calls) out × IsUntouched err
-RanRead a source out err status.WriteFault =
-    (file : CaptureFile) × Reads source file × AllThere (conns_of file a.verify) a.calls × GetsFront (IsReport file a.verify a.calls) out × GetsLine err write_line
-RanRead a source out err status.NoConnection =
+abbrev pub RanRead : Asked → End → End → End → Option ServedOf → Status → Type 0
+RanRead a source out err back status.Ok =
+    (file : CaptureFile) × Reads source file × AllThere (conns_of file a.verify) a.calls × GetsWhole (IsReport file a) out back × IsUntouched err
+RanRead a source out err back status.WriteFault =
+    (file : CaptureFile) × Reads source file × AllThere (conns_of file a.verify) a.calls × GetsFront (IsReport file a) out × GetsLine err write_line
+RanRead a source out err back status.NoConnection =
     (file : CaptureFile) × Reads source file × ((c : ℕ) × IsFirstMissing (conns_of file a.verify) c a.calls × OnlyTells out err (missing_line c (conns_of file a.verify)))
-RanRead a source out err status.BadCapture =
+RanRead a source out err back status.BadCapture =
     ((why : CaptureFault) × IsBad why × ReadsSuch (IsRefusedCapture why) source.was source.is × OnlyTells out err (bad_line why))
     ⊎ ((why : PcapngFault) × IsBadPcapng why × ReadsSuch (IsRefusedPcapng why) source.was source.is × OnlyTells out err (pcapng_line why))
-RanRead a source out err status.TooLarge =
+RanRead a source out err back status.TooLarge =
     (TakesTooMany source.was source.is × OnlyTells out err many_bytes_line)
     ⊎ (ReadsSuch (IsRefusedCapture fault.TooManyRecords) source.was source.is × OnlyTells out err many_records_line)
     ⊎ (ReadsSuch (IsRefusedPcapng pcapng.TooManyRecords) source.was source.is × OnlyTells out err many_records_line)
-RanRead a source out err status.ReadFault = OnlyTells out err read_line
-RanRead a source out err status.NoMemory = OnlyTells out err memory_line
-RanRead a source out err status.Usage = ⊥
+RanRead a source out err back status.ReadFault = OnlyTells out err read_line
+RanRead a source out err back status.NoMemory = OnlyTells out err memory_line
+RanRead a source out err back status.Usage = ⊥
 
 -- a run for what the words ask; where they are refused, or the input is generated, nothing was read
-abbrev pub RanBy : Option ℕ → Asked → End → End → End → Status → Type 0
-RanBy (Some number) a source out err s = IsUntouched source × RanGenerated number a.verify out err s
-RanBy None a source out err s = HasRead source s × RanRead a source out err s
+abbrev pub RanBy : Option ℕ → Asked → End → End → End → Option ServedOf → Status → Type 0
+RanBy (Some number) a source out err back s = IsUntouched source × RanGenerated number a out err back s
+RanBy None a source out err back s = HasRead source s × RanRead a source out err back s
 
-abbrev pub Ran : Option Asked → End → End → End → Status → Type 0
-Ran None source out err s = IsUntouched source × RanRefused out err s
-Ran (Some a) source out err s = RanBy a.number a source out err s
+abbrev pub RanFor : Option Asked → End → End → End → Option ServedOf → Status → Type 0
+RanFor None source out err back s = IsUntouched source × RanRefused out err s
+RanFor (Some a) source out err back s = RanBy a.number a source out err back s
+
+-- such a run, and what it hands back
+pub record HasRan (words : Option Asked) (source out err : End) (back : Option ServedOf) (s : Status) : Type 0 where
+  pub ran : RanFor words source out err back s
+  pub handed : HandsBack back s
 
 -- what a source has left is a capture within the size, with a connection for each CALL
 pub record HoldsCapture (a : Asked) (left : Option (List ℕ)) : Type 0 where

@@ -25,7 +25,7 @@ pub use calls::CallWord;
 pub use generator::generate;
 use lines::{NO_MEMORY, USAGE, tell};
 pub use reading::{Words, read_words};
-pub use run::squeue_run;
+pub use run::{Ran, run_with, squeue_run};
 use sq_base::{Status, StdSink, StdSource};
 use std::process::ExitCode;
 use std::{env, io};
@@ -63,7 +63,7 @@ fn main(rt: HostRuntime) -> ExitCode {
     };
     let mut src = StdSource::over(rt.reader());
     let mut out = StdSink::over(io::writer(&rt));
-    let status = squeue_run(
+    let ran = squeue_run(
         &rt,
         rt.alloc(),
         words.as_slice(),
@@ -71,5 +71,5 @@ fn main(rt: HostRuntime) -> ExitCode {
         &mut out,
         &mut err,
     );
-    exit_code(status)
+    exit_code(ran.status)
 }

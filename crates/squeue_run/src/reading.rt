@@ -3,6 +3,7 @@
 ghost use Rattle.std.specs.Prelude.{◌≡◌, ◌<◌, ◌≤◌, None, Some, Err, IfOk, map, length};
 ghost use Rattle.std.specs.List.{AllByRecursion};
 ghost use Rattle.std.specs.String.{string_bytes};
+ghost use Rattle.ring_quotas.specs.Quotas.{IsInRange};
 ghost use Rattle.squeue_run.specs.Asked.{asked};
 ghost use Rattle.squeue_run.specs.CallWords.{lists_of};
 ghost use Rattle.squeue_run.specs.Causes.{asked_by_words};
@@ -10,7 +11,7 @@ ghost use Rattle.squeue_run.specs.Causes.{asked_by_words};
 use crate::calls::CallWord;
 use crate::words::{WordFault, words_asked};
 use conn_blocks::Calls;
-use ring_threads::Setup;
+use ring_quotas::Setup;
 use std::alloc::{AllocError, Global};
 
 /// What the words ask for.
@@ -30,6 +31,7 @@ pub struct Words {
 /// What the words of the command line, without the program's name, ask for. `Usage` comes exactly where they are refused.
 pub fn read_words(alloc: Global, words: &[String]) -> Result<Words, WordFault>
     ensures ok { IfOk result (λ w. asked (map (λ s. string_bytes s) words.now) ≡ Some (asked_by_words w)) }
+    ensures setup { IfOk result (λ w. IsInRange w.setup) }
     ensures calls { IfOk result (λ w. w.calls ≡ lists_of w.named.items) }
     ensures usage { result ≡ Err WordFault.Usage → asked (map (λ s. string_bytes s) words.now) ≡ None }
 {

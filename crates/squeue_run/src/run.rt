@@ -5,8 +5,9 @@ ghost use Rattle.std.specs.String.{string_bytes};
 ghost use Rattle.squeue_run.specs.Asked.{asked};
 ghost use Rattle.squeue_run.specs.CallWords.{AllThere, IsFirstMissing, lists_of};
 ghost use Rattle.sq_base.specs.Ends.{Rose};
+ghost use Rattle.ring_quotas.specs.Quotas.{IsInRange};
 ghost use Rattle.squeue_run.specs.Output.{IsSummary};
-ghost use Rattle.squeue_run.specs.Ran.{Ran, Accepts, IsDone, end_of};
+ghost use Rattle.squeue_run.specs.Ran.{HasRan, Accepts, IsDone, end_of};
 ghost use Rattle.squeue_run.specs.Causes.{Gives, Fails, GivesBy, FailsBy, Replays, ReplayFails, GeneratedFails, asked_by_words};
 
 use crate::calls::CallWord;
@@ -19,95 +20,131 @@ use crate::words::WordFault;
 use capture_reader::{Capture, parse_capture, read_bytes};
 use conn_blocks::Calls;
 use conn_classifier::plan;
-use ring_threads::serve_plain;
+use perimeter_core::{Hook, NoHook};
+use ring_threads::{Served, serve};
 use sq_base::{Octets, Sink, Source, Status, put};
 use squeue_report::{report, summary};
 use std::alloc::Global;
+use std::sync::Wait;
 use std::thread::Threads;
+
+/// How a run ended, and what was served where it ended well.
+#[derive(Drop)]
+pub struct Ran {
+    pub status: Status,
+    pub served: Option<Served>,
+}
+
+/// What is to be written, and what it tells of.
+#[derive(Drop)]
+struct Written {
+    text: Octets,
+    served: Served,
+}
 
 /// Reads the words and the input, serves it, and writes the report; or writes why not as one line to `err`.
 pub fn squeue_run<S: Source, K: Sink, E: Sink>(
-    rt: &(impl Threads + Sync),
+    rt: &(impl Threads + Wait + Sync),
     alloc: Global,
     words: &[String],
     src: &mut S,
     out: &mut K,
     err: &mut E,
-) -> Status
-    ensures ran { Ran (asked (map (λ s. string_bytes s) words.now))
+) -> Ran
+    ensures ran { HasRan (asked (map (λ s. string_bytes s) words.now))
         (end_of S.rest S.read_faults src.old src.new)
         (end_of K.contents K.write_faults out.old out.new)
         (end_of E.contents E.write_faults err.old err.new)
-        result }
+        result.served result.status }
     ensures complete { Accepts (asked (map (λ s. string_bytes s) words.now)) (S.rest src.old)
-        → (Rose (S.read_faults src.old) (S.read_faults src.new) → ⊥) → (Rose (K.write_faults out.old) (K.write_faults out.new) → ⊥) → IsDone result }
+        → (Rose (S.read_faults src.old) (S.read_faults src.new) → ⊥) → (Rose (K.write_faults out.old) (K.write_faults out.new) → ⊥)
+        → IsDone result.status }
 {
-    whole_run(rt, alloc, words, src, out, err)
+    run_with(rt, alloc, words, src, out, err, &NoHook)
 }
 
-/// The run; that it is complete follows from how it ends.
-fn whole_run<S: Source, K: Sink, E: Sink>(
-    rt: &(impl Threads + Sync),
+/// The same with a hook, which squeues call between their turns.
+pub fn run_with<S: Source, K: Sink, E: Sink, H: Hook + Sync>(
+    rt: &(impl Threads + Wait + Sync),
     alloc: Global,
     words: &[String],
     src: &mut S,
     out: &mut K,
     err: &mut E,
-) -> Status
-    ensures { Ran (asked (map (λ s. string_bytes s) words.now))
+    hook: &H,
+) -> Ran
+    ensures ran { HasRan (asked (map (λ s. string_bytes s) words.now))
         (end_of S.rest S.read_faults src.old src.new)
         (end_of K.contents K.write_faults out.old out.new)
         (end_of E.contents E.write_faults err.old err.new)
-        result }
+        result.served result.status }
+    ensures complete { Accepts (asked (map (λ s. string_bytes s) words.now)) (S.rest src.old)
+        → (Rose (S.read_faults src.old) (S.read_faults src.new) → ⊥) → (Rose (K.write_faults out.old) (K.write_faults out.new) → ⊥)
+        → IsDone result.status }
 {
-    match output(rt, alloc, words, src) {
-        Err(refusal) => refuse(alloc, err, &refusal),
-        Ok(text) => match put(out, text.as_slice()) {
-            Ok(()) => Status::Ok,
-            Err(_) => {
-                tell(err, WRITE_FAULT);
-                Status::WriteFault
-            }
+    let written = match output(rt, alloc, words, src, hook) {
+        Ok(written) => written,
+        Err(refusal) => {
+            return Ran {
+                status: refuse(alloc, err, &refusal),
+                served: None,
+            };
+        }
+    };
+    match put(out, written.text.as_slice()) {
+        Ok(()) => Ran {
+            status: Status::Ok,
+            served: Some(written.served),
         },
+        Err(_) => {
+            tell(err, WRITE_FAULT);
+            Ran {
+                status: Status::WriteFault,
+                served: None,
+            }
+        }
     }
 }
 
 /// What is to be written, or why there is none.
-fn output<S: Source>(
-    rt: &(impl Threads + Sync),
+fn output<S: Source, H: Hook + Sync>(
+    rt: &(impl Threads + Wait + Sync),
     alloc: Global,
     words: &[String],
     src: &mut S,
-) -> Result<Octets, Refusal>
+    hook: &H,
+) -> Result<Written, Refusal>
     ensures { MatchResult result
-        (Gives (asked (map (λ s. string_bytes s) words.now)) (end_of S.rest S.read_faults src.old src.new))
+        (λ w. Gives (asked (map (λ s. string_bytes s) words.now)) (end_of S.rest S.read_faults src.old src.new) w.served w.text)
         (Fails (asked (map (λ s. string_bytes s) words.now)) (end_of S.rest S.read_faults src.old src.new)) }
 {
     match read_words(alloc, words) {
-        Ok(words) => output_for(rt, alloc, &words, src),
+        Ok(words) => output_for(rt, alloc, &words, src, hook),
         Err(WordFault::Usage) => Err(Refusal::Usage),
         Err(WordFault::NoMemory) => Err(Refusal::NoMemory),
     }
 }
 
 /// What is to be written for accepted words.
-fn output_for<S: Source>(
-    rt: &(impl Threads + Sync),
+fn output_for<S: Source, H: Hook + Sync>(
+    rt: &(impl Threads + Wait + Sync),
     alloc: Global,
     words: &Words,
     src: &mut S,
-) -> Result<Octets, Refusal>
-    requires { words.now.calls ≡ lists_of words.now.named.items }
+    hook: &H,
+) -> Result<Written, Refusal>
+    requires setup { IsInRange words.now.setup }
+    requires calls { words.now.calls ≡ lists_of words.now.named.items }
     ensures { MatchResult result
-        (GivesBy words.now.number (asked_by_words words.now) (end_of S.rest S.read_faults src.old src.new))
+        (λ w. GivesBy words.now.number (asked_by_words words.now) (end_of S.rest S.read_faults src.old src.new) w.served w.text)
         (FailsBy words.now.number (asked_by_words words.now) (end_of S.rest S.read_faults src.old src.new)) }
 {
     match words.number {
-        Some(number) => generated(rt, alloc, words, number),
+        Some(number) => generated(rt, alloc, words, number, hook),
         None => match read_bytes(alloc, src) {
             Ok(bytes) => {
                 let capture = captured(alloc, bytes)?;
-                replayed(rt, alloc, words, &capture)
+                replayed(rt, alloc, words, &capture, hook)
             }
             Err(fault) => Err(Refusal::Capture(fault)),
         },
@@ -127,15 +164,17 @@ fn missing(named: &[CallWord], conns: u32) -> Option<u32>
 }
 
 /// The report of a capture.
-fn replayed(
-    rt: &(impl Threads + Sync),
+fn replayed<H: Hook + Sync>(
+    rt: &(impl Threads + Wait + Sync),
     alloc: Global,
     words: &Words,
     capture: &Capture,
-) -> Result<Octets, Refusal>
-    requires { words.now.calls ≡ lists_of words.now.named.items }
+    hook: &H,
+) -> Result<Written, Refusal>
+    requires setup { IsInRange words.now.setup }
+    requires calls { words.now.calls ≡ lists_of words.now.named.items }
     ensures { MatchResult result
-        (Replays capture.now (asked_by_words words.now))
+        (λ w. Replays capture.now (asked_by_words words.now) w.served w.text)
         (ReplayFails capture.now (asked_by_words words.now)) }
 {
     let plan = plan(rt, alloc, capture, words.verify)?;
@@ -143,26 +182,31 @@ fn replayed(
     match missing(&words.named, conns) {
         Some(c) => Err(Refusal::NoConnection { c, conns }),
         None => {
-            let served = serve_plain(alloc, &plan, &words.calls)?;
-            Ok(report(alloc, &plan, &served)?)
+            let served = serve(rt, alloc, &plan, &words.calls, &words.setup, hook)?;
+            let text = report(alloc, &plan, &served)?;
+            Ok(Written { text, served })
         }
     }
 }
 
 /// The summary of the run over the generated capture.
-fn generated(
-    rt: &(impl Threads + Sync),
+fn generated<H: Hook + Sync>(
+    rt: &(impl Threads + Wait + Sync),
     alloc: Global,
     words: &Words,
     number: u32,
-) -> Result<Octets, Refusal>
-    ensures { MatchResult result (IsSummary number words.now.verify) GeneratedFails }
+    hook: &H,
+) -> Result<Written, Refusal>
+    requires { IsInRange words.now.setup }
+    ensures { MatchResult result (λ w. IsSummary number (asked_by_words words.now) w.served w.text) GeneratedFails }
 {
     let capture = match parse_capture(alloc, generate(alloc, number)?) {
         Ok(capture) => capture,
         Err(fault) => return Err(Refusal::Capture(fault)),
     };
     let plan = plan(rt, alloc, &capture, words.verify)?;
-    let served = serve_plain(alloc, &plan, &Calls::make(alloc))?;
-    Ok(summary(alloc, number, capture.bytes(), &plan, &served)?)
+    let calls = Calls::make(alloc);
+    let served = serve(rt, alloc, &plan, &calls, &words.setup, hook)?;
+    let text = summary(alloc, number, capture.bytes(), &plan, &served)?;
+    Ok(Written { text, served })
 }

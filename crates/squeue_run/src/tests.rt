@@ -4,6 +4,7 @@ use crate::squeue_run;
 use sq_base::{MemSink, MemSource, Status};
 use std::alloc::Global;
 use std::process::Abort;
+use std::sync::Wait;
 use std::test::Fail;
 use std::thread::Threads;
 
@@ -24,7 +25,7 @@ const P: u8 = 8;
 
 const A: u8 = 16;
 
-/// What the client 10.0.0.1:4000 sends to 10.0.0.2:7.
+/// What the client 10.0.0.1 sends to 10.0.0.2:7.
 #[derive(Clone, Copy, Drop)]
 enum Sent<'a> {
     /// A segment: time in microseconds, flags, sequence number, acknowledgement number, window, text.
@@ -96,17 +97,18 @@ fn push_tcp(
     Ok(())
 }
 
-fn push(file: &mut Vec<u8>, sent: &Sent) -> Result<(), Fail> {
+/// What was sent, as a record; a segment comes from this port.
+fn push(file: &mut Vec<u8>, port: u16, sent: &Sent) -> Result<(), Fail> {
     match *sent {
         Seg(at, flags, seq, ack, wnd, text) => {
             let len = 40u16.saturating_add(u16::try_from(text.len()).unwrap_or(u16::MAX));
             push_head(file, at, len, 6)?;
-            push_tcp(file, 4000, (seq, ack), 0x50, flags, wnd)?;
+            push_tcp(file, port, (seq, ack), 0x50, flags, wnd)?;
             file.extend_from_slice(text)?;
         }
         Syn(options) => {
             push_head(file, 0, 44, 6)?;
-            push_tcp(file, 4000, (100, 0), 0x60, S, 4096)?;
+            push_tcp(file, port, (100, 0), 0x60, S, 4096)?;
             file.extend_from_slice(options)?;
         }
         Udp(at) => {
@@ -121,7 +123,7 @@ fn push(file: &mut Vec<u8>, sent: &Sent) -> Result<(), Fail> {
 fn capture(alloc: Global, sent: &[Sent]) -> Result<Vec<u8>, Fail> {
     let mut file = Vec::from_slice(alloc, &HEADER)?;
     for one in sent {
-        push(&mut file, one)?;
+        push(&mut file, 4000, one)?;
     }
     Ok(file)
 }
@@ -142,10 +144,11 @@ fn words_of(alloc: Global, line: &str) -> Result<Vec<String>, Fail> {
     Ok(words)
 }
 
-/// What a run gave.
+/// What a run gave, and whether it handed back what was served.
 #[derive(Drop)]
 struct Ended {
     status: Status,
+    handed: bool,
     out: MemSink,
     err: MemSink,
 }
@@ -154,13 +157,23 @@ struct Ended {
 const ROOM: usize = 100_000;
 
 /// A run over ends that don't fail.
-fn ran(rt: &(impl Threads + Sync), alloc: Global, line: &str, input: &[u8]) -> Result<Ended, Fail> {
+fn ran(
+    rt: &(impl Threads + Wait + Sync),
+    alloc: Global,
+    line: &str,
+    input: &[u8],
+) -> Result<Ended, Fail> {
     let words = words_of(alloc, line)?;
     let mut src = MemSource::make(alloc, input, 65_536, &[])?;
     let mut out = MemSink::make(alloc, ROOM, 65_536, &[])?;
     let mut err = MemSink::make(alloc, 1000, 1000, &[])?;
-    let status = squeue_run(rt, alloc, words.as_slice(), &mut src, &mut out, &mut err);
-    Ok(Ended { status, out, err })
+    let ran = squeue_run(rt, alloc, words.as_slice(), &mut src, &mut out, &mut err);
+    Ok(Ended {
+        status: ran.status,
+        handed: ran.served.is_some(),
+        out,
+        err,
+    })
 }
 
 /// The text of these lines.
@@ -173,7 +186,7 @@ fn text(alloc: Global, lines: &[&str]) -> Result<String, Fail> {
     Ok(text)
 }
 
-/// A run ends with this status, this output and this error line.
+/// A run ends with this status, this output and this error line, and hands back what was served at status 0 alone.
 fn expect(
     rt: &impl Abort,
     alloc: Global,
@@ -184,6 +197,7 @@ fn expect(
     err: &[&str],
 ) -> Result<(), Fail> {
     assert_eq!(rt; ran.status, status, "{name}");
+    assert_eq!(rt; ran.handed, status == Status::Ok, "{name}");
     assert_eq!(rt;
         ran.out.bytes(),
         text(alloc, out)?.as_bytes(),
@@ -194,6 +208,59 @@ fn expect(
         text(alloc, err)?.as_bytes(),
         "error line of {name}"
     );
+    Ok(())
+}
+
+/// Words and an input, and how their run ends: status, output, error line.
+#[derive(Clone, Copy, Drop)]
+struct Row<'a> {
+    words: &'a str,
+    input: &'a [u8],
+    status: Status,
+    out: &'a [&'a str],
+    told: Option<&'a str>,
+}
+
+/// A run that ends well.
+fn good<'a>(words: &'a str, input: &'a [u8], out: &'a [&'a str]) -> Row<'a> {
+    Row {
+        words,
+        input,
+        status: Status::Ok,
+        out,
+        told: None,
+    }
+}
+
+/// A run that gives no output.
+fn refused<'a>(words: &'a str, input: &'a [u8], status: Status, told: &'a str) -> Row<'a> {
+    Row {
+        words,
+        input,
+        status,
+        out: &[],
+        told: Some(told),
+    }
+}
+
+fn expect_rows(
+    rt: &(impl Abort + Threads + Wait + Sync),
+    alloc: Global,
+    rows: &[Row],
+) -> Result<(), Fail> {
+    for row in rows {
+        let ran = ran(rt, alloc, row.words, row.input)?;
+        let name = row.told.unwrap_or(row.words);
+        expect(
+            rt,
+            alloc,
+            name,
+            &ran,
+            row.status,
+            row.out,
+            row.told.as_slice(),
+        )?;
+    }
     Ok(())
 }
 

@@ -12,7 +12,7 @@ use crate::command::parse;
 use crate::numbers::{mode_or_process, number_between, number_or};
 use clap::ArgMatches;
 use clap::error::ErrorKind;
-use ring_threads::Setup;
+use ring_quotas::Setup;
 use std::alloc::Global;
 use thiserror::Error;
 

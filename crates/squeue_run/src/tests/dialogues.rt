@@ -1,9 +1,7 @@
 use crate::tests::{A, F, P, R, S, Seg, Sent, Syn, Udp, capture, check_of, expect, ran};
 use sq_base::Status;
 use std::alloc::Global;
-use std::process::Abort;
 use std::test::Fail;
-use std::thread::Threads;
 
 /// What a client sends, and what is reported of its connection.
 #[derive(Clone, Copy, Drop)]
@@ -247,17 +245,29 @@ fn report<'a>(alloc: Global, dialogue: &Dialogue<'a>) -> Result<Vec<&'a str>, Fa
     Ok(lines)
 }
 
-fn expect_all(
-    rt: &(impl Abort + Threads + Sync),
-    alloc: Global,
-    dialogues: &[Dialogue],
-) -> Result<(), Fail> {
-    for dialogue in dialogues {
-        let ran = ran(rt, alloc, "", capture(alloc, dialogue.sent)?.as_slice())?;
-        let lines = report(alloc, dialogue)?;
+#[test]
+fn dialogues(rt: HostRuntime) -> Result<(), Fail> {
+    let table = [
+        SEQUENCE_NUMBERS_WRAP,
+        TEXT_OUT_OF_ORDER,
+        ZERO_WINDOW_PROBE,
+        RESETS_AT_THE_NEXT_NUMBER,
+        RESETS_IN_THE_WINDOW,
+        RESETS_BEFORE_THE_WINDOW,
+        RESETS_BEHIND_THE_WINDOW,
+        HANDSHAKE_RETRANSMISSIONS,
+        TUPLE_USED_AGAIN,
+        REPEATED_SYN,
+        SCALED_FIVE_SEGMENT_ECHO,
+        SCALED_SMALL_WINDOW,
+    ];
+    for dialogue in &table {
+        let input = capture(rt.alloc(), dialogue.sent)?;
+        let ran = ran(&rt, rt.alloc(), "", input.as_slice())?;
+        let lines = report(rt.alloc(), dialogue)?;
         expect(
-            rt,
-            alloc,
+            &rt,
+            rt.alloc(),
             dialogue.name,
             &ran,
             Status::Ok,
@@ -266,54 +276,6 @@ fn expect_all(
         )?;
     }
     Ok(())
-}
-
-#[test]
-fn sequence_numbers_wrap(rt: HostRuntime) -> Result<(), Fail> {
-    expect_all(&rt, rt.alloc(), &[SEQUENCE_NUMBERS_WRAP])
-}
-
-#[test]
-fn text_out_of_order(rt: HostRuntime) -> Result<(), Fail> {
-    expect_all(&rt, rt.alloc(), &[TEXT_OUT_OF_ORDER])
-}
-
-#[test]
-fn zero_window_probe(rt: HostRuntime) -> Result<(), Fail> {
-    expect_all(&rt, rt.alloc(), &[ZERO_WINDOW_PROBE])
-}
-
-#[test]
-fn resets(rt: HostRuntime) -> Result<(), Fail> {
-    expect_all(
-        &rt,
-        rt.alloc(),
-        &[
-            RESETS_AT_THE_NEXT_NUMBER,
-            RESETS_IN_THE_WINDOW,
-            RESETS_BEFORE_THE_WINDOW,
-            RESETS_BEHIND_THE_WINDOW,
-        ],
-    )
-}
-
-#[test]
-fn handshake_retransmissions(rt: HostRuntime) -> Result<(), Fail> {
-    expect_all(&rt, rt.alloc(), &[HANDSHAKE_RETRANSMISSIONS])
-}
-
-#[test]
-fn repeated_connections(rt: HostRuntime) -> Result<(), Fail> {
-    expect_all(&rt, rt.alloc(), &[TUPLE_USED_AGAIN, REPEATED_SYN])
-}
-
-#[test]
-fn scaled_windows(rt: HostRuntime) -> Result<(), Fail> {
-    expect_all(
-        &rt,
-        rt.alloc(),
-        &[SCALED_FIVE_SEGMENT_ECHO, SCALED_SMALL_WINDOW],
-    )
 }
 
 /// A scale of 15 counts as 14: a window of 16,384 bytes, and 20,000 bytes of text to echo.

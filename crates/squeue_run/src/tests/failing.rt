@@ -4,12 +4,13 @@ use crate::squeue_run;
 use crate::tests::{Ended, FIVE, FIVE_REPORT, HEADER, capture, expect, front, text, words_of};
 use sq_base::{MemSink, MemSource, Status};
 use std::alloc::Global;
+use std::sync::Wait;
 use std::test::Fail;
 use std::thread::Threads;
 
 /// A run whose source gives 100 bytes a call and whose sink takes 10, with these calls failing.
 fn ran(
-    rt: &(impl Threads + Sync),
+    rt: &(impl Threads + Wait + Sync),
     alloc: Global,
     line: &str,
     input: &[u8],
@@ -21,8 +22,13 @@ fn ran(
     let mut src = MemSource::make(alloc, input, 100, reads)?;
     let mut out = MemSink::make(alloc, 1000, 10, writes)?;
     let mut err = MemSink::make(alloc, 1000, 1000, tellings)?;
-    let status = squeue_run(rt, alloc, words.as_slice(), &mut src, &mut out, &mut err);
-    Ok(Ended { status, out, err })
+    let ran = squeue_run(rt, alloc, words.as_slice(), &mut src, &mut out, &mut err);
+    Ok(Ended {
+        status: ran.status,
+        handed: ran.served.is_some(),
+        out,
+        err,
+    })
 }
 
 /// The 309 bytes come in four calls, and a fifth finds the end.

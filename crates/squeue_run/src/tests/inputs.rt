@@ -1,4 +1,6 @@
-use crate::tests::{FIVE, FIVE_REPORT, HEADER, capture, expect, front, ran};
+use crate::tests::{
+    FIVE, FIVE_REPORT, HEADER, capture, expect, expect_rows, front, good, ran, refused,
+};
 use sq_base::Status;
 use std::alloc::Global;
 use std::test::Fail;
@@ -44,47 +46,11 @@ fn from_hex(alloc: Global, lines: &[&str]) -> Result<Vec<u8>, Fail> {
     Ok(bytes)
 }
 
-#[test]
-fn client_host_capture(rt: HostRuntime) -> Result<(), Fail> {
-    let input = from_hex(rt.alloc(), &ON_THE_CLIENT)?;
-    let plain = ran(&rt, rt.alloc(), "", input.as_slice())?;
-    expect(
-        &rt,
-        rt.alloc(),
-        "client_host_capture",
-        &plain,
-        Status::Ok,
-        &CLIENT_REPORT,
-        &[],
-    )?;
-    let verified = ran(&rt, rt.alloc(), "--verify", input.as_slice())?;
-    expect(
-        &rt,
-        rt.alloc(),
-        "verified",
-        &verified,
-        Status::Ok,
-        &CLIENT_VERIFIED,
-        &[],
-    )
-}
-
-const NOTHING: &str =
-    "records 0 tail 0 served 0 nofit 0 server 0 other 0 fragment 0 cut 0 malformed 0 badsum 0 connections 0";
-
-#[test]
-fn empty_capture(rt: HostRuntime) -> Result<(), Fail> {
-    let ran = ran(&rt, rt.alloc(), "", &HEADER)?;
-    expect(
-        &rt,
-        rt.alloc(),
-        "empty_capture",
-        &ran,
-        Status::Ok,
-        &["report 1", NOTHING, "done"],
-        &[],
-    )
-}
+const EMPTY_REPORT: [&str; 3] = [
+    "report 1",
+    "records 0 tail 0 served 0 nofit 0 server 0 other 0 fragment 0 cut 0 malformed 0 badsum 0 connections 0",
+    "done",
+];
 
 /// The file's header with another byte at a place.
 fn header_with(at: usize, byte: u8) -> [u8; 24] {
@@ -93,34 +59,6 @@ fn header_with(at: usize, byte: u8) -> [u8; 24] {
         header[at] = byte;
     }
     header
-}
-
-#[test]
-fn refused_headers(rt: HostRuntime) -> Result<(), Fail> {
-    let mut other_link = header_with(20, 0x14);
-    other_link[21] = 1;
-    let table: [(&[u8], &str); 5] = [
-        (&[], "sqrun: bad capture: short header of 0 bytes"),
-        (
-            &HEADER[..23],
-            "sqrun: bad capture: short header of 23 bytes",
-        ),
-        (&[0x0a; 24], "sqrun: bad capture: magic 0a0a0a0a"),
-        (&header_with(6, 3), "sqrun: bad capture: version 2.3"),
-        (&other_link, "sqrun: bad capture: link type 276"),
-    ];
-    for (input, line) in table {
-        expect(
-            &rt,
-            rt.alloc(),
-            line,
-            &ran(&rt, rt.alloc(), "", input)?,
-            Status::BadCapture,
-            &[],
-            &[line],
-        )?;
-    }
-    Ok(())
 }
 
 /// From which length on a front of the session has so many whole records: the counts where nothing is cut, and where the
@@ -177,24 +115,6 @@ const CUT_REPORT: [&str; 9] = [
 ];
 
 #[test]
-fn cut_tails(rt: HostRuntime) -> Result<(), Fail> {
-    let whole = capture(rt.alloc(), &FIVE)?;
-    for len in [308, 268] {
-        let ran = ran(&rt, rt.alloc(), "", front(whole.as_slice(), len))?;
-        expect(
-            &rt,
-            rt.alloc(),
-            "cut_tails",
-            &ran,
-            Status::Ok,
-            &CUT_REPORT,
-            &[],
-        )?;
-    }
-    Ok(())
-}
-
-#[test]
 fn every_front_of_five_segments(rt: HostRuntime) -> Result<(), Fail> {
     let whole = capture(rt.alloc(), &FIVE)?;
     assert_eq!(rt; whole.len(), 309);
@@ -241,49 +161,57 @@ const IN_PCAPNG: [&str; 7] = [
 const SECOND_INTERFACE: &str = "0100000014000000010000000000040014000000";
 
 #[test]
-fn pcapng_five_segment_echo(rt: HostRuntime) -> Result<(), Fail> {
+fn inputs_of_both_forms(rt: HostRuntime) -> Result<(), Fail> {
+    let five = capture(rt.alloc(), &FIVE)?;
+    let client = from_hex(rt.alloc(), &ON_THE_CLIENT)?;
+    let mut other_link = header_with(20, 0x14);
+    other_link[21] = 1;
+    let newer = header_with(6, 3);
     let whole = from_hex(rt.alloc(), &IN_PCAPNG)?;
     let [section, interface, packet, ..] = IN_PCAPNG;
     let unnamed = from_hex(rt.alloc(), &[section, packet])?;
     let mixed = from_hex(rt.alloc(), &[section, interface, SECOND_INTERFACE])?;
-    let table = [
-        (whole.as_slice(), Status::Ok, FIVE_REPORT.as_slice(), None),
-        (
-            front(whole.as_slice(), 415),
-            Status::Ok,
-            CUT_REPORT.as_slice(),
-            None,
-        ),
-        (
-            front(whole.as_slice(), 27),
-            Status::BadCapture,
-            &[],
-            Some("sqrun: bad capture: pcapng short section of 27 bytes"),
-        ),
-        (
-            unnamed.as_slice(),
-            Status::BadCapture,
-            &[],
-            Some("sqrun: bad capture: pcapng interface 0 in block 1"),
-        ),
-        (
-            mixed.as_slice(),
-            Status::BadCapture,
-            &[],
-            Some("sqrun: bad capture: pcapng second link type 1 in block 2"),
-        ),
-    ];
-    for (input, status, out, told) in table {
-        let ran = ran(&rt, rt.alloc(), "", input)?;
-        expect(
-            &rt,
-            rt.alloc(),
-            "pcapng",
-            &ran,
-            status,
-            out,
-            told.as_slice(),
-        )?;
-    }
-    Ok(())
+    let bad = Status::BadCapture;
+    expect_rows(
+        &rt,
+        rt.alloc(),
+        &[
+            good("", client.as_slice(), &CLIENT_REPORT),
+            good("--verify", client.as_slice(), &CLIENT_VERIFIED),
+            good("", &HEADER, &EMPTY_REPORT),
+            good("--squeues=3|--rings=2|--spread=1", &HEADER, &EMPTY_REPORT),
+            good("", front(five.as_slice(), 308), &CUT_REPORT),
+            good("", front(five.as_slice(), 268), &CUT_REPORT),
+            refused("", &[], bad, "sqrun: bad capture: short header of 0 bytes"),
+            refused(
+                "",
+                &HEADER[..23],
+                bad,
+                "sqrun: bad capture: short header of 23 bytes",
+            ),
+            refused("", &[0x0a; 24], bad, "sqrun: bad capture: magic 0a0a0a0a"),
+            refused("", &newer, bad, "sqrun: bad capture: version 2.3"),
+            refused("", &other_link, bad, "sqrun: bad capture: link type 276"),
+            good("", whole.as_slice(), &FIVE_REPORT),
+            good("", front(whole.as_slice(), 415), &CUT_REPORT),
+            refused(
+                "",
+                front(whole.as_slice(), 27),
+                bad,
+                "sqrun: bad capture: pcapng short section of 27 bytes",
+            ),
+            refused(
+                "",
+                unnamed.as_slice(),
+                bad,
+                "sqrun: bad capture: pcapng interface 0 in block 1",
+            ),
+            refused(
+                "",
+                mixed.as_slice(),
+                bad,
+                "sqrun: bad capture: pcapng second link type 1 in block 2",
+            ),
+        ],
+    )
 }

@@ -113,7 +113,7 @@ fn connection_limit(rt: HostRuntime) -> Result<(), Fail> {
     let mut out = MemSink::make(rt.alloc(), 1_000_000, 65_536, &[])?;
     let mut err = MemSink::make(rt.alloc(), 1000, 1000, &[])?;
     let words = words_of(rt.alloc(), "")?;
-    let status = squeue_run(
+    let ran = squeue_run(
         &rt,
         rt.alloc(),
         words.as_slice(),
@@ -121,7 +121,7 @@ fn connection_limit(rt: HostRuntime) -> Result<(), Fail> {
         &mut out,
         &mut err,
     );
-    assert_eq!(rt; status, Status::Ok);
+    assert_eq!(rt; ran.status, Status::Ok);
     let front =
         b"report 1\nrecords 4097 tail 0 served 4096 nofit 1 server 0 other 0 fragment 0 cut 0 malformed 0 badsum 0 connections 4096\n";
     assert!(rt; out.bytes().starts_with(front));

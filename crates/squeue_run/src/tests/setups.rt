@@ -1,114 +1,178 @@
-//! What the words change in a run over one short echo session, and what they don't.
+//! What the words change in a run over short echo sessions, and what they don't.
 
-use crate::tests::{FIVE, FIVE_REPORT, capture, expect, ran};
+use crate::tests::{
+    FIVE, FIVE_REPORT, HEADER, S, Seg, capture, check_of, expect, expect_rows, good, push, ran,
+    refused,
+};
 use sq_base::Status;
+use std::alloc::Global;
 use std::test::Fail;
 
+const UNSUMMED: [&str; 3] = [
+    "report 1",
+    "records 5 tail 0 served 0 nofit 0 server 0 other 0 fragment 0 cut 0 malformed 0 badsum 5 connections 0",
+    "done",
+];
+
 #[test]
-fn five_segment_echo(rt: HostRuntime) -> Result<(), Fail> {
-    let ran = ran(&rt, rt.alloc(), "", capture(rt.alloc(), &FIVE)?.as_slice())?;
-    expect(
+fn words_over_one_session(rt: HostRuntime) -> Result<(), Fail> {
+    let input = capture(rt.alloc(), &FIVE)?;
+    let five = input.as_slice();
+    expect_rows(
         &rt,
         rt.alloc(),
-        "five_segment_echo",
-        &ran,
-        Status::Ok,
-        &FIVE_REPORT,
-        &[],
+        &[
+            good("", five, &FIVE_REPORT),
+            good(
+                "--mode=nodrain|--squeues=3|--spread=65535",
+                five,
+                &FIVE_REPORT,
+            ),
+            good("--rings|2|--budget|65535|--", five, &FIVE_REPORT),
+            good("--verify", five, &UNSUMMED),
+            refused(
+                "0:1:close",
+                five,
+                Status::NoConnection,
+                "sqrun: call on connection 1 of 1",
+            ),
+            refused(
+                "1:5:status|0:7:status",
+                five,
+                Status::NoConnection,
+                "sqrun: call on connection 5 of 1",
+            ),
+            refused(
+                "0:0:status|3:4294967295:buffer=0|0:1:close",
+                five,
+                Status::NoConnection,
+                "sqrun: call on connection 4294967295 of 1",
+            ),
+            refused(
+                "--verify|2:0:status",
+                five,
+                Status::NoConnection,
+                "sqrun: call on connection 0 of 0",
+            ),
+        ],
     )
+}
+
+/// The session from each of five ports, segment by segment in turn.
+fn five_in_turn(alloc: Global) -> Result<Vec<u8>, Fail> {
+    let mut file = Vec::from_slice(alloc, &HEADER)?;
+    for one in &FIVE {
+        for port in 4000..4005 {
+            push(&mut file, port, one)?;
+        }
+    }
+    Ok(file)
 }
 
 #[test]
 fn setup_does_not_matter(rt: HostRuntime) -> Result<(), Fail> {
-    let input = capture(rt.alloc(), &FIVE)?;
+    let input = five_in_turn(rt.alloc())?;
     let lines = [
+        "",
         "--squeues|16|--rings|8|--mode|fill|--budget|1|--spread|1",
-        "--mode=nodrain|--squeues=3|--spread=65535",
-        "--rings|2|--budget|65535|--",
+        "--squeues|4|--rings|3|--mode|nodrain|--budget|3|--spread|5",
+        "--squeues|2|--spread|2",
     ];
     for line in lines {
         let ran = ran(&rt, rt.alloc(), line, input.as_slice())?;
-        expect(&rt, rt.alloc(), line, &ran, Status::Ok, &FIVE_REPORT, &[])?;
+        assert_eq!(rt; ran.status, Status::Ok, "{line}");
+        assert_eq!(rt; ran.out.bytes().len(), 1869, "{line}");
+        assert_eq!(rt; check_of(ran.out.bytes()), 0x0d61436b5eb0c0a2, "{line}");
     }
     Ok(())
 }
 
-#[test]
-fn verify_drops_unsummed(rt: HostRuntime) -> Result<(), Fail> {
-    let lines = [
-        "report 1",
-        "records 5 tail 0 served 0 nofit 0 server 0 other 0 fragment 0 cut 0 malformed 0 badsum 5 connections 0",
-        "done",
-    ];
-    let ran = ran(
-        &rt,
-        rt.alloc(),
-        "--verify",
-        capture(rt.alloc(), &FIVE)?.as_slice(),
-    )?;
-    expect(
-        &rt,
-        rt.alloc(),
-        "verify_drops_unsummed",
-        &ran,
-        Status::Ok,
-        &lines,
-        &[],
-    )
-}
+/// The orders in which a close of thread 0 and a status of thread 1 may come among the two feeds, and the answers in each.
+const ORDERS: [(&str, &str, &str); 12] = [
+    (
+        "order c0.0 c1.0 f0-1",
+        "answer 0 0 notopen",
+        "answer 1 0 LISTEN 0 0 0",
+    ),
+    (
+        "order c0.0 f0 c1.0 f1",
+        "answer 0 0 notopen",
+        "answer 1 0 SYN-RECEIVED 0 0 0",
+    ),
+    (
+        "order c0.0 f0-1 c1.0",
+        "answer 0 0 notopen",
+        "answer 1 0 SYN-RECEIVED 0 0 0",
+    ),
+    (
+        "order c1.0 c0.0 f0-1",
+        "answer 1 0 LISTEN 0 0 0",
+        "answer 0 0 notopen",
+    ),
+    (
+        "order c1.0 f0 c0.0 f1",
+        "answer 1 0 LISTEN 0 0 0",
+        "answer 0 0 notopen",
+    ),
+    (
+        "order c1.0 f0-1 c0.0",
+        "answer 1 0 LISTEN 0 0 0",
+        "answer 0 0 notopen",
+    ),
+    (
+        "order f0 c0.0 c1.0 f1",
+        "answer 0 0 notopen",
+        "answer 1 0 SYN-RECEIVED 0 0 0",
+    ),
+    (
+        "order f0 c0.0 f1 c1.0",
+        "answer 0 0 notopen",
+        "answer 1 0 SYN-RECEIVED 0 0 0",
+    ),
+    (
+        "order f0 c1.0 c0.0 f1",
+        "answer 1 0 SYN-RECEIVED 0 0 0",
+        "answer 0 0 notopen",
+    ),
+    (
+        "order f0 c1.0 f1 c0.0",
+        "answer 1 0 SYN-RECEIVED 0 0 0",
+        "answer 0 0 notopen",
+    ),
+    (
+        "order f0-1 c0.0 c1.0",
+        "answer 0 0 notopen",
+        "answer 1 0 SYN-RECEIVED 0 0 0",
+    ),
+    (
+        "order f0-1 c1.0 c0.0",
+        "answer 1 0 SYN-RECEIVED 0 0 0",
+        "answer 0 0 notopen",
+    ),
+];
 
 #[test]
-fn call_without_connection(rt: HostRuntime) -> Result<(), Fail> {
-    let input = capture(rt.alloc(), &FIVE)?;
-    let table = [
-        ("0:1:close", "sqrun: call on connection 1 of 1"),
-        ("1:5:status|0:7:status", "sqrun: call on connection 5 of 1"),
-        (
-            "0:0:status|3:4294967295:buffer=0|0:1:close",
-            "sqrun: call on connection 4294967295 of 1",
-        ),
-        ("--verify|2:0:status", "sqrun: call on connection 0 of 0"),
-    ];
-    for (line, told) in table {
-        let ran = ran(&rt, rt.alloc(), line, input.as_slice())?;
-        expect(
-            &rt,
-            rt.alloc(),
-            line,
-            &ran,
-            Status::NoConnection,
-            &[],
-            &[told],
-        )?;
-    }
-    Ok(())
-}
-
-/// Three calls stand before the feeds 0, 2 and 4 of six.
-#[test]
-fn calls_among_the_feeds(rt: HostRuntime) -> Result<(), Fail> {
+fn calls_of_two_threads(rt: HostRuntime) -> Result<(), Fail> {
+    let input = capture(rt.alloc(), &[Seg(0, S, 100, 0, 4096, b"")])?;
+    let words = "--squeues|2|--spread|1|0:0:close|1:0:status";
+    let ran = ran(&rt, rt.alloc(), words, input.as_slice())?;
+    assert_eq!(rt; ran.status, Status::Ok);
+    let text = str::from_utf8(ran.out.bytes())?;
+    let order = text.lines().find(|line| line.starts_with("order "));
+    let Some(&(order, first, second)) = ORDERS.iter().find(|known| Some(known.0) == order) else {
+        assert!(rt; false, "{text}");
+        return Ok(());
+    };
     let lines = [
         "report 1",
-        FIVE_REPORT[1],
+        "records 1 tail 0 served 1 nofit 0 server 0 other 0 fragment 0 cut 0 malformed 0 badsum 0 connections 1",
         "conn 0 10.0.0.1:4000 10.0.0.2:7 echo",
-        "order c0.0 f0-1 c0.1 f2-3 c1.0 f4-5",
-        "reply 0 4500002c00004000400626ca0a0000020a00000100070fa0000001f4000000656012ffff72140000020405b4",
-        "reply 1000 4500002800004000400626ce0a0000020a00000100070fa0000001f5000000655011ffff89d00000",
-        "reply 2000 4500002800004000400626ce0a0000020a00000100070fa0000001f60000006a5010ffff89cb0000",
-        "reply 3000 4500002800004000400626ce0a0000020a00000100070fa0000001f60000006a5010ffff89cb0000",
-        "reply 4000 4500002800004000400626ce0a0000020a00000100070fa0000001f60000006a5010ffff89cb0000",
-        "answer 0 0 LISTEN 0 0 0",
-        "answer 0 1 ok",
-        "answer 1 0 FIN-WAIT-1 5 0 0",
-        "end FIN-WAIT-1",
+        order,
+        "reply 0 4500002c00004000400626ca0a0000020a00000100070fa000000000000000656012ffff74080000020405b4",
+        first,
+        second,
+        "end SYN-RECEIVED",
         "done",
     ];
-    let words = "--squeues|2|0:0:status|0:0:close|1:0:status";
-    let ran = ran(
-        &rt,
-        rt.alloc(),
-        words,
-        capture(rt.alloc(), &FIVE)?.as_slice(),
-    )?;
-    expect(&rt, rt.alloc(), "calls", &ran, Status::Ok, &lines, &[])
+    expect(&rt, rt.alloc(), words, &ran, Status::Ok, &lines, &[])
 }

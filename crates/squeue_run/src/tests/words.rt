@@ -1,6 +1,6 @@
 use crate::tests::words_of;
 use crate::{CallWord, WordFault, Words, read_words};
-use ring_threads::Setup;
+use ring_quotas::Setup;
 use squeue_enter::Mode;
 use std::alloc::Global;
 use std::test::Fail;

@@ -5,4 +5,4 @@ use Rattle.squeue_report.proofs.reporting.report.Given as goal
 -- what is written, with what is to be written
 abbrev pub invariant-loop-c : goal.invariant-loop-c
 invariant-loop-c l =
-    string_bytes l.text ++ blocks_text l.c (drop l.c l.plan.tuples) (drop l.c l.served) ≡ string_bytes l.initial.text ++ blocks_text 0 l.plan.tuples l.served
+    string_bytes l.text ++ blocks_text l.c (drop l.c l.plan.tuples) (drop l.c l.served.blocks) ≡ string_bytes l.initial.text ++ blocks_text 0 l.plan.tuples l.served.blocks

@@ -1,5 +1,6 @@
 use Rattle.std.proofs.Common.{◌≤◌, ◌<◌, length, subst, sym}
 use Rattle.std.specs.List.{AllByRecursion}
+use Rattle.squeue_run.proofs.InRange.{setup_in_range}
 use Rattle.squeue_run.proofs.Threads.{few_asked}
 use Rattle.squeue_run.proofs.reading.read_words.Goals as goal
 
@@ -8,3 +9,6 @@ lists_in-requires-clause-few c = subst (λ l. length l ≤ 1024) (sym c.deref.en
 
 pub lists_in-requires-clause-threads : goal.lists_in-requires-clause-threads
 lists_in-requires-clause-threads c = subst (λ l. AllByRecursion (λ w. w.thread < 4) l) (sym c.deref.ensures.value) (few_asked _ _ c.in-Ok.ensures.ok).threads
+
+pub returns-in-Ok-lists_in-clause-setup : goal.returns-in-Ok-lists_in-clause-setup
+returns-in-Ok-lists_in-clause-setup c = setup_in_range _ _ c.in-Ok.ensures.ok

@@ -1,11 +1,19 @@
-use Rattle.std.proofs.Common.{◌∙◌}
+use Rattle.std.proofs.Common.{◌∙◌, [], length, refl}
+use Rattle.squeue_run.proofs.Named.{calls_there}
 use Rattle.squeue_run.proofs.Reports.{is_summary}
+use Rattle.squeue_run.specs.Causes.{asked_by_words}
 use Rattle.squeue_run.proofs.run.generated.Goals as goal
+
+pub serve-requires-clause-calls : goal.serve-requires-clause-calls
+serve-requires-clause-calls g c κs within = calls_there (length c.in_ok-plan.plan.tuples) _ [] [] _ refl refl c.make-calls.ensures tt
+
+pub summary-requires : goal.summary-requires
+summary-requires g c = c.in_ok-served.ensures.served.count
 
 pub returns : goal.returns
 returns g c =
-    is_summary c.args.number c.in-Ok.capture c.args.words.now.verify c.in_ok-plan.plan c.make.result c.in_ok-served.served c.bytes.result.now c.in_ok-summary.field-0
-    (record { bytes = c.in-Ok.ensures.ok.1 ∙ c.in_ok-generate.ensures.bytes; capture = c.in-Ok.ensures.ok.0 }) c.in_ok-plan.ensures c.make.ensures c.bytes.ensures c.in_ok-served.ensures.served c.in_ok-served.ensures.whole c.in_ok-summary.ensures
+    is_summary c.args.number c.in-Ok.capture (asked_by_words c.args.words.now) c.in_ok-plan.plan c.make-calls.result c.in_ok-served.served c.bytes.result.now c.in_ok-text.text
+    (record { bytes = c.in-Ok.ensures.ok.1 ∙ c.in_ok-generate.ensures.bytes; capture = c.in-Ok.ensures.ok.0 }) c.in_ok-plan.ensures c.make-calls.ensures c.bytes.ensures c.in_ok-served.ensures c.in_ok-text.ensures
 
 pub returns-in-Err : goal.returns-in-Err
 returns-in-Err g c = c.in_ok-generate.ensures.unrefused c.in-Err.fault c.in-Err.ensures.err

@@ -1,0 +1,361 @@
+-- From what the passes knew at the end, and what came back of the squeues, to what was served.
+use Rattle.std.proofs.Common.{◌≡◌, ◌≢◌, ℕ, ◌+◌, ◌-◌, ◌/◌, ◌%◌, ◌<◌, ◌≤◌, ◌==◌, zero, suc, Bool, true, false, if◌then◌else◌, Option, Some, None, Result, Ok, Err, IfOk, List, [], ◌∷◌, ◌++◌, length, length-append, inl, inr, map, slice_get, slice_index_or, refl, ap, sym, ◌∙◌, subst, arith}
+use Rattle.std.specs.Prelude.{Box, IfSome, get_or}
+use Rattle.std.specs.Option.{option_map_or}
+use Rattle.std.specs.List.{range_with_len}
+use Rattle.std.specs.declared.alloc.Global.{Global}
+use Rattle.std.proofs.lemmas.Bool.{cases_lt}
+use Rattle.std.proofs.lemmas.Bool.Decides.{nat_tests}
+use Rattle.std.proofs.lemmas.Option.{slice_get_within}
+use Rattle.std.proofs.Math.Nat.{mod-lt}
+use Rattle.turn_gate.specs.History.{Each}
+use Rattle.turn_gate.specs.Passes.{number, seen}
+use Rattle.turn_gate.specs.declared.pass.Pass.{Pass}
+use Rattle.perimeter_core.specs.declared.entries.Act.{Act}
+use Rattle.perimeter_core.specs.declared.entries.Feed.{Feed}
+use Rattle.perimeter_core.specs.Perimeter.{is_here}
+use Rattle.perimeter_core.specs.History.{Element, Limits, Setting, run, start, worker}
+use Rattle.perimeter_core.specs.Deeds.{acts, due, fed, feed_numbers}
+use Rattle.perimeter_core.specs.Legal.{Legal}
+use Rattle.squeue_state.specs.Naming.{Ending, Named, setting_of}
+use Rattle.squeue_state.specs.Words.{Knows}
+use Rattle.conn_migrate.specs.Stays.{AreLegal, AreLinked, AreSameStays, IsLinked, StartsAtHome, stays}
+use Rattle.conn_classifier.specs.Plan.{PlanOf, items_in}
+use Rattle.conn_blocks.specs.declared.blocks.Blocks.{Blocks}
+use Rattle.conn_blocks.specs.CallLists.{CallLists, call_at, calls_of}
+use Rattle.conn_blocks.specs.Holding.{StandsFor}
+use Rattle.conn_blocks.specs.Homes.{home}
+use Rattle.conn_blocks.specs.Orders.{IsAll, IsWhole, settle}
+use Rattle.conn_blocks.specs.Places.{limits_of, origin_of}
+use Rattle.conn_blocks.specs.ServeOrder.{BlockOf, OriginOf, serve, serving_of}
+use Rattle.squeue_serve.specs.Places.{AtEach, Holds}
+use Rattle.squeue_serve.proofs.Coming.{each_got}
+use Rattle.squeue_serve.proofs.Lent.{some_at}
+use Rattle.squeue_rings.specs.Calling.{conns_called}
+use Rattle.squeue_rings.specs.Made.{made_in, once_on, times_made}
+use Rattle.squeue_rings.specs.Runs.{brought, place}
+use Rattle.squeue_rings.specs.Seen.{seen_ends, seen_in}
+use Rattle.squeue_rings.proofs.CallMarks.{none_beyond as no_thread_beyond}
+use Rattle.squeue_rings.proofs.Slots.{at_got, at_length}
+use Rattle.ring_quotas.specs.Quotas.{quotas_of, setting_at}
+use Rattle.run_histories.specs.Counting.{made_in_all, times_called}
+use Rattle.run_histories.proofs.AllActs.{are_all}
+use Rattle.run_histories.proofs.Called.{calls_of_all}
+use Rattle.run_histories.proofs.Ends.{all_fed, numbered}
+use Rattle.ring_threads.specs.Ends.{CallerEnds, CallersEnd, RingEnds, RingsEnd}
+use Rattle.ring_threads.specs.Gathering.{EndsAs, HasGathered, IsFrom, IsNowhere, LiesSo}
+use Rattle.ring_threads.specs.Served.{HasServed, IsHereOnce, ServedOf}
+use Rattle.ring_threads.specs.ServedBlocks.{AreServed, AreWhole, IsServing}
+use Rattle.ring_threads.specs.Settings.{AreSet, HasRun, IsSet}
+use Rattle.ring_threads.proofs.AtTheEnd.{end_due, end_here, end_made, end_stays, linked_same, seen_count, seen_got}
+
+home_below : (squeues spread c n : ℕ) → 1 ≤ squeues → home squeues spread c n < squeues
+home_below squeues spread c n some = by (spread == 0)
+  where
+    by : (b : Bool) → (if b then c % squeues else (c + n / spread) % squeues) < squeues
+    by true = mod-lt c some
+    by false = mod-lt (c + n / spread) some
+
+same_test : (a b : ℕ) → (a == b) ≡ (b == a)
+same_test a b = by (a == b) (b == a) refl refl
+  where
+    by : (x y : Bool) → (a == b) ≡ x → (b == a) ≡ y → (a == b) ≡ (b == a)
+    by true true u v = u ∙ sym v
+    by false false u v = u ∙ sym v
+    by true false u v = let e : a ≡ b = grind (arith, nat_tests) in let f : b ≢ a = grind (arith, nat_tests) in absurd (f (sym e))
+    by false true u v = let e : b ≡ a = grind (arith, nat_tests) in let f : a ≢ b = grind (arith, nat_tests) in absurd (f (sym e))
+
+-- the places of a map over the first numbers
+pub map_at : {A : Type 0} (f : ℕ → A) (a n k : ℕ) (d : A) → k < n → slice_index_or (map f (range_with_len a n)) k d ≡ f (a + k)
+map_at f a zero k d lt = absurd (omega (arith, lt))
+map_at f a (suc n) zero d lt = let e : a ≡ a + 0 = omega arith in ap f e
+map_at f a (suc n) (suc k) d lt = let e : a + 1 + k ≡ a + suc k = omega arith in map_at f (a + 1) n k d (omega (arith, lt)) ∙ ap f e
+
+pub map_count : {A : Type 0} (f : ℕ → A) (a n : ℕ) → length (map f (range_with_len a n)) ≡ n
+map_count f a zero = refl
+map_count f a (suc n) = ap suc (map_count f (a + 1) n)
+
+got_map : {A B : Type 0} (f : A → B) (g : B → ℕ) (xs : List A) (k d : ℕ) → option_map_or g (slice_get (map f xs) k) d ≡ option_map_or (λ x. g (f x)) (slice_get xs k) d
+got_map f g [] k d = refl
+got_map f g (x ∷ xs) zero d = refl
+got_map f g (x ∷ xs) (suc k) d = got_map f g xs k d
+
+none_beyond : {A : Type 0} (xs : List (List A)) (j : ℕ) → length xs ≤ j → get_or xs j [] ≡ []
+none_beyond [] j le = refl
+none_beyond (x ∷ xs) zero le = absurd (omega (arith, le))
+none_beyond (x ∷ xs) (suc j) le = none_beyond xs j (omega (arith, le))
+
+-- the same count over the ends and over what passes have seen
+same_sums : (c j k : ℕ) (es : List Ending) (os : List (Option (Pass Element))) → length os ≡ length es
+    → ((q : ℕ) (e : Ending) (o : Option (Pass Element)) → slice_get es q ≡ Some e → slice_get os q ≡ Some o → times_made c j k e.history ≡ times_made c j k (seen_in o)) → made_in_all c j k es ≡ made_in c j k os
+same_sums c j k [] [] n h = refl
+same_sums c j k [] (o ∷ os) n h = absurd (omega (arith, n))
+same_sums c j k (e ∷ es) [] n h = absurd (omega (arith, n))
+same_sums c j k (e ∷ es) (o ∷ os) n h =
+    let here = h 0 e o refl refl in
+    let rest = same_sums c j k es os (omega (arith, n)) (λ q f x a b. h (suc q) f x a b) in
+    omega (arith, here, rest)
+
+none_in_all : (c j k : ℕ) (es : List Ending) → ((q : ℕ) (e : Ending) → slice_get es q ≡ Some e → times_made c j k e.history ≡ 0) → made_in_all c j k es ≡ 0
+none_in_all c j k [] h = refl
+none_in_all c j k (e ∷ es) h =
+    let here = h 0 e refl in
+    let rest = none_in_all c j k es (λ q f a. h (suc q) f a) in
+    omega (arith, here, rest)
+
+differ : true ≡ false → ⊥
+differ e = cc e
+
+-- where it is here after one of the histories, its block lies at its place
+placed_at : (ss : List (Named Blocks)) (es : List Ending) (c : ℕ) (o : Option (Option (Box BlockOf Global))) (q : ℕ) (e : Ending) → LiesSo ss es c o → slice_get es q ≡ Some e → is_here (run e.setting e.history) c ≡ true
+    → (b : Box BlockOf Global) × (o ≡ Some (Some b)) × IsFrom ss es c b.value
+placed_at ss es c None q e lies at here = absurd lies
+placed_at ss es c (Some None) q e lies at here = absurd (differ (sym here ∙ lies q e at))
+placed_at ss es c (Some (Some b)) q e lies at here = (b, refl, lies)
+
+-- as many passes at each squeue as rings and application threads
+pub quotas_count : (p : PlanOf) (calls : CallLists) (squeues rings spread q : ℕ) → length (quotas_of p calls squeues rings spread q) ≡ rings + 4
+quotas_count p calls squeues rings spread q = length-append _ _ ∙ ap (λ (m : ℕ). m + 4) (map_count _ 0 rings)
+
+module _ (p : PlanOf) (calls : CallLists) (squeues rings spread front : ℕ) (lists : ℕ → List Feed) (ss : List (Named Blocks)) (lent : ℕ → List (Option (Pass Element))) (places : List (Option (Box BlockOf Global))) (es : List Ending)
+    (some : 1 ≤ squeues) (rings_some : 1 ≤ rings) (ran : HasRun p calls squeues rings spread front lists ss lent)
+    (back : HasGathered front (rings + 4) ss lent places es) (sized : length places ≡ length p.tuples)
+    (is_whole : (p : PlanOf) (calls : CallLists) (c : ℕ) (acts : List Act) → IsAll p calls c acts → IsWhole p calls c (settle calls c acts))
+    (serves_settled : (p : PlanOf) (calls : CallLists) (c : ℕ) (came : List Act) (b : BlockOf) → StandsFor p calls c came b → b.short ≡ false → serving_of b ≡ serve p calls c (settle calls c came)) where
+  abbrev n : ℕ
+  n = length p.tuples
+
+  -- a squeue and its end
+  record At (q : ℕ) : Type 0 where
+    s : Named Blocks
+    e : Ending
+    is : slice_get ss q ≡ Some s
+    at : slice_get es q ≡ Some e
+    set : IsSet p calls squeues rings spread q s
+    ends : EndsAs front (rings + 4) lent q s e
+
+  at_squeue : (q : ℕ) → q < squeues → At q
+  at_squeue q lt =
+      let a = some_at ss q (omega (arith, lt, ran.set.count)) in
+      let b = some_at es q (omega (arith, lt, ran.set.count, back.ends)) in
+      record { s = a.0; e = b.0; is = a.1; at = b.1; set = ran.set.each q a.0 a.1; ends = back.each q a.0 b.0 a.1 b.1 }
+
+  at_end : (q : ℕ) (e : Ending) → slice_get es q ≡ Some e → (s : Named Blocks) × (slice_get ss q ≡ Some s) × IsSet p calls squeues rings spread q s × EndsAs front (rings + 4) lent q s e
+  at_end q e at =
+      let a = some_at ss q (omega (arith, slice_get_within es q e at, back.ends)) in
+      (a.0, a.1, ran.set.each q a.0 a.1, back.each q a.0 e a.1 at)
+
+  its_rings : (q : ℕ) (s : Named Blocks) → IsSet p calls squeues rings spread q s → s.given.rings ≡ rings
+  its_rings q s set = ap (λ (S : Setting). S.rings) set.setting
+
+  its_conns : (q : ℕ) (s : Named Blocks) → IsSet p calls squeues rings spread q s → length s.given.starts ≡ n
+  its_conns q s set = ap (λ (S : Setting). length S.starts) set.setting ∙ map_count (λ c. c % squeues == q) 0 n
+
+  -- what the ring of a connection knew of it
+  module _ (c : ℕ) (lt : c < n) where
+    abbrev r : ℕ
+    r = c % rings
+
+    r_below : r < rings
+    r_below = mod-lt c rings_some
+
+    abbrev last : ℕ
+    last = place squeues spread c (lists r)
+
+    last_below : last < squeues
+    last_below = home_below squeues spread c (brought c (lists r) - 1) some
+
+    module _ (q : ℕ) (s : Named Blocks) (e : Ending) (is : slice_get ss q ≡ Some s) (at : slice_get es q ≡ Some e) (set : IsSet p calls squeues rings spread q s) (ends : EndsAs front (rings + 4) lent q s e) where
+      legal : Legal (setting_of limits_of s.given) e.history
+      legal = subst (λ (S : Setting). Legal S e.history) ends.its_setting ends.ended.legal
+
+      seer : (x : Pass Element) × (slice_get (lent (front + r)) q ≡ Some (Some x)) × Knows e.history x
+      seer = ends.knows r (omega (arith, r_below))
+
+      known : RingEnds limits_of squeues spread r (lists r) s seer.0
+      known = at_got (λ s o. Holds (RingEnds limits_of squeues spread r (lists r) s) o) ss (lent (front + r)) q s (Some seer.0) (ran.rings_end r r_below).each is seer.1
+
+      ring : number seer.0 ≡ c % s.given.rings
+      ring = known.is_number ∙ ap (λ (k : ℕ). c % k) (sym (its_rings q s set))
+
+      ours : r ≡ c % s.given.rings
+      ours = ap (λ (k : ℕ). c % k) (sym (its_rings q s set))
+
+      there : c < length s.given.starts
+      there = omega (arith, lt, its_conns q s set)
+
+      here_if : is_here (run e.setting e.history) c ≡ (last == q)
+      here_if =
+          ap (λ (S : Setting). is_here (run S e.history) c) ends.its_setting
+          ∙ (end_here limits_of s seer.0 e.history known.pass legal seer.2 c ring ∙ (known.here c ours there ∙ ap (λ (k : ℕ). last == k) set.number))
+
+      due_if : last ≡ q → due e.history c ≡ length (items_in p c)
+      due_if it =
+          end_due limits_of s seer.0 e.history known.pass legal seer.2 c ring
+          ∙ (known.next c ours there (it ∙ sym set.number) ∙ ran.brought_all r c r_below lt refl)
+
+      stays_same : AreSameStays (stays (setting_of limits_of s.given) (seen seer.0) c) (stays e.setting e.history c)
+      stays_same =
+          subst (λ (S : Setting). AreSameStays (stays (setting_of limits_of s.given) (seen seer.0) c) (stays S e.history c)) (sym ends.its_setting)
+          (end_stays limits_of s seer.0 e.history known.pass legal seer.2 c ring)
+
+    at_last : At last
+    at_last = at_squeue last last_below
+
+    here_last : is_here (run (At.e at_last).setting (At.e at_last).history) c ≡ true
+    here_last = here_if last at_last.s at_last.e at_last.is at_last.at at_last.set at_last.ends ∙ (let t : (last == last) ≡ true = grind (arith, nat_tests) in t)
+
+    -- it lies at its place
+    pub lies : (b : Box BlockOf Global) × (slice_get places c ≡ Some (Some b)) × IsFrom ss es c b.value
+    lies = placed_at ss es c (slice_get places c) last at_last.e (back.placed c (omega (arith, lt, sized))) at_last.at here_last
+
+    module _ (f : IsFrom ss es c lies.0.value) where
+      set : IsSet p calls squeues rings spread f.q f.squeue
+      set = ran.set.each f.q f.squeue f.is_squeue
+
+      ends : EndsAs front (rings + 4) lent f.q f.squeue f.end
+      ends = back.each f.q f.squeue f.end f.is_squeue f.is_end
+
+      is_last : last ≡ f.q
+      is_last =
+          let t : (last == f.q) ≡ true = sym (here_if f.q f.squeue f.end f.is_squeue f.is_end set ends) ∙ f.here in
+          grind (arith, nat_tests)
+
+      abbrev came : List Act
+      came = acts f.end.setting f.end.history c
+
+      once : IsHereOnce es c came
+      once =
+          record {
+            squeue = f.q;
+            end = f.end;
+            is_end = f.is_end;
+            here = f.here;
+            acts_are = refl;
+            nowhere_else = λ q e apart at.
+                let a = at_end q e at in
+                let other : (last == q) ≡ false = (let d : last ≢ q = λ i. apart (sym i ∙ is_last) in grind (arith, nat_tests)) in
+                here_if q a.0 e a.1 at a.2 a.3 ∙ other;
+          }
+
+      stands : StandsFor p calls c came lies.0.value
+      stands = subst (λ (o : OriginOf). StandsFor o.plan o.calls c came lies.0.value) set.origin f.stands
+
+      fed_all : feed_numbers came ≡ range_with_len 0 (length (items_in p c))
+      fed_all =
+          numbered p calls c came lies.0.value stands
+          ∙ ap (range_with_len 0) (all_fed f.end.setting f.end.history c ends.ended.legal ends.ended.over f.here ∙ due_if f.q f.squeue f.end f.is_squeue f.is_end set ends is_last)
+
+  -- how often a call was made in all histories
+  module _ (c j k : ℕ) where
+    seen_as_made : j < 4 → made_in_all c j k es ≡ made_in c j k (lent (front + (rings + j)))
+    seen_as_made lt = same_sums c j k es (lent (front + (rings + j))) (at_length (λ s o. Holds (CallerEnds j s) o) ss (lent (front + (rings + j))) (ran.callers_end j lt).each ∙ sym back.ends) by
+      where
+        by : (q : ℕ) (e : Ending) (o : Option (Pass Element)) → slice_get es q ≡ Some e → slice_get (lent (front + (rings + j))) q ≡ Some o → times_made c j k e.history ≡ times_made c j k (seen_in o)
+        by q e o at there =
+            let a = at_end q e at in
+            let x = a.3.knows (rings + j) (omega (arith, lt)) in
+            let same : o ≡ Some x.0 = (let i : Some o ≡ Some (Some x.0) = sym there ∙ x.1 in cc i) in
+            let ends = at_got (λ s o. Holds (CallerEnds j s) o) ss (lent (front + (rings + j))) q a.0 (Some x.0) (ran.callers_end j lt).each a.1 x.1 in
+            let legal : Legal (setting_of limits_of a.0.given) e.history = subst (λ (S : Setting). Legal S e.history) a.3.its_setting a.3.ended.legal in
+            end_made limits_of a.0 x.0 e.history ends.pass legal x.2 c j k ends.is_number ∙ ap (λ (o : Option (Pass Element)). times_made c j k (seen_in o)) (sym same)
+
+    made_as_asked : length calls ≡ 4 → made_in_all c j k es ≡ option_map_or (λ x. if x.0 == c then 1 else 0) (call_at calls j k) 0
+    made_as_asked threads = elim (cases_lt j 4) [
+      | inl lt ↦ seen_as_made lt ∙ ((ran.callers_end j lt).made c k ∙ got_map (λ x. x.0) (λ d. if d == c then 1 else 0) (calls_of calls j) k 0)
+      | inr le ↦
+          none_in_all c j k es (λ q e at.
+          let a = at_end q e at in
+          let passes : worker e.setting ≡ rings + 4 = (
+          let s : worker (setting_at p calls squeues rings spread q) ≡ rings + 4 = quotas_count p calls squeues rings spread q in
+          ap worker (a.3.its_setting ∙ a.2.setting) ∙ s
+          ) in
+          let ring : e.setting.rings ≡ rings = ap (λ (S : Setting). S.rings) (a.3.its_setting ∙ a.2.setting) in
+          no_thread_beyond e.setting e.history c j k a.3.ended.legal (omega (arith, passes, ring, le)))
+          ∙ sym (ap (λ o. option_map_or (λ x. if x.0 == c then 1 else 0) (slice_get o k) 0) (none_beyond calls j (omega (arith, le, threads))))
+    ]
+
+  -- the connections went from stay to stay
+  pub linked : AreLinked n es
+  linked =
+      record {
+        legal = λ q h at. (at_end q h at).3.ended.legal;
+        home = λ c lt q h at.
+            let a = at_end q h at in
+            let starts : h.setting.starts ≡ map (λ d. d % squeues == q) (range_with_len 0 n) = ap (λ (S : Setting). S.starts) (a.3.its_setting ∙ a.2.setting) in
+            let total : length es ≡ squeues = back.ends ∙ ran.set.count in
+            ap (λ (l : List Bool). slice_index_or l c false) starts
+            ∙ (map_at (λ d. d % squeues == q) 0 n c false lt ∙ (let z : 0 + c ≡ c = omega arith in ap (λ (d : ℕ). d % squeues == q) z ∙ (same_test (c % squeues) q ∙ ap (λ (m : ℕ). q == c % m) (sym total))));
+        linked = λ c lt. linked_same (seen_ends limits_of ss (lent (front + r c lt))) es c (same_count c lt) (kept c lt) ((ran.rings_end (r c lt) (r_below c lt)).linked c (own c lt));
+      }
+    where
+      own : (c : ℕ) (lt : c < n) → Each (λ (s : Named Blocks). (r c lt ≡ c % s.given.rings) × (c < length s.given.starts)) ss
+      own c lt = each_got (λ (s : Named Blocks). (r c lt ≡ c % s.given.rings) × (c < length s.given.starts)) ss
+          (λ q s is. let set = ran.set.each q s is in (ap (λ (k : ℕ). c % k) (sym (its_rings q s set)), omega (arith, lt, its_conns q s set)))
+
+      places_count : (c : ℕ) (lt : c < n) → length (lent (front + r c lt)) ≡ length ss
+      places_count c lt = at_length (λ s o. Holds (RingEnds limits_of squeues spread (r c lt) (lists (r c lt)) s) o) ss (lent (front + r c lt)) (ran.rings_end (r c lt) (r_below c lt)).each
+
+      same_count : (c : ℕ) (lt : c < n) → length es ≡ length (seen_ends limits_of ss (lent (front + r c lt)))
+      same_count c lt = back.ends ∙ sym (seen_count limits_of ss (lent (front + r c lt)) (places_count c lt))
+
+      kept : (c : ℕ) (lt : c < n) (q : ℕ) (h g : Ending) → slice_get (seen_ends limits_of ss (lent (front + r c lt))) q ≡ Some h → slice_get es q ≡ Some g → AreSameStays (stays h.setting h.history c) (stays g.setting g.history c)
+      kept c lt q h g at there =
+          let a = at_end q g there in
+          let x = seer c lt q a.0 g a.1 there a.2 a.3 in
+          let same = seen_got limits_of ss (lent (front + r c lt)) q a.0 (Some x.0) h a.1 x.1 at in
+          subst (λ (h : Ending). AreSameStays (stays h.setting h.history c) (stays g.setting g.history c)) same (stays_same c lt q a.0 g a.1 there a.2 a.3)
+
+  -- each block has its acts, and they are all that there are
+  module _ (c : ℕ) (lt : c < n) where
+    abbrev b : BlockOf
+    b = (lies c lt).0.value
+
+    abbrev from : IsFrom ss es c b
+    from = (lies c lt).2
+
+    abbrev done : List Act
+    done = came c lt from
+
+    all : IsAll p calls c done
+    all = are_all p calls c done (fed_all c lt from) (λ j k. calls_of_all n es c from.q from.end j k linked lt from.is_end from.here ∙ made_as_asked c j k (stands c lt from).settled.threads)
+
+    is_order : b.order ≡ settle calls c done
+    is_order = (stands c lt from).order
+
+    order_whole : IsWhole p calls c b.order
+    order_whole = subst (IsWhole p calls c) (sym is_order) (is_whole p calls c done all)
+
+    is_serving : b.short ≡ false → IsServing p calls c b
+    is_serving whole = record { whole = whole; served = serves_settled p calls c done b (stands c lt from) whole ∙ ap (serve p calls c) (sym is_order) }
+
+  pub filled : (c : ℕ) → c < length places → (b : Box BlockOf Global) × (slice_get places c ≡ Some (Some b))
+  filled c lt = let l = lies c (omega (arith, lt, sized)) in (l.0, l.1)
+
+  module _ (bs : List BlockOf) (count : length bs ≡ length places) (each : (c : ℕ) (b : Box BlockOf Global) → slice_get places c ≡ Some (Some b) → (slice_get bs c ≡ Some b.value) × (b.value.short ≡ false)) where
+    got : (c : ℕ) (lt : c < n) → (slice_get bs c ≡ Some (b c lt)) × ((b c lt).short ≡ false)
+    got c lt = each c (lies c lt).0 (lies c lt).1
+
+    pub served : HasServed p calls squeues rings spread (record { blocks = bs; ended = es })
+    served =
+        record {
+          count = back.ends ∙ ran.set.count;
+          ended = λ q e at. let a = at_end q e at in (a.3.its_number ∙ a.2.number, a.3.its_setting ∙ a.2.setting, a.3.ended);
+          linked = linked;
+          settled = λ c d at.
+              let lt : c < n = omega (arith, slice_get_within bs c d at, count, sized) in
+              let same : b c lt ≡ d = (let i : Some (b c lt) ≡ Some d = sym (got c lt).0 ∙ at in cc i) in
+              (done c lt, once c lt (from c lt), ap (λ (d : BlockOf). d.order) (sym same) ∙ is_order c lt);
+          served =
+              record {
+                count = count ∙ sized;
+                each = λ c lt. subst (λ (o : Option BlockOf). IfSome o (IsServing p calls c)) (sym (got c lt).0) (is_serving c lt (got c lt).1);
+              };
+          whole = λ c lt. subst (λ (o : Option BlockOf). IfSome o (λ (d : BlockOf). IsWhole p calls c d.order)) (sym (got c lt).0) (order_whole c lt);
+        }
+
+  -- the same of what is handed out, if anything is
+  pub all_served : {E : Type 0} (r : Result ServedOf E) → IfOk r (λ v. v.ended ≡ es) → IfOk r (λ v. length v.blocks ≡ length places)
+      → IfOk r (λ v. (c : ℕ) (b : Box BlockOf Global) → slice_get places c ≡ Some (Some b) → (slice_get v.blocks c ≡ Some b.value) × (b.value.short ≡ false)) → IfOk r (HasServed p calls squeues rings spread)
+  all_served (Ok v) ends count each = subst (λ (l : List Ending). HasServed p calls squeues rings spread (record { blocks = v.blocks; ended = l })) (sym ends) (served v.blocks count each)
+  all_served (Err e) ends count each = ends

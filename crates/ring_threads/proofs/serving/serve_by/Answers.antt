@@ -1,0 +1,48 @@
+use Rattle.std.proofs.Common.{◌≡◌, ℕ, ◌+◌, ◌<◌, ◌≤◌, List, Result, Ok, Err, IfOk, length, reverse, sym, ◌∙◌, subst, arith}
+use Rattle.squeue_state.specs.Naming.{Named}
+use Rattle.conn_blocks.specs.declared.blocks.Blocks.{Blocks}
+use Rattle.squeue_serve.specs.Lending.{lent_to}
+use Rattle.squeue_serve.proofs.Lent.{none_lent_to}
+use Rattle.ring_threads.specs.Gathering.{HasGathered}
+use Rattle.ring_threads.specs.Settings.{HasRun}
+use Rattle.ring_threads.specs.Tasks.{lists_of}
+use Rattle.ring_threads.proofs.WholeRun.{all_served, filled}
+use Rattle.ring_threads.proofs.serving.serve_by.Goals as goal
+
+from_ok : {A E : Type 0} (P : A → Type 0) (r : Result A E) (x : A) → r ≡ Ok x → IfOk r P → P x
+from_ok {A = A} {E = E} P r x is h = subst (λ (r : Result A E). IfOk r P) is h
+
+pub discard-requires : goal.discard-requires
+discard-requires g c = none_lent_to c.gather.new.jobs.items c.gather.ensures.back
+
+pub whole-requires : goal.whole-requires
+whole-requires g c =
+    let p = c.args.plan.now in
+    let calls = c.args.calls.now in
+    let u = c.args.setup.now in
+    let lists = lists_of c.args.lines.now in
+    let ss = c.make_all-made.new.squeues.all.items in
+    let lent = lent_to c.run_or_end.new.jobs.items in
+    let places = c.gather.new.gathered.places.items in
+    let es = reverse c.gather.new.gathered.ended.items in
+    let ran = subst (λ (l : List (Named Blocks)). HasRun p calls u.squeues u.rings u.spread 1 lists l lent) c.as_slice.ensures.value
+    (from_ok (λ _. HasRun p calls u.squeues u.rings u.spread 1 lists c.as_slice.result.now lent) c.make_all-made.result c.in_ok-made.field-0 c.in_ok-made.was c.run_or_end.ensures.ran) in
+    let back = subst (λ (n : ℕ). HasGathered 1 n ss lent places es) c.count_of.ensures c.gather.ensures.gathered in
+    filled p calls u.squeues u.rings u.spread 1 lists ss lent places es c.requires.setup.squeues.0 c.requires.setup.rings.0 ran back (c.gather.ensures.count ∙ c.requires.gathered.0)
+    c.a_settled_order_is_whole.ensures c.a_block_holds_back_what_settling_holds.ensures.served
+
+pub returns : goal.returns
+returns g c =
+    let p = c.args.plan.now in
+    let calls = c.args.calls.now in
+    let u = c.args.setup.now in
+    let lists = lists_of c.args.lines.now in
+    let ss = c.make_all-made.new.squeues.all.items in
+    let lent = lent_to c.run_or_end.new.jobs.items in
+    let places = c.gather.new.gathered.places.items in
+    let es = reverse c.gather.new.gathered.ended.items in
+    let ran = subst (λ (l : List (Named Blocks)). HasRun p calls u.squeues u.rings u.spread 1 lists l lent) c.as_slice.ensures.value
+    (from_ok (λ _. HasRun p calls u.squeues u.rings u.spread 1 lists c.as_slice.result.now lent) c.make_all-made.result c.in_ok-made.field-0 c.in_ok-made.was c.run_or_end.ensures.ran) in
+    let back = subst (λ (n : ℕ). HasGathered 1 n ss lent places es) c.count_of.ensures c.gather.ensures.gathered in
+    all_served p calls u.squeues u.rings u.spread 1 lists ss lent places es c.requires.setup.squeues.0 c.requires.setup.rings.0 ran back (c.gather.ensures.count ∙ c.requires.gathered.0)
+    c.a_settled_order_is_whole.ensures c.a_block_holds_back_what_settling_holds.ensures.served c.whole.result c.whole.ensures.ended c.whole.ensures.count c.whole.ensures.blocks

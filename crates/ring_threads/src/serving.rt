@@ -1,0 +1,147 @@
+//! All connections of a plan, served by threads over squeues.
+ghost use Rattle.std.specs.Prelude.{◌≡◌, ◌<◌, ◌≤◌, ◌+◌, [], All, IfOk, length, vec_capacity};
+ghost use Rattle.conn_blocks.specs.Allowed.{all_calls};
+ghost use Rattle.conn_blocks.specs.Places.{limits_of};
+ghost use Rattle.synch_enter.specs.Hinting.{conns_of, squeues_of};
+ghost use Rattle.squeue_serve.specs.Places.{IsNew, MayEnd};
+ghost use Rattle.squeue_serve.specs.Lending.{AreLent, HaveRoom, lent_to, tasks_in};
+ghost use Rattle.ring_quotas.specs.Quotas.{IsInRange};
+ghost use Rattle.ring_threads.specs.Gathering.{AreEmpty};
+ghost use Rattle.ring_threads.specs.Served.{HasServed};
+ghost use Rattle.ring_threads.specs.Settings.{AreSet, HasRun};
+ghost use Rattle.ring_threads.specs.Tasks.{AreTasks, lists_of};
+
+use crate::gathering::gather;
+use crate::lines::Line;
+use crate::making::{FRONT, count_of, make_all};
+use crate::running::run;
+use crate::served::{Gathered, Served};
+use crate::task::{Task, tasks_of};
+use conn_blocks::laws::{a_block_holds_back_what_settling_holds, a_settled_order_is_whole};
+use conn_blocks::{Blocks, Calls};
+use conn_classifier::Plan;
+use perimeter_core::Hook;
+use ring_quotas::Setup;
+use squeue_serve::{Job, Squeues, discard, jobs_of, run_unused};
+use squeue_state::Squeue;
+use std::alloc::{AllocError, Global};
+use std::sync::Wait;
+use std::thread::Threads;
+use synch_enter::Hints;
+
+/// Serves every connection of the plan, each with all its items and calls, by threads over squeues. Fails only for want of memory.
+pub fn serve<H: Hook + Sync, W: Threads + Wait + Sync>(
+    rt: &W,
+    alloc: Global,
+    plan: &Plan<'_>,
+    calls: &Calls,
+    setup: &Setup,
+    hook: &H,
+) -> Result<Served, AllocError>
+    requires setup { IsInRange setup.now }
+    requires calls { All (λ call. call.0 < length plan.now.tuples) (all_calls calls.now) }
+    ensures { IfOk result (λ v. HasServed plan.now calls.now setup.now.squeues setup.now.rings setup.now.spread v) }
+{
+    let hints = Hints::make(alloc, plan.conns(), setup.squeues)?;
+    let (lines, tasks) = tasks_of(alloc, plan, setup)?;
+    let gathered = Gathered::with_room(alloc, plan.conns(), setup.squeues)?;
+    let jobs = jobs_of(alloc, tasks, setup.squeues as usize)?;
+    match Squeues::with_room(alloc, setup.squeues as usize) {
+        Ok(squeues) => serve_by(
+            rt, alloc, plan, calls, setup, hook, &hints, &lines, gathered, jobs, squeues,
+        ),
+        Err(error) => {
+            discard(jobs);
+            Err(error)
+        }
+    }
+}
+
+// Makes the squeues, runs the jobs, and ends what was made.
+fn serve_by<'p, H: Hook + Sync, W: Threads + Wait + Sync>(
+    rt: &W,
+    alloc: Global,
+    plan: &'p Plan<'_>,
+    calls: &'p Calls,
+    setup: &Setup,
+    hook: &H,
+    hints: &Hints,
+    lines: &[Line],
+    gathered: Gathered,
+    jobs: Vec<Job<Task>>,
+    squeues: Squeues<Blocks<'p>>,
+) -> Result<Served, AllocError>
+    requires setup { IsInRange setup.now }
+    requires calls { All (λ call. call.0 < length plan.now.tuples) (all_calls calls.now) }
+    requires hints { (conns_of hints.now ≡ length plan.now.tuples) × (squeues_of hints.now ≡ setup.now.squeues) }
+    requires tasks { AreTasks plan.now setup.now.squeues setup.now.rings lines.now (tasks_in jobs.items) }
+    requires jobs { All (λ j. j.places.items ≡ []) jobs.items × HaveRoom setup.now.squeues jobs.items }
+    requires squeues { (squeues.all.items ≡ []) × (squeues.rooms.items ≡ []) }
+    requires room { (setup.now.squeues ≤ vec_capacity squeues.all) × (setup.now.squeues ≤ vec_capacity squeues.rooms) }
+    requires gathered { (length gathered.places.items ≡ length plan.now.tuples) × AreEmpty gathered.places.items × (gathered.ended.items ≡ []) × (setup.now.squeues ≤ vec_capacity gathered.ended) }
+    ensures { IfOk result (λ v. HasServed plan.now calls.now setup.now.squeues setup.now.rings setup.now.spread v) }
+{
+    let mut gathered = gathered;
+    let mut jobs = jobs;
+    let mut squeues = squeues;
+    let made = make_all(alloc, plan, calls, setup, &mut jobs, &mut squeues);
+    run_or_end(
+        rt,
+        alloc,
+        hook,
+        &made,
+        squeues.all.as_slice(),
+        plan,
+        hints,
+        calls,
+        setup,
+        lines,
+        &mut jobs,
+    );
+    gather(
+        &mut squeues,
+        &mut jobs,
+        FRONT,
+        count_of(setup),
+        &mut gathered,
+    );
+    discard(jobs);
+    squeues.destroy_empty();
+    made?;
+    a_settled_order_is_whole();
+    a_block_holds_back_what_settling_holds();
+    gathered.whole(alloc)
+}
+
+// Runs the jobs. Where not all squeues could be made, it ends what was made.
+fn run_or_end<H: Hook + Sync, W: Threads + Wait + Sync>(
+    rt: &W,
+    alloc: Global,
+    hook: &H,
+    made: &Result<(), AllocError>,
+    squeues: &[Squeue<Blocks<'_>>],
+    plan: &Plan<'_>,
+    hints: &Hints,
+    calls: &Calls,
+    setup: &Setup,
+    lines: &[Line],
+    jobs: &mut Vec<Job<Task>>,
+)
+    requires setup { IsInRange setup.now }
+    requires calls { All (λ call. call.0 < length plan.now.tuples) (all_calls calls.now) }
+    requires hints { (conns_of hints.now ≡ length plan.now.tuples) × (squeues_of hints.now ≡ setup.now.squeues) }
+    requires set { IfOk made.now (λ _. AreSet plan.now calls.now setup.now.squeues setup.now.rings setup.now.spread squeues.now) }
+    requires few { length squeues.now ≤ setup.now.squeues }
+    requires tasks { AreTasks plan.now setup.now.squeues setup.now.rings lines.now (tasks_in jobs.old.items) }
+    requires lent { AreLent IsNew 1 (setup.now.rings + 4) squeues.now (lent_to jobs.old.items) }
+    ensures ran { IfOk made.now (λ _. HasRun plan.now calls.now setup.now.squeues setup.now.rings setup.now.spread 1 (lists_of lines.now) squeues.now (lent_to jobs.new.items)) }
+    ensures lent { AreLent (MayEnd limits_of) 1 (setup.now.rings + 4) squeues.now (lent_to jobs.new.items) }
+    ensures count { length jobs.new.items ≡ length jobs.old.items }
+{
+    match made {
+        Ok(()) => run(
+            rt, alloc, hook, squeues, plan, hints, calls, setup, lines, jobs,
+        ),
+        Err(_) => run_unused(rt, alloc, hook, squeues, jobs, FRONT, count_of(setup)),
+    }
+}
