@@ -1,0 +1,141 @@
+//! A run over frames: each is a datagram with its time, or the time alone.
+
+ghost use Rattle.std.specs.Prelude.{◌≡◌, ◌++◌, ◌+◌, ◌≤◌, ◌^◌, false, true, length, IfOk, OnOk};
+ghost use Rattle.std.specs.List.{flat_map};
+ghost use Rattle.live_server.specs.Frames.{answers, body_size, frame_at, frame_of, frames_in, is_broken, is_end, on_frame, rest_of, serves_frames, time_of};
+
+use crate::acting::Datagram;
+use crate::server::Server;
+use byteorder::{BigEndian, ByteOrder};
+use std::alloc::{AllocError, Global};
+
+/// The most bytes of a datagram.
+const LONGEST: u64 = 65_535;
+
+/// The last time of a frame.
+const LAST_TIME: u64 = 1 << 62;
+
+/// The bytes of a frame before its body.
+const HEAD: usize = 16;
+
+/// Serves the whole frames at the front of some bytes. What is sent goes as frames behind the bytes that are there. The answer
+/// is what is left: nothing, less than a whole frame, or one that is broken.
+pub fn serve_frames<'a>(
+    server: &mut Server,
+    alloc: Global,
+    bytes: &'a [u8],
+    out: &mut Vec<u8>,
+) -> Result<&'a [u8], AllocError>
+    ensures server { OnOk result (server.new ≡ (serves_frames (frames_in bytes.now) server.old).server) }
+    ensures sent { OnOk result (out.new.items ≡ out.old.items ++ answers bytes.now server.old) }
+    ensures rest { IfOk result (λ rest. rest.now ≡ rest_of bytes.now) }
+    ensures ended { IfOk result (λ rest. is_end rest.now ≡ true) }
+{
+    let mut rest = bytes;
+    'frames: while !is_end(rest) {
+        serve_front(server, alloc, rest, out)?;
+        let (_, others) = rest.split_at(frame_size(rest));
+        rest = others;
+    }
+    Ok(rest)
+}
+
+/// Whether no frame begins here that is whole and isn't broken.
+fn is_end(rest: &[u8]) -> bool
+    ensures { result ≡ is_end rest.now }
+{
+    rest.len() < HEAD || is_broken(rest) || rest.len() < HEAD + body_size(rest)
+}
+
+/// Whether a broken frame begins here: its datagram is too long, or its time too late.
+pub fn is_broken(rest: &[u8]) -> bool
+    requires { 16 ≤ length rest.now }
+    ensures { result ≡ is_broken rest.now }
+{
+    BigEndian::read_u64(rest) > LONGEST || time_of(rest) > LAST_TIME
+}
+
+/// How long the datagram of the frame is that begins here.
+fn body_size(rest: &[u8]) -> usize
+    requires head { 16 ≤ length rest.now }
+    requires whole { is_broken rest.now ≡ false }
+    ensures value { result ≡ body_size rest.now }
+    ensures small { result ≤ 65535 }
+{
+    BigEndian::read_u64(rest) as usize
+}
+
+fn time_of(rest: &[u8]) -> u64
+    requires { 16 ≤ length rest.now }
+    ensures { result ≡ time_of rest.now }
+{
+    BigEndian::read_u64(&rest[8..])
+}
+
+/// How many bytes the frame has that begins here.
+fn frame_size(rest: &[u8]) -> usize
+    requires { is_end rest.now ≡ false }
+    ensures value { result ≡ 16 + body_size rest.now }
+    ensures within { result ≤ length rest.now }
+{
+    HEAD + body_size(rest)
+}
+
+/// Serves the frame that begins here.
+fn serve_front(
+    server: &mut Server,
+    alloc: Global,
+    rest: &[u8],
+    out: &mut Vec<u8>,
+) -> Result<(), AllocError>
+    requires { is_end rest.now ≡ false }
+    ensures server { OnOk result (server.new ≡ (on_frame (frame_at rest.now) server.old).server) }
+    ensures sent { OnOk result (out.new.items ≡ out.old.items ++ flat_map frame_of (on_frame (frame_at rest.now) server.old).sent) }
+{
+    let (_, behind) = rest.split_at(HEAD);
+    let (body, _) = behind.split_at(body_size(rest));
+    let mut sent = Vec::new(alloc);
+    serve_frame(server, alloc, time_of(rest), body, &mut sent)?;
+    push_frames(&sent, out)?;
+    Ok(())
+}
+
+/// Serves a datagram, or the time alone where there is none.
+fn serve_frame(
+    server: &mut Server,
+    alloc: Global,
+    at: u64,
+    body: &[u8],
+    sent: &mut Vec<Datagram>,
+) -> Result<(), AllocError>
+    requires time { at ≤ 2 ^ 62 }
+    requires body { length body.now ≤ 65535 }
+    ensures server { OnOk result (server.new ≡ (on_frame (record { at = at; body = body.now }) server.old).server) }
+    ensures sent { OnOk result (sent.new.items ≡ sent.old.items ++ (on_frame (record { at = at; body = body.now }) server.old).sent) }
+{
+    if body.is_empty() {
+        server.tick(alloc, at, sent)
+    } else {
+        server.datagram(alloc, at, body, sent)
+    }
+}
+
+/// A frame for each datagram.
+fn push_frames(sent: &[Datagram], out: &mut Vec<u8>) -> Result<(), AllocError>
+    ensures { OnOk result (out.new.items ≡ out.old.items ++ flat_map frame_of sent.now) }
+{
+    for datagram in sent {
+        push_frame(datagram, out)?;
+    }
+    Ok(())
+}
+
+fn push_frame(datagram: &Datagram, out: &mut Vec<u8>) -> Result<(), AllocError>
+    ensures { OnOk result (out.new.items ≡ out.old.items ++ frame_of datagram.now) }
+{
+    let bytes = datagram.bytes.as_slice();
+    out.extend_from_slice(&(bytes.len() as u64).to_be_bytes())?;
+    out.extend_from_slice(&datagram.at.to_be_bytes())?;
+    out.extend_from_slice(bytes)?;
+    Ok(())
+}

@@ -1,0 +1,20 @@
+//! A server over the TCP crates: datagrams come with their times, and datagrams go out.
+//!
+//! It keeps a table of connections that is bounded, each with its block, and the secret behind its initial sequence numbers. It
+//! knows no socket, no device and no clock, and starts no thread: the caller brings each datagram, and the times in between.
+#![tactic(auto)]
+
+mod acting;
+mod frames;
+mod initial;
+mod laws;
+mod server;
+
+pub use acting::Datagram;
+pub use frames::{is_broken, serve_frames};
+pub use initial::Secret;
+pub use laws::{only_idle_leave, others_stay, own_block_acts, pieces_join};
+pub use server::Server;
+
+#[cfg(test)]
+mod tests;

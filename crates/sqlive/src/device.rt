@@ -1,0 +1,79 @@
+//! Standard input and output as a TUN device: each read is a datagram, and each write is one.
+
+ghost use Rattle.std.specs.Prelude.{◌^◌, ◌≤◌, ◌<◌, length};
+
+use live_server::{Datagram, Server};
+use std::alloc::{AllocError, Global};
+use std::io;
+use std::io::{Read, Write};
+use std::time::{Duration, Instant};
+
+/// The most bytes of a datagram.
+const MOST: usize = 65_536;
+
+/// How often the time comes to every block, in microseconds. Something has to be read for it: the launcher sends a datagram.
+const TICK: u64 = 20_000;
+
+/// Times stay at or below this one.
+const LAST_TIME: u64 = 1 << 62;
+
+/// Serves until nothing more can be read.
+pub fn serve(rt: &HostRuntime, server: Server) -> io::Result<()> {
+    let mut server = server;
+    let start = Instant::now(rt)?;
+    let mut reader = rt.reader();
+    let mut writer = io::writer(rt);
+    let mut body = vec![in rt.alloc(); 0u8; MOST]?;
+    let mut sent = Vec::new(rt.alloc());
+    let mut ticked = 0u64;
+    for _ in 0..u64::MAX {
+        let read = reader.read(&mut body[..])?;
+        if read == 0 {
+            break;
+        }
+        let now = micros(start.elapsed(rt)?);
+        if now.saturating_sub(ticked) >= TICK {
+            ticked = now;
+            server.tick(rt.alloc(), now, &mut sent)?;
+        }
+        datagram(&mut server, rt.alloc(), now, &body[..read], &mut sent)?;
+        write_each(&mut writer, &sent);
+        sent.clear();
+    }
+    Ok(())
+}
+
+/// A time in microseconds.
+fn micros(since: Duration) -> u64
+    ensures { result ≤ 2 ^ 62 }
+{
+    since
+        .as_secs()
+        .saturating_mul(1_000_000)
+        .saturating_add(u64::from(since.subsec_micros()))
+        .min(LAST_TIME)
+}
+
+/// A datagram that was read.
+fn datagram(
+    server: &mut Server,
+    alloc: Global,
+    now: u64,
+    body: &[u8],
+    sent: &mut Vec<Datagram>,
+) -> Result<(), AllocError>
+    requires { now ≤ 2 ^ 62 }
+{
+    if body.len() <= MOST {
+        server.datagram(alloc, now, body, sent)
+    } else {
+        Ok(())
+    }
+}
+
+/// Writes each datagram. One that the device refuses is lost, as on any wire.
+fn write_each<W: Write>(writer: &mut W, sent: &[Datagram]) {
+    for datagram in sent {
+        let _ = writer.write(datagram.bytes.as_slice());
+    }
+}
