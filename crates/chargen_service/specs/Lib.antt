@@ -1,0 +1,2 @@
+pub mod Chargen
+pub mod WholeStream

@@ -1,0 +1,3 @@
+pub mod UdpDatagram
+pub mod UdpBytes
+pub mod ReadAgain

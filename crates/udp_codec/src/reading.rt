@@ -1,0 +1,143 @@
+//! From a record to a datagram.
+
+ghost use Rattle.std.specs.Prelude.{◌≡◌, ◌+◌, ◌*◌, ◌<◌, ◌≤◌, ◌^◌, true, length, slice_index, IfSome};
+ghost use Rattle.segment_codec.specs.Packet.{total_of};
+ghost use Rattle.udp_codec.specs.UdpDatagram.{udp_in, ip_place, is_whole, header_of, part_of, is_udp, udp_at};
+
+use crate::datagram::Udp;
+use crate::places::{front, long_at, rest_at, word_at};
+use sq_base::{Addr, Link};
+
+const IPV4: u16 = 0x0800;
+
+const TAGGED: u16 = 0x8100;
+
+const UDP: u8 = 17;
+
+/// The most bytes of a UDP header with its text: the longest datagram less an IPv4 header.
+const MOST_LENGTH: usize = 65_515;
+
+/// The UDP datagram in a record's bytes. Its checksum isn't looked at.
+pub fn decode_udp(link: Link, body: &[u8]) -> Option<Udp>
+    requires { length body.now < 2 ^ 32 }
+    ensures { result ≡ udp_in link body.now }
+{
+    let at = ip_place(link, body)?;
+    udp_at(rest_at(body, at), at as u32)
+}
+
+/// Where the IPv4 datagram begins.
+#[tactic(auto, unfolding(crate::specs::UdpDatagram::ip_place))]
+fn ip_place(link: Link, body: &[u8]) -> Option<usize>
+    ensures is { result ≡ ip_place link body.now }
+    ensures within { IfSome result (λ at. at ≤ length body.now) }
+{
+    let len = body.len();
+    match link {
+        Link::Ethernet => {
+            if len >= 18 && word_at(body, 12) == TAGGED && word_at(body, 16) == IPV4 {
+                Some(18)
+            } else if len >= 14 && word_at(body, 12) == IPV4 {
+                Some(14)
+            } else {
+                None
+            }
+        }
+        Link::Cooked => {
+            if len >= 16 && word_at(body, 14) == IPV4 {
+                Some(16)
+            } else {
+                None
+            }
+        }
+        Link::RawIp => Some(0),
+    }
+}
+
+/// The UDP datagram in the IPv4 datagram that begins at this place of the record's body.
+#[tactic(auto, unfolding(crate::specs::UdpDatagram::udp_of))]
+fn udp_at(ip: &[u8], at: u32) -> Option<Udp>
+    requires { length ip.now + at < 2 ^ 32 }
+    ensures { result ≡ udp_at ip.now at }
+{
+    if !is_whole(ip) {
+        return None;
+    }
+    let part = part_of(ip);
+    if !is_udp(part) {
+        return None;
+    }
+    Some(Udp {
+        src: Addr(long_at(ip, 12)),
+        src_port: word_at(part, 0),
+        dst: Addr(long_at(ip, 16)),
+        dst_port: word_at(part, 2),
+        text_from: at + header_of(ip) as u32 + 8,
+        text_len: u32::from(word_at(part, 4)) - 8,
+    })
+}
+
+/// A whole datagram of IPv4 and UDP, and no fragment.
+#[tactic(auto, unfolding(crate::specs::UdpDatagram::is_whole))]
+fn is_whole(ip: &[u8]) -> bool
+    ensures is { result ≡ is_whole ip.now }
+    ensures long { result ≡ true → 20 ≤ length ip.now }
+    ensures header { result ≡ true → header_of ip.now ≤ total_of ip.now }
+    ensures total { result ≡ true → total_of ip.now ≤ length ip.now }
+{
+    if ip.len() < 20 {
+        return false;
+    }
+    let header = header_of(ip);
+    let named = usize::from(word_at(ip, 2));
+    let total = total_of(ip);
+    ip[0] >> 4 == 4
+        && header >= 20
+        && (named == 0 || named >= header)
+        && word_at(ip, 6) & 0x3fff == 0
+        && ip[9] == UDP
+        && ip.len() >= total
+        && ip.len() >= header
+}
+
+/// The IPv4 header's length.
+fn header_of(ip: &[u8]) -> usize
+    requires { 1 ≤ length ip.now }
+    ensures is { result ≡ header_of ip.now }
+    ensures small { result ≤ 60 }
+{
+    4 * usize::from(ip[0] & 15)
+}
+
+/// The datagram's total length; 0 stands for as many bytes as were captured.
+fn total_of(ip: &[u8]) -> usize
+    requires { 20 ≤ length ip.now }
+    ensures { result ≡ total_of ip.now }
+{
+    let named = usize::from(word_at(ip, 2));
+    if named == 0 { ip.len() } else { named }
+}
+
+/// What follows the IPv4 header, without padding.
+#[tactic(auto, unfolding(crate::specs::UdpDatagram::part_of))]
+fn part_of(ip: &[u8]) -> &[u8]
+    requires long { 20 ≤ length ip.now }
+    requires header { header_of ip.now ≤ total_of ip.now }
+    requires total { total_of ip.now ≤ length ip.now }
+    ensures is { result.now ≡ part_of ip.now }
+    ensures len { length result.now + header_of ip.now ≤ length ip.now }
+{
+    rest_at(front(ip, total_of(ip)), header_of(ip))
+}
+
+/// The UDP length counts header and text, and the part holds them.
+fn is_udp(part: &[u8]) -> bool
+    ensures is { result ≡ is_udp part.now }
+    ensures long { result ≡ true → 8 ≤ length part.now }
+{
+    if part.len() < 8 {
+        return false;
+    }
+    let len = usize::from(word_at(part, 4));
+    len >= 8 && len <= part.len() && len <= MOST_LENGTH
+}
