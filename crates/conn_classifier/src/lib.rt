@@ -16,7 +16,9 @@ mod sorting;
 mod tuples;
 mod view;
 
-pub use kinds::{Counts, Item};
+pub use ahead::hints;
+pub use items::items_in;
+pub use kinds::{Arrival, Counts, Item};
 pub use making::plan;
 pub use perimeter_core::Feed;
 pub use planned::Plan;
