@@ -4,8 +4,12 @@ pub mod Entering
 pub mod Moving
 pub mod Slots
 pub mod Linking
+pub mod Visits
+pub mod Leaving
 pub mod StaysSeen
 pub mod RingStays
+pub mod Noting
+pub mod WorkedNotes
 pub mod Reaching
 pub mod Running
 pub mod Starting
@@ -15,3 +19,8 @@ pub mod CallMarks
 pub mod OnceEach
 pub mod CallsCounted
 pub mod NewCallers
+pub mod Pacing
+pub mod PacedMarks
+pub mod PacedPasses
+pub mod PacedAll
+pub mod Worked

@@ -11,7 +11,7 @@ use Rattle.squeue_rings.proofs.Slots.{within}
 too_far : (n x d p c a b m u v : ℕ) → x * n + p ≡ c + a → (x + 1 + d) * n + p ≡ c + b → m + u ≡ a → m + v ≡ b → v < n → ⊥
 too_far n x d p c a b m u v at bt au bv small = omega (arith, at, bt, au, bv, small)
 
-as_far : (n x y p c a b m u v : ℕ) → x * n + p ≡ c + a → y * n + p ≡ c + b → m + u ≡ a → m + v ≡ b → u < n → v < n → a ≡ b
+pub as_far : (n x y p c a b m u v : ℕ) → x * n + p ≡ c + a → y * n + p ≡ c + b → m + u ≡ a → m + v ≡ b → u < n → v < n → a ≡ b
 as_far n x y p c a b m u v at bt au bv su sv =
     elim (cases_lt x y) [
       | inl lt ↦
@@ -67,7 +67,7 @@ last_of : {A : Type 0} (xs : List A) (m : A) → slice_get (xs ++ m ∷ []) (len
 last_of [] m = refl
 last_of (x ∷ xs) m = last_of xs m
 
-front_or_last : {A : Type 0} (xs : List A) (h : A) (i : ℕ) (m : A) → slice_get (xs ++ h ∷ []) i ≡ Some m → (slice_get xs i ≡ Some m) ⊎ ((i ≡ length xs) × (h ≡ m))
+pub front_or_last : {A : Type 0} (xs : List A) (h : A) (i : ℕ) (m : A) → slice_get (xs ++ h ∷ []) i ≡ Some m → (slice_get xs i ≡ Some m) ⊎ ((i ≡ length xs) × (h ≡ m))
 front_or_last [] h zero m at = inr (refl, cc at)
 front_or_last [] h (suc i) m at = cc at
 front_or_last (x ∷ xs) h zero m at = inl at

@@ -1,5 +1,5 @@
 -- The next feed of a ring is reached: its connection is moved where it isn't at home.
-use Rattle.std.proofs.Common.{◌≡◌, ◌≢◌, ℕ, zero, suc, ◌+◌, ◌%◌, ◌<◌, ◌≤◌, ◌==◌, ◌&&◌, not, inl, inr, Bool, true, false, if◌then◌else◌, Option, Some, None, List, [], ◌∷◌, ◌++◌, length, slice_get, refl, ap, sym, ◌∙◌, subst, arith}
+use Rattle.std.proofs.Common.{◌≡◌, ◌≢◌, ℕ, zero, suc, ◌+◌, ◌/◌, ◌%◌, ◌<◌, ◌≤◌, ◌==◌, ◌&&◌, not, inl, inr, Bool, true, false, if◌then◌else◌, Option, Some, None, List, [], ◌∷◌, ◌++◌, length, slice_get, refl, ap, sym, ◌∙◌, subst, arith}
 use Rattle.std.proofs.lemmas.Bool.{cases_eq}
 use Rattle.turn_gate.specs.History.{Each}
 use Rattle.turn_gate.specs.Passes.{number, seen}
@@ -8,22 +8,27 @@ use Rattle.perimeter_core.specs.declared.entries.Feed.{Feed as FeedOf}
 use Rattle.perimeter_core.specs.declared.marks.SynchAct.TheVariants as Done
 use Rattle.perimeter_core.specs.Perimeter.{Idle, is_here}
 use Rattle.perimeter_core.specs.History.{Element, Limits, ask_quota, run}
-use Rattle.perimeter_core.specs.Deeds.{acts}
+use Rattle.perimeter_core.specs.Deeds.{acts, due, fed, times_left}
 use Rattle.perimeter_core.specs.Legal.{asks_by}
 use Rattle.squeue_state.specs.Naming.{Named, setting_of}
 use Rattle.synch_enter.specs.Synch.{MayAsk}
 use Rattle.conn_migrate.specs.Moving.{MayCome, MayLeave}
 use Rattle.conn_migrate.specs.Stays.{IsLinked}
+use Rattle.conn_migrate.proofs.NextFeeds.{fed_is_due}
 use Rattle.squeue_serve.specs.Places.{Holds}
 use Rattle.squeue_rings.specs.Runs.{brought, comes, count, home_before, home_of, is_left_by, leaves, moves, place}
 use Rattle.squeue_rings.specs.Rings.{AreNumbered, MayBring, RingAt}
 use Rattle.squeue_rings.specs.Bringing.{AreAt, HasMoved, IsReady}
+use Rattle.squeue_rings.specs.Noted.{AreNoted}
 use Rattle.squeue_rings.specs.Seen.{seen_ends}
 use Rattle.squeue_rings.proofs.Counting.{count_more, differ, each_behind, number_is, same}
 use Rattle.squeue_rings.proofs.Standing.{other_home, place_before}
 use Rattle.squeue_rings.proofs.Moving.{has_come, has_left, not_moved, reached}
-use Rattle.squeue_rings.proofs.RingStays.{linked_others, linked_own}
+use Rattle.squeue_rings.proofs.Leaving.{gone_round}
+use Rattle.squeue_rings.proofs.Noting.{noted_kept, noted_own}
+use Rattle.squeue_rings.proofs.RingStays.{alike_others, at_place, linked_kept, linked_own}
 use Rattle.squeue_rings.proofs.Slots.{at_got, at_length, at_made, within}
+use Rattle.squeue_rings.proofs.StaysSeen.{AreAlike}
 
 pub each_at : {A : Type 0} (P : A → Type 0) (xs : List A) (k : ℕ) (x : A) → Each P xs → slice_get xs k ≡ Some x → P x
 each_at P [] k x e is = cc is
@@ -131,7 +136,7 @@ module _ {R : Type 0} (limits : R → Limits) (squeues spread r : ℕ) (list : L
     -- all passes of the ring know it
     pub moved_all : (new : List (Option (Pass Element))) → length ss ≡ squeues → AreNumbered ss → HasMoved limits squeues spread f ss old new
         → AreAt limits squeues spread r ss done (done ++ f ∷ []) new
-    moved_all new count numbered h =
+    moved_all new total numbered h =
         record {
           each =
               let P = λ (s : Named R) (o : Option (Pass Element)). Holds (RingAt limits squeues spread r done (done ++ f ∷ []) s) o in
@@ -140,12 +145,15 @@ module _ {R : Type 0} (limits : R → Limits) (squeues spread r : ℕ) (list : L
               elim (cases_eq f.c c) [
                 | inl e ↦
                     subst (λ (d : ℕ). IsLinked (seen_ends limits ss old) d → IsLinked (seen_ends limits ss new) d) e
-                    (linked_own limits squeues spread f ss old new h long count moved here away) (ready.at.linked c owned)
-                | inr other ↦
-                    let pa : number h.pa ≡ c % h.a.given.rings = was_a.is_number ∙ (each_at (IsOwn c) ss hb h.a owned h.from).0 in
-                    let pb : number h.pb ≡ c % h.b.given.rings = was_b.is_number ∙ (each_at (IsOwn c) ss ho h.b owned h.to).0 in
-                    linked_others limits squeues spread f ss old new h long c (h.left.others c (λ e. other (sym e)) pa)
-                    (h.come.others c (λ e. other (sym e)) pb) (ready.at.linked c owned)
+                    (linked_own limits squeues spread f ss old new h long total moved here away) (ready.at.linked c owned)
+                | inr other ↦ linked_kept limits ss c old new long (h.count ∙ long) (others c owned other) (ready.at.linked c owned)
+              ];
+          noted = λ c owned.
+              elim (cases_eq f.c c) [
+                | inl e ↦
+                    subst (λ (d : ℕ). AreNoted spread (seen_ends limits ss old) d → AreNoted spread (seen_ends limits ss new) d) e
+                    (noted_own limits squeues spread f ss old new h long total moved here away has_all gone_so_often) (ready.at.noted c owned)
+                | inr other ↦ noted_kept limits ss c spread old new long (h.count ∙ long) (others c owned other) (ready.at.noted c owned)
               ];
         }
       where
@@ -177,12 +185,32 @@ module _ {R : Type 0} (limits : R → Limits) (squeues spread r : ℕ) (list : L
             let o = own ho h.b h.to in
             was_b.here f.c o.0 o.1 ∙ differ (place squeues spread f.c done) h.b.given.number (λ e. apart (sym (place_before squeues spread done f f_number) ∙ (e ∙ numbered ho h.b h.to)))
 
+        others : (c : ℕ) → Each (IsOwn c) ss → f.c ≢ c → (k : ℕ) → AreAlike (at_place limits ss c old k) (at_place limits ss c new k)
+        others c owned other =
+            let pa : number h.pa ≡ c % h.a.given.rings = was_a.is_number ∙ (each_at (IsOwn c) ss hb h.a owned h.from).0 in
+            let pb : number h.pb ≡ c % h.b.given.rings = was_b.is_number ∙ (each_at (IsOwn c) ss ho h.b owned h.to).0 in
+            alike_others limits squeues spread f ss old new h long c (h.left.others c (λ e. other (sym e)) pa) (h.come.others c (λ e. other (sym e)) pb)
+
+        -- the block has had all feeds before this one, and left the squeue where it comes once for each round
+        was_due : due (seen h.pa) f.c ≡ brought f.c done
+        was_due = was_a.next f.c (own hb h.a h.from).0 (own hb h.a h.from).1 (place_before squeues spread done f f_number ∙ sym (numbered hb h.a h.from))
+
+        has_all : fed (acts (setting_of limits h.a.given) (seen h.qa) f.c) ≡ f.n
+        has_all = fed_is_due h.out ∙ (h.next ∙ (was_due ∙ sym f_number))
+
+        gone_so_often : times_left f.c (seen h.pb) ≡ f.n / spread / squeues
+        gone_so_often =
+            let lt = within ss ho h.b h.to in
+            was_b.left f.c (own ho h.b h.to).0
+            ∙ (ap (λ (q : ℕ). count (is_left_by squeues spread f.c q) done) (numbered ho h.b h.to)
+            ∙ gone_round squeues spread list done behind f (omega (arith, lt, total)) ready.all.order ready.is moved)
+
         at_a : RingAt limits squeues spread r done (done ++ f ∷ []) h.a h.qa
         at_a = has_left limits squeues spread r done f f_number moved h.a h.pa h.qa (Done.Out f.c) [] (numbered hb h.a h.from) (own hb h.a h.from).0 was_a h.out h.left
 
         at_b : RingAt limits squeues spread r done (done ++ f ∷ []) h.b h.qb
         at_b = has_come limits squeues spread r done f f_number moved h.b h.pb h.qb (Done.In f.c) (acts (setting_of limits h.a.given) (seen h.qa) f.c) (numbered ho h.b h.to) (own ho h.b h.to).0
-            (h.due ∙ (h.next ∙ was_a.next f.c (own hb h.a h.from).0 (own hb h.a h.from).1 (place_before squeues spread done f f_number ∙ sym (numbered hb h.a h.from))))
+            (h.due ∙ (h.next ∙ was_due))
             was_b h.put h.come
 
         each : (k : ℕ) (s : Named R) (o : Option (Pass Element)) → slice_get ss k ≡ Some s → slice_get new k ≡ Some o → Holds (RingAt limits squeues spread r done (done ++ f ∷ []) s) o
@@ -214,6 +242,7 @@ module _ {R : Type 0} (limits : R → Limits) (squeues spread r : ℕ) (list : L
             let x = held (RingAt limits squeues spread r done done s) o (at_got (λ s o. Holds (RingAt limits squeues spread r done done s) o) ss old k s o ready.at.each is it) in
             hold (RingAt limits squeues spread r done (done ++ f ∷ []) s) x.0 o x.1 (reached limits squeues spread r done f f_number still s x.0 x.2));
         linked = ready.at.linked;
+        noted = ready.at.noted;
       }
 
   -- the pass of a squeue

@@ -1,8 +1,6 @@
 -- The stays of a ring's connections stay linked, by what its passes have seen.
-use Rattle.std.proofs.Common.{◌≡◌, ◌≢◌, ℕ, zero, suc, ◌+◌, ◌-◌, ◌*◌, ◌/◌, ◌%◌, ◌<◌, ◌==◌, inl, inr, Bool, true, false, if◌then◌else◌, Option, Some, None, List, [], ◌∷◌, ◌++◌, length, map, slice_get, refl, ap, sym, ◌∙◌, subst, append_assoc, arith}
-use Rattle.std.proofs.lemmas.Bool.{cases_eq, cases_lt}
-use Rattle.std.proofs.lemmas.Nat.{div-add-mod'}
-use Rattle.std.proofs.Math.Nat.{mod-lt, mod-add-mod}
+use Rattle.std.proofs.Common.{◌≡◌, ◌≢◌, ℕ, zero, suc, ◌+◌, ◌/◌, ◌%◌, ◌<◌, ◌==◌, inl, inr, Bool, true, false, if◌then◌else◌, Option, Some, None, List, [], ◌∷◌, ◌++◌, length, map, slice_get, refl, ap, sym, ◌∙◌, subst, append_assoc, arith}
+use Rattle.std.proofs.lemmas.Bool.{cases_eq}
 use Rattle.turn_gate.specs.Passes.{number, seen}
 use Rattle.turn_gate.specs.declared.pass.Pass.{Pass}
 use Rattle.perimeter_core.specs.declared.entries.Act.{Act}
@@ -19,11 +17,11 @@ use Rattle.squeue_state.specs.Elements.{gone}
 use Rattle.squeue_drain.specs.Draining.{GoesOn}
 use Rattle.conn_migrate.specs.Moving.{IsKept, Moved}
 use Rattle.conn_migrate.specs.Stays.{IsLinked, Stay, Stays, all_in, begun, stays, stays_at, stays_in}
-use Rattle.conn_blocks.specs.Homes.{home}
 use Rattle.squeue_rings.specs.Runs.{home_before, home_of, moves}
 use Rattle.squeue_rings.specs.Bringing.{HasMoved}
 use Rattle.squeue_rings.specs.Seen.{seen_ends, seen_in}
-use Rattle.squeue_rings.proofs.Counting.{are_apart, are_same}
+use Rattle.squeue_rings.proofs.Counting.{are_same}
+use Rattle.squeue_rings.proofs.Leaving.{next_home}
 use Rattle.squeue_rings.proofs.Linking.{Joins, joins_first, joins_kept, joins_more}
 use Rattle.squeue_rings.proofs.Slots.{got_map, within}
 use Rattle.squeue_rings.proofs.Standing.{other_home}
@@ -36,7 +34,7 @@ from_map f (x ∷ xs) (suc k) y is = from_map f xs k y is
 
 -- the stays are linked where each note is what the stay before it had
 module _ (hs : List Ending) (c : ℕ) where
-  abbrev notes_at : ℕ → List (List Act)
+  abbrev pub notes_at : ℕ → List (List Act)
   notes_at k = notes (stays_in (slice_get hs k) c)
 
   abbrev hads_at : ℕ → List (List Act)
@@ -79,13 +77,13 @@ module _ {R : Type 0} (limits : R → Limits) where
 
   module _ (ss : List (Named R)) (c : ℕ) where
     -- the stays of the connection at squeue k
-    abbrev at_place : List (Option (Pass Element)) → ℕ → Stays
+    abbrev pub at_place : List (Option (Pass Element)) → ℕ → Stays
     at_place os k = stays_in (slice_get (seen_ends limits ss os) k) c
 
-    abbrev N : List (Option (Pass Element)) → ℕ → List (List Act)
+    abbrev pub N : List (Option (Pass Element)) → ℕ → List (List Act)
     N os k = notes (at_place os k)
 
-    abbrev D : List (Option (Pass Element)) → ℕ → List (List Act)
+    abbrev pub D : List (Option (Pass Element)) → ℕ → List (List Act)
     D os k = hads (at_place os k)
 
     -- the stays by what a pass has seen
@@ -131,16 +129,15 @@ module _ {R : Type 0} (limits : R → Limits) where
     alike_kept s x y on here left = stays_kept (setting_of limits s.given) (seen x) on.grows.0 (seen y) c on.grows.1 on.legal left here
 
     -- a pass entered its feeds
-    pub linked_entered : (old new : List (Option (Pass Element))) (q : ℕ) (s : Named R) (x y : Pass Element) → length old ≡ length ss → length new ≡ length ss
+    pub alike_entered : (old new : List (Option (Pass Element))) (q : ℕ) (s : Named R) (x y : Pass Element)
         → slice_get ss q ≡ Some s → slice_get old q ≡ Some (Some x) → slice_get new q ≡ Some (Some y)
         → ((k : ℕ) → k ≢ q → slice_get new k ≡ slice_get old k) → AreAlike (by_pass s x) (by_pass s y)
-        → IsLinked (seen_ends limits ss old) c → IsLinked (seen_ends limits ss new) c
-    linked_entered old new q s x y lo ln is was now others alike =
-        linked_kept old new lo ln
-        (λ k. elim (cases_eq k q) [
+        → (k : ℕ) → AreAlike (at_place old k) (at_place new k)
+    alike_entered old new q s x y is was now others alike k =
+        elim (cases_eq k q) [
           | inl e ↦ alike_at old new k s x y (ap (slice_get ss) e ∙ is) (ap (slice_get old) e ∙ was) (ap (slice_get new) e ∙ now) alike
           | inr other ↦ alike_same old new k (others k other)
-        ])
+        ]
 
 -- the pass of a move ends with the mark of its act
 grown : {R : Type 0} (limits : R → Limits) (s : Named R) (act : SynchAct) (note : List Act) (x y : Pass Element) → Moved limits s act note x y
@@ -151,60 +148,25 @@ grown limits s act note x y m =
     let found = b.1 ∙ (ap (λ (l : List Element). l ++ b.0) a.1 ∙ append_assoc (seen x) a.0 b.0) in
     (a.0 ++ b.0, m.left.now_seen ∙ ap (λ (l : List Element). l ++ gone (number x) 0 act note ∷ []) found)
 
-legal_before : {R : Type 0} (limits : R → Limits) (s : Named R) (x y : Pass Element) → GoesOn limits s x y → Legal (setting_of limits s.given) (seen x)
+pub legal_before : {R : Type 0} (limits : R → Limits) (s : Named R) (x y : Pass Element) → GoesOn limits s x y → Legal (setting_of limits s.given) (seen x)
 legal_before limits s x y on = legal_front (setting_of limits s.given) (seen x) on.grows.0 (subst (Legal (setting_of limits s.given)) on.grows.1 on.legal)
-
--- a move goes to the next squeue
-up_one : (d n x y u v : ℕ) → x * d + u ≡ n + 1 → y * d + v ≡ n → u < d → v < d → x ≢ y → x ≡ y + 1
-up_one d n x y u v a b su sv apart =
-    elim (cases_lt x (y + 1)) [
-      | inl lt ↦ let e : y ≡ x + 1 + (y - (x + 1)) = omega (arith, lt, apart) in absurd (below (y - (x + 1)) (subst (λ (z : ℕ). z * d + v ≡ n) e b))
-      | inr le ↦ elim (cases_lt (y + 1) x) [
-        | inl lt ↦ let e : x ≡ y + 2 + (x - (y + 2)) = omega (arith, lt) in absurd (above (x - (y + 2)) (subst (λ (z : ℕ). z * d + u ≡ n + 1) e a))
-        | inr ge ↦ omega (arith, le, ge)
-      ]
-    ]
-  where
-    below : (e : ℕ) → (x + 1 + e) * d + v ≡ n → ⊥
-    below e b = omega (arith, a, b, su)
-
-    above : (e : ℕ) → (y + 2 + e) * d + u ≡ n + 1 → ⊥
-    above e a = omega (arith, a, b, su, sv)
-
-next_home : (squeues spread c n : ℕ) → home squeues spread c (n - 1) ≢ home squeues spread c n
-    → home squeues spread c n ≡ (home squeues spread c (n - 1) + 1) % squeues
-next_home squeues spread c zero apart = absurd (apart refl)
-next_home squeues spread c (suc n) apart = by (spread == 0) refl
-  where
-    by : (b : Bool) → (spread == 0) ≡ b → home squeues spread c (suc n) ≡ (home squeues spread c (suc n - 1) + 1) % squeues
-    by true e = absurd (apart (rw e refl))
-    by false e =
-        let some : spread ≢ 0 = are_apart spread 0 e in
-        let back : suc n - 1 ≡ n = omega arith in
-        let a : suc n / spread * spread + suc n % spread ≡ n + 1 = (let d = div-add-mod' (suc n) spread in omega (arith, d)) in
-        let differ : suc n / spread ≢ n / spread = λ same. apart (rw (e, back, same) refl) in
-        let below : (m : ℕ) → m % spread < spread = λ m. mod-lt m (omega (arith, some)) in
-        let up = up_one spread n (suc n / spread) (n / spread) (suc n % spread) (n % spread) a (div-add-mod' n spread) (below (suc n)) (below n) differ in
-        let sum : c + (n / spread + 1) ≡ c + n / spread + 1 = omega arith in
-        rw (e, back, up) (ap (λ (k : ℕ). k % squeues) sum ∙ sym (mod-add-mod (c + n / spread) squeues 1))
 
 module _ {R : Type 0} (limits : R → Limits) (squeues spread : ℕ) (f : FeedOf) (ss : List (Named R)) (old new : List (Option (Pass Element)))
     (h : HasMoved limits squeues spread f ss old new) (long : length old ≡ length ss) where
   abbrev hb : ℕ
   hb = home_before squeues spread f
 
-  abbrev ho : ℕ
+  abbrev pub ho : ℕ
   ho = home_of squeues spread f
 
-  long_new : length new ≡ length ss
+  pub long_new : length new ≡ length ss
   long_new = h.count ∙ long
 
   -- the move leaves the ring's other connections where they are
-  pub linked_others : (d : ℕ) → IsKept (setting_of limits h.a.given) d (seen h.pa) (seen h.qa) → IsKept (setting_of limits h.b.given) d (seen h.pb) (seen h.qb)
-      → IsLinked (seen_ends limits ss old) d → IsLinked (seen_ends limits ss new) d
-  linked_others d ka kb =
-      linked_kept limits ss d old new long long_new
-      (λ k. elim (cases_eq k hb) [
+  pub alike_others : (d : ℕ) → IsKept (setting_of limits h.a.given) d (seen h.pa) (seen h.qa) → IsKept (setting_of limits h.b.given) d (seen h.pb) (seen h.qb)
+      → (k : ℕ) → AreAlike (at_place limits ss d old k) (at_place limits ss d new k)
+  alike_others d ka kb k =
+      elim (cases_eq k hb) [
         | inl e ↦
             alike_at limits ss d old new k h.a h.pa h.qa (ap (slice_get ss) e ∙ h.from) (ap (slice_get old) e ∙ h.was_from) (ap (slice_get new) e ∙ h.now_from)
             (alike_kept limits ss d h.a h.pa h.qa h.out.goes_on ka.here ka.left)
@@ -214,7 +176,7 @@ module _ {R : Type 0} (limits : R → Limits) (squeues spread : ℕ) (f : FeedOf
               (alike_kept limits ss d h.b h.pb h.qb h.put.goes_on kb.here kb.left)
           | inr v ↦ alike_same limits ss d old new k (h.others k u v)
         ]
-      ])
+      ]
 
   -- the connection itself ends a stay at the one squeue and begins one at the next one, with what it had
   module _ (count : length ss ≡ squeues) (moved : moves squeues spread f ≡ true)
@@ -223,7 +185,7 @@ module _ {R : Type 0} (limits : R → Limits) (squeues spread : ℕ) (f : FeedOf
     apart : hb ≢ ho
     apart = other_home squeues spread f moved
 
-    abbrev had : List Act
+    abbrev pub had : List Act
     had = acts (setting_of limits h.a.given) (seen h.qa) f.c
 
     out : HasEnded (by_pass limits ss f.c h.a h.pa) (by_pass limits ss f.c h.a h.qa) had
@@ -243,11 +205,21 @@ module _ {R : Type 0} (limits : R → Limits) (squeues spread : ℕ) (f : FeedOf
     now_a : at_place limits ss f.c new hb ≡ by_pass limits ss f.c h.a h.qa
     now_a = its_stays limits ss f.c new hb h.a h.qa h.from h.now_from
 
-    was_b : at_place limits ss f.c old ho ≡ by_pass limits ss f.c h.b h.pb
+    pub was_b : at_place limits ss f.c old ho ≡ by_pass limits ss f.c h.b h.pb
     was_b = its_stays limits ss f.c old ho h.b h.pb h.to h.was_to
 
     now_b : at_place limits ss f.c new ho ≡ by_pass limits ss f.c h.b h.qb
     now_b = its_stays limits ss f.c new ho h.b h.qb h.to h.now_to
+
+    pub notes_kept : (k : ℕ) → k ≢ ho → N limits ss f.c new k ≡ N limits ss f.c old k
+    notes_kept k v =
+        elim (cases_eq k hb) [
+          | inl e ↦ subst (λ (j : ℕ). N limits ss f.c new j ≡ N limits ss f.c old j) (sym e) (ap notes now_a ∙ (out.0 ∙ sym (ap notes was_a)))
+          | inr u ↦ ap notes (same_stays limits ss f.c old new k (h.others k u v))
+        ]
+
+    pub note_more : N limits ss f.c new ho ≡ N limits ss f.c old ho ++ had ∷ []
+    note_more = ap notes now_b ∙ (put.0 ∙ ap (λ (l : List (List Act)). l ++ had ∷ []) (sym (ap notes was_b)))
 
     pub linked_own : IsLinked (seen_ends limits ss old) f.c → IsLinked (seen_ends limits ss new) f.c
     linked_own linked =
@@ -264,37 +236,36 @@ module _ {R : Type 0} (limits : R → Limits) (squeues spread : ℕ) (f : FeedOf
           | inr v ↦ ap hads (same_stays limits ss f.c old new k (h.others k u v))
         ])
         (ap hads now_a ∙ (out.1 ∙ ap (λ (l : List (List Act)). l ++ had ∷ []) (sym (ap hads was_a))))
-        (λ k v. elim (cases_eq k hb) [
-          | inl e ↦ subst (λ (j : ℕ). N limits ss f.c new j ≡ N limits ss f.c old j) (sym e) (ap notes now_a ∙ (out.0 ∙ sym (ap notes was_a)))
-          | inr u ↦ ap notes (same_stays limits ss f.c old new k (h.others k u v))
-        ])
-        (ap notes now_b ∙ (put.0 ∙ ap (λ (l : List (List Act)). l ++ had ∷ []) (sym (ap notes was_b)))))
+        notes_kept note_more)
 
 abbrev first : Bool → Stays
 first b = record { ended = []; now = if b then Some (begun []) else None }
 
--- before anything happened each connection of the ring has one stay at most, at its first home
-pub linked_first : {R : Type 0} (limits : R → Limits) (ss : List (Named R)) (os : List (Option (Pass Element))) (c : ℕ) → 0 < length ss → length os ≡ length ss
-    → ((k : ℕ) (s : Named R) → slice_get ss k ≡ Some s
-    → (x : Pass Element) × (slice_get os k ≡ Some (Some x)) × (seen x ≡ []) × (is_here (start (setting_of limits s.given)) c ≡ (c % length ss == k)))
-    → IsLinked (seen_ends limits ss os) c
-linked_first {R} limits ss os c some long new =
-    linked_by limits ss c os long (joins_first (length ss) c some (N limits ss c os) (D limits ss c os) (λ k i m at. only k i m (slice_get ss k) refl at))
-  where
-    one : (b : Bool) (i : ℕ) (m : List Act) → slice_get (notes (first b)) i ≡ Some m → (b ≡ true) × (i ≡ 0)
-    one true zero m at = (refl, refl)
-    one true (suc i) m at = cc at
-    one false i m at = cc at
+-- before anything happened each connection of the ring has one stay at most, at its first home, without a note
+module _ {R : Type 0} (limits : R → Limits) (ss : List (Named R)) (os : List (Option (Pass Element))) (c : ℕ) (new : (k : ℕ) (s : Named R) → slice_get ss k ≡ Some s
+    → (x : Pass Element) × (slice_get os k ≡ Some (Some x)) × (seen x ≡ []) × (is_here (start (setting_of limits s.given)) c ≡ (c % length ss == k))) where
+  one : (b : Bool) (i : ℕ) (m : List Act) → slice_get (notes (first b)) i ≡ Some m → (b ≡ true) × (i ≡ 0) × (m ≡ [])
+  one true zero m at = (refl, refl, cc at)
+  one true (suc i) m at = cc at
+  one false i m at = cc at
 
-    only : (k i : ℕ) (m : List Act) (o : Option (Named R)) → slice_get ss k ≡ o → slice_get (N limits ss c os k) i ≡ Some m → (k ≡ c % length ss) × (i ≡ 0)
-    only k i m None is at =
-        let e : at_place limits ss c os k ≡ first false =
-        ap (λ (o : Option Ending). stays_in o c) (told limits ss os k ∙ ap (λ (t : Option (Named R)). ending_of limits t (slice_get os k)) is) in
-        let n : slice_get (notes (first false)) i ≡ Some m = ap (λ (v : Stays). slice_get (notes v) i) (sym e) ∙ at in
-        cc n
-    only k i m (Some s) is at =
-        let x = new k s is in
-        let e : at_place limits ss c os k ≡ first (c % length ss == k) =
-        its_stays limits ss c os k s x.0 is x.1 ∙ (ap (λ (H : List Element). stays (setting_of limits s.given) H c) x.2 ∙ ap first x.3) in
-        let o = one (c % length ss == k) i m (ap (λ (v : Stays). slice_get (notes v) i) (sym e) ∙ at) in
-        (sym (are_same (c % length ss) k o.0), o.1)
+  only : (k i : ℕ) (m : List Act) (o : Option (Named R)) → slice_get ss k ≡ o → slice_get (N limits ss c os k) i ≡ Some m → (k ≡ c % length ss) × (i ≡ 0) × (m ≡ [])
+  only k i m None is at =
+      let e : at_place limits ss c os k ≡ first false =
+      ap (λ (o : Option Ending). stays_in o c) (told limits ss os k ∙ ap (λ (t : Option (Named R)). ending_of limits t (slice_get os k)) is) in
+      let n : slice_get (notes (first false)) i ≡ Some m = ap (λ (v : Stays). slice_get (notes v) i) (sym e) ∙ at in
+      cc n
+  only k i m (Some s) is at =
+      let x = new k s is in
+      let e : at_place limits ss c os k ≡ first (c % length ss == k) =
+      its_stays limits ss c os k s x.0 is x.1 ∙ (ap (λ (H : List Element). stays (setting_of limits s.given) H c) x.2 ∙ ap first x.3) in
+      let o = one (c % length ss == k) i m (ap (λ (v : Stays). slice_get (notes v) i) (sym e) ∙ at) in
+      (sym (are_same (c % length ss) k o.0), o.1, o.2)
+
+  pub first_stays : (k i : ℕ) (m : List Act) → slice_get (N limits ss c os k) i ≡ Some m → (k ≡ c % length ss) × (i ≡ 0) × (m ≡ [])
+  first_stays k i m at = only k i m (slice_get ss k) refl at
+
+  pub linked_first : 0 < length ss → length os ≡ length ss → IsLinked (seen_ends limits ss os) c
+  linked_first some long =
+      linked_by limits ss c os long
+      (joins_first (length ss) c some (N limits ss c os) (D limits ss c os) (λ k i m at. let o = first_stays k i m at in (o.0, o.1)))

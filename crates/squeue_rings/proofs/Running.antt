@@ -19,7 +19,9 @@ use Rattle.squeue_rings.specs.Bringing.{AreAt, HasBrought, IsFar, IsReady}
 use Rattle.squeue_rings.proofs.Counting.{are_same}
 use Rattle.squeue_rings.proofs.Entering.{Stay, may_enter_run, run_elsewhere, run_entered}
 use Rattle.squeue_rings.proofs.Reaching.{each_at, held, hold}
-use Rattle.squeue_rings.proofs.RingStays.{alike_kept, linked_entered}
+use Rattle.squeue_rings.proofs.Noting.{noted_kept}
+use Rattle.squeue_rings.proofs.RingStays.{alike_entered, alike_kept, at_place, linked_kept}
+use Rattle.squeue_rings.proofs.StaysSeen.{AreAlike}
 use Rattle.squeue_rings.proofs.Slots.{all_taken, at_got, at_length, at_made, take_next, three_parts}
 
 pub cut : {A : Type 0} (n : ℕ) (xs : List A) → xs ≡ take n xs ++ drop n xs
@@ -91,12 +93,8 @@ module _ {R : Type 0} (limits : R → Limits) (squeues spread r : ℕ) (list : L
         subst (λ (es : List FeedOf). AreAt limits squeues spread r ss (done ++ es) (done ++ es) new) (sym e)
         (record {
           each = at_made (λ s o. Holds (RingAt limits squeues spread r (done ++ f ∷ fs) (done ++ f ∷ fs) s) o) ss new (counted ∙ long) each;
-          linked = λ c owned.
-              let ring : number x.0 ≡ c % s.given.rings = x.2.is_number ∙ (each_at (λ s. (r ≡ c % s.given.rings) × (c < length s.given.starts)) ss q s owned here).0 in
-              let b = y.2 in
-              let on = subst (GoesOn limits s x.0) (sym b.its_pass) b.entered.goes_on in
-              linked_entered limits ss c mid new q s x.0 y.0 long (counted ∙ long) here (it ∙ ap Some x.1) (now ∙ ap Some y.1) others
-              (alike_kept limits ss c s x.0 y.0 on (b.brought.here c ring) (b.brought.left c ring)) (at.linked c owned);
+          linked = λ c owned. linked_kept limits ss c mid new long (counted ∙ long) (alike c owned) (at.linked c owned);
+          noted = λ c owned. noted_kept limits ss c spread mid new long (counted ∙ long) (alike c owned) (at.noted c owned);
         })
       where
         P : Named R → Pass Element → Type 0
@@ -110,6 +108,14 @@ module _ {R : Type 0} (limits : R → Limits) (squeues spread r : ℕ) (list : L
 
         y : (y : Pass Element) × (n ≡ Some y) × HasBrought limits s mode budget es x.0 y
         y = became (λ x y. HasBrought limits s mode budget es x y) x.0 o n x.1 ran
+
+        alike : (c : ℕ) → Each (λ s. (r ≡ c % s.given.rings) × (c < length s.given.starts)) ss → (k : ℕ) → AreAlike (at_place limits ss c mid k) (at_place limits ss c new k)
+        alike c owned =
+            let ring : number x.0 ≡ c % s.given.rings = x.2.is_number ∙ (each_at (λ s. (r ≡ c % s.given.rings) × (c < length s.given.starts)) ss q s owned here).0 in
+            let b = y.2 in
+            let on = subst (GoesOn limits s x.0) (sym b.its_pass) b.entered.goes_on in
+            alike_entered limits ss c mid new q s x.0 y.0 here (it ∙ ap Some x.1) (now ∙ ap Some y.1) others
+            (alike_kept limits ss c s x.0 y.0 on (b.brought.here c ring) (b.brought.left c ring))
 
         at_home : P s y.0
         at_home =

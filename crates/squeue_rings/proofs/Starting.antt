@@ -1,6 +1,8 @@
 -- What the new passes of a ring know.
 use Rattle.std.proofs.Common.{◌≡◌, ℕ, zero, suc, ◌+◌, ◌/◌, ◌%◌, ◌<◌, ◌≤◌, ◌==◌, Bool, true, false, if◌then◌else◌, Option, Some, List, [], length, replicate, slice_get, slice_index_or, refl, ap, sym, ◌∙◌, subst, add-zero, arith}
 use Rattle.std.proofs.Math.Nat.{zero-div}
+use Rattle.turn_gate.specs.History.{Each}
+use Rattle.turn_gate.specs.Passes.{seen}
 use Rattle.turn_gate.specs.declared.pass.Pass.{Pass}
 use Rattle.perimeter_core.specs.Perimeter.{Idle, is_here}
 use Rattle.perimeter_core.specs.History.{Element, Limits, Setting, passes, run, start}
@@ -14,6 +16,7 @@ use Rattle.squeue_rings.specs.Rings.{AreNumbered, RingAt}
 use Rattle.squeue_rings.specs.Starts.{StartAtHome}
 use Rattle.squeue_rings.specs.Bringing.{AreAt}
 use Rattle.squeue_rings.proofs.Reaching.{each_at, held, hold}
+use Rattle.squeue_rings.proofs.Noting.{noted_first}
 use Rattle.squeue_rings.proofs.RingStays.{linked_first}
 use Rattle.squeue_rings.proofs.Slots.{at_got, at_length, at_made, within}
 
@@ -76,12 +79,15 @@ module _ {R : Type 0} (limits : R → Limits) (squeues spread r : ℕ) (ss : Lis
             (λ k s o is it.
             let x = held (IsNew r s) o (at_got (λ s o. Holds (IsNew r s) o) ss places k s o new is it) in
             hold (RingAt limits squeues spread r [] [] s) x.0 o x.1 (ring_first k s x.0 is x.2));
-        linked = λ c owned.
-            linked_first limits ss places c (omega (arith, some, count)) long
-            (λ k s is.
-            let x = its_pass k s is in
-            let lt = (each_at (λ s. (r ≡ c % s.given.rings) × (c < length s.given.starts)) ss k s owned is).1 in
-            let here : is_here (start (setting_of limits s.given)) c ≡ (c % length ss == k) =
-            starts_at k c s is lt ∙ (ap (λ (n : ℕ). c % squeues == n) (numbered k s is) ∙ ap (λ (n : ℕ). c % n == k) (sym count)) in
-            (x.0, x.1, x.2.none_seen, here));
+        linked = λ c owned. linked_first limits ss places c (first c owned) (omega (arith, some, count)) long;
+        noted = λ c owned. noted_first limits ss c spread places (omega (arith, some, count)) long (first c owned);
       }
+    where
+      first : (c : ℕ) → Each (λ s. (r ≡ c % s.given.rings) × (c < length s.given.starts)) ss → (k : ℕ) (s : Named R) → slice_get ss k ≡ Some s
+          → (x : Pass Element) × (slice_get places k ≡ Some (Some x)) × (seen x ≡ []) × (is_here (start (setting_of limits s.given)) c ≡ (c % length ss == k))
+      first c owned k s is =
+          let x = its_pass k s is in
+          let lt = (each_at (λ s. (r ≡ c % s.given.rings) × (c < length s.given.starts)) ss k s owned is).1 in
+          let here : is_here (start (setting_of limits s.given)) c ≡ (c % length ss == k) =
+          starts_at k c s is lt ∙ (ap (λ (n : ℕ). c % squeues == n) (numbered k s is) ∙ ap (λ (n : ℕ). c % n == k) (sym count)) in
+          (x.0, x.1, x.2.none_seen, here)

@@ -5,14 +5,16 @@ use Rattle.std.proofs.lemmas.List.{append-nil, length-map, map-append}
 use Rattle.std.proofs.lemmas.Bool.Decides.{nat_tests}
 use Rattle.perimeter_core.specs.declared.entries.Act.{Act}
 use Rattle.perimeter_core.specs.declared.marks.SynchAct.TheVariants as Done
+use Rattle.perimeter_core.specs.declared.marks.Mark.{Mark}
+use Rattle.perimeter_core.specs.declared.marks.Mark.TheVariants as On
 use Rattle.perimeter_core.specs.Perimeter.{State, is_here}
 use Rattle.perimeter_core.specs.History.{Element, Setting, start, run}
 use Rattle.perimeter_core.specs.Deeds.{acts, acts_after, puts_in, reported, takes_out, times_left}
-use Rattle.perimeter_core.specs.Legal.{Legal, May}
+use Rattle.perimeter_core.specs.Legal.{ActsFit, Legal, May}
 use Rattle.perimeter_core.proofs.BlocksFollow.{flags}
 use Rattle.perimeter_core.proofs.Elsewhere.{taken_between}
 use Rattle.perimeter_core.proofs.FeedOrder.{puts_away}
-use Rattle.perimeter_core.proofs.OneMore.{legal_front, legal_next, run_push}
+use Rattle.perimeter_core.proofs.OneMore.{legal_front, legal_ind, legal_next, run_push}
 use Rattle.perimeter_core.proofs.RingKnows.{here_step}
 use Rattle.squeue_state.specs.Elements.{gone}
 use Rattle.synch_enter.proofs.Knowing.{left_append}
@@ -61,6 +63,19 @@ no_more v (Some u) is none = cc none
 pub goes_on_here : (S : Setting) (H : List Element) (c : ℕ) → Legal S H → is_here (run S H) c ≡ true → length (notes (stays S H c)) ≡ length (hads (stays S H c)) + 1
 goes_on_here S H c l here = one_more (stays S H c) (stays S H c).now refl (sym here ∙ (fits S c H l).is_now)
 
+-- where the block isn't, all stays have ended
+all_ended : (v : Stays) (o : Option Stay) → v.now ≡ o → false ≡ is_some o → length (notes v) ≡ length (hads v)
+all_ended v None is none =
+    let a = length-map v.ended (λ (u : Stay). u.had) in
+    let b = length-map (v.ended ++ as_list v.now) (λ (u : Stay). u.note) in
+    let c = length-append v.ended (as_list v.now) in
+    let d : length (as_list v.now) ≡ 0 = ap (λ (o : Option Stay). length (as_list o)) is in
+    omega (arith, a, b, c, d)
+all_ended v (Some u) is none = cc none
+
+pub all_over_away : (S : Setting) (H : List Element) (c : ℕ) → Legal S H → is_here (run S H) c ≡ false → length (notes (stays S H c)) ≡ length (hads (stays S H c))
+all_over_away S H c l away = all_ended (stays S H c) (stays S H c).now refl (sym away ∙ (fits S c H l).is_now)
+
 -- a mark that puts nothing in leaves the notes, and one that takes nothing out leaves what the stays that ended had
 same_note : (past : List Stay) (more had : List Act) (o : Option Stay)
     → map (λ (u : Stay). u.note) (past ++ as_list (longer_by more had o)) ≡ map (λ (u : Stay). u.note) (past ++ as_list o)
@@ -100,6 +115,57 @@ same_hads : (S : Setting) (H : List Element) (e : Element) (c : ℕ) → puts_in
 same_hads S H e c puts takes =
     ap hads (stays_push c (start S) [] (at_first S c) H e)
     ∙ hads_after (puts_in c e.mark) (takes_out c e.mark) (reported c (run S H) e.mark) (acts_after c (run S H) (acts S H c) e) e.note (stays S H c) puts takes
+
+-- who takes a block out finds it here
+takes_here : (S : Setting) (H : List Element) (s : State) (m : Mark) (c : ℕ) → ActsFit S H s m → takes_out c m ≡ true → (is_here s c ≡ true) × (puts_in c m ≡ false)
+takes_here S H s (On.Leave p rest (Done.Out d)) c f e = let same : d ≡ c = grind (arith, nat_tests, e) in (subst (λ (k : ℕ). is_here s k ≡ true) same f.1, refl)
+takes_here S H s (On.Leave p rest (Done.In d)) c f e = absurd cc
+takes_here S H s (On.Leave p rest (Done.Call d j k)) c f e = absurd cc
+takes_here S H s (On.Leave p rest Done.Away) c f e = absurd cc
+takes_here S H s (On.Leave p rest Done.None) c f e = absurd cc
+takes_here S H s (On.Fill p es) c f e = absurd cc
+takes_here S H s (On.Fast p x) c f e = absurd cc
+takes_here S H s (On.Claim p es) c f e = absurd cc
+takes_here S H s (On.Take p) c f e = absurd cc
+takes_here S H s (On.Ask p) c f e = absurd cc
+takes_here S H s (On.Grant p j rest) c f e = absurd cc
+takes_here S H s (On.Accept j) c f e = absurd cc
+takes_here S H s (On.Work p) c f e = absurd cc
+takes_here S H s (On.Close p) c f e = absurd cc
+
+one_longer : (past : List Stay) (more had : List Act) (o : Option Stay) → true ≡ is_some o
+    → length (map (λ (u : Stay). u.had) (past ++ as_list (longer_by more had o))) ≡ length (map (λ (u : Stay). u.had) past) + 1
+one_longer past more had None some = cc some
+one_longer past more had (Some u) some =
+    let w : Stay = record { note = u.note; own = u.own ++ more; had = had } in
+    let a = length-map (past ++ w ∷ []) (λ (u : Stay). u.had) in
+    let b = length-map past (λ (u : Stay). u.had) in
+    let c = length-append past (w ∷ []) in
+    omega (arith, a, b, c)
+
+ended_after : (a b here : Bool) (more had note : List Act) (v : Stays) (n : ℕ) → here ≡ is_some v.now → (a ≡ true → here ≡ false)
+    → (b ≡ true → (here ≡ true) × (a ≡ false)) → length (hads v) ≡ n
+    → length (hads (if a then record { ended = all_in v; now = Some (begun note) }
+    else if b then record { ended = v.ended ++ as_list (longer_by more had v.now); now = None }
+    else record { ended = v.ended; now = longer_by more had v.now })) ≡ n + (if b then 1 else 0)
+ended_after true true here more had note v n is puts takes count = let no = (takes refl).1 in cc no
+ended_after true false here more had note v n is puts takes count =
+    let same = ap length (no_more v v.now refl (sym (puts refl) ∙ is)) in let r : length (hads (record { ended = all_in v; now = None })) ≡ n + 0 = omega (arith, same, count) in r
+ended_after false true here more had note v n is puts takes count =
+    let one = one_longer v.ended more had v.now (sym (takes refl).0 ∙ is) in omega (arith, one, count)
+ended_after false false here more had note v n is puts takes count = omega (arith, count)
+
+-- as many stays have ended as the block was taken out
+pub ended_count : (S : Setting) (H : List Element) (c : ℕ) → Legal S H → length (hads (stays S H c)) ≡ times_left c H
+ended_count S H c l =
+    legal_ind S (λ (G : List Element). length (hads (stays S G c)) ≡ times_left c G) refl
+    (λ G e k i m.
+    let more = ended_after (puts_in c e.mark) (takes_out c e.mark) (is_here (run S G) c) (reported c (run S G) e.mark) (acts_after c (run S G) (acts S G c) e) e.note
+    (stays S G c) (times_left c G) (fits S c G k).is_now (λ puts. (puts_away S G (run S G) e.mark c m.act puts).0) (takes_here S G (run S G) e.mark c m.act) i in
+    let step = ap (λ (v : Stays). length (hads v)) (stays_push c (start S) [] (at_first S c) G e) in
+    let left : times_left c (G ++ e ∷ []) ≡ times_left c G + ((if takes_out c e.mark then 1 else 0) + 0) = left_append c G (e ∷ []) in
+    step ∙ (more ∙ (let z : times_left c G + (if takes_out c e.mark then 1 else 0) ≡ times_left c G + ((if takes_out c e.mark then 1 else 0) + 0) = omega arith in z) ∙ sym left))
+    H l
 
 -- Where no Out of c was made, and c is in the end where it was, it neither came nor left
 kept_since : (S : Setting) (H K : List Element) (c : ℕ) → Legal S (H ++ K) → times_left c K ≡ 0

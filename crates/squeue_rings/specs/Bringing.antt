@@ -15,6 +15,7 @@ use Rattle.conn_migrate.specs.Moving.{Moved, RingLearns}
 use Rattle.conn_migrate.specs.Stays.{IsLinked}
 use Rattle.squeue_serve.specs.Places.{AtEach, Holds}
 use Rattle.squeue_rings.specs.Runs.{InOrder, home_before, home_of}
+use Rattle.squeue_rings.specs.Noted.{AreNoted}
 use Rattle.squeue_rings.specs.Rings.{AreNumbered, MayBring, RingAt}
 use Rattle.squeue_rings.specs.Seen.{seen_ends}
 
@@ -60,10 +61,11 @@ abbrev pub AllBelow : {R : Type 0} → ℕ → List (Named R) → Type 0
 AllBelow conns ss = Each (λ s. length s.given.starts ≤ conns) ss
 
 module _ {R : Type 0} (limits : R → Limits) (squeues spread r : ℕ) (ss : List (Named R)) where
-  -- each pass of the ring knows what has been brought, and its connections went from stay to stay
+  -- each pass of the ring knows what has been brought, and its connections went from stay to stay, each with the feeds that were due
   pub record AreAt (entered reached : List Feed) (places : List (Option (Pass Element))) : Type 0 where
     pub each : AtEach (λ s o. Holds (RingAt limits squeues spread r entered reached s) o) ss places
     pub linked : (c : ℕ) → Each (λ s. (r ≡ c % s.given.rings) × (c < length s.given.starts)) ss → IsLinked (seen_ends limits ss places) c
+    pub noted : (c : ℕ) → Each (λ s. (r ≡ c % s.given.rings) × (c < length s.given.starts)) ss → AreNoted spread (seen_ends limits ss places) c
 
 module _ {R : Type 0} (limits : R → Limits) (squeues spread r : ℕ) (list : List Feed) (ss : List (Named R)) where
   -- each squeue's setting suffices for the list, whose feeds are in order

@@ -2,6 +2,8 @@ pub mod Seen
 pub mod Made
 pub mod Starts
 pub mod Runs
+pub mod Keeping
+pub mod Noted
 pub mod Rings
 pub mod Bringing
 pub mod Calling

@@ -6,12 +6,14 @@ ghost use Rattle.turn_gate.specs.declared.pass.Pass.{Pass};
 ghost use Rattle.perimeter_core.specs.declared.entries.Feed.{Feed};
 ghost use Rattle.perimeter_core.specs.History.{Element};
 ghost use Rattle.squeue_state.specs.Naming.{Named};
+ghost use Rattle.squeue_enter.specs.declared.Mode.{Mode};
 ghost use Rattle.squeue_enter.specs.Entering.{MayEnter};
 ghost use Rattle.synch_enter.specs.Hinting.{conns_of, squeues_of};
 ghost use Rattle.conn_migrate.specs.Moving.{MayCome, MayLeave};
 ghost use Rattle.squeue_serve.specs.Places.{Became, Holds};
 ghost use Rattle.squeue_rings.specs.Runs.{home_before, home_of, moves};
 ghost use Rattle.squeue_rings.specs.Bringing.{AllBelow, AreAt, AreOneRun, HasBrought, HasMoved, IsFar, IsReady};
+ghost use Rattle.squeue_rings.specs.Keeping.{ArePaced};
 
 use crate::homes::Homes;
 use crate::places::{put_at, take_at};
@@ -61,6 +63,9 @@ pub fn bring_all<R: Resident, H: Hook, W: Wait>(
     requires polling { length polling.old.items ≡ pace.homes.squeues }
     requires ready { (r : ℕ) × IsFar R.limits pace.homes.squeues pace.homes.spread r list.now squeues.now 0 places.old.items }
     ensures brought { (r : ℕ) → IsFar R.limits pace.homes.squeues pace.homes.spread r list.now squeues.now 0 places.old.items → AreAt R.limits pace.homes.squeues pace.homes.spread r squeues.now list.now list.now places.new.items }
+    ensures paced { (r : ℕ) → IsFar R.limits pace.homes.squeues pace.homes.spread r list.now squeues.now 0 places.old.items
+        → ArePaced R.limits pace.homes.squeues pace.homes.spread pace.mode pace.budget r squeues.now places.old.items
+        → ArePaced R.limits pace.homes.squeues pace.homes.spread pace.mode pace.budget r squeues.now places.new.items }
 {
     let mut empty = 0;
     for _ in rt.forever() {
@@ -108,6 +113,9 @@ fn bring_next<R: Resident, H: Hook, W: Wait>(
     requires ready { (r : ℕ) × IsFar R.limits pace.homes.squeues pace.homes.spread r list.now squeues.now end.old.popped places.old.items }
     ensures popped { end.new ≡ record end.old { popped = end.old.popped + result } }
     ensures ready { (r : ℕ) → IsFar R.limits pace.homes.squeues pace.homes.spread r list.now squeues.now end.old.popped places.old.items → IsFar R.limits pace.homes.squeues pace.homes.spread r list.now squeues.now end.new.popped places.new.items }
+    ensures paced { (r : ℕ) → IsFar R.limits pace.homes.squeues pace.homes.spread r list.now squeues.now end.old.popped places.old.items
+        → ArePaced R.limits pace.homes.squeues pace.homes.spread pace.mode pace.budget r squeues.now places.old.items
+        → ArePaced R.limits pace.homes.squeues pace.homes.spread pace.mode pace.budget r squeues.now places.new.items }
     ensures polling { length polling.new.items ≡ pace.homes.squeues }
 {
     let most = if polling.iter().any(|flag| *flag) {
@@ -144,6 +152,9 @@ fn bring_last<R: Resident, H: Hook, W: Wait>(
     requires polling { length polling.old.items ≡ pace.homes.squeues }
     requires ready { (r : ℕ) × IsFar R.limits pace.homes.squeues pace.homes.spread r list.now squeues.now end.old.popped places.old.items }
     ensures ready { (r : ℕ) → IsFar R.limits pace.homes.squeues pace.homes.spread r list.now squeues.now end.old.popped places.old.items → AreAt R.limits pace.homes.squeues pace.homes.spread r squeues.now list.now list.now places.new.items }
+    ensures paced { (r : ℕ) → IsFar R.limits pace.homes.squeues pace.homes.spread r list.now squeues.now end.old.popped places.old.items
+        → ArePaced R.limits pace.homes.squeues pace.homes.spread pace.mode pace.budget r squeues.now places.old.items
+        → ArePaced R.limits pace.homes.squeues pace.homes.spread pace.mode pace.budget r squeues.now places.new.items }
 {
     let (first, count) = ring.cleanup(rt, end);
     let from = first as usize;
@@ -168,6 +179,9 @@ fn bring_rest<R: Resident, H: Hook, W: Wait>(
     requires polling { length polling.old.items ≡ pace.homes.squeues }
     requires ready { (r : ℕ) × (list : List Feed) × (done : List Feed) × (behind : List Feed) × IsReady R.limits pace.homes.squeues pace.homes.spread r list squeues.now done rest.now behind places.old.items }
     ensures brought { (r : ℕ) (list done behind : List Feed) → IsReady R.limits pace.homes.squeues pace.homes.spread r list squeues.now done rest.now behind places.old.items → AreAt R.limits pace.homes.squeues pace.homes.spread r squeues.now (done ++ rest.now) (done ++ rest.now) places.new.items }
+    ensures paced { (r : ℕ) (list done behind : List Feed) → IsReady R.limits pace.homes.squeues pace.homes.spread r list squeues.now done rest.now behind places.old.items
+        → ArePaced R.limits pace.homes.squeues pace.homes.spread pace.mode pace.budget r squeues.now places.old.items
+        → ArePaced R.limits pace.homes.squeues pace.homes.spread pace.mode pace.budget r squeues.now places.new.items }
     ensures polling { length polling.new.items ≡ pace.homes.squeues }
 {
     let mut rest = rest;
@@ -197,6 +211,9 @@ pub fn bring_piece<R: Resident, H: Hook, W: Wait>(
     requires polling { length polling.old.items ≡ pace.homes.squeues }
     requires ready { (r : ℕ) × (list : List Feed) × (done : List Feed) × (behind : List Feed) × IsReady R.limits pace.homes.squeues pace.homes.spread r list squeues.now done piece.now behind places.old.items }
     ensures brought { (r : ℕ) (list done behind : List Feed) → IsReady R.limits pace.homes.squeues pace.homes.spread r list squeues.now done piece.now behind places.old.items → AreAt R.limits pace.homes.squeues pace.homes.spread r squeues.now (done ++ piece.now) (done ++ piece.now) places.new.items }
+    ensures paced { (r : ℕ) (list done behind : List Feed) → IsReady R.limits pace.homes.squeues pace.homes.spread r list squeues.now done piece.now behind places.old.items
+        → ArePaced R.limits pace.homes.squeues pace.homes.spread pace.mode pace.budget r squeues.now places.old.items
+        → ArePaced R.limits pace.homes.squeues pace.homes.spread pace.mode pace.budget r squeues.now places.new.items }
     ensures polling { length polling.new.items ≡ pace.homes.squeues }
 {
     let mut rest = piece;
@@ -225,6 +242,9 @@ fn bring_run<R: Resident, H: Hook, W: Wait>(
     requires ready { (r : ℕ) × (list : List Feed) × (done : List Feed) × (behind : List Feed) × IsReady R.limits pace.homes.squeues pace.homes.spread r list squeues.now done feeds.now behind places.old.items }
     ensures len { (0 < result) × (result ≤ length feeds.now) }
     ensures brought { (r : ℕ) (list done behind : List Feed) → IsReady R.limits pace.homes.squeues pace.homes.spread r list squeues.now done feeds.now behind places.old.items → AreAt R.limits pace.homes.squeues pace.homes.spread r squeues.now (done ++ take result feeds.now) (done ++ take result feeds.now) places.new.items }
+    ensures paced { (r : ℕ) (list done behind : List Feed) → IsReady R.limits pace.homes.squeues pace.homes.spread r list squeues.now done feeds.now behind places.old.items
+        → ArePaced R.limits pace.homes.squeues pace.homes.spread pace.mode pace.budget r squeues.now places.old.items
+        → ArePaced R.limits pace.homes.squeues pace.homes.spread pace.mode pace.budget r squeues.now places.new.items }
     ensures polling { length polling.new.items ≡ pace.homes.squeues }
 {
     let first = feeds[0];
@@ -261,6 +281,9 @@ fn reach<R: Resident, H: Hook, W: Wait>(
     requires hints { (conns : ℕ) × AllBelow conns squeues.now × (conns ≤ conns_of hints.now) × (squeues_of hints.now ≡ homes.squeues) }
     requires ready { (r : ℕ) × (list : List Feed) × (done : List Feed) × (behind : List Feed) × IsReady R.limits homes.squeues homes.spread r list squeues.now done (feed ∷ []) behind places.old.items }
     ensures reached { (r : ℕ) (list done behind : List Feed) → IsReady R.limits homes.squeues homes.spread r list squeues.now done (feed ∷ []) behind places.old.items → AreAt R.limits homes.squeues homes.spread r squeues.now done (done ++ feed ∷ []) places.new.items }
+    ensures paced { (r : ℕ) (list done behind : List Feed) (mode : Mode) (budget : ℕ) → IsReady R.limits homes.squeues homes.spread r list squeues.now done (feed ∷ []) behind places.old.items
+        → ArePaced R.limits homes.squeues homes.spread mode budget r squeues.now places.old.items
+        → ArePaced R.limits homes.squeues homes.spread mode budget r squeues.now places.new.items }
 {
     if homes.moves(feed) {
         move_home(rt, alloc, hook, squeues, hints, homes, feed, places);

@@ -3,13 +3,16 @@
 ghost use Rattle.std.specs.Prelude.{◌≡◌, ◌<◌, ◌≤◌, ◌+◌, ℕ, List, [], ◌++◌, Contains, Option, length};
 ghost use Rattle.turn_gate.specs.History.{Each};
 ghost use Rattle.turn_gate.specs.declared.pass.Pass.{Pass};
+ghost use Rattle.perimeter_core.specs.declared.entries.Feed.{Feed};
 ghost use Rattle.perimeter_core.specs.History.{Element, Setting, made_by, worker};
 ghost use Rattle.perimeter_core.specs.Legal.{Legal};
 ghost use Rattle.squeue_state.specs.Naming.{Named};
-ghost use Rattle.squeue_serve.specs.Places.{AtEach, Holds, IsNew};
+ghost use Rattle.squeue_enter.specs.declared.Mode.{Mode};
+ghost use Rattle.squeue_serve.specs.Places.{AtEach, AtEachTwo, Became, HasClosed, Holds, IsNew};
 ghost use Rattle.squeue_rings.specs.Rings.{AreNumbered};
 ghost use Rattle.squeue_rings.specs.Starts.{StartAtHome};
 ghost use Rattle.squeue_rings.specs.Bringing.{AreAt};
+ghost use Rattle.squeue_rings.specs.Keeping.{ArePaced, KeepsPace};
 ghost use Rattle.squeue_rings.specs.Made.{times_made};
 ghost use Rattle.squeue_rings.specs.Calling.{CallersAt};
 
@@ -20,6 +23,25 @@ pub fn new_passes_have_brought_nothing<R: Resident>()
     ensures { (squeues spread r : ℕ) (ss : List (Named R)) (places : List (Option (Pass Element))) → 1 ≤ squeues → length ss ≡ squeues → AreNumbered ss
         → StartAtHome R.limits squeues ss → Each (λ s. r < length s.given.quotas) ss
         → AtEach (λ s o. Holds (IsNew r s) o) ss places → AreAt R.limits squeues spread r ss [] [] places }
+{}
+
+/// The new passes of a ring keep its pace.
+pub fn new_passes_are_paced<R: Resident>()
+    ensures { (squeues spread : ℕ) (mode : Mode) (budget r : ℕ) (ss : List (Named R)) (places : List (Option (Pass Element)))
+        → AtEach (λ s o. Holds (IsNew r s) o) ss places → ArePaced R.limits squeues spread mode budget r ss places }
+{}
+
+/// A ring that closes its passes keeps its pace.
+pub fn closing_keeps_the_pace<R: Resident>()
+    ensures { (squeues spread : ℕ) (mode : Mode) (budget r : ℕ) (ss : List (Named R)) (entered reached : List Feed) (old new : List (Option (Pass Element)))
+        → AreAt R.limits squeues spread r ss entered reached old → AtEachTwo (λ s o n. Became (HasClosed R.limits s) o n) ss old new
+        → ArePaced R.limits squeues spread mode budget r ss old → ArePaced R.limits squeues spread mode budget r ss new }
+{}
+
+/// Behind the last mark of a ring others' marks leave its pace as it is.
+pub fn a_ring_keeps_its_pace()
+    ensures { (squeues spread : ℕ) (mode : Mode) (budget q : ℕ) (S : Setting) (r : ℕ) (H K : List Element)
+        → KeepsPace squeues spread mode budget q S r H → made_by r K ≡ [] → KeepsPace squeues spread mode budget q S r (H ++ K) }
 {}
 
 /// A call is made by its own thread alone, so what a thread has seen of it stays as it is.

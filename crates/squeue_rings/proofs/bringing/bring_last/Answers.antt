@@ -33,4 +33,6 @@ returns g c =
       ready = λ r far.
           let ready = next_ready limits sq sp r list ss n k c.args.places.now.items far piece is in
           last_far limits sq sp r list ss n k c.args.places.now.items far piece is c.bring_rest.new.places.items (omega (arith, c.cleanup-first.ensures.count, c.requires.ring.1)) (c.bring_rest.ensures.brought r list (take n list) (drop k (drop n list)) ready);
+      paced = λ r far before.
+          c.bring_rest.ensures.paced r list (take n list) (drop k (drop n list)) (next_ready limits sq sp r list ss n k c.args.places.now.items far piece is) before;
     }

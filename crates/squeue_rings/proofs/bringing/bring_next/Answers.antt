@@ -32,3 +32,13 @@ returns-clause-ready g c r far =
     let ready = next_ready limits sq sp r list ss n k c.args.places.now.items far piece is in
     next_far limits sq sp r list ss n k c.args.places.now.items far piece is c.pop_chain-first.new.end.popped c.bring_piece.new.places.items (ap (λ e. e.popped) c.pop_chain-first.ensures.popped) (omega (arith, c.pop_chain-first.ensures.capacity, c.requires.ring.1))
     (c.bring_piece.ensures.brought r list (take n list) (drop k (drop n list)) ready)
+
+pub returns-clause-paced : goal.returns-clause-paced
+returns-clause-paced g c r far before =
+    let list = c.args.list.now in
+    let n = c.args.end.now.popped in
+    let first = c.pop_chain-first.result.0 in
+    let k = c.pop_chain-first.result.1 in
+    let piece = take (first + k - first) (drop first list) in
+    c.bring_piece.ensures.paced r list (take n list) (drop k (drop n list))
+    (next_ready g.R.Resident.limits c.args.pace.homes.squeues c.args.pace.homes.spread r list c.args.squeues.now n k c.args.places.now.items far piece (part_is list first n k c.pop_chain-first.ensures.first)) before

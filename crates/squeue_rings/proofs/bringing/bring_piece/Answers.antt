@@ -13,6 +13,7 @@ loop-rest-init g c =
       is = refl;
       at = λ r list done behind ready.
           subst (λ (l : List Feed). AreAt g.R.Resident.limits c.args.pace.homes.squeues c.args.pace.homes.spread r c.args.squeues.now l l c.args.places.now.items) (sym (append-nil done)) ready.at;
+      paced = λ r list done behind ready before. before;
       polling = c.requires.polling;
     }
 
@@ -44,6 +45,8 @@ loop-rest-preserved g c =
       at = λ r list done behind ready.
           further limits sq sp r list ss done piece behind c.args.places.now.items ready i.front rest i.is (take len rest) c.bring_run-len.new.places.items
           (c.bring_run-len.ensures.brought r list (done ++ i.front) behind (goes_on limits sq sp r list ss done piece behind c.args.places.now.items ready i.front rest i.is c.loop-rest.places.items (i.at r list done behind ready)));
+      paced = λ r list done behind ready before.
+          c.bring_run-len.ensures.paced r list (done ++ i.front) behind (goes_on limits sq sp r list ss done piece behind c.args.places.now.items ready i.front rest i.is c.loop-rest.places.items (i.at r list done behind ready)) (i.paced r list done behind ready before);
       polling = c.bring_run-len.ensures.polling;
     }
 
@@ -53,3 +56,6 @@ returns-clause-brought g c r list done behind ready =
     let none = none_left c.loop-rest.rest.now c.is_empty.result c.is_empty.ensures c.loop-rest-test.false in
     let whole : c.args.piece.now ≡ i.front = i.is ∙ (ap (λ (l : List Feed). i.front ++ l) none ∙ append-nil i.front) in
     subst (λ (l : List Feed). AreAt g.R.Resident.limits c.args.pace.homes.squeues c.args.pace.homes.spread r c.args.squeues.now (done ++ l) (done ++ l) c.loop-rest.places.items) (sym whole) (i.at r list done behind ready)
+
+pub returns-clause-paced : goal.returns-clause-paced
+returns-clause-paced g c r list done behind ready before = c.loop-rest.invariant.paced r list done behind ready before

@@ -13,6 +13,7 @@ loop-rest-init g c =
       is = refl;
       at = λ r list done behind ready.
           subst (λ (l : List Feed). AreAt g.R.Resident.limits c.args.pace.homes.squeues c.args.pace.homes.spread r c.args.squeues.now l l c.args.places.now.items) (sym (append-nil done)) ready.at;
+      paced = λ r list done behind ready before. before;
       polling = c.requires.polling;
     }
 
@@ -54,6 +55,10 @@ loop-rest-preserved g c =
           further limits sq sp r list ss done c.args.rest.now behind c.args.places.now.items ready i.front rest i.is a c.bring_piece.new.places.items
           (c.bring_piece.ensures.brought r list (done ++ i.front) (b ++ behind)
           (part_ready limits sq sp r list ss (done ++ i.front) rest behind a b c.loop-rest.places.items (goes_on limits sq sp r list ss done c.args.rest.now behind c.args.places.now.items ready i.front rest i.is c.loop-rest.places.items (i.at r list done behind ready)) is));
+      paced = λ r list done behind ready before.
+          c.bring_piece.ensures.paced r list (done ++ i.front) (b ++ behind)
+          (part_ready limits sq sp r list ss (done ++ i.front) rest behind a b c.loop-rest.places.items (goes_on limits sq sp r list ss done c.args.rest.now behind c.args.places.now.items ready i.front rest i.is c.loop-rest.places.items (i.at r list done behind ready)) is)
+          (i.paced r list done behind ready before);
       polling = c.bring_piece.ensures.polling;
     }
 
@@ -63,3 +68,6 @@ returns-clause-brought g c r list done behind ready =
     let none = none_left c.loop-rest.rest.now c.is_empty.result c.is_empty.ensures c.loop-rest-test.false in
     let whole : c.args.rest.now ≡ i.front = i.is ∙ (ap (λ (l : List Feed). i.front ++ l) none ∙ append-nil i.front) in
     subst (λ (l : List Feed). AreAt g.R.Resident.limits c.args.pace.homes.squeues c.args.pace.homes.spread r c.args.squeues.now (done ++ l) (done ++ l) c.loop-rest.places.items) (sym whole) (i.at r list done behind ready)
+
+pub returns-clause-paced : goal.returns-clause-paced
+returns-clause-paced g c r list done behind ready before = c.loop-rest.invariant.paced r list done behind ready before

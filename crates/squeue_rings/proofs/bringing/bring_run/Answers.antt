@@ -2,6 +2,7 @@ use Rattle.std.proofs.Common.{◌≡◌, ◌-◌, ◌<◌, [], ◌∷◌, ◌++�
 use Rattle.squeue_serve.specs.Places.{Holds}
 use Rattle.squeue_rings.specs.Rings.{RingAt}
 use Rattle.squeue_rings.specs.Runs.{home_of, run_of}
+use Rattle.squeue_rings.proofs.PacedAll.{run_paced}
 use Rattle.squeue_rings.proofs.Running.{all_entered, first_ready, may_enter, run_is}
 use Rattle.squeue_rings.proofs.Slots.{at_length, got_at, got_other, got_same, head_rest, set_length}
 use Rattle.squeue_rings.proofs.bringing.bring_run.Goals as goal
@@ -80,3 +81,30 @@ returns-clause-brought g c r list done behind ready =
     all_entered limits sq sp r list ss done feeds behind c.args.places.now.items ready f tail is mid at c.index-squeues-q.result here c.requires.run.numbered c.index_mut.result.now c.enter_at.new.place (take (length feeds - (length tail - c.run.result)) feeds) c.args.pace.mode c.args.pace.budget _ it
     (run_is limits sq sp r list ss done feeds behind c.args.places.now.items ready f tail is (length feeds - (length tail - c.run.result)) (omega (arith, long, run, c.run.ensures.most)))
     c.enter_at.ensures (set_length mid q c.enter_at.new.place) (ap (slice_get _) (sym e) ∙ got_same mid q c.enter_at.new.place lo) (λ k apart. got_other mid q k c.enter_at.new.place (λ i. apart (i ∙ e)))
+
+pub returns-clause-paced : goal.returns-clause-paced
+returns-clause-paced g c r list done behind ready before =
+    let limits = g.R.Resident.limits in
+    let sq = c.args.pace.homes.squeues in
+    let sp = c.args.pace.homes.spread in
+    let feeds = c.args.feeds.now in
+    let ss = c.args.squeues.now in
+    let f = slice_index_or feeds 0 (record { c = 0; n = 0 }) in
+    let tail = take (length feeds - 1) (drop 1 feeds) in
+    let is = head_rest feeds (record { c = 0; n = 0 }) c.requires.some in
+    let first = first_ready limits sq sp r list ss done feeds behind c.args.places.now.items ready f tail is in
+    let mid = c.reach.new.places.items in
+    let at = c.reach.ensures.reached r list done (tail ++ behind) first in
+    let count = at_length (λ s o. Holds (RingAt limits sq sp r done (done ++ f ∷ []) s) o) ss mid at.each in
+    let q = c.home-home.result in
+    let e : q ≡ home_of sq sp f = c.home-home.ensures.home in
+    let lq : q < length ss = omega (arith, c.home-home.ensures.range, c.requires.run.count) in
+    let lo : q < length mid = omega (arith, lq, count) in
+    let here = ap (slice_get ss) (sym e) ∙ got_at ss q c.index-squeues-q.result lq c.index-squeues-q.is in
+    let it = ap (slice_get mid) (sym e) ∙ got_at mid q c.index_mut.result.now lo c.index_mut.ensures.value in
+    let run : c.run.result ≡ run_of sq sp (home_of sq sp f) tail = c.run.ensures.run ∙ ap (λ (h : ℕ). run_of sq sp h tail) e in
+    let long = ap length is in
+    run_paced limits sq sp c.args.pace.mode c.args.pace.budget r ss done (done ++ f ∷ []) mid _ at (c.reach.ensures.paced r list done (tail ++ behind) c.args.pace.mode c.args.pace.budget first before)
+    c.args.pace.spends c.index-squeues-q.result c.index_mut.result.now c.enter_at.new.place f tail _ (c.requires.run.numbered (home_of sq sp f) c.index-squeues-q.result here)
+    (run_is limits sq sp r list ss done feeds behind c.args.places.now.items ready f tail is (length feeds - (length tail - c.run.result)) (omega (arith, long, run, c.run.ensures.most)))
+    here it (ap (slice_get _) (sym e) ∙ got_same mid q c.enter_at.new.place lo) c.enter_at.ensures (set_length mid q c.enter_at.new.place) (λ k apart. got_other mid q k c.enter_at.new.place (λ i. apart (i ∙ e)))

@@ -1,6 +1,7 @@
 use Rattle.std.proofs.Common.{◌≤◌, length, sym, ◌∙◌, arith}
 use Rattle.squeue_serve.proofs.Lent.{some_at}
 use Rattle.squeue_rings.specs.Runs.{home_before, home_of}
+use Rattle.squeue_rings.proofs.PacedAll.{moved_paced}
 use Rattle.squeue_rings.proofs.Reaching.{each_at, may_come, may_leave, moved_all, own, pass_at, stays_all}
 use Rattle.squeue_rings.proofs.bringing.reach.Goals as goal
 
@@ -36,6 +37,8 @@ returns-then-moves g c =
       reached = λ r list done behind ready.
           moved_all g.R.Resident.limits c.args.homes.squeues c.args.homes.spread r list c.args.squeues.now done behind c.args.feed c.args.places.now.items ready (sym c.moves.ensures ∙ c.if-moves.true) c.move_home.new.places.items c.requires.run.count c.requires.run.numbered
           c.move_home.ensures;
+      paced = λ r list done behind mode budget ready before.
+          moved_paced g.R.Resident.limits c.args.homes.squeues c.args.homes.spread mode budget r c.args.squeues.now done done c.args.places.now.items c.move_home.new.places.items ready.at before c.args.feed c.move_home.ensures;
     }
 
 pub returns-else-moves : goal.returns-else-moves
@@ -43,4 +46,5 @@ returns-else-moves g c =
     record {
       reached = λ r list done behind ready.
           stays_all g.R.Resident.limits c.args.homes.squeues c.args.homes.spread r list c.args.squeues.now done behind c.args.feed c.args.places.now.items ready (sym c.moves.ensures ∙ c.if-moves.false);
+      paced = λ r list done behind mode budget ready before. before;
     }
