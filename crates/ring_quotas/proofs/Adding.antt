@@ -1,14 +1,17 @@
 -- What the loops over connections, calls and passes add up.
-use Rattle.std.proofs.Common.{◌≡◌, ℕ, zero, suc, ◌+◌, ◌-◌, ◌*◌, ◌%◌, ◌<◌, ◌≤◌, ◌==◌, Bool, true, false, if◌then◌else◌, Some, List, [], ◌∷◌, ◌++◌, length, map, filter, get_or, slice_get, sum_by, take, refl, ap, sym, ◌∙◌, arith, append_assoc}
+use Rattle.std.proofs.Common.{◌≡◌, ℕ, zero, suc, ◌+◌, ◌-◌, ◌*◌, ◌%◌, ◌<◌, ◌≤◌, ◌==◌, Bool, true, false, if◌then◌else◌, Some, List, [], ◌∷◌, ◌++◌, length, map, filter, get_or, slice_get, sum_by, take, refl, ap, sym, ◌∙◌, arith, length-append}
 use Rattle.std.specs.Prelude.{All}
 use Rattle.std.specs.List.{range_with_len}
-use Rattle.std.proofs.lemmas.List.{map-append}
+use Rattle.std.proofs.lemmas.List.{get_or-append-add, get_or_append_left, map-append}
+use Rattle.std.proofs.lemmas.List.FromFn.{get_or-map-range_with_len, length-map-range_with_len}
 use Rattle.std.proofs.lemmas.List.Elements.{All-contains, filter-append}
 use Rattle.std.proofs.lemmas.List.Sums.{sum_by-append, sum_by-cons, sum_by-le-sum_by}
-use Rattle.perimeter_core.specs.History.{feed_quotas}
+use Rattle.std.proofs.lemmas.Option.{slice_get-get_or}
+use Rattle.perimeter_core.specs.History.{all_quotas, feed_quotas}
 use Rattle.squeue_state.specs.declared.guarded.Quota.{Quota}
 use Rattle.squeue_state.specs.Behind.{pairs}
 use Rattle.squeue_state.specs.Words.{ask_quotas}
+use Rattle.squeue_state.proofs.RoomMade.{all_both}
 use Rattle.conn_classifier.specs.Plan.{PlanOf, items_in, items_together}
 use Rattle.conn_classifier.specs.declared.kinds.Item.{Item}
 use Rattle.tcb_machine.specs.declared.kinds.Call.{Call}
@@ -17,7 +20,7 @@ use Rattle.conn_blocks.specs.CallLists.{CallLists, call_at}
 use Rattle.conn_blocks.specs.Homes.{home, leaves_after, times_leaving}
 use Rattle.conn_blocks.proofs.Named.{call_is_named}
 use Rattle.conn_blocks.proofs.Numbers.{take_some}
-use Rattle.ring_quotas.specs.Quotas.{comes_after, feeds_at, times_coming}
+use Rattle.ring_quotas.specs.Quotas.{caller_asks, comes_after, feeds_at, quotas_of, ring_asks, ring_feeds, times_coming}
 use Rattle.ring_quotas.proofs.Moving.{range_more, tally_most}
 
 -- one connection more
@@ -100,12 +103,14 @@ module _ (p : PlanOf) (listed : length p.items ≡ length p.tuples) (on : ℕ �
       parts [] = omega arith
       parts (n ∷ ns) = let r = parts ns in let x = sum_by-cons (λ n. f n + g n) n ns in let y = sum_by-cons f n ns in let z = sum_by-cons g n ns in omega (arith, r, x, y, z)
 
+take_next : {X : Type 0} (xs : List X) (k : ℕ) (x : X) → slice_get xs k ≡ Some x → take (k + 1) xs ≡ take k xs ++ x ∷ []
+take_next xs k x e = let one : k + 1 ≡ suc k = omega arith in ap (λ (n : ℕ). take n xs) one ∙ take_some xs k x e
+
 -- one call more
 pub calls_next : {X : Type 0} (f : X → ℕ) (xs : List X) (k : ℕ) (x : X) → slice_get xs k ≡ Some x → sum_by f (take (k + 1) xs) ≡ sum_by f (take k xs) + f x
 calls_next f xs k x e =
-    let one : k + 1 ≡ suc k = omega arith in
     let c = sum_by-cons f x [] in
-    let s = ap (λ (n : ℕ). sum_by f (take n xs)) one ∙ (ap (sum_by f) (take_some xs k x e) ∙ sum_by-append f (take k xs) (x ∷ [])) in
+    let s = ap (sum_by f) (take_next xs k x e) ∙ sum_by-append f (take k xs) (x ∷ []) in
     omega (arith, s, c)
 
 -- each call of a thread is on a connection that there is
@@ -123,13 +128,6 @@ feeds_more (x ∷ qs) q = let r = feeds_more qs q in omega (arith, r)
 pub asks_more : (qs : List (ℕ × ℕ)) (q : ℕ × ℕ) → ask_quotas (qs ++ q ∷ []) ≡ ask_quotas qs + q.1
 asks_more [] q = omega arith
 asks_more (x ∷ qs) q = let r = asks_more qs q in omega (arith, r)
-
-pub map_more : {X : Type 0} (f : ℕ → X) (n : ℕ) → map f (range_with_len 0 (n + 1)) ≡ map f (range_with_len 0 n) ++ f n ∷ []
-map_more f n =
-    let one : n + 1 ≡ suc n = omega arith in
-    let e : 0 + n ≡ n = omega arith in
-    ap (λ (m : ℕ). map f (range_with_len 0 m)) one
-    ∙ (ap (map f) (range_more 0 n ∙ ap (λ (m : ℕ). range_with_len 0 n ++ m ∷ []) e) ∙ map-append f (range_with_len 0 n) (n ∷ []))
 
 -- what the code counts, by the numbers that it has from its setup and its plan
 pub left_as : {s t p r i n l : ℕ} (q c : ℕ) → s ≡ t → p ≡ r → i ≡ n → l ≡ times_leaving s p q c i → l ≡ times_leaving t r q c n
@@ -178,8 +176,49 @@ module _ (old new : List Quota) (q : Quota) (pushed : new ≡ old ++ q ∷ []) w
   pub asks_next : ask_quotas (pairs new) ≡ ask_quotas (pairs old) + q.asks
   asks_next = ap ask_quotas pairs_next ∙ asks_more (pairs old) (q.feeds, q.asks)
 
-  -- where those so far are a list's values, behind others
-  pub next_value : (front : List (ℕ × ℕ)) (f : ℕ → ℕ × ℕ) (n : ℕ) → pairs old ≡ front ++ map f (range_with_len 0 n) → (q.feeds, q.asks) ≡ f n → pairs new ≡ front ++ map f (range_with_len 0 (n + 1))
-  next_value front f n so is =
-      pairs_next
-      ∙ ((λ i. so i ++ is i ∷ []) ∙ (append_assoc front (map f (range_with_len 0 n)) (f n ∷ []) ∙ ap (λ (l : List (ℕ × ℕ)). front ++ l) (sym (map_more f n))))
+  -- where those so far are the first values of a list
+  pub next_value : (xs : List (ℕ × ℕ)) (k : ℕ) → pairs old ≡ take k xs → slice_get xs k ≡ Some (q.feeds, q.asks) → pairs new ≡ take (k + 1) xs
+  next_value xs k so is = pairs_next ∙ (ap (λ (l : List (ℕ × ℕ)). l ++ (q.feeds, q.asks) ∷ []) so ∙ sym (take_next xs k (q.feeds, q.asks) is))
+
+-- the sum of the first quotas, and one more
+pub sum_next : (xs : List (ℕ × ℕ)) (k : ℕ) (x : ℕ × ℕ) → slice_get xs k ≡ Some x → all_quotas (take (k + 1) xs) ≡ all_quotas (take k xs) + x.0 + x.1
+sum_next xs k x is =
+    let one = ap all_quotas (take_next xs k x is) in
+    omega (arith, one, all_both (take k xs ++ x ∷ []), all_both (take k xs), feeds_more (take k xs) x, asks_more (take k xs) x)
+
+-- one number more
+pub range_next : (f : ℕ → ℕ) (n : ℕ) → sum_by f (range_with_len 0 (n + 1)) ≡ sum_by f (range_with_len 0 n) + f n
+range_next f n =
+    let one : n + 1 ≡ suc n = omega arith in
+    let e : 0 + n ≡ n = omega arith in
+    let last = sum_by-cons f n [] in
+    let all = ap (λ (m : ℕ). sum_by f (range_with_len 0 m)) one
+    ∙ (ap (sum_by f) (range_more 0 n ∙ ap (λ (m : ℕ). range_with_len 0 n ++ m ∷ []) e) ∙ sum_by-append f (range_with_len 0 n) (n ∷ [])) in
+    omega (arith, all, last)
+
+-- the values of so many numbers, and behind them those of so many others
+module _ {X : Type 0} (f g : ℕ → X) (n m : ℕ) where
+  abbrev both : List X
+  both = map f (range_with_len 0 n) ++ map g (range_with_len 0 m)
+
+  pub both_count : length both ≡ n + m
+  both_count = omega (arith, length-append (map f (range_with_len 0 n)) (map g (range_with_len 0 m)), length-map-range_with_len f 0 n, length-map-range_with_len g 0 m)
+
+  pub in_front : (i : ℕ) → i < n → slice_get both i ≡ Some (f i)
+  in_front i lt =
+      let front = map f (range_with_len 0 n) in
+      let here : i < length front = omega (arith, lt, length-map-range_with_len f 0 n) in
+      let within : i < length both = omega (arith, lt, both_count) in
+      slice_get-get_or both i (f i) within
+      ∙ ap Some (get_or_append_left front (map g (range_with_len 0 m)) (f i) i here ∙ get_or-map-range_with_len f 0 n i i (f i) lt (omega arith))
+
+  pub behind : (i j : ℕ) → i ≡ n + j → j < m → slice_get both i ≡ Some (g j)
+  behind i j e lt =
+      let front = map f (range_with_len 0 n) in
+      let place : i ≡ length front + j = omega (arith, e, length-map-range_with_len f 0 n) in
+      let within : i < length both = omega (arith, e, lt, both_count) in
+      slice_get-get_or both i (g j) within
+      ∙ ap Some (ap (λ (k : ℕ). get_or both k (g j)) place ∙ (get_or-append-add front (map g (range_with_len 0 m)) j (g j) ∙ get_or-map-range_with_len g 0 m j j (g j) lt (omega arith)))
+
+pub quotas_count : (p : PlanOf) (calls : CallLists) (squeues rings spread q : ℕ) → length (quotas_of p calls squeues rings spread q) ≡ rings + 4
+quotas_count p calls squeues rings spread q = both_count (λ r. (ring_feeds p squeues rings spread q r, ring_asks p squeues rings spread q r)) (λ j. (0, caller_asks p calls squeues spread q j)) rings 4

@@ -1,7 +1,7 @@
 -- What each pass of a squeue may enter, by where connections are at home, and the squeue's setting.
-use Rattle.std.specs.Prelude.{◌≡◌, ℕ, ◌+◌, ◌-◌, ◌%◌, ◌≤◌, ◌==◌, ◌&&◌, not, Bool, List, ◌++◌, filter, length, map, sum_by}
+use Rattle.std.specs.Prelude.{◌≡◌, ℕ, ◌+◌, ◌-◌, ◌*◌, ◌%◌, ◌≤◌, ◌==◌, ◌&&◌, not, Bool, List, ◌++◌, filter, length, map, sum_by}
 use Rattle.std.specs.List.{range_with_len}
-use Rattle.perimeter_core.specs.History.{Limits, Setting}
+use Rattle.perimeter_core.specs.History.{Limits, Setting, all_quotas}
 use Rattle.squeue_state.specs.Naming.{Named, setting_of}
 use Rattle.conn_classifier.specs.Plan.{PlanOf, items_in}
 use Rattle.conn_blocks.specs.Allowed.{limits_in}
@@ -51,6 +51,11 @@ abbrev pub quotas_of : PlanOf → CallLists → ℕ → ℕ → ℕ → ℕ → 
 quotas_of p calls squeues rings spread q =
     map (λ r. (ring_feeds p squeues rings spread q r, ring_asks p squeues rings spread q r)) (range_with_len 0 rings)
     ++ map (λ j. (0, caller_asks p calls squeues spread q j)) (range_with_len 0 4)
+
+-- how many marks the squeues make in all at most: each of them eight for each entry of its quotas, and four for each of its passes
+abbrev pub marks_most : PlanOf → CallLists → Setup → ℕ
+marks_most p calls s =
+    sum_by (λ q. let quotas = quotas_of p calls s.squeues s.rings s.spread q in 8 * all_quotas quotas + 4 * (length quotas + 1)) (range_with_len 0 s.squeues)
 
 -- the setting of squeue q: each connection is first here at the squeue of its first home
 abbrev pub setting_at : PlanOf → CallLists → ℕ → ℕ → ℕ → ℕ → Setting

@@ -11,7 +11,7 @@ mod quotas;
 mod setup;
 mod shares;
 
-pub use quotas::{CALLERS, quotas_at};
+pub use quotas::{CALLERS, marks_most, quotas_at};
 pub use setup::Setup;
 
 #[cfg(test)]

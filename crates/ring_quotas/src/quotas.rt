@@ -1,11 +1,11 @@
 //! How many feeds and asks each pass of a squeue may enter.
 
-ghost use Rattle.std.specs.Prelude.{◌≡◌, ◌<◌, ◌≤◌, ◌+◌, ◌*◌, ◌^◌, All, IfOk, length};
-ghost use Rattle.perimeter_core.specs.History.{feed_quotas};
+ghost use Rattle.std.specs.Prelude.{◌≡◌, ◌<◌, ◌≤◌, ◌+◌, ◌*◌, ◌^◌, All, IfOk, Some, length, slice_get};
+ghost use Rattle.perimeter_core.specs.History.{all_quotas, feed_quotas};
 ghost use Rattle.squeue_state.specs.Behind.{pairs};
 ghost use Rattle.squeue_state.specs.Words.{ask_quotas};
 ghost use Rattle.conn_blocks.specs.Allowed.{all_calls};
-ghost use Rattle.ring_quotas.specs.Quotas.{IsInRange, caller_asks, quotas_of, ring_asks, ring_feeds};
+ghost use Rattle.ring_quotas.specs.Quotas.{IsInRange, caller_asks, marks_most, quotas_of, ring_asks, ring_feeds};
 
 use crate::setup::Setup;
 use crate::shares::{coming, feeds, leaving};
@@ -36,16 +36,58 @@ pub fn quotas_at(
     ensures asks { IfOk result (λ v. ask_quotas (pairs v.items) ≤ 2 ^ 40) }
 {
     let mut quotas = Vec::with_capacity(alloc, (setup.rings + CALLERS) as usize)?;
-    for ring in 0..setup.rings {
-        quotas.push_reserved(ring_quota(plan, setup, ring, q));
-    }
-    for thread in 0..CALLERS {
-        quotas.push_reserved(Quota {
-            feeds: 0,
-            asks: caller_asks(plan, calls, setup, thread, q),
-        });
+    for pass in 0..setup.rings + CALLERS {
+        quotas.push_reserved(quota_of(plan, calls, setup, pass, q));
     }
     Ok(quotas)
+}
+
+/// How many marks the squeues may make in all: each of them eight for each entry of its quotas, and four for each of its passes.
+pub fn marks_most(plan: &Plan<'_>, calls: &Calls, setup: &Setup) -> u64
+    requires range { IsInRange setup.now }
+    requires calls { All (λ call. call.0 < length plan.now.tuples) (all_calls calls.now) }
+    ensures { result ≡ marks_most plan.now calls.now setup.now }
+{
+    let mut most = 0;
+    for q in 0..setup.squeues {
+        most += 8 * entries_most(plan, calls, setup, q) + 4 * u64::from(setup.rings + CALLERS + 1);
+    }
+    most
+}
+
+// How many entries all passes of squeue `q` may enter.
+fn entries_most(plan: &Plan<'_>, calls: &Calls, setup: &Setup, q: u32) -> u64
+    requires range { IsInRange setup.now }
+    requires squeue { q < setup.now.squeues }
+    requires calls { All (λ call. call.0 < length plan.now.tuples) (all_calls calls.now) }
+    ensures value { result ≡ all_quotas (quotas_of plan.now calls.now setup.now.squeues setup.now.rings setup.now.spread q) }
+    ensures few { result ≤ 2 ^ 40 }
+{
+    let mut entries = 0;
+    for pass in 0..setup.rings + CALLERS {
+        let quota = quota_of(plan, calls, setup, pass, q);
+        entries += u64::from(quota.feeds) + quota.asks;
+    }
+    entries
+}
+
+// The quota of a pass of squeue `q` but the worker's.
+fn quota_of(plan: &Plan<'_>, calls: &Calls, setup: &Setup, pass: u32, q: u32) -> Quota
+    requires range { IsInRange setup.now }
+    requires squeue { q < setup.now.squeues }
+    requires pass { pass < setup.now.rings + 4 }
+    requires calls { All (λ call. call.0 < length plan.now.tuples) (all_calls calls.now) }
+    ensures value { slice_get (quotas_of plan.now calls.now setup.now.squeues setup.now.rings setup.now.spread q) pass ≡ Some (result.feeds, result.asks) }
+    ensures few { (result.feeds ≤ 2101248) × (result.asks ≤ 2147485696) }
+{
+    if pass < setup.rings {
+        ring_quota(plan, setup, pass, q)
+    } else {
+        Quota {
+            feeds: 0,
+            asks: caller_asks(plan, calls, setup, pass - setup.rings, q),
+        }
+    }
 }
 
 // A ring's feeds are those of its connections that are at home at the squeue, its asks the moves of them out of it and into it.

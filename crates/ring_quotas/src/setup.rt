@@ -6,7 +6,8 @@ use squeue_enter::Mode;
 use squeue_rings::Homes;
 
 /// The squeues (1 to 16), the rings (1 to 8), how rings enter, the most entries that an entering thread processes (1 to
-/// 65,535), and after how many feeds a connection moves on (0 to 65,535; 0 never). None of it changes a report.
+/// 65,535), after how many feeds a connection moves on (0 to 65,535; 0 never), and whether each squeue keeps the marks of its
+/// history. None of it changes what is replied.
 #[derive(Clone, Copy, Debug, PartialEq, Eq)]
 pub struct Setup {
     pub squeues: u32,
@@ -14,6 +15,7 @@ pub struct Setup {
     pub mode: Mode,
     pub budget: u32,
     pub spread: u32,
+    pub trace: bool,
 }
 
 impl Setup {

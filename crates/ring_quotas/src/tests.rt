@@ -5,7 +5,7 @@ use crate::laws::{
     a_rings_list_is_whole, a_rings_list_may_be_brought, a_threads_calls_may_be_made,
 };
 use crate::shares::{coming, feeds, leaving};
-use crate::{Setup, quotas_at};
+use crate::{Setup, marks_most, quotas_at};
 use capture_reader::{Capture, parse_capture};
 use conn_blocks::{Blocks, Calls};
 use conn_classifier::plan;
@@ -104,6 +104,7 @@ fn quotas_of_three_connections(rt: HostRuntime) -> Result<(), Fail> {
         mode: Mode::Process,
         budget: 1,
         spread: 2,
+        trace: false,
     };
     let wanted = [
         [(5, 4), (4, 3), (0, 4), (0, 0), (0, 0), (0, 4)],
@@ -121,6 +122,22 @@ fn quotas_of_three_connections(rt: HostRuntime) -> Result<(), Fail> {
             wanted[q as usize].as_slice(),
             "squeue {q}"
         );
+    }
+    let rows: [(u32, u32, u32, u64); 4] = [
+        (3, 2, 2, 652),
+        (2, 1, 1, 896),
+        (1, 8, 0, 276),
+        (16, 3, 1, 1808),
+    ];
+    for (squeues, rings, spread, marks) in rows {
+        assert!(rt; squeues > 0 && squeues <= 16 && rings > 0 && rings <= 8 && spread <= 2);
+        let setup = Setup {
+            squeues,
+            rings,
+            spread,
+            ..setup
+        };
+        assert_eq!(rt; marks_most(&plan, &calls, &setup), marks);
     }
     Ok(())
 }
