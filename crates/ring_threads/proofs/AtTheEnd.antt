@@ -1,12 +1,12 @@
 -- What rings and application threads knew by their passes holds of the histories at the end.
-use Rattle.std.proofs.Common.{◌≡◌, ◌≢◌, ℕ, ◌+◌, ◌/◌, ◌%◌, ◌<◌, ◌≤◌, ◌==◌, zero, suc, Bool, true, false, Option, Some, None, List, [], ◌∷◌, ◌++◌, length, slice_get, refl, ap, sym, ◌∙◌, subst, arith}
+use Rattle.std.proofs.Common.{◌≡◌, ℕ, ◌+◌, ◌/◌, ◌%◌, zero, suc, Option, Some, None, List, [], ◌∷◌, ◌++◌, length, slice_get, refl, ap, sym, ◌∙◌, subst, arith}
 use Rattle.std.proofs.lemmas.Option.{slice_get_within}
-use Rattle.turn_gate.specs.History.{Begins, only}
+use Rattle.turn_gate.specs.History.{only}
 use Rattle.turn_gate.specs.Passes.{IsPassOf, mine, number, seen}
 use Rattle.turn_gate.specs.declared.pass.Pass.{Pass}
 use Rattle.perimeter_core.specs.Perimeter.{is_here}
 use Rattle.perimeter_core.specs.History.{Element, Limits, Setting, made_by, run}
-use Rattle.perimeter_core.specs.Deeds.{due}
+use Rattle.perimeter_core.specs.Deeds.{due, fed}
 use Rattle.perimeter_core.specs.Legal.{Legal}
 use Rattle.squeue_state.specs.Naming.{Ending, Named, setting_of}
 use Rattle.squeue_state.specs.Elements.{number_of}
@@ -16,9 +16,13 @@ use Rattle.squeue_state.proofs.Makers.{others_made}
 use Rattle.squeue_enter.proofs.Carrying.{due_carried, here_carried}
 use Rattle.conn_migrate.specs.Stays.{AreSameStays, IsLinked, Stay, Stays, all_in, as_list, note_of, stays, stays_at, stays_in}
 use Rattle.conn_migrate.proofs.StaysKept.{same_stays}
+use Rattle.squeue_enter.specs.declared.Mode.{Mode}
+use Rattle.squeue_rings.specs.Keeping.{KeepsPace}
 use Rattle.squeue_rings.specs.Made.{times_made}
+use Rattle.squeue_rings.specs.Noted.{AreNoted}
 use Rattle.squeue_rings.specs.Seen.{seen_ends, seen_in}
 use Rattle.squeue_rings.proofs.CallMarks.{calls_kept}
+use Rattle.squeue_rings.proofs.Pacing.{keeps_on}
 
 -- a pass that has seen a beginning of a legal history, and made what there carries its number
 module _ {R : Type 0} (limits : R → Limits) (s : Named R) (x : Pass Element) (H : List Element) (is : IsPassOf number_of s.gate x) (legal : Legal (setting_of limits s.given) H) (knows : Knows H x) where
@@ -45,6 +49,12 @@ module _ {R : Type 0} (limits : R → Limits) (s : Named R) (x : Pass Element) (
   pub end_made : (c j k : ℕ) → number x ≡ s.given.rings + j → times_made c j k H ≡ times_made c j k (seen x)
   end_made c j k thread =
       ap (times_made c j k) knows.0.1 ∙ calls_kept S (seen x) knows.0.0 c j k parts (subst (λ (r : ℕ). made_by r knows.0.0 ≡ []) thread others)
+
+  -- what it kept it keeps, since the others' marks don't count
+  pub end_paced : (squeues spread : ℕ) (mode : Mode) (budget q r : ℕ) → number x ≡ r → KeepsPace squeues spread mode budget q S r (seen x) → KeepsPace squeues spread mode budget q S r H
+  end_paced squeues spread mode budget q r is_number keeps =
+      subst (λ (K : List Element). KeepsPace squeues spread mode budget q S r K) (sym knows.0.1)
+      (keeps_on squeues spread mode budget q S r (seen x) knows.0.0 keeps (subst (λ (r : ℕ). made_by r knows.0.0 ≡ []) is_number others))
 
 -- the ends that passes have seen
 pub seen_count : {R : Type 0} (limits : R → Limits) (ss : List (Named R)) (os : List (Option (Pass Element))) → length os ≡ length ss → length (seen_ends limits ss os) ≡ length ss
@@ -99,3 +109,8 @@ module _ (hs gs : List Ending) (c : ℕ) (count : length gs ≡ length hs)
       let u = linked s w.0 (subst (λ (m : ℕ). slice_get (all_in (stays_at hs c (s + 1))) ((s + 1) / m) ≡ Some w.0) count w.1) in
       let there : slice_get (stays_at gs c s).ended (s / length gs) ≡ Some u.0 = subst (λ (m : ℕ). slice_get (stays_at gs c s).ended (s / m) ≡ Some u.0) (sym count) (ap (λ (l : List Stay). slice_get l (s / length hs)) (at_same s).ended ∙ u.1) in
       (u.0, there, w.2 ∙ u.2)
+
+  pub noted_same : (spread : ℕ) → AreNoted spread hs c → AreNoted spread gs c
+  noted_same spread noted s v at =
+      let w = row_at (stays_at hs c s) (stays_at gs c s) (s / length gs) v (at_same s) at in
+      ap fed w.2 ∙ noted s w.0 (subst (λ (m : ℕ). slice_get (all_in (stays_at hs c s)) (s / m) ≡ Some w.0) count w.1)

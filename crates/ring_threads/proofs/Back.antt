@@ -1,69 +1,61 @@
 -- What has come back of the squeues that have ended, while the first ones are still lent.
-use Rattle.std.proofs.Common.{◌≡◌, ℕ, ◌+◌, ◌<◌, ◌≤◌, zero, suc, Bool, true, false, if◌then◌else◌, Box, Option, Some, None, List, [], ◌∷◌, ◌++◌, length, length-append, append_assoc, slice_get, refl, ap, sym, ◌∙◌, subst, arith}
+use Rattle.std.proofs.Common.{◌≡◌, ℕ, ◌+◌, ◌<◌, zero, suc, Bool, true, false, if◌then◌else◌, Box, Option, Some, None, List, [], ◌∷◌, ◌++◌, length, length-append, append_assoc, slice_get, refl, ap, sym, ◌∙◌, subst, arith}
 use Rattle.std.specs.declared.alloc.Global.{Global}
 use Rattle.std.proofs.lemmas.List.{append-nil}
 use Rattle.turn_gate.specs.History.{Each}
 use Rattle.turn_gate.specs.declared.pass.Pass.{Pass}
 use Rattle.perimeter_core.specs.Blocks.{peri}
-use Rattle.perimeter_core.specs.declared.entries.Act.{Act}
 use Rattle.perimeter_core.specs.Deeds.{acts}
 use Rattle.perimeter_core.specs.Perimeter.{is_here}
 use Rattle.perimeter_core.specs.History.{Element, Setting, run}
 use Rattle.squeue_state.specs.Naming.{Ending, Named, setting_of}
 use Rattle.squeue_state.specs.Words.{Knows}
 use Rattle.squeue_trace.specs.Told.{Traced}
-use Rattle.conn_classifier.specs.Plan.{PlanOf}
 use Rattle.conn_blocks.specs.declared.blocks.Blocks.{Blocks}
-use Rattle.conn_blocks.specs.CallLists.{CallLists}
 use Rattle.conn_blocks.specs.Holding.{StandsFor}
 use Rattle.conn_blocks.specs.Places.{PlaceFits, Stands, limits_of, origin_of, size_of}
 use Rattle.conn_blocks.specs.ServeOrder.{BlockOf, OriginOf}
 use Rattle.squeue_serve.specs.Lending.{AreLent, HasCome}
-use Rattle.squeue_serve.specs.Places.{AtEach, Holds, MayEnd}
+use Rattle.squeue_serve.specs.Places.{Holds, MayEnd}
 use Rattle.squeue_serve.proofs.Coming.{holds_other, less_lent}
 use Rattle.squeue_serve.proofs.Lent.{get_end}
-use Rattle.ring_threads.specs.Gathering.{AreEmpty, EndsAs, HasGathered, IsFrom, IsNowhere, LiesSo, WasAdded, first_of}
-
-each_at : {A : Type 0} (P : A → Type 0) (xs : List A) (k : ℕ) (x : A) → Each P xs → slice_get xs k ≡ Some x → P x
-each_at P [] k x h is = cc is
-each_at P (y ∷ xs) zero x h is = let same : y ≡ x = cc is in subst P same h.0
-each_at P (y ∷ xs) (suc k) x h is = each_at P xs k x h.1 is
+use Rattle.squeue_rings.proofs.Reaching.{each_at}
+use Rattle.squeue_rings.proofs.Slots.{at_length}
+use Rattle.ring_threads.specs.Gathering.{AreEmpty, EndsAs, HasGathered, IsFrom, IsTraceOf, LiesSo, WasAdded, first_of}
 
 pub each_last : {A : Type 0} (P : A → Type 0) (xs : List A) (x : A) → Each P (xs ++ x ∷ []) → Each P xs × P x
 each_last P [] x h = (tt, h.0)
 each_last P (y ∷ xs) x h = let r = each_last P xs x h.1 in ((h.0, r.0), r.1)
 
-as_long : {R A : Type 0} (P : Named R → A → Type 0) (ss : List (Named R)) (os : List A) → AtEach P ss os → length os ≡ length ss
-as_long P [] [] h = refl
-as_long P [] (o ∷ os) h = absurd h
-as_long P (s ∷ ss) [] h = absurd h
-as_long P (s ∷ ss) (o ∷ os) h = ap suc (as_long P ss os h.1)
-
 module _ (front count : ℕ) (ss : List (Named Blocks)) (lent0 : ℕ → List (Option (Pass Element))) where
-  -- those behind `left` have come back, with these ends
-  pub record SoFar (left : List (Named Blocks)) (lent : ℕ → List (Option (Pass Element))) (places : List (Option (Box BlockOf Global))) (es : List Ending) : Type 0 where
+  -- those behind `left` have come back, with these ends and traces
+  pub record SoFar (left : List (Named Blocks)) (lent : ℕ → List (Option (Pass Element))) (places : List (Option (Box BlockOf Global))) (es : List Ending) (ts : List Traced) : Type 0 where
     pub back : List (Named Blocks)
     pub is : ss ≡ left ++ back
     pub ends : length es ≡ length back
+    pub traces : length ts ≡ length back
     pub fronts : (p : ℕ) → p < count → (tail : List (Option (Pass Element))) × (lent0 (front + p) ≡ lent (front + p) ++ tail)
     pub each : (i : ℕ) (s : Named Blocks) (e : Ending) → slice_get back i ≡ Some s → slice_get es i ≡ Some e → EndsAs front count lent0 (length left + i) s e
+    pub traced : (i : ℕ) (s : Named Blocks) (e : Ending) (t : Traced) → slice_get back i ≡ Some s → slice_get es i ≡ Some e → slice_get ts i ≡ Some t → IsTraceOf s e t
     pub placed : (c : ℕ) → c < length places → LiesSo back es c (slice_get places c)
     pub still : AreLent (MayEnd limits_of) front count left lent
 
-  pub none_back : (places : List (Option (Box BlockOf Global))) (es : List Ending) → es ≡ [] → AreEmpty places → AreLent (MayEnd limits_of) front count ss lent0 → SoFar ss lent0 places es
-  none_back places es none empty lent =
+  pub none_back : (places : List (Option (Box BlockOf Global))) (es : List Ending) (ts : List Traced) → es ≡ [] → ts ≡ [] → AreEmpty places → AreLent (MayEnd limits_of) front count ss lent0 → SoFar ss lent0 places es ts
+  none_back places es ts none no_traces empty lent =
       record {
         back = [];
         is = sym (append-nil ss);
         ends = ap length none;
+        traces = ap length no_traces;
         fronts = λ p lt. ([], sym (append-nil (lent0 (front + p))));
         each = λ i s e is at. cc is;
+        traced = λ i s e t is at kept. cc is;
         placed = λ c lt. subst (LiesSo [] es c) (sym (empty c lt)) (λ q e at. cc (subst (λ (l : List Ending). slice_get l q ≡ Some e) none at));
         still = lent;
       }
 
-  module _ (all left : List (Named Blocks)) (s : Named Blocks) (having without : ℕ → List (Option (Pass Element))) (places new : List (Option (Box BlockOf Global))) (es : List Ending) (r : Blocks) (e : Ending) (t : Traced)
-      (split : all ≡ left ++ s ∷ []) (h : SoFar all having places es) (come : HasCome Stands limits_of size_of origin_of front count (length left) s having without r e t) (added : WasAdded r places new) where
+  module _ (all left : List (Named Blocks)) (s : Named Blocks) (having without : ℕ → List (Option (Pass Element))) (places new : List (Option (Box BlockOf Global))) (es : List Ending) (ts : List Traced) (r : Blocks) (e : Ending) (t : Traced)
+      (split : all ≡ left ++ s ∷ []) (h : SoFar all having places es ts) (come : HasCome Stands limits_of size_of origin_of front count (length left) s having without r e t) (added : WasAdded r places new) where
     lent_all : AreLent (MayEnd limits_of) front count (left ++ s ∷ []) having
     lent_all = subst (λ (l : List (Named Blocks)). AreLent (MayEnd limits_of) front count l having) split h.still
 
@@ -87,7 +79,7 @@ module _ (front count : ℕ) (ss : List (Named Blocks)) (lent0 : ℕ → List (O
           ended = come.ended;
           knows = λ p lt.
               let x = handed p lt in
-              let n : length left ≡ length (without (front + p)) = sym (as_long (λ s o. Holds (MayEnd limits_of p s) o) left (without (front + p)) (lent_less.others p lt)) in
+              let n : length left ≡ length (without (front + p)) = sym (at_length (λ s o. Holds (MayEnd limits_of p s) o) left (without (front + p)) (lent_less.others p lt)) in
               (x.0, ap (λ l. slice_get l (length left)) (tails p lt) ∙ get_end (without (front + p)) (h.fronts p lt).0 (Some x.0) (length left) n, each_at (Knows e.history) come.passes p x.0 come.knows x.1);
         }
 
@@ -102,6 +94,14 @@ module _ (front count : ℕ) (ss : List (Named Blocks)) (lent0 : ℕ → List (O
         let k : length all ≡ length (left ++ s ∷ []) = ap length split in
         let n : length all + i ≡ length left + suc i = omega (arith, m, k) in
         subst (λ (q : ℕ). EndsAs front count lent0 q u f) n (h.each i u f is at)
+
+    traced_now : (i : ℕ) (u : Named Blocks) (f : Ending) (w : Traced) → slice_get (s ∷ h.back) i ≡ Some u → slice_get (e ∷ es) i ≡ Some f → slice_get (t ∷ ts) i ≡ Some w → IsTraceOf u f w
+    traced_now zero u f w is at kept =
+        let a : s ≡ u = cc is in
+        let b : e ≡ f = cc at in
+        let d : t ≡ w = cc kept in
+        subst (λ (u : Named Blocks). IsTraceOf u f w) a (subst (λ (f : Ending). IsTraceOf s f w) b (subst (IsTraceOf s e) d come.trace))
+    traced_now (suc i) u f w is at kept = h.traced i u f w is at kept
 
     its_setting : e.setting ≡ setting_of limits_of s.given
     its_setting = come.its_setting
@@ -148,25 +148,29 @@ module _ (front count : ℕ) (ss : List (Named Blocks)) (lent0 : ℕ → List (O
         by None true is fits old = absurd fits
         by None false is fits old = later c (slice_get places c) (here_is false is) old
 
-    pub one_back : SoFar left without new (e ∷ es)
+    pub one_back : SoFar left without new (e ∷ es) (t ∷ ts)
     one_back =
         record {
           back = s ∷ h.back;
           is = h.is ∙ (ap (λ (l : List (Named Blocks)). l ++ h.back) split ∙ append_assoc left (s ∷ []) h.back);
           ends = ap suc h.ends;
+          traces = ap suc h.traces;
           fronts = λ p lt. (Some (handed p lt).0 ∷ (h.fronts p lt).0, tails p lt);
           each = each_now;
+          traced = traced_now;
           placed = placed_now;
           still = lent_less;
         }
 
   -- at the end all have
-  pub all_back : (left : List (Named Blocks)) (lent : ℕ → List (Option (Pass Element))) (places : List (Option (Box BlockOf Global))) (es : List Ending) → left ≡ [] → SoFar left lent places es → HasGathered front count ss lent0 places es
-  all_back left lent places es none h =
+  pub all_back : (left : List (Named Blocks)) (lent : ℕ → List (Option (Pass Element))) (places : List (Option (Box BlockOf Global))) (es : List Ending) (ts : List Traced) → left ≡ [] → SoFar left lent places es ts → HasGathered front count ss lent0 places es ts
+  all_back left lent places es ts none h =
       let same : ss ≡ h.back = h.is ∙ ap (λ (l : List (Named Blocks)). l ++ h.back) none in
-      subst (λ (l : List (Named Blocks)). HasGathered front count l lent0 places es) (sym same)
+      subst (λ (l : List (Named Blocks)). HasGathered front count l lent0 places es ts) (sym same)
       (record {
         ends = h.ends;
+        traces = h.traces;
         each = λ q s e is at. let n : length left + q ≡ q = (let z = ap length none in omega (arith, z)) in subst (λ (q : ℕ). EndsAs front count lent0 q s e) n (h.each q s e is at);
+        traced = h.traced;
         placed = h.placed;
       })

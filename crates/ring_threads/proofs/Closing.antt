@@ -1,5 +1,5 @@
 -- Closing its passes leaves what a job knows.
-use Rattle.std.proofs.Common.{◌≡◌, ℕ, ◌+◌, ◌%◌, ◌<◌, ◌==◌, zero, suc, if◌then◌else◌, Option, Some, None, List, [], ◌∷◌, ◌++◌, length, slice_get, refl, ap, sym, ◌∙◌, subst, arith}
+use Rattle.std.proofs.Common.{◌≡◌, ℕ, ◌+◌, ◌%◌, ◌<◌, zero, suc, if◌then◌else◌, Option, Some, None, List, [], ◌∷◌, ◌++◌, length, slice_get, refl, ap, sym, ◌∙◌, subst, arith}
 use Rattle.std.proofs.lemmas.Option.{slice_get_within}
 use Rattle.turn_gate.specs.History.{Each}
 use Rattle.turn_gate.specs.Passes.{IsPassOf, number, seen}
@@ -13,20 +13,20 @@ use Rattle.perimeter_core.proofs.OneMore.{due_push, run_push}
 use Rattle.squeue_state.specs.Naming.{Ending, Named, setting_of}
 use Rattle.squeue_state.specs.Elements.{closed_by, number_of}
 use Rattle.squeue_state.specs.Words.{Knows}
-use Rattle.conn_migrate.specs.Stays.{AreSameStays, IsLinked, Stay, Stays, as_list, begun, longer_by, note_of, stays}
+use Rattle.conn_migrate.specs.Stays.{AreSameStays, Stay, Stays, begun, longer_by, note_of, stays}
 use Rattle.conn_migrate.proofs.OneSqueue.{stays_push}
 use Rattle.squeue_serve.proofs.Lent.{some_at}
 use Rattle.squeue_serve.specs.Places.{AtEach, AtEachTwo, Became, HasClosed, Holds}
 use Rattle.squeue_rings.specs.Bringing.{AreAt}
 use Rattle.squeue_rings.specs.Calling.{CallerAt, CallersAt}
-use Rattle.squeue_rings.specs.Made.{made_in, once_on, times_made}
+use Rattle.squeue_rings.specs.Made.{made_in, times_made}
 use Rattle.squeue_rings.specs.Rings.{RingAt}
-use Rattle.squeue_rings.specs.Runs.{brought, place}
 use Rattle.squeue_rings.specs.Seen.{seen_ends, seen_in}
 use Rattle.squeue_rings.proofs.CallMarks.{made_more}
+use Rattle.squeue_rings.proofs.Reaching.{each_at}
 use Rattle.squeue_rings.proofs.Slots.{at_got, at_length}
 use Rattle.ring_threads.specs.Ends.{CallerEnds, CallersEnd, RingEnds, RingsEnd}
-use Rattle.ring_threads.proofs.AtTheEnd.{end_due, end_here, end_made, end_stays, linked_same, seen_count, seen_got}
+use Rattle.ring_threads.proofs.AtTheEnd.{end_due, end_here, end_made, end_stays, linked_same, noted_same, seen_count, seen_got}
 
 note_longer : (more had : List Act) (o : Option Stay) → note_of (longer_by more had o) ≡ note_of o
 note_longer more had None = refl
@@ -85,11 +85,6 @@ at_two {R = R} C (t ∷ ss) (o ∷ os) (m ∷ ns) zero s n h is at =
     (o, refl, subst (λ (s : Named R). C s o n) a (subst (C t o) b h.0))
 at_two C (t ∷ ss) (o ∷ os) (m ∷ ns) (suc q) s n h is at = at_two C ss os ns q s n h.1 is at
 
-each_at : {A : Type 0} (P : A → Type 0) (xs : List A) (k : ℕ) (x : A) → Each P xs → slice_get xs k ≡ Some x → P x
-each_at P [] k x h is = cc is
-each_at P (y ∷ xs) zero x h is = let same : y ≡ x = cc is in subst P same h.0
-each_at P (y ∷ xs) (suc k) x h is = each_at P xs k x h.1 is
-
 module _ {R : Type 0} (limits : R → Limits) (ss : List (Named R)) (ys xs : List (Option (Pass Element))) (closed : AtEachTwo (λ s o n. Became (HasClosed limits s) o n) ss ys xs) where
   -- a ring has closed its passes
   module _ (squeues spread r : ℕ) (list : List Feed) (at : AreAt limits squeues spread r ss list list ys) where
@@ -129,11 +124,15 @@ module _ {R : Type 0} (limits : R → Limits) (ss : List (Named R)) (ys xs : Lis
         by s (Some y) None h k ring = absurd k
         by s (Some y) (Some x) h k ring = closed_stays limits s y x h.pass k c (h.is_number ∙ ring)
 
+    as_many : length (seen_ends limits ss xs) ≡ length (seen_ends limits ss ys)
+    as_many = seen_count limits ss xs xs_count ∙ sym (seen_count limits ss ys ys_count)
+
     pub rings_end : RingsEnd limits squeues spread r list ss xs
     rings_end =
         record {
           each = ends;
-          linked = λ c own. linked_same (seen_ends limits ss ys) (seen_ends limits ss xs) c (seen_count limits ss xs xs_count ∙ sym (seen_count limits ss ys ys_count)) (kept c own) (at.linked c own);
+          linked = λ c own. linked_same (seen_ends limits ss ys) (seen_ends limits ss xs) c as_many (kept c own) (at.linked c own);
+          noted = λ c own. noted_same (seen_ends limits ss ys) (seen_ends limits ss xs) c as_many (kept c own) spread (at.noted c own);
         }
 
   -- an application thread has closed its passes

@@ -18,15 +18,17 @@ use Rattle.squeue_serve.specs.declared.jobs.Job.{Job}
 use Rattle.squeue_serve.specs.Lending.{AreLent, lent_to, tasks_in}
 use Rattle.squeue_serve.specs.Places.{AtEach, Holds, IsNew, MayEnd}
 use Rattle.squeue_serve.proofs.Lent.{lent_got, past_jobs, some_at}
-use Rattle.squeue_rings.specs.Bringing.{AreAt}
+use Rattle.squeue_enter.specs.declared.Mode.{Mode}
 use Rattle.squeue_rings.specs.Calling.{conns_called}
+use Rattle.squeue_rings.proofs.PacedAll.{closed_paced}
 use Rattle.squeue_rings.proofs.Slots.{got_map}
+use Rattle.ring_quotas.specs.declared.setup.Setup.{Setup}
 use Rattle.ring_quotas.proofs.Totals.{whole}
 use Rattle.ring_threads.specs.declared.lines.Line.{Line}
 use Rattle.ring_threads.specs.declared.task.Task.{Task}
 use Rattle.ring_threads.specs.declared.task.Task.TheVariants as Task'
 use Rattle.ring_threads.specs.Ends.{CallerEnds, CallersEnd, RingEnds, RingsEnd}
-use Rattle.ring_threads.specs.Running.{HasDone}
+use Rattle.ring_threads.specs.Running.{HasBroughtLine, HasDone, ThenClosed}
 use Rattle.ring_threads.specs.Settings.{AreSet, HasRun}
 use Rattle.ring_threads.specs.Tasks.{AreTasks, lists_of}
 use Rattle.ring_threads.proofs.Closes.{both}
@@ -47,10 +49,19 @@ each_two P Q (s ∷ ss) a b = ((a.0, b.0), each_two P Q ss a.1 b.1)
 abbrev HasEnd : Named Blocks → Pass Element → Type 0
 HasEnd s x = IsOver (setting_of limits_of s.given) (run (setting_of limits_of s.given) (seen x))
 
-module _ (p : PlanOf) (calls : CallLists) (squeues rings spread : ℕ) (ss : List (Named Blocks)) (set : AreSet p calls squeues rings spread ss) (lines : List Line) (jobs new : List (Job Task))
-    (tasks : AreTasks p squeues rings lines (tasks_in jobs)) (lent : AreLent IsNew 1 (rings + 4) ss (lent_to jobs)) (same : length new ≡ length jobs) where
+module _ (p : PlanOf) (calls : CallLists) (setup : Setup) (ss : List (Named Blocks)) (set : AreSet p calls setup.squeues setup.rings setup.spread ss) (lines : List Line) (jobs new : List (Job Task))
+    (tasks : AreTasks p setup.squeues setup.rings lines (tasks_in jobs)) (lent : AreLent IsNew 1 (setup.rings + 4) ss (lent_to jobs)) (same : length new ≡ length jobs) where
+  abbrev squeues : ℕ
+  squeues = setup.squeues
+
+  abbrev rings : ℕ
+  rings = setup.rings
+
+  abbrev spread : ℕ
+  spread = setup.spread
+
   abbrev Done : Task → List (Option (Pass Element)) → List (Option (Pass Element)) → Type 0
-  Done t old now = HasDone limits_of squeues spread calls lines ss t old now
+  Done t old now = HasDone limits_of squeues spread setup.mode setup.budget calls lines ss t old now
 
   abbrev pub AllDone : Type 0
   AllDone = (k : ℕ) (d : Job Task) → k < length jobs → Done (slice_index_or jobs k d).task (slice_index_or jobs k d).places.items (slice_index_or new k d).places.items
@@ -75,12 +86,14 @@ module _ (p : PlanOf) (calls : CallLists) (squeues rings spread : ℕ) (ss : Lis
     count : length jobs ≡ 1 + (rings + 4) + squeues
     count = how_many p calls squeues rings spread ss set lines jobs tasks lent
 
-    ring_done : (r : ℕ) → r < rings → RingsEnd limits_of squeues spread r (lists_of lines r) ss (lent_to new (1 + r))
-    ring_done r lt =
+    line_done : (r : ℕ) → r < rings → ThenClosed limits_of ss (HasBroughtLine limits_of squeues spread setup.mode setup.budget lines ss r) (lent_to new (1 + r))
+    line_done r lt =
         let t = ring_task p calls squeues rings spread ss set lines jobs tasks lent r lt in
         let n = count in
-        let h = done (1 + r) (Task'.Bring t.1) (omega (arith, lt, n)) t.3 in
-        rings_end limits_of ss h.0 (lent_to new (1 + r)) h.2 squeues spread r (lists_of lines r) (subst (λ (k : ℕ). AreAt limits_of squeues spread k ss (lists_of lines k) (lists_of lines k) h.0) t.4.number h.1)
+        subst (λ (k : ℕ). ThenClosed limits_of ss (HasBroughtLine limits_of squeues spread setup.mode setup.budget lines ss k) (lent_to new (1 + r))) t.4.number (done (1 + r) (Task'.Bring t.1) (omega (arith, lt, n)) t.3)
+
+    ring_done : (r : ℕ) → r < rings → RingsEnd limits_of squeues spread r (lists_of lines r) ss (lent_to new (1 + r))
+    ring_done r lt = let h = line_done r lt in rings_end limits_of ss h.0 (lent_to new (1 + r)) h.2 squeues spread r (lists_of lines r) h.1.at
 
     caller_done : (j : ℕ) → j < 4 → CallersEnd j (conns_called calls j) ss (lent_to new (1 + (rings + j)))
     caller_done j lt =
@@ -108,11 +121,12 @@ module _ (p : PlanOf) (calls : CallLists) (squeues rings spread : ℕ) (ss : Lis
           },
         )
 
-    pub has_run : IsPlan p → HasRun p calls squeues rings spread 1 (lists_of lines) ss (lent_to new)
+    pub has_run : IsPlan p → HasRun p calls setup 1 (lists_of lines) ss (lent_to new)
     has_run plan =
         record {
           set = set;
           rings_end = ring_done;
+          paced = λ r lt. let h = line_done r lt in closed_paced limits_of squeues spread setup.mode setup.budget r ss (lists_of lines r) (lists_of lines r) h.0 (lent_to new (1 + r)) h.1.at h.2 h.1.paced;
           brought_all = λ r c lt known ring.
               let t = ring_task p calls squeues rings spread ss set lines jobs tasks lent r lt in
               let line = tasks.lines_are.each r t.0 t.2 in
@@ -150,9 +164,9 @@ module _ (p : PlanOf) (calls : CallLists) (squeues rings spread : ℕ) (ss : Lis
             ss (lent_to new (1 + (rings + j))) (each_two (λ (s : Named Blocks). s.given.rings ≡ rings) (λ (s : Named Blocks). length s.given.quotas ≡ rings + 4) ss (rings_same p calls squeues rings spread ss set) lent.counts) (caller_done j lt).each
 
 -- the same at equal numbers
-pub at_pace : (calls : CallLists) (lines : List Line) (ss : List (Named Blocks)) (jobs new : List (Job Task)) (m n squeues spread : ℕ) → m ≡ squeues → n ≡ spread
-    → ((k : ℕ) (d : Job Task) → k < length jobs → HasDone limits_of m n calls lines ss (slice_index_or jobs k d).task (slice_index_or jobs k d).places.items (slice_index_or new k d).places.items)
-    → (k : ℕ) (d : Job Task) → k < length jobs → HasDone limits_of squeues spread calls lines ss (slice_index_or jobs k d).task (slice_index_or jobs k d).places.items (slice_index_or new k d).places.items
-at_pace calls lines ss jobs new m n squeues spread a b h k d lt =
-    let Of : ℕ → ℕ → Type 0 = λ m n. HasDone limits_of m n calls lines ss (slice_index_or jobs k d).task (slice_index_or jobs k d).places.items (slice_index_or new k d).places.items in
-    subst (λ (n : ℕ). Of squeues n) b (subst (λ (m : ℕ). Of m n) a (h k d lt))
+pub at_pace : (calls : CallLists) (lines : List Line) (ss : List (Named Blocks)) (jobs new : List (Job Task)) (m n : ℕ) (o : Mode) (k squeues spread : ℕ) (mode : Mode) (budget : ℕ) → m ≡ squeues → n ≡ spread → o ≡ mode → k ≡ budget
+    → ((i : ℕ) (d : Job Task) → i < length jobs → HasDone limits_of m n o k calls lines ss (slice_index_or jobs i d).task (slice_index_or jobs i d).places.items (slice_index_or new i d).places.items)
+    → (i : ℕ) (d : Job Task) → i < length jobs → HasDone limits_of squeues spread mode budget calls lines ss (slice_index_or jobs i d).task (slice_index_or jobs i d).places.items (slice_index_or new i d).places.items
+at_pace calls lines ss jobs new m n o k squeues spread mode budget a b u v h i d lt =
+    let Of : ℕ → ℕ → Mode → ℕ → Type 0 = λ m n o k. HasDone limits_of m n o k calls lines ss (slice_index_or jobs i d).task (slice_index_or jobs i d).places.items (slice_index_or new i d).places.items in
+    subst (Of squeues spread mode) v (subst (λ (o : Mode). Of squeues spread o k) u (subst (λ (n : ℕ). Of squeues n o k) b (subst (λ (m : ℕ). Of m n o k) a (h i d lt))))

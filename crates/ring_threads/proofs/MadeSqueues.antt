@@ -1,18 +1,17 @@
 -- What a squeue is that was made for a plan, and what its jobs are lent.
-use Rattle.std.proofs.Common.{◌≡◌, ◌≢◌, ℕ, ◌+◌, ◌%◌, ◌<◌, ◌≤◌, ◌==◌, ◌&&◌, zero, suc, Bool, true, false, if◌then◌else◌, Option, Some, None, Result, Ok, Err, IfOk, is_some, List, [], ◌∷◌, ◌++◌, All, length, length-append, map, slice_get, slice_index_or, refl, ap, sym, ◌∙◌, subst, arith, inl, inr}
-use Rattle.std.specs.Prelude.{nat_lt, vec_capacity}
+use Rattle.std.proofs.Common.{◌≡◌, ℕ, ◌+◌, ◌%◌, ◌<◌, ◌≤◌, ◌==◌, ◌&&◌, zero, suc, Bool, true, false, if◌then◌else◌, Option, Some, None, Result, Ok, Err, IfOk, is_some, List, [], ◌∷◌, ◌++◌, All, length, length-append, map, slice_get, slice_index_or, refl, ap, sym, ◌∙◌, subst, arith, inl, inr}
+use Rattle.std.specs.Prelude.{nat_lt}
 use Rattle.std.specs.List.{range_with_len}
 use Rattle.std.proofs.lemmas.Bool.{cases_eq}
 use Rattle.std.proofs.lemmas.Bool.Decides.{nat_tests}
-use Rattle.std.proofs.lemmas.Option.{slice_get_within}
 use Rattle.atomic_table.specs.Seated.{TableId}
 use Rattle.turn_gate.specs.History.{Each}
 use Rattle.turn_gate.specs.Passes.{AreFresh, IsPassOf, mine, number, seen}
 use Rattle.turn_gate.specs.declared.pass.Pass.{Pass}
 use Rattle.perimeter_core.specs.declared.entries.Act.{Act}
 use Rattle.perimeter_core.specs.Blocks.{Blocks as Had}
-use Rattle.perimeter_core.specs.History.{Element, Limits, Setting}
-use Rattle.squeue_state.specs.Naming.{Named, setting_of}
+use Rattle.perimeter_core.specs.History.{Element, Setting}
+use Rattle.squeue_state.specs.Naming.{Named}
 use Rattle.squeue_state.specs.Elements.{number_of}
 use Rattle.squeue_state.specs.Words.{IsMade, StandsEmpty}
 use Rattle.conn_classifier.specs.Plan.{PlanOf}
@@ -26,7 +25,7 @@ use Rattle.squeue_serve.specs.Lending.{AreHanded, AreLent, HaveRoom, holder, len
 use Rattle.squeue_serve.proofs.Coming.{each_got, holds_last, holds_other, more_lent}
 use Rattle.squeue_serve.proofs.Lent.{lent_none}
 use Rattle.squeue_rings.proofs.Slots.{at_length}
-use Rattle.ring_quotas.specs.Quotas.{quotas_of, setting_at}
+use Rattle.ring_quotas.specs.Quotas.{quotas_of}
 use Rattle.ring_threads.specs.Settings.{AreSet, IsSet}
 use Rattle.ring_threads.proofs.WholeRun.{map_at, map_count}
 
@@ -62,8 +61,8 @@ stands_empty n q squeues stands h = (first_here n q squeues, h, λ c had. by (na
     by true had e = let same : [] ≡ had = cc e in sym same
     by false had e = cc e
 
-module _ (p : PlanOf) (calls : CallLists) (squeues rings spread q : ℕ) (first : Blocks) (quotas : List (ℕ × ℕ)) (s : Named Blocks)
-    (made : IsMade Stands size_of q rings quotas false first s.given) (are : quotas ≡ quotas_of p calls squeues rings spread q)
+module _ (p : PlanOf) (calls : CallLists) (squeues rings spread q : ℕ) (first : Blocks) (quotas : List (ℕ × ℕ)) (traced : Bool) (s : Named Blocks)
+    (made : IsMade Stands size_of q rings quotas traced first s.given) (are : quotas ≡ quotas_of p calls squeues rings spread q)
     (stands : Stands first (first_here (length p.tuples) q squeues)) (size : size_of first ≡ length p.tuples) (limits : limits_of first ≡ limits_in p calls q squeues spread) (origin : origin_of first ≡ record { plan = p; calls = calls }) where
   starts_are : s.given.starts ≡ map (λ c. c % squeues == q) (range_with_len 0 (length p.tuples))
   starts_are =

@@ -15,7 +15,7 @@ use Rattle.conn_blocks.specs.CallLists.{CallLists}
 use Rattle.conn_blocks.specs.Places.{limits_of, origin_of}
 use Rattle.squeue_serve.specs.declared.jobs.Job.{Job}
 use Rattle.squeue_serve.specs.Lending.{AreLent, lent_to, tasks_in}
-use Rattle.squeue_serve.specs.Places.{Holds, IsNew}
+use Rattle.squeue_serve.specs.Places.{AtEach, Holds, IsNew}
 use Rattle.squeue_serve.proofs.Coming.{each_got}
 use Rattle.squeue_serve.proofs.Lent.{lent_got, some_at}
 use Rattle.squeue_rings.specs.Bringing.{AllBelow, AreAt, AreOneRun, MayBringAll}
@@ -95,6 +95,7 @@ module _ (p : PlanOf) (calls : CallLists) (squeues rings spread : ℕ) (ss : Lis
             task = subst (λ (k : ℕ). IsRingTask squeues k t.0 t.1) (sym t.4.number) t.4;
             may = subst (λ (k : ℕ). MayBringAll limits_of squeues spread k t.0.list.items ss) (sym t.4.number)
                 (record { order = order p plan rings r t.0.list.items line.list; may = all_may_bring limits_of p calls squeues rings spread r t.0.list.items ss plan lt line.list made_for });
+            new = subst (λ (k : ℕ). AtEach (λ s o. Holds (IsNew k s) o) ss places) (sym t.4.number) (lent.others r (omega (arith, lt)));
             at = subst (λ (k : ℕ). AreAt limits_of squeues spread k ss [] [] places) (sym t.4.number)
                 (none_brought limits_of squeues spread r ss places some set.count (λ q s at. (set.each q s at).number) start_home (lent.others r (omega (arith, lt))));
           }

@@ -1,12 +1,13 @@
 -- From what the passes knew at the end, and what came back of the squeues, to what was served.
-use Rattle.std.proofs.Common.{◌≡◌, ◌≢◌, ℕ, ◌+◌, ◌-◌, ◌/◌, ◌%◌, ◌<◌, ◌≤◌, ◌==◌, zero, suc, Bool, true, false, if◌then◌else◌, Option, Some, None, Result, Ok, Err, IfOk, List, [], ◌∷◌, ◌++◌, length, length-append, inl, inr, map, slice_get, slice_index_or, refl, ap, sym, ◌∙◌, subst, arith}
+use Rattle.std.proofs.Common.{◌≡◌, ◌≢◌, ℕ, ◌+◌, ◌-◌, ◌/◌, ◌%◌, ◌<◌, ◌≤◌, ◌==◌, zero, suc, Bool, true, false, if◌then◌else◌, Option, Some, None, Result, Ok, Err, IfOk, List, [], ◌∷◌, length, length-append, inl, inr, map, slice_get, slice_index_or, refl, ap, sym, ◌∙◌, subst, arith}
 use Rattle.std.specs.Prelude.{Box, IfSome, get_or}
-use Rattle.std.specs.Option.{option_map_or}
+use Rattle.std.specs.Option.{option_map, option_map_or}
 use Rattle.std.specs.List.{range_with_len}
 use Rattle.std.specs.declared.alloc.Global.{Global}
 use Rattle.std.proofs.lemmas.Bool.{cases_lt}
 use Rattle.std.proofs.lemmas.Bool.Decides.{nat_tests}
-use Rattle.std.proofs.lemmas.Option.{slice_get_within}
+use Rattle.std.proofs.lemmas.List.{length-map}
+use Rattle.std.proofs.lemmas.Option.{slice_get-map, slice_get_within}
 use Rattle.std.proofs.Math.Nat.{mod-lt}
 use Rattle.turn_gate.specs.History.{Each}
 use Rattle.turn_gate.specs.Passes.{number, seen}
@@ -14,40 +15,45 @@ use Rattle.turn_gate.specs.declared.pass.Pass.{Pass}
 use Rattle.perimeter_core.specs.declared.entries.Act.{Act}
 use Rattle.perimeter_core.specs.declared.entries.Feed.{Feed}
 use Rattle.perimeter_core.specs.Perimeter.{is_here}
-use Rattle.perimeter_core.specs.History.{Element, Limits, Setting, run, start, worker}
-use Rattle.perimeter_core.specs.Deeds.{acts, due, fed, feed_numbers}
+use Rattle.perimeter_core.specs.History.{Element, Setting, run, worker}
+use Rattle.perimeter_core.specs.Deeds.{acts, due, feed_numbers}
 use Rattle.perimeter_core.specs.Legal.{Legal}
 use Rattle.squeue_state.specs.Naming.{Ending, Named, setting_of}
 use Rattle.squeue_state.specs.Words.{Knows}
-use Rattle.conn_migrate.specs.Stays.{AreLegal, AreLinked, AreSameStays, IsLinked, StartsAtHome, stays}
+use Rattle.squeue_trace.specs.Told.{Traced, marks_of}
+use Rattle.conn_migrate.specs.Stays.{AreLinked, AreSameStays, stays}
 use Rattle.conn_classifier.specs.Plan.{PlanOf, items_in}
 use Rattle.conn_blocks.specs.declared.blocks.Blocks.{Blocks}
 use Rattle.conn_blocks.specs.CallLists.{CallLists, call_at, calls_of}
 use Rattle.conn_blocks.specs.Holding.{StandsFor}
 use Rattle.conn_blocks.specs.Homes.{home}
 use Rattle.conn_blocks.specs.Orders.{IsAll, IsWhole, settle}
-use Rattle.conn_blocks.specs.Places.{limits_of, origin_of}
+use Rattle.conn_blocks.specs.Places.{limits_of}
 use Rattle.conn_blocks.specs.ServeOrder.{BlockOf, OriginOf, serve, serving_of}
-use Rattle.squeue_serve.specs.Places.{AtEach, Holds}
+use Rattle.squeue_serve.specs.Places.{Holds}
 use Rattle.squeue_serve.proofs.Coming.{each_got}
 use Rattle.squeue_serve.proofs.Lent.{some_at}
-use Rattle.squeue_rings.specs.Calling.{conns_called}
-use Rattle.squeue_rings.specs.Made.{made_in, once_on, times_made}
+use Rattle.squeue_rings.specs.Keeping.{IsPaced, KeepsPace}
+use Rattle.squeue_rings.specs.Made.{made_in, times_made}
+use Rattle.squeue_rings.specs.Noted.{AreNoted}
 use Rattle.squeue_rings.specs.Runs.{brought, place}
 use Rattle.squeue_rings.specs.Seen.{seen_ends, seen_in}
 use Rattle.squeue_rings.proofs.CallMarks.{none_beyond as no_thread_beyond}
+use Rattle.squeue_rings.proofs.Reaching.{each_at}
 use Rattle.squeue_rings.proofs.Slots.{at_got, at_length}
+use Rattle.ring_quotas.specs.declared.setup.Setup.{Setup}
 use Rattle.ring_quotas.specs.Quotas.{quotas_of, setting_at}
-use Rattle.run_histories.specs.Counting.{made_in_all, times_called}
+use Rattle.run_histories.specs.Counting.{made_in_all}
 use Rattle.run_histories.proofs.AllActs.{are_all}
 use Rattle.run_histories.proofs.Called.{calls_of_all}
 use Rattle.run_histories.proofs.Ends.{all_fed, numbered}
-use Rattle.ring_threads.specs.Ends.{CallerEnds, CallersEnd, RingEnds, RingsEnd}
-use Rattle.ring_threads.specs.Gathering.{EndsAs, HasGathered, IsFrom, IsNowhere, LiesSo}
-use Rattle.ring_threads.specs.Served.{HasServed, IsHereOnce, ServedOf}
-use Rattle.ring_threads.specs.ServedBlocks.{AreServed, AreWhole, IsServing}
-use Rattle.ring_threads.specs.Settings.{AreSet, HasRun, IsSet}
-use Rattle.ring_threads.proofs.AtTheEnd.{end_due, end_here, end_made, end_stays, linked_same, seen_count, seen_got}
+use Rattle.ring_threads.specs.Ends.{CallerEnds, RingEnds}
+use Rattle.ring_threads.specs.Gathering.{EndsAs, HasGathered, IsFrom, LiesSo}
+use Rattle.ring_threads.specs.Fits.{IsHereOnce}
+use Rattle.ring_threads.specs.Served.{HasServed, ServedOf}
+use Rattle.ring_threads.specs.ServedBlocks.{IsServing}
+use Rattle.ring_threads.specs.Settings.{HasRun, IsSet}
+use Rattle.ring_threads.proofs.AtTheEnd.{end_due, end_here, end_made, end_paced, end_stays, linked_same, noted_same, seen_count, seen_got}
 
 home_below : (squeues spread c n : ℕ) → 1 ≤ squeues → home squeues spread c n < squeues
 home_below squeues spread c n some = by (spread == 0)
@@ -117,13 +123,22 @@ placed_at ss es c (Some (Some b)) q e lies at here = (b, refl, lies)
 pub quotas_count : (p : PlanOf) (calls : CallLists) (squeues rings spread q : ℕ) → length (quotas_of p calls squeues rings spread q) ≡ rings + 4
 quotas_count p calls squeues rings spread q = length-append _ _ ∙ ap (λ (m : ℕ). m + 4) (map_count _ 0 rings)
 
-module _ (p : PlanOf) (calls : CallLists) (squeues rings spread front : ℕ) (lists : ℕ → List Feed) (ss : List (Named Blocks)) (lent : ℕ → List (Option (Pass Element))) (places : List (Option (Box BlockOf Global))) (es : List Ending)
-    (some : 1 ≤ squeues) (rings_some : 1 ≤ rings) (ran : HasRun p calls squeues rings spread front lists ss lent)
-    (back : HasGathered front (rings + 4) ss lent places es) (sized : length places ≡ length p.tuples)
+module _ (p : PlanOf) (calls : CallLists) (setup : Setup) (front : ℕ) (lists : ℕ → List Feed) (ss : List (Named Blocks)) (lent : ℕ → List (Option (Pass Element))) (places : List (Option (Box BlockOf Global))) (es : List Ending) (ts : List Traced)
+    (some : 1 ≤ setup.squeues) (rings_some : 1 ≤ setup.rings) (ran : HasRun p calls setup front lists ss lent)
+    (back : HasGathered front (setup.rings + 4) ss lent places es ts) (sized : length places ≡ length p.tuples)
     (is_whole : (p : PlanOf) (calls : CallLists) (c : ℕ) (acts : List Act) → IsAll p calls c acts → IsWhole p calls c (settle calls c acts))
     (serves_settled : (p : PlanOf) (calls : CallLists) (c : ℕ) (came : List Act) (b : BlockOf) → StandsFor p calls c came b → b.short ≡ false → serving_of b ≡ serve p calls c (settle calls c came)) where
   abbrev n : ℕ
   n = length p.tuples
+
+  abbrev squeues : ℕ
+  squeues = setup.squeues
+
+  abbrev rings : ℕ
+  rings = setup.rings
+
+  abbrev spread : ℕ
+  spread = setup.spread
 
   -- a squeue and its end
   record At (q : ℕ) : Type 0 where
@@ -144,6 +159,9 @@ module _ (p : PlanOf) (calls : CallLists) (squeues rings spread front : ℕ) (li
   at_end q e at =
       let a = some_at ss q (omega (arith, slice_get_within es q e at, back.ends)) in
       (a.0, a.1, ran.set.each q a.0 a.1, back.each q a.0 e a.1 at)
+
+  legal_at : (q : ℕ) (e : Ending) (at : slice_get es q ≡ Some e) → Legal (setting_of limits_of (at_end q e at).0.given) e.history
+  legal_at q e at = let a = at_end q e at in subst (λ (S : Setting). Legal S e.history) a.3.its_setting a.3.ended.legal
 
   its_rings : (q : ℕ) (s : Named Blocks) → IsSet p calls squeues rings spread q s → s.given.rings ≡ rings
   its_rings q s set = ap (λ (S : Setting). S.rings) set.setting
@@ -275,6 +293,24 @@ module _ (p : PlanOf) (calls : CallLists) (squeues rings spread front : ℕ) (li
           ∙ sym (ap (λ o. option_map_or (λ x. if x.0 == c then 1 else 0) (slice_get o k) 0) (none_beyond calls j (omega (arith, le, threads))))
     ]
 
+  -- the ring of a connection has seen its stays
+  its_ring : (c : ℕ) (lt : c < n) → Each (λ (s : Named Blocks). (r c lt ≡ c % s.given.rings) × (c < length s.given.starts)) ss
+  its_ring c lt = each_got (λ (s : Named Blocks). (r c lt ≡ c % s.given.rings) × (c < length s.given.starts)) ss
+      (λ q s is. let set = ran.set.each q s is in (ap (λ (k : ℕ). c % k) (sym (its_rings q s set)), omega (arith, lt, its_conns q s set)))
+
+  its_places : (c : ℕ) (lt : c < n) → length (lent (front + r c lt)) ≡ length ss
+  its_places c lt = at_length (λ s o. Holds (RingEnds limits_of squeues spread (r c lt) (lists (r c lt)) s) o) ss (lent (front + r c lt)) (ran.rings_end (r c lt) (r_below c lt)).each
+
+  as_many_ends : (c : ℕ) (lt : c < n) → length es ≡ length (seen_ends limits_of ss (lent (front + r c lt)))
+  as_many_ends c lt = back.ends ∙ sym (seen_count limits_of ss (lent (front + r c lt)) (its_places c lt))
+
+  same_stays_at : (c : ℕ) (lt : c < n) (q : ℕ) (h g : Ending) → slice_get (seen_ends limits_of ss (lent (front + r c lt))) q ≡ Some h → slice_get es q ≡ Some g → AreSameStays (stays h.setting h.history c) (stays g.setting g.history c)
+  same_stays_at c lt q h g at there =
+      let a = at_end q g there in
+      let x = seer c lt q a.0 g a.1 there a.2 a.3 in
+      let same = seen_got limits_of ss (lent (front + r c lt)) q a.0 (Some x.0) h a.1 x.1 at in
+      subst (λ (h : Ending). AreSameStays (stays h.setting h.history c) (stays g.setting g.history c)) same (stays_same c lt q a.0 g a.1 there a.2 a.3)
+
   -- the connections went from stay to stay
   pub linked : AreLinked n es
   linked =
@@ -286,25 +322,14 @@ module _ (p : PlanOf) (calls : CallLists) (squeues rings spread front : ℕ) (li
             let total : length es ≡ squeues = back.ends ∙ ran.set.count in
             ap (λ (l : List Bool). slice_index_or l c false) starts
             ∙ (map_at (λ d. d % squeues == q) 0 n c false lt ∙ (let z : 0 + c ≡ c = omega arith in ap (λ (d : ℕ). d % squeues == q) z ∙ (same_test (c % squeues) q ∙ ap (λ (m : ℕ). q == c % m) (sym total))));
-        linked = λ c lt. linked_same (seen_ends limits_of ss (lent (front + r c lt))) es c (same_count c lt) (kept c lt) ((ran.rings_end (r c lt) (r_below c lt)).linked c (own c lt));
+        linked = λ c lt. linked_same (seen_ends limits_of ss (lent (front + r c lt))) es c (as_many_ends c lt) (same_stays_at c lt) ((ran.rings_end (r c lt) (r_below c lt)).linked c (its_ring c lt));
       }
-    where
-      own : (c : ℕ) (lt : c < n) → Each (λ (s : Named Blocks). (r c lt ≡ c % s.given.rings) × (c < length s.given.starts)) ss
-      own c lt = each_got (λ (s : Named Blocks). (r c lt ≡ c % s.given.rings) × (c < length s.given.starts)) ss
-          (λ q s is. let set = ran.set.each q s is in (ap (λ (k : ℕ). c % k) (sym (its_rings q s set)), omega (arith, lt, its_conns q s set)))
 
-      places_count : (c : ℕ) (lt : c < n) → length (lent (front + r c lt)) ≡ length ss
-      places_count c lt = at_length (λ s o. Holds (RingEnds limits_of squeues spread (r c lt) (lists (r c lt)) s) o) ss (lent (front + r c lt)) (ran.rings_end (r c lt) (r_below c lt)).each
-
-      same_count : (c : ℕ) (lt : c < n) → length es ≡ length (seen_ends limits_of ss (lent (front + r c lt)))
-      same_count c lt = back.ends ∙ sym (seen_count limits_of ss (lent (front + r c lt)) (places_count c lt))
-
-      kept : (c : ℕ) (lt : c < n) (q : ℕ) (h g : Ending) → slice_get (seen_ends limits_of ss (lent (front + r c lt))) q ≡ Some h → slice_get es q ≡ Some g → AreSameStays (stays h.setting h.history c) (stays g.setting g.history c)
-      kept c lt q h g at there =
-          let a = at_end q g there in
-          let x = seer c lt q a.0 g a.1 there a.2 a.3 in
-          let same = seen_got limits_of ss (lent (front + r c lt)) q a.0 (Some x.0) h a.1 x.1 at in
-          subst (λ (h : Ending). AreSameStays (stays h.setting h.history c) (stays g.setting g.history c)) same (stays_same c lt q a.0 g a.1 there a.2 a.3)
+  -- each with the feeds that were due
+  pub noted : (c : ℕ) → c < n → AreNoted spread es c
+  noted c lt =
+      noted_same (seen_ends limits_of ss (lent (front + r c lt))) es c (as_many_ends c lt) (same_stays_at c lt) spread
+      ((ran.rings_end (r c lt) (r_below c lt)).noted c (its_ring c lt))
 
   -- each block has its acts, and they are all that there are
   module _ (c : ℕ) (lt : c < n) where
@@ -332,30 +357,66 @@ module _ (p : PlanOf) (calls : CallLists) (squeues rings spread front : ℕ) (li
   pub filled : (c : ℕ) → c < length places → (b : Box BlockOf Global) × (slice_get places c ≡ Some (Some b))
   filled c lt = let l = lies c (omega (arith, lt, sized)) in (l.0, l.1)
 
-  module _ (bs : List BlockOf) (count : length bs ≡ length places) (each : (c : ℕ) (b : Box BlockOf Global) → slice_get places c ≡ Some (Some b) → (slice_get bs c ≡ Some b.value) × (b.value.short ≡ false)) where
-    got : (c : ℕ) (lt : c < n) → (slice_get bs c ≡ Some (b c lt)) × ((b c lt).short ≡ false)
-    got c lt = each c (lies c lt).0 (lies c lt).1
+  -- each ring kept the homes, the mode and the budget
+  keeps : (q : ℕ) (e : Ending) → slice_get es q ≡ Some e → (r : ℕ) → r < rings → KeepsPace squeues spread setup.mode setup.budget q e.setting r e.history
+  keeps q e at r lt =
+      let a = at_end q e at in
+      let x = a.3.knows r (omega (arith, lt)) in
+      let known = at_got (λ s o. Holds (RingEnds limits_of squeues spread r (lists r) s) o) ss (lent (front + r)) q a.0 (Some x.0) (ran.rings_end r lt).each a.1 x.1 in
+      let paced = at_got (λ s o. Holds (λ x. IsPaced squeues spread setup.mode setup.budget s.given.number (setting_of limits_of s.given) r (seen x)) o) ss (lent (front + r)) q a.0 (Some x.0) (ran.paced r lt) a.1 x.1 in
+      subst (λ (k : ℕ). KeepsPace squeues spread setup.mode setup.budget k e.setting r e.history) a.2.number
+      (subst (λ (S : Setting). KeepsPace squeues spread setup.mode setup.budget a.0.given.number S r e.history) (sym a.3.its_setting)
+      (end_paced limits_of a.0 x.0 e.history known.pass (legal_at q e at) x.2 squeues spread setup.mode setup.budget a.0.given.number r known.is_number paced.keeps))
 
-    pub served : HasServed p calls squeues rings spread (record { blocks = bs; ended = es })
-    served =
-        record {
-          count = back.ends ∙ ran.set.count;
-          ended = λ q e at. let a = at_end q e at in (a.3.its_number ∙ a.2.number, a.3.its_setting ∙ a.2.setting, a.3.ended);
-          linked = linked;
-          settled = λ c d at.
-              let lt : c < n = omega (arith, slice_get_within bs c d at, count, sized) in
-              let same : b c lt ≡ d = (let i : Some (b c lt) ≡ Some d = sym (got c lt).0 ∙ at in cc i) in
-              (done c lt, once c lt (from c lt), ap (λ (d : BlockOf). d.order) (sym same) ∙ is_order c lt);
-          served =
-              record {
-                count = count ∙ sized;
-                each = λ c lt. subst (λ (o : Option BlockOf). IfSome o (IsServing p calls c)) (sym (got c lt).0) (is_serving c lt (got c lt).1);
-              };
-          whole = λ c lt. subst (λ (o : Option BlockOf). IfSome o (λ (d : BlockOf). IsWhole p calls c d.order)) (sym (got c lt).0) (order_whole c lt);
-        }
+  module _ (traced : Each (λ (s : Named Blocks). s.given.traced ≡ setup.trace) ss) where
+    -- each trace has the marks of its squeue's history, or nothing
+    its_trace : (q : ℕ) (e : Ending) → slice_get es q ≡ Some e → IfSome (slice_get ts q) (λ t. marks_of t ≡ (if setup.trace then map (λ m. m.mark) e.history else []))
+    its_trace q e at =
+        let a = at_end q e at in
+        let t = some_at ts q (omega (arith, slice_get_within es q e at, back.ends, back.traces)) in
+        let kept : a.0.given.traced ≡ setup.trace = each_at (λ (s : Named Blocks). s.given.traced ≡ setup.trace) ss q a.0 traced a.1 in
+        subst (λ (o : Option Traced). IfSome o (λ t. marks_of t ≡ (if setup.trace then map (λ m. m.mark) e.history else []))) (sym t.1)
+        (subst (λ (b : Bool). marks_of t.0 ≡ (if b then map (λ m. m.mark) e.history else [])) kept (back.traced q a.0 e t.0 a.1 at t.1))
 
-  -- the same of what is handed out, if anything is
-  pub all_served : {E : Type 0} (r : Result ServedOf E) → IfOk r (λ v. v.ended ≡ es) → IfOk r (λ v. length v.blocks ≡ length places)
-      → IfOk r (λ v. (c : ℕ) (b : Box BlockOf Global) → slice_get places c ≡ Some (Some b) → (slice_get v.blocks c ≡ Some b.value) × (b.value.short ≡ false)) → IfOk r (HasServed p calls squeues rings spread)
-  all_served (Ok v) ends count each = subst (λ (l : List Ending). HasServed p calls squeues rings spread (record { blocks = v.blocks; ended = l })) (sym ends) (served v.blocks count each)
-  all_served (Err e) ends count each = ends
+    module _ (bs : List BlockOf) (count : length bs ≡ length places) (each : (c : ℕ) (b : Box BlockOf Global) → slice_get places c ≡ Some (Some b) → (slice_get bs c ≡ Some b.value) × (b.value.short ≡ false)) where
+      got : (c : ℕ) (lt : c < n) → (slice_get bs c ≡ Some (b c lt)) × ((b c lt).short ≡ false)
+      got c lt = each c (lies c lt).0 (lies c lt).1
+
+      abbrev orders : List (List Act)
+      orders = map (λ (d : BlockOf). d.order) bs
+
+      -- the order of a connection
+      order_at : (c : ℕ) (order : List Act) → slice_get orders c ≡ Some order → (lt : c < n) × ((b c lt).order ≡ order)
+      order_at c order at =
+          let lt : c < n = omega (arith, slice_get_within orders c order at, length-map bs (λ (d : BlockOf). d.order), count, sized) in
+          let same : Some (b c lt).order ≡ Some order = sym (slice_get-map (λ (d : BlockOf). d.order) bs c ∙ ap (option_map (λ (d : BlockOf). d.order)) (got c lt).0) ∙ at in
+          (lt, cc same)
+
+      pub served : HasServed p calls setup (record { blocks = bs; ended = es; traces = ts })
+      served =
+          record {
+            fits =
+                record {
+                  count = back.ends ∙ ran.set.count;
+                  each = λ q e at. let a = at_end q e at in record { number = a.3.its_number ∙ a.2.number; setting = a.3.its_setting ∙ a.2.setting; ended = a.3.ended; keeps = keeps q e at };
+                  linked = linked;
+                  noted = noted;
+                  settled = λ c order at. let o = order_at c order at in (done c o.0, once c o.0 (from c o.0), sym o.1 ∙ is_order c o.0);
+                  whole = λ c order at. let o = order_at c order at in subst (IsWhole p calls c) o.1 (order_whole c o.0);
+                };
+            served =
+                record {
+                  count = count ∙ sized;
+                  each = λ c lt. subst (λ (o : Option BlockOf). IfSome o (IsServing p calls c)) (sym (got c lt).0) (is_serving c lt (got c lt).1);
+                };
+            traces = back.traces ∙ sym back.ends;
+            traced = its_trace;
+          }
+
+    -- the same of what is handed out, if anything is
+    pub all_served : {E : Type 0} (r : Result ServedOf E) → IfOk r (λ v. v.ended ≡ es) → IfOk r (λ v. v.traces ≡ ts) → IfOk r (λ v. length v.blocks ≡ length places)
+        → IfOk r (λ v. (c : ℕ) (b : Box BlockOf Global) → slice_get places c ≡ Some (Some b) → (slice_get v.blocks c ≡ Some b.value) × (b.value.short ≡ false)) → IfOk r (HasServed p calls setup)
+    all_served (Ok v) ends traces count each =
+        subst (λ (l : List Ending). HasServed p calls setup (record { blocks = v.blocks; ended = l; traces = v.traces })) (sym ends)
+        (subst (λ (l : List Traced). HasServed p calls setup (record { blocks = v.blocks; ended = es; traces = l })) (sym traces) (served v.blocks count each))
+    all_served (Err e) ends traces count each = ends

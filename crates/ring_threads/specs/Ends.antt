@@ -11,6 +11,7 @@ use Rattle.squeue_state.specs.Naming.{Named, setting_of}
 use Rattle.squeue_state.specs.Elements.{number_of}
 use Rattle.conn_migrate.specs.Stays.{IsLinked}
 use Rattle.squeue_serve.specs.Places.{AtEach, Holds}
+use Rattle.squeue_rings.specs.Noted.{AreNoted}
 use Rattle.squeue_rings.specs.Runs.{brought, place}
 use Rattle.squeue_rings.specs.Seen.{seen_ends}
 use Rattle.squeue_rings.specs.Made.{made_in, once_on}
@@ -24,10 +25,11 @@ module _ {R : Type 0} (limits : R → Limits) where
     pub here : (c : ℕ) → r ≡ c % s.given.rings → c < length s.given.starts → is_here (run (setting_of limits s.given) (seen x)) c ≡ (place squeues spread c list == s.given.number)
     pub next : (c : ℕ) → r ≡ c % s.given.rings → c < length s.given.starts → place squeues spread c list ≡ s.given.number → due (seen x) c ≡ brought c list
 
-  -- its passes of all squeues do, and its connections went from stay to stay
+  -- its passes of all squeues do, and its connections went from stay to stay, each with the feeds that were due
   pub record RingsEnd (squeues spread r : ℕ) (list : List Feed) (ss : List (Named R)) (places : List (Option (Pass Element))) : Type 0 where
     pub each : AtEach (λ s o. Holds (RingEnds squeues spread r list s) o) ss places
     pub linked : (c : ℕ) → Each (λ (s : Named R). (r ≡ c % s.given.rings) × (c < length s.given.starts)) ss → IsLinked (seen_ends limits ss places) c
+    pub noted : (c : ℕ) → Each (λ (s : Named R). (r ≡ c % s.given.rings) × (c < length s.given.starts)) ss → AreNoted spread (seen_ends limits ss places) c
 
 -- the pass is that of application thread j
 pub record CallerEnds {R : Type 0} (j : ℕ) (s : Named R) (x : Pass Element) : Type 0 where

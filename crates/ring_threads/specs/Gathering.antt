@@ -1,5 +1,5 @@
 -- What squeues leave that have ended.
-use Rattle.std.specs.Prelude.{◌≡◌, ℕ, ◌+◌, ◌<◌, true, false, Box, Option, Some, None, List, length, slice_get}
+use Rattle.std.specs.Prelude.{◌≡◌, ℕ, ◌+◌, ◌<◌, true, false, if◌then◌else◌, Box, Option, Some, None, List, [], length, map, slice_get}
 use Rattle.std.specs.declared.alloc.Global.{Global}
 use Rattle.turn_gate.specs.declared.pass.Pass.{Pass}
 use Rattle.perimeter_core.specs.Perimeter.{is_here}
@@ -9,10 +9,11 @@ use Rattle.perimeter_core.specs.Blocks.{Blocks as Had}
 use Rattle.conn_blocks.specs.declared.blocks.Blocks.{Blocks}
 use Rattle.conn_blocks.specs.ServeOrder.{BlockOf}
 use Rattle.conn_blocks.specs.Holding.{StandsFor}
-use Rattle.conn_blocks.specs.Places.{PlaceFits, PlacesStand, Stands, limits_of, origin_of}
+use Rattle.conn_blocks.specs.Places.{PlacesStand, Stands, limits_of, origin_of}
 use Rattle.squeue_state.specs.Naming.{Ending, Named, setting_of}
 use Rattle.squeue_state.specs.Endings.{HasEnded}
 use Rattle.squeue_state.specs.Words.{Knows}
+use Rattle.squeue_trace.specs.Told.{Traced, marks_of}
 
 -- nothing lies at any of these places
 abbrev pub AreEmpty : List (Option (Box BlockOf Global)) → Type 0
@@ -36,6 +37,10 @@ pub record EndsAs (front count : ℕ) (lent : ℕ → List (Option (Pass Element
   pub ended : HasEnded e
   pub knows : (p : ℕ) → p < count → (x : Pass Element) × (slice_get (lent (front + p)) q ≡ Some (Some x)) × Knows e.history x
 
+-- the trace holds the marks of the squeue's history where it was to keep them, else nothing
+abbrev pub IsTraceOf : Named Blocks → Ending → Traced → Type 0
+IsTraceOf s e t = marks_of t ≡ (if s.given.traced then map (λ m. m.mark) e.history else [])
+
 module _ (ss : List (Named Blocks)) (es : List Ending) (c : ℕ) where
   -- connection c is here after none of these histories
   abbrev pub IsNowhere : Type 0
@@ -57,8 +62,10 @@ module _ (ss : List (Named Blocks)) (es : List Ending) (c : ℕ) where
   LiesSo (Some None) = IsNowhere
   LiesSo (Some (Some b)) = IsFrom b.value
 
--- All these squeues ended, and the blocks that they left lie at their places
-pub record HasGathered (front count : ℕ) (ss : List (Named Blocks)) (lent : ℕ → List (Option (Pass Element))) (places : List (Option (Box BlockOf Global))) (es : List Ending) : Type 0 where
+-- All these squeues ended and left their traces, and the blocks that they left lie at their places
+pub record HasGathered (front count : ℕ) (ss : List (Named Blocks)) (lent : ℕ → List (Option (Pass Element))) (places : List (Option (Box BlockOf Global))) (es : List Ending) (ts : List Traced) : Type 0 where
   pub ends : length es ≡ length ss
+  pub traces : length ts ≡ length ss
   pub each : (q : ℕ) (s : Named Blocks) (e : Ending) → slice_get ss q ≡ Some s → slice_get es q ≡ Some e → EndsAs front count lent q s e
+  pub traced : (q : ℕ) (s : Named Blocks) (e : Ending) (t : Traced) → slice_get ss q ≡ Some s → slice_get es q ≡ Some e → slice_get ts q ≡ Some t → IsTraceOf s e t
   pub placed : (c : ℕ) → c < length places → LiesSo ss es c (slice_get places c)

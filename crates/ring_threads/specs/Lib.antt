@@ -1,3 +1,4 @@
+pub mod Fits
 pub mod Served
 pub mod ServedBlocks
 pub mod Gathering

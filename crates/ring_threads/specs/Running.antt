@@ -4,10 +4,12 @@ use Rattle.turn_gate.specs.History.{Each}
 use Rattle.turn_gate.specs.declared.pass.Pass.{Pass}
 use Rattle.perimeter_core.specs.History.{Element, Limits}
 use Rattle.squeue_state.specs.Naming.{Named}
-use Rattle.squeue_serve.specs.Places.{AtEachTwo, Became, HasClosed, HasWorked, MayWork}
+use Rattle.squeue_serve.specs.Places.{AtEach, AtEachTwo, Became, HasClosed, HasWorked, Holds, IsNew, MayWork}
 use Rattle.conn_blocks.specs.CallLists.{CallLists}
+use Rattle.squeue_enter.specs.declared.Mode.{Mode}
 use Rattle.squeue_rings.specs.Bringing.{AreAt, MayBringAll}
 use Rattle.squeue_rings.specs.Calling.{CallersAt, MayMakeEach, conns_called}
+use Rattle.squeue_rings.specs.Keeping.{ArePaced}
 use Rattle.ring_threads.specs.declared.lines.Line.{Line}
 use Rattle.ring_threads.specs.declared.task.RingTask.{RingTask}
 use Rattle.ring_threads.specs.declared.task.Task.{Task}
@@ -22,7 +24,14 @@ module _ {R : Type 0} (limits : R → Limits) (squeues spread : ℕ) (lines : Li
     pub ring : HasRing line
     pub task : IsRingTask squeues t.number line t
     pub may : MayBringAll limits squeues spread t.number line.list.items ss
+    pub new : AtEach (λ s o. Holds (IsNew t.number s) o) ss places
     pub at : AreAt limits squeues spread t.number ss [] [] places
+
+module _ {R : Type 0} (limits : R → Limits) (squeues spread : ℕ) (mode : Mode) (budget : ℕ) (lines : List Line) (ss : List (Named R)) where
+  -- a ring has brought all feeds of its line, and by its marks kept the homes, the mode and the budget
+  pub record HasBroughtLine (r : ℕ) (places : List (Option (Pass Element))) : Type 0 where
+    pub at : AreAt limits squeues spread r ss (lists_of lines r) (lists_of lines r) places
+    pub paced : ArePaced limits squeues spread mode budget r ss places
 
 module _ {R : Type 0} (limits : R → Limits) (calls : CallLists) (ss : List (Named R)) where
   -- An application thread is to make its calls, of which none has been made: the quotas suffice for them
@@ -45,10 +54,11 @@ module _ {R : Type 0} (limits : R → Limits) (squeues spread : ℕ) (calls : Ca
   MayDo (Task'.Call j) places = MayCallAll limits calls ss j places
   MayDo (Task'.Work q) places = (s : Named R) × (x : Pass Element) × (slice_get ss q ≡ Some s) × (places ≡ Some x ∷ []) × MayWork limits s x
 
-  -- what it has done by them: a ring has brought all feeds of its line, an application thread has made all its calls, a worker has
+module _ {R : Type 0} (limits : R → Limits) (squeues spread : ℕ) (mode : Mode) (budget : ℕ) (calls : CallLists) (lines : List Line) (ss : List (Named R)) where
+  -- what a task has done by its places: a ring has brought all feeds of its line, an application thread has made all its calls, a worker has
   -- seen the end
   abbrev pub HasDone : Task → List (Option (Pass Element)) → List (Option (Pass Element)) → Type 0
   HasDone (Task'.Feed ends) old new = new ≡ old
-  HasDone (Task'.Bring t) old new = ThenClosed limits ss (AreAt limits squeues spread t.number ss (lists_of lines t.number) (lists_of lines t.number)) new
+  HasDone (Task'.Bring t) old new = ThenClosed limits ss (HasBroughtLine limits squeues spread mode budget lines ss t.number) new
   HasDone (Task'.Call j) old new = ThenClosed limits ss (CallersAt limits j (conns_called calls j) ss) new
   HasDone (Task'.Work q) old new = (s : Named R) × (x : Pass Element) × (y : Pass Element) × (slice_get ss q ≡ Some s) × (old ≡ Some x ∷ []) × (new ≡ Some y ∷ []) × HasWorked limits s x y

@@ -9,7 +9,9 @@ use Rattle.conn_blocks.specs.declared.blocks.Blocks.{Blocks}
 use Rattle.conn_blocks.specs.CallLists.{CallLists}
 use Rattle.conn_blocks.specs.Places.{limits_of, origin_of}
 use Rattle.squeue_rings.specs.Calling.{conns_called}
+use Rattle.squeue_rings.specs.Keeping.{ArePaced}
 use Rattle.squeue_rings.specs.Runs.{brought}
+use Rattle.ring_quotas.specs.declared.setup.Setup.{Setup}
 use Rattle.ring_quotas.specs.Quotas.{setting_at}
 use Rattle.ring_threads.specs.Ends.{CallersEnd, RingsEnd}
 
@@ -25,10 +27,11 @@ module _ (p : PlanOf) (calls : CallLists) (squeues rings spread : ℕ) where
     pub count : length ss ≡ squeues
     pub each : (q : ℕ) (s : Named Blocks) → slice_get ss q ≡ Some s → IsSet q s
 
-  -- By the passes that are lent from number `front` on, each ring has brought its list, which has all feeds of its connections, and
-  -- each application thread has made its calls
-  pub record HasRun (front : ℕ) (lists : ℕ → List Feed) (ss : List (Named Blocks)) (lent : ℕ → List (Option (Pass Element))) : Type 0 where
-    pub set : AreSet ss
-    pub rings_end : (r : ℕ) → r < rings → RingsEnd limits_of squeues spread r (lists r) ss (lent (front + r))
-    pub brought_all : (r c : ℕ) → r < rings → c < length p.tuples → r ≡ c % rings → brought c (lists r) ≡ length (items_in p c)
-    pub callers_end : (j : ℕ) → j < 4 → CallersEnd j (conns_called calls j) ss (lent (front + (rings + j)))
+-- By the passes that are lent from number `front` on, each ring has brought its list, which has all feeds of its connections, as the
+-- setup has it, and each application thread has made its calls
+pub record HasRun (p : PlanOf) (calls : CallLists) (setup : Setup) (front : ℕ) (lists : ℕ → List Feed) (ss : List (Named Blocks)) (lent : ℕ → List (Option (Pass Element))) : Type 0 where
+  pub set : AreSet p calls setup.squeues setup.rings setup.spread ss
+  pub rings_end : (r : ℕ) → r < setup.rings → RingsEnd limits_of setup.squeues setup.spread r (lists r) ss (lent (front + r))
+  pub paced : (r : ℕ) → r < setup.rings → ArePaced limits_of setup.squeues setup.spread setup.mode setup.budget r ss (lent (front + r))
+  pub brought_all : (r c : ℕ) → r < setup.rings → c < length p.tuples → r ≡ c % setup.rings → brought c (lists r) ≡ length (items_in p c)
+  pub callers_end : (j : ℕ) → j < 4 → CallersEnd j (conns_called calls j) ss (lent (front + (setup.rings + j)))

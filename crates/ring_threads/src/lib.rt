@@ -15,7 +15,7 @@ mod served;
 mod serving;
 mod task;
 
-pub use ring_quotas::Setup;
+pub use ring_quotas::{Setup, marks_most};
 pub use served::Served;
 pub use serving::serve;
 

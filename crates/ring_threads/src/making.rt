@@ -44,6 +44,7 @@ pub fn make_all<'p, T>(
     requires room { (setup.now.squeues ≤ vec_capacity squeues.old.all) × (setup.now.squeues ≤ vec_capacity squeues.old.rooms) }
     ensures set { IfOk result (λ _. AreSet plan.now calls.now setup.now.squeues setup.now.rings setup.now.spread squeues.new.all.items) }
     ensures sizes { Each (λ s. length s.given.starts ≡ length plan.now.tuples) squeues.new.all.items }
+    ensures traced { Each (λ s. s.given.traced ≡ setup.now.trace) squeues.new.all.items }
     ensures few { length squeues.new.all.items ≤ setup.now.squeues }
     ensures lent { AreLent IsNew 1 (setup.now.rings + 4) squeues.new.all.items (lent_to jobs.new.items) }
     ensures rooms { (length squeues.new.rooms.items ≡ length squeues.new.all.items) × All (IsRoomFor (setup.now.rings + 4 + 1)) squeues.new.rooms.items }
@@ -68,9 +69,10 @@ fn make_one<'p>(
     requires squeue { q < setup.now.squeues }
     requires calls { All (λ call. call.0 < length plan.now.tuples) (all_calls calls.now) }
     ensures set { IfOk result (λ r. IsSet plan.now calls.now setup.now.squeues setup.now.rings setup.now.spread q r.0) }
+    ensures traced { IfOk result (λ r. r.0.given.traced ≡ setup.now.trace) }
     ensures passes { IfOk result (λ r. (length r.1.items ≡ setup.now.rings + 4 + 1) × AreFresh number_of r.0.gate 0 r.1.items) }
 {
     let quotas = quotas_at(alloc, plan, calls, setup, q)?;
     let blocks = Blocks::make(alloc, plan, calls, q, setup.squeues, setup.spread)?;
-    Squeue::make(alloc, q, blocks, setup.rings, &quotas, false)
+    Squeue::make(alloc, q, blocks, setup.rings, &quotas, setup.trace)
 }

@@ -8,12 +8,13 @@ ghost use Rattle.squeue_serve.specs.Lending.{AreLent, lent_to, tasks_in};
 ghost use Rattle.squeue_serve.specs.Places.{IsNew, MayEnd};
 ghost use Rattle.squeue_rings.specs.Bringing.{AllBelow, AreAt, AreOneRun};
 ghost use Rattle.squeue_rings.specs.Calling.{CallersAt, conns_called};
+ghost use Rattle.squeue_rings.specs.Keeping.{ArePaced};
 ghost use Rattle.ring_quotas.specs.Quotas.{IsInRange};
 ghost use Rattle.ring_threads.specs.declared.lines.Line.{Line as LineOf};
 ghost use Rattle.ring_threads.specs.declared.task.Task.{Task as TaskOf};
 ghost use Rattle.ring_threads.specs.Settings.{AreSet, HasRun};
 ghost use Rattle.ring_threads.specs.Tasks.{AreTasks, HasRing, lists_of};
-ghost use Rattle.ring_threads.specs.Running.{HasDone, MayBringLine, MayCallAll, MayDo, ThenClosed};
+ghost use Rattle.ring_threads.specs.Running.{HasBroughtLine, HasDone, MayBringLine, MayCallAll, MayDo, ThenClosed};
 
 use crate::feeding::feed_all;
 use crate::lines::Line;
@@ -49,7 +50,7 @@ pub fn run<H: Hook + Sync, W: Threads + Wait + Sync>(
     requires set { AreSet plan.now calls.now setup.now.squeues setup.now.rings setup.now.spread squeues.now }
     requires tasks { AreTasks plan.now setup.now.squeues setup.now.rings lines.now (tasks_in jobs.old) }
     requires lent { AreLent IsNew 1 (setup.now.rings + 4) squeues.now (lent_to jobs.old) }
-    ensures ran { HasRun plan.now calls.now setup.now.squeues setup.now.rings setup.now.spread 1 (lists_of lines.now) squeues.now (lent_to jobs.new) }
+    ensures ran { HasRun plan.now calls.now setup.now 1 (lists_of lines.now) squeues.now (lent_to jobs.new) }
     ensures lent { AreLent (MayEnd limits_of) 1 (setup.now.rings + 4) squeues.now (lent_to jobs.new) }
     ensures count { length jobs.new ≡ length jobs.old }
 {
@@ -63,6 +64,8 @@ fn pace_of(setup: &Setup) -> Pace
     requires { IsInRange setup.now }
     ensures squeues { result.homes.squeues ≡ setup.now.squeues }
     ensures spread { result.homes.spread ≡ setup.now.spread }
+    ensures mode { result.mode ≡ setup.now.mode }
+    ensures budget { result.budget ≡ setup.now.budget }
 {
     Pace {
         homes: setup.homes(),
@@ -88,7 +91,7 @@ fn run_all<H: Hook + Sync, W: Threads + Wait + Sync>(
     requires hints { AllBelow (conns_of hints.now) squeues.now × (squeues_of hints.now ≡ pace.homes.squeues) }
     requires lines { (r : ℕ) (l : LineOf) → slice_get lines.now r ≡ Some l → HasRing l }
     requires ready { All (λ j. MayDo limits_of pace.homes.squeues pace.homes.spread calls.now lines.now squeues.now j.task j.places.items) jobs.old }
-    ensures { (k : ℕ) (d : JobOf TaskOf) → k < length jobs.old → HasDone limits_of pace.homes.squeues pace.homes.spread calls.now lines.now squeues.now (slice_index_or jobs.old k d).task (slice_index_or jobs.old k d).places.items (slice_index_or jobs.new k d).places.items }
+    ensures { (k : ℕ) (d : JobOf TaskOf) → k < length jobs.old → HasDone limits_of pace.homes.squeues pace.homes.spread pace.mode pace.budget calls.now lines.now squeues.now (slice_index_or jobs.old k d).task (slice_index_or jobs.old k d).places.items (slice_index_or jobs.new k d).places.items }
 {
     if jobs.is_empty() {
         return;
@@ -120,7 +123,7 @@ fn run_job<R: Resident, H: Hook, W: Wait>(
     requires hints { AllBelow (conns_of hints.now) squeues.now × (squeues_of hints.now ≡ pace.homes.squeues) }
     requires lines { (r : ℕ) (l : LineOf) → slice_get lines.now r ≡ Some l → HasRing l }
     requires ready { MayDo R.limits pace.homes.squeues pace.homes.spread calls.now lines.now squeues.now job.old.task job.old.places.items }
-    ensures { HasDone R.limits pace.homes.squeues pace.homes.spread calls.now lines.now squeues.now job.old.task job.old.places.items job.new.places.items }
+    ensures { HasDone R.limits pace.homes.squeues pace.homes.spread pace.mode pace.budget calls.now lines.now squeues.now job.old.task job.old.places.items job.new.places.items }
 {
     let places = &mut job.places;
     match &mut job.task {
@@ -146,7 +149,7 @@ fn bring<R: Resident, H: Hook, W: Wait>(
     requires run { AreOneRun R.origin pace.homes.squeues squeues.now }
     requires hints { AllBelow (conns_of hints.now) squeues.now × (squeues_of hints.now ≡ pace.homes.squeues) }
     requires ready { MayBringLine R.limits pace.homes.squeues pace.homes.spread lines.now squeues.now task.old places.old.items }
-    ensures { ThenClosed R.limits squeues.now (AreAt R.limits pace.homes.squeues pace.homes.spread task.old.number squeues.now (lists_of lines.now task.old.number) (lists_of lines.now task.old.number)) places.new.items }
+    ensures { ThenClosed R.limits squeues.now (HasBroughtLine R.limits pace.homes.squeues pace.homes.spread pace.mode pace.budget lines.now squeues.now task.old.number) places.new.items }
 {
     bring_line(rt, alloc, hook, squeues, hints, pace, lines, task, places);
     close_all(rt, squeues, places);
@@ -167,7 +170,8 @@ fn bring_line<R: Resident, H: Hook, W: Wait>(
     requires run { AreOneRun R.origin pace.homes.squeues squeues.now }
     requires hints { AllBelow (conns_of hints.now) squeues.now × (squeues_of hints.now ≡ pace.homes.squeues) }
     requires ready { MayBringLine R.limits pace.homes.squeues pace.homes.spread lines.now squeues.now task.old places.old.items }
-    ensures { AreAt R.limits pace.homes.squeues pace.homes.spread task.old.number squeues.now (lists_of lines.now task.old.number) (lists_of lines.now task.old.number) places.new.items }
+    ensures at { AreAt R.limits pace.homes.squeues pace.homes.spread task.old.number squeues.now (lists_of lines.now task.old.number) (lists_of lines.now task.old.number) places.new.items }
+    ensures paced { ArePaced R.limits pace.homes.squeues pace.homes.spread pace.mode pace.budget task.old.number squeues.now places.new.items }
 {
     let line = &lines[task.number as usize];
     let Some(ring) = &line.ring else {

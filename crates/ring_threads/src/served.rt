@@ -6,15 +6,16 @@ ghost use Rattle.conn_blocks.specs.ServeOrder.{BlockOf};
 ghost use Rattle.ring_threads.specs.Gathering.{AreEmpty, WasAdded, first_of};
 
 use conn_blocks::{Block, Blocks};
-use squeue_state::Ended;
+use squeue_state::{Ended, Trace};
 use std::alloc::{AllocError, Global};
 use std::marker::Model;
 
-/// One block for each connection of the plan, by number, and the end of each squeue, by number. No block is short.
+/// One block for each connection of the plan, by number, and the end and the trace of each squeue, by number. No block is short.
 #[derive(Drop)]
 pub struct Served {
     blocks: Vec<Box<Block>>,
     ended: Vec<Ended>,
+    traces: Vec<Trace>,
 }
 
 impl Model for Served {
@@ -23,7 +24,7 @@ impl Model for Served {
 
     ghost Value = { ServedOf };
 
-    ghost view = { λ s. record { blocks = map (λ b. b.value) s.blocks.items; ended = s.ended.items } };
+    ghost view = { λ s. record { blocks = map (λ b. b.value) s.blocks.items; ended = s.ended.items; traces = s.traces.items } };
 }
 
 impl Served {
@@ -34,13 +35,23 @@ impl Served {
     {
         &self.blocks[c as usize]
     }
+
+    /// The trace of squeue `q`: the marks of its history where they were kept, else nothing.
+    pub fn trace(&self, q: u32) -> &Trace
+        requires { q < length self.now.traces }
+        ensures { slice_get self.now.traces q ≡ Some result.now }
+    {
+        &self.traces[q as usize]
+    }
 }
 
-/// What came back of squeues: the place of each connection's block, and the ends of the squeues, the last one first.
+/// What came back of squeues: the place of each connection's block, and the ends and the traces of the squeues, the last one
+/// first.
 #[derive(Drop)]
 pub struct Gathered {
     places: Vec<Option<Box<Block>>>,
     ended: Vec<Ended>,
+    traces: Vec<Trace>,
 }
 
 impl Gathered {
@@ -48,21 +59,28 @@ impl Gathered {
     pub fn with_room(alloc: Global, conns: u32, squeues: u32) -> Result<Gathered, AllocError>
         ensures places { IfOk result (λ g. (length g.places.items ≡ conns) × AreEmpty g.places.items) }
         ensures ended { IfOk result (λ g. (g.ended.items ≡ []) × (squeues ≤ vec_capacity g.ended)) }
+        ensures traces { IfOk result (λ g. (g.traces.items ≡ []) × (squeues ≤ vec_capacity g.traces)) }
     {
         let mut places = Vec::with_capacity(alloc, conns as usize)?;
         for _ in 0..conns {
             places.push_reserved(None);
         }
         let ended = Vec::with_capacity(alloc, squeues as usize)?;
-        Ok(Gathered { places, ended })
+        let traces = Vec::with_capacity(alloc, squeues as usize)?;
+        Ok(Gathered {
+            places,
+            ended,
+            traces,
+        })
     }
 
     /// Adds what is left of one more squeue.
-    pub fn add(&mut self, blocks: Blocks<'_>, ended: Ended)
-        requires room { length self.old.ended.items < vec_capacity self.old.ended }
+    pub fn add(&mut self, blocks: Blocks<'_>, ended: Ended, trace: Trace)
+        requires room { (length self.old.ended.items < vec_capacity self.old.ended) × (length self.old.traces.items < vec_capacity self.old.traces) }
         requires size { size_of blocks ≡ length self.old.places.items }
         ensures ended { self.new.ended.items ≡ self.old.ended.items ++ ended ∷ [] }
-        ensures room { vec_capacity self.new.ended ≡ vec_capacity self.old.ended }
+        ensures traces { self.new.traces.items ≡ self.old.traces.items ++ trace ∷ [] }
+        ensures room { (vec_capacity self.new.ended ≡ vec_capacity self.old.ended) × (vec_capacity self.new.traces ≡ vec_capacity self.old.traces) }
         ensures places { WasAdded blocks.entry self.old.places.items self.new.places.items }
     {
         let mut theirs = blocks.into_places();
@@ -70,6 +88,7 @@ impl Gathered {
             self.move_in(&mut theirs, c);
         }
         self.ended.push_reserved(ended);
+        self.traces.push_reserved(trace);
     }
 
     // Moves the block that lies at this place, if there is one.
@@ -82,6 +101,7 @@ impl Gathered {
         ensures theirs { (k : ℕ) → k ≢ c → slice_get theirs.new.items k ≡ slice_get theirs.old.items k }
         ensures their_count { length theirs.new.items ≡ length theirs.old.items }
         ensures ended { self.new.ended ≡ self.old.ended }
+        ensures traces { self.new.traces ≡ self.old.traces }
     {
         if let Some(block) = theirs[c].take() {
             self.places[c] = Some(block);
@@ -92,12 +112,18 @@ impl Gathered {
     pub fn whole(self, alloc: Global) -> Result<Served, AllocError>
         requires { (c : ℕ) → c < length self.places.items → (b : Box BlockOf Global) × (slice_get self.places.items c ≡ Some (Some b)) }
         ensures ended { IfOk result (λ v. v.ended ≡ reverse self.ended.items) }
+        ensures traces { IfOk result (λ v. v.traces ≡ reverse self.traces.items) }
         ensures count { IfOk result (λ v. length v.blocks ≡ length self.places.items) }
         ensures blocks { IfOk result (λ v. (c : ℕ) (b : Box BlockOf Global) → slice_get self.places.items c ≡ Some (Some b) → (slice_get v.blocks c ≡ Some b.value) × (b.value.short ≡ false)) }
     {
-        let Gathered { places, ended } = self;
+        let Gathered {
+            places,
+            ended,
+            traces,
+        } = self;
         let mut places = places;
         let mut ended = ended;
+        let mut traces = traces;
         let mut blocks = Vec::with_capacity(alloc, places.len())?;
         for c in 0..places.len() {
             let place = places[c].take();
@@ -108,6 +134,11 @@ impl Gathered {
             blocks.push_reserved(block);
         }
         ended.reverse();
-        Ok(Served { blocks, ended })
+        traces.reverse();
+        Ok(Served {
+            blocks,
+            ended,
+            traces,
+        })
     }
 }

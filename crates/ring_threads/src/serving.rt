@@ -40,7 +40,7 @@ pub fn serve<H: Hook + Sync, W: Threads + Wait + Sync>(
 ) -> Result<Served, AllocError>
     requires setup { IsInRange setup.now }
     requires calls { All (λ call. call.0 < length plan.now.tuples) (all_calls calls.now) }
-    ensures { IfOk result (λ v. HasServed plan.now calls.now setup.now.squeues setup.now.rings setup.now.spread v) }
+    ensures { IfOk result (λ v. HasServed plan.now calls.now setup.now v) }
 {
     let hints = Hints::make(alloc, plan.conns(), setup.squeues)?;
     let (lines, tasks) = tasks_of(alloc, plan, setup)?;
@@ -78,8 +78,10 @@ fn serve_by<'p, H: Hook + Sync, W: Threads + Wait + Sync>(
     requires jobs { All (λ j. j.places.items ≡ []) jobs.items × HaveRoom setup.now.squeues jobs.items }
     requires squeues { (squeues.all.items ≡ []) × (squeues.rooms.items ≡ []) }
     requires room { (setup.now.squeues ≤ vec_capacity squeues.all) × (setup.now.squeues ≤ vec_capacity squeues.rooms) }
-    requires gathered { (length gathered.places.items ≡ length plan.now.tuples) × AreEmpty gathered.places.items × (gathered.ended.items ≡ []) × (setup.now.squeues ≤ vec_capacity gathered.ended) }
-    ensures { IfOk result (λ v. HasServed plan.now calls.now setup.now.squeues setup.now.rings setup.now.spread v) }
+    requires places { (length gathered.places.items ≡ length plan.now.tuples) × AreEmpty gathered.places.items }
+    requires ended { (gathered.ended.items ≡ []) × (setup.now.squeues ≤ vec_capacity gathered.ended) }
+    requires traces { (gathered.traces.items ≡ []) × (setup.now.squeues ≤ vec_capacity gathered.traces) }
+    ensures { IfOk result (λ v. HasServed plan.now calls.now setup.now v) }
 {
     let mut gathered = gathered;
     let mut jobs = jobs;
@@ -134,7 +136,7 @@ fn run_or_end<H: Hook + Sync, W: Threads + Wait + Sync>(
     requires few { length squeues.now ≤ setup.now.squeues }
     requires tasks { AreTasks plan.now setup.now.squeues setup.now.rings lines.now (tasks_in jobs.old.items) }
     requires lent { AreLent IsNew 1 (setup.now.rings + 4) squeues.now (lent_to jobs.old.items) }
-    ensures ran { IfOk made.now (λ _. HasRun plan.now calls.now setup.now.squeues setup.now.rings setup.now.spread 1 (lists_of lines.now) squeues.now (lent_to jobs.new.items)) }
+    ensures ran { IfOk made.now (λ _. HasRun plan.now calls.now setup.now 1 (lists_of lines.now) squeues.now (lent_to jobs.new.items)) }
     ensures lent { AreLent (MayEnd limits_of) 1 (setup.now.rings + 4) squeues.now (lent_to jobs.new.items) }
     ensures count { length jobs.new.items ≡ length jobs.old.items }
 {

@@ -5,6 +5,7 @@ use conn_classifier::plan;
 use perimeter_core::NoHook;
 use sq_base::Octets;
 use squeue_enter::Mode;
+use squeue_trace::{Trace, TraceMark};
 use std::test::Fail;
 use tcb_machine::State;
 
@@ -70,6 +71,18 @@ fn is_discard(rt: &HostRuntime, block: &Block) -> Result<bool, Fail> {
     Ok(in_order && as_wanted && block.answers() == 0 && ended)
 }
 
+/// Whether the last mark of a trace closes a pass, or is the worker's, which leaves nothing queued.
+fn is_over(trace: &Trace) -> bool {
+    if trace.len() == 0 {
+        return false;
+    }
+    match trace.mark(trace.len() - 1) {
+        TraceMark::Close { p: _ } => true,
+        TraceMark::Leave { p, rest, act: _ } => p == 7 && rest == 0,
+        _ => false,
+    }
+}
+
 /// How the tests are set up: two squeues, and a move before each feed but the first.
 const MOVING: Setup = Setup {
     squeues: 2,
@@ -77,6 +90,7 @@ const MOVING: Setup = Setup {
     mode: Mode::Fill,
     budget: 1,
     spread: 1,
+    trace: true,
 };
 
 #[test]
@@ -88,5 +102,6 @@ fn feeds_that_move(rt: HostRuntime) -> Result<(), Fail> {
     assert_eq!(rt; plan.conns(), 2);
     assert!(rt; is_echo(&rt, served.block(0))?);
     assert!(rt; is_discard(&rt, served.block(1))?);
+    assert!(rt; is_over(served.trace(0)) && is_over(served.trace(1)));
     Ok(())
 }

@@ -1,4 +1,6 @@
-use Rattle.std.proofs.Common.{◌≡◌, ℕ, ◌+◌, ◌<◌, ◌≤◌, List, [], ◌∷◌, All, length, length-append, refl, ap, sym, ◌∙◌, subst, arith}
+use Rattle.std.proofs.Common.{◌≡◌, ℕ, ◌+◌, ◌≤◌, List, [], ◌∷◌, All, length, length-append, refl, ap, sym, ◌∙◌, subst, arith}
+use Rattle.turn_gate.specs.History.{Each}
+use Rattle.turn_gate.proofs.Histories.{all_joined}
 use Rattle.perimeter_core.specs.History.{Setting}
 use Rattle.squeue_state.specs.Naming.{Named}
 use Rattle.conn_blocks.specs.declared.blocks.Blocks.{Blocks}
@@ -14,6 +16,7 @@ loop-q-init g c =
     let none = c.requires.empty.0 in
     record {
       set = (ap length none, no_squeues (IsSet c.args.plan.now c.args.calls.now c.args.setup.now.squeues c.args.setup.now.rings c.args.setup.now.spread) c.args.squeues.now.all.items none);
+      traced = subst (Each (λ (s : Named Blocks). s.given.traced ≡ c.args.setup.now.trace)) (sym none) tt;
       lent = subst (λ (l : List (Named Blocks)). AreLent IsNew 1 (c.args.setup.now.rings + 4) l (lent_to c.args.jobs.now.items)) (sym none) (none_yet 1 (c.args.setup.now.rings + 4) c.args.jobs.now.items c.requires.places.0);
       rooms = ap length c.requires.empty.1 ∙ sym (ap length none);
       each_room = λ k d lt. let z = ap length c.requires.empty.1 in absurd (omega (arith, lt, z));
@@ -44,6 +47,7 @@ loop-q-preserved g c =
     let counted : length s.given.quotas ≡ u.rings + 4 = ap (λ (S : Setting). length S.quotas) set.setting ∙ quotas_count p calls u.squeues u.rings u.spread c.loop-q.q in
     record {
       set = subst (λ (l : List (Named Blocks)). AreSetBelow p calls u.squeues u.rings u.spread (c.loop-q.q + 1) l) (sym c.lend.ensures.squeues) (set_more p calls u.squeues u.rings u.spread c.loop-q.q ss s c.loop-q.invariant.set set);
+      traced = subst (Each (λ (s : Named Blocks). s.given.traced ≡ u.trace)) (sym c.lend.ensures.squeues) (all_joined (λ (s : Named Blocks). s.given.traced ≡ u.trace) ss (s ∷ []) c.loop-q.invariant.traced (c.in_ok-squeue.ensures.traced, tt));
       lent = subst (λ (l : List (Named Blocks)). AreLent IsNew 1 (u.rings + 4) l (lent_to c.lend.new.jobs.items)) (sym c.lend.ensures.squeues)
           (one_more 1 (u.rings + 4) ss s c.in_ok-squeue.passes.items (lent_to c.loop-q.jobs.items) (lent_to c.lend.new.jobs.items) handed c.loop-q.invariant.lent counted c.in_ok-squeue.ensures.passes.1);
       rooms = let n = ap length c.lend.ensures.squeues ∙ length-append ss (s ∷ []) in omega (arith, n, c.lend.ensures.rooms.0, c.loop-q.invariant.rooms);

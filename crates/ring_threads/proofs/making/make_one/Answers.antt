@@ -1,4 +1,4 @@
-use Rattle.std.proofs.Common.{◌≡◌, length, ap, ◌∙◌}
+use Rattle.std.proofs.Common.{length, ap, ◌∙◌}
 use Rattle.squeue_state.specs.Behind.{pairs}
 use Rattle.conn_blocks.specs.Places.{Stands}
 use Rattle.ring_threads.proofs.MadeSqueues.{if_ok, is_set, stands_empty}
@@ -10,5 +10,8 @@ make-requires-2-clause-fresh c = stands_empty (length c.args.plan.now.tuples) c.
 pub returns-clause-set : goal.returns-clause-set
 returns-clause-set c =
     if_ok _ _ c.make-2.result
-    (λ r made. is_set c.args.plan.now c.args.calls.now c.args.setup.now.squeues c.args.setup.now.rings c.args.setup.now.spread c.args.q c.in_ok-blocks.blocks (pairs c.deref.result.now) r.0 made
+    (λ r made. is_set c.args.plan.now c.args.calls.now c.args.setup.now.squeues c.args.setup.now.rings c.args.setup.now.spread c.args.q c.in_ok-blocks.blocks (pairs c.deref.result.now) c.args.setup.now.trace r.0 made
     (ap pairs c.deref.ensures.value ∙ c.in_ok-quotas.ensures.quotas) c.in_ok-blocks.ensures.stands c.in_ok-blocks.ensures.size c.in_ok-blocks.ensures.limits c.in_ok-blocks.ensures.origin) c.make-2.ensures.given
+
+pub returns-clause-traced : goal.returns-clause-traced
+returns-clause-traced c = if_ok _ _ c.make-2.result (λ r made. made.its_trace) c.make-2.ensures.given

@@ -7,4 +7,7 @@ close_all-requires g c =
     let t = c.args.task.now.number in
     let list = lists_of c.args.lines.now t in
     let ready = c.requires.ready in
-    ring_may_close g.R.Resident.limits c.args.pace.homes.squeues c.args.pace.homes.spread t ready.line.list.items list list c.args.squeues.now c.bring_line.new.places.items ready.may c.bring_line.ensures
+    ring_may_close g.R.Resident.limits c.args.pace.homes.squeues c.args.pace.homes.spread t ready.line.list.items list list c.args.squeues.now c.bring_line.new.places.items ready.may c.bring_line.ensures.at
+
+pub returns : goal.returns
+returns g c = (c.bring_line.new.places.items, record { at = c.bring_line.ensures.at; paced = c.bring_line.ensures.paced }, c.close_all.ensures)

@@ -43,8 +43,9 @@ returns-clause-ran g c =
     let lines = c.args.lines.now in
     let jobs = c.args.jobs.now in
     let new = c.run_all.new.jobs in
-    let done = at_pace calls lines ss jobs new c.pace_of-pace.result.homes.squeues c.pace_of-pace.result.homes.spread s.squeues s.spread c.pace_of-pace.ensures.squeues c.pace_of-pace.ensures.spread c.run_all.ensures in
-    has_run c.args.plan.now calls s.squeues s.rings s.spread ss c.requires.set lines jobs new c.requires.tasks c.requires.lent c.run_all.auto.jobs done c.is_sound.ensures
+    let done = at_pace calls lines ss jobs new c.pace_of-pace.result.homes.squeues c.pace_of-pace.result.homes.spread c.pace_of-pace.result.mode c.pace_of-pace.result.budget s.squeues s.spread s.mode s.budget
+    c.pace_of-pace.ensures.squeues c.pace_of-pace.ensures.spread c.pace_of-pace.ensures.mode c.pace_of-pace.ensures.budget c.run_all.ensures in
+    has_run c.args.plan.now calls s ss c.requires.set lines jobs new c.requires.tasks c.requires.lent c.run_all.auto.jobs done c.is_sound.ensures
 
 pub returns-clause-lent : goal.returns-clause-lent
 returns-clause-lent g c =
@@ -54,5 +55,6 @@ returns-clause-lent g c =
     let lines = c.args.lines.now in
     let jobs = c.args.jobs.now in
     let new = c.run_all.new.jobs in
-    let done = at_pace calls lines ss jobs new c.pace_of-pace.result.homes.squeues c.pace_of-pace.result.homes.spread s.squeues s.spread c.pace_of-pace.ensures.squeues c.pace_of-pace.ensures.spread c.run_all.ensures in
-    lent_back c.args.plan.now calls s.squeues s.rings s.spread ss c.requires.set lines jobs new c.requires.tasks c.requires.lent c.run_all.auto.jobs done
+    let done = at_pace calls lines ss jobs new c.pace_of-pace.result.homes.squeues c.pace_of-pace.result.homes.spread c.pace_of-pace.result.mode c.pace_of-pace.result.budget s.squeues s.spread s.mode s.budget
+    c.pace_of-pace.ensures.squeues c.pace_of-pace.ensures.spread c.pace_of-pace.ensures.mode c.pace_of-pace.ensures.budget c.run_all.ensures in
+    lent_back c.args.plan.now calls s ss c.requires.set lines jobs new c.requires.tasks c.requires.lent c.run_all.auto.jobs done

@@ -1,4 +1,4 @@
-use Rattle.std.proofs.Common.{◌≡◌, ℕ, ◌+◌, ◌<◌, ◌≤◌, List, Result, Ok, Err, IfOk, length, reverse, sym, ◌∙◌, subst, arith}
+use Rattle.std.proofs.Common.{◌≡◌, ℕ, List, Result, Ok, IfOk, reverse, ◌∙◌, subst}
 use Rattle.squeue_state.specs.Naming.{Named}
 use Rattle.conn_blocks.specs.declared.blocks.Blocks.{Blocks}
 use Rattle.squeue_serve.specs.Lending.{lent_to}
@@ -25,10 +25,11 @@ whole-requires g c =
     let lent = lent_to c.run_or_end.new.jobs.items in
     let places = c.gather.new.gathered.places.items in
     let es = reverse c.gather.new.gathered.ended.items in
-    let ran = subst (λ (l : List (Named Blocks)). HasRun p calls u.squeues u.rings u.spread 1 lists l lent) c.as_slice.ensures.value
-    (from_ok (λ _. HasRun p calls u.squeues u.rings u.spread 1 lists c.as_slice.result.now lent) c.make_all-made.result c.in_ok-made.field-0 c.in_ok-made.was c.run_or_end.ensures.ran) in
-    let back = subst (λ (n : ℕ). HasGathered 1 n ss lent places es) c.count_of.ensures c.gather.ensures.gathered in
-    filled p calls u.squeues u.rings u.spread 1 lists ss lent places es c.requires.setup.squeues.0 c.requires.setup.rings.0 ran back (c.gather.ensures.count ∙ c.requires.gathered.0)
+    let ts = reverse c.gather.new.gathered.traces.items in
+    let ran = subst (λ (l : List (Named Blocks)). HasRun p calls u 1 lists l lent) c.as_slice.ensures.value
+    (from_ok (λ _. HasRun p calls u 1 lists c.as_slice.result.now lent) c.make_all-made.result c.in_ok-made.field-0 c.in_ok-made.was c.run_or_end.ensures.ran) in
+    let back = subst (λ (n : ℕ). HasGathered 1 n ss lent places es ts) c.count_of.ensures c.gather.ensures.gathered in
+    filled p calls u 1 lists ss lent places es ts c.requires.setup.squeues.0 c.requires.setup.rings.0 ran back (c.gather.ensures.count ∙ c.requires.places.0)
     c.a_settled_order_is_whole.ensures c.a_block_holds_back_what_settling_holds.ensures.served
 
 pub returns : goal.returns
@@ -41,8 +42,10 @@ returns g c =
     let lent = lent_to c.run_or_end.new.jobs.items in
     let places = c.gather.new.gathered.places.items in
     let es = reverse c.gather.new.gathered.ended.items in
-    let ran = subst (λ (l : List (Named Blocks)). HasRun p calls u.squeues u.rings u.spread 1 lists l lent) c.as_slice.ensures.value
-    (from_ok (λ _. HasRun p calls u.squeues u.rings u.spread 1 lists c.as_slice.result.now lent) c.make_all-made.result c.in_ok-made.field-0 c.in_ok-made.was c.run_or_end.ensures.ran) in
-    let back = subst (λ (n : ℕ). HasGathered 1 n ss lent places es) c.count_of.ensures c.gather.ensures.gathered in
-    all_served p calls u.squeues u.rings u.spread 1 lists ss lent places es c.requires.setup.squeues.0 c.requires.setup.rings.0 ran back (c.gather.ensures.count ∙ c.requires.gathered.0)
-    c.a_settled_order_is_whole.ensures c.a_block_holds_back_what_settling_holds.ensures.served c.whole.result c.whole.ensures.ended c.whole.ensures.count c.whole.ensures.blocks
+    let ts = reverse c.gather.new.gathered.traces.items in
+    let ran = subst (λ (l : List (Named Blocks)). HasRun p calls u 1 lists l lent) c.as_slice.ensures.value
+    (from_ok (λ _. HasRun p calls u 1 lists c.as_slice.result.now lent) c.make_all-made.result c.in_ok-made.field-0 c.in_ok-made.was c.run_or_end.ensures.ran) in
+    let back = subst (λ (n : ℕ). HasGathered 1 n ss lent places es ts) c.count_of.ensures c.gather.ensures.gathered in
+    all_served p calls u 1 lists ss lent places es ts c.requires.setup.squeues.0 c.requires.setup.rings.0 ran back (c.gather.ensures.count ∙ c.requires.places.0)
+    c.a_settled_order_is_whole.ensures c.a_block_holds_back_what_settling_holds.ensures.served
+    c.make_all-made.ensures.traced c.whole.result c.whole.ensures.ended c.whole.ensures.traces c.whole.ensures.count c.whole.ensures.blocks

@@ -11,4 +11,5 @@ invariant-loop-c l =
       same : (k : ℕ) → l.c ≤ k → slice_get l.self.places.items k ≡ slice_get l.initial.self.places.items k;
       count : length l.self.places.items ≡ length l.initial.self.places.items;
       ended : l.self.ended ≡ l.initial.self.ended;
+      traces : l.self.traces ≡ l.initial.self.traces;
     }

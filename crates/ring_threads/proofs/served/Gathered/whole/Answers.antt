@@ -1,4 +1,4 @@
-use Rattle.std.proofs.Common.{◌≡◌, ℕ, ◌+◌, ◌<◌, ◌≤◌, false, Box, None, Option, Some, List, [], ◌∷◌, length, length-append, slice_get, refl, ap, sym, ◌∙◌, subst, arith, inl, inr}
+use Rattle.std.proofs.Common.{◌≡◌, ℕ, ◌+◌, ◌<◌, false, Box, None, Some, [], ◌∷◌, length, length-append, slice_get, refl, ap, sym, ◌∙◌, subst, arith, inl, inr}
 use Rattle.std.specs.Option.{option_map}
 use Rattle.std.specs.declared.alloc.Global.{Global}
 use Rattle.std.proofs.lemmas.Bool.{cases_lt}
@@ -42,6 +42,7 @@ loop-c-preserved c =
             (ap (λ l. slice_get l k) items ∙ (get_end c.loop-c.blocks.items [] c.in-Some.block k (e ∙ sym c.loop-c.invariant.count) ∙ ap Some same), subst (λ (b : Box BlockOf Global). b.value.short ≡ false) same whole)
       ];
       ended = refl;
+      traces = refl;
     }
 
 pub returns-clause-blocks : goal.returns-clause-blocks

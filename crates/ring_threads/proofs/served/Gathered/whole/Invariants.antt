@@ -12,4 +12,5 @@ invariant-loop-c l =
       rest : (k : ℕ) → l.c ≤ k → slice_get l.places.items k ≡ slice_get l.fn.self.places.items k;
       done : (k : ℕ) (b : Box BlockOf Global) → k < l.c → slice_get l.fn.self.places.items k ≡ Some (Some b) → (slice_get l.blocks.items k ≡ Some b) × (b.value.short ≡ false);
       ended : l.ended.items ≡ l.fn.self.ended.items;
+      traces : l.traces.items ≡ l.fn.self.traces.items;
     }
