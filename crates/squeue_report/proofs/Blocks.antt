@@ -1,5 +1,5 @@
 -- The text of all connections, by their blocks and by their orders.
-use Rattle.std.proofs.Common.{◌≡◌, ℕ, ◌+◌, ◌<◌, ◌≤◌, List, [], ◌∷◌, ◌++◌, suc, zero, length, drop, get_or, map, slice_get, codes, Option, Some, None, IfSome, refl, sym, ap, subst, ◌∙◌, append_assoc, arith, add-one}
+use Rattle.std.proofs.Common.{◌≡◌, ℕ, ◌+◌, ◌<◌, ◌≤◌, List, [], ◌∷◌, ◌++◌, suc, zero, length, drop, get_or, map, slice_get, codes, Option, Some, None, IfSome, Bool, refl, sym, ap, subst, ◌∙◌, append_assoc, arith, add-one}
 use Rattle.std.specs.List.{flat_map, enumerate_from}
 use Rattle.std.specs.Option.{option_map}
 use Rattle.std.proofs.lemmas.List.{drop_all, append-nil}
@@ -7,10 +7,13 @@ use Rattle.std.proofs.lemmas.Option.{get_or_from_slice_get, slice_get-map}
 use Rattle.perimeter_core.specs.declared.entries.Act.{Act}
 use Rattle.sq_base.specs.declared.kinds.Tuple.{Tuple}
 use Rattle.conn_classifier.specs.Plan.{PlanOf}
+use Rattle.perimeter_core.specs.declared.marks.Mark.{Mark}
+use Rattle.ring_quotas.specs.declared.setup.Setup.{Setup}
 use Rattle.conn_blocks.specs.CallLists.{CallLists}
 use Rattle.conn_blocks.specs.ServeOrder.{BlockOf, serve, serving_of}
 use Rattle.ring_threads.specs.ServedBlocks.{AreServed}
-use Rattle.squeue_report.specs.ReportText.{conn_text, line, counts_line, report_text}
+use Rattle.squeue_report.specs.ReportText.{conn_text, line, counts_line, body_text, done_line, report_text}
+use Rattle.squeue_report.specs.TraceText.{setup_line, calls_text, squeue_text, trace_text}
 
 -- the connections from number c on, each with its block
 abbrev pub blocks_text : ℕ → List Tuple → List BlockOf → List ℕ
@@ -75,16 +78,30 @@ agrees p calls bs served k c e lt =
     order_at : (b : BlockOf) → slice_get bs c ≡ Some b → get_or (map (λ x. x.order) bs) c [] ≡ b.order
     order_at b there = get_or_from_slice_get (map (λ x. x.order) bs) c b.order [] (slice_get-map (λ x. x.order) bs c ∙ ap (option_map (λ x. x.order)) there)
 
+-- the text of all connections behind the counts
+pub body : (p : PlanOf) (calls : CallLists) (bs : List BlockOf) (old counts new : List ℕ) → AreServed p calls bs
+    → counts ≡ old ++ counts_line p.counts (length p.tuples) → new ≡ counts ++ blocks_text 0 p.tuples bs → new ≡ old ++ body_text p calls (map (λ b. b.order) bs)
+unfolding body_text
+body p calls bs old counts new served n c =
+    let all = agree p calls (map (λ b. b.order) bs) 0 p.tuples bs served.count (agrees p calls bs served) in
+    c ∙ (λ k. n k ++ all k) ∙ append_assoc old (counts_line p.counts (length p.tuples)) (flat_map (told p calls (map (λ b. b.order) bs)) (enumerate_from 0 p.tuples))
+
 -- the whole text
-pub reported : (p : PlanOf) (calls : CallLists) (bs : List BlockOf) (first counts conns text : List ℕ) → AreServed p calls bs
-    → first ≡ line (codes "report" ∷ codes "1" ∷ []) → counts ≡ first ++ counts_line p.counts (length p.tuples) → conns ≡ counts ++ blocks_text 0 p.tuples bs
-    → text ≡ conns ++ line (codes "done" ∷ []) → text ≡ report_text p calls (map (λ b. b.order) bs)
+pub reported : (p : PlanOf) (calls : CallLists) (orders : List (List Act)) (first body text : List ℕ)
+    → first ≡ line (codes "report" ∷ codes "1" ∷ []) → body ≡ first ++ body_text p calls orders → text ≡ body ++ done_line → text ≡ report_text p calls orders
 unfolding report_text
-reported p calls bs first counts conns text served f n c t =
-    let body = agree p calls (map (λ b. b.order) bs) 0 p.tuples bs served.count (agrees p calls bs served) in
+reported p calls orders first body text f b t =
     let head = line (codes "report" ∷ codes "1" ∷ []) in
-    let mid = counts_line p.counts (length p.tuples) in
-    let done = line (codes "done" ∷ []) in
-    t ∙ ap (λ l. l ++ done) (c ∙ (λ k. (n ∙ ap (λ l. l ++ mid) f) k ++ body k))
-    ∙ append_assoc (head ++ mid) (flat_map (told p calls (map (λ b. b.order) bs)) (enumerate_from 0 p.tuples)) done
-    ∙ append_assoc head mid (flat_map (told p calls (map (λ b. b.order) bs)) (enumerate_from 0 p.tuples) ++ done)
+    t ∙ ap (λ l. l ++ done_line) (b ∙ ap (λ l. l ++ body_text p calls orders) f) ∙ append_assoc head (body_text p calls orders) done_line
+
+pub traced : (p : PlanOf) (calls : CallLists) (setup : Setup) (verify : Bool) (orders : List (List Act)) (marks : List (List Mark)) (first body set called squeues text : List ℕ)
+    → first ≡ line (codes "report" ∷ codes "2" ∷ []) → body ≡ first ++ body_text p calls orders → set ≡ body ++ setup_line setup verify → called ≡ set ++ calls_text calls
+    → squeues ≡ called ++ flat_map squeue_text (enumerate_from 0 marks) → text ≡ squeues ++ done_line → text ≡ trace_text p calls setup verify orders marks
+unfolding trace_text
+traced p calls setup verify orders marks first body set called squeues text f b s c q t =
+    let head = line (codes "report" ∷ codes "2" ∷ []) in
+    let b1 = b ∙ ap (λ l. l ++ body_text p calls orders) f in
+    let s1 = s ∙ ap (λ l. l ++ setup_line setup verify) b1 in
+    let c1 = c ∙ ap (λ l. l ++ calls_text calls) s1 in
+    let q1 = q ∙ ap (λ l. l ++ flat_map squeue_text (enumerate_from 0 marks)) c1 in
+    t ∙ ap (λ l. l ++ done_line) q1 ∙ simp append_assoc

@@ -1,8 +1,10 @@
 mod Joins
 mod Lines
+mod Marked
 mod Runs
 mod EntryLemmas
 mod Blocks
 mod Sums
 mod SummaryParts
 mod Worked
+mod WorkedTrace

@@ -1,4 +1,5 @@
 pub mod Names
 pub mod ReportText
+pub mod TraceText
 pub mod SummaryText
 pub mod OrderLaw

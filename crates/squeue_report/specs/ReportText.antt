@@ -88,11 +88,16 @@ end_line state = line (codes "end" ∷ state_word state ∷ [])
 unfoldable pub conn_text : ℕ → Tuple → List Act → Serving → List ℕ
 conn_text c t order s = conn_line c t ++ (order_line order ++ (flat_map (reply_line t) s.block.replies ++ (flat_map answer_line s.answers ++ end_line s.block.state)))
 
--- the report, where by number each connection is served in this order on one thread
-unfoldable pub report_text : PlanOf → CallLists → List (List Act) → List ℕ
-report_text p calls orders =
+-- what stands between the first line and the last: the counts, and each connection, served by number in this order on one thread
+unfoldable pub body_text : PlanOf → CallLists → List (List Act) → List ℕ
+body_text p calls orders =
     let order = λ (c : ℕ). get_or orders c [] in
-    line (codes "report" ∷ codes "1" ∷ [])
-    ++ (counts_line p.counts (length p.tuples)
-    ++ (flat_map (λ (c, t). conn_text c t (order c) (serve p calls c (order c))) (enumerate_from 0 p.tuples)
-    ++ line (codes "done" ∷ [])))
+    counts_line p.counts (length p.tuples)
+    ++ flat_map (λ (c, t). conn_text c t (order c) (serve p calls c (order c))) (enumerate_from 0 p.tuples)
+
+abbrev pub done_line : List ℕ
+done_line = line (codes "done" ∷ [])
+
+-- the report of these orders
+unfoldable pub report_text : PlanOf → CallLists → List (List Act) → List ℕ
+report_text p calls orders = line (codes "report" ∷ codes "1" ∷ []) ++ (body_text p calls orders ++ done_line)

@@ -7,6 +7,8 @@ mod reporting;
 mod summing;
 #[cfg(test)]
 mod tests;
+mod tracing;
 
 pub use reporting::report;
 pub use summing::summary;
+pub use tracing::report2;

@@ -7,7 +7,7 @@ ghost use Rattle.tcb_machine.specs.BlockState.{IsOurs};
 ghost use Rattle.conn_blocks.specs.CallLists.{CallLists};
 ghost use Rattle.conn_blocks.specs.ServeOrder.{serving_of};
 ghost use Rattle.ring_threads.specs.ServedBlocks.{AreServed};
-ghost use Rattle.squeue_report.specs.ReportText.{counts_line, end_field, conn_line, entries_of, entry_field, feeds, line_end, order_line, reply_line, answer_line, conn_text, report_text};
+ghost use Rattle.squeue_report.specs.ReportText.{counts_line, end_field, conn_line, entries_of, entry_field, feeds, line_end, order_line, reply_line, answer_line, conn_text, body_text, report_text};
 
 use crate::names::{service_name, state_name};
 use conn_blocks::{Act, Block};
@@ -28,12 +28,27 @@ pub fn report(alloc: Global, plan: &Plan, served: &Served) -> Result<Octets, All
 {
     let mut text = String::new(alloc);
     text.push_str("report 1\n")?;
-    push_counts(&mut text, &plan.counts(), plan.conns())?;
-    for c in 0..plan.conns() {
-        push_conn(alloc, &mut text, c, &plan.tuple(c), served.block(c))?;
-    }
+    push_body(alloc, &mut text, plan, served)?;
     text.push_str("done\n")?;
     Ok(Octets::wrap(text.into_bytes()))
+}
+
+/// The counts, and what each connection has in the report.
+pub fn push_body(
+    alloc: Global,
+    text: &mut String,
+    plan: &Plan,
+    served: &Served,
+) -> Result<(), AllocError>
+    requires { length served.now.blocks ≡ length plan.now.tuples }
+    ensures { OnOk result ((calls : CallLists) → AreServed plan.now calls served.now.blocks
+        → string_bytes text.new ≡ string_bytes text.old ++ body_text plan.now calls (map (λ b. b.order) served.now.blocks)) }
+{
+    push_counts(text, &plan.counts(), plan.conns())?;
+    for c in 0..plan.conns() {
+        push_conn(alloc, text, c, &plan.tuple(c), served.block(c))?;
+    }
+    Ok(())
 }
 
 #[tactic(auto, using(crate::proofs::Joins::joins), unfolding(crate::specs::ReportText::counts_line))]

@@ -1,5 +1,8 @@
+ghost use Rattle.std.specs.Prelude.{◌<◌, All, IfOk};
+ghost use Rattle.conn_blocks.specs.Allowed.{all_calls};
+
 use crate::names::{service_name, state_name};
-use crate::{report, summary};
+use crate::{report, report2, summary};
 use capture_reader::{Capture, parse_capture};
 use conn_blocks::Calls;
 use conn_classifier::plan;
@@ -9,6 +12,7 @@ use ring_quotas::Setup;
 use ring_threads::serve;
 use sq_base::Octets;
 use squeue_enter::Mode;
+use std::alloc::{AllocError, Global};
 use std::test::Fail;
 use tcb_machine::{Call, State};
 
@@ -22,8 +26,8 @@ const FIVE: [&str; 6] = [
     "00000000a00f000028000000280000004500002800004000400600000a0000010a0000020fa000070000006b000001fb5010100000000000",
 ];
 
-const FIVE_REPORT: &str = concat!(
-    "report 1\n",
+/// Its report without the first line and the last.
+const FIVE_BODY: &str = concat!(
     "records 5 tail 0 served 5 nofit 0 server 0 other 0 fragment 0 cut 0 malformed 0 badsum 0 connections 1\n",
     "conn 0 10.0.0.1:4000 10.0.0.2:7 echo\n",
     "order f0-5\n",
@@ -31,7 +35,6 @@ const FIVE_REPORT: &str = concat!(
     "reply 2000 4500002d00004000400626c90a0000020a00000100070fa0000001f50000006a5018ffff45ed000068656c6c6f\n",
     "reply 3000 4500002800004000400626ce0a0000020a00000100070fa0000001fa0000006b5011ffff89c50000\n",
     "end LISTEN\n",
-    "done\n",
 );
 
 /// Its first two segments with a close: the orders in which it may come, and what follows the order's line.
@@ -64,6 +67,7 @@ const ONE: Setup = Setup {
     mode: Mode::Process,
     budget: 1,
     spread: 0,
+    trace: false,
 };
 
 fn read(rt: &HostRuntime, lines: &[&str]) -> Result<Capture, Fail> {
@@ -87,7 +91,8 @@ fn five_segment_echo(rt: HostRuntime) -> Result<(), Fail> {
         &NoHook,
     )?;
     let text = report(rt.alloc(), &plan, &served)?;
-    assert_eq!(rt; text.as_slice(), FIVE_REPORT.as_bytes());
+    let wanted = format!(in rt.alloc(); "report 1\n{FIVE_BODY}done\n")?;
+    assert_eq!(rt; text.as_slice(), wanted.as_bytes());
     let line = summary(rt.alloc(), 7, capture.bytes(), &plan, &served)?;
     assert_eq!(rt;
         line.as_slice(),
@@ -115,6 +120,102 @@ fn a_close_among_the_feeds(rt: HostRuntime) -> Result<(), Fail> {
         }
     }
     assert!(rt; is_known);
+    Ok(())
+}
+
+/// How many lines of the text end so.
+fn ending(text: &str, end: &str) -> usize {
+    text.lines().filter(|line| line.ends_with(end)).count()
+}
+
+#[test]
+fn traced_five_segment_echo(rt: HostRuntime) -> Result<(), Fail> {
+    let capture = read(&rt, &FIVE)?;
+    let plan = plan(&rt, rt.alloc(), &capture, false)?;
+    let calls = Calls::make(rt.alloc());
+    let setup = Setup {
+        budget: 64,
+        trace: true,
+        ..ONE
+    };
+    let served = serve(&rt, rt.alloc(), &plan, &calls, &setup, &NoHook)?;
+    let marks = served.trace(0).len();
+    assert!(rt; marks <= 72);
+    let text = report2(rt.alloc(), &plan, &calls, &setup, false, &served)?;
+    let front = format!(in rt.alloc();
+        "report 2\n{FIVE_BODY}setup squeues 1 rings 1 mode process budget 64 spread 0 verify 0\nsqueue 0 marks {marks}\n"
+    )?;
+    assert!(rt; text.as_slice().starts_with(front.as_bytes()));
+    assert!(rt; text.as_slice().ends_with(b"\ndone\n"));
+    let text = str::from_utf8(text.as_slice())?;
+    assert_eq!(rt; text.lines().count() as u64, 11 + marks);
+    for p in 0..5u32 {
+        let close = format!(in rt.alloc(); "close {p}")?;
+        assert_eq!(rt; ending(text, close.as_str()), 1);
+    }
+    Ok(())
+}
+
+/// The feeds of a connection that moves after each of them, by squeue.
+const FILLS: [&str; 6] = [
+    "fill 0 0.0",
+    "fill 0 0.2",
+    "fill 0 0.4",
+    "fill 0 0.1",
+    "fill 0 0.3",
+    "fill 0 0.5",
+];
+
+/// Acts, each with how many marks report it.
+const ACTS: [(&str, usize); 6] = [
+    (" out 0", 5),
+    (" in 0", 5),
+    (" call 0 0 0", 1),
+    (" call 0 0 1", 1),
+    (" call 0 1 0", 1),
+    (" call 0 3 0", 1),
+];
+
+/// Calls of three threads on connection 0.
+fn four_calls(alloc: Global) -> Result<Calls, AllocError>
+    ensures { IfOk result (λ calls. All (λ call. call.0 < 1) (all_calls calls)) }
+{
+    let mut calls = Calls::make(alloc);
+    calls.push(0, 0, Call::Status)?;
+    calls.push(0, 0, Call::Close)?;
+    calls.push(1, 0, Call::Status)?;
+    calls.push(3, 0, Call::Buffer(512))?;
+    Ok(calls)
+}
+
+#[test]
+fn traced_calls_and_moves(rt: HostRuntime) -> Result<(), Fail> {
+    let capture = read(&rt, &FIVE)?;
+    let plan = plan(&rt, rt.alloc(), &capture, false)?;
+    assert_eq!(rt; plan.conns(), 1);
+    let calls = four_calls(rt.alloc())?;
+    let setup = Setup {
+        squeues: 2,
+        rings: 2,
+        mode: Mode::Fill,
+        budget: 1,
+        spread: 1,
+        trace: true,
+    };
+    let served = serve(&rt, rt.alloc(), &plan, &calls, &setup, &NoHook)?;
+    let text = report2(rt.alloc(), &plan, &calls, &setup, false, &served)?;
+    let text = str::from_utf8(text.as_slice())?;
+    let added = concat!(
+        "\nsetup squeues 2 rings 2 mode fill budget 1 spread 1 verify 0\n",
+        "call 0:0:status\ncall 0:0:close\ncall 1:0:status\ncall 3:0:buffer=512\n",
+        "squeue 0 marks ",
+    );
+    assert!(rt; text.contains(added));
+    let fills = text.lines().filter(|line| line.starts_with("fill "));
+    assert!(rt; fills.eq(FILLS.iter().copied()));
+    for (act, times) in ACTS {
+        assert_eq!(rt; ending(text, act), times, "{act}");
+    }
     Ok(())
 }
 

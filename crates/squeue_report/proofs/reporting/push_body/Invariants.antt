@@ -1,6 +1,6 @@
 use Rattle.std.proofs.Common.{◌≡◌, ◌++◌, drop, string_bytes}
 use Rattle.squeue_report.proofs.Blocks.{blocks_text}
-use Rattle.squeue_report.proofs.reporting.report.Given as goal
+use Rattle.squeue_report.proofs.reporting.push_body.Given as goal
 
 -- what is written, with what is to be written
 abbrev pub invariant-loop-c : goal.invariant-loop-c

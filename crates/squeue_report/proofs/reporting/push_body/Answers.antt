@@ -1,0 +1,15 @@
+use Rattle.std.proofs.Common.{◌≤◌, length, arith, ◌∙◌, ◌++◌, string_bytes}
+use Rattle.squeue_report.specs.ReportText.{counts_line}
+use Rattle.squeue_report.proofs.Blocks.{block_more, blocks_end, body}
+use Rattle.squeue_report.proofs.reporting.push_body.Goals as goal
+
+pub loop-c-preserved : goal.loop-c-preserved
+loop-c-preserved c =
+    block_more c.args.plan.now.tuples c.args.served.now.blocks _ _ _ c.loop-c.c c.tuple.result c.block.result.now c.loop-c.invariant c.tuple.ensures.value c.block.ensures c.in_ok-push_conn.ensures
+
+pub returns : goal.returns
+returns c calls served =
+    let past : length c.args.plan.now.tuples ≤ c.loop-c.c = omega (arith, c.conns-c-end.ensures.value, c.loop-c-test.false) in
+    body c.args.plan.now calls c.args.served.now.blocks _ _ _ served
+    (c.in_ok-push_counts.ensures ∙ (λ k. string_bytes c.args.text.now ++ counts_line (c.counts.ensures k) (c.conns.ensures.value k)))
+    (blocks_end c.args.plan.now.tuples c.args.served.now.blocks _ _ c.loop-c.c past c.loop-c.invariant)

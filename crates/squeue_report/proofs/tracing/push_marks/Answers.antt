@@ -1,0 +1,13 @@
+use Rattle.std.proofs.Common.{◌<◌, length, arith}
+use Rattle.squeue_trace.specs.Told.{mark_of, marks_of}
+use Rattle.squeue_report.specs.TraceText.{mark_line}
+use Rattle.squeue_report.proofs.Lines.{line_more}
+use Rattle.squeue_report.proofs.Marked.{there_as}
+use Rattle.squeue_report.proofs.tracing.push_marks.Goals as goal
+
+pub loop-i-preserved : goal.loop-i-preserved
+loop-i-preserved c =
+    let t = c.args.trace.now in
+    let within : c.loop-i.i < length t.marks = omega (arith, c.loop-i-test.true, c.len-i-end.ensures) in
+    line_more mark_line _ _ _ (marks_of t) c.loop-i.i (mark_of t.entries c.mark.result) c.loop-i.invariant
+    (there_as (mark_of t.entries) t.marks c.loop-i.i c.mark.result within c.mark.ensures.mark) c.in_ok-push_mark.ensures

@@ -1,0 +1,29 @@
+use Rattle.std.proofs.Common.{◌≡◌, ◌≤◌, [], ◌∷◌, ◌++◌, length, map, ap, ◌∙◌, string_bytes, codes, arith}
+use Rattle.std.specs.Option.{option_map}
+use Rattle.std.proofs.lemmas.List.{length-map}
+use Rattle.std.proofs.lemmas.Option.{slice_get-map}
+use Rattle.squeue_trace.specs.Told.{marks_of}
+use Rattle.squeue_report.specs.ReportText.{line}
+use Rattle.squeue_report.specs.TraceText.{squeue_text}
+use Rattle.squeue_report.proofs.Blocks.{traced}
+use Rattle.squeue_report.proofs.Lines.{line_more}
+use Rattle.squeue_report.proofs.Marked.{numbered, numbered_all}
+use Rattle.squeue_report.proofs.tracing.report2.Goals as goal
+
+pub loop-q-preserved : goal.loop-q-preserved
+loop-q-preserved c =
+    let traces = c.args.served.now.traces in
+    let q = c.loop-q.q in
+    let trace = c.trace.result.now in
+    let there = slice_get-map marks_of traces q ∙ ap (option_map marks_of) c.trace.ensures in
+    line_more squeue_text _ _ _ _ q (q, marks_of trace) c.loop-q.invariant (numbered (map marks_of traces) 0 q q (marks_of trace) (omega arith) there) c.in_ok-push_squeue.ensures
+
+pub returns : goal.returns
+returns c served =
+    let traces = c.args.served.now.traces in
+    let past : length (map marks_of traces) ≤ c.loop-q.q = omega (arith, length-map traces marks_of, c.requires.traces, c.loop-q-test.false) in
+    let first : string_bytes c.push_str.new.self ≡ line (codes "report" ∷ codes "2" ∷ []) = c.in_ok-push_str.ensures.bytes ∙ ap (λ l. l ++ codes "report 2\n") c.new-text.ensures.bytes in
+    c.wrap.ensures ∙ ap (λ v. v.items) c.into_bytes.ensures.value
+    ∙ traced c.args.plan.now c.args.calls.now c.args.setup.now c.args.verify (map (λ b. b.order) c.args.served.now.blocks) (map marks_of traces) _ _ _ _ _ _ first
+    (c.in_ok-push_body.ensures c.args.calls.now served) c.in_ok-push_setup.ensures c.in_ok-push_calls.ensures
+    (numbered_all squeue_text (map marks_of traces) _ _ c.loop-q.q past c.loop-q.invariant) c.in_ok-push_str-2.ensures.bytes
