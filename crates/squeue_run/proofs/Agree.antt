@@ -3,7 +3,7 @@ use Rattle.std.proofs.Common.{◌≡◌, ◌∙◌, ℕ, Bool, cond, true, false
 use Rattle.std.specs.Prelude.{option_map, slice_get}
 use Rattle.std.specs.Option.{option_map_or}
 use Rattle.std.specs.List.{AllByRecursion}
-use Rattle.std.specs.Str.{bytes_eq, chars}
+use Rattle.std.specs.Str.{chars}
 use Rattle.std.proofs.lemmas.List.{append-nil}
 use Rattle.clap.specs.Words.{Kinds, Row}
 use Rattle.clap.specs.Kinds.{or_else}
@@ -12,13 +12,13 @@ use Rattle.clap.specs.Walk.{Held, Rule, Waiting, Walk, after_flag, after_step, a
 use Rattle.clap.specs.Simple.{filled, with_index}
 use Rattle.clap.specs.Faults.{bundle_step_fault, flags_fault, long_fault, settle_fault, step_fault, turn_fault, use_fault, walk_fault}
 use Rattle.clap.specs.declared.error.kind.ErrorKind.TheVariants as kind
-use Rattle.squeue_run.specs.Command.{calls_rule, option_rule, verify_rule}
-use Rattle.squeue_run.specs.Words.{Look, Text, Use, value, verify, call, dashed, end, look_of, named, plain, valued, is_option, uses_from, and_then_uses, met}
-use Rattle.squeue_run.proofs.Known.{known_id, known_long, each_option}
+use Rattle.squeue_run.specs.Command.{calls_rule, flag_rule, option_rule}
+use Rattle.squeue_run.specs.Words.{Look, Text, Use, value, flag, call, dashed, end, look_of, named, plain, valued, is_flag, is_option, uses_from, and_then_uses, met}
+use Rattle.squeue_run.proofs.Known.{known_flag, known_id, known_long, each_option}
 use Rattle.squeue_run.proofs.Names.{rules_built, shape_built}
 use Rattle.squeue_run.proofs.Uses.{and_assoc, and_false, and_true, and_right, apply_all, apply_all-append, fine, fine-append, quiet, quiet-or_else}
 use Rattle.squeue_run.proofs.Turns.{at, await, fault_at, fault_by, hold, IsHeld, listed, once_fault, once_is, quiet-once, settles, settles_quiet, turn_fault_is, walk_at, walked_is}
-use Rattle.squeue_run.proofs.Unknown.{not_known, taken, taken_unknown, taken_waiting, unknown_named, unknown_valued, verify_known}
+use Rattle.squeue_run.proofs.Unknown.{not_known, taken, taken_unknown, taken_waiting, unknown_named, unknown_valued}
 
 abbrev pub end_of : Walk → List Text → Walk
 end_of w ws = fold (walked rules_built []) w ws
@@ -146,7 +146,7 @@ flag_walk a v waiting x h = after_step rules_built x (at h waiting false)
     (after_flag rules_built waiting x (long_met rules_built a v h).0 (long_met rules_built a v h).1).0
     (after_flag rules_built waiting x (long_met rules_built a v h).0 (long_met rules_built a v h).1).1
 
--- a use that is made at once, where it is a known option's or the flag's
+-- a use that is made at once, where it is a known option's or flag's
 use_quiet : (p : Option Use) (rows : List Row) (id : Text) → IsHeld p
     → quiet (or_else (or_else (settle_fault rules_built false (hold p rows)) (once_fault id (settled rules_built (hold p rows)).rows)) [])
     ≡ (fine (listed p) rows && not (has_row id (apply_all (listed p) rows)))
@@ -157,18 +157,18 @@ use_quiet p rows id is =
     ∙ ap₂ (λ (a b : Bool). a && b) (settles_quiet p rows is)
     (quiet-once id (settled rules_built (hold p rows)).rows ∙ ap (λ h. not (has_row id h.rows)) (settles p rows is))))
 
+permitted_once : (b : Bool) → b ≡ ((true && b) && true)
+permitted_once true = refl
+permitted_once false = refl
+
 -- `--name=value` of an option
 valued_quiet : (p : Option Use) (rows : List Row) (waiting : Waiting) (x name v : Text) → IsHeld p → is_option name ≡ true
     → quiet (flag_fault (Some (filled (option_rule name))) (Some v) waiting x (hold p rows)) ≡ fine (listed p ++ value name v ∷ []) rows
 valued_quiet p rows waiting x name v is known =
     ap (λ f. quiet (or_else (or_else (settle_fault rules_built false (hold p rows)) f) [])) (once_is name v (settled rules_built (hold p rows)).rows)
     ∙ (use_quiet p rows name is
-    ∙ (ap (λ b. fine (listed p) rows && b) (go (not (has_row name (apply_all (listed p) rows))) ∙ ap (λ b. (b && not (has_row name (apply_all (listed p) rows))) && true) (sym known))
+    ∙ (ap (λ b. fine (listed p) rows && b) (permitted_once (not (has_row name (apply_all (listed p) rows))) ∙ ap (λ b. (b && not (has_row name (apply_all (listed p) rows))) && true) (sym known))
     ∙ sym (fine-append (listed p) (value name v ∷ []) rows)))
-  where
-    go : (b : Bool) → b ≡ ((true && b) && true)
-    go true = refl
-    go false = refl
 
 valued_walk : (p : Option Use) (rows : List Row) (waiting : Waiting) (x name v : Text) → IsHeld p
     → flag_walk (Some (filled (option_rule name))) (Some v) waiting x (hold p rows) ≡ at (hold None (apply_all (listed p ++ value name v ∷ []) rows)) idle false
@@ -176,27 +176,27 @@ valued_walk p rows waiting x name v is =
     ap (λ h. at (hold None (used (filled (option_rule name)) (v ∷ []) h.rows)) idle false) (settles p rows is)
     ∙ ap (λ r. at (hold None r) idle false) (sym (apply_all-append (listed p) (value name v ∷ []) rows))
 
--- `--verify`
-verify_once : (rows : List Row) → use_fault false (filled verify_rule) [] rows ≡ once_fault (codes "verify") rows
-verify_once rows = go (has_row (codes "verify") rows)
+-- `--name` of a flag
+set_once : (name : Text) (rows : List Row) → use_fault false (filled (flag_rule name)) [] rows ≡ once_fault name rows
+set_once name rows = go (has_row name rows)
   where
     go : (b : Bool) → or_else (cond (b && true) (kind.ArgumentConflict ∷ []) []) [] ≡ cond b (kind.ArgumentConflict ∷ []) []
     go true = refl
     go false = refl
 
-verify_quiet : (p : Option Use) (rows : List Row) (waiting : Waiting) (x : Text) → IsHeld p
-    → quiet (flag_fault (Some (filled verify_rule)) None waiting x (hold p rows)) ≡ fine (listed p ++ verify ∷ []) rows
-verify_quiet p rows waiting x is =
-    ap (λ f. quiet (or_else (or_else (settle_fault rules_built false (hold p rows)) f) [])) (verify_once (settled rules_built (hold p rows)).rows)
-    ∙ (use_quiet p rows (codes "verify") is
-    ∙ (ap (λ b. fine (listed p) rows && b) (sym (and_true (not (has_row (codes "verify") (apply_all (listed p) rows)))))
-    ∙ sym (fine-append (listed p) (verify ∷ []) rows)))
+set_quiet : (p : Option Use) (rows : List Row) (waiting : Waiting) (x name : Text) → IsHeld p → is_flag name ≡ true
+    → quiet (flag_fault (Some (filled (flag_rule name))) None waiting x (hold p rows)) ≡ fine (listed p ++ flag name ∷ []) rows
+set_quiet p rows waiting x name is known =
+    ap (λ f. quiet (or_else (or_else (settle_fault rules_built false (hold p rows)) f) [])) (set_once name (settled rules_built (hold p rows)).rows)
+    ∙ (use_quiet p rows name is
+    ∙ (ap (λ b. fine (listed p) rows && b) (permitted_once (not (has_row name (apply_all (listed p) rows))) ∙ ap (λ b. (b && not (has_row name (apply_all (listed p) rows))) && true) (sym known))
+    ∙ sym (fine-append (listed p) (flag name ∷ []) rows)))
 
-verify_walk : (p : Option Use) (rows : List Row) (waiting : Waiting) (x : Text) → IsHeld p
-    → flag_walk (Some (filled verify_rule)) None waiting x (hold p rows) ≡ at (hold None (apply_all (listed p ++ verify ∷ []) rows)) idle false
-verify_walk p rows waiting x is =
-    ap (λ h. at (hold None (used (filled verify_rule) [] h.rows)) idle false) (settles p rows is)
-    ∙ ap (λ r. at (hold None r) idle false) (sym (apply_all-append (listed p) (verify ∷ []) rows))
+set_walk : (p : Option Use) (rows : List Row) (waiting : Waiting) (x name : Text) → IsHeld p
+    → flag_walk (Some (filled (flag_rule name))) None waiting x (hold p rows) ≡ at (hold None (apply_all (listed p ++ flag name ∷ []) rows)) idle false
+set_walk p rows waiting x name is =
+    ap (λ h. at (hold None (used (filled (flag_rule name)) [] h.rows)) idle false) (settles p rows is)
+    ∙ ap (λ r. at (hold None r) idle false) (sym (apply_all-append (listed p) (flag name ∷ []) rows))
 
 -- `--name` of an option
 named_quiet : (p : Option Use) (rows : List Row) (waiting : Waiting) (x name : Text) → IsHeld p
@@ -219,17 +219,17 @@ await_long name other v rows known = by_option (is_option other) refl
     known_fault None = await_fault name rows known
     known_fault (Some u) = quiet_first (settle_fault rules_built false (await name rows)) (use_fault false (filled (option_rule other)) (u ∷ []) (settled rules_built (await name rows)).rows) (await_fault name rows known)
 
-    verify_fault : (v : Option Text) → quiet (long_fault rules_built false (Some (filled verify_rule)) v (await name rows)) ≡ false
-    verify_fault None = quiet_first (settle_fault rules_built false (await name rows)) (use_fault false (filled verify_rule) [] (settled rules_built (await name rows)).rows) (await_fault name rows known)
-    verify_fault (Some u) = refl
+    set_fault : (v : Option Text) → quiet (long_fault rules_built false (Some (filled (flag_rule other))) v (await name rows)) ≡ false
+    set_fault None = quiet_first (settle_fault rules_built false (await name rows)) (use_fault false (filled (flag_rule other)) [] (settled rules_built (await name rows)).rows) (await_fault name rows known)
+    set_fault (Some u) = refl
 
-    by_verify : (b : Bool) → is_option other ≡ false → bytes_eq (codes "verify") other ≡ b → quiet (long_fault rules_built false (arg_by_long rules_built other) v (await name rows)) ≡ false
-    by_verify true e f = ap (λ a. quiet (long_fault rules_built false a v (await name rows))) (verify_known other f) ∙ verify_fault v
-    by_verify false e f = ap (λ a. quiet (long_fault rules_built false a v (await name rows))) (not_known other e f)
+    by_flag : (b : Bool) → is_option other ≡ false → is_flag other ≡ b → quiet (long_fault rules_built false (arg_by_long rules_built other) v (await name rows)) ≡ false
+    by_flag true e f = ap (λ a. quiet (long_fault rules_built false a v (await name rows))) (known_flag other f) ∙ set_fault v
+    by_flag false e f = ap (λ a. quiet (long_fault rules_built false a v (await name rows))) (not_known other e f)
 
     by_option : (b : Bool) → is_option other ≡ b → quiet (long_fault rules_built false (arg_by_long rules_built other) v (await name rows)) ≡ false
     by_option true e = ap (λ a. quiet (long_fault rules_built false a v (await name rows))) (known_long other e) ∙ known_fault v
-    by_option false e = by_verify (bytes_eq (codes "verify") other) e refl
+    by_option false e = by_flag (is_flag other) e refl
 
 await_walk : (name : Text) → is_option name ≡ true → (rows : List Row) (x : Text) → walk_at (option name) plain None x (await name rows) ≡ at (hold (Some (value name x)) rows) idle false
 await_walk = each_option (λ name. (rows : List Row) (x : Text) → walk_at (option name) plain None x (await name rows) ≡ at (hold (Some (value name x)) rows) idle false)
@@ -313,12 +313,12 @@ free_valued false p rows waiting x name v short ws is both turn e =
     flag_refused p rows waiting x ws name (Some v) (and_then_uses (value name v) (uses_from ws None)) turn.0 (unknown_valued name v (hold p rows) e) (taken_unknown (listed p) name v rows (uses_from ws None) e)
 
 free_named : (b c : Bool) (p : Option Use) (rows : List Row) (waiting : Waiting) (x name : Text) (short : Option Text) (ws : List Text) → IsHeld p → Both ws
-    → Turn waiting (named name) short x (hold p rows) → bytes_eq (codes "verify") name ≡ b → is_option name ≡ c
-    → Agrees (at (hold p rows) waiting false) (listed p) rows (x ∷ ws) (cond b (and_then_uses verify (uses_from ws None)) (uses_from ws (Some name)))
+    → Turn waiting (named name) short x (hold p rows) → is_flag name ≡ b → is_option name ≡ c
+    → Agrees (at (hold p rows) waiting false) (listed p) rows (x ∷ ws) (cond b (and_then_uses (flag name) (uses_from ws None)) (uses_from ws (Some name)))
 free_named true c p rows waiting x name short ws is both turn e f =
-    at_once p rows waiting x ws verify both
-    (turn.1 ∙ (ap (λ a. flag_walk a None waiting x (hold p rows)) (verify_known name e) ∙ verify_walk p rows waiting x is))
-    (ap quiet turn.0 ∙ (ap (λ a. quiet (flag_fault a None waiting x (hold p rows))) (verify_known name e) ∙ verify_quiet p rows waiting x is))
+    at_once p rows waiting x ws (flag name) both
+    (turn.1 ∙ (ap (λ a. flag_walk a None waiting x (hold p rows)) (known_flag name e) ∙ set_walk p rows waiting x name is))
+    (ap quiet turn.0 ∙ (ap (λ a. quiet (flag_fault a None waiting x (hold p rows))) (known_flag name e) ∙ set_quiet p rows waiting x name is e))
 free_named false true p rows waiting x name short ws is both turn e f =
     subst (Agrees (at (hold p rows) waiting false) (listed p) rows (x ∷ ws)) (same_map (uses_from ws (Some name)))
     (turn_agrees (at (hold p rows) waiting false) (at (await name (apply_all (listed p) rows)) (option name) false) x ws (listed p) (listed p) [] [] rows (uses_from ws (Some name))
@@ -333,7 +333,7 @@ free_look : (l : Look) (short : Option Text) (x : Text) (ws : List Text) (p : Op
 free_look end short x ws p rows waiting is free shorts both turn =
     turn_agrees (at (hold p rows) waiting false) (at (hold p rows) waiting true) x ws (listed p) [] (listed p) [] rows (Some (map call ws)) turn.1 (ap quiet turn.0) (λ us. refl) (behind_agrees ws p rows waiting is)
 free_look (valued name v) short x ws p rows waiting is free shorts both turn = free_valued (is_option name) p rows waiting x name v short ws is both turn refl
-free_look (named name) short x ws p rows waiting is free shorts both turn = free_named (bytes_eq (codes "verify") name) (is_option name) p rows waiting x name short ws is both turn refl refl
+free_look (named name) short x ws p rows waiting is free shorts both turn = free_named (is_flag name) (is_option name) p rows waiting x name short ws is both turn refl refl
 free_look dashed short x ws p rows waiting is free shorts both turn =
     refused (at (hold p rows) waiting false) (listed p) rows (x ∷ ws) None
     (turn_refused (at (hold p rows) waiting false) x ws (ap quiet turn.0 ∙ quiet_first (fault_by dashed short (hold p rows)) _ (dashed_quiet short rows (hold p rows).pending shorts))) refl

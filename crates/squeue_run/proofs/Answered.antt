@@ -4,44 +4,44 @@ use Rattle.std.specs.Prelude.{option_map, option_and_then, unwrap_or}
 use Rattle.std.proofs.lemmas.List.{take_more, take-append-drop, map-append}
 use Rattle.squeue_run.specs.Command.{flag_text}
 use Rattle.squeue_run.specs.Words.{Given, Text, given}
-use Rattle.squeue_run.specs.Asked.{Asked, asked, asked_by, call_of, calls_of, input_of, is_count, setup_by, setup_of}
+use Rattle.squeue_run.specs.Asked.{Asked, asked, asked_by, call_of, calls_of, input_of, go_together, setup_by, setup_of}
 use Rattle.ring_quotas.specs.declared.setup.Setup.{Setup}
 use Rattle.squeue_run.specs.declared.calls.CallWord.{CallWord}
 use Rattle.squeue_run.proofs.Texts.{calls_of-bad, calls_of-push}
 
-pub same_setup : (a b c d e a' b' c' d' e' : Option Text) → a ≡ a' → b ≡ b' → c ≡ c' → d ≡ d' → e ≡ e' → setup_by a b c d e ≡ setup_by a' b' c' d' e'
-same_setup a b c d e a' b' c' d' e' p q r s t = rw (p, q, r, s, t) refl
+pub same_setup : (a b c d e a' b' c' d' e' : Option Text) (f f' : Bool) → a ≡ a' → b ≡ b' → c ≡ c' → d ≡ d' → e ≡ e' → f ≡ f' → setup_by a b c d e f ≡ setup_by a' b' c' d' e' f'
+same_setup a b c d e a' b' c' d' e' f f' p q r s t u = rw (p, q, r, s, t, u) refl
 
 -- ---- the parts joined
 
-abbrev joined : Option Setup → Option (Option ℕ) → (Option ℕ → Bool) → Option (List CallWord) → Bool → Option Asked
-joined s n fits cs v = option_and_then (λ setup. option_and_then (λ number. cond (fits number) (option_map (λ calls. record { setup = setup; verify = v; number = number; calls = calls }) cs) None) n) s
+abbrev joined : Option Setup → Option (Option ℕ) → (Setup → Option ℕ → Bool) → Option (List CallWord) → Bool → Option Asked
+joined s n fits cs v = option_and_then (λ setup. option_and_then (λ number. cond (fits setup number) (option_map (λ calls. record { setup = setup; verify = v; number = number; calls = calls }) cs) None) n) s
 
-asked_is : (ws : List Text) (g : Given) → given ws ≡ Some g → asked ws ≡ joined (setup_of g) (input_of g.number) (λ n. is_count n g.calls) (calls_of g.calls) g.verify
+asked_is : (ws : List Text) (g : Given) → given ws ≡ Some g → asked ws ≡ joined (setup_of g) (input_of g.number) (λ r m. go_together m r.trace g.calls) (calls_of g.calls) g.verify
 asked_is ws g e = ap (option_and_then asked_by) e
 
-pub asked_uncounted : (ws : List Text) (g : Given) (s : Setup) (n : Option ℕ) → given ws ≡ Some g → setup_of g ≡ Some s → input_of g.number ≡ Some n → is_count n g.calls ≡ false → asked ws ≡ None
+pub asked_uncounted : (ws : List Text) (g : Given) (s : Setup) (n : Option ℕ) → given ws ≡ Some g → setup_of g ≡ Some s → input_of g.number ≡ Some n → go_together n s.trace g.calls ≡ false → asked ws ≡ None
 asked_uncounted ws g s n e f h k =
     asked_is ws g e
-    ∙ (ap (λ (o : Option Setup). joined o (input_of g.number) (λ n. is_count n g.calls) (calls_of g.calls) g.verify) f
-    ∙ (ap (λ (o : Option (Option ℕ)). joined (Some s) o (λ n. is_count n g.calls) (calls_of g.calls) g.verify) h
+    ∙ (ap (λ (o : Option Setup). joined o (input_of g.number) (λ r m. go_together m r.trace g.calls) (calls_of g.calls) g.verify) f
+    ∙ (ap (λ (o : Option (Option ℕ)). joined (Some s) o (λ r m. go_together m r.trace g.calls) (calls_of g.calls) g.verify) h
     ∙ ap (λ (b : Bool). cond b (option_map (λ calls. record { setup = s; verify = g.verify; number = n; calls = calls }) (calls_of g.calls)) None) k))
 
-counted : (ws : List Text) (g : Given) (s : Setup) (n : Option ℕ) → given ws ≡ Some g → setup_of g ≡ Some s → input_of g.number ≡ Some n → is_count n g.calls ≡ true
+counted : (ws : List Text) (g : Given) (s : Setup) (n : Option ℕ) → given ws ≡ Some g → setup_of g ≡ Some s → input_of g.number ≡ Some n → go_together n s.trace g.calls ≡ true
     → asked ws ≡ option_map (λ calls. record { setup = s; verify = g.verify; number = n; calls = calls }) (calls_of g.calls)
 counted ws g s n e f h k =
     asked_is ws g e
-    ∙ (ap (λ (o : Option Setup). joined o (input_of g.number) (λ n. is_count n g.calls) (calls_of g.calls) g.verify) f
-    ∙ (ap (λ (o : Option (Option ℕ)). joined (Some s) o (λ n. is_count n g.calls) (calls_of g.calls) g.verify) h
+    ∙ (ap (λ (o : Option Setup). joined o (input_of g.number) (λ r m. go_together m r.trace g.calls) (calls_of g.calls) g.verify) f
+    ∙ (ap (λ (o : Option (Option ℕ)). joined (Some s) o (λ r m. go_together m r.trace g.calls) (calls_of g.calls) g.verify) h
     ∙ ap (λ (b : Bool). cond b (option_map (λ calls. record { setup = s; verify = g.verify; number = n; calls = calls }) (calls_of g.calls)) None) k))
 
-pub asked_no_calls : (ws : List Text) (g : Given) (s : Setup) (n : Option ℕ) → given ws ≡ Some g → setup_of g ≡ Some s → input_of g.number ≡ Some n → is_count n g.calls ≡ true → calls_of g.calls ≡ None → asked ws ≡ None
+pub asked_no_calls : (ws : List Text) (g : Given) (s : Setup) (n : Option ℕ) → given ws ≡ Some g → setup_of g ≡ Some s → input_of g.number ≡ Some n → go_together n s.trace g.calls ≡ true → calls_of g.calls ≡ None → asked ws ≡ None
 asked_no_calls ws g s n e f h k no_calls = counted ws g s n e f h k ∙ ap (option_map (λ (calls : List CallWord). record { setup = s; verify = g.verify; number = n; calls = calls })) no_calls
 
 abbrev asked_with : Setup → Option ℕ → List CallWord → Bool → Option Asked
 asked_with s n cs v = Some (record { setup = s; verify = v; number = n; calls = cs })
 
-pub asked_all : (ws : List Text) (g : Given) (s : Setup) (n : Option ℕ) (cs : List CallWord) (v : Bool) → given ws ≡ Some g → setup_of g ≡ Some s → input_of g.number ≡ Some n → is_count n g.calls ≡ true → calls_of g.calls ≡ Some cs → v ≡ g.verify
+pub asked_all : (ws : List Text) (g : Given) (s : Setup) (n : Option ℕ) (cs : List CallWord) (v : Bool) → given ws ≡ Some g → setup_of g ≡ Some s → input_of g.number ≡ Some n → go_together n s.trace g.calls ≡ true → calls_of g.calls ≡ Some cs → v ≡ g.verify
     → asked ws ≡ asked_with s n cs v
 asked_all ws g s n cs v e f h k all flag =
     counted ws g s n e f h k

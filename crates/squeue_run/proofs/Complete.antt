@@ -1,5 +1,5 @@
 -- Accepted words and an accepted capture end with the whole output, where nothing fails.
-use Rattle.std.proofs.Common.{◌≡◌, ◌∙◌, ℕ, ◌+◌, ◌≤◌, List, [], ◌∷◌, ◌++◌, length, Option, Some, None, Result, Ok, Err, inl, inr, subst, sym, ap, arith, length-append}
+use Rattle.std.proofs.Common.{◌≡◌, ◌∙◌, ℕ, ◌+◌, ◌<◌, ◌≤◌, List, [], ◌∷◌, ◌++◌, length, Option, Some, None, Result, Ok, Err, inl, inr, subst, sym, ap, arith, length-append}
 use Rattle.std.proofs.lemmas.List.{append-nil}
 use Rattle.std.specs.Io.KnownBytes.{Consumes}
 use Rattle.sq_base.specs.Ends.{Rose}
@@ -19,7 +19,7 @@ use Rattle.squeue_run.specs.Input.{IsInput, IsRefusedCapture, IsRefusedPcapng, R
 use Rattle.ring_threads.specs.Served.{ServedOf}
 use Rattle.squeue_run.specs.Asked.{Asked}
 use Rattle.squeue_run.specs.CallWords.{AllThere, IsFirstMissing}
-use Rattle.squeue_run.specs.Ran.{Accepts, AcceptsBy, HasRead, HoldsCapture, End, HasRan, IsDone, RanBy, RanFor, RanGenerated, RanRead, Reads, conns_of}
+use Rattle.squeue_run.specs.Ran.{Accepts, AcceptsBy, HasRead, HoldsCapture, End, HasRan, IsDone, IsLongTrace, IsServable, RanBy, RanFor, RanGenerated, RanRead, Reads, conns_of, marks_in, most_marks}
 use Rattle.squeue_run.specs.declared.calls.CallWord.{CallWord}
 
 whole_some : (xs bs : List ℕ) (is : Option (List ℕ)) → ReadsWhole (Some xs) is bs → bs ≡ xs
@@ -114,6 +114,13 @@ not_missing n c [] a m = m
 not_missing n c (w ∷ ws) a (inl m) = omega (arith, a.0, m.0)
 not_missing n c (w ∷ ws) a (inr m) = not_missing n c ws a.1 m.1
 
+over : (n m : ℕ) → m ≤ most_marks → n ≡ m → most_marks < n → ⊥
+over n m most same many = omega (arith, most, same, many)
+
+-- a trace within the limit isn't long
+not_long : (file : CaptureFile) (a : Asked) (n : ℕ) → IsServable file a → IsLongTrace file a n → ⊥
+not_long file a n can long = over n (marks_in file a) (can.marks long.asked) long.count long.many
+
 read_done : (a : Asked) (source out err : End) (back : Option ServedOf) (s : Status) → HoldsCapture a source.was → (Rose source.faults_were source.faults_are → ⊥) → (Rose out.faults_were out.faults_are → ⊥)
     → HasRead source s × RanRead a source out err back s → IsDone s
 read_done a source out err back status.Ok can nr nw h = tt
@@ -125,10 +132,13 @@ read_done a source out err back status.BadCapture can nr nw (r, inl h) = not_ref
 read_done a source out err back status.BadCapture can nr nw (r, inr h) = not_refused (IsRefusedPcapng h.0) can.file source can.bytes (refused_not_ng can.file h.0 can.capture) h.2
 read_done a source out err back status.TooLarge can nr nw (r, inl h) = not_too_many can.file.bytes source.was source.is can.bytes (input_small can.file can.capture) h.0
 read_done a source out err back status.TooLarge can nr nw (r, inr (inl h)) = not_refused (IsRefusedCapture fault.TooManyRecords) can.file source can.bytes (refused_not can.file fault.TooManyRecords can.capture) h.0
-read_done a source out err back status.TooLarge can nr nw (r, inr (inr h)) = not_refused (IsRefusedPcapng pcapng.TooManyRecords) can.file source can.bytes (refused_not_ng can.file pcapng.TooManyRecords can.capture) h.0
+read_done a source out err back status.TooLarge can nr nw (r, inr (inr (inr h))) =
+    let Long : CaptureFile → Type 0 = λ f. IsLongTrace f a h.2.0 in
+    not_long can.file a h.2.0 can.servable (subst Long (read_once can.file h.0 source can.bytes can.capture h.1) h.2.1)
+read_done a source out err back status.TooLarge can nr nw (r, inr (inr (inl h))) = not_refused (IsRefusedPcapng pcapng.TooManyRecords) can.file source can.bytes (refused_not_ng can.file pcapng.TooManyRecords can.capture) h.0
 read_done a source out err back status.NoConnection can nr nw h =
     let Named : CaptureFile → Type 0 = λ f. IsFirstMissing (conns_of f a.verify) h.1.2.0 a.calls in
-    not_missing (conns_of can.file a.verify) h.1.2.0 a.calls can.there (subst Named (read_once can.file h.1.0 source can.bytes can.capture h.1.1) h.1.2.1)
+    not_missing (conns_of can.file a.verify) h.1.2.0 a.calls can.servable.there (subst Named (read_once can.file h.1.0 source can.bytes can.capture h.1.1) h.1.2.1)
 
 generated_done : (n : ℕ) (a : Asked) (out err : End) (back : Option ServedOf) (s : Status) → (Rose out.faults_were out.faults_are → ⊥) → RanGenerated n a out err back s → IsDone s
 generated_done n a out err back status.Ok nw h = tt

@@ -7,7 +7,7 @@ use Rattle.clap.specs.Faults.{check_fault, default_fault, defaults_fault, given_
 use Rattle.clap.specs.Simple.{built, filled, with_index}
 use Rattle.clap.proofs.FaultLemmas.{leaf_fault}
 use Rattle.clap.proofs.OnLiterals.{clap_on_literals}
-use Rattle.squeue_run.specs.Command.{calls_rule, command_app, option_rule, verify_rule}
+use Rattle.squeue_run.specs.Command.{calls_rule, command_app, flag_rule, option_rule}
 use Rattle.squeue_run.specs.Words.{Text}
 use Rattle.squeue_run.proofs.Names.{rules_built, shape_built}
 
@@ -36,16 +36,16 @@ quiet_none a none rows = go (has_row a.id rows)
     go true = refl
     go false = ap (λ e. cond e [] (given_default_fault a a.defaults)) empty
 
-quiet_verify : Quiet (filled verify_rule)
+quiet_flag : (name : Text) → Quiet (filled (flag_rule name))
 unfolding clap_on_literals
-quiet_verify rows = go (has_row (codes "verify") rows)
+quiet_flag name rows = go (has_row name rows)
   where
     go : (b : Bool) → cond {A = Kinds} (b || false) [] [] ≡ []
     go true = refl
     go false = refl
 
 all_quiet : AllQuiet rules_built
-all_quiet = (quiet_none (filled (option_rule (codes "squeues"))) refl, (quiet_none (filled (option_rule (codes "rings"))) refl, (quiet_none (filled (option_rule (codes "mode"))) refl, (quiet_none (filled (option_rule (codes "budget"))) refl, (quiet_none (filled (option_rule (codes "spread"))) refl, (quiet_none (filled (option_rule (codes "gen"))) refl, (quiet_verify, (quiet_none (with_index 1 (filled calls_rule)) refl, tt))))))))
+all_quiet = (quiet_none (filled (option_rule (codes "squeues"))) refl, (quiet_none (filled (option_rule (codes "rings"))) refl, (quiet_none (filled (option_rule (codes "mode"))) refl, (quiet_none (filled (option_rule (codes "budget"))) refl, (quiet_none (filled (option_rule (codes "spread"))) refl, (quiet_none (filled (option_rule (codes "gen"))) refl, (quiet_flag (codes "verify"), (quiet_flag (codes "trace"), (quiet_none (with_index 1 (filled calls_rule)) refl, tt)))))))))
 
 or_else_nil : (k : Kinds) → or_else k [] ≡ k
 or_else_nil [] = refl

@@ -10,8 +10,9 @@ use Rattle.clap.specs.Walk.{Rule, has_row, more_values, reading_by, stronger, wi
 use Rattle.clap.specs.declared.builder.value_parser.Reading.{Reading}
 use Rattle.clap.specs.declared.parser.matches.ValueSource.{ValueSource}
 use Rattle.clap.specs.declared.parser.matches.ValueSource.TheVariants.{CommandLine}
-use Rattle.squeue_run.specs.Words.{Text, Use, value, verify, call, is_option, is_verify, value_of, calls_in}
+use Rattle.squeue_run.specs.Words.{Text, Use, value, flag, call, is_flag, is_option, sets, value_of, calls_in}
 use Rattle.squeue_run.specs.Command.{values_at}
+use Rattle.squeue_run.proofs.Known.{each_flag, flag_no_option}
 use Rattle.squeue_run.proofs.Rows.{fresh, find_first, find_last}
 use Rattle.squeue_run.proofs.Uses.{and_left, and_right, apply, apply_all, fine, permitted, rule_for}
 
@@ -24,8 +25,8 @@ row_with rule id values = record { id = id; values = values; count = None; sourc
 abbrev pub option_row : Text → Text → Row
 option_row name v = row_with (rule_for (value name v)) name (v ∷ [])
 
-abbrev pub flag_row : Row
-flag_row = row_with (rule_for verify) (codes "verify") (codes "true" ∷ [])
+abbrev pub flag_row : Text → Row
+flag_row name = row_with (rule_for (flag name)) name (codes "true" ∷ [])
 
 -- a name without a row has none taken away
 without_none : (id : Text) (rows : List Row) → has_row id rows ≡ false → without id rows ≡ rows
@@ -39,8 +40,8 @@ set_once id how s values rows e =
 pub apply_value : (name v : Text) (rows : List Row) → has_row name rows ≡ false → apply (value name v) rows ≡ rows ++ option_row name v ∷ []
 apply_value name v rows e = set_once name (reading_by (rule_for (value name v))) CommandLine (v ∷ []) rows e
 
-pub apply_verify : (rows : List Row) → has_row (codes "verify") rows ≡ false → apply verify rows ≡ rows ++ flag_row ∷ []
-apply_verify rows e = set_once (codes "verify") (reading_by (rule_for verify)) CommandLine (codes "true" ∷ []) rows e
+pub apply_flag : (name : Text) (rows : List Row) → has_row name rows ≡ false → apply (flag name) rows ≡ rows ++ flag_row name ∷ []
+apply_flag name rows e = set_once name (reading_by (rule_for (flag name))) CommandLine (codes "true" ∷ []) rows e
 
 -- ---- what a changed row leaves alone
 
@@ -163,34 +164,54 @@ look_option name known (value n v ∷ us) rows good =
         ∙ (ap (λ (t : Text). Some (option_row t v)) same
         ∙ sym (ap (λ (o : Option Row). or_first o (value_row name (Some v))) (look_none name rows mine)))
     go false e none = ap (λ (o : Option Row). or_first o (value_row name (value_of name us))) (push_other name rows (option_row n v) e)
-look_option name known (verify ∷ us) rows good =
-    let none : has_row (codes "verify") rows ≡ false = not_true (has_row (codes "verify") rows) (and_left (permitted verify rows) (fine us (apply verify rows)) good) in
-    look_option name known us (apply verify rows) (and_right (permitted verify rows) (fine us (apply verify rows)) good)
+look_option name known (flag n ∷ us) rows good =
+    let may = and_left (permitted (flag n) rows) (fine us (apply (flag n) rows)) good in
+    let none : has_row n rows ≡ false = not_true (has_row n rows) (and_right (is_flag n) (not (has_row n rows)) may) in
+    look_option name known us (apply (flag n) rows) (and_right (permitted (flag n) rows) (fine us (apply (flag n) rows)) good)
     ∙ ap (λ (o : Option Row). or_first o (value_row name (value_of name us)))
-    (ap (look name) (apply_verify rows none) ∙ push_other name rows flag_row (other_apart (codes "verify") name refl known))
+    (ap (look name) (apply_flag n rows none) ∙ push_other name rows (flag_row n) (other_apart n name (flag_no_option n (and_left (is_flag n) (not (has_row n rows)) may)) known))
 look_option name known (call word ∷ us) rows good =
     look_option name known us (apply (call word) rows) good
     ∙ ap (λ (o : Option Row). or_first o (value_row name (value_of name us)))
     (look_other (codes "calls") name (reading_by (rule_for (call word))) CommandLine (word ∷ []) rows (other_apart (codes "calls") name refl known))
 
--- the flag has its row where it is used
-pub look_flag : (us : List Use) (rows : List Row) → fine us rows ≡ true → look (codes "verify") (apply_all us rows) ≡ or_first (look (codes "verify") rows) (cond (list_any is_verify us) (Some flag_row) None)
-look_flag [] rows good = sym (or_first-none (look (codes "verify") rows))
-look_flag (value n v ∷ us) rows good =
+abbrev pub set_row : Text → Bool → Option Row
+set_row name b = cond b (Some (flag_row name)) None
+
+-- no flag is called so
+pub calls_apart : (name : Text) → is_flag name ≡ true → bytes_eq (codes "calls") name ≡ false
+calls_apart = each_flag (λ n. bytes_eq (codes "calls") n ≡ false) refl refl
+
+-- a flag has its row where it is used
+pub look_flag : (name : Text) → is_flag name ≡ true → (us : List Use) (rows : List Row) → fine us rows ≡ true → look name (apply_all us rows) ≡ or_first (look name rows) (set_row name (list_any (sets name) us))
+look_flag name known [] rows good = sym (or_first-none (look name rows))
+look_flag name known (value n v ∷ us) rows good =
     let may = and_left (permitted (value n v) rows) (fine us (apply (value n v) rows)) good in
     let none : has_row n rows ≡ false = not_true (has_row n rows) (and_right (is_option n) (not (has_row n rows)) may) in
-    look_flag us (apply (value n v) rows) (and_right (permitted (value n v) rows) (fine us (apply (value n v) rows)) good)
-    ∙ ap (λ (o : Option Row). or_first o (cond (list_any is_verify us) (Some flag_row) None))
-    (ap (look (codes "verify")) (apply_value n v rows none) ∙ push_other (codes "verify") rows (option_row n v) (option_apart n (codes "verify") (and_left (is_option n) (not (has_row n rows)) may) refl))
-look_flag (verify ∷ us) rows good =
-    let none : has_row (codes "verify") rows ≡ false = not_true (has_row (codes "verify") rows) (and_left (permitted verify rows) (fine us (apply verify rows)) good) in
-    look_flag us (apply verify rows) (and_right (permitted verify rows) (fine us (apply verify rows)) good)
-    ∙ (ap (λ (o : Option Row). or_first o (cond (list_any is_verify us) (Some flag_row) None)) (ap (look (codes "verify")) (apply_verify rows none) ∙ push_own (codes "verify") rows flag_row refl none)
-    ∙ sym (ap (λ (o : Option Row). or_first o (Some flag_row)) (look_none (codes "verify") rows none)))
-look_flag (call word ∷ us) rows good =
-    look_flag us (apply (call word) rows) good
-    ∙ ap (λ (o : Option Row). or_first o (cond (list_any is_verify us) (Some flag_row) None))
-    (look_other (codes "calls") (codes "verify") (reading_by (rule_for (call word))) CommandLine (word ∷ []) rows refl)
+    look_flag name known us (apply (value n v) rows) (and_right (permitted (value n v) rows) (fine us (apply (value n v) rows)) good)
+    ∙ ap (λ (o : Option Row). or_first o (set_row name (list_any (sets name) us)))
+    (ap (look name) (apply_value n v rows none) ∙ push_other name rows (option_row n v) (option_apart n name (and_left (is_option n) (not (has_row n rows)) may) (flag_no_option name known)))
+look_flag name known (flag n ∷ us) rows good =
+    let may = and_left (permitted (flag n) rows) (fine us (apply (flag n) rows)) good in
+    let none : has_row n rows ≡ false = not_true (has_row n rows) (and_right (is_flag n) (not (has_row n rows)) may) in
+    look_flag name known us (apply (flag n) rows) (and_right (permitted (flag n) rows) (fine us (apply (flag n) rows)) good)
+    ∙ (ap (λ (l : List Row). or_first (look name l) (set_row name (list_any (sets name) us))) (apply_flag n rows none) ∙ go (bytes_eq n name) refl none)
+  where
+    go : (b : Bool) → bytes_eq n name ≡ b → has_row n rows ≡ false → or_first (look name (rows ++ flag_row n ∷ [])) (set_row name (list_any (sets name) us)) ≡ or_first (look name rows) (set_row name (b || list_any (sets name) us))
+    go true e none =
+        let same : n ≡ name = true_from n name e in
+        let mine : has_row name rows ≡ false = ap (λ (t : Text). has_row t rows) (sym same) ∙ none in
+        ap (λ (o : Option Row). or_first o (set_row name (list_any (sets name) us))) (push_own name rows (flag_row n) e mine)
+        ∙ (ap (λ (t : Text). Some (flag_row t)) same
+        ∙ sym (ap (λ (o : Option Row). or_first o (Some (flag_row name))) (look_none name rows mine)))
+    go false e none = ap (λ (o : Option Row). or_first o (set_row name (list_any (sets name) us))) (push_other name rows (flag_row n) e)
+look_flag name known (call word ∷ us) rows good =
+    look_flag name known us (apply (call word) rows) good
+    ∙ ap (λ (o : Option Row). or_first o (set_row name (list_any (sets name) us)))
+    (look_other (codes "calls") name (reading_by (rule_for (call word))) CommandLine (word ∷ []) rows (calls_apart name known))
+
+apart_calls : (name : Text) → is_flag name ≡ true → bytes_eq name (codes "calls") ≡ false
+apart_calls = each_flag (λ n. bytes_eq n (codes "calls") ≡ false) refl refl
 
 -- the CALLs are all there, in order
 pub values_calls : (us : List Use) (rows : List Row) → fine us rows ≡ true → values_at (codes "calls") (apply_all us rows) ≡ values_at (codes "calls") rows ++ calls_in us
@@ -201,11 +222,12 @@ values_calls (value n v ∷ us) rows good =
     values_calls us (apply (value n v) rows) (and_right (permitted (value n v) rows) (fine us (apply (value n v) rows)) good)
     ∙ ap (λ (o : Option Row). unwrap_or (option_map (λ (x : Row). x.values) o) [] ++ calls_in us)
     (ap (look (codes "calls")) (apply_value n v rows none) ∙ push_other (codes "calls") rows (option_row n v) (option_apart n (codes "calls") (and_left (is_option n) (not (has_row n rows)) may) refl))
-values_calls (verify ∷ us) rows good =
-    let none : has_row (codes "verify") rows ≡ false = not_true (has_row (codes "verify") rows) (and_left (permitted verify rows) (fine us (apply verify rows)) good) in
-    values_calls us (apply verify rows) (and_right (permitted verify rows) (fine us (apply verify rows)) good)
+values_calls (flag n ∷ us) rows good =
+    let may = and_left (permitted (flag n) rows) (fine us (apply (flag n) rows)) good in
+    let none : has_row n rows ≡ false = not_true (has_row n rows) (and_right (is_flag n) (not (has_row n rows)) may) in
+    values_calls us (apply (flag n) rows) (and_right (permitted (flag n) rows) (fine us (apply (flag n) rows)) good)
     ∙ ap (λ (o : Option Row). unwrap_or (option_map (λ (x : Row). x.values) o) [] ++ calls_in us)
-    (ap (look (codes "calls")) (apply_verify rows none) ∙ push_other (codes "calls") rows flag_row refl)
+    (ap (look (codes "calls")) (apply_flag n rows none) ∙ push_other (codes "calls") rows (flag_row n) (apart_calls n (and_left (is_flag n) (not (has_row n rows)) may)))
 values_calls (call word ∷ us) rows good =
     values_calls us (apply (call word) rows) good
     ∙ (ap (λ (vs : List Text). vs ++ calls_in us) (values_more (codes "calls") (reading_by (rule_for (call word))) CommandLine (word ∷ []) rows refl)

@@ -1,9 +1,9 @@
 -- The setup of accepted words is in range.
-use Rattle.std.proofs.Common.{◌≡◌, ℕ, ◌≤◌, List, Option, Some, None, ap, subst, arith}
+use Rattle.std.proofs.Common.{◌≡◌, ℕ, ◌≤◌, Bool, List, Option, Some, None, ap, subst, arith}
 use Rattle.ring_quotas.specs.Quotas.{IsInRange}
 use Rattle.ring_quotas.specs.declared.setup.Setup.{Setup}
 use Rattle.squeue_run.specs.Words.{Text, given}
-use Rattle.squeue_run.specs.Asked.{Asked, asked, asked_by, calls_of, input_of, is_count, mode_or_process, number_or, setup_by, setup_of}
+use Rattle.squeue_run.specs.Asked.{Asked, asked, asked_by, calls_of, go_together, input_of, mode_or_process, number_or, setup_by, setup_of}
 use Rattle.squeue_run.proofs.Chains.{some_is, chained, mapped, guarded, number_within}
 
 -- a default lies in its range too
@@ -11,8 +11,8 @@ within : (default least most : ℕ) (text : Option Text) (n : ℕ) → least ≤
 within default least most None n low high e = let Within : ℕ → Type 0 = λ k. (least ≤ k) × (k ≤ most) in subst Within (some_is e) (low, high)
 within default least most (Some text) n low high e = number_within least most text n e
 
-by_texts : (squeues rings mode budget spread : Option Text) (s : Setup) → setup_by squeues rings mode budget spread ≡ Some s → IsInRange s
-by_texts squeues rings mode budget spread s e =
+by_texts : (squeues rings mode budget spread : Option Text) (trace : Bool) (s : Setup) → setup_by squeues rings mode budget spread trace ≡ Some s → IsInRange s
+by_texts squeues rings mode budget spread trace s e =
     let q = chained _ (number_or 1 1 16 squeues) s e in
     let r = chained _ (number_or 1 1 8 rings) s q.gives in
     let m = chained _ (mode_or_process mode) s r.gives in
@@ -30,7 +30,7 @@ setup_in_range words a e =
     let g = chained asked_by (given words) a e in
     let s = chained _ (setup_of g.value) a g.gives in
     let n = chained _ (input_of g.value.number) a s.gives in
-    let c = guarded (is_count n.value g.value.calls) _ a n.gives in
+    let c = guarded (go_together n.value s.value.trace g.value.calls) _ a n.gives in
     let m = mapped _ (calls_of g.value.calls) a c.1 in
     let same : s.value ≡ a.setup = ap (λ (b : Asked). b.setup) m.gives in
-    subst IsInRange same (by_texts g.value.squeues g.value.rings g.value.mode g.value.budget g.value.spread s.value s.found)
+    subst IsInRange same (by_texts g.value.squeues g.value.rings g.value.mode g.value.budget g.value.spread g.value.trace s.value s.found)

@@ -8,11 +8,11 @@ use Rattle.clap.specs.Walk.{Held, Rule, default_rows, finished, first_of, has_ro
 use Rattle.clap.specs.Simple.{filled, with_index}
 use Rattle.clap.specs.Faults.{settle_fault, walk_fault}
 use Rattle.clap.specs.declared.parser.matches.ValueSource.TheVariants.{DefaultValue}
-use Rattle.squeue_run.specs.Command.{calls_rule, command_app, flag_text, option_rule, verify_rule, Holds}
-use Rattle.squeue_run.specs.Words.{Given, Text, Use, accepted, given, given_by, is_known, is_option, is_verify, names_of, stand_once, uses_from, value_of}
+use Rattle.squeue_run.specs.Command.{calls_rule, command_app, flag_rule, flag_text, option_rule, Holds}
+use Rattle.squeue_run.specs.Words.{Given, Text, Use, accepted, given, given_by, is_known, is_option, names_of, sets, stand_once, uses_from, value_of}
 use Rattle.squeue_run.proofs.Agree.{Readable, end_of, from_front, quiet_from}
 use Rattle.squeue_run.proofs.Ends.{fault_is}
-use Rattle.squeue_run.proofs.Found.{flag_row, look, look_flag, look_none, look_option, look_other, value_row, values_calls}
+use Rattle.squeue_run.proofs.Found.{look, look_flag, look_none, look_option, look_other, set_row, value_row, values_calls}
 use Rattle.squeue_run.proofs.Names.{rules_built, shape_built}
 use Rattle.squeue_run.proofs.Once.{accepted_fine}
 use Rattle.squeue_run.proofs.Rows.{fresh, find_last}
@@ -20,7 +20,7 @@ use Rattle.squeue_run.proofs.Turns.{at, hold}
 use Rattle.squeue_run.proofs.Unknown.{taken}
 use Rattle.squeue_run.proofs.Uses.{apply_all, fine, quiet, quiet-or_else}
 
--- ---- defaults: only the flag has one
+-- ---- defaults: only the flags have them
 
 no_default : (a : Rule) (rows : List Row) → a.defaults ≡ [] → with_default rows a ≡ rows
 no_default a rows e = ap (λ d. cond (has_row a.id rows) rows (default_rows a.id (reading_by a) d rows)) e ∙ go (has_row a.id rows)
@@ -40,21 +40,28 @@ fold_bare (a ∷ more) bs rows bare = ap (λ (r : List Row). fold with_default r
 options_built : List Rule
 options_built = filled (option_rule (codes "squeues")) ∷ filled (option_rule (codes "rings")) ∷ filled (option_rule (codes "mode")) ∷ filled (option_rule (codes "budget")) ∷ filled (option_rule (codes "spread")) ∷ filled (option_rule (codes "gen")) ∷ []
 
-abbrev flag_rule : Rule
-flag_rule = filled verify_rule
+-- rows with a flag's default
+abbrev with_flag : Text → List Row → List Row
+with_flag n rows = with_default rows (filled (flag_rule n))
 
-finished_is : (h : Held) → finished rules_built h ≡ with_default (settled rules_built h).rows flag_rule
+abbrev with_flags : List Row → List Row
+with_flags rows = with_flag (codes "trace") (with_flag (codes "verify") rows)
+
+finished_is : (h : Held) → finished rules_built h ≡ with_flags (settled rules_built h).rows
 unfolding options_built
 finished_is h =
-    fold_bare options_built (flag_rule ∷ with_index 1 (filled calls_rule) ∷ []) (settled rules_built h).rows (refl, (refl, (refl, (refl, (refl, (refl, tt))))))
-    ∙ no_default (with_index 1 (filled calls_rule)) (with_default (settled rules_built h).rows flag_rule) refl
+    fold_bare options_built (filled (flag_rule (codes "verify")) ∷ filled (flag_rule (codes "trace")) ∷ with_index 1 (filled calls_rule) ∷ []) (settled rules_built h).rows (refl, (refl, (refl, (refl, (refl, (refl, tt))))))
+    ∙ no_default (with_index 1 (filled calls_rule)) (with_flags (settled rules_built h).rows) refl
 
-look_default : (name : Text) (rows : List Row) → bytes_eq (codes "verify") name ≡ false → look name (with_default rows flag_rule) ≡ look name rows
-look_default name rows e = go (has_row (codes "verify") rows)
+look_default : (n name : Text) (rows : List Row) → bytes_eq n name ≡ false → look name (with_flag n rows) ≡ look name rows
+look_default n name rows e = go (has_row n rows)
   where
-    go : (b : Bool) → look name (cond b rows (with_values (codes "verify") (reading_by flag_rule) DefaultValue (codes "false" ∷ []) rows)) ≡ look name rows
+    go : (b : Bool) → look name (cond b rows (with_values n (reading_by (filled (flag_rule n))) DefaultValue (codes "false" ∷ []) rows)) ≡ look name rows
     go true = refl
-    go false = look_other (codes "verify") name (reading_by flag_rule) DefaultValue (codes "false" ∷ []) rows e
+    go false = look_other n name (reading_by (filled (flag_rule n))) DefaultValue (codes "false" ∷ []) rows e
+
+look_defaults : (name : Text) (rows : List Row) → bytes_eq (codes "verify") name ≡ false → bytes_eq (codes "trace") name ≡ false → look name (with_flags rows) ≡ look name rows
+look_defaults name rows e f = look_default (codes "trace") name (with_flag (codes "verify") rows) f ∙ look_default (codes "verify") name rows e
 
 has_look : (id : Text) (rows : List Row) → has_row id rows ≡ is_some (look id rows)
 has_look id [] = refl
@@ -64,16 +71,16 @@ has_look id (r ∷ rs) = go (bytes_eq r.id id) (has_look id rs)
     go true more = refl
     go false more = more
 
-one_default : (b : Bool) (rows : List Row) → look (codes "verify") rows ≡ cond b (Some flag_row) None → one_of (codes "verify") (with_default rows flag_rule) ≡ Some (flag_text b)
-one_default true rows e =
-    let has : has_row (codes "verify") rows ≡ true = has_look (codes "verify") rows ∙ ap is_some e in
-    ap (λ (b : Bool). one_of (codes "verify") (cond b rows (with_values (codes "verify") (reading_by flag_rule) DefaultValue (codes "false" ∷ []) rows))) has
+one_default : (n : Text) → bytes_eq n n ≡ true → (b : Bool) (rows : List Row) → look n rows ≡ set_row n b → one_of n (with_flag n rows) ≡ Some (flag_text b)
+one_default n own true rows e =
+    let has : has_row n rows ≡ true = has_look n rows ∙ ap is_some e in
+    ap (λ (b : Bool). one_of n (cond b rows (with_values n (reading_by (filled (flag_rule n))) DefaultValue (codes "false" ∷ []) rows))) has
     ∙ ap (λ (o : Option Row). option_and_then row_text o) e
-one_default false rows e =
-    let has : has_row (codes "verify") rows ≡ false = has_look (codes "verify") rows ∙ ap is_some e in
-    ap (λ (b : Bool). one_of (codes "verify") (cond b rows (with_values (codes "verify") (reading_by flag_rule) DefaultValue (codes "false" ∷ []) rows))) has
-    ∙ (ap (one_of (codes "verify")) (fresh (codes "verify") (more_values DefaultValue (codes "false" ∷ [])) _ rows has)
-    ∙ ap (λ (o : Option Row). option_and_then row_text o) (find_last (λ (r : Row). bytes_eq r.id (codes "verify")) rows _ refl (look_none (codes "verify") rows has)))
+one_default n own false rows e =
+    let has : has_row n rows ≡ false = has_look n rows ∙ ap is_some e in
+    ap (λ (b : Bool). one_of n (cond b rows (with_values n (reading_by (filled (flag_rule n))) DefaultValue (codes "false" ∷ []) rows))) has
+    ∙ (ap (one_of n) (fresh n (more_values DefaultValue (codes "false" ∷ [])) _ rows has)
+    ∙ ap (λ (o : Option Row). option_and_then row_text o) (find_last (λ (r : Row). bytes_eq r.id n) rows _ own (look_none n rows has)))
 
 -- ---- the matches
 
@@ -81,21 +88,27 @@ value_back : (name : Text) (v : Option Text) → option_and_then (λ r. slice_ge
 value_back name None = refl
 value_back name (Some v) = refl
 
-first_is : (name : Text) → is_option name ≡ true → bytes_eq (codes "verify") name ≡ false → (us : List Use) → fine us [] ≡ true → first_of name (with_default (apply_all us []) flag_rule) ≡ value_of name us
-first_is name known other us good =
-    ap (λ (o : Option Row). option_and_then (λ r. slice_get r.values 0) o) (look_default name (apply_all us []) other ∙ look_option name known us [] good)
+first_is : (name : Text) → is_option name ≡ true → bytes_eq (codes "verify") name ≡ false → bytes_eq (codes "trace") name ≡ false → (us : List Use) → fine us [] ≡ true
+    → first_of name (with_flags (apply_all us [])) ≡ value_of name us
+first_is name known other another us good =
+    ap (λ (o : Option Row). option_and_then (λ r. slice_get r.values 0) o) (look_defaults name (apply_all us []) other another ∙ look_option name known us [] good)
     ∙ value_back name (value_of name us)
 
-reads_uses : (us : List Use) → fine us [] ≡ true → Holds (with_default (apply_all us []) flag_rule) (given_by us)
+reads_uses : (us : List Use) → fine us [] ≡ true → Holds (with_flags (apply_all us [])) (given_by us)
 reads_uses us good = record {
-  squeues = first_is (codes "squeues") refl refl us good;
-  rings = first_is (codes "rings") refl refl us good;
-  mode = first_is (codes "mode") refl refl us good;
-  budget = first_is (codes "budget") refl refl us good;
-  spread = first_is (codes "spread") refl refl us good;
-  number = first_is (codes "gen") refl refl us good;
-  verify = one_default (list_any is_verify us) (apply_all us []) (look_flag us [] good);
-  calls = ap (λ (o : Option Row). unwrap_or (option_map (λ (r : Row). r.values) o) []) (look_default (codes "calls") (apply_all us []) refl) ∙ values_calls us [] good;
+  squeues = first_is (codes "squeues") refl refl refl us good;
+  rings = first_is (codes "rings") refl refl refl us good;
+  mode = first_is (codes "mode") refl refl refl us good;
+  budget = first_is (codes "budget") refl refl refl us good;
+  spread = first_is (codes "spread") refl refl refl us good;
+  number = first_is (codes "gen") refl refl refl us good;
+  verify =
+      ap (λ (o : Option Row). option_and_then row_text o) (look_default (codes "trace") (codes "verify") (with_flag (codes "verify") (apply_all us [])) refl)
+      ∙ one_default (codes "verify") refl (list_any (sets (codes "verify")) us) (apply_all us []) (look_flag (codes "verify") refl us [] good);
+  trace =
+      one_default (codes "trace") refl (list_any (sets (codes "trace")) us) (with_flag (codes "verify") (apply_all us []))
+      (look_default (codes "verify") (codes "trace") (apply_all us []) refl ∙ look_flag (codes "trace") refl us [] good);
+  calls = ap (λ (o : Option Row). unwrap_or (option_map (λ (r : Row). r.values) o) []) (look_defaults (codes "calls") (apply_all us []) refl refl) ∙ values_calls us [] good;
 }
 
 -- ---- the law
@@ -128,9 +141,9 @@ matches_agree ws readable g e = by_uses (uses_from ws None) refl e
     by_test : (us : List Use) (b : Bool) → uses_from ws None ≡ Some us → fine us [] ≡ b → cond b (Some (given_by us)) None ≡ Some g → Holds (matches_of command_app ws) g
     by_test us true said good is =
         let rows : (settled rules_built (end_of (at (hold None []) idle false) ws).held).rows ≡ apply_all us [] = (from_front ws readable).ends us said good in
-        let whole : matches_of command_app ws ≡ with_default (apply_all us []) flag_rule =
-        finished_is (end_of (at (hold None []) idle false) ws).held ∙ ap (λ (r : List Row). with_default r flag_rule) rows in
-        subst (λ (r : List Row). Holds r g) (sym whole) (subst (λ (x : Given). Holds (with_default (apply_all us []) flag_rule) x) (some_is (given_by us) g is) (reads_uses us good))
+        let whole : matches_of command_app ws ≡ with_flags (apply_all us []) =
+        finished_is (end_of (at (hold None []) idle false) ws).held ∙ ap with_flags rows in
+        subst (λ (r : List Row). Holds r g) (sym whole) (subst (λ (x : Given). Holds (with_flags (apply_all us [])) x) (some_is (given_by us) g is) (reads_uses us good))
     by_test us false said good is = absurd (none_is g is)
 
     by_uses : (o : Option (List Use)) → uses_from ws None ≡ o → option_and_then accepted o ≡ Some g → Holds (matches_of command_app ws) g

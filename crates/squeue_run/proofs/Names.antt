@@ -14,5 +14,5 @@ rules_built = (built command_app).top.rules
 
 pub unknown : (name : Text) → bytes_eq (codes "squeues") name ≡ false → bytes_eq (codes "rings") name ≡ false → bytes_eq (codes "mode") name ≡ false
     → bytes_eq (codes "budget") name ≡ false → bytes_eq (codes "spread") name ≡ false → bytes_eq (codes "gen") name ≡ false
-    → bytes_eq (codes "verify") name ≡ false → arg_by_long rules_built name ≡ None
-unknown name a b c d e f g = rw (a, b, c, d, e, f, g) refl
+    → bytes_eq (codes "verify") name ≡ false → bytes_eq (codes "trace") name ≡ false → arg_by_long rules_built name ≡ None
+unknown name a b c d e f g h = rw (a, b, c, d, e, f, g, h) refl

@@ -5,8 +5,8 @@ use Rattle.std.specs.Str.{bytes_eq}
 use Rattle.clap.specs.Words.{Row}
 use Rattle.clap.specs.Walk.{has_row, reading_by}
 use Rattle.clap.specs.declared.parser.matches.ValueSource.TheVariants.{CommandLine}
-use Rattle.squeue_run.specs.Words.{Text, Use, value, verify, call, is_known, is_option, names_of, stand_once}
-use Rattle.squeue_run.proofs.Found.{apply_value, apply_verify, flag_row, has_other, has_row-push, option_row, other_apart}
+use Rattle.squeue_run.specs.Words.{Text, Use, value, flag, call, is_flag, is_known, is_option, names_of, stand_once}
+use Rattle.squeue_run.proofs.Found.{apply_flag, apply_value, calls_apart, flag_row, has_other, has_row-push, option_row, other_apart}
 use Rattle.squeue_run.proofs.Uses.{and_assoc, and_false, and_left, and_right, apply, fine, rule_for}
 
 -- no name has a row
@@ -31,9 +31,9 @@ apart-call [] word rows known = refl
 apart-call (value n v ∷ us) word rows known =
     ap (λ b. not b && apart (names_of us) (apply (call word) rows)) (has_other (codes "calls") n (reading_by (rule_for (call word))) CommandLine (word ∷ []) rows (other_apart (codes "calls") n refl (and_left (is_option n) (list_all is_known us) known)))
     ∙ ap (λ b. not (has_row n rows) && b) (apart-call us word rows (and_right (is_option n) (list_all is_known us) known))
-apart-call (verify ∷ us) word rows known =
-    ap (λ b. not b && apart (names_of us) (apply (call word) rows)) (has_other (codes "calls") (codes "verify") (reading_by (rule_for (call word))) CommandLine (word ∷ []) rows refl)
-    ∙ ap (λ b. not (has_row (codes "verify") rows) && b) (apart-call us word rows known)
+apart-call (flag n ∷ us) word rows known =
+    ap (λ b. not b && apart (names_of us) (apply (call word) rows)) (has_other (codes "calls") n (reading_by (rule_for (call word))) CommandLine (word ∷ []) rows (calls_apart n (and_left (is_flag n) (list_all is_known us) known)))
+    ∙ ap (λ b. not (has_row n rows) && b) (apart-call us word rows (and_right (is_flag n) (list_all is_known us) known))
 apart-call (call w ∷ us) word rows known = apart-call us word rows known
 
 -- a name that has no row yet
@@ -43,57 +43,45 @@ first_time n us rows r e =
     ap (λ b. b && stand_once (names_of us)) (apart-push (names_of us) rows r ∙ ap (λ (t : Text). apart (names_of us) rows && not (list_any (bytes_eq t) (names_of us))) e)
     ∙ and_assoc (apart (names_of us) rows) (not (list_any (bytes_eq n) (names_of us))) (stand_once (names_of us))
 
-value_once : (n v : Text) (us : List Use) (rows : List Row) → is_option n ≡ true → ((l : List Row) → fine us l ≡ (apart (names_of us) l && stand_once (names_of us)))
-    → fine (value n v ∷ us) rows ≡ (apart (n ∷ names_of us) rows && stand_once (n ∷ names_of us))
-value_once n v us rows option more = go (has_row n rows) refl
+-- a use of a known name, which adds the name's row
+named_once : (u : Use) (n : Text) (k : Bool) (r : Row) (us : List Use) (rows : List Row) → k ≡ true → r.id ≡ n → (has_row n rows ≡ false → apply u rows ≡ rows ++ r ∷ [])
+    → ((l : List Row) → fine us l ≡ (apart (names_of us) l && stand_once (names_of us)))
+    → ((k && not (has_row n rows)) && fine us (apply u rows)) ≡ (apart (n ∷ names_of us) rows && stand_once (n ∷ names_of us))
+named_once u n k r us rows known own adds more = go (has_row n rows) refl
   where
-    go : (b : Bool) → has_row n rows ≡ b → ((is_option n && not (has_row n rows)) && fine us (apply (value n v) rows))
+    go : (b : Bool) → has_row n rows ≡ b → ((k && not (has_row n rows)) && fine us (apply u rows))
         ≡ ((not (has_row n rows) && apart (names_of us) rows) && (not (list_any (bytes_eq n) (names_of us)) && stand_once (names_of us)))
     go true e =
-        ap (λ b. (is_option n && not b) && fine us (apply (value n v) rows)) e
-        ∙ (ap (λ b. b && fine us (apply (value n v) rows)) (and_false (is_option n))
+        ap (λ b. (k && not b) && fine us (apply u rows)) e
+        ∙ (ap (λ b. b && fine us (apply u rows)) (and_false k)
         ∙ sym (ap (λ b. (not b && apart (names_of us) rows) && (not (list_any (bytes_eq n) (names_of us)) && stand_once (names_of us))) e))
     go false e =
-        ap (λ b. (is_option n && not b) && fine us (apply (value n v) rows)) e
-        ∙ (ap (λ b. (b && true) && fine us (apply (value n v) rows)) option
-        ∙ (more (apply (value n v) rows)
-        ∙ (ap (λ (l : List Row). apart (names_of us) l && stand_once (names_of us)) (apply_value n v rows e)
-        ∙ (first_time n us rows (option_row n v) refl
+        ap (λ b. (k && not b) && fine us (apply u rows)) e
+        ∙ (ap (λ b. (b && true) && fine us (apply u rows)) known
+        ∙ (more (apply u rows)
+        ∙ (ap (λ (l : List Row). apart (names_of us) l && stand_once (names_of us)) (adds e)
+        ∙ (first_time n us rows r own
         ∙ sym (ap (λ b. (not b && apart (names_of us) rows) && (not (list_any (bytes_eq n) (names_of us)) && stand_once (names_of us))) e)))))
-
-verify_once : (us : List Use) (rows : List Row) → ((l : List Row) → fine us l ≡ (apart (names_of us) l && stand_once (names_of us)))
-    → fine (verify ∷ us) rows ≡ (apart (codes "verify" ∷ names_of us) rows && stand_once (codes "verify" ∷ names_of us))
-verify_once us rows more = go (has_row (codes "verify") rows) refl
-  where
-    go : (b : Bool) → has_row (codes "verify") rows ≡ b → (not (has_row (codes "verify") rows) && fine us (apply verify rows))
-        ≡ ((not (has_row (codes "verify") rows) && apart (names_of us) rows) && (not (list_any (bytes_eq (codes "verify")) (names_of us)) && stand_once (names_of us)))
-    go true e =
-        ap (λ b. not b && fine us (apply verify rows)) e
-        ∙ sym (ap (λ b. (not b && apart (names_of us) rows) && (not (list_any (bytes_eq (codes "verify")) (names_of us)) && stand_once (names_of us))) e)
-    go false e =
-        ap (λ b. not b && fine us (apply verify rows)) e
-        ∙ (more (apply verify rows)
-        ∙ (ap (λ (l : List Row). apart (names_of us) l && stand_once (names_of us)) (apply_verify rows e)
-        ∙ (first_time (codes "verify") us rows flag_row refl
-        ∙ sym (ap (λ b. (not b && apart (names_of us) rows) && (not (list_any (bytes_eq (codes "verify")) (names_of us)) && stand_once (names_of us))) e))))
 
 once_fine : (us : List Use) (rows : List Row) → list_all is_known us ≡ true → fine us rows ≡ (apart (names_of us) rows && stand_once (names_of us))
 once_fine [] rows known = refl
 once_fine (value n v ∷ us) rows known =
-    value_once n v us rows (and_left (is_option n) (list_all is_known us) known) (λ l. once_fine us l (and_right (is_option n) (list_all is_known us) known))
-once_fine (verify ∷ us) rows known = verify_once us rows (λ l. once_fine us l known)
+    named_once (value n v) n (is_option n) (option_row n v) us rows (and_left (is_option n) (list_all is_known us) known) refl (apply_value n v rows)
+    (λ l. once_fine us l (and_right (is_option n) (list_all is_known us) known))
+once_fine (flag n ∷ us) rows known =
+    named_once (flag n) n (is_flag n) (flag_row n) us rows (and_left (is_flag n) (list_all is_known us) known) refl (apply_flag n rows)
+    (λ l. once_fine us l (and_right (is_flag n) (list_all is_known us) known))
 once_fine (call word ∷ us) rows known =
     once_fine us (apply (call word) rows) known ∙ ap (λ b. b && stand_once (names_of us)) (apart-call us word rows known)
 
+unknown_named : (k free others more : Bool) → (k && others) ≡ false → (others ≡ false → more ≡ false) → ((k && free) && more) ≡ false
+unknown_named true free others more e next = ap (λ b. free && b) (next e) ∙ and_false free
+unknown_named false free others more e next = refl
+
 unknown_any : (us : List Use) (rows : List Row) → list_all is_known us ≡ false → fine us rows ≡ false
 unknown_any [] rows e = absurd (true≢false e)
-unknown_any (value n v ∷ us) rows e = go (is_option n) refl (λ f. unknown_any us (apply (value n v) rows) f)
-  where
-    go : (b : Bool) → is_option n ≡ b → (list_all is_known us ≡ false → fine us (apply (value n v) rows) ≡ false) → ((is_option n && not (has_row n rows)) && fine us (apply (value n v) rows)) ≡ false
-    go true f more =
-        ap (λ b. (is_option n && not (has_row n rows)) && b) (more (sym (ap (λ b. b && list_all is_known us) f) ∙ e)) ∙ and_false (is_option n && not (has_row n rows))
-    go false f more = ap (λ b. (b && not (has_row n rows)) && fine us (apply (value n v) rows)) f
-unknown_any (verify ∷ us) rows e = ap (λ b. not (has_row (codes "verify") rows) && b) (unknown_any us (apply verify rows) e) ∙ and_false (not (has_row (codes "verify") rows))
+unknown_any (value n v ∷ us) rows e = unknown_named (is_option n) (not (has_row n rows)) (list_all is_known us) (fine us (apply (value n v) rows)) e (λ f. unknown_any us (apply (value n v) rows) f)
+unknown_any (flag n ∷ us) rows e = unknown_named (is_flag n) (not (has_row n rows)) (list_all is_known us) (fine us (apply (flag n) rows)) e (λ f. unknown_any us (apply (flag n) rows) f)
 unknown_any (call word ∷ us) rows e = unknown_any us (apply (call word) rows) e
 
 apart_none : (names : List Text) → apart names [] ≡ true

@@ -1,5 +1,5 @@
 -- What was served has whole orders, and without calls only one order is whole.
-use Rattle.std.proofs.Common.{◌≡◌, ◌∙◌, ℕ, ◌<◌, ◌==◌, Bool, true, false, List, [], ◌∷◌, length, map, get_or, slice_get, Option, Some, IfSome, subst, sym, refl, ap, zero, suc, arith, eq-eqb}
+use Rattle.std.proofs.Common.{◌≡◌, ◌∙◌, ℕ, ◌<◌, ◌==◌, Bool, true, false, List, [], ◌∷◌, length, map, get_or, slice_get, Some, IfSome, subst, sym, refl, ap, ap₂, zero, suc, arith, eq-eqb}
 use Rattle.std.specs.Prelude.{if◌then◌else◌}
 use Rattle.std.specs.List.{range_with_len}
 use Rattle.std.proofs.lemmas.Bool.{both_ways}
@@ -12,38 +12,35 @@ use Rattle.conn_classifier.specs.Plan.{PlanOf, items_in, plan_of}
 use Rattle.conn_classifier.specs.declared.kinds.Item.{Item}
 use Rattle.conn_blocks.specs.CallLists.{CallLists}
 use Rattle.perimeter_core.specs.Deeds.{feed_numbers}
+use Rattle.perimeter_core.specs.declared.marks.Mark.{Mark}
+use Rattle.squeue_state.specs.Naming.{Ending}
+use Rattle.squeue_trace.specs.Told.{Traced, marks_of}
 use Rattle.conn_blocks.specs.Orders.{IsWhole, call_numbers, numbers_on}
 use Rattle.conn_blocks.specs.ServeOrder.{BlockOf}
 use Rattle.ring_quotas.specs.declared.setup.Setup.{Setup}
-use Rattle.ring_threads.specs.Served.{HasServed, ServedOf}
-use Rattle.ring_threads.specs.ServedBlocks.{AreServed, AreWhole}
+use Rattle.ring_quotas.specs.Quotas.{marks_most}
+use Rattle.ring_threads.specs.Served.{HasServed, ServedOf, orders_of}
+use Rattle.ring_threads.specs.ServedBlocks.{AreServed}
 use Rattle.squeue_report.specs.ReportText.{report_text}
 use Rattle.squeue_report.specs.SummaryText.{summary_text}
+use Rattle.squeue_report.specs.TraceText.{trace_text}
 use Rattle.squeue_run.specs.Asked.{Asked}
 use Rattle.squeue_run.specs.CallWords.{AllThere, lists_of}
-use Rattle.squeue_run.specs.Output.{AreOrders, IsGenerated, IsReport, IsSummary, items_alone, orders_of}
-use Rattle.squeue_run.specs.Ran.{conns_of}
+use Rattle.squeue_run.specs.Output.{AreOrders, IsGenerated, IsReport, IsSummary, histories_of, items_alone, told_of}
+use Rattle.squeue_run.specs.Ran.{conns_of, marks_in}
 use Rattle.squeue_run.specs.declared.calls.CallWord.{CallWord}
 
 abbrev orders_in : List BlockOf → List (List Act)
 orders_in bs = map (λ b. b.order) bs
 
-at_order : (P : List Act → Type 0) (b : BlockOf) (bs : List BlockOf) (c : ℕ) → c < length bs → IfSome (slice_get bs c) (λ x. P x.order) → P (get_or (orders_in bs) c [])
-at_order P b bs c lt h =
-    let there : slice_get bs c ≡ Some (get_or bs c b) = slice_get-get_or bs c b lt in
-    let If : Option BlockOf → Type 0 = λ r. IfSome r (λ x. P x.order) in
-    subst P (sym (get_or-map (λ x. x.order) bs c b [] lt)) (subst If there h)
-
--- some block, where there is one
-first_of : (bs : List BlockOf) (c : ℕ) → c < length bs → BlockOf
-first_of [] c lt = absurd (let no : ⊥ = omega arith in no)
-first_of (b ∷ bs) c lt = b
-
-are_orders : (p : PlanOf) (calls : CallLists) (bs : List BlockOf) → AreServed p calls bs → AreWhole p calls bs → AreOrders p calls (orders_in bs)
-are_orders p calls bs served whole = record {
-  count = length-map bs (λ b. b.order) ∙ served.count;
-  whole = λ c lt. let within : c < length bs = subst (λ n. c < n) (sym served.count) lt in at_order (IsWhole p calls c) (first_of bs c within) bs c within (whole c lt);
-}
+are_orders : (p : PlanOf) (calls : CallLists) (bs : List BlockOf) → AreServed p calls bs → ((c : ℕ) (order : List Act) → slice_get (orders_in bs) c ≡ Some order → IsWhole p calls c order)
+    → AreOrders p calls (orders_in bs)
+are_orders p calls bs served whole =
+    let count : length (orders_in bs) ≡ length p.tuples = length-map bs (λ b. b.order) ∙ served.count in
+    record {
+      count = count;
+      whole = λ c lt. whole c (get_or (orders_in bs) c []) (slice_get-get_or (orders_in bs) c [] (subst (λ n. c < n) (sym count) lt));
+    }
 
 only_feeds : (acts : List Act) → ((j : ℕ) → call_numbers j acts ≡ []) → acts ≡ map act.Feed (feed_numbers acts)
 only_feeds [] h = refl
@@ -79,39 +76,59 @@ alone file verify orders are =
     (λ c lt. is_feeds p (lists_of []) c (get_or orders c []) (no_call c) (are.whole c (subst (λ n. c < n) are.count lt))
     ∙ sym (get_or-map feeds p.items c [] [] (subst (λ n. c < n) count lt)))
 
--- a setup's squeues and rings served the plan with these calls
-abbrev Served : Setup → ServedOf → PlanOf → CallLists → Type 0
-Served s v p calls = HasServed p calls s.squeues s.rings s.spread v
+-- traces of these marks are the marks of the histories
+module _ (marks : Ending → List Mark) where
+  abbrev Tell : Bool → List Ending → List Traced → Type 0
+  Tell b es ts = (q : ℕ) (e : Ending) → slice_get es q ≡ Some e → IfSome (slice_get ts q) (λ t. marks_of t ≡ (if b then marks e else []))
+
+  traced : (es : List Ending) (ts : List Traced) → length ts ≡ length es → Tell true es ts → map marks_of ts ≡ map marks es
+  traced [] [] count h = refl
+  traced [] (t ∷ ts) count h = absurd (omega (arith, count))
+  traced (e ∷ es) [] count h = absurd (omega (arith, count))
+  traced (e ∷ es) (t ∷ ts) count h = ap₂ (λ m ms. m ∷ ms) (h 0 e refl) (traced es ts (omega (arith, count)) (λ q x is. h (suc q) x is))
+
+-- the report with what the traces hold is that with the marks of the histories
+told : (p : PlanOf) (calls : CallLists) (a : Asked) (v : ServedOf) → HasServed p calls a.setup v
+    → (if a.setup.trace then trace_text p calls a.setup a.verify (orders_of v) (map marks_of v.traces) else report_text p calls (orders_of v)) ≡ told_of p calls a v
+told p calls a v h = by a.setup.trace h.traced
+  where
+    by : (b : Bool) → Tell (λ e. map (λ m. m.mark) e.history) b v.ended v.traces
+        → (if b then trace_text p calls a.setup a.verify (orders_of v) (map marks_of v.traces) else report_text p calls (orders_of v))
+        ≡ (if b then trace_text p calls a.setup a.verify (orders_of v) (histories_of v) else report_text p calls (orders_of v))
+    by true t = ap (trace_text p calls a.setup a.verify (orders_of v)) (traced (λ e. map (λ m. m.mark) e.history) v.ended v.traces h.traces t)
+    by false t = refl
 
 -- the plan is that of the capture, and the calls are those of the words
-at_home : (s : Setup) (v : ServedOf) (p q : PlanOf) (calls others : CallLists) → p ≡ q → calls ≡ others → Served s v p calls → Served s v q others
+at_home : (s : Setup) (v : ServedOf) (p q : PlanOf) (calls others : CallLists) → p ≡ q → calls ≡ others → HasServed p calls s v → HasServed q others s v
 at_home s v p q calls others same equal h =
-    let Of : PlanOf → Type 0 = λ r. Served s v r calls in
-    let By : CallLists → Type 0 = λ k. Served s v q k in
+    let Of : PlanOf → Type 0 = λ r. HasServed r calls s v in
+    let By : CallLists → Type 0 = λ k. HasServed q k s v in
     subst By equal (subst Of same h)
 
 pub is_report : (file : CaptureFile) (a : Asked) (p : PlanOf) (calls : CallLists) (v : ServedOf) (text : List ℕ)
-    → p ≡ plan_of file a.verify → calls ≡ lists_of a.calls → HasServed p calls a.setup.squeues a.setup.rings a.setup.spread v
-    → ((k : CallLists) → AreServed p k v.blocks → text ≡ report_text p k (orders_of v)) → IsReport file a v text
+    → p ≡ plan_of file a.verify → calls ≡ lists_of a.calls → HasServed p calls a.setup v
+    → (AreServed p calls v.blocks
+    → text ≡ (if a.setup.trace then trace_text p calls a.setup a.verify (orders_of v) (map marks_of v.traces) else report_text p calls (orders_of v)))
+    → IsReport file a v text
 is_report file a p calls v text same equal h says =
     let q = plan_of file a.verify in
-    let served : Served a.setup v q (lists_of a.calls) = at_home a.setup v p q calls (lists_of a.calls) same equal h in
-    let are = are_orders q (lists_of a.calls) v.blocks served.served served.whole in
+    let served : HasServed q (lists_of a.calls) a.setup v = at_home a.setup v p q calls (lists_of a.calls) same equal h in
+    let are = are_orders q (lists_of a.calls) v.blocks served.served served.fits.whole in
     let Orders : List CallWord → Type 0 = λ ws. AreOrders q (lists_of ws) (orders_of v) in
     record {
       served = served;
       whole = are;
       alone = λ none. alone file a.verify (orders_of v) (subst Orders none are);
-      says = says calls h.served ∙ ap (λ r. report_text r calls (orders_of v)) same ∙ ap (λ k. report_text q k (orders_of v)) equal;
+      says = says h.served ∙ told p calls a v h ∙ ap (λ r. told_of r calls a v) same ∙ ap (λ k. told_of q k a v) equal;
     }
 
 pub is_summary : (number : ℕ) (file : CaptureFile) (a : Asked) (p : PlanOf) (calls : CallLists) (v : ServedOf) (input text : List ℕ) → IsGenerated number file
-    → p ≡ plan_of file a.verify → calls ≡ lists_of [] → input ≡ file.bytes → HasServed p calls a.setup.squeues a.setup.rings a.setup.spread v
+    → p ≡ plan_of file a.verify → calls ≡ lists_of [] → input ≡ file.bytes → HasServed p calls a.setup v
     → ((k : CallLists) → AreServed p k v.blocks → text ≡ summary_text number input p k (orders_of v)) → IsSummary number a v text
 is_summary number file a p calls v input text generated same equal bytes h says =
     let q = plan_of file a.verify in
-    let served : Served a.setup v q (lists_of []) = at_home a.setup v p q calls (lists_of []) same equal h in
-    let items : orders_of v ≡ items_alone q = alone file a.verify (orders_of v) (are_orders q (lists_of []) v.blocks served.served served.whole) in
+    let served : HasServed q (lists_of []) a.setup v = at_home a.setup v p q calls (lists_of []) same equal h in
+    let items : orders_of v ≡ items_alone q = alone file a.verify (orders_of v) (are_orders q (lists_of []) v.blocks served.served served.fits.whole) in
     record {
       file = file;
       generated = generated;
@@ -130,3 +147,7 @@ all_there file verify p n vs ws same count equal a =
     let At : ℕ → Type 0 = λ k. AllThere k vs in
     let Of : List CallWord → Type 0 = λ us. AllThere (conns_of file verify) us in
     subst Of equal (subst At (count ∙ ap (λ q. length q.tuples) same) a)
+
+-- the marks are those of the capture and of the words
+pub marks_are : (file : CaptureFile) (a : Asked) (p : PlanOf) (calls : CallLists) → p ≡ plan_of file a.verify → calls ≡ lists_of a.calls → marks_most p calls a.setup ≡ marks_in file a
+marks_are file a p calls same equal = ap (λ r. marks_most r calls a.setup) same ∙ ap (λ k. marks_most (plan_of file a.verify) k a.setup) equal

@@ -14,7 +14,7 @@ use Rattle.squeue_run.specs.Asked.{Asked}
 use Rattle.squeue_run.specs.CallWords.{IsFirstMissing}
 use Rattle.squeue_run.specs.declared.refusal.Refusal.{Refusal}
 use Rattle.squeue_run.specs.declared.refusal.Refusal.TheVariants as refusal
-use Rattle.squeue_run.specs.Lines.{memory_line, write_line, bad_line, pcapng_line, missing_line}
+use Rattle.squeue_run.specs.Lines.{memory_line, write_line, bad_line, many_marks_line, pcapng_line, missing_line}
 use Rattle.squeue_run.specs.Ran.{End, GetsLine, HandsBack, HasRan, IsUntouched, RanBy, RanFor, RanGenerated, RanRead, RanRefused, HasRead, MetNoFault, TakesFew}
 use Rattle.squeue_run.specs.Causes.{CountsFaults, Fails, FailsBy, GeneratedFails, Gives, GivesBy, LineOrMemory, ReadingFails, RefusedWords, Told}
 
@@ -29,6 +29,7 @@ refused_words refusal.Usage out err s u h t = subst (RanRefused out err) (sym t.
 refused_words (refusal.Capture f) out err s u h t = absurd h
 refused_words (refusal.Pcapng f) out err s u h t = absurd h
 refused_words (refusal.NoConnection c n) out err s u h t = absurd h
+refused_words (refusal.LongTrace n) out err s u h t = absurd h
 
 not_generated : (n : ℕ) (a : Asked) (why : Refusal) (out err : End) (s : Status) → IsUntouched out → GeneratedFails why → Told why err s → RanGenerated n a out err None s
 not_generated n a refusal.NoMemory out err s u h t = subst (RanGenerated n a out err None) (sym t.0) (u, t.1)
@@ -39,6 +40,7 @@ not_generated n a (refusal.Capture f) out err s u h t =
     subst (RanGenerated n a out err None) (sym told.0) (u, told.1)
 not_generated n a (refusal.Pcapng f) out err s u h t = absurd h
 not_generated n a (refusal.NoConnection c k) out err s u h t = absurd h
+not_generated n a (refusal.LongTrace k) out err s u h t = absurd h
 
 -- memory isn't missing where another fault is told
 abbrev is_memory : PcapngFault → Bool
@@ -74,7 +76,7 @@ not_read a (refusal.Capture (fault.RecordLength i j)) source out err s u (inr h)
     line_or_memory (RanRead a source out err None) status.BadCapture (bad_line (fault.RecordLength i j)) err s (λ g. inl (fault.RecordLength i j, tt, h, (u, g))) (λ g. (u, g)) t
 not_read a (refusal.Pcapng pcapng.NoMemory) source out err s u h t = subst (RanRead a source out err None) (sym t.0) (u, t.1)
 not_read a (refusal.Pcapng pcapng.TooManyRecords) source out err s u (inl e) t = absurd (no_memory_told pcapng.TooManyRecords refl e)
-not_read a (refusal.Pcapng pcapng.TooManyRecords) source out err s u (inr h) t = subst (RanRead a source out err None) (sym t.0) (inr (inr (h, (u, t.1))))
+not_read a (refusal.Pcapng pcapng.TooManyRecords) source out err s u (inr h) t = subst (RanRead a source out err None) (sym t.0) (inr (inr (inl (h, (u, t.1)))))
 not_read a (refusal.Pcapng (pcapng.ShortSection k)) source out err s u (inl e) t = absurd (no_memory_told (pcapng.ShortSection k) refl e)
 not_read a (refusal.Pcapng (pcapng.ShortSection k)) source out err s u (inr h) t =
     line_or_memory (RanRead a source out err None) status.BadCapture (pcapng_line (pcapng.ShortSection k)) err s (λ g. inr (pcapng.ShortSection k, tt, h, (u, g))) (λ g. (u, g)) t
@@ -107,6 +109,9 @@ not_read a (refusal.NoConnection c conns) source out err s u h t =
     let Gets : ℕ → Type 0 = λ n. GetsLine err (missing_line c n) in
     line_or_memory (RanRead a source out err None) status.NoConnection (missing_line c conns) err s
     (λ g. (h.0, h.1, (c, subst IsFirst h.2.0 h.2.1, (u, subst Gets h.2.0 g)))) (λ g. (u, g)) t
+not_read a (refusal.LongTrace n) source out err s u h t =
+    line_or_memory (RanRead a source out err None) status.TooLarge (many_marks_line n) err s
+    (λ g. inr (inr (inr (h.0, h.1, (n, h.2, (u, g)))))) (λ g. (u, g)) t
 
 by_line : (source err : End) (wanted s : Status) (text : List ℕ) → HasRead source wanted → HasRead source status.NoMemory → LineOrMemory wanted text err s → HasRead source s
 by_line source err wanted s text h m t = line_or_memory (HasRead source) wanted text err s (λ g. h) (λ g. m) t
@@ -134,6 +139,7 @@ has_read source err (refusal.Pcapng (pcapng.Link i k)) s c f t = by_line source 
 has_read source err (refusal.Pcapng (pcapng.MixedLink i k)) s c f t = by_line source err status.BadCapture s (pcapng_line (pcapng.MixedLink i k)) (c, f) (c, f) t
 has_read source err (refusal.Pcapng (pcapng.NoInterface i k)) s c f t = by_line source err status.BadCapture s (pcapng_line (pcapng.NoInterface i k)) (c, f) (c, f) t
 has_read source err (refusal.Pcapng (pcapng.PacketLength i k)) s c f t = by_line source err status.BadCapture s (pcapng_line (pcapng.PacketLength i k)) (c, f) (c, f) t
+has_read source err (refusal.LongTrace n) s c f t = by_line source err status.TooLarge s (many_marks_line n) (c, f) (c, f) t
 has_read source err (refusal.NoConnection k conns) s c f t = by_line source err status.NoConnection s (missing_line k conns) (c, f) (c, f) t
 
 not_written : (number : Option ℕ) (a : Asked) (why : Refusal) (source out err : End) (s : Status) → IsUntouched out → FailsBy number a source why → Told why err s → RanBy number a source out err None s

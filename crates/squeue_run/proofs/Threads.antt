@@ -7,7 +7,7 @@ use Rattle.std.proofs.lemmas.List.Elements.{filter-append}
 use Rattle.tcb_machine.specs.declared.kinds.Call.{Call}
 use Rattle.conn_blocks.specs.CallLists.{calls_of as list_of, call_count}
 use Rattle.squeue_run.specs.Words.{Text, given}
-use Rattle.squeue_run.specs.Asked.{Asked, asked, asked_by, calls_of, call_of, call_by, asked_of, number_between, is_count, input_of, setup_of, split_at}
+use Rattle.squeue_run.specs.Asked.{Asked, asked, asked_by, calls_of, call_of, call_by, asked_of, number_between, go_together, input_of, setup_of, split_at}
 use Rattle.squeue_run.specs.CallWords.{lists_of}
 use Rattle.squeue_run.specs.declared.calls.CallWord.{CallWord}
 use Rattle.squeue_run.proofs.Chains.{some_is, chained, mapped, guarded, first_of_both, number_within}
@@ -49,7 +49,7 @@ few_asked words a e =
     let g = chained asked_by (given words) a e in
     let s = chained _ (setup_of g.value) a g.gives in
     let n = chained _ (input_of g.value.number) a s.gives in
-    let c = guarded (is_count n.value g.value.calls) _ a n.gives in
+    let c = guarded (go_together n.value s.value.trace g.value.calls) _ a n.gives in
     let m = mapped _ (calls_of g.value.calls) a c.1 in
     let few = few_calls g.value.calls m.value m.found in
     let same : m.value ≡ a.calls = ap (λ (b : Asked). b.calls) m.gives in

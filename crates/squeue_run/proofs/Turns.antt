@@ -11,7 +11,7 @@ use Rattle.clap.specs.Simple.{filled}
 use Rattle.clap.specs.Faults.{bundle_fault, flag_word_fault, long_fault, settle_fault, step_fault, turn_fault, use_fault, word_fault}
 use Rattle.clap.specs.declared.error.kind.ErrorKind.TheVariants as kind
 use Rattle.squeue_run.specs.Command.{option_rule}
-use Rattle.squeue_run.specs.Words.{Look, Text, Use, value, verify, call, dashed, end, look_of, named, plain, valued, is_option}
+use Rattle.squeue_run.specs.Words.{Look, Text, Use, value, flag, call, dashed, end, look_of, named, plain, valued, is_option}
 use Rattle.squeue_run.proofs.Known.{known_id}
 use Rattle.squeue_run.proofs.Looks.{end_is, is_end, long_in, long_is}
 use Rattle.squeue_run.proofs.Names.{rules_built, shape_built}
@@ -24,7 +24,7 @@ at h waiting behind = record { held = h; waiting = waiting; position = 1; is_tra
 -- a use that clap has read and not settled
 abbrev pub pend : Use → Text × List Text
 pend (value name v) = (name, v ∷ [])
-pend verify = (codes "verify", [])
+pend (flag name) = (name, [])
 pend (call word) = (codes "calls", word ∷ [])
 
 abbrev pub hold : Option Use → List Row → Held
@@ -33,7 +33,7 @@ hold p rows = record { rows = rows; pending = option_map pend p; skip = 0 }
 abbrev pub IsHeld : Option Use → Type 0
 IsHeld None = Unit {0}
 IsHeld (Some (value name v)) = is_option name ≡ true
-IsHeld (Some verify) = ⊥
+IsHeld (Some (flag name)) = ⊥
 IsHeld (Some (call word)) = Unit {0}
 
 abbrev pub listed : Option Use → List Use
@@ -65,7 +65,7 @@ pub settles : (p : Option Use) (rows : List Row) → IsHeld p → settled rules_
 settles None rows is = refl
 settles (Some (value name v)) rows is = ap (λ a. hold None (used_by_id a (v ∷ []) rows)) (known_id name is)
 settles (Some (call word)) rows is = refl
-settles (Some verify) rows is = absurd is
+settles (Some (flag name)) rows is = absurd is
 
 pub settles_quiet : (p : Option Use) (rows : List Row) → IsHeld p → quiet (settle_fault rules_built false (hold p rows)) ≡ fine (listed p) rows
 settles_quiet None rows is = refl
@@ -77,7 +77,7 @@ settles_quiet (Some (value name v)) rows is =
     go true = refl
     go false = refl
 settles_quiet (Some (call word)) rows is = refl
-settles_quiet (Some verify) rows is = absurd is
+settles_quiet (Some (flag name)) rows is = absurd is
 
 -- what the word is to clap, by its look and by what follows a single hyphen
 abbrev pub met_by : Waiting → Look → Option Text → Text → Held → Held × Step

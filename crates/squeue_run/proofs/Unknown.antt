@@ -1,25 +1,25 @@
 -- Names that are no option's.
-use Rattle.std.proofs.Common.{◌≡◌, Bool, true, false, true≢false, refl, sym, ap, codes, List, [], ◌∷◌, Option, Some, None, ◌||◌, ◌++◌}
+use Rattle.std.proofs.Common.{◌≡◌, Bool, true, false, true≢false, refl, ap, codes, List, [], ◌∷◌, Option, Some, None, ◌||◌, ◌++◌}
 use Rattle.std.specs.Option.{option_map_or}
 use Rattle.std.specs.Str.{bytes_eq}
-use Rattle.std.proofs.lemmas.Slice.Eq.{bytes_eq-Decides}
 use Rattle.clap.specs.Words.{Row}
 use Rattle.clap.specs.Walk.{Held, arg_by_long}
 use Rattle.clap.specs.Faults.{long_fault}
-use Rattle.clap.specs.Simple.{filled}
-use Rattle.squeue_run.specs.Command.{verify_rule}
-use Rattle.squeue_run.specs.Words.{Look, Text, Use, value, dashed, end, look_of, named, plain, valued, is_option, uses_from, and_then_uses, met}
+use Rattle.squeue_run.specs.Words.{Look, Text, Use, value, dashed, end, look_of, named, plain, valued, is_flag, is_option, uses_from, and_then_uses, met}
+use Rattle.squeue_run.proofs.Known.{known_flag}
 use Rattle.squeue_run.proofs.Names.{rules_built, unknown}
 use Rattle.squeue_run.proofs.Uses.{fine, quiet, unknown_fine}
 
-pub name_is_verify : (name : Text) → bytes_eq (codes "verify") name ≡ true → codes "verify" ≡ name
-name_is_verify name e = (bytes_eq-Decides (codes "verify") name).0 e
-
--- what clap has of a name that is neither an option's nor the flag's
-pub not_known : (name : Text) → is_option name ≡ false → bytes_eq (codes "verify") name ≡ false → arg_by_long rules_built name ≡ None
+-- what clap has of a name that is neither an option's nor a flag's
+pub not_known : (name : Text) → is_option name ≡ false → is_flag name ≡ false → arg_by_long rules_built name ≡ None
 not_known name e f = go (bytes_eq (codes "squeues") name) (bytes_eq (codes "rings") name) (bytes_eq (codes "mode") name) (bytes_eq (codes "budget") name) (bytes_eq (codes "spread") name) (bytes_eq (codes "gen") name)
-    (λ a b c d g h. unknown name a b c d g h f) e
+    (λ a b c d g h. no_flag (bytes_eq (codes "verify") name) (bytes_eq (codes "trace") name) (unknown name a b c d g h) f) e
   where
+    no_flag : (u v : Bool) → (u ≡ false → v ≡ false → arg_by_long rules_built name ≡ None) → (u || (v || false)) ≡ false → arg_by_long rules_built name ≡ None
+    no_flag true v k h = absurd (true≢false h)
+    no_flag false true k h = absurd (true≢false h)
+    no_flag false false k h = k refl refl
+
     go : (u v w x y z : Bool) → (u ≡ false → v ≡ false → w ≡ false → x ≡ false → y ≡ false → z ≡ false → arg_by_long rules_built name ≡ None)
         → (u || (v || (w || (x || (y || (z || false)))))) ≡ false → arg_by_long rules_built name ≡ None
     go true v w x y z k h = absurd (true≢false h)
@@ -30,19 +30,16 @@ not_known name e f = go (bytes_eq (codes "squeues") name) (bytes_eq (codes "ring
     go false false false false false true k h = absurd (true≢false h)
     go false false false false false false k h = k refl refl refl refl refl refl
 
-pub verify_known : (name : Text) → bytes_eq (codes "verify") name ≡ true → arg_by_long rules_built name ≡ Some (filled verify_rule)
-verify_known name e = ap (arg_by_long rules_built) (sym (name_is_verify name e))
-
 -- `--name=value` of no option is refused
 pub unknown_valued : (name v : Text) (h : Held) → is_option name ≡ false → quiet (long_fault rules_built false (arg_by_long rules_built name) (Some v) h) ≡ false
-unknown_valued name v h e = go (bytes_eq (codes "verify") name) refl
+unknown_valued name v h e = go (is_flag name) refl
   where
-    go : (b : Bool) → bytes_eq (codes "verify") name ≡ b → quiet (long_fault rules_built false (arg_by_long rules_built name) (Some v) h) ≡ false
-    go true f = ap (λ a. quiet (long_fault rules_built false a (Some v) h)) (verify_known name f)
+    go : (b : Bool) → is_flag name ≡ b → quiet (long_fault rules_built false (arg_by_long rules_built name) (Some v) h) ≡ false
+    go true f = ap (λ a. quiet (long_fault rules_built false a (Some v) h)) (known_flag name f)
     go false f = ap (λ a. quiet (long_fault rules_built false a (Some v) h)) (not_known name e f)
 
--- and so is `--name` of none but the flag
-pub unknown_named : (name : Text) (h : Held) → is_option name ≡ false → bytes_eq (codes "verify") name ≡ false → quiet (long_fault rules_built false (arg_by_long rules_built name) None h) ≡ false
+-- and so is `--name` of none but the flags
+pub unknown_named : (name : Text) (h : Held) → is_option name ≡ false → is_flag name ≡ false → quiet (long_fault rules_built false (arg_by_long rules_built name) None h) ≡ false
 unknown_named name h e f = ap (λ a. quiet (long_fault rules_built false a None h)) (not_known name e f)
 
 -- the words' own definition refuses them too

@@ -1,20 +1,20 @@
 -- What a use does to clap's rows, and whether clap takes it there.
-use Rattle.std.proofs.Common.{◌≡◌, ◌∙◌, Bool, true, false, refl, sym, ap, codes, List, [], ◌∷◌, ◌++◌, ◌&&◌, not}
+use Rattle.std.proofs.Common.{◌≡◌, ◌∙◌, Bool, true, false, refl, sym, ap, List, [], ◌∷◌, ◌++◌, ◌&&◌, not}
 use Rattle.clap.specs.Words.{Kinds, Row}
 use Rattle.clap.specs.Kinds.{or_else}
 use Rattle.clap.specs.Walk.{Rule, has_row, used}
 use Rattle.clap.specs.Simple.{filled, with_index}
-use Rattle.squeue_run.specs.Command.{calls_rule, option_rule, verify_rule}
-use Rattle.squeue_run.specs.Words.{Text, Use, value, verify, call, is_option}
+use Rattle.squeue_run.specs.Command.{calls_rule, flag_rule, option_rule}
+use Rattle.squeue_run.specs.Words.{Text, Use, value, flag, call, is_flag, is_option}
 
 abbrev pub rule_for : Use → Rule
 rule_for (value name v) = filled (option_rule name)
-rule_for verify = filled verify_rule
+rule_for (flag name) = filled (flag_rule name)
 rule_for (call word) = with_index 1 (filled calls_rule)
 
 abbrev pub values_for : Use → List Text
 values_for (value name v) = v ∷ []
-values_for verify = []
+values_for (flag name) = []
 values_for (call word) = word ∷ []
 
 -- the rows after a use
@@ -25,10 +25,10 @@ abbrev pub apply_all : List Use → List Row → List Row
 apply_all [] rows = rows
 apply_all (u ∷ us) rows = apply_all us (apply u rows)
 
--- an option that is known and has no row may be used, so may the flag without a row, and a CALL may always
+-- an option or a flag that is known and has no row may be used, and a CALL may always
 abbrev pub permitted : Use → List Row → Bool
 permitted (value name v) rows = is_option name && not (has_row name rows)
-permitted verify rows = not (has_row (codes "verify") rows)
+permitted (flag name) rows = is_flag name && not (has_row name rows)
 permitted (call word) rows = true
 
 abbrev pub fine : List Use → List Row → Bool

@@ -1,5 +1,5 @@
 -- What the texts of accepted words ask for: numbers, the mode, CALLs; and that each is in range.
-use Rattle.std.specs.Prelude.{ℕ, ◌==◌, ◌&&◌, not, nat_le, nat_lt, Bool, List, [], ◌∷◌, length, Option, None, Some, is_some, option_map, option_and_then, if◌then◌else◌, codes}
+use Rattle.std.specs.Prelude.{ℕ, ◌==◌, ◌&&◌, not, nat_le, nat_lt, ◌||◌, Bool, List, [], ◌∷◌, length, Option, None, Some, is_some, option_map, option_and_then, if◌then◌else◌, codes}
 use Rattle.std.specs.List.{list_all, list_any, before_first, after_first}
 use Rattle.std.specs.Str.{bytes_eq}
 use Rattle.std.specs.Char.{is_ascii_digit}
@@ -66,23 +66,23 @@ abbrev pub calls_of : List Text → Option (List CallWord)
 calls_of [] = Some []
 calls_of (text ∷ more) = option_and_then (λ one. option_map (λ others. one ∷ others) (calls_of more)) (call_of text)
 
-abbrev pub setup_by : Option Text → Option Text → Option Text → Option Text → Option Text → Option Setup
-setup_by squeues rings mode budget spread =
+abbrev pub setup_by : Option Text → Option Text → Option Text → Option Text → Option Text → Bool → Option Setup
+setup_by squeues rings mode budget spread trace =
     option_and_then (λ q. option_and_then (λ r. option_and_then (λ m. option_and_then (λ b. option_map (λ s.
-    record { squeues = q; rings = r; mode = m; budget = b; spread = s })
+    record { squeues = q; rings = r; mode = m; budget = b; spread = s; trace = trace })
     (number_or 0 0 65535 spread)) (number_or 64 1 65535 budget)) (mode_or_process mode)) (number_or 1 1 8 rings)) (number_or 1 1 16 squeues)
 
 abbrev pub setup_of : Given → Option Setup
-setup_of g = setup_by g.squeues g.rings g.mode g.budget g.spread
+setup_of g = setup_by g.squeues g.rings g.mode g.budget g.spread g.trace
 
 -- the number of a generated input, where one is given
 abbrev pub input_of : Option Text → Option (Option ℕ)
 input_of None = Some None
 input_of (Some text) = option_map (λ n. Some n) (number_between 0 4294967295 text)
 
--- at most 1,024 CALLs, and none beside a generated input
-abbrev pub is_count : Option ℕ → List Text → Bool
-is_count input calls = nat_le (length calls) 1024 && not (is_some input && nat_lt 0 (length calls))
+-- at most 1,024 CALLs; and beside a generated input none, and no trace
+abbrev pub go_together : Option ℕ → Bool → List Text → Bool
+go_together input trace calls = nat_le (length calls) 1024 && not (is_some input && (trace || nat_lt 0 (length calls)))
 
 -- what accepted words ask for: the CALLs are in word order
 pub record Asked : Type 0 where
@@ -93,7 +93,7 @@ pub record Asked : Type 0 where
 
 abbrev pub asked_by : Given → Option Asked
 asked_by g =
-    option_and_then (λ setup. option_and_then (λ number. if is_count number g.calls
+    option_and_then (λ setup. option_and_then (λ number. if go_together number setup.trace g.calls
     then option_map (λ calls. record { setup = setup; verify = g.verify; number = number; calls = calls }) (calls_of g.calls)
     else None) (input_of g.number)) (setup_of g)
 

@@ -8,14 +8,14 @@ use Rattle.capture_reader.specs.declared.fault.CaptureFault.TheVariants as fault
 use Rattle.pcapng_reader.specs.declared.fault.PcapngFault.TheVariants as pcapng
 use Rattle.ring_threads.specs.Served.{ServedOf}
 use Rattle.squeue_run.specs.Asked.{Asked}
-use Rattle.squeue_run.specs.CallWords.{AllThere, IsFirstMissing}
+use Rattle.squeue_run.specs.CallWords.{IsFirstMissing}
 use Rattle.squeue_run.specs.declared.reading.Words.{Words}
 use Rattle.squeue_run.specs.declared.refusal.Refusal.{Refusal}
 use Rattle.squeue_run.specs.declared.refusal.Refusal.TheVariants as refusal
-use Rattle.squeue_run.specs.Lines.{usage_line, memory_line, read_line, bad_line, pcapng_line, many_bytes_line, many_records_line, missing_line}
+use Rattle.squeue_run.specs.Lines.{usage_line, memory_line, read_line, bad_line, pcapng_line, many_bytes_line, many_records_line, many_marks_line, missing_line}
 use Rattle.squeue_run.specs.Input.{IsRefusedCapture, IsRefusedPcapng, ReadsSuch}
 use Rattle.squeue_run.specs.Output.{IsReport, IsSummary}
-use Rattle.squeue_run.specs.Ran.{End, GetsLine, IsUntouched, MetNoFault, Reads, TakesFew, conns_of}
+use Rattle.squeue_run.specs.Ran.{End, GetsLine, IsLongTrace, IsServable, IsUntouched, MetNoFault, Reads, TakesFew, conns_of}
 
 -- the line and the status of a refusal; where memory for the line is missing, that is the refusal
 abbrev pub LineOrMemory : Status → List ℕ → End → Status → Type 0
@@ -45,6 +45,7 @@ Told (refusal.Pcapng (pcapng.MixedLink i n)) err s = LineOrMemory status.BadCapt
 Told (refusal.Pcapng (pcapng.NoInterface i n)) err s = LineOrMemory status.BadCapture (pcapng_line (pcapng.NoInterface i n)) err s
 Told (refusal.Pcapng (pcapng.PacketLength i n)) err s = LineOrMemory status.BadCapture (pcapng_line (pcapng.PacketLength i n)) err s
 Told (refusal.NoConnection c conns) err s = LineOrMemory status.NoConnection (missing_line c conns) err s
+Told (refusal.LongTrace n) err s = LineOrMemory status.TooLarge (many_marks_line n) err s
 
 -- what the words ask, from what the program holds of them
 abbrev pub asked_by_words : Words → Asked
@@ -52,7 +53,7 @@ asked_by_words w = record { setup = w.setup; verify = w.verify; number = w.numbe
 
 -- what was served in the replay of a capture, and what it writes, or why it gives nothing
 abbrev pub Replays : CaptureFile → Asked → ServedOf → List ℕ → Type 0
-Replays file a v text = AllThere (conns_of file a.verify) a.calls × IsReport file a v text
+Replays file a v text = IsServable file a × IsReport file a v text
 
 abbrev pub ReplayFails : CaptureFile → Asked → Refusal → Type 0
 ReplayFails file a refusal.NoMemory = Unit {0}
@@ -60,6 +61,7 @@ ReplayFails file a refusal.Usage = ⊥
 ReplayFails file a (refusal.Capture f) = ⊥
 ReplayFails file a (refusal.Pcapng f) = ⊥
 ReplayFails file a (refusal.NoConnection c conns) = (conns ≡ conns_of file a.verify) × IsFirstMissing conns c a.calls
+ReplayFails file a (refusal.LongTrace n) = IsLongTrace file a n
 
 -- why a generated run gives nothing
 abbrev pub GeneratedFails : Refusal → Type 0
@@ -68,6 +70,7 @@ GeneratedFails refusal.Usage = ⊥
 GeneratedFails (refusal.Capture f) = f ≡ fault.NoMemory
 GeneratedFails (refusal.Pcapng f) = ⊥
 GeneratedFails (refusal.NoConnection c conns) = ⊥
+GeneratedFails (refusal.LongTrace n) = ⊥
 
 -- why bytes within the size are no capture
 abbrev pub InputFails : List ℕ → Refusal → Type 0
@@ -76,6 +79,7 @@ InputFails bytes refusal.Usage = ⊥
 InputFails bytes (refusal.Capture f) = (f ≡ fault.NoMemory) ⊎ IsRefusedCapture f bytes
 InputFails bytes (refusal.Pcapng f) = (f ≡ pcapng.NoMemory) ⊎ IsRefusedPcapng f bytes
 InputFails bytes (refusal.NoConnection c conns) = ⊥
+InputFails bytes (refusal.LongTrace n) = ⊥
 
 -- why an input that is read gives nothing
 abbrev pub ReadingFails : Asked → End → Refusal → Type 0
@@ -84,6 +88,7 @@ ReadingFails a source refusal.Usage = ⊥
 ReadingFails a source (refusal.Capture f) = BytesFail source.was source.is f ⊎ ReadsSuch (IsRefusedCapture f) source.was source.is
 ReadingFails a source (refusal.Pcapng f) = (f ≡ pcapng.NoMemory) ⊎ ReadsSuch (IsRefusedPcapng f) source.was source.is
 ReadingFails a source (refusal.NoConnection c conns) = (file : CaptureFile) × Reads source file × ReplayFails file a (refusal.NoConnection c conns)
+ReadingFails a source (refusal.LongTrace n) = (file : CaptureFile) × Reads source file × ReplayFails file a (refusal.LongTrace n)
 
 -- the source's count rose exactly where a read fault is the cause
 abbrev pub CountsFaults : End → Refusal → Type 0
@@ -110,6 +115,7 @@ RefusedWords refusal.Usage = Unit {0}
 RefusedWords (refusal.Capture f) = ⊥
 RefusedWords (refusal.Pcapng f) = ⊥
 RefusedWords (refusal.NoConnection c conns) = ⊥
+RefusedWords (refusal.LongTrace n) = ⊥
 
 abbrev pub Fails : Option Asked → End → Refusal → Type 0
 Fails None source why = IsUntouched source × RefusedWords why

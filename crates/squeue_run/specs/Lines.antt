@@ -12,7 +12,7 @@ abbrev pub line : List ℕ → List ℕ
 line text = text ++ 10 ∷ []
 
 abbrev pub usage_line : List ℕ
-usage_line = line (codes "usage: sqrun [--squeues N] [--rings N] [--mode process|nodrain|fill] [--budget N] [--spread N] [--verify] [--gen N] [CALL]...")
+usage_line = line (codes "usage: sqrun [--squeues N] [--rings N] [--mode process|nodrain|fill] [--budget N] [--spread N] [--verify] [--trace] [--gen N] [CALL]...")
 
 abbrev pub memory_line : List ℕ
 memory_line = line (codes "sqrun: out of memory")
@@ -28,6 +28,10 @@ many_bytes_line = line (codes "sqrun: too large: more than 67108864 bytes")
 
 abbrev pub many_records_line : List ℕ
 many_records_line = line (codes "sqrun: too large: more than 1048576 records")
+
+-- the line of a trace that may have n marks
+unfoldable pub many_marks_line : ℕ → List ℕ
+many_marks_line n = codes "sqrun: too large: trace of " ++ (decimal n ++ line (codes " marks"))
 
 -- the line of a bad capture, with what it shows; the other faults have lines of their own
 unfoldable pub bad_line : CaptureFault → List ℕ

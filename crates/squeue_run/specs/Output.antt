@@ -1,15 +1,17 @@
 -- The output of a run. Each connection's replies are those of one thread that serves the connection's printed order of entries.
-use Rattle.std.specs.Prelude.{◌≡◌, ℕ, ◌<◌, List, [], map, length, get_or}
+use Rattle.std.specs.Prelude.{◌≡◌, ℕ, ◌<◌, if◌then◌else◌, List, [], map, length, get_or}
 use Rattle.std.specs.List.{range_with_len}
 use Rattle.perimeter_core.specs.declared.entries.Act.{Act}
 use Rattle.perimeter_core.specs.declared.entries.Act.TheVariants as act
+use Rattle.perimeter_core.specs.declared.marks.Mark.{Mark}
 use Rattle.capture_reader.specs.Outcome.{CaptureFile, IsCapture}
 use Rattle.conn_classifier.specs.Plan.{PlanOf, plan_of}
 use Rattle.conn_blocks.specs.CallLists.{CallLists}
 use Rattle.conn_blocks.specs.Orders.{IsWhole}
-use Rattle.ring_threads.specs.Served.{HasServed, ServedOf}
+use Rattle.ring_threads.specs.Served.{HasServed, ServedOf, orders_of}
 use Rattle.squeue_report.specs.ReportText.{report_text}
 use Rattle.squeue_report.specs.SummaryText.{summary_text}
+use Rattle.squeue_report.specs.TraceText.{trace_text}
 use Rattle.squeue_run.specs.Asked.{Asked}
 use Rattle.squeue_run.specs.CallWords.{lists_of}
 use Rattle.squeue_run.specs.GeneratedCapture.{generated}
@@ -23,16 +25,22 @@ pub record AreOrders (p : PlanOf) (calls : CallLists) (orders : List (List Act))
 abbrev pub items_alone : PlanOf → List (List Act)
 items_alone p = map (λ items. map act.Feed (range_with_len 0 (length items))) p.items
 
--- by number each connection's order, as it was served
-abbrev pub orders_of : ServedOf → List (List Act)
-orders_of v = map (λ b. b.order) v.blocks
+-- by number the marks of each squeue's history
+abbrev pub histories_of : ServedOf → List (List Mark)
+histories_of v = map (λ e. map (λ m. m.mark) e.history) v.ended
 
--- the report of a capture, where this was served; without calls it is a function of the capture alone
+-- the report of what was served: where a trace is asked for, with the setup, the calls and the marks of the histories
+abbrev pub told_of : PlanOf → CallLists → Asked → ServedOf → List ℕ
+told_of p calls a v =
+    if a.setup.trace then trace_text p calls a.setup a.verify (orders_of v) (histories_of v)
+    else report_text p calls (orders_of v)
+
+-- The report of a capture, where this was served. Without calls the orders are a function of the capture alone, and so is the report but for its trace
 pub record IsReport (file : CaptureFile) (a : Asked) (v : ServedOf) (text : List ℕ) : Type 0 where
-  pub served : HasServed (plan_of file a.verify) (lists_of a.calls) a.setup.squeues a.setup.rings a.setup.spread v
+  pub served : HasServed (plan_of file a.verify) (lists_of a.calls) a.setup v
   pub whole : AreOrders (plan_of file a.verify) (lists_of a.calls) (orders_of v)
   pub alone : a.calls ≡ [] → orders_of v ≡ items_alone (plan_of file a.verify)
-  pub says : text ≡ report_text (plan_of file a.verify) (lists_of a.calls) (orders_of v)
+  pub says : text ≡ told_of (plan_of file a.verify) (lists_of a.calls) a v
 
 -- the input that is generated for a number
 pub record IsGenerated (number : ℕ) (file : CaptureFile) : Type 0 where
@@ -43,6 +51,6 @@ pub record IsGenerated (number : ℕ) (file : CaptureFile) : Type 0 where
 pub record IsSummary (number : ℕ) (a : Asked) (v : ServedOf) (text : List ℕ) : Type 0 where
   pub file : CaptureFile
   pub generated : IsGenerated number file
-  pub served : HasServed (plan_of file a.verify) (lists_of []) a.setup.squeues a.setup.rings a.setup.spread v
+  pub served : HasServed (plan_of file a.verify) (lists_of []) a.setup v
   pub alone : orders_of v ≡ items_alone (plan_of file a.verify)
   pub says : text ≡ summary_text number file.bytes (plan_of file a.verify) (lists_of []) (items_alone (plan_of file a.verify))

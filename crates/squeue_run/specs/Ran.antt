@@ -1,5 +1,5 @@
 -- How a run ends: by its status, what was read, what was written, which line was told, and what is handed back.
-use Rattle.std.specs.Prelude.{◌≡◌, ◌≤◌, ℕ, List, Option, Some, None, length, ◌⊎◌, Bool}
+use Rattle.std.specs.Prelude.{◌≡◌, ◌<◌, ◌≤◌, ℕ, true, List, Option, Some, None, length, ◌⊎◌, Bool}
 use Rattle.std.specs.Io.KnownBytes.{Keeps, Appends}
 use Rattle.sq_base.specs.Ends.{Rose, AppendsProperly}
 use Rattle.sq_base.specs.declared.kinds.Status.{Status}
@@ -11,12 +11,13 @@ use Rattle.capture_reader.specs.declared.fault.CaptureFault.TheVariants as fault
 use Rattle.pcapng_reader.specs.declared.fault.PcapngFault.{PcapngFault}
 use Rattle.pcapng_reader.specs.declared.fault.PcapngFault.TheVariants as pcapng
 use Rattle.conn_classifier.specs.Plan.{plan_of}
+use Rattle.ring_quotas.specs.Quotas.{marks_most}
 use Rattle.ring_threads.specs.Served.{ServedOf}
 use Rattle.squeue_run.specs.Asked.{Asked}
-use Rattle.squeue_run.specs.CallWords.{AllThere, IsFirstMissing}
+use Rattle.squeue_run.specs.CallWords.{AllThere, IsFirstMissing, lists_of}
 use Rattle.squeue_run.specs.Input.{IsInput, IsRefusedCapture, IsRefusedPcapng, ReadsSuch}
 use Rattle.squeue_run.specs.Output.{IsReport, IsSummary}
-use Rattle.squeue_run.specs.Lines.{usage_line, memory_line, read_line, write_line, bad_line, pcapng_line, many_bytes_line, many_records_line, missing_line}
+use Rattle.squeue_run.specs.Lines.{usage_line, memory_line, read_line, write_line, bad_line, pcapng_line, many_bytes_line, many_records_line, many_marks_line, missing_line}
 
 -- an end before and after the call: its bytes, where they are known, and its count of faults
 pub record End : Type 0 where
@@ -104,6 +105,26 @@ HandsBack back _ = back ≡ None
 abbrev pub conns_of : CaptureFile → Bool → ℕ
 conns_of file verify = length (plan_of file verify).tuples
 
+-- the most marks that a traced run may make
+abbrev pub most_marks : ℕ
+most_marks = 67108864
+
+-- how many marks the squeues of a run over this capture make at most
+abbrev pub marks_in : CaptureFile → Asked → ℕ
+marks_in file a = marks_most (plan_of file a.verify) (lists_of a.calls) a.setup
+
+-- each CALL's connection is there, and of a trace that is asked for the marks are within the limit
+pub record IsServable (file : CaptureFile) (a : Asked) : Type 0 where
+  pub there : AllThere (conns_of file a.verify) a.calls
+  pub marks : a.setup.trace ≡ true → marks_in file a ≤ most_marks
+
+-- each CALL's connection is there, and a trace is asked for, of n marks, which is over the limit
+pub record IsLongTrace (file : CaptureFile) (a : Asked) (n : ℕ) : Type 0 where
+  pub there : AllThere (conns_of file a.verify) a.calls
+  pub asked : a.setup.trace ≡ true
+  pub count : n ≡ marks_in file a
+  pub many : most_marks < n
+
 -- refused words
 abbrev pub RanRefused : End → End → Status → Type 0
 RanRefused out err status.Usage = OnlyTells out err usage_line
@@ -120,9 +141,9 @@ RanGenerated number a out err back _ = ⊥
 -- an input that was read
 abbrev pub RanRead : Asked → End → End → End → Option ServedOf → Status → Type 0
 RanRead a source out err back status.Ok =
-    (file : CaptureFile) × Reads source file × AllThere (conns_of file a.verify) a.calls × GetsWhole (IsReport file a) out back × IsUntouched err
+    (file : CaptureFile) × Reads source file × IsServable file a × GetsWhole (IsReport file a) out back × IsUntouched err
 RanRead a source out err back status.WriteFault =
-    (file : CaptureFile) × Reads source file × AllThere (conns_of file a.verify) a.calls × GetsFront (IsReport file a) out × GetsLine err write_line
+    (file : CaptureFile) × Reads source file × IsServable file a × GetsFront (IsReport file a) out × GetsLine err write_line
 RanRead a source out err back status.NoConnection =
     (file : CaptureFile) × Reads source file × ((c : ℕ) × IsFirstMissing (conns_of file a.verify) c a.calls × OnlyTells out err (missing_line c (conns_of file a.verify)))
 RanRead a source out err back status.BadCapture =
@@ -132,6 +153,7 @@ RanRead a source out err back status.TooLarge =
     (TakesTooMany source.was source.is × OnlyTells out err many_bytes_line)
     ⊎ (ReadsSuch (IsRefusedCapture fault.TooManyRecords) source.was source.is × OnlyTells out err many_records_line)
     ⊎ (ReadsSuch (IsRefusedPcapng pcapng.TooManyRecords) source.was source.is × OnlyTells out err many_records_line)
+    ⊎ ((file : CaptureFile) × Reads source file × ((n : ℕ) × IsLongTrace file a n × OnlyTells out err (many_marks_line n)))
 RanRead a source out err back status.ReadFault = OnlyTells out err read_line
 RanRead a source out err back status.NoMemory = OnlyTells out err memory_line
 RanRead a source out err back status.Usage = ⊥
@@ -150,12 +172,12 @@ pub record HasRan (words : Option Asked) (source out err : End) (back : Option S
   pub ran : RanFor words source out err back s
   pub handed : HandsBack back s
 
--- what a source has left is a capture within the size, with a connection for each CALL
+-- what a source has left is a capture within the size that can be served
 pub record HoldsCapture (a : Asked) (left : Option (List ℕ)) : Type 0 where
   pub file : CaptureFile
   pub bytes : left ≡ Some file.bytes
   pub capture : IsInput file
-  pub there : AllThere (conns_of file a.verify) a.calls
+  pub servable : IsServable file a
 
 abbrev pub AcceptsBy : Option ℕ → Asked → Option (List ℕ) → Type 0
 AcceptsBy (Some number) a left = Unit {0}

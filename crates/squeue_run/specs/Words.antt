@@ -33,14 +33,21 @@ abbrev pub look_of : Text → Look
 look_of [] = plain
 look_of (x ∷ xs) = if x == 45 then look_after_hyphen xs else plain
 
--- what words say: an option has this value, checksums decide, or a CALL
+-- what words say: an option has this value, a flag is set, or a CALL
 pub data Use : Type 0 where
   value : Text → Text → Use
-  verify : Use
+  flag : Text → Use
   call : Text → Use
 
 abbrev pub and_then_uses : Use → Option (List Use) → Option (List Use)
 and_then_uses u more = option_map (λ us. u ∷ us) more
+
+-- the flags
+abbrev pub flag_names : List Text
+flag_names = codes "verify" ∷ codes "trace" ∷ []
+
+abbrev pub is_flag : Text → Bool
+is_flag name = list_any (λ n. bytes_eq n name) flag_names
 
 -- one word, and what the words behind it say; where an option waits, this word is its value
 abbrev pub met : Option Text → Look → Text → List Text → (Option Text → Option (List Use)) → Option (List Use)
@@ -48,7 +55,7 @@ met (Some name) plain word rest next = and_then_uses (value name word) (next Non
 met (Some name) _ word rest next = None
 met None end word rest next = Some (map call rest)
 met None (valued name v) word rest next = and_then_uses (value name v) (next None)
-met None (named name) word rest next = if bytes_eq (codes "verify") name then and_then_uses verify (next None) else next (Some name)
+met None (named name) word rest next = if is_flag name then and_then_uses (flag name) (next None) else next (Some name)
 met None dashed word rest next = None
 met None plain word rest next = and_then_uses (call word) (next None)
 
@@ -67,14 +74,14 @@ is_option name = list_any (λ n. bytes_eq n name) option_names
 
 abbrev pub is_known : Use → Bool
 is_known (value name v) = is_option name
-is_known verify = true
+is_known (flag name) = is_flag name
 is_known (call word) = true
 
 -- the names that are used, in order
 abbrev pub names_of : List Use → List Text
 names_of [] = []
 names_of (value name v ∷ us) = name ∷ names_of us
-names_of (verify ∷ us) = codes "verify" ∷ names_of us
+names_of (flag name ∷ us) = name ∷ names_of us
 names_of (call word ∷ us) = names_of us
 
 -- no name stands twice
@@ -86,21 +93,22 @@ stand_once (name ∷ names) = not (list_any (bytes_eq name) names) && stand_once
 abbrev pub value_of : Text → List Use → Option Text
 value_of name [] = None
 value_of name (value n v ∷ us) = if bytes_eq n name then Some v else value_of name us
-value_of name (verify ∷ us) = value_of name us
+value_of name (flag n ∷ us) = value_of name us
 value_of name (call word ∷ us) = value_of name us
 
-abbrev pub is_verify : Use → Bool
-is_verify (value name v) = false
-is_verify verify = true
-is_verify (call word) = false
+-- whether a use sets this flag
+abbrev pub sets : Text → Use → Bool
+sets name (value n v) = false
+sets name (flag n) = bytes_eq n name
+sets name (call word) = false
 
 abbrev pub calls_in : List Use → List Text
 calls_in [] = []
 calls_in (value name v ∷ us) = calls_in us
-calls_in (verify ∷ us) = calls_in us
+calls_in (flag name ∷ us) = calls_in us
 calls_in (call word ∷ us) = word ∷ calls_in us
 
--- the texts that the words give: of each option at most one, and the CALLs in word order
+-- the texts that the words give: of each option at most one, the flags, and the CALLs in word order
 pub record Given : Type 0 where
   pub squeues : Option Text
   pub rings : Option Text
@@ -109,6 +117,7 @@ pub record Given : Type 0 where
   pub spread : Option Text
   pub number : Option Text
   pub verify : Bool
+  pub trace : Bool
   pub calls : List Text
 
 abbrev pub given_by : List Use → Given
@@ -119,7 +128,8 @@ given_by us = record {
   budget = value_of (codes "budget") us;
   spread = value_of (codes "spread") us;
   number = value_of (codes "gen") us;
-  verify = list_any is_verify us;
+  verify = list_any (sets (codes "verify")) us;
+  trace = list_any (sets (codes "trace")) us;
   calls = calls_in us;
 }
 

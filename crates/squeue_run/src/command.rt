@@ -3,7 +3,7 @@
 ghost use Rattle.std.specs.Prelude.{◌≡◌, IfOk, map};
 ghost use Rattle.std.specs.String.{string_bytes};
 ghost use Rattle.clap.specs.Words.{FailsBy, app_of, fault_of, found_of, matches_of, rows_of, with_rule};
-ghost use Rattle.squeue_run.specs.Command.{calls_rule, command_app, option_rule, verify_rule};
+ghost use Rattle.squeue_run.specs.Command.{calls_rule, command_app, flag_rule, option_rule};
 
 use clap::{Arg, ArgAction, ArgMatches, Command, Error};
 use std::alloc::{AllocError, Global};
@@ -30,7 +30,9 @@ fn command<'a>(alloc: Global) -> Result<Command<'a>, AllocError>
     let c = with_option(alloc, c, "budget")?;
     let c = with_option(alloc, c, "spread")?;
     let c = with_option(alloc, c, "gen")?;
-    with_rest(alloc, c)
+    let c = with_flag(alloc, c, "verify")?;
+    let c = with_flag(alloc, c, "trace")?;
+    with_calls(alloc, c)
 }
 
 /// The command with one more option, whose value is a text.
@@ -45,14 +47,22 @@ fn with_option<'a>(
     command.arg(arg)
 }
 
-/// The command with the flag and the CALLs.
-fn with_rest<'a>(alloc: Global, command: Command<'a>) -> Result<Command<'a>, AllocError>
-    ensures { IfOk result (λ c. app_of c ≡ with_rule (with_rule (app_of command.entry) verify_rule) calls_rule) }
+/// The command with one more flag.
+fn with_flag<'a>(
+    alloc: Global,
+    command: Command<'a>,
+    name: &'a str,
+) -> Result<Command<'a>, AllocError>
+    ensures { IfOk result (λ c. app_of c ≡ with_rule (app_of command.entry) (flag_rule name.entry.now)) }
 {
-    let verify = Arg::new(alloc, "verify")
-        .long("verify")
-        .action(ArgAction::SetTrue);
-    // Each CALL is a use of its own, so options may stand between them.
+    let arg = Arg::new(alloc, name).long(name).action(ArgAction::SetTrue);
+    command.arg(arg)
+}
+
+/// The command with the CALLs. Each is a use of its own, so options may stand between them.
+fn with_calls<'a>(alloc: Global, command: Command<'a>) -> Result<Command<'a>, AllocError>
+    ensures { IfOk result (λ c. app_of c ≡ with_rule (app_of command.entry) calls_rule) }
+{
     let calls = Arg::new(alloc, "calls").action(ArgAction::Append);
-    command.arg(verify)?.arg(calls)
+    command.arg(calls)
 }

@@ -3,7 +3,7 @@
 ghost use Rattle.std.specs.Prelude.{◌≡◌, IfOk, string_bytes};
 ghost use Rattle.std.specs.Io.KnownBytes.{Appends};
 ghost use Rattle.sq_base.specs.Ends.{Rose};
-ghost use Rattle.squeue_run.specs.Lines.{bad_line, pcapng_line, missing_line};
+ghost use Rattle.squeue_run.specs.Lines.{bad_line, many_marks_line, missing_line, pcapng_line};
 ghost use Rattle.squeue_run.specs.Ran.{IsBad, IsBadPcapng};
 
 use capture_reader::CaptureFault;
@@ -12,7 +12,7 @@ use sq_base::{Sink, put};
 use std::alloc::{AllocError, Global};
 
 pub const USAGE: &[u8] =
-    b"usage: sqrun [--squeues N] [--rings N] [--mode process|nodrain|fill] [--budget N] [--spread N] [--verify] [--gen N] [CALL]...\n";
+    b"usage: sqrun [--squeues N] [--rings N] [--mode process|nodrain|fill] [--budget N] [--spread N] [--verify] [--trace] [--gen N] [CALL]...\n";
 
 pub const NO_MEMORY: &[u8] = b"sqrun: out of memory\n";
 
@@ -102,6 +102,14 @@ pub fn no_connection(alloc: Global, c: u32, conns: u32) -> Result<String, AllocE
     ensures { IfOk result (λ text. string_bytes text ≡ missing_line c conns) }
 {
     format!(in alloc; "sqrun: call on connection {c} of {conns}\n")
+}
+
+/// The line of a trace that may have so many marks.
+#[tactic(auto, unfolding(crate::specs::Lines::many_marks_line))]
+pub fn many_marks(alloc: Global, marks: u64) -> Result<String, AllocError>
+    ensures { IfOk result (λ text. string_bytes text ≡ many_marks_line marks) }
+{
+    format!(in alloc; "sqrun: too large: trace of {marks} marks\n")
 }
 
 /// Appends a line, where that works.

@@ -20,6 +20,8 @@ pub struct Words {
     pub setup: Setup,
     /// Whether checksums decide.
     pub verify: bool,
+    /// Whether the report has the marks of each squeue's history; the setup says the same.
+    pub trace: bool,
     /// The number of a generated input, where one is asked for.
     pub number: Option<u32>,
     /// The CALLs by thread.
@@ -32,6 +34,7 @@ pub struct Words {
 pub fn read_words(alloc: Global, words: &[String]) -> Result<Words, WordFault>
     ensures ok { IfOk result (λ w. asked (map (λ s. string_bytes s) words.now) ≡ Some (asked_by_words w)) }
     ensures setup { IfOk result (λ w. IsInRange w.setup) }
+    ensures trace { IfOk result (λ w. w.trace ≡ w.setup.trace) }
     ensures calls { IfOk result (λ w. w.calls ≡ lists_of w.named.items) }
     ensures usage { result ≡ Err WordFault.Usage → asked (map (λ s. string_bytes s) words.now) ≡ None }
 {
@@ -43,6 +46,7 @@ pub fn read_words(alloc: Global, words: &[String]) -> Result<Words, WordFault>
         Ok(calls) => Ok(Words {
             setup: given.setup,
             verify: given.verify,
+            trace: given.setup.trace,
             number: given.number,
             calls,
             named: given.calls,

@@ -8,8 +8,8 @@ ghost use Rattle.squeue_run.specs.Causes.{Told};
 ghost use Rattle.squeue_run.specs.Ran.{end_of};
 
 use crate::lines::{
-    MANY_BYTES, MANY_RECORDS, NO_MEMORY, READ_FAULT, USAGE, bad_capture, bad_pcapng, no_connection,
-    tell,
+    MANY_BYTES, MANY_RECORDS, NO_MEMORY, READ_FAULT, USAGE, bad_capture, bad_pcapng, many_marks,
+    no_connection, tell,
 };
 use capture_reader::CaptureFault;
 use pcapng_reader::PcapngFault;
@@ -25,6 +25,8 @@ pub enum Refusal {
     Pcapng(PcapngFault),
     /// A CALL on connection `c` of `conns`.
     NoConnection { c: u32, conns: u32 },
+    /// A trace that may have so many marks, more than the limit.
+    LongTrace(u64),
 }
 
 impl From<AllocError> for Refusal {
@@ -57,6 +59,7 @@ pub fn refuse<E: Sink>(alloc: Global, err: &mut E, refusal: &Refusal) -> Status
         Refusal::NoConnection { c, conns } => {
             told_line(err, no_connection(alloc, *c, *conns), Status::NoConnection)
         }
+        Refusal::LongTrace(marks) => told_line(err, many_marks(alloc, *marks), Status::TooLarge),
     }
 }
 

@@ -1,13 +1,19 @@
 //! The top call: from the words and the bytes of a capture to the bytes of a report.
 
-ghost use Rattle.std.specs.Prelude.{◌≡◌, map, MatchOption, MatchResult};
+ghost use Rattle.std.specs.Prelude.{◌≡◌, ◌<◌, ◌≤◌, if◌then◌else◌, true, All, IfOk, MatchOption, MatchResult, length, map};
 ghost use Rattle.std.specs.String.{string_bytes};
 ghost use Rattle.squeue_run.specs.Asked.{asked};
 ghost use Rattle.squeue_run.specs.CallWords.{AllThere, IsFirstMissing, lists_of};
 ghost use Rattle.sq_base.specs.Ends.{Rose};
-ghost use Rattle.ring_quotas.specs.Quotas.{IsInRange};
+ghost use Rattle.squeue_trace.specs.Told.{marks_of};
+ghost use Rattle.conn_blocks.specs.Allowed.{all_calls};
+ghost use Rattle.ring_quotas.specs.Quotas.{IsInRange, marks_most};
+ghost use Rattle.ring_threads.specs.Served.{orders_of};
+ghost use Rattle.ring_threads.specs.ServedBlocks.{AreServed};
+ghost use Rattle.squeue_report.specs.ReportText.{report_text};
+ghost use Rattle.squeue_report.specs.TraceText.{trace_text};
 ghost use Rattle.squeue_run.specs.Output.{IsSummary};
-ghost use Rattle.squeue_run.specs.Ran.{HasRan, Accepts, IsDone, end_of};
+ghost use Rattle.squeue_run.specs.Ran.{HasRan, Accepts, IsDone, end_of, most_marks};
 ghost use Rattle.squeue_run.specs.Causes.{Gives, Fails, GivesBy, FailsBy, Replays, ReplayFails, GeneratedFails, asked_by_words};
 
 use crate::calls::CallWord;
@@ -19,14 +25,18 @@ use crate::refusal::{Refusal, refuse};
 use crate::words::WordFault;
 use capture_reader::{Capture, parse_capture, read_bytes};
 use conn_blocks::Calls;
-use conn_classifier::plan;
+use conn_classifier::{Plan, plan};
 use perimeter_core::{Hook, NoHook};
+use ring_quotas::{Setup, marks_most};
 use ring_threads::{Served, serve};
 use sq_base::{Octets, Sink, Source, Status, put};
-use squeue_report::{report, summary};
-use std::alloc::Global;
+use squeue_report::{report, report2, summary};
+use std::alloc::{AllocError, Global};
 use std::sync::Wait;
 use std::thread::Threads;
+
+/// The most marks that a traced run may make.
+const MOST_MARKS: u64 = 67_108_864;
 
 /// How a run ended, and what was served where it ended well.
 #[derive(Drop)]
@@ -163,6 +173,53 @@ fn missing(named: &[CallWord], conns: u32) -> Option<u32>
     None
 }
 
+/// How many marks the squeues make at most, where a trace of them is asked for and they are over the limit.
+fn long_trace(plan: &Plan<'_>, calls: &Calls, setup: &Setup) -> Option<u64>
+    requires range { IsInRange setup.now }
+    requires calls { All (λ call. call.0 < length plan.now.tuples) (all_calls calls.now) }
+    ensures { MatchOption result
+        (setup.now.trace ≡ true → marks_most plan.now calls.now setup.now ≤ most_marks)
+        (λ n. (setup.now.trace ≡ true) × (n ≡ marks_most plan.now calls.now setup.now) × (most_marks < n)) }
+{
+    if !setup.trace {
+        return None;
+    }
+    let marks = marks_most(plan, calls, setup);
+    if marks > MOST_MARKS {
+        Some(marks)
+    } else {
+        None
+    }
+}
+
+/// The report of what was served, with the marks where a trace is asked for.
+fn reported(
+    alloc: Global,
+    plan: &Plan<'_>,
+    words: &Words,
+    served: &Served,
+) -> Result<Octets, AllocError>
+    requires blocks { length served.now.blocks ≡ length plan.now.tuples }
+    requires traces { length served.now.traces ≡ words.now.setup.squeues }
+    ensures { IfOk result (λ text. AreServed plan.now words.now.calls served.now.blocks → text ≡
+        (if words.now.setup.trace
+        then trace_text plan.now words.now.calls words.now.setup words.now.verify (orders_of served.now) (map marks_of served.now.traces)
+        else report_text plan.now words.now.calls (orders_of served.now))) }
+{
+    if words.setup.trace {
+        report2(
+            alloc,
+            plan,
+            &words.calls,
+            &words.setup,
+            words.verify,
+            served,
+        )
+    } else {
+        report(alloc, plan, served)
+    }
+}
+
 /// The report of a capture.
 fn replayed<H: Hook + Sync>(
     rt: &(impl Threads + Wait + Sync),
@@ -179,14 +236,15 @@ fn replayed<H: Hook + Sync>(
 {
     let plan = plan(rt, alloc, capture, words.verify)?;
     let conns = plan.conns();
-    match missing(&words.named, conns) {
-        Some(c) => Err(Refusal::NoConnection { c, conns }),
-        None => {
-            let served = serve(rt, alloc, &plan, &words.calls, &words.setup, hook)?;
-            let text = report(alloc, &plan, &served)?;
-            Ok(Written { text, served })
-        }
+    if let Some(c) = missing(&words.named, conns) {
+        return Err(Refusal::NoConnection { c, conns });
     }
+    if let Some(marks) = long_trace(&plan, &words.calls, &words.setup) {
+        return Err(Refusal::LongTrace(marks));
+    }
+    let served = serve(rt, alloc, &plan, &words.calls, &words.setup, hook)?;
+    let text = reported(alloc, &plan, words, &served)?;
+    Ok(Written { text, served })
 }
 
 /// The summary of the run over the generated capture.

@@ -12,6 +12,7 @@ mod dialogues;
 mod failing;
 mod inputs;
 mod large;
+mod meeting;
 mod setups;
 mod words;
 

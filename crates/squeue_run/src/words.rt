@@ -5,7 +5,7 @@ ghost use Rattle.std.specs.String.{string_bytes};
 ghost use Rattle.clap.specs.Words.{found_of, rows_of};
 ghost use Rattle.squeue_run.specs.Words.{Given, given};
 ghost use Rattle.squeue_run.specs.Command.{Holds};
-ghost use Rattle.squeue_run.specs.Asked.{asked, calls_of, input_of, is_count, setup_by, setup_of};
+ghost use Rattle.squeue_run.specs.Asked.{asked, calls_of, go_together, input_of, setup_by, setup_of};
 
 use crate::calls::{CallWord, call_in};
 use crate::command::parse;
@@ -50,7 +50,7 @@ pub fn words_asked(alloc: Global, words: &[String]) -> Result<AskedWords, WordFa
         return Err(WordFault::Usage);
     };
     let named = matches.get_strs("calls").unwrap_or(&[]);
-    if !is_count(number, named) {
+    if !go_together(number, setup.trace, named) {
         return Err(WordFault::Usage);
     }
     let calls = calls_in(alloc, named)?;
@@ -92,6 +92,7 @@ fn setup_in(matches: &ArgMatches) -> Option<Setup>
         matches.get_str("mode"),
         matches.get_str("budget"),
         matches.get_str("spread"),
+        trace_in(matches),
     )
 }
 
@@ -102,8 +103,9 @@ fn setup_by(
     mode: Option<&str>,
     budget: Option<&str>,
     spread: Option<&str>,
+    trace: bool,
 ) -> Option<Setup>
-    ensures { result ≡ setup_by (option_map (λ t. t.now) squeues.entry) (option_map (λ t. t.now) rings.entry) (option_map (λ t. t.now) mode.entry) (option_map (λ t. t.now) budget.entry) (option_map (λ t. t.now) spread.entry) }
+    ensures { result ≡ setup_by (option_map (λ t. t.now) squeues.entry) (option_map (λ t. t.now) rings.entry) (option_map (λ t. t.now) mode.entry) (option_map (λ t. t.now) budget.entry) (option_map (λ t. t.now) spread.entry) trace }
 {
     Some(Setup {
         squeues: number_or(1, 1, 16, squeues)?,
@@ -111,6 +113,7 @@ fn setup_by(
         mode: mode_or_process(mode)?,
         budget: number_or(64, 1, 65_535, budget)?,
         spread: number_or(0, 0, 65_535, spread)?,
+        trace,
     })
 }
 
@@ -136,11 +139,17 @@ fn verify_in(matches: &ArgMatches) -> bool
     matches.get_flag("verify")
 }
 
-/// Whether so many CALLs are allowed, beside a generated input or without one.
-fn is_count(number: Option<u32>, named: &[&str]) -> bool
-    ensures { result ≡ is_count number (map (λ w. w.now) named.now) }
+fn trace_in(matches: &ArgMatches) -> bool
+    ensures { (g : Given) → Holds (rows_of (found_of matches.now)) g → result ≡ g.trace }
 {
-    named.len() <= MOST_CALLS && !(number.is_some() && !named.is_empty())
+    matches.get_flag("trace")
+}
+
+/// Whether so many CALLs are allowed, and beside a generated input neither one of them nor a trace.
+fn go_together(number: Option<u32>, trace: bool, named: &[&str]) -> bool
+    ensures { result ≡ go_together number trace (map (λ w. w.now) named.now) }
+{
+    named.len() <= MOST_CALLS && !(number.is_some() && (trace || !named.is_empty()))
 }
 
 /// The CALLs that words are, in their order.

@@ -101,6 +101,28 @@ fn size_limit(rt: HostRuntime) -> Result<(), Fail> {
     )
 }
 
+/// As many SYNs of one connection as there may be records. A ring brings 1,048,577 feeds and moves after each but the last.
+#[test]
+fn trace_too_large(rt: HostRuntime) -> Result<(), Fail> {
+    let mut file = Vec::from_slice(rt.alloc(), &HEADER)?;
+    for _ in 0..1_048_576u32 {
+        push_head(&mut file, 0, 40, 6)?;
+        push_tcp(&mut file, 4000, (100, 0), 0x50, S, 4096)?;
+    }
+    let line = "sqrun: too large: trace of 67109000 marks";
+    let words =
+        "--trace|--squeues|2|--spread|1|0:0:status|0:0:status|0:0:status|0:0:status|0:0:status";
+    expect(
+        &rt,
+        rt.alloc(),
+        line,
+        &ran(&rt, rt.alloc(), words, file.as_slice())?,
+        Status::TooLarge,
+        &[],
+        &[line],
+    )
+}
+
 /// 4,097 SYNs from the ports 1000 to 5096: the last tuple finds no room.
 #[test]
 fn connection_limit(rt: HostRuntime) -> Result<(), Fail> {
@@ -134,14 +156,20 @@ fn connection_limit(rt: HostRuntime) -> Result<(), Fail> {
 fn generated_capture(rt: HostRuntime) -> Result<(), Fail> {
     let line =
         "generated 7 bytes 10256024 records 100000 connections 1000 replies 98000 octets 2328000 check f9dc5c54f3714d26";
-    let words = "--gen=7|--squeues=16|--rings=8|--mode=nodrain|--budget=3|--spread=5";
-    expect(
-        &rt,
-        rt.alloc(),
-        words,
-        &ran(&rt, rt.alloc(), words, &[])?,
-        Status::Ok,
-        &[line],
-        &[],
-    )
+    let table = [
+        "--gen=7|--squeues=16|--rings=8|--mode=nodrain|--budget=3|--spread=5",
+        "--gen=7|--verify",
+    ];
+    for words in table {
+        expect(
+            &rt,
+            rt.alloc(),
+            words,
+            &ran(&rt, rt.alloc(), words, &[])?,
+            Status::Ok,
+            &[line],
+            &[],
+        )?;
+    }
+    Ok(())
 }

@@ -29,6 +29,7 @@ fn words_over_one_session(rt: HostRuntime) -> Result<(), Fail> {
                 &FIVE_REPORT,
             ),
             good("--rings|2|--budget|65535|--", five, &FIVE_REPORT),
+            good("--rings=8|--mode=fill|--budget=1", five, &FIVE_REPORT),
             good("--verify", five, &UNSUMMED),
             refused(
                 "0:1:close",
@@ -56,6 +57,31 @@ fn words_over_one_session(rt: HostRuntime) -> Result<(), Fail> {
             ),
         ],
     )
+}
+
+/// The lines of a traced run that its schedule doesn't decide, and how often each mark that closes a pass stands there.
+#[test]
+fn traced_five_segment_echo(rt: HostRuntime) -> Result<(), Fail> {
+    let input = capture(rt.alloc(), &FIVE)?;
+    let ran = ran(&rt, rt.alloc(), "--trace", input.as_slice())?;
+    assert_eq!(rt; ran.status, Status::Ok);
+    let text = str::from_utf8(ran.out.bytes())?;
+    let lines: Vec<&str> = text.lines().collect(rt.alloc())?;
+    assert!(rt; lines.len() >= 16 && lines.len() <= 83, "{text}");
+    assert_eq!(rt; lines[0], "report 2");
+    assert_eq!(rt; &lines[1..8], &FIVE_REPORT[1..8]);
+    assert_eq!(rt;
+        lines[8],
+        "setup squeues 1 rings 1 mode process budget 64 spread 0 verify 0"
+    );
+    let heading = format!(in rt.alloc(); "squeue 0 marks {}", lines.len() - 11)?;
+    assert_eq!(rt; lines[9], heading.as_str());
+    for closed in ["close 0", "close 1", "close 2", "close 3", "close 4"] {
+        let times = lines[10..].iter().filter(|line| **line == closed).count();
+        assert_eq!(rt; times, 1, "{closed} in {text}");
+    }
+    assert_eq!(rt; lines[lines.len() - 1], "done");
+    Ok(())
 }
 
 /// The session from each of five ports, segment by segment in turn.

@@ -18,6 +18,14 @@ fn setup(squeues: u32, rings: u32, mode: Mode, budget: u32, spread: u32) -> Setu
         mode,
         budget,
         spread,
+        trace: false,
+    }
+}
+
+fn traced(setup: Setup) -> Setup {
+    Setup {
+        trace: true,
+        ..setup
     }
 }
 
@@ -84,7 +92,13 @@ fn refused_words(rt: HostRuntime) -> Result<(), Fail> {
         "0:0",
         "0:4294967296:close",
         "0:0:close:",
-        "--trace",
+        "--trace|--trace",
+        "--trace=x",
+        "--trace=",
+        "--trac",
+        "--squeues|--trace",
+        "--trace|--gen|7",
+        "--gen=7|--trace",
         "0:0:close|-1",
     ];
     for line in lines {
@@ -135,6 +149,14 @@ fn accepted_words(rt: HostRuntime) -> Result<(), Fail> {
         ),
         ("--gen|4294967295", plain, false, Some(4_294_967_295), 0),
         ("--gen=0|--mode|process", plain, false, Some(0), 0),
+        ("--trace", traced(plain), false, None, 0),
+        (
+            "0:0:close|--trace|--verify|--squeues|2",
+            traced(setup(2, 1, Mode::Process, 64, 0)),
+            true,
+            None,
+            1,
+        ),
         (
             "--squeues=02|--|0:0:status",
             setup(2, 1, Mode::Process, 64, 0),
@@ -161,6 +183,7 @@ fn accepted_words(rt: HostRuntime) -> Result<(), Fail> {
         let words = read(rt.alloc(), line)??;
         assert_eq!(rt; words.setup, setup, "{line}");
         assert_eq!(rt; words.verify, verify, "{line}");
+        assert_eq!(rt; words.trace, setup.trace, "{line}");
         assert_eq!(rt; words.number, number, "{line}");
         assert_eq!(rt; words.named.len(), calls, "{line}");
     }

@@ -12,4 +12,4 @@ returns c g holds =
     let mode = c.get_str-3.ensures ∙ (first_value-rows found (codes "mode") ∙ holds.mode) in
     let budget = c.get_str-4.ensures ∙ (first_value-rows found (codes "budget") ∙ holds.budget) in
     let spread = c.get_str-5.ensures ∙ (first_value-rows found (codes "spread") ∙ holds.spread) in
-    c.setup_by.ensures ∙ same_setup _ _ _ _ _ _ _ _ _ _ squeues rings mode budget spread
+    c.setup_by.ensures ∙ same_setup _ _ _ _ _ _ _ _ _ _ _ _ squeues rings mode budget spread (c.trace_in.ensures g holds)
