@@ -47,8 +47,8 @@ def model(command, path, *words):
     return output([sys.executable, MODEL, command, *words], Path(path).read_bytes())
 
 
-def traced(path, seed, *words):
-    """A report with marks: until sqrun has --trace, one that the model simulates under a schedule made from the seed."""
+def simulated(path, seed, *words):
+    """A report with marks that the model simulates under a schedule made from the seed."""
     return model("simulate", path, "--seed", seed, "--trace", *words)
 
 

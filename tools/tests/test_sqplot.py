@@ -1,5 +1,6 @@
 """sqplot: each mark and each segment is drawn once and in its place; the page is whole, quiet and alone (in headless Chromium)."""
 import json
+import os
 import random
 import re
 import tempfile
@@ -8,7 +9,7 @@ import unittest
 from pathlib import Path
 from xml.etree import ElementTree
 
-from common import MODEL, TOOLS, TOP, captures, kept_traces, need, output, sqrun, traced
+from common import MODEL, SQRUN, TOOLS, TOP, captures, kept_traces, need, output, simulated, sqrun
 import capture
 import drawing
 import perimeter
@@ -35,11 +36,13 @@ def setups(count=30):
 
 
 def traces():
-    """(text, capture) of the kept reports with marks, and of random ones where the independent model is there."""
+    """(text, capture) of the kept reports with marks, of real runs, and of the independent model's where it is there."""
     yield from kept_traces()
-    if MODEL:
-        for path, words in setups():
-            yield traced(path, *words).decode(), path
+    for path, (seed, *words) in setups():
+        if os.access(SQRUN, os.X_OK):
+            yield sqrun(path, "--trace", *words).decode(), path
+        if MODEL:
+            yield simulated(path, seed, *words).decode(), path
 
 
 def mark_lines(text):
