@@ -1,7 +1,8 @@
 #!/usr/bin/env python3
-"""Writes the captures of the benchmark: captures.py many FILE, or captures.py one FILE.
+"""Writes the captures of the benchmark: captures.py many FILE, and likewise grouped and one.
 
 many: the generated capture of number 7: 100,000 records, 1,000 connections.
+grouped: the same datagrams, one connection after another.
 one: 1,000,000 records of one connection, whose client sends 1 MiB at once, with a small window, and then acknowledges byte by byte.
 """
 
@@ -39,7 +40,8 @@ def record(at, body):
 HEADER = struct.pack("<IHHiIII", 0xA1B2C3D4, 2, 4, 0, 0, 262_144, 101)
 
 
-def many(out):
+def generated():
+    """The datagrams of the generated capture of number 7, each with its connection's number."""
     x = 7
 
     def draw():
@@ -49,7 +51,6 @@ def many(out):
 
     numbers = [(draw(), draw()) for _ in range(1000)]
     sent = [0] * 1000
-    out.write(HEADER)
     for k in range(100):
         for c in range(1000):
             isn, iss = numbers[c]
@@ -65,8 +66,22 @@ def many(out):
             if 2 <= k <= 97:
                 text = bytes(draw() % 256 for _ in range(1 + (c + k) % 96))
             body = datagram(bytes((10, 1, c // 256, c % 256)), 40000, 7 if c % 2 == 0 else 9, seq, ack, flags, 65535, text)
-            out.write(record(10 * (1000 * k + c), body))
+            yield c, body
             sent[c] += len(text)
+
+
+def write(out, datagrams):
+    out.write(HEADER)
+    for i, (_, body) in enumerate(datagrams):
+        out.write(record(10 * i, body))
+
+
+def many(out):
+    write(out, generated())
+
+
+def grouped(out):
+    write(out, sorted(generated(), key=lambda datagram: datagram[0]))
 
 
 def one(out):
@@ -95,7 +110,7 @@ def one(out):
 def main():
     kind, path = sys.argv[1:]
     with open(path, "wb") as out:
-        {"many": many, "one": one}[kind](out)
+        {"many": many, "grouped": grouped, "one": one}[kind](out)
 
 
 main()
