@@ -4,4 +4,5 @@ pub mod Options
 pub mod Frame
 pub mod Blocks
 pub mod PcapngFile
+pub mod Input
 pub mod SoFar

@@ -8,12 +8,14 @@
 
 mod fault;
 mod frame;
+mod input;
 mod interface;
 pub mod laws;
 mod order;
 mod reading;
 
 pub use fault::PcapngFault;
+pub use input::{InputFault, parse_input};
 pub use reading::parse_pcapng;
 
 #[cfg(test)]

@@ -2,7 +2,7 @@
 use Rattle.std.proofs.Common.{◌≡◌, ◌∙◌, ℕ, ◌+◌, ◌<◌, ◌≤◌, List, [], ◌∷◌, ◌++◌, length, Option, Some, None, Result, Ok, Err, inl, inr, subst, sym, ap, arith, length-append}
 use Rattle.std.proofs.lemmas.List.{append-nil}
 use Rattle.std.specs.Io.KnownBytes.{Consumes}
-use Rattle.sq_base.specs.Ends.{Rose}
+use Rattle.sq_base.specs.Ends.{Rose, End}
 use Rattle.sq_base.specs.declared.kinds.Status.{Status}
 use Rattle.sq_base.specs.declared.kinds.Status.TheVariants as status
 use Rattle.capture_reader.specs.CaptureFile.{Contents, Meets}
@@ -15,11 +15,12 @@ use Rattle.pcapng_reader.proofs.Outcomes.{meets_once as ng_meets_once}
 use Rattle.pcapng_reader.specs.PcapngFile.{BeginsSection, Captured}
 use Rattle.pcapng_reader.specs.declared.fault.PcapngFault.{PcapngFault}
 use Rattle.pcapng_reader.specs.declared.fault.PcapngFault.TheVariants as pcapng
-use Rattle.squeue_run.specs.Input.{IsInput, IsRefusedCapture, IsRefusedPcapng, ReadsSuch}
+use Rattle.squeue_run.specs.Input.{ReadsSuch}
+use Rattle.pcapng_reader.specs.Input.{IsInput, IsRefusedCapture, IsRefusedPcapng}
 use Rattle.ring_threads.specs.Served.{ServedOf}
 use Rattle.squeue_run.specs.Asked.{Asked}
 use Rattle.squeue_run.specs.CallWords.{AllThere, IsFirstMissing}
-use Rattle.squeue_run.specs.Ran.{Accepts, AcceptsBy, HasRead, HoldsCapture, End, HasRan, IsDone, IsLongTrace, IsServable, RanBy, RanFor, RanGenerated, RanRead, Reads, conns_of, marks_in, most_marks}
+use Rattle.squeue_run.specs.Ran.{Accepts, AcceptsBy, HasRead, HoldsCapture, HasRan, IsDone, IsLongTrace, IsServable, RanBy, RanFor, RanGenerated, RanRead, Reads, conns_of, marks_in, most_marks}
 use Rattle.squeue_run.specs.declared.calls.CallWord.{CallWord}
 
 whole_some : (xs bs : List ℕ) (is : Option (List ℕ)) → ReadsWhole (Some xs) is bs → bs ≡ xs

@@ -2,7 +2,7 @@
 use Rattle.std.proofs.Common.{◌≡◌, ℕ, List, [], Option, Some, None, inl, inr, subst, sym, ap, refl, arith, Bool, true, false}
 use Rattle.std.specs.Io.KnownBytes.{Appends}
 use Rattle.std.proofs.KnownBytes.{Consumes-kept, Consumes-nil}
-use Rattle.sq_base.specs.Ends.{Rose, AppendsProperly}
+use Rattle.sq_base.specs.Ends.{Rose, AppendsProperly, End, GetsLine, IsUntouched, MetNoFault}
 use Rattle.sq_base.specs.declared.kinds.Status.{Status}
 use Rattle.sq_base.specs.declared.kinds.Status.TheVariants as status
 use Rattle.capture_reader.specs.declared.fault.CaptureFault.{CaptureFault}
@@ -15,7 +15,7 @@ use Rattle.squeue_run.specs.CallWords.{IsFirstMissing}
 use Rattle.squeue_run.specs.declared.refusal.Refusal.{Refusal}
 use Rattle.squeue_run.specs.declared.refusal.Refusal.TheVariants as refusal
 use Rattle.squeue_run.specs.Lines.{memory_line, write_line, bad_line, many_marks_line, pcapng_line, missing_line}
-use Rattle.squeue_run.specs.Ran.{End, GetsLine, HandsBack, HasRan, IsUntouched, RanBy, RanFor, RanGenerated, RanRead, RanRefused, HasRead, MetNoFault, TakesFew}
+use Rattle.squeue_run.specs.Ran.{HandsBack, HasRan, RanBy, RanFor, RanGenerated, RanRead, RanRefused, HasRead, TakesFew}
 use Rattle.squeue_run.specs.Causes.{CountsFaults, Fails, FailsBy, GeneratedFails, Gives, GivesBy, LineOrMemory, ReadingFails, RefusedWords, Told}
 
 line_or_memory : (P : Status → Type 0) (wanted : Status) (text : List ℕ) (err : End) (s : Status)

@@ -1,6 +1,6 @@
 -- What the steps of a run say to each other: what was served and is to be written, or why nothing is.
 use Rattle.std.specs.Prelude.{◌≡◌, ℕ, List, Option, Some, None, ◌⊎◌}
-use Rattle.sq_base.specs.Ends.{Rose}
+use Rattle.sq_base.specs.Ends.{Rose, End, GetsLine, IsUntouched, MetNoFault}
 use Rattle.sq_base.specs.declared.kinds.Status.{Status}
 use Rattle.sq_base.specs.declared.kinds.Status.TheVariants as status
 use Rattle.capture_reader.specs.Outcome.{CaptureFile, BytesFail}
@@ -13,9 +13,10 @@ use Rattle.squeue_run.specs.declared.reading.Words.{Words}
 use Rattle.squeue_run.specs.declared.refusal.Refusal.{Refusal}
 use Rattle.squeue_run.specs.declared.refusal.Refusal.TheVariants as refusal
 use Rattle.squeue_run.specs.Lines.{usage_line, memory_line, read_line, bad_line, pcapng_line, many_bytes_line, many_records_line, many_marks_line, missing_line}
-use Rattle.squeue_run.specs.Input.{IsRefusedCapture, IsRefusedPcapng, ReadsSuch}
+use Rattle.squeue_run.specs.Input.{ReadsSuch}
+use Rattle.pcapng_reader.specs.Input.{IsRefusedCapture, IsRefusedPcapng}
 use Rattle.squeue_run.specs.Output.{IsReport, IsSummary}
-use Rattle.squeue_run.specs.Ran.{End, GetsLine, IsLongTrace, IsServable, IsUntouched, MetNoFault, Reads, TakesFew, conns_of}
+use Rattle.squeue_run.specs.Ran.{IsLongTrace, IsServable, Reads, TakesFew, conns_of}
 
 -- the line and the status of a refusal; where memory for the line is missing, that is the refusal
 abbrev pub LineOrMemory : Status → List ℕ → End → Status → Type 0

@@ -1,7 +1,7 @@
 -- How a run ends: by its status, what was read, what was written, which line was told, and what is handed back.
 use Rattle.std.specs.Prelude.{◌≡◌, ◌<◌, ◌≤◌, ℕ, true, List, Option, Some, None, length, ◌⊎◌, Bool}
 use Rattle.std.specs.Io.KnownBytes.{Keeps, Appends}
-use Rattle.sq_base.specs.Ends.{Rose, AppendsProperly}
+use Rattle.sq_base.specs.Ends.{AppendsProperly, End, GetsLine, IsUntouched, MetNoFault, OnlyTells, Rose}
 use Rattle.sq_base.specs.declared.kinds.Status.{Status}
 use Rattle.sq_base.specs.declared.kinds.Status.TheVariants as status
 use Rattle.capture_reader.specs.Limits.{most_taken}
@@ -15,37 +15,10 @@ use Rattle.ring_quotas.specs.Quotas.{marks_most}
 use Rattle.ring_threads.specs.Served.{ServedOf}
 use Rattle.squeue_run.specs.Asked.{Asked}
 use Rattle.squeue_run.specs.CallWords.{AllThere, IsFirstMissing, lists_of}
-use Rattle.squeue_run.specs.Input.{IsInput, IsRefusedCapture, IsRefusedPcapng, ReadsSuch}
+use Rattle.squeue_run.specs.Input.{ReadsSuch}
+use Rattle.pcapng_reader.specs.Input.{IsInput, IsRefusedCapture, IsRefusedPcapng}
 use Rattle.squeue_run.specs.Output.{IsReport, IsSummary}
 use Rattle.squeue_run.specs.Lines.{usage_line, memory_line, read_line, write_line, bad_line, pcapng_line, many_bytes_line, many_records_line, many_marks_line, missing_line}
-
--- an end before and after the call: its bytes, where they are known, and its count of faults
-pub record End : Type 0 where
-  pub was : Option (List ℕ)
-  pub is : Option (List ℕ)
-  pub faults_were : ℕ
-  pub faults_are : ℕ
-
--- the end of a source or a sink of this kind, from what it was and what it is
-abbrev pub end_of : {X : Type 0} → (X → Option (List ℕ)) → (X → ℕ) → X → X → End
-end_of bytes faults old new = record { was = bytes old; is = bytes new; faults_were = faults old; faults_are = faults new }
-
--- no read or write failed there, not even one that was tried again
-abbrev pub MetNoFault : End → Type 0
-MetNoFault end = end.faults_are ≡ end.faults_were
-
--- nothing happened there
-pub record IsUntouched (end : End) : Type 0 where
-  pub bytes : Keeps end.was end.is
-  pub faults : MetNoFault end
-
--- this line was appended, unless a write failed
-abbrev pub GetsLine : End → List ℕ → Type 0
-GetsLine end text = (Rose end.faults_were end.faults_are → ⊥) → Appends end.was end.is text
-
--- nothing was written to `out`, and this line to `err`
-abbrev pub OnlyTells : End → End → List ℕ → Type 0
-OnlyTells out err text = IsUntouched out × GetsLine err text
 
 -- such an output of what is handed back was written whole, and no write failed
 pub record GetsWhole (IsOutput : ServedOf → List ℕ → Type 0) (out : End) (back : Option ServedOf) : Type 0 where

@@ -2,10 +2,9 @@
 
 ghost use Rattle.std.specs.Prelude.{◌≡◌, ◌⊎◌, MatchResult, string_bytes};
 ghost use Rattle.std.specs.Io.KnownBytes.{Appends};
-ghost use Rattle.sq_base.specs.Ends.{Rose};
+ghost use Rattle.sq_base.specs.Ends.{Rose, end_of};
 ghost use Rattle.squeue_run.specs.Lines.{memory_line};
 ghost use Rattle.squeue_run.specs.Causes.{Told};
-ghost use Rattle.squeue_run.specs.Ran.{end_of};
 
 use crate::lines::{
     MANY_BYTES, MANY_RECORDS, NO_MEMORY, READ_FAULT, USAGE, bad_capture, bad_pcapng, many_marks,

@@ -4,7 +4,7 @@ ghost use Rattle.std.specs.Prelude.{◌≡◌, ◌<◌, ◌≤◌, if◌then◌e
 ghost use Rattle.std.specs.String.{string_bytes};
 ghost use Rattle.squeue_run.specs.Asked.{asked};
 ghost use Rattle.squeue_run.specs.CallWords.{AllThere, IsFirstMissing, lists_of};
-ghost use Rattle.sq_base.specs.Ends.{Rose};
+ghost use Rattle.sq_base.specs.Ends.{Rose, end_of};
 ghost use Rattle.squeue_trace.specs.Told.{marks_of};
 ghost use Rattle.conn_blocks.specs.Allowed.{all_calls};
 ghost use Rattle.ring_quotas.specs.Quotas.{IsInRange, marks_most};
@@ -13,7 +13,7 @@ ghost use Rattle.ring_threads.specs.ServedBlocks.{AreServed};
 ghost use Rattle.squeue_report.specs.ReportText.{report_text};
 ghost use Rattle.squeue_report.specs.TraceText.{trace_text};
 ghost use Rattle.squeue_run.specs.Output.{IsSummary};
-ghost use Rattle.squeue_run.specs.Ran.{HasRan, Accepts, IsDone, end_of, most_marks};
+ghost use Rattle.squeue_run.specs.Ran.{HasRan, Accepts, IsDone, most_marks};
 ghost use Rattle.squeue_run.specs.Causes.{Gives, Fails, GivesBy, FailsBy, Replays, ReplayFails, GeneratedFails, asked_by_words};
 
 use crate::calls::CallWord;
