@@ -1,13 +1,13 @@
-mod Distinct
+pub mod Distinct
 mod Mapped
 mod Conns
 mod HintLemmas
 mod ItemLemmas
-mod OneKey
+pub mod OneKey
 mod SortLemmas
 mod Tallies
-mod PlanFacts
-mod TextWithin
+pub mod PlanFacts
+pub mod TextWithin
 mod OrderLaw
 mod PlanLaw
 mod RingLaw
