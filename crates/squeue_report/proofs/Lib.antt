@@ -1,4 +1,4 @@
-mod Joins
+pub mod Joins
 mod Lines
 mod Marked
 mod Runs

@@ -9,6 +9,7 @@ mod summing;
 mod tests;
 mod tracing;
 
-pub use reporting::report;
+pub use names::state_name;
+pub use reporting::{push_end, push_replies, report};
 pub use summing::summary;
 pub use tracing::report2;

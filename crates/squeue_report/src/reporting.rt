@@ -72,9 +72,9 @@ fn push_counts(text: &mut String, counts: &Counts, conns: u32) -> Result<(), All
     )
 }
 
-/// An address in dotted decimal, and a port.
+/// Appends an address in dotted decimal, and a port.
 #[tactic(auto, using(crate::proofs::Joins::joins), unfolding(crate::specs::ReportText::end_field))]
-fn push_end(text: &mut String, addr: Addr, port: u16) -> Result<(), AllocError>
+pub fn push_end(text: &mut String, addr: Addr, port: u16) -> Result<(), AllocError>
     ensures { OnOk result (string_bytes text.new ≡ string_bytes text.old ++ end_field addr port) }
 {
     let [a, b, c, d] = addr.0.to_be_bytes();
@@ -165,7 +165,8 @@ fn push_run<'a>(text: &mut String, n: u32, more: &'a [Act]) -> Result<&'a [Act],
     Ok(more.split_at(run).1)
 }
 
-fn push_replies(
+/// Appends a line for each reply that the block has sent, with its IPv4 datagram in hexadecimal.
+pub fn push_replies(
     alloc: Global,
     text: &mut String,
     tuple: &Tuple,

@@ -128,34 +128,6 @@ fn ending(text: &str, end: &str) -> usize {
     text.lines().filter(|line| line.ends_with(end)).count()
 }
 
-#[test]
-fn traced_five_segment_echo(rt: HostRuntime) -> Result<(), Fail> {
-    let capture = read(&rt, &FIVE)?;
-    let plan = plan(&rt, rt.alloc(), &capture, false)?;
-    let calls = Calls::make(rt.alloc());
-    let setup = Setup {
-        budget: 64,
-        trace: true,
-        ..ONE
-    };
-    let served = serve(&rt, rt.alloc(), &plan, &calls, &setup, &NoHook)?;
-    let marks = served.trace(0).len();
-    assert!(rt; marks <= 72);
-    let text = report2(rt.alloc(), &plan, &calls, &setup, false, &served)?;
-    let front = format!(in rt.alloc();
-        "report 2\n{FIVE_BODY}setup squeues 1 rings 1 mode process budget 64 spread 0 verify 0\nsqueue 0 marks {marks}\n"
-    )?;
-    assert!(rt; text.as_slice().starts_with(front.as_bytes()));
-    assert!(rt; text.as_slice().ends_with(b"\ndone\n"));
-    let text = str::from_utf8(text.as_slice())?;
-    assert_eq!(rt; text.lines().count() as u64, 11 + marks);
-    for p in 0..5u32 {
-        let close = format!(in rt.alloc(); "close {p}")?;
-        assert_eq!(rt; ending(text, close.as_str()), 1);
-    }
-    Ok(())
-}
-
 /// The feeds of a connection that moves after each of them, by squeue.
 const FILLS: [&str; 6] = [
     "fill 0 0.0",
