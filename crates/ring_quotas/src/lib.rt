@@ -13,6 +13,7 @@ mod shares;
 
 pub use quotas::{CALLERS, marks_most, quotas_at};
 pub use setup::Setup;
+pub use shares::leaving;
 
 #[cfg(test)]
 mod tests;

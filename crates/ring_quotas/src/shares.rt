@@ -18,7 +18,7 @@ fn moves(homes: Homes, items: u32) -> u32
 }
 
 /// How often connection `c`, with so many feeds, leaves squeue `q`.
-pub(crate) fn leaving(homes: Homes, c: u32, items: u32, q: u32) -> u32
+pub fn leaving(homes: Homes, c: u32, items: u32, q: u32) -> u32
     requires squeue { q < homes.squeues }
     requires few { homes.squeues ≤ 16 }
     requires items { (0 < items) × (items ≤ 2097153) }

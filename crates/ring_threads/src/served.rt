@@ -1,5 +1,5 @@
 //! What was served.
-ghost use Rattle.std.specs.Prelude.{◌≡◌, ◌≢◌, ℕ, ◌<◌, ◌≤◌, ◌+◌, ◌∷◌, [], ◌++◌, false, Box, IfOk, List, Some, length, reverse, slice_get, vec_capacity};
+ghost use Rattle.std.specs.Prelude.{◌≡◌, ◌≢◌, ℕ, ◌<◌, ◌≤◌, ◌+◌, ◌∷◌, [], ◌++◌, false, Box, IfOk, List, Some, length, map, reverse, slice_get, vec_capacity};
 ghost use Rattle.std.specs.declared.alloc.Global.{Global};
 ghost use Rattle.conn_blocks.specs.Places.{size_of};
 ghost use Rattle.conn_blocks.specs.ServeOrder.{BlockOf};
@@ -28,6 +28,19 @@ impl Model for Served {
 }
 
 impl Served {
+    /// What was served where no squeue was at work: these blocks, none of them short, the block of each connection at its number, and
+    /// neither ends nor traces. Takes no memory.
+    pub fn of(alloc: Global, blocks: Vec<Box<Block>>) -> Result<Served, AllocError>
+        ensures blocks { IfOk result (λ v. v.blocks ≡ map (λ b. b.value) blocks.items) }
+        ensures alone { IfOk result (λ v. (v.ended ≡ []) × (v.traces ≡ [])) }
+    {
+        Ok(Served {
+            blocks,
+            ended: Vec::new(alloc),
+            traces: Vec::new(alloc),
+        })
+    }
+
     /// The block of connection `c`.
     pub fn block(&self, c: u32) -> &Block
         requires { c < length self.now.blocks }
