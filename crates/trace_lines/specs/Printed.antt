@@ -1,0 +1,59 @@
+-- What a report may say from its setup on: a setup, calls and marks whose numbers fit their fields.
+use Rattle.std.specs.Prelude.{◌≡◌, ℕ, ◌^◌, ◌<◌, ◌≤◌, All, Bool, true, if◌then◌else◌, List, [], ◌∷◌, ◌++◌, codes, length, take}
+use Rattle.std.specs.List.{enumerate_from, flat_map}
+use Rattle.perimeter_core.specs.declared.marks.Mark.{Mark}
+use Rattle.tcb_machine.specs.declared.kinds.Call.{Call}
+use Rattle.tcb_machine.specs.declared.kinds.Call.TheVariants as Asks
+use Rattle.conn_blocks.specs.CallLists.{CallLists, call_count}
+use Rattle.ring_quotas.specs.declared.setup.Setup.{Setup}
+use Rattle.ring_quotas.specs.Quotas.{IsInRange}
+use Rattle.squeue_report.specs.ReportText.{done_line}
+use Rattle.squeue_report.specs.TraceText.{setup_line, calls_text, squeue_text}
+use Rattle.squeue_replay.specs.Marks.{IsPrinted}
+
+-- a call on one of so many connections
+abbrev pub IsPrintedCall : ℕ → ℕ × Call → Type 0
+IsPrintedCall conns (c, Asks.Buffer n) = (c < conns) × (n ≤ 65535)
+IsPrintedCall conns (c, _) = c < conns
+
+-- a setup of a run that kept its marks
+pub record IsPrintedSetup (s : Setup) : Type 0 where
+  pub range : IsInRange s
+  pub budget : s.budget ≤ 65535
+  pub traced : s.trace ≡ true
+
+-- the numbers of its line
+abbrev pub setup_numbers : Setup → Bool → List ℕ
+setup_numbers s verify = s.squeues ∷ s.rings ∷ s.budget ∷ s.spread ∷ (if verify then 1 else 0) ∷ []
+
+-- the calls of four threads, at most 1,024, each on one of so many connections
+pub record ArePrintedCalls (conns : ℕ) (calls : CallLists) : Type 0 where
+  pub threads : length calls ≡ 4
+  pub few : call_count calls ≤ 1024
+  pub each : All (λ thread. All (IsPrintedCall conns) thread) calls
+
+-- the marks of so many squeues
+pub record ArePrintedMarks (squeues : ℕ) (marks : List (List Mark)) : Type 0 where
+  pub count : length marks ≡ squeues
+  pub few : All (λ ms. length ms < 2 ^ 64) marks
+  pub each : All (λ ms. All IsPrinted ms) marks
+
+-- the text goes on with a call
+abbrev pub BeginsWithCall : List ℕ → Type 0
+BeginsWithCall text = take 5 text ≡ codes "call "
+
+-- what the lines say, from the setup on; of each squeue, by number, its marks
+pub record Told : Type 0 where
+  pub setup : Setup
+  pub verify : Bool
+  pub calls : CallLists
+  pub marks : List (List Mark)
+
+abbrev pub told_text : Told → List ℕ
+told_text t = setup_line t.setup t.verify ++ (calls_text t.calls ++ (flat_map squeue_text (enumerate_from 0 t.marks) ++ done_line))
+
+-- all of it is in range, where there are so many connections
+pub record IsTold (conns : ℕ) (t : Told) : Type 0 where
+  pub setup : IsPrintedSetup t.setup
+  pub calls : ArePrintedCalls conns t.calls
+  pub marks : ArePrintedMarks t.setup.squeues t.marks
