@@ -1,0 +1,27 @@
+-- An input that replays: the report of some right run that kept its marks, and its capture behind it.
+use Rattle.std.specs.Prelude.{◌≡◌, ℕ, ◌≤◌, Bool, List, ◌++◌, length, map}
+use Rattle.perimeter_core.specs.declared.entries.Act.{Act}
+use Rattle.capture_reader.specs.Outcome.{CaptureFile}
+use Rattle.pcapng_reader.specs.Input.{IsInput}
+use Rattle.conn_classifier.specs.Plan.{PlanOf, plan_of}
+use Rattle.squeue_state.specs.Naming.{Ending}
+use Rattle.ring_threads.specs.Fits.{Fits}
+use Rattle.squeue_report.specs.TraceText.{trace_text}
+use Rattle.trace_lines.specs.Printed.{Told, IsTold}
+
+-- the most bytes of an input: 1 GiB
+abbrev pub most_input : ℕ
+most_input = 1073741824
+
+pub record Replays (input : List ℕ) : Type 0 where
+  pub file : CaptureFile
+  pub capture : IsInput file
+  pub told : Told
+  pub in_range : IsTold (length (plan_of file told.verify).tuples) told
+  -- the histories, of which the report has the marks
+  pub histories : List Ending
+  pub marks : told.marks ≡ map (λ e. map (λ m. m.mark) e.history) histories
+  pub orders : List (List Act)
+  pub count : length orders ≡ length (plan_of file told.verify).tuples
+  pub fits : Fits (plan_of file told.verify) told.calls told.setup histories orders
+  pub joined : input ≡ trace_text (plan_of file told.verify) told.calls told.setup told.verify orders told.marks ++ file.bytes

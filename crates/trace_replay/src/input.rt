@@ -1,0 +1,130 @@
+//! The input: a report, and a capture behind it.
+
+ghost use Rattle.std.specs.Prelude.{◌≡◌, ◌≢◌, ℕ, ◌+◌, ◌<◌, ◌≤◌, Err, IfOk, List, MatchOption, length, slice_index, take};
+ghost use Rattle.sq_base.specs.Ends.{Rose};
+ghost use Rattle.capture_reader.specs.Limits.{most_bytes};
+ghost use Rattle.capture_reader.specs.Outcome.{CaptureFile, ReadsWhole, Takes};
+ghost use Rattle.trace_replay.specs.Lines.{HasFirstLine, HasNoLine};
+ghost use Rattle.trace_replay.specs.Reasons.{Holds, IsCut};
+ghost use Rattle.trace_replay.specs.Replays.{most_input};
+ghost use Rattle.pcapng_reader.specs.Input.{InputFails, IsInput};
+
+use crate::reason::{Reason, Refusal};
+use capture_reader::{Capture, CaptureFault};
+use pcapng_reader::{InputFault as CaptureRefused, PcapngFault, parse_input};
+use sq_base::{Failed, Octets, Source};
+use std::alloc::{AllocError, Global};
+
+/// The most bytes of the input.
+const MOST_BYTES: usize = 1_073_741_824;
+
+/// The most bytes of the capture in it.
+const MOST_CAPTURED: usize = 67_108_864;
+
+/// How many bytes one call asks for at most.
+const PIECE: usize = 65_536;
+
+/// Why there is no input.
+#[derive(Clone, Copy, Debug, PartialEq, Eq)]
+pub enum InputFault {
+    NoMemory,
+    Read,
+    TooLarge,
+}
+
+/// All bytes that a source gives.
+pub fn read_all<S: Source>(alloc: Global, src: &mut S) -> Result<Vec<u8>, InputFault>
+    ensures ok { IfOk result (λ v. ReadsWhole (S.rest src.old) (S.rest src.new) v.items × (length v.items ≤ most_input)) }
+    ensures read { result ≡ Err InputFault.Read → Rose (S.read_faults src.old) (S.read_faults src.new) × Takes (λ n. n ≤ most_input) (S.rest src.old) (S.rest src.new) }
+    ensures large { result ≡ Err InputFault.TooLarge → Takes (λ n. n ≡ most_input + 1) (S.rest src.old) (S.rest src.new) }
+    ensures kept { (result ≡ Err InputFault.Read → ⊥) → S.read_faults src.new ≡ S.read_faults src.old }
+    ensures few { Takes (λ n. n ≤ most_input + 1) (S.rest src.old) (S.rest src.new) }
+    ensures never_falls { S.read_faults src.old ≤ S.read_faults src.new }
+{
+    let mut bytes = Vec::new(alloc);
+    let mut buf = [0; PIECE];
+    loop {
+        // Never more than one byte past the size is asked for.
+        let room = PIECE.min(MOST_BYTES + 1 - bytes.len());
+        let n = match src.read(&mut buf[..room]) {
+            Ok(0) => return Ok(bytes),
+            Ok(n) => n,
+            Err(Failed) => return Err(InputFault::Read),
+        };
+        bytes
+            .extend_from_slice(&buf[..n])
+            .map_err(|_| InputFault::NoMemory)?;
+        if bytes.len() > MOST_BYTES {
+            return Err(InputFault::TooLarge);
+        }
+    }
+}
+
+/// Where the first line begins that begins so.
+pub fn line_at(text: &[u8], word: &[u8]) -> Option<usize>
+    ensures { MatchOption result (HasNoLine word.now text.now) (λ at. (at + length word.now ≤ length text.now) × HasFirstLine word.now text.now (take at text.now)) }
+{
+    let mut at = 0;
+    loop {
+        let rest = &text[at..];
+        if rest.starts_with(word) {
+            return Some(at);
+        }
+        let Some(n) = newline_at(rest) else {
+            return None;
+        };
+        at += n + 1;
+    }
+}
+
+/// Where the first newline stands.
+fn newline_at(text: &[u8]) -> Option<usize>
+    ensures { MatchOption result
+        ((k : ℕ) → k < length text.now → slice_index text.now k ≢ 10)
+        (λ n. (n < length text.now) × (slice_index text.now n ≡ 10) × ((k : ℕ) → k < n → slice_index text.now k ≢ 10)) }
+{
+    text.iter().position(|byte| *byte == b'\n')
+}
+
+/// Cuts the capture off the report, which is what stands up to its last line.
+pub fn cut(bytes: &mut Vec<u8>) -> Result<Vec<u8>, Refusal>
+    ensures ok { IfOk result (λ rest. IsCut bytes.old.items bytes.new.items rest.items × (length rest.items ≤ most_bytes)) }
+    ensures no { (r : Reason) → result ≡ Err (Refusal.No r) → Holds r bytes.old.items }
+{
+    let Some(last) = line_at(bytes.as_slice(), b"done\n") else {
+        return Err(Refusal::No(Reason::NoReport));
+    };
+    let end = last + b"done\n".len();
+    if bytes.len() - end > MOST_CAPTURED {
+        return Err(Refusal::No(Reason::Capture));
+    }
+    Ok(bytes.split_off(end)?)
+}
+
+/// The capture that the bytes are, within the size: a pcapng file where they begin with a section header, and else a capture file.
+pub fn captured(alloc: Global, bytes: Vec<u8>) -> Result<Capture, Refusal>
+    requires { length bytes.items ≤ most_bytes }
+    ensures ok { IfOk result (λ c. IsInput c × (c.bytes ≡ bytes.items)) }
+    ensures no { (r : Reason) → result ≡ Err (Refusal.No r) → (r ≡ Reason.Capture) × ((file : CaptureFile) → file.bytes ≡ bytes.items → IsInput file → ⊥) }
+{
+    match parse_input(alloc, Octets::wrap(bytes)) {
+        Ok(capture) => Ok(capture),
+        Err(fault) => Err(refused(fault)),
+    }
+}
+
+/// Why there is no capture.
+fn refused(fault: CaptureRefused) -> Refusal
+    ensures { (r : Reason) → result ≡ Refusal.No r → (r ≡ Reason.Capture) × ((bytes : List ℕ) → InputFails bytes fault → (file : CaptureFile) → file.bytes ≡ bytes → IsInput file → ⊥) }
+{
+    match fault {
+        CaptureRefused::Capture(fault) => match fault {
+            CaptureFault::NoMemory => Refusal::NoMemory,
+            _ => Refusal::No(Reason::Capture),
+        },
+        CaptureRefused::Pcapng(fault) => match fault {
+            PcapngFault::NoMemory => Refusal::NoMemory,
+            _ => Refusal::No(Reason::Capture),
+        },
+    }
+}
