@@ -1,0 +1,9 @@
+mod Arrivals
+mod ItemFacts
+pub mod PlanFacts
+mod SortSteps
+mod StreamFacts
+mod StreamSteps
+mod Together
+mod TupleSteps
+mod UdpText

@@ -1,0 +1,82 @@
+//! What of a record is served, and of which stream it is.
+
+ghost use Rattle.std.specs.Prelude.{◌≡◌, ◌≤◌, ◌<◌, ◌^◌, length, IfOk};
+ghost use Rattle.stream_plan.specs.Streams.{arrivals_of, served_in, served_tcp, served_udp, tuple_of};
+
+use crate::kinds::{Arrived, Found};
+use capture_reader::Capture;
+use segment_codec::{Packet, decode};
+use sq_base::{Link, Tuple};
+use std::alloc::{AllocError, Global};
+use udp_codec::{Udp, decode_udp};
+
+const ECHO: u16 = 7;
+
+const DISCARD: u16 = 9;
+
+const CHARGEN: u16 = 19;
+
+/// What is served of each record, in record order.
+pub fn arrivals_in(alloc: Global, capture: &Capture) -> Result<Vec<Arrived>, AllocError>
+    ensures value { IfOk result (λ v. v.items ≡ arrivals_of capture.now) }
+    ensures few { IfOk result (λ v. length v.items ≤ length capture.now.packets) }
+{
+    let mut arrivals = Vec::new(alloc);
+    for rec in 0..capture.len() {
+        if let Some(found) = served(capture.link(), capture.body(rec)) {
+            let at = capture.rec(rec).at;
+            arrivals.push(Arrived { rec, at, found })?;
+        }
+    }
+    Ok(arrivals)
+}
+
+// What a record holds, where it is served.
+fn served(link: Link, body: &[u8]) -> Option<Found>
+    requires { length body.now < 2 ^ 32 }
+    ensures { result ≡ served_in link body.now }
+{
+    match decode_udp(link, body) {
+        Some(udp) => served_udp(udp),
+        None => served_tcp(&decode(link, body, false)),
+    }
+}
+
+fn served_udp(udp: Udp) -> Option<Found>
+    ensures { result ≡ served_udp udp }
+{
+    if udp.dst_port == ECHO || udp.dst_port == DISCARD {
+        Some(Found::Datagram(udp))
+    } else {
+        None
+    }
+}
+
+fn served_tcp(packet: &Packet) -> Option<Found>
+    ensures { result ≡ served_tcp packet.now }
+{
+    match packet {
+        Packet::Segment(seg) if seg.dst_port == CHARGEN => Some(Found::Segment(*seg)),
+        _ => None,
+    }
+}
+
+/// The stream: the source is the client, the destination the server.
+pub fn tuple_of(found: &Found) -> Tuple
+    ensures { result ≡ tuple_of found.now }
+{
+    match found {
+        Found::Datagram(udp) => Tuple {
+            client: udp.src,
+            client_port: udp.src_port,
+            server: udp.dst,
+            server_port: udp.dst_port,
+        },
+        Found::Segment(seg) => Tuple {
+            client: seg.src,
+            client_port: seg.src_port,
+            server: seg.dst,
+            server_port: seg.dst_port,
+        },
+    }
+}

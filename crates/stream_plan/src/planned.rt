@@ -1,0 +1,119 @@
+//! The plan of a capture: its streams and their items.
+
+ghost use Rattle.std.specs.Prelude.{◌≡◌, ◌<◌, ◌≤◌, length, slice_get, IfSome, Some};
+ghost use Rattle.stream_plan.specs.Sound.{IsMorePlan};
+ghost use Rattle.stream_plan.specs.Streams.{item_count};
+
+use crate::kinds::{Counts, Datagram};
+use capture_reader::Capture;
+use conn_classifier::Item;
+use sq_base::Tuple;
+use std::marker::Model;
+
+/// The streams of a capture, numbered from 0 by first appearance, at most 4,096, and their items, numbered from 0.
+#[derive(Drop)]
+pub struct MorePlan<'c> {
+    pub(crate) capture: &'c Capture,
+    pub(crate) counts: Counts,
+    pub(crate) streams: Vec<Stream>,
+}
+
+/// A stream: its two ends, the datagrams to echo or discard, and the items of the segments to the generator. One list is empty.
+#[derive(Drop)]
+pub struct Stream {
+    pub(crate) tuple: Tuple,
+    pub(crate) datagrams: Vec<Datagram>,
+    pub(crate) items: Vec<Item>,
+}
+
+impl Model for Stream {
+    ghost use Rattle.stream_plan.specs.Streams.{StreamOf};
+
+    ghost Value = { StreamOf };
+
+    ghost view = { λ s. record { tuple = s.tuple; datagrams = s.datagrams.items; items = s.items.items } };
+}
+
+impl<'c> Model for MorePlan<'c> {
+    ghost use Rattle.stream_plan.specs.Streams.{MorePlanOf};
+    ghost use Rattle.stream_plan.specs.Sound.{IsMorePlan};
+
+    ghost Value = { MorePlanOf };
+
+    ghost view = { λ p. record { file = p.capture.now; counts = p.counts; streams = p.streams.items } };
+
+    ghost invariant = { λ p. IsMorePlan (record { file = p.capture.now; counts = p.counts; streams = p.streams.items }) };
+}
+
+impl Stream {
+    /// The client's end and the server's, whose port is that of the service.
+    pub fn tuple(&self) -> Tuple
+        ensures { result ≡ self.now.tuple }
+    {
+        self.tuple
+    }
+
+    /// The datagrams to echo or discard, in record order.
+    pub fn datagrams(&self) -> &[Datagram]
+        ensures { result.now ≡ self.now.datagrams }
+    {
+        self.datagrams.as_slice()
+    }
+
+    /// The items of the segments to the generator.
+    pub fn items(&self) -> &[Item]
+        ensures { result.now ≡ self.now.items }
+    {
+        self.items.as_slice()
+    }
+}
+
+impl<'c> MorePlan<'c> {
+    /// What holds of every plan. It does nothing.
+    pub fn is_sound(&self)
+        ensures { IsMorePlan self.now }
+    {
+        let _counts = self.counts;
+    }
+
+    /// The capture that the plan is of.
+    pub fn capture(&self) -> &Capture
+        ensures { result.now ≡ self.now.file }
+    {
+        self.capture
+    }
+
+    /// How many records count as what.
+    pub fn counts(&self) -> Counts
+        ensures { result ≡ self.now.counts }
+    {
+        self.counts
+    }
+
+    /// How many streams there are.
+    pub fn streams(&self) -> u32
+        ensures value { result ≡ length self.now.streams }
+        ensures most { result ≤ 4096 }
+    {
+        self.streams.len() as u32
+    }
+
+    /// Stream number `c`.
+    pub fn stream(&self, c: u32) -> &Stream
+        requires { c < length self.now.streams }
+        ensures { slice_get self.now.streams c ≡ Some result.now }
+    {
+        &self.streams[c as usize]
+    }
+
+    /// How many datagrams or items stream `c` has.
+    pub fn items(&self, c: u32) -> u32
+        requires { c < length self.now.streams }
+        ensures value { IfSome (slice_get self.now.streams c) (λ s. result ≡ item_count s) }
+        ensures most { result ≤ 2097152 }
+    {
+        self.is_sound();
+        let stream = self.stream(c);
+        (stream.datagrams.len() + stream.items.len()) as u32
+    }
+}

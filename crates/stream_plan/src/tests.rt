@@ -1,0 +1,133 @@
+use crate::{Counts, Datagram, MorePlan, more_plan};
+use capture_reader::{Capture, parse_capture};
+use conn_classifier::Item;
+use sq_base::{Addr, Octets, Tuple};
+use std::process::Abort;
+use std::test::Fail;
+
+/// The header of a capture file: little-endian, microseconds, raw IP.
+const HEADER: [u8; 24] = [
+    0xd4, 0xc3, 0xb2, 0xa1, 2, 0, 4, 0, 0, 0, 0, 0, 0, 0, 0, 0, 0, 0, 0, 0, 101, 0, 0, 0,
+];
+
+const UDP: u8 = 17;
+
+const TCP: u8 = 6;
+
+/// A datagram from 10.0.0.1 to 10.0.0.2, without sums: time in microseconds, protocol, ports, and for TCP the flags, sequence
+/// number and acknowledgement number.
+type Row = (u32, u8, u16, u16, u8, u32, u32);
+
+/// One more record.
+fn add(bytes: &mut Vec<u8>, row: &Row) -> Result<(), Fail> {
+    let &(at, protocol, from, to, flags, seq, ack) = row;
+    let len = if protocol == UDP { 28u8 } else { 40 };
+    bytes.extend_from_slice(&0u32.to_le_bytes())?;
+    bytes.extend_from_slice(&at.to_le_bytes())?;
+    bytes.extend_from_slice(&[len, 0, 0, 0, len, 0, 0, 0])?;
+    bytes.extend_from_slice(&[0x45, 0, 0, len, 0, 0, 0x40, 0, 0x40, protocol, 0, 0])?;
+    bytes.extend_from_slice(&[10, 0, 0, 1, 10, 0, 0, 2])?;
+    bytes.extend_from_slice(&from.to_be_bytes())?;
+    bytes.extend_from_slice(&to.to_be_bytes())?;
+    if protocol == UDP {
+        bytes.extend_from_slice(&[0, 8, 0, 0])?;
+    } else {
+        bytes.extend_from_slice(&seq.to_be_bytes())?;
+        bytes.extend_from_slice(&ack.to_be_bytes())?;
+        bytes.extend_from_slice(&[0x50, flags, 16, 0, 0, 0, 0, 0])?;
+    }
+    Ok(())
+}
+
+fn captured(rt: &HostRuntime, rows: &[Row]) -> Result<Capture, Fail> {
+    let mut bytes = Vec::from_slice(rt.alloc(), &HEADER)?;
+    for row in rows {
+        add(&mut bytes, row)?;
+    }
+    Ok(parse_capture(rt.alloc(), Octets::of(rt.alloc(), &bytes)?)?)
+}
+
+fn stream_to(server_port: u16) -> Tuple {
+    Tuple {
+        client: Addr(0x0a00_0001),
+        client_port: 5000,
+        server: Addr(0x0a00_0002),
+        server_port,
+    }
+}
+
+/// The times and records of a stream's datagrams.
+fn check_datagrams(rt: &impl Abort, datagrams: &[Datagram], wanted: &[(u64, u32)]) {
+    assert_eq!(rt; datagrams.len(), wanted.len());
+    for (datagram, &(at, rec)) in datagrams.iter().zip(wanted) {
+        assert_eq!(rt; (datagram.at, datagram.rec), (at, rec));
+    }
+}
+
+/// The times and hints of a stream's items; a time item has none.
+fn check_items(rt: &impl Abort, items: &[Item], wanted: &[(u64, Option<u32>)]) {
+    assert_eq!(rt; items.len(), wanted.len());
+    for (item, &(at, iss)) in items.iter().zip(wanted) {
+        let found = match *item {
+            Item::Time { at } => (at, None),
+            Item::Segment { at, iss, .. } => (at, Some(iss)),
+        };
+        assert_eq!(rt; found, (at, iss));
+    }
+}
+
+/// One stream of each service, and records that aren't served.
+#[test]
+fn streams_and_items(rt: HostRuntime) -> Result<(), Fail> {
+    let rows = [
+        (50, UDP, 5000, 7, 0, 0, 0),
+        (40, UDP, 5000, 9, 0, 0, 0),
+        (60, TCP, 5000, 19, 2, 100, 0),
+        (30, UDP, 5000, 7, 0, 0, 0),
+        (70, TCP, 5000, 19, 16, 101, 501),
+        (80, UDP, 5000, 19, 0, 0, 0),
+        (90, TCP, 5000, 7, 2, 100, 0),
+    ];
+    let capture = captured(&rt, &rows)?;
+    let plan = more_plan(rt.alloc(), &capture)?;
+    let counts = Counts {
+        served: 5,
+        nofit: 0,
+        other: 2,
+    };
+    assert_eq!(rt; plan.counts(), counts);
+    assert!(rt; plan.streams() == 3);
+    assert_eq!(rt; plan.stream(0).tuple(), stream_to(7));
+    assert_eq!(rt; plan.stream(1).tuple(), stream_to(9));
+    assert_eq!(rt; plan.stream(2).tuple(), stream_to(19));
+    check_datagrams(&rt, plan.stream(0).datagrams(), &[(50, 0), (50, 3)]);
+    check_datagrams(&rt, plan.stream(1).datagrams(), &[(40, 1)]);
+    check_datagrams(&rt, plan.stream(2).datagrams(), &[]);
+    check_items(&rt, plan.stream(0).items(), &[]);
+    check_items(
+        &rt,
+        plan.stream(2).items(),
+        &[(60, Some(500)), (70, Some(0)), (90, None)],
+    );
+    Ok(())
+}
+
+/// The 4,097th stream has no place.
+#[test]
+fn one_stream_too_many(rt: HostRuntime) -> Result<(), Fail> {
+    let mut rows = Vec::new(rt.alloc());
+    for i in 0..4097u16 {
+        rows.push((0, UDP, i, 9, 0, 0, 0))?;
+    }
+    rows.push((0, UDP, 0, 9, 0, 0, 0))?;
+    let capture = captured(&rt, rows.as_slice())?;
+    let plan = more_plan(rt.alloc(), &capture)?;
+    let counts = Counts {
+        served: 4097,
+        nofit: 1,
+        other: 0,
+    };
+    assert_eq!(rt; plan.counts(), counts);
+    assert_eq!(rt; plan.streams(), 4096);
+    Ok(())
+}
