@@ -1,0 +1,4 @@
+-- Texts joined one after another.
+use Rattle.std.proofs.Common.{append_assoc, append-nil, length-append}
+
+pub ruleset joins = (append_assoc, append-nil, length-append)

@@ -1,0 +1,16 @@
+mod Back
+mod Closes
+mod Fed
+mod Finished
+mod Joins
+mod Listed
+mod MadeSqueues
+mod MoreComplete
+mod MoreRuns
+mod Ready
+mod Rows
+mod StreamTexts
+mod Suffices
+mod Tasked
+mod WholeSteps
+mod Works

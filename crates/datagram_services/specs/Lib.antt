@@ -1,0 +1,11 @@
+pub mod Served
+pub mod Lines
+pub mod Tasks
+pub mod Settings
+pub mod Running
+pub mod Gathering
+pub mod MoreText
+pub mod MoreWords
+pub mod RefusalLines
+pub mod MoreRan
+pub mod MoreCauses

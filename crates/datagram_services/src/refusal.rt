@@ -1,0 +1,173 @@
+//! Why a run gives no report, and what it then writes.
+
+ghost use Rattle.std.specs.Prelude.{◌≡◌, ◌⊎◌, IfOk, MatchResult, string_bytes};
+ghost use Rattle.std.specs.Io.KnownBytes.{Appends};
+ghost use Rattle.sq_base.specs.Ends.{Rose, end_of};
+ghost use Rattle.squeue_run.specs.Ran.{IsBad, IsBadPcapng};
+ghost use Rattle.datagram_services.specs.MoreCauses.{MoreTold};
+ghost use Rattle.datagram_services.specs.RefusalLines.{bad_line, memory_line, pcapng_line};
+
+use capture_reader::CaptureFault;
+use pcapng_reader::{InputFault, PcapngFault};
+use sq_base::{Sink, Status, put};
+use std::alloc::{AllocError, Global};
+
+pub const USAGE: &[u8] =
+    b"usage: sqmore [--squeues N] [--rings N] [--mode process|nodrain|fill] [--budget N]\n";
+
+pub const NO_MEMORY: &[u8] = b"sqmore: out of memory\n";
+
+const READ_FAULT: &[u8] = b"sqmore: read fault\n";
+
+pub const WRITE_FAULT: &[u8] = b"sqmore: write fault\n";
+
+const MANY_BYTES: &[u8] = b"sqmore: too large: more than 67108864 bytes\n";
+
+const MANY_RECORDS: &[u8] = b"sqmore: too large: more than 1048576 records\n";
+
+/// Why there is no report.
+#[derive(Clone, Copy, Debug, PartialEq, Eq)]
+pub enum Refusal {
+    NoMemory,
+    Usage,
+    Input(InputFault),
+}
+
+impl From<AllocError> for Refusal {
+    ghost use Rattle.datagram_services.specs.declared.refusal.Refusal.TheVariants.{NoMemory};
+
+    ghost from_gives = { λ _ e. e ≡ NoMemory };
+
+    fn from(_error: AllocError) -> Refusal {
+        Refusal::NoMemory
+    }
+}
+
+/// Writes the line of a refusal, and gives its status. Where memory for the line is missing, that is the refusal.
+pub fn refuse<E: Sink>(alloc: Global, err: &mut E, refusal: Refusal) -> Status
+    ensures { MoreTold refusal (end_of E.contents E.write_faults err.old err.new) result }
+{
+    match refusal {
+        Refusal::Usage => told(err, USAGE, Status::Usage),
+        Refusal::NoMemory => told(err, NO_MEMORY, Status::NoMemory),
+        Refusal::Input(InputFault::Capture(fault)) => refuse_capture(alloc, err, &fault),
+        Refusal::Input(InputFault::Pcapng(fault)) => refuse_pcapng(alloc, err, &fault),
+    }
+}
+
+fn refuse_capture<E: Sink>(alloc: Global, err: &mut E, fault: &CaptureFault) -> Status
+    ensures { MoreTold (Refusal.Input (InputFault.Capture fault.now)) (end_of E.contents E.write_faults err.old err.new) result }
+{
+    match fault {
+        CaptureFault::NoMemory => told(err, NO_MEMORY, Status::NoMemory),
+        CaptureFault::Read => told(err, READ_FAULT, Status::ReadFault),
+        CaptureFault::TooLarge(_) => told(err, MANY_BYTES, Status::TooLarge),
+        CaptureFault::TooManyRecords => told(err, MANY_RECORDS, Status::TooLarge),
+        _ => told_line(err, bad_capture(alloc, fault)),
+    }
+}
+
+fn refuse_pcapng<E: Sink>(alloc: Global, err: &mut E, fault: &PcapngFault) -> Status
+    ensures { MoreTold (Refusal.Input (InputFault.Pcapng fault.now)) (end_of E.contents E.write_faults err.old err.new) result }
+{
+    match fault {
+        PcapngFault::NoMemory => told(err, NO_MEMORY, Status::NoMemory),
+        PcapngFault::TooManyRecords => told(err, MANY_RECORDS, Status::TooLarge),
+        _ => told_line(err, bad_pcapng(alloc, fault)),
+    }
+}
+
+/// Appends a line, where that works.
+pub fn told<E: Sink>(err: &mut E, line: &[u8], status: Status) -> Status
+    ensures status { result ≡ status }
+    ensures line { (Rose (E.write_faults err.old) (E.write_faults err.new) → ⊥) → Appends (E.contents err.old) (E.contents err.new) line.now }
+{
+    let _ = put(err, line);
+    status
+}
+
+/// Appends the line of a bad capture.
+fn told_line<E: Sink>(err: &mut E, line: Result<String, AllocError>) -> Status
+    ensures { MatchResult line
+        (λ text. (result ≡ Status.BadCapture) × ((Rose (E.write_faults err.old) (E.write_faults err.new) → ⊥) → Appends (E.contents err.old) (E.contents err.new) (string_bytes text)))
+        (λ _. (result ≡ Status.NoMemory) × ((Rose (E.write_faults err.old) (E.write_faults err.new) → ⊥) → Appends (E.contents err.old) (E.contents err.new) memory_line)) }
+{
+    match line {
+        Ok(line) => told(err, line.as_bytes(), Status::BadCapture),
+        Err(_) => told(err, NO_MEMORY, Status::NoMemory),
+    }
+}
+
+/// The line of a bad capture.
+#[tactic(auto, unfolding(crate::specs::RefusalLines::bad_line))]
+fn bad_capture(alloc: Global, fault: &CaptureFault) -> Result<String, AllocError>
+    requires { IsBad fault.now }
+    ensures { IfOk result (λ text. string_bytes text ≡ bad_line fault.now) }
+{
+    match fault {
+        CaptureFault::ShortHeader(n) => {
+            format!(in alloc; "sqmore: bad capture: short header of {n} bytes\n")
+        }
+        CaptureFault::Magic(magic) => {
+            let digits = hex::encode(alloc, magic.as_slice())?;
+            format!(in alloc; "sqmore: bad capture: magic {digits}\n")
+        }
+        CaptureFault::Version { major, minor } => {
+            format!(in alloc; "sqmore: bad capture: version {major}.{minor}\n")
+        }
+        CaptureFault::Link(n) => format!(in alloc; "sqmore: bad capture: link type {n}\n"),
+        CaptureFault::RecordLength { index, len } => {
+            format!(in alloc; "sqmore: bad capture: record {index} has length {len}\n")
+        }
+        _ => unreachable!(),
+    }
+}
+
+/// The line of a bad pcapng file.
+#[tactic(auto, unfolding(crate::specs::RefusalLines::pcapng_line))]
+fn bad_pcapng(alloc: Global, fault: &PcapngFault) -> Result<String, AllocError>
+    requires { IsBadPcapng fault.now }
+    ensures { IfOk result (λ text. string_bytes text ≡ pcapng_line fault.now) }
+{
+    match fault {
+        PcapngFault::ShortSection(n) => {
+            format!(in alloc; "sqmore: bad capture: pcapng short section of {n} bytes\n")
+        }
+        PcapngFault::Magic { index, found } => {
+            let digits = hex::encode(alloc, found.as_slice())?;
+            format!(in alloc; "sqmore: bad capture: pcapng magic {digits} in block {index}\n")
+        }
+        PcapngFault::BlockLength { index, len } => {
+            format!(in alloc; "sqmore: bad capture: pcapng block {index} has length {len}\n")
+        }
+        PcapngFault::EndLength { index, len } => {
+            format!(in alloc; "sqmore: bad capture: pcapng block {index} ends with length {len}\n")
+        }
+        PcapngFault::Version {
+            index,
+            major,
+            minor,
+        } => {
+            format!(in alloc;
+                "sqmore: bad capture: pcapng version {major}.{minor} in block {index}\n"
+            )
+        }
+        PcapngFault::Link { index, link } => {
+            format!(in alloc; "sqmore: bad capture: pcapng link type {link} in block {index}\n")
+        }
+        PcapngFault::MixedLink { index, link } => {
+            format!(in alloc;
+                "sqmore: bad capture: pcapng second link type {link} in block {index}\n"
+            )
+        }
+        PcapngFault::NoInterface { index, id } => {
+            format!(in alloc; "sqmore: bad capture: pcapng interface {id} in block {index}\n")
+        }
+        PcapngFault::PacketLength { index, len } => {
+            format!(in alloc;
+                "sqmore: bad capture: pcapng packet of {len} bytes in block {index}\n"
+            )
+        }
+        _ => unreachable!(),
+    }
+}

@@ -1,0 +1,284 @@
+//! From the bytes of a capture to what is served, by one squeue and by several.
+
+ghost use Rattle.std.specs.Prelude.{◌≡◌, false};
+ghost use Rattle.ring_quotas.specs.Quotas.{IsInRange};
+
+use crate::{Setup, more_report, more_run, serve_more};
+use capture_reader::{Capture, parse_capture};
+use perimeter_core::{Hook, NoHook};
+use sq_base::{MemSink, MemSource, Octets, Status};
+use squeue_enter::Mode;
+use std::alloc::Global;
+use std::process::Abort;
+use std::sync::Wait;
+use std::sync::atomic::{AtomicBool, Ordering};
+use std::test::Fail;
+use std::thread::{Threads, yield_now};
+use stream_plan::{MorePlan, more_plan};
+use tcb_machine::State;
+
+/// The header of a capture file: little-endian, microseconds, raw IP.
+const HEADER: [u8; 24] = [
+    0xd4, 0xc3, 0xb2, 0xa1, 2, 0, 4, 0, 0, 0, 0, 0, 0, 0, 0, 0, 0, 0, 0, 0, 101, 0, 0, 0,
+];
+
+const UDP: u8 = 17;
+
+const TCP: u8 = 6;
+
+/// What comes from 10.0.0.1 to 10.0.0.2: time in microseconds, protocol, ports, and for TCP the flags, sequence number and
+/// acknowledgement number, with a window of 10. A datagram has the text "hi".
+type Row = (u32, u8, u16, u16, u8, u32, u32);
+
+const ROWS: [Row; 6] = [
+    (0, UDP, 5000, 7, 0, 0, 0),
+    (0, TCP, 5000, 19, 2, 100, 0),
+    (0, UDP, 5000, 9, 0, 0, 0),
+    (1000, TCP, 5000, 19, 16, 101, 501),
+    (2000, TCP, 5000, 19, 16, 101, 511),
+    (3000, TCP, 5000, 19, 17, 101, 521),
+];
+
+/// Two streams of one datagram each.
+const TWO: [Row; 2] = [(0, UDP, 5000, 7, 0, 0, 0), (0, UDP, 5001, 7, 0, 0, 0)];
+
+/// The answer to the first datagram to echo.
+const ECHOED: [u8; 30] = [
+    0x45, 0, 0, 0x1e, 0, 0, 0x40, 0, 0x40, 0x11, 0x26, 0xcd, 10, 0, 0, 2, 10, 0, 0, 1, 0, 7, 0x13,
+    0x88, 0, 10, 0x6f, 0xdf, 0x68, 0x69,
+];
+
+/// One more record.
+fn add(bytes: &mut Vec<u8>, row: &Row) -> Result<(), Fail> {
+    let &(at, protocol, from, to, flags, seq, ack) = row;
+    let len = if protocol == UDP { 30u8 } else { 40 };
+    bytes.extend_from_slice(&0u32.to_le_bytes())?;
+    bytes.extend_from_slice(&at.to_le_bytes())?;
+    bytes.extend_from_slice(&[len, 0, 0, 0, len, 0, 0, 0])?;
+    bytes.extend_from_slice(&[0x45, 0, 0, len, 0, 0, 0x40, 0, 0x40, protocol, 0, 0])?;
+    bytes.extend_from_slice(&[10, 0, 0, 1, 10, 0, 0, 2])?;
+    bytes.extend_from_slice(&from.to_be_bytes())?;
+    bytes.extend_from_slice(&to.to_be_bytes())?;
+    if protocol == UDP {
+        bytes.extend_from_slice(&[0, 10, 0, 0, 0x68, 0x69])?;
+    } else {
+        bytes.extend_from_slice(&seq.to_be_bytes())?;
+        bytes.extend_from_slice(&ack.to_be_bytes())?;
+        bytes.extend_from_slice(&[0x50, flags, 0, 10, 0, 0, 0, 0])?;
+    }
+    Ok(())
+}
+
+fn captured(rt: &HostRuntime, rows: &[Row]) -> Result<Capture, Fail> {
+    let mut bytes = Vec::from_slice(rt.alloc(), &HEADER)?;
+    for row in rows {
+        add(&mut bytes, row)?;
+    }
+    Ok(parse_capture(rt.alloc(), Octets::of(rt.alloc(), &bytes)?)?)
+}
+
+/// Serves the plan of `ROWS`, and looks at what was served.
+fn check<W: Threads + Wait + Sync + Abort>(
+    rt: &W,
+    alloc: Global,
+    plan: &MorePlan<'_>,
+    setup: &Setup,
+) -> Result<(), Fail>
+    requires setup { IsInRange setup.now }
+    requires spread { setup.now.spread ≡ 0 }
+    requires trace { setup.now.trace ≡ false }
+{
+    let served = serve_more(rt, alloc, plan, setup, &NoHook)?;
+    assert!(rt; plan.streams() == 3);
+    let answers = served.answers(0);
+    assert!(rt; answers.len() == 1);
+    assert_eq!(rt; answers[0].at, 0);
+    assert_eq!(rt; answers[0].datagram.as_slice(), ECHOED.as_slice());
+    let tcb = served.generator(1).tcb();
+    assert_eq!(rt; tcb.state(), State::LastAck);
+    assert!(rt; tcb.replies() == 4);
+    let last = tcb.reply(3);
+    assert_eq!(rt;
+        (last.at, last.flags, last.seq, last.ack),
+        (3000, 24, 521, 102)
+    );
+    assert_eq!(rt; last.text.as_slice(), b"456789:;<=".as_slice());
+    assert_eq!(rt; served.answers(2).len(), 0);
+    Ok(())
+}
+
+/// One squeue and one ring; as many of both as there may be; and two of each.
+const ONE: Setup = Setup {
+    squeues: 1,
+    rings: 1,
+    mode: Mode::Process,
+    budget: 64,
+    spread: 0,
+    trace: false,
+};
+
+const MOST: Setup = Setup {
+    squeues: 16,
+    rings: 8,
+    mode: Mode::Fill,
+    budget: 1,
+    spread: 0,
+    trace: false,
+};
+
+const PAIR: Setup = Setup {
+    squeues: 2,
+    rings: 2,
+    mode: Mode::Process,
+    budget: 64,
+    spread: 0,
+    trace: false,
+};
+
+#[test]
+fn setup_does_not_matter(rt: HostRuntime) -> Result<(), Fail> {
+    let capture = captured(&rt, &ROWS)?;
+    let plan = more_plan(rt.alloc(), &capture)?;
+    check(&rt, rt.alloc(), &plan, &ONE)?;
+    check(&rt, rt.alloc(), &plan, &MOST)
+}
+
+/// How often one looks for the other before it gives up.
+const TURNS: u32 = 1 << 22;
+
+/// Holds the feed of each of the two streams until that of the other has come, too.
+#[derive(Drop)]
+struct Meeting {
+    first: AtomicBool,
+    second: AtomicBool,
+    in_vain: AtomicBool,
+}
+
+impl Hook for Meeting {
+    fn before(&self, _squeue: u32, c: u32, _n: u32) {
+        let (own, other) = if c == 0 {
+            (&self.first, &self.second)
+        } else {
+            (&self.second, &self.first)
+        };
+        own.store(true, Ordering::SeqCst);
+        for _ in 0..TURNS {
+            if other.load(Ordering::SeqCst) {
+                return;
+            }
+            yield_now();
+        }
+        self.in_vain.store(true, Ordering::SeqCst);
+    }
+}
+
+/// Two rings are inside two squeues at once.
+#[test]
+fn rings_beside_each_other(rt: HostRuntime) -> Result<(), Fail> {
+    let meeting = Meeting {
+        first: AtomicBool::new(false),
+        second: AtomicBool::new(false),
+        in_vain: AtomicBool::new(false),
+    };
+    let capture = captured(&rt, &TWO)?;
+    let plan = more_plan(rt.alloc(), &capture)?;
+    let served = serve_more(&rt, rt.alloc(), &plan, &PAIR, &meeting)?;
+    assert!(rt; plan.streams() == 2);
+    assert!(rt; served.answers(0).len() == 1 && served.answers(1).len() == 1);
+    assert!(rt; meeting.first.load(Ordering::SeqCst));
+    assert!(rt; meeting.second.load(Ordering::SeqCst));
+    assert!(rt;
+        !meeting.in_vain.load(Ordering::SeqCst),
+        "nobody waits in vain"
+    );
+    Ok(())
+}
+
+/// The report of `ROWS`.
+const REPORT: &str = "\
+more 1\n\
+records 6 tail 0 served 6 nofit 0 other 0 streams 3\n\
+stream 0 udp 10.0.0.1:5000 10.0.0.2:7 echo\n\
+order f0\n\
+reply 0 4500001e00004000401126cd0a0000020a00000100071388000a6fdf6869\n\
+stream 1 tcp 10.0.0.1:5000 10.0.0.2:19 chargen\n\
+order f0-4\n\
+reply 0 4500002c00004000400626ca0a0000020a00000100131388000001f4000000656012ffff6e200000020405b4\n\
+reply 1000 4500003200004000400626c40a0000020a00000100131388000001f5000000655018ffffd111000020212223242526272829\n\
+reply 2000 4500003200004000400626c40a0000020a00000100131388000001ff000000655018ffff9ed500002a2b2c2d2e2f30313233\n\
+reply 3000 4500003200004000400626c40a0000020a0000010013138800000209000000665018ffff6c9800003435363738393a3b3c3d\n\
+end LAST-ACK\n\
+stream 2 udp 10.0.0.1:5000 10.0.0.2:9 discard\n\
+order f0\n\
+done\n\
+";
+
+#[test]
+fn reports(rt: HostRuntime) -> Result<(), Fail> {
+    let capture = captured(&rt, &ROWS)?;
+    let plan = more_plan(rt.alloc(), &capture)?;
+    let served = serve_more(&rt, rt.alloc(), &plan, &PAIR, &NoHook)?;
+    let text = more_report(rt.alloc(), &plan, &served)?;
+    assert_eq!(rt; text.as_slice(), REPORT.as_bytes());
+    Ok(())
+}
+
+/// The words that stand between bars; an empty text is no word.
+fn words_of(alloc: Global, line: &str) -> Result<Vec<String>, Fail> {
+    let mut words = Vec::new(alloc);
+    if !line.is_empty() {
+        for word in line.split('|') {
+            words.push(String::from_str(alloc, word)?)?;
+        }
+    }
+    Ok(words)
+}
+
+/// Words, and how a run over a capture without records ends for them.
+const WORDS: [(&str, Status); 12] = [
+    ("", Status::Ok),
+    ("--squeues|16|--rings=8|--mode|fill|--budget|1", Status::Ok),
+    ("--spread|1", Status::Usage),
+    ("--spread=1", Status::Usage),
+    ("--spread|0", Status::Usage),
+    ("--verify", Status::Usage),
+    ("--trace", Status::Usage),
+    ("--gen|1", Status::Usage),
+    ("0:0:status", Status::Usage),
+    ("--squeues|17", Status::Usage),
+    ("--rings|--spread", Status::Usage),
+    ("--help", Status::Usage),
+];
+
+/// The report of a capture without records.
+const NOTHING: &[u8] = b"more 1\nrecords 0 tail 0 served 0 nofit 0 other 0 streams 0\ndone\n";
+
+const USAGE: &[u8] =
+    b"usage: sqmore [--squeues N] [--rings N] [--mode process|nodrain|fill] [--budget N]\n";
+
+#[test]
+fn words_as_a_table(rt: HostRuntime) -> Result<(), Fail> {
+    for (line, status) in &WORDS {
+        let words = words_of(rt.alloc(), line)?;
+        let mut src = MemSource::make(rt.alloc(), &HEADER, 65_536, &[])?;
+        let mut out = MemSink::make(rt.alloc(), 1000, 1000, &[])?;
+        let mut err = MemSink::make(rt.alloc(), 1000, 1000, &[])?;
+        let ended = more_run(
+            &rt,
+            rt.alloc(),
+            words.as_slice(),
+            &mut src,
+            &mut out,
+            &mut err,
+        );
+        assert_eq!(rt; ended, *status);
+        let (written, told): (&[u8], &[u8]) = if ended == Status::Ok {
+            (NOTHING, b"")
+        } else {
+            (b"", USAGE)
+        };
+        assert_eq!(rt; out.bytes(), written);
+        assert_eq!(rt; err.bytes(), told);
+    }
+    Ok(())
+}
