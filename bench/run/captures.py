@@ -107,10 +107,21 @@ def one(out):
         put(seq, acked, 16)
 
 
+def datagrams(out):
+    """100,000 datagrams to UDP echo, of 1,000 clients by turns, each with 24 bytes of text and no sums."""
+    out.write(HEADER)
+    server = bytes((10, 0, 0, 2))
+    for i in range(100_000):
+        client = bytes((10, 1, i % 1000 // 250, i % 250))
+        text = b"%024d" % i
+        ip = struct.pack("!BBHHHBBH4s4s", 0x45, 0, 28 + len(text), 0, 0x4000, 64, 17, 0, client, server)
+        out.write(record(10 * i, ip + struct.pack("!HHHH", 4000, 7, 8 + len(text), 0) + text))
+
+
 def main():
     kind, path = sys.argv[1:]
     with open(path, "wb") as out:
-        {"many": many, "grouped": grouped, "one": one}[kind](out)
+        {"many": many, "grouped": grouped, "one": one, "datagrams": datagrams}[kind](out)
 
 
 main()

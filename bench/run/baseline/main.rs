@@ -1,5 +1,6 @@
-//! The plain loop that sqrun is measured beside: the least that the job can cost. It reads a capture file whole, finds the TCP
-//! segment in each record, groups those to ports 7 and 9 by connection in a hash map, and writes each text in hexadecimal.
+//! The plain loop that sqrun and sqmore are measured beside: the least that the job can cost. It reads a capture file whole, finds the
+//! TCP segment or UDP datagram in each record, groups those to ports 7 and 9 by connection in a hash map, and writes each text in
+//! hexadecimal.
 //! It has no TCP, no replies, no order of times, and checks no sums. Std only; no checks but those of slices.
 use std::collections::HashMap;
 use std::io::{self, Write};
@@ -74,9 +75,25 @@ impl<'a> Capture<'a> {
             total => total,
         };
         let is_fragment = self.word(ip + 6) & 0x3fff != 0;
-        if header < 20 || is_fragment || self.bytes[ip + 9] != 6 || ip + total > end || total < header + 20 {
+        if header < 20 || is_fragment || ip + total > end {
             return None;
         }
+        match self.bytes[ip + 9] {
+            6 if total >= header + 20 => self.tcp(ip, header, total),
+            17 if total >= header + 8 => self.udp(ip, header, total),
+            _ => None,
+        }
+    }
+
+    fn udp(&self, ip: usize, header: usize, total: usize) -> Option<(Ends, usize, usize)> {
+        let udp = ip + header;
+        let length = usize::from(self.word(udp + 4));
+        let ends = (self.long(ip + 12), self.word(udp), self.long(ip + 16), self.word(udp + 2));
+        let is_served = (8..=total - header).contains(&length) && matches!(ends.3, 7 | 9);
+        is_served.then_some((ends, udp + 8, udp + length))
+    }
+
+    fn tcp(&self, ip: usize, header: usize, total: usize) -> Option<(Ends, usize, usize)> {
         let tcp = ip + header;
         let offset = usize::from(self.bytes[tcp + 12] >> 4) * 4;
         let ends = (self.long(ip + 12), self.word(tcp), self.long(ip + 16), self.word(tcp + 2));
