@@ -4,3 +4,4 @@ pub mod OneOutcome
 pub mod SomeOutcome
 pub mod Times
 pub mod ShortBodies
+pub mod Taken

@@ -35,7 +35,7 @@ abbrev pub calls_in : List Act → ℕ
 calls_in xs = length (call_numbers 0 xs) + length (call_numbers 1 xs) + length (call_numbers 2 xs) + length (call_numbers 3 xs)
 
 -- the calls of an order, without one in front
-fewer : (i k j : ℕ) (xs : List Act) → call_numbers j (act.Call i k ∷ xs) ≡ [] → call_numbers j xs ≡ []
+pub fewer : (i k j : ℕ) (xs : List Act) → call_numbers j (act.Call i k ∷ xs) ≡ [] → call_numbers j xs ≡ []
 fewer i k j xs = by (i == j)
   where
     by : (b : Bool) → (if b then k ∷ call_numbers j xs else call_numbers j xs) ≡ [] → call_numbers j xs ≡ []
@@ -81,7 +81,7 @@ all_acts [] none = refl
 all_acts (act.Feed n ∷ xs) none = omega (arith, all_acts xs none)
 all_acts (act.Call i k ∷ xs) none = omega (arith, one_call i k xs (none i), all_acts xs (λ j le. fewer i k j xs (none j le)))
 
-begins_short : (front whole : List ℕ) → Begins front whole → length front ≤ length whole
+pub begins_short : (front whole : List ℕ) → Begins front whole → length front ≤ length whole
 begins_short front whole b = omega (arith, ap length b.joined, length-append front b.rest)
 
 begins_none : (front : List ℕ) → Begins front [] → front ≡ []

@@ -3,7 +3,7 @@ pub mod Rising
 pub mod Numbers
 pub mod Settling
 mod WholeOrders
-mod Counting
+pub mod Counting
 mod Settled
 mod Held
 mod LettingGo

@@ -4,11 +4,11 @@ mod Conns
 mod HintLemmas
 mod ItemLemmas
 pub mod OneKey
-mod SortLemmas
+pub mod SortLemmas
 mod Tallies
 pub mod PlanFacts
 pub mod TextWithin
 mod OrderLaw
-mod PlanLaw
-mod RingLaw
+pub mod PlanLaw
+pub mod RingLaw
 mod ItemsTogether

@@ -5,3 +5,4 @@ pub mod Joining
 pub mod Kept
 pub mod Outcomes
 pub mod Steps
+pub mod Inputs

@@ -16,7 +16,7 @@ other_made r e K other = rw (differ (pass_of e.mark) r other) refl
 
 module _ (S : Setting) (r : ℕ) where
   -- whether the ring has taken the perimeter with feeds, over two parts
-  taken_join : (past : List Element) (o : Option ℕ) (H K : List Element) → taken_from S r past o (H ++ K) ≡ taken_from S r (past ++ H) (taken_from S r past o H) K
+  pub taken_join : (past : List Element) (o : Option ℕ) (H K : List Element) → taken_from S r past o (H ++ K) ≡ taken_from S r (past ++ H) (taken_from S r past o H) K
   taken_join past o [] K = ap (λ (P : List Element). taken_from S r P o K) (sym (append-nil past))
   taken_join past o (e ∷ H) K =
       let next : Option ℕ = if pass_of e.mark == r then taken_after S past o e.mark else o in

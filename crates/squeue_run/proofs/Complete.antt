@@ -1,111 +1,31 @@
 -- Accepted words and an accepted capture end with the whole output, where nothing fails.
-use Rattle.std.proofs.Common.{◌≡◌, ◌∙◌, ℕ, ◌+◌, ◌<◌, ◌≤◌, List, [], ◌∷◌, ◌++◌, length, Option, Some, None, Result, Ok, Err, inl, inr, subst, sym, ap, arith, length-append}
-use Rattle.std.proofs.lemmas.List.{append-nil}
-use Rattle.std.specs.Io.KnownBytes.{Consumes}
+use Rattle.std.proofs.Common.{◌≡◌, ◌∙◌, ℕ, ◌<◌, ◌≤◌, List, [], ◌∷◌, Option, Some, None, inl, inr, subst, ap, arith}
 use Rattle.sq_base.specs.Ends.{Rose, End}
 use Rattle.sq_base.specs.declared.kinds.Status.{Status}
 use Rattle.sq_base.specs.declared.kinds.Status.TheVariants as status
-use Rattle.capture_reader.specs.CaptureFile.{Contents, Meets}
-use Rattle.capture_reader.specs.Limits.{most_bytes, most_taken}
-use Rattle.capture_reader.specs.Outcome.{CaptureFile, ReadsWhole, TakesTooMany, contents_of}
-use Rattle.capture_reader.specs.declared.fault.CaptureFault.{CaptureFault}
+use Rattle.capture_reader.specs.Outcome.{CaptureFile, contents_of}
 use Rattle.capture_reader.specs.declared.fault.CaptureFault.TheVariants as fault
-use Rattle.capture_reader.proofs.OneOutcome.{meets_once}
-use Rattle.pcapng_reader.proofs.Outcomes.{meets_once as ng_meets_once}
-use Rattle.pcapng_reader.specs.PcapngFile.{BeginsSection, Captured}
-use Rattle.pcapng_reader.specs.declared.fault.PcapngFault.{PcapngFault}
+use Rattle.capture_reader.proofs.Taken.{not_too_many, whole_is}
 use Rattle.pcapng_reader.specs.declared.fault.PcapngFault.TheVariants as pcapng
-use Rattle.squeue_run.specs.Input.{ReadsSuch}
 use Rattle.pcapng_reader.specs.Input.{IsInput, IsRefusedCapture, IsRefusedPcapng}
+use Rattle.pcapng_reader.proofs.Inputs.{input_small, refused_not, refused_not_ng, same_contents_of}
+use Rattle.squeue_run.specs.Input.{ReadsSuch}
 use Rattle.ring_threads.specs.Served.{ServedOf}
 use Rattle.squeue_run.specs.Asked.{Asked}
 use Rattle.squeue_run.specs.CallWords.{AllThere, IsFirstMissing}
 use Rattle.squeue_run.specs.Ran.{Accepts, AcceptsBy, HasRead, HoldsCapture, HasRan, IsDone, IsLongTrace, IsServable, RanBy, RanFor, RanGenerated, RanRead, Reads, conns_of, marks_in, most_marks}
 use Rattle.squeue_run.specs.declared.calls.CallWord.{CallWord}
 
-whole_some : (xs bs : List ℕ) (is : Option (List ℕ)) → ReadsWhole (Some xs) is bs → bs ≡ xs
-whole_some xs bs None r = absurd r.taken
-whole_some xs bs (Some ys) r = sym (append-nil bs) ∙ ap (λ rest. bs ++ rest) (sym r.ended) ∙ sym r.taken
-
-whole_is : (xs bs : List ℕ) (was is : Option (List ℕ)) → was ≡ Some xs → ReadsWhole was is bs → bs ≡ xs
-whole_is xs bs was is e r =
-    let Whole : Option (List ℕ) → Type 0 = λ w. ReadsWhole w is bs in
-    whole_some xs bs is (subst Whole e r)
-
-taken_some : (xs bs : List ℕ) (is : Option (List ℕ)) → Consumes (Some xs) is bs → length bs ≤ length xs
-taken_some xs bs None t = absurd t
-taken_some xs bs (Some ys) t = let sizes : length xs ≡ length bs + length ys = ap length t ∙ length-append bs ys in omega arith
-
-not_too_many : (xs : List ℕ) (was is : Option (List ℕ)) → was ≡ Some xs → length xs ≤ most_bytes → TakesTooMany was is → ⊥
-not_too_many xs was is e small t =
-    let Taken : Option (List ℕ) → Type 0 = λ w. Consumes w is t.bytes in
-    let few : length t.bytes ≤ length xs = taken_some xs t.bytes is (subst Taken e t.taken) in
-    let many : length t.bytes ≡ most_taken = t.count in
-    omega (arith, few, many, small)
-
-abbrev Outcome : Type 0
-Outcome = Result Contents CaptureFault
-
-abbrev accepted : Contents → Outcome
-accepted x = Ok x
-
-abbrev refused : CaptureFault → Outcome
-refused f = Err f
-
-same_contents : (x y : Contents) → accepted x ≡ accepted y → x ≡ y
-same_contents x y e = cc
-
-not_both : (x : Contents) (f : CaptureFault) → accepted x ≡ refused f → ⊥
-not_both x f e = cc
-
 same_file : (f g : CaptureFile) → f.bytes ≡ g.bytes → contents_of f ≡ contents_of g → f ≡ g
 same_file f g bytes contents =
     ap (λ b. record { bytes = b; link = f.link; packets = f.packets; cut = f.cut }) bytes
     ∙ ap (λ c. record { bytes = g.bytes; link = c.link; packets = c.packets; cut = c.cut }) contents
-
-abbrev NgOutcome : Type 0
-NgOutcome = Result Contents PcapngFault
-
-abbrev ng_accepted : Contents → NgOutcome
-ng_accepted x = Ok x
-
-abbrev ng_refused : PcapngFault → NgOutcome
-ng_refused f = Err f
-
-same_ng : (x y : Contents) → ng_accepted x ≡ ng_accepted y → x ≡ y
-same_ng x y e = cc
-
-not_both_ng : (x : Contents) (f : PcapngFault) → ng_accepted x ≡ ng_refused f → ⊥
-not_both_ng x f e = cc
-
--- bytes are one capture, in whichever form
-same_contents_of : (file found : CaptureFile) → found.bytes ≡ file.bytes → IsInput file → IsInput found → contents_of found ≡ contents_of file
-same_contents_of file found bytes (inl p) (inl q) =
-    same_ng (contents_of found) (contents_of file)
-    (ng_meets_once file.bytes (ng_accepted (contents_of found)) (ng_accepted (contents_of file)) (subst (λ b. Captured b (contents_of found)) bytes q.captured) p.captured)
-same_contents_of file found bytes (inl p) (inr q) = absurd (q.0 (subst BeginsSection (sym bytes) p.begins))
-same_contents_of file found bytes (inr p) (inl q) = absurd (p.0 (subst BeginsSection bytes q.begins))
-same_contents_of file found bytes (inr p) (inr q) =
-    same_contents (contents_of found) (contents_of file)
-    (meets_once file.bytes (accepted (contents_of found)) (accepted (contents_of file)) (subst (λ b. Meets b (Ok (contents_of found))) bytes q.1.captured) p.1.captured)
 
 -- the capture that was read is the one that was there
 read_once : (file found : CaptureFile) (source : End) → source.was ≡ Some file.bytes → IsInput file → Reads source found → found ≡ file
 read_once file found source there capture r =
     let bytes : found.bytes ≡ file.bytes = whole_is file.bytes found.bytes source.was source.is there r.read in
     same_file found file bytes (same_contents_of file found bytes capture r.capture)
-
-input_small : (file : CaptureFile) → IsInput file → length file.bytes ≤ most_bytes
-input_small file (inl p) = p.small
-input_small file (inr p) = p.1.small
-
-refused_not : (file : CaptureFile) (why : CaptureFault) → IsInput file → IsRefusedCapture why file.bytes → ⊥
-refused_not file why (inl p) r = r.0 p.begins
-refused_not file why (inr p) r = not_both (contents_of file) why (meets_once file.bytes (accepted (contents_of file)) (refused why) p.1.captured r.1.1)
-
-refused_not_ng : (file : CaptureFile) (why : PcapngFault) → IsInput file → IsRefusedPcapng why file.bytes → ⊥
-refused_not_ng file why (inl p) r = not_both_ng (contents_of file) why (ng_meets_once file.bytes (ng_accepted (contents_of file)) (ng_refused why) p.captured r.2)
-refused_not_ng file why (inr p) r = p.0 r.0
 
 not_refused : (Such : List ℕ → Type 0) (file : CaptureFile) (source : End) → source.was ≡ Some file.bytes → (Such file.bytes → ⊥) → ReadsSuch Such source.was source.is → ⊥
 not_refused Such file source there not r = not (subst Such (whole_is file.bytes r.0 source.was source.is there r.1) r.2)
