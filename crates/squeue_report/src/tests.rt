@@ -37,7 +37,14 @@ const FIVE_BODY: &str = concat!(
     "end LISTEN\n",
 );
 
-/// Its first two segments with a close: the orders in which it may come, and what follows the order's line.
+/// Its first two segments with a close: what stands before the order's line.
+const BEFORE_CLOSES: &str = concat!(
+    "report 1\n",
+    "records 2 tail 0 served 2 nofit 0 server 0 other 0 fragment 0 cut 0 malformed 0 badsum 0 connections 1\n",
+    "conn 0 10.0.0.1:4000 10.0.0.2:7 echo\n",
+);
+
+/// The orders in which the close may come, and what follows the order's line.
 const CLOSES: [(&str, &str); 4] = [
     ("order c0.0 f0-2\n", NOT_OPEN),
     ("order f0 c0.0 f1-2\n", NOT_OPEN),
@@ -110,11 +117,9 @@ fn a_close_among_the_feeds(rt: HostRuntime) -> Result<(), Fail> {
     calls.push(0, 0, Call::Close)?;
     let served = serve(&rt, rt.alloc(), &plan, &calls, &ONE, &NoHook)?;
     let text = report(rt.alloc(), &plan, &served)?;
-    let begin =
-        "report 1\nrecords 2 tail 0 served 2 nofit 0 server 0 other 0 fragment 0 cut 0 malformed 0 badsum 0 connections 1\nconn 0 10.0.0.1:4000 10.0.0.2:7 echo\n";
     let mut is_known = false;
     for (order, more) in CLOSES {
-        let lines = format!(in rt.alloc(); "{begin}{order}{more}")?;
+        let lines = format!(in rt.alloc(); "{BEFORE_CLOSES}{order}{more}")?;
         if text.as_slice() == lines.as_bytes() {
             is_known = true;
         }
