@@ -39,10 +39,7 @@ fn plain(asked: &Words) -> bool
     requires { asked.now.trace ≡ asked.now.setup.trace }
     ensures { result ≡ is_plain (asked_by_words asked.now) }
 {
-    !asked.verify
-        && !asked.trace
-        && asked.number.is_none()
-        && asked.named.is_empty()
+    !asked.verify && !asked.trace && asked.number.is_none() && asked.named.is_empty()
 }
 
 /// Whether a word names a spread.
