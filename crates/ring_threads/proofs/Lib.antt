@@ -1,12 +1,7 @@
-mod AtTheEnd
 mod Back
-mod Closing
 mod MadeSqueues
 mod WholeRun
 mod FewFeeds
-mod Tasked
-mod Fed
-mod Closes
-mod Works
+mod Lined
 mod Ready
 mod Finished

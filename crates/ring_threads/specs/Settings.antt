@@ -13,7 +13,7 @@ use Rattle.squeue_rings.specs.Keeping.{ArePaced}
 use Rattle.squeue_rings.specs.Runs.{brought}
 use Rattle.ring_quotas.specs.declared.setup.Setup.{Setup}
 use Rattle.ring_quotas.specs.Quotas.{setting_at}
-use Rattle.ring_threads.specs.Ends.{CallersEnd, RingsEnd}
+use Rattle.ring_jobs.specs.Ends.{CallersEnd, RingsEnd}
 
 module _ (p : PlanOf) (calls : CallLists) (squeues rings spread : ℕ) where
   -- squeue number q was made for the plan and the calls, with its setting
