@@ -23,7 +23,7 @@ use Rattle.ring_jobs.specs.declared.lines.Line.{Line}
 use Rattle.ring_jobs.specs.declared.task.Task.{Task}
 use Rattle.ring_jobs.specs.declared.task.Task.TheVariants as Task'
 use Rattle.ring_jobs.specs.Ends.{CallerEnds, CallersEnd, RingEnds, RingsEnd}
-use Rattle.ring_jobs.specs.Running.{HasBroughtLine, HasDone, ThenClosed}
+use Rattle.ring_jobs.specs.Running.{HasBroughtLine, HasDone, HaveDone, ThenClosed}
 use Rattle.ring_jobs.specs.Tasks.{AreTasks, lists_of}
 use Rattle.ring_jobs.proofs.Closes.{both}
 use Rattle.ring_jobs.proofs.Closing.{callers_end, rings_end}
@@ -47,10 +47,7 @@ module _ {R : Type 0} (limits : R → Limits) where
     abbrev Done : Task → List (Option (Pass Element)) → List (Option (Pass Element)) → Type 0
     Done t old now = HasDone limits squeues spread mode budget calls lines ss t old now
 
-    abbrev pub AllDone : Type 0
-    AllDone = (k : ℕ) (d : Job Task) → k < length jobs → Done (slice_index_or jobs k d).task (slice_index_or jobs k d).places.items (slice_index_or new k d).places.items
-
-    module _ (rings callers count : ℕ) (all : rings + callers ≡ count) (many : length ss ≡ squeues) (tasks : AreTasks rings callers squeues lines (tasks_in jobs)) (lent : AreLent IsNew 1 count ss (lent_to jobs)) (same : length new ≡ length jobs) (ran : AllDone) where
+    module _ (rings callers count : ℕ) (all : rings + callers ≡ count) (many : length ss ≡ squeues) (tasks : AreTasks rings callers squeues lines (tasks_in jobs)) (lent : AreLent IsNew 1 count ss (lent_to jobs)) (same : length new ≡ length jobs) (ran : HaveDone limits squeues spread mode budget calls lines ss jobs new) where
       -- what the job of a task has done
       done : (k : ℕ) (t : Task) → k < length jobs → slice_get (tasks_in jobs) k ≡ Some t → Done t (lent_to jobs k) (lent_to new k)
       done k t lt at =
@@ -142,7 +139,7 @@ module _ {R : Type 0} (limits : R → Limits) where
 
   -- the same at equal numbers
   pub at_pace : (calls : CallLists) (lines : List Line) (ss : List (Named R)) (jobs new : List (Job Task)) (m n : ℕ) (o : Mode) (k squeues spread : ℕ) (mode : Mode) (budget : ℕ) → m ≡ squeues → n ≡ spread → o ≡ mode → k ≡ budget
-      → AllDone m n o k calls lines ss jobs new → AllDone squeues spread mode budget calls lines ss jobs new
+      → HaveDone limits m n o k calls lines ss jobs new → HaveDone limits squeues spread mode budget calls lines ss jobs new
   at_pace calls lines ss jobs new m n o k squeues spread mode budget a b u v h =
-      let Of : ℕ → ℕ → Mode → ℕ → Type 0 = λ m n o k. AllDone m n o k calls lines ss jobs new in
+      let Of : ℕ → ℕ → Mode → ℕ → Type 0 = λ m n o k. HaveDone limits m n o k calls lines ss jobs new in
       subst (Of squeues spread mode) v (subst (λ (o : Mode). Of squeues spread o k) u (subst (λ (n : ℕ). Of squeues n o k) b (subst (λ (m : ℕ). Of m n o k) a h)))

@@ -1,4 +1,5 @@
 pub mod Tasked
+pub mod Lined
 pub mod Fed
 pub mod Works
 pub mod Lends

@@ -1,5 +1,5 @@
 -- Jobs with the passes of new squeues are ready.
-use Rattle.std.proofs.Common.{◌≡◌, ℕ, ◌+◌, ◌-◌, ◌<◌, ◌≤◌, All, Option, Some, List, [], inl, inr, length, slice_get, slice_index_or, ap, sym, ◌∙◌, subst, arith}
+use Rattle.std.proofs.Common.{◌≡◌, ℕ, ◌+◌, ◌-◌, ◌<◌, ◌≤◌, Option, Some, List, [], inl, inr, length, slice_get, slice_index_or, ap, sym, ◌∙◌, subst, arith}
 use Rattle.std.proofs.lemmas.Bool.{cases_lt}
 use Rattle.std.proofs.lemmas.List.{length-map}
 use Rattle.turn_gate.specs.History.{Each}
@@ -23,7 +23,7 @@ use Rattle.ring_jobs.specs.declared.lines.Line.{Line}
 use Rattle.ring_jobs.specs.declared.task.RingTask.{RingTask}
 use Rattle.ring_jobs.specs.declared.task.Task.{Task}
 use Rattle.ring_jobs.specs.declared.task.Task.TheVariants as Task'
-use Rattle.ring_jobs.specs.Running.{MayBringLine, MayCallAll, MayDo}
+use Rattle.ring_jobs.specs.Running.{MayBringLine, MayCallAll, MayDo, MayDoAll}
 use Rattle.ring_jobs.specs.Tasks.{AreTasks, IsRingTask}
 use Rattle.ring_jobs.proofs.Closes.{both}
 use Rattle.ring_jobs.proofs.Works.{got_or}
@@ -112,5 +112,5 @@ module _ (rings callers count squeues : ℕ) (all : rings + callers ≡ count) (
           ]
         ]
 
-    pub all_ready : All (λ (j : Job Task). May j.task j.places.items) jobs
+    pub all_ready : MayDoAll limits squeues spread calls lines ss jobs
     all_ready k d lt = let j = some_at jobs k lt in subst (λ (i : Job Task). May i.task i.places.items) (sym (got_or jobs k j.0 d j.1)) (ready k j.0 lt j.1)

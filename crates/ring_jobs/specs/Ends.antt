@@ -22,7 +22,8 @@ module _ {R : Type 0} (limits : R → Limits) where
   pub record RingEnds (squeues spread r : ℕ) (list : List Feed) (s : Named R) (x : Pass Element) : Type 0 where
     pub pass : IsPassOf number_of s.gate x
     pub is_number : number x ≡ r
-    pub here : (c : ℕ) → r ≡ c % s.given.rings → c < length s.given.starts → is_here (run (setting_of limits s.given) (seen x)) c ≡ (place squeues spread c list == s.given.number)
+    pub here : (c : ℕ) → r ≡ c % s.given.rings → c < length s.given.starts
+        → is_here (run (setting_of limits s.given) (seen x)) c ≡ (place squeues spread c list == s.given.number)
     pub next : (c : ℕ) → r ≡ c % s.given.rings → c < length s.given.starts → place squeues spread c list ≡ s.given.number → due (seen x) c ≡ brought c list
 
   -- its passes of all squeues do, and its connections went from stay to stay, each with the feeds that were due

@@ -1,9 +1,10 @@
 -- What a thread needs for its task, and what it has done by it.
-use Rattle.std.specs.Prelude.{◌≡◌, ℕ, ◌+◌, ◌<◌, List, Option, Some, [], ◌∷◌, length, slice_get}
+use Rattle.std.specs.Prelude.{◌≡◌, ℕ, ◌+◌, ◌<◌, All, List, Option, Some, [], ◌∷◌, length, slice_get, slice_index_or}
 use Rattle.turn_gate.specs.History.{Each}
 use Rattle.turn_gate.specs.declared.pass.Pass.{Pass}
 use Rattle.perimeter_core.specs.History.{Element, Limits}
 use Rattle.squeue_state.specs.Naming.{Named}
+use Rattle.squeue_serve.specs.declared.jobs.Job.{Job}
 use Rattle.squeue_serve.specs.Places.{AtEach, AtEachTwo, Became, HasClosed, HasWorked, Holds, IsNew, MayWork}
 use Rattle.conn_blocks.specs.CallLists.{CallLists}
 use Rattle.squeue_enter.specs.declared.Mode.{Mode}
@@ -54,11 +55,20 @@ module _ {R : Type 0} (limits : R → Limits) (squeues spread : ℕ) (calls : Ca
   MayDo (Task'.Call j) places = MayCallAll limits calls ss j places
   MayDo (Task'.Work q) places = (s : Named R) × (x : Pass Element) × (slice_get ss q ≡ Some s) × (places ≡ Some x ∷ []) × MayWork limits s x
 
+  abbrev pub MayDoAll : List (Job Task) → Type 0
+  MayDoAll jobs = All (λ j. MayDo j.task j.places.items) jobs
+
 module _ {R : Type 0} (limits : R → Limits) (squeues spread : ℕ) (mode : Mode) (budget : ℕ) (calls : CallLists) (lines : List Line) (ss : List (Named R)) where
-  -- what a task has done by its places: a ring has brought all feeds of its line, an application thread has made all its calls, a worker has
-  -- seen the end
+  -- what a task has done by its places: a ring has brought all feeds of its line, an application thread has made all its calls, a
+  -- worker has seen the end
   abbrev pub HasDone : Task → List (Option (Pass Element)) → List (Option (Pass Element)) → Type 0
   HasDone (Task'.Feed ends) old new = new ≡ old
   HasDone (Task'.Bring t) old new = ThenClosed limits ss (HasBroughtLine limits squeues spread mode budget lines ss t.number) new
   HasDone (Task'.Call j) old new = ThenClosed limits ss (CallersAt limits j (conns_called calls j) ss) new
-  HasDone (Task'.Work q) old new = (s : Named R) × (x : Pass Element) × (y : Pass Element) × (slice_get ss q ≡ Some s) × (old ≡ Some x ∷ []) × (new ≡ Some y ∷ []) × HasWorked limits s x y
+  HasDone (Task'.Work q) old new =
+      (s : Named R) × (x : Pass Element) × (y : Pass Element) × (slice_get ss q ≡ Some s) × (old ≡ Some x ∷ []) × (new ≡ Some y ∷ []) × HasWorked limits s x y
+
+  -- each job has done its task
+  abbrev pub HaveDone : List (Job Task) → List (Job Task) → Type 0
+  HaveDone old new = (k : ℕ) (d : Job Task) → k < length old
+      → HasDone (slice_index_or old k d).task (slice_index_or old k d).places.items (slice_index_or new k d).places.items

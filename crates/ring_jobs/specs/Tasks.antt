@@ -31,6 +31,11 @@ HasRing l = MatchOption l.ring (l.list.items ≡ []) (λ g. g.capacity ≡ lengt
 abbrev pub HaveRings : List Line → Type 0
 HaveRings lines = (r : ℕ) (l : Line) → slice_get lines r ≡ Some l → HasRing l
 
+-- there is a line for each ring, and this is so of the ring's number and its feeds
+pub record AreLines (P : ℕ → List Feed → Type 0) (rings : ℕ) (lines : List Line) : Type 0 where
+  pub count : length lines ≡ rings
+  pub each : (r : ℕ) (l : Line) → slice_get lines r ≡ Some l → P r l.list.items
+
 -- by the two ends of the line's ring nothing was put and nothing taken
 pub record IsUnused (e : Ends) : Type 0 where
   pub ring : HasRing e.line

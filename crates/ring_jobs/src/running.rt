@@ -35,7 +35,8 @@ pub fn run_job<R: Resident, H: Hook, W: Wait>(
     requires hints { AllBelow (conns_of hints.now) squeues.now × (squeues_of hints.now ≡ pace.homes.squeues) }
     requires lines { HaveRings lines.now }
     requires ready { MayDo R.limits pace.homes.squeues pace.homes.spread calls.now lines.now squeues.now job.old.task job.old.places.items }
-    ensures { HasDone R.limits pace.homes.squeues pace.homes.spread pace.mode pace.budget calls.now lines.now squeues.now job.old.task job.old.places.items job.new.places.items }
+    ensures { HasDone R.limits pace.homes.squeues pace.homes.spread pace.mode pace.budget calls.now lines.now squeues.now
+        job.old.task job.old.places.items job.new.places.items }
 {
     let places = &mut job.places;
     match &mut job.task {
@@ -61,7 +62,8 @@ fn bring<R: Resident, H: Hook, W: Wait>(
     requires run { AreOneRun R.origin pace.homes.squeues squeues.now }
     requires hints { AllBelow (conns_of hints.now) squeues.now × (squeues_of hints.now ≡ pace.homes.squeues) }
     requires ready { MayBringLine R.limits pace.homes.squeues pace.homes.spread lines.now squeues.now task.old places.old.items }
-    ensures { ThenClosed R.limits squeues.now (HasBroughtLine R.limits pace.homes.squeues pace.homes.spread pace.mode pace.budget lines.now squeues.now task.old.number) places.new.items }
+    ensures { ThenClosed R.limits squeues.now
+        (HasBroughtLine R.limits pace.homes.squeues pace.homes.spread pace.mode pace.budget lines.now squeues.now task.old.number) places.new.items }
 {
     bring_line(rt, alloc, hook, squeues, hints, pace, lines, task, places);
     close_all(rt, squeues, places);
@@ -82,7 +84,8 @@ fn bring_line<R: Resident, H: Hook, W: Wait>(
     requires run { AreOneRun R.origin pace.homes.squeues squeues.now }
     requires hints { AllBelow (conns_of hints.now) squeues.now × (squeues_of hints.now ≡ pace.homes.squeues) }
     requires ready { MayBringLine R.limits pace.homes.squeues pace.homes.spread lines.now squeues.now task.old places.old.items }
-    ensures at { AreAt R.limits pace.homes.squeues pace.homes.spread task.old.number squeues.now (lists_of lines.now task.old.number) (lists_of lines.now task.old.number) places.new.items }
+    ensures at { AreAt R.limits pace.homes.squeues pace.homes.spread task.old.number squeues.now
+        (lists_of lines.now task.old.number) (lists_of lines.now task.old.number) places.new.items }
     ensures paced { ArePaced R.limits pace.homes.squeues pace.homes.spread pace.mode pace.budget task.old.number squeues.now places.new.items }
 {
     let line = &lines[task.number];

@@ -12,18 +12,18 @@ use Rattle.squeue_serve.specs.Places.{IsNew, MayEnd}
 use Rattle.squeue_serve.proofs.Lent.{some_at}
 use Rattle.ring_jobs.specs.declared.lines.Line.{Line}
 use Rattle.ring_jobs.specs.declared.task.Task.{Task}
-use Rattle.ring_jobs.specs.Tasks.{AreTasks, lists_of}
-use Rattle.ring_jobs.proofs.Finished.{AllDone, caller_done, lent_back, ring_done, ring_paced}
+use Rattle.ring_jobs.specs.Running.{HaveDone}
+use Rattle.ring_jobs.specs.Tasks.{AreLines, AreTasks, lists_of}
+use Rattle.ring_jobs.proofs.Finished.{caller_done, lent_back, ring_done, ring_paced}
 use Rattle.ring_jobs.proofs.Tasked.{list_is}
 use Rattle.ring_quotas.specs.declared.setup.Setup.{Setup}
 use Rattle.ring_quotas.proofs.Totals.{whole}
-use Rattle.ring_threads.specs.Lines.{AreLines}
 use Rattle.ring_threads.specs.Settings.{AreSet, HasRun}
 use Rattle.ring_threads.proofs.Ready.{rings_same}
 
-module _ (p : PlanOf) (calls : CallLists) (setup : Setup) (ss : List (Named Blocks)) (set : AreSet p calls setup.squeues setup.rings setup.spread ss) (lines : List Line) (are : AreLines p setup.rings lines) (jobs new : List (Job Task))
+module _ (p : PlanOf) (calls : CallLists) (setup : Setup) (ss : List (Named Blocks)) (set : AreSet p calls setup.squeues setup.rings setup.spread ss) (lines : List Line) (are : AreLines (IsRingList p setup.rings) setup.rings lines) (jobs new : List (Job Task))
     (tasks : AreTasks setup.rings 4 setup.squeues lines (tasks_in jobs)) (lent : AreLent IsNew 1 (setup.rings + 4) ss (lent_to jobs)) (same : length new ≡ length jobs)
-    (ran : AllDone limits_of setup.squeues setup.spread setup.mode setup.budget calls lines ss jobs new) where
+    (ran : HaveDone limits_of setup.squeues setup.spread setup.mode setup.budget calls lines ss jobs new) where
   abbrev rings : ℕ
   rings = setup.rings
 

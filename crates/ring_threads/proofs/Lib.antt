@@ -2,6 +2,5 @@ mod Back
 mod MadeSqueues
 mod WholeRun
 mod FewFeeds
-mod Lined
 mod Ready
 mod Finished

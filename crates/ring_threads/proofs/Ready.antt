@@ -6,6 +6,7 @@ use Rattle.turn_gate.specs.History.{Each}
 use Rattle.perimeter_core.specs.History.{Setting}
 use Rattle.squeue_state.specs.Naming.{Named}
 use Rattle.conn_classifier.specs.Plan.{PlanOf, IsPlan}
+use Rattle.conn_classifier.specs.RingList.{IsRingList}
 use Rattle.conn_blocks.specs.declared.blocks.Blocks.{Blocks}
 use Rattle.conn_blocks.specs.Allowed.{all_calls}
 use Rattle.conn_blocks.specs.CallLists.{CallLists}
@@ -18,13 +19,12 @@ use Rattle.squeue_rings.specs.Bringing.{AllBelow, AreOneRun, MayBringAll}
 use Rattle.squeue_rings.specs.Starts.{StartAtHome}
 use Rattle.ring_jobs.specs.declared.lines.Line.{Line}
 use Rattle.ring_jobs.specs.declared.task.Task.{Task}
-use Rattle.ring_jobs.specs.Running.{MayDo}
-use Rattle.ring_jobs.specs.Tasks.{AreTasks}
+use Rattle.ring_jobs.specs.Running.{MayDoAll}
+use Rattle.ring_jobs.specs.Tasks.{AreLines, AreTasks}
 use Rattle.ring_jobs.proofs.Ready.{all_ready}
 use Rattle.ring_quotas.specs.Quotas.{IsMadeFor, setting_at}
 use Rattle.ring_quotas.proofs.Sufficing.{all_may_bring, all_may_make}
 use Rattle.ring_quotas.proofs.Totals.{order}
-use Rattle.ring_threads.specs.Lines.{AreLines}
 use Rattle.ring_threads.specs.Settings.{AreSet}
 
 number_at : {A : Type 0} (f : ℕ → A) (a n k : ℕ) (d : A) → k < n → slice_index_or (map f (range_with_len a n)) k d ≡ f (a + k)
@@ -61,14 +61,14 @@ module _ (p : PlanOf) (calls : CallLists) (squeues rings spread : ℕ) (ss : Lis
       ∙ (number_at (λ c. c % squeues == q) 0 (length p.tuples) c false (omega (arith, lt, n))
       ∙ (ap (λ (d : ℕ). d % squeues == q) z ∙ ap (λ (k : ℕ). c % squeues == k) (sym (set.each q s at).number))))
 
-  module _ (lines : List Line) (are : AreLines p rings lines) (jobs : List (Job Task)) (tasks : AreTasks rings 4 squeues lines (tasks_in jobs)) (lent : AreLent IsNew 1 (rings + 4) ss (lent_to jobs))
+  module _ (lines : List Line) (are : AreLines (IsRingList p rings) rings lines) (jobs : List (Job Task)) (tasks : AreTasks rings 4 squeues lines (tasks_in jobs)) (lent : AreLent IsNew 1 (rings + 4) ss (lent_to jobs))
       (plan : IsPlan p) (known : All (λ call. call.0 < length p.tuples) (all_calls calls)) (some : 1 ≤ squeues) where
     may_bring : (r : ℕ) (l : Line) → r < rings → slice_get lines r ≡ Some l → MayBringAll limits_of squeues spread r l.list.items ss
     may_bring r l lt is =
         let list = are.each r l is in
         record { order = order p plan rings r l.list.items list; may = all_may_bring limits_of p calls squeues rings spread r l.list.items ss plan lt list made_for }
 
-    pub jobs_ready : All (λ (j : Job Task). MayDo limits_of squeues spread calls lines ss j.task j.places.items) jobs
+    pub jobs_ready : MayDoAll limits_of squeues spread calls lines ss jobs
     jobs_ready =
         all_ready rings 4 (rings + 4) squeues refl lines jobs tasks limits_of origin_of spread calls ss one_run some lent rings_same start_home may_bring (omega arith)
         (λ j lt. all_may_make limits_of p calls squeues rings spread j ss lt known made_for)

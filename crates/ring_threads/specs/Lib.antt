@@ -3,4 +3,3 @@ pub mod Served
 pub mod ServedBlocks
 pub mod Gathering
 pub mod Settings
-pub mod Lines

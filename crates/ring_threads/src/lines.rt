@@ -1,7 +1,7 @@
 //! What comes in by each ring.
 ghost use Rattle.std.specs.Prelude.{◌≡◌, IfOk, map};
-ghost use Rattle.ring_jobs.specs.Tasks.{AreUnused};
-ghost use Rattle.ring_threads.specs.Lines.{AreLines};
+ghost use Rattle.conn_classifier.specs.RingList.{IsRingList};
+ghost use Rattle.ring_jobs.specs.Tasks.{AreLines, AreUnused};
 
 use conn_classifier::Plan;
 use conn_classifier::laws::all_items_are_few;
@@ -10,7 +10,7 @@ use std::alloc::{AllocError, Global};
 
 /// The lines of so many rings, by number. Fails only for want of memory.
 pub fn lines_of(alloc: Global, plan: &Plan<'_>, rings: u32) -> Result<Vec<Ends>, AllocError>
-    ensures lines { IfOk result (λ v. AreLines plan.now rings (map (λ e. e.line) v.items)) }
+    ensures lines { IfOk result (λ v. AreLines (IsRingList plan.now rings) rings (map (λ e. e.line) v.items)) }
     ensures unused { IfOk result (λ v. AreUnused v.items) }
 {
     plan.is_sound();

@@ -1,18 +1,16 @@
 //! How the threads of a run are set to work.
-ghost use Rattle.std.specs.Prelude.{◌≡◌, ◌<◌, ◌+◌, ℕ, All, length, slice_index_or};
+ghost use Rattle.std.specs.Prelude.{◌≡◌, ◌<◌, ◌+◌, All, length};
+ghost use Rattle.conn_classifier.specs.RingList.{IsRingList};
 ghost use Rattle.conn_blocks.specs.Allowed.{all_calls};
 ghost use Rattle.conn_blocks.specs.Places.{limits_of, origin_of};
 ghost use Rattle.synch_enter.specs.Hinting.{conns_of, squeues_of};
-ghost use Rattle.squeue_serve.specs.declared.jobs.Job.{Job as JobOf};
 ghost use Rattle.squeue_serve.specs.Lending.{AreLent, lent_to, tasks_in};
 ghost use Rattle.squeue_serve.specs.Places.{IsNew, MayEnd};
 ghost use Rattle.squeue_rings.specs.Bringing.{AllBelow, AreOneRun};
 ghost use Rattle.ring_quotas.specs.Quotas.{IsInRange};
-ghost use Rattle.ring_jobs.specs.declared.task.Task.{Task as TaskOf};
-ghost use Rattle.ring_jobs.specs.Tasks.{AreTasks, HaveRings, lists_of};
-ghost use Rattle.ring_jobs.specs.Running.{HasDone, MayDo};
+ghost use Rattle.ring_jobs.specs.Tasks.{AreLines, AreTasks, HaveRings, lists_of};
+ghost use Rattle.ring_jobs.specs.Running.{HaveDone, MayDoAll};
 ghost use Rattle.ring_threads.specs.Settings.{AreSet, HasRun};
-ghost use Rattle.ring_threads.specs.Lines.{AreLines};
 
 use conn_blocks::{Blocks, Calls};
 use conn_classifier::Plan;
@@ -44,7 +42,7 @@ pub fn run<H: Hook + Sync, W: Threads + Wait + Sync>(
     requires calls { All (λ call. call.0 < length plan.now.tuples) (all_calls calls.now) }
     requires hints { (conns_of hints.now ≡ length plan.now.tuples) × (squeues_of hints.now ≡ setup.now.squeues) }
     requires set { AreSet plan.now calls.now setup.now.squeues setup.now.rings setup.now.spread squeues.now }
-    requires lines { AreLines plan.now setup.now.rings lines.now }
+    requires lines { AreLines (IsRingList plan.now setup.now.rings) setup.now.rings lines.now }
     requires tasks { AreTasks setup.now.rings 4 setup.now.squeues lines.now (tasks_in jobs.old) }
     requires lent { AreLent IsNew 1 (setup.now.rings + 4) squeues.now (lent_to jobs.old) }
     ensures ran { HasRun plan.now calls.now setup.now 1 (lists_of lines.now) squeues.now (lent_to jobs.new) }
@@ -70,8 +68,8 @@ fn run_all<H: Hook + Sync, W: Threads + Wait + Sync>(
     requires run { AreOneRun origin_of pace.homes.squeues squeues.now }
     requires hints { AllBelow (conns_of hints.now) squeues.now × (squeues_of hints.now ≡ pace.homes.squeues) }
     requires lines { HaveRings lines.now }
-    requires ready { All (λ j. MayDo limits_of pace.homes.squeues pace.homes.spread calls.now lines.now squeues.now j.task j.places.items) jobs.old }
-    ensures { (k : ℕ) (d : JobOf TaskOf) → k < length jobs.old → HasDone limits_of pace.homes.squeues pace.homes.spread pace.mode pace.budget calls.now lines.now squeues.now (slice_index_or jobs.old k d).task (slice_index_or jobs.old k d).places.items (slice_index_or jobs.new k d).places.items }
+    requires ready { MayDoAll limits_of pace.homes.squeues pace.homes.spread calls.now lines.now squeues.now jobs.old }
+    ensures { HaveDone limits_of pace.homes.squeues pace.homes.spread pace.mode pace.budget calls.now lines.now squeues.now jobs.old jobs.new }
 {
     run_each(rt, jobs, &|_, job: &mut Job<Task>| {
         run_job(rt, alloc, hook, squeues, hints, calls, pace, lines, job)

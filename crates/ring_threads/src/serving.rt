@@ -1,16 +1,16 @@
 //! All connections of a plan, served by threads over squeues.
 ghost use Rattle.std.specs.Prelude.{◌≡◌, ◌<◌, ◌≤◌, ◌+◌, [], All, IfOk, length, vec_capacity};
+ghost use Rattle.conn_classifier.specs.RingList.{IsRingList};
 ghost use Rattle.conn_blocks.specs.Allowed.{all_calls};
 ghost use Rattle.conn_blocks.specs.Places.{limits_of};
 ghost use Rattle.synch_enter.specs.Hinting.{conns_of, squeues_of};
 ghost use Rattle.squeue_serve.specs.Places.{IsNew, MayEnd};
 ghost use Rattle.squeue_serve.specs.Lending.{AreLent, HaveRoom, lent_to, tasks_in};
 ghost use Rattle.ring_quotas.specs.Quotas.{IsInRange};
-ghost use Rattle.ring_jobs.specs.Tasks.{AreTasks, lists_of};
+ghost use Rattle.ring_jobs.specs.Tasks.{AreLines, AreTasks, lists_of};
 ghost use Rattle.ring_threads.specs.Gathering.{AreEmpty};
 ghost use Rattle.ring_threads.specs.Served.{HasServed};
 ghost use Rattle.ring_threads.specs.Settings.{AreSet, HasRun};
-ghost use Rattle.ring_threads.specs.Lines.{AreLines};
 
 use crate::gathering::gather;
 use crate::lines::lines_of;
@@ -76,7 +76,7 @@ fn serve_by<'p, H: Hook + Sync, W: Threads + Wait + Sync>(
     requires setup { IsInRange setup.now }
     requires calls { All (λ call. call.0 < length plan.now.tuples) (all_calls calls.now) }
     requires hints { (conns_of hints.now ≡ length plan.now.tuples) × (squeues_of hints.now ≡ setup.now.squeues) }
-    requires lines { AreLines plan.now setup.now.rings lines.now }
+    requires lines { AreLines (IsRingList plan.now setup.now.rings) setup.now.rings lines.now }
     requires tasks { AreTasks setup.now.rings 4 setup.now.squeues lines.now (tasks_in jobs.items) }
     requires jobs { All (λ j. j.places.items ≡ []) jobs.items × HaveRoom setup.now.squeues jobs.items }
     requires squeues { (squeues.all.items ≡ []) × (squeues.rooms.items ≡ []) }
@@ -137,7 +137,7 @@ fn run_or_end<H: Hook + Sync, W: Threads + Wait + Sync>(
     requires hints { (conns_of hints.now ≡ length plan.now.tuples) × (squeues_of hints.now ≡ setup.now.squeues) }
     requires set { IfOk made.now (λ _. AreSet plan.now calls.now setup.now.squeues setup.now.rings setup.now.spread squeues.now) }
     requires few { length squeues.now ≤ setup.now.squeues }
-    requires lines { AreLines plan.now setup.now.rings lines.now }
+    requires lines { AreLines (IsRingList plan.now setup.now.rings) setup.now.rings lines.now }
     requires tasks { AreTasks setup.now.rings 4 setup.now.squeues lines.now (tasks_in jobs.old.items) }
     requires lent { AreLent IsNew 1 (setup.now.rings + 4) squeues.now (lent_to jobs.old.items) }
     ensures ran { IfOk made.now (λ _. HasRun plan.now calls.now setup.now 1 (lists_of lines.now) squeues.now (lent_to jobs.new.items)) }

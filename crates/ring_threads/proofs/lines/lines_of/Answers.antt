@@ -1,6 +1,6 @@
 use Rattle.std.proofs.Common.{arith}
 use Rattle.ring_threads.proofs.FewFeeds.{list_few}
-use Rattle.ring_threads.proofs.Lined.{all_lines, none_yet, one_more}
+use Rattle.ring_jobs.proofs.Lined.{all_lines, line_more, no_line}
 use Rattle.ring_threads.proofs.lines.lines_of.Goals as goal
 
 pub line_of-requires : goal.line_of-requires

@@ -1,10 +1,8 @@
-use Rattle.std.proofs.Common.{ℕ, All, sym, ◌∙◌, subst}
-use Rattle.squeue_serve.specs.declared.jobs.Job.{Job}
+use Rattle.std.proofs.Common.{ℕ, sym, ◌∙◌, subst}
 use Rattle.conn_blocks.specs.Places.{limits_of, origin_of}
 use Rattle.synch_enter.specs.Hinting.{conns_of}
 use Rattle.squeue_rings.specs.Bringing.{AreOneRun}
-use Rattle.ring_jobs.specs.declared.task.Task.{Task}
-use Rattle.ring_jobs.specs.Running.{MayDo}
+use Rattle.ring_jobs.specs.Running.{MayDoAll}
 use Rattle.ring_jobs.proofs.Finished.{at_pace}
 use Rattle.ring_threads.proofs.Ready.{all_below, jobs_ready, one_run}
 use Rattle.ring_threads.proofs.Finished.{all_lent, has_run}
@@ -33,8 +31,8 @@ run_all-requires-clause-ready g c κs within =
     let lines = c.args.lines.now in
     let jobs = c.args.jobs.now in
     let ready = jobs_ready c.args.plan.now calls s.squeues s.rings s.spread ss c.requires.set lines c.requires.lines jobs c.requires.tasks c.requires.lent c.is_sound.ensures c.requires.calls c.requires.setup.squeues.0 in
-    subst (λ (n : ℕ). All (λ (j : Job Task). MayDo limits_of n c.pace.result.homes.spread calls lines ss j.task j.places.items) jobs) (sym c.pace.ensures.squeues)
-    (subst (λ (n : ℕ). All (λ (j : Job Task). MayDo limits_of s.squeues n calls lines ss j.task j.places.items) jobs) (sym c.pace.ensures.spread) ready)
+    subst (λ (n : ℕ). MayDoAll limits_of n c.pace.result.homes.spread calls lines ss jobs) (sym c.pace.ensures.squeues)
+    (subst (λ (n : ℕ). MayDoAll limits_of s.squeues n calls lines ss jobs) (sym c.pace.ensures.spread) ready)
 
 pub returns-clause-ran : goal.returns-clause-ran
 returns-clause-ran g c =
