@@ -48,7 +48,17 @@ pub fn run<H: Hook + Sync, W: Threads + Wait + Sync>(
     ensures count { length jobs.new ≡ length jobs.old }
 {
     let none = Calls::make(alloc);
-    run_all(rt, alloc, hook, squeues, hints, &none, setup.pace(), lines, jobs);
+    run_all(
+        rt,
+        alloc,
+        hook,
+        squeues,
+        hints,
+        &none,
+        setup.pace(),
+        lines,
+        jobs,
+    );
 }
 
 // Runs the jobs beside each other. The workers stand last, so that no job waits for one behind it.
@@ -69,7 +79,11 @@ fn run_all<H: Hook + Sync, W: Threads + Wait + Sync>(
     requires ready { MayDoAll limits_of pace.homes.squeues pace.homes.spread calls.now lines.now squeues.now jobs.old }
     ensures { HaveDone limits_of pace.homes.squeues pace.homes.spread pace.mode pace.budget calls.now lines.now squeues.now jobs.old jobs.new }
 {
-    run_each(rt, jobs, &|_, job: &mut Job<Task>| {
-        run_job(rt, alloc, hook, squeues, hints, calls, pace, lines, job)
-    });
+    run_each(
+        rt,
+        jobs,
+        &|_, job: &mut Job<Task>| {
+            run_job(rt, alloc, hook, squeues, hints, calls, pace, lines, job)
+        },
+    );
 }

@@ -50,7 +50,17 @@ pub fn run<H: Hook + Sync, W: Threads + Wait + Sync>(
     ensures count { length jobs.new ≡ length jobs.old }
 {
     plan.is_sound();
-    run_all(rt, alloc, hook, squeues, hints, calls, setup.pace(), lines, jobs);
+    run_all(
+        rt,
+        alloc,
+        hook,
+        squeues,
+        hints,
+        calls,
+        setup.pace(),
+        lines,
+        jobs,
+    );
 }
 
 // Runs the jobs beside each other. The workers stand last, so that no job waits for one behind it.
@@ -71,7 +81,11 @@ fn run_all<H: Hook + Sync, W: Threads + Wait + Sync>(
     requires ready { MayDoAll limits_of pace.homes.squeues pace.homes.spread calls.now lines.now squeues.now jobs.old }
     ensures { HaveDone limits_of pace.homes.squeues pace.homes.spread pace.mode pace.budget calls.now lines.now squeues.now jobs.old jobs.new }
 {
-    run_each(rt, jobs, &|_, job: &mut Job<Task>| {
-        run_job(rt, alloc, hook, squeues, hints, calls, pace, lines, job)
-    });
+    run_each(
+        rt,
+        jobs,
+        &|_, job: &mut Job<Task>| {
+            run_job(rt, alloc, hook, squeues, hints, calls, pace, lines, job)
+        },
+    );
 }
