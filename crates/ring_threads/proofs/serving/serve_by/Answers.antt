@@ -5,7 +5,7 @@ use Rattle.squeue_serve.specs.Lending.{lent_to}
 use Rattle.squeue_serve.proofs.Lent.{none_lent_to}
 use Rattle.ring_threads.specs.Gathering.{HasGathered}
 use Rattle.ring_threads.specs.Settings.{HasRun}
-use Rattle.ring_threads.specs.Tasks.{lists_of}
+use Rattle.ring_jobs.specs.Tasks.{lists_of}
 use Rattle.ring_threads.proofs.WholeRun.{all_served, filled}
 use Rattle.ring_threads.proofs.serving.serve_by.Goals as goal
 

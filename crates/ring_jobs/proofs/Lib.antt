@@ -1,0 +1,10 @@
+pub mod Tasked
+pub mod Lined
+pub mod Fed
+pub mod Works
+pub mod Lends
+pub mod Closes
+pub mod AtTheEnd
+pub mod Closing
+pub mod Ready
+pub mod Finished
