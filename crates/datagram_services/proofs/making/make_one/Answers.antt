@@ -7,7 +7,8 @@ use Rattle.squeue_state.specs.Words.{ask_quotas}
 use Rattle.stream_blocks.specs.Standing.{Stands}
 use Rattle.ring_jobs.specs.declared.lines.Line.{Line}
 use Rattle.datagram_services.proofs.Listed.{few_line}
-use Rattle.datagram_services.proofs.MadeSqueues.{few_quotas, if_ok, is_set, no_asks, quotas_of, stands_empty}
+use Rattle.ring_jobs.proofs.Starts.{if_ok, stands_empty}
+use Rattle.datagram_services.proofs.MadeSqueues.{few_quotas, is_set, no_asks, quotas_of}
 use Rattle.datagram_services.proofs.making.make_one.Goals as goal
 
 pub quotas_at-requires-clause-few : goal.quotas_at-requires-clause-few
