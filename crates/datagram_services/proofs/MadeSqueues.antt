@@ -1,27 +1,19 @@
 -- What a squeue is that was made for a plan.
-use Rattle.std.proofs.Common.{◌≡◌, ℕ, ◌+◌, ◌*◌, ◌%◌, ◌<◌, ◌≤◌, ◌==◌, ◌&&◌, zero, suc, Bool, true, false, if◌then◌else◌, Option, Some, None, Result, Ok, Err, IfOk, is_some, List, [], ◌∷◌, ◌++◌, All, length, length-append, map, slice_get, slice_index_or, refl, ap, sym, ◌∙◌, subst, arith, inl, inr}
-use Rattle.std.specs.Prelude.{nat_lt}
-use Rattle.std.proofs.lemmas.Bool.Decides.{nat_tests}
-use Rattle.std.proofs.lemmas.List.{length-map}
+use Rattle.std.proofs.Common.{◌≡◌, ℕ, ◌+◌, ◌*◌, ◌≤◌, suc, Bool, true, false, if◌then◌else◌, Some, List, [], ◌∷◌, ◌++◌, length, length-append, map, slice_get, refl, ap, sym, ◌∙◌, subst, arith}
 use Rattle.turn_gate.specs.History.{Each}
-use Rattle.perimeter_core.specs.declared.entries.Act.{Act}
 use Rattle.perimeter_core.specs.declared.entries.Feed.{Feed}
-use Rattle.perimeter_core.specs.Blocks.{Blocks as Had}
 use Rattle.perimeter_core.specs.History.{feed_quotas}
 use Rattle.squeue_state.specs.Naming.{Named}
-use Rattle.squeue_state.specs.Words.{IsMade, StandsEmpty, ask_quotas}
+use Rattle.squeue_state.specs.Words.{IsMade, ask_quotas}
 use Rattle.squeue_serve.proofs.Coming.{each_got}
 use Rattle.squeue_rings.specs.Runs.{count, is_at}
 use Rattle.stream_plan.specs.Streams.{MorePlanOf, item_count}
 use Rattle.stream_blocks.specs.declared.blocks.StreamBlocks.{StreamBlocks}
 use Rattle.stream_blocks.specs.Standing.{Stands, calls_of, first_here, limits_of, origin_of, size_of}
 use Rattle.ring_jobs.specs.declared.lines.Line.{Line}
+use Rattle.ring_jobs.proofs.Starts.{first_flag}
 use Rattle.ring_jobs.proofs.Tasked.{each_more}
 use Rattle.datagram_services.specs.Settings.{AreSet, IsSet}
-
-pub if_ok : {A E : Type 0} (P Q : A → Type 0) (r : Result A E) → ((x : A) → P x → Q x) → IfOk r P → IfOk r Q
-if_ok P Q (Ok x) h p = h x p
-if_ok P Q (Err e) h p = p
 
 -- the quotas of a squeue, by the lines
 abbrev pub quotas_of : ℕ → ℕ → List Line → List (ℕ × ℕ)
@@ -43,24 +35,6 @@ few_quotas squeues q (l ∷ lines) few = omega (arith, counted (is_at squeues 0 
 pub no_asks : (squeues q : ℕ) (lines : List Line) → ask_quotas (quotas_of squeues q lines) ≡ 0
 no_asks squeues q [] = refl
 no_asks squeues q (l ∷ lines) = omega (arith, no_asks squeues q lines)
-
--- which streams are here at first
-abbrev started : Bool → Option (List Act)
-started b = if b then Some [] else None
-
-started_is : (b : Bool) → is_some (started b) ≡ b
-started_is true = refl
-started_is false = refl
-
-first_flag : (n q squeues c : ℕ) → c < n → is_some (first_here n q squeues c) ≡ (c % squeues == q)
-first_flag n q squeues c lt = let t : nat_lt c n ≡ true = grind (arith, nat_tests) in rw t (started_is (c % squeues == q))
-
-pub stands_empty : (n q squeues : ℕ) (stands : Had → Type 0) → stands (first_here n q squeues) → StandsEmpty stands
-stands_empty n q squeues stands h = (first_here n q squeues, h, λ c had. by (nat_lt c n && (c % squeues == q)) had)
-  where
-    by : (b : Bool) (had : List Act) → (if b then Some [] else None) ≡ Some had → had ≡ []
-    by true had e = let same : [] ≡ had = cc e in sym same
-    by false had e = cc e
 
 module _ (p : MorePlanOf) (squeues rings : ℕ) (lines : List Line) (q : ℕ) (first : StreamBlocks) (quotas : List (ℕ × ℕ)) (s : Named StreamBlocks) (made : IsMade Stands size_of q rings quotas false first s.given) (are : quotas ≡ quotas_of squeues q lines)
     (stands : Stands first (first_here (length p.streams) q squeues)) (size : size_of first ≡ length p.streams) (origin : origin_of first ≡ p) (calls : calls_of first ≡ []) where

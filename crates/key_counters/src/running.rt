@@ -30,9 +30,11 @@ pub fn run<R: Resident + Send, H: Hook + Sync, W: Threads + Wait + Sync>(
     requires { All (IsReady R.limits sq.now) jobs.old }
     ensures { (k : ℕ) (d : Job Task) → k < length jobs.old → Ran R.limits sq.now (slice_index_or jobs.old k d) (slice_index_or jobs.new k d) }
 {
-    run_each(rt, jobs, &|_, job: &mut Job<Task>| {
-        run_job(rt, sq, alloc, hook, pace, job)
-    });
+    run_each(
+        rt,
+        jobs,
+        &|_, job: &mut Job<Task>| { run_job(rt, sq, alloc, hook, pace, job) },
+    );
 }
 
 fn run_job<R: Resident, H: Hook, W: Wait>(

@@ -3,6 +3,8 @@ pub mod Lined
 pub mod Fed
 pub mod Works
 pub mod Lends
+pub mod Starts
+pub mod ComesBack
 pub mod Closes
 pub mod AtTheEnd
 pub mod Closing

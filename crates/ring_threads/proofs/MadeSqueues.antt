@@ -1,14 +1,10 @@
 -- What a squeue is that was made for a plan.
-use Rattle.std.proofs.Common.{◌≡◌, ℕ, ◌+◌, ◌%◌, ◌<◌, ◌≤◌, ◌==◌, ◌&&◌, zero, suc, Bool, true, false, if◌then◌else◌, Option, Some, None, Result, Ok, Err, IfOk, is_some, List, [], ◌∷◌, ◌++◌, All, length, length-append, map, slice_get, slice_index_or, refl, ap, sym, ◌∙◌, subst, arith, inl, inr}
-use Rattle.std.specs.Prelude.{nat_lt}
+use Rattle.std.proofs.Common.{◌≡◌, ℕ, ◌+◌, ◌%◌, ◌<◌, ◌==◌, suc, Bool, false, Some, List, [], ◌∷◌, ◌++◌, length, length-append, map, slice_get, slice_index_or, refl, ap, sym, ◌∙◌, subst, arith}
 use Rattle.std.specs.List.{range_with_len}
-use Rattle.std.proofs.lemmas.Bool.Decides.{nat_tests}
 use Rattle.turn_gate.specs.History.{Each}
-use Rattle.perimeter_core.specs.declared.entries.Act.{Act}
-use Rattle.perimeter_core.specs.Blocks.{Blocks as Had}
 use Rattle.perimeter_core.specs.History.{Setting}
 use Rattle.squeue_state.specs.Naming.{Named}
-use Rattle.squeue_state.specs.Words.{IsMade, StandsEmpty}
+use Rattle.squeue_state.specs.Words.{IsMade}
 use Rattle.conn_classifier.specs.Plan.{PlanOf}
 use Rattle.conn_blocks.specs.declared.blocks.Blocks.{Blocks}
 use Rattle.conn_blocks.specs.Allowed.{limits_in}
@@ -16,13 +12,10 @@ use Rattle.conn_blocks.specs.CallLists.{CallLists}
 use Rattle.conn_blocks.specs.Places.{Stands, first_here, limits_of, origin_of, size_of}
 use Rattle.squeue_serve.proofs.Coming.{each_got}
 use Rattle.ring_quotas.specs.Quotas.{quotas_of}
+use Rattle.ring_jobs.proofs.Starts.{first_flag}
 use Rattle.ring_jobs.proofs.Tasked.{each_more}
 use Rattle.ring_threads.specs.Settings.{AreSet, IsSet}
 use Rattle.ring_threads.proofs.WholeRun.{map_at, map_count}
-
-pub if_ok : {A E : Type 0} (P Q : A → Type 0) (r : Result A E) → ((x : A) → P x → Q x) → IfOk r P → IfOk r Q
-if_ok P Q (Ok x) h p = h x p
-if_ok P Q (Err e) h p = p
 
 -- flags that are the same one by one
 same_flags : (xs ys : List Bool) → length xs ≡ length ys → ((k : ℕ) → k < length xs → slice_index_or xs k false ≡ slice_index_or ys k false) → xs ≡ ys
@@ -33,24 +26,6 @@ same_flags (x ∷ xs) (y ∷ ys) n h =
     let first : x ≡ y = h 0 (omega arith) in
     let rest : xs ≡ ys = same_flags xs ys (omega (arith, n)) (λ k lt. h (suc k) (omega (arith, lt))) in
     rw (first, rest) refl
-
--- which connections are here at first
-abbrev started : Bool → Option (List Act)
-started b = if b then Some [] else None
-
-started_is : (b : Bool) → is_some (started b) ≡ b
-started_is true = refl
-started_is false = refl
-
-first_flag : (n q squeues c : ℕ) → c < n → is_some (first_here n q squeues c) ≡ (c % squeues == q)
-first_flag n q squeues c lt = let t : nat_lt c n ≡ true = grind (arith, nat_tests) in rw t (started_is (c % squeues == q))
-
-pub stands_empty : (n q squeues : ℕ) (stands : Had → Type 0) → stands (first_here n q squeues) → StandsEmpty stands
-stands_empty n q squeues stands h = (first_here n q squeues, h, λ c had. by (nat_lt c n && (c % squeues == q)) had)
-  where
-    by : (b : Bool) (had : List Act) → (if b then Some [] else None) ≡ Some had → had ≡ []
-    by true had e = let same : [] ≡ had = cc e in sym same
-    by false had e = cc e
 
 module _ (p : PlanOf) (calls : CallLists) (squeues rings spread q : ℕ) (first : Blocks) (quotas : List (ℕ × ℕ)) (traced : Bool) (s : Named Blocks)
     (made : IsMade Stands size_of q rings quotas traced first s.given) (are : quotas ≡ quotas_of p calls squeues rings spread q)

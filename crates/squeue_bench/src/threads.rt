@@ -82,9 +82,11 @@ fn run_rings<W: Threads + Wait + Sync>(
     ensures as_many { length rings.new ≡ length rings.old }
     ensures rings { HaveClosed squeues.now rings.new }
 {
-    run_each(rt, rings, &|k, ring: &mut Ring| {
-        run_ring(rt, alloc, squeues, k, ring, way)
-    });
+    run_each(
+        rt,
+        rings,
+        &|k, ring: &mut Ring| { run_ring(rt, alloc, squeues, k, ring, way) },
+    );
 }
 
 fn run_workers<W: Threads + Wait + Sync>(

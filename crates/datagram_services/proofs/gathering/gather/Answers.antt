@@ -1,8 +1,6 @@
-use Rattle.std.proofs.Common.{◌≡◌, ℕ, Option, List, [], ◌∷◌, Vec, length, length-append, reverse, refl, ap, sym, ◌∙◌, subst, arith}
+use Rattle.std.proofs.Common.{◌≡◌, List, [], ◌∷◌, length, length-append, reverse, refl, ap, sym, ◌∙◌, subst, arith}
 use Rattle.std.proofs.lemmas.List.{reverse-append}
-use Rattle.std.specs.declared.alloc.Global.{Global}
 use Rattle.squeue_state.specs.Naming.{Named}
-use Rattle.stream_blocks.specs.declared.block.StreamBlock.{StreamBlock}
 use Rattle.stream_blocks.specs.declared.blocks.StreamBlocks.{StreamBlocks}
 use Rattle.stream_blocks.specs.Standing.{limits_of}
 use Rattle.squeue_serve.specs.Lending.{AreLent, lent_to}
@@ -44,7 +42,7 @@ loop-blocks-preserved g c =
 pub returns-clause-back : goal.returns-clause-back
 returns-clause-back g c = λ i.
     let same = c.in_default.ensures.same in
-    let still = subst (λ (l : List (Named StreamBlocks)). AreLent (MayEnd limits_of) c.args.front c.args.count l (lent_to c.loop-blocks.jobs.items)) same.0 c.loop-blocks.invariant.so_far.still in
+    let still = subst (λ (l : List (Named StreamBlocks)). AreLent (MayEnd limits_of) c.args.front c.args.count l (lent_to c.loop-blocks.jobs.items)) same.0 c.loop-blocks.invariant.so_far.are.still in
     ap (λ l. lent_to l i) same.1 ∙ none_lent_at_all (MayEnd limits_of) c.args.front c.args.count (lent_to c.loop-blocks.jobs.items) still i
 
 pub returns-clause-left : goal.returns-clause-left
