@@ -14,8 +14,9 @@ use std::sync::Wait;
 use std::sync::atomic::{AtomicBool, Ordering};
 use std::test::Fail;
 use std::thread::{Threads, yield_now};
+use stream_blocks::Answer;
 use stream_plan::{MorePlan, more_plan};
-use tcb_machine::State;
+use tcb_machine::{State, Tcb};
 
 /// The header of a capture file: little-endian, microseconds, raw IP.
 const HEADER: [u8; 24] = [
@@ -69,12 +70,31 @@ fn add(bytes: &mut Vec<u8>, row: &Row) -> Result<(), Fail> {
     Ok(())
 }
 
-fn captured(rt: &HostRuntime, rows: &[Row]) -> Result<Capture, Fail> {
-    let mut bytes = Vec::from_slice(rt.alloc(), &HEADER)?;
+fn captured(alloc: Global, rows: &[Row]) -> Result<Capture, Fail> {
+    let mut bytes = Vec::from_slice(alloc, &HEADER)?;
     for row in rows {
         add(&mut bytes, row)?;
     }
-    Ok(parse_capture(rt.alloc(), Octets::of(rt.alloc(), &bytes)?)?)
+    Ok(parse_capture(alloc, Octets::of(alloc, &bytes)?)?)
+}
+
+/// Stream 0 of `ROWS`: its one answer.
+fn expect_echo(rt: &impl Abort, answers: &[Answer]) {
+    assert!(rt; answers.len() == 1);
+    assert_eq!(rt; answers[0].at, 0);
+    assert_eq!(rt; answers[0].datagram.as_slice(), ECHOED.as_slice());
+}
+
+/// Stream 1 of `ROWS`: where its connection ends, and the last of its four replies.
+fn expect_chargen(rt: &impl Abort, tcb: &Tcb) {
+    assert_eq!(rt; tcb.state(), State::LastAck);
+    assert!(rt; tcb.replies() == 4);
+    let last = tcb.reply(3);
+    assert_eq!(rt;
+        (last.at, last.flags, last.seq, last.ack),
+        (3000, 24, 521, 102)
+    );
+    assert_eq!(rt; last.text.as_slice(), b"456789:;<=".as_slice());
 }
 
 /// Serves the plan of `ROWS`, and looks at what was served.
@@ -90,19 +110,8 @@ fn check<W: Threads + Wait + Sync + Abort>(
 {
     let served = serve_more(rt, alloc, plan, setup, &NoHook)?;
     assert!(rt; plan.streams() == 3);
-    let answers = served.answers(0);
-    assert!(rt; answers.len() == 1);
-    assert_eq!(rt; answers[0].at, 0);
-    assert_eq!(rt; answers[0].datagram.as_slice(), ECHOED.as_slice());
-    let tcb = served.generator(1).tcb();
-    assert_eq!(rt; tcb.state(), State::LastAck);
-    assert!(rt; tcb.replies() == 4);
-    let last = tcb.reply(3);
-    assert_eq!(rt;
-        (last.at, last.flags, last.seq, last.ack),
-        (3000, 24, 521, 102)
-    );
-    assert_eq!(rt; last.text.as_slice(), b"456789:;<=".as_slice());
+    expect_echo(rt, served.answers(0));
+    expect_chargen(rt, served.generator(1).tcb());
     assert_eq!(rt; served.answers(2).len(), 0);
     Ok(())
 }
@@ -137,7 +146,7 @@ const PAIR: Setup = Setup {
 
 #[test]
 fn setup_does_not_matter(rt: HostRuntime) -> Result<(), Fail> {
-    let capture = captured(&rt, &ROWS)?;
+    let capture = captured(rt.alloc(), &ROWS)?;
     let plan = more_plan(rt.alloc(), &capture)?;
     check(&rt, rt.alloc(), &plan, &ONE)?;
     check(&rt, rt.alloc(), &plan, &MOST)
@@ -172,6 +181,20 @@ impl Hook for Meeting {
     }
 }
 
+/// Serves the plan of `TWO` with a hook: each of its streams has one answer.
+fn serve_two<W: Threads + Wait + Sync + Abort>(
+    rt: &W,
+    alloc: Global,
+    hook: &Meeting,
+) -> Result<(), Fail> {
+    let capture = captured(alloc, &TWO)?;
+    let plan = more_plan(alloc, &capture)?;
+    let served = serve_more(rt, alloc, &plan, &PAIR, hook)?;
+    assert!(rt; plan.streams() == 2);
+    assert!(rt; served.answers(0).len() == 1 && served.answers(1).len() == 1);
+    Ok(())
+}
+
 /// Two rings are inside two squeues at once.
 #[test]
 fn rings_beside_each_other(rt: HostRuntime) -> Result<(), Fail> {
@@ -180,11 +203,7 @@ fn rings_beside_each_other(rt: HostRuntime) -> Result<(), Fail> {
         second: AtomicBool::new(false),
         in_vain: AtomicBool::new(false),
     };
-    let capture = captured(&rt, &TWO)?;
-    let plan = more_plan(rt.alloc(), &capture)?;
-    let served = serve_more(&rt, rt.alloc(), &plan, &PAIR, &meeting)?;
-    assert!(rt; plan.streams() == 2);
-    assert!(rt; served.answers(0).len() == 1 && served.answers(1).len() == 1);
+    serve_two(&rt, rt.alloc(), &meeting)?;
     assert!(rt; meeting.first.load(Ordering::SeqCst));
     assert!(rt; meeting.second.load(Ordering::SeqCst));
     assert!(rt;
@@ -213,12 +232,21 @@ order f0\n\
 done\n\
 ";
 
+/// What is written of a plan.
+fn report_of(
+    rt: &(impl Threads + Wait + Sync),
+    alloc: Global,
+    plan: &MorePlan<'_>,
+) -> Result<Octets, Fail> {
+    let served = serve_more(rt, alloc, plan, &PAIR, &NoHook)?;
+    Ok(more_report(alloc, plan, &served)?)
+}
+
 #[test]
 fn reports(rt: HostRuntime) -> Result<(), Fail> {
-    let capture = captured(&rt, &ROWS)?;
+    let capture = captured(rt.alloc(), &ROWS)?;
     let plan = more_plan(rt.alloc(), &capture)?;
-    let served = serve_more(&rt, rt.alloc(), &plan, &PAIR, &NoHook)?;
-    let text = more_report(rt.alloc(), &plan, &served)?;
+    let text = report_of(&rt, rt.alloc(), &plan)?;
     assert_eq!(rt; text.as_slice(), REPORT.as_bytes());
     Ok(())
 }
@@ -256,29 +284,35 @@ const NOTHING: &[u8] = b"more 1\nrecords 0 tail 0 served 0 nofit 0 other 0 strea
 const USAGE: &[u8] =
     b"usage: sqmore [--squeues N] [--rings N] [--mode process|nodrain|fill] [--budget N]\n";
 
+/// How a run over a capture without records ended, and what it wrote.
+#[derive(Drop)]
+struct Ended {
+    status: Status,
+    out: MemSink,
+    err: MemSink,
+}
+
+fn ran(rt: &(impl Threads + Wait + Sync), alloc: Global, line: &str) -> Result<Ended, Fail> {
+    let words = words_of(alloc, line)?;
+    let mut src = MemSource::make(alloc, &HEADER, 65_536, &[])?;
+    let mut out = MemSink::make(alloc, 1000, 1000, &[])?;
+    let mut err = MemSink::make(alloc, 1000, 1000, &[])?;
+    let status = more_run(rt, alloc, words.as_slice(), &mut src, &mut out, &mut err);
+    Ok(Ended { status, out, err })
+}
+
 #[test]
 fn words_as_a_table(rt: HostRuntime) -> Result<(), Fail> {
-    for (line, status) in &WORDS {
-        let words = words_of(rt.alloc(), line)?;
-        let mut src = MemSource::make(rt.alloc(), &HEADER, 65_536, &[])?;
-        let mut out = MemSink::make(rt.alloc(), 1000, 1000, &[])?;
-        let mut err = MemSink::make(rt.alloc(), 1000, 1000, &[])?;
-        let ended = more_run(
-            &rt,
-            rt.alloc(),
-            words.as_slice(),
-            &mut src,
-            &mut out,
-            &mut err,
-        );
-        assert_eq!(rt; ended, *status);
-        let (written, told): (&[u8], &[u8]) = if ended == Status::Ok {
+    for (line, status) in WORDS {
+        let ended = ran(&rt, rt.alloc(), line)?;
+        assert_eq!(rt; ended.status, status, "{line}");
+        let (written, told): (&[u8], &[u8]) = if status == Status::Ok {
             (NOTHING, b"")
         } else {
             (b"", USAGE)
         };
-        assert_eq!(rt; out.bytes(), written);
-        assert_eq!(rt; err.bytes(), told);
+        assert_eq!(rt; ended.out.bytes(), written, "{line}");
+        assert_eq!(rt; ended.err.bytes(), told, "{line}");
     }
     Ok(())
 }
