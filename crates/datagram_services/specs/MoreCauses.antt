@@ -32,14 +32,16 @@ MoreTold (refusal.Input (input.Capture (fault.ShortHeader n))) err s = LineOrMem
 MoreTold (refusal.Input (input.Capture (fault.Magic magic))) err s = LineOrMemory status.BadCapture (bad_line sqmore (fault.Magic magic)) err s
 MoreTold (refusal.Input (input.Capture (fault.Version major minor))) err s = LineOrMemory status.BadCapture (bad_line sqmore (fault.Version major minor)) err s
 MoreTold (refusal.Input (input.Capture (fault.Link n))) err s = LineOrMemory status.BadCapture (bad_line sqmore (fault.Link n)) err s
-MoreTold (refusal.Input (input.Capture (fault.RecordLength index len))) err s = LineOrMemory status.BadCapture (bad_line sqmore (fault.RecordLength index len)) err s
+MoreTold (refusal.Input (input.Capture (fault.RecordLength index len))) err s =
+    LineOrMemory status.BadCapture (bad_line sqmore (fault.RecordLength index len)) err s
 MoreTold (refusal.Input (input.Pcapng pcapng.NoMemory)) err s = (s ≡ status.NoMemory) × GetsLine err (memory_line sqmore)
 MoreTold (refusal.Input (input.Pcapng pcapng.TooManyRecords)) err s = (s ≡ status.TooLarge) × GetsLine err (many_records_line sqmore)
 MoreTold (refusal.Input (input.Pcapng (pcapng.ShortSection n))) err s = LineOrMemory status.BadCapture (pcapng_line sqmore (pcapng.ShortSection n)) err s
 MoreTold (refusal.Input (input.Pcapng (pcapng.Magic i found))) err s = LineOrMemory status.BadCapture (pcapng_line sqmore (pcapng.Magic i found)) err s
 MoreTold (refusal.Input (input.Pcapng (pcapng.BlockLength i n))) err s = LineOrMemory status.BadCapture (pcapng_line sqmore (pcapng.BlockLength i n)) err s
 MoreTold (refusal.Input (input.Pcapng (pcapng.EndLength i n))) err s = LineOrMemory status.BadCapture (pcapng_line sqmore (pcapng.EndLength i n)) err s
-MoreTold (refusal.Input (input.Pcapng (pcapng.Version i major minor))) err s = LineOrMemory status.BadCapture (pcapng_line sqmore (pcapng.Version i major minor)) err s
+MoreTold (refusal.Input (input.Pcapng (pcapng.Version i major minor))) err s =
+    LineOrMemory status.BadCapture (pcapng_line sqmore (pcapng.Version i major minor)) err s
 MoreTold (refusal.Input (input.Pcapng (pcapng.Link i n))) err s = LineOrMemory status.BadCapture (pcapng_line sqmore (pcapng.Link i n)) err s
 MoreTold (refusal.Input (input.Pcapng (pcapng.MixedLink i n))) err s = LineOrMemory status.BadCapture (pcapng_line sqmore (pcapng.MixedLink i n)) err s
 MoreTold (refusal.Input (input.Pcapng (pcapng.NoInterface i n))) err s = LineOrMemory status.BadCapture (pcapng_line sqmore (pcapng.NoInterface i n)) err s

@@ -93,8 +93,10 @@ pub fn told<E: Sink>(err: &mut E, line: &[u8], status: Status) -> Status
 /// Appends the line of a bad capture.
 fn told_line<E: Sink>(err: &mut E, line: Result<String, AllocError>) -> Status
     ensures { MatchResult line
-        (λ text. (result ≡ Status.BadCapture) × ((Rose (E.write_faults err.old) (E.write_faults err.new) → ⊥) → Appends (E.contents err.old) (E.contents err.new) (string_bytes text)))
-        (λ _. (result ≡ Status.NoMemory) × ((Rose (E.write_faults err.old) (E.write_faults err.new) → ⊥) → Appends (E.contents err.old) (E.contents err.new) (memory_line sqmore))) }
+        (λ text. (result ≡ Status.BadCapture)
+        × ((Rose (E.write_faults err.old) (E.write_faults err.new) → ⊥) → Appends (E.contents err.old) (E.contents err.new) (string_bytes text)))
+        (λ _. (result ≡ Status.NoMemory)
+        × ((Rose (E.write_faults err.old) (E.write_faults err.new) → ⊥) → Appends (E.contents err.old) (E.contents err.new) (memory_line sqmore))) }
 {
     match line {
         Ok(line) => told(err, line.as_bytes(), Status::BadCapture),
