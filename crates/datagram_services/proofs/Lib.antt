@@ -1,6 +1,4 @@
 mod Back
-mod Closes
-mod Fed
 mod Finished
 mod Joins
 mod Listed
@@ -11,6 +9,4 @@ mod Ready
 mod Rows
 mod StreamTexts
 mod Suffices
-mod Tasked
 mod WholeSteps
-mod Works

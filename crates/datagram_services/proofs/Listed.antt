@@ -9,9 +9,9 @@ use Rattle.stream_plan.specs.Streams.{MorePlanOf, StreamOf, item_count}
 use Rattle.key_counters.specs.Lists.{items_of, list_of}
 use Rattle.squeue_rings.specs.Runs.{count, is_at}
 use Rattle.squeue_rings.proofs.Counting.{count_more}
-use Rattle.datagram_services.specs.declared.lines.Line.{Line}
-use Rattle.datagram_services.specs.Lines.{counts_of}
-use Rattle.datagram_services.specs.Tasks.{AreLines}
+use Rattle.ring_jobs.specs.declared.lines.Line.{Line}
+use Rattle.ring_jobs.specs.Tasks.{AreLines}
+use Rattle.datagram_services.specs.Lines.{IsStreamList, counts_of}
 
 pub count_at : (p : MorePlanOf) (c k : ℕ) → c < length p.streams → IfSome (slice_get p.streams c) (λ s. k ≡ item_count s) → k ≡ get_or (counts_of p) c 0
 count_at p c k lt is = at p.streams c lt is
@@ -38,8 +38,8 @@ length_list rings r c (k ∷ counts) =
 pub few_feeds : (p : MorePlanOf) → IsMorePlan p → (rings r : ℕ) → length (list_of rings r 0 (counts_of p)) ≤ 2097152
 few_feeds p sound rings r = omega (arith, length_list rings r 0 (counts_of p), sum-map item_count p.streams, sound.together)
 
-pub few_line : (p : MorePlanOf) → IsMorePlan p → (rings : ℕ) (lines : List Line) → AreLines p rings lines → (r : ℕ) (l : Line) → slice_get lines r ≡ Some l → length l.list.items ≤ 2097152
-few_line p sound rings lines are r l is = omega (arith, ap length (are.each r l is).list, few_feeds p sound rings r)
+pub few_line : (p : MorePlanOf) → IsMorePlan p → (rings : ℕ) (lines : List Line) → AreLines (IsStreamList p rings) rings lines → (r : ℕ) (l : Line) → slice_get lines r ≡ Some l → length l.list.items ≤ 2097152
+few_line p sound rings lines are r l is = omega (arith, ap length (are.each r l is), few_feeds p sound rings r)
 
 -- one feed further, at home or not
 module _ (squeues q : ℕ) (fs : List Feed) (i : ℕ) (f : Feed) (lt : i < length fs) (is : f ≡ get_or fs i f) where

@@ -12,12 +12,13 @@ use Rattle.ring_quotas.specs.declared.setup.Setup.{Setup}
 use Rattle.squeue_run.specs.Ran.{HasRead, TakesFew}
 use Rattle.datagram_services.specs.declared.refusal.Refusal.{Refusal}
 use Rattle.datagram_services.specs.declared.refusal.Refusal.TheVariants as refusal
-use Rattle.datagram_services.specs.RefusalLines.{memory_line, bad_line, pcapng_line}
+use Rattle.squeue_run.specs.Lines.{bad_line, memory_line, pcapng_line}
+use Rattle.datagram_services.specs.RefusalLines.{sqmore}
 use Rattle.datagram_services.specs.MoreRan.{HasMoreRan, MoreRead, MoreRefused}
 use Rattle.datagram_services.specs.MoreCauses.{CountsFaults, LineOrMemory, MoreFails, MoreTold, ReadingFails, RefusedWords}
 
 line_or_memory : (P : Status → Type 0) (wanted : Status) (text : List ℕ) (err : End) (s : Status)
-    → (GetsLine err text → P wanted) → (GetsLine err memory_line → P status.NoMemory) → LineOrMemory wanted text err s → P s
+    → (GetsLine err text → P wanted) → (GetsLine err (memory_line sqmore) → P status.NoMemory) → LineOrMemory wanted text err s → P s
 line_or_memory P wanted text err s line memory (inl t) = subst P (sym t.0) (line t.1)
 line_or_memory P wanted text err s line memory (inr t) = subst P (sym t.0) (memory t.1)
 
@@ -40,49 +41,49 @@ not_read (refusal.Input (input.Capture fault.TooManyRecords)) source out err s u
 not_read (refusal.Input (input.Capture fault.TooManyRecords)) source out err s u (inr h) t = subst (MoreRead source out err) (sym t.0) (inr (inl (h, (u, t.1))))
 not_read (refusal.Input (input.Capture (fault.ShortHeader k))) source out err s u (inl h) t = absurd h
 not_read (refusal.Input (input.Capture (fault.ShortHeader k))) source out err s u (inr h) t =
-    line_or_memory (MoreRead source out err) status.BadCapture (bad_line (fault.ShortHeader k)) err s (λ g. inl (fault.ShortHeader k, tt, h, (u, g))) (λ g. (u, g)) t
+    line_or_memory (MoreRead source out err) status.BadCapture (bad_line sqmore (fault.ShortHeader k)) err s (λ g. inl (fault.ShortHeader k, tt, h, (u, g))) (λ g. (u, g)) t
 not_read (refusal.Input (input.Capture (fault.Magic k))) source out err s u (inl h) t = absurd h
 not_read (refusal.Input (input.Capture (fault.Magic k))) source out err s u (inr h) t =
-    line_or_memory (MoreRead source out err) status.BadCapture (bad_line (fault.Magic k)) err s (λ g. inl (fault.Magic k, tt, h, (u, g))) (λ g. (u, g)) t
+    line_or_memory (MoreRead source out err) status.BadCapture (bad_line sqmore (fault.Magic k)) err s (λ g. inl (fault.Magic k, tt, h, (u, g))) (λ g. (u, g)) t
 not_read (refusal.Input (input.Capture (fault.Version i j))) source out err s u (inl h) t = absurd h
 not_read (refusal.Input (input.Capture (fault.Version i j))) source out err s u (inr h) t =
-    line_or_memory (MoreRead source out err) status.BadCapture (bad_line (fault.Version i j)) err s (λ g. inl (fault.Version i j, tt, h, (u, g))) (λ g. (u, g)) t
+    line_or_memory (MoreRead source out err) status.BadCapture (bad_line sqmore (fault.Version i j)) err s (λ g. inl (fault.Version i j, tt, h, (u, g))) (λ g. (u, g)) t
 not_read (refusal.Input (input.Capture (fault.Link k))) source out err s u (inl h) t = absurd h
 not_read (refusal.Input (input.Capture (fault.Link k))) source out err s u (inr h) t =
-    line_or_memory (MoreRead source out err) status.BadCapture (bad_line (fault.Link k)) err s (λ g. inl (fault.Link k, tt, h, (u, g))) (λ g. (u, g)) t
+    line_or_memory (MoreRead source out err) status.BadCapture (bad_line sqmore (fault.Link k)) err s (λ g. inl (fault.Link k, tt, h, (u, g))) (λ g. (u, g)) t
 not_read (refusal.Input (input.Capture (fault.RecordLength i j))) source out err s u (inl h) t = absurd h
 not_read (refusal.Input (input.Capture (fault.RecordLength i j))) source out err s u (inr h) t =
-    line_or_memory (MoreRead source out err) status.BadCapture (bad_line (fault.RecordLength i j)) err s (λ g. inl (fault.RecordLength i j, tt, h, (u, g))) (λ g. (u, g)) t
+    line_or_memory (MoreRead source out err) status.BadCapture (bad_line sqmore (fault.RecordLength i j)) err s (λ g. inl (fault.RecordLength i j, tt, h, (u, g))) (λ g. (u, g)) t
 not_read (refusal.Input (input.Pcapng pcapng.NoMemory)) source out err s u h t = subst (MoreRead source out err) (sym t.0) (u, t.1)
 not_read (refusal.Input (input.Pcapng pcapng.TooManyRecords)) source out err s u (inl e) t = absurd (no_memory_told pcapng.TooManyRecords refl e)
 not_read (refusal.Input (input.Pcapng pcapng.TooManyRecords)) source out err s u (inr h) t = subst (MoreRead source out err) (sym t.0) (inr (inr (h, (u, t.1))))
 not_read (refusal.Input (input.Pcapng (pcapng.ShortSection k))) source out err s u (inl e) t = absurd (no_memory_told (pcapng.ShortSection k) refl e)
 not_read (refusal.Input (input.Pcapng (pcapng.ShortSection k))) source out err s u (inr h) t =
-    line_or_memory (MoreRead source out err) status.BadCapture (pcapng_line (pcapng.ShortSection k)) err s (λ g. inr (pcapng.ShortSection k, tt, h, (u, g))) (λ g. (u, g)) t
+    line_or_memory (MoreRead source out err) status.BadCapture (pcapng_line sqmore (pcapng.ShortSection k)) err s (λ g. inr (pcapng.ShortSection k, tt, h, (u, g))) (λ g. (u, g)) t
 not_read (refusal.Input (input.Pcapng (pcapng.Magic i k))) source out err s u (inl e) t = absurd (no_memory_told (pcapng.Magic i k) refl e)
 not_read (refusal.Input (input.Pcapng (pcapng.Magic i k))) source out err s u (inr h) t =
-    line_or_memory (MoreRead source out err) status.BadCapture (pcapng_line (pcapng.Magic i k)) err s (λ g. inr (pcapng.Magic i k, tt, h, (u, g))) (λ g. (u, g)) t
+    line_or_memory (MoreRead source out err) status.BadCapture (pcapng_line sqmore (pcapng.Magic i k)) err s (λ g. inr (pcapng.Magic i k, tt, h, (u, g))) (λ g. (u, g)) t
 not_read (refusal.Input (input.Pcapng (pcapng.BlockLength i k))) source out err s u (inl e) t = absurd (no_memory_told (pcapng.BlockLength i k) refl e)
 not_read (refusal.Input (input.Pcapng (pcapng.BlockLength i k))) source out err s u (inr h) t =
-    line_or_memory (MoreRead source out err) status.BadCapture (pcapng_line (pcapng.BlockLength i k)) err s (λ g. inr (pcapng.BlockLength i k, tt, h, (u, g))) (λ g. (u, g)) t
+    line_or_memory (MoreRead source out err) status.BadCapture (pcapng_line sqmore (pcapng.BlockLength i k)) err s (λ g. inr (pcapng.BlockLength i k, tt, h, (u, g))) (λ g. (u, g)) t
 not_read (refusal.Input (input.Pcapng (pcapng.EndLength i k))) source out err s u (inl e) t = absurd (no_memory_told (pcapng.EndLength i k) refl e)
 not_read (refusal.Input (input.Pcapng (pcapng.EndLength i k))) source out err s u (inr h) t =
-    line_or_memory (MoreRead source out err) status.BadCapture (pcapng_line (pcapng.EndLength i k)) err s (λ g. inr (pcapng.EndLength i k, tt, h, (u, g))) (λ g. (u, g)) t
+    line_or_memory (MoreRead source out err) status.BadCapture (pcapng_line sqmore (pcapng.EndLength i k)) err s (λ g. inr (pcapng.EndLength i k, tt, h, (u, g))) (λ g. (u, g)) t
 not_read (refusal.Input (input.Pcapng (pcapng.Version i j k))) source out err s u (inl e) t = absurd (no_memory_told (pcapng.Version i j k) refl e)
 not_read (refusal.Input (input.Pcapng (pcapng.Version i j k))) source out err s u (inr h) t =
-    line_or_memory (MoreRead source out err) status.BadCapture (pcapng_line (pcapng.Version i j k)) err s (λ g. inr (pcapng.Version i j k, tt, h, (u, g))) (λ g. (u, g)) t
+    line_or_memory (MoreRead source out err) status.BadCapture (pcapng_line sqmore (pcapng.Version i j k)) err s (λ g. inr (pcapng.Version i j k, tt, h, (u, g))) (λ g. (u, g)) t
 not_read (refusal.Input (input.Pcapng (pcapng.Link i k))) source out err s u (inl e) t = absurd (no_memory_told (pcapng.Link i k) refl e)
 not_read (refusal.Input (input.Pcapng (pcapng.Link i k))) source out err s u (inr h) t =
-    line_or_memory (MoreRead source out err) status.BadCapture (pcapng_line (pcapng.Link i k)) err s (λ g. inr (pcapng.Link i k, tt, h, (u, g))) (λ g. (u, g)) t
+    line_or_memory (MoreRead source out err) status.BadCapture (pcapng_line sqmore (pcapng.Link i k)) err s (λ g. inr (pcapng.Link i k, tt, h, (u, g))) (λ g. (u, g)) t
 not_read (refusal.Input (input.Pcapng (pcapng.MixedLink i k))) source out err s u (inl e) t = absurd (no_memory_told (pcapng.MixedLink i k) refl e)
 not_read (refusal.Input (input.Pcapng (pcapng.MixedLink i k))) source out err s u (inr h) t =
-    line_or_memory (MoreRead source out err) status.BadCapture (pcapng_line (pcapng.MixedLink i k)) err s (λ g. inr (pcapng.MixedLink i k, tt, h, (u, g))) (λ g. (u, g)) t
+    line_or_memory (MoreRead source out err) status.BadCapture (pcapng_line sqmore (pcapng.MixedLink i k)) err s (λ g. inr (pcapng.MixedLink i k, tt, h, (u, g))) (λ g. (u, g)) t
 not_read (refusal.Input (input.Pcapng (pcapng.NoInterface i k))) source out err s u (inl e) t = absurd (no_memory_told (pcapng.NoInterface i k) refl e)
 not_read (refusal.Input (input.Pcapng (pcapng.NoInterface i k))) source out err s u (inr h) t =
-    line_or_memory (MoreRead source out err) status.BadCapture (pcapng_line (pcapng.NoInterface i k)) err s (λ g. inr (pcapng.NoInterface i k, tt, h, (u, g))) (λ g. (u, g)) t
+    line_or_memory (MoreRead source out err) status.BadCapture (pcapng_line sqmore (pcapng.NoInterface i k)) err s (λ g. inr (pcapng.NoInterface i k, tt, h, (u, g))) (λ g. (u, g)) t
 not_read (refusal.Input (input.Pcapng (pcapng.PacketLength i k))) source out err s u (inl e) t = absurd (no_memory_told (pcapng.PacketLength i k) refl e)
 not_read (refusal.Input (input.Pcapng (pcapng.PacketLength i k))) source out err s u (inr h) t =
-    line_or_memory (MoreRead source out err) status.BadCapture (pcapng_line (pcapng.PacketLength i k)) err s (λ g. inr (pcapng.PacketLength i k, tt, h, (u, g))) (λ g. (u, g)) t
+    line_or_memory (MoreRead source out err) status.BadCapture (pcapng_line sqmore (pcapng.PacketLength i k)) err s (λ g. inr (pcapng.PacketLength i k, tt, h, (u, g))) (λ g. (u, g)) t
 
 by_line : (source err : End) (wanted s : Status) (text : List ℕ) → HasRead source wanted → HasRead source status.NoMemory → LineOrMemory wanted text err s → HasRead source s
 by_line source err wanted s text h m t = line_or_memory (HasRead source) wanted text err s (λ g. h) (λ g. m) t
@@ -94,22 +95,22 @@ has_read source err (refusal.Input (input.Capture fault.Read)) s c f t = subst (
 has_read source err (refusal.Input (input.Capture fault.NoMemory)) s c f t = subst (HasRead source) (sym t.0) (c, f)
 has_read source err (refusal.Input (input.Capture (fault.TooLarge k))) s c f t = subst (HasRead source) (sym t.0) (c, f)
 has_read source err (refusal.Input (input.Capture fault.TooManyRecords)) s c f t = subst (HasRead source) (sym t.0) (c, f)
-has_read source err (refusal.Input (input.Capture (fault.ShortHeader k))) s c f t = by_line source err status.BadCapture s (bad_line (fault.ShortHeader k)) (c, f) (c, f) t
-has_read source err (refusal.Input (input.Capture (fault.Magic k))) s c f t = by_line source err status.BadCapture s (bad_line (fault.Magic k)) (c, f) (c, f) t
-has_read source err (refusal.Input (input.Capture (fault.Version i j))) s c f t = by_line source err status.BadCapture s (bad_line (fault.Version i j)) (c, f) (c, f) t
-has_read source err (refusal.Input (input.Capture (fault.Link k))) s c f t = by_line source err status.BadCapture s (bad_line (fault.Link k)) (c, f) (c, f) t
-has_read source err (refusal.Input (input.Capture (fault.RecordLength i j))) s c f t = by_line source err status.BadCapture s (bad_line (fault.RecordLength i j)) (c, f) (c, f) t
+has_read source err (refusal.Input (input.Capture (fault.ShortHeader k))) s c f t = by_line source err status.BadCapture s (bad_line sqmore (fault.ShortHeader k)) (c, f) (c, f) t
+has_read source err (refusal.Input (input.Capture (fault.Magic k))) s c f t = by_line source err status.BadCapture s (bad_line sqmore (fault.Magic k)) (c, f) (c, f) t
+has_read source err (refusal.Input (input.Capture (fault.Version i j))) s c f t = by_line source err status.BadCapture s (bad_line sqmore (fault.Version i j)) (c, f) (c, f) t
+has_read source err (refusal.Input (input.Capture (fault.Link k))) s c f t = by_line source err status.BadCapture s (bad_line sqmore (fault.Link k)) (c, f) (c, f) t
+has_read source err (refusal.Input (input.Capture (fault.RecordLength i j))) s c f t = by_line source err status.BadCapture s (bad_line sqmore (fault.RecordLength i j)) (c, f) (c, f) t
 has_read source err (refusal.Input (input.Pcapng pcapng.NoMemory)) s c f t = subst (HasRead source) (sym t.0) (c, f)
 has_read source err (refusal.Input (input.Pcapng pcapng.TooManyRecords)) s c f t = subst (HasRead source) (sym t.0) (c, f)
-has_read source err (refusal.Input (input.Pcapng (pcapng.ShortSection k))) s c f t = by_line source err status.BadCapture s (pcapng_line (pcapng.ShortSection k)) (c, f) (c, f) t
-has_read source err (refusal.Input (input.Pcapng (pcapng.Magic i k))) s c f t = by_line source err status.BadCapture s (pcapng_line (pcapng.Magic i k)) (c, f) (c, f) t
-has_read source err (refusal.Input (input.Pcapng (pcapng.BlockLength i k))) s c f t = by_line source err status.BadCapture s (pcapng_line (pcapng.BlockLength i k)) (c, f) (c, f) t
-has_read source err (refusal.Input (input.Pcapng (pcapng.EndLength i k))) s c f t = by_line source err status.BadCapture s (pcapng_line (pcapng.EndLength i k)) (c, f) (c, f) t
-has_read source err (refusal.Input (input.Pcapng (pcapng.Version i j k))) s c f t = by_line source err status.BadCapture s (pcapng_line (pcapng.Version i j k)) (c, f) (c, f) t
-has_read source err (refusal.Input (input.Pcapng (pcapng.Link i k))) s c f t = by_line source err status.BadCapture s (pcapng_line (pcapng.Link i k)) (c, f) (c, f) t
-has_read source err (refusal.Input (input.Pcapng (pcapng.MixedLink i k))) s c f t = by_line source err status.BadCapture s (pcapng_line (pcapng.MixedLink i k)) (c, f) (c, f) t
-has_read source err (refusal.Input (input.Pcapng (pcapng.NoInterface i k))) s c f t = by_line source err status.BadCapture s (pcapng_line (pcapng.NoInterface i k)) (c, f) (c, f) t
-has_read source err (refusal.Input (input.Pcapng (pcapng.PacketLength i k))) s c f t = by_line source err status.BadCapture s (pcapng_line (pcapng.PacketLength i k)) (c, f) (c, f) t
+has_read source err (refusal.Input (input.Pcapng (pcapng.ShortSection k))) s c f t = by_line source err status.BadCapture s (pcapng_line sqmore (pcapng.ShortSection k)) (c, f) (c, f) t
+has_read source err (refusal.Input (input.Pcapng (pcapng.Magic i k))) s c f t = by_line source err status.BadCapture s (pcapng_line sqmore (pcapng.Magic i k)) (c, f) (c, f) t
+has_read source err (refusal.Input (input.Pcapng (pcapng.BlockLength i k))) s c f t = by_line source err status.BadCapture s (pcapng_line sqmore (pcapng.BlockLength i k)) (c, f) (c, f) t
+has_read source err (refusal.Input (input.Pcapng (pcapng.EndLength i k))) s c f t = by_line source err status.BadCapture s (pcapng_line sqmore (pcapng.EndLength i k)) (c, f) (c, f) t
+has_read source err (refusal.Input (input.Pcapng (pcapng.Version i j k))) s c f t = by_line source err status.BadCapture s (pcapng_line sqmore (pcapng.Version i j k)) (c, f) (c, f) t
+has_read source err (refusal.Input (input.Pcapng (pcapng.Link i k))) s c f t = by_line source err status.BadCapture s (pcapng_line sqmore (pcapng.Link i k)) (c, f) (c, f) t
+has_read source err (refusal.Input (input.Pcapng (pcapng.MixedLink i k))) s c f t = by_line source err status.BadCapture s (pcapng_line sqmore (pcapng.MixedLink i k)) (c, f) (c, f) t
+has_read source err (refusal.Input (input.Pcapng (pcapng.NoInterface i k))) s c f t = by_line source err status.BadCapture s (pcapng_line sqmore (pcapng.NoInterface i k)) (c, f) (c, f) t
+has_read source err (refusal.Input (input.Pcapng (pcapng.PacketLength i k))) s c f t = by_line source err status.BadCapture s (pcapng_line sqmore (pcapng.PacketLength i k)) (c, f) (c, f) t
 
 refused_words : (why : Refusal) (out err : End) (s : Status) → IsUntouched out → RefusedWords why → MoreTold why err s → MoreRefused out err s
 refused_words refusal.NoMemory out err s u h t = subst (MoreRefused out err) (sym t.0) (u, t.1)

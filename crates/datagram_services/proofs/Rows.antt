@@ -1,5 +1,5 @@
 -- Each row has the blocks of its streams, which have had all their items.
-use Rattle.std.proofs.Common.{◌≡◌, ◌≢◌, ℕ, ◌+◌, ◌%◌, ◌<◌, ◌≤◌, true, zero, suc, if◌then◌else◌, Bool, Option, Some, None, List, [], ◌∷◌, ◌++◌, Vec, length, map, slice_get, slice_index, refl, ap, sym, ◌∙◌, subst, arith}
+use Rattle.std.proofs.Common.{◌≡◌, ◌≢◌, ℕ, ◌+◌, ◌%◌, ◌<◌, ◌≤◌, true, zero, suc, if◌then◌else◌, Bool, Option, Some, None, List, [], ◌∷◌, ◌++◌, Vec, length, map, slice_get, slice_index, refl, ap, sym, ◌∙◌, subst, arith, eq-eqb}
 use Rattle.std.specs.declared.alloc.Global.{Global}
 use Rattle.std.proofs.lemmas.Option.{slice_get_within}
 use Rattle.turn_gate.specs.Passes.{seen}
@@ -19,16 +19,19 @@ use Rattle.squeue_state.specs.Naming.{Named, setting_of}
 use Rattle.squeue_serve.specs.Places.{Holds}
 use Rattle.squeue_serve.proofs.Lent.{some_at}
 use Rattle.squeue_rings.proofs.Slots.{at_got}
-use Rattle.key_counters.proofs.Chains.{still_due, still_here}
+use Rattle.ring_jobs.specs.declared.lines.Line.{Line}
+use Rattle.ring_jobs.specs.Ends.{RingEnds}
+use Rattle.ring_jobs.proofs.AtTheEnd.{end_due, end_here}
+use Rattle.key_counters.specs.Lists.{list_of}
+use Rattle.key_counters.proofs.RingLists.{has_all}
 use Rattle.stream_plan.specs.Streams.{MorePlanOf, StreamOf, item_count}
 use Rattle.stream_blocks.specs.declared.block.StreamBlock.{StreamBlock}
 use Rattle.stream_blocks.specs.declared.blocks.StreamBlocks.{StreamBlocks}
 use Rattle.stream_blocks.specs.Standing.{HasHad, PlaceFits, limits_of}
 use Rattle.stream_blocks.proofs.Placing.{had_is}
-use Rattle.datagram_services.specs.declared.lines.Line.{Line}
 use Rattle.datagram_services.specs.Lines.{counts_of}
 use Rattle.datagram_services.specs.Gathering.{AreRows, HaveLeft, IsWholeBlock, LeavesRow}
-use Rattle.datagram_services.specs.Settings.{AreSet, HasRun, RingEnds}
+use Rattle.datagram_services.specs.Settings.{AreSet, HasRun}
 
 none_in : (xs : List Entry) → (xs ≢ [] → ⊥) → xs ≡ []
 none_in [] h = refl
@@ -73,13 +76,14 @@ module _ (p : MorePlanOf) (squeues rings : ℕ) (lines : List Line) (ss : List (
       let r : ℕ = c % rings in
       let within : r < rings = omega (arith, ring) in
       let x = l.knows r within in
-      let ends : RingEnds limits_of (counts_of p) squeues r u.0 x.0 = at_got (λ s o. Holds (RingEnds limits_of (counts_of p) squeues r s) o) ss (lent (1 + r)) q u.0 (Some x.0) (ran.rings_end r within) u.1 x.1 in
+      let list = list_of rings r 0 (counts_of p) in
+      let ends : RingEnds limits_of squeues 0 r list u.0 x.0 = at_got (λ s o. Holds (RingEnds limits_of squeues 0 r list s) o) ss (lent (1 + r)) q u.0 (Some x.0) (ran.rings_end r within).each u.1 x.1 in
       let own : r ≡ c % u.0.given.rings = ap (λ (k : ℕ). c % k) (sym is.rings_are) in
       let mine = ends.is_number ∙ own in
       let below : c < length u.0.given.starts = (let size = is.size in let known = slice_get_within p.streams c s stream in omega (arith, size, known)) in
       let home : c % squeues ≡ u.0.given.number = sym is.number in
-      let here : is_here (run S H) c ≡ true = still_here limits_of u.0 x.0 H ends.pass x.2.0 legal x.2.1 c mine ∙ ends.here c own below home in
-      let next : due H c ≡ slice_index (counts_of p) c = still_due limits_of u.0 x.0 H ends.pass x.2.0 legal x.2.1 c mine ∙ ends.next c own below home in
+      let here : is_here (run S H) c ≡ true = end_here limits_of u.0 x.0 H ends.pass legal x.2 c mine ∙ (ends.here c own below ∙ eq-eqb (c % squeues) u.0.given.number home) in
+      let next : due H c ≡ slice_index (counts_of p) c = end_due limits_of u.0 x.0 H ends.pass legal x.2 c mine ∙ (ends.next c own below home ∙ has_all rings c (counts_of p) r refl) in
       let all : fed (acts S H c) ≡ item_count s = all_done S H c legal over here ∙ (next ∙ count_of p.streams c s stream) in
       let stands : PlaceFits p c (slice_get row.items c) (if is_here (run S H) c then Some (acts S H c) else None) = subst (λ (o : MorePlanOf). PlaceFits o c (slice_get row.items c) (if is_here (run S H) c then Some (acts S H c) else None)) is.origin (l.stands c) in
       lies p c s row.items (acts S H c) all (slice_get row.items c) refl (subst (λ (b : Bool). PlaceFits p c (slice_get row.items c) (if b then Some (acts S H c) else None)) here stands)

@@ -1,8 +1,6 @@
 pub mod Served
 pub mod Lines
-pub mod Tasks
 pub mod Settings
-pub mod Running
 pub mod Gathering
 pub mod MoreText
 pub mod MoreWords

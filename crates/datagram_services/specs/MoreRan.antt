@@ -14,7 +14,8 @@ use Rattle.ring_quotas.specs.declared.setup.Setup.{Setup}
 use Rattle.squeue_run.specs.Input.{ReadsSuch}
 use Rattle.squeue_run.specs.Ran.{HasRead, IsBad, IsBadPcapng, Reads}
 use Rattle.datagram_services.specs.MoreText.{more_text}
-use Rattle.datagram_services.specs.RefusalLines.{usage_line, memory_line, read_line, write_line, bad_line, pcapng_line, many_bytes_line, many_records_line}
+use Rattle.squeue_run.specs.Lines.{bad_line, many_bytes_line, many_records_line, memory_line, pcapng_line, read_line, write_line}
+use Rattle.datagram_services.specs.RefusalLines.{sqmore, usage_line}
 
 -- the report was written whole, and no write failed
 abbrev pub GetsReport : CaptureFile → End → Type 0
@@ -27,22 +28,22 @@ GetsFrontOfReport file out = AppendsProperly out.was out.is (more_text file) × 
 -- refused words
 abbrev pub MoreRefused : End → End → Status → Type 0
 MoreRefused out err status.Usage = OnlyTells out err usage_line
-MoreRefused out err status.NoMemory = OnlyTells out err memory_line
+MoreRefused out err status.NoMemory = OnlyTells out err (memory_line sqmore)
 MoreRefused out err _ = ⊥
 
 -- an input that was read: the setup decides nothing
 abbrev pub MoreRead : End → End → End → Status → Type 0
 MoreRead source out err status.Ok = (file : CaptureFile) × Reads source file × GetsReport file out × IsUntouched err
-MoreRead source out err status.WriteFault = (file : CaptureFile) × Reads source file × GetsFrontOfReport file out × GetsLine err write_line
+MoreRead source out err status.WriteFault = (file : CaptureFile) × Reads source file × GetsFrontOfReport file out × GetsLine err (write_line sqmore)
 MoreRead source out err status.BadCapture =
-    ((why : CaptureFault) × IsBad why × ReadsSuch (IsRefusedCapture why) source.was source.is × OnlyTells out err (bad_line why))
-    ⊎ ((why : PcapngFault) × IsBadPcapng why × ReadsSuch (IsRefusedPcapng why) source.was source.is × OnlyTells out err (pcapng_line why))
+    ((why : CaptureFault) × IsBad why × ReadsSuch (IsRefusedCapture why) source.was source.is × OnlyTells out err (bad_line sqmore why))
+    ⊎ ((why : PcapngFault) × IsBadPcapng why × ReadsSuch (IsRefusedPcapng why) source.was source.is × OnlyTells out err (pcapng_line sqmore why))
 MoreRead source out err status.TooLarge =
-    (TakesTooMany source.was source.is × OnlyTells out err many_bytes_line)
-    ⊎ (ReadsSuch (IsRefusedCapture fault.TooManyRecords) source.was source.is × OnlyTells out err many_records_line)
-    ⊎ (ReadsSuch (IsRefusedPcapng pcapng.TooManyRecords) source.was source.is × OnlyTells out err many_records_line)
-MoreRead source out err status.ReadFault = OnlyTells out err read_line
-MoreRead source out err status.NoMemory = OnlyTells out err memory_line
+    (TakesTooMany source.was source.is × OnlyTells out err (many_bytes_line sqmore))
+    ⊎ (ReadsSuch (IsRefusedCapture fault.TooManyRecords) source.was source.is × OnlyTells out err (many_records_line sqmore))
+    ⊎ (ReadsSuch (IsRefusedPcapng pcapng.TooManyRecords) source.was source.is × OnlyTells out err (many_records_line sqmore))
+MoreRead source out err status.ReadFault = OnlyTells out err (read_line sqmore)
+MoreRead source out err status.NoMemory = OnlyTells out err (memory_line sqmore)
 MoreRead source out err status.Usage = ⊥
 MoreRead source out err status.NoConnection = ⊥
 

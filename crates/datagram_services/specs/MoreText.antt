@@ -29,7 +29,8 @@ counts_line records tail n streams = line (
 -- the client first
 unfoldable pub stream_line : ℕ → Tuple → List ℕ
 stream_line c t = line (
-    codes "stream" ∷ decimal c ∷ protocol_word t.server_port ∷ end_field t.client t.client_port ∷ end_field t.server t.server_port ∷ service_word t.server_port ∷ [])
+    codes "stream" ∷ decimal c ∷ protocol_word t.server_port ∷ end_field t.client t.client_port ∷ end_field t.server t.server_port
+    ∷ service_word t.server_port ∷ [])
 
 -- the items from the first to the last, of so many
 unfoldable pub items_line : ℕ → List ℕ

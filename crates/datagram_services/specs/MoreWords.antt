@@ -9,9 +9,9 @@ use Rattle.squeue_run.specs.Words.{Text}
 abbrev pub names_spread : Text → Bool
 names_spread word = starts_with nat_eq word (codes "--spread")
 
--- a setup without spread and trace, and nothing beside it
+-- a setup without trace, and nothing beside it
 abbrev pub is_plain : Asked → Bool
-is_plain a = not a.verify && (not a.setup.trace && (not (is_some a.number) && (length a.calls == 0 && a.setup.spread == 0)))
+is_plain a = not a.verify && (not a.setup.trace && (not (is_some a.number) && length a.calls == 0))
 
 abbrev pub plain_setup : Asked → Option Setup
 plain_setup a = if is_plain a then Some a.setup else None

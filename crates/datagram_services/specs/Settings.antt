@@ -1,19 +1,15 @@
 -- The squeues of a run, by what they were made with, and what their passes know when all is brought.
-use Rattle.std.specs.Prelude.{◌≡◌, ℕ, ◌+◌, ◌%◌, ◌<◌, ◌==◌, if◌then◌else◌, Bool, true, false, Option, Some, List, [], length, map, slice_get, slice_index, slice_index_or}
-use Rattle.turn_gate.specs.Passes.{IsPassOf, number, seen}
+use Rattle.std.specs.Prelude.{◌≡◌, ℕ, ◌+◌, ◌%◌, ◌<◌, ◌==◌, if◌then◌else◌, Bool, false, Option, Some, List, [], length, map, slice_get, slice_index_or}
 use Rattle.turn_gate.specs.declared.pass.Pass.{Pass}
-use Rattle.perimeter_core.specs.Perimeter.{is_here}
-use Rattle.perimeter_core.specs.History.{Element, Limits, run}
-use Rattle.perimeter_core.specs.Deeds.{due}
+use Rattle.perimeter_core.specs.History.{Element, Limits}
 use Rattle.squeue_state.specs.Naming.{Named, setting_of}
-use Rattle.squeue_state.specs.Elements.{number_of}
-use Rattle.squeue_serve.specs.Places.{AtEach, Holds}
 use Rattle.squeue_rings.specs.Runs.{count, is_at}
-use Rattle.ring_quotas.specs.declared.setup.Setup.{Setup}
+use Rattle.ring_jobs.specs.declared.lines.Line.{Line}
+use Rattle.ring_jobs.specs.Ends.{RingsEnd}
+use Rattle.key_counters.specs.Lists.{list_of}
 use Rattle.stream_plan.specs.Streams.{MorePlanOf}
 use Rattle.stream_blocks.specs.declared.blocks.StreamBlocks.{StreamBlocks}
 use Rattle.stream_blocks.specs.Standing.{limits_of, origin_of}
-use Rattle.datagram_services.specs.declared.lines.Line.{Line}
 use Rattle.datagram_services.specs.Lines.{counts_of}
 
 module _ (p : MorePlanOf) (squeues rings : ℕ) (lines : List Line) where
@@ -33,14 +29,8 @@ module _ (p : MorePlanOf) (squeues rings : ℕ) (lines : List Line) where
     pub count : length ss ≡ squeues
     pub each : (q : ℕ) (s : Named StreamBlocks) → slice_get ss q ≡ Some s → IsSet q s
 
--- A ring's pass of a squeue knows that all feeds of the ring's streams that are at home there were entered, and that these are here
-pub record RingEnds {R : Type 0} (limits : R → Limits) (counts : List ℕ) (squeues r : ℕ) (s : Named R) (x : Pass Element) : Type 0 where
-  pub pass : IsPassOf number_of s.gate x
-  pub is_number : number x ≡ r
-  pub here : (c : ℕ) → r ≡ c % s.given.rings → c < length s.given.starts → c % squeues ≡ s.given.number → is_here (run (setting_of limits s.given) (seen x)) c ≡ true
-  pub next : (c : ℕ) → r ≡ c % s.given.rings → c < length s.given.starts → c % squeues ≡ s.given.number → due (seen x) c ≡ slice_index counts c
-
 -- by the passes that are lent, each ring has brought all feeds of its streams
-pub record HasRun (p : MorePlanOf) (squeues rings : ℕ) (lines : List Line) (ss : List (Named StreamBlocks)) (lent : ℕ → List (Option (Pass Element))) : Type 0 where
+pub record HasRun (p : MorePlanOf) (squeues rings : ℕ) (lines : List Line) (ss : List (Named StreamBlocks))
+    (lent : ℕ → List (Option (Pass Element))) : Type 0 where
   pub set : AreSet p squeues rings lines ss
-  pub rings_end : (r : ℕ) → r < rings → AtEach (λ s o. Holds (RingEnds limits_of (counts_of p) squeues r s) o) ss (lent (1 + r))
+  pub rings_end : (r : ℕ) → r < rings → RingsEnd limits_of squeues 0 r (list_of rings r 0 (counts_of p)) ss (lent (1 + r))

@@ -1,60 +1,26 @@
-//! What comes in: for each ring the feeds that it brings, and the receive ring through which it learns of them.
-ghost use Rattle.std.specs.Prelude.{◌≡◌, ◌≤◌, ◌<◌, ◌^◌, ◌++◌, IfOk, OnOk, option_map};
-ghost use Rattle.key_counters.specs.Lists.{items_of, list_of};
-ghost use Rattle.datagram_services.specs.Lines.{IsLine, counts_of};
-ghost use Rattle.datagram_services.specs.Tasks.{feed_end, poll_end};
+//! What comes in by each ring.
+ghost use Rattle.std.specs.Prelude.{◌≡◌, ◌<◌, ◌++◌, IfOk, OnOk, map};
+ghost use Rattle.key_counters.specs.Lists.{items_of};
+ghost use Rattle.ring_jobs.specs.Tasks.{AreLines, AreUnused};
+ghost use Rattle.datagram_services.specs.Lines.{IsStreamList};
 
 use perimeter_core::Feed;
-use poll_ring::{FeedEnd, PollEnd, Ring};
+use ring_jobs::{Ends, line_of};
 use std::alloc::{AllocError, Global};
 use stream_plan::MorePlan;
 
-/// The feeds that a ring brings, in order, and its receive ring, which gives their places. Where there are none it has none.
-#[derive(Drop)]
-pub struct Line {
-    pub list: Vec<Feed>,
-    pub ring: Option<Ring>,
-}
-
-/// A ring's line with the two ends of its receive ring.
-#[derive(Drop)]
-pub struct Ends {
-    pub line: Line,
-    pub feed: Option<FeedEnd>,
-    pub poll: Option<PollEnd>,
-}
-
-/// The line of a ring, of so many.
-pub fn line_of(
-    alloc: Global,
-    plan: &MorePlan<'_>,
-    rings: u32,
-    ring: u32,
-) -> Result<Ends, AllocError>
-    requires { ring < rings }
-    ensures line { IfOk result (λ e. IsLine plan.now rings ring e.line) }
-    ensures feed { IfOk result (λ e. e.feed ≡ option_map feed_end e.line.ring) }
-    ensures poll { IfOk result (λ e. e.poll ≡ option_map poll_end e.line.ring) }
+/// The lines of so many rings, by number. Fails only for want of memory.
+pub fn lines_of(alloc: Global, plan: &MorePlan<'_>, rings: u32) -> Result<Vec<Ends>, AllocError>
+    ensures lines { IfOk result (λ v. AreLines (IsStreamList plan.now rings) rings (map (λ e. e.line) v.items)) }
+    ensures unused { IfOk result (λ v. AreUnused v.items) }
 {
     plan.is_sound();
-    let list = list_of(alloc, plan, rings, ring)?;
-    if list.is_empty() {
-        return Ok(Ends {
-            line: Line { list, ring: None },
-            feed: None,
-            poll: None,
-        });
+    let mut lines = Vec::new(alloc);
+    for ring in 0..rings {
+        let list = list_of(alloc, plan, rings, ring)?;
+        lines.push(line_of(alloc, list)?)?;
     }
-    let (ring, feed, poll) = Ring::make(alloc, list.len() as u32)?;
-    let line = Line {
-        list,
-        ring: Some(ring),
-    };
-    Ok(Ends {
-        line,
-        feed: Some(feed),
-        poll: Some(poll),
-    })
+    Ok(lines)
 }
 
 // The feeds of a ring's streams, stream by stream: each has one for each of its items.
@@ -65,7 +31,7 @@ fn list_of(
     ring: u32,
 ) -> Result<Vec<Feed>, AllocError>
     requires { ring < rings }
-    ensures { IfOk result (λ v. v.items ≡ list_of rings ring 0 (counts_of plan.now)) }
+    ensures { IfOk result (λ v. IsStreamList plan.now rings ring v.items) }
 {
     let mut list = Vec::new(alloc);
     for c in 0..plan.streams() {

@@ -6,20 +6,18 @@ ghost use Rattle.squeue_state.specs.Elements.{number_of};
 ghost use Rattle.squeue_serve.specs.Places.{IsNew};
 ghost use Rattle.squeue_serve.specs.Lending.{AreLent, HaveRoom, IsRoomFor, lent_to, tasks_in};
 ghost use Rattle.ring_quotas.specs.Quotas.{IsInRange};
+ghost use Rattle.ring_jobs.specs.Tasks.{AreLines};
 ghost use Rattle.datagram_services.specs.Settings.{AreSet, IsSet};
-ghost use Rattle.datagram_services.specs.Tasks.{AreLines};
+ghost use Rattle.datagram_services.specs.Lines.{IsStreamList};
 
-use crate::lines::Line;
 use crate::quotas::quotas_at;
+use ring_jobs::{FRONT, Line};
 use ring_quotas::Setup;
 use squeue_serve::{Job, Squeues, lend};
 use squeue_state::{Pass, Squeue};
 use std::alloc::{AllocError, Global};
 use stream_blocks::StreamBlocks;
 use stream_plan::MorePlan;
-
-/// How many jobs stand before those that are lent passes by number.
-pub const FRONT: usize = 1;
 
 /// Makes all squeues, and lends their passes. Where memory is missing some of them may have been made.
 pub fn make_all<'p, T>(
@@ -31,7 +29,7 @@ pub fn make_all<'p, T>(
     squeues: &mut Squeues<StreamBlocks<'p>>,
 ) -> Result<(), AllocError>
     requires setup { IsInRange setup.now }
-    requires lines { AreLines plan.now setup.now.rings lines.now }
+    requires lines { AreLines (IsStreamList plan.now setup.now.rings) setup.now.rings lines.now }
     requires jobs { 1 + setup.now.rings + setup.now.squeues ≤ length jobs.old.items }
     requires places { All (λ j. j.places.items ≡ []) jobs.old.items × HaveRoom setup.now.squeues jobs.old.items }
     requires empty { (squeues.old.all.items ≡ []) × (squeues.old.rooms.items ≡ []) }
@@ -59,7 +57,7 @@ fn make_one<'p>(
     q: u32,
 ) -> Result<(Squeue<StreamBlocks<'p>>, Vec<Pass>), AllocError>
     requires setup { IsInRange setup.now }
-    requires lines { AreLines plan.now setup.now.rings lines.now }
+    requires lines { AreLines (IsStreamList plan.now setup.now.rings) setup.now.rings lines.now }
     requires squeue { q < setup.now.squeues }
     ensures set { IfOk result (λ r. IsSet plan.now setup.now.squeues setup.now.rings lines.now q r.0) }
     ensures passes { IfOk result (λ r. (length r.1.items ≡ setup.now.rings + 1) × AreFresh number_of r.0.gate 0 r.1.items) }

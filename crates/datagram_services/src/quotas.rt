@@ -2,10 +2,10 @@
 ghost use Rattle.std.specs.Prelude.{◌≡◌, ◌<◌, ◌≤◌, ◌^◌, ℕ, IfOk, Some, length, map, slice_get};
 ghost use Rattle.squeue_state.specs.Behind.{pairs};
 ghost use Rattle.squeue_rings.specs.Runs.{count, is_at};
-ghost use Rattle.datagram_services.specs.declared.lines.Line.{Line as LineOf};
+ghost use Rattle.ring_jobs.specs.declared.lines.Line.{Line as LineOf};
 
-use crate::lines::Line;
 use perimeter_core::Feed;
+use ring_jobs::Line;
 use squeue_state::Quota;
 use std::alloc::{AllocError, Global};
 

@@ -1,16 +1,20 @@
 //! Why a run gives no report, and what it then writes.
 
-ghost use Rattle.std.specs.Prelude.{◌≡◌, ◌⊎◌, IfOk, MatchResult, string_bytes};
+ghost use Rattle.std.specs.Prelude.{◌≡◌, MatchResult, string_bytes};
 ghost use Rattle.std.specs.Io.KnownBytes.{Appends};
 ghost use Rattle.sq_base.specs.Ends.{Rose, end_of};
-ghost use Rattle.squeue_run.specs.Ran.{IsBad, IsBadPcapng};
+ghost use Rattle.squeue_run.specs.Lines.{memory_line};
 ghost use Rattle.datagram_services.specs.MoreCauses.{MoreTold};
-ghost use Rattle.datagram_services.specs.RefusalLines.{bad_line, memory_line, pcapng_line};
+ghost use Rattle.datagram_services.specs.RefusalLines.{sqmore};
 
 use capture_reader::CaptureFault;
 use pcapng_reader::{InputFault, PcapngFault};
 use sq_base::{Sink, Status, put};
+use squeue_run::{bad_capture, bad_pcapng};
 use std::alloc::{AllocError, Global};
+
+/// The name that the program calls itself by.
+const SQMORE: &str = "sqmore";
 
 pub const USAGE: &[u8] =
     b"usage: sqmore [--squeues N] [--rings N] [--mode process|nodrain|fill] [--budget N]\n";
@@ -63,7 +67,7 @@ fn refuse_capture<E: Sink>(alloc: Global, err: &mut E, fault: &CaptureFault) -> 
         CaptureFault::Read => told(err, READ_FAULT, Status::ReadFault),
         CaptureFault::TooLarge(_) => told(err, MANY_BYTES, Status::TooLarge),
         CaptureFault::TooManyRecords => told(err, MANY_RECORDS, Status::TooLarge),
-        _ => told_line(err, bad_capture(alloc, fault)),
+        _ => told_line(err, bad_capture(alloc, SQMORE, fault)),
     }
 }
 
@@ -73,7 +77,7 @@ fn refuse_pcapng<E: Sink>(alloc: Global, err: &mut E, fault: &PcapngFault) -> St
     match fault {
         PcapngFault::NoMemory => told(err, NO_MEMORY, Status::NoMemory),
         PcapngFault::TooManyRecords => told(err, MANY_RECORDS, Status::TooLarge),
-        _ => told_line(err, bad_pcapng(alloc, fault)),
+        _ => told_line(err, bad_pcapng(alloc, SQMORE, fault)),
     }
 }
 
@@ -90,84 +94,10 @@ pub fn told<E: Sink>(err: &mut E, line: &[u8], status: Status) -> Status
 fn told_line<E: Sink>(err: &mut E, line: Result<String, AllocError>) -> Status
     ensures { MatchResult line
         (λ text. (result ≡ Status.BadCapture) × ((Rose (E.write_faults err.old) (E.write_faults err.new) → ⊥) → Appends (E.contents err.old) (E.contents err.new) (string_bytes text)))
-        (λ _. (result ≡ Status.NoMemory) × ((Rose (E.write_faults err.old) (E.write_faults err.new) → ⊥) → Appends (E.contents err.old) (E.contents err.new) memory_line)) }
+        (λ _. (result ≡ Status.NoMemory) × ((Rose (E.write_faults err.old) (E.write_faults err.new) → ⊥) → Appends (E.contents err.old) (E.contents err.new) (memory_line sqmore))) }
 {
     match line {
         Ok(line) => told(err, line.as_bytes(), Status::BadCapture),
         Err(_) => told(err, NO_MEMORY, Status::NoMemory),
-    }
-}
-
-/// The line of a bad capture.
-#[tactic(auto, unfolding(crate::specs::RefusalLines::bad_line))]
-fn bad_capture(alloc: Global, fault: &CaptureFault) -> Result<String, AllocError>
-    requires { IsBad fault.now }
-    ensures { IfOk result (λ text. string_bytes text ≡ bad_line fault.now) }
-{
-    match fault {
-        CaptureFault::ShortHeader(n) => {
-            format!(in alloc; "sqmore: bad capture: short header of {n} bytes\n")
-        }
-        CaptureFault::Magic(magic) => {
-            let digits = hex::encode(alloc, magic.as_slice())?;
-            format!(in alloc; "sqmore: bad capture: magic {digits}\n")
-        }
-        CaptureFault::Version { major, minor } => {
-            format!(in alloc; "sqmore: bad capture: version {major}.{minor}\n")
-        }
-        CaptureFault::Link(n) => format!(in alloc; "sqmore: bad capture: link type {n}\n"),
-        CaptureFault::RecordLength { index, len } => {
-            format!(in alloc; "sqmore: bad capture: record {index} has length {len}\n")
-        }
-        _ => unreachable!(),
-    }
-}
-
-/// The line of a bad pcapng file.
-#[tactic(auto, unfolding(crate::specs::RefusalLines::pcapng_line))]
-fn bad_pcapng(alloc: Global, fault: &PcapngFault) -> Result<String, AllocError>
-    requires { IsBadPcapng fault.now }
-    ensures { IfOk result (λ text. string_bytes text ≡ pcapng_line fault.now) }
-{
-    match fault {
-        PcapngFault::ShortSection(n) => {
-            format!(in alloc; "sqmore: bad capture: pcapng short section of {n} bytes\n")
-        }
-        PcapngFault::Magic { index, found } => {
-            let digits = hex::encode(alloc, found.as_slice())?;
-            format!(in alloc; "sqmore: bad capture: pcapng magic {digits} in block {index}\n")
-        }
-        PcapngFault::BlockLength { index, len } => {
-            format!(in alloc; "sqmore: bad capture: pcapng block {index} has length {len}\n")
-        }
-        PcapngFault::EndLength { index, len } => {
-            format!(in alloc; "sqmore: bad capture: pcapng block {index} ends with length {len}\n")
-        }
-        PcapngFault::Version {
-            index,
-            major,
-            minor,
-        } => {
-            format!(in alloc;
-                "sqmore: bad capture: pcapng version {major}.{minor} in block {index}\n"
-            )
-        }
-        PcapngFault::Link { index, link } => {
-            format!(in alloc; "sqmore: bad capture: pcapng link type {link} in block {index}\n")
-        }
-        PcapngFault::MixedLink { index, link } => {
-            format!(in alloc;
-                "sqmore: bad capture: pcapng second link type {link} in block {index}\n"
-            )
-        }
-        PcapngFault::NoInterface { index, id } => {
-            format!(in alloc; "sqmore: bad capture: pcapng interface {id} in block {index}\n")
-        }
-        PcapngFault::PacketLength { index, len } => {
-            format!(in alloc;
-                "sqmore: bad capture: pcapng packet of {len} bytes in block {index}\n"
-            )
-        }
-        _ => unreachable!(),
     }
 }

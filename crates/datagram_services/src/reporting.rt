@@ -4,7 +4,8 @@ ghost use Rattle.std.specs.Prelude.{[], ◌≡◌, ◌<◌, ◌++◌, IfOk, IfSo
 ghost use Rattle.std.specs.List.{flat_map};
 ghost use Rattle.squeue_report.specs.ReportText.{end_line, reply_line};
 ghost use Rattle.stream_blocks.specs.Served.{all_served};
-ghost use Rattle.datagram_services.specs.MoreText.{answer_line, counts_line, is_generator, items_line, plan_text, protocol_word, service_word, stream_line, stream_text};
+ghost use Rattle.datagram_services.specs.MoreText.{answer_line, counts_line, is_generator, items_line, plan_text};
+ghost use Rattle.datagram_services.specs.MoreText.{protocol_word, service_word, stream_line, stream_text};
 ghost use Rattle.datagram_services.specs.Served.{IsMoreServed};
 
 use crate::served::MoreServed;

@@ -4,18 +4,19 @@ ghost use Rattle.synch_enter.specs.Hinting.{conns_of, squeues_of};
 ghost use Rattle.squeue_serve.specs.Places.{IsNew, MayEnd};
 ghost use Rattle.squeue_serve.specs.Lending.{AreLent, HaveRoom, lent_to, tasks_in};
 ghost use Rattle.ring_quotas.specs.Quotas.{IsInRange};
+ghost use Rattle.ring_jobs.specs.Tasks.{AreLines, AreTasks};
 ghost use Rattle.stream_blocks.specs.Standing.{limits_of};
 ghost use Rattle.datagram_services.specs.Served.{IsMoreServed};
 ghost use Rattle.datagram_services.specs.Settings.{AreSet, HasRun};
-ghost use Rattle.datagram_services.specs.Tasks.{AreTasks};
+ghost use Rattle.datagram_services.specs.Lines.{IsStreamList};
 
 use crate::gathering::gather;
-use crate::lines::Line;
-use crate::making::{FRONT, make_all};
+use crate::lines::lines_of;
+use crate::making::make_all;
 use crate::running::run;
 use crate::served::{MoreServed, whole};
-use crate::task::{Task, tasks_of};
 use perimeter_core::Hook;
+use ring_jobs::{FRONT, Line, Task, tasks_of};
 use ring_quotas::Setup;
 use squeue_serve::{Job, Squeues, discard, jobs_of, run_unused};
 use squeue_state::Squeue;
@@ -41,7 +42,8 @@ pub fn serve_more<H: Hook + Sync, W: Threads + Wait + Sync>(
     ensures { IfOk result (λ v. IsMoreServed plan.now v) }
 {
     let hints = Hints::make(alloc, plan.streams(), setup.squeues)?;
-    let (lines, tasks) = tasks_of(alloc, plan, setup)?;
+    let rings = lines_of(alloc, plan, setup.rings)?;
+    let (lines, tasks) = tasks_of(alloc, rings, 0, setup.squeues)?;
     let rows = Vec::with_capacity(alloc, setup.squeues as usize)?;
     let jobs = jobs_of(alloc, tasks, setup.squeues as usize)?;
     match Squeues::with_room(alloc, setup.squeues as usize) {
@@ -70,7 +72,8 @@ fn serve_by<'p, H: Hook + Sync, W: Threads + Wait + Sync>(
 ) -> Result<MoreServed, AllocError>
     requires setup { IsInRange setup.now × (setup.now.spread ≡ 0) }
     requires hints { (conns_of hints.now ≡ length plan.now.streams) × (squeues_of hints.now ≡ setup.now.squeues) }
-    requires tasks { AreTasks plan.now setup.now.squeues setup.now.rings lines.now (tasks_in jobs.items) }
+    requires lines { AreLines (IsStreamList plan.now setup.now.rings) setup.now.rings lines.now }
+    requires tasks { AreTasks setup.now.rings 0 setup.now.squeues lines.now (tasks_in jobs.items) }
     requires jobs { All (λ j. j.places.items ≡ []) jobs.items × HaveRoom setup.now.squeues jobs.items }
     requires squeues { (squeues.all.items ≡ []) × (squeues.rooms.items ≡ []) }
     requires room { (setup.now.squeues ≤ vec_capacity squeues.all) × (setup.now.squeues ≤ vec_capacity squeues.rooms) }
@@ -123,7 +126,8 @@ fn run_or_end<H: Hook + Sync, W: Threads + Wait + Sync>(
     requires hints { (conns_of hints.now ≡ length plan.now.streams) × (squeues_of hints.now ≡ setup.now.squeues) }
     requires set { IfOk made.now (λ _. AreSet plan.now setup.now.squeues setup.now.rings lines.now squeues.now) }
     requires few { length squeues.now ≤ setup.now.squeues }
-    requires tasks { AreTasks plan.now setup.now.squeues setup.now.rings lines.now (tasks_in jobs.old.items) }
+    requires lines { AreLines (IsStreamList plan.now setup.now.rings) setup.now.rings lines.now }
+    requires tasks { AreTasks setup.now.rings 0 setup.now.squeues lines.now (tasks_in jobs.old.items) }
     requires lent { AreLent IsNew 1 setup.now.rings squeues.now (lent_to jobs.old.items) }
     ensures ran { IfOk made.now (λ _. HasRun plan.now setup.now.squeues setup.now.rings lines.now squeues.now (lent_to jobs.new.items)) }
     ensures lent { AreLent (MayEnd limits_of) 1 setup.now.rings squeues.now (lent_to jobs.new.items) }

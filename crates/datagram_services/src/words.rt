@@ -34,16 +34,12 @@ pub fn setup_words(alloc: Global, words: &[String]) -> Result<Setup, WordFault>
     }
 }
 
-/// Whether the words ask for a setup without spread and trace, and for nothing beside it.
+/// Whether the words ask for a setup without trace, and for nothing beside it.
 fn plain(asked: &Words) -> bool
     requires { asked.now.trace ≡ asked.now.setup.trace }
     ensures { result ≡ is_plain (asked_by_words asked.now) }
 {
-    !asked.verify
-        && !asked.trace
-        && asked.number.is_none()
-        && asked.named.is_empty()
-        && asked.setup.spread == 0
+    !asked.verify && !asked.trace && asked.number.is_none() && asked.named.is_empty()
 }
 
 /// Whether a word names a spread.

@@ -11,14 +11,14 @@ use crate::job::{Pace, Task};
 use perimeter_core::{Feed, Hook, Resident};
 use squeue_drain::worker;
 use squeue_enter::{Entered, enter};
-use squeue_serve::{Job, put_pass, take_pass};
+use squeue_serve::{Job, put_pass, run_each, take_pass};
 use squeue_state::{Pass, Squeue};
 use std::alloc::Global;
 use std::sync::Wait;
-use std::thread::{Threads, for_each_mut};
+use std::thread::Threads;
 
 /// Runs the jobs beside each other, each in a thread of its own, until all are done. The worker's job waits for the others,
-/// so it stands last: where no thread can be made they run in order.
+/// so it stands last.
 pub fn run<R: Resident + Send, H: Hook + Sync, W: Threads + Wait + Sync>(
     rt: &W,
     sq: &Squeue<R>,
@@ -30,15 +30,10 @@ pub fn run<R: Resident + Send, H: Hook + Sync, W: Threads + Wait + Sync>(
     requires { All (IsReady R.limits sq.now) jobs.old }
     ensures { (k : ℕ) (d : Job Task) → k < length jobs.old → Ran R.limits sq.now (slice_index_or jobs.old k d) (slice_index_or jobs.new k d) }
 {
-    if jobs.is_empty() {
-        return;
-    }
-    let threads = jobs.len();
-    for_each_mut(
+    run_each(
         rt,
         jobs,
-        threads,
-        &|_, job: &mut Job<Task>| run_job(rt, sq, alloc, hook, pace, job),
+        &|_, job: &mut Job<Task>| { run_job(rt, sq, alloc, hook, pace, job) },
     );
 }
 

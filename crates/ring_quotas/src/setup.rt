@@ -3,7 +3,7 @@
 ghost use Rattle.std.specs.Prelude.{◌≡◌, ◌≤◌};
 
 use squeue_enter::Mode;
-use squeue_rings::Homes;
+use squeue_rings::{Homes, Pace};
 
 /// The squeues (1 to 16), the rings (1 to 8), how rings enter, the most entries that an entering thread processes (1 to
 /// 65,535), after how many feeds a connection moves on (0 to 65,535; 0 never), and whether each squeue keeps the marks of its
@@ -28,6 +28,22 @@ impl Setup {
         Homes {
             squeues: self.squeues,
             spread: self.spread,
+        }
+    }
+
+    /// How rings enter their feeds.
+    pub fn pace(&self) -> Pace
+        requires squeues { 1 ≤ self.now.squeues }
+        requires budget { 1 ≤ self.now.budget }
+        ensures squeues { result.homes.squeues ≡ self.now.squeues }
+        ensures spread { result.homes.spread ≡ self.now.spread }
+        ensures mode { result.mode ≡ self.now.mode }
+        ensures budget { result.budget ≡ self.now.budget }
+    {
+        Pace {
+            homes: self.homes(),
+            mode: self.mode,
+            budget: self.budget,
         }
     }
 }

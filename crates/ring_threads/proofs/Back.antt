@@ -1,99 +1,58 @@
--- What has come back of the squeues that have ended, while the first ones are still lent.
-use Rattle.std.proofs.Common.{◌≡◌, ℕ, ◌+◌, ◌<◌, zero, suc, Bool, true, false, if◌then◌else◌, Box, Option, Some, None, List, [], ◌∷◌, ◌++◌, length, length-append, append_assoc, slice_get, refl, ap, sym, ◌∙◌, subst, arith}
+-- What the squeues that have come back leave behind.
+use Rattle.std.proofs.Common.{◌≡◌, ℕ, ◌+◌, ◌<◌, zero, suc, Bool, true, false, if◌then◌else◌, Box, Option, Some, None, List, [], ◌∷◌, ◌++◌, length, slice_get, refl, ap, sym, ◌∙◌, subst, arith}
 use Rattle.std.specs.declared.alloc.Global.{Global}
-use Rattle.std.proofs.lemmas.List.{append-nil}
-use Rattle.turn_gate.specs.History.{Each}
 use Rattle.turn_gate.specs.declared.pass.Pass.{Pass}
 use Rattle.perimeter_core.specs.Blocks.{peri}
 use Rattle.perimeter_core.specs.Deeds.{acts}
 use Rattle.perimeter_core.specs.Perimeter.{is_here}
 use Rattle.perimeter_core.specs.History.{Element, Setting, run}
 use Rattle.squeue_state.specs.Naming.{Ending, Named, setting_of}
-use Rattle.squeue_state.specs.Words.{Knows}
 use Rattle.squeue_trace.specs.Told.{Traced}
 use Rattle.conn_blocks.specs.declared.blocks.Blocks.{Blocks}
 use Rattle.conn_blocks.specs.Holding.{StandsFor}
 use Rattle.conn_blocks.specs.Places.{PlaceFits, Stands, limits_of, origin_of, size_of}
 use Rattle.conn_blocks.specs.ServeOrder.{BlockOf, OriginOf}
 use Rattle.squeue_serve.specs.Lending.{AreLent, HasCome}
-use Rattle.squeue_serve.specs.Places.{Holds, MayEnd}
-use Rattle.squeue_serve.proofs.Coming.{holds_other, less_lent}
-use Rattle.squeue_serve.proofs.Lent.{get_end}
-use Rattle.squeue_rings.proofs.Reaching.{each_at}
-use Rattle.squeue_rings.proofs.Slots.{at_length}
+use Rattle.squeue_serve.specs.Places.{MayEnd}
+use Rattle.ring_jobs.proofs.ComesBack.{AreBack, all_came, came_knows, each_behind, none_came, one_came}
 use Rattle.ring_threads.specs.Gathering.{AreEmpty, EndsAs, HasGathered, IsFrom, IsTraceOf, LiesSo, WasAdded, first_of}
-
-pub each_last : {A : Type 0} (P : A → Type 0) (xs : List A) (x : A) → Each P (xs ++ x ∷ []) → Each P xs × P x
-each_last P [] x h = (tt, h.0)
-each_last P (y ∷ xs) x h = let r = each_last P xs x h.1 in ((h.0, r.0), r.1)
 
 module _ (front count : ℕ) (ss : List (Named Blocks)) (lent0 : ℕ → List (Option (Pass Element))) where
   -- those behind `left` have come back, with these ends and traces
   pub record SoFar (left : List (Named Blocks)) (lent : ℕ → List (Option (Pass Element))) (places : List (Option (Box BlockOf Global))) (es : List Ending) (ts : List Traced) : Type 0 where
     pub back : List (Named Blocks)
-    pub is : ss ≡ left ++ back
+    pub are : AreBack limits_of front count ss lent0 left back lent
     pub ends : length es ≡ length back
     pub traces : length ts ≡ length back
-    pub fronts : (p : ℕ) → p < count → (tail : List (Option (Pass Element))) × (lent0 (front + p) ≡ lent (front + p) ++ tail)
     pub each : (i : ℕ) (s : Named Blocks) (e : Ending) → slice_get back i ≡ Some s → slice_get es i ≡ Some e → EndsAs front count lent0 (length left + i) s e
     pub traced : (i : ℕ) (s : Named Blocks) (e : Ending) (t : Traced) → slice_get back i ≡ Some s → slice_get es i ≡ Some e → slice_get ts i ≡ Some t → IsTraceOf s e t
     pub placed : (c : ℕ) → c < length places → LiesSo back es c (slice_get places c)
-    pub still : AreLent (MayEnd limits_of) front count left lent
 
   pub none_back : (places : List (Option (Box BlockOf Global))) (es : List Ending) (ts : List Traced) → es ≡ [] → ts ≡ [] → AreEmpty places → AreLent (MayEnd limits_of) front count ss lent0 → SoFar ss lent0 places es ts
   none_back places es ts none no_traces empty lent =
       record {
         back = [];
-        is = sym (append-nil ss);
+        are = none_came limits_of front count ss lent0 lent;
         ends = ap length none;
         traces = ap length no_traces;
-        fronts = λ p lt. ([], sym (append-nil (lent0 (front + p))));
         each = λ i s e is at. cc is;
         traced = λ i s e t is at kept. cc is;
         placed = λ c lt. subst (LiesSo [] es c) (sym (empty c lt)) (λ q e at. cc (subst (λ (l : List Ending). slice_get l q ≡ Some e) none at));
-        still = lent;
       }
 
   module _ (all left : List (Named Blocks)) (s : Named Blocks) (having without : ℕ → List (Option (Pass Element))) (places new : List (Option (Box BlockOf Global))) (es : List Ending) (ts : List Traced) (r : Blocks) (e : Ending) (t : Traced)
       (split : all ≡ left ++ s ∷ []) (h : SoFar all having places es ts) (come : HasCome Stands limits_of size_of origin_of front count (length left) s having without r e t) (added : WasAdded r places new) where
-    lent_all : AreLent (MayEnd limits_of) front count (left ++ s ∷ []) having
-    lent_all = subst (λ (l : List (Named Blocks)). AreLent (MayEnd limits_of) front count l having) split h.still
-
-    lent_less : AreLent (MayEnd limits_of) front count left without
-    lent_less = less_lent (MayEnd limits_of) front count left s come.passes without having come.handed lent_all
-
-    -- the pass of each number that came back
-    handed : (p : ℕ) → p < count → (x : Pass Element) × (slice_get come.passes p ≡ Some x) × (having (front + p) ≡ without (front + p) ++ Some x ∷ [])
-    handed p lt =
-        let a = come.handed.each p (omega (arith, lt)) in
-        (a.0, a.1, subst (λ (i : ℕ). having i ≡ without i ++ Some a.0 ∷ []) (holds_other front count (length left) p lt) a.2)
-
-    tails : (p : ℕ) (lt : p < count) → lent0 (front + p) ≡ without (front + p) ++ Some (handed p lt).0 ∷ (h.fronts p lt).0
-    tails p lt = (h.fronts p lt).1 ∙ (ap (λ l. l ++ (h.fronts p lt).0) (handed p lt).2 ∙ append_assoc (without (front + p)) (Some (handed p lt).0 ∷ []) (h.fronts p lt).0)
-
     ends_as : EndsAs front count lent0 (length left) s e
     ends_as =
         record {
           its_number = come.its_number;
           its_setting = come.its_setting;
           ended = come.ended;
-          knows = λ p lt.
-              let x = handed p lt in
-              let n : length left ≡ length (without (front + p)) = sym (at_length (λ s o. Holds (MayEnd limits_of p s) o) left (without (front + p)) (lent_less.others p lt)) in
-              (x.0, ap (λ l. slice_get l (length left)) (tails p lt) ∙ get_end (without (front + p)) (h.fronts p lt).0 (Some x.0) (length left) n, each_at (Knows e.history) come.passes p x.0 come.knows x.1);
+          knows = came_knows limits_of front count ss lent0 Stands size_of origin_of all left h.back s having without r e t split h.are come;
         }
 
     each_now : (i : ℕ) (u : Named Blocks) (f : Ending) → slice_get (s ∷ h.back) i ≡ Some u → slice_get (e ∷ es) i ≡ Some f → EndsAs front count lent0 (length left + i) u f
-    each_now zero u f is at =
-        let a : s ≡ u = cc is in
-        let b : e ≡ f = cc at in
-        let n : length left ≡ length left + 0 = omega arith in
-        subst (λ (q : ℕ). EndsAs front count lent0 q u f) n (subst (λ (u : Named Blocks). EndsAs front count lent0 (length left) u f) a (subst (λ (f : Ending). EndsAs front count lent0 (length left) s f) b ends_as))
-    each_now (suc i) u f is at =
-        let m = length-append left (s ∷ []) in
-        let k : length all ≡ length (left ++ s ∷ []) = ap length split in
-        let n : length all + i ≡ length left + suc i = omega (arith, m, k) in
-        subst (λ (q : ℕ). EndsAs front count lent0 q u f) n (h.each i u f is at)
+    each_now = each_behind (EndsAs front count lent0) all left h.back s es e split ends_as h.each
 
     traced_now : (i : ℕ) (u : Named Blocks) (f : Ending) (w : Traced) → slice_get (s ∷ h.back) i ≡ Some u → slice_get (e ∷ es) i ≡ Some f → slice_get (t ∷ ts) i ≡ Some w → IsTraceOf u f w
     traced_now zero u f w is at kept =
@@ -152,20 +111,18 @@ module _ (front count : ℕ) (ss : List (Named Blocks)) (lent0 : ℕ → List (O
     one_back =
         record {
           back = s ∷ h.back;
-          is = h.is ∙ (ap (λ (l : List (Named Blocks)). l ++ h.back) split ∙ append_assoc left (s ∷ []) h.back);
+          are = one_came limits_of front count ss lent0 Stands size_of origin_of all left h.back s having without r e t split h.are come;
           ends = ap suc h.ends;
           traces = ap suc h.traces;
-          fronts = λ p lt. (Some (handed p lt).0 ∷ (h.fronts p lt).0, tails p lt);
           each = each_now;
           traced = traced_now;
           placed = placed_now;
-          still = lent_less;
         }
 
   -- at the end all have
   pub all_back : (left : List (Named Blocks)) (lent : ℕ → List (Option (Pass Element))) (places : List (Option (Box BlockOf Global))) (es : List Ending) (ts : List Traced) → left ≡ [] → SoFar left lent places es ts → HasGathered front count ss lent0 places es ts
   all_back left lent places es ts none h =
-      let same : ss ≡ h.back = h.is ∙ ap (λ (l : List (Named Blocks)). l ++ h.back) none in
+      let same : ss ≡ h.back = all_came limits_of front count ss lent0 left h.back lent none h.are in
       subst (λ (l : List (Named Blocks)). HasGathered front count l lent0 places es ts) (sym same)
       (record {
         ends = h.ends;

@@ -1,14 +1,6 @@
 -- What is known when all jobs are done.
-use Rattle.std.proofs.Common.{◌≡◌, ℕ, ◌+◌, ◌-◌, ◌%◌, ◌<◌, Option, Some, None, List, [], ◌∷◌, inl, inr, length, slice_get, slice_index_or, ap, sym, ◌∙◌, subst, arith, eq-eqb}
-use Rattle.std.proofs.lemmas.Bool.{cases_lt}
-use Rattle.std.proofs.lemmas.Option.{slice_get_within}
-use Rattle.turn_gate.specs.History.{Each}
-use Rattle.turn_gate.specs.Passes.{IsPassOf, number, seen}
-use Rattle.turn_gate.specs.declared.pass.Pass.{Pass}
-use Rattle.perimeter_core.specs.History.{Element, run}
-use Rattle.perimeter_core.specs.Ending.{IsOver}
-use Rattle.squeue_state.specs.Naming.{Named, setting_of}
-use Rattle.squeue_state.specs.Elements.{number_of}
+use Rattle.std.proofs.Common.{◌≡◌, ℕ, ◌+◌, ◌%◌, ◌<◌, List, length, sym, refl, subst, arith, eq-eqb}
+use Rattle.squeue_state.specs.Naming.{Named}
 use Rattle.conn_classifier.specs.Plan.{PlanOf, IsPlan}
 use Rattle.conn_classifier.specs.RingList.{IsRingList}
 use Rattle.conn_blocks.specs.declared.blocks.Blocks.{Blocks}
@@ -16,157 +8,37 @@ use Rattle.conn_blocks.specs.CallLists.{CallLists}
 use Rattle.conn_blocks.specs.Places.{limits_of}
 use Rattle.squeue_serve.specs.declared.jobs.Job.{Job}
 use Rattle.squeue_serve.specs.Lending.{AreLent, lent_to, tasks_in}
-use Rattle.squeue_serve.specs.Places.{AtEach, Holds, IsNew, MayEnd}
-use Rattle.squeue_serve.proofs.Lent.{lent_got, past_jobs, some_at}
-use Rattle.squeue_enter.specs.declared.Mode.{Mode}
-use Rattle.squeue_rings.specs.Calling.{conns_called}
-use Rattle.squeue_rings.proofs.PacedAll.{closed_paced}
-use Rattle.squeue_rings.proofs.Slots.{got_map}
+use Rattle.squeue_serve.specs.Places.{IsNew, MayEnd}
+use Rattle.squeue_serve.proofs.Lent.{some_at}
+use Rattle.ring_jobs.specs.declared.lines.Line.{Line}
+use Rattle.ring_jobs.specs.declared.task.Task.{Task}
+use Rattle.ring_jobs.specs.Running.{HaveDone}
+use Rattle.ring_jobs.specs.Tasks.{AreLines, AreTasks, lists_of}
+use Rattle.ring_jobs.proofs.Finished.{caller_done, lent_back, ring_done, ring_paced}
+use Rattle.ring_jobs.proofs.Tasked.{list_is}
 use Rattle.ring_quotas.specs.declared.setup.Setup.{Setup}
 use Rattle.ring_quotas.proofs.Totals.{whole}
-use Rattle.ring_threads.specs.declared.lines.Line.{Line}
-use Rattle.ring_threads.specs.declared.task.Task.{Task}
-use Rattle.ring_threads.specs.declared.task.Task.TheVariants as Task'
-use Rattle.ring_threads.specs.Ends.{CallerEnds, CallersEnd, RingEnds, RingsEnd}
-use Rattle.ring_threads.specs.Running.{HasBroughtLine, HasDone, ThenClosed}
 use Rattle.ring_threads.specs.Settings.{AreSet, HasRun}
-use Rattle.ring_threads.specs.Tasks.{AreTasks, lists_of}
-use Rattle.ring_threads.proofs.Closes.{both}
-use Rattle.ring_threads.proofs.Closing.{callers_end, rings_end}
-use Rattle.ring_threads.proofs.Ready.{how_many, ring_task, rings_same}
-use Rattle.ring_threads.proofs.Tasked.{list_is}
-use Rattle.ring_threads.proofs.Works.{got_or}
+use Rattle.ring_threads.proofs.Ready.{rings_same}
 
--- a pass whose number isn't the worker's
-may_end : (s : Named Blocks) (n : ℕ) (o : Option (Pass Element)) (P : Pass Element → Type 0) → n < length s.given.quotas → ((x : Pass Element) → P x → IsPassOf number_of s.gate x × (number x ≡ n)) → Holds P o → Holds (MayEnd limits_of n s) o
-may_end s n None P lt f h = absurd h
-may_end s n (Some x) P lt f h = let i = f x h in record { pass = i.0; is_number = i.1; over = λ w. absurd (let e = i.1 in omega (arith, w, e, lt)) }
-
-each_two : (P Q : Named Blocks → Type 0) (ss : List (Named Blocks)) → Each P ss → Each Q ss → Each (λ s. P s × Q s) ss
-each_two P Q [] a b = tt
-each_two P Q (s ∷ ss) a b = ((a.0, b.0), each_two P Q ss a.1 b.1)
-
-abbrev HasEnd : Named Blocks → Pass Element → Type 0
-HasEnd s x = IsOver (setting_of limits_of s.given) (run (setting_of limits_of s.given) (seen x))
-
-module _ (p : PlanOf) (calls : CallLists) (setup : Setup) (ss : List (Named Blocks)) (set : AreSet p calls setup.squeues setup.rings setup.spread ss) (lines : List Line) (jobs new : List (Job Task))
-    (tasks : AreTasks p setup.squeues setup.rings lines (tasks_in jobs)) (lent : AreLent IsNew 1 (setup.rings + 4) ss (lent_to jobs)) (same : length new ≡ length jobs) where
-  abbrev squeues : ℕ
-  squeues = setup.squeues
-
+module _ (p : PlanOf) (calls : CallLists) (setup : Setup) (ss : List (Named Blocks)) (set : AreSet p calls setup.squeues setup.rings setup.spread ss) (lines : List Line) (are : AreLines (IsRingList p setup.rings) setup.rings lines) (jobs new : List (Job Task))
+    (tasks : AreTasks setup.rings 4 setup.squeues lines (tasks_in jobs)) (lent : AreLent IsNew 1 (setup.rings + 4) ss (lent_to jobs)) (same : length new ≡ length jobs)
+    (ran : HaveDone limits_of setup.squeues setup.spread setup.mode setup.budget calls lines ss jobs new) where
   abbrev rings : ℕ
   rings = setup.rings
 
-  abbrev spread : ℕ
-  spread = setup.spread
+  pub has_run : IsPlan p → HasRun p calls setup 1 (lists_of lines) ss (lent_to new)
+  has_run plan =
+      record {
+        set = set;
+        rings_end = ring_done limits_of setup.squeues setup.spread setup.mode setup.budget calls lines ss jobs new rings 4 (rings + 4) refl set.count tasks lent same ran;
+        paced = ring_paced limits_of setup.squeues setup.spread setup.mode setup.budget calls lines ss jobs new rings 4 (rings + 4) refl set.count tasks lent same ran;
+        brought_all = λ r c lt known ring.
+            let n = are.count in
+            let l = some_at lines r (omega (arith, lt, n)) in
+            whole p plan rings r (lists_of lines r) (subst (λ fs. IsRingList p rings r fs) (sym (list_is lines r l.0 l.1)) (are.each r l.0 l.1)) c known (eq-eqb (c % rings) r (sym ring));
+        callers_end = caller_done limits_of setup.squeues setup.spread setup.mode setup.budget calls lines ss jobs new rings 4 (rings + 4) refl set.count tasks lent same ran;
+      }
 
-  abbrev Done : Task → List (Option (Pass Element)) → List (Option (Pass Element)) → Type 0
-  Done t old now = HasDone limits_of squeues spread setup.mode setup.budget calls lines ss t old now
-
-  abbrev pub AllDone : Type 0
-  AllDone = (k : ℕ) (d : Job Task) → k < length jobs → Done (slice_index_or jobs k d).task (slice_index_or jobs k d).places.items (slice_index_or new k d).places.items
-
-  module _ (ran : AllDone) where
-    -- what the job of a task has done
-    done : (k : ℕ) (t : Task) → k < length jobs → slice_get (tasks_in jobs) k ≡ Some t → Done t (lent_to jobs k) (lent_to new k)
-    done k t lt at =
-        let j = some_at jobs k lt in
-        let n = some_at new k (omega (arith, lt, same)) in
-        let h = ran k j.0 lt in
-        let i : Some j.0.task ≡ Some t = sym (got_map (λ (j : Job Task). j.task) jobs k j.0 j.1) ∙ at in
-        let its : j.0.task ≡ t = cc i in
-        let old = got_or jobs k j.0 j.0 j.1 in
-        let now = got_or new k n.0 j.0 n.1 in
-        let a : Done j.0.task j.0.places.items (slice_index_or new k j.0).places.items = subst (λ (i : Job Task). Done i.task i.places.items (slice_index_or new k j.0).places.items) old h in
-        let b : Done j.0.task j.0.places.items n.0.places.items = subst (λ (i : Job Task). Done j.0.task j.0.places.items i.places.items) now a in
-        let c : Done t j.0.places.items n.0.places.items = subst (λ (u : Task). Done u j.0.places.items n.0.places.items) its b in
-        subst (λ (os : List (Option (Pass Element))). Done t os (lent_to new k)) (sym (lent_got jobs k j.0 j.1))
-        (subst (λ (os : List (Option (Pass Element))). Done t j.0.places.items os) (sym (lent_got new k n.0 n.1)) c)
-
-    count : length jobs ≡ 1 + (rings + 4) + squeues
-    count = how_many p calls squeues rings spread ss set lines jobs tasks lent
-
-    line_done : (r : ℕ) → r < rings → ThenClosed limits_of ss (HasBroughtLine limits_of squeues spread setup.mode setup.budget lines ss r) (lent_to new (1 + r))
-    line_done r lt =
-        let t = ring_task p calls squeues rings spread ss set lines jobs tasks lent r lt in
-        let n = count in
-        subst (λ (k : ℕ). ThenClosed limits_of ss (HasBroughtLine limits_of squeues spread setup.mode setup.budget lines ss k) (lent_to new (1 + r))) t.4.number (done (1 + r) (Task'.Bring t.1) (omega (arith, lt, n)) t.3)
-
-    ring_done : (r : ℕ) → r < rings → RingsEnd limits_of squeues spread r (lists_of lines r) ss (lent_to new (1 + r))
-    ring_done r lt = let h = line_done r lt in rings_end limits_of ss h.0 (lent_to new (1 + r)) h.2 squeues spread r (lists_of lines r) h.1.at
-
-    caller_done : (j : ℕ) → j < 4 → CallersEnd j (conns_called calls j) ss (lent_to new (1 + (rings + j)))
-    caller_done j lt =
-        let n = count in
-        let h = done (1 + (rings + j)) (Task'.Call j) (omega (arith, lt, n)) (tasks.callers j lt) in
-        callers_end limits_of ss h.0 (lent_to new (1 + (rings + j))) h.2 j (conns_called calls j) h.1
-
-    worker_done : (q : ℕ) (s : Named Blocks) → slice_get ss q ≡ Some s → (x : Pass Element) × (lent_to new (1 + (rings + 4) + q) ≡ Some x ∷ []) × MayEnd limits_of (rings + 4) s x
-    worker_done q s at =
-        let n = count in
-        let m = set.count in
-        let lt : q < squeues = (let w = slice_get_within ss q s at in omega (arith, w, m)) in
-        let h = done (1 + (rings + 4) + q) (Task'.Work q) (omega (arith, lt, n)) (tasks.workers q lt) in
-        let first = lent.workers q s at in
-        let i : Some h.0 ≡ Some s = sym h.3 ∙ at in
-        let it : h.0 ≡ s = cc i in
-        let j : Some h.1 ∷ [] ≡ Some first.0 ∷ [] = sym h.4 ∙ first.1 in
-        let from : h.1 ≡ first.0 = cc j in (
-          h.2,
-          h.5,
-          record {
-            pass = subst (λ (s : Named Blocks). IsPassOf number_of s.gate h.2) it h.6.0.goes_on.is_pass;
-            is_number = h.6.0.goes_on.same_number ∙ (ap number from ∙ first.2.is_number);
-            over = λ w. subst (λ (s : Named Blocks). HasEnd s h.2) it h.6.1;
-          },
-        )
-
-    pub has_run : IsPlan p → HasRun p calls setup 1 (lists_of lines) ss (lent_to new)
-    has_run plan =
-        record {
-          set = set;
-          rings_end = ring_done;
-          paced = λ r lt. let h = line_done r lt in closed_paced limits_of squeues spread setup.mode setup.budget r ss (lists_of lines r) (lists_of lines r) h.0 (lent_to new (1 + r)) h.1.at h.2 h.1.paced;
-          brought_all = λ r c lt known ring.
-              let t = ring_task p calls squeues rings spread ss set lines jobs tasks lent r lt in
-              let line = tasks.lines_are.each r t.0 t.2 in
-              whole p plan rings r (lists_of lines r) (subst (λ fs. IsRingList p rings r fs) (sym (list_is lines r t.0 t.2)) line.list) c known (eq-eqb (c % rings) r (sym ring));
-          callers_end = caller_done;
-        }
-
-    pub lent_back : AreLent (MayEnd limits_of) 1 (rings + 4) ss (lent_to new)
-    lent_back =
-        record {
-          counts = lent.counts;
-          others = λ k lt. elim (cases_lt k rings) [
-            | inl ring ↦
-                both (λ (s : Named Blocks). length s.given.quotas ≡ rings + 4) (λ s o. Holds (RingEnds limits_of squeues spread k (lists_of lines k) s) o) (λ s o. Holds (MayEnd limits_of k s) o)
-                (λ s o e h. may_end s k o (RingEnds limits_of squeues spread k (lists_of lines k) s) (omega (arith, ring, e)) (λ x i. (i.pass, i.is_number)) h)
-                ss (lent_to new (1 + k)) lent.counts (ring_done k ring).each
-            | inr past ↦
-                let j : ℕ = k - rings in
-                let less : j < 4 = omega (arith, past, lt) in
-                let z : rings + j ≡ k = omega (arith, past) in
-                subst (λ (k : ℕ). AtEach (λ s o. Holds (MayEnd limits_of k s) o) ss (lent_to new (1 + k))) z (caller_ends j less)
-          ];
-          workers = worker_done;
-          first_none = λ i lt.
-              let z : 0 ≡ i = omega (arith, lt) in
-              let n = count in
-              subst (λ (k : ℕ). lent_to new k ≡ []) z (done 0 (Task'.Feed tasks.feeder.0) (omega (arith, n)) tasks.feeder.1 ∙ lent.first_none 0 (omega arith));
-          last_none = λ i le. let n = count in let m = set.count in past_jobs new i (omega (arith, le, n, m, same));
-        }
-      where
-        caller_ends : (j : ℕ) → j < 4 → AtEach (λ s o. Holds (MayEnd limits_of (rings + j) s) o) ss (lent_to new (1 + (rings + j)))
-        caller_ends j lt =
-            both (λ (s : Named Blocks). (s.given.rings ≡ rings) × (length s.given.quotas ≡ rings + 4)) (λ s o. Holds (CallerEnds j s) o) (λ s o. Holds (MayEnd limits_of (rings + j) s) o)
-            (λ s o e h. may_end s (rings + j) o (CallerEnds j s) (let n = e.1 in omega (arith, lt, n)) (λ x i. (i.pass, i.is_number ∙ ap (λ (k : ℕ). k + j) e.0)) h)
-            ss (lent_to new (1 + (rings + j))) (each_two (λ (s : Named Blocks). s.given.rings ≡ rings) (λ (s : Named Blocks). length s.given.quotas ≡ rings + 4) ss (rings_same p calls squeues rings spread ss set) lent.counts) (caller_done j lt).each
-
--- the same at equal numbers
-pub at_pace : (calls : CallLists) (lines : List Line) (ss : List (Named Blocks)) (jobs new : List (Job Task)) (m n : ℕ) (o : Mode) (k squeues spread : ℕ) (mode : Mode) (budget : ℕ) → m ≡ squeues → n ≡ spread → o ≡ mode → k ≡ budget
-    → ((i : ℕ) (d : Job Task) → i < length jobs → HasDone limits_of m n o k calls lines ss (slice_index_or jobs i d).task (slice_index_or jobs i d).places.items (slice_index_or new i d).places.items)
-    → (i : ℕ) (d : Job Task) → i < length jobs → HasDone limits_of squeues spread mode budget calls lines ss (slice_index_or jobs i d).task (slice_index_or jobs i d).places.items (slice_index_or new i d).places.items
-at_pace calls lines ss jobs new m n o k squeues spread mode budget a b u v h i d lt =
-    let Of : ℕ → ℕ → Mode → ℕ → Type 0 = λ m n o k. HasDone limits_of m n o k calls lines ss (slice_index_or jobs i d).task (slice_index_or jobs i d).places.items (slice_index_or new i d).places.items in
-    subst (Of squeues spread mode) v (subst (λ (o : Mode). Of squeues spread o k) u (subst (λ (n : ℕ). Of squeues n o k) b (subst (λ (m : ℕ). Of m n o k) a (h i d lt))))
+  pub all_lent : AreLent (MayEnd limits_of) 1 (rings + 4) ss (lent_to new)
+  all_lent = lent_back limits_of setup.squeues setup.spread setup.mode setup.budget calls lines ss jobs new rings 4 (rings + 4) refl set.count tasks lent same ran (rings_same p calls setup.squeues rings setup.spread ss set)

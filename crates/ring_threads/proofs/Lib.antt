@@ -1,12 +1,6 @@
-mod AtTheEnd
 mod Back
-mod Closing
 mod MadeSqueues
 mod WholeRun
 mod FewFeeds
-mod Tasked
-mod Fed
-mod Closes
-mod Works
 mod Ready
 mod Finished

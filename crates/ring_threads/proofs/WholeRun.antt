@@ -47,13 +47,13 @@ use Rattle.run_histories.specs.Counting.{made_in_all}
 use Rattle.run_histories.proofs.AllActs.{are_all}
 use Rattle.run_histories.proofs.Called.{calls_of_all}
 use Rattle.run_histories.proofs.Ends.{all_fed, numbered}
-use Rattle.ring_threads.specs.Ends.{CallerEnds, RingEnds}
+use Rattle.ring_jobs.specs.Ends.{CallerEnds, RingEnds}
 use Rattle.ring_threads.specs.Gathering.{EndsAs, HasGathered, IsFrom, LiesSo}
 use Rattle.ring_threads.specs.Fits.{IsHereOnce}
 use Rattle.ring_threads.specs.Served.{HasServed, ServedOf}
 use Rattle.ring_threads.specs.ServedBlocks.{IsServing}
 use Rattle.ring_threads.specs.Settings.{HasRun, IsSet}
-use Rattle.ring_threads.proofs.AtTheEnd.{end_due, end_here, end_made, end_paced, end_stays, linked_same, noted_same, seen_count, seen_got}
+use Rattle.ring_jobs.proofs.AtTheEnd.{end_due, end_here, end_made, end_paced, end_stays, linked_same, noted_same, seen_count, seen_got}
 
 home_below : (squeues spread c n : ℕ) → 1 ≤ squeues → home squeues spread c n < squeues
 home_below squeues spread c n some = by (spread == 0)

@@ -26,7 +26,8 @@ first_of _ o = o
 
 -- the blocks of a squeue were put into places where others may lie
 abbrev pub WasAdded : Blocks → List (Option (Box BlockOf Global)) → List (Option (Box BlockOf Global)) → Type 0
-WasAdded r old new = (theirs : List (Option (Box BlockOf Global))) × (length new ≡ length old) × ((c : ℕ) → slice_get new c ≡ first_of (slice_get theirs c) (slice_get old c))
+WasAdded r old new = (theirs : List (Option (Box BlockOf Global))) × (length new ≡ length old)
+    × ((c : ℕ) → slice_get new c ≡ first_of (slice_get theirs c) (slice_get old c))
     × ((blocks : Had) → Stands r blocks → PlacesStand (origin_of r).plan (origin_of r).calls theirs blocks)
 
 -- Squeue number q of those lent ended so: its number and setting are those with which it was made, and each of its passes that is
@@ -63,9 +64,11 @@ module _ (ss : List (Named Blocks)) (es : List Ending) (c : ℕ) where
   LiesSo (Some (Some b)) = IsFrom b.value
 
 -- All these squeues ended and left their traces, and the blocks that they left lie at their places
-pub record HasGathered (front count : ℕ) (ss : List (Named Blocks)) (lent : ℕ → List (Option (Pass Element))) (places : List (Option (Box BlockOf Global))) (es : List Ending) (ts : List Traced) : Type 0 where
+pub record HasGathered (front count : ℕ) (ss : List (Named Blocks)) (lent : ℕ → List (Option (Pass Element)))
+    (places : List (Option (Box BlockOf Global))) (es : List Ending) (ts : List Traced) : Type 0 where
   pub ends : length es ≡ length ss
   pub traces : length ts ≡ length ss
   pub each : (q : ℕ) (s : Named Blocks) (e : Ending) → slice_get ss q ≡ Some s → slice_get es q ≡ Some e → EndsAs front count lent q s e
-  pub traced : (q : ℕ) (s : Named Blocks) (e : Ending) (t : Traced) → slice_get ss q ≡ Some s → slice_get es q ≡ Some e → slice_get ts q ≡ Some t → IsTraceOf s e t
+  pub traced : (q : ℕ) (s : Named Blocks) (e : Ending) (t : Traced) → slice_get ss q ≡ Some s → slice_get es q ≡ Some e
+      → slice_get ts q ≡ Some t → IsTraceOf s e t
   pub placed : (c : ℕ) → c < length places → LiesSo ss es c (slice_get places c)

@@ -27,4 +27,5 @@ pub record HasServed (p : PlanOf) (calls : CallLists) (setup : Setup) (v : Serve
   pub fits : Fits p calls setup v.ended (orders_of v)
   pub served : AreServed p calls v.blocks
   pub traces : length v.traces ≡ length v.ended
-  pub traced : (q : ℕ) (e : Ending) → slice_get v.ended q ≡ Some e → IfSome (slice_get v.traces q) (λ t. marks_of t ≡ (if setup.trace then map (λ m. m.mark) e.history else []))
+  pub traced : (q : ℕ) (e : Ending) → slice_get v.ended q ≡ Some e
+      → IfSome (slice_get v.traces q) (λ t. marks_of t ≡ (if setup.trace then map (λ m. m.mark) e.history else []))

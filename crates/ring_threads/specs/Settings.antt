@@ -13,7 +13,7 @@ use Rattle.squeue_rings.specs.Keeping.{ArePaced}
 use Rattle.squeue_rings.specs.Runs.{brought}
 use Rattle.ring_quotas.specs.declared.setup.Setup.{Setup}
 use Rattle.ring_quotas.specs.Quotas.{setting_at}
-use Rattle.ring_threads.specs.Ends.{CallersEnd, RingsEnd}
+use Rattle.ring_jobs.specs.Ends.{CallersEnd, RingsEnd}
 
 module _ (p : PlanOf) (calls : CallLists) (squeues rings spread : ℕ) where
   -- squeue number q was made for the plan and the calls, with its setting
@@ -29,7 +29,8 @@ module _ (p : PlanOf) (calls : CallLists) (squeues rings spread : ℕ) where
 
 -- By the passes that are lent from number `front` on, each ring has brought its list, which has all feeds of its connections, as the
 -- setup has it, and each application thread has made its calls
-pub record HasRun (p : PlanOf) (calls : CallLists) (setup : Setup) (front : ℕ) (lists : ℕ → List Feed) (ss : List (Named Blocks)) (lent : ℕ → List (Option (Pass Element))) : Type 0 where
+pub record HasRun (p : PlanOf) (calls : CallLists) (setup : Setup) (front : ℕ) (lists : ℕ → List Feed)
+    (ss : List (Named Blocks)) (lent : ℕ → List (Option (Pass Element))) : Type 0 where
   pub set : AreSet p calls setup.squeues setup.rings setup.spread ss
   pub rings_end : (r : ℕ) → r < setup.rings → RingsEnd limits_of setup.squeues setup.spread r (lists r) ss (lent (front + r))
   pub paced : (r : ℕ) → r < setup.rings → ArePaced limits_of setup.squeues setup.spread setup.mode setup.budget r ss (lent (front + r))

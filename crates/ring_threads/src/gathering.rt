@@ -27,7 +27,8 @@ pub fn gather<T>(
     ensures none { (squeues.new.all.items ≡ []) × (squeues.new.rooms.items ≡ []) }
     ensures back { (i : ℕ) → lent_to jobs.new.items i ≡ [] }
     ensures tasks { tasks_in jobs.new.items ≡ tasks_in jobs.old.items }
-    ensures gathered { HasGathered front count squeues.old.all.items (lent_to jobs.old.items) gathered.new.places.items (reverse gathered.new.ended.items) (reverse gathered.new.traces.items) }
+    ensures gathered { HasGathered front count squeues.old.all.items (lent_to jobs.old.items)
+        gathered.new.places.items (reverse gathered.new.ended.items) (reverse gathered.new.traces.items) }
     ensures count { length gathered.new.places.items ≡ length gathered.old.places.items }
 {
     while let Some((blocks, ended, trace)) = end_last(squeues, jobs, front, count) {

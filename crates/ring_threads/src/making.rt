@@ -11,13 +11,11 @@ ghost use Rattle.ring_threads.specs.Settings.{AreSet, IsSet};
 
 use conn_blocks::{Blocks, Calls};
 use conn_classifier::Plan;
+use ring_jobs::FRONT;
 use ring_quotas::{CALLERS, Setup, quotas_at};
 use squeue_serve::{Job, Squeues, lend};
 use squeue_state::{Pass, Squeue};
 use std::alloc::{AllocError, Global};
-
-/// How many jobs stand before those that are lent passes by number.
-pub const FRONT: usize = 1;
 
 /// How many jobs are lent a pass of each squeue.
 pub fn count_of(setup: &Setup) -> usize

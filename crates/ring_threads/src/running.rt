@@ -1,34 +1,28 @@
-//! What the threads of a run do, each its job.
-ghost use Rattle.std.specs.Prelude.{◌≡◌, ◌≤◌, ◌<◌, ◌+◌, ℕ, ◌∷◌, [], All, List, Some, length, slice_get, slice_index_or};
+//! How the threads of a run are set to work.
+ghost use Rattle.std.specs.Prelude.{◌≡◌, ◌<◌, ◌+◌, All, length};
+ghost use Rattle.conn_classifier.specs.RingList.{IsRingList};
 ghost use Rattle.conn_blocks.specs.Allowed.{all_calls};
 ghost use Rattle.conn_blocks.specs.Places.{limits_of, origin_of};
 ghost use Rattle.synch_enter.specs.Hinting.{conns_of, squeues_of};
-ghost use Rattle.squeue_serve.specs.declared.jobs.Job.{Job as JobOf};
 ghost use Rattle.squeue_serve.specs.Lending.{AreLent, lent_to, tasks_in};
 ghost use Rattle.squeue_serve.specs.Places.{IsNew, MayEnd};
-ghost use Rattle.squeue_rings.specs.Bringing.{AllBelow, AreAt, AreOneRun};
-ghost use Rattle.squeue_rings.specs.Calling.{CallersAt, conns_called};
-ghost use Rattle.squeue_rings.specs.Keeping.{ArePaced};
+ghost use Rattle.squeue_rings.specs.Bringing.{AllBelow, AreOneRun};
 ghost use Rattle.ring_quotas.specs.Quotas.{IsInRange};
-ghost use Rattle.ring_threads.specs.declared.lines.Line.{Line as LineOf};
-ghost use Rattle.ring_threads.specs.declared.task.Task.{Task as TaskOf};
+ghost use Rattle.ring_jobs.specs.Tasks.{AreLines, AreTasks, HaveRings, lists_of};
+ghost use Rattle.ring_jobs.specs.Running.{HaveDone, MayDoAll};
 ghost use Rattle.ring_threads.specs.Settings.{AreSet, HasRun};
-ghost use Rattle.ring_threads.specs.Tasks.{AreTasks, HasRing, lists_of};
-ghost use Rattle.ring_threads.specs.Running.{HasBroughtLine, HasDone, MayBringLine, MayCallAll, MayDo, ThenClosed};
 
-use crate::feeding::feed_all;
-use crate::lines::Line;
-use crate::task::{RingTask, Task};
 use conn_blocks::{Blocks, Calls};
 use conn_classifier::Plan;
-use perimeter_core::{Hook, Resident};
+use perimeter_core::Hook;
+use ring_jobs::{Line, Task, run_job};
 use ring_quotas::Setup;
-use squeue_rings::{Pace, bring_all, make_calls};
-use squeue_serve::{Job, close_all, work};
-use squeue_state::{Pass, Squeue};
+use squeue_rings::Pace;
+use squeue_serve::{Job, run_each};
+use squeue_state::Squeue;
 use std::alloc::Global;
 use std::sync::Wait;
-use std::thread::{Threads, for_each_mut};
+use std::thread::Threads;
 use synch_enter::Hints;
 
 /// Runs the jobs of new squeues beside each other, until all are done.
@@ -48,34 +42,28 @@ pub fn run<H: Hook + Sync, W: Threads + Wait + Sync>(
     requires calls { All (λ call. call.0 < length plan.now.tuples) (all_calls calls.now) }
     requires hints { (conns_of hints.now ≡ length plan.now.tuples) × (squeues_of hints.now ≡ setup.now.squeues) }
     requires set { AreSet plan.now calls.now setup.now.squeues setup.now.rings setup.now.spread squeues.now }
-    requires tasks { AreTasks plan.now setup.now.squeues setup.now.rings lines.now (tasks_in jobs.old) }
+    requires lines { AreLines (IsRingList plan.now setup.now.rings) setup.now.rings lines.now }
+    requires tasks { AreTasks setup.now.rings 4 setup.now.squeues lines.now (tasks_in jobs.old) }
     requires lent { AreLent IsNew 1 (setup.now.rings + 4) squeues.now (lent_to jobs.old) }
     ensures ran { HasRun plan.now calls.now setup.now 1 (lists_of lines.now) squeues.now (lent_to jobs.new) }
     ensures lent { AreLent (MayEnd limits_of) 1 (setup.now.rings + 4) squeues.now (lent_to jobs.new) }
     ensures count { length jobs.new ≡ length jobs.old }
 {
     plan.is_sound();
-    let pace = pace_of(setup);
-    run_all(rt, alloc, hook, squeues, hints, calls, pace, lines, jobs);
+    run_all(
+        rt,
+        alloc,
+        hook,
+        squeues,
+        hints,
+        calls,
+        setup.pace(),
+        lines,
+        jobs,
+    );
 }
 
-// How the setup has rings enter their feeds.
-fn pace_of(setup: &Setup) -> Pace
-    requires { IsInRange setup.now }
-    ensures squeues { result.homes.squeues ≡ setup.now.squeues }
-    ensures spread { result.homes.spread ≡ setup.now.spread }
-    ensures mode { result.mode ≡ setup.now.mode }
-    ensures budget { result.budget ≡ setup.now.budget }
-{
-    Pace {
-        homes: setup.homes(),
-        mode: setup.mode,
-        budget: setup.budget,
-    }
-}
-
-// Runs the jobs beside each other, each in a thread of its own. A worker waits for the others, so the workers stand last:
-// where no thread can be made the jobs run in order.
+// Runs the jobs beside each other. The workers stand last, so that no job waits for one behind it.
 fn run_all<H: Hook + Sync, W: Threads + Wait + Sync>(
     rt: &W,
     alloc: Global,
@@ -89,128 +77,15 @@ fn run_all<H: Hook + Sync, W: Threads + Wait + Sync>(
 )
     requires run { AreOneRun origin_of pace.homes.squeues squeues.now }
     requires hints { AllBelow (conns_of hints.now) squeues.now × (squeues_of hints.now ≡ pace.homes.squeues) }
-    requires lines { (r : ℕ) (l : LineOf) → slice_get lines.now r ≡ Some l → HasRing l }
-    requires ready { All (λ j. MayDo limits_of pace.homes.squeues pace.homes.spread calls.now lines.now squeues.now j.task j.places.items) jobs.old }
-    ensures { (k : ℕ) (d : JobOf TaskOf) → k < length jobs.old → HasDone limits_of pace.homes.squeues pace.homes.spread pace.mode pace.budget calls.now lines.now squeues.now (slice_index_or jobs.old k d).task (slice_index_or jobs.old k d).places.items (slice_index_or jobs.new k d).places.items }
+    requires lines { HaveRings lines.now }
+    requires ready { MayDoAll limits_of pace.homes.squeues pace.homes.spread calls.now lines.now squeues.now jobs.old }
+    ensures { HaveDone limits_of pace.homes.squeues pace.homes.spread pace.mode pace.budget calls.now lines.now squeues.now jobs.old jobs.new }
 {
-    if jobs.is_empty() {
-        return;
-    }
-    let threads = jobs.len();
-    for_each_mut(
+    run_each(
         rt,
         jobs,
-        threads,
         &|_, job: &mut Job<Task>| {
             run_job(rt, alloc, hook, squeues, hints, calls, pace, lines, job)
         },
     );
-}
-
-// Does one job.
-fn run_job<R: Resident, H: Hook, W: Wait>(
-    rt: &W,
-    alloc: Global,
-    hook: &H,
-    squeues: &[Squeue<R>],
-    hints: &Hints,
-    calls: &Calls,
-    pace: Pace,
-    lines: &[Line],
-    job: &mut Job<Task>,
-)
-    requires run { AreOneRun R.origin pace.homes.squeues squeues.now }
-    requires hints { AllBelow (conns_of hints.now) squeues.now × (squeues_of hints.now ≡ pace.homes.squeues) }
-    requires lines { (r : ℕ) (l : LineOf) → slice_get lines.now r ≡ Some l → HasRing l }
-    requires ready { MayDo R.limits pace.homes.squeues pace.homes.spread calls.now lines.now squeues.now job.old.task job.old.places.items }
-    ensures { HasDone R.limits pace.homes.squeues pace.homes.spread pace.mode pace.budget calls.now lines.now squeues.now job.old.task job.old.places.items job.new.places.items }
-{
-    let places = &mut job.places;
-    match &mut job.task {
-        Task::Feed(ends) => feed_all(rt, lines, ends),
-        Task::Bring(task) => bring(rt, alloc, hook, squeues, hints, pace, lines, task, places),
-        Task::Call(thread) => call(rt, alloc, hook, squeues, hints, calls, *thread, places),
-        Task::Work(q) => work(rt, alloc, hook, &squeues[*q as usize], &mut places[0]),
-    }
-}
-
-// Brings the feeds of a ring's line, and closes its passes.
-fn bring<R: Resident, H: Hook, W: Wait>(
-    rt: &W,
-    alloc: Global,
-    hook: &H,
-    squeues: &[Squeue<R>],
-    hints: &Hints,
-    pace: Pace,
-    lines: &[Line],
-    task: &mut RingTask,
-    places: &mut Vec<Option<Pass>>,
-)
-    requires run { AreOneRun R.origin pace.homes.squeues squeues.now }
-    requires hints { AllBelow (conns_of hints.now) squeues.now × (squeues_of hints.now ≡ pace.homes.squeues) }
-    requires ready { MayBringLine R.limits pace.homes.squeues pace.homes.spread lines.now squeues.now task.old places.old.items }
-    ensures { ThenClosed R.limits squeues.now (HasBroughtLine R.limits pace.homes.squeues pace.homes.spread pace.mode pace.budget lines.now squeues.now task.old.number) places.new.items }
-{
-    bring_line(rt, alloc, hook, squeues, hints, pace, lines, task, places);
-    close_all(rt, squeues, places);
-}
-
-// Brings the feeds of a ring's line, if there are any.
-fn bring_line<R: Resident, H: Hook, W: Wait>(
-    rt: &W,
-    alloc: Global,
-    hook: &H,
-    squeues: &[Squeue<R>],
-    hints: &Hints,
-    pace: Pace,
-    lines: &[Line],
-    task: &mut RingTask,
-    places: &mut Vec<Option<Pass>>,
-)
-    requires run { AreOneRun R.origin pace.homes.squeues squeues.now }
-    requires hints { AllBelow (conns_of hints.now) squeues.now × (squeues_of hints.now ≡ pace.homes.squeues) }
-    requires ready { MayBringLine R.limits pace.homes.squeues pace.homes.spread lines.now squeues.now task.old places.old.items }
-    ensures at { AreAt R.limits pace.homes.squeues pace.homes.spread task.old.number squeues.now (lists_of lines.now task.old.number) (lists_of lines.now task.old.number) places.new.items }
-    ensures paced { ArePaced R.limits pace.homes.squeues pace.homes.spread pace.mode pace.budget task.old.number squeues.now places.new.items }
-{
-    let line = &lines[task.number as usize];
-    let Some(ring) = &line.ring else {
-        return;
-    };
-    let Some(end) = &mut task.end else {
-        unreachable!()
-    };
-    bring_all(
-        rt,
-        alloc,
-        hook,
-        squeues,
-        hints,
-        pace,
-        &line.list,
-        ring,
-        end,
-        &mut task.polling,
-        places,
-    );
-}
-
-// Makes the calls of an application thread, and closes its passes.
-fn call<R: Resident, H: Hook, W: Wait>(
-    rt: &W,
-    alloc: Global,
-    hook: &H,
-    squeues: &[Squeue<R>],
-    hints: &Hints,
-    calls: &Calls,
-    thread: u32,
-    places: &mut Vec<Option<Pass>>,
-)
-    requires some { 0 < length squeues.now }
-    requires hints { AllBelow (conns_of hints.now) squeues.now × (squeues_of hints.now ≡ length squeues.now) }
-    requires ready { MayCallAll R.limits calls.now squeues.now thread places.old.items }
-    ensures { ThenClosed R.limits squeues.now (CallersAt R.limits thread (conns_called calls.now thread) squeues.now) places.new.items }
-{
-    make_calls(rt, alloc, hook, squeues, hints, calls, thread, places);
-    close_all(rt, squeues, places);
 }

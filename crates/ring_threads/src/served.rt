@@ -127,7 +127,8 @@ impl Gathered {
         ensures ended { IfOk result (λ v. v.ended ≡ reverse self.ended.items) }
         ensures traces { IfOk result (λ v. v.traces ≡ reverse self.traces.items) }
         ensures count { IfOk result (λ v. length v.blocks ≡ length self.places.items) }
-        ensures blocks { IfOk result (λ v. (c : ℕ) (b : Box BlockOf Global) → slice_get self.places.items c ≡ Some (Some b) → (slice_get v.blocks c ≡ Some b.value) × (b.value.short ≡ false)) }
+        ensures blocks { IfOk result (λ v. (c : ℕ) (b : Box BlockOf Global) → slice_get self.places.items c ≡ Some (Some b)
+            → (slice_get v.blocks c ≡ Some b.value) × (b.value.short ≡ false)) }
     {
         let Gathered {
             places,

@@ -1,27 +1,28 @@
 //! All connections of a plan, served by threads over squeues.
 ghost use Rattle.std.specs.Prelude.{◌≡◌, ◌<◌, ◌≤◌, ◌+◌, [], All, IfOk, length, vec_capacity};
+ghost use Rattle.conn_classifier.specs.RingList.{IsRingList};
 ghost use Rattle.conn_blocks.specs.Allowed.{all_calls};
 ghost use Rattle.conn_blocks.specs.Places.{limits_of};
 ghost use Rattle.synch_enter.specs.Hinting.{conns_of, squeues_of};
 ghost use Rattle.squeue_serve.specs.Places.{IsNew, MayEnd};
 ghost use Rattle.squeue_serve.specs.Lending.{AreLent, HaveRoom, lent_to, tasks_in};
 ghost use Rattle.ring_quotas.specs.Quotas.{IsInRange};
+ghost use Rattle.ring_jobs.specs.Tasks.{AreLines, AreTasks, lists_of};
 ghost use Rattle.ring_threads.specs.Gathering.{AreEmpty};
 ghost use Rattle.ring_threads.specs.Served.{HasServed};
 ghost use Rattle.ring_threads.specs.Settings.{AreSet, HasRun};
-ghost use Rattle.ring_threads.specs.Tasks.{AreTasks, lists_of};
 
 use crate::gathering::gather;
-use crate::lines::Line;
-use crate::making::{FRONT, count_of, make_all};
+use crate::lines::lines_of;
+use crate::making::{count_of, make_all};
 use crate::running::run;
 use crate::served::{Gathered, Served};
-use crate::task::{Task, tasks_of};
 use conn_blocks::laws::{a_block_holds_back_what_settling_holds, a_settled_order_is_whole};
 use conn_blocks::{Blocks, Calls};
 use conn_classifier::Plan;
 use perimeter_core::Hook;
-use ring_quotas::Setup;
+use ring_jobs::{FRONT, Line, Task, tasks_of};
+use ring_quotas::{CALLERS, Setup};
 use squeue_serve::{Job, Squeues, discard, jobs_of, run_unused};
 use squeue_state::Squeue;
 use std::alloc::{AllocError, Global};
@@ -43,7 +44,8 @@ pub fn serve<H: Hook + Sync, W: Threads + Wait + Sync>(
     ensures { IfOk result (λ v. HasServed plan.now calls.now setup.now v) }
 {
     let hints = Hints::make(alloc, plan.conns(), setup.squeues)?;
-    let (lines, tasks) = tasks_of(alloc, plan, setup)?;
+    let rings = lines_of(alloc, plan, setup.rings)?;
+    let (lines, tasks) = tasks_of(alloc, rings, CALLERS, setup.squeues)?;
     let gathered = Gathered::with_room(alloc, plan.conns(), setup.squeues)?;
     let jobs = jobs_of(alloc, tasks, setup.squeues as usize)?;
     match Squeues::with_room(alloc, setup.squeues as usize) {
@@ -74,7 +76,8 @@ fn serve_by<'p, H: Hook + Sync, W: Threads + Wait + Sync>(
     requires setup { IsInRange setup.now }
     requires calls { All (λ call. call.0 < length plan.now.tuples) (all_calls calls.now) }
     requires hints { (conns_of hints.now ≡ length plan.now.tuples) × (squeues_of hints.now ≡ setup.now.squeues) }
-    requires tasks { AreTasks plan.now setup.now.squeues setup.now.rings lines.now (tasks_in jobs.items) }
+    requires lines { AreLines (IsRingList plan.now setup.now.rings) setup.now.rings lines.now }
+    requires tasks { AreTasks setup.now.rings 4 setup.now.squeues lines.now (tasks_in jobs.items) }
     requires jobs { All (λ j. j.places.items ≡ []) jobs.items × HaveRoom setup.now.squeues jobs.items }
     requires squeues { (squeues.all.items ≡ []) × (squeues.rooms.items ≡ []) }
     requires room { (setup.now.squeues ≤ vec_capacity squeues.all) × (setup.now.squeues ≤ vec_capacity squeues.rooms) }
@@ -134,7 +137,8 @@ fn run_or_end<H: Hook + Sync, W: Threads + Wait + Sync>(
     requires hints { (conns_of hints.now ≡ length plan.now.tuples) × (squeues_of hints.now ≡ setup.now.squeues) }
     requires set { IfOk made.now (λ _. AreSet plan.now calls.now setup.now.squeues setup.now.rings setup.now.spread squeues.now) }
     requires few { length squeues.now ≤ setup.now.squeues }
-    requires tasks { AreTasks plan.now setup.now.squeues setup.now.rings lines.now (tasks_in jobs.old.items) }
+    requires lines { AreLines (IsRingList plan.now setup.now.rings) setup.now.rings lines.now }
+    requires tasks { AreTasks setup.now.rings 4 setup.now.squeues lines.now (tasks_in jobs.old.items) }
     requires lent { AreLent IsNew 1 (setup.now.rings + 4) squeues.now (lent_to jobs.old.items) }
     ensures ran { IfOk made.now (λ _. HasRun plan.now calls.now setup.now 1 (lists_of lines.now) squeues.now (lent_to jobs.new.items)) }
     ensures lent { AreLent (MayEnd limits_of) 1 (setup.now.rings + 4) squeues.now (lent_to jobs.new.items) }

@@ -12,17 +12,15 @@ use key_counters::Counters;
 use perimeter_core::{Feed, NoHook, Resident};
 use squeue_drain::worker;
 use squeue_enter::{Entered, Mode, enter};
+use squeue_serve::run_each;
 use squeue_state::{Pass, Squeue};
 use std::alloc::Global;
 use std::cmp;
 use std::sync::Wait;
-use std::thread::{Threads, for_each_mut, join_mut};
+use std::thread::{Threads, join_mut};
 
 /// How many feeds an owner processes at most before it leaves the rest to the worker.
 const BUDGET: u32 = 64;
-
-/// At most so many rings, and so many workers, run beside each other.
-const MOST: usize = 64;
 
 /// How the rings enter: in which mode, and with chains of how many feeds.
 #[derive(Clone, Copy)]
@@ -43,7 +41,8 @@ pub struct Worker {
     pub room: Vec<Pass>,
 }
 
-/// Every ring brings what it has to each squeue and closes its passes, while the workers work to the end.
+/// Every ring brings what it has to each squeue and closes its passes, while the workers work to the end. The workers wait for the
+/// rings, so the rings run on this thread, and the workers after them where no thread can be made.
 pub fn run_all<W: Threads + Wait + Sync>(
     rt: &W,
     alloc: Global,
@@ -61,13 +60,13 @@ pub fn run_all<W: Threads + Wait + Sync>(
     join_mut(
         rt,
         &mut ||
-            requires { (1 ≤ way.chain) × MayRun limits_of squeues.now rings.now }
-            ensures { (length rings.exit.now ≡ length rings.entry.now) × HaveClosed squeues.entry.now rings.exit.now }
-        { run_rings(rt, alloc, squeues, way, rings) },
-        &mut ||
             requires { AtEach IsWorker squeues.now workers.now }
             ensures { AtEach (HasWorked limits_of) squeues.entry.now workers.exit.now }
         { run_workers(rt, alloc, squeues, workers) },
+        &mut ||
+            requires { (1 ≤ way.chain) × MayRun limits_of squeues.now rings.now }
+            ensures { (length rings.exit.now ≡ length rings.entry.now) × HaveClosed squeues.entry.now rings.exit.now }
+        { run_rings(rt, alloc, squeues, way, rings) },
     );
 }
 
@@ -83,10 +82,9 @@ fn run_rings<W: Threads + Wait + Sync>(
     ensures as_many { length rings.new ≡ length rings.old }
     ensures rings { HaveClosed squeues.now rings.new }
 {
-    for_each_mut(
+    run_each(
         rt,
         rings,
-        MOST,
         &|k, ring: &mut Ring| { run_ring(rt, alloc, squeues, k, ring, way) },
     );
 }
@@ -100,10 +98,9 @@ fn run_workers<W: Threads + Wait + Sync>(
     requires { AtEach IsWorker squeues.now workers.old }
     ensures { AtEach (HasWorked limits_of) squeues.now workers.new }
 {
-    for_each_mut(
+    run_each(
         rt,
         workers,
-        MOST,
         &|q, job: &mut Worker|
             requires { (q < length squeues.now) × ((s : Named Counters) → IsWorker (slice_index_or squeues.now q s) job.now) }
             ensures { (s : Named Counters) → HasWorked limits_of (slice_index_or squeues.entry.now q s) job.exit.now }

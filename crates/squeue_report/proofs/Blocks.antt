@@ -1,5 +1,5 @@
 -- The text of all connections, by their blocks and by their orders.
-use Rattle.std.proofs.Common.{◌≡◌, ℕ, ◌+◌, ◌<◌, ◌≤◌, List, [], ◌∷◌, ◌++◌, suc, zero, length, drop, get_or, map, slice_get, codes, Option, Some, None, IfSome, Bool, refl, sym, ap, subst, ◌∙◌, append_assoc, arith, add-one}
+use Rattle.std.proofs.Common.{◌≡◌, ℕ, ◌+◌, ◌<◌, ◌≤◌, List, [], ◌∷◌, ◌++◌, suc, length, drop, get_or, map, slice_get, codes, Option, Some, None, IfSome, Bool, refl, sym, ap, subst, ◌∙◌, append_assoc, arith}
 use Rattle.std.specs.List.{flat_map, enumerate_from}
 use Rattle.std.specs.Option.{option_map}
 use Rattle.std.proofs.lemmas.List.{drop_all, append-nil}
@@ -7,6 +7,7 @@ use Rattle.std.proofs.lemmas.Option.{get_or_from_slice_get, slice_get-map}
 use Rattle.perimeter_core.specs.declared.entries.Act.{Act}
 use Rattle.sq_base.specs.declared.kinds.Tuple.{Tuple}
 use Rattle.conn_classifier.specs.Plan.{PlanOf}
+use Rattle.conn_classifier.proofs.RingLaw.{drop_at}
 use Rattle.perimeter_core.specs.declared.marks.Mark.{Mark}
 use Rattle.ring_quotas.specs.declared.setup.Setup.{Setup}
 use Rattle.conn_blocks.specs.CallLists.{CallLists}
@@ -21,19 +22,13 @@ blocks_text c [] bs = []
 blocks_text c (t ∷ ts) [] = []
 blocks_text c (t ∷ ts) (b ∷ bs) = conn_text c t b.order (serving_of b) ++ blocks_text (c + 1) ts bs
 
-from_place : {X : Type 0} (xs : List X) (c : ℕ) (x : X) → slice_get xs c ≡ Some x → drop c xs ≡ x ∷ drop (c + 1) xs
-from_place [] zero x e = cc
-from_place [] (suc c) x e = cc
-from_place (y ∷ xs) zero x e = let same : y ≡ x = cc in ap (λ z. z ∷ xs) same
-from_place (y ∷ xs) (suc c) x e = rw add-one (let more = from_place xs c x e in rw add-one at more)
-
 -- one connection more
 pub block_more : (ts : List Tuple) (bs : List BlockOf) (whole was new : List ℕ) (c : ℕ) (t : Tuple) (b : BlockOf)
     → was ++ blocks_text c (drop c ts) (drop c bs) ≡ whole → slice_get ts c ≡ Some t → slice_get bs c ≡ Some b
     → new ≡ was ++ conn_text c t b.order (serving_of b) → new ++ blocks_text (c + 1) (drop (c + 1) ts) (drop (c + 1) bs) ≡ whole
 block_more ts bs whole was new c t b so_far e f n =
-    let tuples = from_place ts c t e in
-    let blocks = from_place bs c b f in
+    let tuples = drop_at ts c t e in
+    let blocks = drop_at bs c b f in
     let rest = blocks_text (c + 1) (drop (c + 1) ts) (drop (c + 1) bs) in
     ap (λ l. l ++ rest) n ∙ append_assoc was (conn_text c t b.order (serving_of b)) rest
     ∙ sym ((λ k. was ++ blocks_text c (tuples k) (blocks k))) ∙ so_far

@@ -8,13 +8,13 @@ use Rattle.conn_blocks.specs.CallLists.{CallLists}
 use Rattle.conn_blocks.specs.ServeOrder.{BlockOf, Serving, serve, serving_of}
 use Rattle.ring_threads.specs.ServedBlocks.{AreServed}
 use Rattle.squeue_report.specs.SummaryText.{reply_count, octet_count, text_size}
-use Rattle.squeue_report.proofs.Lines.{take_next}
+use Rattle.squeue_rings.proofs.Slots.{take_one}
 use Rattle.squeue_report.proofs.Blocks.{Agrees, agrees}
 
 pub sum_more : {X : Type 0} (f : X → ℕ) (xs : List X) (i n m : ℕ) (x : X) → n ≡ sum_by f (take i xs) → slice_get xs i ≡ Some x → m ≡ n + f x
     → m ≡ sum_by f (take (i + 1) xs)
 sum_more f xs i n m x so_far here more =
-    let on = ap (sum_by f) (take_next xs i x here) ∙ sum_by-append f (take i xs) (x ∷ []) in
+    let on = ap (sum_by f) (take_one xs i x here) ∙ sum_by-append f (take i xs) (x ∷ []) in
     omega (arith, on, so_far, more)
 
 module _ (p : PlanOf) (calls : CallLists) (orders : List (List Act)) (h : Serving → ℕ) where

@@ -42,7 +42,8 @@ end_field a port = join_with_byte 46 (map decimal (big_bytes 4 a.0)) ++ 58 ∷ d
 
 -- the client first
 unfoldable pub conn_line : ℕ → Tuple → List ℕ
-conn_line c t = line (codes "conn" ∷ decimal c ∷ end_field t.client t.client_port ∷ end_field t.server t.server_port ∷ service_word (service_of t.server_port) ∷ [])
+conn_line c t = line (
+    codes "conn" ∷ decimal c ∷ end_field t.client t.client_port ∷ end_field t.server t.server_port ∷ service_word (service_of t.server_port) ∷ [])
 
 -- an entry of an order: the feeds from one number to another, or a call
 pub data Entry : Type 0 where
@@ -86,7 +87,9 @@ end_line state = line (codes "end" ∷ state_word state ∷ [])
 
 -- a connection that was served in this order
 unfoldable pub conn_text : ℕ → Tuple → List Act → Serving → List ℕ
-conn_text c t order s = conn_line c t ++ (order_line order ++ (flat_map (reply_line t) s.block.replies ++ (flat_map answer_line s.answers ++ end_line s.block.state)))
+conn_text c t order s =
+    conn_line c t ++ (order_line order
+    ++ (flat_map (reply_line t) s.block.replies ++ (flat_map answer_line s.answers ++ end_line s.block.state)))
 
 -- what stands between the first line and the last: the counts, and each connection, served by number in this order on one thread
 unfoldable pub body_text : PlanOf → CallLists → List (List Act) → List ℕ

@@ -42,4 +42,5 @@ summary_line number bytes records conns replies octets check = line (
 -- the run over the input that was generated for a number
 unfoldable pub summary_text : ℕ → List ℕ → PlanOf → CallLists → List (List Act) → List ℕ
 summary_text number input p calls orders =
-    summary_line number (length input) p.counts.records (length p.tuples) (reply_count p calls orders) (octet_count p calls orders) (digits_of (check_of (report_text p calls orders)))
+    summary_line number (length input) p.counts.records (length p.tuples) (reply_count p calls orders) (octet_count p calls orders)
+    (digits_of (check_of (report_text p calls orders)))

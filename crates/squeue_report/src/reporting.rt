@@ -7,7 +7,8 @@ ghost use Rattle.tcb_machine.specs.BlockState.{IsOurs};
 ghost use Rattle.conn_blocks.specs.CallLists.{CallLists};
 ghost use Rattle.conn_blocks.specs.ServeOrder.{serving_of};
 ghost use Rattle.ring_threads.specs.ServedBlocks.{AreServed};
-ghost use Rattle.squeue_report.specs.ReportText.{counts_line, end_field, conn_line, entries_of, entry_field, feeds, line_end, order_line, reply_line, answer_line, conn_text, body_text, report_text};
+ghost use Rattle.squeue_report.specs.ReportText.{counts_line, end_field, conn_line, entries_of, entry_field, feeds, line_end};
+ghost use Rattle.squeue_report.specs.ReportText.{order_line, reply_line, answer_line, conn_text, body_text, report_text};
 
 use crate::names::{service_name, state_name};
 use conn_blocks::{Act, Block};

@@ -13,7 +13,9 @@ use ring_threads::serve;
 use sq_base::Octets;
 use squeue_enter::Mode;
 use std::alloc::{AllocError, Global};
+use std::sync::Wait;
 use std::test::Fail;
+use std::thread::Threads;
 use tcb_machine::{Call, State};
 
 /// A capture of one echo connection in five segments: the header, and the records.
@@ -37,7 +39,14 @@ const FIVE_BODY: &str = concat!(
     "end LISTEN\n",
 );
 
-/// Its first two segments with a close: the orders in which it may come, and what follows the order's line.
+/// Its first two segments with a close: what stands before the order's line.
+const BEFORE_CLOSES: &str = concat!(
+    "report 1\n",
+    "records 2 tail 0 served 2 nofit 0 server 0 other 0 fragment 0 cut 0 malformed 0 badsum 0 connections 1\n",
+    "conn 0 10.0.0.1:4000 10.0.0.2:7 echo\n",
+);
+
+/// The orders in which the close may come, and what follows the order's line.
 const CLOSES: [(&str, &str); 4] = [
     ("order c0.0 f0-2\n", NOT_OPEN),
     ("order f0 c0.0 f1-2\n", NOT_OPEN),
@@ -70,17 +79,17 @@ const ONE: Setup = Setup {
     trace: false,
 };
 
-fn read(rt: &HostRuntime, lines: &[&str]) -> Result<Capture, Fail> {
-    let mut bytes = Vec::new(rt.alloc());
+fn read(alloc: Global, lines: &[&str]) -> Result<Capture, Fail> {
+    let mut bytes = Vec::new(alloc);
     for line in lines {
-        bytes.extend_from_slice(hex::decode(rt.alloc(), *line)?.as_slice())?;
+        bytes.extend_from_slice(hex::decode(alloc, *line)?.as_slice())?;
     }
-    Ok(parse_capture(rt.alloc(), Octets::wrap(bytes))?)
+    Ok(parse_capture(alloc, Octets::wrap(bytes))?)
 }
 
 #[test]
 fn five_segment_echo(rt: HostRuntime) -> Result<(), Fail> {
-    let capture = read(&rt, &FIVE)?;
+    let capture = read(rt.alloc(), &FIVE)?;
     let plan = plan(&rt, rt.alloc(), &capture, false)?;
     let served = serve(
         &rt,
@@ -103,18 +112,16 @@ fn five_segment_echo(rt: HostRuntime) -> Result<(), Fail> {
 
 #[test]
 fn a_close_among_the_feeds(rt: HostRuntime) -> Result<(), Fail> {
-    let capture = read(&rt, &FIVE[..3])?;
+    let capture = read(rt.alloc(), &FIVE[..3])?;
     let plan = plan(&rt, rt.alloc(), &capture, false)?;
     assert_eq!(rt; plan.conns(), 1);
     let mut calls = Calls::make(rt.alloc());
     calls.push(0, 0, Call::Close)?;
     let served = serve(&rt, rt.alloc(), &plan, &calls, &ONE, &NoHook)?;
     let text = report(rt.alloc(), &plan, &served)?;
-    let begin =
-        "report 1\nrecords 2 tail 0 served 2 nofit 0 server 0 other 0 fragment 0 cut 0 malformed 0 badsum 0 connections 1\nconn 0 10.0.0.1:4000 10.0.0.2:7 echo\n";
     let mut is_known = false;
     for (order, more) in CLOSES {
-        let lines = format!(in rt.alloc(); "{begin}{order}{more}")?;
+        let lines = format!(in rt.alloc(); "{BEFORE_CLOSES}{order}{more}")?;
         if text.as_slice() == lines.as_bytes() {
             is_known = true;
         }
@@ -160,34 +167,59 @@ fn four_calls(alloc: Global) -> Result<Calls, AllocError>
     Ok(calls)
 }
 
+/// What stands before the marks of the first squeue.
+const BEFORE_MARKS: &str = concat!(
+    "\nsetup squeues 2 rings 2 mode fill budget 1 spread 1 verify 0\n",
+    "call 0:0:status\ncall 0:0:close\ncall 1:0:status\ncall 3:0:buffer=512\n",
+    "squeue 0 marks ",
+);
+
+/// Two squeues and two rings, with moves and marks.
+const TRACED: Setup = Setup {
+    squeues: 2,
+    rings: 2,
+    mode: Mode::Fill,
+    budget: 1,
+    spread: 1,
+    trace: true,
+};
+
+/// The traced report of the five segments with the calls; nothing where the capture hasn't one connection.
+fn traced_report<W: Threads + Wait + Sync>(rt: &W, alloc: Global) -> Result<Octets, Fail> {
+    let capture = read(alloc, &FIVE)?;
+    let plan = plan(rt, alloc, &capture, false)?;
+    if plan.conns() != 1 {
+        return Ok(Octets::wrap(Vec::new(alloc)));
+    }
+    let calls = four_calls(alloc)?;
+    let served = serve(rt, alloc, &plan, &calls, &TRACED, &NoHook)?;
+    Ok(report2(alloc, &plan, &calls, &TRACED, false, &served)?)
+}
+
+/// Whether the marks enter the feeds as `FILLS` has them.
+fn enters_the_feeds(text: &str) -> bool {
+    text.lines()
+        .filter(|line| line.starts_with("fill "))
+        .eq(FILLS.iter().copied())
+}
+
+/// Whether the marks report the acts as often as `ACTS` has them.
+fn reports_the_acts(text: &str) -> bool {
+    for (act, times) in ACTS {
+        if ending(text, act) != times {
+            return false;
+        }
+    }
+    true
+}
+
 #[test]
 fn traced_calls_and_moves(rt: HostRuntime) -> Result<(), Fail> {
-    let capture = read(&rt, &FIVE)?;
-    let plan = plan(&rt, rt.alloc(), &capture, false)?;
-    assert_eq!(rt; plan.conns(), 1);
-    let calls = four_calls(rt.alloc())?;
-    let setup = Setup {
-        squeues: 2,
-        rings: 2,
-        mode: Mode::Fill,
-        budget: 1,
-        spread: 1,
-        trace: true,
-    };
-    let served = serve(&rt, rt.alloc(), &plan, &calls, &setup, &NoHook)?;
-    let text = report2(rt.alloc(), &plan, &calls, &setup, false, &served)?;
+    let text = traced_report(&rt, rt.alloc())?;
     let text = str::from_utf8(text.as_slice())?;
-    let added = concat!(
-        "\nsetup squeues 2 rings 2 mode fill budget 1 spread 1 verify 0\n",
-        "call 0:0:status\ncall 0:0:close\ncall 1:0:status\ncall 3:0:buffer=512\n",
-        "squeue 0 marks ",
-    );
-    assert!(rt; text.contains(added));
-    let fills = text.lines().filter(|line| line.starts_with("fill "));
-    assert!(rt; fills.eq(FILLS.iter().copied()));
-    for (act, times) in ACTS {
-        assert_eq!(rt; ending(text, act), times, "{act}");
-    }
+    assert!(rt; text.contains(BEFORE_MARKS));
+    assert!(rt; enters_the_feeds(text));
+    assert!(rt; reports_the_acts(text));
     Ok(())
 }
 

@@ -1,13 +1,14 @@
 //! The report of a run that kept its marks.
 
 ghost use Rattle.std.specs.Prelude.{◌≡◌, ◌+◌, ◌<◌, ◌≤◌, ◌∷◌, ◌++◌, length, drop, map, take, IfOk, OnOk, string_bytes};
-ghost use Rattle.std.specs.List.{enumerate_from, flat_map};
+ghost use Rattle.std.specs.List.{flat_map};
 ghost use Rattle.perimeter_core.specs.declared.marks.Mark.TheVariants as On;
 ghost use Rattle.squeue_trace.specs.Told.{Within, mark_of, marks_of};
-ghost use Rattle.conn_blocks.specs.CallLists.{CallLists, calls_of};
+ghost use Rattle.conn_blocks.specs.CallLists.{calls_of};
 ghost use Rattle.ring_threads.specs.ServedBlocks.{AreServed};
 ghost use Rattle.squeue_report.specs.ReportText.{line_end};
-ghost use Rattle.squeue_report.specs.TraceText.{mode_word, setup_line, call_line, thread_text, calls_text, entered_field, mark_line, squeue_line, squeue_text, trace_text};
+ghost use Rattle.squeue_report.specs.TraceText.{mode_word, setup_line, call_line, thread_text, calls_text};
+ghost use Rattle.squeue_report.specs.TraceText.{entered_field, mark_line, squeue_line, squeue_text, trace_text};
 
 use crate::reporting::push_body;
 use conn_blocks::Calls;

@@ -31,3 +31,4 @@ mod WorkedGenerator
 mod GeneratedSize
 mod GeneratedAccepted
 mod GeneratedRead
+pub mod NoSpread

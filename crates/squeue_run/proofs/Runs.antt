@@ -14,12 +14,12 @@ use Rattle.squeue_run.specs.Asked.{Asked}
 use Rattle.squeue_run.specs.CallWords.{IsFirstMissing}
 use Rattle.squeue_run.specs.declared.refusal.Refusal.{Refusal}
 use Rattle.squeue_run.specs.declared.refusal.Refusal.TheVariants as refusal
-use Rattle.squeue_run.specs.Lines.{memory_line, write_line, bad_line, many_marks_line, pcapng_line, missing_line}
+use Rattle.squeue_run.specs.Lines.{sqrun, memory_line, write_line, bad_line, many_marks_line, pcapng_line, missing_line}
 use Rattle.squeue_run.specs.Ran.{HandsBack, HasRan, RanBy, RanFor, RanGenerated, RanRead, RanRefused, HasRead, TakesFew}
 use Rattle.squeue_run.specs.Causes.{CountsFaults, Fails, FailsBy, GeneratedFails, Gives, GivesBy, LineOrMemory, ReadingFails, RefusedWords, Told}
 
 line_or_memory : (P : Status → Type 0) (wanted : Status) (text : List ℕ) (err : End) (s : Status)
-    → (GetsLine err text → P wanted) → (GetsLine err memory_line → P status.NoMemory) → LineOrMemory wanted text err s → P s
+    → (GetsLine err text → P wanted) → (GetsLine err (memory_line sqrun) → P status.NoMemory) → LineOrMemory wanted text err s → P s
 line_or_memory P wanted text err s line memory (inl t) = subst P (sym t.0) (line t.1)
 line_or_memory P wanted text err s line memory (inr t) = subst P (sym t.0) (memory t.1)
 
@@ -61,49 +61,49 @@ not_read a (refusal.Capture fault.TooManyRecords) source out err s u (inl h) t =
 not_read a (refusal.Capture fault.TooManyRecords) source out err s u (inr h) t = subst (RanRead a source out err None) (sym t.0) (inr (inl (h, (u, t.1))))
 not_read a (refusal.Capture (fault.ShortHeader k)) source out err s u (inl h) t = absurd h
 not_read a (refusal.Capture (fault.ShortHeader k)) source out err s u (inr h) t =
-    line_or_memory (RanRead a source out err None) status.BadCapture (bad_line (fault.ShortHeader k)) err s (λ g. inl (fault.ShortHeader k, tt, h, (u, g))) (λ g. (u, g)) t
+    line_or_memory (RanRead a source out err None) status.BadCapture (bad_line sqrun (fault.ShortHeader k)) err s (λ g. inl (fault.ShortHeader k, tt, h, (u, g))) (λ g. (u, g)) t
 not_read a (refusal.Capture (fault.Magic k)) source out err s u (inl h) t = absurd h
 not_read a (refusal.Capture (fault.Magic k)) source out err s u (inr h) t =
-    line_or_memory (RanRead a source out err None) status.BadCapture (bad_line (fault.Magic k)) err s (λ g. inl (fault.Magic k, tt, h, (u, g))) (λ g. (u, g)) t
+    line_or_memory (RanRead a source out err None) status.BadCapture (bad_line sqrun (fault.Magic k)) err s (λ g. inl (fault.Magic k, tt, h, (u, g))) (λ g. (u, g)) t
 not_read a (refusal.Capture (fault.Version i j)) source out err s u (inl h) t = absurd h
 not_read a (refusal.Capture (fault.Version i j)) source out err s u (inr h) t =
-    line_or_memory (RanRead a source out err None) status.BadCapture (bad_line (fault.Version i j)) err s (λ g. inl (fault.Version i j, tt, h, (u, g))) (λ g. (u, g)) t
+    line_or_memory (RanRead a source out err None) status.BadCapture (bad_line sqrun (fault.Version i j)) err s (λ g. inl (fault.Version i j, tt, h, (u, g))) (λ g. (u, g)) t
 not_read a (refusal.Capture (fault.Link k)) source out err s u (inl h) t = absurd h
 not_read a (refusal.Capture (fault.Link k)) source out err s u (inr h) t =
-    line_or_memory (RanRead a source out err None) status.BadCapture (bad_line (fault.Link k)) err s (λ g. inl (fault.Link k, tt, h, (u, g))) (λ g. (u, g)) t
+    line_or_memory (RanRead a source out err None) status.BadCapture (bad_line sqrun (fault.Link k)) err s (λ g. inl (fault.Link k, tt, h, (u, g))) (λ g. (u, g)) t
 not_read a (refusal.Capture (fault.RecordLength i j)) source out err s u (inl h) t = absurd h
 not_read a (refusal.Capture (fault.RecordLength i j)) source out err s u (inr h) t =
-    line_or_memory (RanRead a source out err None) status.BadCapture (bad_line (fault.RecordLength i j)) err s (λ g. inl (fault.RecordLength i j, tt, h, (u, g))) (λ g. (u, g)) t
+    line_or_memory (RanRead a source out err None) status.BadCapture (bad_line sqrun (fault.RecordLength i j)) err s (λ g. inl (fault.RecordLength i j, tt, h, (u, g))) (λ g. (u, g)) t
 not_read a (refusal.Pcapng pcapng.NoMemory) source out err s u h t = subst (RanRead a source out err None) (sym t.0) (u, t.1)
 not_read a (refusal.Pcapng pcapng.TooManyRecords) source out err s u (inl e) t = absurd (no_memory_told pcapng.TooManyRecords refl e)
 not_read a (refusal.Pcapng pcapng.TooManyRecords) source out err s u (inr h) t = subst (RanRead a source out err None) (sym t.0) (inr (inr (inl (h, (u, t.1)))))
 not_read a (refusal.Pcapng (pcapng.ShortSection k)) source out err s u (inl e) t = absurd (no_memory_told (pcapng.ShortSection k) refl e)
 not_read a (refusal.Pcapng (pcapng.ShortSection k)) source out err s u (inr h) t =
-    line_or_memory (RanRead a source out err None) status.BadCapture (pcapng_line (pcapng.ShortSection k)) err s (λ g. inr (pcapng.ShortSection k, tt, h, (u, g))) (λ g. (u, g)) t
+    line_or_memory (RanRead a source out err None) status.BadCapture (pcapng_line sqrun (pcapng.ShortSection k)) err s (λ g. inr (pcapng.ShortSection k, tt, h, (u, g))) (λ g. (u, g)) t
 not_read a (refusal.Pcapng (pcapng.Magic i k)) source out err s u (inl e) t = absurd (no_memory_told (pcapng.Magic i k) refl e)
 not_read a (refusal.Pcapng (pcapng.Magic i k)) source out err s u (inr h) t =
-    line_or_memory (RanRead a source out err None) status.BadCapture (pcapng_line (pcapng.Magic i k)) err s (λ g. inr (pcapng.Magic i k, tt, h, (u, g))) (λ g. (u, g)) t
+    line_or_memory (RanRead a source out err None) status.BadCapture (pcapng_line sqrun (pcapng.Magic i k)) err s (λ g. inr (pcapng.Magic i k, tt, h, (u, g))) (λ g. (u, g)) t
 not_read a (refusal.Pcapng (pcapng.BlockLength i k)) source out err s u (inl e) t = absurd (no_memory_told (pcapng.BlockLength i k) refl e)
 not_read a (refusal.Pcapng (pcapng.BlockLength i k)) source out err s u (inr h) t =
-    line_or_memory (RanRead a source out err None) status.BadCapture (pcapng_line (pcapng.BlockLength i k)) err s (λ g. inr (pcapng.BlockLength i k, tt, h, (u, g))) (λ g. (u, g)) t
+    line_or_memory (RanRead a source out err None) status.BadCapture (pcapng_line sqrun (pcapng.BlockLength i k)) err s (λ g. inr (pcapng.BlockLength i k, tt, h, (u, g))) (λ g. (u, g)) t
 not_read a (refusal.Pcapng (pcapng.EndLength i k)) source out err s u (inl e) t = absurd (no_memory_told (pcapng.EndLength i k) refl e)
 not_read a (refusal.Pcapng (pcapng.EndLength i k)) source out err s u (inr h) t =
-    line_or_memory (RanRead a source out err None) status.BadCapture (pcapng_line (pcapng.EndLength i k)) err s (λ g. inr (pcapng.EndLength i k, tt, h, (u, g))) (λ g. (u, g)) t
+    line_or_memory (RanRead a source out err None) status.BadCapture (pcapng_line sqrun (pcapng.EndLength i k)) err s (λ g. inr (pcapng.EndLength i k, tt, h, (u, g))) (λ g. (u, g)) t
 not_read a (refusal.Pcapng (pcapng.Version i j k)) source out err s u (inl e) t = absurd (no_memory_told (pcapng.Version i j k) refl e)
 not_read a (refusal.Pcapng (pcapng.Version i j k)) source out err s u (inr h) t =
-    line_or_memory (RanRead a source out err None) status.BadCapture (pcapng_line (pcapng.Version i j k)) err s (λ g. inr (pcapng.Version i j k, tt, h, (u, g))) (λ g. (u, g)) t
+    line_or_memory (RanRead a source out err None) status.BadCapture (pcapng_line sqrun (pcapng.Version i j k)) err s (λ g. inr (pcapng.Version i j k, tt, h, (u, g))) (λ g. (u, g)) t
 not_read a (refusal.Pcapng (pcapng.Link i k)) source out err s u (inl e) t = absurd (no_memory_told (pcapng.Link i k) refl e)
 not_read a (refusal.Pcapng (pcapng.Link i k)) source out err s u (inr h) t =
-    line_or_memory (RanRead a source out err None) status.BadCapture (pcapng_line (pcapng.Link i k)) err s (λ g. inr (pcapng.Link i k, tt, h, (u, g))) (λ g. (u, g)) t
+    line_or_memory (RanRead a source out err None) status.BadCapture (pcapng_line sqrun (pcapng.Link i k)) err s (λ g. inr (pcapng.Link i k, tt, h, (u, g))) (λ g. (u, g)) t
 not_read a (refusal.Pcapng (pcapng.MixedLink i k)) source out err s u (inl e) t = absurd (no_memory_told (pcapng.MixedLink i k) refl e)
 not_read a (refusal.Pcapng (pcapng.MixedLink i k)) source out err s u (inr h) t =
-    line_or_memory (RanRead a source out err None) status.BadCapture (pcapng_line (pcapng.MixedLink i k)) err s (λ g. inr (pcapng.MixedLink i k, tt, h, (u, g))) (λ g. (u, g)) t
+    line_or_memory (RanRead a source out err None) status.BadCapture (pcapng_line sqrun (pcapng.MixedLink i k)) err s (λ g. inr (pcapng.MixedLink i k, tt, h, (u, g))) (λ g. (u, g)) t
 not_read a (refusal.Pcapng (pcapng.NoInterface i k)) source out err s u (inl e) t = absurd (no_memory_told (pcapng.NoInterface i k) refl e)
 not_read a (refusal.Pcapng (pcapng.NoInterface i k)) source out err s u (inr h) t =
-    line_or_memory (RanRead a source out err None) status.BadCapture (pcapng_line (pcapng.NoInterface i k)) err s (λ g. inr (pcapng.NoInterface i k, tt, h, (u, g))) (λ g. (u, g)) t
+    line_or_memory (RanRead a source out err None) status.BadCapture (pcapng_line sqrun (pcapng.NoInterface i k)) err s (λ g. inr (pcapng.NoInterface i k, tt, h, (u, g))) (λ g. (u, g)) t
 not_read a (refusal.Pcapng (pcapng.PacketLength i k)) source out err s u (inl e) t = absurd (no_memory_told (pcapng.PacketLength i k) refl e)
 not_read a (refusal.Pcapng (pcapng.PacketLength i k)) source out err s u (inr h) t =
-    line_or_memory (RanRead a source out err None) status.BadCapture (pcapng_line (pcapng.PacketLength i k)) err s (λ g. inr (pcapng.PacketLength i k, tt, h, (u, g))) (λ g. (u, g)) t
+    line_or_memory (RanRead a source out err None) status.BadCapture (pcapng_line sqrun (pcapng.PacketLength i k)) err s (λ g. inr (pcapng.PacketLength i k, tt, h, (u, g))) (λ g. (u, g)) t
 not_read a (refusal.NoConnection c conns) source out err s u h t =
     let IsFirst : ℕ → Type 0 = λ n. IsFirstMissing n c a.calls in
     let Gets : ℕ → Type 0 = λ n. GetsLine err (missing_line c n) in
@@ -123,22 +123,22 @@ has_read source err (refusal.Capture fault.Read) s c f t = subst (HasRead source
 has_read source err (refusal.Capture fault.NoMemory) s c f t = subst (HasRead source) (sym t.0) (c, f)
 has_read source err (refusal.Capture (fault.TooLarge k)) s c f t = subst (HasRead source) (sym t.0) (c, f)
 has_read source err (refusal.Capture fault.TooManyRecords) s c f t = subst (HasRead source) (sym t.0) (c, f)
-has_read source err (refusal.Capture (fault.ShortHeader k)) s c f t = by_line source err status.BadCapture s (bad_line (fault.ShortHeader k)) (c, f) (c, f) t
-has_read source err (refusal.Capture (fault.Magic k)) s c f t = by_line source err status.BadCapture s (bad_line (fault.Magic k)) (c, f) (c, f) t
-has_read source err (refusal.Capture (fault.Version i j)) s c f t = by_line source err status.BadCapture s (bad_line (fault.Version i j)) (c, f) (c, f) t
-has_read source err (refusal.Capture (fault.Link k)) s c f t = by_line source err status.BadCapture s (bad_line (fault.Link k)) (c, f) (c, f) t
-has_read source err (refusal.Capture (fault.RecordLength i j)) s c f t = by_line source err status.BadCapture s (bad_line (fault.RecordLength i j)) (c, f) (c, f) t
+has_read source err (refusal.Capture (fault.ShortHeader k)) s c f t = by_line source err status.BadCapture s (bad_line sqrun (fault.ShortHeader k)) (c, f) (c, f) t
+has_read source err (refusal.Capture (fault.Magic k)) s c f t = by_line source err status.BadCapture s (bad_line sqrun (fault.Magic k)) (c, f) (c, f) t
+has_read source err (refusal.Capture (fault.Version i j)) s c f t = by_line source err status.BadCapture s (bad_line sqrun (fault.Version i j)) (c, f) (c, f) t
+has_read source err (refusal.Capture (fault.Link k)) s c f t = by_line source err status.BadCapture s (bad_line sqrun (fault.Link k)) (c, f) (c, f) t
+has_read source err (refusal.Capture (fault.RecordLength i j)) s c f t = by_line source err status.BadCapture s (bad_line sqrun (fault.RecordLength i j)) (c, f) (c, f) t
 has_read source err (refusal.Pcapng pcapng.NoMemory) s c f t = subst (HasRead source) (sym t.0) (c, f)
 has_read source err (refusal.Pcapng pcapng.TooManyRecords) s c f t = subst (HasRead source) (sym t.0) (c, f)
-has_read source err (refusal.Pcapng (pcapng.ShortSection k)) s c f t = by_line source err status.BadCapture s (pcapng_line (pcapng.ShortSection k)) (c, f) (c, f) t
-has_read source err (refusal.Pcapng (pcapng.Magic i k)) s c f t = by_line source err status.BadCapture s (pcapng_line (pcapng.Magic i k)) (c, f) (c, f) t
-has_read source err (refusal.Pcapng (pcapng.BlockLength i k)) s c f t = by_line source err status.BadCapture s (pcapng_line (pcapng.BlockLength i k)) (c, f) (c, f) t
-has_read source err (refusal.Pcapng (pcapng.EndLength i k)) s c f t = by_line source err status.BadCapture s (pcapng_line (pcapng.EndLength i k)) (c, f) (c, f) t
-has_read source err (refusal.Pcapng (pcapng.Version i j k)) s c f t = by_line source err status.BadCapture s (pcapng_line (pcapng.Version i j k)) (c, f) (c, f) t
-has_read source err (refusal.Pcapng (pcapng.Link i k)) s c f t = by_line source err status.BadCapture s (pcapng_line (pcapng.Link i k)) (c, f) (c, f) t
-has_read source err (refusal.Pcapng (pcapng.MixedLink i k)) s c f t = by_line source err status.BadCapture s (pcapng_line (pcapng.MixedLink i k)) (c, f) (c, f) t
-has_read source err (refusal.Pcapng (pcapng.NoInterface i k)) s c f t = by_line source err status.BadCapture s (pcapng_line (pcapng.NoInterface i k)) (c, f) (c, f) t
-has_read source err (refusal.Pcapng (pcapng.PacketLength i k)) s c f t = by_line source err status.BadCapture s (pcapng_line (pcapng.PacketLength i k)) (c, f) (c, f) t
+has_read source err (refusal.Pcapng (pcapng.ShortSection k)) s c f t = by_line source err status.BadCapture s (pcapng_line sqrun (pcapng.ShortSection k)) (c, f) (c, f) t
+has_read source err (refusal.Pcapng (pcapng.Magic i k)) s c f t = by_line source err status.BadCapture s (pcapng_line sqrun (pcapng.Magic i k)) (c, f) (c, f) t
+has_read source err (refusal.Pcapng (pcapng.BlockLength i k)) s c f t = by_line source err status.BadCapture s (pcapng_line sqrun (pcapng.BlockLength i k)) (c, f) (c, f) t
+has_read source err (refusal.Pcapng (pcapng.EndLength i k)) s c f t = by_line source err status.BadCapture s (pcapng_line sqrun (pcapng.EndLength i k)) (c, f) (c, f) t
+has_read source err (refusal.Pcapng (pcapng.Version i j k)) s c f t = by_line source err status.BadCapture s (pcapng_line sqrun (pcapng.Version i j k)) (c, f) (c, f) t
+has_read source err (refusal.Pcapng (pcapng.Link i k)) s c f t = by_line source err status.BadCapture s (pcapng_line sqrun (pcapng.Link i k)) (c, f) (c, f) t
+has_read source err (refusal.Pcapng (pcapng.MixedLink i k)) s c f t = by_line source err status.BadCapture s (pcapng_line sqrun (pcapng.MixedLink i k)) (c, f) (c, f) t
+has_read source err (refusal.Pcapng (pcapng.NoInterface i k)) s c f t = by_line source err status.BadCapture s (pcapng_line sqrun (pcapng.NoInterface i k)) (c, f) (c, f) t
+has_read source err (refusal.Pcapng (pcapng.PacketLength i k)) s c f t = by_line source err status.BadCapture s (pcapng_line sqrun (pcapng.PacketLength i k)) (c, f) (c, f) t
 has_read source err (refusal.LongTrace n) s c f t = by_line source err status.TooLarge s (many_marks_line n) (c, f) (c, f) t
 has_read source err (refusal.NoConnection k conns) s c f t = by_line source err status.NoConnection s (missing_line k conns) (c, f) (c, f) t
 
@@ -179,18 +179,18 @@ pub done : (words : Option Asked) (source out err : End) (v : ServedOf) (text by
     → HasRan words source out err (Some v) status.Ok
 done words source out err v text bytes h e w k u = record { ran = done_for words source out err v text bytes h e w k u; handed = tt }
 
-cut_by : (number : Option ℕ) (a : Asked) (source out err : End) (v : ServedOf) (text : List ℕ) → GivesBy number a source v text → AppendsProperly out.was out.is text → Rose out.faults_were out.faults_are → GetsLine err write_line
+cut_by : (number : Option ℕ) (a : Asked) (source out err : End) (v : ServedOf) (text : List ℕ) → GivesBy number a source v text → AppendsProperly out.was out.is text → Rose out.faults_were out.faults_are → GetsLine err (write_line sqrun)
     → RanBy number a source out err None status.WriteFault
 cut_by (Some n) a source out err v text h w r g = (h.0, (record { served = v; text = text; output = h.1; written = w; failed = r }, g))
 cut_by None a source out err v text h w r g = ((h.0, h.1), (h.2.0, h.2.1, h.2.2.0, record { served = v; text = text; output = h.2.2.1; written = w; failed = r }, g))
 
 cut_for : (words : Option Asked) (source out err : End) (v : ServedOf) (text bytes : List ℕ) → Gives words source v text → bytes ≡ text → AppendsProperly out.was out.is bytes → Rose out.faults_were out.faults_are
-    → GetsLine err write_line → RanFor words source out err None status.WriteFault
+    → GetsLine err (write_line sqrun) → RanFor words source out err None status.WriteFault
 cut_for None source out err v text bytes h e w r g = absurd h
 cut_for (Some a) source out err v text bytes h e w r g = cut_by a.number a source out err v text h (subst (AppendsProperly out.was out.is) e w) r g
 
 pub cut : (words : Option Asked) (source out err : End) (v : ServedOf) (text bytes : List ℕ) → Gives words source v text → bytes ≡ text → AppendsProperly out.was out.is bytes → Rose out.faults_were out.faults_are
-    → GetsLine err write_line → HasRan words source out err None status.WriteFault
+    → GetsLine err (write_line sqrun) → HasRan words source out err None status.WriteFault
 cut words source out err v text bytes h e w r g = record { ran = cut_for words source out err v text bytes h e w r g; handed = refl }
 
 no_memory_by : (number : Option ℕ) (a : Asked) (source : End) → IsUntouched source → FailsBy number a source refusal.NoMemory

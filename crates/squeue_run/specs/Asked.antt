@@ -1,5 +1,6 @@
 -- What the texts of accepted words ask for: numbers, the mode, CALLs; and that each is in range.
-use Rattle.std.specs.Prelude.{ℕ, ◌==◌, ◌&&◌, not, nat_le, nat_lt, ◌||◌, Bool, List, [], ◌∷◌, length, Option, None, Some, is_some, option_map, option_and_then, if◌then◌else◌, codes}
+use Rattle.std.specs.Prelude.{ℕ, ◌==◌, ◌&&◌, ◌||◌, not, nat_le, nat_lt, Bool, if◌then◌else◌, codes}
+use Rattle.std.specs.Prelude.{List, [], ◌∷◌, length, Option, None, Some, is_some, option_map, option_and_then}
 use Rattle.std.specs.List.{list_all, list_any, before_first, after_first}
 use Rattle.std.specs.Str.{bytes_eq}
 use Rattle.std.specs.Char.{is_ascii_digit}

@@ -73,7 +73,8 @@ unfoldable pub numbers_at : ℕ → ℕ → ℕ → Numbers
 numbers_at number round c =
     if round == 0 then record { flags = 2; seq = isn number c; ack = 0 }
     else if round == 1 then record { flags = 16; seq = (isn number c + 1) % 2 ^ 32; ack = (iss number c + 1) % 2 ^ 32 }
-    else if nat_le round 97 then record { flags = 24; seq = (isn number c + 1 + sent_before round c) % 2 ^ 32; ack = (iss number c + 1 + echoed c (sent_before round c)) % 2 ^ 32 }
+    else if nat_le round 97
+    then record { flags = 24; seq = (isn number c + 1 + sent_before round c) % 2 ^ 32; ack = (iss number c + 1 + echoed c (sent_before round c)) % 2 ^ 32 }
     else if round == 98 then record { flags = 17; seq = (isn number c + 4657) % 2 ^ 32; ack = (iss number c + 1 + echoed c 4656) % 2 ^ 32 }
     else record { flags = 16; seq = (isn number c + 4658) % 2 ^ 32; ack = (iss number c + 2 + echoed c 4656) % 2 ^ 32 }
 
@@ -109,7 +110,9 @@ rounds_before number round = flat_map (λ k. round_before number k 1000) (below 
 
 -- little-endian, microseconds, version 2.4, snapshot length 262144, link 101
 unfoldable pub file_header : List ℕ
-file_header = little_bytes 4 0xa1b2_c3d4 ++ (little_bytes 2 2 ++ (little_bytes 2 4 ++ (0 ∷ 0 ∷ 0 ∷ 0 ∷ 0 ∷ 0 ∷ 0 ∷ 0 ∷ (little_bytes 4 262144 ++ little_bytes 4 101))))
+file_header =
+    little_bytes 4 0xa1b2_c3d4 ++ (little_bytes 2 2 ++ (little_bytes 2 4
+    ++ (0 ∷ 0 ∷ 0 ∷ 0 ∷ 0 ∷ 0 ∷ 0 ∷ 0 ∷ (little_bytes 4 262144 ++ little_bytes 4 101))))
 
 unfoldable pub generated : ℕ → List ℕ
 generated number = file_header ++ rounds_before number 100

@@ -1,6 +1,6 @@
 -- How a run ends: by its status, what was read, what was written, which line was told, and what is handed back.
 use Rattle.std.specs.Prelude.{◌≡◌, ◌<◌, ◌≤◌, ℕ, true, List, Option, Some, None, length, ◌⊎◌, Bool}
-use Rattle.std.specs.Io.KnownBytes.{Keeps, Appends}
+use Rattle.std.specs.Io.KnownBytes.{Appends}
 use Rattle.sq_base.specs.Ends.{AppendsProperly, End, GetsLine, IsUntouched, MetNoFault, OnlyTells, Rose}
 use Rattle.sq_base.specs.declared.kinds.Status.{Status}
 use Rattle.sq_base.specs.declared.kinds.Status.TheVariants as status
@@ -18,7 +18,8 @@ use Rattle.squeue_run.specs.CallWords.{AllThere, IsFirstMissing, lists_of}
 use Rattle.squeue_run.specs.Input.{ReadsSuch}
 use Rattle.pcapng_reader.specs.Input.{IsInput, IsRefusedCapture, IsRefusedPcapng}
 use Rattle.squeue_run.specs.Output.{IsReport, IsSummary}
-use Rattle.squeue_run.specs.Lines.{usage_line, memory_line, read_line, write_line, bad_line, pcapng_line, many_bytes_line, many_records_line, many_marks_line, missing_line}
+use Rattle.squeue_run.specs.Lines.{sqrun, usage_line, memory_line, read_line, write_line, bad_line, pcapng_line}
+use Rattle.squeue_run.specs.Lines.{many_bytes_line, many_records_line, many_marks_line, missing_line}
 
 -- such an output of what is handed back was written whole, and no write failed
 pub record GetsWhole (IsOutput : ServedOf → List ℕ → Type 0) (out : End) (back : Option ServedOf) : Type 0 where
@@ -101,14 +102,14 @@ pub record IsLongTrace (file : CaptureFile) (a : Asked) (n : ℕ) : Type 0 where
 -- refused words
 abbrev pub RanRefused : End → End → Status → Type 0
 RanRefused out err status.Usage = OnlyTells out err usage_line
-RanRefused out err status.NoMemory = OnlyTells out err memory_line
+RanRefused out err status.NoMemory = OnlyTells out err (memory_line sqrun)
 RanRefused out err _ = ⊥
 
 -- an input that was generated for a number
 abbrev pub RanGenerated : ℕ → Asked → End → End → Option ServedOf → Status → Type 0
 RanGenerated number a out err back status.Ok = GetsWhole (IsSummary number a) out back × IsUntouched err
-RanGenerated number a out err back status.WriteFault = GetsFront (IsSummary number a) out × GetsLine err write_line
-RanGenerated number a out err back status.NoMemory = OnlyTells out err memory_line
+RanGenerated number a out err back status.WriteFault = GetsFront (IsSummary number a) out × GetsLine err (write_line sqrun)
+RanGenerated number a out err back status.NoMemory = OnlyTells out err (memory_line sqrun)
 RanGenerated number a out err back _ = ⊥
 
 -- an input that was read
@@ -116,19 +117,20 @@ abbrev pub RanRead : Asked → End → End → End → Option ServedOf → Statu
 RanRead a source out err back status.Ok =
     (file : CaptureFile) × Reads source file × IsServable file a × GetsWhole (IsReport file a) out back × IsUntouched err
 RanRead a source out err back status.WriteFault =
-    (file : CaptureFile) × Reads source file × IsServable file a × GetsFront (IsReport file a) out × GetsLine err write_line
+    (file : CaptureFile) × Reads source file × IsServable file a × GetsFront (IsReport file a) out × GetsLine err (write_line sqrun)
 RanRead a source out err back status.NoConnection =
-    (file : CaptureFile) × Reads source file × ((c : ℕ) × IsFirstMissing (conns_of file a.verify) c a.calls × OnlyTells out err (missing_line c (conns_of file a.verify)))
+    (file : CaptureFile) × Reads source file
+    × ((c : ℕ) × IsFirstMissing (conns_of file a.verify) c a.calls × OnlyTells out err (missing_line c (conns_of file a.verify)))
 RanRead a source out err back status.BadCapture =
-    ((why : CaptureFault) × IsBad why × ReadsSuch (IsRefusedCapture why) source.was source.is × OnlyTells out err (bad_line why))
-    ⊎ ((why : PcapngFault) × IsBadPcapng why × ReadsSuch (IsRefusedPcapng why) source.was source.is × OnlyTells out err (pcapng_line why))
+    ((why : CaptureFault) × IsBad why × ReadsSuch (IsRefusedCapture why) source.was source.is × OnlyTells out err (bad_line sqrun why))
+    ⊎ ((why : PcapngFault) × IsBadPcapng why × ReadsSuch (IsRefusedPcapng why) source.was source.is × OnlyTells out err (pcapng_line sqrun why))
 RanRead a source out err back status.TooLarge =
-    (TakesTooMany source.was source.is × OnlyTells out err many_bytes_line)
-    ⊎ (ReadsSuch (IsRefusedCapture fault.TooManyRecords) source.was source.is × OnlyTells out err many_records_line)
-    ⊎ (ReadsSuch (IsRefusedPcapng pcapng.TooManyRecords) source.was source.is × OnlyTells out err many_records_line)
+    (TakesTooMany source.was source.is × OnlyTells out err (many_bytes_line sqrun))
+    ⊎ (ReadsSuch (IsRefusedCapture fault.TooManyRecords) source.was source.is × OnlyTells out err (many_records_line sqrun))
+    ⊎ (ReadsSuch (IsRefusedPcapng pcapng.TooManyRecords) source.was source.is × OnlyTells out err (many_records_line sqrun))
     ⊎ ((file : CaptureFile) × Reads source file × ((n : ℕ) × IsLongTrace file a n × OnlyTells out err (many_marks_line n)))
-RanRead a source out err back status.ReadFault = OnlyTells out err read_line
-RanRead a source out err back status.NoMemory = OnlyTells out err memory_line
+RanRead a source out err back status.ReadFault = OnlyTells out err (read_line sqrun)
+RanRead a source out err back status.NoMemory = OnlyTells out err (memory_line sqrun)
 RanRead a source out err back status.Usage = ⊥
 
 -- a run for what the words ask; where they are refused, or the input is generated, nothing was read

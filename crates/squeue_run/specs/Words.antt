@@ -1,4 +1,5 @@
--- The words of the command line, read from the front: what each word, or an option's two words, say; which words are accepted; and the texts that accepted words give.
+-- The words of the command line, read from the front: what each word, or an option's two words, say; which words are accepted;
+-- and the texts that accepted words give.
 use Rattle.std.specs.Prelude.{◌==◌, ◌&&◌, Bool, true, false, not, ℕ, List, [], ◌∷◌, map, Option, Some, None, if◌then◌else◌, codes, option_map, option_and_then}
 use Rattle.std.specs.List.{list_all, list_any, before_first, after_first}
 use Rattle.std.specs.Str.{bytes_eq}

@@ -1,7 +1,8 @@
 //! A large valid input, made from a number: 1,000 connections with 100 segments each.
 
 ghost use Rattle.std.specs.Prelude.{◌≡◌, ℕ, ◌+◌, ◌/◌, ◌%◌, ◌<◌, ◌≤◌, ◌^◌, ◌++◌, length, if◌then◌else◌, IfOk, OnOk};
-ghost use Rattle.squeue_run.specs.GeneratedCapture.{next_state, state_at, text_len, drawn_text, text_at, numbers_at, ends_of, record_of, record_at, round_before, file_header, generated, IsAccepted, IsUnrefused};
+ghost use Rattle.squeue_run.specs.GeneratedCapture.{next_state, state_at, text_len, drawn_text, text_at, numbers_at, ends_of};
+ghost use Rattle.squeue_run.specs.GeneratedCapture.{record_of, record_at, round_before, file_header, generated, IsAccepted, IsUnrefused};
 ghost use Rattle.squeue_run.specs.GeneratorState.{client_at, Ready};
 
 use segment_codec::{Reply, encode};

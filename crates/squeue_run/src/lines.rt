@@ -1,15 +1,18 @@
-//! The lines that the program writes where it gives no report.
+//! The lines that the program writes where it gives no report. Those of a bad capture serve another program too, under its own name.
 
 ghost use Rattle.std.specs.Prelude.{◌≡◌, IfOk, string_bytes};
 ghost use Rattle.std.specs.Io.KnownBytes.{Appends};
 ghost use Rattle.sq_base.specs.Ends.{Rose};
-ghost use Rattle.squeue_run.specs.Lines.{bad_line, many_marks_line, missing_line, pcapng_line};
+ghost use Rattle.squeue_run.specs.Lines.{bad_line, capture_text, many_marks_line, missing_line, pcapng_line, pcapng_text, shown_line};
 ghost use Rattle.squeue_run.specs.Ran.{IsBad, IsBadPcapng};
 
 use capture_reader::CaptureFault;
 use pcapng_reader::PcapngFault;
 use sq_base::{Sink, put};
 use std::alloc::{AllocError, Global};
+
+/// The name that the program calls itself by.
+pub const SQRUN: &str = "sqrun";
 
 pub const USAGE: &[u8] =
     b"usage: sqrun [--squeues N] [--rings N] [--mode process|nodrain|fill] [--budget N] [--spread N] [--verify] [--trace] [--gen N] [CALL]...\n";
@@ -24,73 +27,85 @@ pub const MANY_BYTES: &[u8] = b"sqrun: too large: more than 67108864 bytes\n";
 
 pub const MANY_RECORDS: &[u8] = b"sqrun: too large: more than 1048576 records\n";
 
-/// The line of a bad capture.
-#[tactic(auto, unfolding(crate::specs::Lines::bad_line))]
-pub fn bad_capture(alloc: Global, fault: &CaptureFault) -> Result<String, AllocError>
+/// The line of a bad capture that shows this text.
+#[tactic(auto, unfolding(crate::specs::Lines::shown_line))]
+fn shown_line(alloc: Global, program: &str, text: &str) -> Result<String, AllocError>
+    ensures { IfOk result (λ line. string_bytes line ≡ shown_line program.now text.now) }
+{
+    format!(in alloc; "{program}: bad capture: {text}\n")
+}
+
+/// The line of a bad capture, by the program of this name.
+pub fn bad_capture(alloc: Global, program: &str, fault: &CaptureFault) -> Result<String, AllocError>
     requires { IsBad fault.now }
-    ensures { IfOk result (λ text. string_bytes text ≡ bad_line fault.now) }
+    ensures { IfOk result (λ text. string_bytes text ≡ bad_line program.now fault.now) }
+{
+    shown_line(alloc, program, capture_text(alloc, fault)?.as_str())
+}
+
+/// What a bad capture shows.
+#[tactic(auto, unfolding(crate::specs::Lines::capture_text))]
+fn capture_text(alloc: Global, fault: &CaptureFault) -> Result<String, AllocError>
+    requires { IsBad fault.now }
+    ensures { IfOk result (λ text. string_bytes text ≡ capture_text fault.now) }
 {
     match fault {
-        CaptureFault::ShortHeader(n) => {
-            format!(in alloc; "sqrun: bad capture: short header of {n} bytes\n")
-        }
+        CaptureFault::ShortHeader(n) => format!(in alloc; "short header of {n} bytes"),
         CaptureFault::Magic(magic) => {
             let digits = hex::encode(alloc, magic.as_slice())?;
-            format!(in alloc; "sqrun: bad capture: magic {digits}\n")
+            format!(in alloc; "magic {digits}")
         }
-        CaptureFault::Version { major, minor } => {
-            format!(in alloc; "sqrun: bad capture: version {major}.{minor}\n")
-        }
-        CaptureFault::Link(n) => format!(in alloc; "sqrun: bad capture: link type {n}\n"),
+        CaptureFault::Version { major, minor } => format!(in alloc; "version {major}.{minor}"),
+        CaptureFault::Link(n) => format!(in alloc; "link type {n}"),
         CaptureFault::RecordLength { index, len } => {
-            format!(in alloc; "sqrun: bad capture: record {index} has length {len}\n")
+            format!(in alloc; "record {index} has length {len}")
         }
         _ => unreachable!(),
     }
 }
 
-/// The line of a bad pcapng file.
-#[tactic(auto, unfolding(crate::specs::Lines::pcapng_line))]
-pub fn bad_pcapng(alloc: Global, fault: &PcapngFault) -> Result<String, AllocError>
+/// The line of a bad pcapng file, by the program of this name.
+pub fn bad_pcapng(alloc: Global, program: &str, fault: &PcapngFault) -> Result<String, AllocError>
     requires { IsBadPcapng fault.now }
-    ensures { IfOk result (λ text. string_bytes text ≡ pcapng_line fault.now) }
+    ensures { IfOk result (λ text. string_bytes text ≡ pcapng_line program.now fault.now) }
+{
+    shown_line(alloc, program, pcapng_text(alloc, fault)?.as_str())
+}
+
+/// What a bad pcapng file shows.
+#[tactic(auto, unfolding(crate::specs::Lines::pcapng_text))]
+fn pcapng_text(alloc: Global, fault: &PcapngFault) -> Result<String, AllocError>
+    requires { IsBadPcapng fault.now }
+    ensures { IfOk result (λ text. string_bytes text ≡ pcapng_text fault.now) }
 {
     match fault {
-        PcapngFault::ShortSection(n) => {
-            format!(in alloc; "sqrun: bad capture: pcapng short section of {n} bytes\n")
-        }
+        PcapngFault::ShortSection(n) => format!(in alloc; "pcapng short section of {n} bytes"),
         PcapngFault::Magic { index, found } => {
             let digits = hex::encode(alloc, found.as_slice())?;
-            format!(in alloc; "sqrun: bad capture: pcapng magic {digits} in block {index}\n")
+            format!(in alloc; "pcapng magic {digits} in block {index}")
         }
         PcapngFault::BlockLength { index, len } => {
-            format!(in alloc; "sqrun: bad capture: pcapng block {index} has length {len}\n")
+            format!(in alloc; "pcapng block {index} has length {len}")
         }
         PcapngFault::EndLength { index, len } => {
-            format!(in alloc; "sqrun: bad capture: pcapng block {index} ends with length {len}\n")
+            format!(in alloc; "pcapng block {index} ends with length {len}")
         }
         PcapngFault::Version {
             index,
             major,
             minor,
-        } => {
-            format!(in alloc;
-                "sqrun: bad capture: pcapng version {major}.{minor} in block {index}\n"
-            )
-        }
+        } => format!(in alloc; "pcapng version {major}.{minor} in block {index}"),
         PcapngFault::Link { index, link } => {
-            format!(in alloc; "sqrun: bad capture: pcapng link type {link} in block {index}\n")
+            format!(in alloc; "pcapng link type {link} in block {index}")
         }
         PcapngFault::MixedLink { index, link } => {
-            format!(in alloc;
-                "sqrun: bad capture: pcapng second link type {link} in block {index}\n"
-            )
+            format!(in alloc; "pcapng second link type {link} in block {index}")
         }
         PcapngFault::NoInterface { index, id } => {
-            format!(in alloc; "sqrun: bad capture: pcapng interface {id} in block {index}\n")
+            format!(in alloc; "pcapng interface {id} in block {index}")
         }
         PcapngFault::PacketLength { index, len } => {
-            format!(in alloc; "sqrun: bad capture: pcapng packet of {len} bytes in block {index}\n")
+            format!(in alloc; "pcapng packet of {len} bytes in block {index}")
         }
         _ => unreachable!(),
     }

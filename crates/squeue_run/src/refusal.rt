@@ -1,14 +1,14 @@
 //! Why a run gives no output, and what it then writes.
 
-ghost use Rattle.std.specs.Prelude.{◌≡◌, ◌⊎◌, MatchResult, string_bytes};
+ghost use Rattle.std.specs.Prelude.{◌≡◌, MatchResult, string_bytes};
 ghost use Rattle.std.specs.Io.KnownBytes.{Appends};
 ghost use Rattle.sq_base.specs.Ends.{Rose, end_of};
-ghost use Rattle.squeue_run.specs.Lines.{memory_line};
+ghost use Rattle.squeue_run.specs.Lines.{sqrun, memory_line};
 ghost use Rattle.squeue_run.specs.Causes.{Told};
 
 use crate::lines::{
-    MANY_BYTES, MANY_RECORDS, NO_MEMORY, READ_FAULT, USAGE, bad_capture, bad_pcapng, many_marks,
-    no_connection, tell,
+    MANY_BYTES, MANY_RECORDS, NO_MEMORY, READ_FAULT, SQRUN, USAGE, bad_capture, bad_pcapng,
+    many_marks, no_connection, tell,
 };
 use capture_reader::CaptureFault;
 use pcapng_reader::PcapngFault;
@@ -53,8 +53,12 @@ pub fn refuse<E: Sink>(alloc: Global, err: &mut E, refusal: &Refusal) -> Status
         | Refusal::Pcapng(PcapngFault::TooManyRecords) => {
             told(err, MANY_RECORDS, Status::TooLarge)
         }
-        Refusal::Capture(fault) => { told_line(err, bad_capture(alloc, fault), Status::BadCapture) }
-        Refusal::Pcapng(fault) => told_line(err, bad_pcapng(alloc, fault), Status::BadCapture),
+        Refusal::Capture(fault) => {
+            told_line(err, bad_capture(alloc, SQRUN, fault), Status::BadCapture)
+        }
+        Refusal::Pcapng(fault) => {
+            told_line(err, bad_pcapng(alloc, SQRUN, fault), Status::BadCapture)
+        }
         Refusal::NoConnection { c, conns } => {
             told_line(err, no_connection(alloc, *c, *conns), Status::NoConnection)
         }
@@ -72,8 +76,10 @@ fn told<E: Sink>(err: &mut E, line: &[u8], status: Status) -> Status
 
 fn told_line<E: Sink>(err: &mut E, line: Result<String, AllocError>, status: Status) -> Status
     ensures { MatchResult line
-        (λ text. (result ≡ status) × ((Rose (E.write_faults err.old) (E.write_faults err.new) → ⊥) → Appends (E.contents err.old) (E.contents err.new) (string_bytes text)))
-        (λ _. (result ≡ Status.NoMemory) × ((Rose (E.write_faults err.old) (E.write_faults err.new) → ⊥) → Appends (E.contents err.old) (E.contents err.new) memory_line)) }
+        (λ text. (result ≡ status) × ((Rose (E.write_faults err.old) (E.write_faults err.new) → ⊥)
+        → Appends (E.contents err.old) (E.contents err.new) (string_bytes text)))
+        (λ _. (result ≡ Status.NoMemory) × ((Rose (E.write_faults err.old) (E.write_faults err.new) → ⊥)
+        → Appends (E.contents err.old) (E.contents err.new) (memory_line sqrun))) }
 {
     match line {
         Ok(line) => told(err, line.as_bytes(), status),

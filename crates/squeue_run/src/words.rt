@@ -1,6 +1,6 @@
 //! The words of the command line, read whole: `clap` takes them apart, and numbers, modes and CALLs are tested here.
 
-ghost use Rattle.std.specs.Prelude.{◌≡◌, ◌≢◌, List, None, Some, Err, IfOk, map, option_and_then, option_map};
+ghost use Rattle.std.specs.Prelude.{◌≡◌, ◌≢◌, None, Some, Err, IfOk, map, option_map};
 ghost use Rattle.std.specs.String.{string_bytes};
 ghost use Rattle.clap.specs.Words.{found_of, rows_of};
 ghost use Rattle.squeue_run.specs.Words.{Given, given};
@@ -39,7 +39,8 @@ pub enum WordFault {
 
 /// What the words of the command line, without the program's name, ask for. `Usage` comes exactly where they are refused.
 pub fn words_asked(alloc: Global, words: &[String]) -> Result<AskedWords, WordFault>
-    ensures ok { IfOk result (λ w. asked (map (λ s. string_bytes s) words.now) ≡ Some (record { setup = w.setup; verify = w.verify; number = w.number; calls = w.calls.items })) }
+    ensures ok { IfOk result (λ w. asked (map (λ s. string_bytes s) words.now)
+        ≡ Some (record { setup = w.setup; verify = w.verify; number = w.number; calls = w.calls.items })) }
     ensures usage { result ≡ Err WordFault.Usage → asked (map (λ s. string_bytes s) words.now) ≡ None }
 {
     let matches = matches_in(alloc, words)?;
@@ -105,7 +106,8 @@ fn setup_by(
     spread: Option<&str>,
     trace: bool,
 ) -> Option<Setup>
-    ensures { result ≡ setup_by (option_map (λ t. t.now) squeues.entry) (option_map (λ t. t.now) rings.entry) (option_map (λ t. t.now) mode.entry) (option_map (λ t. t.now) budget.entry) (option_map (λ t. t.now) spread.entry) trace }
+    ensures { result ≡ setup_by (option_map (λ t. t.now) squeues.entry) (option_map (λ t. t.now) rings.entry)
+        (option_map (λ t. t.now) mode.entry) (option_map (λ t. t.now) budget.entry) (option_map (λ t. t.now) spread.entry) trace }
 {
     Some(Setup {
         squeues: number_or(1, 1, 16, squeues)?,

@@ -1,3 +1,4 @@
+pub mod JobByJob
 pub mod AtEach
 pub mod Lent
 pub mod Coming

@@ -1,2 +1,3 @@
 pub mod Places
 pub mod Lending
+pub mod Numbering

@@ -44,7 +44,7 @@ loop-blocks-preserved g c =
 pub returns-clause-back : goal.returns-clause-back
 returns-clause-back g c = λ i.
     let same = c.in_default.ensures.same in
-    let still = subst (λ (l : List (Named StreamBlocks)). AreLent (MayEnd limits_of) c.args.front c.args.count l (lent_to c.loop-blocks.jobs.items)) same.0 c.loop-blocks.invariant.so_far.still in
+    let still = subst (λ (l : List (Named StreamBlocks)). AreLent (MayEnd limits_of) c.args.front c.args.count l (lent_to c.loop-blocks.jobs.items)) same.0 c.loop-blocks.invariant.so_far.are.still in
     ap (λ l. lent_to l i) same.1 ∙ none_lent_at_all (MayEnd limits_of) c.args.front c.args.count (lent_to c.loop-blocks.jobs.items) still i
 
 pub returns-clause-left : goal.returns-clause-left

@@ -7,7 +7,8 @@ use Rattle.squeue_rings.specs.Runs.{count, is_at}
 use Rattle.squeue_serve.specs.Places.{IsNew}
 use Rattle.squeue_serve.specs.Lending.{AreHanded, AreLent, IsRoomFor, holder, lent_to}
 use Rattle.datagram_services.specs.Settings.{IsSet}
-use Rattle.datagram_services.proofs.MadeSqueues.{AreSetBelow, fits, no_squeues, none_yet, one_more, set_more, set_sizes}
+use Rattle.ring_jobs.proofs.Lends.{fits, no_squeues, none_yet, one_more}
+use Rattle.datagram_services.proofs.MadeSqueues.{AreSetBelow, set_more, set_sizes}
 use Rattle.datagram_services.proofs.making.make_all.Goals as goal
 
 pub loop-q-init : goal.loop-q-init

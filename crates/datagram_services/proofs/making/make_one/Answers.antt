@@ -5,9 +5,10 @@ use Rattle.squeue_rings.specs.Runs.{count, is_at}
 use Rattle.squeue_state.specs.Behind.{pairs}
 use Rattle.squeue_state.specs.Words.{ask_quotas}
 use Rattle.stream_blocks.specs.Standing.{Stands}
-use Rattle.datagram_services.specs.declared.lines.Line.{Line}
+use Rattle.ring_jobs.specs.declared.lines.Line.{Line}
 use Rattle.datagram_services.proofs.Listed.{few_line}
-use Rattle.datagram_services.proofs.MadeSqueues.{few_quotas, if_ok, is_set, no_asks, quotas_of, stands_empty}
+use Rattle.ring_jobs.proofs.Starts.{if_ok, stands_empty}
+use Rattle.datagram_services.proofs.MadeSqueues.{few_quotas, is_set, no_asks, quotas_of}
 use Rattle.datagram_services.proofs.making.make_one.Goals as goal
 
 pub quotas_at-requires-clause-few : goal.quotas_at-requires-clause-few

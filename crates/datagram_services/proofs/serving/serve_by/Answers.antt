@@ -4,12 +4,10 @@ use Rattle.squeue_state.specs.Naming.{Named}
 use Rattle.squeue_serve.specs.Lending.{lent_to}
 use Rattle.squeue_serve.proofs.Lent.{none_lent_to}
 use Rattle.stream_blocks.specs.declared.blocks.StreamBlocks.{StreamBlocks}
+use Rattle.ring_jobs.proofs.Starts.{from_ok}
 use Rattle.datagram_services.specs.Settings.{HasRun}
 use Rattle.datagram_services.proofs.Rows.{are_rows}
 use Rattle.datagram_services.proofs.serving.serve_by.Goals as goal
-
-from_ok : {A E : Type 0} (P : A → Type 0) (r : Result A E) (x : A) → r ≡ Ok x → IfOk r P → P x
-from_ok {A = A} {E = E} P r x is h = subst (λ (r : Result A E). IfOk r P) is h
 
 pub discard-requires : goal.discard-requires
 discard-requires g c = none_lent_to c.gather.new.jobs.items c.gather.ensures.back

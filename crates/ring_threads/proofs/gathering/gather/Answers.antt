@@ -7,7 +7,8 @@ use Rattle.conn_blocks.specs.Places.{limits_of}
 use Rattle.squeue_serve.specs.Lending.{AreLent, lent_to}
 use Rattle.squeue_serve.specs.Places.{MayEnd}
 use Rattle.squeue_serve.proofs.Coming.{none_lent_at_all}
-use Rattle.ring_threads.proofs.Back.{SoFar, all_back, each_last, none_back, one_back}
+use Rattle.ring_jobs.proofs.ComesBack.{each_last}
+use Rattle.ring_threads.proofs.Back.{SoFar, all_back, none_back, one_back}
 use Rattle.ring_threads.proofs.gathering.gather.Goals as goal
 
 pub loop-blocks-init : goal.loop-blocks-init
@@ -61,7 +62,7 @@ loop-blocks-preserved g c =
 pub returns-clause-back : goal.returns-clause-back
 returns-clause-back g c = λ i.
     let same = c.in_default.ensures.same in
-    let still = subst (λ (l : List (Named Blocks)). AreLent (MayEnd limits_of) c.args.front c.args.count l (lent_to c.loop-blocks.jobs.items)) same.0 c.loop-blocks.invariant.so_far.still in
+    let still = subst (λ (l : List (Named Blocks)). AreLent (MayEnd limits_of) c.args.front c.args.count l (lent_to c.loop-blocks.jobs.items)) same.0 c.loop-blocks.invariant.so_far.are.still in
     ap (λ l. lent_to l i) same.1 ∙ none_lent_at_all (MayEnd limits_of) c.args.front c.args.count (lent_to c.loop-blocks.jobs.items) still i
 
 pub returns-clause-gathered : goal.returns-clause-gathered

@@ -1,7 +1,8 @@
 use Rattle.std.proofs.Common.{length, ap, ◌∙◌}
 use Rattle.squeue_state.specs.Behind.{pairs}
 use Rattle.conn_blocks.specs.Places.{Stands}
-use Rattle.ring_threads.proofs.MadeSqueues.{if_ok, is_set, stands_empty}
+use Rattle.ring_jobs.proofs.Starts.{if_ok, stands_empty}
+use Rattle.ring_threads.proofs.MadeSqueues.{is_set}
 use Rattle.ring_threads.proofs.making.make_one.Goals as goal
 
 pub make-requires-2-clause-fresh : goal.make-requires-2-clause-fresh

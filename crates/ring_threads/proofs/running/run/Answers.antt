@@ -1,28 +1,27 @@
-use Rattle.std.proofs.Common.{ℕ, All, sym, ◌∙◌, subst}
-use Rattle.squeue_serve.specs.declared.jobs.Job.{Job}
+use Rattle.std.proofs.Common.{ℕ, sym, ◌∙◌, subst}
 use Rattle.conn_blocks.specs.Places.{limits_of, origin_of}
 use Rattle.synch_enter.specs.Hinting.{conns_of}
 use Rattle.squeue_rings.specs.Bringing.{AreOneRun}
-use Rattle.ring_threads.specs.declared.task.Task.{Task}
-use Rattle.ring_threads.specs.Running.{MayDo}
-use Rattle.ring_threads.proofs.Ready.{all_below, all_ready, one_run}
-use Rattle.ring_threads.proofs.Finished.{at_pace, has_run, lent_back}
+use Rattle.ring_jobs.specs.Running.{MayDoAll}
+use Rattle.ring_jobs.proofs.Finished.{at_pace}
+use Rattle.ring_threads.proofs.Ready.{all_below, jobs_ready, one_run}
+use Rattle.ring_threads.proofs.Finished.{all_lent, has_run}
 use Rattle.ring_threads.proofs.running.run.Goals as goal
 
 pub run_all-requires-clause-run : goal.run_all-requires-clause-run
 run_all-requires-clause-run g c κs within =
     let s = c.args.setup.now in
     let ss = c.args.squeues.now in
-    subst (λ (n : ℕ). AreOneRun origin_of n ss) (sym c.pace_of-pace.ensures.squeues) (one_run c.args.plan.now c.args.calls.now s.squeues s.rings s.spread ss c.requires.set)
+    subst (λ (n : ℕ). AreOneRun origin_of n ss) (sym c.pace.ensures.squeues) (one_run c.args.plan.now c.args.calls.now s.squeues s.rings s.spread ss c.requires.set)
 
 pub run_all-requires-clause-hints : goal.run_all-requires-clause-hints
 run_all-requires-clause-hints g c κs within =
     let s = c.args.setup.now in
     let h = c.args.hints.now in
-    (all_below c.args.plan.now c.args.calls.now s.squeues s.rings s.spread c.args.squeues.now c.requires.set (conns_of h) c.requires.hints.0, c.requires.hints.1 ∙ sym c.pace_of-pace.ensures.squeues)
+    (all_below c.args.plan.now c.args.calls.now s.squeues s.rings s.spread c.args.squeues.now c.requires.set (conns_of h) c.requires.hints.0, c.requires.hints.1 ∙ sym c.pace.ensures.squeues)
 
 pub run_all-requires-clause-lines : goal.run_all-requires-clause-lines
-run_all-requires-clause-lines g c κs within = λ r l at. (c.requires.tasks.lines_are.each r l at).ring
+run_all-requires-clause-lines g c κs within = c.requires.tasks.have
 
 pub run_all-requires-clause-ready : goal.run_all-requires-clause-ready
 run_all-requires-clause-ready g c κs within =
@@ -31,9 +30,9 @@ run_all-requires-clause-ready g c κs within =
     let calls = c.args.calls.now in
     let lines = c.args.lines.now in
     let jobs = c.args.jobs.now in
-    let ready = all_ready c.args.plan.now calls s.squeues s.rings s.spread ss c.requires.set lines jobs c.requires.tasks c.requires.lent c.is_sound.ensures c.requires.calls c.requires.setup.squeues.0 in
-    subst (λ (n : ℕ). All (λ (j : Job Task). MayDo limits_of n c.pace_of-pace.result.homes.spread calls lines ss j.task j.places.items) jobs) (sym c.pace_of-pace.ensures.squeues)
-    (subst (λ (n : ℕ). All (λ (j : Job Task). MayDo limits_of s.squeues n calls lines ss j.task j.places.items) jobs) (sym c.pace_of-pace.ensures.spread) ready)
+    let ready = jobs_ready c.args.plan.now calls s.squeues s.rings s.spread ss c.requires.set lines c.requires.lines jobs c.requires.tasks c.requires.lent c.is_sound.ensures c.requires.calls c.requires.setup.squeues.0 in
+    subst (λ (n : ℕ). MayDoAll limits_of n c.pace.result.homes.spread calls lines ss jobs) (sym c.pace.ensures.squeues)
+    (subst (λ (n : ℕ). MayDoAll limits_of s.squeues n calls lines ss jobs) (sym c.pace.ensures.spread) ready)
 
 pub returns-clause-ran : goal.returns-clause-ran
 returns-clause-ran g c =
@@ -43,9 +42,9 @@ returns-clause-ran g c =
     let lines = c.args.lines.now in
     let jobs = c.args.jobs.now in
     let new = c.run_all.new.jobs in
-    let done = at_pace calls lines ss jobs new c.pace_of-pace.result.homes.squeues c.pace_of-pace.result.homes.spread c.pace_of-pace.result.mode c.pace_of-pace.result.budget s.squeues s.spread s.mode s.budget
-    c.pace_of-pace.ensures.squeues c.pace_of-pace.ensures.spread c.pace_of-pace.ensures.mode c.pace_of-pace.ensures.budget c.run_all.ensures in
-    has_run c.args.plan.now calls s ss c.requires.set lines jobs new c.requires.tasks c.requires.lent c.run_all.auto.jobs done c.is_sound.ensures
+    let done = at_pace limits_of calls lines ss jobs new c.pace.result.homes.squeues c.pace.result.homes.spread c.pace.result.mode c.pace.result.budget s.squeues s.spread s.mode s.budget
+    c.pace.ensures.squeues c.pace.ensures.spread c.pace.ensures.mode c.pace.ensures.budget c.run_all.ensures in
+    has_run c.args.plan.now calls s ss c.requires.set lines c.requires.lines jobs new c.requires.tasks c.requires.lent c.run_all.auto.jobs done c.is_sound.ensures
 
 pub returns-clause-lent : goal.returns-clause-lent
 returns-clause-lent g c =
@@ -55,6 +54,6 @@ returns-clause-lent g c =
     let lines = c.args.lines.now in
     let jobs = c.args.jobs.now in
     let new = c.run_all.new.jobs in
-    let done = at_pace calls lines ss jobs new c.pace_of-pace.result.homes.squeues c.pace_of-pace.result.homes.spread c.pace_of-pace.result.mode c.pace_of-pace.result.budget s.squeues s.spread s.mode s.budget
-    c.pace_of-pace.ensures.squeues c.pace_of-pace.ensures.spread c.pace_of-pace.ensures.mode c.pace_of-pace.ensures.budget c.run_all.ensures in
-    lent_back c.args.plan.now calls s ss c.requires.set lines jobs new c.requires.tasks c.requires.lent c.run_all.auto.jobs done
+    let done = at_pace limits_of calls lines ss jobs new c.pace.result.homes.squeues c.pace.result.homes.spread c.pace.result.mode c.pace.result.budget s.squeues s.spread s.mode s.budget
+    c.pace.ensures.squeues c.pace.ensures.spread c.pace.ensures.mode c.pace.ensures.budget c.run_all.ensures in
+    all_lent c.args.plan.now calls s ss c.requires.set lines c.requires.lines jobs new c.requires.tasks c.requires.lent c.run_all.auto.jobs done

@@ -4,13 +4,11 @@ use Rattle.conn_blocks.specs.declared.blocks.Blocks.{Blocks}
 use Rattle.squeue_serve.specs.Lending.{lent_to}
 use Rattle.squeue_serve.proofs.Lent.{none_lent_to}
 use Rattle.ring_threads.specs.Gathering.{HasGathered}
+use Rattle.ring_jobs.proofs.Starts.{from_ok}
 use Rattle.ring_threads.specs.Settings.{HasRun}
-use Rattle.ring_threads.specs.Tasks.{lists_of}
+use Rattle.ring_jobs.specs.Tasks.{lists_of}
 use Rattle.ring_threads.proofs.WholeRun.{all_served, filled}
 use Rattle.ring_threads.proofs.serving.serve_by.Goals as goal
-
-from_ok : {A E : Type 0} (P : A → Type 0) (r : Result A E) (x : A) → r ≡ Ok x → IfOk r P → P x
-from_ok {A = A} {E = E} P r x is h = subst (λ (r : Result A E). IfOk r P) is h
 
 pub discard-requires : goal.discard-requires
 discard-requires g c = none_lent_to c.gather.new.jobs.items c.gather.ensures.back

@@ -1,6 +1,0 @@
-use Rattle.std.proofs.Common.{◌≡◌}
-use Rattle.datagram_services.proofs.Fed.{fed}
-use Rattle.datagram_services.proofs.feeding.feed_all.Given as goal
-
-abbrev pub invariant-loop-i : goal.invariant-loop-i
-invariant-loop-i g l = l.ends.items ≡ fed l.i l.lines

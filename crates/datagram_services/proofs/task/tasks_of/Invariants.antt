@@ -1,7 +1,0 @@
-use Rattle.std.proofs.Common.{◌≡◌, ◌++◌, ℕ, map}
-use Rattle.std.specs.List.{range_with_len}
-use Rattle.datagram_services.specs.declared.task.Task.TheVariants as Task'
-use Rattle.datagram_services.proofs.task.tasks_of.Given as goal
-
-abbrev pub invariant-loop-q : goal.invariant-loop-q
-invariant-loop-q l = l.tasks.items ≡ l.initial.tasks.items ++ map (λ (q : ℕ). Task'.Work q) (range_with_len 0 l.q)

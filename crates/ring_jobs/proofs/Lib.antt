@@ -1,0 +1,12 @@
+pub mod Tasked
+pub mod Lined
+pub mod Fed
+pub mod Works
+pub mod Lends
+pub mod Starts
+pub mod ComesBack
+pub mod Closes
+pub mod AtTheEnd
+pub mod Closing
+pub mod Ready
+pub mod Finished

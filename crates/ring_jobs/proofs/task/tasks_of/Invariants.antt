@@ -1,0 +1,10 @@
+use Rattle.std.proofs.Common.{◌≡◌, ◌++◌, ℕ, map}
+use Rattle.std.specs.List.{range_with_len}
+use Rattle.ring_jobs.specs.declared.task.Task.TheVariants as Task'
+use Rattle.ring_jobs.proofs.task.tasks_of.Given as goal
+
+abbrev pub invariant-loop-thread : goal.invariant-loop-thread
+invariant-loop-thread l = l.tasks.items ≡ l.initial.tasks.items ++ map (λ (j : ℕ). Task'.Call j) (range_with_len 0 l.thread)
+
+abbrev pub invariant-loop-q : goal.invariant-loop-q
+invariant-loop-q l = l.tasks.items ≡ l.initial.tasks.items ++ map (λ (q : ℕ). Task'.Work q) (range_with_len 0 l.q)
