@@ -33,7 +33,8 @@ pub enum InputFault {
 pub fn read_all<S: Source>(alloc: Global, src: &mut S, most: usize) -> Result<Vec<u8>, InputFault>
     requires { most ≤ most_input }
     ensures ok { IfOk result (λ v. ReadsWhole (S.rest src.old) (S.rest src.new) v.items × (length v.items ≤ most)) }
-    ensures read { result ≡ Err InputFault.Read → Rose (S.read_faults src.old) (S.read_faults src.new) × Takes (λ n. n ≤ most) (S.rest src.old) (S.rest src.new) }
+    ensures read { result ≡ Err InputFault.Read → Rose (S.read_faults src.old) (S.read_faults src.new)
+        × Takes (λ n. n ≤ most) (S.rest src.old) (S.rest src.new) }
     ensures large { result ≡ Err InputFault.TooLarge → Takes (λ n. n ≡ most + 1) (S.rest src.old) (S.rest src.new) }
     ensures kept { (result ≡ Err InputFault.Read → ⊥) → S.read_faults src.new ≡ S.read_faults src.old }
     ensures few { Takes (λ n. n ≤ most + 1) (S.rest src.old) (S.rest src.new) }
