@@ -1,5 +1,5 @@
 -- What is known when all jobs are done.
-use Rattle.std.proofs.Common.{◌≡◌, ℕ, ◌+◌, ◌%◌, ◌<◌, List, length, sym, refl, subst, arith, eq-eqb}
+use Rattle.std.proofs.Common.{◌≡◌, ℕ, ◌+◌, ◌%◌, List, length, sym, refl, subst, arith, eq-eqb}
 use Rattle.squeue_state.specs.Naming.{Named}
 use Rattle.conn_classifier.specs.Plan.{PlanOf, IsPlan}
 use Rattle.conn_classifier.specs.RingList.{IsRingList}

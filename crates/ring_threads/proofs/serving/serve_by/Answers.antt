@@ -1,4 +1,4 @@
-use Rattle.std.proofs.Common.{◌≡◌, ℕ, List, Result, Ok, IfOk, reverse, ◌∙◌, subst}
+use Rattle.std.proofs.Common.{ℕ, List, reverse, ◌∙◌, subst}
 use Rattle.squeue_state.specs.Naming.{Named}
 use Rattle.conn_blocks.specs.declared.blocks.Blocks.{Blocks}
 use Rattle.squeue_serve.specs.Lending.{lent_to}
