@@ -4,7 +4,6 @@ use Rattle.std.proofs.lemmas.List.{append-nil, map-append}
 use Rattle.std.specs.Prelude.{slice_get}
 use Rattle.perimeter_core.specs.declared.entries.Act.{Act}
 use Rattle.perimeter_core.specs.declared.entries.Entry.{Entry}
-use Rattle.perimeter_core.specs.declared.entries.Entry.TheVariants as Entered
 use Rattle.perimeter_core.specs.declared.marks.Mark.{Mark}
 use Rattle.perimeter_core.specs.declared.marks.Mark.TheVariants as On
 use Rattle.perimeter_core.specs.Perimeter.{Can, State, after, has_ask, is_closed, is_here}
@@ -20,6 +19,7 @@ use Rattle.conn_migrate.proofs.OneSqueue.{stays_push}
 use Rattle.squeue_replay.specs.Standing.{GuestOf, GuestStands, PassOf, PassStands}
 use Rattle.squeue_replay.proofs.OneMoreMark.{GuestGoes, PassGoes}
 use Rattle.squeue_replay.proofs.QueuedFeeds.{GuestQueued}
+use Rattle.squeue_replay.proofs.AskSteps.{has_ask-append}
 
 -- such a mark reports nothing, and moves no block
 abbrev pub IsEntering : Mark → Type 0
@@ -101,15 +101,6 @@ entering_guest S H m note guests c h l can k stood w =
       did = λ old. w.did ∙ (old ∙ sym (quiet_stays S H m note c k));
     }
 
-pub has_both : (p : ℕ) (xs ys : List Entry) → has_ask p (xs ++ ys) ≡ (has_ask p xs || has_ask p ys)
-has_both p [] ys = refl
-has_both p (Entered.Feed c n ∷ xs) ys = has_both p xs ys
-has_both p (Entered.Ask q ∷ xs) ys = or_step (q == p) (has_ask p (xs ++ ys)) (has_ask p xs) (has_ask p ys) (has_both p xs ys)
-  where
-    or_step : (a b x y : Bool) → b ≡ (x || y) → (a || b) ≡ ((a || x) || y)
-    or_step true b x y h = refl
-    or_step false b x y h = h
-
 -- a pass after such a mark
 pub record PassEntered (passes : List PassOf) (st : State) (m : Mark) (q : ℕ) (y : PassOf) : Type 0 where
   pub before : PassOf
@@ -125,9 +116,9 @@ entering_pass S H m note passes q y l can k stood w =
     let g = stood w.before w.was in
     let s = run S H in
     let grown : (has_ask q (after s m).hand || has_ask q (after s m).chain) ≡ (has_ask q s.hand || has_ask q s.chain || has_ask q (entries_of m))
-    = sym (has_both q (after s m).hand (after s m).chain)
+    = sym (has_ask-append q (after s m).hand (after s m).chain)
     ∙ (ap (has_ask q) (queue_grows S H m l can k)
-    ∙ (has_both q (queue s) (entries_of m) ∙ ap (λ (b : Bool). b || has_ask q (entries_of m)) (has_both q s.hand s.chain))) in
+    ∙ (has_ask-append q (queue s) (entries_of m) ∙ ap (λ (b : Bool). b || has_ask q (entries_of m)) (has_ask-append q s.hand s.chain))) in
     record {
       before = w.before;
       was = w.was;

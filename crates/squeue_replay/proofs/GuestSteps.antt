@@ -6,7 +6,7 @@ use Rattle.perimeter_core.specs.declared.entries.Entry.{Entry}
 use Rattle.perimeter_core.specs.Perimeter.{State, after, is_here}
 use Rattle.perimeter_core.specs.History.{Element, Setting, start, run}
 use Rattle.perimeter_core.specs.Backlog.{queue}
-use Rattle.perimeter_core.specs.Deeds.{acts, acts_after, done_by, due_after, entries_of, feeds_of, puts_in, reported, takes_out, times_left}
+use Rattle.perimeter_core.specs.Deeds.{acts, acts_after, done_by, due_after, entries_of, feeds_of, puts_in, reported, takes_out}
 use Rattle.perimeter_core.specs.Legal.{May, Legal}
 use Rattle.perimeter_core.proofs.OneMore.{run_push, due_push}
 use Rattle.perimeter_core.proofs.OrderAndWake.{sound}
@@ -17,9 +17,9 @@ use Rattle.perimeter_core.proofs.BlocksFollow.{flags}
 use Rattle.perimeter_core.proofs.OwnersReport.{none_reported}
 use Rattle.conn_migrate.specs.Stays.{Stay, Stays, as_list, all_in, begun, longer_by, stays}
 use Rattle.conn_migrate.proofs.OneSqueue.{stays_push, fits}
-use Rattle.squeue_replay.specs.Histories.{times_in}
 use Rattle.squeue_replay.specs.Standing.{GuestOf, GuestStands}
 use Rattle.squeue_replay.specs.Steps.{last_longer}
+use Rattle.squeue_replay.proofs.OneMoreMark.{times_in_push, times_left_push}
 
 -- a connection after a mark that is legal
 abbrev pub guest_after : ℕ → State → Element → GuestOf → GuestOf
@@ -66,14 +66,6 @@ did_after true b more had note v away = map-append (λ (w : Stay). w.own) (all_i
 did_after false true more had note v away = ap owns (append-nil (v.ended ++ as_list (longer_by more had v.now))) ∙ owns_longer v.ended more had v.now away
 did_after false false more had note v away = owns_longer v.ended more had v.now away
 
-left_push : (c : ℕ) (H : List Element) (e : Element) → times_left c (H ++ e ∷ []) ≡ times_left c H + (if takes_out c e.mark then 1 else 0)
-left_push c [] e = omega arith
-left_push c (x ∷ H) e = omega (arith, left_push c H e)
-
-came_push : (c : ℕ) (H : List Element) (e : Element) → times_in c (map (λ x. x.mark) (H ++ e ∷ [])) ≡ times_in c (map (λ x. x.mark) H) + (if puts_in c e.mark then 1 else 0)
-came_push c [] e = omega arith
-came_push c (x ∷ H) e = omega (arith, came_push c H e)
-
 abbrev at_first : Setting → ℕ → Stays
 at_first S c = record { ended = []; now = if is_here (start S) c then Some (begun []) else None }
 
@@ -105,7 +97,7 @@ module _ (S : Setting) (H : List Element) (e : Element) (l : Legal S H) (m : May
     here = here;
     due = ap (λ (n : ℕ). due_after c n e) stands.due ∙ sym (due_push c 0 H e);
     queued = queued;
-    left = ap (λ (n : ℕ). n + (if takes_out c e.mark then 1 else 0)) stands.left ∙ sym (left_push c H e);
-    came = ap (λ (n : ℕ). n + (if puts_in c e.mark then 1 else 0)) stands.came ∙ sym (came_push c H e);
+    left = ap (λ (n : ℕ). n + (if takes_out c e.mark then 1 else 0)) stands.left ∙ sym (times_left_push c H e);
+    came = ap (λ (n : ℕ). n + (if puts_in c e.mark then 1 else 0)) stands.came ∙ sym (times_in_push c H e);
     did = did;
   }

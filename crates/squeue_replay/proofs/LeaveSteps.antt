@@ -2,7 +2,7 @@
 use Rattle.std.proofs.Common.{◌≡◌, ◌≢◌, ℕ, ◌+◌, ◌-◌, ◌<◌, ◌≤◌, ◌⊎◌, inl, inr, Bool, true, false, not, ◌&&◌, ◌||◌, if◌then◌else◌, ◌==◌, Some, List, [], ◌∷◌, ◌++◌, length, refl, ap, sym, ◌∙◌, subst, append_assoc, arith, length-append}
 use Rattle.std.specs.Prelude.{slice_get}
 use Rattle.std.proofs.lemmas.Bool.Decides.{nat_tests}
-use Rattle.std.proofs.lemmas.List.{take-append-drop}
+use Rattle.std.proofs.lemmas.List.{take-append-drop, nil_from_length}
 use Rattle.std.proofs.lemmas.Option.{slice_get_cases, slice_get_within}
 use Rattle.perimeter_core.specs.declared.entries.Act.{Act}
 use Rattle.perimeter_core.specs.declared.entries.Entry.{Entry}
@@ -25,15 +25,12 @@ use Rattle.squeue_replay.specs.Steps.{ActMay, Answered, Became, Processed, guest
 use Rattle.squeue_replay.proofs.AskSteps.{asks_left, has_ask-append}
 use Rattle.squeue_replay.proofs.GuestSteps.{guest_after}
 use Rattle.squeue_replay.proofs.GuestActs.{became_same, became_twice, granted_guest, left_guest}
-use Rattle.squeue_replay.proofs.ProcessSteps.{goes_on, owner_range, within_more}
+use Rattle.squeue_replay.proofs.ProcessSteps.{goes_on, within_more}
+use Rattle.squeue_drain.proofs.OwnersFacts.{owner_below}
 
 same_back : (xs ys zs : List Entry) → xs ++ ys ≡ xs ++ zs → ys ≡ zs
 same_back [] ys zs e = e
 same_back (x ∷ xs) ys zs e = let rest : xs ++ ys ≡ xs ++ zs = cc e in same_back xs ys zs rest
-
-nil_of_zero : (xs : List ℕ) → length xs ≡ 0 → xs ≡ []
-nil_of_zero [] e = refl
-nil_of_zero (x ∷ xs) e = absurd (omega (arith, e))
 
 -- what is left of the hand
 pub left_over : (rest : ℕ) (hand back : List Entry) → hand ≡ processed rest hand ++ back → back ≡ unprocessed rest hand
@@ -95,7 +92,7 @@ module _ (S : Setting) (H : List Element) (p j rest : ℕ) (x : SqueueOf) (k : S
       let low : j < worker S = asked_low asked in
       record {
         step = (out, subst (λ (hand : List Entry). rest ≤ length hand) k.hand t.few, asked, t.other);
-        range = (owner_range S H p k.legal out, omega (arith, low));
+        range = (owner_below S H p k.legal out, omega (arith, low));
         worker_only = tt;
         idle = tt;
         kind = tt;
@@ -181,7 +178,7 @@ module _ (S : Setting) (H : List Element) (p rest : ℕ) (x : SqueueOf) (k : Sta
       let w = now c a.2.0 a.2.1 in ((a.1, sym w.here ∙ a.2.2, a.3), w.within, not_worker (Done.Call c j n) a.0)
   act_fits (Done.Out c) a =
       let w = now c a.2.0 a.2.1 in
-      ((a.1, sym w.here ∙ a.2.2.0, rw (← w.left) a.2.2.1, nil_of_zero _ (sym w.queued ∙ a.2.2.2)), w.within, not_worker (Done.Out c) a.0)
+      ((a.1, sym w.here ∙ a.2.2.0, rw (← w.left) a.2.2.1, nil_from_length _ (sym w.queued ∙ a.2.2.2)), w.within, not_worker (Done.Out c) a.0)
   act_fits (Done.In c) a = let w = now c a.2.0 a.2.1 in ((a.1, sym w.here ∙ a.2.2), w.within, not_worker (Done.In c) a.0)
 
   found : (c : ℕ) → c < conns S → (g : GuestOf) × (slice_get gs c ≡ Some g)
@@ -221,7 +218,7 @@ module _ (S : Setting) (H : List Element) (p rest : ℕ) (x : SqueueOf) (k : Sta
       let f = act_fits act t.may in
       record {
         step = (out, subst (λ (hand : List Entry). rest ≤ length hand) k.hand t.few);
-        range = (owner_range S H p k.legal out, f.1);
+        range = (owner_below S H p k.legal out, f.1);
         worker_only = f.2;
         idle = tt;
         kind = tt;

@@ -1,10 +1,12 @@
 -- A squeue before its first mark, and one that has ended.
 use Rattle.std.proofs.Common.{◌≡◌, ℕ, zero, suc, ◌+◌, IsTrue, Bool, true, false, if◌then◌else◌, Some, None, List, [], ◌∷◌, ◌++◌, length, map, replicate, refl, ap, sym, ◌∙◌, arith, slice_index_or}
-use Rattle.std.proofs.lemmas.List.{map-append}
+use Rattle.std.proofs.lemmas.List.{map-append, length-map}
 use Rattle.std.proofs.lemmas.List.Elements.{All-cons, All-head, All-nil, All-tail}
 use Rattle.std.proofs.lemmas.List.FromFn.{length-map-range_with_len, map-range_with_len_more}
 use Rattle.std.specs.List.{range_with_len}
 use Rattle.std.specs.Prelude.{All, slice_get}
+use Rattle.std.proofs.lemmas.Simd.{map-map}
+use Rattle.std.proofs.lemmas.Option.{get_or_from_slice_get, slice_get_within}
 use Rattle.perimeter_core.specs.declared.marks.Own.TheVariants.{Free}
 use Rattle.perimeter_core.specs.Ending.{IsOver}
 use Rattle.perimeter_core.specs.History.{Element, Setting, passes, run}
@@ -15,19 +17,9 @@ use Rattle.squeue_replay.specs.declared.guest.Guest.{Guest}
 use Rattle.squeue_replay.specs.declared.squeue.Pass.{Pass}
 use Rattle.squeue_replay.specs.Standing.{GuestOf, GuestStands, PassOf, PassStands, SqueueOf, Stands, guest_of}
 use Rattle.squeue_replay.specs.Entering.{first_guest, first_pass}
-use Rattle.squeue_replay.proofs.Places.{map_length}
-use Rattle.squeue_replay.proofs.QueuedFeeds.{there, within}
+use Rattle.squeue_replay.proofs.QueuedFeeds.{there}
 use Rattle.squeue_replay.proofs.Reading.{kept}
-
-map_at : {A B : Type 0} (f : A → B) (xs : List A) (i : ℕ) (y : B) → slice_get (map f xs) i ≡ Some y → (x : A) × (slice_get xs i ≡ Some x) × (y ≡ f x)
-map_at f [] i y at = absurd cc
-map_at f (x ∷ xs) zero y at = (x, refl, cc)
-map_at f (x ∷ xs) (suc i) y at = map_at f xs i y at
-
-read_at : {A : Type 0} (xs : List A) (i : ℕ) (d x : A) → slice_get xs i ≡ Some x → slice_index_or xs i d ≡ x
-read_at [] i d x at = absurd cc
-read_at (y ∷ xs) zero d x at = cc
-read_at (y ∷ xs) (suc i) d x at = read_at xs i d x at
+use Rattle.squeue_rings.proofs.RingStays.{from_map}
 
 none_closed : (n p : ℕ) → slice_index_or (replicate n false) p false ≡ false
 none_closed zero p = refl
@@ -36,13 +28,14 @@ none_closed (suc n) (suc p) = none_closed n p
 
 pass_first : (S : Setting) (p : ℕ) (x : PassOf) → slice_get (map first_pass S.quotas) p ≡ Some x → PassStands S [] p x
 pass_first S p x at =
-    let q = map_at first_pass S.quotas p x at in
-    let quota = read_at S.quotas p (0, 0) q.0 q.1 in
+    let q = from_map first_pass S.quotas p x at in
+    let is : x ≡ first_pass q.0 = sym q.2 in
+    let quota = get_or_from_slice_get S.quotas p q.0 (0, 0) q.1 in
     record {
-      closed = ap (λ (v : PassOf). v.closed) q.2 ∙ sym (none_closed (passes S) p);
-      waiting = ap (λ (v : PassOf). v.waiting) q.2;
-      feeds = let n = ap (λ (v : PassOf). v.feeds) q.2 in let m = ap (λ (v : ℕ × ℕ). v.0) quota in omega (arith, n, m);
-      asks = let n = ap (λ (v : PassOf). v.asks) q.2 in let m = ap (λ (v : ℕ × ℕ). v.1) quota in omega (arith, n, m);
+      closed = ap (λ (v : PassOf). v.closed) is ∙ sym (none_closed (passes S) p);
+      waiting = ap (λ (v : PassOf). v.waiting) is;
+      feeds = let n = ap (λ (v : PassOf). v.feeds) is in let m = ap (λ (v : ℕ × ℕ). v.0) quota in omega (arith, n, m);
+      asks = let n = ap (λ (v : PassOf). v.asks) is in let m = ap (λ (v : ℕ × ℕ). v.1) quota in omega (arith, n, m);
     }
 
 first_stays : (b : Bool) → (if b then [] ∷ [] else []) ≡ map (λ (v : Stay). v.own) ([] ++ as_list (if b then Some (begun []) else None))
@@ -51,15 +44,16 @@ first_stays false = refl
 
 guest_first : (S : Setting) (c : ℕ) (g : GuestOf) → slice_get (map first_guest S.starts) c ≡ Some g → GuestStands S [] c g
 guest_first S c g at =
-    let b = map_at first_guest S.starts c g at in
-    let here = read_at S.starts c false b.0 b.1 in
+    let b = from_map first_guest S.starts c g at in
+    let is : g ≡ first_guest b.0 = sym b.2 in
+    let here = get_or_from_slice_get S.starts c b.0 false b.1 in
     record {
-      here = ap (λ (v : GuestOf). v.here) b.2 ∙ sym here;
-      due = ap (λ (v : GuestOf). v.due) b.2;
-      queued = ap (λ (v : GuestOf). v.queued) b.2;
-      left = ap (λ (v : GuestOf). v.left) b.2;
-      came = ap (λ (v : GuestOf). v.came) b.2;
-      did = ap (λ (v : GuestOf). v.did) b.2 ∙ (first_stays b.0 ∙ ap (λ (h : Bool). map (λ (v : Stay). v.own) ([] ++ as_list (if h then Some (begun []) else None))) (sym here));
+      here = ap (λ (v : GuestOf). v.here) is ∙ sym here;
+      due = ap (λ (v : GuestOf). v.due) is;
+      queued = ap (λ (v : GuestOf). v.queued) is;
+      left = ap (λ (v : GuestOf). v.left) is;
+      came = ap (λ (v : GuestOf). v.came) is;
+      did = ap (λ (v : GuestOf). v.did) is ∙ (first_stays b.0 ∙ ap (λ (h : Bool). map (λ (v : Stay). v.own) ([] ++ as_list (if h then Some (begun []) else None))) (sym here));
     }
 
 pub first_stands : (S : Setting) (s : SqueueOf) → s.own ≡ Free → s.wake ≡ false → s.chain ≡ [] → s.hand ≡ [] → s.passes ≡ map first_pass S.quotas → s.guests ≡ map first_guest S.starts → Stands S [] s
@@ -70,9 +64,9 @@ first_stands S s own wake chain hand passes_ guests_ =
       wake = wake;
       chain = chain;
       hand = hand;
-      passes = ap length passes_ ∙ map_length first_pass S.quotas;
+      passes = ap length passes_ ∙ length-map S.quotas first_pass;
       each_pass = λ p x at. pass_first S p x (ap (λ (xs : List PassOf). slice_get xs p) (sym passes_) ∙ at);
-      guests = ap length guests_ ∙ map_length first_guest S.starts;
+      guests = ap length guests_ ∙ length-map S.starts first_guest;
       each_guest = λ c g at. guest_first S c g (ap (λ (xs : List GuestOf). slice_get xs c) (sym guests_) ∙ at);
     }
 
@@ -86,12 +80,9 @@ over S H s k free empty closed =
     }
 
 pub over_closed : (S : Setting) (H : List Element) (s : SqueueOf) → Stands S H s → IsOver S (run S H) → (p : ℕ) (x : PassOf) → slice_get s.passes p ≡ Some x → x.closed ≡ true
-over_closed S H s k o p x at = (k.each_pass p x at).closed ∙ o.closed p (let n = k.passes in let less = within s.passes p x at in omega (arith, n, less))
+over_closed S H s k o p x at = (k.each_pass p x at).closed ∙ o.closed p (let n = k.passes in let less = slice_get_within s.passes p x at in omega (arith, n, less))
 
 -- what the code makes
-map_twice : {A B C : Type 0} (f : B → C) (g : A → B) (xs : List A) → map f (map g xs) ≡ map (λ x. f (g x)) xs
-map_twice f g [] = refl
-map_twice {C = C} f g (x ∷ xs) = ap (λ (ys : List C). f (g x) ∷ ys) (map_twice f g xs)
 
 abbrev pub made_pass : Quota → Pass
 made_pass q = record { closed = false; waiting = false; feeds = q.feeds; asks = q.asks }
@@ -104,7 +95,7 @@ pub passes_first : (xs : List Pass) (qs rs : List Quota) (quotas : List (ℕ × 
 passes_first xs qs rs quotas is same are = ap (map kept) (is ∙ ap (map made_pass) same) ∙ (made_passes qs ∙ ap (map first_pass) are)
 
 pub guests_first : (gs : List GuestOf) (starts : ℕ → Bool) (n m : ℕ) → gs ≡ map (λ c. first_guest (starts c)) (range_with_len 0 n) → n ≡ m → gs ≡ map first_guest (map starts (range_with_len 0 m))
-guests_first gs starts n m is same = is ∙ (ap (λ (k : ℕ). map (λ c. first_guest (starts c)) (range_with_len 0 k)) same ∙ sym (map_twice first_guest starts (range_with_len 0 m)))
+guests_first gs starts n m is same = is ∙ (ap (λ (k : ℕ). map (λ c. first_guest (starts c)) (range_with_len 0 k)) same ∙ sym (map-map first_guest starts (range_with_len 0 m)))
 
 pub one_guest_more : (f : ℕ → GuestOf) (gs hs : List Guest) (g : Guest) (n : ℕ) → map guest_of gs ≡ map f (range_with_len 0 n) → hs ≡ gs ++ g ∷ [] → guest_of g ≡ f n → map guest_of hs ≡ map f (range_with_len 0 (n + 1))
 one_guest_more f gs hs g n so_far is one =
@@ -112,7 +103,7 @@ one_guest_more f gs hs g n so_far is one =
     ∙ (ap (λ (x : GuestOf). map f (range_with_len 0 n) ++ x ∷ []) one ∙ sym (map-range_with_len_more f 0 n n (omega arith)))))
 
 pub counted_guests : (gs : List Guest) (f : ℕ → GuestOf) (n : ℕ) → map guest_of gs ≡ map f (range_with_len 0 n) → length gs ≡ n
-counted_guests gs f n is = sym (map_length guest_of gs) ∙ (ap length is ∙ length-map-range_with_len f 0 n)
+counted_guests gs f n is = sym (length-map gs guest_of) ∙ (ap length is ∙ length-map-range_with_len f 0 n)
 
 pub closed_all : (xs : List Pass) → All (λ p. IsTrue p.closed) xs → (p : ℕ) (x : PassOf) → slice_get (map kept xs) p ≡ Some x → x.closed ≡ true
 closed_all [] all p x at = absurd cc

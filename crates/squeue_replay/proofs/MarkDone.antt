@@ -2,7 +2,8 @@
 use Rattle.std.proofs.Common.{◌≡◌, ◌≢◌, ℕ, ◌+◌, ◌-◌, ◌*◌, ◌<◌, ◌≤◌, ◌⊎◌, inl, inr, Bool, true, false, not, if◌then◌else◌, ◌==◌, Some, List, [], ◌∷◌, ◌++◌, length, map, take, refl, ap, sym, ◌∙◌, subst, arith}
 use Rattle.std.specs.Prelude.{slice_get}
 use Rattle.std.proofs.lemmas.Bool.Decides.{nat_tests}
-use Rattle.std.proofs.lemmas.List.{take_all}
+use Rattle.std.proofs.lemmas.List.{take_all, nil_from_length}
+use Rattle.std.proofs.lemmas.Bool.{eqb-true, eq-eqb}
 use Rattle.perimeter_core.specs.declared.entries.Act.{Act}
 use Rattle.perimeter_core.specs.declared.entries.Entry.{Entry}
 use Rattle.perimeter_core.specs.declared.marks.Own.TheVariants.{Free, Out}
@@ -109,21 +110,11 @@ module _ (S : Setting) (H : List Element) (p rest n count : ℕ) (act : SynchAct
           let noted_so : NotesFeeds squeues spread q H (Done.In c) note = subst (λ (b : SynchAct). NotesFeeds squeues spread q H b note) (put ∙ ap Done.In same) feeds in
           ap (λ (m : ℕ). stay_of squeues q c m * spread) came ∙ sym noted_so
 
-zero_of : (n : ℕ) → (n == 0) ≡ true → n ≡ 0
-zero_of n h = grind (arith, nat_tests)
-
-is_zero : (n : ℕ) → n ≡ 0 → (n == 0) ≡ true
-is_zero n h = grind (arith, nat_tests)
-
-nil_of : (xs : List Entry) → length xs ≡ 0 → xs ≡ []
-nil_of [] h = refl
-nil_of (x ∷ xs) h = absurd (omega (arith, h))
-
 -- whether nothing is there, by a count
 pub empty_says : (b : Bool) (n : ℕ) (xs : List Entry) → b ≡ (n == 0) → n ≡ length xs → (b ≡ true → xs ≡ []) × (xs ≡ [] → b ≡ true)
 empty_says b n xs is len = (
-  (λ t. let zero = zero_of n (sym is ∙ t) in nil_of xs (omega (arith, zero, len))),
-  (λ e. let none = ap length e in is ∙ is_zero n (omega (arith, none, len))),
+  (λ t. let zero = eqb-true n 0 (sym is ∙ t) in nil_from_length xs (omega (arith, zero, len))),
+  (λ e. let none = ap length e in is ∙ eq-eqb n 0 (omega (arith, none, len))),
 )
 
 -- what was processed leaves how often connections came and left

@@ -1,9 +1,12 @@
 -- Each mark that enters something, takes what is queued or closes a pass: the squeue stands for the longer history after it, and what
 -- is seen where it may be made.
 use Rattle.std.proofs.Common.{◌≡◌, ◌≢◌, ℕ, zero, suc, ◌+◌, ◌-◌, ◌<◌, ◌≤◌, Bool, true, false, ◌||◌, inl, inr, if◌then◌else◌, ◌==◌, Some, List, [], ◌∷◌, ◌++◌, length, refl, ap, sym, ◌∙◌, arith, slice_index_or, slice_set}
-use Rattle.std.proofs.lemmas.List.{take-append-drop}
+use Rattle.std.proofs.lemmas.List.{take-append-drop, length-set}
 use Rattle.std.proofs.lemmas.Bool.Decides.{nat_tests}
 use Rattle.std.specs.Prelude.{slice_get}
+use Rattle.std.proofs.Math.Bool.{or-false, or-true}
+use Rattle.std.proofs.lemmas.Bool.{or_parts}
+use Rattle.std.proofs.lemmas.Option.{slice_get_within}
 use Rattle.perimeter_core.specs.declared.entries.Entry.{Entry}
 use Rattle.perimeter_core.specs.declared.entries.Entry.TheVariants as Entered
 use Rattle.perimeter_core.specs.declared.entries.Feed.{Feed}
@@ -27,29 +30,12 @@ use Rattle.perimeter_core.proofs.Sound.{hand_free, hand_granted}
 use Rattle.squeue_replay.specs.Standing.{GuestOf, PassOf, PassStands, SqueueOf, Stands}
 use Rattle.squeue_replay.specs.Entering.{AreSmall, IsIdle, Queues, QueuesAsk}
 use Rattle.squeue_replay.proofs.OneMoreMark.{Goes, asks_by_push, feeds_by_push, stands_more}
-use Rattle.squeue_replay.proofs.QueuedFeeds.{GuestQueued, Knows, PassQueued, Queued, entries_feeds, entries_some, may_queue, queued, same_there, set_at, set_length, there}
-use Rattle.squeue_replay.proofs.QueuedFeeds.{within as place_within}
+use Rattle.squeue_replay.proofs.QueuedFeeds.{GuestQueued, Knows, PassQueued, Queued, entries_feeds, entries_some, may_queue, queued, same_there, set_at, there}
 use Rattle.squeue_replay.proofs.EnteringMarks.{IsEntering, PassEntered, entering_guest, entering_pass}
 
 -- a mark without a note
 abbrev pub plain : Mark → Element
 plain m = record { mark = m; note = [] }
-
-or_false : (b : Bool) → (b || false) ≡ b
-or_false true = refl
-or_false false = refl
-
-or_true : (b : Bool) → (b || true) ≡ true
-or_true true = refl
-or_true false = refl
-
-or_swap : (a b : Bool) → (a || b) ≡ (b || a)
-or_swap true b = sym (or_true b)
-or_swap false b = sym (or_false b)
-
-or_none : (a b : Bool) → (a || b) ≡ false → (a ≡ false) × (b ≡ false)
-or_none true b h = absurd cc
-or_none false b h = (refl, h)
 
 none_else : (b : Bool) → ◌≡◌ {A = ℕ} (if b then 0 else 0) 0
 none_else true = refl
@@ -62,7 +48,7 @@ own_part p n = let e : (p == p) ≡ true = grind (arith, nat_tests) in rw e refl
 pub idle_there : (S : Setting) (H : List Element) (p : ℕ) (s : SqueueOf) → Stands S H s → IsIdle p s → Idle (run S H) p × (p < worker S)
 idle_there S H p s k i =
     let x = k.each_pass p i.pass i.was in
-    let asks = or_none (has_ask p (run S H).hand) (has_ask p (run S H).chain) (sym x.waiting ∙ i.waits_not) in (
+    let asks = or_parts (has_ask p (run S H).hand) (has_ask p (run S H).chain) (sym x.waiting ∙ i.waits_not) in (
       record {
         open_pass = sym x.closed ∙ i.open_pass;
         no_owner = λ e. i.no_owner (k.own ∙ e);
@@ -70,7 +56,7 @@ idle_there S H p s k i =
         not_in_hand = asks.0;
         not_in_chain = asks.1;
       },
-      rw k.passes at (place_within s.passes p i.pass i.was),
+      rw k.passes at (slice_get_within s.passes p i.pass i.was),
     )
 
 pub there_idle : (S : Setting) (H : List Element) (p : ℕ) (s : SqueueOf) → Stands S H s → Idle (run S H) p → p < worker S → IsIdle p s
@@ -132,7 +118,7 @@ no_ask q (f ∷ fs) = no_ask q fs
 -- the feeds were no more than the pass had left
 enough : (S : Setting) (st : State) (p : ℕ) (next : ℕ → ℕ) (fs : List Feed) (s u : SqueueOf) (x : PassOf) → Queued S st p next fs s u → slice_get s.passes p ≡ Some x → feed_count (entries fs) ≤ x.feeds
 enough S st p next fs s u x r at =
-    let now = there u.passes p (rw r.passes (place_within s.passes p x at)) in
+    let now = there u.passes p (rw r.passes (slice_get_within s.passes p x at)) in
     let y = r.each_pass p now.0 now.1 in
     let same = same_there (slice_get s.passes p) y.before x y.was at in
     let n : (if p == p then feed_count (entries fs) else 0) ≡ feed_count (entries fs) = own_part p (feed_count (entries fs)) in
@@ -145,7 +131,7 @@ feed_pass S H m p fs passes q y is feeds closed z =
       before = z.before;
       was = z.was;
       closed = λ old. z.closed ∙ (old ∙ sym (closed q));
-      waiting = rw (feeds, no_ask q fs) (z.waiting ∙ sym (or_false z.before.waiting));
+      waiting = rw (feeds, no_ask q fs) (z.waiting ∙ sym (or-false z.before.waiting));
       feeds = rw (is, feeds) z.feeds;
       asks = rw (feeds, (entries_feeds fs).1, none_else (pass_of m == q)) (omega (arith, z.asks));
     }
@@ -271,7 +257,7 @@ ask_pass S H m p s u q y is asks closed a at =
             before = a.pass;
             was = rw w.0 a.was;
             closed = λ old. ap (λ (v : PassOf). v.closed) w.1 ∙ (old ∙ sym (closed q));
-            waiting = ap (λ (v : PassOf). v.waiting) w.1 ∙ rw (asks, same) (sym (or_true a.pass.waiting));
+            waiting = ap (λ (v : PassOf). v.waiting) w.1 ∙ rw (asks, same) (sym (or-true a.pass.waiting));
             feeds = rw (is, asks, same) (omega (arith, ap (λ (v : PassOf). v.feeds) w.1));
             asks = rw (is, asks, same) (omega (arith, ap (λ (v : PassOf). v.asks) w.1, a.left));
           }
@@ -281,7 +267,7 @@ ask_pass S H m p s u q y is asks closed a at =
             before = y;
             was = w.1;
             closed = λ old. old ∙ sym (closed q);
-            waiting = rw (asks, other) (sym (or_false y.waiting));
+            waiting = rw (asks, other) (sym (or-false y.waiting));
             feeds = rw (is, other) (omega arith);
             asks = rw (is, other) (omega arith);
           }
@@ -300,7 +286,7 @@ asks_go S H m p s u t k can kind is asks closed a passes_ guests_ own wake chain
       wake = wake;
       chain = chain;
       hand = hand;
-      passes = ap length passes_ ∙ (ap (λ (v : SqueueOf). length v.passes) a.is ∙ set_length s.passes p (record a.pass { asks = a.pass.asks - 1; waiting = true }));
+      passes = ap length passes_ ∙ (ap (λ (v : SqueueOf). length v.passes) a.is ∙ length-set s.passes p (record a.pass { asks = a.pass.asks - 1; waiting = true }));
       each_pass = λ q y at.
           entering_pass S H m [] s.passes q y k.legal can kind (k.each_pass q)
           (ask_pass S H m p s u q y is asks closed a (ap (λ (xs : List PassOf). slice_get xs q) (sym passes_) ∙ at));
@@ -370,7 +356,7 @@ pass_kept S H m passes q y none closed at =
       before = y;
       was = at;
       closed = λ old. old ∙ sym (closed q);
-      waiting = rw none (sym (or_false y.waiting));
+      waiting = rw none (sym (or-false y.waiting));
       feeds = rw (none, none_else (pass_of m == q)) (omega arith);
       asks = rw (none, none_else (pass_of m == q)) (omega arith);
     }
@@ -502,7 +488,7 @@ close_pass S H p passes_ x y q l less was at =
             before = x;
             was = rw w.0 was;
             closed = λ old. ap (λ (v : PassOf). v.closed) w.1 ∙ rw w.0 (sym (flag_set (run S H).closed p (omega (arith, flags, less))));
-            waiting = ap (λ (v : PassOf). v.waiting) w.1 ∙ sym (or_false x.waiting);
+            waiting = ap (λ (v : PassOf). v.waiting) w.1 ∙ sym (or-false x.waiting);
             feeds = rw (none_else (p == q)) (omega (arith, ap (λ (v : PassOf). v.feeds) w.1));
             asks = rw (none_else (p == q)) (omega (arith, ap (λ (v : PassOf). v.asks) w.1));
           }
@@ -510,7 +496,7 @@ close_pass S H p passes_ x y q l less was at =
         before = y;
         was = w.1;
         closed = λ old. old ∙ sym (flag_other (run S H).closed p q w.0);
-        waiting = sym (or_false y.waiting);
+        waiting = sym (or-false y.waiting);
         feeds = rw (none_else (p == q)) (omega arith);
         asks = rw (none_else (p == q)) (omega arith);
       }
@@ -542,7 +528,7 @@ close_stands S H p s x k i at =
       wake = k.wake;
       chain = k.chain;
       hand = k.hand;
-      passes = set_length s.passes p (record x { closed = true });
+      passes = length-set s.passes p (record x { closed = true });
       each_pass = λ q y here. entering_pass S H m [] s.passes q y k.legal idle.0 tt (k.each_pass q) (close_pass S H p s.passes x y q k.legal idle.1 at here);
       guests = refl;
       each_guest = λ c h here. entering_guest S H m [] s.guests c h k.legal idle.0 tt (k.each_guest c) (same_guest s.guests c m h refl here);

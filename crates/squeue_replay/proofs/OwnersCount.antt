@@ -180,7 +180,3 @@ count_stands S past e count stands may =
           subst (λ (x : ℕ). IfSome (taken S p (past ++ e ∷ [])) (λ had. had ≤ x)) (sym more)
           (subst (λ (x : Option ℕ). IfSome x (λ had. had ≤ n + k)) (sym (taken_push S p past e)) (earlier S past count stands p e.mark k (were S past count stands p e.mark k)));
     }
-
--- before the first mark nobody owns it
-pub count_begins : (S : Setting) → CountStands S [] None
-count_begins S = record { owner = λ p own. cc; others = λ p unlike. refl; before = λ p. tt }

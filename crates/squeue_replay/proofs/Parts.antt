@@ -1,44 +1,31 @@
 -- The acts of a connection between the places where its stays begin.
-use Rattle.std.proofs.Common.{◌≡◌, ℕ, zero, suc, ◌+◌, ◌-◌, ◌<◌, ◌≤◌, ◌⊎◌, inl, inr, ◌&&◌, Bool, true, false, nat_le, if◌then◌else◌, Option, Some, None, List, [], ◌∷◌, ◌++◌, length, take, drop, add-one, refl, ap, sym, ◌∙◌, arith}
+use Rattle.std.proofs.Common.{◌≡◌, ℕ, zero, suc, ◌+◌, ◌-◌, ◌<◌, ◌≤◌, ◌⊎◌, inl, inr, Bool, true, false, nat_le, if◌then◌else◌, Option, Some, None, List, [], ◌∷◌, ◌++◌, length, take, drop, add-one, refl, ap, sym, ◌∙◌, arith}
 use Rattle.std.specs.Prelude.{IsSome, MatchOption, option_map, slice_get, slice_range}
 use Rattle.std.specs.List.{PartBy}
 use Rattle.std.proofs.Common.{Bor}
 use Rattle.std.proofs.lemmas.List.{take-append-le, drop-append-le, drop_all, take_rest, length-drop, length_push}
-use Rattle.std.proofs.lemmas.Bool.Decides.{nat_tests}
+use Rattle.std.proofs.lemmas.Bool.{leb-true, le-leb, and_parts, and_from}
 use Rattle.perimeter_core.specs.declared.entries.Act.{Act}
 use Rattle.squeue_replay.specs.Parts.{are_inside, parts_of}
 use Rattle.squeue_replay.specs.Steps.{last_longer}
-
-le_of : (a b : ℕ) → nat_le a b ≡ true → a ≤ b
-le_of a b h = grind (arith, nat_tests)
-
-le_test : (a b : ℕ) → a ≤ b → nat_le a b ≡ true
-le_test a b h = grind (arith, nat_tests)
 
 abbrev pub AreInside : List ℕ → ℕ → Type 0
 AreInside [] n = Unit {0}
 AreInside (from ∷ []) n = from ≤ n
 AreInside (from ∷ to ∷ more) n = (from ≤ to) × AreInside (to ∷ more) n
 
-both : (a b : Bool) → (a && b) ≡ true → (a ≡ true) × (b ≡ true)
-both true b h = (refl, h)
-both false b h = absurd (cc h)
-
-together : (a b : Bool) → a ≡ true → b ≡ true → (a && b) ≡ true
-together a b x y = rw (x, y) refl
-
 pub inside : (froms : List ℕ) (n : ℕ) → are_inside froms n ≡ true → AreInside froms n
 inside [] n h = tt
-inside (from ∷ []) n h = le_of from n h
+inside (from ∷ []) n h = leb-true from n h
 inside (from ∷ to ∷ more) n h =
-    let two = both (nat_le from to) (are_inside (to ∷ more) n) h in
-    let order : from ≤ to = le_of from to two.0 in
+    let two = and_parts (nat_le from to) (are_inside (to ∷ more) n) h in
+    let order : from ≤ to = leb-true from to two.0 in
     (order, inside (to ∷ more) n two.1)
 
 pub test_inside : (froms : List ℕ) (n : ℕ) → AreInside froms n → are_inside froms n ≡ true
 test_inside [] n h = refl
-test_inside (from ∷ []) n h = le_test from n h
-test_inside (from ∷ to ∷ more) n h = together (nat_le from to) (are_inside (to ∷ more) n) (le_test from to h.0) (test_inside (to ∷ more) n h.1)
+test_inside (from ∷ []) n h = le-leb from n h
+test_inside (from ∷ to ∷ more) n h = and_from (nat_le from to) (are_inside (to ∷ more) n) (le-leb from to h.0) (test_inside (to ∷ more) n h.1)
 
 first_inside : (to : ℕ) (more : List ℕ) (n : ℕ) → AreInside (to ∷ more) n → to ≤ n
 first_inside to [] n h = h
@@ -80,14 +67,6 @@ pub parts_count : (froms : List ℕ) (acts : List Act) → length (parts_of from
 parts_count [] acts = refl
 parts_count (from ∷ []) acts = refl
 parts_count (from ∷ to ∷ more) acts = ap suc (parts_count (to ∷ more) acts)
-
--- there is no part past the last place
-pub no_part : (froms : List ℕ) (acts : List Act) (i : ℕ) → slice_get froms i ≡ None → slice_get (parts_of froms acts) i ≡ None
-no_part [] acts i h = refl
-no_part (from ∷ []) acts zero h = absurd (cc h)
-no_part (from ∷ []) acts (suc i) h = refl
-no_part (from ∷ to ∷ more) acts zero h = absurd (cc h)
-no_part (from ∷ to ∷ more) acts (suc i) h = no_part (to ∷ more) acts i h
 
 -- a part goes up to the next place
 pub middle_part : (froms : List ℕ) (acts : List Act) (i from to : ℕ) → AreInside froms (length acts) → slice_get froms i ≡ Some from → slice_get froms (suc i) ≡ Some to

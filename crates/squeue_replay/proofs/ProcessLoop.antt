@@ -2,6 +2,7 @@
 use Rattle.std.proofs.Common.{◌≡◌, ℕ, zero, suc, ◌+◌, ◌-◌, ◌<◌, ◌≤◌, Bool, true, false, ◌&&◌, if◌then◌else◌, ◌==◌, List, [], ◌∷◌, ◌++◌, length, take, refl, ap, sym, ◌∙◌, subst, append_assoc, arith, length-append}
 use Rattle.std.proofs.lemmas.Bool.Decides.{nat_tests}
 use Rattle.std.proofs.lemmas.List.{length-take-le, length_push, take_at}
+use Rattle.std.proofs.lemmas.Bool.{eq-eqb}
 use Rattle.perimeter_core.specs.declared.entries.Entry.{Entry}
 use Rattle.perimeter_core.specs.declared.entries.Entry.TheVariants.{Feed, Ask}
 use Rattle.perimeter_core.specs.Perimeter.{ends_with_ask, is_empty}
@@ -11,6 +12,7 @@ use Rattle.squeue_replay.specs.Standing.{GuestOf, PassOf, SqueueOf}
 use Rattle.squeue_replay.specs.Steps.{Answered, Became, Processed, guest_fed}
 use Rattle.squeue_replay.proofs.AskSteps.{alone_right, feeds_alone}
 use Rattle.squeue_replay.proofs.GuestActs.{became_same, became_twice, fed_none, fed_twice}
+use Rattle.squeue_drain.proofs.Hands.{count_ask, feeds_push}
 
 -- nothing was processed yet
 pub began : (j : ℕ) (s : SqueueOf) → Processed [] j 0 false s s
@@ -27,23 +29,10 @@ began j s =
       chain = refl;
     }
 
-feeds_more : (es : List Entry) (c n : ℕ) → all_feeds es ≡ true → all_feeds (es ++ Feed c n ∷ []) ≡ true
-feeds_more [] c n h = refl
-feeds_more (Feed d m ∷ es) c n h = feeds_more es c n h
-feeds_more (Ask q ∷ es) c n h = absurd (cc h)
-
 count_more : (es : List Entry) (c n : ℕ) → feed_count (es ++ Feed c n ∷ []) ≡ feed_count es + 1
 count_more [] c n = refl
 count_more (Feed d m ∷ es) c n = let e = count_more es c n in omega (arith, e)
 count_more (Ask q ∷ es) c n = count_more es c n
-
-count_asked : (es : List Entry) (q : ℕ) → feed_count (es ++ Ask q ∷ []) ≡ feed_count es
-count_asked [] q = refl
-count_asked (Feed d m ∷ es) q = ap suc' (count_asked es q)
-  where
-    suc' : ℕ → ℕ
-    suc' n = 1 + n
-count_asked (Ask p ∷ es) q = count_asked es q
 
 -- feeds, and then an Ask and others
 asks_then : (j q : ℕ) (es fs : List Entry) → all_feeds es ≡ true → only_last_ask j (es ++ Ask q ∷ fs) ≡ ((q == j) && is_empty fs)
@@ -56,15 +45,12 @@ ends_then j q [] h = refl
 ends_then j q (Feed d m ∷ es) h = ends_then j q es h
 ends_then j q (Ask p ∷ es) h = absurd (cc h)
 
-same_test : (j : ℕ) → (j == j) ≡ true
-same_test j = grind (arith, nat_tests)
-
 -- one more feed
 pub one_fed : (es more : List Entry) (j n m c k : ℕ) (s t u : SqueueOf) → Processed es j n false s t → t.hand ≡ Feed c k ∷ more → m ≡ n + 1
     → Became (λ d. guest_fed d (Feed c k ∷ [])) t.guests u.guests → u ≡ record t { hand = more; guests = u.guests } → Processed (es ++ Feed c k ∷ []) j m false s u
 one_fed es more j n m c k s t u p hand counted fed is =
     let all : all_feeds es ≡ true = feeds_alone j es p.right (sym p.asked) in
-    let r = alone_right j (es ++ Feed c k ∷ []) (feeds_more es c k all) in
+    let r = alone_right j (es ++ Feed c k ∷ []) (feeds_push es c k all) in
     record {
       right = r.0;
       asked = sym r.1;
@@ -107,9 +93,9 @@ pub one_answered : (es more : List Entry) (j n : ℕ) (s t u : SqueueOf) → Pro
 one_answered es more j n s t u p hand answered is =
     let all : all_feeds es ≡ true = feeds_alone j es p.right (sym p.asked) in
     record {
-      right = asks_then j j es [] all ∙ rw (same_test j) refl;
-      asked = sym (ends_then j j es all ∙ same_test j);
-      feeds = p.feeds ∙ sym (count_asked es j);
+      right = asks_then j j es [] all ∙ rw (eq-eqb j j refl) refl;
+      asked = sym (ends_then j j es all ∙ eq-eqb j j refl);
+      feeds = p.feeds ∙ sym (count_ask es j);
       hand = p.hand ∙ (ap (λ (l : List Entry). es ++ l) (hand ∙ ap (λ (l : List Entry). Ask j ∷ l) (sym (ap (λ (z : SqueueOf). z.hand) is))) ∙ sym (append_assoc es (Ask j ∷ []) u.hand));
       passes = answered_then j s.passes t.passes u.passes p.passes answered;
       guests = subst (λ (gs : List GuestOf). Became (λ d. guest_fed d (es ++ Ask j ∷ [])) s.guests gs) (sym (ap (λ (z : SqueueOf). z.guests) is))
@@ -118,12 +104,6 @@ one_answered es more j n s t u p hand answered is =
       wake = ap (λ (z : SqueueOf). z.wake) is ∙ p.wake;
       chain = ap (λ (z : SqueueOf). z.chain) is ∙ p.chain;
     }
-
--- the first entries of a list that is cut in two
-pub taken_front : (i : ℕ) (hand back : List Entry) → i ≤ length hand → hand ≡ take i hand ++ back → (length (take i hand) ≡ i) × (length back ≡ length hand - i)
-taken_front i hand back le is =
-    let n : length (take i hand) ≡ i = length-take-le i hand le in
-    (n, let all = ap length is ∙ length-append (take i hand) back in omega (arith, n, all, le))
 
 pub taken_more : (i : ℕ) (hand more : List Entry) (e : Entry) → i ≤ length hand → hand ≡ take i hand ++ e ∷ more → take (i + 1) hand ≡ take i hand ++ e ∷ []
 taken_more i hand more e le is =

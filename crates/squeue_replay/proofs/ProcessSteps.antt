@@ -1,16 +1,15 @@
 -- The marks by which an owner says what it has processed: what they need, and that what is kept stands for the longer history.
-use Rattle.std.proofs.Common.{◌≡◌, ◌≢◌, ℕ, ◌<◌, Bool, true, false, ◌&&◌, ◌||◌, if◌then◌else◌, ◌==◌, Some, List, [], ◌∷◌, ◌++◌, length, refl, ap, sym, ◌∙◌, subst, arith, length-append}
+use Rattle.std.proofs.Common.{◌≡◌, ◌≢◌, ℕ, Bool, true, false, ◌&&◌, ◌||◌, if◌then◌else◌, ◌==◌, Some, List, [], ◌∷◌, ◌++◌, length, refl, ap, sym, ◌∙◌, subst, arith, length-append}
 use Rattle.std.specs.Prelude.{slice_get, slice_index_or}
+use Rattle.std.proofs.Math.Bool.{or-false}
 use Rattle.perimeter_core.specs.declared.entries.Entry.{Entry}
-use Rattle.perimeter_core.specs.declared.marks.Own.{Own}
-use Rattle.perimeter_core.specs.declared.marks.Own.TheVariants.{Free, Out, Granted}
-use Rattle.perimeter_core.specs.declared.marks.Mark.{Mark}
+use Rattle.perimeter_core.specs.declared.marks.Own.TheVariants.{Out}
 use Rattle.perimeter_core.specs.declared.marks.Mark.TheVariants as On
 use Rattle.perimeter_core.specs.Perimeter.{State, after, has_ask, is_closed}
 use Rattle.perimeter_core.specs.History.{Element, Setting, passes, run, start, pass_of}
 use Rattle.perimeter_core.specs.Deeds.{done_by, entries_of}
-use Rattle.perimeter_core.specs.Legal.{InRange, Legal, May, WithinQuota, all_feeds, ask_count, feed_count}
-use Rattle.perimeter_core.proofs.OneMore.{legal_ind, legal_more, run_push}
+use Rattle.perimeter_core.specs.Legal.{Legal, May, WithinQuota, all_feeds, ask_count, feed_count}
+use Rattle.perimeter_core.proofs.OneMore.{legal_more, run_push}
 use Rattle.perimeter_core.proofs.Quotas.{within}
 use Rattle.perimeter_core.proofs.IdleKept.{feeds_no_ask}
 use Rattle.squeue_replay.specs.Standing.{GuestStands, PassOf, PassStands, SqueueOf, Stands}
@@ -19,29 +18,7 @@ use Rattle.squeue_replay.proofs.AskSteps.{feeds_alone}
 use Rattle.squeue_replay.proofs.GuestActs.{became_same, taken_guest}
 use Rattle.squeue_replay.proofs.GuestSteps.{guest_after, guest_goes_on}
 use Rattle.squeue_replay.proofs.OneMoreMark.{asks_by_push, feeds_by_push}
-
--- who has the perimeter is a pass that there is
-abbrev OwnInRange : ℕ → Own → Type 0
-OwnInRange n Free = Unit {0}
-OwnInRange n (Out p) = p < n
-OwnInRange n (Granted p) = p < n
-
-own_after : (S : Setting) (s : State) (m : Mark) → InRange S m → OwnInRange (passes S) s.own → OwnInRange (passes S) (after s m).own
-own_after S s (On.Fill p es) r i = i
-own_after S s (On.Fast p e) r i = r.0
-own_after S s (On.Claim p es) r i = r.0
-own_after S s (On.Take p) r i = i
-own_after S s (On.Leave p rest act) r i = tt
-own_after S s (On.Ask p) r i = i
-own_after S s (On.Grant p j rest) r i = r.1
-own_after S s (On.Accept j) r i = r.0
-own_after S s (On.Work p) r i = r.0
-own_after S s (On.Close p) r i = i
-
-pub owner_range : (S : Setting) (H : List Element) (p : ℕ) → Legal S H → (run S H).own ≡ Out p → p < passes S
-owner_range S H p l out =
-    subst (OwnInRange (passes S)) out
-    (legal_ind S (λ (G : List Element). OwnInRange (passes S) (run S G).own) tt (λ G e k i m. rw (run_push (start S) G e) (own_after S (run S G) e.mark m.range i)) H l)
+use Rattle.squeue_drain.proofs.OwnersFacts.{owner_below}
 
 no_more : (b : Bool) (n : ℕ) → n ≡ 0 → (if b then n else 0) ≡ 0
 no_more true n h = h
@@ -124,7 +101,7 @@ take_may S H p x k t =
     let out : (run S H).own ≡ Out p = sym k.own ∙ t.own in
     record {
       step = (out, λ e. t.chain (k.chain ∙ e));
-      range = (owner_range S H p k.legal out, tt);
+      range = (owner_below S H p k.legal out, tt);
       worker_only = tt;
       idle = tt;
       kind = tt;
@@ -148,7 +125,7 @@ take_stands S H p n x t y k own chain hand did is =
     let may = take_may S H p x k (record { own = own; chain = chain; hand = hand; feeds = all }) in
     let none : t.hand ≡ [] = nothing_left x.hand t.hand did.hand in (
       goes_on S H (take_mark p) x y k may false p refl refl
-          (λ q. rw (← k.hand, ← k.chain) (rw (feeds_no_ask q x.hand all) (or_false (has_ask q x.chain))))
+          (λ q. rw (← k.hand, ← k.chain) (rw (feeds_no_ask q x.hand all) (or-false (has_ask q x.chain))))
           (subst (λ (z : SqueueOf). Answered false p x.passes z.passes) (sym is) did.passes)
           (subst (λ (z : SqueueOf). Became (λ c. guest_after c (run S H) (take_mark p)) x.guests z.guests) (sym is)
           (became_same (λ c. guest_fed c x.hand) (λ c. guest_after c (run S H) (take_mark p)) x.guests t.guests
@@ -159,7 +136,3 @@ take_stands S H p n x t y k own chain hand did is =
           (ap (λ (z : SqueueOf). z.hand) is ∙ (did.chain ∙ k.chain)),
       did.feeds ∙ ap feed_count k.hand,
     )
-  where
-    or_false : (b : Bool) → (b || false) ≡ b
-    or_false true = refl
-    or_false false = refl

@@ -1,8 +1,9 @@
 -- Feeds that are queued one after another: what changes by them, and when they may be queued.
 use Rattle.std.proofs.Common.{◌≡◌, ◌≢◌, ℕ, zero, suc, ◌+◌, ◌-◌, ◌^◌, ◌<◌, ◌≤◌, Bool, true, false, ◌⊎◌, inl, inr, if◌then◌else◌, ◌==◌, Option, Some, List, [], ◌∷◌, ◌++◌, length, min, refl, ap, sym, ◌∙◌, append_assoc, arith, slice_set}
-use Rattle.std.proofs.lemmas.List.{append-nil}
+use Rattle.std.proofs.lemmas.List.{append-nil, length-set}
 use Rattle.std.proofs.lemmas.Bool.Decides.{nat_tests}
 use Rattle.std.specs.Prelude.{slice_get}
+use Rattle.std.proofs.lemmas.Option.{slice_get_within}
 use Rattle.perimeter_core.specs.declared.entries.Entry.{Entry}
 use Rattle.perimeter_core.specs.declared.entries.Entry.TheVariants as Entered
 use Rattle.perimeter_core.specs.declared.entries.Feed.{Feed}
@@ -21,21 +22,11 @@ set_at (x ∷ xs) zero (suc j) v y at = inr ((λ e. cc), at)
 set_at (x ∷ xs) (suc i) zero v y at = inr ((λ e. cc), at)
 set_at (x ∷ xs) (suc i) (suc j) v y at = elim (set_at xs i j v y at) [ inl w ↦ inl (ap suc w.0, w.1) | inr w ↦ inr ((λ e. w.0 cc), w.1) ]
 
-pub set_length : {A : Type 0} (xs : List A) (i : ℕ) (v : A) → length (slice_set xs i v) ≡ length xs
-set_length [] i v = refl
-set_length (x ∷ xs) zero v = refl
-set_length (x ∷ xs) (suc i) v = ap suc (set_length xs i v)
-
--- there is something at each place within
+-- there is something at each place slice_get_within
 pub there : {A : Type 0} (xs : List A) (i : ℕ) → i < length xs → (x : A) × (slice_get xs i ≡ Some x)
 there [] i h = absurd (omega arith)
 there (x ∷ xs) zero h = (x, refl)
 there (x ∷ xs) (suc i) h = there xs i (omega arith)
-
-pub within : {A : Type 0} (xs : List A) (i : ℕ) (x : A) → slice_get xs i ≡ Some x → i < length xs
-within [] i x at = absurd cc
-within (y ∷ xs) zero x at = omega arith
-within (y ∷ xs) (suc i) x at = let k = within xs i x at in omega arith
 
 pub same_there : {A : Type 0} (o : Option A) (x y : A) → o ≡ Some x → o ≡ Some y → x ≡ y
 same_there o x y a b = cc
@@ -204,7 +195,7 @@ queued S st p next (f ∷ fs) s t small k seats q =
     let guests : u.guests ≡ slice_set s.guests f.c (record o.guest { due = o.guest.due + 1; queued = min (o.guest.queued + 1) (2 ^ 64 - 1) }) = ap (λ (v : SqueueOf). v.guests) q.1.is in
     let passes : u.passes ≡ slice_set s.passes p (record o.pass { feeds = o.pass.feeds - 1 }) = ap (λ (v : SqueueOf). v.passes) q.1.is in
     let known : Knows st (one_more f.c next) u.guests = rw guests (knows_after st next s.guests f.c o.guest o.was_guest few k) in
-    let places : length u.guests ≡ length s.guests = ap length guests ∙ set_length s.guests f.c (record o.guest { due = o.guest.due + 1; queued = min (o.guest.queued + 1) (2 ^ 64 - 1) }) in
+    let places : length u.guests ≡ length s.guests = ap length guests ∙ length-set s.guests f.c (record o.guest { due = o.guest.due + 1; queued = min (o.guest.queued + 1) (2 ^ 64 - 1) }) in
     let r = queued S st p (one_more f.c next) fs u t small.1 known (places ∙ seats) q.2 in
     let now = k.each f.c o.guest o.was_guest in
     record {
@@ -212,7 +203,7 @@ queued S st p next (f ∷ fs) s t small k seats q =
       wake = r.wake ∙ ap (λ (v : SqueueOf). v.wake) q.1.is;
       hand = r.hand ∙ ap (λ (v : SqueueOf). v.hand) q.1.is;
       chain = r.chain ∙ (ap (λ (v : SqueueOf). v.chain ++ entries fs) q.1.is ∙ append_assoc s.chain (Entered.Feed f.c f.n ∷ []) (entries fs));
-      passes = r.passes ∙ (ap length passes ∙ set_length s.passes p (record o.pass { feeds = o.pass.feeds - 1 }));
+      passes = r.passes ∙ (ap length passes ∙ length-set s.passes p (record o.pass { feeds = o.pass.feeds - 1 }));
       each_pass = λ i y at.
           let z = r.each_pass i y at in
           pass_after s.passes p i (feed_count (entries fs)) o.pass z.before y o.was_pass o.left (ap (λ (xs : List PassOf). slice_get xs i) (sym passes) ∙ z.was) z.closed z.waiting z.asks z.feeds;
@@ -222,7 +213,7 @@ queued S st p next (f ∷ fs) s t small k seats q =
           guest_after s.guests f.c f.n c 0 (entries fs) o.guest z.before h o.was_guest few (ap (λ (xs : List GuestOf). slice_get xs c) (sym guests) ∙ z.was)
           (record { before = z.before; was = refl; here = z.here; due = z.due; queued = z.queued; left = z.left; came = z.came; did = z.did });
       enters = (o.ring, sym now.1 ∙ o.here, o.next ∙ now.0, o.below, r.enters);
-      in_range = (rw seats at (within s.guests f.c o.guest o.was_guest), r.in_range);
+      in_range = (rw seats at (slice_get_within s.guests f.c o.guest o.was_guest), r.in_range);
     }
 
 -- they may be queued, where they fit
@@ -238,7 +229,7 @@ may_queue S st p next (f ∷ fs) s x small k seats at enough e r =
     let y : PassOf = record x { feeds = x.feeds - 1 } in
     let h : GuestOf = record g { due = g.due + 1; queued = min (g.queued + 1) (2 ^ 64 - 1) } in
     let u : SqueueOf = record s { chain = s.chain ++ Entered.Feed f.c f.n ∷ []; passes = slice_set s.passes p y; guests = slice_set s.guests f.c h } in
-    let rest = may_queue S st p (one_more f.c next) fs u y small.1 (knows_after st next s.guests f.c g found.1 few k) (set_length s.guests f.c h ∙ seats)
+    let rest = may_queue S st p (one_more f.c next) fs u y small.1 (knows_after st next s.guests f.c g found.1 few k) (length-set s.guests f.c h ∙ seats)
     (set_same s.passes p y x at) (omega arith) e.4 r.1 in
     (rest.0, (u, record { first = record { pass = x; guest = g; was_pass = at; was_guest = found.1; ring = e.0; left = omega arith; here = now.1 ∙ e.1; next = due; below = e.3 }; is = refl }, rest.1))
   where

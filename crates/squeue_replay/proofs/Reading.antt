@@ -1,8 +1,9 @@
 -- What the code reads off and writes, as it is kept in memory.
-use Rattle.std.proofs.Common.{◌≡◌, ◌≢◌, ℕ, zero, suc, ◌+◌, ◌-◌, ◌^◌, ◌<◌, ◌≤◌, ◌↔◌, Bool, true, false, Some, List, [], ◌∷◌, ◌++◌, length, map, min, drop, get_or, refl, ap, sym, ◌∙◌, arith, slice_index, slice_set}
+use Rattle.std.proofs.Common.{◌≡◌, ◌≢◌, ℕ, ◌+◌, ◌-◌, ◌^◌, ◌<◌, ◌≤◌, ◌↔◌, Bool, true, false, Some, List, [], ◌∷◌, ◌++◌, length, map, min, get_or, refl, ap, sym, ◌∙◌, arith, slice_index, slice_set, subst}
 use Rattle.std.proofs.lemmas.List.FromFn.{get_or-map-range_with_len}
-use Rattle.std.proofs.lemmas.Option.{slice_get-map, slice_get_read}
+use Rattle.std.proofs.lemmas.Option.{slice_get-map, slice_get_read, slice_get_within}
 use Rattle.std.specs.Prelude.{IfOk, MatchBool, Result, Ok, Err, option_map, slice_get}
+use Rattle.std.proofs.lemmas.List.{length-map}
 use Rattle.perimeter_core.specs.declared.entries.Feed.{Feed}
 use Rattle.perimeter_core.specs.declared.entries.Entry.TheVariants as Entered
 use Rattle.perimeter_core.specs.declared.entries.Entry.{Entry}
@@ -13,9 +14,8 @@ use Rattle.perimeter_core.specs.History.{Element, Setting}
 use Rattle.conn_classifier.specs.Plan.{PlanOf, items_in}
 use Rattle.conn_blocks.specs.Allowed.{limits_in}
 use Rattle.conn_blocks.specs.CallLists.{CallLists}
-use Rattle.squeue_replay.specs.declared.guest.Guest.{Guest}
 use Rattle.squeue_replay.specs.declared.squeue.Pass.{Pass}
-use Rattle.squeue_replay.specs.Standing.{GuestOf, PassOf, SqueueOf, Stands, guest_of}
+use Rattle.squeue_replay.specs.Standing.{GuestOf, PassOf, SqueueOf, Stands}
 use Rattle.squeue_replay.specs.Entering.{Follows, IsIdle, IsNext, Queues, QueuesAsk, QueuesOne}
 use Rattle.squeue_replay.proofs.OwnMarks.{ask_stands, may_ask}
 use Rattle.squeue_replay.proofs.QueuedFeeds.{same_there}
@@ -24,11 +24,6 @@ use Rattle.squeue_replay.proofs.QueuedFeeds.{same_there}
 pub seen : {A B : Type 0} (v : A → B) (xs : List A) (i : ℕ) (x : A) → i < length xs → x ≡ get_or xs i x → slice_get (map v xs) i ≡ Some (v x)
 seen v xs i x less is = slice_get-map v xs i ∙ ap (option_map v) (slice_get_read xs (length xs) i x refl less is)
 
-pub written : {A B : Type 0} (v : A → B) (xs : List A) (i : ℕ) (x : A) → map v (slice_set xs i x) ≡ slice_set (map v xs) i (v x)
-written v [] i x = refl
-written v (y ∷ xs) zero x = refl
-written {B = B} v (y ∷ xs) (suc i) x = ap (λ (ys : List B). v y ∷ ys) (written v xs i x)
-
 -- a pass as it is kept
 abbrev pub kept : Pass → PassOf
 kept x = record { closed = x.closed; waiting = x.waiting; feeds = x.feeds; asks = x.asks }
@@ -36,13 +31,8 @@ kept x = record { closed = x.closed; waiting = x.waiting; feeds = x.feeds; asks 
 pub pass_at : (xs : List Pass) (i : ℕ) (x : Pass) → i < length xs → x ≡ get_or xs i x → slice_get (map kept xs) i ≡ Some (kept x)
 pass_at xs i x less is = seen kept xs i x less is
 
-pub pass_set : (xs : List Pass) (i : ℕ) (x : Pass) → map kept (slice_set xs i x) ≡ slice_set (map kept xs) i (kept x)
-pass_set xs i x = written kept xs i x
-
-pub seat : (xs : List Pass) (i : ℕ) (x : PassOf) → slice_get (map kept xs) i ≡ Some x → i < length xs
-seat [] i x at = absurd cc
-seat (y ∷ xs) zero x at = omega arith
-seat (y ∷ xs) (suc i) x at = let k = seat xs i x at in omega arith
+pub seat : {A B : Type 0} (v : A → B) (xs : List A) (i : ℕ) (x : B) → slice_get (map v xs) i ≡ Some x → i < length xs
+seat v xs i x at = subst (λ n. i < n) (length-map xs v) (slice_get_within (map v xs) i x at)
 
 pub free_now : (o : Own) → (o ≢ Free → ⊥) → o ≡ Free
 free_now Free h = refl
@@ -71,8 +61,6 @@ next_guest S p f s g at n =
     (ap (λ (v : GuestOf). v.here) same ∙ n.here, ap (λ (v : GuestOf). v.due) same ∙ sym n.next)
 
 -- the one Ask that may be queued
-pub no_asks_left : (p : ℕ) (s : SqueueOf) (x : PassOf) → slice_get s.passes p ≡ Some x → x.asks ≡ 0 → (t : SqueueOf) → QueuesAsk p s t → ⊥
-no_asks_left p s x at none t a = let same = ap (λ (v : PassOf). v.asks) (same_there (slice_get s.passes p) x a.pass at a.was) in omega (arith, same, none, a.left)
 
 -- what is queued next is fixed
 pub one_way : (S : Setting) (p : ℕ) (f : Feed) (s t u : SqueueOf) → QueuesOne S p f s t → QueuesOne S p f s u → t ≡ u
@@ -128,14 +116,3 @@ queue_rest S p f fs all s u v so_far one t = (
 pub queue_stops : (S : Setting) (p : ℕ) (f : Feed) (fs all : List Feed) (s u : SqueueOf) → ((t : SqueueOf) → Queues S p (f ∷ fs) u t ↔ Queues S p all s t) → (IsNext S p f u → ⊥)
     → (t : SqueueOf) → Queues S p all s t → ⊥
 queue_stops S p f fs all s u so_far no_next t q = let w = (so_far t).1 q in no_next w.1.first
-
-pub guest_seat : (xs : List Guest) (i : ℕ) (x : GuestOf) → slice_get (map guest_of xs) i ≡ Some x → i < length xs
-guest_seat [] i x at = absurd cc
-guest_seat (y ∷ xs) zero x at = omega arith
-guest_seat (y ∷ xs) (suc i) x at = let k = guest_seat xs i x at in omega arith
-
-pub dropped_all : {A : Type 0} (xs : List A) (n : ℕ) → length xs ≤ n → drop n xs ≡ []
-dropped_all [] zero h = refl
-dropped_all [] (suc n) h = refl
-dropped_all (x ∷ xs) zero h = absurd (omega arith)
-dropped_all (x ∷ xs) (suc n) h = dropped_all xs n (omega arith)

@@ -1,10 +1,12 @@
 -- What the setting of a squeue says of its passes, of how often connections leave, and of the calls.
-use Rattle.std.proofs.Common.{◌≡◌, ℕ, zero, suc, ◌+◌, ◌-◌, ◌<◌, ◌≤◌, ◌^◌, Bool, true, false, if◌then◌else◌, List, [], ◌∷◌, length, map, get_or, arith, length-append}
-use Rattle.std.specs.Prelude.{filter, slice_index}
-use Rattle.std.specs.List.{AllByRecursion, range_with_len}
+use Rattle.std.proofs.Common.{◌≡◌, ℕ, ◌+◌, ◌-◌, ◌<◌, ◌≤◌, ◌^◌, List, [], length, map, get_or, arith, length-append}
+use Rattle.std.specs.Prelude.{slice_index}
+use Rattle.std.specs.List.{range_with_len}
 use Rattle.std.proofs.lemmas.List.FromFn.{get_or-map-range_with_len, length-map-range_with_len, length-range_with_len}
 use Rattle.perimeter_core.specs.History.{conns, worker}
 use Rattle.conn_classifier.specs.Plan.{IsItems, IsPlan, PlanOf, items_in}
+use Rattle.conn_classifier.proofs.PlanFacts.{all_at}
+use Rattle.conn_classifier.proofs.PlanLaw.{length-filter_le}
 use Rattle.conn_blocks.specs.CallLists.{CallLists}
 use Rattle.conn_blocks.specs.Homes.{leaves_after, times_leaving}
 use Rattle.ring_quotas.specs.Quotas.{caller_asks, ring_asks, ring_feeds, setting_at}
@@ -25,25 +27,12 @@ module _ (p : PlanOf) (calls : CallLists) (squeues rings spread q : ℕ) where
   pub leaves_at : (c : ℕ) → c < length p.tuples → slice_index (setting_at p calls squeues rings spread q).limits.leaves c ≡ times_leaving squeues spread q c (length (items_in p c))
   leaves_at c lt = get_or-map-range_with_len _ 0 (length p.tuples) c c 0 lt (omega arith)
 
-filter_most : (f : ℕ → Bool) (xs : List ℕ) → length (filter f xs) ≤ length xs
-filter_most f [] = omega arith
-filter_most f (x ∷ xs) = at (f x) (filter_most f xs)
-  where
-    at : (b : Bool) → length (filter f xs) ≤ length xs → length (if b then x ∷ filter f xs else filter f xs) ≤ length (x ∷ xs)
-    at true e = omega (arith, e)
-    at false e = omega (arith, e)
-
-one_of : {X : Type 0} (P : X → Type 0) (xs : List X) (c : ℕ) (d : X) → AllByRecursion P xs → c < length xs → P (get_or xs c d)
-one_of P [] c d all lt = absurd (omega (arith, lt))
-one_of P (x ∷ xs) zero d all lt = all.0
-one_of P (x ∷ xs) (suc c) d all lt = one_of P xs c d all.1 (omega (arith, lt))
-
 pub leaves_few : (p : PlanOf) (calls : CallLists) (squeues rings spread q : ℕ) → IsPlan p → (c : ℕ) → c < conns (setting_at p calls squeues rings spread q)
     → slice_index (setting_at p calls squeues rings spread q).limits.leaves c < 2 ^ 32
 leaves_few p calls squeues rings spread q k c lt =
     let within : c < length p.tuples = omega (arith, lt, conns_are p calls squeues rings spread q) in
-    let items = one_of (IsItems p.file) p.items c [] k.each (omega (arith, within, k.listed)) in
-    let most = filter_most (leaves_after squeues spread q c) (range_with_len 0 (length (items_in p c) - 1)) in
+    let items = all_at (IsItems p.file) p.items c [] k.each (omega (arith, within, k.listed)) in
+    let most = length-filter_le (leaves_after squeues spread q c) (range_with_len 0 (length (items_in p c) - 1)) in
     let count = length-range_with_len 0 (length (items_in p c) - 1) in
     let many : length (items_in p c) ≤ 2097153 = items.many in
     rw (leaves_at p calls squeues rings spread q c within) (omega (arith, most, count, many))

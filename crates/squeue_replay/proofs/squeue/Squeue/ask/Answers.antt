@@ -1,6 +1,6 @@
 use Rattle.std.proofs.Common.{refl}
 use Rattle.squeue_replay.specs.Replaying.{setting_of, squeue_of}
-use Rattle.squeue_replay.proofs.Reading.{ask_follows, seat}
+use Rattle.squeue_replay.proofs.Reading.{ask_follows, seat, kept}
 use Rattle.squeue_replay.proofs.OwnMarks.{may_ask}
 use Rattle.squeue_replay.proofs.squeue.Squeue.ask.Goals as goal
 use Rattle.squeue_replay.proofs.squeue.Squeue.ask.Goals.{then-not-is_taken-via-then-not-is_taken, then-not-is_taken-via-else-not-is_taken+then-not-is_idle}
@@ -14,7 +14,7 @@ returns-then-not-is_taken-clause-marked c H k may =
     ]
 
 pub queue_ask-requires : goal.queue_ask-requires
-queue_ask-requires c = let i = c.if-not-is_idle.ensures.0 refl in seat c.args.self.now.passes.items c.args.p i.pass i.was
+queue_ask-requires c = let i = c.if-not-is_idle.ensures.0 refl in seat kept c.args.self.now.passes.items c.args.p i.pass i.was
 
 pub returns-clause-marked : goal.returns-clause-marked
 returns-clause-marked c =

@@ -5,7 +5,7 @@ use Rattle.perimeter_core.specs.declared.marks.Own.TheVariants.{Free}
 use Rattle.perimeter_core.specs.History.{Setting}
 use Rattle.squeue_replay.specs.Replaying.{setting_of, squeue_of}
 use Rattle.squeue_replay.specs.Standing.{SqueueOf, Stands}
-use Rattle.squeue_replay.proofs.Reading.{free_now, seat}
+use Rattle.squeue_replay.proofs.Reading.{free_now, seat, kept}
 use Rattle.squeue_replay.proofs.OwnMarks.{claim_ask_stands, may_claim_ask, plain}
 use Rattle.squeue_replay.proofs.squeue.Squeue.claim_ask.Goals as goal
 use Rattle.squeue_replay.proofs.squeue.Squeue.claim_ask.Goals.{then-is_taken-via-then-is_taken, then-is_taken-via-else-is_taken+then-not-is_idle}
@@ -19,7 +19,7 @@ returns-then-is_taken-clause-marked c H k may =
     ]
 
 pub queue_ask-requires : goal.queue_ask-requires
-queue_ask-requires c = let i = c.if-not-is_idle.ensures.0 refl in seat c.args.self.now.passes.items c.args.p i.pass i.was
+queue_ask-requires c = let i = c.if-not-is_idle.ensures.0 refl in seat kept c.args.self.now.passes.items c.args.p i.pass i.was
 
 pub returns-then-not-branch-clause-marked : goal.returns-then-not-branch-clause-marked
 returns-then-not-branch-clause-marked c H k may =

@@ -1,9 +1,9 @@
 use Rattle.std.proofs.Common.{ℕ, ◌%◌, ◌==◌, Bool, length, refl, ap, ◌∙◌}
+use Rattle.std.proofs.lemmas.List.{length-map}
 use Rattle.perimeter_core.specs.History.{Setting}
 use Rattle.ring_quotas.specs.Quotas.{setting_at}
 use Rattle.squeue_replay.specs.Entering.{first_guest}
 use Rattle.squeue_replay.proofs.Making.{counted_guests, first_stands, guests_first, made_pass, passes_first}
-use Rattle.squeue_replay.proofs.Places.{map_length}
 use Rattle.squeue_replay.proofs.squeue.Squeue.make.Goals as goal
 
 pub invariant_of-result : goal.invariant_of-result
@@ -11,7 +11,7 @@ invariant_of-result c =
     let r = c.args.run in
     record {
       among = c.requires;
-      each_pass = ap length c.in_ok-passes.ensures ∙ (map_length made_pass c.as_slice.result.now ∙ (ap length c.as_slice.ensures.value ∙ c.in_ok-quotas.ensures.count));
+      each_pass = ap length c.in_ok-passes.ensures ∙ (length-map c.as_slice.result.now made_pass ∙ (ap length c.as_slice.ensures.value ∙ c.in_ok-quotas.ensures.count));
       each_guest = counted_guests c.in_ok-guests.guests.items (λ d. first_guest (d % r.setup.squeues == c.args.number)) c.conns.result c.in_ok-guests.ensures ∙ c.conns.ensures.value;
     }
 

@@ -1,5 +1,5 @@
-use Rattle.std.proofs.Common.{◌≡◌, ◌<◌, ℕ, true, nat_lt, map, sym, subst, arith}
-use Rattle.std.proofs.lemmas.Bool.Decides.{nat_tests}
+use Rattle.std.proofs.Common.{◌<◌, true, map, sym, subst, arith}
+use Rattle.std.proofs.lemmas.Bool.{ltb-true, lt-ltb}
 use Rattle.perimeter_core.specs.declared.marks.SynchAct.{SynchAct}
 use Rattle.perimeter_core.specs.History.{worker}
 use Rattle.squeue_replay.specs.Replaying.{setting_of}
@@ -8,21 +8,15 @@ use Rattle.squeue_replay.specs.Steps.{ActMay}
 use Rattle.squeue_replay.proofs.SettingFacts.{worker_is}
 use Rattle.squeue_replay.proofs.squeue.Squeue.may.Goals as goal
 
-below : (a b : ℕ) → nat_lt a b ≡ true → a < b
-below a b h = grind (arith, nat_tests)
-
-is_below : (a b : ℕ) → a < b → nat_lt a b ≡ true
-is_below a b h = grind (arith, nat_tests)
-
 pub returns-then-self-p : goal.returns-then-self-p
 returns-then-self-p c =
     let s = c.args.self.now in
     let w = worker_is s.run.plan.now s.run.calls.now s.run.setup.squeues s.run.setup.rings s.run.setup.spread s.number in (
       λ h.
-          let lt = below c.args.p c.worker.result h in
+          let lt = ltb-true c.args.p c.worker.result h in
           let low : c.args.p < worker (setting_of s) = omega (arith, lt, w, c.worker.ensures) in
           subst (λ (a : SynchAct). ActMay (setting_of s) (map guest_of s.guests.items) c.args.p a) (sym c.in-Away.is) (low, c.if-self-p.true),
       λ a.
           let low = (subst (λ (b : SynchAct). ActMay (setting_of s) (map guest_of s.guests.items) c.args.p b) c.in-Away.is a).0 in
-          is_below c.args.p c.worker.result (omega (arith, low, w, c.worker.ensures)),
+          lt-ltb c.args.p c.worker.result (omega (arith, low, w, c.worker.ensures)),
     )

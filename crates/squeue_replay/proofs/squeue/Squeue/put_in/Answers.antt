@@ -4,9 +4,10 @@ use Rattle.perimeter_core.specs.declared.marks.SynchAct.TheVariants as Done
 use Rattle.squeue_replay.specs.Histories.{stay_of}
 use Rattle.squeue_replay.specs.Standing.{GuestOf, guest_of}
 use Rattle.squeue_replay.specs.Steps.{guest_acted}
-use Rattle.squeue_replay.proofs.Places.{became_at, became_nowhere, none_past, other_in, own_in, seen_at}
+use Rattle.squeue_replay.proofs.Places.{became_at, became_nowhere, none_past, other_in, own_in}
 use Rattle.squeue_replay.proofs.StayBounds.{stay_fits}
 use Rattle.squeue_replay.proofs.squeue.Squeue.put_in.Goals as goal
+use Rattle.squeue_rings.proofs.Slots.{got_map}
 
 not_cut : (x : ℕ) → x < 2 ^ 64 → min x 18446744073709551615 ≡ x
 not_cut x lt = omega arith
@@ -17,7 +18,7 @@ returns-in_ok-put_in-clause-come c few =
     let s = c.args.self.now in
     let g : GuestOf = guest_of c.in-Some.guest.now in
     let at = slice_get_read s.guests.items (length s.guests.items) c.args.c c.in-Some.guest.now refl a.3.0 a.1 in
-    let low = (few c.args.c g (seen_at guest_of s.guests.items c.args.c c.in-Some.guest.now at)).0 in
+    let low = (few c.args.c g (got_map guest_of s.guests.items c.args.c c.in-Some.guest.now at)).0 in
     let stay : c.stay_of-stay.result ≡ stay_of s.run.setup.squeues s.number c.args.c g.came = c.stay_of-stay.ensures (omega (arith, low)) in
     let fits : stay_of s.run.setup.squeues s.number c.args.c g.came * s.run.setup.spread < 2 ^ 64 =
     stay_fits s.run.setup.squeues s.run.setup.spread s.number c.args.c g.came (omega (arith, s.run.range.squeues)) s.run.range.squeues.1 s.run.range.spread low in

@@ -6,7 +6,8 @@ use Rattle.squeue_replay.specs.Replaying.{setting_of, squeue_of}
 use Rattle.squeue_replay.specs.Standing.{SqueueOf}
 use Rattle.std.proofs.Math.Seq.{drop-cons}
 use Rattle.std.proofs.Common.{suc, ◌↔◌}
-use Rattle.squeue_replay.proofs.Reading.{dropped_all, queue_rest, queue_stops}
+use Rattle.std.proofs.lemmas.List.{drop_all}
+use Rattle.squeue_replay.proofs.Reading.{queue_rest, queue_stops}
 use Rattle.squeue_replay.proofs.SameSetting.{same_setting}
 use Rattle.squeue_replay.proofs.squeue.Squeue.queue.Goals as goal
 
@@ -47,5 +48,5 @@ returns-clause-queued c =
     let s = c.args.self.now in
     let l = c.loop-feed.self in
     let feeds : List Feed = c.args.feeds.now in
-    let none = dropped_all feeds c.loop-feed.feed-index c.loop-feed-test.false in
+    let none = drop_all c.loop-feed.feed-index feeds c.loop-feed-test.false in
     (c.loop-feed.invariant.rest (squeue_of l)).0 (subst (λ (fs : List Feed). Queues (setting_of s) c.args.p fs (squeue_of l) (squeue_of l)) (sym none) refl)
