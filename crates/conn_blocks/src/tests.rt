@@ -17,6 +17,7 @@ use sq_base::Octets;
 use std::alloc::{AllocError, Global};
 use std::process::Abort;
 use std::test::Fail;
+use std::thread::Threads;
 use tcb_machine::{Answer, Call, State};
 
 /// The header of a capture file: little-endian, microseconds, raw IP.
@@ -56,18 +57,18 @@ fn add(bytes: &mut Vec<u8>, row: &Row<'_>) -> Result<(), Fail> {
     Ok(())
 }
 
-fn captured(rt: &HostRuntime, rows: &[Row<'_>]) -> Result<Capture, Fail> {
-    let mut bytes = Vec::from_slice(rt.alloc(), &HEADER)?;
+fn captured(alloc: Global, rows: &[Row<'_>]) -> Result<Capture, Fail> {
+    let mut bytes = Vec::from_slice(alloc, &HEADER)?;
     for row in rows {
         add(&mut bytes, row)?;
     }
-    Ok(parse_capture(rt.alloc(), Octets::of(rt.alloc(), &bytes)?)?)
+    Ok(parse_capture(alloc, Octets::of(alloc, &bytes)?)?)
 }
 
 /// A connection that is opened, sends "hello" and closes: feeds 0 to 4, and the last time item.
-fn five_segments(rt: &HostRuntime) -> Result<Capture, Fail> {
+fn five_segments(alloc: Global) -> Result<Capture, Fail> {
     captured(
-        rt,
+        alloc,
         &[
             (0, SYN, 100, 0, b"".as_slice()),
             (1000, ACK, 101, 501, b"".as_slice()),
@@ -201,8 +202,8 @@ fn given(
 }
 
 /// A block's replies without their text: time, flags, sequence number, acknowledgement number, window.
-fn replies(rt: &HostRuntime, block: &Block) -> Result<Vec<(u64, u8, u32, u32, u16)>, Fail> {
-    let mut replies = Vec::new(rt.alloc());
+fn replies(alloc: Global, block: &Block) -> Result<Vec<(u64, u8, u32, u32, u16)>, Fail> {
+    let mut replies = Vec::new(alloc);
     for i in 0..block.tcb().replies() {
         let reply = block.tcb().reply(i);
         replies.push((reply.at, reply.flags, reply.seq, reply.ack, reply.wnd))?;
@@ -211,8 +212,8 @@ fn replies(rt: &HostRuntime, block: &Block) -> Result<Vec<(u64, u8, u32, u32, u1
 }
 
 /// All text that a block sent.
-fn sent(rt: &HostRuntime, block: &Block) -> Result<Vec<u8>, Fail> {
-    let mut text = Vec::new(rt.alloc());
+fn sent(alloc: Global, block: &Block) -> Result<Vec<u8>, Fail> {
+    let mut text = Vec::new(alloc);
     for i in 0..block.tcb().replies() {
         text.extend_from_slice(block.tcb().reply(i).text.as_slice())?;
     }
@@ -220,40 +221,51 @@ fn sent(rt: &HostRuntime, block: &Block) -> Result<Vec<u8>, Fail> {
 }
 
 /// A block's answers: thread, number, answer.
-fn answers(rt: &HostRuntime, block: &Block) -> Result<Vec<(u32, u32, Answer)>, Fail> {
-    let mut answers = Vec::new(rt.alloc());
+fn answers(alloc: Global, block: &Block) -> Result<Vec<(u32, u32, Answer)>, Fail> {
+    let mut answers = Vec::new(alloc);
     for i in 0..block.answers() {
         answers.push(block.answer(i))?;
     }
     Ok(answers)
 }
 
-fn status(state: State, received: u64, offered: u64, unacked: u32) -> Answer {
-    Answer::Status {
-        state,
-        received,
-        offered,
-        unacked,
-    }
+/// What serving a block gives: its order, replies, text and answers.
+#[derive(Clone, Copy, Drop)]
+struct Wanted<'a> {
+    order: &'a [Act],
+    replies: &'a [(u64, u8, u32, u32, u16)],
+    text: &'a [u8],
+    answers: &'a [(u32, u32, Answer)],
 }
 
-/// Connection 0 served in this order, where it can be.
+fn expect(rt: &impl Abort, alloc: Global, block: &Block, wanted: &Wanted) -> Result<(), Fail> {
+    assert!(rt; !block.short());
+    assert_eq!(rt; block.order(), wanted.order);
+    assert_eq!(rt; replies(alloc, block)?.as_slice(), wanted.replies);
+    assert_eq!(rt; sent(alloc, block)?.as_slice(), wanted.text);
+    assert_eq!(rt; answers(alloc, block)?.as_slice(), wanted.answers);
+    Ok(())
+}
+
+/// Connection 0 of a capture served in this order, where it can be.
 fn served(
+    rt: &(impl Threads + Sync),
     alloc: Global,
-    plan: &Plan,
+    capture: &Capture,
     calls: &Calls,
     order: &[Act],
-) -> Result<Option<Box<Block>>, AllocError> {
-    if plan.conns() == 0 || !can_serve(plan, calls, order) {
+) -> Result<Option<Box<Block>>, Fail> {
+    let plan = plan(rt, alloc, capture, false)?;
+    if plan.conns() == 0 || !can_serve(&plan, calls, order) {
         return Ok(None);
     }
-    Ok(Some(serve_one(alloc, plan, calls, 0, order)?))
+    Ok(Some(serve_one(alloc, &plan, calls, 0, order)?))
 }
 
 /// A connection that is opened and sends "abcdef".
-fn six_bytes(rt: &HostRuntime) -> Result<Capture, Fail> {
+fn six_bytes(alloc: Global) -> Result<Capture, Fail> {
     captured(
-        rt,
+        alloc,
         &[
             (0, SYN, 100, 0, b"".as_slice()),
             (1000, ACK, 101, 501, b"".as_slice()),
@@ -277,26 +289,20 @@ const BUFFER_FIRST: [Act; 4] = [
     Act::Feed { n: 2 },
 ];
 
-/// Whether a block has that order, and what serving it gives.
-fn served_four_bytes(rt: &HostRuntime, block: &Block) -> Result<bool, Fail> {
-    let wanted = [(0, SYN_ACK, 500, 101, 4), (2000, PSH_ACK, 501, 105, 4)];
-    let as_wanted = replies(rt, block)?.as_slice() == wanted.as_slice();
-    let sent_four = sent(rt, block)?.as_slice() == b"abcd".as_slice();
-    let as_answered = answers(rt, block)?.as_slice() == [(0, 0, Answer::Done)].as_slice();
-    let in_order = block.order() == BUFFER_FIRST.as_slice();
-    Ok(!block.short() && in_order && as_wanted && sent_four && as_answered)
-}
+const FOUR_BYTES: Wanted = Wanted {
+    order: &BUFFER_FIRST,
+    replies: &[(0, SYN_ACK, 500, 101, 4), (2000, PSH_ACK, 501, 105, 4)],
+    text: b"abcd",
+    answers: &[(0, 0, Answer::Done)],
+};
 
 #[test]
 fn small_buffer(rt: HostRuntime) -> Result<(), Fail> {
-    let capture = six_bytes(&rt)?;
-    let plan = plan(&rt, rt.alloc(), &capture, false)?;
+    let capture = six_bytes(rt.alloc())?;
     let calls = buffer_of_four(rt.alloc())?;
-    let Some(block) = served(rt.alloc(), &plan, &calls, &BUFFER_FIRST)? else {
-        panic!(rt; "the order can't be served")
-    };
-    assert!(rt; served_four_bytes(&rt, &block)?);
-    Ok(())
+    let block = served(&rt, rt.alloc(), &capture, &calls, &BUFFER_FIRST)?;
+    let block = block.expect(&rt, "the order can be served");
+    expect(&rt, rt.alloc(), &block, &FOUR_BYTES)
 }
 
 /// The order f0 f1 f2 c0.0 c0.1 c1.0 f3 f4 f5.
@@ -312,38 +318,54 @@ const TWO_THREADS: [Act; 9] = [
     Act::Feed { n: 5 },
 ];
 
-/// Whether a block has that order, and what serving it gives.
-fn served_two_threads(rt: &HostRuntime, block: &Block) -> Result<bool, Fail> {
-    let wanted = [
+const HELLO_AND_CLOSE: Wanted = Wanted {
+    order: &TWO_THREADS,
+    replies: &[
         (0, SYN_ACK, 500, 101, 65535),
         (2000, PSH_ACK, 501, 106, 65535),
         (2000, FIN_ACK, 506, 106, 65535),
         (3000, ACK, 507, 107, 65535),
-    ];
-    let answered = [
-        (0, 0, status(State::Established, 5, 5, 5)),
+    ],
+    text: b"hello",
+    answers: &[
+        (
+            0,
+            0,
+            Answer::Status {
+                state: State::Established,
+                received: 5,
+                offered: 5,
+                unacked: 5,
+            },
+        ),
         (0, 1, Answer::Done),
-        (1, 0, status(State::FinWait1, 5, 5, 5)),
-    ];
-    let as_wanted = replies(rt, block)?.as_slice() == wanted.as_slice();
-    let sent_hello = sent(rt, block)?.as_slice() == b"hello".as_slice();
-    let as_answered = answers(rt, block)?.as_slice() == answered.as_slice();
-    let in_order = block.order() == TWO_THREADS.as_slice();
-    let ended = block.tcb().state() == State::TimeWait;
-    Ok(!block.short() && in_order && as_wanted && sent_hello && as_answered && ended)
+        (
+            1,
+            0,
+            Answer::Status {
+                state: State::FinWait1,
+                received: 5,
+                offered: 5,
+                unacked: 5,
+            },
+        ),
+    ],
+};
+
+/// A block of that order, after which the connection waits.
+fn expect_closed(rt: &impl Abort, alloc: Global, block: &Block) -> Result<(), Fail> {
+    assert_eq!(rt; block.tcb().state(), State::TimeWait);
+    expect(rt, alloc, block, &HELLO_AND_CLOSE)
 }
 
 #[test]
 fn calls_of_two_threads(rt: HostRuntime) -> Result<(), Fail> {
-    let capture = five_segments(&rt)?;
-    let plan = plan(&rt, rt.alloc(), &capture, false)?;
+    let capture = five_segments(rt.alloc())?;
     let calls = two_threads(rt.alloc())?;
     assert_eq!(rt; (calls.len(0), calls.len(1), calls.len(2)), (2, 1, 0));
-    let Some(block) = served(rt.alloc(), &plan, &calls, &TWO_THREADS)? else {
-        panic!(rt; "the order can't be served")
-    };
-    assert!(rt; served_two_threads(&rt, &block)?);
-    Ok(())
+    let block = served(&rt, rt.alloc(), &capture, &calls, &TWO_THREADS)?;
+    let block = block.expect(&rt, "the order can be served");
+    expect_closed(&rt, rt.alloc(), &block)
 }
 
 /// The same acts, with calls that come early and again.
@@ -365,14 +387,12 @@ const EARLY_AND_AGAIN: [Act; 13] = [
 
 #[test]
 fn early_repeated_and_late_calls(rt: HostRuntime) -> Result<(), Fail> {
-    let capture = five_segments(&rt)?;
+    let capture = five_segments(rt.alloc())?;
     let plan = plan(&rt, rt.alloc(), &capture, false)?;
     let calls = two_threads(rt.alloc())?;
-    let Some(block) = given(rt.alloc(), &plan.view(), &calls, &EARLY_AND_AGAIN)? else {
-        panic!(rt; "an act can't come")
-    };
-    assert!(rt; served_two_threads(&rt, &block)?);
-    Ok(())
+    let block = given(rt.alloc(), &plan.view(), &calls, &EARLY_AND_AGAIN)?;
+    let block = block.expect(&rt, "each act can come");
+    expect_closed(&rt, rt.alloc(), &block)
 }
 
 /// Call 1 of thread 0 comes, and call 0 never does.
@@ -384,12 +404,11 @@ const NEVER_LET_GO: [Act; 3] = [
 
 #[test]
 fn call_held_to_the_end(rt: HostRuntime) -> Result<(), Fail> {
-    let capture = five_segments(&rt)?;
+    let capture = five_segments(rt.alloc())?;
     let plan = plan(&rt, rt.alloc(), &capture, false)?;
     let calls = two_threads(rt.alloc())?;
-    let Some(block) = given(rt.alloc(), &plan.view(), &calls, &NEVER_LET_GO)? else {
-        panic!(rt; "an act can't come")
-    };
+    let block = given(rt.alloc(), &plan.view(), &calls, &NEVER_LET_GO)?;
+    let block = block.expect(&rt, "each act can come");
     let order = [Act::Feed { n: 0 }, Act::Call { j: 1, k: 0 }];
     assert_eq!(rt; block.order(), order.as_slice());
     assert_eq!(rt; block.answers(), 1);
@@ -518,14 +537,13 @@ fn moved(
 
 #[test]
 fn acts_at_two_squeues(rt: HostRuntime) -> Result<(), Fail> {
-    let capture = five_segments(&rt)?;
+    let capture = five_segments(rt.alloc())?;
     let plan = plan(&rt, rt.alloc(), &capture, false)?;
     let calls = two_threads(rt.alloc())?;
     let mut places = moved(&rt, rt.alloc(), &plan, &calls)?;
     let Some(Some(block)) = places.pop() else {
         panic!(rt; "the block isn't at its place")
     };
-    assert!(rt; served_two_threads(&rt, &block)?);
     assert!(rt; places.is_empty());
-    Ok(())
+    expect_closed(&rt, rt.alloc(), &block)
 }

@@ -1,7 +1,10 @@
 use crate::{Counts, Item, Plan, plan};
 use capture_reader::{Capture, parse_capture};
 use sq_base::{Addr, Octets, Tuple};
+use std::alloc::Global;
+use std::process::Abort;
 use std::test::Fail;
+use std::thread::Threads;
 
 /// The header of a capture file: little-endian, microseconds, raw IP.
 const HEADER: [u8; 24] = [
@@ -42,17 +45,17 @@ fn add(bytes: &mut Vec<u8>, row: &Row, change: Option<(usize, u8)>) -> Result<()
     Ok(())
 }
 
-fn captured(rt: &HostRuntime, rows: &[Row]) -> Result<Capture, Fail> {
-    let mut bytes = Vec::from_slice(rt.alloc(), &HEADER)?;
+fn captured(alloc: Global, rows: &[Row]) -> Result<Capture, Fail> {
+    let mut bytes = Vec::from_slice(alloc, &HEADER)?;
     for row in rows {
         add(&mut bytes, row, None)?;
     }
-    Ok(parse_capture(rt.alloc(), Octets::of(rt.alloc(), &bytes)?)?)
+    Ok(parse_capture(alloc, Octets::of(alloc, &bytes)?)?)
 }
 
 /// The items of a connection, none where there is no such one.
-fn items_of(rt: &HostRuntime, plan: &Plan, c: u32) -> Result<Vec<Item>, Fail> {
-    let mut items = Vec::new(rt.alloc());
+fn items_of(alloc: Global, plan: &Plan, c: u32) -> Result<Vec<Item>, Fail> {
+    let mut items = Vec::new(alloc);
     if c < plan.conns() {
         for n in 0..plan.items(c) {
             items.push(plan.item(c, n))?;
@@ -62,8 +65,8 @@ fn items_of(rt: &HostRuntime, plan: &Plan, c: u32) -> Result<Vec<Item>, Fail> {
 }
 
 /// The texts of a connection's items, one behind another.
-fn texts_of(rt: &HostRuntime, plan: &Plan, c: u32) -> Result<Vec<u8>, Fail> {
-    let mut texts = Vec::new(rt.alloc());
+fn texts_of(alloc: Global, plan: &Plan, c: u32) -> Result<Vec<u8>, Fail> {
+    let mut texts = Vec::new(alloc);
     if c < plan.conns() {
         for n in 0..plan.items(c) {
             texts.extend_from_slice(plan.text(c, n))?;
@@ -73,8 +76,8 @@ fn texts_of(rt: &HostRuntime, plan: &Plan, c: u32) -> Result<Vec<u8>, Fail> {
 }
 
 /// The time of each item, with the record's number and the hint where it is a segment.
-fn times_of(rt: &HostRuntime, items: &[Item]) -> Result<Vec<(u64, Option<(u32, u32)>)>, Fail> {
-    let mut times = Vec::new(rt.alloc());
+fn times_of(alloc: Global, items: &[Item]) -> Result<Vec<(u64, Option<(u32, u32)>)>, Fail> {
+    let mut times = Vec::new(alloc);
     for item in items {
         times.push(match *item {
             Item::Time { at } => (at, None),
@@ -85,18 +88,24 @@ fn times_of(rt: &HostRuntime, items: &[Item]) -> Result<Vec<(u64, Option<(u32, u
 }
 
 /// A capture of one connection, of whose segments these are flags, sequence number and acknowledgement number.
-fn one_connection(rt: &HostRuntime, segments: &[(u8, u32, u32)]) -> Result<Capture, Fail> {
-    let mut rows = Vec::new(rt.alloc());
+fn one_connection(alloc: Global, segments: &[(u8, u32, u32)]) -> Result<Capture, Fail> {
+    let mut rows = Vec::new(alloc);
     for &(flags, seq, ack) in segments {
         rows.push((0, 4000, 7, flags, seq, ack, b'a'))?;
     }
-    captured(rt, rows.as_slice())
+    captured(alloc, rows.as_slice())
 }
 
-/// The hints of the segments of connection 0.
-fn hints_of(rt: &HostRuntime, plan: &Plan) -> Result<Vec<u32>, Fail> {
-    let mut hints = Vec::new(rt.alloc());
-    for item in &items_of(rt, plan, 0)? {
+/// The hints of a connection with these segments.
+fn hints_of(
+    rt: &(impl Threads + Sync),
+    alloc: Global,
+    segments: &[(u8, u32, u32)],
+) -> Result<Vec<u32>, Fail> {
+    let capture = one_connection(alloc, segments)?;
+    let plan = plan(rt, alloc, &capture, false)?;
+    let mut hints = Vec::new(alloc);
+    for item in &items_of(alloc, &plan, 0)? {
         if let Item::Segment { iss, .. } = *item {
             hints.push(iss)?;
         }
@@ -107,58 +116,42 @@ fn hints_of(rt: &HostRuntime, plan: &Plan) -> Result<Vec<u32>, Fail> {
 /// An acknowledgement of sequence number 500.
 const ACKED: (u8, u32, u32) = (ACK, 101, 501);
 
+/// The segments of a connection, and their hints.
+const HINTS: [(&[(u8, u32, u32)], &[u32]); 8] = [
+    (&[(SYN, 100, 0), ACKED, (SYN, 100, 0)], &[500, 0, 0]),
+    (&[(SYN, 100, 0), (SYN, 200, 0), ACKED], &[0, 500, 0]),
+    (
+        &[(SYN, 7, 0), (SYN, 7, 0), (SYN, 8, 0), (SYN, 7, 0), ACKED],
+        &[0, 0, 0, 500, 0],
+    ),
+    (&[(SYN, 100, 0), (RST | ACK, 101, 901), ACKED], &[500, 0, 0]),
+    (&[(SYN, 100, 0), (FIN, 101, 901), ACKED], &[500, 0, 0]),
+    (
+        &[(SYN, 100, 0), (SYN | ACK, 100, 901), ACKED],
+        &[500, 500, 0],
+    ),
+    (&[(SYN | RST, 100, 0), (ACK, 101, 0)], &[0xffff_ffff, 0]),
+    (&[(SYN, 100, 0), (RST | ACK, 101, 501)], &[0, 0]),
+];
+
 #[test]
 fn hints(rt: HostRuntime) -> Result<(), Fail> {
+    for (segments, wanted) in HINTS {
+        let hints = hints_of(&rt, rt.alloc(), segments)?;
+        assert_eq!(rt; hints.as_slice(), wanted, "at {segments:?}");
+    }
     let mut many = [(SYN, 100, 0); 40];
     many[39] = ACKED;
     let mut same = [500; 40];
     same[39] = 0;
-    let table = [
-        (
-            [(SYN, 100, 0), ACKED, (SYN, 100, 0)].as_slice(),
-            [500, 0, 0].as_slice(),
-        ),
-        (
-            [(SYN, 100, 0), (SYN, 200, 0), ACKED].as_slice(),
-            [0, 500, 0].as_slice(),
-        ),
-        (
-            [(SYN, 7, 0), (SYN, 7, 0), (SYN, 8, 0), (SYN, 7, 0), ACKED].as_slice(),
-            [0, 0, 0, 500, 0].as_slice(),
-        ),
-        (
-            [(SYN, 100, 0), (RST | ACK, 101, 901), ACKED].as_slice(),
-            [500, 0, 0].as_slice(),
-        ),
-        (
-            [(SYN, 100, 0), (FIN, 101, 901), ACKED].as_slice(),
-            [500, 0, 0].as_slice(),
-        ),
-        (
-            [(SYN, 100, 0), (SYN | ACK, 100, 901), ACKED].as_slice(),
-            [500, 500, 0].as_slice(),
-        ),
-        (
-            [(SYN | RST, 100, 0), (ACK, 101, 0)].as_slice(),
-            [0xffff_ffff, 0].as_slice(),
-        ),
-        (
-            [(SYN, 100, 0), (RST | ACK, 101, 501)].as_slice(),
-            [0, 0].as_slice(),
-        ),
-        (many.as_slice(), same.as_slice()),
-    ];
-    for (segments, wanted) in table {
-        let capture = one_connection(&rt, segments)?;
-        let plan = plan(&rt, rt.alloc(), &capture, false)?;
-        assert_eq!(rt; hints_of(&rt, &plan)?.as_slice(), wanted, "at {segments:?}");
-    }
+    let hints = hints_of(&rt, rt.alloc(), &many)?;
+    assert_eq!(rt; hints.as_slice(), same.as_slice());
     Ok(())
 }
 
 /// A file with eleven records of different classes, and a cut tail.
-fn all_classes(rt: &HostRuntime) -> Result<Capture, Fail> {
-    let mut bytes = Vec::from_slice(rt.alloc(), &HEADER)?;
+fn all_classes(alloc: Global) -> Result<Capture, Fail> {
+    let mut bytes = Vec::from_slice(alloc, &HEADER)?;
     for (from, to) in [(4000, 7), (9, 7), (4000, 9), (7, 4000), (4000, 4001)] {
         add(&mut bytes, &(0, from, to, SYN, 100, 0, b'a'), None)?;
     }
@@ -173,12 +166,12 @@ fn all_classes(rt: &HostRuntime) -> Result<Capture, Fail> {
         add(&mut bytes, &(0, 4000, 7, SYN, 100, 0, b'a'), Some(change))?;
     }
     bytes.extend_from_slice(&[0; 15])?;
-    Ok(parse_capture(rt.alloc(), Octets::of(rt.alloc(), &bytes)?)?)
+    Ok(parse_capture(alloc, Octets::of(alloc, &bytes)?)?)
 }
 
 #[test]
 fn classes(rt: HostRuntime) -> Result<(), Fail> {
-    let capture = all_classes(&rt)?;
+    let capture = all_classes(rt.alloc())?;
     let counts = Counts {
         records: 11,
         tail: 1,
@@ -204,19 +197,19 @@ fn classes(rt: HostRuntime) -> Result<(), Fail> {
 }
 
 /// A capture of 4,097 connections, the first and the last with two segments each.
-fn one_too_many(rt: &HostRuntime) -> Result<Capture, Fail> {
-    let mut rows = Vec::new(rt.alloc());
+fn one_too_many(alloc: Global) -> Result<Capture, Fail> {
+    let mut rows = Vec::new(alloc);
     for i in 0..4097u16 {
         rows.push((0, 1000 + i, 7, SYN, 100, 0, b'a'))?;
     }
     rows.push((0, 1000, 7, ACK, 101, 501, b'a'))?;
     rows.push((0, 5096, 7, ACK, 101, 501, b'a'))?;
-    captured(rt, rows.as_slice())
+    captured(alloc, rows.as_slice())
 }
 
 #[test]
 fn connection_limit(rt: HostRuntime) -> Result<(), Fail> {
-    let capture = one_too_many(&rt)?;
+    let capture = one_too_many(rt.alloc())?;
     let plan = plan(&rt, rt.alloc(), &capture, false)?;
     assert_eq!(rt; plan.conns(), 4096);
     let counts = plan.counts();
@@ -246,85 +239,90 @@ const TWO: [Row; 7] = [
     (199_999, 4000, 7, ACK, 101, 501, b'g'),
 ];
 
+/// The items of each of them: the time, with the record's number and the hint where it is a segment.
+const FIRST_ITEMS: [(u64, Option<(u32, u32)>); 6] = [
+    (0, Some((0, 500))),
+    (100_000, None),
+    (100_000, Some((2, 0))),
+    (100_000, Some((4, 0))),
+    (199_999, Some((6, 0))),
+    (250_000, None),
+];
+
+const SECOND_ITEMS: [(u64, Option<(u32, u32)>); 3] = [
+    (50_000, Some((1, 700))),
+    (149_999, Some((3, 0))),
+    (250_000, None),
+];
+
+/// A connection's items have these times and texts.
+fn expect_items(
+    rt: &impl Abort,
+    alloc: Global,
+    plan: &Plan,
+    c: u32,
+    times: &[(u64, Option<(u32, u32)>)],
+    texts: &[u8],
+) -> Result<(), Fail> {
+    let items = items_of(alloc, plan, c)?;
+    let found = times_of(alloc, items.as_slice())?;
+    assert_eq!(rt; found.as_slice(), times, "connection {c}");
+    let found = texts_of(alloc, plan, c)?;
+    assert_eq!(rt; found.as_slice(), texts, "connection {c}");
+    Ok(())
+}
+
 #[test]
 fn items_of_two_connections(rt: HostRuntime) -> Result<(), Fail> {
-    let capture = captured(&rt, TWO.as_slice())?;
+    let capture = captured(rt.alloc(), TWO.as_slice())?;
     let plan = plan(&rt, rt.alloc(), &capture, false)?;
-    let first = [
-        (0, Some((0, 500))),
-        (100_000, None),
-        (100_000, Some((2, 0))),
-        (100_000, Some((4, 0))),
-        (199_999, Some((6, 0))),
-        (250_000, None),
-    ];
-    let second = [
-        (50_000, Some((1, 700))),
-        (149_999, Some((3, 0))),
-        (250_000, None),
-    ];
-    let wanted = [
-        (first.as_slice(), b"aceg".as_slice()),
-        (second.as_slice(), b"bd".as_slice()),
-    ];
     assert_eq!(rt; plan.conns(), 2);
-    for (c, (times, texts)) in (0..2u32).zip(wanted) {
-        let items = items_of(&rt, &plan, c)?;
-        assert_eq!(rt;
-            times_of(&rt, items.as_slice())?.as_slice(),
-            times,
-            "connection {c}"
-        );
-        assert_eq!(rt;
-            texts_of(&rt, &plan, c)?.as_slice(),
-            texts,
-            "connection {c}"
-        );
-    }
+    expect_items(&rt, rt.alloc(), &plan, 0, &FIRST_ITEMS, b"aceg")?;
+    expect_items(&rt, rt.alloc(), &plan, 1, &SECOND_ITEMS, b"bd")?;
     assert_eq!(rt; (plan.ring_of(1, 2), plan.first_squeue(1, 3)), (1, 1));
     Ok(())
 }
 
 /// What ring `r` of so many brings: connections and items. Nothing, where there is no such ring.
-fn brought(rt: &HostRuntime, plan: &Plan, rings: u32, r: u32) -> Result<Vec<(u32, u32)>, Fail> {
-    let mut list = Vec::new(rt.alloc());
+fn brought(alloc: Global, plan: &Plan, rings: u32, r: u32) -> Result<Vec<(u32, u32)>, Fail> {
+    let mut list = Vec::new(alloc);
     if r < rings {
-        for feed in &plan.ring_list(rt.alloc(), rings, r)? {
+        for feed in &plan.ring_list(alloc, rings, r)? {
             list.push((feed.c, feed.n))?;
         }
     }
     Ok(list)
 }
 
+/// So many rings, one of them, and what it brings.
+const BROUGHT: [(u32, u32, &[(u32, u32)]); 4] = [
+    (
+        1,
+        0,
+        &[
+            (0, 0),
+            (1, 0),
+            (0, 1),
+            (0, 2),
+            (1, 1),
+            (0, 3),
+            (0, 4),
+            (0, 5),
+            (1, 2),
+        ],
+    ),
+    (2, 0, &[(0, 0), (0, 1), (0, 2), (0, 3), (0, 4), (0, 5)]),
+    (2, 1, &[(1, 0), (1, 1), (1, 2)]),
+    (4, 3, &[]),
+];
+
 #[test]
 fn rings_of_two_connections(rt: HostRuntime) -> Result<(), Fail> {
-    let capture = captured(&rt, TWO.as_slice())?;
+    let capture = captured(rt.alloc(), TWO.as_slice())?;
     let plan = plan(&rt, rt.alloc(), &capture, false)?;
-    let all = [
-        (0, 0),
-        (1, 0),
-        (0, 1),
-        (0, 2),
-        (1, 1),
-        (0, 3),
-        (0, 4),
-        (0, 5),
-        (1, 2),
-    ];
-    let first = [(0, 0), (0, 1), (0, 2), (0, 3), (0, 4), (0, 5)];
-    let second = [(1, 0), (1, 1), (1, 2)];
-    let lists = [
-        (1, 0, all.as_slice()),
-        (2, 0, first.as_slice()),
-        (2, 1, second.as_slice()),
-        (4, 3, [].as_slice()),
-    ];
-    for (rings, r, feeds) in lists {
-        assert_eq!(rt;
-            brought(&rt, &plan, rings, r)?.as_slice(),
-            feeds,
-            "ring {r} of {rings}"
-        );
+    for (rings, r, wanted) in BROUGHT {
+        let feeds = brought(rt.alloc(), &plan, rings, r)?;
+        assert_eq!(rt; feeds.as_slice(), wanted, "ring {r} of {rings}");
     }
     Ok(())
 }

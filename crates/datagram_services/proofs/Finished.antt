@@ -1,5 +1,5 @@
 -- What is known when all jobs are done.
-use Rattle.std.proofs.Common.{◌≡◌, ℕ, ◌+◌, ◌<◌, List, length, ◌∙◌, subst, arith}
+use Rattle.std.proofs.Common.{◌≡◌, ℕ, ◌+◌, List, length, ◌∙◌, subst, arith}
 use Rattle.perimeter_core.specs.declared.entries.Feed.{Feed}
 use Rattle.squeue_state.specs.Naming.{Named}
 use Rattle.conn_blocks.specs.CallLists.{CallLists}

@@ -1,5 +1,5 @@
 -- The feeds of a ring's streams.
-use Rattle.std.proofs.Common.{◌≡◌, ◌≢◌, ℕ, ◌+◌, ◌*◌, ◌%◌, ◌<◌, ◌≤◌, ◌==◌, if◌then◌else◌, Bool, true, false, zero, suc, Some, None, IfSome, List, [], ◌∷◌, ◌++◌, length, map, sum, sum_by, take, get_or, slice_get, refl, ap, sym, ◌∙◌, subst, arith, length-append}
+use Rattle.std.proofs.Common.{◌≡◌, ◌≢◌, ℕ, ◌+◌, ◌%◌, ◌<◌, ◌≤◌, ◌==◌, if◌then◌else◌, Bool, true, false, zero, suc, Some, IfSome, List, [], ◌∷◌, length, map, sum, take, get_or, slice_get, refl, ap, sym, ◌∙◌, arith, length-append}
 use Rattle.std.proofs.lemmas.Bool.Decides.{nat_tests}
 use Rattle.std.proofs.lemmas.List.{take_more}
 use Rattle.std.proofs.lemmas.List.Sums.{sum-map, sum_by-cons}

@@ -1,5 +1,5 @@
 -- Jobs with the passes of new squeues are ready.
-use Rattle.std.proofs.Common.{◌≡◌, ℕ, ◌+◌, ◌%◌, ◌<◌, ◌≤◌, ◌==◌, zero, suc, false, Some, List, [], ◌∷◌, length, map, slice_get, slice_index, slice_index_or, ap, sym, ◌∙◌, subst, arith}
+use Rattle.std.proofs.Common.{◌≡◌, ℕ, ◌%◌, ◌<◌, ◌≤◌, ◌==◌, zero, suc, false, Some, List, [], ◌∷◌, length, map, slice_get, slice_index, slice_index_or, ap, sym, ◌∙◌, subst, arith}
 use Rattle.std.proofs.lemmas.List.{length-map}
 use Rattle.turn_gate.specs.History.{Each}
 use Rattle.perimeter_core.specs.declared.entries.Feed.{Feed}

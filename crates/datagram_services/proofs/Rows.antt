@@ -2,7 +2,6 @@
 use Rattle.std.proofs.Common.{◌≡◌, ◌≢◌, ℕ, ◌+◌, ◌%◌, ◌<◌, ◌≤◌, true, zero, suc, if◌then◌else◌, Bool, Option, Some, None, List, [], ◌∷◌, ◌++◌, Vec, length, map, slice_get, slice_index, refl, ap, sym, ◌∙◌, subst, arith, eq-eqb}
 use Rattle.std.specs.declared.alloc.Global.{Global}
 use Rattle.std.proofs.lemmas.Option.{slice_get_within}
-use Rattle.turn_gate.specs.Passes.{seen}
 use Rattle.turn_gate.specs.declared.pass.Pass.{Pass}
 use Rattle.perimeter_core.specs.declared.entries.Act.{Act}
 use Rattle.perimeter_core.specs.declared.entries.Entry.{Entry}
@@ -27,11 +26,11 @@ use Rattle.key_counters.proofs.RingLists.{has_all}
 use Rattle.stream_plan.specs.Streams.{MorePlanOf, StreamOf, item_count}
 use Rattle.stream_blocks.specs.declared.block.StreamBlock.{StreamBlock}
 use Rattle.stream_blocks.specs.declared.blocks.StreamBlocks.{StreamBlocks}
-use Rattle.stream_blocks.specs.Standing.{HasHad, PlaceFits, limits_of}
+use Rattle.stream_blocks.specs.Standing.{PlaceFits, limits_of}
 use Rattle.stream_blocks.proofs.Placing.{had_is}
 use Rattle.datagram_services.specs.Lines.{counts_of}
-use Rattle.datagram_services.specs.Gathering.{AreRows, HaveLeft, IsWholeBlock, LeavesRow}
-use Rattle.datagram_services.specs.Settings.{AreSet, HasRun}
+use Rattle.datagram_services.specs.Gathering.{AreRows, HaveLeft, IsWholeBlock}
+use Rattle.datagram_services.specs.Settings.{HasRun}
 
 none_in : (xs : List Entry) → (xs ≢ [] → ⊥) → xs ≡ []
 none_in [] h = refl

@@ -1,15 +1,14 @@
 -- The quotas of squeues suffice for the lists of the rings: no stream moves, and each list has its streams' feeds in order.
-use Rattle.std.proofs.Common.{◌≡◌, ◌≢◌, ℕ, ◌+◌, ◌%◌, ◌<◌, ◌≤◌, ◌==◌, ◌&&◌, not, if◌then◌else◌, Bool, true, false, inl, inr, zero, suc, Some, List, [], ◌∷◌, ◌++◌, length, map, slice_get, slice_index, slice_index_or, refl, ap, sym, ◌∙◌, subst, arith, length-append}
-use Rattle.std.proofs.lemmas.Bool.{cases_eq}
+use Rattle.std.proofs.Common.{◌≡◌, ◌≢◌, ℕ, ◌+◌, ◌%◌, ◌<◌, ◌≤◌, ◌==◌, ◌&&◌, not, if◌then◌else◌, Bool, true, false, zero, suc, List, [], ◌∷◌, ◌++◌, length, slice_index, refl, ap, sym, ◌∙◌, subst, arith}
 use Rattle.std.proofs.lemmas.Bool.Decides.{nat_tests}
-use Rattle.std.proofs.lemmas.List.{append-nil, length-map}
+use Rattle.std.proofs.lemmas.List.{append-nil}
 use Rattle.turn_gate.specs.History.{Each}
 use Rattle.turn_gate.proofs.Histories.{all_joined}
 use Rattle.perimeter_core.specs.declared.entries.Feed.{Feed}
 use Rattle.perimeter_core.specs.Backlog.{up}
 use Rattle.perimeter_core.specs.Deeds.{entries, feeds_of}
 use Rattle.perimeter_core.proofs.FeedLists.{feeds_of-append, length-up}
-use Rattle.squeue_rings.specs.Runs.{InOrder, brought, comes, count, is_at, is_left_by, leaves}
+use Rattle.squeue_rings.specs.Runs.{InOrder, brought, comes, count, is_left_by, leaves}
 use Rattle.key_counters.specs.Lists.{items_of, list_of}
 use Rattle.key_counters.proofs.Chains.{entries_append}
 

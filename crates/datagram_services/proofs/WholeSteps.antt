@@ -1,12 +1,12 @@
 -- One block more is taken out of the rows.
-use Rattle.std.proofs.Common.{◌≡◌, ◌≢◌, ℕ, ◌+◌, ◌%◌, ◌<◌, ◌≤◌, ◌==◌, inl, inr, false, Option, Some, List, [], ◌∷◌, ◌++◌, Vec, length, map, take, slice_get, slice_set, ap, sym, ◌∙◌, subst, arith}
+use Rattle.std.proofs.Common.{◌≡◌, ◌≢◌, ℕ, ◌+◌, ◌%◌, ◌<◌, ◌≤◌, inl, inr, false, Option, Some, List, [], ◌∷◌, ◌++◌, Vec, length, map, take, slice_get, slice_set, ap, sym, ◌∙◌, subst, arith}
 use Rattle.std.specs.declared.alloc.Global.{Global}
 use Rattle.std.proofs.lemmas.Bool.{cases_eq}
 use Rattle.std.proofs.lemmas.List.{map-append}
 use Rattle.squeue_rings.proofs.Slots.{got_map, got_other, got_same, take_one}
 use Rattle.stream_plan.specs.Streams.{MorePlanOf, StreamOf}
 use Rattle.stream_blocks.specs.declared.block.StreamBlock.{StreamBlock}
-use Rattle.stream_blocks.specs.Served.{ServedOf, all_served, served}
+use Rattle.stream_blocks.specs.Served.{all_served, served}
 use Rattle.stream_blocks.specs.Standing.{HasServed, served_of}
 use Rattle.datagram_services.specs.Gathering.{IsWholeBlock}
 

@@ -1,8 +1,8 @@
 -- The squeues of a run, by what they were made with, and what their passes know when all is brought.
-use Rattle.std.specs.Prelude.{◌≡◌, ℕ, ◌+◌, ◌%◌, ◌<◌, ◌==◌, if◌then◌else◌, Bool, false, Option, Some, List, [], length, map, slice_get, slice_index_or}
+use Rattle.std.specs.Prelude.{◌≡◌, ℕ, ◌+◌, ◌%◌, ◌<◌, ◌==◌, false, Option, Some, List, [], length, map, slice_get, slice_index_or}
 use Rattle.turn_gate.specs.declared.pass.Pass.{Pass}
-use Rattle.perimeter_core.specs.History.{Element, Limits}
-use Rattle.squeue_state.specs.Naming.{Named, setting_of}
+use Rattle.perimeter_core.specs.History.{Element}
+use Rattle.squeue_state.specs.Naming.{Named}
 use Rattle.squeue_rings.specs.Runs.{count, is_at}
 use Rattle.ring_jobs.specs.declared.lines.Line.{Line}
 use Rattle.ring_jobs.specs.Ends.{RingsEnd}

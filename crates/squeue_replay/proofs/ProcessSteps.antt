@@ -6,7 +6,7 @@ use Rattle.perimeter_core.specs.declared.entries.Entry.{Entry}
 use Rattle.perimeter_core.specs.declared.marks.Own.TheVariants.{Out}
 use Rattle.perimeter_core.specs.declared.marks.Mark.TheVariants as On
 use Rattle.perimeter_core.specs.Perimeter.{State, after, has_ask, is_closed}
-use Rattle.perimeter_core.specs.History.{Element, Setting, passes, run, start, pass_of}
+use Rattle.perimeter_core.specs.History.{Element, Setting, run, start, pass_of}
 use Rattle.perimeter_core.specs.Deeds.{done_by, entries_of}
 use Rattle.perimeter_core.specs.Legal.{Legal, May, WithinQuota, all_feeds, ask_count, feed_count}
 use Rattle.perimeter_core.proofs.OneMore.{legal_more, run_push}

@@ -1,5 +1,6 @@
 -- What the marks that enter something are read off and do, over what is kept in memory.
-use Rattle.std.specs.Prelude.{◌≡◌, ◌≢◌, ℕ, ◌+◌, ◌-◌, ◌^◌, ◌%◌, ◌<◌, Bool, true, false, if◌then◌else◌, MatchBool, Some, List, [], ◌∷◌, ◌++◌, min, slice_get, slice_index, slice_set}
+use Rattle.std.specs.Prelude.{◌≡◌, ◌≢◌, ℕ, ◌+◌, ◌-◌, ◌^◌, ◌%◌, ◌<◌, Bool, true, false, if◌then◌else◌, MatchBool}
+use Rattle.std.specs.Prelude.{Some, List, [], ◌∷◌, ◌++◌, min, slice_get, slice_index, slice_set}
 use Rattle.perimeter_core.specs.declared.entries.Feed.{Feed}
 use Rattle.perimeter_core.specs.declared.entries.Entry.TheVariants as Entered
 use Rattle.perimeter_core.specs.declared.marks.Mark.{Mark}

@@ -1,5 +1,6 @@
 -- How far a pass is that owns the squeue, and whether one more mark keeps homes, mode and budget.
-use Rattle.std.specs.Prelude.{◌≡◌, ◌≢◌, ℕ, ◌+◌, ◌-◌, ◌^◌, ◌<◌, ◌≤◌, ◌&&◌, ◌||◌, ◌==◌, not, min, nat_le, Bool, true, false, if◌then◌else◌, IfSome, IsTrue, ◌↔◌, Option, None, Some, option_map, List, [], ◌∷◌, ◌++◌}
+use Rattle.std.specs.Prelude.{◌≡◌, ◌≢◌, ℕ, ◌+◌, ◌-◌, ◌^◌, ◌<◌, ◌≤◌, ◌&&◌, ◌||◌, ◌==◌, not, min, nat_le, Bool, true, false}
+use Rattle.std.specs.Prelude.{if◌then◌else◌, IfSome, IsTrue, ◌↔◌, Option, None, Some, option_map, List, [], ◌∷◌, ◌++◌}
 use Rattle.perimeter_core.specs.declared.marks.Mark.{Mark}
 use Rattle.perimeter_core.specs.declared.marks.Mark.TheVariants as On
 use Rattle.perimeter_core.specs.declared.marks.Own.TheVariants.{Free, Out}
@@ -81,4 +82,5 @@ just None n = true
 just (Some k) n = k == n
 
 abbrev pub fits_budget : Mode → ℕ → Mark → Option ℕ → Bool → Bool
-fits_budget mode budget m now left = (not (takes m || gives_it_up m) || at_most now budget) && (not (is_process mode && (leaves_it m && left)) || just now budget)
+fits_budget mode budget m now left =
+    (not (takes m || gives_it_up m) || at_most now budget) && (not (is_process mode && (leaves_it m && left)) || just now budget)

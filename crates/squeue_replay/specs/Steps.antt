@@ -1,5 +1,6 @@
 -- What one more mark does to what is kept in memory.
-use Rattle.std.specs.Prelude.{◌≡◌, ℕ, ◌+◌, ◌-◌, ◌*◌, ◌%◌, ◌^◌, ◌<◌, ◌≤◌, ◌==◌, ◌&&◌, Bool, true, false, if◌then◌else◌, Contains, MatchOption, Option, Some, List, [], ◌∷◌, ◌++◌, length, map, slice_get, slice_index}
+use Rattle.std.specs.Prelude.{◌≡◌, ℕ, ◌+◌, ◌-◌, ◌*◌, ◌%◌, ◌^◌, ◌<◌, ◌≤◌, ◌==◌, ◌&&◌, Bool, true, false, if◌then◌else◌, Contains}
+use Rattle.std.specs.Prelude.{MatchOption, Option, Some, List, [], ◌∷◌, ◌++◌, length, map, slice_get, slice_index}
 use Rattle.perimeter_core.specs.declared.entries.Act.{Act}
 use Rattle.perimeter_core.specs.declared.entries.Act.TheVariants as Did
 use Rattle.perimeter_core.specs.declared.entries.Entry.{Entry}
@@ -37,7 +38,8 @@ pub record Became (f : ℕ → GuestOf → GuestOf) (gs hs : List GuestOf) : Typ
 -- the Ask of pass j is queued no more, if it was processed
 pub record Answered (ask : Bool) (j : ℕ) (ps qs : List PassOf) : Type 0 where
   pub count : length qs ≡ length ps
-  pub each : (p : ℕ) (y : PassOf) → slice_get qs p ≡ Some y → (x : PassOf) × (slice_get ps p ≡ Some x) × (y ≡ record x { waiting = if ask && (j == p) then false else x.waiting })
+  pub each : (p : ℕ) (y : PassOf) → slice_get qs p ≡ Some y
+      → (x : PassOf) × (slice_get ps p ≡ Some x) × (y ≡ record x { waiting = if ask && (j == p) then false else x.waiting })
 
 -- these entries of the hand were processed: feeds, and last of all maybe an Ask of pass j
 pub record Processed (es : List Entry) (j n : ℕ) (ask : Bool) (s t : SqueueOf) : Type 0 where
@@ -72,6 +74,7 @@ HasGuest gs c P = (g : GuestOf) × (slice_get gs c ≡ Some g) × P g
 abbrev pub ActMay : Setting → List GuestOf → ℕ → SynchAct → Type 0
 ActMay S gs p (Done.Call c j k) = (p < worker S) × (p ≡ S.rings + j) × HasGuest gs c (λ g. g.here ≡ true) × Contains S.limits.calls (c, j, k)
 ActMay S gs p Done.Away = (p < worker S) × (S.rings ≤ p)
-ActMay S gs p (Done.Out c) = (p < worker S) × (p ≡ c % S.rings) × HasGuest gs c (λ g. (g.here ≡ true) × (g.left < slice_index S.limits.leaves c) × (g.queued ≡ 0))
+ActMay S gs p (Done.Out c) = (p < worker S) × (p ≡ c % S.rings) × HasGuest gs c
+    (λ g. (g.here ≡ true) × (g.left < slice_index S.limits.leaves c) × (g.queued ≡ 0))
 ActMay S gs p (Done.In c) = (p < worker S) × (p ≡ c % S.rings) × HasGuest gs c (λ g. g.here ≡ false)
 ActMay S gs p _ = Unit {0}

@@ -53,7 +53,8 @@ impl Guest {
     /// It is put in, when it has had so many feeds.
     pub fn put_in(&mut self, fed: u64) -> Result<(), AllocError>
         ensures { OnOk result ((guest_of self.old).came + 1 < 2 ^ 64
-            → guest_of self.new ≡ record (guest_of self.old) { here = true; due = fed; came = (guest_of self.old).came + 1; did = (guest_of self.old).did ++ [] ∷ [] }) }
+            → guest_of self.new
+            ≡ record (guest_of self.old) { here = true; due = fed; came = (guest_of self.old).came + 1; did = (guest_of self.old).did ++ [] ∷ [] }) }
     {
         self.stays.push(self.acts.len())?;
         self.here = true;

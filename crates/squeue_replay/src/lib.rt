@@ -14,6 +14,8 @@ mod guest;
 mod marks;
 mod pace;
 mod squeue;
+#[cfg(test)]
+mod tests;
 
 pub use guest::Guest;
 pub use marks::{Mark, Step};

@@ -1,5 +1,7 @@
 //! A mark as it is read.
 
+ghost use Rattle.std.specs.Prelude.{◌≡◌, []};
+
 use perimeter_core::{Feed, SynchAct};
 use std::alloc::Global;
 
@@ -29,8 +31,10 @@ pub struct Mark {
 }
 
 impl Mark {
-    /// Some mark, to be read into.
-    pub fn make(alloc: Global) -> Mark {
+    /// A Take of pass 0, to be read into.
+    pub fn make(alloc: Global) -> Mark
+        ensures { (result.p ≡ 0) × (result.step ≡ Step.Take) × (result.feeds.items ≡ []) }
+    {
         Mark {
             p: 0,
             step: Step::Take,

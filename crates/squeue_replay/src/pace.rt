@@ -84,7 +84,8 @@ impl Pace {
     /// Whether the feeds that the mark enters are at home.
     fn are_home(&self, mark: &Mark) -> bool
         requires { 1 ≤ self.now.setup.squeues }
-        ensures { Decides result (AreHome self.now.setup.squeues self.now.setup.spread self.now.squeue (entries_of (mark_by mark.now.p mark.now.step mark.now.feeds.items))) }
+        ensures { Decides result (AreHome self.now.setup.squeues self.now.setup.spread self.now.squeue
+            (entries_of (mark_by mark.now.p mark.now.step mark.now.feeds.items))) }
     {
         let feeds = mark.feeds.as_slice();
         match mark.step {

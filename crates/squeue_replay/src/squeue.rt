@@ -108,7 +108,8 @@ impl<'p, 'c> Squeue<'p, 'c> {
 
     /// Whether it has ended: all passes but the worker's are closed, nobody has it, and nothing is queued.
     pub fn has_ended(&self) -> bool
-        ensures { (H : List Element) → Stands (setting_of self.now) H (squeue_of self.now) → (IsTrue result ↔ IsOver (setting_of self.now) (run (setting_of self.now) H)) }
+        ensures { (H : List Element) → Stands (setting_of self.now) H (squeue_of self.now)
+            → (IsTrue result ↔ IsOver (setting_of self.now) (run (setting_of self.now) H)) }
     {
         if self.is_taken() || self.has_queued() {
             return false;

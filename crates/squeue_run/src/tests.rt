@@ -154,8 +154,8 @@ struct Ended {
     err: MemSink,
 }
 
-/// Room for what most runs write.
-const ROOM: usize = 100_000;
+/// Room for what runs write.
+const ROOM: usize = 1_000_000;
 
 /// A run over ends that don't fail.
 fn ran(
@@ -212,21 +212,19 @@ fn expect(
     Ok(())
 }
 
-/// Words and an input, and how their run ends: status, output, error line.
+/// Words, and how their run ends: status, output, error line.
 #[derive(Clone, Copy, Drop)]
 struct Row<'a> {
     words: &'a str,
-    input: &'a [u8],
     status: Status,
     out: &'a [&'a str],
     told: Option<&'a str>,
 }
 
 /// A run that ends well.
-fn good<'a>(words: &'a str, input: &'a [u8], out: &'a [&'a str]) -> Row<'a> {
+fn good<'a>(words: &'a str, out: &'a [&'a str]) -> Row<'a> {
     Row {
         words,
-        input,
         status: Status::Ok,
         out,
         told: None,
@@ -234,23 +232,24 @@ fn good<'a>(words: &'a str, input: &'a [u8], out: &'a [&'a str]) -> Row<'a> {
 }
 
 /// A run that gives no output.
-fn refused<'a>(words: &'a str, input: &'a [u8], status: Status, told: &'a str) -> Row<'a> {
+fn refused<'a>(words: &'a str, status: Status, told: &'a str) -> Row<'a> {
     Row {
         words,
-        input,
         status,
         out: &[],
         told: Some(told),
     }
 }
 
+/// Runs over one input.
 fn expect_rows(
     rt: &(impl Abort + Threads + Wait + Sync),
     alloc: Global,
+    input: &[u8],
     rows: &[Row],
 ) -> Result<(), Fail> {
     for row in rows {
-        let ran = ran(rt, alloc, row.words, row.input)?;
+        let ran = ran(rt, alloc, row.words, input)?;
         let name = row.told.unwrap_or(row.words);
         expect(
             rt,

@@ -99,7 +99,8 @@ impl<'p, 'c> Squeue<'p, 'c> {
     /// The pass has the perimeter, and all that is queued in hand. The hand was empty.
     fn take_all(&mut self, p: u32)
         ensures same { (self.new.run ≡ self.old.run) × (self.new.number ≡ self.old.number) }
-        ensures taken { squeue_of self.new ≡ record (squeue_of self.old) { own = Owned.Out p; wake = false; chain = (squeue_of self.old).hand; hand = (squeue_of self.old).chain } }
+        ensures taken { squeue_of self.new
+            ≡ record (squeue_of self.old) { own = Owned.Out p; wake = false; chain = (squeue_of self.old).hand; hand = (squeue_of self.old).chain } }
     {
         self.own = Own::Out(p);
         self.wake = false;
@@ -108,7 +109,8 @@ impl<'p, 'c> Squeue<'p, 'c> {
 
     pub(super) fn fill(&mut self, p: u32, feeds: &[Feed]) -> Result<bool, AllocError>
         ensures same { (self.new.run ≡ self.old.run) × (self.new.number ≡ self.old.number) }
-        ensures marked { IfOk result (λ b. (H : List Element) → Stands (setting_of self.old) H (squeue_of self.old) → feeds.now ≢ [] → AreSmall feeds.now → Follows (setting_of self.old) H (squeue_of self.new) (On.Fill p (entries feeds.now)) b) }
+        ensures marked { IfOk result (λ b. (H : List Element) → Stands (setting_of self.old) H (squeue_of self.old) → feeds.now ≢ [] → AreSmall feeds.now
+            → Follows (setting_of self.old) H (squeue_of self.new) (On.Fill p (entries feeds.now)) b) }
     {
         if !self.is_idle(p) {
             return Ok(false);
@@ -124,7 +126,8 @@ impl<'p, 'c> Squeue<'p, 'c> {
 
     pub(super) fn fast(&mut self, p: u32, feeds: &[Feed]) -> Result<bool, AllocError>
         ensures same { (self.new.run ≡ self.old.run) × (self.new.number ≡ self.old.number) }
-        ensures marked { IfOk result (λ b. (H : List Element) → Stands (setting_of self.old) H (squeue_of self.old) → (f : FeedOf) → feeds.now ≡ f ∷ [] → AreSmall feeds.now → Follows (setting_of self.old) H (squeue_of self.new) (On.Fast p (Entered.Feed f.c f.n)) b) }
+        ensures marked { IfOk result (λ b. (H : List Element) → Stands (setting_of self.old) H (squeue_of self.old) → (f : FeedOf) → feeds.now ≡ f ∷ []
+            → AreSmall feeds.now → Follows (setting_of self.old) H (squeue_of self.new) (On.Fast p (Entered.Feed f.c f.n)) b) }
     {
         if self.is_taken() || self.has_queued() || !self.is_idle(p) {
             return Ok(false);
@@ -138,7 +141,8 @@ impl<'p, 'c> Squeue<'p, 'c> {
 
     pub(super) fn claim(&mut self, p: u32, feeds: &[Feed]) -> Result<bool, AllocError>
         ensures same { (self.new.run ≡ self.old.run) × (self.new.number ≡ self.old.number) }
-        ensures marked { IfOk result (λ b. (H : List Element) → Stands (setting_of self.old) H (squeue_of self.old) → feeds.now ≢ [] → AreSmall feeds.now → Follows (setting_of self.old) H (squeue_of self.new) (On.Claim p (entries feeds.now)) b) }
+        ensures marked { IfOk result (λ b. (H : List Element) → Stands (setting_of self.old) H (squeue_of self.old) → feeds.now ≢ [] → AreSmall feeds.now
+            → Follows (setting_of self.old) H (squeue_of self.new) (On.Claim p (entries feeds.now)) b) }
     {
         if self.is_taken() || !self.is_idle(p) {
             return Ok(false);
@@ -152,7 +156,8 @@ impl<'p, 'c> Squeue<'p, 'c> {
 
     pub(super) fn claim_ask(&mut self, p: u32) -> Result<bool, AllocError>
         ensures same { (self.new.run ≡ self.old.run) × (self.new.number ≡ self.old.number) }
-        ensures marked { IfOk result (λ b. (H : List Element) → Stands (setting_of self.old) H (squeue_of self.old) → Follows (setting_of self.old) H (squeue_of self.new) (On.Claim p (Entered.Ask p ∷ [])) b) }
+        ensures marked { IfOk result (λ b. (H : List Element) → Stands (setting_of self.old) H (squeue_of self.old)
+            → Follows (setting_of self.old) H (squeue_of self.new) (On.Claim p (Entered.Ask p ∷ [])) b) }
     {
         if self.is_taken() || !self.is_idle(p) {
             return Ok(false);
@@ -166,7 +171,8 @@ impl<'p, 'c> Squeue<'p, 'c> {
 
     pub(super) fn ask(&mut self, p: u32) -> Result<bool, AllocError>
         ensures same { (self.new.run ≡ self.old.run) × (self.new.number ≡ self.old.number) }
-        ensures marked { IfOk result (λ b. (H : List Element) → Stands (setting_of self.old) H (squeue_of self.old) → Follows (setting_of self.old) H (squeue_of self.new) (On.Ask p) b) }
+        ensures marked { IfOk result (λ b. (H : List Element) → Stands (setting_of self.old) H (squeue_of self.old)
+            → Follows (setting_of self.old) H (squeue_of self.new) (On.Ask p) b) }
     {
         if !self.is_taken() || !self.is_idle(p) {
             return Ok(false);
@@ -176,7 +182,8 @@ impl<'p, 'c> Squeue<'p, 'c> {
 
     pub(super) fn accept(&mut self, p: u32) -> bool
         ensures same { (self.new.run ≡ self.old.run) × (self.new.number ≡ self.old.number) }
-        ensures marked { (H : List Element) → Stands (setting_of self.old) H (squeue_of self.old) → Follows (setting_of self.old) H (squeue_of self.new) (On.Accept p) result }
+        ensures marked { (H : List Element) → Stands (setting_of self.old) H (squeue_of self.old)
+            → Follows (setting_of self.old) H (squeue_of self.new) (On.Accept p) result }
     {
         if self.own != Own::Granted(p) {
             return false;
@@ -187,7 +194,8 @@ impl<'p, 'c> Squeue<'p, 'c> {
 
     pub(super) fn work(&mut self, p: u32) -> bool
         ensures same { (self.new.run ≡ self.old.run) × (self.new.number ≡ self.old.number) }
-        ensures marked { (H : List Element) → Stands (setting_of self.old) H (squeue_of self.old) → Follows (setting_of self.old) H (squeue_of self.new) (On.Work p) result }
+        ensures marked { (H : List Element) → Stands (setting_of self.old) H (squeue_of self.old)
+            → Follows (setting_of self.old) H (squeue_of self.new) (On.Work p) result }
     {
         if self.is_taken() || !self.wake || p != self.worker() {
             return false;
@@ -198,7 +206,8 @@ impl<'p, 'c> Squeue<'p, 'c> {
 
     pub(super) fn close(&mut self, p: u32) -> bool
         ensures same { (self.new.run ≡ self.old.run) × (self.new.number ≡ self.old.number) }
-        ensures marked { (H : List Element) → Stands (setting_of self.old) H (squeue_of self.old) → Follows (setting_of self.old) H (squeue_of self.new) (On.Close p) result }
+        ensures marked { (H : List Element) → Stands (setting_of self.old) H (squeue_of self.old)
+            → Follows (setting_of self.old) H (squeue_of self.new) (On.Close p) result }
     {
         if !self.is_idle(p) {
             return false;

@@ -81,7 +81,8 @@ impl<'p, 'c> Squeue<'p, 'c> {
     /// What is left of the hand stands before the chain, and the hand is empty.
     fn put_back(&mut self) -> Result<(), AllocError>
         ensures same { (self.new.run ≡ self.old.run) × (self.new.number ≡ self.old.number) }
-        ensures back { OnOk result (squeue_of self.new ≡ record (squeue_of self.old) { chain = (squeue_of self.old).hand ++ (squeue_of self.old).chain; hand = [] }) }
+        ensures back { OnOk result (squeue_of self.new
+            ≡ record (squeue_of self.old) { chain = (squeue_of self.old).hand ++ (squeue_of self.old).chain; hand = [] }) }
     {
         while let Some(entry) = self.chain.pop_front() {
             self.hand.push_back(entry)?;
@@ -92,7 +93,8 @@ impl<'p, 'c> Squeue<'p, 'c> {
 
     /// How many entries of the hand a mark that leaves so many says are processed.
     fn processed(&self, rest: u64) -> Option<usize>
-        ensures { MatchOption result (length (squeue_of self.now).hand < rest) (λ n. (rest ≤ length (squeue_of self.now).hand) × (n ≡ length (squeue_of self.now).hand - rest)) }
+        ensures { MatchOption result (length (squeue_of self.now).hand < rest)
+            (λ n. (rest ≤ length (squeue_of self.now).hand) × (n ≡ length (squeue_of self.now).hand - rest)) }
     {
         let len = self.hand.len();
         let rest = usize::try_from(rest).ok()?;
@@ -147,7 +149,8 @@ impl<'p, 'c> Squeue<'p, 'c> {
         act: SynchAct,
     ) -> Result<Option<u64>, AllocError>
         ensures same { (self.new.run ≡ self.old.run) × (self.new.number ≡ self.old.number) }
-        ensures tells { IfOk result (λ o. (H : List Element) (note : List ActOf) → Stands (setting_of self.old) H (squeue_of self.old) → NoteFits (On.Leave p rest act) note
+        ensures tells { IfOk result (λ o. (H : List Element) (note : List ActOf)
+            → Stands (setting_of self.old) H (squeue_of self.old) → NoteFits (On.Leave p rest act) note
             → NotesFeeds self.old.run.setup.squeues self.old.run.setup.spread self.old.number H act note
             → Tells (setting_of self.old) H (squeue_of self.new) (record { mark = On.Leave p rest act; note = note }) o) }
     {
@@ -258,7 +261,8 @@ impl<'p, 'c> Squeue<'p, 'c> {
         ensures same { (self.new.run ≡ self.old.run) × (self.new.number ≡ self.old.number) }
         ensures others { squeue_of self.new ≡ record (squeue_of self.old) { guests = (squeue_of self.new).guests } }
         ensures acted { OnOk result (AreFew (squeue_of self.old).guests
-            → Became (λ d g. guest_acted d (stay_of self.old.run.setup.squeues self.old.number d g.came * self.old.run.setup.spread) act g) (squeue_of self.old).guests (squeue_of self.new).guests) }
+            → Became (λ d g. guest_acted d (stay_of self.old.run.setup.squeues self.old.number d g.came * self.old.run.setup.spread) act g)
+            (squeue_of self.old).guests (squeue_of self.new).guests) }
     {
         match act {
             SynchAct::None | SynchAct::Away => Ok(()),
@@ -299,7 +303,8 @@ impl<'p, 'c> Squeue<'p, 'c> {
         ensures same { (self.new.run ≡ self.old.run) × (self.new.number ≡ self.old.number) }
         ensures others { squeue_of self.new ≡ record (squeue_of self.old) { guests = (squeue_of self.new).guests } }
         ensures come { OnOk result (AreFew (squeue_of self.old).guests
-            → Became (λ d g. guest_acted d (stay_of self.old.run.setup.squeues self.old.number d g.came * self.old.run.setup.spread) (Did.In c) g) (squeue_of self.old).guests (squeue_of self.new).guests) }
+            → Became (λ d g. guest_acted d (stay_of self.old.run.setup.squeues self.old.number d g.came * self.old.run.setup.spread) (Did.In c) g)
+            (squeue_of self.old).guests (squeue_of self.new).guests) }
     {
         let setup = self.run.setup;
         if let Some(guest) = self.guests.get_mut(c as usize) {

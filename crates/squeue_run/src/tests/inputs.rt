@@ -1,8 +1,9 @@
 use crate::tests::{
-    FIVE, FIVE_REPORT, HEADER, capture, expect, expect_rows, front, good, ran, refused,
+    Ended, FIVE, FIVE_REPORT, HEADER, capture, expect, expect_rows, front, good, ran, refused,
 };
 use sq_base::Status;
 use std::alloc::Global;
+use std::process::Abort;
 use std::test::Fail;
 
 /// A session as tcpdump writes it on the client's host, record by record: Ethernet with a tag, padding behind each datagram of
@@ -114,34 +115,43 @@ const CUT_REPORT: [&str; 9] = [
     "done",
 ];
 
+/// A run over fewer bytes than a header has.
+fn expect_short(rt: &impl Abort, alloc: Global, ran: &Ended, len: usize) -> Result<(), Fail> {
+    let line = format!(in alloc; "sqrun: bad capture: short header of {len} bytes")?;
+    let bad = Status::BadCapture;
+    expect(rt, alloc, "a short header", ran, bad, &[], &[line.as_str()])
+}
+
+/// A run over the first `len` bytes of the session, by its row of `FRONTS`.
+fn expect_front(
+    rt: &impl Abort,
+    alloc: Global,
+    ran: &Ended,
+    len: usize,
+    row: &(usize, &str, &str, &str),
+) -> Result<(), Fail> {
+    let &(from, all, cut, end) = row;
+    let counts = if from == len { all } else { cut };
+    let begin = format!(in alloc; "report 1\n{counts}\n")?;
+    assert_eq!(rt; ran.status, Status::Ok, "{len} bytes");
+    assert!(rt;
+        ran.out.bytes().starts_with(begin.as_bytes()),
+        "{len} bytes"
+    );
+    assert!(rt; ran.out.bytes().ends_with(end.as_bytes()), "{len} bytes");
+    Ok(())
+}
+
 #[test]
 fn every_front_of_five_segments(rt: HostRuntime) -> Result<(), Fail> {
     let whole = capture(rt.alloc(), &FIVE)?;
     assert_eq!(rt; whole.len(), 309);
     for len in 0..310 {
         let ran = ran(&rt, rt.alloc(), "", front(whole.as_slice(), len))?;
-        let Some(&(from, all, cut, end)) = FRONTS.iter().rev().find(|known| known.0 <= len) else {
-            let line = format!(in rt.alloc(); "sqrun: bad capture: short header of {len} bytes")?;
-            let lines = [line.as_str()];
-            expect(
-                &rt,
-                rt.alloc(),
-                "a short header",
-                &ran,
-                Status::BadCapture,
-                &[],
-                &lines,
-            )?;
-            continue;
-        };
-        let counts = if from == len { all } else { cut };
-        let begin = format!(in rt.alloc(); "report 1\n{counts}\n")?;
-        assert_eq!(rt; ran.status, Status::Ok, "{len} bytes");
-        assert!(rt;
-            ran.out.bytes().starts_with(begin.as_bytes()),
-            "{len} bytes"
-        );
-        assert!(rt; ran.out.bytes().ends_with(end.as_bytes()), "{len} bytes");
+        match FRONTS.iter().rev().find(|known| known.0 <= len) {
+            Some(row) => expect_front(&rt, rt.alloc(), &ran, len, row)?,
+            None => expect_short(&rt, rt.alloc(), &ran, len)?,
+        }
     }
     Ok(())
 }
@@ -161,57 +171,94 @@ const IN_PCAPNG: [&str; 7] = [
 const SECOND_INTERFACE: &str = "0100000014000000010000000000040014000000";
 
 #[test]
-fn inputs_of_both_forms(rt: HostRuntime) -> Result<(), Fail> {
-    let five = capture(rt.alloc(), &FIVE)?;
+fn a_session_on_the_client(rt: HostRuntime) -> Result<(), Fail> {
     let client = from_hex(rt.alloc(), &ON_THE_CLIENT)?;
-    let mut other_link = header_with(20, 0x14);
-    other_link[21] = 1;
-    let newer = header_with(6, 3);
-    let whole = from_hex(rt.alloc(), &IN_PCAPNG)?;
-    let [section, interface, packet, ..] = IN_PCAPNG;
-    let unnamed = from_hex(rt.alloc(), &[section, packet])?;
-    let mixed = from_hex(rt.alloc(), &[section, interface, SECOND_INTERFACE])?;
-    let bad = Status::BadCapture;
     expect_rows(
         &rt,
         rt.alloc(),
+        client.as_slice(),
+        &[good("", &CLIENT_REPORT), good("--verify", &CLIENT_VERIFIED)],
+    )
+}
+
+#[test]
+fn a_header_alone(rt: HostRuntime) -> Result<(), Fail> {
+    expect_rows(
+        &rt,
+        rt.alloc(),
+        &HEADER,
         &[
-            good("", client.as_slice(), &CLIENT_REPORT),
-            good("--verify", client.as_slice(), &CLIENT_VERIFIED),
-            good("", &HEADER, &EMPTY_REPORT),
-            good("--squeues=3|--rings=2|--spread=1", &HEADER, &EMPTY_REPORT),
-            good("", front(five.as_slice(), 308), &CUT_REPORT),
-            good("", front(five.as_slice(), 268), &CUT_REPORT),
-            refused("", &[], bad, "sqrun: bad capture: short header of 0 bytes"),
-            refused(
-                "",
-                &HEADER[..23],
-                bad,
-                "sqrun: bad capture: short header of 23 bytes",
-            ),
-            refused("", &[0x0a; 24], bad, "sqrun: bad capture: magic 0a0a0a0a"),
-            refused("", &newer, bad, "sqrun: bad capture: version 2.3"),
-            refused("", &other_link, bad, "sqrun: bad capture: link type 276"),
-            good("", whole.as_slice(), &FIVE_REPORT),
-            good("", front(whole.as_slice(), 415), &CUT_REPORT),
-            refused(
-                "",
-                front(whole.as_slice(), 27),
-                bad,
-                "sqrun: bad capture: pcapng short section of 27 bytes",
-            ),
-            refused(
-                "",
-                unnamed.as_slice(),
-                bad,
-                "sqrun: bad capture: pcapng interface 0 in block 1",
-            ),
-            refused(
-                "",
-                mixed.as_slice(),
-                bad,
-                "sqrun: bad capture: pcapng second link type 1 in block 2",
-            ),
+            good("", &EMPTY_REPORT),
+            good("--squeues=3|--rings=2|--spread=1", &EMPTY_REPORT),
         ],
     )
+}
+
+#[test]
+fn a_cut_fifth_segment(rt: HostRuntime) -> Result<(), Fail> {
+    let five = capture(rt.alloc(), &FIVE)?;
+    for len in [308, 268] {
+        let input = front(five.as_slice(), len);
+        expect_rows(&rt, rt.alloc(), input, &[good("", &CUT_REPORT)])?;
+    }
+    Ok(())
+}
+
+#[test]
+fn bad_headers(rt: HostRuntime) -> Result<(), Fail> {
+    let newer = header_with(6, 3);
+    let mut other_link = header_with(20, 0x14);
+    other_link[21] = 1;
+    let table: [(&[u8], &str); 5] = [
+        (&[], "sqrun: bad capture: short header of 0 bytes"),
+        (
+            &HEADER[..23],
+            "sqrun: bad capture: short header of 23 bytes",
+        ),
+        (&[0x0a; 24], "sqrun: bad capture: magic 0a0a0a0a"),
+        (&newer, "sqrun: bad capture: version 2.3"),
+        (&other_link, "sqrun: bad capture: link type 276"),
+    ];
+    for (input, told) in table {
+        let row = refused("", Status::BadCapture, told);
+        expect_rows(&rt, rt.alloc(), input, &[row])?;
+    }
+    Ok(())
+}
+
+#[test]
+fn a_session_in_pcapng(rt: HostRuntime) -> Result<(), Fail> {
+    let whole = from_hex(rt.alloc(), &IN_PCAPNG)?;
+    let short = "sqrun: bad capture: pcapng short section of 27 bytes";
+    let table = [
+        (whole.len(), good("", &FIVE_REPORT)),
+        (415, good("", &CUT_REPORT)),
+        (27, refused("", Status::BadCapture, short)),
+    ];
+    for (len, row) in table {
+        let input = front(whole.as_slice(), len);
+        expect_rows(&rt, rt.alloc(), input, &[row])?;
+    }
+    Ok(())
+}
+
+#[test]
+fn bad_blocks(rt: HostRuntime) -> Result<(), Fail> {
+    let [section, interface, packet, ..] = IN_PCAPNG;
+    let table: [(&[&str], &str); 2] = [
+        (
+            &[section, packet],
+            "sqrun: bad capture: pcapng interface 0 in block 1",
+        ),
+        (
+            &[section, interface, SECOND_INTERFACE],
+            "sqrun: bad capture: pcapng second link type 1 in block 2",
+        ),
+    ];
+    for (blocks, told) in table {
+        let input = from_hex(rt.alloc(), blocks)?;
+        let row = refused("", Status::BadCapture, told);
+        expect_rows(&rt, rt.alloc(), input.as_slice(), &[row])?;
+    }
+    Ok(())
 }

@@ -1,175 +1,139 @@
 //! Runs at the limits, over large inputs that are built in memory.
 
-use crate::squeue_run;
-use crate::tests::{HEADER, S, check_of, expect, push_head, push_tcp, ran, words_of};
-use sq_base::{MemSink, MemSource, Status};
+use crate::tests::{HEADER, S, check_of, expect_rows, good, push_head, push_tcp, ran, refused};
+use sq_base::Status;
+use std::alloc::Global;
+use std::ops::Range;
 use std::test::Fail;
 
-/// The header of a record of this length at time 0.
-fn record_of(len: u32) -> [u8; 16] {
-    let [a, b, c, d] = len.to_le_bytes();
-    [0, 0, 0, 0, 0, 0, 0, 0, a, b, c, d, a, b, c, d]
+/// A file of one record of `len` bytes, of which so many are there.
+fn one_record(alloc: Global, len: u32, there: usize) -> Result<Vec<u8>, Fail> {
+    let mut file = Vec::from_slice(alloc, &HEADER)?;
+    file.extend_from_slice(&[0; 8])?;
+    file.extend_from_slice(&len.to_le_bytes())?;
+    file.extend_from_slice(&len.to_le_bytes())?;
+    file.resize(40usize.saturating_add(there), 0)?;
+    Ok(file)
 }
+
+/// A file of so many records without a body, and so many bytes more.
+fn empty_records(alloc: Global, records: usize, more: usize) -> Result<Vec<u8>, Fail> {
+    let mut file = Vec::from_slice(alloc, &HEADER)?;
+    let len = records.saturating_mul(16).saturating_add(more);
+    file.resize(len.saturating_add(24), 0)?;
+    Ok(file)
+}
+
+const LONGEST: [&str; 3] = [
+    "report 1",
+    "records 1 tail 0 served 0 nofit 0 server 0 other 0 fragment 0 cut 0 malformed 1 badsum 0 connections 0",
+    "done",
+];
+
+const MOST: [&str; 3] = [
+    "report 1",
+    "records 1048576 tail 0 served 0 nofit 0 server 0 other 0 fragment 0 cut 1048576 malformed 0 badsum 0 connections 0",
+    "done",
+];
+
+const TOO_LONG: &str = "sqrun: bad capture: record 0 has length 262145";
+
+const TOO_MANY: &str = "sqrun: too large: more than 1048576 records";
 
 #[test]
 fn record_limits(rt: HostRuntime) -> Result<(), Fail> {
-    let mut long = Vec::from_slice(rt.alloc(), &HEADER)?;
-    long.extend_from_slice(&record_of(262_145))?;
-    let line = "sqrun: bad capture: record 0 has length 262145";
-    expect(
-        &rt,
-        rt.alloc(),
-        line,
-        &ran(&rt, rt.alloc(), "", long.as_slice())?,
-        Status::BadCapture,
-        &[],
-        &[line],
-    )?;
-
-    let mut longest = Vec::from_slice(rt.alloc(), &HEADER)?;
-    longest.extend_from_slice(&record_of(262_144))?;
-    longest.resize(24 + 16 + 262_144, 0)?;
-    let lines = [
-        "report 1",
-        "records 1 tail 0 served 0 nofit 0 server 0 other 0 fragment 0 cut 0 malformed 1 badsum 0 connections 0",
-        "done",
+    let ones = [
+        (262_145, 0, refused("", Status::BadCapture, TOO_LONG)),
+        (262_144, 262_144, good("", &LONGEST)),
     ];
-    expect(
-        &rt,
-        rt.alloc(),
-        "longest record",
-        &ran(&rt, rt.alloc(), "", longest.as_slice())?,
-        Status::Ok,
-        &lines,
-        &[],
-    )?;
-
-    let mut most = Vec::from_slice(rt.alloc(), &HEADER)?;
-    most.resize(24 + 16 * 1_048_576, 0)?;
-    let lines = [
-        "report 1",
-        "records 1048576 tail 0 served 0 nofit 0 server 0 other 0 fragment 0 cut 1048576 malformed 0 badsum 0 connections 0",
-        "done",
+    for (len, there, row) in ones {
+        let file = one_record(rt.alloc(), len, there)?;
+        expect_rows(&rt, rt.alloc(), file.as_slice(), &[row])?;
+    }
+    let many = [
+        (0, good("", &MOST)),
+        (1, refused("", Status::TooLarge, TOO_MANY)),
     ];
-    expect(
-        &rt,
-        rt.alloc(),
-        "most records",
-        &ran(&rt, rt.alloc(), "", most.as_slice())?,
-        Status::Ok,
-        &lines,
-        &[],
-    )?;
-
-    most.push(0)?;
-    let line = "sqrun: too large: more than 1048576 records";
-    expect(
-        &rt,
-        rt.alloc(),
-        line,
-        &ran(&rt, rt.alloc(), "", most.as_slice())?,
-        Status::TooLarge,
-        &[],
-        &[line],
-    )
+    for (more, row) in many {
+        let file = empty_records(rt.alloc(), 1_048_576, more)?;
+        expect_rows(&rt, rt.alloc(), file.as_slice(), &[row])?;
+    }
+    Ok(())
 }
+
+/// As many bytes as may be, and one more.
+const SIZES: [(usize, Status, &str); 2] = [
+    (
+        67_108_864,
+        Status::BadCapture,
+        "sqrun: bad capture: magic 00000000",
+    ),
+    (
+        67_108_865,
+        Status::TooLarge,
+        "sqrun: too large: more than 67108864 bytes",
+    ),
+];
 
 #[test]
 fn size_limit(rt: HostRuntime) -> Result<(), Fail> {
-    let mut input = Vec::new(rt.alloc());
-    input.resize(67_108_864, 0)?;
-    let line = "sqrun: bad capture: magic 00000000";
-    expect(
-        &rt,
-        rt.alloc(),
-        line,
-        &ran(&rt, rt.alloc(), "", input.as_slice())?,
-        Status::BadCapture,
-        &[],
-        &[line],
-    )?;
-    input.push(0)?;
-    let line = "sqrun: too large: more than 67108864 bytes";
-    expect(
-        &rt,
-        rt.alloc(),
-        line,
-        &ran(&rt, rt.alloc(), "", input.as_slice())?,
-        Status::TooLarge,
-        &[],
-        &[line],
-    )
+    for (size, status, told) in SIZES {
+        let input = vec![in rt.alloc(); 0u8; size]?;
+        let row = refused("", status, told);
+        expect_rows(&rt, rt.alloc(), input.as_slice(), &[row])?;
+    }
+    Ok(())
+}
+
+/// SYNs to echo, so many from each of these ports.
+fn syns(alloc: Global, ports: Range<u16>, each: u32) -> Result<Vec<u8>, Fail> {
+    let mut file = Vec::from_slice(alloc, &HEADER)?;
+    for port in ports {
+        for _ in 0..each {
+            push_head(&mut file, 0, 40, 6)?;
+            push_tcp(&mut file, port, (100, 0), 0x50, S, 4096)?;
+        }
+    }
+    Ok(file)
 }
 
 /// As many SYNs of one connection as there may be records. A ring brings 1,048,577 feeds and moves after each but the last.
 #[test]
 fn trace_too_large(rt: HostRuntime) -> Result<(), Fail> {
-    let mut file = Vec::from_slice(rt.alloc(), &HEADER)?;
-    for _ in 0..1_048_576u32 {
-        push_head(&mut file, 0, 40, 6)?;
-        push_tcp(&mut file, 4000, (100, 0), 0x50, S, 4096)?;
-    }
-    let line = "sqrun: too large: trace of 67109000 marks";
+    let file = syns(rt.alloc(), 4000..4001, 1_048_576)?;
     let words =
         "--trace|--squeues|2|--spread|1|0:0:status|0:0:status|0:0:status|0:0:status|0:0:status";
-    expect(
-        &rt,
-        rt.alloc(),
-        line,
-        &ran(&rt, rt.alloc(), words, file.as_slice())?,
-        Status::TooLarge,
-        &[],
-        &[line],
-    )
+    let told = "sqrun: too large: trace of 67109000 marks";
+    let row = refused(words, Status::TooLarge, told);
+    expect_rows(&rt, rt.alloc(), file.as_slice(), &[row])
 }
+
+const FULL: &[u8] =
+    b"report 1\nrecords 4097 tail 0 served 4096 nofit 1 server 0 other 0 fragment 0 cut 0 malformed 0 badsum 0 connections 4096\n";
 
 /// 4,097 SYNs from the ports 1000 to 5096: the last tuple finds no room.
 #[test]
 fn connection_limit(rt: HostRuntime) -> Result<(), Fail> {
-    let mut file = Vec::from_slice(rt.alloc(), &HEADER)?;
-    for port in 1000..5097 {
-        push_head(&mut file, 0, 40, 6)?;
-        push_tcp(&mut file, port, (100, 0), 0x50, S, 4096)?;
-    }
-    let mut src = MemSource::make(rt.alloc(), file.as_slice(), 65_536, &[])?;
-    let mut out = MemSink::make(rt.alloc(), 1_000_000, 65_536, &[])?;
-    let mut err = MemSink::make(rt.alloc(), 1000, 1000, &[])?;
-    let words = words_of(rt.alloc(), "")?;
-    let ran = squeue_run(
-        &rt,
-        rt.alloc(),
-        words.as_slice(),
-        &mut src,
-        &mut out,
-        &mut err,
-    );
+    let file = syns(rt.alloc(), 1000..5097, 1)?;
+    let ran = ran(&rt, rt.alloc(), "", file.as_slice())?;
     assert_eq!(rt; ran.status, Status::Ok);
-    let front =
-        b"report 1\nrecords 4097 tail 0 served 4096 nofit 1 server 0 other 0 fragment 0 cut 0 malformed 0 badsum 0 connections 4096\n";
-    assert!(rt; out.bytes().starts_with(front));
-    assert_eq!(rt; out.bytes().len(), 674856);
-    assert_eq!(rt; check_of(out.bytes()), 0x33c1cb1aaedb274d);
+    assert!(rt; ran.out.bytes().starts_with(FULL));
+    assert_eq!(rt; ran.out.bytes().len(), 674856);
+    assert_eq!(rt; check_of(ran.out.bytes()), 0x33c1cb1aaedb274d);
     Ok(())
 }
 
+const GENERATED: &str =
+    "generated 7 bytes 10256024 records 100000 connections 1000 replies 98000 octets 2328000 check f9dc5c54f3714d26";
+
 #[test]
 fn generated_capture(rt: HostRuntime) -> Result<(), Fail> {
-    let line =
-        "generated 7 bytes 10256024 records 100000 connections 1000 replies 98000 octets 2328000 check f9dc5c54f3714d26";
-    let table = [
-        "--gen=7|--squeues=16|--rings=8|--mode=nodrain|--budget=3|--spread=5",
-        "--gen=7|--verify",
+    let rows = [
+        good(
+            "--gen=7|--squeues=16|--rings=8|--mode=nodrain|--budget=3|--spread=5",
+            &[GENERATED],
+        ),
+        good("--gen=7|--verify", &[GENERATED]),
     ];
-    for words in table {
-        expect(
-            &rt,
-            rt.alloc(),
-            words,
-            &ran(&rt, rt.alloc(), words, &[])?,
-            Status::Ok,
-            &[line],
-            &[],
-        )?;
-    }
-    Ok(())
+    expect_rows(&rt, rt.alloc(), &[], &rows)
 }

@@ -6,6 +6,7 @@ use crate::tests::{
 };
 use sq_base::Status;
 use std::alloc::Global;
+use std::process::Abort;
 use std::test::Fail;
 
 const UNSUMMED: [&str; 3] = [
@@ -17,70 +18,73 @@ const UNSUMMED: [&str; 3] = [
 #[test]
 fn words_over_one_session(rt: HostRuntime) -> Result<(), Fail> {
     let input = capture(rt.alloc(), &FIVE)?;
-    let five = input.as_slice();
     expect_rows(
         &rt,
         rt.alloc(),
+        input.as_slice(),
         &[
-            good("", five, &FIVE_REPORT),
-            good(
-                "--mode=nodrain|--squeues=3|--spread=65535",
-                five,
-                &FIVE_REPORT,
-            ),
-            good("--rings|2|--budget|65535|--", five, &FIVE_REPORT),
-            good("--rings=8|--mode=fill|--budget=1", five, &FIVE_REPORT),
-            good("--verify", five, &UNSUMMED),
-            refused(
-                "0:1:close",
-                five,
-                Status::NoConnection,
-                "sqrun: call on connection 1 of 1",
-            ),
-            refused(
-                "1:5:status|0:7:status",
-                five,
-                Status::NoConnection,
-                "sqrun: call on connection 5 of 1",
-            ),
-            refused(
-                "0:0:status|3:4294967295:buffer=0|0:1:close",
-                five,
-                Status::NoConnection,
-                "sqrun: call on connection 4294967295 of 1",
-            ),
-            refused(
-                "--verify|2:0:status",
-                five,
-                Status::NoConnection,
-                "sqrun: call on connection 0 of 0",
-            ),
+            good("", &FIVE_REPORT),
+            good("--mode=nodrain|--squeues=3|--spread=65535", &FIVE_REPORT),
+            good("--rings|2|--budget|65535|--", &FIVE_REPORT),
+            good("--rings=8|--mode=fill|--budget=1", &FIVE_REPORT),
+            good("--verify", &UNSUMMED),
         ],
     )
 }
 
-/// The lines of a traced run that its schedule doesn't decide, and how often each mark that closes a pass stands there.
+/// Calls on connections that there are not, and what is told of the first one.
+const MISSING: [(&str, &str); 4] = [
+    ("0:1:close", "sqrun: call on connection 1 of 1"),
+    ("1:5:status|0:7:status", "sqrun: call on connection 5 of 1"),
+    (
+        "0:0:status|3:4294967295:buffer=0|0:1:close",
+        "sqrun: call on connection 4294967295 of 1",
+    ),
+    ("--verify|2:0:status", "sqrun: call on connection 0 of 0"),
+];
+
+#[test]
+fn calls_on_no_connection(rt: HostRuntime) -> Result<(), Fail> {
+    let input = capture(rt.alloc(), &FIVE)?;
+    for (words, told) in MISSING {
+        let row = refused(words, Status::NoConnection, told);
+        expect_rows(&rt, rt.alloc(), input.as_slice(), &[row])?;
+    }
+    Ok(())
+}
+
+/// The lines of a traced run that its schedule doesn't decide: those up to the marks, and the last.
+fn expect_head(rt: &impl Abort, alloc: Global, told: &str) -> Result<(), Fail> {
+    let count = told.lines().count();
+    assert!(rt; count >= 16 && count <= 83, "{told}");
+    let mut head = String::from_str(alloc, "report 2\n")?;
+    for line in &FIVE_REPORT[1..8] {
+        head.push_str(line)?;
+        head.push('\n')?;
+    }
+    head.push_str("setup squeues 1 rings 1 mode process budget 64 spread 0 verify 0\n")?;
+    writeln!(head, "squeue 0 marks {}", count - 11)?;
+    assert!(rt; told.starts_with(head.as_str()), "{told}");
+    assert_eq!(rt; told.lines().last(), Some("done"));
+    Ok(())
+}
+
+/// Each mark that closes a pass stands among its lines once.
+fn expect_marks(rt: &impl Abort, told: &str) {
+    for closed in ["close 0", "close 1", "close 2", "close 3", "close 4"] {
+        let times = told.lines().filter(|line| *line == closed).count();
+        assert_eq!(rt; times, 1, "{closed} in {told}");
+    }
+}
+
 #[test]
 fn traced_five_segment_echo(rt: HostRuntime) -> Result<(), Fail> {
     let input = capture(rt.alloc(), &FIVE)?;
     let ran = ran(&rt, rt.alloc(), "--trace", input.as_slice())?;
     assert_eq!(rt; ran.status, Status::Ok);
     let text = str::from_utf8(ran.out.bytes())?;
-    let lines: Vec<&str> = text.lines().collect(rt.alloc())?;
-    assert!(rt; lines.len() >= 16 && lines.len() <= 83, "{text}");
-    assert_eq!(rt; lines[0], "report 2");
-    assert_eq!(rt; &lines[1..8], &FIVE_REPORT[1..8]);
-    assert_eq!(rt;
-        lines[8],
-        "setup squeues 1 rings 1 mode process budget 64 spread 0 verify 0"
-    );
-    let heading = format!(in rt.alloc(); "squeue 0 marks {}", lines.len() - 11)?;
-    assert_eq!(rt; lines[9], heading.as_str());
-    for closed in ["close 0", "close 1", "close 2", "close 3", "close 4"] {
-        let times = lines[10..].iter().filter(|line| **line == closed).count();
-        assert_eq!(rt; times, 1, "{closed} in {text}");
-    }
-    assert_eq!(rt; lines[lines.len() - 1], "done");
+    expect_head(&rt, rt.alloc(), text)?;
+    expect_marks(&rt, text);
     Ok(())
 }
 
@@ -177,19 +181,10 @@ const ORDERS: [(&str, &str, &str); 12] = [
     ),
 ];
 
-#[test]
-fn calls_of_two_threads(rt: HostRuntime) -> Result<(), Fail> {
-    let input = capture(rt.alloc(), &[Seg(0, S, 100, 0, 4096, b"")])?;
-    let words = "--squeues|2|--spread|1|0:0:close|1:0:status";
-    let ran = ran(&rt, rt.alloc(), words, input.as_slice())?;
-    assert_eq!(rt; ran.status, Status::Ok);
-    let text = str::from_utf8(ran.out.bytes())?;
-    let order = text.lines().find(|line| line.starts_with("order "));
-    let Some(&(order, first, second)) = ORDERS.iter().find(|known| Some(known.0) == order) else {
-        assert!(rt; false, "{text}");
-        return Ok(());
-    };
-    let lines = [
+/// The report of one SYN and the two calls, by a row of `ORDERS`.
+fn report_of<'a>(row: &(&'a str, &'a str, &'a str)) -> [&'a str; 9] {
+    let &(order, first, second) = row;
+    [
         "report 1",
         "records 1 tail 0 served 1 nofit 0 server 0 other 0 fragment 0 cut 0 malformed 0 badsum 0 connections 1",
         "conn 0 10.0.0.1:4000 10.0.0.2:7 echo",
@@ -199,6 +194,17 @@ fn calls_of_two_threads(rt: HostRuntime) -> Result<(), Fail> {
         second,
         "end SYN-RECEIVED",
         "done",
-    ];
+    ]
+}
+
+#[test]
+fn calls_of_two_threads(rt: HostRuntime) -> Result<(), Fail> {
+    let input = capture(rt.alloc(), &[Seg(0, S, 100, 0, 4096, b"")])?;
+    let words = "--squeues|2|--spread|1|0:0:close|1:0:status";
+    let ran = ran(&rt, rt.alloc(), words, input.as_slice())?;
+    let text = str::from_utf8(ran.out.bytes())?;
+    let order = text.lines().find(|line| line.starts_with("order "));
+    let row = ORDERS.iter().find(|known| Some(known.0) == order);
+    let lines = report_of(row.expect(&rt, "a known order"));
     expect(&rt, rt.alloc(), words, &ran, Status::Ok, &lines, &[])
 }

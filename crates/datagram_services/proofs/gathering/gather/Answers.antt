@@ -1,8 +1,6 @@
-use Rattle.std.proofs.Common.{◌≡◌, ℕ, Option, List, [], ◌∷◌, Vec, length, length-append, reverse, refl, ap, sym, ◌∙◌, subst, arith}
+use Rattle.std.proofs.Common.{◌≡◌, List, [], ◌∷◌, length, length-append, reverse, refl, ap, sym, ◌∙◌, subst, arith}
 use Rattle.std.proofs.lemmas.List.{reverse-append}
-use Rattle.std.specs.declared.alloc.Global.{Global}
 use Rattle.squeue_state.specs.Naming.{Named}
-use Rattle.stream_blocks.specs.declared.block.StreamBlock.{StreamBlock}
 use Rattle.stream_blocks.specs.declared.blocks.StreamBlocks.{StreamBlocks}
 use Rattle.stream_blocks.specs.Standing.{limits_of}
 use Rattle.squeue_serve.specs.Lending.{AreLent, lent_to}

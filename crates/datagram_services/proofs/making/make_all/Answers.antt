@@ -1,11 +1,10 @@
-use Rattle.std.proofs.Common.{◌≡◌, ℕ, ◌+◌, ◌≤◌, List, [], ◌∷◌, All, length, length-append, refl, ap, sym, ◌∙◌, subst, arith}
-use Rattle.turn_gate.specs.History.{Each}
+use Rattle.std.proofs.Common.{◌≡◌, ◌+◌, List, [], ◌∷◌, length, length-append, refl, ap, sym, ◌∙◌, subst, arith}
 use Rattle.squeue_state.specs.Naming.{Named}
 use Rattle.stream_blocks.specs.declared.blocks.StreamBlocks.{StreamBlocks}
 use Rattle.std.proofs.lemmas.List.{length-map}
 use Rattle.squeue_rings.specs.Runs.{count, is_at}
 use Rattle.squeue_serve.specs.Places.{IsNew}
-use Rattle.squeue_serve.specs.Lending.{AreHanded, AreLent, IsRoomFor, holder, lent_to}
+use Rattle.squeue_serve.specs.Lending.{AreLent, lent_to}
 use Rattle.datagram_services.specs.Settings.{IsSet}
 use Rattle.ring_jobs.proofs.Lends.{fits, no_squeues, none_yet, one_more}
 use Rattle.datagram_services.proofs.MadeSqueues.{AreSetBelow, set_more, set_sizes}

@@ -1,11 +1,10 @@
-use Rattle.std.proofs.Common.{◌≡◌, ◌≤◌, ◌*◌, ℕ, List, length, ap, sym, subst, ◌∙◌, arith}
+use Rattle.std.proofs.Common.{◌≡◌, length, ap, sym, ◌∙◌, arith}
 use Rattle.std.proofs.lemmas.List.{length-map}
 use Rattle.perimeter_core.specs.History.{feed_quotas}
 use Rattle.squeue_rings.specs.Runs.{count, is_at}
 use Rattle.squeue_state.specs.Behind.{pairs}
 use Rattle.squeue_state.specs.Words.{ask_quotas}
 use Rattle.stream_blocks.specs.Standing.{Stands}
-use Rattle.ring_jobs.specs.declared.lines.Line.{Line}
 use Rattle.datagram_services.proofs.Listed.{few_line}
 use Rattle.ring_jobs.proofs.Starts.{if_ok, stands_empty}
 use Rattle.datagram_services.proofs.MadeSqueues.{few_quotas, is_set, no_asks, quotas_of}

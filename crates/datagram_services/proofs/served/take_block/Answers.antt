@@ -1,5 +1,4 @@
-use Rattle.std.proofs.Common.{◌≡◌, sym, ap, ◌∙◌}
-use Rattle.squeue_rings.proofs.Slots.{got_at, got_other}
+use Rattle.squeue_rings.proofs.Slots.{got_other}
 use Rattle.datagram_services.proofs.served.take_block.Goals as goal
 
 pub returns-clause-others : goal.returns-clause-others

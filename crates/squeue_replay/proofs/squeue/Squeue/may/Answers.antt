@@ -1,4 +1,4 @@
-use Rattle.std.proofs.Common.{◌<◌, true, map, sym, subst, arith}
+use Rattle.std.proofs.Common.{◌<◌, map, sym, subst, arith}
 use Rattle.std.proofs.lemmas.Bool.{ltb-true, lt-ltb}
 use Rattle.perimeter_core.specs.declared.marks.SynchAct.{SynchAct}
 use Rattle.perimeter_core.specs.History.{worker}

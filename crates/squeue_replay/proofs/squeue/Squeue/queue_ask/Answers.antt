@@ -1,5 +1,6 @@
 use Rattle.std.proofs.Common.{◌-◌, true, refl, arith}
-use Rattle.squeue_replay.proofs.Reading.{kept, pass_at, pass_set}
+use Rattle.std.proofs.lemmas.List.{map-set}
+use Rattle.squeue_replay.proofs.Reading.{kept, pass_at}
 use Rattle.squeue_replay.proofs.squeue.Squeue.queue_ask.Goals as goal
 
 pub returns-clause-queued : goal.returns-clause-queued
@@ -11,5 +12,5 @@ returns-clause-queued c =
       pass = kept r;
       was = pass_at s.passes.items c.args.p r less c.index_mut-pass.ensures.value;
       left = omega arith;
-      is = rw (c.in_ok-push_back.ensures.items, pass_set s.passes.items c.args.p (record r { asks = r.asks - 1; waiting = true })) refl;
+      is = rw (c.in_ok-push_back.ensures.items, map-set kept s.passes.items c.args.p (record r { asks = r.asks - 1; waiting = true })) refl;
     }

@@ -1,0 +1,87 @@
+//! One history, mark by mark: what each mark says was processed, and a mark that isn't legal.
+
+ghost use Rattle.conn_blocks.specs.Allowed.{all_calls};
+
+use crate::{Mark, Run, Squeue, Step};
+use capture_reader::parse_capture;
+use conn_blocks::Calls;
+use conn_classifier::plan;
+use perimeter_core::{Feed, SynchAct};
+use ring_quotas::Setup;
+use sq_base::Octets;
+use squeue_enter::Mode;
+use std::alloc::{AllocError, Global};
+use std::test::Fail;
+
+/// A capture of one SYN to the echo service: one connection of two items.
+const CAPTURE: [u8; 80] = [
+    0xd4, 0xc3, 0xb2, 0xa1, 2, 0, 4, 0, 0, 0, 0, 0, 0, 0, 0, 0, 0, 0, 4, 0, 101, 0, 0, 0, 0, 0, 0,
+    0, 0, 0, 0, 0, 40, 0, 0, 0, 40, 0, 0, 0, 0x45, 0, 0, 40, 0, 0, 0x40, 0, 0x40, 6, 0, 0, 10, 0,
+    0, 1, 10, 0, 0, 2, 15, 160, 0, 7, 0, 0, 0, 100, 0, 0, 0, 0, 0x50, 2, 16, 0, 0, 0, 0, 0,
+];
+
+const SETUP: Setup = Setup {
+    squeues: 1,
+    rings: 1,
+    mode: Mode::Process,
+    budget: 1,
+    spread: 0,
+    trace: true,
+};
+
+/// A mark by its pass, its step and the numbers of the feeds that it enters; and how many feeds it says were processed.
+type Row = (u32, Step, &'static [u32], u64);
+
+const LEAVE_ONE: Step = Step::Leave {
+    rest: 1,
+    act: SynchAct::None,
+};
+
+const LEAVE_NONE: Step = Step::Leave {
+    rest: 0,
+    act: SynchAct::None,
+};
+
+/// The ring enters both feeds and processes one; the worker, whose pass is the last, processes the other.
+const HISTORY: [Row; 9] = [
+    (1, Step::Close, &[], 0),
+    (0, Step::Claim, &[0, 1], 0),
+    (0, LEAVE_ONE, &[], 1),
+    (5, Step::Work, &[], 0),
+    (5, LEAVE_NONE, &[], 1),
+    (0, Step::Close, &[], 0),
+    (2, Step::Close, &[], 0),
+    (3, Step::Close, &[], 0),
+    (4, Step::Close, &[], 0),
+];
+
+fn add(alloc: Global, squeue: &mut Squeue<'_, '_>, row: &Row) -> Result<Option<u64>, AllocError> {
+    let (p, step, numbers, _) = *row;
+    let mut mark = Mark::make(alloc);
+    mark.p = p;
+    mark.step = step;
+    for &n in numbers {
+        mark.feeds.push(Feed { c: 0, n })?;
+    }
+    squeue.add(&mark)
+}
+
+#[test]
+fn a_history_mark_by_mark(rt: HostRuntime) -> Result<(), Fail> {
+    let capture = parse_capture(rt.alloc(), Octets::of(rt.alloc(), &CAPTURE)?)?;
+    let plan = plan(&rt, rt.alloc(), &capture, false)?;
+    let calls = Calls::make(rt.alloc());
+    let run = Run {
+        plan: &plan,
+        calls: &calls,
+        setup: SETUP,
+    };
+    let mut squeue = Squeue::make(rt.alloc(), run, 0)?;
+    for row in HISTORY {
+        assert!(rt; !squeue.has_ended());
+        assert_eq!(rt; add(rt.alloc(), &mut squeue, &row)?, Some(row.3));
+    }
+    assert!(rt; squeue.has_ended());
+    assert_eq!(rt; add(rt.alloc(), &mut squeue, &HISTORY[0])?, None);
+    Ok(())
+}
