@@ -24,6 +24,10 @@ mod ToldOnce
 mod Answered
 mod Judging
 mod Served
+mod FewItems
+mod SuchMarks
+mod SuchCalls
+mod SuchRuns
 mod EndedStays
 mod NamedCalls
 mod JoinedStays

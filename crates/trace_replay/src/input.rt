@@ -15,9 +15,6 @@ use pcapng_reader::{InputFault as CaptureRefused, PcapngFault, parse_input};
 use sq_base::{Failed, Octets, Source};
 use std::alloc::{AllocError, Global};
 
-/// The most bytes of the input.
-const MOST_BYTES: usize = 1_073_741_824;
-
 /// The most bytes of the capture in it.
 const MOST_CAPTURED: usize = 67_108_864;
 
@@ -32,20 +29,22 @@ pub enum InputFault {
     TooLarge,
 }
 
-/// All bytes that a source gives.
-pub fn read_all<S: Source>(alloc: Global, src: &mut S) -> Result<Vec<u8>, InputFault>
-    ensures ok { IfOk result (λ v. ReadsWhole (S.rest src.old) (S.rest src.new) v.items × (length v.items ≤ most_input)) }
-    ensures read { result ≡ Err InputFault.Read → Rose (S.read_faults src.old) (S.read_faults src.new) × Takes (λ n. n ≤ most_input) (S.rest src.old) (S.rest src.new) }
-    ensures large { result ≡ Err InputFault.TooLarge → Takes (λ n. n ≡ most_input + 1) (S.rest src.old) (S.rest src.new) }
+/// All bytes that a source gives, so many at most.
+pub fn read_all<S: Source>(alloc: Global, src: &mut S, most: usize) -> Result<Vec<u8>, InputFault>
+    requires { most ≤ most_input }
+    ensures ok { IfOk result (λ v. ReadsWhole (S.rest src.old) (S.rest src.new) v.items × (length v.items ≤ most)) }
+    ensures read { result ≡ Err InputFault.Read → Rose (S.read_faults src.old) (S.read_faults src.new)
+        × Takes (λ n. n ≤ most) (S.rest src.old) (S.rest src.new) }
+    ensures large { result ≡ Err InputFault.TooLarge → Takes (λ n. n ≡ most + 1) (S.rest src.old) (S.rest src.new) }
     ensures kept { (result ≡ Err InputFault.Read → ⊥) → S.read_faults src.new ≡ S.read_faults src.old }
-    ensures few { Takes (λ n. n ≤ most_input + 1) (S.rest src.old) (S.rest src.new) }
+    ensures few { Takes (λ n. n ≤ most + 1) (S.rest src.old) (S.rest src.new) }
     ensures never_falls { S.read_faults src.old ≤ S.read_faults src.new }
 {
     let mut bytes = Vec::new(alloc);
     let mut buf = [0; PIECE];
     loop {
         // Never more than one byte past the size is asked for.
-        let room = PIECE.min(MOST_BYTES + 1 - bytes.len());
+        let room = PIECE.min(most + 1 - bytes.len());
         let n = match src.read(&mut buf[..room]) {
             Ok(0) => return Ok(bytes),
             Ok(n) => n,
@@ -54,7 +53,7 @@ pub fn read_all<S: Source>(alloc: Global, src: &mut S) -> Result<Vec<u8>, InputF
         bytes
             .extend_from_slice(&buf[..n])
             .map_err(|_| InputFault::NoMemory)?;
-        if bytes.len() > MOST_BYTES {
+        if bytes.len() > most {
             return Err(InputFault::TooLarge);
         }
     }

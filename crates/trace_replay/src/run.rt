@@ -41,6 +41,9 @@ const WRITE_FAULT: &[u8] = b"sqreplay: write fault\n";
 
 const TOO_LARGE: &[u8] = b"sqreplay: too large\n";
 
+/// The most bytes of an input.
+const MOST_BYTES: usize = 1_073_741_824;
+
 /// How a replay ended.
 #[derive(Clone, Copy, Debug, PartialEq, Eq)]
 pub enum Replayed {
@@ -80,7 +83,7 @@ pub fn replay_run<S: Source, K: Sink, E: Sink>(
     out: &mut K,
     err: &mut E,
 ) -> Replayed
-    ensures replayed { HasReplayed (nat_lt 0 (length words.now))
+    ensures replayed { HasReplayed most_input (nat_lt 0 (length words.now))
         (end_of S.rest S.read_faults src.old src.new)
         (end_of K.contents K.write_faults out.old out.new)
         (end_of E.contents E.write_faults err.old err.new)
@@ -89,10 +92,33 @@ pub fn replay_run<S: Source, K: Sink, E: Sink>(
         → (Rose (S.read_faults src.old) (S.read_faults src.new) → ⊥) → (Rose (K.write_faults out.old) (K.write_faults out.new) → ⊥)
         → (result ≡ Replayed.Yes) ⊎ (result ≡ Replayed.NoMemory) }
 {
+    replay_within(rt, alloc, words, src, out, err, MOST_BYTES)
+}
+
+/// The same of an input of at most so many bytes.
+pub fn replay_within<S: Source, K: Sink, E: Sink>(
+    rt: &(impl Threads + Sync),
+    alloc: Global,
+    words: &[String],
+    src: &mut S,
+    out: &mut K,
+    err: &mut E,
+    most: usize,
+) -> Replayed
+    requires { most ≤ most_input }
+    ensures replayed { HasReplayed most (nat_lt 0 (length words.now))
+        (end_of S.rest S.read_faults src.old src.new)
+        (end_of K.contents K.write_faults out.old out.new)
+        (end_of E.contents E.write_faults err.old err.new)
+        result }
+    ensures complete { (input : List ℕ) → words.now ≡ [] → S.rest src.old ≡ Some input → length input ≤ most → Replays input
+        → (Rose (S.read_faults src.old) (S.read_faults src.new) → ⊥) → (Rose (K.write_faults out.old) (K.write_faults out.new) → ⊥)
+        → (result ≡ Replayed.Yes) ⊎ (result ≡ Replayed.NoMemory) }
+{
     if !words.is_empty() {
         return told(err, USAGE, Replayed::Usage);
     }
-    let bytes = match read_all(alloc, src) {
+    let bytes = match read_all(alloc, src, most) {
         Ok(bytes) => bytes,
         Err(InputFault::NoMemory) => return told(err, NO_MEMORY, Replayed::NoMemory),
         Err(InputFault::Read) => return told(err, READ_FAULT, Replayed::ReadFault),

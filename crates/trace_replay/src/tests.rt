@@ -1,5 +1,6 @@
 //! Whole replays over memory: the answer, and what is told where there is none. What is expected comes from an independent model.
 
+use crate::run::replay_within;
 use crate::{Replayed, replay_run};
 use sq_base::{MemSink, MemSource};
 use std::alloc::Global;
@@ -268,6 +269,38 @@ fn failing_ends(rt: HostRuntime) -> Result<(), Fail> {
             tellings,
         };
         expect(&rt, rt.alloc(), wanted.2, &given, wanted)?;
+    }
+    Ok(())
+}
+
+/// The input is as large as it may be, or one byte larger.
+#[test]
+fn size_limit(rt: HostRuntime) -> Result<(), Fail> {
+    let mut input = report(rt.alloc(), &[])?;
+    input.extend_from_slice(&CAPTURE)?;
+    let table = [
+        (input.len(), (Replayed::Yes, "yes\n", "")),
+        (
+            input.len() - 1,
+            (Replayed::TooLarge, "", "sqreplay: too large\n"),
+        ),
+    ];
+    for (most, (replayed_as, out, err)) in table {
+        let mut src = MemSource::make(rt.alloc(), input.as_slice(), 100, &[])?;
+        let mut written = MemSink::make(rt.alloc(), 1000, 4, &[])?;
+        let mut told = MemSink::make(rt.alloc(), 1000, 1000, &[])?;
+        let replayed = replay_within(
+            &rt,
+            rt.alloc(),
+            &[],
+            &mut src,
+            &mut written,
+            &mut told,
+            most,
+        );
+        assert_eq!(rt; replayed, replayed_as);
+        assert_eq!(rt; written.bytes(), out.as_bytes());
+        assert_eq!(rt; told.bytes(), err.as_bytes());
     }
     Ok(())
 }

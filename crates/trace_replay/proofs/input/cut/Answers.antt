@@ -7,7 +7,8 @@ use Rattle.trace_replay.specs.declared.reason.Reason.TheVariants as reason
 use Rattle.trace_replay.specs.Lines.{HasFirstLine, HasNoLine}
 use Rattle.squeue_report.specs.ReportText.{done_line}
 use Rattle.trace_replay.specs.Reasons.{Holds, IsCut}
-use Rattle.trace_replay.proofs.Captures.{input_small, same_reason}
+use Rattle.pcapng_reader.proofs.Inputs.{input_small}
+use Rattle.trace_replay.proofs.Captures.{same_reason}
 use Rattle.trace_replay.proofs.Searching.{cut_at}
 use Rattle.trace_replay.proofs.input.cut.Goals as goal
 

@@ -1,6 +1,5 @@
 use Rattle.std.proofs.Common.{◌≡◌, ◌+◌, ◌-◌, ◌≤◌, length}
 use Rattle.std.specs.Io.KnownBytes.{Consumes}
-use Rattle.trace_replay.specs.Replays.{most_input}
 use Rattle.trace_replay.proofs.input.read_all.Given as goal
 
 -- what was taken so far
@@ -8,9 +7,9 @@ abbrev pub invariant-loop-bytes : goal.invariant-loop-bytes
 invariant-loop-bytes g l =
     record {
       taken : Consumes (g.S.Source.rest l.fn.src) (g.S.Source.rest l.src) l.bytes.items;
-      small : length l.bytes.items ≤ most_input;
+      small : length l.bytes.items ≤ l.most;
       kept : g.S.Source.read_faults l.src ≡ g.S.Source.read_faults l.fn.src;
     }
 
 abbrev pub decreases-loop-bytes : goal.decreases-loop-bytes
-decreases-loop-bytes g l = most_input + 1 - length l.bytes.items
+decreases-loop-bytes g l = l.most + 1 - length l.bytes.items

@@ -1,8 +1,8 @@
 use Rattle.trace_replay.proofs.Runs.{never_large, reads_such}
-use Rattle.trace_replay.proofs.run.replay_run.Goals as goal
+use Rattle.trace_replay.proofs.run.replay_within.Goals as goal
 
 pub returns-in-Err-TooLarge-clause-complete : goal.returns-in-Err-TooLarge-clause-complete
-returns-in-Err-TooLarge-clause-complete g c input empty there small replays no_read no_write = absurd (never_large _ _ input there small (c.in-Err-TooLarge.ensures.large (cc)))
+returns-in-Err-TooLarge-clause-complete g c input empty there small replays no_read no_write = absurd (never_large c.args.most _ _ input there small (c.in-Err-TooLarge.ensures.large (cc)))
 
 pub returns-in-Ok-line_of-clause-complete : goal.returns-in-Ok-line_of-clause-complete
 returns-in-Ok-line_of-clause-complete g c input empty there small replays no_read no_write =
