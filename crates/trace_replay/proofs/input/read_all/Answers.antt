@@ -23,8 +23,8 @@ returns-in_err-map_err-clause-few g c =
       );
     }
 
-pub returns-then-len-gt-most-clause-few : goal.returns-then-len-gt-most-clause-few
-returns-then-len-gt-most-clause-few g c =
+pub returns-then-len-most-clause-few : goal.returns-then-len-most-clause-few
+returns-then-len-most-clause-few g c =
     let old = c.loop-bytes.bytes.items in
     let piece = take c.in-Ok.n c.read.new.buf in
     record {
@@ -44,8 +44,8 @@ returns-then-len-gt-most-clause-few g c =
       );
     }
 
-pub returns-then-len-gt-most-clause-large : goal.returns-then-len-gt-most-clause-large
-returns-then-len-gt-most-clause-large g c e =
+pub returns-then-len-most-clause-large : goal.returns-then-len-most-clause-large
+returns-then-len-most-clause-large g c e =
     let old = c.loop-bytes.bytes.items in
     let piece = take c.in-Ok.n c.read.new.buf in
     record {
@@ -69,7 +69,7 @@ returns-then-len-gt-most-clause-large g c e =
             c.min-room.ensures,
             c.len.ensures,
             c.len-in-loop-bytes.ensures,
-            c.if-len-gt-most.true,
+            c.if-len-most.true,
             c.loop-bytes.invariant.small,
             c.loop-bytes.bytes.ok.0,
           );

@@ -1,4 +1,4 @@
-use Rattle.std.proofs.Common.{List, map, ◌++◌, subst, sym}
+use Rattle.std.proofs.Common.{◌≡◌, List, map, ◌++◌, subst, sym}
 use Rattle.perimeter_core.specs.declared.marks.Mark.{Mark}
 use Rattle.squeue_trace.specs.Told.{marks_of}
 use Rattle.conn_classifier.specs.Plan.{plan_of}
