@@ -273,36 +273,36 @@ fn failing_ends(rt: HostRuntime) -> Result<(), Fail> {
     Ok(())
 }
 
+/// Replays an input of which at most so many bytes may be there, a million or fewer, and looks at the answer and at what is told.
+fn expect_within(
+    rt: &(impl Threads + Sync + Abort),
+    alloc: Global,
+    input: &[u8],
+    most: usize,
+    wanted: (Replayed, &str, &str),
+) -> Result<(), Fail> {
+    assert!(rt; most <= 1_000_000);
+    let mut src = MemSource::make(alloc, input, 100, &[])?;
+    let mut out = MemSink::make(alloc, 1000, 4, &[])?;
+    let mut err = MemSink::make(alloc, 1000, 1000, &[])?;
+    let replayed = replay_within(rt, alloc, &[], &mut src, &mut out, &mut err, most);
+    let (replayed_as, written, told) = wanted;
+    assert_eq!(rt; replayed, replayed_as);
+    assert_eq!(rt; out.bytes(), written.as_bytes());
+    assert_eq!(rt; err.bytes(), told.as_bytes());
+    Ok(())
+}
+
 /// The input is as large as it may be, or one byte larger.
 #[test]
 fn size_limit(rt: HostRuntime) -> Result<(), Fail> {
     let mut input = report(rt.alloc(), &[])?;
     input.extend_from_slice(&CAPTURE)?;
-    let table = [
-        (input.len(), (Replayed::Yes, "yes\n", "")),
-        (
-            input.len() - 1,
-            (Replayed::TooLarge, "", "sqreplay: too large\n"),
-        ),
-    ];
-    for (most, (replayed_as, out, err)) in table {
-        let mut src = MemSource::make(rt.alloc(), input.as_slice(), 100, &[])?;
-        let mut written = MemSink::make(rt.alloc(), 1000, 4, &[])?;
-        let mut told = MemSink::make(rt.alloc(), 1000, 1000, &[])?;
-        let replayed = replay_within(
-            &rt,
-            rt.alloc(),
-            &[],
-            &mut src,
-            &mut written,
-            &mut told,
-            most,
-        );
-        assert_eq!(rt; replayed, replayed_as);
-        assert_eq!(rt; written.bytes(), out.as_bytes());
-        assert_eq!(rt; told.bytes(), err.as_bytes());
-    }
-    Ok(())
+    let input = input.as_slice();
+    let whole = (Replayed::Yes, "yes\n", "");
+    expect_within(&rt, rt.alloc(), input, input.len(), whole)?;
+    let large = (Replayed::TooLarge, "", "sqreplay: too large\n");
+    expect_within(&rt, rt.alloc(), input, input.len().saturating_sub(1), large)
 }
 
 /// What a replay ends with, as a process.
