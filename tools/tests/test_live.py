@@ -10,7 +10,7 @@ from importlib.machinery import SourceFileLoader
 from common import TOOLS, TOP, need
 
 sys.path.insert(0, str(TOOLS / "live"))
-import packets
+import tcp_segments
 
 live_test = SourceFileLoader("live_test", str(TOOLS / "live_test")).load_module()
 
@@ -21,25 +21,25 @@ SQLIVE = os.environ.get("SQLIVE", str(TOP / "sqlive"))
 class Packets(unittest.TestCase):
     def test_what_is_written_is_read(self):
         for text, options in ((b"", b""), (b"odd", b"\2\4\5\xb4"), (bytes(1460), b"\3\3\7")):
-            found = packets.read(packets.segment(CLIENT, 40000, SERVER, 7, 2**32 + 5, 9, packets.PSH | packets.ACK, text=text, options=options))
+            found = tcp_segments.read(tcp_segments.segment(CLIENT, 40000, SERVER, 7, 2**32 + 5, 9, tcp_segments.PSH | tcp_segments.ACK, text=text, options=options))
             self.assertEqual((found.source, found.source_port, found.target, found.target_port), (CLIENT, 40000, SERVER, 7))
-            self.assertEqual((found.seq, found.ack, found.flags, found.text), (5, 9, packets.PSH | packets.ACK, text))
+            self.assertEqual((found.seq, found.ack, found.flags, found.text), (5, 9, tcp_segments.PSH | tcp_segments.ACK, text))
 
     def test_a_wrong_sum_is_seen(self):
-        datagram = bytearray(packets.segment(CLIENT, 40000, SERVER, 7, 5, 9, packets.ACK, text=b"text"))
+        datagram = bytearray(tcp_segments.segment(CLIENT, 40000, SERVER, 7, 5, 9, tcp_segments.ACK, text=b"text"))
         datagram[-1] ^= 1
         with self.assertRaises(AssertionError):
-            packets.read(bytes(datagram))
+            tcp_segments.read(bytes(datagram))
 
 
 class Deadlines(unittest.TestCase):
     """Text sent at once, and again at one second: only there, and only between close segments, may a report lack it."""
     def test_what_may_be_sent_live_alone(self):
         def client(at):
-            return False, at, packets.segment(CLIENT, 40000, SERVER, 7, 5, 100, packets.ACK)
+            return False, at, tcp_segments.segment(CLIENT, 40000, SERVER, 7, 5, 100, tcp_segments.ACK)
 
         def ours(at, seq=100, text=b"text"):
-            return True, at, packets.segment(SERVER, 7, CLIENT, 40000, seq, 5, packets.ACK, text=text)
+            return True, at, tcp_segments.segment(SERVER, 7, CLIENT, 40000, seq, 5, tcp_segments.ACK, text=text)
 
         for reply, behind, alone in ((ours(1_005_000), 99_999, True), (ours(1_005_000), 100_000, False), (ours(1_005_000), 9_000, False),
                                      (ours(1_005_000, text=b""), 99_999, False), (ours(1_005_000, seq=104), 99_999, False)):
