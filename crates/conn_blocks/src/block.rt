@@ -16,7 +16,7 @@ use crate::facts::{Connection, connection_of};
 use crate::stages::Stage;
 use conn_classifier::{Item, Plan, PlanView};
 use echo_services::{Service, ask, serve, tick};
-use known::Known;
+use perimeter_core::Known;
 use perimeter_core::Act;
 use std::alloc::{AllocError, Global};
 use std::marker::Model;

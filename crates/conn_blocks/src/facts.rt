@@ -5,7 +5,7 @@ ghost use Rattle.conn_blocks.specs.ServeOrder.{ConnectionOf};
 
 use crate::calls::Calls;
 use conn_classifier::PlanView;
-use known::Known;
+use perimeter_core::Known;
 use std::convert::Infallible;
 use std::marker::Model;
 

@@ -23,7 +23,7 @@ read_items f p vs c v e is lt r =
     let less : c < length vs = omega (arith, is.listed, ap length e, length-map vs f) in
     ap f r ∙ sym (get_or-map f vs c v [] less) ∙ ap (λ l. get_or l c []) e
 
-rises_most : (last most : ℕ) (xs : List Item) → Rises last most xs → last ≤ most
+pub rises_most : (last most : ℕ) (xs : List Item) → Rises last most xs → last ≤ most
 rises_most last most [] h = h
 rises_most last most (x ∷ xs) h = let rest = rises_most (time_of x) most xs h.1 in omega (arith, h.0, rest)
 

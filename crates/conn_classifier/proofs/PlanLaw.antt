@@ -23,16 +23,16 @@ use Rattle.conn_classifier.proofs.OrderLaw.{is_ordered}
 use Rattle.conn_classifier.proofs.TextWithin.{EndsWithin, text_within}
 
 -- what holds of all elements holds of all of a part
-all_to : {X : Type 0} (P Q : X → Type 0) → ((x : X) → P x → Q x) → (xs : List X) → AllByRecursion P xs → AllByRecursion Q xs
+pub all_to : {X : Type 0} (P Q : X → Type 0) → ((x : X) → P x → Q x) → (xs : List X) → AllByRecursion P xs → AllByRecursion Q xs
 all_to P Q f [] h = tt
 all_to P Q f (x ∷ xs) h = (f x h.0, all_to P Q f xs h.1)
 
-all_take : {X : Type 0} (P : X → Type 0) (n : ℕ) (xs : List X) → AllByRecursion P xs → AllByRecursion P (take n xs)
+pub all_take : {X : Type 0} (P : X → Type 0) (n : ℕ) (xs : List X) → AllByRecursion P xs → AllByRecursion P (take n xs)
 all_take P zero xs h = tt
 all_take P (suc n) [] h = tt
 all_take P (suc n) (x ∷ xs) h = (h.0, all_take P n xs h.1)
 
-all_filter : {X : Type 0} (P : X → Type 0) (p : X → Bool) (xs : List X) → AllByRecursion P xs → AllByRecursion P (filter p xs)
+pub all_filter : {X : Type 0} (P : X → Type 0) (p : X → Bool) (xs : List X) → AllByRecursion P xs → AllByRecursion P (filter p xs)
 all_filter P p [] h = tt
 all_filter P p (x ∷ xs) h = by (p x) refl (all_filter P p xs h.1)
   where
@@ -40,15 +40,15 @@ all_filter P p (x ∷ xs) h = by (p x) refl (all_filter P p xs h.1)
     by true e rest = rw e (h.0, rest)
     by false e rest = rw e rest
 
-all_map : {X Y : Type 0} (P : Y → Type 0) (f : X → Y) (xs : List X) → AllByRecursion (λ x. P (f x)) xs → AllByRecursion P (map f xs)
+pub all_map : {X Y : Type 0} (P : Y → Type 0) (f : X → Y) (xs : List X) → AllByRecursion (λ x. P (f x)) xs → AllByRecursion P (map f xs)
 all_map P f [] h = tt
 all_map P f (x ∷ xs) h = (h.0, all_map P f xs h.1)
 
-all_append : {X : Type 0} (P : X → Type 0) (xs ys : List X) → AllByRecursion P xs → AllByRecursion P ys → AllByRecursion P (xs ++ ys)
+pub all_append : {X : Type 0} (P : X → Type 0) (xs ys : List X) → AllByRecursion P xs → AllByRecursion P ys → AllByRecursion P (xs ++ ys)
 all_append P [] ys h k = k
 all_append P (x ∷ xs) ys h k = (h.0, all_append P xs ys h.1 k)
 
-all_distinct : (P : Tuple → Type 0) (ts : List Tuple) → AllByRecursion P ts → AllByRecursion P (distinct ts)
+pub all_distinct : (P : Tuple → Type 0) (ts : List Tuple) → AllByRecursion P ts → AllByRecursion P (distinct ts)
 all_distinct P [] h = tt
 all_distinct P (t ∷ ts) h = (h.0, all_filter P (λ u. not (tuple_eq u t)) (distinct ts) (all_distinct P ts h.1))
 
@@ -60,10 +60,10 @@ length-filter_le p (x ∷ xs) = by (p x) refl (length-filter_le p xs)
     by true e rest = rw e (omega (arith, rest))
     by false e rest = rw e (omega (arith, rest))
 
-both : (a b : Bool) → a ≡ true → b ≡ true → (a && b) ≡ true
+pub both : (a b : Bool) → a ≡ true → b ≡ true → (a && b) ≡ true
 both a b e f = rw (e, f) refl
 
-same_tuple : (t : Tuple) → tuple_eq t t ≡ true
+pub same_tuple : (t : Tuple) → tuple_eq t t ≡ true
 same_tuple t = both _ _ (same t.client.0) (both _ _ (same t.client_port) (both _ _ (same t.server.0) (same t.server_port)))
   where
     same : (n : ℕ) → (n == n) ≡ true
@@ -74,7 +74,7 @@ pub record IsConn (arrived : List Arrival) (t : Tuple) : Type 0 where
   pub served : is_served_port t.server_port ≡ true
   pub some : 0 < length (filter (λ a. tuple_eq (tuple_of a.seg) t) arrived)
 
-served_port : (p : Packet) (s : Seg) → served_in p ≡ Some s → is_served_port s.dst_port ≡ true
+pub served_port : (p : Packet) (s : Seg) → served_in p ≡ Some s → is_served_port s.dst_port ≡ true
 served_port (packet.Segment q) s e = by (is_served_port q.dst_port) refl e
   where
     by : (b : Bool) → is_served_port q.dst_port ≡ b → served_in (packet.Segment q) ≡ Some s → is_served_port s.dst_port ≡ true
@@ -86,14 +86,14 @@ served_port packet.Cut s e = absurd (let bad : ⊥ = cc in bad)
 served_port (packet.Malformed why) s e = absurd (let bad : ⊥ = cc in bad)
 served_port packet.BadSum s e = absurd (let bad : ⊥ = cc in bad)
 
-one_more : (a : Arrival) (arrived : List Arrival) (t : Tuple) → IsConn arrived t → IsConn (a ∷ arrived) t
+pub one_more : (a : Arrival) (arrived : List Arrival) (t : Tuple) → IsConn arrived t → IsConn (a ∷ arrived) t
 one_more a arrived t is = by (tuple_eq (tuple_of a.seg) t) refl
   where
     by : (b : Bool) → tuple_eq (tuple_of a.seg) t ≡ b → IsConn (a ∷ arrived) t
     by true e = record { served = is.served; some = rw e (omega arith) }
     by false e = record { served = is.served; some = rw e is.some }
 
-all_conns : (n : ℕ) (xs : List Seen) → AllByRecursion (IsConn (arrivals n xs)) (filter_map served_tuple (map (λ x. x.1) xs))
+pub all_conns : (n : ℕ) (xs : List Seen) → AllByRecursion (IsConn (arrivals n xs)) (filter_map served_tuple (map (λ x. x.1) xs))
 all_conns n [] = tt
 all_conns n (x ∷ xs) = by (served_in x.1) refl (all_conns (suc n) xs)
   where
@@ -114,7 +114,7 @@ pub record IsIn (file : CaptureFile) (last : ℕ) (a : Arrival) : Type 0 where
   pub record_number : a.rec < length file.packets
   pub text : IfSome (slice_get file.packets a.rec) (λ p. a.seg.text_from + a.seg.text_len ≤ length p.body)
 
-served_within : (n : ℕ) (p : Packet) (s : Seg) → EndsWithin n p → served_in p ≡ Some s → s.text_from + s.text_len ≤ n
+pub served_within : (n : ℕ) (p : Packet) (s : Seg) → EndsWithin n p → served_in p ≡ Some s → s.text_from + s.text_len ≤ n
 served_within n (packet.Segment q) s h e = by (is_served_port q.dst_port) refl e
   where
     by : (b : Bool) → is_served_port q.dst_port ≡ b → served_in (packet.Segment q) ≡ Some s → s.text_from + s.text_len ≤ n
@@ -146,7 +146,7 @@ module _ (file : CaptureFile) (verify : Bool) (last : ℕ) where
           rw e (record { time = h.0; record_number = omega (arith, long); text = rw here ends }, rest)
 
 -- the items of segments of a capture
-length-after : (at : ℕ) (arrived : List Arrival) → length (items_after at arrived) ≤ 2 * length arrived
+pub length-after : (at : ℕ) (arrived : List Arrival) → length (items_after at arrived) ≤ 2 * length arrived
 length-after at [] = omega arith
 length-after at (a ∷ arrived) =
     let rest = length-after (max at a.at) arrived in
@@ -184,7 +184,7 @@ module _ (file : CaptureFile) (last : ℕ) where
     spaced = spaced_after a.at arrived;
   }
 
-length-arrivals : (n : ℕ) (xs : List Seen) → length (arrivals n xs) ≤ length xs
+pub length-arrivals : (n : ℕ) (xs : List Seen) → length (arrivals n xs) ≤ length xs
 length-arrivals n [] = omega arith
 length-arrivals n (x ∷ xs) = by (served_in x.1) refl (length-arrivals (suc n) xs)
   where
@@ -193,15 +193,15 @@ length-arrivals n (x ∷ xs) = by (served_in x.1) refl (length-arrivals (suc n) 
     by (Some s) e rest = rw e (omega (arith, rest))
 
 -- no record is later than the last time
-below_from : (a : ℕ) (rs : List Captured) → a ≤ fold max a (map (λ r. r.time) rs)
+pub below_from : (a : ℕ) (rs : List Captured) → a ≤ fold max a (map (λ r. r.time) rs)
 below_from a [] = omega arith
 below_from a (r ∷ rs) = omega (arith, below_from (max a r.time) rs)
 
-times_from : (a : ℕ) (rs : List Captured) → AllByRecursion (λ r. r.time ≤ fold max a (map (λ r. r.time) rs)) rs
+pub times_from : (a : ℕ) (rs : List Captured) → AllByRecursion (λ r. r.time ≤ fold max a (map (λ r. r.time) rs)) rs
 times_from a [] = tt
 times_from a (r ∷ rs) = (omega (arith, below_from (max a r.time) rs), times_from (max a r.time) rs)
 
-seen_packets : (file : CaptureFile) (verify : Bool) → map (λ (x : Seen). x.1) (seen file verify) ≡ decoded file verify
+pub seen_packets : (file : CaptureFile) (verify : Bool) → map (λ (x : Seen). x.1) (seen file verify) ≡ decoded file verify
 seen_packets file verify = over file.packets
   where
     over : (rs : List Captured) → map (λ (x : Seen). x.1) (map (λ r. (r.time, packet_in file.link r.body verify)) rs) ≡ map (λ r. packet_in file.link r.body verify) rs
@@ -220,7 +220,7 @@ unfolding conns
 few_conns ps = omega (arith, length-take 4096 (distinct (filter_map served_tuple ps)))
 
 -- the connections are different
-apart_filter : (p : Tuple → Bool) (ts : List Tuple) → IsDistinct tuple_eq ts → IsDistinct tuple_eq (filter p ts)
+pub apart_filter : (p : Tuple → Bool) (ts : List Tuple) → IsDistinct tuple_eq ts → IsDistinct tuple_eq (filter p ts)
 unfolding IsDistinct
 apart_filter p [] h = tt
 apart_filter p (t ∷ ts) h = by (p t) refl (apart_filter p ts h.1)
@@ -229,20 +229,20 @@ apart_filter p (t ∷ ts) h = by (p t) refl (apart_filter p ts h.1)
     by true e rest = rw e (all_filter (λ u. tuple_eq t u ≡ false) p ts h.0, rest)
     by false e rest = rw e rest
 
-apart_take : (n : ℕ) (ts : List Tuple) → IsDistinct tuple_eq ts → IsDistinct tuple_eq (take n ts)
+pub apart_take : (n : ℕ) (ts : List Tuple) → IsDistinct tuple_eq ts → IsDistinct tuple_eq (take n ts)
 unfolding IsDistinct
 apart_take zero ts h = tt
 apart_take (suc n) [] h = tt
 apart_take (suc n) (t ∷ ts) h = (all_take (λ u. tuple_eq t u ≡ false) n ts h.0, apart_take n ts h.1)
 
-other_way : (t u : Tuple) → tuple_eq u t ≡ false → tuple_eq t u ≡ false
+pub other_way : (t u : Tuple) → tuple_eq u t ≡ false → tuple_eq t u ≡ false
 other_way t u e = by (tuple_eq t u) refl
   where
     by : (b : Bool) → tuple_eq t u ≡ b → tuple_eq t u ≡ false
     by true q = absurd (let both : tuple_eq u t ≡ true = ap (tuple_eq u) (same t u q) ∙ same_tuple u in let no : ⊥ = cc in no)
     by false q = q
 
-all_others : (t : Tuple) (us : List Tuple) → AllByRecursion (λ u. tuple_eq t u ≡ false) (filter (λ u. not (tuple_eq u t)) us)
+pub all_others : (t : Tuple) (us : List Tuple) → AllByRecursion (λ u. tuple_eq t u ≡ false) (filter (λ u. not (tuple_eq u t)) us)
 all_others t [] = tt
 all_others t (u ∷ us) = by (tuple_eq u t) refl (all_others t us)
   where
@@ -251,12 +251,12 @@ all_others t (u ∷ us) = by (tuple_eq u t) refl (all_others t us)
     by true e rest = rw e rest
     by false e rest = rw e (other_way t u e, rest)
 
-apart_distinct : (ts : List Tuple) → IsDistinct tuple_eq (distinct ts)
+pub apart_distinct : (ts : List Tuple) → IsDistinct tuple_eq (distinct ts)
 unfolding IsDistinct
 apart_distinct [] = tt
 apart_distinct (t ∷ ts) = (all_others t (distinct ts), apart_filter (λ u. not (tuple_eq u t)) (distinct ts) (apart_distinct ts))
 
-apart_conns : (ps : List Packet) → IsDistinct tuple_eq (conns ps)
+pub apart_conns : (ps : List Packet) → IsDistinct tuple_eq (conns ps)
 unfolding conns
 apart_conns ps = apart_take 4096 (distinct (filter_map served_tuple ps)) (apart_distinct (filter_map served_tuple ps))
 
@@ -288,7 +288,7 @@ module _ (file : CaptureFile) (verify : Bool) (few : length file.packets ≤ 104
     ordered = is_ordered file verify few (apart_conns (decoded file verify));
   }
 
-twice : {X Y Z : Type 0} (f : Y → Z) (g : X → Y) (xs : List X) → map f (map g xs) ≡ map (λ x. f (g x)) xs
+pub twice : {X Y Z : Type 0} (f : Y → Z) (g : X → Y) (xs : List X) → map f (map g xs) ≡ map (λ x. f (g x)) xs
 twice f g [] = refl
 twice f g (x ∷ xs) = ap (λ l. f (g x) ∷ l) (twice f g xs)
 

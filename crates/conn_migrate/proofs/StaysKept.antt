@@ -52,7 +52,7 @@ same_from S past (e ∷ K) c l none =
 pub same_stays : (S : Setting) (H K : List Element) (c : ℕ) → Legal S (H ++ K) → made_by (c % S.rings) K ≡ [] → AreSameStays (stays S H c) (stays S (H ++ K) c)
 same_stays S H K c l none = same_from S H K c (legal_from_back S [] H K l) none
 
-reports_push : (c : ℕ) (s : State) (H : List Element) (e : Element) → reports_from c s (H ++ e ∷ []) ≡ reports_from c s H ++ reported c (run_from s H) e.mark
+pub reports_push : (c : ℕ) (s : State) (H : List Element) (e : Element) → reports_from c s (H ++ e ∷ []) ≡ reports_from c s H ++ reported c (run_from s H) e.mark
 reports_push c s [] e = append-nil (reported c s e.mark)
 reports_push c s (x ∷ H) e =
     ap (λ (had : List Act). reported c s x.mark ++ had) (reports_push c (after s x.mark) H e)

@@ -5,7 +5,7 @@ use Rattle.turn_gate.specs.declared.pass.Pass.{Pass}
 use Rattle.perimeter_core.specs.Blocks.{Blocks, peri}
 use Rattle.perimeter_core.specs.History.{Element}
 use Rattle.squeue_state.specs.Naming.{Ending, Named, setting_of}
-use Rattle.squeue_trace.specs.Told.{Traced}
+use Rattle.squeue_state.specs.Told.{Traced}
 use Rattle.squeue_serve.specs.Lending.{AreLent, HasCome}
 use Rattle.squeue_serve.specs.Places.{MayEnd}
 use Rattle.ring_jobs.proofs.ComesBack.{AreBack, all_came, came_knows, each_behind, none_came, one_came}

@@ -10,12 +10,12 @@ use Rattle.perimeter_core.specs.Deeds.{takes_out, times_left}
 use Rattle.perimeter_core.specs.Legal.{Legal, ActsFit}
 use Rattle.perimeter_core.proofs.OneMore.{legal_ind}
 
-left_push : (c : ℕ) (H : List Element) (e : Element) → times_left c (H ++ e ∷ []) ≡ times_left c H + (if takes_out c e.mark then 1 else 0)
+pub left_push : (c : ℕ) (H : List Element) (e : Element) → times_left c (H ++ e ∷ []) ≡ times_left c H + (if takes_out c e.mark then 1 else 0)
 left_push c [] e = omega arith
 left_push c (x ∷ H) e = omega (arith, left_push c H e)
 
 -- who takes a block out finds it below its limit
-may_leave : (S : Setting) (H : List Element) (s : State) (c : ℕ) (m : Mark) → ActsFit S H s m → takes_out c m ≡ true → times_left c H + 1 ≤ slice_index S.limits.leaves c
+pub may_leave : (S : Setting) (H : List Element) (s : State) (c : ℕ) (m : Mark) → ActsFit S H s m → takes_out c m ≡ true → times_left c H + 1 ≤ slice_index S.limits.leaves c
 may_leave S H s c (On.Leave p rest (Done.Out d)) fits is =
     let same : d ≡ c = grind (arith, nat_tests, is) in
     subst (λ (k : ℕ). times_left k H + 1 ≤ slice_index S.limits.leaves k) same (omega (arith, fits.2))

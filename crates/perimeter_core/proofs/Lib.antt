@@ -31,3 +31,4 @@ pub mod AtItsAsk
 pub mod OwnCounts
 pub mod LeavesFew
 pub mod OwnersReport
+pub mod Sent

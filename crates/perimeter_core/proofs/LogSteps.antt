@@ -15,12 +15,12 @@ use Rattle.perimeter_core.specs.Backlog.{up}
 use Rattle.perimeter_core.specs.Logging.{IsLogOf, LogAt, LogsStand, fresh, none_done}
 use Rattle.perimeter_core.proofs.FeedLists.{length-up, up-append}
 
-get_same : {A : Type 0} (xs : List A) (c : ℕ) (x : A) → c < length xs → slice_get (slice_set xs c x) c ≡ Some x
+pub get_same : {A : Type 0} (xs : List A) (c : ℕ) (x : A) → c < length xs → slice_get (slice_set xs c x) c ≡ Some x
 get_same [] c x h = absurd (omega arith)
 get_same (y ∷ xs) zero x h = refl
 get_same (y ∷ xs) (suc c) x h = get_same xs c x (omega arith)
 
-get_other : {A : Type 0} (xs : List A) (c d : ℕ) (x : A) → c ≢ d → slice_get (slice_set xs c x) d ≡ slice_get xs d
+pub get_other : {A : Type 0} (xs : List A) (c d : ℕ) (x : A) → c ≢ d → slice_get (slice_set xs c x) d ≡ slice_get xs d
 get_other [] c d x h = refl
 get_other (y ∷ xs) zero zero x h = absurd (h refl)
 get_other (y ∷ xs) zero (suc d) x h = refl
@@ -36,31 +36,31 @@ logs_set logs c v blocks next lt old here others d =
       | inr e ↦ rw (get_other logs c d v e, others d e) (old d)
     ]
 
-feed_numbers-append : (xs ys : List Act) → feed_numbers (xs ++ ys) ≡ feed_numbers xs ++ feed_numbers ys
+pub feed_numbers-append : (xs ys : List Act) → feed_numbers (xs ++ ys) ≡ feed_numbers xs ++ feed_numbers ys
 feed_numbers-append [] ys = refl
 feed_numbers-append (Did.Feed n ∷ xs) ys = ap (λ ns. n ∷ ns) (feed_numbers-append xs ys)
 feed_numbers-append (Did.Call j k ∷ xs) ys = feed_numbers-append xs ys
 
-fed_is : (xs : List Act) → fed xs ≡ length (feed_numbers xs)
+pub fed_is : (xs : List Act) → fed xs ≡ length (feed_numbers xs)
 fed_is [] = refl
 fed_is (Did.Feed n ∷ xs) = omega (arith, fed_is xs)
 fed_is (Did.Call j k ∷ xs) = fed_is xs
 
 -- what the block of c was, by its log
-found : (c : ℕ) (o : Option (Option Log)) (b : Option (List Act)) (log : Log) → o ≡ Some (Some log) → LogAt c o b → (had : List Act) × (b ≡ Some had) × (log.c ≡ c) × IsLogOf log had
+pub found : (c : ℕ) (o : Option (Option Log)) (b : Option (List Act)) (log : Log) → o ≡ Some (Some log) → LogAt c o b → (had : List Act) × (b ≡ Some had) × (log.c ≡ c) × IsLogOf log had
 found c (Some (Some x)) (Some had) log e h = let same : x ≡ log = cc e in let r = subst (λ (l : Log). LogAt c (Some (Some l)) (Some had)) same h in (had, refl, r.0, r.1)
 found c (Some (Some x)) None log e h = absurd h
 found c (Some None) b log e h = absurd (cc e)
 found c None b log e h = absurd (cc e)
 
-count_is : (log : Log) (logs : List (Option Log)) (c n : ℕ) → slice_get logs c ≡ Some (Some log) → HadFeeds (LogsStand logs) c n → log.fed ≡ n
+pub count_is : (log : Log) (logs : List (Option Log)) (c n : ℕ) → slice_get logs c ≡ Some (Some log) → HadFeeds (LogsStand logs) c n → log.fed ≡ n
 count_is log logs c n e h =
     let f = found c (slice_get logs c) (h.blocks c) log e (h.stands c) in
     let same : f.0 ≡ h.had = cc (f.1, h.here) in
     let numbers : length (feed_numbers f.0) ≡ log.fed = ap length f.3.feeds ∙ length-up 0 log.fed in
     sym numbers ∙ (sym (fed_is f.0) ∙ (ap fed same ∙ h.feeds))
 
-some_longer : (o : Option (List Act)) (had more : List Act) → o ≡ Some had → longer more o ≡ Some (had ++ more)
+pub some_longer : (o : Option (List Act)) (had more : List Act) → o ≡ Some had → longer more o ≡ Some (had ++ more)
 some_longer o had more h = rw h refl
 
 pub feed_stands : (logs : List (Option Log)) (blocks : Blocks) (c n : ℕ) (log next : Log) → c < length logs → slice_get logs c ≡ Some (Some log) → HadFeeds (LogsStand logs) c n
@@ -132,7 +132,7 @@ no_place logs c d x lt h is none =
     let at = got logs c x d lt is in none log.0 (cc (at, log.1))
 
 -- one more place
-first_at : (k : ℕ) (logs : List (Option Log)) (starts : List Bool) (place : Option Log) (here : Bool) → length logs ≡ length starts
+pub first_at : (k : ℕ) (logs : List (Option Log)) (starts : List Bool) (place : Option Log) (here : Bool) → length logs ≡ length starts
     → ((c : ℕ) → LogAt (k + c) (slice_get logs c) (none_done starts c)) → LogAt (k + length logs) (Some place) (fresh here)
     → (c : ℕ) → LogAt (k + c) (slice_get (logs ++ place ∷ []) c) (none_done (starts ++ here ∷ []) c)
 first_at k [] [] place here n old new zero = new

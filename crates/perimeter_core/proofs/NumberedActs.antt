@@ -22,25 +22,25 @@ use Rattle.perimeter_core.proofs.BlocksFollow.{acts_push, flags}
 use Rattle.perimeter_core.proofs.RingKnows.{here_step}
 use Rattle.perimeter_core.proofs.NextFeed.{had, here_was, fed-append, fed_feeds, fed_call}
 
-numbers-append : (xs ys : List Act) → feed_numbers (xs ++ ys) ≡ feed_numbers xs ++ feed_numbers ys
+pub numbers-append : (xs ys : List Act) → feed_numbers (xs ++ ys) ≡ feed_numbers xs ++ feed_numbers ys
 numbers-append [] ys = refl
 numbers-append (Did.Feed n ∷ xs) ys = ap (λ ns. n ∷ ns) (numbers-append xs ys)
 numbers-append (Did.Call j k ∷ xs) ys = numbers-append xs ys
 
-numbers_at : (b : Bool) (n : ℕ) (done : List Act) (ns : List ℕ) → feed_numbers done ≡ ns → feed_numbers (if b then Did.Feed n ∷ done else done) ≡ (if b then n ∷ ns else ns)
+pub numbers_at : (b : Bool) (n : ℕ) (done : List Act) (ns : List ℕ) → feed_numbers done ≡ ns → feed_numbers (if b then Did.Feed n ∷ done else done) ≡ (if b then n ∷ ns else ns)
 numbers_at true n done ns h = ap (λ xs. n ∷ xs) h
 numbers_at false n done ns h = h
 
-numbers_feeds : (c : ℕ) (es : List Entry) → feed_numbers (feed_acts c es) ≡ feeds_of c es
+pub numbers_feeds : (c : ℕ) (es : List Entry) → feed_numbers (feed_acts c es) ≡ feeds_of c es
 numbers_feeds c [] = refl
 numbers_feeds c (Feed d n ∷ es) = numbers_at (d == c) n (feed_acts c es) (feeds_of c es) (numbers_feeds c es)
 numbers_feeds c (Ask p ∷ es) = numbers_feeds c es
 
-no_number : (b : Bool) (j k : ℕ) → feed_numbers (if b then Did.Call j k ∷ [] else []) ≡ []
+pub no_number : (b : Bool) (j k : ℕ) → feed_numbers (if b then Did.Call j k ∷ [] else []) ≡ []
 no_number true j k = refl
 no_number false j k = refl
 
-numbers_call : (c : ℕ) (m : Mark) → feed_numbers (call_act c m) ≡ []
+pub numbers_call : (c : ℕ) (m : Mark) → feed_numbers (call_act c m) ≡ []
 numbers_call c (On.Leave p rest (Done.Call d j k)) = no_number (d == c) j k
 numbers_call c (On.Leave p rest Done.None) = refl
 numbers_call c (On.Leave p rest Done.Away) = refl
@@ -57,7 +57,7 @@ numbers_call c (On.Work p) = refl
 numbers_call c (On.Close p) = refl
 
 -- the front of consecutive numbers
-up_front : (xs ys : List ℕ) (a k : ℕ) → xs ++ ys ≡ up a k → xs ≡ up a (length xs)
+pub up_front : (xs ys : List ℕ) (a k : ℕ) → xs ++ ys ≡ up a k → xs ≡ up a (length xs)
 up_front [] ys a k h = refl
 up_front (x ∷ xs) ys a zero h = absurd cc
 up_front (x ∷ xs) ys a (suc k) h =
@@ -65,11 +65,11 @@ up_front (x ∷ xs) ys a (suc k) h =
     let x_is : x ≡ a = cc in
     let r = up_front xs ys (suc a) k t in rw x_is (ap (λ ns. a ∷ ns) r)
 
-notes_front : (c : ℕ) (H : List Element) (e : Element) → NotesNumbered c (H ++ e ∷ []) → NotesNumbered c H × (puts_in c e.mark ≡ true → IsNumbered e.note)
+pub notes_front : (c : ℕ) (H : List Element) (e : Element) → NotesNumbered c (H ++ e ∷ []) → NotesNumbered c H × (puts_in c e.mark ≡ true → IsNumbered e.note)
 notes_front c [] e h = (tt, h.0)
 notes_front c (x ∷ H) e h = let r = notes_front c H e h.1 in ((h.0, r.0), r.1)
 
-numbered_case : (S : Setting) (H : List Element) (e : Element) (c : ℕ) (b : Bool) → puts_in c e.mark ≡ b → Legal S H → May S H e → (puts_in c e.mark ≡ true → IsNumbered e.note)
+pub numbered_case : (S : Setting) (H : List Element) (e : Element) (c : ℕ) (b : Bool) → puts_in c e.mark ≡ b → Legal S H → May S H e → (puts_in c e.mark ≡ true → IsNumbered e.note)
     → (is_here (run S H) c ≡ true → IsNumbered (acts S H c)) → is_here (after (run S H) e.mark) c ≡ true
     → IsNumbered (if b then e.note else acts S H c ++ (feed_acts c (done_by (run S H) e.mark) ++ call_act c e.mark))
 numbered_case S H e c true is l m note i h = note is

@@ -20,7 +20,7 @@ use Rattle.perimeter_core.proofs.QueuedRange.{range_right, queued_range}
 use Rattle.perimeter_core.proofs.Room.{asks_of, asks_of-append, one_ask}
 
 -- a list without Asks of p, and one with such an Ask
-asked_some : (p : ℕ) (es : List Entry) → has_ask p es ≡ true → 1 ≤ asks_of p es
+pub asked_some : (p : ℕ) (es : List Entry) → has_ask p es ≡ true → 1 ≤ asks_of p es
 asked_some p [] h = absurd cc
 asked_some p (Feed c n ∷ es) h = asked_some p es h
 asked_some p (Ask q ∷ es) h = at (q == p) h (asked_some p es)
@@ -29,7 +29,7 @@ asked_some p (Ask q ∷ es) h = at (q == p) h (asked_some p es)
     at true h f = omega arith
     at false h f = omega (arith, f h)
 
-none_asked : (p : ℕ) (es : List Entry) → asks_of p es ≡ 0 → has_ask p es ≡ false
+pub none_asked : (p : ℕ) (es : List Entry) → asks_of p es ≡ 0 → has_ask p es ≡ false
 none_asked p es h = go (has_ask p es) refl
   where
     go : (b : Bool) → has_ask p es ≡ b → b ≡ false
@@ -37,13 +37,13 @@ none_asked p es h = go (has_ask p es) refl
     go false e = refl
 
 -- the worker never asks
-no_worker : (S : Setting) (es : List Entry) → QueuedInRange S es → has_ask (worker S) es ≡ false
+pub no_worker : (S : Setting) (es : List Entry) → QueuedInRange S es → has_ask (worker S) es ≡ false
 no_worker S [] h = refl
 no_worker S (Feed c n ∷ es) h = no_worker S es h.2
 no_worker S (Ask q ∷ es) h =
     let other : (q == worker S) ≡ false = grind (arith, nat_tests, h.0) in rw other (no_worker S es h.1)
 
-owner_chain_after : (w : ℕ) (s : State) (m : Mark) (p : ℕ) → Can w s m → IdleFirst s m → RightKind m → WaitsNoMore s p → (after s m).own ≡ Out p → has_ask p (after s m).chain ≡ false
+pub owner_chain_after : (w : ℕ) (s : State) (m : Mark) (p : ℕ) → Can w s m → IdleFirst s m → RightKind m → WaitsNoMore s p → (after s m).own ≡ Out p → has_ask p (after s m).chain ≡ false
 owner_chain_after w s (On.Fill q es) p can idle kind i o =
     no_ask_join p s.chain es (i.owner_chain o) (enters_no_ask (On.Fill q es) p kind (λ z. idle.no_owner (rw z o)))
 owner_chain_after w s (On.Ask q) p can idle kind i o =
@@ -61,7 +61,7 @@ owner_chain_after w s (On.Close q) p can idle kind i o = i.owner_chain o
 abbrev Last : ℕ → List Entry → Type 0
 Last p hand = (has_ask p hand ≡ false) ⊎ ((front : List Entry) × (hand ≡ front ++ Ask p ∷ []) × (has_ask p front ≡ false))
 
-owner_hand_after : (S : Setting) (s : State) (m : Mark) (p : ℕ) → Can (worker S) s m → IdleFirst s m → RightKind m → QueuedInRange S (queue s) → WaitsNoMore s p → (after s m).own ≡ Out p
+pub owner_hand_after : (S : Setting) (s : State) (m : Mark) (p : ℕ) → Can (worker S) s m → IdleFirst s m → RightKind m → QueuedInRange S (queue s) → WaitsNoMore s p → (after s m).own ≡ Out p
     → Last p (after s m).hand
 owner_hand_after S s (On.Fill q es) p can idle kind range i o = i.owner_hand o
 owner_hand_after S s (On.Ask q) p can idle kind range i o = i.owner_hand o
@@ -81,11 +81,11 @@ owner_hand_after S s (On.Accept j) p can idle kind range i o = inl refl
 owner_hand_after S s (On.Work q) p can idle kind range i o =
     let same : worker S ≡ p = cc (o, can.2) in inl (rw same at (no_worker S s.chain (range_right S s.hand s.chain range)))
 
-no_ask_grown : (s : State) (m : Mark) (p : ℕ) → queue s ++ entries_of m ≡ done_by s m ++ queue (after s m) → has_ask p (queue s) ≡ false → has_ask p (entries_of m) ≡ false
+pub no_ask_grown : (s : State) (m : Mark) (p : ℕ) → queue s ++ entries_of m ≡ done_by s m ++ queue (after s m) → has_ask p (queue s) ≡ false → has_ask p (entries_of m) ≡ false
     → has_ask p (queue (after s m)) ≡ false
 no_ask_grown s m p e a b = (no_ask_split p (done_by s m) (queue (after s m)) (rw e at (no_ask_join p (queue s) (entries_of m) a b))).1
 
-granted_after : (w : ℕ) (s : State) (m : Mark) (p : ℕ) → Can w s m → IdleFirst s m → RightKind m → queue s ++ entries_of m ≡ done_by s m ++ queue (after s m)
+pub granted_after : (w : ℕ) (s : State) (m : Mark) (p : ℕ) → Can w s m → IdleFirst s m → RightKind m → queue s ++ entries_of m ≡ done_by s m ++ queue (after s m)
     → asks_of p (queue s) ≤ 1 → WaitsNoMore s p → (after s m).own ≡ Granted p → has_ask p (queue (after s m)) ≡ false
 granted_after w s (On.Grant q j rest) p can idle kind e one i o =
     let same : j ≡ p = cc o in

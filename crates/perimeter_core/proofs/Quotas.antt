@@ -17,21 +17,21 @@ count_both [] = refl
 count_both (Feed c n ∷ es) = omega (arith, count_both es)
 count_both (Ask p ∷ es) = omega (arith, count_both es)
 
-feeds_push : (p : ℕ) (H : List Element) (e : Element) → feeds_by p (H ++ e ∷ []) ≡ feeds_by p H + (if pass_of e.mark == p then feed_count (entries_of e.mark) else 0)
+pub feeds_push : (p : ℕ) (H : List Element) (e : Element) → feeds_by p (H ++ e ∷ []) ≡ feeds_by p H + (if pass_of e.mark == p then feed_count (entries_of e.mark) else 0)
 feeds_push p [] e = omega arith
 feeds_push p (x ∷ H) e = omega (arith, feeds_push p H e)
 
-asks_push : (p : ℕ) (H : List Element) (e : Element) → asks_by p (H ++ e ∷ []) ≡ asks_by p H + (if pass_of e.mark == p then ask_count (entries_of e.mark) else 0)
+pub asks_push : (p : ℕ) (H : List Element) (e : Element) → asks_by p (H ++ e ∷ []) ≡ asks_by p H + (if pass_of e.mark == p then ask_count (entries_of e.mark) else 0)
 asks_push p [] e = omega arith
 asks_push p (x ∷ H) e = omega (arith, asks_push p H e)
 
 abbrev by : List Element → ℕ → ℕ
 by H p = feeds_by p H + asks_by p H
 
-own_count : (k x : ℕ) → (if k == k then x else 0) ≡ x
+pub own_count : (k x : ℕ) → (if k == k then x else 0) ≡ x
 own_count k x = let e : (k == k) ≡ true = grind (arith, nat_tests) in rw e refl
 
-other_count : (k p x : ℕ) → k ≢ p → (if k == p then x else 0) ≡ 0
+pub other_count : (k p x : ℕ) → k ≢ p → (if k == p then x else 0) ≡ 0
 other_count k p x h = let e : (k == p) ≡ false = grind (arith, nat_tests) in rw e refl
 
 pub pass_range : (S : Setting) (m : Mark) → InRange S m → pass_of m < passes S
@@ -46,7 +46,7 @@ pass_range S (On.Accept j) r = r.0
 pass_range S (On.Work p) r = r.0
 pass_range S (On.Close p) r = r.0
 
-entered_le : (S : Setting) (H : List Element) → Legal S H → length (entered H) ≤ sum_first (passes S) (by H)
+pub entered_le : (S : Setting) (H : List Element) → Legal S H → length (entered H) ≤ sum_first (passes S) (by H)
 entered_le S H l =
     legal_ind S (λ (G : List Element). length (entered G) ≤ sum_first (passes S) (by G)) (omega arith)
     (λ G e k i m.
@@ -65,7 +65,7 @@ entered_le S H l =
     omega (arith, i, r, length-append (entered G) (entries_of e.mark))))
     H l
 
-within_push : (S : Setting) (k p : ℕ) (H : List Element) (e : Element) → pass_of e.mark ≡ k → WithinQuota S k (H ++ e ∷ []) → WithinQuota S p H → WithinQuota S p (H ++ e ∷ [])
+pub within_push : (S : Setting) (k p : ℕ) (H : List Element) (e : Element) → pass_of e.mark ≡ k → WithinQuota S k (H ++ e ∷ []) → WithinQuota S p H → WithinQuota S p (H ++ e ∷ [])
 within_push S k p H e is new old =
     elim (cases_eq k p) [
       | inl same ↦ rw same at new
@@ -94,7 +94,7 @@ feed_count-append (Ask p ∷ xs) ys = feed_count-append xs ys
 abbrev feeds : List Element → ℕ → ℕ
 feeds H p = feeds_by p H
 
-feeds_le : (S : Setting) (H : List Element) → Legal S H → feed_count (entered H) ≤ sum_first (passes S) (feeds H)
+pub feeds_le : (S : Setting) (H : List Element) → Legal S H → feed_count (entered H) ≤ sum_first (passes S) (feeds H)
 feeds_le S H l =
     legal_ind S (λ (G : List Element). feed_count (entered G) ≤ sum_first (passes S) (feeds G)) (omega arith)
     (λ G e k i m.

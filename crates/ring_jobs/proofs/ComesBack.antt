@@ -7,7 +7,7 @@ use Rattle.perimeter_core.specs.Blocks.{Blocks}
 use Rattle.perimeter_core.specs.History.{Element, Limits}
 use Rattle.squeue_state.specs.Naming.{Ending, Named}
 use Rattle.squeue_state.specs.Words.{Knows}
-use Rattle.squeue_trace.specs.Told.{Traced}
+use Rattle.squeue_state.specs.Told.{Traced}
 use Rattle.squeue_serve.specs.Lending.{AreLent, HasCome}
 use Rattle.squeue_serve.specs.Places.{Holds, MayEnd}
 use Rattle.squeue_serve.proofs.Coming.{holds_other, less_lent}

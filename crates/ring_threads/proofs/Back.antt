@@ -7,7 +7,7 @@ use Rattle.perimeter_core.specs.Deeds.{acts}
 use Rattle.perimeter_core.specs.Perimeter.{is_here}
 use Rattle.perimeter_core.specs.History.{Element, Setting, run}
 use Rattle.squeue_state.specs.Naming.{Ending, Named, setting_of}
-use Rattle.squeue_trace.specs.Told.{Traced}
+use Rattle.squeue_state.specs.Told.{Traced}
 use Rattle.conn_blocks.specs.declared.blocks.Blocks.{Blocks}
 use Rattle.conn_blocks.specs.Holding.{StandsFor}
 use Rattle.conn_blocks.specs.Places.{PlaceFits, Stands, limits_of, origin_of, size_of}

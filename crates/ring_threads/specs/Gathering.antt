@@ -13,7 +13,7 @@ use Rattle.conn_blocks.specs.Places.{PlacesStand, Stands, limits_of, origin_of}
 use Rattle.squeue_state.specs.Naming.{Ending, Named, setting_of}
 use Rattle.squeue_state.specs.Endings.{HasEnded}
 use Rattle.squeue_state.specs.Words.{Knows}
-use Rattle.squeue_trace.specs.Told.{Traced, marks_of}
+use Rattle.squeue_state.specs.Told.{Traced, marks_of}
 
 -- nothing lies at any of these places
 abbrev pub AreEmpty : List (Option (Box BlockOf Global)) → Type 0

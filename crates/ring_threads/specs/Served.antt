@@ -2,7 +2,7 @@
 use Rattle.std.specs.Prelude.{◌≡◌, ℕ, if◌then◌else◌, IfSome, List, [], Some, length, map, slice_get}
 use Rattle.perimeter_core.specs.declared.entries.Act.{Act}
 use Rattle.squeue_state.specs.Naming.{Ending}
-use Rattle.squeue_trace.specs.Told.{Traced, marks_of}
+use Rattle.squeue_state.specs.Told.{Traced, marks_of}
 use Rattle.conn_classifier.specs.Plan.{PlanOf}
 use Rattle.conn_blocks.specs.CallLists.{CallLists}
 use Rattle.conn_blocks.specs.ServeOrder.{BlockOf}

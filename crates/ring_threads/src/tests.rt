@@ -5,7 +5,7 @@ use conn_classifier::plan;
 use perimeter_core::NoHook;
 use sq_base::Octets;
 use squeue_enter::Mode;
-use squeue_trace::{Trace, TraceMark};
+use squeue_state::{Trace, TraceMark};
 use std::test::Fail;
 use tcb_machine::State;
 

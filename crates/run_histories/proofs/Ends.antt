@@ -34,7 +34,7 @@ all_fed S H c l over here =
     let last : length (feeds_of c (queue (run S H))) ≡ 0 = ap (λ (es : List Entry). length (feeds_of c es)) none in
     omega (arith, missing, last)
 
-fed_counts : (acts : List Act) → length (feed_numbers acts) ≡ fed acts
+pub fed_counts : (acts : List Act) → length (feed_numbers acts) ≡ fed acts
 fed_counts [] = refl
 fed_counts (Did.Feed n ∷ acts) = omega (arith, fed_counts acts)
 fed_counts (Did.Call j k ∷ acts) = fed_counts acts

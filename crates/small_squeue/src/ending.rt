@@ -7,14 +7,13 @@ ghost use Rattle.perimeter_core.specs.History.{run};
 ghost use Rattle.squeue_state.specs.Endings.{HasEnded};
 ghost use Rattle.squeue_state.specs.Naming.{setting_of};
 ghost use Rattle.squeue_state.specs.Elements.{number_of};
-ghost use Rattle.squeue_trace.specs.Told.{marks_of};
+ghost use Rattle.squeue_state.specs.Told.{marks_of};
 ghost use Rattle.turn_gate.specs.Passes.{IsPassOf, number, seen};
 
 use perimeter_core::NoHook;
 use perimeter_core::logs::Logs;
 use squeue_drain::worker;
-use squeue_state::{Ended, Pass, Squeue};
-use squeue_trace::Trace;
+use squeue_state::{Ended, Pass, Squeue, Trace};
 use std::alloc::Global;
 use std::sync::Wait;
 

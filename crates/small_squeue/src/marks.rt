@@ -1,7 +1,7 @@
 //! What a trace tells.
 ghost use Rattle.std.specs.Prelude.{◌≡◌, ◌≢◌, true, false};
 
-use squeue_trace::{Trace, TraceMark};
+use squeue_state::{Trace, TraceMark};
 
 /// Whether the marks of the trace are these, and no others.
 pub fn has_marks(trace: &Trace, marks: &[TraceMark]) -> bool

@@ -3,7 +3,7 @@
 ghost use Rattle.std.specs.Prelude.{◌≡◌, ◌+◌, ◌<◌, ◌≤◌, ◌∷◌, ◌++◌, length, drop, map, take, IfOk, OnOk, string_bytes};
 ghost use Rattle.std.specs.List.{flat_map};
 ghost use Rattle.perimeter_core.specs.declared.marks.Mark.TheVariants as On;
-ghost use Rattle.squeue_trace.specs.Told.{Within, mark_of, marks_of};
+ghost use Rattle.squeue_state.specs.Told.{Within, mark_of, marks_of};
 ghost use Rattle.conn_blocks.specs.CallLists.{calls_of};
 ghost use Rattle.ring_threads.specs.ServedBlocks.{AreServed};
 ghost use Rattle.squeue_report.specs.ReportText.{line_end};
@@ -18,7 +18,7 @@ use ring_quotas::{CALLERS, Setup};
 use ring_threads::Served;
 use sq_base::Octets;
 use squeue_enter::Mode;
-use squeue_trace::{Trace, TraceMark};
+use squeue_state::{Trace, TraceMark};
 use std::alloc::{AllocError, Global};
 use tcb_machine::Call;
 

@@ -58,12 +58,12 @@ within_as : {A : Type 0} (N : ℕ → List A) (a b i : ℕ) (m : A) → a ≡ b 
 within_as N a b i m e at = within (N a) i m (ap (λ (k : ℕ). slice_get (N k) i) e ∙ at)
 
 -- lists with one more at the end
-front_of : {A : Type 0} (xs ys : List A) (i : ℕ) (m : A) → slice_get xs i ≡ Some m → slice_get (xs ++ ys) i ≡ Some m
+pub front_of : {A : Type 0} (xs ys : List A) (i : ℕ) (m : A) → slice_get xs i ≡ Some m → slice_get (xs ++ ys) i ≡ Some m
 front_of [] ys i m at = cc at
 front_of (x ∷ xs) ys zero m at = at
 front_of (x ∷ xs) ys (suc i) m at = front_of xs ys i m at
 
-last_of : {A : Type 0} (xs : List A) (m : A) → slice_get (xs ++ m ∷ []) (length xs) ≡ Some m
+pub last_of : {A : Type 0} (xs : List A) (m : A) → slice_get (xs ++ m ∷ []) (length xs) ≡ Some m
 last_of [] m = refl
 last_of (x ∷ xs) m = last_of xs m
 

@@ -20,7 +20,7 @@ use Rattle.squeue_rings.proofs.Noting.{noted_first}
 use Rattle.squeue_rings.proofs.RingStays.{linked_first}
 use Rattle.squeue_rings.proofs.Slots.{at_got, at_length, at_made, within}
 
-none_closed : (n p : ℕ) → slice_index_or (replicate n false) p false ≡ false
+pub none_closed : (n p : ℕ) → slice_index_or (replicate n false) p false ≡ false
 none_closed zero p = refl
 none_closed (suc n) zero = refl
 none_closed (suc n) (suc p) = none_closed n p

@@ -14,7 +14,7 @@ use Rattle.conn_blocks.specs.CallLists.{CallLists}
 use Rattle.perimeter_core.specs.Deeds.{feed_numbers}
 use Rattle.perimeter_core.specs.declared.marks.Mark.{Mark}
 use Rattle.squeue_state.specs.Naming.{Ending}
-use Rattle.squeue_trace.specs.Told.{Traced, marks_of}
+use Rattle.squeue_state.specs.Told.{Traced, marks_of}
 use Rattle.conn_blocks.specs.Orders.{IsWhole, call_numbers, numbers_on}
 use Rattle.conn_blocks.specs.ServeOrder.{BlockOf}
 use Rattle.ring_quotas.specs.declared.setup.Setup.{Setup}

@@ -5,7 +5,7 @@ ghost use Rattle.std.specs.String.{string_bytes};
 ghost use Rattle.squeue_run.specs.Asked.{asked};
 ghost use Rattle.squeue_run.specs.CallWords.{AllThere, IsFirstMissing, lists_of};
 ghost use Rattle.sq_base.specs.Ends.{Rose, end_of};
-ghost use Rattle.squeue_trace.specs.Told.{marks_of};
+ghost use Rattle.squeue_state.specs.Told.{marks_of};
 ghost use Rattle.conn_blocks.specs.Allowed.{all_calls};
 ghost use Rattle.ring_quotas.specs.Quotas.{IsInRange, marks_most};
 ghost use Rattle.ring_threads.specs.Served.{orders_of};

@@ -4,7 +4,7 @@ use Rattle.turn_gate.specs.History.{Each}
 use Rattle.turn_gate.specs.declared.pass.Pass.{Pass}
 use Rattle.perimeter_core.specs.History.{Element, Limits}
 use Rattle.perimeter_core.specs.Blocks.{Blocks, peri}
-use Rattle.squeue_trace.specs.Told.{Traced, marks_of}
+use Rattle.squeue_state.specs.Told.{Traced, marks_of}
 use Rattle.squeue_state.specs.Naming.{Named, Ending, setting_of}
 use Rattle.squeue_state.specs.Endings.{HasEnded}
 use Rattle.squeue_state.specs.Behind.{IsPeri}

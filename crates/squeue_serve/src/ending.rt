@@ -10,8 +10,7 @@ ghost use Rattle.squeue_serve.specs.Lending.{AreHanded, AreLent, HasCome, HaveLa
 use crate::jobs::{Job, Squeues, holder, take_from};
 use crate::places::{close_all, work};
 use perimeter_core::{Hook, Resident};
-use squeue_state::{Ended, Pass, Squeue};
-use squeue_trace::Trace;
+use squeue_state::{Ended, Pass, Squeue, Trace};
 use std::alloc::Global;
 use std::sync::Wait;
 

@@ -11,7 +11,7 @@ use Rattle.perimeter_core.specs.Legal.{Legal}
 use Rattle.perimeter_core.specs.Ending.{IsOver}
 use Rattle.perimeter_core.specs.Blocks.{Blocks, peri}
 use Rattle.perimeter_core.proofs.TheEnd.{final}
-use Rattle.squeue_trace.specs.Told.{marks_of}
+use Rattle.squeue_state.specs.Told.{marks_of}
 use Rattle.squeue_state.specs.declared.guarded.Guarded.{Guarded}
 use Rattle.squeue_state.specs.Naming.{Given, Named, setting_of}
 use Rattle.squeue_state.specs.Endings.{seen_by}

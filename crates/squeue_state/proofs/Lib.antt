@@ -10,3 +10,4 @@ pub mod Closing
 pub mod Finish
 pub mod Opening
 pub mod Comes
+pub mod Marks

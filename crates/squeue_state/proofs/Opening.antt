@@ -6,7 +6,7 @@ use Rattle.perimeter_core.specs.declared.entries.Act.{Act}
 use Rattle.perimeter_core.specs.declared.marks.Own.TheVariants.{Free}
 use Rattle.perimeter_core.specs.History.{Limits, all_quotas, feed_quotas}
 use Rattle.perimeter_core.specs.Blocks.{Blocks, peri}
-use Rattle.squeue_trace.specs.Told.{Traced, mark_of}
+use Rattle.squeue_state.specs.Told.{Traced, mark_of}
 use Rattle.squeue_state.specs.declared.inner.Inner.{Inner}
 use Rattle.squeue_state.specs.Naming.{Given, setting_of}
 use Rattle.squeue_state.specs.Behind.{Behind, Noted, HasEmpty, room_of}

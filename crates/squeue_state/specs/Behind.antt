@@ -13,7 +13,7 @@ use Rattle.perimeter_core.specs.Blocks.{Blocks, peri}
 use Rattle.squeue_state.specs.declared.inner.Inner.{Inner}
 use Rattle.squeue_state.specs.declared.guarded.Guarded.{Guarded}
 use Rattle.squeue_state.specs.declared.guarded.Quota.{Quota}
-use Rattle.squeue_trace.specs.Told.{Traced, marks_of}
+use Rattle.squeue_state.specs.Told.{Traced, marks_of}
 use Rattle.perimeter_core.specs.Deeds.{entered}
 use Rattle.squeue_state.specs.Naming.{Given, setting_of}
 

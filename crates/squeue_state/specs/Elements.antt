@@ -4,9 +4,9 @@ use Rattle.perimeter_core.specs.declared.entries.Feed.{Feed}
 use Rattle.perimeter_core.specs.declared.entries.Act.{Act}
 use Rattle.perimeter_core.specs.declared.marks.SynchAct.{SynchAct}
 use Rattle.perimeter_core.specs.History.{Element, pass_of}
-use Rattle.squeue_trace.specs.declared.kind.Kind.{Kind}
-use Rattle.squeue_trace.specs.declared.kind.Kind.TheVariants as Kind'
-use Rattle.squeue_trace.specs.Told.{mark_by}
+use Rattle.squeue_state.specs.declared.kind.Kind.{Kind}
+use Rattle.squeue_state.specs.declared.kind.Kind.TheVariants as Kind'
+use Rattle.squeue_state.specs.Told.{mark_by}
 
 abbrev pub number_of : Element → ℕ
 number_of e = pass_of e.mark

@@ -16,7 +16,7 @@ use Rattle.perimeter_core.specs.Ending.{IsOver}
 use Rattle.perimeter_core.specs.Blocks.{Blocks, peri, with_feeds, with_act}
 use Rattle.perimeter_core.specs.declared.entries.Entry.{Entry}
 use Rattle.perimeter_core.specs.declared.entries.Entry.TheVariants as Entry'
-use Rattle.squeue_trace.specs.declared.kind.Kind.{Kind}
+use Rattle.squeue_state.specs.declared.kind.Kind.{Kind}
 use Rattle.squeue_state.specs.declared.guarded.Guarded.{Guarded}
 use Rattle.squeue_state.specs.Naming.{Given, Named, Turned, Handed, setting_of}
 use Rattle.squeue_state.specs.Behind.{given_of, Behind, Noted, room_of}

@@ -1,7 +1,7 @@
 //! What is left of a squeue at its end.
 
 use crate::event::End;
-use known::Known;
+use perimeter_core::Known;
 use std::marker::Model;
 
 /// A squeue that has ended. Only `Squeue::finish` makes one. Contracts see its number, its setting and its history, which

@@ -2,15 +2,16 @@
 ghost use Rattle.std.specs.Prelude.{◌≡◌, ◌+◌, ◌<◌, ◌≤◌, List, [], ◌∷◌, ◌++◌, length, true};
 ghost use Rattle.perimeter_core.specs.History.{Element};
 ghost use Rattle.perimeter_core.specs.Deeds.{entries_of};
-ghost use Rattle.squeue_trace.specs.Told.{mark_by};
+ghost use Rattle.squeue_state.specs.Told.{mark_by};
 ghost use Rattle.squeue_state.specs.Naming.{Given};
 ghost use Rattle.squeue_state.specs.Behind.{Noted};
 
 use crate::event::{Event, Facts};
 use crate::inner::Inner;
-use known::Known;
+use perimeter_core::Known;
 use perimeter_core::{Feed, Resident};
-use squeue_trace::{Kind, Trace};
+use crate::kind::Kind;
+use crate::trace::Trace;
 use turn_gate::Storied;
 
 /// How many feeds and asks a pass may ever enter.

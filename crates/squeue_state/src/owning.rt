@@ -19,7 +19,7 @@ use crate::release::end_turn;
 use crate::squeue::{Pass, Squeue};
 use crate::turn::Turn;
 use perimeter_core::{Entry, Resident, SynchAct};
-use squeue_trace::Kind;
+use crate::kind::Kind;
 use std::marker::Brand;
 
 impl<R: Resident> Squeue<R> {

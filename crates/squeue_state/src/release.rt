@@ -11,7 +11,7 @@ use crate::event::{Event, Notes};
 use crate::guarded::Guarded;
 use crate::squeue::Pass;
 use perimeter_core::{Feed, Resident};
-use squeue_trace::Kind;
+use crate::kind::Kind;
 use std::marker::Brand;
 use turn_gate::{Gate, Held, Names};
 

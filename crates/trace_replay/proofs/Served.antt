@@ -2,7 +2,7 @@
 use Rattle.std.proofs.Common.{◌≡◌, ◌∙◌, ℕ, suc, Bool, true, if◌then◌else◌, IfSome, Some, List, [], ◌∷◌, length, map, slice_get, refl, sym, ap, subst, arith}
 use Rattle.perimeter_core.specs.declared.marks.Mark.{Mark}
 use Rattle.squeue_state.specs.Naming.{Ending}
-use Rattle.squeue_trace.specs.Told.{Traced, marks_of}
+use Rattle.squeue_state.specs.Told.{Traced, marks_of}
 
 -- the marks of a history
 abbrev marks_in : Ending → List Mark

@@ -5,7 +5,7 @@ ghost use Rattle.sq_base.specs.Ends.{End};
 ghost use Rattle.sq_base.specs.declared.kinds.Status.TheVariants as Status;
 ghost use Rattle.capture_reader.specs.Outcome.{CaptureFile};
 ghost use Rattle.pcapng_reader.specs.Input.{IsInput};
-ghost use Rattle.squeue_trace.specs.Told.{marks_of};
+ghost use Rattle.squeue_state.specs.Told.{marks_of};
 ghost use Rattle.conn_classifier.specs.Plan.{plan_of};
 ghost use Rattle.conn_blocks.specs.CallLists.{CallLists};
 ghost use Rattle.ring_quotas.specs.declared.setup.Setup.{Setup};

@@ -7,8 +7,7 @@ use super::has_marks;
 use perimeter_core::logs::Logs;
 use perimeter_core::{NoHook, Own, Resident};
 use squeue_drain::worker;
-use squeue_state::{Missed, Pass, Quota, Squeue};
-use squeue_trace::TraceMark;
+use squeue_state::{Missed, Pass, Quota, Squeue, TraceMark};
 use std::alloc::{AllocError, Global};
 use std::test::Fail;
 

@@ -1,6 +1,6 @@
 use Rattle.std.proofs.Common.{◌≡◌, ℕ, ◌+◌, ◌<◌, List, length, take, get_or, refl, rules}
 use Rattle.std.proofs.lemmas.List.{take_more}
-use Rattle.squeue_trace.specs.declared.trace.TraceMark.{TraceMark}
+use Rattle.squeue_state.specs.declared.trace.TraceMark.{TraceMark}
 use Rattle.small_squeue.proofs.marks.has_marks.Goals as goal
 
 -- one more mark that agrees

@@ -1,5 +1,5 @@
 use Rattle.std.proofs.Common.{◌<◌, length, arith}
-use Rattle.squeue_trace.specs.Told.{mark_of, marks_of}
+use Rattle.squeue_state.specs.Told.{mark_of, marks_of}
 use Rattle.squeue_report.specs.TraceText.{mark_line}
 use Rattle.squeue_report.proofs.Lines.{line_more}
 use Rattle.squeue_report.proofs.Marked.{there_as}

@@ -1,6 +1,6 @@
 use Rattle.std.proofs.Common.{◌≡◌, ◌++◌, take, string_bytes}
 use Rattle.std.specs.List.{flat_map}
-use Rattle.squeue_trace.specs.Told.{marks_of}
+use Rattle.squeue_state.specs.Told.{marks_of}
 use Rattle.squeue_report.specs.TraceText.{mark_line}
 use Rattle.squeue_report.proofs.tracing.push_marks.Given as goal
 

@@ -2,7 +2,7 @@ use Rattle.std.proofs.Common.{◌≡◌, ◌≤◌, [], ◌∷◌, ◌++◌, len
 use Rattle.std.specs.Option.{option_map}
 use Rattle.std.proofs.lemmas.List.{length-map}
 use Rattle.std.proofs.lemmas.Option.{slice_get-map}
-use Rattle.squeue_trace.specs.Told.{marks_of}
+use Rattle.squeue_state.specs.Told.{marks_of}
 use Rattle.squeue_report.specs.ReportText.{line}
 use Rattle.squeue_report.specs.TraceText.{squeue_text}
 use Rattle.squeue_report.proofs.Blocks.{traced}

@@ -1,6 +1,6 @@
 use Rattle.std.proofs.Common.{◌≡◌, ◌++◌, map, take, string_bytes}
 use Rattle.std.specs.List.{enumerate_from, flat_map}
-use Rattle.squeue_trace.specs.Told.{marks_of}
+use Rattle.squeue_state.specs.Told.{marks_of}
 use Rattle.squeue_report.specs.TraceText.{squeue_text}
 use Rattle.squeue_report.proofs.tracing.report2.Given as goal
 

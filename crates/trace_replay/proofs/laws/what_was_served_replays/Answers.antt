@@ -1,6 +1,6 @@
 use Rattle.std.proofs.Common.{◌≡◌, List, map, ◌++◌, subst, sym}
 use Rattle.perimeter_core.specs.declared.marks.Mark.{Mark}
-use Rattle.squeue_trace.specs.Told.{marks_of}
+use Rattle.squeue_state.specs.Told.{marks_of}
 use Rattle.conn_classifier.specs.Plan.{plan_of}
 use Rattle.ring_threads.specs.Served.{orders_of}
 use Rattle.squeue_report.specs.TraceText.{trace_text}
