@@ -11,11 +11,11 @@ ghost use Rattle.squeue_state.specs.Words.{Marked, IsWhole};
 ghost use Rattle.turn_gate.specs.Passes.{seen};
 
 use crate::hand::Hand;
+use crate::kind::Kind;
 use crate::release::end_turn;
 use crate::squeue::{Pass, Squeue};
 use crate::turn::Turn;
 use perimeter_core::{Feed, Resident};
-use crate::kind::Kind;
 use std::marker::Brand;
 
 impl<R: Resident> Squeue<R> {

@@ -8,10 +8,9 @@ ghost use Rattle.squeue_state.specs.Behind.{Noted};
 
 use crate::event::{Event, Facts};
 use crate::inner::Inner;
-use perimeter_core::Known;
-use perimeter_core::{Feed, Resident};
 use crate::kind::Kind;
 use crate::trace::Trace;
+use perimeter_core::{Feed, Known, Resident};
 use turn_gate::Storied;
 
 /// How many feeds and asks a pass may ever enter.

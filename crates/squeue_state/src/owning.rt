@@ -15,11 +15,11 @@ ghost use Rattle.turn_gate.specs.Passes.{seen};
 
 use crate::event::Notes;
 use crate::hand::Hand;
+use crate::kind::Kind;
 use crate::release::end_turn;
 use crate::squeue::{Pass, Squeue};
 use crate::turn::Turn;
 use perimeter_core::{Entry, Resident, SynchAct};
-use crate::kind::Kind;
 use std::marker::Brand;
 
 impl<R: Resident> Squeue<R> {

@@ -6,8 +6,7 @@ ghost use Rattle.squeue_state.specs.Naming.{setting_of};
 
 use crate::guarded::Guarded;
 use crate::squeue::Squeue;
-use perimeter_core::Known;
-use perimeter_core::{Own, Resident};
+use perimeter_core::{Known, Own, Resident};
 use std::marker::Model;
 use turn_gate::Held;
 
