@@ -1,18 +1,19 @@
-ghost use Rattle.std.specs.Prelude.{◌<◌, All, IfOk};
+ghost use Rattle.std.specs.Prelude.{◌≡◌, ◌<◌, length, All, IfOk};
 ghost use Rattle.conn_blocks.specs.Allowed.{all_calls};
 
 use crate::names::{service_name, state_name};
 use crate::{report, report2, summary};
 use capture_reader::{Capture, parse_capture};
 use conn_blocks::Calls;
-use conn_classifier::plan;
+use conn_classifier::{Plan, plan};
 use echo_services::Service;
 use perimeter_core::NoHook;
 use ring_quotas::Setup;
-use ring_threads::serve;
+use ring_threads::{Served, serve};
 use sq_base::Octets;
 use squeue_enter::Mode;
 use std::alloc::{AllocError, Global};
+use std::process::Abort;
 use std::sync::Wait;
 use std::test::Fail;
 use std::thread::Threads;
@@ -28,8 +29,9 @@ const FIVE: [&str; 6] = [
     "00000000a00f000028000000280000004500002800004000400600000a0000010a0000020fa000070000006b000001fb5010100000000000",
 ];
 
-/// Its report without the first line and the last.
-const FIVE_BODY: &str = concat!(
+/// Its report.
+const FIVE_REPORT: &str = concat!(
+    "report 1\n",
     "records 5 tail 0 served 5 nofit 0 server 0 other 0 fragment 0 cut 0 malformed 0 badsum 0 connections 1\n",
     "conn 0 10.0.0.1:4000 10.0.0.2:7 echo\n",
     "order f0-5\n",
@@ -37,7 +39,12 @@ const FIVE_BODY: &str = concat!(
     "reply 2000 4500002d00004000400626c90a0000020a00000100070fa0000001f50000006a5018ffff45ed000068656c6c6f\n",
     "reply 3000 4500002800004000400626ce0a0000020a00000100070fa0000001fa0000006b5011ffff89c50000\n",
     "end LISTEN\n",
+    "done\n",
 );
+
+/// The line that sums it up, for the number 7.
+const FIVE_SUMMARY: &str =
+    "generated 7 bytes 309 records 5 connections 1 replies 3 octets 5 check b5fcd616e44526af\n";
 
 /// Its first two segments with a close: what stands before the order's line.
 const BEFORE_CLOSES: &str = concat!(
@@ -87,46 +94,115 @@ fn read(alloc: Global, lines: &[&str]) -> Result<Capture, Fail> {
     Ok(parse_capture(alloc, Octets::wrap(bytes))?)
 }
 
+/// The plan of a capture, which has one connection.
+fn one_planned<'c, W: Threads + Sync + Abort>(
+    rt: &W,
+    alloc: Global,
+    capture: &'c Capture,
+) -> Result<Plan<'c>, AllocError>
+    ensures { IfOk result (λ p. length p.tuples ≡ 1) }
+{
+    let plan = plan(rt, alloc, capture, false)?;
+    assert!(rt; plan.conns() == 1);
+    Ok(plan)
+}
+
+/// The report of what was served, and the line that sums it up.
+fn written(
+    alloc: Global,
+    bytes: &[u8],
+    plan: &Plan,
+    served: &Served,
+) -> Result<(Octets, Octets), AllocError>
+    requires { length served.now.blocks ≡ length plan.now.tuples }
+{
+    let text = report(alloc, plan, served)?;
+    let line = summary(alloc, 7, bytes, plan, served)?;
+    Ok((text, line))
+}
+
+/// What is written of a plan that is served with no calls.
+fn echoed<W: Threads + Wait + Sync>(
+    rt: &W,
+    alloc: Global,
+    bytes: &[u8],
+    plan: &Plan,
+) -> Result<(Octets, Octets), AllocError> {
+    let calls = Calls::make(alloc);
+    let served = serve(rt, alloc, plan, &calls, &ONE, &NoHook)?;
+    written(alloc, bytes, plan, &served)
+}
+
+/// What is written of a capture that is served with no calls.
+fn echo_written<W: Threads + Wait + Sync + Abort>(
+    rt: &W,
+    alloc: Global,
+    capture: &Capture,
+) -> Result<(Octets, Octets), AllocError> {
+    let plan = one_planned(rt, alloc, capture)?;
+    echoed(rt, alloc, capture.bytes(), &plan)
+}
+
 #[test]
 fn five_segment_echo(rt: HostRuntime) -> Result<(), Fail> {
     let capture = read(rt.alloc(), &FIVE)?;
-    let plan = plan(&rt, rt.alloc(), &capture, false)?;
-    let served = serve(
-        &rt,
-        rt.alloc(),
-        &plan,
-        &Calls::make(rt.alloc()),
-        &ONE,
-        &NoHook,
-    )?;
-    let text = report(rt.alloc(), &plan, &served)?;
-    let wanted = format!(in rt.alloc(); "report 1\n{FIVE_BODY}done\n")?;
-    assert_eq!(rt; text.as_slice(), wanted.as_bytes());
-    let line = summary(rt.alloc(), 7, capture.bytes(), &plan, &served)?;
-    assert_eq!(rt;
-        line.as_slice(),
-        b"generated 7 bytes 309 records 5 connections 1 replies 3 octets 5 check b5fcd616e44526af\n".as_slice()
-    );
+    let (text, line) = echo_written(&rt, rt.alloc(), &capture)?;
+    assert_eq!(rt; text.as_slice(), FIVE_REPORT.as_bytes());
+    assert_eq!(rt; line.as_slice(), FIVE_SUMMARY.as_bytes());
     Ok(())
+}
+
+/// The report of a plan that is served with these calls.
+fn reported<W: Threads + Wait + Sync>(
+    rt: &W,
+    alloc: Global,
+    plan: &Plan,
+    calls: &Calls,
+) -> Result<Octets, AllocError>
+    requires { All (λ call. call.0 < length plan.now.tuples) (all_calls calls.now) }
+{
+    let served = serve(rt, alloc, plan, calls, &ONE, &NoHook)?;
+    report(alloc, plan, &served)
+}
+
+/// A close of the connection.
+fn one_close(alloc: Global) -> Result<Calls, AllocError>
+    ensures { IfOk result (λ calls. All (λ call. call.0 < 1) (all_calls calls)) }
+{
+    let mut calls = Calls::make(alloc);
+    calls.push(0, 0, Call::Close)?;
+    Ok(calls)
+}
+
+/// The report of a capture that is served with a close.
+fn close_reported<W: Threads + Wait + Sync + Abort>(
+    rt: &W,
+    alloc: Global,
+    capture: &Capture,
+) -> Result<Octets, AllocError> {
+    let calls = one_close(alloc)?;
+    let plan = one_planned(rt, alloc, capture)?;
+    reported(rt, alloc, &plan, &calls)
+}
+
+/// Whether the report has the close at one of the places in `CLOSES`.
+fn is_known(text: &[u8]) -> bool {
+    let Some(rest) = text.strip_prefix(BEFORE_CLOSES.as_bytes()) else {
+        return false;
+    };
+    for (order, more) in CLOSES {
+        if rest.strip_prefix(order.as_bytes()) == Some(more.as_bytes()) {
+            return true;
+        }
+    }
+    false
 }
 
 #[test]
 fn a_close_among_the_feeds(rt: HostRuntime) -> Result<(), Fail> {
     let capture = read(rt.alloc(), &FIVE[..3])?;
-    let plan = plan(&rt, rt.alloc(), &capture, false)?;
-    assert_eq!(rt; plan.conns(), 1);
-    let mut calls = Calls::make(rt.alloc());
-    calls.push(0, 0, Call::Close)?;
-    let served = serve(&rt, rt.alloc(), &plan, &calls, &ONE, &NoHook)?;
-    let text = report(rt.alloc(), &plan, &served)?;
-    let mut is_known = false;
-    for (order, more) in CLOSES {
-        let lines = format!(in rt.alloc(); "{BEFORE_CLOSES}{order}{more}")?;
-        if text.as_slice() == lines.as_bytes() {
-            is_known = true;
-        }
-    }
-    assert!(rt; is_known);
+    let text = close_reported(&rt, rt.alloc(), &capture)?;
+    assert!(rt; is_known(text.as_slice()));
     Ok(())
 }
 
@@ -184,16 +260,28 @@ const TRACED: Setup = Setup {
     trace: true,
 };
 
-/// The traced report of the five segments with the calls; nothing where the capture hasn't one connection.
-fn traced_report<W: Threads + Wait + Sync>(rt: &W, alloc: Global) -> Result<Octets, Fail> {
-    let capture = read(alloc, &FIVE)?;
-    let plan = plan(rt, alloc, &capture, false)?;
-    if plan.conns() != 1 {
-        return Ok(Octets::wrap(Vec::new(alloc)));
-    }
+/// The traced report of a plan that is served with these calls.
+fn traced<W: Threads + Wait + Sync>(
+    rt: &W,
+    alloc: Global,
+    plan: &Plan,
+    calls: &Calls,
+) -> Result<Octets, AllocError>
+    requires { All (λ call. call.0 < length plan.now.tuples) (all_calls calls.now) }
+{
+    let served = serve(rt, alloc, plan, calls, &TRACED, &NoHook)?;
+    report2(alloc, plan, calls, &TRACED, false, &served)
+}
+
+/// The traced report of a capture that is served with the four calls.
+fn traced_report<W: Threads + Wait + Sync + Abort>(
+    rt: &W,
+    alloc: Global,
+    capture: &Capture,
+) -> Result<Octets, AllocError> {
     let calls = four_calls(alloc)?;
-    let served = serve(rt, alloc, &plan, &calls, &TRACED, &NoHook)?;
-    Ok(report2(alloc, &plan, &calls, &TRACED, false, &served)?)
+    let plan = one_planned(rt, alloc, capture)?;
+    traced(rt, alloc, &plan, &calls)
 }
 
 /// Whether the marks enter the feeds as `FILLS` has them.
@@ -215,7 +303,8 @@ fn reports_the_acts(text: &str) -> bool {
 
 #[test]
 fn traced_calls_and_moves(rt: HostRuntime) -> Result<(), Fail> {
-    let text = traced_report(&rt, rt.alloc())?;
+    let capture = read(rt.alloc(), &FIVE)?;
+    let text = traced_report(&rt, rt.alloc(), &capture)?;
     let text = str::from_utf8(text.as_slice())?;
     assert!(rt; text.contains(BEFORE_MARKS));
     assert!(rt; enters_the_feeds(text));
@@ -223,20 +312,21 @@ fn traced_calls_and_moves(rt: HostRuntime) -> Result<(), Fail> {
     Ok(())
 }
 
+const STATES: [(State, &str); 9] = [
+    (State::Listen, "LISTEN"),
+    (State::SynReceived, "SYN-RECEIVED"),
+    (State::Established, "ESTABLISHED"),
+    (State::FinWait1, "FIN-WAIT-1"),
+    (State::FinWait2, "FIN-WAIT-2"),
+    (State::CloseWait, "CLOSE-WAIT"),
+    (State::Closing, "CLOSING"),
+    (State::LastAck, "LAST-ACK"),
+    (State::TimeWait, "TIME-WAIT"),
+];
+
 #[test]
 fn names(rt: HostRuntime) {
-    let states = [
-        (State::Listen, "LISTEN"),
-        (State::SynReceived, "SYN-RECEIVED"),
-        (State::Established, "ESTABLISHED"),
-        (State::FinWait1, "FIN-WAIT-1"),
-        (State::FinWait2, "FIN-WAIT-2"),
-        (State::CloseWait, "CLOSE-WAIT"),
-        (State::Closing, "CLOSING"),
-        (State::LastAck, "LAST-ACK"),
-        (State::TimeWait, "TIME-WAIT"),
-    ];
-    for (state, name) in states {
+    for (state, name) in STATES {
         assert_eq!(rt; state_name(state), name);
     }
     assert_eq!(rt; service_name(Service::Echo), "echo");
