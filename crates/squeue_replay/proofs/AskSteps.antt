@@ -6,6 +6,7 @@ use Rattle.perimeter_core.specs.declared.entries.Entry.TheVariants.{Feed, Ask}
 use Rattle.perimeter_core.specs.Perimeter.{ends_with_ask, has_ask}
 use Rattle.perimeter_core.specs.Legal.{all_feeds, only_last_ask}
 use Rattle.perimeter_core.proofs.Room.{asks_of}
+use Rattle.perimeter_core.proofs.OwnAsk.{none_asked}
 
 pub has_ask-append : (p : ℕ) (xs ys : List Entry) → has_ask p (xs ++ ys) ≡ (has_ask p xs || has_ask p ys)
 has_ask-append p [] ys = refl
@@ -16,15 +17,6 @@ has_ask-append p (Ask q ∷ xs) ys = at (q == p) (has_ask-append p xs ys)
     at true e = refl
     at false e = e
 
-none_counted : (p : ℕ) (es : List Entry) → asks_of p es ≡ 0 → has_ask p es ≡ false
-none_counted p [] h = refl
-none_counted p (Feed c n ∷ es) h = none_counted p es h
-none_counted p (Ask q ∷ es) h = at (q == p) h (none_counted p es)
-  where
-    at : (a : Bool) → (if a then 1 else 0) + asks_of p es ≡ 0 → (asks_of p es ≡ 0 → has_ask p es ≡ false) → (a || has_ask p es) ≡ false
-    at true e f = absurd (omega (arith, e))
-    at false e f = f (omega (arith, e))
-
 pub asks_left : (j p : ℕ) (es rest : List Entry) → only_last_ask j es ≡ true → asks_of j (es ++ rest) ≤ 1
     → has_ask p rest ≡ (if ends_with_ask j es && (j == p) then false else has_ask p (es ++ rest))
 asks_left j p [] rest right one = refl
@@ -32,7 +24,7 @@ asks_left j p (Feed c n ∷ es) rest right one = asks_left j p es rest right one
 asks_left j p (Ask q ∷ []) rest right one = at (q == j) refl (j == p) refl right one
   where
     none : asks_of j rest ≡ 0 → j ≡ p → has_ask p rest ≡ false
-    none zero same = rw (← same) (none_counted j rest zero)
+    none zero same = rw (← same) (none_asked j rest zero)
 
     at : (a : Bool) → (q == j) ≡ a → (b : Bool) → (j == p) ≡ b → (a && true) ≡ true → (if a then 1 else 0) + asks_of j rest ≤ 1
         → has_ask p rest ≡ (if a && b then false else ((q == p) || has_ask p rest))

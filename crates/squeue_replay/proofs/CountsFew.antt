@@ -9,12 +9,12 @@ use Rattle.perimeter_core.specs.Legal.{Legal}
 use Rattle.perimeter_core.proofs.OneMore.{legal_ind, run_push}
 use Rattle.perimeter_core.proofs.BlocksFollow.{flags}
 use Rattle.perimeter_core.proofs.FeedOrder.{puts_away}
-use Rattle.perimeter_core.proofs.LeavesFew.{leaves_few}
+use Rattle.perimeter_core.proofs.LeavesFew.{leaves_few, left_push}
 use Rattle.perimeter_core.proofs.RingKnows.{here_step}
 use Rattle.squeue_replay.specs.Histories.{times_in}
 use Rattle.squeue_replay.specs.Standing.{SqueueOf, Stands}
 use Rattle.squeue_replay.specs.Steps.{AreFew}
-use Rattle.squeue_replay.proofs.OneMoreMark.{times_in_push, times_left_push}
+use Rattle.squeue_replay.proofs.OneMoreMark.{times_in_push}
 
 abbrev one : Bool → ℕ
 one b = if b then 1 else 0
@@ -32,7 +32,7 @@ came_after_left : (S : Setting) (H : List Element) (c : ℕ) → Legal S H → t
 came_after_left S H c l =
     legal_ind S (λ (G : List Element). times_in c (map (λ e. e.mark) G) ≤ times_left c G + one (is_here (run S G) c)) (omega arith)
     (λ G e k i m.
-    rw (times_in_push c G e, times_left_push c G e, run_push (start S) G e, here_step S (run S G) e.mark c m.range (flags (start S) G))
+    rw (times_in_push c G e, left_push c G e, run_push (start S) G e, here_step S (run S G) e.mark c m.range (flags (start S) G))
     (counted (puts_in c e.mark) (takes_out c e.mark) (is_here (run S G) c) (times_in c (map (λ x. x.mark) G)) (times_left c G)
     (λ comes. (puts_away S G (run S G) e.mark c m.act comes).0) i))
     H l

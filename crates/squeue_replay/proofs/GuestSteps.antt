@@ -15,11 +15,12 @@ use Rattle.perimeter_core.proofs.FeedLists.{feeds_of-append}
 use Rattle.perimeter_core.proofs.RingKnows.{here_step}
 use Rattle.perimeter_core.proofs.BlocksFollow.{flags}
 use Rattle.perimeter_core.proofs.OwnersReport.{none_reported}
+use Rattle.perimeter_core.proofs.LeavesFew.{left_push}
 use Rattle.conn_migrate.specs.Stays.{Stay, Stays, as_list, all_in, begun, longer_by, stays}
 use Rattle.conn_migrate.proofs.OneSqueue.{stays_push, fits}
 use Rattle.squeue_replay.specs.Standing.{GuestOf, GuestStands}
 use Rattle.squeue_replay.specs.Steps.{last_longer}
-use Rattle.squeue_replay.proofs.OneMoreMark.{times_in_push, times_left_push}
+use Rattle.squeue_replay.proofs.OneMoreMark.{times_in_push}
 
 -- a connection after a mark that is legal
 abbrev pub guest_after : ℕ → State → Element → GuestOf → GuestOf
@@ -97,7 +98,7 @@ module _ (S : Setting) (H : List Element) (e : Element) (l : Legal S H) (m : May
     here = here;
     due = ap (λ (n : ℕ). due_after c n e) stands.due ∙ sym (due_push c 0 H e);
     queued = queued;
-    left = ap (λ (n : ℕ). n + (if takes_out c e.mark then 1 else 0)) stands.left ∙ sym (times_left_push c H e);
+    left = ap (λ (n : ℕ). n + (if takes_out c e.mark then 1 else 0)) stands.left ∙ sym (left_push c H e);
     came = ap (λ (n : ℕ). n + (if puts_in c e.mark then 1 else 0)) stands.came ∙ sym (times_in_push c H e);
     did = did;
   }

@@ -13,18 +13,14 @@ use Rattle.perimeter_core.specs.History.{Element, Setting, passes, run}
 use Rattle.conn_migrate.specs.Stays.{Stay, as_list, begun}
 use Rattle.squeue_state.specs.Behind.{pairs}
 use Rattle.squeue_state.specs.declared.guarded.Quota.{Quota}
+use Rattle.squeue_serve.proofs.Lent.{some_at}
 use Rattle.squeue_replay.specs.declared.guest.Guest.{Guest}
 use Rattle.squeue_replay.specs.declared.squeue.Pass.{Pass}
 use Rattle.squeue_replay.specs.Standing.{GuestOf, GuestStands, PassOf, PassStands, SqueueOf, Stands, guest_of}
 use Rattle.squeue_replay.specs.Entering.{first_guest, first_pass}
-use Rattle.squeue_replay.proofs.QueuedFeeds.{there}
 use Rattle.squeue_replay.proofs.Reading.{kept}
 use Rattle.squeue_rings.proofs.RingStays.{from_map}
-
-none_closed : (n p : ℕ) → slice_index_or (replicate n false) p false ≡ false
-none_closed zero p = refl
-none_closed (suc n) zero = refl
-none_closed (suc n) (suc p) = none_closed n p
+use Rattle.squeue_rings.proofs.Starting.{none_closed}
 
 pass_first : (S : Setting) (p : ℕ) (x : PassOf) → slice_get (map first_pass S.quotas) p ≡ Some x → PassStands S [] p x
 pass_first S p x at =
@@ -74,7 +70,7 @@ first_stands S s own wake chain hand passes_ guests_ =
 pub over : (S : Setting) (H : List Element) (s : SqueueOf) → Stands S H s → s.own ≡ Free → s.chain ≡ [] → ((p : ℕ) (x : PassOf) → slice_get s.passes p ≡ Some x → x.closed ≡ true) → IsOver S (run S H)
 over S H s k free empty closed =
     record {
-      closed = λ p less. let x = there s.passes p (let n = k.passes in omega (arith, n, less)) in sym (k.each_pass p x.0 x.1).closed ∙ closed p x.0 x.1;
+      closed = λ p less. let x = some_at s.passes p (let n = k.passes in omega (arith, n, less)) in sym (k.each_pass p x.0 x.1).closed ∙ closed p x.0 x.1;
       free = sym k.own ∙ free;
       empty = sym k.chain ∙ empty;
     }

@@ -8,6 +8,8 @@ use Rattle.perimeter_core.specs.History.{Element, Setting, pass_of, run, start}
 use Rattle.perimeter_core.specs.Deeds.{due_after, entries_of, feeds_of, puts_in, takes_out, times_left}
 use Rattle.perimeter_core.specs.Legal.{Legal, May, ask_count, asks_by, feed_count, feeds_by}
 use Rattle.perimeter_core.proofs.OneMore.{due_push, legal_more, legal_next, run_push}
+use Rattle.perimeter_core.proofs.Quotas.{feeds_push, asks_push}
+use Rattle.perimeter_core.proofs.LeavesFew.{left_push}
 use Rattle.conn_migrate.specs.Stays.{all_in, stays}
 use Rattle.squeue_replay.specs.Histories.{note_of, noted, noted_from, times_in}
 use Rattle.squeue_replay.specs.Standing.{GuestOf, GuestStands, PassOf, PassStands, SqueueOf, Stands}
@@ -30,18 +32,6 @@ noted_marks_from squeues spread q front (x ∷ past) = ap (λ (ms : List Mark). 
 -- its marks are those that were given
 pub noted_marks : (squeues spread q : ℕ) (past : List Mark) → map (λ e. e.mark) (noted squeues spread q past) ≡ past
 noted_marks squeues spread q past = noted_marks_from squeues spread q [] past
-
-pub feeds_by_push : (p : ℕ) (H : List Element) (e : Element) → feeds_by p (H ++ e ∷ []) ≡ feeds_by p H + (if pass_of e.mark == p then feed_count (entries_of e.mark) else 0)
-feeds_by_push p [] e = omega arith
-feeds_by_push p (x ∷ H) e = omega (arith, feeds_by_push p H e)
-
-pub asks_by_push : (p : ℕ) (H : List Element) (e : Element) → asks_by p (H ++ e ∷ []) ≡ asks_by p H + (if pass_of e.mark == p then ask_count (entries_of e.mark) else 0)
-asks_by_push p [] e = omega arith
-asks_by_push p (x ∷ H) e = omega (arith, asks_by_push p H e)
-
-pub times_left_push : (c : ℕ) (H : List Element) (e : Element) → times_left c (H ++ e ∷ []) ≡ times_left c H + (if takes_out c e.mark then 1 else 0)
-times_left_push c [] e = omega arith
-times_left_push c (x ∷ H) e = omega (arith, times_left_push c H e)
 
 pub times_in_push : (c : ℕ) (H : List Element) (e : Element) → times_in c (map (λ x. x.mark) (H ++ e ∷ [])) ≡ times_in c (map (λ x. x.mark) H) + (if puts_in c e.mark then 1 else 0)
 times_in_push c [] e = omega arith
@@ -88,8 +78,8 @@ pass_more S H e passes p y stood go =
     record {
       closed = go.closed ∙ sym (ap (λ (r : State). is_closed r p) (one_step S H e));
       waiting = go.waiting ∙ sym (ap (λ (r : State). has_ask p r.hand || has_ask p r.chain) (one_step S H e));
-      feeds = omega (arith, feeds_by_push p H e, go.feeds, k.feeds);
-      asks = omega (arith, asks_by_push p H e, go.asks, k.asks);
+      feeds = omega (arith, feeds_push p H e, go.feeds, k.feeds);
+      asks = omega (arith, asks_push p H e, go.asks, k.asks);
     }
 
 guest_more : (S : Setting) (H : List Element) (e : Element) (guests : List GuestOf) (c : ℕ) (h : GuestOf)
@@ -100,7 +90,7 @@ guest_more S H e guests c h stood go =
       here = go.here ∙ sym (ap (λ (r : State). is_here r c) (one_step S H e));
       due = go.due ∙ (ap (λ (n : ℕ). due_after c n e) k.due ∙ sym (due_push c 0 H e));
       queued = go.queued ∙ sym (ap (λ (r : State). length (feeds_of c (r.hand ++ r.chain))) (one_step S H e));
-      left = omega (arith, times_left_push c H e, go.left, k.left);
+      left = omega (arith, left_push c H e, go.left, k.left);
       came = omega (arith, times_in_push c H e, go.came, k.came);
       did = go.did k.did;
     }

@@ -25,12 +25,13 @@ use Rattle.perimeter_core.proofs.HistoryLength.{closed_flags}
 use Rattle.perimeter_core.proofs.OneMore.{legal_ind, run_push}
 use Rattle.perimeter_core.proofs.OrderAndWake.{sound}
 use Rattle.perimeter_core.proofs.QueuedRange.{queued_range}
-use Rattle.perimeter_core.proofs.Quotas.{within}
+use Rattle.perimeter_core.proofs.Quotas.{within, feeds_push, asks_push, own_count}
 use Rattle.perimeter_core.proofs.Sound.{hand_free, hand_granted}
+use Rattle.squeue_serve.proofs.Lent.{some_at}
 use Rattle.squeue_replay.specs.Standing.{GuestOf, PassOf, PassStands, SqueueOf, Stands}
 use Rattle.squeue_replay.specs.Entering.{AreSmall, IsIdle, Queues, QueuesAsk}
-use Rattle.squeue_replay.proofs.OneMoreMark.{Goes, asks_by_push, feeds_by_push, stands_more}
-use Rattle.squeue_replay.proofs.QueuedFeeds.{GuestQueued, Knows, PassQueued, Queued, entries_feeds, entries_some, may_queue, queued, same_there, set_at, there}
+use Rattle.squeue_replay.proofs.OneMoreMark.{Goes, stands_more}
+use Rattle.squeue_replay.proofs.QueuedFeeds.{GuestQueued, Knows, PassQueued, Queued, entries_feeds, entries_some, may_queue, queued, same_there, set_at}
 use Rattle.squeue_replay.proofs.EnteringMarks.{IsEntering, PassEntered, entering_guest, entering_pass}
 
 -- a mark without a note
@@ -40,9 +41,6 @@ plain m = record { mark = m; note = [] }
 none_else : (b : Bool) → ◌≡◌ {A = ℕ} (if b then 0 else 0) 0
 none_else true = refl
 none_else false = refl
-
-own_part : (p n : ℕ) → (if p == p then n else 0) ≡ n
-own_part p n = let e : (p == p) ≡ true = grind (arith, nat_tests) in rw e refl
 
 -- who may enter, ask or close
 pub idle_there : (S : Setting) (H : List Element) (p : ℕ) (s : SqueueOf) → Stands S H s → IsIdle p s → Idle (run S H) p × (p < worker S)
@@ -61,7 +59,7 @@ idle_there S H p s k i =
 
 pub there_idle : (S : Setting) (H : List Element) (p : ℕ) (s : SqueueOf) → Stands S H s → Idle (run S H) p → p < worker S → IsIdle p s
 there_idle S H p s k i less =
-    let at = there s.passes p (rw k.passes less) in
+    let at = some_at s.passes p (rw k.passes less) in
     let x = k.each_pass p at.0 at.1 in
     record {
       pass = at.0;
@@ -76,20 +74,20 @@ there_idle S H p s k i less =
 quota_left : (S : Setting) (H : List Element) (m : Mark) (p : ℕ) (x : PassOf) → PassStands S H p x → pass_of m ≡ p → feed_count (entries_of m) ≤ x.feeds → ask_count (entries_of m) ≤ x.asks
     → WithinQuota S p (H ++ plain m ∷ [])
 quota_left S H m p x k is feeds asks =
-    let f = own_part p (feed_count (entries_of m)) in
-    let a = own_part p (ask_count (entries_of m)) in
+    let f = own_count p (feed_count (entries_of m)) in
+    let a = own_count p (ask_count (entries_of m)) in
     record {
-      feeds = rw feeds_by_push (rw is (omega (arith, f, k.feeds, feeds)));
-      asks = rw asks_by_push (rw is (omega (arith, a, k.asks, asks)));
+      feeds = rw feeds_push (rw is (omega (arith, f, k.feeds, feeds)));
+      asks = rw asks_push (rw is (omega (arith, a, k.asks, asks)));
     }
 
 left_quota : (S : Setting) (H : List Element) (m : Mark) (p : ℕ) (x : PassOf) → PassStands S H p x → pass_of m ≡ p → WithinQuota S p (H ++ plain m ∷ [])
     → (feed_count (entries_of m) ≤ x.feeds) × (ask_count (entries_of m) ≤ x.asks)
 left_quota S H m p x k is w =
-    let f = own_part p (feed_count (entries_of m)) in
-    let a = own_part p (ask_count (entries_of m)) in
-    let feeds = rw is at (rw feeds_by_push at w.feeds) in
-    let asks = rw is at (rw asks_by_push at w.asks) in
+    let f = own_count p (feed_count (entries_of m)) in
+    let a = own_count p (ask_count (entries_of m)) in
+    let feeds = rw is at (rw feeds_push at w.feeds) in
+    let asks = rw is at (rw asks_push at w.asks) in
     (omega (arith, f, k.feeds, feeds), omega (arith, a, k.asks, asks))
 
 -- a mark that enters nothing keeps quotas
@@ -98,7 +96,7 @@ none_entered S H m p l none =
     let w = within S p H l in
     let f : (if pass_of m == p then feed_count (entries_of m) else 0) ≡ 0 = rw none (none_else (pass_of m == p)) in
     let a : (if pass_of m == p then ask_count (entries_of m) else 0) ≡ 0 = rw none (none_else (pass_of m == p)) in
-    record { feeds = omega (arith, feeds_by_push p H (plain m), f, w.feeds); asks = omega (arith, asks_by_push p H (plain m), a, w.asks) }
+    record { feeds = omega (arith, feeds_push p H (plain m), f, w.feeds); asks = omega (arith, asks_push p H (plain m), a, w.asks) }
 
 -- what is known of the connections
 knows : (S : Setting) (H : List Element) (s : SqueueOf) → Stands S H s → Knows (run S H) (due H) s.guests
@@ -118,10 +116,10 @@ no_ask q (f ∷ fs) = no_ask q fs
 -- the feeds were no more than the pass had left
 enough : (S : Setting) (st : State) (p : ℕ) (next : ℕ → ℕ) (fs : List Feed) (s u : SqueueOf) (x : PassOf) → Queued S st p next fs s u → slice_get s.passes p ≡ Some x → feed_count (entries fs) ≤ x.feeds
 enough S st p next fs s u x r at =
-    let now = there u.passes p (rw r.passes (slice_get_within s.passes p x at)) in
+    let now = some_at u.passes p (rw r.passes (slice_get_within s.passes p x at)) in
     let y = r.each_pass p now.0 now.1 in
     let same = same_there (slice_get s.passes p) y.before x y.was at in
-    let n : (if p == p then feed_count (entries fs) else 0) ≡ feed_count (entries fs) = own_part p (feed_count (entries fs)) in
+    let n : (if p == p then feed_count (entries fs) else 0) ≡ feed_count (entries fs) = own_count p (feed_count (entries fs)) in
     omega (arith, n, y.feeds, ap (λ (v : PassOf). v.feeds) same)
 
 feed_pass : (S : Setting) (H : List Element) (m : Mark) (p : ℕ) (fs : List Feed) (passes : List PassOf) (q : ℕ) (y : PassOf) → pass_of m ≡ p → entries_of m ≡ entries fs

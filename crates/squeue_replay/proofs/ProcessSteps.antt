@@ -10,14 +10,13 @@ use Rattle.perimeter_core.specs.History.{Element, Setting, run, start, pass_of}
 use Rattle.perimeter_core.specs.Deeds.{done_by, entries_of}
 use Rattle.perimeter_core.specs.Legal.{Legal, May, WithinQuota, all_feeds, ask_count, feed_count}
 use Rattle.perimeter_core.proofs.OneMore.{legal_more, run_push}
-use Rattle.perimeter_core.proofs.Quotas.{within}
+use Rattle.perimeter_core.proofs.Quotas.{within, feeds_push, asks_push}
 use Rattle.perimeter_core.proofs.IdleKept.{feeds_no_ask}
 use Rattle.squeue_replay.specs.Standing.{GuestStands, PassOf, PassStands, SqueueOf, Stands}
 use Rattle.squeue_replay.specs.Steps.{Answered, Became, Processed, guest_fed}
 use Rattle.squeue_replay.proofs.AskSteps.{feeds_alone}
 use Rattle.squeue_replay.proofs.GuestActs.{became_same, taken_guest}
 use Rattle.squeue_replay.proofs.GuestSteps.{guest_after, guest_goes_on}
-use Rattle.squeue_replay.proofs.OneMoreMark.{asks_by_push, feeds_by_push}
 use Rattle.squeue_drain.proofs.OwnersFacts.{owner_below}
 
 no_more : (b : Bool) (n : ℕ) → n ≡ 0 → (if b then n else 0) ≡ 0
@@ -30,7 +29,7 @@ within_more S H e p l none =
     let feeds : (if pass_of e.mark == p then feed_count (entries_of e.mark) else 0) ≡ 0 = no_more (pass_of e.mark == p) _ (ap feed_count none) in
     let asks : (if pass_of e.mark == p then ask_count (entries_of e.mark) else 0) ≡ 0 = no_more (pass_of e.mark == p) _ (ap ask_count none) in
     let k = within S p H l in
-    record { feeds = omega (arith, feeds_by_push p H e, feeds, k.feeds); asks = omega (arith, asks_by_push p H e, asks, k.asks) }
+    record { feeds = omega (arith, feeds_push p H e, feeds, k.feeds); asks = omega (arith, asks_push p H e, asks, k.asks) }
 
 -- what is kept after such a mark, whose last processed entry is the Ask of pass j or none
 module _ (S : Setting) (H : List Element) (e : Element) (x y : SqueueOf) (k : Stands S H x) (m : May S H e) (ask : Bool) (j : ℕ) where
@@ -53,8 +52,8 @@ module _ (S : Setting) (H : List Element) (e : Element) (x y : SqueueOf) (k : St
       record {
         closed = ap (λ (z : PassOf). z.closed) was.2 ∙ (before.closed ∙ sym (ap (λ (r : State). is_closed r p) one_step ∙ ap (λ (l : List Bool). slice_index_or l p false) closed));
         waiting = ap (λ (z : PassOf). z.waiting) was.2 ∙ (ap (λ (w : Bool). if ask && (j == p) then false else w) before.waiting ∙ sym (ap (λ (r : State). has_ask p r.hand || has_ask p r.chain) one_step ∙ asks p));
-        feeds = omega (arith, feeds_by_push p H e, feeds, same_feeds, before.feeds);
-        asks = omega (arith, asks_by_push p H e, no_asks, same_asks, before.asks);
+        feeds = omega (arith, feeds_push p H e, feeds, same_feeds, before.feeds);
+        asks = omega (arith, asks_push p H e, no_asks, same_asks, before.asks);
       }
 
   pub goes_on : entries_of e.mark ≡ [] → (after (run S H) e.mark).closed ≡ (run S H).closed

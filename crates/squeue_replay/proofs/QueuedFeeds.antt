@@ -11,6 +11,7 @@ use Rattle.perimeter_core.specs.Perimeter.{State, is_here}
 use Rattle.perimeter_core.specs.History.{Setting, conns}
 use Rattle.perimeter_core.specs.Deeds.{entries, feeds_of}
 use Rattle.perimeter_core.specs.Legal.{Enters, EntriesInRange, all_feeds, ask_count, feed_count, one_more}
+use Rattle.squeue_serve.proofs.Lent.{some_at}
 use Rattle.squeue_replay.specs.Standing.{GuestOf, PassOf, SqueueOf}
 use Rattle.squeue_replay.specs.Entering.{AreSmall, Queues}
 
@@ -21,12 +22,6 @@ set_at (x ∷ xs) zero zero v y at = inl (refl, cc)
 set_at (x ∷ xs) zero (suc j) v y at = inr ((λ e. cc), at)
 set_at (x ∷ xs) (suc i) zero v y at = inr ((λ e. cc), at)
 set_at (x ∷ xs) (suc i) (suc j) v y at = elim (set_at xs i j v y at) [ inl w ↦ inl (ap suc w.0, w.1) | inr w ↦ inr ((λ e. w.0 cc), w.1) ]
-
--- there is something at each place slice_get_within
-pub there : {A : Type 0} (xs : List A) (i : ℕ) → i < length xs → (x : A) × (slice_get xs i ≡ Some x)
-there [] i h = absurd (omega arith)
-there (x ∷ xs) zero h = (x, refl)
-there (x ∷ xs) (suc i) h = there xs i (omega arith)
 
 pub same_there : {A : Type 0} (o : Option A) (x y : A) → o ≡ Some x → o ≡ Some y → x ≡ y
 same_there o x y a b = cc
@@ -221,7 +216,7 @@ pub may_queue : (S : Setting) (st : State) (p : ℕ) (next : ℕ → ℕ) (fs : 
     → slice_get s.passes p ≡ Some x → feed_count (entries fs) ≤ x.feeds → Enters S st p next (entries fs) → EntriesInRange S (entries fs) → (t : SqueueOf) × Queues S p fs s t
 may_queue S st p next [] s x small k seats at enough e r = (s, refl)
 may_queue S st p next (f ∷ fs) s x small k seats at enough e r =
-    let found = there s.guests f.c (rw seats r.0) in
+    let found = some_at s.guests f.c (rw seats r.0) in
     let g = found.0 in
     let now = k.each f.c g found.1 in
     let due : f.n ≡ g.due = e.2 ∙ sym now.0 in
