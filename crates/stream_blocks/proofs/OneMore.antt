@@ -1,6 +1,6 @@
 -- A stream's block that goes on by one item.
-use Rattle.std.proofs.Common.{◌≡◌, ℕ, ◌+◌, ◌-◌, ◌*◌, ◌^◌, ◌<◌, ◌≤◌, List, [], ◌∷◌, ◌++◌, zero, suc, length, map, take, drop, get_or, refl, ap, sym, ◌∙◌, subst, arith, append-nil, Result, Ok, Err}
-use Rattle.std.specs.List.{AllByRecursion, flat_map}
+use Rattle.std.proofs.Common.{◌≡◌, ℕ, ◌+◌, ◌-◌, ◌*◌, ◌^◌, ◌<◌, ◌≤◌, List, [], ◌∷◌, ◌++◌, length, map, take, drop, get_or, refl, ap, sym, ◌∙◌, subst, arith, append-nil, Result, Ok, Err}
+use Rattle.std.specs.List.{flat_map}
 use Rattle.std.specs.Result.{OnOk}
 use Rattle.std.proofs.lemmas.Grind.{flat_map-append}
 use Rattle.std.proofs.lemmas.List.{drop_more, map-append, take_all, take_more}
@@ -9,11 +9,11 @@ use Rattle.tcb_machine.specs.BlockState.{new_block, offered}
 use Rattle.chargen_service.specs.Chargen.{Entry, Generating, enters, new_generating, serves}
 use Rattle.capture_reader.specs.Limits.{latest_time}
 use Rattle.capture_reader.specs.Outcome.{CaptureFile}
-use Rattle.conn_classifier.specs.Plan.{IsInside, Rises, time_of}
+use Rattle.conn_classifier.specs.Plan.{Rises, time_of}
 use Rattle.conn_classifier.specs.declared.kinds.Item.{Item}
 use Rattle.stream_plan.specs.declared.kinds.Datagram.{Datagram}
 use Rattle.stream_plan.specs.Sound.{IsStream}
-use Rattle.stream_plan.specs.Streams.{StreamOf, item_count}
+use Rattle.stream_plan.specs.Streams.{StreamOf}
 use Rattle.stream_blocks.specs.Served.{ServedOf, answers_to, entry_of, served}
 use Rattle.stream_blocks.specs.Standing.{HasServed, IsNew, served_of}
 use Rattle.stream_blocks.specs.declared.answer.Answer.{Answer}
@@ -32,16 +32,6 @@ pub rises_next : (last most : ℕ) (xs : List Item) (n : ℕ) (x : Item) → n <
 rises_next last most xs n x lt is h =
     let now = subst (Rises last most) (drop_more xs n x lt) h in
     subst (λ (y : Item). (last ≤ time_of y) × Rises (time_of y) most (drop (n + 1) xs)) (sym is) now
-
-pub rises_most : (last most : ℕ) (xs : List Item) → Rises last most xs → last ≤ most
-rises_most last most [] h = h
-rises_most last most (x ∷ xs) h = let rest = rises_most (time_of x) most xs h.1 in omega (arith, h.0, rest)
-
--- what holds of all elements holds of the one that was read
-pub all_read : {X : Type 0} (P : X → Type 0) (xs : List X) (n : ℕ) (x : X) → n < length xs → x ≡ get_or xs n x → AllByRecursion P xs → P x
-all_read P [] n x lt is h = absurd (let no : ⊥ = omega (arith, lt) in no)
-all_read P (y ∷ ys) zero x lt is h = subst P (sym is) h.0
-all_read P (y ∷ ys) (suc n) x lt is h = all_read P ys n x (omega (arith, lt)) is h.1
 
 module _ (file : CaptureFile) (s : StreamOf) (k next : StreamBlock) (h : HasServed file s k) (had : next.had ≡ k.had + 1) where
   same_by : (f : Datagram → List Answer) (e : Item → Entry) → next.answers.items ≡ flat_map f (take next.had s.datagrams)

@@ -1,5 +1,5 @@
 -- Blocks at their places: one that goes on by a feed or is called, and new ones.
-use Rattle.std.proofs.Common.{◌≡◌, ◌≢◌, ℕ, zero, suc, ◌+◌, ◌%◌, ◌<◌, Bool, true, false, ◌==◌, ◌&&◌, nat_lt, inl, inr, if◌then◌else◌, Option, Some, None, List, [], ◌∷◌, ◌++◌, length, map, slice_get, slice_set, slice_index, slice_index_or, refl, ap, sym, ◌∙◌, subst, arith}
+use Rattle.std.proofs.Common.{◌≡◌, ◌≢◌, ℕ, zero, suc, ◌+◌, ◌%◌, ◌<◌, Bool, true, false, ◌==◌, nat_lt, inl, inr, Option, Some, None, List, [], ◌∷◌, ◌++◌, length, map, slice_get, slice_set, slice_index, slice_index_or, refl, ap, sym, ◌∙◌, subst, arith}
 use Rattle.std.proofs.lemmas.List.{append-nil}
 use Rattle.std.proofs.lemmas.Bool.{cases_eq}
 use Rattle.std.proofs.lemmas.Bool.Decides.{nat_tests}
@@ -9,45 +9,20 @@ use Rattle.perimeter_core.specs.declared.entries.Entry.TheVariants as Entry'
 use Rattle.perimeter_core.specs.Deeds.{fed, feed_numbers}
 use Rattle.perimeter_core.specs.declared.marks.SynchAct.TheVariants as Done
 use Rattle.perimeter_core.specs.Blocks.{Blocks, longer, with_feeds, with_act}
-use Rattle.perimeter_core.specs.Residing.{HadFeeds, Here, NotHere}
+use Rattle.perimeter_core.specs.Residing.{HadFeeds, Here}
 use Rattle.perimeter_core.specs.Backlog.{up}
 use Rattle.perimeter_core.proofs.FeedLists.{length-up, up-append}
-use Rattle.perimeter_core.proofs.LogSteps.{got}
+use Rattle.perimeter_core.proofs.LogSteps.{got, get_same, get_other, fed_is, some_longer, feed_numbers-append}
 use Rattle.stream_plan.specs.Sound.{IsMorePlan, IsStream}
 use Rattle.stream_plan.specs.Streams.{MorePlanOf, StreamOf, item_count}
-use Rattle.stream_plan.proofs.PlanFacts.{one_of_all, part_of_sum}
+use Rattle.stream_plan.proofs.PlanFacts.{one_of_all}
 use Rattle.stream_blocks.specs.Standing.{FirstFits, HasHad, IsNew, IsPartOf, PlaceFits, PlacesStand, first_here}
 use Rattle.stream_blocks.specs.declared.block.StreamBlock.{StreamBlock}
 use Rattle.stream_blocks.proofs.OneMore.{nothing_served}
 
-get_same : {A : Type 0} (xs : List A) (c : ℕ) (x : A) → c < length xs → slice_get (slice_set xs c x) c ≡ Some x
-get_same [] c x h = absurd (omega arith)
-get_same (y ∷ xs) zero x h = refl
-get_same (y ∷ xs) (suc c) x h = get_same xs c x (omega arith)
-
-get_other : {A : Type 0} (xs : List A) (c d : ℕ) (x : A) → c ≢ d → slice_get (slice_set xs c x) d ≡ slice_get xs d
-get_other [] c d x h = refl
-get_other (y ∷ xs) zero zero x h = absurd (h refl)
-get_other (y ∷ xs) zero (suc d) x h = refl
-get_other (y ∷ xs) (suc c) zero x h = refl
-get_other (y ∷ xs) (suc c) (suc d) x h = get_other xs c d x (λ e. h (ap suc e))
-
-numbers-append : (xs ys : List Act) → feed_numbers (xs ++ ys) ≡ feed_numbers xs ++ feed_numbers ys
-numbers-append [] ys = refl
-numbers-append (Did.Feed n ∷ xs) ys = ap (λ ns. n ∷ ns) (numbers-append xs ys)
-numbers-append (Did.Call j k ∷ xs) ys = numbers-append xs ys
-
-fed_is : (xs : List Act) → fed xs ≡ length (feed_numbers xs)
-fed_is [] = refl
-fed_is (Did.Feed n ∷ xs) = omega (arith, fed_is xs)
-fed_is (Did.Call j k ∷ xs) = fed_is xs
-
 -- a block has had as many feeds as its acts have
 pub had_is : (k : StreamBlock) (had : List Act) → HasHad k had → fed had ≡ k.had
 had_is k had h = fed_is had ∙ (ap length h ∙ length-up 0 k.had)
-
-some_longer : (o : Option (List Act)) (had more : List Act) → o ≡ Some had → longer more o ≡ Some (had ++ more)
-some_longer o had more h = rw h refl
 
 longer_none : (o : Option (List Act)) → longer [] o ≡ o
 longer_none None = refl
@@ -88,7 +63,7 @@ module _ (p : MorePlanOf) where
       let now : next.had ≡ n + 1 = omega (arith, was, more) in
       let one : (c == c) ≡ true = grind (arith, nat_tests) in
       let here : PlaceFits p c (Some (Some next)) (longer (Did.Feed n ∷ []) (blocks c)) =
-      rw (some_longer (blocks c) f.0 (Did.Feed n ∷ []) f.1) (part, numbers-append f.0 (Did.Feed n ∷ []) ∙ (ap (λ ns. ns ++ n ∷ []) f.3 ∙ (rw (was, now) (up_next n)))) in
+      rw (some_longer (blocks c) f.0 (Did.Feed n ∷ []) f.1) (part, feed_numbers-append f.0 (Did.Feed n ∷ []) ∙ (ap (λ ns. ns ++ n ∷ []) f.3 ∙ (rw (was, now) (up_next n)))) in
       places_set places c (Some next) blocks (with_feeds (Entry'.Feed c n ∷ []) blocks) lt old (rw one here)
       (λ d ne. let other : (c == d) ≡ false = grind (arith, nat_tests) in rw other (longer_none (blocks d)))
 
@@ -108,7 +83,7 @@ module _ (p : MorePlanOf) where
 
   -- a call changes nothing
   longer_fits : (c j i : ℕ) (o : Option (Option StreamBlock)) (b : Option (List Act)) → PlaceFits p c o b → PlaceFits p c o (longer (Did.Call j i ∷ []) b)
-  longer_fits c j i (Some (Some k)) (Some had) h = (h.0, numbers-append had (Did.Call j i ∷ []) ∙ (append-nil (feed_numbers had) ∙ h.1))
+  longer_fits c j i (Some (Some k)) (Some had) h = (h.0, feed_numbers-append had (Did.Call j i ∷ []) ∙ (append-nil (feed_numbers had) ∙ h.1))
   longer_fits c j i (Some (Some k)) None h = h
   longer_fits c j i (Some None) (Some had) h = h
   longer_fits c j i (Some None) None h = h

@@ -8,6 +8,7 @@ use Rattle.conn_classifier.specs.declared.kinds.Item.{Item}
 use Rattle.conn_classifier.specs.declared.kinds.Item.TheVariants.{Time}
 use Rattle.conn_classifier.specs.Items.{gap, items_after, items_of}
 use Rattle.conn_classifier.specs.Plan.{IsInside, Rises}
+use Rattle.conn_classifier.proofs.PlanLaw.{length-after}
 
 -- the segment of a record whose time is at most the last
 pub record IsIn (file : CaptureFile) (last : ℕ) (a : Arrival) : Type 0 where
@@ -22,12 +23,6 @@ gap_by last at xs P none some = by (nat_le (last + 100000) at) refl
     by : (b : Bool) → nat_le (last + 100000) at ≡ b → P (gap last at ++ xs)
     by true e = rw e some
     by false e = rw e none
-
-length-after : (at : ℕ) (arrived : List Arrival) → length (items_after at arrived) ≤ 2 * length arrived
-length-after at [] = omega arith
-length-after at (a ∷ arrived) =
-    let rest = length-after (max at a.at) arrived in
-    gap_by at (max at a.at) _ (λ l. length l ≤ 2 * length (a ∷ arrived)) (omega (arith, rest)) (omega (arith, rest))
 
 pub length-items : (last : ℕ) (arrived : List Arrival) → length (items_of last arrived) ≤ 2 * length arrived
 length-items last [] = omega arith

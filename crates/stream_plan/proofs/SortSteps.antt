@@ -2,7 +2,7 @@
 use Rattle.std.proofs.Common.{◌≡◌, ℕ, ◌+◌, ◌-◌, ◌<◌, ◌≤◌, Bool, true, false, List, [], ◌∷◌, ◌++◌, length, map, take, set, get_or, replicate, Some, None, refl, sym, ap, ◌∙◌, arith, if◌then◌else◌, append-nil, filter}
 use Rattle.std.specs.List.{position, position_from, IsDistinct}
 use Rattle.std.proofs.lemmas.Iterator.Adapters.{position_from-zero}
-use Rattle.std.proofs.lemmas.List.{map-set, length-map, length-append, get_or-map, take_more}
+use Rattle.std.proofs.lemmas.List.{length-map, length-append, take_more}
 use Rattle.sq_base.specs.declared.kinds.Tuple.{Tuple}
 use Rattle.conn_classifier.specs.Connections.{tuple_eq}
 use Rattle.stream_plan.specs.declared.kinds.Arrived.{Arrived}
@@ -11,13 +11,6 @@ use Rattle.stream_plan.specs.Sorting.{SortedOf, sorted_of}
 use Rattle.conn_classifier.proofs.Distinct.{filter_push}
 use Rattle.conn_classifier.proofs.OneKey.{grown_none, grown_some, none_any, some_any}
 use Rattle.stream_plan.proofs.TupleSteps.{same}
-
--- one list grown, seen in the lists' elements
-pub grown_at : {V X : Type 0} (f : V → List X) (vs : List V) (c : ℕ) (v w : V) (x : X) → c < length (map f vs) → v ≡ get_or vs c v → f w ≡ f v ++ x ∷ []
-    → map f (set vs c w) ≡ set (map f vs) c (get_or (map f vs) c [] ++ x ∷ [])
-grown_at f vs c v w x lt is e =
-    let less : c < length vs = omega (arith, length-map vs f) in
-    map-set f vs c w ∙ ap (set (map f vs) c) (e ∙ ap (λ l. l ++ x ∷ []) (ap f is ∙ sym (get_or-map f vs c v [] less)))
 
 -- how many pass, one element further
 count_true : {X : Type 0} (p : X → Bool) (xs : List X) (x : X) → p x ≡ true → length (filter p (xs ++ x ∷ [])) ≡ length (filter p xs) + 1

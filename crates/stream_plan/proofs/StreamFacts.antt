@@ -1,16 +1,15 @@
 -- What holds of each record that is served, and so of each stream.
-use Rattle.std.proofs.Common.{◌≡◌, ℕ, ◌+◌, ◌<◌, ◌≤◌, ◌==◌, ◌||◌, max, Bool, true, false, inl, inr, ◌⊎◌, List, [], ◌∷◌, ◌++◌, suc, zero, length, map, filter, fold, Option, Some, None, IfSome, slice_get, refl, sym, ap, subst, ◌∙◌, arith, if◌then◌else◌}
-use Rattle.std.specs.List.{AllByRecursion, filter_map}
+use Rattle.std.proofs.Common.{◌≡◌, ℕ, ◌+◌, ◌<◌, ◌≤◌, ◌==◌, max, Bool, true, false, inl, inr, ◌⊎◌, List, [], ◌∷◌, suc, zero, length, map, Option, Some, None, IfSome, slice_get, refl, sym, ap, subst, ◌∙◌, arith}
+use Rattle.std.specs.List.{AllByRecursion}
 use Rattle.std.proofs.lemmas.Bool.Decides.{nat_tests}
 use Rattle.sq_base.specs.declared.kinds.Tuple.{Tuple}
 use Rattle.segment_codec.specs.declared.packet.Packet.{Packet}
 use Rattle.segment_codec.specs.declared.packet.Packet.TheVariants as packet
 use Rattle.segment_codec.specs.Packet.{packet_in}
-use Rattle.capture_reader.specs.CaptureFile.{Packet as Captured, last_time}
+use Rattle.capture_reader.specs.CaptureFile.{Packet as Captured}
 use Rattle.capture_reader.specs.Outcome.{CaptureFile}
 use Rattle.udp_codec.specs.declared.datagram.Udp.{Udp}
 use Rattle.udp_codec.specs.UdpDatagram.{udp_in}
-use Rattle.conn_classifier.specs.Connections.{tuple_eq}
 use Rattle.conn_classifier.specs.Items.{items_of}
 use Rattle.conn_classifier.specs.Plan.{Climbs}
 use Rattle.conn_classifier.proofs.TextWithin.{EndsWithin, text_within}
@@ -18,7 +17,7 @@ use Rattle.stream_plan.specs.declared.kinds.Arrived.{Arrived}
 use Rattle.stream_plan.specs.declared.kinds.Datagram.{Datagram}
 use Rattle.stream_plan.specs.declared.kinds.Found.{Found}
 use Rattle.stream_plan.specs.declared.kinds.Found.TheVariants as found
-use Rattle.stream_plan.specs.Streams.{arrived_from, datagrams_of, is_of, of_stream, rising, segments_of, served_in, served_of, served_tcp, served_udp, stream_in, tuple_of}
+use Rattle.stream_plan.specs.Streams.{arrived_from, datagrams_of, is_of, of_stream, rising, segments_of, served_in, served_tcp, served_udp, stream_in, tuple_of}
 use Rattle.stream_plan.specs.Sound.{HasService, HasText, IsStream}
 use Rattle.stream_plan.proofs.ItemFacts.{IsIn, items_inside, items_rise, some_items}
 use Rattle.stream_plan.proofs.TupleSteps.{same}

@@ -50,12 +50,6 @@ module _ (xs : List Arrived) (i : ℕ) (x : Arrived) (lt : i < length xs) (here 
         sym (ap (λ l. ss ++ segments_of l) (split xs i x lt here)
         ∙ ap (λ f. ss ++ segments_of (record { rec = x.rec; at = x.at; found = f } ∷ drop (i + 1) xs)) is) ∙ so_far
 
-pub dropped : {A : Type 0} (xs : List A) (i : ℕ) → length xs ≤ i → drop i xs ≡ []
-dropped [] zero le = refl
-dropped [] (suc i) le = refl
-dropped (x ∷ xs) zero le = absurd (let no : ⊥ = omega (arith, le) in no)
-dropped (x ∷ xs) (suc i) le = dropped xs i (omega (arith, le))
-
 -- a stream for each pair of ends, one further
 stream_at : (last : ℕ) (ts : List Tuple) (ls : List (List Arrived)) (i : ℕ) (t : Tuple) (l : List Arrived) → slice_get ts i ≡ Some t → i < length ls → l ≡ get_or ls i l
     → slice_get (streams_in last ts ls) i ≡ Some (stream_in last t l)
@@ -76,11 +70,6 @@ length-streams : (last : ℕ) (ts : List Tuple) (ls : List (List Arrived)) → l
 length-streams last [] ls = omega arith
 length-streams last (t ∷ ts) [] = omega arith
 length-streams last (t ∷ ts) (l ∷ ls) = omega (arith, length-streams last ts ls)
-
-pub few_streams : (last : ℕ) (ts : List Tuple) (ls : List (List Arrived)) → length (streams_in last ts ls) ≤ length ts
-few_streams last [] ls = omega arith
-few_streams last (t ∷ ts) [] = omega arith
-few_streams last (t ∷ ts) (l ∷ ls) = omega (arith, few_streams last ts ls)
 
 pub all_streams : {V : Type 0} (f : V → List Arrived) (last : ℕ) (ts : List Tuple) (vs : List V) (i : ℕ) → length vs ≤ i → take i (streams_in last ts (map f vs)) ≡ streams_in last ts (map f vs)
 all_streams f last ts vs i le = take_all i (streams_in last ts (map f vs)) (omega (arith, le, length-map vs f, length-streams last ts (map f vs)))

@@ -1,5 +1,5 @@
 -- All streams together have few items, at most two for each record; and what holds of every plan.
-use Rattle.std.proofs.Common.{◌≡◌, ℕ, ◌+◌, ◌*◌, ◌<◌, ◌≤◌, not, ◌&&◌, ◌==◌, max, Bool, true, false, List, [], ◌∷◌, ◌++◌, suc, zero, length, map, take, filter, fold, sum_by, Option, Some, None, slice_get, refl, sym, ap, subst, ◌∙◌, arith, eq-eqb}
+use Rattle.std.proofs.Common.{◌≡◌, ℕ, ◌+◌, ◌*◌, ◌<◌, ◌≤◌, not, Bool, true, false, List, [], ◌∷◌, suc, length, map, filter, sum_by, Option, Some, None, slice_get, refl, sym, ap, ◌∙◌, arith}
 use Rattle.std.specs.List.{AllByRecursion, IsDistinct}
 use Rattle.std.proofs.lemmas.List.{length-map}
 use Rattle.std.proofs.lemmas.List.Sums.{sum_by-cons}
@@ -7,89 +7,16 @@ use Rattle.sq_base.specs.declared.kinds.Tuple.{Tuple}
 use Rattle.capture_reader.specs.CaptureFile.{Packet as Captured, last_time}
 use Rattle.capture_reader.specs.Outcome.{CaptureFile}
 use Rattle.conn_classifier.specs.Connections.{distinct, tuple_eq}
-use Rattle.conn_classifier.specs.Items.{items_of}
+use Rattle.conn_classifier.proofs.PlanLaw.{all_to, all_take, all_map, all_distinct, same_tuple, times_from, apart_take, apart_distinct}
 use Rattle.stream_plan.specs.declared.kinds.Arrived.{Arrived}
-use Rattle.stream_plan.specs.declared.kinds.Datagram.{Datagram}
 use Rattle.stream_plan.specs.declared.kinds.Found.{Found}
 use Rattle.stream_plan.specs.declared.kinds.Found.TheVariants as found
-use Rattle.stream_plan.specs.Streams.{StreamOf, arrivals_of, arrived_from, datagrams_of, is_of, item_count, more_plan_of, of_stream, rising, segments_of, served_in, stream_in, tuple_of, tuples_in}
+use Rattle.stream_plan.specs.Streams.{arrivals_of, arrived_from, datagrams_of, is_of, item_count, more_plan_of, of_stream, segments_of, served_in, stream_in, tuple_of, tuples_in}
 use Rattle.stream_plan.specs.Sound.{IsMorePlan, IsStream}
 use Rattle.stream_plan.proofs.ItemFacts.{length-items}
 use Rattle.stream_plan.proofs.StreamFacts.{IsFound, all_found, all_here, length-rising, stream_is}
 use Rattle.stream_plan.proofs.StreamSteps.{none_or_all}
 use Rattle.stream_plan.proofs.TupleSteps.{few_tuples, same}
-
--- what holds of all elements holds of all of a part
-all_to : {X : Type 0} (P Q : X → Type 0) → ((x : X) → P x → Q x) → (xs : List X) → AllByRecursion P xs → AllByRecursion Q xs
-all_to P Q f [] h = tt
-all_to P Q f (x ∷ xs) h = (f x h.0, all_to P Q f xs h.1)
-
-all_take : {X : Type 0} (P : X → Type 0) (n : ℕ) (xs : List X) → AllByRecursion P xs → AllByRecursion P (take n xs)
-all_take P zero xs h = tt
-all_take P (suc n) [] h = tt
-all_take P (suc n) (x ∷ xs) h = (h.0, all_take P n xs h.1)
-
-all_filter : {X : Type 0} (P : X → Type 0) (p : X → Bool) (xs : List X) → AllByRecursion P xs → AllByRecursion P (filter p xs)
-all_filter P p [] h = tt
-all_filter P p (x ∷ xs) h = by (p x) refl (all_filter P p xs h.1)
-  where
-    by : (b : Bool) → p x ≡ b → AllByRecursion P (filter p xs) → AllByRecursion P (filter p (x ∷ xs))
-    by true e rest = rw e (h.0, rest)
-    by false e rest = rw e rest
-
-all_map : {X Y : Type 0} (P : Y → Type 0) (f : X → Y) (xs : List X) → AllByRecursion (λ x. P (f x)) xs → AllByRecursion P (map f xs)
-all_map P f [] h = tt
-all_map P f (x ∷ xs) h = (h.0, all_map P f xs h.1)
-
-all_distinct : (P : Tuple → Type 0) (ts : List Tuple) → AllByRecursion P ts → AllByRecursion P (distinct ts)
-all_distinct P [] h = tt
-all_distinct P (t ∷ ts) h = (h.0, all_filter P (λ u. not (tuple_eq u t)) (distinct ts) (all_distinct P ts h.1))
-
-both : (a b : Bool) → a ≡ true → b ≡ true → (a && b) ≡ true
-both a b e f = rw (e, f) refl
-
-same_tuple : (t : Tuple) → tuple_eq t t ≡ true
-same_tuple t = both _ _ (same t.client.0) (both _ _ (same t.client_port) (both _ _ (same t.server.0) (same t.server_port)))
-  where
-    same : (n : ℕ) → (n == n) ≡ true
-    same n = eq-eqb n n refl
-
--- the streams are different
-apart_filter : (p : Tuple → Bool) (ts : List Tuple) → IsDistinct tuple_eq ts → IsDistinct tuple_eq (filter p ts)
-unfolding IsDistinct
-apart_filter p [] h = tt
-apart_filter p (t ∷ ts) h = by (p t) refl (apart_filter p ts h.1)
-  where
-    by : (b : Bool) → p t ≡ b → IsDistinct tuple_eq (filter p ts) → IsDistinct tuple_eq (filter p (t ∷ ts))
-    by true e rest = rw e (all_filter (λ u. tuple_eq t u ≡ false) p ts h.0, rest)
-    by false e rest = rw e rest
-
-apart_take : (n : ℕ) (ts : List Tuple) → IsDistinct tuple_eq ts → IsDistinct tuple_eq (take n ts)
-unfolding IsDistinct
-apart_take zero ts h = tt
-apart_take (suc n) [] h = tt
-apart_take (suc n) (t ∷ ts) h = (all_take (λ u. tuple_eq t u ≡ false) n ts h.0, apart_take n ts h.1)
-
-other_way : (t u : Tuple) → tuple_eq u t ≡ false → tuple_eq t u ≡ false
-other_way t u e = by (tuple_eq t u) refl
-  where
-    by : (b : Bool) → tuple_eq t u ≡ b → tuple_eq t u ≡ false
-    by true q = absurd (let both : tuple_eq u t ≡ true = ap (tuple_eq u) (same t u q) ∙ same_tuple u in let no : ⊥ = cc in no)
-    by false q = q
-
-all_others : (t : Tuple) (us : List Tuple) → AllByRecursion (λ u. tuple_eq t u ≡ false) (filter (λ u. not (tuple_eq u t)) us)
-all_others t [] = tt
-all_others t (u ∷ us) = by (tuple_eq u t) refl (all_others t us)
-  where
-    by : (b : Bool) → tuple_eq u t ≡ b → AllByRecursion (λ u. tuple_eq t u ≡ false) (filter (λ u. not (tuple_eq u t)) us)
-        → AllByRecursion (λ u. tuple_eq t u ≡ false) (filter (λ u. not (tuple_eq u t)) (u ∷ us))
-    by true e rest = rw e rest
-    by false e rest = rw e (other_way t u e, rest)
-
-apart_distinct : (ts : List Tuple) → IsDistinct tuple_eq (distinct ts)
-unfolding IsDistinct
-apart_distinct [] = tt
-apart_distinct (t ∷ ts) = (all_others t (distinct ts), apart_filter (λ u. not (tuple_eq u t)) (distinct ts) (apart_distinct ts))
 
 apart_tuples : (xs : List Arrived) → IsDistinct tuple_eq (tuples_in xs)
 unfolding tuples_in
@@ -165,15 +92,6 @@ each_here (x ∷ xs) = (first_here x xs, all_to _ _ (one_more x xs) (map (λ x. 
 all_some : (xs : List Arrived) → AllByRecursion (λ t. 0 < length (of_stream t xs)) (tuples_in xs)
 unfolding tuples_in
 all_some xs = all_take _ 4096 (distinct (map (λ x. tuple_of x.found) xs)) (all_distinct _ (map (λ x. tuple_of x.found) xs) (each_here xs))
-
--- no record is later than the last time
-below_from : (a : ℕ) (rs : List Captured) → a ≤ fold max a (map (λ r. r.time) rs)
-below_from a [] = omega arith
-below_from a (r ∷ rs) = omega (arith, below_from (max a r.time) rs)
-
-times_from : (a : ℕ) (rs : List Captured) → AllByRecursion (λ r. r.time ≤ fold max a (map (λ r. r.time) rs)) rs
-times_from a [] = tt
-times_from a (r ∷ rs) = (omega (arith, below_from (max a r.time) rs), times_from (max a r.time) rs)
 
 length-arrived : (file : CaptureFile) (n : ℕ) (rs : List Captured) → length (arrived_from file.link n rs) ≤ length rs
 length-arrived file n [] = omega arith

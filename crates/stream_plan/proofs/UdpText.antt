@@ -1,5 +1,5 @@
 -- A datagram's text lies within its record's body, and is short.
-use Rattle.std.proofs.Common.{◌≡◌, ℕ, ◌+◌, ◌-◌, ◌*◌, ◌≤◌, ◌&&◌, ◌||◌, ◌==◌, nat_le, min, Bool, true, false, List, length, take, drop, Option, None, Some, bit_and, refl, ap, subst, arith, if◌then◌else◌, length-drop}
+use Rattle.std.proofs.Common.{◌≡◌, ℕ, ◌+◌, ◌≤◌, ◌&&◌, ◌||◌, ◌==◌, nat_le, Bool, true, false, List, length, take, drop, Option, None, Some, bit_and, refl, subst, arith, length-drop}
 use Rattle.std.proofs.lemmas.List.{length-take}
 use Rattle.std.proofs.lemmas.Bool.Decides.{nat_tests}
 use Rattle.sq_base.specs.declared.kinds.Link.{Link}

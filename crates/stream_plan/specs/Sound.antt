@@ -1,5 +1,5 @@
 -- What holds of every plan of streams.
-use Rattle.std.specs.Prelude.{◌≡◌, ℕ, ◌+◌, ◌*◌, ◌<◌, ◌≤◌, ◌⊎◌, IfSome, List, [], length, map, slice_get, sum_by}
+use Rattle.std.specs.Prelude.{◌≡◌, ◌+◌, ◌*◌, ◌<◌, ◌≤◌, ◌⊎◌, IfSome, [], length, map, slice_get, sum_by}
 use Rattle.std.specs.List.{AllByRecursion}
 use Rattle.capture_reader.specs.Limits.{latest_time, most_records}
 use Rattle.capture_reader.specs.Outcome.{CaptureFile}

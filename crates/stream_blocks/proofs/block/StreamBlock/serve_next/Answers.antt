@@ -1,4 +1,4 @@
-use Rattle.std.proofs.Common.{◌≡◌, ℕ, ◌+◌, ◌-◌, ◌^◌, ◌<◌, ◌≤◌, List, ◌++◌, length, drop, get_or, refl, ap, sym, ◌∙◌, subst, arith}
+use Rattle.std.proofs.Common.{◌≡◌, ◌+◌, ◌-◌, ◌^◌, ◌<◌, ◌≤◌, List, ◌++◌, length, drop, get_or, refl, ap, ◌∙◌, arith}
 use Rattle.std.proofs.lemmas.List.{get_or_default}
 use Rattle.std.proofs.lemmas.Result.{on_ok_weaker}
 use Rattle.byte_queues.specs.ReceiveQueue.{next_of}
@@ -9,9 +9,10 @@ use Rattle.chargen_service.specs.Chargen.{enters}
 use Rattle.conn_classifier.specs.Plan.{time_of}
 use Rattle.conn_classifier.specs.declared.kinds.Item.{Item}
 use Rattle.conn_classifier.specs.declared.kinds.Item.TheVariants.{Time}
+use Rattle.conn_classifier.proofs.PlanFacts.{rises_most}
 use Rattle.stream_plan.specs.declared.kinds.Datagram.{Datagram}
 use Rattle.stream_blocks.specs.Served.{answers_to, entry_of}
-use Rattle.stream_blocks.proofs.OneMore.{on_ok_of_four, one_datagram, one_item, rises_most, rises_next}
+use Rattle.stream_blocks.proofs.OneMore.{on_ok_of_four, one_datagram, one_item, rises_next}
 use Rattle.stream_blocks.proofs.block.StreamBlock.serve_next.Goals as goal
 
 pub enter-requires-clause-time : goal.enter-requires-clause-time

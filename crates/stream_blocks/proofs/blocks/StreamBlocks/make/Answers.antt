@@ -1,4 +1,4 @@
-use Rattle.std.proofs.Common.{◌≡◌, ℕ, ◌+◌, Option, List, [], ◌∷◌, length, sym, ap, subst, arith}
+use Rattle.std.proofs.Common.{◌+◌, Option, List, [], ◌∷◌, length, sym, ap, subst, arith}
 use Rattle.std.proofs.lemmas.List.{length-append}
 use Rattle.stream_blocks.specs.Standing.{PlacesStand, first_here}
 use Rattle.stream_blocks.specs.declared.block.StreamBlock.{StreamBlock}

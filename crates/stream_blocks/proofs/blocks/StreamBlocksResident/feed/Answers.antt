@@ -1,4 +1,4 @@
-use Rattle.std.proofs.Common.{◌≡◌, ◌<◌, Some, slice_get, ap, sym, ◌∙◌, subst, arith}
+use Rattle.std.proofs.Common.{◌≡◌, Some, ap, sym, ◌∙◌, subst, arith}
 use Rattle.capture_reader.specs.Outcome.{CaptureFile}
 use Rattle.perimeter_core.proofs.LogSteps.{got, here_of_feeds}
 use Rattle.stream_plan.specs.Sound.{IsStream}

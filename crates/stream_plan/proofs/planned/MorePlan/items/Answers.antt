@@ -1,4 +1,4 @@
-use Rattle.std.proofs.Common.{◌≡◌, ◌+◌, ◌≤◌, length, sym, ap, ◌∙◌, arith}
+use Rattle.std.proofs.Common.{length, ap, arith}
 use Rattle.stream_plan.specs.Streams.{StreamOf, item_count}
 use Rattle.stream_plan.proofs.PlanFacts.{part_of_sum}
 use Rattle.stream_plan.proofs.planned.MorePlan.items.Goals as goal

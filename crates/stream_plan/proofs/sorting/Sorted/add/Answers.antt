@@ -1,6 +1,6 @@
 use Rattle.std.proofs.Common.{◌+◌, ◌<◌, [], ◌∷◌, ◌++◌, length, set, get_or, ap, sym, subst, ◌∙◌}
+use Rattle.conn_classifier.proofs.SortLemmas.{grown_at}
 use Rattle.stream_plan.specs.Sorting.{SortedOf}
-use Rattle.stream_plan.proofs.SortSteps.{grown_at}
 use Rattle.stream_plan.proofs.sorting.Sorted.add.Goals as goal
 
 pub returns : goal.returns
