@@ -5,8 +5,8 @@ use Rattle.std.specs.Prelude.{slice_get}
 use Rattle.perimeter_core.specs.declared.marks.Mark.{Mark}
 use Rattle.perimeter_core.specs.Perimeter.{State, after, has_ask, is_closed, is_here}
 use Rattle.perimeter_core.specs.History.{Element, Setting, pass_of, run, start}
-use Rattle.perimeter_core.specs.Deeds.{due_after, entries_of, feeds_of, puts_in, takes_out, times_left}
-use Rattle.perimeter_core.specs.Legal.{Legal, May, ask_count, asks_by, feed_count, feeds_by}
+use Rattle.perimeter_core.specs.Deeds.{due_after, entries_of, feeds_of, puts_in, takes_out}
+use Rattle.perimeter_core.specs.Legal.{Legal, May, ask_count, feed_count}
 use Rattle.perimeter_core.proofs.OneMore.{due_push, legal_more, legal_next, run_push}
 use Rattle.perimeter_core.proofs.Quotas.{feeds_push, asks_push}
 use Rattle.perimeter_core.proofs.LeavesFew.{left_push}

@@ -590,12 +590,6 @@ may_ask S H p s k may =
     let r = may_asks S H (On.Ask p) p s k refl refl may.idle less may in
     ((λ e. may.step (sym k.own ∙ e)), r.0, r.1)
 
-pub may_accept : (S : Setting) (H : List Element) (p : ℕ) (s : SqueueOf) → Stands S H s → May S H (plain (On.Accept p)) → s.own ≡ Granted p
-may_accept S H p s k may = k.own ∙ may.step
-
-pub may_work : (S : Setting) (H : List Element) (p : ℕ) (s : SqueueOf) → Stands S H s → May S H (plain (On.Work p)) → (s.own ≡ Free) × (s.wake ≡ true) × (p ≡ worker S)
-may_work S H p s k may = (k.own ∙ may.step.0, k.wake ∙ may.step.1, may.step.2)
-
 pub may_close : (S : Setting) (H : List Element) (p : ℕ) (s : SqueueOf) → Stands S H s → May S H (plain (On.Close p)) → IsIdle p s
 may_close S H p s k may =
     let less : p < worker S = other_less p (worker S) may.range.0 may.worker_only in
