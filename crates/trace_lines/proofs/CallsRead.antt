@@ -2,13 +2,12 @@
 use Rattle.std.proofs.Common.{arith, ◌≡◌, ℕ, zero, suc, ◌+◌, ◌^◌, ◌<◌, ◌≤◌, All, List, [], ◌∷◌, ◌++◌, length, get_or, set, refl, subst, ◌∙◌, sym, ap, append_assoc, length-append}
 use Rattle.std.specs.List.{enumerate_from, flat_map}
 use Rattle.std.proofs.lemmas.List.{append-nil, length-set}
-use Rattle.std.proofs.lemmas.List.Elements.{All-cons}
+use Rattle.std.proofs.lemmas.List.Elements.{All-cons, All-head, All-tail, All-nil}
 use Rattle.tcb_machine.specs.declared.kinds.Call.{Call}
 use Rattle.conn_blocks.specs.CallLists.{CallLists, call_count, calls_of}
 use Rattle.squeue_report.specs.TraceText.{call_line, calls_text, thread_text}
 use Rattle.trace_lines.specs.Printed.{ArePrintedCalls, BeginsWithCall, IsPrintedCall}
 use Rattle.trace_lines.proofs.CallLines.{BeginsWith, begins, below_conns, printed_below, printed_wider, same_call}
-use Rattle.trace_lines.proofs.MarkLists.{all_head, all_none, all_tail}
 
 abbrev pub EachCall : ℕ → List (ℕ × Call) → Type 0
 EachCall conns [] = Unit {0}
@@ -23,18 +22,18 @@ ArePrintedOn conns l = All (IsPrintedCall conns) l
 
 each_call : (conns : ℕ) (l : List (ℕ × Call)) → All (IsPrintedCall conns) l → EachCall conns l
 each_call conns [] h = tt
-each_call conns (x ∷ xs) h = (all_head (IsPrintedCall conns) x xs h, each_call conns xs (all_tail (IsPrintedCall conns) x xs h))
+each_call conns (x ∷ xs) h = (All-head (IsPrintedCall conns) x xs h, each_call conns xs (All-tail (IsPrintedCall conns) x xs h))
 
 all_calls : (conns : ℕ) (l : List (ℕ × Call)) → EachCall conns l → All (IsPrintedCall conns) l
-all_calls conns [] h = all_none (IsPrintedCall conns)
+all_calls conns [] h = All-nil (IsPrintedCall conns)
 all_calls conns (x ∷ xs) h = All-cons (IsPrintedCall conns) x xs h.0 (all_calls conns xs h.1)
 
 each_thread : (conns : ℕ) (ls : CallLists) → All (ArePrintedOn conns) ls → EachThread conns ls
 each_thread conns [] h = tt
-each_thread conns (l ∷ ls) h = (each_call conns l (all_head (ArePrintedOn conns) l ls h), each_thread conns ls (all_tail (ArePrintedOn conns) l ls h))
+each_thread conns (l ∷ ls) h = (each_call conns l (All-head (ArePrintedOn conns) l ls h), each_thread conns ls (All-tail (ArePrintedOn conns) l ls h))
 
 all_threads : (conns : ℕ) (ls : CallLists) → EachThread conns ls → All (ArePrintedOn conns) ls
-all_threads conns [] h = all_none (ArePrintedOn conns)
+all_threads conns [] h = All-nil (ArePrintedOn conns)
 all_threads conns (l ∷ ls) h = All-cons (ArePrintedOn conns) l ls (all_calls conns l h.0) (all_threads conns ls h.1)
 
 -- threads without calls, and those above thread j

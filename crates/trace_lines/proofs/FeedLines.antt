@@ -1,5 +1,5 @@
 -- Feeds of a line that are read one after another.
-use Rattle.std.proofs.Common.{arith, ◌≡◌, ◌≢◌, ℕ, ◌<◌, List, [], ◌∷◌, ◌++◌, map, codes, length, refl, subst, ◌∙◌, sym, ap, append_assoc, length-append}
+use Rattle.std.proofs.Common.{arith, ◌≡◌, ◌≢◌, ℕ, List, [], ◌∷◌, ◌++◌, map, codes, refl, subst, ◌∙◌, sym, ap, append_assoc}
 use Rattle.std.specs.Fmt.{decimal}
 use Rattle.perimeter_core.specs.declared.entries.Feed.{Feed as FeedOf}
 use Rattle.perimeter_core.specs.declared.entries.Entry.{Entry}
@@ -9,14 +9,11 @@ use Rattle.squeue_report.specs.ReportText.{line}
 use Rattle.squeue_report.specs.TraceText.{entered_field}
 use Rattle.squeue_replay.specs.Marks.{AreFeeds, IsSmall}
 use Rattle.trace_lines.specs.Forms.{filled}
-use Rattle.trace_lines.proofs.Numbers.{same_numbers}
+use Rattle.trace_lines.proofs.Numbers.{same_numbers, tail_same}
 
 -- a feed, and what stands behind it
 pub feed_joined : (c n end : ℕ) (t : List ℕ) → (decimal c ++ 46 ∷ (decimal n ++ end ∷ [])) ++ t ≡ decimal c ++ 46 ∷ (decimal n ++ end ∷ t)
 feed_joined c n end t = simp append_assoc
-
-pub entry_joined : (c n : ℕ) (l : List ℕ) → (decimal c ++ 46 ∷ decimal n) ++ l ≡ decimal c ++ 46 ∷ (decimal n ++ l)
-entry_joined c n l = simp append_assoc
 
 -- feeds at the front of a line
 pub line_more : (c n : ℕ) (es : List Entry) (t : List ℕ) → es ≢ [] → line (map entered_field (Feed c n ∷ es)) ++ t ≡ filled (codes "#.# ") (c ∷ n ∷ []) ++ (line (map entered_field es) ++ t)
@@ -50,16 +47,6 @@ pub record FeedsRead (text : List ℕ) (feeds : List FeedOf) (rest : List ℕ) :
   pub small : AreFeeds (entries feeds)
   pub found : (es : List Entry) (t : List ℕ) → es ≢ [] → rest ≡ line (map entered_field es) ++ t → text ≡ line (map entered_field (entries feeds ++ es)) ++ t
   pub owed : (es : List Entry) (t : List ℕ) → es ≢ [] → AreFeeds es → text ≡ line (map entered_field es) ++ t → (due : List Entry) × ((due ≢ []) × AreFeeds due × (rest ≡ line (map entered_field due) ++ t))
-
-pub feeds_none : (text : List ℕ) → FeedsRead text [] text
-feeds_none text = record {
-  small = tt;
-  found = λ es t some e. e;
-  owed = λ es t some feeds e. (es, (some, feeds, e));
-}
-
-tail_same : (b : ℕ) (xs ys : List ℕ) → b ∷ xs ≡ b ∷ ys → xs ≡ ys
-tail_same b xs ys e = cc
 
 -- what is owed behind a feed and a space
 owed_behind : (c n : ℕ) (rest others t : List ℕ) (due : List Entry) → IsSmall c → IsSmall n → rest ≡ filled (codes "#.# ") (c ∷ n ∷ []) ++ others → due ≢ [] → AreFeeds due
@@ -121,9 +108,3 @@ pub feeds_fail : (text rest : List ℕ) (feeds : List FeedOf) → FeedsRead text
 feeds_fail text rest feeds r more last es t some small e =
     let due = r.owed es t some small e in
     owed_none rest t due.0 more last due.1.0 due.1.1 due.1.2
-
--- what stands behind a feed is shorter
-pub shorter : (c n : ℕ) (rest others : List ℕ) → rest ≡ filled (codes "#.# ") (c ∷ n ∷ []) ++ others → length others < length rest
-shorter c n rest others e =
-    let all = ap length (e ∙ feed_joined c n 32 others) in
-    omega (arith, simp length-append at all)

@@ -6,7 +6,7 @@ use Rattle.std.proofs.lemmas.Grind.{common_steps}
 use Rattle.std.proofs.lemmas.List.{append-nil, take_more_set}
 use Rattle.trace_lines.specs.Fields.{BeginsWithNumber, ends_number}
 use Rattle.trace_lines.specs.Forms.{is_blank, filled, blank_count, AreSmall, ends_blank, is_form}
-use Rattle.trace_lines.proofs.Numbers.{same_numbers, same_rest}
+use Rattle.trace_lines.proofs.Numbers.{same_numbers, same_rest, tail_same}
 
 filled_blank : (b n : ℕ) (form ns : List ℕ) → is_blank b ≡ true → filled (b ∷ form) (n ∷ ns) ≡ decimal n ++ filled form ns
 filled_blank b n form ns is = rw is refl
@@ -70,9 +70,6 @@ one_way_blank b form is ih (n ∷ ns) (m ∷ ms) a c proper ln lm sn sm e =
     let others = ih ns ms a c (rest_of_form b form proper) (omega (arith, count_blank b form is, ln)) (omega (arith, count_blank b form is, lm)) sn.1 sm.1 read.1 in
     (ap₂ (λ x l. x ∷ l) read.0 others.0, others.1)
 
-tail_same : (b : ℕ) (xs ys : List ℕ) → b ∷ xs ≡ b ∷ ys → xs ≡ ys
-tail_same b xs ys e = cc
-
 one_way_byte : (b : ℕ) (form : List ℕ) → is_blank b ≡ false → IsOneWay form → IsOneWay (b ∷ form)
 one_way_byte b form is ih ns ms a c proper ln lm sn sm e =
     let here : filled form ns ++ a ≡ filled form ms ++ c = tail_same b _ _ (sym (byte_first b form ns a is) ∙ (e ∙ byte_first b form ms c is)) in
@@ -99,16 +96,6 @@ pub record IsRead (text form left numbers rest : List ℕ) (count n : ℕ) : Typ
   pub small : AreSmall (take count numbers)
   pub found : (ms t : List ℕ) → rest ≡ filled left ms ++ t → text ≡ filled form (take count numbers ++ ms) ++ t
   pub owed : (ns t : List ℕ) → length ns ≡ n → AreSmall ns → text ≡ filled form ns ++ t → (ms : List ℕ) × ((length ms ≡ blank_count left) × AreSmall ms × (rest ≡ filled left ms ++ t))
-
-pub read_none : (text form numbers : List ℕ) (n : ℕ) → is_form form ≡ true → blank_count form ≡ n → length numbers ≡ n → IsRead text form form numbers text 0 n
-read_none text form numbers n proper blanks size = record {
-  proper = proper;
-  room = omega (arith, blanks);
-  size = size;
-  small = tt;
-  found = λ ms t e. e;
-  owed = λ ns t l s e. (ns, (l ∙ sym blanks, s, e));
-}
 
 all_taken : (numbers : List ℕ) → take (length numbers) numbers ≡ numbers
 all_taken numbers = grind (arith, common_steps)
@@ -164,14 +151,6 @@ read_blank text form left numbers rest others b m count n r is small begins =
           (next.others, (next.count, next.smalls, same_rest rest m next.number others (filled left next.others ++ t) (omega (arith, small)) (omega (arith, next.small)) begins next.begins));
     }
 
--- a blank without a number
-pub blank_fails : (text form left numbers rest : List ℕ) (b count n : ℕ) → IsRead text form (b ∷ left) numbers rest count n → is_blank b ≡ true
-    → ((m : ℕ) (after : List ℕ) → m < 2 ^ 32 → BeginsWithNumber rest m after → ⊥) → (ns t : List ℕ) → length ns ≡ n → AreSmall ns → text ≡ filled form ns ++ t → ⊥
-blank_fails text form left numbers rest b count n r is none ns t l s e =
-    let due = r.owed ns t l s e in
-    let next = next_number b rest left due.0 t r.proper is due.1.0 due.1.1 due.1.2 in
-    none next.number (filled left next.others ++ t) next.small next.begins
-
 -- a byte is read
 pub read_byte : (text form left numbers rest others : List ℕ) (b count n : ℕ) → IsRead text form (b ∷ left) numbers rest count n → is_blank b ≡ false → rest ≡ b ∷ others → IsRead text form left numbers others count n
 read_byte text form left numbers rest others b count n r is here = record {
@@ -184,13 +163,6 @@ read_byte text form left numbers rest others b count n r is here = record {
       let due = r.owed ns t l s e in
       (due.0, (due.1.0 ∙ count_byte b left is, due.1.1, tail_same b _ _ (sym here ∙ (due.1.2 ∙ byte_first b left due.0 t is))));
 }
-
--- another byte
-pub byte_fails : (text form left numbers rest : List ℕ) (b count n : ℕ) → IsRead text form (b ∷ left) numbers rest count n → is_blank b ≡ false
-    → ((after : List ℕ) → rest ≡ b ∷ after → ⊥) → (ns t : List ℕ) → length ns ≡ n → AreSmall ns → text ≡ filled form ns ++ t → ⊥
-byte_fails text form left numbers rest b count n r is none ns t l s e =
-    let due = r.owed ns t l s e in
-    none (filled left due.0 ++ t) (due.1.2 ∙ byte_first b left due.0 t is)
 
 pub blank_is : (b : ℕ) → b ≡ 35 → is_blank b ≡ true
 blank_is b h = rw h refl

@@ -15,7 +15,7 @@ use Rattle.squeue_replay.specs.declared.marks.Step.{Step}
 use Rattle.squeue_replay.specs.declared.marks.Step.TheVariants as step
 use Rattle.squeue_replay.specs.Marks.{mark_by, AreFeeds, IsPrinted, IsPrintedAct, IsSmall}
 use Rattle.trace_lines.specs.Forms.{filled, blank_count, is_form, AreSmall}
-use Rattle.trace_lines.proofs.Numbers.{same_numbers}
+use Rattle.trace_lines.proofs.Numbers.{same_numbers, tail_same}
 use Rattle.trace_lines.proofs.Filled.{one_way}
 
 pub take_line : (p : ℕ) (t : List ℕ) → mark_line (On.Take p) ++ t ≡ filled (codes "take #\n") (p ∷ []) ++ t
@@ -128,9 +128,6 @@ leave_rest text rest t q p left a f h e =
 pub leave_fails_later : (text rest : List ℕ) (q : ℕ) → IsSmall q × (text ≡ filled (codes "leave # ") (q ∷ []) ++ rest) → ((n : ℕ) (t : List ℕ) → n < 2 ^ 64 → rest ≡ decimal n ++ 32 ∷ t → ⊥)
     → (p left : ℕ) (a : SynchAct) (t : List ℕ) → IsPrinted (On.Leave p left a) → text ≡ mark_line (On.Leave p left a) ++ t → ⊥
 leave_fails_later text rest q f none p left a t h e = none left (line (act_fields a) ++ t) h.1 (leave_rest text rest t q p left a f h e)
-
-tail_same : (b : ℕ) (xs ys : List ℕ) → b ∷ xs ≡ b ∷ ys → xs ≡ ys
-tail_same b xs ys e = cc
 
 pub leave_fails_last : (text rest others : List ℕ) (q n : ℕ) → IsSmall q × (text ≡ filled (codes "leave # ") (q ∷ []) ++ rest) → (n < 2 ^ 64) × (rest ≡ decimal n ++ 32 ∷ others)
     → ((a : SynchAct) (t : List ℕ) → IsPrintedAct a → others ≡ line (act_fields a) ++ t → ⊥)

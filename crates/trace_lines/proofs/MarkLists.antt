@@ -1,12 +1,12 @@
 -- The mark lines of squeues, read one after another.
-use Rattle.std.proofs.Common.{arith, ◌≡◌, ◌≢◌, ℕ, suc, ◌+◌, ◌-◌, ◌^◌, ◌<◌, All, Bool, true, false, Decides, eqb, eq-eqb, List, [], ◌∷◌, ◌++◌, map, take, codes, length, get_or, refl, subst, ◌∙◌, sym, ap, ap₂, append_assoc, length-append}
+use Rattle.std.proofs.Common.{arith, ◌≡◌, ◌≢◌, ℕ, ◌+◌, ◌-◌, ◌^◌, ◌<◌, All, Bool, true, false, Decides, eqb, eq-eqb, List, [], ◌∷◌, ◌++◌, map, take, codes, length, get_or, refl, subst, ◌∙◌, sym, ap, ap₂, append_assoc, length-append}
 use Rattle.std.specs.List.{enumerate_from, flat_map}
 use Rattle.std.specs.Fmt.{decimal}
 use Rattle.std.specs.Cmp.Lexicographic.{pointwise}
 use Rattle.std.proofs.lemmas.Bool.{eqb-true}
 use Rattle.std.proofs.lemmas.Slice.Eq.{slice_eq-Decides}
 use Rattle.std.proofs.lemmas.List.{append-nil}
-use Rattle.std.proofs.lemmas.List.Elements.{All-cons}
+use Rattle.std.proofs.lemmas.List.Elements.{All-cons, All-head, All-tail, All-nil}
 use Rattle.std.proofs.Math.Seq.{take-append_seam}
 use Rattle.perimeter_core.specs.declared.marks.Mark.{Mark}
 use Rattle.squeue_report.specs.ReportText.{done_line}
@@ -14,19 +14,9 @@ use Rattle.squeue_report.specs.TraceText.{mark_line, squeue_line, squeue_text}
 use Rattle.squeue_replay.specs.Marks.{IsPrinted}
 use Rattle.trace_lines.specs.Forms.{filled}
 use Rattle.trace_lines.specs.Printed.{ArePrintedMarks}
-use Rattle.trace_lines.proofs.Numbers.{same_numbers}
+use Rattle.trace_lines.proofs.Numbers.{same_numbers, tail_same}
 use Rattle.trace_lines.proofs.Filled.{one_way}
 use Rattle.trace_lines.proofs.MarkOnce.{line_same}
-
--- the head and the tail of a list whose elements all have a property
-pub all_head : {X : Type 0} (P : X → Type 0) (x : X) (xs : List X) → All P (x ∷ xs) → P x
-all_head P x xs h = h 0 x (omega arith)
-
-pub all_tail : {X : Type 0} (P : X → Type 0) (x : X) (xs : List X) → All P (x ∷ xs) → All P xs
-all_tail P x xs h = λ k d l. h (suc k) d (omega (arith, l))
-
-pub all_none : {X : Type 0} (P : X → Type 0) → All P []
-all_none P = λ k d l. absurd (omega (arith, l))
 
 abbrev pub EachPrinted : List Mark → Type 0
 EachPrinted [] = Unit {0}
@@ -34,10 +24,10 @@ EachPrinted (m ∷ ms) = IsPrinted m × EachPrinted ms
 
 pub each_of : (ms : List Mark) → All IsPrinted ms → EachPrinted ms
 each_of [] h = tt
-each_of (m ∷ ms) h = (all_head IsPrinted m ms h, each_of ms (all_tail IsPrinted m ms h))
+each_of (m ∷ ms) h = (All-head IsPrinted m ms h, each_of ms (All-tail IsPrinted m ms h))
 
 pub all_of : (ms : List Mark) → EachPrinted ms → All IsPrinted ms
-all_of [] h = all_none IsPrinted
+all_of [] h = All-nil IsPrinted
 all_of (m ∷ ms) h = All-cons IsPrinted m ms h.0 (all_of ms h.1)
 
 each_push : (ms : List Mark) (m : Mark) → EachPrinted ms → IsPrinted m → EachPrinted (ms ++ m ∷ [])
@@ -53,12 +43,6 @@ lines_push (k ∷ ms) m t =
 pub record MarksRead (text rest : List ℕ) (left count : ℕ) : Type 0 where
   pub some : (ms : List Mark) × (EachPrinted ms × (length ms + left ≡ count) × (text ≡ flat_map mark_line ms ++ rest))
   pub owed : (ms : List Mark) (t : List ℕ) → EachPrinted ms → length ms ≡ count → text ≡ flat_map mark_line ms ++ t → (due : List Mark) × (EachPrinted due × (length due ≡ left) × (rest ≡ flat_map mark_line due ++ t))
-
-pub marks_none : (text : List ℕ) (count : ℕ) → MarksRead text text count count
-marks_none text count = record {
-  some = ([], (tt, omega arith, refl));
-  owed = λ ms t h l e. (ms, (h, l, e));
-}
 
 owed_behind : (rest others t : List ℕ) (left : ℕ) (m : Mark) (due : List Mark) → 0 < left → IsPrinted m → rest ≡ mark_line m ++ others → EachPrinted due → length due ≡ left → rest ≡ flat_map mark_line due ++ t
     → (ms : List Mark) × (EachPrinted ms × (length ms ≡ left - 1) × (others ≡ flat_map mark_line ms ++ t))
@@ -95,9 +79,6 @@ marks_all text rest left count r none = (r.some.0, all_of r.some.0 r.some.1.0, o
 pub squeue_form : (q n : ℕ) (t : List ℕ) → squeue_line q n ++ t ≡ filled (codes "squeue # marks ") (q ∷ []) ++ (decimal n ++ 10 ∷ t)
 unfolding squeue_line
 squeue_form q n t = simp append_assoc
-
-tail_same : (b : ℕ) (xs ys : List ℕ) → b ∷ xs ≡ b ∷ ys → xs ≡ ys
-tail_same b xs ys e = cc
 
 squeue_same : (q p n m : ℕ) (t u : List ℕ) → q < 2 ^ 32 → p < 2 ^ 32 → n < 2 ^ 64 → m < 2 ^ 64 → squeue_line q n ++ t ≡ squeue_line p m ++ u → (q ≡ p) × (n ≡ m) × (t ≡ u)
 squeue_same q p n m t u sq sp sn sm e =
@@ -139,14 +120,14 @@ ArePrinted ms = All IsPrinted ms
 
 lists_of : (l : List (List Mark)) → All IsFew l → All ArePrinted l → AreLists l
 lists_of [] f h = tt
-lists_of (ms ∷ l) f h = (all_head IsFew ms l f, each_of ms (all_head ArePrinted ms l h), lists_of l (all_tail IsFew ms l f) (all_tail ArePrinted ms l h))
+lists_of (ms ∷ l) f h = (All-head IsFew ms l f, each_of ms (All-head ArePrinted ms l h), lists_of l (All-tail IsFew ms l f) (All-tail ArePrinted ms l h))
 
 few_of : (l : List (List Mark)) → AreLists l → All IsFew l
-few_of [] h = all_none IsFew
+few_of [] h = All-nil IsFew
 few_of (ms ∷ l) h = All-cons IsFew ms l h.0 (few_of l h.2)
 
 printed_of : (l : List (List Mark)) → AreLists l → All ArePrinted l
-printed_of [] h = all_none ArePrinted
+printed_of [] h = All-nil ArePrinted
 printed_of (ms ∷ l) h = All-cons ArePrinted ms l (all_of ms h.1) (printed_of l h.2)
 
 lists_push : (l : List (List Mark)) (ms : List Mark) → AreLists l → length ms < 2 ^ 64 → EachPrinted ms → AreLists (l ++ ms ∷ [])
@@ -180,12 +161,6 @@ same_lists (m ∷ ms) (d ∷ ds) t u h g l e =
 pub record SqueuesRead (text rest : List ℕ) (lines : List (List ℕ)) (q squeues : ℕ) : Type 0 where
   pub some : (l : List (List Mark)) × (AreLists l × (length l ≡ q) × (text ≡ text_from 0 l ++ rest) × (lines ≡ map (flat_map mark_line) l))
   pub owed : (l : List (List Mark)) → AreLists l → length l ≡ squeues → text ≡ text_from 0 l ++ done_line → (due : List (List Mark)) × (AreLists due × (q + length due ≡ squeues) × (rest ≡ text_from q due ++ done_line))
-
-pub squeues_none : (text : List ℕ) (squeues : ℕ) → SqueuesRead text text [] 0 squeues
-squeues_none text squeues = record {
-  some = ([], (tt, refl, refl, refl));
-  owed = λ l h n e. (l, (h, omega (arith, n), e));
-}
 
 squeue_joined : (q : ℕ) (ds : List Mark) (x t : List ℕ) → (squeue_text (q, ds) ++ x) ++ t ≡ squeue_line q (length ds) ++ (flat_map mark_line ds ++ (x ++ t))
 squeue_joined q ds x t = simp append_assoc

@@ -164,3 +164,7 @@ same_numbers n m a c small also ends stops e =
 -- what stands behind a text's number
 pub same_rest : (text : List ℕ) (n m : ℕ) (a c : List ℕ) → n < 2 ^ 64 → m < 2 ^ 64 → BeginsWithNumber text n a → BeginsWithNumber text m c → a ≡ c
 same_rest text n m a c small also h k = ap (λ x. x.1) (sym (scan_number text n a small h) ∙ scan_number text m c also k)
+
+-- what stands behind one and the same byte
+pub tail_same : (b : ℕ) (xs ys : List ℕ) → b ∷ xs ≡ b ∷ ys → xs ≡ ys
+tail_same b xs ys e = cc
