@@ -2,12 +2,11 @@
 use Rattle.std.proofs.Common.{◌≡◌, ℕ, ◌≤◌, Bool, true, false, Option, Some, None, refl, subst, ◌&&◌, if◌then◌else◌}
 use Rattle.std.specs.Prelude.{option_map, option_and_then, nat_le}
 use Rattle.std.specs.Str.Parse.{digits_value}
-use Rattle.std.proofs.lemmas.Bool.{leb-true, false≢true}
+use Rattle.std.proofs.lemmas.Bool.{leb-true}
+use Rattle.squeue_state.proofs.Finish.{some_is}
 use Rattle.squeue_run.specs.Words.{Text}
 use Rattle.squeue_run.specs.Asked.{number_between, is_number}
-
-pub some_is : {A : Type 0} {x y : A} → Some x ≡ Some y → x ≡ y
-some_is e = cc
+use Rattle.squeue_run.proofs.Uses.{and_left, and_right}
 
 pub record Chained {A B : Type 0} (f : A → Option B) (o : Option A) (y : B) : Type 0 where
   pub value : A
@@ -31,18 +30,10 @@ pub guarded : {A : Type 0} (b : Bool) (o : Option A) (y : A) → (if b then o el
 guarded true o y e = (refl, e)
 guarded false o y e = absurd (let no : ⊥ = cc in no)
 
-pub first_of_both : (a b : Bool) → (a && b) ≡ true → a ≡ true
-first_of_both true b e = refl
-first_of_both false b e = absurd (false≢true e)
-
-second_of_both : (a b : Bool) → (a && b) ≡ true → b ≡ true
-second_of_both true b e = e
-second_of_both false b e = absurd (false≢true e)
-
 pub number_within : (least most : ℕ) (text : Text) (n : ℕ) → number_between least most text ≡ Some n → (least ≤ n) × (n ≤ most)
 number_within least most text n e =
     let m = digits_value 10 text in
     let g = guarded (is_number text && (nat_le least m && nat_le m most)) (Some m) n e in
-    let tests = second_of_both (is_number text) (nat_le least m && nat_le m most) g.0 in
+    let tests = and_right (is_number text) (nat_le least m && nat_le m most) g.0 in
     let Within : ℕ → Type 0 = λ k. (least ≤ k) × (k ≤ most) in
-    subst Within (some_is g.1) (leb-true least m (first_of_both (nat_le least m) (nat_le m most) tests), leb-true m most (second_of_both (nat_le least m) (nat_le m most) tests))
+    subst Within (some_is g.1) (leb-true least m (and_left (nat_le least m) (nat_le m most) tests), leb-true m most (and_right (nat_le least m) (nat_le m most) tests))

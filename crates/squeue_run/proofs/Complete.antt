@@ -16,7 +16,7 @@ use Rattle.squeue_run.specs.CallWords.{AllThere, IsFirstMissing}
 use Rattle.squeue_run.specs.Ran.{Accepts, AcceptsBy, HasRead, HoldsCapture, HasRan, IsDone, IsLongTrace, IsServable, RanBy, RanFor, RanGenerated, RanRead, Reads, conns_of, marks_in, most_marks}
 use Rattle.squeue_run.specs.declared.calls.CallWord.{CallWord}
 
-same_file : (f g : CaptureFile) → f.bytes ≡ g.bytes → contents_of f ≡ contents_of g → f ≡ g
+pub same_file : (f g : CaptureFile) → f.bytes ≡ g.bytes → contents_of f ≡ contents_of g → f ≡ g
 same_file f g bytes contents =
     ap (λ b. record { bytes = b; link = f.link; packets = f.packets; cut = f.cut }) bytes
     ∙ ap (λ c. record { bytes = g.bytes; link = c.link; packets = c.packets; cut = c.cut }) contents

@@ -3,16 +3,13 @@ use Rattle.std.proofs.Common.{◌≡◌, ◌∙◌, Bool, cond, true, false, ref
 use Rattle.clap.specs.Words.{Kinds, Row, fault_of}
 use Rattle.clap.specs.Walk.{Rule, has_row, is_empty, nothing_held, settled, walk, walk_from, with_default}
 use Rattle.clap.specs.Kinds.{or_else}
-use Rattle.clap.specs.Faults.{check_fault, default_fault, defaults_fault, given_default_fault, settle_fault, walk_fault}
+use Rattle.clap.specs.Faults.{default_fault, defaults_fault, given_default_fault, settle_fault, walk_fault}
 use Rattle.clap.specs.Simple.{built, filled, with_index}
 use Rattle.clap.proofs.FaultLemmas.{leaf_fault}
 use Rattle.clap.proofs.OnLiterals.{clap_on_literals}
 use Rattle.squeue_run.specs.Command.{calls_rule, command_app, flag_rule, option_rule}
 use Rattle.squeue_run.specs.Words.{Text}
 use Rattle.squeue_run.proofs.Names.{rules_built, shape_built}
-
-pub no_check_fault : (rows : List Row) → check_fault shape_built rows false ≡ []
-no_check_fault rows = refl
 
 abbrev Quiet : Rule → Type 0
 Quiet a = (rows : List Row) → default_fault rows a ≡ []

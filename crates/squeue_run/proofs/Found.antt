@@ -92,7 +92,7 @@ has_row-push id (x ∷ xs) r = ap (λ b. bytes_eq x.id id || b) (has_row-push id
     go true = refl
     go false = refl
 
-has_row-look : (id : Text) (rows : List Row) → has_row id rows ≡ is_some (look id rows)
+pub has_row-look : (id : Text) (rows : List Row) → has_row id rows ≡ is_some (look id rows)
 has_row-look id [] = refl
 has_row-look id (r ∷ rs) = go (bytes_eq r.id id) (has_row-look id rs)
   where

@@ -9,15 +9,13 @@ use Rattle.segment_codec.specs.declared.packet.Reply.{Reply}
 use Rattle.segment_codec.specs.SegmentBytes.{segment_bytes, option_bytes, ip_with, tcp_with, ip_sum, tcp_sum}
 use Rattle.squeue_run.specs.GeneratedCapture.{below, text_len, sent_before, round_text, text_before, segment_at, ends_of, record_of, record_at, round_before, rounds_before, file_header, generated}
 use Rattle.squeue_run.proofs.GeneratorSteps.{text_at_len, all_sent}
-
-tcp_size : (t : Tuple) (r : Reply) (sum : ℕ) → option_bytes r ≡ [] → length (tcp_with t r sum) ≡ 20 + length r.text
-tcp_size t r sum none = omega (arith, length-append (option_bytes r) r.text, ap length none)
+use Rattle.squeue_run.proofs.Records.{tcp_len}
 
 segment_size : (t : Tuple) (r : Reply) → option_bytes r ≡ [] → length (segment_bytes t r) ≡ 40 + length r.text
 unfolding segment_bytes
 segment_size t r none =
     let total = 20 + length (tcp_with t r 0) in
-    omega (arith, length-append (ip_with t total (ip_sum t total)) (tcp_with t r (tcp_sum t r)), tcp_size t r (tcp_sum t r) none)
+    omega (arith, length-append (ip_with t total (ip_sum t total)) (tcp_with t r (tcp_sum t r)), tcp_len t r (tcp_sum t r) none)
 
 pub body_size : (number round c : ℕ) → length (segment_bytes (ends_of c) (segment_at number round c)) ≡ 40 + text_len round c
 unfolding segment_at

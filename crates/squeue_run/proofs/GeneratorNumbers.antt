@@ -1,20 +1,16 @@
 -- The numbers of a round's segment, arm by arm.
 use Rattle.std.proofs.Common.{◌≡◌, ℕ, ◌+◌, ◌-◌, ◌%◌, ◌^◌, ◌<◌, ◌≤◌, Bool, true, false, cond, eqb, leb, refl, sym, ap, subst, ◌∙◌, arith}
-use Rattle.std.proofs.lemmas.Bool.{eqb-true, leb-true, le-leb}
+use Rattle.std.proofs.lemmas.Bool.{eqb-true, leb-true, le-leb, false_from_ne_true}
 use Rattle.squeue_run.specs.declared.generator.Client.{Client}
 use Rattle.squeue_run.specs.GeneratedCapture.{Numbers, numbers_at, isn, iss, sent_before, text_len, echoed}
 use Rattle.squeue_run.specs.GeneratorState.{client_at}
 use Rattle.squeue_run.proofs.GeneratorSteps.{all_sent}
 
-not_true : (b : Bool) → (b ≡ true → ⊥) → b ≡ false
-not_true true h = absurd (h refl)
-not_true false h = refl
-
 other : (a b : ℕ) → (a ≡ b → ⊥) → eqb a b ≡ false
-other a b h = not_true (eqb a b) (λ e. h (eqb-true a b e))
+other a b h = false_from_ne_true (eqb a b) (λ e. h (eqb-true a b e))
 
 above : (a b : ℕ) → b < a → leb a b ≡ false
-above a b h = not_true (leb a b) (λ e. let le : a ≤ b = leb-true a b e in omega arith)
+above a b h = false_from_ne_true (leb a b) (λ e. let le : a ≤ b = leb-true a b e in omega arith)
 
 -- the rows
 abbrev pub text_row : ℕ → ℕ → ℕ → Numbers

@@ -1,23 +1,20 @@
 -- One step of the generator: a draw, a byte of text, a record, a round.
 use Rattle.std.proofs.Common.{◌≡◌, ℕ, ◌+◌, ◌/◌, ◌%◌, ◌^◌, ◌<◌, ◌≤◌, Bool, true, false, ◌&&◌, cond, eqb, leb, List, [], ◌∷◌, ◌++◌, suc, zero, length, map, get_or, sum_by}
 use Rattle.std.proofs.Common.{refl, ap, subst, ◌∙◌, append_assoc, length-append, arith, add-one}
-use Rattle.std.specs.List.{flat_map, range_with_len, list_all}
+use Rattle.std.specs.List.{flat_map, list_all}
 use Rattle.std.proofs.lemmas.List.{append-nil, length-map}
 use Rattle.std.proofs.lemmas.List.FromFn.{length-range_with_len, get_or-range_with_len}
 use Rattle.std.proofs.lemmas.List.Sums.{sum_by-append}
 use Rattle.std.proofs.lemmas.List.Folds.{list_all_at}
-use Rattle.std.proofs.lemmas.Bool.{eqb-true, leb-true}
+use Rattle.std.proofs.lemmas.Bool.{eqb-true, leb-true, false_from_ne_true}
 use Rattle.std.proofs.lemmas.Grind.{flat_map-append}
+use Rattle.ring_quotas.proofs.Moving.{range_more}
 use Rattle.squeue_run.specs.GeneratedCapture.{below, next_state, state_at, draw, text_len, sent_before, round_text, text_before, drawn_text, text_at, record_at, round_before, rounds_before}
 
 pub ruleset joins = (append_assoc, length-append)
 
-range_end : (a n : ℕ) → range_with_len a (suc n) ≡ range_with_len a n ++ (a + n) ∷ []
-range_end a zero = ap (λ k. k ∷ []) (let e : a ≡ a + 0 = omega arith in e)
-range_end a (suc n) = ap (λ l. a ∷ l) (range_end (a + 1) n ∙ ap (λ k. range_with_len (a + 1) n ++ k ∷ []) (let e : a + 1 + n ≡ a + suc n = omega arith in e))
-
 pub below_next : (n : ℕ) → below (n + 1) ≡ below n ++ n ∷ []
-below_next n = rw add-one (range_end 0 n ∙ ap (λ k. below n ++ k ∷ []) (let e : 0 + n ≡ n = omega arith in e))
+below_next n = rw add-one (range_more 0 n ∙ ap (λ k. below n ++ k ∷ []) (let e : 0 + n ≡ n = omega arith in e))
 
 flat_more : (f : ℕ → List ℕ) (n : ℕ) → flat_map f (below (n + 1)) ≡ flat_map f (below n) ++ f n
 flat_more f n = ap (flat_map f) (below_next n) ∙ flat_map-append f (below n) (n ∷ []) ∙ ap (λ l. flat_map f (below n) ++ l) (append-nil (f n))
@@ -82,10 +79,6 @@ sums_98 : list_all (λ e. eqb (sent_before 98 e) 4656) (below 96) ≡ true
 unfolding sent_before text_len
 sums_98 = refl
 
-not_true : (b : Bool) → (b ≡ true → ⊥) → b ≡ false
-not_true true h = absurd (h refl)
-not_true false h = refl
-
 all_below : (p : ℕ → Bool) (n e : ℕ) → e < n → list_all p (below n) ≡ true → p e ≡ true
 all_below p n e lt h = at (p e) refl
   where
@@ -107,7 +100,7 @@ sent_98 c =
 no_text : (round c : ℕ) → 98 ≤ round → text_len round c ≡ 0
 unfolding text_len
 no_text round c past =
-    ap (λ b. cond (leb 2 round && b) (1 + (c + round) % 96) 0) (not_true (leb round 97) (λ h. let le : round ≤ 97 = leb-true round 97 h in omega arith))
+    ap (λ b. cond (leb 2 round && b) (1 + (c + round) % 96) 0) (false_from_ne_true (leb round 97) (λ h. let le : round ≤ 97 = leb-true round 97 h in omega arith))
     ∙ same (leb 2 round)
   where
     same : (b : Bool) → cond (b && false) (1 + (c + round) % 96) 0 ≡ 0

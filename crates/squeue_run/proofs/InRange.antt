@@ -2,9 +2,10 @@
 use Rattle.std.proofs.Common.{◌≡◌, ℕ, ◌≤◌, Bool, List, Option, Some, None, ap, subst, arith}
 use Rattle.ring_quotas.specs.Quotas.{IsInRange}
 use Rattle.ring_quotas.specs.declared.setup.Setup.{Setup}
+use Rattle.squeue_state.proofs.Finish.{some_is}
 use Rattle.squeue_run.specs.Words.{Text, given}
 use Rattle.squeue_run.specs.Asked.{Asked, asked, asked_by, calls_of, go_together, input_of, mode_or_process, number_or, setup_by, setup_of}
-use Rattle.squeue_run.proofs.Chains.{some_is, chained, mapped, guarded, number_within}
+use Rattle.squeue_run.proofs.Chains.{chained, mapped, guarded, number_within}
 
 -- a default lies in its range too
 within : (default least most : ℕ) (text : Option Text) (n : ℕ) → least ≤ default → default ≤ most → number_or default least most text ≡ Some n → (least ≤ n) × (n ≤ most)

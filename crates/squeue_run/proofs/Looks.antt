@@ -1,9 +1,9 @@
 -- clap's lexer sees what the plain definition sees.
-use Rattle.std.proofs.Common.{◌≡◌, Bool, cond, true, false, refl, [], ◌∷◌, Option, Some, None, ◌==◌, ◌&&◌, is_some, sym}
+use Rattle.std.proofs.Common.{◌≡◌, Bool, cond, true, false, refl, [], ◌∷◌, Option, Some, None, ◌==◌, ◌&&◌}
 use Rattle.std.specs.Prelude.{option_and_then}
 use Rattle.std.specs.List.{list_any, after_first}
 use Rattle.std.specs.Str.{bytes_eq}
-use Rattle.clap.specs.Lexer.{long_of, long_of_rest, short_of, short_of_rest, strip_byte}
+use Rattle.clap.specs.Lexer.{long_of, long_of_rest, strip_byte}
 use Rattle.squeue_run.specs.Words.{Look, Text, dashed, end, look_after_hyphen, look_of, look_of_name, name_in, named, plain, valued}
 
 abbrev pub long_in : Look → Option (Text × Option Text)
@@ -64,37 +64,4 @@ end_is (x ∷ xs) = go (x == 45)
   where
     go : (b : Bool) → (b && bytes_eq xs (45 ∷ [])) ≡ is_end (cond b (look_after_hyphen xs) plain)
     go true = end_after xs
-    go false = refl
-
-abbrev is_plain : Look → Bool
-is_plain plain = true
-is_plain _ = false
-
-abbrev is_dashed : Look → Bool
-is_dashed dashed = true
-is_dashed _ = false
-
-no_dash : (xs : Text) → is_dashed (look_of_name xs) ≡ false
-no_dash [] = refl
-no_dash (x ∷ xs) = go (list_any (λ c. c == 61) (x ∷ xs))
-  where
-    go : (b : Bool) → is_dashed (cond b (valued (name_in (x ∷ xs)) (after_first (λ c. c == 61) (x ∷ xs))) (named (name_in (x ∷ xs)))) ≡ false
-    go true = refl
-    go false = refl
-
-short_after : (xs : Text) → is_some (short_of_rest xs) ≡ is_dashed (look_after_hyphen xs)
-short_after [] = refl
-short_after (x ∷ xs) = go (x == 45)
-  where
-    go : (b : Bool) → is_some (cond b None (Some (x ∷ xs))) ≡ is_dashed (cond b (look_of_name xs) dashed)
-    go true = sym (no_dash xs)
-    go false = refl
-
--- a bundle of short flags, of which there are none, is what begins with one hyphen and goes on
-pub short_is : (w : Text) → is_some (short_of w) ≡ is_dashed (look_of w)
-short_is [] = refl
-short_is (x ∷ xs) = go (x == 45)
-  where
-    go : (b : Bool) → is_some (option_and_then short_of_rest (cond b (Some xs) None)) ≡ is_dashed (cond b (look_after_hyphen xs) plain)
-    go true = short_after xs
     go false = refl

@@ -1,5 +1,5 @@
 -- What clap's matches say of accepted words.
-use Rattle.std.proofs.Common.{◌≡◌, ◌∙◌, Bool, cond, true, false, refl, sym, ap, subst, codes, List, [], ◌∷◌, ◌++◌, Option, Some, None, ◌&&◌, ◌||◌, is_some, fold}
+use Rattle.std.proofs.Common.{◌≡◌, ◌∙◌, Bool, cond, true, false, refl, sym, ap, subst, codes, List, [], ◌∷◌, ◌++◌, Option, Some, None, ◌&&◌, is_some, fold}
 use Rattle.std.specs.Prelude.{option_map, option_and_then, slice_get, unwrap_or}
 use Rattle.std.specs.List.{list_all, list_any}
 use Rattle.std.specs.Str.{bytes_eq}
@@ -12,7 +12,7 @@ use Rattle.squeue_run.specs.Command.{calls_rule, command_app, flag_rule, flag_te
 use Rattle.squeue_run.specs.Words.{Given, Text, Use, accepted, given, given_by, is_known, is_option, names_of, sets, stand_once, uses_from, value_of}
 use Rattle.squeue_run.proofs.Agree.{Readable, end_of, from_front, quiet_from}
 use Rattle.squeue_run.proofs.Ends.{fault_is}
-use Rattle.squeue_run.proofs.Found.{look, look_flag, look_none, look_option, look_other, set_row, value_row, values_calls}
+use Rattle.squeue_run.proofs.Found.{look, look_flag, look_none, look_option, look_other, set_row, value_row, values_calls, has_row-look}
 use Rattle.squeue_run.proofs.Names.{rules_built, shape_built}
 use Rattle.squeue_run.proofs.Once.{accepted_fine}
 use Rattle.squeue_run.proofs.Rows.{fresh, find_last}
@@ -63,21 +63,13 @@ look_default n name rows e = go (has_row n rows)
 look_defaults : (name : Text) (rows : List Row) → bytes_eq (codes "verify") name ≡ false → bytes_eq (codes "trace") name ≡ false → look name (with_flags rows) ≡ look name rows
 look_defaults name rows e f = look_default (codes "trace") name (with_flag (codes "verify") rows) f ∙ look_default (codes "verify") name rows e
 
-has_look : (id : Text) (rows : List Row) → has_row id rows ≡ is_some (look id rows)
-has_look id [] = refl
-has_look id (r ∷ rs) = go (bytes_eq r.id id) (has_look id rs)
-  where
-    go : (b : Bool) → has_row id rs ≡ is_some (look id rs) → (b || has_row id rs) ≡ is_some (cond b (Some r) (look id rs))
-    go true more = refl
-    go false more = more
-
 one_default : (n : Text) → bytes_eq n n ≡ true → (b : Bool) (rows : List Row) → look n rows ≡ set_row n b → one_of n (with_flag n rows) ≡ Some (flag_text b)
 one_default n own true rows e =
-    let has : has_row n rows ≡ true = has_look n rows ∙ ap is_some e in
+    let has : has_row n rows ≡ true = has_row-look n rows ∙ ap is_some e in
     ap (λ (b : Bool). one_of n (cond b rows (with_values n (reading_by (filled (flag_rule n))) DefaultValue (codes "false" ∷ []) rows))) has
     ∙ ap (λ (o : Option Row). option_and_then row_text o) e
 one_default n own false rows e =
-    let has : has_row n rows ≡ false = has_look n rows ∙ ap is_some e in
+    let has : has_row n rows ≡ false = has_row-look n rows ∙ ap is_some e in
     ap (λ (b : Bool). one_of n (cond b rows (with_values n (reading_by (filled (flag_rule n))) DefaultValue (codes "false" ∷ []) rows))) has
     ∙ (ap (one_of n) (fresh n (more_values DefaultValue (codes "false" ∷ [])) _ rows has)
     ∙ ap (λ (o : Option Row). option_and_then row_text o) (find_last (λ (r : Row). bytes_eq r.id n) rows _ own (look_none n rows has)))

@@ -8,8 +8,5 @@ pub record Decides (n : ℕ) (whole rest : List CallWord) : Type 0 where
   pub there : AllThere n rest → AllThere n whole
   pub missing : (c : ℕ) → IsFirstMissing n c rest → IsFirstMissing n c whole
 
-pub begins : (n : ℕ) (whole : List CallWord) → Decides n whole whole
-begins n whole = record { there = λ h. h; missing = λ c h. h }
-
 pub goes_on : (n : ℕ) (whole more : List CallWord) (w : CallWord) → Decides n whole (w ∷ more) → w.connection < n → Decides n whole more
 goes_on n whole more w d lt = record { there = λ h. d.there (lt, h); missing = λ c h. d.missing c (inr (lt, h)) }

@@ -1,15 +1,16 @@
 -- Words of which none begins with `--spread` give no spread.
-use Rattle.std.proofs.Common.{◌≡◌, ◌∙◌, ℕ, Bool, true, false, List, [], ◌∷◌, ◌++◌, Option, Some, None, map, take, drop, refl, sym, subst, ap, if◌then◌else◌, codes, nat_eq, ◌==◌, ◌||◌, ◌&&◌}
-use Rattle.std.specs.Prelude.{⊤, option_map}
-use Rattle.std.specs.List.{after_first, list_all, list_any, before_first, position_or_len, starts_with}
+use Rattle.std.proofs.Common.{◌≡◌, ◌∙◌, ℕ, Bool, true, false, List, [], ◌∷◌, ◌++◌, Option, Some, None, map, drop, refl, sym, subst, ap, if◌then◌else◌, codes, nat_eq, ◌==◌, ◌&&◌}
+use Rattle.std.specs.Prelude.{⊤}
+use Rattle.std.specs.List.{after_first, list_all, list_any, position_or_len, starts_with}
 use Rattle.std.specs.Str.{bytes_eq}
-use Rattle.std.proofs.lemmas.Bool.{eqb-true}
+use Rattle.std.proofs.lemmas.Bool.{eqb-true, or_parts}
 use Rattle.std.proofs.lemmas.List.{take-append-drop}
 use Rattle.std.proofs.lemmas.Slice.Eq.{bytes_eq-Decides}
 use Rattle.ring_quotas.specs.declared.setup.Setup.{Setup}
+use Rattle.squeue_state.proofs.Finish.{some_is}
 use Rattle.squeue_run.specs.Asked.{Asked, asked, asked_by, calls_of, go_together, input_of, mode_or_process, number_or, setup_by, setup_of}
 use Rattle.squeue_run.specs.Words.{Given, Look, Text, Use, accepted, and_then_uses, call, dashed, end, flag, given, given_by, is_flag, is_known, look_after_hyphen, look_of, look_of_name, met, name_in, named, names_of, plain, stand_once, uses_from, value, value_of, valued}
-use Rattle.squeue_run.proofs.Chains.{chained, guarded, mapped, some_is}
+use Rattle.squeue_run.proofs.Chains.{chained, guarded, mapped}
 
 abbrev pub begins_so : Text → Bool
 begins_so word = starts_with nat_eq word (codes "--spread")
@@ -96,10 +97,6 @@ module _ (o : Option (List Use)) (next : (us : List Use) → o ≡ Some us → N
       by None is = absurd (let never : ⊥ = cc (is, e) in never)
       by (Some more) is = let whole : call word ∷ more ≡ us = cc (is, e) in subst Nothing whole (next more is)
 
-or_false : (a b : Bool) → (a || b) ≡ false → (a ≡ false) × (b ≡ false)
-or_false true b e = absurd (let never : ⊥ = cc e in never)
-or_false false b e = (refl, e)
-
 -- one word, where what is behind it gives none
 module _ (word : Text) (rest : List Text) (us : List Use) (next : (w : Option Text) (vs : List Use) → OtherWaits w → uses_from rest w ≡ Some vs → Nothing vs) where
   behind : (vs : List Use) → uses_from rest None ≡ Some vs → Nothing vs
@@ -126,7 +123,7 @@ unfolding uses_from
 no_spread [] None us none waits e = subst Nothing (some_is {x = []} {y = us} e) refl
 no_spread [] (Some name) us none waits e = absurd (let never : ⊥ = cc e in never)
 no_spread (word ∷ rest) waiting us none waits e =
-    let here = or_false (begins_so word) (list_any begins_so rest) none in
+    let here = or_parts (begins_so word) (list_any begins_so rest) none in
     one_more word rest us (λ w vs other is. no_spread rest w vs here.1 other is) waiting (look_of word) waits (of_word word here.0) e
 
 -- without a text the spread is 0

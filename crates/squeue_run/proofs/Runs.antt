@@ -47,7 +47,7 @@ abbrev is_memory : PcapngFault → Bool
 is_memory pcapng.NoMemory = true
 is_memory _ = false
 
-no_memory_told : (f : PcapngFault) → is_memory f ≡ false → f ≡ pcapng.NoMemory → ⊥
+pub no_memory_told : (f : PcapngFault) → is_memory f ≡ false → f ≡ pcapng.NoMemory → ⊥
 no_memory_told f other e = let is : is_memory f ≡ true = ap is_memory e in cc
 
 not_read : (a : Asked) (why : Refusal) (source out err : End) (s : Status) → IsUntouched out → ReadingFails a source why → Told why err s → RanRead a source out err None s

@@ -6,11 +6,13 @@ use Rattle.std.proofs.lemmas.List.{map-append}
 use Rattle.std.proofs.lemmas.List.Elements.{filter-append}
 use Rattle.tcb_machine.specs.declared.kinds.Call.{Call}
 use Rattle.conn_blocks.specs.CallLists.{calls_of as list_of, call_count}
+use Rattle.squeue_state.proofs.Finish.{some_is}
 use Rattle.squeue_run.specs.Words.{Text, given}
 use Rattle.squeue_run.specs.Asked.{Asked, asked, asked_by, calls_of, call_of, call_by, asked_of, number_between, go_together, input_of, setup_of, split_at}
 use Rattle.squeue_run.specs.CallWords.{lists_of}
 use Rattle.squeue_run.specs.declared.calls.CallWord.{CallWord}
-use Rattle.squeue_run.proofs.Chains.{some_is, chained, mapped, guarded, first_of_both, number_within}
+use Rattle.squeue_run.proofs.Chains.{chained, mapped, guarded, number_within}
+use Rattle.squeue_run.proofs.Uses.{and_left}
 
 call_thread : (thread connection what : Text) (w : CallWord) → call_by thread connection what ≡ Some w → w.thread < 4
 call_thread thread connection what w e =
@@ -53,7 +55,7 @@ few_asked words a e =
     let m = mapped _ (calls_of g.value.calls) a c.1 in
     let few = few_calls g.value.calls m.value m.found in
     let same : m.value ≡ a.calls = ap (λ (b : Asked). b.calls) m.gives in
-    let most = leb-true (length g.value.calls) 1024 (first_of_both _ _ c.0) in
+    let most = leb-true (length g.value.calls) 1024 (and_left _ _ c.0) in
     subst Few same (record { count = omega (arith, few.count, most); threads = few.threads })
 
 -- a filter of one element
