@@ -3,7 +3,7 @@ use Rattle.std.proofs.Common.{◌≡◌, ◌≢◌, ℕ, ◌+◌, ◌-◌, ◌<�
 use Rattle.std.specs.Prelude.{slice_get}
 use Rattle.std.proofs.lemmas.Bool.Decides.{nat_tests}
 use Rattle.std.proofs.lemmas.List.{take-append-drop, nil_from_length}
-use Rattle.std.proofs.lemmas.Option.{slice_get_cases, slice_get_within}
+use Rattle.std.proofs.lemmas.Option.{slice_get_within}
 use Rattle.perimeter_core.specs.declared.entries.Act.{Act}
 use Rattle.perimeter_core.specs.declared.entries.Entry.{Entry}
 use Rattle.perimeter_core.specs.declared.entries.Entry.TheVariants.{Feed, Ask}
@@ -20,6 +20,7 @@ use Rattle.perimeter_core.proofs.Room.{asks_of, one_ask}
 use Rattle.perimeter_core.proofs.FeedLists.{feeds_of-append}
 use Rattle.perimeter_core.proofs.QueuedRange.{queued_range}
 use Rattle.perimeter_core.proofs.OwnersReport.{none_reported}
+use Rattle.squeue_serve.proofs.Lent.{some_at}
 use Rattle.squeue_replay.specs.Standing.{GuestOf, SqueueOf, Stands}
 use Rattle.squeue_replay.specs.Steps.{ActMay, Answered, Became, Processed, guest_acted, guest_fed}
 use Rattle.squeue_replay.proofs.AskSteps.{asks_left, has_ask-append}
@@ -137,9 +138,6 @@ pub record LeaveMay (S : Setting) (p rest : ℕ) (act : SynchAct) (x : SqueueOf)
 abbrev pub leave_mark : ℕ → ℕ → SynchAct → List Act → Element
 leave_mark p rest act note = record { mark = On.Leave p rest act; note = note }
 
-has_guest : (gs : List GuestOf) (c : ℕ) → c < length gs → (g : GuestOf) × (slice_get gs c ≡ Some g)
-has_guest gs c lt = elim (slice_get_cases gs c).1 [ inl w ↦ (w.0, w.2) | inr w ↦ absurd (omega (arith, lt, w.0)) ]
-
 module _ (S : Setting) (H : List Element) (p rest : ℕ) (x : SqueueOf) (k : Stands S H x) (gs : List GuestOf) (fed_so : Became (λ c. guest_fed c (processed rest x.hand)) x.guests gs) where
   left_queue : List Entry
   left_queue = unprocessed rest (run S H).hand ++ (run S H).chain
@@ -182,7 +180,7 @@ module _ (S : Setting) (H : List Element) (p rest : ℕ) (x : SqueueOf) (k : Sta
   act_fits (Done.In c) a = let w = now c a.2.0 a.2.1 in ((a.1, sym w.here ∙ a.2.2), w.within, not_worker (Done.In c) a.0)
 
   found : (c : ℕ) → c < conns S → (g : GuestOf) × (slice_get gs c ≡ Some g)
-  found c lt = has_guest gs c (omega (arith, lt, k.guests, fed_so.count))
+  found c lt = some_at gs c (omega (arith, lt, k.guests, fed_so.count))
 
   below : (act : SynchAct) → act ≢ Done.None → p < passes S → (p ≡ worker S → act ≡ Done.None) → p < worker S
   below act some lt only = let ne : p ≢ worker S = λ is. some (only is) in omega (arith, lt, ne)

@@ -6,8 +6,9 @@ use Rattle.std.proofs.lemmas.Bool.{eq-eqb}
 use Rattle.perimeter_core.specs.declared.entries.Entry.{Entry}
 use Rattle.perimeter_core.specs.declared.entries.Entry.TheVariants.{Feed, Ask}
 use Rattle.perimeter_core.specs.Perimeter.{ends_with_ask, is_empty}
-use Rattle.perimeter_core.specs.Legal.{all_feeds, feed_count, only_last_ask}
+use Rattle.perimeter_core.specs.Legal.{all_feeds, only_last_ask}
 use Rattle.perimeter_core.specs.Deeds.{feed_acts, feeds_of}
+use Rattle.perimeter_core.proofs.Quotas.{feed_count-append}
 use Rattle.squeue_replay.specs.Standing.{GuestOf, PassOf, SqueueOf}
 use Rattle.squeue_replay.specs.Steps.{Answered, Became, Processed, guest_fed}
 use Rattle.squeue_replay.proofs.AskSteps.{alone_right, feeds_alone}
@@ -29,11 +30,6 @@ began j s =
       chain = refl;
     }
 
-count_more : (es : List Entry) (c n : ℕ) → feed_count (es ++ Feed c n ∷ []) ≡ feed_count es + 1
-count_more [] c n = refl
-count_more (Feed d m ∷ es) c n = let e = count_more es c n in omega (arith, e)
-count_more (Ask q ∷ es) c n = count_more es c n
-
 -- feeds, and then an Ask and others
 asks_then : (j q : ℕ) (es fs : List Entry) → all_feeds es ≡ true → only_last_ask j (es ++ Ask q ∷ fs) ≡ ((q == j) && is_empty fs)
 asks_then j q [] fs h = refl
@@ -54,7 +50,7 @@ one_fed es more j n m c k s t u p hand counted fed is =
     record {
       right = r.0;
       asked = sym r.1;
-      feeds = counted ∙ (ap (λ (x : ℕ). x + 1) p.feeds ∙ sym (count_more es c k));
+      feeds = counted ∙ (ap (λ (x : ℕ). x + 1) p.feeds ∙ sym (feed_count-append es (Feed c k ∷ [])));
       hand = p.hand ∙ (ap (λ (l : List Entry). es ++ l) (hand ∙ ap (λ (l : List Entry). Feed c k ∷ l) (sym (ap (λ (z : SqueueOf). z.hand) is))) ∙ sym (append_assoc es (Feed c k ∷ []) u.hand));
       passes = subst (λ (z : SqueueOf). Answered false j s.passes z.passes) (sym is) p.passes;
       guests = became_same (λ d g. guest_fed d (Feed c k ∷ []) (guest_fed d es g)) (λ d. guest_fed d (es ++ Feed c k ∷ [])) s.guests u.guests (λ d g at. fed_twice d es (Feed c k ∷ []) g)
