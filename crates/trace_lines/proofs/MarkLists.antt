@@ -5,7 +5,7 @@ use Rattle.std.specs.Fmt.{decimal}
 use Rattle.std.specs.Cmp.Lexicographic.{pointwise}
 use Rattle.std.proofs.lemmas.Bool.{eqb-true}
 use Rattle.std.proofs.lemmas.Slice.Eq.{slice_eq-Decides}
-use Rattle.std.proofs.lemmas.List.{append-nil}
+use Rattle.std.proofs.lemmas.List.{append-nil, map-append}
 use Rattle.std.proofs.lemmas.List.Elements.{All-cons, All-head, All-tail, All-nil}
 use Rattle.std.proofs.Math.Seq.{take-append_seam}
 use Rattle.perimeter_core.specs.declared.marks.Mark.{Mark}
@@ -244,15 +244,11 @@ squeues_all text rest lines q squeues r same end =
     let had = r.some.1 in
     (l, record { count = had.1 ∙ same; few = few_of l had.0; each = printed_of l had.0 }, had.2 ∙ ap (λ x. text_from 0 l ++ x) end, had.3)
 
-map_one_more : {A : Type 0} (now : A → List ℕ) (items : List A) (x : A) → map now (items ++ x ∷ []) ≡ map now items ++ now x ∷ []
-map_one_more now [] x = refl
-map_one_more now (y ∷ items) x = ap (λ l. now y ∷ l) (map_one_more now items x)
-
 -- the lines of one squeue more are kept
 pub squeues_kept : {A : Type 0} (now : A → List ℕ) (text others : List ℕ) (items pushed : List A) (x : A) (front : List ℕ) (q squeues : ℕ) → pushed ≡ items ++ x ∷ [] → now x ≡ front
     → SqueuesRead text others (map now items ++ front ∷ []) q squeues → SqueuesRead text others (map now pushed) q squeues
 squeues_kept now text others items pushed x front q squeues is same r =
-    let all : map now items ++ front ∷ [] ≡ map now pushed = ap (λ l. map now items ++ l ∷ []) (sym same) ∙ (sym (map_one_more now items x) ∙ ap (map now) (sym is)) in
+    let all : map now items ++ front ∷ [] ≡ map now pushed = ap (λ l. map now items ++ l ∷ []) (sym same) ∙ (sym (map-append now items (x ∷ [])) ∙ ap (map now) (sym is)) in
     subst (λ l. SqueuesRead text others l q squeues) all r
 
 -- the comparison of what is left of the text with the last line

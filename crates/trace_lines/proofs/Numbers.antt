@@ -87,8 +87,9 @@ no_front (d ∷ ds) rest some e = grind (arith, e)
 pub first_digit_of : (n b : ℕ) (bs rest : List ℕ) → n < 2 ^ 64 → BeginsWithNumber (b ∷ bs) n rest → is_ascii_digit b ≡ true
 first_digit_of n b bs rest small h = by_digits (decimal n) rest b bs (decimal_nonempty n small) (digits_decimal own n small) h.joined
 
-tail_of : (bs rest : List ℕ) → 48 ∷ bs ≡ 48 ∷ rest → rest ≡ bs
-tail_of bs rest e = grind (arith, e)
+-- what stands behind one and the same byte
+pub tail_same : (b : ℕ) (xs ys : List ℕ) → b ∷ xs ≡ b ∷ ys → xs ≡ ys
+tail_same b xs ys e = cc
 
 not_zero : (ds rest bs : List ℕ) → 48 < get_or ds 0 0 → 48 ∷ bs ≡ ds ++ rest → ⊥
 not_zero [] rest bs h e = omega (arith, h)
@@ -123,7 +124,7 @@ reads_no_more first value text (d ∷ ds) small some is same great n after below
 
 -- no number but 0 begins with a 0
 pub zero_alone : (n : ℕ) (bs rest : List ℕ) → n < 2 ^ 64 → BeginsWithNumber (48 ∷ bs) n rest → ends_number bs ≡ true
-zero_alone zero bs rest small h = subst (λ l. ends_number l ≡ true) (tail_of bs rest (h.joined ∙ ap (λ l. l ++ rest) (decimal_digit 0 (omega arith)))) h.whole
+zero_alone zero bs rest small h = subst (λ l. ends_number l ≡ true) (sym (tail_same 48 bs rest (h.joined ∙ ap (λ l. l ++ rest) (decimal_digit 0 (omega arith))))) h.whole
 zero_alone (suc n) bs rest small h = grind (arith, not_zero (decimal (suc n)) rest bs (first_decimal (suc n) (omega arith) small) h.joined)
 
 -- the first digit of a text that begins with a number
@@ -164,7 +165,3 @@ same_numbers n m a c small also ends stops e =
 -- what stands behind a text's number
 pub same_rest : (text : List ℕ) (n m : ℕ) (a c : List ℕ) → n < 2 ^ 64 → m < 2 ^ 64 → BeginsWithNumber text n a → BeginsWithNumber text m c → a ≡ c
 same_rest text n m a c small also h k = ap (λ x. x.1) (sym (scan_number text n a small h) ∙ scan_number text m c also k)
-
--- what stands behind one and the same byte
-pub tail_same : (b : ℕ) (xs ys : List ℕ) → b ∷ xs ≡ b ∷ ys → xs ≡ ys
-tail_same b xs ys e = cc
