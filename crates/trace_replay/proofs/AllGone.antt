@@ -35,13 +35,6 @@ numbered_length : {A B : Type 0} (f : ℕ × A → B) (n : ℕ) (xs : List A) �
 numbered_length f n [] = refl
 numbered_length f n (x ∷ xs) = ap (λ (m : ℕ). suc m) (numbered_length f (n + 1) xs)
 
-map_length : {A B : Type 0} (f : A → B) (xs : List A) → length (map f xs) ≡ length xs
-map_length f [] = refl
-map_length f (x ∷ xs) = ap (λ (m : ℕ). suc m) (map_length f xs)
-
-pub as_many : {A : Type 0} (now : A → List ℕ) (xs : List A) (marks : List (List Mark)) (n : ℕ) → ArePrintedMarks n marks → map now xs ≡ map (flat_map mark_line) marks → length xs ≡ n
-as_many now xs marks n are is = sym (map_length now xs) ∙ (ap length is ∙ (map_length (flat_map mark_line) marks ∙ are.count))
-
 -- the marks of the squeue whose lines stand there
 pub record MarksAt (marks : List (List Mark)) (k : ℕ) (lines : List ℕ) : Type 0 where
   pub ms : List Mark

@@ -19,18 +19,16 @@ use Rattle.ring_quotas.specs.declared.setup.Setup.{Setup}
 use Rattle.ring_threads.specs.ServedBlocks.{AreServed, IsServing}
 use Rattle.squeue_replay.specs.Histories.{ending_of, endings_of}
 use Rattle.squeue_replay.specs.Standing.{GuestOf, GuestsStand}
+use Rattle.squeue_rings.proofs.RingStays.{from_map}
+use Rattle.squeue_serve.proofs.Lent.{some_at}
 use Rattle.trace_replay.specs.Joining.{HasNoOrder, HasOrder, HasStays, IsNamed, LacksAStay, did_before, did_in}
 use Rattle.trace_replay.specs.Reasons.{AreOrdered, AreRight, IsOrdered, IsUnordered}
-use Rattle.trace_replay.proofs.JoinedStays.{are_all, misses, misses_none, named_in, same_all, there_is}
-
-mapped_at : {A B : Type 0} (f : A → B) (xs : List A) (i : ℕ) (y : B) → slice_get (map f xs) i ≡ Some y → (x : A) × (slice_get xs i ≡ Some x) × (f x ≡ y)
-mapped_at f [] i y e = absurd (none-some y e)
-mapped_at f (x ∷ xs) zero y e = (x, refl, cc e)
-mapped_at f (x ∷ xs) (suc i) y e = mapped_at f xs i y e
+use Rattle.trace_replay.proofs.JoinedStays.{are_all, misses, misses_none, named_in}
+use Rattle.trace_replay.proofs.StaysAlike.{all_fixed}
 
 module _ (p : PlanOf) (calls : CallLists) (setup : Setup) (marks : List (List Mark)) where
   is_ending : (q : ℕ) (e : Ending) → slice_get (endings_of p calls setup marks) q ≡ Some e → (x : ℕ × List Mark) × (ending_of p calls setup x ≡ e)
-  is_ending q e at = let found = mapped_at (ending_of p calls setup) (enumerate_from 0 marks) q e at in (found.0, found.2)
+  is_ending q e at = let found = from_map (ending_of p calls setup) (enumerate_from 0 marks) q e at in (found.0, found.2)
 
   -- each squeue knows all connections, and all calls
   pub starts_of : (q : ℕ) (e : Ending) → slice_get (endings_of p calls setup marks) q ≡ Some e → length e.setting.starts ≡ length p.tuples
@@ -66,7 +64,7 @@ module _ (p : PlanOf) (calls : CallLists) (setup : Setup) (marks : List (List Ma
     pub no_order : (order : List Act) → HasNoOrder squeues kept c p calls → IsOrdered p calls (endings_of p calls setup marks) c order → ⊥
     no_order order (inl lacks) o = o.left (misses (endings_of p calls setup marks) kept c right.legal stand known (subst (λ (k : ℕ). LacksAStay k kept c) same lacks))
     no_order order (inr none) o =
-        let all = same_all (endings_of p calls setup marks) c o.did (did_before squeues kept c none.count) o.all (all_joined none.count none.all) in
+        let all = all_fixed (endings_of p calls setup marks) c o.did (did_before squeues kept c none.count) o.all (all_joined none.count none.all) in
         none.whole (subst (IsWhole p calls c) (o.settled ∙ ap (settle calls c) all) o.whole)
 
     pub all_named : (s : ℕ) (acts : List Act) → did_in squeues kept c s ≡ Some acts → AllByRecursion (IsNamed (all_calls calls) c) acts
@@ -89,7 +87,7 @@ module _ (p : PlanOf) (calls : CallLists) (kept : List (List GuestOf)) (squeues 
     pub all_ordered : length blocks ≡ length p.tuples → AreOrdered p calls (endings_of p calls setup marks) (map (λ b. b.order) blocks)
     all_ordered all = record {
       count = length-map blocks (λ b. b.order) ∙ all;
-      each = λ c order at. (let b = mapped_at (λ (b : BlockOf). b.order) blocks c order at in
+      each = λ c order at. (let b = from_map (λ (b : BlockOf). b.order) blocks c order at in
           let lt = slice_get_within blocks c b.0 b.1 in
           subst (IsOrdered p calls (endings_of p calls setup marks) c) b.2
           (order_is p calls setup marks kept squeues right stand count c (omega (arith, lt, all)) b.0 (have c b.0 b.1)));
@@ -98,7 +96,7 @@ module _ (p : PlanOf) (calls : CallLists) (kept : List (List GuestOf)) (squeues 
     pub first_without : length blocks < length p.tuples → HasNoOrder squeues kept (length blocks) p calls → IsUnordered p calls (endings_of p calls setup marks) (length blocks)
     first_without lt none = record {
       there = lt;
-      before = λ d less. (let b = there_is blocks d less in
+      before = λ d less. (let b = some_at blocks d less in
           (b.0.order, order_is p calls setup marks kept squeues right stand count d (omega (arith, less, lt)) b.0 (have d b.0 b.1)));
       without = λ order o. no_order p calls setup marks kept squeues right stand count (length blocks) lt order none o;
     }

@@ -1,5 +1,5 @@
 -- Each reason why an input doesn't replay rules out that it does; and what is right and gives the report's text replays.
-use Rattle.std.proofs.Common.{◌≡◌, ℕ, zero, suc, ◌+◌, ◌^◌, ◌≤◌, ◌<◌, inl, inr, Bool, true, Some, List, [], ◌∷◌, ◌++◌, length, take, drop, refl, ap, sym, ◌∙◌, subst, append_assoc, arith}
+use Rattle.std.proofs.Common.{◌≡◌, ℕ, suc, ◌+◌, ◌^◌, ◌≤◌, ◌<◌, inl, inr, Bool, true, Some, List, [], ◌∷◌, ◌++◌, length, take, drop, refl, ap, sym, ◌∙◌, subst, append_assoc, arith}
 use Rattle.std.specs.Prelude.{IfSome, Ok, Result, codes, slice_get}
 use Rattle.std.specs.List.{enumerate_from, filter_map, flat_map}
 use Rattle.std.proofs.lemmas.List.{append_cancel_left, length-take, take-append-drop, take-append-le}
@@ -28,10 +28,13 @@ use Rattle.conn_blocks.specs.CallLists.{CallLists}
 use Rattle.conn_blocks.specs.Orders.{settle}
 use Rattle.squeue_enter.specs.declared.Mode.{Mode}
 use Rattle.squeue_rings.specs.Keeping.{KeepsFrom, KeepsPace, taken}
+use Rattle.squeue_rings.proofs.Linking.{front_of}
 use Rattle.ring_quotas.specs.declared.setup.Setup.{Setup}
 use Rattle.squeue_report.specs.ReportText.{body_text, done_line, line}
 use Rattle.squeue_report.specs.TraceText.{calls_text, setup_line, squeue_text, trace_text}
 use Rattle.trace_lines.specs.Printed.{Told, told_text}
+use Rattle.squeue_serve.proofs.Lent.{some_at}
+use Rattle.squeue_run.proofs.Complete.{same_file}
 use Rattle.trace_replay.specs.Lines.{HasFirstLine}
 use Rattle.trace_replay.specs.declared.reason.Reason.{Reason}
 use Rattle.trace_replay.specs.declared.reason.Reason.TheVariants as reason
@@ -41,7 +44,7 @@ use Rattle.trace_replay.proofs.FirstLines.{avoids_both, first_line, first_once}
 use Rattle.trace_replay.proofs.FitsFromRight.{fits_from_right}
 use Rattle.trace_replay.proofs.ReportLines.{head_avoids, head_text, no_d, no_s, told_avoids, told_front}
 use Rattle.trace_replay.proofs.RightFromFits.{right_from_fits}
-use Rattle.trace_replay.proofs.StaysAlike.{all_fixed, got}
+use Rattle.trace_replay.proofs.StaysAlike.{all_fixed}
 use Rattle.trace_replay.proofs.ToldOnce.{told_once}
 
 -- the text of a report with marks, in its parts
@@ -97,16 +100,13 @@ ok_of F x = Ok x
 ok_same : (F : Type 0) (x y : Contents) → ok_of F x ≡ ok_of F y → x ≡ y
 ok_same F x y e = cc e
 
-by_contents : (a b : CaptureFile) → a.bytes ≡ b.bytes → contents_of a ≡ contents_of b → a ≡ b
-by_contents a b bytes same = λ i. record { bytes = bytes i; link = (same i).link; packets = (same i).packets; cut = (same i).cut }
-
 pub input_once : (a b : CaptureFile) → IsInput a → IsInput b → a.bytes ≡ b.bytes → a ≡ b
 input_once a b (inl x) (inl y) bytes =
-    by_contents a b bytes
+    same_file a b bytes
     (ok_same PcapngFault (contents_of a) (contents_of b)
     (pcapng_outcome.meets_once b.bytes (Ok (contents_of a)) (Ok (contents_of b)) (subst (λ (bs : List ℕ). pcapng_file.Captured bs (contents_of a)) bytes x.captured) y.captured))
 input_once a b (inr x) (inr y) bytes =
-    by_contents a b bytes
+    same_file a b bytes
     (ok_same CaptureFault (contents_of a) (contents_of b)
     (capture_outcome.meets_once b.bytes (Ok (contents_of a)) (Ok (contents_of b)) (subst (λ (bs : List ℕ). capture_file.Captured bs (contents_of a)) bytes x.1.captured) y.1.captured))
 input_once a b (inl x) (inr y) bytes = absurd (y.0 (subst BeginsSection bytes x.begins))
@@ -180,11 +180,6 @@ keeps_front : (squeues spread : ℕ) (mode : Mode) (budget q : ℕ) (S : Setting
 keeps_front squeues spread mode budget q S r past [] K k = tt
 keeps_front squeues spread mode budget q S r past (e ∷ H) K k = (k.0, keeps_front squeues spread mode budget q S r (past ++ e ∷ []) H K k.1)
 
-got_front : {A : Type 0} (xs ys : List A) (n : ℕ) (x : A) → slice_get xs n ≡ Some x → slice_get (xs ++ ys) n ≡ Some x
-got_front [] ys n x at = absurd (let no : ⊥ = cc at in no)
-got_front (y ∷ xs) ys zero x at = at
-got_front (y ∷ xs) ys (suc n) x at = got_front xs ys n x at
-
 -- the first marks of a history that fits do
 fit_front : (setup : Setup) (q : ℕ) (e : Ending) (A B : List Element) → A ++ B ≡ e.history → AreFit setup q e → AreFit setup q (record e { history = A })
 fit_front setup q e A B split fit = record {
@@ -193,7 +188,7 @@ fit_front setup q e A B split fit = record {
       (subst (λ (H : List Element). KeepsPace setup.squeues setup.spread setup.mode setup.budget q e.setting r H) (sym split) (fit.pace r lt));
   takes = λ r lt n m at is.
       let within = slice_get_within A n m at in
-      let there : slice_get e.history n ≡ Some m = ap (λ (H : List Element). slice_get H n) (sym split) ∙ got_front A B n m at in
+      let there : slice_get e.history n ≡ Some m = ap (λ (H : List Element). slice_get H n) (sym split) ∙ front_of A B n m at in
       let before : take n e.history ≡ take n A = ap (take n) (sym split) ∙ take-append-le n A B (omega (arith, within)) in
       let with_it : take (n + 1) e.history ≡ take (n + 1) A = ap (take (n + 1)) (sym split) ∙ take-append-le (n + 1) A B (omega (arith, within)) in
       subst (λ (H : List Element). IfSome (taken e.setting r H) (λ had. feed_count (done e.setting (take (n + 1) A)) ≤ had + setup.budget)) before
@@ -241,7 +236,7 @@ module _ (input : List ℕ) (r : Replays input) where
       let here : FailsAtOrder c r.file r.told = subst (λ (u : Told). FailsAtOrder c r.file u) same.its_told (subst (λ (f : CaptureFile). FailsAtOrder c f reading.told) same.its_file reading.holds) in
       let ordered = (right input r).1 in
       let there = here.unordered.there in
-      let order = got r.orders c (let n = ordered.count in omega (arith, there, n)) in
+      let order = some_at r.orders c (let n = ordered.count in omega (arith, there, n)) in
       here.unordered.without order.0 (ordered.each c order.0 order.1)
 
   no_line_fails : (n : ℕ) → Reading input (FailsAtLine n) → ⊥

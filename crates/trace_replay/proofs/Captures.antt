@@ -5,7 +5,6 @@ use Rattle.capture_reader.specs.declared.fault.CaptureFault.{CaptureFault}
 use Rattle.capture_reader.specs.declared.fault.CaptureFault.TheVariants as capture
 use Rattle.pcapng_reader.specs.declared.fault.PcapngFault.{PcapngFault}
 use Rattle.pcapng_reader.specs.declared.fault.PcapngFault.TheVariants as pcapng
-use Rattle.pcapng_reader.specs.declared.input.InputFault.{InputFault}
 use Rattle.pcapng_reader.specs.declared.input.InputFault.TheVariants as input
 use Rattle.pcapng_reader.specs.Input.{InputFails, IsInput, IsRefusedCapture, IsRefusedPcapng}
 use Rattle.pcapng_reader.proofs.Inputs.{refused_not, refused_not_ng}

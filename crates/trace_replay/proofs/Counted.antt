@@ -1,11 +1,9 @@
 -- The feeds that were done in a stay are numbered on from those with which it came.
-use Rattle.std.proofs.Common.{◌≡◌, ℕ, zero, suc, ◌+◌, ◌==◌, Bool, true, false, if◌then◌else◌, Option, Some, None, is_some, List, [], ◌∷◌, ◌++◌, length, refl, ap, sym, ◌∙◌, subst, arith, length-append}
+use Rattle.std.proofs.Common.{◌≡◌, ℕ, zero, suc, ◌+◌, Bool, true, false, if◌then◌else◌, Option, Some, None, is_some, List, [], ◌∷◌, ◌++◌, length, refl, ap, sym, ◌∙◌, subst, arith, length-append}
 use Rattle.std.specs.Prelude.{slice_get}
 use Rattle.std.proofs.lemmas.List.{append-nil}
 use Rattle.perimeter_core.specs.declared.entries.Act.{Act}
 use Rattle.perimeter_core.specs.declared.entries.Act.TheVariants as Did
-use Rattle.perimeter_core.specs.declared.entries.Entry.{Entry}
-use Rattle.perimeter_core.specs.declared.entries.Entry.TheVariants.{Feed, Ask}
 use Rattle.perimeter_core.specs.declared.marks.Mark.{Mark}
 use Rattle.perimeter_core.specs.Perimeter.{State, after, is_here}
 use Rattle.perimeter_core.specs.History.{Element, Setting, pass_of, run, start, worker}
@@ -17,18 +15,10 @@ use Rattle.perimeter_core.proofs.OrderAndWake.{sound}
 use Rattle.perimeter_core.proofs.FeedLists.{feeds_of-append, length-up, up-append}
 use Rattle.perimeter_core.proofs.FeedOrder.{in_order, queue_after, runs_grow}
 use Rattle.perimeter_core.proofs.NextFeed.{fed-append, fed_call, fed_feeds, had}
+use Rattle.perimeter_core.proofs.NumberedActs.{numbers_feeds, up_front}
 use Rattle.conn_blocks.specs.SettledFeeds.{feeds_append}
 use Rattle.conn_migrate.specs.Stays.{Stay, Stays, all_in, as_list, begun, longer_by, stays}
 use Rattle.conn_migrate.proofs.OneSqueue.{GoesOnWith, fits, stays_push}
-
-numbers_at : (b : Bool) (n : ℕ) (did : List Act) (ns : List ℕ) → feed_numbers did ≡ ns → feed_numbers (if b then Did.Feed n ∷ did else did) ≡ (if b then n ∷ ns else ns)
-numbers_at true n did ns h = ap (λ xs. n ∷ xs) h
-numbers_at false n did ns h = h
-
-numbers_feeds : (c : ℕ) (es : List Entry) → feed_numbers (feed_acts c es) ≡ feeds_of c es
-numbers_feeds c [] = refl
-numbers_feeds c (Feed d n ∷ es) = numbers_at (d == c) n (feed_acts c es) (feeds_of c es) (numbers_feeds c es)
-numbers_feeds c (Ask p ∷ es) = numbers_feeds c es
 
 none_fed : (xs : List Act) → fed xs ≡ 0 → feed_numbers xs ≡ []
 none_fed [] h = refl
@@ -47,15 +37,6 @@ fed_reported c s m =
     let b = fed_call c m in
     let d = fed_feeds c (done_by s m) in
     omega (arith, a, b, d)
-
-up_front : (xs ys : List ℕ) (a k : ℕ) → xs ++ ys ≡ up a k → xs ≡ up a (length xs)
-up_front [] ys a k h = refl
-up_front (x ∷ xs) ys a zero h = absurd cc
-up_front (x ∷ xs) ys a (suc k) h =
-    let t : xs ++ ys ≡ up (suc a) k = cc in
-    let x_is : x ≡ a = cc in
-    let r = up_front xs ys (suc a) k t in
-    rw x_is (ap (λ ns. a ∷ ns) r)
 
 -- a block that is here goes on with its next feeds
 numbers_next : (S : Setting) (H : List Element) (e : Element) (c : ℕ) → Legal S H → May S H e → is_here (run S H) c ≡ true

@@ -12,12 +12,9 @@ use Rattle.perimeter_core.specs.Deeds.{acts, acts_after, reported, puts_in, take
 use Rattle.perimeter_core.specs.Legal.{Legal, ActsFit}
 use Rattle.perimeter_core.proofs.OneMore.{legal_ind}
 use Rattle.perimeter_core.proofs.FeedOrder.{puts_away}
+use Rattle.perimeter_core.proofs.LeavesFew.{left_push}
 use Rattle.conn_migrate.specs.Stays.{Stay, Stays, as_list, all_in, begun, longer_by, stays}
 use Rattle.conn_migrate.proofs.OneSqueue.{stays_push, fits}
-
-left_push : (c : ℕ) (H : List Element) (e : Element) → times_left c (H ++ e ∷ []) ≡ times_left c H + (if takes_out c e.mark then 1 else 0)
-left_push c [] e = omega arith
-left_push c (x ∷ H) e = omega (arith, left_push c H e)
 
 -- a block that is taken out is here, and isn't put in at once
 out_is_here : (S : Setting) (H : List Element) (s : State) (c : ℕ) (m : Mark) → ActsFit S H s m → takes_out c m ≡ true → (is_here s c ≡ true) × (puts_in c m ≡ false)

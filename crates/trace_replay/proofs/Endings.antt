@@ -6,7 +6,7 @@ use Rattle.std.specs.List.{enumerate_from, range_with_len}
 use Rattle.std.proofs.lemmas.Bool.{ne_eqb}
 use Rattle.std.proofs.lemmas.Bool.Decides.{nat_tests}
 use Rattle.std.proofs.lemmas.List.{length-map}
-use Rattle.std.proofs.lemmas.List.FromFn.{get_or-map-range_with_len, length-map-range_with_len}
+use Rattle.std.proofs.lemmas.List.FromFn.{get_or-map-range_with_len, length-map-range_with_len, length-enumerate_from}
 use Rattle.std.proofs.lemmas.Option.{slice_get-map}
 use Rattle.perimeter_core.specs.declared.entries.Act.{Act}
 use Rattle.perimeter_core.specs.declared.entries.Act.TheVariants as Did
@@ -30,10 +30,6 @@ numbered_got n (x ∷ xs) zero = let z : n ≡ n + 0 = omega arith in ap (λ (k 
 numbered_got n (x ∷ xs) (suc i) =
     let z : n + 1 + i ≡ n + suc i = omega arith in
     numbered_got (n + 1) xs i ∙ ap (λ (k : ℕ). option_map (λ y. (k, y)) (slice_get xs i)) z
-
-numbered_length : {A : Type 0} (n : ℕ) (xs : List A) → length (enumerate_from n xs) ≡ length xs
-numbered_length n [] = refl
-numbered_length n (x ∷ xs) = let h = numbered_length (n + 1) xs in omega (arith, h)
 
 some_is : {A : Type 0} (o : Option A) (f : A → Ending) (e : Ending) → option_map f o ≡ Some e → (x : A) × (o ≡ Some x) × (e ≡ f x)
 some_is None f e at = absurd (let no : ⊥ = cc at in no)
@@ -69,7 +65,7 @@ module _ (p : PlanOf) (calls : CallLists) (setup : Setup) where
     full_endings marks = map full_ending (enumerate_from 0 marks)
 
     pub full_count : (marks : List (List Mark)) → length (full_endings marks) ≡ length marks
-    full_count marks = length-map (enumerate_from 0 marks) full_ending ∙ numbered_length 0 marks
+    full_count marks = length-map (enumerate_from 0 marks) full_ending ∙ length-enumerate_from 0 marks
 
     full_got : (marks : List (List Mark)) (q : ℕ) → slice_get (full_endings marks) q ≡ option_map (λ ms. full_ending (q, ms)) (slice_get marks q)
     full_got marks q =

@@ -11,7 +11,7 @@ use Rattle.conn_classifier.specs.Plan.{PlanOf, items_in}
 use Rattle.conn_blocks.specs.CallLists.{CallLists}
 use Rattle.conn_blocks.specs.Homes.{home}
 use Rattle.ring_quotas.specs.declared.setup.Setup.{Setup}
-use Rattle.ring_quotas.specs.Quotas.{caller_asks, conns_of, feeds_at, marks_most, quotas_of, ring_asks, ring_feeds}
+use Rattle.ring_quotas.specs.Quotas.{caller_asks, feeds_at, marks_most, quotas_of, ring_asks, ring_feeds}
 use Rattle.ring_quotas.proofs.Moving.{home_below}
 
 same_test : (n : ℕ) → (n == n) ≡ true

@@ -33,6 +33,8 @@ use Rattle.ring_quotas.specs.Quotas.{IsInRange}
 use Rattle.ring_quotas.proofs.Sufficing.{leaves_known}
 use Rattle.ring_threads.specs.Fits.{Fits, HistoryFits, IsHereOnce}
 use Rattle.squeue_replay.specs.Histories.{endings_of, stay_of, times_in}
+use Rattle.run_histories.proofs.Ends.{fed_counts}
+use Rattle.squeue_serve.proofs.Lent.{some_at}
 use Rattle.trace_replay.specs.Reasons.{AreOrdered, AreRight, IsOrdered}
 use Rattle.trace_replay.proofs.Counted.{counted_at, IsCounted}
 use Rattle.trace_replay.proofs.Endings.{all_start, due_by_stay, endings_are, full_at, full_count, full_ending, full_endings, full_is, full_marks, full_notes, full_setting, starts_at, starts_count}
@@ -44,17 +46,12 @@ use Rattle.trace_replay.proofs.Notes.{Alike, pace_alike}
 use Rattle.trace_replay.proofs.NotesIn.{firsts, marks_of}
 use Rattle.trace_replay.proofs.RightFromFits.{full_notes_fit, legal_both, over_alike}
 use Rattle.trace_replay.proofs.Rounds.{begun_at, way}
-use Rattle.trace_replay.proofs.StaysAlike.{AllAlike, all_fixed, all_same, ended_same, got, none_same, own_same, some_same, stay_same}
+use Rattle.trace_replay.proofs.StaysAlike.{AllAlike, all_fixed, all_same, ended_same, none_same, own_same, some_same, stay_same}
 use Rattle.trace_replay.proofs.Walk.{IsPart, finds, first_parts}
 
 range_up : (a n : ℕ) → range_with_len a n ≡ up a n
 range_up a zero = refl
 range_up a (suc n) = let z : a + 1 ≡ suc a = omega arith in ap (λ (l : List ℕ). a ∷ l) (ap (λ (k : ℕ). range_with_len k n) z ∙ range_up (suc a) n)
-
-numbers_counted : (xs : List Act) → length (feed_numbers xs) ≡ fed xs
-numbers_counted [] = refl
-numbers_counted (Did.Feed n ∷ xs) = let h = numbers_counted xs in omega (arith, h)
-numbers_counted (Did.Call j k ∷ xs) = numbers_counted xs
 
 some_or : (o : Option Stay) → (o ≡ None → ⊥) → (v : Stay) × (o ≡ Some v)
 some_or None h = absurd (h refl)
@@ -104,7 +101,7 @@ module _ (p : PlanOf) (calls : CallLists) (setup : Setup) (some : 0 < setup.sque
   due_nothing c = let z : 0 * setup.spread ≡ 0 = omega arith in ap (λ (n : ℕ). map Did.Feed (range_with_len 0 n)) z
 
   fed_due : (c t : ℕ) → fed (due_notes c t) ≡ t * setup.spread
-  fed_due c t = sym (numbers_counted (due_notes c t)) ∙ numbers (t * setup.spread) 0
+  fed_due c t = sym (fed_counts (due_notes c t)) ∙ numbers (t * setup.spread) 0
     where
       numbers : (n a : ℕ) → length (feed_numbers (map Did.Feed (range_with_len a n))) ≡ n
       numbers zero a = refl
@@ -180,7 +177,7 @@ module _ (p : PlanOf) (calls : CallLists) (setup : Setup) (some : 0 < setup.sque
           let long : length (first_parts part is.all.count) ≡ items = ap length (sym (append-nil (first_parts part is.all.count)) ∙ all_numbers) ∙ length-up 0 items in
           let next = on.next in
           let f = finds part setup.spread items t on.moves (is_part on.several on.moves) is.all.count [] all_numbers (omega (arith, long, next)) in
-          (f.0, sym (numbers_counted (joined ks c (t + 1))) ∙ (ap length (sym (parts_joined (t + 1))) ∙ f.1))
+          (f.0, sym (fed_counts (joined ks c (t + 1))) ∙ (ap length (sym (parts_joined (t + 1))) ∙ f.1))
 
       -- what stands before a stay that isn't the first
       before : (t : ℕ) (v : Stay) → stay ks c (t + 1) ≡ Some v → (u : Stay) × (ended_stay ks c t ≡ Some u)
@@ -195,7 +192,7 @@ module _ (p : PlanOf) (calls : CallLists) (setup : Setup) (some : 0 < setup.sque
 
     module _ (orders : List (List Act)) (ordered : AreOrdered p calls ks orders) where
       its_order : (c : ℕ) → c < length p.tuples → (order : List Act) × IsOrdered p calls ks c order
-      its_order c lt = let o = got orders c (let n = ordered.count in omega (arith, lt, n)) in (o.0, ordered.each c o.0 o.1)
+      its_order c lt = let o = some_at orders c (let n = ordered.count in omega (arith, lt, n)) in (o.0, ordered.each c o.0 o.1)
 
       in_fed : (q : ℕ) (ms : List Mark) → slice_get marks q ≡ Some ms → (c n : ℕ) → n < times_in c ms → fed (due_notes c (stay_of S q c n)) ≡ fed (full c (stay_of S q c n))
       in_fed q ms at c n lt =
@@ -211,7 +208,7 @@ module _ (p : PlanOf) (calls : CallLists) (setup : Setup) (some : 0 < setup.sque
           let home : is_here (start e.setting) c ≡ (q == c % S) = starts_at p calls setup q c known in
           let many = stays_count e.setting e.history c in
           let first : length (firsts (is_here (start e.setting) c)) ≡ length (firsts (q == c % S)) = ap (λ (b : Bool). length (firsts b)) home in
-          let v = got (all_in (stays e.setting e.history c)) (length (firsts (q == c % S)) + n) (omega (arith, many, first, here)) in
+          let v = some_at (all_in (stays e.setting e.history c)) (length (firsts (q == c % S)) + n) (omega (arith, many, first, here)) in
           let t : ℕ = stay_of S q c n in
           let there : stay ks c t ≡ Some v.0 =
           stay_there ks c t q (length (firsts (q == c % S)) + n) e v.0 is (ap (λ (m : ℕ). (c + t) % m) ks_count ∙ place.0) (ap (λ (m : ℕ). t / m) ks_count ∙ place.1) v.1 in
@@ -234,7 +231,7 @@ module _ (p : PlanOf) (calls : CallLists) (setup : Setup) (some : 0 < setup.sque
       }
 
       its_k : (q : ℕ) (h : Ending) → slice_get hs q ≡ Some h → (k : Ending) × (slice_get ks q ≡ Some k)
-      its_k q h at = let w = slice_get_within hs q h at in let n = alike.count in got ks q (omega (arith, w, n))
+      its_k q h at = let w = slice_get_within hs q h at in let n = alike.count in some_at ks q (omega (arith, w, n))
 
       legal : AreLegal hs
       legal q h at =
@@ -305,7 +302,7 @@ module _ (p : PlanOf) (calls : CallLists) (setup : Setup) (some : 0 < setup.sque
         there_at t = (c + t) % S
 
         at_squeue : (t : ℕ) → (e : Ending) × (slice_get hs (there_at t) ≡ Some e)
-        at_squeue t = got hs (there_at t) (let m = mod_below (c + t) S some in let n = hs_count in omega (arith, m, n))
+        at_squeue t = some_at hs (there_at t) (let m = mod_below (c + t) S some in let n = hs_count in omega (arith, m, n))
 
         -- there is a first stay
         first_stay : stay hs c 0 ≡ None → ⊥
@@ -316,7 +313,7 @@ module _ (p : PlanOf) (calls : CallLists) (setup : Setup) (some : 0 < setup.sque
             home c lt (there_at 0) e.0 e.1 ∙ eq-eqb (there_at 0) (c % length hs) (ap (λ (k : ℕ). k % S) z ∙ ap (λ (n : ℕ). c % n) (sym hs_count)) in
             let many = stays_count e.0.setting e.0.history c in
             let one : length (firsts (is_here (start e.0.setting) c)) ≡ 1 = ap (λ (b : Bool). length (firsts b)) here in
-            let v = got (all_in (stays e.0.setting e.0.history c)) 0 (omega (arith, many, one)) in
+            let v = some_at (all_in (stays e.0.setting e.0.history c)) 0 (omega (arith, many, one)) in
             let there = stay_there hs c 0 (there_at 0) 0 e.0 v.0 e.1 (ap (λ (n : ℕ). (c + 0) % n) hs_count) (zero-div (length hs)) v.1 in
             cc (there, none)
 

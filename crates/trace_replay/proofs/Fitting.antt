@@ -1,7 +1,7 @@
 -- One more mark: whether a history's marks still keep homes, mode and budget.
-use Rattle.std.proofs.Common.{◌≡◌, ℕ, zero, suc, ◌+◌, ◌<◌, ◌≤◌, inl, inr, IfSome, Some, List, [], ◌∷◌, ◌++◌, length, slice_get, take, refl, ap, sym, ◌∙◌, subst, append_assoc, arith, length-append}
+use Rattle.std.proofs.Common.{◌≡◌, ℕ, zero, suc, ◌+◌, ◌<◌, ◌≤◌, inl, inr, IfSome, Some, List, [], ◌∷◌, ◌++◌, length, slice_get, take, refl, ap, sym, ◌∙◌, subst, append_assoc, arith}
 use Rattle.std.proofs.lemmas.Bool.{cases_eq}
-use Rattle.std.proofs.lemmas.List.{append-nil, take-append-le}
+use Rattle.std.proofs.lemmas.List.{append-nil, take-append-le, length_push}
 use Rattle.std.proofs.lemmas.Option.{slice_get_within}
 use Rattle.std.proofs.Math.Seq.{take-append_seam}
 use Rattle.perimeter_core.specs.declared.marks.Mark.TheVariants as On
@@ -11,6 +11,7 @@ use Rattle.perimeter_core.specs.Legal.{feed_count}
 use Rattle.squeue_enter.specs.declared.Mode.{Mode}
 use Rattle.squeue_state.specs.Naming.{Ending}
 use Rattle.squeue_rings.specs.Keeping.{Keeps, KeepsFrom, taken}
+use Rattle.squeue_rings.proofs.Linking.{last_of}
 use Rattle.ring_quotas.specs.declared.setup.Setup.{Setup}
 use Rattle.squeue_replay.specs.Pacing.{KeepsAt}
 use Rattle.trace_replay.specs.Reasons.{AreFit, IsUnfitAt, TakesFew}
@@ -26,17 +27,10 @@ take_all xs y = take-append_seam xs (y ∷ [])
 pub take_whole : {A : Type 0} (xs : List A) → take (length xs) xs ≡ xs
 take_whole xs = ap (take (length xs)) (sym (append-nil xs)) ∙ take-append_seam xs []
 
-pub one_longer : {A : Type 0} (xs : List A) (y : A) → length (xs ++ y ∷ []) ≡ length xs + 1
-one_longer xs y = length-append xs (y ∷ [])
-
 get_before : {A : Type 0} (xs : List A) (y : A) (n : ℕ) → n < length xs → slice_get (xs ++ y ∷ []) n ≡ slice_get xs n
 get_before [] y n there = absurd (omega (arith, there))
 get_before (x ∷ xs) y zero there = refl
 get_before (x ∷ xs) y (suc n) there = get_before xs y n (omega (arith, there))
-
-get_last : {A : Type 0} (xs : List A) (y : A) → slice_get (xs ++ y ∷ []) (length xs) ≡ Some y
-get_last [] y = refl
-get_last (x ∷ xs) y = get_last xs y
 
 -- ---- the pace
 
@@ -60,14 +54,14 @@ module _ (setup : Setup) (q : ℕ) (number : ℕ) (S : Setting) where
   takes_more r H e before one n m is took =
       elim (cases_eq n (length H)) [
         | inl last ↦
-            let same : e ≡ m = (let h : Some e ≡ Some m = sym (get_last H e) ∙ (ap (slice_get (H ++ e ∷ [])) (sym last) ∙ is) in cc h) in
+            let same : e ≡ m = (let h : Some e ≡ Some m = sym (last_of H e) ∙ (ap (slice_get (H ++ e ∷ [])) (sym last) ∙ is) in cc h) in
             let front : take n (H ++ e ∷ []) ≡ H = ap (λ (k : ℕ). take k (H ++ e ∷ [])) last ∙ take_all H e in
-            let whole : take (n + 1) (H ++ e ∷ []) ≡ H ++ e ∷ [] = ap (λ (k : ℕ). take k (H ++ e ∷ [])) (ap (λ (k : ℕ). k + 1) last ∙ sym (one_longer H e)) ∙ take_whole (H ++ e ∷ []) in
+            let whole : take (n + 1) (H ++ e ∷ []) ≡ H ++ e ∷ [] = ap (λ (k : ℕ). take k (H ++ e ∷ [])) (ap (λ (k : ℕ). k + 1) last ∙ sym (length_push H e)) ∙ take_whole (H ++ e ∷ []) in
             subst (λ (G : List Element). IfSome (taken S r G) (λ had. feed_count (done S (take (n + 1) (H ++ e ∷ []))) ≤ had + setup.budget)) (sym front)
             (subst (λ (G : List Element). IfSome (taken S r H) (λ had. feed_count (done S G) ≤ had + setup.budget)) (sym whole) (one (ap (λ (x : Element). x.mark) same ∙ took)))
         | inr other ↦
             let within = slice_get_within (H ++ e ∷ []) n m is in
-            let longer = one_longer H e in
+            let longer = length_push H e in
             let there : n < length H = omega (arith, within, longer, other) in
             let fits : n ≤ length H = omega (arith, there) in
             let next : n + 1 ≤ length H = omega (arith, there) in
@@ -77,9 +71,9 @@ module _ (setup : Setup) (q : ℕ) (number : ℕ) (S : Setting) where
 
   takes_last : (r : ℕ) (H : List Element) (e : Element) → TakesFew setup.budget r (with (H ++ e ∷ [])) → e.mark ≡ On.Take r → IfSome (taken S r H) (λ had. feed_count (done S (H ++ e ∷ [])) ≤ had + setup.budget)
   takes_last r H e all took =
-      let whole : take (length H + 1) (H ++ e ∷ []) ≡ H ++ e ∷ [] = ap (λ (k : ℕ). take k (H ++ e ∷ [])) (sym (one_longer H e)) ∙ take_whole (H ++ e ∷ []) in
+      let whole : take (length H + 1) (H ++ e ∷ []) ≡ H ++ e ∷ [] = ap (λ (k : ℕ). take k (H ++ e ∷ [])) (sym (length_push H e)) ∙ take_whole (H ++ e ∷ []) in
       subst (λ (G : List Element). IfSome (taken S r G) (λ had. feed_count (done S (H ++ e ∷ [])) ≤ had + setup.budget)) (take_all H e)
-      (subst (λ (G : List Element). IfSome (taken S r (take (length H) (H ++ e ∷ []))) (λ had. feed_count (done S G) ≤ had + setup.budget)) whole (all (length H) e (get_last H e) took))
+      (subst (λ (G : List Element). IfSome (taken S r (take (length H) (H ++ e ∷ []))) (λ had. feed_count (done S G) ≤ had + setup.budget)) whole (all (length H) e (last_of H e) took))
 
   pub fit_none : AreFit setup q (with [])
   fit_none = record { pace = λ r ring. tt; takes = λ r ring n m is. cc is }
@@ -106,7 +100,7 @@ module _ (setup : Setup) (q : ℕ) (number : ℕ) (S : Setting) where
 
   pub unfit_here : (H : List Element) (e : Element) → AreFit setup q (with H) → (KeepsAt setup q S H e → ⊥) → IsUnfitAt setup q (with (H ++ e ∷ [])) (length H)
   unfit_here H e fit broken =
-      let longer = one_longer H e in
+      let longer = length_push H e in
       let whole : take (length H + 1) (H ++ e ∷ []) ≡ H ++ e ∷ [] = ap (λ (k : ℕ). take k (H ++ e ∷ [])) (sym longer) ∙ take_whole (H ++ e ∷ []) in
       record {
         there = omega (arith, longer);
@@ -116,7 +110,7 @@ module _ (setup : Setup) (q : ℕ) (number : ℕ) (S : Setting) where
 
   pub unfit_on : (H : List Element) (e : Element) (n : ℕ) → IsUnfitAt setup q (with H) n → IsUnfitAt setup q (with (H ++ e ∷ [])) n
   unfit_on H e n was =
-      let longer = one_longer H e in
+      let longer = length_push H e in
       let there = was.there in
       let fits : n ≤ length H = omega (arith, there) in
       let next : n + 1 ≤ length H = omega (arith, there) in

@@ -6,12 +6,12 @@ use Rattle.std.proofs.lemmas.Bool.Decides.{nat_tests}
 use Rattle.perimeter_core.specs.declared.entries.Act.{Act}
 use Rattle.perimeter_core.specs.declared.entries.Act.TheVariants as Did
 use Rattle.perimeter_core.specs.declared.entries.Entry.TheVariants as Entry'
-use Rattle.perimeter_core.specs.declared.marks.SynchAct.TheVariants as Done
-use Rattle.perimeter_core.specs.Blocks.{Blocks as Had, longer, with_act, with_feeds}
+use Rattle.perimeter_core.specs.Blocks.{Blocks as Had, longer, with_feeds}
 use Rattle.perimeter_core.specs.Deeds.{fed, feed_numbers}
 use Rattle.perimeter_core.specs.Residing.{HadFeeds, Here}
+use Rattle.perimeter_core.proofs.NextFeed.{fed-append}
 use Rattle.squeue_replay.specs.Standing.{GuestOf}
-use Rattle.trace_replay.specs.Joining.{FeedsFollow, acts_in, did_before, did_in, with_acts, without}
+use Rattle.trace_replay.specs.Joining.{FeedsFollow, acts_in, did_before, did_in, with_acts}
 
 longer_both : (xs ys : List Act) (o : Option (List Act)) → longer ys (longer xs o) ≡ longer (xs ++ ys) o
 longer_both xs ys None = refl
@@ -20,13 +20,6 @@ longer_both xs ys (Some had) = ap Some (append_assoc had xs ys)
 longer_none : (o : Option (List Act)) → longer [] o ≡ o
 longer_none None = refl
 longer_none (Some x) = ap Some (append-nil x)
-
-pub no_acts : (c : ℕ) (had : Had) → with_acts c [] had ≡ had
-no_acts c had i d = by (c == d) i
-  where
-    by : (b : Bool) → (if b then longer [] (had d) else had d) ≡ had d
-    by true = longer_none (had d)
-    by false = refl
 
 pub acts_both : (c : ℕ) (xs ys : List Act) (had : Had) → with_acts c ys (with_acts c xs had) ≡ with_acts c (xs ++ ys) had
 acts_both c xs ys had i d = by (c == d) i
@@ -42,17 +35,6 @@ one_feed c n had i d = by (c == d) i
     by true = refl
     by false = longer_none (had d)
 
-pub one_call : (c j k : ℕ) (had : Had) → with_act (Done.Call c j k) [] had ≡ with_acts c (Did.Call j k ∷ []) had
-one_call c j k had = refl
-
-pub is_out : (c : ℕ) (had : Had) → with_act (Done.Out c) [] had ≡ without c had
-is_out c had = refl
-
-pub fed_both : (xs ys : List Act) → fed (xs ++ ys) ≡ fed xs + fed ys
-fed_both [] ys = omega arith
-fed_both (Did.Feed n ∷ xs) ys = omega (arith, fed_both xs ys)
-fed_both (Did.Call j k ∷ xs) ys = fed_both xs ys
-
 pub here_with : (c : ℕ) (xs : List Act) (had : Had) (was : List Act) → had c ≡ Some was → with_acts c xs had c ≡ Some (was ++ xs)
 here_with c xs had was e = let same : (c == c) ≡ true = grind (arith, nat_tests) in rw (same, e) refl
 
@@ -63,7 +45,7 @@ had_more Stands Now c n xs h go = record {
   had = h.had ++ xs;
   stands = go h.blocks h.stands;
   here = here_with c xs h.blocks h.had h.here;
-  feeds = fed_both h.had xs ∙ ap (λ (m : ℕ). m + fed xs) h.feeds;
+  feeds = fed-append h.had xs ∙ ap (λ (m : ℕ). m + fed xs) h.feeds;
 }
 
 pub is_here_then : (Stands : Had → Type 0) (c n : ℕ) → HadFeeds Stands c n → Here Stands c
@@ -71,10 +53,10 @@ is_here_then Stands c n h = record { blocks = h.blocks; had = h.had; stands = h.
 
 -- one act more
 pub fed_feed : (xs : List Act) (n : ℕ) → fed (xs ++ Did.Feed n ∷ []) ≡ fed xs + 1
-fed_feed xs n = fed_both xs (Did.Feed n ∷ [])
+fed_feed xs n = fed-append xs (Did.Feed n ∷ [])
 
 pub fed_call : (xs : List Act) (j k : ℕ) → fed (xs ++ Did.Call j k ∷ []) ≡ fed xs
-fed_call xs j k = fed_both xs (Did.Call j k ∷ []) ∙ omega arith
+fed_call xs j k = fed-append xs (Did.Call j k ∷ []) ∙ omega arith
 
 pub one_act : (acts : List Act) (i : ℕ) (d a : Act) → i < length acts → get_or acts i d ≡ a → take (i + 1) acts ≡ take i acts ++ a ∷ []
 one_act acts i d a lt e = take_more acts i d lt ∙ ap (λ (x : Act). take i acts ++ x ∷ []) e

@@ -8,19 +8,14 @@ use Rattle.std.proofs.lemmas.Bool.Decides.{nat_tests}
 use Rattle.std.proofs.lemmas.Option.{none-some, slice_get-map, slice_get_within}
 use Rattle.perimeter_core.specs.declared.entries.Act.{Act}
 use Rattle.squeue_state.specs.Naming.{Ending}
-use Rattle.conn_migrate.specs.Stays.{Stay, as_list, all_in, stays, stays_in, stays_at, stay, ended_stay, own_of, joined, AreLegal, AreOfAllStays}
-use Rattle.conn_migrate.proofs.OneSqueue.{in_front}
+use Rattle.conn_migrate.specs.Stays.{Stay, all_in, stays, stays_in, stay, ended_stay, own_of, joined, AreLegal, AreOfAllStays}
 use Rattle.squeue_replay.specs.Standing.{GuestOf, GuestStands, GuestsStand}
+use Rattle.squeue_serve.proofs.Lent.{some_at}
 use Rattle.trace_replay.specs.Reasons.{MissesAnOut}
 use Rattle.trace_replay.specs.Joining.{guest_among, did_at, has_left, acts_in, did_in, left_in, did_before, HasStays, IsNamed, LacksAStay}
 use Rattle.trace_replay.proofs.EndedStays.{ended_count}
+use Rattle.trace_replay.proofs.InStays.{is_stay}
 use Rattle.trace_replay.proofs.NamedCalls.{stay_named}
-
--- reads of lists
-pub there_is : {A : Type 0} (xs : List A) (i : ℕ) → i < length xs → (x : A) × (slice_get xs i ≡ Some x)
-there_is [] i lt = absurd (let no : ⊥ = omega (arith, lt) in no)
-there_is (x ∷ xs) zero lt = (x, refl)
-there_is (x ∷ xs) (suc i) lt = there_is xs i (omega (arith, lt))
 
 some_below : {A : Type 0} (xs : List A) (i : ℕ) → nat_lt i (length xs) ≡ is_some (slice_get xs i)
 some_below [] i = grind (arith, nat_tests)
@@ -47,21 +42,9 @@ not_some : {A : Type 0} (o : Option A) → is_some o ≡ false → o ≡ None
 not_some None e = refl
 not_some (Some x) e = absurd (let no : true ≡ false = e in let bad : ⊥ = cc in bad)
 
--- all stays are the same, whoever joins them
-pub same_all : (hs : List Ending) (c : ℕ) (a b : List Act) → AreOfAllStays hs c a → AreOfAllStays hs c b → a ≡ b
-same_all hs c a b x y = by (cases_lt x.count y.count) (cases_lt y.count x.count)
-  where
-    by : (x.count < y.count) ⊎ (y.count ≤ x.count) → (y.count < x.count) ⊎ (x.count ≤ y.count) → a ≡ b
-    by (inl lt) q = let v = y.each x.count lt in absurd (none-some v.0 (sym (x.none_else x.count (omega arith)) ∙ v.1))
-    by (inr le) (inl lt) = let v = x.each y.count lt in absurd (none-some v.0 (sym (y.none_else y.count (omega arith)) ∙ v.1))
-    by (inr le) (inr ge) = let same : x.count ≡ y.count = omega (arith, le, ge) in x.are_joined ∙ ap (joined hs c) same ∙ sym y.are_joined
-
 module _ (hs : List Ending) (c : ℕ) where
-  is_stay : (s : ℕ) (v : Stay) → ended_stay hs c s ≡ Some v → stay hs c s ≡ Some v
-  is_stay s v at = in_front (stays_at hs c s).ended (as_list (stays_at hs c s).now) (s / length hs) v at
-
   not_ended : (s : ℕ) → stay hs c s ≡ None → ended_stay hs c s ≡ None
-  not_ended s none = none_or (ended_stay hs c s) (λ v at. none-some v (sym none ∙ is_stay s v at))
+  not_ended s none = none_or (ended_stay hs c s) (λ v at. none-some v (sym none ∙ is_stay hs c s v at))
 
   -- where a stay behind another is there, and the other one hasn't ended, an Out is missing between them
   between : (d s : ℕ) (v : Stay) → stay hs c (s + 1 + d) ≡ Some v → ended_stay hs c s ≡ None → MissesAnOut hs c
@@ -79,7 +62,7 @@ module _ (hs : List Ending) (kept : List (List GuestOf)) (c : ℕ) (legal : AreL
   -- the guest at a squeue
   guest_there : (q : ℕ) (e : Ending) (gs : List GuestOf) → slice_get hs q ≡ Some e → slice_get kept q ≡ Some gs → (g : GuestOf) × (slice_get gs c ≡ Some g) × GuestStands e.setting e.history c g
   guest_there q e gs a b =
-      let found = there_is gs c (omega (arith, there q e a, stand.all q e gs a b)) in (found.0, found.1, stand.each q e gs a b c found.0 found.1)
+      let found = some_at gs c (omega (arith, there q e a, stand.all q e gs a b)) in (found.0, found.1, stand.each q e gs a b c found.0 found.1)
 
   did_there : (q i : ℕ) (o : Option Ending) (p : Option (List GuestOf)) → slice_get hs q ≡ o → slice_get kept q ≡ p
       → did_at (guest_among p c) i ≡ option_map own (slice_get (all_in (stays_in o c)) i)
@@ -87,9 +70,9 @@ module _ (hs : List Ending) (kept : List (List GuestOf)) (c : ℕ) (legal : AreL
       let g = guest_there q e gs a b in
       ap (λ (o : Option GuestOf). did_at o i) g.1 ∙ (ap (λ (l : List (List Act)). slice_get l i) g.2.did ∙ slice_get-map own (all_in (stays e.setting e.history c)) i)
   did_there q i (Some e) None a b =
-      let lt = slice_get_within hs q e a in let found = there_is kept q (omega (arith, lt, stand.count)) in absurd (none-some found.0 (sym b ∙ found.1))
+      let lt = slice_get_within hs q e a in let found = some_at kept q (omega (arith, lt, stand.count)) in absurd (none-some found.0 (sym b ∙ found.1))
   did_there q i None (Some gs) a b =
-      let lt = slice_get_within kept q gs b in let found = there_is hs q (omega (arith, lt, stand.count)) in absurd (none-some found.0 (sym a ∙ found.1))
+      let lt = slice_get_within kept q gs b in let found = some_at hs q (omega (arith, lt, stand.count)) in absurd (none-some found.0 (sym a ∙ found.1))
   did_there q i None None a b = refl
 
   left_there : (q i : ℕ) (o : Option Ending) (p : Option (List GuestOf)) → slice_get hs q ≡ o → slice_get kept q ≡ p
@@ -99,9 +82,9 @@ module _ (hs : List Ending) (kept : List (List GuestOf)) (c : ℕ) (legal : AreL
       ap (λ (o : Option GuestOf). has_left o i) g.1
       ∙ (ap (nat_lt i) (g.2.left ∙ sym (ended_count e.setting e.history c (legal q e a))) ∙ some_below (stays e.setting e.history c).ended i)
   left_there q i (Some e) None a b =
-      let lt = slice_get_within hs q e a in let found = there_is kept q (omega (arith, lt, stand.count)) in absurd (none-some found.0 (sym b ∙ found.1))
+      let lt = slice_get_within hs q e a in let found = some_at kept q (omega (arith, lt, stand.count)) in absurd (none-some found.0 (sym b ∙ found.1))
   left_there q i None (Some gs) a b =
-      let lt = slice_get_within kept q gs b in let found = there_is hs q (omega (arith, lt, stand.count)) in absurd (none-some found.0 (sym a ∙ found.1))
+      let lt = slice_get_within kept q gs b in let found = some_at hs q (omega (arith, lt, stand.count)) in absurd (none-some found.0 (sym a ∙ found.1))
   left_there q i None None a b = refl
 
   same_did : (s : ℕ) → did_in (length hs) kept c s ≡ option_map own (stay hs c s)

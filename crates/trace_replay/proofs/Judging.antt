@@ -1,10 +1,11 @@
 -- Why a report isn't one, from what is read of its lines; and what all of it says.
-use Rattle.std.proofs.Common.{◌≡◌, ◌∙◌, ℕ, suc, ◌+◌, ◌<◌, Bool, true, false, if◌then◌else◌, codes, List, [], ◌∷◌, ◌++◌, drop, get_or, length, map, take, Result, Ok, Err, refl, sym, ap, subst, arith}
+use Rattle.std.proofs.Common.{◌≡◌, ◌∙◌, ℕ, suc, ◌+◌, ◌<◌, Bool, true, if◌then◌else◌, codes, List, [], ◌∷◌, ◌++◌, drop, get_or, length, map, Result, Ok, Err, refl, sym, ap, subst, arith}
 use Rattle.std.specs.Fmt.{decimal}
 use Rattle.std.specs.Prelude.{All, OnOk}
 use Rattle.std.proofs.lemmas.List.Elements.{All-append, All-cons, All-head, All-nil, All-tail}
 use Rattle.std.specs.List.{enumerate_from, flat_map}
 use Rattle.std.proofs.lemmas.List.{append_assoc, append_cancel_left, length-map}
+use Rattle.std.proofs.lemmas.List.FromFn.{length-enumerate_from}
 use Rattle.perimeter_core.specs.declared.entries.Act.{Act}
 use Rattle.perimeter_core.specs.declared.marks.Mark.{Mark}
 use Rattle.tcb_machine.specs.declared.kinds.Call.{Call}
@@ -15,10 +16,8 @@ use Rattle.conn_classifier.specs.Plan.{PlanOf, plan_of}
 use Rattle.conn_blocks.specs.Allowed.{all_from, named_from}
 use Rattle.conn_blocks.specs.CallLists.{CallLists}
 use Rattle.ring_quotas.specs.declared.setup.Setup.{Setup}
-use Rattle.squeue_enter.specs.declared.Mode.{Mode}
-use Rattle.squeue_enter.specs.declared.Mode.TheVariants as Enters
-use Rattle.squeue_report.specs.ReportText.{body_text, done_line, line, report_text}
-use Rattle.squeue_report.specs.TraceText.{asked_text, call_line, calls_text, mode_word, setup_line, squeue_line, squeue_text, thread_text, trace_text}
+use Rattle.squeue_report.specs.ReportText.{body_text, done_line, report_text}
+use Rattle.squeue_report.specs.TraceText.{asked_text, call_line, calls_text, setup_line, squeue_line, squeue_text, thread_text, trace_text}
 use Rattle.squeue_replay.specs.Histories.{ending_of, endings_of}
 use Rattle.squeue_replay.specs.Standing.{GuestOf, GuestsStand}
 use Rattle.trace_lines.specs.Printed.{ArePrintedCalls, ArePrintedMarks, BeginsWithCall, IsPrintedCall, IsPrintedSetup, IsTold, Told, told_text}
@@ -26,24 +25,19 @@ use Rattle.trace_replay.specs.Lines.{HasFirstLine, HasNoLine}
 use Rattle.trace_replay.specs.declared.reason.Reason.{Reason}
 use Rattle.trace_replay.specs.declared.reason.Reason.TheVariants as reason
 use Rattle.trace_replay.specs.Judged.{FailsFor, IsHead, head_of}
-use Rattle.trace_replay.specs.Reasons.{DifferAt, HasForm, Holds, IsCut, IsRead, MarksFail, Says}
+use Rattle.trace_replay.specs.Reasons.{DifferAt, HasForm, Holds, IsCut, MarksFail, Says}
 use Rattle.trace_replay.specs.Replays.{Replays}
 use Rattle.trace_replay.proofs.Answered.{it_replays, not_both}
 use Rattle.trace_replay.proofs.Decode.{call_word, setup_back, setup_from, setup_words, verify_back, verify_from, word_decimal}
 use Rattle.trace_replay.proofs.FirstLines.{first_line, first_once}
-use Rattle.trace_replay.proofs.ReportLines.{head_avoids, head_text, no_s}
+use Rattle.trace_replay.proofs.ReportLines.{head_avoids, no_s}
 use Rattle.trace_replay.proofs.TextLines.{whole_differ}
 use Rattle.trace_replay.proofs.Words.{AreWords, all_both, in_word, is_word, line_apart}
-
-mode_is : (m : Mode) → is_word (mode_word m) ≡ true
-unfolding mode_word
-mode_is Enters.Process = refl
-mode_is Enters.NoDrain = refl
-mode_is Enters.Fill = refl
+use Rattle.trace_replay.proofs.ToldOnce.{word_asked, word_mode}
 
 words_are : (s : Setup) (v : Bool) → AreWords (codes "setup" ∷ setup_words s v)
 words_are s v =
-    (refl, (refl, (word_decimal s.squeues, (refl, (word_decimal s.rings, (refl, (mode_is s.mode, (refl, (word_decimal s.budget, (refl, (word_decimal s.spread, (refl, (word_decimal (if v then 1 else 0), tt)))))))))))))
+    (refl, (refl, (word_decimal s.squeues, (refl, (word_decimal s.rings, (refl, (word_mode s.mode, (refl, (word_decimal s.budget, (refl, (word_decimal s.spread, (refl, (word_decimal (if v then 1 else 0), tt)))))))))))))
 
 -- a setup's line fixes it
 pub same_setup : (s t : Setup) (v w : Bool) (r u : List ℕ) → IsPrintedSetup s → IsPrintedSetup t → setup_line s v ++ r ≡ setup_line t w ++ u → (s ≡ t) × (v ≡ w) × (r ≡ u)
@@ -76,13 +70,8 @@ items_are : (j : ℕ) (calls : CallLists) → flat_map item_text (items_from j c
 items_are j [] = refl
 items_are j (xs ∷ rest) = thread_is j xs (items_from (j + 1) rest) ∙ ap (λ t. thread_text (j, xs) ++ t) (items_are (j + 1) rest)
 
-asked_is : (a : Call) → is_word (asked_text a) ≡ true
-asked_is Asks.Status = refl
-asked_is (Asks.Buffer n) = all_both in_word (codes "buffer=") (decimal n) refl (word_decimal n)
-asked_is Asks.Close = refl
-
 call_is : (j c : ℕ) (a : Call) → is_word (call_word j (c, a)) ≡ true
-call_is j c a = all_both in_word (decimal j) (58 ∷ (decimal c ++ 58 ∷ asked_text a)) (word_decimal j) (all_both in_word (decimal c) (58 ∷ asked_text a) (word_decimal c) (asked_is a))
+call_is j c a = all_both in_word (decimal j) (58 ∷ (decimal c ++ 58 ∷ asked_text a)) (word_decimal j) (all_both in_word (decimal c) (58 ∷ asked_text a) (word_decimal c) (word_asked a))
 
 begins_call : (x : Item) (t : List ℕ) → BeginsWithCall (item_text x ++ t)
 unfolding call_line
@@ -218,14 +207,10 @@ whole_is : (p : PlanOf) (t : Told) (orders : List (List Act)) → head_of p t.ca
 unfolding trace_text
 whole_is p t orders = append_assoc (codes "report 2\n") (body_text p t.calls orders) (told_text t)
 
-enumerate_length : {A : Type 0} (n : ℕ) (xs : List A) → length (enumerate_from n xs) ≡ length xs
-enumerate_length n [] = refl
-enumerate_length n (x ∷ xs) = ap suc (enumerate_length (n + 1) xs)
-
 -- there are guests of each squeue
 pub guests_count : {A : Type 0} (f : A → List GuestOf) (p : PlanOf) (calls : CallLists) (s : Setup) (marks : List (List Mark)) (gs : List A) → GuestsStand (endings_of p calls s marks) (map f gs) → length marks ≡ s.squeues → length gs ≡ s.squeues
 guests_count f p calls s marks gs stand count =
-    sym (length-map gs f) ∙ (stand.count ∙ (length-map (enumerate_from 0 marks) (ending_of p calls s) ∙ (enumerate_length 0 marks ∙ count)))
+    sym (length-map gs f) ∙ (stand.count ∙ (length-map (enumerate_from 0 marks) (ending_of p calls s) ∙ (length-enumerate_from 0 marks ∙ count)))
 
 -- a reason for which marks fail is one for all of what was read
 pub marks_fail_for : (p : PlanOf) (calls : CallLists) (s : Setup) (marks : List (List Mark)) (head : List ℕ) (r : Reason) → MarksFail s (endings_of p calls s marks) r → FailsFor p calls s marks head r

@@ -10,9 +10,9 @@ use Rattle.conn_blocks.specs.CallLists.{CallLists}
 use Rattle.ring_quotas.specs.declared.setup.Setup.{Setup}
 use Rattle.squeue_replay.specs.Histories.{endings_of}
 use Rattle.squeue_replay.specs.Standing.{GuestOf, GuestsStand}
+use Rattle.squeue_serve.proofs.Lent.{some_at}
 use Rattle.trace_replay.specs.Joining.{guest_among}
 use Rattle.trace_replay.proofs.AllOrders.{starts_of}
-use Rattle.trace_replay.proofs.JoinedStays.{there_is}
 
 module _ {V G : Type 0} (items : V → List G) (f : G → GuestOf) (guests : List V) where
   pub row_at : (q : ℕ) (v : V) → slice_get guests q ≡ Some v → slice_get (map (λ w. map f (items w)) guests) q ≡ Some (map f (items v))
@@ -28,7 +28,7 @@ module _ {V G : Type 0} (items : V → List G) (f : G → GuestOf) (guests : Lis
       → All (λ v. length (items v) ≡ length p.tuples) guests
   all_there p calls setup marks stand k d lt =
       let count : length (map (λ w. map f (items w)) guests) ≡ length guests = length-map guests (λ w. map f (items w)) in
-      let e = there_is (endings_of p calls setup marks) k (omega (arith, lt, count, stand.count)) in
+      let e = some_at (endings_of p calls setup marks) k (omega (arith, lt, count, stand.count)) in
       let v : V = get_or guests k d in
       let row = row_at k v (slice_get-get_or guests k d lt) in
       sym (length-map (items v) f) ∙ (stand.all k e.0 (map f (items v)) e.1 row ∙ starts_of p calls setup marks k e.0 e.1)

@@ -1,10 +1,9 @@
 -- Each call that a legal history reports is one that the setting names.
-use Rattle.std.proofs.Common.{◌≡◌, ℕ, ◌==◌, Bool, true, false, if◌then◌else◌, List, [], ◌∷◌, ◌++◌, refl, ap, sym, ◌∙◌, subst, append_assoc, arith, zero, suc}
+use Rattle.std.proofs.Common.{◌≡◌, ℕ, ◌==◌, Bool, true, false, if◌then◌else◌, List, [], ◌∷◌, ◌++◌, refl, subst, arith, zero, suc}
 use Rattle.std.specs.Prelude.{slice_get, Some, Contains}
 use Rattle.std.specs.List.{AllByRecursion}
 use Rattle.std.proofs.lemmas.Bool.Decides.{nat_tests}
 use Rattle.std.proofs.lemmas.Option.{none-some}
-use Rattle.std.proofs.lemmas.List.{append-nil}
 use Rattle.perimeter_core.specs.declared.entries.Act.{Act}
 use Rattle.perimeter_core.specs.declared.entries.Act.TheVariants as Did
 use Rattle.perimeter_core.specs.declared.entries.Entry.{Entry}
@@ -12,13 +11,13 @@ use Rattle.perimeter_core.specs.declared.entries.Entry.TheVariants.{Feed, Ask}
 use Rattle.perimeter_core.specs.declared.marks.SynchAct.TheVariants as Done
 use Rattle.perimeter_core.specs.declared.marks.Mark.{Mark}
 use Rattle.perimeter_core.specs.declared.marks.Mark.TheVariants as On
-use Rattle.perimeter_core.specs.Perimeter.{State, after}
+use Rattle.perimeter_core.specs.Perimeter.{State}
 use Rattle.perimeter_core.specs.History.{Element, Setting, start, run_from}
 use Rattle.perimeter_core.specs.Deeds.{call_act, done_by, feed_acts, reported}
 use Rattle.perimeter_core.specs.Legal.{Legal, ActsFit}
 use Rattle.perimeter_core.proofs.OneMore.{legal_ind}
-use Rattle.conn_migrate.specs.Stays.{Stay, all_in, done_in, reports, reports_from, stays}
-use Rattle.conn_migrate.proofs.StaysKept.{reports_are_done}
+use Rattle.conn_migrate.specs.Stays.{Stay, all_in, done_in, reports, stays}
+use Rattle.conn_migrate.proofs.StaysKept.{reports_are_done, reports_push}
 use Rattle.trace_replay.specs.Joining.{IsNamed}
 
 module _ (names : List (ℕ × ℕ × ℕ)) (c : ℕ) where
@@ -67,12 +66,6 @@ call_named S H s c (On.Grant p j rest) fits = tt
 call_named S H s c (On.Accept j) fits = tt
 call_named S H s c (On.Work p) fits = tt
 call_named S H s c (On.Close p) fits = tt
-
-reports_push : (c : ℕ) (s : State) (H : List Element) (e : Element) → reports_from c s (H ++ e ∷ []) ≡ reports_from c s H ++ reported c (run_from s H) e.mark
-reports_push c s [] e = append-nil (reported c s e.mark)
-reports_push c s (x ∷ H) e =
-    ap (λ (had : List Act). reported c s x.mark ++ had) (reports_push c (after s x.mark) H e)
-    ∙ sym (append_assoc (reported c s x.mark) (reports_from c (after s x.mark) H) (reported c (run_from (after s x.mark) H) e.mark))
 
 reports_named : (S : Setting) (H : List Element) (c : ℕ) → Legal S H → AllByRecursion (IsNamed S.limits.calls c) (reports S H c)
 reports_named S H c l =

@@ -35,9 +35,6 @@ module _ (P : List Element → List Element → Type 0) (none : P [] []) (more :
 pub alike_more : (H K : List Element) (e f : Element) → Alike H K → e.mark ≡ f.mark → fed e.note ≡ fed f.note → Alike (H ++ e ∷ []) (K ++ f ∷ [])
 alike_more H K e f a m n = alike_ind (λ H K. Alike (H ++ e ∷ []) (K ++ f ∷ [])) (m, n, tt) (λ x y H K i j h. (i, j, h)) H K a
 
-pub alike_back : (H K : List Element) → Alike H K → Alike K H
-alike_back H K a = alike_ind (λ H K. Alike K H) tt (λ x y H K i j h. (sym i, sym j, h)) H K a
-
 pub run_alike : (H K : List Element) → Alike H K → (s : State) → run_from s H ≡ run_from s K
 run_alike H K a =
     alike_ind (λ H K. (s : State) → run_from s H ≡ run_from s K) (λ s. refl)

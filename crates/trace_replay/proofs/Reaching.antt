@@ -3,7 +3,7 @@ use Rattle.std.specs.Option.{option_or}
 use Rattle.std.specs.Bool.{then_some}
 use Rattle.std.specs.List.{flat_map}
 use Rattle.std.proofs.Common.{◌≡◌, ◌↔◌, ℕ, suc, ◌+◌, ◌<◌, ◌≤◌, not, All, Bool, true, false, Decides, IsTrue, MatchOption, Option, Some, None, List, [], ◌∷◌, ◌++◌, length, take, refl, ap, sym, ◌∙◌, subst, append_assoc, arith, length-append}
-use Rattle.std.proofs.lemmas.List.{append-nil}
+use Rattle.std.proofs.lemmas.List.{append-nil, length_push}
 use Rattle.std.proofs.Math.Seq.{take-append_seam}
 use Rattle.perimeter_core.specs.declared.marks.Mark.{Mark}
 use Rattle.perimeter_core.specs.Ending.{IsOver}
@@ -25,7 +25,7 @@ use Rattle.squeue_replay.proofs.OneMoreMark.{noted_push}
 use Rattle.trace_lines.proofs.MarkOnce.{line_same}
 use Rattle.trace_replay.specs.Reasons.{AreFit, IsIllegalAt, IsUnfitAt}
 use Rattle.trace_replay.specs.Going.{HasGone}
-use Rattle.trace_replay.proofs.Fitting.{fit_more, fit_none, one_longer, unfit_here, unfit_on}
+use Rattle.trace_replay.proofs.Fitting.{fit_more, fit_none, unfit_here, unfit_on}
 
 -- ---- lines
 
@@ -155,7 +155,7 @@ module _ (p : PlanOf) (calls : CallLists) (setup : Setup) (q : ℕ) where
           joined = whole;
           printed = next.printed;
           lines = next.lines;
-          counted = ap (λ (n : ℕ). n + 1) reached.counted ∙ sym (one_longer reached.past m);
+          counted = ap (λ (n : ℕ). n + 1) reached.counted ∙ sym (length_push reached.past m);
           stands = stands;
           paced = paced;
           fit = one_more reached.past m count unfit keeps reached.counted reached.fit decided;
@@ -163,7 +163,7 @@ module _ (p : PlanOf) (calls : CallLists) (setup : Setup) (q : ℕ) where
 
     pub illegal : (Legal its_setting (history (reached.past ++ m ∷ [])) → ⊥) → IsIllegalAt (ended ms) count
     illegal unlike =
-        let one = one_longer reached.past m in
+        let one = length_push reached.past m in
         let all = ap length whole ∙ length-append (reached.past ++ m ∷ []) next.others in
         let so_long = long ms in
         let n = reached.counted in

@@ -22,6 +22,7 @@ use Rattle.ring_quotas.specs.declared.setup.Setup.{Setup}
 use Rattle.ring_quotas.specs.Quotas.{IsInRange}
 use Rattle.ring_threads.specs.Fits.{Fits}
 use Rattle.squeue_replay.specs.Histories.{endings_of, stay_of, times_in}
+use Rattle.squeue_serve.proofs.Lent.{some_at}
 use Rattle.trace_replay.specs.Reasons.{AreOrdered, AreRight, HasClosed, IsOrdered, MissesAnOut}
 use Rattle.trace_replay.proofs.Endings.{due_by_stay, endings_are, full_at, full_count, full_endings, full_setting, starts_at, starts_count}
 use Rattle.trace_replay.proofs.Full.{alike_full, fed_dues, full_fits, full_from}
@@ -29,7 +30,7 @@ use Rattle.trace_replay.proofs.InStays.{in_known, stay_there}
 use Rattle.trace_replay.proofs.Notes.{Alike, NotesFit, legal_alike, notes_fit, pace_alike, run_alike}
 use Rattle.trace_replay.proofs.NotesIn.{begins_stay, firsts, marks_of}
 use Rattle.trace_replay.proofs.Rounds.{begun_at}
-use Rattle.trace_replay.proofs.StaysAlike.{AllAlike, all_same, ended_same, got, some_same, stay_same}
+use Rattle.trace_replay.proofs.StaysAlike.{AllAlike, all_same, ended_same, some_same, stay_same}
 use Rattle.trace_replay.proofs.TakesFew.{takes_few}
 
 -- histories that are alike at each squeue: the ones are right where the others are
@@ -96,7 +97,7 @@ module _ (p : PlanOf) (calls : CallLists) (setup : Setup) (some : 0 < setup.sque
   }
 
   other : (q : ℕ) (k : Ending) → slice_get ks q ≡ Some k → (h : Ending) × (slice_get hs q ≡ Some h)
-  other q k at = let w = slice_get_within ks q k at in let n = alike.count in got hs q (omega (arith, w, n))
+  other q k at = let w = slice_get_within ks q k at in let n = alike.count in some_at hs q (omega (arith, w, n))
 
   legal : (q : ℕ) (k : Ending) → slice_get ks q ≡ Some k → Legal k.setting k.history
   legal q k at =

@@ -1,8 +1,7 @@
 -- Which stay of a connection an In at a squeue begins.
-use Rattle.std.proofs.Common.{◌≡◌, ◌≢◌, ℕ, zero, suc, ◌+◌, ◌-◌, ◌*◌, ◌/◌, ◌%◌, ◌<◌, ◌≤◌, ◌==◌, inl, inr, Bool, true, false, if◌then◌else◌, Some, List, [], ◌++◌, length, refl, ap, sym, ◌∙◌, arith, eq-eqb}
+use Rattle.std.proofs.Common.{◌≡◌, ℕ, zero, suc, ◌+◌, ◌-◌, ◌*◌, ◌/◌, ◌%◌, ◌<◌, ◌≤◌, ◌==◌, inl, inr, Bool, true, false, if◌then◌else◌, Some, List, [], ◌++◌, length, refl, ap, sym, ◌∙◌, arith, eq-eqb}
 use Rattle.std.specs.Prelude.{slice_get}
 use Rattle.std.proofs.lemmas.Bool.{cases_lt, ne_eqb}
-use Rattle.std.proofs.lemmas.Bool.Decides.{nat_tests}
 use Rattle.std.proofs.lemmas.Nat.{div-add-mod', div-mul-add, mod-mul-add, mod_below}
 use Rattle.perimeter_core.specs.declared.entries.Act.{Act}
 use Rattle.perimeter_core.specs.declared.marks.Mark.{Mark}
@@ -11,14 +10,9 @@ use Rattle.perimeter_core.specs.History.{Setting, start}
 use Rattle.conn_migrate.specs.Stays.{Stay, all_in, stays}
 use Rattle.squeue_replay.specs.Histories.{stay_of}
 use Rattle.ring_quotas.proofs.Moving.{mod_sum}
+use Rattle.squeue_rings.proofs.Counting.{are_same, are_apart}
 use Rattle.trace_replay.proofs.NotesIn.{firsts, note_at, notes_in}
 use Rattle.trace_replay.proofs.Full.{full_from, notes_in_full}
-
-are_same : (a b : ℕ) → (a == b) ≡ true → a ≡ b
-are_same a b e = grind (arith, nat_tests, e)
-
-are_apart : (a b : ℕ) → (a == b) ≡ false → a ≢ b
-are_apart a b e same = let no : ⊥ = grind (arith, nat_tests, e, same) in no
 
 module _ (s : ℕ) (some : 0 < s) where
   pub away_of : (c t : ℕ) → ((c + t) % s + s - c % s) % s ≡ t % s

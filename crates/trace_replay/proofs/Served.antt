@@ -1,11 +1,11 @@
 -- The traces of a run that kept its marks are the marks of its histories.
-use Rattle.std.proofs.Common.{◌≡◌, ◌∙◌, ℕ, suc, Bool, true, if◌then◌else◌, IfSome, Some, List, [], ◌∷◌, length, map, slice_get, refl, sym, ap, subst, arith}
+use Rattle.std.proofs.Common.{◌≡◌, ◌∙◌, ℕ, suc, Bool, true, if◌then◌else◌, IfSome, Some, List, [], ◌∷◌, length, map, slice_get, refl, ap, subst, arith}
 use Rattle.perimeter_core.specs.declared.marks.Mark.{Mark}
 use Rattle.squeue_state.specs.Naming.{Ending}
 use Rattle.squeue_state.specs.Told.{Traced, marks_of}
 
 -- the marks of a history
-abbrev marks_in : Ending → List Mark
+abbrev pub marks_in : Ending → List Mark
 marks_in e = map (λ m. m.mark) e.history
 
 abbrev AreTraced : List Traced → List Ending → Type 0

@@ -1,5 +1,5 @@
 -- The stays of histories that are alike: what was done in each is the same.
-use Rattle.std.proofs.Common.{◌≡◌, ℕ, zero, suc, ◌+◌, ◌/◌, ◌%◌, ◌<◌, ◌≤◌, inl, inr, Bool, true, false, if◌then◌else◌, Option, Some, None, List, [], ◌∷◌, ◌++◌, length, map, refl, ap, sym, ◌∙◌, subst, arith}
+use Rattle.std.proofs.Common.{◌≡◌, ℕ, zero, suc, ◌+◌, ◌/◌, ◌%◌, ◌≤◌, inl, inr, Bool, true, false, if◌then◌else◌, Option, Some, None, List, [], ◌∷◌, ◌++◌, length, map, refl, ap, sym, ◌∙◌, subst, arith}
 use Rattle.std.specs.Prelude.{slice_get}
 use Rattle.std.specs.Option.{option_map}
 use Rattle.std.proofs.lemmas.Bool.{cases_lt}
@@ -12,6 +12,7 @@ use Rattle.perimeter_core.specs.History.{Element, Setting}
 use Rattle.perimeter_core.specs.Deeds.{acts_after, puts_in, reported, takes_out}
 use Rattle.squeue_state.specs.Naming.{Ending}
 use Rattle.conn_migrate.specs.Stays.{AreOfAllStays, Stay, Stays, all_in, as_list, begun, ended_stay, joined, longer_by, own_of, stay, stays, stays_after, stays_at, stays_from, stays_in}
+use Rattle.squeue_serve.proofs.Lent.{some_at}
 use Rattle.trace_replay.proofs.Notes.{Alike, alike_ind}
 
 abbrev pub own_now : Option Stay → Option (List Act)
@@ -96,18 +97,13 @@ pub record AllAlike (hs ks : List Ending) : Type 0 where
   pub count : length hs ≡ length ks
   pub each : (q : ℕ) (h k : Ending) → slice_get hs q ≡ Some h → slice_get ks q ≡ Some k → (h.setting ≡ k.setting) × Alike h.history k.history
 
-pub got : {A : Type 0} (xs : List A) (i : ℕ) → i < length xs → (x : A) × (slice_get xs i ≡ Some x)
-got [] i lt = absurd (omega (arith, lt))
-got (x ∷ xs) zero lt = (x, refl)
-got (x ∷ xs) (suc i) lt = got xs i (omega (arith, lt))
-
 module _ (hs ks : List Ending) (a : AllAlike hs ks) (c : ℕ) where
   same_in : (q : ℕ) → SameOwn (stays_in (slice_get hs q) c) (stays_in (slice_get ks q) c)
   same_in q =
       elim (cases_lt q (length hs)) [
         | inl lt ↦
-            let h = got hs q lt in
-            let k = got ks q (let n = a.count in omega (arith, lt, n)) in
+            let h = some_at hs q lt in
+            let k = some_at ks q (let n = a.count in omega (arith, lt, n)) in
             let both = a.each q h.0 k.0 h.1 k.1 in
             subst (λ (o : Option Ending). SameOwn (stays_in o c) (stays_in (slice_get ks q) c)) (sym h.1)
             (subst (λ (o : Option Ending). SameOwn (stays_in (Some h.0) c) (stays_in o c)) (sym k.1) (stays_of_both c h.0.setting k.0.setting h.0.history k.0.history both.0 both.1))

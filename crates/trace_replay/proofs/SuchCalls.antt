@@ -1,6 +1,6 @@
 -- Accepted words ask for a setup and calls such as lines can say.
-use Rattle.std.proofs.Common.{◌≡◌, ℕ, ◌<◌, ◌≤◌, ◌==◌, ◌&&◌, ◌||◌, not, Bool, true, false, Option, Some, None, is_some, List, [], ◌∷◌, suc, length, map, filter, refl, ap, subst, if◌then◌else◌, arith}
-use Rattle.std.specs.Prelude.{All, nat_le, nat_lt, codes, option_and_then, option_map}
+use Rattle.std.proofs.Common.{◌≡◌, ℕ, ◌<◌, ◌≤◌, ◌==◌, ◌&&◌, Bool, true, false, Option, Some, None, List, [], ◌∷◌, suc, length, map, filter, refl, ap, subst, if◌then◌else◌, arith}
+use Rattle.std.specs.Prelude.{All, nat_le, codes, option_and_then, option_map}
 use Rattle.std.specs.Str.{bytes_eq}
 use Rattle.std.proofs.lemmas.Bool.{false≢true}
 use Rattle.std.proofs.lemmas.List.Elements.{All-cons, All-filter, All-from_recursion, All-map, All-nil}
@@ -11,18 +11,16 @@ use Rattle.squeue_run.specs.Words.{Text, given}
 use Rattle.squeue_run.specs.Asked.{Asked, asked, asked_by, asked_of, buffer_by, call_by, call_of, calls_of, go_together, input_of, mode_or_process, number_between, number_or, setup_by, setup_of, split_at}
 use Rattle.squeue_run.specs.CallWords.{AllThere, lists_of}
 use Rattle.squeue_run.specs.declared.calls.CallWord.{CallWord}
-use Rattle.squeue_run.proofs.Chains.{chained, guarded, mapped, number_within, some_is}
+use Rattle.squeue_run.proofs.Chains.{chained, guarded, mapped, number_within}
 use Rattle.squeue_run.proofs.InRange.{setup_in_range}
 use Rattle.squeue_run.proofs.Threads.{few_asked, lists_count}
 use Rattle.trace_lines.specs.Printed.{ArePrintedCalls, IsPrintedCall, IsPrintedSetup}
+use Rattle.squeue_state.proofs.Finish.{some_is}
 
 -- what a call asks for fits its line
 abbrev IsShort : Call → Type 0
 IsShort (Asks.Buffer n) = n ≤ 65535
 IsShort _ = Unit {0}
-
-no_call : (x : Call) → None ≡ Some x → ⊥
-no_call x e = cc
 
 buffer_short : (parts : Text × Text) (x : Call) → buffer_by parts ≡ Some x → IsShort x
 buffer_short parts x e =

@@ -1,5 +1,5 @@
 -- A legal history has such marks as lines can say, where the setting's numbers are small.
-use Rattle.std.proofs.Common.{◌≡◌, ◌≢◌, ◌∙◌, ℕ, ◌+◌, ◌*◌, ◌^◌, ◌<◌, ◌≤◌, inl, inr, true, List, [], ◌∷◌, ◌++◌, length, map, ap, sym, subst, arith, length-append}
+use Rattle.std.proofs.Common.{◌≡◌, ◌∙◌, ℕ, ◌^◌, ◌<◌, ◌≤◌, inl, inr, true, List, [], ◌∷◌, ◌++◌, length, map, ap, sym, subst, arith, length-append}
 use Rattle.std.specs.Prelude.{All, Contains, slice_index}
 use Rattle.std.proofs.lemmas.List.{map-append}
 use Rattle.std.proofs.lemmas.List.Elements.{All-nil, All-push}
@@ -12,8 +12,8 @@ use Rattle.perimeter_core.specs.declared.marks.Mark.TheVariants as On
 use Rattle.perimeter_core.specs.Perimeter.{State, Can, unprocessed}
 use Rattle.perimeter_core.specs.History.{Element, Setting, all_quotas, conns, pass_of, passes, run, worker}
 use Rattle.perimeter_core.specs.Backlog.{queue}
-use Rattle.perimeter_core.specs.Deeds.{done, due, entered, entries_of}
-use Rattle.perimeter_core.specs.Legal.{ActFits, ActInRange, ActsFit, EntriesInRange, Enters, InRange, Legal, May, RightKind, all_feeds, one_more}
+use Rattle.perimeter_core.specs.Deeds.{done, due, entries_of}
+use Rattle.perimeter_core.specs.Legal.{ActFits, ActInRange, ActsFit, EntriesInRange, Enters, InRange, Legal, RightKind, all_feeds, one_more}
 use Rattle.perimeter_core.proofs.OneMore.{legal_ind}
 use Rattle.perimeter_core.proofs.OrderAndWake.{order}
 use Rattle.perimeter_core.proofs.Quotas.{entered_within}

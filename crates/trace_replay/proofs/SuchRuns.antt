@@ -1,11 +1,11 @@
 -- What was served with its marks kept is reported by a text that replays, where the setup and the calls are such as lines can say, and the marks are within the limit.
 use Rattle.std.proofs.Common.{◌≡◌, ◌∙◌, ℕ, suc, ◌+◌, ◌*◌, ◌^◌, ◌<◌, ◌≤◌, Some, List, [], ◌∷◌, ◌++◌, length, map, refl, subst, sym, arith}
-use Rattle.std.specs.Prelude.{All, Bool, Contains, slice_get, slice_index}
+use Rattle.std.specs.Prelude.{All, Bool, slice_get, slice_index}
 use Rattle.std.proofs.lemmas.List.{length-map}
 use Rattle.std.proofs.lemmas.List.Elements.{All-append, All-cons, All-contains, All-map, All-nil, All-weaker}
 use Rattle.std.proofs.lemmas.List.FromFn.{get_or-map-range_with_len}
 use Rattle.perimeter_core.specs.declared.marks.Mark.{Mark}
-use Rattle.perimeter_core.specs.History.{Setting, all_quotas, conns, passes}
+use Rattle.perimeter_core.specs.History.{Setting, all_quotas, passes}
 use Rattle.perimeter_core.proofs.HistoryLength.{length_bounded}
 use Rattle.squeue_state.specs.Naming.{Ending}
 use Rattle.capture_reader.specs.Outcome.{CaptureFile}
@@ -28,6 +28,7 @@ use Rattle.trace_lines.specs.Printed.{ArePrintedCalls, IsPrintedSetup}
 use Rattle.pcapng_reader.specs.Input.{IsInput}
 use Rattle.trace_replay.specs.Replays.{Replays}
 use Rattle.trace_replay.proofs.FewItems.{few_items, few_marks}
+use Rattle.trace_replay.proofs.Served.{marks_in}
 use Rattle.trace_replay.proofs.SuchMarks.{IsSmallSetting, marks_said}
 
 few_tuples : (file : CaptureFile) (verify : Bool) → length (plan_of file verify).tuples ≤ 4096
@@ -51,10 +52,6 @@ calls_few j (l ∷ ls) threads few =
 each_of : {X : Type 0} (P : X → Type 0) (xs : List X) → ((q : ℕ) (x : X) → q < length xs → slice_get xs q ≡ Some x → P x) → All P xs
 each_of P [] each = All-nil P
 each_of P (x ∷ xs) each = All-cons P x xs (each 0 x (omega arith) refl) (each_of P xs (λ q y lt at. each (suc q) y (omega (arith, lt)) at))
-
--- its marks
-abbrev marks_in : Ending → List Mark
-marks_in e = map (λ m. m.mark) e.history
 
 -- such as the lines of one squeue can say
 abbrev AreSaid : List Mark → Type 0

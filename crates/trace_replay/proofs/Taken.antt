@@ -9,7 +9,7 @@ use Rattle.std.proofs.Math.Nat.{mod-lt}
 use Rattle.std.specs.declared.alloc.Global.{Global}
 use Rattle.perimeter_core.specs.declared.entries.Act.{Act}
 use Rattle.perimeter_core.specs.Blocks.{Blocks as Had, longer}
-use Rattle.perimeter_core.specs.Residing.{HadFeeds, Here}
+use Rattle.perimeter_core.specs.Residing.{Here}
 use Rattle.conn_classifier.specs.Plan.{PlanOf, items_in}
 use Rattle.conn_blocks.specs.Allowed.{feed_limits}
 use Rattle.conn_blocks.specs.CallLists.{CallLists}
@@ -31,9 +31,6 @@ here_at_one n c lt = let some : 0 < 1 = omega arith in here_first n 0 1 c lt (om
 -- how many feeds the connection may have
 pub feeds_allowed : (p : PlanOf) (c : ℕ) → c < length p.tuples → slice_index (feed_limits p) c ≡ length (items_in p c)
 feeds_allowed p c lt = get_or-map-range_with_len (λ d. length (items_in p d)) 0 (length p.tuples) c c 0 lt (omega arith)
-
-pub fresh_fed : (Stands : Had → Type 0) (c : ℕ) (had : Had) → Stands had → had c ≡ Some [] → HadFeeds Stands c 0
-fresh_fed Stands c had s e = record { blocks = had; had = []; stands = s; here = e; feeds = refl }
 
 pub given_here : (Now : Had → Type 0) (c : ℕ) (xs : List Act) (had : Had) → had c ≡ Some [] → Now (with_acts c xs had) → Here Now c
 given_here Now c xs had e s = record { blocks = with_acts c xs had; had = [] ++ xs; stands = s; here = here_with c xs had [] e }

@@ -1,10 +1,8 @@
 -- A ring that took the perimeter with feeds leaves or grants it before the history is over, so its Takes too are within the budget.
-use Rattle.std.proofs.Common.{◌≡◌, ◌≢◌, ℕ, zero, suc, ◌+◌, ◌≤◌, ◌==◌, ◌⊎◌, inl, inr, Bool, true, if◌then◌else◌, Option, Some, None, List, [], ◌∷◌, ◌++◌, take, drop, refl, ap, sym, ◌∙◌, subst, append_assoc, arith, eq-eqb}
+use Rattle.std.proofs.Common.{◌≡◌, ◌≢◌, ℕ, zero, suc, ◌+◌, ◌≤◌, ◌⊎◌, inl, inr, Bool, true, if◌then◌else◌, Option, Some, None, List, [], ◌∷◌, ◌++◌, take, drop, refl, ap, sym, ◌∙◌, subst, append_assoc, arith, eq-eqb}
 use Rattle.std.specs.Prelude.{IfSome, slice_get}
 use Rattle.std.proofs.lemmas.Bool.{cases_eq, ne_eqb}
 use Rattle.std.proofs.lemmas.List.{append-nil}
-use Rattle.perimeter_core.specs.declared.entries.Entry.{Entry}
-use Rattle.perimeter_core.specs.declared.entries.Entry.TheVariants.{Feed, Ask}
 use Rattle.perimeter_core.specs.declared.marks.Own.TheVariants.{Free, Out}
 use Rattle.perimeter_core.specs.declared.marks.Mark.{Mark}
 use Rattle.perimeter_core.specs.declared.marks.Mark.TheVariants as On
@@ -14,37 +12,26 @@ use Rattle.perimeter_core.specs.Deeds.{done, done_by}
 use Rattle.perimeter_core.specs.Legal.{IdleFirst, Legal, LegalFrom, May, feed_count}
 use Rattle.perimeter_core.proofs.OneMore.{done_push, legal_from_back, legal_front, legal_more, legal_next, run_push}
 use Rattle.perimeter_core.proofs.PassKept.{pass_kept}
+use Rattle.perimeter_core.proofs.Quotas.{feed_count-append}
 use Rattle.squeue_enter.specs.declared.Mode.{Mode}
 use Rattle.squeue_state.specs.Naming.{Ending}
 use Rattle.trace_replay.specs.Reasons.{TakesFew}
-use Rattle.squeue_rings.specs.Keeping.{KeepsFrom, KeepsPace, gives_it_up, taken, taken_after, taken_from}
-
-feeds_both : (xs ys : List Entry) → feed_count (xs ++ ys) ≡ feed_count xs + feed_count ys
-feeds_both [] ys = omega arith
-feeds_both (Feed c n ∷ xs) ys = let h = feeds_both xs ys in omega (arith, h)
-feeds_both (Ask p ∷ xs) ys = feeds_both xs ys
+use Rattle.squeue_rings.proofs.Pacing.{taken_join}
+use Rattle.squeue_rings.specs.Keeping.{KeepsFrom, KeepsPace, gives_it_up, taken, taken_after}
 
 pub does_more : (S : Setting) (H : List Element) (e : Element) → feed_count (done S H) ≤ feed_count (done S (H ++ e ∷ []))
 does_more S H e =
     let d = ap feed_count (done_push (start S) H e) in
-    let b = feeds_both (done S H) (done_by (run S H) e.mark) in
+    let b = feed_count-append (done S H) (done_by (run S H) e.mark) in
     omega (arith, d, b)
-
-taken_push : (S : Setting) (r : ℕ) (past : List Element) (o : Option ℕ) (H : List Element) (e : Element)
-    → taken_from S r past o (H ++ e ∷ []) ≡ (if pass_of e.mark == r then taken_after S (past ++ H) (taken_from S r past o H) e.mark else taken_from S r past o H)
-taken_push S r past o [] e = ap (λ (P : List Element). if pass_of e.mark == r then taken_after S P o e.mark else o) (sym (append-nil past))
-taken_push S r past o (x ∷ H) e =
-    let next : Option ℕ = if pass_of x.mark == r then taken_after S past o x.mark else o in
-    taken_push S r (past ++ x ∷ []) next H e
-    ∙ ap (λ (P : List Element). if pass_of e.mark == r then taken_after S P (taken_from S r (past ++ x ∷ []) next H) e.mark else taken_from S r (past ++ x ∷ []) next H) (append_assoc past (x ∷ []) H)
 
 pub taken_own : (S : Setting) (r : ℕ) (H : List Element) (e : Element) → pass_of e.mark ≡ r → taken S r (H ++ e ∷ []) ≡ taken_after S H (taken S r H) e.mark
 taken_own S r H e own =
-    taken_push S r [] None H e ∙ ap (λ (b : Bool). if b then taken_after S H (taken S r H) e.mark else taken S r H) (eq-eqb (pass_of e.mark) r own)
+    taken_join S r [] None H (e ∷ []) ∙ ap (λ (b : Bool). if b then taken_after S H (taken S r H) e.mark else taken S r H) (eq-eqb (pass_of e.mark) r own)
 
 pub taken_other : (S : Setting) (r : ℕ) (H : List Element) (e : Element) → pass_of e.mark ≢ r → taken S r (H ++ e ∷ []) ≡ taken S r H
 taken_other S r H e other =
-    taken_push S r [] None H e ∙ ap (λ (b : Bool). if b then taken_after S H (taken S r H) e.mark else taken S r H) (ne_eqb (pass_of e.mark) r other)
+    taken_join S r [] None H (e ∷ []) ∙ ap (λ (b : Bool). if b then taken_after S H (taken S r H) e.mark else taken S r H) (ne_eqb (pass_of e.mark) r other)
 
 -- what an owner makes: it gives the perimeter up, or takes the queue
 record TakesIt (S : Setting) (H : List Element) (r : ℕ) (e : Element) : Type 0 where

@@ -1,13 +1,9 @@
 -- Lines of texts: how many there are, and where two texts differ first.
-use Rattle.std.proofs.Common.{◌≡◌, ◌≢◌, ℕ, ◌+◌, ◌-◌, ◌<◌, ◌≤◌, ◌==◌, ◌⊎◌, Bool, true, false, List, [], ◌∷◌, ◌++◌, if◌then◌else◌, codes, get_or, length, take, drop, inl, inr, refl, sym, ap, subst, ◌∙◌, arith}
+use Rattle.std.proofs.Common.{◌≡◌, ◌≢◌, ℕ, ◌+◌, ◌-◌, ◌<◌, ◌≤◌, ◌==◌, ◌⊎◌, Bool, false, List, [], ◌∷◌, ◌++◌, if◌then◌else◌, codes, get_or, length, take, drop, inl, inr, refl, sym, ap, subst, ◌∙◌, arith}
 use Rattle.std.proofs.lemmas.Bool.{cases_eq, ne_eqb}
-use Rattle.std.proofs.lemmas.List.{append_assoc, append_cancel_left, append_cancel_right, append-nil, get_or-drop, length-append, length-drop, same_from_push, take-append-drop}
-use Rattle.trace_replay.specs.Lines.{EndsLine, HasLine, HasFirstLine}
+use Rattle.std.proofs.lemmas.List.{append_assoc, append_cancel_left, append_cancel_right, get_or-drop, length-append, length-drop, same_from_push, take-append-drop}
+use Rattle.trace_replay.specs.Lines.{EndsLine, HasFirstLine}
 use Rattle.trace_replay.specs.Reasons.{DifferAt, ShareLine, lines_in}
-
-pub lines_in-append : (xs ys : List ℕ) → lines_in (xs ++ ys) ≡ lines_in xs + lines_in ys
-lines_in-append [] ys = omega arith
-lines_in-append (x ∷ xs) ys = omega (arith, lines_in-append xs ys)
 
 heads : (a b : ℕ) (xs ys : List ℕ) → a ∷ xs ≡ b ∷ ys → (a ≡ b) × (xs ≡ ys)
 heads a b xs ys e = (cc, cc)

@@ -1,11 +1,13 @@
 -- The text from the setup on fixes what it says.
-use Rattle.std.proofs.Common.{◌≡◌, ℕ, suc, ◌+◌, ◌^◌, ◌<◌, ◌==◌, Bool, true, false, if◌then◌else◌, List, [], ◌∷◌, ◌++◌, length, map, refl, ap, sym, ◌∙◌, append_assoc, arith, eq-eqb, subst}
+use Rattle.std.proofs.Common.{◌≡◌, ℕ, ◌+◌, ◌^◌, ◌<◌, ◌==◌, Bool, true, false, if◌then◌else◌, List, [], ◌∷◌, ◌++◌, length, map, refl, ap, sym, ◌∙◌, append_assoc, arith, eq-eqb}
 use Rattle.std.specs.Prelude.{All, codes}
 use Rattle.std.specs.Fmt.{decimal}
 use Rattle.std.specs.List.{enumerate_from, flat_map}
 use Rattle.std.proofs.lemmas.Bool.{ne_eqb}
 use Rattle.std.proofs.lemmas.List.{length-map}
 use Rattle.std.proofs.lemmas.Grind.{flat_map-append}
+use Rattle.std.proofs.lemmas.Fmt.{decimal_injective}
+use Rattle.std.proofs.lemmas.List.Elements.{All-head, All-tail}
 use Rattle.perimeter_core.specs.declared.entries.Entry.{Entry}
 use Rattle.perimeter_core.specs.declared.entries.Entry.TheVariants.{Ask, Feed}
 use Rattle.perimeter_core.specs.declared.marks.Mark.{Mark}
@@ -19,18 +21,12 @@ use Rattle.squeue_enter.specs.declared.Mode.TheVariants as Mode'
 use Rattle.conn_blocks.specs.CallLists.{CallLists}
 use Rattle.ring_quotas.specs.declared.setup.Setup.{Setup}
 use Rattle.squeue_report.specs.ReportText.{done_line, line}
-use Rattle.squeue_report.specs.TraceText.{act_fields, asked_text, call_line, entered_field, mark_fields, mark_line, mode_word, setup_line, squeue_line, squeue_text, thread_text, calls_text}
+use Rattle.squeue_report.specs.TraceText.{act_fields, asked_text, call_line, entered_field, mark_fields, mark_line, mode_word, setup_line, squeue_line, squeue_text, thread_text}
 use Rattle.squeue_replay.specs.Marks.{IsPrinted}
-use Rattle.trace_lines.specs.Printed.{ArePrintedCalls, BeginsWithCall, IsPrintedCall, IsPrintedSetup, IsTold, Told, told_text}
+use Rattle.trace_lines.specs.Printed.{IsPrintedCall, IsTold, Told, told_text}
 use Rattle.trace_replay.proofs.Decode.{call_back, call_from, call_word, mark_back, mark_from, same_word, setup_back, setup_from, setup_words, thread_back, thread_from, verify_back, verify_from, word_decimal}
 use Rattle.trace_replay.proofs.FirstLines.{same_front}
-use Rattle.trace_replay.proofs.Words.{AreLines, AreWords, Line, Stops, all_both, all_of, apart, in_word, is_word, line_apart, lines_apart, same_number, text_of, words_of}
-
-all_head : {X : Type 0} (P : X → Type 0) (x : X) (xs : List X) → All P (x ∷ xs) → P x
-all_head P x xs h = h 0 x (omega arith)
-
-all_tail : {X : Type 0} (P : X → Type 0) (x : X) (xs : List X) → All P (x ∷ xs) → All P xs
-all_tail P x xs h = λ k d lt. h (suc k) d (omega (arith, lt))
+use Rattle.trace_replay.proofs.Words.{AreLines, AreWords, Line, Stops, all_both, all_of, apart, in_word, is_word, lines_apart, text_of, words_of}
 
 -- the lines, by words
 abbrev mark_words : Mark → Line
@@ -151,7 +147,7 @@ words_mark (On.Accept j) = (refl, (word_decimal j, tt))
 words_mark (On.Work p) = (refl, (word_decimal p, tt))
 words_mark (On.Close p) = (refl, (word_decimal p, tt))
 
-word_asked : (a : Call) → is_word (asked_text a) ≡ true
+pub word_asked : (a : Call) → is_word (asked_text a) ≡ true
 word_asked Asks.Status = refl
 word_asked (Asks.Buffer n) = word_decimal n
 word_asked Asks.Close = refl
@@ -159,7 +155,7 @@ word_asked Asks.Close = refl
 word_call : (j : ℕ) (x : ℕ × Call) → is_word (call_word j x) ≡ true
 word_call j (c, a) = word_more (decimal j) (58 ∷ (decimal c ++ 58 ∷ asked_text a)) (word_decimal j) (word_more (decimal c) (58 ∷ asked_text a) (word_decimal c) (word_asked a))
 
-word_mode : (m : Mode) → is_word (mode_word m) ≡ true
+pub word_mode : (m : Mode) → is_word (mode_word m) ≡ true
 unfolding mode_word
 word_mode Mode'.Process = refl
 word_mode Mode'.NoDrain = refl
@@ -241,8 +237,8 @@ threads_once conns more n (xs ∷ calls) (ys ∷ others) s u a b same small e =
     let part = apart (is_of n) (map (call_line_of n) xs) (map (call_line_of n) ys) (call_lines (n + 1) calls) (call_lines (n + 1) others)
     (of_block n xs (omega (arith, small))) (of_block n ys (omega (arith, small)))
     (later_stops n (n + 1) calls (omega arith) (omega (arith, small))) (later_stops n (n + 1) others (omega arith) (omega (arith, small, same))) e in
-    let here : xs ≡ ys = calls_two xs ys (all_head (λ thread. All (IsPrintedCall conns) thread) xs calls a) (all_head (λ thread. All (IsPrintedCall more) thread) ys others b) part.0 in
-    λ i. here i ∷ threads_once conns more (n + 1) calls others s u (all_tail (λ thread. All (IsPrintedCall conns) thread) xs calls a) (all_tail (λ thread. All (IsPrintedCall more) thread) ys others b) (omega (arith, same)) (omega (arith, small)) part.1 i
+    let here : xs ≡ ys = calls_two xs ys (All-head (λ thread. All (IsPrintedCall conns) thread) xs calls a) (All-head (λ thread. All (IsPrintedCall more) thread) ys others b) part.0 in
+    λ i. here i ∷ threads_once conns more (n + 1) calls others s u (All-tail (λ thread. All (IsPrintedCall conns) thread) xs calls a) (All-tail (λ thread. All (IsPrintedCall more) thread) ys others b) (omega (arith, same)) (omega (arith, small)) part.1 i
   where
     calls_two : (xs ys : List (ℕ × Call)) → All (IsPrintedCall conns) xs → All (IsPrintedCall more) ys → map (call_line_of n) xs ≡ map (call_line_of n) ys → xs ≡ ys
     calls_two [] [] a b e = refl
@@ -252,9 +248,9 @@ threads_once conns more n (xs ∷ calls) (ys ∷ others) s u a b same small e =
         let first : call_line_of n x ≡ call_line_of n y = cc e in
         let others : map (call_line_of n) xs ≡ map (call_line_of n) ys = cc e in
         let same : x ≡ y =
-        sym (fits_call conns x s (all_head (IsPrintedCall conns) x xs a) n)
-        ∙ (ap (λ (l : Line). call_from (first_of l.1)) first ∙ fits_call more y u (all_head (IsPrintedCall more) y ys b) n) in
-        λ i. same i ∷ calls_two xs ys (all_tail (IsPrintedCall conns) x xs a) (all_tail (IsPrintedCall more) y ys b) others i
+        sym (fits_call conns x s (All-head (IsPrintedCall conns) x xs a) n)
+        ∙ (ap (λ (l : Line). call_from (first_of l.1)) first ∙ fits_call more y u (All-head (IsPrintedCall more) y ys b) n) in
+        λ i. same i ∷ calls_two xs ys (All-tail (IsPrintedCall conns) x xs a) (All-tail (IsPrintedCall more) y ys b) others i
 
 -- the lines of marks fix the marks
 marks_once : (ms ns : List Mark) → All IsPrinted ms → All IsPrinted ns → map mark_words ms ≡ map mark_words ns → ms ≡ ns
@@ -265,8 +261,8 @@ marks_once (m ∷ ms) (n ∷ ns) a b e =
     let first : mark_words m ≡ mark_words n = cc e in
     let others : map mark_words ms ≡ map mark_words ns = cc e in
     let back : (x : Mark) → IsPrinted x → mark_from (words_of (mark_words x)) ≡ x = λ x h. ap mark_from (sym (mark_fields_are x)) ∙ mark_back x h in
-    let same : m ≡ n = sym (back m (all_head IsPrinted m ms a)) ∙ (ap (λ (l : Line). mark_from (words_of l)) first ∙ back n (all_head IsPrinted n ns b)) in
-    λ i. same i ∷ marks_once ms ns (all_tail IsPrinted m ms a) (all_tail IsPrinted n ns b) others i
+    let same : m ≡ n = sym (back m (All-head IsPrinted m ms a)) ∙ (ap (λ (l : Line). mark_from (words_of l)) first ∙ back n (All-head IsPrinted n ns b)) in
+    λ i. same i ∷ marks_once ms ns (All-tail IsPrinted m ms a) (All-tail IsPrinted n ns b) others i
 
 abbrev third_of : List (List ℕ) → List ℕ
 third_of (a ∷ b ∷ c ∷ ws) = c
@@ -282,12 +278,12 @@ squeues_once n (ms ∷ marks) (ns ∷ others) f g a b same e =
     let Each : List Mark → Type 0 = λ ms. All IsPrinted ms in
     let first : squeue_words n (length ms) ≡ squeue_words n (length ns) = cc e in
     let counts : decimal (length ms) ≡ decimal (length ns) = ap (λ (l : Line). third_of l.1) first in
-    let many : length ms ≡ length ns = same_number (length ms) (length ns) (all_head Few ms marks f) (all_head Few ns others g) counts in
+    let many : length ms ≡ length ns = decimal_injective (length ms) (length ns) (All-head Few ms marks f) (All-head Few ns others g) counts in
     let rest : (map mark_words ms ++ mark_lines (n + 1) marks) ++ done_words ∷ [] ≡ (map mark_words ns ++ mark_lines (n + 1) others) ++ done_words ∷ [] = cc e in
     let turned = sym (append_assoc (map mark_words ms) (mark_lines (n + 1) marks) (done_words ∷ [])) ∙ (rest ∙ append_assoc (map mark_words ns) (mark_lines (n + 1) others) (done_words ∷ [])) in
     let parts = same_front (map mark_words ms) (map mark_words ns) (mark_lines (n + 1) marks ++ done_words ∷ []) (mark_lines (n + 1) others ++ done_words ∷ []) (length-map ms mark_words ∙ (many ∙ sym (length-map ns mark_words))) turned in
-    let here : ms ≡ ns = marks_once ms ns (all_head Each ms marks a) (all_head Each ns others b) parts.0 in
-    λ i. here i ∷ squeues_once (n + 1) marks others (all_tail Few ms marks f) (all_tail Few ns others g) (all_tail Each ms marks a) (all_tail Each ns others b) (omega (arith, same)) parts.1 i
+    let here : ms ≡ ns = marks_once ms ns (All-head Each ms marks a) (All-head Each ns others b) parts.0 in
+    λ i. here i ∷ squeues_once (n + 1) marks others (All-tail Few ms marks f) (All-tail Few ns others g) (All-tail Each ms marks a) (All-tail Each ns others b) (omega (arith, same)) parts.1 i
 
 abbrev second_of : List Line → List (List ℕ)
 second_of [] = []
@@ -310,58 +306,3 @@ told_once conns more t u small few a b e =
     let count : length t.marks ≡ length u.marks = a.marks.count ∙ (ap (λ (s : Setup). s.squeues) setup ∙ sym b.marks.count) in
     let marks : t.marks ≡ u.marks = squeues_once 0 t.marks u.marks a.marks.few b.marks.few a.marks.each b.marks.each count parts.1 in
     λ i. record { setup = setup i; verify = verify i; calls = calls i; marks = marks i }
-
--- the same line by line: the setup's line, and then the calls' lines, where none follows
-abbrev others_in : List (List ℕ) → List (List ℕ)
-others_in [] = []
-others_in (w ∷ ws) = ws
-
-pub same_setup : (s u : Setup) (v w : Bool) (r x : List ℕ) → IsPrintedSetup s → IsPrintedSetup u → setup_line s v ++ r ≡ setup_line u w ++ x → (s ≡ u) × (v ≡ w) × (r ≡ x)
-same_setup s u v w r x a b e =
-    let turned = ap (λ (l : List ℕ). l ++ r) (sym (one_setup s v)) ∙ (e ∙ ap (λ (l : List ℕ). l ++ x) (one_setup u w)) in
-    let parts = line_apart (codes "setup") (codes "setup") (setup_words s v) (setup_words u w) r x (refl, words_setup s v) (refl, words_setup u w) turned in
-    let words : setup_words s v ≡ setup_words u w = ap (λ (l : List (List ℕ)). others_in l) parts.0 in (
-      sym (setup_back s v a) ∙ (ap setup_from words ∙ setup_back u w b),
-      sym (verify_back s v) ∙ (ap verify_from words ∙ verify_back u w),
-      parts.1,
-    )
-
-abbrev Begins : Line → Type 0
-Begins l = (rest : List ℕ) → BeginsWithCall (text_of l ++ rest)
-
-abbrev AllBegin : List Line → Type 0
-AllBegin [] = Unit {0}
-AllBegin (l ∷ ls) = Begins l × AllBegin ls
-
-begin_both : (ls ms : List Line) → AllBegin ls → AllBegin ms → AllBegin (ls ++ ms)
-begin_both [] ms a b = b
-begin_both (l ∷ ls) ms a b = (a.0, begin_both ls ms a.1 b)
-
-thread_begins : (n : ℕ) (xs : List (ℕ × Call)) → AllBegin (map (call_line_of n) xs)
-thread_begins n [] = tt
-thread_begins n (x ∷ xs) = (λ rest. refl, thread_begins n xs)
-
-calls_begin : (n : ℕ) (calls : CallLists) → AllBegin (call_lines n calls)
-calls_begin n [] = tt
-calls_begin n (xs ∷ calls) = begin_both (map (call_line_of n) xs) (call_lines (n + 1) calls) (thread_begins n xs) (calls_begin (n + 1) calls)
-
-calls_apart : (ls ms : List Line) (r x : List ℕ) → AreLines ls → AreLines ms → AllBegin ls → AllBegin ms → (BeginsWithCall r → ⊥) → (BeginsWithCall x → ⊥)
-    → flat_map text_of ls ++ r ≡ flat_map text_of ms ++ x → (ls ≡ ms) × (r ≡ x)
-calls_apart [] [] r x a b f g no_r no_x e = (refl, e)
-calls_apart [] (m ∷ ms) r x a b f g no_r no_x e = absurd (no_r (subst BeginsWithCall (sym (e ∙ append_assoc (text_of m) (flat_map text_of ms) x)) (g.0 (flat_map text_of ms ++ x))))
-calls_apart (l ∷ ls) [] r x a b f g no_r no_x e = absurd (no_x (subst BeginsWithCall (sym (append_assoc (text_of l) (flat_map text_of ls) r) ∙ e) (f.0 (flat_map text_of ls ++ r))))
-calls_apart ((v, vs) ∷ ls) ((w, ws) ∷ ms) r x a b f g no_r no_x e =
-    let turned = sym (append_assoc (text_of (v, vs)) (flat_map text_of ls) r) ∙ (e ∙ append_assoc (text_of (w, ws)) (flat_map text_of ms) x) in
-    let first = line_apart v w vs ws (flat_map text_of ls ++ r) (flat_map text_of ms ++ x) a.0 b.0 turned in
-    let one : v ≡ w = cc (first.0) in
-    let others : vs ≡ ws = cc (first.0) in
-    let rest = calls_apart ls ms r x a.1 b.1 f.1 g.1 no_r no_x first.1 in
-    (λ i. (one i, others i) ∷ rest.0 i, rest.1)
-
-pub same_calls : (conns more : ℕ) (a b : CallLists) (r x : List ℕ) → conns < 2 ^ 64 → more < 2 ^ 64 → ArePrintedCalls conns a → ArePrintedCalls more b → (BeginsWithCall r → ⊥) → (BeginsWithCall x → ⊥)
-    → calls_text a ++ r ≡ calls_text b ++ x → (a ≡ b) × (r ≡ x)
-same_calls conns more a b r x small few c d no_r no_x e =
-    let turned = ap (λ (l : List ℕ). l ++ r) (sym (calls_are 0 a)) ∙ (e ∙ ap (λ (l : List ℕ). l ++ x) (calls_are 0 b)) in
-    let parts = calls_apart (call_lines 0 a) (call_lines 0 b) r x (calls_lines 0 a) (calls_lines 0 b) (calls_begin 0 a) (calls_begin 0 b) no_r no_x turned in
-    let four = c.threads in
-    (threads_once conns more 0 a b small few c.each d.each (four ∙ sym d.threads) (omega (arith, four)) parts.0, parts.1)

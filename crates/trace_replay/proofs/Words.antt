@@ -1,5 +1,5 @@
 -- Texts of lines and words: a text fixes its words.
-use Rattle.std.proofs.Common.{◌≡◌, ℕ, ◌^◌, ◌<◌, ◌==◌, Bool, true, false, if◌then◌else◌, List, [], ◌∷◌, ◌++◌, refl, ap, sym, ◌∙◌, subst, arith}
+use Rattle.std.proofs.Common.{◌≡◌, ℕ, ◌^◌, ◌<◌, ◌==◌, Bool, true, false, if◌then◌else◌, List, [], ◌∷◌, ◌++◌, refl, ap, sym, ◌∙◌, subst, arith, append_assoc}
 use Rattle.std.specs.Fmt.{decimal}
 use Rattle.std.specs.List.{flat_map}
 use Rattle.std.specs.Str.Parse.{digits_value}
@@ -61,17 +61,13 @@ end_stops : (ws : List (List ℕ)) (rest : List ℕ) → Stops in_word (line_end
 end_stops [] rest = refl
 end_stops (w ∷ ws) rest = refl
 
-append_three : (xs ys zs : List ℕ) → (xs ++ ys) ++ zs ≡ xs ++ (ys ++ zs)
-append_three [] ys zs = refl
-append_three (x ∷ xs) ys zs = ap (λ (l : List ℕ). x ∷ l) (append_three xs ys zs)
-
 ends_apart : (vs ws : List (List ℕ)) (r s : List ℕ) → AreWords vs → AreWords ws → line_end vs ++ r ≡ line_end ws ++ s → (vs ≡ ws) × (r ≡ s)
 ends_apart [] [] r s a b e = (refl, (let f : r ≡ s = cc e in f))
 ends_apart [] (w ∷ ws) r s a b e = absurd (let f : first_byte (line_end [] ++ r) ≡ first_byte (line_end (w ∷ ws) ++ s) = ap first_byte e in let no : ⊥ = omega (arith, f) in no)
 ends_apart (v ∷ vs) [] r s a b e = absurd (let f : first_byte (line_end (v ∷ vs) ++ r) ≡ first_byte (line_end [] ++ s) = ap first_byte e in let no : ⊥ = omega (arith, f) in no)
 ends_apart (v ∷ vs) (w ∷ ws) r s a b e =
     let f : (v ++ line_end vs) ++ r ≡ (w ++ line_end ws) ++ s = cc e in
-    let g : v ++ (line_end vs ++ r) ≡ w ++ (line_end ws ++ s) = sym (append_three v (line_end vs) r) ∙ (f ∙ append_three w (line_end ws) s) in
+    let g : v ++ (line_end vs ++ r) ≡ w ++ (line_end ws ++ s) = sym (append_assoc v (line_end vs) r) ∙ (f ∙ append_assoc w (line_end ws) s) in
     let x = apart in_word v w (line_end vs ++ r) (line_end ws ++ s) a.0 b.0 (end_stops vs r) (end_stops ws s) g in
     let y = ends_apart vs ws r s a.1 b.1 x.1 in
     (λ i. x.0 i ∷ y.0 i, y.1)
@@ -79,7 +75,7 @@ ends_apart (v ∷ vs) (w ∷ ws) r s a b e =
 -- a line's words, with at least one
 pub line_apart : (v w : List ℕ) (vs ws : List (List ℕ)) (r s : List ℕ) → AreWords (v ∷ vs) → AreWords (w ∷ ws) → line (v ∷ vs) ++ r ≡ line (w ∷ ws) ++ s → (v ∷ vs ≡ w ∷ ws) × (r ≡ s)
 line_apart v w vs ws r s a b e =
-    let g : v ++ (line_end vs ++ r) ≡ w ++ (line_end ws ++ s) = sym (append_three v (line_end vs) r) ∙ (e ∙ append_three w (line_end ws) s) in
+    let g : v ++ (line_end vs ++ r) ≡ w ++ (line_end ws ++ s) = sym (append_assoc v (line_end vs) r) ∙ (e ∙ append_assoc w (line_end ws) s) in
     let x = apart in_word v w (line_end vs ++ r) (line_end ws ++ s) a.0 b.0 (end_stops vs r) (end_stops ws s) g in
     let y = ends_apart vs ws r s a.1 b.1 x.1 in
     (λ i. x.0 i ∷ y.0 i, y.1)
@@ -121,6 +117,3 @@ number_of w = digits_value 10 w
 
 pub number_is : (n : ℕ) → n < 2 ^ 64 → number_of (decimal n) ≡ n
 number_is n small = (decimal_is_IsNumeral n small).1
-
-pub same_number : (n m : ℕ) → n < 2 ^ 64 → m < 2 ^ 64 → decimal n ≡ decimal m → n ≡ m
-same_number n m a b e = sym (number_is n a) ∙ (ap number_of e ∙ number_is m b)

@@ -1,6 +1,6 @@
 -- How a replay ends: by its answer, what was read, and what was written.
-use Rattle.std.specs.Prelude.{◌≡◌, ℕ, ◌+◌, ◌≤◌, ◌<◌, ◌⊎◌, Bool, true, false, Option, List, length, codes}
-use Rattle.std.specs.Io.KnownBytes.{Appends, Keeps}
+use Rattle.std.specs.Prelude.{◌≡◌, ℕ, ◌+◌, ◌≤◌, ◌⊎◌, Bool, true, false, List, length, codes}
+use Rattle.std.specs.Io.KnownBytes.{Appends}
 use Rattle.sq_base.specs.Ends.{AppendsProperly, End, GetsLine, IsUntouched, MetNoFault, OnlyTells, Rose}
 use Rattle.capture_reader.specs.Outcome.{ReadsWhole, Takes}
 use Rattle.trace_replay.specs.declared.reason.Reason.{Reason}

@@ -1,13 +1,12 @@
 -- Why an input doesn't replay: the first reason that holds. Each reason has those before it behind it.
-use Rattle.std.specs.Prelude.{◌≡◌, ◌≢◌, ℕ, ◌+◌, ◌<◌, ◌≤◌, ◌==◌, ◌⊎◌, if◌then◌else◌, IfSome, false, true, List, Some, None, [], ◌∷◌, ◌++◌, length, take, slice_get, codes}
+use Rattle.std.specs.Prelude.{◌≡◌, ◌≢◌, ℕ, ◌+◌, ◌<◌, ◌≤◌, ◌==◌, if◌then◌else◌, IfSome, List, Some, None, [], ◌∷◌, ◌++◌, length, take, slice_get, codes}
 use Rattle.perimeter_core.specs.declared.entries.Act.{Act}
 use Rattle.perimeter_core.specs.declared.marks.Mark.TheVariants as On
 use Rattle.perimeter_core.specs.Deeds.{done}
 use Rattle.perimeter_core.specs.Ending.{IsOver}
-use Rattle.perimeter_core.specs.History.{Element, pass_of, run}
+use Rattle.perimeter_core.specs.History.{Element, run}
 use Rattle.perimeter_core.specs.Legal.{Legal, feed_count}
 use Rattle.squeue_state.specs.Naming.{Ending}
-use Rattle.capture_reader.specs.Limits.{most_bytes}
 use Rattle.capture_reader.specs.Outcome.{CaptureFile}
 use Rattle.conn_migrate.specs.Stays.{AreOfAllStays, Stay, ended_stay, stay}
 use Rattle.conn_classifier.specs.Plan.{PlanOf, plan_of}

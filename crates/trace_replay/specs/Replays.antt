@@ -1,11 +1,11 @@
 -- An input that replays: the report of some right run that kept its marks, and its capture behind it.
-use Rattle.std.specs.Prelude.{◌≡◌, ℕ, ◌≤◌, Bool, List, ◌++◌, length, map}
+use Rattle.std.specs.Prelude.{◌≡◌, ℕ, List, ◌++◌, length, map}
 use Rattle.perimeter_core.specs.declared.entries.Act.{Act}
 use Rattle.std.specs.Io.KnownBytes.{Appends}
 use Rattle.sq_base.specs.Ends.{End}
 use Rattle.capture_reader.specs.Outcome.{CaptureFile, ReadsWhole}
 use Rattle.pcapng_reader.specs.Input.{IsInput}
-use Rattle.conn_classifier.specs.Plan.{PlanOf, plan_of}
+use Rattle.conn_classifier.specs.Plan.{plan_of}
 use Rattle.squeue_state.specs.Naming.{Ending}
 use Rattle.ring_threads.specs.Fits.{Fits}
 use Rattle.squeue_report.specs.TraceText.{trace_text}

@@ -1,8 +1,5 @@
-use Rattle.std.proofs.Common.{◌≡◌, ℕ, ◌+◌, ◌-◌, ◌≤◌, List, length, take, drop, refl, sym, ap, subst, arith, length-drop}
+use Rattle.std.proofs.Common.{◌≡◌, ◌+◌, ◌-◌, ◌≤◌, length, take, drop, refl, ap, subst, arith, length-drop}
 use Rattle.capture_reader.specs.Limits.{most_bytes}
-use Rattle.capture_reader.specs.Outcome.{CaptureFile}
-use Rattle.pcapng_reader.specs.Input.{IsInput}
-use Rattle.trace_replay.specs.declared.reason.Reason.{Reason}
 use Rattle.trace_replay.specs.declared.reason.Reason.TheVariants as reason
 use Rattle.trace_replay.specs.Lines.{HasFirstLine, HasNoLine}
 use Rattle.squeue_report.specs.ReportText.{done_line}

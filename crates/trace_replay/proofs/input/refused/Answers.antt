@@ -1,4 +1,4 @@
-use Rattle.std.proofs.Common.{◌≡◌, List, ℕ, sym, subst}
+use Rattle.std.proofs.Common.{subst}
 use Rattle.pcapng_reader.specs.Input.{InputFails}
 use Rattle.trace_replay.proofs.Captures.{no_capture, no_pcapng}
 use Rattle.trace_replay.proofs.input.refused.Goals as goal

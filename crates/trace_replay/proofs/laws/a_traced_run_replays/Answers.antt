@@ -1,4 +1,4 @@
-use Rattle.std.proofs.Common.{◌≡◌, ◌∙◌, ℕ, true, Bool, Option, Some, None, List, ◌++◌, if◌then◌else◌, length, ap, subst, sym}
+use Rattle.std.proofs.Common.{◌≡◌, ◌∙◌, ℕ, true, Bool, Option, Some, List, ◌++◌, if◌then◌else◌, ap, subst, sym}
 use Rattle.sq_base.specs.Ends.{End}
 use Rattle.sq_base.specs.declared.kinds.Status.TheVariants as status
 use Rattle.conn_classifier.specs.Plan.{plan_of}

@@ -4,11 +4,12 @@ use Rattle.perimeter_core.specs.declared.entries.Act.{Act}
 use Rattle.perimeter_core.specs.Blocks.{Blocks as Had}
 use Rattle.perimeter_core.specs.Deeds.{fed}
 use Rattle.perimeter_core.specs.Residing.{HadFeeds}
+use Rattle.perimeter_core.proofs.NextFeed.{fed-append}
 use Rattle.conn_classifier.specs.Plan.{items_in}
 use Rattle.conn_blocks.specs.Places.{Stands}
 use Rattle.squeue_replay.specs.Standing.{GuestOf, guest_of}
 use Rattle.trace_replay.specs.Joining.{FeedsFollow, did_before, with_acts}
-use Rattle.trace_replay.proofs.Giving.{acts_both, fed_both, had_more, one_more_stay, stay_follows}
+use Rattle.trace_replay.proofs.Giving.{acts_both, had_more, one_more_stay, stay_follows}
 use Rattle.trace_replay.proofs.orders.give_all.Goals as goal
 
 pub unreachable-requires : goal.unreachable-requires
@@ -47,7 +48,7 @@ loop-stay-preserved c =
           subst (λ (h : Had). Stands c.give.new.blocks h) (acts_both c.args.c did acts had ∙ ap (λ (l : List Act). with_acts c.args.c l had) (sym one))
           (gave.stands refl (with_acts c.args.c did had) (so_far.stands had stands));
       origin = gave.origin ∙ so_far.origin;
-      feeds = let fed_now = gave.yes refl in omega (arith, fed_now, so_far.feeds, ap fed one, fed_both did acts);
+      feeds = let fed_now = gave.yes refl in omega (arith, fed_now, so_far.feeds, ap fed one, fed-append did acts);
     }
 
 pub returns-clause-stands : goal.returns-clause-stands

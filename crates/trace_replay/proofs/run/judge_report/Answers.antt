@@ -1,11 +1,9 @@
-use Rattle.std.proofs.Common.{◌≡◌, ◌∙◌, ℕ, List, ◌++◌, Bor, codes, length, map, take, drop, sym, ap, subst}
+use Rattle.std.proofs.Common.{◌≡◌, ◌∙◌, ℕ, List, Bor, codes, length, map, take, drop, sym, ap, subst}
 use Rattle.std.specs.List.{flat_map}
 use Rattle.std.specs.Prelude.{All}
 use Rattle.std.proofs.lemmas.List.{take-append-drop}
-use Rattle.capture_reader.specs.Outcome.{CaptureFile}
 use Rattle.squeue_report.specs.TraceText.{mark_line}
 use Rattle.trace_lines.specs.Printed.{IsPrintedCall}
-use Rattle.trace_replay.specs.declared.reason.Reason.{Reason}
 use Rattle.trace_replay.specs.declared.reason.Reason.TheVariants as reason
 use Rattle.trace_replay.specs.Lines.{HasFirstLine}
 use Rattle.trace_replay.proofs.Captures.{same_reason}

@@ -1,10 +1,8 @@
-use Rattle.std.proofs.Common.{◌≡◌, ◌∙◌, ℕ, rules, List, ◌++◌, codes, length, map, sym, ap, subst}
-use Rattle.perimeter_core.specs.declared.marks.Mark.{Mark}
+use Rattle.std.proofs.Common.{◌≡◌, ◌∙◌, rules, length, map, sym, ap, subst}
 use Rattle.ring_threads.specs.Served.{orders_of}
 use Rattle.squeue_report.specs.ReportText.{body_text}
 use Rattle.squeue_replay.specs.Histories.{endings_of}
 use Rattle.squeue_replay.specs.Standing.{GuestsStand, guest_of}
-use Rattle.trace_replay.specs.declared.reason.Reason.{Reason}
 use Rattle.trace_replay.specs.declared.reason.Reason.TheVariants as reason
 use Rattle.trace_replay.specs.Judged.{FailsFor}
 use Rattle.trace_replay.proofs.Captures.{same_reason}
