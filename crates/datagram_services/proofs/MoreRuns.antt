@@ -1,11 +1,10 @@
 -- How a run ends, from what its steps say.
-use Rattle.std.proofs.Common.{◌≡◌, ℕ, List, [], Option, Some, None, inl, inr, subst, sym, ap, refl, arith, Bool, true, false}
+use Rattle.std.proofs.Common.{ℕ, List, [], Option, Some, None, inl, inr, subst, sym, refl, arith}
 use Rattle.std.proofs.KnownBytes.{Consumes-kept, Consumes-nil}
 use Rattle.sq_base.specs.Ends.{End, GetsLine, IsUntouched}
 use Rattle.sq_base.specs.declared.kinds.Status.{Status}
 use Rattle.sq_base.specs.declared.kinds.Status.TheVariants as status
 use Rattle.capture_reader.specs.declared.fault.CaptureFault.TheVariants as fault
-use Rattle.pcapng_reader.specs.declared.fault.PcapngFault.{PcapngFault}
 use Rattle.pcapng_reader.specs.declared.fault.PcapngFault.TheVariants as pcapng
 use Rattle.pcapng_reader.specs.declared.input.InputFault.TheVariants as input
 use Rattle.ring_quotas.specs.declared.setup.Setup.{Setup}
@@ -13,6 +12,7 @@ use Rattle.squeue_run.specs.Ran.{HasRead, TakesFew}
 use Rattle.datagram_services.specs.declared.refusal.Refusal.{Refusal}
 use Rattle.datagram_services.specs.declared.refusal.Refusal.TheVariants as refusal
 use Rattle.squeue_run.specs.Lines.{bad_line, memory_line, pcapng_line}
+use Rattle.squeue_run.proofs.Runs.{no_memory_told}
 use Rattle.datagram_services.specs.RefusalLines.{sqmore}
 use Rattle.datagram_services.specs.MoreRan.{HasMoreRan, MoreRead, MoreRefused}
 use Rattle.datagram_services.specs.MoreCauses.{CountsFaults, LineOrMemory, MoreFails, MoreTold, ReadingFails, RefusedWords}
@@ -21,14 +21,6 @@ line_or_memory : (P : Status → Type 0) (wanted : Status) (text : List ℕ) (er
     → (GetsLine err text → P wanted) → (GetsLine err (memory_line sqmore) → P status.NoMemory) → LineOrMemory wanted text err s → P s
 line_or_memory P wanted text err s line memory (inl t) = subst P (sym t.0) (line t.1)
 line_or_memory P wanted text err s line memory (inr t) = subst P (sym t.0) (memory t.1)
-
--- memory isn't missing where another fault is told
-abbrev is_memory : PcapngFault → Bool
-is_memory pcapng.NoMemory = true
-is_memory _ = false
-
-no_memory_told : (f : PcapngFault) → is_memory f ≡ false → f ≡ pcapng.NoMemory → ⊥
-no_memory_told f other e = let is : is_memory f ≡ true = ap is_memory e in cc
 
 not_read : (why : Refusal) (source out err : End) (s : Status) → IsUntouched out → ReadingFails source why → MoreTold why err s → MoreRead source out err s
 not_read refusal.NoMemory source out err s u h t = subst (MoreRead source out err) (sym t.0) (u, t.1)

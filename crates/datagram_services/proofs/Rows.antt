@@ -1,19 +1,14 @@
 -- Each row has the blocks of its streams, which have had all their items.
-use Rattle.std.proofs.Common.{◌≡◌, ◌≢◌, ℕ, ◌+◌, ◌%◌, ◌<◌, ◌≤◌, true, zero, suc, if◌then◌else◌, Bool, Option, Some, None, List, [], ◌∷◌, ◌++◌, Vec, length, map, slice_get, slice_index, refl, ap, sym, ◌∙◌, subst, arith, eq-eqb}
+use Rattle.std.proofs.Common.{◌≡◌, ℕ, ◌+◌, ◌%◌, ◌<◌, ◌≤◌, true, zero, suc, if◌then◌else◌, Bool, Option, Some, None, List, [], ◌∷◌, Vec, length, map, slice_get, slice_index, refl, ap, sym, ◌∙◌, subst, arith, eq-eqb}
 use Rattle.std.specs.declared.alloc.Global.{Global}
 use Rattle.std.proofs.lemmas.Option.{slice_get_within}
 use Rattle.turn_gate.specs.declared.pass.Pass.{Pass}
 use Rattle.perimeter_core.specs.declared.entries.Act.{Act}
-use Rattle.perimeter_core.specs.declared.entries.Entry.{Entry}
-use Rattle.perimeter_core.specs.declared.marks.Own.TheVariants.{Free, Out}
-use Rattle.perimeter_core.specs.Backlog.{queue}
 use Rattle.perimeter_core.specs.Perimeter.{is_here}
 use Rattle.perimeter_core.specs.History.{Element, Setting, run}
-use Rattle.perimeter_core.specs.Deeds.{acts, due, fed, feeds_of}
+use Rattle.perimeter_core.specs.Deeds.{acts, due, fed}
 use Rattle.perimeter_core.specs.Ending.{IsOver}
 use Rattle.perimeter_core.specs.Legal.{Legal}
-use Rattle.perimeter_core.proofs.NextFeed.{had}
-use Rattle.perimeter_core.proofs.OrderAndWake.{sound, wake_of_sound}
 use Rattle.squeue_state.specs.Naming.{Named, setting_of}
 use Rattle.squeue_serve.specs.Places.{Holds}
 use Rattle.squeue_serve.proofs.Lent.{some_at}
@@ -28,22 +23,10 @@ use Rattle.stream_blocks.specs.declared.block.StreamBlock.{StreamBlock}
 use Rattle.stream_blocks.specs.declared.blocks.StreamBlocks.{StreamBlocks}
 use Rattle.stream_blocks.specs.Standing.{PlaceFits, limits_of}
 use Rattle.stream_blocks.proofs.Placing.{had_is}
+use Rattle.run_histories.proofs.Ends.{all_fed}
 use Rattle.datagram_services.specs.Lines.{counts_of}
 use Rattle.datagram_services.specs.Gathering.{AreRows, HaveLeft, IsWholeBlock}
 use Rattle.datagram_services.specs.Settings.{HasRun}
-
-none_in : (xs : List Entry) → (xs ≢ [] → ⊥) → xs ≡ []
-none_in [] h = refl
-none_in (x ∷ xs) h = absurd (h (λ e. cc e))
-
--- nothing is queued at the end, so that all feeds that were entered are done
-all_done : (S : Setting) (H : List Element) (c : ℕ) → Legal S H → IsOver S (run S H) → is_here (run S H) c ≡ true → fed (acts S H c) ≡ due H c
-all_done S H c legal over here =
-    let st = run S H in
-    let hand : st.hand ≡ [] = none_in st.hand (λ some. let out = (wake_of_sound st (sound S H legal)).hand some in let none : Free ≡ Out out.0 = sym over.free ∙ out.1 in cc none) in
-    let queued : queue st ≡ [] = ap (λ (es : List Entry). es ++ st.chain) hand ∙ over.empty in
-    let none : length (feeds_of c (queue st)) ≡ 0 = ap (λ (es : List Entry). length (feeds_of c es)) queued in
-    omega (arith, had S c H legal here, none)
 
 count_of : (ss : List StreamOf) (c : ℕ) (s : StreamOf) → slice_get ss c ≡ Some s → slice_index (map item_count ss) c ≡ item_count s
 count_of [] c s e = absurd (let no : ⊥ = cc in no)
@@ -83,6 +66,6 @@ module _ (p : MorePlanOf) (squeues rings : ℕ) (lines : List Line) (ss : List (
       let home : c % squeues ≡ u.0.given.number = sym is.number in
       let here : is_here (run S H) c ≡ true = end_here limits_of u.0 x.0 H ends.pass legal x.2 c mine ∙ (ends.here c own below ∙ eq-eqb (c % squeues) u.0.given.number home) in
       let next : due H c ≡ slice_index (counts_of p) c = end_due limits_of u.0 x.0 H ends.pass legal x.2 c mine ∙ (ends.next c own below home ∙ has_all rings c (counts_of p) r refl) in
-      let all : fed (acts S H c) ≡ item_count s = all_done S H c legal over here ∙ (next ∙ count_of p.streams c s stream) in
+      let all : fed (acts S H c) ≡ item_count s = all_fed S H c legal over here ∙ (next ∙ count_of p.streams c s stream) in
       let stands : PlaceFits p c (slice_get row.items c) (if is_here (run S H) c then Some (acts S H c) else None) = subst (λ (o : MorePlanOf). PlaceFits o c (slice_get row.items c) (if is_here (run S H) c then Some (acts S H c) else None)) is.origin (l.stands c) in
       lies p c s row.items (acts S H c) all (slice_get row.items c) refl (subst (λ (b : Bool). PlaceFits p c (slice_get row.items c) (if b then Some (acts S H c) else None)) here stands)

@@ -1,5 +1,5 @@
 -- The text of all streams, and of one.
-use Rattle.std.proofs.Common.{◌≡◌, ℕ, ◌+◌, ◌≤◌, ◌<◌, List, [], ◌∷◌, ◌++◌, suc, zero, length, drop, slice_get, codes, Option, Some, None, IfSome, inl, inr, refl, sym, ap, subst, ◌∙◌, append_assoc, append-nil, arith, add-one, if◌then◌else◌}
+use Rattle.std.proofs.Common.{◌≡◌, ℕ, ◌+◌, ◌≤◌, ◌<◌, List, [], ◌∷◌, ◌++◌, length, drop, slice_get, codes, Option, Some, None, IfSome, inl, inr, refl, sym, ap, subst, ◌∙◌, append_assoc, append-nil, arith, if◌then◌else◌}
 use Rattle.std.specs.List.{flat_map, enumerate_from}
 use Rattle.std.specs.Option.{option_map}
 use Rattle.std.proofs.lemmas.List.{drop_all, length-map}
@@ -10,6 +10,7 @@ use Rattle.squeue_report.specs.ReportText.{done_line, end_line, line, reply_line
 use Rattle.stream_plan.specs.Streams.{MorePlanOf, StreamOf, item_count}
 use Rattle.stream_blocks.specs.declared.answer.Answer.{Answer}
 use Rattle.stream_blocks.specs.Served.{ServedOf, all_served}
+use Rattle.conn_classifier.proofs.RingLaw.{drop_at}
 use Rattle.datagram_services.specs.MoreText.{answer_line, counts_line, is_generator, items_line, plan_text, stream_line, stream_text}
 use Rattle.datagram_services.specs.Served.{IsMoreServed}
 
@@ -23,12 +24,6 @@ told p (c, s) = stream_text c s (all_served p.file s)
 
 abbrev pub streams_text : MorePlanOf → ℕ → List ℕ
 streams_text p c = flat_map (told p) (enumerate_from c (drop c p.streams))
-
-from_place : {X : Type 0} (xs : List X) (c : ℕ) (x : X) → slice_get xs c ≡ Some x → drop c xs ≡ x ∷ drop (c + 1) xs
-from_place [] zero x e = cc
-from_place [] (suc c) x e = cc
-from_place (y ∷ xs) zero x e = let same : y ≡ x = cc in ap (λ z. z ∷ xs) same
-from_place (y ∷ xs) (suc c) x e = rw add-one (let more = from_place xs c x e in rw add-one at more)
 
 from_some : {X : Type 0} (P : X → Type 0) (r : Option X) (x : X) → r ≡ Some x → IfSome r P → P x
 from_some P None x e h = absurd (let no : ⊥ = cc in no)
@@ -81,7 +76,7 @@ streams_more p c was new whole lt so_far one = on (slice_get p.streams c) refl o
     on None e h = absurd (let no : ⊥ = none_within p.streams c lt e in no)
     on (Some s) e h =
         ap (λ l. l ++ streams_text p (c + 1)) h ∙ append_assoc was (told p (c, s)) (streams_text p (c + 1))
-        ∙ sym (ap (λ l. was ++ flat_map (told p) (enumerate_from c l)) (from_place p.streams c s e)) ∙ so_far
+        ∙ sym (ap (λ l. was ++ flat_map (told p) (enumerate_from c l)) (drop_at p.streams c s e)) ∙ so_far
 
 -- all streams
 pub streams_end : (p : MorePlanOf) (text whole : List ℕ) (c : ℕ) → length p.streams ≤ c → text ++ streams_text p c ≡ whole → text ≡ whole
