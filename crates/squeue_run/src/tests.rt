@@ -157,6 +157,19 @@ struct Ended {
 /// Room for what runs write.
 const ROOM: usize = 1_000_000;
 
+/// A run over these ends: its status, and whether it handed back what was served.
+fn outcome(
+    rt: &(impl Threads + Wait + Sync),
+    alloc: Global,
+    words: &[String],
+    src: &mut MemSource,
+    out: &mut MemSink,
+    err: &mut MemSink,
+) -> (Status, bool) {
+    let ran = squeue_run(rt, alloc, words, src, out, err);
+    (ran.status, ran.served.is_some())
+}
+
 /// A run over ends that don't fail.
 fn ran(
     rt: &(impl Threads + Wait + Sync),
@@ -168,10 +181,10 @@ fn ran(
     let mut src = MemSource::make(alloc, input, 65_536, &[])?;
     let mut out = MemSink::make(alloc, ROOM, 65_536, &[])?;
     let mut err = MemSink::make(alloc, 1000, 1000, &[])?;
-    let ran = squeue_run(rt, alloc, words.as_slice(), &mut src, &mut out, &mut err);
+    let (status, handed) = outcome(rt, alloc, words.as_slice(), &mut src, &mut out, &mut err);
     Ok(Ended {
-        status: ran.status,
-        handed: ran.served.is_some(),
+        status,
+        handed,
         out,
         err,
     })
@@ -187,6 +200,19 @@ fn text(alloc: Global, lines: &[&str]) -> Result<String, Fail> {
     Ok(text)
 }
 
+/// These bytes are these lines.
+fn expect_text(
+    rt: &impl Abort,
+    alloc: Global,
+    name: &str,
+    bytes: &[u8],
+    lines: &[&str],
+) -> Result<(), Fail> {
+    let text = text(alloc, lines)?;
+    assert_eq!(rt; bytes, text.as_bytes(), "{name}");
+    Ok(())
+}
+
 /// A run ends with this status, this output and this error line, and hands back what was served at status 0 alone.
 fn expect(
     rt: &impl Abort,
@@ -199,69 +225,53 @@ fn expect(
 ) -> Result<(), Fail> {
     assert_eq!(rt; ran.status, status, "{name}");
     assert_eq!(rt; ran.handed, status == Status::Ok, "{name}");
-    assert_eq!(rt;
-        ran.out.bytes(),
-        text(alloc, out)?.as_bytes(),
-        "output of {name}"
-    );
-    assert_eq!(rt;
-        ran.err.bytes(),
-        text(alloc, err)?.as_bytes(),
-        "error line of {name}"
-    );
-    Ok(())
+    expect_text(rt, alloc, name, ran.out.bytes(), out)?;
+    expect_text(rt, alloc, name, ran.err.bytes(), err)
 }
 
-/// Words, and how their run ends: status, output, error line.
-#[derive(Clone, Copy, Drop)]
-struct Row<'a> {
-    words: &'a str,
-    status: Status,
-    out: &'a [&'a str],
-    told: Option<&'a str>,
-}
-
-/// A run that ends well.
-fn good<'a>(words: &'a str, out: &'a [&'a str]) -> Row<'a> {
-    Row {
-        words,
-        status: Status::Ok,
-        out,
-        told: None,
-    }
-}
-
-/// A run that gives no output.
-fn refused<'a>(words: &'a str, status: Status, told: &'a str) -> Row<'a> {
-    Row {
-        words,
-        status,
-        out: &[],
-        told: Some(told),
-    }
-}
-
-/// Runs over one input.
-fn expect_rows(
+/// A run ends well, with this output.
+fn expect_good(
     rt: &(impl Abort + Threads + Wait + Sync),
     alloc: Global,
     input: &[u8],
-    rows: &[Row],
+    words: &str,
+    out: &[&str],
 ) -> Result<(), Fail> {
-    for row in rows {
-        let ran = ran(rt, alloc, row.words, input)?;
-        let name = row.told.unwrap_or(row.words);
-        expect(
-            rt,
-            alloc,
-            name,
-            &ran,
-            row.status,
-            row.out,
-            row.told.as_slice(),
-        )?;
+    let ran = ran(rt, alloc, words, input)?;
+    expect(rt, alloc, words, &ran, Status::Ok, out, &[])
+}
+
+/// Runs over one input end well: words, and the output.
+fn expect_all_good(
+    rt: &(impl Abort + Threads + Wait + Sync),
+    alloc: Global,
+    input: &[u8],
+    rows: &[(&str, &[&str])],
+) -> Result<(), Fail> {
+    for (words, out) in rows {
+        expect_good(rt, alloc, input, words, out)?;
     }
     Ok(())
+}
+
+/// A run gives no output.
+fn expect_refused(
+    rt: &(impl Abort + Threads + Wait + Sync),
+    alloc: Global,
+    input: &[u8],
+    words: &str,
+    status: Status,
+    told: &str,
+) -> Result<(), Fail> {
+    let ran = ran(rt, alloc, words, input)?;
+    expect(rt, alloc, told, &ran, status, &[], &[told])
+}
+
+/// A run ends well, with so many bytes of output, whose check value is this.
+fn expect_sums(rt: &impl Abort, name: &str, ran: &Ended, len: usize, check: u64) {
+    assert_eq!(rt; ran.status, Status::Ok, "{name}");
+    assert_eq!(rt; ran.out.bytes().len(), len, "{name}");
+    assert_eq!(rt; check_of(ran.out.bytes()), check, "{name}");
 }
 
 /// Output of many lines: each byte in turn, at the multiplier of the 64-bit FNV hash, from 0.

@@ -1,7 +1,10 @@
-use crate::tests::{A, F, P, R, S, Seg, Sent, Syn, Udp, capture, check_of, expect, ran};
+use crate::tests::{A, Ended, F, P, R, S, Seg, Sent, Syn, Udp, capture, expect, expect_sums, ran};
 use sq_base::Status;
 use std::alloc::Global;
+use std::process::Abort;
+use std::sync::Wait;
 use std::test::Fail;
+use std::thread::Threads;
 
 /// What a client sends, and what is reported of its connection.
 #[derive(Clone, Copy, Drop)]
@@ -245,54 +248,77 @@ fn report<'a>(alloc: Global, dialogue: &Dialogue<'a>) -> Result<Vec<&'a str>, Fa
     Ok(lines)
 }
 
+const DIALOGUES: [Dialogue; 12] = [
+    SEQUENCE_NUMBERS_WRAP,
+    TEXT_OUT_OF_ORDER,
+    ZERO_WINDOW_PROBE,
+    RESETS_AT_THE_NEXT_NUMBER,
+    RESETS_IN_THE_WINDOW,
+    RESETS_BEFORE_THE_WINDOW,
+    RESETS_BEHIND_THE_WINDOW,
+    HANDSHAKE_RETRANSMISSIONS,
+    TUPLE_USED_AGAIN,
+    REPEATED_SYN,
+    SCALED_FIVE_SEGMENT_ECHO,
+    SCALED_SMALL_WINDOW,
+];
+
+/// The run's report is the dialogue's.
+fn expect_report(
+    rt: &impl Abort,
+    alloc: Global,
+    dialogue: &Dialogue,
+    ran: &Ended,
+) -> Result<(), Fail> {
+    let lines = report(alloc, dialogue)?;
+    let ok = Status::Ok;
+    expect(rt, alloc, dialogue.name, ran, ok, lines.as_slice(), &[])
+}
+
+/// A run over what the client sends.
+fn expect_dialogue(
+    rt: &(impl Abort + Threads + Wait + Sync),
+    alloc: Global,
+    dialogue: &Dialogue,
+) -> Result<(), Fail> {
+    let input = capture(alloc, dialogue.sent)?;
+    let ran = ran(rt, alloc, "", input.as_slice())?;
+    expect_report(rt, alloc, dialogue, &ran)
+}
+
 #[test]
 fn dialogues(rt: HostRuntime) -> Result<(), Fail> {
-    let table = [
-        SEQUENCE_NUMBERS_WRAP,
-        TEXT_OUT_OF_ORDER,
-        ZERO_WINDOW_PROBE,
-        RESETS_AT_THE_NEXT_NUMBER,
-        RESETS_IN_THE_WINDOW,
-        RESETS_BEFORE_THE_WINDOW,
-        RESETS_BEHIND_THE_WINDOW,
-        HANDSHAKE_RETRANSMISSIONS,
-        TUPLE_USED_AGAIN,
-        REPEATED_SYN,
-        SCALED_FIVE_SEGMENT_ECHO,
-        SCALED_SMALL_WINDOW,
-    ];
-    for dialogue in &table {
-        let input = capture(rt.alloc(), dialogue.sent)?;
-        let ran = ran(&rt, rt.alloc(), "", input.as_slice())?;
-        let lines = report(rt.alloc(), dialogue)?;
-        expect(
-            &rt,
-            rt.alloc(),
-            dialogue.name,
-            &ran,
-            Status::Ok,
-            lines.as_slice(),
-            &[],
-        )?;
+    for dialogue in &DIALOGUES {
+        expect_dialogue(&rt, rt.alloc(), dialogue)?;
     }
     Ok(())
 }
 
-/// A scale of 15 counts as 14: a window of 16,384 bytes, and 20,000 bytes of text to echo.
-#[test]
-fn scale_over_fourteen(rt: HostRuntime) -> Result<(), Fail> {
-    let mut text = Vec::new(rt.alloc());
+/// 20,000 bytes of text.
+fn long_text(alloc: Global) -> Result<Vec<u8>, Fail> {
+    let mut text = Vec::new(alloc);
     for i in 0..20_000u32 {
         text.push((i % 251) as u8)?;
     }
+    Ok(text)
+}
+
+/// A client with a scale of 15 sends the long text.
+fn scaled_input(alloc: Global) -> Result<Vec<u8>, Fail> {
+    let text = long_text(alloc)?;
     let sent = [
         Syn(&[3, 3, 15, 0]),
         Seg(1000, A, 101, 501, 1, b""),
         Seg(2000, P | A, 101, 501, 1, text.as_slice()),
     ];
-    let ran = ran(&rt, rt.alloc(), "", capture(rt.alloc(), &sent)?.as_slice())?;
-    assert_eq!(rt; ran.status, Status::Ok);
-    assert_eq!(rt; ran.out.bytes().len(), 35906);
-    assert_eq!(rt; check_of(ran.out.bytes()), 0x97459c6288b5fc31);
+    capture(alloc, &sent)
+}
+
+/// A scale of 15 counts as 14: a window of 16,384 bytes, and 20,000 bytes of text to echo.
+#[test]
+fn scale_over_fourteen(rt: HostRuntime) -> Result<(), Fail> {
+    let input = scaled_input(rt.alloc())?;
+    let ran = ran(&rt, rt.alloc(), "", input.as_slice())?;
+    expect_sums(&rt, "a scale of 15", &ran, 35906, 0x97459c6288b5fc31);
     Ok(())
 }

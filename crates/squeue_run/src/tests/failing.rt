@@ -1,9 +1,9 @@
 //! Each read call and each write call failing alone. A failing write to the error line changes no status.
 
-use crate::squeue_run;
-use crate::tests::{Ended, FIVE, FIVE_REPORT, HEADER, capture, expect, front, text, words_of};
+use crate::tests::{Ended, FIVE, FIVE_REPORT, capture, expect, front, outcome, text, words_of};
 use sq_base::{MemSink, MemSource, Status};
 use std::alloc::Global;
+use std::process::Abort;
 use std::sync::Wait;
 use std::test::Fail;
 use std::thread::Threads;
@@ -22,13 +22,37 @@ fn ran(
     let mut src = MemSource::make(alloc, input, 100, reads)?;
     let mut out = MemSink::make(alloc, 1000, 10, writes)?;
     let mut err = MemSink::make(alloc, 1000, 1000, tellings)?;
-    let ran = squeue_run(rt, alloc, words.as_slice(), &mut src, &mut out, &mut err);
+    let (status, handed) = outcome(rt, alloc, words.as_slice(), &mut src, &mut out, &mut err);
     Ok(Ended {
-        status: ran.status,
-        handed: ran.served.is_some(),
+        status,
+        handed,
         out,
         err,
     })
+}
+
+/// A run whose read with this number fails.
+fn expect_read_fault(
+    rt: &(impl Abort + Threads + Wait + Sync),
+    alloc: Global,
+    input: &[u8],
+    call: u64,
+) -> Result<(), Fail> {
+    let ran = ran(rt, alloc, "", input, &[call], &[], &[])?;
+    let told = ["sqrun: read fault"];
+    expect(rt, alloc, "a read", &ran, Status::ReadFault, &[], &told)
+}
+
+/// A run in which no call has the number of one that fails.
+fn expect_no_fault(
+    rt: &(impl Abort + Threads + Wait + Sync),
+    alloc: Global,
+    input: &[u8],
+    reads: &[u64],
+    writes: &[u64],
+) -> Result<(), Fail> {
+    let ran = ran(rt, alloc, "", input, reads, writes, &[])?;
+    expect(rt, alloc, "no fault", &ran, Status::Ok, &FIVE_REPORT, &[])
 }
 
 /// The 309 bytes come in four calls, and a fifth finds the end.
@@ -36,27 +60,26 @@ fn ran(
 fn failing_source(rt: HostRuntime) -> Result<(), Fail> {
     let input = capture(rt.alloc(), &FIVE)?;
     for call in 0..5 {
-        let ran = ran(&rt, rt.alloc(), "", input.as_slice(), &[call], &[], &[])?;
-        expect(
-            &rt,
-            rt.alloc(),
-            "a read",
-            &ran,
-            Status::ReadFault,
-            &[],
-            &["sqrun: read fault"],
-        )?;
+        expect_read_fault(&rt, rt.alloc(), input.as_slice(), call)?;
     }
-    let ran = ran(&rt, rt.alloc(), "", input.as_slice(), &[5, 6], &[], &[])?;
-    expect(
-        &rt,
-        rt.alloc(),
-        "no read",
-        &ran,
-        Status::Ok,
-        &FIVE_REPORT,
-        &[],
-    )
+    expect_no_fault(&rt, rt.alloc(), input.as_slice(), &[5, 6], &[])
+}
+
+/// A run whose write with this number fails: what came before of the report was written.
+fn expect_write_fault(
+    rt: &(impl Abort + Threads + Wait + Sync),
+    alloc: Global,
+    input: &[u8],
+    report: &[u8],
+    call: u64,
+) -> Result<(), Fail> {
+    let ran = ran(rt, alloc, "", input, &[], &[call], &[])?;
+    assert_eq!(rt; ran.status, Status::WriteFault, "write {call}");
+    let written = front(report, 10usize.saturating_mul(call as usize));
+    assert_eq!(rt; ran.out.bytes(), written, "write {call}");
+    let told = b"sqrun: write fault\n".as_slice();
+    assert_eq!(rt; ran.err.bytes(), told, "write {call}");
+    Ok(())
 }
 
 #[test]
@@ -65,53 +88,43 @@ fn failing_sink(rt: HostRuntime) -> Result<(), Fail> {
     let report = text(rt.alloc(), &FIVE_REPORT)?;
     assert_eq!(rt; report.as_bytes().len(), 467);
     for call in 0..47 {
-        let ran = ran(&rt, rt.alloc(), "", input.as_slice(), &[], &[call], &[])?;
-        assert_eq!(rt; ran.status, Status::WriteFault, "write {call}");
-        assert_eq!(rt;
-            ran.out.bytes(),
-            front(report.as_bytes(), 10 * call as usize),
-            "write {call}"
-        );
-        assert_eq!(rt;
-            ran.err.bytes(),
-            b"sqrun: write fault\n".as_slice(),
-            "write {call}"
-        );
+        expect_write_fault(&rt, rt.alloc(), input.as_slice(), report.as_bytes(), call)?;
     }
-    let ran = ran(&rt, rt.alloc(), "", input.as_slice(), &[], &[47], &[])?;
-    expect(
-        &rt,
-        rt.alloc(),
-        "no write",
-        &ran,
-        Status::Ok,
-        &FIVE_REPORT,
-        &[],
-    )
+    expect_no_fault(&rt, rt.alloc(), input.as_slice(), &[], &[47])
+}
+
+/// Words, how many bytes of the five segments there are, which reads and writes fail, and the status.
+type Untold = (&'static str, usize, &'static [u64], &'static [u64], Status);
+
+const UNTOLD: [Untold; 6] = [
+    ("", 309, &[], &[], Status::Ok),
+    ("--squeues|0", 309, &[], &[], Status::Usage),
+    ("", 309, &[0], &[], Status::ReadFault),
+    ("", 309, &[], &[3], Status::WriteFault),
+    ("", 23, &[], &[], Status::BadCapture),
+    ("0:1:close", 309, &[], &[], Status::NoConnection),
+];
+
+/// A run whose error line can't be written.
+fn expect_untold(
+    rt: &(impl Abort + Threads + Wait + Sync),
+    alloc: Global,
+    input: &[u8],
+    row: &Untold,
+) -> Result<(), Fail> {
+    let &(line, len, reads, writes, status) = row;
+    let ran = ran(rt, alloc, line, front(input, len), reads, writes, &[0])?;
+    assert_eq!(rt; ran.status, status, "{line}");
+    assert!(rt; ran.err.bytes().is_empty(), "{line}");
+    Ok(())
 }
 
 #[test]
 fn failing_error_line(rt: HostRuntime) -> Result<(), Fail> {
     let input = capture(rt.alloc(), &FIVE)?;
-    let none: [u64; 0] = [];
-    let table: [(&str, &[u8], &[u64], &[u64], Status); 6] = [
-        ("", input.as_slice(), &none, &none, Status::Ok),
-        ("--squeues|0", input.as_slice(), &none, &none, Status::Usage),
-        ("", input.as_slice(), &[0], &none, Status::ReadFault),
-        ("", input.as_slice(), &none, &[3], Status::WriteFault),
-        ("", &HEADER[..23], &none, &none, Status::BadCapture),
-        (
-            "0:1:close",
-            input.as_slice(),
-            &none,
-            &none,
-            Status::NoConnection,
-        ),
-    ];
-    for (line, input, reads, writes, status) in table {
-        let ran = ran(&rt, rt.alloc(), line, input, reads, writes, &[0])?;
-        assert_eq!(rt; ran.status, status, "{line}");
-        assert!(rt; ran.err.bytes().is_empty(), "{line}");
+    assert_eq!(rt; input.len(), 309);
+    for row in &UNTOLD {
+        expect_untold(&rt, rt.alloc(), input.as_slice(), row)?;
     }
     Ok(())
 }

@@ -1,10 +1,13 @@
 use crate::tests::{
-    Ended, FIVE, FIVE_REPORT, HEADER, capture, expect, expect_rows, front, good, ran, refused,
+    Ended, FIVE, FIVE_REPORT, HEADER, capture, expect, expect_all_good, expect_good,
+    expect_refused, front, ran,
 };
 use sq_base::Status;
 use std::alloc::Global;
 use std::process::Abort;
+use std::sync::Wait;
 use std::test::Fail;
+use std::thread::Threads;
 
 /// A session as tcpdump writes it on the client's host, record by record: Ethernet with a tag, padding behind each datagram of
 /// the server, options, and wrong checksums by offload.
@@ -53,12 +56,12 @@ const EMPTY_REPORT: [&str; 3] = [
     "done",
 ];
 
-/// The file's header with another byte at a place.
-fn header_with(at: usize, byte: u8) -> [u8; 24] {
+/// The file's header with this minor version and these first two bytes of the link type.
+fn header_with(minor: u8, link: [u8; 2]) -> [u8; 24] {
     let mut header = HEADER;
-    if at < 24 {
-        header[at] = byte;
-    }
+    header[6] = minor;
+    header[20] = link[0];
+    header[21] = link[1];
     header
 }
 
@@ -142,16 +145,26 @@ fn expect_front(
     Ok(())
 }
 
+/// A run over a front of the session.
+fn expect_known(
+    rt: &(impl Abort + Threads + Wait + Sync),
+    alloc: Global,
+    input: &[u8],
+) -> Result<(), Fail> {
+    let len = input.len();
+    let ran = ran(rt, alloc, "", input)?;
+    match FRONTS.iter().rev().find(|known| known.0 <= len) {
+        Some(row) => expect_front(rt, alloc, &ran, len, row),
+        None => expect_short(rt, alloc, &ran, len),
+    }
+}
+
 #[test]
 fn every_front_of_five_segments(rt: HostRuntime) -> Result<(), Fail> {
     let whole = capture(rt.alloc(), &FIVE)?;
     assert_eq!(rt; whole.len(), 309);
     for len in 0..310 {
-        let ran = ran(&rt, rt.alloc(), "", front(whole.as_slice(), len))?;
-        match FRONTS.iter().rev().find(|known| known.0 <= len) {
-            Some(row) => expect_front(&rt, rt.alloc(), &ran, len, row)?,
-            None => expect_short(&rt, rt.alloc(), &ran, len)?,
-        }
+        expect_known(&rt, rt.alloc(), front(whole.as_slice(), len))?;
     }
     Ok(())
 }
@@ -170,28 +183,25 @@ const IN_PCAPNG: [&str; 7] = [
 /// A second interface, of Ethernet.
 const SECOND_INTERFACE: &str = "0100000014000000010000000000040014000000";
 
+const ON_THE_CLIENT_ROWS: [(&str, &[&str]); 2] = [
+    ("", &CLIENT_REPORT),
+    ("--verify", &CLIENT_VERIFIED),
+];
+
 #[test]
 fn a_session_on_the_client(rt: HostRuntime) -> Result<(), Fail> {
     let client = from_hex(rt.alloc(), &ON_THE_CLIENT)?;
-    expect_rows(
-        &rt,
-        rt.alloc(),
-        client.as_slice(),
-        &[good("", &CLIENT_REPORT), good("--verify", &CLIENT_VERIFIED)],
-    )
+    expect_all_good(&rt, rt.alloc(), client.as_slice(), &ON_THE_CLIENT_ROWS)
 }
+
+const HEADER_ROWS: [(&str, &[&str]); 2] = [
+    ("", &EMPTY_REPORT),
+    ("--squeues=3|--rings=2|--spread=1", &EMPTY_REPORT),
+];
 
 #[test]
 fn a_header_alone(rt: HostRuntime) -> Result<(), Fail> {
-    expect_rows(
-        &rt,
-        rt.alloc(),
-        &HEADER,
-        &[
-            good("", &EMPTY_REPORT),
-            good("--squeues=3|--rings=2|--spread=1", &EMPTY_REPORT),
-        ],
-    )
+    expect_all_good(&rt, rt.alloc(), &HEADER, &HEADER_ROWS)
 }
 
 #[test]
@@ -199,16 +209,24 @@ fn a_cut_fifth_segment(rt: HostRuntime) -> Result<(), Fail> {
     let five = capture(rt.alloc(), &FIVE)?;
     for len in [308, 268] {
         let input = front(five.as_slice(), len);
-        expect_rows(&rt, rt.alloc(), input, &[good("", &CUT_REPORT)])?;
+        expect_good(&rt, rt.alloc(), input, "", &CUT_REPORT)?;
     }
     Ok(())
 }
 
+/// A run over an input that is no capture.
+fn expect_bad(
+    rt: &(impl Abort + Threads + Wait + Sync),
+    alloc: Global,
+    input: &[u8],
+    told: &str,
+) -> Result<(), Fail> {
+    expect_refused(rt, alloc, input, "", Status::BadCapture, told)
+}
+
 #[test]
 fn bad_headers(rt: HostRuntime) -> Result<(), Fail> {
-    let newer = header_with(6, 3);
-    let mut other_link = header_with(20, 0x14);
-    other_link[21] = 1;
+    let (newer, other_link) = (header_with(3, [101, 0]), header_with(4, [0x14, 1]));
     let table: [(&[u8], &str); 5] = [
         (&[], "sqrun: bad capture: short header of 0 bytes"),
         (
@@ -220,45 +238,42 @@ fn bad_headers(rt: HostRuntime) -> Result<(), Fail> {
         (&other_link, "sqrun: bad capture: link type 276"),
     ];
     for (input, told) in table {
-        let row = refused("", Status::BadCapture, told);
-        expect_rows(&rt, rt.alloc(), input, &[row])?;
+        expect_bad(&rt, rt.alloc(), input, told)?;
     }
     Ok(())
 }
+
+const SHORT_SECTION: &str = "sqrun: bad capture: pcapng short section of 27 bytes";
 
 #[test]
 fn a_session_in_pcapng(rt: HostRuntime) -> Result<(), Fail> {
     let whole = from_hex(rt.alloc(), &IN_PCAPNG)?;
-    let short = "sqrun: bad capture: pcapng short section of 27 bytes";
-    let table = [
-        (whole.len(), good("", &FIVE_REPORT)),
-        (415, good("", &CUT_REPORT)),
-        (27, refused("", Status::BadCapture, short)),
-    ];
-    for (len, row) in table {
+    for (len, report) in [(whole.len(), FIVE_REPORT), (415, CUT_REPORT)] {
         let input = front(whole.as_slice(), len);
-        expect_rows(&rt, rt.alloc(), input, &[row])?;
+        expect_good(&rt, rt.alloc(), input, "", &report)?;
     }
-    Ok(())
+    expect_bad(&rt, rt.alloc(), front(whole.as_slice(), 27), SHORT_SECTION)
 }
+
+/// A run over blocks that are no capture.
+fn expect_bad_blocks(
+    rt: &(impl Abort + Threads + Wait + Sync),
+    alloc: Global,
+    blocks: &[&str],
+    told: &str,
+) -> Result<(), Fail> {
+    let input = from_hex(alloc, blocks)?;
+    expect_bad(rt, alloc, input.as_slice(), told)
+}
+
+const NO_INTERFACE: &str = "sqrun: bad capture: pcapng interface 0 in block 1";
+
+const SECOND_LINK: &str = "sqrun: bad capture: pcapng second link type 1 in block 2";
 
 #[test]
 fn bad_blocks(rt: HostRuntime) -> Result<(), Fail> {
     let [section, interface, packet, ..] = IN_PCAPNG;
-    let table: [(&[&str], &str); 2] = [
-        (
-            &[section, packet],
-            "sqrun: bad capture: pcapng interface 0 in block 1",
-        ),
-        (
-            &[section, interface, SECOND_INTERFACE],
-            "sqrun: bad capture: pcapng second link type 1 in block 2",
-        ),
-    ];
-    for (blocks, told) in table {
-        let input = from_hex(rt.alloc(), blocks)?;
-        let row = refused("", Status::BadCapture, told);
-        expect_rows(&rt, rt.alloc(), input.as_slice(), &[row])?;
-    }
-    Ok(())
+    let second = [section, interface, SECOND_INTERFACE];
+    expect_bad_blocks(&rt, rt.alloc(), &[section, packet], NO_INTERFACE)?;
+    expect_bad_blocks(&rt, rt.alloc(), &second, SECOND_LINK)
 }

@@ -1,10 +1,15 @@
 //! Runs at the limits, over large inputs that are built in memory.
 
-use crate::tests::{HEADER, S, check_of, expect_rows, good, push_head, push_tcp, ran, refused};
+use crate::tests::{
+    HEADER, S, expect_all_good, expect_good, expect_refused, expect_sums, push_head, push_tcp, ran,
+};
 use sq_base::Status;
 use std::alloc::Global;
 use std::ops::Range;
+use std::process::Abort;
+use std::sync::Wait;
 use std::test::Fail;
+use std::thread::Threads;
 
 /// A file of one record of `len` bytes, of which so many are there.
 fn one_record(alloc: Global, len: u32, there: usize) -> Result<Vec<u8>, Fail> {
@@ -40,25 +45,37 @@ const TOO_LONG: &str = "sqrun: bad capture: record 0 has length 262145";
 
 const TOO_MANY: &str = "sqrun: too large: more than 1048576 records";
 
+/// A run over a file ends well, with this output.
+fn gives(
+    rt: &(impl Abort + Threads + Wait + Sync),
+    alloc: Global,
+    file: Vec<u8>,
+    out: &[&str],
+) -> Result<(), Fail> {
+    expect_good(rt, alloc, file.as_slice(), "", out)
+}
+
+/// A run over a file gives no output.
+fn is_refused(
+    rt: &(impl Abort + Threads + Wait + Sync),
+    alloc: Global,
+    file: Vec<u8>,
+    status: Status,
+    told: &str,
+) -> Result<(), Fail> {
+    expect_refused(rt, alloc, file.as_slice(), "", status, told)
+}
+
 #[test]
 fn record_limits(rt: HostRuntime) -> Result<(), Fail> {
-    let ones = [
-        (262_145, 0, refused("", Status::BadCapture, TOO_LONG)),
-        (262_144, 262_144, good("", &LONGEST)),
-    ];
-    for (len, there, row) in ones {
-        let file = one_record(rt.alloc(), len, there)?;
-        expect_rows(&rt, rt.alloc(), file.as_slice(), &[row])?;
-    }
-    let many = [
-        (0, good("", &MOST)),
-        (1, refused("", Status::TooLarge, TOO_MANY)),
-    ];
-    for (more, row) in many {
-        let file = empty_records(rt.alloc(), 1_048_576, more)?;
-        expect_rows(&rt, rt.alloc(), file.as_slice(), &[row])?;
-    }
-    Ok(())
+    let too_long = one_record(rt.alloc(), 262_145, 0)?;
+    is_refused(&rt, rt.alloc(), too_long, Status::BadCapture, TOO_LONG)?;
+    let longest = one_record(rt.alloc(), 262_144, 262_144)?;
+    gives(&rt, rt.alloc(), longest, &LONGEST)?;
+    let most = empty_records(rt.alloc(), 1_048_576, 0)?;
+    gives(&rt, rt.alloc(), most, &MOST)?;
+    let too_many = empty_records(rt.alloc(), 1_048_576, 1)?;
+    is_refused(&rt, rt.alloc(), too_many, Status::TooLarge, TOO_MANY)
 }
 
 /// As many bytes as may be, and one more.
@@ -79,8 +96,7 @@ const SIZES: [(usize, Status, &str); 2] = [
 fn size_limit(rt: HostRuntime) -> Result<(), Fail> {
     for (size, status, told) in SIZES {
         let input = vec![in rt.alloc(); 0u8; size]?;
-        let row = refused("", status, told);
-        expect_rows(&rt, rt.alloc(), input.as_slice(), &[row])?;
+        is_refused(&rt, rt.alloc(), input, status, told)?;
     }
     Ok(())
 }
@@ -104,8 +120,8 @@ fn trace_too_large(rt: HostRuntime) -> Result<(), Fail> {
     let words =
         "--trace|--squeues|2|--spread|1|0:0:status|0:0:status|0:0:status|0:0:status|0:0:status";
     let told = "sqrun: too large: trace of 67109000 marks";
-    let row = refused(words, Status::TooLarge, told);
-    expect_rows(&rt, rt.alloc(), file.as_slice(), &[row])
+    let too_large = Status::TooLarge;
+    expect_refused(&rt, rt.alloc(), file.as_slice(), words, too_large, told)
 }
 
 const FULL: &[u8] =
@@ -116,24 +132,23 @@ const FULL: &[u8] =
 fn connection_limit(rt: HostRuntime) -> Result<(), Fail> {
     let file = syns(rt.alloc(), 1000..5097, 1)?;
     let ran = ran(&rt, rt.alloc(), "", file.as_slice())?;
-    assert_eq!(rt; ran.status, Status::Ok);
     assert!(rt; ran.out.bytes().starts_with(FULL));
-    assert_eq!(rt; ran.out.bytes().len(), 674856);
-    assert_eq!(rt; check_of(ran.out.bytes()), 0x33c1cb1aaedb274d);
+    expect_sums(&rt, "4,097 SYNs", &ran, 674856, 0x33c1cb1aaedb274d);
     Ok(())
 }
 
 const GENERATED: &str =
     "generated 7 bytes 10256024 records 100000 connections 1000 replies 98000 octets 2328000 check f9dc5c54f3714d26";
 
+const GENERATED_ROWS: [(&str, &[&str]); 2] = [
+    (
+        "--gen=7|--squeues=16|--rings=8|--mode=nodrain|--budget=3|--spread=5",
+        &[GENERATED],
+    ),
+    ("--gen=7|--verify", &[GENERATED]),
+];
+
 #[test]
 fn generated_capture(rt: HostRuntime) -> Result<(), Fail> {
-    let rows = [
-        good(
-            "--gen=7|--squeues=16|--rings=8|--mode=nodrain|--budget=3|--spread=5",
-            &[GENERATED],
-        ),
-        good("--gen=7|--verify", &[GENERATED]),
-    ];
-    expect_rows(&rt, rt.alloc(), &[], &rows)
+    expect_all_good(&rt, rt.alloc(), &[], &GENERATED_ROWS)
 }

@@ -222,6 +222,20 @@ fn report_of(rt: &impl Abort, alloc: Global, order: &str, calls: usize) -> Resul
     Ok(report)
 }
 
+/// A run with a hook over these ends: its status, and whether it handed back what was served.
+fn outcome<H: Hook + Sync>(
+    rt: &(impl Threads + Wait + Sync),
+    alloc: Global,
+    words: &[String],
+    src: &mut MemSource,
+    out: &mut MemSink,
+    err: &mut MemSink,
+    hook: &H,
+) -> (Status, bool) {
+    let ran = run_with(rt, alloc, words, src, out, err, hook);
+    (ran.status, ran.served.is_some())
+}
+
 /// A run with a hook over the two sessions.
 fn ran<H: Hook + Sync>(
     rt: &(impl Threads + Wait + Sync),
@@ -234,18 +248,11 @@ fn ran<H: Hook + Sync>(
     let mut src = MemSource::make(alloc, input.as_slice(), 65_536, &[])?;
     let mut out = MemSink::make(alloc, ROOM, 65_536, &[])?;
     let mut err = MemSink::make(alloc, 1000, 1000, &[])?;
-    let ran = run_with(
-        rt,
-        alloc,
-        words.as_slice(),
-        &mut src,
-        &mut out,
-        &mut err,
-        hook,
-    );
+    let words = words.as_slice();
+    let (status, handed) = outcome(rt, alloc, words, &mut src, &mut out, &mut err, hook);
     Ok(Ended {
-        status: ran.status,
-        handed: ran.served.is_some(),
+        status,
+        handed,
         out,
         err,
     })
@@ -275,6 +282,18 @@ fn expect_report(
     Ok(())
 }
 
+/// A run with a hook over the two sessions, in which each thread has so many calls.
+fn expect_run<H: Hook + Sync>(
+    rt: &(impl Abort + Threads + Wait + Sync),
+    alloc: Global,
+    words: &str,
+    hook: &H,
+    calls: usize,
+) -> Result<(), Fail> {
+    let ran = ran(rt, alloc, words, hook)?;
+    expect_report(rt, alloc, words, &ran, calls)
+}
+
 /// Lets others run before each feed, so many times.
 #[derive(Drop)]
 struct Slow {
@@ -289,20 +308,26 @@ impl Hook for Slow {
     }
 }
 
+/// Four threads call one connection over this setup.
+fn expect_calls(
+    rt: &(impl Abort + Threads + Wait + Sync),
+    alloc: Global,
+    setup: &str,
+) -> Result<(), Fail> {
+    let words = format!(in alloc; "{setup}|{CALLS}")?;
+    for turns in 0..25 {
+        expect_run(rt, alloc, words.as_str(), &Slow { turns }, 3)?;
+    }
+    Ok(())
+}
+
 /// Four threads call one connection, which moves before each feed.
 #[test]
 fn calls_and_moves(rt: HostRuntime) -> Result<(), Fail> {
-    let plain = format!(in rt.alloc(); "--squeues|3|--rings|2|--spread|1|{CALLS}")?;
-    let fill = format!(in rt.alloc();
-        "--squeues|3|--rings|2|--spread|1|--mode|fill|--budget|1|{CALLS}"
-    )?;
-    for turns in 0..25 {
-        for words in [plain.as_str(), fill.as_str()] {
-            let ran = ran(&rt, rt.alloc(), words, &Slow { turns })?;
-            expect_report(&rt, rt.alloc(), words, &ran, 3)?;
-        }
-    }
-    Ok(())
+    let plain = "--squeues|3|--rings|2|--spread|1";
+    let fill = "--squeues|3|--rings|2|--spread|1|--mode|fill|--budget|1";
+    expect_calls(&rt, rt.alloc(), plain)?;
+    expect_calls(&rt, rt.alloc(), fill)
 }
 
 /// How often one looks for the other before it gives up.
@@ -346,8 +371,7 @@ fn rings_beside_each_other(rt: HostRuntime) -> Result<(), Fail> {
         in_vain: AtomicBool::new(false),
     };
     let words = "--squeues|2|--rings|2";
-    let ran = ran(&rt, rt.alloc(), words, &meeting)?;
-    expect_report(&rt, rt.alloc(), words, &ran, 0)?;
+    expect_run(&rt, rt.alloc(), words, &meeting, 0)?;
     assert!(rt; meeting.first.load(Ordering::SeqCst));
     assert!(rt; meeting.second.load(Ordering::SeqCst));
     assert!(rt;

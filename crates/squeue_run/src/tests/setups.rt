@@ -1,13 +1,15 @@
 //! What the words change in a run over short echo sessions, and what they don't.
 
 use crate::tests::{
-    FIVE, FIVE_REPORT, HEADER, S, Seg, capture, check_of, expect, expect_rows, good, push, ran,
-    refused,
+    Ended, FIVE, FIVE_REPORT, HEADER, S, Seg, Sent, capture, expect, expect_all_good,
+    expect_refused, expect_sums, push, ran,
 };
 use sq_base::Status;
 use std::alloc::Global;
 use std::process::Abort;
+use std::sync::Wait;
 use std::test::Fail;
+use std::thread::Threads;
 
 const UNSUMMED: [&str; 3] = [
     "report 1",
@@ -15,21 +17,18 @@ const UNSUMMED: [&str; 3] = [
     "done",
 ];
 
+const OVER_ONE_SESSION: [(&str, &[&str]); 5] = [
+    ("", &FIVE_REPORT),
+    ("--mode=nodrain|--squeues=3|--spread=65535", &FIVE_REPORT),
+    ("--rings|2|--budget|65535|--", &FIVE_REPORT),
+    ("--rings=8|--mode=fill|--budget=1", &FIVE_REPORT),
+    ("--verify", &UNSUMMED),
+];
+
 #[test]
 fn words_over_one_session(rt: HostRuntime) -> Result<(), Fail> {
     let input = capture(rt.alloc(), &FIVE)?;
-    expect_rows(
-        &rt,
-        rt.alloc(),
-        input.as_slice(),
-        &[
-            good("", &FIVE_REPORT),
-            good("--mode=nodrain|--squeues=3|--spread=65535", &FIVE_REPORT),
-            good("--rings|2|--budget|65535|--", &FIVE_REPORT),
-            good("--rings=8|--mode=fill|--budget=1", &FIVE_REPORT),
-            good("--verify", &UNSUMMED),
-        ],
-    )
+    expect_all_good(&rt, rt.alloc(), input.as_slice(), &OVER_ONE_SESSION)
 }
 
 /// Calls on connections that there are not, and what is told of the first one.
@@ -47,8 +46,8 @@ const MISSING: [(&str, &str); 4] = [
 fn calls_on_no_connection(rt: HostRuntime) -> Result<(), Fail> {
     let input = capture(rt.alloc(), &FIVE)?;
     for (words, told) in MISSING {
-        let row = refused(words, Status::NoConnection, told);
-        expect_rows(&rt, rt.alloc(), input.as_slice(), &[row])?;
+        let missing = Status::NoConnection;
+        expect_refused(&rt, rt.alloc(), input.as_slice(), words, missing, told)?;
     }
     Ok(())
 }
@@ -77,15 +76,19 @@ fn expect_marks(rt: &impl Abort, told: &str) {
     }
 }
 
+/// What a traced run over the session tells.
+fn expect_traced(rt: &impl Abort, alloc: Global, ran: &Ended) -> Result<(), Fail> {
+    assert_eq!(rt; ran.status, Status::Ok);
+    let text = str::from_utf8(ran.out.bytes())?;
+    expect_marks(rt, text);
+    expect_head(rt, alloc, text)
+}
+
 #[test]
 fn traced_five_segment_echo(rt: HostRuntime) -> Result<(), Fail> {
     let input = capture(rt.alloc(), &FIVE)?;
     let ran = ran(&rt, rt.alloc(), "--trace", input.as_slice())?;
-    assert_eq!(rt; ran.status, Status::Ok);
-    let text = str::from_utf8(ran.out.bytes())?;
-    expect_head(&rt, rt.alloc(), text)?;
-    expect_marks(&rt, text);
-    Ok(())
+    expect_traced(&rt, rt.alloc(), &ran)
 }
 
 /// The session from each of five ports, segment by segment in turn.
@@ -99,20 +102,31 @@ fn five_in_turn(alloc: Global) -> Result<Vec<u8>, Fail> {
     Ok(file)
 }
 
+/// Words of four setups.
+const SETUPS: [&str; 4] = [
+    "",
+    "--squeues|16|--rings|8|--mode|fill|--budget|1|--spread|1",
+    "--squeues|4|--rings|3|--mode|nodrain|--budget|3|--spread|5",
+    "--squeues|2|--spread|2",
+];
+
+/// A run over the five sessions.
+fn expect_same(
+    rt: &(impl Abort + Threads + Wait + Sync),
+    alloc: Global,
+    line: &str,
+    input: &[u8],
+) -> Result<(), Fail> {
+    let ran = ran(rt, alloc, line, input)?;
+    expect_sums(rt, line, &ran, 1869, 0x0d61436b5eb0c0a2);
+    Ok(())
+}
+
 #[test]
 fn setup_does_not_matter(rt: HostRuntime) -> Result<(), Fail> {
     let input = five_in_turn(rt.alloc())?;
-    let lines = [
-        "",
-        "--squeues|16|--rings|8|--mode|fill|--budget|1|--spread|1",
-        "--squeues|4|--rings|3|--mode|nodrain|--budget|3|--spread|5",
-        "--squeues|2|--spread|2",
-    ];
-    for line in lines {
-        let ran = ran(&rt, rt.alloc(), line, input.as_slice())?;
-        assert_eq!(rt; ran.status, Status::Ok, "{line}");
-        assert_eq!(rt; ran.out.bytes().len(), 1869, "{line}");
-        assert_eq!(rt; check_of(ran.out.bytes()), 0x0d61436b5eb0c0a2, "{line}");
+    for line in SETUPS {
+        expect_same(&rt, rt.alloc(), line, input.as_slice())?;
     }
     Ok(())
 }
@@ -197,14 +211,21 @@ fn report_of<'a>(row: &(&'a str, &'a str, &'a str)) -> [&'a str; 9] {
     ]
 }
 
-#[test]
-fn calls_of_two_threads(rt: HostRuntime) -> Result<(), Fail> {
-    let input = capture(rt.alloc(), &[Seg(0, S, 100, 0, 4096, b"")])?;
-    let words = "--squeues|2|--spread|1|0:0:close|1:0:status";
-    let ran = ran(&rt, rt.alloc(), words, input.as_slice())?;
+/// The run's report is that of a row of `ORDERS`.
+fn expect_ordered(rt: &impl Abort, alloc: Global, ran: &Ended) -> Result<(), Fail> {
     let text = str::from_utf8(ran.out.bytes())?;
     let order = text.lines().find(|line| line.starts_with("order "));
     let row = ORDERS.iter().find(|known| Some(known.0) == order);
-    let lines = report_of(row.expect(&rt, "a known order"));
-    expect(&rt, rt.alloc(), words, &ran, Status::Ok, &lines, &[])
+    let lines = report_of(row.expect(rt, "a known order"));
+    expect(rt, alloc, "two calls", ran, Status::Ok, &lines, &[])
+}
+
+const ONE_SYN: [Sent<'static>; 1] = [Seg(0, S, 100, 0, 4096, b"")];
+
+#[test]
+fn calls_of_two_threads(rt: HostRuntime) -> Result<(), Fail> {
+    let input = capture(rt.alloc(), &ONE_SYN)?;
+    let words = "--squeues|2|--spread|1|0:0:close|1:0:status";
+    let ran = ran(&rt, rt.alloc(), words, input.as_slice())?;
+    expect_ordered(&rt, rt.alloc(), &ran)
 }
