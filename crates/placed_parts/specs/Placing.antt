@@ -1,0 +1,29 @@
+-- What a resident of places is, by what its parts have in common.
+use Rattle.std.specs.Prelude.{ℕ, Option, List, length}
+use Rattle.perimeter_core.specs.History.{Limits}
+use Rattle.perimeter_core.specs.Blocks.{Blocks}
+use Rattle.placed_parts.specs.declared.parts.Parts.{Ghosts}
+use Rattle.placed_parts.specs.declared.places.Places.{Places}
+use Rattle.placed_parts.specs.Standing.{PlacesStand}
+
+module _ {S P O : Type 0} {G : Ghosts S P O} where
+  abbrev pub Stands : Places S P O G → Blocks → Type 0
+  Stands r blocks = PlacesStand (G.is_part_of (G.origin r.shared)) G.part_stands r.places.items blocks
+
+  abbrev pub limits_of : Places S P O G → Limits
+  limits_of r = G.limits r.shared
+
+  -- how many connections there are
+  abbrev pub size_of : Places S P O G → ℕ
+  size_of r = length r.places.items
+
+  abbrev pub origin_of : Places S P O G → O
+  origin_of r = G.origin r.shared
+
+  -- what all parts share
+  abbrev pub shared_of : Places S P O G → S
+  shared_of r = r.shared
+
+  -- for each connection its part, if it is here
+  abbrev pub parts_of : Places S P O G → List (Option P)
+  parts_of r = r.places.items

@@ -1,0 +1,29 @@
+-- What places stand for, by what their parts stand for.
+use Rattle.std.specs.Prelude.{◌≡◌, ℕ, Option, Some, None, List, slice_get}
+use Rattle.perimeter_core.specs.declared.entries.Act.{Act}
+use Rattle.perimeter_core.specs.Deeds.{fed}
+use Rattle.perimeter_core.specs.Blocks.{Blocks}
+
+-- a part stands for some acts
+pub record HasHad (Stands : List Act → Type 0) : Type 0 where
+  pub had : List Act
+  pub stands : Stands had
+
+-- a part stands for some acts, n feeds among them
+pub record HasFed (Stands : List Act → Type 0) (n : ℕ) : Type 0 where
+  pub had : List Act
+  pub stands : Stands had
+  pub feeds : fed had ≡ n
+
+-- What is at the place of connection c is its part, and there is one exactly where the connection is here. Own tells whose a
+-- part is, Had for which acts it stands
+abbrev pub PlaceAt : {P : Type 0} → (ℕ → P → Type 0) → (P → List Act → Type 0) → ℕ → Option (Option P) → Option (List Act) → Type 0
+PlaceAt Own Had c (Some (Some part)) (Some had) = Own c part × Had part had
+PlaceAt Own Had c (Some (Some part)) None = ⊥
+PlaceAt Own Had c (Some None) (Some had) = ⊥
+PlaceAt Own Had c (Some None) None = Unit {0}
+PlaceAt Own Had c None (Some had) = ⊥
+PlaceAt Own Had c None None = Unit {0}
+
+abbrev pub PlacesStand : {P : Type 0} → (ℕ → P → Type 0) → (P → List Act → Type 0) → List (Option P) → Blocks → Type 0
+PlacesStand Own Had places blocks = (c : ℕ) → PlaceAt Own Had c (slice_get places c) (blocks c)
