@@ -1,8 +1,8 @@
 -- One squeue is lent to the jobs of its passes, and comes back when all are done.
-use Rattle.std.proofs.Common.{◌≡◌, ℕ, ◌+◌, ◌-◌, ◌<◌, ◌≤◌, Option, Some, List, [], ◌∷◌, ◌++◌, All, length, slice_get, slice_index, slice_index_or, refl, ap, sym, ◌∙◌, subst, arith}
+use Rattle.std.proofs.Common.{◌≡◌, ℕ, ◌+◌, ◌-◌, ◌<◌, Option, Some, List, [], ◌∷◌, ◌++◌, All, length, slice_get, slice_index, slice_index_or, ap, sym, ◌∙◌, subst, arith}
 use Rattle.std.proofs.lemmas.List.{length-map}
 use Rattle.std.proofs.lemmas.Option.{slice_get_within}
-use Rattle.turn_gate.specs.History.{Each, Has}
+use Rattle.turn_gate.specs.History.{Has}
 use Rattle.turn_gate.specs.Passes.{AreFresh, number}
 use Rattle.turn_gate.specs.declared.pass.Pass.{Pass}
 use Rattle.perimeter_core.specs.History.{Element, Limits, Setting, run}
@@ -11,7 +11,7 @@ use Rattle.perimeter_core.specs.Ending.{IsOver}
 use Rattle.perimeter_core.specs.Blocks.{Blocks}
 use Rattle.perimeter_core.specs.Residing.{HadFeeds}
 use Rattle.squeue_state.specs.Told.{Traced}
-use Rattle.squeue_state.specs.Naming.{Ending, Named, setting_of}
+use Rattle.squeue_state.specs.Naming.{Ending, Named}
 use Rattle.squeue_state.specs.Elements.{number_of}
 use Rattle.squeue_serve.specs.declared.jobs.Job.{Job}
 use Rattle.squeue_serve.specs.Places.{MayEnd}
@@ -19,9 +19,9 @@ use Rattle.squeue_serve.specs.Lending.{AreHanded, AreLent, HasCome, lent_to, tas
 use Rattle.squeue_serve.proofs.Lent.{lent_none}
 use Rattle.squeue_serve.proofs.Coming.{came, has_got, less_lent, lent_as, none_lent_at_all, one_only}
 use Rattle.key_counters.specs.declared.job.Task.{Task}
-use Rattle.key_counters.specs.Running.{IsReady, Ran}
-use Rattle.key_counters.specs.Serving.{AreTasks, HasDone, HasDoneAs, ServesRings, items_in}
-use Rattle.key_counters.proofs.Ending.{NewAt, all_new, all_ready, done_lent, each_done, fed_all}
+use Rattle.key_counters.specs.Running.{Ran}
+use Rattle.key_counters.specs.Serving.{AreTasks, HasDoneAs, ServesRings, items_in}
+use Rattle.key_counters.proofs.Ending.{NewAt, all_new, done_lent, each_done, fed_all}
 
 module _ {R : Type 0} (limits : R → Limits) (s : Named R) (serves : ServesRings limits s.given) where
   pub is_single : (old all : List (Named R)) → old ≡ [] → all ≡ old ++ s ∷ [] → all ≡ s ∷ []

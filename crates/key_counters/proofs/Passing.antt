@@ -1,5 +1,5 @@
 -- What a slice leaves in its Vec, and passes that have seen nothing.
-use Rattle.std.proofs.Common.{◌≡◌, ℕ, ◌+◌, Some, None, List, [], ◌∷◌, ◌++◌, length, take, drop, slice_get, refl, ap, subst, arith, zero, suc}
+use Rattle.std.proofs.Common.{◌≡◌, ℕ, ◌+◌, Some, List, [], ◌∷◌, ◌++◌, length, take, drop, slice_get, refl, ap, subst, arith, zero, suc}
 use Rattle.atomic_table.specs.Seated.{TableId}
 use Rattle.turn_gate.specs.Passes.{IsPassOf, AreFresh, number, seen}
 use Rattle.turn_gate.specs.declared.pass.Pass.{Pass}

@@ -13,11 +13,15 @@ use Rattle.perimeter_core.proofs.LogSteps.{here_of_feeds}
 use Rattle.squeue_state.specs.Naming.{Given}
 use Rattle.squeue_state.specs.Words.{IsMade, StandsEmpty, ask_quotas}
 use Rattle.key_counters.specs.declared.counters.Counter.{Counter}
-use Rattle.key_counters.specs.declared.counters.Counters.{Counters}
-use Rattle.key_counters.specs.Counting.{CountersStand, Stands, all_new, limits_of, size_of, row_of, total_of}
+use Rattle.placed_parts.specs.declared.parts.Parts.{Ghosts}
+use Rattle.placed_parts.specs.declared.places.Places.{Places}
+use Rattle.placed_parts.specs.Standing.{PlacesStand}
+use Rattle.placed_parts.specs.Placing.{Stands, limits_of, size_of}
+use Rattle.placed_parts.proofs.PlaceSteps.{part_there, had_feeds}
+use Rattle.key_counters.specs.Counting.{HasAdded, IsPartOf, all_new, row_of, total_of}
 use Rattle.key_counters.specs.Lists.{list_of, AreLists, no_asks}
 use Rattle.key_counters.specs.Serving.{ServesRings}
-use Rattle.key_counters.proofs.CounterSteps.{counter_there, its_counter}
+use Rattle.key_counters.proofs.CounterSteps.{had_feeds_is}
 use Rattle.key_counters.proofs.RingLists.{quotas_within}
 
 -- what is at most the sum
@@ -48,7 +52,7 @@ none_yet : (b : Bool) (had : List Act) → (if b then Some [] else None) ≡ Som
 none_yet true had h = cc h
 none_yet false had h = cc h
 
-pub new_empty : (r : Counters) (n : ℕ) → Stands r (all_new n) → StandsEmpty (Stands r)
+pub new_empty : {S P O : Type 0} {G : Ghosts S P O} (r : Places S P O G) (n : ℕ) → Stands r (all_new n) → StandsEmpty (Stands r)
 new_empty r n is = (all_new n, is, λ c had. none_yet (nat_lt c n) had)
 
 some_at : (b : Bool) (had : List Act) → b ≡ true → is_some (if b then Some had else None) ≡ true
@@ -56,7 +60,7 @@ some_at true had h = refl
 some_at false had h = cc h
 
 -- a squeue of new counters serves its rings
-pub serves : {A : Type 0} (number rings n : ℕ) (quotas : List (ℕ × ℕ)) (traced : Bool) (first : Counters) (g : Given Counters) (lists : List (Vec FeedOf A)) → IsMade Stands size_of number rings quotas traced first g → 1 ≤ rings
+pub serves : {A S P O : Type 0} {G : Ghosts S P O} (number rings n : ℕ) (quotas : List (ℕ × ℕ)) (traced : Bool) (first : Places S P O G) (g : Given (Places S P O G)) (lists : List (Vec FeedOf A)) → IsMade Stands size_of number rings quotas traced first g → 1 ≤ rings
     → quotas ≡ no_asks lists → length lists ≡ rings → AreLists rings (limits_of first).feeds 0 lists → Stands first (all_new n) → size_of first ≡ n → length (limits_of first).feeds ≡ n → ServesRings limits_of g
 serves number rings n quotas traced first g lists m few are count lists_are new size feeds =
     let long : length g.quotas ≡ rings = ap length (m.its_quotas ∙ are) ∙ (length-map lists (λ v. (length v.items, 0)) ∙ count) in
@@ -66,14 +70,14 @@ serves number rings n quotas traced first g lists m few are count lists_are new 
       here = λ c lt.
           let below : nat_lt c n ≡ true = (let h : c < n = omega (arith, lt, m.its_conns, size) in grind (arith, nat_tests)) in
           m.its_blocks (all_new n) c new ∙ some_at (nat_lt c n) [] below;
-      counts = omega (arith, ap (λ (r : Counters). length (limits_of r).feeds) m.its_first, feeds, m.its_conns, size);
+      counts = omega (arith, ap (λ r. length (limits_of r).feeds) m.its_first, feeds, m.its_conns, size);
       quotas = λ r lt.
           let within : r < length lists = omega (arith, lt, m.its_rings, count) in
           let z : 0 + r ≡ r = omega arith in
           let counts = (limits_of first).feeds in
           ap (λ (qs : List (ℕ × ℕ)). (slice_index_or qs r (0, 0)).0) (m.its_quotas ∙ are) ∙ (quota_at rings counts 0 r lists lists_are within
           ∙ (ap (λ (q : ℕ). length (list_of rings q 0 counts)) z ∙ (ap (λ (q : ℕ). length (list_of q r 0 counts)) (sym m.its_rings)
-          ∙ ap (λ (x : Counters). length (list_of g.rings r 0 (limits_of x).feeds)) (sym m.its_first))));
+          ∙ ap (λ x. length (list_of g.rings r 0 (limits_of x).feeds)) (sym m.its_first))));
     }
 
 -- lists that are the same element by element
@@ -92,17 +96,19 @@ some_row (x ∷ rows) zero row h = (omega arith, (let e : x ≡ row = cc h in e)
 some_row (x ∷ rows) (suc c) row h = let r = some_row rows c row h in (omega (arith, r.0), r.1)
 
 -- where each key has had all its items, the totals are the sums
-pub totals_are : (rows : List (List ℕ)) (cs : List (Option Counter)) → length cs ≡ length rows → ((c : ℕ) → c < length rows → HadFeeds (CountersStand rows cs) c (length (row_of rows c))) → map total_of cs ≡ map sum rows
+pub totals_are : (rows : List (List ℕ)) (cs : List (Option Counter)) → length cs ≡ length rows → ((c : ℕ) → c < length rows → HadFeeds (PlacesStand (IsPartOf rows) HasAdded cs) c (length (row_of rows c))) → map total_of cs ≡ map sum rows
 totals_are rows cs n had = same_maps total_of sum cs rows n one
   where
     one : (i : ℕ) (o : Option Counter) (row : List ℕ) → slice_get cs i ≡ Some o → slice_get rows i ≡ Some row → total_of o ≡ sum row
     one i o row at is =
         let r = some_row rows i row is in
         let h = had i r.0 in
-        let k = counter_there rows cs i (here_of_feeds (CountersStand rows cs) i (length (row_of rows i)) h) in
-        let part = its_counter rows cs i (length (row_of rows i)) k.0 k.1 h in
+        let m = length (row_of rows i) in
+        let k = part_there (IsPartOf rows) HasAdded cs i (here_of_feeds (PlacesStand (IsPartOf rows) HasAdded cs) i m h) in
+        let part = had_feeds (IsPartOf rows) HasAdded cs i m k.0 k.1 h in
+        let had_all = had_feeds_is k.0 m part.1 in
         let same : o ≡ Some k.0 = cc (at, k.1) in
-        ap total_of same ∙ (part.0.total ∙ (ap (λ (m : ℕ). sum (take m (row_of rows i))) part.1 ∙ (ap sum (take_all (length (row_of rows i)) (row_of rows i) (omega arith)) ∙ ap sum r.1)))
+        ap total_of same ∙ (part.0.total ∙ (ap (λ (n : ℕ). sum (take n (row_of rows i))) had_all ∙ (ap sum (take_all m (row_of rows i) (omega arith)) ∙ ap sum r.1)))
 
 pub sums_of : {V : Type 0} (items : V → List ℕ) (xs : List V) → map sum (map items xs) ≡ map (λ x. sum (items x)) xs
 sums_of items [] = refl

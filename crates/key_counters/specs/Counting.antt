@@ -1,5 +1,5 @@
 -- What the resident of counters stands for.
-use Rattle.std.specs.Prelude.{◌≡◌, ◌≤◌, ℕ, Bool, true, false, Option, Some, None, List, [], ◌∷◌, length, map, sum, take, if◌then◌else◌, nat_lt, slice_get, slice_index_or, option_map}
+use Rattle.std.specs.Prelude.{◌≡◌, ◌≤◌, ℕ, Bool, true, false, Option, Some, None, List, [], ◌∷◌, length, map, sum, take, if◌then◌else◌, nat_lt, slice_index_or, option_map}
 use Rattle.perimeter_core.specs.declared.entries.Act.{Act}
 use Rattle.perimeter_core.specs.History.{Limits}
 use Rattle.perimeter_core.specs.declared.entries.Act.TheVariants as Did
@@ -7,11 +7,11 @@ use Rattle.perimeter_core.specs.Deeds.{fed, feed_numbers}
 use Rattle.perimeter_core.specs.Blocks.{Blocks}
 use Rattle.perimeter_core.specs.Backlog.{up}
 use Rattle.key_counters.specs.declared.counters.Counter.{Counter}
-use Rattle.key_counters.specs.declared.counters.Counters.{Counters}
+use Rattle.key_counters.specs.declared.counters.Amounts.{Amounts}
 
 -- for each key its amounts
-abbrev pub rows_of : Counters → List (List ℕ)
-rows_of r = map (λ row. row.items) r.amounts.now
+abbrev pub rows_of : Amounts → List (List ℕ)
+rows_of r = map (λ row. row.items) r.rows.now
 
 abbrev pub row_of : List (List ℕ) → ℕ → List ℕ
 row_of rows c = slice_index_or rows c []
@@ -38,35 +38,16 @@ before_last_reading [] = []
 before_last_reading (act ∷ acts) = if has_reading acts then act ∷ before_last_reading acts else []
 
 -- the counter has had the feeds from 0 on, and its last reading found as many as stand before it
-pub record HasHad (k : Counter) (had : List Act) : Type 0 where
+pub record HasAdded (k : Counter) (had : List Act) : Type 0 where
   pub feeds : feed_numbers had ≡ up 0 k.had
   pub read : fed (before_last_reading had) ≡ k.read_at
 
--- what stands at the place of key c is its counter, and there is one exactly where the key is here
-abbrev pub CounterAt : List (List ℕ) → ℕ → Option (Option Counter) → Option (List Act) → Type 0
-CounterAt rows c (Some (Some k)) (Some had) = IsPartOf rows c k × HasHad k had
-CounterAt rows c (Some (Some k)) None = ⊥
-CounterAt rows c (Some None) (Some had) = ⊥
-CounterAt rows c (Some None) None = Unit {0}
-CounterAt rows c None (Some had) = ⊥
-CounterAt rows c None None = Unit {0}
-
-abbrev pub CountersStand : List (List ℕ) → List (Option Counter) → Blocks → Type 0
-CountersStand rows counters blocks = (c : ℕ) → CounterAt rows c (slice_get counters c) (blocks c)
-
-abbrev pub Stands : Counters → Blocks → Type 0
-Stands r blocks = CountersStand (rows_of r) r.counters.items blocks
-
--- how many keys there are
-abbrev pub size_of : Counters → ℕ
-size_of r = length r.counters.items
-
 -- the readings that there are: key, thread and number
-abbrev pub readings_of : Counters → List (ℕ × ℕ × ℕ)
+abbrev pub readings_of : Amounts → List (ℕ × ℕ × ℕ)
 readings_of r = r.readings.items
 
 -- each key has a feed for each of its amounts, no counter leaves, and the calls are the readings
-abbrev pub limits_of : Counters → Limits
+abbrev pub limits_of : Amounts → Limits
 limits_of r = record { feeds = map length (rows_of r); leaves = []; calls = readings_of r }
 
 -- n keys are here, and nothing was done to their counters
@@ -79,8 +60,8 @@ total_of (Some k) = k.total
 total_of None = 0
 
 -- what the last reading of a key found, if its counter is here
-abbrev pub reading_at : Counters → ℕ → Option ℕ
-reading_at r c = option_map (λ k. k.read) (slice_index_or r.counters.items c None)
+abbrev pub reading_at : List (Option Counter) → ℕ → Option ℕ
+reading_at places c = option_map (λ k. k.read) (slice_index_or places c None)
 
 -- what the last reading of a key with these amounts found, by the acts on its counter
 abbrev pub found_by_reading : List ℕ → List Act → ℕ

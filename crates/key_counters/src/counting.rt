@@ -1,9 +1,9 @@
 //! From the amounts to the totals.
 ghost use Rattle.std.specs.Prelude.{◌≡◌, ◌^◌, ◌<◌, ◌≤◌, IfOk, length, map, sum};
 
-use crate::counters::Counters;
 use crate::job::Pace;
 use crate::lists::{ring_lists, ring_quotas, tasks_of};
+use crate::reading::{new_counters, totals_of};
 use crate::serving::serve;
 use perimeter_core::NoHook;
 use squeue_serve::{Squeues, discard, jobs_of};
@@ -27,13 +27,13 @@ pub fn count<W: Threads + Wait + Sync>(
 {
     let lists = ring_lists(alloc, amounts, rings)?;
     let quotas = ring_quotas(alloc, &lists)?;
-    let counters = Counters::make(alloc, amounts, Vec::new(alloc))?;
+    let resident = new_counters(alloc, amounts, Vec::new(alloc))?;
     let jobs = jobs_of(alloc, tasks_of(alloc, lists)?, 1)?;
     match Squeues::with_room(alloc, 1) {
-        Ok(squeues) => match Squeue::make(alloc, 0, counters, rings, &quotas, false) {
+        Ok(squeues) => match Squeue::make(alloc, 0, resident, rings, &quotas, false) {
             Ok((squeue, passes)) => {
-                let counters = serve(rt, squeue, alloc, &NoHook, pace, passes, jobs, squeues);
-                counters.totals(alloc)
+                let resident = serve(rt, squeue, alloc, &NoHook, pace, passes, jobs, squeues);
+                totals_of(&resident, alloc)
             }
             Err(error) => {
                 discard(jobs);

@@ -1,6 +1,6 @@
 ghost use Rattle.std.specs.Prelude.{◌≡◌, ◌+◌, ◌<◌, ◌≤◌, IfOk, length};
 
-use crate::{Counters, Pace, count};
+use crate::{Pace, count, last_reading, new_counters, totals_of};
 use perimeter_core::Resident;
 use squeue_enter::Mode;
 use std::alloc::{AllocError, Global};
@@ -83,22 +83,22 @@ fn a_counter_leaves_and_comes_back(rt: HostRuntime) -> Result<(), Fail> {
     let alloc = rt.alloc();
     let rows = [[5, 6].to_vec(alloc)?, [7].to_vec(alloc)?];
     let readings = [(0, 0, 0)].to_vec(alloc)?;
-    let mut counters = Counters::make(alloc, &rows, readings)?;
+    let mut counters = new_counters(alloc, &rows, readings)?;
     assert_eq!(rt; counters.conns(), 2);
     counters.feed(alloc, 0, 0);
     counters.feed(alloc, 1, 0);
-    assert_eq!(rt; counters.totals(alloc)?.as_slice(), [5, 7].as_slice());
+    assert_eq!(rt; totals_of(&counters, alloc)?.as_slice(), [5, 7].as_slice());
     let part = counters.take_out(0);
     assert_eq!(rt; (counters.is_here(0), counters.is_here(1)), (false, true));
-    assert_eq!(rt; counters.totals(alloc)?.as_slice(), [0, 7].as_slice());
-    assert_eq!(rt; counters.last_reading(0), None);
+    assert_eq!(rt; totals_of(&counters, alloc)?.as_slice(), [0, 7].as_slice());
+    assert_eq!(rt; last_reading(&counters, 0), None);
     counters.put_in(0, part);
-    assert_eq!(rt; counters.last_reading(0), Some(0));
+    assert_eq!(rt; last_reading(&counters, 0), Some(0));
     counters.call(alloc, 0, 0, 0);
     counters.feed(alloc, 0, 1);
-    assert_eq!(rt; counters.totals(alloc)?.as_slice(), [11, 7].as_slice());
+    assert_eq!(rt; totals_of(&counters, alloc)?.as_slice(), [11, 7].as_slice());
     assert_eq!(rt;
-        (counters.last_reading(0), counters.last_reading(1)),
+        (last_reading(&counters, 0), last_reading(&counters, 1)),
         (Some(5), Some(0))
     );
     Ok(())

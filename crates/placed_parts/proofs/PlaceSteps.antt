@@ -9,7 +9,7 @@ use Rattle.perimeter_core.specs.declared.entries.Entry.TheVariants as Entry'
 use Rattle.perimeter_core.specs.declared.marks.SynchAct.TheVariants as Done
 use Rattle.perimeter_core.specs.Deeds.{fed}
 use Rattle.perimeter_core.specs.Blocks.{Blocks, longer, with_feeds, with_act}
-use Rattle.perimeter_core.specs.Residing.{HadFeeds, Here, NotHere}
+use Rattle.perimeter_core.specs.Residing.{HadFeeds, Here}
 use Rattle.perimeter_core.specs.Logging.{fresh, none_done}
 use Rattle.perimeter_core.proofs.LogSteps.{get_same, get_other, got, some_longer}
 use Rattle.placed_parts.specs.Standing.{HasHad, HasFed, PlaceAt, PlacesStand}

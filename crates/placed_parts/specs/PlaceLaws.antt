@@ -1,6 +1,6 @@
 -- The laws of a resident of places.
 use Rattle.std.specs.Prelude.{◌≡◌, ℕ, ◌<◌, Option, Some, None, List, [], ◌∷◌, length, slice_get}
-use Rattle.std.proofs.Common.{ap, sym, refl, suc, zero, subst, arith}
+use Rattle.std.proofs.Common.{ap, refl, suc, zero, subst, arith}
 use Rattle.perimeter_core.specs.declared.entries.Act.{Act}
 use Rattle.perimeter_core.specs.Deeds.{feed_numbers}
 use Rattle.perimeter_core.specs.Blocks.{Blocks}

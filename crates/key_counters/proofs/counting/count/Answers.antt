@@ -5,8 +5,9 @@ use Rattle.perimeter_core.specs.History.{feed_quotas}
 use Rattle.perimeter_core.specs.Residing.{HadFeeds}
 use Rattle.squeue_state.specs.Behind.{pairs}
 use Rattle.squeue_state.specs.Words.{ask_quotas}
-use Rattle.key_counters.specs.declared.counters.Counters.{Counters}
-use Rattle.key_counters.specs.Counting.{CountersStand, limits_of, rows_of, row_of, total_of}
+use Rattle.placed_parts.specs.Standing.{PlacesStand}
+use Rattle.placed_parts.specs.Placing.{limits_of, shared_of}
+use Rattle.key_counters.specs.Counting.{HasAdded, IsPartOf, rows_of, row_of, total_of}
 use Rattle.key_counters.specs.Lists.{AreLists, no_asks}
 use Rattle.squeue_serve.specs.Lending.{tasks_in}
 use Rattle.key_counters.specs.Serving.{AreTasks}
@@ -23,55 +24,56 @@ ring_quotas-requires g c =
     let counts = map (λ row. length row.items) c.args.amounts.now in
     subst (All (λ list. length list.items < 4294967296)) (sym c.deref.ensures.value) (lists_short c.args.rings counts c.in_ok-lists.lists.items c.in_ok-lists.ensures.lists c.requires.items)
 
-pub make-requires-clause-short : goal.make-requires-clause-short
-make-requires-clause-short g c = all_short (λ row. length row.items) c.args.amounts.now c.requires.items
+pub new_counters-requires-clause-short : goal.new_counters-requires-clause-short
+new_counters-requires-clause-short g c = all_short (λ row. length row.items) c.args.amounts.now c.requires.items
 
-pub make-requires-in-Ok-clause-feeds : goal.make-requires-in-Ok-clause-feeds
-make-requires-in-Ok-clause-feeds g c =
+pub make-requires-clause-feeds : goal.make-requires-clause-feeds
+make-requires-clause-feeds g c =
     let counts = map (λ row. length row.items) c.args.amounts.now in
     let are = ap pairs c.deref-in-Ok.ensures.value ∙ (c.in_ok-quotas.ensures ∙ ap no_asks c.deref.ensures.value) in
     omega (arith, ap feed_quotas are, quotas_within c.args.rings counts c.in_ok-lists.lists.items c.in_ok-lists.ensures.lists, c.requires.items)
 
-pub make-requires-in-Ok-clause-asks : goal.make-requires-in-Ok-clause-asks
-make-requires-in-Ok-clause-asks g c =
+pub make-requires-clause-asks : goal.make-requires-clause-asks
+make-requires-clause-asks g c =
     let are = ap pairs c.deref-in-Ok.ensures.value ∙ (c.in_ok-quotas.ensures ∙ ap no_asks c.deref.ensures.value) in
     omega (arith, ap ask_quotas are, no_asks_asked c.in_ok-lists.lists.items)
 
-pub make-requires-in-Ok-clause-fresh : goal.make-requires-in-Ok-clause-fresh
-make-requires-in-Ok-clause-fresh g c = new_empty c.in_ok-counters.counters (length c.args.amounts.now) c.in_ok-counters.ensures.stands
+pub make-requires-clause-fresh : goal.make-requires-clause-fresh
+make-requires-clause-fresh g c = new_empty c.in_ok-resident.resident (length c.args.amounts.now) c.in_ok-resident.ensures.stands
 
-pub serve-counters-requires-clause-squeue : goal.serve-counters-requires-clause-squeue
-serve-counters-requires-clause-squeue g c κs within =
+pub serve-resident-requires-clause-squeue : goal.serve-resident-requires-clause-squeue
+serve-resident-requires-clause-squeue g c κs within =
     let rings = c.args.rings in
     let rows = c.args.amounts.now in
     let lists = c.in_ok-lists.lists.items in
-    let counters = c.in_ok-counters.counters in
+    let counters = c.in_ok-resident.resident in
     let are = ap pairs c.deref-in-Ok.ensures.value ∙ (c.in_ok-quotas.ensures ∙ ap no_asks c.deref.ensures.value) in
-    let counts : (limits_of counters).feeds ≡ map (λ row. length row.items) rows = ap (map length) c.in_ok-counters.ensures.amounts ∙ lengths_of (λ row. row.items) rows in
+    let counts : (limits_of counters).feeds ≡ map (λ row. length row.items) rows = ap (map length) c.in_ok-resident.ensures.amounts ∙ lengths_of (λ row. row.items) rows in
     serves 0 rings (length rows) (pairs c.deref-in-Ok.result.now) _ counters c.in-Ok-make.squeue.given lists c.in-Ok-make.ensures.given c.requires.rings.0 are c.in_ok-lists.ensures.count
-    (subst (λ (ns : List ℕ). AreLists rings ns 0 lists) (sym counts) c.in_ok-lists.ensures.lists) c.in_ok-counters.ensures.stands c.in_ok-counters.ensures.count (ap length counts ∙ length-map rows (λ row. length row.items))
+    (subst (λ (ns : List ℕ). AreLists rings ns 0 lists) (sym counts) c.in_ok-lists.ensures.lists) c.in_ok-resident.ensures.stands c.in_ok-resident.ensures.count (ap length counts ∙ length-map rows (λ row. length row.items))
 
-pub serve-counters-requires-clause-tasks : goal.serve-counters-requires-clause-tasks
-serve-counters-requires-clause-tasks g c κs within =
+pub serve-resident-requires-clause-tasks : goal.serve-resident-requires-clause-tasks
+serve-resident-requires-clause-tasks g c κs within =
     let rows = c.args.amounts.now in
-    let counters = c.in_ok-counters.counters in
+    let counters = c.in_ok-resident.resident in
     let m = c.in-Ok-make.ensures.given in
-    let counts : (limits_of counters).feeds ≡ map (λ row. length row.items) rows = ap (map length) c.in_ok-counters.ensures.amounts ∙ lengths_of (λ row. row.items) rows in
+    let counts : (limits_of counters).feeds ≡ map (λ row. length row.items) rows = ap (map length) c.in_ok-resident.ensures.amounts ∙ lengths_of (λ row. row.items) rows in
     let are = c.in_ok-tasks_of.ensures c.args.rings (map (λ row. length row.items) rows) c.in_ok-lists.ensures.count c.in_ok-lists.ensures.lists in
     subst (λ (n : ℕ). AreTasks n (limits_of c.in-Ok-make.squeue.given.first).feeds (tasks_in c.in_ok-jobs.jobs.items)) (sym m.its_rings)
-    (subst (λ (ns : List ℕ). AreTasks c.args.rings ns (tasks_in c.in_ok-jobs.jobs.items)) (sym (ap (λ (x : Counters). (limits_of x).feeds) m.its_first ∙ counts))
+    (subst (λ (ns : List ℕ). AreTasks c.args.rings ns (tasks_in c.in_ok-jobs.jobs.items)) (sym (ap (λ x. (limits_of x).feeds) m.its_first ∙ counts))
     (subst (AreTasks c.args.rings (map (λ row. length row.items) rows)) (sym c.in_ok-jobs.ensures.tasks) are))
 
 pub returns-in-Ok-make : goal.returns-in-Ok-make
 returns-in-Ok-make g c =
     let amounts = c.args.amounts.now in
-    let r = c.serve-counters.result in
+    let r = c.serve-resident.result in
     let first = c.in-Ok-make.squeue.given.first in
-    let end = c.serve-counters.ensures in
-    let same : rows_of r ≡ rows_of first = end.origin in
-    let rows : rows_of r ≡ map (λ row. row.items) amounts = same ∙ (ap rows_of c.in-Ok-make.ensures.given.its_first ∙ c.in_ok-counters.ensures.amounts) in
-    let long : length r.counters.items ≡ length (rows_of r) = r.places ∙ sym (length-map r.amounts.now (λ row. row.items)) in
-    let had : (i : ℕ) → i < length (rows_of r) → HadFeeds (CountersStand (rows_of r) r.counters.items) i (length (row_of (rows_of r) i)) =
-    λ i lt. subst (HadFeeds (CountersStand (rows_of r) r.counters.items) i) (limit_is (rows_of first) i ∙ ap (λ (xs : List (List ℕ)). length (row_of xs i)) (sym same)) (end.fed i (omega (arith, lt, long, end.size))) in
-    let sums : map total_of r.counters.items ≡ map (λ row. sum row.items) amounts = totals_are (rows_of r) r.counters.items long had ∙ (ap (map sum) rows ∙ sums_of (λ row. row.items) amounts) in
-    if_ok _ _ c.totals.result (λ v is. is ∙ sums) c.totals.ensures
+    let end = c.serve-resident.ensures in
+    let all = rows_of r.shared in
+    let same : all ≡ rows_of first.shared = end.origin in
+    let rows : all ≡ map (λ row. row.items) amounts = same ∙ (ap (λ x. rows_of (shared_of x)) c.in-Ok-make.ensures.given.its_first ∙ c.in_ok-resident.ensures.amounts) in
+    let long : length r.places.items ≡ length all = sym r.rows ∙ length-map all length in
+    let had : (i : ℕ) → i < length all → HadFeeds (PlacesStand (IsPartOf all) HasAdded r.places.items) i (length (row_of all i)) =
+    λ i lt. subst (HadFeeds (PlacesStand (IsPartOf all) HasAdded r.places.items) i) (limit_is (rows_of first.shared) i ∙ ap (λ (xs : List (List ℕ)). length (row_of xs i)) (sym same)) (end.fed i (omega (arith, lt, long, end.size))) in
+    let sums : map total_of r.places.items ≡ map (λ row. sum row.items) amounts = totals_are all r.places.items long had ∙ (ap (map sum) rows ∙ sums_of (λ row. row.items) amounts) in
+    if_ok _ _ c.totals_of.result (λ v is. is ∙ sums) c.totals_of.ensures

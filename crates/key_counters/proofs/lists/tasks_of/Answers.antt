@@ -1,7 +1,6 @@
-use Rattle.std.proofs.Common.{◌≡◌, ◌++◌, ◌∷◌, [], List, map, sym, ap, ◌∙◌, subst, rules}
+use Rattle.std.proofs.Common.{◌≡◌, ◌++◌, ◌∷◌, [], map, sym, ap, ◌∙◌, subst, rules}
 use Rattle.std.proofs.lemmas.List.{append-nil}
 use Rattle.std.specs.Prelude.{reverse}
-use Rattle.key_counters.specs.declared.job.Task.{Task}
 use Rattle.key_counters.specs.declared.job.Task.TheVariants as Task'
 use Rattle.key_counters.specs.Serving.{AreTasks}
 use Rattle.key_counters.proofs.RingLists.{are_tasks}
