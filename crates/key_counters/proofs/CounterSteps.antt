@@ -1,18 +1,16 @@
 -- A counter that goes on by one amount or one reading.
-use Rattle.std.proofs.Common.{◌≡◌, ℕ, zero, suc, ◌+◌, ◌<◌, true, false, nat_lt, Option, Some, None, List, [], ◌∷◌, ◌++◌, length, map, sum, take, get_or, slice_get, slice_index, slice_index_or, option_map, refl, ap, sym, ◌∙◌, subst, arith}
+use Rattle.std.proofs.Common.{◌≡◌, ℕ, suc, zero, ◌+◌, ◌<◌, true, List, [], ◌∷◌, ◌++◌, length, map, sum, take, get_or, slice_index, refl, ap, sym, ◌∙◌, arith}
 use Rattle.std.proofs.lemmas.List.{append-nil, get_or-map}
 use Rattle.std.proofs.lemmas.List.Sums.{sum_by_more}
-use Rattle.std.proofs.lemmas.Bool.Decides.{nat_tests}
 use Rattle.perimeter_core.specs.declared.entries.Act.{Act}
 use Rattle.perimeter_core.specs.declared.entries.Act.TheVariants as Did
 use Rattle.perimeter_core.specs.Deeds.{fed}
 use Rattle.perimeter_core.specs.Backlog.{up}
-use Rattle.perimeter_core.specs.Logging.{none_done}
 use Rattle.perimeter_core.proofs.FeedLists.{length-up, up-append}
 use Rattle.perimeter_core.proofs.LogSteps.{feed_numbers-append, fed_is}
-use Rattle.placed_parts.specs.Standing.{HasFed, PlaceAt, PlacesStand}
+use Rattle.placed_parts.specs.Standing.{HasFed}
 use Rattle.key_counters.specs.declared.counters.Counter.{Counter}
-use Rattle.key_counters.specs.Counting.{Counts, HasAdded, IsPartOf, all_new, row_of, has_reading, before_last_reading, found_by_reading}
+use Rattle.key_counters.specs.Counting.{Counts, HasAdded, row_of, has_reading, before_last_reading}
 
 reading_last : (xs : List Act) (j i : ℕ) → has_reading (xs ++ Did.Call j i ∷ []) ≡ true
 reading_last [] j i = refl
@@ -76,15 +74,6 @@ reading_added j i k had h =
       read = ap fed (before-reading had j i) ∙ had_is k had h;
     }
 
--- all keys are here
-all_fresh : {A : Type 0} (xs : List A) (c : ℕ) → none_done (map (λ x. true) xs) c ≡ all_new (length xs) c
-all_fresh [] c = let e : nat_lt c 0 ≡ false = grind (arith, nat_tests) in rw e refl
-all_fresh (x ∷ xs) zero = let e : nat_lt 0 (suc (length xs)) ≡ true = grind (arith, nat_tests) in rw e refl
-all_fresh (x ∷ xs) (suc c) = let e : nat_lt (suc c) (suc (length xs)) ≡ nat_lt c (length xs) = grind (arith, nat_tests) in rw e (all_fresh xs c)
-
-pub all_stand : {A P : Type 0} (Own : ℕ → P → Type 0) (Had : P → List Act → Type 0) (places : List (Option P)) (xs : List A) → PlacesStand Own Had places (none_done (map (λ x. true) xs)) → PlacesStand Own Had places (all_new (length xs))
-all_stand Own Had places xs h c = subst (λ (b : Option (List Act)). PlaceAt Own Had c (slice_get places c) b) (all_fresh xs c) (h c)
-
 -- the row that was read
 pub row_read : {V : Type 0} (items : V → List ℕ) (rows : List V) (c : ℕ) (row d : V) → c < length rows → row ≡ get_or rows c d → items row ≡ row_of (map items rows) c
 row_read items rows c row d lt is = ap items is ∙ sym (get_or-map items rows c d [] lt)
@@ -93,11 +82,3 @@ pub limit_is : (rows : List (List ℕ)) (c : ℕ) → slice_index (map length ro
 limit_is [] c = refl
 limit_is (x ∷ rows) zero = refl
 limit_is (x ∷ rows) (suc c) = limit_is rows c
-
--- what the last reading found
-pub reading_is : (rows : List (List ℕ)) (cs : List (Option Counter)) (c d : ℕ) (had : List Act) → PlaceAt (IsPartOf rows) HasAdded c (slice_get cs d) (Some had)
-    → option_map (λ (k : Counter). k.read) (slice_index_or cs d None) ≡ Some (found_by_reading (row_of rows c) had)
-reading_is rows [] c d had h = absurd h
-reading_is rows (Some k ∷ cs) c zero had h = ap Some (h.0.read ∙ ap (λ (i : ℕ). sum (take i (row_of rows c))) (sym h.1.read))
-reading_is rows (None ∷ cs) c zero had h = absurd h
-reading_is rows (o ∷ cs) c (suc d) had h = reading_is rows cs c d had h

@@ -15,10 +15,10 @@ use Rattle.squeue_state.specs.Words.{IsMade, StandsEmpty, ask_quotas}
 use Rattle.key_counters.specs.declared.counters.Counter.{Counter}
 use Rattle.placed_parts.specs.declared.parts.Parts.{Ghosts}
 use Rattle.placed_parts.specs.declared.places.Places.{Places}
-use Rattle.placed_parts.specs.Standing.{PlacesStand}
+use Rattle.placed_parts.specs.Standing.{PlacesStand, all_new}
 use Rattle.placed_parts.specs.Placing.{Stands, limits_of, size_of}
 use Rattle.placed_parts.proofs.PlaceSteps.{part_there, had_feeds}
-use Rattle.key_counters.specs.Counting.{HasAdded, IsPartOf, all_new, row_of, total_of}
+use Rattle.key_counters.specs.Counting.{HasAdded, IsPartOf, row_of, total_of}
 use Rattle.key_counters.specs.Lists.{list_of, AreLists, no_asks}
 use Rattle.key_counters.specs.Serving.{ServesRings}
 use Rattle.key_counters.proofs.CounterSteps.{had_feeds_is}

@@ -1,10 +1,9 @@
 -- What the resident of counters stands for.
-use Rattle.std.specs.Prelude.{◌≡◌, ◌≤◌, ℕ, Bool, true, false, Option, Some, None, List, [], ◌∷◌, length, map, sum, take, if◌then◌else◌, nat_lt, slice_index_or, option_map}
+use Rattle.std.specs.Prelude.{◌≡◌, ◌≤◌, ℕ, Bool, true, false, Option, Some, None, List, [], ◌∷◌, length, map, sum, take, if◌then◌else◌, slice_index_or}
 use Rattle.perimeter_core.specs.declared.entries.Act.{Act}
 use Rattle.perimeter_core.specs.History.{Limits}
 use Rattle.perimeter_core.specs.declared.entries.Act.TheVariants as Did
 use Rattle.perimeter_core.specs.Deeds.{fed, feed_numbers}
-use Rattle.perimeter_core.specs.Blocks.{Blocks}
 use Rattle.perimeter_core.specs.Backlog.{up}
 use Rattle.key_counters.specs.declared.counters.Counter.{Counter}
 use Rattle.key_counters.specs.declared.counters.Amounts.{Amounts}
@@ -50,18 +49,10 @@ readings_of r = r.readings.items
 abbrev pub limits_of : Amounts → Limits
 limits_of r = record { feeds = map length (rows_of r); leaves = []; calls = readings_of r }
 
--- n keys are here, and nothing was done to their counters
-abbrev pub all_new : ℕ → Blocks
-all_new n c = if nat_lt c n then Some [] else None
-
 -- what a place holds for the totals
 abbrev pub total_of : Option Counter → ℕ
 total_of (Some k) = k.total
 total_of None = 0
-
--- what the last reading of a key found, if its counter is here
-abbrev pub reading_at : List (Option Counter) → ℕ → Option ℕ
-reading_at places c = option_map (λ k. k.read) (slice_index_or places c None)
 
 -- what the last reading of a key with these amounts found, by the acts on its counter
 abbrev pub found_by_reading : List ℕ → List Act → ℕ

@@ -54,7 +54,7 @@ pub type Counters<'a> = Places<Amounts<'a>>;
 
 impl Parts for Amounts<'_> {
     ghost use Rattle.key_counters.specs.Counting.{HasAdded, IsPartOf, limits_of, rows_of};
-    ghost use Rattle.key_counters.specs.CounterLaws.{counter_same_feeds};
+    ghost use Rattle.std.proofs.Common.{sym, ◌∙◌};
 
     type Part = Counter;
 
@@ -86,5 +86,5 @@ impl Parts for Amounts<'_> {
         counter.note();
     }
 
-    ghost same_part_feeds = { counter_same_feeds };
+    ghost same_part_feeds = { λ k a b x y. x.feeds ∙ sym y.feeds };
 }

@@ -1,9 +1,10 @@
 //! The counters of all keys: how they are made, and what is read off them.
-ghost use Rattle.std.specs.Prelude.{◌≡◌, ◌^◌, ◌<◌, All, IfOk, Some, List, length, map};
+ghost use Rattle.std.specs.Prelude.{◌≡◌, ◌^◌, ◌<◌, All, IfOk, Some, List, length, map, option_map};
 ghost use Rattle.perimeter_core.specs.declared.entries.Act.{Act};
 ghost use Rattle.perimeter_core.specs.Blocks.{Blocks};
-ghost use Rattle.placed_parts.specs.Placing.{Stands, size_of, shared_of, parts_of};
-ghost use Rattle.key_counters.specs.Counting.{all_new, rows_of, row_of, readings_of, reading_at, found_by_reading, total_of};
+ghost use Rattle.placed_parts.specs.Standing.{all_new};
+ghost use Rattle.placed_parts.specs.Placing.{Stands, size_of, shared_of, parts_of, part_at};
+ghost use Rattle.key_counters.specs.Counting.{rows_of, row_of, readings_of, found_by_reading, total_of};
 
 use crate::counters::{Amounts, Counter, Counters};
 use placed_parts::Places;
@@ -23,12 +24,12 @@ pub fn new_counters<'a>(
     ensures amounts { IfOk result (λ r. rows_of (shared_of r) ≡ map (λ row. row.items) amounts.now) }
     ensures readings { IfOk result (λ r. readings_of (shared_of r) ≡ readings.items) }
 {
-    let starts: Vec<bool> = amounts.iter().map(|_| true).collect(alloc)?;
+    let count = amounts.len() as u32;
     let shared = Amounts {
         rows: amounts,
         readings,
     };
-    Places::make(alloc, shared, &starts)
+    Places::make(alloc, shared, count)
 }
 
 /// The total of each key, and 0 for one whose counter isn't here.
@@ -46,10 +47,10 @@ pub fn totals_of(counters: &Counters<'_>, alloc: Global) -> Result<Vec<u64>, All
 /// it; 0 before the first reading.
 pub fn last_reading(counters: &Counters<'_>, c: u32) -> Option<u64>
     requires { c < size_of counters.now }
-    ensures place { result ≡ reading_at (parts_of counters.now) c }
+    ensures place { result ≡ option_map (λ k. k.read) (part_at counters.now c) }
     ensures found { (blocks : Blocks) (had : List Act) → Stands counters.now blocks → blocks c ≡ Some had → result ≡ Some (found_by_reading (row_of (rows_of (shared_of counters.now)) c) had) }
 {
-    match &counters.parts()[c as usize] {
+    match counters.part(c) {
         Some(counter) => Some(counter.read),
         None => None,
     }

@@ -1,5 +1,5 @@
 -- A part that goes on by one act, one that leaves or comes, and parts that are new.
-use Rattle.std.proofs.Common.{◌≡◌, ◌≢◌, ℕ, zero, suc, ◌+◌, ◌<◌, Bool, true, false, ◌==◌, inl, inr, Option, Some, None, List, [], ◌∷◌, ◌++◌, length, slice_get, slice_set, slice_index_or, refl, ap, sym, ◌∙◌, subst, arith}
+use Rattle.std.proofs.Common.{◌≡◌, ◌≢◌, ℕ, zero, suc, ◌+◌, ◌<◌, Bool, true, false, ◌==◌, inl, inr, Option, Some, None, Result, Ok, Err, IfOk, List, [], ◌∷◌, ◌++◌, length, nat_lt, replicate, slice_get, slice_set, slice_index_or, refl, ap, sym, ◌∙◌, subst, arith}
 use Rattle.std.proofs.lemmas.List.{append-nil}
 use Rattle.std.proofs.lemmas.Bool.{cases_eq}
 use Rattle.std.proofs.lemmas.Bool.Decides.{nat_tests}
@@ -12,11 +12,16 @@ use Rattle.perimeter_core.specs.Blocks.{Blocks, longer, with_feeds, with_act}
 use Rattle.perimeter_core.specs.Residing.{HadFeeds, Here}
 use Rattle.perimeter_core.specs.Logging.{fresh, none_done}
 use Rattle.perimeter_core.proofs.LogSteps.{get_same, get_other, got, some_longer}
-use Rattle.placed_parts.specs.Standing.{HasHad, HasFed, PlaceAt, PlacesStand}
+use Rattle.placed_parts.specs.Standing.{HasHad, HasFed, PlaceAt, PlacesStand, all_new}
 
 longer_none : (o : Option (List Act)) → longer [] o ≡ o
 longer_none None = refl
 longer_none (Some x) = ap Some (append-nil x)
+
+all_here : (n c : ℕ) → none_done (replicate n true) c ≡ all_new n c
+all_here zero c = let e : nat_lt c 0 ≡ false = grind (arith, nat_tests) in rw e refl
+all_here (suc n) zero = let e : nat_lt 0 (suc n) ≡ true = grind (arith, nat_tests) in rw e refl
+all_here (suc n) (suc c) = let e : nat_lt (suc c) (suc n) ≡ nat_lt c n = grind (arith, nat_tests) in rw e (all_here n c)
 
 module _ {P : Type 0} (Own : ℕ → P → Type 0) (Had : P → List Act → Type 0) where
   -- one place is changed
@@ -122,3 +127,11 @@ module _ {P : Type 0} (Own : ℕ → P → Type 0) (Had : P → List Act → Typ
       (first_at 0 places starts place here n
       (λ d. subst (λ (n : ℕ). PlaceAt Own Had n (slice_get places d) (none_done starts d)) (sym (z d)) (old d))
       (subst (λ (n : ℕ). PlaceAt Own Had n (Some place) (fresh here)) (sym (z (length places))) new) c)
+
+  -- all are here
+  pub all_stand : (places : List (Option P)) (n : ℕ) → PlacesStand Own Had places (none_done (replicate n true)) → PlacesStand Own Had places (all_new n)
+  all_stand places n h c = subst (λ (b : Option (List Act)). PlaceAt Own Had c (slice_get places c) b) (all_here n c) (h c)
+
+pub if_ok : {A E : Type 0} (P Q : A → Type 0) (r : Result A E) → ((x : A) → P x → Q x) → IfOk r P → IfOk r Q
+if_ok P Q (Ok x) h p = h x p
+if_ok P Q (Err e) h p = p

@@ -1,5 +1,5 @@
 -- What a resident of places is, by what its parts have in common.
-use Rattle.std.specs.Prelude.{ℕ, Option, List, length}
+use Rattle.std.specs.Prelude.{ℕ, Option, None, List, length, slice_index_or}
 use Rattle.perimeter_core.specs.History.{Limits}
 use Rattle.perimeter_core.specs.Blocks.{Blocks}
 use Rattle.placed_parts.specs.declared.parts.Parts.{Ghosts}
@@ -27,3 +27,7 @@ module _ {S P O : Type 0} {G : Ghosts S P O} where
   -- for each connection its part, if it is here
   abbrev pub parts_of : Places S P O G → List (Option P)
   parts_of r = r.places.items
+
+  -- the part of a connection, if it is here
+  abbrev pub part_at : Places S P O G → ℕ → Option P
+  part_at r c = slice_index_or (parts_of r) c None

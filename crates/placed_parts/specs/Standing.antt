@@ -1,5 +1,5 @@
 -- What places stand for, by what their parts stand for.
-use Rattle.std.specs.Prelude.{◌≡◌, ℕ, Option, Some, None, List, slice_get}
+use Rattle.std.specs.Prelude.{◌≡◌, ℕ, Option, Some, None, List, [], if◌then◌else◌, nat_lt, slice_get}
 use Rattle.perimeter_core.specs.declared.entries.Act.{Act}
 use Rattle.perimeter_core.specs.Deeds.{fed}
 use Rattle.perimeter_core.specs.Blocks.{Blocks}
@@ -27,3 +27,7 @@ PlaceAt Own Had c None None = Unit {0}
 
 abbrev pub PlacesStand : {P : Type 0} → (ℕ → P → Type 0) → (P → List Act → Type 0) → List (Option P) → Blocks → Type 0
 PlacesStand Own Had places blocks = (c : ℕ) → PlaceAt Own Had c (slice_get places c) (blocks c)
+
+-- n connections are here, and nothing was done to them
+abbrev pub all_new : ℕ → Blocks
+all_new n c = if nat_lt c n then Some [] else None

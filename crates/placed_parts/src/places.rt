@@ -1,5 +1,5 @@
 //! A place for the part of each connection.
-ghost use Rattle.std.specs.Prelude.{◌≡◌, ◌<◌, ◌^◌, IfOk, Some, length};
+ghost use Rattle.std.specs.Prelude.{◌≡◌, ◌<◌, ◌^◌, IfOk, IfSome, IsSome, Some, List, length, option_map};
 ghost use Rattle.perimeter_core.specs.Residing.{IsWithin};
 
 use crate::parts::Parts;
@@ -17,13 +17,32 @@ pub struct Places<S: Parts> {
 }
 
 impl<S: Parts> Places<S> {
+    ghost use Rattle.perimeter_core.specs.declared.entries.Act.{Act};
+    ghost use Rattle.perimeter_core.specs.Blocks.{Blocks};
     ghost use Rattle.perimeter_core.specs.Logging.{fresh, none_done};
-    ghost use Rattle.placed_parts.specs.Standing.{PlaceAt};
-    ghost use Rattle.placed_parts.specs.Placing.{Stands, shared_of, size_of, parts_of};
+    ghost use Rattle.placed_parts.specs.Standing.{PlaceAt, all_new};
+    ghost use Rattle.placed_parts.specs.Placing.{Stands, shared_of, size_of, parts_of, part_at};
 
-    /// The connections that the flags name are here, and nothing was done to them. The limits of what is shared have a number of
-    /// feeds for each connection. After an error all is dropped.
-    pub fn make(alloc: Global, shared: S, starts: &[bool]) -> Result<Places<S>, AllocError>
+    /// All connections, so many, are here, and nothing was done to them. The limits of what is shared have a number of feeds for
+    /// each connection. After an error all is dropped.
+    pub fn make(alloc: Global, shared: S, count: u32) -> Result<Places<S>, AllocError>
+    where
+        S: Drop,
+        requires rows { length (S.limits shared).feeds ≡ count }
+        requires within { IsWithin count (S.limits shared) }
+        ensures stands { IfOk result (λ r. Stands r (all_new count)) }
+        ensures count { IfOk result (λ r. size_of r ≡ count) }
+        ensures shared { IfOk result (λ r. shared_of r ≡ shared) }
+    {
+        let mut starts = Vec::with_capacity(alloc, count as usize)?;
+        for _c in 0..count {
+            starts.push_reserved(true);
+        }
+        Places::make_where(alloc, shared, &starts)
+    }
+
+    /// The connections that the flags name are here, and nothing was done to them. Else it is as `make`.
+    pub fn make_where(alloc: Global, shared: S, starts: &[bool]) -> Result<Places<S>, AllocError>
     where
         S: Drop,
         requires few { length starts.now < 2 ^ 32 }
@@ -58,6 +77,15 @@ impl<S: Parts> Places<S> {
         ensures { result.now ≡ shared_of self.now }
     {
         &self.shared
+    }
+
+    /// The part of the connection, if it is here.
+    pub fn part(&self, c: u32) -> Option<&S::Part>
+        requires { c < size_of self.now }
+        ensures place { option_map (λ part. part.now) result ≡ part_at self.now c }
+        ensures stands { (blocks : Blocks) (had : List Act) → Stands self.now blocks → blocks c ≡ Some had → IsSome result × IfSome result (λ part. S.is_part_of (S.origin (shared_of self.now)) c part.now × S.part_stands part.now had) }
+    {
+        self.places[c as usize].as_ref()
     }
 
     /// The place of each connection, by its number.

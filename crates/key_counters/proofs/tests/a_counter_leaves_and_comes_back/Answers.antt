@@ -5,7 +5,7 @@ use Rattle.perimeter_core.specs.declared.entries.Act.TheVariants as Did
 use Rattle.perimeter_core.specs.declared.entries.Entry.TheVariants as Entry'
 use Rattle.perimeter_core.specs.declared.marks.SynchAct.TheVariants as Done
 use Rattle.perimeter_core.specs.Blocks.{Blocks, with_feeds, with_act}
-use Rattle.key_counters.specs.Counting.{all_new}
+use Rattle.placed_parts.specs.Standing.{all_new}
 use Rattle.key_counters.proofs.tests.a_counter_leaves_and_comes_back.Goals as goal
 
 abbrev fed_one : Blocks

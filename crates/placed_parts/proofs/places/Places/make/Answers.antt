@@ -1,24 +1,15 @@
-use Rattle.std.proofs.Common.{◌≡◌, ℕ, Some, ◌∷◌, [], length, take, get_or, false, sym, subst, ◌∙◌, arith, length-append}
-use Rattle.std.proofs.lemmas.List.{take_more, length-take-le}
-use Rattle.perimeter_core.specs.Logging.{fresh}
-use Rattle.placed_parts.specs.Standing.{PlaceAt}
-use Rattle.placed_parts.proofs.PlaceSteps.{first_stand}
+use Rattle.std.proofs.Common.{◌≡◌, ℕ, Bool, true, List, replicate, ap, ◌∙◌, subst, arith}
+use Rattle.perimeter_core.specs.Logging.{none_done}
+use Rattle.placed_parts.specs.Standing.{PlacesStand}
+use Rattle.placed_parts.proofs.PlaceSteps.{all_stand, if_ok}
 use Rattle.placed_parts.proofs.places.Places.make.Goals as goal
 
-pub loop-c-preserved : goal.loop-c-preserved
-loop-c-preserved g c =
-    let i = c.loop-c.c in
-    let places = c.loop-c.places.items in
-    let starts = c.args.starts.now in
-    let Own = g.S.Parts.is_part_of (g.S.Parts.origin c.args.shared) in
-    let Had = g.S.Parts.part_stands in
-    let done : length (take i starts) ≡ i = length-take-le i starts (omega (arith, c.loop-c-test.true)) in
-    let same : length places ≡ length (take i starts) = c.loop-c.invariant.count ∙ sym done in
-    let place = c.in_ok-place.place in
-    let first = subst (λ (n : ℕ). PlaceAt Own Had n (Some place) (fresh (get_or starts i false))) (sym c.loop-c.invariant.count) c.in_ok-place.ensures in
-    record {
-      count = rw c.push_reserved.ensures.items (omega (arith, length-append places (place ∷ []), c.loop-c.invariant.count));
-      room = omega (arith, c.push_reserved.ensures.capacity, c.loop-c.invariant.room);
-      stands = rw (c.push_reserved.ensures.items, take_more starts i false c.loop-c-test.true)
-          (first_stand Own Had places (take i starts) place (get_or starts i false) same c.loop-c.invariant.stands first);
-    }
+pub returns-clause-stands : goal.returns-clause-stands
+returns-clause-stands g c =
+    let last : c.loop-c._c ≡ c.args.count = omega (arith, c.loop-c-test.false, c.loop-c.auto) in
+    let starts : c.deref.result.now ≡ replicate c.args.count true = c.deref.ensures.value ∙ (c.loop-c.invariant.items ∙ ap (λ (n : ℕ). replicate n true) last) in
+    if_ok _ _ c.make_where.result
+    (λ r h.
+    let Own = g.S.Parts.is_part_of (g.S.Parts.origin r.shared) in
+    all_stand Own g.S.Parts.part_stands r.places.items c.args.count (subst (λ (bs : List Bool). PlacesStand Own g.S.Parts.part_stands r.places.items (none_done bs)) starts h))
+    c.make_where.ensures.stands
