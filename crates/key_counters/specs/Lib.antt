@@ -2,3 +2,4 @@ pub mod Counting
 pub mod Running
 pub mod Lists
 pub mod Serving
+pub mod AsResident

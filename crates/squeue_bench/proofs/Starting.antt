@@ -14,8 +14,10 @@ use Rattle.perimeter_core.specs.Perimeter.{State, Idle, is_here}
 use Rattle.perimeter_core.specs.History.{Element, Setting, Limits, start, run, feed_quota, feed_quotas}
 use Rattle.perimeter_core.specs.Deeds.{entries, due}
 use Rattle.perimeter_core.specs.Legal.{Enters, one_more, feeds_by}
-use Rattle.key_counters.specs.declared.counters.Counters.{Counters}
-use Rattle.key_counters.specs.Counting.{Stands, all_new, limits_of, rows_of, size_of}
+use Rattle.placed_parts.specs.Placing.{Stands, limits_of, size_of}
+use Rattle.key_counters.specs.Counting.{all_new}
+use Rattle.placed_parts.specs.declared.parts.Parts.{Ghosts}
+use Rattle.placed_parts.specs.declared.places.Places.{Places}
 use Rattle.squeue_state.specs.declared.guarded.Quota.{Quota}
 use Rattle.squeue_state.specs.Naming.{Named, setting_of}
 use Rattle.squeue_state.specs.Elements.{number_of}
@@ -96,8 +98,8 @@ none_had n c had h = new_at (nat_lt c n) had h
 here_at : (k n : ℕ) → k < n → is_some (all_new n k) ≡ true
 here_at k n l = let e : nat_lt k n ≡ true = grind (arith, nat_tests) in rw e refl
 
-pub new_suits : (number rings items n : ℕ) (quotas : List Quota) (rows : List (List ℕ)) (first : Counters) (s : Named Counters) → IsMade Stands size_of number rings (pairs quotas) false first s.given → rings ≡ n → quotas ≡ replicate n (quota_of items) → length rows ≡ n
-    → All (λ row. length row ≡ items) rows → Stands first (all_new n) → rows_of first ≡ rows → Suits limits_of items s × (length s.given.quotas ≡ n)
+pub new_suits : {S P O : Type 0} {G : Ghosts S P O} (number rings items n : ℕ) (quotas : List Quota) (rows : List (List ℕ)) (first : Places S P O G) (s : Named (Places S P O G)) → IsMade Stands size_of number rings (pairs quotas) false first s.given → rings ≡ n → quotas ≡ replicate n (quota_of items) → length rows ≡ n
+    → All (λ row. length row ≡ items) rows → Stands first (all_new n) → (limits_of first).feeds ≡ map length rows → Suits limits_of items s × (length s.given.quotas ≡ n)
 new_suits number rings items n quotas rows first s m count_is same long all stands is =
     let paired : s.given.quotas ≡ pairs (replicate n (quota_of items)) = m.its_quotas ∙ ap pairs same in
     let count : length s.given.quotas ≡ n = ap (λ (qs : List (ℕ × ℕ)). length qs) paired ∙ (length-map (replicate n (quota_of items)) (λ q. (q.feeds, q.asks)) ∙ length-replicate n (quota_of items)) in (
@@ -111,8 +113,8 @@ new_suits number rings items n quotas rows first s m count_is same long all stan
             ∙ ap (λ (q : Quota). q.feeds) (get_or-replicate n k (quota_of items) (quota_of items) below));
         limit = λ k l.
             let below : k < length rows = omega (arith, l, count, long) in
-            ap (λ (r : Counters). slice_index (map length (rows_of r)) k) m.its_first
-            ∙ (ap (λ (rs : List (List ℕ)). slice_index (map length rs) k) is
+            ap (λ r. slice_index (limits_of r).feeds k) m.its_first
+            ∙ (ap (λ (ns : List ℕ). slice_index ns k) is
             ∙ (get_or-map length rows k [] 0 below ∙ All-get_or (λ (row : List ℕ). length row ≡ items) rows k [] below all));
       },
       count,

@@ -11,7 +11,7 @@ mod threads;
 ghost use Rattle.std.specs.Prelude.{◌≡◌, ◌*◌, ◌≤◌, ◌^◌};
 
 use items::{amounts_of, items_each, quotas_of};
-use key_counters::Counters;
+use key_counters::{Counters, totals_of};
 use runs::{finish_all, make_rings, make_squeues, spend};
 use squeue_enter::Mode;
 use std::alloc::{AllocError, Global};
@@ -83,7 +83,7 @@ fn measure<W: Threads + Wait + Clock + Sync>(
 fn sum_of(alloc: Global, ends: &[Counters<'_>]) -> Result<u64, AllocError> {
     let mut sum = 0u64;
     for counters in ends {
-        for total in &counters.totals(alloc)? {
+        for total in &totals_of(counters, alloc)? {
             sum = sum.wrapping_add(*total);
         }
     }

@@ -1,7 +1,7 @@
 //! A run from its making to its end: its squeues, and the passes that its threads are lent.
 ghost use Rattle.std.specs.Prelude.{◌≡◌, ◌*◌, ◌+◌, ◌<◌, ◌≤◌, ◌^◌, ℕ, All, [], ◌∷◌, ◌++◌, IfOk, length, replicate, slice_index_or, vec_capacity, vec_len};
 ghost use Rattle.gate_trial.specs.Counted.{AreFrom};
-ghost use Rattle.key_counters.specs.Counting.{limits_of};
+ghost use Rattle.key_counters.specs.AsResident.{limits_of};
 ghost use Rattle.squeue_state.specs.Elements.{number_of};
 ghost use Rattle.squeue_state.specs.Naming.{Named};
 ghost use Rattle.turn_gate.specs.Passes.{AreFresh, IsPassOf, number};
@@ -10,7 +10,7 @@ ghost use Rattle.squeue_bench.specs.Runs.{AreReady, HavePasses, IsNewPass, IsRea
 
 use crate::items::feeds_of;
 use crate::threads::{Ring, Worker};
-use key_counters::Counters;
+use key_counters::{Counters, new_counters};
 use perimeter_core::Resident;
 use squeue_state::{Pass, Quota, Squeue};
 use std::alloc::{AllocError, Global};
@@ -107,7 +107,7 @@ fn make_squeue<'a>(
     ensures squeue { IfOk result (λ r. Suits limits_of items r.0 × (length r.0.given.quotas ≡ length amounts.now)) }
     ensures passes { IfOk result (λ r. (length r.1.items ≡ length amounts.now + 1) × AreFresh number_of r.0.gate 0 r.1.items) }
 {
-    let counters = Counters::make(alloc, amounts, Vec::new(alloc))?;
+    let counters = new_counters(alloc, amounts, Vec::new(alloc))?;
     Squeue::make(alloc, number, counters, quotas.len() as u32, quotas, false)
 }
 

@@ -4,7 +4,7 @@
 //! the last pass of one squeue. Threads are lent their passes, which go out of their places for a call and back afterwards.
 
 ghost use Rattle.std.specs.Prelude.{◌≡◌, ◌<◌, ◌≤◌, ℕ, [], length, drop, slice_index_or};
-ghost use Rattle.key_counters.specs.Counting.{limits_of};
+ghost use Rattle.key_counters.specs.AsResident.{Counters, limits_of};
 ghost use Rattle.squeue_state.specs.Naming.{Named};
 ghost use Rattle.squeue_bench.specs.Places.{AtEach, HasPass, HasSeenOver, HasWorked, HaveClosed, IsWorker, MayBring, MayRun};
 
@@ -85,7 +85,10 @@ fn run_rings<W: Threads + Wait + Sync>(
     run_each(
         rt,
         rings,
-        &|k, ring: &mut Ring| { run_ring(rt, alloc, squeues, k, ring, way) },
+        &|k, ring: &mut Ring|
+            requires { (1 ≤ way.chain) × AtEach (MayBring limits_of k ring.now.feeds.items) squeues.now ring.now.passes.items }
+            ensures { AtEach (HasPass k) squeues.entry.now ring.exit.now.passes.items }
+        { run_ring(rt, alloc, squeues, k, ring, way) },
     );
 }
 

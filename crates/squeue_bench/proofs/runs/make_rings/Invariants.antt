@@ -1,6 +1,6 @@
 use Rattle.std.proofs.Common.{◌≡◌, ◌≤◌, [], length}
 use Rattle.std.specs.Prelude.{vec_capacity}
-use Rattle.key_counters.specs.Counting.{limits_of}
+use Rattle.key_counters.specs.AsResident.{limits_of}
 use Rattle.squeue_bench.specs.Runs.{AreReady}
 use Rattle.squeue_bench.proofs.runs.make_rings.Given as goal
 

@@ -8,17 +8,17 @@ use Rattle.squeue_state.specs.Words.{ask_quotas}
 use Rattle.squeue_bench.proofs.Starting.{feeds_sum, asks_sum, none_had, new_suits, if_ok}
 use Rattle.squeue_bench.proofs.runs.make_squeue.Goals as goal
 
-pub make-requires-2-clause-feeds : goal.make-requires-2-clause-feeds
-make-requires-2-clause-feeds c = let e = ap (λ qs. feed_quotas (pairs qs)) c.requires.quotas ∙ feeds_sum (length c.args.amounts.now) c.args.items in omega (arith, e, c.requires.few.2)
+pub make-requires-clause-feeds : goal.make-requires-clause-feeds
+make-requires-clause-feeds c = let e = ap (λ qs. feed_quotas (pairs qs)) c.requires.quotas ∙ feeds_sum (length c.args.amounts.now) c.args.items in omega (arith, e, c.requires.few.2)
 
-pub make-requires-2-clause-asks : goal.make-requires-2-clause-asks
-make-requires-2-clause-asks c = let e = ap (λ qs. ask_quotas (pairs qs)) c.requires.quotas ∙ asks_sum (length c.args.amounts.now) c.args.items in omega (arith, e)
+pub make-requires-clause-asks : goal.make-requires-clause-asks
+make-requires-clause-asks c = let e = ap (λ qs. ask_quotas (pairs qs)) c.requires.quotas ∙ asks_sum (length c.args.amounts.now) c.args.items in omega (arith, e)
 
-pub make-requires-2-clause-fresh : goal.make-requires-2-clause-fresh
-make-requires-2-clause-fresh c = (all_new (length c.args.amounts.now), c.in_ok-counters.ensures.stands, none_had (length c.args.amounts.now))
+pub make-requires-clause-fresh : goal.make-requires-clause-fresh
+make-requires-clause-fresh c = (all_new (length c.args.amounts.now), c.in_ok-counters.ensures.stands, none_had (length c.args.amounts.now))
 
 pub returns-clause-squeue : goal.returns-clause-squeue
 returns-clause-squeue c =
-    if_ok _ _ c.make-2.result
-    (λ r m. new_suits _ _ c.args.items (length c.args.amounts.now) c.args.quotas.now (map (λ row. row.items) c.args.amounts.now) c.in_ok-counters.counters r.0 m (ap length c.requires.quotas ∙ length-replicate (length c.args.amounts.now) _) c.requires.quotas (length-map c.args.amounts.now (λ row. row.items)) (All-map (λ row. length row ≡ c.args.items) (λ row. row.items) c.args.amounts.now c.requires.amounts) c.in_ok-counters.ensures.stands c.in_ok-counters.ensures.amounts)
-    c.make-2.ensures.given
+    if_ok _ _ c.make.result
+    (λ r m. new_suits _ _ c.args.items (length c.args.amounts.now) c.args.quotas.now (map (λ row. row.items) c.args.amounts.now) c.in_ok-counters.counters r.0 m (ap length c.requires.quotas ∙ length-replicate (length c.args.amounts.now) _) c.requires.quotas (length-map c.args.amounts.now (λ row. row.items)) (All-map (λ row. length row ≡ c.args.items) (λ row. row.items) c.args.amounts.now c.requires.amounts) c.in_ok-counters.ensures.stands (ap (map length) c.in_ok-counters.ensures.amounts))
+    c.make.ensures.given

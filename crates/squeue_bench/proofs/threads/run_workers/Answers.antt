@@ -1,5 +1,5 @@
 use Rattle.std.proofs.Common.{◌<◌, ◌∙◌, length, sym, subst, slice_index_or, arith}
-use Rattle.key_counters.specs.Counting.{limits_of}
+use Rattle.key_counters.specs.AsResident.{limits_of}
 use Rattle.squeue_bench.specs.Places.{HasWorked, IsWorker}
 use Rattle.squeue_bench.proofs.threads.run_workers.Goals as goal
 
