@@ -15,7 +15,7 @@ use Rattle.perimeter_core.specs.History.{Element, Setting, Limits, start, run, f
 use Rattle.perimeter_core.specs.Deeds.{entries, due}
 use Rattle.perimeter_core.specs.Legal.{Enters, one_more, feeds_by}
 use Rattle.placed_parts.specs.Placing.{Stands, limits_of, size_of}
-use Rattle.key_counters.specs.Counting.{all_new}
+use Rattle.placed_parts.specs.Standing.{all_new}
 use Rattle.placed_parts.specs.declared.parts.Parts.{Ghosts}
 use Rattle.placed_parts.specs.declared.places.Places.{Places}
 use Rattle.squeue_state.specs.declared.guarded.Quota.{Quota}

@@ -2,7 +2,7 @@ use Rattle.std.proofs.Common.{◌≡◌, ap, ◌∙◌, arith, length, map}
 use Rattle.std.proofs.lemmas.List.{length-map, length-replicate}
 use Rattle.std.proofs.lemmas.List.Elements.{All-map}
 use Rattle.perimeter_core.specs.History.{feed_quotas}
-use Rattle.key_counters.specs.Counting.{all_new}
+use Rattle.placed_parts.specs.Standing.{all_new}
 use Rattle.squeue_state.specs.Behind.{pairs}
 use Rattle.squeue_state.specs.Words.{ask_quotas}
 use Rattle.squeue_bench.proofs.Starting.{feeds_sum, asks_sum, none_had, new_suits, if_ok}
