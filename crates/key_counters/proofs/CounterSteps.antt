@@ -1,13 +1,11 @@
 -- A counter that goes on by one amount or one reading.
 use Rattle.std.proofs.Common.{◌≡◌, ℕ, suc, zero, ◌+◌, ◌<◌, true, List, [], ◌∷◌, ◌++◌, length, map, sum, take, get_or, slice_index, refl, ap, sym, ◌∙◌, arith}
-use Rattle.std.proofs.lemmas.List.{append-nil, get_or-map}
+use Rattle.std.proofs.lemmas.List.{get_or-map}
 use Rattle.std.proofs.lemmas.List.Sums.{sum_by_more}
 use Rattle.perimeter_core.specs.declared.entries.Act.{Act}
 use Rattle.perimeter_core.specs.declared.entries.Act.TheVariants as Did
 use Rattle.perimeter_core.specs.Deeds.{fed}
-use Rattle.perimeter_core.specs.Backlog.{up}
-use Rattle.perimeter_core.proofs.FeedLists.{length-up, up-append}
-use Rattle.perimeter_core.proofs.LogSteps.{feed_numbers-append, fed_is}
+use Rattle.perimeter_core.proofs.NextFeed.{fed-append}
 use Rattle.placed_parts.specs.Standing.{HasFed}
 use Rattle.key_counters.specs.declared.counters.Counter.{Counter}
 use Rattle.key_counters.specs.Counting.{Counts, HasAdded, row_of, has_reading, before_last_reading}
@@ -32,15 +30,8 @@ before-feed : (xs : List Act) (n : ℕ) → before_last_reading (xs ++ Did.Feed 
 before-feed [] n = refl
 before-feed (x ∷ xs) n = rw (feed_reads_nothing xs n, before-feed xs n) refl
 
--- a counter has had as many feeds as its acts have
-had_is : (k : Counter) (had : List Act) → HasAdded k had → fed had ≡ k.had
-had_is k had h = fed_is had ∙ (ap length h.feeds ∙ length-up 0 k.had)
-
 pub had_feeds_is : (k : Counter) (n : ℕ) → HasFed (HasAdded k) n → k.had ≡ n
-had_feeds_is k n h = sym (had_is k h.had h.stands) ∙ h.feeds
-
-up_next : (n : ℕ) → up 0 n ++ n ∷ [] ≡ up 0 (n + 1)
-up_next n = let z : 0 + n ≡ n = omega arith in (rw z at (up-append 0 n 1))
+had_feeds_is k n h = sym h.stands.feeds ∙ h.feeds
 
 -- one amount more
 pub amount_counts : (c n amount : ℕ) (row : List ℕ) (k next : Counter) → Counts c row k → k.had ≡ n → n < length row → amount ≡ get_or row n 0
@@ -55,11 +46,10 @@ amount_counts c n amount row k next h was within is key more total at read =
       read = read ∙ (h.read ∙ ap sums (sym at));
     }
 
-pub amount_added : (n : ℕ) (k next : Counter) (had : List Act) → k.had ≡ n → next.had ≡ k.had + 1 → next.read_at ≡ k.read_at → HasAdded k had → HasAdded next (had ++ Did.Feed n ∷ [])
-amount_added n k next had was more at h =
-    let now : next.had ≡ n + 1 = omega arith in
+pub amount_added : (n : ℕ) (k next : Counter) (had : List Act) → next.had ≡ k.had + 1 → next.read_at ≡ k.read_at → HasAdded k had → HasAdded next (had ++ Did.Feed n ∷ [])
+amount_added n k next had more at h =
     record {
-      feeds = feed_numbers-append had (Did.Feed n ∷ []) ∙ (ap (λ ns. ns ++ n ∷ []) h.feeds ∙ (rw (was, now) (up_next n)));
+      feeds = fed-append had (Did.Feed n ∷ []) ∙ omega (arith, h.feeds, more);
       read = ap fed (before-feed had n) ∙ (h.read ∙ sym at);
     }
 
@@ -70,8 +60,8 @@ reading_counts c row k h = record { key = h.key; within = h.within; total = h.to
 pub reading_added : (j i : ℕ) (k : Counter) (had : List Act) → HasAdded k had → HasAdded (record k { read_at = k.had; read = k.total }) (had ++ Did.Call j i ∷ [])
 reading_added j i k had h =
     record {
-      feeds = feed_numbers-append had (Did.Call j i ∷ []) ∙ (append-nil _ ∙ h.feeds);
-      read = ap fed (before-reading had j i) ∙ had_is k had h;
+      feeds = fed-append had (Did.Call j i ∷ []) ∙ omega (arith, h.feeds);
+      read = ap fed (before-reading had j i) ∙ h.feeds;
     }
 
 -- the row that was read

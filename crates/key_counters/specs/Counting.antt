@@ -3,8 +3,7 @@ use Rattle.std.specs.Prelude.{◌≡◌, ◌≤◌, ℕ, Bool, true, false, Opti
 use Rattle.perimeter_core.specs.declared.entries.Act.{Act}
 use Rattle.perimeter_core.specs.History.{Limits}
 use Rattle.perimeter_core.specs.declared.entries.Act.TheVariants as Did
-use Rattle.perimeter_core.specs.Deeds.{fed, feed_numbers}
-use Rattle.perimeter_core.specs.Backlog.{up}
+use Rattle.perimeter_core.specs.Deeds.{fed}
 use Rattle.key_counters.specs.declared.counters.Counter.{Counter}
 use Rattle.key_counters.specs.declared.counters.Amounts.{Amounts}
 
@@ -36,9 +35,9 @@ abbrev pub before_last_reading : List Act → List Act
 before_last_reading [] = []
 before_last_reading (act ∷ acts) = if has_reading acts then act ∷ before_last_reading acts else []
 
--- the counter has had the feeds from 0 on, and its last reading found as many as stand before it
+-- the counter has had as many feeds, and its last reading found as many as stand before it
 pub record HasAdded (k : Counter) (had : List Act) : Type 0 where
-  pub feeds : feed_numbers had ≡ up 0 k.had
+  pub feeds : fed had ≡ k.had
   pub read : fed (before_last_reading had) ≡ k.read_at
 
 -- the readings that there are: key, thread and number

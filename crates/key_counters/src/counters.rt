@@ -86,5 +86,5 @@ impl Parts for Amounts<'_> {
         counter.note();
     }
 
-    ghost same_part_feeds = { λ k a b x y. x.feeds ∙ sym y.feeds };
+    ghost same_count = { λ k a b x y. x.feeds ∙ sym y.feeds };
 }

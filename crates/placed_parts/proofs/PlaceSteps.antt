@@ -7,12 +7,15 @@ use Rattle.perimeter_core.specs.declared.entries.Act.{Act}
 use Rattle.perimeter_core.specs.declared.entries.Act.TheVariants as Did
 use Rattle.perimeter_core.specs.declared.entries.Entry.TheVariants as Entry'
 use Rattle.perimeter_core.specs.declared.marks.SynchAct.TheVariants as Done
-use Rattle.perimeter_core.specs.Deeds.{fed}
+use Rattle.perimeter_core.specs.Deeds.{fed, feed_numbers}
 use Rattle.perimeter_core.specs.Blocks.{Blocks, longer, with_feeds, with_act}
 use Rattle.perimeter_core.specs.Residing.{HadFeeds, Here}
 use Rattle.perimeter_core.specs.Logging.{fresh, none_done}
-use Rattle.perimeter_core.proofs.LogSteps.{get_same, get_other, got, some_longer}
-use Rattle.placed_parts.specs.Standing.{HasHad, HasFed, PlaceAt, PlacesStand, all_new}
+use Rattle.perimeter_core.proofs.LogSteps.{get_same, get_other, got, some_longer, feed_numbers-append}
+use Rattle.perimeter_core.proofs.FeedLists.{up-append}
+use Rattle.perimeter_core.proofs.NextFeed.{fed-append}
+use Rattle.perimeter_core.specs.Backlog.{up}
+use Rattle.placed_parts.specs.Standing.{HasHad, HasFed, InOrder, PlaceAt, PlacesStand, all_new}
 
 longer_none : (o : Option (List Act)) → longer [] o ≡ o
 longer_none None = refl
@@ -131,6 +134,23 @@ module _ {P : Type 0} (Own : ℕ → P → Type 0) (Had : P → List Act → Typ
   -- all are here
   pub all_stand : (places : List (Option P)) (n : ℕ) → PlacesStand Own Had places (none_done (replicate n true)) → PlacesStand Own Had places (all_new n)
   all_stand places n h c = subst (λ (b : Option (List Act)). PlaceAt Own Had c (slice_get places c) b) (all_here n c) (h c)
+
+-- the next feed keeps the order, and a call does
+pub feed_in_order : {P : Type 0} (Had : P → List Act → Type 0) → ((p : P) (a b : List Act) → Had p a → Had p b → fed a ≡ fed b) → (part next : P) (n : ℕ) → HasFed (InOrder Had part) n → ((had : List Act) → Had part had → Had next (had ++ Did.Feed n ∷ []))
+    → (had : List Act) → InOrder Had part had → InOrder Had next (had ++ Did.Feed n ∷ [])
+feed_in_order Had same part next n h more had x =
+    let is : fed had ≡ n = same part had h.had x.1 h.stands.1 ∙ h.feeds in
+    let z : 0 + fed had ≡ n = omega (arith, is) in
+    let now : fed had + 1 ≡ fed (had ++ Did.Feed n ∷ []) = sym (fed-append had (Did.Feed n ∷ [])) in (
+      feed_numbers-append had (Did.Feed n ∷ []) ∙ (ap (λ ns. ns ++ n ∷ []) x.0 ∙ (ap (λ (m : ℕ). up 0 (fed had) ++ m ∷ []) (sym z) ∙ (up-append 0 (fed had) 1 ∙ ap (up 0) now))),
+      more had x.1,
+    )
+
+pub call_in_order : {P : Type 0} (Had : P → List Act → Type 0) (part next : P) (j k : ℕ) → ((had : List Act) → Had part had → Had next (had ++ Did.Call j k ∷ []))
+    → (had : List Act) → InOrder Had part had → InOrder Had next (had ++ Did.Call j k ∷ [])
+call_in_order Had part next j k more had x =
+    let now : fed had ≡ fed (had ++ Did.Call j k ∷ []) = sym (fed-append had (Did.Call j k ∷ []) ∙ omega arith) in
+    (feed_numbers-append had (Did.Call j k ∷ []) ∙ (append-nil (feed_numbers had) ∙ (x.0 ∙ ap (up 0) now)), more had x.1)
 
 pub if_ok : {A E : Type 0} (P Q : A → Type 0) (r : Result A E) → ((x : A) → P x → Q x) → IfOk r P → IfOk r Q
 if_ok P Q (Ok x) h p = h x p

@@ -1,17 +1,19 @@
 -- The laws of a resident of places.
 use Rattle.std.specs.Prelude.{◌≡◌, ℕ, ◌<◌, Option, Some, None, List, [], ◌∷◌, length, slice_get}
-use Rattle.std.proofs.Common.{ap, refl, suc, zero, subst, arith}
+use Rattle.std.proofs.Common.{ap, sym, ◌∙◌, refl, suc, zero, subst, arith}
 use Rattle.perimeter_core.specs.declared.entries.Act.{Act}
-use Rattle.perimeter_core.specs.Deeds.{feed_numbers}
+use Rattle.perimeter_core.specs.Deeds.{fed, feed_numbers}
 use Rattle.perimeter_core.specs.Blocks.{Blocks}
+use Rattle.perimeter_core.specs.Backlog.{up}
 use Rattle.perimeter_core.specs.Residing.{IsWithin, feeds_had, feeds_in}
 use Rattle.placed_parts.specs.declared.parts.Parts.{Ghosts}
 use Rattle.placed_parts.specs.declared.places.Places.{Places}
-use Rattle.placed_parts.specs.Standing.{PlaceAt}
+use Rattle.placed_parts.specs.Standing.{InOrder, PlaceAt}
 use Rattle.placed_parts.specs.Placing.{Stands, limits_of, size_of}
 
 module _ {P : Type 0} (Own : ℕ → P → Type 0) (Had : P → List Act → Type 0) where
-  same_at : ((p : P) (a b : List Act) → Had p a → Had p b → feed_numbers a ≡ feed_numbers b) → (c : ℕ) (o : Option (Option P)) (a b : Option (List Act)) → PlaceAt Own Had c o a → PlaceAt Own Had c o b → feeds_in a ≡ feeds_in b
+  same_at : ((p : P) (a b : List Act) → Had p a → Had p b → feed_numbers a ≡ feed_numbers b)
+      → (c : ℕ) (o : Option (Option P)) (a b : Option (List Act)) → PlaceAt Own Had c o a → PlaceAt Own Had c o b → feeds_in a ≡ feeds_in b
   same_at same c (Some (Some k)) (Some x) (Some y) h j = ap Some (same k x y h.1 j.1)
   same_at same c (Some (Some k)) (Some x) None h j = absurd j
   same_at same c (Some (Some k)) None b h j = absurd h
@@ -27,14 +29,22 @@ module _ {P : Type 0} (Own : ℕ → P → Type 0) (Had : P → List Act → Typ
   below (x ∷ places) zero d had h = omega arith
   below (x ∷ places) (suc c) d had h = let r = below places c d had h in omega (arith, r)
 
+-- feeds that were numbered from 0 on are the same where they are as many
+pub part_same : {P : Type 0} (Had : P → List Act → Type 0) → ((p : P) (a b : List Act) → Had p a → Had p b → fed a ≡ fed b)
+    → (p : P) (a b : List Act) → InOrder Had p a → InOrder Had p b → feed_numbers a ≡ feed_numbers b
+part_same Had same p a b x y = x.0 ∙ (ap (up 0) (same p a b x.1 y.1) ∙ sym y.0)
+
 module _ {S P O : Type 0} {G : Ghosts S P O} where
   pub places_in_range : (r : Places S P O G) (blocks : Blocks) (c : ℕ) (had : List Act) → Stands r blocks → blocks c ≡ Some had → c < size_of r
   places_in_range r blocks c had h e =
       let Own = G.is_part_of (G.origin r.shared) in
-      below Own G.part_stands r.places.items c c had (subst (λ (b : Option (List Act)). PlaceAt Own G.part_stands c (slice_get r.places.items c) b) e (h c))
+      let Had = InOrder G.part_stands in
+      below Own Had r.places.items c c had (subst (λ (b : Option (List Act)). PlaceAt Own Had c (slice_get r.places.items c) b) e (h c))
 
   pub places_within : (r : Places S P O G) → IsWithin (size_of r) (limits_of r)
   places_within r = r.within
 
-  pub places_same_feeds : ((p : P) (a b : List Act) → G.part_stands p a → G.part_stands p b → feed_numbers a ≡ feed_numbers b) → (r : Places S P O G) (a b : Blocks) (c : ℕ) → Stands r a → Stands r b → feeds_had a c ≡ feeds_had b c
-  places_same_feeds same r a b c h j = same_at (G.is_part_of (G.origin r.shared)) G.part_stands same c (slice_get r.places.items c) (a c) (b c) (h c) (j c)
+  pub places_same_feeds : ((p : P) (a b : List Act) → G.part_stands p a → G.part_stands p b → fed a ≡ fed b)
+      → (r : Places S P O G) (a b : Blocks) (c : ℕ) → Stands r a → Stands r b → feeds_had a c ≡ feeds_had b c
+  places_same_feeds same r a b c h j =
+      same_at (G.is_part_of (G.origin r.shared)) (InOrder G.part_stands) (part_same G.part_stands same) c (slice_get r.places.items c) (a c) (b c) (h c) (j c)

@@ -1,14 +1,15 @@
 -- What a resident of places is, by what its parts have in common.
-use Rattle.std.specs.Prelude.{ℕ, Option, None, List, length, slice_index_or}
+use Rattle.std.specs.Prelude.{◌≡◌, ℕ, Option, Some, None, List, length, slice_index_or}
+use Rattle.perimeter_core.specs.declared.entries.Act.{Act}
 use Rattle.perimeter_core.specs.History.{Limits}
 use Rattle.perimeter_core.specs.Blocks.{Blocks}
 use Rattle.placed_parts.specs.declared.parts.Parts.{Ghosts}
 use Rattle.placed_parts.specs.declared.places.Places.{Places}
-use Rattle.placed_parts.specs.Standing.{PlacesStand}
+use Rattle.placed_parts.specs.Standing.{InOrder, PlacesStand}
 
 module _ {S P O : Type 0} {G : Ghosts S P O} where
   abbrev pub Stands : Places S P O G → Blocks → Type 0
-  Stands r blocks = PlacesStand (G.is_part_of (G.origin r.shared)) G.part_stands r.places.items blocks
+  Stands r blocks = PlacesStand (G.is_part_of (G.origin r.shared)) (InOrder G.part_stands) r.places.items blocks
 
   abbrev pub limits_of : Places S P O G → Limits
   limits_of r = G.limits r.shared
@@ -31,3 +32,8 @@ module _ {S P O : Type 0} {G : Ghosts S P O} where
   -- the part of a connection, if it is here
   abbrev pub part_at : Places S P O G → ℕ → Option P
   part_at r c = slice_index_or (parts_of r) c None
+
+  -- where connection c is here, the part is its own, and stands for what was done to it
+  abbrev pub IsItsPart : Places S P O G → ℕ → P → Type 0
+  IsItsPart r c part =
+      (blocks : Blocks) (had : List Act) → Stands r blocks → blocks c ≡ Some had → G.is_part_of (origin_of r) c part × InOrder G.part_stands part had

@@ -3,6 +3,7 @@ use Rattle.std.specs.Prelude.{◌≡◌, ℕ, Option, Some, None, List, [], if�
 use Rattle.perimeter_core.specs.declared.entries.Act.{Act}
 use Rattle.perimeter_core.specs.Deeds.{fed}
 use Rattle.perimeter_core.specs.Blocks.{Blocks}
+use Rattle.perimeter_core.specs.Numbered.{IsNumbered}
 
 -- a part stands for some acts
 pub record HasHad (Stands : List Act → Type 0) : Type 0 where
@@ -14,6 +15,10 @@ pub record HasFed (Stands : List Act → Type 0) (n : ℕ) : Type 0 where
   pub had : List Act
   pub stands : Stands had
   pub feeds : fed had ≡ n
+
+-- the feeds of a part were numbered from 0 on
+abbrev pub InOrder : {P : Type 0} → (P → List Act → Type 0) → P → List Act → Type 0
+InOrder Had part had = IsNumbered had × Had part had
 
 -- What is at the place of connection c is its part, and there is one exactly where the connection is here. Own tells whose a
 -- part is, Had for which acts it stands

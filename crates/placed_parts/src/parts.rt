@@ -3,7 +3,7 @@ ghost use Rattle.std.specs.Prelude.{◌≡◌, ℕ, ◌<◌, List, [], ◌∷◌
 ghost use Rattle.perimeter_core.specs.declared.entries.Act.{Act};
 ghost use Rattle.perimeter_core.specs.declared.entries.Act.TheVariants as Did;
 ghost use Rattle.perimeter_core.specs.History.{Limits};
-ghost use Rattle.perimeter_core.specs.Deeds.{feed_numbers};
+ghost use Rattle.perimeter_core.specs.Deeds.{fed};
 ghost use Rattle.placed_parts.specs.Standing.{HasHad, HasFed};
 
 use std::alloc::{AllocError, Global};
@@ -47,6 +47,6 @@ pub trait Parts {
         ensures owner { is_part_of (origin self.now) c part.new }
         ensures stands { (had : List Act) → part_stands part.old had → part_stands part.new (had ++ Did.Call j k ∷ []) };
 
-    // Whatever a part stands for, the feeds are the same.
-    ghost same_part_feeds: { (p : Self.Part) (a b : List Act) → part_stands p a → part_stands p b → feed_numbers a ≡ feed_numbers b };
+    // Whatever a part stands for, the feeds are as many. They are numbered from 0 on.
+    ghost same_count: { (p : Self.Part) (a b : List Act) → part_stands p a → part_stands p b → fed a ≡ fed b };
 }

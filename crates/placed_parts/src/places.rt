@@ -20,8 +20,8 @@ impl<S: Parts> Places<S> {
     ghost use Rattle.perimeter_core.specs.declared.entries.Act.{Act};
     ghost use Rattle.perimeter_core.specs.Blocks.{Blocks};
     ghost use Rattle.perimeter_core.specs.Logging.{fresh, none_done};
-    ghost use Rattle.placed_parts.specs.Standing.{PlaceAt, all_new};
-    ghost use Rattle.placed_parts.specs.Placing.{Stands, shared_of, size_of, parts_of, part_at};
+    ghost use Rattle.placed_parts.specs.Standing.{InOrder, PlaceAt, all_new};
+    ghost use Rattle.placed_parts.specs.Placing.{Stands, IsItsPart, shared_of, size_of, parts_of, part_at};
 
     /// All connections, so many, are here, and nothing was done to them. The limits of what is shared have a number of feeds for
     /// each connection. After an error all is dropped.
@@ -63,7 +63,7 @@ impl<S: Parts> Places<S> {
     // What is at the connection's place, if it is here, with nothing done to it.
     fn first(alloc: Global, shared: &S, c: u32, here: bool) -> Result<Option<S::Part>, AllocError>
         requires { c < length (S.limits shared.now).feeds }
-        ensures { IfOk result (λ place. PlaceAt (S.is_part_of (S.origin shared.now)) S.part_stands c (Some place) (fresh here)) }
+        ensures { IfOk result (λ place. PlaceAt (S.is_part_of (S.origin shared.now)) (InOrder S.part_stands) c (Some place) (fresh here)) }
     {
         if here {
             Ok(Some(shared.fresh(alloc, c)?))
@@ -83,7 +83,8 @@ impl<S: Parts> Places<S> {
     pub fn part(&self, c: u32) -> Option<&S::Part>
         requires { c < size_of self.now }
         ensures place { option_map (λ part. part.now) result ≡ part_at self.now c }
-        ensures stands { (blocks : Blocks) (had : List Act) → Stands self.now blocks → blocks c ≡ Some had → IsSome result × IfSome result (λ part. S.is_part_of (S.origin (shared_of self.now)) c part.now × S.part_stands part.now had) }
+        ensures here { (blocks : Blocks) (had : List Act) → Stands self.now blocks → blocks c ≡ Some had → IsSome result }
+        ensures stands { IfSome result (λ part. IsItsPart self.now c part.now) }
     {
         self.places[c as usize].as_ref()
     }
@@ -97,8 +98,9 @@ impl<S: Parts> Places<S> {
 }
 
 impl<S: Parts> Resident for Places<S> {
+    ghost use Rattle.placed_parts.specs.Standing.{InOrder};
     ghost use Rattle.placed_parts.specs.Placing.{Stands, limits_of, size_of, origin_of};
-    ghost use Rattle.placed_parts.specs.PlaceLaws.{places_in_range, places_within, places_same_feeds};
+    ghost use Rattle.placed_parts.specs.PlaceLaws.{part_same, places_in_range, places_within, places_same_feeds};
 
     type Part = S::Part;
 
@@ -106,7 +108,7 @@ impl<S: Parts> Resident for Places<S> {
 
     ghost stands = { Stands };
 
-    ghost part_stands = { S.part_stands };
+    ghost part_stands = { InOrder S.part_stands };
 
     ghost limits = { limits_of };
 
@@ -151,7 +153,7 @@ impl<S: Parts> Resident for Places<S> {
 
     ghost limits_in_range = { places_within };
 
-    ghost same_part_feeds = { S.same_part_feeds };
+    ghost same_part_feeds = { part_same S.part_stands S.same_count };
 
-    ghost same_feeds = { places_same_feeds S.same_part_feeds };
+    ghost same_feeds = { places_same_feeds S.same_count };
 }

@@ -28,4 +28,4 @@ returns-clause-owner c =
     amount_counts c.args.c c.args.n c.index.result.now its c.args.counter.now c.add.new.self c.requires.owner was within amount c.add.ensures.key c.add.ensures.had c.add.ensures.total c.add.ensures.read_at c.add.ensures.read
 
 pub returns-clause-stands : goal.returns-clause-stands
-returns-clause-stands c had old = amount_added c.args.n c.args.counter.now c.add.new.self had (had_feeds_is c.args.counter.now c.args.n c.requires.next) c.add.ensures.had c.add.ensures.read_at old
+returns-clause-stands c had old = amount_added c.args.n c.args.counter.now c.add.new.self had c.add.ensures.had c.add.ensures.read_at old

@@ -1,6 +1,6 @@
 use Rattle.std.proofs.Common.{◌≡◌, ℕ, Bool, true, List, replicate, ap, ◌∙◌, subst, arith}
 use Rattle.perimeter_core.specs.Logging.{none_done}
-use Rattle.placed_parts.specs.Standing.{PlacesStand}
+use Rattle.placed_parts.specs.Standing.{InOrder, PlacesStand}
 use Rattle.placed_parts.proofs.PlaceSteps.{all_stand, if_ok}
 use Rattle.placed_parts.proofs.places.Places.make.Goals as goal
 
@@ -11,5 +11,5 @@ returns-clause-stands g c =
     if_ok _ _ c.make_where.result
     (λ r h.
     let Own = g.S.Parts.is_part_of (g.S.Parts.origin r.shared) in
-    all_stand Own g.S.Parts.part_stands r.places.items c.args.count (subst (λ (bs : List Bool). PlacesStand Own g.S.Parts.part_stands r.places.items (none_done bs)) starts h))
+    all_stand Own (InOrder g.S.Parts.part_stands) r.places.items c.args.count (subst (λ (bs : List Bool). PlacesStand Own (InOrder g.S.Parts.part_stands) r.places.items (none_done bs)) starts h))
     c.make_where.ensures.stands

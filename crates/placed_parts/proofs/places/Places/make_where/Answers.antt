@@ -1,7 +1,7 @@
 use Rattle.std.proofs.Common.{◌≡◌, ℕ, Some, ◌∷◌, [], length, take, get_or, false, sym, subst, ◌∙◌, arith, length-append}
 use Rattle.std.proofs.lemmas.List.{take_more, length-take-le}
 use Rattle.perimeter_core.specs.Logging.{fresh}
-use Rattle.placed_parts.specs.Standing.{PlaceAt}
+use Rattle.placed_parts.specs.Standing.{InOrder, PlaceAt}
 use Rattle.placed_parts.proofs.PlaceSteps.{first_stand}
 use Rattle.placed_parts.proofs.places.Places.make_where.Goals as goal
 
@@ -11,7 +11,7 @@ loop-c-preserved g c =
     let places = c.loop-c.places.items in
     let starts = c.args.starts.now in
     let Own = g.S.Parts.is_part_of (g.S.Parts.origin c.args.shared) in
-    let Had = g.S.Parts.part_stands in
+    let Had = InOrder g.S.Parts.part_stands in
     let done : length (take i starts) ≡ i = length-take-le i starts (omega (arith, c.loop-c-test.true)) in
     let same : length places ≡ length (take i starts) = c.loop-c.invariant.count ∙ sym done in
     let place = c.in_ok-place.place in
