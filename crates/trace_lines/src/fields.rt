@@ -18,7 +18,8 @@ pub fn behind_byte(text: &[u8], byte: u8) -> Option<&[u8]>
 
 /// The number below 2^64 with all digits that the text begins with.
 pub fn number(text: &[u8]) -> Option<(u64, &[u8])>
-    ensures { MatchOption result ((n : ℕ) (rest : List ℕ) → n < 2 ^ 64 → BeginsWithNumber text.now n rest → ⊥) (λ r. (r.0 < 2 ^ 64) × BeginsWithNumber text.now r.0 r.1.now) }
+    ensures { MatchOption result ((n : ℕ) (rest : List ℕ) → n < 2 ^ 64 → BeginsWithNumber text.now n rest → ⊥)
+        (λ r. (r.0 < 2 ^ 64) × BeginsWithNumber text.now r.0 r.1.now) }
 {
     let [first, rest @ ..] = text else {
         return None;
@@ -77,7 +78,8 @@ fn begins_with_digit(text: &[u8]) -> bool
 
 /// The same for a number below 2^32.
 pub fn small(text: &[u8]) -> Option<(u32, &[u8])>
-    ensures { MatchOption result ((n : ℕ) (rest : List ℕ) → n < 2 ^ 32 → BeginsWithNumber text.now n rest → ⊥) (λ r. (r.0 < 2 ^ 32) × BeginsWithNumber text.now r.0 r.1.now) }
+    ensures { MatchOption result ((n : ℕ) (rest : List ℕ) → n < 2 ^ 32 → BeginsWithNumber text.now n rest → ⊥)
+        (λ r. (r.0 < 2 ^ 32) × BeginsWithNumber text.now r.0 r.1.now) }
 {
     let (value, rest) = number(text)?;
     match u32::try_from(value) {

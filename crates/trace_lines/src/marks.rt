@@ -72,7 +72,8 @@ fn with_feeds<'a>(
     requires form { is_form form.now ≡ true }
     requires blanks { blank_count form.now ≡ 1 }
     ensures { IfOk result (λ o. MatchOption o
-        ((p : ℕ) (es : List Entry) (rest : List ℕ) → IsSmall p → es ≢ [] → AreFeeds es → text.entry.now ≡ filled form.now (p ∷ []) ++ (line (map entered_field es) ++ rest) → ⊥)
+        ((p : ℕ) (es : List Entry) (rest : List ℕ) → IsSmall p → es ≢ [] → AreFeeds es
+        → text.entry.now ≡ filled form.now (p ∷ []) ++ (line (map entered_field es) ++ rest) → ⊥)
         (λ rest. IsSmall mark.new.p × (mark.new.step ≡ step) × (entries mark.new.feeds.items ≢ []) × AreFeeds (entries mark.new.feeds.items)
         × (text.entry.now ≡ filled form.now (mark.new.p ∷ []) ++ (line (map entered_field (entries mark.new.feeds.items)) ++ rest.now)))) }
 {
@@ -91,7 +92,8 @@ fn with_feeds<'a>(
 fn read_feeds<'a>(feeds: &mut Vec<Feed>, text: &'a [u8]) -> Result<Option<&'a [u8]>, AllocError>
     ensures { IfOk result (λ o. MatchOption o
         ((es : List Entry) (rest : List ℕ) → es ≢ [] → AreFeeds es → text.entry.now ≡ line (map entered_field es) ++ rest → ⊥)
-        (λ rest. (entries feeds.new.items ≢ []) × AreFeeds (entries feeds.new.items) × (text.entry.now ≡ line (map entered_field (entries feeds.new.items)) ++ rest.now))) }
+        (λ rest. (entries feeds.new.items ≢ []) × AreFeeds (entries feeds.new.items)
+        × (text.entry.now ≡ line (map entered_field (entries feeds.new.items)) ++ rest.now))) }
 {
     feeds.clear();
     let mut rest = text;
