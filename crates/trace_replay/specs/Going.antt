@@ -24,4 +24,5 @@ pub record HasGone (setup : Setup) (q : ℕ) (e : Ending) (guests : List GuestOf
 pub record HasAdded (old : Squeue) (was : Pace) (past : List Mark) (m : Mark) (new : Squeue) (pace : Pace) (keeps : Bool) : Type 0 where
   pub stands : Stands (setting_of old) (history_of old (past ++ m ∷ [])) (squeue_of new)
   pub paced : PaceStands (setting_of old) (history_of old (past ++ m ∷ [])) pace
-  pub fits : Decides keeps (KeepsAt was.setup was.squeue (setting_of old) (history_of old past) (record { mark = m; note = note_of old.run.setup.squeues old.run.setup.spread old.number past m }))
+  pub fits : Decides keeps (KeepsAt was.setup was.squeue (setting_of old) (history_of old past)
+      (record { mark = m; note = note_of old.run.setup.squeues old.run.setup.spread old.number past m }))

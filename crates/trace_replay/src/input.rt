@@ -61,7 +61,8 @@ pub fn read_all<S: Source>(alloc: Global, src: &mut S, most: usize) -> Result<Ve
 
 /// Where the first line begins that begins so.
 pub fn line_at(text: &[u8], word: &[u8]) -> Option<usize>
-    ensures { MatchOption result (HasNoLine word.now text.now) (λ at. (at + length word.now ≤ length text.now) × HasFirstLine word.now text.now (take at text.now)) }
+    ensures { MatchOption result (HasNoLine word.now text.now)
+        (λ at. (at + length word.now ≤ length text.now) × HasFirstLine word.now text.now (take at text.now)) }
 {
     let mut at = 0;
     loop {
@@ -114,7 +115,8 @@ pub fn captured(alloc: Global, bytes: Vec<u8>) -> Result<Capture, Refusal>
 
 /// Why there is no capture.
 fn refused(fault: CaptureRefused) -> Refusal
-    ensures { (r : Reason) → result ≡ Refusal.No r → (r ≡ Reason.Capture) × ((bytes : List ℕ) → InputFails bytes fault → (file : CaptureFile) → file.bytes ≡ bytes → IsInput file → ⊥) }
+    ensures { (r : Reason) → result ≡ Refusal.No r → (r ≡ Reason.Capture)
+        × ((bytes : List ℕ) → InputFails bytes fault → (file : CaptureFile) → file.bytes ≡ bytes → IsInput file → ⊥) }
 {
     match fault {
         CaptureRefused::Capture(fault) => match fault {

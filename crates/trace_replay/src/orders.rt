@@ -42,11 +42,14 @@ pub fn serve_orders(
     requires marks { (marks : List (List Mark)) × AreRight run.setup (endings_of run.plan.now run.calls.now run.setup marks)
         × GuestsStand (endings_of run.plan.now run.calls.now run.setup marks) (map (λ gs. map guest_of gs.items) guests.now) }
     ensures served { IfOk result (λ v. AreServed run.entry.plan.now run.entry.calls.now v.blocks) }
-    ensures ordered { IfOk result (λ v. (marks : List (List Mark)) → AreRight run.entry.setup (endings_of run.entry.plan.now run.entry.calls.now run.entry.setup marks)
+    ensures ordered { IfOk result (λ v. (marks : List (List Mark))
+        → AreRight run.entry.setup (endings_of run.entry.plan.now run.entry.calls.now run.entry.setup marks)
         → GuestsStand (endings_of run.entry.plan.now run.entry.calls.now run.entry.setup marks) (map (λ gs. map guest_of gs.items) guests.now)
-        → AreOrdered run.entry.plan.now run.entry.calls.now (endings_of run.entry.plan.now run.entry.calls.now run.entry.setup marks) (map (λ b. b.order) v.blocks)) }
+        → AreOrdered run.entry.plan.now run.entry.calls.now (endings_of run.entry.plan.now run.entry.calls.now run.entry.setup marks)
+        (map (λ b. b.order) v.blocks)) }
     ensures no { (r : Reason) → result ≡ Err (Refusal.No r) → (c : ℕ) × (r ≡ Reason.Order c)
-        × ((marks : List (List Mark)) → AreRight run.entry.setup (endings_of run.entry.plan.now run.entry.calls.now run.entry.setup marks)
+        × ((marks : List (List Mark))
+        → AreRight run.entry.setup (endings_of run.entry.plan.now run.entry.calls.now run.entry.setup marks)
         → GuestsStand (endings_of run.entry.plan.now run.entry.calls.now run.entry.setup marks) (map (λ gs. map guest_of gs.items) guests.now)
         → IsUnordered run.entry.plan.now run.entry.calls.now (endings_of run.entry.plan.now run.entry.calls.now run.entry.setup marks) c) }
 {

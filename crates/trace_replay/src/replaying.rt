@@ -35,10 +35,12 @@ pub fn replay_all(
     histories: &[&[u8]],
 ) -> Result<Vec<Vec<Guest>>, Refusal>
     requires { (marks : List (List MarkOf)) × ArePrintedMarks run.setup.squeues marks × (map (λ l. l.now) histories.now ≡ map (flat_map mark_line) marks) }
-    ensures right { IfOk result (λ v. (marks : List (List MarkOf)) → ArePrintedMarks run.entry.setup.squeues marks → map (λ l. l.now) histories.now ≡ map (flat_map mark_line) marks
+    ensures right { IfOk result (λ v. (marks : List (List MarkOf)) → ArePrintedMarks run.entry.setup.squeues marks
+        → map (λ l. l.now) histories.now ≡ map (flat_map mark_line) marks
         → AreRight run.entry.setup (endings_of run.entry.plan.now run.entry.calls.now run.entry.setup marks)
         × GuestsStand (endings_of run.entry.plan.now run.entry.calls.now run.entry.setup marks) (map (λ gs. map guest_of gs.items) v.items)) }
-    ensures no { (r : Reason) → result ≡ Err (Refusal.No r) → (marks : List (List MarkOf)) → ArePrintedMarks run.entry.setup.squeues marks → map (λ l. l.now) histories.now ≡ map (flat_map mark_line) marks
+    ensures no { (r : Reason) → result ≡ Err (Refusal.No r) → (marks : List (List MarkOf)) → ArePrintedMarks run.entry.setup.squeues marks
+        → map (λ l. l.now) histories.now ≡ map (flat_map mark_line) marks
         → MarksFail run.entry.setup (endings_of run.entry.plan.now run.entry.calls.now run.entry.setup marks) r }
 {
     let mut mark = Mark::make(alloc);
@@ -76,7 +78,8 @@ fn replay_one(
 ) -> Result<Replay, Refusal>
     requires { number < run.setup.squeues }
     ensures gone { IfOk result (λ r. (ms : List MarkOf) → All IsPrinted ms → lines.now ≡ flat_map mark_line ms
-        → HasGone run.entry.setup number (ending_of run.entry.plan.now run.entry.calls.now run.entry.setup (number, ms)) (map guest_of r.guests.items) r.ended r.unfit) }
+        → HasGone run.entry.setup number (ending_of run.entry.plan.now run.entry.calls.now run.entry.setup (number, ms))
+        (map guest_of r.guests.items) r.ended r.unfit) }
     ensures no { (r : Reason) → result ≡ Err (Refusal.No r) → (ms : List MarkOf) → All IsPrinted ms → lines.now ≡ flat_map mark_line ms
         → (n : ℕ) × (r ≡ Reason.Illegal number n) × IsIllegalAt (ending_of run.entry.plan.now run.entry.calls.now run.entry.setup (number, ms)) n }
 {
@@ -113,8 +116,10 @@ fn add(
     mark: &Mark,
 ) -> Result<Option<bool>, AllocError>
     requires { 1 ≤ pace.old.setup.squeues }
-    ensures same { (squeue.new.run ≡ squeue.old.run) × (squeue.new.number ≡ squeue.old.number) × (pace.new.setup ≡ pace.old.setup) × (pace.new.squeue ≡ pace.old.squeue) }
-    ensures added { IfOk result (λ o. (past : List MarkOf) → Stands (setting_of squeue.old) (history_of squeue.old past) (squeue_of squeue.old) → PaceStands (setting_of squeue.old) (history_of squeue.old past) pace.old
+    ensures same { (squeue.new.run ≡ squeue.old.run) × (squeue.new.number ≡ squeue.old.number)
+        × (pace.new.setup ≡ pace.old.setup) × (pace.new.squeue ≡ pace.old.squeue) }
+    ensures added { IfOk result (λ o. (past : List MarkOf) → Stands (setting_of squeue.old) (history_of squeue.old past) (squeue_of squeue.old)
+        → PaceStands (setting_of squeue.old) (history_of squeue.old past) pace.old
         → IsPrinted (mark_by mark.now.p mark.now.step mark.now.feeds.items) → HasItsFeeds mark.now.step mark.now.feeds.items
         → MatchOption o
         (Legal (setting_of squeue.old) (history_of squeue.old (past ++ mark_by mark.now.p mark.now.step mark.now.feeds.items ∷ [])) → ⊥)

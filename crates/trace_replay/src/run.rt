@@ -138,7 +138,8 @@ pub fn replay_within<S: Source, K: Sink, E: Sink>(
 fn answer<K: Sink, E: Sink>(out: &mut K, err: &mut E, text: &[u8], replayed: Replayed) -> Replayed
     ensures { ((result ≡ replayed) × Appends (K.contents out.old) (K.contents out.new) text.now × (K.write_faults out.new ≡ K.write_faults out.old)
         × IsUntouched (end_of E.contents E.write_faults err.old err.new))
-        ⊎ ((result ≡ Replayed.WriteFault) × AppendsProperly (K.contents out.old) (K.contents out.new) text.now × Rose (K.write_faults out.old) (K.write_faults out.new)
+        ⊎ ((result ≡ Replayed.WriteFault) × AppendsProperly (K.contents out.old) (K.contents out.new) text.now
+        × Rose (K.write_faults out.old) (K.write_faults out.new)
         × GetsLine (end_of E.contents E.write_faults err.old err.new) (line (codes "sqreplay: write fault"))) }
 {
     match put(out, text) {
@@ -215,9 +216,11 @@ fn judge_run(
     head: &[u8],
 ) -> Result<(), Refusal>
     requires { (marks : List (List Mark)) × ArePrintedMarks run.setup.squeues marks × (map (λ l. l.now) histories.now ≡ map (flat_map mark_line) marks) }
-    ensures yes { OnOk result ((marks : List (List Mark)) → ArePrintedMarks run.entry.setup.squeues marks → map (λ l. l.now) histories.now ≡ map (flat_map mark_line) marks
+    ensures yes { OnOk result ((marks : List (List Mark)) → ArePrintedMarks run.entry.setup.squeues marks
+        → map (λ l. l.now) histories.now ≡ map (flat_map mark_line) marks
         → IsHead run.entry.plan.now run.entry.calls.now run.entry.setup marks head.now) }
-    ensures no { (r : Reason) → result ≡ Err (Refusal.No r) → (marks : List (List Mark)) → ArePrintedMarks run.entry.setup.squeues marks → map (λ l. l.now) histories.now ≡ map (flat_map mark_line) marks
+    ensures no { (r : Reason) → result ≡ Err (Refusal.No r) → (marks : List (List Mark)) → ArePrintedMarks run.entry.setup.squeues marks
+        → map (λ l. l.now) histories.now ≡ map (flat_map mark_line) marks
         → FailsFor run.entry.plan.now run.entry.calls.now run.entry.setup marks head.now r }
 {
     let guests = replay_all(alloc, run, histories)?;
