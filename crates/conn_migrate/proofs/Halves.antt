@@ -3,7 +3,7 @@ use Rattle.std.proofs.Common.{◌≡◌, ℕ, List, [], length, sym, ◌∙◌, 
 use Rattle.turn_gate.specs.Passes.{number, seen}
 use Rattle.turn_gate.specs.declared.pass.Pass.{Pass}
 use Rattle.perimeter_core.specs.declared.entries.Act.{Act}
-use Rattle.perimeter_core.specs.Blocks.{Blocks}
+use Rattle.perimeter_core.specs.declared.resident.Resident.{Ghosts}
 use Rattle.perimeter_core.specs.declared.marks.SynchAct.{SynchAct}
 use Rattle.perimeter_core.specs.declared.marks.SynchAct.TheVariants as Done
 use Rattle.perimeter_core.specs.Perimeter.{Idle}
@@ -18,13 +18,13 @@ use Rattle.synch_enter.specs.Synch.{Came, StandsAtItsAsk, MayTake, MayPut}
 use Rattle.synch_enter.proofs.Knowing.{may_take, may_put, gone_with_nothing}
 use Rattle.conn_migrate.specs.Moving.{MayLeave, MayCome, Moved}
 
-module _ {R O : Type 0} {stands : R → Blocks → Type 0} {limits : R → Limits} {size : R → ℕ} {origin : R → O} {s : Named R} {c : ℕ} {from : Pass Element} {o : Owner R} (came : Came limits s from o.pass) (at : StandsAtItsAsk stands limits size origin s [] o) (none : o.act ≡ Done.None) where
+module _ {R P O : Type 0} {G : Ghosts R P O} {s : Named R} {c : ℕ} {from : Pass Element} {o : Owner R} (came : Came G.limits s from o.pass) (at : StandsAtItsAsk G s [] o) (none : o.act ≡ Done.None) where
   -- what the pass might do before it came, it may do as owner
-  pub takes : MayLeave limits s c from → MayTake stands limits size origin s c o
-  takes may = may_take stands limits size origin s from o c may.may_ask came at none may.ring may.here may.leaves
+  pub takes : MayLeave G.limits s c from → MayTake G s c o
+  takes may = may_take G s from o c may.may_ask came at none may.ring may.here may.leaves
 
-  pub puts : {P : Type 0} {is_part_of : O → ℕ → P → Type 0} {part : P} → MayCome limits s c from → is_part_of (origin s.given.first) c part → MayPut stands limits size origin s is_part_of c part o
-  puts {P} {is_part_of} {part} may of = may_put stands limits size origin s from o c may.may_ask came at none may.ring is_part_of part may.range may.away of
+  pub puts : {part : P} → MayCome G.limits s c from → G.is_part_of (G.origin s.given.first) c part → MayPut G s c part o
+  puts {part} may of = may_put G s from o c may.may_ask came at none may.ring part may.range may.away of
 
 -- an owner that came, did its act and left, moved
 pub moved : {R : Type 0} {limits : R → Limits} {s : Named R} {act : SynchAct} {note : List Act} {from to : Pass Element} (o n : Owner R) → Came limits s from o.pass → n.pass ≡ o.pass → n.hand.left ≡ [] → n.act ≡ act → GoesOn limits s n.pass to

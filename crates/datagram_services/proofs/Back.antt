@@ -10,6 +10,7 @@ use Rattle.squeue_serve.specs.Lending.{AreLent, HasCome}
 use Rattle.squeue_serve.specs.Places.{MayEnd}
 use Rattle.ring_jobs.proofs.ComesBack.{AreBack, all_came, came_knows, each_behind, none_came, one_came}
 use Rattle.stream_plan.specs.Streams.{MorePlanOf}
+use Rattle.stream_blocks.specs.contracts.blocks.StreamBlocksResident.TheImpl.{ghosts}
 use Rattle.stream_blocks.specs.declared.block.StreamBlock.{StreamBlock}
 use Rattle.stream_blocks.specs.declared.blocks.StreamBlocks.{StreamBlocks}
 use Rattle.stream_blocks.specs.Standing.{PlacesStand, Stands, limits_of, origin_of, size_of}
@@ -36,7 +37,7 @@ module _ (front count : ℕ) (ss : List (Named StreamBlocks)) (lent0 : ℕ → L
       }
 
   module _ (all left : List (Named StreamBlocks)) (s : Named StreamBlocks) (having without : ℕ → List (Option (Pass Element))) (rows : List Row) (r : StreamBlocks) (e : Ending) (t : Traced) (row : Row)
-      (split : all ≡ left ++ s ∷ []) (h : SoFar all having rows) (come : HasCome Stands limits_of size_of origin_of front count (length left) s having without r e t)
+      (split : all ≡ left ++ s ∷ []) (h : SoFar all having rows) (come : HasCome ghosts front count (length left) s having without r e t)
       (kept : (blocks : Blocks) → Stands r blocks → PlacesStand (origin_of r) row.items blocks) where
     leaves : LeavesRow front count lent0 (length left) s row.items
     leaves =
@@ -44,7 +45,7 @@ module _ (front count : ℕ) (ss : List (Named StreamBlocks)) (lent0 : ℕ → L
           end = e;
           its_setting = come.its_setting;
           ended = come.ended;
-          knows = came_knows limits_of front count ss lent0 Stands size_of origin_of all left h.back s having without r e t split h.are come;
+          knows = came_knows ghosts front count ss lent0 all left h.back s having without r e t split h.are come;
           stands = subst (λ (o : MorePlanOf). PlacesStand o row.items (peri (setting_of limits_of s.given) e.history)) come.resident.same_origin (kept (peri (setting_of limits_of s.given) e.history) come.resident.stands_for);
         }
 
@@ -55,7 +56,7 @@ module _ (front count : ℕ) (ss : List (Named StreamBlocks)) (lent0 : ℕ → L
     one_back =
         record {
           back = s ∷ h.back;
-          are = one_came limits_of front count ss lent0 Stands size_of origin_of all left h.back s having without r e t split h.are come;
+          are = one_came ghosts front count ss lent0 all left h.back s having without r e t split h.are come;
           rows_are = ap suc h.rows_are;
           each = each_now;
         }

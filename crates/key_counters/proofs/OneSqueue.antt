@@ -8,7 +8,7 @@ use Rattle.turn_gate.specs.declared.pass.Pass.{Pass}
 use Rattle.perimeter_core.specs.History.{Element, Limits, Setting, run}
 use Rattle.perimeter_core.specs.Legal.{Legal}
 use Rattle.perimeter_core.specs.Ending.{IsOver}
-use Rattle.perimeter_core.specs.Blocks.{Blocks}
+use Rattle.perimeter_core.specs.declared.resident.Resident.{Ghosts}
 use Rattle.perimeter_core.specs.Residing.{HadFeeds}
 use Rattle.squeue_state.specs.Told.{Traced}
 use Rattle.squeue_state.specs.Naming.{Ending, Named}
@@ -55,32 +55,32 @@ module _ {R : Type 0} (limits : R → Limits) (s : Named R) (serves : ServesRing
   pub all_may_end : (count : ℕ) (all : List (Named R)) (lent : ℕ → List (Option (Pass Element))) → all ≡ s ∷ [] → AreLent (λ p t x. HasDoneAs limits t p x) 0 count (s ∷ []) lent → AreLent (MayEnd limits) 0 count all lent
   all_may_end count all lent is h = subst (λ (l : List (Named R)). AreLent (MayEnd limits) 0 count l lent) (sym is) (lent_as (λ p t x. HasDoneAs limits t p x) (MayEnd limits) may_end 0 count lent (s ∷ []) h)
 
-  module _ {O : Type 0} (stands : R → Blocks → Type 0) (size : R → ℕ) (origin : R → O) (count : ℕ) (all left : List (Named R)) (t : Named R) (having without : ℕ → List (Option (Pass Element))) (r : R) (e : Ending) (trace : Traced)
-      (is : all ≡ s ∷ []) (split : all ≡ left ++ t ∷ []) (rings : count ≡ s.given.rings) (lent : AreLent (λ p t x. HasDoneAs limits t p x) 0 count (s ∷ []) having) (come : HasCome stands limits size origin 0 count (length left) t having without r e trace) where
-    both : (left ≡ []) × (t ≡ s)
-    both = one_only left t s (sym split ∙ is)
+module _ {R P O : Type 0} (G : Ghosts R P O) (s : Named R) (serves : ServesRings G.limits s.given) (count : ℕ) (all left : List (Named R)) (t : Named R) (having without : ℕ → List (Option (Pass Element))) (r : R) (e : Ending) (trace : Traced)
+    (is : all ≡ s ∷ []) (split : all ≡ left ++ t ∷ []) (rings : count ≡ s.given.rings) (lent : AreLent (λ p t x. HasDoneAs G.limits t p x) 0 count (s ∷ []) having) (come : HasCome G 0 count (length left) t having without r e trace) where
+  both : (left ≡ []) × (t ≡ s)
+  both = one_only left t s (sym split ∙ is)
 
-    its : HasCome stands limits size origin 0 count 0 s having without r e trace
-    its =
-        subst (λ (x : Named R). HasCome stands limits size origin 0 count 0 x having without r e trace) both.1
-        (subst (λ (l : List (Named R)). HasCome stands limits size origin 0 count (length l) t having without r e trace) both.0 come)
+  its : HasCome G 0 count 0 s having without r e trace
+  its =
+      subst (λ (x : Named R). HasCome G 0 count 0 x having without r e trace) both.1
+      (subst (λ (l : List (Named R)). HasCome G 0 count (length l) t having without r e trace) both.0 come)
 
-    pub nothing_left : (i : ℕ) → without i ≡ []
-    nothing_left = none_lent_at_all (λ p t x. HasDoneAs limits t p x) 0 count without (less_lent (λ p t x. HasDoneAs limits t p x) 0 count [] s its.passes without having its.handed lent)
+  pub nothing_left : (i : ℕ) → without i ≡ []
+  nothing_left = none_lent_at_all (λ p t x. HasDoneAs G.limits t p x) 0 count without (less_lent (λ p t x. HasDoneAs G.limits t p x) 0 count [] s its.passes without having its.handed lent)
 
-    at : (k : ℕ) (x : Pass Element) → slice_get its.passes k ≡ Some x → HasDoneAs limits s k x
-    at k x got =
-        let lt = slice_get_within its.passes k x got in
-        let c = came (λ p t x. HasDoneAs limits t p x) 0 count [] s its.passes without having its.handed lent k (omega (arith, lt, its.handed.all)) in
-        let same : c.0 ≡ x = cc (sym c.1 ∙ got) in
-        subst (HasDoneAs limits s k) same c.2
+  at : (k : ℕ) (x : Pass Element) → slice_get its.passes k ≡ Some x → HasDoneAs G.limits s k x
+  at k x got =
+      let lt = slice_get_within its.passes k x got in
+      let c = came (λ p t x. HasDoneAs G.limits t p x) 0 count [] s its.passes without having its.handed lent k (omega (arith, lt, its.handed.all)) in
+      let same : c.0 ≡ x = cc (sym c.1 ∙ got) in
+      subst (HasDoneAs G.limits s k) same c.2
 
-    numbered : (q : ℕ) → q < length s.given.quotas + 1 → Has (λ (p : Pass Element). number p ≡ q) its.passes
-    numbered q lt =
-        let c = came (λ p t x. HasDoneAs limits t p x) 0 count [] s its.passes without having its.handed lent q (omega (arith, lt, rings, serves.rings)) in
-        has_got (λ (p : Pass Element). number p ≡ q) its.passes q c.0 c.1 c.2.is_number
+  numbered : (q : ℕ) → q < length s.given.quotas + 1 → Has (λ (p : Pass Element). number p ≡ q) its.passes
+  numbered q lt =
+      let c = came (λ p t x. HasDoneAs G.limits t p x) 0 count [] s its.passes without having its.handed lent q (omega (arith, lt, rings, serves.rings)) in
+      has_got (λ (p : Pass Element). number p ≡ q) its.passes q c.0 c.1 c.2.is_number
 
-    pub is_fed : (c : ℕ) → c < length s.given.starts → HadFeeds (stands r) c (slice_index (items_in limits s.given) c)
-    is_fed c lt =
-        fed_all limits s serves (stands r) e.history its.passes c lt (subst (λ (S : Setting). Legal S e.history) its.its_setting its.ended.legal) (subst (λ (S : Setting). IsOver S (run S e.history)) its.its_setting its.ended.over)
-        (each_done limits s serves its.passes at) its.knows numbered its.resident.stands_for
+  pub is_fed : (c : ℕ) → c < length s.given.starts → HadFeeds (G.stands r) c (slice_index (items_in G.limits s.given) c)
+  is_fed c lt =
+      fed_all G.limits s serves (G.stands r) e.history its.passes c lt (subst (λ (S : Setting). Legal S e.history) its.its_setting its.ended.legal) (subst (λ (S : Setting). IsOver S (run S e.history)) its.its_setting its.ended.over)
+      (each_done G.limits s serves its.passes at) its.knows numbered its.resident.stands_for

@@ -8,6 +8,7 @@ use Rattle.perimeter_core.specs.Perimeter.{is_here}
 use Rattle.perimeter_core.specs.History.{Element, Setting, run}
 use Rattle.squeue_state.specs.Naming.{Ending, Named, setting_of}
 use Rattle.squeue_state.specs.Told.{Traced}
+use Rattle.conn_blocks.specs.contracts.blocks.BlocksResident.TheImpl.{ghosts}
 use Rattle.conn_blocks.specs.declared.blocks.Blocks.{Blocks}
 use Rattle.conn_blocks.specs.Holding.{StandsFor}
 use Rattle.conn_blocks.specs.Places.{PlaceFits, Stands, limits_of, origin_of, size_of}
@@ -41,14 +42,14 @@ module _ (front count : ℕ) (ss : List (Named Blocks)) (lent0 : ℕ → List (O
       }
 
   module _ (all left : List (Named Blocks)) (s : Named Blocks) (having without : ℕ → List (Option (Pass Element))) (places new : List (Option (Box BlockOf Global))) (es : List Ending) (ts : List Traced) (r : Blocks) (e : Ending) (t : Traced)
-      (split : all ≡ left ++ s ∷ []) (h : SoFar all having places es ts) (come : HasCome Stands limits_of size_of origin_of front count (length left) s having without r e t) (added : WasAdded r places new) where
+      (split : all ≡ left ++ s ∷ []) (h : SoFar all having places es ts) (come : HasCome ghosts front count (length left) s having without r e t) (added : WasAdded r places new) where
     ends_as : EndsAs front count lent0 (length left) s e
     ends_as =
         record {
           its_number = come.its_number;
           its_setting = come.its_setting;
           ended = come.ended;
-          knows = came_knows limits_of front count ss lent0 Stands size_of origin_of all left h.back s having without r e t split h.are come;
+          knows = came_knows ghosts front count ss lent0 all left h.back s having without r e t split h.are come;
         }
 
     each_now : (i : ℕ) (u : Named Blocks) (f : Ending) → slice_get (s ∷ h.back) i ≡ Some u → slice_get (e ∷ es) i ≡ Some f → EndsAs front count lent0 (length left + i) u f
@@ -111,7 +112,7 @@ module _ (front count : ℕ) (ss : List (Named Blocks)) (lent0 : ℕ → List (O
     one_back =
         record {
           back = s ∷ h.back;
-          are = one_came limits_of front count ss lent0 Stands size_of origin_of all left h.back s having without r e t split h.are come;
+          are = one_came ghosts front count ss lent0 all left h.back s having without r e t split h.are come;
           ends = ap suc h.ends;
           traces = ap suc h.traces;
           each = each_now;

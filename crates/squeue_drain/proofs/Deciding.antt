@@ -6,6 +6,7 @@ use Rattle.std.proofs.Common.{◌≡◌, ◌≢◌, ℕ, suc, ◌+◌, ◌-◌, 
 use Rattle.turn_gate.specs.History.{Begins}
 use Rattle.turn_gate.specs.Passes.{IsPassOf, number, seen, mine}
 use Rattle.turn_gate.specs.declared.pass.Pass.{Pass}
+use Rattle.perimeter_core.specs.declared.resident.Resident.{Ghosts}
 use Rattle.perimeter_core.specs.declared.entries.Entry.{Entry}
 use Rattle.perimeter_core.specs.declared.entries.Entry.TheVariants as Entry'
 use Rattle.perimeter_core.specs.declared.marks.SynchAct.{SynchAct}
@@ -63,12 +64,12 @@ marked_on {R = R} limits s p q u e f may m =
       legal = subst (λ (h : List Element). Legal (setting_of limits s.given) h) (sym m.now_seen) (legal_more (setting_of limits s.given) u.found e f.legal may);
     }
 
-module _ {R O : Type 0} (stands : R → Blocks → Type 0) (limits : R → Limits) (size : R → ℕ) (origin : R → O) (s : Named R) (o : Owner R) (u : Turned R) (is : Feeds stands limits size origin s o) (has : HasFeeds limits s o) (f : Found limits s o.pass u) where
+module _ {R P O : Type 0} (G : Ghosts R P O) (s : Named R) (o : Owner R) (u : Turned R) (is : Feeds G s o) (has : HasFeeds G.limits s o) (f : Found G.limits s o.pass u) where
   abbrev S : Setting
-  S = setting_of limits s.given
+  S = setting_of G.limits s.given
 
-  pub at : AtTurn stands limits size origin s [] o u
-  at = at_turn stands limits size origin s [] o u is.owns f
+  pub at : AtTurn G s [] o u
+  at = at_turn G s [] o u is.owns f
 
   front_feeds : all_feeds (processed (length o.hand.left) (run S u.found).hand) ≡ true
   front_feeds = ap all_feeds at.same_front ∙ is.feeds
@@ -80,18 +81,18 @@ module _ {R O : Type 0} (stands : R → Blocks → Type 0) (limits : R → Limit
   some_hand none = has.some (sym at.hand ∙ none)
 
   -- the resident, as an owner without an act leaves it
-  pub gives : IsPeri stands limits size origin s.given o.resident (peri_left limits s.given u.found o.hand Done.None [])
-  gives = subst (λ (act : SynchAct). IsPeri stands limits size origin s.given o.resident (peri_left limits s.given u.found o.hand act [])) is.no_act at.resident
+  pub gives : IsPeri G s.given o.resident (peri_left G.limits s.given u.found o.hand Done.None [])
+  gives = subst (λ (act : SynchAct). IsPeri G s.given o.resident (peri_left G.limits s.given u.found o.hand act [])) is.no_act at.resident
 
-  pub leaves : length o.hand.left < length (state_of limits s o).hand → May S u.found (gone u.number (length o.hand.left) Done.None [])
+  pub leaves : length o.hand.left < length (state_of G.limits s o).hand → May S u.found (gone u.number (length o.hand.left) Done.None [])
   leaves some =
       may_leave S u.found u.number (length o.hand.left) f.legal at.own (within (run S u.found).hand o.hand.left at.left.is_left)
       (only_last_of_feeds u.number (processed (length o.hand.left) (run S u.found).hand) front_feeds)
       (λ any. subst (λ (xs : List Entry). length o.hand.left < length xs) (sym at.hand) some)
 
   -- where nothing is left of the hand
-  pub hand_is_some : o.hand.left ≡ [] → length o.hand.left < length (state_of limits s o).hand
-  hand_is_some none = rw none (more (state_of limits s o).hand has.some)
+  pub hand_is_some : o.hand.left ≡ [] → length o.hand.left < length (state_of G.limits s o).hand
+  hand_is_some none = rw none (more (state_of G.limits s o).hand has.some)
     where
       more : (xs : List Entry) → xs ≢ [] → 0 < length xs
       more [] some = absurd (some refl)
@@ -107,10 +108,10 @@ module _ {R O : Type 0} (stands : R → Blocks → Type 0) (limits : R → Limit
   no_ask_chain : has_ask u.number (run S u.found).chain ≡ false
   no_ask_chain = (waits_no_more S u.found u.number f.legal).owner_chain at.own
 
-  still_open : is_closed (state_of limits s o) (number o.pass) ≡ false → is_closed (run S u.found) u.number ≡ false
+  still_open : is_closed (state_of G.limits s o) (number o.pass) ≡ false → is_closed (run S u.found) u.number ≡ false
   still_open c = ap (is_closed (run S u.found)) f.same_number ∙ (at.closed ∙ c)
 
-  idle_left : is_closed (state_of limits s o) (number o.pass) ≡ false → Idle (after (run S u.found) (On.Leave u.number (length o.hand.left) Done.None)) u.number
+  idle_left : is_closed (state_of G.limits s o) (number o.pass) ≡ false → Idle (after (run S u.found) (On.Leave u.number (length o.hand.left) Done.None)) u.number
   idle_left c =
       record {
         open_pass = still_open c;
@@ -127,20 +128,20 @@ module _ {R O : Type 0} (stands : R → Blocks → Type 0) (limits : R → Limit
       (subst (λ (h : List Element). Idle (run S h) u.number) (sym e)
       (subst (λ (t : State). Idle t u.number) (sym (run_push (start S) u.found (plain m))) i))
 
-  counted_at : (m : Mark) (q : Pass Element) (xs : List Entry) → seen q ≡ u.found ++ plain m ∷ [] → feed_count (done S (u.found ++ plain m ∷ [])) ≡ feed_count (done S u.found) + feed_count xs → feed_count xs ≡ feed_count (processed_by limits s o)
-      → feed_count (done S (seen q)) ≡ fed_so_far limits s o
+  counted_at : (m : Mark) (q : Pass Element) (xs : List Entry) → seen q ≡ u.found ++ plain m ∷ [] → feed_count (done S (u.found ++ plain m ∷ [])) ≡ feed_count (done S u.found) + feed_count xs → feed_count xs ≡ feed_count (processed_by G.limits s o)
+      → feed_count (done S (seen q)) ≡ fed_so_far G.limits s o
   counted_at m q xs e more same =
       ap (λ (h : List Element). feed_count (done S h)) e ∙ (more ∙ (ap (λ (k : ℕ). k + feed_count xs) at.same_done ∙ ap (λ (k : ℕ). feed_count (done S (seen o.pass)) + k) same))
 
-  pub left : (spent : Bool) (q : Pass Element) → length o.hand.left < length (state_of limits s o).hand → (spent ≡ false → (o.hand.left ≡ []) × ((run S u.found).chain ≡ []))
-      → Marked u (gone u.number (length o.hand.left) Done.None []) q → Off limits s spent o q
+  pub left : (spent : Bool) (q : Pass Element) → length o.hand.left < length (state_of G.limits s o).hand → (spent ≡ false → (o.hand.left ≡ []) × ((run S u.found).chain ≡ []))
+      → Marked u (gone u.number (length o.hand.left) Done.None []) q → Off G.limits s spent o q
   left spent q some why m =
       let mark : Mark = On.Leave u.number (length o.hand.left) Done.None in
       let H : List Element = u.found in
       record {
-        goes_on = marked_on limits s o.pass q u (plain mark) f (leaves some) m;
+        goes_on = marked_on G.limits s o.pass q u (plain mark) f (leaves some) m;
         since = f.goes_on.0;
-        others = others limits s o.pass u is.owns.pass f;
+        others = others G.limits s o.pass u is.owns.pass f;
         last = mark;
         ends = f.same_number;
         now_seen = m.now_seen ∙ ap (λ (h : List Element). h ++ plain mark ∷ []) f.goes_on.1;
@@ -157,7 +158,7 @@ module _ {R O : Type 0} (stands : R → Blocks → Type 0) (limits : R → Limit
       }
 
   pub left_tells : (q : Pass Element) (rest : ℕ) (polling : Bool) → rest ≡ length o.hand.left + length (run S u.found).chain
-      → ((es : List Entry) → length es ≡ rest → polling ≡ polls es (run S u.found).polling) → Marked u (gone u.number (length o.hand.left) Done.None []) q → Tells limits s q rest polling
+      → ((es : List Entry) → length es ≡ rest → polling ≡ polls es (run S u.found).polling) → Marked u (gone u.number (length o.hand.left) Done.None []) q → Tells G.limits s q rest polling
   left_tells q rest polling count told m =
       let mark : Mark = On.Leave u.number (length o.hand.left) Done.None in
       let queue : List Entry = unprocessed (length o.hand.left) (run S u.found).hand ++ (run S u.found).chain in
@@ -168,12 +169,12 @@ module _ {R O : Type 0} (stands : R → Blocks → Type 0) (limits : R → Limit
         polling_is = told queue size ∙ sym (ap (λ (t : State). t.polling) state);
       }
 
-module _ {R O : Type 0} (stands : R → Blocks → Type 0) (limits : R → Limits) (size : R → ℕ) (origin : R → O) (s : Named R) (o : Owner R) (u : Turned R) (is : Feeds stands limits size origin s o) (has : HasFeeds limits s o) (f : Found limits s o.pass u) where
+module _ {R P O : Type 0} (G : Ghosts R P O) (s : Named R) (o : Owner R) (u : Turned R) (is : Feeds G s o) (has : HasFeeds G.limits s o) (f : Found G.limits s o.pass u) where
   abbrev T : Setting
-  T = setting_of limits s.given
+  T = setting_of G.limits s.given
 
-  abbrev here : AtTurn stands limits size origin s [] o u
-  here = at_turn stands limits size origin s [] o u is.owns f
+  abbrev here : AtTurn G s [] o u
+  here = at_turn G s [] o u is.owns f
 
   -- the owner has processed its hand and takes the queue
   pub takes : o.hand.left ≡ [] → (run T u.found).chain ≢ [] → May T u.found (took u.number)
@@ -181,13 +182,13 @@ module _ {R O : Type 0} (stands : R → Blocks → Type 0) (limits : R → Limit
       let done : processed (length o.hand.left) (run T u.found).hand ≡ (run T u.found).hand = none_left (run T u.found).hand o.hand.left here.left.is_left none in
       may_take T u.found u.number f.legal here.own queued (ap all_feeds (sym done) ∙ (ap all_feeds here.same_front ∙ is.feeds)) (λ e. has.some (sym here.hand ∙ e))
 
-  pub taken : o.hand.left ≡ [] → (run T u.found).chain ≢ [] → (q : Pass Element) → Marked u (took u.number) q → (h : Handed) → IsWhole limits s.given (seen q) h
-      → Onward stands limits size origin s o record o { pass = q; hand = h }
+  pub taken : o.hand.left ≡ [] → (run T u.found).chain ≢ [] → (q : Pass Element) → Marked u (took u.number) q → (h : Handed) → IsWhole G.limits s.given (seen q) h
+      → Onward G s o record o { pass = q; hand = h }
   taken none queued q m h whole =
       let mark : Mark = On.Take u.number in
       let H : List Element = u.found in
       let may = takes none queued in
-      let on = marked_on limits s o.pass q u (took u.number) f may m in
+      let on = marked_on G.limits s o.pass q u (took u.number) f may m in
       let state : run T (seen q) ≡ after (run T H) mark = ap (run T) m.now_seen ∙ run_push (start T) H (plain mark) in
       let hand : (run T (seen q)).hand ≡ (run T H).chain = ap (λ (t : State). t.hand) state in
       let w = whole_left (run T (seen q)).hand h.left whole.is_whole in
@@ -196,10 +197,10 @@ module _ {R O : Type 0} (stands : R → Blocks → Type 0) (limits : R → Limit
       ap (peri T) m.now_seen ∙ (peri_push T H (plain mark) may ∙ ap (λ (xs : List Entry). with_feeds xs (peri T H)) (sym all)) in
       let now : with_feeds (processed (length h.left) (run T (seen q)).hand) (peri T (seen q)) ≡ with_feeds (processed (length o.hand.left) (run T H).hand) (peri T H) =
       ap (λ (xs : List Entry). with_feeds xs (peri T (seen q))) w.1 ∙ (with_none (peri T (seen q)) ∙ peri_same) in
-      let gave : IsPeri stands limits size origin s.given o.resident (peri_left limits s.given H o.hand Done.None []) = gives stands limits size origin s o u is has f in
+      let gave : IsPeri G s.given o.resident (peri_left G.limits s.given H o.hand Done.None []) = gives G s o u is has f in
       let none_so_far : feed_count (processed (length h.left) (run T (seen q)).hand) ≡ 0 = ap feed_count w.1 in
       let before : feed_count (done T (seen q)) ≡ feed_count (done T H) + feed_count (run T H).hand = ap (λ (g : List Element). feed_count (done T g)) m.now_seen ∙ done_more T H (plain mark) in
-      let same : feed_count (run T H).hand ≡ feed_count (processed_by limits s o) = ap feed_count (sym all ∙ here.same_front) in
+      let same : feed_count (run T H).hand ≡ feed_count (processed_by G.limits s o) = ap feed_count (sym all ∙ here.same_front) in
       record {
         feeds = record {
           owns = record {
@@ -208,8 +209,8 @@ module _ {R O : Type 0} (stands : R → Blocks → Type 0) (limits : R → Limit
             own = ap (λ (t : State). t.own) state ∙ (here.own ∙ ap Out (sym m.same_number));
             hand = record { is_left = w.0; has_room = whole.has_room };
             resident = record {
-              stands_for = subst (λ (act : SynchAct). stands o.resident (with_act act [] (with_feeds (processed (length h.left) (run T (seen q)).hand) (peri T (seen q))))) (sym is.no_act)
-                  (subst (stands o.resident) (sym now) gave.stands_for);
+              stands_for = subst (λ (act : SynchAct). G.stands o.resident (with_act act [] (with_feeds (processed (length h.left) (run T (seen q)).hand) (peri T (seen q))))) (sym is.no_act)
+                  (subst (G.stands o.resident) (sym now) gave.stands_for);
               same_limits = gave.same_limits;
               same_size = gave.same_size;
               same_origin = gave.same_origin;
@@ -226,7 +227,7 @@ module _ {R O : Type 0} (stands : R → Blocks → Type 0) (limits : R → Limit
         };
         goes_on = on;
         since = f.goes_on.0;
-        others = others limits s o.pass u is.owns.pass f;
+        others = others G.limits s o.pass u is.owns.pass f;
         now_seen = m.now_seen ∙ (ap (λ (h : List Element). h ++ took u.number ∷ []) f.goes_on.1 ∙ ap (λ (k : ℕ). (seen o.pass ++ f.goes_on.0) ++ took k ∷ []) f.same_number);
         now_mine = m.now_mine ∙ (ap (λ (h : List Element). h ++ took u.number ∷ []) f.same_mine ∙ ap (λ (k : ℕ). mine o.pass ++ took k ∷ []) f.same_number);
         count = omega (arith, none_so_far, before, same, here.same_done);
@@ -245,7 +246,7 @@ module _ {R O : Type 0} (stands : R → Blocks → Type 0) (limits : R → Limit
     grants =
         let hand = (run T u.found).hand in
         let feeds : all_feeds (processed (length o.hand.left) hand) ≡ true = ap all_feeds here.same_front ∙ is.feeds in
-        let lone : has_ask u.number (processed (length o.hand.left) hand ++ (Entry'.Ask j ∷ rest)) ≡ false = ap (has_ask u.number) (sym one_on.split) ∙ no_ask stands limits size origin s o u is has f in
+        let lone : has_ask u.number (processed (length o.hand.left) hand ++ (Entry'.Ask j ∷ rest)) ≡ false = ap (has_ask u.number) (sym one_on.split) ∙ no_ask G s o u is has f in
         let queue : hand ++ (run T u.found).chain ≡ processed (length o.hand.left) hand ++ (Entry'.Ask j ∷ (rest ++ (run T u.found).chain)) =
         ap (λ (xs : List Entry). xs ++ (run T u.found).chain) one_on.split ∙ append_assoc (processed (length o.hand.left) hand) (Entry'.Ask j ∷ rest) (run T u.found).chain in
         let range : QueuedInRange T (processed (length o.hand.left) hand ++ (Entry'.Ask j ∷ (rest ++ (run T u.found).chain))) = subst (QueuedInRange T) queue (queued_range T u.found f.legal) in
@@ -256,31 +257,31 @@ module _ {R O : Type 0} (stands : R → Blocks → Type 0) (limits : R → Limit
         (asks_other u.number j (processed (length o.hand.left) hand) rest lone)
         (omega (arith, mine.0))
 
-    pub granted_to : (spent : Bool) → spent ≡ false → (q : Pass Element) → Marked u (plain (On.Grant u.number j (length rest))) q → Off limits s spent o q
+    pub granted_to : (spent : Bool) → spent ≡ false → (q : Pass Element) → Marked u (plain (On.Grant u.number j (length rest))) q → Off G.limits s spent o q
     granted_to spent unspent q m =
         let mark : Mark = On.Grant u.number j (length rest) in
         let H : List Element = u.found in
         let hand = (run T H).hand in
-        let lone : has_ask u.number (processed (length o.hand.left) hand ++ (Entry'.Ask j ∷ rest)) ≡ false = ap (has_ask u.number) (sym one_on.split) ∙ no_ask stands limits size origin s o u is has f in
+        let lone : has_ask u.number (processed (length o.hand.left) hand ++ (Entry'.Ask j ∷ rest)) ≡ false = ap (has_ask u.number) (sym one_on.split) ∙ no_ask G s o u is has f in
         let other : j ≢ u.number = asks_other u.number j (processed (length o.hand.left) hand) rest lone in
-        let counts : feed_count (processed (length rest) hand) ≡ feed_count (processed_by limits s o) =
+        let counts : feed_count (processed (length rest) hand) ≡ feed_count (processed_by G.limits s o) =
         ap feed_count one_on.more ∙ (count_ask (processed (length o.hand.left) hand) j ∙ ap feed_count here.same_front) in
         record {
-          goes_on = marked_on limits s o.pass q u (plain mark) f grants m;
+          goes_on = marked_on G.limits s o.pass q u (plain mark) f grants m;
           since = f.goes_on.0;
-          others = others limits s o.pass u is.owns.pass f;
+          others = others G.limits s o.pass u is.owns.pass f;
           last = mark;
           ends = (f.same_number, λ e. other (e ∙ sym f.same_number));
           now_seen = m.now_seen ∙ ap (λ (h : List Element). h ++ plain mark ∷ []) f.goes_on.1;
           now_mine = m.now_mine ∙ ap (λ (h : List Element). h ++ plain mark ∷ []) f.same_mine;
-          count = counted_at stands limits size origin s o u is has f mark q (processed (length rest) hand) m.now_seen (done_more T H (plain mark)) counts;
+          count = counted_at G s o u is has f mark q (processed (length rest) hand) m.now_seen (done_more T H (plain mark)) counts;
           leaves = λ n. absurd (cc (unspent, n));
           nothing = λ n. tt;
           empty = λ n e. absurd (cc e);
           idle = λ c.
-              idle_at stands limits size origin s o u is has f mark q m.now_seen
+              idle_at G s o u is has f mark q m.now_seen
               (record {
-                open_pass = still_open stands limits size origin s o u is has f c;
+                open_pass = still_open G s o u is has f c;
                 no_owner = λ e. cc e;
                 not_granted = λ e. other (cc e);
                 not_in_hand = refl;
@@ -288,12 +289,12 @@ module _ {R O : Type 0} (stands : R → Blocks → Type 0) (limits : R → Limit
                     no_ask_join u.number (unprocessed (length rest) hand) (run T H).chain
                     (ap (has_ask u.number) (sym one_on.is_left) ∙ (no_ask_split u.number (processed (length o.hand.left) hand ++ Entry'.Ask j ∷ []) rest
                     (ap (has_ask u.number) (append_assoc (processed (length o.hand.left) hand) (Entry'.Ask j ∷ []) rest) ∙ lone)).1)
-                    (no_ask_chain stands limits size origin s o u is has f);
+                    (no_ask_chain G s o u is has f);
               });
         }
 
     pub granted_tells : (q : Pass Element) (count : ℕ) (polling : Bool) → count + 1 ≡ length o.hand.left + length (run T u.found).chain
-        → ((es : List Entry) → length es ≡ count → polling ≡ polls es (run T u.found).polling) → Marked u (plain (On.Grant u.number j (length rest))) q → Tells limits s q count polling
+        → ((es : List Entry) → length es ≡ count → polling ≡ polls es (run T u.found).polling) → Marked u (plain (On.Grant u.number j (length rest))) q → Tells G.limits s q count polling
     granted_tells q count polling counts told m =
         let mark : Mark = On.Grant u.number j (length rest) in
         let queue : List Entry = unprocessed (length rest) (run T u.found).hand ++ (run T u.found).chain in

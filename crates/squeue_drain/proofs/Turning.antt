@@ -3,6 +3,7 @@ use Rattle.std.proofs.Common.{◌≡◌, ℕ, List, [], ◌++◌, length, ap, sy
 use Rattle.turn_gate.specs.History.{only}
 use Rattle.turn_gate.specs.Passes.{IsPassOf, number, seen, mine}
 use Rattle.turn_gate.specs.declared.pass.Pass.{Pass}
+use Rattle.perimeter_core.specs.declared.resident.Resident.{Ghosts}
 use Rattle.perimeter_core.specs.declared.entries.Entry.{Entry}
 use Rattle.perimeter_core.specs.declared.entries.Act.{Act}
 use Rattle.perimeter_core.specs.declared.marks.Own.TheVariants.{Out}
@@ -28,25 +29,25 @@ others limits s p u is f =
     others_made (number p) (seen p) f.goes_on.0 (mine p) is.2
     (subst (λ (h : List Element). only number_of (number p) h ≡ mine p) f.goes_on.1 (ap (λ (k : ℕ). only number_of k u.found) (sym f.same_number) ∙ (f.own ∙ f.same_mine)))
 
-module _ {R O : Type 0} (stands : R → Blocks → Type 0) (limits : R → Limits) (size : R → ℕ) (origin : R → O) (s : Named R) where
+module _ {R P O : Type 0} (G : Ghosts R P O) (s : Named R) where
   -- an owner in its turn: all that it knew of its hand and its resident still holds
   pub record AtTurn (note : List Act) (o : Owner R) (u : Turned R) : Type 0 where
-    pub own : (run (setting_of limits s.given) u.found).own ≡ Out u.number
-    pub hand : (run (setting_of limits s.given) u.found).hand ≡ (state_of limits s o).hand
-    pub left : IsLeft limits s.given u.found o.hand
-    pub same_front : processed (length o.hand.left) (run (setting_of limits s.given) u.found).hand ≡ processed_by limits s o
-    pub resident : IsPeri stands limits size origin s.given o.resident (peri_left limits s.given u.found o.hand o.act note)
-    pub same_done : feed_count (done (setting_of limits s.given) u.found) ≡ feed_count (done (setting_of limits s.given) (seen o.pass))
-    pub closed : is_closed (run (setting_of limits s.given) u.found) (number o.pass) ≡ is_closed (state_of limits s o) (number o.pass)
+    pub own : (run (setting_of G.limits s.given) u.found).own ≡ Out u.number
+    pub hand : (run (setting_of G.limits s.given) u.found).hand ≡ (state_of G.limits s o).hand
+    pub left : IsLeft G.limits s.given u.found o.hand
+    pub same_front : processed (length o.hand.left) (run (setting_of G.limits s.given) u.found).hand ≡ processed_by G.limits s o
+    pub resident : IsPeri G s.given o.resident (peri_left G.limits s.given u.found o.hand o.act note)
+    pub same_done : feed_count (done (setting_of G.limits s.given) u.found) ≡ feed_count (done (setting_of G.limits s.given) (seen o.pass))
+    pub closed : is_closed (run (setting_of G.limits s.given) u.found) (number o.pass) ≡ is_closed (state_of G.limits s o) (number o.pass)
 
-  pub at_turn : (note : List Act) (o : Owner R) (u : Turned R) → Owns stands limits size origin s note o → Found limits s o.pass u → AtTurn note o u
+  pub at_turn : (note : List Act) (o : Owner R) (u : Turned R) → Owns G s note o → Found G.limits s o.pass u → AtTurn note o u
   at_turn note o u is f =
-      let S : Setting = setting_of limits s.given in
+      let S : Setting = setting_of G.limits s.given in
       let H : List Element = seen o.pass in
       let K : List Element = f.goes_on.0 in
       let p : ℕ = number o.pass in
       let whole : u.found ≡ H ++ K = f.goes_on.1 in
-      let none : made_by p K ≡ [] = others limits s o.pass u is.pass f in
+      let none : made_by p K ≡ [] = others G.limits s o.pass u is.pass f in
       let legal : Legal S (H ++ K) = subst (λ (G : List Element). Legal S G) whole f.legal in
       let known = known_since S H K p legal none in
       let k = known.owner is.own in

@@ -3,6 +3,7 @@ use Rattle.std.proofs.Common.{◌≡◌, ℕ, ◌+◌, true, false, List, [], �
 use Rattle.std.proofs.lemmas.List.{append-nil}
 use Rattle.turn_gate.specs.Passes.{IsPassOf, number, seen}
 use Rattle.turn_gate.specs.declared.pass.Pass.{Pass}
+use Rattle.perimeter_core.specs.declared.resident.Resident.{Ghosts}
 use Rattle.perimeter_core.specs.declared.entries.Entry.{Entry}
 use Rattle.perimeter_core.specs.declared.marks.SynchAct.TheVariants as Done
 use Rattle.perimeter_core.specs.declared.marks.Own.TheVariants.{Free, Out}
@@ -122,34 +123,34 @@ module _ {R : Type 0} (limits : R → Limits) (s : Named R) where
         nothing_waits = taken_calm (run (setting_of limits s.given) (seen q)) u.number (ap (λ (h : List Element). (run (setting_of limits s.given) h).own) m.now_seen ∙ ap (λ (t : State). t.own) (run_push (start (setting_of limits s.given)) u.found (worked u.number)));
       }
 
-module _ {R O : Type 0} (stands : R → Blocks → Type 0) (limits : R → Limits) (size : R → ℕ) (origin : R → O) (s : Named R) where
-  pub worked_onward : (o next : Owner R) → Onward stands limits size origin s o next → Worked limits s o.pass next.pass
+module _ {R P O : Type 0} (G : Ghosts R P O) (s : Named R) where
+  pub worked_onward : (o next : Owner R) → Onward G s o next → Worked G.limits s o.pass next.pass
   worked_onward o next on =
       record {
         goes_on = on.goes_on;
         since = on.since ++ took (number o.pass) ∷ [];
         now_seen = on.now_seen ∙ append_assoc (seen o.pass) on.since (took (number o.pass) ∷ []);
-        leaves = one_behind (setting_of limits s.given) (number o.pass) (seen o.pass) on.since (took (number o.pass)) on.others tt;
-        nothing_waits = taken_calm (run (setting_of limits s.given) (seen next.pass)) (number next.pass) on.feeds.owns.own;
+        leaves = one_behind (setting_of G.limits s.given) (number o.pass) (seen o.pass) on.since (took (number o.pass)) on.others tt;
+        nothing_waits = taken_calm (run (setting_of G.limits s.given) (seen next.pass)) (number next.pass) on.feeds.owns.own;
       }
 
   -- the worker as owner
   pub record Works (q : Pass Element) (r : R) (h : Handed) : Type 0 where
-    pub feeds : Feeds stands limits size origin s record { pass = q; resident = r; hand = h; act = Done.None }
-    pub has : HasFeeds limits s record { pass = q; resident = r; hand = h; act = Done.None }
+    pub feeds : Feeds G s record { pass = q; resident = r; hand = h; act = Done.None }
+    pub has : HasFeeds G.limits s record { pass = q; resident = r; hand = h; act = Done.None }
 
-  pub works : (p : Pass Element) (u : Turned R) (q : Pass Element) (r : R) (h : Handed) → Found limits s p u → number p ≡ worker (setting_of limits s.given) → May (setting_of limits s.given) u.found (worked u.number)
-      → Marked u (worked u.number) q → IsWhole limits s.given (seen q) h → IsPeri stands limits size origin s.given r (peri (setting_of limits s.given) (seen q)) → Works q r h
+  pub works : (p : Pass Element) (u : Turned R) (q : Pass Element) (r : R) (h : Handed) → Found G.limits s p u → number p ≡ worker (setting_of G.limits s.given) → May (setting_of G.limits s.given) u.found (worked u.number)
+      → Marked u (worked u.number) q → IsWhole G.limits s.given (seen q) h → IsPeri G s.given r (peri (setting_of G.limits s.given) (seen q)) → Works q r h
   works p u q r h f is may m whole peri =
-      let S : Setting = setting_of limits s.given in
-      let on = marked_on limits s p q u (worked u.number) f may m in
+      let S : Setting = setting_of G.limits s.given in
+      let on = marked_on G.limits s p q u (worked u.number) f may m in
       let state : run S (seen q) ≡ after (run S u.found) (On.Work u.number) = ap (run S) m.now_seen ∙ run_push (start S) u.found (worked u.number) in
       let hand : (run S (seen q)).hand ≡ (run S u.found).chain = ap (λ (t : State). t.hand) state in
       let queued = ((wake_of_sound (run S u.found) (sound S u.found f.legal)).wake.0 may.step.1).1 in
       let range = range_right S (run S u.found).hand (run S u.found).chain (queued_range S u.found f.legal) in
       let same : number q ≡ worker S = m.same_number ∙ (f.same_number ∙ is) in
       record {
-        feeds = fresh stands limits size origin s q r h on.is_pass on.legal (ap (λ (t : State). t.own) state ∙ ap Out (sym m.same_number)) whole peri;
+        feeds = fresh G s q r h on.is_pass on.legal (ap (λ (t : State). t.own) state ∙ ap Out (sym m.same_number)) whole peri;
         has = record {
           some = λ e. queued (sym hand ∙ e);
           no_ask = ap (λ (n : ℕ). has_ask n (run S (seen q)).hand) same ∙ (ap (has_ask (worker S)) hand ∙ no_worker_ask S (run S u.found).chain range);

@@ -3,6 +3,7 @@ use Rattle.std.specs.Prelude.{◌≡◌, ◌≢◌, ℕ, ◌+◌, ◌<◌, ◌�
 use Rattle.turn_gate.specs.History.{Begins}
 use Rattle.turn_gate.specs.Passes.{IsPassOf, number, seen, mine}
 use Rattle.turn_gate.specs.declared.pass.Pass.{Pass}
+use Rattle.perimeter_core.specs.declared.resident.Resident.{Ghosts}
 use Rattle.perimeter_core.specs.declared.marks.SynchAct.TheVariants as Done
 use Rattle.perimeter_core.specs.declared.marks.Mark.{Mark}
 use Rattle.perimeter_core.specs.declared.marks.Mark.TheVariants as On
@@ -90,16 +91,16 @@ pub record Off {R : Type 0} (limits : R → Limits) (s : Named R) (spent : Bool)
   pub idle : is_closed (state_of limits s o) (number o.pass) ≡ false → Idle (run (setting_of limits s.given) (seen to)) (number o.pass)
 
 -- In one turn, which found what others made meanwhile, an owner took the queue
-pub record Onward {R O : Type 0} (stands : R → Blocks → Type 0) (limits : R → Limits) (size : R → ℕ) (origin : R → O) (s : Named R) (o next : Owner R) : Type 0 where
-  pub feeds : Feeds stands limits size origin s next
-  pub has : HasFeeds limits s next
-  pub goes_on : GoesOn limits s o.pass next.pass
+pub record Onward {R P O : Type 0} (G : Ghosts R P O) (s : Named R) (o next : Owner R) : Type 0 where
+  pub feeds : Feeds G s next
+  pub has : HasFeeds G.limits s next
+  pub goes_on : GoesOn G.limits s o.pass next.pass
   pub since : List Element
   pub others : made_by (number o.pass) since ≡ []
   pub now_seen : seen next.pass ≡ (seen o.pass ++ since) ++ took (number o.pass) ∷ []
   pub now_mine : mine next.pass ≡ mine o.pass ++ took (number o.pass) ∷ []
-  pub count : fed_so_far limits s next ≡ fed_so_far limits s o
-  pub closed : is_closed (state_of limits s next) (number o.pass) ≡ is_closed (state_of limits s o) (number o.pass)
+  pub count : fed_so_far G.limits s next ≡ fed_so_far G.limits s o
+  pub closed : is_closed (state_of G.limits s next) (number o.pass) ≡ is_closed (state_of G.limits s o) (number o.pass)
 
 -- An owner of one feed processed it and left in the next turn, which found what others made meanwhile
 pub record ServedOne {R : Type 0} (limits : R → Limits) (s : Named R) (o : Owner R) (to : Pass Element) : Type 0 where

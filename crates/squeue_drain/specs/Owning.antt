@@ -1,6 +1,7 @@
 -- What is known of an owner.
 use Rattle.std.specs.Prelude.{◌≡◌, ◌≢◌, ℕ, ◌+◌, true, false, List, [], ◌∷◌, ◌++◌, length}
 use Rattle.turn_gate.specs.Passes.{IsPassOf, number, seen}
+use Rattle.perimeter_core.specs.declared.resident.Resident.{Ghosts}
 use Rattle.perimeter_core.specs.declared.entries.Act.{Act}
 use Rattle.perimeter_core.specs.declared.entries.Entry.{Entry}
 use Rattle.perimeter_core.specs.declared.entries.Entry.TheVariants as Entry'
@@ -26,18 +27,18 @@ processed_by limits s o = processed (length o.hand.left) (state_of limits s o).h
 
 -- The pass is owner at the squeue, the hand is what is left of the squeue's hand, and the resident stands for what the
 -- history did with the processed part of the hand and the act added. The note is that of an In
-pub record Owns {R O : Type 0} (stands : R → Blocks → Type 0) (limits : R → Limits) (size : R → ℕ) (origin : R → O) (s : Named R) (note : List Act) (o : Owner R) : Type 0 where
+pub record Owns {R P O : Type 0} (G : Ghosts R P O) (s : Named R) (note : List Act) (o : Owner R) : Type 0 where
   pub pass : IsPassOf number_of s.gate o.pass
-  pub legal : Legal (setting_of limits s.given) (seen o.pass)
-  pub own : (state_of limits s o).own ≡ Out (number o.pass)
-  pub hand : IsLeft limits s.given (seen o.pass) o.hand
-  pub resident : IsPeri stands limits size origin s.given o.resident (peri_left limits s.given (seen o.pass) o.hand o.act note)
+  pub legal : Legal (setting_of G.limits s.given) (seen o.pass)
+  pub own : (state_of G.limits s o).own ≡ Out (number o.pass)
+  pub hand : IsLeft G.limits s.given (seen o.pass) o.hand
+  pub resident : IsPeri G s.given o.resident (peri_left G.limits s.given (seen o.pass) o.hand o.act note)
 
 -- So far the owner did no act, and processed nothing but feeds
-pub record Feeds {R O : Type 0} (stands : R → Blocks → Type 0) (limits : R → Limits) (size : R → ℕ) (origin : R → O) (s : Named R) (o : Owner R) : Type 0 where
-  pub owns : Owns stands limits size origin s [] o
+pub record Feeds {R P O : Type 0} (G : Ghosts R P O) (s : Named R) (o : Owner R) : Type 0 where
+  pub owns : Owns G s [] o
   pub no_act : o.act ≡ Done.None
-  pub feeds : all_feeds (processed_by limits s o) ≡ true
+  pub feeds : all_feeds (processed_by G.limits s o) ≡ true
 
 -- The owner has a hand, in which its own Ask isn't: so it came by Fast, by a Claim of feeds or by Work, or took the queue
 pub record HasFeeds {R : Type 0} (limits : R → Limits) (s : Named R) (o : Owner R) : Type 0 where

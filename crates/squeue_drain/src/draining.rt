@@ -39,7 +39,7 @@ pub fn drain<R: Resident, H: Hook, W: Wait>(
     budget: u32,
 ) -> (Pass, u32, bool)
     requires budget { 1 ≤ budget }
-    requires feeds { Feeds R.stands R.limits R.size R.origin sq.now owner }
+    requires feeds { Feeds R.Resident sq.now owner }
     requires has { HasFeeds R.limits sq.now owner }
     ensures drained { Drained R.limits sq.now budget owner result.0 }
     ensures tells { Tells R.limits sq.now result.0 result.1 result.2 }
@@ -65,7 +65,7 @@ pub fn serve_one<R: Resident, H: Hook, W: Wait>(
     owner: Owner<R>,
     e: Feed,
 ) -> (Pass, u32, bool)
-    requires feeds { Feeds R.stands R.limits R.size R.origin sq.now owner }
+    requires feeds { Feeds R.Resident sq.now owner }
     requires has { HasFeeds R.limits sq.now owner }
     requires one { owner.hand.left ≡ Entry'.Feed e.c e.n ∷ [] }
     ensures served { ServedOne R.limits sq.now owner result.0 }
@@ -87,11 +87,11 @@ pub(crate) fn decide<R: Resident, W: Wait>(
     owner: Owner<R>,
     spent: bool,
 ) -> Round<R>
-    requires feeds { Feeds R.stands R.limits R.size R.origin sq.now owner }
+    requires feeds { Feeds R.Resident sq.now owner }
     requires has { HasFeeds R.limits sq.now owner }
     requires some { spent ≡ true → length owner.hand.left < length (state_of R.limits sq.now owner).hand }
     requires front { spent ≡ false → NoFeedFirst owner.hand.left }
-    ensures { Decided R.stands R.limits R.size R.origin sq.now spent owner result }
+    ensures { Decided R.Resident sq.now spent owner result }
 {
     let Owner {
         pass,
@@ -125,7 +125,7 @@ pub(crate) fn decide<R: Resident, W: Wait>(
 fn leave<R: Resident>(sq: &Squeue<R>, turn: Turn<R>, resident: R, hand: Hand) -> (Pass, u32, bool)
     requires squeue { turn.squeue ≡ sq.now }
     requires hand { IsLeft R.limits sq.now.given turn.found hand }
-    requires resident { IsPeri R.stands R.limits R.size R.origin sq.now.given resident (peri_left R.limits sq.now.given turn.found hand Done.None []) }
+    requires resident { IsPeri R.Resident sq.now.given resident (peri_left R.limits sq.now.given turn.found hand Done.None []) }
     requires may { May (setting_of R.limits sq.now.given) turn.found (gone turn.number (length hand.left) Done.None []) }
     requires room { length hand.left + length (run (setting_of R.limits sq.now.given) turn.found).chain < 2 ^ 31 }
     ensures marked { Marked turn (gone turn.number (length hand.left) Done.None []) result.0 }
@@ -146,7 +146,7 @@ fn grant<R: Resident>(sq: &Squeue<R>, turn: Turn<R>, resident: R, hand: Hand) ->
     requires squeue { turn.squeue ≡ sq.now }
     requires hand { IsLeft R.limits sq.now.given turn.found hand }
     requires first { first_entry hand.left ≡ Some (Entry'.Ask (asker hand.left)) }
-    requires resident { IsPeri R.stands R.limits R.size R.origin sq.now.given resident (peri_left R.limits sq.now.given turn.found hand Done.None []) }
+    requires resident { IsPeri R.Resident sq.now.given resident (peri_left R.limits sq.now.given turn.found hand Done.None []) }
     requires may { May (setting_of R.limits sq.now.given) turn.found (granted turn.number (asker hand.left) (length hand.left - 1)) }
     requires room { length hand.left + length (run (setting_of R.limits sq.now.given) turn.found).chain < 2 ^ 31 }
     ensures marked { Marked turn (granted turn.number (asker hand.left) (length hand.left - 1)) result.0 }

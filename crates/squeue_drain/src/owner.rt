@@ -42,8 +42,8 @@ pub fn process<R: Resident, H: Hook>(
     owner: &mut Owner<R>,
     budget: u32,
 ) -> u32
-    requires { Feeds R.stands R.limits R.size R.origin sq.now owner.old }
-    ensures feeds { Feeds R.stands R.limits R.size R.origin sq.now owner.new }
+    requires { Feeds R.Resident sq.now owner.old }
+    ensures feeds { Feeds R.Resident sq.now owner.new }
     ensures pass { owner.new.pass ≡ owner.old.pass }
     ensures bound { result ≤ budget }
     ensures count { length owner.new.hand.left + budget ≡ length owner.old.hand.left + result }
@@ -69,9 +69,9 @@ pub(crate) fn process_first<R: Resident, H: Hook>(
     c: u32,
     n: u32,
 )
-    requires feeds { Feeds R.stands R.limits R.size R.origin sq.now owner.old }
+    requires feeds { Feeds R.Resident sq.now owner.old }
     requires first { IsFeedFirst c n owner.old.hand.left }
-    ensures feeds { Feeds R.stands R.limits R.size R.origin sq.now owner.new }
+    ensures feeds { Feeds R.Resident sq.now owner.new }
     ensures pass { owner.new.pass ≡ owner.old.pass }
     ensures left { owner.new.hand.left ≡ drop 1 owner.old.hand.left }
 {

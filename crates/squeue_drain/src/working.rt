@@ -82,7 +82,7 @@ fn drain_all<R: Resident, H: Hook, W: Wait>(
     hook: &H,
     owner: Owner<R>,
 ) -> Pass
-    requires feeds { Feeds R.stands R.limits R.size R.origin sq.now owner }
+    requires feeds { Feeds R.Resident sq.now owner }
     requires has { HasFeeds R.limits sq.now owner }
     ensures { Worked R.limits sq.now owner.pass result }
 {

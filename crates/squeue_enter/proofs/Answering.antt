@@ -2,6 +2,7 @@
 use Rattle.std.proofs.Common.{◌≡◌, ℕ, ◌<◌, Bool, List, [], ◌∷◌, ◌++◌, length, ap, sym, ◌∙◌, subst, append_assoc}
 use Rattle.turn_gate.specs.Passes.{number, seen, mine}
 use Rattle.turn_gate.specs.declared.pass.Pass.{Pass}
+use Rattle.perimeter_core.specs.declared.resident.Resident.{Ghosts}
 use Rattle.perimeter_core.specs.declared.entries.Feed.{Feed as FeedOf}
 use Rattle.perimeter_core.specs.declared.marks.SynchAct.TheVariants as Done
 use Rattle.perimeter_core.specs.Perimeter.{Idle, is_free, is_empty}
@@ -65,9 +66,9 @@ module _ {R : Type 0} (limits : R → Limits) (s : Named R) (p : Pass Element) (
       let h = has_filled some q m in
       answer mode budget Way'.Fill q (How'.Queued woke) polling is h.goes_on h.idle (ap How'.Queued wakes, h.now_seen, h.now_mine) polls
 
-module _ {R O : Type 0} (stands : R → Blocks → Type 0) (limits : R → Limits) (size : R → ℕ) (origin : R → O) (s : Named R) (p : Pass Element) (es : List FeedOf) (u : Turned R) (may : MayEnter limits s p es) (f : Found limits s p u) where
+module _ {R P O : Type 0} (G : Ghosts R P O) (s : Named R) (p : Pass Element) (es : List FeedOf) (u : Turned R) (may : MayEnter G.limits s p es) (f : Found G.limits s p u) where
   abbrev T : Setting
-  T = setting_of limits s.given
+  T = setting_of G.limits s.given
 
   abbrev its_way : Mode → Way
   its_way m = way_of m (is_free (run T u.found).own) (is_empty (run T u.found).chain) (is_one es)
@@ -76,28 +77,28 @@ module _ {R O : Type 0} (stands : R → Blocks → Type 0) (limits : R → Limit
   made q r h = record { pass = q; resident = r; hand = h; act = Done.None }
 
   pub entered_fast : (mode : Mode) (budget : ℕ) (e : FeedOf) (q : Pass Element) (r : R) (h : Handed) (to : Pass Element) (rest : ℕ) (polling : Bool) → its_way mode ≡ Way'.Fast → es ≡ e ∷ []
-      → Came stands limits size origin s p es u may f (fasted u.number e) q r h → Drained limits s budget (made q r h) to → Tells limits s to rest polling
-      → HasEntered limits s mode budget es p record { pass = to; how = How'.Fast rest; polling = polling }
+      → Came G s p es u may f (fasted u.number e) q r h → Drained G.limits s budget (made q r h) to → Tells G.limits s to rest polling
+      → HasEntered G.limits s mode budget es p record { pass = to; how = How'.Fast rest; polling = polling }
   entered_fast mode budget e q r h to rest polling is one came d tells =
-      answer limits s p es u may f mode budget Way'.Fast to (How'.Fast rest) polling is (on_trans limits s p q to came.goes_on d.goes_on)
+      answer G.limits s p es u may f mode budget Way'.Fast to (How'.Fast rest) polling is (on_trans G.limits s p q to came.goes_on d.goes_on)
       (subst (λ (k : ℕ). Idle (run T (seen to)) k) came.same (d.idle came.open_pass))
-      (e, one, ap How'.Fast tells.rest_is, drains stands limits size origin s p es u may f (λ k. fasted k e) budget q r h to came d) tells.polling_is
+      (e, one, ap How'.Fast tells.rest_is, drains G s p es u may f (λ k. fasted k e) budget q r h to came d) tells.polling_is
 
   pub entered_claim : (mode : Mode) (budget : ℕ) (q : Pass Element) (r : R) (h : Handed) (to : Pass Element) (rest : ℕ) (polling : Bool) → its_way mode ≡ Way'.Claim
-      → Came stands limits size origin s p es u may f (claimed u.number es) q r h → Drained limits s budget (made q r h) to → Tells limits s to rest polling
-      → HasEntered limits s mode budget es p record { pass = to; how = How'.Drained rest; polling = polling }
+      → Came G s p es u may f (claimed u.number es) q r h → Drained G.limits s budget (made q r h) to → Tells G.limits s to rest polling
+      → HasEntered G.limits s mode budget es p record { pass = to; how = How'.Drained rest; polling = polling }
   entered_claim mode budget q r h to rest polling is came d tells =
-      answer limits s p es u may f mode budget Way'.Claim to (How'.Drained rest) polling is (on_trans limits s p q to came.goes_on d.goes_on)
+      answer G.limits s p es u may f mode budget Way'.Claim to (How'.Drained rest) polling is (on_trans G.limits s p q to came.goes_on d.goes_on)
       (subst (λ (k : ℕ). Idle (run T (seen to)) k) came.same (d.idle came.open_pass))
-      (ap How'.Drained tells.rest_is, drains stands limits size origin s p es u may f (λ k. claimed k es) budget q r h to came d) tells.polling_is
+      (ap How'.Drained tells.rest_is, drains G s p es u may f (λ k. claimed k es) budget q r h to came d) tells.polling_is
 
   pub entered_alone : (mode : Mode) (budget : ℕ) (e : FeedOf) (q : Pass Element) (r : R) (h : Handed) (to : Pass Element) (rest : ℕ) (polling : Bool) → its_way mode ≡ Way'.Alone → es ≡ e ∷ []
-      → Came stands limits size origin s p es u may f (fasted u.number e) q r h → ServedOne limits s (made q r h) to → Tells limits s to rest polling
-      → HasEntered limits s mode budget es p record { pass = to; how = How'.Fast rest; polling = polling }
+      → Came G s p es u may f (fasted u.number e) q r h → ServedOne G.limits s (made q r h) to → Tells G.limits s to rest polling
+      → HasEntered G.limits s mode budget es p record { pass = to; how = How'.Fast rest; polling = polling }
   entered_alone mode budget e q r h to rest polling is one came d tells =
       let at : seen q ≡ u.found ++ fasted (number p) e ∷ [] = came.now_seen ∙ ap (λ (k : ℕ). u.found ++ fasted k e ∷ []) f.same_number in
       let own : mine q ≡ mine p ++ fasted (number p) e ∷ [] = came.now_mine ∙ ap (λ (k : ℕ). mine p ++ fasted k e ∷ []) f.same_number in
-      answer limits s p es u may f mode budget Way'.Alone to (How'.Fast rest) polling is (on_trans limits s p q to came.goes_on d.goes_on)
+      answer G.limits s p es u may f mode budget Way'.Alone to (How'.Fast rest) polling is (on_trans G.limits s p q to came.goes_on d.goes_on)
       (subst (λ (k : ℕ). Idle (run T (seen to)) k) came.same (d.idle came.open_pass)) (
         e,
         one,

@@ -3,6 +3,7 @@ use Rattle.std.specs.Prelude.{replicate}
 use Rattle.std.proofs.Common.{◌≡◌, ◌≢◌, ℕ, ◌+◌, ◌^◌, ◌≤◌, ◌<◌, Bool, false, inl, List, [], ◌∷◌, ◌++◌, length, refl, ap, sym, ◌∙◌, subst, arith, length-append}
 use Rattle.turn_gate.specs.Passes.{number, seen, mine}
 use Rattle.turn_gate.specs.declared.pass.Pass.{Pass}
+use Rattle.perimeter_core.specs.declared.resident.Resident.{Ghosts}
 use Rattle.perimeter_core.specs.declared.entries.Feed.{Feed as FeedOf}
 use Rattle.perimeter_core.specs.declared.entries.Entry.{Entry}
 use Rattle.perimeter_core.specs.declared.entries.Entry.TheVariants.{Feed}
@@ -154,30 +155,30 @@ module _ {R : Type 0} (limits : R → Limits) (s : Named R) (p : Pass Element) (
       let state : run S (seen q) ≡ after (run S u.found) (On.Fill u.number (entries es)) = ap (run S) m.now_seen ∙ run_push (start S) u.found (filled u.number es) in
       told ((run S u.found).chain ++ entries es) (omega (arith, length-append (run S u.found).chain (entries es), length_entries es)) ∙ sym (ap (λ (t : State). t.polling) state)
 
-module _ {R O : Type 0} (stands : R → Blocks → Type 0) (limits : R → Limits) (size : R → ℕ) (origin : R → O) (s : Named R) (p : Pass Element) (es : List FeedOf) (u : Turned R) (may : MayEnter limits s p es) (f : Found limits s p u) where
+module _ {R P O : Type 0} (G : Ghosts R P O) (s : Named R) (p : Pass Element) (es : List FeedOf) (u : Turned R) (may : MayEnter G.limits s p es) (f : Found G.limits s p u) where
   abbrev T : Setting
-  T = setting_of limits s.given
+  T = setting_of G.limits s.given
 
   -- the owner that the entry became
   pub record Came (e : Element) (q : Pass Element) (r : R) (h : Handed) : Type 0 where
-    pub feeds : Feeds stands limits size origin s record { pass = q; resident = r; hand = h; act = Done.None }
-    pub has : HasFeeds limits s record { pass = q; resident = r; hand = h; act = Done.None }
+    pub feeds : Feeds G s record { pass = q; resident = r; hand = h; act = Done.None }
+    pub has : HasFeeds G.limits s record { pass = q; resident = r; hand = h; act = Done.None }
     pub open_pass : is_closed (run T (seen q)) (number q) ≡ false
     pub same : number q ≡ number p
     pub now_seen : seen q ≡ u.found ++ e ∷ []
     pub now_mine : mine q ≡ mine p ++ e ∷ []
-    pub goes_on : GoesOn limits s p q
-    pub none_fed : fed_so_far limits s record { pass = q; resident = r; hand = h; act = Done.None } ≡ feed_count (done T (seen q))
+    pub goes_on : GoesOn G.limits s p q
+    pub none_fed : fed_so_far G.limits s record { pass = q; resident = r; hand = h; act = Done.None } ≡ feed_count (done T (seen q))
 
   came : (e : Element) (xs : List Entry) → May T u.found e → (after (run T u.found) e.mark).own ≡ Out u.number → (after (run T u.found) e.mark).hand ≡ xs → is_closed (after (run T u.found) e.mark) u.number ≡ false
-      → xs ≢ [] → has_ask u.number xs ≡ false → (q : Pass Element) (r : R) (h : Handed) → Marked u e q → IsWhole limits s.given (seen q) h → IsPeri stands limits size origin s.given r (peri T (seen q)) → Came e q r h
+      → xs ≢ [] → has_ask u.number xs ≡ false → (q : Pass Element) (r : R) (h : Handed) → Marked u e q → IsWhole G.limits s.given (seen q) h → IsPeri G s.given r (peri T (seen q)) → Came e q r h
   came e xs ok own hand closed some no_ask q r h m whole is =
-      let on = marked_on limits s p q u e f ok m in
+      let on = marked_on G.limits s p q u e f ok m in
       let state : run T (seen q) ≡ after (run T u.found) e.mark = ap (run T) m.now_seen ∙ run_push (start T) u.found e in
       let held : (run T (seen q)).hand ≡ xs = ap (λ (t : State). t.hand) state ∙ hand in
       let w = whole_left (run T (seen q)).hand h.left whole.is_whole in
       record {
-        feeds = fresh stands limits size origin s q r h on.is_pass on.legal (ap (λ (t : State). t.own) state ∙ (own ∙ ap Out (sym m.same_number))) whole is;
+        feeds = fresh G s q r h on.is_pass on.legal (ap (λ (t : State). t.own) state ∙ (own ∙ ap Out (sym m.same_number))) whole is;
         has = record { some = λ z. some (sym held ∙ z); no_ask = ap (λ (k : ℕ). has_ask k (run T (seen q)).hand) m.same_number ∙ (ap (has_ask u.number) held ∙ no_ask) };
         open_pass = ap (λ (k : ℕ). is_closed (run T (seen q)) k) m.same_number ∙ (ap (λ (t : State). is_closed t u.number) state ∙ closed);
         same = m.same_number ∙ f.same_number;
@@ -187,21 +188,21 @@ module _ {R O : Type 0} (stands : R → Blocks → Type 0) (limits : R → Limit
         none_fed = let zero : feed_count (processed (length h.left) (run T (seen q)).hand) ≡ 0 = ap feed_count w.1 in omega (arith, zero);
       }
 
-  pub came_fast : (e : FeedOf) → es ≡ e ∷ [] → (run T u.found).own ≡ Free → (run T u.found).chain ≡ [] → (q : Pass Element) (r : R) (h : Handed) → Marked u (fasted u.number e) q → IsWhole limits s.given (seen q) h
-      → IsPeri stands limits size origin s.given r (peri T (seen q)) → Came (fasted u.number e) q r h
+  pub came_fast : (e : FeedOf) → es ≡ e ∷ [] → (run T u.found).own ≡ Free → (run T u.found).chain ≡ [] → (q : Pass Element) (r : R) (h : Handed) → Marked u (fasted u.number e) q → IsWhole G.limits s.given (seen q) h
+      → IsPeri G s.given r (peri T (seen q)) → Came (fasted u.number e) q r h
   came_fast e one free empty q r h m whole is =
-      came (fasted u.number e) (Feed e.c e.n ∷ []) (may_fast limits s p es u may f e one free empty) refl refl (idle_here limits s p es u may f).open_pass (λ z. cc z) refl q r h m whole is
+      came (fasted u.number e) (Feed e.c e.n ∷ []) (may_fast G.limits s p es u may f e one free empty) refl refl (idle_here G.limits s p es u may f).open_pass (λ z. cc z) refl q r h m whole is
 
-  pub came_claim : 0 < length es → (run T u.found).own ≡ Free → (q : Pass Element) (r : R) (h : Handed) → Marked u (claimed u.number es) q → IsWhole limits s.given (seen q) h
-      → IsPeri stands limits size origin s.given r (peri T (seen q)) → Came (claimed u.number es) q r h
+  pub came_claim : 0 < length es → (run T u.found).own ≡ Free → (q : Pass Element) (r : R) (h : Handed) → Marked u (claimed u.number es) q → IsWhole G.limits s.given (seen q) h
+      → IsPeri G s.given r (peri T (seen q)) → Came (claimed u.number es) q r h
   came_claim some free q r h m whole is =
-      let i = idle_here limits s p es u may f in
-      came (claimed u.number es) ((run T u.found).chain ++ entries es) (may_claim limits s p es u may f some free) refl refl i.open_pass
+      let i = idle_here G.limits s p es u may f in
+      came (claimed u.number es) ((run T u.found).chain ++ entries es) (may_claim G.limits s p es u may f some free) refl refl i.open_pass
       (λ z. some_entries es some (nil_right (run T u.found).chain (entries es) z))
       (no_ask_join u.number (run T u.found).chain (entries es) i.not_in_chain (feeds_no_ask u.number (entries es) (only_feeds es))) q r h m whole is
 
   -- what the drain then did, as it is said of the history after the first mark
-  pub drains : (e : ℕ → Element) (budget : ℕ) (q : Pass Element) (r : R) (h : Handed) (to : Pass Element) → Came (e u.number) q r h → Drained limits s budget record { pass = q; resident = r; hand = h; act = Done.None } to
+  pub drains : (e : ℕ → Element) (budget : ℕ) (q : Pass Element) (r : R) (h : Handed) (to : Pass Element) → Came (e u.number) q r h → Drained G.limits s budget record { pass = q; resident = r; hand = h; act = Done.None } to
       → DrainsFrom T (number p) budget (u.found ++ e (number p) ∷ []) (mine p ++ e (number p) ∷ []) to
   drains e budget q r h to came d =
       let at : seen q ≡ u.found ++ e (number p) ∷ [] = came.now_seen ∙ ap (λ (k : ℕ). u.found ++ e k ∷ []) f.same_number in
@@ -218,7 +219,7 @@ module _ {R O : Type 0} (stands : R → Blocks → Type 0) (limits : R → Limit
         most = omega (arith, d.most, count, came.none_fed);
         full = λ leave some. let all = d.full leave some in omega (arith, all, count, came.none_fed);
         spent =
-            let fed : fed_so_far limits s record { pass = q; resident = r; hand = h; act = Done.None } + budget ≡ feed_count (done T (u.found ++ e (number p) ∷ [])) + budget = omega (arith, count, came.none_fed) in
+            let fed : fed_so_far G.limits s record { pass = q; resident = r; hand = h; act = Done.None } + budget ≡ feed_count (done T (u.found ++ e (number p) ∷ [])) + budget = omega (arith, count, came.none_fed) in
             subst (λ (H : List Element). StaysBelow T (number p) (feed_count (done T (u.found ++ e (number p) ∷ [])) + budget) H (d.between ++ plain d.last ∷ [])) at
             (subst (λ (k : ℕ). StaysBelow T k (feed_count (done T (u.found ++ e (number p) ∷ [])) + budget) (seen q) (d.between ++ plain d.last ∷ [])) came.same
             (subst (λ (n : ℕ). StaysBelow T (number q) n (seen q) (d.between ++ plain d.last ∷ [])) fed d.spent));

@@ -2,6 +2,7 @@
 use Rattle.std.proofs.Common.{◌≡◌, ℕ, ◌+◌, ◌<◌, ◌≤◌, inl, inr, Bool, true, false, if◌then◌else◌, List, [], ◌∷◌, ◌++◌, length, slice_index, refl, ap, sym, ◌∙◌, subst, arith}
 use Rattle.turn_gate.specs.Passes.{IsPassOf, mine, number, seen}
 use Rattle.turn_gate.specs.declared.pass.Pass.{Pass}
+use Rattle.perimeter_core.specs.declared.resident.Resident.{Ghosts}
 use Rattle.perimeter_core.specs.declared.marks.SynchAct.{SynchAct}
 use Rattle.perimeter_core.specs.declared.marks.SynchAct.TheVariants as Done
 use Rattle.perimeter_core.specs.Blocks.{Blocks}
@@ -26,35 +27,35 @@ use Rattle.conn_migrate.specs.Moving.{Moved}
 use Rattle.conn_migrate.proofs.OwnMarks.{asks_away, asks_called}
 use Rattle.squeue_rings.specs.Calling.{CallerAt, HasTried, MayMake, MayTry, TriesAt, asks_for, is_done}
 
-module _ {R O : Type 0} (stands : R → Blocks → Type 0) (limits : R → Limits) (size : R → ℕ) (origin : R → O) (s : Named R) (c j k : ℕ) (from : Pass Element) (o : Owner R) (try : MayTry limits s c j k from) (at : StandsAtItsAsk stands limits size origin s [] o × (o.act ≡ Done.None)) (came : CameFor limits s c from o.pass) where
-  pub may_call : MayCall stands limits size origin s c j k o
+module _ {R P O : Type 0} (G : Ghosts R P O) (s : Named R) (c j k : ℕ) (from : Pass Element) (o : Owner R) (try : MayTry G.limits s c j k from) (at : StandsAtItsAsk G s [] o × (o.act ≡ Done.None)) (came : CameFor G.limits s c from o.pass) where
+  pub may_call : MayCall G s c j k o
   may_call = record { stands_at = at.0; no_act = at.1; thread = came.0.goes_on.same_number ∙ try.thread; exists = try.exists }
 
-  module _ (n : Owner R) (to : Pass Element) (pass : n.pass ≡ o.pass) (hand : n.hand ≡ o.hand) (goes : GoesOn limits s n.pass to) (idle : Idle (run (setting_of limits s.given) (seen to)) (number n.pass)) (left : Added limits s n.pass (gone_by (number n.pass) (length n.hand.left) n.act []) to) (none : n.hand.left ≡ []) where
-    came_now : CameFor limits s c from n.pass
-    came_now = subst (λ (q : Pass Element). CameFor limits s c from q) (sym pass) came
+  module _ (n : Owner R) (to : Pass Element) (pass : n.pass ≡ o.pass) (hand : n.hand ≡ o.hand) (goes : GoesOn G.limits s n.pass to) (idle : Idle (run (setting_of G.limits s.given) (seen to)) (number n.pass)) (left : Added G.limits s n.pass (gone_by (number n.pass) (length n.hand.left) n.act []) to) (none : n.hand.left ≡ []) where
+    came_now : CameFor G.limits s c from n.pass
+    came_now = subst (λ (q : Pass Element). CameFor G.limits s c from q) (sym pass) came
 
     same : number n.pass ≡ number from
     same = came_now.0.goes_on.same_number
 
-    made : (act : SynchAct) → n.act ≡ act → Moved limits s act [] from to
+    made : (act : SynchAct) → n.act ≡ act → Moved G.limits s act [] from to
     made act did =
         record {
           goes_on = record { is_pass = goes.is_pass; same_number = goes.same_number ∙ same; grows = begins_trans (seen from) (seen n.pass) (seen to) came_now.0.goes_on.grows goes.grows; legal = goes.legal };
-          idle = subst (λ (p : ℕ). Idle (run (setting_of limits s.given) (seen to)) p) same idle;
+          idle = subst (λ (p : ℕ). Idle (run (setting_of G.limits s.given) (seen to)) p) same idle;
           owner = n.pass;
           came = came_now.0;
-          left = subst (λ (e : Element). Added limits s n.pass e to) (gone_with_nothing (number n.pass) (number from) n.hand.left n.act act [] same none did) left;
+          left = subst (λ (e : Element). Added G.limits s n.pass e to) (gone_with_nothing (number n.pass) (number from) n.hand.left n.act act [] same none did) left;
         }
 
-    pub tried : (called : Called) (b : Bool) → b ≡ is_done called → HasCalled stands limits size origin s c j k o n called → HasTried limits s b c j k from to
+    pub tried : (called : Called) (b : Bool) → b ≡ is_done called → HasCalled G s c j k o n called → HasTried G.limits s b c j k from to
     unfolding made came_now
-    tried Called'.Done b e h = subst (λ (b : Bool). HasTried limits s b c j k from to) (sym e) (made (Done.Call c j k) h.answers.1)
+    tried Called'.Done b e h = subst (λ (b : Bool). HasTried G.limits s b c j k from to) (sym e) (made (Done.Call c j k) h.answers.1)
     tried Called'.Elsewhere b e h =
-        subst (λ (b : Bool). HasTried limits s b c j k from to) (sym e)
+        subst (λ (b : Bool). HasTried G.limits s b c j k from to) (sym e)
         (inr (record {
           moved = made Done.Away h.answers.1;
-          gone = (subst (λ (q : Pass Element). (came : CameFor limits s c from q) → Called'.Elsewhere ≡ Called'.Elsewhere → 0 < times_left c came.0.behind.since) (sym pass) (h.gone from)) came_now refl;
+          gone = (subst (λ (q : Pass Element). (came : CameFor G.limits s c from q) → Called'.Elsewhere ≡ Called'.Elsewhere → 0 < times_left c came.0.behind.since) (sym pass) (h.gone from)) came_now refl;
         }))
 
 times_more : (c : ℕ) (xs ys : List Element) → times_left c (xs ++ ys) ≡ times_left c xs + times_left c ys

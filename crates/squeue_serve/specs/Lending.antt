@@ -2,6 +2,7 @@
 use Rattle.std.specs.Prelude.{◌≡◌, ◌≢◌, ℕ, ◌+◌, ◌<◌, ◌≤◌, ◌==◌, if◌then◌else◌, Bool, All, Option, Some, List, [], ◌∷◌, ◌++◌, Vec, length, map, slice_get, slice_index_or, vec_capacity}
 use Rattle.turn_gate.specs.History.{Each}
 use Rattle.turn_gate.specs.declared.pass.Pass.{Pass}
+use Rattle.perimeter_core.specs.declared.resident.Resident.{Ghosts}
 use Rattle.perimeter_core.specs.History.{Element, Limits}
 use Rattle.perimeter_core.specs.Blocks.{Blocks, peri}
 use Rattle.squeue_state.specs.Told.{Traced, marks_of}
@@ -57,12 +58,12 @@ IsRoomFor n v = (v.items ≡ []) × (n ≤ vec_capacity v)
 
 -- The squeue ended: all its passes came back, its end is that of its setting, each pass has seen a beginning of its history and
 -- made what there carries its number, and the resident stands for what the history did
-pub record HasCome {R O : Type 0} (stands : R → Blocks → Type 0) (limits : R → Limits) (size : R → ℕ) (origin : R → O) (front count q : ℕ) (s : Named R) (having without : ℕ → List (Option (Pass Element))) (r : R) (e : Ending) (t : Traced) : Type 0 where
+pub record HasCome {R P O : Type 0} (G : Ghosts R P O) (front count q : ℕ) (s : Named R) (having without : ℕ → List (Option (Pass Element))) (r : R) (e : Ending) (t : Traced) : Type 0 where
   pub passes : List (Pass Element)
   pub handed : AreHanded front count q passes without having
   pub its_number : e.number ≡ s.given.number
-  pub its_setting : e.setting ≡ setting_of limits s.given
+  pub its_setting : e.setting ≡ setting_of G.limits s.given
   pub ended : HasEnded e
   pub knows : Each (Knows e.history) passes
-  pub resident : IsPeri stands limits size origin s.given r (peri (setting_of limits s.given) e.history)
+  pub resident : IsPeri G s.given r (peri (setting_of G.limits s.given) e.history)
   pub trace : marks_of t ≡ (if s.given.traced then map (λ m. m.mark) e.history else [])

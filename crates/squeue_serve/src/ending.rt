@@ -119,7 +119,7 @@ pub fn end_last<R: Resident, T>(
     requires rooms { (length squeues.old.rooms.items ≡ length squeues.old.all.items) × All (IsRoomFor (count + 1)) squeues.old.rooms.items }
     ensures none { IfNone result (squeues.new.all.items ≡ []) }
     ensures same { IfNone result ((squeues.old.all.items ≡ []) × (jobs.new.items ≡ jobs.old.items)) }
-    ensures some { IfSome result (λ r. (s : Named R) × (squeues.old.all.items ≡ squeues.new.all.items ++ s ∷ []) × HasCome R.stands R.limits R.size R.origin front count (length squeues.new.all.items) s (lent_to jobs.old.items) (lent_to jobs.new.items) r.0 r.1 r.2) }
+    ensures some { IfSome result (λ r. (s : Named R) × (squeues.old.all.items ≡ squeues.new.all.items ++ s ∷ []) × HasCome R.Resident front count (length squeues.new.all.items) s (lent_to jobs.old.items) (lent_to jobs.new.items) r.0 r.1 r.2) }
     ensures rooms { (length squeues.new.rooms.items ≡ length squeues.new.all.items) × All (IsRoomFor (count + 1)) squeues.new.rooms.items }
     ensures tasks { tasks_in jobs.new.items ≡ tasks_in jobs.old.items }
 {

@@ -1,6 +1,7 @@
 -- A history's length stays below the count's bound.
 use Rattle.std.proofs.Common.{◌≡◌, ◌+◌, ◌^◌, ◌<◌, ◌≤◌, ℕ, List, [], ◌∷◌, ◌++◌, length, length-append, arith, zero, suc, refl, ap, sym, ◌∙◌, false, add-one}
 use Rattle.std.specs.Prelude.{replicate}
+use Rattle.perimeter_core.specs.declared.resident.Resident.{Ghosts}
 use Rattle.perimeter_core.specs.History.{Element, Limits, start, run}
 use Rattle.perimeter_core.specs.Deeds.{entries}
 use Rattle.perimeter_core.specs.Legal.{May}
@@ -15,10 +16,10 @@ use Rattle.squeue_state.specs.Naming.{Given, setting_of}
 use Rattle.squeue_state.specs.Behind.{Behind, room_of}
 use Rattle.squeue_state.specs.Elements.{filled, claimed, claimed_ask, asked}
 
-module _ {R O : Type 0} (stands : R → Blocks → Type 0) (limits : R → Limits) (size : R → ℕ) (origin : R → O) where
-  pub counts : (g : Given R) (i : Inner R) (H : List Element) (e : Element) → Behind stands limits size origin g i (H ++ e ∷ []) → length H < 2 ^ 63
+module _ {R P O : Type 0} (G : Ghosts R P O) where
+  pub counts : (g : Given R) (i : Inner R) (H : List Element) (e : Element) → Behind G g i (H ++ e ∷ []) → length H < 2 ^ 63
   counts g i H e b =
-      let l = length_bounded (setting_of limits g) (H ++ e ∷ []) b.legal in
+      let l = length_bounded (setting_of G.limits g) (H ++ e ∷ []) b.legal in
       let few = b.few.0 in
       let small = b.few.1 in
       let one = length-append H (e ∷ []) in
@@ -36,11 +37,11 @@ entries-length : (fs : List Feed) → length (entries fs) ≡ length fs
 entries-length [] = refl
 entries-length (f ∷ fs) = ap (λ (n : ℕ). suc n) (entries-length fs)
 
-module _ {R O : Type 0} (stands : R → Blocks → Type 0) (limits : R → Limits) (size : R → ℕ) (origin : R → O) where
+module _ {R P O : Type 0} (G : Ghosts R P O) where
   -- what is filled fits beside what is queued
-  pub fill_fits : (g : Given R) (i : Inner R) (H : List Element) (p : ℕ) (es : List Feed) → Behind stands limits size origin g i H → May (setting_of limits g) H (filled p es) → length (run (setting_of limits g) H).chain + length es ≤ room_of g.quotas
+  pub fill_fits : (g : Given R) (i : Inner R) (H : List Element) (p : ℕ) (es : List Feed) → Behind G g i H → May (setting_of G.limits g) H (filled p es) → length (run (setting_of G.limits g) H).chain + length es ≤ room_of g.quotas
   fill_fits g i H p es b m =
-      let S = setting_of limits g in
+      let S = setting_of G.limits g in
       let e = filled p es in
       let fits = queued_fits S (H ++ e ∷ []) (legal_more S H e b.legal m) in
       let s = run_push (start S) H e in
@@ -49,34 +50,34 @@ module _ {R O : Type 0} (stands : R → Blocks → Type 0) (limits : R → Limit
       omega (arith, hand, chain, entries-length es, length-append (run S (H ++ e ∷ [])).hand (run S (H ++ e ∷ [])).chain, length-append (run S H).chain (entries es))
 
   -- what is left of the hand fits before the chain
-  pub left_fits : (g : Given R) (i : Inner R) (H : List Element) → Behind stands limits size origin g i H → length (run (setting_of limits g) H).hand + length (run (setting_of limits g) H).chain ≤ room_of g.quotas
-  left_fits g i H b = let S = setting_of limits g in omega (arith, queued_fits S H b.legal, length-append (run S H).hand (run S H).chain)
+  pub left_fits : (g : Given R) (i : Inner R) (H : List Element) → Behind G g i H → length (run (setting_of G.limits g) H).hand + length (run (setting_of G.limits g) H).chain ≤ room_of g.quotas
+  left_fits g i H b = let S = setting_of G.limits g in omega (arith, queued_fits S H b.legal, length-append (run S H).hand (run S H).chain)
 
   -- so does what is claimed, behind what is queued
-  pub claim_fits : (g : Given R) (i : Inner R) (H : List Element) (p : ℕ) (es : List Feed) → Behind stands limits size origin g i H → May (setting_of limits g) H (claimed p es) → length (run (setting_of limits g) H).chain + length es ≤ room_of g.quotas
+  pub claim_fits : (g : Given R) (i : Inner R) (H : List Element) (p : ℕ) (es : List Feed) → Behind G g i H → May (setting_of G.limits g) H (claimed p es) → length (run (setting_of G.limits g) H).chain + length es ≤ room_of g.quotas
   claim_fits g i H p es b m =
-      let S = setting_of limits g in
+      let S = setting_of G.limits g in
       let e = claimed p es in
       let fits = queued_fits S (H ++ e ∷ []) (legal_more S H e b.legal m) in
       let hand = ap (λ t. length t.hand) (run_push (start S) H e) in
       omega (arith, hand, entries-length es, length-append (run S (H ++ e ∷ [])).hand (run S (H ++ e ∷ [])).chain, length-append (run S H).chain (entries es))
 
-  pub claim_ask_fits : (g : Given R) (i : Inner R) (H : List Element) (p : ℕ) → Behind stands limits size origin g i H → May (setting_of limits g) H (claimed_ask p) → length (run (setting_of limits g) H).chain < room_of g.quotas
+  pub claim_ask_fits : (g : Given R) (i : Inner R) (H : List Element) (p : ℕ) → Behind G g i H → May (setting_of G.limits g) H (claimed_ask p) → length (run (setting_of G.limits g) H).chain < room_of g.quotas
   claim_ask_fits g i H p b m =
-      let S = setting_of limits g in
+      let S = setting_of G.limits g in
       let e = claimed_ask p in
       let fits = queued_fits S (H ++ e ∷ []) (legal_more S H e b.legal m) in
       let hand = ap (λ t. length t.hand) (run_push (start S) H e) in
       omega (arith, hand, length-append (run S (H ++ e ∷ [])).hand (run S (H ++ e ∷ [])).chain, length-append (run S H).chain (Entry'.Ask p ∷ []))
 
-  pub ask_fits : (g : Given R) (i : Inner R) (H : List Element) (p : ℕ) → Behind stands limits size origin g i H → May (setting_of limits g) H (asked p) → length (run (setting_of limits g) H).chain < room_of g.quotas
+  pub ask_fits : (g : Given R) (i : Inner R) (H : List Element) (p : ℕ) → Behind G g i H → May (setting_of G.limits g) H (asked p) → length (run (setting_of G.limits g) H).chain < room_of g.quotas
   ask_fits g i H p b m =
-      let S = setting_of limits g in
+      let S = setting_of G.limits g in
       let e = asked p in
       let fits = queued_fits S (H ++ e ∷ []) (legal_more S H e b.legal m) in
       let chain = ap (λ t. length t.chain) (run_push (start S) H e) in
       omega (arith, chain, length-append (run S (H ++ e ∷ [])).hand (run S (H ++ e ∷ [])).chain, length-append (run S H).chain (Entry'.Ask p ∷ []))
 
   -- a hand is short
-  pub few_hand : (g : Given R) (i : Inner R) (H : List Element) → Behind stands limits size origin g i H → length (run (setting_of limits g) H).hand < 2 ^ 31
+  pub few_hand : (g : Given R) (i : Inner R) (H : List Element) → Behind G g i H → length (run (setting_of G.limits g) H).hand < 2 ^ 31
   few_hand g i H b = let few = b.few in let fits = left_fits g i H b in omega (arith, fits, few.1, few.2)

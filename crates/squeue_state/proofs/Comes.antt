@@ -5,6 +5,7 @@ use Rattle.turn_gate.specs.Rule.{Holds, IsFree}
 use Rattle.turn_gate.specs.declared.kept.Kept.{Kept}
 use Rattle.turn_gate.specs.declared.views.View.{View}
 use Rattle.turn_gate.proofs.Keeps.{whole_of_free}
+use Rattle.perimeter_core.specs.declared.resident.Resident.{Ghosts}
 use Rattle.perimeter_core.specs.declared.marks.Own.{Own}
 use Rattle.perimeter_core.specs.declared.marks.Own.TheVariants.{Free, Out, Granted}
 use Rattle.perimeter_core.specs.History.{Element, Limits, run}
@@ -23,16 +24,16 @@ by_owner Free W free = inr (inr (free refl))
 by_owner (Out p) W free = inl (p, refl)
 by_owner (Granted p) W free = inr (inl (p, refl))
 
-module _ {R O : Type 0} (stands : R → Blocks → Type 0) (limits : R → Limits) (size : R → ℕ) (origin : R → O) where
-  comes : (g : Given R) (i : Inner R) (H : List Element) → Behind stands limits size origin g i H → SomebodyComes i
+module _ {R P O : Type 0} (G : Ghosts R P O) where
+  comes : (g : Given R) (i : Inner R) (H : List Element) → Behind G g i H → SomebodyComes i
   comes g i H b some =
-      let S = setting_of limits g in
+      let S = setting_of G.limits g in
       let w : WakeKept (run S H) = wake_of_sound (run S H) (sound S H b.legal) in
       by_owner i.own (i.wake ≡ true) (λ free. b.wake ∙ w.wake.1 (sym b.own ∙ free, λ none. some (b.chain ∙ none)))
 
-  pub lies_whole : (f : Guarded R) (n : ℕ) (s : State (Option (Kept (Guarded R))) (View Element)) → Holds (StandsFor stands limits size origin f) number_of n s → IsFree s → LiesWhole stands limits size origin f s
+  pub lies_whole : (f : Guarded R) (n : ℕ) (s : State (Option (Kept (Guarded R))) (View Element)) → Holds (StandsFor G f) number_of n s → IsFree s → LiesWhole G f s
   lies_whole f n s h free =
-      let w = whole_of_free (StandsFor stands limits size origin f) number_of n s h free in
+      let w = whole_of_free (StandsFor G f) number_of n s h free in
       record {
         kept = w.value.0;
         home = w.value.1;

@@ -5,6 +5,7 @@ use Rattle.std.proofs.lemmas.Bool.{cases_eq, eq-eqb, ne_eqb}
 use Rattle.turn_gate.specs.History.{Begins, Each, Has}
 use Rattle.turn_gate.specs.Passes.{number, seen}
 use Rattle.turn_gate.specs.declared.pass.Pass.{Pass}
+use Rattle.perimeter_core.specs.declared.resident.Resident.{Ghosts}
 use Rattle.perimeter_core.specs.declared.marks.Own.TheVariants.{Free}
 use Rattle.perimeter_core.specs.History.{Element, Setting, Limits, run}
 use Rattle.perimeter_core.specs.Legal.{Legal}
@@ -40,33 +41,33 @@ ended_is : (S : Setting) (a story : List Element) → IsOver S (run S a) → Leg
 ended_is S a story end l (([]), e) = e ∙ append-nil a
 ended_is S a story end l ((x ∷ rest), e) = absurd (final S a rest x end (subst (Legal S) e l))
 
-module _ {R O : Type 0} (stands : R → Blocks → Type 0) (limits : R → Limits) (size : R → ℕ) (origin : R → O) where
+module _ {R P O : Type 0} (G : Ghosts R P O) where
   pub record Over (g : Given R) (v : Guarded R) (H : List Element) (ps : List (Pass Element)) : Type 0 where
-    pub legal : Legal (setting_of limits g) H
-    pub ended : IsOver (setting_of limits g) (run (setting_of limits g) H)
+    pub legal : Legal (setting_of G.limits g) H
+    pub ended : IsOver (setting_of G.limits g) (run (setting_of G.limits g) H)
     pub passes : Each (Knows H) ps
-    pub resident : (x : R) × (v.inner.resident ≡ Some x) × IsPeri stands limits size origin g x (peri (setting_of limits g) H)
+    pub resident : (x : R) × (v.inner.resident ≡ Some x) × IsPeri G g x (peri (setting_of G.limits g) H)
     pub trace : marks_of v.trace ≡ (if g.traced then map (λ e. e.mark) H else [])
 
-  pub finished : (t s : Named R) (v : Guarded R) (ps : List (Pass Element)) (story : List Element) → t ≡ s → Has (λ p. number p ≡ length s.given.quotas) ps → Each (HasSeenEnd (setting_of limits s.given)) ps
-      → Behind stands limits size origin t.given v.inner story × Noted t.given v.traced v.trace story → Each (Knows story) ps → Over s.given v (seen_by (length s.given.quotas) ps) ps
+  pub finished : (t s : Named R) (v : Guarded R) (ps : List (Pass Element)) (story : List Element) → t ≡ s → Has (λ p. number p ≡ length s.given.quotas) ps → Each (HasSeenEnd (setting_of G.limits s.given)) ps
+      → Behind G t.given v.inner story × Noted t.given v.traced v.trace story → Each (Knows story) ps → Over s.given v (seen_by (length s.given.quotas) ps) ps
   finished t s v ps story ts has over stood each =
-      let S : Setting = setting_of limits s.given in
+      let S : Setting = setting_of G.limits s.given in
       let w = at_number (λ p. HasSeenEnd S p × Knows story p) (length s.given.quotas) ps has (each_both (HasSeenEnd S) (Knows story) ps over each) in
       let H : List Element = seen_by (length s.given.quotas) ps in
-      let b : Behind stands limits size origin s.given v.inner story = subst (λ (x : Named R). Behind stands limits size origin x.given v.inner story) ts stood.0 in
+      let b : Behind G s.given v.inner story = subst (λ (x : Named R). Behind G x.given v.inner story) ts stood.0 in
       let n : Noted s.given v.traced v.trace story = subst (λ (x : Named R). Noted x.given v.traced v.trace story) ts stood.1 in
       let end : IsOver S (run S (seen w.0)) = w.3.0 w.1 in
       let e : story ≡ H = ended_is S (seen w.0) story end b.legal w.3.1.0 ∙ sym w.2 in
-      let c : Behind stands limits size origin s.given v.inner H = subst (λ (h : List Element). Behind stands limits size origin s.given v.inner h) e b in
+      let c : Behind G s.given v.inner H = subst (λ (h : List Element). Behind G s.given v.inner h) e b in
       let over_now : IsOver S (run S H) = subst (λ (h : List Element). IsOver S (run S h)) (sym w.2) end in
       let free : v.inner.own ≡ Free = c.own ∙ over_now.free in
-      let x = some_free stands limits size origin s.given v.inner.own v.inner.resident (peri S H) c.resident free in
+      let x = some_free G s.given v.inner.own v.inner.resident (peri S H) c.resident free in
       record {
         legal = c.legal;
         ended = over_now;
         passes = subst (λ (h : List Element). Each (Knows h) ps) e each;
-        resident = (x.0, x.1, lies_free stands limits size origin s.given v.inner.own v.inner.resident x.0 (peri S H) c.resident free x.1);
+        resident = (x.0, x.1, lies_free G s.given v.inner.own v.inner.resident x.0 (peri S H) c.resident free x.1);
         trace = n.marks ∙ (ap (λ (b' : Bool). if b' then map (λ (y : Element). y.mark) story else []) n.same ∙ ap (λ (h : List Element). if s.given.traced then map (λ (y : Element). y.mark) h else []) e);
       }
 

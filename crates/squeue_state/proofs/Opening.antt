@@ -2,6 +2,7 @@
 use mathlib.Core.Path.{fun_ext}
 use Rattle.std.proofs.Common.{◌≡◌, ◌+◌, ◌*◌, ◌<◌, ◌≤◌, ◌^◌, if◌then◌else◌, ℕ, Bool, true, false, Option, Some, None, List, [], length, map, get_or, ap, sym, ◌∙◌, subst, refl, arith}
 use Rattle.std.specs.Prelude.{replicate, is_some, vec_capacity}
+use Rattle.perimeter_core.specs.declared.resident.Resident.{Ghosts}
 use Rattle.perimeter_core.specs.declared.entries.Act.{Act}
 use Rattle.perimeter_core.specs.declared.marks.Own.TheVariants.{Free}
 use Rattle.perimeter_core.specs.History.{Limits, all_quotas, feed_quotas}
@@ -27,13 +28,13 @@ both_none : {A : Type 0} (b : Bool) (xs : List A) → (if b then xs else xs) ≡
 both_none true xs = refl
 both_none false xs = refl
 
-module _ {R O : Type 0} (stands : R → Blocks → Type 0) (limits : R → Limits) (size : R → ℕ) (origin : R → O) where
-  pub opens : (g : Given R) (i : Inner R) (r : R) (qs : List (ℕ × ℕ)) → g.quotas ≡ qs → g.first ≡ r → length g.starts ≡ size r → ((blocks : Blocks) (c : ℕ) → stands r blocks → get_or g.starts c false ≡ is_some (blocks c))
-      → StandsEmpty (stands r) → length qs ≤ 63 → feed_quotas qs ≤ 2 ^ 30 → ask_quotas qs ≤ 2 ^ 40
+module _ {R P O : Type 0} (G : Ghosts R P O) where
+  pub opens : (g : Given R) (i : Inner R) (r : R) (qs : List (ℕ × ℕ)) → g.quotas ≡ qs → g.first ≡ r → length g.starts ≡ G.size r → ((blocks : Blocks) (c : ℕ) → G.stands r blocks → get_or g.starts c false ≡ is_some (blocks c))
+      → StandsEmpty (G.stands r) → length qs ≤ 63 → feed_quotas qs ≤ 2 ^ 30 → ask_quotas qs ≤ 2 ^ 40
       → i.own ≡ Free → i.chain.items ≡ [] → i.wake ≡ false → i.polling ≡ false → i.here.items ≡ g.starts → i.closed.items ≡ replicate (length qs + 1) false → i.resident ≡ Some r → HasEmpty (room_of qs) i.spare → room_of qs ≡ vec_capacity i.chain
-      → Behind stands limits size origin g i []
+      → Behind G g i []
   opens g i r qs is first conns here new few feeds asks own chain wake polling flags closed resident spare room =
-      let same = new_blocks limits g new.0 (λ c. here new.0 c new.1) new.2 in
+      let same = new_blocks G.limits g new.0 (λ c. here new.0 c new.1) new.2 in
       record {
         legal = tt;
         own = own;
@@ -42,7 +43,7 @@ module _ {R O : Type 0} (stands : R → Blocks → Type 0) (limits : R → Limit
         polling = polling;
         here = flags;
         closed = closed ∙ ap (λ (q : List (ℕ × ℕ)). replicate (length q + 1) false) (sym is);
-        resident = rw (own, resident) (record { stands_for = subst (stands r) same new.1; same_limits = ap limits (sym first); same_size = sym conns; same_origin = ap origin (sym first) });
+        resident = rw (own, resident) (record { stands_for = subst (G.stands r) same new.1; same_limits = ap G.limits (sym first); same_size = sym conns; same_origin = ap G.origin (sym first) });
         spare = rw own (subst (λ (q : List (ℕ × ℕ)). HasEmpty (room_of q) i.spare) (sym is) spare);
         room = subst (λ (q : List (ℕ × ℕ)). room_of q ≡ vec_capacity i.chain) (sym is) room;
         few = subst (λ (q : List (ℕ × ℕ)). (all_quotas q ≤ 2 ^ 41) × (length q < 64) × (feed_quotas q ≤ 2 ^ 30)) (sym is) (let both = all_both qs in omega (arith, both, feeds, asks), omega (arith, few), feeds);

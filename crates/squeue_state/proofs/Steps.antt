@@ -2,6 +2,7 @@
 use Rattle.std.proofs.Common.{◌≡◌, ℕ, ◌||◌, List, [], ◌∷◌, ◌++◌, ap, sym, ◌∙◌, None, Some, Option, not, Bool, true, false, refl, length, length-set, slice_set, arith}
 use Rattle.std.specs.Prelude.{vec_capacity}
 use Rattle.std.specs.Prelude.{Vec}
+use Rattle.perimeter_core.specs.declared.resident.Resident.{Ghosts}
 use Rattle.perimeter_core.specs.declared.entries.Entry.{Entry}
 use Rattle.perimeter_core.specs.declared.entries.Entry.TheVariants as Entry'
 use Rattle.perimeter_core.specs.declared.entries.Feed.{Feed}
@@ -26,9 +27,9 @@ use Rattle.perimeter_core.specs.Legal.{InRange}
 use Rattle.perimeter_core.specs.History.{conns}
 use Rattle.perimeter_core.specs.declared.marks.Mark.TheVariants as On
 
-module _ {R O : Type 0} (stands : R → Blocks → Type 0) (limits : R → Limits) (size : R → ℕ) (origin : R → O) where
+module _ {R P O : Type 0} (G : Ghosts R P O) where
   -- where a pass is out, the resident isn't here
-  pub none_out : (g : Given R) (o : Own) (p : ℕ) (r : Option R) (blocks : Blocks) → Lies stands limits size origin g o r blocks → o ≡ Out p → r ≡ None
+  pub none_out : (g : Given R) (o : Own) (p : ℕ) (r : Option R) (blocks : Blocks) → Lies G g o r blocks → o ≡ Out p → r ≡ None
   none_out g o p None blocks l out = refl
   none_out g o p (Some x) blocks l out = absurd (rw out at l)
 
@@ -37,18 +38,18 @@ pub no_spare : {A : Type 0} (room : ℕ) (o : Own) (p : ℕ) (s : Option (Vec En
 no_spare room o p None sp out = refl
 no_spare room o p (Some v) sp out = absurd (rw out at sp)
 
-module _ {R O : Type 0} (stands : R → Blocks → Type 0) (limits : R → Limits) (size : R → ℕ) (origin : R → O) (g : Given R) (i j : Inner R) (H : List Element) where
+module _ {R P O : Type 0} (G : Ghosts R P O) (g : Given R) (i j : Inner R) (H : List Element) where
   abbrev S : Setting
-  S = setting_of limits g
+  S = setting_of G.limits g
 
   abbrev B : Inner R → List Element → Type 0
-  B = Behind stands limits size origin g
+  B = Behind G g
 
   -- all but the resident and the buffers follow from the state after the mark
   pub goes_on : (e : Element) → B i H → May S H e
       → j.own ≡ (after (run S H) e.mark).own → j.chain.items ≡ (after (run S H) e.mark).chain → j.wake ≡ (after (run S H) e.mark).wake → j.polling ≡ (after (run S H) e.mark).polling
       → j.here.items ≡ (after (run S H) e.mark).here → j.closed.items ≡ (after (run S H) e.mark).closed
-      → Lies stands limits size origin g j.own j.resident (peri S (H ++ e ∷ [])) → Spare (room_of g.quotas) j.own j.spare → room_of g.quotas ≡ vec_capacity j.chain
+      → Lies G g j.own j.resident (peri S (H ++ e ∷ [])) → Spare (room_of g.quotas) j.own j.spare → room_of g.quotas ≡ vec_capacity j.chain
       → B j (H ++ e ∷ [])
   goes_on e b m own chain wake polling here closed resident spare room =
       let s = sym (run_push (start S) H e) in
@@ -131,7 +132,7 @@ module _ {R O : Type 0} (stands : R → Blocks → Type 0) (limits : R → Limit
   take_behind p b m own chain wake polling here closed resident spare room =
       let out : i.own ≡ Out p = b.own ∙ m.step.0 in
       out_behind (took p) p b m m.step.0 refl refl (own ∙ out) chain (wake ∙ b.wake) (rw b.polling at polling) here closed
-      (resident ∙ none_out stands limits size origin g i.own p i.resident (peri S H) b.resident out) (spare ∙ no_spare (room_of g.quotas) i.own p i.spare b.spare out) room
+      (resident ∙ none_out G g i.own p i.resident (peri S H) b.resident out) (spare ∙ no_spare (room_of g.quotas) i.own p i.spare b.spare out) room
 
   pub ask_behind : (p : ℕ) → B i H → May S H (asked p)
       → j.own ≡ i.own → j.chain.items ≡ i.chain.items ++ Entry'.Ask p ∷ [] → j.wake ≡ i.wake → j.polling ≡ polls (i.chain.items ++ Entry'.Ask p ∷ []) i.polling
@@ -143,7 +144,7 @@ module _ {R O : Type 0} (stands : R → Blocks → Type 0) (limits : R → Limit
       (rw (own, spare) b.spare) room
 
   pub leave_behind : (p rest : ℕ) (act : SynchAct) (note : List Act) (left : List Entry) (r : R)
-      → B i H → left ≡ unprocessed rest (run S H).hand → IsPeri stands limits size origin g r (with_act act note (with_feeds (processed rest (run S H).hand) (peri S H))) → May S H (gone p rest act note)
+      → B i H → left ≡ unprocessed rest (run S H).hand → IsPeri G g r (with_act act note (with_feeds (processed rest (run S H).hand) (peri S H))) → May S H (gone p rest act note)
       → j.own ≡ Free → j.chain.items ≡ left ++ i.chain.items → j.wake ≡ not (is_empty (left ++ i.chain.items)) → j.polling ≡ polls (left ++ i.chain.items) i.polling
       → j.here.items ≡ here_after act i.here.items → j.closed.items ≡ i.closed.items → j.resident ≡ Some r → HasEmpty (room_of g.quotas) j.spare → room_of g.quotas ≡ vec_capacity j.chain
       → B j (H ++ gone p rest act note ∷ [])
@@ -153,7 +154,7 @@ module _ {R O : Type 0} (stands : R → Blocks → Type 0) (limits : R → Limit
       (rw (own, resident, peri_push S H e m) peri_r) (rw own spare) room
 
   pub grant_behind : (p j' rest : ℕ) (left : List Entry) (r : R)
-      → B i H → left ≡ unprocessed rest (run S H).hand → IsPeri stands limits size origin g r (with_feeds (processed rest (run S H).hand) (peri S H)) → May S H (granted p j' rest)
+      → B i H → left ≡ unprocessed rest (run S H).hand → IsPeri G g r (with_feeds (processed rest (run S H).hand) (peri S H)) → May S H (granted p j' rest)
       → j.own ≡ Granted j' → j.chain.items ≡ left ++ i.chain.items → j.wake ≡ i.wake → j.polling ≡ polls (left ++ i.chain.items) i.polling
       → j.here.items ≡ i.here.items → j.closed.items ≡ i.closed.items → j.resident ≡ Some r → HasEmpty (room_of g.quotas) j.spare → room_of g.quotas ≡ vec_capacity j.chain
       → B j (H ++ granted p j' rest ∷ [])

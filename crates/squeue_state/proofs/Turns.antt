@@ -1,5 +1,6 @@
 -- What a call knows of the value that its turn holds.
 use Rattle.std.proofs.Common.{◌≡◌, ◌+◌, arith, ℕ, List, [], ◌∷◌, ◌++◌, ap, sym, ◌∙◌, subst, refl, Some, None, Option}
+use Rattle.perimeter_core.specs.declared.resident.Resident.{Ghosts}
 use Rattle.perimeter_core.specs.declared.marks.Own.{Own}
 use Rattle.perimeter_core.specs.declared.marks.Own.TheVariants.{Free, Granted}
 use Rattle.perimeter_core.specs.History.{Element, Setting, Limits}
@@ -32,47 +33,47 @@ use Rattle.squeue_state.specs.Behind.{StandsFor}
 use Rattle.squeue_state.specs.Words.{named_of}
 use Rattle.squeue_state.specs.Elements.{number_of, fasted, claimed, claimed_ask, accepted, worked}
 
-module _ {R O : Type 0} (stands : R → Blocks → Type 0) (limits : R → Limits) (size : R → ℕ) (origin : R → O) where
+module _ {R P O : Type 0} (G : Ghosts R P O) where
   -- the value that the turn holds
-  pub here : (t : Named R) (h : Held (Guarded R) Kind Element) (u : Turned R) (s : Named R) → IsTurnOf stands limits size origin t h → turned_of t h ≡ u → u.squeue ≡ s
-      → Behind stands limits size origin s.given (held_value h).inner u.found
+  pub here : (t : Named R) (h : Held (Guarded R) Kind Element) (u : Turned R) (s : Named R) → IsTurnOf G t h → turned_of t h ≡ u → u.squeue ≡ s
+      → Behind G s.given (held_value h).inner u.found
   here t h u s inv is sq =
-      subst (λ (x : Named R). Behind stands limits size origin x.given (held_value h).inner u.found) (ap (λ (x : Turned R). x.squeue) is ∙ sq)
-      (subst (λ (x : List Element). Behind stands limits size origin t.given (held_value h).inner x) (ap (λ (x : Turned R). x.found) is) inv.1)
+      subst (λ (x : Named R). Behind G x.given (held_value h).inner u.found) (ap (λ (x : Turned R). x.squeue) is ∙ sq)
+      (subst (λ (x : List Element). Behind G t.given (held_value h).inner x) (ap (λ (x : Turned R). x.found) is) inv.1)
 
   -- the same of a value that was lent from it
-  pub lent : (t : Named R) (h : Held (Guarded R) Kind Element) (u : Turned R) (s : Named R) → IsTurnOf stands limits size origin t h → turned_of t h ≡ u → u.squeue ≡ s → (v : Guarded R) → v ≡ held_value h → Behind stands limits size origin s.given v.inner u.found
-  lent t h u s inv is sq v same = subst (λ (x : Guarded R). Behind stands limits size origin s.given x.inner u.found) (sym same) (here t h u s inv is sq)
+  pub lent : (t : Named R) (h : Held (Guarded R) Kind Element) (u : Turned R) (s : Named R) → IsTurnOf G t h → turned_of t h ≡ u → u.squeue ≡ s → (v : Guarded R) → v ≡ held_value h → Behind G s.given v.inner u.found
+  lent t h u s inv is sq v same = subst (λ (x : Guarded R). Behind G s.given x.inner u.found) (sym same) (here t h u s inv is sq)
 
   -- the marks that it keeps
-  pub noted : (t : Named R) (h : Held (Guarded R) Kind Element) (u : Turned R) (s t' : Named R) → IsTurnOf stands limits size origin t h → turned_of t h ≡ u → u.squeue ≡ s → t' ≡ s → (v : Guarded R) → v ≡ held_value h
+  pub noted : (t : Named R) (h : Held (Guarded R) Kind Element) (u : Turned R) (s t' : Named R) → IsTurnOf G t h → turned_of t h ≡ u → u.squeue ≡ s → t' ≡ s → (v : Guarded R) → v ≡ held_value h
       → Noted t'.given v.traced v.trace (held_seen h)
   noted t h u s t' inv is sq ts v same =
       subst (λ (x : Guarded R). Noted t'.given x.traced x.trace (held_seen h)) (sym same)
       (subst (λ (x : Named R). Noted x.given (held_value h).traced (held_value h).trace (held_seen h)) (ap (λ (x : Turned R). x.squeue) is ∙ (sq ∙ sym ts)) inv.2)
 
   -- the resident that lies in the gate
-  pub lies_free : (g : Given R) (o : Own) (r : Option R) (x : R) (blocks : Blocks) → Lies stands limits size origin g o r blocks → o ≡ Free → r ≡ Some x → IsPeri stands limits size origin g x blocks
+  pub lies_free : (g : Given R) (o : Own) (r : Option R) (x : R) (blocks : Blocks) → Lies G g o r blocks → o ≡ Free → r ≡ Some x → IsPeri G g x blocks
   lies_free g o r x blocks l free is = rw (free, is) at l
 
-  pub lies_granted : (g : Given R) (o : Own) (p : ℕ) (r : Option R) (x : R) (blocks : Blocks) → Lies stands limits size origin g o r blocks → o ≡ Granted p → r ≡ Some x → IsPeri stands limits size origin g x blocks
+  pub lies_granted : (g : Given R) (o : Own) (p : ℕ) (r : Option R) (x : R) (blocks : Blocks) → Lies G g o r blocks → o ≡ Granted p → r ≡ Some x → IsPeri G g x blocks
   lies_granted g o p r x blocks l granted is = rw (granted, is) at l
 
-  pub some_free : (g : Given R) (o : Own) (r : Option R) (blocks : Blocks) → Lies stands limits size origin g o r blocks → o ≡ Free → (x : R) × (r ≡ Some x)
+  pub some_free : (g : Given R) (o : Own) (r : Option R) (blocks : Blocks) → Lies G g o r blocks → o ≡ Free → (x : R) × (r ≡ Some x)
   some_free g o None blocks l free = absurd (rw free at l)
   some_free g o (Some x) blocks l free = (x, refl)
 
   -- the value after the mark, by the turn as it stands behind the gate
   pub ends : (h : Held (Guarded R) Kind Element) (u : Turned R) (t s t' : Named R) → turned_of t h ≡ u → t' ≡ s → (w : Inner R) (e : ℕ → Element)
-      → Behind stands limits size origin s.given w (u.found ++ e u.number ∷ []) → Behind stands limits size origin t'.given w (held_seen h ++ e (held_number h) ∷ [])
+      → Behind G s.given w (u.found ++ e u.number ∷ []) → Behind G t'.given w (held_seen h ++ e (held_number h) ∷ [])
   ends h u t s t' is ts w e b =
-      subst (λ (x : Turned R). Behind stands limits size origin t'.given w (x.found ++ e x.number ∷ [])) (sym is)
-      (subst (λ (x : Named R). Behind stands limits size origin x.given w (u.found ++ e u.number ∷ [])) (sym ts) b)
+      subst (λ (x : Turned R). Behind G t'.given w (x.found ++ e x.number ∷ [])) (sym is)
+      (subst (λ (x : Named R). Behind G x.given w (u.found ++ e u.number ∷ [])) (sym ts) b)
 
   -- the turn of a gate that was taken
-  pub turn_made : (s t : Named R) (G : Gate (Guarded R) Kind Element) (p : Pass Element) (h : Held (Guarded R) Kind Element) → t ≡ s → named_of G ≡ s → Takes (StandsFor stands limits size origin (first_of G)) number_of (gate_id G) p h
-      → IsTurnOf stands limits size origin t h
-  turn_made s t G p h ts gs k = subst (λ (x : Named R). IsTurnOf stands limits size origin x h) (gs ∙ sym ts) (k.0, k.4.0, k.4.1)
+  pub turn_made : (s t : Named R) (gate : Gate (Guarded R) Kind Element) (p : Pass Element) (h : Held (Guarded R) Kind Element) → t ≡ s → named_of gate ≡ s
+      → Takes (StandsFor G (first_of gate)) number_of (gate_id gate) p h → IsTurnOf G t h
+  turn_made s t gate p h ts gs k = subst (λ (x : Named R). IsTurnOf G x h) (gs ∙ sym ts) (k.0, k.4.0, k.4.1)
 
 -- what the release says of the pass, by the turn
 pub marked : {R : Type 0} (t s : Named R) (G : Gate (Guarded R) Kind Element) (h : Held (Guarded R) Kind Element) (u : Turned R) (e : ℕ → Element) (x : Element) (p : Pass Element) → turned_of t h ≡ u → u.squeue ≡ s → named_of G ≡ s → e u.number ≡ x

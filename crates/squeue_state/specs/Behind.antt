@@ -1,6 +1,7 @@
 -- The value behind a gate stands for a legal history.
 use Rattle.std.specs.Prelude.{◌≡◌, ◌<◌, ◌≤◌, ◌+◌, ◌*◌, ◌^◌, ℕ, Bool, if◌then◌else◌, Option, Some, None, List, [], map, length, vec_capacity}
 use Rattle.std.specs.Prelude.{Vec}
+use Rattle.perimeter_core.specs.declared.resident.Resident.{Ghosts}
 use Rattle.perimeter_core.specs.declared.entries.Entry.{Entry}
 use Rattle.perimeter_core.specs.declared.marks.SynchAct.{SynchAct}
 use Rattle.perimeter_core.specs.declared.marks.SynchAct.TheVariants as Done
@@ -37,13 +38,13 @@ given_of v =
 abbrev pub room_of : List (ℕ × ℕ) → ℕ
 room_of qs = feed_quotas qs + (length qs + 1)
 
-module _ {R O : Type 0} (stands : R → Blocks → Type 0) (limits : R → Limits) (size : R → ℕ) (origin : R → O) where
+module _ {R P O : Type 0} (G : Ghosts R P O) where
   -- one of the squeue's residents, which stands for these blocks
   pub record IsPeri (g : Given R) (r : R) (blocks : Blocks) : Type 0 where
-    pub stands_for : stands r blocks
-    pub same_limits : limits r ≡ limits g.first
-    pub same_size : size r ≡ length g.starts
-    pub same_origin : origin r ≡ origin g.first
+    pub stands_for : G.stands r blocks
+    pub same_limits : G.limits r ≡ G.limits g.first
+    pub same_size : G.size r ≡ length g.starts
+    pub same_origin : G.origin r ≡ G.origin g.first
 
   -- the resident lies in the gate unless a pass is out
   abbrev pub Lies : Given R → Own → Option R → Blocks → Type 0
@@ -66,18 +67,18 @@ Spare room (Out p) (Some v) = ⊥
 Spare room Free s = HasEmpty room s
 Spare room (Granted p) s = HasEmpty room s
 
-module _ {R O : Type 0} (stands : R → Blocks → Type 0) (limits : R → Limits) (size : R → ℕ) (origin : R → O) where
+module _ {R P O : Type 0} (G : Ghosts R P O) where
   -- What lies behind the gate stands for the history. The chain has its room of the beginning. The counts are few enough for
   -- what counts marks and entries
   pub record Behind (g : Given R) (i : Inner R) (H : List Element) : Type 0 where
-    pub legal : Legal (setting_of limits g) H
-    pub own : i.own ≡ (run (setting_of limits g) H).own
-    pub chain : i.chain.items ≡ (run (setting_of limits g) H).chain
-    pub wake : i.wake ≡ (run (setting_of limits g) H).wake
-    pub polling : i.polling ≡ (run (setting_of limits g) H).polling
-    pub here : i.here.items ≡ (run (setting_of limits g) H).here
-    pub closed : i.closed.items ≡ (run (setting_of limits g) H).closed
-    pub resident : Lies stands limits size origin g i.own i.resident (peri (setting_of limits g) H)
+    pub legal : Legal (setting_of G.limits g) H
+    pub own : i.own ≡ (run (setting_of G.limits g) H).own
+    pub chain : i.chain.items ≡ (run (setting_of G.limits g) H).chain
+    pub wake : i.wake ≡ (run (setting_of G.limits g) H).wake
+    pub polling : i.polling ≡ (run (setting_of G.limits g) H).polling
+    pub here : i.here.items ≡ (run (setting_of G.limits g) H).here
+    pub closed : i.closed.items ≡ (run (setting_of G.limits g) H).closed
+    pub resident : Lies G g i.own i.resident (peri (setting_of G.limits g) H)
     pub spare : Spare (room_of g.quotas) i.own i.spare
     pub room : room_of g.quotas ≡ vec_capacity i.chain
     pub few : (all_quotas g.quotas ≤ 2 ^ 41) × (length g.quotas < 64) × (feed_quotas g.quotas ≤ 2 ^ 30)
@@ -90,10 +91,10 @@ pub record Noted {R : Type 0} (g : Given R) (traced : Bool) (t : Traced) (H : Li
   pub mark_room : t.mark_room ≡ (if traced then 8 * all_quotas g.quotas + 4 * (length g.quotas + 1) else 0)
   pub entry_room : t.entry_room ≡ (if traced then all_quotas g.quotas else 0)
 
-module _ {R O : Type 0} (stands : R → Blocks → Type 0) (limits : R → Limits) (size : R → ℕ) (origin : R → O) where
+module _ {R P O : Type 0} (G : Ghosts R P O) where
   -- in a gate made with the value f, the value v stands for the history
   abbrev pub StandsFor : Guarded R → Guarded R → List Element → Type 0
-  StandsFor f v H = Behind stands limits size origin (given_of f) v.inner H × Noted (given_of f) v.traced v.trace H
+  StandsFor f v H = Behind G (given_of f) v.inner H × Noted (given_of f) v.traced v.trace H
 
 -- the act's connection has a flag
 abbrev pub ActBelow : ℕ → SynchAct → Type 0

@@ -7,6 +7,7 @@ use Rattle.turn_gate.specs.Gates.{gate_id, first_of}
 use Rattle.turn_gate.specs.declared.pass.Pass.{Pass}
 use Rattle.turn_gate.specs.declared.held.Held.{Held}
 use Rattle.turn_gate.specs.declared.gate.Gate.{Gate}
+use Rattle.perimeter_core.specs.declared.resident.Resident.{Ghosts}
 use Rattle.perimeter_core.specs.declared.entries.Act.{Act}
 use Rattle.perimeter_core.specs.declared.marks.SynchAct.{SynchAct}
 use Rattle.perimeter_core.specs.Perimeter.{processed, unprocessed}
@@ -26,11 +27,11 @@ use Rattle.squeue_state.specs.Elements.{number_of}
 abbrev pub named_of : {R : Type 0} → Gate (Guarded R) Kind Element → Named R
 named_of g = record { gate = gate_id g; given = given_of (first_of g) }
 
-module _ {R O : Type 0} (stands : R → Blocks → Type 0) (limits : R → Limits) (size : R → ℕ) (origin : R → O) where
+module _ {R P O : Type 0} (G : Ghosts R P O) where
   -- the gate of this squeue is held, and its value stands for the history
   abbrev pub IsTurnOf : Named R → Held (Guarded R) Kind Element → Type 0
   IsTurnOf s h =
-      IsHeldOf number_of s.gate h × Behind stands limits size origin s.given (held_value h).inner (held_seen h)
+      IsHeldOf number_of s.gate h × Behind G s.given (held_value h).inner (held_seen h)
       × Noted s.given (held_value h).traced (held_value h).trace (held_seen h)
 
 abbrev pub turned_of : {R : Type 0} → Named R → Held (Guarded R) Kind Element → Turned R

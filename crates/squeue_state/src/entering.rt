@@ -40,7 +40,7 @@ impl<R: Resident> Squeue<R> {
         requires squeue { turn.squeue ≡ self.now }
         requires may { May (setting_of R.limits self.now.given) turn.found (fasted turn.number e) }
         ensures pass { Marked turn (fasted turn.number e) result.0 }
-        ensures resident { IsPeri R.stands R.limits R.size R.origin self.now.given result.1 (peri (setting_of R.limits self.now.given) (seen result.0)) }
+        ensures resident { IsPeri R.Resident self.now.given result.1 (peri (setting_of R.limits self.now.given) (seen result.0)) }
         ensures hand { IsWhole R.limits self.now.given (seen result.0) result.2 }
     {
         let Turn { mut held, of: _ } = turn;
@@ -59,7 +59,7 @@ impl<R: Resident> Squeue<R> {
         requires squeue { turn.squeue ≡ self.now }
         requires may { May (setting_of R.limits self.now.given) turn.found (claimed turn.number es.now) }
         ensures pass { Marked turn (claimed turn.number es.now) result.0 }
-        ensures resident { IsPeri R.stands R.limits R.size R.origin self.now.given result.1 (peri (setting_of R.limits self.now.given) (seen result.0)) }
+        ensures resident { IsPeri R.Resident self.now.given result.1 (peri (setting_of R.limits self.now.given) (seen result.0)) }
         ensures hand { IsWhole R.limits self.now.given (seen result.0) result.2 }
     {
         let Turn { mut held, of: _ } = turn;
@@ -77,7 +77,7 @@ impl<R: Resident> Squeue<R> {
         requires squeue { turn.squeue ≡ self.now }
         requires may { May (setting_of R.limits self.now.given) turn.found (claimed_ask turn.number) }
         ensures pass { Marked turn (claimed_ask turn.number) result.0 }
-        ensures resident { IsPeri R.stands R.limits R.size R.origin self.now.given result.1 (peri (setting_of R.limits self.now.given) (seen result.0)) }
+        ensures resident { IsPeri R.Resident self.now.given result.1 (peri (setting_of R.limits self.now.given) (seen result.0)) }
         ensures hand { IsWhole R.limits self.now.given (seen result.0) result.2 }
     {
         let Turn { mut held, of: _ } = turn;

@@ -39,7 +39,7 @@ impl<R: Resident> Storied for Guarded<R> {
 
     type Element = Event;
 
-    ghost stands = { StandsFor R.stands R.limits R.size R.origin };
+    ghost stands = { StandsFor R.Resident };
 
     ghost number = { number_of };
 }

@@ -15,5 +15,5 @@ use perimeter_core::Resident;
 /// Whenever the gate's lock is free, its value is at home and stands for the whole history; and where something is queued, a
 /// pass is owner, the perimeter is granted, or a wake is recorded.
 pub fn somebody_comes_for_what_is_queued<R: Resident>()
-    ensures { (f : Guarded R) (n : ℕ) (s : State (Option (Kept (Guarded R))) (View Element)) → Holds (StandsFor R.stands R.limits R.size R.origin f) number_of n s → IsFree s → LiesWhole R.stands R.limits R.size R.origin f s }
+    ensures { (f : Guarded R) (n : ℕ) (s : State (Option (Kept (Guarded R))) (View Element)) → Holds (StandsFor R.Resident f) number_of n s → IsFree s → LiesWhole R.Resident f s }
 {}

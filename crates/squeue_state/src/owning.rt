@@ -42,7 +42,7 @@ impl<R: Resident> Squeue<R> {
     pub fn leave<N: Notes>(&self, turn: Turn<R>, resident: R, hand: Hand, act: SynchAct) -> Pass
         requires squeue { turn.squeue ≡ self.now }
         requires hand { IsLeft R.limits self.now.given turn.found hand }
-        requires resident { IsPeri R.stands R.limits R.size R.origin self.now.given resident (peri_left R.limits self.now.given turn.found hand act N.note) }
+        requires resident { IsPeri R.Resident self.now.given resident (peri_left R.limits self.now.given turn.found hand act N.note) }
         requires may { May (setting_of R.limits self.now.given) turn.found (gone turn.number (length hand.left) act N.note) }
         ensures { Marked turn (gone turn.number (length hand.left) act N.note) result }
     {
@@ -63,7 +63,7 @@ impl<R: Resident> Squeue<R> {
         requires squeue { turn.squeue ≡ self.now }
         requires hand { IsLeft R.limits self.now.given turn.found hand }
         requires first { first_entry hand.left ≡ Some (Entry'.Ask (asker hand.left)) }
-        requires resident { IsPeri R.stands R.limits R.size R.origin self.now.given resident (peri_left R.limits self.now.given turn.found hand Done.None []) }
+        requires resident { IsPeri R.Resident self.now.given resident (peri_left R.limits self.now.given turn.found hand Done.None []) }
         requires may { May (setting_of R.limits self.now.given) turn.found (granted turn.number (asker hand.left) (length hand.left - 1)) }
         ensures { Marked turn (granted turn.number (asker hand.left) (length hand.left - 1)) result }
     {
@@ -84,7 +84,7 @@ impl<R: Resident> Squeue<R> {
         requires squeue { turn.squeue ≡ self.now }
         requires may { May (setting_of R.limits self.now.given) turn.found (accepted turn.number) }
         ensures pass { Marked turn (accepted turn.number) result.0 }
-        ensures resident { IsPeri R.stands R.limits R.size R.origin self.now.given result.1 (peri (setting_of R.limits self.now.given) (seen result.0)) }
+        ensures resident { IsPeri R.Resident self.now.given result.1 (peri (setting_of R.limits self.now.given) (seen result.0)) }
         ensures hand { IsWhole R.limits self.now.given (seen result.0) result.2 }
     {
         let Turn { mut held, of: _ } = turn;
@@ -103,7 +103,7 @@ impl<R: Resident> Squeue<R> {
         requires squeue { turn.squeue ≡ self.now }
         requires may { May (setting_of R.limits self.now.given) turn.found (worked turn.number) }
         ensures pass { Marked turn (worked turn.number) result.0 }
-        ensures resident { IsPeri R.stands R.limits R.size R.origin self.now.given result.1 (peri (setting_of R.limits self.now.given) (seen result.0)) }
+        ensures resident { IsPeri R.Resident self.now.given result.1 (peri (setting_of R.limits self.now.given) (seen result.0)) }
         ensures hand { IsWhole R.limits self.now.given (seen result.0) result.2 }
     {
         let Turn { mut held, of: _ } = turn;

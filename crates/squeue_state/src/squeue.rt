@@ -178,7 +178,7 @@ impl<R: Resident> Squeue<R> {
         ensures setting { (result.1.number ≡ self.given.number) × (result.1.setting ≡ setting_of R.limits self.given) }
         ensures ended { HasEnded result.1 }
         ensures passes { Each (Knows result.1.history) passes.items }
-        ensures resident { IsPeri R.stands R.limits R.size R.origin self.given result.0 (peri (setting_of R.limits self.given) result.1.history) }
+        ensures resident { IsPeri R.Resident self.given result.0 (peri (setting_of R.limits self.given) result.1.history) }
         ensures trace { marks_of result.2 ≡ (if self.given.traced then map (λ e. e.mark) result.1.history else []) }
     {
         let ending = ending(&self, &passes);

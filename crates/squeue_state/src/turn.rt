@@ -26,7 +26,7 @@ impl<R: Resident> Model for Turn<R> {
 
     ghost view = { λ t. turned_of t.of.value t.held };
 
-    ghost invariant = { λ t. IsTurnOf R.stands R.limits R.size R.origin t.of.value t.held };
+    ghost invariant = { λ t. IsTurnOf R.Resident t.of.value t.held };
 }
 
 impl<R: Resident> Turn<R> {

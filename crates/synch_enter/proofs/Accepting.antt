@@ -2,6 +2,7 @@
 use Rattle.std.proofs.Common.{◌≡◌, ℕ, ◌<◌, false, inl, List, [], ◌++◌, length, refl, ap, sym, ◌∙◌, subst, arith}
 use Rattle.turn_gate.specs.Passes.{IsPassOf, number, seen}
 use Rattle.turn_gate.specs.declared.pass.Pass.{Pass}
+use Rattle.perimeter_core.specs.declared.resident.Resident.{Ghosts}
 use Rattle.perimeter_core.specs.declared.marks.SynchAct.TheVariants as Done
 use Rattle.perimeter_core.specs.declared.marks.Own.TheVariants.{Out, Granted}
 use Rattle.perimeter_core.specs.declared.marks.Mark.TheVariants as On
@@ -53,17 +54,17 @@ open_at limits s p u is f opened =
     let k = known_since S (seen p) f.goes_on.0 (number p) l (others limits s p u is f) in
     ap (λ (G : List Element). is_closed (run S G) (number p)) f.goes_on.1 ∙ (k.closed ∙ opened)
 
-module _ {R O : Type 0} (stands : R → Blocks → Type 0) (limits : R → Limits) (size : R → ℕ) (origin : R → O) (s : Named R) where
-  pub accepts : (p : Pass Element) (u : Turned R) (q : Pass Element) (r : R) (h : Handed) → Found limits s p u → number p < length s.given.quotas → is_closed (run (setting_of limits s.given) u.found) (number p) ≡ false
-      → May (setting_of limits s.given) u.found (accepted u.number) → Marked u (accepted u.number) q → IsWhole limits s.given (seen q) h → IsPeri stands limits size origin s.given r (peri (setting_of limits s.given) (seen q))
-      → StandsAtItsAsk stands limits size origin s [] record { pass = q; resident = r; hand = h; act = Done.None }
+module _ {R P O : Type 0} (G : Ghosts R P O) (s : Named R) where
+  pub accepts : (p : Pass Element) (u : Turned R) (q : Pass Element) (r : R) (h : Handed) → Found G.limits s p u → number p < length s.given.quotas → is_closed (run (setting_of G.limits s.given) u.found) (number p) ≡ false
+      → May (setting_of G.limits s.given) u.found (accepted u.number) → Marked u (accepted u.number) q → IsWhole G.limits s.given (seen q) h → IsPeri G s.given r (peri (setting_of G.limits s.given) (seen q))
+      → StandsAtItsAsk G s [] record { pass = q; resident = r; hand = h; act = Done.None }
   accepts p u q r h f below opened may m whole is =
-      let S : Setting = setting_of limits s.given in
-      let on = marked_on limits s p q u (accepted u.number) f may m in
+      let S : Setting = setting_of G.limits s.given in
+      let on = marked_on G.limits s p q u (accepted u.number) f may m in
       let state : run S (seen q) ≡ after (run S u.found) (On.Accept u.number) = ap (run S) m.now_seen ∙ run_push (start S) u.found (accepted u.number) in
       let none : (run S (seen q)).hand ≡ [] = ap (λ (t : State). t.hand) state in
       record {
-        owns = (fresh stands limits size origin s q r h on.is_pass on.legal (ap (λ (t : State). t.own) state ∙ ap Out (sym m.same_number)) whole is).owns;
+        owns = (fresh G s q r h on.is_pass on.legal (ap (λ (t : State). t.own) state ∙ ap Out (sym m.same_number)) whole is).owns;
         no_worker = subst (λ (k : ℕ). k < length s.given.quotas) (sym on.same_number) below;
         open_pass = ap (λ (t : State). is_closed t (number q)) state ∙ (ap (is_closed (run S u.found)) on.same_number ∙ opened);
         left = whole.is_whole ∙ none;

@@ -3,6 +3,7 @@ use Rattle.std.proofs.Common.{◌≡◌, ℕ, ◌<◌, ◌%◌, ◌⊎◌, Bool,
 use Rattle.std.specs.Prelude.{slice_index_or}
 use Rattle.turn_gate.specs.Passes.{number, seen}
 use Rattle.turn_gate.specs.declared.pass.Pass.{Pass}
+use Rattle.perimeter_core.specs.declared.resident.Resident.{Ghosts}
 use Rattle.perimeter_core.specs.declared.entries.Act.{Act}
 use Rattle.perimeter_core.specs.declared.marks.Own.TheVariants.{Out}
 use Rattle.perimeter_core.specs.declared.marks.SynchAct.{SynchAct}
@@ -60,41 +61,41 @@ was_taken limits s c from to came away =
     ∙ (ask_leaves (is_free (run S came.0.found).own) (number from) b.ask b.marks (run S came.0.found) c b.way ∙ came.1) in
     taken_between S H b.since c legal here (ap (λ (G : List Element). is_here (run S G) c) (sym b.now_seen) ∙ away)
 
-module _ {R O : Type 0} (stands : R → Blocks → Type 0) (limits : R → Limits) (size : R → ℕ) (origin : R → O) (s : Named R) (o : Owner R) (is : StandsAtItsAsk stands limits size origin s [] o) (none : o.act ≡ Done.None) where
+module _ {R P O : Type 0} (G : Ghosts R P O) (s : Named R) (o : Owner R) (is : StandsAtItsAsk G s [] o) (none : o.act ≡ Done.None) where
   abbrev S : Setting
-  S = setting_of limits s.given
+  S = setting_of G.limits s.given
 
   -- what the resident stands for
   abbrev pub before : Blocks
-  before = with_feeds (processed_by limits s o) (peri S (seen o.pass))
+  before = with_feeds (processed_by G.limits s o) (peri S (seen o.pass))
 
-  pub stood : stands o.resident (with_feeds (processed_by limits s o) (peri S (seen o.pass)))
-  stood = subst (λ (act : SynchAct). stands o.resident (with_act act [] (with_feeds (processed_by limits s o) (peri S (seen o.pass))))) none is.owns.resident.stands_for
+  pub stood : G.stands o.resident (with_feeds (processed_by G.limits s o) (peri S (seen o.pass)))
+  stood = subst (λ (act : SynchAct). G.stands o.resident (with_act act [] (with_feeds (processed_by G.limits s o) (peri S (seen o.pass))))) none is.owns.resident.stands_for
 
-  pub tells : (c : ℕ) (b : Bool) → ((blocks : Blocks) → stands o.resident blocks → b ≡ is_some (blocks c)) → is_here (state_of limits s o) c ≡ b
-  tells c b told = sym (told (with_feeds (processed_by limits s o) (peri S (seen o.pass))) stood ∙ some_block (is_here (state_of limits s o) c) (acts S (seen o.pass) c) (feed_acts c (processed_by limits s o)))
+  pub tells : (c : ℕ) (b : Bool) → ((blocks : Blocks) → G.stands o.resident blocks → b ≡ is_some (blocks c)) → is_here (state_of G.limits s o) c ≡ b
+  tells c b told = sym (told (with_feeds (processed_by G.limits s o) (peri S (seen o.pass))) stood ∙ some_block (is_here (state_of G.limits s o) c) (acts S (seen o.pass) c) (feed_acts c (processed_by G.limits s o)))
 
-  pub block_here : (c : ℕ) → is_here (state_of limits s o) c ≡ true → with_feeds (processed_by limits s o) (peri S (seen o.pass)) c ≡ Some (acts_at limits s c o)
-  block_here c h = some_here S (seen o.pass) (feed_acts c (processed_by limits s o)) c h
+  pub block_here : (c : ℕ) → is_here (state_of G.limits s o) c ≡ true → with_feeds (processed_by G.limits s o) (peri S (seen o.pass)) c ≡ Some (acts_at G.limits s c o)
+  block_here c h = some_here S (seen o.pass) (feed_acts c (processed_by G.limits s o)) c h
 
-  pub here : (c : ℕ) → is_here (state_of limits s o) c ≡ true → Here (stands o.resident) c
-  here c h = record { blocks = with_feeds (processed_by limits s o) (peri S (seen o.pass)); had = acts_at limits s c o; stands = stood; here = block_here c h }
+  pub here : (c : ℕ) → is_here (state_of G.limits s o) c ≡ true → Here (G.stands o.resident) c
+  here c h = record { blocks = with_feeds (processed_by G.limits s o) (peri S (seen o.pass)); had = acts_at G.limits s c o; stands = stood; here = block_here c h }
 
-  pub not_here : (c : ℕ) → is_here (state_of limits s o) c ≡ false → NotHere (stands o.resident) c
+  pub not_here : (c : ℕ) → is_here (state_of G.limits s o) c ≡ false → NotHere (G.stands o.resident) c
   not_here c h =
       record {
-        blocks = with_feeds (processed_by limits s o) (peri S (seen o.pass));
+        blocks = with_feeds (processed_by G.limits s o) (peri S (seen o.pass));
         stands = stood;
-        away = none_here S (seen o.pass) (feed_acts c (processed_by limits s o)) c h;
+        away = none_here S (seen o.pass) (feed_acts c (processed_by G.limits s o)) c h;
       }
 
   -- the resident's connections are the squeue's
-  pub in_range : (c : ℕ) → c < length s.given.starts → c < size o.resident
+  pub in_range : (c : ℕ) → c < length s.given.starts → c < G.size o.resident
   in_range c h = subst (λ (k : ℕ). c < k) (sym is.owns.resident.same_size) h
 
-  pub acted : (act : SynchAct) (note : List Act) (r : R) → stands r (with_act act note (with_feeds (processed_by limits s o) (peri S (seen o.pass)))) → limits r ≡ limits o.resident → size r ≡ size o.resident → origin r ≡ origin o.resident
-      → ActInRange S act → ActFits S (seen o.pass) (state_of limits s o) (number o.pass) (state_of limits s o).chain act → NoteFits (On.Leave (number o.pass) 0 act) note
-      → StandsAtItsAsk stands limits size origin s note record o { resident = r; act = act }
+  pub acted : (act : SynchAct) (note : List Act) (r : R) → G.stands r (with_act act note (with_feeds (processed_by G.limits s o) (peri S (seen o.pass)))) → G.limits r ≡ G.limits o.resident → G.size r ≡ G.size o.resident → G.origin r ≡ G.origin o.resident
+      → ActInRange S act → ActFits S (seen o.pass) (state_of G.limits s o) (number o.pass) (state_of G.limits s o).chain act → NoteFits (On.Leave (number o.pass) 0 act) note
+      → StandsAtItsAsk G s note record o { resident = r; act = act }
   acted act note r new lim sz org range fits note_fits =
       record {
         owns = record {
@@ -120,7 +121,7 @@ module _ {R O : Type 0} (stands : R → Blocks → Type 0) (limits : R → Limit
       }
 
   -- nothing of c is queued behind the Ask of its ring
-  pub none_queued : (c : ℕ) → number o.pass ≡ c % s.given.rings → feeds_of c (state_of limits s o).chain ≡ []
+  pub none_queued : (c : ℕ) → number o.pass ≡ c % s.given.rings → feeds_of c (state_of G.limits s o).chain ≡ []
   none_queued c ring =
       nothing_queued S (seen o.pass) c is.owns.legal (is.owns.own ∙ ap Out ring)
-      (subst (λ (p : ℕ). ((state_of limits s o).hand ≡ []) ⊎ (ends_with_ask p (state_of limits s o).hand ≡ true)) ring is.at_ask)
+      (subst (λ (p : ℕ). ((state_of G.limits s o).hand ≡ []) ⊎ (ends_with_ask p (state_of G.limits s o).hand ≡ true)) ring is.at_ask)

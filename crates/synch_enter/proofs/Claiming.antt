@@ -4,6 +4,7 @@ use Rattle.std.proofs.lemmas.List.{append-nil}
 use Rattle.turn_gate.specs.History.{Begins}
 use Rattle.turn_gate.specs.Passes.{number, seen, mine}
 use Rattle.turn_gate.specs.declared.pass.Pass.{Pass}
+use Rattle.perimeter_core.specs.declared.resident.Resident.{Ghosts}
 use Rattle.perimeter_core.specs.declared.entries.Entry.{Entry}
 use Rattle.perimeter_core.specs.declared.entries.Entry.TheVariants as Entry'
 use Rattle.perimeter_core.specs.declared.marks.SynchAct.{SynchAct}
@@ -86,18 +87,18 @@ pub record HasClaimed {R : Type 0} (limits : R → Limits) (s : Named R) (u : Tu
   pub now_seen : seen q ≡ u.found ++ claimed_ask u.number ∷ []
   pub now_mine : mine q ≡ u.mine ++ claimed_ask u.number ∷ []
 
-module _ {R O : Type 0} (stands : R → Blocks → Type 0) (limits : R → Limits) (size : R → ℕ) (origin : R → O) (s : Named R) where
+module _ {R P O : Type 0} (G : Ghosts R P O) (s : Named R) where
   abbrev S : Setting
-  S = setting_of limits s.given
+  S = setting_of G.limits s.given
 
   state : (u : Turned R) (q : Pass Element) → Marked u (claimed_ask u.number) q → run S (seen q) ≡ after (run S u.found) (On.Claim u.number (Entry'.Ask u.number ∷ []))
   state u q m = ap (run S) m.now_seen ∙ run_push (start S) u.found (claimed_ask u.number)
 
-  pub has_claimed : (u : Turned R) (q : Pass Element) → MayAskAt limits s u → Marked u (claimed_ask u.number) q → HasClaimed limits s u q
+  pub has_claimed : (u : Turned R) (q : Pass Element) → MayAskAt G.limits s u → Marked u (claimed_ask u.number) q → HasClaimed G.limits s u q
   has_claimed u q may m =
       record {
         same_number = m.same_number;
-        no_worker = below_again limits s u may q m.same_number;
+        no_worker = below_again G.limits s u may q m.same_number;
         hand = ap (λ (t : State). t.hand) (state u q m) ∙ ap (λ (k : ℕ). (run S u.found).chain ++ Entry'.Ask k ∷ []) (sym m.same_number);
         lone = ap (λ (k : ℕ). has_ask k (run S u.found).chain) m.same_number ∙ may.idle.not_in_chain;
         open_pass = ap (λ (k : ℕ). is_closed (run S (seen q)) k) m.same_number ∙ (ap (λ (t : State). is_closed t u.number) (state u q m) ∙ may.idle.open_pass);
@@ -105,32 +106,32 @@ module _ {R O : Type 0} (stands : R → Blocks → Type 0) (limits : R → Limit
         now_mine = m.now_mine;
       }
 
-  pub has_claimed_by : (u : Turned R) (q p : Pass Element) → MayAskAt limits s u → Marked u (claimed_ask u.number) q → p ≡ q → HasClaimed limits s u p
-  has_claimed_by u q p may m same = subst (λ (x : Pass Element). HasClaimed limits s u x) (sym same) (has_claimed u q may m)
+  pub has_claimed_by : (u : Turned R) (q p : Pass Element) → MayAskAt G.limits s u → Marked u (claimed_ask u.number) q → p ≡ q → HasClaimed G.limits s u p
+  has_claimed_by u q p may m same = subst (λ (x : Pass Element). HasClaimed G.limits s u x) (sym same) (has_claimed u q may m)
 
-  pub claims : (u : Turned R) (q : Pass Element) (r : R) (h : Handed) → MayAskAt limits s u → (run S u.found).own ≡ Free → Marked u (claimed_ask u.number) q → IsWhole limits s.given (seen q) h
-      → IsPeri stands limits size origin s.given r (peri S (seen q)) → Feeds stands limits size origin s record { pass = q; resident = r; hand = h; act = Done.None }
+  pub claims : (u : Turned R) (q : Pass Element) (r : R) (h : Handed) → MayAskAt G.limits s u → (run S u.found).own ≡ Free → Marked u (claimed_ask u.number) q → IsWhole G.limits s.given (seen q) h
+      → IsPeri G s.given r (peri S (seen q)) → Feeds G s record { pass = q; resident = r; hand = h; act = Done.None }
   claims u q r h may free m whole is =
-      fresh stands limits size origin s q r h (pass_of_squeue limits s u may q m.is_pass)
-      (subst (λ (G : List Element). Legal S G) (sym m.now_seen) (legal_more S u.found (claimed_ask u.number) may.legal (may_claim limits s u may free)))
+      fresh G s q r h (pass_of_squeue G.limits s u may q m.is_pass)
+      (subst (λ (G : List Element). Legal S G) (sym m.now_seen) (legal_more S u.found (claimed_ask u.number) may.legal (may_claim G.limits s u may free)))
       (ap (λ (t : State). t.own) (state u q m) ∙ ap Out (sym m.same_number)) whole is
 
-  module _ (u : Turned R) (o : Owner R) (is : Feeds stands limits size origin s o) (claimed : HasClaimed limits s u o.pass) where
+  module _ (u : Turned R) (o : Owner R) (is : Feeds G s o) (claimed : HasClaimed G.limits s u o.pass) where
     -- what is next is an Ask
     pub next_ask : NoFeedFirst o.hand.left → (j : ℕ) × (rest : List Entry) × (o.hand.left ≡ Entry'.Ask j ∷ rest)
-    next_ask stops = ask_first o.hand.left stops (some_left (number o.pass) (state_of limits s o).hand o.hand.left (run S u.found).chain is.owns.hand.is_left is.feeds claimed.hand)
+    next_ask stops = ask_first o.hand.left stops (some_left (number o.pass) (state_of G.limits s o).hand o.hand.left (run S u.found).chain is.owns.hand.is_left is.feeds claimed.hand)
 
     -- at its own Ask the owner has done what stood ahead of it
-    pub at_own : (rest : List Entry) → o.hand.left ≡ Entry'.Ask (number o.pass) ∷ rest → (h : Handed) → h.left ≡ drop 1 o.hand.left → h.room ≡ o.hand.room → StandsAtItsAsk stands limits size origin s [] record o { hand = h }
+    pub at_own : (rest : List Entry) → o.hand.left ≡ Entry'.Ask (number o.pass) ∷ rest → (h : Handed) → h.left ≡ drop 1 o.hand.left → h.room ≡ o.hand.room → StandsAtItsAsk G s [] record o { hand = h }
     at_own rest ask h left room =
-        let hand : List Entry = (state_of limits s o).hand in
-        let front : List Entry = processed_by limits s o in
-        let one : Passed (state_of limits s o).hand o.hand.left rest (Entry'.Ask (number o.pass)) = passed (state_of limits s o).hand o.hand.left rest (Entry'.Ask (number o.pass)) is.owns.hand.is_left ask in
+        let hand : List Entry = (state_of G.limits s o).hand in
+        let front : List Entry = processed_by G.limits s o in
+        let one : Passed (state_of G.limits s o).hand o.hand.left rest (Entry'.Ask (number o.pass)) = passed (state_of G.limits s o).hand o.hand.left rest (Entry'.Ask (number o.pass)) is.owns.hand.is_left ask in
         let nothing : rest ≡ [] = alone (number o.pass) front (run S u.found).chain rest (sym one.split ∙ claimed.hand) claimed.lone in
         let now : h.left ≡ rest = left ∙ ap (λ (xs : List Entry). drop 1 xs) ask in
-        let more : processed (length h.left) (state_of limits s o).hand ≡ processed_by limits s o ++ Entry'.Ask (number o.pass) ∷ [] = ap (λ (xs : List Entry). processed (length xs) (state_of limits s o).hand) now ∙ one.more in
-        let all : (state_of limits s o).hand ≡ processed_by limits s o ++ Entry'.Ask (number o.pass) ∷ [] = sym (none_left (state_of limits s o).hand rest one.is_left nothing) ∙ one.more in
-        let same : with_feeds (processed (length h.left) (state_of limits s o).hand) (peri S (seen o.pass)) ≡ with_feeds (processed_by limits s o) (peri S (seen o.pass)) =
+        let more : processed (length h.left) (state_of G.limits s o).hand ≡ processed_by G.limits s o ++ Entry'.Ask (number o.pass) ∷ [] = ap (λ (xs : List Entry). processed (length xs) (state_of G.limits s o).hand) now ∙ one.more in
+        let all : (state_of G.limits s o).hand ≡ processed_by G.limits s o ++ Entry'.Ask (number o.pass) ∷ [] = sym (none_left (state_of G.limits s o).hand rest one.is_left nothing) ∙ one.more in
+        let same : with_feeds (processed (length h.left) (state_of G.limits s o).hand) (peri S (seen o.pass)) ≡ with_feeds (processed_by G.limits s o) (peri S (seen o.pass)) =
         ap (λ (xs : List Entry). with_feeds xs (peri S (seen o.pass))) more ∙ with_ask front (number o.pass) (peri S (seen o.pass)) in
         record {
           owns = record {
@@ -138,11 +139,11 @@ module _ {R O : Type 0} (stands : R → Blocks → Type 0) (limits : R → Limit
             legal = is.owns.legal;
             own = is.owns.own;
             hand = record {
-              is_left = subst (λ (xs : List Entry). xs ≡ unprocessed (length xs) (state_of limits s o).hand) (sym now) one.is_left;
+              is_left = subst (λ (xs : List Entry). xs ≡ unprocessed (length xs) (state_of G.limits s o).hand) (sym now) one.is_left;
               has_room = subst (λ (k : ℕ). room_of s.given.quotas ≡ k) (sym room) is.owns.hand.has_room;
             };
             resident = record {
-              stands_for = subst (λ (blocks : Blocks). stands o.resident (with_act o.act [] blocks)) (sym same) is.owns.resident.stands_for;
+              stands_for = subst (λ (blocks : Blocks). G.stands o.resident (with_act o.act [] blocks)) (sym same) is.owns.resident.stands_for;
               same_limits = is.owns.resident.same_limits;
               same_size = is.owns.resident.same_size;
               same_origin = is.owns.resident.same_origin;
@@ -169,11 +170,11 @@ module _ {R O : Type 0} (stands : R → Blocks → Type 0) (limits : R → Limit
           way = subst (λ (w : Own). IsWay (is_free w) u.number (claimed_ask u.number) []) (sym free) (refl, inl refl);
         }
 
-    pub open_handed : (q : Pass Element) → HandedOn limits s o q → is_closed (run S (seen q)) (number q) ≡ false
+    pub open_handed : (q : Pass Element) → HandedOn G.limits s o q → is_closed (run S (seen q)) (number q) ≡ false
     open_handed q on = ap (λ (k : ℕ). is_closed (run S (seen q)) k) on.goes_on.same_number ∙ (on.closed ∙ claimed.open_pass)
 
     -- it handed on, and accepted later
-    pub came_handed : (q r : Pass Element) → (run S u.found).own ≡ Free → HandedOn limits s o q → Begins (seen q) (seen r) → mine r ≡ mine q ++ accepted (number q) ∷ [] → CameBehind S u.number u.found u.mine r
+    pub came_handed : (q r : Pass Element) → (run S u.found).own ≡ Free → HandedOn G.limits s o q → Begins (seen q) (seen r) → mine r ≡ mine q ++ accepted (number q) ∷ [] → CameBehind S u.number u.found u.mine r
     came_handed q r free on grows had =
         let same : number o.pass ≡ u.number = claimed.same_number in
         let all = begins_trans (seen o.pass) (seen q) (seen r) on.goes_on.grows grows in
@@ -196,12 +197,12 @@ module _ {R O : Type 0} (stands : R → Blocks → Type 0) (limits : R → Limit
         }
 
   -- an owner that hands the perimeter on
-  module _ (o : Owner R) (u : Turned R) (is : Feeds stands limits size origin s o) (next : AskIsNext o) (f : Found limits s o.pass u) where
-    pub at : AtTurn stands limits size origin s [] o u
-    at = at_turn stands limits size origin s [] o u is.owns f
+  module _ (o : Owner R) (u : Turned R) (is : Feeds G s o) (next : AskIsNext o) (f : Found G.limits s o.pass u) where
+    pub at : AtTurn G s [] o u
+    at = at_turn G s [] o u is.owns f
 
-    pub gives : IsPeri stands limits size origin s.given o.resident (peri_left limits s.given u.found o.hand Done.None [])
-    gives = subst (λ (act : SynchAct). IsPeri stands limits size origin s.given o.resident (peri_left limits s.given u.found o.hand act [])) is.no_act at.resident
+    pub gives : IsPeri G s.given o.resident (peri_left G.limits s.given u.found o.hand Done.None [])
+    gives = subst (λ (act : SynchAct). IsPeri G s.given o.resident (peri_left G.limits s.given u.found o.hand act [])) is.no_act at.resident
 
     pub first : first_entry o.hand.left ≡ Some (Entry'.Ask (asker o.hand.left))
     first = asks next.0 o.hand.left next.1 next.2
@@ -228,13 +229,13 @@ module _ {R O : Type 0} (stands : R → Blocks → Type 0) (limits : R → Limit
     pub grants : May S u.found (granted u.number (asker o.hand.left) (length o.hand.left - 1))
     grants = subst (λ (e : Element). May S u.found e) (sym same_mark) grants_plain
 
-    pub handed : (q : Pass Element) → Marked u (granted u.number (asker o.hand.left) (length o.hand.left - 1)) q → HandedOn limits s o q
+    pub handed : (q : Pass Element) → Marked u (granted u.number (asker o.hand.left) (length o.hand.left - 1)) q → HandedOn G.limits s o q
     handed q m =
         let e : Element = plain (On.Grant u.number next.0 (length next.1)) in
         let state_q : run S (seen q) ≡ after (run S u.found) (On.Grant u.number next.0 (length next.1)) =
         ap (run S) (m.now_seen ∙ ap (λ (x : Element). u.found ++ x ∷ []) same_mark) ∙ run_push (start S) u.found (plain (On.Grant u.number next.0 (length next.1))) in
         record {
-          goes_on = marked_on limits s o.pass q u (granted u.number (asker o.hand.left) (length o.hand.left - 1)) f grants m;
+          goes_on = marked_on G.limits s o.pass q u (granted u.number (asker o.hand.left) (length o.hand.left - 1)) f grants m;
           granted_to = next.0;
           rest = length next.1;
           other = next.3;

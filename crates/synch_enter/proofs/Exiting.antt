@@ -5,6 +5,7 @@ use Rattle.std.specs.Prelude.{slice_index, slice_index_or}
 use Rattle.turn_gate.specs.History.{only as by_number}
 use Rattle.turn_gate.specs.Passes.{IsPassOf, number, seen, mine, steps}
 use Rattle.turn_gate.specs.declared.pass.Pass.{Pass}
+use Rattle.perimeter_core.specs.declared.resident.Resident.{Ghosts}
 use Rattle.perimeter_core.specs.declared.entries.Act.{Act}
 use Rattle.perimeter_core.specs.declared.entries.Entry.{Entry}
 use Rattle.perimeter_core.specs.declared.marks.Own.TheVariants.{Out}
@@ -85,20 +86,20 @@ act_here S H t p c queue act e f = (subst (λ (a : SynchAct). ActFits S H t p qu
 acts_out : (c p rest : ℕ) (t : State) (had : List Act) (act : SynchAct) (note : List Act) → act ≡ Done.Out c → acts_after c t had (gone p rest act note) ≡ had ++ feed_acts c (processed rest t.hand)
 acts_out c p rest t had act note e = rw e (ap (λ (xs : List Act). had ++ xs) (append-nil (feed_acts c (processed rest t.hand))))
 
-module _ {R O : Type 0} (stands : R → Blocks → Type 0) (limits : R → Limits) (size : R → ℕ) (origin : R → O) (s : Named R) (note : List Act) (o : Owner R) (u : Turned R) (is : StandsAtItsAsk stands limits size origin s note o) (f : Found limits s o.pass u) where
+module _ {R P O : Type 0} (G : Ghosts R P O) (s : Named R) (note : List Act) (o : Owner R) (u : Turned R) (is : StandsAtItsAsk G s note o) (f : Found G.limits s o.pass u) where
   abbrev S : Setting
-  S = setting_of limits s.given
+  S = setting_of G.limits s.given
 
-  pub at : AtTurn stands limits size origin s note o u
-  at = at_turn stands limits size origin s note o u is.owns f
+  pub at : AtTurn G s note o u
+  at = at_turn G s note o u is.owns f
 
   none : made_by (number o.pass) f.goes_on.0 ≡ []
-  none = others limits s o.pass u is.owns.pass f
+  none = others G.limits s o.pass u is.owns.pass f
 
   legal : Legal S (seen o.pass ++ f.goes_on.0)
   legal = subst (λ (G : List Element). Legal S G) f.goes_on.1 f.legal
 
-  all : processed (length o.hand.left) (run S u.found).hand ≡ (state_of limits s o).hand
+  all : processed (length o.hand.left) (run S u.found).hand ≡ (state_of G.limits s o).hand
   all = none_left (run S u.found).hand o.hand.left at.left.is_left is.left ∙ at.hand
 
   rest : unprocessed (length o.hand.left) (run S u.found).hand ≡ []
@@ -123,7 +124,7 @@ module _ {R O : Type 0} (stands : R → Blocks → Type 0) (limits : R → Limit
         kind = tt;
         enters = tt;
         quota = quota_kept S u.number u.found (gone u.number (length o.hand.left) o.act note) f.legal refl;
-        asks_last = ap (only_last_ask u.number) all ∙ (ap (λ (k : ℕ). only_last_ask k (state_of limits s o).hand) f.same_number ∙ is.only);
+        asks_last = ap (only_last_ask u.number) all ∙ (ap (λ (k : ℕ). only_last_ask k (state_of G.limits s o).hand) f.same_number ∙ is.only);
         at_its_ask = λ some. ask_at;
         act = fits;
         progress = λ some. subst (λ (k : ℕ). k < length (run S u.found).hand) (sym nothing) (more (run S u.found).hand some);
@@ -138,9 +139,9 @@ module _ {R O : Type 0} (stands : R → Blocks → Type 0) (limits : R → Limit
       ask_at =
           subst (λ (p : ℕ). ((run S u.found).hand ≡ []) ⊎ (ends_with_ask p (processed (length o.hand.left) (run S u.found).hand) ≡ true)) (sym f.same_number)
           (subst (λ (xs : List Entry). ((run S u.found).hand ≡ []) ⊎ (ends_with_ask (number o.pass) xs ≡ true)) (sym all)
-          (subst (λ (xs : List Entry). (xs ≡ []) ⊎ (ends_with_ask (number o.pass) (state_of limits s o).hand ≡ true)) (sym at.hand) is.at_ask))
+          (subst (λ (xs : List Entry). (xs ≡ []) ⊎ (ends_with_ask (number o.pass) (state_of G.limits s o).hand ≡ true)) (sym at.hand) is.at_ask))
 
-  pub left_by : (q : Pass Element) → Marked u (gone u.number (length o.hand.left) o.act note) q → Added limits s o.pass (gone (number o.pass) (length o.hand.left) o.act note) q
+  pub left_by : (q : Pass Element) → Marked u (gone u.number (length o.hand.left) o.act note) q → Added G.limits s o.pass (gone (number o.pass) (length o.hand.left) o.act note) q
   left_by q m =
       let same : gone u.number (length o.hand.left) o.act note ≡ gone (number o.pass) (length o.hand.left) o.act note = ap (λ (k : ℕ). gone k (length o.hand.left) o.act note) f.same_number in
       record {
@@ -172,9 +173,9 @@ module _ {R O : Type 0} (stands : R → Blocks → Type 0) (limits : R → Limit
         not_in_chain = ap (λ (xs : List Entry). has_ask (number o.pass) (xs ++ (run S u.found).chain)) rest ∙ no_ask;
       })
 
-  pub taken_acts : (q : Pass Element) → Marked u (gone u.number (length o.hand.left) o.act note) q → (c : ℕ) → o.act ≡ Done.Out c → acts S (seen q) c ≡ acts_at limits s c o
+  pub taken_acts : (q : Pass Element) → Marked u (gone u.number (length o.hand.left) o.act note) q → (c : ℕ) → o.act ≡ Done.Out c → acts S (seen q) c ≡ acts_at G.limits s c o
   taken_acts q m c out =
-      let here : is_here (state_of limits s o) c ≡ true = act_here S (seen o.pass) (state_of limits s o) (number o.pass) c (state_of limits s o).chain o.act out is.fits in
+      let here : is_here (state_of G.limits s o) c ≡ true = act_here S (seen o.pass) (state_of G.limits s o) (number o.pass) c (state_of G.limits s o).chain o.act out is.fits in
       let same : acts S u.found c ≡ acts S (seen o.pass) c = ap (λ (G : List Element). acts S G c) f.goes_on.1 ∙ acts_same S (seen o.pass) f.goes_on.0 (number o.pass) c legal none is.owns.own here in
       ap (λ (G : List Element). acts S G c) m.now_seen
       ∙ (acts_push c (start S) [] u.found (gone u.number (length o.hand.left) o.act note)

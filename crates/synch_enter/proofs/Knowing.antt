@@ -2,6 +2,7 @@
 use Rattle.std.proofs.Common.{◌≡◌, ℕ, ◌+◌, ◌%◌, ◌<◌, Bool, true, false, if◌then◌else◌, inl, inr, List, [], ◌∷◌, ◌++◌, length, refl, ap, sym, ◌∙◌, subst, arith}
 use Rattle.turn_gate.specs.Passes.{IsPassOf, number, seen, mine}
 use Rattle.turn_gate.specs.declared.pass.Pass.{Pass}
+use Rattle.perimeter_core.specs.declared.resident.Resident.{Ghosts}
 use Rattle.perimeter_core.specs.Perimeter.{is_free, is_here}
 use Rattle.perimeter_core.specs.History.{Element, Setting, Limits, start, run, made_by}
 use Rattle.perimeter_core.specs.Deeds.{puts_in, takes_out, times_left}
@@ -70,27 +71,27 @@ module _ {R : Type 0} (limits : R → Limits) (s : Named R) (from to : Pass Elem
       let was = ap (times_left c) (sym before) ∙ sym (ring_knows S (seen from) c legal).left in
       omega (arith, now, was, left_append c (mine from) (came.behind.ask ∷ came.behind.marks), way.1)
 
-module _ {R O : Type 0} (stands : R → Blocks → Type 0) (limits : R → Limits) (size : R → ℕ) (origin : R → O) (s : Named R) (from : Pass Element) (o : Owner R) (c : ℕ) (may : MayAsk limits s from) (came : Came limits s from o.pass) (at : StandsAtItsAsk stands limits size origin s [] o) (none : o.act ≡ Done.None) (ring : number from ≡ c % s.given.rings) where
+module _ {R P O : Type 0} (G : Ghosts R P O) (s : Named R) (from : Pass Element) (o : Owner R) (c : ℕ) (may : MayAsk G.limits s from) (came : Came G.limits s from o.pass) (at : StandsAtItsAsk G s [] o) (none : o.act ≡ Done.None) (ring : number from ≡ c % s.given.rings) where
   -- so a mover knows before it asks what it may do as owner
-  pub may_take : is_here (run (setting_of limits s.given) (seen from)) c ≡ true → times_left c (seen from) < slice_index (limits s.given.first).leaves c → MayTake stands limits size origin s c o
+  pub may_take : is_here (run (setting_of G.limits s.given) (seen from)) c ≡ true → times_left c (seen from) < slice_index (G.limits s.given.first).leaves c → MayTake G s c o
   may_take here leaves =
       record {
         stands_at = at;
         no_act = none;
         ring = came.goes_on.same_number ∙ ring;
-        here = still_here limits s from o.pass c may.pass came ring ∙ here;
-        leaves = subst (λ (n : ℕ). n < slice_index (limits s.given.first).leaves c) (sym (still_left limits s from o.pass c may.pass came ring)) leaves;
+        here = still_here G.limits s from o.pass c may.pass came ring ∙ here;
+        leaves = subst (λ (n : ℕ). n < slice_index (G.limits s.given.first).leaves c) (sym (still_left G.limits s from o.pass c may.pass came ring)) leaves;
       }
 
-  pub may_put : {P : Type 0} (is_part_of : O → ℕ → P → Type 0) (part : P) → c < length s.given.starts → is_here (run (setting_of limits s.given) (seen from)) c ≡ false → is_part_of (origin s.given.first) c part
-      → MayPut stands limits size origin s is_part_of c part o
-  may_put is_part_of part range away of =
+  pub may_put : (part : P) → c < length s.given.starts → is_here (run (setting_of G.limits s.given) (seen from)) c ≡ false → G.is_part_of (G.origin s.given.first) c part
+      → MayPut G s c part o
+  may_put part range away of =
       record {
         stands_at = at;
         no_act = none;
         ring = came.goes_on.same_number ∙ ring;
         range = range;
-        away = still_here limits s from o.pass c may.pass came ring ∙ away;
+        away = still_here G.limits s from o.pass c may.pass came ring ∙ away;
         part_of = of;
       }
 

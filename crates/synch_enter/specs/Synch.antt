@@ -3,6 +3,7 @@ use Rattle.std.specs.Prelude.{◌≡◌, ◌≢◌, ℕ, ◌%◌, ◌+◌, ◌<�
 use Rattle.turn_gate.specs.History.{Begins}
 use Rattle.turn_gate.specs.Passes.{IsPassOf, number, seen, mine}
 use Rattle.turn_gate.specs.declared.pass.Pass.{Pass}
+use Rattle.perimeter_core.specs.declared.resident.Resident.{Ghosts}
 use Rattle.perimeter_core.specs.declared.entries.Act.{Act}
 use Rattle.perimeter_core.specs.declared.marks.SynchAct.{SynchAct}
 use Rattle.perimeter_core.specs.declared.marks.SynchAct.TheVariants as Done
@@ -37,15 +38,15 @@ pub record MayAskAt {R : Type 0} (limits : R → Limits) (s : Named R) (u : Turn
 
 -- The owner stands at its own Ask: nothing is left of its hand, which is empty, for it came by Accept, or ends with that Ask,
 -- the only one in it. It did at most one act, which its Leave may report with this note
-pub record StandsAtItsAsk {R O : Type 0} (stands : R → Blocks → Type 0) (limits : R → Limits) (size : R → ℕ) (origin : R → O) (s : Named R) (note : List Act) (o : Owner R) : Type 0 where
-  pub owns : Owns stands limits size origin s note o
+pub record StandsAtItsAsk {R P O : Type 0} (G : Ghosts R P O) (s : Named R) (note : List Act) (o : Owner R) : Type 0 where
+  pub owns : Owns G s note o
   pub no_worker : number o.pass < length s.given.quotas
-  pub open_pass : is_closed (state_of limits s o) (number o.pass) ≡ false
+  pub open_pass : is_closed (state_of G.limits s o) (number o.pass) ≡ false
   pub left : o.hand.left ≡ []
-  pub at_ask : ((state_of limits s o).hand ≡ []) ⊎ (ends_with_ask (number o.pass) (state_of limits s o).hand ≡ true)
-  pub only : only_last_ask (number o.pass) (state_of limits s o).hand ≡ true
-  pub range : ActInRange (setting_of limits s.given) o.act
-  pub fits : ActFits (setting_of limits s.given) (seen o.pass) (state_of limits s o) (number o.pass) (state_of limits s o).chain o.act
+  pub at_ask : ((state_of G.limits s o).hand ≡ []) ⊎ (ends_with_ask (number o.pass) (state_of G.limits s o).hand ≡ true)
+  pub only : only_last_ask (number o.pass) (state_of G.limits s o).hand ≡ true
+  pub range : ActInRange (setting_of G.limits s.given) o.act
+  pub fits : ActFits (setting_of G.limits s.given) (seen o.pass) (state_of G.limits s o) (number o.pass) (state_of G.limits s o).chain o.act
   pub note_fits : NoteFits (On.Leave (number o.pass) 0 o.act) note
 
 -- it granted to another pass, whose Ask stood before its own, and accepted
@@ -90,52 +91,52 @@ pub record NotFound {R : Type 0} (limits : R → Limits) (s : Named R) (c : ℕ)
 abbrev pub acts_at : {R : Type 0} → (R → Limits) → Named R → ℕ → Owner R → List Act
 acts_at limits s c o = acts (setting_of limits s.given) (seen o.pass) c ++ feed_acts c (processed_by limits s o)
 
-module _ {R O : Type 0} (stands : R → Blocks → Type 0) (limits : R → Limits) (size : R → ℕ) (origin : R → O) (s : Named R) where
+module _ {R P O : Type 0} (G : Ghosts R P O) (s : Named R) where
   -- The owner did no act, and thread j is its pass's and has such a call
   pub record MayCall (c j k : ℕ) (o : Owner R) : Type 0 where
-    pub stands_at : StandsAtItsAsk stands limits size origin s [] o
+    pub stands_at : StandsAtItsAsk G s [] o
     pub no_act : o.act ≡ Done.None
     pub thread : number o.pass ≡ s.given.rings + j
-    pub exists : Contains (limits s.given.first).calls (c, j, k)
+    pub exists : Contains (G.limits s.given.first).calls (c, j, k)
 
   -- The owner did no act, its pass is that of the ring of c, and c is here and may leave once more
   pub record MayTake (c : ℕ) (o : Owner R) : Type 0 where
-    pub stands_at : StandsAtItsAsk stands limits size origin s [] o
+    pub stands_at : StandsAtItsAsk G s [] o
     pub no_act : o.act ≡ Done.None
     pub ring : number o.pass ≡ c % s.given.rings
-    pub here : is_here (state_of limits s o) c ≡ true
-    pub leaves : times_left c (seen o.pass) < slice_index (limits s.given.first).leaves c
+    pub here : is_here (state_of G.limits s o) c ≡ true
+    pub leaves : times_left c (seen o.pass) < slice_index (G.limits s.given.first).leaves c
 
   -- The owner did no act, its pass is that of the ring of c, c isn't here, and the part is a block of c's
-  pub record MayPut {P : Type 0} (is_part_of : O → ℕ → P → Type 0) (c : ℕ) (part : P) (o : Owner R) : Type 0 where
-    pub stands_at : StandsAtItsAsk stands limits size origin s [] o
+  pub record MayPut (c : ℕ) (part : P) (o : Owner R) : Type 0 where
+    pub stands_at : StandsAtItsAsk G s [] o
     pub no_act : o.act ≡ Done.None
     pub ring : number o.pass ≡ c % s.given.rings
     pub range : c < length s.given.starts
-    pub away : is_here (state_of limits s o) c ≡ false
-    pub part_of : is_part_of (origin s.given.first) c part
+    pub away : is_here (state_of G.limits s o) c ≡ false
+    pub part_of : G.is_part_of (G.origin s.given.first) c part
 
 -- what a call answers, by whether c is here, and which act it then is
 abbrev pub Answers : State → ℕ → ℕ → ℕ → SynchAct → Called → Type 0
 Answers t c j k act Called'.Done = (is_here t c ≡ true) × (act ≡ Done.Call c j k)
 Answers t c j k act Called'.Elsewhere = (is_here t c ≡ false) × (act ≡ Done.Away)
 
-module _ {R O : Type 0} (stands : R → Blocks → Type 0) (limits : R → Limits) (size : R → ℕ) (origin : R → O) (s : Named R) where
+module _ {R P O : Type 0} (G : Ghosts R P O) (s : Named R) where
   -- The call was made where c is here, and nowhere else. Where the pass came when c was here, c is elsewhere only for an Out of
   -- it between the pass's Ask and its turn as owner
   pub record HasCalled (c j k : ℕ) (o next : Owner R) (called : Called) : Type 0 where
-    pub stands_at : StandsAtItsAsk stands limits size origin s [] next
-    pub answers : Answers (state_of limits s o) c j k next.act called
-    pub gone : (from : Pass Element) → (came : CameFor limits s c from o.pass) → called ≡ Called'.Elsewhere → 0 < times_left c came.0.behind.since
+    pub stands_at : StandsAtItsAsk G s [] next
+    pub answers : Answers (state_of G.limits s o) c j k next.act called
+    pub gone : (from : Pass Element) → (came : CameFor G.limits s c from o.pass) → called ≡ Called'.Elsewhere → 0 < times_left c came.0.behind.since
 
   -- The block was taken out, with all acts that were done to it
-  pub record HasTaken {P : Type 0} (part_stands : P → List Act → Type 0) (is_part_of : O → ℕ → P → Type 0) (c : ℕ) (o next : Owner R) (part : P) : Type 0 where
-    pub stands_at : StandsAtItsAsk stands limits size origin s [] next
+  pub record HasTaken (c : ℕ) (o next : Owner R) (part : P) : Type 0 where
+    pub stands_at : StandsAtItsAsk G s [] next
     pub act : next.act ≡ Done.Out c
-    pub part_of : is_part_of (origin s.given.first) c part
-    pub part_had : part_stands part (acts_at limits s c o)
+    pub part_of : G.is_part_of (G.origin s.given.first) c part
+    pub part_had : G.part_stands part (acts_at G.limits s c o)
 
   -- The block was put in, which stands for the note
   pub record HasPut (c : ℕ) (note : List Act) (next : Owner R) : Type 0 where
-    pub stands_at : StandsAtItsAsk stands limits size origin s note next
+    pub stands_at : StandsAtItsAsk G s note next
     pub act : next.act ≡ Done.In c

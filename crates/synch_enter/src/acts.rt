@@ -27,10 +27,10 @@ pub enum Called {
 
 /// Makes call `k` of thread `j` on connection `c`, where its block is here.
 pub fn call<R: Resident>(owner: &mut Owner<R>, alloc: Global, c: u32, j: u32, k: u32) -> Called
-    requires { (s : Named R) × MayCall R.stands R.limits R.size R.origin s c j k owner.old }
+    requires { (s : Named R) × MayCall R.Resident s c j k owner.old }
     ensures pass { owner.new.pass ≡ owner.old.pass }
     ensures hand { owner.new.hand ≡ owner.old.hand }
-    ensures called { (s : Named R) → MayCall R.stands R.limits R.size R.origin s c j k owner.old → HasCalled R.stands R.limits R.size R.origin s c j k owner.old owner.new result }
+    ensures called { (s : Named R) → MayCall R.Resident s c j k owner.old → HasCalled R.Resident s c j k owner.old owner.new result }
 {
     if owner.resident.is_here(c) {
         owner.resident.call(alloc, c, j, k);
@@ -44,10 +44,10 @@ pub fn call<R: Resident>(owner: &mut Owner<R>, alloc: Global, c: u32, j: u32, k:
 
 /// Takes the block of connection `c` out.
 pub fn take_block<R: Resident>(owner: &mut Owner<R>, c: u32) -> R::Part
-    requires { (s : Named R) × MayTake R.stands R.limits R.size R.origin s c owner.old }
+    requires { (s : Named R) × MayTake R.Resident s c owner.old }
     ensures pass { owner.new.pass ≡ owner.old.pass }
     ensures hand { owner.new.hand ≡ owner.old.hand }
-    ensures taken { (s : Named R) → MayTake R.stands R.limits R.size R.origin s c owner.old → HasTaken R.stands R.limits R.size R.origin s R.part_stands R.is_part_of c owner.old owner.new result }
+    ensures taken { (s : Named R) → MayTake R.Resident s c owner.old → HasTaken R.Resident s c owner.old owner.new result }
 {
     owner.act = SynchAct::Out { c };
     owner.resident.take_out(c)
@@ -55,10 +55,10 @@ pub fn take_block<R: Resident>(owner: &mut Owner<R>, c: u32) -> R::Part
 
 /// Puts the block of connection `c` in.
 pub fn put_block<R: Resident>(owner: &mut Owner<R>, c: u32, part: R::Part)
-    requires { (s : Named R) × MayPut R.stands R.limits R.size R.origin s R.is_part_of c part owner.old }
+    requires { (s : Named R) × MayPut R.Resident s c part owner.old }
     ensures pass { owner.new.pass ≡ owner.old.pass }
     ensures hand { owner.new.hand ≡ owner.old.hand }
-    ensures put { (s : Named R) (note : List Act) → MayPut R.stands R.limits R.size R.origin s R.is_part_of c part owner.old → R.part_stands part note → HasPut R.stands R.limits R.size R.origin s c note owner.new }
+    ensures put { (s : Named R) (note : List Act) → MayPut R.Resident s c part owner.old → R.part_stands part note → HasPut R.Resident s c note owner.new }
 {
     owner.act = SynchAct::In { c };
     owner.resident.put_in(c, part);
@@ -66,7 +66,7 @@ pub fn put_block<R: Resident>(owner: &mut Owner<R>, c: u32, part: R::Part)
 
 /// Leaves with the act that was done, and with what is left of the hand. `N` names the note of an `In`.
 pub fn synch_exit<R: Resident, N: Notes, W: Wait>(sq: &Squeue<R>, rt: &W, owner: Owner<R>) -> Pass
-    requires { StandsAtItsAsk R.stands R.limits R.size R.origin sq.now N.note owner }
+    requires { StandsAtItsAsk R.Resident sq.now N.note owner }
     ensures left { Added R.limits sq.now owner.pass (gone (number owner.pass) (length owner.hand.left) owner.act N.note) result }
     ensures goes_on { GoesOn R.limits sq.now owner.pass result }
     ensures idle { Idle (run (setting_of R.limits sq.now.given) (seen result)) (number owner.pass) }

@@ -29,7 +29,7 @@ pub fn synch_enter<R: Resident, H: Hook, W: Wait>(
     pass: Pass,
 ) -> Owner<R>
     requires { MayAsk R.limits sq.now pass }
-    ensures owner { StandsAtItsAsk R.stands R.limits R.size R.origin sq.now [] result }
+    ensures owner { StandsAtItsAsk R.Resident sq.now [] result }
     ensures no_act { result.act ≡ Done.None }
     ensures came { Came R.limits sq.now pass result.pass }
 {
@@ -48,7 +48,7 @@ pub fn synch_try<R: Resident, H: Hook, W: Wait>(
 ) -> Result<Owner<R>, Pass>
     requires may { MayAsk R.limits sq.now pass }
     requires range { c < length sq.now.given.starts }
-    ensures found { MatchResult result (λ o. StandsAtItsAsk R.stands R.limits R.size R.origin sq.now [] o × (o.act ≡ Done.None)) (λ q. NotFound R.limits sq.now c pass q) }
+    ensures found { MatchResult result (λ o. StandsAtItsAsk R.Resident sq.now [] o × (o.act ≡ Done.None)) (λ q. NotFound R.limits sq.now c pass q) }
     ensures came { IfOk result (λ o. CameFor R.limits sq.now c pass o.pass) }
 {
     let turn = sq.turn(rt, pass);
@@ -67,7 +67,7 @@ fn come<R: Resident, H: Hook, W: Wait>(
     turn: Turn<R>,
 ) -> Owner<R>
     requires { MayAskAt R.limits sq.now turn }
-    ensures owner { StandsAtItsAsk R.stands R.limits R.size R.origin sq.now [] result }
+    ensures owner { StandsAtItsAsk R.Resident sq.now [] result }
     ensures no_act { result.act ≡ Done.None }
     ensures number { number result.pass ≡ turn.number }
     ensures came { CameBehind (setting_of R.limits sq.now.given) turn.number turn.found turn.mine result.pass }
@@ -89,7 +89,7 @@ fn claim<R: Resident, H: Hook, W: Wait>(
 ) -> Owner<R>
     requires may { MayAskAt R.limits sq.now turn }
     requires free { (run (setting_of R.limits sq.now.given) turn.found).own ≡ Own'.Free }
-    ensures owner { StandsAtItsAsk R.stands R.limits R.size R.origin sq.now [] result }
+    ensures owner { StandsAtItsAsk R.Resident sq.now [] result }
     ensures no_act { result.act ≡ Done.None }
     ensures number { number result.pass ≡ turn.number }
     ensures came { CameBehind (setting_of R.limits sq.now.given) turn.number turn.found turn.mine result.pass }
@@ -107,7 +107,7 @@ fn claim<R: Resident, H: Hook, W: Wait>(
 
 // Grants to the pass whose Ask is next.
 fn hand_on<R: Resident, W: Wait>(sq: &Squeue<R>, rt: &W, owner: Owner<R>) -> Pass
-    requires feeds { Feeds R.stands R.limits R.size R.origin sq.now owner }
+    requires feeds { Feeds R.Resident sq.now owner }
     requires next { AskIsNext owner }
     ensures { HandedOn R.limits sq.now owner result }
 {
@@ -127,7 +127,7 @@ fn wait_for_grant<R: Resident, W: Wait>(sq: &Squeue<R>, rt: &W, pass: Pass) -> O
     requires pass { IsPassOf number_of sq.now.gate pass }
     requires no_worker { number pass < length sq.now.given.quotas }
     requires open_pass { is_closed (run (setting_of R.limits sq.now.given) (seen pass)) (number pass) ≡ false }
-    ensures owner { StandsAtItsAsk R.stands R.limits R.size R.origin sq.now [] result }
+    ensures owner { StandsAtItsAsk R.Resident sq.now [] result }
     ensures no_act { result.act ≡ Done.None }
     ensures number { number result.pass ≡ number pass }
     ensures grows { Begins (seen pass) (seen result.pass) }

@@ -30,7 +30,7 @@ fn calls<R: Resident, W: Wait>(
     j: u32,
     k: u32,
 ) -> (Pass, Called)
-    requires stands { StandsAtItsAsk R.stands R.limits R.size R.origin squeue.now [] owner }
+    requires stands { StandsAtItsAsk R.Resident squeue.now [] owner }
     requires no_act { owner.act ≡ Done.None }
     requires thread { number owner.pass ≡ squeue.now.given.rings + j }
     requires exists { Contains (R.limits squeue.now.given.first).calls (c, j, k) }

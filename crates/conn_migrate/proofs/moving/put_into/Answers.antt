@@ -3,13 +3,13 @@ use Rattle.conn_migrate.proofs.moving.put_into.Goals as goal
 
 pub put_block-requires : goal.put_block-requires
 put_block-requires g c =
-    (c.args.sq.now, puts c.synch_enter-arrived.ensures.came c.synch_enter-arrived.ensures.owner c.synch_enter-arrived.ensures.no_act {is_part_of = g.R.Resident.is_part_of} c.requires.may c.requires.part)
+    (c.args.sq.now, puts c.synch_enter-arrived.ensures.came c.synch_enter-arrived.ensures.owner c.synch_enter-arrived.ensures.no_act c.requires.may c.requires.part)
 
 pub synch_exit-requires : goal.synch_exit-requires
 synch_exit-requires g c =
-    (c.put_block.ensures.put c.args.sq.now g.N.Notes.note (puts c.synch_enter-arrived.ensures.came c.synch_enter-arrived.ensures.owner c.synch_enter-arrived.ensures.no_act {is_part_of = g.R.Resident.is_part_of} c.requires.may c.requires.part) c.requires.had).stands_at
+    (c.put_block.ensures.put c.args.sq.now g.N.Notes.note (puts c.synch_enter-arrived.ensures.came c.synch_enter-arrived.ensures.owner c.synch_enter-arrived.ensures.no_act c.requires.may c.requires.part) c.requires.had).stands_at
 
 pub returns : goal.returns
 returns g c =
-    let put = c.put_block.ensures.put c.args.sq.now g.N.Notes.note (puts c.synch_enter-arrived.ensures.came c.synch_enter-arrived.ensures.owner c.synch_enter-arrived.ensures.no_act {is_part_of = g.R.Resident.is_part_of} c.requires.may c.requires.part) c.requires.had in
+    let put = c.put_block.ensures.put c.args.sq.now g.N.Notes.note (puts c.synch_enter-arrived.ensures.came c.synch_enter-arrived.ensures.owner c.synch_enter-arrived.ensures.no_act c.requires.may c.requires.part) c.requires.had in
     moved c.synch_enter-arrived.result c.put_block.new.owner c.synch_enter-arrived.ensures.came c.put_block.ensures.pass put.stands_at.left put.act c.synch_exit.ensures.goes_on c.synch_exit.ensures.idle c.synch_exit.ensures.left

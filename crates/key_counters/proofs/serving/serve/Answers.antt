@@ -71,7 +71,7 @@ discard-requires g c =
     let h = subst (λ (l : List (Job Task)). AreLent (λ p t x. HasDoneAs limits t p x) 0 (n - 1) (s ∷ []) (lent_to l)) (sym back) d in
     let some = c.in-Some.ensures.some in
     none_lent_to c.end_last-ended.new.jobs.items
-    (nothing_left limits s c.requires.squeue g.R.Resident.stands g.R.Resident.size g.R.Resident.origin (n - 1) c.lend.new.squeues.all.items c.end_last-ended.new.squeues.all.items some.0 (lent_to (take lent.len (c.run.new.jobs ++ drop (length c.run.new.jobs) lent.items))) (lent_to c.end_last-ended.new.jobs.items) _ _ _ single some.1
+    (nothing_left g.R.Resident s c.requires.squeue (n - 1) c.lend.new.squeues.all.items c.end_last-ended.new.squeues.all.items some.0 (lent_to (take lent.len (c.run.new.jobs ++ drop (length c.run.new.jobs) lent.items))) (lent_to c.end_last-ended.new.jobs.items) _ _ _ single some.1
     (count_is limits s c.requires.squeue c.args.jobs.items jobs n counted c.requires.tasks kept) h some.2)
 
 pub returns-clause-fed : goal.returns-clause-fed
@@ -94,5 +94,5 @@ returns-clause-fed g c =
     let back : take lent.len (c.run.new.jobs ++ drop (length c.run.new.jobs) lent.items) ≡ c.run.new.jobs = whole_back lent.len lent.items c.run.new.jobs count long in
     let h = subst (λ (l : List (Job Task)). AreLent (λ p t x. HasDoneAs limits t p x) 0 (n - 1) (s ∷ []) (lent_to l)) (sym back) d in
     let some = c.in-Some.ensures.some in
-    is_fed limits s c.requires.squeue g.R.Resident.stands g.R.Resident.size g.R.Resident.origin (n - 1) c.lend.new.squeues.all.items c.end_last-ended.new.squeues.all.items some.0 (lent_to (take lent.len (c.run.new.jobs ++ drop (length c.run.new.jobs) lent.items))) (lent_to c.end_last-ended.new.jobs.items) _ _ _ single some.1
+    is_fed g.R.Resident s c.requires.squeue (n - 1) c.lend.new.squeues.all.items c.end_last-ended.new.squeues.all.items some.0 (lent_to (take lent.len (c.run.new.jobs ++ drop (length c.run.new.jobs) lent.items))) (lent_to c.end_last-ended.new.jobs.items) _ _ _ single some.1
     (count_is limits s c.requires.squeue c.args.jobs.items jobs n counted c.requires.tasks kept) h some.2

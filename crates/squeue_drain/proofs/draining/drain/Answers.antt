@@ -7,11 +7,11 @@ loop-preserved g c =
     let o = c.loop.owner in
     let n = c.process-left.new.owner in
     let on = c.in-Goes.ensures.1 in
-    let fed = since_fed g.R.Resident.stands g.R.Resident.limits g.R.Resident.size g.R.Resident.origin c.args.sq.now c.args.budget c.process-left.result c.loop.left c.args.owner o n c.loop.invariant.since c.loop.invariant.feeds c.process-left.ensures.feeds c.process-left.ensures.pass c.process-left.ensures.count in
+    let fed = since_fed g.R.Resident c.args.sq.now c.args.budget c.process-left.result c.loop.left c.args.owner o n c.loop.invariant.since c.loop.invariant.feeds c.process-left.ensures.feeds c.process-left.ensures.pass c.process-left.ensures.count in
     record {
       feeds = on.feeds;
       has = on.has;
-      since = since_taken g.R.Resident.stands g.R.Resident.limits g.R.Resident.size g.R.Resident.origin c.args.sq.now c.args.budget c.process-left.result c.args.owner n c.in-Goes.next (not_zero c.process-left.result c.in-Goes.ensures.0) fed on;
+      since = since_taken g.R.Resident c.args.sq.now c.args.budget c.process-left.result c.args.owner n c.in-Goes.next (not_zero c.process-left.result c.in-Goes.ensures.0) fed on;
       some = not_zero c.process-left.result c.in-Goes.ensures.0;
     }
 
@@ -19,5 +19,5 @@ pub returns-in-Ended-clause-drained : goal.returns-in-Ended-clause-drained
 returns-in-Ended-clause-drained g c =
     let o = c.loop.owner in
     let n = c.process-left.new.owner in
-    let fed = since_fed g.R.Resident.stands g.R.Resident.limits g.R.Resident.size g.R.Resident.origin c.args.sq.now c.args.budget c.process-left.result c.loop.left c.args.owner o n c.loop.invariant.since c.loop.invariant.feeds c.process-left.ensures.feeds c.process-left.ensures.pass c.process-left.ensures.count in
-    drained g.R.Resident.stands g.R.Resident.limits g.R.Resident.size g.R.Resident.origin c.args.sq.now c.args.budget c.process-left.result c.args.owner n _ c.in-Ended.pass fed (is_zero c.process-left.result) (not_zero c.process-left.result) c.in-Ended.ensures.0
+    let fed = since_fed g.R.Resident c.args.sq.now c.args.budget c.process-left.result c.loop.left c.args.owner o n c.loop.invariant.since c.loop.invariant.feeds c.process-left.ensures.feeds c.process-left.ensures.pass c.process-left.ensures.count in
+    drained g.R.Resident c.args.sq.now c.args.budget c.process-left.result c.args.owner n _ c.in-Ended.pass fed (is_zero c.process-left.result) (not_zero c.process-left.result) c.in-Ended.ensures.0

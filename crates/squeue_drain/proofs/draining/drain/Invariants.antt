@@ -6,8 +6,8 @@ use Rattle.squeue_drain.proofs.draining.drain.Given as goal
 abbrev pub invariant-loop : goal.invariant-loop
 invariant-loop g l =
     record {
-      feeds : Feeds g.R.Resident.stands g.R.Resident.limits g.R.Resident.size g.R.Resident.origin l.sq l.owner;
+      feeds : Feeds g.R.Resident l.sq l.owner;
       has : HasFeeds g.R.Resident.limits l.sq l.owner;
-      since : Since g.R.Resident.stands g.R.Resident.limits g.R.Resident.size g.R.Resident.origin l.sq l.budget l.left l.fn.owner l.owner;
+      since : Since g.R.Resident l.sq l.budget l.left l.fn.owner l.owner;
       some : 1 ≤ l.left;
     }

@@ -4,6 +4,6 @@ use Rattle.squeue_drain.proofs.laws.owners_of_one_squeue_are_one.Goals as goal
 pub returns : goal.returns
 returns g c =
     record {
-      named = λ s H note o l is n. is_named g.R.Resident.stands g.R.Resident.limits g.R.Resident.size g.R.Resident.origin s H note o l is n;
-      one = λ s H note another o q l is n too m. are_one g.R.Resident.stands g.R.Resident.limits g.R.Resident.size g.R.Resident.origin s H note another o q l is n too m;
+      named = λ s H note o l is n. is_named g.R.Resident s H note o l is n;
+      one = λ s H note another o q l is n too m. are_one g.R.Resident s H note another o q l is n too m;
     }

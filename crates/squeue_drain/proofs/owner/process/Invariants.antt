@@ -5,7 +5,7 @@ use Rattle.squeue_drain.proofs.owner.process.Given as goal
 abbrev pub invariant-loop-left : goal.invariant-loop-left
 invariant-loop-left g l =
     record {
-      feeds : Feeds g.R.Resident.stands g.R.Resident.limits g.R.Resident.size g.R.Resident.origin l.sq l.owner;
+      feeds : Feeds g.R.Resident l.sq l.owner;
       pass : l.owner.pass ≡ l.initial.owner.pass;
       bound : l.left ≤ l.budget;
       count : length l.owner.hand.left + l.budget ≡ length l.initial.owner.hand.left + l.left;

@@ -11,7 +11,7 @@ loop-init g c =
     record {
       feeds = c.requires.feeds;
       has = c.requires.has;
-      worked = worked_none g.R.Resident.limits c.args.sq.now c.args.owner.pass c.args.owner.pass (on_start g.R.Resident.stands g.R.Resident.limits g.R.Resident.size g.R.Resident.origin c.args.sq.now c.args.owner c.requires.feeds) c.requires.feeds.owns.own refl;
+      worked = worked_none g.R.Resident.limits c.args.sq.now c.args.owner.pass c.args.owner.pass (on_start g.R.Resident c.args.sq.now c.args.owner c.requires.feeds) c.requires.feeds.owns.own refl;
     }
 
 pub decide-requires-clause-front : goal.decide-requires-clause-front
@@ -26,7 +26,7 @@ loop-preserved g c =
       has = on.has;
       worked = worked_trans g.R.Resident.limits c.args.sq.now c.args.owner.pass n.pass c.in-Goes.next.pass
           (subst (λ (p : Pass Element). Worked g.R.Resident.limits c.args.sq.now c.args.owner.pass p) (sym c.process.ensures.pass) c.loop.invariant.worked)
-          (worked_onward g.R.Resident.stands g.R.Resident.limits g.R.Resident.size g.R.Resident.origin c.args.sq.now n c.in-Goes.next on);
+          (worked_onward g.R.Resident c.args.sq.now n c.in-Goes.next on);
     }
 
 pub returns-in-Ended : goal.returns-in-Ended

@@ -5,7 +5,7 @@ use Rattle.squeue_drain.proofs.working.drain_all.Given as goal
 abbrev pub invariant-loop : goal.invariant-loop
 invariant-loop g l =
     record {
-      feeds : Feeds g.R.Resident.stands g.R.Resident.limits g.R.Resident.size g.R.Resident.origin l.sq l.owner;
+      feeds : Feeds g.R.Resident l.sq l.owner;
       has : HasFeeds g.R.Resident.limits l.sq l.owner;
       worked : Worked g.R.Resident.limits l.sq l.fn.owner.pass l.owner.pass;
     }

@@ -11,13 +11,13 @@ work-pass-requires-clause-may g c = may_here g.R.Resident.limits c.args.sq.now c
 pub drain_all-requires-clause-feeds : goal.drain_all-requires-clause-feeds
 drain_all-requires-clause-feeds g c =
     let may = may_here g.R.Resident.limits c.args.sq.now c.args.pass c.turn-turn.result c.turn-turn.ensures c.requires.worker (c.waits_for_worker.ensures.0 c.if-not-waits_for_worker.false) in
-    let w = works g.R.Resident.stands g.R.Resident.limits g.R.Resident.size g.R.Resident.origin c.args.sq.now c.args.pass c.turn-turn.result c.work-pass.result.0 c.work-pass.result.1 c.work-pass.result.2 c.turn-turn.ensures c.requires.worker may c.work-pass.ensures.pass c.work-pass.ensures.hand c.work-pass.ensures.resident in
+    let w = works g.R.Resident c.args.sq.now c.args.pass c.turn-turn.result c.work-pass.result.0 c.work-pass.result.1 c.work-pass.result.2 c.turn-turn.ensures c.requires.worker may c.work-pass.ensures.pass c.work-pass.ensures.hand c.work-pass.ensures.resident in
     w.feeds
 
 pub drain_all-requires-clause-has : goal.drain_all-requires-clause-has
 drain_all-requires-clause-has g c =
     let may = may_here g.R.Resident.limits c.args.sq.now c.args.pass c.turn-turn.result c.turn-turn.ensures c.requires.worker (c.waits_for_worker.ensures.0 c.if-not-waits_for_worker.false) in
-    let w = works g.R.Resident.stands g.R.Resident.limits g.R.Resident.size g.R.Resident.origin c.args.sq.now c.args.pass c.turn-turn.result c.work-pass.result.0 c.work-pass.result.1 c.work-pass.result.2 c.turn-turn.ensures c.requires.worker may c.work-pass.ensures.pass c.work-pass.ensures.hand c.work-pass.ensures.resident in
+    let w = works g.R.Resident c.args.sq.now c.args.pass c.turn-turn.result c.work-pass.result.0 c.work-pass.result.1 c.work-pass.result.2 c.turn-turn.ensures c.requires.worker may c.work-pass.ensures.pass c.work-pass.ensures.hand c.work-pass.ensures.resident in
     w.has
 
 pub returns-clause-worked : goal.returns-clause-worked

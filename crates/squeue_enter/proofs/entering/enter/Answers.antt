@@ -30,40 +30,40 @@ pub fast-requires-clause-may : goal.fast-requires-clause-may
 fast-requires-clause-may g c = let k = lone c.args.mode (is_free (run (setting_of g.R.Resident.limits c.args.sq.now.given) c.turn-turn.result.found).own) (is_empty (run (setting_of g.R.Resident.limits c.args.sq.now.given) c.turn-turn.result.found).chain) (is_one c.args.chain.now) c.choose.result (chosen g.R.Resident.limits c.turn-turn.result.squeue c.args.sq.now c.turn-turn.result.found c.args.mode c.args.chain.now c.own.result c.is_free-woke.result c.chain_len.result c.choose.result c.turn-turn.ensures.squeue c.own.ensures c.is_free-woke.ensures c.chain_len.ensures c.choose.ensures) c.in-Fast.is in let free = free_is (run (setting_of g.R.Resident.limits c.args.sq.now.given) c.turn-turn.result.found).own k.0 in let empty = empty_was (run (setting_of g.R.Resident.limits c.args.sq.now.given) c.turn-turn.result.found).chain k.1 in let one = one_was c.args.chain.now record { c = 0; n = 0 } k.2 in may_fast g.R.Resident.limits c.args.sq.now c.args.pass c.args.chain.now c.turn-turn.result c.requires.may c.turn-turn.ensures (slice_index_or c.args.chain.now 0 record { c = 0; n = 0 }) one free empty
 
 pub drain-pass-requires-clause-feeds : goal.drain-pass-requires-clause-feeds
-drain-pass-requires-clause-feeds g c = let k = lone c.args.mode (is_free (run (setting_of g.R.Resident.limits c.args.sq.now.given) c.turn-turn.result.found).own) (is_empty (run (setting_of g.R.Resident.limits c.args.sq.now.given) c.turn-turn.result.found).chain) (is_one c.args.chain.now) c.choose.result (chosen g.R.Resident.limits c.turn-turn.result.squeue c.args.sq.now c.turn-turn.result.found c.args.mode c.args.chain.now c.own.result c.is_free-woke.result c.chain_len.result c.choose.result c.turn-turn.ensures.squeue c.own.ensures c.is_free-woke.ensures c.chain_len.ensures c.choose.ensures) c.in-Fast.is in let free = free_is (run (setting_of g.R.Resident.limits c.args.sq.now.given) c.turn-turn.result.found).own k.0 in let empty = empty_was (run (setting_of g.R.Resident.limits c.args.sq.now.given) c.turn-turn.result.found).chain k.1 in let one = one_was c.args.chain.now record { c = 0; n = 0 } k.2 in subst (λ (o : Owner _). Feeds g.R.Resident.stands g.R.Resident.limits g.R.Resident.size g.R.Resident.origin c.args.sq.now o) (sym c.of-owner.ensures) (came_fast g.R.Resident.stands g.R.Resident.limits g.R.Resident.size g.R.Resident.origin c.args.sq.now c.args.pass c.args.chain.now c.turn-turn.result c.requires.may c.turn-turn.ensures (slice_index_or c.args.chain.now 0 record { c = 0; n = 0 }) one free empty c.fast.result.0 c.fast.result.1 c.fast.result.2 c.fast.ensures.pass c.fast.ensures.hand c.fast.ensures.resident).feeds
+drain-pass-requires-clause-feeds g c = let k = lone c.args.mode (is_free (run (setting_of g.R.Resident.limits c.args.sq.now.given) c.turn-turn.result.found).own) (is_empty (run (setting_of g.R.Resident.limits c.args.sq.now.given) c.turn-turn.result.found).chain) (is_one c.args.chain.now) c.choose.result (chosen g.R.Resident.limits c.turn-turn.result.squeue c.args.sq.now c.turn-turn.result.found c.args.mode c.args.chain.now c.own.result c.is_free-woke.result c.chain_len.result c.choose.result c.turn-turn.ensures.squeue c.own.ensures c.is_free-woke.ensures c.chain_len.ensures c.choose.ensures) c.in-Fast.is in let free = free_is (run (setting_of g.R.Resident.limits c.args.sq.now.given) c.turn-turn.result.found).own k.0 in let empty = empty_was (run (setting_of g.R.Resident.limits c.args.sq.now.given) c.turn-turn.result.found).chain k.1 in let one = one_was c.args.chain.now record { c = 0; n = 0 } k.2 in subst (λ (o : Owner _). Feeds g.R.Resident c.args.sq.now o) (sym c.of-owner.ensures) (came_fast g.R.Resident c.args.sq.now c.args.pass c.args.chain.now c.turn-turn.result c.requires.may c.turn-turn.ensures (slice_index_or c.args.chain.now 0 record { c = 0; n = 0 }) one free empty c.fast.result.0 c.fast.result.1 c.fast.result.2 c.fast.ensures.pass c.fast.ensures.hand c.fast.ensures.resident).feeds
 
 pub drain-pass-requires-clause-has : goal.drain-pass-requires-clause-has
-drain-pass-requires-clause-has g c = let k = lone c.args.mode (is_free (run (setting_of g.R.Resident.limits c.args.sq.now.given) c.turn-turn.result.found).own) (is_empty (run (setting_of g.R.Resident.limits c.args.sq.now.given) c.turn-turn.result.found).chain) (is_one c.args.chain.now) c.choose.result (chosen g.R.Resident.limits c.turn-turn.result.squeue c.args.sq.now c.turn-turn.result.found c.args.mode c.args.chain.now c.own.result c.is_free-woke.result c.chain_len.result c.choose.result c.turn-turn.ensures.squeue c.own.ensures c.is_free-woke.ensures c.chain_len.ensures c.choose.ensures) c.in-Fast.is in let free = free_is (run (setting_of g.R.Resident.limits c.args.sq.now.given) c.turn-turn.result.found).own k.0 in let empty = empty_was (run (setting_of g.R.Resident.limits c.args.sq.now.given) c.turn-turn.result.found).chain k.1 in let one = one_was c.args.chain.now record { c = 0; n = 0 } k.2 in subst (λ (o : Owner _). HasFeeds g.R.Resident.limits c.args.sq.now o) (sym c.of-owner.ensures) (came_fast g.R.Resident.stands g.R.Resident.limits g.R.Resident.size g.R.Resident.origin c.args.sq.now c.args.pass c.args.chain.now c.turn-turn.result c.requires.may c.turn-turn.ensures (slice_index_or c.args.chain.now 0 record { c = 0; n = 0 }) one free empty c.fast.result.0 c.fast.result.1 c.fast.result.2 c.fast.ensures.pass c.fast.ensures.hand c.fast.ensures.resident).has
+drain-pass-requires-clause-has g c = let k = lone c.args.mode (is_free (run (setting_of g.R.Resident.limits c.args.sq.now.given) c.turn-turn.result.found).own) (is_empty (run (setting_of g.R.Resident.limits c.args.sq.now.given) c.turn-turn.result.found).chain) (is_one c.args.chain.now) c.choose.result (chosen g.R.Resident.limits c.turn-turn.result.squeue c.args.sq.now c.turn-turn.result.found c.args.mode c.args.chain.now c.own.result c.is_free-woke.result c.chain_len.result c.choose.result c.turn-turn.ensures.squeue c.own.ensures c.is_free-woke.ensures c.chain_len.ensures c.choose.ensures) c.in-Fast.is in let free = free_is (run (setting_of g.R.Resident.limits c.args.sq.now.given) c.turn-turn.result.found).own k.0 in let empty = empty_was (run (setting_of g.R.Resident.limits c.args.sq.now.given) c.turn-turn.result.found).chain k.1 in let one = one_was c.args.chain.now record { c = 0; n = 0 } k.2 in subst (λ (o : Owner _). HasFeeds g.R.Resident.limits c.args.sq.now o) (sym c.of-owner.ensures) (came_fast g.R.Resident c.args.sq.now c.args.pass c.args.chain.now c.turn-turn.result c.requires.may c.turn-turn.ensures (slice_index_or c.args.chain.now 0 record { c = 0; n = 0 }) one free empty c.fast.result.0 c.fast.result.1 c.fast.result.2 c.fast.ensures.pass c.fast.ensures.hand c.fast.ensures.resident).has
 
 pub returns-in-Fast-clause-entered : goal.returns-in-Fast-clause-entered
-returns-in-Fast-clause-entered g c = let k = lone c.args.mode (is_free (run (setting_of g.R.Resident.limits c.args.sq.now.given) c.turn-turn.result.found).own) (is_empty (run (setting_of g.R.Resident.limits c.args.sq.now.given) c.turn-turn.result.found).chain) (is_one c.args.chain.now) c.choose.result (chosen g.R.Resident.limits c.turn-turn.result.squeue c.args.sq.now c.turn-turn.result.found c.args.mode c.args.chain.now c.own.result c.is_free-woke.result c.chain_len.result c.choose.result c.turn-turn.ensures.squeue c.own.ensures c.is_free-woke.ensures c.chain_len.ensures c.choose.ensures) c.in-Fast.is in let free = free_is (run (setting_of g.R.Resident.limits c.args.sq.now.given) c.turn-turn.result.found).own k.0 in let empty = empty_was (run (setting_of g.R.Resident.limits c.args.sq.now.given) c.turn-turn.result.found).chain k.1 in let one = one_was c.args.chain.now record { c = 0; n = 0 } k.2 in entered_fast g.R.Resident.stands g.R.Resident.limits g.R.Resident.size g.R.Resident.origin c.args.sq.now c.args.pass c.args.chain.now c.turn-turn.result c.requires.may c.turn-turn.ensures c.args.mode c.args.budget (slice_index_or c.args.chain.now 0 record { c = 0; n = 0 }) c.fast.result.0 c.fast.result.1 c.fast.result.2 c.drain-pass.result.0 c.drain-pass.result.1 c.drain-pass.result.2 ((chosen g.R.Resident.limits c.turn-turn.result.squeue c.args.sq.now c.turn-turn.result.found c.args.mode c.args.chain.now c.own.result c.is_free-woke.result c.chain_len.result c.choose.result c.turn-turn.ensures.squeue c.own.ensures c.is_free-woke.ensures c.chain_len.ensures c.choose.ensures) ∙ c.in-Fast.is) one (came_fast g.R.Resident.stands g.R.Resident.limits g.R.Resident.size g.R.Resident.origin c.args.sq.now c.args.pass c.args.chain.now c.turn-turn.result c.requires.may c.turn-turn.ensures (slice_index_or c.args.chain.now 0 record { c = 0; n = 0 }) one free empty c.fast.result.0 c.fast.result.1 c.fast.result.2 c.fast.ensures.pass c.fast.ensures.hand c.fast.ensures.resident) (subst (λ (o : Owner _). Drained g.R.Resident.limits c.args.sq.now c.args.budget o c.drain-pass.result.0) c.of-owner.ensures c.drain-pass.ensures.drained) c.drain-pass.ensures.tells
+returns-in-Fast-clause-entered g c = let k = lone c.args.mode (is_free (run (setting_of g.R.Resident.limits c.args.sq.now.given) c.turn-turn.result.found).own) (is_empty (run (setting_of g.R.Resident.limits c.args.sq.now.given) c.turn-turn.result.found).chain) (is_one c.args.chain.now) c.choose.result (chosen g.R.Resident.limits c.turn-turn.result.squeue c.args.sq.now c.turn-turn.result.found c.args.mode c.args.chain.now c.own.result c.is_free-woke.result c.chain_len.result c.choose.result c.turn-turn.ensures.squeue c.own.ensures c.is_free-woke.ensures c.chain_len.ensures c.choose.ensures) c.in-Fast.is in let free = free_is (run (setting_of g.R.Resident.limits c.args.sq.now.given) c.turn-turn.result.found).own k.0 in let empty = empty_was (run (setting_of g.R.Resident.limits c.args.sq.now.given) c.turn-turn.result.found).chain k.1 in let one = one_was c.args.chain.now record { c = 0; n = 0 } k.2 in entered_fast g.R.Resident c.args.sq.now c.args.pass c.args.chain.now c.turn-turn.result c.requires.may c.turn-turn.ensures c.args.mode c.args.budget (slice_index_or c.args.chain.now 0 record { c = 0; n = 0 }) c.fast.result.0 c.fast.result.1 c.fast.result.2 c.drain-pass.result.0 c.drain-pass.result.1 c.drain-pass.result.2 ((chosen g.R.Resident.limits c.turn-turn.result.squeue c.args.sq.now c.turn-turn.result.found c.args.mode c.args.chain.now c.own.result c.is_free-woke.result c.chain_len.result c.choose.result c.turn-turn.ensures.squeue c.own.ensures c.is_free-woke.ensures c.chain_len.ensures c.choose.ensures) ∙ c.in-Fast.is) one (came_fast g.R.Resident c.args.sq.now c.args.pass c.args.chain.now c.turn-turn.result c.requires.may c.turn-turn.ensures (slice_index_or c.args.chain.now 0 record { c = 0; n = 0 }) one free empty c.fast.result.0 c.fast.result.1 c.fast.result.2 c.fast.ensures.pass c.fast.ensures.hand c.fast.ensures.resident) (subst (λ (o : Owner _). Drained g.R.Resident.limits c.args.sq.now c.args.budget o c.drain-pass.result.0) c.of-owner.ensures c.drain-pass.ensures.drained) c.drain-pass.ensures.tells
 
 pub fast-requires-in-Alone-clause-may : goal.fast-requires-in-Alone-clause-may
 fast-requires-in-Alone-clause-may g c = let k = lone_too c.args.mode (is_free (run (setting_of g.R.Resident.limits c.args.sq.now.given) c.turn-turn.result.found).own) (is_empty (run (setting_of g.R.Resident.limits c.args.sq.now.given) c.turn-turn.result.found).chain) (is_one c.args.chain.now) c.choose.result (chosen g.R.Resident.limits c.turn-turn.result.squeue c.args.sq.now c.turn-turn.result.found c.args.mode c.args.chain.now c.own.result c.is_free-woke.result c.chain_len.result c.choose.result c.turn-turn.ensures.squeue c.own.ensures c.is_free-woke.ensures c.chain_len.ensures c.choose.ensures) c.in-Alone.is in let free = free_is (run (setting_of g.R.Resident.limits c.args.sq.now.given) c.turn-turn.result.found).own k.0 in let empty = empty_was (run (setting_of g.R.Resident.limits c.args.sq.now.given) c.turn-turn.result.found).chain k.1 in let one = one_was c.args.chain.now record { c = 0; n = 0 } k.2 in may_fast g.R.Resident.limits c.args.sq.now c.args.pass c.args.chain.now c.turn-turn.result c.requires.may c.turn-turn.ensures (slice_index_or c.args.chain.now 0 record { c = 0; n = 0 }) one free empty
 
 pub serve_one-pass-requires-clause-feeds : goal.serve_one-pass-requires-clause-feeds
-serve_one-pass-requires-clause-feeds g c = let k = lone_too c.args.mode (is_free (run (setting_of g.R.Resident.limits c.args.sq.now.given) c.turn-turn.result.found).own) (is_empty (run (setting_of g.R.Resident.limits c.args.sq.now.given) c.turn-turn.result.found).chain) (is_one c.args.chain.now) c.choose.result (chosen g.R.Resident.limits c.turn-turn.result.squeue c.args.sq.now c.turn-turn.result.found c.args.mode c.args.chain.now c.own.result c.is_free-woke.result c.chain_len.result c.choose.result c.turn-turn.ensures.squeue c.own.ensures c.is_free-woke.ensures c.chain_len.ensures c.choose.ensures) c.in-Alone.is in let free = free_is (run (setting_of g.R.Resident.limits c.args.sq.now.given) c.turn-turn.result.found).own k.0 in let empty = empty_was (run (setting_of g.R.Resident.limits c.args.sq.now.given) c.turn-turn.result.found).chain k.1 in let one = one_was c.args.chain.now record { c = 0; n = 0 } k.2 in subst (λ (o : Owner _). Feeds g.R.Resident.stands g.R.Resident.limits g.R.Resident.size g.R.Resident.origin c.args.sq.now o) (sym c.of-owner-in-Alone.ensures) (came_fast g.R.Resident.stands g.R.Resident.limits g.R.Resident.size g.R.Resident.origin c.args.sq.now c.args.pass c.args.chain.now c.turn-turn.result c.requires.may c.turn-turn.ensures (slice_index_or c.args.chain.now 0 record { c = 0; n = 0 }) one free empty c.fast-in-Alone.result.0 c.fast-in-Alone.result.1 c.fast-in-Alone.result.2 c.fast-in-Alone.ensures.pass c.fast-in-Alone.ensures.hand c.fast-in-Alone.ensures.resident).feeds
+serve_one-pass-requires-clause-feeds g c = let k = lone_too c.args.mode (is_free (run (setting_of g.R.Resident.limits c.args.sq.now.given) c.turn-turn.result.found).own) (is_empty (run (setting_of g.R.Resident.limits c.args.sq.now.given) c.turn-turn.result.found).chain) (is_one c.args.chain.now) c.choose.result (chosen g.R.Resident.limits c.turn-turn.result.squeue c.args.sq.now c.turn-turn.result.found c.args.mode c.args.chain.now c.own.result c.is_free-woke.result c.chain_len.result c.choose.result c.turn-turn.ensures.squeue c.own.ensures c.is_free-woke.ensures c.chain_len.ensures c.choose.ensures) c.in-Alone.is in let free = free_is (run (setting_of g.R.Resident.limits c.args.sq.now.given) c.turn-turn.result.found).own k.0 in let empty = empty_was (run (setting_of g.R.Resident.limits c.args.sq.now.given) c.turn-turn.result.found).chain k.1 in let one = one_was c.args.chain.now record { c = 0; n = 0 } k.2 in subst (λ (o : Owner _). Feeds g.R.Resident c.args.sq.now o) (sym c.of-owner-in-Alone.ensures) (came_fast g.R.Resident c.args.sq.now c.args.pass c.args.chain.now c.turn-turn.result c.requires.may c.turn-turn.ensures (slice_index_or c.args.chain.now 0 record { c = 0; n = 0 }) one free empty c.fast-in-Alone.result.0 c.fast-in-Alone.result.1 c.fast-in-Alone.result.2 c.fast-in-Alone.ensures.pass c.fast-in-Alone.ensures.hand c.fast-in-Alone.ensures.resident).feeds
 
 pub serve_one-pass-requires-clause-has : goal.serve_one-pass-requires-clause-has
-serve_one-pass-requires-clause-has g c = let k = lone_too c.args.mode (is_free (run (setting_of g.R.Resident.limits c.args.sq.now.given) c.turn-turn.result.found).own) (is_empty (run (setting_of g.R.Resident.limits c.args.sq.now.given) c.turn-turn.result.found).chain) (is_one c.args.chain.now) c.choose.result (chosen g.R.Resident.limits c.turn-turn.result.squeue c.args.sq.now c.turn-turn.result.found c.args.mode c.args.chain.now c.own.result c.is_free-woke.result c.chain_len.result c.choose.result c.turn-turn.ensures.squeue c.own.ensures c.is_free-woke.ensures c.chain_len.ensures c.choose.ensures) c.in-Alone.is in let free = free_is (run (setting_of g.R.Resident.limits c.args.sq.now.given) c.turn-turn.result.found).own k.0 in let empty = empty_was (run (setting_of g.R.Resident.limits c.args.sq.now.given) c.turn-turn.result.found).chain k.1 in let one = one_was c.args.chain.now record { c = 0; n = 0 } k.2 in subst (λ (o : Owner _). HasFeeds g.R.Resident.limits c.args.sq.now o) (sym c.of-owner-in-Alone.ensures) (came_fast g.R.Resident.stands g.R.Resident.limits g.R.Resident.size g.R.Resident.origin c.args.sq.now c.args.pass c.args.chain.now c.turn-turn.result c.requires.may c.turn-turn.ensures (slice_index_or c.args.chain.now 0 record { c = 0; n = 0 }) one free empty c.fast-in-Alone.result.0 c.fast-in-Alone.result.1 c.fast-in-Alone.result.2 c.fast-in-Alone.ensures.pass c.fast-in-Alone.ensures.hand c.fast-in-Alone.ensures.resident).has
+serve_one-pass-requires-clause-has g c = let k = lone_too c.args.mode (is_free (run (setting_of g.R.Resident.limits c.args.sq.now.given) c.turn-turn.result.found).own) (is_empty (run (setting_of g.R.Resident.limits c.args.sq.now.given) c.turn-turn.result.found).chain) (is_one c.args.chain.now) c.choose.result (chosen g.R.Resident.limits c.turn-turn.result.squeue c.args.sq.now c.turn-turn.result.found c.args.mode c.args.chain.now c.own.result c.is_free-woke.result c.chain_len.result c.choose.result c.turn-turn.ensures.squeue c.own.ensures c.is_free-woke.ensures c.chain_len.ensures c.choose.ensures) c.in-Alone.is in let free = free_is (run (setting_of g.R.Resident.limits c.args.sq.now.given) c.turn-turn.result.found).own k.0 in let empty = empty_was (run (setting_of g.R.Resident.limits c.args.sq.now.given) c.turn-turn.result.found).chain k.1 in let one = one_was c.args.chain.now record { c = 0; n = 0 } k.2 in subst (λ (o : Owner _). HasFeeds g.R.Resident.limits c.args.sq.now o) (sym c.of-owner-in-Alone.ensures) (came_fast g.R.Resident c.args.sq.now c.args.pass c.args.chain.now c.turn-turn.result c.requires.may c.turn-turn.ensures (slice_index_or c.args.chain.now 0 record { c = 0; n = 0 }) one free empty c.fast-in-Alone.result.0 c.fast-in-Alone.result.1 c.fast-in-Alone.result.2 c.fast-in-Alone.ensures.pass c.fast-in-Alone.ensures.hand c.fast-in-Alone.ensures.resident).has
 
 pub serve_one-pass-requires-clause-one : goal.serve_one-pass-requires-clause-one
-serve_one-pass-requires-clause-one g c = let k = lone_too c.args.mode (is_free (run (setting_of g.R.Resident.limits c.args.sq.now.given) c.turn-turn.result.found).own) (is_empty (run (setting_of g.R.Resident.limits c.args.sq.now.given) c.turn-turn.result.found).chain) (is_one c.args.chain.now) c.choose.result (chosen g.R.Resident.limits c.turn-turn.result.squeue c.args.sq.now c.turn-turn.result.found c.args.mode c.args.chain.now c.own.result c.is_free-woke.result c.chain_len.result c.choose.result c.turn-turn.ensures.squeue c.own.ensures c.is_free-woke.ensures c.chain_len.ensures c.choose.ensures) c.in-Alone.is in let free = free_is (run (setting_of g.R.Resident.limits c.args.sq.now.given) c.turn-turn.result.found).own k.0 in let empty = empty_was (run (setting_of g.R.Resident.limits c.args.sq.now.given) c.turn-turn.result.found).chain k.1 in let one = one_was c.args.chain.now record { c = 0; n = 0 } k.2 in ap (λ (o : Owner _). o.hand.left) c.of-owner-in-Alone.ensures ∙ (c.fast-in-Alone.ensures.hand.is_whole ∙ hand_fast g.R.Resident.stands g.R.Resident.limits g.R.Resident.size g.R.Resident.origin c.args.sq.now c.args.pass c.args.chain.now c.turn-turn.result c.requires.may c.turn-turn.ensures (slice_index_or c.args.chain.now 0 record { c = 0; n = 0 }) one free empty c.fast-in-Alone.result.0 c.fast-in-Alone.ensures.pass)
+serve_one-pass-requires-clause-one g c = let k = lone_too c.args.mode (is_free (run (setting_of g.R.Resident.limits c.args.sq.now.given) c.turn-turn.result.found).own) (is_empty (run (setting_of g.R.Resident.limits c.args.sq.now.given) c.turn-turn.result.found).chain) (is_one c.args.chain.now) c.choose.result (chosen g.R.Resident.limits c.turn-turn.result.squeue c.args.sq.now c.turn-turn.result.found c.args.mode c.args.chain.now c.own.result c.is_free-woke.result c.chain_len.result c.choose.result c.turn-turn.ensures.squeue c.own.ensures c.is_free-woke.ensures c.chain_len.ensures c.choose.ensures) c.in-Alone.is in let free = free_is (run (setting_of g.R.Resident.limits c.args.sq.now.given) c.turn-turn.result.found).own k.0 in let empty = empty_was (run (setting_of g.R.Resident.limits c.args.sq.now.given) c.turn-turn.result.found).chain k.1 in let one = one_was c.args.chain.now record { c = 0; n = 0 } k.2 in ap (λ (o : Owner _). o.hand.left) c.of-owner-in-Alone.ensures ∙ (c.fast-in-Alone.ensures.hand.is_whole ∙ hand_fast g.R.Resident c.args.sq.now c.args.pass c.args.chain.now c.turn-turn.result c.requires.may c.turn-turn.ensures (slice_index_or c.args.chain.now 0 record { c = 0; n = 0 }) one free empty c.fast-in-Alone.result.0 c.fast-in-Alone.ensures.pass)
 
 pub returns-in-Alone-clause-entered : goal.returns-in-Alone-clause-entered
-returns-in-Alone-clause-entered g c = let k = lone_too c.args.mode (is_free (run (setting_of g.R.Resident.limits c.args.sq.now.given) c.turn-turn.result.found).own) (is_empty (run (setting_of g.R.Resident.limits c.args.sq.now.given) c.turn-turn.result.found).chain) (is_one c.args.chain.now) c.choose.result (chosen g.R.Resident.limits c.turn-turn.result.squeue c.args.sq.now c.turn-turn.result.found c.args.mode c.args.chain.now c.own.result c.is_free-woke.result c.chain_len.result c.choose.result c.turn-turn.ensures.squeue c.own.ensures c.is_free-woke.ensures c.chain_len.ensures c.choose.ensures) c.in-Alone.is in let free = free_is (run (setting_of g.R.Resident.limits c.args.sq.now.given) c.turn-turn.result.found).own k.0 in let empty = empty_was (run (setting_of g.R.Resident.limits c.args.sq.now.given) c.turn-turn.result.found).chain k.1 in let one = one_was c.args.chain.now record { c = 0; n = 0 } k.2 in entered_alone g.R.Resident.stands g.R.Resident.limits g.R.Resident.size g.R.Resident.origin c.args.sq.now c.args.pass c.args.chain.now c.turn-turn.result c.requires.may c.turn-turn.ensures c.args.mode c.args.budget (slice_index_or c.args.chain.now 0 record { c = 0; n = 0 }) c.fast-in-Alone.result.0 c.fast-in-Alone.result.1 c.fast-in-Alone.result.2 c.serve_one-pass.result.0 c.serve_one-pass.result.1 c.serve_one-pass.result.2 ((chosen g.R.Resident.limits c.turn-turn.result.squeue c.args.sq.now c.turn-turn.result.found c.args.mode c.args.chain.now c.own.result c.is_free-woke.result c.chain_len.result c.choose.result c.turn-turn.ensures.squeue c.own.ensures c.is_free-woke.ensures c.chain_len.ensures c.choose.ensures) ∙ c.in-Alone.is) one (came_fast g.R.Resident.stands g.R.Resident.limits g.R.Resident.size g.R.Resident.origin c.args.sq.now c.args.pass c.args.chain.now c.turn-turn.result c.requires.may c.turn-turn.ensures (slice_index_or c.args.chain.now 0 record { c = 0; n = 0 }) one free empty c.fast-in-Alone.result.0 c.fast-in-Alone.result.1 c.fast-in-Alone.result.2 c.fast-in-Alone.ensures.pass c.fast-in-Alone.ensures.hand c.fast-in-Alone.ensures.resident) (subst (λ (o : Owner _). ServedOne g.R.Resident.limits c.args.sq.now o c.serve_one-pass.result.0) c.of-owner-in-Alone.ensures c.serve_one-pass.ensures.served) c.serve_one-pass.ensures.tells
+returns-in-Alone-clause-entered g c = let k = lone_too c.args.mode (is_free (run (setting_of g.R.Resident.limits c.args.sq.now.given) c.turn-turn.result.found).own) (is_empty (run (setting_of g.R.Resident.limits c.args.sq.now.given) c.turn-turn.result.found).chain) (is_one c.args.chain.now) c.choose.result (chosen g.R.Resident.limits c.turn-turn.result.squeue c.args.sq.now c.turn-turn.result.found c.args.mode c.args.chain.now c.own.result c.is_free-woke.result c.chain_len.result c.choose.result c.turn-turn.ensures.squeue c.own.ensures c.is_free-woke.ensures c.chain_len.ensures c.choose.ensures) c.in-Alone.is in let free = free_is (run (setting_of g.R.Resident.limits c.args.sq.now.given) c.turn-turn.result.found).own k.0 in let empty = empty_was (run (setting_of g.R.Resident.limits c.args.sq.now.given) c.turn-turn.result.found).chain k.1 in let one = one_was c.args.chain.now record { c = 0; n = 0 } k.2 in entered_alone g.R.Resident c.args.sq.now c.args.pass c.args.chain.now c.turn-turn.result c.requires.may c.turn-turn.ensures c.args.mode c.args.budget (slice_index_or c.args.chain.now 0 record { c = 0; n = 0 }) c.fast-in-Alone.result.0 c.fast-in-Alone.result.1 c.fast-in-Alone.result.2 c.serve_one-pass.result.0 c.serve_one-pass.result.1 c.serve_one-pass.result.2 ((chosen g.R.Resident.limits c.turn-turn.result.squeue c.args.sq.now c.turn-turn.result.found c.args.mode c.args.chain.now c.own.result c.is_free-woke.result c.chain_len.result c.choose.result c.turn-turn.ensures.squeue c.own.ensures c.is_free-woke.ensures c.chain_len.ensures c.choose.ensures) ∙ c.in-Alone.is) one (came_fast g.R.Resident c.args.sq.now c.args.pass c.args.chain.now c.turn-turn.result c.requires.may c.turn-turn.ensures (slice_index_or c.args.chain.now 0 record { c = 0; n = 0 }) one free empty c.fast-in-Alone.result.0 c.fast-in-Alone.result.1 c.fast-in-Alone.result.2 c.fast-in-Alone.ensures.pass c.fast-in-Alone.ensures.hand c.fast-in-Alone.ensures.resident) (subst (λ (o : Owner _). ServedOne g.R.Resident.limits c.args.sq.now o c.serve_one-pass.result.0) c.of-owner-in-Alone.ensures c.serve_one-pass.ensures.served) c.serve_one-pass.ensures.tells
 
 pub claim-requires-clause-may : goal.claim-requires-clause-may
 claim-requires-clause-may g c = let free = free_is (run (setting_of g.R.Resident.limits c.args.sq.now.given) c.turn-turn.result.found).own (claims c.args.mode (is_free (run (setting_of g.R.Resident.limits c.args.sq.now.given) c.turn-turn.result.found).own) (is_empty (run (setting_of g.R.Resident.limits c.args.sq.now.given) c.turn-turn.result.found).chain) (is_one c.args.chain.now) c.choose.result (chosen g.R.Resident.limits c.turn-turn.result.squeue c.args.sq.now c.turn-turn.result.found c.args.mode c.args.chain.now c.own.result c.is_free-woke.result c.chain_len.result c.choose.result c.turn-turn.ensures.squeue c.own.ensures c.is_free-woke.ensures c.chain_len.ensures c.choose.ensures) c.in-Claim.is) in may_claim g.R.Resident.limits c.args.sq.now c.args.pass c.args.chain.now c.turn-turn.result c.requires.may c.turn-turn.ensures c.requires.some free
 
 pub drain-pass-requires-in-Claim-clause-feeds : goal.drain-pass-requires-in-Claim-clause-feeds
-drain-pass-requires-in-Claim-clause-feeds g c = let free = free_is (run (setting_of g.R.Resident.limits c.args.sq.now.given) c.turn-turn.result.found).own (claims c.args.mode (is_free (run (setting_of g.R.Resident.limits c.args.sq.now.given) c.turn-turn.result.found).own) (is_empty (run (setting_of g.R.Resident.limits c.args.sq.now.given) c.turn-turn.result.found).chain) (is_one c.args.chain.now) c.choose.result (chosen g.R.Resident.limits c.turn-turn.result.squeue c.args.sq.now c.turn-turn.result.found c.args.mode c.args.chain.now c.own.result c.is_free-woke.result c.chain_len.result c.choose.result c.turn-turn.ensures.squeue c.own.ensures c.is_free-woke.ensures c.chain_len.ensures c.choose.ensures) c.in-Claim.is) in subst (λ (o : Owner _). Feeds g.R.Resident.stands g.R.Resident.limits g.R.Resident.size g.R.Resident.origin c.args.sq.now o) (sym c.of-owner-in-Claim.ensures) (came_claim g.R.Resident.stands g.R.Resident.limits g.R.Resident.size g.R.Resident.origin c.args.sq.now c.args.pass c.args.chain.now c.turn-turn.result c.requires.may c.turn-turn.ensures c.requires.some free c.claim.result.0 c.claim.result.1 c.claim.result.2 c.claim.ensures.pass c.claim.ensures.hand c.claim.ensures.resident).feeds
+drain-pass-requires-in-Claim-clause-feeds g c = let free = free_is (run (setting_of g.R.Resident.limits c.args.sq.now.given) c.turn-turn.result.found).own (claims c.args.mode (is_free (run (setting_of g.R.Resident.limits c.args.sq.now.given) c.turn-turn.result.found).own) (is_empty (run (setting_of g.R.Resident.limits c.args.sq.now.given) c.turn-turn.result.found).chain) (is_one c.args.chain.now) c.choose.result (chosen g.R.Resident.limits c.turn-turn.result.squeue c.args.sq.now c.turn-turn.result.found c.args.mode c.args.chain.now c.own.result c.is_free-woke.result c.chain_len.result c.choose.result c.turn-turn.ensures.squeue c.own.ensures c.is_free-woke.ensures c.chain_len.ensures c.choose.ensures) c.in-Claim.is) in subst (λ (o : Owner _). Feeds g.R.Resident c.args.sq.now o) (sym c.of-owner-in-Claim.ensures) (came_claim g.R.Resident c.args.sq.now c.args.pass c.args.chain.now c.turn-turn.result c.requires.may c.turn-turn.ensures c.requires.some free c.claim.result.0 c.claim.result.1 c.claim.result.2 c.claim.ensures.pass c.claim.ensures.hand c.claim.ensures.resident).feeds
 
 pub drain-pass-requires-in-Claim-clause-has : goal.drain-pass-requires-in-Claim-clause-has
-drain-pass-requires-in-Claim-clause-has g c = let free = free_is (run (setting_of g.R.Resident.limits c.args.sq.now.given) c.turn-turn.result.found).own (claims c.args.mode (is_free (run (setting_of g.R.Resident.limits c.args.sq.now.given) c.turn-turn.result.found).own) (is_empty (run (setting_of g.R.Resident.limits c.args.sq.now.given) c.turn-turn.result.found).chain) (is_one c.args.chain.now) c.choose.result (chosen g.R.Resident.limits c.turn-turn.result.squeue c.args.sq.now c.turn-turn.result.found c.args.mode c.args.chain.now c.own.result c.is_free-woke.result c.chain_len.result c.choose.result c.turn-turn.ensures.squeue c.own.ensures c.is_free-woke.ensures c.chain_len.ensures c.choose.ensures) c.in-Claim.is) in subst (λ (o : Owner _). HasFeeds g.R.Resident.limits c.args.sq.now o) (sym c.of-owner-in-Claim.ensures) (came_claim g.R.Resident.stands g.R.Resident.limits g.R.Resident.size g.R.Resident.origin c.args.sq.now c.args.pass c.args.chain.now c.turn-turn.result c.requires.may c.turn-turn.ensures c.requires.some free c.claim.result.0 c.claim.result.1 c.claim.result.2 c.claim.ensures.pass c.claim.ensures.hand c.claim.ensures.resident).has
+drain-pass-requires-in-Claim-clause-has g c = let free = free_is (run (setting_of g.R.Resident.limits c.args.sq.now.given) c.turn-turn.result.found).own (claims c.args.mode (is_free (run (setting_of g.R.Resident.limits c.args.sq.now.given) c.turn-turn.result.found).own) (is_empty (run (setting_of g.R.Resident.limits c.args.sq.now.given) c.turn-turn.result.found).chain) (is_one c.args.chain.now) c.choose.result (chosen g.R.Resident.limits c.turn-turn.result.squeue c.args.sq.now c.turn-turn.result.found c.args.mode c.args.chain.now c.own.result c.is_free-woke.result c.chain_len.result c.choose.result c.turn-turn.ensures.squeue c.own.ensures c.is_free-woke.ensures c.chain_len.ensures c.choose.ensures) c.in-Claim.is) in subst (λ (o : Owner _). HasFeeds g.R.Resident.limits c.args.sq.now o) (sym c.of-owner-in-Claim.ensures) (came_claim g.R.Resident c.args.sq.now c.args.pass c.args.chain.now c.turn-turn.result c.requires.may c.turn-turn.ensures c.requires.some free c.claim.result.0 c.claim.result.1 c.claim.result.2 c.claim.ensures.pass c.claim.ensures.hand c.claim.ensures.resident).has
 
 pub returns-in-Claim-clause-entered : goal.returns-in-Claim-clause-entered
-returns-in-Claim-clause-entered g c = let free = free_is (run (setting_of g.R.Resident.limits c.args.sq.now.given) c.turn-turn.result.found).own (claims c.args.mode (is_free (run (setting_of g.R.Resident.limits c.args.sq.now.given) c.turn-turn.result.found).own) (is_empty (run (setting_of g.R.Resident.limits c.args.sq.now.given) c.turn-turn.result.found).chain) (is_one c.args.chain.now) c.choose.result (chosen g.R.Resident.limits c.turn-turn.result.squeue c.args.sq.now c.turn-turn.result.found c.args.mode c.args.chain.now c.own.result c.is_free-woke.result c.chain_len.result c.choose.result c.turn-turn.ensures.squeue c.own.ensures c.is_free-woke.ensures c.chain_len.ensures c.choose.ensures) c.in-Claim.is) in entered_claim g.R.Resident.stands g.R.Resident.limits g.R.Resident.size g.R.Resident.origin c.args.sq.now c.args.pass c.args.chain.now c.turn-turn.result c.requires.may c.turn-turn.ensures c.args.mode c.args.budget c.claim.result.0 c.claim.result.1 c.claim.result.2 c.drain-pass-in-Claim.result.0 c.drain-pass-in-Claim.result.1 c.drain-pass-in-Claim.result.2 ((chosen g.R.Resident.limits c.turn-turn.result.squeue c.args.sq.now c.turn-turn.result.found c.args.mode c.args.chain.now c.own.result c.is_free-woke.result c.chain_len.result c.choose.result c.turn-turn.ensures.squeue c.own.ensures c.is_free-woke.ensures c.chain_len.ensures c.choose.ensures) ∙ c.in-Claim.is) (came_claim g.R.Resident.stands g.R.Resident.limits g.R.Resident.size g.R.Resident.origin c.args.sq.now c.args.pass c.args.chain.now c.turn-turn.result c.requires.may c.turn-turn.ensures c.requires.some free c.claim.result.0 c.claim.result.1 c.claim.result.2 c.claim.ensures.pass c.claim.ensures.hand c.claim.ensures.resident) (subst (λ (o : Owner _). Drained g.R.Resident.limits c.args.sq.now c.args.budget o c.drain-pass-in-Claim.result.0) c.of-owner-in-Claim.ensures c.drain-pass-in-Claim.ensures.drained) c.drain-pass-in-Claim.ensures.tells
+returns-in-Claim-clause-entered g c = let free = free_is (run (setting_of g.R.Resident.limits c.args.sq.now.given) c.turn-turn.result.found).own (claims c.args.mode (is_free (run (setting_of g.R.Resident.limits c.args.sq.now.given) c.turn-turn.result.found).own) (is_empty (run (setting_of g.R.Resident.limits c.args.sq.now.given) c.turn-turn.result.found).chain) (is_one c.args.chain.now) c.choose.result (chosen g.R.Resident.limits c.turn-turn.result.squeue c.args.sq.now c.turn-turn.result.found c.args.mode c.args.chain.now c.own.result c.is_free-woke.result c.chain_len.result c.choose.result c.turn-turn.ensures.squeue c.own.ensures c.is_free-woke.ensures c.chain_len.ensures c.choose.ensures) c.in-Claim.is) in entered_claim g.R.Resident c.args.sq.now c.args.pass c.args.chain.now c.turn-turn.result c.requires.may c.turn-turn.ensures c.args.mode c.args.budget c.claim.result.0 c.claim.result.1 c.claim.result.2 c.drain-pass-in-Claim.result.0 c.drain-pass-in-Claim.result.1 c.drain-pass-in-Claim.result.2 ((chosen g.R.Resident.limits c.turn-turn.result.squeue c.args.sq.now c.turn-turn.result.found c.args.mode c.args.chain.now c.own.result c.is_free-woke.result c.chain_len.result c.choose.result c.turn-turn.ensures.squeue c.own.ensures c.is_free-woke.ensures c.chain_len.ensures c.choose.ensures) ∙ c.in-Claim.is) (came_claim g.R.Resident c.args.sq.now c.args.pass c.args.chain.now c.turn-turn.result c.requires.may c.turn-turn.ensures c.requires.some free c.claim.result.0 c.claim.result.1 c.claim.result.2 c.claim.ensures.pass c.claim.ensures.hand c.claim.ensures.resident) (subst (λ (o : Owner _). Drained g.R.Resident.limits c.args.sq.now c.args.budget o c.drain-pass-in-Claim.result.0) c.of-owner-in-Claim.ensures c.drain-pass-in-Claim.ensures.drained) c.drain-pass-in-Claim.ensures.tells
 
 pub returns-in-Fill-clause-brought : goal.returns-in-Fill-clause-brought
 returns-in-Fill-clause-brought g c = brought c.requires.may.pass (returns-in-Fill-clause-entered g c)

@@ -20,11 +20,11 @@ end_by-requires-clause-value g c =
     let e = element_of (held_number c.args.held) c.args.kind c.args.es.now g.N.Notes.note in
     let inner : c.note.new.self.inner ≡ (held_value c.args.held).inner = ap (λ (v : Guarded g.row.R.Denot). v.inner) c.note.ensures.same ∙ ap (λ (v : Guarded g.row.R.Denot). v.inner) c.value.ensures.value in
     let noted = subst (λ (v : Guarded g.row.R.Denot). Noted G v.traced v.trace (held_seen c.args.held)) (sym c.value.ensures.value) c.requires.noted in (
-      subst (λ (i : Inner g.row.R.Denot). Behind g.R.Resident.stands g.R.Resident.limits g.R.Resident.size g.R.Resident.origin G i (held_seen c.args.held ++ e ∷ [])) (sym inner) c.requires.value,
+      subst (λ (i : Inner g.row.R.Denot). Behind g.R.Resident G i (held_seen c.args.held ++ e ∷ [])) (sym inner) c.requires.value,
       c.note.ensures.noted G (held_seen c.args.held) e (ap (λ k. mark_by k c.args.kind c.args.es.now) (sym c.number-p.ensures)) noted,
     )
 
 pub end_by-requires-clause-count : goal.end_by-requires-clause-count
 end_by-requires-clause-count g c =
-    counts g.R.Resident.stands g.R.Resident.limits g.R.Resident.size g.R.Resident.origin (given_of (first_of c.args.gate.now)) (held_value c.args.held).inner (held_seen c.args.held)
+    counts g.R.Resident (given_of (first_of c.args.gate.now)) (held_value c.args.held).inner (held_seen c.args.held)
     (element_of (held_number c.args.held) c.args.kind c.args.es.now g.N.Notes.note) c.requires.value

@@ -23,32 +23,32 @@ claim_ask-requires-clause-may g c = may_claim g.R.Resident.limits c.args.sq.now 
 
 pub process-requires : goal.process-requires
 process-requires g c =
-    subst (λ (o : Owner _). Feeds g.R.Resident.stands g.R.Resident.limits g.R.Resident.size g.R.Resident.origin c.args.sq.now o) (sym c.of-owner.ensures)
-    (claims g.R.Resident.stands g.R.Resident.limits g.R.Resident.size g.R.Resident.origin c.args.sq.now c.args.turn c.claim_ask.result.0 c.claim_ask.result.1 c.claim_ask.result.2 c.requires.may c.requires.free c.claim_ask.ensures.pass c.claim_ask.ensures.hand c.claim_ask.ensures.resident)
+    subst (λ (o : Owner _). Feeds g.R.Resident c.args.sq.now o) (sym c.of-owner.ensures)
+    (claims g.R.Resident c.args.sq.now c.args.turn c.claim_ask.result.0 c.claim_ask.result.1 c.claim_ask.result.2 c.requires.may c.requires.free c.claim_ask.ensures.pass c.claim_ask.ensures.hand c.claim_ask.ensures.resident)
 
 pub returns-then-is_ask_of-clause-owner : goal.returns-then-is_ask_of-clause-owner
 returns-then-is_ask_of-clause-owner g c =
-    let claimed = has_claimed_by g.R.Resident.stands g.R.Resident.limits g.R.Resident.size g.R.Resident.origin c.args.sq.now c.args.turn c.claim_ask.result.0 c.process.new.owner.pass c.requires.may c.claim_ask.ensures.pass (c.process.ensures.pass ∙ ap (λ (o : Owner _). o.pass) c.of-owner.ensures) in
+    let claimed = has_claimed_by g.R.Resident c.args.sq.now c.args.turn c.claim_ask.result.0 c.process.new.owner.pass c.requires.may c.claim_ask.ensures.pass (c.process.ensures.pass ∙ ap (λ (o : Owner _). o.pass) c.of-owner.ensures) in
     let own = own_first c.process.new.owner.hand.left c.first.result c.number-me.result c.args.turn.number (number c.process.new.owner.pass) c.first.ensures (c.is_ask_of.ensures.0 c.if-is_ask_of.true) c.number-me.ensures (claimed.same_number) in
-    at_own g.R.Resident.stands g.R.Resident.limits g.R.Resident.size g.R.Resident.origin c.args.sq.now c.args.turn c.process.new.owner c.process.ensures.feeds claimed own.0 own.1 c.pass_first.new.self c.pass_first.ensures.left c.pass_first.ensures.room
+    at_own g.R.Resident c.args.sq.now c.args.turn c.process.new.owner c.process.ensures.feeds claimed own.0 own.1 c.pass_first.new.self c.pass_first.ensures.left c.pass_first.ensures.room
 
 pub returns-then-is_ask_of-clause-came : goal.returns-then-is_ask_of-clause-came
 returns-then-is_ask_of-clause-came g c =
-    let claimed = has_claimed_by g.R.Resident.stands g.R.Resident.limits g.R.Resident.size g.R.Resident.origin c.args.sq.now c.args.turn c.claim_ask.result.0 c.process.new.owner.pass c.requires.may c.claim_ask.ensures.pass (c.process.ensures.pass ∙ ap (λ (o : Owner _). o.pass) c.of-owner.ensures) in
-    came_own g.R.Resident.stands g.R.Resident.limits g.R.Resident.size g.R.Resident.origin c.args.sq.now c.args.turn c.process.new.owner c.process.ensures.feeds claimed c.requires.free
+    let claimed = has_claimed_by g.R.Resident c.args.sq.now c.args.turn c.claim_ask.result.0 c.process.new.owner.pass c.requires.may c.claim_ask.ensures.pass (c.process.ensures.pass ∙ ap (λ (o : Owner _). o.pass) c.of-owner.ensures) in
+    came_own g.R.Resident c.args.sq.now c.args.turn c.process.new.owner c.process.ensures.feeds claimed c.requires.free
 
 pub hand_on-requires-clause-next : goal.hand_on-requires-clause-next
 hand_on-requires-clause-next g c =
-    let claimed = has_claimed_by g.R.Resident.stands g.R.Resident.limits g.R.Resident.size g.R.Resident.origin c.args.sq.now c.args.turn c.claim_ask.result.0 c.process.new.owner.pass c.requires.may c.claim_ask.ensures.pass (c.process.ensures.pass ∙ ap (λ (o : Owner _). o.pass) c.of-owner.ensures) in
-    let next = next_ask g.R.Resident.stands g.R.Resident.limits g.R.Resident.size g.R.Resident.origin c.args.sq.now c.args.turn c.process.new.owner c.process.ensures.feeds claimed (no_feed c.process.new.owner.hand.left c.process.result c.len-all.result (length c.of-owner.result.hand.left) c.process.ensures.stops c.process.ensures.count c.len-all.ensures) in
+    let claimed = has_claimed_by g.R.Resident c.args.sq.now c.args.turn c.claim_ask.result.0 c.process.new.owner.pass c.requires.may c.claim_ask.ensures.pass (c.process.ensures.pass ∙ ap (λ (o : Owner _). o.pass) c.of-owner.ensures) in
+    let next = next_ask g.R.Resident c.args.sq.now c.args.turn c.process.new.owner c.process.ensures.feeds claimed (no_feed c.process.new.owner.hand.left c.process.result c.len-all.result (length c.of-owner.result.hand.left) c.process.ensures.stops c.process.ensures.count c.len-all.ensures) in
     (next.0, next.1, next.2, other_first c.process.new.owner.hand.left next.1 c.first.result next.0 c.number-me.result c.args.turn.number (number c.process.new.owner.pass) next.2 c.first.ensures (λ e. is_not c.is_ask_of.result c.if-is_ask_of.false (c.is_ask_of.ensures.1 e)) c.number-me.ensures claimed.same_number)
 
 pub wait_for_grant-requires-clause-open_pass : goal.wait_for_grant-requires-clause-open_pass
 wait_for_grant-requires-clause-open_pass g c =
-    let claimed = has_claimed_by g.R.Resident.stands g.R.Resident.limits g.R.Resident.size g.R.Resident.origin c.args.sq.now c.args.turn c.claim_ask.result.0 c.process.new.owner.pass c.requires.may c.claim_ask.ensures.pass (c.process.ensures.pass ∙ ap (λ (o : Owner _). o.pass) c.of-owner.ensures) in
-    open_handed g.R.Resident.stands g.R.Resident.limits g.R.Resident.size g.R.Resident.origin c.args.sq.now c.args.turn c.process.new.owner c.process.ensures.feeds claimed c.hand_on.result c.hand_on.ensures
+    let claimed = has_claimed_by g.R.Resident c.args.sq.now c.args.turn c.claim_ask.result.0 c.process.new.owner.pass c.requires.may c.claim_ask.ensures.pass (c.process.ensures.pass ∙ ap (λ (o : Owner _). o.pass) c.of-owner.ensures) in
+    open_handed g.R.Resident c.args.sq.now c.args.turn c.process.new.owner c.process.ensures.feeds claimed c.hand_on.result c.hand_on.ensures
 
 pub returns-clause-came : goal.returns-clause-came
 returns-clause-came g c =
-    let claimed = has_claimed_by g.R.Resident.stands g.R.Resident.limits g.R.Resident.size g.R.Resident.origin c.args.sq.now c.args.turn c.claim_ask.result.0 c.process.new.owner.pass c.requires.may c.claim_ask.ensures.pass (c.process.ensures.pass ∙ ap (λ (o : Owner _). o.pass) c.of-owner.ensures) in
-    came_handed g.R.Resident.stands g.R.Resident.limits g.R.Resident.size g.R.Resident.origin c.args.sq.now c.args.turn c.process.new.owner c.process.ensures.feeds claimed c.hand_on.result c.wait_for_grant.result.pass c.requires.free c.hand_on.ensures c.wait_for_grant.ensures.grows c.wait_for_grant.ensures.mine
+    let claimed = has_claimed_by g.R.Resident c.args.sq.now c.args.turn c.claim_ask.result.0 c.process.new.owner.pass c.requires.may c.claim_ask.ensures.pass (c.process.ensures.pass ∙ ap (λ (o : Owner _). o.pass) c.of-owner.ensures) in
+    came_handed g.R.Resident c.args.sq.now c.args.turn c.process.new.owner c.process.ensures.feeds claimed c.hand_on.result c.wait_for_grant.result.pass c.requires.free c.hand_on.ensures c.wait_for_grant.ensures.grows c.wait_for_grant.ensures.mine

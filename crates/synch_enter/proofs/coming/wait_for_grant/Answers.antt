@@ -21,8 +21,8 @@ pub returns-then-is_granted-clause-owner : goal.returns-then-is_granted-clause-o
 returns-then-is_granted-clause-owner g c =
     let below = subst (λ (k : ℕ). k < length c.args.sq.now.given.quotas) (sym c.loop.invariant.same_number) c.requires.no_worker in
     let may = may_here g.R.Resident.limits c.args.sq.now c.loop.pass c.turn-turn.result c.turn-turn.ensures below (sym c.own.ensures ∙ (c.is_granted.ensures.0 c.if-is_granted.true ∙ ap Granted c.number.ensures)) in
-    subst (λ (o : Owner _). StandsAtItsAsk g.R.Resident.stands g.R.Resident.limits g.R.Resident.size g.R.Resident.origin c.args.sq.now [] o) (sym c.of.ensures)
-    (accepts g.R.Resident.stands g.R.Resident.limits g.R.Resident.size g.R.Resident.origin c.args.sq.now c.loop.pass c.turn-turn.result c.accept.result.0 c.accept.result.1 c.accept.result.2 c.turn-turn.ensures below (open_at g.R.Resident.limits c.args.sq.now c.loop.pass c.turn-turn.result c.loop.invariant.is c.turn-turn.ensures c.loop.invariant.open_pass) may c.accept.ensures.pass c.accept.ensures.hand c.accept.ensures.resident)
+    subst (λ (o : Owner _). StandsAtItsAsk g.R.Resident c.args.sq.now [] o) (sym c.of.ensures)
+    (accepts g.R.Resident c.args.sq.now c.loop.pass c.turn-turn.result c.accept.result.0 c.accept.result.1 c.accept.result.2 c.turn-turn.ensures below (open_at g.R.Resident.limits c.args.sq.now c.loop.pass c.turn-turn.result c.loop.invariant.is c.turn-turn.ensures c.loop.invariant.open_pass) may c.accept.ensures.pass c.accept.ensures.hand c.accept.ensures.resident)
 
 pub returns-then-is_granted-clause-grows : goal.returns-then-is_granted-clause-grows
 returns-then-is_granted-clause-grows g c =

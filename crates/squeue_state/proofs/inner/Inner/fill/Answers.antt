@@ -10,6 +10,6 @@ returns g c =
           let cap = ap (λ w. vec_capacity w.chain) c.poll.ensures in
           let grown = c.queue_feeds.ensures.room in
           let room = b.room in
-          fill_behind g.R.Resident.stands g.R.Resident.limits g.R.Resident.size g.R.Resident.origin G c.args.self.now _ H p c.args.es.now b m (search rules) (ap (λ w. w.chain.items) c.poll.ensures ∙ c.queue_feeds.ensures.items) (search rules) (ap (λ w. w.polling) c.poll.ensures ∙ ap (λ xs. polls xs c.args.self.now.polling) c.queue_feeds.ensures.items) (search rules) (search rules) (search rules) (search rules)
+          fill_behind g.R.Resident G c.args.self.now _ H p c.args.es.now b m (search rules) (ap (λ w. w.chain.items) c.poll.ensures ∙ c.queue_feeds.ensures.items) (search rules) (ap (λ w. w.polling) c.poll.ensures ∙ ap (λ xs. polls xs c.args.self.now.polling) c.queue_feeds.ensures.items) (search rules) (search rules) (search rules) (search rules)
           (omega (arith, cap, grown, room));
     }

@@ -10,7 +10,7 @@ returns g c =
       behind = λ G H p rest b lies is_peri m.
           let back = c.give_back.ensures in
           let all = c.poll.ensures in
-          grant_behind g.R.Resident.stands g.R.Resident.limits g.R.Resident.size g.R.Resident.origin G c.args.self.now c.poll.new.self H p c.args.j rest (drop c.args.at c.args.entries.items) c.args.resident b lies.is_left is_peri m
+          grant_behind g.R.Resident G c.args.self.now c.poll.new.self H p c.args.j rest (drop c.args.at c.args.entries.items) c.args.resident b lies.is_left is_peri m
           (search rules)
           (ap (λ w. w.chain.items) all ∙ back.queue)
           (ap (λ w. w.wake) all ∙ ap (λ w. w.wake) back.same)

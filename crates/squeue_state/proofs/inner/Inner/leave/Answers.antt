@@ -15,7 +15,7 @@ returns g c =
           let here : c.set_here.new.here ≡ here_after c.args.act c.args.self.now.here.items = c.set_here.ensures ∙ ap (λ xs. here_after c.args.act xs) (c.deref_mut.ensures.value ∙ same_here) in
           let flags : length c.set_here.new.here ≡ c.give_back.new.self.here.len = omega (arith, ap length here, same_flags c.args.act c.args.self.now.here.items, ap length same_here, c.give_back.new.self.here.ok.0) in
           let queued = c.deref.ensures.value ∙ back.queue in
-          leave_behind g.R.Resident.stands g.R.Resident.limits g.R.Resident.size g.R.Resident.origin G c.args.self.now c.poll.new.self H p rest c.args.act note (drop c.args.at c.args.entries.items) c.args.resident b lies.is_left is_peri m
+          leave_behind g.R.Resident G c.args.self.now c.poll.new.self H p rest c.args.act note (drop c.args.at c.args.entries.items) c.args.resident b lies.is_left is_peri m
           (ap (λ w. w.own) all)
           (ap (λ w. w.chain.items) all ∙ back.queue)
           (ap (λ w. w.wake) all ∙ (rw queued at c.holds_some-self.ensures))

@@ -7,6 +7,6 @@ pub returns-clause-behind : goal.returns-clause-behind
 returns-clause-behind g c = λ G H p b fits m.
     let after = ap (λ w. w.chain) c.poll.ensures ∙ c.replace-hand.ensures.after in
     let empty : c.poll.new.self.chain.items ≡ [] = ap (λ v. v.items) after ∙ c.clear.ensures.items in
-    take_behind g.R.Resident.stands g.R.Resident.limits g.R.Resident.size g.R.Resident.origin G c.args.self.now c.poll.new.self H p b m (search rules) empty (search rules)
+    take_behind g.R.Resident G c.args.self.now c.poll.new.self H p b m (search rules) empty (search rules)
     (ap (λ w. w.polling) c.poll.ensures ∙ ap (λ xs. polls xs c.args.self.now.polling) (ap (λ v. v.items) c.replace-hand.ensures.after ∙ c.clear.ensures.items)) (search rules) (search rules) (search rules) (search rules)
     (omega (arith, ap (λ v. vec_capacity v) after, c.clear.ensures.capacity, fits))

@@ -7,4 +7,4 @@ pub returns-clause-behind : goal.returns-clause-behind
 returns-clause-behind g c = λ G H b m.
     let taken = c.take_all.ensures.taken in
     let empty = c.take_all.ensures.empty (room_of G.quotas) (empty_free (room_of G.quotas) c.args.self.now.own c.args.self.now.spare b.spare (b.own ∙ m.step.0)) in
-    work_behind g.R.Resident.stands g.R.Resident.limits g.R.Resident.size g.R.Resident.origin G c.args.self.now c.take_all.new.self H c.args.p b m (ap (λ w. w.own) taken) empty.0 (ap (λ w. w.wake) taken) (ap (λ w. w.polling) taken) (ap (λ w. w.here.items) taken) (ap (λ w. w.closed.items) taken) (ap (λ w. w.resident) taken) (ap (λ w. w.spare) taken) empty.1
+    work_behind g.R.Resident G c.args.self.now c.take_all.new.self H c.args.p b m (ap (λ w. w.own) taken) empty.0 (ap (λ w. w.wake) taken) (ap (λ w. w.polling) taken) (ap (λ w. w.here.items) taken) (ap (λ w. w.closed.items) taken) (ap (λ w. w.resident) taken) (ap (λ w. w.spare) taken) empty.1

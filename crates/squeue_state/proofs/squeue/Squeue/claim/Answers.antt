@@ -13,36 +13,36 @@ use Rattle.squeue_state.proofs.squeue.Squeue.claim.Goals as goal
 
 pub claim-resident-requires-clause-room : goal.claim-resident-requires-clause-room
 claim-resident-requires-clause-room g c =
-    let b = lent g.R.Resident.stands g.R.Resident.limits g.R.Resident.size g.R.Resident.origin c.turn.inside.of.value c.turn.inside.held c.args.turn c.args.self.now c.turn.invariant c.turn.view_is c.requires.squeue c.value.result.now c.value.ensures.value in
+    let b = lent g.R.Resident c.turn.inside.of.value c.turn.inside.held c.args.turn c.args.self.now c.turn.invariant c.turn.view_is c.requires.squeue c.value.result.now c.value.ensures.value in
     let S = setting_of g.R.Resident.limits c.args.self.now.given in
     let n = (c.number-p.ensures ∙ ap (λ (u : Turned g.row.R.Denot). u.number) c.turn.view_is) in
-    omega (arith, claim_fits g.R.Resident.stands g.R.Resident.limits g.R.Resident.size g.R.Resident.origin c.args.self.now.given c.value.result.now.inner c.args.turn.found c.args.turn.number c.args.es.now b c.requires.may, ap length b.chain, b.room, c.value.result.now.inner.chain.ok.0)
+    omega (arith, claim_fits g.R.Resident c.args.self.now.given c.value.result.now.inner c.args.turn.found c.args.turn.number c.args.es.now b c.requires.may, ap length b.chain, b.room, c.value.result.now.inner.chain.ok.0)
 
 pub end_turn-pass-requires-clause-value : goal.end_turn-pass-requires-clause-value
 end_turn-pass-requires-clause-value g c =
-    let b = lent g.R.Resident.stands g.R.Resident.limits g.R.Resident.size g.R.Resident.origin c.turn.inside.of.value c.turn.inside.held c.args.turn c.args.self.now c.turn.invariant c.turn.view_is c.requires.squeue c.value.result.now c.value.ensures.value in
+    let b = lent g.R.Resident c.turn.inside.of.value c.turn.inside.held c.args.turn c.args.self.now c.turn.invariant c.turn.view_is c.requires.squeue c.value.result.now c.value.ensures.value in
     let S = setting_of g.R.Resident.limits c.args.self.now.given in
     let n = (c.number-p.ensures ∙ ap (λ (u : Turned g.row.R.Denot). u.number) c.turn.view_is) in
-    ends g.R.Resident.stands g.R.Resident.limits g.R.Resident.size g.R.Resident.origin c.turn.inside.held c.args.turn c.turn.inside.of.value c.args.self.now (named_of c.self.inside.gate) c.turn.view_is c.self.view_is c.claim-resident.new.self (λ k. claimed k c.args.es.now) (subst (λ k. Behind g.R.Resident.stands g.R.Resident.limits g.R.Resident.size g.R.Resident.origin c.args.self.now.given c.claim-resident.new.self (c.args.turn.found ++ claimed k c.args.es.now ∷ [])) n (c.claim-resident.ensures.behind c.args.self.now.given c.args.turn.found b (subst (λ k. May S c.args.turn.found (claimed k c.args.es.now)) (sym n) c.requires.may)))
+    ends g.R.Resident c.turn.inside.held c.args.turn c.turn.inside.of.value c.args.self.now (named_of c.self.inside.gate) c.turn.view_is c.self.view_is c.claim-resident.new.self (λ k. claimed k c.args.es.now) (subst (λ k. Behind g.R.Resident c.args.self.now.given c.claim-resident.new.self (c.args.turn.found ++ claimed k c.args.es.now ∷ [])) n (c.claim-resident.ensures.behind c.args.self.now.given c.args.turn.found b (subst (λ k. May S c.args.turn.found (claimed k c.args.es.now)) (sym n) c.requires.may)))
 
 pub end_turn-pass-requires-clause-noted : goal.end_turn-pass-requires-clause-noted
 end_turn-pass-requires-clause-noted g c =
-    noted g.R.Resident.stands g.R.Resident.limits g.R.Resident.size g.R.Resident.origin c.turn.inside.of.value c.turn.inside.held c.args.turn c.args.self.now (named_of c.self.inside.gate) c.turn.invariant c.turn.view_is c.requires.squeue c.self.view_is c.value.result.now c.value.ensures.value
+    noted g.R.Resident c.turn.inside.of.value c.turn.inside.held c.args.turn c.args.self.now (named_of c.self.inside.gate) c.turn.invariant c.turn.view_is c.requires.squeue c.self.view_is c.value.result.now c.value.ensures.value
 
 pub returns-clause-resident : goal.returns-clause-resident
 returns-clause-resident g c =
-    let b = lent g.R.Resident.stands g.R.Resident.limits g.R.Resident.size g.R.Resident.origin c.turn.inside.of.value c.turn.inside.held c.args.turn c.args.self.now c.turn.invariant c.turn.view_is c.requires.squeue c.value.result.now c.value.ensures.value in
+    let b = lent g.R.Resident c.turn.inside.of.value c.turn.inside.held c.args.turn c.args.self.now c.turn.invariant c.turn.view_is c.requires.squeue c.value.result.now c.value.ensures.value in
     let S = setting_of g.R.Resident.limits c.args.self.now.given in
     let n = (c.number-p.ensures ∙ ap (λ (u : Turned g.row.R.Denot). u.number) c.turn.view_is) in
     let there : c.value.result.now.inner.resident ≡ Some c.in-Some.resident = sym c.claim-resident.ensures.same.0 ∙ c.in-Some.is in
     let seen_is = c.end_turn-pass.ensures.seen ∙ ap (λ (u : Turned g.row.R.Denot). u.found ++ claimed u.number c.args.es.now ∷ []) c.turn.view_is in
-    subst (λ (x : Blocks). IsPeri g.R.Resident.stands g.R.Resident.limits g.R.Resident.size g.R.Resident.origin c.args.self.now.given c.in-Some.resident x)
+    subst (λ (x : Blocks). IsPeri g.R.Resident c.args.self.now.given c.in-Some.resident x)
     (sym (ap (λ (H : List Element). peri S H) seen_is ∙ claimed_same S c.args.turn.found c.args.turn.number c.args.es.now c.requires.may))
-    (lies_free g.R.Resident.stands g.R.Resident.limits g.R.Resident.size g.R.Resident.origin c.args.self.now.given c.value.result.now.inner.own c.value.result.now.inner.resident c.in-Some.resident (peri S c.args.turn.found) b.resident (b.own ∙ c.requires.may.step.0) there)
+    (lies_free g.R.Resident c.args.self.now.given c.value.result.now.inner.own c.value.result.now.inner.resident c.in-Some.resident (peri S c.args.turn.found) b.resident (b.own ∙ c.requires.may.step.0) there)
 
 pub returns-clause-hand : goal.returns-clause-hand
 returns-clause-hand g c =
-    let b = lent g.R.Resident.stands g.R.Resident.limits g.R.Resident.size g.R.Resident.origin c.turn.inside.of.value c.turn.inside.held c.args.turn c.args.self.now c.turn.invariant c.turn.view_is c.requires.squeue c.value.result.now c.value.ensures.value in
+    let b = lent g.R.Resident c.turn.inside.of.value c.turn.inside.held c.args.turn c.args.self.now c.turn.invariant c.turn.view_is c.requires.squeue c.value.result.now c.value.ensures.value in
     let S = setting_of g.R.Resident.limits c.args.self.now.given in
     let n = (c.number-p.ensures ∙ ap (λ (u : Turned g.row.R.Denot). u.number) c.turn.view_is) in
     let seen_is = c.end_turn-pass.ensures.seen ∙ ap (λ (u : Turned g.row.R.Denot). u.found ++ claimed u.number c.args.es.now ∷ []) c.turn.view_is in
@@ -53,9 +53,9 @@ returns-clause-hand g c =
 
 pub invariant_of-result : goal.invariant_of-result
 invariant_of-result g c =
-    let b = lent g.R.Resident.stands g.R.Resident.limits g.R.Resident.size g.R.Resident.origin c.turn.inside.of.value c.turn.inside.held c.args.turn c.args.self.now c.turn.invariant c.turn.view_is c.requires.squeue c.value.result.now c.value.ensures.value in
+    let b = lent g.R.Resident c.turn.inside.of.value c.turn.inside.held c.args.turn c.args.self.now c.turn.invariant c.turn.view_is c.requires.squeue c.value.result.now c.value.ensures.value in
     let S = setting_of g.R.Resident.limits c.args.self.now.given in
     let n = (c.number-p.ensures ∙ ap (λ (u : Turned g.row.R.Denot). u.number) c.turn.view_is) in
-    let after = (subst (λ k. Behind g.R.Resident.stands g.R.Resident.limits g.R.Resident.size g.R.Resident.origin c.args.self.now.given c.claim-resident.new.self (c.args.turn.found ++ claimed k c.args.es.now ∷ [])) n (c.claim-resident.ensures.behind c.args.self.now.given c.args.turn.found b (subst (λ k. May S c.args.turn.found (claimed k c.args.es.now)) (sym n) c.requires.may))) in
+    let after = (subst (λ k. Behind g.R.Resident c.args.self.now.given c.claim-resident.new.self (c.args.turn.found ++ claimed k c.args.es.now ∷ [])) n (c.claim-resident.ensures.behind c.args.self.now.given c.args.turn.found b (subst (λ k. May S c.args.turn.found (claimed k c.args.es.now)) (sym n) c.requires.may))) in
     let whole = hand_after S c.args.turn.found (claimed c.args.turn.number c.args.es.now) c.claim-resident.result.1.items (c.claim-resident.ensures.same.1 ∙ ap (λ xs. xs ++ entries c.args.es.now) b.chain) in
-    (omega arith, omega (arith, c.claim-resident.result.1.ok.0, ap length whole, few_hand g.R.Resident.stands g.R.Resident.limits g.R.Resident.size g.R.Resident.origin c.args.self.now.given c.claim-resident.new.self (c.args.turn.found ++ claimed c.args.turn.number c.args.es.now ∷ []) after))
+    (omega arith, omega (arith, c.claim-resident.result.1.ok.0, ap length whole, few_hand g.R.Resident c.args.self.now.given c.claim-resident.new.self (c.args.turn.found ++ claimed c.args.turn.number c.args.es.now ∷ []) after))

@@ -7,16 +7,16 @@ use Rattle.squeue_state.proofs.squeue.Squeue.fill.Goals as goal
 
 pub fill-requires : goal.fill-requires
 fill-requires g c =
-    let b = lent g.R.Resident.stands g.R.Resident.limits g.R.Resident.size g.R.Resident.origin c.turn.inside.of.value c.turn.inside.held c.args.turn c.args.self.now c.turn.invariant c.turn.view_is c.requires.squeue c.value.result.now c.value.ensures.value in
-    let fits = fill_fits g.R.Resident.stands g.R.Resident.limits g.R.Resident.size g.R.Resident.origin c.args.self.now.given c.value.result.now.inner c.args.turn.found c.args.turn.number c.args.es.now b c.requires.may in
+    let b = lent g.R.Resident c.turn.inside.of.value c.turn.inside.held c.args.turn c.args.self.now c.turn.invariant c.turn.view_is c.requires.squeue c.value.result.now c.value.ensures.value in
+    let fits = fill_fits g.R.Resident c.args.self.now.given c.value.result.now.inner c.args.turn.found c.args.turn.number c.args.es.now b c.requires.may in
     record { room = omega (arith, fits, ap length b.chain, b.room, c.value.result.now.inner.chain.ok.0) }
 
 pub end_turn-pass-requires-clause-value : goal.end_turn-pass-requires-clause-value
 end_turn-pass-requires-clause-value g c =
-    let b = lent g.R.Resident.stands g.R.Resident.limits g.R.Resident.size g.R.Resident.origin c.turn.inside.of.value c.turn.inside.held c.args.turn c.args.self.now c.turn.invariant c.turn.view_is c.requires.squeue c.value.result.now c.value.ensures.value in
-    ends g.R.Resident.stands g.R.Resident.limits g.R.Resident.size g.R.Resident.origin c.turn.inside.held c.args.turn c.turn.inside.of.value c.args.self.now (named_of c.self.inside.gate) c.turn.view_is c.self.view_is c.fill.new.self (λ k. filled k c.args.es.now)
+    let b = lent g.R.Resident c.turn.inside.of.value c.turn.inside.held c.args.turn c.args.self.now c.turn.invariant c.turn.view_is c.requires.squeue c.value.result.now c.value.ensures.value in
+    ends g.R.Resident c.turn.inside.held c.args.turn c.turn.inside.of.value c.args.self.now (named_of c.self.inside.gate) c.turn.view_is c.self.view_is c.fill.new.self (λ k. filled k c.args.es.now)
     (c.fill.ensures.behind c.args.self.now.given c.args.turn.found c.args.turn.number b c.requires.may)
 
 pub end_turn-pass-requires-clause-noted : goal.end_turn-pass-requires-clause-noted
 end_turn-pass-requires-clause-noted g c =
-    noted g.R.Resident.stands g.R.Resident.limits g.R.Resident.size g.R.Resident.origin c.turn.inside.of.value c.turn.inside.held c.args.turn c.args.self.now (named_of c.self.inside.gate) c.turn.invariant c.turn.view_is c.requires.squeue c.self.view_is c.value.result.now c.value.ensures.value
+    noted g.R.Resident c.turn.inside.of.value c.turn.inside.held c.args.turn c.args.self.now (named_of c.self.inside.gate) c.turn.invariant c.turn.view_is c.requires.squeue c.self.view_is c.value.result.now c.value.ensures.value

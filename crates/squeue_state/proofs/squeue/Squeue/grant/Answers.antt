@@ -18,7 +18,7 @@ unreachable-requires g c = c.in_default.not-Ask (asker c.args.hand.left) (asks_a
 
 pub grant-requires-clause-room : goal.grant-requires-clause-room
 grant-requires-clause-room g c =
-    let b = lent g.R.Resident.stands g.R.Resident.limits g.R.Resident.size g.R.Resident.origin c.turn.inside.of.value c.turn.inside.held c.args.turn c.args.self.now c.turn.invariant c.turn.view_is c.requires.squeue c.value.result.now c.value.ensures.value in
+    let b = lent g.R.Resident c.turn.inside.of.value c.turn.inside.held c.args.turn c.args.self.now c.turn.invariant c.turn.view_is c.requires.squeue c.value.result.now c.value.ensures.value in
     let S = setting_of g.R.Resident.limits c.args.self.now.given in
     let H = (run S c.args.turn.found).hand in
     let within : length c.args.hand.left ≡ length H - (length H - length c.args.hand.left) = ap length c.requires.hand.is_left ∙ length-drop (length H - length c.args.hand.left) H in
@@ -31,12 +31,12 @@ grant-requires-clause-room g c =
       length-drop (c.hand.inside.at + 1) c.hand.inside.entries.items,
       ap length b.chain,
       c.requires.hand.has_room,
-      left_fits g.R.Resident.stands g.R.Resident.limits g.R.Resident.size g.R.Resident.origin c.args.self.now.given c.value.result.now.inner c.args.turn.found b,
+      left_fits g.R.Resident c.args.self.now.given c.value.result.now.inner c.args.turn.found b,
     )
 
 pub end_turn-pass-requires-clause-value : goal.end_turn-pass-requires-clause-value
 end_turn-pass-requires-clause-value g c =
-    let b = lent g.R.Resident.stands g.R.Resident.limits g.R.Resident.size g.R.Resident.origin c.turn.inside.of.value c.turn.inside.held c.args.turn c.args.self.now c.turn.invariant c.turn.view_is c.requires.squeue c.value.result.now c.value.ensures.value in
+    let b = lent g.R.Resident c.turn.inside.of.value c.turn.inside.held c.args.turn c.args.self.now c.turn.invariant c.turn.view_is c.requires.squeue c.value.result.now c.value.ensures.value in
     let S = setting_of g.R.Resident.limits c.args.self.now.given in
     let H = (run S c.args.turn.found).hand in
     let hand = granted_hand H c.args.hand.left (asker c.args.hand.left) c.requires.hand.is_left c.requires.first in
@@ -44,16 +44,16 @@ end_turn-pass-requires-clause-value g c =
     let rest : (length c.args.hand.left - 1) ≡ c.len.result - c.hand.inside.at - 1 =
     let l = ap (λ (h : Handed). length h.left) c.hand.view_is in omega (arith, l, length-drop c.hand.inside.at c.hand.inside.entries.items, c.hand.inside.entries.ok.0, c.len.ensures) in
     let left = sym (drop-drop 1 c.hand.inside.at c.hand.inside.entries.items) ∙ (ap (drop 1) (ap (λ (h : Handed). h.left) c.hand.view_is) ∙ hand.0) in
-    let peri_r = subst (λ (x : Blocks). IsPeri g.R.Resident.stands g.R.Resident.limits g.R.Resident.size g.R.Resident.origin c.args.self.now.given c.args.resident x) (same_blocks (processed (length c.args.hand.left) H) (processed (length c.args.hand.left - 1) H) (asker c.args.hand.left) (peri S c.args.turn.found) hand.1) c.requires.resident in
+    let peri_r = subst (λ (x : Blocks). IsPeri g.R.Resident c.args.self.now.given c.args.resident x) (same_blocks (processed (length c.args.hand.left) H) (processed (length c.args.hand.left - 1) H) (asker c.args.hand.left) (peri S c.args.turn.found) hand.1) c.requires.resident in
     let after = c.grant.ensures.behind c.args.self.now.given c.args.turn.found c.args.turn.number (length c.args.hand.left - 1) b
     (record { is_left = left; has_room = subst (λ k. room_of c.args.self.now.given.quotas ≡ k) (sym (ap (λ (h : Handed). h.room) c.hand.view_is)) c.requires.hand.has_room })
     peri_r (subst (λ k. May S c.args.turn.found (granted c.args.turn.number k (length c.args.hand.left - 1))) (sym j) c.requires.may) in
-    ends g.R.Resident.stands g.R.Resident.limits g.R.Resident.size g.R.Resident.origin c.turn.inside.held c.args.turn c.turn.inside.of.value c.args.self.now (named_of c.self.inside.gate) c.turn.view_is c.self.view_is c.grant.new.self (λ k. granted k c.in-Ask.j (c.len.result - c.hand.inside.at - 1))
-    (subst (λ k. Behind g.R.Resident.stands g.R.Resident.limits g.R.Resident.size g.R.Resident.origin c.args.self.now.given c.grant.new.self (c.args.turn.found ++ granted c.args.turn.number c.in-Ask.j k ∷ [])) rest after)
+    ends g.R.Resident c.turn.inside.held c.args.turn c.turn.inside.of.value c.args.self.now (named_of c.self.inside.gate) c.turn.view_is c.self.view_is c.grant.new.self (λ k. granted k c.in-Ask.j (c.len.result - c.hand.inside.at - 1))
+    (subst (λ k. Behind g.R.Resident c.args.self.now.given c.grant.new.self (c.args.turn.found ++ granted c.args.turn.number c.in-Ask.j k ∷ [])) rest after)
 
 pub end_turn-pass-requires-clause-noted : goal.end_turn-pass-requires-clause-noted
 end_turn-pass-requires-clause-noted g c =
-    noted g.R.Resident.stands g.R.Resident.limits g.R.Resident.size g.R.Resident.origin c.turn.inside.of.value c.turn.inside.held c.args.turn c.args.self.now (named_of c.self.inside.gate) c.turn.invariant c.turn.view_is c.requires.squeue c.self.view_is c.value.result.now c.value.ensures.value
+    noted g.R.Resident c.turn.inside.of.value c.turn.inside.held c.args.turn c.args.self.now (named_of c.self.inside.gate) c.turn.invariant c.turn.view_is c.requires.squeue c.self.view_is c.value.result.now c.value.ensures.value
 
 pub returns : goal.returns
 returns g c =

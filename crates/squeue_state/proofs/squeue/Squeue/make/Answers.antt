@@ -14,7 +14,7 @@ make-requires-clause-start g c =
     let count : length qs ≡ length c.args.quotas.now = length-map c.args.quotas.now (λ q. (q.feeds, q.asks)) in
     let starts = ap (λ (f : Chosen). f.starts) facts ∙ c.deref.ensures.value in
     let room = c.room_for-room.ensures in (
-      opens g.R.Resident.stands g.R.Resident.limits g.R.Resident.size g.R.Resident.origin _ _ c.args.resident qs is c.of-first.ensures
+      opens g.R.Resident _ _ c.args.resident qs is c.of-first.ensures
           (ap length starts ∙ c.in_ok-here.ensures.length)
           (λ blocks k s. ap (λ xs. get_or xs k false) starts ∙ c.in_ok-here.ensures.here blocks k s)
           c.requires.fresh (omega (arith, count, c.requires.few.1)) c.requires.feeds c.requires.asks

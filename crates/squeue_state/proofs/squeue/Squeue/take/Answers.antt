@@ -10,16 +10,16 @@ use Rattle.squeue_state.proofs.squeue.Squeue.take.Goals as goal
 
 pub end_turn-pass-requires-clause-value : goal.end_turn-pass-requires-clause-value
 end_turn-pass-requires-clause-value g c =
-    let b = lent g.R.Resident.stands g.R.Resident.limits g.R.Resident.size g.R.Resident.origin c.turn.inside.of.value c.turn.inside.held c.args.turn c.args.self.now c.turn.invariant c.turn.view_is c.requires.squeue c.value.result.now c.value.ensures.value in
-    ends g.R.Resident.stands g.R.Resident.limits g.R.Resident.size g.R.Resident.origin c.turn.inside.held c.args.turn c.turn.inside.of.value c.args.self.now (named_of c.self.inside.gate) c.turn.view_is c.self.view_is c.take-entries.new.self took (c.take-entries.ensures.behind c.args.self.now.given c.args.turn.found c.args.turn.number b (subst (λ k. room_of c.args.self.now.given.quotas ≡ k) (sym (ap (λ (h : Handed). h.room) c.hand.view_is)) c.requires.hand.0.has_room) c.requires.may)
+    let b = lent g.R.Resident c.turn.inside.of.value c.turn.inside.held c.args.turn c.args.self.now c.turn.invariant c.turn.view_is c.requires.squeue c.value.result.now c.value.ensures.value in
+    ends g.R.Resident c.turn.inside.held c.args.turn c.turn.inside.of.value c.args.self.now (named_of c.self.inside.gate) c.turn.view_is c.self.view_is c.take-entries.new.self took (c.take-entries.ensures.behind c.args.self.now.given c.args.turn.found c.args.turn.number b (subst (λ k. room_of c.args.self.now.given.quotas ≡ k) (sym (ap (λ (h : Handed). h.room) c.hand.view_is)) c.requires.hand.0.has_room) c.requires.may)
 
 pub end_turn-pass-requires-clause-noted : goal.end_turn-pass-requires-clause-noted
 end_turn-pass-requires-clause-noted g c =
-    noted g.R.Resident.stands g.R.Resident.limits g.R.Resident.size g.R.Resident.origin c.turn.inside.of.value c.turn.inside.held c.args.turn c.args.self.now (named_of c.self.inside.gate) c.turn.invariant c.turn.view_is c.requires.squeue c.self.view_is c.value.result.now c.value.ensures.value
+    noted g.R.Resident c.turn.inside.of.value c.turn.inside.held c.args.turn c.args.self.now (named_of c.self.inside.gate) c.turn.invariant c.turn.view_is c.requires.squeue c.self.view_is c.value.result.now c.value.ensures.value
 
 pub returns-clause-hand : goal.returns-clause-hand
 returns-clause-hand g c =
-    let b = lent g.R.Resident.stands g.R.Resident.limits g.R.Resident.size g.R.Resident.origin c.turn.inside.of.value c.turn.inside.held c.args.turn c.args.self.now c.turn.invariant c.turn.view_is c.requires.squeue c.value.result.now c.value.ensures.value in
+    let b = lent g.R.Resident c.turn.inside.of.value c.turn.inside.held c.args.turn c.args.self.now c.turn.invariant c.turn.view_is c.requires.squeue c.value.result.now c.value.ensures.value in
     let S = setting_of g.R.Resident.limits c.args.self.now.given in
     let seen_is = c.end_turn-pass.ensures.seen ∙ ap (λ (u : Turned g.row.R.Denot). u.found ++ took u.number ∷ []) c.turn.view_is in
     record {
@@ -29,7 +29,7 @@ returns-clause-hand g c =
 
 pub invariant_of-result : goal.invariant_of-result
 invariant_of-result g c =
-    let b = lent g.R.Resident.stands g.R.Resident.limits g.R.Resident.size g.R.Resident.origin c.turn.inside.of.value c.turn.inside.held c.args.turn c.args.self.now c.turn.invariant c.turn.view_is c.requires.squeue c.value.result.now c.value.ensures.value in
+    let b = lent g.R.Resident c.turn.inside.of.value c.turn.inside.held c.args.turn c.args.self.now c.turn.invariant c.turn.view_is c.requires.squeue c.value.result.now c.value.ensures.value in
     let S = setting_of g.R.Resident.limits c.args.self.now.given in
     let whole = hand_after S c.args.turn.found (took c.args.turn.number) c.take-entries.result.items (ap (λ v. v.items) c.take-entries.ensures.same ∙ b.chain) in
-    (omega arith, omega (arith, c.take-entries.result.ok.0, ap length whole, few_hand g.R.Resident.stands g.R.Resident.limits g.R.Resident.size g.R.Resident.origin c.args.self.now.given c.take-entries.new.self (c.args.turn.found ++ took c.args.turn.number ∷ []) (c.take-entries.ensures.behind c.args.self.now.given c.args.turn.found c.args.turn.number b (subst (λ k. room_of c.args.self.now.given.quotas ≡ k) (sym (ap (λ (h : Handed). h.room) c.hand.view_is)) c.requires.hand.0.has_room) c.requires.may)))
+    (omega arith, omega (arith, c.take-entries.result.ok.0, ap length whole, few_hand g.R.Resident c.args.self.now.given c.take-entries.new.self (c.args.turn.found ++ took c.args.turn.number ∷ []) (c.take-entries.ensures.behind c.args.self.now.given c.args.turn.found c.args.turn.number b (subst (λ k. room_of c.args.self.now.given.quotas ≡ k) (sym (ap (λ (h : Handed). h.room) c.hand.view_is)) c.requires.hand.0.has_room) c.requires.may)))

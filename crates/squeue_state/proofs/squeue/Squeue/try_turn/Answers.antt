@@ -2,4 +2,4 @@ use Rattle.squeue_state.proofs.Turns.{turn_made}
 use Rattle.squeue_state.proofs.squeue.Squeue.try_turn.Goals as goal
 
 pub invariant_of-result : goal.invariant_of-result
-invariant_of-result g c = turn_made g.R.Resident.stands g.R.Resident.limits g.R.Resident.size g.R.Resident.origin c.args.self.now c.of.result.value c.self.inside.gate c.args.pass c.in_ok-held.held c.of.ensures c.self.view_is c.in_ok-held.ensures.0
+invariant_of-result g c = turn_made g.R.Resident c.args.self.now c.of.result.value c.self.inside.gate c.args.pass c.in_ok-held.held c.of.ensures c.self.view_is c.in_ok-held.ensures.0

@@ -3,10 +3,10 @@ use Rattle.std.proofs.Math.Nat.{zero-mod}
 use Rattle.turn_gate.specs.Passes.{number, seen}
 use Rattle.turn_gate.specs.declared.pass.Pass.{Pass}
 use Rattle.perimeter_core.specs.declared.entries.Feed.{Feed}
+use Rattle.perimeter_core.specs.declared.resident.Resident.{Ghosts}
 use Rattle.perimeter_core.specs.declared.marks.SynchAct.TheVariants as Done
-use Rattle.perimeter_core.specs.Blocks.{Blocks}
 use Rattle.perimeter_core.specs.Deeds.{times_left}
-use Rattle.perimeter_core.specs.History.{Element, Limits, run}
+use Rattle.perimeter_core.specs.History.{Element, run}
 use Rattle.perimeter_core.specs.Perimeter.{Idle, is_here}
 use Rattle.squeue_state.specs.Naming.{Named, setting_of}
 use Rattle.squeue_drain.specs.declared.owner.Owner.{Owner}
@@ -16,9 +16,9 @@ use Rattle.synch_enter.specs.Synch.{Came, MayAsk, MayTake, StandsAtItsAsk}
 use Rattle.synch_enter.proofs.Knowing.{may_take}
 use Rattle.synch_enter.proofs.tests.beside.rings.Goals as goal
 
-module _ {R : Type 0} {limits : R → Limits} {s : Named R} {from to : Pass Element} {es : List Feed} (goes : GoesOn limits s from to) (idle : Idle (run (setting_of limits s.given) (seen to)) (number from)) (brought : Brought limits s es from to) where
+module _ {R P O : Type 0} {G : Ghosts R P O} {s : Named R} {from to : Pass Element} {es : List Feed} (goes : GoesOn G.limits s from to) (idle : Idle (run (setting_of G.limits s.given) (seen to)) (number from)) (brought : Brought G.limits s es from to) where
   -- an entry of feeds leaves the pass its Ask
-  still_asks : MayAsk limits s from → MayAsk limits s to
+  still_asks : MayAsk G.limits s from → MayAsk G.limits s to
   still_asks may =
       record {
         pass = goes.is_pass;
@@ -28,11 +28,11 @@ module _ {R : Type 0} {limits : R → Limits} {s : Named R} {from to : Pass Elem
       }
 
   -- and its block may leave as before
-  still_takes : {O : Type 0} {stands : R → Blocks → Type 0} {size : R → ℕ} {origin : R → O} (o : Owner R) → MayAsk limits s from → number from ≡ 0 → is_here (run (setting_of limits s.given) (seen from)) 0 ≡ true → times_left 0 (seen from) < slice_index (limits s.given.first).leaves 0
-      → Came limits s to o.pass → StandsAtItsAsk stands limits size origin s [] o → o.act ≡ Done.None → MayTake stands limits size origin s 0 o
-  still_takes {O} {stands} {size} {origin} o may zero here leaves came at none =
+  still_takes : (o : Owner R) → MayAsk G.limits s from → number from ≡ 0 → is_here (run (setting_of G.limits s.given) (seen from)) 0 ≡ true → times_left 0 (seen from) < slice_index (G.limits s.given.first).leaves 0
+      → Came G.limits s to o.pass → StandsAtItsAsk G s [] o → o.act ≡ Done.None → MayTake G s 0 o
+  still_takes o may zero here leaves came at none =
       let ring : number from ≡ 0 % s.given.rings = zero ∙ sym (zero-mod s.given.rings) in
-      may_take stands limits size origin s to o 0 (still_asks may) came at none (goes.same_number ∙ ring) (brought.here 0 ring ∙ here) (rw (brought.left 0 ring) leaves)
+      may_take G s to o 0 (still_asks may) came at none (goes.same_number ∙ ring) (brought.here 0 ring ∙ here) (rw (brought.left 0 ring) leaves)
 
 pub take_block-log-requires : goal.take_block-log-requires
 take_block-log-requires g c =
