@@ -36,7 +36,8 @@ asks service j k call s = record {
 
 -- one act on connection c, whose service is given
 abbrev pub serves_act : PlanOf → CallLists → ℕ → Service → Act → Serving → Serving
-serves_act p calls c service (act.Feed n) s = option_map_or (λ x. record s { block = receives service x (text_of p.file x) s.block }) (slice_get (items_in p c) n) s
+serves_act p calls c service (act.Feed n) s =
+    option_map_or (λ x. record s { block = receives service x (text_of p.file x) s.block }) (slice_get (items_in p c) n) s
 serves_act p calls c service (act.Call j k) s = option_map_or (λ x. asks service j k x.1 s) (call_at calls j k) s
 
 abbrev pub serves : PlanOf → CallLists → ℕ → Service → List Act → Serving → Serving
@@ -105,7 +106,8 @@ SetsClock p c (act.Call j k) old new = new ≡ old
 
 -- what an act that is served leaves as it was
 abbrev pub SameOrder : BlockOf → BlockOf → Type 0
-SameOrder new old = (new.service ≡ old.service) × (new.order ≡ old.order) × (new.stages ≡ old.stages) × (new.order_room ≡ old.order_room) × (old.answers_room ≤ new.answers_room) × (new.of ≡ old.of)
+SameOrder new old = (new.service ≡ old.service) × (new.order ≡ old.order) × (new.stages ≡ old.stages) × (new.order_room ≡ old.order_room)
+    × (old.answers_room ≤ new.answers_room) × (new.of ≡ old.of)
 
 abbrev pub serving_of : BlockOf → Serving
 serving_of b = record { block = b.tcb; answers = b.answers }

@@ -17,7 +17,8 @@ feeds_of_calls j [] = refl
 feeds_of_calls j (k ∷ ks) = feeds_of_calls j ks
 
 -- feeds are kept where they come
-feeds_kept : (calls : CallLists) (c : ℕ) (came kept : List Act) (a : Act) → feed_numbers (keeps calls c came kept a) ≡ feed_numbers kept ++ feed_numbers (a ∷ [])
+feeds_kept : (calls : CallLists) (c : ℕ) (came kept : List Act) (a : Act)
+    → feed_numbers (keeps calls c came kept a) ≡ feed_numbers kept ++ feed_numbers (a ∷ [])
 feeds_kept calls c came kept (act.Feed n) = feeds_append kept (act.Feed n ∷ [])
 feeds_kept calls c came kept (act.Call j k) = by (has_call j k came) (is_next calls c kept j k)
   where

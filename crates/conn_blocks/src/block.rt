@@ -1,15 +1,12 @@
 //! A block, and one order served.
 
-ghost use Rattle.std.specs.Prelude.{◌≡◌, ℕ, ◌+◌, ◌<◌, ◌≤◌, ◌^◌, false, true, [], ◌∷◌, ◌++◌, length, slice_get, Some, IfOk, OnOk, IfSome};
+ghost use Rattle.std.specs.Prelude.{◌≡◌, ◌+◌, ◌<◌, ◌≤◌, ◌^◌, false, true, [], ◌∷◌, ◌++◌, length, slice_get, Some, IfOk, OnOk};
 ghost use Rattle.std.specs.List.{AllByRecursion};
-ghost use Rattle.tcb_machine.specs.BlockState.{new_block, offered};
-ghost use Rattle.tcb_machine.specs.CallAnswers.{tcp_call};
+ghost use Rattle.tcb_machine.specs.BlockState.{offered};
 ghost use Rattle.byte_queues.specs.ReceiveQueue.{next_of};
-ghost use Rattle.conn_classifier.specs.Plan.{items_in, time_of, text_len_of, text_of};
-ghost use Rattle.echo_services.specs.Pump.{followed};
-ghost use Rattle.conn_blocks.specs.CallLists.{calls_of, call_at};
+ghost use Rattle.conn_classifier.specs.Plan.{items_in, time_of, text_len_of};
 ghost use Rattle.conn_blocks.specs.Holding.{IsNew};
-ghost use Rattle.conn_blocks.specs.ServeOrder.{asks, receives, serve, serves_act, service_in, serving_of, IsActOf, IsDone, FeedsRise, IsTimely, SameOrder, SetsClock};
+ghost use Rattle.conn_blocks.specs.ServeOrder.{asks, receives, serve, serves_act, serving_of, IsActOf, IsDone, FeedsRise, IsTimely, SameOrder, SetsClock};
 
 use crate::calls::Calls;
 use crate::facts::{Connection, connection_of};

@@ -1,6 +1,6 @@
 //! The calls that the application threads make.
 
-ghost use Rattle.std.specs.Prelude.{◌≡◌, ℕ, ◌+◌, ◌<◌, ◌≤◌, [], ◌∷◌, ◌++◌, length, set, get_or, slice_get, Some, OnOk, OnErr};
+ghost use Rattle.std.specs.Prelude.{◌≡◌, ℕ, ◌+◌, ◌<◌, ◌≤◌, [], ◌∷◌, ◌++◌, length, set, Some, OnOk, OnErr};
 ghost use Rattle.conn_blocks.specs.CallLists.{calls_of, call_at, call_count};
 ghost use Rattle.conn_blocks.specs.Holding.{calls_on};
 ghost use Rattle.conn_blocks.specs.Orders.{numbers_from};

@@ -46,7 +46,8 @@ pub fn a_block_holds_back_what_settling_holds()
 /// Where places stand for what was done to blocks, the block of each connection that is here lies at its place and stands for
 /// what was done to it. The place of a connection that isn't here is empty.
 pub fn each_block_lies_at_its_place()
-    ensures here { (p : PlanOf) (calls : CallLists) (places : List (Option (Box BlockOf Global))) (blocks : Had) (c : ℕ) (came : List Act) → PlacesStand p calls places blocks
+    ensures here { (p : PlanOf) (calls : CallLists) (places : List (Option (Box BlockOf Global))) (blocks : Had) (c : ℕ) (came : List Act)
+        → PlacesStand p calls places blocks
         → blocks c ≡ Some came → (b : Box BlockOf Global) × (slice_get places c ≡ Some (Some b)) × StandsFor p calls c came b.value }
     ensures away { (p : PlanOf) (calls : CallLists) (places : List (Option (Box BlockOf Global))) (blocks : Had) (c : ℕ) → PlacesStand p calls places blocks
         → blocks c ≡ None → c < length places → slice_get places c ≡ Some None }

@@ -9,22 +9,27 @@ ghost use Rattle.perimeter_core.specs.Deeds.{acts};
 ghost use Rattle.perimeter_core.specs.Legal.{Legal};
 ghost use Rattle.squeue_state.specs.Elements.{gone};
 ghost use Rattle.squeue_state.specs.Naming.{Ending};
-ghost use Rattle.conn_migrate.specs.Stays.{all_in, begun, stays, reports, done_in, AreSameStays, EndsAStay, AreLegal, StartsAtHome, IsLinked, AreLinked, AreOfAllStays};
+ghost use Rattle.conn_migrate.specs.Stays.{all_in, begun, stays, reports, done_in};
+ghost use Rattle.conn_migrate.specs.Stays.{AreSameStays, EndsAStay, AreLegal, StartsAtHome, IsLinked, AreLinked, AreOfAllStays};
 
 /// An Out ends the stay that goes on.
 pub fn an_out_ends_a_stay()
-    ensures { (S : Setting) (H : List Element) (p rest c : ℕ) → Legal S (H ++ gone p rest (Done.Out c) [] ∷ []) → EndsAStay S H (gone p rest (Done.Out c) []) c }
+    ensures { (S : Setting) (H : List Element) (p rest c : ℕ) → Legal S (H ++ gone p rest (Done.Out c) [] ∷ [])
+        → EndsAStay S H (gone p rest (Done.Out c) []) c }
 {}
 
 /// An In begins a stay, with its note.
 pub fn an_in_begins_a_stay()
-    ensures { (S : Setting) (H : List Element) (p rest c : ℕ) (note : List Act) → stays S (H ++ gone p rest (Done.In c) note ∷ []) c ≡ record { ended = all_in (stays S H c); now = Some (begun note) } }
+    ensures { (S : Setting) (H : List Element) (p rest c : ℕ) (note : List Act)
+        → stays S (H ++ gone p rest (Done.In c) note ∷ []) c ≡ record { ended = all_in (stays S H c); now = Some (begun note) } }
 {}
 
 /// Where the block of a connection is, its acts are those of all its stays, one after another.
 pub fn acts_are_those_of_all_stays()
-    ensures each { (hs : List Ending) (c q : ℕ) (h : Ending) → AreLegal hs → StartsAtHome hs c → IsLinked hs c → slice_get hs q ≡ Some h → is_here (run h.setting h.history) c ≡ true → AreOfAllStays hs c (acts h.setting h.history c) }
-    ensures linked { (n : ℕ) (hs : List Ending) (c q : ℕ) (h : Ending) → AreLinked n hs → c < n → slice_get hs q ≡ Some h → is_here (run h.setting h.history) c ≡ true
+    ensures each { (hs : List Ending) (c q : ℕ) (h : Ending) → AreLegal hs → StartsAtHome hs c → IsLinked hs c → slice_get hs q ≡ Some h
+        → is_here (run h.setting h.history) c ≡ true → AreOfAllStays hs c (acts h.setting h.history c) }
+    ensures linked { (n : ℕ) (hs : List Ending) (c q : ℕ) (h : Ending) → AreLinked n hs → c < n → slice_get hs q ≡ Some h
+        → is_here (run h.setting h.history) c ≡ true
         → AreOfAllStays hs c (acts h.setting h.history c) }
 {}
 

@@ -47,7 +47,8 @@ pub fn count_all<R: Threads + Wait + Sync>(
         threads,
         &|_, job: &mut Job<Line>|
             requires { IsReady writer (gate_id gate.now) job.now }
-            ensures { IsReady writer (gate_id gate.entry.now) job.exit.now × (job_number job.exit.now ≡ job_number job.entry.now) × (job_turns job.exit.now ≡ job_turns job.entry.now + 1) }
+            ensures { IsReady writer (gate_id gate.entry.now) job.exit.now × (job_number job.exit.now ≡ job_number job.entry.now)
+                × (job_turns job.exit.now ≡ job_turns job.entry.now + 1) }
         { count_once(rt, gate, job) },
     );
 }

@@ -1,6 +1,6 @@
 //! Threads that write a diary together.
 
-ghost use Rattle.std.specs.Prelude.{◌≡◌, ◌<◌, ◌+◌, All, ℕ, length, slice_index_or};
+ghost use Rattle.std.specs.Prelude.{◌≡◌, ◌<◌, ◌+◌, All};
 ghost use Rattle.turn_gate.specs.Gates.{gate_id};
 ghost use Rattle.turn_gate.specs.Passes.{IsPassOf, turns_of, number, steps};
 ghost use Rattle.gate_trial.specs.Diary.{writer};
@@ -35,7 +35,8 @@ pub fn write_all<R: Threads + Wait + Sync>(
         threads,
         &|_, job: &mut Job<Line>|
             requires { IsReady writer (gate_id gate.now) job.now }
-            ensures { IsReady writer (gate_id gate.entry.now) job.exit.now × (job_number job.exit.now ≡ job_number job.entry.now) × (job_turns job.exit.now ≡ job_turns job.entry.now + turns) }
+            ensures { IsReady writer (gate_id gate.entry.now) job.exit.now × (job_number job.exit.now ≡ job_number job.entry.now)
+                × (job_turns job.exit.now ≡ job_turns job.entry.now + turns) }
         { run(rt, gate, job, turns, pause) },
     );
 }

@@ -31,7 +31,8 @@ module _ {R : Type 0} (limits : R → Limits) (s : Named R) where
   -- a pass of the squeue that has seen nothing, with its task: a ring brings its list, the last pass works
   abbrev pub IsNewFor : Task → Option (Pass Element) → Type 0
   IsNewFor task None = ⊥
-  IsNewFor (Task'.Bring list) (Some p) = IsPassOf number_of s.gate p × (seen p ≡ []) × (number p < s.given.rings) × (list.items ≡ list_of s.given.rings (number p) 0 (items_in limits s.given))
+  IsNewFor (Task'.Bring list) (Some p) = IsPassOf number_of s.gate p × (seen p ≡ []) × (number p < s.given.rings)
+      × (list.items ≡ list_of s.given.rings (number p) 0 (items_in limits s.given))
   IsNewFor Task'.Work (Some p) = IsPassOf number_of s.gate p × (seen p ≡ []) × (number p ≡ worker (setting_of limits s.given))
 
   abbrev pub IsNewTask : Job Task → Type 0

@@ -76,7 +76,8 @@ pub fn ring_quotas(alloc: Global, lists: &[Vec<Feed>]) -> Result<Vec<Quota>, All
 
 /// The tasks of the passes: each ring brings its list, and the last pass works.
 pub fn tasks_of(alloc: Global, lists: Vec<Vec<Feed>>) -> Result<Vec<Task>, AllocError>
-    ensures { (rings : ℕ) (counts : List ℕ) → length lists.items ≡ rings → AreLists rings counts 0 lists.items → IfOk result (λ v. AreTasks rings counts v.items) }
+    ensures { (rings : ℕ) (counts : List ℕ) → length lists.items ≡ rings → AreLists rings counts 0 lists.items
+        → IfOk result (λ v. AreTasks rings counts v.items) }
 {
     let mut lists = lists;
     let mut tasks = Vec::with_capacity(alloc, lists.len() + 1)?;

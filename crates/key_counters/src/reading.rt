@@ -48,7 +48,8 @@ pub fn totals_of(counters: &Counters<'_>, alloc: Global) -> Result<Vec<u64>, All
 pub fn last_reading(counters: &Counters<'_>, c: u32) -> Option<u64>
     requires { c < size_of counters.now }
     ensures place { result ≡ option_map (λ k. k.read) (part_at counters.now c) }
-    ensures found { (blocks : Blocks) (had : List Act) → Stands counters.now blocks → blocks c ≡ Some had → result ≡ Some (found_by_reading (row_of (rows_of (shared_of counters.now)) c) had) }
+    ensures found { (blocks : Blocks) (had : List Act) → Stands counters.now blocks → blocks c ≡ Some had
+        → result ≡ Some (found_by_reading (row_of (rows_of (shared_of counters.now)) c) had) }
 {
     match counters.part(c) {
         Some(counter) => Some(counter.read),

@@ -1,7 +1,8 @@
 -- The perimeter machine: the state of one perimeter, what each mark needs there, and what it does.
 -- A perimeter's passes and connections are known by their numbers. An owner holds the perimeter's blocks and processes
 -- its hand outside of the machine; a mark tells how many entries of the hand it leaves unprocessed.
-use Rattle.std.specs.Prelude.{◌≡◌, ◌≢◌, ℕ, ◌-◌, ◌≤◌, Bool, true, false, not, ◌&&◌, ◌||◌, List, [], ◌∷◌, ◌++◌, length, take, drop, nat_le, slice_index_or, slice_set, ◌==◌}
+use Rattle.std.specs.Prelude.{◌≡◌, ◌≢◌, ℕ, ◌-◌, ◌≤◌, Bool, true, false, not, ◌&&◌, ◌||◌, List}
+use Rattle.std.specs.Prelude.{[], ◌∷◌, ◌++◌, length, take, drop, nat_le, slice_index_or, slice_set, ◌==◌}
 use Rattle.perimeter_core.specs.declared.entries.Entry.{Entry}
 use Rattle.perimeter_core.specs.declared.entries.Entry.TheVariants.{Feed, Ask}
 use Rattle.perimeter_core.specs.declared.marks.Own.{Own}

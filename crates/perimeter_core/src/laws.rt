@@ -62,7 +62,8 @@ pub fn an_owner_waits_no_more()
 
 /// An element of another pass leaves what a pass knows of itself.
 pub fn passes_are_left_alone()
-    ensures { (S : Setting) (H : List Element) (e : Element) (p : ℕ) → Legal S H → May S H e → pass_of e.mark ≢ p → PassKept (run S H) (run S (H ++ e ∷ [])) e p }
+    ensures { (S : Setting) (H : List Element) (e : Element) (p : ℕ) → Legal S H → May S H e → pass_of e.mark ≢ p
+        → PassKept (run S H) (run S (H ++ e ∷ [])) e p }
 {}
 
 /// What a pass knew of itself still holds, where others made all later elements.
@@ -92,7 +93,8 @@ pub fn the_next_feed_fits()
 
 /// A block that is here has had all its feeds but those that are queued.
 pub fn only_queued_feeds_are_missing()
-    ensures { (S : Setting) (H : List Element) (c : ℕ) → Legal S H → is_here (run S H) c ≡ true → fed (acts S H c) + length (feeds_of c (queue (run S H))) ≡ due H c }
+    ensures { (S : Setting) (H : List Element) (c : ℕ) → Legal S H → is_here (run S H) c ≡ true
+        → fed (acts S H c) + length (feeds_of c (queue (run S H))) ≡ due H c }
 {}
 
 /// The feeds of a block are numbered from 0, where those of the notes are.
@@ -102,17 +104,20 @@ pub fn acts_are_numbered()
 
 /// Where the ring of a connection is owner at its Ask, nothing of the connection is queued behind it.
 pub fn a_ring_at_its_ask_is_last()
-    ensures { (S : Setting) (H : List Element) (c : ℕ) → Legal S H → (run S H).own ≡ Own.Out (c % S.rings) → ((run S H).hand ≡ []) ⊎ (ends_with_ask (c % S.rings) (run S H).hand ≡ true) → feeds_of c (run S H).chain ≡ [] }
+    ensures { (S : Setting) (H : List Element) (c : ℕ) → Legal S H → (run S H).own ≡ Own.Out (c % S.rings) → ((run S H).hand ≡ [])
+        ⊎ (ends_with_ask (c % S.rings) (run S H).hand ≡ true) → feeds_of c (run S H).chain ≡ [] }
 {}
 
 /// Where a connection was here and is here no more, an Out of it stands between.
 pub fn a_block_that_is_gone_was_taken_out()
-    ensures { (S : Setting) (H K : List Element) (c : ℕ) → Legal S (H ++ K) → is_here (run S H) c ≡ true → is_here (run S (H ++ K)) c ≡ false → 0 < times_left c K }
+    ensures { (S : Setting) (H K : List Element) (c : ℕ) → Legal S (H ++ K) → is_here (run S H) c ≡ true → is_here (run S (H ++ K)) c ≡ false
+        → 0 < times_left c K }
 {}
 
 /// While a connection is elsewhere, no feed of it is processed.
 pub fn nothing_of_a_block_elsewhere_is_processed()
-    ensures { (S : Setting) (H : List Element) (e : Element) (c : ℕ) → Legal S H → May S H e → is_here (run S H) c ≡ false → feeds_of c (done_by (run S H) e.mark) ≡ [] }
+    ensures { (S : Setting) (H : List Element) (e : Element) (c : ℕ) → Legal S H → May S H e → is_here (run S H) c ≡ false
+        → feeds_of c (done_by (run S H) e.mark) ≡ [] }
 {}
 
 /// While a connection is elsewhere, no mark reports a feed or a call of it.

@@ -88,7 +88,8 @@ impl Logs {
         requires calls { All (λ call. call.0 < length starts.now) calls.items }
         ensures stands { IfOk result (λ r. Stands r (none_done starts.now)) }
         ensures count { IfOk result (λ r. size_of r ≡ length starts.now) }
-        ensures limits { IfOk result (λ r. limits_of r ≡ record { feeds = replicate (length starts.now) feeds; leaves = replicate (length starts.now) leaves; calls = calls.items }) }
+        ensures limits { IfOk result (λ r. limits_of r
+            ≡ record { feeds = replicate (length starts.now) feeds; leaves = replicate (length starts.now) leaves; calls = calls.items }) }
     {
         let mut logs = Vec::new(alloc);
         for (c, here) in starts.iter().enumerate() {

@@ -76,7 +76,8 @@ pub trait Resident {
         requires range { c < size self.old }
         requires away { NotHere (stands self.old) c }
         requires owner { is_part_of (origin self.old) c part }
-        ensures stands { (blocks : Blocks) (note : List Act) → stands self.old blocks → part_stands part note → stands self.new (with_act (Done.In c) note blocks) }
+        ensures stands { (blocks : Blocks) (note : List Act) → stands self.old blocks → part_stands part note
+            → stands self.new (with_act (Done.In c) note blocks) }
         ensures limits { limits self.new ≡ limits self.old }
         ensures size { size self.new ≡ size self.old }
         ensures origin { origin self.new ≡ origin self.old };

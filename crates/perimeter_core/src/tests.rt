@@ -197,7 +197,9 @@ fn each_call<R: Resident>(alloc: Global, resident: &mut R, c: u32, j: u32, k: u3
     requires limit { 0 < slice_index (R.limits resident.old).feeds c }
     requires exists { Contains (R.limits resident.old).calls (c, j, k) }
     ensures size { R.size resident.new ≡ R.size resident.old }
-    ensures stands { (blocks : Blocks) (had : List Act) → R.stands resident.old blocks → blocks c ≡ Some had → R.stands resident.new (with_act (Done.In c) (had ++ Did.Feed 0 ∷ Did.Call j k ∷ []) (with_act (Done.Out c) [] (with_act (Done.Call c j k) [] (with_feeds (Entry'.Feed c 0 ∷ []) blocks)))) }
+    ensures stands { (blocks : Blocks) (had : List Act) → R.stands resident.old blocks → blocks c ≡ Some had
+        → R.stands resident.new (with_act (Done.In c) (had ++ Did.Feed 0 ∷ Did.Call j k ∷ [])
+        (with_act (Done.Out c) [] (with_act (Done.Call c j k) [] (with_feeds (Entry'.Feed c 0 ∷ []) blocks)))) }
 {
     resident.feed(alloc, c, 0);
     resident.call(alloc, c, j, k);

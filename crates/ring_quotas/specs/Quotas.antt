@@ -39,7 +39,8 @@ module _ (p : PlanOf) (squeues rings spread q : ℕ) where
 
   -- and how many asks: one for each time that one of them leaves it or comes to it
   abbrev pub ring_asks : ℕ → ℕ
-  ring_asks r = sum_by (λ c. times_leaving squeues spread q c (length (items_in p c)) + times_coming squeues spread q c (length (items_in p c))) (conns_of p rings r)
+  ring_asks r =
+      sum_by (λ c. times_leaving squeues spread q c (length (items_in p c)) + times_coming squeues spread q c (length (items_in p c))) (conns_of p rings r)
 
 module _ (p : PlanOf) (calls : CallLists) (squeues spread q : ℕ) where
   -- how many asks application thread j enters at most: one for each of its calls, and one more for each time that the connection leaves

@@ -18,17 +18,20 @@ use perimeter_core::Resident;
 /// The list of a ring has the feeds of each of its connections in order, and all of them.
 pub fn a_rings_list_is_whole()
     ensures order { (p : PlanOf) (rings r : ℕ) (list : List Feed) → IsPlan p → IsRingList p rings r list → InOrder list }
-    ensures whole { (p : PlanOf) (rings r : ℕ) (list : List Feed) (c : ℕ) → IsPlan p → IsRingList p rings r list → c < length p.tuples → r ≡ c % rings → brought c list ≡ length (items_in p c) }
+    ensures whole { (p : PlanOf) (rings r : ℕ) (list : List Feed) (c : ℕ) → IsPlan p → IsRingList p rings r list → c < length p.tuples → r ≡ c % rings
+        → brought c list ≡ length (items_in p c) }
 {}
 
 /// A ring may bring its list over squeues that were made with these quotas.
 pub fn a_rings_list_may_be_brought<R: Resident>()
-    ensures { (p : PlanOf) (calls : CallLists) (squeues rings spread r : ℕ) (list : List Feed) (ss : List (Named R)) → IsPlan p → r < rings → IsRingList p rings r list
+    ensures { (p : PlanOf) (calls : CallLists) (squeues rings spread r : ℕ) (list : List Feed) (ss : List (Named R)) → IsPlan p → r < rings
+        → IsRingList p rings r list
         → Each (IsMadeFor R.limits p calls squeues rings spread) ss → Each (MayBring R.limits squeues spread r list) ss }
 {}
 
 /// An application thread may make its calls over squeues that were made with these quotas.
 pub fn a_threads_calls_may_be_made<R: Resident>()
-    ensures { (p : PlanOf) (calls : CallLists) (squeues rings spread j : ℕ) (ss : List (Named R)) → j < 4 → All (λ call. call.0 < length p.tuples) (all_calls calls)
+    ensures { (p : PlanOf) (calls : CallLists) (squeues rings spread j : ℕ) (ss : List (Named R)) → j < 4
+        → All (λ call. call.0 < length p.tuples) (all_calls calls)
         → Each (IsMadeFor R.limits p calls squeues rings spread) ss → MayMakeEach R.limits j (conns_called calls j) ss }
 {}

@@ -1,6 +1,6 @@
 //! What comes back when all jobs are done.
 ghost use Rattle.std.specs.Prelude.{◌≡◌, ℕ, ◌+◌, ◌≤◌, [], All, length, reverse, vec_capacity};
-ghost use Rattle.conn_blocks.specs.Places.{limits_of, size_of};
+ghost use Rattle.conn_blocks.specs.Places.{limits_of};
 ghost use Rattle.turn_gate.specs.History.{Each};
 ghost use Rattle.squeue_serve.specs.Places.{MayEnd};
 ghost use Rattle.squeue_serve.specs.Lending.{AreLent, IsRoomFor, lent_to, tasks_in};

@@ -1,5 +1,5 @@
 //! What comes in by each ring.
-ghost use Rattle.std.specs.Prelude.{◌≡◌, IfOk, map};
+ghost use Rattle.std.specs.Prelude.{IfOk, map};
 ghost use Rattle.conn_classifier.specs.RingList.{IsRingList};
 ghost use Rattle.ring_jobs.specs.Tasks.{AreLines, AreUnused};
 

@@ -1,5 +1,5 @@
 //! What was served.
-ghost use Rattle.std.specs.Prelude.{◌≡◌, ◌≢◌, ℕ, ◌<◌, ◌≤◌, ◌+◌, ◌∷◌, [], ◌++◌, false, Box, IfOk, List, Some, length, map, reverse, slice_get, vec_capacity};
+ghost use Rattle.std.specs.Prelude.{◌≡◌, ◌≢◌, ℕ, ◌<◌, ◌≤◌, ◌+◌, ◌∷◌, [], ◌++◌, false, Box, IfOk, Some, length, map, reverse, slice_get, vec_capacity};
 ghost use Rattle.std.specs.declared.alloc.Global.{Global};
 ghost use Rattle.conn_blocks.specs.Places.{size_of};
 ghost use Rattle.conn_blocks.specs.ServeOrder.{BlockOf};

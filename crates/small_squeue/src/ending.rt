@@ -32,7 +32,8 @@ pub fn ended<W: Wait>(
     requires given { length squeue.given.quotas ≡ 2 }
     requires are { IsPassOf number_of squeue.gate ring × IsPassOf number_of squeue.gate thread × IsPassOf number_of squeue.gate last }
     requires numbers { (number ring ≡ 0) × (number thread ≡ 1) × (number last ≡ 2) }
-    requires idle { Idle (run (setting_of limits_of squeue.given) (seen ring)) (number ring) × Idle (run (setting_of limits_of squeue.given) (seen thread)) (number thread) }
+    requires idle { Idle (run (setting_of limits_of squeue.given) (seen ring)) (number ring)
+        × Idle (run (setting_of limits_of squeue.given) (seen thread)) (number thread) }
     ensures size { size_of result.0 ≡ length squeue.given.starts }
     ensures stands { Stands result.0 (peri (setting_of limits_of squeue.given) result.1.history) }
     ensures ended { HasEnded result.1 }

@@ -47,4 +47,5 @@ module _ {R : Type 0} (limits : R → Limits) where
 
   -- ring k has pass k of each squeue, with which it may enter all its feeds
   abbrev pub MayRun : List (Named R) → List Ring → Type 0
-  MayRun squeues rings = (k : ℕ) (d : Ring) → k < length rings → AtEach (MayBring k (slice_index_or rings k d).feeds.items) squeues (slice_index_or rings k d).passes.items
+  MayRun squeues rings = (k : ℕ) (d : Ring) → k < length rings
+      → AtEach (MayBring k (slice_index_or rings k d).feeds.items) squeues (slice_index_or rings k d).passes.items

@@ -8,7 +8,7 @@ mod items;
 mod runs;
 mod threads;
 
-ghost use Rattle.std.specs.Prelude.{◌≡◌, ◌*◌, ◌≤◌, ◌^◌};
+ghost use Rattle.std.specs.Prelude.{◌*◌, ◌≤◌, ◌^◌};
 
 use items::{amounts_of, items_each, quotas_of};
 use key_counters::{Counters, totals_of};

@@ -3,7 +3,7 @@
 //! A ring has a pass at each squeue and goes round the squeues chain by chain, with the same feeds for each. A worker has
 //! the last pass of one squeue. Threads are lent their passes, which go out of their places for a call and back afterwards.
 
-ghost use Rattle.std.specs.Prelude.{◌≡◌, ◌<◌, ◌≤◌, ℕ, [], length, drop, slice_index_or};
+ghost use Rattle.std.specs.Prelude.{◌≡◌, ◌<◌, ◌≤◌, [], length, drop, slice_index_or};
 ghost use Rattle.key_counters.specs.AsResident.{Counters, limits_of};
 ghost use Rattle.squeue_state.specs.Naming.{Named};
 ghost use Rattle.squeue_bench.specs.Places.{AtEach, HasPass, HasSeenOver, HasWorked, HaveClosed, IsWorker, MayBring, MayRun};

@@ -56,7 +56,8 @@ TookOnly p from to = (takes : ℕ) × (mine to ≡ mine from ++ replicate takes 
 -- stand behind the past
 abbrev pub StaysBelow : Setting → ℕ → ℕ → List Element → List Element → Type 0
 StaysBelow S p most past [] = Unit {0}
-StaysBelow S p most past (e ∷ K) = (pass_of e.mark ≡ p → is_leave e.mark ≡ false → feed_count (done S (past ++ e ∷ [])) < most) × StaysBelow S p most (past ++ e ∷ []) K
+StaysBelow S p most past (e ∷ K) = (pass_of e.mark ≡ p → is_leave e.mark ≡ false → feed_count (done S (past ++ e ∷ [])) < most)
+    × StaysBelow S p most (past ++ e ∷ []) K
 
 -- An owner drained: it took the queue some times, and then left or granted. It processed at most `budget` feeds, and left
 -- with something queued only where it processed just as many. Once it has processed so many it leaves: it takes the queue, or
@@ -70,7 +71,8 @@ pub record Drained {R : Type 0} (limits : R → Limits) (s : Named R) (budget : 
   pub now_seen : seen to ≡ seen o.pass ++ (between ++ plain last ∷ [])
   pub now_mine : mine to ≡ mine o.pass ++ (replicate takes (took (number o.pass)) ++ plain last ∷ [])
   pub most : feed_count (done (setting_of limits s.given) (seen to)) ≤ fed_so_far limits s o + budget
-  pub full : is_leave last ≡ true → (run (setting_of limits s.given) (seen to)).chain ≢ [] → feed_count (done (setting_of limits s.given) (seen to)) ≡ fed_so_far limits s o + budget
+  pub full : is_leave last ≡ true → (run (setting_of limits s.given) (seen to)).chain ≢ []
+      → feed_count (done (setting_of limits s.given) (seen to)) ≡ fed_so_far limits s o + budget
   pub spent : StaysBelow (setting_of limits s.given) (number o.pass) (fed_so_far limits s o + budget) (seen o.pass) (between ++ plain last ∷ [])
   -- a pass that isn't closed may enter again
   pub idle : is_closed (state_of limits s o) (number o.pass) ≡ false → Idle (run (setting_of limits s.given) (seen to)) (number o.pass)

@@ -1,9 +1,9 @@
 //! An owner's turns, and the drain, which goes on until its budget is spent or nothing is left.
-ghost use Rattle.std.specs.Prelude.{◌≡◌, ◌≢◌, ◌+◌, ◌-◌, ◌^◌, ◌<◌, ◌≤◌, ℕ, Bool, true, false, List, [], ◌∷◌, length, Some};
+ghost use Rattle.std.specs.Prelude.{◌≡◌, ◌+◌, ◌-◌, ◌^◌, ◌<◌, ◌≤◌, true, false, List, [], ◌∷◌, length, Some};
 ghost use Rattle.perimeter_core.specs.declared.entries.Entry.{Entry};
 ghost use Rattle.perimeter_core.specs.declared.marks.SynchAct.TheVariants as Done;
 ghost use Rattle.perimeter_core.specs.Perimeter.{polls};
-ghost use Rattle.perimeter_core.specs.History.{run, feed_quotas};
+ghost use Rattle.perimeter_core.specs.History.{run};
 ghost use Rattle.perimeter_core.specs.Legal.{May};
 ghost use Rattle.squeue_state.specs.Naming.{setting_of};
 ghost use Rattle.squeue_state.specs.Elements.{gone, granted};
@@ -11,7 +11,7 @@ ghost use Rattle.squeue_state.specs.Behind.{IsPeri};
 ghost use Rattle.squeue_state.specs.Words.{IsLeft, Marked, peri_left, first_entry, asker};
 ghost use Rattle.perimeter_core.specs.declared.entries.Entry.TheVariants as Entry';
 ghost use Rattle.squeue_drain.specs.Owning.{Feeds, HasFeeds, NoFeedFirst, state_of};
-ghost use Rattle.squeue_drain.specs.Draining.{Drained, Off, Onward, ServedOne, Tells};
+ghost use Rattle.squeue_drain.specs.Draining.{Drained, ServedOne, Tells};
 ghost use Rattle.squeue_drain.specs.Rounds.{Decided};
 
 use crate::owner::{Owner, process, process_first};

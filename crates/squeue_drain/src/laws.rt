@@ -14,6 +14,8 @@ use perimeter_core::Resident;
 /// Whoever is owner of a squeue, and has made nothing since, has the pass that is named as owner. So two owners of one squeue
 /// have one pass, and only the thread with that pass has the resident.
 pub fn owners_of_one_squeue_are_one<R: Resident>()
-    ensures named { (s : Named R) (H : List Element) (note : List Act) (o : Owner R) → Legal (setting_of R.limits s.given) H → Owns R.Resident s note o → NothingSince H o → (run (setting_of R.limits s.given) H).own ≡ Own'.Out (number o.pass) }
-    ensures one { (s : Named R) (H : List Element) (note another : List Act) (o q : Owner R) → Legal (setting_of R.limits s.given) H → Owns R.Resident s note o → NothingSince H o → Owns R.Resident s another q → NothingSince H q → number o.pass ≡ number q.pass }
+    ensures named { (s : Named R) (H : List Element) (note : List Act) (o : Owner R) → Legal (setting_of R.limits s.given) H → Owns R.Resident s note o
+        → NothingSince H o → (run (setting_of R.limits s.given) H).own ≡ Own'.Out (number o.pass) }
+    ensures one { (s : Named R) (H : List Element) (note another : List Act) (o q : Owner R) → Legal (setting_of R.limits s.given) H
+        → Owns R.Resident s note o → NothingSince H o → Owns R.Resident s another q → NothingSince H q → number o.pass ≡ number q.pass }
 {}

@@ -1,5 +1,5 @@
 //! The worker: it comes where something is queued and nobody has the perimeter.
-ghost use Rattle.std.specs.Prelude.{◌≡◌, ◌≢◌, ◌↔◌, ℕ, true, [], length};
+ghost use Rattle.std.specs.Prelude.{◌≡◌, ◌↔◌, true};
 ghost use Rattle.turn_gate.specs.Passes.{IsPassOf, number, seen};
 ghost use Rattle.perimeter_core.specs.Ending.{IsOver};
 ghost use Rattle.perimeter_core.specs.History.{run, worker as worker_of};

@@ -56,19 +56,24 @@ pub record LeavesFrom (p : ℕ) (H M : List Element) (to : Pass Element) : Type 
 -- What the entry of es added where its turn found H, in which the pass had made M, and what it answers
 abbrev pub Went : Setting → Way → ℕ → ℕ → List Feed → List Element → List Element → Pass Element → How → Type 0
 Went S Way'.Fill p budget es H M to how = (how ≡ How'.Queued (is_free (run S H).own)) × (seen to ≡ H ++ filled p es ∷ []) × (mine to ≡ M ++ filled p es ∷ [])
-Went S Way'.Fast p budget es H M to how = (f : Feed) × (es ≡ f ∷ []) × (how ≡ How'.Fast (length (run S (seen to)).chain)) × DrainsFrom S p budget (H ++ fasted p f ∷ []) (M ++ fasted p f ∷ []) to
-Went S Way'.Alone p budget es H M to how = (f : Feed) × (es ≡ f ∷ []) × (how ≡ How'.Fast (length (run S (seen to)).chain)) × LeavesFrom p (H ++ fasted p f ∷ []) (M ++ fasted p f ∷ []) to
-Went S Way'.Claim p budget es H M to how = (how ≡ How'.Drained (length (run S (seen to)).chain)) × DrainsFrom S p budget (H ++ claimed p es ∷ []) (M ++ claimed p es ∷ []) to
+Went S Way'.Fast p budget es H M to how = (f : Feed) × (es ≡ f ∷ []) × (how ≡ How'.Fast (length (run S (seen to)).chain))
+    × DrainsFrom S p budget (H ++ fasted p f ∷ []) (M ++ fasted p f ∷ []) to
+Went S Way'.Alone p budget es H M to how = (f : Feed) × (es ≡ f ∷ []) × (how ≡ How'.Fast (length (run S (seen to)).chain))
+    × LeavesFrom p (H ++ fasted p f ∷ []) (M ++ fasted p f ∷ []) to
+Went S Way'.Claim p budget es H M to how = (how ≡ How'.Drained (length (run S (seen to)).chain))
+    × DrainsFrom S p budget (H ++ claimed p es ∷ []) (M ++ claimed p es ∷ []) to
 
 -- The entry of es: its deciding turn found a legal history, and it went the way of the table for the state after it
-pub record HasEntered {R : Type 0} (limits : R → Limits) (s : Named R) (mode : Mode) (budget : ℕ) (es : List Feed) (from : Pass Element) (r : Entered) : Type 0 where
+pub record HasEntered {R : Type 0} (limits : R
+    → Limits) (s : Named R) (mode : Mode) (budget : ℕ) (es : List Feed) (from : Pass Element) (r : Entered) : Type 0 where
   pub goes_on : GoesOn limits s from r.pass
   pub idle : Idle (run (setting_of limits s.given) (seen r.pass)) (number from)
   pub found : List Element
   pub begins : Begins (seen from) found
   pub legal : Legal (setting_of limits s.given) found
   pub own : only number_of (number from) found ≡ mine from
-  pub went : Went (setting_of limits s.given) (way_of mode (is_free (run (setting_of limits s.given) found).own) (is_empty (run (setting_of limits s.given) found).chain) (is_one es)) (number from) budget es found (mine from) r.pass r.how
+  pub went : Went (setting_of limits s.given)
+      (way_of mode (is_free (run (setting_of limits s.given) found).own) (is_empty (run (setting_of limits s.given) found).chain) (is_one es)) (number from) budget es found (mine from) r.pass r.how
   pub polling : r.polling ≡ (run (setting_of limits s.given) (seen r.pass)).polling
 
 -- The pass filled: a turn found a legal history, and queued the feeds
@@ -91,7 +96,8 @@ pub record Brought {R : Type 0} (limits : R → Limits) (s : Named R) (es : List
   pub feeds : feeds_by (number from) (seen to) ≡ feeds_by (number from) (seen from) + length es
   pub asks : asks_by (number from) (seen to) ≡ asks_by (number from) (seen from)
   pub next : (c : ℕ) → number from ≡ c % s.given.rings → due (seen to) c ≡ due (seen from) c + length (feeds_of c (entries es))
-  pub here : (c : ℕ) → number from ≡ c % s.given.rings → is_here (run (setting_of limits s.given) (seen to)) c ≡ is_here (run (setting_of limits s.given) (seen from)) c
+  pub here : (c : ℕ) → number from ≡ c % s.given.rings → is_here (run (setting_of limits s.given) (seen to)) c
+      ≡ is_here (run (setting_of limits s.given) (seen from)) c
   pub left : (c : ℕ) → number from ≡ c % s.given.rings → times_left c (seen to) ≡ times_left c (seen from)
 
 -- What the pass might have entered behind these feeds it may enter now

@@ -1,11 +1,7 @@
 //! Entering with a chain of feeds.
-ghost use Rattle.std.specs.Prelude.{◌≡◌, ◌+◌, ◌≤◌, ◌<◌, ◌∷◌, [], Bool, length, IfOk, MatchResult};
-ghost use Rattle.turn_gate.specs.Passes.{IsReturned, missed, number, seen, steps};
-ghost use Rattle.perimeter_core.specs.Perimeter.{Idle};
-ghost use Rattle.perimeter_core.specs.History.{run};
-ghost use Rattle.squeue_state.specs.Naming.{setting_of};
+ghost use Rattle.std.specs.Prelude.{◌≡◌, ◌+◌, ◌≤◌, ◌<◌, ◌∷◌, [], length, IfOk, MatchResult};
+ghost use Rattle.turn_gate.specs.Passes.{IsReturned, missed, steps};
 ghost use Rattle.squeue_state.specs.Elements.{number_of, filled};
-ghost use Rattle.squeue_state.specs.Words.{Added};
 ghost use Rattle.squeue_enter.specs.Ways.{way_of};
 ghost use Rattle.squeue_enter.specs.Entering.{MayEnter, HasEntered, HasFilled, HasTurned, Brought, MayGoOn};
 
@@ -92,7 +88,8 @@ pub fn enter<R: Resident, H: Hook, W: Wait>(
 /// Queues one feed where the gate is free, and doesn't wait. Where the gate is held nothing is entered.
 pub fn try_fill<R: Resident>(sq: &Squeue<R>, pass: Pass, feed: Feed) -> Result<Pass, Missed>
     requires { MayEnter R.limits sq.now pass (feed ∷ []) }
-    ensures filled { MatchResult result (λ q. HasFilled R.limits sq.now pass (feed ∷ []) q × HasTurned (steps pass) (steps q)) (λ m. missed (steps pass) m × IsReturned number_of sq.now.gate pass m.pass) }
+    ensures filled { MatchResult result (λ q. HasFilled R.limits sq.now pass (feed ∷ []) q × HasTurned (steps pass) (steps q)) (λ m. missed (steps pass) m
+        × IsReturned number_of sq.now.gate pass m.pass) }
     ensures brought { IfOk result (λ q. Brought R.limits sq.now (feed ∷ []) pass q) }
     ensures more { IfOk result (λ q. MayGoOn R.limits sq.now (feed ∷ []) pass q) }
 {

@@ -1,6 +1,5 @@
 //! One history, mark by mark: what each mark says was processed, and a mark that isn't legal.
 
-ghost use Rattle.conn_blocks.specs.Allowed.{all_calls};
 
 use crate::{Mark, Run, Squeue, Step};
 use capture_reader::parse_capture;

@@ -36,6 +36,8 @@ module _ {R : Type 0} (limits : R → Limits) (squeues spread r : ℕ) where
     pub idle : Idle (run (setting_of limits s.given) (seen x)) r
     pub feeds : feeds_by r (seen x) ≡ count (is_at squeues spread s.given.number) entered
     pub asks : asks_by r (seen x) ≡ count (leaves squeues spread s.given.number) reached + count (comes squeues spread s.given.number) reached
-    pub here : (c : ℕ) → r ≡ c % s.given.rings → c < length s.given.starts → is_here (run (setting_of limits s.given) (seen x)) c ≡ (place squeues spread c reached == s.given.number)
-    pub next : (c : ℕ) → r ≡ c % s.given.rings → c < length s.given.starts → place squeues spread c reached ≡ s.given.number → due (seen x) c ≡ brought c entered
+    pub here : (c : ℕ) → r ≡ c % s.given.rings → c < length s.given.starts
+        → is_here (run (setting_of limits s.given) (seen x)) c ≡ (place squeues spread c reached == s.given.number)
+    pub next : (c : ℕ) → r ≡ c % s.given.rings → c < length s.given.starts → place squeues spread c reached ≡ s.given.number
+        → due (seen x) c ≡ brought c entered
     pub left : (c : ℕ) → r ≡ c % s.given.rings → times_left c (seen x) ≡ count (is_left_by squeues spread c s.given.number) reached

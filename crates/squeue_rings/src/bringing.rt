@@ -1,7 +1,7 @@
 //! A ring: it takes the places of its feeds from its receive ring, and enters the feeds where their connections are at home. It
 //! moves a connection before each feed whose home differs from the one before.
 
-ghost use Rattle.std.specs.Prelude.{◌≡◌, ◌≢◌, ℕ, ◌+◌, ◌<◌, ◌≤◌, true, Option, Some, None, List, [], ◌∷◌, ◌++◌, length, slice_get, take};
+ghost use Rattle.std.specs.Prelude.{◌≡◌, ℕ, ◌+◌, ◌<◌, ◌≤◌, true, Option, Some, List, [], ◌∷◌, ◌++◌, length, slice_get, take};
 ghost use Rattle.turn_gate.specs.declared.pass.Pass.{Pass};
 ghost use Rattle.perimeter_core.specs.declared.entries.Feed.{Feed};
 ghost use Rattle.perimeter_core.specs.History.{Element};
@@ -62,7 +62,8 @@ pub fn bring_all<R: Resident, H: Hook, W: Wait>(
     requires hints { (conns : ℕ) × AllBelow conns squeues.now × (conns ≤ conns_of hints.now) × (squeues_of hints.now ≡ pace.homes.squeues) }
     requires polling { length polling.old.items ≡ pace.homes.squeues }
     requires ready { (r : ℕ) × IsFar R.limits pace.homes.squeues pace.homes.spread r list.now squeues.now 0 places.old.items }
-    ensures brought { (r : ℕ) → IsFar R.limits pace.homes.squeues pace.homes.spread r list.now squeues.now 0 places.old.items → AreAt R.limits pace.homes.squeues pace.homes.spread r squeues.now list.now list.now places.new.items }
+    ensures brought { (r : ℕ) → IsFar R.limits pace.homes.squeues pace.homes.spread r list.now squeues.now 0 places.old.items
+        → AreAt R.limits pace.homes.squeues pace.homes.spread r squeues.now list.now list.now places.new.items }
     ensures paced { (r : ℕ) → IsFar R.limits pace.homes.squeues pace.homes.spread r list.now squeues.now 0 places.old.items
         → ArePaced R.limits pace.homes.squeues pace.homes.spread pace.mode pace.budget r squeues.now places.old.items
         → ArePaced R.limits pace.homes.squeues pace.homes.spread pace.mode pace.budget r squeues.now places.new.items }
@@ -112,7 +113,8 @@ fn bring_next<R: Resident, H: Hook, W: Wait>(
     requires polling { length polling.old.items ≡ pace.homes.squeues }
     requires ready { (r : ℕ) × IsFar R.limits pace.homes.squeues pace.homes.spread r list.now squeues.now end.old.popped places.old.items }
     ensures popped { end.new ≡ record end.old { popped = end.old.popped + result } }
-    ensures ready { (r : ℕ) → IsFar R.limits pace.homes.squeues pace.homes.spread r list.now squeues.now end.old.popped places.old.items → IsFar R.limits pace.homes.squeues pace.homes.spread r list.now squeues.now end.new.popped places.new.items }
+    ensures ready { (r : ℕ) → IsFar R.limits pace.homes.squeues pace.homes.spread r list.now squeues.now end.old.popped places.old.items
+        → IsFar R.limits pace.homes.squeues pace.homes.spread r list.now squeues.now end.new.popped places.new.items }
     ensures paced { (r : ℕ) → IsFar R.limits pace.homes.squeues pace.homes.spread r list.now squeues.now end.old.popped places.old.items
         → ArePaced R.limits pace.homes.squeues pace.homes.spread pace.mode pace.budget r squeues.now places.old.items
         → ArePaced R.limits pace.homes.squeues pace.homes.spread pace.mode pace.budget r squeues.now places.new.items }
@@ -151,7 +153,8 @@ fn bring_last<R: Resident, H: Hook, W: Wait>(
     requires hints { (conns : ℕ) × AllBelow conns squeues.now × (conns ≤ conns_of hints.now) × (squeues_of hints.now ≡ pace.homes.squeues) }
     requires polling { length polling.old.items ≡ pace.homes.squeues }
     requires ready { (r : ℕ) × IsFar R.limits pace.homes.squeues pace.homes.spread r list.now squeues.now end.old.popped places.old.items }
-    ensures ready { (r : ℕ) → IsFar R.limits pace.homes.squeues pace.homes.spread r list.now squeues.now end.old.popped places.old.items → AreAt R.limits pace.homes.squeues pace.homes.spread r squeues.now list.now list.now places.new.items }
+    ensures ready { (r : ℕ) → IsFar R.limits pace.homes.squeues pace.homes.spread r list.now squeues.now end.old.popped places.old.items
+        → AreAt R.limits pace.homes.squeues pace.homes.spread r squeues.now list.now list.now places.new.items }
     ensures paced { (r : ℕ) → IsFar R.limits pace.homes.squeues pace.homes.spread r list.now squeues.now end.old.popped places.old.items
         → ArePaced R.limits pace.homes.squeues pace.homes.spread pace.mode pace.budget r squeues.now places.old.items
         → ArePaced R.limits pace.homes.squeues pace.homes.spread pace.mode pace.budget r squeues.now places.new.items }
@@ -177,9 +180,13 @@ fn bring_rest<R: Resident, H: Hook, W: Wait>(
     requires run { AreOneRun R.origin pace.homes.squeues squeues.now }
     requires hints { (conns : ℕ) × AllBelow conns squeues.now × (conns ≤ conns_of hints.now) × (squeues_of hints.now ≡ pace.homes.squeues) }
     requires polling { length polling.old.items ≡ pace.homes.squeues }
-    requires ready { (r : ℕ) × (list : List Feed) × (done : List Feed) × (behind : List Feed) × IsReady R.limits pace.homes.squeues pace.homes.spread r list squeues.now done rest.now behind places.old.items }
-    ensures brought { (r : ℕ) (list done behind : List Feed) → IsReady R.limits pace.homes.squeues pace.homes.spread r list squeues.now done rest.now behind places.old.items → AreAt R.limits pace.homes.squeues pace.homes.spread r squeues.now (done ++ rest.now) (done ++ rest.now) places.new.items }
-    ensures paced { (r : ℕ) (list done behind : List Feed) → IsReady R.limits pace.homes.squeues pace.homes.spread r list squeues.now done rest.now behind places.old.items
+    requires ready { (r : ℕ) × (list : List Feed) × (done : List Feed) × (behind : List Feed)
+        × IsReady R.limits pace.homes.squeues pace.homes.spread r list squeues.now done rest.now behind places.old.items }
+    ensures brought { (r : ℕ) (list done behind : List Feed)
+        → IsReady R.limits pace.homes.squeues pace.homes.spread r list squeues.now done rest.now behind places.old.items
+        → AreAt R.limits pace.homes.squeues pace.homes.spread r squeues.now (done ++ rest.now) (done ++ rest.now) places.new.items }
+    ensures paced { (r : ℕ) (list done behind : List Feed)
+        → IsReady R.limits pace.homes.squeues pace.homes.spread r list squeues.now done rest.now behind places.old.items
         → ArePaced R.limits pace.homes.squeues pace.homes.spread pace.mode pace.budget r squeues.now places.old.items
         → ArePaced R.limits pace.homes.squeues pace.homes.spread pace.mode pace.budget r squeues.now places.new.items }
     ensures polling { length polling.new.items ≡ pace.homes.squeues }
@@ -209,9 +216,13 @@ pub fn bring_piece<R: Resident, H: Hook, W: Wait>(
     requires run { AreOneRun R.origin pace.homes.squeues squeues.now }
     requires hints { (conns : ℕ) × AllBelow conns squeues.now × (conns ≤ conns_of hints.now) × (squeues_of hints.now ≡ pace.homes.squeues) }
     requires polling { length polling.old.items ≡ pace.homes.squeues }
-    requires ready { (r : ℕ) × (list : List Feed) × (done : List Feed) × (behind : List Feed) × IsReady R.limits pace.homes.squeues pace.homes.spread r list squeues.now done piece.now behind places.old.items }
-    ensures brought { (r : ℕ) (list done behind : List Feed) → IsReady R.limits pace.homes.squeues pace.homes.spread r list squeues.now done piece.now behind places.old.items → AreAt R.limits pace.homes.squeues pace.homes.spread r squeues.now (done ++ piece.now) (done ++ piece.now) places.new.items }
-    ensures paced { (r : ℕ) (list done behind : List Feed) → IsReady R.limits pace.homes.squeues pace.homes.spread r list squeues.now done piece.now behind places.old.items
+    requires ready { (r : ℕ) × (list : List Feed) × (done : List Feed) × (behind : List Feed)
+        × IsReady R.limits pace.homes.squeues pace.homes.spread r list squeues.now done piece.now behind places.old.items }
+    ensures brought { (r : ℕ) (list done behind : List Feed)
+        → IsReady R.limits pace.homes.squeues pace.homes.spread r list squeues.now done piece.now behind places.old.items
+        → AreAt R.limits pace.homes.squeues pace.homes.spread r squeues.now (done ++ piece.now) (done ++ piece.now) places.new.items }
+    ensures paced { (r : ℕ) (list done behind : List Feed)
+        → IsReady R.limits pace.homes.squeues pace.homes.spread r list squeues.now done piece.now behind places.old.items
         → ArePaced R.limits pace.homes.squeues pace.homes.spread pace.mode pace.budget r squeues.now places.old.items
         → ArePaced R.limits pace.homes.squeues pace.homes.spread pace.mode pace.budget r squeues.now places.new.items }
     ensures polling { length polling.new.items ≡ pace.homes.squeues }
@@ -239,10 +250,14 @@ fn bring_run<R: Resident, H: Hook, W: Wait>(
     requires run { AreOneRun R.origin pace.homes.squeues squeues.now }
     requires hints { (conns : ℕ) × AllBelow conns squeues.now × (conns ≤ conns_of hints.now) × (squeues_of hints.now ≡ pace.homes.squeues) }
     requires polling { length polling.old.items ≡ pace.homes.squeues }
-    requires ready { (r : ℕ) × (list : List Feed) × (done : List Feed) × (behind : List Feed) × IsReady R.limits pace.homes.squeues pace.homes.spread r list squeues.now done feeds.now behind places.old.items }
+    requires ready { (r : ℕ) × (list : List Feed) × (done : List Feed) × (behind : List Feed)
+        × IsReady R.limits pace.homes.squeues pace.homes.spread r list squeues.now done feeds.now behind places.old.items }
     ensures len { (0 < result) × (result ≤ length feeds.now) }
-    ensures brought { (r : ℕ) (list done behind : List Feed) → IsReady R.limits pace.homes.squeues pace.homes.spread r list squeues.now done feeds.now behind places.old.items → AreAt R.limits pace.homes.squeues pace.homes.spread r squeues.now (done ++ take result feeds.now) (done ++ take result feeds.now) places.new.items }
-    ensures paced { (r : ℕ) (list done behind : List Feed) → IsReady R.limits pace.homes.squeues pace.homes.spread r list squeues.now done feeds.now behind places.old.items
+    ensures brought { (r : ℕ) (list done behind : List Feed)
+        → IsReady R.limits pace.homes.squeues pace.homes.spread r list squeues.now done feeds.now behind places.old.items
+        → AreAt R.limits pace.homes.squeues pace.homes.spread r squeues.now (done ++ take result feeds.now) (done ++ take result feeds.now) places.new.items }
+    ensures paced { (r : ℕ) (list done behind : List Feed)
+        → IsReady R.limits pace.homes.squeues pace.homes.spread r list squeues.now done feeds.now behind places.old.items
         → ArePaced R.limits pace.homes.squeues pace.homes.spread pace.mode pace.budget r squeues.now places.old.items
         → ArePaced R.limits pace.homes.squeues pace.homes.spread pace.mode pace.budget r squeues.now places.new.items }
     ensures polling { length polling.new.items ≡ pace.homes.squeues }
@@ -279,9 +294,13 @@ fn reach<R: Resident, H: Hook, W: Wait>(
 )
     requires run { AreOneRun R.origin homes.squeues squeues.now }
     requires hints { (conns : ℕ) × AllBelow conns squeues.now × (conns ≤ conns_of hints.now) × (squeues_of hints.now ≡ homes.squeues) }
-    requires ready { (r : ℕ) × (list : List Feed) × (done : List Feed) × (behind : List Feed) × IsReady R.limits homes.squeues homes.spread r list squeues.now done (feed ∷ []) behind places.old.items }
-    ensures reached { (r : ℕ) (list done behind : List Feed) → IsReady R.limits homes.squeues homes.spread r list squeues.now done (feed ∷ []) behind places.old.items → AreAt R.limits homes.squeues homes.spread r squeues.now done (done ++ feed ∷ []) places.new.items }
-    ensures paced { (r : ℕ) (list done behind : List Feed) (mode : Mode) (budget : ℕ) → IsReady R.limits homes.squeues homes.spread r list squeues.now done (feed ∷ []) behind places.old.items
+    requires ready { (r : ℕ) × (list : List Feed) × (done : List Feed) × (behind : List Feed)
+        × IsReady R.limits homes.squeues homes.spread r list squeues.now done (feed ∷ []) behind places.old.items }
+    ensures reached { (r : ℕ) (list done behind : List Feed)
+        → IsReady R.limits homes.squeues homes.spread r list squeues.now done (feed ∷ []) behind places.old.items
+        → AreAt R.limits homes.squeues homes.spread r squeues.now done (done ++ feed ∷ []) places.new.items }
+    ensures paced { (r : ℕ) (list done behind : List Feed) (mode : Mode) (budget : ℕ)
+        → IsReady R.limits homes.squeues homes.spread r list squeues.now done (feed ∷ []) behind places.old.items
         → ArePaced R.limits homes.squeues homes.spread mode budget r squeues.now places.old.items
         → ArePaced R.limits homes.squeues homes.spread mode budget r squeues.now places.new.items }
 {
@@ -329,8 +348,10 @@ fn move_home<R: Resident, H: Hook, W: Wait>(
     requires run { AreOneRun R.origin homes.squeues squeues.now }
     requires moves { moves homes.squeues homes.spread feed ≡ true }
     requires hints { (feed.c < conns_of hints.now) × (squeues_of hints.now ≡ homes.squeues) }
-    requires from { (s : Named R) → slice_get squeues.now (home_before homes.squeues homes.spread feed) ≡ Some s → (x : Pass Element) × (slice_get places.old.items (home_before homes.squeues homes.spread feed) ≡ Some (Some x)) × MayLeave R.limits s feed.c x }
-    requires to { (s : Named R) → slice_get squeues.now (home_of homes.squeues homes.spread feed) ≡ Some s → (x : Pass Element) × (slice_get places.old.items (home_of homes.squeues homes.spread feed) ≡ Some (Some x)) × MayCome R.limits s feed.c x }
+    requires from { (s : Named R) → slice_get squeues.now (home_before homes.squeues homes.spread feed) ≡ Some s → (x : Pass Element)
+        × (slice_get places.old.items (home_before homes.squeues homes.spread feed) ≡ Some (Some x)) × MayLeave R.limits s feed.c x }
+    requires to { (s : Named R) → slice_get squeues.now (home_of homes.squeues homes.spread feed) ≡ Some s → (x : Pass Element)
+        × (slice_get places.old.items (home_of homes.squeues homes.spread feed) ≡ Some (Some x)) × MayCome R.limits s feed.c x }
     ensures { HasMoved R.limits homes.squeues homes.spread feed squeues.now places.old.items places.new.items }
 {
     let from = homes.home_before(feed) as usize;

@@ -46,7 +46,8 @@ pub fn a_ring_keeps_its_pace()
 
 /// A call is made by its own thread alone, so what a thread has seen of it stays as it is.
 pub fn a_thread_knows_its_calls()
-    ensures { (S : Setting) (H K : List Element) (c j k : ℕ) → Legal S (H ++ K) → made_by (S.rings + j) K ≡ [] → times_made c j k (H ++ K) ≡ times_made c j k H }
+    ensures { (S : Setting) (H K : List Element) (c j k : ℕ) → Legal S (H ++ K) → made_by (S.rings + j) K ≡ []
+        → times_made c j k (H ++ K) ≡ times_made c j k H }
 {}
 
 /// Only calls that the limits have are made.

@@ -1,5 +1,6 @@
 -- Passes that are lent to jobs.
-use Rattle.std.specs.Prelude.{◌≡◌, ◌≢◌, ℕ, ◌+◌, ◌<◌, ◌≤◌, ◌==◌, if◌then◌else◌, Bool, All, Option, Some, List, [], ◌∷◌, ◌++◌, Vec, length, map, slice_get, slice_index_or, vec_capacity}
+use Rattle.std.specs.Prelude.{◌≡◌, ◌≢◌, ℕ, ◌+◌, ◌<◌, ◌≤◌, ◌==◌, if◌then◌else◌, Bool, All, Option}
+use Rattle.std.specs.Prelude.{Some, List, [], ◌∷◌, ◌++◌, Vec, length, map, slice_get, slice_index_or, vec_capacity}
 use Rattle.turn_gate.specs.History.{Each}
 use Rattle.turn_gate.specs.declared.pass.Pass.{Pass}
 use Rattle.perimeter_core.specs.declared.resident.Resident.{Ghosts}
@@ -28,10 +29,12 @@ holder front count q p = if p == count then front + count + q else front + p
 
 -- each worker's job has one pass, of which this is so by its number and its squeue
 abbrev pub WorkersHold : {R : Type 0} → (ℕ → Named R → Pass Element → Type 0) → ℕ → ℕ → List (Named R) → (ℕ → List (Option (Pass Element))) → Type 0
-WorkersHold {R} P front count squeues lent = (q : ℕ) (s : Named R) → slice_get squeues q ≡ Some s → (x : Pass Element) × (lent (front + count + q) ≡ Some x ∷ []) × P count s x
+WorkersHold {R} P front count squeues lent = (q : ℕ) (s : Named R) → slice_get squeues q ≡ Some s → (x : Pass Element)
+    × (lent (front + count + q) ≡ Some x ∷ []) × P count s x
 
 -- So it is after the squeues are lent: this is so of each pass, by its number and its squeue
-pub record AreLent {R : Type 0} (P : ℕ → Named R → Pass Element → Type 0) (front count : ℕ) (squeues : List (Named R)) (lent : ℕ → List (Option (Pass Element))) : Type 0 where
+pub record AreLent {R : Type 0} (P : ℕ → Named R → Pass Element → Type 0) (front count : ℕ) (squeues : List (Named R)) (lent : ℕ
+    → List (Option (Pass Element))) : Type 0 where
   pub counts : Each (λ (s : Named R). length s.given.quotas ≡ count) squeues
   pub others : (p : ℕ) → p < count → AtEach (λ s o. Holds (P p s) o) squeues (lent (front + p))
   pub workers : WorkersHold P front count squeues lent
@@ -41,12 +44,14 @@ pub record AreLent {R : Type 0} (P : ℕ → Named R → Pass Element → Type 0
 -- Passes by number are lent as those of squeue q: before, and with them at the end of their jobs' places
 pub record AreHanded (front count q : ℕ) (passes : List (Pass Element)) (without having : ℕ → List (Option (Pass Element))) : Type 0 where
   pub all : length passes ≡ count + 1
-  pub each : (p : ℕ) → p ≤ count → (x : Pass Element) × (slice_get passes p ≡ Some x) × (having (holder front count q p) ≡ without (holder front count q p) ++ Some x ∷ [])
+  pub each : (p : ℕ) → p ≤ count → (x : Pass Element) × (slice_get passes p ≡ Some x)
+      × (having (holder front count q p) ≡ without (holder front count q p) ++ Some x ∷ [])
   pub rest : (i : ℕ) → ((p : ℕ) → p ≤ count → i ≢ holder front count q p) → having i ≡ without i
 
 -- there is a pass to take back from each of the jobs of squeue q
 abbrev pub HaveLast : ℕ → ℕ → ℕ → (ℕ → List (Option (Pass Element))) → Type 0
-HaveLast front count q lent = (p : ℕ) → p ≤ count → (before : List (Option (Pass Element))) × (x : Pass Element) × (lent (holder front count q p) ≡ before ++ Some x ∷ [])
+HaveLast front count q lent = (p : ℕ) → p ≤ count → (before : List (Option (Pass Element))) × (x : Pass Element)
+    × (lent (holder front count q p) ≡ before ++ Some x ∷ [])
 
 -- each job has room for so many passes
 abbrev pub HaveRoom : {T : Type 0} → ℕ → List (Job T) → Type 0
@@ -58,7 +63,8 @@ IsRoomFor n v = (v.items ≡ []) × (n ≤ vec_capacity v)
 
 -- The squeue ended: all its passes came back, its end is that of its setting, each pass has seen a beginning of its history and
 -- made what there carries its number, and the resident stands for what the history did
-pub record HasCome {R P O : Type 0} (G : Ghosts R P O) (front count q : ℕ) (s : Named R) (having without : ℕ → List (Option (Pass Element))) (r : R) (e : Ending) (t : Traced) : Type 0 where
+pub record HasCome {R P O : Type 0} (G : Ghosts R P O) (front count q : ℕ) (s : Named R) (having without : ℕ
+    → List (Option (Pass Element))) (r : R) (e : Ending) (t : Traced) : Type 0 where
   pub passes : List (Pass Element)
   pub handed : AreHanded front count q passes without having
   pub its_number : e.number ≡ s.given.number

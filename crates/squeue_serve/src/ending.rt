@@ -100,7 +100,8 @@ fn work_at<R: Resident, T, H: Hook, W: Wait>(
 )
     requires job { i < length jobs.old.items }
     requires may { (x : Pass Element) × (lent_to jobs.old.items i ≡ Some x ∷ []) × MayWork R.limits squeue.now x }
-    ensures worked { (x : Pass Element) × (y : Pass Element) × (lent_to jobs.old.items i ≡ Some x ∷ []) × (lent_to jobs.new.items i ≡ Some y ∷ []) × HasWorked R.limits squeue.now x y }
+    ensures worked { (x : Pass Element) × (y : Pass Element) × (lent_to jobs.old.items i ≡ Some x ∷ []) × (lent_to jobs.new.items i ≡ Some y ∷ [])
+        × HasWorked R.limits squeue.now x y }
     ensures others { (k : ℕ) → k ≢ i → lent_to jobs.new.items k ≡ lent_to jobs.old.items k }
     ensures tasks { tasks_in jobs.new.items ≡ tasks_in jobs.old.items }
 {
@@ -119,7 +120,8 @@ pub fn end_last<R: Resident, T>(
     requires rooms { (length squeues.old.rooms.items ≡ length squeues.old.all.items) × All (IsRoomFor (count + 1)) squeues.old.rooms.items }
     ensures none { IfNone result (squeues.new.all.items ≡ []) }
     ensures same { IfNone result ((squeues.old.all.items ≡ []) × (jobs.new.items ≡ jobs.old.items)) }
-    ensures some { IfSome result (λ r. (s : Named R) × (squeues.old.all.items ≡ squeues.new.all.items ++ s ∷ []) × HasCome R.Resident front count (length squeues.new.all.items) s (lent_to jobs.old.items) (lent_to jobs.new.items) r.0 r.1 r.2) }
+    ensures some { IfSome result (λ r. (s : Named R) × (squeues.old.all.items ≡ squeues.new.all.items ++ s ∷ [])
+        × HasCome R.Resident front count (length squeues.new.all.items) s (lent_to jobs.old.items) (lent_to jobs.new.items) r.0 r.1 r.2) }
     ensures rooms { (length squeues.new.rooms.items ≡ length squeues.new.all.items) × All (IsRoomFor (count + 1)) squeues.new.rooms.items }
     ensures tasks { tasks_in jobs.new.items ≡ tasks_in jobs.old.items }
 {

@@ -78,7 +78,8 @@ pub record IsWhole {R : Type 0} (limits : R → Limits) (g : Given R) (h : List 
 
 -- what the resident stands for when all but what is left of the hand is processed, and the act is done
 abbrev pub peri_left : {R : Type 0} → (R → Limits) → Given R → List Element → Handed → SynchAct → List Act → Blocks
-peri_left limits g h hand act note = with_act act note (with_feeds (processed (length hand.left) (run (setting_of limits g) h).hand) (peri (setting_of limits g) h))
+peri_left limits g h hand act note =
+    with_act act note (with_feeds (processed (length hand.left) (run (setting_of limits g) h).hand) (peri (setting_of limits g) h))
 
 -- the first entry of a list
 abbrev pub first_entry : List Entry → Option Entry
@@ -113,7 +114,8 @@ abbrev pub Knows : List Element → Pass Element → Type 0
 Knows H p = Begins (seen p) H × (only number_of (number p) H ≡ mine p)
 
 -- what a new squeue was made with, and which blocks are here at its start
-pub record IsMade {R : Type 0} (stands : R → Blocks → Type 0) (size : R → ℕ) (number rings : ℕ) (quotas : List (ℕ × ℕ)) (traced : Bool) (first : R) (g : Given R) : Type 0 where
+pub record IsMade {R : Type 0} (stands : R → Blocks → Type 0) (size : R → ℕ) (number rings : ℕ) (quotas : List (ℕ
+    × ℕ)) (traced : Bool) (first : R) (g : Given R) : Type 0 where
   pub its_number : g.number ≡ number
   pub its_rings : g.rings ≡ rings
   pub its_quotas : g.quotas ≡ quotas

@@ -1,7 +1,7 @@
 //! The calls that end a turn with what enters, asks or closes.
 //!
 //! Each adds exactly its mark, and has the mark's conditions on the history that the turn found. None takes memory.
-ghost use Rattle.std.specs.Prelude.{◌≡◌, [], length};
+ghost use Rattle.std.specs.Prelude.{◌≡◌, []};
 ghost use Rattle.perimeter_core.specs.Legal.{May};
 ghost use Rattle.perimeter_core.specs.Blocks.{peri};
 ghost use Rattle.squeue_state.specs.Naming.{setting_of};

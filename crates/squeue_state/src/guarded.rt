@@ -47,9 +47,11 @@ impl<R: Resident> Storied for Guarded<R> {
 impl<R> Guarded<R> {
     /// Keeps the mark, where marks are kept.
     pub(crate) fn note(&mut self, p: u32, kind: Kind, es: &[Feed])
-        requires { self.old.traced ≡ true → (length self.old.trace.marks < self.old.trace.mark_room) × (length self.old.trace.entries + length (entries_of (mark_by p kind es.now)) ≤ self.old.trace.entry_room) }
+        requires { self.old.traced ≡ true → (length self.old.trace.marks < self.old.trace.mark_room)
+            × (length self.old.trace.entries + length (entries_of (mark_by p kind es.now)) ≤ self.old.trace.entry_room) }
         ensures same { self.new ≡ record self.old { trace = self.new.trace } }
-        ensures noted { (g : Given R) (H : List Element) (e : Element) → e.mark ≡ mark_by p kind es.now → Noted g self.old.traced self.old.trace H → Noted g self.new.traced self.new.trace (H ++ e ∷ []) }
+        ensures noted { (g : Given R) (H : List Element) (e : Element) → e.mark ≡ mark_by p kind es.now → Noted g self.old.traced self.old.trace H
+            → Noted g self.new.traced self.new.trace (H ++ e ∷ []) }
     {
         if self.traced {
             self.trace.note(p, kind, es);

@@ -2,7 +2,7 @@
 //!
 //! Each method makes one mark: where the perimeter stood for a history before, it stands for the history with the mark
 //! afterwards. The two buffers are swapped and never grow, since what is queued always fits.
-ghost use Rattle.std.specs.Prelude.{◌||◌, not, ◌≡◌, ◌^◌, ℕ, ◌+◌, ◌<◌, ◌≤◌, List, [], ◌∷◌, ◌++◌, length, drop, vec_len, vec_capacity, None, Some, IsSome, IfOk, replicate, false};
+ghost use Rattle.std.specs.Prelude.{◌||◌, not, ◌≡◌, ℕ, ◌+◌, ◌<◌, ◌≤◌, List, [], ◌∷◌, ◌++◌, length, drop, vec_len, vec_capacity, None, Some, IsSome, false};
 ghost use Rattle.perimeter_core.specs.declared.entries.Entry.TheVariants as Entry';
 ghost use Rattle.perimeter_core.specs.declared.entries.Act.{Act};
 ghost use Rattle.perimeter_core.specs.declared.marks.Own.TheVariants as Own';
@@ -70,7 +70,14 @@ impl<R: Resident> Inner<R> {
     fn take_all(&mut self, p: u32) -> (Option<R>, Vec<Entry>)
         requires { IsSome self.old.spare }
         ensures same { (result.0 ≡ self.old.resident) × (result.1 ≡ self.old.chain) }
-        ensures taken { self.new ≡ record self.old { own = Own'.Out p; chain = self.new.chain; spare = None; wake = false; polling = polls self.new.chain.items self.old.polling; resident = None } }
+        ensures taken { self.new ≡ record self.old {
+          own = Own'.Out p;
+          chain = self.new.chain;
+          spare = None;
+          wake = false;
+          polling = polls self.new.chain.items self.old.polling;
+          resident = None;
+        } }
         ensures empty { (n : ℕ) → HasEmpty n self.old.spare → (self.new.chain.items ≡ []) × (n ≡ vec_capacity self.new.chain) }
     {
         let spare = match self.spare.take() {
@@ -108,7 +115,8 @@ impl<R: Resident> Inner<R> {
     /// Queues the feeds.
     pub(crate) fn fill(&mut self, es: &[Feed])
         requires room { vec_len self.old.chain + length es.now ≤ vec_capacity self.old.chain }
-        ensures behind { (g : Given R) (H : List Element) (p : ℕ) → Behind R.Resident g self.old H → May (setting_of R.limits g) H (filled p es.now) → Behind R.Resident g self.new (H ++ filled p es.now ∷ []) }
+        ensures behind { (g : Given R) (H : List Element) (p : ℕ) → Behind R.Resident g self.old H → May (setting_of R.limits g) H (filled p es.now)
+            → Behind R.Resident g self.new (H ++ filled p es.now ∷ []) }
     {
         queue_feeds(&mut self.chain, es);
         self.wake = wakes(self.own, self.wake);
@@ -120,7 +128,8 @@ impl<R: Resident> Inner<R> {
         requires { (n : ℕ) × (1 ≤ n) × HasEmpty n self.old.spare }
         ensures same { (result.0 ≡ self.old.resident) × (result.1.items ≡ Entry'.Feed e.c e.n ∷ []) }
         ensures room { (n : ℕ) → HasEmpty n self.old.spare → n ≡ vec_capacity result.1 }
-        ensures behind { (g : Given R) (H : List Element) → Behind R.Resident g self.old H → May (setting_of R.limits g) H (fasted p e) → Behind R.Resident g self.new (H ++ fasted p e ∷ []) }
+        ensures behind { (g : Given R) (H : List Element) → Behind R.Resident g self.old H → May (setting_of R.limits g) H (fasted p e)
+            → Behind R.Resident g self.new (H ++ fasted p e ∷ []) }
     {
         let mut hand = match self.spare.take() {
             Some(spare) => spare,
@@ -138,7 +147,8 @@ impl<R: Resident> Inner<R> {
         requires room { vec_len self.old.chain + length es.now ≤ vec_capacity self.old.chain }
         ensures same { (result.0 ≡ self.old.resident) × (result.1.items ≡ self.old.chain.items ++ entries es.now) }
         ensures room { vec_capacity result.1 ≡ vec_capacity self.old.chain }
-        ensures behind { (g : Given R) (H : List Element) → Behind R.Resident g self.old H → May (setting_of R.limits g) H (claimed p es.now) → Behind R.Resident g self.new (H ++ claimed p es.now ∷ []) }
+        ensures behind { (g : Given R) (H : List Element) → Behind R.Resident g self.old H → May (setting_of R.limits g) H (claimed p es.now)
+            → Behind R.Resident g self.new (H ++ claimed p es.now ∷ []) }
     {
         queue_feeds(&mut self.chain, es);
         self.take_all(p)
@@ -150,7 +160,8 @@ impl<R: Resident> Inner<R> {
         requires room { vec_len self.old.chain < vec_capacity self.old.chain }
         ensures same { (result.0 ≡ self.old.resident) × (result.1.items ≡ self.old.chain.items ++ Entry'.Ask p ∷ []) }
         ensures room { vec_capacity result.1 ≡ vec_capacity self.old.chain }
-        ensures behind { (g : Given R) (H : List Element) → Behind R.Resident g self.old H → May (setting_of R.limits g) H (claimed_ask p) → Behind R.Resident g self.new (H ++ claimed_ask p ∷ []) }
+        ensures behind { (g : Given R) (H : List Element) → Behind R.Resident g self.old H → May (setting_of R.limits g) H (claimed_ask p)
+            → Behind R.Resident g self.new (H ++ claimed_ask p ∷ []) }
     {
         append(&mut self.chain, &[Entry::Ask { p }]);
         self.take_all(p)
@@ -160,7 +171,8 @@ impl<R: Resident> Inner<R> {
     pub(crate) fn work(&mut self, p: u32) -> (Option<R>, Vec<Entry>)
         requires { IsSome self.old.spare }
         ensures same { (result.0 ≡ self.old.resident) × (result.1 ≡ self.old.chain) }
-        ensures behind { (g : Given R) (H : List Element) → Behind R.Resident g self.old H → May (setting_of R.limits g) H (worked p) → Behind R.Resident g self.new (H ++ worked p ∷ []) }
+        ensures behind { (g : Given R) (H : List Element) → Behind R.Resident g self.old H → May (setting_of R.limits g) H (worked p)
+            → Behind R.Resident g self.new (H ++ worked p ∷ []) }
     {
         self.take_all(p)
     }
@@ -168,7 +180,8 @@ impl<R: Resident> Inner<R> {
     /// Queues the wish of the pass to own the perimeter.
     pub(crate) fn ask(&mut self, p: u32)
         requires { vec_len self.old.chain < vec_capacity self.old.chain }
-        ensures behind { (g : Given R) (H : List Element) → Behind R.Resident g self.old H → May (setting_of R.limits g) H (asked p) → Behind R.Resident g self.new (H ++ asked p ∷ []) }
+        ensures behind { (g : Given R) (H : List Element) → Behind R.Resident g self.old H → May (setting_of R.limits g) H (asked p)
+            → Behind R.Resident g self.new (H ++ asked p ∷ []) }
     {
         append(&mut self.chain, &[Entry::Ask { p }]);
         self.poll();
@@ -177,7 +190,8 @@ impl<R: Resident> Inner<R> {
     /// Closes the pass.
     pub(crate) fn close(&mut self, p: u32)
         requires { p < vec_len self.old.closed }
-        ensures behind { (g : Given R) (H : List Element) → Behind R.Resident g self.old H → May (setting_of R.limits g) H (closed_by p) → Behind R.Resident g self.new (H ++ closed_by p ∷ []) }
+        ensures behind { (g : Given R) (H : List Element) → Behind R.Resident g self.old H → May (setting_of R.limits g) H (closed_by p)
+            → Behind R.Resident g self.new (H ++ closed_by p ∷ []) }
     {
         self.closed[p as usize] = true;
         self.poll();
@@ -186,7 +200,8 @@ impl<R: Resident> Inner<R> {
     /// Takes the perimeter that was granted.
     pub(crate) fn accept(&mut self, p: u32) -> (Option<R>, Option<Vec<Entry>>)
         ensures same { (result.0 ≡ self.old.resident) × (result.1 ≡ self.old.spare) }
-        ensures behind { (g : Given R) (H : List Element) → Behind R.Resident g self.old H → May (setting_of R.limits g) H (accepted p) → Behind R.Resident g self.new (H ++ accepted p ∷ []) }
+        ensures behind { (g : Given R) (H : List Element) → Behind R.Resident g self.old H → May (setting_of R.limits g) H (accepted p)
+            → Behind R.Resident g self.new (H ++ accepted p ∷ []) }
     {
         self.own = Own::Out(p);
         self.poll();
@@ -196,7 +211,8 @@ impl<R: Resident> Inner<R> {
     /// Takes what is queued, for a buffer that is used up.
     pub(crate) fn take(&mut self, buffer: Vec<Entry>) -> Vec<Entry>
         ensures same { result ≡ self.old.chain }
-        ensures behind { (g : Given R) (H : List Element) (p : ℕ) → Behind R.Resident g self.old H → room_of g.quotas ≡ vec_capacity buffer → May (setting_of R.limits g) H (took p) → Behind R.Resident g self.new (H ++ took p ∷ []) }
+        ensures behind { (g : Given R) (H : List Element) (p : ℕ) → Behind R.Resident g self.old H → room_of g.quotas ≡ vec_capacity buffer
+            → May (setting_of R.limits g) H (took p) → Behind R.Resident g self.new (H ++ took p ∷ []) }
     {
         let mut buffer = buffer;
         buffer.clear();
@@ -211,7 +227,10 @@ impl<R: Resident> Inner<R> {
         requires room { length (drop at entries.items) + length self.old.chain.items ≤ vec_capacity entries }
         requires range { ActBelow (vec_len self.old.here) act }
         requires out { (self.old.resident ≡ None) × (self.old.spare ≡ None) }
-        ensures behind { (g : Given R) (H : List Element) (note : List Act) (p rest : ℕ) → Behind R.Resident g self.old H → LiesAs g (vec_capacity entries) rest (drop at entries.items) (run (setting_of R.limits g) H).hand → IsPeri R.Resident g resident (with_act act note (with_feeds (processed rest (run (setting_of R.limits g) H).hand) (peri (setting_of R.limits g) H))) → May (setting_of R.limits g) H (gone p rest act note) → Behind R.Resident g self.new (H ++ gone p rest act note ∷ []) }
+        ensures behind { (g : Given R) (H : List Element) (note : List Act) (p rest : ℕ) → Behind R.Resident g self.old H
+            → LiesAs g (vec_capacity entries) rest (drop at entries.items) (run (setting_of R.limits g) H).hand
+            → IsPeri R.Resident g resident (with_act act note (with_feeds (processed rest (run (setting_of R.limits g) H).hand) (peri (setting_of R.limits g) H)))
+            → May (setting_of R.limits g) H (gone p rest act note) → Behind R.Resident g self.new (H ++ gone p rest act note ∷ []) }
     {
         self.give_back(resident, entries, at);
         set_here(&mut self.here, act);
@@ -225,7 +244,10 @@ impl<R: Resident> Inner<R> {
         requires at { at ≤ vec_len entries }
         requires room { length (drop at entries.items) + length self.old.chain.items ≤ vec_capacity entries }
         requires out { (self.old.resident ≡ None) × (self.old.spare ≡ None) }
-        ensures behind { (g : Given R) (H : List Element) (p rest : ℕ) → Behind R.Resident g self.old H → LiesAs g (vec_capacity entries) rest (drop at entries.items) (run (setting_of R.limits g) H).hand → IsPeri R.Resident g resident (with_feeds (processed rest (run (setting_of R.limits g) H).hand) (peri (setting_of R.limits g) H)) → May (setting_of R.limits g) H (granted p j rest) → Behind R.Resident g self.new (H ++ granted p j rest ∷ []) }
+        ensures behind { (g : Given R) (H : List Element) (p rest : ℕ) → Behind R.Resident g self.old H
+            → LiesAs g (vec_capacity entries) rest (drop at entries.items) (run (setting_of R.limits g) H).hand
+            → IsPeri R.Resident g resident (with_feeds (processed rest (run (setting_of R.limits g) H).hand) (peri (setting_of R.limits g) H))
+            → May (setting_of R.limits g) H (granted p j rest) → Behind R.Resident g self.new (H ++ granted p j rest ∷ []) }
     {
         self.give_back(resident, entries, at);
         self.own = Own::Granted(j);

@@ -23,7 +23,8 @@ pub(crate) fn end_turn<R: Resident, N: Notes>(
     es: &[Feed],
 ) -> Pass
     requires gate { IsHeldOf number_of (gate_id gate.now) held }
-    requires value { Behind R.Resident (given_of (first_of gate.now)) (held_value held).inner (held_seen held ++ element_of (held_number held) kind es.now N.note ∷ []) }
+    requires value { Behind R.Resident (given_of (first_of gate.now)) (held_value held).inner
+        (held_seen held ++ element_of (held_number held) kind es.now N.note ∷ []) }
     requires noted { Noted (given_of (first_of gate.now)) (held_value held).traced (held_value held).trace (held_seen held) }
     ensures gate { IsPassOf number_of (gate_id gate.now) result × (number result ≡ held_number held) }
     ensures seen { seen result ≡ held_seen held ++ element_of (held_number held) kind es.now N.note ∷ [] }

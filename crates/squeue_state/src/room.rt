@@ -1,5 +1,6 @@
 //! The room that a squeue takes when it is made, and buffers that never grow.
-ghost use Rattle.std.specs.Prelude.{◌≡◌, ℕ, ◌+◌, ◌*◌, ◌<◌, ◌≤◌, ◌^◌, List, [], ◌∷◌, ◌++◌, length, drop, replicate, false, slice_index_or, is_some, vec_len, vec_capacity, IfOk};
+ghost use Rattle.std.specs.Prelude.{◌≡◌, ℕ, ◌+◌, ◌*◌, ◌<◌, ◌≤◌, ◌^◌, ◌++◌, length, drop};
+ghost use Rattle.std.specs.Prelude.{replicate, false, slice_index_or, is_some, vec_len, vec_capacity, IfOk};
 ghost use Rattle.perimeter_core.specs.Deeds.{entries};
 ghost use Rattle.perimeter_core.specs.History.{all_quotas, feed_quotas};
 ghost use Rattle.perimeter_core.specs.Blocks.{Blocks};

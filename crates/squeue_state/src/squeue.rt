@@ -1,12 +1,12 @@
 //! The squeue object: how it is made, its turns, and its end.
-ghost use Rattle.std.specs.Prelude.{◌≡◌, ◌≢◌, ℕ, ◌+◌, ◌*◌, ◌<◌, ◌≤◌, ◌^◌, Bool, true, List, [], ◌∷◌, ◌++◌, length, map, if◌then◌else◌, MatchResult, IfOk, IsSome, Some, slice_index_or, is_some};
+ghost use Rattle.std.specs.Prelude.{◌≡◌, ◌+◌, ◌<◌, ◌≤◌, ◌^◌, [], length, map, if◌then◌else◌, MatchResult, IfOk, IsSome, Some};
 ghost use Rattle.perimeter_core.specs.Perimeter.{Idle};
-ghost use Rattle.perimeter_core.specs.History.{Element, run, all_quotas, feed_quotas};
-ghost use Rattle.perimeter_core.specs.Blocks.{Blocks, peri};
+ghost use Rattle.perimeter_core.specs.History.{run, feed_quotas};
+ghost use Rattle.perimeter_core.specs.Blocks.{peri};
 ghost use Rattle.squeue_state.specs.Told.{marks_of};
-ghost use Rattle.squeue_state.specs.Naming.{Chosen, Given, Ending, setting_of};
+ghost use Rattle.squeue_state.specs.Naming.{Chosen, Ending, setting_of};
 ghost use Rattle.squeue_state.specs.Endings.{ending_of, HasEnded, seen_by};
-ghost use Rattle.squeue_state.specs.Behind.{IsPeri, pairs, room_of};
+ghost use Rattle.squeue_state.specs.Behind.{IsPeri, pairs};
 ghost use Rattle.squeue_state.specs.Elements.{number_of, closed_by};
 ghost use Rattle.squeue_state.specs.Words.{Found, Unmarked, Added, HasSeenEnd, Knows, IsMade, StandsEmpty, ask_quotas};
 ghost use Rattle.turn_gate.specs.Passes.{IsPassOf, IsReturned, AreAll, AreFresh, hit, missed, number, seen, steps};
@@ -129,7 +129,8 @@ impl<R: Resident> Squeue<R> {
     /// Takes the gate where it is free, and doesn't wait.
     pub fn try_turn(&self, pass: Pass) -> Result<Turn<R>, Missed>
         requires { IsPassOf number_of self.now.gate pass }
-        ensures { MatchResult result (λ t. Found R.limits self.now pass t × hit (steps pass) t.made) (λ m. missed (steps pass) m × IsReturned number_of self.now.gate pass m.pass) }
+        ensures { MatchResult result (λ t. Found R.limits self.now pass t × hit (steps pass) t.made) (λ m. missed (steps pass) m
+            × IsReturned number_of self.now.gate pass m.pass) }
     {
         let held = self.gate.try_hold(pass)?;
         Ok(Turn {

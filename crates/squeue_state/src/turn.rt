@@ -75,7 +75,8 @@ impl<R: Resident> Turn<R> {
 
     /// Whether every pass but the worker's is closed.
     pub fn others_closed(&self) -> bool
-        ensures { (result ≡ true) ↔ ((p : ℕ) → p < length self.now.squeue.given.quotas → is_closed (run (setting_of R.limits self.now.squeue.given) self.now.found) p ≡ true) }
+        ensures { (result ≡ true) ↔ ((p : ℕ) → p < length self.now.squeue.given.quotas
+            → is_closed (run (setting_of R.limits self.now.squeue.given) self.now.found) p ≡ true) }
     {
         all_but_last(&self.held.get().inner.closed)
     }

@@ -1,4 +1,5 @@
--- What the items of a stream are served into, in order: echo answers each datagram with its own text (RFC 862), discard with nothing (RFC 863), and the generator's block
+-- What the items of a stream are served into, in order: echo answers each datagram with its own text (RFC 862), discard with
+-- nothing (RFC 863), and the generator's block
 -- is given each segment and each time.
 use Rattle.std.specs.Prelude.{ℕ, ◌-◌, ◌==◌, List, [], ◌∷◌, take, drop, map, length, slice_get, if◌then◌else◌}
 use Rattle.std.specs.List.{flat_map}

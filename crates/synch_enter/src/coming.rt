@@ -1,5 +1,5 @@
 //! Coming to a perimeter as owner.
-ghost use Rattle.std.specs.Prelude.{◌≡◌, ◌≢◌, ◌↔◌, ℕ, ◌<◌, ◌∷◌, [], ◌++◌, List, Option, Some, true, false, length, IfOk, MatchResult};
+ghost use Rattle.std.specs.Prelude.{◌≡◌, ◌↔◌, ◌<◌, ◌∷◌, [], ◌++◌, Option, Some, true, false, length, IfOk, MatchResult};
 ghost use Rattle.turn_gate.specs.History.{Begins};
 ghost use Rattle.turn_gate.specs.Passes.{IsPassOf, number, seen, mine};
 ghost use Rattle.perimeter_core.specs.declared.entries.Entry.{Entry};

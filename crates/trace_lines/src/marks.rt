@@ -1,6 +1,6 @@
 //! The line of a mark.
 
-ghost use Rattle.std.specs.Prelude.{◌≡◌, ◌≢◌, ℕ, ◌^◌, ◌<◌, true, List, [], ◌∷◌, ◌++◌, IfOk, MatchOption, map};
+ghost use Rattle.std.specs.Prelude.{◌≡◌, ◌≢◌, ℕ, ◌<◌, true, List, [], ◌∷◌, ◌++◌, IfOk, MatchOption, map};
 ghost use Rattle.perimeter_core.specs.declared.entries.Entry.{Entry};
 ghost use Rattle.perimeter_core.specs.declared.marks.Mark.{Mark as MarkOf};
 ghost use Rattle.perimeter_core.specs.declared.marks.Mark.TheVariants as On;

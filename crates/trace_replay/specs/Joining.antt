@@ -1,6 +1,7 @@
 -- What the squeues kept of a connection, stay by stay, and what giving it to its block leads to. Stay s of connection c is at squeue
 -- (c + s) mod squeues, as its stay s div squeues there.
-use Rattle.std.specs.Prelude.{◌≡◌, ℕ, zero, suc, ◌+◌, ◌/◌, ◌%◌, ◌<◌, ◌≤◌, ◌==◌, ◌⊎◌, if◌then◌else◌, nat_lt, Bool, true, false, Contains, Option, Some, None, List, [], ◌++◌, ◌∷◌, map, slice_get, Vec}
+use Rattle.std.specs.Prelude.{◌≡◌, ℕ, zero, suc, ◌+◌, ◌/◌, ◌%◌, ◌<◌, ◌≤◌, ◌==◌, ◌⊎◌, if◌then◌else◌, nat_lt}
+use Rattle.std.specs.Prelude.{Bool, true, false, Contains, Option, Some, None, List, [], ◌++◌, ◌∷◌, map, slice_get, Vec}
 use Rattle.std.specs.declared.alloc.Global.{Global}
 use Rattle.perimeter_core.specs.declared.entries.Act.{Act}
 use Rattle.perimeter_core.specs.declared.entries.Act.TheVariants as Did

@@ -1,6 +1,6 @@
 //! A report of a run that kept its marks replays, with its capture behind it.
 
-ghost use Rattle.std.specs.Prelude.{◌≡◌, ℕ, ◌≤◌, Bool, true, List, ◌++◌, Option, length, map};
+ghost use Rattle.std.specs.Prelude.{◌≡◌, ◌≤◌, Bool, true, List, ◌++◌, Option, length, map};
 ghost use Rattle.sq_base.specs.Ends.{End};
 ghost use Rattle.sq_base.specs.declared.kinds.Status.TheVariants as Status;
 ghost use Rattle.capture_reader.specs.Outcome.{CaptureFile};

@@ -1,6 +1,7 @@
 //! What was done to each connection in all its stays, joined and served on one thread.
 
-ghost use Rattle.std.specs.Prelude.{◌≡◌, ℕ, ◌+◌, ◌%◌, ◌^◌, ◌<◌, ◌≤◌, true, false, All, Err, IfOk, IfSome, List, MatchOption, None, Some, [], length, map, option_map};
+ghost use Rattle.std.specs.Prelude.{◌≡◌, ℕ, ◌+◌, ◌%◌, ◌^◌, ◌<◌, ◌≤◌, true, false, All, Err};
+ghost use Rattle.std.specs.Prelude.{IfOk, IfSome, List, MatchOption, None, Some, [], length, map, option_map};
 ghost use Rattle.std.specs.List.{AllByRecursion};
 ghost use Rattle.perimeter_core.specs.declared.entries.Act.{Act};
 ghost use Rattle.perimeter_core.specs.declared.marks.Mark.{Mark};
@@ -16,7 +17,8 @@ ghost use Rattle.ring_quotas.specs.Quotas.{IsInRange};
 ghost use Rattle.ring_threads.specs.ServedBlocks.{AreServed};
 ghost use Rattle.squeue_replay.specs.Histories.{endings_of};
 ghost use Rattle.squeue_replay.specs.Standing.{GuestsStand, guest_of};
-ghost use Rattle.trace_replay.specs.Joining.{FeedsFollow, HasNoOrder, HasOrder, HasStays, IsNamed, LacksAStay, did_before, did_in, kept_of, left_in, with_acts, without};
+ghost use Rattle.trace_replay.specs.Joining.{FeedsFollow, HasNoOrder, HasOrder, HasStays};
+ghost use Rattle.trace_replay.specs.Joining.{IsNamed, LacksAStay, did_before, did_in, kept_of, left_in, with_acts, without};
 ghost use Rattle.trace_replay.specs.Reasons.{AreOrdered, AreRight, IsUnordered};
 
 use crate::reason::{Reason, Refusal};

@@ -1,6 +1,6 @@
 //! The marks of all squeues, one by one.
 
-ghost use Rattle.std.specs.Prelude.{◌≡◌, ◌<◌, ◌≤◌, ℕ, All, Err, IfOk, MatchOption, List, [], ◌∷◌, ◌++◌, length, map, option_map};
+ghost use Rattle.std.specs.Prelude.{◌≡◌, ◌<◌, ◌≤◌, ℕ, All, Err, IfOk, MatchOption, List, [], ◌∷◌, ◌++◌, map, option_map};
 ghost use Rattle.std.specs.List.{flat_map};
 ghost use Rattle.perimeter_core.specs.declared.marks.Mark.{Mark as MarkOf};
 ghost use Rattle.perimeter_core.specs.Legal.{Legal};

@@ -1,5 +1,6 @@
 -- The rule that a gate's table keeps between any two atomic steps, and what each step tells the seat that makes it.
-use Rattle.std.specs.Prelude.{◌≡◌, ◌≢◌, ℕ, zero, suc, ◌+◌, ◌<◌, Bool, true, false, List, [], ◌∷◌, ◌++◌, length, take, drop, Option, Some, ◌≤◌, ◌/◌, ◌%◌, ◌^◌, ◌⊎◌, None, slice_index}
+use Rattle.std.specs.Prelude.{◌≡◌, ◌≢◌, ℕ, zero, suc, ◌+◌, ◌<◌, Bool, true, false, List, [], ◌∷◌}
+use Rattle.std.specs.Prelude.{◌++◌, length, take, drop, Option, Some, ◌≤◌, ◌/◌, ◌%◌, ◌^◌, ◌⊎◌, None, slice_index}
 use mathlib.Core.Option as mo
 use lib.ListN.{get_elem?}
 use Rattle.atomic_table.specs.Table.{State, Me, Step}
@@ -61,7 +62,8 @@ module _ {T E : Type 0} (stands : T → List E → Type 0) (num : E → ℕ) whe
     pub small : r.number < n
 
   -- what the view of seat j says; the queue is the list of the numbers that have a ticket, in order of the tickets
-  pub record Fits (n : ℕ) (lock : ℕ) (story : List E) (place : ℕ → ℕ) (queue : List ℕ) (homes : List (mo.Option (Option (Kept T)))) (j : ℕ) (v : View E) : Type 0 where
+  pub record Fits (n : ℕ) (lock : ℕ) (story : List E) (place : ℕ
+      → ℕ) (queue : List ℕ) (homes : List (mo.Option (Option (Kept T)))) (j : ℕ) (v : View E) : Type 0 where
     pub rows : Each (Knows n story place j) v.rows
     -- its ticket is out
     pub waits : (t : ℕ) → v.ticket ≡ Some t → (r : Row E) × (i : ℕ) × (v.rows ≡ r ∷ []) × (get_elem? queue i ≡ mo.some r.number) × (t ≡ ticket_at lock i)
@@ -78,7 +80,8 @@ module _ {T E : Type 0} (stands : T → List E → Type 0) (num : E → ℕ) whe
 
   -- the seat of the i-th number in the queue has the i-th ticket
   abbrev pub Queued : ℕ → (ℕ → ℕ) → List (View E) → ℕ → ℕ → Type 0
-  Queued lock place views i q = (v : View E) × (r : Row E) × (get_elem? views (place q) ≡ mo.some v) × (v.ticket ≡ Some (ticket_at lock i)) × (v.rows ≡ r ∷ []) × (r.number ≡ q)
+  Queued lock place views i q = (v : View E) × (r : Row E) × (get_elem? views (place q) ≡ mo.some v) × (v.ticket ≡ Some (ticket_at lock i))
+      × (v.rows ≡ r ∷ []) × (r.number ≡ q)
 
   -- there is one history, as long as the second word says, of which every seat has seen a beginning
   pub record Holds (n : ℕ) (s : State (Option (Kept T)) (View E)) : Type 0 where
@@ -104,7 +107,8 @@ module _ {T E : Type 0} (stands : T → List E → Type 0) (num : E → ℕ) whe
 
   -- the seat m with ticket t took the value, which stands for a history that goes on from what the seat had seen
   abbrev pub Took : ℕ → Me (Option (Kept T)) (View E) → Me (Option (Kept T)) (View E) → Type 0
-  Took t m w = (r : Row E) → m.0.rows ≡ r ∷ [] → (x : Kept T) × (h : List E) × (w.0.rows ≡ row r.number h r.mine ∷ []) × (w.0.ticket ≡ Some t) × (w.0.has ≡ true) × (w.1 ≡ (0, Some x) ∷ m.1)
+  Took t m w = (r : Row E) → m.0.rows ≡ r ∷ [] → (x : Kept T) × (h : List E) × (w.0.rows ≡ row r.number h r.mine ∷ []) × (w.0.ticket ≡ Some t)
+      × (w.0.has ≡ true) × (w.1 ≡ (0, Some x) ∷ m.1)
       × Begins r.seen h × (only num r.number h ≡ r.mine) × stands x.value.value h × (x.count ≡ length h)
 
 -- all but the steps stays
@@ -127,7 +131,8 @@ module _ {T E : Type 0} (stands : T → List E → Type 0) (num : E → ℕ) whe
 module _ {T E : Type 0} where
   -- the store of the count: the elements joined the history
   abbrev pub added : List E → Step (Option (Kept T)) → Me (Option (Kept T)) (View E) → ℕ → Me (Option (Kept T)) (View E) → Type 0
-  added es st m found w = (st.word ≡ 1) × ((r : Row E) → m.0.rows ≡ r ∷ [] → w ≡ (view (row r.number (r.seen ++ es) (r.mine ++ es) ∷ []) m.0.ticket m.0.has m.0.steps, m.1))
+  added es st m found w = (st.word ≡ 1) × ((r : Row E) → m.0.rows ≡ r ∷ []
+      → w ≡ (view (row r.number (r.seen ++ es) (r.mine ++ es) ∷ []) m.0.ticket m.0.has m.0.steps, m.1))
 
   -- the fetch-add of 1: a ticket was drawn, the one behind all that were out
   abbrev pub drew : Step (Option (Kept T)) → Me (Option (Kept T)) (View E) → ℕ → Me (Option (Kept T)) (View E) → Type 0

@@ -60,7 +60,8 @@ impl<T: Storied> Gate<T> {
         T: Drop,
         requires few { (1 ≤ passes) × (passes ≤ 64) }
         requires start { T.stands value value [] }
-        ensures { IfOk result (λ g. (first_of g.0 ≡ value) × (passes_of g.0 ≡ passes) × (length g.1.items ≡ passes) × AreFresh T.number (gate_id g.0) 0 g.1.items) }
+        ensures { IfOk result (λ g. (first_of g.0 ≡ value) × (passes_of g.0 ≡ passes) × (length g.1.items ≡ passes)
+            × AreFresh T.number (gate_id g.0) 0 g.1.items) }
     {
         let made = Made {
             passes,
@@ -210,7 +211,9 @@ impl<T: Storied> Gate<T> {
     /// elements of a pass's number are the pass's own.
     pub fn close(self, passes: Vec<Pass<T::Element>>) -> T
         requires { AreAll T.number (gate_id self) (passes_of self) passes.items }
-        ensures { (story : List T.Element) × T.stands (first_of self) result story × Each (λ p. Begins (seen p) story × (only T.number (number p) story ≡ mine p)) passes.items × ((q : ℕ) → passes_of self ≤ q → only T.number q story ≡ []) }
+        ensures { (story : List T.Element) × T.stands (first_of self) result story
+            × Each (λ p. Begins (seen p) story × (only T.number (number p) story ≡ mine p)) passes.items
+            × ((q : ℕ) → passes_of self ≤ q → only T.number q story ≡ []) }
     {
         let seat = self.gather(passes);
         let Gate { table, parked: _ } = self;

@@ -10,5 +10,6 @@ use crate::storied::Storied;
 
 /// Where the lock is free the value is at home, and stands for the whole history.
 pub fn a_free_gate_has_its_value<T: Storied>()
-    ensures { (first : T) (n : ℕ) (s : State (Option (Kept T)) (View T.Element)) → Holds (T.stands first) T.number n s → IsFree s → HasWhole (T.stands first) T.number s }
+    ensures { (first : T) (n : ℕ) (s : State (Option (Kept T)) (View T.Element)) → Holds (T.stands first) T.number n s → IsFree s
+        → HasWhole (T.stands first) T.number s }
 {}
