@@ -1,6 +1,7 @@
 -- What a squeue is that was made for a plan.
 use Rattle.std.proofs.Common.{◌≡◌, ℕ, ◌+◌, ◌%◌, ◌<◌, ◌==◌, suc, Bool, false, Some, List, [], ◌∷◌, ◌++◌, length, length-append, map, slice_get, slice_index_or, refl, ap, sym, ◌∙◌, subst, arith}
 use Rattle.std.specs.List.{range_with_len}
+use Rattle.std.proofs.lemmas.List.FromFn.{length-map-range_with_len}
 use Rattle.turn_gate.specs.History.{Each}
 use Rattle.perimeter_core.specs.History.{Setting}
 use Rattle.squeue_state.specs.Naming.{Named}
@@ -15,7 +16,7 @@ use Rattle.ring_quotas.specs.Quotas.{quotas_of}
 use Rattle.ring_jobs.proofs.Starts.{first_flag}
 use Rattle.ring_jobs.proofs.Tasked.{each_more}
 use Rattle.ring_threads.specs.Settings.{AreSet, IsSet}
-use Rattle.ring_threads.proofs.WholeRun.{map_at, map_count}
+use Rattle.ring_threads.proofs.WholeRun.{map_at}
 
 -- flags that are the same one by one
 same_flags : (xs ys : List Bool) → length xs ≡ length ys → ((k : ℕ) → k < length xs → slice_index_or xs k false ≡ slice_index_or ys k false) → xs ≡ ys
@@ -32,7 +33,7 @@ module _ (p : PlanOf) (calls : CallLists) (squeues rings spread q : ℕ) (first 
     (stands : Stands first (first_here (length p.tuples) q squeues)) (size : size_of first ≡ length p.tuples) (limits : limits_of first ≡ limits_in p calls q squeues spread) (origin : origin_of first ≡ record { plan = p; calls = calls }) where
   starts_are : s.given.starts ≡ map (λ c. c % squeues == q) (range_with_len 0 (length p.tuples))
   starts_are =
-      same_flags s.given.starts (map (λ c. c % squeues == q) (range_with_len 0 (length p.tuples))) (made.its_conns ∙ (size ∙ sym (map_count (λ c. c % squeues == q) 0 (length p.tuples))))
+      same_flags s.given.starts (map (λ c. c % squeues == q) (range_with_len 0 (length p.tuples))) (made.its_conns ∙ (size ∙ sym (length-map-range_with_len (λ c. c % squeues == q) 0 (length p.tuples))))
       (λ c lt.
       let below : c < length p.tuples = omega (arith, lt, made.its_conns, size) in
       let z : 0 + c ≡ c = omega arith in
@@ -64,4 +65,4 @@ module _ (p : PlanOf) (calls : CallLists) (squeues rings spread : ℕ) where
   pub set_sizes : (q : ℕ) (ss : List (Named Blocks)) → AreSetBelow q ss → Each (λ (s : Named Blocks). length s.given.starts ≡ length p.tuples) ss
   set_sizes q ss h =
       each_got (λ (s : Named Blocks). length s.given.starts ≡ length p.tuples) ss
-      (λ k s is. ap (λ (S : Setting). length S.starts) (h.1 k s is).setting ∙ map_count (λ c. c % squeues == k) 0 (length p.tuples))
+      (λ k s is. ap (λ (S : Setting). length S.starts) (h.1 k s is).setting ∙ length-map-range_with_len (λ c. c % squeues == k) 0 (length p.tuples))

@@ -1,5 +1,5 @@
 -- From what the passes knew at the end, and what came back of the squeues, to what was served.
-use Rattle.std.proofs.Common.{◌≡◌, ◌≢◌, ℕ, ◌+◌, ◌-◌, ◌/◌, ◌%◌, ◌<◌, ◌≤◌, ◌==◌, zero, suc, Bool, true, false, if◌then◌else◌, Option, Some, None, Result, Ok, Err, IfOk, List, [], ◌∷◌, length, length-append, inl, inr, map, slice_get, slice_index_or, refl, ap, sym, ◌∙◌, subst, arith}
+use Rattle.std.proofs.Common.{◌≡◌, ◌≢◌, ℕ, ◌+◌, ◌-◌, ◌/◌, ◌%◌, ◌<◌, ◌≤◌, ◌==◌, zero, suc, Bool, true, false, if◌then◌else◌, Option, Some, None, Result, Ok, Err, IfOk, List, [], ◌∷◌, length, inl, inr, map, slice_get, slice_index_or, refl, ap, sym, ◌∙◌, subst, arith}
 use Rattle.std.specs.Prelude.{Box, IfSome, get_or}
 use Rattle.std.specs.Option.{option_map, option_map_or}
 use Rattle.std.specs.List.{range_with_len}
@@ -9,6 +9,7 @@ use Rattle.std.proofs.lemmas.Bool.Decides.{nat_tests}
 use Rattle.std.proofs.lemmas.List.{length-map}
 use Rattle.std.proofs.lemmas.Option.{slice_get-map, slice_get_within}
 use Rattle.std.proofs.Math.Nat.{mod-lt}
+use Rattle.std.proofs.lemmas.List.FromFn.{length-map-range_with_len}
 use Rattle.turn_gate.specs.History.{Each}
 use Rattle.turn_gate.specs.Passes.{number, seen}
 use Rattle.turn_gate.specs.declared.pass.Pass.{Pass}
@@ -42,7 +43,8 @@ use Rattle.squeue_rings.proofs.CallMarks.{none_beyond as no_thread_beyond}
 use Rattle.squeue_rings.proofs.Reaching.{each_at}
 use Rattle.squeue_rings.proofs.Slots.{at_got, at_length}
 use Rattle.ring_quotas.specs.declared.setup.Setup.{Setup}
-use Rattle.ring_quotas.specs.Quotas.{quotas_of, setting_at}
+use Rattle.ring_quotas.specs.Quotas.{setting_at}
+use Rattle.ring_quotas.proofs.Adding.{quotas_count}
 use Rattle.run_histories.specs.Counting.{made_in_all}
 use Rattle.run_histories.proofs.AllActs.{are_all}
 use Rattle.run_histories.proofs.Called.{calls_of_all}
@@ -76,10 +78,6 @@ pub map_at : {A : Type 0} (f : ℕ → A) (a n k : ℕ) (d : A) → k < n → sl
 map_at f a zero k d lt = absurd (omega (arith, lt))
 map_at f a (suc n) zero d lt = let e : a ≡ a + 0 = omega arith in ap f e
 map_at f a (suc n) (suc k) d lt = let e : a + 1 + k ≡ a + suc k = omega arith in map_at f (a + 1) n k d (omega (arith, lt)) ∙ ap f e
-
-pub map_count : {A : Type 0} (f : ℕ → A) (a n : ℕ) → length (map f (range_with_len a n)) ≡ n
-map_count f a zero = refl
-map_count f a (suc n) = ap suc (map_count f (a + 1) n)
 
 got_map : {A B : Type 0} (f : A → B) (g : B → ℕ) (xs : List A) (k d : ℕ) → option_map_or g (slice_get (map f xs) k) d ≡ option_map_or (λ x. g (f x)) (slice_get xs k) d
 got_map f g [] k d = refl
@@ -118,10 +116,6 @@ placed_at : (ss : List (Named Blocks)) (es : List Ending) (c : ℕ) (o : Option 
 placed_at ss es c None q e lies at here = absurd lies
 placed_at ss es c (Some None) q e lies at here = absurd (differ (sym here ∙ lies q e at))
 placed_at ss es c (Some (Some b)) q e lies at here = (b, refl, lies)
-
--- as many passes at each squeue as rings and application threads
-pub quotas_count : (p : PlanOf) (calls : CallLists) (squeues rings spread q : ℕ) → length (quotas_of p calls squeues rings spread q) ≡ rings + 4
-quotas_count p calls squeues rings spread q = length-append _ _ ∙ ap (λ (m : ℕ). m + 4) (map_count _ 0 rings)
 
 module _ (p : PlanOf) (calls : CallLists) (setup : Setup) (front : ℕ) (lists : ℕ → List Feed) (ss : List (Named Blocks)) (lent : ℕ → List (Option (Pass Element))) (places : List (Option (Box BlockOf Global))) (es : List Ending) (ts : List Traced)
     (some : 1 ≤ setup.squeues) (rings_some : 1 ≤ setup.rings) (ran : HasRun p calls setup front lists ss lent)
@@ -167,7 +161,7 @@ module _ (p : PlanOf) (calls : CallLists) (setup : Setup) (front : ℕ) (lists :
   its_rings q s set = ap (λ (S : Setting). S.rings) set.setting
 
   its_conns : (q : ℕ) (s : Named Blocks) → IsSet p calls squeues rings spread q s → length s.given.starts ≡ n
-  its_conns q s set = ap (λ (S : Setting). length S.starts) set.setting ∙ map_count (λ c. c % squeues == q) 0 n
+  its_conns q s set = ap (λ (S : Setting). length S.starts) set.setting ∙ length-map-range_with_len (λ c. c % squeues == q) 0 n
 
   -- what the ring of a connection knew of it
   module _ (c : ℕ) (lt : c < n) where
