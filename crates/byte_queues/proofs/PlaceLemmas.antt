@@ -148,7 +148,7 @@ laid-cells : (a : Inside) (at : ℕ) (text : List ℕ) → Fitting a at text
     → over_cells (cells_from a.taken a.runs.items) (gap (at - a.taken) (held text [])) ≡ cells_from a.taken (with_text at text a.runs.items)
 laid-cells a at text f = join-cells a.taken at (high a) text a.runs.items (f.queue).spaced f.behind
 
-up-more : (e : Option ℕ) (m n : ℕ) → m ≤ n → up_to e m ≤ up_to e n
+pub up-more : (e : Option ℕ) (m n : ℕ) → m ≤ n → up_to e m ≤ up_to e n
 up-more None m n h = h
 up-more (Some k) m n h = omega (arith, h)
 

@@ -12,7 +12,7 @@ zero-or : (n : ℕ) → (n ≡ 0) ⊎ (0 < n)
 zero-or zero = inl refl
 zero-or (suc n) = inr (omega arith)
 
-drop-whole : (n : ℕ) (xs : List ℕ) → length xs ≤ n → drop n xs ≡ []
+pub drop-whole : (n : ℕ) (xs : List ℕ) → length xs ≤ n → drop n xs ≡ []
 drop-whole zero [] h = refl
 drop-whole zero (x ∷ xs) h = absurd (omega (arith, h))
 drop-whole (suc n) [] h = refl

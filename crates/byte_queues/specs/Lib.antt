@@ -1,3 +1,4 @@
+pub mod Limits
 pub mod ReceiveQueue
 pub mod SendQueue
 pub mod Runs

@@ -2,6 +2,7 @@
 use Rattle.std.specs.Prelude.{ℕ, ◌+◌, ◌-◌, ◌==◌, nat_lt, min, max, Bool, true, false, List, [], ◌∷◌, take, drop, Option, None, Some, suc, zero, if◌then◌else◌}
 use Rattle.byte_queues.specs.declared.recv.Placed.{Placed}
 use Rattle.byte_queues.specs.declared.recv.Placed.TheVariants.{Held, Blocks}
+use Rattle.byte_queues.specs.Limits.{most_runs}
 
 -- one position of a stream: the byte there, where it is held
 abbrev pub Cells : Type 0
@@ -96,9 +97,9 @@ is_at (Some f) n = f == n
 unfoldable pub is_ended : Recv → Bool
 is_ended q = is_at q.stream_end (next_of q)
 
--- the queue with cells in place of those that it holds, or None where more than 64 runs would stand above `next`
+-- the queue with cells in place of those that it holds, or None where more than the most runs would stand above `next`
 abbrev pub holding : Cells → Recv → Option Recv
-holding cs q = if nat_lt 64 (runs true cs) then None else Some (record q { got = cs })
+holding cs q = if nat_lt most_runs (runs true cs) then None else Some (record q { got = cs })
 
 -- the queue with a text placed: bytes at and above the edge and the end are dropped, and the first copy of a byte stays
 unfoldable pub placed : ℕ → List ℕ → Recv → Option Recv

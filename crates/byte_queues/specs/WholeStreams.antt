@@ -1,6 +1,7 @@
 -- The whole streams, of which a queue keeps what isn't taken and what isn't acknowledged.
 use Rattle.std.specs.Prelude.{ℕ, ◌+◌, ◌-◌, ◌≤◌, nat_lt, max, true, List, [], ◌∷◌, length, take, drop, Option, None, Some, suc, zero, if◌then◌else◌}
 use Rattle.byte_queues.specs.ReceiveQueue.{Cells, Recv, front, runs, over_cells, cells_at, up_to, bytes}
+use Rattle.byte_queues.specs.Limits.{most_runs}
 
 -- the byte at a position of a stream
 abbrev pub cell : Cells → ℕ → Option ℕ
@@ -14,7 +15,7 @@ abbrev pub whole_next : Recv → ℕ
 whole_next q = up_to q.stream_end (front q.got)
 
 abbrev pub whole_holding : Cells → Recv → Option Recv
-whole_holding cs q = if nat_lt 64 (runs true cs) then None else Some (record q { got = cs })
+whole_holding cs q = if nat_lt most_runs (runs true cs) then None else Some (record q { got = cs })
 
 abbrev pub whole_placed : ℕ → List ℕ → Recv → Option Recv
 whole_placed at text q = whole_holding (over_cells q.got (cells_at at (take (up_to q.stream_end q.edge - at) text))) q

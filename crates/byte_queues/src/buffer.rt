@@ -3,7 +3,7 @@
 //! What left the front, and room kept before it, lies in the store below an offset. Compaction moves at most as many
 //! bytes as left, and a growing front takes as much room again as it has bytes, so each byte is moved a bounded number of times.
 
-ghost use Rattle.std.specs.Prelude.{◌≡◌, ◌+◌, ◌^◌, ◌<◌, ◌≤◌, ◌++◌, [], length, take, drop, IfOk, OnOk, OnErr};
+ghost use Rattle.std.specs.Prelude.{◌≡◌, ◌+◌, ◌<◌, ◌≤◌, ◌++◌, [], length, drop, IfOk, OnOk, OnErr};
 
 use std::alloc::{AllocError, Global};
 use std::marker::Model;

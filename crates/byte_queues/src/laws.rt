@@ -1,7 +1,8 @@
 //! What a queue keeps of a stream is as good as the whole stream: each law is a function that does nothing, whose contract is the law.
 
 ghost use Rattle.std.specs.Prelude.{◌≡◌, ℕ, ◌+◌, ◌-◌, ◌<◌, ◌≤◌, ◌++◌, List, length, drop, take, None, Some, is_some, option_map, true};
-ghost use Rattle.byte_queues.specs.ReceiveQueue.{Cells, Recv, front, first, over_cells, next_of, ready_of, window_of, placed, next_bytes, without, with_cap, with_end, is_ended, is_at};
+ghost use Rattle.byte_queues.specs.ReceiveQueue.{Cells, Recv, front, first, over_cells, next_of, ready_of};
+ghost use Rattle.byte_queues.specs.ReceiveQueue.{placed, next_bytes, without, with_cap, with_end, is_ended, is_at};
 ghost use Rattle.byte_queues.specs.WholeStreams.{cell, whole_next, whole_placed, whole_bytes, whole_without, IsRead, trim, Sent, IsSent, kept_out};
 
 /// Each operation on what is kept of the peer's stream is that on the whole, trimmed.

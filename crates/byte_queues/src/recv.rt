@@ -2,21 +2,25 @@
 //!
 //! It holds at most 64 runs above the next byte that is wanted. Text beyond that isn't kept; the peer sends it again.
 
-ghost use Rattle.std.specs.Prelude.{◌≡◌, ℕ, ◌+◌, ◌-◌, ◌^◌, ◌<◌, ◌≤◌, length, List, None, Some, min, ◌==◌, ◌||◌, nat_lt, IfOk, OnOk, OnErr, slice_get, false, true};
-ghost use Rattle.byte_queues.specs.ReceiveQueue.{Recv, empty_recv, next_of, front, window_of, ready_of, is_ended, runs, runs_of, placed, placed_as, laid, up_to, next_bytes, without, with_cap, with_end};
+ghost use Rattle.std.specs.Prelude.{◌≡◌, ◌+◌, ◌-◌, ◌^◌, ◌<◌, ◌≤◌, length, None, Some, min, ◌==◌, ◌||◌, nat_lt, IfOk, OnOk, OnErr, slice_get, false, true};
+ghost use Rattle.byte_queues.specs.ReceiveQueue.{Recv, empty_recv, next_of, front, window_of, ready_of, is_ended, runs, runs_of};
+ghost use Rattle.byte_queues.specs.ReceiveQueue.{placed, placed_as, laid, up_to, next_bytes, without, with_cap, with_end};
+ghost use Rattle.byte_queues.specs.Limits.{most_runs, position_limit};
 
 use crate::run::{Run, drop_front, front, join, runs_before, runs_touched};
 use sq_base::Octets;
 use std::alloc::{AllocError, Global};
 use std::marker::Model;
 
-/// How many runs may stand above the next byte.
+/// How many runs may stand above the next byte: `most_runs` of `specs/Limits.antt`.
 const MOST_RUNS: usize = 64;
 
 /// Whether a text was placed.
 #[derive(Clone, Copy, Debug, PartialEq, Eq)]
 pub enum Placed {
+    /// All of it that is new, and below the edge and the end.
     Held,
+    /// Nothing of it: more than 64 runs would stand above the next byte.
     Blocks,
 }
 
@@ -62,10 +66,11 @@ impl RecvQueue {
     }
 
     /// Holds what is new of a text at position `at`, below the edge and the end. The first copy of a byte stays.
-    /// `Blocks`, with nothing changed, where more than 64 runs would stand above the next byte.
+    /// `Blocks`, with nothing changed, where more than 64 runs would stand above the next byte. Unchanged after an error, which says that memory was
+    /// missing.
     pub fn place(&mut self, at: u64, text: &[u8]) -> Result<Placed, AllocError>
         requires behind { next_of self.old ≤ at }
-        requires small { at < 2 ^ 62 }
+        requires small { at < position_limit }
         ensures ok { IfOk result (λ p. placed at text.now self.old ≡ placed_as p self.new) }
         ensures blocks { IfOk result (λ p. p ≡ Placed.Blocks → self.new ≡ self.old) }
         ensures unchanged { OnErr result (self.new ≡ self.old) }
@@ -83,7 +88,7 @@ impl RecvQueue {
     fn fitting(&self, at: u64, length: usize) -> usize
         ensures fits { result ≡ min (up_to self.now.stream_end self.now.edge - at) length }
         ensures read { self.now.taken ≤ next_of self.now }
-        ensures few { runs true self.now.got ≤ 64 }
+        ensures few { runs true self.now.got ≤ most_runs }
     {
         let limit = match self.stream_end {
             None => self.edge,
@@ -95,7 +100,7 @@ impl RecvQueue {
     /// Holds what is new of a text below the edge.
     fn place_fitting(&mut self, at: u64, text: &[u8]) -> Result<Placed, AllocError>
         requires behind { self.old.taken ≤ at }
-        requires small { at < 2 ^ 62 }
+        requires small { at < position_limit }
         requires some { 0 < length text.now }
         requires within { at + length text.now ≤ self.old.edge }
         ensures ok { IfOk result (λ p. laid at text.now self.old ≡ placed_as p self.new) }
@@ -114,7 +119,7 @@ impl RecvQueue {
 
     /// Whether a text that touches so many runs leaves at most 64 above the next byte.
     fn has_room(&self, at: u64, count: usize) -> bool
-        ensures { result ≡ (nat_lt 0 count || (at == self.now.taken || nat_lt (runs true self.now.got) 64)) }
+        ensures { result ≡ (nat_lt 0 count || (at == self.now.taken || nat_lt (runs true self.now.got) most_runs)) }
     {
         count > 0 || at == self.taken || self.runs_above() < MOST_RUNS
     }
@@ -148,7 +153,7 @@ impl RecvQueue {
     #[tactic(auto, unfolding(crate::specs::ReceiveQueue::next_of))]
     pub fn next(&self) -> u64
         ensures next { result ≡ next_of self.now }
-        ensures small { result ≤ 2 ^ 62 + 2 ^ 32 }
+        ensures small { result ≤ position_limit + 2 ^ 32 }
     {
         let held = self.taken + front(self.runs.as_slice(), self.taken).len() as u64;
         match self.stream_end {

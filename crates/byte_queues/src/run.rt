@@ -1,6 +1,6 @@
 //! A run of neighbouring positions that are held, and how a text joins runs.
 
-ghost use Rattle.std.specs.Prelude.{◌≡◌, ℕ, ◌+◌, ◌-◌, ◌^◌, ◌<◌, ◌≤◌, length, drop, min, All, IfOk, OnOk, OnErr, vec_len, slice_set, slice_range};
+ghost use Rattle.std.specs.Prelude.{◌≡◌, ◌+◌, ◌-◌, ◌^◌, ◌<◌, ◌≤◌, length, drop, min, All, IfOk, OnOk, OnErr, vec_len, slice_set, slice_range};
 ghost use Rattle.byte_queues.specs.Runs.{end_of, count_before, count_up_to, part, fill, front_of, dropped, joined, joined_run, IsSpaced};
 
 use crate::buffer::Buffer;

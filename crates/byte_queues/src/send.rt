@@ -2,13 +2,14 @@
 
 ghost use Rattle.std.specs.Prelude.{◌≡◌, ◌+◌, ◌-◌, ◌≤◌, ◌++◌, [], length, take, drop, IfOk, OnOk, OnErr};
 ghost use Rattle.byte_queues.specs.SendQueue.{room_of};
+ghost use Rattle.byte_queues.specs.Limits.{send_space};
 
 use crate::buffer::Buffer;
 use sq_base::Octets;
 use std::alloc::{AllocError, Global};
 use std::marker::Model;
 
-/// How many bytes may be held.
+/// How many bytes may be held: `send_space` of `specs/Limits.antt`.
 const SEND_SPACE: u32 = 65_535;
 
 /// The bytes that were offered and aren't acknowledged, at most 65,535.
@@ -19,12 +20,13 @@ pub struct SendQueue {
 
 impl Model for SendQueue {
     ghost use Rattle.std.specs.Prelude.{ℕ, List, ◌≤◌, length};
+    ghost use Rattle.byte_queues.specs.Limits.{send_space};
 
     ghost Value = { List ℕ };
 
     ghost view = { λ q. q.bytes };
 
-    ghost invariant = { λ q. length q.bytes ≤ 65535 };
+    ghost invariant = { λ q. length q.bytes ≤ send_space };
 }
 
 impl SendQueue {
@@ -40,7 +42,7 @@ impl SendQueue {
     /// How many bytes are held.
     pub fn held(&self) -> u32
         ensures held { result ≡ length self.now }
-        ensures most { result ≤ 65535 }
+        ensures most { result ≤ send_space }
     {
         self.bytes.len() as u32
     }
@@ -69,7 +71,8 @@ impl SendQueue {
         self.bytes.drop_front(n as usize);
     }
 
-    /// A copy of `n` bytes from place `from` on.
+    /// A copy of `n` bytes from place `from` on, counted from 0 at the first one that isn't acknowledged. An error says that memory
+    /// for it was missing.
     pub fn slice(&self, alloc: Global, from: u32, n: u32) -> Result<Octets, AllocError>
         requires { from + n ≤ length self.now }
         ensures { IfOk result (λ bytes. bytes ≡ take n (drop from self.now)) }

@@ -1,9 +1,10 @@
--- The capture file (libpcap file format 2.4): a header of 24 bytes, the spellings of the packets joined, and what an interrupted capture left of the next.
-use Rattle.std.specs.Prelude.{◌≡◌, ℕ, ◌+◌, ◌*◌, ◌/◌, ◌<◌, ◌≤◌, max, Bool, true, false, List, [], ◌∷◌, ◌++◌, length, drop, map, fold, if◌then◌else◌, Result, Ok, Err}
+-- The capture file (libpcap file format 2.4): a header, the spellings of the packets joined, and what an interrupted capture left of the next.
+use Rattle.std.specs.Prelude.{◌≡◌, ℕ, ◌+◌, ◌*◌, ◌/◌, ◌<◌, ◌≤◌, max, Bool, true, false, List}
+use Rattle.std.specs.Prelude.{[], ◌∷◌, ◌++◌, length, drop, map, fold, if◌then◌else◌, Result, Ok, Err}
 use Rattle.std.specs.List.{concat, AllByRecursion}
 use Rattle.sq_base.specs.declared.kinds.Link.{Link}
 use Rattle.capture_reader.specs.declared.form.Form.{Form}
-use Rattle.capture_reader.specs.Limits.{most_records, longest_body}
+use Rattle.capture_reader.specs.Limits.{most_records, longest_body, header_size, record_header_size}
 use Rattle.capture_reader.specs.Form.{number}
 use Rattle.capture_reader.specs.Header.{header_answer}
 use Rattle.capture_reader.specs.declared.fault.CaptureFault.{CaptureFault}
@@ -21,15 +22,15 @@ pub record Contents : Type 0 where
   pub packets : List Packet
   pub cut : Bool
 
--- the captured length that a packet's header of 16 bytes names
+-- the captured length that a packet's header names
 abbrev pub named_length : Form → List ℕ → ℕ
 named_length form bytes = number form 4 (drop 8 bytes)
 
 -- such a header, which names a length within the limit, and a body of that length
 pub record IsSpelling (form : Form) (bytes : List ℕ) : Type 0 where
-  pub header : 16 ≤ length bytes
+  pub header : record_header_size ≤ length bytes
   pub most : named_length form bytes ≤ longest_body
-  pub whole : length bytes ≡ 16 + named_length form bytes
+  pub whole : length bytes ≡ record_header_size + named_length form bytes
 
 abbrev pub micros : Form → ℕ → ℕ
 micros form fraction = if form.nanoseconds then fraction / 1000 else fraction
@@ -42,8 +43,8 @@ named_time form bytes = number form 4 bytes * 1000000 + micros form (number form
 abbrev pub packet_of : Form → ℕ → List ℕ → Packet
 packet_of form at bytes = record {
   time = named_time form bytes;
-  from = at + 16;
-  body = drop 16 bytes;
+  from = at + record_header_size;
+  body = drop record_header_size bytes;
 }
 
 -- the packets of spellings that stand one behind the other, the first of them at a place
@@ -54,14 +55,16 @@ packets_of form at (piece ∷ pieces) = packet_of form at piece ∷ packets_of f
 -- the bytes are a header that isn't refused, spellings, and a rest
 pub record IsSplit (bytes : List ℕ) (form : Form) (link : Link) (pieces : List (List ℕ)) (rest : List ℕ) : Type 0 where
   pub header : List ℕ
-  pub size : length header ≡ 24
+  pub size : length header ≡ header_size
   pub whole : bytes ≡ header ++ (concat pieces ++ rest)
   pub says : header_answer bytes ≡ Ok (form, link)
   pub spelled : AllByRecursion (IsSpelling form) pieces
 
 -- less than a whole spelling: no whole header, or one that names a body that is short enough and isn't whole
 abbrev pub IsPartial : Form → List ℕ → Type 0
-IsPartial form rest = (0 < length rest) × (16 ≤ length rest → (named_length form rest ≤ longest_body) × (length rest < 16 + named_length form rest))
+IsPartial form rest =
+    (0 < length rest)
+    × (record_header_size ≤ length rest → (named_length form rest ≤ longest_body) × (length rest < record_header_size + named_length form rest))
 
 -- how a capture of so many packets ends: nothing is left, or a cut tail
 abbrev pub Ends : Bool → Form → ℕ → List ℕ → Type 0
@@ -75,7 +78,7 @@ pub record Captured (bytes : List ℕ) (contents : Contents) : Type 0 where
   pub rest : List ℕ
   pub split : IsSplit bytes form contents.link pieces rest
   pub ends : Ends contents.cut form (length pieces) rest
-  pub named : contents.packets ≡ packets_of form 24 pieces
+  pub named : contents.packets ≡ packets_of form header_size pieces
 
 -- so many spellings, and then a rest
 pub record HasPackets (bytes : List ℕ) (count : ℕ) (Rest : Form → List ℕ → Type 0) : Type 0 where
@@ -89,7 +92,7 @@ pub record HasPackets (bytes : List ℕ) (count : ℕ) (Rest : Form → List ℕ
 
 -- a whole header that names too great a length
 abbrev pub IsTooLong : ℕ → Form → List ℕ → Type 0
-IsTooLong len form rest = (16 ≤ length rest) × (len ≡ named_length form rest) × (longest_body < len)
+IsTooLong len form rest = (record_header_size ≤ length rest) × (len ≡ named_length form rest) × (longest_body < len)
 
 -- the bytes are refused for this cause; a fault, want of memory and the file's size are no causes of the bytes' own
 abbrev pub Refused : List ℕ → CaptureFault → Type 0

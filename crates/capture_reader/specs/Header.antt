@@ -6,6 +6,7 @@ use Rattle.capture_reader.specs.Form.{number, form_of, link_of}
 use Rattle.capture_reader.specs.declared.form.Form.{Form}
 use Rattle.capture_reader.specs.declared.fault.CaptureFault.{CaptureFault}
 use Rattle.capture_reader.specs.declared.fault.CaptureFault.TheVariants as fault
+use Rattle.capture_reader.specs.Limits.{header_size}
 
 abbrev pub link_answer : Form → ℕ → Option Link → Result (Form × Link) CaptureFault
 link_answer form n None = Err (fault.Link n)
@@ -20,7 +21,7 @@ abbrev pub magic_answer : Option Form → List ℕ → Result (Form × Link) Cap
 magic_answer None bytes = Err (fault.Magic (take 4 bytes))
 magic_answer (Some form) bytes = version_answer form (number form 2 (drop 4 bytes)) (number form 2 (drop 6 bytes)) (number form 4 (drop 20 bytes))
 
--- what the first 24 bytes say: the form and the link, or a refusal
+-- what the header says: the form and the link, or a refusal
 unfoldable pub header_answer : List ℕ → Result (Form × Link) CaptureFault
 header_answer bytes =
-    if nat_lt (length bytes) 24 then Err (fault.ShortHeader (length bytes)) else magic_answer (form_of (big_number 4 bytes)) bytes
+    if nat_lt (length bytes) header_size then Err (fault.ShortHeader (length bytes)) else magic_answer (form_of (big_number 4 bytes)) bytes

@@ -1,29 +1,18 @@
 //! A capture: packets that are places in the bytes of a file. Those of a libpcap file are found here, in one pass over its bytes.
 
 ghost use Rattle.std.specs.Prelude.{◌≡◌, ◌+◌, ◌<◌, ◌≤◌, ◌^◌, ◌==◌, length, slice_get, IfSome, IfOk, IfErr, MatchResult, Some, fold, max};
-ghost use Rattle.capture_reader.specs.Limits.{most_bytes, most_records, latest_time};
+ghost use Rattle.capture_reader.specs.Limits.{most_bytes, most_records, latest_time, header_size};
 ghost use Rattle.capture_reader.specs.Outcome.{IsCapture, ParseFails, packet_at};
 ghost use Rattle.capture_reader.specs.CaptureFile.{Ends, named_time, last_time};
 ghost use Rattle.capture_reader.specs.SoFar.{StopsAt, Fails};
 
 use crate::fault::CaptureFault;
 use crate::form::{Form, rest_at};
-use crate::header::{HEADER, header_of};
+use crate::header::header_of;
+use crate::limits::{HEADER, LONGEST_BODY, MOST_BYTES, MOST_RECORDS, RECORD_HEADER};
 use sq_base::{Link, Octets};
 use std::alloc::{AllocError, Global};
 use std::marker::Model;
-
-/// The bytes of a packet's header.
-const RECORD_HEADER: usize = 16;
-
-/// The most captured bytes of a packet.
-const LONGEST: u32 = 262_144;
-
-/// The most packets of a capture.
-const MOST_RECORDS: usize = 1_048_576;
-
-/// The most bytes of a capture.
-pub const MOST_BYTES: usize = 67_108_864;
 
 /// One packet.
 #[derive(Clone, Copy, Debug, PartialEq, Eq)]
@@ -104,6 +93,7 @@ impl Capture {
         self.records.len() as u32
     }
 
+    /// Whether there is no packet.
     pub fn is_empty(&self) -> bool
         ensures { result ≡ (length self.now.packets == 0) }
     {
@@ -155,8 +145,8 @@ impl Capture {
     }
 }
 
-/// The capture that the bytes are (libpcap file format 2.4), or the first refusal that they meet. `Read` is never answered, and `TooLarge` exactly
-/// where there are more than 67,108,864 bytes.
+/// The capture that the bytes are (libpcap file format 2.4), or the first refusal that they meet. `Read` is never answered, `TooLarge` exactly
+/// where there are more than 67,108,864 bytes, and `NoMemory` where room for the list of packets was missing.
 pub fn parse_capture(alloc: Global, bytes: Octets) -> Result<Capture, CaptureFault>
     ensures ok { IfOk result (λ c. IsCapture c × (c.bytes ≡ bytes)) }
     ensures err { IfErr result (ParseFails bytes) }
@@ -177,7 +167,7 @@ pub fn parse_capture(alloc: Global, bytes: Octets) -> Result<Capture, CaptureFau
 
 /// The packets behind the header, and whether the last one is cut.
 fn records_of(alloc: Global, form: Form, bytes: &[u8]) -> Result<(Vec<Record>, bool), CaptureFault>
-    requires header { 24 ≤ length bytes.now }
+    requires header { header_size ≤ length bytes.now }
     requires small { length bytes.now ≤ most_bytes }
     ensures { MatchResult result (λ x. StopsAt form bytes.now x.0.items (Ends x.1 form (length x.0.items))) (Fails form bytes.now) }
 {
@@ -195,7 +185,7 @@ fn records_of(alloc: Global, form: Form, bytes: &[u8]) -> Result<(Vec<Record>, b
             return Ok((records, true));
         }
         let len = form.u32_at(rest, 8);
-        if len > LONGEST {
+        if len > LONGEST_BODY {
             return Err(CaptureFault::RecordLength {
                 index: records.len() as u32,
                 len,

@@ -8,6 +8,7 @@ pub enum CaptureFault {
     /// A read failed.
     #[error("read fault")]
     Read,
+    /// Memory for the bytes or for the list of packets was missing.
     #[error("out of memory")]
     NoMemory,
     /// There are fewer than 24 bytes: so many.

@@ -7,11 +7,9 @@ ghost use Rattle.capture_reader.specs.Header.{header_answer};
 
 use crate::fault::CaptureFault;
 use crate::form::Form;
+use crate::limits::HEADER;
 use byteorder::{BigEndian, ByteOrder};
 use sq_base::Link;
-
-/// How many bytes the header has.
-pub const HEADER: usize = 24;
 
 /// What the header says, or which refusal it meets.
 #[tactic(auto, unfolding(crate::specs::Header::header_answer))]

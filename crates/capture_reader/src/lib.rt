@@ -11,10 +11,12 @@ mod fault;
 mod form;
 mod header;
 pub mod laws;
+mod limits;
 mod source;
 
 pub use capture::{Capture, Record, parse_capture};
 pub use fault::CaptureFault;
+pub use limits::{LATEST_TIME, LONGEST_BODY, MOST_BYTES, MOST_RECORDS};
 pub use source::{read_bytes, read_capture};
 
 #[cfg(test)]

@@ -5,8 +5,9 @@ ghost use Rattle.capture_reader.specs.Limits.{most_bytes, most_taken};
 ghost use Rattle.sq_base.specs.Ends.{Rose};
 ghost use Rattle.capture_reader.specs.Outcome.{IsCapture, ReadsWhole, ReadFails, BytesFail, Takes};
 
-use crate::capture::{Capture, MOST_BYTES, parse_capture};
+use crate::capture::{Capture, parse_capture};
 use crate::fault::CaptureFault;
+use crate::limits::MOST_BYTES;
 use sq_base::{Failed, Octets, Source};
 use std::alloc::Global;
 

@@ -1,5 +1,5 @@
 -- A block lies in what is left, and is as long as its type asks.
-use Rattle.std.proofs.Common.{◌≡◌, ℕ, zero, suc, ◌+◌, ◌-◌, ◌%◌, ◌<◌, ◌≤◌, Bool, true, false, cond, List, [], ◌∷◌, length, take, drop, Option, None, Some, Result, Ok, Err, ◌⊎◌, inl, inr, subst, sym, ap, ◌∙◌, refl, arith, ltb, leb, eqb, ◌&&◌}
+use Rattle.std.proofs.Common.{◌≡◌, ℕ, ◌-◌, ◌%◌, ◌<◌, ◌≤◌, Bool, true, false, cond, List, [], ◌∷◌, length, take, drop, Option, None, Some, Ok, Err, ◌⊎◌, inl, inr, subst, refl, arith, ltb, leb, eqb, ◌&&◌}
 use Rattle.std.proofs.lemmas.Bool.Decides.{nat_tests}
 use Rattle.byteorder.specs.Endian.{big_number}
 use Rattle.pcapng_reader.specs.declared.order.Order.{Order}
@@ -10,7 +10,7 @@ use Rattle.pcapng_reader.specs.Limits.{section_type, least}
 use Rattle.pcapng_reader.specs.Numbers.{number, order_of}
 use Rattle.pcapng_reader.specs.Frame.{Framed, framed, sized, closed, section_framed, is_section}
 use Rattle.pcapng_reader.specs.Blocks.{State, Answer, content_says, behind}
-use Rattle.pcapng_reader.specs.PcapngFile.{Says, ends, refuses, leads, says, by_frame, by_content}
+use Rattle.pcapng_reader.specs.PcapngFile.{ends, refuses, leads, says, by_frame, by_content}
 
 -- which way a test went
 pub when : {A : Type 0} (b : Bool) (x y r : A) → cond b x y ≡ r → ((b ≡ true) × (x ≡ r)) ⊎ ((b ≡ false) × (y ≡ r))
@@ -94,7 +94,7 @@ framed_fits order index rest f e = by_head (when _ _ _ _ e)
 pub least_most : (kind : ℕ) → 12 ≤ least kind
 least_most kind = grind (arith, nat_tests)
 
-same_size : (m n : ℕ) (s t : State) → leads m s ≡ leads n t → m ≡ n
+pub same_size : (m n : ℕ) (s t : State) → leads m s ≡ leads n t → m ≡ n
 same_size m n s t e = cc
 
 not_leading : (f : PcapngFault) (n : ℕ) (s : State) → refuses f ≡ leads n s → ⊥

@@ -1,5 +1,5 @@
 -- Bytes are one capture, in whichever form, or none.
-use Rattle.std.proofs.Common.{◌≡◌, ℕ, ◌≤◌, List, length, Result, Ok, Err, inl, inr, subst, sym}
+use Rattle.std.proofs.Common.{◌≡◌, ◌≤◌, length, Result, Ok, Err, inl, inr, subst, sym}
 use Rattle.capture_reader.specs.CaptureFile.{Contents, Meets}
 use Rattle.capture_reader.specs.Limits.{most_bytes}
 use Rattle.capture_reader.specs.Outcome.{CaptureFile, contents_of}

@@ -1,5 +1,5 @@
 -- Each record of a file lies in its bytes, and there are never too many.
-use Rattle.std.proofs.Common.{◌≡◌, ℕ, zero, suc, ◌+◌, ◌-◌, ◌*◌, ◌/◌, ◌^◌, ◌<◌, ◌≤◌, min, Bool, true, false, cond, List, [], ◌∷◌, ◌++◌, length, take, drop, slice_get, Option, None, Some, Result, Ok, Err, ◌⊎◌, inl, inr, subst, sym, ap, ◌∙◌, refl, arith, ltb, leb, eqb, ◌&&◌}
+use Rattle.std.proofs.Common.{◌≡◌, ℕ, zero, suc, ◌+◌, ◌-◌, ◌*◌, ◌/◌, ◌^◌, ◌<◌, ◌≤◌, true, false, cond, List, [], ◌∷◌, ◌++◌, length, drop, slice_get, Option, None, Some, Ok, Err, ◌⊎◌, inl, inr, subst, refl, arith, leb, eqb, ◌&&◌}
 use Rattle.std.proofs.lemmas.Bool.Decides.{nat_tests}
 use Rattle.std.proofs.lemmas.List.{length_push}
 use Rattle.std.specs.List.{AllByRecursion}
@@ -15,7 +15,7 @@ use Rattle.pcapng_reader.specs.declared.fault.PcapngFault.TheVariants as fault
 use Rattle.pcapng_reader.specs.Limits.{section_type, interface_type, simple_type, packet_type, least}
 use Rattle.pcapng_reader.specs.Numbers.{number, padded}
 use Rattle.pcapng_reader.specs.Options.{time_of}
-use Rattle.pcapng_reader.specs.Blocks.{State, Answer, section_says, interface_in, interface_says, is_link, is_same, record_says, packet_on, packet_says, simple_on, simple_says, shortened, last_at, content_says}
+use Rattle.pcapng_reader.specs.Blocks.{State, Answer, section_says, interface_in, interface_says, is_link, is_same, record_says, packet_on, packet_says, simple_on, simple_says, last_at, content_says}
 use Rattle.pcapng_reader.specs.SoFar.{AreRecords}
 use Rattle.pcapng_reader.proofs.Frames.{when}
 

@@ -1,5 +1,5 @@
 -- Bytes are one capture, or refused for one cause.
-use Rattle.std.proofs.Common.{◌≡◌, ℕ, ◌<◌, ◌≤◌, Bool, true, false, List, [], ◌∷◌, length, map, Result, Ok, Err, ◌⊎◌, inl, inr, subst, sym, ap, ◌∙◌, refl, arith, ltb}
+use Rattle.std.proofs.Common.{◌≡◌, ℕ, ◌<◌, ◌≤◌, Bool, true, false, List, length, map, Result, Ok, Err, ◌⊎◌, inl, inr, sym, ap, ◌∙◌, refl, arith, ltb}
 use Rattle.std.proofs.lemmas.Bool.Decides.{nat_tests}
 use Rattle.sq_base.specs.declared.kinds.Link.{Link}
 use Rattle.capture_reader.specs.CaptureFile.{Contents, Packet}
@@ -7,7 +7,7 @@ use Rattle.capture_reader.specs.Outcome.{packet_at}
 use Rattle.pcapng_reader.specs.declared.fault.PcapngFault.{PcapngFault}
 use Rattle.pcapng_reader.specs.declared.fault.PcapngFault.TheVariants as fault
 use Rattle.pcapng_reader.specs.Blocks.{State}
-use Rattle.pcapng_reader.specs.PcapngFile.{Says, ends, refuses, leads, Joined, start, link_of, Captured, Refused, Meets}
+use Rattle.pcapng_reader.specs.PcapngFile.{Says, ends, refuses, leads, Joined, start, link_of, Meets}
 use Rattle.pcapng_reader.proofs.Joining.{is_stop, joined_once, joined_some, Stopped}
 
 abbrev Outcome : Type 0

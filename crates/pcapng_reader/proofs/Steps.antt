@@ -1,13 +1,13 @@
 -- One block, where a file is read so far.
-use Rattle.std.proofs.Common.{◌≡◌, ℕ, ◌+◌, ◌-◌, ◌<◌, ◌≤◌, List, [], ◌∷◌, length, take, drop, Some, Ok, Err, ◌⊎◌, inl, inr, subst, sym, ap, ◌∙◌, refl, arith, length-drop}
+use Rattle.std.proofs.Common.{◌≡◌, ℕ, ◌+◌, ◌<◌, ◌≤◌, List, [], ◌∷◌, length, take, drop, Some, Ok, Err, ◌⊎◌, inl, inr, subst, sym, ap, ◌∙◌, refl, arith, length-drop}
 use Rattle.std.proofs.lemmas.List.{drop-drop, length-take-le}
 use Rattle.pcapng_reader.specs.declared.frame.Frame.{Frame}
 use Rattle.pcapng_reader.specs.declared.fault.PcapngFault.{PcapngFault}
 use Rattle.pcapng_reader.specs.declared.fault.PcapngFault.TheVariants as fault
 use Rattle.pcapng_reader.specs.Limits.{least}
-use Rattle.pcapng_reader.specs.Frame.{Framed, framed}
+use Rattle.pcapng_reader.specs.Frame.{framed}
 use Rattle.pcapng_reader.specs.Blocks.{State, Answer, content_says, behind}
-use Rattle.pcapng_reader.specs.PcapngFile.{Says, ends, refuses, leads, says, by_frame, by_content, Joined, start}
+use Rattle.pcapng_reader.specs.PcapngFile.{Says, refuses, says, by_frame, by_content, Joined, start}
 use Rattle.pcapng_reader.specs.SoFar.{AreRecords, Fails}
 use Rattle.pcapng_reader.proofs.Frames.{Fits, framed_fits, least_most}
 use Rattle.pcapng_reader.proofs.Joining.{join_here, join_more}

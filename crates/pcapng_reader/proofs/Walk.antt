@@ -1,8 +1,8 @@
 -- The walk of an interface's options, one at a time.
-use Rattle.std.proofs.Common.{◌≡◌, ℕ, zero, suc, ◌+◌, ◌-◌, ◌*◌, ◌/◌, ◌<◌, ◌≤◌, Bool, true, false, cond, List, length, drop, get_or, subst, sym, ap, ◌∙◌, refl, arith, ltb, eqb, ◌&&◌, ◌||◌, ◌⊎◌, inl, inr, length-drop}
+use Rattle.std.proofs.Common.{◌≡◌, ℕ, zero, suc, ◌<◌, ◌≤◌, true, false, List, length, drop, get_or, subst, sym, ap, ◌∙◌, refl, arith, ltb, eqb, ◌&&◌, ◌||◌, ◌⊎◌, inl, inr, length-drop}
 use Rattle.std.proofs.lemmas.Bool.Decides.{nat_tests}
 use Rattle.pcapng_reader.specs.declared.order.Order.{Order}
-use Rattle.pcapng_reader.specs.Options.{code, value_length, option_size, is_end, is_resolution, first_resolution}
+use Rattle.pcapng_reader.specs.Options.{code, value_length, option_size, is_end, first_resolution}
 
 end_test : (m c k : ℕ) → (m < 4 → ⊥) → (c ≡ 0 → ⊥) → (m < k → ⊥) → (ltb m 4 || (eqb c 0 || ltb m k)) ≡ false
 end_test m c k a b d = grind (arith, nat_tests)

@@ -1,5 +1,6 @@
 -- What the blocks of a file say, one after the other (draft-ietf-opsawg-pcapng, section 4).
-use Rattle.std.specs.Prelude.{ℕ, ◌+◌, ◌-◌, ◌*◌, ◌^◌, min, Bool, true, ◌==◌, ◌&&◌, nat_le, List, [], ◌∷◌, ◌++◌, length, drop, take, slice_get, Option, None, Some, Result, Ok, Err, if◌then◌else◌}
+use Rattle.std.specs.Prelude.{ℕ, ◌+◌, ◌-◌, ◌*◌, ◌^◌, min, Bool, true, ◌==◌, ◌&&◌, nat_le, List, []}
+use Rattle.std.specs.Prelude.{◌∷◌, ◌++◌, length, drop, take, slice_get, Option, None, Some, Result, Ok, Err, if◌then◌else◌}
 use Rattle.capture_reader.specs.Limits.{most_records, longest_body}
 use Rattle.capture_reader.specs.declared.capture.Record.{Record}
 use Rattle.pcapng_reader.specs.declared.order.Order.{Order}
@@ -7,11 +8,12 @@ use Rattle.pcapng_reader.specs.declared.frame.Frame.{Frame}
 use Rattle.pcapng_reader.specs.declared.interface.Interface.{Interface}
 use Rattle.pcapng_reader.specs.declared.fault.PcapngFault.{PcapngFault}
 use Rattle.pcapng_reader.specs.declared.fault.PcapngFault.TheVariants as fault
-use Rattle.pcapng_reader.specs.Limits.{section_type, interface_type, simple_type, packet_type}
+use Rattle.pcapng_reader.specs.Limits.{section_type, interface_type, simple_type, packet_type, least_interface, least_packet, least_simple}
 use Rattle.pcapng_reader.specs.Numbers.{number, padded}
 use Rattle.pcapng_reader.specs.Options.{resolution, time_of}
 
--- how far a file is read: the blocks and bytes so far, the section's byte order and interfaces, the link type of the file's first interface, and the records
+-- how far a file is read: the blocks and bytes so far, the section's byte order and interfaces, the link type of the file's first
+-- interface, and the records
 pub record State : Type 0 where
   pub blocks : ℕ
   pub at : ℕ
@@ -43,7 +45,7 @@ is_same (Some first) n = first == n
 abbrev pub interface_in : Order → List ℕ → Interface
 interface_in order block = record {
   snapshot = number order 4 (drop 12 block);
-  resolution = resolution order (take (length block - 20) (drop 16 block));
+  resolution = resolution order (take (length block - least_interface) (drop 16 block));
 }
 
 -- an interface description (section 4.2): link type, snapshot length, options
@@ -52,7 +54,14 @@ interface_says s block =
     let n = number s.order 2 (drop 8 block) in
     if is_link n
     then (if is_same s.link n
-    then Ok (record { blocks = s.blocks; at = s.at; order = s.order; interfaces = s.interfaces ++ interface_in s.order block ∷ []; link = Some n; records = s.records })
+    then Ok (record {
+      blocks = s.blocks;
+      at = s.at;
+      order = s.order;
+      interfaces = s.interfaces ++ interface_in s.order block ∷ [];
+      link = Some n;
+      records = s.records;
+    })
     else Err (fault.MixedLink s.blocks n))
     else Err (fault.Link s.blocks n)
 
@@ -72,7 +81,7 @@ packet_on s id (Some interface) block =
       at = time_of interface.resolution (number s.order 4 (drop 12 block) * 2 ^ 32 + number s.order 4 (drop 16 block));
       from = s.at + 28;
       len = number s.order 4 (drop 20 block);
-    }) (length block - 32)
+    }) (length block - least_packet)
 
 -- an enhanced packet (section 4.3): interface, time high and low, captured length, original length, body
 abbrev pub packet_says : State → List ℕ → Answer
@@ -94,7 +103,7 @@ simple_on s (Some first) block =
       at = last_at (slice_get s.records (length s.records - 1));
       from = s.at + 12;
       len = shortened (number s.order 4 (drop 8 block)) first.snapshot;
-    }) (length block - 16)
+    }) (length block - least_simple)
 
 -- a simple packet (section 4.4): original length and body, at the section's first interface
 abbrev pub simple_says : State → List ℕ → Answer

@@ -1,5 +1,5 @@
 -- The frame of a block (draft-ietf-opsawg-pcapng, section 3.1): type, total length, body, total length again. What follows first counts.
-use Rattle.std.specs.Prelude.{ℕ, ◌+◌, ◌-◌, ◌%◌, Bool, ◌==◌, ◌&&◌, nat_lt, nat_le, List, length, drop, take, Option, None, Some, Result, Ok, Err, if◌then◌else◌}
+use Rattle.std.specs.Prelude.{ℕ, ◌-◌, ◌%◌, Bool, ◌==◌, ◌&&◌, nat_lt, nat_le, List, length, drop, take, Option, None, Some, Result, Ok, Err, if◌then◌else◌}
 use Rattle.byteorder.specs.Endian.{big_number}
 use Rattle.pcapng_reader.specs.declared.order.Order.{Order}
 use Rattle.pcapng_reader.specs.declared.frame.Frame.{Frame}

@@ -1,4 +1,5 @@
--- What the format fixes: the types of blocks and the least lengths (draft-ietf-opsawg-pcapng, sections 3.1 and 4). The limits of a capture are those of `capture_reader`.
+-- What the format fixes: the types of blocks and the least lengths (draft-ietf-opsawg-pcapng, sections 3.1 and 4). The limits of a
+-- capture are those of `capture_reader`.
 use Rattle.std.specs.Prelude.{ℕ, ◌==◌, if◌then◌else◌}
 
 -- a section header block: the same four bytes in either order
@@ -16,11 +17,30 @@ simple_type = 3
 abbrev pub packet_type : ℕ
 packet_type = 6
 
--- the least total length of a block of this type: its fixed fields, and the twelve bytes that every block has
+-- the least total length of a block: its fixed fields, and the twelve bytes that every block has
+abbrev pub least_section : ℕ
+least_section = 28
+
+abbrev pub least_interface : ℕ
+least_interface = 20
+
+abbrev pub least_simple : ℕ
+least_simple = 16
+
+abbrev pub least_packet : ℕ
+least_packet = 32
+
+abbrev pub least_other : ℕ
+least_other = 12
+
 abbrev pub least : ℕ → ℕ
 least kind =
-    if kind == section_type then 28
-    else if kind == interface_type then 20
-    else if kind == simple_type then 16
-    else if kind == packet_type then 32
-    else 12
+    if kind == section_type then least_section
+    else if kind == interface_type then least_interface
+    else if kind == simple_type then least_simple
+    else if kind == packet_type then least_packet
+    else least_other
+
+-- the resolution of an interface without the option: microseconds
+abbrev pub default_resolution : ℕ
+default_resolution = 6

@@ -3,6 +3,7 @@ use Rattle.std.specs.Prelude.{ℕ, zero, suc, ◌+◌, ◌-◌, ◌*◌, ◌/◌
 use Rattle.capture_reader.specs.Limits.{latest_time}
 use Rattle.pcapng_reader.specs.declared.order.Order.{Order}
 use Rattle.pcapng_reader.specs.Numbers.{number, padded}
+use Rattle.pcapng_reader.specs.Limits.{default_resolution}
 
 abbrev pub code : Order → List ℕ → ℕ
 code order bytes = number order 2 bytes
@@ -23,9 +24,9 @@ is_resolution order bytes = (code order bytes == 9) && (value_length order bytes
 
 -- the first resolution among the first n options, and a millionth without one
 unfoldable pub first_resolution : ℕ → Order → List ℕ → ℕ
-first_resolution zero order bytes = 6
+first_resolution zero order bytes = default_resolution
 first_resolution (suc n) order bytes =
-    if is_end order bytes then 6
+    if is_end order bytes then default_resolution
     else if is_resolution order bytes then get_or bytes 4 0
     else first_resolution n order (drop (option_size order bytes) bytes)
 

@@ -1,5 +1,6 @@
 -- The pcapng file (draft-ietf-opsawg-pcapng): its blocks joined, and what an interrupted capture left of the next.
-use Rattle.std.specs.Prelude.{◌≡◌, ℕ, ◌+◌, ◌<◌, ◌≤◌, ◌==◌, ◌⊎◌, Bool, true, false, List, [], ◌∷◌, ◌++◌, length, take, map, Option, None, Some, Result, Ok, Err, if◌then◌else◌}
+use Rattle.std.specs.Prelude.{◌≡◌, ℕ, ◌<◌, ◌≤◌, ◌==◌, ◌⊎◌, Bool, true, false, List, []}
+use Rattle.std.specs.Prelude.{◌∷◌, ◌++◌, length, take, map, Option, None, Some, Result, Ok, Err, if◌then◌else◌}
 use Rattle.std.specs.List.{concat}
 use Rattle.sq_base.specs.declared.kinds.Link.{Link}
 use Rattle.sq_base.specs.declared.kinds.Link.TheVariants as link
@@ -11,6 +12,7 @@ use Rattle.pcapng_reader.specs.declared.fault.PcapngFault.{PcapngFault}
 use Rattle.pcapng_reader.specs.declared.fault.PcapngFault.TheVariants as fault
 use Rattle.pcapng_reader.specs.Frame.{Framed, framed}
 use Rattle.pcapng_reader.specs.Blocks.{State, Answer, content_says, behind}
+use Rattle.pcapng_reader.specs.Limits.{least_section}
 
 -- what is left says, where a file is read so far: it ends, whole or with a cut tail; it is refused; or a block of this length stands there and leads on
 pub data Says : Type 0 where
@@ -55,7 +57,7 @@ link_of (Some n) = if n == 1 then link.Ethernet else if n == 113 then link.Cooke
 
 -- the bytes are a capture of these packets
 pub record Captured (bytes : List ℕ) (contents : Contents) : Type 0 where
-  pub long : 28 ≤ length bytes
+  pub long : least_section ≤ length bytes
   pub state : State
   pub joined : Joined start bytes state (ends contents.cut)
   pub link : contents.link ≡ link_of state.link
@@ -63,7 +65,9 @@ pub record Captured (bytes : List ℕ) (contents : Contents) : Type 0 where
 
 -- the bytes are refused for this cause: too few for a section header, or where reading stops
 abbrev pub Refused : List ℕ → PcapngFault → Type 0
-Refused bytes f = ((length bytes < 28) × (f ≡ fault.ShortSection (length bytes))) ⊎ ((28 ≤ length bytes) × (state : State) × Joined start bytes state (refuses f))
+Refused bytes f =
+    ((length bytes < least_section) × (f ≡ fault.ShortSection (length bytes)))
+    ⊎ ((least_section ≤ length bytes) × (state : State) × Joined start bytes state (refuses f))
 
 -- the bytes are this capture, or are refused for this cause
 abbrev pub Meets : List ℕ → Result Contents PcapngFault → Type 0

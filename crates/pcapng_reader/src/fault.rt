@@ -5,6 +5,7 @@ use thiserror::Error;
 /// Why bytes gave no capture. Blocks are numbered from 0 through the file. All but `NoMemory` are causes of the bytes' own.
 #[derive(Clone, Copy, Debug, PartialEq, Eq, Error)]
 pub enum PcapngFault {
+    /// Memory for the interfaces or for the list of packets was missing.
     #[error("out of memory")]
     NoMemory,
     /// There are fewer than 28 bytes, the least of a section header: so many.
@@ -19,7 +20,7 @@ pub enum PcapngFault {
     /// The total length at a block's end is another one: this.
     #[error("pcapng block {index} ends with length {len}")]
     EndLength { index: u32, len: u32 },
-    /// The major version of a section isn't 1.
+    /// The major version of a section isn't 1 (draft-ietf-opsawg-pcapng, section 4.1).
     #[error("pcapng version {major}.{minor} in block {index}")]
     Version { index: u32, major: u16, minor: u16 },
     /// The link type of an interface is none of 1 (Ethernet), 101 (raw IP) and 113 (Linux cooked).

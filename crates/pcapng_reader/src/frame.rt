@@ -13,6 +13,7 @@ use byteorder::{BigEndian, ByteOrder};
 /// The type of a section header, the same in either order.
 pub const SECTION: u32 = 0x0a0d_0d0a;
 
+/// An interface description.
 pub const INTERFACE: u32 = 1;
 
 /// A simple packet.
@@ -20,6 +21,21 @@ pub const SIMPLE: u32 = 3;
 
 /// An enhanced packet.
 pub const PACKET: u32 = 6;
+
+/// The least total length of a section header.
+pub const LEAST_SECTION: u32 = 28;
+
+/// The least total length of an interface.
+pub const LEAST_INTERFACE: u32 = 20;
+
+/// The least total length of a simple packet's block.
+pub const LEAST_SIMPLE: u32 = 16;
+
+/// The least total length of an enhanced packet's block.
+pub const LEAST_PACKET: u32 = 32;
+
+/// The least total length of any block.
+const LEAST_OTHER: u32 = 12;
 
 /// A block whose frame isn't refused: the byte order of its numbers, its type, and its total length in bytes.
 #[derive(Clone, Copy, Debug, PartialEq, Eq)]
@@ -34,11 +50,11 @@ fn least(kind: u32) -> u32
     ensures { result ≡ least kind }
 {
     match kind {
-        SECTION => 28,
-        INTERFACE => 20,
-        SIMPLE => 16,
-        PACKET => 32,
-        _ => 12,
+        SECTION => LEAST_SECTION,
+        INTERFACE => LEAST_INTERFACE,
+        SIMPLE => LEAST_SIMPLE,
+        PACKET => LEAST_PACKET,
+        _ => LEAST_OTHER,
     }
 }
 

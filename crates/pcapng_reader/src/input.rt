@@ -16,11 +16,14 @@ const SECTION: [u8; 4] = [0x0a, 0x0d, 0x0d, 0x0a];
 /// Why bytes gave no capture, by the form that they were read in.
 #[derive(Clone, Copy, Debug, PartialEq, Eq)]
 pub enum InputFault {
+    /// They don't begin with a section header.
     Capture(CaptureFault),
+    /// They begin with a section header.
     Pcapng(PcapngFault),
 }
 
-/// The capture that the bytes are, at most 64 MiB of them: a pcapng file where they begin with a section header, and else a capture file.
+/// The capture that the bytes are, at most 64 MiB of them: a pcapng file where they begin with a section header, and else a capture
+/// file (libpcap file format 2.4).
 pub fn parse_input(alloc: Global, bytes: Octets) -> Result<Capture, InputFault>
     requires { length bytes ≤ most_bytes }
     ensures { MatchResult result (λ c. IsInput c × (c.bytes ≡ bytes)) (InputFails bytes) }

@@ -1,18 +1,18 @@
 //! An interface: how much of a packet it keeps, and what its packets' ticks are worth.
 
-ghost use Rattle.std.specs.Prelude.{◌≡◌, ◌+◌, ◌*◌, ◌/◌, ◌-◌, ◌^◌, ◌<◌, ◌≤◌, length, min};
+ghost use Rattle.std.specs.Prelude.{◌≡◌, ◌+◌, ◌*◌, ◌/◌, ◌-◌, ◌^◌, ◌<◌, ◌≤◌, length};
 ghost use Rattle.capture_reader.specs.Limits.{latest_time};
 ghost use Rattle.pcapng_reader.specs.Numbers.{padded};
 ghost use Rattle.pcapng_reader.specs.Options.{resolution, ticks_per_second, time_of};
 ghost use Rattle.pcapng_reader.specs.Blocks.{interface_in};
+ghost use Rattle.pcapng_reader.specs.Limits.{least_interface};
 
+use crate::frame::LEAST_INTERFACE;
 use crate::order::{Order, rest_at};
+use capture_reader::LATEST_TIME;
 
 /// The resolution without an option: microseconds.
 const MICROS: u8 = 6;
-
-/// The greatest time, in microseconds.
-const LATEST: u64 = 9_007_199_254_740_992;
 
 /// An interface of a section (draft-ietf-opsawg-pcapng, section 4.2).
 #[derive(Clone, Copy, Debug, PartialEq, Eq)]
@@ -26,10 +26,12 @@ pub struct Interface {
 impl Interface {
     /// The interface that a whole block describes.
     pub fn of(order: Order, block: &[u8]) -> Interface
-        requires { 20 ≤ length block.now }
+        requires { least_interface ≤ length block.now }
         ensures { result ≡ interface_in order block.now }
     {
-        let options = rest_at(block, 16).split_at(block.len() - 20).0;
+        let options = rest_at(block, 16)
+            .split_at(block.len() - LEAST_INTERFACE as usize)
+            .0;
         Interface {
             snapshot: order.u32_at(block, 12),
             resolution: resolution(order, options),
@@ -72,10 +74,10 @@ pub fn time_of(resolution: u8, ticks: u64) -> u64
     ensures most { result ≤ latest_time }
 {
     let micros = micros(resolution, u128::from(ticks));
-    if micros < u128::from(LATEST) {
+    if micros < u128::from(LATEST_TIME) {
         micros as u64
     } else {
-        LATEST
+        LATEST_TIME
     }
 }
 

@@ -1,30 +1,21 @@
 //! The blocks of a file, one after the other.
 
-ghost use Rattle.std.specs.Prelude.{◌≡◌, ◌+◌, ◌-◌, ◌<◌, ◌≤◌, ◌==◌, ◌⊎◌, length, take, drop, OnOk, IfOk, IfErr, MatchResult, Ok, Err};
-ghost use Rattle.std.specs.List.{AllByRecursion};
-ghost use Rattle.capture_reader.specs.Limits.{most_bytes, most_records, latest_time};
-ghost use Rattle.capture_reader.specs.Outcome.{IsInside};
-ghost use Rattle.pcapng_reader.specs.Blocks.{section_says, interface_says, packet_says, simple_says, record_says, content_says, behind, is_link};
-ghost use Rattle.pcapng_reader.specs.Limits.{least};
+ghost use Rattle.std.specs.Prelude.{◌≡◌, ◌+◌, ◌-◌, ◌<◌, ◌≤◌, ◌==◌, length, IfOk, IfErr, MatchResult, Ok, Err};
+ghost use Rattle.capture_reader.specs.Limits.{most_bytes};
+ghost use Rattle.pcapng_reader.specs.Blocks.{section_says, interface_says, packet_says, simple_says, record_says, content_says, is_link};
+ghost use Rattle.pcapng_reader.specs.Limits.{least, least_section, least_interface, least_packet, least_simple};
 ghost use Rattle.pcapng_reader.specs.PcapngFile.{start, link_of, BeginsSection, IsPcapng, ParseFails};
 ghost use Rattle.pcapng_reader.specs.SoFar.{Told, state_of, ReadsFile, Fails};
 
 use crate::fault::PcapngFault;
-use crate::frame::{Frame, INTERFACE, PACKET, SECTION, SIMPLE, framed};
+use crate::frame::{
+    Frame, INTERFACE, LEAST_PACKET, LEAST_SECTION, LEAST_SIMPLE, PACKET, SECTION, SIMPLE, framed,
+};
 use crate::interface::{Interface, padded, time_of};
 use crate::order::{Order, rest_at};
-use capture_reader::{Capture, Record};
+use capture_reader::{Capture, LONGEST_BODY, MOST_RECORDS, Record};
 use sq_base::{Link, Octets};
 use std::alloc::Global;
-
-/// The least bytes of a file: a section header without options.
-const LEAST: usize = 28;
-
-/// The most captured bytes of a packet.
-const LONGEST: u32 = 262_144;
-
-/// The most packets of a capture.
-const MOST_RECORDS: usize = 1_048_576;
 
 /// How far a file is read.
 #[derive(Drop)]
@@ -58,7 +49,7 @@ impl Reading {
 
     /// A section header.
     fn section(&mut self, order: Order, block: &[u8]) -> Result<(), PcapngFault>
-        requires { 28 ≤ length block.now }
+        requires { least_section ≤ length block.now }
         ensures { Told (section_says (state_of self.old) order block.now) (state_of self.new) result }
     {
         let major = order.u16_at(block, 12);
@@ -76,7 +67,7 @@ impl Reading {
 
     /// An interface of the section.
     fn interface(&mut self, block: &[u8]) -> Result<(), PcapngFault>
-        requires { 20 ≤ length block.now }
+        requires { least_interface ≤ length block.now }
         ensures { Told (interface_says (state_of self.old) block.now) (state_of self.new) result }
     {
         let link = u32::from(self.order.u16_at(block, 8));
@@ -103,7 +94,7 @@ impl Reading {
 
     /// A packet with a time and an interface.
     fn packet(&mut self, block: &[u8]) -> Result<(), PcapngFault>
-        requires whole { 32 ≤ length block.now }
+        requires whole { least_packet ≤ length block.now }
         requires small { self.old.at + length block.now ≤ most_bytes }
         ensures { Told (packet_says (state_of self.old) block.now) (state_of self.new) result }
     {
@@ -121,12 +112,12 @@ impl Reading {
             from: (self.at + 28) as u32,
             len: self.order.u32_at(block, 20),
         };
-        self.add(packet, block.len() - 32)
+        self.add(packet, block.len() - LEAST_PACKET as usize)
     }
 
     /// A packet with neither, as long as the first interface leaves it.
     fn simple_packet(&mut self, block: &[u8]) -> Result<(), PcapngFault>
-        requires whole { 16 ≤ length block.now }
+        requires whole { least_simple ≤ length block.now }
         requires small { self.old.at + length block.now ≤ most_bytes }
         ensures { Told (simple_says (state_of self.old) block.now) (state_of self.new) result }
     {
@@ -147,14 +138,17 @@ impl Reading {
             None => 0,
         };
         let from = (self.at + 12) as u32;
-        self.add(Record { at, from, len }, block.len() - 16)
+        self.add(
+            Record { at, from, len },
+            block.len() - LEAST_SIMPLE as usize,
+        )
     }
 
     /// One record more, whose block has room for so many captured bytes.
     fn add(&mut self, packet: Record, room: usize) -> Result<(), PcapngFault>
         ensures { Told (record_says (state_of self.old) packet room) (state_of self.new) result }
     {
-        if packet.len > LONGEST || padded(packet.len as usize) > room {
+        if packet.len > LONGEST_BODY || padded(packet.len as usize) > room {
             return Err(PcapngFault::PacketLength {
                 index: self.blocks,
                 len: packet.len,
@@ -222,7 +216,8 @@ fn walk(alloc: Global, bytes: &[u8]) -> Result<(Reading, bool), PcapngFault>
     }
 }
 
-/// The capture that the bytes of a pcapng file are, or the first refusal that they meet.
+/// The capture that the bytes of a pcapng file are (draft-ietf-opsawg-pcapng), at most 64 MiB of them, or the first refusal that they
+/// meet. `NoMemory` comes where room for interfaces or packets was missing. The bytes stay as they are.
 pub fn parse_pcapng(alloc: Global, bytes: Octets) -> Result<Capture, PcapngFault>
     requires section { BeginsSection bytes }
     requires small { length bytes ≤ most_bytes }
@@ -230,7 +225,7 @@ pub fn parse_pcapng(alloc: Global, bytes: Octets) -> Result<Capture, PcapngFault
     ensures err { IfErr result (ParseFails bytes) }
 {
     let size = bytes.as_slice().len();
-    if size < LEAST {
+    if size < LEAST_SECTION as usize {
         return Err(PcapngFault::ShortSection(size as u32));
     }
     let (reading, cut) = walk(alloc, bytes.as_slice())?;

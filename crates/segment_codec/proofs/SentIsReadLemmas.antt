@@ -15,6 +15,7 @@ use Rattle.byteorder.specs.Endian.{big_bytes}
 use Rattle.segment_codec.specs.SegmentBytes.{segment_bytes, ip_with, tcp_with, option_bytes, offset_of, ip_sum, tcp_sum}
 use Rattle.segment_codec.specs.SentIsRead.{AreSent, Fits, ReadsAgain, seg_sent, text_in}
 use Rattle.segment_codec.proofs.SumLemmas.{sum_completes, header_sums, length-tcp_with}
+use Rattle.segment_codec.specs.Limits.{announced_mss, announced_shift}
 
 -- a whole datagram without options, fragments or padding
 datagram_whole : (verify : Bool) (ip : List ℕ) (from : ℕ) → 20 ≤ length ip → byte ip 0 ≡ 69 → word ip 2 ≡ length ip → word ip 6 ≡ 16384 → byte ip 9 ≡ 6
@@ -126,8 +127,8 @@ carries r mss scale p q = ap (λ (m : Option ℕ). carrying r m r.scale) p ∙ a
 options_read : (r : Reply) → AreSent r → OptionsRead r
 unfolding mss_in scale_in options_in word
 options_read r (inl e) = subst OptionsRead (sym (carries r None None e.0 e.1)) (record { words = 0; size = refl; few = omega arith; mss = refl; scale = refl })
-options_read r (inr (inl e)) = subst OptionsRead (sym (carries r (Some 1460) None e.0 e.1)) (record { words = 1; size = refl; few = omega arith; mss = refl; scale = refl })
-options_read r (inr (inr e)) = subst OptionsRead (sym (carries r (Some 1460) (Some 5) e.0 e.1)) (record { words = 2; size = refl; few = omega arith; mss = refl; scale = refl })
+options_read r (inr (inl e)) = subst OptionsRead (sym (carries r (Some announced_mss) None e.0 e.1)) (record { words = 1; size = refl; few = omega arith; mss = refl; scale = refl })
+options_read r (inr (inr e)) = subst OptionsRead (sym (carries r (Some announced_mss) (Some announced_shift) e.0 e.1)) (record { words = 2; size = refl; few = omega arith; mss = refl; scale = refl })
 
 -- all that is sent before the text
 abbrev headers_with : Tuple → Reply → ℕ → ℕ → List ℕ

@@ -1,4 +1,5 @@
--- What a record's bytes hold: link (IEEE 802.3 and 802.1Q, raw IP, Linux cooked), IPv4 (RFC 791, 3.1), TCP (RFC 9293, 3.1). In each part the first answer whose condition holds counts.
+-- What a record's bytes hold: link (IEEE 802.3 and 802.1Q, raw IP, Linux cooked), IPv4 (RFC 791, 3.1), TCP (RFC 9293, 3.1).
+-- In each part the first answer whose condition holds counts.
 use Rattle.std.specs.Prelude.{ℕ, ◌+◌, ◌-◌, ◌*◌, ◌%◌, ◌==◌, nat_lt, ◌&&◌, ◌||◌, not, Bool, List, length, drop, take, if◌then◌else◌, bit_and}
 use Rattle.sq_base.specs.InternetSum.{word_sum, reduced}
 use Rattle.sq_base.specs.declared.kinds.Link.{Link}
@@ -30,7 +31,8 @@ segment_of ip tcp from =
       text_len = length tcp - header;
     }
 
--- the sum of the IPv4 header is right, and so is that of the TCP part with its pseudo-header: addresses, protocol 6, length of the part, which is to fit 16 bits
+-- the sum of the IPv4 header is right, and so is that of the TCP part with its pseudo-header: addresses, protocol 6,
+-- length of the part, which is to fit 16 bits
 unfoldable pub sums_hold : List ℕ → List ℕ → List ℕ → Bool
 sums_hold ip header tcp =
     (reduced (word_sum header) == 0xffff)

@@ -7,10 +7,13 @@ use Rattle.segment_codec.specs.declared.packet.Seg.{Seg}
 use Rattle.segment_codec.specs.declared.packet.Packet.TheVariants as packet
 use Rattle.segment_codec.specs.Packet.{packet_in}
 use Rattle.segment_codec.specs.SegmentBytes.{segment_bytes, option_bytes}
+use Rattle.segment_codec.specs.Limits.{announced_mss, announced_shift, most_text}
 
--- the options that are sent: none, the maximum segment size 1460, or that and the window scale 5
+-- the options that are sent: none, our maximum segment size, or that and our window scale
 abbrev pub AreSent : Reply → Type 0
-AreSent r = ((r.mss ≡ None) × (r.scale ≡ None)) ⊎ (((r.mss ≡ Some 1460) × (r.scale ≡ None)) ⊎ ((r.mss ≡ Some 1460) × (r.scale ≡ Some 5)))
+AreSent r =
+    ((r.mss ≡ None) × (r.scale ≡ None))
+    ⊎ (((r.mss ≡ Some announced_mss) × (r.scale ≡ None)) ⊎ ((r.mss ≡ Some announced_mss) × (r.scale ≡ Some announced_shift)))
 
 -- a tuple and a reply whose numbers fit their fields, and whose options and flags are those that are sent
 pub record Fits (t : Tuple) (r : Reply) : Type 0 where
@@ -23,7 +26,7 @@ pub record Fits (t : Tuple) (r : Reply) : Type 0 where
   pub wnd : r.wnd < 2 ^ 16
   pub flags : r.flags < 64
   pub options : AreSent r
-  pub text : length r.text ≤ 1460
+  pub text : length r.text ≤ most_text
   pub bytes : All (λ b. b < 256) r.text
 
 -- the segment with its fields, whose text stands behind both headers

@@ -1,6 +1,6 @@
 //! The options of a TCP header. A walk over them stops at the first that is broken, and refuses nothing.
 
-ghost use Rattle.std.specs.Prelude.{◌≡◌, ◌<◌, ◌≤◌, ◌+◌, length, true, false, None, Some, MatchOption, IfSome};
+ghost use Rattle.std.specs.Prelude.{◌≡◌, ◌<◌, ◌≤◌, length, false, None, Some, MatchOption, IfSome};
 ghost use Rattle.segment_codec.specs.Options.{is_end, is_broken, option_size, is_option, first_option, mss_in, scale_in};
 
 use crate::places::{front, rest_at, word_at};

@@ -7,7 +7,7 @@ use sq_base::{Addr, Octets};
 /// The ports, the sequence number `seq`, the acknowledgement number `ack` and the window `wnd` are the header's own;
 /// `flags` are its lower six bits (FIN 1, SYN 2, RST 4, PSH 8, ACK 16, URG 32). `mss` is the option for the maximum
 /// segment size and `scale` the shift of the window scale (RFC 7323), wherever they stand; no rule on flags is applied.
-/// The text is the `text_len` bytes of the record's body from `text_from` on.
+/// The text is the `text_len` bytes of the record's body from `text_from` on; the window isn't scaled.
 #[derive(Clone, Copy, Debug, PartialEq, Eq)]
 pub struct Seg {
     pub src: Addr,
@@ -50,12 +50,15 @@ pub enum Packet {
     Fragment,
     /// The capture holds fewer bytes than the headers name.
     Cut,
+    /// A header contradicts another or its RFC. The first such answer counts.
     Malformed(Why),
     /// A checksum is wrong. Given only where checksums are to be verified.
     BadSum,
 }
 
-/// A segment that is sent: its time `at` in microseconds, the fields of its header, the options that it carries, and its text.
+/// A segment that is sent: its time `at` in microseconds, the fields of its header (RFC 9293, 3.1), the options that it carries, and its text.
+///
+/// `wnd` is the field as it is sent, `mss` counts bytes, and `scale` is a shift (RFC 7323, 2.2). `encode` takes at most 1,460 bytes of text.
 #[derive(Debug, Drop)]
 pub struct Reply {
     pub at: u64,

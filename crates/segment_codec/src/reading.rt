@@ -14,7 +14,8 @@ const TAGGED: u16 = 0x8100;
 
 const TCP: u8 = 6;
 
-/// The packet in a record's bytes. `BadSum` comes only with `verify`.
+/// The packet in a record's bytes, under the capture's link: IPv4 (RFC 791, 3.1) and TCP (RFC 9293, 3.1). `BadSum` comes only with
+/// `verify`; each other answer is the first whose condition in `specs/Packet.antt` holds.
 #[tactic(auto, unfolding(crate::specs::Packet::packet_in))]
 pub fn decode(link: Link, body: &[u8], verify: bool) -> Packet
     requires { length body.now < 2 ^ 32 }

@@ -1,16 +1,18 @@
 //! A sent segment in bytes. Both checksums are taken over the fields first, so each byte is written once.
 
-ghost use Rattle.std.specs.Prelude.{◌≡◌, ◌≤◌, ◌+◌, ◌*◌, ◌/◌, ◌<◌, ◌^◌, length, take, IfOk, OnOk, OnErr, IsSome, ◌++◌, if◌then◌else◌, is_ok};
+ghost use Rattle.std.specs.Prelude.{◌≡◌, ◌≤◌, ◌+◌, ◌*◌, ◌/◌, ◌<◌, length, take, IfOk, OnOk, OnErr, IsSome, ◌++◌, if◌then◌else◌, is_ok};
 ghost use Rattle.sq_base.specs.InternetSum.{word_sum, reduced};
-ghost use Rattle.segment_codec.specs.SegmentBytes.{segment_bytes, ip_with, tcp_with, mss_bytes, scale_bytes, option_bytes, offset_of, ip_sum, tcp_sum};
+ghost use Rattle.segment_codec.specs.SegmentBytes.{segment_bytes, ip_with, tcp_with, option_bytes, offset_of, ip_sum, tcp_sum};
+ghost use Rattle.segment_codec.specs.Limits.{most_text};
 
 use crate::packet::Reply;
 use sq_base::{Octets, Tuple, inet_sum};
 use std::alloc::{AllocError, Global};
 
 /// The IPv4 datagram of a reply from the tuple's server to its client (RFC 791, 3.1; RFC 9293, 3.1), with both checksums.
+/// An error says that memory for it was missing.
 pub fn encode(alloc: Global, tuple: &Tuple, reply: &Reply) -> Result<Octets, AllocError>
-    requires text { length reply.now.text ≤ 1460 }
+    requires text { length reply.now.text ≤ most_text }
     requires scale { IsSome reply.now.scale → IsSome reply.now.mss }
     ensures { IfOk result (λ o. o ≡ segment_bytes tuple.now reply.now) }
 {
@@ -21,7 +23,7 @@ pub fn encode(alloc: Global, tuple: &Tuple, reply: &Reply) -> Result<Octets, All
 
 /// Appends the datagram that `encode` gives to a buffer that the caller keeps. After an error the buffer is as it was.
 pub fn encode_into(out: &mut Vec<u8>, tuple: &Tuple, reply: &Reply) -> Result<(), AllocError>
-    requires text { length reply.now.text ≤ 1460 }
+    requires text { length reply.now.text ≤ most_text }
     requires scale { IsSome reply.now.scale → IsSome reply.now.mss }
     ensures { out.new.items ≡ (if is_ok result then out.old.items ++ segment_bytes tuple.now reply.now else out.old.items) }
 {
@@ -36,7 +38,7 @@ pub fn encode_into(out: &mut Vec<u8>, tuple: &Tuple, reply: &Reply) -> Result<()
 /// Appends the datagram, or a front of it where memory is missing.
 #[tactic(auto, unfolding(crate::specs::SegmentBytes::segment_bytes), using(crate::proofs::Joins::joins, crate::proofs::Joins::fronts))]
 fn append(out: &mut Vec<u8>, tuple: &Tuple, reply: &Reply) -> Result<(), AllocError>
-    requires text { length reply.now.text ≤ 1460 }
+    requires text { length reply.now.text ≤ most_text }
     ensures ok { OnOk result (out.new.items ≡ out.old.items ++ segment_bytes tuple.now reply.now) }
     ensures kept { take (length out.old.items) out.new.items ≡ out.old.items }
 {
@@ -50,9 +52,9 @@ fn append(out: &mut Vec<u8>, tuple: &Tuple, reply: &Reply) -> Result<(), AllocEr
 
 /// The length of the TCP part.
 fn tcp_len(reply: &Reply) -> u16
-    requires { length reply.now.text ≤ 1460 }
+    requires { length reply.now.text ≤ most_text }
     ensures value { result ≡ 20 + length (option_bytes reply.now) + length reply.now.text }
-    ensures small { result ≤ 1488 }
+    ensures small { result ≤ most_text + 28 }
 {
     u16::from(offset_byte(reply)) / 4 + reply.text.as_slice().len() as u16
 }

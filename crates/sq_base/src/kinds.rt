@@ -9,6 +9,7 @@ pub enum Status {
     Ok,
     /// The words are refused.
     Usage,
+    /// Memory was missing.
     NoMemory,
     /// The input couldn't be read.
     ReadFault,
@@ -25,7 +26,7 @@ pub enum Status {
 impl Status {
     ghost use Rattle.sq_base.specs.StatusCode.{code_of};
 
-    /// The exit status of the process.
+    /// The exit status of the process: 0 for `Ok`, and 2 to 8 in the order above for the others.
     pub fn code(self) -> u8
         ensures { result ≡ code_of self }
     {
@@ -60,8 +61,10 @@ pub enum Link {
 /// The two ends of a connection, the client being the one that opens it.
 #[derive(Clone, Copy, Debug, PartialEq, Eq, Hash)]
 pub struct Tuple {
+    /// The client's address and port.
     pub client: Addr,
     pub client_port: u16,
+    /// The address and the port that it asks for.
     pub server: Addr,
     pub server_port: u16,
 }

@@ -36,7 +36,8 @@ impl Model for MemSource {
 }
 
 impl MemSource {
-    /// A source of these bytes, which gives at most `piece` of them a call. The calls whose numbers are in `fails` fail.
+    /// A source of these bytes, which gives at most `piece` of them a call. The calls whose numbers are in `fails` fail. An error
+    /// says that memory for the two lists was missing.
     pub fn make(
         alloc: Global,
         bytes: &[u8],
@@ -58,7 +59,7 @@ impl MemSource {
 }
 
 impl Source for MemSource {
-    ghost use Rattle.std.specs.Prelude.{◌≡◌, ℕ, ◌≤◌, true, false, Some, MatchResult, min, length, take, drop, OnOk, OnErr, IfOk};
+    ghost use Rattle.std.specs.Prelude.{◌≡◌, ◌≤◌, true, false, Some, MatchResult, min, length, take, drop, OnOk, OnErr, IfOk};
     ghost use Rattle.std.specs.Io.KnownBytes.{ReadConsumes};
     ghost use Rattle.sq_base.specs.Ends.{Rose, raised};
     ghost use Rattle.sq_base.specs.MemoryEnds.{is_failing};
@@ -126,7 +127,7 @@ impl Model for MemSink {
 
 impl MemSink {
     /// A sink with room for `room` bytes, which takes at most `piece` of them a call. The calls whose numbers are in `fails`
-    /// fail, and so does each write of a byte where no room is left.
+    /// fail, and so does each write of a byte where no room is left. An error says that memory for the room was missing.
     pub fn make(
         alloc: Global,
         room: usize,
@@ -155,7 +156,8 @@ impl MemSink {
 }
 
 impl Sink for MemSink {
-    ghost use Rattle.std.specs.Prelude.{◌≡◌, ℕ, ◌+◌, ◌-◌, ◌<◌, ◌≤◌, true, false, Some, MatchResult, min, length, take, ◌++◌, OnOk, OnErr, IfOk, ◌&&◌, ◌||◌, nat_lt, ◌==◌};
+    ghost use Rattle.std.specs.Prelude.{◌≡◌, ◌+◌, ◌-◌, ◌<◌, ◌≤◌, true, false, Some, MatchResult, min};
+    ghost use Rattle.std.specs.Prelude.{length, take, ◌++◌, OnOk, OnErr, IfOk, ◌&&◌, ◌||◌, nat_lt, ◌==◌};
     ghost use Rattle.std.specs.Io.KnownBytes.{WriteAppends};
     ghost use Rattle.sq_base.specs.Ends.{Rose, raised};
     ghost use Rattle.sq_base.specs.MemoryEnds.{is_failing};
@@ -173,7 +175,10 @@ impl Sink for MemSink {
         ensures failed { OnErr result (Rose self.old.faults self.new.faults) }
 
         // which call fails, and how many bytes another one takes
-        ensures exact { let fails = is_failing self.old.fails self.old.call || (nat_lt 0 (length piece.now) && (length self.old.written == self.old.room)) in MatchResult result
+        ensures exact { let fails =
+            is_failing self.old.fails self.old.call
+            || (nat_lt 0 (length piece.now) && (length self.old.written == self.old.room)) in
+            MatchResult result
             (λ n. (fails ≡ false)
             × (n ≡ min (length piece.now) (min self.old.piece (self.old.room - length self.old.written)))
             × (self.new ≡ record self.old { written = self.old.written ++ take n piece.now; call = raised self.old.call }))

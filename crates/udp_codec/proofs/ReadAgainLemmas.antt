@@ -1,14 +1,14 @@
 -- What is sent is read again.
-use Rattle.std.proofs.Common.{◌≡◌, ℕ, ◌+◌, ◌-◌, ◌*◌, ◌<◌, ◌≤◌, List, [], ◌∷◌, ◌++◌, length, drop, take, Option, None, Some, Bool, true, false, refl, sym, ap, ◌∙◌, arith, cond, eqb, ltb, leb, ◌&&◌}
+use Rattle.std.proofs.Common.{◌≡◌, ℕ, ◌+◌, ◌-◌, ◌≤◌, List, ◌++◌, length, drop, take, Option, None, Some, Bool, true, false, refl, ap, ◌∙◌, arith, cond, eqb, leb, ◌&&◌}
 use Rattle.std.proofs.lemmas.Bool.{false≢true}
 use Rattle.std.proofs.lemmas.Bool.Decides.{nat_tests}
 use Rattle.std.proofs.lemmas.List.{take_all, drop_at}
 use Rattle.byteorder.specs.Endian.{big_bytes}
 use Rattle.sq_base.specs.declared.kinds.Tuple.{Tuple}
 use Rattle.sq_base.specs.declared.kinds.Link.TheVariants.{RawIp}
-use Rattle.segment_codec.specs.Places.{byte, word, long, high, low}
+use Rattle.segment_codec.specs.Places.{byte, word, long}
 use Rattle.udp_codec.specs.declared.datagram.Udp.{Udp}
-use Rattle.udp_codec.specs.UdpDatagram.{ip_place, is_whole, part_of, is_udp, udp_of, udp_at, udp_in, header_of}
+use Rattle.udp_codec.specs.UdpDatagram.{ip_place, is_whole, part_of, is_udp, udp_of, udp_in, header_of}
 use Rattle.udp_codec.specs.UdpBytes.{udp_bytes, ip_with, udp_with, ip_sum, udp_sum}
 use Rattle.udp_codec.specs.ReadAgain.{Fits, ReadsAgain, udp_sent, text_in}
 use Rattle.udp_codec.proofs.SumLemmas.{header_sums, part_sums}

@@ -1,3 +1,4 @@
+pub mod Limits
 pub mod UdpDatagram
 pub mod UdpBytes
 pub mod ReadAgain

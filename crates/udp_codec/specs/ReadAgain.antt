@@ -5,7 +5,8 @@ use Rattle.sq_base.specs.declared.kinds.Link.TheVariants.{RawIp}
 use Rattle.sq_base.specs.declared.kinds.Tuple.{Tuple}
 use Rattle.udp_codec.specs.declared.datagram.Udp.{Udp}
 use Rattle.udp_codec.specs.UdpDatagram.{udp_in}
-use Rattle.udp_codec.specs.UdpBytes.{udp_bytes, most_text, ip_with, ip_sum, udp_with, udp_sum, whole_sum}
+use Rattle.udp_codec.specs.UdpBytes.{udp_bytes, ip_with, ip_sum, udp_with, udp_sum, whole_sum, total_with}
+use Rattle.udp_codec.specs.Limits.{ip_header_size, most_text, udp_header_size}
 
 -- a tuple and a text whose numbers fit their fields
 pub record Fits (t : Tuple) (text : List ℕ) : Type 0 where
@@ -22,7 +23,7 @@ udp_sent t text = record {
   src_port = t.server_port;
   dst = t.client;
   dst_port = t.client_port;
-  text_from = 28;
+  text_from = ip_header_size + udp_header_size;
   text_len = length text;
 }
 
@@ -34,5 +35,5 @@ text_in u body = take u.text_len (drop u.text_from body)
 pub record ReadsAgain (t : Tuple) (text : List ℕ) : Type 0 where
   pub fields : udp_in RawIp (udp_bytes t text) ≡ Some (udp_sent t text)
   pub kept : text_in (udp_sent t text) (udp_bytes t text) ≡ text
-  pub header : reduced (word_sum (ip_with t (28 + length text) (ip_sum t (28 + length text)))) ≡ 65535
+  pub header : reduced (word_sum (ip_with t (total_with text) (ip_sum t (total_with text)))) ≡ 65535
   pub part : whole_sum t text (udp_with t text (udp_sum t text)) ≡ 65535

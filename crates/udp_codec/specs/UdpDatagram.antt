@@ -1,11 +1,12 @@
 -- The UDP datagram in a record's bytes (RFC 768): link (IEEE 802.3 and 802.1Q, raw IP, Linux cooked), IPv4 (RFC 791, 3.1), UDP.
-use Rattle.std.specs.Prelude.{ℕ, ◌+◌, ◌-◌, ◌*◌, ◌==◌, nat_le, ◌&&◌, ◌||◌, Bool, List, length, drop, take, min, Option, None, Some, if◌then◌else◌, bit_and}
+use Rattle.std.specs.Prelude.{ℕ, ◌+◌, ◌-◌, ◌*◌, ◌==◌, nat_le, ◌&&◌, ◌||◌, Bool, List, length, drop, take, Option, None, Some, if◌then◌else◌, bit_and}
 use Rattle.std.specs.Option.{option_and_then}
 use Rattle.sq_base.specs.declared.kinds.Link.{Link}
 use Rattle.sq_base.specs.declared.kinds.Link.TheVariants.{Ethernet, RawIp, Cooked}
 use Rattle.segment_codec.specs.Places.{byte, word, long, high, low}
 use Rattle.segment_codec.specs.Packet.{total_of}
 use Rattle.udp_codec.specs.declared.datagram.Udp.{Udp}
+use Rattle.udp_codec.specs.Limits.{ip_header_size, most_length, udp_header_size}
 
 -- the place at which an IPv4 datagram begins in a record's body, where the link says that it carries one
 unfoldable pub ip_place : Link → List ℕ → Option ℕ
@@ -23,9 +24,9 @@ header_of ip = 4 * low (byte ip 0)
 -- a datagram of IPv4 and protocol 17 that is whole, and no fragment: the more-fragments bit and the offset are 0
 unfoldable pub is_whole : List ℕ → Bool
 is_whole ip =
-    nat_le 20 (length ip)
+    nat_le ip_header_size (length ip)
     && ((high (byte ip 0) == 4)
-    && (nat_le 20 (header_of ip)
+    && (nat_le ip_header_size (header_of ip)
     && (((word ip 2 == 0) || nat_le (header_of ip) (word ip 2))
     && ((bit_and (word ip 6) 0x3fff == 0)
     && ((byte ip 9 == 17)
@@ -35,13 +36,9 @@ is_whole ip =
 unfoldable pub part_of : List ℕ → List ℕ
 part_of ip = drop (header_of ip) (take (total_of ip) ip)
 
--- the most bytes of a UDP header with its text
-abbrev pub most_length : ℕ
-most_length = 65515
-
 -- the UDP length counts header and text, and the part holds them
 abbrev pub is_udp : List ℕ → Bool
-is_udp part = nat_le 8 (length part) && (nat_le 8 (word part 4) && (nat_le (word part 4) (length part) && nat_le (word part 4) most_length))
+is_udp part = nat_le udp_header_size (length part) && (nat_le udp_header_size (word part 4) && (nat_le (word part 4) (length part) && nat_le (word part 4) most_length))
 
 -- the fields of a datagram that begins at this place of the record's body
 unfoldable pub udp_of : List ℕ → ℕ → Udp
@@ -50,8 +47,8 @@ udp_of ip at = record {
   src_port = word (part_of ip) 0;
   dst = record { 0 = long ip 16 };
   dst_port = word (part_of ip) 2;
-  text_from = at + header_of ip + 8;
-  text_len = word (part_of ip) 4 - 8;
+  text_from = at + header_of ip + udp_header_size;
+  text_len = word (part_of ip) 4 - udp_header_size;
 }
 
 abbrev pub udp_at : List ℕ → ℕ → Option Udp

@@ -1,8 +1,9 @@
 //! From a record to a datagram.
 
-ghost use Rattle.std.specs.Prelude.{◌≡◌, ◌+◌, ◌*◌, ◌<◌, ◌≤◌, ◌^◌, true, length, slice_index, IfSome};
+ghost use Rattle.std.specs.Prelude.{◌≡◌, ◌+◌, ◌*◌, ◌<◌, ◌≤◌, ◌^◌, true, length, IfSome};
 ghost use Rattle.segment_codec.specs.Packet.{total_of};
 ghost use Rattle.udp_codec.specs.UdpDatagram.{udp_in, ip_place, is_whole, header_of, part_of, is_udp, udp_at};
+ghost use Rattle.udp_codec.specs.Limits.{ip_header_size, udp_header_size};
 
 use crate::datagram::Udp;
 use crate::places::{front, long_at, rest_at, word_at};
@@ -14,10 +15,17 @@ const TAGGED: u16 = 0x8100;
 
 const UDP: u8 = 17;
 
-/// The most bytes of a UDP header with its text: the longest datagram less an IPv4 header.
-const MOST_LENGTH: usize = 65_515;
+/// The bytes of an IPv4 header without options.
+const IP_HEADER: usize = 20;
 
-/// The UDP datagram in a record's bytes. Its checksum isn't looked at.
+/// The bytes of a UDP header.
+const UDP_HEADER: usize = 8;
+
+/// The most bytes of a UDP header with its text: the longest datagram without an IPv4 header.
+const MOST_LENGTH: usize = 65_535 - IP_HEADER;
+
+/// The UDP datagram in a record's bytes, under the capture's link (RFC 791, 3.1; RFC 768), or `None` where they hold no whole one,
+/// or a fragment. Its checksum isn't looked at.
 pub fn decode_udp(link: Link, body: &[u8]) -> Option<Udp>
     requires { length body.now < 2 ^ 32 }
     ensures { result ≡ udp_in link body.now }
@@ -72,8 +80,8 @@ fn udp_at(ip: &[u8], at: u32) -> Option<Udp>
         src_port: word_at(part, 0),
         dst: Addr(long_at(ip, 16)),
         dst_port: word_at(part, 2),
-        text_from: at + header_of(ip) as u32 + 8,
-        text_len: u32::from(word_at(part, 4)) - 8,
+        text_from: at + header_of(ip) as u32 + UDP_HEADER as u32,
+        text_len: u32::from(word_at(part, 4)) - UDP_HEADER as u32,
     })
 }
 
@@ -81,18 +89,18 @@ fn udp_at(ip: &[u8], at: u32) -> Option<Udp>
 #[tactic(auto, unfolding(crate::specs::UdpDatagram::is_whole))]
 fn is_whole(ip: &[u8]) -> bool
     ensures is { result ≡ is_whole ip.now }
-    ensures long { result ≡ true → 20 ≤ length ip.now }
+    ensures long { result ≡ true → ip_header_size ≤ length ip.now }
     ensures header { result ≡ true → header_of ip.now ≤ total_of ip.now }
     ensures total { result ≡ true → total_of ip.now ≤ length ip.now }
 {
-    if ip.len() < 20 {
+    if ip.len() < IP_HEADER {
         return false;
     }
     let header = header_of(ip);
     let named = usize::from(word_at(ip, 2));
     let total = total_of(ip);
     ip[0] >> 4 == 4
-        && header >= 20
+        && header >= IP_HEADER
         && (named == 0 || named >= header)
         && word_at(ip, 6) & 0x3fff == 0
         && ip[9] == UDP
@@ -111,7 +119,7 @@ fn header_of(ip: &[u8]) -> usize
 
 /// The datagram's total length; 0 stands for as many bytes as were captured.
 fn total_of(ip: &[u8]) -> usize
-    requires { 20 ≤ length ip.now }
+    requires { ip_header_size ≤ length ip.now }
     ensures { result ≡ total_of ip.now }
 {
     let named = usize::from(word_at(ip, 2));
@@ -121,7 +129,7 @@ fn total_of(ip: &[u8]) -> usize
 /// What follows the IPv4 header, without padding.
 #[tactic(auto, unfolding(crate::specs::UdpDatagram::part_of))]
 fn part_of(ip: &[u8]) -> &[u8]
-    requires long { 20 ≤ length ip.now }
+    requires long { ip_header_size ≤ length ip.now }
     requires header { header_of ip.now ≤ total_of ip.now }
     requires total { total_of ip.now ≤ length ip.now }
     ensures is { result.now ≡ part_of ip.now }
@@ -133,11 +141,11 @@ fn part_of(ip: &[u8]) -> &[u8]
 /// The UDP length counts header and text, and the part holds them.
 fn is_udp(part: &[u8]) -> bool
     ensures is { result ≡ is_udp part.now }
-    ensures long { result ≡ true → 8 ≤ length part.now }
+    ensures long { result ≡ true → udp_header_size ≤ length part.now }
 {
-    if part.len() < 8 {
+    if part.len() < UDP_HEADER {
         return false;
     }
     let len = usize::from(word_at(part, 4));
-    len >= 8 && len <= part.len() && len <= MOST_LENGTH
+    len >= UDP_HEADER && len <= part.len() && len <= MOST_LENGTH
 }

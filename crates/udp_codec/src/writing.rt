@@ -1,12 +1,14 @@
 //! A sent datagram in bytes. Both checksums are taken over the fields first, so each byte is written once.
 
 ghost use Rattle.std.specs.Prelude.{◌≡◌, ◌+◌, ◌++◌, ◌≤◌, length, IfOk, OnOk};
-ghost use Rattle.udp_codec.specs.UdpBytes.{udp_bytes, ip_with, udp_with, ip_sum, udp_sum, not_none, most_text};
+ghost use Rattle.udp_codec.specs.UdpBytes.{udp_bytes, ip_with, udp_with, ip_sum, udp_sum, not_none};
+ghost use Rattle.udp_codec.specs.Limits.{most_text};
 
 use sq_base::{Octets, Tuple, inet_sum};
 use std::alloc::{AllocError, Global};
 
-/// The IPv4 datagram of a text from the tuple's server to its client (RFC 791, 3.1; RFC 768), with both checksums.
+/// The IPv4 datagram of a text from the tuple's server to its client (RFC 791, 3.1; RFC 768), with both checksums. An error says that memory for
+/// it was missing.
 #[tactic(auto, unfolding(crate::specs::UdpBytes::udp_bytes))]
 pub fn encode_udp(alloc: Global, tuple: &Tuple, text: &[u8]) -> Result<Octets, AllocError>
     requires { length text.now ≤ most_text }

@@ -1,4 +1,4 @@
-use Rattle.std.proofs.Common.{◌≡◌, ◌≤◌, ◌+◌, ◌*◌, ◌^◌, ◌∙◌, ap, sym, arith, ℕ}
+use Rattle.std.proofs.Common.{◌≡◌, ◌≤◌, ◌+◌, ◌*◌, ◌^◌, arith}
 use Rattle.pcapng_reader.proofs.Numbers.{ten_most, ten_next}
 use Rattle.pcapng_reader.proofs.interface.power_of_ten.Goals as goal
 

@@ -1,5 +1,5 @@
-use Rattle.std.proofs.Common.{arith, ◌≡◌, ◌≤◌, ◌+◌, ◌∙◌, ap, sym, refl, length, subst, ℕ}
-use Rattle.pcapng_reader.specs.Options.{resolution, first_resolution, option_size, value_length}
+use Rattle.std.proofs.Common.{arith, ◌≡◌, ◌+◌, ◌∙◌, ap, sym, ℕ}
+use Rattle.pcapng_reader.specs.Options.{resolution, option_size}
 use Rattle.pcapng_reader.specs.Numbers.{padded}
 use Rattle.pcapng_reader.proofs.Walk.{ends_here, found_here, passes_here, too_short}
 use Rattle.pcapng_reader.proofs.interface.resolution.Goals as goal

@@ -1,13 +1,11 @@
-use Rattle.std.proofs.Common.{rules, arith, ◌≡◌, ◌≤◌, ◌<◌, ◌+◌, ◌⊎◌, ◌∙◌, sym, ap, subst, length, drop, take, ℕ, List, Some, Ok, Err}
+use Rattle.std.proofs.Common.{rules, arith, ◌≡◌, ◌≤◌, ◌<◌, ◌⊎◌, ◌∙◌, sym, ap, subst, length, drop, take, ℕ, List, Some, Ok, Err}
 use Rattle.std.proofs.lemmas.Result.{err_from_is_err_and}
-use Rattle.capture_reader.specs.Limits.{most_bytes}
 use Rattle.pcapng_reader.specs.declared.fault.PcapngFault.TheVariants as fault
-use Rattle.pcapng_reader.specs.Limits.{least}
 use Rattle.pcapng_reader.specs.Frame.{framed}
-use Rattle.pcapng_reader.specs.Blocks.{State, content_says}
+use Rattle.pcapng_reader.specs.Blocks.{content_says}
 use Rattle.pcapng_reader.specs.SoFar.{state_of}
 use Rattle.pcapng_reader.proofs.Frames.{framed_fits}
-use Rattle.pcapng_reader.proofs.Steps.{frame_fails, content_fails, block_long, block_whole, block_some, block_within, block_kept, reaches_on}
+use Rattle.pcapng_reader.proofs.Steps.{frame_fails, content_fails, block_whole, block_some, block_within, block_kept, reaches_on}
 use Rattle.pcapng_reader.proofs.reading.walk.Goals as goal
 
 pub returns-in_err-frame : goal.returns-in_err-frame
