@@ -1,4 +1,4 @@
-use Rattle.std.proofs.Common.{◌≡◌, ◌≤◌, length, ap, sym, subst, ◌∙◌, arith}
+use Rattle.std.proofs.Common.{◌≡◌, ◌≤◌, length, refl, ap, sym, subst, ◌∙◌, arith}
 use Rattle.std.proofs.lemmas.List.{length-map}
 use Rattle.segment_codec.specs.Packet.{packet_in}
 use Rattle.capture_reader.specs.CaptureFile.{last_time}
@@ -25,7 +25,7 @@ invariant_of-result g c =
     let most : last_time file.packets ≤ 9007199254740992 = omega (arith, last, c.last_time.ensures.most) in
     subst IsPlan (sym (made file c.args.verify c.as_slice.result.now _ _ _ _ _ (c.as_slice.ensures.value ∙ c.in_ok-packets.ensures.value) c.in_ok-tuples.ensures
     (c.sorted.view_is ∙ c.in_ok-sorted.ensures ∙ ap (λ l. sorted_of (length file.packets) file.cut c.in_ok-tuples.tuples.keys (seen_of file.packets l)) (c.as_slice-2.ensures.value ∙ sym c.as_slice.ensures.value))
-    (items_made (λ v. v.items) (last_time file.packets) c.last_time.result c.sorted.inside.lists.items c.as_slice-3.result.now _ c.in_ok-items.ensures c.as_slice-3.ensures.value c.last_time.ensures.value)))
+    (items_made (λ v. v.items) (last_time file.packets) c.last_time.result c.sorted.inside.lists.items _ _ c.in_ok-items.ensures refl c.last_time.ensures.value)))
     (is_plan file c.args.verify few most)
 
 pub returns : goal.returns
@@ -33,4 +33,4 @@ returns g c =
     let file = c.args.capture.now in
     made file c.args.verify c.as_slice.result.now _ _ _ _ _ (c.as_slice.ensures.value ∙ c.in_ok-packets.ensures.value) c.in_ok-tuples.ensures
     (c.sorted.view_is ∙ c.in_ok-sorted.ensures ∙ ap (λ l. sorted_of (length file.packets) file.cut c.in_ok-tuples.tuples.keys (seen_of file.packets l)) (c.as_slice-2.ensures.value ∙ sym c.as_slice.ensures.value))
-    (items_made (λ v. v.items) (last_time file.packets) c.last_time.result c.sorted.inside.lists.items c.as_slice-3.result.now _ c.in_ok-items.ensures c.as_slice-3.ensures.value c.last_time.ensures.value)
+    (items_made (λ v. v.items) (last_time file.packets) c.last_time.result c.sorted.inside.lists.items _ _ c.in_ok-items.ensures refl c.last_time.ensures.value)
