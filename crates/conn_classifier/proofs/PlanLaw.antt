@@ -153,14 +153,15 @@ length-after at (a ∷ arrived) =
     gap_by at (max at a.at) _ (λ l. length l ≤ 2 * length (a ∷ arrived)) (omega (arith, rest)) (omega (arith, rest))
 
 module _ (file : CaptureFile) (last : ℕ) where
-  rises_after : (at : ℕ) (arrived : List Arrival) → at ≤ last → last ≤ 9007199254740992 → AllByRecursion (IsIn file last) arrived
-      → Rises at 9007199254740992 (items_after at arrived ++ Time last ∷ [])
-  rises_after at [] le most h = (le, most)
-  rises_after at (a ∷ arrived) le most h =
-      let rest = rises_after (max at a.at) arrived (omega (arith, le, h.0.time)) most h.1 in
-      gap_by at (max at a.at) _ (λ l. Rises at 9007199254740992 (l ++ Time last ∷ [])) (omega arith, rest) (omega arith, (omega arith, rest))
+  pub rises_after : (at most : ℕ) (arrived : List Arrival) → at ≤ last → last ≤ most → AllByRecursion (IsIn file last) arrived
+      → Rises at most (items_after at arrived ++ Time last ∷ [])
+  rises_after at most [] le below h = (le, below)
+  rises_after at most (a ∷ arrived) le below h =
+      let rest = rises_after (max at a.at) most arrived (omega (arith, le, h.0.time)) below h.1 in
+      gap_by at (max at a.at) _ (λ l. Rises at most (l ++ Time last ∷ [])) (omega arith, rest) (omega arith, (omega arith, rest))
 
-  inside_after : (at : ℕ) (arrived : List Arrival) → AllByRecursion (IsIn file last) arrived → AllByRecursion (IsInside file) (items_after at arrived ++ Time last ∷ [])
+  pub inside_after : (at : ℕ) (arrived : List Arrival) → AllByRecursion (IsIn file last) arrived
+      → AllByRecursion (IsInside file) (items_after at arrived ++ Time last ∷ [])
   inside_after at [] h = (tt, tt)
   inside_after at (a ∷ arrived) h =
       let rest = inside_after (max at a.at) arrived h.1 in
@@ -179,7 +180,7 @@ module _ (file : CaptureFile) (last : ℕ) where
   items_are (a ∷ arrived) some few most h = record {
     some = omega arith;
     many = omega (arith, few, length-after a.at arrived, length-append (items_after a.at arrived) (Time last ∷ []));
-    rising = (omega arith, rises_after a.at arrived h.0.time most h.1);
+    rising = (omega arith, rises_after a.at 9007199254740992 arrived h.0.time most h.1);
     inside = ((h.0.record_number, h.0.text), inside_after a.at arrived h.1);
     spaced = spaced_after a.at arrived;
   }

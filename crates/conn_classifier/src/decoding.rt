@@ -1,6 +1,6 @@
 //! The packets of a capture, decoded in several threads.
 
-ghost use Rattle.std.specs.Prelude.{◌≡◌, ◌<◌, ◌≤◌, ◌^◌, IfOk, IfSome, length, slice_get, map};
+ghost use Rattle.std.specs.Prelude.{◌≡◌, ◌<◌, ◌≤◌, IfOk, IfSome, length, slice_get, map};
 ghost use Rattle.conn_classifier.specs.Connections.{decoded};
 ghost use Rattle.segment_codec.specs.Packet.{packet_in};
 

@@ -1,6 +1,6 @@
 //! The plan of a capture, as the layers above see it.
 
-ghost use Rattle.std.specs.Prelude.{◌≡◌, ℕ, ◌+◌, ◌<◌, ◌≤◌, ◌%◌, true, length, slice_get, get_or, IfSome, Some};
+ghost use Rattle.std.specs.Prelude.{◌≡◌, ℕ, ◌<◌, ◌≤◌, ◌%◌, true, length, slice_get, IfSome, Some};
 ghost use Rattle.conn_classifier.specs.Connections.{is_served_port};
 ghost use Rattle.conn_classifier.specs.Plan.{IsPlan, items_in, time_of, text_of, text_len_of};
 

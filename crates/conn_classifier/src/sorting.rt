@@ -1,10 +1,8 @@
 //! The records of a capture, sorted by connection and counted by class, in one pass.
 
-ghost use Rattle.std.specs.Prelude.{◌≡◌, ◌+◌, ◌<◌, ◌≤◌, length, map, replicate, IfOk, OnOk, Some, None, slice_get, [], ◌∷◌, ◌++◌, set, get_or};
-ghost use Rattle.indexmap.specs.IndexSet.{IsUnique};
-ghost use Rattle.conn_classifier.specs.Connections.{tuple_eq};
+ghost use Rattle.std.specs.Prelude.{◌≡◌, ◌+◌, ◌<◌, ◌≤◌, length, map, replicate, IfOk, OnOk, Some, None, [], ◌∷◌, ◌++◌, set, get_or};
 ghost use Rattle.conn_classifier.specs.Classes.{class_in, counts_of};
-ghost use Rattle.conn_classifier.specs.Sorting.{counted, total, place_in, with_record, sorted_of, seen_of};
+ghost use Rattle.conn_classifier.specs.Sorting.{counted, total, place_in, sorted_of, seen_of};
 
 use crate::kinds::{Arrival, Class, Counts};
 use crate::tuples::{is_served, served, tuple};

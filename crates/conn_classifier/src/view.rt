@@ -1,7 +1,7 @@
 //! The reading of a plan: what each call of `Plan` looks up, on borrows alone, so that a value that keeps a plan borrowed has
 //! one lifetime. It takes no memory.
 
-ghost use Rattle.std.specs.Prelude.{◌≡◌, ℕ, ◌<◌, ◌≤◌, true, length, slice_get, get_or, IfSome, Some};
+ghost use Rattle.std.specs.Prelude.{◌≡◌, ℕ, ◌<◌, ◌≤◌, true, length, slice_get, IfSome, Some};
 ghost use Rattle.conn_classifier.specs.Connections.{is_served_port};
 ghost use Rattle.conn_classifier.specs.Plan.{items_in, time_of, text_of, text_len_of};
 
