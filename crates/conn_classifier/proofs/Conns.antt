@@ -6,6 +6,7 @@ use Rattle.std.specs.List.{filter_map}
 use Rattle.sq_base.specs.declared.kinds.Tuple.{Tuple}
 use Rattle.segment_codec.specs.declared.packet.Packet.{Packet}
 use Rattle.indexmap.specs.IndexSet.{insert_key}
+use Rattle.conn_classifier.specs.Limits.{most_conns}
 use Rattle.conn_classifier.specs.Connections.{conns, distinct, served_tuple, tuple_eq}
 use Rattle.conn_classifier.proofs.Distinct.{distinct_push, take_insert, take_full}
 
@@ -30,21 +31,21 @@ push_some f (y ∷ ys) x t e = by (f y) refl (push_some f ys x t e)
 
 pub conns_none : (ps : List Packet) (p : Packet) → served_tuple p ≡ None → conns (ps ++ p ∷ []) ≡ conns ps
 unfolding conns
-conns_none ps p e = ap (λ l. take 4096 (distinct l)) (push_none served_tuple ps p e)
+conns_none ps p e = ap (λ l. take most_conns (distinct l)) (push_none served_tuple ps p e)
 
 grown : (ps : List Packet) (p : Packet) (t : Tuple) → served_tuple p ≡ Some t
     → distinct (filter_map served_tuple (ps ++ p ∷ [])) ≡ insert_key tuple_eq (distinct (filter_map served_tuple ps)) t
 grown ps p t e = ap distinct (push_some served_tuple ps p t e) ∙ distinct_push tuple_eq same distinct refl (λ x xs. refl) (filter_map served_tuple ps) t
 
-pub conns_some : (ps : List Packet) (p : Packet) (t : Tuple) → served_tuple p ≡ Some t → length (conns ps) < 4096
+pub conns_some : (ps : List Packet) (p : Packet) (t : Tuple) → served_tuple p ≡ Some t → length (conns ps) < most_conns
     → conns (ps ++ p ∷ []) ≡ insert_key tuple_eq (conns ps) t
 unfolding conns
-conns_some ps p t e lt = ap (take 4096) (grown ps p t e) ∙ take_insert tuple_eq same 4096 (distinct (filter_map served_tuple ps)) t lt
+conns_some ps p t e lt = ap (take most_conns) (grown ps p t e) ∙ take_insert tuple_eq same most_conns (distinct (filter_map served_tuple ps)) t lt
 
-pub conns_full : (ps : List Packet) (p : Packet) (t : Tuple) → served_tuple p ≡ Some t → (length (conns ps) < 4096 → ⊥)
+pub conns_full : (ps : List Packet) (p : Packet) (t : Tuple) → served_tuple p ≡ Some t → (length (conns ps) < most_conns → ⊥)
     → conns (ps ++ p ∷ []) ≡ conns ps
 unfolding conns
-conns_full ps p t e full = ap (take 4096) (grown ps p t e) ∙ take_full tuple_eq same 4096 (distinct (filter_map served_tuple ps)) t full
+conns_full ps p t e full = ap (take most_conns) (grown ps p t e) ∙ take_full tuple_eq same most_conns (distinct (filter_map served_tuple ps)) t full
 
 pub conns_nil : conns [] ≡ []
 unfolding conns
@@ -58,15 +59,15 @@ module _ (ps : List Packet) (i : ℕ) (d : Packet) (lt : i < length ps) (keys : 
   pub turn_none : served_tuple (get_or ps i d) ≡ None → keys ≡ conns (take (i + 1) ps)
   turn_none e = so_far ∙ sym (more ∙ conns_none (take i ps) (get_or ps i d) e)
 
-  pub turn_some : (t : Tuple) → served_tuple (get_or ps i d) ≡ Some t → length keys < 4096 → insert_key tuple_eq keys t ≡ conns (take (i + 1) ps)
+  pub turn_some : (t : Tuple) → served_tuple (get_or ps i d) ≡ Some t → length keys < most_conns → insert_key tuple_eq keys t ≡ conns (take (i + 1) ps)
   turn_some t e few =
-      let room : length (conns (take i ps)) < 4096 = subst (λ l. length l < 4096) so_far few in
+      let room : length (conns (take i ps)) < most_conns = subst (λ l. length l < most_conns) so_far few in
       ap (λ l. insert_key tuple_eq l t) so_far ∙ sym (more ∙ conns_some (take i ps) (get_or ps i d) t e room)
 
-  pub turn_full : (t : Tuple) → served_tuple (get_or ps i d) ≡ Some t → 4096 ≤ length keys → keys ≡ conns (take (i + 1) ps)
+  pub turn_full : (t : Tuple) → served_tuple (get_or ps i d) ≡ Some t → most_conns ≤ length keys → keys ≡ conns (take (i + 1) ps)
   turn_full t e full =
-      let none : length (conns (take i ps)) < 4096 → ⊥ = λ room. below (subst (λ l. 4096 ≤ length l) so_far full) room in
+      let none : length (conns (take i ps)) < most_conns → ⊥ = λ room. below (subst (λ l. most_conns ≤ length l) so_far full) room in
       so_far ∙ sym (more ∙ conns_full (take i ps) (get_or ps i d) t e none)
     where
-      below : {n : ℕ} → 4096 ≤ n → n < 4096 → ⊥
+      below : {n : ℕ} → most_conns ≤ n → n < most_conns → ⊥
       below a b = omega arith

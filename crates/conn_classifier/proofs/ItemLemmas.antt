@@ -4,6 +4,7 @@ use Rattle.std.proofs.lemmas.List.{drop_more}
 use Rattle.conn_classifier.specs.declared.kinds.Arrival.{Arrival}
 use Rattle.conn_classifier.specs.declared.kinds.Item.{Item}
 use Rattle.conn_classifier.specs.declared.kinds.Item.TheVariants.{Time, Segment}
+use Rattle.conn_classifier.specs.Limits.{least_gap}
 use Rattle.conn_classifier.specs.Items.{hint, gap, items_after}
 use Rattle.conn_classifier.specs.Hints.{hints_of}
 
@@ -52,8 +53,8 @@ turn_made xs i d last made end whole iss lt so_far e at two three is_at is_two i
 
 -- with the time item of a gap before them, or without
 pub gap_by : (last at : ℕ) (xs : List Item) (P : List Item → Type 0) → P xs → P (Time at ∷ xs) → P (gap last at ++ xs)
-gap_by last at xs P none some = by (nat_le (last + 100000) at) refl
+gap_by last at xs P none some = by (nat_le (last + least_gap) at) refl
   where
-    by : (b : Bool) → nat_le (last + 100000) at ≡ b → P (gap last at ++ xs)
+    by : (b : Bool) → nat_le (last + least_gap) at ≡ b → P (gap last at ++ xs)
     by true e = rw e some
     by false e = rw e none

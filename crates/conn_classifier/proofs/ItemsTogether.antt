@@ -4,9 +4,11 @@ use Rattle.std.specs.List.{AllByRecursion}
 use Rattle.std.proofs.lemmas.Bool.Decides.{nat_tests}
 use Rattle.std.proofs.lemmas.List.{length-map}
 use Rattle.std.proofs.lemmas.List.Sums.{sum_by-cons}
+use Rattle.capture_reader.specs.Limits.{most_records}
 use Rattle.capture_reader.specs.Outcome.{CaptureFile}
 use Rattle.conn_classifier.specs.declared.kinds.Item.{Item}
 use Rattle.conn_classifier.specs.declared.kinds.Item.TheVariants.{Time, Segment}
+use Rattle.conn_classifier.specs.Limits.{most_conns}
 use Rattle.conn_classifier.specs.Plan.{PlanOf, IsPlan, IsItems, IsSpaced, records_of, items_together}
 use Rattle.conn_classifier.proofs.PlanLaw.{length-filter_le}
 
@@ -50,7 +52,7 @@ few_from file places k (xs ∷ xss) all each =
     let here : length (records_of xs) ≡ length (of_one k places) = each 0 (omega arith) ∙ ap (λ n. length (of_one n places)) (omega arith) in
     omega (arith, rest, here, spaced_few xs all.0.spaced, split_at k places, sum_by-cons (λ (ys : List Item). length ys) xs xss)
 
-pub few_together : (p : PlanOf) → IsPlan p → items_together p ≤ 2 * 1048576 + 4096
+pub few_together : (p : PlanOf) → IsPlan p → items_together p ≤ 2 * most_records + most_conns
 few_together p is =
     let places = is.ordered.places in
     let each : (c : ℕ) → c < length p.items → length (records_of (get_or p.items c [])) ≡ length (of_one (0 + c) places)

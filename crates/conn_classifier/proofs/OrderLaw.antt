@@ -8,6 +8,7 @@ use Rattle.sq_base.specs.declared.kinds.Tuple.{Tuple}
 use Rattle.segment_codec.specs.declared.packet.Packet.{Packet}
 use Rattle.segment_codec.specs.declared.packet.Seg.{Seg}
 use Rattle.segment_codec.specs.Packet.{packet_in}
+use Rattle.capture_reader.specs.Limits.{most_records}
 use Rattle.capture_reader.specs.CaptureFile.{last_time}
 use Rattle.capture_reader.specs.Outcome.{CaptureFile}
 use Rattle.conn_classifier.specs.declared.kinds.Arrival.{Arrival}
@@ -161,7 +162,7 @@ records_items last (a ∷ arrived) = ap (λ l. a.rec ∷ l) (records_after last 
 nobody : Tuple
 nobody = record { client = record { 0 = 0 }; client_port = 0; server = record { 0 = 0 }; server_port = 0 }
 
-pub is_ordered : (file : CaptureFile) (verify : Bool) → length file.packets ≤ 1048576 → IsDistinct tuple_eq (conns (decoded file verify)) → IsOrdered (plan_of file verify)
+pub is_ordered : (file : CaptureFile) (verify : Bool) → length file.packets ≤ most_records → IsDistinct tuple_eq (conns (decoded file verify)) → IsOrdered (plan_of file verify)
 unfolding plan_of order_of conn_items of_conn
 is_ordered file verify few apart =
     let ts = conns (decoded file verify) in

@@ -9,6 +9,8 @@ use Rattle.segment_codec.specs.declared.packet.Seg.{Seg}
 use Rattle.segment_codec.specs.Packet.{packet_in}
 use Rattle.capture_reader.specs.CaptureFile.{Packet as Captured, last_time}
 use Rattle.capture_reader.specs.Outcome.{CaptureFile}
+use Rattle.capture_reader.specs.Limits.{latest_time, most_records}
+use Rattle.conn_classifier.specs.Limits.{most_conns}
 use Rattle.conn_classifier.specs.declared.kinds.Arrival.{Arrival}
 use Rattle.conn_classifier.specs.declared.kinds.Item.{Item}
 use Rattle.conn_classifier.specs.declared.kinds.Item.TheVariants.{Time}
@@ -153,14 +155,15 @@ length-after at (a ∷ arrived) =
     gap_by at (max at a.at) _ (λ l. length l ≤ 2 * length (a ∷ arrived)) (omega (arith, rest)) (omega (arith, rest))
 
 module _ (file : CaptureFile) (last : ℕ) where
-  rises_after : (at : ℕ) (arrived : List Arrival) → at ≤ last → last ≤ 9007199254740992 → AllByRecursion (IsIn file last) arrived
-      → Rises at 9007199254740992 (items_after at arrived ++ Time last ∷ [])
-  rises_after at [] le most h = (le, most)
-  rises_after at (a ∷ arrived) le most h =
-      let rest = rises_after (max at a.at) arrived (omega (arith, le, h.0.time)) most h.1 in
-      gap_by at (max at a.at) _ (λ l. Rises at 9007199254740992 (l ++ Time last ∷ [])) (omega arith, rest) (omega arith, (omega arith, rest))
+  pub rises_after : (at most : ℕ) (arrived : List Arrival) → at ≤ last → last ≤ most → AllByRecursion (IsIn file last) arrived
+      → Rises at most (items_after at arrived ++ Time last ∷ [])
+  rises_after at most [] le below h = (le, below)
+  rises_after at most (a ∷ arrived) le below h =
+      let rest = rises_after (max at a.at) most arrived (omega (arith, le, h.0.time)) below h.1 in
+      gap_by at (max at a.at) _ (λ l. Rises at most (l ++ Time last ∷ [])) (omega arith, rest) (omega arith, (omega arith, rest))
 
-  inside_after : (at : ℕ) (arrived : List Arrival) → AllByRecursion (IsIn file last) arrived → AllByRecursion (IsInside file) (items_after at arrived ++ Time last ∷ [])
+  pub inside_after : (at : ℕ) (arrived : List Arrival) → AllByRecursion (IsIn file last) arrived
+      → AllByRecursion (IsInside file) (items_after at arrived ++ Time last ∷ [])
   inside_after at [] h = (tt, tt)
   inside_after at (a ∷ arrived) h =
       let rest = inside_after (max at a.at) arrived h.1 in
@@ -173,13 +176,13 @@ module _ (file : CaptureFile) (last : ℕ) where
       let rest = spaced_after (max at a.at) arrived in
       gap_by at (max at a.at) _ (λ l. IsSpaced (l ++ Time last ∷ [])) rest rest
 
-  pub items_are : (arrived : List Arrival) → 0 < length arrived → length arrived ≤ 1048576 → last ≤ 9007199254740992 → AllByRecursion (IsIn file last) arrived
+  pub items_are : (arrived : List Arrival) → 0 < length arrived → length arrived ≤ most_records → last ≤ latest_time → AllByRecursion (IsIn file last) arrived
       → IsItems file (items_of last arrived)
   items_are [] some few most h = absurd (let no : ⊥ = omega arith in no)
   items_are (a ∷ arrived) some few most h = record {
     some = omega arith;
     many = omega (arith, few, length-after a.at arrived, length-append (items_after a.at arrived) (Time last ∷ []));
-    rising = (omega arith, rises_after a.at arrived h.0.time most h.1);
+    rising = (omega arith, rises_after a.at latest_time arrived h.0.time most h.1);
     inside = ((h.0.record_number, h.0.text), inside_after a.at arrived h.1);
     spaced = spaced_after a.at arrived;
   }
@@ -215,9 +218,9 @@ seen_is file verify = over file.packets
     over [] = refl
     over (r ∷ rs) = ap (λ l. (r.time, packet_in file.link r.body verify) ∷ l) (over rs)
 
-pub few_conns : (ps : List Packet) → length (conns ps) ≤ 4096
+pub few_conns : (ps : List Packet) → length (conns ps) ≤ most_conns
 unfolding conns
-few_conns ps = omega (arith, length-take 4096 (distinct (filter_map served_tuple ps)))
+few_conns ps = omega (arith, length-take most_conns (distinct (filter_map served_tuple ps)))
 
 -- the connections are different
 pub apart_filter : (p : Tuple → Bool) (ts : List Tuple) → IsDistinct tuple_eq ts → IsDistinct tuple_eq (filter p ts)
@@ -258,13 +261,13 @@ apart_distinct (t ∷ ts) = (all_others t (distinct ts), apart_filter (λ u. not
 
 pub apart_conns : (ps : List Packet) → IsDistinct tuple_eq (conns ps)
 unfolding conns
-apart_conns ps = apart_take 4096 (distinct (filter_map served_tuple ps)) (apart_distinct (filter_map served_tuple ps))
+apart_conns ps = apart_take most_conns (distinct (filter_map served_tuple ps)) (apart_distinct (filter_map served_tuple ps))
 
-module _ (file : CaptureFile) (verify : Bool) (few : length file.packets ≤ 1048576) (most : last_time file.packets ≤ 9007199254740992) where
+module _ (file : CaptureFile) (verify : Bool) (few : length file.packets ≤ most_records) (most : last_time file.packets ≤ latest_time) where
   all_are_conns : AllByRecursion (IsConn (arrivals 0 (seen file verify))) (conns (decoded file verify))
   unfolding conns
   all_are_conns =
-      all_take _ 4096 _ (all_distinct _ _ (subst (λ ps. AllByRecursion (IsConn (arrivals 0 (seen file verify))) (filter_map served_tuple ps))
+      all_take _ most_conns _ (all_distinct _ _ (subst (λ ps. AllByRecursion (IsConn (arrivals 0 (seen file verify))) (filter_map served_tuple ps))
       (seen_packets file verify) (all_conns 0 (seen file verify))))
 
   all_are_in : AllByRecursion (IsIn file (last_time file.packets)) (arrivals 0 (seen file verify))

@@ -8,6 +8,7 @@ use Rattle.segment_codec.specs.declared.packet.Packet.{Packet}
 use Rattle.segment_codec.specs.declared.packet.Packet.TheVariants as packet
 use Rattle.segment_codec.specs.declared.packet.Seg.{Seg}
 use Rattle.segment_codec.specs.Packet.{packet_in}
+use Rattle.conn_classifier.specs.Limits.{discard_port, echo_port, most_conns}
 
 -- what each record of a capture holds
 abbrev pub decoded : CaptureFile → Bool → List Packet
@@ -15,7 +16,7 @@ decoded file verify = map (λ r. packet_in file.link r.body verify) file.packets
 
 -- echo (RFC 862) and discard (RFC 863)
 abbrev pub is_served_port : ℕ → Bool
-is_served_port n = (n == 7) || (n == 9)
+is_served_port n = (n == echo_port) || (n == discard_port)
 
 -- the connection of a segment: its source is the client, its destination the server
 abbrev pub tuple_of : Seg → Tuple
@@ -47,4 +48,4 @@ distinct [] = []
 distinct (t ∷ ts) = t ∷ filter (λ u. not (tuple_eq u t)) (distinct ts)
 
 unfoldable pub conns : List Packet → List Tuple
-conns ps = take 4096 (distinct (filter_map served_tuple ps))
+conns ps = take most_conns (distinct (filter_map served_tuple ps))

@@ -5,6 +5,7 @@ use Rattle.std.specs.Option.{option_map_or}
 use Rattle.sq_base.specs.declared.kinds.Tuple.{Tuple}
 use Rattle.segment_codec.specs.declared.packet.Packet.{Packet}
 use Rattle.segment_codec.specs.declared.packet.Seg.{Seg}
+use Rattle.conn_classifier.specs.Limits.{least_gap}
 use Rattle.conn_classifier.specs.Connections.{served_in, tuple_of, tuple_eq}
 use Rattle.conn_classifier.specs.declared.kinds.Item.{Item}
 use Rattle.conn_classifier.specs.declared.kinds.Item.TheVariants.{Time, Segment}
@@ -54,7 +55,7 @@ hint s later = if syn s then looked s.seq later else 0
 
 -- the time item before a segment that comes at least 100,000 microseconds after the last one
 abbrev pub gap : ℕ → ℕ → List Item
-gap last at = if nat_le (last + 100000) at then Time at ∷ [] else []
+gap last at = if nat_le (last + least_gap) at then Time at ∷ [] else []
 
 -- the items of the segments behind one of this time
 abbrev pub items_after : ℕ → List Arrival → List Item

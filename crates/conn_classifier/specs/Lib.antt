@@ -1,3 +1,4 @@
+pub mod Limits
 pub mod Connections
 pub mod Classes
 pub mod Items

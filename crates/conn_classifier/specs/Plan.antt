@@ -5,8 +5,9 @@ use Rattle.std.specs.Option.{option_map_or}
 use Rattle.sq_base.specs.declared.kinds.Tuple.{Tuple}
 use Rattle.segment_codec.specs.Packet.{packet_in}
 use Rattle.capture_reader.specs.CaptureFile.{last_time}
-use Rattle.capture_reader.specs.Limits.{most_records}
+use Rattle.capture_reader.specs.Limits.{latest_time, most_records}
 use Rattle.capture_reader.specs.Outcome.{CaptureFile}
+use Rattle.conn_classifier.specs.Limits.{most_conns, most_items}
 use Rattle.conn_classifier.specs.Connections.{conns, decoded, is_served_port}
 use Rattle.conn_classifier.specs.Classes.{class_in, counts_of}
 use Rattle.conn_classifier.specs.Items.{Seen, conn_items}
@@ -87,8 +88,8 @@ Climbs least (x ∷ xs) = (least ≤ x) × Climbs x xs
 -- the items of one connection: there is one, their times rise, and their texts are in the capture
 pub record IsItems (file : CaptureFile) (xs : List Item) : Type 0 where
   pub some : 0 < length xs
-  pub many : length xs ≤ 2097153
-  pub rising : Rises 0 9007199254740992 xs
+  pub many : length xs ≤ most_items
+  pub rising : Rises 0 latest_time xs
   pub inside : AllByRecursion (IsInside file) xs
   pub spaced : IsSpaced xs
 
@@ -104,7 +105,7 @@ pub record IsOrdered (p : PlanOf) : Type 0 where
 
 -- what holds of every plan
 pub record IsPlan (p : PlanOf) : Type 0 where
-  pub few : length p.tuples ≤ 4096
+  pub few : length p.tuples ≤ most_conns
   pub listed : length p.items ≡ length p.tuples
   pub served : AllByRecursion (λ t. is_served_port t.server_port ≡ true) p.tuples
   pub each : AllByRecursion (IsItems p.file) p.items

@@ -1,4 +1,5 @@
--- What a ring brings, and in which order: the items of its connections in record order, a time item just before its segment, and then the last time items by connection.
+-- What a ring brings, and in which order: the items of its connections in record order, a time item just before its segment, and then
+-- the last time items by connection.
 use Rattle.std.specs.Prelude.{ℕ, ◌≡◌, ◌==◌, ◌-◌, ◌<◌, ◌%◌, List, [], ◌∷◌, ◌++◌, drop, filter, length, map, suc, if◌then◌else◌}
 use Rattle.std.specs.List.{AllByRecursion, range_with_len}
 use Rattle.perimeter_core.specs.declared.entries.Feed.{Feed}

@@ -1,7 +1,7 @@
 //! The hints of a connection's segments.
 
-ghost use Rattle.std.specs.Prelude.{◌≡◌, List, ◌∷◌, IfOk, if◌then◌else◌};
-ghost use Rattle.conn_classifier.specs.Items.{syn, rst, ack, hint};
+ghost use Rattle.std.specs.Prelude.{◌≡◌, List, ◌∷◌, IfOk};
+ghost use Rattle.conn_classifier.specs.Items.{ack, hint};
 ghost use Rattle.conn_classifier.specs.Hints.{hints_of, said, IsAhead};
 
 use crate::kinds::Arrival;

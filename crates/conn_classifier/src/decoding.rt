@@ -1,6 +1,7 @@
 //! The packets of a capture, decoded in several threads.
 
-ghost use Rattle.std.specs.Prelude.{◌≡◌, ◌<◌, ◌≤◌, ◌^◌, IfOk, IfSome, length, slice_get, map};
+ghost use Rattle.std.specs.Prelude.{◌≡◌, ◌<◌, ◌≤◌, IfOk, IfSome, length, slice_get, map};
+ghost use Rattle.capture_reader.specs.Limits.{most_records};
 ghost use Rattle.conn_classifier.specs.Connections.{decoded};
 ghost use Rattle.segment_codec.specs.Packet.{packet_in};
 
@@ -18,7 +19,7 @@ pub fn decode_all(
     verify: bool,
 ) -> Result<Vec<Packet>, AllocError>
     ensures value { IfOk result (λ v. v.items ≡ decoded capture.now verify) }
-    ensures most { IfOk result (λ v. length v.items ≤ 1048576) }
+    ensures most { IfOk result (λ v. length v.items ≤ most_records) }
 {
     (0..capture.len())
         .into_par_iter()

@@ -3,20 +3,21 @@
 ghost use Rattle.std.specs.Prelude.{ℕ, ◌≡◌, ◌+◌, ◌*◌, ◌<◌, ◌≤◌, Bool, length};
 ghost use Rattle.capture_reader.specs.CaptureFile.{last_time};
 ghost use Rattle.capture_reader.specs.Outcome.{CaptureFile};
-ghost use Rattle.capture_reader.specs.Limits.{most_records};
+ghost use Rattle.capture_reader.specs.Limits.{latest_time, most_records};
+ghost use Rattle.conn_classifier.specs.Limits.{most_conns};
 ghost use Rattle.conn_classifier.specs.Sorting.{total};
 ghost use Rattle.conn_classifier.specs.Plan.{PlanOf, IsPlan, items_in, items_together, plan_of, Rises};
 
 /// The times of a connection's items never fall and are at most 9,007,199,254,740,992 microseconds, where the capture keeps
 /// the reader's bounds on records and times.
 pub fn times_never_fall()
-    ensures { (file : CaptureFile) (verify : Bool) (c : ℕ) → length file.packets ≤ 1048576 → last_time file.packets ≤ 9007199254740992
-        → c < length (plan_of file verify).tuples → Rises 0 9007199254740992 (items_in (plan_of file verify) c) }
+    ensures { (file : CaptureFile) (verify : Bool) (c : ℕ) → length file.packets ≤ most_records → last_time file.packets ≤ latest_time
+        → c < length (plan_of file verify).tuples → Rises 0 latest_time (items_in (plan_of file verify) c) }
 {}
 
 /// All connections together have at most two items a record, and one more each.
 pub fn all_items_are_few()
-    ensures { (p : PlanOf) → IsPlan p → items_together p ≤ 2 * most_records + 4096 }
+    ensures { (p : PlanOf) → IsPlan p → items_together p ≤ 2 * most_records + most_conns }
 {}
 
 /// Each record counts as exactly one class.

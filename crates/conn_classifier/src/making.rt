@@ -15,9 +15,13 @@ use capture_reader::Capture;
 use std::alloc::{AllocError, Global};
 use std::thread::Threads;
 
-/// The items of each list of segments, where this is the greatest time of all records.
-fn all_items(alloc: Global, last: u64, lists: &[Vec<Arrival>]) -> Result<Vec<Vec<Item>>, AllocError>
-    ensures { IfOk result (λ v. map (λ x. x.items) v.items ≡ map (λ l. items_of last l.items) lists.now) }
+/// The items of each list of segments, where this is the greatest time of all records. A list is freed as soon as its items are made.
+fn all_items(
+    alloc: Global,
+    last: u64,
+    lists: Vec<Vec<Arrival>>,
+) -> Result<Vec<Vec<Item>>, AllocError>
+    ensures { IfOk result (λ v. map (λ x. x.items) v.items ≡ map (λ l. items_of last l.items) lists.items) }
 {
     let mut items = Vec::with_capacity(alloc, lists.len())?;
     for list in lists {
@@ -40,7 +44,9 @@ pub fn plan<'c>(
     let packets = decode_all(rt, alloc, capture, verify)?;
     let tuples = tuples_of(alloc, packets.as_slice())?;
     let sorted = sort(alloc, capture, &tuples, packets.as_slice())?;
-    let items = all_items(alloc, capture.last_time(), sorted.lists.as_slice())?;
+    // Segments are kept once: the packets are freed before there are items.
+    drop(packets);
+    let items = all_items(alloc, capture.last_time(), sorted.lists)?;
     Ok(Plan {
         capture,
         table: Table {

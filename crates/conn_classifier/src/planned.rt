@@ -1,6 +1,8 @@
 //! The plan of a capture, as the layers above see it.
 
-ghost use Rattle.std.specs.Prelude.{◌≡◌, ℕ, ◌+◌, ◌<◌, ◌≤◌, ◌%◌, true, length, slice_get, get_or, IfSome, Some};
+ghost use Rattle.std.specs.Prelude.{◌≡◌, ℕ, ◌<◌, ◌≤◌, ◌%◌, true, length, slice_get, IfSome, Some};
+ghost use Rattle.capture_reader.specs.Limits.{latest_time};
+ghost use Rattle.conn_classifier.specs.Limits.{most_conns, most_items};
 ghost use Rattle.conn_classifier.specs.Connections.{is_served_port};
 ghost use Rattle.conn_classifier.specs.Plan.{IsPlan, items_in, time_of, text_of, text_len_of};
 
@@ -72,7 +74,7 @@ impl<'c> Plan<'c> {
     /// How many connections there are.
     pub fn conns(&self) -> u32
         ensures value { result ≡ length self.now.tuples }
-        ensures most { result ≤ 4096 }
+        ensures most { result ≤ most_conns }
     {
         self.view().conns()
     }
@@ -98,7 +100,7 @@ impl<'c> Plan<'c> {
         requires { c < length self.now.tuples }
         ensures value { result ≡ length (items_in self.now c) }
         ensures some { 0 < result }
-        ensures most { result ≤ 2097153 }
+        ensures most { result ≤ most_items }
     {
         self.view().items(c)
     }
@@ -126,7 +128,7 @@ impl<'c> Plan<'c> {
         requires conn { c < length self.now.tuples }
         requires item { n < length (items_in self.now c) }
         ensures value { slice_get (items_in self.now c) n ≡ Some result }
-        ensures most { time_of result ≤ 9007199254740992 }
+        ensures most { time_of result ≤ latest_time }
         ensures rises { (m : ℕ) → m ≤ n → IfSome (slice_get (items_in self.now c) m) (λ before. time_of before ≤ time_of result) }
     {
         self.view().item(c, n)

@@ -1,6 +1,7 @@
 //! The feeds of a ring, in the order in which the ring brings them.
 
 ghost use Rattle.std.specs.Prelude.{◌≡◌, ◌+◌, ◌<◌, ◌≤◌, ◌++◌, IfOk, OnOk, drop, length};
+ghost use Rattle.conn_classifier.specs.Limits.{most_items};
 ghost use Rattle.conn_classifier.specs.Plan.{items_in, records_of, IsSpaced};
 ghost use Rattle.conn_classifier.specs.RingList.{feeds, to_segment, IsFront, IsRingList};
 
@@ -49,7 +50,7 @@ impl<'c> Plan<'c> {
     /// number of the item behind it.
     fn bring(&self, list: &mut Vec<Feed>, c: u32, n: u32) -> Result<u32, AllocError>
         requires conn { c < length self.now.tuples }
-        requires few { length (items_in self.now c) ≤ 2097153 }
+        requires few { length (items_in self.now c) ≤ most_items }
         requires spaced { IsSpaced (drop n (items_in self.now c)) }
         requires segment { 0 < length (records_of (drop n (items_in self.now c))) }
         ensures next { IfOk result (λ m. m ≡ n + to_segment (drop n (items_in self.now c))) }

@@ -1,10 +1,9 @@
 //! The records of a capture, sorted by connection and counted by class, in one pass.
 
-ghost use Rattle.std.specs.Prelude.{◌≡◌, ◌+◌, ◌<◌, ◌≤◌, length, map, replicate, IfOk, OnOk, Some, None, slice_get, [], ◌∷◌, ◌++◌, set, get_or};
-ghost use Rattle.indexmap.specs.IndexSet.{IsUnique};
-ghost use Rattle.conn_classifier.specs.Connections.{tuple_eq};
+ghost use Rattle.std.specs.Prelude.{◌≡◌, ◌+◌, ◌<◌, ◌≤◌, length, map, replicate, IfOk, OnOk, Some, None, [], ◌∷◌, ◌++◌, set, get_or};
+ghost use Rattle.conn_classifier.specs.Limits.{most_conns};
 ghost use Rattle.conn_classifier.specs.Classes.{class_in, counts_of};
-ghost use Rattle.conn_classifier.specs.Sorting.{counted, total, place_in, with_record, sorted_of, seen_of};
+ghost use Rattle.conn_classifier.specs.Sorting.{counted, total, place_in, sorted_of, seen_of};
 
 use crate::kinds::{Arrival, Class, Counts};
 use crate::tuples::{is_served, served, tuple};
@@ -104,7 +103,7 @@ impl Sorted {
     /// One more segment, of connection `c`.
     fn add(&mut self, c: usize, arrival: Arrival) -> Result<(), AllocError>
         requires within { c < length self.old.lists }
-        requires few { c < 4096 }
+        requires few { c < most_conns }
         requires room { total self.old.counts < 4294967295 }
         ensures { OnOk result (self.new ≡ record self.old {
           lists = set self.old.lists c (get_or self.old.lists c [] ++ arrival ∷ []);
@@ -144,7 +143,7 @@ pub fn sort(
     packets: &[Packet],
 ) -> Result<Sorted, AllocError>
     requires all { length packets.now ≡ length capture.now.packets }
-    requires few { length tuples.now.keys ≤ 4096 }
+    requires few { length tuples.now.keys ≤ most_conns }
     ensures { IfOk result (λ s. s ≡ sorted_of (length capture.now.packets) capture.now.cut tuples.now.keys (seen_of capture.now.packets packets.now)) }
 {
     let mut sorted = Sorted {

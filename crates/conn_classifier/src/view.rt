@@ -1,7 +1,9 @@
 //! The reading of a plan: what each call of `Plan` looks up, on borrows alone, so that a value that keeps a plan borrowed has
 //! one lifetime. It takes no memory.
 
-ghost use Rattle.std.specs.Prelude.{◌≡◌, ℕ, ◌<◌, ◌≤◌, true, length, slice_get, get_or, IfSome, Some};
+ghost use Rattle.std.specs.Prelude.{◌≡◌, ℕ, ◌<◌, ◌≤◌, true, length, slice_get, IfSome, Some};
+ghost use Rattle.capture_reader.specs.Limits.{latest_time};
+ghost use Rattle.conn_classifier.specs.Limits.{most_conns, most_items};
 ghost use Rattle.conn_classifier.specs.Connections.{is_served_port};
 ghost use Rattle.conn_classifier.specs.Plan.{items_in, time_of, text_of, text_len_of};
 
@@ -45,7 +47,7 @@ impl<'p> PlanView<'p> {
     /// How many connections there are.
     pub fn conns(&self) -> u32
         ensures value { result ≡ length self.now.tuples }
-        ensures most { result ≤ 4096 }
+        ensures most { result ≤ most_conns }
     {
         self.table.tuples.len() as u32
     }
@@ -67,7 +69,7 @@ impl<'p> PlanView<'p> {
         requires { c < length self.now.tuples }
         ensures value { result ≡ length (items_in self.now c) }
         ensures some { 0 < result }
-        ensures most { result ≤ 2097153 }
+        ensures most { result ≤ most_items }
     {
         self.table.items[c as usize].len() as u32
     }
@@ -77,7 +79,7 @@ impl<'p> PlanView<'p> {
         requires conn { c < length self.now.tuples }
         requires item { n < length (items_in self.now c) }
         ensures value { slice_get (items_in self.now c) n ≡ Some result }
-        ensures most { time_of result ≤ 9007199254740992 }
+        ensures most { time_of result ≤ latest_time }
         ensures rises { (m : ℕ) → m ≤ n → IfSome (slice_get (items_in self.now c) m) (λ before. time_of before ≤ time_of result) }
     {
         self.table.items[c as usize][n as usize]

@@ -8,9 +8,9 @@ use Rattle.conn_classifier.specs.Connections.{tuple_eq}
 use Rattle.stream_plan.specs.declared.kinds.Arrived.{Arrived}
 use Rattle.stream_plan.specs.Streams.{is_among, is_of, of_stream, tuple_of}
 use Rattle.stream_plan.specs.Sorting.{SortedOf, sorted_of}
+use Rattle.conn_classifier.proofs.Conns.{same}
 use Rattle.conn_classifier.proofs.Distinct.{filter_push}
 use Rattle.conn_classifier.proofs.OneKey.{grown_none, grown_some, none_any, some_any}
-use Rattle.stream_plan.proofs.TupleSteps.{same}
 
 -- how many pass, one element further
 count_true : {X : Type 0} (p : X → Bool) (xs : List X) (x : X) → p x ≡ true → length (filter p (xs ++ x ∷ [])) ≡ length (filter p xs) + 1

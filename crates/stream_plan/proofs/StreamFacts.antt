@@ -12,6 +12,8 @@ use Rattle.udp_codec.specs.declared.datagram.Udp.{Udp}
 use Rattle.udp_codec.specs.UdpDatagram.{udp_in}
 use Rattle.conn_classifier.specs.Items.{items_of}
 use Rattle.conn_classifier.specs.Plan.{Climbs}
+use Rattle.conn_classifier.proofs.Conns.{same}
+use Rattle.conn_classifier.proofs.PlanLaw.{IsIn}
 use Rattle.conn_classifier.proofs.TextWithin.{EndsWithin, text_within}
 use Rattle.stream_plan.specs.declared.kinds.Arrived.{Arrived}
 use Rattle.stream_plan.specs.declared.kinds.Datagram.{Datagram}
@@ -19,8 +21,7 @@ use Rattle.stream_plan.specs.declared.kinds.Found.{Found}
 use Rattle.stream_plan.specs.declared.kinds.Found.TheVariants as found
 use Rattle.stream_plan.specs.Streams.{arrived_from, datagrams_of, is_of, of_stream, rising, segments_of, served_in, served_tcp, served_udp, stream_in, tuple_of}
 use Rattle.stream_plan.specs.Sound.{HasService, HasText, IsStream}
-use Rattle.stream_plan.proofs.ItemFacts.{IsIn, items_inside, items_rise, some_items}
-use Rattle.stream_plan.proofs.TupleSteps.{same}
+use Rattle.stream_plan.proofs.ItemFacts.{items_inside, items_rise, some_items}
 use Rattle.stream_plan.proofs.UdpText.{udp_within}
 
 -- a datagram goes to echo or discard, a segment to the generator

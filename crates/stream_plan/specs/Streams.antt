@@ -1,5 +1,7 @@
--- The streams of a capture: echo and discard over UDP (RFC 862, RFC 863) and the character generator over TCP, by first appearance, at most 4,096, each with its items.
-use Rattle.std.specs.Prelude.{ℕ, ◌+◌, ◌-◌, ◌==◌, ◌||◌, not, max, Bool, false, List, [], ◌∷◌, ◌++◌, take, map, filter, length, Option, None, Some, suc, if◌then◌else◌}
+-- The streams of a capture: echo and discard over UDP (RFC 862, RFC 863) and the character generator over TCP, by first appearance,
+-- at most 4,096, each with its items.
+use Rattle.std.specs.Prelude.{ℕ, ◌+◌, ◌-◌, ◌==◌, ◌||◌, not, max, Bool, false}
+use Rattle.std.specs.Prelude.{List, [], ◌∷◌, ◌++◌, take, map, filter, length, Option, None, Some, suc, if◌then◌else◌}
 use Rattle.std.specs.List.{filter_map, list_any}
 use Rattle.sq_base.specs.declared.kinds.Link.{Link}
 use Rattle.sq_base.specs.declared.kinds.Tuple.{Tuple}

@@ -1,6 +1,6 @@
 //! The streams: the different pairs of ends, by first appearance.
 
-ghost use Rattle.std.specs.Prelude.{◌≡◌, ◌≤◌, length, IfOk};
+ghost use Rattle.std.specs.Prelude.{◌≡◌, IfOk};
 ghost use Rattle.stream_plan.specs.Streams.{tuples_in};
 
 use crate::finding::tuple_of;

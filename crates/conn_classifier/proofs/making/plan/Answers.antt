@@ -1,7 +1,8 @@
-use Rattle.std.proofs.Common.{◌≡◌, ◌≤◌, length, ap, sym, subst, ◌∙◌, arith}
+use Rattle.std.proofs.Common.{◌≡◌, ◌≤◌, length, refl, ap, sym, subst, ◌∙◌, arith}
 use Rattle.std.proofs.lemmas.List.{length-map}
 use Rattle.segment_codec.specs.Packet.{packet_in}
 use Rattle.capture_reader.specs.CaptureFile.{last_time}
+use Rattle.capture_reader.specs.Limits.{latest_time, most_records}
 use Rattle.conn_classifier.specs.Plan.{IsPlan}
 use Rattle.conn_classifier.specs.Sorting.{sorted_of, seen_of}
 use Rattle.conn_classifier.proofs.PlanLaw.{is_plan, few_conns, items_made, made}
@@ -20,12 +21,12 @@ pub invariant_of-result : goal.invariant_of-result
 invariant_of-result g c =
     let file = c.args.capture.now in
     let last : c.last_time.result ≡ last_time file.packets = c.last_time.ensures.value in
-    let few : length file.packets ≤ 1048576 =
+    let few : length file.packets ≤ most_records =
     omega (arith, c.in_ok-packets.ensures.most, ap length c.in_ok-packets.ensures.value, length-map file.packets (λ r. packet_in file.link r.body c.args.verify)) in
-    let most : last_time file.packets ≤ 9007199254740992 = omega (arith, last, c.last_time.ensures.most) in
+    let most : last_time file.packets ≤ latest_time = omega (arith, last, c.last_time.ensures.most) in
     subst IsPlan (sym (made file c.args.verify c.as_slice.result.now _ _ _ _ _ (c.as_slice.ensures.value ∙ c.in_ok-packets.ensures.value) c.in_ok-tuples.ensures
     (c.sorted.view_is ∙ c.in_ok-sorted.ensures ∙ ap (λ l. sorted_of (length file.packets) file.cut c.in_ok-tuples.tuples.keys (seen_of file.packets l)) (c.as_slice-2.ensures.value ∙ sym c.as_slice.ensures.value))
-    (items_made (λ v. v.items) (last_time file.packets) c.last_time.result c.sorted.inside.lists.items c.as_slice-3.result.now _ c.in_ok-items.ensures c.as_slice-3.ensures.value c.last_time.ensures.value)))
+    (items_made (λ v. v.items) (last_time file.packets) c.last_time.result c.sorted.inside.lists.items _ _ c.in_ok-items.ensures refl c.last_time.ensures.value)))
     (is_plan file c.args.verify few most)
 
 pub returns : goal.returns
@@ -33,4 +34,4 @@ returns g c =
     let file = c.args.capture.now in
     made file c.args.verify c.as_slice.result.now _ _ _ _ _ (c.as_slice.ensures.value ∙ c.in_ok-packets.ensures.value) c.in_ok-tuples.ensures
     (c.sorted.view_is ∙ c.in_ok-sorted.ensures ∙ ap (λ l. sorted_of (length file.packets) file.cut c.in_ok-tuples.tuples.keys (seen_of file.packets l)) (c.as_slice-2.ensures.value ∙ sym c.as_slice.ensures.value))
-    (items_made (λ v. v.items) (last_time file.packets) c.last_time.result c.sorted.inside.lists.items c.as_slice-3.result.now _ c.in_ok-items.ensures c.as_slice-3.ensures.value c.last_time.ensures.value)
+    (items_made (λ v. v.items) (last_time file.packets) c.last_time.result c.sorted.inside.lists.items _ _ c.in_ok-items.ensures refl c.last_time.ensures.value)
