@@ -94,7 +94,7 @@ framed_fits order index rest f e = by_head (when _ _ _ _ e)
 pub least_most : (kind : ℕ) → 12 ≤ least kind
 least_most kind = grind (arith, nat_tests)
 
-same_size : (m n : ℕ) (s t : State) → leads m s ≡ leads n t → m ≡ n
+pub same_size : (m n : ℕ) (s t : State) → leads m s ≡ leads n t → m ≡ n
 same_size m n s t e = cc
 
 not_leading : (f : PcapngFault) (n : ℕ) (s : State) → refuses f ≡ leads n s → ⊥

@@ -5,7 +5,7 @@ use Rattle.std.specs.List.{concat}
 use Rattle.pcapng_reader.specs.declared.fault.PcapngFault.{PcapngFault}
 use Rattle.pcapng_reader.specs.Blocks.{State}
 use Rattle.pcapng_reader.specs.PcapngFile.{Says, ends, refuses, leads, says, Leads, Joined}
-use Rattle.pcapng_reader.proofs.Frames.{leads_fits}
+use Rattle.pcapng_reader.proofs.Frames.{leads_fits, same_size}
 
 -- reading stops there
 abbrev pub is_stop : Says → Bool
@@ -36,9 +36,6 @@ same_front a b x y long e = sym (drop_at a x (length a) refl) ∙ (ap (drop (len
 goes_on : (t : Says) (n : ℕ) (s : State) → t ≡ leads n s → is_stop t ≡ true → ⊥
 goes_on t n s e stop = let e' : is_stop t ≡ false = ap is_stop e in cc
 
-same_length : (m n : ℕ) (s t : State) → leads m s ≡ leads n t → m ≡ n
-same_length m n s t e = cc
-
 same_next : (m n : ℕ) (s t : State) → leads m s ≡ leads n t → s ≡ t
 same_next m n s t e = cc
 
@@ -57,7 +54,7 @@ joined_once s (b ∷ bs) (c ∷ cs) x y to at t u l m e p q stop halt =
     let all : b ++ (concat bs ++ x) ≡ c ++ (concat cs ++ y) = sym (append_assoc b (concat bs) x) ∙ (e ∙ append_assoc c (concat cs) y) in
     let step : leads (length b) l.0 ≡ leads (length c) m.0 = sym l.1 ∙ (ap (says s) all ∙ m.1) in
     let next : l.0 ≡ m.0 = same_next (length b) (length c) l.0 m.0 step in
-    joined_once l.0 bs cs x y to at t u l.2 (subst (λ (v : State). Leads v cs y at) (sym next) m.2) (same_front b c _ _ (same_length (length b) (length c) l.0 m.0 step) all) p q stop halt
+    joined_once l.0 bs cs x y to at t u l.2 (subst (λ (v : State). Leads v cs y at) (sym next) m.2) (same_front b c _ _ (same_size (length b) (length c) l.0 m.0 step) all) p q stop halt
 
 -- bytes that are joined up to where reading stops
 pub record Stopped (s : State) (z : List ℕ) : Type 0 where
