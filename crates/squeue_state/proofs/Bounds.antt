@@ -14,6 +14,7 @@ use Rattle.squeue_state.specs.declared.inner.Inner.{Inner}
 use Rattle.squeue_state.specs.Naming.{Given, setting_of}
 use Rattle.squeue_state.specs.Behind.{Behind, room_of}
 use Rattle.squeue_state.specs.Elements.{filled, claimed, claimed_ask, asked}
+use Rattle.squeue_state.proofs.Marks.{entries-length}
 
 module _ {R O : Type 0} (stands : R → Blocks → Type 0) (limits : R → Limits) (size : R → ℕ) (origin : R → O) where
   pub counts : (g : Given R) (i : Inner R) (H : List Element) (e : Element) → Behind stands limits size origin g i (H ++ e ∷ []) → length H < 2 ^ 63
@@ -30,11 +31,6 @@ flag_more (suc n) = ap (λ xs. false ∷ xs) (flag_more n)
 
 pub one_flag : (n : ℕ) → replicate n false ++ false ∷ [] ≡ replicate (n + 1) false
 one_flag n = flag_more n ∙ ap (λ k. replicate k false) (sym (add-one n))
-
--- a feed is one entry
-entries-length : (fs : List Feed) → length (entries fs) ≡ length fs
-entries-length [] = refl
-entries-length (f ∷ fs) = ap (λ (n : ℕ). suc n) (entries-length fs)
 
 module _ {R O : Type 0} (stands : R → Blocks → Type 0) (limits : R → Limits) (size : R → ℕ) (origin : R → O) where
   -- what is filled fits beside what is queued
