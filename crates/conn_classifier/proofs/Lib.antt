@@ -1,8 +1,8 @@
 pub mod Distinct
 mod Mapped
-mod Conns
+pub mod Conns
 mod HintLemmas
-mod ItemLemmas
+pub mod ItemLemmas
 pub mod OneKey
 pub mod SortLemmas
 mod Tallies
