@@ -1,28 +1,20 @@
 -- What holds of the items of segments whose times and texts are those of a capture.
-use Rattle.std.proofs.Common.{◌≡◌, ℕ, ◌+◌, ◌*◌, ◌<◌, ◌≤◌, nat_le, Bool, true, false, refl, max, List, [], ◌∷◌, ◌++◌, length, IfSome, slice_get, arith}
+use Rattle.std.proofs.Common.{ℕ, ◌+◌, ◌*◌, ◌<◌, ◌≤◌, max, List, [], ◌∷◌, ◌++◌, length, IfSome, slice_get, arith}
 use Rattle.std.specs.List.{AllByRecursion}
 use Rattle.std.proofs.lemmas.List.{length-append}
 use Rattle.capture_reader.specs.Outcome.{CaptureFile}
 use Rattle.conn_classifier.specs.declared.kinds.Arrival.{Arrival}
-use Rattle.conn_classifier.specs.declared.kinds.Item.{Item}
 use Rattle.conn_classifier.specs.declared.kinds.Item.TheVariants.{Time}
-use Rattle.conn_classifier.specs.Items.{gap, items_after, items_of}
+use Rattle.conn_classifier.specs.Items.{items_after, items_of}
 use Rattle.conn_classifier.specs.Plan.{IsInside, Rises}
 use Rattle.conn_classifier.proofs.PlanLaw.{length-after}
+use Rattle.conn_classifier.proofs.ItemLemmas.{gap_by}
 
 -- the segment of a record whose time is at most the last
 pub record IsIn (file : CaptureFile) (last : ℕ) (a : Arrival) : Type 0 where
   pub time : a.at ≤ last
   pub record_number : a.rec < length file.packets
   pub text : IfSome (slice_get file.packets a.rec) (λ p. a.seg.text_from + a.seg.text_len ≤ length p.body)
-
--- what holds with a time item and without it holds behind a gap
-gap_by : (last at : ℕ) (xs : List Item) (P : List Item → Type 0) → P xs → P (Time at ∷ xs) → P (gap last at ++ xs)
-gap_by last at xs P none some = by (nat_le (last + 100000) at) refl
-  where
-    by : (b : Bool) → nat_le (last + 100000) at ≡ b → P (gap last at ++ xs)
-    by true e = rw e some
-    by false e = rw e none
 
 pub length-items : (last : ℕ) (arrived : List Arrival) → length (items_of last arrived) ≤ 2 * length arrived
 length-items last [] = omega arith

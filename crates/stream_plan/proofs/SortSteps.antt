@@ -10,7 +10,7 @@ use Rattle.stream_plan.specs.Streams.{is_among, is_of, of_stream, tuple_of}
 use Rattle.stream_plan.specs.Sorting.{SortedOf, sorted_of}
 use Rattle.conn_classifier.proofs.Distinct.{filter_push}
 use Rattle.conn_classifier.proofs.OneKey.{grown_none, grown_some, none_any, some_any}
-use Rattle.stream_plan.proofs.TupleSteps.{same}
+use Rattle.conn_classifier.proofs.Conns.{same}
 
 -- how many pass, one element further
 count_true : {X : Type 0} (p : X → Bool) (xs : List X) (x : X) → p x ≡ true → length (filter p (xs ++ x ∷ [])) ≡ length (filter p xs) + 1

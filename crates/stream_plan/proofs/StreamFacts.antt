@@ -1,7 +1,7 @@
 -- What holds of each record that is served, and so of each stream.
 use Rattle.std.proofs.Common.{◌≡◌, ℕ, ◌+◌, ◌<◌, ◌≤◌, ◌==◌, max, Bool, true, false, inl, inr, ◌⊎◌, List, [], ◌∷◌, suc, zero, length, map, Option, Some, None, IfSome, slice_get, refl, sym, ap, subst, ◌∙◌, arith}
 use Rattle.std.specs.List.{AllByRecursion}
-use Rattle.std.proofs.lemmas.Bool.Decides.{nat_tests}
+use Rattle.std.proofs.lemmas.Bool.{eqb-true}
 use Rattle.sq_base.specs.declared.kinds.Tuple.{Tuple}
 use Rattle.segment_codec.specs.declared.packet.Packet.{Packet}
 use Rattle.segment_codec.specs.declared.packet.Packet.TheVariants as packet
@@ -13,6 +13,7 @@ use Rattle.udp_codec.specs.UdpDatagram.{udp_in}
 use Rattle.conn_classifier.specs.Items.{items_of}
 use Rattle.conn_classifier.specs.Plan.{Climbs}
 use Rattle.conn_classifier.proofs.TextWithin.{EndsWithin, text_within}
+use Rattle.conn_classifier.proofs.Conns.{same}
 use Rattle.stream_plan.specs.declared.kinds.Arrived.{Arrived}
 use Rattle.stream_plan.specs.declared.kinds.Datagram.{Datagram}
 use Rattle.stream_plan.specs.declared.kinds.Found.{Found}
@@ -20,7 +21,6 @@ use Rattle.stream_plan.specs.declared.kinds.Found.TheVariants as found
 use Rattle.stream_plan.specs.Streams.{arrived_from, datagrams_of, is_of, of_stream, rising, segments_of, served_in, served_tcp, served_udp, stream_in, tuple_of}
 use Rattle.stream_plan.specs.Sound.{HasService, HasText, IsStream}
 use Rattle.stream_plan.proofs.ItemFacts.{IsIn, items_inside, items_rise, some_items}
-use Rattle.stream_plan.proofs.TupleSteps.{same}
 use Rattle.stream_plan.proofs.UdpText.{udp_within}
 
 -- a datagram goes to echo or discard, a segment to the generator
@@ -33,9 +33,6 @@ abbrev EndsIn : ℕ → Found → Type 0
 EndsIn n (found.Datagram u) = (u.text_from + u.text_len ≤ n) × (u.text_len ≤ 65507)
 EndsIn n (found.Segment s) = s.text_from + s.text_len ≤ n
 
-equals : (a b : ℕ) → (a == b) ≡ true → a ≡ b
-equals a b e = grind (arith, nat_tests, e)
-
 udp_found : (n : ℕ) (u : Udp) (f : Found) → u.text_from + u.text_len ≤ n → u.text_len ≤ 65507 → served_udp u ≡ Some f → HasPort f × EndsIn n f
 udp_found n u f le short e = by (u.dst_port == 7) (u.dst_port == 9) refl refl
   where
@@ -43,15 +40,15 @@ udp_found n u f le short e = by (u.dst_port == 7) (u.dst_port == 9) refl refl
     is port now = let same : found.Datagram u ≡ f = cc in subst (λ (f : Found). HasPort f × EndsIn n f) same (port, (le, short))
 
     by : (a b : Bool) → (u.dst_port == 7) ≡ a → (u.dst_port == 9) ≡ b → HasPort f × EndsIn n f
-    by true b p q = is (inl (equals u.dst_port 7 p)) (rw p at e)
-    by false true p q = is (inr (equals u.dst_port 9 q)) (rw (p, q) at e)
+    by true b p q = is (inl (eqb-true u.dst_port 7 p)) (rw p at e)
+    by false true p q = is (inr (eqb-true u.dst_port 9 q)) (rw (p, q) at e)
     by false false p q = absurd (let none : None ≡ Some f = rw (p, q) at e in let no : ⊥ = cc in no)
 
 tcp_found : (n : ℕ) (p : Packet) (f : Found) → EndsWithin n p → served_tcp p ≡ Some f → HasPort f × EndsIn n f
 tcp_found n (packet.Segment s) f le e = by (s.dst_port == 19) refl
   where
     by : (b : Bool) → (s.dst_port == 19) ≡ b → HasPort f × EndsIn n f
-    by true p = let now : Some (found.Segment s) ≡ Some f = rw p at e in let same : found.Segment s ≡ f = cc in subst (λ (f : Found). HasPort f × EndsIn n f) same (equals s.dst_port 19 p, le)
+    by true p = let now : Some (found.Segment s) ≡ Some f = rw p at e in let same : found.Segment s ≡ f = cc in subst (λ (f : Found). HasPort f × EndsIn n f) same (eqb-true s.dst_port 19 p, le)
     by false p = absurd (let none : None ≡ Some f = rw p at e in let no : ⊥ = cc in no)
 tcp_found n packet.Other f le e = absurd (let no : ⊥ = cc in no)
 tcp_found n packet.Fragment f le e = absurd (let no : ⊥ = cc in no)

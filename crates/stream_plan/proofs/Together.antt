@@ -8,6 +8,7 @@ use Rattle.capture_reader.specs.CaptureFile.{Packet as Captured, last_time}
 use Rattle.capture_reader.specs.Outcome.{CaptureFile}
 use Rattle.conn_classifier.specs.Connections.{distinct, tuple_eq}
 use Rattle.conn_classifier.proofs.PlanLaw.{all_to, all_take, all_map, all_distinct, same_tuple, times_from, apart_take, apart_distinct}
+use Rattle.conn_classifier.proofs.Conns.{same}
 use Rattle.stream_plan.specs.declared.kinds.Arrived.{Arrived}
 use Rattle.stream_plan.specs.declared.kinds.Found.{Found}
 use Rattle.stream_plan.specs.declared.kinds.Found.TheVariants as found
@@ -16,7 +17,7 @@ use Rattle.stream_plan.specs.Sound.{IsMorePlan, IsStream}
 use Rattle.stream_plan.proofs.ItemFacts.{length-items}
 use Rattle.stream_plan.proofs.StreamFacts.{IsFound, all_found, all_here, length-rising, stream_is}
 use Rattle.stream_plan.proofs.StreamSteps.{none_or_all}
-use Rattle.stream_plan.proofs.TupleSteps.{few_tuples, same}
+use Rattle.stream_plan.proofs.TupleSteps.{few_tuples}
 
 apart_tuples : (xs : List Arrived) → IsDistinct tuple_eq (tuples_in xs)
 unfolding tuples_in

@@ -1,5 +1,5 @@
 -- The streams, one of what arrived further.
-use Rattle.std.proofs.Common.{◌≡◌, ℕ, ◌+◌, ◌<◌, ◌≤◌, true, List, [], ◌∷◌, ◌++◌, length, map, take, get_or, refl, sym, ap, subst, ◌∙◌, arith}
+use Rattle.std.proofs.Common.{◌≡◌, ℕ, ◌+◌, ◌<◌, ◌≤◌, List, [], ◌∷◌, ◌++◌, length, map, take, get_or, refl, sym, ap, subst, ◌∙◌, arith}
 use Rattle.std.proofs.lemmas.List.{map-append, take_more, length-take}
 use Rattle.sq_base.specs.declared.kinds.Tuple.{Tuple}
 use Rattle.indexmap.specs.IndexSet.{insert_key}
@@ -7,9 +7,7 @@ use Rattle.conn_classifier.specs.Connections.{distinct, tuple_eq}
 use Rattle.stream_plan.specs.declared.kinds.Arrived.{Arrived}
 use Rattle.stream_plan.specs.Streams.{tuple_of, tuples_in}
 use Rattle.conn_classifier.proofs.Distinct.{distinct_push, take_insert, take_full}
-
-pub same : (a b : Tuple) → tuple_eq a b ≡ true → a ≡ b
-same a b e = grind (arith, e)
+use Rattle.conn_classifier.proofs.Conns.{same}
 
 grown : (xs : List Arrived) (x : Arrived) → distinct (map (λ x. tuple_of x.found) (xs ++ x ∷ [])) ≡ insert_key tuple_eq (distinct (map (λ x. tuple_of x.found) xs)) (tuple_of x.found)
 grown xs x =
