@@ -9,14 +9,7 @@ use Rattle.perimeter_core.specs.declared.entries.Feed.{Feed}
 use Rattle.conn_classifier.specs.declared.kinds.Item.{Item}
 use Rattle.conn_classifier.specs.Plan.{PlanOf, IsPlan, items_in, items_together}
 use Rattle.conn_classifier.specs.RingList.{IsRingList, feeds, last_feeds}
-
-fewer : {X : Type 0} (test : X → Bool) (xs : List X) → length (filter test xs) ≤ length xs
-fewer test [] = omega arith
-fewer test (x ∷ xs) = by (test x) refl (fewer test xs)
-  where
-    by : (b : Bool) → test x ≡ b → length (filter test xs) ≤ length xs → length (filter test (x ∷ xs)) ≤ suc (length xs)
-    by true e r = rw e (omega (arith, r))
-    by false e r = rw e (omega (arith, r))
+use Rattle.conn_classifier.proofs.PlanLaw.{length-filter_le}
 
 -- the feeds of connection k, and those of the connections from it on
 abbrev of_one : ℕ → List Feed → List Feed
@@ -84,7 +77,7 @@ module _ (p : PlanOf) (plan : IsPlan p) (few : items_together p ≤ 2 * 1048576 
   last_few : length (last_feeds p rings r (length p.tuples)) ≤ length p.tuples
   last_few =
       let a = length-map {B = Feed} (filter (λ c. c % rings == r) (range_with_len 0 (length p.tuples))) (λ c. record { c = c; n = length (items_in p c) - 1 }) in
-      let b = fewer (λ c. c % rings == r) (range_with_len 0 (length p.tuples)) in
+      let b = length-filter_le (λ c. c % rings == r) (range_with_len 0 (length p.tuples)) in
       let c = length-range_with_len 0 (length p.tuples) in
       omega (arith, a, b, c)
 

@@ -27,7 +27,7 @@ use Rattle.ring_quotas.proofs.Sufficing.{all_may_bring, all_may_make}
 use Rattle.ring_quotas.proofs.Totals.{order}
 use Rattle.ring_threads.specs.Settings.{AreSet}
 
-number_at : {A : Type 0} (f : ℕ → A) (a n k : ℕ) (d : A) → k < n → slice_index_or (map f (range_with_len a n)) k d ≡ f (a + k)
+pub number_at : {A : Type 0} (f : ℕ → A) (a n k : ℕ) (d : A) → k < n → slice_index_or (map f (range_with_len a n)) k d ≡ f (a + k)
 number_at f a zero k d lt = absurd (omega (arith, lt))
 number_at f a (suc n) zero d lt = let e : a ≡ a + 0 = omega arith in ap f e
 number_at f a (suc n) (suc k) d lt = let e : (a + 1) + k ≡ a + suc k = omega arith in number_at f (a + 1) n k d (omega (arith, lt)) ∙ ap f e

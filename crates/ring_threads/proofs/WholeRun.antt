@@ -1,5 +1,5 @@
 -- From what the passes knew at the end, and what came back of the squeues, to what was served.
-use Rattle.std.proofs.Common.{◌≡◌, ◌≢◌, ℕ, ◌+◌, ◌-◌, ◌/◌, ◌%◌, ◌<◌, ◌≤◌, ◌==◌, zero, suc, Bool, true, false, if◌then◌else◌, Option, Some, None, Result, Ok, Err, IfOk, List, [], ◌∷◌, length, length-append, inl, inr, map, slice_get, slice_index_or, refl, ap, sym, ◌∙◌, subst, arith}
+use Rattle.std.proofs.Common.{◌≡◌, ◌≢◌, ℕ, ◌+◌, ◌-◌, ◌/◌, ◌%◌, ◌<◌, ◌≤◌, ◌==◌, zero, suc, Bool, true, false, if◌then◌else◌, Option, Some, None, Result, Ok, Err, IfOk, List, [], ◌∷◌, length, inl, inr, map, slice_get, slice_index_or, refl, ap, sym, ◌∙◌, subst, arith}
 use Rattle.std.specs.Prelude.{Box, IfSome, get_or}
 use Rattle.std.specs.Option.{option_map, option_map_or}
 use Rattle.std.specs.List.{range_with_len}
@@ -33,16 +33,17 @@ use Rattle.conn_blocks.specs.ServeOrder.{BlockOf, OriginOf, serve, serving_of}
 use Rattle.squeue_serve.specs.Places.{Holds}
 use Rattle.squeue_serve.proofs.Coming.{each_got}
 use Rattle.squeue_serve.proofs.Lent.{some_at}
+use Rattle.squeue_serve.proofs.Unused.{each_at}
 use Rattle.squeue_rings.specs.Keeping.{IsPaced, KeepsPace}
 use Rattle.squeue_rings.specs.Made.{made_in, times_made}
 use Rattle.squeue_rings.specs.Noted.{AreNoted}
 use Rattle.squeue_rings.specs.Runs.{brought, place}
 use Rattle.squeue_rings.specs.Seen.{seen_ends, seen_in}
 use Rattle.squeue_rings.proofs.CallMarks.{none_beyond as no_thread_beyond}
-use Rattle.squeue_rings.proofs.Reaching.{each_at}
 use Rattle.squeue_rings.proofs.Slots.{at_got, at_length}
 use Rattle.ring_quotas.specs.declared.setup.Setup.{Setup}
-use Rattle.ring_quotas.specs.Quotas.{quotas_of, setting_at}
+use Rattle.ring_quotas.specs.Quotas.{setting_at}
+use Rattle.ring_quotas.proofs.Adding.{quotas_count}
 use Rattle.run_histories.specs.Counting.{made_in_all}
 use Rattle.run_histories.proofs.AllActs.{are_all}
 use Rattle.run_histories.proofs.Called.{calls_of_all}
@@ -53,6 +54,7 @@ use Rattle.ring_threads.specs.Fits.{IsHereOnce}
 use Rattle.ring_threads.specs.Served.{HasServed, ServedOf}
 use Rattle.ring_threads.specs.ServedBlocks.{IsServing}
 use Rattle.ring_threads.specs.Settings.{HasRun, IsSet}
+use Rattle.ring_threads.proofs.Ready.{number_at}
 use Rattle.ring_jobs.proofs.AtTheEnd.{end_due, end_here, end_made, end_paced, end_stays, linked_same, noted_same, seen_count, seen_got}
 
 home_below : (squeues spread c n : ℕ) → 1 ≤ squeues → home squeues spread c n < squeues
@@ -62,7 +64,7 @@ home_below squeues spread c n some = by (spread == 0)
     by true = mod-lt c some
     by false = mod-lt (c + n / spread) some
 
-same_test : (a b : ℕ) → (a == b) ≡ (b == a)
+pub same_test : (a b : ℕ) → (a == b) ≡ (b == a)
 same_test a b = by (a == b) (b == a) refl refl
   where
     by : (x y : Bool) → (a == b) ≡ x → (b == a) ≡ y → (a == b) ≡ (b == a)
@@ -70,12 +72,6 @@ same_test a b = by (a == b) (b == a) refl refl
     by false false u v = u ∙ sym v
     by true false u v = let e : a ≡ b = grind (arith, nat_tests) in let f : b ≢ a = grind (arith, nat_tests) in absurd (f (sym e))
     by false true u v = let e : b ≡ a = grind (arith, nat_tests) in let f : a ≢ b = grind (arith, nat_tests) in absurd (f (sym e))
-
--- the places of a map over the first numbers
-pub map_at : {A : Type 0} (f : ℕ → A) (a n k : ℕ) (d : A) → k < n → slice_index_or (map f (range_with_len a n)) k d ≡ f (a + k)
-map_at f a zero k d lt = absurd (omega (arith, lt))
-map_at f a (suc n) zero d lt = let e : a ≡ a + 0 = omega arith in ap f e
-map_at f a (suc n) (suc k) d lt = let e : a + 1 + k ≡ a + suc k = omega arith in map_at f (a + 1) n k d (omega (arith, lt)) ∙ ap f e
 
 pub map_count : {A : Type 0} (f : ℕ → A) (a n : ℕ) → length (map f (range_with_len a n)) ≡ n
 map_count f a zero = refl
@@ -118,10 +114,6 @@ placed_at : (ss : List (Named Blocks)) (es : List Ending) (c : ℕ) (o : Option 
 placed_at ss es c None q e lies at here = absurd lies
 placed_at ss es c (Some None) q e lies at here = absurd (differ (sym here ∙ lies q e at))
 placed_at ss es c (Some (Some b)) q e lies at here = (b, refl, lies)
-
--- as many passes at each squeue as rings and application threads
-pub quotas_count : (p : PlanOf) (calls : CallLists) (squeues rings spread q : ℕ) → length (quotas_of p calls squeues rings spread q) ≡ rings + 4
-quotas_count p calls squeues rings spread q = length-append _ _ ∙ ap (λ (m : ℕ). m + 4) (map_count _ 0 rings)
 
 module _ (p : PlanOf) (calls : CallLists) (setup : Setup) (front : ℕ) (lists : ℕ → List Feed) (ss : List (Named Blocks)) (lent : ℕ → List (Option (Pass Element))) (places : List (Option (Box BlockOf Global))) (es : List Ending) (ts : List Traced)
     (some : 1 ≤ setup.squeues) (rings_some : 1 ≤ setup.rings) (ran : HasRun p calls setup front lists ss lent)
@@ -321,7 +313,7 @@ module _ (p : PlanOf) (calls : CallLists) (setup : Setup) (front : ℕ) (lists :
             let starts : h.setting.starts ≡ map (λ d. d % squeues == q) (range_with_len 0 n) = ap (λ (S : Setting). S.starts) (a.3.its_setting ∙ a.2.setting) in
             let total : length es ≡ squeues = back.ends ∙ ran.set.count in
             ap (λ (l : List Bool). slice_index_or l c false) starts
-            ∙ (map_at (λ d. d % squeues == q) 0 n c false lt ∙ (let z : 0 + c ≡ c = omega arith in ap (λ (d : ℕ). d % squeues == q) z ∙ (same_test (c % squeues) q ∙ ap (λ (m : ℕ). q == c % m) (sym total))));
+            ∙ (number_at (λ d. d % squeues == q) 0 n c false lt ∙ (let z : 0 + c ≡ c = omega arith in ap (λ (d : ℕ). d % squeues == q) z ∙ (same_test (c % squeues) q ∙ ap (λ (m : ℕ). q == c % m) (sym total))));
         linked = λ c lt. linked_same (seen_ends limits_of ss (lent (front + r c lt))) es c (as_many_ends c lt) (same_stays_at c lt) ((ran.rings_end (r c lt) (r_below c lt)).linked c (its_ring c lt));
       }
 
