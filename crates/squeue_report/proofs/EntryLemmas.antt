@@ -12,9 +12,6 @@ abbrev pub HasFeed : Entry → Type 0
 HasFeed (feeds m n) = m ≤ n
 HasFeed (call j k) = Unit {0}
 
-feeds_from : ℕ → ℕ → List Act
-feeds_from m count = map (λ k. act.Feed k) (range_with_len m count)
-
 alone : (n : ℕ) → acts_of (feeds n n) ≡ act.Feed n ∷ []
 alone n = ap (λ c. map (λ k. act.Feed k) (range_with_len n c)) (let e : n + 1 - n ≡ suc zero = omega arith in e)
 
