@@ -9,10 +9,7 @@ use Rattle.byte_queues.specs.declared.recv.RecvQueue.TheInside.{Inside}
 use Rattle.byte_queues.proofs.CellLemmas.{runs-drop, front-drop, front-over, cells-text, over-none}
 use Rattle.byte_queues.proofs.RunLemmas.{spaced-higher, front-is, dropped-cells, dropped-spaced, zero-or}
 use Rattle.byte_queues.proofs.JoinLemmas.{join-cells, join-spaced, join-more, join-few}
-use Rattle.byte_queues.proofs.QueueLemmas.{ahead, ready-within, ahead-small}
-
-abbrev high : Inside → ℕ
-high a = min (a.edge + 1) (2 ^ 62 + 2 ^ 32)
+use Rattle.byte_queues.proofs.QueueLemmas.{ahead, ready-within, ahead-small, high}
 
 -- what the invariant says of runs from a position on below an edge
 pub record Sound (from top : ℕ) (stream_end : Option ℕ) (rs : List Run) : Type 0 where

@@ -7,7 +7,7 @@ use Rattle.byte_queues.specs.Inside.{recv_of, IsQueue}
 use Rattle.byte_queues.specs.declared.recv.RecvQueue.TheInside.{Inside}
 use Rattle.byte_queues.proofs.RunLemmas.{front-is, front-small, runs-is, cells-runs, front-bytes, shown}
 
-abbrev high : Inside → ℕ
+abbrev pub high : Inside → ℕ
 high a = min (a.edge + 1) (2 ^ 62 + 2 ^ 32)
 
 -- the bytes that are held in front

@@ -1,6 +1,5 @@
 -- One block more is taken out of the rows.
-use Rattle.std.proofs.Common.{◌≡◌, ◌≢◌, ℕ, ◌+◌, ◌%◌, ◌<◌, ◌≤◌, inl, inr, false, Option, Some, List, [], ◌∷◌, ◌++◌, Vec, length, map, take, slice_get, slice_set, ap, sym, ◌∙◌, subst, arith}
-use Rattle.std.specs.declared.alloc.Global.{Global}
+use Rattle.std.proofs.Common.{◌≡◌, ◌≢◌, ℕ, ◌+◌, ◌%◌, ◌<◌, ◌≤◌, inl, inr, false, Option, Some, List, [], ◌∷◌, ◌++◌, length, map, take, slice_get, slice_set, ap, sym, ◌∙◌, subst, arith}
 use Rattle.std.proofs.lemmas.Bool.{cases_eq}
 use Rattle.std.proofs.lemmas.List.{map-append}
 use Rattle.squeue_rings.proofs.Slots.{got_map, got_other, take_one}
@@ -9,10 +8,8 @@ use Rattle.stream_blocks.specs.declared.block.StreamBlock.{StreamBlock}
 use Rattle.stream_blocks.specs.Served.{all_served, served}
 use Rattle.stream_blocks.specs.Standing.{HasServed, served_of}
 use Rattle.datagram_services.specs.Gathering.{IsWholeBlock}
+use Rattle.datagram_services.proofs.Back.{Row}
 use Rattle.perimeter_core.proofs.LogSteps.{get_same}
-
-abbrev Row : Type 0
-Row = Vec (Option StreamBlock) Global
 
 -- the blocks of the streams from c on lie in their rows
 abbrev pub Rest : MorePlanOf → ℕ → ℕ → List Row → Type 0
