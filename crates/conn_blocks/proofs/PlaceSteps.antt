@@ -14,7 +14,7 @@ use Rattle.perimeter_core.specs.declared.marks.SynchAct.TheVariants as Done
 use Rattle.perimeter_core.specs.Deeds.{fed, feed_numbers}
 use Rattle.perimeter_core.specs.Blocks.{Blocks as Had, longer, with_feeds, with_act}
 use Rattle.perimeter_core.specs.Residing.{HadFeeds, Here}
-use Rattle.perimeter_core.proofs.LogSteps.{got, get_same, get_other, fed_is}
+use Rattle.perimeter_core.proofs.LogSteps.{got, get_same, get_other, fed_is, some_longer}
 use Rattle.perimeter_core.proofs.FeedActs.{longer_none}
 use Rattle.tcb_machine.specs.declared.kinds.Call.{Call}
 use Rattle.conn_classifier.specs.Plan.{PlanOf, items_in}
@@ -112,9 +112,6 @@ module _ (p : PlanOf) (calls : CallLists) where
   found c (Some (Some y)) None x e h = absurd h
   found c (Some None) b x e h = absurd (cc e)
   found c None b x e h = absurd (cc e)
-
-  some_longer : (o : Option (List Act)) (had more : List Act) → o ≡ Some had → longer more o ≡ Some (had ++ more)
-  some_longer o had more h = rw h refl
 
   -- the block at a place stands for the acts of its connection
   pub stands_here : (places : List (Option (Box BlockOf Global))) (c : ℕ) (x : Box BlockOf Global) → slice_get places c ≡ Some (Some x) → Here (PlacesStand p calls places) c
