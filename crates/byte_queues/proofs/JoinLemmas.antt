@@ -1,5 +1,5 @@
 -- A text and the runs that it touches as one run: the cells for which it stands.
-use Rattle.std.proofs.Common.{◌≡◌, ℕ, ◌+◌, ◌-◌, ◌<◌, ◌≤◌, List, [], ◌∷◌, ◌++◌, Bool, true, false, cond, leb, ltb, length, take, drop, min, refl, sym, ap, ◌∙◌, subst, arith, length-drop, length-append, append_assoc, drop-cons, get_or, set, eqb, ◌⊎◌, inl, inr}
+use Rattle.std.proofs.Common.{◌≡◌, ℕ, ◌+◌, ◌-◌, ◌<◌, ◌≤◌, List, [], ◌∷◌, ◌++◌, Bool, true, false, cond, leb, ltb, length, take, drop, min, refl, sym, ap, ◌∙◌, subst, arith, length-drop, length-append, append_assoc, drop-cons, get_or, eqb, ◌⊎◌, inl, inr}
 use Rattle.std.specs.Prelude.{suc, zero}
 use Rattle.std.proofs.lemmas.Bool.Decides.{nat_tests, leb_tells}
 use Rattle.std.proofs.lemmas.List.{drop-drop, drop-take, length-take-le, take-take}
@@ -358,25 +358,6 @@ joined-kept a b c at high text xs d f h w most spaced =
         let k = c - suc a in
         let size : c - a ≡ suc k = omega arith in
         ap (λ (n : ℕ). start_of at (take n (drop a xs))) size ∙ ap (λ (ys : List Run). start_of at (take (suc k) ys)) (drop-cons xs a f (omega (arith, h, w)))
-
--- the runs round the kept one leave
-pub joined-ranges : (a b c : ℕ) (xs : List Run) (m : Run) → a ≤ b → b < c → c ≤ length xs
-    → take a (take (b + 1) (set xs b m) ++ drop c (set xs b m)) ++ drop b (take (b + 1) (set xs b m) ++ drop c (set xs b m)) ≡ take a xs ++ m ∷ drop c xs
-joined-ranges zero zero c [] m h w most = absurd (omega (arith, w, most))
-joined-ranges zero zero zero (x ∷ xs) m h w most = absurd (omega (arith, w))
-joined-ranges zero zero (suc c) (x ∷ xs) m h w most = refl
-joined-ranges zero (suc b) c [] m h w most = absurd (omega (arith, w, most))
-joined-ranges zero (suc b) zero (x ∷ xs) m h w most = absurd (omega (arith, w))
-joined-ranges zero (suc b) (suc c) (x ∷ xs) m h w most =
-    let e : suc b + 1 ≡ suc (b + 1) = omega arith in
-    ap (λ (n : ℕ). drop (suc b) (take n (x ∷ set xs b m) ++ drop c (set xs b m))) e ∙ joined-ranges zero b c xs m (omega arith) (omega (arith, w)) (omega (arith, most))
-joined-ranges (suc a) zero c xs m h w most = absurd (omega (arith, h))
-joined-ranges (suc a) (suc b) c [] m h w most = absurd (omega (arith, w, most))
-joined-ranges (suc a) (suc b) zero (x ∷ xs) m h w most = absurd (omega (arith, w))
-joined-ranges (suc a) (suc b) (suc c) (x ∷ xs) m h w most =
-    let e : suc b + 1 ≡ suc (b + 1) = omega arith in
-    ap (λ (n : ℕ). take (suc a) (take n (x ∷ set xs b m) ++ drop c (set xs b m)) ++ drop (suc b) (take n (x ∷ set xs b m) ++ drop c (set xs b m))) e
-    ∙ ap (λ (ys : List Run). x ∷ ys) (joined-ranges a b c xs m (omega (arith, h)) (omega (arith, w)) (omega (arith, most)))
 
 -- an item in the list doesn't rest on the default
 pub item-same : (xs : List Run) (n : ℕ) (d e : Run) → n < length xs → get_or xs n d ≡ get_or xs n e

@@ -1,6 +1,5 @@
 -- A text is placed, or the front leaves: the queue is sound again, and is what the definitions say.
-use Rattle.std.proofs.Common.{◌≡◌, ℕ, ◌+◌, ◌-◌, ◌^◌, ◌<◌, ◌≤◌, List, [], ◌∷◌, Option, None, Some, Bool, true, false, cond, ltb, eqb, ◌||◌, length, drop, take, min, max, subst, sym, refl, ap, ◌∙◌, arith, ◌⊎◌, inl, inr}
-use Rattle.std.specs.Prelude.{suc, zero}
+use Rattle.std.proofs.Common.{◌≡◌, ℕ, ◌+◌, ◌-◌, ◌^◌, ◌<◌, ◌≤◌, List, [], ◌∷◌, Option, None, Some, Bool, true, false, cond, ltb, eqb, ◌||◌, length, drop, take, min, max, subst, sym, ap, ◌∙◌, arith, ◌⊎◌, inl, inr}
 use Rattle.std.proofs.lemmas.Bool.Decides.{nat_tests}
 use Rattle.byte_queues.specs.ReceiveQueue.{Cells, Recv, gap, held, up_to, front, runs, over_cells, cells_at, next_of, ready_of, holding, placed, laid, without}
 use Rattle.byte_queues.specs.Runs.{cells_from, dropped, IsSpaced, count_before, count_up_to, joined}
@@ -8,12 +7,9 @@ use Rattle.byte_queues.specs.Inside.{recv_of, IsQueue}
 use Rattle.byte_queues.specs.declared.run.Run.{Run}
 use Rattle.byte_queues.specs.declared.recv.RecvQueue.TheInside.{Inside}
 use Rattle.byte_queues.proofs.CellLemmas.{runs-drop, front-drop, front-over, cells-text, over-none}
-use Rattle.byte_queues.proofs.RunLemmas.{spaced-higher, front-is, dropped-cells, dropped-spaced}
+use Rattle.byte_queues.proofs.RunLemmas.{spaced-higher, front-is, dropped-cells, dropped-spaced, zero-or}
 use Rattle.byte_queues.proofs.JoinLemmas.{join-cells, join-spaced, join-more, join-few}
-use Rattle.byte_queues.proofs.QueueLemmas.{ahead, ready-within, ahead-small}
-
-abbrev high : Inside → ℕ
-high a = min (a.edge + 1) (2 ^ 62 + 2 ^ 32)
+use Rattle.byte_queues.proofs.QueueLemmas.{ahead, ready-within, ahead-small, high}
 
 -- what the invariant says of runs from a position on below an edge
 pub record Sound (from top : ℕ) (stream_end : Option ℕ) (rs : List Run) : Type 0 where
@@ -114,10 +110,6 @@ room-means a at text e = means (touched at text a.runs.items) at a.taken (runs t
 no-room-means : (n at taken k : ℕ) → ltb 0 n || (eqb at taken || ltb k 64) ≡ false → (n ≡ 0) × ((at ≡ taken → ⊥) × (64 ≤ k))
 no-room-means n at taken k e = (grind (arith, nat_tests), (λ d. grind (arith, nat_tests), grind (arith, nat_tests)))
 
-cases-zero : (n : ℕ) → (n ≡ 0) ⊎ (0 < n)
-cases-zero zero = inl refl
-cases-zero (suc n) = inr (omega arith)
-
 few-with-text : (a : Inside) (at : ℕ) (text : List ℕ) → Fitting a at text → room at text a ≡ true → runs true (cells_from a.taken (with_text at text a.runs.items)) ≤ 64
 few-with-text a at text f e =
     let spaced = (f.queue).spaced in
@@ -125,8 +117,8 @@ few-with-text a at text f e =
     let most = fits-high a at text f in
     elim (room-means a at text e) [
       | inl o ↦ let k = join-few a.taken at (high a) text a.runs.items spaced f.behind f.some most o in omega (arith, k, few)
-      | inr k ↦ elim (cases-zero (touched at text a.runs.items)) [
-        | inl z ↦ elim (cases-zero (at - a.taken)) [
+      | inr k ↦ elim (zero-or (touched at text a.runs.items)) [
+        | inl z ↦ elim (zero-or (at - a.taken)) [
           | inl d ↦ let same : at ≡ a.taken = (let b = f.behind in omega (arith, d, b)) in let j = join-few a.taken at (high a) text a.runs.items spaced f.behind f.some most (inr same) in omega (arith, j, few)
           | inr d ↦ let j = join-more a.taken at (high a) text a.runs.items spaced (omega (arith, d)) f.some most z in omega (arith, j, k)
         ]

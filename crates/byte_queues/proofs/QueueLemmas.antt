@@ -1,17 +1,14 @@
 -- What the invariant of a receive queue says of the counts that are read off it.
-use Rattle.std.proofs.Common.{◌≡◌, ℕ, ◌+◌, ◌^◌, ◌<◌, ◌≤◌, Option, None, Some, true, length, drop, take, map, min, sym, ap, ◌∙◌, arith}
+use Rattle.std.proofs.Common.{◌≡◌, ℕ, ◌+◌, ◌^◌, ◌<◌, ◌≤◌, Option, None, Some, true, length, take, map, min, ap, ◌∙◌, arith}
 use Rattle.std.proofs.lemmas.List.{length-map}
 use Rattle.byte_queues.specs.ReceiveQueue.{up_to, runs, runs_of, next_of, ready_of, next_bytes}
-use Rattle.byte_queues.specs.Runs.{front_of, cells_from, dropped}
+use Rattle.byte_queues.specs.Runs.{front_of}
 use Rattle.byte_queues.specs.Inside.{recv_of, IsQueue}
 use Rattle.byte_queues.specs.declared.recv.RecvQueue.TheInside.{Inside}
-use Rattle.byte_queues.proofs.RunLemmas.{spaced-low, front-is, front-small, runs-is, cells-runs, dropped-cells, front-bytes, shown}
+use Rattle.byte_queues.proofs.RunLemmas.{front-is, front-small, runs-is, cells-runs, front-bytes, shown}
 
-abbrev high : Inside → ℕ
+abbrev pub high : Inside → ℕ
 high a = min (a.edge + 1) (2 ^ 62 + 2 ^ 32)
-
-pub taken-small : (a : Inside) → IsQueue a → a.taken ≤ 2 ^ 62 + 2 ^ 32
-taken-small a h = let e = spaced-low a.taken (high a) a.runs.items h.spaced in omega (arith, e)
 
 -- the bytes that are held in front
 abbrev pub ahead : Inside → ℕ
@@ -53,7 +50,3 @@ runs-are a h = cells-runs a.taken (high a) a.runs.items h.spaced
 
 pub runs-count : (a : Inside) → IsQueue a → length (runs_of a.taken (recv_of a).got) ≡ length a.runs.items
 runs-count a h = ap length (runs-are a h) ∙ length-map a.runs.items shown
-
--- the next n bytes leave
-pub without-cells : (a : Inside) (n : ℕ) → IsQueue a → n ≤ ahead a → cells_from (a.taken + n) (dropped n a.runs.items) ≡ drop n (recv_of a).got
-without-cells a n h w = sym (dropped-cells n a.taken (high a) a.runs.items h.spaced w)

@@ -2,21 +2,16 @@
 use Rattle.std.proofs.Common.{◌≡◌, ◌≢◌, ℕ, ◌+◌, ◌-◌, ◌^◌, ◌<◌, ◌≤◌, List, [], ◌∷◌, Some, Bool, true, false, cond, eqb, length, take, drop, map, refl, sym, ap, ◌∙◌, subst, arith, length-drop, min, get_or, ◌⊎◌, inl, inr}
 use Rattle.std.specs.Prelude.{suc, zero, All, slice_get}
 use Rattle.std.proofs.lemmas.Bool.Decides.{nat_tests}
+use Rattle.std.proofs.lemmas.List.{drop_all}
 use Rattle.byte_queues.specs.ReceiveQueue.{Cells, gap, held, front, runs, bytes, runs_of, grown}
 use Rattle.byte_queues.specs.Runs.{end_of, cells_from, IsSpaced, front_of, dropped, dropped_some}
 use Rattle.byte_queues.specs.declared.run.Run.{Run}
 use Rattle.byte_queues.proofs.CellLemmas.{gap-front, held-front, gap-runs, held-runs, held-runs-new, held-drop, held-bytes}
 
 -- a number is 0 or more
-zero-or : (n : ℕ) → (n ≡ 0) ⊎ (0 < n)
+pub zero-or : (n : ℕ) → (n ≡ 0) ⊎ (0 < n)
 zero-or zero = inl refl
 zero-or (suc n) = inr (omega arith)
-
-pub drop-whole : (n : ℕ) (xs : List ℕ) → length xs ≤ n → drop n xs ≡ []
-drop-whole zero [] h = refl
-drop-whole zero (x ∷ xs) h = absurd (omega (arith, h))
-drop-whole (suc n) [] h = refl
-drop-whole (suc n) (x ∷ xs) h = drop-whole n xs (omega (arith, h))
 
 pub spaced-low : (low high : ℕ) (rs : List Run) → IsSpaced low high rs → low ≤ high
 spaced-low low high [] h = h
@@ -116,7 +111,7 @@ dropped-cells-here n at r rs true t e h =
     let last : r.start + length r.bytes ≡ at + n = omega (arith, e, all) in
     ap (λ (k : ℕ). drop n (gap k (held r.bytes rest))) none
     ∙ (held-drop n r.bytes rest h
-    ∙ (ap (λ (xs : List ℕ). held xs rest) (drop-whole n r.bytes (omega (arith, all)))
+    ∙ (ap (λ (xs : List ℕ). held xs rest) (drop_all n r.bytes (omega (arith, all)))
     ∙ ap (λ (k : ℕ). cells_from k rs) last))
 dropped-cells-here n at r rs false t e h =
     let rest = cells_from (r.start + length r.bytes) rs in
@@ -145,10 +140,6 @@ front-here at high n r rs h some w =
       | inl e ↦ let f = ap length (front-chosen true at r rs e.1) in (e.0, omega (arith, f, w))
       | inr e ↦ let f = ap length (front-chosen false at r rs e.1) in absurd (omega (arith, f, some, w))
     ]
-
-pub front-some : (at n : ℕ) (rs : List Run) → n ≢ 0 → n ≤ length (front_of at rs) → 0 < length rs
-front-some at n [] some w = absurd (omega (arith, some, w))
-front-some at n (r ∷ rs) some w = omega arith
 
 dropped-some-cells : (n at high : ℕ) (rs : List Run) → IsSpaced at high rs → 0 < n → n ≤ length (front_of at rs) → drop n (cells_from at rs) ≡ cells_from (at + n) (dropped_some n rs)
 dropped-some-cells n at high [] h some w = absurd (omega (arith, some, w))

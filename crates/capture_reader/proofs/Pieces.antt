@@ -36,19 +36,6 @@ pub all_push : {X : Type 0} (P : X → Type 0) (xs : List X) (y : X) → AllByRe
 all_push P [] y a p = (p, tt)
 all_push P (x ∷ xs) y a p = (a.0, all_push P xs y a.1 p)
 
--- nothing was read yet
-pub reads_none : (form : Form) (bytes : List ℕ) → 24 ≤ length bytes → ReadsTo form bytes 24 []
-reads_none form bytes h = record {
-  pieces = [];
-  within = h;
-  place = refl;
-  front = sym (append-nil (take 24 bytes));
-  spelled = tt;
-  counted = refl;
-  named = refl;
-  inside = tt;
-}
-
 -- the front of a rest that spells a packet
 pub front_spells : (form : Form) (rest : List ℕ) → 16 ≤ length rest → named_length form rest ≤ longest_body → 16 + named_length form rest ≤ length rest → IsSpelling form (take (16 + named_length form rest) rest)
 front_spells form rest header most whole =

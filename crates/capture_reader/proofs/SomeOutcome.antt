@@ -1,8 +1,8 @@
 -- Bytes can be cut up: as many spellings as there are, within a number, and then a rest.
-use Rattle.std.proofs.Common.{◌≡◌, ℕ, zero, suc, ◌+◌, ◌<◌, ◌≤◌, Bool, true, false, List, [], ◌∷◌, ◌++◌, length, take, drop, Result, Ok, Err, ◌⊎◌, inl, inr, sym, ap, ◌∙◌, refl, arith, append_assoc, ltb}
-use Rattle.std.proofs.lemmas.Bool.Decides.{nat_tests}
+use Rattle.std.proofs.Common.{◌≡◌, ℕ, zero, suc, ◌+◌, ◌<◌, ◌≤◌, true, false, List, [], ◌∷◌, ◌++◌, length, take, drop, Result, Ok, Err, ◌⊎◌, inl, inr, sym, ap, ◌∙◌, refl, arith, append_assoc}
 use Rattle.std.proofs.lemmas.List.{take-append-drop, length-take-le}
 use Rattle.std.specs.List.{concat, AllByRecursion}
+use Rattle.std.proofs.lemmas.Bool.{cases_lt}
 use Rattle.sq_base.specs.declared.kinds.Link.{Link}
 use Rattle.capture_reader.specs.declared.form.Form.{Form}
 use Rattle.capture_reader.specs.declared.fault.CaptureFault.{CaptureFault}
@@ -12,13 +12,6 @@ use Rattle.capture_reader.specs.CaptureFile.{Contents, IsSplit, IsSpelling, IsPa
 use Rattle.capture_reader.specs.Limits.{most_records, longest_body}
 use Rattle.capture_reader.proofs.Pieces.{front_spells}
 use Rattle.capture_reader.proofs.Outcomes.{header_long, header_refuses}
-
-order : (m n : ℕ) → (m < n) ⊎ (n ≤ m)
-order m n = by_test (ltb m n) refl
-  where
-    by_test : (y : Bool) → ltb m n ≡ y → (m < n) ⊎ (n ≤ m)
-    by_test true e = inl (grind (arith, nat_tests))
-    by_test false e = inr (grind (arith, nat_tests))
 
 -- why no spelling begins here
 abbrev Stopped : Form → List ℕ → Type 0
@@ -32,7 +25,7 @@ record Begins (form : Form) (z : List ℕ) : Type 0 where
 
 looks : (form : Form) (z : List ℕ) → Stopped form z ⊎ Begins form z
 looks form [] = inl (inl refl)
-looks form (x ∷ xs) = by_header (order (length (x ∷ xs)) 16)
+looks form (x ∷ xs) = by_header (cases_lt (length (x ∷ xs)) 16)
   where
     by_body : 16 ≤ length (x ∷ xs) → named_length form (x ∷ xs) ≤ longest_body → (length (x ∷ xs) < 16 + named_length form (x ∷ xs)) ⊎ (16 + named_length form (x ∷ xs) ≤ length (x ∷ xs)) → Stopped form (x ∷ xs) ⊎ Begins form (x ∷ xs)
     by_body header most (inl short) = inl (inr (inl (omega arith, λ room. (most, short))))
@@ -40,11 +33,11 @@ looks form (x ∷ xs) = by_header (order (length (x ∷ xs)) 16)
 
     by_length : 16 ≤ length (x ∷ xs) → (longest_body < named_length form (x ∷ xs)) ⊎ (named_length form (x ∷ xs) ≤ longest_body) → Stopped form (x ∷ xs) ⊎ Begins form (x ∷ xs)
     by_length header (inl great) = inl (inr (inr (header, refl, great)))
-    by_length header (inr most) = by_body header most (order (length (x ∷ xs)) (16 + named_length form (x ∷ xs)))
+    by_length header (inr most) = by_body header most (cases_lt (length (x ∷ xs)) (16 + named_length form (x ∷ xs)))
 
     by_header : (length (x ∷ xs) < 16) ⊎ (16 ≤ length (x ∷ xs)) → Stopped form (x ∷ xs) ⊎ Begins form (x ∷ xs)
     by_header (inl short) = inl (inr (inl (omega arith, λ room. absurd (omega (arith, short, room)))))
-    by_header (inr header) = by_length header (order longest_body (named_length form (x ∷ xs)))
+    by_header (inr header) = by_length header (cases_lt longest_body (named_length form (x ∷ xs)))
 
 -- the bytes are at most n spellings and a rest, which begins none unless there are n
 record CutUp (n : ℕ) (form : Form) (z : List ℕ) : Type 0 where

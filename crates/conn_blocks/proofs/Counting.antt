@@ -84,7 +84,7 @@ all_acts (act.Call i k ∷ xs) none = omega (arith, one_call i k xs (none i), al
 pub begins_short : (front whole : List ℕ) → Begins front whole → length front ≤ length whole
 begins_short front whole b = omega (arith, ap length b.joined, length-append front b.rest)
 
-begins_none : (front : List ℕ) → Begins front [] → front ≡ []
+pub begins_none : (front : List ℕ) → Begins front [] → front ≡ []
 begins_none [] b = refl
 begins_none (x ∷ front) b = let e : [] ≡ x ∷ (front ++ b.rest) = b.joined in absurd cc
 

@@ -1,13 +1,8 @@
 -- Orders whose feeds rise, one act further.
 use Rattle.std.proofs.Common.{ℕ, ◌+◌, ◌≤◌, List, [], ◌∷◌, ◌++◌, arith}
-use Rattle.std.specs.List.{AllByRecursion}
 use Rattle.perimeter_core.specs.declared.entries.Act.{Act}
 use Rattle.perimeter_core.specs.declared.entries.Act.TheVariants as act
 use Rattle.conn_blocks.specs.ServeOrder.{FeedsRise}
-
-pub all_snoc : {X : Type 0} (P : X → Type 0) (xs : List X) (x : X) → AllByRecursion P xs → P x → AllByRecursion P (xs ++ x ∷ [])
-all_snoc P [] x h g = (g, tt)
-all_snoc P (y ∷ xs) x h g = (h.0, all_snoc P xs x h.1 g)
 
 -- the feeds' numbers rise from lo on, and are below hi
 abbrev pub RisesTo : ℕ → ℕ → List Act → Type 0

@@ -17,12 +17,12 @@ use Rattle.conn_blocks.specs.ServeOrder.{BlockOf, IsActOf, IsCallOn, serve, serv
 use Rattle.perimeter_core.specs.Deeds.{feed_numbers}
 use Rattle.conn_blocks.specs.Orders.{numbers_from, numbers_on, call_numbers, is_call, has_call, is_held, is_next, let_go, keeps, settles, settle}
 use Rattle.conn_blocks.specs.Holding.{all_made, is_held_back, is_made, stage_at, stage_of, Fits, IsSettled, StandsFor}
-use Rattle.conn_blocks.proofs.FeedsInOrder.{all_snoc}
 use Rattle.conn_blocks.proofs.Rising.{Up, has, up_numbers, before, behind, run_yes, run_no}
 use Rattle.conn_blocks.proofs.Numbers.{split_at, left_one, is_among}
 use Rattle.conn_blocks.proofs.Settled.{settled_stages}
 use Rattle.conn_blocks.specs.SettledFeeds.{feeds_settle}
 use Rattle.conn_blocks.proofs.Settling.{has_one, is_it, IsOn, Settling, settling, next_split}
+use Rattle.capture_reader.proofs.Pieces.{all_push}
 
 settles_more : (calls : CallLists) (c : ℕ) (came kept acts : List Act) (a : Act)
     → settles calls c came kept (acts ++ a ∷ []) ≡ keeps calls c (came ++ acts) (settles calls c came kept acts) a
@@ -109,7 +109,7 @@ module _ (p : PlanOf) (calls : CallLists) (c : ℕ) (came : List Act) (old : Blo
   module _ (a : Act) (acts : IsActOf p calls c a) (new : BlockOf) (settled : IsSettled p calls c new) where
     stands : new.order ≡ keeps calls c came old.order a → Fits calls (came ++ a ∷ []) new → StandsFor p calls c (came ++ a ∷ []) new
     stands e f = record {
-      acts = all_snoc (IsActOf p calls c) came a is.acts acts;
+      acts = all_push (IsActOf p calls c) came a is.acts acts;
       settled = settled;
       order = e ∙ ap (λ l. keeps calls c came l a) is.order ∙ sym (settle_more calls c came a);
       stages = f;

@@ -2,7 +2,7 @@ mod SoFar
 pub mod Rising
 pub mod Numbers
 pub mod Settling
-mod WholeOrders
+pub mod WholeOrders
 pub mod Counting
 mod Settled
 mod Held

@@ -1,7 +1,6 @@
 -- The blocks of a squeue, one act further.
 use Rattle.std.proofs.Common.{◌≡◌, ◌≢◌, ℕ, zero, suc, ◌+◌, ◌%◌, ◌<◌, ◌≤◌, Bool, true, false, ◌==◌, ◌&&◌, inl, inr, Option, Some, None, List, [], ◌∷◌, ◌++◌, length, slice_get, slice_set, slice_index_or, IfSome, length-append, refl, ap, sym, ◌∙◌, subst, arith}
 use Rattle.std.specs.Prelude.{Box, Contains, nat_lt, slice_index, if◌then◌else◌}
-use Rattle.std.proofs.lemmas.List.{append-nil}
 use Rattle.std.proofs.lemmas.List.Elements.{Contains-append_cases}
 use Rattle.std.proofs.lemmas.List.FromFn.{get_or-map-range_with_len}
 use Rattle.std.proofs.lemmas.Bool.{both_ways, cases_eq, cases_lt}
@@ -15,7 +14,8 @@ use Rattle.perimeter_core.specs.declared.marks.SynchAct.TheVariants as Done
 use Rattle.perimeter_core.specs.Deeds.{fed, feed_numbers}
 use Rattle.perimeter_core.specs.Blocks.{Blocks as Had, longer, with_feeds, with_act}
 use Rattle.perimeter_core.specs.Residing.{HadFeeds, Here}
-use Rattle.perimeter_core.proofs.LogSteps.{got}
+use Rattle.perimeter_core.proofs.LogSteps.{got, get_same, get_other, fed_is, some_longer}
+use Rattle.perimeter_core.proofs.FeedActs.{longer_none}
 use Rattle.tcb_machine.specs.declared.kinds.Call.{Call}
 use Rattle.conn_classifier.specs.Plan.{PlanOf, items_in}
 use Rattle.conn_blocks.specs.CallLists.{CallLists, calls_of, call_at}
@@ -25,28 +25,16 @@ use Rattle.conn_blocks.specs.Allowed.{named_from, all_from, all_calls, feed_limi
 use Rattle.conn_blocks.specs.Places.{PlaceFits, PlacesStand, PartStands, IsPartOf, first_here}
 use Rattle.conn_blocks.proofs.NewBlock.{new_stands}
 
-get_same : {A : Type 0} (xs : List A) (c : ℕ) (x : A) → c < length xs → slice_get (slice_set xs c x) c ≡ Some x
-get_same [] c x h = absurd (omega arith)
-get_same (y ∷ xs) zero x h = refl
-get_same (y ∷ xs) (suc c) x h = get_same xs c x (omega arith)
-
-get_other : {A : Type 0} (xs : List A) (c d : ℕ) (x : A) → c ≢ d → slice_get (slice_set xs c x) d ≡ slice_get xs d
-get_other [] c d x h = refl
-get_other (y ∷ xs) zero zero x h = absurd (h refl)
-get_other (y ∷ xs) zero (suc d) x h = refl
-get_other (y ∷ xs) (suc c) zero x h = refl
-get_other (y ∷ xs) (suc c) (suc d) x h = get_other xs c d x (λ e. h (ap suc e))
-
 get_left : {A : Type 0} (xs ys : List A) (c : ℕ) → c < length xs → slice_get (xs ++ ys) c ≡ slice_get xs c
 get_left [] ys c h = absurd (omega arith)
 get_left (x ∷ xs) ys zero h = refl
 get_left (x ∷ xs) ys (suc c) h = get_left xs ys c (omega arith)
 
-get_seam : {A : Type 0} (xs : List A) (x : A) → slice_get (xs ++ x ∷ []) (length xs) ≡ Some x
+pub get_seam : {A : Type 0} (xs : List A) (x : A) → slice_get (xs ++ x ∷ []) (length xs) ≡ Some x
 get_seam [] x = refl
 get_seam (y ∷ xs) x = get_seam xs x
 
-not_past : {A : Type 0} (xs : List A) (c : ℕ) → c < length xs → slice_get xs c ≡ None → ⊥
+pub not_past : {A : Type 0} (xs : List A) (c : ℕ) → c < length xs → slice_get xs c ≡ None → ⊥
 not_past [] c lt e = omega (arith, lt)
 not_past (x ∷ xs) zero lt e = cc e
 not_past (x ∷ xs) (suc c) lt e = not_past xs c (omega (arith, lt)) e
@@ -63,11 +51,6 @@ away_first n k squeues c ne =
     by : (b d : Bool) → d ≡ false → (b && d) ≡ false
     by false d e = refl
     by true d e = e
-
-fed_is : (xs : List Act) → fed xs ≡ length (feed_numbers xs)
-fed_is [] = refl
-fed_is (act.Feed n ∷ xs) = omega (arith, fed_is xs)
-fed_is (act.Call j k ∷ xs) = fed_is xs
 
 -- a feed within the limits is an item
 pub is_item : (p : PlanOf) (c n : ℕ) → c < length p.tuples → n < slice_index (feed_limits p) c → n < length (items_in p c)
@@ -129,13 +112,6 @@ module _ (p : PlanOf) (calls : CallLists) where
   found c (Some (Some y)) None x e h = absurd h
   found c (Some None) b x e h = absurd (cc e)
   found c None b x e h = absurd (cc e)
-
-  some_longer : (o : Option (List Act)) (had more : List Act) → o ≡ Some had → longer more o ≡ Some (had ++ more)
-  some_longer o had more h = rw h refl
-
-  longer_none : (o : Option (List Act)) → longer [] o ≡ o
-  longer_none None = refl
-  longer_none (Some x) = ap Some (append-nil x)
 
   -- the block at a place stands for the acts of its connection
   pub stands_here : (places : List (Option (Box BlockOf Global))) (c : ℕ) (x : Box BlockOf Global) → slice_get places c ≡ Some (Some x) → Here (PlacesStand p calls places) c

@@ -1,11 +1,9 @@
 -- An order served as far as act i.
-use Rattle.std.proofs.Common.{◌≡◌, ℕ, ◌+◌, ◌*◌, ◌<◌, ◌≤◌, ◌^◌, inl, inr, false, List, [], ◌∷◌, ◌++◌, length, take, drop, slice_get, Some, None, Option, IfSome, sym, ap, subst, ◌∙◌, arith}
+use Rattle.std.proofs.Common.{◌≡◌, ℕ, ◌+◌, ◌*◌, ◌<◌, ◌≤◌, ◌^◌, inl, inr, false, List, [], ◌∷◌, ◌++◌, length, take, drop, sym, ap, subst, ◌∙◌, arith}
 use Rattle.std.specs.List.{AllByRecursion}
-use Rattle.std.specs.Option.{option_map}
 use Rattle.byte_queues.specs.ReceiveQueue.{next_of}
 use Rattle.tcb_machine.specs.BlockState.{offered}
-use Rattle.conn_classifier.specs.declared.kinds.Item.{Item}
-use Rattle.conn_classifier.specs.Plan.{PlanOf, items_in, time_of}
+use Rattle.conn_classifier.specs.Plan.{PlanOf, items_in}
 use Rattle.perimeter_core.specs.declared.entries.Act.{Act}
 use Rattle.perimeter_core.specs.declared.entries.Act.TheVariants as act
 use Rattle.conn_blocks.specs.CallLists.{CallLists}
@@ -25,16 +23,6 @@ pub record SoFar (p : PlanOf) (calls : CallLists) (c : ℕ) (order : List Act) (
   pub clock : ClockIsPast p c feeds b.tcb.clock
   pub received_most : next_of b.tcb.recv ≤ i * 2 ^ 20
   pub offered_most : offered b.tcb ≤ i * 2 ^ 16
-
--- the clock isn't after the item
-pub timely : (p : PlanOf) (c n clock : ℕ) (x : Item) → ClockIsPast p c n clock
-    → ((m : ℕ) → m ≤ n → IfSome (slice_get (items_in p c) m) (λ before. time_of before ≤ time_of x)) → clock ≤ time_of x
-timely p c n clock x (inl e) rises = omega (arith, e)
-timely p c n clock x (inr (m, lt, e)) rises = let le : m ≤ n = omega (arith, lt) in by (slice_get (items_in p c) m) (rises m le) e
-  where
-    by : (o : Option Item) → IfSome o (λ before. time_of before ≤ time_of x) → option_map time_of o ≡ Some clock → clock ≤ time_of x
-    by None h e = absurd (let no : ⊥ = cc in no)
-    by (Some y) h e = let same : time_of y ≡ clock = cc in omega (arith, h, same)
 
 module _ (p : PlanOf) (calls : CallLists) (c : ℕ) (order : List Act) (items : length (items_in p c) ≤ 2097153) where
   pub starts : (b : BlockOf) → b.order ≡ [] → b.short ≡ false → b.service ≡ service_in p c → serves p calls c (service_in p c) order (serving_of b) ≡ serve p calls c order

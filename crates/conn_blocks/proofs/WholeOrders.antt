@@ -66,7 +66,7 @@ module _ (p : PlanOf) (calls : CallLists) (c : ℕ) (acts : List Act) (all : IsA
     asked = λ j. nothing_left j ((settling calls c acts (all_on calls c acts (λ j k e. sym (same_calls j k) ∙ e))).waits j);
   }
 
-only_feeds : (acts : List Act) → ((j : ℕ) → call_numbers j acts ≡ []) → acts ≡ map act.Feed (feed_numbers acts)
+pub only_feeds : (acts : List Act) → ((j : ℕ) → call_numbers j acts ≡ []) → acts ≡ map act.Feed (feed_numbers acts)
 only_feeds [] h = refl
 only_feeds (act.Feed n ∷ acts) h = ap (λ l. act.Feed n ∷ l) (only_feeds acts h)
 only_feeds (act.Call j k ∷ acts) h = absurd (by (j == j) (eq-eqb j j refl) (h j))

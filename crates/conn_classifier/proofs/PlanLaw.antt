@@ -1,7 +1,8 @@
 -- The plan of a capture is a plan: what holds of every plan follows from the sizes of the capture.
-use Rattle.std.proofs.Common.{◌≡◌, ℕ, ◌+◌, ◌*◌, ◌<◌, ◌≤◌, ◌&&◌, ◌==◌, not, max, Bool, true, false, List, [], ◌∷◌, ◌++◌, suc, zero, length, map, take, filter, fold, Option, Some, None, IfSome, slice_get, refl, sym, ap, subst, ◌∙◌, arith, eq-eqb}
+use Rattle.std.proofs.Common.{◌≡◌, ℕ, ◌+◌, ◌*◌, ◌<◌, ◌≤◌, ◌==◌, not, max, Bool, true, false, List, [], ◌∷◌, ◌++◌, suc, zero, length, map, take, filter, fold, Option, Some, None, IfSome, slice_get, refl, sym, ap, subst, ◌∙◌, arith, eq-eqb}
 use Rattle.std.specs.List.{AllByRecursion, IsDistinct, filter_map}
 use Rattle.std.proofs.lemmas.List.{length-map, length-take, length-append}
+use Rattle.std.proofs.lemmas.Bool.{and_from}
 use Rattle.sq_base.specs.declared.kinds.Tuple.{Tuple}
 use Rattle.segment_codec.specs.declared.packet.Packet.{Packet}
 use Rattle.segment_codec.specs.declared.packet.Packet.TheVariants as packet
@@ -62,11 +63,8 @@ length-filter_le p (x ∷ xs) = by (p x) refl (length-filter_le p xs)
     by true e rest = rw e (omega (arith, rest))
     by false e rest = rw e (omega (arith, rest))
 
-pub both : (a b : Bool) → a ≡ true → b ≡ true → (a && b) ≡ true
-both a b e f = rw (e, f) refl
-
 pub same_tuple : (t : Tuple) → tuple_eq t t ≡ true
-same_tuple t = both _ _ (same t.client.0) (both _ _ (same t.client_port) (both _ _ (same t.server.0) (same t.server_port)))
+same_tuple t = and_from _ _ (same t.client.0) (and_from _ _ (same t.client_port) (and_from _ _ (same t.server.0) (same t.server_port)))
   where
     same : (n : ℕ) → (n == n) ≡ true
     same n = eq-eqb n n refl

@@ -9,7 +9,7 @@ use Rattle.conn_classifier.specs.declared.kinds.Item.{Item}
 use Rattle.conn_classifier.specs.declared.kinds.Item.TheVariants.{Time, Segment}
 use Rattle.conn_classifier.specs.Plan.{PlanOf, IsPlan, IsSpaced, Climbs, records_of, items_in}
 use Rattle.conn_classifier.specs.RingList.{feeds, first_record, to_segment, record_of, last_feeds, IsFront}
-use Rattle.conn_classifier.proofs.PlanFacts.{items_at}
+use Rattle.conn_classifier.proofs.PlanFacts.{items_at, no_below}
 
 -- lists
 drop_plus : {X : Type 0} (n m : ℕ) (xs : List X) → drop (n + m) xs ≡ drop m (drop n xs)
@@ -76,9 +76,6 @@ spaced_some : (xs : List Item) → IsSpaced xs → 0 < length xs
 spaced_some [] h = absurd h
 spaced_some (x ∷ xs) h = omega arith
 
-none_below : {A : Type 0} {m : ℕ} → m < 0 → A
-none_below h = absurd (let no : ⊥ = omega arith in no)
-
 next_segment : (xs : List Item) (rec : ℕ) (recs : List ℕ) → IsSpaced xs → records_of xs ≡ rec ∷ recs → NextSegment xs rec recs
 next_segment [] rec recs s e = absurd s
 next_segment (Segment at here iss seg ∷ xs) rec recs s e = record {
@@ -90,7 +87,7 @@ next_segment (Segment at here iss seg ∷ xs) rec recs s e = record {
   where
     one : (m : ℕ) → m < 1 → first_record (drop m (Segment at here iss seg ∷ xs)) ≡ rec
     one zero lt = (cc)
-    one (suc m) lt = none_below {m = m} (omega (arith, lt))
+    one (suc m) lt = no_below {m = m} (omega (arith, lt))
 next_segment (Time at ∷ []) rec recs s e = absurd (let no : ⊥ = cc in no)
 next_segment (Time at ∷ (Time time ∷ xs)) rec recs s e = absurd s
 next_segment (Time at ∷ (Segment time here iss seg ∷ xs)) rec recs s e = record {
@@ -103,7 +100,7 @@ next_segment (Time at ∷ (Segment time here iss seg ∷ xs)) rec recs s e = rec
     two : (m : ℕ) → m < 2 → first_record (drop m (Time at ∷ (Segment time here iss seg ∷ xs))) ≡ rec
     two zero lt = (cc)
     two (suc zero) lt = (cc)
-    two (suc (suc m)) lt = none_below {m = m} (omega (arith, lt))
+    two (suc (suc m)) lt = no_below {m = m} (omega (arith, lt))
 
 one_left : (xs : List Item) → IsSpaced xs → records_of xs ≡ [] → length xs ≡ 1
 one_left [] s e = absurd s

@@ -8,7 +8,7 @@ use Rattle.perimeter_core.specs.declared.marks.SynchAct.{SynchAct}
 use Rattle.perimeter_core.specs.declared.marks.SynchAct.TheVariants as Done
 use Rattle.perimeter_core.specs.Perimeter.{is_free, is_here}
 use Rattle.perimeter_core.specs.History.{Element, Limits, Setting, start, run, made_by}
-use Rattle.perimeter_core.specs.Deeds.{fed, due_after, due_from, due, times_left}
+use Rattle.perimeter_core.specs.Deeds.{fed, due_from, due, times_left}
 use Rattle.perimeter_core.specs.Legal.{Legal, feeds_by, asks_by}
 use Rattle.perimeter_core.specs.Knowledge.{here_by}
 use Rattle.perimeter_core.proofs.OneMore.{legal_front}
@@ -18,13 +18,9 @@ use Rattle.squeue_state.specs.Naming.{Named, setting_of}
 use Rattle.squeue_state.specs.Elements.{number_of, gone, asked, claimed_ask, granted, accepted}
 use Rattle.squeue_state.proofs.Makers.{only_made}
 use Rattle.synch_enter.specs.Synch.{IsWay}
-use Rattle.synch_enter.proofs.Asking.{by_append}
-use Rattle.synch_enter.proofs.Knowing.{here_append, left_append}
 use Rattle.conn_migrate.specs.Moving.{Moved, IsKept, RingLearns}
-
-due_append : (c n : ℕ) (H K : List Element) → due_from c n (H ++ K) ≡ due_from c (due_from c n H) K
-due_append c n [] K = refl
-due_append c n (e ∷ H) K = due_append c (due_after c n e) H K
+use Rattle.squeue_enter.proofs.Bringing.{left_append, here_append, none_count, due_append}
+use Rattle.squeue_enter.proofs.Carrying.{by_append}
 
 -- Elements T of the pass p, with no feed and so many Asks; after them connection d is here or not, has left so many times
 -- more, and has its next feed, by what it was before
@@ -44,10 +40,6 @@ both p d a b t u h k m n T U x y =
       next_feed = λ z. due_append d z T U ∙ (ap (λ w. due_from d w U) (x.next_feed z) ∙ y.next_feed (m z));
       left = omega (arith, left_append d T U, x.left, y.left);
     }
-
-none_count : (b : Bool) → (if b then 0 else 0) + 0 ≡ 0
-none_count true = refl
-none_count false = refl
 
 one_count : (p : ℕ) → (if p == p then 1 else 0) + 0 ≡ 1
 one_count p = let e : (p == p) ≡ true = grind (arith, nat_tests) in rw e refl

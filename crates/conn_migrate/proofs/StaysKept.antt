@@ -15,10 +15,10 @@ use Rattle.conn_migrate.specs.Stays.{Stay, Stays, as_list, all_in, begun, longer
 use Rattle.conn_migrate.proofs.OneSqueue.{stays_push, fits}
 
 -- the stays before anything happened
-abbrev at_first : Setting → ℕ → Stays
+abbrev pub at_first : Setting → ℕ → Stays
 at_first S c = record { ended = []; now = if is_here (start S) c then Some (begun []) else None }
 
-note_longer : (more had : List Act) (o : Option Stay) → note_of (longer_by more had o) ≡ note_of o
+pub note_longer : (more had : List Act) (o : Option Stay) → note_of (longer_by more had o) ≡ note_of o
 note_longer more had None = refl
 note_longer more had (Some v) = refl
 

@@ -16,7 +16,7 @@ use Rattle.stream_blocks.specs.declared.blocks.StreamBlocks.{StreamBlocks}
 use Rattle.stream_blocks.specs.Standing.{PlacesStand, Stands, limits_of, origin_of, size_of}
 use Rattle.datagram_services.specs.Gathering.{HaveLeft, LeavesRow}
 
-abbrev Row : Type 0
+abbrev pub Row : Type 0
 Row = Vec (Option StreamBlock) Global
 
 module _ (front count : ℕ) (ss : List (Named StreamBlocks)) (lent0 : ℕ → List (Option (Pass Element))) where

@@ -7,6 +7,7 @@ use Rattle.perimeter_core.specs.declared.entries.Feed.{Feed}
 use Rattle.stream_plan.specs.Sound.{IsMorePlan}
 use Rattle.stream_plan.specs.Streams.{MorePlanOf, StreamOf, item_count}
 use Rattle.key_counters.specs.Lists.{items_of, list_of}
+use Rattle.key_counters.proofs.RingLists.{length_items}
 use Rattle.squeue_rings.specs.Runs.{count, is_at}
 use Rattle.squeue_rings.proofs.Counting.{count_more}
 use Rattle.ring_jobs.specs.declared.lines.Line.{Line}
@@ -20,10 +21,6 @@ count_at p c k lt is = at p.streams c lt is
     at [] c lt is = absurd (let no : ⊥ = omega (arith, lt) in no)
     at (s ∷ ss) zero lt is = is
     at (s ∷ ss) (suc c) lt is = at ss c (omega (arith, lt)) is
-
-length_items : (c n k : ℕ) → length (items_of c n k) ≡ k
-length_items c n zero = omega arith
-length_items c n (suc k) = ap suc (length_items c (suc n) k)
 
 length_if : (b : Bool) (c k : ℕ) → length (if b then items_of c 0 k else []) ≤ k
 length_if true c k = omega (arith, length_items c 0 k)

@@ -1,9 +1,9 @@
 -- The text of all streams, and of one.
-use Rattle.std.proofs.Common.{◌≡◌, ℕ, ◌+◌, ◌≤◌, ◌<◌, List, [], ◌∷◌, ◌++◌, length, drop, slice_get, codes, Option, Some, None, IfSome, inl, inr, refl, sym, ap, subst, ◌∙◌, append_assoc, append-nil, arith, if◌then◌else◌}
+use Rattle.std.proofs.Common.{◌≡◌, ℕ, ◌+◌, ◌≤◌, ◌<◌, List, [], ◌∷◌, ◌++◌, length, drop, slice_get, codes, Option, Some, None, IfSome, refl, sym, ap, subst, ◌∙◌, append_assoc, append-nil, arith, if◌then◌else◌}
 use Rattle.std.specs.List.{flat_map, enumerate_from}
 use Rattle.std.specs.Option.{option_map}
 use Rattle.std.proofs.lemmas.List.{drop_all, length-map}
-use Rattle.std.proofs.lemmas.Option.{slice_get-map, slice_get_cases}
+use Rattle.std.proofs.lemmas.Option.{slice_get-map}
 use Rattle.sq_base.specs.declared.kinds.Tuple.{Tuple}
 use Rattle.chargen_service.specs.Chargen.{Generating}
 use Rattle.squeue_report.specs.ReportText.{done_line, end_line, line, reply_line}
@@ -13,6 +13,7 @@ use Rattle.stream_blocks.specs.Served.{ServedOf, all_served}
 use Rattle.conn_classifier.proofs.RingLaw.{drop_at}
 use Rattle.datagram_services.specs.MoreText.{answer_line, counts_line, is_generator, items_line, plan_text, stream_line, stream_text}
 use Rattle.datagram_services.specs.Served.{IsMoreServed}
+use Rattle.conn_blocks.proofs.PlaceSteps.{not_past}
 
 -- what stands behind the stream's two first lines and the answers
 abbrev pub generated : Tuple → Generating → List ℕ
@@ -28,12 +29,6 @@ streams_text p c = flat_map (told p) (enumerate_from c (drop c p.streams))
 from_some : {X : Type 0} (P : X → Type 0) (r : Option X) (x : X) → r ≡ Some x → IfSome r P → P x
 from_some P None x e h = absurd (let no : ⊥ = cc in no)
 from_some P (Some y) x e h = let same : y ≡ x = cc in subst P same h
-
-none_within : {X : Type 0} (xs : List X) (c : ℕ) → c < length xs → slice_get xs c ≡ None → ⊥
-none_within xs c lt e = elim ((slice_get_cases xs c).1) [
-  | inl h ↦ (let no : ⊥ = cc (e, h.2) in no)
-  | inr h ↦ (let no : ⊥ = omega (arith, lt, h.0) in no)
-]
 
 -- one stream
 one_stream : (c count : ℕ) (s : StreamOf) (v : ServedOf) (t : Tuple) (answers : List Answer) (g : Generating) (old a b d new : List ℕ) → t ≡ s.tuple → count ≡ item_count s
@@ -73,7 +68,7 @@ pub streams_more : (p : MorePlanOf) (c : ℕ) (was new whole : List ℕ) → c <
 streams_more p c was new whole lt so_far one = on (slice_get p.streams c) refl one
   where
     on : (r : Option StreamOf) → slice_get p.streams c ≡ r → IfSome r (λ s. new ≡ was ++ told p (c, s)) → new ++ streams_text p (c + 1) ≡ whole
-    on None e h = absurd (let no : ⊥ = none_within p.streams c lt e in no)
+    on None e h = absurd (let no : ⊥ = not_past p.streams c lt e in no)
     on (Some s) e h =
         ap (λ l. l ++ streams_text p (c + 1)) h ∙ append_assoc was (told p (c, s)) (streams_text p (c + 1))
         ∙ sym (ap (λ l. was ++ flat_map (told p) (enumerate_from c l)) (drop_at p.streams c s e)) ∙ so_far

@@ -7,10 +7,10 @@ use Rattle.turn_gate.proofs.Histories.{all_joined}
 use Rattle.perimeter_core.specs.declared.entries.Feed.{Feed}
 use Rattle.perimeter_core.specs.Backlog.{up}
 use Rattle.perimeter_core.specs.Deeds.{entries, feeds_of}
-use Rattle.perimeter_core.proofs.FeedLists.{feeds_of-append, length-up}
+use Rattle.perimeter_core.proofs.FeedLists.{length-up}
 use Rattle.squeue_rings.specs.Runs.{InOrder, brought, comes, count, is_left_by, leaves}
+use Rattle.squeue_rings.proofs.Counting.{feeds_more}
 use Rattle.key_counters.specs.Lists.{items_of, list_of}
-use Rattle.key_counters.proofs.Chains.{entries_append}
 
 -- no stream moves
 both_ways : (b : Bool) → (b && not b) ≡ false
@@ -47,9 +47,6 @@ other_feeds : (c d n k : ℕ) → d ≢ c → feeds_of d (entries (items_of c n 
 other_feeds c d n zero h = refl
 other_feeds c d n (suc k) h = let b : (c == d) ≡ false = grind (arith, nat_tests) in rw b (other_feeds c d (suc n) k h)
 
-joined : (d : ℕ) (xs ys : List Feed) → feeds_of d (entries (xs ++ ys)) ≡ feeds_of d (entries xs) ++ feeds_of d (entries ys)
-joined d xs ys = ap (feeds_of d) (entries_append xs ys) ∙ feeds_of-append d (entries xs) (entries ys)
-
 first_part : (b : Bool) (c d k : ℕ) → d ≢ c → feeds_of d (entries (if b then items_of c 0 k else [])) ≡ []
 first_part true c d k h = other_feeds c d 0 k h
 first_part false c d k h = refl
@@ -57,7 +54,7 @@ first_part false c d k h = refl
 none_behind : (rings r c d : ℕ) (counts : List ℕ) → d < c → feeds_of d (entries (list_of rings r c counts)) ≡ []
 none_behind rings r c d [] h = refl
 none_behind rings r c d (k ∷ counts) h =
-    joined d (if c % rings == r then items_of c 0 k else []) (list_of rings r (suc c) counts)
+    feeds_more d (if c % rings == r then items_of c 0 k else []) (list_of rings r (suc c) counts)
     ∙ (λ j. first_part (c % rings == r) c d k (λ e. absurd (let no : ⊥ = omega (arith, e, h) in no)) j ++ none_behind rings r (suc c) d counts (omega (arith, h)) j)
 
 -- a stream's feeds in a list are the first ones, at most as many as it has items
@@ -76,7 +73,7 @@ firsts rings r c zero (k ∷ counts) = subst (λ (d : ℕ). Firsts rings r c d (
     by : (b : Bool) → (c % rings == r) ≡ b → Firsts rings r c c (k ∷ counts) k
     by true e = record {
       many = k;
-      are = rw e (joined c (items_of c 0 k) (list_of rings r (suc c) counts) ∙ ((λ j. own_feeds c 0 k j ++ none_behind rings r (suc c) c counts (omega arith) j) ∙ append-nil (up 0 k)));
+      are = rw e (feeds_more c (items_of c 0 k) (list_of rings r (suc c) counts) ∙ ((λ j. own_feeds c 0 k j ++ none_behind rings r (suc c) c counts (omega arith) j) ∙ append-nil (up 0 k)));
       few = omega arith;
     }
     by false e = record { many = 0; are = rw e (none_behind rings r (suc c) c counts (omega arith)); few = omega arith }
@@ -88,7 +85,7 @@ firsts rings r c (suc i) (k ∷ counts) = subst (λ (d : ℕ). Firsts rings r c 
     more : Firsts rings r (suc c) (suc c + i) counts (slice_index counts i) → Firsts rings r c (suc c + i) (k ∷ counts) (slice_index counts i)
     more h = record {
       many = h.many;
-      are = joined (suc c + i) (if c % rings == r then items_of c 0 k else []) (list_of rings r (suc c) counts)
+      are = feeds_more (suc c + i) (if c % rings == r then items_of c 0 k else []) (list_of rings r (suc c) counts)
           ∙ (λ j. first_part (c % rings == r) c (suc c + i) k (λ e. absurd (let no : ⊥ = omega (arith, e) in no)) j ++ h.are j);
       few = h.few;
     }

@@ -1,17 +1,15 @@
 -- One block more is taken out of the rows.
-use Rattle.std.proofs.Common.{◌≡◌, ◌≢◌, ℕ, ◌+◌, ◌%◌, ◌<◌, ◌≤◌, inl, inr, false, Option, Some, List, [], ◌∷◌, ◌++◌, Vec, length, map, take, slice_get, slice_set, ap, sym, ◌∙◌, subst, arith}
-use Rattle.std.specs.declared.alloc.Global.{Global}
+use Rattle.std.proofs.Common.{◌≡◌, ◌≢◌, ℕ, ◌+◌, ◌%◌, ◌<◌, ◌≤◌, inl, inr, false, Option, Some, List, [], ◌∷◌, ◌++◌, length, map, take, slice_get, slice_set, ap, sym, ◌∙◌, subst, arith}
 use Rattle.std.proofs.lemmas.Bool.{cases_eq}
 use Rattle.std.proofs.lemmas.List.{map-append}
-use Rattle.squeue_rings.proofs.Slots.{got_map, got_other, got_same, take_one}
+use Rattle.squeue_rings.proofs.Slots.{got_map, got_other, take_one}
 use Rattle.stream_plan.specs.Streams.{MorePlanOf, StreamOf}
 use Rattle.stream_blocks.specs.declared.block.StreamBlock.{StreamBlock}
 use Rattle.stream_blocks.specs.Served.{all_served, served}
 use Rattle.stream_blocks.specs.Standing.{HasServed, served_of}
 use Rattle.datagram_services.specs.Gathering.{IsWholeBlock}
-
-abbrev Row : Type 0
-Row = Vec (Option StreamBlock) Global
+use Rattle.datagram_services.proofs.Back.{Row}
+use Rattle.perimeter_core.proofs.LogSteps.{get_same}
 
 -- the blocks of the streams from c on lie in their rows
 abbrev pub Rest : MorePlanOf → ℕ → ℕ → List Row → Type 0
@@ -22,7 +20,7 @@ module _ (p : MorePlanOf) (squeues c : ℕ) (rows : List Row) (row new : Row) (a
   rest_more others d s r le stream is =
       elim (cases_eq (d % squeues) (c % squeues)) [
         | inl e ↦
-            let same : new ≡ r = (let i : Some new ≡ Some r = sym (got_same rows (c % squeues) new lt) ∙ (ap (λ (k : ℕ). slice_get (slice_set rows (c % squeues) new) k) (sym e) ∙ is) in cc i) in
+            let same : new ≡ r = (let i : Some new ≡ Some r = sym (get_same rows (c % squeues) new lt) ∙ (ap (λ (k : ℕ). slice_get (slice_set rows (c % squeues) new) k) (sym e) ∙ is) in cc i) in
             let old = rest d s row (omega (arith, le)) stream (ap (slice_get rows) e ∙ at) in
             let apart : d ≢ c = λ f. absurd (let no : ⊥ = omega (arith, f, le) in no) in
             subst (λ (r : Row). IsWholeBlock p d s r.items) same (record { block = old.block; lies = others d apart ∙ old.lies; part = old.part; had = old.had })

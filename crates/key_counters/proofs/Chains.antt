@@ -1,5 +1,5 @@
 -- A ring that brings one chain after another, and then closes.
-use Rattle.std.proofs.Common.{◌≡◌, ℕ, Bool, true, false, ◌==◌, ◌<◌, take, drop, ◌+◌, ◌%◌, List, [], ◌∷◌, ◌++◌, length, refl, ap, sym, ◌∙◌, subst, arith, append_assoc, length-append}
+use Rattle.std.proofs.Common.{◌≡◌, ℕ, Bool, true, false, ◌==◌, ◌<◌, take, drop, ◌+◌, ◌%◌, List, [], ◌++◌, length, refl, ap, sym, ◌∙◌, subst, arith, append_assoc, length-append}
 use Rattle.std.proofs.lemmas.List.{append-nil, take-append-drop, nil_from_length}
 use Rattle.std.proofs.lemmas.Bool.Decides.{nat_tests}
 use Rattle.turn_gate.specs.History.{Begins, only}
@@ -7,7 +7,6 @@ use Rattle.turn_gate.specs.Passes.{IsPassOf, number, seen, mine}
 use Rattle.turn_gate.specs.declared.pass.Pass.{Pass}
 use Rattle.perimeter_core.specs.declared.entries.Feed.{Feed as FeedOf}
 use Rattle.perimeter_core.specs.declared.entries.Entry.{Entry}
-use Rattle.perimeter_core.specs.declared.entries.Entry.TheVariants.{Feed}
 use Rattle.perimeter_core.specs.Perimeter.{State, is_here}
 use Rattle.perimeter_core.specs.History.{Element, Limits, start, run, made_by}
 use Rattle.perimeter_core.specs.Deeds.{entries, feeds_of, due}
@@ -19,13 +18,9 @@ use Rattle.squeue_state.specs.Elements.{number_of, closed_by}
 use Rattle.squeue_state.specs.Words.{Added}
 use Rattle.squeue_state.proofs.Makers.{others_made}
 use Rattle.squeue_enter.specs.Entering.{MayEnter, Brought, MayGoOn}
-use Rattle.squeue_enter.proofs.Bringing.{may_front}
+use Rattle.squeue_enter.proofs.Bringing.{may_front, entries_append}
 use Rattle.squeue_enter.proofs.Carrying.{due_carried, here_carried}
 use Rattle.key_counters.specs.Running.{HasClosed}
-
-pub entries_append : (es fs : List FeedOf) → entries (es ++ fs) ≡ entries es ++ entries fs
-entries_append [] fs = refl
-entries_append (e ∷ es) fs = ap (λ (xs : List Entry). Feed e.c e.n ∷ xs) (entries_append es fs)
 
 pub count_append : (c : ℕ) (es fs : List FeedOf) → length (feeds_of c (entries (es ++ fs))) ≡ length (feeds_of c (entries es)) + length (feeds_of c (entries fs))
 count_append c es fs =

@@ -53,10 +53,6 @@ amount_added n k next had more at h =
       read = ap fed (before-feed had n) ∙ (h.read ∙ sym at);
     }
 
--- one reading more
-pub reading_counts : (c : ℕ) (row : List ℕ) (k : Counter) → Counts c row k → Counts c row (record k { read_at = k.had; read = k.total })
-reading_counts c row k h = record { key = h.key; within = h.within; total = h.total; read = h.total }
-
 pub reading_added : (j i : ℕ) (k : Counter) (had : List Act) → HasAdded k had → HasAdded (record k { read_at = k.had; read = k.total }) (had ++ Did.Call j i ∷ [])
 reading_added j i k had h =
     record {

@@ -1,5 +1,5 @@
 -- A ring that has seen nothing may bring its whole list.
-use Rattle.std.proofs.Common.{◌≡◌, ◌≢◌, ℕ, zero, suc, ◌+◌, ◌%◌, ◌<◌, ◌≤◌, Bool, true, false, if◌then◌else◌, ◌==◌, Option, Some, None, List, [], ◌∷◌, ◌++◌, length, replicate, slice_index, slice_index_or, refl, ap, sym, ◌∙◌, subst, arith}
+use Rattle.std.proofs.Common.{◌≡◌, ◌≢◌, ℕ, zero, suc, ◌+◌, ◌%◌, ◌<◌, ◌≤◌, Bool, true, false, if◌then◌else◌, ◌==◌, Option, Some, None, List, [], ◌∷◌, ◌++◌, length, slice_index, refl, ap, sym, ◌∙◌, subst, arith}
 use Rattle.std.proofs.lemmas.Bool.Decides.{nat_tests}
 use Rattle.turn_gate.specs.Passes.{IsPassOf, number, seen}
 use Rattle.turn_gate.specs.declared.pass.Pass.{Pass}
@@ -12,12 +12,13 @@ use Rattle.perimeter_core.specs.Legal.{Enters, one_more, feeds_by}
 use Rattle.squeue_state.specs.Naming.{Named, setting_of}
 use Rattle.squeue_state.specs.Elements.{number_of}
 use Rattle.squeue_enter.specs.Entering.{MayEnter}
+use Rattle.squeue_enter.proofs.Bringing.{entries_append}
 use Rattle.key_counters.specs.declared.job.Task.{Task}
 use Rattle.key_counters.specs.declared.job.Task.TheVariants as Task'
 use Rattle.key_counters.specs.Lists.{items_of, list_of}
 use Rattle.key_counters.specs.Running.{ReadyFor}
 use Rattle.key_counters.specs.Serving.{ServesRings, IsNewFor, items_in}
-use Rattle.key_counters.proofs.Chains.{entries_append}
+use Rattle.squeue_serve.proofs.Unused.{start_idle}
 
 -- the feeds of one key, and what comes behind them
 enters_items : (S : Setting) (s : State) (p c n k : ℕ) (next : ℕ → ℕ) (es : List Entry) → p ≡ c % S.rings → is_here s c ≡ true → n ≡ next c → n + k ≤ slice_index S.limits.feeds c
@@ -50,21 +51,6 @@ enters_list S s p c next (k ∷ counts) here limit none =
     (λ later same. enters_list S s p (suc c) later counts (λ d a b. here d (omega arith) (omega arith))
     (λ i. let e : suc c + i ≡ c + suc i = omega arith in ap (slice_index S.limits.feeds) e ∙ limit (suc i))
     (λ d a. same d (λ e. absurd (omega (arith, e))) ∙ none d (omega arith))))
-
-open_flag : (n p : ℕ) → slice_index_or (replicate n false) p false ≡ false
-open_flag zero p = refl
-open_flag (suc n) zero = refl
-open_flag (suc n) (suc p) = open_flag n p
-
-start_idle : (S : Setting) (p : ℕ) → Idle (start S) p
-start_idle S p =
-    record {
-      open_pass = open_flag (length S.quotas + 1) p;
-      no_owner = λ e. cc e;
-      not_granted = λ e. cc e;
-      not_in_hand = refl;
-      not_in_chain = refl;
-    }
 
 module _ {R : Type 0} (limits : R → Limits) (s : Named R) (serves : ServesRings limits s.given) where
   abbrev S : Setting

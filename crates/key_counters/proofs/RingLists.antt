@@ -65,12 +65,6 @@ pub lists_more : {A : Type 0} (rings : ℕ) (counts : List ℕ) (r n : ℕ) (lis
 lists_more rings counts r n [] v is old new = ((let e : n ≡ r = omega (arith, is) in new ∙ ap (λ (k : ℕ). list_of rings k 0 counts) e), tt)
 lists_more rings counts r n (x ∷ lists) v is old new = (old.0, lists_more rings counts (suc r) n lists v (omega (arith, is)) old.1 new)
 
-pub last_list : {A : Type 0} (rings : ℕ) (counts : List ℕ) (r : ℕ) (lists : List (Vec FeedOf A)) (v : Vec FeedOf A) → AreLists rings counts r (lists ++ v ∷ []) → AreLists rings counts r lists × (v.items ≡ list_of rings (r + length lists) 0 counts)
-last_list rings counts r [] v is = (tt, (let e : r ≡ r + 0 = omega arith in is.0 ∙ ap (λ (k : ℕ). list_of rings k 0 counts) e))
-last_list rings counts r (x ∷ lists) v is =
-    let t = last_list rings counts (suc r) lists v is.1 in
-    let e : suc r + length lists ≡ r + suc (length lists) = omega arith in ((is.0, t.0), t.1 ∙ ap (λ (k : ℕ). list_of rings k 0 counts) e)
-
 -- the feeds of n rings from r on, of the keys from c on
 lens : ℕ → ℕ → ℕ → ℕ → List ℕ → ℕ
 lens rings r zero c counts = 0
@@ -95,7 +89,7 @@ unfolding hits
 hits_one r zero x k = omega arith
 hits_one r (suc n) x k = at_first (x == r) r n x k refl (hits_one (suc r) n x k)
 
-length_items : (c n k : ℕ) → length (items_of c n k) ≡ k
+pub length_items : (c n k : ℕ) → length (items_of c n k) ≡ k
 length_items c n zero = refl
 length_items c n (suc k) = ap suc (length_items c (suc n) k)
 

@@ -1,5 +1,5 @@
 -- From what a squeue of counters is made with to the totals.
-use Rattle.std.proofs.Common.{◌≡◌, ℕ, zero, suc, ◌+◌, ◌^◌, ◌<◌, ◌≤◌, Bool, true, false, nat_lt, if◌then◌else◌, Option, Some, None, Result, Ok, Err, IfOk, List, [], ◌∷◌, Vec, length, map, take, sum, slice_get, slice_index_or, is_some, refl, ap, sym, ◌∙◌, arith}
+use Rattle.std.proofs.Common.{◌≡◌, ℕ, zero, suc, ◌+◌, ◌^◌, ◌<◌, ◌≤◌, Bool, true, false, nat_lt, if◌then◌else◌, Option, Some, None, List, [], ◌∷◌, Vec, length, map, take, sum, slice_get, slice_index_or, is_some, refl, ap, sym, ◌∙◌, arith}
 use Rattle.std.specs.Prelude.{All}
 use Rattle.std.proofs.lemmas.Bool.Decides.{nat_tests}
 use Rattle.std.proofs.lemmas.List.{length-map, take_all}
@@ -47,7 +47,7 @@ quota_at rings counts r zero (v ∷ lists) are lt = let z : r ≡ r + 0 = omega 
 quota_at rings counts r (suc k) (v ∷ lists) are lt =
     let z : suc r + k ≡ r + suc k = omega arith in quota_at rings counts (suc r) k lists are.1 (omega arith) ∙ ap (λ (q : ℕ). length (list_of rings q 0 counts)) z
 
-none_yet : (b : Bool) (had : List Act) → (if b then Some [] else None) ≡ Some had → had ≡ []
+pub none_yet : (b : Bool) (had : List Act) → (if b then Some [] else None) ≡ Some had → had ≡ []
 none_yet true had h = cc h
 none_yet false had h = cc h
 
@@ -116,7 +116,3 @@ sums_of items (x ∷ xs) = ap (λ ns. sum (items x) ∷ ns) (sums_of items xs)
 pub lengths_of : {V : Type 0} (items : V → List ℕ) (xs : List V) → map length (map items xs) ≡ map (λ x. length (items x)) xs
 lengths_of items [] = refl
 lengths_of items (x ∷ xs) = ap (λ ns. length (items x) ∷ ns) (lengths_of items xs)
-
-pub if_ok : {A E : Type 0} (P Q : A → Type 0) (r : Result A E) → ((x : A) → P x → Q x) → IfOk r P → IfOk r Q
-if_ok P Q (Ok x) h p = h x p
-if_ok P Q (Err e) h p = p

@@ -1,6 +1,6 @@
 -- Powers of ten, and what is left of a number over one.
 use Rattle.std.proofs.Common.{◌≡◌, ℕ, zero, suc, ◌+◌, ◌-◌, ◌*◌, ◌/◌, ◌^◌, ◌<◌, ◌≤◌, sym, ap, ◌∙◌, subst, arith}
-use Rattle.std.proofs.Math.Nat.{pow-suc, mul-div_cancel, div-eq_of_lt}
+use Rattle.std.proofs.Math.Nat.{pow-suc, div-eq_of_lt}
 
 pub ten_next : (i : ℕ) → 10 ^ (i + 1) ≡ 10 ^ i * 10
 ten_next i = let s : i + 1 ≡ suc i = omega arith in ap (λ (k : ℕ). 10 ^ k) s ∙ pow-suc 10 i
@@ -19,9 +19,6 @@ ten_rises i (suc k) =
 
 pub ten_most : (i n : ℕ) → i ≤ n → 10 ^ i ≤ 10 ^ n
 ten_most i n h = let e : i + (n - i) ≡ n = omega arith in subst (λ (m : ℕ). 10 ^ i ≤ 10 ^ m) e (ten_rises i (n - i))
-
-pub micros_of_micros : (ticks : ℕ) → ticks ≡ ticks * 1000000 / 10 ^ 6
-micros_of_micros ticks = let some : zero < 1000000 = omega arith in let e : ticks * 1000000 / 1000000 ≡ ticks = mul-div_cancel ticks some in sym e
 
 pub none_left : (n v : ℕ) → n < 10 ^ 26 → 26 ≤ v → 0 ≡ n / 10 ^ v
 none_left n v few far = let most : 10 ^ 26 ≤ 10 ^ v = ten_most 26 v far in sym (div-eq_of_lt (omega arith))

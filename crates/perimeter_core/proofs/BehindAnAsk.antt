@@ -1,7 +1,7 @@
 -- Nothing of a ring's connections stands behind the ring's Ask.
 use Rattle.std.proofs.Common.{◌≡◌, ◌≢◌, ℕ, ◌%◌, Bool, true, false, if◌then◌else◌, ◌==◌, ◌||◌, inl, inr, List, [], ◌∷◌, ◌++◌, refl, sym, ◌∙◌}
 use Rattle.std.proofs.lemmas.List.{append-nil}
-use Rattle.std.proofs.lemmas.Bool.{cases_eq}
+use Rattle.std.proofs.lemmas.Bool.{cases_eq, or_right}
 use Rattle.perimeter_core.specs.declared.entries.Entry.{Entry}
 use Rattle.perimeter_core.specs.declared.entries.Entry.TheVariants.{Feed, Ask}
 use Rattle.perimeter_core.specs.declared.marks.Own.TheVariants.{Out, Granted}
@@ -62,10 +62,6 @@ behind_has c r [] ys a h = absurd cc
 behind_has c r (Feed d n ∷ xs) ys a h = behind_has c r xs ys a h
 behind_has c r (Ask p ∷ xs) ys a h = has_at c r (p == r) xs ys a h (λ a' h'. behind_has c r xs ys a' h')
 
-or_right : (a b : Bool) → b ≡ true → (a || b) ≡ true
-or_right true b h = refl
-or_right false b h = h
-
 or_left : (a : Bool) → a ≡ true → (a || false) ≡ true
 or_left true h = refl
 or_left false h = h
@@ -95,7 +91,7 @@ behind_own : (b : Bool) (es : List Entry) → (if b then es else es) ≡ es
 behind_own true es = refl
 behind_own false es = refl
 
-has_ask-append : (r : ℕ) (xs ys : List Entry) → has_ask r xs ≡ false → has_ask r ys ≡ false → has_ask r (xs ++ ys) ≡ false
+pub has_ask-append : (r : ℕ) (xs ys : List Entry) → has_ask r xs ≡ false → has_ask r ys ≡ false → has_ask r (xs ++ ys) ≡ false
 has_ask-append r [] ys h k = k
 has_ask-append r (Feed c n ∷ xs) ys h k = has_ask-append r xs ys h k
 has_ask-append r (Ask p ∷ xs) ys h k = or_false (p == r) (has_ask r xs) (has_ask r (xs ++ ys)) h (λ z. has_ask-append r xs ys z k)

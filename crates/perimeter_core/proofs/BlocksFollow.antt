@@ -51,7 +51,7 @@ flag_out [] c = refl
 flag_out (x ∷ bs) zero = refl
 flag_out (x ∷ bs) (suc c) = flag_out bs c
 
-flag_other : (bs : List Bool) (c d : ℕ) (b : Bool) → c ≢ d → slice_index_or (slice_set bs c b) d false ≡ slice_index_or bs d false
+pub flag_other : (bs : List Bool) (c d : ℕ) (b : Bool) → c ≢ d → slice_index_or (slice_set bs c b) d false ≡ slice_index_or bs d false
 flag_other [] c d b h = refl
 flag_other (x ∷ bs) zero zero b h = absurd (h refl)
 flag_other (x ∷ bs) zero (suc d) b h = refl

@@ -19,7 +19,7 @@ feed_acts-append c [] ys = refl
 feed_acts-append c (Entry'.Feed d n ∷ xs) ys = rw (feed_acts-append c xs ys) (kept_or_not (d == c) n (feed_acts c xs) (feed_acts c ys))
 feed_acts-append c (Entry'.Ask p ∷ xs) ys = feed_acts-append c xs ys
 
-longer_none : (o : Option (List Act)) → longer [] o ≡ o
+pub longer_none : (o : Option (List Act)) → longer [] o ≡ o
 longer_none None = refl
 longer_none (Some had) = ap Some (append-nil had)
 

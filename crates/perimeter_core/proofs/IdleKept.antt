@@ -1,7 +1,7 @@
 -- A pass that is idle or asked stays so while others make marks.
-use Rattle.std.proofs.Common.{◌≡◌, ◌≢◌, ℕ, ◌-◌, Bool, true, false, ◌==◌, ◌&&◌, ◌||◌, ◌⊎◌, inl, inr, List, [], ◌∷◌, ◌++◌, length, take, drop, refl, ap, sym, ◌∙◌, arith}
+use Rattle.std.proofs.Common.{◌≡◌, ◌≢◌, ℕ, ◌-◌, Bool, true, false, ◌==◌, ◌&&◌, ◌⊎◌, inl, inr, List, [], ◌∷◌, ◌++◌, length, take, drop, refl, ap, sym, ◌∙◌, arith}
 use Rattle.std.proofs.lemmas.List.{take-append-drop}
-use Rattle.std.proofs.lemmas.Bool.{cases_eq}
+use Rattle.std.proofs.lemmas.Bool.{cases_eq, or_parts, or_from, cases_Bool}
 use Rattle.std.proofs.lemmas.Bool.Decides.{nat_tests}
 use Rattle.perimeter_core.specs.declared.entries.Entry.{Entry}
 use Rattle.perimeter_core.specs.declared.entries.Entry.TheVariants.{Feed, Ask}
@@ -15,29 +15,15 @@ use Rattle.perimeter_core.specs.Legal.{RightKind, all_feeds, AsksLast, only_last
 use Rattle.perimeter_core.specs.Backlog.{queue}
 use Rattle.perimeter_core.proofs.Sound.{Sound}
 use Rattle.perimeter_core.proofs.FeedOrder.{queue_after}
-use Rattle.perimeter_core.proofs.BehindAnAsk.{ends_has}
+use Rattle.perimeter_core.proofs.BehindAnAsk.{ends_has, has_ask-append}
 use Rattle.perimeter_core.proofs.OthersMarks.{closed_kept}
-
-or_split : (a b : Bool) → (a || b) ≡ false → (a ≡ false) × (b ≡ false)
-or_split true b h = absurd cc
-or_split false b h = (refl, h)
-
-or_join : (a b : Bool) → a ≡ false → b ≡ false → (a || b) ≡ false
-or_join true b h k = absurd cc
-or_join false b h k = k
 
 pub no_ask_split : (p : ℕ) (xs ys : List Entry) → has_ask p (xs ++ ys) ≡ false → (has_ask p xs ≡ false) × (has_ask p ys ≡ false)
 no_ask_split p [] ys h = (refl, h)
 no_ask_split p (Feed c n ∷ xs) ys h = no_ask_split p xs ys h
 no_ask_split p (Ask q ∷ xs) ys h =
-    let s = or_split (q == p) (has_ask p (xs ++ ys)) h in
-    let r = no_ask_split p xs ys s.1 in (or_join (q == p) (has_ask p xs) s.0 r.0, r.1)
-
-pub no_ask_join : (p : ℕ) (xs ys : List Entry) → has_ask p xs ≡ false → has_ask p ys ≡ false → has_ask p (xs ++ ys) ≡ false
-no_ask_join p [] ys h k = k
-no_ask_join p (Feed c n ∷ xs) ys h k = no_ask_join p xs ys h k
-no_ask_join p (Ask q ∷ xs) ys h k =
-    let s = or_split (q == p) (has_ask p xs) h in or_join (q == p) (has_ask p (xs ++ ys)) s.0 (no_ask_join p xs ys s.1 k)
+    let s = or_parts (q == p) (has_ask p (xs ++ ys)) h in
+    let r = no_ask_split p xs ys s.1 in (or_from (q == p) (has_ask p xs) s.0 r.0, r.1)
 
 pub feeds_no_ask : (p : ℕ) (es : List Entry) → all_feeds es ≡ true → has_ask p es ≡ false
 feeds_no_ask p [] h = refl
@@ -93,7 +79,7 @@ granted_other w s (On.Close q) p can absent o = o
 pub idle_kept : (w : ℕ) (s : State) (m : Mark) (p : ℕ) → Can w s m → Sound s → RightKind m → pass_of m ≢ p → Idle s p → Idle (after s m) p
 idle_kept w s m p can k kind ne i =
     let q = queue_after w s m can k in
-    let before = no_ask_join p (queue s) (entries_of m) (no_ask_join p s.hand s.chain i.not_in_hand i.not_in_chain) (enters_no_ask m p kind ne) in
+    let before = has_ask-append p (queue s) (entries_of m) (has_ask-append p s.hand s.chain i.not_in_hand i.not_in_chain) (enters_no_ask m p kind ne) in
     let rest = (no_ask_split p (done_by s m) (queue (after s m)) (rw q at before)).1 in
     let parts = no_ask_split p (after s m).hand (after s m).chain rest in
     record {
@@ -103,10 +89,6 @@ idle_kept w s m p can k kind ne i =
       not_in_hand = parts.0;
       not_in_chain = parts.1;
     }
-
-bool_cases : (b : Bool) → (b ≡ true) ⊎ (b ≡ false)
-bool_cases true = inl refl
-bool_cases false = inr refl
 
 only_none : (q p : ℕ) (es : List Entry) → only_last_ask q es ≡ true → q ≢ p → has_ask p es ≡ false
 only_none q p [] h ne = refl
@@ -122,14 +104,14 @@ only_none q p (Ask r ∷ es) h ne = one (r == q) refl es h
 pub ask_kept : (w : ℕ) (s : State) (m : Mark) (p : ℕ) → Can w s m → Sound s → AsksLast s m → pass_of m ≢ p → has_ask p (queue s) ≡ true
     → (has_ask p (queue (after s m)) ≡ true) ⊎ ((after s m).own ≡ Granted p)
 ask_kept w s m p can k last ne h =
-    elim (bool_cases (has_ask p (queue (after s m)))) [
+    elim (cases_Bool (has_ask p (queue (after s m)))) [
       | inl present ↦ inl present
       | inr absent ↦ inr (granted m can last ne (λ d. clash d absent))
     ]
   where
     clash : has_ask p (done_by s m) ≡ false → has_ask p (queue (after s m)) ≡ false → ⊥
     clash d absent =
-        let both = rw (← (queue_after w s m can k)) at (no_ask_join p (done_by s m) (queue (after s m)) d absent) in
+        let both = rw (← (queue_after w s m can k)) at (has_ask-append p (done_by s m) (queue (after s m)) d absent) in
         cc (h, (no_ask_split p (queue s) (entries_of m) both).0)
 
     granted : (m : Mark) → Can w s m → AsksLast s m → pass_of m ≢ p → (has_ask p (done_by s m) ≡ false → ⊥) → (after s m).own ≡ Granted p

@@ -1,5 +1,5 @@
 -- A log that goes on by one act.
-use Rattle.std.proofs.Common.{◌≡◌, ◌≢◌, ℕ, zero, suc, ◌+◌, ◌<◌, Bool, true, false, ◌==◌, inl, inr, Option, Some, None, List, [], ◌∷◌, ◌++◌, length, slice_get, slice_set, slice_index_or, refl, ap, sym, ◌∙◌, subst, arith}
+use Rattle.std.proofs.Common.{◌≡◌, ◌≢◌, ℕ, zero, suc, ◌+◌, ◌<◌, Bool, true, false, ◌==◌, inl, inr, Option, Some, None, is_some, get_or, List, [], ◌∷◌, ◌++◌, length, slice_get, slice_set, slice_index_or, refl, ap, sym, ◌∙◌, subst, arith}
 use Rattle.std.proofs.lemmas.List.{append-nil}
 use Rattle.std.proofs.lemmas.Bool.{cases_eq}
 use Rattle.std.proofs.lemmas.Bool.Decides.{nat_tests}
@@ -14,6 +14,7 @@ use Rattle.perimeter_core.specs.Residing.{HadFeeds, Here}
 use Rattle.perimeter_core.specs.Backlog.{up}
 use Rattle.perimeter_core.specs.Logging.{IsLogOf, LogAt, LogsStand, fresh, none_done}
 use Rattle.perimeter_core.proofs.FeedLists.{length-up, up-append}
+use Rattle.perimeter_core.proofs.FeedActs.{longer_none}
 
 pub get_same : {A : Type 0} (xs : List A) (c : ℕ) (x : A) → c < length xs → slice_get (slice_set xs c x) c ≡ Some x
 get_same [] c x h = absurd (omega arith)
@@ -45,6 +46,9 @@ pub fed_is : (xs : List Act) → fed xs ≡ length (feed_numbers xs)
 fed_is [] = refl
 fed_is (Did.Feed n ∷ xs) = omega (arith, fed_is xs)
 fed_is (Did.Call j k ∷ xs) = fed_is xs
+
+pub up_next : (n : ℕ) → up 0 n ++ n ∷ [] ≡ up 0 (n + 1)
+up_next n = let z : 0 + n ≡ n = omega arith in (rw z at (up-append 0 n 1))
 
 -- what the block of c was, by its log
 pub found : (c : ℕ) (o : Option (Option Log)) (b : Option (List Act)) (log : Log) → o ≡ Some (Some log) → LogAt c o b → (had : List Act) × (b ≡ Some had) × (log.c ≡ c) × IsLogOf log had
@@ -82,13 +86,6 @@ feed_stands logs blocks c n log next lt e had number count noted old =
     ) in
     logs_set logs c (Some next) blocks (with_feeds (Entry'.Feed c n ∷ []) blocks) lt old (rw one here)
     (λ d ne. let other : (c == d) ≡ false = grind (arith, nat_tests) in rw other (longer_none (blocks d)))
-  where
-    up_next : (n : ℕ) → up 0 n ++ n ∷ [] ≡ up 0 (n + 1)
-    up_next n = let z : 0 + n ≡ n = omega arith in (rw z at (up-append 0 n 1))
-
-    longer_none : (o : Option (List Act)) → longer [] o ≡ o
-    longer_none None = refl
-    longer_none (Some x) = ap Some (append-nil x)
 
 pub call_stands : (logs : List (Option Log)) (blocks : Blocks) (c j k : ℕ) (log next : Log) → c < length logs → slice_get logs c ≡ Some (Some log)
     → next.c ≡ log.c → next.fed ≡ log.fed → (next.short ≡ false → (log.short ≡ false) × (next.acts.items ≡ log.acts.items ++ Did.Call j k ∷ []))
@@ -130,6 +127,18 @@ pub no_place : (logs : List (Option Log)) (c : ℕ) (d x : Option Log) → c < l
 no_place logs c d x lt h is none =
     let log = log_there logs c h in
     let at = got logs c x d lt is in none log.0 (cc (at, log.1))
+
+-- to new blocks nothing was done
+fresh_empty : (b : Bool) (had : List Act) → fresh b ≡ Some had → had ≡ []
+fresh_empty true had h = cc h
+fresh_empty false had h = cc h
+
+pub none_had : (starts : List Bool) (c : ℕ) (had : List Act) → none_done starts c ≡ Some had → had ≡ []
+none_had starts c had h = fresh_empty (get_or starts c false) had h
+
+pub is_fresh : (b : Bool) → is_some (fresh b) ≡ b
+is_fresh true = refl
+is_fresh false = refl
 
 -- one more place
 pub first_at : (k : ℕ) (logs : List (Option Log)) (starts : List Bool) (place : Option Log) (here : Bool) → length logs ≡ length starts

@@ -21,11 +21,7 @@ use Rattle.perimeter_core.proofs.FeedOrder.{runs_grow, queue_after, in_order}
 use Rattle.perimeter_core.proofs.BlocksFollow.{acts_push, flags}
 use Rattle.perimeter_core.proofs.RingKnows.{here_step}
 use Rattle.perimeter_core.proofs.NextFeed.{had, here_was, fed-append, fed_feeds, fed_call}
-
-pub numbers-append : (xs ys : List Act) → feed_numbers (xs ++ ys) ≡ feed_numbers xs ++ feed_numbers ys
-numbers-append [] ys = refl
-numbers-append (Did.Feed n ∷ xs) ys = ap (λ ns. n ∷ ns) (numbers-append xs ys)
-numbers-append (Did.Call j k ∷ xs) ys = numbers-append xs ys
+use Rattle.perimeter_core.proofs.LogSteps.{feed_numbers-append}
 
 pub numbers_at : (b : Bool) (n : ℕ) (done : List Act) (ns : List ℕ) → feed_numbers done ≡ ns → feed_numbers (if b then Did.Feed n ∷ done else done) ≡ (if b then n ∷ ns else ns)
 numbers_at true n done ns h = ap (λ xs. n ∷ xs) h
@@ -98,9 +94,9 @@ numbered_case S H e c false is l m note i h =
       fed_feeds c (done_by s e.mark),
     ) in
     let z : 0 + k ≡ k = omega arith in
-    numbers-append (acts S H c) (feed_acts c (done_by s e.mark) ++ call_act c e.mark)
+    feed_numbers-append (acts S H c) (feed_acts c (done_by s e.mark) ++ call_act c e.mark)
     ∙ (ap (λ xs. feed_numbers (acts S H c) ++ xs)
-    (numbers-append (feed_acts c (done_by s e.mark)) (call_act c e.mark) ∙ (ap (λ xs. feed_numbers (feed_acts c (done_by s e.mark)) ++ xs) (numbers_call c e.mark) ∙ (append-nil (feed_numbers (feed_acts c (done_by s e.mark))) ∙ numbers_feeds c (done_by s e.mark))))
+    (feed_numbers-append (feed_acts c (done_by s e.mark)) (call_act c e.mark) ∙ (ap (λ xs. feed_numbers (feed_acts c (done_by s e.mark)) ++ xs) (numbers_call c e.mark) ∙ (append-nil (feed_numbers (feed_acts c (done_by s e.mark))) ∙ numbers_feeds c (done_by s e.mark))))
     ∙ (ap (λ xs. xs ++ feeds_of c (done_by s e.mark)) (i before)
     ∙ (ap (λ xs. up 0 k ++ xs) done ∙ ((rw z at (up-append 0 k j)) ∙ ap (up 0) (sym total)))))
 

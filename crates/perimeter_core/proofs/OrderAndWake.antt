@@ -1,5 +1,6 @@
 -- The order of entries, and the wake.
-use Rattle.std.proofs.Common.{◌≡◌, ◌≢◌, ℕ, Bool, true, false, not, ◌&&◌, List, [], ◌∷◌, refl, sym, ◌∙◌, subst}
+use Rattle.std.proofs.Common.{◌≡◌, ◌≢◌, ℕ, true, false, not, List, [], ◌∷◌, refl, sym, ◌∙◌, subst}
+use Rattle.std.proofs.lemmas.Bool.{and_parts}
 use Rattle.perimeter_core.specs.declared.marks.Own.{Own}
 use Rattle.perimeter_core.specs.declared.marks.Own.TheVariants.{Free, Out, Granted}
 use Rattle.perimeter_core.specs.Perimeter.{State, is_empty, is_free, is_out}
@@ -23,7 +24,7 @@ order S H l =
     (order_after (worker S) (run S G) e.mark (entered G) (done S G) m.step (sound S G k) p))
     H l
 
-free_is : (o : Own) → is_free o ≡ true → o ≡ Free
+pub free_is : (o : Own) → is_free o ≡ true → o ≡ Free
 free_is Free h = refl
 free_is (Out p) h = absurd cc
 free_is (Granted p) h = absurd cc
@@ -32,10 +33,6 @@ some_out : (o : Own) → (is_out o ≡ false → ⊥) → (p : ℕ) × (o ≡ Ou
 some_out Free h = absurd (h refl)
 some_out (Out p) h = (p, refl)
 some_out (Granted p) h = absurd (h refl)
-
-both : (a b : Bool) → (a && b) ≡ true → (a ≡ true) × (b ≡ true)
-both true b h = (refl, h)
-both false b h = absurd cc
 
 not_empty : {A : Type 0} (xs : List A) → not (is_empty xs) ≡ true → xs ≢ []
 not_empty [] h = absurd cc
@@ -49,7 +46,7 @@ pub wake_of_sound : (s : State) → Sound s → WakeKept s
 wake_of_sound s k =
     record {
       wake = (
-        λ h. let b = both (is_free s.own) (not (is_empty s.chain)) (sym k.wake ∙ h) in (free_is s.own b.0, not_empty s.chain b.1),
+        λ h. let b = and_parts (is_free s.own) (not (is_empty s.chain)) (sym k.wake ∙ h) in (free_is s.own b.0, not_empty s.chain b.1),
         λ h. k.wake ∙ (rw h.0 (is_empty-not s.chain h.1)),
       );
       hand = λ h. some_out s.own (λ o. h (k.hand o));

@@ -1,5 +1,5 @@
 -- What one pass knows of the state, kept by the marks of the other passes.
-use Rattle.std.proofs.Common.{◌≡◌, ◌≢◌, ℕ, zero, suc, ◌%◌, Bool, true, false, List, [], ◌∷◌, ◌++◌, slice_index_or, slice_set, refl, ap, sym, ◌∙◌, arith}
+use Rattle.std.proofs.Common.{◌≡◌, ◌≢◌, ℕ, ◌%◌, true, false, List, ◌++◌, slice_index_or, refl, ap, sym, ◌∙◌, arith}
 use Rattle.std.proofs.lemmas.List.{append-nil}
 use Rattle.std.proofs.lemmas.Bool.Decides.{nat_tests}
 use Rattle.perimeter_core.specs.declared.entries.Entry.{Entry}
@@ -13,6 +13,7 @@ use Rattle.perimeter_core.specs.History.{Element, Setting, pass_of}
 use Rattle.perimeter_core.specs.Deeds.{entries_of, puts_in, takes_out, due_after}
 use Rattle.perimeter_core.specs.Legal.{Enters, ActsFit, ActFits}
 use Rattle.perimeter_core.proofs.FeedLists.{enters_own}
+use Rattle.perimeter_core.proofs.BlocksFollow.{flag_other}
 
 -- The owner keeps the perimeter and its hand while other passes make marks, and the chain grows at its end
 pub owner_kept : (w : ℕ) (s : State) (m : Mark) (p : ℕ) → Can w s m → pass_of m ≢ p → s.own ≡ Out p
@@ -42,16 +43,9 @@ granted_kept w s (On.Accept j) p can ne o = absurd (ne (cc (can, o)))
 granted_kept w s (On.Work q) p can ne o = absurd (cc (can.0, o))
 granted_kept w s (On.Close q) p can ne o = (o, refl, sym (append-nil s.chain), refl)
 
-flag_kept : (bs : List Bool) (q p : ℕ) (b : Bool) → q ≢ p → slice_index_or (slice_set bs q b) p false ≡ slice_index_or bs p false
-flag_kept [] q p b h = refl
-flag_kept (x ∷ bs) zero zero b h = absurd (h refl)
-flag_kept (x ∷ bs) zero (suc p) b h = refl
-flag_kept (x ∷ bs) (suc q) zero b h = refl
-flag_kept (x ∷ bs) (suc q) (suc p) b h = flag_kept bs q p b (λ e. h (ap suc e))
-
 -- Whether a pass is closed is its own doing
 pub closed_kept : (s : State) (m : Mark) (p : ℕ) → pass_of m ≢ p → is_closed (after s m) p ≡ is_closed s p
-closed_kept s (On.Close q) p ne = flag_kept s.closed q p true ne
+closed_kept s (On.Close q) p ne = flag_other s.closed q p true ne
 closed_kept s (On.Fill q es) p ne = refl
 closed_kept s (On.Fast q e) p ne = refl
 closed_kept s (On.Claim q es) p ne = refl
@@ -68,8 +62,8 @@ here_act_kept : (S : Setting) (H : List Element) (s : State) (p c : ℕ) (q : Li
 here_act_kept S H s p c q Done.None f ne = refl
 here_act_kept S H s p c q (Done.Call d j k) f ne = refl
 here_act_kept S H s p c q Done.Away f ne = refl
-here_act_kept S H s p c q (Done.Out d) f ne = flag_kept s.here d c false (λ e. ne (f.0 ∙ ap (λ x. x % S.rings) e))
-here_act_kept S H s p c q (Done.In d) f ne = flag_kept s.here d c true (λ e. ne (f.0 ∙ ap (λ x. x % S.rings) e))
+here_act_kept S H s p c q (Done.Out d) f ne = flag_other s.here d c false (λ e. ne (f.0 ∙ ap (λ x. x % S.rings) e))
+here_act_kept S H s p c q (Done.In d) f ne = flag_other s.here d c true (λ e. ne (f.0 ∙ ap (λ x. x % S.rings) e))
 
 -- Whether a connection is here is its ring's doing
 pub here_kept_by_others : (S : Setting) (H : List Element) (s : State) (m : Mark) (c : ℕ) → ActsFit S H s m → pass_of m ≢ c % S.rings → is_here (after s m) c ≡ is_here s c

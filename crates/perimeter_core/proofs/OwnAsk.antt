@@ -14,8 +14,8 @@ use Rattle.perimeter_core.specs.Backlog.{queue, QueuedInRange, WaitsNoMore}
 use Rattle.perimeter_core.proofs.OneMore.{run_push, legal_ind}
 use Rattle.perimeter_core.proofs.OrderAndWake.{sound}
 use Rattle.perimeter_core.proofs.FeedOrder.{queue_after}
-use Rattle.perimeter_core.proofs.BehindAnAsk.{ends_has}
-use Rattle.perimeter_core.proofs.IdleKept.{no_ask_split, no_ask_join, feeds_no_ask, enters_no_ask}
+use Rattle.perimeter_core.proofs.BehindAnAsk.{ends_has, has_ask-append}
+use Rattle.perimeter_core.proofs.IdleKept.{no_ask_split, feeds_no_ask, enters_no_ask}
 use Rattle.perimeter_core.proofs.QueuedRange.{range_right, queued_range}
 use Rattle.perimeter_core.proofs.Room.{asks_of, asks_of-append, one_ask}
 
@@ -45,9 +45,9 @@ no_worker S (Ask q ∷ es) h =
 
 pub owner_chain_after : (w : ℕ) (s : State) (m : Mark) (p : ℕ) → Can w s m → IdleFirst s m → RightKind m → WaitsNoMore s p → (after s m).own ≡ Out p → has_ask p (after s m).chain ≡ false
 owner_chain_after w s (On.Fill q es) p can idle kind i o =
-    no_ask_join p s.chain es (i.owner_chain o) (enters_no_ask (On.Fill q es) p kind (λ z. idle.no_owner (rw z o)))
+    has_ask-append p s.chain es (i.owner_chain o) (enters_no_ask (On.Fill q es) p kind (λ z. idle.no_owner (rw z o)))
 owner_chain_after w s (On.Ask q) p can idle kind i o =
-    no_ask_join p s.chain (Ask q ∷ []) (i.owner_chain o) (enters_no_ask (On.Ask q) p kind (λ z. idle.no_owner (rw z o)))
+    has_ask-append p s.chain (Ask q ∷ []) (i.owner_chain o) (enters_no_ask (On.Ask q) p kind (λ z. idle.no_owner (rw z o)))
 owner_chain_after w s (On.Fast q e) p can idle kind i o = rw can.1 refl
 owner_chain_after w s (On.Claim q es) p can idle kind i o = refl
 owner_chain_after w s (On.Take q) p can idle kind i o = refl
@@ -71,7 +71,7 @@ owner_hand_after S s (On.Claim q es) p can idle kind range i o =
     let same : q ≡ p = cc o in
     let none = rw same at idle.not_in_chain in
     elim kind [
-      | inl k ↦ inl (no_ask_join p s.chain es none (feeds_no_ask p es k))
+      | inl k ↦ inl (has_ask-append p s.chain es none (feeds_no_ask p es k))
       | inr k ↦ inr (s.chain, rw (k, same) refl, none)
     ]
 owner_hand_after S s (On.Take q) p can idle kind range i o = inl (i.owner_chain o)
@@ -83,7 +83,7 @@ owner_hand_after S s (On.Work q) p can idle kind range i o =
 
 pub no_ask_grown : (s : State) (m : Mark) (p : ℕ) → queue s ++ entries_of m ≡ done_by s m ++ queue (after s m) → has_ask p (queue s) ≡ false → has_ask p (entries_of m) ≡ false
     → has_ask p (queue (after s m)) ≡ false
-no_ask_grown s m p e a b = (no_ask_split p (done_by s m) (queue (after s m)) (rw e at (no_ask_join p (queue s) (entries_of m) a b))).1
+no_ask_grown s m p e a b = (no_ask_split p (done_by s m) (queue (after s m)) (rw e at (has_ask-append p (queue s) (entries_of m) a b))).1
 
 pub granted_after : (w : ℕ) (s : State) (m : Mark) (p : ℕ) → Can w s m → IdleFirst s m → RightKind m → queue s ++ entries_of m ≡ done_by s m ++ queue (after s m)
     → asks_of p (queue s) ≤ 1 → WaitsNoMore s p → (after s m).own ≡ Granted p → has_ask p (queue (after s m)) ≡ false

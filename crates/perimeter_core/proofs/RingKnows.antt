@@ -13,6 +13,7 @@ use Rattle.perimeter_core.specs.Knowledge.{here_by, RingKnows}
 use Rattle.perimeter_core.proofs.OneMore.{run_push, due_push, legal_ind}
 use Rattle.perimeter_core.proofs.OthersMarks.{here_kept_by_others, puts_other, due_kept_by_others}
 use Rattle.perimeter_core.proofs.BlocksFollow.{flags}
+use Rattle.perimeter_core.proofs.LeavesFew.{left_push}
 
 -- elements at the end
 made_push : (p : ℕ) (H : List Element) (e : Element) → made_by p (H ++ e ∷ []) ≡ made_by p H ++ (if pass_of e.mark == p then e ∷ [] else [])
@@ -26,10 +27,6 @@ made_push p (x ∷ H) e = rw (made_push p H e) (front (pass_of x.mark == p) (mad
 here_push : (c : ℕ) (b : Bool) (H : List Element) (e : Element) → here_by c b (H ++ e ∷ []) ≡ (if puts_in c e.mark then true else if takes_out c e.mark then false else here_by c b H)
 here_push c b [] e = refl
 here_push c b (x ∷ H) e = here_push c (if puts_in c x.mark then true else if takes_out c x.mark then false else b) H e
-
-left_push : (c : ℕ) (H : List Element) (e : Element) → times_left c (H ++ e ∷ []) ≡ times_left c H + (if takes_out c e.mark then 1 else 0)
-left_push c [] e = omega arith
-left_push c (x ∷ H) e = omega (arith, left_push c H e)
 
 set_here : (bs : List Bool) (d c : ℕ) (b : Bool) → d < length bs → slice_index_or (slice_set bs d b) c false ≡ (if d == c then b else slice_index_or bs c false)
 set_here bs d c b lt = at (d == c) refl

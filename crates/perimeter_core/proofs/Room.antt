@@ -1,7 +1,6 @@
 -- What is queued fits the room: its feeds are within the quotas, and no pass has two Asks queued.
 use Rattle.std.proofs.Common.{◌≡◌, ℕ, ◌+◌, ◌≤◌, Bool, true, false, if◌then◌else◌, ◌==◌, ◌||◌, inl, inr, List, [], ◌∷◌, ◌++◌, length, refl, ap, ◌∙◌, arith}
 use Rattle.std.proofs.lemmas.Bool.{cases_eq}
-use Rattle.std.proofs.lemmas.Bool.Decides.{nat_tests}
 use Rattle.perimeter_core.specs.declared.entries.Entry.{Entry}
 use Rattle.perimeter_core.specs.declared.entries.Entry.TheVariants.{Feed, Ask}
 use Rattle.perimeter_core.specs.declared.marks.Mark.{Mark}
@@ -14,10 +13,11 @@ use Rattle.perimeter_core.specs.Backlog.{queue, room, QueuedInRange}
 use Rattle.perimeter_core.proofs.OneMore.{run_push, legal_ind}
 use Rattle.perimeter_core.proofs.OrderAndWake.{sound, order}
 use Rattle.perimeter_core.proofs.FeedOrder.{queue_after}
-use Rattle.perimeter_core.proofs.IdleKept.{no_ask_join, enters_no_ask}
+use Rattle.perimeter_core.proofs.IdleKept.{enters_no_ask}
 use Rattle.perimeter_core.proofs.QueuedRange.{queued_range}
 use Rattle.perimeter_core.proofs.PassSums.{sum_first, sum_mono, sum_more, sum_none, sum_ones}
-use Rattle.perimeter_core.proofs.Quotas.{count_both, feed_count-append, feeds_within}
+use Rattle.perimeter_core.proofs.Quotas.{count_both, feed_count-append, feeds_within, own_count}
+use Rattle.perimeter_core.proofs.BehindAnAsk.{has_ask-append}
 
 -- how many Asks of p a list has
 abbrev pub asks_of : ℕ → List Entry → ℕ
@@ -39,16 +39,13 @@ no_asks p (Ask q ∷ es) h = at (q == p) (has_ask p es) h (no_asks p es)
     at true b h f = absurd cc
     at false b h f = omega (arith, f h)
 
-one_here : (q x : ℕ) → (if q == q then x else 0) ≡ x
-one_here q x = let e : (q == q) ≡ true = grind (arith, nat_tests) in rw e refl
-
 -- the Asks of a list are those of the passes, one pass after another
 count_le : (S : Setting) (es : List Entry) → QueuedInRange S es → ask_count es ≤ sum_first (worker S) (λ p. asks_of p es)
 count_le S [] h = omega (arith, sum_none (worker S))
 count_le S (Feed c k ∷ es) h = count_le S es h.2
 count_le S (Ask q ∷ es) h =
     let r =
-    sum_more (worker S) q 1 (λ p. asks_of p es) (λ p. asks_of p (Ask q ∷ es)) h.0 (λ p. omega arith) (omega (arith, one_here q 1)) in
+    sum_more (worker S) q 1 (λ p. asks_of p es) (λ p. asks_of p (Ask q ∷ es)) h.0 (λ p. omega arith) (omega (arith, own_count q 1)) in
     omega (arith, count_le S es h.1, r)
 
 few_asks : (S : Setting) (es : List Entry) → QueuedInRange S es → ((p : ℕ) → asks_of p es ≤ 1) → ask_count es ≤ worker S
@@ -66,7 +63,7 @@ one_at_most true = omega arith
 one_at_most false = omega arith
 
 idle_none : (s : State) (q p : ℕ) → q ≡ p → Idle s q → asks_of p (queue s) ≡ 0
-idle_none s q p is idle = no_asks p (queue s) (no_ask_join p s.hand s.chain (rw is at idle.not_in_hand) (rw is at idle.not_in_chain))
+idle_none s q p is idle = no_asks p (queue s) (has_ask-append p s.hand s.chain (rw is at idle.not_in_hand) (rw is at idle.not_in_chain))
 
 own_asks : (s : State) (m : Mark) (p : ℕ) → pass_of m ≡ p → IdleFirst s m → RightKind m → asks_of p (queue s) ≤ 1
     → asks_of p (queue s) + asks_of p (entries_of m) ≤ 1

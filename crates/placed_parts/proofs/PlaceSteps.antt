@@ -1,5 +1,5 @@
 -- A part that goes on by one act, one that leaves or comes, and parts that are new.
-use Rattle.std.proofs.Common.{◌≡◌, ◌≢◌, ℕ, zero, suc, ◌+◌, ◌<◌, Bool, true, false, ◌==◌, inl, inr, Option, Some, None, Result, Ok, Err, IfOk, List, [], ◌∷◌, ◌++◌, length, nat_lt, replicate, slice_get, slice_set, slice_index_or, refl, ap, sym, ◌∙◌, subst, arith}
+use Rattle.std.proofs.Common.{◌≡◌, ◌≢◌, ℕ, zero, suc, ◌+◌, ◌<◌, Bool, true, false, ◌==◌, inl, inr, Option, Some, None, List, [], ◌∷◌, ◌++◌, length, nat_lt, replicate, slice_get, slice_set, slice_index_or, refl, ap, sym, ◌∙◌, subst, arith}
 use Rattle.std.proofs.lemmas.List.{append-nil}
 use Rattle.std.proofs.lemmas.Bool.{cases_eq}
 use Rattle.std.proofs.lemmas.Bool.Decides.{nat_tests}
@@ -15,11 +15,8 @@ use Rattle.perimeter_core.proofs.LogSteps.{get_same, get_other, got, some_longer
 use Rattle.perimeter_core.proofs.FeedLists.{up-append}
 use Rattle.perimeter_core.proofs.NextFeed.{fed-append}
 use Rattle.perimeter_core.specs.Backlog.{up}
+use Rattle.perimeter_core.proofs.FeedActs.{longer_none}
 use Rattle.placed_parts.specs.Standing.{HasHad, HasFed, InOrder, PlaceAt, PlacesStand, all_new}
-
-longer_none : (o : Option (List Act)) → longer [] o ≡ o
-longer_none None = refl
-longer_none (Some x) = ap Some (append-nil x)
 
 all_here : (n c : ℕ) → none_done (replicate n true) c ≡ all_new n c
 all_here zero c = let e : nat_lt c 0 ≡ false = grind (arith, nat_tests) in rw e refl
@@ -151,7 +148,3 @@ pub call_in_order : {P : Type 0} (Had : P → List Act → Type 0) (part next : 
 call_in_order Had part next j k more had x =
     let now : fed had ≡ fed (had ++ Did.Call j k ∷ []) = sym (fed-append had (Did.Call j k ∷ []) ∙ omega arith) in
     (feed_numbers-append had (Did.Call j k ∷ []) ∙ (append-nil (feed_numbers had) ∙ (x.0 ∙ ap (up 0) now)), more had x.1)
-
-pub if_ok : {A E : Type 0} (P Q : A → Type 0) (r : Result A E) → ((x : A) → P x → Q x) → IfOk r P → IfOk r Q
-if_ok P Q (Ok x) h p = h x p
-if_ok P Q (Err e) h p = p

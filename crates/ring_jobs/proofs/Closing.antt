@@ -4,7 +4,6 @@ use Rattle.std.proofs.lemmas.Option.{slice_get_within}
 use Rattle.turn_gate.specs.History.{Each}
 use Rattle.turn_gate.specs.Passes.{IsPassOf, number, seen}
 use Rattle.turn_gate.specs.declared.pass.Pass.{Pass}
-use Rattle.perimeter_core.specs.declared.entries.Act.{Act}
 use Rattle.perimeter_core.specs.declared.entries.Feed.{Feed}
 use Rattle.perimeter_core.specs.Perimeter.{State, is_here}
 use Rattle.perimeter_core.specs.History.{Element, Limits, Setting, run, start}
@@ -13,24 +12,21 @@ use Rattle.perimeter_core.proofs.OneMore.{due_push, run_push}
 use Rattle.squeue_state.specs.Naming.{Ending, Named, setting_of}
 use Rattle.squeue_state.specs.Elements.{closed_by, number_of}
 use Rattle.squeue_state.specs.Words.{Knows}
-use Rattle.conn_migrate.specs.Stays.{AreSameStays, Stay, Stays, begun, longer_by, note_of, stays}
+use Rattle.conn_migrate.specs.Stays.{AreSameStays, Stays, begun, longer_by, note_of, stays}
 use Rattle.conn_migrate.proofs.OneSqueue.{stays_push}
+use Rattle.conn_migrate.proofs.StaysKept.{note_longer}
 use Rattle.squeue_serve.proofs.Lent.{some_at}
 use Rattle.squeue_serve.specs.Places.{AtEach, AtEachTwo, Became, HasClosed, Holds}
+use Rattle.squeue_serve.proofs.Unused.{each_at}
 use Rattle.squeue_rings.specs.Bringing.{AreAt}
 use Rattle.squeue_rings.specs.Calling.{CallerAt, CallersAt}
 use Rattle.squeue_rings.specs.Made.{made_in, times_made}
 use Rattle.squeue_rings.specs.Rings.{RingAt}
 use Rattle.squeue_rings.specs.Seen.{seen_ends, seen_in}
 use Rattle.squeue_rings.proofs.CallMarks.{made_more}
-use Rattle.squeue_rings.proofs.Reaching.{each_at}
 use Rattle.squeue_rings.proofs.Slots.{at_got, at_length}
 use Rattle.ring_jobs.specs.Ends.{CallerEnds, CallersEnd, RingEnds, RingsEnd}
 use Rattle.ring_jobs.proofs.AtTheEnd.{end_due, end_here, end_made, end_stays, linked_same, noted_same, seen_count, seen_got}
-
-note_longer : (more had : List Act) (o : Option Stay) → note_of (longer_by more had o) ≡ note_of o
-note_longer more had None = refl
-note_longer more had (Some v) = refl
 
 module _ {R : Type 0} (limits : R → Limits) (s : Named R) (y x : Pass Element) (is : IsPassOf number_of s.gate y) (closes : HasClosed limits s y x) where
   abbrev S : Setting

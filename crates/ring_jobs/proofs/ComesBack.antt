@@ -12,7 +12,7 @@ use Rattle.squeue_serve.specs.Lending.{AreLent, HasCome}
 use Rattle.squeue_serve.specs.Places.{Holds, MayEnd}
 use Rattle.squeue_serve.proofs.Coming.{holds_other, less_lent}
 use Rattle.squeue_serve.proofs.Lent.{get_end}
-use Rattle.squeue_rings.proofs.Reaching.{each_at}
+use Rattle.squeue_serve.proofs.Unused.{each_at}
 use Rattle.squeue_rings.proofs.Slots.{at_length}
 
 pub each_last : {A : Type 0} (P : A → Type 0) (xs : List A) (x : A) → Each P (xs ++ x ∷ []) → Each P xs × P x

@@ -4,6 +4,7 @@ use Rattle.std.proofs.lemmas.List.{length-map}
 use Rattle.poll_ring.specs.Rings.{FeedCount, RingSize}
 use Rattle.ring_jobs.specs.declared.lines.Line.{Line}
 use Rattle.ring_jobs.specs.Tasks.{HasRing, feed_end, full_end}
+use Rattle.squeue_rings.proofs.Slots.{got_at}
 
 -- of a line that has a ring
 module _ (l : Line) (g : RingSize) (is : l.ring ≡ Some g) where
@@ -55,11 +56,6 @@ pub one_fed : (n : ℕ) (ls : List Line) (l : Line) → slice_get ls n ≡ Some 
 one_fed n [] l is = cc is
 one_fed zero (m ∷ ls) l is = let e : m ≡ l = cc is in ap (λ (k : Line). end_after k ∷ fed zero ls) (sym e)
 one_fed (suc n) (m ∷ ls) l is = ap (λ (os : List (Option FeedCount)). end_after m ∷ os) (one_fed n ls l is)
-
-pub got_at : {A : Type 0} (xs : List A) (i : ℕ) (x : A) → i < length xs → x ≡ slice_index_or xs i x → slice_get xs i ≡ Some x
-got_at [] i x lt is = absurd (omega (arith, lt))
-got_at (y ∷ xs) zero x lt is = ap Some (sym is)
-got_at (y ∷ xs) (suc i) x lt is = got_at xs i x (omega (arith, lt)) is
 
 -- the end that is next, and its line
 module _ (n : ℕ) (lines : List Line) (ends : List (Option FeedCount)) (so : ends ≡ fed n lines) (l : Line) (o : Option FeedCount) (lt : n < length lines) (is : l ≡ slice_index_or lines n l) (at : o ≡ slice_index_or ends n o) where

@@ -1,15 +1,11 @@
 -- What a squeue is made with, and where the blocks of connections are at first.
-use Rattle.std.proofs.Common.{◌≡◌, ℕ, ◌%◌, ◌<◌, ◌==◌, ◌&&◌, Bool, true, false, if◌then◌else◌, Option, Some, None, Result, Ok, Err, IfOk, is_some, List, [], refl, sym, subst, arith}
+use Rattle.std.proofs.Common.{◌≡◌, ℕ, ◌%◌, ◌<◌, ◌==◌, ◌&&◌, Bool, true, false, if◌then◌else◌, Option, Some, None, Result, Ok, IfOk, is_some, List, [], refl, sym, subst, arith}
 use Rattle.std.specs.Prelude.{nat_lt}
 use Rattle.std.proofs.lemmas.Bool.Decides.{nat_tests}
 use Rattle.perimeter_core.specs.declared.entries.Act.{Act}
 use Rattle.perimeter_core.specs.Blocks.{Blocks as Had}
 use Rattle.squeue_state.specs.Words.{StandsEmpty}
 use Rattle.conn_blocks.specs.Places.{first_here}
-
-pub if_ok : {A E : Type 0} (P Q : A → Type 0) (r : Result A E) → ((x : A) → P x → Q x) → IfOk r P → IfOk r Q
-if_ok P Q (Ok x) h p = h x p
-if_ok P Q (Err e) h p = p
 
 pub from_ok : {A E : Type 0} (P : A → Type 0) (r : Result A E) (x : A) → r ≡ Ok x → IfOk r P → P x
 from_ok {A = A} {E = E} P r x is h = subst (λ (r : Result A E). IfOk r P) is h

@@ -11,17 +11,7 @@ use Rattle.ring_jobs.specs.declared.task.RingTask.{RingTask}
 use Rattle.ring_jobs.specs.declared.task.Task.{Task}
 use Rattle.ring_jobs.specs.declared.task.Task.TheVariants as Task'
 use Rattle.ring_jobs.specs.Tasks.{AreEnds, AreRingTasks, AreTasks, AreUnused, HasRing, HasRingTask, HaveRings, feed_end, lists_of}
-
-pub got_front : {A : Type 0} (xs ys : List A) (k : ℕ) (x : A) → slice_get xs k ≡ Some x → slice_get (xs ++ ys) k ≡ Some x
-got_front [] ys k x h = cc h
-got_front (y ∷ xs) ys zero x h = h
-got_front (y ∷ xs) ys (suc k) x h = got_front xs ys k x h
-
-pub got_end : {A : Type 0} (xs ys : List A) (x : A) (k : ℕ) → k ≡ length xs → slice_get (xs ++ x ∷ ys) k ≡ Some x
-got_end [] ys x zero e = refl
-got_end [] ys x (suc k) e = absurd (omega (arith, e))
-got_end (y ∷ xs) ys x zero e = absurd (omega (arith, e))
-got_end (y ∷ xs) ys x (suc k) e = got_end xs ys x k (omega (arith, e))
+use Rattle.squeue_serve.proofs.Lent.{get_front, get_end}
 
 -- what is so of each and of the next one is so of each, with it
 pub each_more : {A : Type 0} (P : ℕ → A → Type 0) (xs : List A) (x : A) → ((k : ℕ) (a : A) → slice_get xs k ≡ Some a → P k a) → P (length xs) x → (k : ℕ) (a : A) → slice_get (xs ++ x ∷ []) k ≡ Some a → P k a
@@ -54,8 +44,8 @@ module _ (squeues : ℕ) (all : List Ends) where
         tasks_are = record {
           count = let c = so.tasks_are.count in omega (arith, c, length-append lines (e.line ∷ []), length-append tasks (Task'.Bring t ∷ []));
           each = each_more (λ r m. HasRingTask squeues r m (slice_get (tasks ++ Task'.Bring t ∷ []) r)) lines e.line
-              (λ r m at. let h = so.tasks_are.each r m at in (h.0, got_front tasks (Task'.Bring t ∷ []) r (Task'.Bring h.0) h.1, h.2))
-              (t, got_end tasks [] (Task'.Bring t) (length lines) (sym so.tasks_are.count), record { number = number; end = poll ∙ it.poll; polling = polling });
+              (λ r m at. let h = so.tasks_are.each r m at in (h.0, get_front tasks (Task'.Bring t ∷ []) r (Task'.Bring h.0) h.1, h.2))
+              (t, get_end tasks [] (Task'.Bring t) (length lines) (sym so.tasks_are.count), record { number = number; end = poll ∙ it.poll; polling = polling });
         };
       }
 
@@ -112,13 +102,13 @@ module _ (rings callers squeues : ℕ) (lines : List Line) (ends : Vec (Option F
             let h = bring.each r l at in
             let e : 1 + r ≡ suc r = omega arith in
             let i : slice_get ((front_are ++ calls_are) ++ works_are) (suc r) ≡ Some (Task'.Bring h.0) =
-            got_front (front_are ++ calls_are) works_are (suc r) (Task'.Bring h.0) (got_front front_are calls_are (suc r) (Task'.Bring h.0) h.1) in
+            get_front (front_are ++ calls_are) works_are (suc r) (Task'.Bring h.0) (get_front front_are calls_are (suc r) (Task'.Bring h.0) h.1) in
             (h.0, ap (λ (k : ℕ). slice_get tasks k) e ∙ (ap (λ (l : List Task). slice_get l (suc r)) is ∙ i), h.2);
         callers_are = λ j lt.
             let z : 0 + j ≡ j = omega arith in
             let i : slice_get (front_are ++ calls_are) (1 + (rings + j)) ≡ Some (Task'.Call j) =
             got_behind front_are calls_are (1 + (rings + j)) j (omega (arith, n)) ∙ (number_got (λ (j : ℕ). Task'.Call j) 0 callers j lt ∙ ap (λ (k : ℕ). Some (Task'.Call k)) z) in
-            ap (λ (l : List Task). slice_get l (1 + (rings + j))) is ∙ got_front (front_are ++ calls_are) works_are (1 + (rings + j)) (Task'.Call j) i;
+            ap (λ (l : List Task). slice_get l (1 + (rings + j))) is ∙ get_front (front_are ++ calls_are) works_are (1 + (rings + j)) (Task'.Call j) i;
         workers = λ q lt.
             let z : 0 + q ≡ q = omega arith in
             ap (λ (l : List Task). slice_get l (1 + (rings + callers) + q)) is

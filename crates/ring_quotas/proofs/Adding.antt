@@ -19,9 +19,9 @@ use Rattle.conn_blocks.specs.Allowed.{all_calls}
 use Rattle.conn_blocks.specs.CallLists.{CallLists, call_at}
 use Rattle.conn_blocks.specs.Homes.{home, leaves_after, times_leaving}
 use Rattle.conn_blocks.proofs.Named.{call_is_named}
-use Rattle.conn_blocks.proofs.Numbers.{take_some}
 use Rattle.ring_quotas.specs.Quotas.{caller_asks, comes_after, feeds_at, quotas_of, ring_asks, ring_feeds, times_coming}
 use Rattle.ring_quotas.proofs.Moving.{range_more, tally_most}
+use Rattle.squeue_rings.proofs.Slots.{take_one}
 
 -- one connection more
 module _ (f : ℕ → ℕ) (on : ℕ → Bool) (n : ℕ) where
@@ -103,14 +103,11 @@ module _ (p : PlanOf) (listed : length p.items ≡ length p.tuples) (on : ℕ �
       parts [] = omega arith
       parts (n ∷ ns) = let r = parts ns in let x = sum_by-cons (λ n. f n + g n) n ns in let y = sum_by-cons f n ns in let z = sum_by-cons g n ns in omega (arith, r, x, y, z)
 
-take_next : {X : Type 0} (xs : List X) (k : ℕ) (x : X) → slice_get xs k ≡ Some x → take (k + 1) xs ≡ take k xs ++ x ∷ []
-take_next xs k x e = let one : k + 1 ≡ suc k = omega arith in ap (λ (n : ℕ). take n xs) one ∙ take_some xs k x e
-
 -- one call more
 pub calls_next : {X : Type 0} (f : X → ℕ) (xs : List X) (k : ℕ) (x : X) → slice_get xs k ≡ Some x → sum_by f (take (k + 1) xs) ≡ sum_by f (take k xs) + f x
 calls_next f xs k x e =
     let c = sum_by-cons f x [] in
-    let s = ap (sum_by f) (take_next xs k x e) ∙ sum_by-append f (take k xs) (x ∷ []) in
+    let s = ap (sum_by f) (take_one xs k x e) ∙ sum_by-append f (take k xs) (x ∷ []) in
     omega (arith, s, c)
 
 -- each call of a thread is on a connection that there is
@@ -178,12 +175,12 @@ module _ (old new : List Quota) (q : Quota) (pushed : new ≡ old ++ q ∷ []) w
 
   -- where those so far are the first values of a list
   pub next_value : (xs : List (ℕ × ℕ)) (k : ℕ) → pairs old ≡ take k xs → slice_get xs k ≡ Some (q.feeds, q.asks) → pairs new ≡ take (k + 1) xs
-  next_value xs k so is = pairs_next ∙ (ap (λ (l : List (ℕ × ℕ)). l ++ (q.feeds, q.asks) ∷ []) so ∙ sym (take_next xs k (q.feeds, q.asks) is))
+  next_value xs k so is = pairs_next ∙ (ap (λ (l : List (ℕ × ℕ)). l ++ (q.feeds, q.asks) ∷ []) so ∙ sym (take_one xs k (q.feeds, q.asks) is))
 
 -- the sum of the first quotas, and one more
 pub sum_next : (xs : List (ℕ × ℕ)) (k : ℕ) (x : ℕ × ℕ) → slice_get xs k ≡ Some x → all_quotas (take (k + 1) xs) ≡ all_quotas (take k xs) + x.0 + x.1
 sum_next xs k x is =
-    let one = ap all_quotas (take_next xs k x is) in
+    let one = ap all_quotas (take_one xs k x is) in
     omega (arith, one, all_both (take k xs ++ x ∷ []), all_both (take k xs), feeds_more (take k xs) x, asks_more (take k xs) x)
 
 -- one number more

@@ -1,21 +1,15 @@
 -- A ring's list by its connections: the feeds of each are all that it has, in order.
-use Rattle.std.proofs.Common.{◌≡◌, ◌≢◌, ℕ, zero, suc, ◌+◌, ◌-◌, ◌%◌, ◌<◌, ◌≤◌, ◌==◌, inl, inr, Bool, true, false, if◌then◌else◌, List, [], ◌∷◌, ◌++◌, length, map, filter, get_or, refl, ap, sym, ◌∙◌, subst, arith}
+use Rattle.std.proofs.Common.{◌≡◌, ◌≢◌, ℕ, zero, suc, ◌+◌, ◌-◌, ◌%◌, ◌<◌, ◌≤◌, ◌==◌, inl, inr, Bool, true, false, if◌then◌else◌, List, [], ◌∷◌, ◌++◌, length, map, filter, refl, ap, sym, ◌∙◌, subst, arith}
 use Rattle.std.specs.List.{AllByRecursion, range_with_len}
-use Rattle.std.proofs.lemmas.Bool.{cases_eq}
+use Rattle.std.proofs.lemmas.Bool.{cases_eq, eq-eqb, ne_eqb}
 use Rattle.std.proofs.lemmas.List.{map-append}
 use Rattle.std.proofs.lemmas.List.Elements.{filter-append}
 use Rattle.perimeter_core.specs.declared.entries.Feed.{Feed}
-use Rattle.conn_classifier.specs.Plan.{PlanOf, IsPlan, IsItems, items_in}
+use Rattle.conn_classifier.specs.Plan.{PlanOf, IsPlan, items_in}
 use Rattle.conn_classifier.specs.RingList.{feeds, last_feeds, IsRingList}
-use Rattle.ring_quotas.proofs.Moving.{range_more, same_number, other_number}
-
-all_at : {X : Type 0} (P : X → Type 0) (xs : List X) (i : ℕ) (d : X) → AllByRecursion P xs → i < length xs → P (get_or xs i d)
-all_at P [] i d h lt = absurd (let no : ⊥ = omega (arith, lt) in no)
-all_at P (x ∷ xs) zero d h lt = h.0
-all_at P (x ∷ xs) (suc i) d h lt = all_at P xs i d h.1 (omega (arith, lt))
-
-pub items_at : (p : PlanOf) (c : ℕ) → IsPlan p → c < length p.tuples → IsItems p.file (items_in p c)
-items_at p c is lt = all_at (IsItems p.file) p.items c [] is.each (omega (arith, is.listed, lt))
+use Rattle.conn_classifier.proofs.PlanFacts.{items_at}
+use Rattle.conn_classifier.proofs.PlanLaw.{all_append}
+use Rattle.ring_quotas.proofs.Moving.{range_more}
 
 -- the feeds of one connection among these
 abbrev pub of_conn : ℕ → List Feed → List Feed
@@ -37,7 +31,7 @@ module _ (on : ℕ → Bool) (last : ℕ → ℕ) (c : ℕ) where
   skipped a fs apart = by (on a)
     where
       by : (b : Bool) → of_conn c (if b then record { c = a; n = last a } ∷ fs else fs) ≡ of_conn c fs
-      by true = let e : (a == c) ≡ false = other_number a c apart in rw e refl
+      by true = let e : (a == c) ≡ false = ne_eqb a c apart in rw e refl
       by false = refl
 
   pub none_behind : (a m : ℕ) → c < a → of_conn c (lasts a m) ≡ []
@@ -61,7 +55,7 @@ module _ (on : ℕ → Bool) (last : ℕ → ℕ) (c : ℕ) where
       here fs none = by (on c)
         where
           by : (b : Bool) → of_conn c (if b then record { c = c; n = last c } ∷ fs else fs) ≡ (if b then record { c = c; n = last c } ∷ [] else [])
-          by true = let e : (c == c) ≡ true = same_number c c refl in rw e (ap (λ (l : List Feed). record { c = c; n = last c } ∷ l) none)
+          by true = let e : (c == c) ≡ true = eq-eqb c c refl in rw e (ap (λ (l : List Feed). record { c = c; n = last c } ∷ l) none)
           by false = none
 
 pub all_lasts : (on : ℕ → Bool) (last : ℕ → ℕ) (n a m : ℕ) → a + m ≤ n → AllByRecursion (λ (f : Feed). f.c < n) (lasts on last 0 a m)
@@ -73,10 +67,6 @@ all_lasts on last n a (suc m) le =
     by true h = (omega (arith, le), h)
     by false h = h
 
-all_both : {X : Type 0} (P : X → Type 0) (xs ys : List X) → AllByRecursion P xs → AllByRecursion P ys → AllByRecursion P (xs ++ ys)
-all_both P [] ys h k = k
-all_both P (x ∷ xs) ys h k = (h.0, all_both P xs ys h.1 k)
-
 feeds_more : (c k : ℕ) → feeds c 0 (suc k) ≡ feeds c 0 k ++ record { c = c; n = k } ∷ []
 feeds_more c k =
     let e : 0 + k ≡ k = omega arith in
@@ -87,7 +77,7 @@ module _ (p : PlanOf) (plan : IsPlan p) (rings r : ℕ) (list : List Feed) (is :
   pub only_known : AllByRecursion (λ (f : Feed). f.c < length p.tuples) list
   only_known =
       subst (AllByRecursion (λ (f : Feed). f.c < length p.tuples)) (sym is.whole)
-      (all_both (λ (f : Feed). f.c < length p.tuples) is.front (last_feeds p rings r (length p.tuples)) is.is.only (all_lasts (λ c. c % rings == r) (λ c. length (items_in p c) - 1) (length p.tuples) 0 (length p.tuples) (omega arith)))
+      (all_append (λ (f : Feed). f.c < length p.tuples) is.front (last_feeds p rings r (length p.tuples)) is.is.only (all_lasts (λ c. c % rings == r) (λ c. length (items_in p c) - 1) (length p.tuples) 0 (length p.tuples) (omega arith)))
 
   pub by_conn : (c : ℕ) → c < length p.tuples → of_conn c list ≡ (if c % rings == r then feeds c 0 (length (items_in p c)) else [])
   by_conn c lt =
@@ -106,4 +96,4 @@ module _ (p : PlanOf) (plan : IsPlan p) (rings r : ℕ) (list : List Feed) (is :
     where
       none : (fs : List Feed) → AllByRecursion (λ (f : Feed). f.c < length p.tuples) fs → of_conn c fs ≡ []
       none [] h = refl
-      none (f ∷ fs) h = let e : (f.c == c) ≡ false = other_number f.c c (λ i. let a = h.0 in absurd (let no : ⊥ = omega (arith, a, i, ge) in no)) in rw e (none fs h.1)
+      none (f ∷ fs) h = let e : (f.c == c) ≡ false = ne_eqb f.c c (λ i. let a = h.0 in absurd (let no : ⊥ = omega (arith, a, i, ge) in no)) in rw e (none fs h.1)

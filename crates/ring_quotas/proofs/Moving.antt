@@ -2,8 +2,7 @@
 use Rattle.std.proofs.Common.{◌≡◌, ◌≢◌, ℕ, zero, suc, ◌+◌, ◌-◌, ◌*◌, ◌/◌, ◌%◌, ◌<◌, ◌≤◌, ◌==◌, ◌⊎◌, inl, inr, Bool, true, false, if◌then◌else◌, List, [], ◌∷◌, ◌++◌, length, filter, refl, ap, sym, ◌∙◌, arith, length-append}
 use Rattle.std.specs.Prelude.{◌&&◌, ◌||◌, not}
 use Rattle.std.specs.List.{range_with_len}
-use Rattle.std.proofs.lemmas.Bool.{cases_lt}
-use Rattle.std.proofs.lemmas.Bool.Decides.{nat_tests}
+use Rattle.std.proofs.lemmas.Bool.{cases_lt, eqb-true, eqb-false, eq-eqb, ne_eqb}
 use Rattle.std.proofs.lemmas.List.Elements.{filter-append}
 use Rattle.std.proofs.lemmas.Nat.{div-add-mod', div-mul-add, mod-mul-add, mod_below}
 use Rattle.std.proofs.Math.Nat.{add-mod, div-eq_of_lt, mod-eq_of_lt, zero-div}
@@ -90,18 +89,6 @@ tally_most f (suc n) = by (f n) (tally_most f n) (tally_more f n)
     by true r t = omega (arith, r, t)
     by false r t = omega (arith, r, t)
 
-pub same_number : (a b : ℕ) → a ≡ b → (a == b) ≡ true
-same_number a b e = grind (arith, nat_tests)
-
-pub other_number : (a b : ℕ) → a ≢ b → (a == b) ≡ false
-other_number a b e = grind (arith, nat_tests)
-
-pub are_same : (a b : ℕ) → (a == b) ≡ true → a ≡ b
-are_same a b e = grind (arith, nat_tests)
-
-pub are_apart : (a b : ℕ) → (a == b) ≡ false → a ≢ b
-are_apart a b e = grind (arith, nat_tests)
-
 -- a test for a squeue where a connection stays, or goes on to the next one
 pub left_never : (h k : ℕ) → ((h == k) && not (h == k)) ≡ false
 left_never h k = by (h == k)
@@ -121,7 +108,7 @@ left_always : (h g k : ℕ) → h ≢ g → ((h == k) && not (g == k)) ≡ (h ==
 left_always h g k apart = by (h == k) (g == k) refl refl
   where
     by : (a b : Bool) → (h == k) ≡ a → (g == k) ≡ b → (a && not b) ≡ a
-    by true true e f = absurd (apart (are_same h k e ∙ sym (are_same g k f)))
+    by true true e f = absurd (apart (eqb-true h k e ∙ sym (eqb-true g k f)))
     by true false e f = refl
     by false b e f = refl
 
@@ -129,7 +116,7 @@ come_always : (h g k : ℕ) → h ≢ g → (not (h == k) && (g == k)) ≡ (g ==
 come_always h g k apart = by (h == k) (g == k) refl refl
   where
     by : (a b : Bool) → (h == k) ≡ a → (g == k) ≡ b → (not a && b) ≡ b
-    by true true e f = absurd (apart (are_same h k e ∙ sym (are_same g k f)))
+    by true true e f = absurd (apart (eqb-true h k e ∙ sym (eqb-true g k f)))
     by true false e f = refl
     by false true e f = refl
     by false false e f = refl
@@ -141,8 +128,8 @@ same_test a b c d there back = by (a == b) (c == d) refl refl
     by : (x y : Bool) → (a == b) ≡ x → (c == d) ≡ y → x ≡ y
     by true true e f = refl
     by false false e f = refl
-    by true false e f = absurd (are_apart c d f (there (are_same a b e)))
-    by false true e f = absurd (are_apart a b e (back (are_same c d f)))
+    by true false e f = absurd (eqb-false c d f (there (eqb-true a b e)))
+    by false true e f = absurd (eqb-false a b e (back (eqb-true c d f)))
 
 -- where connections never move
 module _ (s c : ℕ) where
@@ -224,10 +211,10 @@ module _ (s c k : ℕ) (some : 0 < s) (lt : k < s) where
       let same : m + 1 + (s - 1 - away s c k) ≡ (m + (s - 1 - away s c k)) + 1 = omega arith in
       elim (next (m + (s - 1 - away s c k)) s some) [
         | inl x ↦
-            let off : ((c + m) % s == k) ≡ false = other_number ((c + m) % s) k (λ h. let l = where_last m h in let b = x.below in omega (arith, l, b)) in
+            let off : ((c + m) % s == k) ≡ false = ne_eqb ((c + m) % s) k (λ h. let l = where_last m h in let b = x.below in omega (arith, l, b)) in
             rw off (ap (λ (n : ℕ). n / s) same ∙ (x.quotient ∙ (let e : left_of m ≡ left_of m + 0 = omega arith in e)))
         | inr x ↦
-            let on : ((c + m) % s == k) ≡ true = same_number ((c + m) % s) k (last_where m x.last) in
+            let on : ((c + m) % s == k) ≡ true = eq-eqb ((c + m) % s) k (last_where m x.last) in
             rw on (ap (λ (n : ℕ). n / s) same ∙ x.quotient)
       ]
 
@@ -244,7 +231,7 @@ pub record GoesOn (s p c n : ℕ) : Type 0 where
   pub round : (home s p c (n + 1) ≡ home s p c n + 1) ⊎ ((home s p c (n + 1) ≡ 0) × (home s p c n + 1 ≡ s))
 
 moving : (s p c n : ℕ) → 0 < p → home s p c n ≡ (c + n / p) % s
-moving s p c n pos = let e : (p == 0) ≡ false = other_number p 0 (λ h. absurd (let no : ⊥ = omega (arith, pos, h) in no)) in rw e refl
+moving s p c n pos = let e : (p == 0) ≡ false = ne_eqb p 0 (λ h. absurd (let no : ⊥ = omega (arith, pos, h) in no)) in rw e refl
 
 pub home_below : (s p c n : ℕ) → 0 < s → home s p c n < s
 home_below s p c n some = by (p == 0)
@@ -387,8 +374,8 @@ module _ (s p c k items : ℕ) (lt : k < s) (have : 0 < items) where
     where
       by : (a b : Bool) → (p == 0) ≡ a → (s == 1) ≡ b → times_leaving s p k c items ≡ ((if a || b then 0 else (items - 1) / p) + (s - 1 - away s c k)) / s
       by true b e f = still_left (λ n. never_moves e (n + 1) ∙ sym (never_moves e n)) ∙ sym (left_none s c k some_squeue lt)
-      by false true e f = still_left (λ n. alone (are_same s 1 f) (n + 1) ∙ sym (alone (are_same s 1 f) n)) ∙ sym (left_none s c k some_squeue lt)
-      by false false e f = left_tally s p c k (several_of (are_apart s 1 f)) (let no : p ≢ 0 = are_apart p 0 e in omega (arith, no)) lt (items - 1)
+      by false true e f = still_left (λ n. alone (eqb-true s 1 f) (n + 1) ∙ sym (alone (eqb-true s 1 f) n)) ∙ sym (left_none s c k some_squeue lt)
+      by false false e f = left_tally s p c k (several_of (eqb-false s 1 f)) (let no : p ≢ 0 = eqb-false p 0 e in omega (arith, no)) lt (items - 1)
 
   -- how many feeds find it at home, by quotients
   pub feeds_is : feeds_at s p k c items ≡ times_leaving s p k c items * p + (if (c % s + moves_of s p items % s) % s == k then items - moves_of s p items * p else 0)
@@ -409,10 +396,10 @@ module _ (s p c k items : ℕ) (lt : k < s) (have : 0 < items) where
       by : (a b : Bool) → (p == 0) ≡ a → (s == 1) ≡ b
           → feeds_at s p k c items ≡ times_leaving s p k c items * p + (if (c % s + (if a || b then 0 else (items - 1) / p) % s) % s == k then items - (if a || b then 0 else (items - 1) / p) * p else 0)
       by true b e f = stays (never_moves e)
-      by false true e f = stays (alone (are_same s 1 f))
+      by false true e f = stays (alone (eqb-true s 1 f))
       by false false e f =
-          let several = several_of (are_apart s 1 f) in
-          let pos : 0 < p = (let no : p ≢ 0 = are_apart p 0 e in omega (arith, no)) in
+          let several = several_of (eqb-false s 1 f) in
+          let pos : 0 < p = (let no : p ≢ 0 = eqb-false p 0 e in omega (arith, no)) in
           let n : items ≡ suc (items - 1) = omega (arith, have) in
           let m : ℕ = (items - 1) / p in
           ap (feeds_at s p k c) n
@@ -456,7 +443,7 @@ module _ (s p c k items : ℕ) (lt : k < s) (have : 0 < items) where
           ]
 
       each : (n : ℕ) → (0 < p) ⊎ (p ≤ 0) → comes_after s p k c n ≡ leaves_after s p ((k + s - 1) % s) c n
-      each n (inr none) = let e : (p == 0) ≡ true = same_number p 0 (omega (arith, none)) in same_home n (never_moves e (n + 1) ∙ sym (never_moves e n))
+      each n (inr none) = let e : (p == 0) ≡ true = eq-eqb p 0 (omega (arith, none)) in same_home n (never_moves e (n + 1) ∙ sym (never_moves e n))
       each n (inl pos) =
           elim (stays_or_goes s p c n some_squeue pos) [
             | inl x ↦ same_home n x.now
@@ -479,12 +466,12 @@ module _ (s p c k items : ℕ) (lt : k < s) (have : 0 < items) where
   -- the parts of the count, as the code has them
   pub feeds_there : (l m last : ℕ) → l ≡ times_leaving s p k c items → m ≡ moves_of s p items → (c % s + m % s) % s ≡ k → last ≡ items - m * p → l * p + last ≡ feeds_at s p k c items
   feeds_there l m last e f on is =
-      let t : ((c % s + moves_of s p items % s) % s == k) ≡ true = ap (λ (n : ℕ). (c % s + n % s) % s == k) (sym f) ∙ same_number ((c % s + m % s) % s) k on in
+      let t : ((c % s + moves_of s p items % s) % s == k) ≡ true = ap (λ (n : ℕ). (c % s + n % s) % s == k) (sym f) ∙ eq-eqb ((c % s + m % s) % s) k on in
       let w : feeds_at s p k c items ≡ times_leaving s p k c items * p + (items - moves_of s p items * p) = feeds_is ∙ ap (λ (b : Bool). times_leaving s p k c items * p + (if b then items - moves_of s p items * p else 0)) t in
       (λ i. e i * p + is i) ∙ (ap (λ (n : ℕ). times_leaving s p k c items * p + (items - n * p)) f ∙ sym w)
 
   pub feeds_elsewhere : (l m last : ℕ) → l ≡ times_leaving s p k c items → m ≡ moves_of s p items → (c % s + m % s) % s ≢ k → last ≡ 0 → l * p + last ≡ feeds_at s p k c items
   feeds_elsewhere l m last e f off is =
-      let t : ((c % s + moves_of s p items % s) % s == k) ≡ false = ap (λ (n : ℕ). (c % s + n % s) % s == k) (sym f) ∙ other_number ((c % s + m % s) % s) k off in
+      let t : ((c % s + moves_of s p items % s) % s == k) ≡ false = ap (λ (n : ℕ). (c % s + n % s) % s == k) (sym f) ∙ ne_eqb ((c % s + m % s) % s) k off in
       let w : feeds_at s p k c items ≡ times_leaving s p k c items * p + 0 = feeds_is ∙ ap (λ (b : Bool). times_leaving s p k c items * p + (if b then items - moves_of s p items * p else 0)) t in
       (λ i. e i * p + is i) ∙ sym w

@@ -2,7 +2,7 @@
 use Rattle.std.proofs.Common.{◌≡◌, ◌≢◌, ℕ, zero, suc, ◌+◌, ◌-◌, ◌%◌, ◌<◌, ◌≤◌, ◌==◌, inl, inr, Bool, true, false, if◌then◌else◌, List, [], ◌∷◌, length, map, filter, sum_by, refl, ap, sym, ◌∙◌, arith}
 use Rattle.std.specs.Prelude.{◌&&◌, not}
 use Rattle.std.specs.List.{AllByRecursion, range_with_len}
-use Rattle.std.proofs.lemmas.Bool.{cases_eq, cases_lt}
+use Rattle.std.proofs.lemmas.Bool.{cases_eq, cases_lt, eqb-true, eq-eqb, ne_eqb}
 use Rattle.std.proofs.lemmas.List.Sums.{sum_by-cons}
 use Rattle.turn_gate.specs.History.{Each}
 use Rattle.perimeter_core.specs.declared.entries.Feed.{Feed}
@@ -13,7 +13,7 @@ use Rattle.conn_classifier.specs.RingList.{feeds, IsRingList}
 use Rattle.conn_blocks.specs.Homes.{home, leaves_after, times_leaving}
 use Rattle.squeue_rings.specs.Runs.{InOrder, brought, comes, count, is_at, is_left_by, leaves}
 use Rattle.ring_quotas.specs.Quotas.{comes_after, conns_of, feeds_at, ring_asks, ring_feeds, times_coming}
-use Rattle.ring_quotas.proofs.Moving.{are_same, come_never, left_never, other_number, same_number, tally, tally_more}
+use Rattle.ring_quotas.proofs.Moving.{come_never, left_never, tally, tally_more}
 use Rattle.ring_quotas.proofs.Listing.{by_conn, none_unknown, of_conn, only_known}
 
 -- sums over numbers that follow one another, where one term is larger
@@ -57,8 +57,8 @@ sum_passing on g h n a (suc m) le passes fails = by (on a) refl (sum_passing on 
 pub by_conns : (test : Feed → Bool) (n : ℕ) (fs : List Feed) → AllByRecursion (λ (f : Feed). f.c < n) fs → count test fs ≡ sum_by (λ c. count test (of_conn c fs)) (range_with_len 0 n)
 by_conns test n [] all = sym (sum_none (λ c. 0) 0 n (λ c. refl))
 by_conns test n (f ∷ fs) all =
-    let own : count test (of_conn f.c (f ∷ fs)) ≡ (if test f then 1 else 0) + count test (of_conn f.c fs) = (let e : (f.c == f.c) ≡ true = same_number f.c f.c refl in rw e refl) in
-    let others : (c : ℕ) → c ≢ f.c → count test (of_conn c (f ∷ fs)) ≡ count test (of_conn c fs) = λ c apart. let e : (f.c == c) ≡ false = other_number f.c c (λ i. apart (sym i)) in rw e refl in
+    let own : count test (of_conn f.c (f ∷ fs)) ≡ (if test f then 1 else 0) + count test (of_conn f.c fs) = (let e : (f.c == f.c) ≡ true = eq-eqb f.c f.c refl in rw e refl) in
+    let others : (c : ℕ) → c ≢ f.c → count test (of_conn c (f ∷ fs)) ≡ count test (of_conn c fs) = λ c apart. let e : (f.c == c) ≡ false = ne_eqb f.c c (λ i. apart (sym i)) in rw e refl in
     let lt = all.0 in
     let r = by_conns test n fs all.1 in
     let s = sum_larger (λ c. count test (of_conn c fs)) (λ c. count test (of_conn c (f ∷ fs))) f.c (if test f then 1 else 0) 0 n (omega arith) (omega (arith, lt)) own others in
@@ -215,9 +215,9 @@ module _ (p : PlanOf) (plan : IsPlan p) (rings r : ℕ) (list : List Feed) (is :
       each (f ∷ fs) all none = ((here (f.c % rings == r) refl, all.0), each fs all.1 (λ c lt off. rest c lt off (f.c == c) refl))
         where
           here : (b : Bool) → (f.c % rings == r) ≡ b → r ≡ f.c % rings
-          here true e = sym (are_same (f.c % rings) r e)
+          here true e = sym (eqb-true (f.c % rings) r e)
           here false e =
-              let self : (f.c == f.c) ≡ true = same_number f.c f.c refl in
+              let self : (f.c == f.c) ≡ true = eq-eqb f.c f.c refl in
               let no : (f ∷ of_conn f.c fs) ≡ [] = sym (ap (λ (b : Bool). if b then f ∷ of_conn f.c fs else of_conn f.c fs) self) ∙ none f.c all.0 e in
               absurd (cc no)
 

@@ -1,6 +1,6 @@
 mod Back
 mod MadeSqueues
-mod WholeRun
+pub mod WholeRun
 mod FewFeeds
 mod Ready
 mod Finished

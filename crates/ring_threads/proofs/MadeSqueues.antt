@@ -16,7 +16,7 @@ use Rattle.ring_quotas.specs.Quotas.{quotas_of}
 use Rattle.ring_jobs.proofs.Starts.{first_flag}
 use Rattle.ring_jobs.proofs.Tasked.{each_more}
 use Rattle.ring_threads.specs.Settings.{AreSet, IsSet}
-use Rattle.ring_threads.proofs.WholeRun.{map_at}
+use Rattle.ring_threads.proofs.Ready.{number_at}
 
 -- flags that are the same one by one
 same_flags : (xs ys : List Bool) → length xs ≡ length ys → ((k : ℕ) → k < length xs → slice_index_or xs k false ≡ slice_index_or ys k false) → xs ≡ ys
@@ -38,7 +38,7 @@ module _ (p : PlanOf) (calls : CallLists) (squeues rings spread q : ℕ) (first 
       let below : c < length p.tuples = omega (arith, lt, made.its_conns, size) in
       let z : 0 + c ≡ c = omega arith in
       made.its_blocks (first_here (length p.tuples) q squeues) c stands
-      ∙ (first_flag (length p.tuples) q squeues c below ∙ sym (map_at (λ c. c % squeues == q) 0 (length p.tuples) c false below ∙ ap (λ (d : ℕ). d % squeues == q) z)))
+      ∙ (first_flag (length p.tuples) q squeues c below ∙ sym (number_at (λ c. c % squeues == q) 0 (length p.tuples) c false below ∙ ap (λ (d : ℕ). d % squeues == q) z)))
 
   pub is_set : IsSet p calls squeues rings spread q s
   is_set =

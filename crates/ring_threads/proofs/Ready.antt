@@ -1,5 +1,6 @@
 -- Jobs with the passes of new squeues are ready.
-use Rattle.std.proofs.Common.{◌≡◌, ℕ, ◌+◌, ◌%◌, ◌<◌, ◌≤◌, ◌==◌, All, false, Some, List, length, slice_get, slice_index_or, refl, ap, sym, ◌∙◌, arith}
+use Rattle.std.proofs.Common.{◌≡◌, ℕ, ◌+◌, ◌%◌, ◌<◌, ◌≤◌, ◌==◌, zero, suc, All, false, Some, List, length, map, slice_get, slice_index_or, refl, ap, sym, ◌∙◌, arith}
+use Rattle.std.specs.List.{range_with_len}
 use Rattle.std.proofs.lemmas.List.FromFn.{length-map-range_with_len}
 use Rattle.turn_gate.specs.History.{Each}
 use Rattle.perimeter_core.specs.History.{Setting}
@@ -25,7 +26,11 @@ use Rattle.ring_quotas.specs.Quotas.{IsMadeFor, setting_at}
 use Rattle.ring_quotas.proofs.Sufficing.{all_may_bring, all_may_make}
 use Rattle.ring_quotas.proofs.Totals.{order}
 use Rattle.ring_threads.specs.Settings.{AreSet}
-use Rattle.ring_threads.proofs.WholeRun.{map_at}
+
+pub number_at : {A : Type 0} (f : ℕ → A) (a n k : ℕ) (d : A) → k < n → slice_index_or (map f (range_with_len a n)) k d ≡ f (a + k)
+number_at f a zero k d lt = absurd (omega (arith, lt))
+number_at f a (suc n) zero d lt = let e : a ≡ a + 0 = omega arith in ap f e
+number_at f a (suc n) (suc k) d lt = let e : (a + 1) + k ≡ a + suc k = omega arith in number_at f (a + 1) n k d (omega (arith, lt)) ∙ ap f e
 
 module _ (p : PlanOf) (calls : CallLists) (squeues rings spread : ℕ) (ss : List (Named Blocks)) (set : AreSet p calls squeues rings spread ss) where
   pub made_for : Each (IsMadeFor limits_of p calls squeues rings spread) ss
@@ -53,7 +58,7 @@ module _ (p : PlanOf) (calls : CallLists) (squeues rings spread : ℕ) (ss : Lis
       let n = its_conns q s at in
       let z : 0 + c ≡ c = omega arith in
       ap (λ (S : Setting). slice_index_or S.starts c false) (set.each q s at).setting
-      ∙ (map_at (λ c. c % squeues == q) 0 (length p.tuples) c false (omega (arith, lt, n))
+      ∙ (number_at (λ c. c % squeues == q) 0 (length p.tuples) c false (omega (arith, lt, n))
       ∙ (ap (λ (d : ℕ). d % squeues == q) z ∙ ap (λ (k : ℕ). c % squeues == k) (sym (set.each q s at).number))))
 
   module _ (lines : List Line) (are : AreLines (IsRingList p rings) rings lines) (jobs : List (Job Task)) (tasks : AreTasks rings 4 squeues lines (tasks_in jobs)) (lent : AreLent IsNew 1 (rings + 4) ss (lent_to jobs))

@@ -34,13 +34,13 @@ use Rattle.conn_blocks.specs.ServeOrder.{BlockOf, OriginOf, serve, serving_of}
 use Rattle.squeue_serve.specs.Places.{Holds}
 use Rattle.squeue_serve.proofs.Coming.{each_got}
 use Rattle.squeue_serve.proofs.Lent.{some_at}
+use Rattle.squeue_serve.proofs.Unused.{each_at}
 use Rattle.squeue_rings.specs.Keeping.{IsPaced, KeepsPace}
 use Rattle.squeue_rings.specs.Made.{made_in, times_made}
 use Rattle.squeue_rings.specs.Noted.{AreNoted}
 use Rattle.squeue_rings.specs.Runs.{brought, place}
 use Rattle.squeue_rings.specs.Seen.{seen_ends, seen_in}
 use Rattle.squeue_rings.proofs.CallMarks.{none_beyond as no_thread_beyond}
-use Rattle.squeue_rings.proofs.Reaching.{each_at}
 use Rattle.squeue_rings.proofs.Slots.{at_got, at_length}
 use Rattle.ring_quotas.specs.declared.setup.Setup.{Setup}
 use Rattle.ring_quotas.specs.Quotas.{setting_at}
@@ -55,6 +55,7 @@ use Rattle.ring_threads.specs.Fits.{IsHereOnce}
 use Rattle.ring_threads.specs.Served.{HasServed, ServedOf}
 use Rattle.ring_threads.specs.ServedBlocks.{IsServing}
 use Rattle.ring_threads.specs.Settings.{HasRun, IsSet}
+use Rattle.ring_threads.proofs.Ready.{number_at}
 use Rattle.ring_jobs.proofs.AtTheEnd.{end_due, end_here, end_made, end_paced, end_stays, linked_same, noted_same, seen_count, seen_got}
 
 home_below : (squeues spread c n : ℕ) → 1 ≤ squeues → home squeues spread c n < squeues
@@ -64,7 +65,7 @@ home_below squeues spread c n some = by (spread == 0)
     by true = mod-lt c some
     by false = mod-lt (c + n / spread) some
 
-same_test : (a b : ℕ) → (a == b) ≡ (b == a)
+pub same_test : (a b : ℕ) → (a == b) ≡ (b == a)
 same_test a b = by (a == b) (b == a) refl refl
   where
     by : (x y : Bool) → (a == b) ≡ x → (b == a) ≡ y → (a == b) ≡ (b == a)
@@ -72,12 +73,6 @@ same_test a b = by (a == b) (b == a) refl refl
     by false false u v = u ∙ sym v
     by true false u v = let e : a ≡ b = grind (arith, nat_tests) in let f : b ≢ a = grind (arith, nat_tests) in absurd (f (sym e))
     by false true u v = let e : b ≡ a = grind (arith, nat_tests) in let f : a ≢ b = grind (arith, nat_tests) in absurd (f (sym e))
-
--- the places of a map over the first numbers
-pub map_at : {A : Type 0} (f : ℕ → A) (a n k : ℕ) (d : A) → k < n → slice_index_or (map f (range_with_len a n)) k d ≡ f (a + k)
-map_at f a zero k d lt = absurd (omega (arith, lt))
-map_at f a (suc n) zero d lt = let e : a ≡ a + 0 = omega arith in ap f e
-map_at f a (suc n) (suc k) d lt = let e : a + 1 + k ≡ a + suc k = omega arith in map_at f (a + 1) n k d (omega (arith, lt)) ∙ ap f e
 
 got_map : {A B : Type 0} (f : A → B) (g : B → ℕ) (xs : List A) (k d : ℕ) → option_map_or g (slice_get (map f xs) k) d ≡ option_map_or (λ x. g (f x)) (slice_get xs k) d
 got_map f g [] k d = refl
@@ -315,7 +310,7 @@ module _ (p : PlanOf) (calls : CallLists) (setup : Setup) (front : ℕ) (lists :
             let starts : h.setting.starts ≡ map (λ d. d % squeues == q) (range_with_len 0 n) = ap (λ (S : Setting). S.starts) (a.3.its_setting ∙ a.2.setting) in
             let total : length es ≡ squeues = back.ends ∙ ran.set.count in
             ap (λ (l : List Bool). slice_index_or l c false) starts
-            ∙ (map_at (λ d. d % squeues == q) 0 n c false lt ∙ (let z : 0 + c ≡ c = omega arith in ap (λ (d : ℕ). d % squeues == q) z ∙ (same_test (c % squeues) q ∙ ap (λ (m : ℕ). q == c % m) (sym total))));
+            ∙ (number_at (λ d. d % squeues == q) 0 n c false lt ∙ (let z : 0 + c ≡ c = omega arith in ap (λ (d : ℕ). d % squeues == q) z ∙ (same_test (c % squeues) q ∙ ap (λ (m : ℕ). q == c % m) (sym total))));
         linked = λ c lt. linked_same (seen_ends limits_of ss (lent (front + r c lt))) es c (as_many_ends c lt) (same_stays_at c lt) ((ran.rings_end (r c lt) (r_below c lt)).linked c (its_ring c lt));
       }
 

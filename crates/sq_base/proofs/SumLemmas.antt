@@ -1,13 +1,7 @@
 -- A sum modulo 2^16 - 1, word by word.
-use Rattle.std.proofs.Common.{◌≡◌, ℕ, ◌+◌, ◌<◌, arith}
+use Rattle.std.proofs.Common.{◌≡◌, ℕ, ◌+◌, arith}
 use Rattle.std.proofs.lemmas.Bool.Decides.{nat_tests}
 use Rattle.sq_base.specs.InternetSum.{reduced}
-
-pub reduced-below : (n : ℕ) → reduced n < 65536
-reduced-below n = grind (arith, nat_tests)
-
-pub reduced-small : (n : ℕ) → n < 65536 → reduced n ≡ n
-reduced-small n h = grind (arith, nat_tests)
 
 pub reduced-reduced_add : (m n : ℕ) → reduced (reduced m + n) ≡ reduced (m + n)
 reduced-reduced_add m n = grind (arith, nat_tests)

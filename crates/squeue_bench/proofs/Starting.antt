@@ -1,5 +1,5 @@
 -- New squeues, their passes, and what a ring with a new pass may bring.
-use Rattle.std.proofs.Common.{◌≡◌, ℕ, zero, suc, ◌+◌, ◌*◌, ◌<◌, ◌≤◌, ◌%◌, Bool, true, false, Some, None, Result, Ok, Err, IfOk, List, [], ◌∷◌, ◌++◌, length, map, replicate, get_or, slice_index, slice_index_or, is_some, if◌then◌else◌, ◌==◌, refl, sym, ap, ◌∙◌, subst, arith}
+use Rattle.std.proofs.Common.{◌≡◌, ℕ, zero, suc, ◌+◌, ◌*◌, ◌<◌, ◌≤◌, ◌%◌, true, false, Some, List, [], ◌∷◌, ◌++◌, length, map, replicate, get_or, slice_index, slice_index_or, is_some, ◌==◌, refl, sym, ap, ◌∙◌, subst, arith}
 use Rattle.std.specs.Prelude.{All, nat_lt}
 use Rattle.std.proofs.Math.Nat.{mod-eq_of_lt}
 use Rattle.std.proofs.lemmas.List.{length-map, get_or-map, get_or-replicate, length-replicate}
@@ -26,14 +26,8 @@ use Rattle.squeue_state.specs.Words.{IsMade, ask_quotas}
 use Rattle.squeue_bench.specs.Rows.{IsRow}
 use Rattle.squeue_bench.specs.Places.{MayBring}
 use Rattle.squeue_bench.specs.Runs.{IsNewPass, Suits}
-
-open_flag : (n p : ℕ) → slice_index_or (replicate n false) p false ≡ false
-open_flag zero p = refl
-open_flag (suc n) zero = refl
-open_flag (suc n) (suc p) = open_flag n p
-
-start_idle : (S : Setting) (p : ℕ) → Idle (start S) p
-start_idle S p = record { open_pass = open_flag (length S.quotas + 1) p; no_owner = λ e. cc e; not_granted = λ e. cc e; not_in_hand = refl; not_in_chain = refl }
+use Rattle.squeue_serve.proofs.Unused.{start_idle}
+use Rattle.key_counters.proofs.Totals.{none_yet}
 
 one_more_is : (c n : ℕ) (next : ℕ → ℕ) → next c ≡ n → one_more c next c ≡ n + 1
 one_more_is c n next h = let e : (c == c) ≡ true = grind (arith, nat_tests) in rw e (ap (λ (x : ℕ). x + 1) h)
@@ -88,12 +82,8 @@ pub asks_sum : (n items : ℕ) → ask_quotas (pairs (replicate n (quota_of item
 asks_sum zero items = refl
 asks_sum (suc n) items = omega (arith, asks_sum n items)
 
-new_at : (b : Bool) (had : List Act) → (if b then Some [] else None) ≡ Some had → had ≡ []
-new_at true had h = cc h
-new_at false had h = cc h
-
 pub none_had : (n c : ℕ) (had : List Act) → all_new n c ≡ Some had → had ≡ []
-none_had n c had h = new_at (nat_lt c n) had h
+none_had n c had h = none_yet (nat_lt c n) had h
 
 here_at : (k n : ℕ) → k < n → is_some (all_new n k) ≡ true
 here_at k n l = let e : nat_lt k n ≡ true = grind (arith, nat_tests) in rw e refl
@@ -119,7 +109,3 @@ new_suits number rings items n quotas rows first s m count_is same long all stan
       },
       count,
     )
-
-pub if_ok : {A E : Type 0} (P Q : A → Type 0) (r : Result A E) → ((x : A) → P x → Q x) → IfOk r P → IfOk r Q
-if_ok P Q (Ok x) h p = h x p
-if_ok P Q (Err e) h p = p

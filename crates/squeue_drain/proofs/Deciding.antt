@@ -23,10 +23,11 @@ use Rattle.perimeter_core.specs.Backlog.{QueuedInRange}
 use Rattle.perimeter_core.proofs.OneMore.{run_push, legal_more}
 use Rattle.perimeter_core.proofs.BlocksFollow.{peri_push}
 use Rattle.perimeter_core.proofs.FeedActs.{with_none}
-use Rattle.perimeter_core.proofs.IdleKept.{no_ask_split, no_ask_join}
+use Rattle.perimeter_core.proofs.IdleKept.{no_ask_split}
 use Rattle.perimeter_core.proofs.OwnAsk.{waits_no_more}
 use Rattle.perimeter_core.proofs.QueuedRange.{queued_range, range_right}
 use Rattle.perimeter_core.proofs.Room.{queued_fits}
+use Rattle.perimeter_core.proofs.BehindAnAsk.{has_ask-append}
 use Rattle.squeue_state.specs.Naming.{Given, Named, Turned, Handed, setting_of}
 use Rattle.squeue_state.specs.Behind.{IsPeri}
 use Rattle.squeue_state.specs.Elements.{number_of, took, gone, granted}
@@ -118,7 +119,7 @@ module _ {R P O : Type 0} (G : Ghosts R P O) (s : Named R) (o : Owner R) (u : Tu
         no_owner = λ e. cc e;
         not_granted = λ e. cc e;
         not_in_hand = refl;
-        not_in_chain = no_ask_join u.number (unprocessed (length o.hand.left) (run S u.found).hand) (run S u.found).chain (ap (has_ask u.number) (sym at.left.is_left) ∙ no_ask_left) no_ask_chain;
+        not_in_chain = has_ask-append u.number (unprocessed (length o.hand.left) (run S u.found).hand) (run S u.found).chain (ap (has_ask u.number) (sym at.left.is_left) ∙ no_ask_left) no_ask_chain;
       }
 
   -- what the turn found, and the state after the mark, as they are said of the pass
@@ -286,7 +287,7 @@ module _ {R P O : Type 0} (G : Ghosts R P O) (s : Named R) (o : Owner R) (u : Tu
                 not_granted = λ e. other (cc e);
                 not_in_hand = refl;
                 not_in_chain =
-                    no_ask_join u.number (unprocessed (length rest) hand) (run T H).chain
+                    has_ask-append u.number (unprocessed (length rest) hand) (run T H).chain
                     (ap (has_ask u.number) (sym one_on.is_left) ∙ (no_ask_split u.number (processed (length o.hand.left) hand ++ Entry'.Ask j ∷ []) rest
                     (ap (has_ask u.number) (append_assoc (processed (length o.hand.left) hand) (Entry'.Ask j ∷ []) rest) ∙ lone)).1)
                     (no_ask_chain G s o u is has f);
@@ -317,10 +318,6 @@ asks j xs rest h = rw h refl
 
 pub granted_is : (p j : ℕ) (xs rest : List Entry) → xs ≡ Entry'.Ask j ∷ rest → granted p (asker xs) (length xs - 1) ≡ plain (On.Grant p j (length rest))
 granted_is p j xs rest h = let one : suc (length rest) - 1 ≡ length rest = omega arith in rw h (ap (λ (k : ℕ). plain (On.Grant p j k)) one)
-
-pub nil_of : {A : Type 0} (xs : List A) → length xs ≡ 0 → xs ≡ []
-nil_of [] h = refl
-nil_of (x ∷ xs) h = absurd (omega arith)
 
 pub some_of : {A : Type 0} (xs : List A) → length xs ≢ 0 → xs ≢ []
 some_of xs h e = h (ap length e)

@@ -1,18 +1,15 @@
 -- An owner that has just come.
-use Rattle.std.proofs.Common.{◌≡◌, ℕ, ◌<◌, false, ◌==◌, List, [], ◌∷◌, length, refl, ap, sym, ◌∙◌, subst, arith}
-use Rattle.std.proofs.lemmas.Bool.Decides.{nat_tests}
+use Rattle.std.proofs.Common.{◌≡◌, ℕ, List, length, refl, ap, sym, ◌∙◌, subst}
 use Rattle.turn_gate.specs.Passes.{IsPassOf, number, seen}
 use Rattle.turn_gate.specs.declared.pass.Pass.{Pass}
 use Rattle.perimeter_core.specs.declared.resident.Resident.{Ghosts}
 use Rattle.perimeter_core.specs.declared.entries.Entry.{Entry}
-use Rattle.perimeter_core.specs.declared.entries.Entry.TheVariants.{Feed, Ask}
 use Rattle.perimeter_core.specs.declared.marks.SynchAct.TheVariants as Done
 use Rattle.perimeter_core.specs.declared.marks.Own.TheVariants.{Out}
-use Rattle.perimeter_core.specs.Perimeter.{has_ask, processed}
-use Rattle.perimeter_core.specs.History.{Element, Setting, Limits, worker, run}
+use Rattle.perimeter_core.specs.Perimeter.{processed}
+use Rattle.perimeter_core.specs.History.{Element, Setting, Limits, run}
 use Rattle.perimeter_core.specs.Legal.{Legal, all_feeds}
 use Rattle.perimeter_core.specs.Blocks.{Blocks, peri, with_feeds}
-use Rattle.perimeter_core.specs.Backlog.{QueuedInRange}
 use Rattle.perimeter_core.proofs.FeedActs.{with_none}
 use Rattle.squeue_state.specs.Naming.{Named, Handed, setting_of}
 use Rattle.squeue_state.specs.Behind.{IsPeri}
@@ -46,12 +43,3 @@ module _ {R P O : Type 0} (G : Ghosts R P O) (s : Named R) where
         no_act = refl;
         feeds = ap all_feeds w.1;
       }
-
--- no Ask of the worker's is queued
-pub no_worker_ask : (S : Setting) (es : List Entry) → QueuedInRange S es → has_ask (worker S) es ≡ false
-no_worker_ask S [] r = refl
-no_worker_ask S (Feed c n ∷ es) r = no_worker_ask S es r.2
-no_worker_ask S (Ask p ∷ es) r =
-    let below : p < worker S = r.0 in
-    let other : (p == worker S) ≡ false = grind (arith, nat_tests) in
-    rw other (no_worker_ask S es r.1)

@@ -1,12 +1,12 @@
 -- A hand that is processed from the front.
 use Rattle.std.specs.Prelude.{Some}
 use Rattle.squeue_state.specs.Words.{first_entry}
-use Rattle.std.proofs.Common.{◌≡◌, ◌≢◌, ℕ, suc, ◌-◌, ◌≤◌, Bool, true, false, ◌&&◌, ◌||◌, ◌==◌, List, [], ◌∷◌, ◌++◌, length, take, drop, refl, ap, sym, ◌∙◌, append_assoc, arith, length-append}
+use Rattle.std.proofs.Common.{◌≡◌, ◌≢◌, ℕ, suc, ◌-◌, ◌≤◌, Bool, true, false, ◌||◌, ◌==◌, List, [], ◌∷◌, ◌++◌, length, take, drop, refl, ap, sym, ◌∙◌, append_assoc, arith, length-append}
 use Rattle.std.proofs.lemmas.List.{take-append-drop}
 use Rattle.std.proofs.Math.Seq.{take-append_seam, drop-append_seam}
 use Rattle.perimeter_core.specs.declared.entries.Entry.{Entry}
 use Rattle.perimeter_core.specs.declared.entries.Entry.TheVariants.{Feed, Ask}
-use Rattle.perimeter_core.specs.Perimeter.{has_ask, ends_with_ask, is_empty, processed, unprocessed}
+use Rattle.perimeter_core.specs.Perimeter.{has_ask, ends_with_ask, processed, unprocessed}
 use Rattle.perimeter_core.specs.Legal.{all_feeds, only_last_ask, feed_count}
 use Rattle.perimeter_core.proofs.AskLists.{ends_push}
 use Rattle.perimeter_core.proofs.IdleKept.{no_ask_split}
@@ -75,7 +75,7 @@ only_last_of_feeds p [] h = refl
 only_last_of_feeds p (Feed c n ∷ xs) h = only_last_of_feeds p xs h
 only_last_of_feeds p (Ask q ∷ xs) h = absurd cc
 
-same_pass : (p : ℕ) → (p == p) ≡ true
+pub same_pass : (p : ℕ) → (p == p) ≡ true
 same_pass p = grind arith
 
 pub only_last_push : (p : ℕ) (xs : List Entry) → all_feeds xs ≡ true → only_last_ask p (xs ++ Ask p ∷ []) ≡ true
@@ -85,16 +85,6 @@ only_last_push p (Ask q ∷ xs) h = absurd cc
 
 pub ends_at_ask : (p : ℕ) (xs : List Entry) → ends_with_ask p (xs ++ Ask p ∷ []) ≡ true
 ends_at_ask p xs = ends_push p xs (Ask p) ∙ same_pass p
-
--- where the pass's own Ask isn't among them, only feeds are
-pub feeds_without : (p : ℕ) (xs : List Entry) → only_last_ask p xs ≡ true → has_ask p xs ≡ false → all_feeds xs ≡ true
-feeds_without p [] o h = refl
-feeds_without p (Feed c n ∷ xs) o h = feeds_without p xs o h
-feeds_without p (Ask q ∷ xs) o h = other (q == p) o h
-  where
-    other : (b : Bool) → (b && is_empty xs) ≡ true → (b || has_ask p xs) ≡ false → false ≡ true
-    other true o h = cc
-    other false o h = o
 
 pub count_feeds : (xs : List Entry) → all_feeds xs ≡ true → feed_count xs ≡ length xs
 count_feeds [] h = refl

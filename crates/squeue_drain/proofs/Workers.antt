@@ -1,6 +1,6 @@
 -- The worker, turn by turn.
 use Rattle.std.proofs.Common.{◌≡◌, ℕ, ◌+◌, true, false, List, [], ◌∷◌, ◌++◌, length, refl, ap, sym, ◌∙◌, subst, append_assoc, arith, ◌⊎◌, inl, inr}
-use Rattle.std.proofs.lemmas.List.{append-nil}
+use Rattle.std.proofs.lemmas.List.{append-nil, nil_from_length}
 use Rattle.turn_gate.specs.Passes.{IsPassOf, number, seen}
 use Rattle.turn_gate.specs.declared.pass.Pass.{Pass}
 use Rattle.perimeter_core.specs.declared.resident.Resident.{Ghosts}
@@ -17,6 +17,7 @@ use Rattle.perimeter_core.proofs.OneMore.{run_push}
 use Rattle.perimeter_core.proofs.Since.{none_made}
 use Rattle.perimeter_core.proofs.OrderAndWake.{sound, wake_of_sound}
 use Rattle.perimeter_core.proofs.QueuedRange.{queued_range, range_right}
+use Rattle.perimeter_core.proofs.OwnAsk.{no_worker}
 use Rattle.squeue_state.specs.Naming.{Named, Turned, Handed, setting_of}
 use Rattle.squeue_state.specs.Behind.{IsPeri}
 use Rattle.squeue_state.specs.Elements.{number_of, took, worked}
@@ -26,9 +27,9 @@ use Rattle.squeue_drain.specs.Owning.{Feeds, HasFeeds, NoFeedFirst}
 use Rattle.squeue_drain.specs.Draining.{plain, is_leave, Ends, LeavesNothing, GoesOn, Off, Onward}
 use Rattle.squeue_drain.specs.Working.{OnlyLeavesNothing, SomethingWaits, Worked}
 use Rattle.squeue_drain.proofs.Marks.{may_work}
-use Rattle.squeue_drain.proofs.Fresh.{fresh, no_worker_ask}
+use Rattle.squeue_drain.proofs.Fresh.{fresh}
 use Rattle.squeue_drain.proofs.Turning.{others}
-use Rattle.squeue_drain.proofs.Deciding.{marked_on, nil_of, same_state}
+use Rattle.squeue_drain.proofs.Deciding.{marked_on, same_state}
 use Rattle.squeue_drain.proofs.Drains.{on_trans}
 
 -- others leave nothing of p's
@@ -64,7 +65,7 @@ off_calm S H p (On.Close q) to e l ends none w = absurd ends
 pub no_feed : (xs : List Entry) (result b old : ℕ) → (result ≡ 0) ⊎ NoFeedFirst xs → length xs + b ≡ old + result → b ≡ old → NoFeedFirst xs
 no_feed xs result b old why count all =
     elim why [
-      | inl none ↦ let empty : xs ≡ [] = nil_of xs (omega (arith, none, count, all)) in rw empty tt
+      | inl none ↦ let empty : xs ≡ [] = nil_from_length xs (omega (arith, none, count, all)) in rw empty tt
       | inr stops ↦ stops
     ]
 
@@ -153,7 +154,7 @@ module _ {R P O : Type 0} (G : Ghosts R P O) (s : Named R) where
         feeds = fresh G s q r h on.is_pass on.legal (ap (λ (t : State). t.own) state ∙ ap Out (sym m.same_number)) whole peri;
         has = record {
           some = λ e. queued (sym hand ∙ e);
-          no_ask = ap (λ (n : ℕ). has_ask n (run S (seen q)).hand) same ∙ (ap (has_ask (worker S)) hand ∙ no_worker_ask S (run S u.found).chain range);
+          no_ask = ap (λ (n : ℕ). has_ask n (run S (seen q)).hand) same ∙ (ap (has_ask (worker S)) hand ∙ no_worker S (run S u.found).chain range);
         };
       }
 

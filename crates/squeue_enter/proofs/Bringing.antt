@@ -1,6 +1,5 @@
 -- What a pass knows after an entry: its own elements enter the feeds of its chain, and nothing else.
 use Rattle.std.proofs.Common.{◌≡◌, ℕ, zero, suc, ◌+◌, ◌≤◌, ◌%◌, Bool, true, false, if◌then◌else◌, ◌==◌, List, [], ◌∷◌, ◌++◌, length, replicate, refl, ap, sym, ◌∙◌, subst, arith, length-append, append_assoc}
-use Rattle.std.proofs.lemmas.Bool.Decides.{nat_tests}
 use Rattle.turn_gate.specs.History.{only}
 use Rattle.turn_gate.specs.Passes.{IsPassOf, number, seen, mine}
 use Rattle.turn_gate.specs.declared.pass.Pass.{Pass}
@@ -11,12 +10,13 @@ use Rattle.perimeter_core.specs.declared.marks.SynchAct.TheVariants as Done
 use Rattle.perimeter_core.specs.declared.marks.Mark.{Mark}
 use Rattle.perimeter_core.specs.declared.marks.Mark.TheVariants as On
 use Rattle.perimeter_core.specs.Perimeter.{State, Idle, is_here}
-use Rattle.perimeter_core.specs.History.{Element, Setting, Limits, start, feed_quota, run, pass_of, made_by}
-use Rattle.perimeter_core.specs.Deeds.{entries, entries_of, feeds_of, puts_in, takes_out, times_left, due_after, due_from, due}
+use Rattle.perimeter_core.specs.History.{Element, Setting, Limits, start, feed_quota, run, made_by}
+use Rattle.perimeter_core.specs.Deeds.{entries, feeds_of, puts_in, takes_out, times_left, due_after, due_from, due}
 use Rattle.perimeter_core.specs.Legal.{Legal, Enters, one_more, feeds_by, asks_by, feed_count, ask_count}
 use Rattle.perimeter_core.specs.Knowledge.{here_by}
 use Rattle.perimeter_core.proofs.RingKnows.{ring_knows}
 use Rattle.perimeter_core.proofs.OneMore.{legal_front}
+use Rattle.perimeter_core.proofs.OwnCounts.{own_counts}
 use Rattle.squeue_state.proofs.Makers.{only_made}
 use Rattle.squeue_state.specs.Naming.{Named, setting_of}
 use Rattle.squeue_state.specs.Elements.{number_of, filled, fasted, claimed, took}
@@ -27,27 +27,17 @@ use Rattle.squeue_enter.specs.declared.Mode.TheVariants.{Process, NoDrain, Fill}
 use Rattle.squeue_enter.specs.declared.entering.Entered.{Entered}
 use Rattle.squeue_enter.specs.Ways.{way_of}
 use Rattle.squeue_enter.specs.Entering.{MayEnter, HasEntered, HasFilled, Went, Brought, MayGoOn}
-use Rattle.squeue_enter.proofs.Carrying.{enters_carried, count_entries, only_feeds, no_asks_in, by_append}
+use Rattle.squeue_enter.proofs.Carrying.{enters_carried, count_entries, only_feeds, no_asks_in, by_append, own_count}
 
--- what a pass has entered is in its own elements
-first_of : (p : ℕ) (e : Element) (H K : List Element) (b : Bool) → (pass_of e.mark == p) ≡ b → (feeds_by p H ≡ feeds_by p K) × (asks_by p H ≡ asks_by p K)
-    → ((if b then feed_count (entries_of e.mark) else 0) + feeds_by p H ≡ feeds_by p (if b then e ∷ K else K)) × ((if b then ask_count (entries_of e.mark) else 0) + asks_by p H ≡ asks_by p (if b then e ∷ K else K))
-first_of p e H K true is same = rw is (omega (arith, same.0), omega (arith, same.1))
-first_of p e H K false is same = (omega (arith, same.0), omega (arith, same.1))
-
-entered_made : (p : ℕ) (H : List Element) → (feeds_by p H ≡ feeds_by p (made_by p H)) × (asks_by p H ≡ asks_by p (made_by p H))
-entered_made p [] = (refl, refl)
-entered_made p (e ∷ H) = first_of p e H (made_by p H) (pass_of e.mark == p) refl (entered_made p H)
-
-due_append : (c n : ℕ) (H K : List Element) → due_from c n (H ++ K) ≡ due_from c (due_from c n H) K
+pub due_append : (c n : ℕ) (H K : List Element) → due_from c n (H ++ K) ≡ due_from c (due_from c n H) K
 due_append c n [] K = refl
 due_append c n (e ∷ H) K = due_append c (due_after c n e) H K
 
-here_append : (c : ℕ) (b : Bool) (H K : List Element) → here_by c b (H ++ K) ≡ here_by c (here_by c b H) K
+pub here_append : (c : ℕ) (b : Bool) (H K : List Element) → here_by c b (H ++ K) ≡ here_by c (here_by c b H) K
 here_append c b [] K = refl
 here_append c b (e ∷ H) K = here_append c (if puts_in c e.mark then true else if takes_out c e.mark then false else b) H K
 
-left_append : (c : ℕ) (H K : List Element) → times_left c (H ++ K) ≡ times_left c H + times_left c K
+pub left_append : (c : ℕ) (H K : List Element) → times_left c (H ++ K) ≡ times_left c H + times_left c K
 left_append c [] K = omega arith
 left_append c (e ∷ H) K = omega (arith, left_append c H K)
 
@@ -72,10 +62,7 @@ brings_both p es M K a b =
       left = λ c. omega (arith, left_append c M K, a.left c, b.left c);
     }
 
-own_count : (p x : ℕ) → (if p == p then x else 0) + 0 ≡ x
-own_count p x = let e : (p == p) ≡ true = grind (arith, nat_tests) in rw e (omega arith)
-
-none_count : (b : Bool) → (if b then 0 else 0) + 0 ≡ 0
+pub none_count : (b : Bool) → (if b then 0 else 0) + 0 ≡ 0
 none_count true = refl
 none_count false = refl
 
@@ -142,7 +129,7 @@ adds S NoDrain true false one p budget es H M to how w = (filled p es ∷ [], w.
 adds S NoDrain false empty one p budget es H M to how w = (filled p es ∷ [], w.2, brings_fill p es)
 adds S Fill free empty one p budget es H M to how w = (filled p es ∷ [], w.2, brings_fill p es)
 
-entries_append : (es fs : List FeedOf) → entries (es ++ fs) ≡ entries es ++ entries fs
+pub entries_append : (es fs : List FeedOf) → entries (es ++ fs) ≡ entries es ++ entries fs
 entries_append [] fs = refl
 entries_append (e ∷ es) fs = ap (λ (xs : List Entry). Feed e.c e.n ∷ xs) (entries_append es fs)
 
@@ -187,8 +174,8 @@ module _ {R : Type 0} (limits : R → Limits) (s : Named R) (es : List FeedOf) (
 
   brought_by : Brought limits s es from to
   brought_by =
-      let m = entered_made p (seen to) in
-      let k = entered_made p (seen from) in
+      let m = own_counts p (seen to) in
+      let k = own_counts p (seen from) in
       let a = by_append p (made_by p (seen from)) T in
       let f : feeds_by p (made_by p (seen to)) ≡ feeds_by p (made_by p (seen from) ++ T) = ap (feeds_by p) own in
       let q : asks_by p (made_by p (seen to)) ≡ asks_by p (made_by p (seen from) ++ T) = ap (asks_by p) own in

@@ -48,7 +48,7 @@ enters_carried S s t p a b (Feed c n ∷ es) next here e =
     (e.0, sym (here c e.0) ∙ e.1, e.2 ∙ next c e.0, e.3, enters_carried S s t p (one_more c a) (one_more c b) es (λ d is. one_kept c d a b (next d is)) here e.4)
 enters_carried S s t p a b (Ask q ∷ es) next here e = enters_carried S s t p a b es next here e
 
-here_below : (xs : List Bool) (c : ℕ) → slice_index_or xs c false ≡ true → c < length xs
+pub here_below : (xs : List Bool) (c : ℕ) → slice_index_or xs c false ≡ true → c < length xs
 here_below [] c h = absurd cc
 here_below (x ∷ xs) zero h = omega arith
 here_below (x ∷ xs) (suc c) h = omega (arith, here_below xs c h)
@@ -67,10 +67,6 @@ pub count_entries : (fs : List FeedOf) → feed_count (entries fs) ≡ length fs
 count_entries [] = refl
 count_entries (f ∷ fs) = omega (arith, count_entries fs)
 
-pub length_entries : (fs : List FeedOf) → length (entries fs) ≡ length fs
-length_entries [] = refl
-length_entries (f ∷ fs) = omega (arith, length_entries fs)
-
 pub no_asks_in : (es : List Entry) → all_feeds es ≡ true → ask_count es ≡ 0
 no_asks_in [] f = refl
 no_asks_in (Feed c n ∷ es) f = no_asks_in es f
@@ -81,7 +77,7 @@ pub by_append : (p : ℕ) (H K : List Element) → (feeds_by p (H ++ K) ≡ feed
 by_append p [] K = (omega arith, omega arith)
 by_append p (e ∷ H) K = let r = by_append p H K in (omega (arith, r.0), omega (arith, r.1))
 
-own_count : (k x : ℕ) → (if k == k then x else 0) + 0 ≡ x
+pub own_count : (k x : ℕ) → (if k == k then x else 0) + 0 ≡ x
 own_count k x = let e : (k == k) ≡ true = grind (arith, nat_tests) in rw e (omega arith)
 
 by_others : (p : ℕ) (K : List Element) → made_by p K ≡ [] → feeds_by p K ≡ 0

@@ -4,7 +4,6 @@ use Rattle.std.proofs.Common.{◌≡◌, ℕ, Bool, true, false, nat_eq, List, [
 use Rattle.std.proofs.lemmas.Bool.Decides.{nat_tests}
 use Rattle.perimeter_core.specs.declared.entries.Feed.{Feed}
 use Rattle.perimeter_core.specs.declared.marks.Own.{Own}
-use Rattle.perimeter_core.specs.declared.marks.Own.TheVariants.{Free, Out, Granted}
 use Rattle.perimeter_core.specs.Perimeter.{State, is_free, is_empty}
 use Rattle.perimeter_core.specs.History.{Element, Limits, run}
 use Rattle.squeue_state.specs.Naming.{Named, setting_of}
@@ -23,11 +22,6 @@ one_is : (fs : List Feed) → nat_eq (length fs) 1 ≡ is_one fs
 one_is [] = grind (arith, nat_tests)
 one_is (f ∷ []) = grind (arith, nat_tests)
 one_is (f ∷ g ∷ fs) = grind (arith, nat_tests)
-
-pub free_is : (o : Own) → is_free o ≡ true → o ≡ Free
-free_is Free h = refl
-free_is (Out p) h = absurd cc
-free_is (Granted p) h = absurd cc
 
 pub empty_was : {A : Type 0} (xs : List A) → is_empty xs ≡ true → xs ≡ []
 empty_was [] h = refl

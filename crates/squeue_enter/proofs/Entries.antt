@@ -16,21 +16,23 @@ use Rattle.perimeter_core.specs.Deeds.{entries, due, done}
 use Rattle.perimeter_core.specs.Legal.{May, Legal, Enters, feeds_by, feed_count}
 use Rattle.perimeter_core.specs.Blocks.{Blocks, peri}
 use Rattle.perimeter_core.proofs.OneMore.{run_push, legal_more}
-use Rattle.perimeter_core.proofs.IdleKept.{feeds_no_ask, no_ask_join}
+use Rattle.perimeter_core.proofs.IdleKept.{feeds_no_ask}
 use Rattle.perimeter_core.proofs.Room.{queued_fits}
 use Rattle.squeue_state.specs.Naming.{Named, Turned, Handed, setting_of}
 use Rattle.squeue_state.specs.Behind.{IsPeri}
 use Rattle.squeue_state.specs.Elements.{filled, fasted, claimed, took}
 use Rattle.squeue_state.specs.Words.{Found, Marked, IsWhole}
+use Rattle.squeue_state.proofs.Marks.{entries-length}
 use Rattle.squeue_drain.specs.Owning.{Feeds, HasFeeds, fed_so_far}
 use Rattle.squeue_drain.specs.Draining.{StaysBelow, plain, Ends, GoesOn, Drained}
 use Rattle.perimeter_core.proofs.FeedLists.{nil_right}
+use Rattle.perimeter_core.proofs.BehindAnAsk.{has_ask-append}
 use Rattle.squeue_drain.proofs.Hands.{whole_left}
 use Rattle.squeue_drain.proofs.Fresh.{fresh}
 use Rattle.squeue_drain.proofs.Turning.{others}
 use Rattle.squeue_drain.proofs.Deciding.{marked_on}
 use Rattle.squeue_enter.specs.Entering.{MayEnter, DrainsFrom}
-use Rattle.squeue_enter.proofs.Carrying.{idle_carried, due_carried, here_carried, enters_carried, entries_in_range, only_feeds, count_entries, length_entries, quota_enters}
+use Rattle.squeue_enter.proofs.Carrying.{idle_carried, due_carried, here_carried, enters_carried, entries_in_range, only_feeds, count_entries, quota_enters}
 
 pub some_entries : (fs : List FeedOf) → 0 < length fs → entries fs ≢ []
 some_entries [] some = absurd (omega arith)
@@ -132,7 +134,7 @@ module _ {R : Type 0} (limits : R → Limits) (s : Named R) (p : Pass Element) (
       let hand = ap (λ t. length t.hand) state in
       let chain = ap (λ t. length t.chain) state in
       let few = f.few in
-      omega (arith, q, hand, chain, few, length_entries es, length-append (run S (u.found ++ e ∷ [])).hand (run S (u.found ++ e ∷ [])).chain, length-append (run S u.found).chain (entries es))
+      omega (arith, q, hand, chain, few, entries-length es, length-append (run S (u.found ++ e ∷ [])).hand (run S (u.found ++ e ∷ [])).chain, length-append (run S u.found).chain (entries es))
 
   -- after the fill the pass may enter again
   pub idle_filled : (q : Pass Element) → Marked u (filled u.number es) q → Idle (run S (seen q)) n
@@ -146,14 +148,14 @@ module _ {R : Type 0} (limits : R → Limits) (s : Named R) (p : Pass Element) (
         no_owner = i.no_owner;
         not_granted = i.not_granted;
         not_in_hand = i.not_in_hand;
-        not_in_chain = no_ask_join u.number (run S u.found).chain (entries es) i.not_in_chain (feeds_no_ask u.number (entries es) (only_feeds es));
+        not_in_chain = has_ask-append u.number (run S u.found).chain (entries es) i.not_in_chain (feeds_no_ask u.number (entries es) (only_feeds es));
       }))
 
   pub fill_polls : (q : Pass Element) (polling : Bool) → ((xs : List Entry) → length xs ≡ length (run S u.found).chain + length es → polling ≡ polls xs (run S u.found).polling) → Marked u (filled u.number es) q
       → polling ≡ (run S (seen q)).polling
   fill_polls q polling told m =
       let state : run S (seen q) ≡ after (run S u.found) (On.Fill u.number (entries es)) = ap (run S) m.now_seen ∙ run_push (start S) u.found (filled u.number es) in
-      told ((run S u.found).chain ++ entries es) (omega (arith, length-append (run S u.found).chain (entries es), length_entries es)) ∙ sym (ap (λ (t : State). t.polling) state)
+      told ((run S u.found).chain ++ entries es) (omega (arith, length-append (run S u.found).chain (entries es), entries-length es)) ∙ sym (ap (λ (t : State). t.polling) state)
 
 module _ {R P O : Type 0} (G : Ghosts R P O) (s : Named R) (p : Pass Element) (es : List FeedOf) (u : Turned R) (may : MayEnter G.limits s p es) (f : Found G.limits s p u) where
   abbrev T : Setting
@@ -199,7 +201,7 @@ module _ {R P O : Type 0} (G : Ghosts R P O) (s : Named R) (p : Pass Element) (e
       let i = idle_here G.limits s p es u may f in
       came (claimed u.number es) ((run T u.found).chain ++ entries es) (may_claim G.limits s p es u may f some free) refl refl i.open_pass
       (λ z. some_entries es some (nil_right (run T u.found).chain (entries es) z))
-      (no_ask_join u.number (run T u.found).chain (entries es) i.not_in_chain (feeds_no_ask u.number (entries es) (only_feeds es))) q r h m whole is
+      (has_ask-append u.number (run T u.found).chain (entries es) i.not_in_chain (feeds_no_ask u.number (entries es) (only_feeds es))) q r h m whole is
 
   -- what the drain then did, as it is said of the history after the first mark
   pub drains : (e : ℕ → Element) (budget : ℕ) (q : Pass Element) (r : R) (h : Handed) (to : Pass Element) → Came (e u.number) q r h → Drained G.limits s budget record { pass = q; resident = r; hand = h; act = Done.None } to

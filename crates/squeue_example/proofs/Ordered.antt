@@ -16,11 +16,6 @@ set_more [] n x lt = absurd (omega (arith, lt))
 set_more (y ∷ xs) zero x lt = refl
 set_more (y ∷ xs) (suc n) x lt = ap (λ ys. y ∷ ys) (set_more xs n x (omega (arith, lt)))
 
-pub length_set : {A : Type 0} (xs : List A) (n : ℕ) (x : A) → length (slice_set xs n x) ≡ length xs
-length_set [] n x = refl
-length_set (y ∷ xs) zero x = refl
-length_set (y ∷ xs) (suc n) x = omega (arith, length_set xs n x)
-
 -- the first of the feeds from n on
 pub first_of : (c n count rest : ℕ) → count ≡ suc rest → in_order c n count ≡ record { c = c; n = n } ∷ in_order c (n + 1) rest
 first_of c n count rest is =

@@ -1,23 +1,12 @@
 -- A new squeue and its passes.
-use Rattle.std.proofs.Common.{◌≡◌, ℕ, suc, Bool, true, false, Some, Result, Ok, Err, IfOk, List, [], ◌∷◌, length, slice_index_or, get_or, is_some, refl, ap, ◌∙◌, arith}
-use Rattle.perimeter_core.specs.declared.entries.Act.{Act}
+use Rattle.std.proofs.Common.{◌≡◌, ℕ, suc, Bool, false, List, [], ◌∷◌, length, slice_index_or, is_some, refl, ap, ◌∙◌, arith}
 use Rattle.perimeter_core.specs.History.{Limits}
 use Rattle.perimeter_core.specs.Blocks.{Blocks}
-use Rattle.perimeter_core.specs.Logging.{fresh, none_done}
+use Rattle.perimeter_core.specs.Logging.{none_done}
+use Rattle.perimeter_core.proofs.LogSteps.{is_fresh}
 use Rattle.squeue_state.specs.Naming.{Given, setting_of}
 use Rattle.squeue_state.specs.Words.{IsMade}
 use Rattle.squeue_example.specs.Rows.{IsNew, plain_limits}
-
-fresh_empty : (b : Bool) (had : List Act) → fresh b ≡ Some had → had ≡ []
-fresh_empty true had h = cc h
-fresh_empty false had h = cc h
-
-pub none_had : (starts : List Bool) (c : ℕ) (had : List Act) → none_done starts c ≡ Some had → had ≡ []
-none_had starts c had h = fresh_empty (get_or starts c false) had h
-
-fresh_here : (b : Bool) → is_some (fresh b) ≡ b
-fresh_here true = refl
-fresh_here false = refl
 
 -- flags that are the same at each place
 same_flags : (xs ys : List Bool) → length xs ≡ length ys → ((c : ℕ) → slice_index_or xs c false ≡ slice_index_or ys c false) → xs ≡ ys
@@ -31,7 +20,7 @@ same_flags (x ∷ xs) (y ∷ ys) n h =
 
 -- the flags of a squeue whose resident is as new are those that the resident was made with
 pub starts_are : (xs ys : List Bool) → length xs ≡ length ys → ((c : ℕ) → slice_index_or xs c false ≡ is_some (none_done ys c)) → xs ≡ ys
-starts_are xs ys n h = same_flags xs ys n (λ c. h c ∙ fresh_here (slice_index_or ys c false))
+starts_are xs ys n h = same_flags xs ys n (λ c. h c ∙ is_fresh (slice_index_or ys c false))
 
 -- The setting of a new squeue whose resident is as new
 pub setting_made : {R : Type 0} (stands : R → Blocks → Type 0) (limits : R → Limits) (size : R → ℕ) (number rings feeds : ℕ) (quotas : List (ℕ × ℕ)) (traced : Bool) (first : R) (g : Given R) (ys : List Bool)
@@ -41,7 +30,3 @@ setting_made stands limits size number rings feeds quotas traced first g ys m ne
     let here : g.starts ≡ ys = starts_are g.starts ys (m.its_conns ∙ new.1) (λ c. m.its_blocks (none_done ys) c new.0) in
     let allowed : limits g.first ≡ plain_limits (length ys) feeds = ap limits m.its_first ∙ new.2 in
     rw (m.its_rings, m.its_quotas, here, allowed) refl
-
-pub if_ok : {A E : Type 0} (P Q : A → Type 0) (r : Result A E) → ((x : A) → P x → Q x) → IfOk r P → IfOk r Q
-if_ok P Q (Ok x) h p = h x p
-if_ok P Q (Err e) h p = p

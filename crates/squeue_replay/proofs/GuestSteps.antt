@@ -18,6 +18,7 @@ use Rattle.perimeter_core.proofs.OwnersReport.{none_reported}
 use Rattle.perimeter_core.proofs.LeavesFew.{left_push}
 use Rattle.conn_migrate.specs.Stays.{Stay, Stays, as_list, all_in, begun, longer_by, stays}
 use Rattle.conn_migrate.proofs.OneSqueue.{stays_push, fits}
+use Rattle.conn_migrate.proofs.StaysKept.{at_first}
 use Rattle.squeue_replay.specs.Standing.{GuestOf, GuestStands}
 use Rattle.squeue_replay.specs.Steps.{last_longer}
 use Rattle.squeue_replay.proofs.OneMoreMark.{times_in_push}
@@ -66,9 +67,6 @@ did_after : (a b : Bool) (more had note : List Act) (v : Stays) → (is_some v.n
 did_after true b more had note v away = map-append (λ (w : Stay). w.own) (all_in v) (begun note ∷ [])
 did_after false true more had note v away = ap owns (append-nil (v.ended ++ as_list (longer_by more had v.now))) ∙ owns_longer v.ended more had v.now away
 did_after false false more had note v away = owns_longer v.ended more had v.now away
-
-abbrev at_first : Setting → ℕ → Stays
-at_first S c = record { ended = []; now = if is_here (start S) c then Some (begun []) else None }
 
 module _ (S : Setting) (H : List Element) (e : Element) (l : Legal S H) (m : May S H e) (c : ℕ) (g : GuestOf) (stands : GuestStands S H c g) where
   s : State

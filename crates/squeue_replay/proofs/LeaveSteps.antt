@@ -26,8 +26,9 @@ use Rattle.squeue_replay.specs.Steps.{ActMay, Answered, Became, Processed, guest
 use Rattle.squeue_replay.proofs.AskSteps.{asks_left, has_ask-append}
 use Rattle.squeue_replay.proofs.GuestSteps.{guest_after}
 use Rattle.squeue_replay.proofs.GuestActs.{became_same, became_twice, granted_guest, left_guest}
-use Rattle.squeue_replay.proofs.ProcessSteps.{goes_on, within_more}
+use Rattle.squeue_replay.proofs.ProcessSteps.{goes_on}
 use Rattle.squeue_drain.proofs.OwnersFacts.{owner_below}
+use Rattle.squeue_drain.proofs.Marks.{quota_kept}
 
 same_back : (xs ys zs : List Entry) → xs ++ ys ≡ xs ++ zs → ys ≡ zs
 same_back [] ys zs e = e
@@ -98,7 +99,7 @@ module _ (S : Setting) (H : List Element) (p j rest : ℕ) (x : SqueueOf) (k : S
         idle = tt;
         kind = tt;
         enters = tt;
-        quota = within_more S H (grant_mark p j rest) p k.legal refl;
+        quota = quota_kept S p H (grant_mark p j rest) k.legal refl;
         asks_last = ap (λ (hand : List Entry). only_last_ask j (processed rest hand)) (sym k.hand) ∙ t.right;
         at_its_ask = tt;
         act = tt;
@@ -221,7 +222,7 @@ module _ (S : Setting) (H : List Element) (p rest : ℕ) (x : SqueueOf) (k : Sta
         idle = tt;
         kind = tt;
         enters = tt;
-        quota = within_more S H (leave_mark p rest act note) p k.legal refl;
+        quota = quota_kept S p H (leave_mark p rest act note) k.legal refl;
         asks_last = ap (λ (hand : List Entry). only_last_ask p (processed rest hand)) (sym k.hand) ∙ t.right;
         at_its_ask = λ some. elim (t.at_ask some) [ inl e ↦ inl (sym k.hand ∙ e) | inr e ↦ inr (ap (λ (hand : List Entry). ends_with_ask p (processed rest hand)) (sym k.hand) ∙ e) ];
         act = f.0;

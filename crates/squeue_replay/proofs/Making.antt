@@ -14,13 +14,13 @@ use Rattle.conn_migrate.specs.Stays.{Stay, as_list, begun}
 use Rattle.squeue_state.specs.Behind.{pairs}
 use Rattle.squeue_state.specs.declared.guarded.Quota.{Quota}
 use Rattle.squeue_serve.proofs.Lent.{some_at}
+use Rattle.squeue_serve.proofs.Unused.{open_flag}
 use Rattle.squeue_replay.specs.declared.guest.Guest.{Guest}
 use Rattle.squeue_replay.specs.declared.squeue.Pass.{Pass}
 use Rattle.squeue_replay.specs.Standing.{GuestOf, GuestStands, PassOf, PassStands, SqueueOf, Stands, guest_of}
 use Rattle.squeue_replay.specs.Entering.{first_guest, first_pass}
 use Rattle.squeue_replay.proofs.Reading.{kept}
 use Rattle.squeue_rings.proofs.RingStays.{from_map}
-use Rattle.squeue_rings.proofs.Starting.{none_closed}
 
 pass_first : (S : Setting) (p : ℕ) (x : PassOf) → slice_get (map first_pass S.quotas) p ≡ Some x → PassStands S [] p x
 pass_first S p x at =
@@ -28,7 +28,7 @@ pass_first S p x at =
     let is : x ≡ first_pass q.0 = sym q.2 in
     let quota = get_or_from_slice_get S.quotas p q.0 (0, 0) q.1 in
     record {
-      closed = ap (λ (v : PassOf). v.closed) is ∙ sym (none_closed (passes S) p);
+      closed = ap (λ (v : PassOf). v.closed) is ∙ sym (open_flag (passes S) p);
       waiting = ap (λ (v : PassOf). v.waiting) is;
       feeds = let n = ap (λ (v : PassOf). v.feeds) is in let m = ap (λ (v : ℕ × ℕ). v.0) quota in omega (arith, n, m);
       asks = let n = ap (λ (v : PassOf). v.asks) is in let m = ap (λ (v : ℕ × ℕ). v.1) quota in omega (arith, n, m);

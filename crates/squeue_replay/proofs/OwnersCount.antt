@@ -1,7 +1,7 @@
 -- The owner's count behind one more mark.
 use Rattle.std.proofs.Common.{◌≡◌, ◌≢◌, ℕ, ◌+◌, ◌-◌, ◌^◌, ◌≤◌, ◌==◌, ◌⊎◌, min, Bool, true, false, if◌then◌else◌, inl, inr, IfSome, Option, Some, None, List, [], ◌∷◌, ◌++◌, refl, ap, sym, ◌∙◌, subst, append_assoc, arith}
 use Rattle.std.specs.Prelude.{option_map}
-use Rattle.std.proofs.lemmas.Bool.{cases_eq}
+use Rattle.std.proofs.lemmas.Bool.{cases_eq, eq-eqb, ne_eqb}
 use Rattle.std.proofs.lemmas.List.{append-nil}
 use Rattle.perimeter_core.specs.declared.marks.Own.{Own}
 use Rattle.perimeter_core.specs.declared.marks.Own.TheVariants.{Free, Granted, Out}
@@ -14,7 +14,6 @@ use Rattle.perimeter_core.specs.Legal.{IdleFirst, May, all_feeds, feed_count}
 use Rattle.perimeter_core.proofs.OneMore.{run_push}
 use Rattle.squeue_drain.proofs.OwnersFacts.{done_more}
 use Rattle.squeue_rings.specs.Keeping.{taken, taken_after, taken_from}
-use Rattle.squeue_rings.proofs.Counting.{differ, same}
 use Rattle.squeue_replay.specs.Pacing.{CountStands, count_after}
 
 module _ (S : Setting) (p : ℕ) where
@@ -49,10 +48,10 @@ since_now n = let e : min ((n + 0) - n) (2 ^ 64 - 1) ≡ 0 = omega arith in ap (
 module _ (S : Setting) (past : List Element) (p : ℕ) where
   -- a mark of the pass itself, and of another one
   own_then : (m : Mark) (o : Option ℕ) → pass_of m ≡ p → taken_then S p past o m ≡ taken_after S past o m
-  own_then m o is = rw (same (pass_of m) p is) refl
+  own_then m o is = rw (eq-eqb (pass_of m) p is) refl
 
   other_then : (m : Mark) (o : Option ℕ) → pass_of m ≢ p → taken_then S p past o m ≡ o
-  other_then m o apart = rw (differ (pass_of m) p apart) refl
+  other_then m o apart = rw (ne_eqb (pass_of m) p apart) refl
 
 module _ (S : Setting) (past : List Element) (count : Option ℕ) (stands : CountStands S past count) (p : ℕ) where
   abbrev n : ℕ

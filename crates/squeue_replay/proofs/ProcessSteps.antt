@@ -8,9 +8,9 @@ use Rattle.perimeter_core.specs.declared.marks.Mark.TheVariants as On
 use Rattle.perimeter_core.specs.Perimeter.{State, after, has_ask, is_closed}
 use Rattle.perimeter_core.specs.History.{Element, Setting, run, start, pass_of}
 use Rattle.perimeter_core.specs.Deeds.{done_by, entries_of}
-use Rattle.perimeter_core.specs.Legal.{Legal, May, WithinQuota, all_feeds, ask_count, feed_count}
+use Rattle.perimeter_core.specs.Legal.{May, all_feeds, ask_count, feed_count}
 use Rattle.perimeter_core.proofs.OneMore.{legal_more, run_push}
-use Rattle.perimeter_core.proofs.Quotas.{within, feeds_push, asks_push}
+use Rattle.perimeter_core.proofs.Quotas.{feeds_push, asks_push}
 use Rattle.perimeter_core.proofs.IdleKept.{feeds_no_ask}
 use Rattle.squeue_replay.specs.Standing.{GuestStands, PassOf, PassStands, SqueueOf, Stands}
 use Rattle.squeue_replay.specs.Steps.{Answered, Became, Processed, guest_fed}
@@ -18,18 +18,11 @@ use Rattle.squeue_replay.proofs.AskSteps.{feeds_alone}
 use Rattle.squeue_replay.proofs.GuestActs.{became_same, taken_guest}
 use Rattle.squeue_replay.proofs.GuestSteps.{guest_after, guest_goes_on}
 use Rattle.squeue_drain.proofs.OwnersFacts.{owner_below}
+use Rattle.squeue_drain.proofs.Marks.{quota_kept}
 
 no_more : (b : Bool) (n : ℕ) → n ≡ 0 → (if b then n else 0) ≡ 0
 no_more true n h = h
 no_more false n h = refl
-
--- a mark that enters nothing keeps the quotas
-pub within_more : (S : Setting) (H : List Element) (e : Element) (p : ℕ) → Legal S H → entries_of e.mark ≡ [] → WithinQuota S p (H ++ e ∷ [])
-within_more S H e p l none =
-    let feeds : (if pass_of e.mark == p then feed_count (entries_of e.mark) else 0) ≡ 0 = no_more (pass_of e.mark == p) _ (ap feed_count none) in
-    let asks : (if pass_of e.mark == p then ask_count (entries_of e.mark) else 0) ≡ 0 = no_more (pass_of e.mark == p) _ (ap ask_count none) in
-    let k = within S p H l in
-    record { feeds = omega (arith, feeds_push p H e, feeds, k.feeds); asks = omega (arith, asks_push p H e, asks, k.asks) }
 
 -- what is kept after such a mark, whose last processed entry is the Ask of pass j or none
 module _ (S : Setting) (H : List Element) (e : Element) (x y : SqueueOf) (k : Stands S H x) (m : May S H e) (ask : Bool) (j : ℕ) where
@@ -105,7 +98,7 @@ take_may S H p x k t =
       idle = tt;
       kind = tt;
       enters = tt;
-      quota = within_more S H (take_mark p) p k.legal refl;
+      quota = quota_kept S p H (take_mark p) k.legal refl;
       asks_last = (ap all_feeds (sym k.hand) ∙ t.feeds, λ e. t.hand (k.hand ∙ e));
       at_its_ask = tt;
       act = tt;

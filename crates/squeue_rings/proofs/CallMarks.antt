@@ -1,5 +1,6 @@
 -- The marks that make a call, in a legal history.
 use Rattle.std.proofs.Common.{◌≡◌, ◌≢◌, ℕ, ◌+◌, ◌<◌, ◌≤◌, ◌==◌, ◌&&◌, Bool, true, false, if◌then◌else◌, Contains, List, [], ◌∷◌, ◌++◌, refl, ap, sym, ◌∙◌, subst, arith}
+use Rattle.std.proofs.lemmas.Bool.{eqb-true, eqb-false}
 use Rattle.perimeter_core.specs.declared.marks.SynchAct.TheVariants as Done
 use Rattle.perimeter_core.specs.declared.marks.Mark.{Mark}
 use Rattle.perimeter_core.specs.declared.marks.Mark.TheVariants as On
@@ -7,7 +8,6 @@ use Rattle.perimeter_core.specs.History.{Element, Setting, made_by, pass_of, run
 use Rattle.perimeter_core.specs.Legal.{ActsFit, InRange, Legal, May, WorkerOnly}
 use Rattle.perimeter_core.proofs.OneMore.{legal_front, legal_ind}
 use Rattle.squeue_state.proofs.Makers.{made-append}
-use Rattle.squeue_rings.proofs.Counting.{are_apart, are_same}
 use Rattle.squeue_rings.specs.Made.{makes_call, times_made}
 
 pub made_more : (c j k : ℕ) (xs ys : List Element) → times_made c j k (xs ++ ys) ≡ times_made c j k xs + times_made c j k ys
@@ -25,9 +25,9 @@ three false b d is = cc is
 is_call : (c j k : ℕ) (m : Mark) → makes_call c j k m ≡ true → (p : ℕ) × (rest : ℕ) × (m ≡ On.Leave p rest (Done.Call c j k))
 is_call c j k (On.Leave p rest (Done.Call d i n)) is =
     let t = three (d == c) (i == j) (n == k) is in
-    let ed = are_same d c t.0 in
-    let ei = are_same i j t.1 in
-    let en = are_same n k t.2 in (
+    let ed = eqb-true d c t.0 in
+    let ei = eqb-true i j t.1 in
+    let en = eqb-true n k t.2 in (
       p,
       rest,
       ap (λ (x : ℕ). On.Leave p rest (Done.Call x i n)) ed ∙ (ap (λ (x : ℕ). On.Leave p rest (Done.Call c x n)) ei
@@ -101,7 +101,7 @@ own_calls S H c j k l =
         at : (b : Bool) → (pass_of e.mark == S.rings + j) ≡ b → (t : Bool) → makes_call c j k e.mark ≡ t → (if t then 1 else 0) + 0 ≡ times_made c j k (if b then e ∷ [] else [])
         at true same t is = ap (λ (b : Bool). (if b then 1 else 0) + 0) (sym is)
         at false same false is = refl
-        at false same true is = absurd (are_apart (pass_of e.mark) (S.rings + j) same (call_fits S G c j k e m is).thread)
+        at false same true is = absurd (eqb-false (pass_of e.mark) (S.rings + j) same (call_fits S G c j k e m is).thread)
 
 -- what others do changes none of them
 pub calls_kept : (S : Setting) (H K : List Element) (c j k : ℕ) → Legal S (H ++ K) → made_by (S.rings + j) K ≡ []

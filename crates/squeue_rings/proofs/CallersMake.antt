@@ -1,14 +1,17 @@
 -- A caller makes a call, wherever its block is.
 use Rattle.std.proofs.Common.{◌≡◌, ℕ, ◌+◌, ◌<◌, ◌==◌, ◌&&◌, if◌then◌else◌, inl, inr, Bool, true, false, Option, Some, None, List, [], ◌∷◌, ◌++◌, length, slice_get, slice_index_or, slice_set, refl, ap, sym, ◌∙◌, subst, arith}
 use Rattle.std.proofs.lemmas.Bool.{cases_eq}
+use Rattle.std.proofs.lemmas.List.{length-set}
 use Rattle.turn_gate.specs.declared.pass.Pass.{Pass}
 use Rattle.perimeter_core.specs.History.{Element, Limits}
+use Rattle.perimeter_core.proofs.LogSteps.{get_same}
 use Rattle.squeue_state.specs.Naming.{Named}
 use Rattle.squeue_serve.specs.Places.{AtEach, Became, Holds}
+use Rattle.squeue_serve.proofs.Unused.{each_at}
 use Rattle.squeue_rings.specs.Made.{made_in, once_on}
 use Rattle.squeue_rings.specs.Calling.{CallerAt, CallersAt, HasTried, MayMake, MayMakeAll, MayTry, TriesAt}
-use Rattle.squeue_rings.proofs.Reaching.{each_at, held, hold}
-use Rattle.squeue_rings.proofs.Slots.{at_got, at_length, at_made, got_at, got_other, got_same, set_length}
+use Rattle.squeue_rings.proofs.Reaching.{held, hold}
+use Rattle.squeue_rings.proofs.Slots.{at_got, at_length, at_made, got_at, got_other}
 use Rattle.squeue_rings.proofs.OnceEach.{once_more, one_changed}
 use Rattle.squeue_rings.proofs.CallsCounted.{no_call, one_call}
 use Rattle.squeue_rings.proofs.Trying.{begins, ends, has_made, may_try, still_tries}
@@ -53,11 +56,11 @@ module _ {R : Type 0} (limits : R → Limits) (j k : ℕ) (cs : List ℕ) (c : �
 
     changed : (P : Named R → Pass Element → Type 0) (n : Option (Pass Element)) → Holds (P s) n → ((t : Named R) (x : Pass Element) → TriesAt limits t j cs c x → P t x) → AtEach (λ t o. Holds (P t) o) ss (slice_set places q n)
     changed P n new others =
-        at_made (λ t o. Holds (P t) o) ss (slice_set places q n) (set_length places q n ∙ at_length (λ s o. Holds (TriesAt limits s j cs c) o) ss places h)
+        at_made (λ t o. Holds (P t) o) ss (slice_set places q n) (length-set places q n ∙ at_length (λ s o. Holds (TriesAt limits s j cs c) o) ss places h)
         (λ i t p at got. elim (cases_eq i q) [
           | inl e ↦
               let a : t ≡ s = (let d : Some t ≡ Some s = sym at ∙ (ap (slice_get ss) e ∙ there) in cc d) in
-              let b : p ≡ n = (let d : Some p ≡ Some n = sym got ∙ (ap (slice_get (slice_set places q n)) e ∙ got_same places q n lo) in cc d) in
+              let b : p ≡ n = (let d : Some p ≡ Some n = sym got ∙ (ap (slice_get (slice_set places q n)) e ∙ get_same places q n lo) in cc d) in
               subst (λ (t : Named R). Holds (P t) p) (sym a) (subst (Holds (P s)) (sym b) new)
           | inr apart ↦
               let u = held (TriesAt limits t j cs c) p (at_got (λ s o. Holds (TriesAt limits s j cs c) o) ss places i t p h at (sym (got_other places q i n apart) ∙ got)) in

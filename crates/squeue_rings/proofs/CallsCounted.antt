@@ -1,5 +1,6 @@
 -- Which calls a try to make one adds to those that its thread has made.
 use Rattle.std.proofs.Common.{◌≡◌, ℕ, ◌+◌, ◌==◌, ◌&&◌, inl, inr, Bool, true, false, if◌then◌else◌, List, [], ◌∷◌, refl, ap, sym, ◌∙◌, subst, arith}
+use Rattle.std.proofs.lemmas.Bool.{eq-eqb}
 use Rattle.turn_gate.specs.Passes.{IsPassOf, mine, number, seen}
 use Rattle.turn_gate.specs.declared.pass.Pass.{Pass}
 use Rattle.perimeter_core.specs.declared.marks.SynchAct.{SynchAct}
@@ -14,7 +15,6 @@ use Rattle.synch_enter.specs.Synch.{IsWay}
 use Rattle.conn_migrate.specs.Moving.{Moved}
 use Rattle.squeue_rings.specs.Made.{times_made}
 use Rattle.squeue_rings.specs.Calling.{HasTried}
-use Rattle.squeue_rings.proofs.Counting.{same}
 use Rattle.squeue_rings.proofs.CallMarks.{made_more, own_calls}
 
 -- to come a pass makes no call
@@ -52,7 +52,7 @@ module _ {R : Type 0} (limits : R → Limits) (s : Named R) (j : ℕ) where
     -- the call was made: once more, and no other
     pub one_call : (c k : ℕ) → HasTried limits s true c j k x y → (d m : ℕ)
         → times_made d j m (seen y) ≡ times_made d j m (seen x) + (if (c == d) && (k == m) then 1 else 0)
-    one_call c k v d m = let e = moved_makes (Done.Call c j k) v d m in by (c == d) (k == m) (j == j) (same j j refl) e
+    one_call c k v d m = let e = moved_makes (Done.Call c j k) v d m in by (c == d) (k == m) (j == j) (eq-eqb j j refl) e
       where
         by : (a b t : Bool) → t ≡ true → times_made d j m (seen y) ≡ times_made d j m (seen x) + ((if a && (t && b) then 1 else 0) + 0)
             → times_made d j m (seen y) ≡ times_made d j m (seen x) + (if a && b then 1 else 0)

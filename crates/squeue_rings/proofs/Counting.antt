@@ -3,28 +3,9 @@ use Rattle.std.proofs.Common.{◌≡◌, ◌≢◌, ℕ, zero, suc, ◌+◌, ◌
 use Rattle.std.proofs.lemmas.Bool.Decides.{nat_tests}
 use Rattle.turn_gate.specs.History.{Each}
 use Rattle.perimeter_core.specs.declared.entries.Feed.{Feed as FeedOf}
-use Rattle.perimeter_core.specs.declared.entries.Entry.{Entry}
-use Rattle.perimeter_core.specs.declared.entries.Entry.TheVariants.{Feed}
 use Rattle.perimeter_core.specs.Deeds.{entries, feeds_of}
 use Rattle.perimeter_core.specs.Backlog.{up}
 use Rattle.squeue_rings.specs.Runs.{InOrder, brought, count}
-
--- numbers compared
-pub same : (a b : ℕ) → a ≡ b → (a == b) ≡ true
-same a b e = grind (arith, nat_tests)
-
-pub differ : (a b : ℕ) → a ≢ b → (a == b) ≡ false
-differ a b e = grind (arith, nat_tests)
-
-pub are_same : (a b : ℕ) → (a == b) ≡ true → a ≡ b
-are_same a b e = grind (arith, nat_tests)
-
-pub are_apart : (a b : ℕ) → (a == b) ≡ false → a ≢ b
-are_apart a b e = grind (arith, nat_tests)
-
-pub entries_more : (xs ys : List FeedOf) → entries (xs ++ ys) ≡ entries xs ++ entries ys
-entries_more [] ys = refl
-entries_more (x ∷ xs) ys = ap (λ (es : List Entry). Feed x.c x.n ∷ es) (entries_more xs ys)
 
 pub feeds_more : (c : ℕ) (xs ys : List FeedOf) → feeds_of c (entries (xs ++ ys)) ≡ feeds_of c (entries xs) ++ feeds_of c (entries ys)
 feeds_more c [] ys = refl

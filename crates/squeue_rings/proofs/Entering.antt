@@ -1,6 +1,6 @@
 -- A run of feeds with one home may be entered there, and what the ring's passes know afterwards.
 use Rattle.std.proofs.Common.{◌≡◌, ◌≢◌, ℕ, ◌+◌, ◌-◌, ◌%◌, ◌<◌, ◌≤◌, ◌==◌, ◌⊎◌, inl, inr, Bool, true, false, List, [], ◌∷◌, ◌++◌, length, slice_index, refl, ap, sym, ◌∙◌, subst, arith, append_assoc}
-use Rattle.std.proofs.lemmas.Bool.{cases_eq}
+use Rattle.std.proofs.lemmas.Bool.{cases_eq, eqb-true, eq-eqb, ne_eqb}
 use Rattle.turn_gate.specs.History.{Each}
 use Rattle.turn_gate.specs.Passes.{IsPassOf, number, seen}
 use Rattle.turn_gate.specs.declared.pass.Pass.{Pass}
@@ -15,7 +15,7 @@ use Rattle.squeue_enter.specs.Entering.{Brought, MayEnter}
 use Rattle.conn_blocks.specs.Homes.{home}
 use Rattle.squeue_rings.specs.Runs.{InOrder, brought, comes, count, home_of, is_at, is_left_by, leaves, moves, place}
 use Rattle.squeue_rings.specs.Rings.{MayBring, RingAt}
-use Rattle.squeue_rings.proofs.Counting.{are_same, brought_more, count_all, count_more, count_none, differ, each_as, each_behind, each_front, number_below, number_is, other_more, own_more, same}
+use Rattle.squeue_rings.proofs.Counting.{brought_more, count_all, count_more, count_none, each_as, each_behind, each_front, number_below, number_is, other_more, own_more}
 use Rattle.squeue_rings.proofs.Standing.{no_come, no_leave, not_left, place_before, place_kept, place_own, same_home}
 
 -- the feeds behind the first of a run: at home at squeue q, without a move
@@ -80,8 +80,8 @@ module _ (squeues spread q : ℕ) where
       one_further e g next c is =
           elim (cases_eq g.c c) [
             | inl is_it ↦ subst (λ (d : ℕ). next d ≡ brought d e → one_more g.c next d ≡ brought d (e ++ g ∷ [])) is_it
-                (λ h. rw (same g.c g.c refl) (let o = own_more e g in omega (arith, h, o))) is
-            | inr apart ↦ rw (differ g.c c apart) (is ∙ sym (other_more c e g apart))
+                (λ h. rw (eq-eqb g.c g.c refl) (let o = own_more e g in omega (arith, h, o))) is
+            | inr apart ↦ rw (ne_eqb g.c c apart) (is ∙ sym (other_more c e g apart))
           ]
 
 module _ {R : Type 0} (limits : R → Limits) (squeues spread r : ℕ) (list done fs behind : List FeedOf) (f : FeedOf) (order : InOrder list) (is : list ≡ done ++ ((f ∷ fs) ++ behind)) where
@@ -128,7 +128,7 @@ module _ {R : Type 0} (limits : R → Limits) (squeues spread r : ℕ) (list don
           (each_behind (λ (g : FeedOf). (r ≡ g.c % s.given.rings) × (g.c < length s.given.starts)) done ((f ∷ fs) ++ behind) (subst (Each (λ (g : FeedOf). (r ≡ g.c % s.given.rings) × (g.c < length s.given.starts))) is may.own))
 
       all_at : Each (λ (g : FeedOf). is_at squeues spread q g ≡ true) (f ∷ fs)
-      all_at = (same q q refl, each_as fs (λ g t. same (home_of squeues spread g) q t.0) stay)
+      all_at = (eq-eqb q q refl, each_as fs (λ g t. eq-eqb (home_of squeues spread g) q t.0) stay)
 
       -- the run may be entered at its home
       pub may_enter_run : s.given.number ≡ q → MayEnter limits s x (f ∷ fs)
@@ -156,14 +156,14 @@ module _ {R : Type 0} (limits : R → Limits) (squeues spread r : ℕ) (list don
           }
         where
           is_there : (c : ℕ) → r ≡ c % s.given.rings → c < length s.given.starts → place squeues spread c e0 ≡ s.given.number → is_here (run S (seen x)) c ≡ true
-          is_there c ring lt e = known.here c ring lt ∙ same (place squeues spread c e0) s.given.number e
+          is_there c ring lt e = known.here c ring lt ∙ eq-eqb (place squeues spread c e0) s.given.number e
 
           first_further : (c : ℕ) → due (seen x) c ≡ brought c done → one_more f.c (due (seen x)) c ≡ brought c e0
           first_further c h =
               elim (cases_eq f.c c) [
                 | inl is_it ↦ subst (λ (d : ℕ). due (seen x) d ≡ brought d done → one_more f.c (due (seen x)) d ≡ brought d e0) is_it
-                    (λ k. rw (same f.c f.c refl) (let o = own_more done f in omega (arith, k, o))) h
-                | inr apart ↦ rw (differ f.c c apart) (h ∙ sym (other_more c done f apart))
+                    (λ k. rw (eq-eqb f.c f.c refl) (let o = own_more done f in omega (arith, k, o))) h
+                | inr apart ↦ rw (ne_eqb f.c c apart) (h ∙ sym (other_more c done f apart))
               ]
 
       still_leaves : (c : ℕ) → count (is_left_by squeues spread c s.given.number) (done ++ f ∷ fs) ≡ count (is_left_by squeues spread c s.given.number) e0
@@ -209,7 +209,7 @@ module _ {R : Type 0} (limits : R → Limits) (squeues spread r : ℕ) (list don
             idle = known.idle;
             feeds =
                 let m = count_more (is_at squeues spread s.given.number) done (f ∷ fs) in
-                let none = count_none (is_at squeues spread s.given.number) (f ∷ fs) (each_as (f ∷ fs) (λ g t. differ (home_of squeues spread g) s.given.number (λ e. away (sym e ∙ are_same (home_of squeues spread g) q t))) all_at) in
+                let none = count_none (is_at squeues spread s.given.number) (f ∷ fs) (each_as (f ∷ fs) (λ g t. ne_eqb (home_of squeues spread g) s.given.number (λ e. away (sym e ∙ eqb-true (home_of squeues spread g) q t))) all_at) in
                 known.feeds ∙ (let e : count (is_at squeues spread s.given.number) done ≡ count (is_at squeues spread s.given.number) (done ++ f ∷ fs) = omega (arith, m, none) in e);
             asks = known.asks ∙ sym same_moves;
             here = λ c ring lt. known.here c ring lt ∙ ap (λ (p : ℕ). p == s.given.number) (sym (placed_same c));

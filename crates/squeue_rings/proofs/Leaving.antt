@@ -1,13 +1,13 @@
 -- What is so of a feed before which its connection moves, and how often the connection has left a squeue by then.
 use Rattle.std.proofs.Common.{◌≡◌, ◌≢◌, ℕ, zero, suc, ◌+◌, ◌-◌, ◌*◌, ◌/◌, ◌%◌, ◌<◌, ◌==◌, ◌&&◌, not, inl, inr, Bool, true, false, if◌then◌else◌, List, [], ◌∷◌, ◌++◌, refl, ap, sym, ◌∙◌, subst, append_assoc, arith}
-use Rattle.std.proofs.lemmas.Bool.{cases_eq, cases_lt}
+use Rattle.std.proofs.lemmas.Bool.{cases_eq, cases_lt, eqb-true, eqb-false, eq-eqb, ne_eqb}
 use Rattle.std.proofs.lemmas.List.{append-nil}
 use Rattle.std.proofs.lemmas.Nat.{div-add-mod'}
 use Rattle.std.proofs.Math.Nat.{mod-add-mod, mod-lt, zero-div}
 use Rattle.perimeter_core.specs.declared.entries.Feed.{Feed as FeedOf}
 use Rattle.conn_blocks.specs.Homes.{home}
 use Rattle.squeue_rings.specs.Runs.{InOrder, brought, count, home_before, home_of, is_left_by, leaves, moves}
-use Rattle.squeue_rings.proofs.Counting.{are_apart, are_same, count_one, differ, number_is, other_more, own_more, same}
+use Rattle.squeue_rings.proofs.Counting.{count_one, number_is, other_more, own_more}
 use Rattle.squeue_rings.proofs.Standing.{not_left, other_home, same_home}
 use Rattle.squeue_rings.proofs.Visits.{elsewhere, visits, visits_are}
 
@@ -50,7 +50,7 @@ turns_at spread n some apart =
 module _ (squeues spread c : ℕ) where
   -- the home, as the place of a way that goes round the squeues
   pub home_is : (n : ℕ) → spread ≢ 0 → home squeues spread c n ≡ (c + n / spread) % squeues
-  home_is n some = rw (differ spread 0 some) refl
+  home_is n some = rw (ne_eqb spread 0 some) refl
 
   pub turns : (n : ℕ) → home squeues spread c (n - 1) ≢ home squeues spread c n → Turns spread n
   turns zero apart = absurd (apart refl)
@@ -61,7 +61,7 @@ module _ (squeues spread c : ℕ) where
 
       by : (b : Bool) → (spread == 0) ≡ b → Turns spread (suc n)
       by true e = absurd (apart (rw e refl))
-      by false e = turns_at spread n (are_apart spread 0 e) (λ still. apart (rw (e, back, still) refl))
+      by false e = turns_at spread n (eqb-false spread 0 e) (λ still. apart (rw (e, back, still) refl))
 
   -- a move goes to the next squeue
   pub next_home : (n : ℕ) → home squeues spread c (n - 1) ≢ home squeues spread c n → home squeues spread c n ≡ (home squeues spread c (n - 1) + 1) % squeues
@@ -97,7 +97,7 @@ module _ (squeues spread c : ℕ) where
         elim (cases_eq f.c c) [
           | inl own ↦ by own (moves squeues spread f) refl
           | inr other ↦
-              let none : is_left_by squeues spread c q f ≡ false = ap (λ (b : Bool). b && leaves squeues spread q f) (differ f.c c other) in
+              let none : is_left_by squeues spread c q f ≡ false = ap (λ (b : Bool). b && leaves squeues spread q f) (ne_eqb f.c c other) in
               let more = count_one (is_left_by squeues spread c q) e f false none in
               let z : count (is_left_by squeues spread c q) e + 0 ≡ count (is_left_by squeues spread c q) e = omega arith in
               more ∙ (z ∙ (known ∙ ap (λ (k : ℕ). visits squeues c q ((k - 1) / spread)) (sym (other_more c e f other))))
@@ -116,7 +116,7 @@ module _ (squeues spread c : ℕ) where
             to b moved before ∙ sym after
           where
             is_own : (f.c == c) ≡ true
-            is_own = same f.c c own
+            is_own = eq-eqb f.c c own
 
             to : (b : Bool) → moves squeues spread f ≡ b → count (is_left_by squeues spread c q) e ≡ visits squeues c q round
                 → count (is_left_by squeues spread c q) (e ++ f ∷ []) ≡ visits squeues c q (f.n / spread)
@@ -139,8 +139,8 @@ module _ (squeues spread c : ℕ) where
               where
                 only : (b : Bool) → (home_before squeues spread f == q) ≡ b → (b && not (home_of squeues spread f == q)) ≡ b
                 only true here =
-                    let at = are_same (home_before squeues spread f) q here in
-                    ap not (differ (home_of squeues spread f) q (λ there. other_home squeues spread f moved (at ∙ sym there)))
+                    let at = eqb-true (home_before squeues spread f) q here in
+                    ap not (ne_eqb (home_of squeues spread f) q (λ there. other_home squeues spread f moved (at ∙ sym there)))
                 only false here = refl
 
     counted_all : (list e fs behind : List FeedOf) → InOrder list → list ≡ e ++ (fs ++ behind) → Counted e → Counted (e ++ fs)
@@ -159,7 +159,7 @@ pub gone_round : (squeues spread : ℕ) (list done behind : List FeedOf) (f : Fe
 gone_round squeues spread list done behind f wide order is moved =
     let all = times_gone squeues spread f.c to (omega (arith, wide, not_one)) t.some list done (f ∷ behind) order is in
     let had : visits squeues f.c to ((brought f.c done - 1) / spread) ≡ visits squeues f.c to round = ap (λ (k : ℕ). visits squeues f.c to ((k - 1) / spread)) (sym (number_is list done behind f order is)) in
-    let not_there : ((f.c + round) % squeues == to) ≡ false = differ ((f.c + round) % squeues) to (λ e. apart (home_is squeues spread f.c (f.n - 1) t.some ∙ e)) in
+    let not_there : ((f.c + round) % squeues == to) ≡ false = ne_eqb ((f.c + round) % squeues) to (λ e. apart (home_is squeues spread f.c (f.n - 1) t.some ∙ e)) in
     let more : visits squeues f.c to (suc round) ≡ visits squeues f.c to round =
     ap (λ (b : Bool). visits squeues f.c to round + (if b then 1 else 0)) not_there ∙ (let z : visits squeues f.c to round + 0 ≡ visits squeues f.c to round = omega arith in z) in
     let u : suc round + 0 ≡ f.n / spread = (let n = t.next in omega (arith, n)) in

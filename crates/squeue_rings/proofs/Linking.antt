@@ -4,8 +4,9 @@ use Rattle.std.proofs.Common.{◌≡◌, ◌≢◌, ℕ, zero, suc, ◌+◌, ◌
 use Rattle.std.proofs.lemmas.Bool.{cases_eq, cases_lt}
 use Rattle.std.proofs.lemmas.Nat.{div-add-mod', div-mul-add, mod-mul-add}
 use Rattle.std.proofs.Math.Nat.{mod-lt, add-div_right, add-mod_right, div-eq_of_lt, mul-add-mod_self_right, zero-div}
-use Rattle.squeue_serve.proofs.Lent.{some_at}
+use Rattle.squeue_serve.proofs.Lent.{some_at, get_front}
 use Rattle.squeue_rings.proofs.Slots.{within}
+use Rattle.conn_blocks.proofs.PlaceSteps.{get_seam}
 
 -- a number is known by its place and its round
 too_far : (n x d p c a b m u v : ℕ) → x * n + p ≡ c + a → (x + 1 + d) * n + p ≡ c + b → m + u ≡ a → m + v ≡ b → v < n → ⊥
@@ -57,16 +58,7 @@ round_up n s t some up = ap (λ (k : ℕ). k / n) up ∙ add-div_right s some
 within_as : {A : Type 0} (N : ℕ → List A) (a b i : ℕ) (m : A) → a ≡ b → slice_get (N b) i ≡ Some m → i < length (N a)
 within_as N a b i m e at = within (N a) i m (ap (λ (k : ℕ). slice_get (N k) i) e ∙ at)
 
--- lists with one more at the end
-pub front_of : {A : Type 0} (xs ys : List A) (i : ℕ) (m : A) → slice_get xs i ≡ Some m → slice_get (xs ++ ys) i ≡ Some m
-front_of [] ys i m at = cc at
-front_of (x ∷ xs) ys zero m at = at
-front_of (x ∷ xs) ys (suc i) m at = front_of xs ys i m at
-
-pub last_of : {A : Type 0} (xs : List A) (m : A) → slice_get (xs ++ m ∷ []) (length xs) ≡ Some m
-last_of [] m = refl
-last_of (x ∷ xs) m = last_of xs m
-
+-- a list with one more at the end
 pub front_or_last : {A : Type 0} (xs : List A) (h : A) (i : ℕ) (m : A) → slice_get (xs ++ h ∷ []) i ≡ Some m → (slice_get xs i ≡ Some m) ⊎ ((i ≡ length xs) × (h ≡ m))
 front_or_last [] h zero m at = inr (refl, cc at)
 front_or_last [] h (suc i) m at = cc at
@@ -176,14 +168,14 @@ module _ {A : Type 0} (n c : ℕ) where
             elim (cases_eq ((c + s) % n) q) [
               | inl e ↦
                   ap (λ (k : ℕ). slice_get (D' k) (s / n)) e ∙ (ap (λ (l : List A). slice_get l (s / n)) more_d
-                  ∙ front_of (D q) (h ∷ []) (s / n) m (ap (λ (k : ℕ). slice_get (D k) (s / n)) (sym e) ∙ d))
+                  ∙ get_front (D q) (h ∷ []) (s / n) m (ap (λ (k : ℕ). slice_get (D k) (s / n)) (sym e) ∙ d))
               | inr other ↦ ap (λ (l : List A). slice_get l (s / n)) (kept_d ((c + s) % n) other) ∙ d
             ]
 
         new : slice_get (D' ((c + t) % n)) (t / n) ≡ Some h
         new =
             ap (λ (k : ℕ). slice_get (D' k) (t / n)) at_q ∙ (ap (slice_get (D' q)) round
-            ∙ (ap (λ (l : List A). slice_get l (length (D q))) more_d ∙ last_of (D q) h))
+            ∙ (ap (λ (l : List A). slice_get l (length (D q))) more_d ∙ get_seam (D q) h))
 
         as_many : length (N next) ≡ (t + 1) / n
         as_many = omega (arith, not_more, not_fewer)

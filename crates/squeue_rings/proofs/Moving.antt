@@ -1,6 +1,6 @@
 -- What a ring's passes know when it has moved a connection, or needn't, before the next feed.
 use Rattle.std.proofs.Common.{◌≡◌, ◌≢◌, ℕ, ◌+◌, ◌%◌, ◌==◌, ◌&&◌, not, inl, inr, Bool, true, false, List, [], ◌∷◌, ◌++◌, refl, ap, sym, ◌∙◌, subst, arith}
-use Rattle.std.proofs.lemmas.Bool.{cases_eq}
+use Rattle.std.proofs.lemmas.Bool.{cases_eq, eq-eqb, ne_eqb}
 use Rattle.turn_gate.specs.Passes.{seen}
 use Rattle.turn_gate.specs.declared.pass.Pass.{Pass}
 use Rattle.perimeter_core.specs.declared.entries.Act.{Act}
@@ -14,7 +14,7 @@ use Rattle.squeue_state.specs.Naming.{Named, setting_of}
 use Rattle.conn_migrate.specs.Moving.{Moved, RingLearns}
 use Rattle.squeue_rings.specs.Runs.{brought, comes, count, home_before, home_of, is_left_by, leaves, moves, place}
 use Rattle.squeue_rings.specs.Rings.{RingAt}
-use Rattle.squeue_rings.proofs.Counting.{count_one, differ, same}
+use Rattle.squeue_rings.proofs.Counting.{count_one}
 use Rattle.squeue_rings.proofs.Standing.{no_come, no_leave, not_left, other_home, place_before, place_kept, place_other, place_own}
 
 module _ {R : Type 0} (limits : R → Limits) (squeues spread r : ℕ) (done : List FeedOf) (f : FeedOf) (f_number : f.n ≡ brought f.c done) where
@@ -62,8 +62,8 @@ module _ {R : Type 0} (limits : R → Limits) (squeues spread r : ℕ) (done : L
     pub not_moved : (s : Named R) (x : Pass Element) → s.given.number ≢ home_before squeues spread f → s.given.number ≢ home_of squeues spread f → RingAt limits squeues spread r done done s x → RingAt limits squeues spread r done e0 s x
     not_moved s x a b known =
         let q = s.given.number in
-        let from : (home_before squeues spread f == q) ≡ false = differ (home_before squeues spread f) q (λ e. a (sym e)) in
-        let to : (home_of squeues spread f == q) ≡ false = differ (home_of squeues spread f) q (λ e. b (sym e)) in
+        let from : (home_before squeues spread f == q) ≡ false = ne_eqb (home_before squeues spread f) q (λ e. a (sym e)) in
+        let to : (home_of squeues spread f == q) ≡ false = ne_eqb (home_of squeues spread f) q (λ e. b (sym e)) in
         let l : leaves squeues spread q f ≡ false = ap (λ (x : Bool). x && not (home_of squeues spread f == q)) from in
         let m : comes squeues spread q f ≡ false = ap (λ (x : Bool). not (home_before squeues spread f == q) && x) to ∙ with_false (not (home_before squeues spread f == q)) in
         record {
@@ -98,8 +98,8 @@ module _ {R : Type 0} (limits : R → Limits) (squeues spread r : ℕ) (done : L
     has_left a x y act note at ring known m learns =
         let q = a.given.number in
         let S = setting_of limits a.given in
-        let from : (home_before squeues spread f == q) ≡ true = same (home_before squeues spread f) q (sym at) in
-        let to : (home_of squeues spread f == q) ≡ false = differ (home_of squeues spread f) q (λ e. apart (sym at ∙ sym e)) in
+        let from : (home_before squeues spread f == q) ≡ true = eq-eqb (home_before squeues spread f) q (sym at) in
+        let to : (home_of squeues spread f == q) ≡ false = ne_eqb (home_of squeues spread f) q (λ e. apart (sym at ∙ sym e)) in
         let l : leaves squeues spread q f ≡ true = and_true (home_before squeues spread f == q) (home_of squeues spread f == q) from to in
         let n : comes squeues spread q f ≡ false = ap (λ (x : Bool). not x && (home_of squeues spread f == q)) from in
         let gone : (place squeues spread f.c e0 == q) ≡ false = ap (λ (p : ℕ). p == q) now_at ∙ to in
@@ -124,9 +124,9 @@ module _ {R : Type 0} (limits : R → Limits) (squeues spread r : ℕ) (done : L
           ];
           left = λ c owned. elim (cases_eq f.c c) [
             | inl e ↦ subst (λ (d : ℕ). times_left d (seen y) ≡ count (is_left_by squeues spread d q) e0) e
-                (let u = count_one (is_left_by squeues spread f.c q) done f true (ap (λ (x : Bool). x && leaves squeues spread q f) (same f.c f.c refl) ∙ l) in let h = known.left f.c ring in let w = learns.left in omega (arith, u, h, w))
+                (let u = count_one (is_left_by squeues spread f.c q) done f true (ap (λ (x : Bool). x && leaves squeues spread q f) (eq-eqb f.c f.c refl) ∙ l) in let h = known.left f.c ring in let w = learns.left in omega (arith, u, h, w))
             | inr other ↦
-                let u = count_one (is_left_by squeues spread c q) done f false (and_false (f.c == c) (leaves squeues spread q f) (differ f.c c other)) in
+                let u = count_one (is_left_by squeues spread c q) done f false (and_false (f.c == c) (leaves squeues spread q f) (ne_eqb f.c c other)) in
                 let h = known.left c owned in
                 let w = (learns.others c (λ e. other (sym e)) (known.is_number ∙ owned)).left in
                 omega (arith, u, h, w)
@@ -139,8 +139,8 @@ module _ {R : Type 0} (limits : R → Limits) (squeues spread r : ℕ) (done : L
     has_come b x y act note at ring next known m learns =
         let q = b.given.number in
         let S = setting_of limits b.given in
-        let from : (home_before squeues spread f == q) ≡ false = differ (home_before squeues spread f) q (λ e. apart (e ∙ at)) in
-        let to : (home_of squeues spread f == q) ≡ true = same (home_of squeues spread f) q (sym at) in
+        let from : (home_before squeues spread f == q) ≡ false = ne_eqb (home_before squeues spread f) q (λ e. apart (e ∙ at)) in
+        let to : (home_of squeues spread f == q) ≡ true = eq-eqb (home_of squeues spread f) q (sym at) in
         let l : leaves squeues spread q f ≡ false = and_false (home_before squeues spread f == q) (not (home_of squeues spread f == q)) from in
         let n : comes squeues spread q f ≡ true = ap (λ (x : Bool). not x && (home_of squeues spread f == q)) from ∙ to in
         let come : (place squeues spread f.c e0 == q) ≡ true = ap (λ (p : ℕ). p == q) now_at ∙ to in
@@ -165,9 +165,9 @@ module _ {R : Type 0} (limits : R → Limits) (squeues spread r : ℕ) (done : L
           ];
           left = λ c owned. elim (cases_eq f.c c) [
             | inl e ↦ subst (λ (d : ℕ). times_left d (seen y) ≡ count (is_left_by squeues spread d q) e0) e
-                (let u = count_one (is_left_by squeues spread f.c q) done f false (ap (λ (x : Bool). x && leaves squeues spread q f) (same f.c f.c refl) ∙ l) in let h = known.left f.c ring in let w = learns.left in omega (arith, u, h, w))
+                (let u = count_one (is_left_by squeues spread f.c q) done f false (ap (λ (x : Bool). x && leaves squeues spread q f) (eq-eqb f.c f.c refl) ∙ l) in let h = known.left f.c ring in let w = learns.left in omega (arith, u, h, w))
             | inr other ↦
-                let u = count_one (is_left_by squeues spread c q) done f false (and_false (f.c == c) (leaves squeues spread q f) (differ f.c c other)) in
+                let u = count_one (is_left_by squeues spread c q) done f false (and_false (f.c == c) (leaves squeues spread q f) (ne_eqb f.c c other)) in
                 let h = known.left c owned in
                 let w = (learns.others c (λ e. other (sym e)) (known.is_number ∙ owned)).left in
                 omega (arith, u, h, w)

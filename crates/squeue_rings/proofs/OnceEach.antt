@@ -1,10 +1,10 @@
 -- Calls counted over all squeues, and those that a list asks for.
 use Rattle.std.proofs.Common.{◌≡◌, ℕ, zero, suc, ◌+◌, ◌==◌, ◌&&◌, Bool, true, false, if◌then◌else◌, Option, Some, List, [], ◌∷◌, ◌++◌, length, slice_get, slice_set, take, refl, ap, sym, ◌∙◌, arith}
+use Rattle.std.proofs.lemmas.Bool.{eqb-true, eqb-false, eq-eqb, ne_eqb}
 use Rattle.turn_gate.specs.Passes.{seen}
 use Rattle.turn_gate.specs.declared.pass.Pass.{Pass}
 use Rattle.perimeter_core.specs.History.{Element}
 use Rattle.squeue_rings.specs.Seen.{seen_in}
-use Rattle.squeue_rings.proofs.Counting.{are_apart, are_same, differ, same}
 use Rattle.squeue_rings.specs.Made.{made_in, once_on, times_made}
 
 -- the pass in one place has seen more
@@ -21,8 +21,8 @@ next_same : (a m : ℕ) → (suc a == suc m) ≡ (a == m)
 next_same a m = by (a == m) refl
   where
     by : (b : Bool) → (a == m) ≡ b → (suc a == suc m) ≡ b
-    by true e = same (suc a) (suc m) (ap suc (are_same a m e))
-    by false e = differ (suc a) (suc m) (λ s. are_apart a m e (cc s))
+    by true e = eq-eqb (suc a) (suc m) (ap suc (eqb-true a m e))
+    by false e = ne_eqb (suc a) (suc m) (λ s. eqb-false a m e (cc s))
 
 apart : (n : ℕ) (b t : Bool) → t ≡ false → n ≡ n + (if b && t then 1 else 0)
 apart n true false e = omega arith
@@ -31,14 +31,14 @@ apart n b true e = cc e
 
 -- one call more
 pub once_more : (cs : List ℕ) (c d m : ℕ) → once_on (cs ++ c ∷ []) d m ≡ once_on cs d m + (if (c == d) && (length cs == m) then 1 else 0)
-once_more [] c d zero = at (c == d) (0 == 0) (same 0 0 refl)
+once_more [] c d zero = at (c == d) (0 == 0) (eq-eqb 0 0 refl)
   where
     at : (b t : Bool) → t ≡ true → (if b then 1 else 0) ≡ 0 + (if b && t then 1 else 0)
     at true true e = refl
     at false true e = refl
     at b false e = cc e
-once_more [] c d (suc m) = apart 0 (c == d) (0 == suc m) (differ 0 (suc m) (λ e. cc e))
-once_more (x ∷ cs) c d zero = apart (if x == d then 1 else 0) (c == d) (suc (length cs) == 0) (differ (suc (length cs)) 0 (λ e. cc e))
+once_more [] c d (suc m) = apart 0 (c == d) (0 == suc m) (ne_eqb 0 (suc m) (λ e. cc e))
+once_more (x ∷ cs) c d zero = apart (if x == d then 1 else 0) (c == d) (suc (length cs) == 0) (ne_eqb (suc (length cs)) 0 (λ e. cc e))
 once_more (x ∷ cs) c d (suc m) = once_more cs c d m ∙ ap (λ (t : Bool). once_on cs d m + (if (c == d) && t then 1 else 0)) (sym (next_same (length cs) m))
 
 -- so many of a list that has more

@@ -1,18 +1,17 @@
 -- What a ring's marks keep, over the parts of a history.
 use Rattle.std.proofs.Common.{◌≡◌, ◌≢◌, ℕ, ◌==◌, Bool, if◌then◌else◌, inl, inr, Option, None, List, [], ◌∷◌, ◌++◌, refl, ap, sym, ◌∙◌, subst, append_assoc}
-use Rattle.std.proofs.lemmas.Bool.{cases_eq}
+use Rattle.std.proofs.lemmas.Bool.{cases_eq, eq-eqb, ne_eqb}
 use Rattle.std.proofs.lemmas.List.{append-nil}
 use Rattle.turn_gate.specs.History.{Each}
 use Rattle.perimeter_core.specs.History.{Element, Setting, pass_of, made_by}
 use Rattle.squeue_enter.specs.declared.Mode.{Mode}
 use Rattle.squeue_rings.specs.Keeping.{IsPaced, Keeps, KeepsFrom, KeepsPace, taken, taken_after, taken_from}
-use Rattle.squeue_rings.proofs.Counting.{differ, same}
 
 pub own_made : (r : ℕ) (e : Element) (K : List Element) → pass_of e.mark ≡ r → made_by r (e ∷ K) ≡ e ∷ made_by r K
-own_made r e K own = rw (same (pass_of e.mark) r own) refl
+own_made r e K own = rw (eq-eqb (pass_of e.mark) r own) refl
 
 other_made : (r : ℕ) (e : Element) (K : List Element) → pass_of e.mark ≢ r → made_by r (e ∷ K) ≡ made_by r K
-other_made r e K other = rw (differ (pass_of e.mark) r other) refl
+other_made r e K other = rw (ne_eqb (pass_of e.mark) r other) refl
 
 module _ (S : Setting) (r : ℕ) where
   -- whether the ring has taken the perimeter with feeds, over two parts
@@ -25,13 +24,13 @@ module _ (S : Setting) (r : ℕ) where
   taken_own : (past : List Element) (o : Option ℕ) (e : Element) → pass_of e.mark ≡ r → taken S r past ≡ o → taken S r (past ++ e ∷ []) ≡ taken_after S past o e.mark
   taken_own past o e own is =
       taken_join [] None past (e ∷ [])
-      ∙ (ap (λ (b : Bool). if b then taken_after S past (taken S r past) e.mark else taken S r past) (same (pass_of e.mark) r own)
+      ∙ (ap (λ (b : Bool). if b then taken_after S past (taken S r past) e.mark else taken S r past) (eq-eqb (pass_of e.mark) r own)
       ∙ ap (λ (t : Option ℕ). taken_after S past t e.mark) is)
 
   taken_other : (past : List Element) (o : Option ℕ) (e : Element) → pass_of e.mark ≢ r → taken S r past ≡ o → taken S r (past ++ e ∷ []) ≡ o
   taken_other past o e other is =
       taken_join [] None past (e ∷ [])
-      ∙ (ap (λ (b : Bool). if b then taken_after S past (taken S r past) e.mark else taken S r past) (differ (pass_of e.mark) r other) ∙ is)
+      ∙ (ap (λ (b : Bool). if b then taken_after S past (taken S r past) e.mark else taken S r past) (ne_eqb (pass_of e.mark) r other) ∙ is)
 
 module _ (squeues spread : ℕ) (mode : Mode) (budget q : ℕ) (S : Setting) (r : ℕ) where
   keeps_join : (past H K : List Element) → KeepsFrom squeues spread mode budget q S r past H → KeepsFrom squeues spread mode budget q S r (past ++ H) K → KeepsFrom squeues spread mode budget q S r past (H ++ K)

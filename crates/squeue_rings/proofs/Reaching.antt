@@ -1,6 +1,6 @@
 -- The next feed of a ring is reached: its connection is moved where it isn't at home.
 use Rattle.std.proofs.Common.{◌≡◌, ◌≢◌, ℕ, zero, suc, ◌+◌, ◌/◌, ◌%◌, ◌<◌, ◌≤◌, ◌==◌, ◌&&◌, not, inl, inr, Bool, true, false, if◌then◌else◌, Option, Some, None, List, [], ◌∷◌, ◌++◌, length, slice_get, refl, ap, sym, ◌∙◌, subst, arith}
-use Rattle.std.proofs.lemmas.Bool.{cases_eq}
+use Rattle.std.proofs.lemmas.Bool.{cases_eq, eq-eqb, ne_eqb}
 use Rattle.turn_gate.specs.History.{Each}
 use Rattle.turn_gate.specs.Passes.{number, seen}
 use Rattle.turn_gate.specs.declared.pass.Pass.{Pass}
@@ -16,12 +16,13 @@ use Rattle.conn_migrate.specs.Moving.{MayCome, MayLeave}
 use Rattle.conn_migrate.specs.Stays.{IsLinked}
 use Rattle.conn_migrate.proofs.NextFeeds.{fed_is_due}
 use Rattle.squeue_serve.specs.Places.{Holds}
+use Rattle.squeue_serve.proofs.Unused.{each_at}
 use Rattle.squeue_rings.specs.Runs.{brought, comes, count, home_before, home_of, is_left_by, leaves, moves, place}
 use Rattle.squeue_rings.specs.Rings.{AreNumbered, MayBring, RingAt}
 use Rattle.squeue_rings.specs.Bringing.{AreAt, HasMoved, IsReady}
 use Rattle.squeue_rings.specs.Noted.{AreNoted}
 use Rattle.squeue_rings.specs.Seen.{seen_ends}
-use Rattle.squeue_rings.proofs.Counting.{count_more, differ, each_behind, number_is, same}
+use Rattle.squeue_rings.proofs.Counting.{count_more, each_behind, number_is}
 use Rattle.squeue_rings.proofs.Standing.{other_home, place_before}
 use Rattle.squeue_rings.proofs.Moving.{has_come, has_left, not_moved, reached}
 use Rattle.squeue_rings.proofs.Leaving.{gone_round}
@@ -30,17 +31,9 @@ use Rattle.squeue_rings.proofs.RingStays.{alike_others, at_place, linked_kept, l
 use Rattle.squeue_rings.proofs.Slots.{at_got, at_length, at_made, within}
 use Rattle.squeue_rings.proofs.StaysSeen.{AreAlike}
 
-pub each_at : {A : Type 0} (P : A → Type 0) (xs : List A) (k : ℕ) (x : A) → Each P xs → slice_get xs k ≡ Some x → P x
-each_at P [] k x e is = cc is
-each_at P (y ∷ xs) zero x e is = let a : y ≡ x = cc is in subst P a e.0
-each_at P (y ∷ xs) (suc k) x e is = each_at P xs k x e.1 is
-
 pub held : (P : Pass Element → Type 0) (o : Option (Pass Element)) → Holds P o → (x : Pass Element) × (o ≡ Some x) × P x
 held P None h = absurd h
 held P (Some x) h = (x, refl, h)
-
-pub held_in : (P : Pass Element → Type 0) (x : Pass Element) (o : Option (Pass Element)) → o ≡ Some x → Holds P o → P x
-held_in P x o is h = let r : Holds P (Some x) = subst (Holds P) is h in r
 
 pub hold : (P : Pass Element → Type 0) (x : Pass Element) (o : Option (Pass Element)) → o ≡ Some x → P x → Holds P o
 hold P x o is h = let r : Holds P (Some x) = h in subst (Holds P) (sym is) r
@@ -104,15 +97,15 @@ module _ {R : Type 0} (limits : R → Limits) (squeues spread r : ℕ) (list : L
         let q = s.given.number in
         let o = own (home_before squeues spread f) s is in
         let m = each_at (MayBring limits squeues spread r list) ss (home_before squeues spread f) s ready.all.may is in
-        let from : (home_before squeues spread f == q) ≡ true = same (home_before squeues spread f) q (sym here) in
-        let to : (home_of squeues spread f == q) ≡ false = differ (home_of squeues spread f) q (λ e. apart (sym here ∙ sym e)) in
+        let from : (home_before squeues spread f == q) ≡ true = eq-eqb (home_before squeues spread f) q (sym here) in
+        let to : (home_of squeues spread f == q) ≡ false = ne_eqb (home_of squeues spread f) q (λ e. apart (sym here ∙ sym e)) in
         let l : leaves squeues spread q f ≡ true = and_not (home_before squeues spread f == q) (home_of squeues spread f == q) from to in
         record {
           may_ask = may_ask (home_before squeues spread f) s x is known (let a = found_more (leaves squeues spread q) l in let b = found_as_many (comes squeues spread q) in omega (arith, a, b));
           ring = known.is_number ∙ o.0;
-          here = known.here f.c o.0 o.1 ∙ same (place squeues spread f.c done) q (place_before squeues spread done f f_number ∙ sym here);
+          here = known.here f.c o.0 o.1 ∙ eq-eqb (place squeues spread f.c done) q (place_before squeues spread done f f_number ∙ sym here);
           leaves =
-              let a = found_more (is_left_by squeues spread f.c q) (and_both (f.c == f.c) (leaves squeues spread q f) (same f.c f.c refl) l) in
+              let a = found_more (is_left_by squeues spread f.c q) (and_both (f.c == f.c) (leaves squeues spread q f) (eq-eqb f.c f.c refl) l) in
               let b = known.left f.c o.0 in
               let n = m.leaving f.c in
               omega (arith, a, b, n);
@@ -123,14 +116,14 @@ module _ {R : Type 0} (limits : R → Limits) (squeues spread r : ℕ) (list : L
         let known = at (home_of squeues spread f) s x is it in
         let q = s.given.number in
         let o = own (home_of squeues spread f) s is in
-        let from : (home_before squeues spread f == q) ≡ false = differ (home_before squeues spread f) q (λ e. apart (e ∙ here)) in
-        let to : (home_of squeues spread f == q) ≡ true = same (home_of squeues spread f) q (sym here) in
+        let from : (home_before squeues spread f == q) ≡ false = ne_eqb (home_before squeues spread f) q (λ e. apart (e ∙ here)) in
+        let to : (home_of squeues spread f == q) ≡ true = eq-eqb (home_of squeues spread f) q (sym here) in
         let l : comes squeues spread q f ≡ true = not_and (home_before squeues spread f == q) (home_of squeues spread f == q) from to in
         record {
           may_ask = may_ask (home_of squeues spread f) s x is known (let a = found_more (comes squeues spread q) l in let b = found_as_many (leaves squeues spread q) in omega (arith, a, b));
           ring = known.is_number ∙ o.0;
           range = o.1;
-          away = known.here f.c o.0 o.1 ∙ differ (place squeues spread f.c done) q (λ e. apart (sym (place_before squeues spread done f f_number) ∙ (e ∙ here)));
+          away = known.here f.c o.0 o.1 ∙ ne_eqb (place squeues spread f.c done) q (λ e. apart (sym (place_before squeues spread done f f_number) ∙ (e ∙ here)));
         }
 
     -- all passes of the ring know it
@@ -178,12 +171,12 @@ module _ {R : Type 0} (limits : R → Limits) (squeues spread r : ℕ) (list : L
         here : is_here (run (setting_of limits h.a.given) (seen h.pa)) f.c ≡ true
         here =
             let o = own hb h.a h.from in
-            was_a.here f.c o.0 o.1 ∙ same (place squeues spread f.c done) h.a.given.number (place_before squeues spread done f f_number ∙ sym (numbered hb h.a h.from))
+            was_a.here f.c o.0 o.1 ∙ eq-eqb (place squeues spread f.c done) h.a.given.number (place_before squeues spread done f f_number ∙ sym (numbered hb h.a h.from))
 
         away : is_here (run (setting_of limits h.b.given) (seen h.pb)) f.c ≡ false
         away =
             let o = own ho h.b h.to in
-            was_b.here f.c o.0 o.1 ∙ differ (place squeues spread f.c done) h.b.given.number (λ e. apart (sym (place_before squeues spread done f f_number) ∙ (e ∙ numbered ho h.b h.to)))
+            was_b.here f.c o.0 o.1 ∙ ne_eqb (place squeues spread f.c done) h.b.given.number (λ e. apart (sym (place_before squeues spread done f f_number) ∙ (e ∙ numbered ho h.b h.to)))
 
         others : (c : ℕ) → Each (IsOwn c) ss → f.c ≢ c → (k : ℕ) → AreAlike (at_place limits ss c old k) (at_place limits ss c new k)
         others c owned other =

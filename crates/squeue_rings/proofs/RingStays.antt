@@ -1,6 +1,6 @@
 -- The stays of a ring's connections stay linked, by what its passes have seen.
 use Rattle.std.proofs.Common.{◌≡◌, ◌≢◌, ℕ, zero, suc, ◌+◌, ◌/◌, ◌%◌, ◌<◌, ◌==◌, inl, inr, Bool, true, false, if◌then◌else◌, Option, Some, None, List, [], ◌∷◌, ◌++◌, length, map, slice_get, refl, ap, sym, ◌∙◌, subst, append_assoc, arith}
-use Rattle.std.proofs.lemmas.Bool.{cases_eq}
+use Rattle.std.proofs.lemmas.Bool.{cases_eq, eqb-true}
 use Rattle.turn_gate.specs.Passes.{number, seen}
 use Rattle.turn_gate.specs.declared.pass.Pass.{Pass}
 use Rattle.perimeter_core.specs.declared.entries.Act.{Act}
@@ -20,7 +20,6 @@ use Rattle.conn_migrate.specs.Stays.{IsLinked, Stay, Stays, all_in, begun, stays
 use Rattle.squeue_rings.specs.Runs.{home_before, home_of, moves}
 use Rattle.squeue_rings.specs.Bringing.{HasMoved}
 use Rattle.squeue_rings.specs.Seen.{seen_ends, seen_in}
-use Rattle.squeue_rings.proofs.Counting.{are_same}
 use Rattle.squeue_rings.proofs.Leaving.{next_home}
 use Rattle.squeue_rings.proofs.Linking.{Joins, joins_first, joins_kept, joins_more}
 use Rattle.squeue_rings.proofs.Slots.{got_map, within}
@@ -260,7 +259,7 @@ module _ {R : Type 0} (limits : R → Limits) (ss : List (Named R)) (os : List (
       let e : at_place limits ss c os k ≡ first (c % length ss == k) =
       its_stays limits ss c os k s x.0 is x.1 ∙ (ap (λ (H : List Element). stays (setting_of limits s.given) H c) x.2 ∙ ap first x.3) in
       let o = one (c % length ss == k) i m (ap (λ (v : Stays). slice_get (notes v) i) (sym e) ∙ at) in
-      (sym (are_same (c % length ss) k o.0), o.1, o.2)
+      (sym (eqb-true (c % length ss) k o.0), o.1, o.2)
 
   pub first_stays : (k i : ℕ) (m : List Act) → slice_get (N limits ss c os k) i ≡ Some m → (k ≡ c % length ss) × (i ≡ 0) × (m ≡ [])
   first_stays k i m at = only k i m (slice_get ss k) refl at

@@ -1,6 +1,6 @@
 -- The first run of what a ring has left is entered at its home.
 use Rattle.std.proofs.Common.{◌≡◌, ◌≢◌, ℕ, zero, suc, ◌+◌, ◌%◌, ◌<◌, ◌≤◌, ◌==◌, ◌&&◌, not, inl, inr, Bool, true, false, if◌then◌else◌, Option, Some, None, List, [], ◌∷◌, ◌++◌, length, take, drop, slice_get, refl, ap, sym, ◌∙◌, subst, arith, append_assoc}
-use Rattle.std.proofs.lemmas.Bool.{cases_eq}
+use Rattle.std.proofs.lemmas.Bool.{cases_eq, eqb-true}
 use Rattle.turn_gate.specs.History.{Each}
 use Rattle.turn_gate.specs.Passes.{IsPassOf, number, seen}
 use Rattle.turn_gate.specs.declared.pass.Pass.{Pass}
@@ -13,12 +13,12 @@ use Rattle.squeue_drain.specs.Draining.{GoesOn}
 use Rattle.squeue_enter.specs.declared.Mode.{Mode}
 use Rattle.squeue_enter.specs.Entering.{Brought, MayEnter}
 use Rattle.squeue_serve.specs.Places.{Became, Holds}
+use Rattle.squeue_serve.proofs.Unused.{each_at}
 use Rattle.squeue_rings.specs.Runs.{home_of, moves, run_of}
 use Rattle.squeue_rings.specs.Rings.{AreNumbered, MayBring, RingAt}
 use Rattle.squeue_rings.specs.Bringing.{AreAt, HasBrought, IsFar, IsReady}
-use Rattle.squeue_rings.proofs.Counting.{are_same}
 use Rattle.squeue_rings.proofs.Entering.{Stay, may_enter_run, run_elsewhere, run_entered}
-use Rattle.squeue_rings.proofs.Reaching.{each_at, held, hold}
+use Rattle.squeue_rings.proofs.Reaching.{held, hold}
 use Rattle.squeue_rings.proofs.Noting.{noted_kept}
 use Rattle.squeue_rings.proofs.RingStays.{alike_entered, alike_kept, at_place, linked_kept}
 use Rattle.squeue_rings.proofs.StaysSeen.{AreAlike}
@@ -44,7 +44,7 @@ module _ (squeues spread : ℕ) where
   run_stays q (f ∷ fs) = by (home_of squeues spread f == q) (moves squeues spread f) refl refl (run_stays q fs)
     where
       by : (a b : Bool) → (home_of squeues spread f == q) ≡ a → moves squeues spread f ≡ b → Each (Stay squeues spread q) (take (run_of squeues spread q fs) fs) → Each (Stay squeues spread q) (take (if a && not b then 1 + run_of squeues spread q fs else 0) (f ∷ fs))
-      by true false i j h = let e : 1 + run_of squeues spread q fs ≡ suc (run_of squeues spread q fs) = omega arith in rw e ((are_same (home_of squeues spread f) q i, j), h)
+      by true false i j h = let e : 1 + run_of squeues spread q fs ≡ suc (run_of squeues spread q fs) = omega arith in rw e ((eqb-true (home_of squeues spread f) q i, j), h)
       by true true i j h = tt
       by false b i j h = tt
 
@@ -174,6 +174,3 @@ module _ {R : Type 0} (limits : R → Limits) (squeues spread r : ℕ) (list : L
 
   pub last_far : (new : List (Option (Pass Element))) → n + k ≡ length list → AreAt limits squeues spread r ss (take n list ++ piece) (take n list ++ piece) new → AreAt limits squeues spread r ss list list new
   last_far new e at = subst (λ (l : List FeedOf). AreAt limits squeues spread r ss l l new) (taken ∙ all_taken (n + k) list e) at
-
-pub all_far : {R : Type 0} (limits : R → Limits) (squeues spread r : ℕ) (list : List FeedOf) (ss : List (Named R)) (n : ℕ) (places : List (Option (Pass Element))) → IsFar limits squeues spread r list ss n places → n ≡ length list → AreAt limits squeues spread r ss list list places
-all_far limits squeues spread r list ss n places far e = subst (λ (l : List FeedOf). AreAt limits squeues spread r ss l l places) (all_taken n list e) far.at

@@ -1,13 +1,8 @@
 -- Places of a list, read and written.
 use Rattle.std.proofs.Common.{◌≡◌, ◌≢◌, ℕ, zero, suc, ◌+◌, ◌-◌, ◌<◌, ◌≤◌, ◌==◌, ◌++◌, Bool, true, Option, Some, List, [], ◌∷◌, length, drop, map, take, slice_get, slice_index_or, slice_set, refl, ap, sym, ◌∙◌, subst, arith}
-use Rattle.squeue_rings.proofs.Counting.{are_same}
+use Rattle.std.proofs.lemmas.Bool.{eqb-true}
 use Rattle.squeue_state.specs.Naming.{Named}
 use Rattle.squeue_serve.specs.Places.{AtEach}
-
-pub got_same : {A : Type 0} (xs : List A) (i : ℕ) (x : A) → i < length xs → slice_get (slice_set xs i x) i ≡ Some x
-got_same [] i x lt = absurd (omega (arith, lt))
-got_same (y ∷ xs) zero x lt = refl
-got_same (y ∷ xs) (suc i) x lt = got_same xs i x (omega (arith, lt))
 
 pub got_other : {A : Type 0} (xs : List A) (i k : ℕ) (x : A) → k ≢ i → slice_get (slice_set xs i x) k ≡ slice_get xs k
 got_other [] i k x apart = refl
@@ -25,11 +20,6 @@ pub within : {A : Type 0} (xs : List A) (i : ℕ) (x : A) → slice_get xs i ≡
 within [] i x is = cc is
 within (y ∷ xs) zero x is = omega arith
 within (y ∷ xs) (suc i) x is = let r = within xs i x is in omega (arith, r)
-
-pub set_length : {A : Type 0} (xs : List A) (i : ℕ) (x : A) → length (slice_set xs i x) ≡ length xs
-set_length [] i x = refl
-set_length (y ∷ xs) zero x = refl
-set_length (y ∷ xs) (suc i) x = ap suc (set_length xs i x)
 
 module _ {R A : Type 0} where
   pub at_got : (P : Named R → A → Type 0) (ss : List (Named R)) (os : List A) (k : ℕ) (s : Named R) (o : A) → AtEach P ss os → slice_get ss k ≡ Some s → slice_get os k ≡ Some o → P s o
@@ -52,10 +42,6 @@ module _ {R A : Type 0} where
 
 pub one_pass : {A : Type 0} (os : List (Option A)) (k : ℕ) (x y : A) → slice_get os k ≡ Some (Some x) → slice_get os k ≡ Some (Some y) → x ≡ y
 one_pass os k x y a b = let e : Some (Some x) ≡ Some (Some y) = sym a ∙ b in cc e
-
-pub head_tail : {A : Type 0} (xs : List A) (d : A) → 0 < length xs → xs ≡ slice_index_or xs 0 d ∷ drop 1 xs
-head_tail [] d lt = absurd (omega (arith, lt))
-head_tail (x ∷ xs) d lt = refl
 
 -- the first of a list, and what a slice has of the others
 pub head_rest : {A : Type 0} (xs : List A) (d : A) → 0 < length xs → xs ≡ slice_index_or xs 0 d ∷ take (length xs - 1) (drop 1 xs)
@@ -89,7 +75,7 @@ rest_is n xs le = split n xs ∙ ap (λ l. take n xs ++ l) (sym (all (length xs 
 
 pub none_left : {A : Type 0} (xs : List A) (b : Bool) → b ≡ (length xs == 0) → b ≡ true → xs ≡ []
 none_left [] b is t = refl
-none_left (x ∷ xs) b is t = let e : (suc (length xs) == 0) ≡ true = sym is ∙ t in let z : suc (length xs) ≡ 0 = are_same (suc (length xs)) 0 e in absurd (omega (arith, z))
+none_left (x ∷ xs) b is t = let e : (suc (length xs) == 0) ≡ true = sym is ∙ t in let z : suc (length xs) ≡ 0 = eqb-true (suc (length xs)) 0 e in absurd (omega (arith, z))
 
 pub parted : {A : Type 0} (n : ℕ) (xs a b : List A) → a ≡ take n xs → b ≡ drop n xs → xs ≡ a ++ b
 parted n xs a b i j = go n xs ∙ (ap (λ l. l ++ drop n xs) (sym i) ∙ ap (λ l. a ++ l) (sym j))

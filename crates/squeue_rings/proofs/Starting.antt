@@ -1,33 +1,25 @@
 -- What the new passes of a ring know.
-use Rattle.std.proofs.Common.{◌≡◌, ℕ, zero, suc, ◌+◌, ◌/◌, ◌%◌, ◌<◌, ◌≤◌, ◌==◌, Bool, true, false, if◌then◌else◌, Option, Some, List, [], length, replicate, slice_get, slice_index_or, refl, ap, sym, ◌∙◌, subst, add-zero, arith}
+use Rattle.std.proofs.Common.{◌≡◌, ℕ, ◌+◌, ◌/◌, ◌%◌, ◌<◌, ◌≤◌, ◌==◌, Bool, true, false, if◌then◌else◌, Option, Some, List, [], length, slice_get, refl, ap, sym, ◌∙◌, subst, add-zero, arith}
 use Rattle.std.proofs.Math.Nat.{zero-div}
 use Rattle.turn_gate.specs.History.{Each}
 use Rattle.turn_gate.specs.Passes.{seen}
 use Rattle.turn_gate.specs.declared.pass.Pass.{Pass}
 use Rattle.perimeter_core.specs.Perimeter.{Idle, is_here}
-use Rattle.perimeter_core.specs.History.{Element, Limits, Setting, passes, run, start}
+use Rattle.perimeter_core.specs.History.{Element, Limits, run, start}
 use Rattle.perimeter_core.specs.Deeds.{due, times_left}
 use Rattle.perimeter_core.specs.Legal.{asks_by, feeds_by}
 use Rattle.squeue_state.specs.Naming.{Named, setting_of}
 use Rattle.squeue_serve.specs.Places.{AtEach, Holds, IsNew}
 use Rattle.squeue_serve.proofs.Lent.{some_at}
+use Rattle.squeue_serve.proofs.Unused.{start_idle, each_at}
 use Rattle.conn_blocks.specs.Homes.{home}
 use Rattle.squeue_rings.specs.Rings.{AreNumbered, RingAt}
 use Rattle.squeue_rings.specs.Starts.{StartAtHome}
 use Rattle.squeue_rings.specs.Bringing.{AreAt}
-use Rattle.squeue_rings.proofs.Reaching.{each_at, held, hold}
+use Rattle.squeue_rings.proofs.Reaching.{held, hold}
 use Rattle.squeue_rings.proofs.Noting.{noted_first}
 use Rattle.squeue_rings.proofs.RingStays.{linked_first}
 use Rattle.squeue_rings.proofs.Slots.{at_got, at_length, at_made, within}
-
-pub none_closed : (n p : ℕ) → slice_index_or (replicate n false) p false ≡ false
-none_closed zero p = refl
-none_closed (suc n) zero = refl
-none_closed (suc n) (suc p) = none_closed n p
-
--- at the start a pass may enter
-idle_first : (S : Setting) (p : ℕ) → Idle (start S) p
-idle_first S p = record { open_pass = none_closed (passes S) p; no_owner = λ e. cc e; not_granted = λ e. cc e; not_in_hand = refl; not_in_chain = refl }
 
 -- the place of a connection that has had no feed
 first_home : (squeues spread c : ℕ) → home squeues spread c 0 ≡ c % squeues
@@ -61,7 +53,7 @@ module _ {R : Type 0} (limits : R → Limits) (squeues spread r : ℕ) (ss : Lis
       record {
         pass = n.pass;
         is_number = n.is_number;
-        idle = subst (λ (H : List Element). Idle (run (setting_of limits s.given) H) r) (sym n.none_seen) (idle_first (setting_of limits s.given) r);
+        idle = subst (λ (H : List Element). Idle (run (setting_of limits s.given) H) r) (sym n.none_seen) (start_idle (setting_of limits s.given) r);
         feeds = ap (feeds_by r) n.none_seen;
         asks = ap (asks_by r) n.none_seen;
         here = λ c ring lt.

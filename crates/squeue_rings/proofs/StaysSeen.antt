@@ -17,9 +17,10 @@ use Rattle.perimeter_core.proofs.FeedOrder.{puts_away}
 use Rattle.perimeter_core.proofs.OneMore.{legal_front, legal_ind, legal_next, run_push}
 use Rattle.perimeter_core.proofs.RingKnows.{here_step}
 use Rattle.squeue_state.specs.Elements.{gone}
-use Rattle.synch_enter.proofs.Knowing.{left_append}
 use Rattle.conn_migrate.specs.Stays.{Stay, Stays, all_in, as_list, begun, longer_by, stays}
 use Rattle.conn_migrate.proofs.OneSqueue.{fits, in_begins, out_ends, stays_push}
+use Rattle.conn_migrate.proofs.StaysKept.{at_first}
+use Rattle.squeue_enter.proofs.Bringing.{left_append}
 
 -- the notes of all stays, and what those that have ended had
 abbrev pub notes : Stays → List (List Act)
@@ -77,7 +78,7 @@ pub all_over_away : (S : Setting) (H : List Element) (c : ℕ) → Legal S H →
 all_over_away S H c l away = all_ended (stays S H c) (stays S H c).now refl (sym away ∙ (fits S c H l).is_now)
 
 -- a mark that puts nothing in leaves the notes, and one that takes nothing out leaves what the stays that ended had
-same_note : (past : List Stay) (more had : List Act) (o : Option Stay)
+pub same_note : (past : List Stay) (more had : List Act) (o : Option Stay)
     → map (λ (u : Stay). u.note) (past ++ as_list (longer_by more had o)) ≡ map (λ (u : Stay). u.note) (past ++ as_list o)
 same_note past more had None = refl
 same_note past more had (Some u) =
@@ -101,10 +102,6 @@ hads_after true b more had note v puts takes = cc puts
 hads_after false true more had note v puts takes = cc takes
 hads_after false false more had note v puts takes = refl
 
--- the stays before anything happened
-abbrev at_first : Setting → ℕ → Stays
-at_first S c = record { ended = []; now = if is_here (start S) c then Some (begun []) else None }
-
 same_notes : (S : Setting) (H : List Element) (e : Element) (c : ℕ) → puts_in c e.mark ≡ false → notes (stays S (H ++ e ∷ []) c) ≡ notes (stays S H c)
 same_notes S H e c puts =
     ap notes (stays_push c (start S) [] (at_first S c) H e)
@@ -117,7 +114,7 @@ same_hads S H e c puts takes =
     ∙ hads_after (puts_in c e.mark) (takes_out c e.mark) (reported c (run S H) e.mark) (acts_after c (run S H) (acts S H c) e) e.note (stays S H c) puts takes
 
 -- who takes a block out finds it here
-takes_here : (S : Setting) (H : List Element) (s : State) (m : Mark) (c : ℕ) → ActsFit S H s m → takes_out c m ≡ true → (is_here s c ≡ true) × (puts_in c m ≡ false)
+pub takes_here : (S : Setting) (H : List Element) (s : State) (m : Mark) (c : ℕ) → ActsFit S H s m → takes_out c m ≡ true → (is_here s c ≡ true) × (puts_in c m ≡ false)
 takes_here S H s (On.Leave p rest (Done.Out d)) c f e = let same : d ≡ c = grind (arith, nat_tests, e) in (subst (λ (k : ℕ). is_here s k ≡ true) same f.1, refl)
 takes_here S H s (On.Leave p rest (Done.In d)) c f e = absurd cc
 takes_here S H s (On.Leave p rest (Done.Call d j k)) c f e = absurd cc

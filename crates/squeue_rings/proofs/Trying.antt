@@ -1,5 +1,5 @@
 -- What a try to make a call did.
-use Rattle.std.proofs.Common.{◌≡◌, ℕ, ◌+◌, ◌<◌, ◌≤◌, inl, inr, Bool, true, false, if◌then◌else◌, List, [], ◌∷◌, ◌++◌, length, slice_index, refl, ap, sym, ◌∙◌, subst, arith}
+use Rattle.std.proofs.Common.{◌≡◌, ℕ, ◌+◌, ◌<◌, ◌≤◌, inl, inr, Bool, true, false, List, [], ◌∷◌, ◌++◌, length, slice_index, refl, ap, sym, ◌∙◌, subst, arith}
 use Rattle.turn_gate.specs.Passes.{IsPassOf, mine, number, seen}
 use Rattle.turn_gate.specs.declared.pass.Pass.{Pass}
 use Rattle.perimeter_core.specs.declared.resident.Resident.{Ghosts}
@@ -8,7 +8,7 @@ use Rattle.perimeter_core.specs.declared.marks.SynchAct.TheVariants as Done
 use Rattle.perimeter_core.specs.Blocks.{Blocks}
 use Rattle.perimeter_core.specs.Perimeter.{Idle}
 use Rattle.perimeter_core.specs.History.{Element, Limits, ask_quota, made_by, run}
-use Rattle.perimeter_core.specs.Deeds.{takes_out, times_left}
+use Rattle.perimeter_core.specs.Deeds.{times_left}
 use Rattle.perimeter_core.specs.Legal.{Legal, asks_by}
 use Rattle.perimeter_core.proofs.LeavesFew.{leaves_few}
 use Rattle.perimeter_core.proofs.OwnCounts.{own_counts}
@@ -26,6 +26,7 @@ use Rattle.synch_enter.proofs.Knowing.{gone_with_nothing}
 use Rattle.conn_migrate.specs.Moving.{Moved}
 use Rattle.conn_migrate.proofs.OwnMarks.{asks_away, asks_called}
 use Rattle.squeue_rings.specs.Calling.{CallerAt, HasTried, MayMake, MayTry, TriesAt, asks_for, is_done}
+use Rattle.squeue_enter.proofs.Bringing.{left_append}
 
 module _ {R P O : Type 0} (G : Ghosts R P O) (s : Named R) (c j k : ℕ) (from : Pass Element) (o : Owner R) (try : MayTry G.limits s c j k from) (at : StandsAtItsAsk G s [] o × (o.act ≡ Done.None)) (came : CameFor G.limits s c from o.pass) where
   pub may_call : MayCall G s c j k o
@@ -57,14 +58,6 @@ module _ {R P O : Type 0} (G : Ghosts R P O) (s : Named R) (c j k : ℕ) (from :
           moved = made Done.Away h.answers.1;
           gone = (subst (λ (q : Pass Element). (came : CameFor G.limits s c from q) → Called'.Elsewhere ≡ Called'.Elsewhere → 0 < times_left c came.0.behind.since) (sym pass) (h.gone from)) came_now refl;
         }))
-
-times_more : (c : ℕ) (xs ys : List Element) → times_left c (xs ++ ys) ≡ times_left c xs + times_left c ys
-times_more c [] ys = omega arith
-times_more c (x ∷ xs) ys = let r = times_more c xs ys in by (takes_out c x.mark) r
-  where
-    by : (b : Bool) → times_left c (xs ++ ys) ≡ times_left c xs + times_left c ys → (if b then 1 else 0) + times_left c (xs ++ ys) ≡ ((if b then 1 else 0) + times_left c xs) + times_left c ys
-    by true r = omega (arith, r)
-    by false r = omega (arith, r)
 
 module _ {R : Type 0} (limits : R → Limits) (s : Named R) (j : ℕ) where
   pub for_more : (cs : List ℕ) (c : ℕ) → asks_for limits s (cs ++ c ∷ []) ≡ asks_for limits s cs + (1 + slice_index (limits s.given.first).leaves c)
@@ -127,7 +120,7 @@ module _ {R : Type 0} (limits : R → Limits) (s : Named R) (j : ℕ) where
             let before = own_counts p (seen x) in
             let own : made_by p (seen y) ≡ made_by p (seen x) = own_is y (away.goes_on.same_number ∙ known.is_number) away.goes_on.is_pass ∙ (away.same_mine ∙ sym (own_is x known.is_number known.pass)) in
             let same = ap (asks_by p) own in
-            let t = ap (times_left c) away.goes_on.grows.1 ∙ times_more c (seen x) away.goes_on.grows.0 in
+            let t = ap (times_left c) away.goes_on.grows.1 ∙ left_append c (seen x) away.goes_on.grows.0 in
             let a = known.asks in
             omega (arith, now.1, before.1, same, t, a);
       }
@@ -144,12 +137,12 @@ module _ {R : Type 0} (limits : R → Limits) (s : Named R) (j : ℕ) where
         asks =
             let one = subst (λ (p : ℕ). asks_by p (seen y) ≡ asks_by p (seen x) + 1) known.is_number (asks_away known.pass m) in
             let b = m.came.behind in
-            let t0 = ap (times_left c) m.came.begins.1 ∙ times_more c (seen x) m.came.begins.0 in
-            let t1 = ap (times_left c) b.now_seen ∙ times_more c (m.came.found ++ b.ask ∷ []) b.since in
-            let t2 = times_more c m.came.found (b.ask ∷ []) in
-            let t3 = ap (times_left c) m.left.goes_on.1 ∙ times_more c (seen m.owner) m.left.goes_on.0 in
+            let t0 = ap (times_left c) m.came.begins.1 ∙ left_append c (seen x) m.came.begins.0 in
+            let t1 = ap (times_left c) b.now_seen ∙ left_append c (m.came.found ++ b.ask ∷ []) b.since in
+            let t2 = left_append c m.came.found (b.ask ∷ []) in
+            let t3 = ap (times_left c) m.left.goes_on.1 ∙ left_append c (seen m.owner) m.left.goes_on.0 in
             let t4 = ap (times_left c) m.left.now_seen in
-            let t5 = times_more c m.left.found (last m) in
+            let t5 = left_append c m.left.found (last m) in
             let a = known.asks in
             let g = gone.gone in
             omega (arith, one, t0, t1, t2, t3, t4, t5, a, g);

@@ -1,9 +1,8 @@
 -- A way that goes round n places: number t leads from a first place c to place (c + t) mod n. How often it has been at a place.
 use Rattle.std.proofs.Common.{◌≡◌, ℕ, zero, suc, ◌+◌, ◌*◌, ◌/◌, ◌%◌, ◌<◌, ◌==◌, inl, inr, Bool, false, if◌then◌else◌, refl, ap, sym, ◌∙◌, subst, arith}
-use Rattle.std.proofs.lemmas.Bool.{cases_lt}
+use Rattle.std.proofs.lemmas.Bool.{cases_lt, eq-eqb, ne_eqb}
 use Rattle.std.proofs.lemmas.Nat.{div-add-mod'}
 use Rattle.std.proofs.Math.Nat.{add-div_right, add-mod_right, div-eq_of_lt}
-use Rattle.squeue_rings.proofs.Counting.{differ, same}
 use Rattle.squeue_rings.proofs.Linking.{as_far}
 
 -- less than n numbers on, it is at another place
@@ -30,7 +29,7 @@ module _ (n c q : ℕ) where
             let r = visits_are t (d + 1) small there in
             let f : c + (t + (d + 1)) ≡ c + t + (d + 1) = omega arith in
             let not_yet : ((c + t) % n == q) ≡ false =
-            differ ((c + t) % n) q
+            ne_eqb ((c + t) % n) q
             (λ here. let none = elsewhere n (c + t) (d + 1) small (here ∙ (sym there ∙ ap (λ (k : ℕ). k % n) f)) in absurd (omega (arith, none))) in
             ap (λ (b : Bool). visits t + (if b then 1 else 0)) not_yet ∙ ((let z : visits t + 0 ≡ visits t = omega arith in z) ∙ (r ∙ ap (λ (k : ℕ). k / n) (sym e)))
         | inr le ↦
@@ -39,6 +38,6 @@ module _ (n c q : ℕ) where
             let g : t + 0 ≡ t = omega arith in
             let here : (c + t) % n ≡ q = sym (add-mod_right (c + t) n) ∙ (ap (λ (k : ℕ). k % n) (sym f) ∙ (ap (λ (k : ℕ). (c + k) % n) (sym e) ∙ at)) in
             let r = visits_are t 0 (omega (arith, lt)) (ap (λ (k : ℕ). (c + k) % n) g ∙ here) in
-            ap (λ (b : Bool). visits t + (if b then 1 else 0)) (same ((c + t) % n) q here)
+            ap (λ (b : Bool). visits t + (if b then 1 else 0)) (eq-eqb ((c + t) % n) q here)
             ∙ (ap (λ (k : ℕ). k + 1) (r ∙ ap (λ (k : ℕ). k / n) g) ∙ sym (ap (λ (k : ℕ). k / n) e ∙ add-div_right t (omega (arith, lt))))
       ]

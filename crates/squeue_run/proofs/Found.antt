@@ -5,6 +5,7 @@ use Rattle.std.specs.List.{list_any}
 use Rattle.std.specs.Str.{bytes_eq}
 use Rattle.std.proofs.lemmas.List.{append-nil}
 use Rattle.std.proofs.lemmas.Slice.Eq.{bytes_eq-Decides}
+use Rattle.std.proofs.lemmas.Bool.{not-true}
 use Rattle.clap.specs.Words.{Row}
 use Rattle.clap.specs.Walk.{Rule, has_row, more_values, reading_by, stronger, with_values, without}
 use Rattle.clap.specs.declared.builder.value_parser.Reading.{Reading}
@@ -117,10 +118,6 @@ or_first-none : (o : Option Row) → or_first o None ≡ o
 or_first-none None = refl
 or_first-none (Some r) = refl
 
-not_true : (b : Bool) → not b ≡ true → b ≡ false
-not_true true e = absurd (true≢false (sym e))
-not_true false e = refl
-
 -- two names of which one is an option's and the other isn't
 option_apart : (name other : Text) → is_option name ≡ true → is_option other ≡ false → bytes_eq name other ≡ false
 option_apart name other e f = go (bytes_eq name other) refl
@@ -151,7 +148,7 @@ pub look_option : (name : Text) → is_option name ≡ true → (us : List Use) 
 look_option name known [] rows good = sym (or_first-none (look name rows))
 look_option name known (value n v ∷ us) rows good =
     let may = and_left (permitted (value n v) rows) (fine us (apply (value n v) rows)) good in
-    let none : has_row n rows ≡ false = not_true (has_row n rows) (and_right (is_option n) (not (has_row n rows)) may) in
+    let none : has_row n rows ≡ false = not-true (has_row n rows) (and_right (is_option n) (not (has_row n rows)) may) in
     let added : apply (value n v) rows ≡ rows ++ option_row n v ∷ [] = apply_value n v rows none in
     look_option name known us (apply (value n v) rows) (and_right (permitted (value n v) rows) (fine us (apply (value n v) rows)) good)
     ∙ (ap (λ (l : List Row). or_first (look name l) (value_row name (value_of name us))) added ∙ go (bytes_eq n name) refl none)
@@ -166,7 +163,7 @@ look_option name known (value n v ∷ us) rows good =
     go false e none = ap (λ (o : Option Row). or_first o (value_row name (value_of name us))) (push_other name rows (option_row n v) e)
 look_option name known (flag n ∷ us) rows good =
     let may = and_left (permitted (flag n) rows) (fine us (apply (flag n) rows)) good in
-    let none : has_row n rows ≡ false = not_true (has_row n rows) (and_right (is_flag n) (not (has_row n rows)) may) in
+    let none : has_row n rows ≡ false = not-true (has_row n rows) (and_right (is_flag n) (not (has_row n rows)) may) in
     look_option name known us (apply (flag n) rows) (and_right (permitted (flag n) rows) (fine us (apply (flag n) rows)) good)
     ∙ ap (λ (o : Option Row). or_first o (value_row name (value_of name us)))
     (ap (look name) (apply_flag n rows none) ∙ push_other name rows (flag_row n) (other_apart n name (flag_no_option n (and_left (is_flag n) (not (has_row n rows)) may)) known))
@@ -187,13 +184,13 @@ pub look_flag : (name : Text) → is_flag name ≡ true → (us : List Use) (row
 look_flag name known [] rows good = sym (or_first-none (look name rows))
 look_flag name known (value n v ∷ us) rows good =
     let may = and_left (permitted (value n v) rows) (fine us (apply (value n v) rows)) good in
-    let none : has_row n rows ≡ false = not_true (has_row n rows) (and_right (is_option n) (not (has_row n rows)) may) in
+    let none : has_row n rows ≡ false = not-true (has_row n rows) (and_right (is_option n) (not (has_row n rows)) may) in
     look_flag name known us (apply (value n v) rows) (and_right (permitted (value n v) rows) (fine us (apply (value n v) rows)) good)
     ∙ ap (λ (o : Option Row). or_first o (set_row name (list_any (sets name) us)))
     (ap (look name) (apply_value n v rows none) ∙ push_other name rows (option_row n v) (option_apart n name (and_left (is_option n) (not (has_row n rows)) may) (flag_no_option name known)))
 look_flag name known (flag n ∷ us) rows good =
     let may = and_left (permitted (flag n) rows) (fine us (apply (flag n) rows)) good in
-    let none : has_row n rows ≡ false = not_true (has_row n rows) (and_right (is_flag n) (not (has_row n rows)) may) in
+    let none : has_row n rows ≡ false = not-true (has_row n rows) (and_right (is_flag n) (not (has_row n rows)) may) in
     look_flag name known us (apply (flag n) rows) (and_right (permitted (flag n) rows) (fine us (apply (flag n) rows)) good)
     ∙ (ap (λ (l : List Row). or_first (look name l) (set_row name (list_any (sets name) us))) (apply_flag n rows none) ∙ go (bytes_eq n name) refl none)
   where
@@ -218,13 +215,13 @@ pub values_calls : (us : List Use) (rows : List Row) → fine us rows ≡ true �
 values_calls [] rows good = sym (append-nil (values_at (codes "calls") rows))
 values_calls (value n v ∷ us) rows good =
     let may = and_left (permitted (value n v) rows) (fine us (apply (value n v) rows)) good in
-    let none : has_row n rows ≡ false = not_true (has_row n rows) (and_right (is_option n) (not (has_row n rows)) may) in
+    let none : has_row n rows ≡ false = not-true (has_row n rows) (and_right (is_option n) (not (has_row n rows)) may) in
     values_calls us (apply (value n v) rows) (and_right (permitted (value n v) rows) (fine us (apply (value n v) rows)) good)
     ∙ ap (λ (o : Option Row). unwrap_or (option_map (λ (x : Row). x.values) o) [] ++ calls_in us)
     (ap (look (codes "calls")) (apply_value n v rows none) ∙ push_other (codes "calls") rows (option_row n v) (option_apart n (codes "calls") (and_left (is_option n) (not (has_row n rows)) may) refl))
 values_calls (flag n ∷ us) rows good =
     let may = and_left (permitted (flag n) rows) (fine us (apply (flag n) rows)) good in
-    let none : has_row n rows ≡ false = not_true (has_row n rows) (and_right (is_flag n) (not (has_row n rows)) may) in
+    let none : has_row n rows ≡ false = not-true (has_row n rows) (and_right (is_flag n) (not (has_row n rows)) may) in
     values_calls us (apply (flag n) rows) (and_right (permitted (flag n) rows) (fine us (apply (flag n) rows)) good)
     ∙ ap (λ (o : Option Row). unwrap_or (option_map (λ (x : Row). x.values) o) [] ++ calls_in us)
     (ap (look (codes "calls")) (apply_flag n rows none) ∙ push_other (codes "calls") rows (flag_row n) (apart_calls n (and_left (is_flag n) (not (has_row n rows)) may)))

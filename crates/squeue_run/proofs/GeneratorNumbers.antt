@@ -1,6 +1,6 @@
 -- The numbers of a round's segment, arm by arm.
-use Rattle.std.proofs.Common.{◌≡◌, ℕ, ◌+◌, ◌-◌, ◌%◌, ◌^◌, ◌<◌, ◌≤◌, Bool, true, false, cond, eqb, leb, refl, sym, ap, subst, ◌∙◌, arith}
-use Rattle.std.proofs.lemmas.Bool.{eqb-true, leb-true, le-leb, false_from_ne_true}
+use Rattle.std.proofs.Common.{◌≡◌, ℕ, ◌+◌, ◌-◌, ◌%◌, ◌^◌, ◌≤◌, Bool, true, false, cond, eqb, refl, sym, ap, subst, ◌∙◌, arith}
+use Rattle.std.proofs.lemmas.Bool.{eqb-true, le-leb, false_from_ne_true, lt-leb}
 use Rattle.squeue_run.specs.declared.generator.Client.{Client}
 use Rattle.squeue_run.specs.GeneratedCapture.{Numbers, numbers_at, isn, iss, sent_before, text_len, echoed}
 use Rattle.squeue_run.specs.GeneratorState.{client_at}
@@ -8,9 +8,6 @@ use Rattle.squeue_run.proofs.GeneratorSteps.{all_sent}
 
 other : (a b : ℕ) → (a ≡ b → ⊥) → eqb a b ≡ false
 other a b h = false_from_ne_true (eqb a b) (λ e. h (eqb-true a b e))
-
-above : (a b : ℕ) → b < a → leb a b ≡ false
-above a b h = false_from_ne_true (leb a b) (λ e. let le : a ≤ b = leb-true a b e in omega arith)
 
 -- the rows
 abbrev pub text_row : ℕ → ℕ → ℕ → Numbers
@@ -40,7 +37,7 @@ unfolding numbers_at
 in_last number round c low =
     let e0 = other round 0 (λ e. let no : ⊥ = omega arith in no) in
     let e1 = other round 1 (λ e. let no : ⊥ = omega arith in no) in
-    let e97 = above round 97 (omega arith) in
+    let e97 = lt-leb round 97 (omega arith) in
     let e98 = other round 98 (λ e. let no : ⊥ = omega arith in no) in
     λ i. cond (e0 i) (record { flags = 2; seq = isn number c; ack = 0 }) (cond (e1 i) (record { flags = 16; seq = (isn number c + 1) % 2 ^ 32; ack = (iss number c + 1) % 2 ^ 32 })
     (cond (e97 i) (text_row number round c) (cond (e98 i) (fin_row number c) (last_row number c))))

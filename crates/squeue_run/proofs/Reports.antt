@@ -1,22 +1,21 @@
 -- What was served has whole orders, and without calls only one order is whole.
-use Rattle.std.proofs.Common.{◌≡◌, ◌∙◌, ℕ, ◌<◌, ◌==◌, Bool, true, false, List, [], ◌∷◌, length, map, get_or, slice_get, Some, IfSome, subst, sym, refl, ap, ap₂, zero, suc, arith, eq-eqb}
+use Rattle.std.proofs.Common.{◌≡◌, ◌∙◌, ℕ, ◌<◌, Bool, true, false, List, [], ◌∷◌, length, map, get_or, slice_get, Some, IfSome, subst, sym, refl, ap, ap₂, zero, suc, arith}
 use Rattle.std.specs.Prelude.{if◌then◌else◌}
 use Rattle.std.specs.List.{range_with_len}
-use Rattle.std.proofs.lemmas.Bool.{both_ways}
 use Rattle.std.proofs.lemmas.List.{ext_get_or, length-map, get_or-map}
 use Rattle.std.proofs.lemmas.Option.{slice_get-get_or}
 use Rattle.perimeter_core.specs.declared.entries.Act.{Act}
 use Rattle.perimeter_core.specs.declared.entries.Act.TheVariants as act
 use Rattle.capture_reader.specs.Outcome.{CaptureFile}
-use Rattle.conn_classifier.specs.Plan.{PlanOf, items_in, plan_of}
+use Rattle.conn_classifier.specs.Plan.{PlanOf, plan_of}
 use Rattle.conn_classifier.specs.declared.kinds.Item.{Item}
 use Rattle.conn_blocks.specs.CallLists.{CallLists}
-use Rattle.perimeter_core.specs.Deeds.{feed_numbers}
 use Rattle.perimeter_core.specs.declared.marks.Mark.{Mark}
 use Rattle.squeue_state.specs.Naming.{Ending}
 use Rattle.squeue_state.specs.Told.{Traced, marks_of}
-use Rattle.conn_blocks.specs.Orders.{IsWhole, call_numbers, numbers_on}
+use Rattle.conn_blocks.specs.Orders.{IsWhole, numbers_on}
 use Rattle.conn_blocks.specs.ServeOrder.{BlockOf}
+use Rattle.conn_blocks.proofs.WholeOrders.{is_feeds}
 use Rattle.ring_quotas.specs.declared.setup.Setup.{Setup}
 use Rattle.ring_quotas.specs.Quotas.{marks_most}
 use Rattle.ring_threads.specs.Served.{HasServed, ServedOf, orders_of}
@@ -41,19 +40,6 @@ are_orders p calls bs served whole =
       count = count;
       whole = λ c lt. whole c (get_or (orders_in bs) c []) (slice_get-get_or (orders_in bs) c [] (subst (λ n. c < n) (sym count) lt));
     }
-
-only_feeds : (acts : List Act) → ((j : ℕ) → call_numbers j acts ≡ []) → acts ≡ map act.Feed (feed_numbers acts)
-only_feeds [] h = refl
-only_feeds (act.Feed n ∷ acts) h = ap (λ l. act.Feed n ∷ l) (only_feeds acts h)
-only_feeds (act.Call j k ∷ acts) h = absurd (by (j == j) (eq-eqb j j refl) (h j))
-  where
-    by : (b : Bool) → b ≡ true → (if b then k ∷ call_numbers j acts else call_numbers j acts) ≡ [] → ⊥
-    by true e q = cc
-    by false e q = both_ways false refl e
-
-is_feeds : (p : PlanOf) (calls : CallLists) (c : ℕ) (order : List Act) → ((j : ℕ) → numbers_on calls c j ≡ []) → IsWhole p calls c order
-    → order ≡ map act.Feed (range_with_len 0 (length (items_in p c)))
-is_feeds p calls c order none h = only_feeds order (λ j. h.asked j ∙ none j) ∙ ap (map act.Feed) h.feeds
 
 no_call : (c j : ℕ) → numbers_on (lists_of []) c j ≡ []
 no_call c zero = refl

@@ -198,15 +198,6 @@ all_less P xs ys x e all k d lt =
     let n : length ys ≡ length xs + 1 = ap length e ∙ length-append xs (x ∷ []) in
     subst P (ap (λ l. slice_index_or l k d) e ∙ get_or_append_left xs (x ∷ []) d k lt) (all k d (omega (arith, n, lt)))
 
-pub all_last : {A : Type 0} (P : A → Type 0) (xs ys : List A) (x : A) → ys ≡ xs ++ x ∷ [] → All P ys → P x
-all_last P xs ys x e all =
-    let n : length ys ≡ length xs + 1 = ap length e ∙ length-append xs (x ∷ []) in
-    subst P (ap (λ l. slice_index_or l (length xs) x) e ∙ seam xs x) (all (length xs) x (omega (arith, n)))
-  where
-    seam : {A : Type 0} (xs : List A) (x : A) → slice_index_or (xs ++ x ∷ []) (length xs) x ≡ x
-    seam [] x = refl
-    seam (y ∷ xs) x = seam xs x
-
 -- all passes of a squeue have come back
 module _ {R : Type 0} (limits : R → Limits) (front count : ℕ) (ss : List (Named R)) (s : Named R) (passes : List (Pass Element)) (without having : ℕ → List (Option (Pass Element)))
     (handed : AreHanded front count (length ss) passes without having) (lent : AreLent (MayEnd limits) front count (ss ++ s ∷ []) having) where

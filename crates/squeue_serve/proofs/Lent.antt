@@ -63,13 +63,6 @@ holders_apart front count q p r a b apart = by (p == count) (r == count) refl re
     by false true u v e = let j : p ≢ count = grind (arith, nat_tests) in let k : p ≡ count = omega (arith, e, a) in j k
     by false false u v e = apart (omega (arith, e))
 
-pub holder_below : (front count q p : ℕ) → p ≤ count → holder front count q p ≤ front + count + q
-holder_below front count q p a = by (p == count)
-  where
-    by : (x : Bool) → (if x then front + count + q else front + p) ≤ front + count + q
-    by true = omega arith
-    by false = omega arith
-
 pub get_front : {X : Type 0} (xs ys : List X) (k : ℕ) (x : X) → slice_get xs k ≡ Some x → slice_get (xs ++ ys) k ≡ Some x
 get_front [] ys k x h = cc h
 get_front (y ∷ xs) ys zero x h = h

@@ -11,7 +11,7 @@ use Rattle.squeue_state.specs.Naming.{Named, setting_of}
 use Rattle.squeue_serve.specs.Places.{Holds, Became, AtEach, AtEachTwo, IsNew, MayClose, HasClosed, MayWork, HasWorked, MayEnd}
 use Rattle.squeue_serve.specs.Lending.{WorkersHold}
 
-open_flag : (n p : ℕ) → slice_index_or (replicate n false) p false ≡ false
+pub open_flag : (n p : ℕ) → slice_index_or (replicate n false) p false ≡ false
 open_flag zero p = refl
 open_flag (suc n) zero = refl
 open_flag (suc n) (suc p) = open_flag n p
@@ -57,7 +57,7 @@ module _ {R : Type 0} (limits : R → Limits) (count : ℕ) where
   all_may_end p (s ∷ ss) (o ∷ os) [] lt e h b = absurd b
   all_may_end p (s ∷ ss) (o ∷ os) (n ∷ ns) lt e h b = (closed_may_end s p o n lt e.0 h.0 b.0, all_may_end p ss os ns lt e.1 h.1 b.1)
 
-each_at : {A : Type 0} (P : A → Type 0) (xs : List A) (k : ℕ) (x : A) → Each P xs → slice_get xs k ≡ Some x → P x
+pub each_at : {A : Type 0} (P : A → Type 0) (xs : List A) (k : ℕ) (x : A) → Each P xs → slice_get xs k ≡ Some x → P x
 each_at P [] k x e is = cc is
 each_at P (y ∷ xs) zero x e is = subst P (cc is) e.0
 each_at P (y ∷ xs) (suc k) x e is = each_at P xs k x e.1 is

@@ -15,6 +15,7 @@ use Rattle.squeue_state.specs.declared.inner.Inner.{Inner}
 use Rattle.squeue_state.specs.Naming.{Given, setting_of}
 use Rattle.squeue_state.specs.Behind.{Behind, room_of}
 use Rattle.squeue_state.specs.Elements.{filled, claimed, claimed_ask, asked}
+use Rattle.squeue_state.proofs.Marks.{entries-length}
 
 module _ {R P O : Type 0} (G : Ghosts R P O) where
   pub counts : (g : Given R) (i : Inner R) (H : List Element) (e : Element) → Behind G g i (H ++ e ∷ []) → length H < 2 ^ 63
@@ -31,11 +32,6 @@ flag_more (suc n) = ap (λ xs. false ∷ xs) (flag_more n)
 
 pub one_flag : (n : ℕ) → replicate n false ++ false ∷ [] ≡ replicate (n + 1) false
 one_flag n = flag_more n ∙ ap (λ k. replicate k false) (sym (add-one n))
-
--- a feed is one entry
-entries-length : (fs : List Feed) → length (entries fs) ≡ length fs
-entries-length [] = refl
-entries-length (f ∷ fs) = ap (λ (n : ℕ). suc n) (entries-length fs)
 
 module _ {R P O : Type 0} (G : Ghosts R P O) where
   -- what is filled fits beside what is queued

@@ -1,8 +1,9 @@
 -- What a squeue takes when it is made.
-use Rattle.std.proofs.Common.{◌≡◌, ◌+◌, ◌<◌, ◌≤◌, ◌⊎◌, inl, inr, ℕ, zero, suc, Bool, false, Option, Some, None, List, [], ◌∷◌, ◌++◌, length, take, get_or, ap, ◌∙◌, refl, arith}
+use Rattle.std.proofs.Common.{◌≡◌, ◌+◌, ◌<◌, ◌≤◌, inl, inr, ℕ, zero, suc, Bool, false, Option, Some, None, List, [], ◌∷◌, ◌++◌, length, take, get_or, ap, ◌∙◌, refl, arith}
 use Rattle.std.specs.Prelude.{is_some}
 use Rattle.std.proofs.lemmas.List.{take_more, take_all}
 use Rattle.std.proofs.Math.ListN.{get_or-eq_default}
+use Rattle.std.proofs.lemmas.Bool.{cases_lt}
 use Rattle.perimeter_core.specs.declared.entries.Act.{Act}
 use Rattle.perimeter_core.specs.History.{all_quotas, feed_quotas}
 use Rattle.perimeter_core.specs.Blocks.{Blocks}
@@ -43,11 +44,6 @@ asks_part (q ∷ qs) (suc i) = omega (arith, asks_part qs i)
 pub pairs_all : (qs : List Quota) (i : ℕ) → length qs ≤ i → pairs (take i qs) ≡ pairs qs
 pairs_all qs i h = ap pairs (take_all i qs h)
 
-below_or : (c n : ℕ) → (c < n) ⊎ (n ≤ c)
-below_or c zero = inr (omega arith)
-below_or zero (suc n) = inl (omega arith)
-below_or (suc c) (suc n) = elim (below_or c n) [ inl h ↦ inl (omega (arith, h)) | inr h ↦ inr (omega (arith, h)) ]
-
 none_above : (b : Option (List Act)) (c n : ℕ) → ((had : List Act) → b ≡ Some had → c < n) → n ≤ c → false ≡ is_some b
 none_above None c n small above = refl
 none_above (Some had) c n small above = let lt = small had refl in absurd (omega (arith, lt, above))
@@ -57,7 +53,7 @@ pub all_flags : {R : Type 0} (stands : R → Blocks → Type 0) (size : R → �
     → length xs ≡ n → size r ≤ n → ((blocks : Blocks) (c : ℕ) → stands r blocks → c < n → get_or xs c false ≡ is_some (blocks c))
     → (blocks : Blocks) (c : ℕ) → stands r blocks → get_or xs c false ≡ is_some (blocks c)
 all_flags stands size in_range r xs n count all each blocks c s =
-    elim (below_or c n) [
+    elim (cases_lt c n) [
       | inl h ↦ each blocks c s h
       | inr h ↦ get_or-eq_default xs false (omega (arith, count, h)) ∙ none_above (blocks c) c n (λ had is. let lt = in_range r blocks c had s is in omega (arith, lt, all)) h
     ]

@@ -178,9 +178,6 @@ empty_more n k (Some v) t is le h = rw is (h.0, omega (arith, le, h.1))
 pub empty_free : {A : Type 0} (room : ℕ) (o : Own) (s : Option (Vec Entry A)) → Spare room o s → o ≡ Free → HasEmpty room s
 empty_free room o s sp free = rw free at sp
 
-pub spare_free : {A : Type 0} (room : ℕ) (o : Own) (s : Option (Vec Entry A)) (v : Vec Entry A) → Spare room o s → o ≡ Free → s ≡ Some v → (v.items ≡ []) × (room ≡ vec_capacity v)
-spare_free room o s v sp free is = rw (free, is) at sp
-
 pub spare_granted : {A : Type 0} (room : ℕ) (o : Own) (p : ℕ) (s : Option (Vec Entry A)) (v : Vec Entry A) → Spare room o s → o ≡ Granted p → s ≡ Some v → (v.items ≡ []) × (room ≡ vec_capacity v)
 spare_granted room o p s v sp granted is = rw (granted, is) at sp
 

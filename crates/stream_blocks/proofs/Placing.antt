@@ -11,8 +11,9 @@ use Rattle.perimeter_core.specs.declared.marks.SynchAct.TheVariants as Done
 use Rattle.perimeter_core.specs.Blocks.{Blocks, longer, with_feeds, with_act}
 use Rattle.perimeter_core.specs.Residing.{HadFeeds, Here}
 use Rattle.perimeter_core.specs.Backlog.{up}
-use Rattle.perimeter_core.proofs.FeedLists.{length-up, up-append}
-use Rattle.perimeter_core.proofs.LogSteps.{got, get_same, get_other, fed_is, some_longer, feed_numbers-append}
+use Rattle.perimeter_core.proofs.FeedLists.{length-up}
+use Rattle.perimeter_core.proofs.LogSteps.{got, get_same, get_other, fed_is, some_longer, feed_numbers-append, up_next}
+use Rattle.perimeter_core.proofs.FeedActs.{longer_none}
 use Rattle.stream_plan.specs.Sound.{IsMorePlan, IsStream}
 use Rattle.stream_plan.specs.Streams.{MorePlanOf, StreamOf, item_count}
 use Rattle.stream_plan.proofs.PlanFacts.{one_of_all}
@@ -23,13 +24,6 @@ use Rattle.stream_blocks.proofs.OneMore.{nothing_served}
 -- a block has had as many feeds as its acts have
 pub had_is : (k : StreamBlock) (had : List Act) → HasHad k had → fed had ≡ k.had
 had_is k had h = fed_is had ∙ (ap length h ∙ length-up 0 k.had)
-
-longer_none : (o : Option (List Act)) → longer [] o ≡ o
-longer_none None = refl
-longer_none (Some x) = ap Some (append-nil x)
-
-up_next : (n : ℕ) → up 0 n ++ n ∷ [] ≡ up 0 (n + 1)
-up_next n = let z : 0 + n ≡ n = omega arith in (rw z at (up-append 0 n 1))
 
 module _ (p : MorePlanOf) where
   -- one place is changed

@@ -1,6 +1,5 @@
 -- An owner at its Ask that does its one act.
-use Rattle.std.proofs.Common.{◌≡◌, ℕ, ◌<◌, ◌%◌, ◌⊎◌, Bool, true, false, if◌then◌else◌, zero, suc, Some, None, is_some, List, [], ◌∷◌, ◌++◌, length, refl, ap, sym, ◌∙◌, subst, arith}
-use Rattle.std.specs.Prelude.{slice_index_or}
+use Rattle.std.proofs.Common.{◌≡◌, ℕ, ◌<◌, ◌%◌, ◌⊎◌, Bool, true, false, if◌then◌else◌, Some, None, is_some, List, [], ◌∷◌, ◌++◌, length, refl, ap, sym, ◌∙◌, subst}
 use Rattle.turn_gate.specs.Passes.{number, seen}
 use Rattle.turn_gate.specs.declared.pass.Pass.{Pass}
 use Rattle.perimeter_core.specs.declared.resident.Resident.{Ghosts}
@@ -23,11 +22,7 @@ use Rattle.squeue_state.specs.Naming.{Named, setting_of}
 use Rattle.squeue_drain.specs.declared.owner.Owner.{Owner}
 use Rattle.squeue_drain.specs.Owning.{state_of, processed_by}
 use Rattle.synch_enter.specs.Synch.{StandsAtItsAsk, IsWay, CameFor, acts_at}
-
-here_below : (xs : List Bool) (c : ℕ) → slice_index_or xs c false ≡ true → c < length xs
-here_below [] c h = absurd cc
-here_below (x ∷ xs) zero h = omega arith
-here_below (x ∷ xs) (suc c) h = omega (arith, here_below xs c h)
+use Rattle.squeue_enter.proofs.Carrying.{here_below}
 
 -- a connection that is here is one that there is
 pub here_in_range : (S : Setting) (H : List Element) (c : ℕ) → is_here (run S H) c ≡ true → c < length S.starts

@@ -1,12 +1,12 @@
 -- A pass that asks, or claims with its Ask.
-use Rattle.std.proofs.Common.{◌≡◌, ◌≢◌, ℕ, ◌+◌, ◌<◌, Bool, true, false, if◌then◌else◌, ◌==◌, inr, List, [], ◌∷◌, ◌++◌, length, refl, ap, sym, ◌∙◌, subst, append_assoc, arith}
+use Rattle.std.proofs.Common.{◌≡◌, ◌≢◌, ℕ, ◌<◌, Bool, true, false, ◌==◌, inr, List, [], ◌∷◌, ◌++◌, length, refl, ap, sym, ◌∙◌, subst, append_assoc, arith}
 use Rattle.std.proofs.lemmas.Bool.Decides.{nat_tests}
 use Rattle.turn_gate.specs.History.{Begins}
 use Rattle.turn_gate.specs.Passes.{IsPassOf, number, seen, mine}
 use Rattle.turn_gate.specs.declared.pass.Pass.{Pass}
 use Rattle.perimeter_core.specs.declared.entries.Entry.TheVariants as Entry'
 use Rattle.perimeter_core.specs.declared.marks.Own.{Own}
-use Rattle.perimeter_core.specs.declared.marks.Own.TheVariants.{Free, Out, Granted}
+use Rattle.perimeter_core.specs.declared.marks.Own.TheVariants.{Free}
 use Rattle.perimeter_core.specs.Perimeter.{State, Idle, is_closed, is_free, is_here}
 use Rattle.perimeter_core.specs.History.{Element, Setting, Limits, start, ask_quota, pass_of, run, made_by}
 use Rattle.perimeter_core.specs.Deeds.{entries_of}
@@ -20,13 +20,7 @@ use Rattle.squeue_state.specs.Words.{Found, Marked, Unmarked}
 use Rattle.squeue_drain.proofs.Turning.{others}
 use Rattle.squeue_drain.proofs.Deciding.{begins_trans, same_state}
 use Rattle.synch_enter.specs.Synch.{MayAsk, MayAskAt, Came, CameFor, CameBehind, IsWay, NotFound}
-
-pub by_append : (p : ℕ) (H K : List Element) → (feeds_by p (H ++ K) ≡ feeds_by p H + feeds_by p K) × (asks_by p (H ++ K) ≡ asks_by p H + asks_by p K)
-by_append p [] K = (omega arith, omega arith)
-by_append p (e ∷ H) K = let r = by_append p H K in (omega (arith, r.0), omega (arith, r.1))
-
-own_count : (k x : ℕ) → (if k == k then x else 0) + 0 ≡ x
-own_count k x = let e : (k == k) ≡ true = grind (arith, nat_tests) in rw e (omega arith)
+use Rattle.squeue_enter.proofs.Carrying.{own_count, by_append}
 
 none_by : (p : ℕ) (K : List Element) → made_by p K ≡ [] → asks_by p K ≡ 0
 none_by p [] none = refl
@@ -43,11 +37,6 @@ quota_asks S p H e l is one room =
     let f : feeds_by p (e ∷ []) ≡ 0 = subst (λ (k : ℕ). feeds_by k (e ∷ []) ≡ feed_count (entries_of e.mark)) is (own_count (pass_of e.mark) (feed_count (entries_of e.mark))) ∙ ap feed_count one in
     let a : asks_by p (e ∷ []) ≡ 1 = subst (λ (k : ℕ). asks_by k (e ∷ []) ≡ ask_count (entries_of e.mark)) is (own_count (pass_of e.mark) (ask_count (entries_of e.mark))) ∙ ap ask_count one in
     record { feeds = omega (arith, more.0, f, w.feeds); asks = omega (arith, more.1, a, room) }
-
-pub is_free_of : (own : Own) → is_free own ≡ true → own ≡ Free
-is_free_of Free h = refl
-is_free_of (Out p) h = absurd (cc h)
-is_free_of (Granted p) h = absurd (cc h)
 
 pub not_free_of : (own : Own) → is_free own ≡ false → own ≢ Free
 not_free_of own h e = absurd (cc (h, ap is_free e))

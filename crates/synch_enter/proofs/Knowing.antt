@@ -1,11 +1,11 @@
 -- What a ring knew of its connection before it came to a perimeter still holds there.
-use Rattle.std.proofs.Common.{◌≡◌, ℕ, ◌+◌, ◌%◌, ◌<◌, Bool, true, false, if◌then◌else◌, inl, inr, List, [], ◌∷◌, ◌++◌, length, refl, ap, sym, ◌∙◌, subst, arith}
+use Rattle.std.proofs.Common.{◌≡◌, ℕ, ◌%◌, ◌<◌, Bool, true, false, inl, inr, List, [], ◌∷◌, ◌++◌, length, refl, ap, sym, ◌∙◌, subst, arith}
 use Rattle.turn_gate.specs.Passes.{IsPassOf, number, seen, mine}
 use Rattle.turn_gate.specs.declared.pass.Pass.{Pass}
 use Rattle.perimeter_core.specs.declared.resident.Resident.{Ghosts}
 use Rattle.perimeter_core.specs.Perimeter.{is_free, is_here}
 use Rattle.perimeter_core.specs.History.{Element, Setting, Limits, start, run, made_by}
-use Rattle.perimeter_core.specs.Deeds.{puts_in, takes_out, times_left}
+use Rattle.perimeter_core.specs.Deeds.{times_left}
 use Rattle.perimeter_core.specs.Legal.{Legal}
 use Rattle.perimeter_core.specs.Knowledge.{here_by}
 use Rattle.perimeter_core.proofs.OneMore.{legal_front}
@@ -21,14 +21,7 @@ use Rattle.perimeter_core.specs.declared.marks.SynchAct.TheVariants as Done
 use Rattle.perimeter_core.specs.Blocks.{Blocks}
 use Rattle.std.specs.Prelude.{slice_index}
 use Rattle.synch_enter.specs.Synch.{MayAsk, Came, IsWay, StandsAtItsAsk, MayTake, MayPut, acts_at}
-
-pub here_append : (c : ℕ) (b : Bool) (M N : List Element) → here_by c b (M ++ N) ≡ here_by c (here_by c b M) N
-here_append c b [] N = refl
-here_append c b (e ∷ M) N = here_append c (if puts_in c e.mark then true else if takes_out c e.mark then false else b) M N
-
-pub left_append : (c : ℕ) (M N : List Element) → times_left c (M ++ N) ≡ times_left c M + times_left c N
-left_append c [] N = omega arith
-left_append c (e ∷ M) N = omega (arith, left_append c M N)
+use Rattle.squeue_enter.proofs.Bringing.{left_append, here_append}
 
 -- what a pass makes to come neither puts in nor takes out
 coming : (c : ℕ) (b f : Bool) (p : ℕ) (ask : Element) (marks : List Element) → IsWay f p ask marks → (here_by c b (ask ∷ marks) ≡ b) × (times_left c (ask ∷ marks) ≡ 0)

@@ -2,7 +2,7 @@
 use Rattle.std.proofs.Common.{◌≡◌, ℕ, ◌+◌, ◌-◌, ◌<◌, ◌≤◌, List, [], ◌∷◌, length, take, drop, min, refl, sym, ap, ◌∙◌, arith, cond, false, Bool, eqb, subst, length-drop}
 use Rattle.std.specs.Prelude.{suc, zero}
 use Rattle.std.proofs.lemmas.Bool.Decides.{nat_tests}
-use Rattle.std.proofs.lemmas.List.{drop-drop, drop-take, length-take-le}
+use Rattle.std.proofs.lemmas.List.{drop-drop, drop-take, length-take-le, drop_all}
 use Rattle.sq_base.specs.SerialOrder.{dist}
 use Rattle.tcb_machine.specs.BlockState.{Block, unsent, psh, ack, snd_nxt}
 use Rattle.tcb_machine.specs.States.{is_listen}
@@ -43,12 +43,6 @@ take-take-le (suc m) zero xs h = absurd (omega (arith, h))
 take-take-le (suc m) (suc n) [] h = refl
 take-take-le (suc m) (suc n) (x ∷ xs) h = ap (λ (ys : List ℕ). x ∷ ys) (take-take-le m n xs (omega (arith, h)))
 
-drop-all : (n : ℕ) (xs : List ℕ) → length xs ≤ n → drop n xs ≡ []
-drop-all zero [] h = refl
-drop-all zero (x ∷ xs) h = absurd (omega (arith, h))
-drop-all (suc n) [] h = refl
-drop-all (suc n) (x ∷ xs) h = drop-all n xs (omega (arith, h))
-
 pieces-none : (k n : ℕ) → pieces k n [] ≡ []
 pieces-none zero n = refl
 pieces-none (suc k) n = refl
@@ -84,7 +78,7 @@ pub text-last : (left m : ℕ) (b : Block) → 0 < left → left ≤ m → left 
 text-last left m b some few within =
     let t = take left (unsent b) in
     let long : length t ≡ left = length-take-le left (unsent b) within in
-    let none : drop m t ≡ [] = drop-all m t (omega (arith, long, few)) in
+    let none : drop m t ≡ [] = drop_all m t (omega (arith, long, few)) in
     let all : take m t ≡ t = take-all m t (omega (arith, long, few)) in
     let first : pieces left m t ≡ take m t ∷ pieces (length t - m) m (drop m t) = pieces-first left m t (omega (arith, long, some)) (omega (arith, long)) (omega (arith, some, few)) in
     ap (λ (ps : List (List ℕ)). sends_pieces ps b) first

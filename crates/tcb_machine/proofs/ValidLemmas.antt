@@ -1,13 +1,14 @@
 -- Every step takes a valid block to a valid one. Beside it: where the block isn't in LISTEN then, no byte was taken, and what was acknowledged was offered.
 use Rattle.std.proofs.Common.{◌⊎◌, inl, inr, ◌≡◌, ℕ, ◌+◌, ◌-◌, ◌^◌, ◌<◌, ◌≤◌, List, [], ◌∷◌, ◌++◌, Option, None, Some, Bool, true, false, cond, not, ◌==◌, ◌&&◌, ◌||◌, length, drop, take, min, max, refl, sym, ap, ◌∙◌, subst, arith, length-drop, length-take}
 use Rattle.std.specs.Prelude.{suc, zero, All, nat_lt, nat_le}
-use Rattle.std.proofs.lemmas.Bool.{false≢true, leb-true}
+use Rattle.std.proofs.lemmas.Bool.{false≢true, leb-true, and_parts}
 use Rattle.std.proofs.lemmas.Option.{none-some}
 use Rattle.std.proofs.lemmas.List.{drop-drop}
 use Rattle.std.proofs.lemmas.List.Elements.{All-append, All-cons}
 use Rattle.segment_codec.specs.declared.packet.Seg.{Seg}
 use Rattle.segment_codec.specs.declared.packet.Reply.{Reply}
-use Rattle.byte_queues.specs.ReceiveQueue.{Recv, empty_recv, front, up_to, next_of, placed, with_end, with_cap, is_ended}
+use Rattle.byte_queues.specs.ReceiveQueue.{Recv, empty_recv, front, next_of, placed, with_end, with_cap, is_ended}
+use Rattle.byte_queues.proofs.QueueLemmas.{up-to-le}
 use Rattle.sq_base.specs.SerialOrder.{dist}
 use Rattle.tcb_machine.specs.States.{is_listen}
 use Rattle.tcb_machine.specs.BlockState.{Block, IsOurs, OurOptions, fin, syn, rst, ack, rst_of, syn_ack_of, segment_of, to_listen, new_block, has, in_flight, rcv_nxt, snd_nxt, snd_end, unsent, sends_ack, sends, listening, offered}
@@ -53,7 +54,7 @@ pub data Moved (b c : Block) : Type 0 where
   moves : Moves b c → Moved b c
   as_new : is_listen c.state ≡ true → IsValid c → Moved b c
 
-not-listen : (st : State) (b : Block) → is_listen st ≡ false → is_listen st ≡ true → b ≡ to_listen b
+pub not-listen : (st : State) (b : Block) → is_listen st ≡ false → is_listen st ≡ true → b ≡ to_listen b
 not-listen st b e f = absurd (false≢true (sym e ∙ f))
 
 pub moves-valid : (b c : Block) → Moves b c → IsValid c
@@ -140,10 +141,6 @@ says-if : (t : Bool) (b : Block) (v w : Verdict) → (t ≡ true → Says b v) �
 says-if true b v w p q = p refl
 says-if false b v w p q = q
 
-both-left : (x y : Bool) → (x && y) ≡ true → x ≡ true
-both-left true y e = refl
-both-left false y e = absurd (false≢true e)
-
 says-then : (b : Block) (v : Verdict) (f : Block → Verdict) → Says b v → ((c : Block) → Moves b c → Says b (f c)) → Says b (and_then v f)
 says-then b (over c) f h g = h
 says-then b (go c) f h g = h
@@ -158,11 +155,11 @@ sends-new r b e = ap (sends r) e
 sends-valid : (r : Reply) (b : Block) → IsOurs r → IsValid b → IsValid (sends r b)
 sends-valid r b o v = record { recv = v.recv; send = v.send; mss = v.mss; timed = v.timed; ours = ours-more b.replies r v.ours o; new = λ e. sends-new r b (v.new e) }
 
-new-taken : (b : Block) → b ≡ to_listen b → b.recv.taken ≡ 0
+pub new-taken : (b : Block) → b ≡ to_listen b → b.recv.taken ≡ 0
 unfolding to_listen
 new-taken b e = ap (λ (x : Block). x.recv.taken) e
 
-new-acked : (b : Block) → b ≡ to_listen b → b.acked ≡ 0
+pub new-acked : (b : Block) → b ≡ to_listen b → b.acked ≡ 0
 unfolding to_listen
 new-acked b e = ap (λ (x : Block). x.acked) e
 
@@ -214,7 +211,7 @@ refuses : (s : Seg) (b c : Block) → Moves b c → Says b (refused s c)
 unfolding refused
 refuses s b c m =
     says-cond (has s.flags rst) b (over c) _ (moves m)
-    (says-if (is_time_wait c.state && has s.flags fin) b (over (waits (sends_ack c))) (over (sends_ack c)) (λ e. moves (later (sends_ack c) (both-left (is_time_wait c.state) (has s.flags fin) e) (sent-moves (segment_of ack (snd_nxt c) [] c) b c (ack-ours c) m))) (acks b c m))
+    (says-if (is_time_wait c.state && has s.flags fin) b (over (waits (sends_ack c))) (over (sends_ack c)) (λ e. moves (later (sends_ack c) (and_parts (is_time_wait c.state) (has s.flags fin) e).0 (sent-moves (segment_of ack (snd_nxt c) [] c) b c (ack-ours c) m))) (acks b c m))
   where
     later : (d : Block) → is_time_wait d.state ≡ true → Moves b d → Moves b (waits d)
     later d e n = let k = n.keeps in record { opened = n.opened; keeps = record { recv = k.recv; send = k.send; mss = k.mss; ours = k.ours; taken = k.taken; from = k.from; offered = k.offered; out = k.out; wanted = k.wanted; timed = record { elsewhere = λ f. absurd (false≢true (sym f ∙ e)); there = k.timed.there } } }
@@ -355,15 +352,11 @@ closing b c m = says-cond (is_ended c.recv) b (go (consumes c.state (record c { 
 receives : (b c : Block) (q : Recv) → Moves b c → IsReceiving c.want q → q.taken ≡ c.recv.taken → Moves b (record c { recv = q; ack_due = true })
 receives b c q m r e = let k = m.keeps in record { opened = m.opened; keeps = record { recv = r; send = k.send; mss = k.mss; ours = k.ours; taken = e ∙ k.taken; from = k.from; offered = k.offered; out = k.out; wanted = k.wanted; timed = k.timed } }
 
-up-to-most : (e : Option ℕ) (n : ℕ) → up_to e n ≤ n
-up-to-most None n = omega arith
-up-to-most (Some k) n = omega arith
-
 end-receiving : (want f : ℕ) (q : Recv) → IsReceiving want q → next_of q ≤ f → IsReceiving want (with_end f q)
 unfolding with_end next_of
 end-receiving want f q r h =
     let a = r.read in
-    let u = up-to-most q.stream_end (q.taken + front q.got) in
+    let u = up-to-le q.stream_end (q.taken + front q.got) in
     record { asked = r.asked; cap = r.cap; space = r.space; below = r.below; read = omega (arith, a, h, u) }
 
 third : (a b c : Bool) → (a && (b && c)) ≡ true → c ≡ true
@@ -379,7 +372,7 @@ end-kept want f q r = chosen (is_end_kept f q) refl
     chosen true e = end-receiving want f q r (leb-true (next_of q) f (third (is_none q.stream_end) (nat_lt f q.edge) (nat_le (next_of q) f) e))
     chosen false e = r
 
-end-taken : (f : ℕ) (q : Recv) → (keeps_end f q).taken ≡ q.taken
+pub end-taken : (f : ℕ) (q : Recv) → (keeps_end f q).taken ≡ q.taken
 unfolding keeps_end with_end
 end-taken f q = chosen (is_end_kept f q)
   where

@@ -1,9 +1,10 @@
 -- A form in whose blanks numbers are read one after another.
-use Rattle.std.proofs.Common.{arith, ◌≡◌, ◌≢◌, ℕ, ◌+◌, ◌^◌, ◌<◌, Bool, true, false, not, ◌&&◌, ◌||◌, List, [], ◌∷◌, ◌++◌, length, get_or, drop, take, set, refl, subst, ◌∙◌, sym, ap, ap₂, append_assoc, add-one, drop-cons}
+use Rattle.std.proofs.Common.{arith, ◌≡◌, ◌≢◌, ℕ, ◌+◌, ◌^◌, ◌<◌, Bool, true, false, not, ◌||◌, List, [], ◌∷◌, ◌++◌, length, get_or, drop, take, set, refl, subst, ◌∙◌, sym, ap, ap₂, append_assoc, add-one, drop-cons}
 use Rattle.std.specs.Char.{is_ascii_digit}
 use Rattle.std.specs.Fmt.{decimal}
 use Rattle.std.proofs.lemmas.Grind.{common_steps}
 use Rattle.std.proofs.lemmas.List.{append-nil, take_more_set}
+use Rattle.std.proofs.lemmas.Bool.{and_parts, not-true}
 use Rattle.trace_lines.specs.Fields.{BeginsWithNumber, ends_number}
 use Rattle.trace_lines.specs.Forms.{is_blank, filled, blank_count, AreSmall, ends_blank, is_form}
 use Rattle.trace_lines.proofs.Numbers.{same_numbers, same_rest, tail_same}
@@ -21,31 +22,23 @@ count_blank b form is = rw is refl
 count_byte : (b : ℕ) (form : List ℕ) → is_blank b ≡ false → blank_count (b ∷ form) ≡ blank_count form
 count_byte b form is = rw is (omega arith)
 
-pub both : (x y : Bool) → (x && y) ≡ true → (x ≡ true) × (y ≡ true)
-both true y h = (refl, h)
-both false y h = cc
-
-pub negated : (x : Bool) → not x ≡ true → x ≡ false
-negated true h = cc
-negated false h = refl
-
 -- the rest of a form is one
 pub rest_of_form : (b : ℕ) (form : List ℕ) → is_form (b ∷ form) ≡ true → is_form form ≡ true
-rest_of_form b form h = (both _ _ h).1
+rest_of_form b form h = (and_parts _ _ h).1
 
 behind_blank : (x y : Bool) → (not x || y) ≡ true → x ≡ true → y ≡ true
 behind_blank true y h is = h
 behind_blank false y h is = cc
 
 pub ends_behind : (b : ℕ) (form : List ℕ) → is_form (b ∷ form) ≡ true → is_blank b ≡ true → ends_blank form ≡ true
-ends_behind b form h is = behind_blank _ _ (both _ _ h).0 is
+ends_behind b form h is = behind_blank _ _ (and_parts _ _ h).0 is
 
 -- a number ends where such a form stands behind it
 pub ends_filled : (form ns t : List ℕ) → ends_blank form ≡ true → ends_number (filled form ns ++ t) ≡ true
 ends_filled [] ns t h = cc
 ends_filled (b ∷ form) ns t h =
-    let parts = both (not (is_ascii_digit b)) (not (is_blank b)) h in
-    let byte : filled (b ∷ form) ns ≡ b ∷ filled form ns = filled_byte b form ns (negated (is_blank b) parts.1) in
+    let parts = and_parts (not (is_ascii_digit b)) (not (is_blank b)) h in
+    let byte : filled (b ∷ form) ns ≡ b ∷ filled form ns = filled_byte b form ns (not-true (is_blank b) parts.1) in
     subst (λ l. ends_number (l ++ t) ≡ true) (sym byte) parts.0
 
 -- a form whose first blank has a number

@@ -28,12 +28,11 @@ use Rattle.conn_blocks.specs.CallLists.{CallLists}
 use Rattle.conn_blocks.specs.Orders.{settle}
 use Rattle.squeue_enter.specs.declared.Mode.{Mode}
 use Rattle.squeue_rings.specs.Keeping.{KeepsFrom, KeepsPace, taken}
-use Rattle.squeue_rings.proofs.Linking.{front_of}
 use Rattle.ring_quotas.specs.declared.setup.Setup.{Setup}
 use Rattle.squeue_report.specs.ReportText.{body_text, done_line, line}
 use Rattle.squeue_report.specs.TraceText.{calls_text, setup_line, squeue_text, trace_text}
 use Rattle.trace_lines.specs.Printed.{Told, told_text}
-use Rattle.squeue_serve.proofs.Lent.{some_at}
+use Rattle.squeue_serve.proofs.Lent.{some_at, get_front}
 use Rattle.squeue_run.proofs.Complete.{same_file}
 use Rattle.trace_replay.specs.Lines.{HasFirstLine}
 use Rattle.trace_replay.specs.declared.reason.Reason.{Reason}
@@ -188,7 +187,7 @@ fit_front setup q e A B split fit = record {
       (subst (λ (H : List Element). KeepsPace setup.squeues setup.spread setup.mode setup.budget q e.setting r H) (sym split) (fit.pace r lt));
   takes = λ r lt n m at is.
       let within = slice_get_within A n m at in
-      let there : slice_get e.history n ≡ Some m = ap (λ (H : List Element). slice_get H n) (sym split) ∙ front_of A B n m at in
+      let there : slice_get e.history n ≡ Some m = ap (λ (H : List Element). slice_get H n) (sym split) ∙ get_front A B n m at in
       let before : take n e.history ≡ take n A = ap (take n) (sym split) ∙ take-append-le n A B (omega (arith, within)) in
       let with_it : take (n + 1) e.history ≡ take (n + 1) A = ap (take (n + 1)) (sym split) ∙ take-append-le (n + 1) A B (omega (arith, within)) in
       subst (λ (H : List Element). IfSome (taken e.setting r H) (λ had. feed_count (done e.setting (take (n + 1) A)) ≤ had + setup.budget)) before

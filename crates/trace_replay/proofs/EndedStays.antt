@@ -1,38 +1,17 @@
 -- In a legal history as many stays of a connection have ended as it has Outs.
-use Rattle.std.proofs.Common.{◌≡◌, ℕ, ◌+◌, Bool, true, false, if◌then◌else◌, Option, Some, None, is_some, List, [], ◌∷◌, ◌++◌, length, refl, ap, sym, ◌∙◌, arith}
+use Rattle.std.proofs.Common.{◌≡◌, ℕ, ◌+◌, Bool, true, false, if◌then◌else◌, Option, Some, None, is_some, List, [], ◌∷◌, ◌++◌, length, refl, sym, ◌∙◌, arith}
 use Rattle.std.proofs.lemmas.List.{length-append}
-use Rattle.std.proofs.lemmas.Bool.Decides.{nat_tests}
 use Rattle.perimeter_core.specs.declared.entries.Act.{Act}
-use Rattle.perimeter_core.specs.declared.marks.SynchAct.TheVariants as Done
-use Rattle.perimeter_core.specs.declared.marks.Mark.{Mark}
-use Rattle.perimeter_core.specs.declared.marks.Mark.TheVariants as On
 use Rattle.perimeter_core.specs.Perimeter.{State, is_here}
 use Rattle.perimeter_core.specs.History.{Element, Setting, start, run}
 use Rattle.perimeter_core.specs.Deeds.{acts, acts_after, reported, puts_in, takes_out, times_left}
-use Rattle.perimeter_core.specs.Legal.{Legal, ActsFit}
+use Rattle.perimeter_core.specs.Legal.{Legal}
 use Rattle.perimeter_core.proofs.OneMore.{legal_ind}
 use Rattle.perimeter_core.proofs.FeedOrder.{puts_away}
 use Rattle.perimeter_core.proofs.LeavesFew.{left_push}
 use Rattle.conn_migrate.specs.Stays.{Stay, Stays, as_list, all_in, begun, longer_by, stays}
 use Rattle.conn_migrate.proofs.OneSqueue.{stays_push, fits}
-
--- a block that is taken out is here, and isn't put in at once
-out_is_here : (S : Setting) (H : List Element) (s : State) (c : ℕ) (m : Mark) → ActsFit S H s m → takes_out c m ≡ true → (is_here s c ≡ true) × (puts_in c m ≡ false)
-out_is_here S H s c (On.Leave p rest (Done.Out d)) fits is =
-    let same : d ≡ c = grind (arith, nat_tests, is) in (ap (λ (k : ℕ). is_here s k) (sym same) ∙ fits.1, refl)
-out_is_here S H s c (On.Leave p rest Done.None) fits is = absurd (let no : false ≡ true = is in let bad : ⊥ = cc in bad)
-out_is_here S H s c (On.Leave p rest (Done.Call d j k)) fits is = absurd (let no : false ≡ true = is in let bad : ⊥ = cc in bad)
-out_is_here S H s c (On.Leave p rest Done.Away) fits is = absurd (let no : false ≡ true = is in let bad : ⊥ = cc in bad)
-out_is_here S H s c (On.Leave p rest (Done.In d)) fits is = absurd (let no : false ≡ true = is in let bad : ⊥ = cc in bad)
-out_is_here S H s c (On.Fill p es) fits is = absurd (let no : false ≡ true = is in let bad : ⊥ = cc in bad)
-out_is_here S H s c (On.Fast p e) fits is = absurd (let no : false ≡ true = is in let bad : ⊥ = cc in bad)
-out_is_here S H s c (On.Claim p es) fits is = absurd (let no : false ≡ true = is in let bad : ⊥ = cc in bad)
-out_is_here S H s c (On.Take p) fits is = absurd (let no : false ≡ true = is in let bad : ⊥ = cc in bad)
-out_is_here S H s c (On.Ask p) fits is = absurd (let no : false ≡ true = is in let bad : ⊥ = cc in bad)
-out_is_here S H s c (On.Grant p j rest) fits is = absurd (let no : false ≡ true = is in let bad : ⊥ = cc in bad)
-out_is_here S H s c (On.Accept j) fits is = absurd (let no : false ≡ true = is in let bad : ⊥ = cc in bad)
-out_is_here S H s c (On.Work p) fits is = absurd (let no : false ≡ true = is in let bad : ⊥ = cc in bad)
-out_is_here S H s c (On.Close p) fits is = absurd (let no : false ≡ true = is in let bad : ⊥ = cc in bad)
+use Rattle.squeue_rings.proofs.StaysSeen.{takes_here}
 
 one_longer : (vs : List Stay) (more had : List Act) (o : Option Stay) → is_some o ≡ true → length (vs ++ as_list (longer_by more had o)) ≡ length vs + 1
 one_longer vs more had None h = absurd (let no : false ≡ true = h in let bad : ⊥ = cc in bad)
@@ -64,5 +43,5 @@ ended_count S H c l =
     rw (left_push c G e, stays_push c (start S) [] record { ended = []; now = if is_here (start S) c then Some (begun []) else None } G e)
     (counted (puts_in c e.mark) (takes_out c e.mark) (reported c s e.mark) (acts_after c s (acts S G c) e) e.note (stays S G c) (times_left c G) i
     (λ comes. sym here ∙ (puts_away S G s e.mark c m.act comes).0)
-    (λ leaves. let out = out_is_here S G s c e.mark m.act leaves in (sym here ∙ out.0, out.1))))
+    (λ leaves. let out = takes_here S G s e.mark c m.act leaves in (sym here ∙ out.0, out.1))))
     H l

@@ -1,10 +1,8 @@
 -- The histories of all squeues that have given marks, with notes by connection and stay.
-use Rattle.std.proofs.Common.{◌≡◌, ℕ, zero, suc, ◌+◌, ◌*◌, ◌/◌, ◌%◌, ◌<◌, ◌==◌, Bool, true, false, Option, Some, None, List, [], ◌∷◌, length, map, refl, ap, sym, ◌∙◌, subst, arith, eq-eqb}
+use Rattle.std.proofs.Common.{◌≡◌, ℕ, zero, suc, ◌+◌, ◌*◌, ◌/◌, ◌%◌, ◌<◌, ◌==◌, false, Option, Some, None, List, [], ◌∷◌, length, map, refl, ap, sym, ◌∙◌, subst, arith}
 use Rattle.std.specs.Prelude.{slice_get}
 use Rattle.std.specs.Option.{option_map}
 use Rattle.std.specs.List.{enumerate_from, range_with_len}
-use Rattle.std.proofs.lemmas.Bool.{ne_eqb}
-use Rattle.std.proofs.lemmas.Bool.Decides.{nat_tests}
 use Rattle.std.proofs.lemmas.List.{length-map}
 use Rattle.std.proofs.lemmas.List.FromFn.{get_or-map-range_with_len, length-map-range_with_len, length-enumerate_from}
 use Rattle.std.proofs.lemmas.Option.{slice_get-map}
@@ -23,6 +21,7 @@ use Rattle.squeue_replay.specs.Histories.{endings_of, noted, stay_of}
 use Rattle.trace_replay.proofs.Full.{full_from, marks_of_full, noted_is}
 use Rattle.trace_replay.proofs.NotesIn.{marks_of}
 use Rattle.trace_replay.proofs.Rounds.{noted_right}
+use Rattle.ring_threads.proofs.WholeRun.{same_test}
 
 numbered_got : {A : Type 0} (n : ℕ) (xs : List A) (i : ℕ) → slice_get (enumerate_from n xs) i ≡ option_map (λ x. (n + i, x)) (slice_get xs i)
 numbered_got n [] i = refl
@@ -35,13 +34,6 @@ some_is : {A : Type 0} (o : Option A) (f : A → Ending) (e : Ending) → option
 some_is None f e at = absurd (let no : ⊥ = cc at in no)
 some_is (Some x) f e at = (x, refl, (let s : f x ≡ e = cc at in sym s))
 
-eq_turned : (a b : ℕ) → (a == b) ≡ (b == a)
-eq_turned a b = by (a == b) refl
-  where
-    by : (x : Bool) → (a == b) ≡ x → x ≡ (b == a)
-    by true e = let same : a ≡ b = grind (arith, nat_tests, e) in sym (eq-eqb b a (sym same))
-    by false e = sym (ne_eqb b a (λ same. (let no : ⊥ = grind (arith, nat_tests, e, same) in no)))
-
 module _ (p : PlanOf) (calls : CallLists) (setup : Setup) where
   abbrev pub setting_for : ℕ → Setting
   setting_for q = setting_at p calls setup.squeues setup.rings setup.spread q
@@ -50,7 +42,7 @@ module _ (p : PlanOf) (calls : CallLists) (setup : Setup) where
   starts_count q = length-map-range_with_len (λ c. c % setup.squeues == q) 0 (length p.tuples)
 
   pub starts_at : (q c : ℕ) → c < length p.tuples → is_here (start (setting_for q)) c ≡ (q == c % setup.squeues)
-  starts_at q c lt = get_or-map-range_with_len (λ c. c % setup.squeues == q) 0 (length p.tuples) c c false lt (omega arith) ∙ eq_turned (c % setup.squeues) q
+  starts_at q c lt = get_or-map-range_with_len (λ c. c % setup.squeues == q) 0 (length p.tuples) c c false lt (omega arith) ∙ same_test (c % setup.squeues) q
 
   -- where all settings are those of their numbers, connections begin at home
   pub all_start : (hs : List Ending) → length hs ≡ setup.squeues → ((q : ℕ) (e : Ending) → slice_get hs q ≡ Some e → e.setting ≡ setting_for q) → (c : ℕ) → c < length p.tuples → StartsAtHome hs c

@@ -2,7 +2,6 @@
 use Rattle.std.proofs.Common.{◌≡◌, ◌∙◌, ℕ, zero, suc, ◌+◌, ◌*◌, ◌%◌, ◌<◌, ◌≤◌, ◌==◌, inl, inr, Bool, true, false, if◌then◌else◌, List, [], ◌∷◌, ◌++◌, length, map, filter, get_or, sum_by, refl, subst, arith}
 use Rattle.std.specs.List.{range_with_len}
 use Rattle.std.proofs.lemmas.Bool.{cases_eq}
-use Rattle.std.proofs.lemmas.Bool.Decides.{nat_tests}
 use Rattle.std.proofs.lemmas.List.FromFn.{get_or-range_with_len, length-range_with_len}
 use Rattle.std.proofs.lemmas.List.Sums.{get_or-le-sum_by, sum_by-cons}
 use Rattle.std.proofs.lemmas.Nat.{mod_below}
@@ -13,9 +12,7 @@ use Rattle.conn_blocks.specs.Homes.{home}
 use Rattle.ring_quotas.specs.declared.setup.Setup.{Setup}
 use Rattle.ring_quotas.specs.Quotas.{caller_asks, feeds_at, marks_most, quotas_of, ring_asks, ring_feeds}
 use Rattle.ring_quotas.proofs.Moving.{home_below}
-
-same_test : (n : ℕ) → (n == n) ≡ true
-same_test n = grind (arith, nat_tests)
+use Rattle.squeue_drain.proofs.Hands.{same_pass}
 
 -- sums over numbers that follow one another, of terms that aren't smaller
 sums_grow : (g h : ℕ → ℕ) (a m : ℕ) → ((q : ℕ) → g q ≤ h q) → sum_by g (range_with_len a m) ≤ sum_by h (range_with_len a m)
@@ -56,7 +53,7 @@ by_home f n (x ∷ xs) below =
     let rest : length xs ≤ sum_by (λ q. length (filter (λ y. f y == q) xs)) (range_with_len 0 n) = by_home f n xs below in
     let low = below x in
     let more =
-    sums_grow_more (λ q. length (filter (λ y. f y == q) xs)) (λ q. length (filter (λ y. f y == q) (x ∷ xs))) (f x) 0 n (omega arith) (omega (arith, low)) (λ q. each q (f x == q)) (rw (same_test (f x)) (omega arith)) in
+    sums_grow_more (λ q. length (filter (λ y. f y == q) xs)) (λ q. length (filter (λ y. f y == q) (x ∷ xs))) (f x) 0 n (omega arith) (omega (arith, low)) (λ q. each q (f x == q)) (rw (same_pass (f x)) (omega arith)) in
     omega (arith, rest, more)
   where
     each : (q : ℕ) (b : Bool) → length (filter (λ y. f y == q) xs) ≤ length (if b then x ∷ filter (λ y. f y == q) xs else filter (λ y. f y == q) xs)
@@ -89,7 +86,7 @@ module _ (p : PlanOf) (calls : CallLists) (s : Setup) where
   feeds_in q c some lt =
       let r = c % s.rings in
       let below = mod_below c s.rings some in
-      let own = one_of (λ d. d % s.rings == r) (λ d. feeds_at s.squeues s.spread q d (length (items_in p d))) c 0 (length p.tuples) (omega arith) (omega (arith, lt)) (same_test r) in
+      let own = one_of (λ d. d % s.rings == r) (λ d. feeds_at s.squeues s.spread q d (length (items_in p d))) c 0 (length p.tuples) (omega arith) (omega (arith, lt)) (same_pass r) in
       let all =
       quota_in (λ i. (ring_feeds p s.squeues s.rings s.spread q i, ring_asks p s.squeues s.rings s.spread q i))
       (map (λ j. (0, caller_asks p calls s.squeues s.spread q j)) (range_with_len 0 4)) r 0 s.rings (omega arith) (omega (arith, below)) in

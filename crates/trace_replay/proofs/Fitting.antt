@@ -3,7 +3,7 @@ use Rattle.std.proofs.Common.{◌≡◌, ℕ, zero, suc, ◌+◌, ◌<◌, ◌�
 use Rattle.std.proofs.lemmas.Bool.{cases_eq}
 use Rattle.std.proofs.lemmas.List.{append-nil, take-append-le, length_push}
 use Rattle.std.proofs.lemmas.Option.{slice_get_within}
-use Rattle.std.proofs.Math.Seq.{take-append_seam}
+use Rattle.std.proofs.Math.Seq.{take-append_seam, take-length}
 use Rattle.perimeter_core.specs.declared.marks.Mark.TheVariants as On
 use Rattle.perimeter_core.specs.Deeds.{done}
 use Rattle.perimeter_core.specs.History.{Element, Setting, pass_of}
@@ -11,10 +11,10 @@ use Rattle.perimeter_core.specs.Legal.{feed_count}
 use Rattle.squeue_enter.specs.declared.Mode.{Mode}
 use Rattle.squeue_state.specs.Naming.{Ending}
 use Rattle.squeue_rings.specs.Keeping.{Keeps, KeepsFrom, taken}
-use Rattle.squeue_rings.proofs.Linking.{last_of}
 use Rattle.ring_quotas.specs.declared.setup.Setup.{Setup}
 use Rattle.squeue_replay.specs.Pacing.{KeepsAt}
 use Rattle.trace_replay.specs.Reasons.{AreFit, IsUnfitAt, TakesFew}
+use Rattle.conn_blocks.proofs.PlaceSteps.{get_seam}
 
 -- ---- one element behind others
 
@@ -23,9 +23,6 @@ take_front xs y n most = take-append-le n xs (y ∷ []) most
 
 take_all : {A : Type 0} (xs : List A) (y : A) → take (length xs) (xs ++ y ∷ []) ≡ xs
 take_all xs y = take-append_seam xs (y ∷ [])
-
-pub take_whole : {A : Type 0} (xs : List A) → take (length xs) xs ≡ xs
-take_whole xs = ap (take (length xs)) (sym (append-nil xs)) ∙ take-append_seam xs []
 
 get_before : {A : Type 0} (xs : List A) (y : A) (n : ℕ) → n < length xs → slice_get (xs ++ y ∷ []) n ≡ slice_get xs n
 get_before [] y n there = absurd (omega (arith, there))
@@ -54,9 +51,9 @@ module _ (setup : Setup) (q : ℕ) (number : ℕ) (S : Setting) where
   takes_more r H e before one n m is took =
       elim (cases_eq n (length H)) [
         | inl last ↦
-            let same : e ≡ m = (let h : Some e ≡ Some m = sym (last_of H e) ∙ (ap (slice_get (H ++ e ∷ [])) (sym last) ∙ is) in cc h) in
+            let same : e ≡ m = (let h : Some e ≡ Some m = sym (get_seam H e) ∙ (ap (slice_get (H ++ e ∷ [])) (sym last) ∙ is) in cc h) in
             let front : take n (H ++ e ∷ []) ≡ H = ap (λ (k : ℕ). take k (H ++ e ∷ [])) last ∙ take_all H e in
-            let whole : take (n + 1) (H ++ e ∷ []) ≡ H ++ e ∷ [] = ap (λ (k : ℕ). take k (H ++ e ∷ [])) (ap (λ (k : ℕ). k + 1) last ∙ sym (length_push H e)) ∙ take_whole (H ++ e ∷ []) in
+            let whole : take (n + 1) (H ++ e ∷ []) ≡ H ++ e ∷ [] = ap (λ (k : ℕ). take k (H ++ e ∷ [])) (ap (λ (k : ℕ). k + 1) last ∙ sym (length_push H e)) ∙ take-length (H ++ e ∷ []) in
             subst (λ (G : List Element). IfSome (taken S r G) (λ had. feed_count (done S (take (n + 1) (H ++ e ∷ []))) ≤ had + setup.budget)) (sym front)
             (subst (λ (G : List Element). IfSome (taken S r H) (λ had. feed_count (done S G) ≤ had + setup.budget)) (sym whole) (one (ap (λ (x : Element). x.mark) same ∙ took)))
         | inr other ↦
@@ -71,9 +68,9 @@ module _ (setup : Setup) (q : ℕ) (number : ℕ) (S : Setting) where
 
   takes_last : (r : ℕ) (H : List Element) (e : Element) → TakesFew setup.budget r (with (H ++ e ∷ [])) → e.mark ≡ On.Take r → IfSome (taken S r H) (λ had. feed_count (done S (H ++ e ∷ [])) ≤ had + setup.budget)
   takes_last r H e all took =
-      let whole : take (length H + 1) (H ++ e ∷ []) ≡ H ++ e ∷ [] = ap (λ (k : ℕ). take k (H ++ e ∷ [])) (sym (length_push H e)) ∙ take_whole (H ++ e ∷ []) in
+      let whole : take (length H + 1) (H ++ e ∷ []) ≡ H ++ e ∷ [] = ap (λ (k : ℕ). take k (H ++ e ∷ [])) (sym (length_push H e)) ∙ take-length (H ++ e ∷ []) in
       subst (λ (G : List Element). IfSome (taken S r G) (λ had. feed_count (done S (H ++ e ∷ [])) ≤ had + setup.budget)) (take_all H e)
-      (subst (λ (G : List Element). IfSome (taken S r (take (length H) (H ++ e ∷ []))) (λ had. feed_count (done S G) ≤ had + setup.budget)) whole (all (length H) e (last_of H e) took))
+      (subst (λ (G : List Element). IfSome (taken S r (take (length H) (H ++ e ∷ []))) (λ had. feed_count (done S G) ≤ had + setup.budget)) whole (all (length H) e (get_seam H e) took))
 
   pub fit_none : AreFit setup q (with [])
   fit_none = record { pace = λ r ring. tt; takes = λ r ring n m is. cc is }
@@ -101,7 +98,7 @@ module _ (setup : Setup) (q : ℕ) (number : ℕ) (S : Setting) where
   pub unfit_here : (H : List Element) (e : Element) → AreFit setup q (with H) → (KeepsAt setup q S H e → ⊥) → IsUnfitAt setup q (with (H ++ e ∷ [])) (length H)
   unfit_here H e fit broken =
       let longer = length_push H e in
-      let whole : take (length H + 1) (H ++ e ∷ []) ≡ H ++ e ∷ [] = ap (λ (k : ℕ). take k (H ++ e ∷ [])) (sym longer) ∙ take_whole (H ++ e ∷ []) in
+      let whole : take (length H + 1) (H ++ e ∷ []) ≡ H ++ e ∷ [] = ap (λ (k : ℕ). take k (H ++ e ∷ [])) (sym longer) ∙ take-length (H ++ e ∷ []) in
       record {
         there = omega (arith, longer);
         before = subst (AreFit setup q) (sym (first_same (take (length H) (H ++ e ∷ [])) H (take_all H e))) fit;

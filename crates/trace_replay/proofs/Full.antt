@@ -15,6 +15,7 @@ use Rattle.perimeter_core.specs.Legal.{NoteFits}
 use Rattle.squeue_replay.specs.Histories.{note_of, noted_from, stay_of, times_in}
 use Rattle.trace_replay.proofs.Notes.{Alike, NotesFit}
 use Rattle.trace_replay.proofs.NotesIn.{marks_of, notes_in}
+use Rattle.run_histories.proofs.SameCounts.{once_if}
 
 module _ (f : ℕ → ℕ → List Act) where
   abbrev pub full_note : List Mark → Mark → List Act
@@ -90,9 +91,6 @@ module _ (f : ℕ → ℕ → List Act) where
           let more : times_in c (past ++ m ∷ []) ≡ times_in c past + 0 = times_more c past m ∙ ap (λ (b : Bool). times_in c past + (if b then 1 else 0)) is in
           let z : times_in c (past ++ m ∷ []) + i ≡ times_in c past + i = omega (arith, more) in
           go i n at ∙ ap (f c) z
-
-abbrev once_if : Bool → ℕ
-once_if b = if b then 1 else 0
 
 times_both : (c : ℕ) (ms ns : List Mark) → times_in c (ms ++ ns) ≡ times_in c ms + times_in c ns
 times_both c [] ns = omega arith

@@ -8,18 +8,15 @@ use Rattle.perimeter_core.specs.declared.entries.Act.TheVariants as Did
 use Rattle.perimeter_core.specs.declared.entries.Entry.TheVariants as Entry'
 use Rattle.perimeter_core.specs.Blocks.{Blocks as Had, longer, with_feeds}
 use Rattle.perimeter_core.specs.Deeds.{fed, feed_numbers}
-use Rattle.perimeter_core.specs.Residing.{HadFeeds, Here}
+use Rattle.perimeter_core.specs.Residing.{HadFeeds}
 use Rattle.perimeter_core.proofs.NextFeed.{fed-append}
+use Rattle.perimeter_core.proofs.FeedActs.{longer_none}
 use Rattle.squeue_replay.specs.Standing.{GuestOf}
 use Rattle.trace_replay.specs.Joining.{FeedsFollow, acts_in, did_before, did_in, with_acts}
 
 longer_both : (xs ys : List Act) (o : Option (List Act)) → longer ys (longer xs o) ≡ longer (xs ++ ys) o
 longer_both xs ys None = refl
 longer_both xs ys (Some had) = ap Some (append_assoc had xs ys)
-
-longer_none : (o : Option (List Act)) → longer [] o ≡ o
-longer_none None = refl
-longer_none (Some x) = ap Some (append-nil x)
 
 pub acts_both : (c : ℕ) (xs ys : List Act) (had : Had) → with_acts c ys (with_acts c xs had) ≡ with_acts c (xs ++ ys) had
 acts_both c xs ys had i d = by (c == d) i
@@ -47,9 +44,6 @@ had_more Stands Now c n xs h go = record {
   here = here_with c xs h.blocks h.had h.here;
   feeds = fed-append h.had xs ∙ ap (λ (m : ℕ). m + fed xs) h.feeds;
 }
-
-pub is_here_then : (Stands : Had → Type 0) (c n : ℕ) → HadFeeds Stands c n → Here Stands c
-is_here_then Stands c n h = record { blocks = h.blocks; had = h.had; stands = h.stands; here = h.here }
 
 -- one act more
 pub fed_feed : (xs : List Act) (n : ℕ) → fed (xs ++ Did.Feed n ∷ []) ≡ fed xs + 1

@@ -11,9 +11,7 @@ use Rattle.perimeter_core.specs.History.{Element, Setting, start}
 use Rattle.perimeter_core.specs.Deeds.{acts_after, puts_in, reported, takes_out}
 use Rattle.conn_migrate.specs.Stays.{Stay, Stays, all_in, as_list, begun, longer_by, stays, stays_after, stays_from}
 use Rattle.squeue_replay.specs.Histories.{times_in}
-
-abbrev notes : Stays → List (List Act)
-notes v = map (λ (u : Stay). u.note) (all_in v)
+use Rattle.squeue_rings.proofs.StaysSeen.{notes, same_note}
 
 abbrev pub marks_of : List Element → List Mark
 marks_of H = map (λ (e : Element). e.mark) H
@@ -26,11 +24,6 @@ notes_in c (e ∷ H) = if puts_in c e.mark then e.note ∷ notes_in c H else not
 -- and the empty one of a stay that begins at the start
 abbrev pub firsts : Bool → List (List Act)
 firsts here = if here then [] ∷ [] else []
-
-same_note : (past : List Stay) (more had : List Act) (o : Option Stay) → map (λ (u : Stay). u.note) (past ++ as_list (longer_by more had o)) ≡ map (λ (u : Stay). u.note) (past ++ as_list o)
-same_note past more had None = refl
-same_note [] more had (Some v) = refl
-same_note (u ∷ past) more had (Some v) = ap (λ (ns : List (List Act)). u.note ∷ ns) (same_note past more had (Some v))
 
 notes_after : (a b : Bool) (more had note : List Act) (v : Stays)
     → notes (if a then record { ended = all_in v; now = Some (begun note) }

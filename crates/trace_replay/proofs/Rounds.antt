@@ -1,7 +1,7 @@
 -- Which stay of a connection an In at a squeue begins.
 use Rattle.std.proofs.Common.{◌≡◌, ℕ, zero, suc, ◌+◌, ◌-◌, ◌*◌, ◌/◌, ◌%◌, ◌<◌, ◌≤◌, ◌==◌, inl, inr, Bool, true, false, if◌then◌else◌, Some, List, [], ◌++◌, length, refl, ap, sym, ◌∙◌, arith, eq-eqb}
 use Rattle.std.specs.Prelude.{slice_get}
-use Rattle.std.proofs.lemmas.Bool.{cases_lt, ne_eqb}
+use Rattle.std.proofs.lemmas.Bool.{cases_lt, ne_eqb, eqb-true, eqb-false}
 use Rattle.std.proofs.lemmas.Nat.{div-add-mod', div-mul-add, mod-mul-add, mod_below}
 use Rattle.perimeter_core.specs.declared.entries.Act.{Act}
 use Rattle.perimeter_core.specs.declared.marks.Mark.{Mark}
@@ -10,7 +10,6 @@ use Rattle.perimeter_core.specs.History.{Setting, start}
 use Rattle.conn_migrate.specs.Stays.{Stay, all_in, stays}
 use Rattle.squeue_replay.specs.Histories.{stay_of}
 use Rattle.ring_quotas.proofs.Moving.{mod_sum}
-use Rattle.squeue_rings.proofs.Counting.{are_same, are_apart}
 use Rattle.trace_replay.proofs.NotesIn.{firsts, note_at, notes_in}
 use Rattle.trace_replay.proofs.Full.{full_from, notes_in_full}
 
@@ -34,13 +33,13 @@ module _ (s : ℕ) (some : 0 < s) where
     where
       by : (b : Bool) → (t % s == 0) ≡ b → ((c + t) % s == c % s) ≡ b
       by true e =
-          let z = are_same (t % s) 0 e in
+          let z = eqb-true (t % s) 0 e in
           let a = mod_below c s some in
           eq-eqb ((c + t) % s) (c % s) (elim (mod_sum c t s some) [ inl h ↦ (let x = h.0 in omega (arith, x, z)) | inr h ↦ absurd (let no : ⊥ = omega (arith, h, z, a) in no) ])
       by false e =
           let o = mod_below t s some in
           ne_eqb ((c + t) % s) (c % s) (λ same. elim (mod_sum c t s some) [
-            | inl h ↦ are_apart (t % s) 0 e (let x = h.0 in omega (arith, x, same))
+            | inl h ↦ eqb-false (t % s) 0 e (let x = h.0 in omega (arith, x, same))
             | inr h ↦ (let no : ⊥ = omega (arith, h, same, o) in no)
           ])
 
@@ -49,7 +48,7 @@ module _ (s : ℕ) (some : 0 < s) where
     where
       by : (b : Bool) → (t % s == 0) ≡ b → t / s ≡ length (firsts b) + n → (if b then s * (n + 1) else t % s + s * n) ≡ t
       by true e is =
-          let z = are_same (t % s) 0 e in
+          let z = eqb-true (t % s) 0 e in
           let d = div-add-mod' t s in
           let m : t / s * s ≡ (1 + n) * s = ap (λ (k : ℕ). k * s) is in
           omega (arith, z, d, m)
@@ -97,8 +96,8 @@ module _ (s : ℕ) (some : 0 < s) where
       ]
     where
       by : (b : Bool) → (q - c % s == 0) ≡ b → c % s ≤ q → (q == c % s) ≡ b
-      by true e le = let z = are_same (q - c % s) 0 e in eq-eqb q (c % s) (omega (arith, z, le))
-      by false e le = ne_eqb q (c % s) (λ same. are_apart (q - c % s) 0 e (omega (arith, same)))
+      by true e le = let z = eqb-true (q - c % s) 0 e in eq-eqb q (c % s) (omega (arith, z, le))
+      by false e le = ne_eqb q (c % s) (λ same. eqb-false (q - c % s) 0 e (omega (arith, same)))
 
   -- where the stay is that an In begins
   pub begun_at : (q c n : ℕ) → q < s → ((c + stay_of s q c n) % s ≡ q) × (stay_of s q c n / s ≡ length (firsts (q == c % s)) + n)
@@ -112,7 +111,7 @@ module _ (s : ℕ) (some : 0 < s) where
       )
     where
       by : (b : Bool) (off : ℕ) → (off == 0) ≡ b → (if b then s * (n + 1) else off + s * n) ≡ (length (firsts b) + n) * s + off
-      by true off e = let z = are_same off 0 e in omega (arith, z)
+      by true off e = let z = eqb-true off 0 e in omega (arith, z)
       by false off e = omega arith
 
 -- The notes are right of a history whose notes are those of the stays that it begins
@@ -132,7 +131,7 @@ module _ (s : ℕ) (some : 0 < s) (F : ℕ → ℕ → List Act) (S : Setting) (
       by true zero e is at =
           let none : [] ≡ v.note = cc at in
           let d = div-add-mod' t s in
-          let z = are_same (t % s) 0 e in
+          let z = eqb-true (t % s) 0 e in
           let m : t / s * s ≡ 0 * s = ap (λ (k : ℕ). k * s) is in
           let first : 0 ≡ t = omega (arith, d, z, m) in
           sym none ∙ (sym nothing ∙ ap (F c) first)

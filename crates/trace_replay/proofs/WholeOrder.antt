@@ -1,6 +1,6 @@
 -- Whether an order is whole is seen by how long it is: of each thread it has the first calls on the connection, and the feeds from
 -- the first one on.
-use Rattle.std.proofs.Common.{◌≡◌, ℕ, ◌+◌, ◌<◌, ◌≤◌, ◌⊎◌, inl, inr, List, [], ◌∷◌, ◌++◌, length, refl, ap, sym, ◌∙◌, subst, arith}
+use Rattle.std.proofs.Common.{◌≡◌, ℕ, ◌+◌, ◌<◌, ◌≤◌, ◌⊎◌, inl, inr, List, [], ◌∷◌, ◌++◌, length, ap, sym, ◌∙◌, subst, arith}
 use Rattle.std.specs.List.{range_with_len}
 use Rattle.std.proofs.lemmas.Bool.{cases_eq, cases_lt}
 use Rattle.std.proofs.lemmas.List.{append-nil, length-append}
@@ -11,11 +11,7 @@ use Rattle.conn_blocks.specs.CallLists.{CallLists}
 use Rattle.conn_blocks.specs.Holding.{Begins, IsSettled, calls_on, fed}
 use Rattle.conn_blocks.specs.Orders.{IsWhole, call_numbers, numbers_on}
 use Rattle.conn_blocks.specs.ServeOrder.{BlockOf}
-use Rattle.conn_blocks.proofs.Counting.{all_acts, begins_short, no_thread}
-
-begins_none : (front : List ℕ) → Begins front [] → front ≡ []
-begins_none [] b = refl
-begins_none (x ∷ front) b = let e : [] ≡ x ∷ (front ++ b.rest) = b.joined in absurd (let no : ⊥ = cc e in no)
+use Rattle.conn_blocks.proofs.Counting.{all_acts, begins_short, no_thread, begins_none}
 
 -- a front that is as long as the whole is the whole
 begins_all : (front whole : List ℕ) → Begins front whole → length front ≡ length whole → front ≡ whole

@@ -60,9 +60,6 @@ waited_not xs = ([], sym (append-nil xs), refl)
 pub waited_more : (xs ys zs : List LockStep) → waited xs ys → waited ys zs → waited xs zs
 waited_more xs ys zs a b = (a.0 ++ b.0, b.1 ∙ (ap (λ l. l ++ b.0) a.1 ∙ append_assoc xs a.0 b.0), (let r = turns_of-append a.0 b.0 in let p = a.2 in let q = b.2 in omega (arith, r, p, q)))
 
-pub draw_waits : (xs ys : List LockStep) (x : ℕ) → ys ≡ xs ++ Draw x ∷ [] → waited xs ys
-draw_waits xs ys x e = (Draw x ∷ [], e, refl)
-
 pub load_waits : (xs ys zs : List LockStep) (x : ℕ) → waited xs ys → zs ≡ ys ++ Load x ∷ [] → waited xs zs
 load_waits xs ys zs x a e = waited_more xs ys zs a (Load x ∷ [], e, refl)
 

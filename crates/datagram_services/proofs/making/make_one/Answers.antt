@@ -1,12 +1,13 @@
 use Rattle.std.proofs.Common.{◌≡◌, length, ap, sym, ◌∙◌, arith}
 use Rattle.std.proofs.lemmas.List.{length-map}
+use Rattle.std.proofs.lemmas.Result.{IfOk-weaker}
 use Rattle.perimeter_core.specs.History.{feed_quotas}
 use Rattle.squeue_rings.specs.Runs.{count, is_at}
 use Rattle.squeue_state.specs.Behind.{pairs}
 use Rattle.squeue_state.specs.Words.{ask_quotas}
 use Rattle.stream_blocks.specs.Standing.{Stands}
 use Rattle.datagram_services.proofs.Listed.{few_line}
-use Rattle.ring_jobs.proofs.Starts.{if_ok, stands_empty}
+use Rattle.ring_jobs.proofs.Starts.{stands_empty}
 use Rattle.datagram_services.proofs.MadeSqueues.{few_quotas, is_set, no_asks, quotas_of}
 use Rattle.datagram_services.proofs.making.make_one.Goals as goal
 
@@ -43,6 +44,6 @@ make-requires-2-clause-asks c =
 
 pub returns-clause-set : goal.returns-clause-set
 returns-clause-set c =
-    if_ok _ _ c.make-2.result
+    IfOk-weaker c.make-2.result _ _
     (λ r made. is_set c.args.plan.now c.args.setup.now.squeues c.args.setup.now.rings c.args.lines.now c.args.q c.in_ok-blocks.blocks (pairs c.deref.result.now) r.0 made
     (ap pairs c.deref.ensures.value ∙ c.in_ok-quotas.ensures) c.in_ok-blocks.ensures.stands c.in_ok-blocks.ensures.size c.in_ok-blocks.ensures.origin (c.in_ok-blocks.ensures.calls ∙ c.new.ensures.items)) c.make-2.ensures.given

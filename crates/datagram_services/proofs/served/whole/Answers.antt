@@ -1,8 +1,8 @@
 use Rattle.std.proofs.Common.{◌≡◌, ℕ, ◌%◌, ◌<◌, ◌≤◌, Some, length, map, reverse, slice_get, ap, sym, ◌∙◌, arith}
-use Rattle.std.proofs.lemmas.List.{length-reverse}
+use Rattle.std.proofs.lemmas.List.{length-reverse, length-set}
 use Rattle.std.proofs.lemmas.Option.{slice_get_within}
 use Rattle.squeue_serve.proofs.Lent.{some_at}
-use Rattle.squeue_rings.proofs.Slots.{got_at, set_length}
+use Rattle.squeue_rings.proofs.Slots.{got_at}
 use Rattle.stream_blocks.specs.Standing.{served_of}
 use Rattle.datagram_services.proofs.WholeSteps.{block_served, blocks_more, rest_more}
 use Rattle.datagram_services.proofs.served.whole.Goals as goal
@@ -58,7 +58,7 @@ loop-c-preserved c =
     let at = got_at rows (i % n) row lt c.index_mut.ensures.value in
     let s = some_at p.streams i (omega (arith, c.loop-c-test.true, c.streams-c-end.ensures.value)) in
     record {
-      rows_are = set_length rows (i % n) c.take_block-place.new.row ∙ h.rows_are;
+      rows_are = length-set rows (i % n) c.take_block-place.new.row ∙ h.rows_are;
       rest = rest_more p n i rows row c.take_block-place.new.row at lt h.rest c.take_block-place.ensures.others;
       blocks = ap (map served_of) c.in_ok-push.ensures.items
           ∙ blocks_more p i s.0 c.loop-c.blocks.items c.in-Some.block s.1

@@ -1,6 +1,7 @@
 use Rattle.std.proofs.Common.{◌≡◌, ◌<◌, ℕ, List, length, map, sum, sym, ap, ◌∙◌, subst, arith}
 use Rattle.std.specs.Prelude.{All}
 use Rattle.std.proofs.lemmas.List.{length-map}
+use Rattle.std.proofs.lemmas.Result.{IfOk-weaker}
 use Rattle.perimeter_core.specs.History.{feed_quotas}
 use Rattle.perimeter_core.specs.Residing.{HadFeeds}
 use Rattle.squeue_state.specs.Behind.{pairs}
@@ -13,7 +14,7 @@ use Rattle.squeue_serve.specs.Lending.{tasks_in}
 use Rattle.key_counters.specs.Serving.{AreTasks}
 use Rattle.key_counters.proofs.CounterSteps.{limit_is}
 use Rattle.key_counters.proofs.RingLists.{quotas_within}
-use Rattle.key_counters.proofs.Totals.{all_short, lists_short, no_asks_asked, new_empty, serves, totals_are, sums_of, lengths_of, if_ok}
+use Rattle.key_counters.proofs.Totals.{all_short, lists_short, no_asks_asked, new_empty, serves, totals_are, sums_of, lengths_of}
 use Rattle.key_counters.proofs.counting.count.Goals as goal
 
 pub ring_lists-requires-clause-short : goal.ring_lists-requires-clause-short
@@ -76,4 +77,4 @@ returns-in-Ok-make g c =
     let had : (i : ℕ) → i < length all → HadFeeds (PlacesStand (IsPartOf all) (InOrder HasAdded) r.places.items) i (length (row_of all i)) =
     λ i lt. subst (HadFeeds (PlacesStand (IsPartOf all) (InOrder HasAdded) r.places.items) i) (limit_is (rows_of first.shared) i ∙ ap (λ (xs : List (List ℕ)). length (row_of xs i)) (sym same)) (end.fed i (omega (arith, lt, long, end.size))) in
     let sums : map total_of r.places.items ≡ map (λ row. sum row.items) amounts = totals_are all r.places.items long had ∙ (ap (map sum) rows ∙ sums_of (λ row. row.items) amounts) in
-    if_ok _ _ c.totals_of.result (λ v is. is ∙ sums) c.totals_of.ensures
+    IfOk-weaker c.totals_of.result _ _ (λ v is. is ∙ sums) c.totals_of.ensures

@@ -1,8 +1,9 @@
 use Rattle.std.proofs.Common.{ap, ◌∙◌, arith, length}
 use Rattle.std.proofs.lemmas.List.{length-map}
-use Rattle.ring_jobs.proofs.Fed.{all_fed, at_next, end_before, fed_count, fed_next, fed_none, got_at, none_fed, within}
+use Rattle.ring_jobs.proofs.Fed.{all_fed, at_next, end_before, fed_count, fed_next, fed_none, none_fed, within}
 use Rattle.ring_jobs.proofs.feeding.feed_all.Goals as goal
 use Rattle.ring_jobs.proofs.feeding.feed_all.Goals.{in-Some, in_default}
+use Rattle.squeue_rings.proofs.Slots.{got_at}
 
 pub loop-i-init : goal.loop-i-init
 loop-i-init g c = c.requires.ends ∙ none_fed c.args.lines.now

@@ -11,6 +11,7 @@ use Rattle.ring_threads.specs.Settings.{IsSet}
 use Rattle.ring_jobs.proofs.Lends.{fits, no_squeues, none_yet, one_more}
 use Rattle.ring_threads.proofs.MadeSqueues.{AreSetBelow, set_more, set_sizes}
 use Rattle.ring_threads.proofs.making.make_all.Goals as goal
+use Rattle.ring_quotas.proofs.Adding.{quotas_count}
 
 pub loop-q-init : goal.loop-q-init
 loop-q-init g c =

@@ -1,11 +1,12 @@
 use Rattle.std.proofs.Common.{◌≡◌, ap, ◌∙◌, arith, length, map}
 use Rattle.std.proofs.lemmas.List.{length-map, length-replicate}
 use Rattle.std.proofs.lemmas.List.Elements.{All-map}
+use Rattle.std.proofs.lemmas.Result.{IfOk-weaker}
 use Rattle.perimeter_core.specs.History.{feed_quotas}
 use Rattle.placed_parts.specs.Standing.{all_new}
 use Rattle.squeue_state.specs.Behind.{pairs}
 use Rattle.squeue_state.specs.Words.{ask_quotas}
-use Rattle.squeue_bench.proofs.Starting.{feeds_sum, asks_sum, none_had, new_suits, if_ok}
+use Rattle.squeue_bench.proofs.Starting.{feeds_sum, asks_sum, none_had, new_suits}
 use Rattle.squeue_bench.proofs.runs.make_squeue.Goals as goal
 
 pub make-requires-clause-feeds : goal.make-requires-clause-feeds
@@ -19,6 +20,6 @@ make-requires-clause-fresh c = (all_new (length c.args.amounts.now), c.in_ok-cou
 
 pub returns-clause-squeue : goal.returns-clause-squeue
 returns-clause-squeue c =
-    if_ok _ _ c.make.result
+    IfOk-weaker c.make.result _ _
     (λ r m. new_suits _ _ c.args.items (length c.args.amounts.now) c.args.quotas.now (map (λ row. row.items) c.args.amounts.now) c.in_ok-counters.counters r.0 m (ap length c.requires.quotas ∙ length-replicate (length c.args.amounts.now) _) c.requires.quotas (length-map c.args.amounts.now (λ row. row.items)) (All-map (λ row. length row ≡ c.args.items) (λ row. row.items) c.args.amounts.now c.requires.amounts) c.in_ok-counters.ensures.stands (ap (map length) c.in_ok-counters.ensures.amounts))
     c.make.ensures.given

@@ -2,13 +2,14 @@ use Rattle.std.specs.Prelude.{slice_index_or}
 use Rattle.std.proofs.Common.{◌+◌, ℕ, length, ap, sym, ◌∙◌, subst, arith}
 use Rattle.perimeter_core.specs.Perimeter.{State, is_free, is_empty, polls}
 use Rattle.perimeter_core.specs.History.{run}
+use Rattle.perimeter_core.proofs.OrderAndWake.{free_is}
 use Rattle.squeue_state.specs.Naming.{setting_of}
 use Rattle.squeue_drain.specs.declared.owner.Owner.{Owner}
 use Rattle.squeue_drain.specs.Owning.{Feeds, HasFeeds}
 use Rattle.squeue_drain.specs.Draining.{Drained, ServedOne}
 use Rattle.squeue_drain.proofs.Deciding.{same_state}
 use Rattle.squeue_enter.specs.Ways.{is_one}
-use Rattle.squeue_enter.proofs.Choosing.{chosen, lone, lone_too, claims, free_is, empty_was, one_was}
+use Rattle.squeue_enter.proofs.Choosing.{chosen, lone, lone_too, claims, empty_was, one_was}
 use Rattle.squeue_enter.proofs.Entries.{may_fill, may_fast, may_claim, fill_fits, fill_polls, came_fast, came_claim, hand_fast}
 use Rattle.squeue_enter.proofs.Answering.{entered_fill, entered_fast, entered_alone, entered_claim}
 use Rattle.squeue_enter.proofs.Bringing.{brought, goes_on}

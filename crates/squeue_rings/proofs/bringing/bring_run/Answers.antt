@@ -1,11 +1,13 @@
 use Rattle.std.proofs.Common.{◌≡◌, ◌-◌, ◌<◌, [], ◌∷◌, ◌++◌, ℕ, length, take, drop, slice_get, slice_index_or, sym, ap, ◌∙◌, arith}
+use Rattle.std.proofs.lemmas.List.{length-set}
 use Rattle.squeue_serve.specs.Places.{Holds}
 use Rattle.squeue_rings.specs.Rings.{RingAt}
 use Rattle.squeue_rings.specs.Runs.{home_of, run_of}
 use Rattle.squeue_rings.proofs.PacedAll.{run_paced}
 use Rattle.squeue_rings.proofs.Running.{all_entered, first_ready, may_enter, run_is}
-use Rattle.squeue_rings.proofs.Slots.{at_length, got_at, got_other, got_same, head_rest, set_length}
+use Rattle.squeue_rings.proofs.Slots.{at_length, got_at, got_other, head_rest}
 use Rattle.squeue_rings.proofs.bringing.bring_run.Goals as goal
+use Rattle.perimeter_core.proofs.LogSteps.{get_same}
 
 pub reach-requires-clause-ready : goal.reach-requires-clause-ready
 reach-requires-clause-ready g c =
@@ -80,7 +82,7 @@ returns-clause-brought g c r list done behind ready =
     let long = ap length is in
     all_entered limits sq sp r list ss done feeds behind c.args.places.now.items ready f tail is mid at c.index-squeues-q.result here c.requires.run.numbered c.index_mut.result.now c.enter_at.new.place (take (length feeds - (length tail - c.run.result)) feeds) c.args.pace.mode c.args.pace.budget _ it
     (run_is limits sq sp r list ss done feeds behind c.args.places.now.items ready f tail is (length feeds - (length tail - c.run.result)) (omega (arith, long, run, c.run.ensures.most)))
-    c.enter_at.ensures (set_length mid q c.enter_at.new.place) (ap (slice_get _) (sym e) ∙ got_same mid q c.enter_at.new.place lo) (λ k apart. got_other mid q k c.enter_at.new.place (λ i. apart (i ∙ e)))
+    c.enter_at.ensures (length-set mid q c.enter_at.new.place) (ap (slice_get _) (sym e) ∙ get_same mid q c.enter_at.new.place lo) (λ k apart. got_other mid q k c.enter_at.new.place (λ i. apart (i ∙ e)))
 
 pub returns-clause-paced : goal.returns-clause-paced
 returns-clause-paced g c r list done behind ready before =
@@ -107,4 +109,4 @@ returns-clause-paced g c r list done behind ready before =
     run_paced limits sq sp c.args.pace.mode c.args.pace.budget r ss done (done ++ f ∷ []) mid _ at (c.reach.ensures.paced r list done (tail ++ behind) c.args.pace.mode c.args.pace.budget first before)
     c.args.pace.spends c.index-squeues-q.result c.index_mut.result.now c.enter_at.new.place f tail _ (c.requires.run.numbered (home_of sq sp f) c.index-squeues-q.result here)
     (run_is limits sq sp r list ss done feeds behind c.args.places.now.items ready f tail is (length feeds - (length tail - c.run.result)) (omega (arith, long, run, c.run.ensures.most)))
-    here it (ap (slice_get _) (sym e) ∙ got_same mid q c.enter_at.new.place lo) c.enter_at.ensures (set_length mid q c.enter_at.new.place) (λ k apart. got_other mid q k c.enter_at.new.place (λ i. apart (i ∙ e)))
+    here it (ap (slice_get _) (sym e) ∙ get_same mid q c.enter_at.new.place lo) c.enter_at.ensures (length-set mid q c.enter_at.new.place) (λ k apart. got_other mid q k c.enter_at.new.place (λ i. apart (i ∙ e)))

@@ -2,9 +2,9 @@ use Rattle.std.proofs.Common.{◌≡◌, ◌≤◌, ℕ, List, Some, length, sli
 use Rattle.conn_blocks.specs.CallLists.{calls_of}
 use Rattle.synch_enter.specs.Hinting.{conns_of}
 use Rattle.squeue_serve.proofs.Lent.{some_at}
+use Rattle.squeue_serve.proofs.Unused.{each_at}
 use Rattle.squeue_rings.specs.Calling.{CallersAt, MayMake, conns_called}
 use Rattle.squeue_rings.proofs.OnceEach.{take_length}
-use Rattle.squeue_rings.proofs.Reaching.{each_at}
 use Rattle.squeue_rings.proofs.Slots.{got_map, take_one}
 use Rattle.squeue_rings.proofs.calling.make_calls.Goals as goal
 

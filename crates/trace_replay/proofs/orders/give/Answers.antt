@@ -4,13 +4,14 @@ use Rattle.perimeter_core.specs.declared.entries.Act.TheVariants as Did
 use Rattle.perimeter_core.specs.Blocks.{Blocks as Had}
 use Rattle.perimeter_core.specs.Deeds.{fed}
 use Rattle.perimeter_core.specs.Residing.{HadFeeds}
+use Rattle.perimeter_core.proofs.LogSteps.{here_of_feeds}
 use Rattle.conn_classifier.specs.Plan.{PlanOf, items_in}
 use Rattle.conn_blocks.specs.declared.blocks.Blocks.{Blocks}
 use Rattle.conn_blocks.specs.Allowed.{feed_limits}
 use Rattle.conn_blocks.specs.Places.{Stands, origin_of}
 use Rattle.conn_blocks.specs.ServeOrder.{OriginOf}
 use Rattle.trace_replay.specs.Joining.{FeedsFollow, with_acts}
-use Rattle.trace_replay.proofs.Giving.{acts_both, fed_call, fed_feed, follows_not, had_more, is_here_then, one_act, one_feed, parts_at}
+use Rattle.trace_replay.proofs.Giving.{acts_both, fed_call, fed_feed, follows_not, had_more, one_act, one_feed, parts_at}
 use Rattle.trace_replay.proofs.Taken.{feeds_allowed}
 use Rattle.trace_replay.proofs.orders.give.Goals.{in-Feed+else-n-fed+else-n-items, in-Call, then-n-fed-via-then-n-fed, then-n-fed-via-else-n-fed+then-n-items}
 use Rattle.trace_replay.proofs.orders.give.Goals as goal
@@ -45,7 +46,7 @@ feed-requires-clause-limit c =
 pub call-requires-clause-here : goal.call-requires-clause-here
 call-requires-clause-here c =
     let xs = take c.loop-act.act-index c.args.acts.now in
-    is_here_then (Stands c.loop-act.blocks) c.args.c (c.args.fed.now + fed xs)
+    here_of_feeds (Stands c.loop-act.blocks) c.args.c (c.args.fed.now + fed xs)
     (had_more (Stands c.args.blocks.now) (Stands c.loop-act.blocks) c.args.c c.args.fed.now xs c.requires.here c.loop-act.invariant.stands)
 
 pub loop-act-preserved : goal.loop-act-preserved

@@ -1,9 +1,9 @@
 use Rattle.std.proofs.Common.{◌≡◌, ◌+◌, ◌∷◌, [], length, length-append, ap, sym, subst, arith}
 use Rattle.std.specs.List.{AllByRecursion}
-use Rattle.conn_blocks.proofs.FeedsInOrder.{all_snoc}
 use Rattle.conn_blocks.specs.Places.{NotShort, PlacesStand, first_here}
 use Rattle.conn_blocks.proofs.PlaceSteps.{none_stand, push_stands}
 use Rattle.conn_blocks.proofs.blocks.Blocks.first.Goals as goal
+use Rattle.capture_reader.proofs.Pieces.{all_push}
 
 pub loop-c-init : goal.loop-c-init
 loop-c-init c =
@@ -27,7 +27,7 @@ loop-c-preserved c =
     let longer = c.in_ok-push.ensures.items in
     record {
       each = omega (arith, ap length longer, length-append places (place ∷ []), so_far.each);
-      whole = subst (AllByRecursion NotShort) (sym longer) (all_snoc NotShort places place so_far.whole c.in_ok-place.ensures.whole);
+      whole = subst (AllByRecursion NotShort) (sym longer) (all_push NotShort places place so_far.whole c.in_ok-place.ensures.whole);
       stand = subst (λ l. PlacesStand p calls l (first_here (n + 1) c.args.squeue c.args.squeues)) (sym longer)
           (push_stands p calls places place n c.args.squeue c.args.squeues so_far.each so_far.stand c.in_ok-place.ensures.fits);
     }

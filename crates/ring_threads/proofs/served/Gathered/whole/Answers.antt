@@ -3,9 +3,10 @@ use Rattle.std.specs.Option.{option_map}
 use Rattle.std.specs.declared.alloc.Global.{Global}
 use Rattle.std.proofs.lemmas.Bool.{cases_lt}
 use Rattle.std.proofs.lemmas.Option.{slice_get-map, slice_get_within}
+use Rattle.std.proofs.lemmas.List.{length-set}
 use Rattle.conn_blocks.specs.ServeOrder.{BlockOf}
 use Rattle.squeue_serve.proofs.Lent.{get_end, get_front}
-use Rattle.squeue_rings.proofs.Slots.{got_at, got_other, set_length}
+use Rattle.squeue_rings.proofs.Slots.{got_at, got_other}
 use Rattle.ring_threads.proofs.served.Gathered.whole.Goals as goal
 
 pub unreachable-requires : goal.unreachable-requires
@@ -29,7 +30,7 @@ loop-c-preserved c =
     record {
       count = ap length items ∙ (length-append c.loop-c.blocks.items (c.in-Some.block ∷ []) ∙ ap (λ (n : ℕ). n + 1) c.loop-c.invariant.count);
       room = omega (arith, c.push_reserved.ensures.capacity, c.loop-c.invariant.room);
-      as_many = set_length c.loop-c.places.items c.loop-c.c c.take-place.new.self ∙ c.loop-c.invariant.as_many;
+      as_many = length-set c.loop-c.places.items c.loop-c.c c.take-place.new.self ∙ c.loop-c.invariant.as_many;
       rest = λ k le. got_other c.loop-c.places.items c.loop-c.c k c.take-place.new.self (λ e. absurd (omega (arith, e, le))) ∙ c.loop-c.invariant.rest k (omega (arith, le));
       done = λ k b below is. elim (cases_lt k c.loop-c.c) [
         | inl before ↦

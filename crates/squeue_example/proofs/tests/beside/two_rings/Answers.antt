@@ -1,7 +1,9 @@
 use Rattle.std.proofs.Common.{rules}
+use Rattle.std.proofs.lemmas.Result.{IfOk-weaker}
 use Rattle.perimeter_core.specs.Logging.{Stands, limits_of, none_done, size_of}
+use Rattle.perimeter_core.proofs.LogSteps.{none_had}
 use Rattle.squeue_example.specs.Rows.{both_here}
-use Rattle.squeue_example.proofs.Starting.{none_had, setting_made, if_ok}
+use Rattle.squeue_example.proofs.Starting.{setting_made}
 use Rattle.squeue_example.proofs.tests.beside.two_rings.Goals as goal
 
 pub make-requires-2-clause-fresh : goal.make-requires-2-clause-fresh
@@ -9,6 +11,6 @@ make-requires-2-clause-fresh c = (none_done both_here, c.in_ok-logs.ensures.stan
 
 pub returns-clause-setting : goal.returns-clause-setting
 returns-clause-setting c =
-    if_ok _ _ c.make-2.result
+    IfOk-weaker c.make-2.result _ _
     (λ r m. setting_made Stands limits_of size_of _ _ 1 _ _ c.in_ok-logs.logs r.0.given both_here m (c.in_ok-logs.ensures.stands, c.in_ok-logs.ensures.count, search rules))
     c.make-2.ensures.given

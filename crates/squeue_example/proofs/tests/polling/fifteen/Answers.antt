@@ -1,6 +1,7 @@
 use Rattle.std.proofs.Common.{◌≡◌, ℕ, suc, ◌+◌, ◌<◌, [], ◌∷◌, ◌++◌, length, take, slice_set, ap, sym, ◌∙◌, subst, arith}
+use Rattle.std.proofs.lemmas.List.{length-set}
 use Rattle.squeue_example.specs.Rows.{in_order}
-use Rattle.squeue_example.proofs.Ordered.{order_more, set_more, length_set}
+use Rattle.squeue_example.proofs.Ordered.{order_more, set_more}
 use Rattle.squeue_example.proofs.tests.polling.fifteen.Goals as goal
 
 pub loop-n-preserved : goal.loop-n-preserved
@@ -13,6 +14,6 @@ loop-n-preserved c =
     let same : f ≡ record { c = 0; n = 0 + n } = c.feed.ensures ∙ ap (λ (m : ℕ). record { c = 0; n = m }) from_zero in
     let set = set_more c.loop-n.chain n f below ∙ (ap (λ fs. fs ++ f ∷ []) c.loop-n.invariant.front ∙ (ap (λ e. in_order 0 0 n ++ e ∷ []) same ∙ sym (order_more 0 0 n))) in
     record {
-      size = length_set c.loop-n.chain n f ∙ c.loop-n.invariant.size;
+      size = length-set c.loop-n.chain n f ∙ c.loop-n.invariant.size;
       front = subst (λ (k : ℕ). take k (slice_set c.loop-n.chain n f) ≡ in_order 0 0 k) next set;
     }

@@ -1,6 +1,8 @@
+use Rattle.std.proofs.lemmas.Result.{IfOk-weaker}
 use Rattle.perimeter_core.specs.Logging.{none_done}
+use Rattle.perimeter_core.proofs.LogSteps.{none_had}
 use Rattle.squeue_example.specs.Rows.{the_one}
-use Rattle.squeue_example.proofs.Starting.{none_had, setting_made, if_ok}
+use Rattle.squeue_example.proofs.Starting.{setting_made}
 use Rattle.squeue_example.proofs.tests.polling.one_ring.Goals as goal
 
 pub make-requires-clause-fresh : goal.make-requires-clause-fresh
@@ -8,6 +10,6 @@ make-requires-clause-fresh g c = (none_done the_one, c.requires.0, none_had the_
 
 pub returns-clause-setting : goal.returns-clause-setting
 returns-clause-setting g c =
-    if_ok _ _ c.make.result
+    IfOk-weaker c.make.result _ _
     (λ r m. setting_made g.R.Resident.stands g.R.Resident.limits g.R.Resident.size _ _ 20 _ _ c.args.resident r.0.given the_one m c.requires)
     c.make.ensures.given

@@ -1,6 +1,6 @@
 use Rattle.std.proofs.Common.{true, false, [], ◌∷◌}
 use Rattle.perimeter_core.specs.Logging.{none_done}
-use Rattle.squeue_example.proofs.Starting.{none_had}
+use Rattle.perimeter_core.proofs.LogSteps.{none_had}
 use Rattle.squeue_example.proofs.tests.turns.opened.Goals as goal
 
 pub make-requires-2-clause-fresh : goal.make-requires-2-clause-fresh
