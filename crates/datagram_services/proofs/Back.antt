@@ -13,7 +13,7 @@ use Rattle.stream_plan.specs.Streams.{MorePlanOf}
 use Rattle.stream_blocks.specs.contracts.blocks.StreamBlocksResident.TheImpl.{ghosts}
 use Rattle.stream_blocks.specs.declared.block.StreamBlock.{StreamBlock}
 use Rattle.stream_blocks.specs.declared.blocks.StreamBlocks.{StreamBlocks}
-use Rattle.stream_blocks.specs.Standing.{PlacesStand, Stands, limits_of, origin_of, size_of}
+use Rattle.stream_blocks.specs.Standing.{PlacesStand, Stands, limits_of, origin_of}
 use Rattle.datagram_services.specs.Gathering.{HaveLeft, LeavesRow}
 
 abbrev pub Row : Type 0

@@ -11,7 +11,7 @@ use Rattle.squeue_state.specs.Told.{Traced}
 use Rattle.conn_blocks.specs.contracts.blocks.BlocksResident.TheImpl.{ghosts}
 use Rattle.conn_blocks.specs.declared.blocks.Blocks.{Blocks}
 use Rattle.conn_blocks.specs.Holding.{StandsFor}
-use Rattle.conn_blocks.specs.Places.{PlaceFits, Stands, limits_of, origin_of, size_of}
+use Rattle.conn_blocks.specs.Places.{PlaceFits, limits_of, origin_of}
 use Rattle.conn_blocks.specs.ServeOrder.{BlockOf, OriginOf}
 use Rattle.squeue_serve.specs.Lending.{AreLent, HasCome}
 use Rattle.squeue_serve.specs.Places.{MayEnd}

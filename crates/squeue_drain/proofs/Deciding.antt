@@ -18,7 +18,7 @@ use Rattle.perimeter_core.specs.Perimeter.{State, Idle, after, polls, processed,
 use Rattle.perimeter_core.specs.History.{Element, Setting, Limits, start, run, feed_quotas}
 use Rattle.perimeter_core.specs.Deeds.{done}
 use Rattle.perimeter_core.specs.Legal.{May, Legal, all_feeds, only_last_ask, feed_count}
-use Rattle.perimeter_core.specs.Blocks.{Blocks, peri, with_feeds, with_act}
+use Rattle.perimeter_core.specs.Blocks.{peri, with_feeds, with_act}
 use Rattle.perimeter_core.specs.Backlog.{QueuedInRange}
 use Rattle.perimeter_core.proofs.OneMore.{run_push, legal_more}
 use Rattle.perimeter_core.proofs.BlocksFollow.{peri_push}

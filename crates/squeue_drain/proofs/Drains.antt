@@ -9,7 +9,6 @@ use Rattle.perimeter_core.specs.Perimeter.{Idle, has_ask, is_closed}
 use Rattle.perimeter_core.specs.History.{Element, Setting, Limits, run, made_by}
 use Rattle.perimeter_core.specs.Deeds.{done}
 use Rattle.perimeter_core.specs.Legal.{feed_count}
-use Rattle.perimeter_core.specs.Blocks.{Blocks}
 use Rattle.squeue_state.specs.Naming.{Named, setting_of}
 use Rattle.perimeter_core.specs.declared.entries.Entry.{Entry}
 use Rattle.perimeter_core.specs.declared.marks.SynchAct.TheVariants as Done

@@ -1,5 +1,5 @@
 -- An owner that has just come.
-use Rattle.std.proofs.Common.{◌≡◌, ℕ, List, length, refl, ap, sym, ◌∙◌, subst}
+use Rattle.std.proofs.Common.{◌≡◌, List, length, refl, ap, sym, ◌∙◌, subst}
 use Rattle.turn_gate.specs.Passes.{IsPassOf, number, seen}
 use Rattle.turn_gate.specs.declared.pass.Pass.{Pass}
 use Rattle.perimeter_core.specs.declared.resident.Resident.{Ghosts}
@@ -7,9 +7,9 @@ use Rattle.perimeter_core.specs.declared.entries.Entry.{Entry}
 use Rattle.perimeter_core.specs.declared.marks.SynchAct.TheVariants as Done
 use Rattle.perimeter_core.specs.declared.marks.Own.TheVariants.{Out}
 use Rattle.perimeter_core.specs.Perimeter.{processed}
-use Rattle.perimeter_core.specs.History.{Element, Setting, Limits, run}
+use Rattle.perimeter_core.specs.History.{Element, Setting, run}
 use Rattle.perimeter_core.specs.Legal.{Legal, all_feeds}
-use Rattle.perimeter_core.specs.Blocks.{Blocks, peri, with_feeds}
+use Rattle.perimeter_core.specs.Blocks.{peri, with_feeds}
 use Rattle.perimeter_core.proofs.FeedActs.{with_none}
 use Rattle.squeue_state.specs.Naming.{Named, Handed, setting_of}
 use Rattle.squeue_state.specs.Behind.{IsPeri}

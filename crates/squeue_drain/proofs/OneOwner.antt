@@ -4,10 +4,8 @@ use Rattle.turn_gate.specs.Passes.{number, seen}
 use Rattle.perimeter_core.specs.declared.resident.Resident.{Ghosts}
 use Rattle.perimeter_core.specs.declared.entries.Act.{Act}
 use Rattle.perimeter_core.specs.declared.marks.Own.TheVariants.{Out}
-use Rattle.perimeter_core.specs.Perimeter.{State}
-use Rattle.perimeter_core.specs.History.{Element, Setting, Limits, run}
+use Rattle.perimeter_core.specs.History.{Element, Setting, run}
 use Rattle.perimeter_core.specs.Legal.{Legal}
-use Rattle.perimeter_core.specs.Blocks.{Blocks}
 use Rattle.perimeter_core.proofs.Since.{known_since}
 use Rattle.squeue_state.specs.Naming.{Named, setting_of}
 use Rattle.squeue_drain.specs.declared.owner.Owner.{Owner}

@@ -1,5 +1,5 @@
 -- An owner that processes the first feed of its hand.
-use Rattle.std.proofs.Common.{◌≡◌, ℕ, ◌<◌, ◌≤◌, true, List, [], ◌∷◌, ◌++◌, length, refl, ap, sym, ◌∙◌, subst, Some}
+use Rattle.std.proofs.Common.{◌≡◌, ℕ, ◌<◌, true, List, [], ◌∷◌, ◌++◌, length, refl, ap, sym, ◌∙◌, subst, Some}
 use Rattle.std.specs.Prelude.{slice_index}
 use Rattle.turn_gate.specs.Passes.{seen}
 use Rattle.perimeter_core.specs.declared.resident.Resident.{Ghosts}

@@ -11,7 +11,7 @@ use Rattle.perimeter_core.specs.Perimeter.{State, processed, unprocessed, is_clo
 use Rattle.perimeter_core.specs.History.{Element, Setting, Limits, run, made_by}
 use Rattle.perimeter_core.specs.Deeds.{done}
 use Rattle.perimeter_core.specs.Legal.{Legal, feed_count}
-use Rattle.perimeter_core.specs.Blocks.{Blocks, peri}
+use Rattle.perimeter_core.specs.Blocks.{peri}
 use Rattle.perimeter_core.proofs.Since.{known_since}
 use Rattle.perimeter_core.proofs.Rests.{rests_since}
 use Rattle.squeue_state.specs.Naming.{Named, Turned, setting_of}

@@ -12,7 +12,7 @@ use Rattle.perimeter_core.specs.declared.marks.Mark.TheVariants as On
 use Rattle.perimeter_core.specs.Perimeter.{State, after, has_ask}
 use Rattle.perimeter_core.specs.History.{Element, Setting, Limits, start, worker, run, made_by}
 use Rattle.perimeter_core.specs.Legal.{May, Legal}
-use Rattle.perimeter_core.specs.Blocks.{Blocks, peri}
+use Rattle.perimeter_core.specs.Blocks.{peri}
 use Rattle.perimeter_core.proofs.OneMore.{run_push}
 use Rattle.perimeter_core.proofs.Since.{none_made}
 use Rattle.perimeter_core.proofs.OrderAndWake.{sound, wake_of_sound}

@@ -11,7 +11,6 @@ use Rattle.perimeter_core.specs.Perimeter.{State, Idle, is_closed}
 use Rattle.perimeter_core.specs.History.{Element, Setting, Limits, pass_of, run, made_by}
 use Rattle.perimeter_core.specs.Deeds.{done}
 use Rattle.perimeter_core.specs.Legal.{Legal, feed_count}
-use Rattle.perimeter_core.specs.Blocks.{Blocks}
 use Rattle.squeue_state.specs.Naming.{Named, setting_of}
 use Rattle.squeue_state.specs.Elements.{number_of, took, gone}
 use Rattle.squeue_drain.specs.declared.owner.Owner.{Owner}

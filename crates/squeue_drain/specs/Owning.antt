@@ -11,7 +11,6 @@ use Rattle.perimeter_core.specs.Perimeter.{State, has_ask, processed}
 use Rattle.perimeter_core.specs.History.{Element, Limits, run, made_by}
 use Rattle.perimeter_core.specs.Deeds.{done}
 use Rattle.perimeter_core.specs.Legal.{Legal, all_feeds, feed_count}
-use Rattle.perimeter_core.specs.Blocks.{Blocks}
 use Rattle.squeue_state.specs.Naming.{Named, setting_of}
 use Rattle.squeue_state.specs.Behind.{IsPeri}
 use Rattle.squeue_state.specs.Elements.{number_of}

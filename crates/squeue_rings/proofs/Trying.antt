@@ -5,7 +5,6 @@ use Rattle.turn_gate.specs.declared.pass.Pass.{Pass}
 use Rattle.perimeter_core.specs.declared.resident.Resident.{Ghosts}
 use Rattle.perimeter_core.specs.declared.marks.SynchAct.{SynchAct}
 use Rattle.perimeter_core.specs.declared.marks.SynchAct.TheVariants as Done
-use Rattle.perimeter_core.specs.Blocks.{Blocks}
 use Rattle.perimeter_core.specs.Perimeter.{Idle}
 use Rattle.perimeter_core.specs.History.{Element, Limits, ask_quota, made_by, run}
 use Rattle.perimeter_core.specs.Deeds.{times_left}

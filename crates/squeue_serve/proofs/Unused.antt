@@ -1,12 +1,11 @@
 -- Passes that nobody used are closed, and the workers work.
-use Rattle.std.proofs.Common.{◌≡◌, ◌≢◌, ◌⊎◌, ℕ, zero, suc, ◌+◌, ◌<◌, ◌≤◌, Bool, false, Option, Some, None, List, [], ◌∷◌, length, replicate, slice_get, slice_index_or, slice_set, refl, ap, sym, ◌∙◌, subst, arith, inl, inr}
+use Rattle.std.proofs.Common.{◌≡◌, ◌≢◌, ◌⊎◌, ℕ, zero, suc, ◌+◌, ◌<◌, ◌≤◌, false, Option, Some, None, List, [], ◌∷◌, length, replicate, slice_get, slice_index_or, slice_set, refl, ap, sym, ◌∙◌, subst, arith, inl, inr}
 use Rattle.std.proofs.lemmas.Bool.{cases_eq}
-use Rattle.std.proofs.lemmas.Option.{slice_get_within}
 use Rattle.turn_gate.specs.History.{Each}
-use Rattle.turn_gate.specs.Passes.{IsPassOf, number, seen}
+use Rattle.turn_gate.specs.Passes.{number}
 use Rattle.turn_gate.specs.declared.pass.Pass.{Pass}
 use Rattle.perimeter_core.specs.Perimeter.{Idle}
-use Rattle.perimeter_core.specs.History.{Element, Limits, Setting, start, run, worker}
+use Rattle.perimeter_core.specs.History.{Element, Limits, Setting, start, run}
 use Rattle.squeue_state.specs.Naming.{Named, setting_of}
 use Rattle.squeue_serve.specs.Places.{Holds, Became, AtEach, AtEachTwo, IsNew, MayClose, HasClosed, MayWork, HasWorked, MayEnd}
 use Rattle.squeue_serve.specs.Lending.{WorkersHold}

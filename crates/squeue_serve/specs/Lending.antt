@@ -1,11 +1,11 @@
 -- Passes that are lent to jobs.
-use Rattle.std.specs.Prelude.{◌≡◌, ◌≢◌, ℕ, ◌+◌, ◌<◌, ◌≤◌, ◌==◌, if◌then◌else◌, Bool, All, Option}
+use Rattle.std.specs.Prelude.{◌≡◌, ◌≢◌, ℕ, ◌+◌, ◌<◌, ◌≤◌, ◌==◌, if◌then◌else◌, All, Option}
 use Rattle.std.specs.Prelude.{Some, List, [], ◌∷◌, ◌++◌, Vec, length, map, slice_get, slice_index_or, vec_capacity}
 use Rattle.turn_gate.specs.History.{Each}
 use Rattle.turn_gate.specs.declared.pass.Pass.{Pass}
 use Rattle.perimeter_core.specs.declared.resident.Resident.{Ghosts}
-use Rattle.perimeter_core.specs.History.{Element, Limits}
-use Rattle.perimeter_core.specs.Blocks.{Blocks, peri}
+use Rattle.perimeter_core.specs.History.{Element}
+use Rattle.perimeter_core.specs.Blocks.{peri}
 use Rattle.squeue_state.specs.Told.{Traced, marks_of}
 use Rattle.squeue_state.specs.Naming.{Named, Ending, setting_of}
 use Rattle.squeue_state.specs.Endings.{HasEnded}

@@ -2,14 +2,13 @@
 use Rattle.std.proofs.Common.{◌≡◌, ◌+◌, ◌^◌, ◌<◌, ◌≤◌, ℕ, List, [], ◌∷◌, ◌++◌, length, length-append, arith, zero, suc, refl, ap, sym, ◌∙◌, false, add-one}
 use Rattle.std.specs.Prelude.{replicate}
 use Rattle.perimeter_core.specs.declared.resident.Resident.{Ghosts}
-use Rattle.perimeter_core.specs.History.{Element, Limits, start, run}
+use Rattle.perimeter_core.specs.History.{Element, start, run}
 use Rattle.perimeter_core.specs.Deeds.{entries}
 use Rattle.perimeter_core.specs.Legal.{May}
 use Rattle.perimeter_core.specs.declared.entries.Feed.{Feed}
 use Rattle.perimeter_core.specs.declared.entries.Entry.TheVariants as Entry'
 use Rattle.perimeter_core.proofs.OneMore.{run_push, legal_more}
 use Rattle.perimeter_core.proofs.Room.{queued_fits}
-use Rattle.perimeter_core.specs.Blocks.{Blocks}
 use Rattle.perimeter_core.proofs.HistoryLength.{length_bounded}
 use Rattle.squeue_state.specs.declared.inner.Inner.{Inner}
 use Rattle.squeue_state.specs.Naming.{Given, setting_of}

@@ -8,9 +8,8 @@ use Rattle.turn_gate.proofs.Keeps.{whole_of_free}
 use Rattle.perimeter_core.specs.declared.resident.Resident.{Ghosts}
 use Rattle.perimeter_core.specs.declared.marks.Own.{Own}
 use Rattle.perimeter_core.specs.declared.marks.Own.TheVariants.{Free, Out, Granted}
-use Rattle.perimeter_core.specs.History.{Element, Limits, run}
+use Rattle.perimeter_core.specs.History.{Element, run}
 use Rattle.perimeter_core.specs.Backlog.{WakeKept}
-use Rattle.perimeter_core.specs.Blocks.{Blocks}
 use Rattle.perimeter_core.proofs.OrderAndWake.{sound, wake_of_sound}
 use Rattle.squeue_state.specs.declared.inner.Inner.{Inner}
 use Rattle.squeue_state.specs.declared.guarded.Guarded.{Guarded}

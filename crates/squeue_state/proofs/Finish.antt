@@ -7,10 +7,10 @@ use Rattle.turn_gate.specs.Passes.{number, seen}
 use Rattle.turn_gate.specs.declared.pass.Pass.{Pass}
 use Rattle.perimeter_core.specs.declared.resident.Resident.{Ghosts}
 use Rattle.perimeter_core.specs.declared.marks.Own.TheVariants.{Free}
-use Rattle.perimeter_core.specs.History.{Element, Setting, Limits, run}
+use Rattle.perimeter_core.specs.History.{Element, Setting, run}
 use Rattle.perimeter_core.specs.Legal.{Legal}
 use Rattle.perimeter_core.specs.Ending.{IsOver}
-use Rattle.perimeter_core.specs.Blocks.{Blocks, peri}
+use Rattle.perimeter_core.specs.Blocks.{peri}
 use Rattle.perimeter_core.proofs.TheEnd.{final}
 use Rattle.squeue_state.specs.Told.{marks_of}
 use Rattle.squeue_state.specs.declared.guarded.Guarded.{Guarded}

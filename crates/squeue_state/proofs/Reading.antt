@@ -3,8 +3,7 @@ use Rattle.std.proofs.Common.{◌≡◌, ◌+◌, ◌<◌, ◌^◌, ◌↔◌, �
 use Rattle.std.proofs.lemmas.List.{get_or_default}
 use Rattle.perimeter_core.specs.declared.resident.Resident.{Ghosts}
 use Rattle.perimeter_core.specs.Perimeter.{is_here, is_closed}
-use Rattle.perimeter_core.specs.History.{Element, Limits, start, run}
-use Rattle.perimeter_core.specs.Blocks.{Blocks}
+use Rattle.perimeter_core.specs.History.{Element, start, run}
 use Rattle.perimeter_core.proofs.BlocksFollow.{flags}
 use Rattle.perimeter_core.proofs.HistoryLength.{closed_flags}
 use Rattle.perimeter_core.proofs.Room.{queued_fits}

@@ -12,7 +12,7 @@ use Rattle.perimeter_core.specs.declared.marks.SynchAct.TheVariants as Done
 use Rattle.perimeter_core.specs.declared.marks.Own.{Own}
 use Rattle.perimeter_core.specs.declared.marks.Own.TheVariants.{Free, Out, Granted}
 use Rattle.perimeter_core.specs.Perimeter.{State, is_free, is_empty, polls, processed, unprocessed, here_after, after}
-use Rattle.perimeter_core.specs.History.{Element, Setting, Limits, start, run}
+use Rattle.perimeter_core.specs.History.{Element, Setting, start, run}
 use Rattle.perimeter_core.specs.Legal.{May}
 use Rattle.perimeter_core.specs.Deeds.{entries}
 use Rattle.perimeter_core.specs.Blocks.{Blocks, peri, with_feeds, with_act}

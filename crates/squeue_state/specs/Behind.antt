@@ -8,7 +8,7 @@ use Rattle.perimeter_core.specs.declared.marks.SynchAct.TheVariants as Done
 use Rattle.perimeter_core.specs.declared.marks.Own.{Own}
 use Rattle.perimeter_core.specs.declared.marks.Own.TheVariants.{Free, Out, Granted}
 use Rattle.perimeter_core.specs.Perimeter.{unprocessed}
-use Rattle.perimeter_core.specs.History.{Element, Limits, run, all_quotas, feed_quotas}
+use Rattle.perimeter_core.specs.History.{Element, run, all_quotas, feed_quotas}
 use Rattle.perimeter_core.specs.Legal.{Legal}
 use Rattle.perimeter_core.specs.Blocks.{Blocks, peri}
 use Rattle.squeue_state.specs.declared.inner.Inner.{Inner}

@@ -6,8 +6,7 @@ use Rattle.turn_gate.specs.declared.kept.Kept.{Kept}
 use Rattle.turn_gate.specs.declared.views.View.{View}
 use Rattle.perimeter_core.specs.declared.resident.Resident.{Ghosts}
 use Rattle.perimeter_core.specs.declared.marks.Own.TheVariants.{Out, Granted}
-use Rattle.perimeter_core.specs.History.{Element, Limits}
-use Rattle.perimeter_core.specs.Blocks.{Blocks}
+use Rattle.perimeter_core.specs.History.{Element}
 use Rattle.squeue_state.specs.declared.inner.Inner.{Inner}
 use Rattle.squeue_state.specs.declared.guarded.Guarded.{Guarded}
 use Rattle.squeue_state.specs.Behind.{StandsFor}

@@ -9,7 +9,7 @@ use Rattle.perimeter_core.specs.declared.marks.Mark.TheVariants as On
 use Rattle.perimeter_core.specs.Perimeter.{State, after, is_closed}
 use Rattle.perimeter_core.specs.History.{Element, Setting, Limits, start, worker, run}
 use Rattle.perimeter_core.specs.Legal.{May, Legal, only_last_ask}
-use Rattle.perimeter_core.specs.Blocks.{Blocks, peri}
+use Rattle.perimeter_core.specs.Blocks.{peri}
 use Rattle.perimeter_core.proofs.OneMore.{run_push}
 use Rattle.squeue_state.specs.Naming.{Named, Turned, Handed, setting_of}
 use Rattle.squeue_state.specs.Behind.{IsPeri}

@@ -13,7 +13,7 @@ use Rattle.perimeter_core.specs.declared.marks.SynchAct.{SynchAct}
 use Rattle.perimeter_core.specs.declared.marks.SynchAct.TheVariants as Done
 use Rattle.perimeter_core.specs.declared.marks.Mark.TheVariants as On
 use Rattle.perimeter_core.specs.Perimeter.{State, Idle, after, is_here, is_closed, has_ask, ends_with_ask, processed, unprocessed}
-use Rattle.perimeter_core.specs.History.{Element, Setting, Limits, start, run, made_by}
+use Rattle.perimeter_core.specs.History.{Element, Setting, start, run, made_by}
 use Rattle.perimeter_core.specs.Deeds.{acts, acts_after, feed_acts, times_left}
 use Rattle.perimeter_core.specs.Legal.{May, Legal, ActFits, NoteFits, only_last_ask}
 use Rattle.perimeter_core.specs.Blocks.{Blocks, peri}

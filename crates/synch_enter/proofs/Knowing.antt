@@ -18,7 +18,6 @@ use Rattle.perimeter_core.specs.declared.entries.Act.{Act}
 use Rattle.perimeter_core.specs.declared.entries.Entry.{Entry}
 use Rattle.perimeter_core.specs.declared.marks.SynchAct.{SynchAct}
 use Rattle.perimeter_core.specs.declared.marks.SynchAct.TheVariants as Done
-use Rattle.perimeter_core.specs.Blocks.{Blocks}
 use Rattle.std.specs.Prelude.{slice_index}
 use Rattle.synch_enter.specs.Synch.{MayAsk, Came, IsWay, StandsAtItsAsk, MayTake, MayPut, acts_at}
 use Rattle.squeue_enter.proofs.Bringing.{left_append, here_append}

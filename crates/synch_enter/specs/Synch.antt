@@ -12,7 +12,6 @@ use Rattle.perimeter_core.specs.Perimeter.{State, Idle, ends_with_ask, is_closed
 use Rattle.perimeter_core.specs.History.{Element, Limits, Setting, ask_quota, run, made_by}
 use Rattle.perimeter_core.specs.Deeds.{acts, feed_acts, times_left}
 use Rattle.perimeter_core.specs.Legal.{Legal, ActFits, ActInRange, NoteFits, asks_by, only_last_ask}
-use Rattle.perimeter_core.specs.Blocks.{Blocks}
 use Rattle.squeue_state.specs.Naming.{Named, Turned, setting_of}
 use Rattle.squeue_state.specs.Elements.{number_of, asked, claimed_ask, granted, accepted}
 use Rattle.squeue_drain.specs.declared.owner.Owner.{Owner}

@@ -1,7 +1,7 @@
-use Rattle.std.proofs.Common.{◌≡◌, Option, List, refl, ap, sym, ◌∙◌, subst}
+use Rattle.std.proofs.Common.{Option, refl}
 use Rattle.turn_gate.specs.declared.pass.Pass.{Pass}
 use Rattle.perimeter_core.specs.History.{Element}
-use Rattle.squeue_serve.specs.Places.{AtEach, AtEachTwo, Became, Holds, HasClosed, MayClose}
+use Rattle.squeue_serve.specs.Places.{Became, HasClosed}
 use Rattle.squeue_serve.specs.Lending.{lent_to}
 use Rattle.squeue_serve.proofs.Unused.{moved_two}
 use Rattle.squeue_serve.proofs.Lent.{lent_same, lent_other, lent_at, tasks_kept}

@@ -1,9 +1,9 @@
-use Rattle.std.proofs.Common.{◌≡◌, ◌⊎◌, ◌+◌, ◌≤◌, Option, List, inl, inr, refl, ap, sym, ◌∙◌, subst, arith}
+use Rattle.std.proofs.Common.{◌+◌, Option, List, inr, sym, ◌∙◌, subst, arith}
 use Rattle.turn_gate.specs.declared.pass.Pass.{Pass}
 use Rattle.perimeter_core.specs.History.{Element}
-use Rattle.squeue_serve.specs.Places.{AtEach, Holds, IsNew, MayClose}
+use Rattle.squeue_serve.specs.Places.{AtEach, Holds, IsNew}
 use Rattle.squeue_serve.specs.Lending.{lent_to}
-use Rattle.squeue_serve.proofs.Unused.{all_may_close, none_closed, one_closed}
+use Rattle.squeue_serve.proofs.Unused.{all_may_close, one_closed}
 use Rattle.squeue_serve.proofs.ending.close_unused.Goals as goal
 
 pub close_at-requires-clause-may : goal.close_at-requires-clause-may

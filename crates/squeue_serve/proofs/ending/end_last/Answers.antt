@@ -1,12 +1,5 @@
-use Rattle.std.proofs.Common.{◌≡◌, ◌+◌, ◌<◌, ◌≤◌, ◌∷◌, ◌++◌, [], ℕ, List, Some, Option, length, vec_len, vec_capacity, slice_get, refl, ap, sym, ◌∙◌, subst, arith, length-append}
-use Rattle.std.proofs.lemmas.Option.{slice_get_within}
-use Rattle.turn_gate.specs.History.{Each}
-use Rattle.turn_gate.specs.Passes.{IsPassOf, number}
-use Rattle.turn_gate.specs.declared.pass.Pass.{Pass}
-use Rattle.perimeter_core.specs.History.{Element}
-use Rattle.squeue_state.specs.Naming.{Named, setting_of}
-use Rattle.squeue_state.specs.Elements.{number_of}
-use Rattle.squeue_state.specs.Words.{HasSeenEnd}
+use Rattle.std.proofs.Common.{◌≡◌, ◌+◌, ◌∷◌, [], ℕ, List, Some, length, ap, sym, ◌∙◌, subst, arith, length-append}
+use Rattle.squeue_state.specs.Naming.{Named}
 use Rattle.squeue_serve.specs.Places.{MayEnd}
 use Rattle.squeue_serve.specs.Lending.{AreLent, AreHanded, HaveLast, IsRoomFor, lent_to}
 use Rattle.squeue_serve.proofs.Coming.{have_last, all_passes, all_over, all_less}

@@ -1,8 +1,6 @@
-use Rattle.std.proofs.Common.{◌≡◌, ◌≢◌, ◌+◌, ◌≤◌, ◌<◌, ◌++◌, ◌∷◌, [], ℕ, List, Option, Some, length, vec_capacity, vec_len, length-append, refl, ap, sym, ◌∙◌, subst, arith}
-use Rattle.turn_gate.specs.declared.pass.Pass.{Pass}
-use Rattle.perimeter_core.specs.History.{Element}
+use Rattle.std.proofs.Common.{◌≡◌, ◌+◌, ◌≤◌, ◌++◌, ◌∷◌, [], ℕ, Some, length, length-append, ap, sym, ◌∙◌, subst, arith}
 use Rattle.squeue_serve.specs.Lending.{holder, lent_to}
-use Rattle.squeue_serve.proofs.Lent.{none_taken, not_taken, one_taken, all_taken}
+use Rattle.squeue_serve.proofs.Lent.{not_taken, one_taken, all_taken}
 use Rattle.squeue_serve.proofs.ending.take_back.Goals as goal
 
 pub take_from-requires-clause-last : goal.take_from-requires-clause-last

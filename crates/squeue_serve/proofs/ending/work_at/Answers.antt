@@ -1,7 +1,4 @@
-use Rattle.std.proofs.Common.{◌≡◌, Option, Some, List, [], ◌∷◌, slice_index_or, slice_set, refl, ap, sym, ◌∙◌, subst}
-use Rattle.turn_gate.specs.declared.pass.Pass.{Pass}
-use Rattle.perimeter_core.specs.History.{Element}
-use Rattle.squeue_serve.specs.Places.{Became, Holds, HasWorked, MayWork}
+use Rattle.std.proofs.Common.{refl}
 use Rattle.squeue_serve.specs.Lending.{lent_to}
 use Rattle.squeue_serve.proofs.Lent.{lent_same, lent_other, lent_at, tasks_kept}
 use Rattle.squeue_serve.proofs.Unused.{place_worked}

@@ -1,4 +1,4 @@
-use Rattle.std.proofs.Common.{◌≡◌, ◌≢◌, ◌+◌, ◌≤◌, ◌<◌, ◌++◌, ◌∷◌, [], ℕ, List, Some, length, slice_get, vec_capacity, vec_len, length-append, append_assoc, refl, ap, sym, ◌∙◌, subst, arith}
+use Rattle.std.proofs.Common.{◌≡◌, ◌+◌, ◌++◌, ◌∷◌, [], ℕ, Some, length, slice_get, vec_len, length-append, append_assoc, refl, ap, ◌∙◌, subst, arith}
 use Rattle.squeue_serve.specs.Lending.{holder, lent_to}
 use Rattle.squeue_serve.proofs.Lent.{one_lent, all_lent, has_room, get_end}
 use Rattle.squeue_serve.proofs.jobs.lend_all.Goals as goal

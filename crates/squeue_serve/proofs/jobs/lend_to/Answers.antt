@@ -1,4 +1,4 @@
-use Rattle.std.proofs.Common.{◌≡◌, ◌++◌, ◌∷◌, [], Some, refl, ap, sym, ◌∙◌}
+use Rattle.std.proofs.Common.{◌++◌, ◌∷◌, [], Some, refl, ap, sym, ◌∙◌}
 use Rattle.squeue_serve.proofs.Lent.{lent_same, lent_other, lent_at, tasks_kept}
 use Rattle.squeue_serve.proofs.jobs.lend_to.Goals as goal
 

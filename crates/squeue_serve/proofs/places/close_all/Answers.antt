@@ -1,6 +1,4 @@
-use Rattle.std.proofs.Common.{◌≡◌, ◌<◌, ◌+◌, Option, sym, ap, subst, length, arith}
-use Rattle.std.proofs.Common.{slice_index_or, set}
-use Rattle.squeue_state.specs.Naming.{Named}
+use Rattle.std.proofs.Common.{arith}
 use Rattle.squeue_serve.specs.Places.{Holds, Became, MayClose, HasClosed}
 use Rattle.squeue_serve.proofs.AtEach.{changed_none, changed_all, changed_length, changed_here, changed_on}
 use Rattle.squeue_serve.proofs.places.close_all.Goals as goal

@@ -1,4 +1,3 @@
-use Rattle.std.proofs.Common.{◌≡◌}
 use Rattle.squeue_serve.specs.Places.{Holds, Became, MayClose, HasClosed}
 use Rattle.squeue_serve.proofs.AtEach.{Changed}
 use Rattle.squeue_serve.proofs.places.close_all.Given as goal

@@ -1,9 +1,7 @@
-use Rattle.std.proofs.Common.{◌≡◌, false, ap, sym, ◌∙◌, subst, arith}
+use Rattle.std.proofs.Common.{sym, subst}
 use Rattle.capture_reader.specs.Outcome.{CaptureFile}
 use Rattle.stream_plan.specs.Sound.{IsStream}
-use Rattle.stream_plan.specs.Streams.{StreamOf, item_count}
-use Rattle.stream_plan.proofs.PlanFacts.{one_of_all, part_of_sum}
-use Rattle.stream_blocks.specs.Standing.{HasServed}
+use Rattle.stream_plan.proofs.PlanFacts.{one_of_all}
 use Rattle.stream_blocks.proofs.OneMore.{nothing_served}
 use Rattle.stream_blocks.proofs.tests.served.Goals as goal
 

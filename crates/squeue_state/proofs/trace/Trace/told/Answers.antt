@@ -1,4 +1,4 @@
-use Rattle.std.proofs.Common.{◌≤◌, ◌+◌, ◌++◌, ◌∙◌, ap, sym, subst, refl, length, arith}
+use Rattle.std.proofs.Common.{◌≤◌, ◌+◌, ◌++◌, ◌∙◌, ap, sym, subst, refl, length}
 use Rattle.std.proofs.lemmas.List.{append-nil}
 use Rattle.perimeter_core.specs.declared.marks.Mark.TheVariants as On
 use Rattle.perimeter_core.specs.Deeds.{entries_of}

@@ -1,4 +1,4 @@
-use Rattle.std.proofs.Common.{◌≡◌, ℕ, ◌<◌, ◌%◌, true, sym, ◌∙◌, slice_index, List, []}
+use Rattle.std.proofs.Common.{◌≡◌, ◌<◌, ◌%◌, true, sym, ◌∙◌, slice_index, List, []}
 use Rattle.std.proofs.Math.Nat.{zero-mod}
 use Rattle.turn_gate.specs.Passes.{number, seen}
 use Rattle.turn_gate.specs.declared.pass.Pass.{Pass}
