@@ -440,7 +440,7 @@ finishes st una iss acked sent out wanted f w n u k =
           | inr d ↦ e ∙ ap (λ (t : Bool). end_of iss acked t) (sym d.0)
         ]
 
-both : (a b : Bool) → (a && b) ≡ true → (a ≡ true) × (b ≡ true)
+pub both : (a b : Bool) → (a && b) ≡ true → (a ≡ true) × (b ≡ true)
 both true b e = (refl, e)
 both false b e = absurd (false≢true e)
 

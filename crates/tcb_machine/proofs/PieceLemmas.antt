@@ -8,6 +8,7 @@ use Rattle.tcb_machine.specs.BlockState.{Block, unsent, psh, ack, snd_nxt}
 use Rattle.tcb_machine.specs.States.{is_listen}
 use Rattle.tcb_machine.specs.Output.{pieces, sends_pieces, sends_text, sendable, outputs_text}
 use Rattle.tcb_machine.specs.Limits.{least_mss, most_mss}
+use Rattle.byte_queues.proofs.RunLemmas.{drop-whole}
 
 not_zero : (n : ℕ) → 0 < n → eqb n 0 ≡ false
 not_zero n h = grind (arith, nat_tests)
@@ -42,12 +43,6 @@ take-take-le zero n xs h = refl
 take-take-le (suc m) zero xs h = absurd (omega (arith, h))
 take-take-le (suc m) (suc n) [] h = refl
 take-take-le (suc m) (suc n) (x ∷ xs) h = ap (λ (ys : List ℕ). x ∷ ys) (take-take-le m n xs (omega (arith, h)))
-
-drop-all : (n : ℕ) (xs : List ℕ) → length xs ≤ n → drop n xs ≡ []
-drop-all zero [] h = refl
-drop-all zero (x ∷ xs) h = absurd (omega (arith, h))
-drop-all (suc n) [] h = refl
-drop-all (suc n) (x ∷ xs) h = drop-all n xs (omega (arith, h))
 
 pieces-none : (k n : ℕ) → pieces k n [] ≡ []
 pieces-none zero n = refl
@@ -84,7 +79,7 @@ pub text-last : (left m : ℕ) (b : Block) → 0 < left → left ≤ m → left 
 text-last left m b some few within =
     let t = take left (unsent b) in
     let long : length t ≡ left = length-take-le left (unsent b) within in
-    let none : drop m t ≡ [] = drop-all m t (omega (arith, long, few)) in
+    let none : drop m t ≡ [] = drop-whole m t (omega (arith, long, few)) in
     let all : take m t ≡ t = take-all m t (omega (arith, long, few)) in
     let first : pieces left m t ≡ take m t ∷ pieces (length t - m) m (drop m t) = pieces-first left m t (omega (arith, long, some)) (omega (arith, long)) (omega (arith, some, few)) in
     ap (λ (ps : List (List ℕ)). sends_pieces ps b) first

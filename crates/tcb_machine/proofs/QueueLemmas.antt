@@ -3,6 +3,8 @@ use Rattle.std.proofs.Common.{◌≡◌, ℕ, ◌+◌, ◌-◌, ◌≤◌, List,
 use Rattle.std.specs.Prelude.{suc, zero}
 use Rattle.byte_queues.specs.ReceiveQueue.{Recv, Cells, gap, held, front, over_cells, cells_at, up_to, placed, without, next_of, ready_of}
 use Rattle.tcb_machine.specs.Limits.{whole_space}
+use Rattle.byte_queues.proofs.CellLemmas.{front-drop, front-over}
+use Rattle.byte_queues.proofs.PlaceLemmas.{up-more}
 
 record Kept (cs : Cells) (q r : Recv) : Type 0 where
   taken : r.taken ≡ q.taken
@@ -93,22 +95,6 @@ unfolding next_of
 next_near q h w = let u = up-le q.stream_end (q.taken + front q.got) in let f = front_length q.got in omega (arith, u, f, h, w)
 
 -- what was taken isn't past the next byte
-
-up-more : (e : Option ℕ) (m n : ℕ) → m ≤ n → up_to e m ≤ up_to e n
-up-more None m n h = h
-up-more (Some k) m n h = omega (arith, h)
-
-front-over : (cs ds : Cells) → front cs ≤ front (over_cells cs ds)
-front-over [] ds = omega arith
-front-over (None ∷ cs) ds = omega arith
-front-over (Some x ∷ cs) [] = omega arith
-front-over (Some x ∷ cs) (d ∷ ds) = let e = front-over cs ds in omega (arith, e)
-
-front-drop : (n : ℕ) (cs : Cells) → n ≤ front cs → n + front (drop n cs) ≡ front cs
-front-drop zero cs h = omega arith
-front-drop (suc n) [] h = absurd (omega (arith, h))
-front-drop (suc n) (None ∷ cs) h = absurd (omega (arith, h))
-front-drop (suc n) (Some x ∷ cs) h = let e = front-drop n cs (omega (arith, h)) in omega (arith, e)
 
 read-as : (q r : Recv) (cs : Cells) → r.taken ≡ q.taken → r.stream_end ≡ q.stream_end → r.got ≡ over_cells q.got cs → q.taken ≤ next_of q → r.taken ≤ next_of r
 unfolding next_of

@@ -188,7 +188,7 @@ closes-steady : (b c : Block) → Steady b c → Says b (closes c)
 unfolding closes
 closes-steady b c h = says-cond (is_ended c.recv) b (go (consumes c.state (record c { ack_due = true }))) (go c) (record { steady = consumes-steady c.state b (record c { ack_due = true }) (due-steady b c h) }) (is-go b c h)
 
-end-taken : (f : ℕ) (q : Recv) → (keeps_end f q).taken ≡ q.taken
+pub end-taken : (f : ℕ) (q : Recv) → (keeps_end f q).taken ≡ q.taken
 unfolding keeps_end with_end
 end-taken f q = chosen (is_end_kept f q)
   where

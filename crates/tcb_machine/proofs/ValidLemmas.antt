@@ -7,7 +7,7 @@ use Rattle.std.proofs.lemmas.List.{drop-drop}
 use Rattle.std.proofs.lemmas.List.Elements.{All-append, All-cons}
 use Rattle.segment_codec.specs.declared.packet.Seg.{Seg}
 use Rattle.segment_codec.specs.declared.packet.Reply.{Reply}
-use Rattle.byte_queues.specs.ReceiveQueue.{Recv, empty_recv, front, up_to, next_of, placed, with_end, with_cap, is_ended}
+use Rattle.byte_queues.specs.ReceiveQueue.{Recv, empty_recv, front, up_to, next_of, placed, with_end, with_cap, is_ended, ready_of, without}
 use Rattle.sq_base.specs.SerialOrder.{dist}
 use Rattle.tcb_machine.specs.States.{is_listen}
 use Rattle.tcb_machine.specs.BlockState.{Block, IsOurs, OurOptions, fin, syn, rst, ack, rst_of, syn_ack_of, segment_of, to_listen, new_block, has, in_flight, rcv_nxt, snd_nxt, snd_end, unsent, sends_ack, sends, listening, offered}
@@ -24,8 +24,9 @@ use Rattle.tcb_machine.specs.declared.kinds.State.{State}
 use Rattle.tcb_machine.specs.declared.kinds.State.TheVariants.{Listen, SynReceived, Established, FinWait1, FinWait2, CloseWait, Closing, LastAck, TimeWait}
 use Rattle.tcb_machine.specs.declared.kinds.AckKind.{AckKind}
 use Rattle.tcb_machine.specs.declared.kinds.AckKind.TheVariants.{Fresh, Equal, Old, Beyond}
-use Rattle.tcb_machine.proofs.QueueLemmas.{next_near, placed_taken, placed_edge, placed_cap, placed_below, placed_read}
+use Rattle.tcb_machine.proofs.QueueLemmas.{next_near, placed_taken, placed_edge, placed_cap, placed_below, placed_read, without_below, without_read}
 use Rattle.tcb_machine.specs.Limits.{most_mss, most_retransmissions, our_shift, plain_space, whole_space}
+use Rattle.tcb_machine.proofs.SteadyLemmas.{end-taken}
 
 none-gone : (n : ℕ) (xs : List ℕ) → xs ≡ drop (n - n) xs
 none-gone n xs = let e : 0 ≡ n - n = omega arith in ap (λ (k : ℕ). drop k xs) e
@@ -53,8 +54,16 @@ pub data Moved (b c : Block) : Type 0 where
   moves : Moves b c → Moved b c
   as_new : is_listen c.state ≡ true → IsValid c → Moved b c
 
-not-listen : (st : State) (b : Block) → is_listen st ≡ false → is_listen st ≡ true → b ≡ to_listen b
+pub not-listen : (st : State) (b : Block) → is_listen st ≡ false → is_listen st ≡ true → b ≡ to_listen b
 not-listen st b e f = absurd (false≢true (sym e ∙ f))
+
+-- a queue from which so many bytes that are ready leave
+pub without-receiving : (want n : ℕ) (q : Recv) → n ≤ ready_of q → IsReceiving want q → IsReceiving want (without n q)
+unfolding without
+without-receiving want n q w r =
+    let c = r.cap in
+    let s = r.space in
+    record { asked = r.asked; cap = c; space = omega (arith, c, s); below = without_below n q r.below; read = without_read n q w r.read }
 
 pub moves-valid : (b c : Block) → Moves b c → IsValid c
 moves-valid b c m = let k = m.keeps in record { recv = k.recv; send = k.send; mss = k.mss; timed = k.timed; ours = k.ours; new = not-listen c.state c m.opened }
@@ -158,11 +167,15 @@ sends-new r b e = ap (sends r) e
 sends-valid : (r : Reply) (b : Block) → IsOurs r → IsValid b → IsValid (sends r b)
 sends-valid r b o v = record { recv = v.recv; send = v.send; mss = v.mss; timed = v.timed; ours = ours-more b.replies r v.ours o; new = λ e. sends-new r b (v.new e) }
 
-new-taken : (b : Block) → b ≡ to_listen b → b.recv.taken ≡ 0
+pub new-taken : (b : Block) → b ≡ to_listen b → b.recv.taken ≡ 0
 unfolding to_listen
 new-taken b e = ap (λ (x : Block). x.recv.taken) e
 
-new-acked : (b : Block) → b ≡ to_listen b → b.acked ≡ 0
+pub new-out : (b : Block) → b ≡ to_listen b → b.out ≡ []
+unfolding to_listen
+new-out b e = ap (λ (x : Block). x.out) e
+
+pub new-acked : (b : Block) → b ≡ to_listen b → b.acked ≡ 0
 unfolding to_listen
 new-acked b e = ap (λ (x : Block). x.acked) e
 
@@ -378,14 +391,6 @@ end-kept want f q r = chosen (is_end_kept f q) refl
     chosen : (t : Bool) → is_end_kept f q ≡ t → IsReceiving want (cond t (with_end f q) q)
     chosen true e = end-receiving want f q r (leb-true (next_of q) f (third (is_none q.stream_end) (nat_lt f q.edge) (nat_le (next_of q) f) e))
     chosen false e = r
-
-end-taken : (f : ℕ) (q : Recv) → (keeps_end f q).taken ≡ q.taken
-unfolding keeps_end with_end
-end-taken f q = chosen (is_end_kept f q)
-  where
-    chosen : (t : Bool) → (cond t (record q { stream_end = Some f }) q).taken ≡ q.taken
-    chosen true = refl
-    chosen false = refl
 
 fins : (s : Seg) (f : ℕ) (b c : Block) → Moves b c → Moves b (takes_fin s f c)
 unfolding takes_fin
@@ -745,9 +750,9 @@ new-next : (b : Block) → b ≡ to_listen b → next_of b.recv ≡ 0
 unfolding to_listen next_of
 new-next b e = ap (λ (x : Block). next_of x.recv) e
 
-new-out : (b : Block) → b ≡ to_listen b → length b.out ≡ 0
+new-length : (b : Block) → b ≡ to_listen b → length b.out ≡ 0
 unfolding to_listen
-new-out b e = ap (λ (x : Block). length x.out) e
+new-length b e = ap (λ (x : Block). length x.out) e
 
 pub moved-next : (b c : Block) → Moved b c → b.recv.taken ≤ next_of b.recv → next_of c.recv ≤ next_of b.recv + whole_space
 moved-next b c (moves m) h =
@@ -759,7 +764,7 @@ moved-next b c (as_new e v) h = let n = new-next c (v.new e) in omega (arith, n)
 
 pub moved-offered : (b c : Block) → Moved b c → c.acked + length c.out ≤ b.acked + length b.out
 moved-offered b c (moves m) = m.keeps.offered
-moved-offered b c (as_new e v) = let a = new-acked c (v.new e) in let o = new-out c (v.new e) in omega (arith, a, o)
+moved-offered b c (as_new e v) = let a = new-acked c (v.new e) in let o = new-length c (v.new e) in omega (arith, a, o)
 
 pub segment-next : (now iss : ℕ) (s : Seg) (text : List ℕ) (b : Block) → IsValid b → next_of (left_by (tcp_segment now iss s text b)).recv < next_of b.recv + 2 ^ 21
 segment-next now iss s text b v =
