@@ -20,13 +20,14 @@ use Rattle.tcb_machine.specs.declared.kinds.State.TheVariants.{Listen, SynReceiv
 use Rattle.tcb_machine.specs.declared.kinds.AckKind.{AckKind}
 use Rattle.tcb_machine.specs.declared.kinds.AckKind.TheVariants.{Fresh, Equal, Old, Beyond}
 use Rattle.tcb_machine.proofs.QueueLemmas.{next_without}
-use Rattle.tcb_machine.proofs.ValidLemmas.{Moved, moves, as_new, Says, new-valid, moves-valid, segment-says, call-moved, output-moved, time-moved}
+use Rattle.tcb_machine.proofs.ValidLemmas.{Moved, moves, as_new, Says, new-valid, moves-valid, segment-says, call-moved, output-moved, time-moved, new-out}
 use Rattle.echo_services.specs.Pump.{throws, echoes_in, moves as moves_text, is_close_wait, ends, pump}
 use Rattle.echo_services.specs.Serving.{Entry, segment, time, asks}
 use Rattle.echo_services.specs.WholeStreams.{Whole, follows, all_offered, whole_followed, whole_enters, whole_serves, whole_new, IsEntry, AreEntries, IsNoClose, HasNoClose}
 use Rattle.echo_services.specs.declared.service.Service.TheVariants.{Echo}
-use Rattle.echo_services.proofs.EchoLemmas.{Echoed, echoed-in, no-bytes, nothing-gone, join-open, join-new, new-out, clock-says}
+use Rattle.echo_services.proofs.EchoLemmas.{Echoed, echoed-in, no-bytes, nothing-gone, join-open, join-new, clock-says}
 use Rattle.echo_services.proofs.ServingLemmas.{pumping, pumps-valid, enters-valid, enters-block}
+use Rattle.tcb_machine.proofs.NumberLemmas.{both}
 
 -- a step that wants no FIN, and in LAST-ACK takes nothing in
 
@@ -444,10 +445,6 @@ zero-is n e =
 ends-took : (t : Bool) (b x : Block) → Echoed b x → (t ≡ true → ready_of x.recv ≡ 0) → (x.fin_wanted ≡ true → (x.state ≡ LastAck) × (ready_of x.recv ≡ 0)) → Took b (cond t (wants_fin LastAck x) x)
 ends-took true b x h z l = record { acked = h.acked; out = h.out; rest = λ e. (refl, z refl) }
 ends-took false b x h z l = record { acked = h.acked; out = h.out; rest = l }
-
-both : (a b : Bool) → (a && b) ≡ true → (a ≡ true) × (b ≡ true)
-both true b e = (refl, e)
-both false b e = absurd (false≢true e)
 
 ending : (b x : Block) → Echoed b x → (x.fin_wanted ≡ true → (x.state ≡ LastAck) × (ready_of x.recv ≡ 0)) → Took b (ends x)
 ending b x h l =

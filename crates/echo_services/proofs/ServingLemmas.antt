@@ -7,7 +7,7 @@ use Rattle.segment_codec.specs.declared.packet.Reply.{Reply}
 use Rattle.byte_queues.specs.ReceiveQueue.{Recv, next_of, ready_of, next_bytes, without}
 use Rattle.byte_queues.specs.SendQueue.{room_of}
 use Rattle.byte_queues.proofs.WholeLemmas.{next-count}
-use Rattle.tcb_machine.specs.BlockState.{Block, IsOurs, new_block, offered, to_listen}
+use Rattle.tcb_machine.specs.BlockState.{Block, IsOurs, new_block, offered}
 use Rattle.tcb_machine.specs.CallAnswers.{tcp_call, close_in, wants_fin}
 use Rattle.tcb_machine.specs.Output.{output}
 use Rattle.tcb_machine.specs.States.{is_listen}
@@ -19,8 +19,8 @@ use Rattle.tcb_machine.specs.declared.kinds.Call.TheVariants as call
 use Rattle.tcb_machine.specs.declared.kinds.State.{State}
 use Rattle.tcb_machine.specs.declared.kinds.State.TheVariants.{Listen, SynReceived, Established, FinWait1, FinWait2, CloseWait, Closing, LastAck, TimeWait}
 use Rattle.tcb_machine.proofs.KeepLemmas.{output-same, output-offered, time-less, time-offered}
-use Rattle.tcb_machine.proofs.QueueLemmas.{without_below, without_read, next_without}
-use Rattle.tcb_machine.proofs.ValidLemmas.{Moved, moves, as_new, Says, new-valid, moves-valid, moved-valid, segment-says, segment-next, segment-offered, call-says, call-next, buffer-offered, output-moved, time-moved}
+use Rattle.tcb_machine.proofs.QueueLemmas.{next_without}
+use Rattle.tcb_machine.proofs.ValidLemmas.{Moved, moves, as_new, Says, new-valid, moves-valid, moved-valid, segment-says, segment-next, segment-offered, call-says, call-next, buffer-offered, output-moved, time-moved, without-receiving, not-listen, new-taken, new-acked}
 use Rattle.echo_services.specs.Pump.{throws, echoes, echoes_in, moves as moves_text, is_close_wait, ends, pump, followed}
 use Rattle.echo_services.specs.Serving.{Entry, segment, time, asks, enters, serves}
 use Rattle.echo_services.specs.WholeStreams.{Whole, follows, whole_followed, whole_enters, whole_serves, whole_new, IsBeside, IsEntry, AreEntries, AreBetween}
@@ -40,13 +40,6 @@ pub record Pumps (b c : Block) : Type 0 where
   pub next : next_of c.recv ≡ next_of b.recv
   pub acked : c.acked ≡ b.acked
   pub out : length c.out ≤ length b.out + 65535
-
-without-receiving : (want n : ℕ) (q : Recv) → n ≤ ready_of q → IsReceiving want q → IsReceiving want (without n q)
-unfolding without
-without-receiving want n q w r =
-    let c = r.cap in
-    let s = r.space in
-    record { asked = r.asked; cap = c; space = omega (arith, c, s); below = without_below n q r.below; read = without_read n q w r.read }
 
 -- so many bytes that are ready leave, and some are offered
 taking : (n : ℕ) (text : List ℕ) (b : Block) → is_listen b.state ≡ false → IsValid b → n ≤ ready_of b.recv → length text ≤ 65535 → Pumps b (record b { recv = without n b.recv; out = b.out ++ text })
@@ -137,14 +130,11 @@ pub pumping : (service : Service) (b : Block) → is_listen b.state ≡ false �
 unfolding pump
 pumping service b e v = ending b (moves_text service b.fin_wanted b) (moving service b.fin_wanted b e v)
 
-closed : (st : State) (b : Block) → is_listen st ≡ false → is_listen st ≡ true → b ≡ to_listen b
-closed st b e f = absurd (false≢true (sym e ∙ f))
-
 pub pumps-valid : (b c : Block) → IsValid b → Pumps b c → IsValid c
 pumps-valid b c v p =
     let m = p.mss in
     let o = v.mss in
-    record { recv = p.recv; send = p.send; mss = omega (arith, m, o); timed = p.timed; ours = subst (λ (rs : List Reply). All IsOurs rs) (sym p.replies) v.ours; new = closed c.state c p.opened }
+    record { recv = p.recv; send = p.send; mss = omega (arith, m, o); timed = p.timed; ours = subst (λ (rs : List Reply). All IsOurs rs) (sym p.replies) v.ours; new = not-listen c.state c p.opened }
 
 -- the block after pump and output, where they follow
 
@@ -186,14 +176,6 @@ serves-block service (e ∷ es) w = serves-block service es (whole_enters servic
 chosen-length : (t : Bool) (xs : List ℕ) (n : ℕ) → (t ≡ true → n ≡ 0) → (t ≡ false → length xs ≡ n) → length (cond t [] xs) ≡ n
 chosen-length true xs n p q = sym (p refl)
 chosen-length false xs n p q = q refl
-
-new-taken : (b : Block) → b ≡ to_listen b → b.recv.taken ≡ 0
-unfolding to_listen
-new-taken b e = ap (λ (x : Block). x.recv.taken) e
-
-new-acked : (b : Block) → b ≡ to_listen b → b.acked ≡ 0
-unfolding to_listen
-new-acked b e = ap (λ (x : Block). x.acked) e
 
 -- a step that takes what is ready, and acknowledges what was offered
 beside-after : (w : Whole) (c : Block) → IsBeside w → IsValid c
