@@ -3,24 +3,25 @@ use Rattle.std.proofs.Common.{◌≡◌, ℕ, ◌+◌, ◌-◌, ◌≤◌, List,
 use Rattle.std.proofs.lemmas.Bool.{false≢true}
 use Rattle.std.proofs.lemmas.List.{take-append-drop}
 use Rattle.segment_codec.specs.declared.packet.Seg.{Seg}
-use Rattle.byte_queues.specs.ReceiveQueue.{Recv, next_of, ready_of, without}
+use Rattle.byte_queues.specs.ReceiveQueue.{next_of, ready_of}
 use Rattle.byte_queues.specs.SendQueue.{room_of}
-use Rattle.tcb_machine.specs.BlockState.{Block, new_block, offered, to_listen}
+use Rattle.tcb_machine.specs.BlockState.{Block, new_block, offered}
 use Rattle.tcb_machine.specs.CallAnswers.{wants_fin}
 use Rattle.tcb_machine.specs.Output.{output}
-use Rattle.tcb_machine.specs.Room.{StreamsBelow, segment_growth}
+use Rattle.tcb_machine.specs.Room.{StreamsBelow}
 use Rattle.tcb_machine.specs.States.{is_listen}
 use Rattle.tcb_machine.specs.TcpStep.{Verdict, over, go, on, is_time_wait, tcp_segment}
 use Rattle.tcb_machine.specs.Timers.{tcp_time}
-use Rattle.tcb_machine.specs.Validity.{IsValid, IsReceiving, left_by}
+use Rattle.tcb_machine.specs.Validity.{IsValid, left_by}
 use Rattle.tcb_machine.specs.declared.kinds.State.{State}
 use Rattle.tcb_machine.specs.declared.kinds.State.TheVariants.{Listen, SynReceived, Established, FinWait1, FinWait2, CloseWait, Closing, LastAck, TimeWait}
 use Rattle.tcb_machine.proofs.KeepLemmas.{output-same, output-offered, time-less, time-offered}
-use Rattle.tcb_machine.proofs.QueueLemmas.{without_below, without_read, next_without}
-use Rattle.tcb_machine.proofs.ValidLemmas.{Moved, moves, as_new, Says, new-valid, moves-valid, moved-valid, segment-says, segment-next, segment-offered, output-moved, time-moved, wanting}
+use Rattle.tcb_machine.proofs.QueueLemmas.{next_without}
+use Rattle.tcb_machine.proofs.ValidLemmas.{Moved, moves, as_new, Says, new-valid, moves-valid, moved-valid, segment-says, segment-next, segment-offered, output-moved, time-moved, wanting, without-receiving, new-out, not-listen}
 use Rattle.chargen_service.specs.Chargen.{Generating, new_generating, pattern_from, most_given, throws_ready, gives, gives_in, pump, followed, Entry, segment, time, enters, serves}
 use Rattle.chargen_service.specs.WholeStream.{Whole, all_offered, follows, whole_followed, whole_enters, whole_serves, whole_new}
 use Rattle.chargen_service.proofs.PatternLemmas.{pattern_length, pattern_begins}
+use Rattle.tcb_machine.specs.Limits.{segment_growth}
 
 -- the pump, outside LISTEN: so many bytes more of the pattern are offered
 record Pumps (x y : Generating) : Type 0 where
@@ -34,20 +35,10 @@ record Pumps (x y : Generating) : Type 0 where
   given : y.given ≡ x.given + more
   most : x.given ≤ most_given → y.given ≤ most_given
 
-not-listen : (b : Block) → is_listen b.state ≡ false → is_listen b.state ≡ true → b ≡ to_listen b
-not-listen b e f = absurd (false≢true (sym e ∙ f))
-
-without-receiving : (want n : ℕ) (q : Recv) → n ≤ ready_of q → IsReceiving want q → IsReceiving want (without n q)
-unfolding without
-without-receiving want n q w r =
-    let c = r.cap in
-    let s = r.space in
-    record { asked = r.asked; cap = c; space = omega (arith, c, s); below = without_below n q r.below; read = without_read n q w r.read }
-
 thrown : (b : Block) → is_listen b.state ≡ false → IsValid b → IsValid (throws_ready b)
 thrown b e v =
     let n = ready_of b.recv in
-    record { recv = without-receiving b.want n b.recv (omega arith) v.recv; send = v.send; mss = v.mss; timed = v.timed; ours = v.ours; new = not-listen (throws_ready b) e }
+    record { recv = without-receiving b.want n b.recv (omega arith) v.recv; send = v.send; mss = v.mss; timed = v.timed; ours = v.ours; new = not-listen b.state (throws_ready b) e }
 
 resting : (x : Generating) → is_listen x.block.state ≡ false → IsValid x.block → Pumps x x
 resting x e v = record { opened = e; valid = v; acked = refl; next = refl; more = 0; small = omega arith; out = sym (append-nil x.block.out); given = omega arith; most = λ h. h }
@@ -59,7 +50,7 @@ giving n x w u e v =
     let l = length-append x.block.out (pattern_from x.given n) in
     record {
       opened = e;
-      valid = record { recv = v.recv; send = record { acked_sent = v.send.acked_sent; sent_out = omega (arith, s, l) }; mss = v.mss; timed = v.timed; ours = v.ours; new = not-listen y.block e };
+      valid = record { recv = v.recv; send = record { acked_sent = v.send.acked_sent; sent_out = omega (arith, s, l) }; mss = v.mss; timed = v.timed; ours = v.ours; new = not-listen y.block.state y.block e };
       acked = refl;
       next = refl;
       more = n;
@@ -150,10 +141,6 @@ more-all true gone out rest more k e z h = absurd (false≢true (sym e))
 more-all false gone out rest more k e z h =
     ap (λ (j : ℕ). (gone ++ take j out) ++ rest) z
     ∙ (ap (λ (xs : List ℕ). xs ++ rest) (append-nil gone) ∙ (ap (λ (xs : List ℕ). gone ++ xs) h ∙ sym (append_assoc gone out more)))
-
-new-out : (b : Block) → b ≡ to_listen b → b.out ≡ []
-unfolding to_listen
-new-out b e = ap (λ (x : Block). x.out) e
 
 record IsPattern (w : Whole) : Type 0 where
   valid : IsValid w.now.block

@@ -7,8 +7,9 @@ ghost use Rattle.tcb_machine.specs.BlockState.{offered};
 ghost use Rattle.tcb_machine.specs.CallAnswers.{wants_fin};
 ghost use Rattle.tcb_machine.specs.Room.{HasRoom};
 ghost use Rattle.tcb_machine.specs.TcpStep.{said};
-ghost use Rattle.tcb_machine.specs.Timers.{tcp_time};
-ghost use Rattle.chargen_service.specs.Chargen.{new_generating, enters, segment, time, followed, pump, gives, gives_in};
+ghost use Rattle.chargen_service.specs.Chargen.{new_generating, enters, segment, time, followed, pump, gives, most_given};
+ghost use Rattle.tcb_machine.specs.Limits.{last_time, whole_space};
+ghost use Rattle.byte_queues.specs.Limits.{send_space};
 
 use crate::text::pattern_text;
 use segment_codec::Seg;
@@ -16,7 +17,10 @@ use std::alloc::{AllocError, Global};
 use std::marker::Model;
 use tcb_machine::{Call, Next, State, Tcb};
 
-/// A connection's block with the generator behind it.
+/// How many bytes are offered in a block's life at most.
+const MOST_GIVEN: u16 = 65_535;
+
+/// A connection's block with the generator behind it (RFC 864).
 #[derive(Drop)]
 pub struct GenBlock {
     tcb: Tcb,
@@ -62,11 +66,11 @@ impl GenBlock {
         text: &[u8],
     ) -> Result<(), AllocError>
         requires clock { self.old.block.clock ≤ at }
-        requires time { at ≤ 2 ^ 62 }
+        requires time { at ≤ last_time }
         requires room { HasRoom self.old.block }
         ensures step { OnOk result (self.new ≡ enters (segment at iss seg.now text.now) self.old) }
         ensures clock { OnOk result (self.new.block.clock ≡ at) }
-        ensures next { OnOk result (next_of self.new.block.recv ≤ next_of self.old.block.recv + 2 ^ 20) }
+        ensures next { OnOk result (next_of self.new.block.recv ≤ next_of self.old.block.recv + whole_space) }
         ensures offered { OnOk result (offered self.new.block ≤ offered self.old.block + 2 ^ 16) }
         ensures anew { OnErr result (self.new ≡ new_generating) }
     {
@@ -81,7 +85,7 @@ impl GenBlock {
     /// new, at clock 0 and with no reply.
     pub fn time(&mut self, alloc: Global, at: u64) -> Result<(), AllocError>
         requires clock { self.old.block.clock ≤ at }
-        requires time { at ≤ 2 ^ 62 }
+        requires time { at ≤ last_time }
         ensures step { OnOk result (self.new ≡ enters (time at) self.old) }
         ensures clock { OnOk result (self.new.block.clock ≡ at) }
         ensures next { OnOk result (next_of self.new.block.recv ≤ next_of self.old.block.recv) }
@@ -105,11 +109,11 @@ impl GenBlock {
         text: &[u8],
     ) -> Result<(), AllocError>
         requires clock { self.old.block.clock ≤ at }
-        requires time { at ≤ 2 ^ 62 }
+        requires time { at ≤ last_time }
         requires room { HasRoom self.old.block }
         ensures step { OnOk result (self.new ≡ enters (segment at iss seg.now text.now) self.old) }
         ensures clock { OnOk result (self.new.block.clock ≡ at) }
-        ensures next { OnOk result (next_of self.new.block.recv ≤ next_of self.old.block.recv + 2 ^ 20) }
+        ensures next { OnOk result (next_of self.new.block.recv ≤ next_of self.old.block.recv + whole_space) }
         ensures offered { OnOk result (offered self.new.block ≤ offered self.old.block + 2 ^ 16) }
     {
         let next = self.tcb.segment(alloc, at, iss, seg, text)?;
@@ -138,7 +142,7 @@ impl GenBlock {
         ensures pumped { OnOk result (self.new ≡ pump self.old) }
         ensures clock { OnOk result (self.new.block.clock ≡ self.old.block.clock) }
         ensures next { OnOk result (next_of self.new.block.recv ≡ next_of self.old.block.recv) }
-        ensures offered { OnOk result (offered self.new.block ≤ offered self.old.block + 65535) }
+        ensures offered { OnOk result (offered self.new.block ≤ offered self.old.block + send_space) }
     {
         self.tcb.skip(self.tcb.ready());
         match self.tcb.state() {
@@ -151,12 +155,12 @@ impl GenBlock {
     /// As much more of the pattern is offered as there is room for, and as is left of it.
     #[tactic(auto, unfolding(tcb_machine::specs::BlockState::offered), using(crate::proofs::PatternLemmas::given_length))]
     fn give(&mut self, alloc: Global) -> Result<(), AllocError>
-        ensures given { OnOk result (self.new ≡ gives (min (room_of self.old.block.out) (65535 - self.old.given)) self.old) }
+        ensures given { OnOk result (self.new ≡ gives (min (room_of self.old.block.out) (most_given - self.old.given)) self.old) }
         ensures clock { OnOk result (self.new.block.clock ≡ self.old.block.clock) }
         ensures next { OnOk result (next_of self.new.block.recv ≡ next_of self.old.block.recv) }
-        ensures offered { OnOk result (offered self.new.block ≤ offered self.old.block + 65535) }
+        ensures offered { OnOk result (offered self.new.block ≤ offered self.old.block + send_space) }
     {
-        let left = u16::MAX - self.given;
+        let left = MOST_GIVEN - self.given;
         let n = self.tcb.room().min(u32::from(left)) as u16;
         let text = pattern_text(alloc, self.given, n)?;
         self.tcb.offer(text.as_slice())?;

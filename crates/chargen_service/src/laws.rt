@@ -1,12 +1,12 @@
 //! What the definitions say of a block that generates: each law is a function that does nothing, whose contract is the law.
 
-ghost use Rattle.std.specs.Prelude.{◌≡◌, ℕ, ◌+◌, ◌-◌, ◌^◌, ◌<◌, ◌≤◌, List, ◌∷◌, length};
-ghost use Rattle.byte_queues.specs.ReceiveQueue.{next_of};
-ghost use Rattle.tcb_machine.specs.Room.{StreamsBelow, segment_growth};
+ghost use Rattle.std.specs.Prelude.{◌≡◌, ℕ, ◌+◌, ◌≤◌, List};
+ghost use Rattle.tcb_machine.specs.Room.{StreamsBelow};
 ghost use Rattle.tcb_machine.specs.Validity.{IsValid};
 ghost use Rattle.chargen_service.specs.Chargen.{Generating, Entry, segment, time, enters, serves, new_generating, pattern_from, most_given};
 ghost use Rattle.chargen_service.specs.WholeStream.{whole_serves, whole_new, all_offered};
 ghost use Rattle.segment_codec.specs.declared.packet.Seg.{Seg};
+ghost use Rattle.tcb_machine.specs.Limits.{segment_growth};
 
 /// Whatever a block is given leaves it valid, from a new one on.
 pub fn every_served_block_is_valid()

@@ -5,7 +5,7 @@ ghost use Rattle.chargen_service.specs.Chargen.{pattern, pattern_from};
 
 use std::alloc::{AllocError, Global};
 
-/// Byte `i` of the pattern: the printable characters of ASCII, from the space to the tilde, again and again.
+/// Byte `i` of the pattern: the printable characters of ASCII, from the space to the tilde, again and again (RFC 864).
 pub fn pattern(i: u64) -> u8
     ensures { result ≡ pattern i }
 {

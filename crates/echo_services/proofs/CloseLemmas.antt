@@ -1,7 +1,8 @@
 -- What echo offers is what it took, also behind the close: where no program closes, our FIN is wanted only once nothing is left to take.
 use Rattle.std.proofs.Common.{◌≡◌, ℕ, ◌+◌, ◌-◌, List, [], ◌∷◌, ◌++◌, Option, None, Some, Bool, true, false, cond, not, ◌==◌, ◌&&◌, ◌||◌, ◌⊎◌, inl, inr, length, drop, take, min, max, refl, sym, ap, ◌∙◌, subst, arith, append_assoc, append-nil}
 use Rattle.std.specs.Prelude.{nat_lt}
-use Rattle.std.proofs.lemmas.Bool.{false≢true, and_parts}
+use Rattle.std.proofs.lemmas.Bool.{false≢true}
+use Rattle.std.proofs.lemmas.Bool.Decides.{eqb_tells}
 use Rattle.std.proofs.lemmas.List.{take-append-drop}
 use Rattle.segment_codec.specs.declared.packet.Seg.{Seg}
 use Rattle.byte_queues.specs.ReceiveQueue.{Recv, next_of, ready_of, next_bytes, without, with_cap, placed, is_ended}
@@ -19,14 +20,14 @@ use Rattle.tcb_machine.specs.declared.kinds.State.TheVariants.{Listen, SynReceiv
 use Rattle.tcb_machine.specs.declared.kinds.AckKind.{AckKind}
 use Rattle.tcb_machine.specs.declared.kinds.AckKind.TheVariants.{Fresh, Equal, Old, Beyond}
 use Rattle.tcb_machine.proofs.QueueLemmas.{next_without}
-use Rattle.tcb_machine.proofs.ValidLemmas.{Moved, moves, as_new, Says, new-valid, moves-valid, segment-says, call-moved, output-moved, time-moved}
-use Rattle.tcb_machine.proofs.NumberLemmas.{is-zero}
+use Rattle.tcb_machine.proofs.ValidLemmas.{Moved, moves, as_new, Says, new-valid, moves-valid, segment-says, call-moved, output-moved, time-moved, new-out}
 use Rattle.echo_services.specs.Pump.{throws, echoes_in, moves as moves_text, is_close_wait, ends, pump}
 use Rattle.echo_services.specs.Serving.{Entry, segment, time, asks}
 use Rattle.echo_services.specs.WholeStreams.{Whole, follows, all_offered, whole_followed, whole_enters, whole_serves, whole_new, IsEntry, AreEntries, IsNoClose, HasNoClose}
 use Rattle.echo_services.specs.declared.service.Service.TheVariants.{Echo}
-use Rattle.echo_services.proofs.EchoLemmas.{Echoed, echoed-in, no-bytes, nothing-gone, join-open, join-new, new-out, clock-says}
+use Rattle.echo_services.proofs.EchoLemmas.{Echoed, echoed-in, no-bytes, nothing-gone, join-open, join-new, clock-says}
 use Rattle.echo_services.proofs.ServingLemmas.{pumping, pumps-valid, enters-valid, enters-block}
+use Rattle.tcb_machine.proofs.NumberLemmas.{both}
 
 -- a step that wants no FIN, and in LAST-ACK takes nothing in
 
@@ -433,6 +434,13 @@ record Took (b d : Block) : Type 0 where
   out : d.out ≡ b.out ++ next_bytes (d.recv.taken - b.recv.taken) b.recv
   rest : d.fin_wanted ≡ true → (d.state ≡ LastAck) × (ready_of d.recv ≡ 0)
 
+zero-is : (n : ℕ) → (n == 0) ≡ true → n ≡ 0
+zero-is n e =
+    elim (eqb_tells n 0) [
+      | inl d ↦ d.1
+      | inr d ↦ absurd (false≢true (sym d.0 ∙ e))
+    ]
+
 -- where all came back, our FIN is wanted
 ends-took : (t : Bool) (b x : Block) → Echoed b x → (t ≡ true → ready_of x.recv ≡ 0) → (x.fin_wanted ≡ true → (x.state ≡ LastAck) × (ready_of x.recv ≡ 0)) → Took b (cond t (wants_fin LastAck x) x)
 ends-took true b x h z l = record { acked = h.acked; out = h.out; rest = λ e. (refl, z refl) }
@@ -441,7 +449,7 @@ ends-took false b x h z l = record { acked = h.acked; out = h.out; rest = l }
 ending : (b x : Block) → Echoed b x → (x.fin_wanted ≡ true → (x.state ≡ LastAck) × (ready_of x.recv ≡ 0)) → Took b (ends x)
 ending b x h l =
     ends-took (is_close_wait x.state && ((ready_of x.recv == 0) && not x.fin_wanted)) b x h
-    (λ e. is-zero (ready_of x.recv) (and_parts (ready_of x.recv == 0) (not x.fin_wanted) (and_parts (is_close_wait x.state) ((ready_of x.recv == 0) && not x.fin_wanted) e).1).0) l
+    (λ e. zero-is (ready_of x.recv) (both (ready_of x.recv == 0) (not x.fin_wanted) (both (is_close_wait x.state) ((ready_of x.recv == 0) && not x.fin_wanted) e).1).0) l
 
 pump-took : (b : Block) → (b.fin_wanted ≡ true → (b.state ≡ LastAck) × (ready_of b.recv ≡ 0)) → Took b (pump Echo b)
 unfolding pump

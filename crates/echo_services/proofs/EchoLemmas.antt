@@ -4,7 +4,7 @@ use Rattle.std.proofs.lemmas.Bool.{false≢true}
 use Rattle.std.proofs.lemmas.List.{take-append-drop}
 use Rattle.byte_queues.specs.ReceiveQueue.{Recv, ready_of, next_bytes, without}
 use Rattle.byte_queues.specs.SendQueue.{room_of}
-use Rattle.tcb_machine.specs.BlockState.{Block, new_block, to_listen}
+use Rattle.tcb_machine.specs.BlockState.{Block, new_block}
 use Rattle.tcb_machine.specs.CallAnswers.{tcp_call, wants_fin}
 use Rattle.tcb_machine.specs.Output.{output}
 use Rattle.tcb_machine.specs.States.{is_listen}
@@ -13,7 +13,7 @@ use Rattle.tcb_machine.specs.Timers.{tcp_time}
 use Rattle.tcb_machine.specs.Validity.{IsValid}
 use Rattle.tcb_machine.specs.declared.kinds.State.{State}
 use Rattle.tcb_machine.specs.declared.kinds.State.TheVariants.{Listen, SynReceived, Established, FinWait1, FinWait2, CloseWait, Closing, LastAck, TimeWait}
-use Rattle.tcb_machine.proofs.ValidLemmas.{Moves, Moved, moves, as_new, Says, new-valid, moves-valid, segment-says, call-says, output-moved, time-moved}
+use Rattle.tcb_machine.proofs.ValidLemmas.{Moves, Moved, moves, as_new, Says, new-valid, moves-valid, segment-says, call-says, output-moved, time-moved, new-out}
 use Rattle.echo_services.specs.Pump.{echoes, echoes_in, moves as moves_text, is_close_wait, pump}
 use Rattle.echo_services.specs.Serving.{Entry, segment, time, asks}
 use Rattle.echo_services.specs.WholeStreams.{Whole, follows, all_offered, whole_followed, whole_enters, whole_serves, whole_new, IsEntry, AreEntries}
@@ -36,10 +36,6 @@ join-open false xs ys zs e h = h
 pub join-new : (t : Bool) (xs ys zs : List ℕ) → t ≡ true → zs ≡ [] → cond t [] xs ++ zs ≡ cond t [] ys
 join-new true xs ys zs e h = h
 join-new false xs ys zs e h = absurd (false≢true e)
-
-pub new-out : (b : Block) → b ≡ to_listen b → b.out ≡ []
-unfolding to_listen
-new-out b e = ap (λ (x : Block). x.out) e
 
 echoing-open : (w : Whole) (c : Block) → IsEchoing w → Leaves w.block c → IsEchoing (follows w c)
 echoing-open w c h l f =

@@ -19,8 +19,8 @@ use Rattle.tcb_machine.specs.declared.kinds.Call.TheVariants as call
 use Rattle.tcb_machine.specs.declared.kinds.State.{State}
 use Rattle.tcb_machine.specs.declared.kinds.State.TheVariants.{Listen, SynReceived, Established, FinWait1, FinWait2, CloseWait, Closing, LastAck, TimeWait}
 use Rattle.tcb_machine.proofs.KeepLemmas.{output-same, output-offered, time-less, time-offered}
-use Rattle.tcb_machine.proofs.QueueLemmas.{without_below, without_read, next_without}
-use Rattle.tcb_machine.proofs.ValidLemmas.{Moved, moves, as_new, Says, new-valid, moves-valid, moved-valid, segment-says, segment-next, segment-offered, call-says, call-next, buffer-offered, output-moved, time-moved, new-acked, new-taken, not-listen}
+use Rattle.tcb_machine.proofs.QueueLemmas.{next_without}
+use Rattle.tcb_machine.proofs.ValidLemmas.{Moved, moves, as_new, Says, new-valid, moves-valid, moved-valid, segment-says, segment-next, segment-offered, call-says, call-next, buffer-offered, output-moved, time-moved, without-receiving, not-listen, new-taken, new-acked}
 use Rattle.echo_services.specs.Pump.{throws, echoes, echoes_in, moves as moves_text, is_close_wait, ends, pump, followed}
 use Rattle.echo_services.specs.Serving.{Entry, segment, time, asks, enters, serves}
 use Rattle.echo_services.specs.WholeStreams.{Whole, follows, whole_followed, whole_enters, whole_serves, whole_new, IsBeside, IsEntry, AreEntries, AreBetween}
@@ -40,13 +40,6 @@ pub record Pumps (b c : Block) : Type 0 where
   pub next : next_of c.recv ≡ next_of b.recv
   pub acked : c.acked ≡ b.acked
   pub out : length c.out ≤ length b.out + 65535
-
-without-receiving : (want n : ℕ) (q : Recv) → n ≤ ready_of q → IsReceiving want q → IsReceiving want (without n q)
-unfolding without
-without-receiving want n q w r =
-    let c = r.cap in
-    let s = r.space in
-    record { asked = r.asked; cap = c; space = omega (arith, c, s); below = without_below n q r.below; read = without_read n q w r.read }
 
 -- so many bytes that are ready leave, and some are offered
 taking : (n : ℕ) (text : List ℕ) (b : Block) → is_listen b.state ≡ false → IsValid b → n ≤ ready_of b.recv → length text ≤ 65535 → Pumps b (record b { recv = without n b.recv; out = b.out ++ text })

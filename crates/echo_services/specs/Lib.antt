@@ -1,3 +1,4 @@
+pub mod Limits
 pub mod Pump
 pub mod Serving
 pub mod WholeStreams

@@ -10,6 +10,7 @@ use Rattle.tcb_machine.specs.declared.kinds.State.{State}
 use Rattle.tcb_machine.specs.declared.kinds.State.TheVariants.{Listen, SynReceived, Established, FinWait1, FinWait2, CloseWait, Closing, LastAck, TimeWait}
 use Rattle.echo_services.specs.declared.service.Service.{Service}
 use Rattle.echo_services.specs.declared.service.Service.TheVariants.{Echo, Discard}
+use Rattle.echo_services.specs.Limits.{echo_port}
 
 abbrev pub throws : ℕ → Block → Block
 throws n b = record b { recv = without n b.recv }
@@ -58,4 +59,4 @@ followed service (on b) = b
 
 -- the service of a port
 abbrev pub service_of : ℕ → Service
-service_of port = if port == 7 then Echo else Discard
+service_of port = if port == echo_port then Echo else Discard

@@ -1,6 +1,6 @@
 //! What the definitions say of a connection that is served: each law is a function that does nothing, whose contract is the law.
 
-ghost use Rattle.std.specs.Prelude.{◌≡◌, false, ℕ, ◌+◌, ◌^◌, ◌<◌, ◌≤◌, List, ◌∷◌};
+ghost use Rattle.std.specs.Prelude.{◌≡◌, false, ℕ, ◌+◌, ◌<◌, List, ◌∷◌};
 ghost use Rattle.byte_queues.specs.ReceiveQueue.{next_of};
 ghost use Rattle.segment_codec.specs.declared.packet.Seg.{Seg};
 ghost use Rattle.tcb_machine.specs.BlockState.{Block, new_block, offered};
@@ -9,6 +9,7 @@ ghost use Rattle.echo_services.specs.Serving.{Entry, segment, serves};
 ghost use Rattle.echo_services.specs.WholeStreams.{IsBeside, AreEntries, AreBetween, HasNoClose, all_offered, whole_serves, whole_new};
 ghost use Rattle.echo_services.specs.declared.service.Service.{Service};
 ghost use Rattle.echo_services.specs.declared.service.Service.TheVariants.{Echo};
+ghost use Rattle.tcb_machine.specs.Limits.{segment_growth};
 
 /// Whatever a connection is given leaves it a valid block, from a new one on.
 pub fn every_served_block_is_valid()
@@ -25,8 +26,10 @@ pub fn serving_is_kept()
 /// From one segment to the next, whatever calls and times stand between, the number of the next byte and the bytes offered
 /// rise by less than 2^21 each.
 pub fn a_segment_adds_little()
-    ensures next { (service : Service) (now iss : ℕ) (s : Seg) (text : List ℕ) (es : List Entry) (b : Block) → AreBetween es → IsValid b → next_of (serves service (segment now iss s text ∷ es) b).recv < next_of b.recv + 2 ^ 21 }
-    ensures offered { (service : Service) (now iss : ℕ) (s : Seg) (text : List ℕ) (es : List Entry) (b : Block) → AreBetween es → IsValid b → offered (serves service (segment now iss s text ∷ es) b) < offered b + 2 ^ 21 }
+    ensures next { (service : Service) (now iss : ℕ) (s : Seg) (text : List ℕ) (es : List Entry) (b : Block) → AreBetween es → IsValid b
+        → next_of (serves service (segment now iss s text ∷ es) b).recv < next_of b.recv + segment_growth }
+    ensures offered { (service : Service) (now iss : ℕ) (s : Seg) (text : List ℕ) (es : List Entry) (b : Block) → AreBetween es → IsValid b
+        → offered (serves service (segment now iss s text ∷ es) b) < offered b + segment_growth }
 {}
 
 /// What echo has offered since LISTEN is what it took, byte for byte, as long as our FIN isn't wanted (RFC 862). Where no program

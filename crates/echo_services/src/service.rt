@@ -1,28 +1,39 @@
 //! Which service a port has, and what it does with what was received.
 
 ghost use Rattle.std.specs.Prelude.{◌≡◌, ◌+◌, ◌≤◌, ◌⊎◌, min, OnOk};
-ghost use Rattle.tcb_machine.specs.BlockState.{Block, offered};
-ghost use Rattle.echo_services.specs.Pump.{service_of, moves, echoes_in, ends, echoes, pump};
+ghost use Rattle.tcb_machine.specs.BlockState.{offered};
+ghost use Rattle.echo_services.specs.Pump.{service_of, moves, ends, echoes, pump};
 ghost use Rattle.byte_queues.specs.ReceiveQueue.{next_of, ready_of};
 ghost use Rattle.byte_queues.specs.SendQueue.{room_of};
+ghost use Rattle.echo_services.specs.Limits.{discard_port, echo_port};
+ghost use Rattle.tcb_machine.specs.Limits.{whole_space};
+ghost use Rattle.byte_queues.specs.Limits.{send_space};
 
 use std::alloc::{AllocError, Global};
 use tcb_machine::{State, Tcb};
 
+/// The port of echo (RFC 862).
+pub const ECHO_PORT: u16 = 7;
+
+/// The port of discard (RFC 863).
+pub const DISCARD_PORT: u16 = 9;
+
 /// The services of RFC 862 and RFC 863.
 #[derive(Clone, Copy, Debug, PartialEq, Eq)]
 pub enum Service {
+    /// What was received comes back, byte for byte.
     Echo,
+    /// What was received is thrown away.
     Discard,
 }
 
 impl Service {
     /// The service of a port: 7 is echo, 9 discard.
     pub fn of(port: u16) -> Service
-        requires { (port ≡ 7) ⊎ (port ≡ 9) }
+        requires { (port ≡ echo_port) ⊎ (port ≡ discard_port) }
         ensures { result ≡ service_of port }
     {
-        if port == 7 {
+        if port == ECHO_PORT {
             Service::Echo
         } else {
             Service::Discard
@@ -36,9 +47,9 @@ impl Service {
 pub fn pump(service: Service, tcb: &mut Tcb, alloc: Global) -> Result<(), AllocError>
     ensures moved { OnOk result (tcb.new ≡ pump service tcb.old) }
     ensures clock { OnOk result (tcb.new.clock ≡ tcb.old.clock) }
-    ensures taken { OnOk result (tcb.new.recv.taken ≤ tcb.old.recv.taken + 1048576) }
+    ensures taken { OnOk result (tcb.new.recv.taken ≤ tcb.old.recv.taken + whole_space) }
     ensures next { OnOk result (next_of tcb.new.recv ≡ next_of tcb.old.recv) }
-    ensures offered { OnOk result (offered tcb.new ≤ offered tcb.old + 65535) }
+    ensures offered { OnOk result (offered tcb.new ≤ offered tcb.old + send_space) }
 {
     move_text(service, tcb, alloc)?;
     end(tcb);
@@ -50,9 +61,9 @@ pub fn pump(service: Service, tcb: &mut Tcb, alloc: Global) -> Result<(), AllocE
 fn move_text(service: Service, tcb: &mut Tcb, alloc: Global) -> Result<(), AllocError>
     ensures moved { OnOk result (tcb.new ≡ moves service tcb.old.fin_wanted tcb.old) }
     ensures clock { OnOk result (tcb.new.clock ≡ tcb.old.clock) }
-    ensures taken { OnOk result (tcb.new.recv.taken ≤ tcb.old.recv.taken + 1048576) }
+    ensures taken { OnOk result (tcb.new.recv.taken ≤ tcb.old.recv.taken + whole_space) }
     ensures next { OnOk result (next_of tcb.new.recv ≡ next_of tcb.old.recv) }
-    ensures offered { OnOk result (offered tcb.new ≤ offered tcb.old + 65535) }
+    ensures offered { OnOk result (offered tcb.new ≤ offered tcb.old + send_space) }
 {
     if tcb.fin_wanted() || matches!(service, Service::Discard) {
         tcb.skip(tcb.ready());
@@ -69,9 +80,9 @@ fn move_text(service: Service, tcb: &mut Tcb, alloc: Global) -> Result<(), Alloc
 fn echo(tcb: &mut Tcb, alloc: Global) -> Result<(), AllocError>
     ensures moved { OnOk result (tcb.new ≡ echoes (min (ready_of tcb.old.recv) (room_of tcb.old.out)) tcb.old) }
     ensures clock { OnOk result (tcb.new.clock ≡ tcb.old.clock) }
-    ensures taken { OnOk result (tcb.new.recv.taken ≤ tcb.old.recv.taken + 1048576) }
+    ensures taken { OnOk result (tcb.new.recv.taken ≤ tcb.old.recv.taken + whole_space) }
     ensures next { OnOk result (next_of tcb.new.recv ≡ next_of tcb.old.recv) }
-    ensures offered { OnOk result (offered tcb.new ≤ offered tcb.old + 65535) }
+    ensures offered { OnOk result (offered tcb.new ≤ offered tcb.old + send_space) }
 {
     let n = tcb.ready().min(tcb.room());
     let text = tcb.take(alloc, n)?;

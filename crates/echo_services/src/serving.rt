@@ -9,6 +9,7 @@ ghost use Rattle.tcb_machine.specs.TcpStep.{said};
 ghost use Rattle.tcb_machine.specs.Timers.{tcp_time};
 ghost use Rattle.echo_services.specs.Pump.{followed};
 ghost use Rattle.echo_services.specs.Serving.{asks, enters, segment};
+ghost use Rattle.tcb_machine.specs.Limits.{last_time, whole_space};
 
 use crate::service::{Service, pump};
 use segment_codec::Seg;
@@ -28,11 +29,11 @@ pub fn serve(
     text: &[u8],
 ) -> Result<(), AllocError>
     requires clock { tcb.old.clock ≤ now }
-    requires time { now ≤ 2 ^ 62 }
+    requires time { now ≤ last_time }
     requires room { HasRoom tcb.old }
     ensures step { OnOk result (tcb.new ≡ enters service (segment now iss seg.now text.now) tcb.old) }
     ensures clock { OnOk result (tcb.new.clock ≡ now) }
-    ensures next { OnOk result (next_of tcb.new.recv ≤ next_of tcb.old.recv + 2 ^ 20) }
+    ensures next { OnOk result (next_of tcb.new.recv ≤ next_of tcb.old.recv + whole_space) }
     ensures offered { OnOk result (offered tcb.new ≤ offered tcb.old + 2 ^ 16) }
 {
     let next = tcb.segment(alloc, now, iss, seg, text)?;
@@ -43,7 +44,7 @@ pub fn serve(
 /// promised of the block, until it is reset.
 pub fn tick(tcb: &mut Tcb, alloc: Global, now: u64) -> Result<(), AllocError>
     requires clock { tcb.old.clock ≤ now }
-    requires time { now ≤ 2 ^ 62 }
+    requires time { now ≤ last_time }
     ensures step { OnOk result (tcb.new ≡ tcp_time now tcb.old) }
     ensures clock { OnOk result (tcb.new.clock ≡ now) }
     ensures next { OnOk result (next_of tcb.new.recv ≤ next_of tcb.old.recv) }

@@ -8,9 +8,9 @@ use Rattle.segment_codec.specs.declared.packet.Reply.{Reply}
 use Rattle.segment_codec.specs.declared.packet.Seg.{Seg}
 use Rattle.sq_base.specs.declared.kinds.Tuple.{Tuple}
 use Rattle.tcb_machine.specs.BlockState.{Block, offered}
-use Rattle.tcb_machine.specs.Room.{most_streamed}
 use Rattle.tcb_machine.specs.Timers.{tcp_time}
 use Rattle.live_server.specs.declared.acting.Datagram.{Datagram}
+use Rattle.tcb_machine.specs.Limits.{most_streamed}
 
 -- fewer than 2^61 bytes of either stream have come
 abbrev pub has_room : Block → Bool

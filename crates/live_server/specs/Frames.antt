@@ -1,9 +1,11 @@
 -- Frames, and a run of a server over them.
-use Rattle.std.specs.Prelude.{◌≡◌, ℕ, zero, suc, ◌+◌, ◌^◌, ◌==◌, nat_lt, ◌||◌, Bool, List, [], ◌∷◌, ◌++◌, length, take, drop, if◌then◌else◌}
+use Rattle.std.specs.Prelude.{◌≡◌, ℕ, zero, suc, ◌+◌, ◌==◌, nat_lt, ◌||◌, Bool, List, [], ◌∷◌, ◌++◌, length, take, drop, if◌then◌else◌, ◌-◌}
 use Rattle.std.specs.List.{flat_map}
 use Rattle.byteorder.specs.Endian.{big_bytes, big_number}
 use Rattle.live_server.specs.Serving.{Outcome, ServerOf, on_datagram, on_time, sends_nothing}
 use Rattle.live_server.specs.declared.acting.Datagram.{Datagram}
+use Rattle.live_server.specs.Limits.{frame_head, most_body}
+use Rattle.tcb_machine.specs.Limits.{last_time}
 
 -- a time in microseconds, and a datagram; or none, and the time alone
 pub record FrameOf : Type 0 where
@@ -19,14 +21,14 @@ time_of bytes = big_number 8 (drop 8 bytes)
 
 -- a body is at most 65,535 bytes, and a time at most 2^62
 abbrev pub is_broken : List ℕ → Bool
-is_broken bytes = nat_lt 65535 (body_size bytes) || nat_lt (2 ^ 62) (time_of bytes)
+is_broken bytes = nat_lt most_body (body_size bytes) || nat_lt last_time (time_of bytes)
 
 -- no frame begins here that is whole and isn't broken
 abbrev pub is_end : List ℕ → Bool
-is_end bytes = nat_lt (length bytes) 16 || (is_broken bytes || nat_lt (length bytes) (16 + body_size bytes))
+is_end bytes = nat_lt (length bytes) frame_head || (is_broken bytes || nat_lt (length bytes) (frame_head + body_size bytes))
 
 abbrev pub frame_at : List ℕ → FrameOf
-frame_at bytes = record { at = time_of bytes; body = take (body_size bytes) (drop 16 bytes) }
+frame_at bytes = record { at = time_of bytes; body = take (body_size bytes) (drop frame_head bytes) }
 
 -- the whole frames, in order, behind so many bytes that belong to the frame before
 abbrev pub frames_behind : ℕ → List ℕ → List FrameOf
@@ -34,14 +36,14 @@ frames_behind skipped [] = []
 frames_behind (suc k) (x ∷ xs) = frames_behind k xs
 frames_behind zero (x ∷ xs) =
     let here = x ∷ xs in
-    if is_end here then [] else frame_at here ∷ frames_behind (15 + body_size here) xs
+    if is_end here then [] else frame_at here ∷ frames_behind (frame_head - 1 + body_size here) xs
 
 unfoldable pub frames_in : List ℕ → List FrameOf
 frames_in bytes = frames_behind 0 bytes
 
 -- what is left behind them
 abbrev pub frame_size : FrameOf → ℕ
-frame_size f = 16 + length f.body
+frame_size f = frame_head + length f.body
 
 abbrev pub total_size : List FrameOf → ℕ
 total_size [] = 0

@@ -1,3 +1,4 @@
+pub mod Limits
 pub mod Initial
 pub mod Acts
 pub mod Table

@@ -17,6 +17,7 @@ use Rattle.live_server.specs.Acts.{datagram_of, emptied, reaches, receives, sent
 use Rattle.live_server.specs.Initial.{number_for}
 use Rattle.live_server.specs.Table.{Conns, block_at, is_over, place_of, with_place}
 use Rattle.live_server.specs.declared.acting.Datagram.{Datagram}
+use Rattle.echo_services.specs.Limits.{discard_port, echo_port}
 
 -- the connections in the order in which they were opened, how many the table has place for, and how many found none
 pub record ServerOf : Type 0 where
@@ -53,7 +54,7 @@ on_segment now s text sv =
 
 -- echo (RFC 862) and discard (RFC 863)
 abbrev pub is_served : ℕ → Bool
-is_served port = (port == 7) || (port == 9)
+is_served port = (port == echo_port) || (port == discard_port)
 
 -- a segment elsewhere is answered by a reset (RFC 9293, 3.10.7.1)
 abbrev pub refused : ℕ → Seg → List Datagram

@@ -1,9 +1,10 @@
 //! What one block makes of a segment and of the time, and the datagrams of what it sends.
 
-ghost use Rattle.std.specs.Prelude.{◌≡◌, ◌++◌, ◌≤◌, ◌^◌, IfOk, OnOk, All};
+ghost use Rattle.std.specs.Prelude.{◌≡◌, ◌++◌, ◌≤◌, IfOk, OnOk};
 ghost use Rattle.tcb_machine.specs.BlockState.{IsOurs};
 ghost use Rattle.segment_codec.specs.SentIsRead.{text_in};
 ghost use Rattle.live_server.specs.Acts.{datagram_of, emptied, has_room, reaches, receives, sent_by, takes};
+ghost use Rattle.tcb_machine.specs.Limits.{last_time};
 
 use echo_services::{Service, serve, tick};
 use segment_codec::{Reply, Seg, encode};
@@ -43,7 +44,7 @@ pub(crate) fn receive(
     seg: &Seg,
     text: &[u8],
 ) -> Result<(), AllocError>
-    requires time { now ≤ 2 ^ 62 }
+    requires time { now ≤ last_time }
     ensures { OnOk result (tcb.new ≡ receives service now iss seg.now text.now tcb.old) }
 {
     if takes(tcb, now) {
@@ -56,7 +57,7 @@ pub(crate) fn receive(
 /// The time comes to the block.
 #[tactic(auto, unfolding(crate::specs::Acts::reaches))]
 pub(crate) fn reach(tcb: &mut Tcb, alloc: Global, now: u64) -> Result<(), AllocError>
-    requires time { now ≤ 2 ^ 62 }
+    requires time { now ≤ last_time }
     ensures { OnOk result (tcb.new ≡ reaches now tcb.old) }
 {
     if tcb.clock() <= now {

@@ -1,8 +1,10 @@
 //! A run over frames: each is a datagram with its time, or the time alone.
 
-ghost use Rattle.std.specs.Prelude.{◌≡◌, ◌++◌, ◌+◌, ◌≤◌, ◌^◌, false, true, length, IfOk, OnOk};
+ghost use Rattle.std.specs.Prelude.{◌≡◌, ◌++◌, ◌+◌, ◌≤◌, false, true, length, IfOk, OnOk};
 ghost use Rattle.std.specs.List.{flat_map};
 ghost use Rattle.live_server.specs.Frames.{answers, body_size, frame_at, frame_of, frames_in, is_broken, is_end, on_frame, rest_of, serves_frames, time_of};
+ghost use Rattle.live_server.specs.Limits.{frame_head, most_body};
+ghost use Rattle.tcb_machine.specs.Limits.{last_time};
 
 use crate::acting::Datagram;
 use crate::server::Server;
@@ -10,13 +12,13 @@ use byteorder::{BigEndian, ByteOrder};
 use std::alloc::{AllocError, Global};
 
 /// The most bytes of a datagram.
-const LONGEST: u64 = 65_535;
+const MOST_BODY: u64 = 65_535;
 
-/// The last time of a frame.
-const LAST_TIME: u64 = 1 << 62;
+/// The last time that a server is given, in microseconds.
+pub const LAST_TIME: u64 = 1 << 62;
 
 /// The bytes of a frame before its body.
-const HEAD: usize = 16;
+pub const FRAME_HEAD: usize = 16;
 
 /// Serves the whole frames at the front of some bytes. What is sent goes as frames behind the bytes that are there. The answer
 /// is what is left: nothing, less than a whole frame, or one that is broken.
@@ -44,29 +46,29 @@ pub fn serve_frames<'a>(
 fn is_end(rest: &[u8]) -> bool
     ensures { result ≡ is_end rest.now }
 {
-    rest.len() < HEAD || is_broken(rest) || rest.len() < HEAD + body_size(rest)
+    rest.len() < FRAME_HEAD || is_broken(rest) || rest.len() < FRAME_HEAD + body_size(rest)
 }
 
 /// Whether a broken frame begins here: its datagram is too long, or its time too late.
 pub fn is_broken(rest: &[u8]) -> bool
-    requires { 16 ≤ length rest.now }
+    requires { frame_head ≤ length rest.now }
     ensures { result ≡ is_broken rest.now }
 {
-    BigEndian::read_u64(rest) > LONGEST || time_of(rest) > LAST_TIME
+    BigEndian::read_u64(rest) > MOST_BODY || time_of(rest) > LAST_TIME
 }
 
 /// How long the datagram of the frame is that begins here.
 fn body_size(rest: &[u8]) -> usize
-    requires head { 16 ≤ length rest.now }
+    requires head { frame_head ≤ length rest.now }
     requires whole { is_broken rest.now ≡ false }
     ensures value { result ≡ body_size rest.now }
-    ensures small { result ≤ 65535 }
+    ensures small { result ≤ most_body }
 {
     BigEndian::read_u64(rest) as usize
 }
 
 fn time_of(rest: &[u8]) -> u64
-    requires { 16 ≤ length rest.now }
+    requires { frame_head ≤ length rest.now }
     ensures { result ≡ time_of rest.now }
 {
     BigEndian::read_u64(&rest[8..])
@@ -75,10 +77,10 @@ fn time_of(rest: &[u8]) -> u64
 /// How many bytes the frame has that begins here.
 fn frame_size(rest: &[u8]) -> usize
     requires { is_end rest.now ≡ false }
-    ensures value { result ≡ 16 + body_size rest.now }
+    ensures value { result ≡ frame_head + body_size rest.now }
     ensures within { result ≤ length rest.now }
 {
-    HEAD + body_size(rest)
+    FRAME_HEAD + body_size(rest)
 }
 
 /// Serves the frame that begins here.
@@ -92,7 +94,7 @@ fn serve_front(
     ensures server { OnOk result (server.new ≡ (on_frame (frame_at rest.now) server.old).server) }
     ensures sent { OnOk result (out.new.items ≡ out.old.items ++ flat_map frame_of (on_frame (frame_at rest.now) server.old).sent) }
 {
-    let (_, behind) = rest.split_at(HEAD);
+    let (_, behind) = rest.split_at(FRAME_HEAD);
     let (body, _) = behind.split_at(body_size(rest));
     let mut sent = Vec::new(alloc);
     serve_frame(server, alloc, time_of(rest), body, &mut sent)?;
@@ -108,8 +110,8 @@ fn serve_frame(
     body: &[u8],
     sent: &mut Vec<Datagram>,
 ) -> Result<(), AllocError>
-    requires time { at ≤ 2 ^ 62 }
-    requires body { length body.now ≤ 65535 }
+    requires time { at ≤ last_time }
+    requires body { length body.now ≤ most_body }
     ensures server { OnOk result (server.new ≡ (on_frame (record { at = at; body = body.now }) server.old).server) }
     ensures sent { OnOk result (sent.new.items ≡ sent.old.items ++ (on_frame (record { at = at; body = body.now }) server.old).sent) }
 {

@@ -7,7 +7,7 @@ use byteorder::{BigEndian, ByteOrder};
 use sha2::{Digest, Sha256};
 use sq_base::Tuple;
 
-/// What nobody else is to know: it keys the initial sequence numbers.
+/// What nobody else is to know, 16 bytes: it keys the initial sequence numbers (RFC 6528, 3).
 #[derive(Clone, Copy)]
 pub struct Secret(pub [u8; 16]);
 

@@ -4,14 +4,15 @@ ghost use Rattle.std.specs.Prelude.{◌≡◌, ◌++◌, ◌<◌, ◌≤◌, ◌
 ghost use Rattle.std.specs.Map.{values_of};
 ghost use Rattle.segment_codec.specs.Refusal.{tuple_of};
 ghost use Rattle.sq_base.specs.declared.kinds.Tuple.{Tuple};
-ghost use Rattle.live_server.specs.Acts.{sent_by};
 ghost use Rattle.live_server.specs.Initial.{number_for};
 ghost use Rattle.live_server.specs.Serving.{is_served, on_datagram, on_segment, on_time, opens, refused};
 ghost use Rattle.live_server.specs.Table.{gives_way, is_half_open, is_over, with_place, IsNew};
+ghost use Rattle.echo_services.specs.Limits.{discard_port, echo_port};
+ghost use Rattle.tcb_machine.specs.Limits.{last_time};
 
 use crate::acting::{Datagram, encoded, reach, receive, send, text_of};
 use crate::initial::{Secret, initial_number};
-use echo_services::Service;
+use echo_services::{DISCARD_PORT, ECHO_PORT, Service};
 use indexmap::IndexMap;
 use segment_codec::{Packet, Seg, decode, refusal, tuple_of};
 use sq_base::{Link, Tuple};
@@ -66,7 +67,9 @@ impl Server {
         self.turned_away
     }
 
-    /// An IPv4 datagram comes at a time in microseconds. What is sent goes behind the datagrams that are there.
+    /// An IPv4 datagram comes at a time in microseconds. What is sent goes behind the datagrams that are there. Both checksums are
+    /// verified; what is no whole TCP segment is passed over. After an error, which says that memory was missing, nothing more is
+    /// promised.
     #[tactic(auto, unfolding(crate::specs::Serving::on_datagram, crate::specs::Serving::on_packet))]
     pub fn datagram(
         &mut self,
@@ -75,7 +78,7 @@ impl Server {
         body: &[u8],
         out: &mut Vec<Datagram>,
     ) -> Result<(), AllocError>
-        requires time { now ≤ 2 ^ 62 }
+        requires time { now ≤ last_time }
         requires body { length body.now < 2 ^ 32 }
         ensures server { OnOk result (self.new ≡ (on_datagram now body.now self.old).server) }
         ensures sent { OnOk result (out.new.items ≡ out.old.items ++ (on_datagram now body.now self.old).sent) }
@@ -90,13 +93,14 @@ impl Server {
     }
 
     /// The time comes to every block. What is sent goes behind the datagrams that are there, connection by connection.
+    /// After an error, which says that memory was missing, nothing more is promised.
     pub fn tick(
         &mut self,
         alloc: Global,
         now: u64,
         out: &mut Vec<Datagram>,
     ) -> Result<(), AllocError>
-        requires time { now ≤ 2 ^ 62 }
+        requires time { now ≤ last_time }
         ensures server { OnOk result (self.new ≡ (on_time now self.old).server) }
         ensures sent { OnOk result (out.new.items ≡ out.old.items ++ (on_time now self.old).sent) }
     {
@@ -118,8 +122,8 @@ impl Server {
         text: &[u8],
         out: &mut Vec<Datagram>,
     ) -> Result<(), AllocError>
-        requires time { now ≤ 2 ^ 62 }
-        requires port { (seg.now.dst_port ≡ 7) ⊎ (seg.now.dst_port ≡ 9) }
+        requires time { now ≤ last_time }
+        requires port { (seg.now.dst_port ≡ echo_port) ⊎ (seg.now.dst_port ≡ discard_port) }
         ensures server { OnOk result (self.new ≡ (on_segment now seg.now text.now self.old).server) }
         ensures sent { OnOk result (out.new.items ≡ out.old.items ++ (on_segment now seg.now text.now self.old).sent) }
     {
@@ -253,7 +257,7 @@ impl Server {
 fn is_served(port: u16) -> bool
     ensures { result ≡ is_served port }
 {
-    port == 7 || port == 9
+    port == ECHO_PORT || port == DISCARD_PORT
 }
 
 /// A segment to a port that isn't served is answered by a reset.

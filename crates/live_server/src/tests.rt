@@ -1,7 +1,5 @@
 //! Two clients at a server with one place. The initial sequence numbers are those of an implementation of SHA-256 elsewhere.
 
-ghost use Rattle.std.specs.Prelude.{◌^◌, ◌≤◌};
-
 use crate::{Datagram, Secret, Server};
 use segment_codec::{Packet, Seg, decode};
 use sq_base::Link;

@@ -1,7 +1,7 @@
 -- SND.UNA and the count of acknowledged bytes go together, step by step.
 use Rattle.std.proofs.Common.{◌≡◌, ℕ, ◌+◌, ◌-◌, ◌%◌, ◌^◌, ◌<◌, ◌≤◌, List, [], ◌∷◌, Option, None, Some, Bool, true, false, cond, not, ◌==◌, ◌&&◌, ◌||◌, inl, inr, length, drop, take, min, max, refl, sym, ap, ◌∙◌, subst, arith, length-drop, length-take}
 use Rattle.std.specs.Prelude.{suc, zero, nat_lt, nat_le}
-use Rattle.std.proofs.lemmas.Bool.{false≢true, and_parts, not-true}
+use Rattle.std.proofs.lemmas.Bool.{false≢true}
 use Rattle.std.proofs.lemmas.Bool.Decides.{eqb_tells, leb_tells}
 use Rattle.segment_codec.specs.declared.packet.Seg.{Seg}
 use Rattle.byte_queues.specs.ReceiveQueue.{Recv, next_of, placed, is_ended}
@@ -440,12 +440,20 @@ finishes st una iss acked sent out wanted f w n u k =
           | inr d ↦ e ∙ ap (λ (t : Bool). end_of iss acked t) (sym d.0)
         ]
 
-pub is-zero : (n : ℕ) → (n == 0) ≡ true → n ≡ 0
+pub both : (a b : Bool) → (a && b) ≡ true → (a ≡ true) × (b ≡ true)
+both true b e = (refl, e)
+both false b e = absurd (false≢true e)
+
+is-zero : (n : ℕ) → (n == 0) ≡ true → n ≡ 0
 is-zero n e =
     elim (eqb_tells n 0) [
       | inl d ↦ d.1
       | inr d ↦ absurd (false≢true (sym d.0 ∙ e))
     ]
+
+not-true : (t : Bool) → not t ≡ true → t ≡ false
+not-true true e = absurd (false≢true e)
+not-true false e = refl
 
 num-if : (t : Bool) (x y : Block) → (t ≡ true → Num x) → Num y → Num (cond t x y)
 num-if true x y p q = p refl
@@ -455,11 +463,11 @@ outputs-fin-num : (c : Block) → Num c → Num (outputs_fin c)
 unfolding outputs_fin
 outputs-fin-num c k =
     num-if (c.fin_wanted && (not c.fin_sent && (length (unsent c) == 0))) (record (sends (segment_of 17 (snd_nxt c) [] c) c) { fin_sent = true }) c
-    (λ e. sent_behind (and_parts c.fin_wanted (not c.fin_sent && (length (unsent c) == 0)) e)) k
+    (λ e. sent_behind (both c.fin_wanted (not c.fin_sent && (length (unsent c) == 0)) e)) k
   where
     sent_behind : (c.fin_wanted ≡ true) × ((not c.fin_sent && (length (unsent c) == 0)) ≡ true) → N c.state c.una c.iss c.acked c.sent c.out c.fin_wanted true
     sent_behind e =
-        let d = and_parts (not c.fin_sent) (length (unsent c) == 0) e.1 in
+        let d = both (not c.fin_sent) (length (unsent c) == 0) e.1 in
         let u = unsent-length c in
         let z = is-zero (length (unsent c)) d.1 in
         finishes c.state c.una c.iss c.acked c.sent c.out c.fin_wanted c.fin_sent e.0 (not-true c.fin_sent d.0) (omega (arith, u, z)) k

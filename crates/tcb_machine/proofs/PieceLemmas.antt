@@ -2,7 +2,7 @@
 use Rattle.std.proofs.Common.{◌≡◌, ℕ, ◌+◌, ◌-◌, ◌<◌, ◌≤◌, List, [], ◌∷◌, length, take, drop, min, refl, sym, ap, ◌∙◌, arith, cond, false, Bool, eqb, subst, length-drop}
 use Rattle.std.specs.Prelude.{suc, zero}
 use Rattle.std.proofs.lemmas.Bool.Decides.{nat_tests}
-use Rattle.std.proofs.lemmas.List.{drop-drop, drop-take, length-take-le, drop_all}
+use Rattle.std.proofs.lemmas.List.{drop_all, drop-drop, drop-take, length-take-le}
 use Rattle.sq_base.specs.SerialOrder.{dist}
 use Rattle.tcb_machine.specs.BlockState.{Block, unsent, psh, ack, snd_nxt}
 use Rattle.tcb_machine.specs.States.{is_listen}

@@ -2,10 +2,9 @@
 use Rattle.std.proofs.Common.{◌≡◌, ℕ, ◌+◌, ◌-◌, ◌≤◌, List, [], ◌∷◌, Option, None, Some, Bool, true, false, cond, length, take, drop, refl, ap, sym, arith, length-take, length-drop, ◌⊎◌, inl, inr}
 use Rattle.std.specs.Prelude.{suc, zero}
 use Rattle.byte_queues.specs.ReceiveQueue.{Recv, Cells, gap, held, front, over_cells, cells_at, up_to, placed, without, next_of, ready_of}
-use Rattle.byte_queues.proofs.QueueLemmas.{up-to-le}
-use Rattle.byte_queues.proofs.PlaceLemmas.{up-more}
-use Rattle.byte_queues.proofs.CellLemmas.{front-drop, front-over}
 use Rattle.tcb_machine.specs.Limits.{whole_space}
+use Rattle.byte_queues.proofs.CellLemmas.{front-drop, front-over}
+use Rattle.byte_queues.proofs.PlaceLemmas.{up-more}
 
 record Kept (cs : Cells) (q r : Recv) : Type 0 where
   taken : r.taken ≡ q.taken
@@ -51,6 +50,10 @@ at-length : (n most : ℕ) (text : List ℕ) → n + length text ≤ most → le
 at-length n most [] h = omega arith
 at-length n most (x ∷ xs) h = let e = gap-length n (held (x ∷ xs) []) in let f = held-length (x ∷ xs) in omega (arith, e, f, h)
 
+up-le : (e : Option ℕ) (n : ℕ) → up_to e n ≤ n
+up-le None n = omega arith
+up-le (Some m) n = omega arith
+
 none-at : (n k : ℕ) (text : List ℕ) → k ≡ 0 → cells_at n (take k text) ≡ []
 none-at n k text e = ap (λ (j : ℕ). cells_at n (take j text)) e
 
@@ -60,7 +63,7 @@ placed_below at text q r e b h =
     let k = kept at text q r e in
     let room = up_to q.stream_end q.edge - at in
     let fits = take room text in
-    let most = up-to-le q.stream_end q.edge in
+    let most = up-le q.stream_end q.edge in
     let kt = k.taken in
     let ke = k.edge in
     let long = length-take room text in
@@ -89,7 +92,7 @@ without_below n q h = let l = length-drop n q.got in omega (arith, l, h)
 -- the next byte isn't far behind the ones that were taken
 pub next_near : (q : Recv) → q.taken + length q.got ≤ q.edge → q.edge ≤ q.taken + whole_space → next_of q ≤ q.taken + whole_space
 unfolding next_of
-next_near q h w = let u = up-to-le q.stream_end (q.taken + front q.got) in let f = front_length q.got in omega (arith, u, f, h, w)
+next_near q h w = let u = up-le q.stream_end (q.taken + front q.got) in let f = front_length q.got in omega (arith, u, f, h, w)
 
 -- what was taken isn't past the next byte
 
@@ -110,7 +113,7 @@ placed_read at text q r e h =
 pub without_read : (n : ℕ) (q : Recv) → n ≤ ready_of q → q.taken ≤ next_of q → (without n q).taken ≤ next_of (without n q)
 unfolding without next_of ready_of
 without_read n q w h =
-    let u = up-to-le q.stream_end (q.taken + front q.got) in
+    let u = up-le q.stream_end (q.taken + front q.got) in
     let d = front-drop n q.got (omega (arith, w, u)) in
     let reach : q.taken + n + front (drop n q.got) ≡ q.taken + front q.got = omega (arith, d) in
     let same = ap (up_to q.stream_end) reach in
@@ -120,7 +123,7 @@ without_read n q w h =
 pub next_without : (n : ℕ) (q : Recv) → n ≤ ready_of q → next_of (without n q) ≡ next_of q
 unfolding without next_of ready_of
 next_without n q w =
-    let u = up-to-le q.stream_end (q.taken + front q.got) in
+    let u = up-le q.stream_end (q.taken + front q.got) in
     let d = front-drop n q.got (omega (arith, w, u)) in
     let reach : q.taken + n + front (drop n q.got) ≡ q.taken + front q.got = omega (arith, d) in
     ap (up_to q.stream_end) reach

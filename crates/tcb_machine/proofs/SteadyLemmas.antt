@@ -1,10 +1,10 @@
 -- An arriving segment sets the clock, and raises neither the count of bytes taken nor that of bytes offered.
 use Rattle.std.proofs.Common.{◌≡◌, ℕ, ◌+◌, ◌-◌, ◌≤◌, List, Option, None, Some, Bool, true, false, cond, not, ◌==◌, ◌&&◌, ◌||◌, length, drop, min, refl, ap, ◌∙◌, subst, arith, length-drop}
 use Rattle.segment_codec.specs.declared.packet.Seg.{Seg}
-use Rattle.byte_queues.specs.ReceiveQueue.{Recv, next_of, placed, is_ended}
+use Rattle.byte_queues.specs.ReceiveQueue.{Recv, next_of, placed, with_end, is_ended}
 use Rattle.sq_base.specs.SerialOrder.{dist}
 use Rattle.tcb_machine.specs.BlockState.{Block, fin, syn, rst, ack, rst_of, to_listen, has, in_flight, rcv_nxt, sends_ack, sends}
-use Rattle.tcb_machine.specs.TcpStep.{sends_syn_ack, waits, ahead, Verdict, over, go, on, and_then, with_scale, opened, listen, is_acceptable, is_time_wait, refused, check_sequence, check_reset, syn_again, check_syn, ack_kind, is_before, with_window, takes_window, takes_ack, in_time_wait, after_ack, is_fin_acked, acknowledged, established, ack_in, check_ack, consumes, closes, keeps_end, takes_fin, takes_text, check_text, repeated, first_checks, arrives, in_state, tcp_segment, said}
+use Rattle.tcb_machine.specs.TcpStep.{sends_syn_ack, waits, ahead, Verdict, over, go, on, and_then, with_scale, opened, listen, is_acceptable, is_time_wait, refused, check_sequence, check_reset, syn_again, check_syn, ack_kind, is_before, with_window, takes_window, takes_ack, in_time_wait, after_ack, is_fin_acked, acknowledged, established, ack_in, check_ack, consumes, closes, is_end_kept, keeps_end, takes_fin, takes_text, check_text, repeated, first_checks, arrives, in_state, tcp_segment, said}
 use Rattle.tcb_machine.specs.declared.kinds.State.{State}
 use Rattle.tcb_machine.specs.declared.kinds.State.TheVariants.{Listen, SynReceived, Established, FinWait1, FinWait2, CloseWait, Closing, LastAck, TimeWait}
 use Rattle.tcb_machine.specs.declared.kinds.AckKind.{AckKind}
@@ -12,7 +12,6 @@ use Rattle.tcb_machine.specs.declared.kinds.AckKind.TheVariants.{Fresh, Equal, O
 use Rattle.tcb_machine.specs.declared.kinds.Next.{Next}
 use Rattle.tcb_machine.specs.declared.kinds.Next.TheVariants.{Over, Go}
 use Rattle.tcb_machine.proofs.QueueLemmas.{placed_taken}
-use Rattle.tcb_machine.proofs.ValidLemmas.{end-taken}
 
 pub record Steady (b c : Block) : Type 0 where
   pub clock : c.clock ≡ b.clock
@@ -188,6 +187,14 @@ consumes-steady TimeWait b c h = h
 closes-steady : (b c : Block) → Steady b c → Says b (closes c)
 unfolding closes
 closes-steady b c h = says-cond (is_ended c.recv) b (go (consumes c.state (record c { ack_due = true }))) (go c) (record { steady = consumes-steady c.state b (record c { ack_due = true }) (due-steady b c h) }) (is-go b c h)
+
+pub end-taken : (f : ℕ) (q : Recv) → (keeps_end f q).taken ≡ q.taken
+unfolding keeps_end with_end
+end-taken f q = chosen (is_end_kept f q)
+  where
+    chosen : (t : Bool) → (cond t (record q { stream_end = Some f }) q).taken ≡ q.taken
+    chosen true = refl
+    chosen false = refl
 
 fin-steady : (s : Seg) (f : ℕ) (b c : Block) → Steady b c → Steady b (takes_fin s f c)
 unfolding takes_fin

@@ -5,7 +5,6 @@ use Rattle.sq_base.specs.SerialOrder.{IsBefore}
 use Rattle.tcb_machine.specs.TcpStep.{is_before}
 use Rattle.std.specs.Option.{ForSome}
 use Rattle.std.proofs.lemmas.Bool.Decides.{nat_tests, leb_tells}
-use Rattle.std.proofs.lemmas.Bool.{lt-leb}
 use Rattle.tcb_machine.specs.declared.kinds.State.{State}
 use Rattle.tcb_machine.specs.declared.kinds.State.TheVariants.{Listen, SynReceived, Established, FinWait1, FinWait2, CloseWait, Closing, LastAck, TimeWait}
 use Rattle.tcb_machine.specs.BlockState.{Block, to_listen, sends, segment_of, in_flight, snd_nxt, snd_end, unsent}
@@ -44,6 +43,9 @@ retransmits-kept TimeWait b = again-kept b
 
 reached : (t to : ℕ) → t ≤ to → leb t to ≡ true
 reached t to h = grind (arith, nat_tests)
+
+passed : (t to : ℕ) → to < t → leb t to ≡ false
+passed t to h = grind (arith, nat_tests)
 
 -- the retransmission deadline is due
 pub time-retransmits : (to at : ℕ) (b : Block) → b.time_wait_at ≡ None → b.retransmit_at ≡ Some at → at ≤ to → b.clock ≤ to → b.retransmissions < most_retransmissions
@@ -93,8 +95,8 @@ time-idle to b none unset = ap (λ (fs : List Firing). record (fires_all fs b) {
 
 -- the retransmission deadline lies behind the time
 later-none : (k to rto t : ℕ) → to < t → until to (retransmissions_from k rto t) ≡ []
-later-none zero to rto t h = ap (λ (c : Bool). cond c (gives_up t ∷ []) []) (lt-leb t to h)
-later-none (suc k) to rto t h = ap (λ (c : Bool). cond c (retransmission t ∷ until to (retransmissions_from k (backed_off rto) (t + backed_off rto))) []) (lt-leb t to h)
+later-none zero to rto t h = ap (λ (c : Bool). cond c (gives_up t ∷ []) []) (passed t to h)
+later-none (suc k) to rto t h = ap (λ (c : Bool). cond c (retransmission t ∷ until to (retransmissions_from k (backed_off rto) (t + backed_off rto))) []) (passed t to h)
 
 pub time-later : (to at : ℕ) (b : Block) → b.time_wait_at ≡ None → b.retransmit_at ≡ Some at → to < max b.clock at → tcp_time to b ≡ record b { clock = to }
 unfolding tcp_time firings
@@ -115,7 +117,7 @@ time_waits to at b some late =
     let t = max b.clock at in
     ap (λ (fs : List Firing). record (fires_all fs b) { clock = to })
     (ap (λ (o : Option ℕ). until to (timers o b.retransmit_at b)) some
-    ∙ ap (λ (c : Bool). cond c (time_wait t ∷ []) []) (lt-leb t to late))
+    ∙ ap (λ (c : Bool). cond c (time_wait t ∷ []) []) (passed t to late))
 
 pub time_ends : (to at : ℕ) (b : Block) → b.time_wait_at ≡ Some at → at ≤ to → b.clock ≤ to → tcp_time to b ≡ record (to_listen b) { clock = to }
 unfolding tcp_time firings fires to_listen

@@ -1,14 +1,13 @@
 -- Every step takes a valid block to a valid one. Beside it: where the block isn't in LISTEN then, no byte was taken, and what was acknowledged was offered.
 use Rattle.std.proofs.Common.{◌⊎◌, inl, inr, ◌≡◌, ℕ, ◌+◌, ◌-◌, ◌^◌, ◌<◌, ◌≤◌, List, [], ◌∷◌, ◌++◌, Option, None, Some, Bool, true, false, cond, not, ◌==◌, ◌&&◌, ◌||◌, length, drop, take, min, max, refl, sym, ap, ◌∙◌, subst, arith, length-drop, length-take}
 use Rattle.std.specs.Prelude.{suc, zero, All, nat_lt, nat_le}
-use Rattle.std.proofs.lemmas.Bool.{false≢true, leb-true, and_parts}
+use Rattle.std.proofs.lemmas.Bool.{false≢true, leb-true}
 use Rattle.std.proofs.lemmas.Option.{none-some}
 use Rattle.std.proofs.lemmas.List.{drop-drop}
 use Rattle.std.proofs.lemmas.List.Elements.{All-append, All-cons}
 use Rattle.segment_codec.specs.declared.packet.Seg.{Seg}
 use Rattle.segment_codec.specs.declared.packet.Reply.{Reply}
-use Rattle.byte_queues.specs.ReceiveQueue.{Recv, empty_recv, front, next_of, placed, with_end, with_cap, is_ended}
-use Rattle.byte_queues.proofs.QueueLemmas.{up-to-le}
+use Rattle.byte_queues.specs.ReceiveQueue.{Recv, empty_recv, front, up_to, next_of, placed, with_end, with_cap, is_ended, ready_of, without}
 use Rattle.sq_base.specs.SerialOrder.{dist}
 use Rattle.tcb_machine.specs.States.{is_listen}
 use Rattle.tcb_machine.specs.BlockState.{Block, IsOurs, OurOptions, fin, syn, rst, ack, rst_of, syn_ack_of, segment_of, to_listen, new_block, has, in_flight, rcv_nxt, snd_nxt, snd_end, unsent, sends_ack, sends, listening, offered}
@@ -25,8 +24,9 @@ use Rattle.tcb_machine.specs.declared.kinds.State.{State}
 use Rattle.tcb_machine.specs.declared.kinds.State.TheVariants.{Listen, SynReceived, Established, FinWait1, FinWait2, CloseWait, Closing, LastAck, TimeWait}
 use Rattle.tcb_machine.specs.declared.kinds.AckKind.{AckKind}
 use Rattle.tcb_machine.specs.declared.kinds.AckKind.TheVariants.{Fresh, Equal, Old, Beyond}
-use Rattle.tcb_machine.proofs.QueueLemmas.{next_near, placed_taken, placed_edge, placed_cap, placed_below, placed_read}
+use Rattle.tcb_machine.proofs.QueueLemmas.{next_near, placed_taken, placed_edge, placed_cap, placed_below, placed_read, without_below, without_read}
 use Rattle.tcb_machine.specs.Limits.{most_mss, most_retransmissions, our_shift, plain_space, whole_space}
+use Rattle.tcb_machine.proofs.SteadyLemmas.{end-taken}
 
 none-gone : (n : ℕ) (xs : List ℕ) → xs ≡ drop (n - n) xs
 none-gone n xs = let e : 0 ≡ n - n = omega arith in ap (λ (k : ℕ). drop k xs) e
@@ -56,6 +56,14 @@ pub data Moved (b c : Block) : Type 0 where
 
 pub not-listen : (st : State) (b : Block) → is_listen st ≡ false → is_listen st ≡ true → b ≡ to_listen b
 not-listen st b e f = absurd (false≢true (sym e ∙ f))
+
+-- a queue from which so many bytes that are ready leave
+pub without-receiving : (want n : ℕ) (q : Recv) → n ≤ ready_of q → IsReceiving want q → IsReceiving want (without n q)
+unfolding without
+without-receiving want n q w r =
+    let c = r.cap in
+    let s = r.space in
+    record { asked = r.asked; cap = c; space = omega (arith, c, s); below = without_below n q r.below; read = without_read n q w r.read }
 
 pub moves-valid : (b c : Block) → Moves b c → IsValid c
 moves-valid b c m = let k = m.keeps in record { recv = k.recv; send = k.send; mss = k.mss; timed = k.timed; ours = k.ours; new = not-listen c.state c m.opened }
@@ -141,6 +149,10 @@ says-if : (t : Bool) (b : Block) (v w : Verdict) → (t ≡ true → Says b v) �
 says-if true b v w p q = p refl
 says-if false b v w p q = q
 
+both-left : (x y : Bool) → (x && y) ≡ true → x ≡ true
+both-left true y e = refl
+both-left false y e = absurd (false≢true e)
+
 says-then : (b : Block) (v : Verdict) (f : Block → Verdict) → Says b v → ((c : Block) → Moves b c → Says b (f c)) → Says b (and_then v f)
 says-then b (over c) f h g = h
 says-then b (go c) f h g = h
@@ -158,6 +170,10 @@ sends-valid r b o v = record { recv = v.recv; send = v.send; mss = v.mss; timed 
 pub new-taken : (b : Block) → b ≡ to_listen b → b.recv.taken ≡ 0
 unfolding to_listen
 new-taken b e = ap (λ (x : Block). x.recv.taken) e
+
+pub new-out : (b : Block) → b ≡ to_listen b → b.out ≡ []
+unfolding to_listen
+new-out b e = ap (λ (x : Block). x.out) e
 
 pub new-acked : (b : Block) → b ≡ to_listen b → b.acked ≡ 0
 unfolding to_listen
@@ -211,7 +227,7 @@ refuses : (s : Seg) (b c : Block) → Moves b c → Says b (refused s c)
 unfolding refused
 refuses s b c m =
     says-cond (has s.flags rst) b (over c) _ (moves m)
-    (says-if (is_time_wait c.state && has s.flags fin) b (over (waits (sends_ack c))) (over (sends_ack c)) (λ e. moves (later (sends_ack c) (and_parts (is_time_wait c.state) (has s.flags fin) e).0 (sent-moves (segment_of ack (snd_nxt c) [] c) b c (ack-ours c) m))) (acks b c m))
+    (says-if (is_time_wait c.state && has s.flags fin) b (over (waits (sends_ack c))) (over (sends_ack c)) (λ e. moves (later (sends_ack c) (both-left (is_time_wait c.state) (has s.flags fin) e) (sent-moves (segment_of ack (snd_nxt c) [] c) b c (ack-ours c) m))) (acks b c m))
   where
     later : (d : Block) → is_time_wait d.state ≡ true → Moves b d → Moves b (waits d)
     later d e n = let k = n.keeps in record { opened = n.opened; keeps = record { recv = k.recv; send = k.send; mss = k.mss; ours = k.ours; taken = k.taken; from = k.from; offered = k.offered; out = k.out; wanted = k.wanted; timed = record { elsewhere = λ f. absurd (false≢true (sym f ∙ e)); there = k.timed.there } } }
@@ -352,11 +368,15 @@ closing b c m = says-cond (is_ended c.recv) b (go (consumes c.state (record c { 
 receives : (b c : Block) (q : Recv) → Moves b c → IsReceiving c.want q → q.taken ≡ c.recv.taken → Moves b (record c { recv = q; ack_due = true })
 receives b c q m r e = let k = m.keeps in record { opened = m.opened; keeps = record { recv = r; send = k.send; mss = k.mss; ours = k.ours; taken = e ∙ k.taken; from = k.from; offered = k.offered; out = k.out; wanted = k.wanted; timed = k.timed } }
 
+up-to-most : (e : Option ℕ) (n : ℕ) → up_to e n ≤ n
+up-to-most None n = omega arith
+up-to-most (Some k) n = omega arith
+
 end-receiving : (want f : ℕ) (q : Recv) → IsReceiving want q → next_of q ≤ f → IsReceiving want (with_end f q)
 unfolding with_end next_of
 end-receiving want f q r h =
     let a = r.read in
-    let u = up-to-le q.stream_end (q.taken + front q.got) in
+    let u = up-to-most q.stream_end (q.taken + front q.got) in
     record { asked = r.asked; cap = r.cap; space = r.space; below = r.below; read = omega (arith, a, h, u) }
 
 third : (a b c : Bool) → (a && (b && c)) ≡ true → c ≡ true
@@ -371,14 +391,6 @@ end-kept want f q r = chosen (is_end_kept f q) refl
     chosen : (t : Bool) → is_end_kept f q ≡ t → IsReceiving want (cond t (with_end f q) q)
     chosen true e = end-receiving want f q r (leb-true (next_of q) f (third (is_none q.stream_end) (nat_lt f q.edge) (nat_le (next_of q) f) e))
     chosen false e = r
-
-pub end-taken : (f : ℕ) (q : Recv) → (keeps_end f q).taken ≡ q.taken
-unfolding keeps_end with_end
-end-taken f q = chosen (is_end_kept f q)
-  where
-    chosen : (t : Bool) → (cond t (record q { stream_end = Some f }) q).taken ≡ q.taken
-    chosen true = refl
-    chosen false = refl
 
 fins : (s : Seg) (f : ℕ) (b c : Block) → Moves b c → Moves b (takes_fin s f c)
 unfolding takes_fin
@@ -738,9 +750,9 @@ new-next : (b : Block) → b ≡ to_listen b → next_of b.recv ≡ 0
 unfolding to_listen next_of
 new-next b e = ap (λ (x : Block). next_of x.recv) e
 
-new-out : (b : Block) → b ≡ to_listen b → length b.out ≡ 0
+new-length : (b : Block) → b ≡ to_listen b → length b.out ≡ 0
 unfolding to_listen
-new-out b e = ap (λ (x : Block). length x.out) e
+new-length b e = ap (λ (x : Block). length x.out) e
 
 pub moved-next : (b c : Block) → Moved b c → b.recv.taken ≤ next_of b.recv → next_of c.recv ≤ next_of b.recv + whole_space
 moved-next b c (moves m) h =
@@ -752,7 +764,7 @@ moved-next b c (as_new e v) h = let n = new-next c (v.new e) in omega (arith, n)
 
 pub moved-offered : (b c : Block) → Moved b c → c.acked + length c.out ≤ b.acked + length b.out
 moved-offered b c (moves m) = m.keeps.offered
-moved-offered b c (as_new e v) = let a = new-acked c (v.new e) in let o = new-out c (v.new e) in omega (arith, a, o)
+moved-offered b c (as_new e v) = let a = new-acked c (v.new e) in let o = new-length c (v.new e) in omega (arith, a, o)
 
 pub segment-next : (now iss : ℕ) (s : Seg) (text : List ℕ) (b : Block) → IsValid b → next_of (left_by (tcp_segment now iss s text b)).recv < next_of b.recv + 2 ^ 21
 segment-next now iss s text b v =

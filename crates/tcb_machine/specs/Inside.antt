@@ -1,10 +1,11 @@
 -- What the fields of a block stand for.
-use Rattle.std.specs.Prelude.{◌≡◌, true, false, None, ◌+◌, ◌^◌, ◌≤◌, length, All}
+use Rattle.std.specs.Prelude.{◌≡◌, true, false, None, ◌+◌, ◌≤◌, length, All}
 use Rattle.byte_queues.specs.ReceiveQueue.{next_of}
 use Rattle.tcb_machine.specs.BlockState.{Block, IsOurs}
 use Rattle.tcb_machine.specs.States.{is_listen}
 use Rattle.tcb_machine.specs.declared.tcb.Tcb.TheInside.{Inside}
-use Rattle.tcb_machine.specs.Limits.{least_mss, longest_timeout, most_mss, most_retransmissions, most_shift, plain_space, whole_space}
+use Rattle.tcb_machine.specs.Limits.{least_mss, longest_timeout, most_mss, most_retransmissions, most_shift, plain_space, whole_space, last_time, most_streamed}
+use Rattle.byte_queues.specs.Limits.{send_space}
 
 abbrev pub block_of : Inside → Block
 block_of a = record {
@@ -47,14 +48,14 @@ pub record IsSound (a : Inside) : Type 0 where
   pub announced : is_listen a.state ≡ false → a.scaled ≡ false → a.recv.edge ≤ a.recv.taken + plain_space
   pub plain : is_listen a.state ≡ false → a.scaled ≡ false → a.recv.cap ≤ plain_space
   -- the counts of the send side
-  pub held : length a.send ≤ 65535
+  pub held : length a.send ≤ send_space
   pub sent_acked : a.acked ≤ a.sent
   pub sent_out : a.sent ≤ a.acked + length a.send
-  pub few : a.acked ≤ 2 ^ 61
+  pub few : a.acked ≤ most_streamed
   -- the timers
   pub rto : a.rto ≤ longest_timeout
   pub tries : a.retransmissions ≤ most_retransmissions
-  pub clock : a.clock ≤ 2 ^ 62
+  pub clock : a.clock ≤ last_time
   pub idle : is_listen a.state ≡ true → a.retransmit_at ≡ None
   pub quiet : is_listen a.state ≡ true → a.ack_due ≡ false
   pub replies : All IsOurs a.replies.items

@@ -1,5 +1,6 @@
 -- The numbers that the rules fix. Changing one here and its constant in the code changes the rule.
-use Rattle.std.specs.Prelude.{ℕ, ◌*◌}
+use Rattle.std.specs.Prelude.{ℕ, ◌*◌, ◌^◌}
+use Rattle.segment_codec.specs.Limits.{announced_mss, announced_shift}
 
 -- times are in microseconds
 abbrev pub second : ℕ
@@ -29,7 +30,7 @@ abbrev pub least_mss : ℕ
 least_mss = 64
 
 abbrev pub most_mss : ℕ
-most_mss = 1460
+most_mss = announced_mss
 
 -- the receive space: at first, and the most that is announced without window scale
 abbrev pub whole_space : ℕ
@@ -40,7 +41,18 @@ plain_space = 65535
 
 -- the window scale that we announce, and the most that is taken from the peer (RFC 7323, 2.3)
 abbrev pub our_shift : ℕ
-our_shift = 5
+our_shift = announced_shift
 
 abbrev pub most_shift : ℕ
 most_shift = 14
+
+-- a block takes a segment as long as fewer bytes of each of its streams have come, and a segment takes neither so much further
+abbrev pub most_streamed : ℕ
+most_streamed = 2 ^ 61
+
+abbrev pub segment_growth : ℕ
+segment_growth = 2 ^ 21
+
+-- no block is given a later time
+abbrev pub last_time : ℕ
+last_time = 2 ^ 62

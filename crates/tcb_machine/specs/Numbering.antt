@@ -11,6 +11,7 @@ use Rattle.tcb_machine.specs.Validity.{IsValid, left_by}
 use Rattle.tcb_machine.specs.declared.kinds.Call.{Call}
 use Rattle.tcb_machine.specs.declared.kinds.State.{State}
 use Rattle.tcb_machine.specs.declared.kinds.State.TheVariants.{Listen, SynReceived, Established, FinWait1, FinWait2, CloseWait, Closing, LastAck, TimeWait}
+use Rattle.byte_queues.specs.Limits.{send_space}
 
 -- the states behind the handshake
 abbrev pub is_synchronized : State → Bool
@@ -45,13 +46,14 @@ pub record IsNumbered (b : Block) : Type 0 where
   -- our FIN stands behind all text, and none is offered behind it
   pub wanted : b.fin_sent ≡ true → b.fin_wanted ≡ true
   pub last : b.fin_sent ≡ true → b.sent ≡ b.acked + length b.out
-  pub held : length b.out ≤ 65535
+  pub held : length b.out ≤ send_space
 
 -- laws: every step of a valid block keeps this; the numbers that come in are of 32 bits
 
 abbrev pub SegmentKeepsNumbers : Type 0
 SegmentKeepsNumbers =
-    (now iss : ℕ) (s : Seg) (text : List ℕ) (b : Block) → iss < 2 ^ 32 → s.ack < 2 ^ 32 → IsValid b → IsNumbered b → IsNumbered (left_by (tcp_segment now iss s text b))
+    (now iss : ℕ) (s : Seg) (text : List ℕ) (b : Block) → iss < 2 ^ 32 → s.ack < 2 ^ 32 → IsValid b → IsNumbered b
+    → IsNumbered (left_by (tcp_segment now iss s text b))
 
 abbrev pub TimeKeepsNumbers : Type 0
 TimeKeepsNumbers = (to : ℕ) (b : Block) → IsValid b → IsNumbered b → IsNumbered (tcp_time to b)

@@ -1,5 +1,6 @@
 -- The output rule (RFC 9293, 3.8.6 and 3.10.2): text, FIN, ACK, deadline.
-use Rattle.std.specs.Prelude.{ℕ, ◌+◌, ◌-◌, ◌==◌, nat_lt, ◌&&◌, ◌||◌, Bool, true, false, not, List, [], ◌∷◌, length, take, drop, Option, None, Some, suc, zero, if◌then◌else◌}
+use Rattle.std.specs.Prelude.{ℕ, ◌+◌, ◌-◌, ◌==◌, nat_lt, ◌&&◌, ◌||◌, Bool, true, false, not, List}
+use Rattle.std.specs.Prelude.{[], ◌∷◌, length, take, drop, Option, None, Some, suc, zero, if◌then◌else◌}
 use Rattle.sq_base.specs.SerialOrder.{dist}
 use Rattle.tcb_machine.specs.BlockState.{Block, fin, ack, psh, segment_of, sends, sends_ack, snd_nxt, unsent}
 use Rattle.tcb_machine.specs.declared.kinds.State.{State}

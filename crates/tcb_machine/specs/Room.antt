@@ -1,5 +1,5 @@
 -- How far the two streams of a connection have come, and how far a segment may still take them.
-use Rattle.std.specs.Prelude.{ℕ, ◌+◌, ◌^◌, ◌<◌, List}
+use Rattle.std.specs.Prelude.{ℕ, ◌+◌, ◌<◌, List}
 use Rattle.byte_queues.specs.ReceiveQueue.{next_of}
 use Rattle.segment_codec.specs.declared.packet.Seg.{Seg}
 use Rattle.tcb_machine.specs.BlockState.{Block, offered}
@@ -9,26 +9,21 @@ use Rattle.tcb_machine.specs.TcpStep.{tcp_segment}
 use Rattle.tcb_machine.specs.Timers.{tcp_time}
 use Rattle.tcb_machine.specs.Validity.{IsValid, left_by}
 use Rattle.tcb_machine.specs.declared.kinds.Call.{Call}
+use Rattle.tcb_machine.specs.Limits.{most_streamed, segment_growth}
 
 -- the number of the next byte to come, and the count of bytes offered, both since LISTEN
 abbrev pub StreamsBelow : ℕ → Block → Type 0
 StreamsBelow most b = (next_of b.recv < most) × (offered b < most)
 
--- a block takes a segment as long as both are below this number
-abbrev pub most_streamed : ℕ
-most_streamed = 2 ^ 61
-
+-- a block takes a segment as long as both are below the limit
 abbrev pub HasRoom : Block → Type 0
 HasRoom b = StreamsBelow most_streamed b
-
--- neither comes so far, from one segment to the next
-abbrev pub segment_growth : ℕ
-segment_growth = 2 ^ 21
 
 -- laws: where both streams stand below a number, a segment takes neither 2^21 further, and nothing else takes one further
 abbrev pub SegmentAddsLittle : Type 0
 SegmentAddsLittle =
-    (most now iss : ℕ) (s : Seg) (text : List ℕ) (b : Block) → IsValid b → StreamsBelow most b → StreamsBelow (most + segment_growth) (left_by (tcp_segment now iss s text b))
+    (most now iss : ℕ) (s : Seg) (text : List ℕ) (b : Block) → IsValid b → StreamsBelow most b
+    → StreamsBelow (most + segment_growth) (left_by (tcp_segment now iss s text b))
 
 abbrev pub TimeAddsNothing : Type 0
 TimeAddsNothing = (most to : ℕ) (b : Block) → StreamsBelow most b → StreamsBelow most (tcp_time to b)

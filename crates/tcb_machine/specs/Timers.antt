@@ -1,5 +1,6 @@
 -- A time entry: the deadlines that fire, in order of time (RFC 9293, 3.8.1 and 3.10.8; RFC 6298).
-use Rattle.std.specs.Prelude.{ℕ, ◌≡◌, ◌<◌, ◌+◌, ◌-◌, ◌*◌, ◌==◌, nat_le, nat_lt, min, max, ◌&&◌, not, List, [], ◌∷◌, take, Option, None, Some, suc, zero, if◌then◌else◌}
+use Rattle.std.specs.Prelude.{ℕ, ◌≡◌, ◌<◌, ◌+◌, ◌-◌, ◌*◌, ◌==◌, nat_le, nat_lt, min, max, ◌&&◌}
+use Rattle.std.specs.Prelude.{not, List, [], ◌∷◌, take, Option, None, Some, suc, zero, if◌then◌else◌}
 use Rattle.std.specs.Option.{ForSome}
 use Rattle.tcb_machine.specs.BlockState.{Block, to_listen, fin, psh, ack, segment_of, sends, snd_nxt, snd_end, unsent, in_flight}
 use Rattle.tcb_machine.specs.TcpStep.{sends_syn_ack}

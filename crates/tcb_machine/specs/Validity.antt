@@ -7,7 +7,7 @@ use Rattle.tcb_machine.specs.TcpStep.{Verdict, over, go, on, is_time_wait}
 use Rattle.tcb_machine.specs.declared.kinds.Call.{Call}
 use Rattle.tcb_machine.specs.declared.kinds.State.{State}
 use Rattle.tcb_machine.specs.declared.kinds.Call.TheVariants.{Status, Buffer, Close}
-use Rattle.tcb_machine.specs.Limits.{most_mss, whole_space}
+use Rattle.tcb_machine.specs.Limits.{most_mss, whole_space, plain_space}
 
 -- the receive side, with the receive space asked for
 pub record IsReceiving (want : ℕ) (q : Recv) : Type 0 where
@@ -38,10 +38,10 @@ pub record IsValid (b : Block) : Type 0 where
   -- in LISTEN all is as new
   pub new : is_listen b.state ≡ true → b ≡ to_listen b
 
--- the receive space that a call asks for fits 16 bits
+-- the receive space that a call asks for is one that can be announced without window scale
 abbrev pub IsAskable : Call → Type 0
 IsAskable Status = Unit {0}
-IsAskable (Buffer n) = n ≤ 65535
+IsAskable (Buffer n) = n ≤ plain_space
 IsAskable Close = Unit {0}
 
 -- the block that a step leaves, before pump and output

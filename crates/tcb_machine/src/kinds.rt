@@ -82,7 +82,6 @@ pub enum AckKind {
 }
 
 ghost use Rattle.std.specs.Prelude.{◌≡◌};
-ghost use Rattle.tcb_machine.specs.BlockState.{has};
 ghost use Rattle.tcb_machine.specs.Endings.{ending_by, ending_by_segment, ending_by_time, is_over};
 ghost use Rattle.tcb_machine.specs.States.{is_consumed};
 

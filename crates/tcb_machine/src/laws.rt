@@ -1,6 +1,6 @@
 //! What the definitions say of every block: each law is a function that does nothing, whose contract is the law.
 
-ghost use Rattle.std.specs.Prelude.{◌≡◌, ℕ, ◌+◌, ◌^◌, ◌<◌, ◌≤◌, List};
+ghost use Rattle.std.specs.Prelude.{◌≡◌, ℕ, ◌+◌, ◌<◌, ◌≤◌, List};
 ghost use Rattle.byte_queues.specs.ReceiveQueue.{next_of};
 ghost use Rattle.segment_codec.specs.declared.packet.Seg.{Seg};
 ghost use Rattle.tcb_machine.specs.BlockState.{Block, new_block, offered};
@@ -12,6 +12,7 @@ ghost use Rattle.tcb_machine.specs.TcpStep.{tcp_segment, OneSerialOrder};
 ghost use Rattle.tcb_machine.specs.Timers.{tcp_time, QuietBeforeDeadline};
 ghost use Rattle.tcb_machine.specs.Validity.{IsValid, IsAskable, AtMostOneDeadline, left_by};
 ghost use Rattle.tcb_machine.specs.declared.kinds.Call.{Call};
+ghost use Rattle.tcb_machine.specs.Limits.{segment_growth};
 
 /// The output rule sets no clock, takes nothing from the receive queue and offers nothing.
 pub fn output_moves_no_text()
@@ -38,7 +39,8 @@ pub fn every_block_is_valid()
 
 /// A segment raises the number of the next byte by less than 2^21, and offers nothing; calls and timers raise neither.
 pub fn a_segment_adds_little()
-    ensures next { (now iss : ℕ) (s : Seg) (text : List ℕ) (b : Block) → IsValid b → next_of (left_by (tcp_segment now iss s text b)).recv < next_of b.recv + 2 ^ 21 }
+    ensures next { (now iss : ℕ) (s : Seg) (text : List ℕ) (b : Block) → IsValid b
+        → next_of (left_by (tcp_segment now iss s text b)).recv < next_of b.recv + segment_growth }
     ensures offered { (now iss : ℕ) (s : Seg) (text : List ℕ) (b : Block) → IsValid b → offered (left_by (tcp_segment now iss s text b)) ≤ offered b }
     ensures next_timed { (to : ℕ) (b : Block) → next_of (tcp_time to b).recv ≤ next_of b.recv }
     ensures next_called { (call : Call) (b : Block) → next_of (left_by (tcp_call call b).verdict).recv ≤ next_of b.recv }

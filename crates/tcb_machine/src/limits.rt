@@ -34,3 +34,6 @@ pub(crate) const OUR_SHIFT: u8 = 5;
 
 /// A larger window scale of the peer counts as this one (RFC 7323, 2.3).
 pub(crate) const MOST_SHIFT: u8 = 14;
+
+/// A block takes a segment as long as fewer bytes of each of its streams have come.
+pub(crate) const MOST_STREAMED: u64 = 1 << 61;

@@ -15,7 +15,7 @@ mod text;
 mod timers;
 
 use crate::kinds::{State, is_consumed};
-use crate::limits::{DEFAULT_MSS, FIRST_TIMEOUT, TIME_WAIT, WHOLE_SPACE};
+use crate::limits::{DEFAULT_MSS, FIRST_TIMEOUT, MOST_STREAMED, TIME_WAIT, WHOLE_SPACE};
 use byte_queues::{RecvQueue, SendQueue};
 use segment_codec::Reply;
 use sq_base::seq_dist;
@@ -32,9 +32,6 @@ pub(crate) const RST: u8 = 4;
 const PSH: u8 = 8;
 
 const ACK: u8 = 16;
-
-/// A block takes no segment once so many bytes of a stream have come.
-const MOST_STREAMED: u64 = 1 << 61;
 
 /// The block of a connection.
 #[derive(Drop)]
@@ -123,6 +120,7 @@ impl Tcb {
         }
     }
 
+    /// The connection's state (RFC 9293, 3.3.2).
     pub fn state(&self) -> State
         ensures { result ≡ self.now.state }
     {

@@ -1,6 +1,6 @@
 //! The three crates as a library: one connection, served as its datagrams come. docs/TCP_LIBRARY.md tells it.
 
-ghost use Rattle.std.specs.Prelude.{◌^◌, ◌<◌, ◌≤◌, ◌⊎◌, ◌≡◌, All, length};
+ghost use Rattle.std.specs.Prelude.{◌^◌, ◌<◌, ◌≤◌, All, length};
 ghost use Rattle.tcb_machine.specs.BlockState.{IsOurs};
 
 use crate::{Service, serve, tick};

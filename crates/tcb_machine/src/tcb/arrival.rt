@@ -1,11 +1,13 @@
 //! The arrival of a segment (RFC 9293, 3.10.7): LISTEN, and the first five checks of the other states.
 
-ghost use Rattle.std.specs.Prelude.{true, false, ◌≡◌, ◌+◌, ◌-◌, ◌*◌, ◌%◌, ◌^◌, ◌<◌, ◌≤◌, length, min, max, None, Some, IfOk, OnOk};
+ghost use Rattle.std.specs.Prelude.{true, false, ◌≡◌, ◌+◌, ◌-◌, ◌%◌, ◌^◌, ◌<◌, ◌≤◌, length, min, max, None, Some, IfOk, OnOk};
 ghost use Rattle.tcb_machine.specs.BlockState.{rcv_nxt, rcv_wnd, snd_nxt, in_flight, has, seg_wnd, offered};
-ghost use Rattle.tcb_machine.specs.Limits.{whole_space};
+ghost use Rattle.tcb_machine.specs.Limits.{whole_space, last_time, most_streamed};
 ghost use Rattle.tcb_machine.specs.Room.{HasRoom};
 ghost use Rattle.tcb_machine.specs.States.{is_listen};
-ghost use Rattle.tcb_machine.specs.TcpStep.{over, listen, opened, send_mss, is_in_window, is_acceptable, check_sequence, refused, check_reset, syn_again, ack_kind, with_window, takes_window, takes_ack, is_fin_acked, after_ack, acknowledged, check_ack, first_checks, check_text, in_state, tcp_segment, said, step_said};
+ghost use Rattle.tcb_machine.specs.TcpStep.{over, listen, opened, send_mss, is_in_window, is_acceptable, check_sequence, refused};
+ghost use Rattle.tcb_machine.specs.TcpStep.{check_reset, syn_again, ack_kind, with_window, takes_window, takes_ack, is_fin_acked, after_ack};
+ghost use Rattle.tcb_machine.specs.TcpStep.{acknowledged, check_ack, first_checks, check_text, in_state, tcp_segment, said, step_said};
 ghost use Rattle.byte_queues.specs.ReceiveQueue.{next_of};
 
 use super::{ACK, FIN, RST, SYN, Tcb};
@@ -31,7 +33,7 @@ impl Tcb {
         text: &[u8],
     ) -> Result<Next, AllocError>
         requires clock { self.old.clock ≤ now }
-        requires time { now ≤ 2 ^ 62 }
+        requires time { now ≤ last_time }
         requires room { HasRoom self.old }
         ensures step { IfOk result (λ next. tcp_segment now iss seg.now text.now self.old ≡ said next self.new) }
         ensures clock { OnOk result (self.new.clock ≡ now) }
@@ -55,8 +57,8 @@ impl Tcb {
         seg: &Seg,
         text: &[u8],
     ) -> Result<Next, AllocError>
-        requires next { next_of self.old.recv < 2 ^ 61 }
-        requires offered { offered self.old < 2 ^ 61 }
+        requires next { next_of self.old.recv < most_streamed }
+        requires offered { offered self.old < most_streamed }
         ensures { IfOk result (λ next. in_state self.old.state seg.now iss text.now self.old ≡ said next self.new) }
     {
         if matches!(self.state, State::Listen) {
@@ -121,7 +123,7 @@ impl Tcb {
     #[tactic(auto, unfolding(crate::specs::TcpStep::first_checks, crate::specs::TcpStep::check_sequence, crate::specs::TcpStep::check_reset, crate::specs::TcpStep::check_syn))]
     fn first_checks(&mut self, alloc: Global, seg: &Seg, text: &[u8]) -> Result<Step, AllocError>
         requires open { is_listen self.old.state ≡ false }
-        requires few { self.old.acked + length self.old.out ≤ 2 ^ 61 }
+        requires few { self.old.acked + length self.old.out ≤ most_streamed }
         ensures is { IfOk result (λ step. first_checks seg.now text.now self.old ≡ step_said step self.new) }
         ensures kept { IfOk result (λ step. step ≡ Step.On → (self.new.recv ≡ self.old.recv) × (is_listen self.new.state ≡ false)) }
     {
@@ -215,7 +217,7 @@ impl Tcb {
     /// Fifth, the ACK field.
     #[tactic(auto, unfolding(crate::specs::TcpStep::check_ack))]
     fn check_ack(&mut self, alloc: Global, seg: &Seg) -> Result<Step, AllocError>
-        requires few { self.old.acked + length self.old.out ≤ 2 ^ 61 }
+        requires few { self.old.acked + length self.old.out ≤ most_streamed }
         ensures is { IfOk result (λ step. check_ack seg.now self.old ≡ step_said step self.new) }
         ensures kept { IfOk result (λ step. step ≡ Step.On → (self.new.recv ≡ self.old.recv) × (is_listen self.new.state ≡ false)) }
     {
@@ -261,7 +263,7 @@ impl Tcb {
     #[tactic(auto, unfolding(crate::specs::TcpStep::acknowledged, crate::specs::TcpStep::takes_ack, crate::specs::TcpStep::takes_window))]
     fn acknowledge(&mut self, alloc: Global, kind: AckKind, seg: &Seg) -> Result<Step, AllocError>
         requires open { is_listen self.old.state ≡ false }
-        requires few { self.old.acked + length self.old.out ≤ 2 ^ 61 }
+        requires few { self.old.acked + length self.old.out ≤ most_streamed }
         ensures is { IfOk result (λ step. acknowledged kind seg.now self.old ≡ step_said step self.new) }
         ensures kept { IfOk result (λ step. step ≡ Step.On → (self.new.recv ≡ self.old.recv) × (is_listen self.new.state ≡ false)) }
     {
@@ -286,7 +288,7 @@ impl Tcb {
     /// A new acknowledgement: the bytes leave. Our SYN and our FIN take a number each, and aren't among them.
     #[tactic(auto, unfolding(crate::specs::TcpStep::takes_ack))]
     fn take_ack(&mut self, seg: &Seg)
-        requires { self.old.acked + length self.old.out ≤ 2 ^ 61 }
+        requires { self.old.acked + length self.old.out ≤ most_streamed }
         ensures { self.new ≡ takes_ack seg.now self.old }
     {
         let gone = self.in_flight().min(seq_dist(self.una, seg.ack));

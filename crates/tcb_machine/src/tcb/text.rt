@@ -1,11 +1,13 @@
 //! The last two checks of an arriving segment: text and FIN (RFC 9293, 3.10.7.4, seventh and eighth).
 
-ghost use Rattle.std.specs.Prelude.{true, false, ◌≡◌, ◌+◌, ◌-◌, ◌^◌, ◌<◌, ◌≤◌, min, None, Some, OnOk};
+ghost use Rattle.std.specs.Prelude.{true, false, ◌≡◌, ◌+◌, ◌-◌, ◌<◌, ◌≤◌, min, None, Some, OnOk};
 ghost use Rattle.tcb_machine.specs.BlockState.{rcv_nxt};
 ghost use Rattle.tcb_machine.specs.States.{is_listen};
 ghost use Rattle.tcb_machine.specs.TcpStep.{go, in_time_wait, repeated, ahead, takes_fin, takes_text, closes, check_text};
 ghost use Rattle.byte_queues.specs.ReceiveQueue.{next_of, placed};
 ghost use Rattle.tcb_machine.specs.TcpStep.{is_end_kept};
+ghost use Rattle.tcb_machine.specs.Limits.{most_streamed};
+ghost use Rattle.byte_queues.specs.Limits.{position_limit};
 
 use super::{FIN, Tcb};
 use crate::kinds::State;
@@ -17,7 +19,7 @@ use std::alloc::AllocError;
 impl Tcb {
     pub(super) fn check_text(&mut self, seg: &Seg, text: &[u8]) -> Result<(), AllocError>
         requires open { is_listen self.old.state ≡ false }
-        requires next { next_of self.old.recv < 2 ^ 61 }
+        requires next { next_of self.old.recv < most_streamed }
         ensures { OnOk result (check_text seg.now text.now self.old ≡ go self.new) }
     {
         self.keep(seg, text)?;
@@ -29,7 +31,7 @@ impl Tcb {
     #[tactic(auto, unfolding(crate::specs::TcpStep::check_text))]
     fn keep(&mut self, seg: &Seg, text: &[u8]) -> Result<(), AllocError>
         requires open { is_listen self.old.state ≡ false }
-        requires next { next_of self.old.recv < 2 ^ 61 }
+        requires next { next_of self.old.recv < most_streamed }
         ensures is { OnOk result (check_text seg.now text.now self.old ≡ closes self.new) }
         ensures open { OnOk result (is_listen self.new.state ≡ false) }
     {
@@ -76,7 +78,7 @@ impl Tcb {
     fn take_text(&mut self, seg: &Seg, at: u64, fresh: &[u8], fin_at: u64) -> Result<(), AllocError>
         requires open { is_listen self.old.state ≡ false }
         requires behind { next_of self.old.recv ≤ at }
-        requires small { at < 2 ^ 62 }
+        requires small { at < position_limit }
         ensures is { OnOk result (takes_text (placed at fresh.now self.old.recv) seg.now fin_at self.old ≡ self.new) }
         ensures open { OnOk result (is_listen self.new.state ≡ false) }
     {

@@ -1,13 +1,13 @@
 //! The deadlines (RFC 9293, 3.8.1 and 3.10.8; RFC 6298).
 
-ghost use Rattle.std.specs.Prelude.{false, ◌≡◌, ◌+◌, ◌-◌, ◌*◌, ◌^◌, ◌<◌, ◌≤◌, min, max, None, Some, OnOk, IfSome, IfNone, IsSome};
+ghost use Rattle.std.specs.Prelude.{false, ◌≡◌, ◌+◌, ◌-◌, ◌*◌, ◌<◌, ◌≤◌, min, max, None, Some, OnOk, IfSome, IfNone, IsSome};
 ghost use Rattle.std.specs.Option.{ForSome};
 ghost use Rattle.tcb_machine.specs.BlockState.{snd_nxt, snd_end, unsent, in_flight};
 ghost use Rattle.tcb_machine.specs.States.{is_listen};
 ghost use Rattle.tcb_machine.specs.Timers.{next_deadline, tcp_time, fired, fires, retransmission, sends_again, retransmits};
 ghost use Rattle.byte_queues.specs.ReceiveQueue.{next_of};
 ghost use Rattle.tcb_machine.specs.BlockState.{offered};
-ghost use Rattle.tcb_machine.specs.Limits.{most_retransmissions};
+ghost use Rattle.tcb_machine.specs.Limits.{most_retransmissions, last_time};
 
 use super::{ACK, PSH, Tcb};
 use crate::kinds::State;
@@ -31,7 +31,7 @@ impl Tcb {
     /// Runs the timers up to a time, in microseconds. After NoMemory nothing more is promised.
     pub fn time(&mut self, alloc: Global, to: u64) -> Result<(), AllocError>
         requires clock { self.old.clock ≤ to }
-        requires time { to ≤ 2 ^ 62 }
+        requires time { to ≤ last_time }
         ensures time { OnOk result (self.new ≡ tcp_time to self.old) }
         ensures clock { OnOk result (self.new.clock ≡ to) }
         ensures taken { OnOk result (self.new.recv.taken ≤ self.old.recv.taken) }
@@ -46,7 +46,7 @@ impl Tcb {
     /// The deadlines up to a time fire.
     fn run_timers(&mut self, alloc: Global, to: u64) -> Result<(), AllocError>
         requires clock { self.old.clock ≤ to }
-        requires time { to ≤ 2 ^ 62 }
+        requires time { to ≤ last_time }
         ensures { OnOk result (record self.new { clock = to } ≡ tcp_time to self.old) }
     {
         match self.time_wait_at {
@@ -62,7 +62,7 @@ impl Tcb {
 
     fn retransmissions_up_to(&mut self, alloc: Global, to: u64) -> Result<(), AllocError>
         requires clock { self.old.clock ≤ to }
-        requires time { to ≤ 2 ^ 62 }
+        requires time { to ≤ last_time }
         requires none { self.old.time_wait_at ≡ None }
         ensures { OnOk result (record self.new { clock = to } ≡ tcp_time to self.old) }
     {
@@ -76,7 +76,7 @@ impl Tcb {
     #[tactic(auto, unfolding(crate::specs::Timers::fires))]
     fn fire(&mut self, alloc: Global, at: u64) -> Result<(), AllocError>
         requires due { self.old.retransmit_at ≡ Some at }
-        requires time { at ≤ 2 ^ 62 }
+        requires time { at ≤ last_time }
         requires open { is_listen self.old.state ≡ false }
         ensures { OnOk result (self.new ≡ fired at self.old) }
     {
