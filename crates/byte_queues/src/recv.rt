@@ -21,6 +21,18 @@ pub enum Placed {
 }
 
 /// The peer's text from the first byte that wasn't taken on.
+///
+/// # Example
+///
+/// ```
+/// let mut queue = RecvQueue::make(rt.alloc(), 1000);
+/// assert_eq!(rt; placed(&rt, &mut queue, 2, b"cd")?, Placed::Held);
+/// assert_eq!(rt; placed(&rt, &mut queue, 4, b"ef")?, Placed::Held);
+/// assert_eq!(rt; queue.runs(), 1);
+/// let (start, bytes) = queue.run(0);
+/// assert_eq!(rt; start, 2);
+/// assert!(rt; bytes == b"cdef".as_slice());
+/// ```
 #[derive(Drop)]
 pub struct RecvQueue {
     /// By rising position, with a gap between each two.

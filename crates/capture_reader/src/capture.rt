@@ -157,6 +157,13 @@ impl Capture {
 
 /// The capture that the bytes are (libpcap file format 2.4), or the first refusal that they meet. `Read` is never answered, and `TooLarge` exactly
 /// where there are more than 67,108,864 bytes.
+///
+/// # Example
+///
+/// ```
+/// let capture = parse_capture(rt.alloc(), Octets::of(rt.alloc(), &CAPTURE)?)?;
+/// let plan = plan(&rt, rt.alloc(), &capture, false)?;
+/// ```
 pub fn parse_capture(alloc: Global, bytes: Octets) -> Result<Capture, CaptureFault>
     ensures ok { IfOk result (λ c. IsCapture c × (c.bytes ≡ bytes)) }
     ensures err { IfErr result (ParseFails bytes) }

@@ -17,6 +17,14 @@ use std::marker::Model;
 use tcb_machine::{Call, Next, State, Tcb};
 
 /// A connection's block with the generator behind it.
+///
+/// # Example
+///
+/// ```
+/// assert!(rt; block.tcb().clock() <= at && at < 1_000_000_000_000);
+/// assert!(rt; block.tcb().has_room());
+/// block.segment(alloc, at, iss, seg, text)?;
+/// ```
 #[derive(Drop)]
 pub struct GenBlock {
     tcb: Tcb,

@@ -236,6 +236,16 @@ impl Block {
 
 /// Connection `c` served on one thread: the acts in this order, from a new block. The feeds' numbers rise, and there are no more
 /// acts than an order has in which none stands twice.
+///
+/// # Example
+///
+/// ```
+/// let plan = plan(rt, alloc, capture, false)?;
+/// if plan.conns() == 0 || !can_serve(&plan, calls, order) {
+///     return Ok(None);
+/// }
+/// Ok(Some(serve_one(alloc, &plan, calls, 0, order)?))
+/// ```
 pub fn serve_one(
     alloc: Global,
     plan: &Plan,

@@ -10,6 +10,15 @@ use std::marker::Model;
 use tcb_machine::Call;
 
 /// The calls of the four application threads, each thread's in the order in which it makes them. At most 1,024 in all.
+///
+/// # Example
+///
+/// ```
+/// let mut calls = Calls::make(alloc);
+/// calls.push(0, 0, Call::Status)?;
+/// calls.push(0, 0, Call::Close)?;
+/// calls.push(1, 0, Call::Status)?;
+/// ```
 #[derive(Drop)]
 pub struct Calls {
     first: Vec<(u32, Call)>,

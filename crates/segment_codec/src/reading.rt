@@ -14,7 +14,19 @@ const TAGGED: u16 = 0x8100;
 
 const TCP: u8 = 6;
 
-/// The packet in a record's bytes. `BadSum` comes only with `verify`.
+/// The packet in a record's bytes (RFC 791, 3.1; RFC 9293, 3.1). `BadSum` comes only with `verify`.
+///
+/// # Example
+///
+/// ```
+/// match decode(Link::RawIp, datagram, true) {
+///     Packet::Segment(seg) if seg.dst_port == 7 || seg.dst_port == 9 => {
+///         let text = text_of(&seg, datagram);
+///         ...
+///     }
+///     _ => Ok(Vec::new(alloc)),
+/// }
+/// ```
 #[tactic(auto, unfolding(crate::specs::Packet::packet_in))]
 pub fn decode(link: Link, body: &[u8], verify: bool) -> Packet
     requires { length body.now < 2 ^ 32 }

@@ -36,7 +36,20 @@ const ACK: u8 = 16;
 /// A block takes no segment once so many bytes of a stream have come.
 const MOST_STREAMED: u64 = 1 << 61;
 
-/// The block of a connection.
+/// The block of a connection (RFC 9293, 3.3.1). Times are in microseconds.
+///
+/// # Example
+///
+/// ```
+/// let mut tcb = Tcb::make(alloc);
+/// ...
+/// let sent = receive(&mut tcb, alloc, now, 500, datagram.as_slice())?;
+/// assert_eq!(rt; sent.len(), answers);
+/// ...
+/// let before = tcb.state();
+/// assert_eq!(rt; before, State::LastAck);
+/// assert_eq!(rt; tcb.next_deadline(), Some(1_003_000));
+/// ```
 #[derive(Drop)]
 pub struct Tcb {
     state: State,

@@ -17,7 +17,15 @@ const UDP: u8 = 17;
 /// The most bytes of a UDP header with its text: the longest datagram less an IPv4 header.
 const MOST_LENGTH: usize = 65_515;
 
-/// The UDP datagram in a record's bytes. Its checksum isn't looked at.
+/// The UDP datagram in a record's bytes (RFC 768). Its checksum isn't looked at.
+///
+/// # Example
+///
+/// ```
+/// let body = captured(alloc, before, changes, behind)?;
+/// assert!(rt; body.len() < 100_000);
+/// Ok(decode_udp(link, body.as_slice()))
+/// ```
 pub fn decode_udp(link: Link, body: &[u8]) -> Option<Udp>
     requires { length body.now < 2 ^ 32 }
     ensures { result ≡ udp_in link body.now }
