@@ -17,6 +17,18 @@ pub struct Line {
 }
 
 /// The lines in the order in which they were written.
+///
+/// # Example
+///
+/// ```
+/// let diary = Diary::with_room(alloc, (passes * turns) as usize).expect(rt, "memory");
+/// let (gate, mut all) = Gate::make(alloc, diary, passes).expect(rt, "memory");
+/// lend(&gate, &mut all, &mut jobs);
+/// write_all(rt, &gate, &mut jobs, threads, turns, pause);
+/// take_back(&gate, &mut jobs, &mut all);
+/// jobs.destroy_empty();
+/// gate.close(all)
+/// ```
 #[derive(Drop)]
 pub struct Diary {
     lines: Vec<Line>,
