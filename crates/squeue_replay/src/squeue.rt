@@ -41,6 +41,17 @@ pub struct Run<'p, 'c> {
 }
 
 /// The state of one squeue after the marks so far, which are legal.
+///
+/// # Example
+///
+/// ```
+/// let mut squeue = Squeue::make(rt.alloc(), run, 0)?;
+/// for row in HISTORY {
+///     assert!(rt; !squeue.has_ended());
+///     assert_eq!(rt; add(rt.alloc(), &mut squeue, &row)?, Some(row.3));
+/// }
+/// assert!(rt; squeue.has_ended());
+/// ```
 #[derive(Drop)]
 pub struct Squeue<'p, 'c> {
     run: Run<'p, 'c>,
