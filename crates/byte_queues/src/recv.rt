@@ -20,7 +20,7 @@ pub enum Placed {
     Blocks,
 }
 
-/// The peer's text from the first byte that wasn't taken on.
+/// The peer's text from the first byte that wasn't taken on. Positions count the stream's bytes, from 0.
 ///
 /// # Example
 ///
@@ -74,7 +74,7 @@ impl RecvQueue {
     }
 
     /// Holds what is new of a text at position `at`, below the edge and the end. The first copy of a byte stays.
-    /// `Blocks`, with nothing changed, where more than 64 runs would stand above the next byte.
+    /// `Blocks`, with nothing changed, where more than 64 runs would stand above the next byte. Unchanged after NoMemory.
     pub fn place(&mut self, at: u64, text: &[u8]) -> Result<Placed, AllocError>
         requires behind { next_of self.old ≤ at }
         requires small { at < 2 ^ 62 }

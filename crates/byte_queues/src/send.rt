@@ -80,7 +80,7 @@ impl SendQueue {
         self.bytes.drop_front(n as usize);
     }
 
-    /// A copy of `n` bytes from place `from` on.
+    /// A copy of `n` bytes from place `from` on. Fails only for want of memory.
     pub fn slice(&self, alloc: Global, from: u32, n: u32) -> Result<Octets, AllocError>
         requires { from + n ≤ length self.now }
         ensures { IfOk result (λ bytes. bytes ≡ take n (drop from self.now)) }

@@ -69,7 +69,7 @@ impl Capture {
     ghost use Rattle.capture_reader.specs.Outcome.{IsInside};
 
     /// The capture of these records of a file in another form, its packets in their order. `cut_tail` says whether an interrupted
-    /// capture cut the last packet, which is none of the records.
+    /// capture cut the last packet, which is none of the records. Fails only for want of memory.
     pub fn make(
         alloc: Global,
         link: Link,
@@ -104,6 +104,7 @@ impl Capture {
         self.records.len() as u32
     }
 
+    /// Whether it has no packet.
     pub fn is_empty(&self) -> bool
         ensures { result ≡ (length self.now.packets == 0) }
     {

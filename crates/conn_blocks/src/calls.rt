@@ -65,7 +65,7 @@ impl Calls {
         }
     }
 
-    /// One more call of thread `j`, on connection `c`.
+    /// One more call of thread `j`, on connection `c`. Unchanged after NoMemory.
     pub fn push(&mut self, j: u32, c: u32, call: Call) -> Result<(), AllocError>
         requires thread { j < 4 }
         requires few { call_count self.old < 1024 }

@@ -77,7 +77,8 @@ impl Server {
         self.turned_away
     }
 
-    /// An IPv4 datagram comes at a time in microseconds. What is sent goes behind the datagrams that are there.
+    /// An IPv4 datagram comes at a time in microseconds. What is sent goes behind the datagrams that are there. After NoMemory
+    /// nothing more is promised.
     #[tactic(auto, unfolding(crate::specs::Serving::on_datagram, crate::specs::Serving::on_packet))]
     pub fn datagram(
         &mut self,
@@ -100,7 +101,8 @@ impl Server {
         }
     }
 
-    /// The time comes to every block. What is sent goes behind the datagrams that are there, connection by connection.
+    /// The time, in microseconds, comes to every block. What is sent goes behind the datagrams that are there, connection by connection.
+    /// After NoMemory nothing more is promised.
     pub fn tick(
         &mut self,
         alloc: Global,

@@ -222,7 +222,7 @@ fn walk(alloc: Global, bytes: &[u8]) -> Result<(Reading, bool), PcapngFault>
     }
 }
 
-/// The capture that the bytes of a pcapng file are, or the first refusal that they meet.
+/// The capture that the bytes of a pcapng file (draft-ietf-opsawg-pcapng) are, or the first refusal that they meet.
 ///
 /// # Example
 ///

@@ -8,7 +8,8 @@ use crate::packet::Reply;
 use sq_base::{Octets, Tuple, inet_sum};
 use std::alloc::{AllocError, Global};
 
-/// The IPv4 datagram of a reply from the tuple's server to its client (RFC 791, 3.1; RFC 9293, 3.1), with both checksums.
+/// The IPv4 datagram of a reply from the tuple's server to its client (RFC 791, 3.1; RFC 9293, 3.1), with both checksums. Fails
+/// only for want of memory.
 pub fn encode(alloc: Global, tuple: &Tuple, reply: &Reply) -> Result<Octets, AllocError>
     requires text { length reply.now.text ≤ 1460 }
     requires scale { IsSome reply.now.scale → IsSome reply.now.mss }

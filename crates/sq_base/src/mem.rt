@@ -36,7 +36,8 @@ impl Model for MemSource {
 }
 
 impl MemSource {
-    /// A source of these bytes, which gives at most `piece` of them a call. The calls whose numbers are in `fails` fail.
+    /// A source of these bytes, which gives at most `piece` of them a call. The calls whose numbers are in `fails` fail. Making
+    /// it fails only for want of memory.
     pub fn make(
         alloc: Global,
         bytes: &[u8],
@@ -126,7 +127,8 @@ impl Model for MemSink {
 
 impl MemSink {
     /// A sink with room for `room` bytes, which takes at most `piece` of them a call. The calls whose numbers are in `fails`
-    /// fail, and so does each write of a byte where no room is left.
+    /// fail, and so does each write of a byte where no room is left. Making it fails only for want of
+    /// memory.
     pub fn make(
         alloc: Global,
         room: usize,

@@ -20,7 +20,7 @@ impl Model for Octets {
 }
 
 impl Octets {
-    /// A copy of the bytes.
+    /// A copy of the bytes. Fails only for want of memory.
     pub fn of(alloc: Global, bytes: &[u8]) -> Result<Octets, AllocError>
         ensures { IfOk result (λ o. o ≡ bytes.now) }
     {
@@ -35,6 +35,7 @@ impl Octets {
         Octets { bytes }
     }
 
+    /// The bytes, in order.
     pub fn as_slice(&self) -> &[u8]
         ensures { result.now ≡ self.now }
     {

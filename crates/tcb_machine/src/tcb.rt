@@ -136,6 +136,7 @@ impl Tcb {
         }
     }
 
+    /// The state that the connection is in (RFC 9293, 3.3.2).
     pub fn state(&self) -> State
         ensures { result ≡ self.now.state }
     {

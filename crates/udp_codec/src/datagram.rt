@@ -2,7 +2,7 @@
 
 use sq_base::Addr;
 
-/// The fields of a datagram. Its text is the `text_len` bytes of the record's body from `text_from` on.
+/// The fields of a datagram (RFC 768). Its text is the `text_len` bytes of the record's body from `text_from` on.
 #[derive(Clone, Copy, Debug, PartialEq, Eq)]
 pub struct Udp {
     pub src: Addr,

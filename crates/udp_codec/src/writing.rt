@@ -6,7 +6,8 @@ ghost use Rattle.udp_codec.specs.UdpBytes.{udp_bytes, ip_with, udp_with, ip_sum,
 use sq_base::{Octets, Tuple, inet_sum};
 use std::alloc::{AllocError, Global};
 
-/// The IPv4 datagram of a text from the tuple's server to its client (RFC 791, 3.1; RFC 768), with both checksums.
+/// The IPv4 datagram of a text from the tuple's server to its client (RFC 791, 3.1; RFC 768), with both checksums. Fails only for
+/// want of memory.
 #[tactic(auto, unfolding(crate::specs::UdpBytes::udp_bytes))]
 pub fn encode_udp(alloc: Global, tuple: &Tuple, text: &[u8]) -> Result<Octets, AllocError>
     requires { length text.now ≤ most_text }
