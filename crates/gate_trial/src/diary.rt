@@ -49,7 +49,7 @@ impl Storied for Diary {
 impl Diary {
     ghost use Rattle.gate_trial.specs.Diary.{HasRoom, IsDiary, writer, line, lines_of, room_of};
 
-    /// An empty diary with room for so many lines.
+    /// An empty diary with room for so many lines. Fails only for want of memory.
     pub fn with_room(alloc: Global, room: usize) -> Result<Diary, AllocError>
         ensures { IfOk result (λ d. (lines_of d ≡ []) × (room_of d ≡ room)) }
     {

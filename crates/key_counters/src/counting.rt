@@ -12,7 +12,8 @@ use std::alloc::{AllocError, Global};
 use std::sync::Wait;
 use std::thread::Threads;
 
-/// The sum of each key's amounts, added up by one squeue that `rings` rings and a worker serve beside each other.
+/// The sum of each key's amounts, added up by one squeue that `rings` rings and a worker serve beside each other. Fails only for
+/// want of memory.
 ///
 /// # Example
 ///

@@ -10,7 +10,7 @@ use std::alloc::{AllocError, Global};
 
 /// A squeue of one connection, whose block is here or elsewhere, and which keeps its marks. The ring may bring so many feeds,
 /// the application thread has one call on the connection, and each may ask once. The passes are those of the ring, the
-/// thread and the worker.
+/// thread and the worker. Fails only for want of memory.
 ///
 /// # Example
 ///

@@ -21,7 +21,7 @@ use std::alloc::{AllocError, Global};
 use tcb_machine::{Answer, Tcb};
 
 /// The report of what was served: the counts, and for each connection its order, its replies, its answers and its last state.
-/// There is a block for each connection of the plan.
+/// There is a block for each connection of the plan. Fails only for want of memory.
 ///
 /// # Example
 ///

@@ -34,7 +34,8 @@ impl<'p> StreamBlocks<'p> {
     ghost use Rattle.perimeter_core.specs.Blocks.{Blocks};
     ghost use Rattle.stream_blocks.specs.Standing.{FirstFits, PlacesStand, Stands, calls_of, first_here, origin_of, size_of};
 
-    /// A place for each stream of the plan, and new blocks of those whose number leaves `squeue`, divided by `squeues`.
+    /// A place for each stream of the plan, and new blocks of those whose number leaves `squeue`, divided by `squeues`. Fails
+    /// only for want of memory.
     pub fn make(
         alloc: Global,
         plan: &'p MorePlan<'p>,

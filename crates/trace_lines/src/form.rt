@@ -15,6 +15,7 @@ use squeue_replay::Mark;
 use std::alloc::{AllocError, Global};
 
 /// The mark lines of each squeue, by number, where the text is their headings with so many marks each, and then the last line.
+/// `None` where it is anything else. Fails only for want of memory.
 ///
 /// # Example
 ///

@@ -126,7 +126,8 @@ fn begins_with_call(text: &[u8]) -> bool
     text.starts_with(b"call ")
 }
 
-/// The calls whose lines the text begins with, at most 1,024 on connections below `conns`, and in order of their threads.
+/// The calls whose lines the text begins with, at most 1,024 on connections below `conns`, and in order of their threads. Fails
+/// only for want of memory.
 pub fn calls(alloc: Global, text: &[u8], conns: u32) -> Result<Option<(Calls, &[u8])>, AllocError>
     ensures { IfOk result (λ o. MatchOption o
         ((calls : CallLists) (rest : List ℕ) → ArePrintedCalls conns calls → (BeginsWithCall rest → ⊥) → text.now ≡ calls_text calls ++ rest → ⊥)
