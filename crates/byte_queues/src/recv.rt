@@ -24,7 +24,19 @@ pub enum Placed {
     Blocks,
 }
 
-/// The peer's text from the first byte that wasn't taken on.
+/// The peer's text from the first byte that wasn't taken on. Positions count the stream's bytes, from 0.
+///
+/// # Example
+///
+/// ```
+/// let mut queue = RecvQueue::make(rt.alloc(), 1000);
+/// assert_eq!(rt; placed(&rt, &mut queue, 2, b"cd")?, Placed::Held);
+/// assert_eq!(rt; placed(&rt, &mut queue, 4, b"ef")?, Placed::Held);
+/// assert_eq!(rt; queue.runs(), 1);
+/// let (start, bytes) = queue.run(0);
+/// assert_eq!(rt; start, 2);
+/// assert!(rt; bytes == b"cdef".as_slice());
+/// ```
 #[derive(Drop)]
 pub struct RecvQueue {
     /// By rising position, with a gap between each two.

@@ -13,6 +13,17 @@ use std::marker::Model;
 const SEND_SPACE: u32 = 65_535;
 
 /// The bytes that were offered and aren't acknowledged, at most 65,535.
+///
+/// # Example
+///
+/// ```
+/// let mut queue = SendQueue::make(rt.alloc());
+/// assert_eq!(rt; queue.room(), 65_535);
+/// queue.offer(b"abcdef")?;
+/// queue.acked(2);
+/// assert!(rt; queue.slice(rt.alloc(), 1, 2)?.as_slice() == b"de".as_slice());
+/// assert_eq!(rt; queue.held(), 4);
+/// ```
 #[derive(Drop)]
 pub struct SendQueue {
     bytes: Buffer,

@@ -58,7 +58,7 @@ impl Capture {
     ghost use Rattle.capture_reader.specs.Outcome.{IsInside};
 
     /// The capture of these records of a file in another form, its packets in their order. `cut_tail` says whether an interrupted
-    /// capture cut the last packet, which is none of the records.
+    /// capture cut the last packet, which is none of the records. Fails only for want of memory.
     pub fn make(
         alloc: Global,
         link: Link,
@@ -147,6 +147,13 @@ impl Capture {
 
 /// The capture that the bytes are (libpcap file format 2.4), or the first refusal that they meet. `Read` is never answered, `TooLarge` exactly
 /// where there are more than 67,108,864 bytes, and `NoMemory` where room for the list of packets was missing.
+///
+/// # Example
+///
+/// ```
+/// let capture = parse_capture(rt.alloc(), Octets::of(rt.alloc(), &CAPTURE)?)?;
+/// let plan = plan(&rt, rt.alloc(), &capture, false)?;
+/// ```
 pub fn parse_capture(alloc: Global, bytes: Octets) -> Result<Capture, CaptureFault>
     ensures ok { IfOk result (λ c. IsCapture c × (c.bytes ≡ bytes)) }
     ensures err { IfErr result (ParseFails bytes) }

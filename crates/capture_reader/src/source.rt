@@ -17,6 +17,13 @@ const PIECE: usize = 65_536;
 /// The capture that a source gives (libpcap file format 2.4). `Read` comes only where the source's count of faults rose, and with
 /// any other answer it didn't. `TooLarge(67108865)` comes where that byte was taken, and with no other answer but want of memory
 /// it was.
+///
+/// # Example
+///
+/// ```
+/// let mut source = MemSource::make(alloc, bytes, 100, failing)?;
+/// Ok(read_capture(alloc, &mut source).map(|it| it.len()))
+/// ```
 pub fn read_capture<S: Source>(alloc: Global, src: &mut S) -> Result<Capture, CaptureFault>
     ensures ok { IfOk result (λ c. ReadsWhole (S.rest src.old) (S.rest src.new) c.bytes × IsCapture c) }
     ensures err { IfErr result (ReadFails (S.rest src.old) (S.rest src.new)) }

@@ -21,6 +21,14 @@ use tcb_machine::{Call, Next, State, Tcb};
 const MOST_GIVEN: u16 = 65_535;
 
 /// A connection's block with the generator behind it (RFC 864).
+///
+/// # Example
+///
+/// ```
+/// assert!(rt; block.tcb().clock() <= at && at < 1_000_000_000_000);
+/// assert!(rt; block.tcb().has_room());
+/// block.segment(alloc, at, iss, seg, text)?;
+/// ```
 #[derive(Drop)]
 pub struct GenBlock {
     tcb: Tcb,

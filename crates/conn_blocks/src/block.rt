@@ -54,7 +54,7 @@ impl Model for Block {
 
 impl Block {
     /// A new block of connection `c`, in LISTEN, with all the room that its acts, their answers and calls that come early
-    /// will take.
+    /// will take. Fails only for want of memory.
     pub fn make(alloc: Global, plan: &Plan, calls: &Calls, c: u32) -> Result<Box<Block>, AllocError>
         requires { c < length plan.now.tuples }
         ensures { IfOk result (λ b. IsNew plan.now calls.now c b.value) }
@@ -92,6 +92,7 @@ impl Block {
         self.order.as_slice()
     }
 
+    /// The connection's TCP state.
     pub fn tcb(&self) -> &Tcb
         ensures { result.now ≡ self.now.tcb }
     {
@@ -235,7 +236,17 @@ impl Block {
 }
 
 /// Connection `c` served on one thread: the acts in this order, from a new block. The feeds' numbers rise, and there are no more
-/// acts than an order has in which none stands twice.
+/// acts than an order has in which none stands twice. Fails only for want of memory.
+///
+/// # Example
+///
+/// ```
+/// let plan = plan(rt, alloc, capture, false)?;
+/// if plan.conns() == 0 || !can_serve(&plan, calls, order) {
+///     return Ok(None);
+/// }
+/// Ok(Some(serve_one(alloc, &plan, calls, 0, order)?))
+/// ```
 pub fn serve_one(
     alloc: Global,
     plan: &Plan,

@@ -33,7 +33,8 @@ impl<'p> Blocks<'p> {
     ghost use Rattle.perimeter_core.specs.Blocks.{Blocks as Had};
     ghost use Rattle.conn_blocks.specs.Places.{NoneShort, NotShort, PlaceFits, PlacesStand, Stands, first_here, limits_of, origin_of, size_of};
 
-    /// A place for each connection of the plan, and new blocks of those whose first squeue is number `squeue`.
+    /// A place for each connection of the plan, and new blocks of those whose first squeue is number `squeue`. Fails only for
+    /// want of memory.
     pub fn make(
         alloc: Global,
         plan: &'p Plan<'_>,

@@ -10,6 +10,15 @@ use std::marker::Model;
 use tcb_machine::Call;
 
 /// The calls of the four application threads, each thread's in the order in which it makes them. At most 1,024 in all.
+///
+/// # Example
+///
+/// ```
+/// let mut calls = Calls::make(alloc);
+/// calls.push(0, 0, Call::Status)?;
+/// calls.push(0, 0, Call::Close)?;
+/// calls.push(1, 0, Call::Status)?;
+/// ```
 #[derive(Drop)]
 pub struct Calls {
     first: Vec<(u32, Call)>,
@@ -56,7 +65,7 @@ impl Calls {
         }
     }
 
-    /// One more call of thread `j`, on connection `c`.
+    /// One more call of thread `j`, on connection `c`. Unchanged after NoMemory.
     pub fn push(&mut self, j: u32, c: u32, call: Call) -> Result<(), AllocError>
         requires thread { j < 4 }
         requires few { call_count self.old < 1024 }

@@ -20,7 +20,7 @@ pub enum Item {
     },
 }
 
-/// A served segment, with its record's number and time.
+/// A served segment, with its record's number, and its time in microseconds.
 #[derive(Clone, Copy, Debug, PartialEq, Eq)]
 pub struct Arrival {
     pub rec: u32,

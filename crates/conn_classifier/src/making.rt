@@ -33,6 +33,16 @@ fn all_items(
 
 /// The plan of a capture. With `verify` a record whose checksums are wrong counts as `badsum`. Fails only for want of
 /// memory.
+///
+/// # Example
+///
+/// ```
+/// let plan = plan(&rt, rt.alloc(), &capture, false)?;
+/// assert_eq!(rt; plan.conns(), 4096);
+/// ...
+/// assert_eq!(rt; plan.tuple(4095), last);
+/// assert_eq!(rt; plan.items(0), 3);
+/// ```
 pub fn plan<'c>(
     rt: &(impl Threads + Sync),
     alloc: Global,

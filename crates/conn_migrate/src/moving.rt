@@ -16,6 +16,15 @@ use synch_enter::{Hints, put_block, synch_enter, synch_exit, take_block};
 
 /// Moves the block of connection `c` from squeue `a` to squeue `b`. The passes are those of its ring. The hint of `c` names
 /// `b` before the ring leaves there.
+///
+/// # Example
+///
+/// ```
+/// let hints = Hints::make(alloc, 3, 2)?;
+/// ...
+/// let (ring_a, ring_b) = migrate(&rt, alloc, &NoHook, &a, ring_a, &b, ring_b, 2, &hints);
+/// assert_eq!(rt; hinted(&hints), [0, 1, 1]);
+/// ```
 pub fn migrate<R: Resident, H: Hook, W: Wait>(
     rt: &W,
     alloc: Global,

@@ -23,7 +23,7 @@ const GENERATOR: u16 = 19;
 const ECHO: u16 = 7;
 
 /// The report of what was served of the plan: the counts, and for each stream its ends and service, its items, what was sent, and the
-/// generator's last state.
+/// generator's last state. Fails only for want of memory.
 pub fn more_report(
     alloc: Global,
     plan: &MorePlan<'_>,

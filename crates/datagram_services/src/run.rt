@@ -25,6 +25,15 @@ use std::thread::Threads;
 use stream_plan::more_plan;
 
 /// Reads the words and the input, serves its streams, and writes the report; or writes why not as one line to `err`.
+///
+/// # Example
+///
+/// ```
+/// let mut src = MemSource::make(alloc, &HEADER, 65_536, &[])?;
+/// let mut out = MemSink::make(alloc, 1000, 1000, &[])?;
+/// let mut err = MemSink::make(alloc, 1000, 1000, &[])?;
+/// let status = more_run(rt, alloc, words.as_slice(), &mut src, &mut out, &mut err);
+/// ```
 pub fn more_run<S: Source, K: Sink, E: Sink>(
     rt: &(impl Threads + Wait + Sync),
     alloc: Global,

@@ -29,6 +29,16 @@ use synch_enter::Hints;
 
 /// Serves every stream of the plan, each with all its items in order, each once, by threads over squeues: stream `c` at squeue
 /// `c % squeues`, its items brought by ring `c % rings`. Fails only for want of memory.
+///
+/// # Example
+///
+/// ```
+/// let capture = captured(alloc, &TWO)?;
+/// let plan = more_plan(alloc, &capture)?;
+/// let served = serve_more(rt, alloc, &plan, &PAIR, hook)?;
+/// assert!(rt; plan.streams() == 2);
+/// assert!(rt; served.answers(0).len() == 1 && served.answers(1).len() == 1);
+/// ```
 pub fn serve_more<H: Hook + Sync, W: Threads + Wait + Sync>(
     rt: &W,
     alloc: Global,

@@ -19,6 +19,16 @@ use tcb_machine::{Answer, Call, Next, Tcb};
 /// A segment arrives at a time in microseconds, with its text, which lies behind the header in its datagram, and the initial
 /// sequence number that a new connection is to take. Pump and output follow where the segment lets them (RFC 9293, 3.10.7).
 /// What is sent stands among the block's replies. After NoMemory nothing more is promised of the block, until it is reset.
+///
+/// # Example
+///
+/// ```
+/// if tcb.has_room() && tcb.clock() <= now && now <= LAST_TIME {
+///     tick(tcb, alloc, now)?;
+///     serve(Service::of(seg.dst_port), tcb, alloc, now, iss, &seg, text)?;
+/// }
+/// datagrams(alloc, &tuple_of(&seg), &tcb.take_replies(alloc))
+/// ```
 pub fn serve(
     service: Service,
     tcb: &mut Tcb,

@@ -17,6 +17,18 @@ pub struct Line {
 }
 
 /// The lines in the order in which they were written.
+///
+/// # Example
+///
+/// ```
+/// let diary = Diary::with_room(alloc, (passes * turns) as usize).expect(rt, "memory");
+/// let (gate, mut all) = Gate::make(alloc, diary, passes).expect(rt, "memory");
+/// lend(&gate, &mut all, &mut jobs);
+/// write_all(rt, &gate, &mut jobs, threads, turns, pause);
+/// take_back(&gate, &mut jobs, &mut all);
+/// jobs.destroy_empty();
+/// gate.close(all)
+/// ```
 #[derive(Drop)]
 pub struct Diary {
     lines: Vec<Line>,
@@ -37,7 +49,7 @@ impl Storied for Diary {
 impl Diary {
     ghost use Rattle.gate_trial.specs.Diary.{HasRoom, IsDiary, writer, line, lines_of, room_of};
 
-    /// An empty diary with room for so many lines.
+    /// An empty diary with room for so many lines. Fails only for want of memory.
     pub fn with_room(alloc: Global, room: usize) -> Result<Diary, AllocError>
         ensures { IfOk result (λ d. (lines_of d ≡ []) × (room_of d ≡ room)) }
     {

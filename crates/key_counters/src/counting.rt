@@ -12,7 +12,19 @@ use std::alloc::{AllocError, Global};
 use std::sync::Wait;
 use std::thread::Threads;
 
-/// The sum of each key's amounts, added up by one squeue that `rings` rings and a worker serve beside each other.
+/// The sum of each key's amounts, added up by one squeue that `rings` rings and a worker serve beside each other. Fails only for
+/// want of memory.
+///
+/// # Example
+///
+/// ```
+/// let totals = count(&rt, alloc, &rows, rings, *pace)?;
+/// assert_eq!(rt;
+///     totals.as_slice(),
+///     wanted.as_slice(),
+///     "{rings} rings, pace {i}"
+/// );
+/// ```
 pub fn count<W: Threads + Wait + Sync>(
     rt: &W,
     alloc: Global,

@@ -10,7 +10,7 @@ use crate::counters::{Amounts, Counter, Counters};
 use placed_parts::Places;
 use std::alloc::{AllocError, Global};
 
-/// The counters of all keys are here, and nothing was added.
+/// The counters of all keys are here, and nothing was added. Fails only for want of memory.
 pub fn new_counters<'a>(
     alloc: Global,
     amounts: &'a [Vec<u32>],
@@ -32,7 +32,7 @@ pub fn new_counters<'a>(
     Places::make(alloc, shared, count)
 }
 
-/// The total of each key, and 0 for one whose counter isn't here.
+/// The total of each key, and 0 for one whose counter isn't here. Fails only for want of memory.
 pub fn totals_of(counters: &Counters<'_>, alloc: Global) -> Result<Vec<u64>, AllocError>
     ensures { IfOk result (λ v. v.items ≡ map total_of (parts_of counters.now)) }
 {

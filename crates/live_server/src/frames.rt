@@ -21,7 +21,7 @@ pub const LAST_TIME: u64 = 1 << 62;
 pub const FRAME_HEAD: usize = 16;
 
 /// Serves the whole frames at the front of some bytes. What is sent goes as frames behind the bytes that are there. The answer
-/// is what is left: nothing, less than a whole frame, or one that is broken.
+/// is what is left: nothing, less than a whole frame, or one that is broken. After NoMemory nothing more is promised.
 pub fn serve_frames<'a>(
     server: &mut Server,
     alloc: Global,

@@ -23,6 +23,17 @@ use tcb_machine::{State, Tcb};
 const SYN: u8 = 2;
 
 /// The server's state: a table of connections, in the order in which they were opened.
+///
+/// # Example
+///
+/// ```
+/// let mut server = Server::new(rt.alloc(), 1, SECRET);
+/// let mut sent = Vec::new(rt.alloc());
+/// server.datagram(rt.alloc(), 1_000_000, &SYNS[0], &mut sent)?;
+/// ...
+/// server.tick(rt.alloc(), 2_000_000, &mut sent)?;
+/// assert_eq!(rt; sent.len(), 2);
+/// ```
 #[derive(Drop)]
 pub struct Server {
     /// Each connection's block, with what it sent taken out.

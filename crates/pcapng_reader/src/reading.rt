@@ -218,6 +218,14 @@ fn walk(alloc: Global, bytes: &[u8]) -> Result<(Reading, bool), PcapngFault>
 
 /// The capture that the bytes of a pcapng file are (draft-ietf-opsawg-pcapng), at most 64 MiB of them, or the first refusal that they
 /// meet. `NoMemory` comes where room for interfaces or packets was missing. The bytes stay as they are.
+///
+/// # Example
+///
+/// ```
+/// assert!(rt; bytes.len() <= 67_108_864);
+/// assert!(rt; bytes.as_slice().starts_with(&[0x0a, 0x0d, 0x0d, 0x0a]));
+/// parse_pcapng(alloc, Octets::wrap(bytes))
+/// ```
 pub fn parse_pcapng(alloc: Global, bytes: Octets) -> Result<Capture, PcapngFault>
     requires section { BeginsSection bytes }
     requires small { length bytes ≤ most_bytes }

@@ -76,7 +76,7 @@ pub struct Logs {
 impl Logs {
     ghost use Rattle.perimeter_core.specs.Logging.{Stands, limits_of, size_of, log_of, none_done};
 
-    /// The connections that the flags name are here, and nothing was done to them.
+    /// The connections that the flags name are here, and nothing was done to them. Fails only for want of memory.
     pub fn make(
         alloc: Global,
         starts: &[bool],

@@ -11,6 +11,17 @@ use crate::marks::{Mark, Own, SynchAct};
 use std::marker::Model;
 
 /// A perimeter with at most 32 connections and 64 passes. Contracts see it as its state. The last pass is the worker's.
+///
+/// # Example
+///
+/// ```
+/// let mut core = start;
+/// ...
+/// assert!(rt; core.takes(mark), "row {i}");
+/// core = core.step(mark).expect(rt, "the mark's condition holds");
+/// assert_eq!(rt; core.own(), *own, "row {i}");
+/// assert_eq!(rt; core.chain().len(), *chain, "row {i}");
+/// ```
 #[derive(Drop)]
 pub struct Core {
     own: Own,

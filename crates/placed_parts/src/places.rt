@@ -7,6 +7,19 @@ use perimeter_core::Resident;
 use std::alloc::{AllocError, Global};
 
 /// A place for the part of each connection, empty where the connection isn't here, and what all parts share.
+///
+/// # Example
+///
+/// ```
+/// let mut counters = new_counters(alloc, &rows, readings)?;
+/// assert_eq!(rt; counters.conns(), 2);
+/// counters.feed(alloc, 0, 0);
+/// ...
+/// let part = counters.take_out(0);
+/// assert_eq!(rt; (counters.is_here(0), counters.is_here(1)), (false, true));
+/// ...
+/// counters.put_in(0, part);
+/// ```
 #[derive(Drop)]
 pub struct Places<S: Parts> {
     shared: S,

@@ -14,6 +14,18 @@ use std::thread;
 
 /// A ring, which gives the numbers 0, 1, 2 up to its capacity. Threads share it by reference. Contracts see which one it
 /// is, and its capacity.
+///
+/// # Example
+///
+/// ```
+/// let (ring, mut feed, mut poll) = Ring::make(rt.alloc(), 3)?;
+/// assert_eq!(rt; ring.pop_chain(&rt, &mut poll, 1), (0, 0));
+/// ring.push(&rt, &mut feed);
+/// ...
+/// assert_eq!(rt; ring.pop_chain(&rt, &mut poll, 2), (0, 2));
+/// assert_eq!(rt; ring.left(&poll), 1);
+/// assert_eq!(rt; ring.cleanup(&rt, &mut poll), (2, 1));
+/// ```
 #[derive(Drop)]
 pub struct Ring {
     // It has a slot for each number, and so no slot is used twice.

@@ -20,6 +20,16 @@ pub const CALLERS: u32 = 4;
 
 /// The quotas of the passes of squeue `q` but the worker's: those of the rings, then those of the application threads. Fails only
 /// for want of memory.
+///
+/// # Example
+///
+/// ```
+/// let quotas = quotas_at(rt.alloc(), &plan, &calls, &setup, q)?;
+/// let pairs: Vec<(u32, u64)> = quotas
+///     .iter()
+///     .map(|quota| (quota.feeds, quota.asks))
+///     .collect(rt.alloc())?;
+/// ```
 pub fn quotas_at(
     alloc: Global,
     plan: &Plan<'_>,

@@ -8,6 +8,19 @@ use squeue_rings::{Homes, Pace};
 /// The squeues (1 to 16), the rings (1 to 8), how rings enter, the most entries that an entering thread processes (1 to
 /// 65,535), after how many feeds a connection moves on (0 to 65,535; 0 never), and whether each squeue keeps the marks of its
 /// history. None of it changes what is replied.
+///
+/// # Example
+///
+/// ```
+/// let setup = Setup {
+///     squeues: 3,
+///     rings: 2,
+///     mode: Mode::Process,
+///     budget: 1,
+///     spread: 2,
+///     trace: false,
+/// };
+/// ```
 #[derive(Clone, Copy, Debug, PartialEq, Eq)]
 pub struct Setup {
     pub squeues: u32,

@@ -31,6 +31,16 @@ use std::thread::Threads;
 use synch_enter::Hints;
 
 /// Serves every connection of the plan, each with all its items and calls, by threads over squeues. Fails only for want of memory.
+///
+/// # Example
+///
+/// ```
+/// let plan = plan(&rt, rt.alloc(), &capture, false)?;
+/// let calls = Calls::make(rt.alloc());
+/// let served = serve(&rt, rt.alloc(), &plan, &calls, &MOVING, &NoHook)?;
+/// assert_eq!(rt; plan.conns(), 2);
+/// assert!(rt; is_echo(&rt, served.block(0))?);
+/// ```
 pub fn serve<H: Hook + Sync, W: Threads + Wait + Sync>(
     rt: &W,
     alloc: Global,

@@ -16,6 +16,18 @@ const TCP: u8 = 6;
 
 /// The packet in a record's bytes, under the capture's link: IPv4 (RFC 791, 3.1) and TCP (RFC 9293, 3.1). `BadSum` comes only with
 /// `verify`; each other answer is the first whose condition in `specs/Packet.antt` holds.
+///
+/// # Example
+///
+/// ```
+/// match decode(Link::RawIp, datagram, true) {
+///     Packet::Segment(seg) if seg.dst_port == 7 || seg.dst_port == 9 => {
+///         let text = text_of(&seg, datagram);
+///         ...
+///     }
+///     _ => Ok(Vec::new(alloc)),
+/// }
+/// ```
 #[tactic(auto, unfolding(crate::specs::Packet::packet_in))]
 pub fn decode(link: Link, body: &[u8], verify: bool) -> Packet
     requires { length body.now < 2 ^ 32 }

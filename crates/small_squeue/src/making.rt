@@ -10,7 +10,16 @@ use std::alloc::{AllocError, Global};
 
 /// A squeue of one connection, whose block is here or elsewhere, and which keeps its marks. The ring may bring so many feeds,
 /// the application thread has one call on the connection, and each may ask once. The passes are those of the ring, the
-/// thread and the worker.
+/// thread and the worker. Fails only for want of memory.
+///
+/// # Example
+///
+/// ```
+/// let (squeue, mut passes) = opened(alloc, 0, true, 0)?;
+/// let (ring, thread, last) = three(&mut passes);
+/// ...
+/// let (logs, _ended, trace) = ended(&rt, alloc, squeue, passes, ring, thread, last);
+/// ```
 pub fn opened(
     alloc: Global,
     number: u32,

@@ -47,6 +47,16 @@ pub trait Sink {
 
 /// Appends all of the bytes, piece by piece. At `Failed` a proper front of them was appended. A write that failed is not tried
 /// again, so `Ok` says that none did.
+///
+/// # Example
+///
+/// ```
+/// let mut sink = StdSink::over(File::create(&rt, "ten")?);
+/// put(&mut sink, b"0123")?;
+/// put(&mut sink, b"")?;
+/// put(&mut sink, b"456789")?;
+/// let mut source = StdSource::over(File::open(&rt, "ten")?);
+/// ```
 pub fn put<K: Sink>(sink: &mut K, bytes: &[u8]) -> Result<(), Failed>
     ensures ok { OnOk result (Appends (K.contents sink.old) (K.contents sink.new) bytes.now) }
     ensures failed { OnErr result (AppendsProperly (K.contents sink.old) (K.contents sink.new) bytes.now) }

@@ -18,6 +18,16 @@ use std::sync::Wait;
 /// Works until every other pass is closed, nothing is queued and nobody has the perimeter, as a turn of its own has found.
 /// Where something waits for the worker it takes the queue, and drains without a budget until a turn finds nothing queued or
 /// it grants. Else it releases the gate without a mark, and sleeps until there may be work.
+///
+/// # Example
+///
+/// ```
+/// let last = worker(&squeue, &rt, alloc, &NoHook, last);
+/// passes.push_reserved(ring);
+/// passes.push_reserved(thread);
+/// passes.push_reserved(last);
+/// let (logs, ended, trace) = squeue.finish(passes);
+/// ```
 pub fn worker<R: Resident, H: Hook, W: Wait>(
     sq: &Squeue<R>,
     rt: &W,

@@ -38,6 +38,18 @@ pub(crate) enum Way {
 }
 
 /// Enters the feeds of the chain, which isn't empty. The first turn decides by the mode.
+///
+/// # Example
+///
+/// ```
+/// let chain = [Feed { c: 2, n: 0 }, Feed { c: 2, n: 1 }];
+/// let Entered {
+///     pass: ring_a,
+///     how,
+///     polling: _,
+/// } = enter(&a, &rt, alloc, &NoHook, ring_a, &chain, Mode::Fill, 64);
+/// assert_eq!(rt; how, How::Queued { woke: true });
+/// ```
 pub fn enter<R: Resident, H: Hook, W: Wait>(
     sq: &Squeue<R>,
     rt: &W,

@@ -41,6 +41,17 @@ pub struct Run<'p, 'c> {
 }
 
 /// The state of one squeue after the marks so far, which are legal.
+///
+/// # Example
+///
+/// ```
+/// let mut squeue = Squeue::make(rt.alloc(), run, 0)?;
+/// for row in HISTORY {
+///     assert!(rt; !squeue.has_ended());
+///     assert_eq!(rt; add(rt.alloc(), &mut squeue, &row)?, Some(row.3));
+/// }
+/// assert!(rt; squeue.has_ended());
+/// ```
 #[derive(Drop)]
 pub struct Squeue<'p, 'c> {
     run: Run<'p, 'c>,
@@ -71,7 +82,7 @@ impl<'p, 'c> Squeue<'p, 'c> {
     ghost use Rattle.squeue_replay.specs.Replaying.{history_of, setting_of, squeue_of};
     ghost use Rattle.squeue_replay.specs.Standing.{Stands, guest_of};
 
-    /// The squeue of this number before its first mark.
+    /// The squeue of this number before its first mark. Fails only for want of memory.
     pub fn make(alloc: Global, run: Run<'p, 'c>, number: u32) -> Result<Squeue<'p, 'c>, AllocError>
         requires { number < run.setup.squeues }
         ensures same { IfOk result (λ s. (s.run ≡ run.entry) × (s.number ≡ number)) }
@@ -139,7 +150,7 @@ impl<'p, 'c> Squeue<'p, 'c> {
     }
 
     /// One more mark. Gives how many feeds it says were processed, or `None` where it isn't legal, and then the squeue is as it may
-    /// be.
+    /// be. Fails only for want of memory.
     pub fn add(&mut self, mark: &Mark) -> Result<Option<u64>, AllocError>
         ensures same { (self.new.run ≡ self.old.run) × (self.new.number ≡ self.old.number) }
         ensures marked { IfOk result (λ o. (past : List MarkOf)

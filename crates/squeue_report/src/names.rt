@@ -24,6 +24,7 @@ pub fn state_name(state: State) -> &'static str
     }
 }
 
+/// The service's word in a report: echo (RFC 862) or discard (RFC 863).
 #[tactic(auto, unfolding(crate::specs::Names::service_word))]
 pub fn service_name(service: Service) -> &'static str
     ensures { result.now ≡ service_word service }

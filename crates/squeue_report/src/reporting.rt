@@ -21,7 +21,14 @@ use std::alloc::{AllocError, Global};
 use tcb_machine::{Answer, Tcb};
 
 /// The report of what was served: the counts, and for each connection its order, its replies, its answers and its last state.
-/// There is a block for each connection of the plan.
+/// There is a block for each connection of the plan. Fails only for want of memory.
+///
+/// # Example
+///
+/// ```
+/// let served = serve(rt, alloc, plan, calls, &ONE, &NoHook)?;
+/// report(alloc, plan, &served)
+/// ```
 pub fn report(alloc: Global, plan: &Plan, served: &Served) -> Result<Octets, AllocError>
     requires { length served.now.blocks ≡ length plan.now.tuples }
     ensures { IfOk result (λ text. (calls : CallLists) → AreServed plan.now calls served.now.blocks

@@ -90,7 +90,7 @@ fn push_line(text: &mut String, number: u32, sums: &Sums, check: &str) -> Result
     Ok(())
 }
 
-/// The summary of the run over the input generated for `number`.
+/// The summary of the run over the input generated for `number`. Fails only for want of memory.
 #[tactic(auto, using(crate::proofs::Sums::replies_are, crate::proofs::Sums::octets_are), unfolding(crate::specs::SummaryText::summary_text))]
 pub fn summary(
     alloc: Global,

@@ -23,7 +23,7 @@ use std::alloc::{AllocError, Global};
 use tcb_machine::Call;
 
 /// The report of what was served, with the setup, the calls, and the marks of each squeue. There is a block for each connection of
-/// the plan, and a trace for each squeue of the setup.
+/// the plan, and a trace for each squeue of the setup. Fails only for want of memory.
 pub fn report2(
     alloc: Global,
     plan: &Plan,

@@ -6,6 +6,19 @@ ghost use Rattle.squeue_rings.specs.Runs.{home_before, moves, run_of};
 use perimeter_core::Feed;
 
 /// How many squeues there are, and after how many feeds a connection moves on to the next one; 0 is never.
+///
+/// # Example
+///
+/// ```
+/// let homes = Homes { squeues, spread };
+/// for q in 0..squeues {
+///     let got = (
+///         feeds(homes, c, items, q),
+///         ...
+///     );
+///     ...
+/// }
+/// ```
 #[derive(Clone, Copy)]
 pub struct Homes {
     pub squeues: u32,

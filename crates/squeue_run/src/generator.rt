@@ -233,7 +233,7 @@ fn push_round(
     Ok(())
 }
 
-/// The capture file for a number.
+/// The capture file for a number. Fails only for want of memory.
 pub fn generate(alloc: Global, number: u32) -> Result<Octets, AllocError>
     ensures bytes { IfOk result (λ bytes. bytes ≡ generated number) }
     ensures size { IfOk result (λ bytes. length bytes ≡ 10256024) }

@@ -53,6 +53,13 @@ struct Written {
 }
 
 /// Reads the words and the input, serves it, and writes the report; or writes why not as one line to `err`.
+///
+/// # Example
+///
+/// ```
+/// let ran = squeue_run(rt, alloc, words, src, out, err);
+/// (ran.status, ran.served.is_some())
+/// ```
 pub fn squeue_run<S: Source, K: Sink, E: Sink>(
     rt: &(impl Threads + Wait + Sync),
     alloc: Global,

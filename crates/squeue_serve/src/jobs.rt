@@ -85,6 +85,17 @@ pub fn discard<T: Drop>(jobs: Vec<Job<T>>)
 }
 
 /// Adds a squeue behind the others, and lends its passes.
+///
+/// # Example
+///
+/// ```
+/// lend(&mut squeues, &mut jobs, 0, count, squeue, passes);
+/// run(rt, &squeues.all[0], alloc, hook, pace, &mut jobs);
+/// let ended = end_last(&mut squeues, &mut jobs, 0, count);
+/// ...
+/// discard(jobs);
+/// squeues.destroy_empty();
+/// ```
 pub fn lend<R: Resident, T>(
     squeues: &mut Squeues<R>,
     jobs: &mut Vec<Job<T>>,

@@ -33,6 +33,14 @@ pub type Pass = turn_gate::Pass<Event>;
 pub type Missed = turn_gate::Missed<Event>;
 
 /// A perimeter behind a gate. Threads share it by reference. Contracts see which gate it has, and what it was made with.
+///
+/// # Example
+///
+/// ```
+/// let logs = Logs::make(alloc, &[true, false], 2, 1, Vec::new(alloc))?;
+/// let quotas = [Quota { feeds: 2, asks: 1 }, Quota { feeds: 0, asks: 1 }];
+/// Squeue::make(alloc, 7, logs, 1, &quotas, true)
+/// ```
 pub struct Squeue<R: Resident> {
     pub(crate) gate: Gate<Guarded<R>>,
     pub(crate) bells: Bells,

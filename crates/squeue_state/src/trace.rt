@@ -55,7 +55,7 @@ impl Model for Trace {
 }
 
 impl Trace {
-    /// An empty trace with room for so many marks and entries.
+    /// An empty trace with room for so many marks and entries. Fails only for want of memory.
     pub fn with_room(alloc: Global, marks: usize, entries: usize) -> Result<Trace, AllocError>
         ensures empty { IfOk result (λ t. (t.marks ≡ []) × (t.entries ≡ [])) }
         ensures room { IfOk result (λ t. (t.mark_room ≡ marks) × (t.entry_room ≡ entries)) }

@@ -9,6 +9,18 @@ use stream_plan::MorePlan;
 
 /// The blocks of the streams that are at a squeue, each at the place of its stream. Feed `n` of a stream serves its item `n`. A call
 /// changes nothing. The calls that there may be are given: `(c, j, k)` where call `k` of thread `j` is on stream `c`.
+///
+/// # Example
+///
+/// ```
+/// let calls = vec![in rt.alloc(); (1, 0, 0)]?;
+/// let mut blocks = StreamBlocks::make(rt.alloc(), &plan, calls, 1, 2)?;
+/// assert_eq!(rt; blocks.conns(), 3);
+/// ...
+/// let block = blocks.take_out(1);
+/// assert!(rt; !blocks.is_here(1));
+/// blocks.put_in(1, block);
+/// ```
 #[derive(Drop)]
 pub struct StreamBlocks<'p> {
     plan: &'p MorePlan<'p>,
@@ -22,7 +34,8 @@ impl<'p> StreamBlocks<'p> {
     ghost use Rattle.perimeter_core.specs.Blocks.{Blocks};
     ghost use Rattle.stream_blocks.specs.Standing.{FirstFits, PlacesStand, Stands, calls_of, first_here, origin_of, size_of};
 
-    /// A place for each stream of the plan, and new blocks of those whose number leaves `squeue`, divided by `squeues`.
+    /// A place for each stream of the plan, and new blocks of those whose number leaves `squeue`, divided by `squeues`. Fails
+    /// only for want of memory.
     pub fn make(
         alloc: Global,
         plan: &'p MorePlan<'p>,

@@ -13,6 +13,16 @@ use capture_reader::Capture;
 use std::alloc::{AllocError, Global};
 
 /// The plan of a capture. Fails only for want of memory.
+///
+/// # Example
+///
+/// ```
+/// let plan = more_plan(rt.alloc(), &capture)?;
+/// ...
+/// assert!(rt; plan.streams() == 3);
+/// assert_eq!(rt; plan.stream(0).tuple(), stream_to(7));
+/// assert_eq!(rt; plan.stream(1).tuple(), stream_to(9));
+/// ```
 pub fn more_plan<'c>(alloc: Global, capture: &'c Capture) -> Result<MorePlan<'c>, AllocError>
     ensures { IfOk result (λ p. p ≡ more_plan_of capture.entry.now) }
 {

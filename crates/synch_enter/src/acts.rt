@@ -26,6 +26,14 @@ pub enum Called {
 }
 
 /// Makes call `k` of thread `j` on connection `c`, where its block is here.
+///
+/// # Example
+///
+/// ```
+/// let mut owner = owner;
+/// let called = call(&mut owner, alloc, c, j, k);
+/// (synch_exit::<R, Brand, W>(squeue, rt, owner), called)
+/// ```
 pub fn call<R: Resident>(owner: &mut Owner<R>, alloc: Global, c: u32, j: u32, k: u32) -> Called
     requires { (s : Named R) × MayCall R.Resident s c j k owner.old }
     ensures pass { owner.new.pass ≡ owner.old.pass }

@@ -21,6 +21,13 @@ use std::alloc::Global;
 use std::sync::Wait;
 
 /// Waits to be owner, and returns at the pass's own Ask.
+///
+/// # Example
+///
+/// ```
+/// let owner = synch_enter(squeue, rt, alloc, &NoHook, pass);
+/// let (pass, called) = calls(rt, alloc, squeue, owner, c, j, k);
+/// ```
 pub fn synch_enter<R: Resident, H: Hook, W: Wait>(
     sq: &Squeue<R>,
     rt: &W,

@@ -17,7 +17,7 @@ pub struct Hints {
 impl Hints {
     ghost use Rattle.synch_enter.specs.Hinting.{conns_of, squeues_of};
 
-    /// Each connection's first squeue: its number modulo the number of squeues.
+    /// Each connection's first squeue: its number modulo the number of squeues. Fails only for want of memory.
     pub fn make(alloc: Global, conns: u32, squeues: u32) -> Result<Hints, AllocError>
         requires { 1 ≤ squeues }
         ensures conns { IfOk result (λ h. conns_of h ≡ conns) }

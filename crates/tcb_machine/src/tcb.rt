@@ -33,7 +33,20 @@ const PSH: u8 = 8;
 
 const ACK: u8 = 16;
 
-/// The block of a connection.
+/// The block of a connection (RFC 9293, 3.3.1). Times are in microseconds.
+///
+/// # Example
+///
+/// ```
+/// let mut tcb = Tcb::make(alloc);
+/// ...
+/// let sent = receive(&mut tcb, alloc, now, 500, datagram.as_slice())?;
+/// assert_eq!(rt; sent.len(), answers);
+/// ...
+/// let before = tcb.state();
+/// assert_eq!(rt; before, State::LastAck);
+/// assert_eq!(rt; tcb.next_deadline(), Some(1_003_000));
+/// ```
 #[derive(Drop)]
 pub struct Tcb {
     state: State,

@@ -15,6 +15,20 @@ use squeue_replay::Mark;
 use std::alloc::{AllocError, Global};
 
 /// The mark lines of each squeue, by number, where the text is their headings with so many marks each, and then the last line.
+/// `None` where it is anything else. Fails only for want of memory.
+///
+/// # Example
+///
+/// ```
+/// let text = b"squeue 0 marks 1\nclose 0\nsqueue 1 marks 0\ndone\n";
+/// let Some(found) = histories(rt.alloc(), text, 2)? else {
+///     panic!(rt; "the marks aren't read")
+/// };
+/// let [first, second] = found.as_slice() else {
+///     panic!(rt; "these aren't two squeues")
+/// };
+/// assert!(rt; *first == b"close 0\n".as_slice());
+/// ```
 pub fn histories(alloc: Global, text: &[u8], squeues: u32) -> Result<Option<Vec<&[u8]>>, AllocError>
     ensures { IfOk result (λ o. MatchOption o
         ((marks : List (List MarkOf)) → ArePrintedMarks squeues marks → text.now ≡ flat_map squeue_text (enumerate_from 0 marks) ++ done_line → ⊥)

@@ -19,6 +19,16 @@ use tcb_machine::Call;
 const MOST_CALLS: u32 = 1024;
 
 /// The setup, each number in its range, and whether wrong checksums drop segments.
+///
+/// # Example
+///
+/// ```
+/// let text = b"setup squeues 2 rings 3 mode nodrain budget 64 spread 5 verify 1\ncall";
+/// let Some((setup, verify, rest)) = setup_line(text) else {
+///     panic!(rt; "the setup isn't read")
+/// };
+/// assert_eq!(rt; (setup.squeues, setup.rings), (2, 3));
+/// ```
 pub fn setup_line(text: &[u8]) -> Option<(Setup, bool, &[u8])>
     ensures { MatchOption result
         ((s : SetupOf) (verify : Bool) (rest : List ℕ) → IsPrintedSetup s → text.now ≡ setup_line s verify ++ rest → ⊥)
@@ -116,7 +126,8 @@ fn begins_with_call(text: &[u8]) -> bool
     text.starts_with(b"call ")
 }
 
-/// The calls whose lines the text begins with, at most 1,024 on connections below `conns`, and in order of their threads.
+/// The calls whose lines the text begins with, at most 1,024 on connections below `conns`, and in order of their threads. Fails
+/// only for want of memory.
 pub fn calls(alloc: Global, text: &[u8], conns: u32) -> Result<Option<(Calls, &[u8])>, AllocError>
     ensures { IfOk result (λ o. MatchOption o
         ((calls : CallLists) (rest : List ℕ) → ArePrintedCalls conns calls → (BeginsWithCall rest → ⊥) → text.now ≡ calls_text calls ++ rest → ⊥)

@@ -20,6 +20,7 @@ use squeue_replay::{Mark, Step};
 use std::alloc::AllocError;
 
 /// The mark becomes the one whose line the text begins with; gives what stands behind it. `None` where there is no such line.
+/// Fails only for want of memory.
 pub fn read_mark<'a>(mark: &mut Mark, text: &'a [u8]) -> Result<Option<&'a [u8]>, AllocError>
     ensures { IfOk result (λ o. MatchOption o
         ((m : MarkOf) (rest : List ℕ) → IsPrinted m → text.entry.now ≡ mark_line m ++ rest → ⊥)

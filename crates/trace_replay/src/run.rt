@@ -75,6 +75,15 @@ impl Replayed {
 
 /// Reads a report with marks and the capture behind it, and writes to `out` whether the report is one of a right run; or writes why
 /// not as one line to `err`. It waits for nobody.
+///
+/// # Example
+///
+/// ```
+/// let mut src = MemSource::make(alloc, given.input, 100, given.reads)?;
+/// let mut out = MemSink::make(alloc, 1000, 4, given.writes)?;
+/// let mut err = MemSink::make(alloc, 1000, 1000, given.tellings)?;
+/// let replayed = replay_run(rt, alloc, words.as_slice(), &mut src, &mut out, &mut err);
+/// ```
 pub fn replay_run<S: Source, K: Sink, E: Sink>(
     rt: &(impl Threads + Sync),
     alloc: Global,

@@ -33,6 +33,19 @@ const TRIES: u32 = 16;
 const SLEEPS: u32 = 16;
 
 /// A ticket lock round one value. Threads share it by reference, where the value may be sent between them.
+///
+/// # Example
+///
+/// ```
+/// let (gate, mut passes) = Gate::make(rt.alloc(), diary, 2)?;
+/// ...
+/// let held = gate.hold(&rt, zero);
+/// assert_eq!(rt; (held.count(), held.number()), (0, 0));
+/// ...
+/// let zero = gate.release_plain(held);
+/// ...
+/// let diary = gate.close(passes);
+/// ```
 pub struct Gate<T: Storied> {
     table: Table<Option<Kept<T>>, View<T::Element>, Made<T>, GateRule<T>, Global>,
     // How many threads sleep on the lock word, or are about to. It has no rule, and nothing is claimed of it.

@@ -26,6 +26,14 @@ const MOST_LENGTH: usize = 65_535 - IP_HEADER;
 
 /// The UDP datagram in a record's bytes, under the capture's link (RFC 791, 3.1; RFC 768), or `None` where they hold no whole one,
 /// or a fragment. Its checksum isn't looked at.
+///
+/// # Example
+///
+/// ```
+/// let body = captured(alloc, before, changes, behind)?;
+/// assert!(rt; body.len() < 100_000);
+/// Ok(decode_udp(link, body.as_slice()))
+/// ```
 pub fn decode_udp(link: Link, body: &[u8]) -> Option<Udp>
     requires { length body.now < 2 ^ 32 }
     ensures { result ≡ udp_in link body.now }

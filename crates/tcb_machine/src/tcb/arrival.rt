@@ -21,7 +21,7 @@ use sq_base::{seq_dist, seq_lt};
 use std::alloc::{AllocError, Global};
 
 impl Tcb {
-    /// A segment arrives at a time, with the hint for our initial sequence number (RFC 9293, 3.10.7).
+    /// A segment arrives at a time in microseconds, with the hint for our initial sequence number (RFC 9293, 3.10.7).
     /// `Go` means that pump and output are to follow. After NoMemory nothing more is promised.
     #[tactic(auto, unfolding(crate::specs::TcpStep::tcp_segment, crate::specs::BlockState::offered))]
     pub fn segment(

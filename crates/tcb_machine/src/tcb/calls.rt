@@ -15,7 +15,7 @@ use sq_base::Octets;
 use std::alloc::{AllocError, Global};
 
 impl Tcb {
-    /// A program's call, at the block's clock. `Go` means that pump and output are to follow.
+    /// A program's call (RFC 9293, 3.9.1), at the block's clock. `Go` means that pump and output are to follow.
     #[tactic(auto, unfolding(crate::specs::CallAnswers::tcp_call))]
     pub fn call(&mut self, alloc: Global, call: Call) -> Result<(Answer, Next), AllocError>
         ensures called { IfOk result (λ r. tcp_call call self.old ≡ record { answer = r.0; verdict = said r.1 self.new }) }
@@ -113,7 +113,7 @@ impl Tcb {
         self.fin_wanted
     }
 
-    /// The next `n` received bytes, which leave the block.
+    /// The next `n` received bytes, which leave the block. After NoMemory nothing more is promised.
     #[tactic(auto, using(crate::proofs::QueueLemmas::without_below, crate::proofs::QueueLemmas::without_read, crate::proofs::QueueLemmas::next_without), unfolding(byte_queues::specs::ReceiveQueue::without))]
     pub fn take(&mut self, alloc: Global, n: u32) -> Result<Octets, AllocError>
         requires { n ≤ ready_of self.old.recv }
@@ -134,7 +134,7 @@ impl Tcb {
         self.recv.skip(n);
     }
 
-    /// Offers a text for sending.
+    /// Offers a text for sending. After NoMemory nothing more is promised.
     pub fn offer(&mut self, text: &[u8]) -> Result<(), AllocError>
         requires { length text.now ≤ room_of self.old.out }
         ensures { OnOk result (self.new ≡ record self.old { out = self.old.out ++ text.now }) }

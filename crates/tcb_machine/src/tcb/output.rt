@@ -13,7 +13,7 @@ use std::alloc::{AllocError, Global};
 
 impl Tcb {
     /// Sends what may be sent: in the states with a peer the text that its window holds and our FIN behind all text,
-    /// and an acknowledgement where one is due and nothing else was sent.
+    /// and an acknowledgement where one is due and nothing else was sent. After NoMemory nothing more is promised.
     #[tactic(auto, unfolding(crate::specs::Output::output, crate::specs::Output::outputs_ack, crate::specs::BlockState::offered))]
     pub fn output(&mut self, alloc: Global) -> Result<(), AllocError>
         ensures output { OnOk result (self.new ≡ output self.old) }
