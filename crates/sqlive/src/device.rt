@@ -1,8 +1,9 @@
 //! Standard input and output as a TUN device: each read is a datagram, and each write is one.
 
-ghost use Rattle.std.specs.Prelude.{◌^◌, ◌≤◌, ◌<◌, length};
+ghost use Rattle.std.specs.Prelude.{◌^◌, ◌≤◌, ◌<◌};
+ghost use Rattle.tcb_machine.specs.Limits.{last_time};
 
-use live_server::{Datagram, Server};
+use live_server::{Datagram, LAST_TIME, Server};
 use std::alloc::{AllocError, Global};
 use std::io;
 use std::io::{Read, Write};
@@ -13,9 +14,6 @@ const MOST: usize = 65_536;
 
 /// How often the time comes to every block, in microseconds. Something has to be read for it: the launcher sends a datagram.
 const TICK: u64 = 20_000;
-
-/// Times stay at or below this one.
-const LAST_TIME: u64 = 1 << 62;
 
 /// Serves until nothing more can be read.
 pub fn serve(rt: &HostRuntime, server: Server) -> io::Result<()> {
@@ -45,7 +43,7 @@ pub fn serve(rt: &HostRuntime, server: Server) -> io::Result<()> {
 
 /// A time in microseconds.
 fn micros(since: Duration) -> u64
-    ensures { result ≤ 2 ^ 62 }
+    ensures { result ≤ last_time }
 {
     since
         .as_secs()
@@ -62,7 +60,7 @@ fn datagram(
     body: &[u8],
     sent: &mut Vec<Datagram>,
 ) -> Result<(), AllocError>
-    requires { now ≤ 2 ^ 62 }
+    requires { now ≤ last_time }
 {
     if body.len() <= MOST {
         server.datagram(alloc, now, body, sent)

@@ -1,19 +1,16 @@
 //! Frames from a reader and to a writer.
 
-ghost use Rattle.std.specs.Prelude.{◌≡◌, ◌++◌, ◌<◌, ◌≤◌, [], length, IfSome, OnOk};
+ghost use Rattle.std.specs.Prelude.{◌≡◌, ◌++◌, ◌<◌, [], length, IfSome, OnOk};
 ghost use Rattle.std.specs.Io.KnownBytes.{Appends};
 ghost use Rattle.live_server.specs.Frames.{answers, frames_in, rest_of, serves_frames};
 
-use live_server::{Server, is_broken, serve_frames};
+use live_server::{FRAME_HEAD, Server, is_broken, serve_frames};
 use std::alloc::Global;
 use std::io;
 use std::io::{ErrorKind, Read, Write};
 
 /// How many bytes are read at once.
 const PIECE: usize = 1 << 20;
-
-/// The bytes of a frame before its body.
-const HEAD: usize = 16;
 
 /// Serves the frames up to the end of the input, and writes what is sent after each read. An input that doesn't end with a whole
 /// frame, or has a broken one, is an error.
@@ -70,7 +67,7 @@ fn serve_piece<W: Write>(
     pending.extend_from_slice(piece)?;
     let mut out = Vec::new(alloc);
     let rest = serve_frames(server, alloc, pending.as_slice(), &mut out)?;
-    if rest.len() >= HEAD && is_broken(rest) {
+    if rest.len() >= FRAME_HEAD && is_broken(rest) {
         return Err(ErrorKind::InvalidData.into());
     }
     let left = Vec::from_slice(alloc, rest)?;
