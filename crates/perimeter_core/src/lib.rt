@@ -24,6 +24,6 @@ pub use entries::{Act, Entry, Feed};
 pub use few::Few;
 pub use hook::{Hook, NoHook};
 pub use known::Known;
-pub use machine::Core;
+pub use machine::{Core, is_polling};
 pub use marks::{Mark, Own, SynchAct};
 pub use resident::Resident;

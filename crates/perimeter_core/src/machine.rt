@@ -1,5 +1,6 @@
 //! A small perimeter without memory, for tests.
-ghost use Rattle.std.specs.Prelude.{◌≡◌, ◌+◌, ◌<◌, ◌≤◌, ◌↔◌, [], ◌++◌, length, IsTrue, IsNone, IfSome, false};
+ghost use Rattle.std.specs.Prelude.{◌≡◌, ◌+◌, ◌<◌, ◌≤◌, ◌↔◌, List, [], ◌++◌, length, IsTrue, IsNone, IfSome, false};
+ghost use Rattle.perimeter_core.specs.declared.entries.Entry.{Entry};
 ghost use Rattle.perimeter_core.specs.declared.marks.Own.TheVariants as Own;
 ghost use Rattle.perimeter_core.specs.Perimeter.{Can, Idle, after, polls, is_here, is_closed, unprocessed, here_after};
 ghost use Rattle.perimeter_core.specs.SmallPerimeter.{all_here, last_pass, HasRoom, InReach, ActInReach};
@@ -213,6 +214,14 @@ impl Core {
     }
 }
 
+/// Whether a ring is to bring chains, where so many entries are queued and it did so or didn't before: from 16 entries on, until
+/// none is queued.
+pub fn is_polling(queued: usize, polling: bool) -> bool
+    ensures { (es : List Entry) → length es ≡ queued → result ≡ polls es polling }
+{
+    queued >= 16 || (polling && queued > 0)
+}
+
 // What the marks do.
 impl Core {
     // The state with another owner, chain, hand and wake.
@@ -226,7 +235,7 @@ impl Core {
             chain: Few::of(chain),
             hand: Few::of(hand),
             wake,
-            polling: chain.len() >= 16 || (self.polling && !chain.is_empty()),
+            polling: is_polling(chain.len(), self.polling),
             here: self.here.same(),
             closed: self.closed.same(),
         }

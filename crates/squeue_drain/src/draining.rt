@@ -15,7 +15,7 @@ ghost use Rattle.squeue_drain.specs.Draining.{Drained, ServedOne, Tells};
 ghost use Rattle.squeue_drain.specs.Rounds.{Decided};
 
 use crate::owner::{Owner, process, process_first};
-use perimeter_core::{Feed, Hook, Resident, SynchAct};
+use perimeter_core::{Feed, Hook, Resident, SynchAct, is_polling};
 use squeue_state::{Hand, Pass, Squeue, Turn};
 use std::alloc::Global;
 use std::marker::Brand;
@@ -133,7 +133,7 @@ fn leave<R: Resident>(sq: &Squeue<R>, turn: Turn<R>, resident: R, hand: Hand) ->
     ensures polling { (es : List Entry) → length es ≡ result.1 → result.2 ≡ polls es (run (setting_of R.limits sq.now.given) turn.found).polling }
 {
     let rest = hand.len() + turn.chain_len();
-    let polling = is_polling(rest, turn.polling());
+    let polling = is_polling(rest as usize, turn.polling());
     (
         sq.leave::<Brand>(turn, resident, hand, SynchAct::None),
         rest,
@@ -154,13 +154,6 @@ fn grant<R: Resident>(sq: &Squeue<R>, turn: Turn<R>, resident: R, hand: Hand) ->
     ensures polling { (es : List Entry) → length es ≡ result.1 → result.2 ≡ polls es (run (setting_of R.limits sq.now.given) turn.found).polling }
 {
     let rest = hand.len() - 1 + turn.chain_len();
-    let polling = is_polling(rest, turn.polling());
+    let polling = is_polling(rest as usize, turn.polling());
     (sq.grant(turn, resident, hand), rest, polling)
-}
-
-/// Whether the ring is to bring chains, where so many entries are queued and it did so or didn't before.
-pub fn is_polling(queued: u32, polling: bool) -> bool
-    ensures { (es : List Entry) → length es ≡ queued → result ≡ polls es polling }
-{
-    queued >= 16 || (polling && queued > 0)
 }

@@ -12,6 +12,6 @@ pub mod laws;
 mod owner;
 mod working;
 
-pub use draining::{drain, is_polling, serve_one};
+pub use draining::{drain, serve_one};
 pub use owner::{Owner, is_free, process};
 pub use working::worker;

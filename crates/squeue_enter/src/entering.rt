@@ -6,8 +6,8 @@ ghost use Rattle.squeue_enter.specs.Ways.{way_of};
 ghost use Rattle.squeue_enter.specs.Entering.{MayEnter, HasEntered, HasFilled, HasTurned, Brought, MayGoOn};
 
 use crate::Mode;
-use perimeter_core::{Feed, Hook, Resident};
-use squeue_drain::{Owner, drain, is_free, is_polling, serve_one};
+use perimeter_core::{Feed, Hook, Resident, is_polling};
+use squeue_drain::{Owner, drain, is_free, serve_one};
 use squeue_state::{Missed, Pass, Squeue};
 use std::alloc::Global;
 use std::sync::Wait;
@@ -71,7 +71,7 @@ pub fn enter<R: Resident, H: Hook, W: Wait>(
     let woke = is_free(turn.own());
     match choose(mode, woke, turn.chain_len() == 0, chain.len() == 1) {
         Way::Fill => {
-            let polling = is_polling(turn.chain_len() + chain.len() as u32, turn.polling());
+            let polling = is_polling(turn.chain_len() as usize + chain.len(), turn.polling());
             let pass = sq.fill(turn, chain);
             let how = How::Queued { woke };
             Entered { pass, how, polling }

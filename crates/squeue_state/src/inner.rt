@@ -16,7 +16,7 @@ ghost use Rattle.squeue_state.specs.Behind.{Behind, IsPeri, ActBelow, HasEmpty, 
 ghost use Rattle.squeue_state.specs.Elements.{filled, fasted, claimed, claimed_ask, took, gone, asked, granted, accepted, worked, closed_by};
 
 use crate::room::{append, put_back, queue_feeds};
-use perimeter_core::{Entry, Feed, Own, Resident, SynchAct};
+use perimeter_core::{Entry, Feed, Own, Resident, SynchAct, is_polling};
 use std::mem;
 
 /// What a gate keeps of a perimeter. Where a pass is out, the resident and the second buffer are with it.
@@ -63,7 +63,7 @@ impl<R: Resident> Inner<R> {
     fn poll(&mut self)
         ensures { self.new ≡ record self.old { polling = polls self.old.chain.items self.old.polling } }
     {
-        self.polling = self.chain.len() >= 16 || (self.polling && !self.chain.is_empty());
+        self.polling = is_polling(self.chain.len(), self.polling);
     }
 
     // Takes the perimeter and all that is queued.
