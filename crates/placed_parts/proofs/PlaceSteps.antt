@@ -1,5 +1,5 @@
 -- A part that goes on by one act, one that leaves or comes, and parts that are new.
-use Rattle.std.proofs.Common.{◌≡◌, ◌≢◌, ℕ, zero, suc, ◌+◌, ◌<◌, Bool, true, false, ◌==◌, inl, inr, Option, Some, None, Result, Ok, Err, IfOk, List, [], ◌∷◌, ◌++◌, length, nat_lt, replicate, slice_get, slice_set, slice_index_or, refl, ap, sym, ◌∙◌, subst, arith}
+use Rattle.std.proofs.Common.{◌≡◌, ◌≢◌, ℕ, zero, suc, ◌+◌, ◌%◌, ◌<◌, Bool, true, false, ◌==◌, inl, inr, Option, Some, None, Result, Ok, Err, IfOk, List, [], ◌∷◌, ◌++◌, length, nat_lt, replicate, slice_get, slice_set, slice_index_or, refl, ap, sym, ◌∙◌, subst, arith}
 use Rattle.std.proofs.lemmas.List.{append-nil}
 use Rattle.std.proofs.lemmas.Bool.{cases_eq}
 use Rattle.std.proofs.lemmas.Bool.Decides.{nat_tests}
@@ -15,7 +15,7 @@ use Rattle.perimeter_core.proofs.LogSteps.{get_same, get_other, got, some_longer
 use Rattle.perimeter_core.proofs.FeedLists.{up-append}
 use Rattle.perimeter_core.proofs.NextFeed.{fed-append}
 use Rattle.perimeter_core.specs.Backlog.{up}
-use Rattle.placed_parts.specs.Standing.{HasHad, HasFed, InOrder, PlaceAt, PlacesStand, all_new}
+use Rattle.placed_parts.specs.Standing.{HasHad, HasFed, InOrder, PlaceAt, PlacesStand, all_new, first_here}
 
 longer_none : (o : Option (List Act)) → longer [] o ≡ o
 longer_none None = refl
@@ -157,6 +157,17 @@ module _ {P : Type 0} (At : ℕ → P → List Act → Type 0) where
       push_stands places place (length starts) (none_done starts) (none_done (starts ++ here ∷ [])) long old
       (rw (flag_last starts here) (subst (λ (n : ℕ). PlaceAt At n (Some place) (fresh here)) long new))
       (λ d ne. ap fresh (flag_before starts here d ne))
+
+  -- those are here that a number names
+  pub none_stand : (k squeues : ℕ) → PlacesStand At [] (first_here 0 k squeues)
+  none_stand k squeues c = let no : nat_lt c 0 ≡ false = grind (arith, nat_tests) in rw no tt
+
+  pub push_first : (places : List (Option P)) (v : Option P) (n k squeues : ℕ) → length places ≡ n → PlacesStand At places (first_here n k squeues)
+      → PlaceAt At n (Some v) (fresh (n % squeues == k)) → PlacesStand At (places ++ v ∷ []) (first_here (n + 1) k squeues)
+  push_first places v n k squeues long old new =
+      let last : nat_lt n (n + 1) ≡ true = grind (arith, nat_tests) in
+      push_stands places v n (first_here n k squeues) (first_here (n + 1) k squeues) long old (rw last new)
+      (λ d ne. let same : nat_lt d (n + 1) ≡ nat_lt d n = grind (arith, nat_tests) in rw same refl)
 
   -- all are here
   pub all_stand : (places : List (Option P)) (n : ℕ) → PlacesStand At places (none_done (replicate n true)) → PlacesStand At places (all_new n)

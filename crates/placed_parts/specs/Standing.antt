@@ -1,5 +1,5 @@
 -- What places stand for, by what their parts stand for.
-use Rattle.std.specs.Prelude.{◌≡◌, ℕ, Option, Some, None, List, [], if◌then◌else◌, nat_lt, slice_get}
+use Rattle.std.specs.Prelude.{◌≡◌, ℕ, ◌%◌, ◌==◌, ◌&&◌, Option, Some, None, List, [], if◌then◌else◌, nat_lt, slice_get}
 use Rattle.perimeter_core.specs.declared.entries.Act.{Act}
 use Rattle.perimeter_core.specs.Deeds.{fed}
 use Rattle.perimeter_core.specs.Blocks.{Blocks}
@@ -40,3 +40,7 @@ PlacesStand At places blocks = (c : ℕ) → PlaceAt At c (slice_get places c) (
 -- n connections are here, and nothing was done to them
 abbrev pub all_new : ℕ → Blocks
 all_new n c = if nat_lt c n then Some [] else None
+
+-- of n connections those are here whose number leaves k, divided by so many, and nothing was done to them
+abbrev pub first_here : ℕ → ℕ → ℕ → Blocks
+first_here n k squeues c = if nat_lt c n && (c % squeues == k) then Some [] else None
