@@ -1,10 +1,11 @@
 -- What the blocks of a squeue stand for: at the place of each connection that is here lies its block, which has had these acts.
-use Rattle.std.specs.Prelude.{◌≡◌, ℕ, false, ◌%◌, ◌==◌, ◌&&◌, nat_lt, Option, Some, None, List, [], Box, length, slice_get, if◌then◌else◌}
+use Rattle.std.specs.Prelude.{◌≡◌, ℕ, false, Option, Some, None, List, Box, length}
 use Rattle.std.specs.List.{AllByRecursion}
 use Rattle.std.specs.declared.alloc.Global.{Global}
 use Rattle.perimeter_core.specs.declared.entries.Act.{Act}
 use Rattle.perimeter_core.specs.History.{Limits}
 use Rattle.perimeter_core.specs.Blocks.{Blocks as Had}
+use Rattle.placed_parts.specs.Standing as Placed
 use Rattle.conn_classifier.specs.Plan.{PlanOf}
 use Rattle.conn_blocks.specs.declared.blocks.Blocks.{Blocks}
 use Rattle.conn_blocks.specs.CallLists.{CallLists}
@@ -12,17 +13,16 @@ use Rattle.conn_blocks.specs.ServeOrder.{BlockOf, OriginOf}
 use Rattle.conn_blocks.specs.Holding.{StandsFor}
 use Rattle.conn_blocks.specs.Allowed.{limits_in}
 
+-- the block of connection c has had these acts
+abbrev pub BlockAt : PlanOf → CallLists → ℕ → Box BlockOf Global → List Act → Type 0
+BlockAt p calls c b had = StandsFor p calls c had b.value
+
 -- what lies at the place of connection c, and the acts of its block where it is here
 abbrev pub PlaceFits : PlanOf → CallLists → ℕ → Option (Option (Box BlockOf Global)) → Option (List Act) → Type 0
-PlaceFits p calls c (Some (Some b)) (Some had) = StandsFor p calls c had b.value
-PlaceFits p calls c (Some (Some b)) None = ⊥
-PlaceFits p calls c (Some None) (Some had) = ⊥
-PlaceFits p calls c (Some None) None = Unit {0}
-PlaceFits p calls c None (Some had) = ⊥
-PlaceFits p calls c None None = Unit {0}
+PlaceFits p calls = Placed.PlaceAt (BlockAt p calls)
 
 abbrev pub PlacesStand : PlanOf → CallLists → List (Option (Box BlockOf Global)) → Had → Type 0
-PlacesStand p calls places blocks = (c : ℕ) → PlaceFits p calls c (slice_get places c) (blocks c)
+PlacesStand p calls = Placed.PlacesStand (BlockAt p calls)
 
 abbrev pub Stands : Blocks → Had → Type 0
 Stands r blocks = PlacesStand r.plan r.calls.now r.places.items blocks
@@ -54,4 +54,4 @@ IsPartOf o c b = b.value.of ≡ record { plan = o.plan; calls = o.calls; c = c }
 
 -- of n connections those are here whose first squeue is number k of so many, and nothing was done to them
 abbrev pub first_here : ℕ → ℕ → ℕ → Had
-first_here n k squeues c = if nat_lt c n && (c % squeues == k) then Some [] else None
+first_here = Placed.first_here

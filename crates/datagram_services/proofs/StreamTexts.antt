@@ -13,7 +13,7 @@ use Rattle.stream_blocks.specs.Served.{ServedOf, all_served}
 use Rattle.conn_classifier.proofs.RingLaw.{drop_at}
 use Rattle.datagram_services.specs.MoreText.{answer_line, counts_line, is_generator, items_line, plan_text, stream_line, stream_text}
 use Rattle.datagram_services.specs.Served.{IsMoreServed}
-use Rattle.conn_blocks.proofs.PlaceSteps.{not_past}
+use Rattle.placed_parts.proofs.PlaceSteps.{not_past}
 
 -- what stands behind the stream's two first lines and the answers
 abbrev pub generated : Tuple → Generating → List ℕ

@@ -15,7 +15,7 @@ use Rattle.squeue_state.specs.Words.{IsMade, StandsEmpty, ask_quotas}
 use Rattle.key_counters.specs.declared.counters.Counter.{Counter}
 use Rattle.placed_parts.specs.declared.parts.Parts.{Ghosts}
 use Rattle.placed_parts.specs.declared.places.Places.{Places}
-use Rattle.placed_parts.specs.Standing.{InOrder, PlacesStand, all_new}
+use Rattle.placed_parts.specs.Standing.{InOrder, OwnPart, PlacesStand, all_new}
 use Rattle.placed_parts.specs.Placing.{Stands, limits_of, size_of}
 use Rattle.placed_parts.proofs.PlaceSteps.{part_there, had_feeds}
 use Rattle.key_counters.specs.Counting.{HasAdded, IsPartOf, row_of, total_of}
@@ -95,7 +95,7 @@ some_row (x ∷ rows) zero row h = (omega arith, (let e : x ≡ row = cc h in e)
 some_row (x ∷ rows) (suc c) row h = let r = some_row rows c row h in (omega (arith, r.0), r.1)
 
 -- where each key has had all its items, the totals are the sums
-pub totals_are : (rows : List (List ℕ)) (cs : List (Option Counter)) → length cs ≡ length rows → ((c : ℕ) → c < length rows → HadFeeds (PlacesStand (IsPartOf rows) (InOrder HasAdded) cs) c (length (row_of rows c))) → map total_of cs ≡ map sum rows
+pub totals_are : (rows : List (List ℕ)) (cs : List (Option Counter)) → length cs ≡ length rows → ((c : ℕ) → c < length rows → HadFeeds (PlacesStand (OwnPart (IsPartOf rows) (InOrder HasAdded)) cs) c (length (row_of rows c))) → map total_of cs ≡ map sum rows
 totals_are rows cs n had = same_maps total_of sum cs rows n one
   where
     one : (i : ℕ) (o : Option Counter) (row : List ℕ) → slice_get cs i ≡ Some o → slice_get rows i ≡ Some row → total_of o ≡ sum row
@@ -103,11 +103,13 @@ totals_are rows cs n had = same_maps total_of sum cs rows n one
         let r = some_row rows i row is in
         let h = had i r.0 in
         let m = length (row_of rows i) in
-        let k = part_there (IsPartOf rows) (InOrder HasAdded) cs i (here_of_feeds (PlacesStand (IsPartOf rows) (InOrder HasAdded) cs) i m h) in
-        let part = had_feeds (IsPartOf rows) (InOrder HasAdded) cs i m k.0 k.1 h in
-        let had_all = sym part.1.stands.1.feeds ∙ part.1.feeds in
+        let At = OwnPart (IsPartOf rows) (InOrder HasAdded) in
+        let k = part_there At cs i (here_of_feeds (PlacesStand At cs) i m h) in
+        let was = had_feeds At cs i m k.0 k.1 h in
+        let part = was.stands.0 in
+        let had_all = sym was.stands.1.1.feeds ∙ was.feeds in
         let same : o ≡ Some k.0 = cc (at, k.1) in
-        ap total_of same ∙ (part.0.total ∙ (ap (λ (n : ℕ). sum (take n (row_of rows i))) had_all ∙ (ap sum (take_all m (row_of rows i) (omega arith)) ∙ ap sum r.1)))
+        ap total_of same ∙ (part.total ∙ (ap (λ (n : ℕ). sum (take n (row_of rows i))) had_all ∙ (ap sum (take_all m (row_of rows i) (omega arith)) ∙ ap sum r.1)))
 
 pub sums_of : {V : Type 0} (items : V → List ℕ) (xs : List V) → map sum (map items xs) ≡ map (λ x. sum (items x)) xs
 sums_of items [] = refl

@@ -5,11 +5,15 @@ use Rattle.perimeter_core.specs.History.{Limits}
 use Rattle.perimeter_core.specs.Blocks.{Blocks}
 use Rattle.placed_parts.specs.declared.parts.Parts.{Ghosts}
 use Rattle.placed_parts.specs.declared.places.Places.{Places}
-use Rattle.placed_parts.specs.Standing.{InOrder, PlacesStand}
+use Rattle.placed_parts.specs.Standing.{InOrder, OwnPart, PlacesStand}
 
 module _ {S P O : Type 0} {G : Ghosts S P O} where
+  -- which parts may be at a place after which acts
+  abbrev pub MayBe : Places S P O G → ℕ → P → List Act → Type 0
+  MayBe r = OwnPart (G.is_part_of (G.origin r.shared)) (InOrder G.part_stands)
+
   abbrev pub Stands : Places S P O G → Blocks → Type 0
-  Stands r blocks = PlacesStand (G.is_part_of (G.origin r.shared)) (InOrder G.part_stands) r.places.items blocks
+  Stands r blocks = PlacesStand (MayBe r) r.places.items blocks
 
   abbrev pub limits_of : Places S P O G → Limits
   limits_of r = G.limits r.shared

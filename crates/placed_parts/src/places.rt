@@ -33,7 +33,7 @@ impl<S: Parts> Places<S> {
     ghost use Rattle.perimeter_core.specs.declared.entries.Act.{Act};
     ghost use Rattle.perimeter_core.specs.Blocks.{Blocks};
     ghost use Rattle.perimeter_core.specs.Logging.{fresh, none_done};
-    ghost use Rattle.placed_parts.specs.Standing.{InOrder, PlaceAt, all_new};
+    ghost use Rattle.placed_parts.specs.Standing.{InOrder, OwnPart, PlaceAt, all_new};
     ghost use Rattle.placed_parts.specs.Placing.{Stands, IsItsPart, shared_of, size_of, parts_of, part_at};
 
     /// All connections, so many, are here, and nothing was done to them. The limits of what is shared have a number of feeds for
@@ -76,7 +76,7 @@ impl<S: Parts> Places<S> {
     // What is at the connection's place, if it is here, with nothing done to it.
     fn first(alloc: Global, shared: &S, c: u32, here: bool) -> Result<Option<S::Part>, AllocError>
         requires { c < length (S.limits shared.now).feeds }
-        ensures { IfOk result (λ place. PlaceAt (S.is_part_of (S.origin shared.now)) (InOrder S.part_stands) c (Some place) (fresh here)) }
+        ensures { IfOk result (λ place. PlaceAt (OwnPart (S.is_part_of (S.origin shared.now)) (InOrder S.part_stands)) c (Some place) (fresh here)) }
     {
         if here {
             Ok(Some(shared.fresh(alloc, c)?))

@@ -6,7 +6,7 @@ use Rattle.std.proofs.lemmas.Nat.{div-add-mod', div-mul-add, mod-mul-add}
 use Rattle.std.proofs.Math.Nat.{mod-lt, add-div_right, add-mod_right, div-eq_of_lt, mul-add-mod_self_right, zero-div}
 use Rattle.squeue_serve.proofs.Lent.{some_at, get_front}
 use Rattle.squeue_rings.proofs.Slots.{within}
-use Rattle.conn_blocks.proofs.PlaceSteps.{get_seam}
+use Rattle.placed_parts.proofs.PlaceSteps.{get_seam}
 
 -- a number is known by its place and its round
 too_far : (n x d p c a b m u v : ℕ) → x * n + p ≡ c + a → (x + 1 + d) * n + p ≡ c + b → m + u ≡ a → m + v ≡ b → v < n → ⊥

@@ -1,11 +1,11 @@
 -- What the resident of streams stands for.
-use Rattle.std.specs.Prelude.{◌≡◌, ◌≤◌, ℕ, ◌-◌, ◌*◌, ◌^◌, ◌%◌, ◌==◌, ◌&&◌, nat_lt, Bool, true}
-use Rattle.std.specs.Prelude.{false, Option, Some, None, List, [], length, drop, map, slice_get, if◌then◌else◌}
+use Rattle.std.specs.Prelude.{◌≡◌, ◌≤◌, ℕ, ◌-◌, ◌*◌, ◌^◌, Bool, true, false, Option, Some, None, List, [], length, drop, map, slice_get}
 use Rattle.perimeter_core.specs.declared.entries.Act.{Act}
 use Rattle.perimeter_core.specs.History.{Limits}
 use Rattle.perimeter_core.specs.Deeds.{feed_numbers}
 use Rattle.perimeter_core.specs.Blocks.{Blocks}
 use Rattle.perimeter_core.specs.Backlog.{up}
+use Rattle.placed_parts.specs.Standing as Placed
 use Rattle.byte_queues.specs.ReceiveQueue.{next_of}
 use Rattle.tcb_machine.specs.BlockState.{offered}
 use Rattle.chargen_service.specs.Chargen.{new_generating}
@@ -36,17 +36,16 @@ IsPartOf p c k = (s : StreamOf) → slice_get p.streams c ≡ Some s → k.short
 abbrev pub HasHad : StreamBlock → List Act → Type 0
 HasHad k had = feed_numbers had ≡ up 0 k.had
 
+-- the block of stream c has had these acts
+abbrev pub BlockAt : MorePlanOf → ℕ → StreamBlock → List Act → Type 0
+BlockAt p = Placed.OwnPart (IsPartOf p) HasHad
+
 -- what lies at the place of stream c, and the acts of its block where it is here
 abbrev pub PlaceFits : MorePlanOf → ℕ → Option (Option StreamBlock) → Option (List Act) → Type 0
-PlaceFits p c (Some (Some k)) (Some had) = IsPartOf p c k × HasHad k had
-PlaceFits p c (Some (Some k)) None = ⊥
-PlaceFits p c (Some None) (Some had) = ⊥
-PlaceFits p c (Some None) None = Unit {0}
-PlaceFits p c None (Some had) = ⊥
-PlaceFits p c None None = Unit {0}
+PlaceFits p = Placed.PlaceAt (BlockAt p)
 
 abbrev pub PlacesStand : MorePlanOf → List (Option StreamBlock) → Blocks → Type 0
-PlacesStand p places blocks = (c : ℕ) → PlaceFits p c (slice_get places c) (blocks c)
+PlacesStand p = Placed.PlacesStand (BlockAt p)
 
 abbrev pub Stands : StreamBlocks → Blocks → Type 0
 Stands r blocks = PlacesStand r.plan.now r.places.items blocks
@@ -80,4 +79,4 @@ FirstFits None here = here ≡ false
 
 -- of n streams those are here whose number leaves k, divided by so many, and nothing was done to them
 abbrev pub first_here : ℕ → ℕ → ℕ → Blocks
-first_here n k squeues c = if nat_lt c n && (c % squeues == k) then Some [] else None
+first_here = Placed.first_here

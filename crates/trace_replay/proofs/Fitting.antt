@@ -14,7 +14,7 @@ use Rattle.squeue_rings.specs.Keeping.{Keeps, KeepsFrom, taken}
 use Rattle.ring_quotas.specs.declared.setup.Setup.{Setup}
 use Rattle.squeue_replay.specs.Pacing.{KeepsAt}
 use Rattle.trace_replay.specs.Reasons.{AreFit, IsUnfitAt, TakesFew}
-use Rattle.conn_blocks.proofs.PlaceSteps.{get_seam}
+use Rattle.placed_parts.proofs.PlaceSteps.{get_seam}
 
 -- ---- one element behind others
 

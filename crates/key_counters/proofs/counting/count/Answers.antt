@@ -6,7 +6,7 @@ use Rattle.perimeter_core.specs.History.{feed_quotas}
 use Rattle.perimeter_core.specs.Residing.{HadFeeds}
 use Rattle.squeue_state.specs.Behind.{pairs}
 use Rattle.squeue_state.specs.Words.{ask_quotas}
-use Rattle.placed_parts.specs.Standing.{InOrder, PlacesStand}
+use Rattle.placed_parts.specs.Standing.{InOrder, OwnPart, PlacesStand}
 use Rattle.placed_parts.specs.Placing.{limits_of, shared_of}
 use Rattle.key_counters.specs.Counting.{HasAdded, IsPartOf, rows_of, row_of, total_of}
 use Rattle.key_counters.specs.Lists.{AreLists, no_asks}
@@ -74,7 +74,8 @@ returns-in-Ok-make g c =
     let same : all ≡ rows_of first.shared = end.origin in
     let rows : all ≡ map (λ row. row.items) amounts = same ∙ (ap (λ x. rows_of (shared_of x)) c.in-Ok-make.ensures.given.its_first ∙ c.in_ok-resident.ensures.amounts) in
     let long : length r.places.items ≡ length all = sym r.rows ∙ length-map all length in
-    let had : (i : ℕ) → i < length all → HadFeeds (PlacesStand (IsPartOf all) (InOrder HasAdded) r.places.items) i (length (row_of all i)) =
-    λ i lt. subst (HadFeeds (PlacesStand (IsPartOf all) (InOrder HasAdded) r.places.items) i) (limit_is (rows_of first.shared) i ∙ ap (λ (xs : List (List ℕ)). length (row_of xs i)) (sym same)) (end.fed i (omega (arith, lt, long, end.size))) in
+    let Stand = PlacesStand (OwnPart (IsPartOf all) (InOrder HasAdded)) r.places.items in
+    let had : (i : ℕ) → i < length all → HadFeeds Stand i (length (row_of all i)) =
+    λ i lt. subst (HadFeeds Stand i) (limit_is (rows_of first.shared) i ∙ ap (λ (xs : List (List ℕ)). length (row_of xs i)) (sym same)) (end.fed i (omega (arith, lt, long, end.size))) in
     let sums : map total_of r.places.items ≡ map (λ row. sum row.items) amounts = totals_are all r.places.items long had ∙ (ap (map sum) rows ∙ sums_of (λ row. row.items) amounts) in
     IfOk-weaker c.totals_of.result _ _ (λ v is. is ∙ sums) c.totals_of.ensures

@@ -1,9 +1,9 @@
 use Rattle.std.proofs.Common.{◌≡◌, ◌+◌, ◌∷◌, [], length, length-append, ap, sym, subst, arith}
 use Rattle.std.specs.List.{AllByRecursion}
-use Rattle.conn_blocks.specs.Places.{NotShort, PlacesStand, first_here}
-use Rattle.conn_blocks.proofs.PlaceSteps.{none_stand, push_stands}
-use Rattle.conn_blocks.proofs.blocks.Blocks.first.Goals as goal
 use Rattle.capture_reader.proofs.Pieces.{all_push}
+use Rattle.conn_blocks.specs.Places.{BlockAt, NotShort, PlacesStand, first_here}
+use Rattle.placed_parts.proofs.PlaceSteps.{none_stand, push_first}
+use Rattle.conn_blocks.proofs.blocks.Blocks.first.Goals as goal
 
 pub loop-c-init : goal.loop-c-init
 loop-c-init c =
@@ -13,7 +13,7 @@ loop-c-init c =
     record {
       each = ap length none;
       whole = subst (AllByRecursion NotShort) (sym none) tt;
-      stand = subst (λ l. PlacesStand p calls l (first_here 0 c.args.squeue c.args.squeues)) (sym none) (none_stand p calls c.args.squeue c.args.squeues);
+      stand = subst (λ l. PlacesStand p calls l (first_here 0 c.args.squeue c.args.squeues)) (sym none) (none_stand (BlockAt p calls) c.args.squeue c.args.squeues);
     }
 
 pub loop-c-preserved : goal.loop-c-preserved
@@ -29,7 +29,7 @@ loop-c-preserved c =
       each = omega (arith, ap length longer, length-append places (place ∷ []), so_far.each);
       whole = subst (AllByRecursion NotShort) (sym longer) (all_push NotShort places place so_far.whole c.in_ok-place.ensures.whole);
       stand = subst (λ l. PlacesStand p calls l (first_here (n + 1) c.args.squeue c.args.squeues)) (sym longer)
-          (push_stands p calls places place n c.args.squeue c.args.squeues so_far.each so_far.stand c.in_ok-place.ensures.fits);
+          (push_first (BlockAt p calls) places place n c.args.squeue c.args.squeues so_far.each so_far.stand c.in_ok-place.ensures.fits);
     }
 
 pub returns-clause-stand : goal.returns-clause-stand

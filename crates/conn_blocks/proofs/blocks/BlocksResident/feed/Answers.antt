@@ -1,8 +1,9 @@
 use Rattle.std.proofs.Common.{◌<◌, length, Some, ap, sym, subst, ◌∙◌, arith}
 use Rattle.perimeter_core.proofs.LogSteps.{got, here_of_feeds}
 use Rattle.conn_blocks.specs.Holding.{StandsFor}
-use Rattle.conn_blocks.specs.Places.{PlacesStand}
-use Rattle.conn_blocks.proofs.PlaceSteps.{is_item, fed_here, feed_stands, no_block}
+use Rattle.conn_blocks.specs.Places.{BlockAt, PlacesStand}
+use Rattle.placed_parts.proofs.PlaceSteps.{feed_stands, no_place}
+use Rattle.conn_blocks.proofs.PlaceSteps.{is_item, fed_here}
 use Rattle.conn_blocks.proofs.blocks.BlocksResident.feed.Goals as goal
 
 pub feed-requires-clause-item : goal.feed-requires-clause-item
@@ -25,7 +26,7 @@ returns-in-Some-clause-stands c blocks old =
     let places = c.args.self.now.places.items in
     let lt : c.args.c < length places = omega (arith, c.requires.range, c.args.self.now.each) in
     let at = got places c.args.c c.index_mut.result.now _ lt c.index_mut.ensures.value ∙ ap Some c.in-Some.is in
-    feed_stands p calls places blocks c.args.c c.args.n c.in-Some.block _ lt at
+    feed_stands (BlockAt p calls) places blocks c.args.c c.args.n c.in-Some.block _ lt at
     (λ came is. c.feed.ensures came (subst (StandsFor p calls c.args.c came) (sym c.deref_mut.ensures.value) is)) old
 
 pub returns-in_default-clause-stands : goal.returns-in_default-clause-stands
@@ -34,4 +35,5 @@ returns-in_default-clause-stands c =
     let calls = c.args.self.now.calls.now in
     let places = c.args.self.now.places.items in
     let lt : c.args.c < length places = omega (arith, c.requires.range, c.args.self.now.each) in
-    λ blocks old. absurd (no_block p calls places c.args.c _ c.index_mut.result.now lt (here_of_feeds (PlacesStand p calls places) c.args.c c.args.n c.requires.next) c.index_mut.ensures.value c.in_default.not-Some)
+    let here = here_of_feeds (PlacesStand p calls places) c.args.c c.args.n c.requires.next in
+    λ blocks old. absurd (no_place (BlockAt p calls) places c.args.c _ c.index_mut.result.now lt here c.index_mut.ensures.value c.in_default.not-Some)

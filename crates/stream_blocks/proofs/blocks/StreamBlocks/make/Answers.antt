@@ -1,8 +1,9 @@
 use Rattle.std.proofs.Common.{◌+◌, Option, List, [], ◌∷◌, length, sym, ap, subst, arith}
 use Rattle.std.proofs.lemmas.List.{length-append}
-use Rattle.stream_blocks.specs.Standing.{PlacesStand, first_here}
+use Rattle.stream_blocks.specs.Standing.{BlockAt, PlacesStand, first_here}
 use Rattle.stream_blocks.specs.declared.block.StreamBlock.{StreamBlock}
-use Rattle.stream_blocks.proofs.Placing.{new_stands}
+use Rattle.placed_parts.proofs.PlaceSteps.{push_first}
+use Rattle.stream_blocks.proofs.Placing.{first_fits}
 use Rattle.stream_blocks.proofs.blocks.StreamBlocks.make.Goals as goal
 
 pub invariant_of-result : goal.invariant_of-result
@@ -17,5 +18,6 @@ loop-c-preserved c =
     record {
       count = omega (arith, ap length c.in_ok-push.ensures.items, length-append c.loop-c.places.items (c.place.result ∷ []), h.count);
       stands = subst (λ (l : List (Option StreamBlock)). PlacesStand c.args.plan.now l (first_here (c.loop-c.c + 1) c.args.squeue c.args.squeues)) (sym c.in_ok-push.ensures.items)
-          (new_stands c.args.plan.now c.loop-c.places.items c.loop-c.c c.args.squeue c.args.squeues c.place.result c.is_sound.ensures h.count c.place.ensures h.stands);
+          (push_first (BlockAt c.args.plan.now) c.loop-c.places.items c.place.result c.loop-c.c c.args.squeue c.args.squeues h.count h.stands
+          (first_fits c.args.plan.now c.loop-c.c c.place.result _ c.is_sound.ensures c.place.ensures));
     }

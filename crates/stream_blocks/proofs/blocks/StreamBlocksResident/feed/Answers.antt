@@ -4,8 +4,9 @@ use Rattle.perimeter_core.proofs.LogSteps.{got, here_of_feeds}
 use Rattle.stream_plan.specs.Sound.{IsStream}
 use Rattle.stream_plan.specs.Streams.{StreamOf, item_count}
 use Rattle.stream_plan.proofs.PlanFacts.{one_of_all, part_of_sum}
-use Rattle.stream_blocks.specs.Standing.{HasServed, IsPartOf}
-use Rattle.stream_blocks.proofs.Placing.{feed_stands, its_block, limit_is, no_place}
+use Rattle.stream_blocks.specs.Standing.{BlockAt, HasServed, IsPartOf}
+use Rattle.placed_parts.proofs.PlaceSteps.{no_place}
+use Rattle.stream_blocks.proofs.Placing.{feed_stands, its_block, limit_is}
 use Rattle.stream_blocks.proofs.blocks.StreamBlocksResident.feed.Goals as goal
 
 pub feed-requires-clause-stream : goal.feed-requires-clause-stream
@@ -44,4 +45,4 @@ returns-in-Some-clause-stands c blocks old =
 
 pub returns-in_default-clause-stands : goal.returns-in_default-clause-stands
 returns-in_default-clause-stands c =
-    λ blocks old. absurd (no_place c.args.self.now.plan.now c.args.self.now.places.items c.args.c _ c.index_mut.result.now c.requires.range (here_of_feeds _ c.args.c c.args._n c.requires.next) c.index_mut.ensures.value c.in_default.not-Some)
+    λ blocks old. absurd (no_place (BlockAt c.args.self.now.plan.now) c.args.self.now.places.items c.args.c _ c.index_mut.result.now c.requires.range (here_of_feeds _ c.args.c c.args._n c.requires.next) c.index_mut.ensures.value c.in_default.not-Some)
