@@ -38,7 +38,9 @@ part_of ip = drop (header_of ip) (take (total_of ip) ip)
 
 -- the UDP length counts header and text, and the part holds them
 abbrev pub is_udp : List ℕ → Bool
-is_udp part = nat_le udp_header_size (length part) && (nat_le udp_header_size (word part 4) && (nat_le (word part 4) (length part) && nat_le (word part 4) most_length))
+is_udp part =
+    nat_le udp_header_size (length part)
+    && (nat_le udp_header_size (word part 4) && (nat_le (word part 4) (length part) && nat_le (word part 4) most_length))
 
 -- the fields of a datagram that begins at this place of the record's body
 unfoldable pub udp_of : List ℕ → ℕ → Udp
