@@ -1,6 +1,6 @@
 //! Standard input and output as a TUN device: each read is a datagram, and each write is one.
 
-ghost use Rattle.std.specs.Prelude.{◌^◌, ◌≤◌, ◌<◌};
+ghost use Rattle.std.specs.Prelude.{◌≤◌, ◌<◌};
 ghost use Rattle.tcb_machine.specs.Limits.{last_time};
 
 use live_server::{Datagram, LAST_TIME, Server};
