@@ -7,7 +7,6 @@ use Rattle.perimeter_core.specs.declared.entries.Feed.{Feed as FeedOf}
 use Rattle.perimeter_core.specs.declared.marks.SynchAct.TheVariants as Done
 use Rattle.perimeter_core.specs.Perimeter.{Idle, is_free, is_empty}
 use Rattle.perimeter_core.specs.History.{Element, Setting, Limits, run, made_by}
-use Rattle.perimeter_core.specs.Blocks.{Blocks}
 use Rattle.squeue_state.specs.Naming.{Named, Turned, Handed, setting_of}
 use Rattle.turn_gate.specs.History.{only}
 use Rattle.squeue_state.specs.Elements.{number_of, filled, fasted, claimed, gone}

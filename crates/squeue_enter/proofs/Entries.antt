@@ -14,7 +14,7 @@ use Rattle.perimeter_core.specs.Perimeter.{State, Idle, after, polls, processed,
 use Rattle.perimeter_core.specs.History.{Element, Setting, Limits, start, run, made_by, feed_quota}
 use Rattle.perimeter_core.specs.Deeds.{entries, due, done}
 use Rattle.perimeter_core.specs.Legal.{May, Legal, Enters, feeds_by, feed_count}
-use Rattle.perimeter_core.specs.Blocks.{Blocks, peri}
+use Rattle.perimeter_core.specs.Blocks.{peri}
 use Rattle.perimeter_core.proofs.OneMore.{run_push, legal_more}
 use Rattle.perimeter_core.proofs.IdleKept.{feeds_no_ask, no_ask_join}
 use Rattle.perimeter_core.proofs.Room.{queued_fits}
