@@ -21,7 +21,7 @@ use Rattle.squeue_state.specs.Words.{Found, Marked, IsWhole}
 use Rattle.squeue_drain.specs.declared.owner.Owner.{Owner}
 use Rattle.squeue_drain.specs.Owning.{Feeds, HasFeeds}
 use Rattle.squeue_drain.specs.Draining.{Drained, ServedOne, Tells}
-use Rattle.squeue_drain.proofs.Deciding.{same_state}
+use Rattle.squeue_drain.proofs.Deciding.{same_state, queued_is}
 use Rattle.squeue_enter.specs.declared.Mode.{Mode}
 use Rattle.squeue_enter.specs.declared.entering.How.TheVariants as How'
 use Rattle.squeue_enter.specs.declared.entering.Way.{Way}
@@ -68,11 +68,6 @@ module _ {R : Type 0} {limits : R → Limits} {s : Named R} {p : Pass Element} {
 
   pub queue_fits : length (at limits s u).chain + length es < 2 ^ 31
   queue_fits = fill_fits limits s p es u may f some
-
--- what a turn tells of the queue is of its squeue
-pub queued_is : {R : Type 0} {limits : R → Limits} {s : Named R} {p : Pass Element} {u : Turned R} (n : ℕ) → Found limits s p u → n ≡ length (run (setting_of limits u.squeue.given) u.found).chain
-    → n ≡ length (at limits s u).chain
-queued_is {limits = limits} {s = s} {u = u} n f is = is ∙ ap (λ (x : State). length x.chain) (same_state limits u.squeue s u.found f.squeue)
 
 module _ {R P O : Type 0} (G : Ghosts R P O) {s : Named R} {p : Pass Element} {es : List FeedOf} {u : Turned R} (mode : Mode) where
   pub chose : {o : Own} {woke : Bool} {n : ℕ} {w v : Way} → MayEnter G.limits s p es → Found G.limits s p u → o ≡ (run (setting_of G.limits u.squeue.given) u.found).own → woke ≡ is_free o

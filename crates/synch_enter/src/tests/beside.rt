@@ -127,7 +127,7 @@ fn run_ring<W: Wait>(
     requires may { IfSome job.old.pass
         (λ p. MayEnter limits_of squeue.now p (record { c = 0; n = 0 } ∷ []) × MayAsk limits_of squeue.now p × (number p ≡ 0)
         × (is_here (run (setting_of limits_of squeue.now.given) (seen p)) 0 ≡ true)
-            × (times_left 0 (seen p) < slice_index (limits_of squeue.now.given.first).leaves 0)) }
+        × (times_left 0 (seen p) < slice_index (limits_of squeue.now.given.first).leaves 0)) }
     ensures some { IsSome job.new.pass }
     ensures pass { IfSome job.new.pass (λ p. IsPassOf number_of squeue.now.gate p × (number p ≡ 0)) }
 {
@@ -220,7 +220,7 @@ fn run_all<W: Threads + Wait + Sync>(
         × IfSome ring.old.pass
         (λ p. MayEnter limits_of squeue.now p (record { c = 0; n = 0 } ∷ []) × MayAsk limits_of squeue.now p × (number p ≡ 0)
         × (is_here (run (setting_of limits_of squeue.now.given) (seen p)) 0 ≡ true)
-            × (times_left 0 (seen p) < slice_index (limits_of squeue.now.given.first).leaves 0)) }
+        × (times_left 0 (seen p) < slice_index (limits_of squeue.now.given.first).leaves 0)) }
     requires thread { IsSome thread.old.pass × IfSome thread.old.pass (λ p. MayAsk limits_of squeue.now p × (number p ≡ 1)) }
     requires third { IsSome third.old.pass × IfSome third.old.pass (λ p. IsPassOf number_of squeue.now.gate p × (number p ≡ 2)) }
     requires given { (squeue.now.given.rings ≡ 1) × (length squeue.now.given.starts ≡ 1) × (length squeue.now.given.quotas ≡ 2) }
@@ -238,7 +238,7 @@ fn run_all<W: Threads + Wait + Sync>(
                 × IfSome ring.now.pass
                 (λ p. MayEnter limits_of squeue.now p (record { c = 0; n = 0 } ∷ []) × MayAsk limits_of squeue.now p × (number p ≡ 0)
                 × (is_here (run (setting_of limits_of squeue.now.given) (seen p)) 0 ≡ true)
-                    × (times_left 0 (seen p) < slice_index (limits_of squeue.now.given.first).leaves 0))
+                × (times_left 0 (seen p) < slice_index (limits_of squeue.now.given.first).leaves 0))
                 × IsSome third.now.pass × IfSome third.now.pass (λ p. IsPassOf number_of squeue.now.gate p × (number p ≡ 2))
                 × (length squeue.now.given.quotas ≡ 2) }
             ensures { IsSome ring.exit.now.pass × IfSome ring.exit.now.pass (λ p. IsPassOf number_of squeue.entry.now.gate p × (number p ≡ 0))
@@ -263,7 +263,7 @@ fn run_two<W: Threads + Wait + Sync>(
         × IfSome ring.old.pass
         (λ p. MayEnter limits_of squeue.now p (record { c = 0; n = 0 } ∷ []) × MayAsk limits_of squeue.now p × (number p ≡ 0)
         × (is_here (run (setting_of limits_of squeue.now.given) (seen p)) 0 ≡ true)
-            × (times_left 0 (seen p) < slice_index (limits_of squeue.now.given.first).leaves 0)) }
+        × (times_left 0 (seen p) < slice_index (limits_of squeue.now.given.first).leaves 0)) }
     requires third { IsSome third.old.pass × IfSome third.old.pass (λ p. IsPassOf number_of squeue.now.gate p × (number p ≡ 2)) }
     requires given { length squeue.now.given.quotas ≡ 2 }
     ensures ring { IsSome ring.new.pass × IfSome ring.new.pass (λ p. IsPassOf number_of squeue.now.gate p × (number p ≡ 0)) }

@@ -1,8 +1,9 @@
 use Rattle.std.proofs.Common.{arith}
 use Rattle.squeue_state.specs.Elements.{fasted, claimed}
+use Rattle.squeue_drain.proofs.Deciding.{queued_is}
 use Rattle.squeue_enter.specs.declared.entering.Way.TheVariants as Way'
 use Rattle.squeue_enter.proofs.Bringing.{brought, goes_on}
-use Rattle.squeue_enter.proofs.ByWay.{Chose, Became, first, may_queue, queue_fits, queued_is, chose, goes_fast, goes_alone, may_alone, claims_all, became_alone, became_claim, left_alone, owner_feeds, owner_has, by_fill, by_fast, by_alone, by_claim}
+use Rattle.squeue_enter.proofs.ByWay.{Chose, Became, first, may_queue, queue_fits, chose, goes_fast, goes_alone, may_alone, claims_all, became_alone, became_claim, left_alone, owner_feeds, owner_has, by_fill, by_fast, by_alone, by_claim}
 use Rattle.squeue_enter.proofs.entering.enter.Given.{Over}
 use Rattle.squeue_enter.proofs.entering.enter.Goals.{In-Fast, In-Alone, In-Claim, After-of-owner, After-of-owner-in-Alone, After-of-owner-in-Claim}
 use Rattle.squeue_enter.proofs.entering.enter.Goals as goal
