@@ -3,6 +3,7 @@ use Rattle.std.specs.Prelude.{Some}
 use Rattle.std.proofs.Common.{nat_eq}
 use Rattle.std.proofs.lemmas.Bool.Decides.{nat_tests}
 use Rattle.std.proofs.Common.{◌≡◌, ◌≢◌, ℕ, suc, ◌+◌, ◌-◌, ◌^◌, ◌≤◌, ◌<◌, Bool, true, false, List, [], ◌∷◌, ◌++◌, length, refl, ap, sym, ◌∙◌, subst, append_assoc, arith, length-append}
+use Rattle.std.proofs.lemmas.List.{nil_from_length}
 use Rattle.turn_gate.specs.History.{Begins}
 use Rattle.turn_gate.specs.Passes.{IsPassOf, number, seen, mine}
 use Rattle.turn_gate.specs.declared.pass.Pass.{Pass}
@@ -65,7 +66,7 @@ marked_on {R = R} limits s p q u e f may m =
       legal = subst (λ (h : List Element). Legal (setting_of limits s.given) h) (sym m.now_seen) (legal_more (setting_of limits s.given) u.found e f.legal may);
     }
 
-module _ {R P O : Type 0} (G : Ghosts R P O) (s : Named R) (o : Owner R) (u : Turned R) (is : Feeds G s o) (has : HasFeeds G.limits s o) (f : Found G.limits s o.pass u) where
+module _ {R P O : Type 0} {G : Ghosts R P O} {s : Named R} {o : Owner R} {u : Turned R} (is : Feeds G s o) (has : HasFeeds G.limits s o) (f : Found G.limits s o.pass u) where
   abbrev S : Setting
   S = setting_of G.limits s.given
 
@@ -134,9 +135,9 @@ module _ {R P O : Type 0} (G : Ghosts R P O) (s : Named R) (o : Owner R) (u : Tu
   counted_at m q xs e more same =
       ap (λ (h : List Element). feed_count (done S h)) e ∙ (more ∙ (ap (λ (k : ℕ). k + feed_count xs) at.same_done ∙ ap (λ (k : ℕ). feed_count (done S (seen o.pass)) + k) same))
 
-  pub left : (spent : Bool) (q : Pass Element) → length o.hand.left < length (state_of G.limits s o).hand → (spent ≡ false → (o.hand.left ≡ []) × ((run S u.found).chain ≡ []))
+  pub left : {spent : Bool} {q : Pass Element} → length o.hand.left < length (state_of G.limits s o).hand → (spent ≡ false → (o.hand.left ≡ []) × ((run S u.found).chain ≡ []))
       → Marked u (gone u.number (length o.hand.left) Done.None []) q → Off G.limits s spent o q
-  left spent q some why m =
+  left {spent} {q} some why m =
       let mark : Mark = On.Leave u.number (length o.hand.left) Done.None in
       let H : List Element = u.found in
       record {
@@ -158,9 +159,9 @@ module _ {R P O : Type 0} (G : Ghosts R P O) (s : Named R) (o : Owner R) (u : Tu
         idle = λ c. idle_at mark q m.now_seen (idle_left c);
       }
 
-  pub left_tells : (q : Pass Element) (rest : ℕ) (polling : Bool) → rest ≡ length o.hand.left + length (run S u.found).chain
+  pub left_tells : {q : Pass Element} {rest : ℕ} {polling : Bool} → rest ≡ length o.hand.left + length (run S u.found).chain
       → ((es : List Entry) → length es ≡ rest → polling ≡ polls es (run S u.found).polling) → Marked u (gone u.number (length o.hand.left) Done.None []) q → Tells G.limits s q rest polling
-  left_tells q rest polling count told m =
+  left_tells {q} {rest} {polling} count told m =
       let mark : Mark = On.Leave u.number (length o.hand.left) Done.None in
       let queue : List Entry = unprocessed (length o.hand.left) (run S u.found).hand ++ (run S u.found).chain in
       let state : run S (seen q) ≡ after (run S u.found) mark = ap (run S) m.now_seen ∙ run_push (start S) u.found (plain mark) in
@@ -170,12 +171,19 @@ module _ {R P O : Type 0} (G : Ghosts R P O) (s : Named R) (o : Owner R) (u : Tu
         polling_is = told queue size ∙ sym (ap (λ (t : State). t.polling) state);
       }
 
-module _ {R P O : Type 0} (G : Ghosts R P O) (s : Named R) (o : Owner R) (u : Turned R) (is : Feeds G s o) (has : HasFeeds G.limits s o) (f : Found G.limits s o.pass u) where
+module _ {R P O : Type 0} {G : Ghosts R P O} {s : Named R} {o : Owner R} {u : Turned R} (is : Feeds G s o) (has : HasFeeds G.limits s o) (f : Found G.limits s o.pass u) where
   abbrev T : Setting
   T = setting_of G.limits s.given
 
   abbrev here : AtTurn G s [] o u
   here = at_turn G s [] o u is.owns f
+
+  -- what is queued, with what is left of the hand, fits a number
+  pub room : length o.hand.left + length (run T u.found).chain < 2 ^ 31
+  room =
+      let all = fits_numbers G.limits s.given u.found f.legal f.few in
+      let part = within (run T u.found).hand o.hand.left here.left.is_left in
+      omega (arith, all, part)
 
   -- the owner has processed its hand and takes the queue
   pub takes : o.hand.left ≡ [] → (run T u.found).chain ≢ [] → May T u.found (took u.number)
@@ -183,9 +191,9 @@ module _ {R P O : Type 0} (G : Ghosts R P O) (s : Named R) (o : Owner R) (u : Tu
       let done : processed (length o.hand.left) (run T u.found).hand ≡ (run T u.found).hand = none_left (run T u.found).hand o.hand.left here.left.is_left none in
       may_take T u.found u.number f.legal here.own queued (ap all_feeds (sym done) ∙ (ap all_feeds here.same_front ∙ is.feeds)) (λ e. has.some (sym here.hand ∙ e))
 
-  pub taken : o.hand.left ≡ [] → (run T u.found).chain ≢ [] → (q : Pass Element) → Marked u (took u.number) q → (h : Handed) → IsWhole G.limits s.given (seen q) h
+  pub taken : o.hand.left ≡ [] → (run T u.found).chain ≢ [] → {q : Pass Element} {h : Handed} → Marked u (took u.number) q → IsWhole G.limits s.given (seen q) h
       → Onward G s o record o { pass = q; hand = h }
-  taken none queued q m h whole =
+  taken none queued {q} {h} m whole =
       let mark : Mark = On.Take u.number in
       let H : List Element = u.found in
       let may = takes none queued in
@@ -198,7 +206,7 @@ module _ {R P O : Type 0} (G : Ghosts R P O) (s : Named R) (o : Owner R) (u : Tu
       ap (peri T) m.now_seen ∙ (peri_push T H (plain mark) may ∙ ap (λ (xs : List Entry). with_feeds xs (peri T H)) (sym all)) in
       let now : with_feeds (processed (length h.left) (run T (seen q)).hand) (peri T (seen q)) ≡ with_feeds (processed (length o.hand.left) (run T H).hand) (peri T H) =
       ap (λ (xs : List Entry). with_feeds xs (peri T (seen q))) w.1 ∙ (with_none (peri T (seen q)) ∙ peri_same) in
-      let gave : IsPeri G s.given o.resident (peri_left G.limits s.given H o.hand Done.None []) = gives G s o u is has f in
+      let gave : IsPeri G s.given o.resident (peri_left G.limits s.given H o.hand Done.None []) = gives is has f in
       let none_so_far : feed_count (processed (length h.left) (run T (seen q)).hand) ≡ 0 = ap feed_count w.1 in
       let before : feed_count (done T (seen q)) ≡ feed_count (done T H) + feed_count (run T H).hand = ap (λ (g : List Element). feed_count (done T g)) m.now_seen ∙ done_more T H (plain mark) in
       let same : feed_count (run T H).hand ≡ feed_count (processed_by G.limits s o) = ap feed_count (sym all ∙ here.same_front) in
@@ -236,7 +244,7 @@ module _ {R P O : Type 0} (G : Ghosts R P O) (s : Named R) (o : Owner R) (u : Tu
       }
 
   -- an Ask stands first
-  module _ (j : ℕ) (rest : List Entry) (ask : o.hand.left ≡ Entry'.Ask j ∷ rest) where
+  module _ {j : ℕ} {rest : List Entry} (ask : o.hand.left ≡ Entry'.Ask j ∷ rest) where
     one_on : Passed (run T u.found).hand o.hand.left rest (Entry'.Ask j)
     one_on = passed (run T u.found).hand o.hand.left rest (Entry'.Ask j) here.left.is_left ask
 
@@ -247,7 +255,7 @@ module _ {R P O : Type 0} (G : Ghosts R P O) (s : Named R) (o : Owner R) (u : Tu
     grants =
         let hand = (run T u.found).hand in
         let feeds : all_feeds (processed (length o.hand.left) hand) ≡ true = ap all_feeds here.same_front ∙ is.feeds in
-        let lone : has_ask u.number (processed (length o.hand.left) hand ++ (Entry'.Ask j ∷ rest)) ≡ false = ap (has_ask u.number) (sym one_on.split) ∙ no_ask G s o u is has f in
+        let lone : has_ask u.number (processed (length o.hand.left) hand ++ (Entry'.Ask j ∷ rest)) ≡ false = ap (has_ask u.number) (sym one_on.split) ∙ no_ask is has f in
         let queue : hand ++ (run T u.found).chain ≡ processed (length o.hand.left) hand ++ (Entry'.Ask j ∷ (rest ++ (run T u.found).chain)) =
         ap (λ (xs : List Entry). xs ++ (run T u.found).chain) one_on.split ∙ append_assoc (processed (length o.hand.left) hand) (Entry'.Ask j ∷ rest) (run T u.found).chain in
         let range : QueuedInRange T (processed (length o.hand.left) hand ++ (Entry'.Ask j ∷ (rest ++ (run T u.found).chain))) = subst (QueuedInRange T) queue (queued_range T u.found f.legal) in
@@ -258,12 +266,12 @@ module _ {R P O : Type 0} (G : Ghosts R P O) (s : Named R) (o : Owner R) (u : Tu
         (asks_other u.number j (processed (length o.hand.left) hand) rest lone)
         (omega (arith, mine.0))
 
-    pub granted_to : (spent : Bool) → spent ≡ false → (q : Pass Element) → Marked u (plain (On.Grant u.number j (length rest))) q → Off G.limits s spent o q
-    granted_to spent unspent q m =
+    pub granted_to : {spent : Bool} {q : Pass Element} → spent ≡ false → Marked u (plain (On.Grant u.number j (length rest))) q → Off G.limits s spent o q
+    granted_to {spent} {q} unspent m =
         let mark : Mark = On.Grant u.number j (length rest) in
         let H : List Element = u.found in
         let hand = (run T H).hand in
-        let lone : has_ask u.number (processed (length o.hand.left) hand ++ (Entry'.Ask j ∷ rest)) ≡ false = ap (has_ask u.number) (sym one_on.split) ∙ no_ask G s o u is has f in
+        let lone : has_ask u.number (processed (length o.hand.left) hand ++ (Entry'.Ask j ∷ rest)) ≡ false = ap (has_ask u.number) (sym one_on.split) ∙ no_ask is has f in
         let other : j ≢ u.number = asks_other u.number j (processed (length o.hand.left) hand) rest lone in
         let counts : feed_count (processed (length rest) hand) ≡ feed_count (processed_by G.limits s o) =
         ap feed_count one_on.more ∙ (count_ask (processed (length o.hand.left) hand) j ∙ ap feed_count here.same_front) in
@@ -275,14 +283,14 @@ module _ {R P O : Type 0} (G : Ghosts R P O) (s : Named R) (o : Owner R) (u : Tu
           ends = (f.same_number, λ e. other (e ∙ sym f.same_number));
           now_seen = m.now_seen ∙ ap (λ (h : List Element). h ++ plain mark ∷ []) f.goes_on.1;
           now_mine = m.now_mine ∙ ap (λ (h : List Element). h ++ plain mark ∷ []) f.same_mine;
-          count = counted_at G s o u is has f mark q (processed (length rest) hand) m.now_seen (done_more T H (plain mark)) counts;
+          count = counted_at is has f mark q (processed (length rest) hand) m.now_seen (done_more T H (plain mark)) counts;
           leaves = λ n. absurd (cc (unspent, n));
           nothing = λ n. tt;
           empty = λ n e. absurd (cc e);
           idle = λ c.
-              idle_at G s o u is has f mark q m.now_seen
+              idle_at is has f mark q m.now_seen
               (record {
-                open_pass = still_open G s o u is has f c;
+                open_pass = still_open is has f c;
                 no_owner = λ e. cc e;
                 not_granted = λ e. other (cc e);
                 not_in_hand = refl;
@@ -290,13 +298,13 @@ module _ {R P O : Type 0} (G : Ghosts R P O) (s : Named R) (o : Owner R) (u : Tu
                     has_ask-append u.number (unprocessed (length rest) hand) (run T H).chain
                     (ap (has_ask u.number) (sym one_on.is_left) ∙ (no_ask_split u.number (processed (length o.hand.left) hand ++ Entry'.Ask j ∷ []) rest
                     (ap (has_ask u.number) (append_assoc (processed (length o.hand.left) hand) (Entry'.Ask j ∷ []) rest) ∙ lone)).1)
-                    (no_ask_chain G s o u is has f);
+                    (no_ask_chain is has f);
               });
         }
 
-    pub granted_tells : (q : Pass Element) (count : ℕ) (polling : Bool) → count + 1 ≡ length o.hand.left + length (run T u.found).chain
+    pub granted_tells : {q : Pass Element} {count : ℕ} {polling : Bool} → count + 1 ≡ length o.hand.left + length (run T u.found).chain
         → ((es : List Entry) → length es ≡ count → polling ≡ polls es (run T u.found).polling) → Marked u (plain (On.Grant u.number j (length rest))) q → Tells G.limits s q count polling
-    granted_tells q count polling counts told m =
+    granted_tells {q} {count} {polling} counts told m =
         let mark : Mark = On.Grant u.number j (length rest) in
         let queue : List Entry = unprocessed (length rest) (run T u.found).hand ++ (run T u.found).chain in
         let state : run T (seen q) ≡ after (run T u.found) mark = ap (run T) m.now_seen ∙ run_push (start T) u.found (plain mark) in
@@ -338,3 +346,15 @@ is_zero n h = grind (arith, nat_tests)
 
 pub not_zero : (n : ℕ) → nat_eq n 0 ≡ false → 1 ≤ n
 not_zero n h = grind (arith, nat_tests)
+
+-- and so is what it tells of the queue
+pub queued_is : {R : Type 0} {limits : R → Limits} {s : Named R} {p : Pass Element} {u : Turned R} (n : ℕ) → Found limits s p u → n ≡ length (run (setting_of limits u.squeue.given) u.found).chain
+    → n ≡ length (run (setting_of limits s.given) u.found).chain
+queued_is {limits = limits} {s = s} {u = u} n f is = is ∙ ap (λ (x : State). length x.chain) (same_state limits u.squeue s u.found f.squeue)
+
+module _ {R : Type 0} {limits : R → Limits} {s : Named R} {p : Pass Element} {u : Turned R} (n : ℕ) (f : Found limits s p u) (is : n ≡ length (run (setting_of limits u.squeue.given) u.found).chain) where
+  pub none_queued : n ≡ 0 → (run (setting_of limits s.given) u.found).chain ≡ []
+  none_queued none = nil_from_length (run (setting_of limits s.given) u.found).chain (sym (queued_is n f is) ∙ none)
+
+  pub some_queued : n ≢ 0 → (run (setting_of limits s.given) u.found).chain ≢ []
+  some_queued some = some_of (run (setting_of limits s.given) u.found).chain (λ e. some (queued_is n f is ∙ e))

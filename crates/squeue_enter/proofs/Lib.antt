@@ -3,3 +3,4 @@ pub mod Entries
 pub mod Choosing
 pub mod Answering
 pub mod Bringing
+pub mod ByWay

@@ -1,5 +1,5 @@
 -- An owner that claimed with its own Ask last.
-use Rattle.std.proofs.Common.{◌≡◌, ℕ, ◌-◌, ◌<◌, Bool, true, false, ◌==◌, ◌||◌, inl, inr, Some, List, [], ◌∷◌, ◌++◌, length, drop, refl, ap, sym, ◌∙◌, subst, append_assoc, arith, length-append}
+use Rattle.std.proofs.Common.{◌≡◌, ◌≢◌, ℕ, ◌-◌, ◌<◌, Bool, true, false, ◌==◌, ◌||◌, inl, inr, Option, Some, List, [], ◌∷◌, ◌++◌, length, drop, refl, ap, sym, ◌∙◌, subst, append_assoc, arith, length-append}
 use Rattle.std.proofs.lemmas.List.{append-nil}
 use Rattle.turn_gate.specs.History.{Begins}
 use Rattle.turn_gate.specs.Passes.{number, seen, mine}
@@ -28,7 +28,7 @@ use Rattle.squeue_drain.specs.declared.owner.Owner.{Owner}
 use Rattle.squeue_drain.specs.Draining.{plain}
 use Rattle.squeue_drain.specs.Owning.{Feeds, NoFeedFirst, processed_by, state_of}
 use Rattle.squeue_drain.proofs.Fresh.{fresh}
-use Rattle.squeue_drain.proofs.Hands.{within, none_left, Passed, passed, only_last_push, ends_at_ask}
+use Rattle.squeue_drain.proofs.Hands.{first_is, within, none_left, Passed, passed, only_last_push, ends_at_ask}
 use Rattle.squeue_drain.proofs.Marks.{may_grant}
 use Rattle.squeue_drain.proofs.Turning.{AtTurn, at_turn}
 use Rattle.squeue_drain.proofs.Deciding.{marked_on, ask_first, asks, granted_is, begins_trans}
@@ -116,14 +116,23 @@ module _ {R P O : Type 0} (G : Ghosts R P O) (s : Named R) where
       (subst (λ (G : List Element). Legal S G) (sym m.now_seen) (legal_more S u.found (claimed_ask u.number) may.legal (may_claim G.limits s u may free)))
       (ap (λ (t : State). t.own) (state u q m) ∙ ap Out (sym m.same_number)) whole is
 
-  module _ (u : Turned R) (o : Owner R) (is : Feeds G s o) (claimed : HasClaimed G.limits s u o.pass) where
+  module _ {u : Turned R} {o : Owner R} (is : Feeds G s o) (claimed : HasClaimed G.limits s u o.pass) where
     -- what is next is an Ask
     pub next_ask : NoFeedFirst o.hand.left → (j : ℕ) × (rest : List Entry) × (o.hand.left ≡ Entry'.Ask j ∷ rest)
     next_ask stops = ask_first o.hand.left stops (some_left (number o.pass) (state_of G.limits s o).hand o.hand.left (run S u.found).chain is.owns.hand.is_left is.feeds claimed.hand)
 
+    -- and whether it is its own
+    pub own_first : {first : Option Entry} {me : ℕ} → first ≡ first_entry o.hand.left → first ≡ Some (Entry'.Ask me) → me ≡ u.number → (rest : List Entry) × (o.hand.left ≡ Entry'.Ask (number o.pass) ∷ rest)
+    own_first is own mine = first_is o.hand.left (Entry'.Ask (number o.pass)) (sym is ∙ (own ∙ ap (λ (n : ℕ). Some (Entry'.Ask n)) (mine ∙ sym claimed.same_number)))
+
+    pub other_next : {first : Option Entry} {me : ℕ} → NoFeedFirst o.hand.left → first ≡ first_entry o.hand.left → first ≢ Some (Entry'.Ask me) → me ≡ u.number → AskIsNext o
+    other_next stops is own mine =
+        let next = next_ask stops in
+        (next.0, next.1, next.2, λ e. own (is ∙ (ap first_entry next.2 ∙ ap (λ (n : ℕ). Some (Entry'.Ask n)) (e ∙ (claimed.same_number ∙ sym mine)))))
+
     -- at its own Ask the owner has done what stood ahead of it
-    pub at_own : (rest : List Entry) → o.hand.left ≡ Entry'.Ask (number o.pass) ∷ rest → (h : Handed) → h.left ≡ drop 1 o.hand.left → h.room ≡ o.hand.room → StandsAtItsAsk G s [] record o { hand = h }
-    at_own rest ask h left room =
+    pub at_own : {rest : List Entry} {h : Handed} → o.hand.left ≡ Entry'.Ask (number o.pass) ∷ rest → h.left ≡ drop 1 o.hand.left → h.room ≡ o.hand.room → StandsAtItsAsk G s [] record o { hand = h }
+    at_own {rest} {h} ask left room =
         let hand : List Entry = (state_of G.limits s o).hand in
         let front : List Entry = processed_by G.limits s o in
         let one : Passed (state_of G.limits s o).hand o.hand.left rest (Entry'.Ask (number o.pass)) = passed (state_of G.limits s o).hand o.hand.left rest (Entry'.Ask (number o.pass)) is.owns.hand.is_left ask in
@@ -170,12 +179,12 @@ module _ {R P O : Type 0} (G : Ghosts R P O) (s : Named R) where
           way = subst (λ (w : Own). IsWay (is_free w) u.number (claimed_ask u.number) []) (sym free) (refl, inl refl);
         }
 
-    pub open_handed : (q : Pass Element) → HandedOn G.limits s o q → is_closed (run S (seen q)) (number q) ≡ false
-    open_handed q on = ap (λ (k : ℕ). is_closed (run S (seen q)) k) on.goes_on.same_number ∙ (on.closed ∙ claimed.open_pass)
+    pub open_handed : {q : Pass Element} → HandedOn G.limits s o q → is_closed (run S (seen q)) (number q) ≡ false
+    open_handed {q} on = ap (λ (k : ℕ). is_closed (run S (seen q)) k) on.goes_on.same_number ∙ (on.closed ∙ claimed.open_pass)
 
     -- it handed on, and accepted later
-    pub came_handed : (q r : Pass Element) → (run S u.found).own ≡ Free → HandedOn G.limits s o q → Begins (seen q) (seen r) → mine r ≡ mine q ++ accepted (number q) ∷ [] → CameBehind S u.number u.found u.mine r
-    came_handed q r free on grows had =
+    pub came_handed : {q r : Pass Element} → (run S u.found).own ≡ Free → HandedOn G.limits s o q → Begins (seen q) (seen r) → mine r ≡ mine q ++ accepted (number q) ∷ [] → CameBehind S u.number u.found u.mine r
+    came_handed {q} {r} free on grows had =
         let same : number o.pass ≡ u.number = claimed.same_number in
         let all = begins_trans (seen o.pass) (seen q) (seen r) on.goes_on.grows grows in
         let j : ℕ = on.granted_to in
