@@ -7,6 +7,7 @@ use Rattle.segment_codec.specs.declared.packet.Packet.{Packet}
 use Rattle.segment_codec.specs.declared.packet.Packet.TheVariants as packet
 use Rattle.segment_codec.specs.Packet.{packet_in}
 use Rattle.capture_reader.specs.CaptureFile.{Packet as Captured}
+use Rattle.capture_reader.specs.Limits.{latest_time}
 use Rattle.capture_reader.specs.Outcome.{CaptureFile}
 use Rattle.udp_codec.specs.declared.datagram.Udp.{Udp}
 use Rattle.udp_codec.specs.UdpDatagram.{udp_in}
@@ -187,13 +188,13 @@ module _ (file : CaptureFile) (last : ℕ) where
     climbs from [] = tt
     climbs from (d ∷ ds) = (omega arith, climbs (max from d.at) ds)
 
-    pub stream_is : (xs : List Arrived) → 0 < length xs → last ≤ 9007199254740992 → AllByRecursion (IsHere file last t) xs → IsStream file (stream_in last t xs)
+    pub stream_is : (xs : List Arrived) → 0 < length xs → last ≤ latest_time → AllByRecursion (IsHere file last t) xs → IsStream file (stream_in last t xs)
     stream_is xs some most h = record {
       some = by (its_port xs some h);
       service = of (its_port xs some h);
       texts = all_texts 0 xs h;
       climbing = climbs 0 (datagrams_of xs);
-      rising = items_rise file last 9007199254740992 (segments_of xs) most (all_segments xs h);
+      rising = items_rise file last latest_time (segments_of xs) most (all_segments xs h);
       inside = items_inside file last (segments_of xs) (all_segments xs h);
     }
       where

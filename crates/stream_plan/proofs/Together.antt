@@ -5,6 +5,7 @@ use Rattle.std.proofs.lemmas.List.{length-map}
 use Rattle.std.proofs.lemmas.List.Sums.{sum_by-cons}
 use Rattle.sq_base.specs.declared.kinds.Tuple.{Tuple}
 use Rattle.capture_reader.specs.CaptureFile.{Packet as Captured, last_time}
+use Rattle.capture_reader.specs.Limits.{latest_time, most_records}
 use Rattle.capture_reader.specs.Outcome.{CaptureFile}
 use Rattle.conn_classifier.specs.Connections.{distinct, tuple_eq}
 use Rattle.conn_classifier.proofs.Conns.{same}
@@ -103,7 +104,7 @@ length-arrived file n (r ∷ rs) = by (served_in file.link r.body) refl (length-
     by None e rest = rw e (omega (arith, rest))
     by (Some f) e rest = rw e (omega (arith, rest))
 
-pub is_more_plan : (file : CaptureFile) → length file.packets ≤ 1048576 → last_time file.packets ≤ 9007199254740992 → IsMorePlan (more_plan_of file)
+pub is_more_plan : (file : CaptureFile) → length file.packets ≤ most_records → last_time file.packets ≤ latest_time → IsMorePlan (more_plan_of file)
 unfolding more_plan_of
 is_more_plan file few most =
     let xs = arrivals_of file in

@@ -30,8 +30,10 @@ pub fn more_plan<'c>(alloc: Global, capture: &'c Capture) -> Result<MorePlan<'c>
     let arrivals = arrivals_in(alloc, capture)?;
     let tuples = tuples_of(alloc, arrivals.as_slice())?;
     let sorted = sort(alloc, &tuples, arrivals.as_slice())?;
-    let streams = streams_of(alloc, capture.last_time(), &tuples, sorted.lists.as_slice())?;
     let arrived = arrivals.len() as u32;
+    // What arrived is kept once: by stream from here on.
+    drop(arrivals);
+    let streams = streams_of(alloc, capture.last_time(), &tuples, sorted.lists.as_slice())?;
     let counts = Counts {
         served: sorted.served,
         nofit: arrived - sorted.served,

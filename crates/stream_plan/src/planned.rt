@@ -1,6 +1,7 @@
 //! The plan of a capture: its streams and their items.
 
-ghost use Rattle.std.specs.Prelude.{◌≡◌, ◌<◌, ◌≤◌, length, slice_get, IfSome, Some};
+ghost use Rattle.std.specs.Prelude.{◌≡◌, ◌*◌, ◌<◌, ◌≤◌, length, slice_get, IfSome, Some};
+ghost use Rattle.capture_reader.specs.Limits.{most_records};
 ghost use Rattle.stream_plan.specs.Sound.{IsMorePlan};
 ghost use Rattle.stream_plan.specs.Streams.{item_count};
 
@@ -110,7 +111,7 @@ impl<'c> MorePlan<'c> {
     pub fn items(&self, c: u32) -> u32
         requires { c < length self.now.streams }
         ensures value { IfSome (slice_get self.now.streams c) (λ s. result ≡ item_count s) }
-        ensures most { result ≤ 2097152 }
+        ensures most { result ≤ 2 * most_records }
     {
         self.is_sound();
         let stream = self.stream(c);

@@ -1,6 +1,7 @@
 //! What arrived, sorted by stream, in one pass.
 
 ghost use Rattle.std.specs.Prelude.{◌≡◌, ◌+◌, ◌<◌, ◌≤◌, length, map, replicate, IfOk, OnOk, [], ◌∷◌, ◌++◌, set, get_or};
+ghost use Rattle.capture_reader.specs.Limits.{most_records};
 ghost use Rattle.stream_plan.specs.Sorting.{sorted_of};
 
 use crate::finding::tuple_of;
@@ -56,7 +57,7 @@ pub fn sort(
     tuples: &IndexSet<Tuple>,
     arrivals: &[Arrived],
 ) -> Result<Sorted, AllocError>
-    requires few { length arrivals.now ≤ 1048576 }
+    requires few { length arrivals.now ≤ most_records }
     ensures { IfOk result (λ s. s ≡ sorted_of tuples.now.keys arrivals.now) }
 {
     let mut sorted = Sorted {

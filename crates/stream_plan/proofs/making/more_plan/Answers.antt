@@ -1,5 +1,6 @@
 use Rattle.std.proofs.Common.{◌≡◌, ◌≤◌, length, map, refl, ap, sym, subst, ◌∙◌, arith}
 use Rattle.capture_reader.specs.CaptureFile.{last_time}
+use Rattle.capture_reader.specs.Limits.{latest_time, most_records}
 use Rattle.stream_plan.specs.Streams.{tuples_in}
 use Rattle.stream_plan.specs.Sorting.{SortedOf, sorted_of, streams_in}
 use Rattle.stream_plan.specs.Sound.{IsMorePlan}
@@ -34,9 +35,9 @@ invariant_of-result c =
     let file = c.args.capture.now in
     let xs = c.in_ok-arrivals.arrivals.items in
     let keys = c.in_ok-tuples.tuples.keys in
-    let few : length file.packets ≤ 1048576 = omega (arith, c.len-records.ensures.value, c.len-records.ensures.most) in
+    let few : length file.packets ≤ most_records = omega (arith, c.len-records.ensures.value, c.len-records.ensures.most) in
     let last : c.last_time.result ≡ last_time file.packets = c.last_time.ensures.value in
-    let most : last_time file.packets ≤ 9007199254740992 = omega (arith, last, c.last_time.ensures.most) in
+    let most : last_time file.packets ≤ latest_time = omega (arith, last, c.last_time.ensures.most) in
     let is = made file xs keys _ c.in_ok-streams.streams.items c.sorted.inside.served _ _ c.in_ok-arrivals.ensures.value (c.in_ok-tuples.ensures ∙ ap tuples_in c.as_slice.ensures.value)
     (c.sorted.view_is ∙ c.in_ok-sorted.ensures ∙ ap (sorted_of keys) c.as_slice-2.ensures.value)
     (c.in_ok-streams.ensures ∙ (λ k. streams_in (c.last_time.ensures.value k) keys (ap (λ l. map (λ x. x.items) l) c.as_slice-3.ensures.value k)))
