@@ -39,9 +39,6 @@ became_all g c =
     let f = c.claim.ensures in
     became_claim c.of-owner-in-Claim.ensures (chose_claim g (goal.at.drain-pass-requires-in-Claim-clause-feeds g c).In-Claim) c.requires.some f.pass f.hand f.resident
 
-pub overflow_cast-chain : goal.overflow_cast-chain
-overflow_cast-chain g c = omega (arith, queue_fits c.requires.may c.turn-turn.ensures c.requires.some)
-
 pub overflow_add-chain_len : goal.overflow_add-chain_len
 overflow_add-chain_len g c =
     omega (arith, queue_fits c.requires.may c.turn-turn.ensures c.requires.some, queued_is c.chain_len-in-Fill.result c.turn-turn.ensures c.chain_len-in-Fill.ensures)
