@@ -87,7 +87,7 @@ next_segment (Segment at here iss seg ∷ xs) rec recs s e = record {
   where
     one : (m : ℕ) → m < 1 → first_record (drop m (Segment at here iss seg ∷ xs)) ≡ rec
     one zero lt = (cc)
-    one (suc m) lt = no_below {m = m} (omega (arith, lt))
+    one (suc m) lt = no_below {n = m} (omega (arith, lt))
 next_segment (Time at ∷ []) rec recs s e = absurd (let no : ⊥ = cc in no)
 next_segment (Time at ∷ (Time time ∷ xs)) rec recs s e = absurd s
 next_segment (Time at ∷ (Segment time here iss seg ∷ xs)) rec recs s e = record {
@@ -100,7 +100,7 @@ next_segment (Time at ∷ (Segment time here iss seg ∷ xs)) rec recs s e = rec
     two : (m : ℕ) → m < 2 → first_record (drop m (Time at ∷ (Segment time here iss seg ∷ xs))) ≡ rec
     two zero lt = (cc)
     two (suc zero) lt = (cc)
-    two (suc (suc m)) lt = no_below {m = m} (omega (arith, lt))
+    two (suc (suc m)) lt = no_below {n = m} (omega (arith, lt))
 
 one_left : (xs : List Item) → IsSpaced xs → records_of xs ≡ [] → length xs ≡ 1
 one_left [] s e = absurd s
