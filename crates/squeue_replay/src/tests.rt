@@ -1,6 +1,5 @@
 //! One history, mark by mark: what each mark says was processed, and a mark that isn't legal.
 
-
 use crate::{Mark, Run, Squeue, Step};
 use capture_reader::parse_capture;
 use conn_blocks::Calls;
