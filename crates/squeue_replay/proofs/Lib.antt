@@ -23,3 +23,4 @@ pub mod SameSetting
 pub mod Reading
 pub mod Making
 pub mod Adding
+pub mod ByStep
