@@ -15,7 +15,7 @@ use Rattle.squeue_replay.specs.declared.squeue.Squeue.{Squeue}
 use Rattle.squeue_replay.specs.declared.marks.Step.{Step}
 use Rattle.squeue_replay.specs.declared.marks.Step.TheVariants as step
 use Rattle.squeue_replay.specs.Histories.{note_of}
-use Rattle.squeue_replay.specs.Marks.{HasItsFeeds, fast_entry, mark_by, IsPrinted}
+use Rattle.squeue_replay.specs.Marks.{HasItsFeeds, mark_by, IsPrinted}
 use Rattle.squeue_replay.specs.Entering.{AreSmall, Follows}
 use Rattle.squeue_replay.specs.Replaying.{setting_of, squeue_of}
 use Rattle.squeue_replay.specs.Standing.{SqueueOf, Stands}
