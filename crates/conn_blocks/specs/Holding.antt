@@ -5,7 +5,9 @@ use Rattle.perimeter_core.specs.declared.entries.Act.{Act}
 use Rattle.perimeter_core.specs.declared.entries.Act.TheVariants as act
 use Rattle.byte_queues.specs.ReceiveQueue.{next_of}
 use Rattle.tcb_machine.specs.BlockState.{new_block, offered}
+use Rattle.conn_classifier.specs.Limits.{most_items}
 use Rattle.conn_classifier.specs.Plan.{PlanOf, items_in}
+use Rattle.conn_blocks.specs.Limits.{most_calls}
 use Rattle.conn_blocks.specs.declared.stages.Stage.{Stage}
 use Rattle.conn_blocks.specs.declared.stages.Stage.TheVariants as stage
 use Rattle.conn_blocks.specs.CallLists.{CallLists, calls_of}
@@ -71,8 +73,8 @@ pub record IsSettled (p : PlanOf) (calls : CallLists) (c : ℕ) (b : BlockOf) : 
   pub feeds : feed_numbers b.order ≡ range_with_len 0 (fed b)
   pub few_feeds : fed b ≤ length (items_in p c)
   pub asked : (j : ℕ) → Begins (call_numbers j b.order) (numbers_on calls c j)
-  pub few_items : length (items_in p c) ≤ 2097153
-  pub few_calls : calls_on calls c ≤ 4096
+  pub few_items : length (items_in p c) ≤ most_items
+  pub few_calls : calls_on calls c ≤ most_calls
   pub room : length (items_in p c) + calls_on calls c ≤ b.order_room
   pub answers_room : calls_on calls c ≤ b.answers_room
   pub table : (j k : ℕ) → j < 4 → k < length (calls_of calls j) → 4 * k + j < length b.stages
@@ -95,8 +97,8 @@ pub record IsNew (p : PlanOf) (calls : CallLists) (c : ℕ) (b : BlockOf) : Type
   pub short : b.short ≡ false
   pub stages : (longest : ℕ) × (b.stages ≡ replicate (4 * longest) stage.Unasked) × ((j : ℕ) → j < 4 → length (calls_of calls j) ≤ longest)
   pub threads : length calls ≡ 4
-  pub few_items : length (items_in p c) ≤ 2097153
-  pub few_calls : calls_on calls c ≤ 4096
+  pub few_items : length (items_in p c) ≤ most_items
+  pub few_calls : calls_on calls c ≤ most_calls
   pub room : length (items_in p c) + calls_on calls c ≤ b.order_room
   pub answers_room : calls_on calls c ≤ b.answers_room
 

@@ -2,6 +2,7 @@ pub mod Allowed
 pub mod CallLists
 pub mod Holding
 pub mod Homes
+pub mod Limits
 pub mod Orders
 pub mod PlaceLaws
 pub mod Places

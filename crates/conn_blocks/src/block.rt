@@ -4,7 +4,9 @@ ghost use Rattle.std.specs.Prelude.{◌≡◌, ◌+◌, ◌<◌, ◌≤◌, ◌^
 ghost use Rattle.std.specs.List.{AllByRecursion};
 ghost use Rattle.tcb_machine.specs.BlockState.{offered};
 ghost use Rattle.byte_queues.specs.ReceiveQueue.{next_of};
+ghost use Rattle.capture_reader.specs.Limits.{latest_time};
 ghost use Rattle.conn_classifier.specs.Plan.{items_in, time_of, text_len_of};
+ghost use Rattle.conn_blocks.specs.Limits.{most_calls};
 ghost use Rattle.conn_blocks.specs.Holding.{IsNew};
 ghost use Rattle.conn_blocks.specs.ServeOrder.{asks, receives, serve, serves_act, serving_of, IsActOf, IsDone, FeedsRise, IsTimely, SameOrder, SetsClock};
 
@@ -124,7 +126,7 @@ impl Block {
     /// An item of the connection is received.
     fn receive(&mut self, alloc: Global, item: Item, text: &[u8]) -> Result<(), AllocError>
         requires clock { self.old.tcb.clock ≤ time_of item }
-        requires time { time_of item ≤ 9007199254740992 }
+        requires time { time_of item ≤ latest_time }
         requires text { length text.now ≡ text_len_of item }
         requires received { next_of self.old.tcb.recv < 2 ^ 60 }
         requires offered { offered self.old.tcb < 2 ^ 60 }
@@ -257,7 +259,7 @@ pub fn serve_one(
     requires conn { c < length plan.now.tuples }
     requires acts { AllByRecursion (IsActOf plan.now calls.now c) order.now }
     requires rising { FeedsRise 0 order.now }
-    requires few { length order.now ≤ length (items_in plan.now c) + 4096 }
+    requires few { length order.now ≤ length (items_in plan.now c) + most_calls }
     ensures order { IfOk result (λ b. b.value.order ≡ order.now) }
     ensures whole { IfOk result (λ b. b.value.short ≡ false) }
     ensures served { IfOk result (λ b. serving_of b.value ≡ serve plan.now calls.now c order.now) }
@@ -276,7 +278,7 @@ fn serve_order(
     requires conn { c < length plan.now.tuples }
     requires acts { AllByRecursion (IsActOf plan.now calls.now c) order.now }
     requires rising { FeedsRise 0 order.now }
-    requires few { length order.now ≤ length (items_in plan.now c) + 4096 }
+    requires few { length order.now ≤ length (items_in plan.now c) + most_calls }
     ensures order { IfOk result (λ b. b.value.order ≡ order.now) }
     ensures whole { IfOk result (λ b. b.value.short ≡ false) }
     ensures served { IfOk result (λ b. serving_of b.value ≡ serve plan.now calls.now c order.now) }

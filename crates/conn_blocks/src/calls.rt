@@ -3,6 +3,7 @@
 ghost use Rattle.std.specs.Prelude.{◌≡◌, ℕ, ◌+◌, ◌<◌, ◌≤◌, [], ◌∷◌, ◌++◌, length, set, Some, OnOk, OnErr};
 ghost use Rattle.conn_blocks.specs.CallLists.{calls_of, call_at, call_count};
 ghost use Rattle.conn_blocks.specs.Holding.{calls_on};
+ghost use Rattle.conn_blocks.specs.Limits.{most_calls};
 ghost use Rattle.conn_blocks.specs.Orders.{numbers_from};
 
 use std::alloc::{AllocError, Global};
@@ -118,7 +119,7 @@ impl Calls {
     /// How many calls are on connection `c`.
     pub(crate) fn count_on(&self, c: u32) -> usize
         ensures value { result ≡ calls_on self.now c }
-        ensures most { result ≤ 4096 }
+        ensures most { result ≤ most_calls }
         ensures threads { length self.now ≡ 4 }
     {
         count_of(self.thread(0), c)

@@ -1,5 +1,6 @@
 //! How much each pass of a squeue may enter.
-ghost use Rattle.std.specs.Prelude.{◌≡◌, ◌<◌, ◌≤◌, ◌^◌, ℕ, IfOk, Some, length, map, slice_get};
+ghost use Rattle.std.specs.Prelude.{◌≡◌, ◌*◌, ◌<◌, ◌≤◌, ◌^◌, ℕ, IfOk, Some, length, map, slice_get};
+ghost use Rattle.capture_reader.specs.Limits.{most_records};
 ghost use Rattle.squeue_state.specs.Behind.{pairs};
 ghost use Rattle.squeue_rings.specs.Runs.{count, is_at};
 ghost use Rattle.ring_jobs.specs.declared.lines.Line.{Line as LineOf};
@@ -17,7 +18,7 @@ pub fn quotas_at(
     q: u32,
 ) -> Result<Vec<Quota>, AllocError>
     requires squeue { q < squeues }
-    requires few { (r : ℕ) (l : LineOf) → slice_get lines.now r ≡ Some l → length l.list.items ≤ 2097152 }
+    requires few { (r : ℕ) (l : LineOf) → slice_get lines.now r ≡ Some l → length l.list.items ≤ 2 * most_records }
     ensures { IfOk result (λ v. pairs v.items ≡ map (λ l. (count (is_at squeues 0 q) l.list.items, 0)) lines.now) }
 {
     let mut quotas = Vec::new(alloc);

@@ -9,6 +9,7 @@ ghost use Rattle.perimeter_core.specs.Blocks.{Blocks as Had};
 ghost use Rattle.perimeter_core.specs.Deeds.{fed as fed_in};
 ghost use Rattle.perimeter_core.specs.Residing.{HadFeeds};
 ghost use Rattle.conn_classifier.specs.Plan.{items_in};
+ghost use Rattle.conn_blocks.specs.Limits.{most_calls};
 ghost use Rattle.conn_blocks.specs.Allowed.{all_calls};
 ghost use Rattle.conn_blocks.specs.Holding.{calls_on};
 ghost use Rattle.conn_blocks.specs.Orders.{numbers_on};
@@ -242,7 +243,7 @@ fn give(
 /// How many calls there are on the connection.
 fn count_on(calls: &Calls, c: u32) -> usize
     ensures value { result ≡ calls_on calls.now c }
-    ensures most { result ≤ 4096 }
+    ensures most { result ≤ most_calls }
 {
     count_of(calls, c, 0) + count_of(calls, c, 1) + count_of(calls, c, 2) + count_of(calls, c, 3)
 }
