@@ -4,6 +4,7 @@ use Rattle.turn_gate.specs.Passes.{number, seen}
 use Rattle.turn_gate.specs.declared.pass.Pass.{Pass}
 use Rattle.perimeter_core.specs.declared.entries.Feed.{Feed}
 use Rattle.perimeter_core.specs.declared.resident.Resident.{Ghosts}
+use Rattle.perimeter_core.specs.contracts.logs.LogsResident.TheImpl.{ghosts}
 use Rattle.perimeter_core.specs.declared.marks.SynchAct.TheVariants as Done
 use Rattle.perimeter_core.specs.Deeds.{times_left}
 use Rattle.perimeter_core.specs.History.{Element, run}
@@ -16,7 +17,7 @@ use Rattle.synch_enter.specs.Synch.{Came, MayAsk, MayTake, StandsAtItsAsk}
 use Rattle.synch_enter.proofs.Knowing.{may_take}
 use Rattle.synch_enter.proofs.tests.beside.rings.Goals as goal
 
-module _ {R P O : Type 0} {G : Ghosts R P O} {s : Named R} {from to : Pass Element} {es : List Feed} (goes : GoesOn G.limits s from to) (idle : Idle (run (setting_of G.limits s.given) (seen to)) (number from)) (brought : Brought G.limits s es from to) where
+module _ {R P O : Type 0} (G : Ghosts R P O) {s : Named R} {from to : Pass Element} {es : List Feed} (goes : GoesOn G.limits s from to) (idle : Idle (run (setting_of G.limits s.given) (seen to)) (number from)) (brought : Brought G.limits s es from to) where
   -- an entry of feeds leaves the pass its Ask
   still_asks : MayAsk G.limits s from → MayAsk G.limits s to
   still_asks may =
@@ -38,11 +39,11 @@ pub take_block-log-requires : goal.take_block-log-requires
 take_block-log-requires g c =
     let entered = c.enter-entered.ensures in
     let came = c.synch_enter-owner.ensures in
-    (c.args.squeue.now, still_takes entered.entered.goes_on entered.entered.idle entered.brought c.synch_enter-owner.result c.requires.asks c.requires.ring c.requires.here c.requires.leaves came.came came.owner came.no_act)
+    (c.args.squeue.now, still_takes ghosts entered.entered.goes_on entered.entered.idle entered.brought c.synch_enter-owner.result c.requires.asks c.requires.ring c.requires.here c.requires.leaves came.came came.owner came.no_act)
 
 pub synch_exit-requires : goal.synch_exit-requires
 synch_exit-requires g c =
     let entered = c.enter-entered.ensures in
     let came = c.synch_enter-owner.ensures in
     (c.take_block-log.ensures.taken c.args.squeue.now
-    (still_takes entered.entered.goes_on entered.entered.idle entered.brought c.synch_enter-owner.result c.requires.asks c.requires.ring c.requires.here c.requires.leaves came.came came.owner came.no_act)).stands_at
+    (still_takes ghosts entered.entered.goes_on entered.entered.idle entered.brought c.synch_enter-owner.result c.requires.asks c.requires.ring c.requires.here c.requires.leaves came.came came.owner came.no_act)).stands_at
