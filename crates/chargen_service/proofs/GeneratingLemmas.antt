@@ -18,7 +18,8 @@ use Rattle.tcb_machine.specs.declared.kinds.State.TheVariants.{Listen, SynReceiv
 use Rattle.tcb_machine.proofs.KeepLemmas.{output-same, output-offered, time-less, time-offered}
 use Rattle.tcb_machine.proofs.QueueLemmas.{next_without}
 use Rattle.tcb_machine.proofs.ValidLemmas.{Moved, moves, as_new, Says, new-valid, moves-valid, moved-valid, segment-says, segment-next, segment-offered, output-moved, time-moved, wanting, without-receiving, new-out, not-listen}
-use Rattle.chargen_service.specs.Chargen.{Generating, new_generating, pattern_from, most_given, throws_ready, gives, gives_in, pump, followed, Entry, segment, time, enters, serves}
+use Rattle.chargen_service.specs.Limits.{most_given}
+use Rattle.chargen_service.specs.Chargen.{Generating, new_generating, pattern_from, throws_ready, gives, gives_in, pump, followed, Entry, segment, time, enters, serves}
 use Rattle.chargen_service.specs.WholeStream.{Whole, all_offered, follows, whole_followed, whole_enters, whole_serves, whole_new}
 use Rattle.chargen_service.proofs.PatternLemmas.{pattern_length, pattern_begins}
 use Rattle.tcb_machine.specs.Limits.{segment_growth}

@@ -9,6 +9,7 @@ use Rattle.tcb_machine.specs.Output.{output}
 use Rattle.tcb_machine.specs.TcpStep.{Verdict, over, go, on, tcp_segment}
 use Rattle.tcb_machine.specs.Timers.{tcp_time}
 use Rattle.tcb_machine.specs.declared.kinds.State.{State}
+use Rattle.chargen_service.specs.Limits.{most_given}
 use Rattle.tcb_machine.specs.declared.kinds.State.TheVariants.{Listen, SynReceived, Established, FinWait1, FinWait2, CloseWait, Closing, LastAck, TimeWait}
 
 -- a block, and how many bytes were offered in its life
@@ -27,10 +28,6 @@ pattern i = 32 + i % 95
 abbrev pub pattern_from : ℕ → ℕ → List ℕ
 pattern_from i zero = []
 pattern_from i (suc n) = pattern i ∷ pattern_from (i + 1) n
-
--- how many bytes are offered in a block's life at most
-abbrev pub most_given : ℕ
-most_given = 65535
 
 -- all that is ready is thrown away
 abbrev pub throws_ready : Block → Block

@@ -7,7 +7,8 @@ ghost use Rattle.tcb_machine.specs.BlockState.{offered};
 ghost use Rattle.tcb_machine.specs.CallAnswers.{wants_fin};
 ghost use Rattle.tcb_machine.specs.Room.{HasRoom};
 ghost use Rattle.tcb_machine.specs.TcpStep.{said};
-ghost use Rattle.chargen_service.specs.Chargen.{new_generating, enters, segment, time, followed, pump, gives, most_given};
+ghost use Rattle.chargen_service.specs.Chargen.{new_generating, enters, segment, time, followed, pump, gives};
+ghost use Rattle.chargen_service.specs.Limits.{most_given};
 ghost use Rattle.tcb_machine.specs.Limits.{last_time, whole_space};
 ghost use Rattle.byte_queues.specs.Limits.{send_space};
 

@@ -16,7 +16,7 @@ use Rattle.perimeter_core.specs.Deeds.{feed_numbers}
 use Rattle.conn_blocks.specs.Orders.{numbers_on, call_numbers}
 use Rattle.conn_blocks.specs.Holding.{fed, Begins, IsSettled, IsSound, ComesNext}
 use Rattle.conn_blocks.proofs.Counting.{few_acts}
-use Rattle.conn_blocks.specs.SettledFeeds.{feeds_append}
+use Rattle.perimeter_core.proofs.LogSteps.{feed_numbers-append}
 use Rattle.conn_blocks.proofs.Settling.{calls_append, calls_of_thread, calls_of_other}
 
 serves_more : (p : PlanOf) (calls : CallLists) (c : ℕ) (order : List Act) (a : Act) (s : Serving)
@@ -50,7 +50,7 @@ module _ (p : PlanOf) (calls : CallLists) (c : ℕ) (old : BlockOf) (is : IsSett
 
   module _ (a : Act) (next : ComesNext p calls c old.order a) (new : BlockOf) (longer : new.order ≡ old.order ++ a ∷ []) where
     feeds_now : feed_numbers new.order ≡ feed_numbers old.order ++ feed_numbers (a ∷ [])
-    feeds_now = ap feed_numbers longer ∙ feeds_append old.order (a ∷ [])
+    feeds_now = ap feed_numbers longer ∙ feed_numbers-append old.order (a ∷ [])
 
     counted : (a : Act) → ComesNext p calls c old.order a → feed_numbers new.order ≡ feed_numbers old.order ++ feed_numbers (a ∷ [])
         → (feed_numbers new.order ≡ range_with_len 0 (fed new)) × (fed new ≤ length (items_in p c))

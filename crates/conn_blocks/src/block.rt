@@ -237,8 +237,8 @@ impl Block {
     }
 }
 
-/// Connection `c` served on one thread: the acts in this order, from a new block. The feeds' numbers rise, and there are no more
-/// acts than an order has in which none stands twice. Fails only for want of memory.
+/// Connection `c` served on one thread: the acts in this order, from a new block. The feeds' numbers rise, and there are at most
+/// 4,096 acts more than the connection has items. Fails only for want of memory.
 ///
 /// # Example
 ///
@@ -259,7 +259,7 @@ pub fn serve_one(
     requires conn { c < length plan.now.tuples }
     requires acts { AllByRecursion (IsActOf plan.now calls.now c) order.now }
     requires rising { FeedsRise 0 order.now }
-    requires few { length order.now ≤ length (items_in plan.now c) + most_calls }
+    requires few { length order.now ≤ length (items_in plan.now c) + 4 * most_calls }
     ensures order { IfOk result (λ b. b.value.order ≡ order.now) }
     ensures whole { IfOk result (λ b. b.value.short ≡ false) }
     ensures served { IfOk result (λ b. serving_of b.value ≡ serve plan.now calls.now c order.now) }
@@ -278,7 +278,7 @@ fn serve_order(
     requires conn { c < length plan.now.tuples }
     requires acts { AllByRecursion (IsActOf plan.now calls.now c) order.now }
     requires rising { FeedsRise 0 order.now }
-    requires few { length order.now ≤ length (items_in plan.now c) + most_calls }
+    requires few { length order.now ≤ length (items_in plan.now c) + 4 * most_calls }
     ensures order { IfOk result (λ b. b.value.order ≡ order.now) }
     ensures whole { IfOk result (λ b. b.value.short ≡ false) }
     ensures served { IfOk result (λ b. serving_of b.value ≡ serve plan.now calls.now c order.now) }

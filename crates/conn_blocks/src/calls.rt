@@ -31,12 +31,13 @@ pub struct Calls {
 impl Model for Calls {
     ghost use Rattle.std.specs.Prelude.{◌≤◌, [], ◌∷◌};
     ghost use Rattle.conn_blocks.specs.CallLists.{CallLists, call_count};
+    ghost use Rattle.conn_blocks.specs.Limits.{most_calls};
 
     ghost Value = { CallLists };
 
     ghost view = { λ c. c.first.items ∷ c.second.items ∷ c.third.items ∷ c.fourth.items ∷ [] };
 
-    ghost invariant = { λ c. call_count (c.first.items ∷ c.second.items ∷ c.third.items ∷ c.fourth.items ∷ []) ≤ 1024 };
+    ghost invariant = { λ c. call_count (c.first.items ∷ c.second.items ∷ c.third.items ∷ c.fourth.items ∷ []) ≤ most_calls };
 }
 
 /// How many of a thread's calls are on connection `c`.
@@ -69,7 +70,7 @@ impl Calls {
     /// One more call of thread `j`, on connection `c`. Unchanged after NoMemory.
     pub fn push(&mut self, j: u32, c: u32, call: Call) -> Result<(), AllocError>
         requires thread { j < 4 }
-        requires few { call_count self.old < 1024 }
+        requires few { call_count self.old < most_calls }
         ensures ok { OnOk result (self.new ≡ set self.old j (calls_of self.old j ++ (c, call) ∷ [])) }
         ensures err { OnErr result (self.new ≡ self.old) }
     {
@@ -86,7 +87,7 @@ impl Calls {
     pub fn len(&self, j: u32) -> u32
         requires { j < 4 }
         ensures value { result ≡ length (calls_of self.now j) }
-        ensures most { result ≤ 1024 }
+        ensures most { result ≤ most_calls }
         ensures threads { length self.now ≡ 4 }
     {
         self.thread(j).len() as u32
@@ -105,7 +106,7 @@ impl Calls {
     fn thread(&self, j: u32) -> &[(u32, Call)]
         requires { j < 4 }
         ensures value { result.now ≡ calls_of self.now j }
-        ensures most { length result.now ≤ 1024 }
+        ensures most { length result.now ≤ most_calls }
         ensures threads { length self.now ≡ 4 }
     {
         match j {
@@ -117,21 +118,21 @@ impl Calls {
     }
 
     /// How many calls are on connection `c`.
-    pub(crate) fn count_on(&self, c: u32) -> usize
+    pub fn count_on(&self, c: u32) -> usize
         ensures value { result ≡ calls_on self.now c }
         ensures most { result ≤ most_calls }
         ensures threads { length self.now ≡ 4 }
     {
-        count_of(self.thread(0), c)
-            + count_of(self.thread(1), c)
-            + count_of(self.thread(2), c)
-            + count_of(self.thread(3), c)
+        count_of(self.first.as_slice(), c)
+            + count_of(self.second.as_slice(), c)
+            + count_of(self.third.as_slice(), c)
+            + count_of(self.fourth.as_slice(), c)
     }
 
     /// The most calls that a thread makes.
     pub(crate) fn longest(&self) -> u32
         ensures longest { (j : ℕ) → j < 4 → length (calls_of self.now j) ≤ result }
-        ensures most { result ≤ 1024 }
+        ensures most { result ≤ most_calls }
     {
         self.len(0)
             .max(self.len(1))

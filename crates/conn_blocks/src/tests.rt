@@ -5,6 +5,7 @@ ghost use Rattle.perimeter_core.specs.declared.entries.Act.TheVariants as Act;
 ghost use Rattle.perimeter_core.specs.Residing.{HadFeeds, NotHere};
 ghost use Rattle.conn_classifier.specs.Plan.{items_in};
 ghost use Rattle.conn_blocks.specs.Allowed.{all_calls};
+ghost use Rattle.conn_blocks.specs.Limits.{most_calls};
 ghost use Rattle.conn_blocks.specs.ServeOrder.{IsActOf, IsCallOn, FeedsRise};
 ghost use Rattle.perimeter_core.specs.Deeds.{feed_numbers};
 ghost use Rattle.conn_blocks.specs.Holding.{StandsFor};
@@ -105,7 +106,7 @@ fn can_serve(plan: &Plan, calls: &Calls, order: &[Act]) -> bool
     requires { 0 < length plan.now.tuples }
     ensures acts { result ≡ true → AllByRecursion (IsActOf plan.now calls.now 0) order.now }
     ensures rising { result ≡ true → FeedsRise 0 order.now }
-    ensures few { result ≡ true → length order.now ≤ length (items_in plan.now 0) + 4096 }
+    ensures few { result ≡ true → length order.now ≤ length (items_in plan.now 0) + 4 * most_calls }
 {
     if order.len() > 4096 {
         return false;

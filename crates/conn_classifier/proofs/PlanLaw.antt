@@ -3,6 +3,7 @@ use Rattle.std.proofs.Common.{◌≡◌, ℕ, ◌+◌, ◌*◌, ◌<◌, ◌≤�
 use Rattle.std.specs.List.{AllByRecursion, IsDistinct, filter_map}
 use Rattle.std.proofs.lemmas.List.{length-map, length-take, length-append}
 use Rattle.std.proofs.lemmas.Bool.{and_from}
+use Rattle.sq_base.specs.Ports.{is_served_port}
 use Rattle.sq_base.specs.declared.kinds.Tuple.{Tuple}
 use Rattle.segment_codec.specs.declared.packet.Packet.{Packet}
 use Rattle.segment_codec.specs.declared.packet.Packet.TheVariants as packet
@@ -15,7 +16,7 @@ use Rattle.conn_classifier.specs.Limits.{most_conns}
 use Rattle.conn_classifier.specs.declared.kinds.Arrival.{Arrival}
 use Rattle.conn_classifier.specs.declared.kinds.Item.{Item}
 use Rattle.conn_classifier.specs.declared.kinds.Item.TheVariants.{Time}
-use Rattle.conn_classifier.specs.Connections.{is_served_port, tuple_of, tuple_eq, served_in, served_tuple, distinct, conns, decoded}
+use Rattle.conn_classifier.specs.Connections.{tuple_of, tuple_eq, served_in, served_tuple, distinct, conns, decoded}
 use Rattle.conn_classifier.specs.Items.{Seen, arrivals, of_conn, items_after, items_of, conn_items}
 use Rattle.conn_classifier.specs.Plan.{plan_of, IsPlan, IsItems, IsInside, IsSpaced, Rises, seen}
 use Rattle.conn_classifier.specs.Sorting.{seen_of, SortedOf, sorted_of}

@@ -4,12 +4,13 @@ use Rattle.std.specs.List.{list_any, IsDistinct}
 use Rattle.std.specs.Option.{option_map, option_and_then}
 use Rattle.std.proofs.lemmas.Iterator.Adapters.{position_from-zero}
 use Rattle.std.proofs.lemmas.List.{map-append, map-set, length-map, get_or-map}
+use Rattle.sq_base.specs.Ports.{is_served_port}
 use Rattle.sq_base.specs.declared.kinds.Tuple.{Tuple}
 use Rattle.segment_codec.specs.declared.packet.Packet.{Packet}
 use Rattle.segment_codec.specs.declared.packet.Packet.TheVariants as packet
 use Rattle.segment_codec.specs.declared.packet.Seg.{Seg}
 use Rattle.capture_reader.specs.CaptureFile.{Packet as Captured}
-use Rattle.conn_classifier.specs.Connections.{is_served_port, tuple_of, tuple_eq, served_in}
+use Rattle.conn_classifier.specs.Connections.{tuple_of, tuple_eq, served_in}
 use Rattle.conn_classifier.specs.Classes.{class_in, counts_of}
 use Rattle.conn_classifier.specs.Items.{Seen, arrival, arrivals, of_conn}
 use Rattle.conn_classifier.specs.Sorting.{seen_of, number_in, conn_in, place_in, order_of, SortedOf, sorted_of, counted, total}

@@ -1,10 +1,11 @@
 -- What the records of a capture count as: each in exactly one class.
 use Rattle.std.specs.Prelude.{ℕ, ◌+◌, Bool, true, false, List, [], ◌∷◌, if◌then◌else◌}
 use Rattle.std.specs.List.{list_any}
+use Rattle.sq_base.specs.Ports.{is_served_port}
 use Rattle.sq_base.specs.declared.kinds.Tuple.{Tuple}
 use Rattle.segment_codec.specs.declared.packet.Packet.{Packet}
 use Rattle.segment_codec.specs.declared.packet.Packet.TheVariants as packet
-use Rattle.conn_classifier.specs.Connections.{is_served_port, tuple_of, tuple_eq}
+use Rattle.conn_classifier.specs.Connections.{tuple_of, tuple_eq}
 use Rattle.conn_classifier.specs.declared.kinds.Class.{Class}
 use Rattle.conn_classifier.specs.declared.kinds.Class.TheVariants as class
 use Rattle.conn_classifier.specs.declared.kinds.Counts.{Counts}

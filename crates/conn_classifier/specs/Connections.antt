@@ -1,22 +1,19 @@
 -- The connections of a capture: the distinct tuples of the segments to served ports, by first appearance, at most 4,096.
-use Rattle.std.specs.Prelude.{ℕ, ◌==◌, ◌||◌, ◌&&◌, not, Bool, List, [], ◌∷◌, take, map, filter, Option, None, Some, if◌then◌else◌}
+use Rattle.std.specs.Prelude.{◌==◌, ◌&&◌, not, Bool, List, [], ◌∷◌, take, map, filter, Option, None, Some, if◌then◌else◌}
 use Rattle.std.specs.List.{filter_map}
 use Rattle.std.specs.Option.{option_map}
+use Rattle.sq_base.specs.Ports.{is_served_port}
 use Rattle.sq_base.specs.declared.kinds.Tuple.{Tuple}
 use Rattle.capture_reader.specs.Outcome.{CaptureFile}
 use Rattle.segment_codec.specs.declared.packet.Packet.{Packet}
 use Rattle.segment_codec.specs.declared.packet.Packet.TheVariants as packet
 use Rattle.segment_codec.specs.declared.packet.Seg.{Seg}
 use Rattle.segment_codec.specs.Packet.{packet_in}
-use Rattle.conn_classifier.specs.Limits.{discard_port, echo_port, most_conns}
+use Rattle.conn_classifier.specs.Limits.{most_conns}
 
 -- what each record of a capture holds
 abbrev pub decoded : CaptureFile → Bool → List Packet
 decoded file verify = map (λ r. packet_in file.link r.body verify) file.packets
-
--- echo (RFC 862) and discard (RFC 863)
-abbrev pub is_served_port : ℕ → Bool
-is_served_port n = (n == echo_port) || (n == discard_port)
 
 -- the connection of a segment: its source is the client, its destination the server
 abbrev pub tuple_of : Seg → Tuple

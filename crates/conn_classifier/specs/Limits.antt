@@ -2,13 +2,6 @@
 use Rattle.std.specs.Prelude.{ℕ, ◌+◌, ◌*◌}
 use Rattle.capture_reader.specs.Limits.{most_records}
 
--- the ports that are served (RFC 862, RFC 863)
-abbrev pub echo_port : ℕ
-echo_port = 7
-
-abbrev pub discard_port : ℕ
-discard_port = 9
-
 -- the most connections of a plan: later ones don't fit
 abbrev pub most_conns : ℕ
 most_conns = 4096

@@ -2,13 +2,14 @@
 use Rattle.std.specs.Prelude.{sum_by, ℕ, ◌≡◌, ◌==◌, filter, ◌+◌, ◌<◌, ◌≤◌, Bool, true, List, [], ◌∷◌, take, drop, length, map, get_or, slice_get, IfSome}
 use Rattle.std.specs.List.{AllByRecursion}
 use Rattle.std.specs.Option.{option_map_or}
+use Rattle.sq_base.specs.Ports.{is_served_port}
 use Rattle.sq_base.specs.declared.kinds.Tuple.{Tuple}
 use Rattle.segment_codec.specs.Packet.{packet_in}
 use Rattle.capture_reader.specs.CaptureFile.{last_time}
 use Rattle.capture_reader.specs.Limits.{latest_time, most_records}
 use Rattle.capture_reader.specs.Outcome.{CaptureFile}
 use Rattle.conn_classifier.specs.Limits.{most_conns, most_items}
-use Rattle.conn_classifier.specs.Connections.{conns, decoded, is_served_port}
+use Rattle.conn_classifier.specs.Connections.{conns, decoded}
 use Rattle.conn_classifier.specs.Classes.{class_in, counts_of}
 use Rattle.conn_classifier.specs.Items.{Seen, conn_items}
 use Rattle.conn_classifier.specs.Sorting.{order_of}

@@ -63,12 +63,3 @@ counted class.BadSum c = record c { badsum = c.badsum + 1 }
 -- how many records were counted
 abbrev pub total : Counts → ℕ
 total c = c.served + c.nofit + c.server + c.other + c.fragment + c.cut + c.malformed + c.badsum
-
--- one more record: its number and time, its place, and its class where it is of no connection
-abbrev pub with_record : ℕ → ℕ → Option (ℕ × Seg) → Class → SortedOf → SortedOf
-with_record rec at None c s = record s { counts = counted c s.counts }
-with_record rec at (Some p) c s = record s {
-  lists = set s.lists p.0 (get_or s.lists p.0 [] ++ record { rec = rec; at = at; seg = p.1 } ∷ []);
-  order = s.order ++ p.0 ∷ [];
-  counts = counted class.Served s.counts;
-}

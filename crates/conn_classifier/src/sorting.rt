@@ -6,11 +6,11 @@ ghost use Rattle.conn_classifier.specs.Classes.{class_in, counts_of};
 ghost use Rattle.conn_classifier.specs.Sorting.{counted, total, place_in, sorted_of, seen_of};
 
 use crate::kinds::{Arrival, Class, Counts};
-use crate::tuples::{is_served, served, tuple};
+use crate::tuples::{served, tuple};
 use capture_reader::Capture;
 use indexmap::IndexSet;
 use segment_codec::{Packet, Seg};
-use sq_base::Tuple;
+use sq_base::{Tuple, is_served};
 use std::alloc::{AllocError, Global};
 use std::marker::Model;
 

@@ -1,21 +1,14 @@
 //! The connections of a capture: the distinct tuples of its served segments, by first appearance.
 
 ghost use Rattle.std.specs.Prelude.{◌≡◌, IfOk};
-ghost use Rattle.conn_classifier.specs.Connections.{conns, served_in, tuple_of, is_served_port};
+ghost use Rattle.conn_classifier.specs.Connections.{conns, served_in, tuple_of};
 
 use indexmap::IndexSet;
 use segment_codec::{Packet, Seg};
-use sq_base::Tuple;
+use sq_base::{Tuple, is_served};
 use std::alloc::{AllocError, Global};
 
 const MOST_CONNECTIONS: usize = 4096;
-
-/// Echo (RFC 862) and discard (RFC 863) are served.
-pub fn is_served(port: u16) -> bool
-    ensures { result ≡ is_served_port port }
-{
-    port == 7 || port == 9
-}
 
 /// A segment's connection: its source is the client, its destination the server.
 pub fn tuple(seg: &Seg) -> Tuple

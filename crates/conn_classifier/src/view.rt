@@ -4,7 +4,7 @@
 ghost use Rattle.std.specs.Prelude.{◌≡◌, ℕ, ◌<◌, ◌≤◌, true, length, slice_get, IfSome, Some};
 ghost use Rattle.capture_reader.specs.Limits.{latest_time};
 ghost use Rattle.conn_classifier.specs.Limits.{most_conns, most_items};
-ghost use Rattle.conn_classifier.specs.Connections.{is_served_port};
+ghost use Rattle.sq_base.specs.Ports.{is_served_port};
 ghost use Rattle.conn_classifier.specs.Plan.{items_in, time_of, text_of, text_len_of};
 
 use crate::kinds::Item;

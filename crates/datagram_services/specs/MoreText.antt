@@ -3,6 +3,7 @@ use Rattle.std.specs.Prelude.{ℕ, ◌-◌, ◌==◌, Bool, List, [], ◌∷◌,
 use Rattle.std.specs.List.{enumerate_from, flat_map}
 use Rattle.std.specs.Fmt.{decimal}
 use Rattle.hex.specs.Hex.{encode_lower}
+use Rattle.sq_base.specs.Ports.{chargen_port, echo_port}
 use Rattle.sq_base.specs.declared.kinds.Tuple.{Tuple}
 use Rattle.capture_reader.specs.Outcome.{CaptureFile}
 use Rattle.squeue_report.specs.ReportText.{done_line, end_field, end_line, line, reply_line}
@@ -11,15 +12,15 @@ use Rattle.stream_plan.specs.Streams.{MorePlanOf, StreamOf, item_count, more_pla
 use Rattle.stream_blocks.specs.declared.answer.Answer.{Answer}
 use Rattle.stream_blocks.specs.Served.{ServedOf, all_served}
 
--- by the server's port: 7 is echo and 9 discard, both over UDP, 19 the character generator over TCP
+-- by the server's port: echo and discard are served over UDP, the character generator over TCP
 abbrev pub is_generator : ℕ → Bool
-is_generator port = port == 19
+is_generator port = port == chargen_port
 
 abbrev pub protocol_word : ℕ → List ℕ
 protocol_word port = if is_generator port then codes "tcp" else codes "udp"
 
 abbrev pub service_word : ℕ → List ℕ
-service_word port = if is_generator port then codes "chargen" else if port == 7 then codes "echo" else codes "discard"
+service_word port = if is_generator port then codes "chargen" else if port == echo_port then codes "echo" else codes "discard"
 
 unfoldable pub counts_line : ℕ → Bool → Counts → ℕ → List ℕ
 counts_line records tail n streams = line (

@@ -10,17 +10,11 @@ ghost use Rattle.datagram_services.specs.Served.{IsMoreServed};
 
 use crate::served::MoreServed;
 use chargen_service::GenBlock;
-use sq_base::{Octets, Tuple};
+use sq_base::{CHARGEN_PORT, ECHO_PORT, Octets, Tuple};
 use squeue_report::{push_end, push_replies, state_name};
 use std::alloc::{AllocError, Global};
 use stream_blocks::Answer;
 use stream_plan::MorePlan;
-
-/// The port of the character generator (RFC 864).
-const GENERATOR: u16 = 19;
-
-/// The port of echo (RFC 862); the third service is discard (RFC 863).
-const ECHO: u16 = 7;
 
 /// The report of what was served of the plan: the counts, and for each stream its ends and service, its items, what was sent, and the
 /// generator's last state. Fails only for want of memory.
@@ -94,15 +88,15 @@ fn push_head(text: &mut String, c: u32, tuple: &Tuple) -> Result<(), AllocError>
 fn protocol_name(port: u16) -> &'static str
     ensures { result.now ≡ protocol_word port }
 {
-    if port == GENERATOR { "tcp" } else { "udp" }
+    if port == CHARGEN_PORT { "tcp" } else { "udp" }
 }
 
 fn service_name(port: u16) -> &'static str
     ensures { result.now ≡ service_word port }
 {
     match port {
-        GENERATOR => "chargen",
-        ECHO => "echo",
+        CHARGEN_PORT => "chargen",
+        ECHO_PORT => "echo",
         _ => "discard",
     }
 }
@@ -148,7 +142,7 @@ fn push_generated(
         ++ (if is_generator tuple.now.server_port then end_line generator.now.block.state else []))) }
 {
     push_replies(alloc, text, tuple, generator.tcb())?;
-    if tuple.server_port == GENERATOR {
+    if tuple.server_port == CHARGEN_PORT {
         writeln!(text, "end {}", state_name(generator.tcb().state()))?;
     }
     Ok(())

@@ -1,4 +1,3 @@
-pub mod Limits
 pub mod Pump
 pub mod Serving
 pub mod WholeStreams

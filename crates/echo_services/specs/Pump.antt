@@ -10,7 +10,7 @@ use Rattle.tcb_machine.specs.declared.kinds.State.{State}
 use Rattle.tcb_machine.specs.declared.kinds.State.TheVariants.{Listen, SynReceived, Established, FinWait1, FinWait2, CloseWait, Closing, LastAck, TimeWait}
 use Rattle.echo_services.specs.declared.service.Service.{Service}
 use Rattle.echo_services.specs.declared.service.Service.TheVariants.{Echo, Discard}
-use Rattle.echo_services.specs.Limits.{echo_port}
+use Rattle.sq_base.specs.Ports.{echo_port}
 
 abbrev pub throws : ℕ → Block → Block
 throws n b = record b { recv = without n b.recv }

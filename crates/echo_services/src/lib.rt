@@ -11,7 +11,7 @@ mod worked;
 pub use laws::{
     a_segment_adds_little, echo_offers_what_it_took, every_served_block_is_valid, serving_is_kept,
 };
-pub use service::{DISCARD_PORT, ECHO_PORT, Service, pump};
+pub use service::{Service, pump};
 pub use serving::{ask, serve, tick};
 pub use worked::{
     closed_by_a_call, exchanges, five_segment_echo, handshake_retransmissions, repeated_syn,

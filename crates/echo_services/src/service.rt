@@ -5,18 +5,13 @@ ghost use Rattle.tcb_machine.specs.BlockState.{offered};
 ghost use Rattle.echo_services.specs.Pump.{service_of, moves, ends, echoes, pump};
 ghost use Rattle.byte_queues.specs.ReceiveQueue.{next_of, ready_of};
 ghost use Rattle.byte_queues.specs.SendQueue.{room_of};
-ghost use Rattle.echo_services.specs.Limits.{discard_port, echo_port};
+ghost use Rattle.sq_base.specs.Ports.{discard_port, echo_port};
 ghost use Rattle.tcb_machine.specs.Limits.{whole_space};
 ghost use Rattle.byte_queues.specs.Limits.{send_space};
 
+use sq_base::ECHO_PORT;
 use std::alloc::{AllocError, Global};
 use tcb_machine::{State, Tcb};
-
-/// The port of echo (RFC 862).
-pub const ECHO_PORT: u16 = 7;
-
-/// The port of discard (RFC 863).
-pub const DISCARD_PORT: u16 = 9;
 
 /// The services of RFC 862 and RFC 863.
 #[derive(Clone, Copy, Debug, PartialEq, Eq)]

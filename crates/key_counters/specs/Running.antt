@@ -18,8 +18,8 @@ use Rattle.key_counters.specs.declared.job.Task.{Task}
 use Rattle.key_counters.specs.declared.job.Task.TheVariants as Task'
 
 -- One chain more was entered behind the feeds that `Before` tells of: n chains, each of so many feeds
-pub record NextChain {R : Type 0} (limits : R → Limits) (s : Named R) (mode : Mode) (budget most n : ℕ) (Before : List Feed → Pass Element
-    → Type 0) (es : List Feed) (to : Pass Element) : Type 0 where
+pub record NextChain {R : Type 0} (limits : R → Limits) (s : Named R) (mode : Mode) (budget most n : ℕ)
+    (Before : List Feed → Pass Element → Type 0) (es : List Feed) (to : Pass Element) : Type 0 where
   pub front : List Feed
   pub chain : List Feed
   pub at : Pass Element
@@ -43,8 +43,8 @@ pub record HasClosed {R : Type 0} (limits : R → Limits) (s : Named R) (es : Li
   pub same_number : number to ≡ number from
   pub closes : (at : Pass Element) × Added limits s at (closed_by (number from)) to
   pub next : (c : ℕ) → number from ≡ c % s.given.rings → due (seen to) c ≡ due (seen from) c + length (feeds_of c (entries es))
-  pub here : (c : ℕ) → number from ≡ c % s.given.rings → is_here (run (setting_of limits s.given) (seen to)) c
-      ≡ is_here (run (setting_of limits s.given) (seen from)) c
+  pub here : (c : ℕ) → number from ≡ c % s.given.rings
+      → is_here (run (setting_of limits s.given) (seen to)) c ≡ is_here (run (setting_of limits s.given) (seen from)) c
 
 -- The worker has seen the end
 pub record HasWorked {R : Type 0} (limits : R → Limits) (s : Named R) (from to : Pass Element) : Type 0 where

@@ -27,6 +27,5 @@ OthersStay = (now : ℕ) (s : Seg) (text : List ℕ) (sv : ServerOf) (other : Tu
 
 -- from a full table one connection leaves at most, and only one that is over or half open
 abbrev pub OnlyIdleLeave : Type 0
-OnlyIdleLeave = (places : ℕ) (cs left : Conns) → with_place places cs ≡ Some left
-    → (left ≡ cs)
+OnlyIdleLeave = (places : ℕ) (cs left : Conns) → with_place places cs ≡ Some left → (left ≡ cs)
     ⊎ ((place : ℕ) × (left ≡ remove cs place) × IfSome (slice_get cs place) (λ c. (is_over c.1 ≡ true) ⊎ (is_half_open c.1 ≡ true)))

@@ -1,5 +1,5 @@
 -- What a server makes of a datagram and of the time.
-use Rattle.std.specs.Prelude.{ℕ, ◌+◌, ◌%◌, ◌^◌, ◌==◌, ◌||◌, Bool, true, List, [], ◌∷◌, ◌++◌, map, if◌then◌else◌}
+use Rattle.std.specs.Prelude.{ℕ, ◌+◌, ◌%◌, ◌^◌, true, List, [], ◌∷◌, ◌++◌, map, if◌then◌else◌}
 use Rattle.std.specs.List.{flat_map}
 use Rattle.std.specs.Option.{option_map_or}
 use Rattle.echo_services.specs.Pump.{service_of}
@@ -17,7 +17,7 @@ use Rattle.live_server.specs.Acts.{datagram_of, emptied, reaches, receives, sent
 use Rattle.live_server.specs.Initial.{number_for}
 use Rattle.live_server.specs.Table.{Conns, block_at, is_over, place_of, with_place}
 use Rattle.live_server.specs.declared.acting.Datagram.{Datagram}
-use Rattle.echo_services.specs.Limits.{discard_port, echo_port}
+use Rattle.sq_base.specs.Ports.{is_served_port}
 
 -- the connections in the order in which they were opened, how many the table has place for, and how many found none
 pub record ServerOf : Type 0 where
@@ -52,16 +52,13 @@ on_segment now s text sv =
     let after = receives (service_of s.dst_port) now (number_for sv.secret now s) s text in
     option_map_or (λ place. goes_on place t (after (block_at place sv.conns)) sv) (place_of t sv.conns) (opens t (after new_block) sv)
 
--- echo (RFC 862) and discard (RFC 863)
-abbrev pub is_served : ℕ → Bool
-is_served port = (port == echo_port) || (port == discard_port)
-
 -- a segment elsewhere is answered by a reset (RFC 9293, 3.10.7.1)
 abbrev pub refused : ℕ → Seg → List Datagram
 refused now s = option_map_or (λ r. datagram_of (tuple_of s) r ∷ []) (refusal_of now s) []
 
 unfoldable pub on_packet : ℕ → List ℕ → Packet → ServerOf → Outcome
-on_packet now body (packet.Segment s) sv = if is_served s.dst_port then on_segment now s (text_in s body) sv else record { server = sv; sent = refused now s }
+on_packet now body (packet.Segment s) sv =
+    if is_served_port s.dst_port then on_segment now s (text_in s body) sv else record { server = sv; sent = refused now s }
 on_packet now body packet.Other sv = sends_nothing sv
 on_packet now body packet.Fragment sv = sends_nothing sv
 on_packet now body packet.Cut sv = sends_nothing sv

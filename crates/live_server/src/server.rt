@@ -5,17 +5,17 @@ ghost use Rattle.std.specs.Map.{values_of};
 ghost use Rattle.segment_codec.specs.Refusal.{tuple_of};
 ghost use Rattle.sq_base.specs.declared.kinds.Tuple.{Tuple};
 ghost use Rattle.live_server.specs.Initial.{number_for};
-ghost use Rattle.live_server.specs.Serving.{is_served, on_datagram, on_segment, on_time, opens, refused};
+ghost use Rattle.live_server.specs.Serving.{on_datagram, on_segment, on_time, opens, refused};
 ghost use Rattle.live_server.specs.Table.{gives_way, is_half_open, is_over, with_place, IsNew};
-ghost use Rattle.echo_services.specs.Limits.{discard_port, echo_port};
+ghost use Rattle.sq_base.specs.Ports.{discard_port, echo_port};
 ghost use Rattle.tcb_machine.specs.Limits.{last_time};
 
 use crate::acting::{Datagram, encoded, reach, receive, send, text_of};
 use crate::initial::{Secret, initial_number};
-use echo_services::{DISCARD_PORT, ECHO_PORT, Service};
+use echo_services::Service;
 use indexmap::IndexMap;
 use segment_codec::{Packet, Seg, decode, refusal, tuple_of};
-use sq_base::{Link, Tuple};
+use sq_base::{Link, Tuple, is_served};
 use std::alloc::{AllocError, Global};
 use std::marker::Model;
 use tcb_machine::{State, Tcb};
@@ -262,13 +262,6 @@ impl Server {
             0
         }
     }
-}
-
-/// Echo (RFC 862) and discard (RFC 863) are served.
-fn is_served(port: u16) -> bool
-    ensures { result ≡ is_served port }
-{
-    port == ECHO_PORT || port == DISCARD_PORT
 }
 
 /// A segment to a port that isn't served is answered by a reset.

@@ -104,8 +104,8 @@ pub fn acts_are_numbered()
 
 /// Where the ring of a connection is owner at its Ask, nothing of the connection is queued behind it.
 pub fn a_ring_at_its_ask_is_last()
-    ensures { (S : Setting) (H : List Element) (c : ℕ) → Legal S H → (run S H).own ≡ Own.Out (c % S.rings) → ((run S H).hand ≡ [])
-        ⊎ (ends_with_ask (c % S.rings) (run S H).hand ≡ true) → feeds_of c (run S H).chain ≡ [] }
+    ensures { (S : Setting) (H : List Element) (c : ℕ) → Legal S H → (run S H).own ≡ Own.Out (c % S.rings)
+        → ((run S H).hand ≡ []) ⊎ (ends_with_ask (c % S.rings) (run S H).hand ≡ true) → feeds_of c (run S H).chain ≡ [] }
 {}
 
 /// Where a connection was here and is here no more, an Out of it stands between.

@@ -3,3 +3,4 @@ pub mod InternetSum
 pub mod Ends
 pub mod MemoryEnds
 pub mod StatusCode
+pub mod Ports

@@ -64,8 +64,8 @@ Went S Way'.Claim p budget es H M to how = (how ≡ How'.Drained (length (run S 
     × DrainsFrom S p budget (H ++ claimed p es ∷ []) (M ++ claimed p es ∷ []) to
 
 -- The entry of es: its deciding turn found a legal history, and it went the way of the table for the state after it
-pub record HasEntered {R : Type 0} (limits : R
-    → Limits) (s : Named R) (mode : Mode) (budget : ℕ) (es : List Feed) (from : Pass Element) (r : Entered) : Type 0 where
+pub record HasEntered {R : Type 0} (limits : R → Limits) (s : Named R)
+    (mode : Mode) (budget : ℕ) (es : List Feed) (from : Pass Element) (r : Entered) : Type 0 where
   pub goes_on : GoesOn limits s from r.pass
   pub idle : Idle (run (setting_of limits s.given) (seen r.pass)) (number from)
   pub found : List Element
@@ -73,7 +73,8 @@ pub record HasEntered {R : Type 0} (limits : R
   pub legal : Legal (setting_of limits s.given) found
   pub own : only number_of (number from) found ≡ mine from
   pub went : Went (setting_of limits s.given)
-      (way_of mode (is_free (run (setting_of limits s.given) found).own) (is_empty (run (setting_of limits s.given) found).chain) (is_one es)) (number from) budget es found (mine from) r.pass r.how
+      (way_of mode (is_free (run (setting_of limits s.given) found).own) (is_empty (run (setting_of limits s.given) found).chain) (is_one es))
+      (number from) budget es found (mine from) r.pass r.how
   pub polling : r.polling ≡ (run (setting_of limits s.given) (seen r.pass)).polling
 
 -- The pass filled: a turn found a legal history, and queued the feeds
@@ -96,8 +97,8 @@ pub record Brought {R : Type 0} (limits : R → Limits) (s : Named R) (es : List
   pub feeds : feeds_by (number from) (seen to) ≡ feeds_by (number from) (seen from) + length es
   pub asks : asks_by (number from) (seen to) ≡ asks_by (number from) (seen from)
   pub next : (c : ℕ) → number from ≡ c % s.given.rings → due (seen to) c ≡ due (seen from) c + length (feeds_of c (entries es))
-  pub here : (c : ℕ) → number from ≡ c % s.given.rings → is_here (run (setting_of limits s.given) (seen to)) c
-      ≡ is_here (run (setting_of limits s.given) (seen from)) c
+  pub here : (c : ℕ) → number from ≡ c % s.given.rings
+      → is_here (run (setting_of limits s.given) (seen to)) c ≡ is_here (run (setting_of limits s.given) (seen from)) c
   pub left : (c : ℕ) → number from ≡ c % s.given.rings → times_left c (seen to) ≡ times_left c (seen from)
 
 -- What the pass might have entered behind these feeds it may enter now

@@ -2,7 +2,7 @@
 
 ghost use Rattle.std.specs.Prelude.{◌≡◌, ◌+◌, ◌<◌, ◌≤◌, ◌∷◌, ◌++◌, length, drop, map, true, IfOk, OnOk, string_bytes};
 ghost use Rattle.std.specs.List.{flat_map};
-ghost use Rattle.conn_classifier.specs.Connections.{is_served_port};
+ghost use Rattle.sq_base.specs.Ports.{is_served_port};
 ghost use Rattle.tcb_machine.specs.BlockState.{IsOurs};
 ghost use Rattle.conn_blocks.specs.CallLists.{CallLists};
 ghost use Rattle.conn_blocks.specs.ServeOrder.{serving_of};

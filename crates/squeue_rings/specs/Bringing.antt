@@ -28,8 +28,8 @@ pub record HasBrought {R : Type 0} (limits : R → Limits) (s : Named R) (mode :
 
 -- The connection of the feed was moved from its home before to that of the feed: out of the one squeue and into the other, with all
 -- that was done to its block as the note; the ring's two passes know it, and its others are as they were
-pub record HasMoved {R : Type 0} (limits : R
-    → Limits) (squeues spread : ℕ) (f : Feed) (ss : List (Named R)) (old new : List (Option (Pass Element))) : Type 0 where
+pub record HasMoved {R : Type 0} (limits : R → Limits) (squeues spread : ℕ)
+    (f : Feed) (ss : List (Named R)) (old new : List (Option (Pass Element))) : Type 0 where
   pub a : Named R
   pub b : Named R
   pub pa : Pass Element

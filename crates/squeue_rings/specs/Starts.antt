@@ -7,5 +7,5 @@ use Rattle.squeue_state.specs.Naming.{Named, setting_of}
 
 -- at the start each connection is here at the squeue of its first home
 abbrev pub StartAtHome : {R : Type 0} → (R → Limits) → ℕ → List (Named R) → Type 0
-StartAtHome limits squeues ss = Each (λ s. (c : ℕ) → c < length s.given.starts
-    → is_here (start (setting_of limits s.given)) c ≡ (c % squeues == s.given.number)) ss
+StartAtHome limits squeues ss =
+    Each (λ s. (c : ℕ) → c < length s.given.starts → is_here (start (setting_of limits s.given)) c ≡ (c % squeues == s.given.number)) ss

@@ -33,8 +33,8 @@ WorkersHold {R} P front count squeues lent = (q : ℕ) (s : Named R) → slice_g
     × (lent (front + count + q) ≡ Some x ∷ []) × P count s x
 
 -- So it is after the squeues are lent: this is so of each pass, by its number and its squeue
-pub record AreLent {R : Type 0} (P : ℕ → Named R → Pass Element → Type 0) (front count : ℕ) (squeues : List (Named R)) (lent : ℕ
-    → List (Option (Pass Element))) : Type 0 where
+pub record AreLent {R : Type 0} (P : ℕ → Named R → Pass Element → Type 0) (front count : ℕ) (squeues : List (Named R))
+    (lent : ℕ → List (Option (Pass Element))) : Type 0 where
   pub counts : Each (λ (s : Named R). length s.given.quotas ≡ count) squeues
   pub others : (p : ℕ) → p < count → AtEach (λ s o. Holds (P p s) o) squeues (lent (front + p))
   pub workers : WorkersHold P front count squeues lent
@@ -63,8 +63,8 @@ IsRoomFor n v = (v.items ≡ []) × (n ≤ vec_capacity v)
 
 -- The squeue ended: all its passes came back, its end is that of its setting, each pass has seen a beginning of its history and
 -- made what there carries its number, and the resident stands for what the history did
-pub record HasCome {R P O : Type 0} (G : Ghosts R P O) (front count q : ℕ) (s : Named R) (having without : ℕ
-    → List (Option (Pass Element))) (r : R) (e : Ending) (t : Traced) : Type 0 where
+pub record HasCome {R P O : Type 0} (G : Ghosts R P O) (front count q : ℕ) (s : Named R)
+    (having without : ℕ → List (Option (Pass Element))) (r : R) (e : Ending) (t : Traced) : Type 0 where
   pub passes : List (Pass Element)
   pub handed : AreHanded front count q passes without having
   pub its_number : e.number ≡ s.given.number

@@ -1,9 +1,9 @@
 -- What the items of a stream are served into, in order: echo answers each datagram with its own text (RFC 862), discard with
--- nothing (RFC 863), and the generator's block
--- is given each segment and each time.
+-- nothing (RFC 863), and the generator's block is given each segment and each time.
 use Rattle.std.specs.Prelude.{ℕ, ◌-◌, ◌==◌, List, [], ◌∷◌, take, drop, map, length, slice_get, if◌then◌else◌}
 use Rattle.std.specs.List.{flat_map}
 use Rattle.std.specs.Option.{option_map_or}
+use Rattle.sq_base.specs.Ports.{echo_port}
 use Rattle.sq_base.specs.declared.kinds.Tuple.{Tuple}
 use Rattle.capture_reader.specs.Outcome.{CaptureFile}
 use Rattle.udp_codec.specs.UdpBytes.{udp_bytes}
@@ -20,7 +20,9 @@ text_in file rec from len = take len (drop from (option_map_or (λ p. p.body) (s
 
 -- echo answers a datagram at its time with the same text, discard with nothing
 abbrev pub answers_to : CaptureFile → Tuple → Datagram → List Answer
-answers_to file t d = if t.server_port == 7 then record { at = d.at; datagram = udp_bytes t (text_in file d.rec d.udp.text_from d.udp.text_len) } ∷ [] else []
+answers_to file t d =
+    if t.server_port == echo_port then record { at = d.at; datagram = udp_bytes t (text_in file d.rec d.udp.text_from d.udp.text_len) } ∷ []
+    else []
 
 -- what the generator's block is given of an item
 abbrev pub entry_of : CaptureFile → Item → Entry

@@ -13,12 +13,10 @@ use crate::answer::Answer;
 use capture_reader::Capture;
 use chargen_service::GenBlock;
 use conn_classifier::Item;
-use sq_base::Tuple;
+use sq_base::{ECHO_PORT, Tuple};
 use std::alloc::{AllocError, Global};
 use stream_plan::Datagram;
 use udp_codec::encode_udp;
-
-const ECHO: u16 = 7;
 
 /// Echo answers the datagram at its time with the same text, discard with nothing. Fails only for want of memory.
 pub fn answer(
@@ -31,7 +29,7 @@ pub fn answer(
     requires { HasText capture.now datagram.now }
     ensures { OnOk result (answers.new.items ≡ answers.old.items ++ answers_to capture.now tuple.now datagram.now) }
 {
-    if tuple.server_port == ECHO {
+    if tuple.server_port == ECHO_PORT {
         let udp = datagram.udp;
         let text = text_at(capture, datagram.rec, udp.text_from, udp.text_len);
         let sent = encode_udp(alloc, tuple, text)?;

@@ -2,6 +2,7 @@
 use Rattle.std.proofs.Common.{◌≡◌, ℕ, ◌+◌, ◌<◌, ◌≤◌, ◌==◌, max, Bool, true, false, inl, inr, ◌⊎◌, List, [], ◌∷◌, suc, zero, length, map, Option, Some, None, IfSome, slice_get, refl, sym, ap, subst, ◌∙◌, arith}
 use Rattle.std.specs.List.{AllByRecursion}
 use Rattle.std.proofs.lemmas.Bool.Decides.{nat_tests}
+use Rattle.sq_base.specs.Ports.{chargen_port, discard_port, echo_port}
 use Rattle.sq_base.specs.declared.kinds.Tuple.{Tuple}
 use Rattle.segment_codec.specs.declared.packet.Packet.{Packet}
 use Rattle.segment_codec.specs.declared.packet.Packet.TheVariants as packet
@@ -9,6 +10,7 @@ use Rattle.segment_codec.specs.Packet.{packet_in}
 use Rattle.capture_reader.specs.CaptureFile.{Packet as Captured}
 use Rattle.capture_reader.specs.Limits.{latest_time}
 use Rattle.capture_reader.specs.Outcome.{CaptureFile}
+use Rattle.udp_codec.specs.Limits.{most_text}
 use Rattle.udp_codec.specs.declared.datagram.Udp.{Udp}
 use Rattle.udp_codec.specs.UdpDatagram.{udp_in}
 use Rattle.conn_classifier.specs.Items.{items_of}
@@ -27,33 +29,33 @@ use Rattle.stream_plan.proofs.UdpText.{udp_within}
 
 -- a datagram goes to echo or discard, a segment to the generator
 abbrev HasPort : Found → Type 0
-HasPort (found.Datagram u) = (u.dst_port ≡ 7) ⊎ (u.dst_port ≡ 9)
-HasPort (found.Segment s) = s.dst_port ≡ 19
+HasPort (found.Datagram u) = (u.dst_port ≡ echo_port) ⊎ (u.dst_port ≡ discard_port)
+HasPort (found.Segment s) = s.dst_port ≡ chargen_port
 
 -- the text lies within so many bytes, and that of a datagram is short enough to be sent
 abbrev EndsIn : ℕ → Found → Type 0
-EndsIn n (found.Datagram u) = (u.text_from + u.text_len ≤ n) × (u.text_len ≤ 65507)
+EndsIn n (found.Datagram u) = (u.text_from + u.text_len ≤ n) × (u.text_len ≤ most_text)
 EndsIn n (found.Segment s) = s.text_from + s.text_len ≤ n
 
 equals : (a b : ℕ) → (a == b) ≡ true → a ≡ b
 equals a b e = grind (arith, nat_tests, e)
 
-udp_found : (n : ℕ) (u : Udp) (f : Found) → u.text_from + u.text_len ≤ n → u.text_len ≤ 65507 → served_udp u ≡ Some f → HasPort f × EndsIn n f
-udp_found n u f le short e = by (u.dst_port == 7) (u.dst_port == 9) refl refl
+udp_found : (n : ℕ) (u : Udp) (f : Found) → u.text_from + u.text_len ≤ n → u.text_len ≤ most_text → served_udp u ≡ Some f → HasPort f × EndsIn n f
+udp_found n u f le short e = by (u.dst_port == echo_port) (u.dst_port == discard_port) refl refl
   where
-    is : (u.dst_port ≡ 7) ⊎ (u.dst_port ≡ 9) → Some (found.Datagram u) ≡ Some f → HasPort f × EndsIn n f
+    is : (u.dst_port ≡ echo_port) ⊎ (u.dst_port ≡ discard_port) → Some (found.Datagram u) ≡ Some f → HasPort f × EndsIn n f
     is port now = let same : found.Datagram u ≡ f = cc in subst (λ (f : Found). HasPort f × EndsIn n f) same (port, (le, short))
 
-    by : (a b : Bool) → (u.dst_port == 7) ≡ a → (u.dst_port == 9) ≡ b → HasPort f × EndsIn n f
-    by true b p q = is (inl (equals u.dst_port 7 p)) (rw p at e)
-    by false true p q = is (inr (equals u.dst_port 9 q)) (rw (p, q) at e)
+    by : (a b : Bool) → (u.dst_port == echo_port) ≡ a → (u.dst_port == discard_port) ≡ b → HasPort f × EndsIn n f
+    by true b p q = is (inl (equals u.dst_port echo_port p)) (rw p at e)
+    by false true p q = is (inr (equals u.dst_port discard_port q)) (rw (p, q) at e)
     by false false p q = absurd (let none : None ≡ Some f = rw (p, q) at e in let no : ⊥ = cc in no)
 
 tcp_found : (n : ℕ) (p : Packet) (f : Found) → EndsWithin n p → served_tcp p ≡ Some f → HasPort f × EndsIn n f
-tcp_found n (packet.Segment s) f le e = by (s.dst_port == 19) refl
+tcp_found n (packet.Segment s) f le e = by (s.dst_port == chargen_port) refl
   where
-    by : (b : Bool) → (s.dst_port == 19) ≡ b → HasPort f × EndsIn n f
-    by true p = let now : Some (found.Segment s) ≡ Some f = rw p at e in let same : found.Segment s ≡ f = cc in subst (λ (f : Found). HasPort f × EndsIn n f) same (equals s.dst_port 19 p, le)
+    by : (b : Bool) → (s.dst_port == chargen_port) ≡ b → HasPort f × EndsIn n f
+    by true p = let now : Some (found.Segment s) ≡ Some f = rw p at e in let same : found.Segment s ≡ f = cc in subst (λ (f : Found). HasPort f × EndsIn n f) same (equals s.dst_port chargen_port p, le)
     by false p = absurd (let none : None ≡ Some f = rw p at e in let no : ⊥ = cc in no)
 tcp_found n packet.Other f le e = absurd (let no : ⊥ = cc in no)
 tcp_found n packet.Fragment f le e = absurd (let no : ⊥ = cc in no)
@@ -109,43 +111,43 @@ module _ (file : CaptureFile) (last : ℕ) where
         by true e rest = rw e ((h.0, same (tuple_of x.found) t e), rest)
         by false e rest = rw e rest
 
-    not_both : (n : ℕ) → (n ≡ 7) ⊎ (n ≡ 9) → n ≡ 19 → ⊥
+    not_both : (n : ℕ) → (n ≡ echo_port) ⊎ (n ≡ discard_port) → n ≡ chargen_port → ⊥
     not_both n (inl a) b = omega (arith, a, b)
     not_both n (inr a) b = omega (arith, a, b)
 
     -- where the server's port is that of echo or discard, only datagrams are here
-    only_datagrams : (t.server_port ≡ 7) ⊎ (t.server_port ≡ 9) → (xs : List Arrived) → AllByRecursion (IsHere file last t) xs → (segments_of xs ≡ []) × (length (datagrams_of xs) ≡ length xs)
+    only_datagrams : (t.server_port ≡ echo_port) ⊎ (t.server_port ≡ discard_port) → (xs : List Arrived) → AllByRecursion (IsHere file last t) xs → (segments_of xs ≡ []) × (length (datagrams_of xs) ≡ length xs)
     only_datagrams port [] h = (refl, refl)
     only_datagrams port (x ∷ xs) h = by x.found refl (only_datagrams port xs h.1)
       where
         by : (f : Found) → x.found ≡ f → (segments_of xs ≡ []) × (length (datagrams_of xs) ≡ length xs) → (segments_of (x ∷ xs) ≡ []) × (length (datagrams_of (x ∷ xs)) ≡ length (x ∷ xs))
         by (found.Datagram u) e rest = rw e (rest.0, ap suc rest.1)
         by (found.Segment s) e rest =
-            let its : s.dst_port ≡ 19 = subst HasPort e h.0.0.port in
+            let its : s.dst_port ≡ chargen_port = subst HasPort e h.0.0.port in
             let here : s.dst_port ≡ t.server_port = ap (λ (t : Tuple). t.server_port) (ap tuple_of (sym e) ∙ h.0.1) in
             absurd (not_both t.server_port port (sym here ∙ its))
 
     -- where it is that of the generator, only segments
-    only_segments : t.server_port ≡ 19 → (xs : List Arrived) → AllByRecursion (IsHere file last t) xs → (datagrams_of xs ≡ []) × (length (segments_of xs) ≡ length xs)
+    only_segments : t.server_port ≡ chargen_port → (xs : List Arrived) → AllByRecursion (IsHere file last t) xs → (datagrams_of xs ≡ []) × (length (segments_of xs) ≡ length xs)
     only_segments port [] h = (refl, refl)
     only_segments port (x ∷ xs) h = by x.found refl (only_segments port xs h.1)
       where
         by : (f : Found) → x.found ≡ f → (datagrams_of xs ≡ []) × (length (segments_of xs) ≡ length xs) → (datagrams_of (x ∷ xs) ≡ []) × (length (segments_of (x ∷ xs)) ≡ length (x ∷ xs))
         by (found.Segment s) e rest = rw e (rest.0, ap suc rest.1)
         by (found.Datagram u) e rest =
-            let its : (u.dst_port ≡ 7) ⊎ (u.dst_port ≡ 9) = subst HasPort e h.0.0.port in
+            let its : (u.dst_port ≡ echo_port) ⊎ (u.dst_port ≡ discard_port) = subst HasPort e h.0.0.port in
             let here : u.dst_port ≡ t.server_port = ap (λ (t : Tuple). t.server_port) (ap tuple_of (sym e) ∙ h.0.1) in
-            absurd (not_both t.server_port (subst (λ (n : ℕ). (n ≡ 7) ⊎ (n ≡ 9)) here its) port)
+            absurd (not_both t.server_port (subst (λ (n : ℕ). (n ≡ echo_port) ⊎ (n ≡ discard_port)) here its) port)
 
     -- the server's port is one of these, where something is here
-    its_port : (xs : List Arrived) → 0 < length xs → AllByRecursion (IsHere file last t) xs → ((t.server_port ≡ 7) ⊎ (t.server_port ≡ 9)) ⊎ (t.server_port ≡ 19)
+    its_port : (xs : List Arrived) → 0 < length xs → AllByRecursion (IsHere file last t) xs → ((t.server_port ≡ echo_port) ⊎ (t.server_port ≡ discard_port)) ⊎ (t.server_port ≡ chargen_port)
     its_port [] some h = absurd (let no : ⊥ = omega (arith, some) in no)
     its_port (x ∷ xs) some h = by x.found refl
       where
-        by : (f : Found) → x.found ≡ f → ((t.server_port ≡ 7) ⊎ (t.server_port ≡ 9)) ⊎ (t.server_port ≡ 19)
+        by : (f : Found) → x.found ≡ f → ((t.server_port ≡ echo_port) ⊎ (t.server_port ≡ discard_port)) ⊎ (t.server_port ≡ chargen_port)
         by (found.Datagram u) e =
             let here : u.dst_port ≡ t.server_port = ap (λ (t : Tuple). t.server_port) (ap tuple_of (sym e) ∙ h.0.1) in
-            inl (subst (λ (n : ℕ). (n ≡ 7) ⊎ (n ≡ 9)) here (subst HasPort e h.0.0.port))
+            inl (subst (λ (n : ℕ). (n ≡ echo_port) ⊎ (n ≡ discard_port)) here (subst HasPort e h.0.0.port))
         by (found.Segment s) e =
             let here : s.dst_port ≡ t.server_port = ap (λ (t : Tuple). t.server_port) (ap tuple_of (sym e) ∙ h.0.1) in
             inr (sym here ∙ subst HasPort e h.0.0.port)
@@ -166,7 +168,7 @@ module _ (file : CaptureFile) (last : ℕ) where
     both_of None u h = tt
     both_of (Some r) u h = h.0
 
-    short_of : (rs : List Captured) (n : ℕ) (u : Udp) → n < length rs → IfSome (slice_get rs n) (λ r. EndsIn (length r.body) (found.Datagram u)) → u.text_len ≤ 65507
+    short_of : (rs : List Captured) (n : ℕ) (u : Udp) → n < length rs → IfSome (slice_get rs n) (λ r. EndsIn (length r.body) (found.Datagram u)) → u.text_len ≤ most_text
     short_of [] n u lt h = absurd (let no : ⊥ = omega (arith, lt) in no)
     short_of (r ∷ rs) zero u lt h = h.1
     short_of (r ∷ rs) (suc n) u lt h = short_of rs n u (omega (arith, lt)) h
@@ -198,10 +200,10 @@ module _ (file : CaptureFile) (last : ℕ) where
       inside = items_inside file last (segments_of xs) (all_segments xs h);
     }
       where
-        by : ((t.server_port ≡ 7) ⊎ (t.server_port ≡ 9)) ⊎ (t.server_port ≡ 19) → 0 < length (rising 0 (datagrams_of xs)) + length (items_of last (segments_of xs))
+        by : ((t.server_port ≡ echo_port) ⊎ (t.server_port ≡ discard_port)) ⊎ (t.server_port ≡ chargen_port) → 0 < length (rising 0 (datagrams_of xs)) + length (items_of last (segments_of xs))
         by (inl port) = omega (arith, some, length-rising 0 (datagrams_of xs), (only_datagrams port xs h).1)
         by (inr port) = let n = (only_segments port xs h).1 in omega (arith, some_items last (segments_of xs) (omega (arith, n, some)))
 
-        of : ((t.server_port ≡ 7) ⊎ (t.server_port ≡ 9)) ⊎ (t.server_port ≡ 19) → HasService (stream_in last t xs)
+        of : ((t.server_port ≡ echo_port) ⊎ (t.server_port ≡ discard_port)) ⊎ (t.server_port ≡ chargen_port) → HasService (stream_in last t xs)
         of (inl port) = inl (port, ap (items_of last) (only_datagrams port xs h).0)
         of (inr port) = inr (port, ap (rising 0) (only_segments port xs h).0)

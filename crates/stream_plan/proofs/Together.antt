@@ -11,6 +11,7 @@ use Rattle.conn_classifier.specs.Connections.{distinct, tuple_eq}
 use Rattle.conn_classifier.proofs.Conns.{same}
 use Rattle.conn_classifier.proofs.PlanLaw.{all_to, all_take, all_map, all_distinct, same_tuple, times_from, apart_take, apart_distinct}
 use Rattle.conn_classifier.proofs.Conns.{same}
+use Rattle.stream_plan.specs.Limits.{most_streams}
 use Rattle.stream_plan.specs.declared.kinds.Arrived.{Arrived}
 use Rattle.stream_plan.specs.declared.kinds.Found.{Found}
 use Rattle.stream_plan.specs.declared.kinds.Found.TheVariants as found
@@ -23,7 +24,7 @@ use Rattle.stream_plan.proofs.TupleSteps.{few_tuples}
 
 apart_tuples : (xs : List Arrived) → IsDistinct tuple_eq (tuples_in xs)
 unfolding tuples_in
-apart_tuples xs = apart_take 4096 (distinct (map (λ x. tuple_of x.found) xs)) (apart_distinct (map (λ x. tuple_of x.found) xs))
+apart_tuples xs = apart_take most_streams (distinct (map (λ x. tuple_of x.found) xs)) (apart_distinct (map (λ x. tuple_of x.found) xs))
 
 -- what is of another stream is not of this one
 elsewhere : (t u : Tuple) (xs : List Arrived) → tuple_eq t u ≡ false → of_stream u (filter (λ x. not (is_of t x)) xs) ≡ of_stream u xs
@@ -94,7 +95,7 @@ each_here (x ∷ xs) = (first_here x xs, all_to _ _ (one_more x xs) (map (λ x. 
 
 all_some : (xs : List Arrived) → AllByRecursion (λ t. 0 < length (of_stream t xs)) (tuples_in xs)
 unfolding tuples_in
-all_some xs = all_take _ 4096 (distinct (map (λ x. tuple_of x.found) xs)) (all_distinct _ (map (λ x. tuple_of x.found) xs) (each_here xs))
+all_some xs = all_take _ most_streams (distinct (map (λ x. tuple_of x.found) xs)) (all_distinct _ (map (λ x. tuple_of x.found) xs) (each_here xs))
 
 length-arrived : (file : CaptureFile) (n : ℕ) (rs : List Captured) → length (arrived_from file.link n rs) ≤ length rs
 length-arrived file n [] = omega arith

@@ -5,13 +5,14 @@ use Rattle.std.proofs.lemmas.Bool.Decides.{nat_tests}
 use Rattle.sq_base.specs.declared.kinds.Link.{Link}
 use Rattle.segment_codec.specs.Places.{byte, word, high}
 use Rattle.segment_codec.specs.Packet.{total_of}
+use Rattle.udp_codec.specs.Limits.{most_text}
 use Rattle.udp_codec.specs.declared.datagram.Udp.{Udp}
 use Rattle.udp_codec.specs.UdpDatagram.{header_of, ip_place, is_udp, is_whole, part_of, udp_at, udp_in, udp_of}
 
 -- the text ends within so many bytes, and is short enough to be sent
 pub record IsShortWithin (n : ℕ) (u : Udp) : Type 0 where
   pub within : u.text_from + u.text_len ≤ n
-  pub short : u.text_len ≤ 65507
+  pub short : u.text_len ≤ most_text
 
 left : (a b : Bool) → (a && b) ≡ true → a ≡ true
 left true b e = refl

@@ -1,8 +1,9 @@
 -- The streams of a capture: echo and discard over UDP (RFC 862, RFC 863) and the character generator over TCP, by first appearance,
 -- at most 4,096, each with its items.
-use Rattle.std.specs.Prelude.{ℕ, ◌+◌, ◌-◌, ◌==◌, ◌||◌, not, max, Bool, false}
+use Rattle.std.specs.Prelude.{ℕ, ◌+◌, ◌-◌, ◌==◌, not, max, Bool, false}
 use Rattle.std.specs.Prelude.{List, [], ◌∷◌, ◌++◌, take, map, filter, length, Option, None, Some, suc, if◌then◌else◌}
 use Rattle.std.specs.List.{filter_map, list_any}
+use Rattle.sq_base.specs.Ports.{chargen_port, is_served_port}
 use Rattle.sq_base.specs.declared.kinds.Link.{Link}
 use Rattle.sq_base.specs.declared.kinds.Tuple.{Tuple}
 use Rattle.capture_reader.specs.CaptureFile.{last_time, Packet as Captured}
@@ -16,6 +17,7 @@ use Rattle.conn_classifier.specs.Connections.{tuple_eq, distinct}
 use Rattle.conn_classifier.specs.Items.{items_of}
 use Rattle.conn_classifier.specs.declared.kinds.Arrival.{Arrival}
 use Rattle.conn_classifier.specs.declared.kinds.Item.{Item}
+use Rattle.stream_plan.specs.Limits.{most_streams}
 use Rattle.stream_plan.specs.declared.kinds.Found.{Found}
 use Rattle.stream_plan.specs.declared.kinds.Found.TheVariants as found
 use Rattle.stream_plan.specs.declared.kinds.Arrived.{Arrived}
@@ -24,10 +26,10 @@ use Rattle.stream_plan.specs.declared.kinds.Datagram.{Datagram}
 
 -- a datagram to echo or discard is served, and so is a segment to the generator
 abbrev pub served_udp : Udp → Option Found
-served_udp u = if (u.dst_port == 7) || (u.dst_port == 9) then Some (found.Datagram u) else None
+served_udp u = if is_served_port u.dst_port then Some (found.Datagram u) else None
 
 abbrev pub served_tcp : Packet → Option Found
-served_tcp (packet.Segment s) = if s.dst_port == 19 then Some (found.Segment s) else None
+served_tcp (packet.Segment s) = if s.dst_port == chargen_port then Some (found.Segment s) else None
 served_tcp packet.Other = None
 served_tcp packet.Fragment = None
 served_tcp packet.Cut = None
@@ -62,7 +64,7 @@ tuple_of (found.Segment s) = record { client = s.src; client_port = s.src_port; 
 
 -- the different streams, each where it comes first
 unfoldable pub tuples_in : List Arrived → List Tuple
-tuples_in xs = take 4096 (distinct (map (λ x. tuple_of x.found) xs))
+tuples_in xs = take most_streams (distinct (map (λ x. tuple_of x.found) xs))
 
 -- those of one stream, in record order
 abbrev pub is_of : Tuple → Arrived → Bool

@@ -6,15 +6,9 @@ ghost use Rattle.stream_plan.specs.Streams.{arrivals_of, served_in, served_tcp, 
 use crate::kinds::{Arrived, Found};
 use capture_reader::Capture;
 use segment_codec::{Packet, decode};
-use sq_base::{Link, Tuple};
+use sq_base::{CHARGEN_PORT, Link, Tuple, is_served};
 use std::alloc::{AllocError, Global};
 use udp_codec::{Udp, decode_udp};
-
-const ECHO: u16 = 7;
-
-const DISCARD: u16 = 9;
-
-const CHARGEN: u16 = 19;
 
 /// What is served of each record, in record order.
 pub fn arrivals_in(alloc: Global, capture: &Capture) -> Result<Vec<Arrived>, AllocError>
@@ -45,7 +39,7 @@ fn served(link: Link, body: &[u8]) -> Option<Found>
 fn served_udp(udp: Udp) -> Option<Found>
     ensures { result ≡ served_udp udp }
 {
-    if udp.dst_port == ECHO || udp.dst_port == DISCARD {
+    if is_served(udp.dst_port) {
         Some(Found::Datagram(udp))
     } else {
         None
@@ -56,7 +50,7 @@ fn served_tcp(packet: &Packet) -> Option<Found>
     ensures { result ≡ served_tcp packet.now }
 {
     match packet {
-        Packet::Segment(seg) if seg.dst_port == CHARGEN => Some(Found::Segment(*seg)),
+        Packet::Segment(seg) if seg.dst_port == CHARGEN_PORT => Some(Found::Segment(*seg)),
         _ => None,
     }
 }

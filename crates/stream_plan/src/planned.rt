@@ -2,6 +2,7 @@
 
 ghost use Rattle.std.specs.Prelude.{◌≡◌, ◌*◌, ◌<◌, ◌≤◌, length, slice_get, IfSome, Some};
 ghost use Rattle.capture_reader.specs.Limits.{most_records};
+ghost use Rattle.stream_plan.specs.Limits.{most_streams};
 ghost use Rattle.stream_plan.specs.Sound.{IsMorePlan};
 ghost use Rattle.stream_plan.specs.Streams.{item_count};
 
@@ -94,7 +95,7 @@ impl<'c> MorePlan<'c> {
     /// How many streams there are.
     pub fn streams(&self) -> u32
         ensures value { result ≡ length self.now.streams }
-        ensures most { result ≤ 4096 }
+        ensures most { result ≤ most_streams }
     {
         self.streams.len() as u32
     }

@@ -16,7 +16,7 @@ use Rattle.perimeter_core.proofs.FeedLists.{feeds_of-append, length-up, up-appen
 use Rattle.perimeter_core.proofs.FeedOrder.{in_order, queue_after, runs_grow}
 use Rattle.perimeter_core.proofs.NextFeed.{fed-append, fed_call, fed_feeds, had}
 use Rattle.perimeter_core.proofs.NumberedActs.{numbers_feeds, up_front}
-use Rattle.conn_blocks.specs.SettledFeeds.{feeds_append}
+use Rattle.perimeter_core.proofs.LogSteps.{feed_numbers-append}
 use Rattle.conn_migrate.specs.Stays.{Stay, Stays, all_in, as_list, begun, longer_by, stays}
 use Rattle.conn_migrate.proofs.OneSqueue.{GoesOnWith, fits, stays_push}
 
@@ -28,7 +28,7 @@ none_fed (Did.Call j k ∷ xs) h = none_fed xs h
 -- the numbers of what a mark reports
 pub numbers_reported : (c : ℕ) (s : State) (m : Mark) → feed_numbers (reported c s m) ≡ feeds_of c (done_by s m)
 numbers_reported c s m =
-    feeds_append (feed_acts c (done_by s m)) (call_act c m)
+    feed_numbers-append (feed_acts c (done_by s m)) (call_act c m)
     ∙ ((λ i. numbers_feeds c (done_by s m) i ++ none_fed (call_act c m) (fed_call c m) i) ∙ append-nil (feeds_of c (done_by s m)))
 
 fed_reported : (c : ℕ) (s : State) (m : Mark) → fed (reported c s m) ≡ length (feeds_of c (done_by s m))
@@ -86,7 +86,7 @@ GoesOn more (Some v) = feed_numbers more ≡ up (fed v.note + fed v.own) (fed mo
 counted_longer : (more had : List Act) (o : Option Stay) → NowCounted o → GoesOn more o → NowCounted (longer_by more had o)
 counted_longer more had None h g = tt
 counted_longer more had (Some v) h g =
-    feeds_append v.own more ∙ ((λ i. h i ++ g i) ∙ (up-append (fed v.note) (fed v.own) (fed more) ∙ ap (up (fed v.note)) (sym (fed-append v.own more))))
+    feed_numbers-append v.own more ∙ ((λ i. h i ++ g i) ∙ (up-append (fed v.note) (fed v.own) (fed more) ∙ ap (up (fed v.note)) (sym (fed-append v.own more))))
 
 counted_after : (a b : Bool) (more had note : List Act) (v : Stays) → StaysCounted v → GoesOn more v.now
     → StaysCounted (if a then record { ended = all_in v; now = Some (begun note) }

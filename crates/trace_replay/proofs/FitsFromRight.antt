@@ -24,7 +24,8 @@ use Rattle.conn_classifier.specs.Plan.{PlanOf, items_in}
 use Rattle.conn_blocks.specs.CallLists.{CallLists}
 use Rattle.conn_blocks.specs.Homes.{times_leaving}
 use Rattle.conn_blocks.specs.Orders.{settle}
-use Rattle.conn_blocks.specs.SettledFeeds.{feeds_append, feeds_settle}
+use Rattle.perimeter_core.proofs.LogSteps.{feed_numbers-append}
+use Rattle.conn_blocks.specs.SettledFeeds.{feeds_settle}
 use Rattle.squeue_rings.specs.Keeping.{KeepsPace}
 use Rattle.squeue_rings.specs.Noted.{AreNoted}
 use Rattle.squeue_rings.proofs.StaysSeen.{ended_count}
@@ -146,7 +147,7 @@ module _ (p : PlanOf) (calls : CallLists) (setup : Setup) (some : 0 < setup.sque
 
       parts_joined : (n : ℕ) → first_parts part n ≡ feed_numbers (joined ks c n)
       parts_joined zero = refl
-      parts_joined (suc n) = ap (λ (l : List ℕ). l ++ part n) (parts_joined n) ∙ sym (feeds_append (joined ks c n) (own_of (stay ks c n)))
+      parts_joined (suc n) = ap (λ (l : List ℕ). l ++ part n) (parts_joined n) ∙ sym (feed_numbers-append (joined ks c n) (own_of (stay ks c n)))
 
       is_part : 1 < S → 0 < setup.spread → (t : ℕ) → IsPart setup.spread t (part t)
       is_part several moves t = by (stay ks c t) refl

@@ -14,7 +14,7 @@ use Rattle.perimeter_core.specs.Backlog.{queue, up}
 use Rattle.perimeter_core.proofs.OrderAndWake.{order}
 use Rattle.perimeter_core.proofs.FeedLists.{feeds_of-append}
 use Rattle.squeue_enter.specs.declared.Mode.{Mode}
-use Rattle.conn_blocks.specs.SettledFeeds.{feeds_append}
+use Rattle.perimeter_core.proofs.LogSteps.{feed_numbers-append}
 use Rattle.conn_blocks.specs.Homes.{home}
 use Rattle.conn_migrate.specs.Stays.{Stay, all_in, done_in, reports_from, stays}
 use Rattle.squeue_rings.specs.Keeping.{AreHome, KeepsFrom, KeepsPace}
@@ -78,15 +78,15 @@ module _ (squeues spread q : ℕ) where
     numbers_done : (c : ℕ) (H : List Element) (s : State) → feed_numbers (reports_from c s H) ≡ feeds_of c (done_from s H)
     numbers_done c [] s = refl
     numbers_done c (e ∷ H) s =
-        feeds_append (reported c s e.mark) (reports_from c (after s e.mark) H)
+        feed_numbers-append (reported c s e.mark) (reports_from c (after s e.mark) H)
         ∙ ((λ i. numbers_reported c s e.mark i ++ numbers_done c H (after s e.mark) i) ∙ sym (feeds_of-append c (done_by s e.mark) (done_from (after s e.mark) H)))
 
     own_home : (c : ℕ) (vs : List Stay) (i : ℕ) (v : Stay) → HomeAt squeues spread q c (feed_numbers (done_in vs)) → slice_get vs i ≡ Some v → HomeAt squeues spread q c (feed_numbers v.own)
     own_home c [] i v h at = absurd (let no : ⊥ = cc at in no)
     own_home c (w ∷ vs) zero v h at =
         let e : w ≡ v = cc at in
-        subst (λ (u : Stay). HomeAt squeues spread q c (feed_numbers u.own)) e (at_front c (feed_numbers w.own) (feed_numbers (done_in vs)) (subst (HomeAt squeues spread q c) (feeds_append w.own (done_in vs)) h))
-    own_home c (w ∷ vs) (suc i) v h at = own_home c vs i v (at_back c (feed_numbers w.own) (feed_numbers (done_in vs)) (subst (HomeAt squeues spread q c) (feeds_append w.own (done_in vs)) h)) at
+        subst (λ (u : Stay). HomeAt squeues spread q c (feed_numbers u.own)) e (at_front c (feed_numbers w.own) (feed_numbers (done_in vs)) (subst (HomeAt squeues spread q c) (feed_numbers-append w.own (done_in vs)) h))
+    own_home c (w ∷ vs) (suc i) v h at = own_home c vs i v (at_back c (feed_numbers w.own) (feed_numbers (done_in vs)) (subst (HomeAt squeues spread q c) (feed_numbers-append w.own (done_in vs)) h)) at
 
     pub stay_home : (H : List Element) → Legal S H → ((r : ℕ) → r < S.rings → KeepsPace squeues spread mode budget q S r H)
         → (c i : ℕ) (v : Stay) → slice_get (all_in (stays S H c)) i ≡ Some v → HomeAt squeues spread q c (feed_numbers v.own)

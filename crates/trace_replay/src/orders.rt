@@ -9,10 +9,7 @@ ghost use Rattle.perimeter_core.specs.Blocks.{Blocks as Had};
 ghost use Rattle.perimeter_core.specs.Deeds.{fed as fed_in};
 ghost use Rattle.perimeter_core.specs.Residing.{HadFeeds};
 ghost use Rattle.conn_classifier.specs.Plan.{items_in};
-ghost use Rattle.conn_blocks.specs.Limits.{most_calls};
 ghost use Rattle.conn_blocks.specs.Allowed.{all_calls};
-ghost use Rattle.conn_blocks.specs.Holding.{calls_on};
-ghost use Rattle.conn_blocks.specs.Orders.{numbers_on};
 ghost use Rattle.conn_blocks.specs.Places.{Stands, origin_of};
 ghost use Rattle.ring_quotas.specs.Quotas.{IsInRange};
 ghost use Rattle.ring_threads.specs.ServedBlocks.{AreServed};
@@ -23,7 +20,7 @@ ghost use Rattle.trace_replay.specs.Joining.{IsNamed, LacksAStay, did_before, di
 ghost use Rattle.trace_replay.specs.Reasons.{AreOrdered, AreRight, IsUnordered};
 
 use crate::reason::{Reason, Refusal};
-use conn_blocks::{Block, Blocks, Calls};
+use conn_blocks::{Block, Blocks};
 use perimeter_core::{Act, Resident};
 use ring_threads::Served;
 use squeue_replay::{Guest, Run};
@@ -100,7 +97,7 @@ fn serve_order(
     if block.short() {
         return Err(AllocError);
     }
-    let whole = run.plan.items(c) as usize + count_on(run.calls, c);
+    let whole = run.plan.items(c) as usize + run.calls.count_on(c);
     Ok((block.order().len() == whole).then_some(block))
 }
 
@@ -238,27 +235,4 @@ fn give(
         }
     }
     true
-}
-
-/// How many calls there are on the connection.
-fn count_on(calls: &Calls, c: u32) -> usize
-    ensures value { result ≡ calls_on calls.now c }
-    ensures most { result ≤ most_calls }
-{
-    count_of(calls, c, 0) + count_of(calls, c, 1) + count_of(calls, c, 2) + count_of(calls, c, 3)
-}
-
-/// How many calls of thread `j` are on the connection.
-fn count_of(calls: &Calls, c: u32, j: u32) -> usize
-    requires { j < 4 }
-    ensures value { result ≡ length (numbers_on calls.now c j) }
-    ensures most { result ≤ 1024 }
-{
-    let mut count = 0;
-    for k in 0..calls.len(j) {
-        if calls.get(j, k).0 == c {
-            count += 1;
-        }
-    }
-    count
 }

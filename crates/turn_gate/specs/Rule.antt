@@ -62,8 +62,8 @@ module _ {T E : Type 0} (stands : T → List E → Type 0) (num : E → ℕ) whe
     pub small : r.number < n
 
   -- what the view of seat j says; the queue is the list of the numbers that have a ticket, in order of the tickets
-  pub record Fits (n : ℕ) (lock : ℕ) (story : List E) (place : ℕ
-      → ℕ) (queue : List ℕ) (homes : List (mo.Option (Option (Kept T)))) (j : ℕ) (v : View E) : Type 0 where
+  pub record Fits (n : ℕ) (lock : ℕ) (story : List E) (place : ℕ → ℕ)
+      (queue : List ℕ) (homes : List (mo.Option (Option (Kept T)))) (j : ℕ) (v : View E) : Type 0 where
     pub rows : Each (Knows n story place j) v.rows
     -- its ticket is out
     pub waits : (t : ℕ) → v.ticket ≡ Some t → (r : Row E) × (i : ℕ) × (v.rows ≡ r ∷ []) × (get_elem? queue i ≡ mo.some r.number) × (t ≡ ticket_at lock i)
@@ -131,8 +131,8 @@ module _ {T E : Type 0} (stands : T → List E → Type 0) (num : E → ℕ) whe
 module _ {T E : Type 0} where
   -- the store of the count: the elements joined the history
   abbrev pub added : List E → Step (Option (Kept T)) → Me (Option (Kept T)) (View E) → ℕ → Me (Option (Kept T)) (View E) → Type 0
-  added es st m found w = (st.word ≡ 1) × ((r : Row E) → m.0.rows ≡ r ∷ []
-      → w ≡ (view (row r.number (r.seen ++ es) (r.mine ++ es) ∷ []) m.0.ticket m.0.has m.0.steps, m.1))
+  added es st m found w =
+      (st.word ≡ 1) × ((r : Row E) → m.0.rows ≡ r ∷ [] → w ≡ (view (row r.number (r.seen ++ es) (r.mine ++ es) ∷ []) m.0.ticket m.0.has m.0.steps, m.1))
 
   -- the fetch-add of 1: a ticket was drawn, the one behind all that were out
   abbrev pub drew : Step (Option (Kept T)) → Me (Option (Kept T)) (View E) → ℕ → Me (Option (Kept T)) (View E) → Type 0

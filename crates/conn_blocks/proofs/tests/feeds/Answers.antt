@@ -1,7 +1,7 @@
 use Rattle.std.proofs.Common.{ℕ, ◌++◌, ◌∷◌, [], length, take, sym, ap, ◌∙◌, arith}
 use Rattle.std.proofs.lemmas.List.{append-nil, length_push, take_more}
 use Rattle.perimeter_core.specs.Deeds.{feed_numbers}
-use Rattle.conn_blocks.specs.SettledFeeds.{feeds_append}
+use Rattle.perimeter_core.proofs.LogSteps.{feed_numbers-append}
 use Rattle.conn_blocks.proofs.tests.feeds.Goals.{in-Feed, in-Call}
 use Rattle.conn_blocks.proofs.tests.feeds.Goals as goal
 
@@ -10,7 +10,7 @@ loop-act-preserved c =
     let xs = c.args.order.now in
     let i = c.loop-act.act-index in
     let so_far = c.loop-act.invariant in
-    let more = ap feed_numbers (take_more xs i _ c.loop-act-test.true) ∙ feeds_append (take i xs) (_ ∷ []) in
+    let more = ap feed_numbers (take_more xs i _ c.loop-act-test.true) ∙ feed_numbers-append (take i xs) (_ ∷ []) in
     elim c.match-act.branch [
       | in-Feed w ↦
           let one = more ∙ ap (λ a. feed_numbers (take i xs) ++ feed_numbers (a ∷ [])) w.in-Feed.is in
