@@ -1,8 +1,9 @@
 -- The items of a connection: its segments in record order, each with its time and hint, and the times between and behind them.
-use Rattle.std.specs.Prelude.{ℕ, ◌==◌, ◌&&◌, ◌+◌, ◌%◌, not, nat_le, max, bit_and, Bool, List, [], ◌∷◌, ◌++◌, filter, Option, None, Some, suc, if◌then◌else◌}
+use Rattle.std.specs.Prelude.{ℕ, ◌==◌, ◌&&◌, ◌+◌, ◌%◌, not, nat_le, max, Bool, List, [], ◌∷◌, ◌++◌, filter, Option, None, Some, suc, if◌then◌else◌}
 use Rattle.std.specs.List.{find}
 use Rattle.std.specs.Option.{option_map_or}
 use Rattle.sq_base.specs.declared.kinds.Tuple.{Tuple}
+use Rattle.segment_codec.specs.ControlBits.{has_ack, has_rst, has_syn}
 use Rattle.segment_codec.specs.declared.packet.Packet.{Packet}
 use Rattle.segment_codec.specs.declared.packet.Seg.{Seg}
 use Rattle.conn_classifier.specs.Limits.{least_gap}
@@ -29,29 +30,20 @@ arrivals n (x ∷ xs) = arrival n x.0 (served_in x.1) ++ arrivals (suc n) xs
 unfoldable pub of_conn : Tuple → List Seen → List Arrival
 of_conn t xs = filter (λ a. tuple_eq (tuple_of a.seg) t) (arrivals 0 xs)
 
-abbrev pub syn : Seg → Bool
-syn s = bit_and s.flags 2 == 2
-
-abbrev pub rst : Seg → Bool
-rst s = bit_and s.flags 4 == 4
-
-abbrev pub ack : Seg → Bool
-ack s = bit_and s.flags 16 == 16
-
 -- a later segment that decides the hint of a SYN with this sequence number: a SYN with another number, or else an ACK that is no reset
 abbrev pub decides : ℕ → Arrival → Bool
-decides seq a = if syn a.seg then not (a.seg.seq == seq) else (not (rst a.seg) && ack a.seg)
+decides seq a = if has_syn a.seg then not (a.seg.seq == seq) else (not (has_rst a.seg) && has_ack a.seg)
 
 -- what the deciding segment says: a SYN nothing, an ACK the number before the one that it acknowledges
 abbrev pub says : Arrival → ℕ
-says a = if syn a.seg then 0 else (a.seg.ack + 4294967295) % 4294967296
+says a = if has_syn a.seg then 0 else (a.seg.ack + 4294967295) % 4294967296
 
 unfoldable pub looked : ℕ → List Arrival → ℕ
 looked seq later = option_map_or says (find (decides seq) later) 0
 
 -- the initial sequence number that the later segments acknowledge, for a SYN
 abbrev pub hint : Seg → List Arrival → ℕ
-hint s later = if syn s then looked s.seq later else 0
+hint s later = if has_syn s then looked s.seq later else 0
 
 -- the time item before a segment that comes at least 100,000 microseconds after the last one
 abbrev pub gap : ℕ → ℕ → List Item

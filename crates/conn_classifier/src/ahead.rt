@@ -1,10 +1,11 @@
 //! The hints of a connection's segments.
 
 ghost use Rattle.std.specs.Prelude.{◌≡◌, List, ◌∷◌, IfOk};
-ghost use Rattle.conn_classifier.specs.Items.{ack, hint};
+ghost use Rattle.conn_classifier.specs.Items.{hint};
 ghost use Rattle.conn_classifier.specs.Hints.{hints_of, said, IsAhead};
 
 use crate::kinds::Arrival;
+use segment_codec::{ACK, RST, SYN};
 use std::alloc::{AllocError, Global};
 
 /// What the later segments say: nothing, an acknowledgement, or a SYN that comes first.
@@ -32,12 +33,12 @@ impl Ahead {
         ensures ahead { (more : List Arrival) → IsAhead self more → IsAhead result.0 (arrival.now ∷ more) }
     {
         let seg = arrival.seg;
-        if seg.flags & 2 == 2 {
+        if seg.flags & SYN == SYN {
             let iss = self.said(seg.seq);
             (Ahead::Syn(seg.seq, iss), iss)
-        } else if seg.flags & 4 == 4 {
+        } else if seg.flags & RST == RST {
             (self, 0)
-        } else if seg.flags & 16 == 16 {
+        } else if seg.flags & ACK == ACK {
             (Ahead::Acked(seg.ack.wrapping_sub(1)), 0)
         } else {
             (self, 0)

@@ -6,7 +6,8 @@ use Rattle.std.proofs.lemmas.Bool.Decides.{eqb_tells}
 use Rattle.std.proofs.lemmas.List.{take-append-drop}
 use Rattle.segment_codec.specs.declared.packet.Seg.{Seg}
 use Rattle.byte_queues.specs.ReceiveQueue.{Recv, next_of, ready_of, next_bytes, without, with_cap, placed, is_ended}
-use Rattle.tcb_machine.specs.BlockState.{Block, fin, syn, rst, ack, rst_of, segment_of, to_listen, new_block, has, in_flight, rcv_nxt, snd_nxt, snd_end, unsent, sends_ack, sends}
+use Rattle.tcb_machine.specs.BlockState.{Block, rst_of, segment_of, to_listen, new_block, has, in_flight, rcv_nxt, snd_nxt, snd_end, unsent, sends_ack, sends}
+use Rattle.segment_codec.specs.ControlBits.{ack, fin, rst, syn}
 use Rattle.tcb_machine.specs.CallAnswers.{tcp_call, with_buffer, wants_fin}
 use Rattle.tcb_machine.specs.Output.{sends_text, sends_pieces, pieces, sendable, outputs_text, outputs_fin, outputs_ack, outputs_deadline, starts, is_sending, output}
 use Rattle.tcb_machine.specs.States.{is_listen}

@@ -1,7 +1,8 @@
 -- Further exchanges, as those of `Worked`: each state, each check of a segment, and each deadline.
 use Rattle.std.specs.Prelude.{◌≡◌, ℕ, ◌+◌, List, [], ◌∷◌, ◌++◌, None, Some, zero, suc, codes}
 use Rattle.segment_codec.specs.declared.packet.Reply.{Reply}
-use Rattle.tcb_machine.specs.BlockState.{new_block, fin, syn, rst, psh, ack}
+use Rattle.tcb_machine.specs.BlockState.{new_block}
+use Rattle.segment_codec.specs.ControlBits.{ack, fin, psh, rst, syn}
 use Rattle.tcb_machine.specs.declared.kinds.State.{State}
 use Rattle.tcb_machine.specs.declared.kinds.State.TheVariants.{Listen, SynReceived, Established, FinWait1, FinWait2, CloseWait, Closing, LastAck, TimeWait}
 use Rattle.tcb_machine.specs.declared.kinds.Call.TheVariants as call

@@ -2,7 +2,8 @@
 use Rattle.std.specs.Prelude.{◌≡◌, ℕ, ◌+◌, List, [], ◌∷◌, ◌++◌, Option, None, Some, length, zero, suc, codes}
 use Rattle.segment_codec.specs.declared.packet.Seg.{Seg}
 use Rattle.segment_codec.specs.declared.packet.Reply.{Reply}
-use Rattle.tcb_machine.specs.BlockState.{new_block, fin, syn, rst, psh, ack}
+use Rattle.tcb_machine.specs.BlockState.{new_block}
+use Rattle.segment_codec.specs.ControlBits.{ack, fin, psh, rst, syn}
 use Rattle.tcb_machine.specs.declared.kinds.State.{State}
 use Rattle.tcb_machine.specs.declared.kinds.State.TheVariants.{Listen, SynReceived, Established, LastAck, TimeWait}
 use Rattle.tcb_machine.specs.declared.kinds.Call.TheVariants as call

@@ -2,7 +2,8 @@
 use Rattle.std.specs.Prelude.{ℕ, ◌+◌, ◌/◌, ◌%◌, ◌^◌, List, ◌++◌, if◌then◌else◌}
 use Rattle.byteorder.specs.Endian.{big_bytes, big_number}
 use Rattle.sha2.specs.Sha256.{sha256}
-use Rattle.segment_codec.specs.Refusal.{has_syn, tuple_of}
+use Rattle.segment_codec.specs.ControlBits.{has_syn}
+use Rattle.segment_codec.specs.Refusal.{tuple_of}
 use Rattle.segment_codec.specs.declared.packet.Seg.{Seg}
 use Rattle.sq_base.specs.declared.kinds.Tuple.{Tuple}
 

@@ -14,13 +14,11 @@ use crate::acting::{Datagram, encoded, reach, receive, send, text_of};
 use crate::initial::{Secret, initial_number};
 use echo_services::Service;
 use indexmap::IndexMap;
-use segment_codec::{Packet, Seg, decode, refusal, tuple_of};
+use segment_codec::{Packet, SYN, Seg, decode, refusal, tuple_of};
 use sq_base::{Link, Tuple, is_served};
 use std::alloc::{AllocError, Global};
 use std::marker::Model;
 use tcb_machine::{State, Tcb};
-
-const SYN: u8 = 2;
 
 /// The server's state: a table of connections, in the order in which they were opened.
 ///

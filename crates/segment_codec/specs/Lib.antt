@@ -4,4 +4,5 @@ pub mod Options
 pub mod Packet
 pub mod SegmentBytes
 pub mod SentIsRead
+pub mod ControlBits
 pub mod Refusal

@@ -1,21 +1,9 @@
 -- The answer to a segment for a connection that isn't there (RFC 9293, 3.10.7.1).
-use Rattle.std.specs.Prelude.{ℕ, ◌+◌, ◌%◌, ◌^◌, Bool, [], Option, None, Some, bit_and, ◌==◌, if◌then◌else◌}
+use Rattle.std.specs.Prelude.{ℕ, ◌+◌, ◌%◌, ◌^◌, [], Option, None, Some, if◌then◌else◌}
 use Rattle.sq_base.specs.declared.kinds.Tuple.{Tuple}
+use Rattle.segment_codec.specs.ControlBits.{ack, has_ack, has_fin, has_rst, has_syn, rst}
 use Rattle.segment_codec.specs.declared.packet.Seg.{Seg}
 use Rattle.segment_codec.specs.declared.packet.Reply.{Reply}
-
--- the control bits FIN, SYN, RST and ACK
-abbrev pub has_fin : Seg → Bool
-has_fin s = bit_and s.flags 1 == 1
-
-abbrev pub has_syn : Seg → Bool
-has_syn s = bit_and s.flags 2 == 2
-
-abbrev pub has_rst : Seg → Bool
-has_rst s = bit_and s.flags 4 == 4
-
-abbrev pub has_ack : Seg → Bool
-has_ack s = bit_and s.flags 16 == 16
 
 -- how many sequence numbers it takes: one for each byte of its text, for SYN and for FIN
 abbrev pub seg_len : Seg → ℕ
@@ -26,7 +14,7 @@ reset_with at flags seq ack = record { at = at; flags = flags; seq = seq; ack = 
 
 -- a segment with ACK: <SEQ=SEG.ACK><CTL=RST>; without: <SEQ=0><ACK=SEG.SEQ+SEG.LEN><CTL=RST,ACK>
 abbrev pub reset_for : ℕ → Seg → Reply
-reset_for at s = if has_ack s then reset_with at 4 s.ack 0 else reset_with at 20 0 ((s.seq + seg_len s) % 2 ^ 32)
+reset_for at s = if has_ack s then reset_with at rst s.ack 0 else reset_with at (rst + ack) 0 ((s.seq + seg_len s) % 2 ^ 32)
 
 -- a reset is answered by nothing
 abbrev pub refusal_of : ℕ → Seg → Option Reply

@@ -5,6 +5,7 @@
 //! place in the record.
 #![tactic(auto)]
 
+mod control;
 pub mod laws;
 mod options;
 mod packet;
@@ -13,6 +14,7 @@ mod reading;
 mod refusing;
 mod writing;
 
+pub use control::{ACK, FIN, PSH, RST, SYN};
 pub use packet::{Packet, Reply, Seg, Why};
 pub use reading::decode;
 pub use refusing::{refusal, tuple_of};

@@ -1,19 +1,13 @@
 //! A segment for a connection that isn't there, as one to a port that isn't served, is answered by a reset.
 
 ghost use Rattle.std.specs.Prelude.{◌≡◌, if◌then◌else◌, ◌+◌, ◌%◌, ◌^◌};
-ghost use Rattle.segment_codec.specs.Refusal.{refusal_of, tuple_of, has_ack, seg_len};
+ghost use Rattle.segment_codec.specs.ControlBits.{ack, has_ack, rst};
+ghost use Rattle.segment_codec.specs.Refusal.{refusal_of, tuple_of, seg_len};
 
+use crate::control::{ACK, FIN, RST, SYN};
 use crate::packet::{Reply, Seg};
 use sq_base::{Octets, Tuple};
 use std::alloc::Global;
-
-const FIN: u8 = 1;
-
-const SYN: u8 = 2;
-
-const RST: u8 = 4;
-
-const ACK: u8 = 16;
 
 /// The connection of a segment that its client sent.
 pub fn tuple_of(seg: &Seg) -> Tuple
@@ -50,7 +44,7 @@ pub fn refusal(alloc: Global, at: u64, seg: &Seg) -> Option<Reply>
 
 /// The flags of the reset, its sequence number and its acknowledgement number.
 fn reset_numbers(seg: &Seg) -> (u8, u32, u32)
-    ensures { result ≡ (if has_ack seg.now then (4, seg.now.ack, 0) else (20, 0, (seg.now.seq + seg_len seg.now) % 2 ^ 32)) }
+    ensures { result ≡ (if has_ack seg.now then (rst, seg.now.ack, 0) else (rst + ack, 0, (seg.now.seq + seg_len seg.now) % 2 ^ 32)) }
 {
     if seg.flags & ACK == ACK {
         return (RST, seg.ack, 0);

@@ -5,7 +5,7 @@ ghost use Rattle.squeue_run.specs.GeneratedCapture.{next_state, state_at, text_l
 ghost use Rattle.squeue_run.specs.GeneratedCapture.{record_of, record_at, round_before, file_header, generated, IsAccepted, IsUnrefused};
 ghost use Rattle.squeue_run.specs.GeneratorState.{client_at, Ready};
 
-use segment_codec::{Reply, encode};
+use segment_codec::{ACK, Reply, SYN, encode};
 use sq_base::{Addr, Octets, Tuple};
 use std::alloc::{AllocError, Global};
 
@@ -18,10 +18,6 @@ const FIRST_TEXT: u32 = 2;
 const LAST_TEXT: u32 = 97;
 /// The bytes of the whole file.
 const SIZE: usize = 10_256_024;
-
-const SYN: u8 = 2;
-
-const ACK: u8 = 16;
 
 const PSH_ACK: u8 = 24;
 

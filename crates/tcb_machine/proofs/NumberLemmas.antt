@@ -7,7 +7,8 @@ use Rattle.segment_codec.specs.declared.packet.Seg.{Seg}
 use Rattle.byte_queues.specs.ReceiveQueue.{Recv, next_of, placed, is_ended}
 use Rattle.sq_base.specs.SerialOrder.{dist}
 use Rattle.tcb_machine.specs.States.{is_listen}
-use Rattle.tcb_machine.specs.BlockState.{Block, fin, syn, rst, ack, rst_of, segment_of, to_listen, new_block, has, in_flight, one_if, rcv_nxt, snd_nxt, snd_end, unsent, sends_ack, sends}
+use Rattle.tcb_machine.specs.BlockState.{Block, rst_of, segment_of, to_listen, new_block, has, in_flight, one_if, rcv_nxt, snd_nxt, snd_end, unsent, sends_ack, sends}
+use Rattle.segment_codec.specs.ControlBits.{ack, fin, rst, syn}
 use Rattle.tcb_machine.specs.TcpStep.{sends_syn_ack, waits, ahead, Verdict, over, go, on, and_then, with_scale, opened, listen, is_acceptable, is_time_wait, refused, check_sequence, check_reset, syn_again, check_syn, ack_kind, is_before, with_window, takes_window, takes_ack, in_time_wait, after_ack, is_fin_acked, after, acknowledged, established, ack_in, check_ack, consumes, closes, keeps_end, takes_fin, takes_text, check_text, repeated, first_checks, arrives, in_state, tcp_segment}
 use Rattle.tcb_machine.specs.Output.{sends_text, sends_pieces, pieces, sendable, outputs_text, outputs_fin, outputs_ack, outputs_deadline, starts, is_sending, output}
 use Rattle.tcb_machine.specs.Timers.{Firing, time_wait, retransmission, gives_up, firings, sends_again, retransmits, fires, fires_all, tcp_time}

@@ -4,7 +4,8 @@ use Rattle.std.specs.Prelude.{suc, zero}
 use Rattle.std.proofs.lemmas.Bool.Decides.{nat_tests}
 use Rattle.std.proofs.lemmas.List.{drop_all, drop-drop, drop-take, length-take-le}
 use Rattle.sq_base.specs.SerialOrder.{dist}
-use Rattle.tcb_machine.specs.BlockState.{Block, unsent, psh, ack, snd_nxt}
+use Rattle.tcb_machine.specs.BlockState.{Block, unsent, snd_nxt}
+use Rattle.segment_codec.specs.ControlBits.{ack, psh}
 use Rattle.tcb_machine.specs.States.{is_listen}
 use Rattle.tcb_machine.specs.Output.{pieces, sends_pieces, sends_text, sendable, outputs_text}
 use Rattle.tcb_machine.specs.Limits.{least_mss, most_mss}

@@ -3,7 +3,8 @@ use Rattle.std.proofs.Common.{◌≡◌, ℕ, ◌+◌, ◌-◌, ◌≤◌, List,
 use Rattle.segment_codec.specs.declared.packet.Seg.{Seg}
 use Rattle.byte_queues.specs.ReceiveQueue.{Recv, next_of, placed, with_end, is_ended}
 use Rattle.sq_base.specs.SerialOrder.{dist}
-use Rattle.tcb_machine.specs.BlockState.{Block, fin, syn, rst, ack, rst_of, to_listen, has, in_flight, rcv_nxt, sends_ack, sends}
+use Rattle.tcb_machine.specs.BlockState.{Block, rst_of, to_listen, has, in_flight, rcv_nxt, sends_ack, sends}
+use Rattle.segment_codec.specs.ControlBits.{ack, fin, rst, syn}
 use Rattle.tcb_machine.specs.TcpStep.{sends_syn_ack, waits, ahead, Verdict, over, go, on, and_then, with_scale, opened, listen, is_acceptable, is_time_wait, refused, check_sequence, check_reset, syn_again, check_syn, ack_kind, is_before, with_window, takes_window, takes_ack, in_time_wait, after_ack, is_fin_acked, acknowledged, established, ack_in, check_ack, consumes, closes, is_end_kept, keeps_end, takes_fin, takes_text, check_text, repeated, first_checks, arrives, in_state, tcp_segment, said}
 use Rattle.tcb_machine.specs.declared.kinds.State.{State}
 use Rattle.tcb_machine.specs.declared.kinds.State.TheVariants.{Listen, SynReceived, Established, FinWait1, FinWait2, CloseWait, Closing, LastAck, TimeWait}

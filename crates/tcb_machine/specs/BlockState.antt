@@ -5,6 +5,7 @@ use Rattle.byte_queues.specs.ReceiveQueue.{Recv, empty_recv, next_of, window_of}
 use Rattle.tcb_machine.specs.declared.kinds.State.{State}
 use Rattle.tcb_machine.specs.declared.kinds.State.TheVariants.{Listen}
 use Rattle.tcb_machine.specs.States.{is_consumed}
+use Rattle.segment_codec.specs.ControlBits.{ack, fin, rst, syn}
 use Rattle.segment_codec.specs.declared.packet.Reply.{Reply}
 use Rattle.segment_codec.specs.declared.packet.Seg.{Seg}
 use Rattle.tcb_machine.specs.Limits.{default_mss, first_timeout, most_mss, our_shift, plain_space, whole_space}
@@ -101,22 +102,7 @@ in_flight b = b.sent - b.acked
 unfoldable pub offered : Block → ℕ
 offered b = b.acked + length b.out
 
--- the control bits (RFC 9293, 3.1)
-abbrev pub fin : ℕ
-fin = 1
-
-abbrev pub syn : ℕ
-syn = 2
-
-abbrev pub rst : ℕ
-rst = 4
-
-abbrev pub psh : ℕ
-psh = 8
-
-abbrev pub ack : ℕ
-ack = 16
-
+-- whether a control bit is among these
 abbrev pub has : ℕ → ℕ → Bool
 has flags flag = not (bit_and flags flag == 0)
 

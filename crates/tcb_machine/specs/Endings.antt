@@ -1,7 +1,8 @@
 -- Why a connection is over, and its block back in LISTEN: read off its state before and after, and off what it was given.
 use Rattle.std.specs.Prelude.{Bool, not, ◌&&◌, Option, None, Some, if◌then◌else◌}
 use Rattle.segment_codec.specs.declared.packet.Seg.{Seg}
-use Rattle.tcb_machine.specs.BlockState.{has, rst, syn}
+use Rattle.tcb_machine.specs.BlockState.{has}
+use Rattle.segment_codec.specs.ControlBits.{rst, syn}
 use Rattle.tcb_machine.specs.States.{is_listen}
 use Rattle.tcb_machine.specs.TcpStep.{is_time_wait}
 use Rattle.tcb_machine.specs.declared.kinds.Ending.{Ending}

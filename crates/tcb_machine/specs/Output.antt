@@ -2,7 +2,8 @@
 use Rattle.std.specs.Prelude.{ℕ, ◌+◌, ◌-◌, ◌==◌, nat_lt, ◌&&◌, ◌||◌, Bool, true, false, not, List}
 use Rattle.std.specs.Prelude.{[], ◌∷◌, length, take, drop, Option, None, Some, suc, zero, if◌then◌else◌}
 use Rattle.sq_base.specs.SerialOrder.{dist}
-use Rattle.tcb_machine.specs.BlockState.{Block, fin, ack, psh, segment_of, sends, sends_ack, snd_nxt, unsent}
+use Rattle.tcb_machine.specs.BlockState.{Block, segment_of, sends, sends_ack, snd_nxt, unsent}
+use Rattle.segment_codec.specs.ControlBits.{ack, fin, psh}
 use Rattle.tcb_machine.specs.declared.kinds.State.{State}
 use Rattle.tcb_machine.specs.declared.kinds.State.TheVariants.{Listen, SynReceived, Established, FinWait1, FinWait2, CloseWait, Closing, LastAck, TimeWait}
 use Rattle.tcb_machine.specs.Limits.{first_timeout}

@@ -3,7 +3,8 @@ use Rattle.std.specs.Prelude.{ℕ, ◌↔◌, IsTrue, ◌+◌, ◌-◌, ◌%◌,
 use Rattle.std.specs.Prelude.{◌||◌, Bool, true, false, not, List, length, drop, Option, None, Some, if◌then◌else◌}
 use Rattle.sq_base.specs.SerialOrder.{IsBefore, dist}
 use Rattle.byte_queues.specs.ReceiveQueue.{Recv, empty_recv, next_of, is_ended, placed, with_end}
-use Rattle.tcb_machine.specs.BlockState.{Block, to_listen, rcv_nxt, rcv_wnd, snd_nxt, fin, syn, rst, ack}
+use Rattle.tcb_machine.specs.BlockState.{Block, to_listen, rcv_nxt, rcv_wnd, snd_nxt}
+use Rattle.segment_codec.specs.ControlBits.{ack, fin, rst, syn}
 use Rattle.tcb_machine.specs.BlockState.{has, seg_len, seg_wnd, syn_ack_of, rst_of, sends, sends_ack, in_flight}
 use Rattle.tcb_machine.specs.declared.kinds.State.{State}
 use Rattle.tcb_machine.specs.declared.kinds.State.TheVariants.{Listen, SynReceived, Established, FinWait1, FinWait2, CloseWait, Closing, LastAck, TimeWait}

@@ -2,7 +2,8 @@
 use Rattle.std.specs.Prelude.{ℕ, ◌≡◌, ◌<◌, ◌+◌, ◌-◌, ◌*◌, ◌==◌, nat_le, nat_lt, min, max, ◌&&◌}
 use Rattle.std.specs.Prelude.{not, List, [], ◌∷◌, take, Option, None, Some, suc, zero, if◌then◌else◌}
 use Rattle.std.specs.Option.{ForSome}
-use Rattle.tcb_machine.specs.BlockState.{Block, to_listen, fin, psh, ack, segment_of, sends, snd_nxt, snd_end, unsent, in_flight}
+use Rattle.tcb_machine.specs.BlockState.{Block, to_listen, segment_of, sends, snd_nxt, snd_end, unsent, in_flight}
+use Rattle.segment_codec.specs.ControlBits.{ack, fin, psh}
 use Rattle.tcb_machine.specs.TcpStep.{sends_syn_ack}
 use Rattle.tcb_machine.specs.Output.{sends_text}
 use Rattle.tcb_machine.specs.declared.kinds.State.{State}

@@ -85,8 +85,7 @@ ghost use Rattle.std.specs.Prelude.{◌≡◌};
 ghost use Rattle.tcb_machine.specs.Endings.{ending_by, ending_by_segment, ending_by_time, is_over};
 ghost use Rattle.tcb_machine.specs.States.{is_consumed};
 
-use crate::tcb::{RST, SYN};
-use segment_codec::Seg;
+use segment_codec::{RST, SYN, Seg};
 
 /// The peer's FIN was consumed.
 pub fn is_consumed(state: State) -> bool

@@ -23,16 +23,6 @@ use std::alloc::Global;
 use std::marker::Model;
 use std::mem::replace;
 
-const FIN: u8 = 1;
-
-pub(crate) const SYN: u8 = 2;
-
-pub(crate) const RST: u8 = 4;
-
-const PSH: u8 = 8;
-
-const ACK: u8 = 16;
-
 /// The block of a connection (RFC 9293, 3.3.1). Times are in microseconds.
 ///
 /// # Example

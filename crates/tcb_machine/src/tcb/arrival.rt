@@ -10,13 +10,13 @@ ghost use Rattle.tcb_machine.specs.TcpStep.{check_reset, syn_again, ack_kind, wi
 ghost use Rattle.tcb_machine.specs.TcpStep.{acknowledged, check_ack, first_checks, check_text, in_state, tcp_segment, said, step_said};
 ghost use Rattle.byte_queues.specs.ReceiveQueue.{next_of};
 
-use super::{ACK, FIN, RST, SYN, Tcb};
+use super::Tcb;
 use crate::kinds::{AckKind, Next, State, Step};
 use crate::limits::{
     DEFAULT_MSS, FIRST_TIMEOUT, LEAST_MSS, MOST_MSS, MOST_SHIFT, PLAIN_SPACE, TIME_WAIT,
 };
 use byte_queues::RecvQueue;
-use segment_codec::Seg;
+use segment_codec::{ACK, FIN, RST, SYN, Seg};
 use sq_base::{seq_dist, seq_lt};
 use std::alloc::{AllocError, Global};
 

@@ -5,9 +5,10 @@ ghost use Rattle.tcb_machine.specs.BlockState.{snd_nxt, unsent, segment_of, offe
 ghost use Rattle.tcb_machine.specs.States.{is_listen};
 ghost use Rattle.tcb_machine.specs.Output.{output, outputs_text, outputs_fin, outputs_ack, outputs_deadline};
 
-use super::{ACK, PSH, Tcb};
+use super::Tcb;
 use crate::kinds::State;
 use crate::limits::FIRST_TIMEOUT;
+use segment_codec::{ACK, PSH};
 use sq_base::seq_dist;
 use std::alloc::{AllocError, Global};
 

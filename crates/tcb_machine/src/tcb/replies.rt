@@ -1,6 +1,7 @@
 //! The segments that are sent.
 
 ghost use Rattle.std.specs.Prelude.{false, ◌≡◌, ◌+◌, ◌-◌, ◌<◌, ◌≤◌, [], length, take, min, None, Some, OnOk};
+ghost use Rattle.segment_codec.specs.ControlBits.{ack, fin};
 ghost use Rattle.tcb_machine.specs.BlockState.{rcv_nxt, rcv_wnd, snd_nxt, unsent, in_flight, sent_window};
 ghost use Rattle.tcb_machine.specs.BlockState.{segment_of, syn_ack_of, rst_of, sends, sends_ack, IsOurs};
 ghost use Rattle.tcb_machine.specs.States.{is_listen};
@@ -8,9 +9,9 @@ ghost use Rattle.tcb_machine.specs.TcpStep.{sends_syn_ack};
 ghost use Rattle.tcb_machine.specs.Output.{sends_text};
 ghost use Rattle.tcb_machine.specs.Limits.{most_mss};
 
-use super::{ACK, FIN, RST, SYN, Tcb};
+use super::Tcb;
 use crate::limits::{MOST_MSS, OUR_SHIFT, PLAIN_SPACE};
-use segment_codec::{Reply, Seg};
+use segment_codec::{ACK, FIN, RST, Reply, SYN, Seg};
 use sq_base::Octets;
 use std::alloc::{AllocError, Global};
 
@@ -73,7 +74,7 @@ impl Tcb {
     /// <SEQ=seq><ACK=RCV.NXT><CTL=FIN,ACK>
     pub(super) fn send_fin(&mut self, alloc: Global, seq: u32) -> Result<(), AllocError>
         requires open { is_listen self.old.state ≡ false }
-        ensures { OnOk result (self.new ≡ sends (segment_of 17 seq [] self.old) self.old) }
+        ensures { OnOk result (self.new ≡ sends (segment_of (fin + ack) seq [] self.old) self.old) }
     {
         self.send_segment(FIN | ACK, seq, Octets::wrap(Vec::new(alloc)))
     }

@@ -9,10 +9,10 @@ ghost use Rattle.tcb_machine.specs.TcpStep.{is_end_kept};
 ghost use Rattle.tcb_machine.specs.Limits.{most_streamed};
 ghost use Rattle.byte_queues.specs.Limits.{position_limit};
 
-use super::{FIN, Tcb};
+use super::Tcb;
 use crate::kinds::State;
 use byte_queues::Placed;
-use segment_codec::Seg;
+use segment_codec::{FIN, Seg};
 use sq_base::{seq_dist, seq_lt};
 use std::alloc::AllocError;
 

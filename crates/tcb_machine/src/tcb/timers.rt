@@ -9,9 +9,10 @@ ghost use Rattle.byte_queues.specs.ReceiveQueue.{next_of};
 ghost use Rattle.tcb_machine.specs.BlockState.{offered};
 ghost use Rattle.tcb_machine.specs.Limits.{most_retransmissions, last_time};
 
-use super::{ACK, PSH, Tcb};
+use super::Tcb;
 use crate::kinds::State;
 use crate::limits::{LONGEST_TIMEOUT, MOST_RETRANSMISSIONS};
+use segment_codec::{ACK, PSH};
 use std::alloc::{AllocError, Global};
 
 impl Tcb {

@@ -1,6 +1,7 @@
 use Rattle.std.proofs.Common.{rules, ◌≡◌, ℕ, ◌+◌, ◌-◌, ◌≤◌, length, take, min, arith, refl, ap, ◌∙◌}
 use Rattle.sq_base.specs.SerialOrder.{dist}
-use Rattle.tcb_machine.specs.BlockState.{Block, unsent, snd_nxt, psh, ack}
+use Rattle.tcb_machine.specs.BlockState.{Block, unsent, snd_nxt}
+use Rattle.segment_codec.specs.ControlBits.{ack, psh}
 use Rattle.tcb_machine.specs.Output.{sends_text, pieces, sends_pieces}
 use Rattle.tcb_machine.proofs.PieceLemmas.{text-first, left-more, left-last, left-kept, unsent-length}
 use Rattle.tcb_machine.proofs.tcb.Tcb.output_text.Goals as goal
