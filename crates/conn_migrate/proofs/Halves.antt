@@ -9,8 +9,8 @@ use Rattle.perimeter_core.specs.declared.marks.SynchAct.TheVariants as Done
 use Rattle.perimeter_core.specs.Perimeter.{Idle}
 use Rattle.perimeter_core.specs.History.{Element, Limits, run}
 use Rattle.squeue_state.specs.Naming.{Named, setting_of}
-use Rattle.squeue_state.specs.Elements.{gone}
-use Rattle.squeue_state.specs.Words.{Added}
+use Rattle.squeue_state.specs.Elements.{left_by_pass}
+use Rattle.squeue_state.specs.Clauses.{Added}
 use Rattle.squeue_drain.specs.declared.owner.Owner.{Owner}
 use Rattle.squeue_drain.specs.Draining.{GoesOn}
 use Rattle.squeue_drain.proofs.Deciding.{begins_trans}
@@ -28,7 +28,7 @@ module _ {R P O : Type 0} {G : Ghosts R P O} {s : Named R} {c : ℕ} {from : Pas
 
 -- an owner that came, did its act and left, moved
 pub moved : {R : Type 0} {limits : R → Limits} {s : Named R} {act : SynchAct} {note : List Act} {from to : Pass Element} (o n : Owner R) → Came limits s from o.pass → n.pass ≡ o.pass → n.hand.left ≡ [] → n.act ≡ act → GoesOn limits s n.pass to
-    → Idle (run (setting_of limits s.given) (seen to)) (number n.pass) → Added limits s n.pass (gone (number n.pass) (length n.hand.left) n.act note) to → Moved limits s act note from to
+    → Idle (run (setting_of limits s.given) (seen to)) (number n.pass) → Added limits s n.pass (left_by_pass (number n.pass) (length n.hand.left) n.act note) to → Moved limits s act note from to
 moved {R} {limits} {s} {act} {note} {from} {to} o n came pass none did goes idle left =
     let at : Came limits s from n.pass = subst (λ (q : Pass Element). Came limits s from q) (sym pass) came in
     let same : number n.pass ≡ number from = at.goes_on.same_number in

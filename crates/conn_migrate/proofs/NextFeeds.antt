@@ -17,12 +17,12 @@ use Rattle.perimeter_core.proofs.NextFeed.{fed-append, fed_feeds, had}
 use Rattle.perimeter_core.proofs.OneMore.{due_push, legal_front, legal_next}
 use Rattle.perimeter_core.proofs.OrderAndWake.{sound}
 use Rattle.squeue_state.specs.Naming.{Named, setting_of}
-use Rattle.squeue_state.specs.Elements.{gone}
+use Rattle.squeue_state.specs.Elements.{left_by_pass}
 use Rattle.conn_migrate.specs.Moving.{Moved}
 
-all_fed : (S : Setting) (F : List Element) (p c : ℕ) → Legal S (F ++ gone p 0 (Done.Out c) [] ∷ []) → fed (acts S (F ++ gone p 0 (Done.Out c) [] ∷ []) c) ≡ due (F ++ gone p 0 (Done.Out c) [] ∷ []) c
+all_fed : (S : Setting) (F : List Element) (p c : ℕ) → Legal S (F ++ left_by_pass p 0 (Done.Out c) [] ∷ []) → fed (acts S (F ++ left_by_pass p 0 (Done.Out c) [] ∷ []) c) ≡ due (F ++ left_by_pass p 0 (Done.Out c) [] ∷ []) c
 all_fed S F p c l =
-    let e : Element = gone p 0 (Done.Out c) [] in
+    let e : Element = left_by_pass p 0 (Done.Out c) [] in
     let s : State = run S F in
     let m : May S F e = legal_next S F [] e l in
     let before : Legal S F = legal_front S F (e ∷ []) l in
@@ -43,5 +43,5 @@ all_fed S F p c l =
 pub fed_is_due : {R : Type 0} {limits : R → Limits} {s : Named R} {c : ℕ} {from to : Pass Element} → Moved limits s (Done.Out c) [] from to → fed (acts (setting_of limits s.given) (seen to) c) ≡ due (seen to) c
 fed_is_due {R} {limits} {s} {c} {from} {to} m =
     let S : Setting = setting_of limits s.given in
-    let legal : Legal S (m.left.found ++ gone (number from) 0 (Done.Out c) [] ∷ []) = subst (λ (H : List Element). Legal S H) m.left.now_seen m.goes_on.legal in
+    let legal : Legal S (m.left.found ++ left_by_pass (number from) 0 (Done.Out c) [] ∷ []) = subst (λ (H : List Element). Legal S H) m.left.now_seen m.goes_on.legal in
     subst (λ (H : List Element). fed (acts S H c) ≡ due H c) (sym m.left.now_seen) (all_fed S m.left.found (number from) c legal)

@@ -12,7 +12,7 @@ use Rattle.perimeter_core.specs.Legal.{Legal}
 use Rattle.perimeter_core.proofs.OneMore.{run_push, legal_ind, legal_front, legal_next}
 use Rattle.perimeter_core.proofs.BlocksFollow.{acts_push, flags}
 use Rattle.perimeter_core.proofs.RingKnows.{here_step}
-use Rattle.squeue_state.specs.Elements.{gone}
+use Rattle.squeue_state.specs.Elements.{left_by_pass}
 use Rattle.conn_migrate.specs.Stays.{Stay, Stays, as_list, all_in, begun, longer_by, stays_after, stays_from, stays, EndsAStay}
 
 pub stays_push : (c : ℕ) (s : State) (had : List Act) (v : Stays) (H : List Element) (e : Element) → stays_from c s had v (H ++ e ∷ []) ≡ stays_after c (run_from s H) (acts_from c s had H) (stays_from c s had v H) e
@@ -134,10 +134,10 @@ some_of None h = absurd (cc h)
 some_of (Some v) h = (v, refl)
 
 -- an In begins a stay with its note
-pub in_begins : (S : Setting) (H : List Element) (p rest c : ℕ) (note : List Act) → stays S (H ++ gone p rest (Done.In c) note ∷ []) c ≡ record { ended = all_in (stays S H c); now = Some (begun note) }
+pub in_begins : (S : Setting) (H : List Element) (p rest c : ℕ) (note : List Act) → stays S (H ++ left_by_pass p rest (Done.In c) note ∷ []) c ≡ record { ended = all_in (stays S H c); now = Some (begun note) }
 in_begins S H p rest c note =
     let same : (c == c) ≡ true = grind (arith, nat_tests) in
-    stays_push c (start S) [] record { ended = []; now = if is_here (start S) c then Some (begun []) else None } H (gone p rest (Done.In c) note) ∙ rw same refl
+    stays_push c (start S) [] record { ended = []; now = if is_here (start S) c then Some (begun []) else None } H (left_by_pass p rest (Done.In c) note) ∙ rw same refl
 
 abbrev of : List Stay → Option Stay → Stays
 of past now = record { ended = past; now = now }
@@ -147,9 +147,9 @@ ended_with : (b : Bool) (more had : List Act) (past : List Stay) (o : Option Sta
 ended_with b more had past o v same is = rw (same, is) refl
 
 -- an Out ends the stay that goes on, and there it has all that the history says
-pub out_ends : (S : Setting) (H : List Element) (p rest c : ℕ) → Legal S (H ++ gone p rest (Done.Out c) [] ∷ []) → EndsAStay S H (gone p rest (Done.Out c) []) c
+pub out_ends : (S : Setting) (H : List Element) (p rest c : ℕ) → Legal S (H ++ left_by_pass p rest (Done.Out c) [] ∷ []) → EndsAStay S H (left_by_pass p rest (Done.Out c) []) c
 out_ends S H p rest c l =
-    let e : Element = gone p rest (Done.Out c) [] in
+    let e : Element = left_by_pass p rest (Done.Out c) [] in
     let s : State = run S H in
     let v : Stays = stays S H c in
     let f = fits S c H (legal_front S H (e ∷ []) l) in

@@ -15,7 +15,7 @@ use Rattle.perimeter_core.proofs.OneMore.{legal_front}
 use Rattle.perimeter_core.proofs.RingKnows.{ring_knows}
 use Rattle.perimeter_core.proofs.OwnCounts.{own_counts}
 use Rattle.squeue_state.specs.Naming.{Named, setting_of}
-use Rattle.squeue_state.specs.Elements.{number_of, gone, asked, claimed_ask, granted, accepted}
+use Rattle.squeue_state.specs.Elements.{number_of, left_by_pass, asked_by, ask_claimed_by, granted_by, accepted_by}
 use Rattle.squeue_state.proofs.Makers.{only_made}
 use Rattle.synch_enter.specs.Synch.{IsWay}
 use Rattle.conn_migrate.specs.Moving.{Moved, IsKept, RingLearns}
@@ -44,16 +44,16 @@ both p d a b t u h k m n T U x y =
 one_count : (p : ℕ) → (if p == p then 1 else 0) + 0 ≡ 1
 one_count p = let e : (p == p) ≡ true = grind (arith, nat_tests) in rw e refl
 
-tells_ask : (p d : ℕ) → Tells p d 1 0 (λ b. b) (λ n. n) (asked p ∷ [])
+tells_ask : (p d : ℕ) → Tells p d 1 0 (λ b. b) (λ n. n) (asked_by p ∷ [])
 tells_ask p d = record { feeds = none_count (p == p); asks_made = one_count p; is_here_now = λ b. refl; next_feed = λ n. omega arith; left = refl }
 
-tells_claim : (p d : ℕ) → Tells p d 1 0 (λ b. b) (λ n. n) (claimed_ask p ∷ [])
+tells_claim : (p d : ℕ) → Tells p d 1 0 (λ b. b) (λ n. n) (ask_claimed_by p ∷ [])
 tells_claim p d = record { feeds = none_count (p == p); asks_made = one_count p; is_here_now = λ b. refl; next_feed = λ n. omega arith; left = refl }
 
-tells_grant : (p d j rest : ℕ) → Tells p d 0 0 (λ b. b) (λ n. n) (granted p j rest ∷ [])
+tells_grant : (p d j rest : ℕ) → Tells p d 0 0 (λ b. b) (λ n. n) (granted_by p j rest ∷ [])
 tells_grant p d j rest = record { feeds = none_count (p == p); asks_made = none_count (p == p); is_here_now = λ b. refl; next_feed = λ n. omega arith; left = refl }
 
-tells_accept : (p d : ℕ) → Tells p d 0 0 (λ b. b) (λ n. n) (accepted p ∷ [])
+tells_accept : (p d : ℕ) → Tells p d 0 0 (λ b. b) (λ n. n) (accepted_by p ∷ [])
 tells_accept p d = record { feeds = none_count (p == p); asks_made = none_count (p == p); is_here_now = λ b. refl; next_feed = λ n. omega arith; left = refl }
 
 -- what a pass makes to come
@@ -66,30 +66,30 @@ tells_way p d true ask marks w =
     ]
 
 -- what it makes when it leaves with the act of a move
-tells_out : (p c : ℕ) (note : List Act) → Tells p c 0 1 (λ b. false) (λ n. n) (gone p 0 (Done.Out c) note ∷ [])
+tells_out : (p c : ℕ) (note : List Act) → Tells p c 0 1 (λ b. false) (λ n. n) (left_by_pass p 0 (Done.Out c) note ∷ [])
 tells_out p c note =
     let e : (c == c) ≡ true = grind (arith, nat_tests) in
     record { feeds = none_count (p == p); asks_made = none_count (p == p); is_here_now = λ b. rw e refl; next_feed = λ n. omega arith; left = rw e refl }
 
-tells_out_of : (p c d : ℕ) (note : List Act) → d ≢ c → Tells p d 0 0 (λ b. b) (λ n. n) (gone p 0 (Done.Out c) note ∷ [])
+tells_out_of : (p c d : ℕ) (note : List Act) → d ≢ c → Tells p d 0 0 (λ b. b) (λ n. n) (left_by_pass p 0 (Done.Out c) note ∷ [])
 tells_out_of p c d note other =
     let e : (c == d) ≡ false = grind (arith, nat_tests) in
     record { feeds = none_count (p == p); asks_made = none_count (p == p); is_here_now = λ b. rw e refl; next_feed = λ n. omega arith; left = rw e refl }
 
-tells_in : (p c : ℕ) (note : List Act) → Tells p c 0 0 (λ b. true) (λ n. fed note) (gone p 0 (Done.In c) note ∷ [])
+tells_in : (p c : ℕ) (note : List Act) → Tells p c 0 0 (λ b. true) (λ n. fed note) (left_by_pass p 0 (Done.In c) note ∷ [])
 tells_in p c note =
     let e : (c == c) ≡ true = grind (arith, nat_tests) in
     record { feeds = none_count (p == p); asks_made = none_count (p == p); is_here_now = λ b. rw e refl; next_feed = λ n. rw e refl; left = refl }
 
-tells_in_of : (p c d : ℕ) (note : List Act) → d ≢ c → Tells p d 0 0 (λ b. b) (λ n. n) (gone p 0 (Done.In c) note ∷ [])
+tells_in_of : (p c d : ℕ) (note : List Act) → d ≢ c → Tells p d 0 0 (λ b. b) (λ n. n) (left_by_pass p 0 (Done.In c) note ∷ [])
 tells_in_of p c d note other =
     let e : (c == d) ≡ false = grind (arith, nat_tests) in
     record { feeds = none_count (p == p); asks_made = none_count (p == p); is_here_now = λ b. rw e refl; next_feed = λ n. rw e (omega arith); left = refl }
 
-tells_call : (p c j k d : ℕ) (note : List Act) → Tells p d 0 0 (λ b. b) (λ n. n) (gone p 0 (Done.Call c j k) note ∷ [])
+tells_call : (p c j k d : ℕ) (note : List Act) → Tells p d 0 0 (λ b. b) (λ n. n) (left_by_pass p 0 (Done.Call c j k) note ∷ [])
 tells_call p c j k d note = record { feeds = none_count (p == p); asks_made = none_count (p == p); is_here_now = λ b. refl; next_feed = λ n. omega arith; left = refl }
 
-tells_away : (p d : ℕ) (note : List Act) → Tells p d 0 0 (λ b. b) (λ n. n) (gone p 0 Done.Away note ∷ [])
+tells_away : (p d : ℕ) (note : List Act) → Tells p d 0 0 (λ b. b) (λ n. n) (left_by_pass p 0 Done.Away note ∷ [])
 tells_away p d note = record { feeds = none_count (p == p); asks_made = none_count (p == p); is_here_now = λ b. refl; next_feed = λ n. omega arith; left = refl }
 
 module _ {R : Type 0} {limits : R → Limits} {s : Named R} {act : SynchAct} {note : List Act} {from to : Pass Element} (is : IsPassOf number_of s.gate from) (moved : Moved limits s act note from to) where
@@ -100,10 +100,10 @@ module _ {R : Type 0} {limits : R → Limits} {s : Named R} {act : SynchAct} {no
   p = number from
 
   abbrev last : Element
-  last = gone (number from) 0 act note
+  last = left_by_pass (number from) 0 act note
 
   abbrev own : List Element
-  own = (moved.came.behind.ask ∷ moved.came.behind.marks) ++ gone (number from) 0 act note ∷ []
+  own = (moved.came.behind.ask ∷ moved.came.behind.marks) ++ left_by_pass (number from) 0 act note ∷ []
 
   legal_before : Legal (setting_of limits s.given) (seen from)
   legal_before = legal_front S (seen from) moved.goes_on.grows.0 (subst (λ (H : List Element). Legal S H) moved.goes_on.grows.1 moved.goes_on.legal)
@@ -125,13 +125,13 @@ module _ {R : Type 0} {limits : R → Limits} {s : Named R} {act : SynchAct} {no
       subst (λ (r : ℕ). (is_here (run S H) d ≡ here_by d (is_here (start S) d) (made_by r H)) × (due H d ≡ due (made_by r H) d) × (times_left d H ≡ times_left d (made_by r H))) (sym ring) (k.here, k.next, k.left)
 
   -- the pass's own marks, those by which it came and then its last
-  tells_all : (d times : ℕ) (here : Bool → Bool) (next : ℕ → ℕ) → Tells (number from) d 0 times here next (gone (number from) 0 act note ∷ []) → Tells (number from) d 1 times here next own
+  tells_all : (d times : ℕ) (here : Bool → Bool) (next : ℕ → ℕ) → Tells (number from) d 0 times here next (left_by_pass (number from) 0 act note ∷ []) → Tells (number from) d 1 times here next own
   tells_all d times here next t =
       let sum : 0 + times ≡ times = omega arith in
       subst (λ (n : ℕ). Tells (number from) d 1 n here next own) sum
       (both p d 1 0 0 times (λ b. b) here (λ n. n) next _ _ (tells_way p d (is_free (run S moved.came.found).own) moved.came.behind.ask moved.came.behind.marks moved.came.behind.way) t)
 
-  module _ (d times : ℕ) (here : Bool → Bool) (next : ℕ → ℕ) (ring : number from ≡ d % s.given.rings) (t : Tells (number from) d 0 times here next (gone (number from) 0 act note ∷ [])) where
+  module _ (d times : ℕ) (here : Bool → Bool) (next : ℕ → ℕ) (ring : number from ≡ d % s.given.rings) (t : Tells (number from) d 0 times here next (left_by_pass (number from) 0 act note ∷ [])) where
     here_now : is_here (run (setting_of limits s.given) (seen to)) d ≡ here (is_here (run (setting_of limits s.given) (seen from)) d)
     here_now =
         let all = tells_all d times here next t in
@@ -151,7 +151,7 @@ module _ {R : Type 0} {limits : R → Limits} {s : Named R} {act : SynchAct} {no
         omega (arith, after, all.left, (ring_by (seen from) d legal_before ring).2)
 
   -- one connection that the marks leave alone
-  kept : (d : ℕ) → number from ≡ d % s.given.rings → Tells (number from) d 0 0 (λ b. b) (λ n. n) (gone (number from) 0 act note ∷ []) → IsKept (setting_of limits s.given) d (seen from) (seen to)
+  kept : (d : ℕ) → number from ≡ d % s.given.rings → Tells (number from) d 0 0 (λ b. b) (λ n. n) (left_by_pass (number from) 0 act note ∷ []) → IsKept (setting_of limits s.given) d (seen from) (seen to)
   kept d ring t =
       record {
         here = here_now d 0 (λ b. b) (λ n. n) ring t;
@@ -160,7 +160,7 @@ module _ {R : Type 0} {limits : R → Limits} {s : Named R} {act : SynchAct} {no
       }
 
   -- one Ask more, whatever the act
-  asks_once : Tells (number from) 0 0 0 (λ b. b) (λ n. n) (gone (number from) 0 act note ∷ []) → asks_by (number from) (seen to) ≡ asks_by (number from) (seen from) + 1
+  asks_once : Tells (number from) 0 0 0 (λ b. b) (λ n. n) (left_by_pass (number from) 0 act note ∷ []) → asks_by (number from) (seen to) ≡ asks_by (number from) (seen from) + 1
   asks_once t =
       let all = tells_all 0 0 (λ b. b) (λ n. n) t in
       let now = own_counts p (seen to) in
@@ -169,8 +169,8 @@ module _ {R : Type 0} {limits : R → Limits} {s : Named R} {act : SynchAct} {no
       let asks : asks_by p (made_by p (seen to)) ≡ asks_by p (made_by p (seen from) ++ own) = ap (asks_by p) made_now in
       omega (arith, now.1, asks, more.1, before.1, all.asks_made)
 
-  knows : (c times : ℕ) (b : Bool) (next : ℕ → ℕ) → number from ≡ c % s.given.rings → Tells (number from) c 0 times (λ x. b) next (gone (number from) 0 act note ∷ [])
-      → ((d : ℕ) → d ≢ c → Tells (number from) d 0 0 (λ x. x) (λ n. n) (gone (number from) 0 act note ∷ [])) → RingLearns limits s c b times from to
+  knows : (c times : ℕ) (b : Bool) (next : ℕ → ℕ) → number from ≡ c % s.given.rings → Tells (number from) c 0 times (λ x. b) next (left_by_pass (number from) 0 act note ∷ [])
+      → ((d : ℕ) → d ≢ c → Tells (number from) d 0 0 (λ x. x) (λ n. n) (left_by_pass (number from) 0 act note ∷ [])) → RingLearns limits s c b times from to
   knows c times b next ring t others =
       let all = tells_all c times (λ x. b) next t in
       let now = own_counts p (seen to) in

@@ -9,8 +9,8 @@ use Rattle.perimeter_core.specs.History.{Element, Limits, Setting, run}
 use Rattle.perimeter_core.specs.Deeds.{due, times_left}
 use Rattle.perimeter_core.specs.Legal.{feeds_by, asks_by}
 use Rattle.squeue_state.specs.Naming.{Named, setting_of}
-use Rattle.squeue_state.specs.Elements.{gone}
-use Rattle.squeue_state.specs.Words.{Added}
+use Rattle.squeue_state.specs.Elements.{left_by_pass}
+use Rattle.squeue_state.specs.Clauses.{Added}
 use Rattle.squeue_drain.specs.Draining.{GoesOn}
 use Rattle.synch_enter.specs.Synch.{MayAsk, Came}
 
@@ -35,7 +35,7 @@ pub record Moved {R : Type 0} (limits : R → Limits) (s : Named R) (act : Synch
   pub idle : Idle (run (setting_of limits s.given) (seen to)) (number from)
   pub owner : Pass Element
   pub came : Came limits s from owner
-  pub left : Added limits s owner (gone (number from) 0 act note) to
+  pub left : Added limits s owner (left_by_pass (number from) 0 act note) to
 
 -- of connection d nothing has changed between two histories of a squeue
 pub record IsKept (S : Setting) (d : ℕ) (before now : List Element) : Type 0 where

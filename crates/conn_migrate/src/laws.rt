@@ -7,21 +7,21 @@ ghost use Rattle.perimeter_core.specs.Perimeter.{is_here};
 ghost use Rattle.perimeter_core.specs.History.{Element, Setting, run, made_by};
 ghost use Rattle.perimeter_core.specs.Deeds.{acts};
 ghost use Rattle.perimeter_core.specs.Legal.{Legal};
-ghost use Rattle.squeue_state.specs.Elements.{gone};
+ghost use Rattle.squeue_state.specs.Elements.{left_by_pass};
 ghost use Rattle.squeue_state.specs.Naming.{Ending};
 ghost use Rattle.conn_migrate.specs.Stays.{all_in, begun, stays, reports, done_in};
 ghost use Rattle.conn_migrate.specs.Stays.{AreSameStays, EndsAStay, AreLegal, StartsAtHome, IsLinked, AreLinked, AreOfAllStays};
 
 /// An Out ends the stay that goes on.
 pub fn an_out_ends_a_stay()
-    ensures { (S : Setting) (H : List Element) (p rest c : ℕ) → Legal S (H ++ gone p rest (Done.Out c) [] ∷ [])
-        → EndsAStay S H (gone p rest (Done.Out c) []) c }
+    ensures { (S : Setting) (H : List Element) (p rest c : ℕ) → Legal S (H ++ left_by_pass p rest (Done.Out c) [] ∷ [])
+        → EndsAStay S H (left_by_pass p rest (Done.Out c) []) c }
 {}
 
 /// An In begins a stay, with its note.
 pub fn an_in_begins_a_stay()
     ensures { (S : Setting) (H : List Element) (p rest c : ℕ) (note : List Act)
-        → stays S (H ++ gone p rest (Done.In c) note ∷ []) c ≡ record { ended = all_in (stays S H c); now = Some (begun note) } }
+        → stays S (H ++ left_by_pass p rest (Done.In c) note ∷ []) c ≡ record { ended = all_in (stays S H c); now = Some (begun note) } }
 {}
 
 /// Where the block of a connection is, its acts are those of all its stays, one after another.

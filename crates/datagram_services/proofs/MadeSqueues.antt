@@ -4,7 +4,7 @@ use Rattle.turn_gate.specs.History.{Each}
 use Rattle.perimeter_core.specs.declared.entries.Feed.{Feed}
 use Rattle.perimeter_core.specs.History.{feed_quotas}
 use Rattle.squeue_state.specs.Naming.{Named}
-use Rattle.squeue_state.specs.Words.{IsMade, ask_quotas}
+use Rattle.squeue_state.specs.Clauses.{IsMade, ask_quotas}
 use Rattle.squeue_serve.proofs.Coming.{each_got}
 use Rattle.squeue_rings.specs.Runs.{count, is_at}
 use Rattle.stream_plan.specs.Streams.{MorePlanOf, item_count}

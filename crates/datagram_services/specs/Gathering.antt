@@ -6,7 +6,7 @@ use Rattle.perimeter_core.specs.History.{Element}
 use Rattle.perimeter_core.specs.Blocks.{peri}
 use Rattle.squeue_state.specs.Naming.{Ending, Named, setting_of}
 use Rattle.squeue_state.specs.Endings.{HasEnded}
-use Rattle.squeue_state.specs.Words.{Knows}
+use Rattle.squeue_state.specs.Clauses.{Knows}
 use Rattle.stream_plan.specs.Streams.{MorePlanOf, StreamOf, item_count}
 use Rattle.stream_blocks.specs.Standing.{IsPartOf, PlacesStand, limits_of, origin_of}
 use Rattle.stream_blocks.specs.declared.block.StreamBlock.{StreamBlock}

@@ -15,7 +15,7 @@ use Rattle.perimeter_core.proofs.FeedLists.{feeds_of-append}
 use Rattle.perimeter_core.proofs.OneMore.{run_push, due_push}
 use Rattle.squeue_state.specs.Naming.{Named, setting_of}
 use Rattle.squeue_state.specs.Elements.{number_of, closed_by}
-use Rattle.squeue_state.specs.Words.{Added}
+use Rattle.squeue_state.specs.Clauses.{Added}
 use Rattle.squeue_state.proofs.Makers.{others_made}
 use Rattle.squeue_enter.specs.Entering.{MayEnter, Brought, MayGoOn}
 use Rattle.squeue_enter.proofs.Bringing.{may_front, entries_append}

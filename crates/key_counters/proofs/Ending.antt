@@ -17,7 +17,7 @@ use Rattle.perimeter_core.specs.Residing.{HadFeeds}
 use Rattle.perimeter_core.proofs.NextFeed.{had}
 use Rattle.perimeter_core.proofs.OrderAndWake.{sound, wake_of_sound}
 use Rattle.squeue_state.specs.Naming.{Named, setting_of}
-use Rattle.squeue_state.specs.Words.{Knows}
+use Rattle.squeue_state.specs.Clauses.{Knows}
 use Rattle.squeue_serve.specs.declared.jobs.Job.{Job}
 use Rattle.squeue_serve.specs.Places.{AtEach, Holds}
 use Rattle.squeue_serve.specs.Lending.{AreHanded, AreLent, holder, lent_to, tasks_in}

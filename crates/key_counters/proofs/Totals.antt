@@ -11,7 +11,7 @@ use Rattle.perimeter_core.specs.History.{feed_quotas}
 use Rattle.perimeter_core.specs.Residing.{HadFeeds}
 use Rattle.perimeter_core.proofs.LogSteps.{here_of_feeds}
 use Rattle.squeue_state.specs.Naming.{Given}
-use Rattle.squeue_state.specs.Words.{IsMade, StandsEmpty, ask_quotas}
+use Rattle.squeue_state.specs.Clauses.{IsMade, StandsEmpty, ask_quotas}
 use Rattle.key_counters.specs.declared.counters.Counter.{Counter}
 use Rattle.placed_parts.specs.declared.parts.Parts.{Ghosts}
 use Rattle.placed_parts.specs.declared.places.Places.{Places}

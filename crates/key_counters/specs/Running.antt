@@ -9,7 +9,7 @@ use Rattle.perimeter_core.specs.Deeds.{entries, feeds_of, due}
 use Rattle.perimeter_core.specs.Ending.{IsOver}
 use Rattle.squeue_state.specs.Naming.{Named, setting_of}
 use Rattle.squeue_state.specs.Elements.{number_of, closed_by}
-use Rattle.squeue_state.specs.Words.{Added}
+use Rattle.squeue_state.specs.Clauses.{Added}
 use Rattle.squeue_enter.specs.declared.Mode.{Mode}
 use Rattle.squeue_enter.specs.declared.entering.Entered.{Entered}
 use Rattle.squeue_enter.specs.Entering.{MayEnter, HasEntered}

@@ -10,7 +10,7 @@ use Rattle.perimeter_core.specs.Deeds.{due, fed}
 use Rattle.perimeter_core.specs.Legal.{Legal}
 use Rattle.squeue_state.specs.Naming.{Ending, Named, setting_of}
 use Rattle.squeue_state.specs.Elements.{number_of}
-use Rattle.squeue_state.specs.Words.{Knows}
+use Rattle.squeue_state.specs.Clauses.{Knows}
 use Rattle.squeue_serve.proofs.Lent.{some_at}
 use Rattle.squeue_state.proofs.Makers.{others_made}
 use Rattle.squeue_enter.proofs.Carrying.{due_carried, here_carried}

@@ -11,7 +11,7 @@ use Rattle.perimeter_core.specs.Deeds.{acts, acts_after, due, reported}
 use Rattle.perimeter_core.proofs.OneMore.{due_push, run_push}
 use Rattle.squeue_state.specs.Naming.{Ending, Named, setting_of}
 use Rattle.squeue_state.specs.Elements.{closed_by, number_of}
-use Rattle.squeue_state.specs.Words.{Knows}
+use Rattle.squeue_state.specs.Clauses.{Knows}
 use Rattle.conn_migrate.specs.Stays.{AreSameStays, Stays, begun, longer_by, note_of, stays}
 use Rattle.conn_migrate.proofs.OneSqueue.{stays_push}
 use Rattle.conn_migrate.proofs.StaysKept.{note_longer}

@@ -4,7 +4,7 @@ use Rattle.std.specs.Prelude.{nat_lt}
 use Rattle.std.proofs.lemmas.Bool.Decides.{nat_tests}
 use Rattle.perimeter_core.specs.declared.entries.Act.{Act}
 use Rattle.perimeter_core.specs.Blocks.{Blocks as Had}
-use Rattle.squeue_state.specs.Words.{StandsEmpty}
+use Rattle.squeue_state.specs.Clauses.{StandsEmpty}
 use Rattle.conn_blocks.specs.Places.{first_here}
 
 pub from_ok : {A E : Type 0} (P : A → Type 0) (r : Result A E) (x : A) → r ≡ Ok x → IfOk r P → P x

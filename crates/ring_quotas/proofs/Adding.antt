@@ -10,7 +10,7 @@ use Rattle.std.proofs.lemmas.Option.{slice_get-get_or}
 use Rattle.perimeter_core.specs.History.{all_quotas, feed_quotas}
 use Rattle.squeue_state.specs.declared.guarded.Quota.{Quota}
 use Rattle.squeue_state.specs.Behind.{pairs}
-use Rattle.squeue_state.specs.Words.{ask_quotas}
+use Rattle.squeue_state.specs.Clauses.{ask_quotas}
 use Rattle.squeue_state.proofs.RoomMade.{all_both}
 use Rattle.conn_classifier.specs.Plan.{PlanOf, items_in, items_together}
 use Rattle.conn_classifier.specs.declared.kinds.Item.{Item}

@@ -3,7 +3,7 @@
 ghost use Rattle.std.specs.Prelude.{◌≡◌, ◌<◌, ◌≤◌, ◌+◌, ◌*◌, ◌^◌, All, IfOk, Some, length, slice_get};
 ghost use Rattle.perimeter_core.specs.History.{all_quotas, feed_quotas};
 ghost use Rattle.squeue_state.specs.Behind.{pairs};
-ghost use Rattle.squeue_state.specs.Words.{ask_quotas};
+ghost use Rattle.squeue_state.specs.Clauses.{ask_quotas};
 ghost use Rattle.conn_blocks.specs.Allowed.{all_calls};
 ghost use Rattle.ring_quotas.specs.Quotas.{IsInRange, caller_asks, marks_most, quotas_of, ring_asks, ring_feeds};
 

@@ -5,7 +5,7 @@ use Rattle.std.proofs.lemmas.List.FromFn.{length-map-range_with_len}
 use Rattle.turn_gate.specs.History.{Each}
 use Rattle.perimeter_core.specs.History.{Setting}
 use Rattle.squeue_state.specs.Naming.{Named}
-use Rattle.squeue_state.specs.Words.{IsMade}
+use Rattle.squeue_state.specs.Clauses.{IsMade}
 use Rattle.conn_classifier.specs.Plan.{PlanOf}
 use Rattle.conn_blocks.specs.declared.blocks.Blocks.{Blocks}
 use Rattle.conn_blocks.specs.Allowed.{limits_in}

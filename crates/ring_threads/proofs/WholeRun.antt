@@ -20,7 +20,7 @@ use Rattle.perimeter_core.specs.History.{Element, Setting, run, worker}
 use Rattle.perimeter_core.specs.Deeds.{acts, due, feed_numbers}
 use Rattle.perimeter_core.specs.Legal.{Legal}
 use Rattle.squeue_state.specs.Naming.{Ending, Named, setting_of}
-use Rattle.squeue_state.specs.Words.{Knows}
+use Rattle.squeue_state.specs.Clauses.{Knows}
 use Rattle.squeue_state.specs.Told.{Traced, marks_of}
 use Rattle.conn_migrate.specs.Stays.{AreLinked, AreSameStays, stays}
 use Rattle.conn_classifier.specs.Plan.{PlanOf, items_in}

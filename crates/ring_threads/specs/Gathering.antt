@@ -12,7 +12,7 @@ use Rattle.conn_blocks.specs.Holding.{StandsFor}
 use Rattle.conn_blocks.specs.Places.{PlacesStand, Stands, limits_of, origin_of}
 use Rattle.squeue_state.specs.Naming.{Ending, Named, setting_of}
 use Rattle.squeue_state.specs.Endings.{HasEnded}
-use Rattle.squeue_state.specs.Words.{Knows}
+use Rattle.squeue_state.specs.Clauses.{Knows}
 use Rattle.squeue_state.specs.Told.{Traced, marks_of}
 
 -- nothing lies at any of these places

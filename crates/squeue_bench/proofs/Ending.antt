@@ -6,7 +6,7 @@ use Rattle.gate_trial.specs.Counted.{AreFrom}
 use Rattle.perimeter_core.specs.History.{Element, Limits}
 use Rattle.squeue_state.specs.Naming.{Named, setting_of}
 use Rattle.squeue_state.specs.Elements.{number_of}
-use Rattle.squeue_state.specs.Words.{HasSeenEnd}
+use Rattle.squeue_state.specs.Clauses.{HasSeenEnd}
 use Rattle.squeue_bench.specs.Places.{HasSeenOver}
 
 module _ {R : Type 0} (limits : R → Limits) where

@@ -22,7 +22,7 @@ use Rattle.squeue_state.specs.declared.guarded.Quota.{Quota}
 use Rattle.squeue_state.specs.Naming.{Named, setting_of}
 use Rattle.squeue_state.specs.Elements.{number_of}
 use Rattle.squeue_state.specs.Behind.{pairs}
-use Rattle.squeue_state.specs.Words.{IsMade, ask_quotas}
+use Rattle.squeue_state.specs.Clauses.{IsMade, ask_quotas}
 use Rattle.squeue_bench.specs.Rows.{IsRow}
 use Rattle.squeue_bench.specs.Places.{MayBring}
 use Rattle.squeue_bench.specs.Runs.{IsNewPass, Suits}

@@ -31,8 +31,8 @@ use Rattle.perimeter_core.proofs.Room.{queued_fits}
 use Rattle.perimeter_core.proofs.BehindAnAsk.{has_ask-append}
 use Rattle.squeue_state.specs.Naming.{Given, Named, Turned, Handed, setting_of}
 use Rattle.squeue_state.specs.Behind.{IsPeri}
-use Rattle.squeue_state.specs.Elements.{number_of, took, gone, granted}
-use Rattle.squeue_state.specs.Words.{Found, Marked, IsWhole, peri_left, first_entry, asker}
+use Rattle.squeue_state.specs.Elements.{number_of, taken_by, left_by_pass, granted_by}
+use Rattle.squeue_state.specs.Clauses.{Found, Marked, IsWhole, peri_left, first_entry, asker}
 use Rattle.squeue_drain.specs.declared.owner.Owner.{Owner}
 use Rattle.squeue_drain.specs.Owning.{Feeds, HasFeeds, NoFeedFirst, processed_by, state_of, fed_so_far}
 use Rattle.squeue_drain.specs.Draining.{GoesOn, Tells, Off, Onward, plain}
@@ -86,7 +86,7 @@ module _ {R P O : Type 0} {G : Ghosts R P O} {s : Named R} {o : Owner R} {u : Tu
   pub gives : IsPeri G s.given o.resident (peri_left G.limits s.given u.found o.hand Done.None [])
   gives = subst (λ (act : SynchAct). IsPeri G s.given o.resident (peri_left G.limits s.given u.found o.hand act [])) is.no_act at.resident
 
-  pub leaves : length o.hand.left < length (state_of G.limits s o).hand → May S u.found (gone u.number (length o.hand.left) Done.None [])
+  pub leaves : length o.hand.left < length (state_of G.limits s o).hand → May S u.found (left_by_pass u.number (length o.hand.left) Done.None [])
   leaves some =
       may_leave S u.found u.number (length o.hand.left) f.legal at.own (within (run S u.found).hand o.hand.left at.left.is_left)
       (only_last_of_feeds u.number (processed (length o.hand.left) (run S u.found).hand) front_feeds)
@@ -136,7 +136,7 @@ module _ {R P O : Type 0} {G : Ghosts R P O} {s : Named R} {o : Owner R} {u : Tu
       ap (λ (h : List Element). feed_count (done S h)) e ∙ (more ∙ (ap (λ (k : ℕ). k + feed_count xs) at.same_done ∙ ap (λ (k : ℕ). feed_count (done S (seen o.pass)) + k) same))
 
   pub left : {spent : Bool} {q : Pass Element} → length o.hand.left < length (state_of G.limits s o).hand → (spent ≡ false → (o.hand.left ≡ []) × ((run S u.found).chain ≡ []))
-      → Marked u (gone u.number (length o.hand.left) Done.None []) q → Off G.limits s spent o q
+      → Marked u (left_by_pass u.number (length o.hand.left) Done.None []) q → Off G.limits s spent o q
   left {spent} {q} some why m =
       let mark : Mark = On.Leave u.number (length o.hand.left) Done.None in
       let H : List Element = u.found in
@@ -160,7 +160,7 @@ module _ {R P O : Type 0} {G : Ghosts R P O} {s : Named R} {o : Owner R} {u : Tu
       }
 
   pub left_tells : {q : Pass Element} {rest : ℕ} {polling : Bool} → rest ≡ length o.hand.left + length (run S u.found).chain
-      → ((es : List Entry) → length es ≡ rest → polling ≡ polls es (run S u.found).polling) → Marked u (gone u.number (length o.hand.left) Done.None []) q → Tells G.limits s q rest polling
+      → ((es : List Entry) → length es ≡ rest → polling ≡ polls es (run S u.found).polling) → Marked u (left_by_pass u.number (length o.hand.left) Done.None []) q → Tells G.limits s q rest polling
   left_tells {q} {rest} {polling} count told m =
       let mark : Mark = On.Leave u.number (length o.hand.left) Done.None in
       let queue : List Entry = unprocessed (length o.hand.left) (run S u.found).hand ++ (run S u.found).chain in
@@ -186,18 +186,18 @@ module _ {R P O : Type 0} {G : Ghosts R P O} {s : Named R} {o : Owner R} {u : Tu
       omega (arith, all, part)
 
   -- the owner has processed its hand and takes the queue
-  pub takes : o.hand.left ≡ [] → (run T u.found).chain ≢ [] → May T u.found (took u.number)
+  pub takes : o.hand.left ≡ [] → (run T u.found).chain ≢ [] → May T u.found (taken_by u.number)
   takes none queued =
       let done : processed (length o.hand.left) (run T u.found).hand ≡ (run T u.found).hand = none_left (run T u.found).hand o.hand.left here.left.is_left none in
       may_take T u.found u.number f.legal here.own queued (ap all_feeds (sym done) ∙ (ap all_feeds here.same_front ∙ is.feeds)) (λ e. has.some (sym here.hand ∙ e))
 
-  pub taken : o.hand.left ≡ [] → (run T u.found).chain ≢ [] → {q : Pass Element} {h : Handed} → Marked u (took u.number) q → IsWhole G.limits s.given (seen q) h
+  pub taken : o.hand.left ≡ [] → (run T u.found).chain ≢ [] → {q : Pass Element} {h : Handed} → Marked u (taken_by u.number) q → IsWhole G.limits s.given (seen q) h
       → Onward G s o record o { pass = q; hand = h }
   taken none queued {q} {h} m whole =
       let mark : Mark = On.Take u.number in
       let H : List Element = u.found in
       let may = takes none queued in
-      let on = marked_on G.limits s o.pass q u (took u.number) f may m in
+      let on = marked_on G.limits s o.pass q u (taken_by u.number) f may m in
       let state : run T (seen q) ≡ after (run T H) mark = ap (run T) m.now_seen ∙ run_push (start T) H (plain mark) in
       let hand : (run T (seen q)).hand ≡ (run T H).chain = ap (λ (t : State). t.hand) state in
       let w = whole_left (run T (seen q)).hand h.left whole.is_whole in
@@ -237,8 +237,8 @@ module _ {R P O : Type 0} {G : Ghosts R P O} {s : Named R} {o : Owner R} {u : Tu
         goes_on = on;
         since = f.goes_on.0;
         others = others G.limits s o.pass u is.owns.pass f;
-        now_seen = m.now_seen ∙ (ap (λ (h : List Element). h ++ took u.number ∷ []) f.goes_on.1 ∙ ap (λ (k : ℕ). (seen o.pass ++ f.goes_on.0) ++ took k ∷ []) f.same_number);
-        now_mine = m.now_mine ∙ (ap (λ (h : List Element). h ++ took u.number ∷ []) f.same_mine ∙ ap (λ (k : ℕ). mine o.pass ++ took k ∷ []) f.same_number);
+        now_seen = m.now_seen ∙ (ap (λ (h : List Element). h ++ taken_by u.number ∷ []) f.goes_on.1 ∙ ap (λ (k : ℕ). (seen o.pass ++ f.goes_on.0) ++ taken_by k ∷ []) f.same_number);
+        now_mine = m.now_mine ∙ (ap (λ (h : List Element). h ++ taken_by u.number ∷ []) f.same_mine ∙ ap (λ (k : ℕ). mine o.pass ++ taken_by k ∷ []) f.same_number);
         count = omega (arith, none_so_far, before, same, here.same_done);
         closed = ap (λ (t : State). is_closed t (number o.pass)) state ∙ here.closed;
       }
@@ -324,7 +324,7 @@ ask_first (Entry'.Ask j ∷ xs) none some = (j, xs, refl)
 pub asks : (j : ℕ) (xs rest : List Entry) → xs ≡ Entry'.Ask j ∷ rest → first_entry xs ≡ Some (Entry'.Ask (asker xs))
 asks j xs rest h = rw h refl
 
-pub granted_is : (p j : ℕ) (xs rest : List Entry) → xs ≡ Entry'.Ask j ∷ rest → granted p (asker xs) (length xs - 1) ≡ plain (On.Grant p j (length rest))
+pub granted_is : (p j : ℕ) (xs rest : List Entry) → xs ≡ Entry'.Ask j ∷ rest → granted_by p (asker xs) (length xs - 1) ≡ plain (On.Grant p j (length rest))
 granted_is p j xs rest h = let one : suc (length rest) - 1 ≡ length rest = omega arith in rw h (ap (λ (k : ℕ). plain (On.Grant p j k)) one)
 
 pub some_of : {A : Type 0} (xs : List A) → length xs ≢ 0 → xs ≢ []

@@ -13,7 +13,7 @@ use Rattle.squeue_state.specs.Naming.{Named, setting_of}
 use Rattle.perimeter_core.specs.declared.entries.Entry.{Entry}
 use Rattle.perimeter_core.specs.declared.marks.SynchAct.TheVariants as Done
 use Rattle.perimeter_core.specs.declared.marks.Mark.TheVariants as On
-use Rattle.squeue_state.specs.Elements.{took, gone}
+use Rattle.squeue_state.specs.Elements.{taken_by, left_by_pass}
 use Rattle.squeue_drain.specs.declared.owner.Owner.{Owner}
 use Rattle.squeue_drain.specs.Owning.{Feeds, HasFeeds, processed_by, state_of, fed_so_far}
 use Rattle.squeue_drain.specs.Draining.{plain, is_leave, Ends, StaysBelow, GoesOn, TookOnly, Drained, Off, Onward, ServedOne}
@@ -30,10 +30,10 @@ push_same (suc k) x = ap (λ xs. x ∷ xs) (push_same k x)
 pub took_none : (p : ℕ) (q : Pass Element) → TookOnly p q q
 took_none p q = (0, sym (append-nil (mine q)))
 
-pub took_more : (p n : ℕ) (from mid to : Pass Element) → TookOnly p from mid → n ≡ p → mine to ≡ mine mid ++ took n ∷ [] → TookOnly p from to
+pub took_more : (p n : ℕ) (from mid to : Pass Element) → TookOnly p from mid → n ≡ p → mine to ≡ mine mid ++ taken_by n ∷ [] → TookOnly p from to
 took_more p n from mid to t same one =
-    let e : mine to ≡ (mine from ++ replicate t.0 (took p)) ++ took p ∷ [] = one ∙ (ap (λ (h : List Element). h ++ took n ∷ []) t.1 ∙ ap (λ (k : ℕ). (mine from ++ replicate t.0 (took p)) ++ took k ∷ []) same) in
-    (suc t.0, e ∙ (append_assoc (mine from) (replicate t.0 (took p)) (took p ∷ []) ∙ ap (λ (h : List Element). mine from ++ h) (push_same t.0 (took p))))
+    let e : mine to ≡ (mine from ++ replicate t.0 (taken_by p)) ++ taken_by p ∷ [] = one ∙ (ap (λ (h : List Element). h ++ taken_by n ∷ []) t.1 ∙ ap (λ (k : ℕ). (mine from ++ replicate t.0 (taken_by p)) ++ taken_by k ∷ []) same) in
+    (suc t.0, e ∙ (append_assoc (mine from) (replicate t.0 (taken_by p)) (taken_by p ∷ []) ∙ ap (λ (h : List Element). mine from ++ h) (push_same t.0 (taken_by p))))
 
 grown : (a b c d : List Element) (e : Element) → d ≡ a ++ b → (d ++ c) ++ e ∷ [] ≡ a ++ ((b ++ c) ++ e ∷ [])
 grown a b c d e h =
@@ -124,7 +124,7 @@ module _ {R P O : Type 0} (G : Ghosts R P O) (s : Named R) where
   pub since_taken : (budget rest : ℕ) (first o next : Owner R) → 1 ≤ rest → Since budget rest first o → Onward G s o next → Since budget rest first next
   since_taken budget rest first o next some k on =
       let same : number o.pass ≡ number first.pass = k.goes_on.same_number in
-      let e : Element = took (number o.pass) in
+      let e : Element = taken_by (number o.pass) in
       let saw : seen next.pass ≡ seen first.pass ++ ((k.made ++ on.since) ++ e ∷ []) = on.now_seen ∙ grown (seen first.pass) k.made on.since (seen o.pass) e k.so_far in
       let whole : (seen first.pass ++ (k.made ++ on.since)) ++ e ∷ [] ≡ seen next.pass = append_assoc (seen first.pass) (k.made ++ on.since) (e ∷ []) ∙ sym saw in
       let few : feed_count (done S ((seen first.pass ++ (k.made ++ on.since)) ++ e ∷ [])) < fed_so_far G.limits s first + budget =
@@ -153,7 +153,7 @@ module _ {R P O : Type 0} (G : Ghosts R P O) (s : Named R) where
         last = off.last;
         ends = subst (λ (n : ℕ). Ends n off.last) same off.ends;
         now_seen = saw;
-        now_mine = off.now_mine ∙ (ap (λ (h : List Element). h ++ plain off.last ∷ []) tk.1 ∙ append_assoc (mine first.pass) (replicate tk.0 (took (number first.pass))) (plain off.last ∷ []));
+        now_mine = off.now_mine ∙ (ap (λ (h : List Element). h ++ plain off.last ∷ []) tk.1 ∙ append_assoc (mine first.pass) (replicate tk.0 (taken_by (number first.pass))) (plain off.last ∷ []));
         most = omega (arith, off.count, k.count);
         full = λ leave some. all spent refl leave some;
         spent = below_more S (number first.pass) (fed_so_far G.limits s first + budget) (seen first.pass) k.made off.since (plain off.last) k.below (subst (λ (n : ℕ). made_by n off.since ≡ []) same off.others)
@@ -182,8 +182,8 @@ module _ {R P O : Type 0} (G : Ghosts R P O) (s : Named R) where
 
   pub served_one : (o n : Owner R) (to : Pass Element) → n.pass ≡ o.pass → n.hand.left ≡ [] → Off G.limits s true n to → ServedOne G.limits s o to
   served_one o n to same none off =
-      let last : plain off.last ≡ gone (number n.pass) 0 Done.None [] = ap plain (off.leaves refl ∙ ap (λ (xs : List Entry). On.Leave (number n.pass) (length xs) Done.None) none) in
-      subst (λ (p : Pass Element). GoesOn G.limits s p to × (made_by (number p) off.since ≡ []) × (seen to ≡ (seen p ++ off.since) ++ gone (number p) 0 Done.None [] ∷ [])
-      × (mine to ≡ mine p ++ gone (number p) 0 Done.None [] ∷ []) × (is_closed (run (setting_of G.limits s.given) (seen p)) (number p) ≡ false → Idle (run (setting_of G.limits s.given) (seen to)) (number p)) → ServedOne G.limits s o to) (sym same)
+      let last : plain off.last ≡ left_by_pass (number n.pass) 0 Done.None [] = ap plain (off.leaves refl ∙ ap (λ (xs : List Entry). On.Leave (number n.pass) (length xs) Done.None) none) in
+      subst (λ (p : Pass Element). GoesOn G.limits s p to × (made_by (number p) off.since ≡ []) × (seen to ≡ (seen p ++ off.since) ++ left_by_pass (number p) 0 Done.None [] ∷ [])
+      × (mine to ≡ mine p ++ left_by_pass (number p) 0 Done.None [] ∷ []) × (is_closed (run (setting_of G.limits s.given) (seen p)) (number p) ≡ false → Idle (run (setting_of G.limits s.given) (seen to)) (number p)) → ServedOne G.limits s o to) (sym same)
       (λ k. record { goes_on = k.0; since = off.since; others = k.1; now_seen = k.2; now_mine = k.3; idle = k.4 })
       (off.goes_on, off.others, off.now_seen ∙ ap (λ (e : Element). (seen n.pass ++ off.since) ++ e ∷ []) last, off.now_mine ∙ ap (λ (e : Element). mine n.pass ++ e ∷ []) last, off.idle)

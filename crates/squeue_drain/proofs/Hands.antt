@@ -1,6 +1,6 @@
 -- A hand that is processed from the front.
 use Rattle.std.specs.Prelude.{Some}
-use Rattle.squeue_state.specs.Words.{first_entry}
+use Rattle.squeue_state.specs.Clauses.{first_entry}
 use Rattle.std.proofs.Common.{◌≡◌, ◌≢◌, ℕ, suc, ◌-◌, ◌≤◌, Bool, true, false, ◌||◌, ◌==◌, List, [], ◌∷◌, ◌++◌, length, take, drop, refl, ap, sym, ◌∙◌, append_assoc, arith, length-append}
 use Rattle.std.proofs.lemmas.List.{take-append-drop}
 use Rattle.std.proofs.Math.Seq.{take-append_seam, drop-append_seam}

@@ -17,7 +17,7 @@ use Rattle.perimeter_core.proofs.Rests.{rests_since}
 use Rattle.squeue_state.specs.Naming.{Named, Turned, setting_of}
 use Rattle.squeue_state.specs.Behind.{IsPeri}
 use Rattle.squeue_state.specs.Elements.{number_of}
-use Rattle.squeue_state.specs.Words.{Found, IsLeft, peri_left}
+use Rattle.squeue_state.specs.Clauses.{Found, IsLeft, peri_left}
 use Rattle.squeue_drain.specs.declared.owner.Owner.{Owner}
 use Rattle.squeue_drain.specs.Owning.{Owns, processed_by, state_of}
 use Rattle.squeue_state.proofs.Makers.{others_made}

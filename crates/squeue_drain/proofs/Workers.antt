@@ -20,8 +20,8 @@ use Rattle.perimeter_core.proofs.QueuedRange.{queued_range, range_right}
 use Rattle.perimeter_core.proofs.OwnAsk.{no_worker}
 use Rattle.squeue_state.specs.Naming.{Named, Turned, Handed, setting_of}
 use Rattle.squeue_state.specs.Behind.{IsPeri}
-use Rattle.squeue_state.specs.Elements.{number_of, took, worked}
-use Rattle.squeue_state.specs.Words.{Found, Marked, Unmarked, IsWhole}
+use Rattle.squeue_state.specs.Elements.{number_of, taken_by, worked_by}
+use Rattle.squeue_state.specs.Clauses.{Found, Marked, Unmarked, IsWhole}
 use Rattle.squeue_drain.specs.declared.owner.Owner.{Owner}
 use Rattle.squeue_drain.specs.Owning.{Feeds, HasFeeds, NoFeedFirst}
 use Rattle.squeue_drain.specs.Draining.{plain, is_leave, Ends, LeavesNothing, GoesOn, Off, Onward}
@@ -114,14 +114,14 @@ module _ {R : Type 0} (limits : R → Limits) (s : Named R) where
       }
 
   -- a turn in which the worker took the queue
-  pub worked_on : (p q : Pass Element) (u : Turned R) → IsPassOf number_of s.gate p → Found limits s p u → May (setting_of limits s.given) u.found (worked u.number) → Marked u (worked u.number) q → Worked limits s p q
+  pub worked_on : (p q : Pass Element) (u : Turned R) → IsPassOf number_of s.gate p → Found limits s p u → May (setting_of limits s.given) u.found (worked_by u.number) → Marked u (worked_by u.number) q → Worked limits s p q
   worked_on p q u is f may m =
       record {
-        goes_on = marked_on limits s p q u (worked u.number) f may m;
-        since = f.goes_on.0 ++ worked u.number ∷ [];
-        now_seen = m.now_seen ∙ (ap (λ (G : List Element). G ++ worked u.number ∷ []) f.goes_on.1 ∙ append_assoc (seen p) f.goes_on.0 (worked u.number ∷ []));
-        leaves = one_behind (setting_of limits s.given) (number p) (seen p) f.goes_on.0 (worked u.number) (others limits s p u is f) tt;
-        nothing_waits = taken_calm (run (setting_of limits s.given) (seen q)) u.number (ap (λ (h : List Element). (run (setting_of limits s.given) h).own) m.now_seen ∙ ap (λ (t : State). t.own) (run_push (start (setting_of limits s.given)) u.found (worked u.number)));
+        goes_on = marked_on limits s p q u (worked_by u.number) f may m;
+        since = f.goes_on.0 ++ worked_by u.number ∷ [];
+        now_seen = m.now_seen ∙ (ap (λ (G : List Element). G ++ worked_by u.number ∷ []) f.goes_on.1 ∙ append_assoc (seen p) f.goes_on.0 (worked_by u.number ∷ []));
+        leaves = one_behind (setting_of limits s.given) (number p) (seen p) f.goes_on.0 (worked_by u.number) (others limits s p u is f) tt;
+        nothing_waits = taken_calm (run (setting_of limits s.given) (seen q)) u.number (ap (λ (h : List Element). (run (setting_of limits s.given) h).own) m.now_seen ∙ ap (λ (t : State). t.own) (run_push (start (setting_of limits s.given)) u.found (worked_by u.number)));
       }
 
 module _ {R P O : Type 0} (G : Ghosts R P O) (s : Named R) where
@@ -129,9 +129,9 @@ module _ {R P O : Type 0} (G : Ghosts R P O) (s : Named R) where
   worked_onward o next on =
       record {
         goes_on = on.goes_on;
-        since = on.since ++ took (number o.pass) ∷ [];
-        now_seen = on.now_seen ∙ append_assoc (seen o.pass) on.since (took (number o.pass) ∷ []);
-        leaves = one_behind (setting_of G.limits s.given) (number o.pass) (seen o.pass) on.since (took (number o.pass)) on.others tt;
+        since = on.since ++ taken_by (number o.pass) ∷ [];
+        now_seen = on.now_seen ∙ append_assoc (seen o.pass) on.since (taken_by (number o.pass) ∷ []);
+        leaves = one_behind (setting_of G.limits s.given) (number o.pass) (seen o.pass) on.since (taken_by (number o.pass)) on.others tt;
         nothing_waits = taken_calm (run (setting_of G.limits s.given) (seen next.pass)) (number next.pass) on.feeds.owns.own;
       }
 
@@ -140,12 +140,12 @@ module _ {R P O : Type 0} (G : Ghosts R P O) (s : Named R) where
     pub feeds : Feeds G s record { pass = q; resident = r; hand = h; act = Done.None }
     pub has : HasFeeds G.limits s record { pass = q; resident = r; hand = h; act = Done.None }
 
-  pub works : (p : Pass Element) (u : Turned R) (q : Pass Element) (r : R) (h : Handed) → Found G.limits s p u → number p ≡ worker (setting_of G.limits s.given) → May (setting_of G.limits s.given) u.found (worked u.number)
-      → Marked u (worked u.number) q → IsWhole G.limits s.given (seen q) h → IsPeri G s.given r (peri (setting_of G.limits s.given) (seen q)) → Works q r h
+  pub works : (p : Pass Element) (u : Turned R) (q : Pass Element) (r : R) (h : Handed) → Found G.limits s p u → number p ≡ worker (setting_of G.limits s.given) → May (setting_of G.limits s.given) u.found (worked_by u.number)
+      → Marked u (worked_by u.number) q → IsWhole G.limits s.given (seen q) h → IsPeri G s.given r (peri (setting_of G.limits s.given) (seen q)) → Works q r h
   works p u q r h f is may m whole peri =
       let S : Setting = setting_of G.limits s.given in
-      let on = marked_on G.limits s p q u (worked u.number) f may m in
-      let state : run S (seen q) ≡ after (run S u.found) (On.Work u.number) = ap (run S) m.now_seen ∙ run_push (start S) u.found (worked u.number) in
+      let on = marked_on G.limits s p q u (worked_by u.number) f may m in
+      let state : run S (seen q) ≡ after (run S u.found) (On.Work u.number) = ap (run S) m.now_seen ∙ run_push (start S) u.found (worked_by u.number) in
       let hand : (run S (seen q)).hand ≡ (run S u.found).chain = ap (λ (t : State). t.hand) state in
       let queued = ((wake_of_sound (run S u.found) (sound S u.found f.legal)).wake.0 may.step.1).1 in
       let range = range_right S (run S u.found).hand (run S u.found).chain (queued_range S u.found f.legal) in
@@ -160,7 +160,7 @@ module _ {R P O : Type 0} (G : Ghosts R P O) (s : Named R) where
 
 -- where the turn shows that something waits for the worker
 pub may_here : {R : Type 0} (limits : R → Limits) (s : Named R) (p : Pass Element) (u : Turned R) → Found limits s p u → number p ≡ worker (setting_of limits s.given)
-    → ((run (setting_of limits u.squeue.given) u.found).own ≡ Free) × ((run (setting_of limits u.squeue.given) u.found).wake ≡ true) → May (setting_of limits s.given) u.found (worked u.number)
+    → ((run (setting_of limits u.squeue.given) u.found).own ≡ Free) × ((run (setting_of limits u.squeue.given) u.found).wake ≡ true) → May (setting_of limits s.given) u.found (worked_by u.number)
 may_here limits s p u f is waits =
     let same = same_state limits u.squeue s u.found f.squeue in
     may_work (setting_of limits s.given) u.found u.number f.legal (ap (λ (t : State). t.own) (sym same) ∙ waits.0) (ap (λ (t : State). t.wake) (sym same) ∙ waits.1) (f.same_number ∙ is)

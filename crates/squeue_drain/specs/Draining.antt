@@ -12,7 +12,7 @@ use Rattle.perimeter_core.specs.History.{Element, Setting, Limits, pass_of, run,
 use Rattle.perimeter_core.specs.Deeds.{done}
 use Rattle.perimeter_core.specs.Legal.{Legal, feed_count}
 use Rattle.squeue_state.specs.Naming.{Named, setting_of}
-use Rattle.squeue_state.specs.Elements.{number_of, took, gone}
+use Rattle.squeue_state.specs.Elements.{number_of, taken_by, left_by_pass}
 use Rattle.squeue_drain.specs.declared.owner.Owner.{Owner}
 use Rattle.squeue_drain.specs.Owning.{Feeds, HasFeeds, state_of, fed_so_far}
 
@@ -49,7 +49,7 @@ pub record Tells {R : Type 0} (limits : R → Limits) (s : Named R) (p : Pass El
 
 -- p took the queue some times, and made no other mark
 abbrev pub TookOnly : ℕ → Pass Element → Pass Element → Type 0
-TookOnly p from to = (takes : ℕ) × (mine to ≡ mine from ++ replicate takes (took p))
+TookOnly p from to = (takes : ℕ) × (mine to ≡ mine from ++ replicate takes (taken_by p))
 
 -- Wherever a mark of p among these elements doesn't leave, fewer than so many feeds were processed until then; the elements
 -- stand behind the past
@@ -68,7 +68,7 @@ pub record Drained {R : Type 0} (limits : R → Limits) (s : Named R) (budget : 
   pub last : Mark
   pub ends : Ends (number o.pass) last
   pub now_seen : seen to ≡ seen o.pass ++ (between ++ plain last ∷ [])
-  pub now_mine : mine to ≡ mine o.pass ++ (replicate takes (took (number o.pass)) ++ plain last ∷ [])
+  pub now_mine : mine to ≡ mine o.pass ++ (replicate takes (taken_by (number o.pass)) ++ plain last ∷ [])
   pub most : feed_count (done (setting_of limits s.given) (seen to)) ≤ fed_so_far limits s o + budget
   pub full : is_leave last ≡ true → (run (setting_of limits s.given) (seen to)).chain ≢ []
       → feed_count (done (setting_of limits s.given) (seen to)) ≡ fed_so_far limits s o + budget
@@ -98,8 +98,8 @@ pub record Onward {R P O : Type 0} (G : Ghosts R P O) (s : Named R) (o next : Ow
   pub goes_on : GoesOn G.limits s o.pass next.pass
   pub since : List Element
   pub others : made_by (number o.pass) since ≡ []
-  pub now_seen : seen next.pass ≡ (seen o.pass ++ since) ++ took (number o.pass) ∷ []
-  pub now_mine : mine next.pass ≡ mine o.pass ++ took (number o.pass) ∷ []
+  pub now_seen : seen next.pass ≡ (seen o.pass ++ since) ++ taken_by (number o.pass) ∷ []
+  pub now_mine : mine next.pass ≡ mine o.pass ++ taken_by (number o.pass) ∷ []
   pub count : fed_so_far G.limits s next ≡ fed_so_far G.limits s o
   pub closed : is_closed (state_of G.limits s next) (number o.pass) ≡ is_closed (state_of G.limits s o) (number o.pass)
 
@@ -108,6 +108,6 @@ pub record ServedOne {R : Type 0} (limits : R → Limits) (s : Named R) (o : Own
   pub goes_on : GoesOn limits s o.pass to
   pub since : List Element
   pub others : made_by (number o.pass) since ≡ []
-  pub now_seen : seen to ≡ (seen o.pass ++ since) ++ gone (number o.pass) 0 Done.None [] ∷ []
-  pub now_mine : mine to ≡ mine o.pass ++ gone (number o.pass) 0 Done.None [] ∷ []
+  pub now_seen : seen to ≡ (seen o.pass ++ since) ++ left_by_pass (number o.pass) 0 Done.None [] ∷ []
+  pub now_mine : mine to ≡ mine o.pass ++ left_by_pass (number o.pass) 0 Done.None [] ∷ []
   pub idle : is_closed (state_of limits s o) (number o.pass) ≡ false → Idle (run (setting_of limits s.given) (seen to)) (number o.pass)

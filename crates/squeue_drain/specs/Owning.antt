@@ -14,7 +14,7 @@ use Rattle.perimeter_core.specs.Legal.{Legal, all_feeds, feed_count}
 use Rattle.squeue_state.specs.Naming.{Named, setting_of}
 use Rattle.squeue_state.specs.Behind.{IsPeri}
 use Rattle.squeue_state.specs.Elements.{number_of}
-use Rattle.squeue_state.specs.Words.{IsLeft, peri_left}
+use Rattle.squeue_state.specs.Clauses.{IsLeft, peri_left}
 use Rattle.squeue_drain.specs.declared.owner.Owner.{Owner}
 
 -- the state after what the owner's pass has seen, and what the owner has processed of its hand

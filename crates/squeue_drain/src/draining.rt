@@ -6,9 +6,9 @@ ghost use Rattle.perimeter_core.specs.Perimeter.{polls};
 ghost use Rattle.perimeter_core.specs.History.{run};
 ghost use Rattle.perimeter_core.specs.Legal.{May};
 ghost use Rattle.squeue_state.specs.Naming.{setting_of};
-ghost use Rattle.squeue_state.specs.Elements.{gone, granted};
+ghost use Rattle.squeue_state.specs.Elements.{left_by_pass, granted_by};
 ghost use Rattle.squeue_state.specs.Behind.{IsPeri};
-ghost use Rattle.squeue_state.specs.Words.{IsLeft, Marked, peri_left, first_entry, asker};
+ghost use Rattle.squeue_state.specs.Clauses.{IsLeft, Marked, peri_left, first_entry, asker};
 ghost use Rattle.perimeter_core.specs.declared.entries.Entry.TheVariants as Entry';
 ghost use Rattle.squeue_drain.specs.Owning.{Feeds, HasFeeds, NoFeedFirst, state_of};
 ghost use Rattle.squeue_drain.specs.Draining.{Drained, ServedOne, Tells};
@@ -126,9 +126,9 @@ fn leave<R: Resident>(sq: &Squeue<R>, turn: Turn<R>, resident: R, hand: Hand) ->
     requires squeue { turn.squeue ≡ sq.now }
     requires hand { IsLeft R.limits sq.now.given turn.found hand }
     requires resident { IsPeri R.Resident sq.now.given resident (peri_left R.limits sq.now.given turn.found hand Done.None []) }
-    requires may { May (setting_of R.limits sq.now.given) turn.found (gone turn.number (length hand.left) Done.None []) }
+    requires may { May (setting_of R.limits sq.now.given) turn.found (left_by_pass turn.number (length hand.left) Done.None []) }
     requires room { length hand.left + length (run (setting_of R.limits sq.now.given) turn.found).chain < 2 ^ 31 }
-    ensures marked { Marked turn (gone turn.number (length hand.left) Done.None []) result.0 }
+    ensures marked { Marked turn (left_by_pass turn.number (length hand.left) Done.None []) result.0 }
     ensures rest { result.1 ≡ length hand.left + length (run (setting_of R.limits sq.now.given) turn.found).chain }
     ensures polling { (es : List Entry) → length es ≡ result.1 → result.2 ≡ polls es (run (setting_of R.limits sq.now.given) turn.found).polling }
 {
@@ -147,9 +147,9 @@ fn grant<R: Resident>(sq: &Squeue<R>, turn: Turn<R>, resident: R, hand: Hand) ->
     requires hand { IsLeft R.limits sq.now.given turn.found hand }
     requires first { first_entry hand.left ≡ Some (Entry'.Ask (asker hand.left)) }
     requires resident { IsPeri R.Resident sq.now.given resident (peri_left R.limits sq.now.given turn.found hand Done.None []) }
-    requires may { May (setting_of R.limits sq.now.given) turn.found (granted turn.number (asker hand.left) (length hand.left - 1)) }
+    requires may { May (setting_of R.limits sq.now.given) turn.found (granted_by turn.number (asker hand.left) (length hand.left - 1)) }
     requires room { length hand.left + length (run (setting_of R.limits sq.now.given) turn.found).chain < 2 ^ 31 }
-    ensures marked { Marked turn (granted turn.number (asker hand.left) (length hand.left - 1)) result.0 }
+    ensures marked { Marked turn (granted_by turn.number (asker hand.left) (length hand.left - 1)) result.0 }
     ensures rest { result.1 + 1 ≡ length hand.left + length (run (setting_of R.limits sq.now.given) turn.found).chain }
     ensures polling { (es : List Entry) → length es ≡ result.1 → result.2 ≡ polls es (run (setting_of R.limits sq.now.given) turn.found).polling }
 {

@@ -19,7 +19,7 @@ use Rattle.perimeter_core.proofs.OneMore.{legal_front}
 use Rattle.perimeter_core.proofs.OwnCounts.{own_counts}
 use Rattle.squeue_state.proofs.Makers.{only_made}
 use Rattle.squeue_state.specs.Naming.{Named, setting_of}
-use Rattle.squeue_state.specs.Elements.{number_of, filled, fasted, claimed, took}
+use Rattle.squeue_state.specs.Elements.{number_of, filled_by, fast_by, claimed_by, taken_by}
 use Rattle.squeue_drain.specs.Draining.{plain, Ends}
 use Rattle.squeue_enter.specs.declared.Mode.{Mode}
 use Rattle.squeue_enter.specs.declared.entering.How.{How}
@@ -66,7 +66,7 @@ pub none_count : (b : Bool) → (if b then 0 else 0) + 0 ≡ 0
 none_count true = refl
 none_count false = refl
 
-brings_took : (p n : ℕ) → Brings p [] (replicate n (took p))
+brings_took : (p n : ℕ) → Brings p [] (replicate n (taken_by p))
 brings_took p zero = brings_none p
 brings_took p (suc n) =
     let r = brings_took p n in
@@ -95,13 +95,13 @@ no_asks p es = own_count p (ask_count (entries es)) ∙ no_asks_in (entries es) 
 all_count : (p : ℕ) (es : List FeedOf) → (if p == p then feed_count (entries es) else 0) + 0 ≡ length es
 all_count p es = own_count p (feed_count (entries es)) ∙ count_entries es
 
-brings_fill : (p : ℕ) (es : List FeedOf) → Brings p es (filled p es ∷ [])
+brings_fill : (p : ℕ) (es : List FeedOf) → Brings p es (filled_by p es ∷ [])
 brings_fill p es = record { feeds = all_count p es; asks = no_asks p es; next = λ c n. refl; here = λ c b. refl; left = λ c. refl }
 
-brings_claim : (p : ℕ) (es : List FeedOf) → Brings p es (claimed p es ∷ [])
+brings_claim : (p : ℕ) (es : List FeedOf) → Brings p es (claimed_by p es ∷ [])
 brings_claim p es = record { feeds = all_count p es; asks = no_asks p es; next = λ c n. refl; here = λ c b. refl; left = λ c. refl }
 
-brings_fast : (p : ℕ) (f : FeedOf) → Brings p (f ∷ []) (fasted p f ∷ [])
+brings_fast : (p : ℕ) (f : FeedOf) → Brings p (f ∷ []) (fast_by p f ∷ [])
 brings_fast p f = record { feeds = all_count p (f ∷ []); asks = no_asks p (f ∷ []); next = λ c n. refl; here = λ c b. refl; left = λ c. refl }
 
 -- what a pass adds to its own elements
@@ -111,23 +111,23 @@ Adds p es M N = (T : List Element) × (N ≡ M ++ T) × Brings p es T
 adds_two : (p : ℕ) (es : List FeedOf) (e : Element) (M K N : List Element) → N ≡ (M ++ e ∷ []) ++ K → Brings p es (e ∷ []) → Brings p [] K → Adds p es M N
 adds_two p es e M K N is a b = (e ∷ K, is ∙ append_assoc M (e ∷ []) K, brings_both p es (e ∷ []) K a b)
 
-brings_end : (p takes : ℕ) (m : Mark) → Ends p m → Brings p [] (replicate takes (took p) ++ plain m ∷ [])
-brings_end p takes m e = brings_both p [] (replicate takes (took p)) (plain m ∷ []) (brings_took p takes) (brings_last p m e)
+brings_end : (p takes : ℕ) (m : Mark) → Ends p m → Brings p [] (replicate takes (taken_by p) ++ plain m ∷ [])
+brings_end p takes m e = brings_both p [] (replicate takes (taken_by p)) (plain m ∷ []) (brings_took p takes) (brings_last p m e)
 
-brings_alone : (p : ℕ) (f : FeedOf) (es : List FeedOf) → es ≡ f ∷ [] → Brings p es (fasted p f ∷ [])
-brings_alone p f es is = subst (λ (xs : List FeedOf). Brings p xs (fasted p f ∷ [])) (sym is) (brings_fast p f)
+brings_alone : (p : ℕ) (f : FeedOf) (es : List FeedOf) → es ≡ f ∷ [] → Brings p es (fast_by p f ∷ [])
+brings_alone p f es is = subst (λ (xs : List FeedOf). Brings p xs (fast_by p f ∷ [])) (sym is) (brings_fast p f)
 
 -- by the table of ways
 adds : (S : Setting) (mode : Mode) (free empty one : Bool) (p budget : ℕ) (es : List FeedOf) (H M : List Element) (to : Pass Element) (how : How) → Went S (way_of mode free empty one) p budget es H M to how → Adds p es M (mine to)
-adds S Process true true true p budget es H M to how w = adds_two p es (fasted p w.0) M _ (mine to) w.3.now_mine (brings_alone p w.0 es w.1) (brings_end p w.3.takes w.3.last w.3.ends)
-adds S Process true true false p budget es H M to how w = adds_two p es (claimed p es) M _ (mine to) w.1.now_mine (brings_claim p es) (brings_end p w.1.takes w.1.last w.1.ends)
-adds S Process true false one p budget es H M to how w = adds_two p es (claimed p es) M _ (mine to) w.1.now_mine (brings_claim p es) (brings_end p w.1.takes w.1.last w.1.ends)
-adds S Process false empty one p budget es H M to how w = (filled p es ∷ [], w.2, brings_fill p es)
-adds S NoDrain true true true p budget es H M to how w = adds_two p es (fasted p w.0) M _ (mine to) w.3.now_mine (brings_alone p w.0 es w.1) (brings_last p (On.Leave p 0 Done.None) refl)
-adds S NoDrain true true false p budget es H M to how w = (filled p es ∷ [], w.2, brings_fill p es)
-adds S NoDrain true false one p budget es H M to how w = (filled p es ∷ [], w.2, brings_fill p es)
-adds S NoDrain false empty one p budget es H M to how w = (filled p es ∷ [], w.2, brings_fill p es)
-adds S Fill free empty one p budget es H M to how w = (filled p es ∷ [], w.2, brings_fill p es)
+adds S Process true true true p budget es H M to how w = adds_two p es (fast_by p w.0) M _ (mine to) w.3.now_mine (brings_alone p w.0 es w.1) (brings_end p w.3.takes w.3.last w.3.ends)
+adds S Process true true false p budget es H M to how w = adds_two p es (claimed_by p es) M _ (mine to) w.1.now_mine (brings_claim p es) (brings_end p w.1.takes w.1.last w.1.ends)
+adds S Process true false one p budget es H M to how w = adds_two p es (claimed_by p es) M _ (mine to) w.1.now_mine (brings_claim p es) (brings_end p w.1.takes w.1.last w.1.ends)
+adds S Process false empty one p budget es H M to how w = (filled_by p es ∷ [], w.2, brings_fill p es)
+adds S NoDrain true true true p budget es H M to how w = adds_two p es (fast_by p w.0) M _ (mine to) w.3.now_mine (brings_alone p w.0 es w.1) (brings_last p (On.Leave p 0 Done.None) refl)
+adds S NoDrain true true false p budget es H M to how w = (filled_by p es ∷ [], w.2, brings_fill p es)
+adds S NoDrain true false one p budget es H M to how w = (filled_by p es ∷ [], w.2, brings_fill p es)
+adds S NoDrain false empty one p budget es H M to how w = (filled_by p es ∷ [], w.2, brings_fill p es)
+adds S Fill free empty one p budget es H M to how w = (filled_by p es ∷ [], w.2, brings_fill p es)
 
 pub entries_append : (es fs : List FeedOf) → entries (es ++ fs) ≡ entries es ++ entries fs
 entries_append [] fs = refl
@@ -224,8 +224,8 @@ module _ {R : Type 0} {limits : R → Limits} {s : Named R} {es : List FeedOf} {
   brought_filled {to} h =
       let p : ℕ = number from in
       let own_to = made_of p to (subst (λ (k : ℕ). only number_of k (seen to) ≡ mine to) h.goes_on.same_number h.goes_on.is_pass.2) in
-      brought_by limits s es from to (legal_front (setting_of limits s.given) (seen from) h.begins.0 (subst (λ (F : List Element). Legal (setting_of limits s.given) F) h.begins.1 h.legal)) h.goes_on.legal (filled p es ∷ [])
-      (own_to ∙ (h.now_mine ∙ ap (λ (x : List Element). x ++ filled p es ∷ []) (sym (made_of p from is.2)))) (brings_fill p es)
+      brought_by limits s es from to (legal_front (setting_of limits s.given) (seen from) h.begins.0 (subst (λ (F : List Element). Legal (setting_of limits s.given) F) h.begins.1 h.legal)) h.goes_on.legal (filled_by p es ∷ [])
+      (own_to ∙ (h.now_mine ∙ ap (λ (x : List Element). x ++ filled_by p es ∷ []) (sym (made_of p from is.2)))) (brings_fill p es)
 
   pub goes_on_filled : {to : Pass Element} → HasFilled limits s from es to → MayGoOn limits s es from to
   goes_on_filled h = goes_on_by h.goes_on.is_pass h.goes_on.same_number h.idle (brought_filled h)

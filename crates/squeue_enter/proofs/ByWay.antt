@@ -17,8 +17,8 @@ use Rattle.perimeter_core.specs.Legal.{May}
 use Rattle.perimeter_core.specs.Blocks.{peri}
 use Rattle.squeue_state.specs.Naming.{Named, Turned, Handed, setting_of}
 use Rattle.squeue_state.specs.Behind.{IsPeri}
-use Rattle.squeue_state.specs.Elements.{filled, fasted, claimed}
-use Rattle.squeue_state.specs.Words.{Found, Marked, IsWhole}
+use Rattle.squeue_state.specs.Elements.{filled_by, fast_by, claimed_by}
+use Rattle.squeue_state.specs.Clauses.{Found, Marked, IsWhole}
 use Rattle.squeue_drain.specs.declared.owner.Owner.{Owner}
 use Rattle.squeue_drain.specs.Owning.{Feeds, HasFeeds}
 use Rattle.squeue_drain.specs.Draining.{Drained, ServedOne, Tells}
@@ -64,7 +64,7 @@ pub record Became {R P O : Type 0} (G : Ghosts R P O) (s : Named R) (p : Pass El
   pub came : Came G s p es u chose.may chose.found x pass resident hand
 
 module _ {R : Type 0} {limits : R → Limits} {s : Named R} {p : Pass Element} {es : List FeedOf} {u : Turned R} (may : MayEnter limits s p es) (f : Found limits s p u) (some : 0 < length es) where
-  pub may_queue : May (setting_of limits s.given) u.found (filled u.number es)
+  pub may_queue : May (setting_of limits s.given) u.found (filled_by u.number es)
   may_queue = may_fill limits s p es u may f some
 
   pub queue_fits : length (at limits s u).chain + length es < 2 ^ 31
@@ -89,15 +89,15 @@ module _ {R P O : Type 0} {G : Ghosts R P O} {s : Named R} {p : Pass Element} {e
   free_to_claim : Chose G s p es u mode Way'.Claim → (at G.limits s u).own ≡ Free
   free_to_claim c = free_is (at G.limits s u).own (claims mode (is_free (at G.limits s u).own) (is_empty (at G.limits s u).chain) (is_one es) Way'.Claim c.way refl)
 
-  pub may_alone : {w : Way} → Lone G s p es u mode w → May (setting_of G.limits s.given) u.found (fasted u.number (first es))
+  pub may_alone : {w : Way} → Lone G s p es u mode w → May (setting_of G.limits s.given) u.found (fast_by u.number (first es))
   may_alone l = may_fast G.limits s p es u l.chose.may l.chose.found (first es) l.one l.free l.empty
 
-  pub claims_all : Chose G s p es u mode Way'.Claim → 0 < length es → May (setting_of G.limits s.given) u.found (claimed u.number es)
+  pub claims_all : Chose G s p es u mode Way'.Claim → 0 < length es → May (setting_of G.limits s.given) u.found (claimed_by u.number es)
   claims_all c some = may_claim G.limits s p es u c.may c.found some (free_to_claim c)
 
   module _ {o : Owner R} {q : Pass Element} {r : R} {h : Handed} (is : o ≡ record { pass = q; resident = r; hand = h; act = Done.None }) where
-    pub became_alone : {w : Way} → Lone G s p es u mode w → Marked u (fasted u.number (first es)) q → IsWhole G.limits s.given (seen q) h → IsPeri G s.given r (peri (setting_of G.limits s.given) (seen q))
-        → Became G s p es u mode w (fasted u.number (first es)) o
+    pub became_alone : {w : Way} → Lone G s p es u mode w → Marked u (fast_by u.number (first es)) q → IsWhole G.limits s.given (seen q) h → IsPeri G s.given r (peri (setting_of G.limits s.given) (seen q))
+        → Became G s p es u mode w (fast_by u.number (first es)) o
     became_alone l m whole peri =
         record {
           chose = l.chose;
@@ -108,8 +108,8 @@ module _ {R P O : Type 0} {G : Ghosts R P O} {s : Named R} {p : Pass Element} {e
           came = came_fast G s p es u l.chose.may l.chose.found (first es) l.one l.free l.empty q r h m whole peri;
         }
 
-    pub became_claim : Chose G s p es u mode Way'.Claim → 0 < length es → Marked u (claimed u.number es) q → IsWhole G.limits s.given (seen q) h → IsPeri G s.given r (peri (setting_of G.limits s.given) (seen q))
-        → Became G s p es u mode Way'.Claim (claimed u.number es) o
+    pub became_claim : Chose G s p es u mode Way'.Claim → 0 < length es → Marked u (claimed_by u.number es) q → IsWhole G.limits s.given (seen q) h → IsPeri G s.given r (peri (setting_of G.limits s.given) (seen q))
+        → Became G s p es u mode Way'.Claim (claimed_by u.number es) o
     became_claim c some m whole peri =
         record {
           chose = c;
@@ -121,7 +121,7 @@ module _ {R P O : Type 0} {G : Ghosts R P O} {s : Named R} {p : Pass Element} {e
         }
 
     -- nothing is left of the hand but the one feed
-    pub left_alone : {w : Way} → Lone G s p es u mode w → Marked u (fasted u.number (first es)) q → IsWhole G.limits s.given (seen q) h → o.hand.left ≡ Feed (first es).c (first es).n ∷ []
+    pub left_alone : {w : Way} → Lone G s p es u mode w → Marked u (fast_by u.number (first es)) q → IsWhole G.limits s.given (seen q) h → o.hand.left ≡ Feed (first es).c (first es).n ∷ []
     left_alone l m whole =
         ap (λ (x : Owner R). x.hand.left) is ∙ (whole.is_whole ∙ hand_fast G s p es u l.chose.may l.chose.found (first es) l.one l.free l.empty q m)
 
@@ -134,7 +134,7 @@ module _ {R P O : Type 0} {G : Ghosts R P O} {s : Named R} {p : Pass Element} {e
   -- the answers by way
   pub by_fill : (budget : ℕ) {o : Own} {woke was polling : Bool} {n : ℕ} {q : Pass Element} → Chose G s p es u mode Way'.Fill → 0 < length es → o ≡ (run (setting_of G.limits u.squeue.given) u.found).own → woke ≡ is_free o
       → n ≡ length (run (setting_of G.limits u.squeue.given) u.found).chain → was ≡ (run (setting_of G.limits u.squeue.given) u.found).polling
-      → ((xs : List Entry) → length xs ≡ n + length es → polling ≡ polls xs was) → Marked u (filled u.number es) q
+      → ((xs : List Entry) → length xs ≡ n + length es → polling ≡ polls xs was) → Marked u (filled_by u.number es) q
       → HasEntered G.limits s mode budget es p record { pass = q; how = How'.Queued woke; polling = polling }
   by_fill budget {o} {woke} {was} {polling} {n} {q} c some own wakes count did told m =
       let st = same_state G.limits u.squeue s u.found c.found.squeue in
@@ -143,19 +143,19 @@ module _ {R P O : Type 0} {G : Ghosts R P O} {s : Named R} {p : Pass Element} {e
       (λ xs h. told xs (h ∙ ap (λ (k : ℕ). k + length es) (sym (queued_is n c.found count))) ∙ ap (polls xs) (did ∙ ap (λ (x : State). x.polling) st)) m) m
 
   module _ (budget : ℕ) {o : Owner R} {to : Pass Element} {rest : ℕ} {polling : Bool} where
-    pub by_fast : Became G s p es u mode Way'.Fast (fasted u.number (first es)) o → Drained G.limits s budget o to → Tells G.limits s to rest polling
+    pub by_fast : Became G s p es u mode Way'.Fast (fast_by u.number (first es)) o → Drained G.limits s budget o to → Tells G.limits s to rest polling
         → HasEntered G.limits s mode budget es p record { pass = to; how = How'.Fast rest; polling = polling }
     by_fast b d tells =
         entered_fast G s p es u b.chose.may b.chose.found mode budget (first es) b.pass b.resident b.hand to rest polling b.chose.way (goes_fast b.chose).one b.came
         (subst (λ (x : Owner R). Drained G.limits s budget x to) b.is d) tells
 
-    pub by_alone : Became G s p es u mode Way'.Alone (fasted u.number (first es)) o → ServedOne G.limits s o to → Tells G.limits s to rest polling
+    pub by_alone : Became G s p es u mode Way'.Alone (fast_by u.number (first es)) o → ServedOne G.limits s o to → Tells G.limits s to rest polling
         → HasEntered G.limits s mode budget es p record { pass = to; how = How'.Fast rest; polling = polling }
     by_alone b d tells =
         entered_alone G s p es u b.chose.may b.chose.found mode budget (first es) b.pass b.resident b.hand to rest polling b.chose.way (goes_alone b.chose).one b.came
         (subst (λ (x : Owner R). ServedOne G.limits s x to) b.is d) tells
 
-    pub by_claim : Became G s p es u mode Way'.Claim (claimed u.number es) o → Drained G.limits s budget o to → Tells G.limits s to rest polling
+    pub by_claim : Became G s p es u mode Way'.Claim (claimed_by u.number es) o → Drained G.limits s budget o to → Tells G.limits s to rest polling
         → HasEntered G.limits s mode budget es p record { pass = to; how = How'.Drained rest; polling = polling }
     by_claim b d tells =
         entered_claim G s p es u b.chose.may b.chose.found mode budget b.pass b.resident b.hand to rest polling b.chose.way b.came

@@ -20,8 +20,8 @@ use Rattle.perimeter_core.proofs.IdleKept.{feeds_no_ask}
 use Rattle.perimeter_core.proofs.Room.{queued_fits}
 use Rattle.squeue_state.specs.Naming.{Named, Turned, Handed, setting_of}
 use Rattle.squeue_state.specs.Behind.{IsPeri}
-use Rattle.squeue_state.specs.Elements.{filled, fasted, claimed, took}
-use Rattle.squeue_state.specs.Words.{Found, Marked, IsWhole}
+use Rattle.squeue_state.specs.Elements.{filled_by, fast_by, claimed_by, taken_by}
+use Rattle.squeue_state.specs.Clauses.{Found, Marked, IsWhole}
 use Rattle.squeue_state.proofs.Marks.{entries-length}
 use Rattle.squeue_drain.specs.Owning.{Feeds, HasFeeds, fed_so_far}
 use Rattle.squeue_drain.specs.Draining.{StaysBelow, plain, Ends, GoesOn, Drained}
@@ -70,9 +70,9 @@ module _ {R : Type 0} (limits : R → Limits) (s : Named R) (p : Pass Element) (
   room : feeds_by n H + feed_count (entries es) ≤ feed_quota S n
   room = omega (arith, may.quota, count_entries es)
 
-  pub may_fill : 0 < length es → May S u.found (filled u.number es)
+  pub may_fill : 0 < length es → May S u.found (filled_by u.number es)
   may_fill some =
-      at_turn (λ G k. May S G (filled k es))
+      at_turn (λ G k. May S G (filled_by k es))
       (record {
         step = some_entries es some;
         range = (omega (arith, may.no_worker), entries_in_range S (H ++ K) n (due (H ++ K)) (entries es) (only_feeds es) enters_here);
@@ -80,7 +80,7 @@ module _ {R : Type 0} (limits : R → Limits) (s : Named R) (p : Pass Element) (
         idle = idle_carried S n H K legal none may.idle;
         kind = only_feeds es;
         enters = enters_here;
-        quota = quota_enters S n H K (filled n es) legal none refl (only_feeds es) room;
+        quota = quota_enters S n H K (filled_by n es) legal none refl (only_feeds es) room;
         asks_last = tt;
         at_its_ask = tt;
         act = tt;
@@ -88,9 +88,9 @@ module _ {R : Type 0} (limits : R → Limits) (s : Named R) (p : Pass Element) (
         note = refl;
       })
 
-  pub may_claim : 0 < length es → (run S u.found).own ≡ Free → May S u.found (claimed u.number es)
+  pub may_claim : 0 < length es → (run S u.found).own ≡ Free → May S u.found (claimed_by u.number es)
   may_claim some free =
-      at_turn (λ G k. May S G (claimed k es))
+      at_turn (λ G k. May S G (claimed_by k es))
       (record {
         step = (subst (λ (G : List Element). (run S G).own ≡ Free) f.goes_on.1 free, some_entries es some);
         range = (omega (arith, may.no_worker), entries_in_range S (H ++ K) n (due (H ++ K)) (entries es) (only_feeds es) enters_here);
@@ -98,7 +98,7 @@ module _ {R : Type 0} (limits : R → Limits) (s : Named R) (p : Pass Element) (
         idle = idle_carried S n H K legal none may.idle;
         kind = inl (only_feeds es);
         enters = enters_here;
-        quota = quota_enters S n H K (claimed n es) legal none refl (only_feeds es) room;
+        quota = quota_enters S n H K (claimed_by n es) legal none refl (only_feeds es) room;
         asks_last = tt;
         at_its_ask = tt;
         act = tt;
@@ -106,10 +106,10 @@ module _ {R : Type 0} (limits : R → Limits) (s : Named R) (p : Pass Element) (
         note = refl;
       })
 
-  pub may_fast : (e : FeedOf) → es ≡ e ∷ [] → (run S u.found).own ≡ Free → (run S u.found).chain ≡ [] → May S u.found (fasted u.number e)
+  pub may_fast : (e : FeedOf) → es ≡ e ∷ [] → (run S u.found).own ≡ Free → (run S u.found).chain ≡ [] → May S u.found (fast_by u.number e)
   may_fast e one free empty =
       let one_feed : entries es ≡ Feed e.c e.n ∷ [] = ap entries one in
-      at_turn (λ G k. May S G (fasted k e))
+      at_turn (λ G k. May S G (fast_by k e))
       (record {
         step = (subst (λ (G : List Element). (run S G).own ≡ Free) f.goes_on.1 free, subst (λ (G : List Element). (run S G).chain ≡ []) f.goes_on.1 empty);
         range = (omega (arith, may.no_worker), rw one_feed at (entries_in_range S (H ++ K) n (due (H ++ K)) (entries es) (only_feeds es) enters_here));
@@ -117,7 +117,7 @@ module _ {R : Type 0} (limits : R → Limits) (s : Named R) (p : Pass Element) (
         idle = idle_carried S n H K legal none may.idle;
         kind = refl;
         enters = rw one_feed at enters_here;
-        quota = quota_enters S n H K (fasted n e) legal none refl refl (rw one_feed at room);
+        quota = quota_enters S n H K (fast_by n e) legal none refl refl (rw one_feed at room);
         asks_last = tt;
         at_its_ask = tt;
         act = tt;
@@ -128,7 +128,7 @@ module _ {R : Type 0} (limits : R → Limits) (s : Named R) (p : Pass Element) (
   -- what is queued after the fill fits a number
   pub fill_fits : 0 < length es → length (run S u.found).chain + length es < 2 ^ 31
   fill_fits some =
-      let e = filled u.number es in
+      let e = filled_by u.number es in
       let q = queued_fits S (u.found ++ e ∷ []) (legal_more S u.found e f.legal (may_fill some)) in
       let state = run_push (start S) u.found e in
       let hand = ap (λ t. length t.hand) state in
@@ -137,10 +137,10 @@ module _ {R : Type 0} (limits : R → Limits) (s : Named R) (p : Pass Element) (
       omega (arith, q, hand, chain, few, entries-length es, length-append (run S (u.found ++ e ∷ [])).hand (run S (u.found ++ e ∷ [])).chain, length-append (run S u.found).chain (entries es))
 
   -- after the fill the pass may enter again
-  pub idle_filled : (q : Pass Element) → Marked u (filled u.number es) q → Idle (run S (seen q)) n
+  pub idle_filled : (q : Pass Element) → Marked u (filled_by u.number es) q → Idle (run S (seen q)) n
   idle_filled q m =
       let i = idle_here in
-      let state : run S (seen q) ≡ after (run S u.found) (On.Fill u.number (entries es)) = ap (run S) m.now_seen ∙ run_push (start S) u.found (filled u.number es) in
+      let state : run S (seen q) ≡ after (run S u.found) (On.Fill u.number (entries es)) = ap (run S) m.now_seen ∙ run_push (start S) u.found (filled_by u.number es) in
       subst (λ (k : ℕ). Idle (run S (seen q)) k) f.same_number
       (subst (λ (t : State). Idle t u.number) (sym state)
       (record {
@@ -151,10 +151,10 @@ module _ {R : Type 0} (limits : R → Limits) (s : Named R) (p : Pass Element) (
         not_in_chain = has_ask-append u.number (run S u.found).chain (entries es) i.not_in_chain (feeds_no_ask u.number (entries es) (only_feeds es));
       }))
 
-  pub fill_polls : (q : Pass Element) (polling : Bool) → ((xs : List Entry) → length xs ≡ length (run S u.found).chain + length es → polling ≡ polls xs (run S u.found).polling) → Marked u (filled u.number es) q
+  pub fill_polls : (q : Pass Element) (polling : Bool) → ((xs : List Entry) → length xs ≡ length (run S u.found).chain + length es → polling ≡ polls xs (run S u.found).polling) → Marked u (filled_by u.number es) q
       → polling ≡ (run S (seen q)).polling
   fill_polls q polling told m =
-      let state : run S (seen q) ≡ after (run S u.found) (On.Fill u.number (entries es)) = ap (run S) m.now_seen ∙ run_push (start S) u.found (filled u.number es) in
+      let state : run S (seen q) ≡ after (run S u.found) (On.Fill u.number (entries es)) = ap (run S) m.now_seen ∙ run_push (start S) u.found (filled_by u.number es) in
       told ((run S u.found).chain ++ entries es) (omega (arith, length-append (run S u.found).chain (entries es), entries-length es)) ∙ sym (ap (λ (t : State). t.polling) state)
 
 module _ {R P O : Type 0} (G : Ghosts R P O) (s : Named R) (p : Pass Element) (es : List FeedOf) (u : Turned R) (may : MayEnter G.limits s p es) (f : Found G.limits s p u) where
@@ -190,16 +190,16 @@ module _ {R P O : Type 0} (G : Ghosts R P O) (s : Named R) (p : Pass Element) (e
         none_fed = let zero : feed_count (processed (length h.left) (run T (seen q)).hand) ≡ 0 = ap feed_count w.1 in omega (arith, zero);
       }
 
-  pub came_fast : (e : FeedOf) → es ≡ e ∷ [] → (run T u.found).own ≡ Free → (run T u.found).chain ≡ [] → (q : Pass Element) (r : R) (h : Handed) → Marked u (fasted u.number e) q → IsWhole G.limits s.given (seen q) h
-      → IsPeri G s.given r (peri T (seen q)) → Came (fasted u.number e) q r h
+  pub came_fast : (e : FeedOf) → es ≡ e ∷ [] → (run T u.found).own ≡ Free → (run T u.found).chain ≡ [] → (q : Pass Element) (r : R) (h : Handed) → Marked u (fast_by u.number e) q → IsWhole G.limits s.given (seen q) h
+      → IsPeri G s.given r (peri T (seen q)) → Came (fast_by u.number e) q r h
   came_fast e one free empty q r h m whole is =
-      came (fasted u.number e) (Feed e.c e.n ∷ []) (may_fast G.limits s p es u may f e one free empty) refl refl (idle_here G.limits s p es u may f).open_pass (λ z. cc z) refl q r h m whole is
+      came (fast_by u.number e) (Feed e.c e.n ∷ []) (may_fast G.limits s p es u may f e one free empty) refl refl (idle_here G.limits s p es u may f).open_pass (λ z. cc z) refl q r h m whole is
 
-  pub came_claim : 0 < length es → (run T u.found).own ≡ Free → (q : Pass Element) (r : R) (h : Handed) → Marked u (claimed u.number es) q → IsWhole G.limits s.given (seen q) h
-      → IsPeri G s.given r (peri T (seen q)) → Came (claimed u.number es) q r h
+  pub came_claim : 0 < length es → (run T u.found).own ≡ Free → (q : Pass Element) (r : R) (h : Handed) → Marked u (claimed_by u.number es) q → IsWhole G.limits s.given (seen q) h
+      → IsPeri G s.given r (peri T (seen q)) → Came (claimed_by u.number es) q r h
   came_claim some free q r h m whole is =
       let i = idle_here G.limits s p es u may f in
-      came (claimed u.number es) ((run T u.found).chain ++ entries es) (may_claim G.limits s p es u may f some free) refl refl i.open_pass
+      came (claimed_by u.number es) ((run T u.found).chain ++ entries es) (may_claim G.limits s p es u may f some free) refl refl i.open_pass
       (λ z. some_entries es some (nil_right (run T u.found).chain (entries es) z))
       (has_ask-append u.number (run T u.found).chain (entries es) i.not_in_chain (feeds_no_ask u.number (entries es) (only_feeds es))) q r h m whole is
 
@@ -216,8 +216,8 @@ module _ {R P O : Type 0} (G : Ghosts R P O) (s : Named R) (p : Pass Element) (e
         last = d.last;
         ends = subst (λ (k : ℕ). Ends k d.last) came.same d.ends;
         now_seen = d.now_seen ∙ ap (λ (x : List Element). x ++ (d.between ++ plain d.last ∷ [])) at;
-        now_mine = d.now_mine ∙ (ap (λ (x : List Element). x ++ (replicate d.takes (took (number q)) ++ plain d.last ∷ [])) own
-            ∙ ap (λ (k : ℕ). (mine p ++ e (number p) ∷ []) ++ (replicate d.takes (took k) ++ plain d.last ∷ [])) came.same);
+        now_mine = d.now_mine ∙ (ap (λ (x : List Element). x ++ (replicate d.takes (taken_by (number q)) ++ plain d.last ∷ [])) own
+            ∙ ap (λ (k : ℕ). (mine p ++ e (number p) ∷ []) ++ (replicate d.takes (taken_by k) ++ plain d.last ∷ [])) came.same);
         most = omega (arith, d.most, count, came.none_fed);
         full = λ leave some. let all = d.full leave some in omega (arith, all, count, came.none_fed);
         spent =
@@ -228,5 +228,5 @@ module _ {R P O : Type 0} (G : Ghosts R P O) (s : Named R) (p : Pass Element) (e
       }
 
   -- the hand of the entry of one feed
-  pub hand_fast : (e : FeedOf) → es ≡ e ∷ [] → (run T u.found).own ≡ Free → (run T u.found).chain ≡ [] → (q : Pass Element) → Marked u (fasted u.number e) q → (run T (seen q)).hand ≡ Feed e.c e.n ∷ []
-  hand_fast e one free empty q m = ap (λ (h : List Element). (run T h).hand) m.now_seen ∙ ap (λ (t : State). t.hand) (run_push (start T) u.found (fasted u.number e))
+  pub hand_fast : (e : FeedOf) → es ≡ e ∷ [] → (run T u.found).own ≡ Free → (run T u.found).chain ≡ [] → (q : Pass Element) → Marked u (fast_by u.number e) q → (run T (seen q)).hand ≡ Feed e.c e.n ∷ []
+  hand_fast e one free empty q m = ap (λ (h : List Element). (run T h).hand) m.now_seen ∙ ap (λ (t : State). t.hand) (run_push (start T) u.found (fast_by u.number e))

@@ -12,7 +12,7 @@ use Rattle.perimeter_core.specs.History.{Element, Setting, Limits, feed_quota, r
 use Rattle.perimeter_core.specs.Deeds.{entries, feeds_of, times_left, due, done}
 use Rattle.perimeter_core.specs.Legal.{Legal, Enters, feeds_by, asks_by, feed_count}
 use Rattle.squeue_state.specs.Naming.{Named, setting_of}
-use Rattle.squeue_state.specs.Elements.{number_of, filled, fasted, claimed, took, gone}
+use Rattle.squeue_state.specs.Elements.{number_of, filled_by, fast_by, claimed_by, taken_by, left_by_pass}
 use Rattle.squeue_drain.specs.Draining.{plain, Ends, StaysBelow, is_leave, GoesOn}
 use Rattle.squeue_enter.specs.declared.Mode.{Mode}
 use Rattle.squeue_enter.specs.declared.entering.How.{How}
@@ -41,7 +41,7 @@ pub record DrainsFrom (S : Setting) (p budget : ℕ) (H M : List Element) (to : 
   pub last : Mark
   pub ends : Ends p last
   pub now_seen : seen to ≡ H ++ (between ++ plain last ∷ [])
-  pub now_mine : mine to ≡ M ++ (replicate takes (took p) ++ plain last ∷ [])
+  pub now_mine : mine to ≡ M ++ (replicate takes (taken_by p) ++ plain last ∷ [])
   pub most : feed_count (done S (seen to)) ≤ feed_count (done S H) + budget
   pub full : is_leave last ≡ true → (run S (seen to)).chain ≢ [] → feed_count (done S (seen to)) ≡ feed_count (done S H) + budget
   pub spent : StaysBelow S p (feed_count (done S H) + budget) H (between ++ plain last ∷ [])
@@ -50,18 +50,19 @@ pub record DrainsFrom (S : Setting) (p budget : ℕ) (H M : List Element) (to : 
 pub record LeavesFrom (p : ℕ) (H M : List Element) (to : Pass Element) : Type 0 where
   pub between : List Element
   pub others : made_by p between ≡ []
-  pub now_seen : seen to ≡ H ++ (between ++ gone p 0 Done.None [] ∷ [])
-  pub now_mine : mine to ≡ M ++ gone p 0 Done.None [] ∷ []
+  pub now_seen : seen to ≡ H ++ (between ++ left_by_pass p 0 Done.None [] ∷ [])
+  pub now_mine : mine to ≡ M ++ left_by_pass p 0 Done.None [] ∷ []
 
 -- What the entry of es added where its turn found H, in which the pass had made M, and what it answers
 abbrev pub Went : Setting → Way → ℕ → ℕ → List Feed → List Element → List Element → Pass Element → How → Type 0
-Went S Way'.Fill p budget es H M to how = (how ≡ How'.Queued (is_free (run S H).own)) × (seen to ≡ H ++ filled p es ∷ []) × (mine to ≡ M ++ filled p es ∷ [])
+Went S Way'.Fill p budget es H M to how = (how ≡ How'.Queued (is_free (run S H).own))
+    × (seen to ≡ H ++ filled_by p es ∷ []) × (mine to ≡ M ++ filled_by p es ∷ [])
 Went S Way'.Fast p budget es H M to how = (f : Feed) × (es ≡ f ∷ []) × (how ≡ How'.Fast (length (run S (seen to)).chain))
-    × DrainsFrom S p budget (H ++ fasted p f ∷ []) (M ++ fasted p f ∷ []) to
+    × DrainsFrom S p budget (H ++ fast_by p f ∷ []) (M ++ fast_by p f ∷ []) to
 Went S Way'.Alone p budget es H M to how = (f : Feed) × (es ≡ f ∷ []) × (how ≡ How'.Fast (length (run S (seen to)).chain))
-    × LeavesFrom p (H ++ fasted p f ∷ []) (M ++ fasted p f ∷ []) to
+    × LeavesFrom p (H ++ fast_by p f ∷ []) (M ++ fast_by p f ∷ []) to
 Went S Way'.Claim p budget es H M to how = (how ≡ How'.Drained (length (run S (seen to)).chain))
-    × DrainsFrom S p budget (H ++ claimed p es ∷ []) (M ++ claimed p es ∷ []) to
+    × DrainsFrom S p budget (H ++ claimed_by p es ∷ []) (M ++ claimed_by p es ∷ []) to
 
 -- The entry of es: its deciding turn found a legal history, and it went the way of the table for the state after it
 pub record HasEntered {R : Type 0} (limits : R → Limits) (s : Named R)
@@ -84,8 +85,8 @@ pub record HasFilled {R : Type 0} (limits : R → Limits) (s : Named R) (from : 
   pub found : List Element
   pub begins : Begins (seen from) found
   pub legal : Legal (setting_of limits s.given) found
-  pub now_seen : seen to ≡ found ++ filled (number from) es ∷ []
-  pub now_mine : mine to ≡ mine from ++ filled (number from) es ∷ []
+  pub now_seen : seen to ≡ found ++ filled_by (number from) es ∷ []
+  pub now_mine : mine to ≡ mine from ++ filled_by (number from) es ∷ []
 
 -- The call made three steps on the lock word: two took the gate at once, and one freed it
 abbrev pub HasTurned : List LockStep → List LockStep → Type 0

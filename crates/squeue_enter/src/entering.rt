@@ -1,7 +1,7 @@
 //! Entering with a chain of feeds.
 ghost use Rattle.std.specs.Prelude.{◌≡◌, ◌+◌, ◌≤◌, ◌<◌, ◌∷◌, [], length, IfOk, MatchResult};
 ghost use Rattle.turn_gate.specs.Passes.{IsReturned, missed, steps};
-ghost use Rattle.squeue_state.specs.Elements.{number_of, filled};
+ghost use Rattle.squeue_state.specs.Elements.{number_of};
 ghost use Rattle.squeue_enter.specs.Ways.{way_of};
 ghost use Rattle.squeue_enter.specs.Entering.{MayEnter, HasEntered, HasFilled, HasTurned, Brought, MayGoOn};
 

@@ -5,7 +5,7 @@ use Rattle.perimeter_core.specs.Blocks.{Blocks}
 use Rattle.perimeter_core.specs.Logging.{none_done}
 use Rattle.perimeter_core.proofs.LogSteps.{is_fresh}
 use Rattle.squeue_state.specs.Naming.{Given, setting_of}
-use Rattle.squeue_state.specs.Words.{IsMade}
+use Rattle.squeue_state.specs.Clauses.{IsMade}
 use Rattle.squeue_example.specs.Rows.{IsNew, plain_limits}
 
 -- flags that are the same at each place

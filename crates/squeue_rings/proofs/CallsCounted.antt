@@ -10,7 +10,7 @@ use Rattle.perimeter_core.specs.History.{Element, Limits, made_by, run}
 use Rattle.perimeter_core.specs.Legal.{Legal}
 use Rattle.squeue_state.proofs.Makers.{only_made}
 use Rattle.squeue_state.specs.Naming.{Named, setting_of}
-use Rattle.squeue_state.specs.Elements.{gone as gone_by, number_of}
+use Rattle.squeue_state.specs.Elements.{left_by_pass, number_of}
 use Rattle.synch_enter.specs.Synch.{IsWay}
 use Rattle.conn_migrate.specs.Moving.{Moved}
 use Rattle.squeue_rings.specs.Made.{times_made}
@@ -39,12 +39,12 @@ module _ {R : Type 0} (limits : R → Limits) (s : Named R) (j : ℕ) where
       (legal : Legal (setting_of limits s.given) (seen x)) where
     -- the pass came to be owner and left with an act: what it made is what the act makes
     moved_makes : (act : SynchAct) → Moved limits s act [] x y → (d m : ℕ)
-        → times_made d j m (seen y) ≡ times_made d j m (seen x) + times_made d j m (gone_by (number x) 0 act [] ∷ [])
+        → times_made d j m (seen y) ≡ times_made d j m (seen x) + times_made d j m (left_by_pass (number x) 0 act [] ∷ [])
     moved_makes act v d m =
         let b = v.came.behind in
         let before = calls_in_mine x d m pass is legal in
         let now = calls_in_mine y d m v.goes_on.is_pass (v.goes_on.same_number ∙ is) v.goes_on.legal in
-        let left = ap (times_made d j m) v.left.now_mine ∙ made_more d j m (mine v.owner) (gone_by (number x) 0 act [] ∷ []) in
+        let left = ap (times_made d j m) v.left.now_mine ∙ made_more d j m (mine v.owner) (left_by_pass (number x) 0 act [] ∷ []) in
         let came = ap (times_made d j m) b.now_mine ∙ made_more d j m (mine x) (b.ask ∷ b.marks) in
         let none = way_calls_nothing (number x) d j m (is_free (run (setting_of limits s.given) v.came.found).own) b.ask b.marks b.way in
         omega (arith, before, now, left, came, none)

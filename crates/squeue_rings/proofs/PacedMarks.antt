@@ -18,7 +18,7 @@ use Rattle.perimeter_core.specs.Deeds.{done, entries, entries_of}
 use Rattle.perimeter_core.specs.Legal.{Legal, feed_count}
 use Rattle.perimeter_core.proofs.OneMore.{legal_front, run_push}
 use Rattle.perimeter_core.proofs.Since.{known_since}
-use Rattle.squeue_state.specs.Elements.{claimed, fasted, filled, gone, took}
+use Rattle.squeue_state.specs.Elements.{claimed_by, fast_by, filled_by, left_by_pass, taken_by}
 use Rattle.squeue_state.proofs.Makers.{made-append}
 use Rattle.squeue_drain.specs.Draining.{Ends, is_leave, plain}
 use Rattle.squeue_drain.proofs.OwnersFacts.{done_more, done_still}
@@ -83,9 +83,9 @@ module _ (squeues spread : ℕ) (mode : Mode) (budget q : ℕ) (S : Setting) (r 
   module _ (past : List Element) (is : taken S r past ≡ None) where
     -- it queues feeds
     pub paces_fill : (es : List FeedOf) → AreHome squeues spread q (entries es) → (mode ≡ Mode'.Process → (run S past).own ≢ Free)
-        → (mode ≡ Mode'.NoDrain → is_one es ≡ true → ((run S past).own ≢ Free) ⊎ ((run S past).chain ≢ [])) → Paces squeues spread mode budget q S r past (filled r es ∷ []) None
+        → (mode ≡ Mode'.NoDrain → is_one es ≡ true → ((run S past).own ≢ Free) ⊎ ((run S past).chain ≢ [])) → Paces squeues spread mode budget q S r past (filled_by r es ∷ []) None
     paces_fill es at_home busy behind =
-        paces_one squeues spread mode budget q S r past None None (filled r es) refl is
+        paces_one squeues spread mode budget q S r past None None (filled_by r es) refl is
         (record {
           home = at_home;
           fill = λ _. (refl, refl);
@@ -103,9 +103,9 @@ module _ (squeues spread : ℕ) (mode : Mode) (budget q : ℕ) (S : Setting) (r 
         as_one (f ∷ g ∷ fs) one = cc one
 
     -- it takes the perimeter with one feed
-    pub paces_fast : (f : FeedOf) → home squeues spread f.c f.n ≡ q → mode ≢ Mode'.Fill → Paces squeues spread mode budget q S r past (fasted r f ∷ []) (Some (feed_count (done S past)))
+    pub paces_fast : (f : FeedOf) → home squeues spread f.c f.n ≡ q → mode ≢ Mode'.Fill → Paces squeues spread mode budget q S r past (fast_by r f ∷ []) (Some (feed_count (done S past)))
     paces_fast f at_home other =
-        paces_one squeues spread mode budget q S r past None (Some (feed_count (done S past))) (fasted r f) refl is
+        paces_one squeues spread mode budget q S r past None (Some (feed_count (done S past))) (fast_by r f) refl is
         (record {
           home = (at_home, tt);
           fill = λ m. absurd (other m);
@@ -118,9 +118,9 @@ module _ (squeues spread : ℕ) (mode : Mode) (budget q : ℕ) (S : Setting) (r 
         }) refl
 
     -- it takes it with all that is queued and its feeds
-    pub paces_claim : (es : List FeedOf) → AreHome squeues spread q (entries es) → mode ≡ Mode'.Process → Paces squeues spread mode budget q S r past (claimed r es ∷ []) (Some (feed_count (done S past)))
+    pub paces_claim : (es : List FeedOf) → AreHome squeues spread q (entries es) → mode ≡ Mode'.Process → Paces squeues spread mode budget q S r past (claimed_by r es ∷ []) (Some (feed_count (done S past)))
     paces_claim es at_home process =
-        paces_one squeues spread mode budget q S r past None (Some (feed_count (done S past))) (claimed r es) refl is
+        paces_one squeues spread mode budget q S r past None (Some (feed_count (done S past))) (claimed_by r es) refl is
         (record {
           home = at_home;
           fill = λ m. let no : Mode'.Fill ≡ Mode'.Process = sym m ∙ process in cc no;
@@ -133,7 +133,7 @@ module _ (squeues spread : ℕ) (mode : Mode) (budget q : ℕ) (S : Setting) (r 
         }) (rw (only_feeds es) refl)
 
   -- with process it takes the queue while it has the perimeter
-  keeps_take : mode ≡ Mode'.Process → (n : ℕ) (past : List Element) (e : Element) → taken S r past ≡ Some n → e ≡ took r → Keeps squeues spread mode budget q S r past e × (taken_after S past (Some n) e.mark ≡ Some n)
+  keeps_take : mode ≡ Mode'.Process → (n : ℕ) (past : List Element) (e : Element) → taken S r past ≡ Some n → e ≡ taken_by r → Keeps squeues spread mode budget q S r past e × (taken_after S past (Some n) e.mark ≡ Some n)
   keeps_take process n past e is took_it =
       subst (λ (e : Element). Keeps squeues spread mode budget q S r past e × (taken_after S past (Some n) e.mark ≡ Some n)) (sym took_it) (
         record {
@@ -199,7 +199,7 @@ module _ (squeues spread : ℕ) (mode : Mode) (budget q : ℕ) (S : Setting) (r 
       ∙ (ap (λ (xs : List Element). made_by r H ++ xs) (sym (made-append r K (last ∷ [])))
       ∙ (sym (made-append r H (K ++ last ∷ [])) ∙ (ap (made_by r) (sym saw) ∙ (knows ∙ made)))))))
 
-  all_took : (k : ℕ) → Each (λ e. e ≡ took r) (replicate k (took r))
+  all_took : (k : ℕ) → Each (λ e. e ≡ taken_by r) (replicate k (taken_by r))
   all_took zero = tt
   all_took (suc k) = (refl, all_took k)
 
@@ -224,8 +224,8 @@ module _ (squeues spread : ℕ) (mode : Mode) (budget q : ℕ) (S : Setting) (r 
       → Paces squeues spread mode budget q S r [] (seen to) None
   paces_drain process H M to now had knows d =
       let n = feed_count (done S H) in
-      let own = own_before H M d.between (replicate d.takes (took r)) (plain d.last) to had knows d.now_seen d.now_mine (ends_own d.last d.ends) in
-      let takes = paces_all squeues spread mode budget q S r (Some n) (λ e. e ≡ took r) (keeps_take process n) H d.between now.now (subst (Each (λ (e : Element). e ≡ took r)) (sym own) (all_took d.takes)) in
+      let own = own_before H M d.between (replicate d.takes (taken_by r)) (plain d.last) to had knows d.now_seen d.now_mine (ends_own d.last d.ends) in
+      let takes = paces_all squeues spread mode budget q S r (Some n) (λ e. e ≡ taken_by r) (keeps_take process n) H d.between now.now (subst (Each (λ (e : Element). e ≡ taken_by r)) (sym own) (all_took d.takes)) in
       let whole : (H ++ d.between) ++ plain d.last ∷ [] ≡ seen to = append_assoc H d.between (plain d.last ∷ []) ∙ sym d.now_seen in
       let end = paces_end process n (H ++ d.between) d.last takes.now d.ends
       (subst (λ (G : List Element). feed_count (done S G) ≤ n + budget) (sym whole) d.most)
@@ -234,20 +234,20 @@ module _ (squeues spread : ℕ) (mode : Mode) (budget q : ℕ) (S : Setting) (r 
       (paces_join squeues spread mode budget q S r [] (H ++ d.between) (plain d.last ∷ []) (Some n) None (paces_join squeues spread mode budget q S r [] H d.between (Some n) (Some n) now takes) end)
 
   -- with nodrain it takes the perimeter with one feed, and leaves
-  pub paces_alone : mode ≡ Mode'.NoDrain → 1 ≤ budget → (H M : List Element) (f : FeedOf) (to : Pass Element) → Paces squeues spread mode budget q S r [] (H ++ fasted r f ∷ []) (Some (feed_count (done S H))) → Legal S (seen to) → LeavesFrom r (H ++ fasted r f ∷ []) M to
+  pub paces_alone : mode ≡ Mode'.NoDrain → 1 ≤ budget → (H M : List Element) (f : FeedOf) (to : Pass Element) → Paces squeues spread mode budget q S r [] (H ++ fast_by r f ∷ []) (Some (feed_count (done S H))) → Legal S (seen to) → LeavesFrom r (H ++ fast_by r f ∷ []) M to
       → Paces squeues spread mode budget q S r [] (seen to) None
   paces_alone nodrain some H M f to now legal l =
       let n = feed_count (done S H) in
-      let e : Element = gone r 0 Done.None [] in
-      let after : (run S first).own ≡ Out r = ap (λ (s : State). s.own) (run_push (start S) H (fasted r f)) in
-      let hand : (run S first).hand ≡ Feed f.c f.n ∷ [] = ap (λ (s : State). s.hand) (run_push (start S) H (fasted r f)) in
+      let e : Element = left_by_pass r 0 Done.None [] in
+      let after : (run S first).own ≡ Out r = ap (λ (s : State). s.own) (run_push (start S) H (fast_by r f)) in
+      let hand : (run S first).hand ≡ Feed f.c f.n ∷ [] = ap (λ (s : State). s.hand) (run_push (start S) H (fast_by r f)) in
       let others = paces_others squeues spread mode budget q S r first l.between (Some n) now.now l.others in
       let whole : (first ++ l.between) ++ e ∷ [] ≡ seen to = append_assoc first l.between (e ∷ []) ∙ sym l.now_seen in
       let legal_so : Legal S (first ++ l.between) = legal_front S (first ++ l.between) (e ∷ []) (subst (Legal S) (sym whole) legal) in
       let still = done_still S first l.between r legal_so l.others after in
       let has = (known_since S first l.between r legal_so l.others).owner after in
       let one : feed_count (processed 0 (run S (first ++ l.between)).hand) ≡ 1 = ap (λ (es : List Entry). feed_count (processed 0 es)) (has.1 ∙ hand) in
-      let before : feed_count (done S first) ≡ n + 0 = done_more S H (fasted r f) in
+      let before : feed_count (done S first) ≡ n + 0 = done_more S H (fast_by r f) in
       let more : feed_count (done S ((first ++ l.between) ++ e ∷ [])) ≡ feed_count (done S (first ++ l.between)) + feed_count (processed 0 (run S (first ++ l.between)).hand) = done_more S (first ++ l.between) e in
       let few : feed_count (done S ((first ++ l.between) ++ e ∷ [])) ≤ n + budget = omega (arith, some, still, one, before, more) in
       let end = paces_one squeues spread mode budget q S r (first ++ l.between) (Some n) None e refl others.now
@@ -265,4 +265,4 @@ module _ (squeues spread : ℕ) (mode : Mode) (budget q : ℕ) (S : Setting) (r 
       (paces_join squeues spread mode budget q S r [] (first ++ l.between) (e ∷ []) (Some n) None (paces_join squeues spread mode budget q S r [] first l.between (Some n) (Some n) now others) end)
     where
       first : List Element
-      first = H ++ fasted r f ∷ []
+      first = H ++ fast_by r f ∷ []

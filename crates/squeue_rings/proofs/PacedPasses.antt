@@ -15,7 +15,7 @@ use Rattle.perimeter_core.specs.History.{Element, Limits, Setting, made_by, pass
 use Rattle.perimeter_core.specs.Deeds.{done, done_by, entries}
 use Rattle.perimeter_core.specs.Legal.{Legal, feed_count}
 use Rattle.squeue_state.specs.Naming.{Named, setting_of}
-use Rattle.squeue_state.specs.Elements.{claimed, closed_by, fasted, filled, gone, number_of}
+use Rattle.squeue_state.specs.Elements.{claimed_by, closed_by, fast_by, filled_by, left_by_pass, number_of}
 use Rattle.squeue_state.proofs.Makers.{made-append, only_made, others_made}
 use Rattle.squeue_drain.proofs.OwnersFacts.{done_more}
 use Rattle.squeue_enter.specs.declared.Mode.{Mode}
@@ -56,30 +56,30 @@ module _ (squeues spread budget q : ℕ) (S : Setting) (r : ℕ) (some : 1 ≤ b
         let joined = paces_join squeues spread mode budget q S r [] H (e ∷ []) None (Some (feed_count (done S H))) at one in
         record { keeps = joined.keeps; now = joined.now ∙ ap Some same }
 
-    by_fast : mode ≡ Mode'.Process → (f : FeedOf) → es ≡ f ∷ [] → DrainsFrom S r budget (H ++ fasted r f ∷ []) (M ++ fasted r f ∷ []) to → Paces squeues spread mode budget q S r [] (seen to) None
+    by_fast : mode ≡ Mode'.Process → (f : FeedOf) → es ≡ f ∷ [] → DrainsFrom S r budget (H ++ fast_by r f ∷ []) (M ++ fast_by r f ∷ []) to → Paces squeues spread mode budget q S r [] (seen to) None
     by_fast process f is d =
-        paces_drain squeues spread mode budget q S r process (H ++ fasted r f ∷ []) (M ++ fasted r f ∷ []) to
-        (taken_so (fasted r f) refl (paces_fast squeues spread mode budget q S r H at.now f (its_home f is) (λ fill. let no : Mode'.Fill ≡ Mode'.Process = sym fill ∙ process in cc no)))
-        (made_one (fasted r f) refl) knows d
+        paces_drain squeues spread mode budget q S r process (H ++ fast_by r f ∷ []) (M ++ fast_by r f ∷ []) to
+        (taken_so (fast_by r f) refl (paces_fast squeues spread mode budget q S r H at.now f (its_home f is) (λ fill. let no : Mode'.Fill ≡ Mode'.Process = sym fill ∙ process in cc no)))
+        (made_one (fast_by r f) refl) knows d
 
-    by_claim : mode ≡ Mode'.Process → DrainsFrom S r budget (H ++ claimed r es ∷ []) (M ++ claimed r es ∷ []) to → Paces squeues spread mode budget q S r [] (seen to) None
+    by_claim : mode ≡ Mode'.Process → DrainsFrom S r budget (H ++ claimed_by r es ∷ []) (M ++ claimed_by r es ∷ []) to → Paces squeues spread mode budget q S r [] (seen to) None
     by_claim process d =
-        paces_drain squeues spread mode budget q S r process (H ++ claimed r es ∷ []) (M ++ claimed r es ∷ []) to
-        (taken_so (claimed r es) refl (paces_claim squeues spread mode budget q S r H at.now es (all_home squeues spread q es home) process))
-        (made_one (claimed r es) refl) knows d
+        paces_drain squeues spread mode budget q S r process (H ++ claimed_by r es ∷ []) (M ++ claimed_by r es ∷ []) to
+        (taken_so (claimed_by r es) refl (paces_claim squeues spread mode budget q S r H at.now es (all_home squeues spread q es home) process))
+        (made_one (claimed_by r es) refl) knows d
 
     -- with nodrain, alone
-    by_alone : mode ≡ Mode'.NoDrain → (f : FeedOf) → es ≡ f ∷ [] → LeavesFrom r (H ++ fasted r f ∷ []) (M ++ fasted r f ∷ []) to → Paces squeues spread mode budget q S r [] (seen to) None
+    by_alone : mode ≡ Mode'.NoDrain → (f : FeedOf) → es ≡ f ∷ [] → LeavesFrom r (H ++ fast_by r f ∷ []) (M ++ fast_by r f ∷ []) to → Paces squeues spread mode budget q S r [] (seen to) None
     by_alone nodrain f is l =
         let one = paces_fast squeues spread mode budget q S r H at.now f (its_home f is) (λ fill. let no : Mode'.Fill ≡ Mode'.NoDrain = sym fill ∙ nodrain in cc no) in
-        paces_alone squeues spread mode budget q S r nodrain some H (M ++ fasted r f ∷ []) f to
-        (paces_join squeues spread mode budget q S r [] H (fasted r f ∷ []) None (Some (feed_count (done S H))) at one) legal l
+        paces_alone squeues spread mode budget q S r nodrain some H (M ++ fast_by r f ∷ []) f to
+        (paces_join squeues spread mode budget q S r [] H (fast_by r f ∷ []) None (Some (feed_count (done S H))) at one) legal l
 
-    by_fill : (mode ≡ Mode'.Process → (run S H).own ≢ Free) → (mode ≡ Mode'.NoDrain → is_one es ≡ true → ((run S H).own ≢ Free) ⊎ ((run S H).chain ≢ [])) → seen to ≡ H ++ filled r es ∷ []
+    by_fill : (mode ≡ Mode'.Process → (run S H).own ≢ Free) → (mode ≡ Mode'.NoDrain → is_one es ≡ true → ((run S H).own ≢ Free) ⊎ ((run S H).chain ≢ [])) → seen to ≡ H ++ filled_by r es ∷ []
         → Paces squeues spread mode budget q S r [] (seen to) None
     by_fill busy behind saw =
         subst (λ (G : List Element). Paces squeues spread mode budget q S r [] G None) (sym saw)
-        (paces_join squeues spread mode budget q S r [] H (filled r es ∷ []) None None at (paces_fill squeues spread mode budget q S r H at.now es (all_home squeues spread q es home) busy behind))
+        (paces_join squeues spread mode budget q S r [] H (filled_by r es ∷ []) None None at (paces_fill squeues spread mode budget q S r H at.now es (all_home squeues spread q es home) busy behind))
 
   -- whichever way it went
   went : (mode : Mode) (own : Own) (chain : List Entry) (one : Bool) → (run S H).own ≡ own → (run S H).chain ≡ chain → is_one es ≡ one → Paces squeues spread mode budget q S r [] H None → Went S (way_of mode (is_free own) (is_empty chain) one) r budget es H M to how
@@ -143,7 +143,7 @@ module _ {R : Type 0} (limits : R → Limits) (s : Named R) (squeues spread : �
   pub move_paced : (act : SynchAct) (note : List Act) (from to : Pass Element) → IsPassOf number_of s.gate from → Moved limits s act note from to
       → IsPaced squeues spread mode budget s.given.number (setting_of limits s.given) (number from) (seen from) → IsPaced squeues spread mode budget s.given.number (setting_of limits s.given) (number from) (seen to)
   move_paced act note from to is m before =
-      let last : Element = gone (number from) 0 act note in
+      let last : Element = left_by_pass (number from) 0 act note in
       plain_paced from to m.goes_on.grows.0 ((m.came.behind.ask ∷ m.came.behind.marks) ++ last ∷ []) is m.goes_on.is_pass m.goes_on.same_number m.goes_on.grows.1
       (m.left.now_mine ∙ (ap (λ (xs : List Element). xs ++ last ∷ []) m.came.behind.now_mine ∙ append_assoc (mine from) (m.came.behind.ask ∷ m.came.behind.marks) (last ∷ [])))
       (way_plain (number from) (is_free (run S m.came.found).own) m.came.behind.ask last m.came.behind.marks m.came.behind.way tt) before

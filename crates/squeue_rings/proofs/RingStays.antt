@@ -13,7 +13,7 @@ use Rattle.perimeter_core.specs.Deeds.{acts, times_left}
 use Rattle.perimeter_core.specs.Legal.{Legal}
 use Rattle.perimeter_core.proofs.OneMore.{legal_front}
 use Rattle.squeue_state.specs.Naming.{Ending, Named, setting_of}
-use Rattle.squeue_state.specs.Elements.{gone}
+use Rattle.squeue_state.specs.Elements.{left_by_pass}
 use Rattle.squeue_drain.specs.Draining.{GoesOn}
 use Rattle.conn_migrate.specs.Moving.{IsKept, Moved}
 use Rattle.conn_migrate.specs.Stays.{IsLinked, Stay, Stays, all_in, begun, stays, stays_at, stays_in}
@@ -140,12 +140,12 @@ module _ {R : Type 0} (limits : R → Limits) where
 
 -- the pass of a move ends with the mark of its act
 grown : {R : Type 0} (limits : R → Limits) (s : Named R) (act : SynchAct) (note : List Act) (x y : Pass Element) → Moved limits s act note x y
-    → (K : List Element) × (seen y ≡ (seen x ++ K) ++ gone (number x) 0 act note ∷ [])
+    → (K : List Element) × (seen y ≡ (seen x ++ K) ++ left_by_pass (number x) 0 act note ∷ [])
 grown limits s act note x y m =
     let a = m.came.goes_on.grows in
     let b = m.left.goes_on in
     let found = b.1 ∙ (ap (λ (l : List Element). l ++ b.0) a.1 ∙ append_assoc (seen x) a.0 b.0) in
-    (a.0 ++ b.0, m.left.now_seen ∙ ap (λ (l : List Element). l ++ gone (number x) 0 act note ∷ []) found)
+    (a.0 ++ b.0, m.left.now_seen ∙ ap (λ (l : List Element). l ++ left_by_pass (number x) 0 act note ∷ []) found)
 
 pub legal_before : {R : Type 0} (limits : R → Limits) (s : Named R) (x y : Pass Element) → GoesOn limits s x y → Legal (setting_of limits s.given) (seen x)
 legal_before limits s x y on = legal_front (setting_of limits s.given) (seen x) on.grows.0 (subst (Legal (setting_of limits s.given)) on.grows.1 on.legal)

@@ -16,7 +16,7 @@ use Rattle.perimeter_core.proofs.Elsewhere.{taken_between}
 use Rattle.perimeter_core.proofs.FeedOrder.{puts_away}
 use Rattle.perimeter_core.proofs.OneMore.{legal_front, legal_ind, legal_next, run_push}
 use Rattle.perimeter_core.proofs.RingKnows.{here_step}
-use Rattle.squeue_state.specs.Elements.{gone}
+use Rattle.squeue_state.specs.Elements.{left_by_pass}
 use Rattle.conn_migrate.specs.Stays.{Stay, Stays, all_in, as_list, begun, longer_by, stays}
 use Rattle.conn_migrate.proofs.OneSqueue.{fits, in_begins, out_ends, stays_push}
 use Rattle.conn_migrate.proofs.StaysKept.{at_first}
@@ -208,12 +208,12 @@ stays_kept S H K G c is l left same =
     (kept_since S H K c (subst (Legal S) is l) (omega (arith, n, m)) (ap (λ (G : List Element). is_here (run S G) c) (sym is) ∙ same))
 
 -- The first Out of c since H: one stay more has ended, which had all that was ever done to the block
-pub one_out : (S : Setting) (H K G : List Element) (p rest c : ℕ) → G ≡ (H ++ K) ++ gone p rest (Done.Out c) [] ∷ [] → Legal S G
+pub one_out : (S : Setting) (H K G : List Element) (p rest c : ℕ) → G ≡ (H ++ K) ++ left_by_pass p rest (Done.Out c) [] ∷ [] → Legal S G
     → times_left c G ≡ times_left c H + 1 → is_here (run S H) c ≡ true → HasEnded (stays S H c) (stays S G c) (acts S G c)
 one_out S H K G p rest c is l left here = subst (λ (G : List Element). HasEnded (stays S H c) (stays S G c) (acts S G c)) (sym is) (notes_same, one_had)
   where
     e : Element
-    e = gone p rest (Done.Out c) []
+    e = left_by_pass p rest (Done.Out c) []
 
     F : List Element
     F = H ++ K
@@ -245,12 +245,12 @@ one_out S H K G p rest c is l left here = subst (λ (G : List Element). HasEnded
         ∙ (ap (λ (l : List (List Act)). l ++ o.last.had ∷ []) front.1 ∙ ap (λ (a : List Act). hads (stays S H c) ++ a ∷ []) o.has_all))
 
 -- The first In of c since H: one stay more has begun, with its note
-pub one_in : (S : Setting) (H K G : List Element) (p rest c : ℕ) (note : List Act) → G ≡ (H ++ K) ++ gone p rest (Done.In c) note ∷ [] → Legal S G
+pub one_in : (S : Setting) (H K G : List Element) (p rest c : ℕ) (note : List Act) → G ≡ (H ++ K) ++ left_by_pass p rest (Done.In c) note ∷ [] → Legal S G
     → times_left c G ≡ times_left c H → is_here (run S H) c ≡ false → HasBegun (stays S H c) (stays S G c) note
 one_in S H K G p rest c note is l left here = subst (λ (G : List Element). HasBegun (stays S H c) (stays S G c) note) (sym is) (one_note, same_had)
   where
     e : Element
-    e = gone p rest (Done.In c) note
+    e = left_by_pass p rest (Done.In c) note
 
     F : List Element
     F = H ++ K

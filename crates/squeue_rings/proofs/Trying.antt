@@ -13,8 +13,8 @@ use Rattle.perimeter_core.proofs.LeavesFew.{leaves_few}
 use Rattle.perimeter_core.proofs.OwnCounts.{own_counts}
 use Rattle.squeue_state.proofs.Makers.{only_made}
 use Rattle.squeue_state.specs.Naming.{Named, setting_of}
-use Rattle.squeue_state.specs.Elements.{gone as gone_by, number_of}
-use Rattle.squeue_state.specs.Words.{Added}
+use Rattle.squeue_state.specs.Elements.{left_by_pass, number_of}
+use Rattle.squeue_state.specs.Clauses.{Added}
 use Rattle.squeue_drain.specs.declared.owner.Owner.{Owner}
 use Rattle.squeue_drain.specs.Draining.{GoesOn}
 use Rattle.squeue_drain.proofs.Deciding.{begins_trans}
@@ -31,7 +31,7 @@ module _ {R P O : Type 0} (G : Ghosts R P O) (s : Named R) (c j k : ℕ) (from :
   pub may_call : MayCall G s c j k o
   may_call = record { stands_at = at.0; no_act = at.1; thread = came.0.goes_on.same_number ∙ try.thread; exists = try.exists }
 
-  module _ (n : Owner R) (to : Pass Element) (pass : n.pass ≡ o.pass) (hand : n.hand ≡ o.hand) (goes : GoesOn G.limits s n.pass to) (idle : Idle (run (setting_of G.limits s.given) (seen to)) (number n.pass)) (left : Added G.limits s n.pass (gone_by (number n.pass) (length n.hand.left) n.act []) to) (none : n.hand.left ≡ []) where
+  module _ (n : Owner R) (to : Pass Element) (pass : n.pass ≡ o.pass) (hand : n.hand ≡ o.hand) (goes : GoesOn G.limits s n.pass to) (idle : Idle (run (setting_of G.limits s.given) (seen to)) (number n.pass)) (left : Added G.limits s n.pass (left_by_pass (number n.pass) (length n.hand.left) n.act []) to) (none : n.hand.left ≡ []) where
     came_now : CameFor G.limits s c from n.pass
     came_now = subst (λ (q : Pass Element). CameFor G.limits s c from q) (sym pass) came
 
@@ -148,4 +148,4 @@ module _ {R : Type 0} (limits : R → Limits) (s : Named R) (j : ℕ) where
       }
     where
       last : Moved limits s Done.Away [] x y → List Element
-      last m = gone_by (number x) 0 Done.Away [] ∷ []
+      last m = left_by_pass (number x) 0 Done.Away [] ∷ []

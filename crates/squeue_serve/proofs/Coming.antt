@@ -11,7 +11,7 @@ use Rattle.squeue_state.specs.Naming.{Named}
 use Rattle.turn_gate.specs.Passes.{IsPassOf, number}
 use Rattle.squeue_state.specs.Naming.{setting_of}
 use Rattle.squeue_state.specs.Elements.{number_of}
-use Rattle.squeue_state.specs.Words.{HasSeenEnd}
+use Rattle.squeue_state.specs.Clauses.{HasSeenEnd}
 use Rattle.squeue_serve.specs.Places.{Holds, AtEach, MayEnd}
 use Rattle.squeue_serve.specs.Lending.{AreLent, AreHanded, HaveLast, holder}
 use Rattle.squeue_serve.proofs.Lent.{get_end, get_front}

@@ -10,7 +10,7 @@ use Rattle.squeue_state.specs.Told.{Traced, marks_of}
 use Rattle.squeue_state.specs.Naming.{Named, Ending, setting_of}
 use Rattle.squeue_state.specs.Endings.{HasEnded}
 use Rattle.squeue_state.specs.Behind.{IsPeri}
-use Rattle.squeue_state.specs.Words.{Knows}
+use Rattle.squeue_state.specs.Clauses.{Knows}
 use Rattle.squeue_serve.specs.declared.jobs.Job.{Job}
 use Rattle.squeue_serve.specs.Places.{Holds, AtEach}
 

@@ -13,7 +13,7 @@ use Rattle.perimeter_core.proofs.HistoryLength.{length_bounded}
 use Rattle.squeue_state.specs.declared.inner.Inner.{Inner}
 use Rattle.squeue_state.specs.Naming.{Given, setting_of}
 use Rattle.squeue_state.specs.Behind.{Behind, room_of}
-use Rattle.squeue_state.specs.Elements.{filled, claimed, claimed_ask, asked}
+use Rattle.squeue_state.specs.Elements.{filled_by, claimed_by, ask_claimed_by, asked_by}
 use Rattle.squeue_state.proofs.Marks.{entries-length}
 
 module _ {R P O : Type 0} (G : Ghosts R P O) where
@@ -34,10 +34,10 @@ one_flag n = flag_more n ∙ ap (λ k. replicate k false) (sym (add-one n))
 
 module _ {R P O : Type 0} (G : Ghosts R P O) where
   -- what is filled fits beside what is queued
-  pub fill_fits : (g : Given R) (i : Inner R) (H : List Element) (p : ℕ) (es : List Feed) → Behind G g i H → May (setting_of G.limits g) H (filled p es) → length (run (setting_of G.limits g) H).chain + length es ≤ room_of g.quotas
+  pub fill_fits : (g : Given R) (i : Inner R) (H : List Element) (p : ℕ) (es : List Feed) → Behind G g i H → May (setting_of G.limits g) H (filled_by p es) → length (run (setting_of G.limits g) H).chain + length es ≤ room_of g.quotas
   fill_fits g i H p es b m =
       let S = setting_of G.limits g in
-      let e = filled p es in
+      let e = filled_by p es in
       let fits = queued_fits S (H ++ e ∷ []) (legal_more S H e b.legal m) in
       let s = run_push (start S) H e in
       let hand = ap (λ t. length t.hand) s in
@@ -49,26 +49,26 @@ module _ {R P O : Type 0} (G : Ghosts R P O) where
   left_fits g i H b = let S = setting_of G.limits g in omega (arith, queued_fits S H b.legal, length-append (run S H).hand (run S H).chain)
 
   -- so does what is claimed, behind what is queued
-  pub claim_fits : (g : Given R) (i : Inner R) (H : List Element) (p : ℕ) (es : List Feed) → Behind G g i H → May (setting_of G.limits g) H (claimed p es) → length (run (setting_of G.limits g) H).chain + length es ≤ room_of g.quotas
+  pub claim_fits : (g : Given R) (i : Inner R) (H : List Element) (p : ℕ) (es : List Feed) → Behind G g i H → May (setting_of G.limits g) H (claimed_by p es) → length (run (setting_of G.limits g) H).chain + length es ≤ room_of g.quotas
   claim_fits g i H p es b m =
       let S = setting_of G.limits g in
-      let e = claimed p es in
+      let e = claimed_by p es in
       let fits = queued_fits S (H ++ e ∷ []) (legal_more S H e b.legal m) in
       let hand = ap (λ t. length t.hand) (run_push (start S) H e) in
       omega (arith, hand, entries-length es, length-append (run S (H ++ e ∷ [])).hand (run S (H ++ e ∷ [])).chain, length-append (run S H).chain (entries es))
 
-  pub claim_ask_fits : (g : Given R) (i : Inner R) (H : List Element) (p : ℕ) → Behind G g i H → May (setting_of G.limits g) H (claimed_ask p) → length (run (setting_of G.limits g) H).chain < room_of g.quotas
+  pub claim_ask_fits : (g : Given R) (i : Inner R) (H : List Element) (p : ℕ) → Behind G g i H → May (setting_of G.limits g) H (ask_claimed_by p) → length (run (setting_of G.limits g) H).chain < room_of g.quotas
   claim_ask_fits g i H p b m =
       let S = setting_of G.limits g in
-      let e = claimed_ask p in
+      let e = ask_claimed_by p in
       let fits = queued_fits S (H ++ e ∷ []) (legal_more S H e b.legal m) in
       let hand = ap (λ t. length t.hand) (run_push (start S) H e) in
       omega (arith, hand, length-append (run S (H ++ e ∷ [])).hand (run S (H ++ e ∷ [])).chain, length-append (run S H).chain (Entry'.Ask p ∷ []))
 
-  pub ask_fits : (g : Given R) (i : Inner R) (H : List Element) (p : ℕ) → Behind G g i H → May (setting_of G.limits g) H (asked p) → length (run (setting_of G.limits g) H).chain < room_of g.quotas
+  pub ask_fits : (g : Given R) (i : Inner R) (H : List Element) (p : ℕ) → Behind G g i H → May (setting_of G.limits g) H (asked_by p) → length (run (setting_of G.limits g) H).chain < room_of g.quotas
   ask_fits g i H p b m =
       let S = setting_of G.limits g in
-      let e = asked p in
+      let e = asked_by p in
       let fits = queued_fits S (H ++ e ∷ []) (legal_more S H e b.legal m) in
       let chain = ap (λ t. length t.chain) (run_push (start S) H e) in
       omega (arith, chain, length-append (run S (H ++ e ∷ [])).hand (run S (H ++ e ∷ [])).chain, length-append (run S H).chain (Entry'.Ask p ∷ []))

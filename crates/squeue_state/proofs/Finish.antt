@@ -17,7 +17,7 @@ use Rattle.squeue_state.specs.declared.guarded.Guarded.{Guarded}
 use Rattle.squeue_state.specs.Naming.{Given, Named, setting_of}
 use Rattle.squeue_state.specs.Endings.{seen_by}
 use Rattle.squeue_state.specs.Behind.{Behind, Noted, IsPeri}
-use Rattle.squeue_state.specs.Words.{HasSeenEnd, Knows}
+use Rattle.squeue_state.specs.Clauses.{HasSeenEnd, Knows}
 use Rattle.squeue_state.proofs.Turns.{lies_free, some_free}
 
 each_both : (P Q : Pass Element → Type 0) (ps : List (Pass Element)) → Each P ps → Each Q ps → Each (λ p. P p × Q p) ps

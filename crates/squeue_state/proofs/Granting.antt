@@ -7,7 +7,7 @@ use Rattle.perimeter_core.specs.Perimeter.{processed, unprocessed}
 use Rattle.perimeter_core.specs.Blocks.{Blocks, with_feeds, with_act}
 use Rattle.perimeter_core.specs.declared.marks.SynchAct.TheVariants as Done
 use Rattle.perimeter_core.proofs.FeedActs.{with_none, with_twice}
-use Rattle.squeue_state.specs.Words.{first_entry, asker}
+use Rattle.squeue_state.specs.Clauses.{first_entry, asker}
 
 first_drop : (xs : List Entry) (k : ℕ) (d e : Entry) → first_entry (drop k xs) ≡ Some e → get_or xs k d ≡ e
 first_drop [] zero d e h = cc h

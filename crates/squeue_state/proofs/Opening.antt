@@ -11,7 +11,7 @@ use Rattle.squeue_state.specs.Told.{Traced, mark_of}
 use Rattle.squeue_state.specs.declared.inner.Inner.{Inner}
 use Rattle.squeue_state.specs.Naming.{Given, setting_of}
 use Rattle.squeue_state.specs.Behind.{Behind, Noted, HasEmpty, room_of}
-use Rattle.squeue_state.specs.Words.{StandsEmpty, ask_quotas}
+use Rattle.squeue_state.specs.Clauses.{StandsEmpty, ask_quotas}
 use Rattle.squeue_state.proofs.RoomMade.{all_both}
 
 new_at : (b : Bool) (o : Option (List Act)) → b ≡ is_some o → ((had : List Act) → o ≡ Some had → had ≡ []) → (if b then Some [] else None) ≡ o

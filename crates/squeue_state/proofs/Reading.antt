@@ -14,7 +14,7 @@ use Rattle.squeue_state.specs.declared.inner.Inner.{Inner}
 use Rattle.squeue_state.specs.declared.guarded.Guarded.{Guarded}
 use Rattle.squeue_state.specs.Naming.{Given, Named, Turned, setting_of}
 use Rattle.squeue_state.specs.Behind.{Behind}
-use Rattle.squeue_state.specs.Words.{IsTurnOf, turned_of}
+use Rattle.squeue_state.specs.Clauses.{IsTurnOf, turned_of}
 
 module _ {R P O : Type 0} (G : Ghosts R P O) where
   pub reads : (t : Named R) (h : Held (Guarded R) Kind Element) (u : Turned R) (v : Guarded R) → IsTurnOf G t h → turned_of t h ≡ u → v ≡ held_value h

@@ -9,7 +9,7 @@ use Rattle.perimeter_core.specs.History.{all_quotas, feed_quotas}
 use Rattle.perimeter_core.specs.Blocks.{Blocks}
 use Rattle.squeue_state.specs.declared.guarded.Quota.{Quota}
 use Rattle.squeue_state.specs.Behind.{pairs}
-use Rattle.squeue_state.specs.Words.{ask_quotas}
+use Rattle.squeue_state.specs.Clauses.{ask_quotas}
 
 pub all_both : (qs : List (ℕ × ℕ)) → all_quotas qs ≡ feed_quotas qs + ask_quotas qs
 all_both [] = omega arith

@@ -21,7 +21,7 @@ use Rattle.perimeter_core.proofs.BlocksFollow.{peri_push}
 use Rattle.perimeter_core.proofs.FeedActs.{with_none}
 use Rattle.squeue_state.specs.declared.inner.Inner.{Inner}
 use Rattle.squeue_state.specs.Naming.{Given, setting_of}
-use Rattle.squeue_state.specs.Elements.{filled, fasted, claimed, claimed_ask, took, gone, asked, granted, accepted, worked, closed_by}
+use Rattle.squeue_state.specs.Elements.{filled_by, fast_by, claimed_by, ask_claimed_by, taken_by, left_by_pass, asked_by, granted_by, accepted_by, worked_by, closed_by}
 use Rattle.squeue_state.specs.Behind.{Behind, IsPeri, Lies, Spare, HasEmpty, room_of, ActBelow}
 use Rattle.perimeter_core.specs.Legal.{InRange}
 use Rattle.perimeter_core.specs.History.{conns}
@@ -67,11 +67,11 @@ module _ {R P O : Type 0} (G : Ghosts R P O) (g : Given R) (i j : Inner R) (H : 
         few = b.few;
       }
 
-  pub fill_behind : (p : ℕ) (es : List Feed) → B i H → May S H (filled p es)
+  pub fill_behind : (p : ℕ) (es : List Feed) → B i H → May S H (filled_by p es)
       → j.own ≡ i.own → j.chain.items ≡ i.chain.items ++ entries es → j.wake ≡ (is_free i.own || i.wake) → j.polling ≡ polls (i.chain.items ++ entries es) i.polling
-      → j.here.items ≡ i.here.items → j.closed.items ≡ i.closed.items → j.resident ≡ i.resident → j.spare ≡ i.spare → room_of g.quotas ≡ vec_capacity j.chain → B j (H ++ filled p es ∷ [])
+      → j.here.items ≡ i.here.items → j.closed.items ≡ i.closed.items → j.resident ≡ i.resident → j.spare ≡ i.spare → room_of g.quotas ≡ vec_capacity j.chain → B j (H ++ filled_by p es ∷ [])
   fill_behind p es b m own chain wake polling here closed resident spare room =
-      let e = filled p es in
+      let e = filled_by p es in
       goes_on e b m (own ∙ b.own) (rw b.chain at chain) (rw (b.own, b.wake) at wake) (rw (b.chain, b.polling) at polling) (here ∙ b.here) (closed ∙ b.closed)
       (rw (own, resident, peri_push S H e m, with_none (peri S H)) b.resident)
       (rw (own, spare) b.spare) room
@@ -85,11 +85,11 @@ module _ {R P O : Type 0} (G : Ghosts R P O) (g : Given R) (i j : Inner R) (H : 
       (rw (own, resident, peri_push S H e m, with_none (peri S H)) b.resident)
       (rw (own, spare) b.spare) room
 
-  pub accept_behind : (p : ℕ) → B i H → May S H (accepted p)
+  pub accept_behind : (p : ℕ) → B i H → May S H (accepted_by p)
       → j.own ≡ Out p → j.chain.items ≡ i.chain.items → j.wake ≡ i.wake → j.polling ≡ polls i.chain.items i.polling
-      → j.here.items ≡ i.here.items → j.closed.items ≡ i.closed.items → j.resident ≡ None → j.spare ≡ None → room_of g.quotas ≡ vec_capacity j.chain → B j (H ++ accepted p ∷ [])
+      → j.here.items ≡ i.here.items → j.closed.items ≡ i.closed.items → j.resident ≡ None → j.spare ≡ None → room_of g.quotas ≡ vec_capacity j.chain → B j (H ++ accepted_by p ∷ [])
   accept_behind p b m own chain wake polling here closed resident spare room =
-      let e = accepted p in
+      let e = accepted_by p in
       goes_on e b m own (chain ∙ b.chain) (wake ∙ b.wake) (rw (b.chain, b.polling) at polling) (here ∙ b.here) (closed ∙ b.closed)
       (rw (own, resident) tt) (rw (own, spare) tt) room
 
@@ -102,64 +102,64 @@ module _ {R P O : Type 0} (G : Ghosts R P O) (g : Given R) (i j : Inner R) (H : 
       goes_on e b m (own ∙ sym out) chain wake polling (here ∙ (b.here ∙ sym same_here)) (closed ∙ (b.closed ∙ sym same_closed))
       (rw (own, resident) tt) (rw (own, spare) tt) room
 
-  pub work_behind : (p : ℕ) → B i H → May S H (worked p)
+  pub work_behind : (p : ℕ) → B i H → May S H (worked_by p)
       → j.own ≡ Out p → j.chain.items ≡ [] → j.wake ≡ false → j.polling ≡ polls j.chain.items i.polling
-      → j.here.items ≡ i.here.items → j.closed.items ≡ i.closed.items → j.resident ≡ None → j.spare ≡ None → room_of g.quotas ≡ vec_capacity j.chain → B j (H ++ worked p ∷ [])
+      → j.here.items ≡ i.here.items → j.closed.items ≡ i.closed.items → j.resident ≡ None → j.spare ≡ None → room_of g.quotas ≡ vec_capacity j.chain → B j (H ++ worked_by p ∷ [])
   work_behind p b m own chain wake polling here closed resident spare room =
-      out_behind (worked p) p b m refl refl refl own chain wake (rw (chain, b.polling) at polling) here closed resident spare room
+      out_behind (worked_by p) p b m refl refl refl own chain wake (rw (chain, b.polling) at polling) here closed resident spare room
 
-  pub claim_behind : (p : ℕ) (es : List Feed) → B i H → May S H (claimed p es)
+  pub claim_behind : (p : ℕ) (es : List Feed) → B i H → May S H (claimed_by p es)
       → j.own ≡ Out p → j.chain.items ≡ [] → j.wake ≡ false → j.polling ≡ polls j.chain.items i.polling
-      → j.here.items ≡ i.here.items → j.closed.items ≡ i.closed.items → j.resident ≡ None → j.spare ≡ None → room_of g.quotas ≡ vec_capacity j.chain → B j (H ++ claimed p es ∷ [])
+      → j.here.items ≡ i.here.items → j.closed.items ≡ i.closed.items → j.resident ≡ None → j.spare ≡ None → room_of g.quotas ≡ vec_capacity j.chain → B j (H ++ claimed_by p es ∷ [])
   claim_behind p es b m own chain wake polling here closed resident spare room =
-      out_behind (claimed p es) p b m refl refl refl own chain wake (rw (chain, b.polling) at polling) here closed resident spare room
+      out_behind (claimed_by p es) p b m refl refl refl own chain wake (rw (chain, b.polling) at polling) here closed resident spare room
 
-  pub claim_ask_behind : (p : ℕ) → B i H → May S H (claimed_ask p)
+  pub claim_ask_behind : (p : ℕ) → B i H → May S H (ask_claimed_by p)
       → j.own ≡ Out p → j.chain.items ≡ [] → j.wake ≡ false → j.polling ≡ polls j.chain.items i.polling
-      → j.here.items ≡ i.here.items → j.closed.items ≡ i.closed.items → j.resident ≡ None → j.spare ≡ None → room_of g.quotas ≡ vec_capacity j.chain → B j (H ++ claimed_ask p ∷ [])
+      → j.here.items ≡ i.here.items → j.closed.items ≡ i.closed.items → j.resident ≡ None → j.spare ≡ None → room_of g.quotas ≡ vec_capacity j.chain → B j (H ++ ask_claimed_by p ∷ [])
   claim_ask_behind p b m own chain wake polling here closed resident spare room =
-      out_behind (claimed_ask p) p b m refl refl refl own chain wake (rw (chain, b.polling) at polling) here closed resident spare room
+      out_behind (ask_claimed_by p) p b m refl refl refl own chain wake (rw (chain, b.polling) at polling) here closed resident spare room
 
-  pub fast_behind : (p : ℕ) (e : Feed) → B i H → May S H (fasted p e)
+  pub fast_behind : (p : ℕ) (e : Feed) → B i H → May S H (fast_by p e)
       → j.own ≡ Out p → j.chain.items ≡ i.chain.items → j.wake ≡ i.wake → j.polling ≡ polls i.chain.items i.polling
-      → j.here.items ≡ i.here.items → j.closed.items ≡ i.closed.items → j.resident ≡ None → j.spare ≡ None → room_of g.quotas ≡ vec_capacity j.chain → B j (H ++ fasted p e ∷ [])
+      → j.here.items ≡ i.here.items → j.closed.items ≡ i.closed.items → j.resident ≡ None → j.spare ≡ None → room_of g.quotas ≡ vec_capacity j.chain → B j (H ++ fast_by p e ∷ [])
   fast_behind p e b m own chain wake polling here closed resident spare room =
-      out_behind (fasted p e) p b m refl refl refl own (chain ∙ b.chain) (wake ∙ b.wake) (rw (b.chain, b.polling) at polling) here closed resident spare room
+      out_behind (fast_by p e) p b m refl refl refl own (chain ∙ b.chain) (wake ∙ b.wake) (rw (b.chain, b.polling) at polling) here closed resident spare room
 
-  pub take_behind : (p : ℕ) → B i H → May S H (took p)
+  pub take_behind : (p : ℕ) → B i H → May S H (taken_by p)
       → j.own ≡ i.own → j.chain.items ≡ [] → j.wake ≡ i.wake → j.polling ≡ polls [] i.polling
-      → j.here.items ≡ i.here.items → j.closed.items ≡ i.closed.items → j.resident ≡ i.resident → j.spare ≡ i.spare → room_of g.quotas ≡ vec_capacity j.chain → B j (H ++ took p ∷ [])
+      → j.here.items ≡ i.here.items → j.closed.items ≡ i.closed.items → j.resident ≡ i.resident → j.spare ≡ i.spare → room_of g.quotas ≡ vec_capacity j.chain → B j (H ++ taken_by p ∷ [])
   take_behind p b m own chain wake polling here closed resident spare room =
       let out : i.own ≡ Out p = b.own ∙ m.step.0 in
-      out_behind (took p) p b m m.step.0 refl refl (own ∙ out) chain (wake ∙ b.wake) (rw b.polling at polling) here closed
+      out_behind (taken_by p) p b m m.step.0 refl refl (own ∙ out) chain (wake ∙ b.wake) (rw b.polling at polling) here closed
       (resident ∙ none_out G g i.own p i.resident (peri S H) b.resident out) (spare ∙ no_spare (room_of g.quotas) i.own p i.spare b.spare out) room
 
-  pub ask_behind : (p : ℕ) → B i H → May S H (asked p)
+  pub ask_behind : (p : ℕ) → B i H → May S H (asked_by p)
       → j.own ≡ i.own → j.chain.items ≡ i.chain.items ++ Entry'.Ask p ∷ [] → j.wake ≡ i.wake → j.polling ≡ polls (i.chain.items ++ Entry'.Ask p ∷ []) i.polling
-      → j.here.items ≡ i.here.items → j.closed.items ≡ i.closed.items → j.resident ≡ i.resident → j.spare ≡ i.spare → room_of g.quotas ≡ vec_capacity j.chain → B j (H ++ asked p ∷ [])
+      → j.here.items ≡ i.here.items → j.closed.items ≡ i.closed.items → j.resident ≡ i.resident → j.spare ≡ i.spare → room_of g.quotas ≡ vec_capacity j.chain → B j (H ++ asked_by p ∷ [])
   ask_behind p b m own chain wake polling here closed resident spare room =
-      let e = asked p in
+      let e = asked_by p in
       goes_on e b m (own ∙ b.own) (rw b.chain at chain) (wake ∙ b.wake) (rw (b.chain, b.polling) at polling) (here ∙ b.here) (closed ∙ b.closed)
       (rw (own, resident, peri_push S H e m, with_none (peri S H)) b.resident)
       (rw (own, spare) b.spare) room
 
   pub leave_behind : (p rest : ℕ) (act : SynchAct) (note : List Act) (left : List Entry) (r : R)
-      → B i H → left ≡ unprocessed rest (run S H).hand → IsPeri G g r (with_act act note (with_feeds (processed rest (run S H).hand) (peri S H))) → May S H (gone p rest act note)
+      → B i H → left ≡ unprocessed rest (run S H).hand → IsPeri G g r (with_act act note (with_feeds (processed rest (run S H).hand) (peri S H))) → May S H (left_by_pass p rest act note)
       → j.own ≡ Free → j.chain.items ≡ left ++ i.chain.items → j.wake ≡ not (is_empty (left ++ i.chain.items)) → j.polling ≡ polls (left ++ i.chain.items) i.polling
       → j.here.items ≡ here_after act i.here.items → j.closed.items ≡ i.closed.items → j.resident ≡ Some r → HasEmpty (room_of g.quotas) j.spare → room_of g.quotas ≡ vec_capacity j.chain
-      → B j (H ++ gone p rest act note ∷ [])
+      → B j (H ++ left_by_pass p rest act note ∷ [])
   leave_behind p rest act note left r b is peri_r m own chain wake polling here closed resident spare room =
-      let e = gone p rest act note in
+      let e = left_by_pass p rest act note in
       goes_on e b m own (rw (is, b.chain) at chain) (rw (is, b.chain) at wake) (rw (is, b.chain, b.polling) at polling) (rw b.here at here) (closed ∙ b.closed)
       (rw (own, resident, peri_push S H e m) peri_r) (rw own spare) room
 
   pub grant_behind : (p j' rest : ℕ) (left : List Entry) (r : R)
-      → B i H → left ≡ unprocessed rest (run S H).hand → IsPeri G g r (with_feeds (processed rest (run S H).hand) (peri S H)) → May S H (granted p j' rest)
+      → B i H → left ≡ unprocessed rest (run S H).hand → IsPeri G g r (with_feeds (processed rest (run S H).hand) (peri S H)) → May S H (granted_by p j' rest)
       → j.own ≡ Granted j' → j.chain.items ≡ left ++ i.chain.items → j.wake ≡ i.wake → j.polling ≡ polls (left ++ i.chain.items) i.polling
       → j.here.items ≡ i.here.items → j.closed.items ≡ i.closed.items → j.resident ≡ Some r → HasEmpty (room_of g.quotas) j.spare → room_of g.quotas ≡ vec_capacity j.chain
-      → B j (H ++ granted p j' rest ∷ [])
+      → B j (H ++ granted_by p j' rest ∷ [])
   grant_behind p j' rest left r b is peri_r m own chain wake polling here closed resident spare room =
-      let e = granted p j' rest in
+      let e = granted_by p j' rest in
       goes_on e b m own (rw (is, b.chain) at chain) (wake ∙ b.wake) (rw (is, b.chain, b.polling) at polling) (here ∙ b.here) (closed ∙ b.closed)
       (rw (own, resident, peri_push S H e m) peri_r) (rw own spare) room
 

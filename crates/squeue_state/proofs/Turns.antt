@@ -16,7 +16,7 @@ use Rattle.squeue_state.specs.declared.guarded.Guarded.{Guarded}
 use Rattle.squeue_state.specs.declared.kind.Kind.{Kind}
 use Rattle.squeue_state.specs.Naming.{Given, Named, Turned}
 use Rattle.squeue_state.specs.Behind.{Behind, Noted, IsPeri, Lies}
-use Rattle.squeue_state.specs.Words.{IsTurnOf, turned_of, Marked}
+use Rattle.squeue_state.specs.Clauses.{IsTurnOf, turned_of, Marked}
 use Rattle.perimeter_core.specs.declared.entries.Entry.{Entry}
 use Rattle.perimeter_core.specs.declared.entries.Feed.{Feed}
 use Rattle.perimeter_core.specs.History.{start, run}
@@ -30,8 +30,8 @@ use Rattle.turn_gate.specs.declared.gate.Gate.{Gate}
 use Rattle.turn_gate.specs.declared.pass.Pass.{Pass}
 use Rattle.turn_gate.specs.Helds.{Takes}
 use Rattle.squeue_state.specs.Behind.{StandsFor}
-use Rattle.squeue_state.specs.Words.{named_of}
-use Rattle.squeue_state.specs.Elements.{number_of, fasted, claimed, claimed_ask, accepted, worked}
+use Rattle.squeue_state.specs.Clauses.{named_of}
+use Rattle.squeue_state.specs.Elements.{number_of, fast_by, claimed_by, ask_claimed_by, accepted_by, worked_by}
 
 module _ {R P O : Type 0} (G : Ghosts R P O) where
   -- the value that the turn holds
@@ -93,20 +93,20 @@ marked {R} t s G h u e x p is sq gs ex its saw made freed =
 pub hand_after : (S : Setting) (H : List Element) (e : Element) (xs : List Entry) → xs ≡ (after (run S H) e.mark).hand → xs ≡ (run S (H ++ e ∷ [])).hand
 hand_after S H e xs is = is ∙ sym (ap (λ s. s.hand) (run_push (start S) H e))
 
-pub fasted_same : (S : Setting) (H : List Element) (p : ℕ) (e : Feed) → May S H (fasted p e) → peri S (H ++ fasted p e ∷ []) ≡ peri S H
-fasted_same S H p e m = peri_push S H (fasted p e) m ∙ with_none (peri S H)
+pub fasted_same : (S : Setting) (H : List Element) (p : ℕ) (e : Feed) → May S H (fast_by p e) → peri S (H ++ fast_by p e ∷ []) ≡ peri S H
+fasted_same S H p e m = peri_push S H (fast_by p e) m ∙ with_none (peri S H)
 
-pub claimed_same : (S : Setting) (H : List Element) (p : ℕ) (es : List Feed) → May S H (claimed p es) → peri S (H ++ claimed p es ∷ []) ≡ peri S H
-claimed_same S H p es m = peri_push S H (claimed p es) m ∙ with_none (peri S H)
+pub claimed_same : (S : Setting) (H : List Element) (p : ℕ) (es : List Feed) → May S H (claimed_by p es) → peri S (H ++ claimed_by p es ∷ []) ≡ peri S H
+claimed_same S H p es m = peri_push S H (claimed_by p es) m ∙ with_none (peri S H)
 
-pub claimed_ask_same : (S : Setting) (H : List Element) (p : ℕ) → May S H (claimed_ask p) → peri S (H ++ claimed_ask p ∷ []) ≡ peri S H
-claimed_ask_same S H p m = peri_push S H (claimed_ask p) m ∙ with_none (peri S H)
+pub claimed_ask_same : (S : Setting) (H : List Element) (p : ℕ) → May S H (ask_claimed_by p) → peri S (H ++ ask_claimed_by p ∷ []) ≡ peri S H
+claimed_ask_same S H p m = peri_push S H (ask_claimed_by p) m ∙ with_none (peri S H)
 
-pub accepted_same : (S : Setting) (H : List Element) (p : ℕ) → May S H (accepted p) → peri S (H ++ accepted p ∷ []) ≡ peri S H
-accepted_same S H p m = peri_push S H (accepted p) m ∙ with_none (peri S H)
+pub accepted_same : (S : Setting) (H : List Element) (p : ℕ) → May S H (accepted_by p) → peri S (H ++ accepted_by p ∷ []) ≡ peri S H
+accepted_same S H p m = peri_push S H (accepted_by p) m ∙ with_none (peri S H)
 
-pub worked_same : (S : Setting) (H : List Element) (p : ℕ) → May S H (worked p) → peri S (H ++ worked p ∷ []) ≡ peri S H
-worked_same S H p m = peri_push S H (worked p) m ∙ with_none (peri S H)
+pub worked_same : (S : Setting) (H : List Element) (p : ℕ) → May S H (worked_by p) → peri S (H ++ worked_by p ∷ []) ≡ peri S H
+worked_same S H p m = peri_push S H (worked_by p) m ∙ with_none (peri S H)
 
 -- steps that free the lock by none of them, and then one that does, are one turn
 pub one_turn : (xs ys zs : List LockStep) → waited xs ys → freed_once ys zs → turns_of zs ≡ turns_of xs + 1

@@ -15,36 +15,36 @@ number_of e = pass_of e.mark
 abbrev pub element_of : ℕ → Kind → List Feed → List Act → Element
 element_of p kind fs note = record { mark = mark_by p kind fs; note = note }
 
-abbrev pub filled : ℕ → List Feed → Element
-filled p fs = element_of p Kind'.Fill fs []
+abbrev pub filled_by : ℕ → List Feed → Element
+filled_by p fs = element_of p Kind'.Fill fs []
 
-abbrev pub fasted : ℕ → Feed → Element
-fasted p f = element_of p (Kind'.Fast f.c f.n) [] []
+abbrev pub fast_by : ℕ → Feed → Element
+fast_by p f = element_of p (Kind'.Fast f.c f.n) [] []
 
-abbrev pub claimed : ℕ → List Feed → Element
-claimed p fs = element_of p Kind'.Claim fs []
+abbrev pub claimed_by : ℕ → List Feed → Element
+claimed_by p fs = element_of p Kind'.Claim fs []
 
 -- the claim of the pass's own Ask
-abbrev pub claimed_ask : ℕ → Element
-claimed_ask p = element_of p Kind'.ClaimAsk [] []
+abbrev pub ask_claimed_by : ℕ → Element
+ask_claimed_by p = element_of p Kind'.ClaimAsk [] []
 
-abbrev pub took : ℕ → Element
-took p = element_of p Kind'.Take [] []
+abbrev pub taken_by : ℕ → Element
+taken_by p = element_of p Kind'.Take [] []
 
-abbrev pub gone : ℕ → ℕ → SynchAct → List Act → Element
-gone p rest act note = element_of p (Kind'.Leave rest act) [] note
+abbrev pub left_by_pass : ℕ → ℕ → SynchAct → List Act → Element
+left_by_pass p rest act note = element_of p (Kind'.Leave rest act) [] note
 
-abbrev pub asked : ℕ → Element
-asked p = element_of p Kind'.Ask [] []
+abbrev pub asked_by : ℕ → Element
+asked_by p = element_of p Kind'.Ask [] []
 
-abbrev pub granted : ℕ → ℕ → ℕ → Element
-granted p j rest = element_of p (Kind'.Grant j rest) [] []
+abbrev pub granted_by : ℕ → ℕ → ℕ → Element
+granted_by p j rest = element_of p (Kind'.Grant j rest) [] []
 
-abbrev pub accepted : ℕ → Element
-accepted p = element_of p Kind'.Accept [] []
+abbrev pub accepted_by : ℕ → Element
+accepted_by p = element_of p Kind'.Accept [] []
 
-abbrev pub worked : ℕ → Element
-worked p = element_of p Kind'.Work [] []
+abbrev pub worked_by : ℕ → Element
+worked_by p = element_of p Kind'.Work [] []
 
 abbrev pub closed_by : ℕ → Element
 closed_by p = element_of p Kind'.Close [] []

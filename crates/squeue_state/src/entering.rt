@@ -6,8 +6,8 @@ ghost use Rattle.perimeter_core.specs.Legal.{May};
 ghost use Rattle.perimeter_core.specs.Blocks.{peri};
 ghost use Rattle.squeue_state.specs.Naming.{setting_of};
 ghost use Rattle.squeue_state.specs.Behind.{IsPeri};
-ghost use Rattle.squeue_state.specs.Elements.{filled, fasted, claimed, claimed_ask, asked, closed_by};
-ghost use Rattle.squeue_state.specs.Words.{Marked, IsWhole};
+ghost use Rattle.squeue_state.specs.Elements.{filled_by, fast_by, claimed_by, ask_claimed_by, asked_by, closed_by};
+ghost use Rattle.squeue_state.specs.Clauses.{Marked, IsWhole};
 ghost use Rattle.turn_gate.specs.Passes.{seen};
 
 use crate::hand::Hand;
@@ -22,8 +22,8 @@ impl<R: Resident> Squeue<R> {
     /// Queues the feeds.
     pub fn fill(&self, turn: Turn<R>, es: &[Feed]) -> Pass
         requires squeue { turn.squeue ≡ self.now }
-        requires may { May (setting_of R.limits self.now.given) turn.found (filled turn.number es.now) }
-        ensures { Marked turn (filled turn.number es.now) result }
+        requires may { May (setting_of R.limits self.now.given) turn.found (filled_by turn.number es.now) }
+        ensures { Marked turn (filled_by turn.number es.now) result }
     {
         let Turn { mut held, of: _ } = turn;
         held.value().inner.fill(es);
@@ -38,8 +38,8 @@ impl<R: Resident> Squeue<R> {
     /// Takes the perimeter with one feed, where nobody has it and nothing is queued.
     pub fn fast(&self, turn: Turn<R>, e: Feed) -> (Pass, R, Hand)
         requires squeue { turn.squeue ≡ self.now }
-        requires may { May (setting_of R.limits self.now.given) turn.found (fasted turn.number e) }
-        ensures pass { Marked turn (fasted turn.number e) result.0 }
+        requires may { May (setting_of R.limits self.now.given) turn.found (fast_by turn.number e) }
+        ensures pass { Marked turn (fast_by turn.number e) result.0 }
         ensures resident { IsPeri R.Resident self.now.given result.1 (peri (setting_of R.limits self.now.given) (seen result.0)) }
         ensures hand { IsWhole R.limits self.now.given (seen result.0) result.2 }
     {
@@ -57,8 +57,8 @@ impl<R: Resident> Squeue<R> {
     /// Queues the feeds, and takes the perimeter and all that is queued, where nobody has it.
     pub fn claim(&self, turn: Turn<R>, es: &[Feed]) -> (Pass, R, Hand)
         requires squeue { turn.squeue ≡ self.now }
-        requires may { May (setting_of R.limits self.now.given) turn.found (claimed turn.number es.now) }
-        ensures pass { Marked turn (claimed turn.number es.now) result.0 }
+        requires may { May (setting_of R.limits self.now.given) turn.found (claimed_by turn.number es.now) }
+        ensures pass { Marked turn (claimed_by turn.number es.now) result.0 }
         ensures resident { IsPeri R.Resident self.now.given result.1 (peri (setting_of R.limits self.now.given) (seen result.0)) }
         ensures hand { IsWhole R.limits self.now.given (seen result.0) result.2 }
     {
@@ -75,8 +75,8 @@ impl<R: Resident> Squeue<R> {
     /// Queues the pass's own Ask, and takes the perimeter and all that is queued, where nobody has it.
     pub fn claim_ask(&self, turn: Turn<R>) -> (Pass, R, Hand)
         requires squeue { turn.squeue ≡ self.now }
-        requires may { May (setting_of R.limits self.now.given) turn.found (claimed_ask turn.number) }
-        ensures pass { Marked turn (claimed_ask turn.number) result.0 }
+        requires may { May (setting_of R.limits self.now.given) turn.found (ask_claimed_by turn.number) }
+        ensures pass { Marked turn (ask_claimed_by turn.number) result.0 }
         ensures resident { IsPeri R.Resident self.now.given result.1 (peri (setting_of R.limits self.now.given) (seen result.0)) }
         ensures hand { IsWhole R.limits self.now.given (seen result.0) result.2 }
     {
@@ -93,8 +93,8 @@ impl<R: Resident> Squeue<R> {
     /// Queues the pass's wish to own the perimeter, where somebody has it.
     pub fn ask(&self, turn: Turn<R>) -> Pass
         requires squeue { turn.squeue ≡ self.now }
-        requires may { May (setting_of R.limits self.now.given) turn.found (asked turn.number) }
-        ensures { Marked turn (asked turn.number) result }
+        requires may { May (setting_of R.limits self.now.given) turn.found (asked_by turn.number) }
+        ensures { Marked turn (asked_by turn.number) result }
     {
         let Turn { mut held, of: _ } = turn;
         let p = held.number();

@@ -1,6 +1,6 @@
 //! What an owner took out of the queue.
 ghost use Rattle.std.specs.Prelude.{◌≡◌, ◌<◌, ◌≤◌, ◌^◌, drop, length};
-ghost use Rattle.squeue_state.specs.Words.{first_entry};
+ghost use Rattle.squeue_state.specs.Clauses.{first_entry};
 
 use perimeter_core::Entry;
 use std::marker::Model;

@@ -13,7 +13,8 @@ ghost use Rattle.perimeter_core.specs.Deeds.{entries};
 ghost use Rattle.perimeter_core.specs.Blocks.{peri, with_feeds, with_act};
 ghost use Rattle.squeue_state.specs.Naming.{Given, setting_of};
 ghost use Rattle.squeue_state.specs.Behind.{Behind, IsPeri, ActBelow, HasEmpty, LiesAs, room_of};
-ghost use Rattle.squeue_state.specs.Elements.{filled, fasted, claimed, claimed_ask, took, gone, asked, granted, accepted, worked, closed_by};
+ghost use Rattle.squeue_state.specs.Elements.{filled_by, fast_by, claimed_by, ask_claimed_by, asked_by, closed_by};
+ghost use Rattle.squeue_state.specs.Elements.{taken_by, left_by_pass, granted_by, accepted_by, worked_by};
 
 use crate::room::{append, put_back, queue_feeds};
 use perimeter_core::{Entry, Feed, Own, Resident, SynchAct, is_polling};
@@ -115,8 +116,8 @@ impl<R: Resident> Inner<R> {
     /// Queues the feeds.
     pub(crate) fn fill(&mut self, es: &[Feed])
         requires room { vec_len self.old.chain + length es.now ≤ vec_capacity self.old.chain }
-        ensures behind { (g : Given R) (H : List Element) (p : ℕ) → Behind R.Resident g self.old H → May (setting_of R.limits g) H (filled p es.now)
-            → Behind R.Resident g self.new (H ++ filled p es.now ∷ []) }
+        ensures behind { (g : Given R) (H : List Element) (p : ℕ) → Behind R.Resident g self.old H → May (setting_of R.limits g) H (filled_by p es.now)
+            → Behind R.Resident g self.new (H ++ filled_by p es.now ∷ []) }
     {
         queue_feeds(&mut self.chain, es);
         self.wake = wakes(self.own, self.wake);
@@ -128,8 +129,8 @@ impl<R: Resident> Inner<R> {
         requires { (n : ℕ) × (1 ≤ n) × HasEmpty n self.old.spare }
         ensures same { (result.0 ≡ self.old.resident) × (result.1.items ≡ Entry'.Feed e.c e.n ∷ []) }
         ensures room { (n : ℕ) → HasEmpty n self.old.spare → n ≡ vec_capacity result.1 }
-        ensures behind { (g : Given R) (H : List Element) → Behind R.Resident g self.old H → May (setting_of R.limits g) H (fasted p e)
-            → Behind R.Resident g self.new (H ++ fasted p e ∷ []) }
+        ensures behind { (g : Given R) (H : List Element) → Behind R.Resident g self.old H → May (setting_of R.limits g) H (fast_by p e)
+            → Behind R.Resident g self.new (H ++ fast_by p e ∷ []) }
     {
         let mut hand = match self.spare.take() {
             Some(spare) => spare,
@@ -147,8 +148,8 @@ impl<R: Resident> Inner<R> {
         requires room { vec_len self.old.chain + length es.now ≤ vec_capacity self.old.chain }
         ensures same { (result.0 ≡ self.old.resident) × (result.1.items ≡ self.old.chain.items ++ entries es.now) }
         ensures room { vec_capacity result.1 ≡ vec_capacity self.old.chain }
-        ensures behind { (g : Given R) (H : List Element) → Behind R.Resident g self.old H → May (setting_of R.limits g) H (claimed p es.now)
-            → Behind R.Resident g self.new (H ++ claimed p es.now ∷ []) }
+        ensures behind { (g : Given R) (H : List Element) → Behind R.Resident g self.old H → May (setting_of R.limits g) H (claimed_by p es.now)
+            → Behind R.Resident g self.new (H ++ claimed_by p es.now ∷ []) }
     {
         queue_feeds(&mut self.chain, es);
         self.take_all(p)
@@ -160,8 +161,8 @@ impl<R: Resident> Inner<R> {
         requires room { vec_len self.old.chain < vec_capacity self.old.chain }
         ensures same { (result.0 ≡ self.old.resident) × (result.1.items ≡ self.old.chain.items ++ Entry'.Ask p ∷ []) }
         ensures room { vec_capacity result.1 ≡ vec_capacity self.old.chain }
-        ensures behind { (g : Given R) (H : List Element) → Behind R.Resident g self.old H → May (setting_of R.limits g) H (claimed_ask p)
-            → Behind R.Resident g self.new (H ++ claimed_ask p ∷ []) }
+        ensures behind { (g : Given R) (H : List Element) → Behind R.Resident g self.old H → May (setting_of R.limits g) H (ask_claimed_by p)
+            → Behind R.Resident g self.new (H ++ ask_claimed_by p ∷ []) }
     {
         append(&mut self.chain, &[Entry::Ask { p }]);
         self.take_all(p)
@@ -171,8 +172,8 @@ impl<R: Resident> Inner<R> {
     pub(crate) fn work(&mut self, p: u32) -> (Option<R>, Vec<Entry>)
         requires { IsSome self.old.spare }
         ensures same { (result.0 ≡ self.old.resident) × (result.1 ≡ self.old.chain) }
-        ensures behind { (g : Given R) (H : List Element) → Behind R.Resident g self.old H → May (setting_of R.limits g) H (worked p)
-            → Behind R.Resident g self.new (H ++ worked p ∷ []) }
+        ensures behind { (g : Given R) (H : List Element) → Behind R.Resident g self.old H → May (setting_of R.limits g) H (worked_by p)
+            → Behind R.Resident g self.new (H ++ worked_by p ∷ []) }
     {
         self.take_all(p)
     }
@@ -180,8 +181,8 @@ impl<R: Resident> Inner<R> {
     /// Queues the wish of the pass to own the perimeter.
     pub(crate) fn ask(&mut self, p: u32)
         requires { vec_len self.old.chain < vec_capacity self.old.chain }
-        ensures behind { (g : Given R) (H : List Element) → Behind R.Resident g self.old H → May (setting_of R.limits g) H (asked p)
-            → Behind R.Resident g self.new (H ++ asked p ∷ []) }
+        ensures behind { (g : Given R) (H : List Element) → Behind R.Resident g self.old H → May (setting_of R.limits g) H (asked_by p)
+            → Behind R.Resident g self.new (H ++ asked_by p ∷ []) }
     {
         append(&mut self.chain, &[Entry::Ask { p }]);
         self.poll();
@@ -200,8 +201,8 @@ impl<R: Resident> Inner<R> {
     /// Takes the perimeter that was granted.
     pub(crate) fn accept(&mut self, p: u32) -> (Option<R>, Option<Vec<Entry>>)
         ensures same { (result.0 ≡ self.old.resident) × (result.1 ≡ self.old.spare) }
-        ensures behind { (g : Given R) (H : List Element) → Behind R.Resident g self.old H → May (setting_of R.limits g) H (accepted p)
-            → Behind R.Resident g self.new (H ++ accepted p ∷ []) }
+        ensures behind { (g : Given R) (H : List Element) → Behind R.Resident g self.old H → May (setting_of R.limits g) H (accepted_by p)
+            → Behind R.Resident g self.new (H ++ accepted_by p ∷ []) }
     {
         self.own = Own::Out(p);
         self.poll();
@@ -212,7 +213,7 @@ impl<R: Resident> Inner<R> {
     pub(crate) fn take(&mut self, buffer: Vec<Entry>) -> Vec<Entry>
         ensures same { result ≡ self.old.chain }
         ensures behind { (g : Given R) (H : List Element) (p : ℕ) → Behind R.Resident g self.old H → room_of g.quotas ≡ vec_capacity buffer
-            → May (setting_of R.limits g) H (took p) → Behind R.Resident g self.new (H ++ took p ∷ []) }
+            → May (setting_of R.limits g) H (taken_by p) → Behind R.Resident g self.new (H ++ taken_by p ∷ []) }
     {
         let mut buffer = buffer;
         buffer.clear();
@@ -230,7 +231,7 @@ impl<R: Resident> Inner<R> {
         ensures behind { (g : Given R) (H : List Element) (note : List Act) (p rest : ℕ) → Behind R.Resident g self.old H
             → LiesAs g (vec_capacity entries) rest (drop at entries.items) (run (setting_of R.limits g) H).hand
             → IsPeri R.Resident g resident (with_act act note (with_feeds (processed rest (run (setting_of R.limits g) H).hand) (peri (setting_of R.limits g) H)))
-            → May (setting_of R.limits g) H (gone p rest act note) → Behind R.Resident g self.new (H ++ gone p rest act note ∷ []) }
+            → May (setting_of R.limits g) H (left_by_pass p rest act note) → Behind R.Resident g self.new (H ++ left_by_pass p rest act note ∷ []) }
     {
         self.give_back(resident, entries, at);
         set_here(&mut self.here, act);
@@ -247,7 +248,7 @@ impl<R: Resident> Inner<R> {
         ensures behind { (g : Given R) (H : List Element) (p rest : ℕ) → Behind R.Resident g self.old H
             → LiesAs g (vec_capacity entries) rest (drop at entries.items) (run (setting_of R.limits g) H).hand
             → IsPeri R.Resident g resident (with_feeds (processed rest (run (setting_of R.limits g) H).hand) (peri (setting_of R.limits g) H))
-            → May (setting_of R.limits g) H (granted p j rest) → Behind R.Resident g self.new (H ++ granted p j rest ∷ []) }
+            → May (setting_of R.limits g) H (granted_by p j rest) → Behind R.Resident g self.new (H ++ granted_by p j rest ∷ []) }
     {
         self.give_back(resident, entries, at);
         self.own = Own::Granted(j);

@@ -9,8 +9,8 @@ ghost use Rattle.perimeter_core.specs.Legal.{May};
 ghost use Rattle.perimeter_core.specs.Blocks.{peri};
 ghost use Rattle.squeue_state.specs.Naming.{setting_of};
 ghost use Rattle.squeue_state.specs.Behind.{IsPeri};
-ghost use Rattle.squeue_state.specs.Elements.{took, gone, granted, accepted, worked};
-ghost use Rattle.squeue_state.specs.Words.{Marked, IsLeft, IsWhole, peri_left, first_entry, asker};
+ghost use Rattle.squeue_state.specs.Elements.{taken_by, left_by_pass, granted_by, accepted_by, worked_by};
+ghost use Rattle.squeue_state.specs.Clauses.{Marked, IsLeft, IsWhole, peri_left, first_entry, asker};
 ghost use Rattle.turn_gate.specs.Passes.{seen};
 
 use crate::event::Notes;
@@ -27,8 +27,8 @@ impl<R: Resident> Squeue<R> {
     pub fn take(&self, turn: Turn<R>, hand: Hand) -> (Pass, Hand)
         requires squeue { turn.squeue ≡ self.now }
         requires hand { IsLeft R.limits self.now.given turn.found hand × (hand.left ≡ []) }
-        requires may { May (setting_of R.limits self.now.given) turn.found (took turn.number) }
-        ensures pass { Marked turn (took turn.number) result.0 }
+        requires may { May (setting_of R.limits self.now.given) turn.found (taken_by turn.number) }
+        ensures pass { Marked turn (taken_by turn.number) result.0 }
         ensures hand { IsWhole R.limits self.now.given (seen result.0) result.1 }
     {
         let Turn { mut held, of: _ } = turn;
@@ -43,8 +43,8 @@ impl<R: Resident> Squeue<R> {
         requires squeue { turn.squeue ≡ self.now }
         requires hand { IsLeft R.limits self.now.given turn.found hand }
         requires resident { IsPeri R.Resident self.now.given resident (peri_left R.limits self.now.given turn.found hand act N.note) }
-        requires may { May (setting_of R.limits self.now.given) turn.found (gone turn.number (length hand.left) act N.note) }
-        ensures { Marked turn (gone turn.number (length hand.left) act N.note) result }
+        requires may { May (setting_of R.limits self.now.given) turn.found (left_by_pass turn.number (length hand.left) act N.note) }
+        ensures { Marked turn (left_by_pass turn.number (length hand.left) act N.note) result }
     {
         let Turn { mut held, of: _ } = turn;
         let Hand { entries, at } = hand;
@@ -64,8 +64,8 @@ impl<R: Resident> Squeue<R> {
         requires hand { IsLeft R.limits self.now.given turn.found hand }
         requires first { first_entry hand.left ≡ Some (Entry'.Ask (asker hand.left)) }
         requires resident { IsPeri R.Resident self.now.given resident (peri_left R.limits self.now.given turn.found hand Done.None []) }
-        requires may { May (setting_of R.limits self.now.given) turn.found (granted turn.number (asker hand.left) (length hand.left - 1)) }
-        ensures { Marked turn (granted turn.number (asker hand.left) (length hand.left - 1)) result }
+        requires may { May (setting_of R.limits self.now.given) turn.found (granted_by turn.number (asker hand.left) (length hand.left - 1)) }
+        ensures { Marked turn (granted_by turn.number (asker hand.left) (length hand.left - 1)) result }
     {
         let Turn { mut held, of: _ } = turn;
         let Hand { entries, at } = hand;
@@ -82,8 +82,8 @@ impl<R: Resident> Squeue<R> {
     /// Takes the perimeter that was granted.
     pub fn accept(&self, turn: Turn<R>) -> (Pass, R, Hand)
         requires squeue { turn.squeue ≡ self.now }
-        requires may { May (setting_of R.limits self.now.given) turn.found (accepted turn.number) }
-        ensures pass { Marked turn (accepted turn.number) result.0 }
+        requires may { May (setting_of R.limits self.now.given) turn.found (accepted_by turn.number) }
+        ensures pass { Marked turn (accepted_by turn.number) result.0 }
         ensures resident { IsPeri R.Resident self.now.given result.1 (peri (setting_of R.limits self.now.given) (seen result.0)) }
         ensures hand { IsWhole R.limits self.now.given (seen result.0) result.2 }
     {
@@ -101,8 +101,8 @@ impl<R: Resident> Squeue<R> {
     /// Takes the perimeter and all that is queued, as the worker.
     pub fn work(&self, turn: Turn<R>) -> (Pass, R, Hand)
         requires squeue { turn.squeue ≡ self.now }
-        requires may { May (setting_of R.limits self.now.given) turn.found (worked turn.number) }
-        ensures pass { Marked turn (worked turn.number) result.0 }
+        requires may { May (setting_of R.limits self.now.given) turn.found (worked_by turn.number) }
+        ensures pass { Marked turn (worked_by turn.number) result.0 }
         ensures resident { IsPeri R.Resident self.now.given result.1 (peri (setting_of R.limits self.now.given) (seen result.0)) }
         ensures hand { IsWhole R.limits self.now.given (seen result.0) result.2 }
     {

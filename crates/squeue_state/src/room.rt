@@ -5,7 +5,7 @@ ghost use Rattle.perimeter_core.specs.Deeds.{entries};
 ghost use Rattle.perimeter_core.specs.History.{all_quotas, feed_quotas};
 ghost use Rattle.perimeter_core.specs.Blocks.{Blocks};
 ghost use Rattle.squeue_state.specs.Behind.{pairs, room_of};
-ghost use Rattle.squeue_state.specs.Words.{ask_quotas};
+ghost use Rattle.squeue_state.specs.Clauses.{ask_quotas};
 
 use crate::guarded::Quota;
 use perimeter_core::{Entry, Feed, Resident};

@@ -8,7 +8,7 @@ ghost use Rattle.squeue_state.specs.Naming.{Chosen, Ending, setting_of};
 ghost use Rattle.squeue_state.specs.Endings.{ending_of, HasEnded, seen_by};
 ghost use Rattle.squeue_state.specs.Behind.{IsPeri, pairs};
 ghost use Rattle.squeue_state.specs.Elements.{number_of, closed_by};
-ghost use Rattle.squeue_state.specs.Words.{Found, Unmarked, Added, HasSeenEnd, Knows, IsMade, StandsEmpty, ask_quotas};
+ghost use Rattle.squeue_state.specs.Clauses.{Found, Unmarked, Added, HasSeenEnd, Knows, IsMade, StandsEmpty, ask_quotas};
 ghost use Rattle.turn_gate.specs.Passes.{IsPassOf, IsReturned, AreAll, AreFresh, hit, missed, number, seen, steps};
 ghost use Rattle.turn_gate.specs.History.{Each};
 
@@ -51,7 +51,7 @@ impl<R: Resident> Model for Squeue<R> {
     ghost use Rattle.std.specs.Prelude.{◌≡◌, ◌+◌, length};
     ghost use Rattle.turn_gate.specs.Gates.{passes_of};
     ghost use Rattle.squeue_state.specs.Naming.{Named};
-    ghost use Rattle.squeue_state.specs.Words.{named_of};
+    ghost use Rattle.squeue_state.specs.Clauses.{named_of};
 
     ghost Value = { Named R };
 

@@ -20,7 +20,7 @@ pub struct Turn<R: Resident> {
 
 impl<R: Resident> Model for Turn<R> {
     ghost use Rattle.squeue_state.specs.Naming.{Turned};
-    ghost use Rattle.squeue_state.specs.Words.{IsTurnOf, turned_of};
+    ghost use Rattle.squeue_state.specs.Clauses.{IsTurnOf, turned_of};
 
     ghost Value = { Turned R };
 

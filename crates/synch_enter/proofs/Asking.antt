@@ -15,8 +15,8 @@ use Rattle.perimeter_core.proofs.OneMore.{run_push}
 use Rattle.perimeter_core.proofs.Quotas.{within}
 use Rattle.perimeter_core.proofs.Since.{known_since, none_made}
 use Rattle.squeue_state.specs.Naming.{Named, Turned, setting_of}
-use Rattle.squeue_state.specs.Elements.{number_of, asked, claimed_ask, accepted}
-use Rattle.squeue_state.specs.Words.{Found, Marked, Unmarked}
+use Rattle.squeue_state.specs.Elements.{number_of, asked_by, ask_claimed_by, accepted_by}
+use Rattle.squeue_state.specs.Clauses.{Found, Marked, Unmarked}
 use Rattle.squeue_drain.proofs.Turning.{others}
 use Rattle.squeue_drain.proofs.Deciding.{begins_trans, same_state}
 use Rattle.synch_enter.specs.Synch.{MayAsk, MayAskAt, Came, CameFor, CameBehind, IsWay, NotFound}
@@ -114,7 +114,7 @@ module _ {R : Type 0} (limits : R → Limits) (s : Named R) where
   came_for p u q c is f is_pass legal same b here = (came p u q is f is_pass legal same b, here)
 
   module _ (u : Turned R) (may : MayAskAt limits s u) where
-    pub may_ask : is_free (run S u.found).own ≡ false → May S u.found (asked u.number)
+    pub may_ask : is_free (run S u.found).own ≡ false → May S u.found (asked_by u.number)
     may_ask busy =
         record {
           step = not_free_of (run S u.found).own busy;
@@ -123,7 +123,7 @@ module _ {R : Type 0} (limits : R → Limits) (s : Named R) where
           idle = may.idle;
           kind = tt;
           enters = tt;
-          quota = quota_asks S u.number u.found (asked u.number) may.legal refl refl may.quota;
+          quota = quota_asks S u.number u.found (asked_by u.number) may.legal refl refl may.quota;
           asks_last = tt;
           at_its_ask = tt;
           act = tt;
@@ -131,7 +131,7 @@ module _ {R : Type 0} (limits : R → Limits) (s : Named R) where
           note = refl;
         }
 
-    pub may_claim : (run S u.found).own ≡ Free → May S u.found (claimed_ask u.number)
+    pub may_claim : (run S u.found).own ≡ Free → May S u.found (ask_claimed_by u.number)
     may_claim free =
         record {
           step = (free, λ e. cc e);
@@ -140,7 +140,7 @@ module _ {R : Type 0} (limits : R → Limits) (s : Named R) where
           idle = may.idle;
           kind = inr refl;
           enters = tt;
-          quota = quota_asks S u.number u.found (claimed_ask u.number) may.legal refl refl may.quota;
+          quota = quota_asks S u.number u.found (ask_claimed_by u.number) may.legal refl refl may.quota;
           asks_last = tt;
           at_its_ask = tt;
           act = tt;
@@ -154,23 +154,23 @@ module _ {R : Type 0} (limits : R → Limits) (s : Named R) where
     pub below_again : (q : Pass Element) → number q ≡ u.number → number q < length s.given.quotas
     below_again q same = subst (λ (k : ℕ). k < length s.given.quotas) (sym same) may.no_worker
 
-    pub open_asked : (q : Pass Element) → Marked u (asked u.number) q → is_closed (run S (seen q)) (number q) ≡ false
+    pub open_asked : (q : Pass Element) → Marked u (asked_by u.number) q → is_closed (run S (seen q)) (number q) ≡ false
     open_asked q m =
         ap (λ (k : ℕ). is_closed (run S (seen q)) k) m.same_number
         ∙ (ap (λ (h : List Element). is_closed (run S h) u.number) m.now_seen
-        ∙ (ap (λ (t : State). is_closed t u.number) (run_push (start S) u.found (asked u.number)) ∙ may.idle.open_pass))
+        ∙ (ap (λ (t : State). is_closed t u.number) (run_push (start S) u.found (asked_by u.number)) ∙ may.idle.open_pass))
 
     -- it asked, and accepted later
-    pub came_asked : (q r : Pass Element) → is_free (run S u.found).own ≡ false → Marked u (asked u.number) q → Begins (seen q) (seen r) → mine r ≡ mine q ++ accepted (number q) ∷ [] → CameBehind S u.number u.found u.mine r
+    pub came_asked : (q r : Pass Element) → is_free (run S u.found).own ≡ false → Marked u (asked_by u.number) q → Begins (seen q) (seen r) → mine r ≡ mine q ++ accepted_by (number q) ∷ [] → CameBehind S u.number u.found u.mine r
     came_asked q r busy m grows had =
         record {
-          ask = asked u.number;
+          ask = asked_by u.number;
           since = grows.0;
-          marks = accepted u.number ∷ [];
+          marks = accepted_by u.number ∷ [];
           now_seen = grows.1 ∙ ap (λ (h : List Element). h ++ grows.0) m.now_seen;
           now_mine =
               had
-              ∙ (ap (λ (k : ℕ). mine q ++ accepted k ∷ []) m.same_number
-              ∙ (ap (λ (h : List Element). h ++ accepted u.number ∷ []) m.now_mine ∙ append_assoc u.mine (asked u.number ∷ []) (accepted u.number ∷ [])));
-          way = subst (λ (b : Bool). IsWay b u.number (asked u.number) (accepted u.number ∷ [])) (sym busy) (refl, refl);
+              ∙ (ap (λ (k : ℕ). mine q ++ accepted_by k ∷ []) m.same_number
+              ∙ (ap (λ (h : List Element). h ++ accepted_by u.number ∷ []) m.now_mine ∙ append_assoc u.mine (asked_by u.number ∷ []) (accepted_by u.number ∷ [])));
+          way = subst (λ (b : Bool). IsWay b u.number (asked_by u.number) (accepted_by u.number ∷ [])) (sym busy) (refl, refl);
         }

@@ -22,8 +22,8 @@ use Rattle.perimeter_core.proofs.FeedActs.{with_none, with_twice}
 use Rattle.perimeter_core.proofs.QueuedRange.{queued_range, range_right}
 use Rattle.squeue_state.specs.Naming.{Named, Turned, Handed, setting_of}
 use Rattle.squeue_state.specs.Behind.{IsPeri, room_of}
-use Rattle.squeue_state.specs.Elements.{claimed_ask, granted, accepted}
-use Rattle.squeue_state.specs.Words.{Found, Marked, IsWhole, peri_left, first_entry, asker}
+use Rattle.squeue_state.specs.Elements.{ask_claimed_by, granted_by, accepted_by}
+use Rattle.squeue_state.specs.Clauses.{Found, Marked, IsWhole, peri_left, first_entry, asker}
 use Rattle.squeue_drain.specs.declared.owner.Owner.{Owner}
 use Rattle.squeue_drain.specs.Draining.{plain}
 use Rattle.squeue_drain.specs.Owning.{Feeds, NoFeedFirst, processed_by, state_of}
@@ -84,17 +84,17 @@ pub record HasClaimed {R : Type 0} (limits : R → Limits) (s : Named R) (u : Tu
   pub hand : (run (setting_of limits s.given) (seen q)).hand ≡ (run (setting_of limits s.given) u.found).chain ++ Entry'.Ask (number q) ∷ []
   pub lone : has_ask (number q) (run (setting_of limits s.given) u.found).chain ≡ false
   pub open_pass : is_closed (run (setting_of limits s.given) (seen q)) (number q) ≡ false
-  pub now_seen : seen q ≡ u.found ++ claimed_ask u.number ∷ []
-  pub now_mine : mine q ≡ u.mine ++ claimed_ask u.number ∷ []
+  pub now_seen : seen q ≡ u.found ++ ask_claimed_by u.number ∷ []
+  pub now_mine : mine q ≡ u.mine ++ ask_claimed_by u.number ∷ []
 
 module _ {R P O : Type 0} (G : Ghosts R P O) (s : Named R) where
   abbrev S : Setting
   S = setting_of G.limits s.given
 
-  state : (u : Turned R) (q : Pass Element) → Marked u (claimed_ask u.number) q → run S (seen q) ≡ after (run S u.found) (On.Claim u.number (Entry'.Ask u.number ∷ []))
-  state u q m = ap (run S) m.now_seen ∙ run_push (start S) u.found (claimed_ask u.number)
+  state : (u : Turned R) (q : Pass Element) → Marked u (ask_claimed_by u.number) q → run S (seen q) ≡ after (run S u.found) (On.Claim u.number (Entry'.Ask u.number ∷ []))
+  state u q m = ap (run S) m.now_seen ∙ run_push (start S) u.found (ask_claimed_by u.number)
 
-  pub has_claimed : (u : Turned R) (q : Pass Element) → MayAskAt G.limits s u → Marked u (claimed_ask u.number) q → HasClaimed G.limits s u q
+  pub has_claimed : (u : Turned R) (q : Pass Element) → MayAskAt G.limits s u → Marked u (ask_claimed_by u.number) q → HasClaimed G.limits s u q
   has_claimed u q may m =
       record {
         same_number = m.same_number;
@@ -106,14 +106,14 @@ module _ {R P O : Type 0} (G : Ghosts R P O) (s : Named R) where
         now_mine = m.now_mine;
       }
 
-  pub has_claimed_by : (u : Turned R) (q p : Pass Element) → MayAskAt G.limits s u → Marked u (claimed_ask u.number) q → p ≡ q → HasClaimed G.limits s u p
+  pub has_claimed_by : (u : Turned R) (q p : Pass Element) → MayAskAt G.limits s u → Marked u (ask_claimed_by u.number) q → p ≡ q → HasClaimed G.limits s u p
   has_claimed_by u q p may m same = subst (λ (x : Pass Element). HasClaimed G.limits s u x) (sym same) (has_claimed u q may m)
 
-  pub claims : (u : Turned R) (q : Pass Element) (r : R) (h : Handed) → MayAskAt G.limits s u → (run S u.found).own ≡ Free → Marked u (claimed_ask u.number) q → IsWhole G.limits s.given (seen q) h
+  pub claims : (u : Turned R) (q : Pass Element) (r : R) (h : Handed) → MayAskAt G.limits s u → (run S u.found).own ≡ Free → Marked u (ask_claimed_by u.number) q → IsWhole G.limits s.given (seen q) h
       → IsPeri G s.given r (peri S (seen q)) → Feeds G s record { pass = q; resident = r; hand = h; act = Done.None }
   claims u q r h may free m whole is =
       fresh G s q r h (pass_of_squeue G.limits s u may q m.is_pass)
-      (subst (λ (G : List Element). Legal S G) (sym m.now_seen) (legal_more S u.found (claimed_ask u.number) may.legal (may_claim G.limits s u may free)))
+      (subst (λ (G : List Element). Legal S G) (sym m.now_seen) (legal_more S u.found (ask_claimed_by u.number) may.legal (may_claim G.limits s u may free)))
       (ap (λ (t : State). t.own) (state u q m) ∙ ap Out (sym m.same_number)) whole is
 
   module _ {u : Turned R} {o : Owner R} (is : Feeds G s o) (claimed : HasClaimed G.limits s u o.pass) where
@@ -171,37 +171,37 @@ module _ {R P O : Type 0} (G : Ghosts R P O) (s : Named R) where
     pub came_own : (run S u.found).own ≡ Free → CameBehind S u.number u.found u.mine o.pass
     came_own free =
         record {
-          ask = claimed_ask u.number;
+          ask = ask_claimed_by u.number;
           since = [];
           marks = [];
-          now_seen = claimed.now_seen ∙ sym (append-nil (u.found ++ claimed_ask u.number ∷ []));
+          now_seen = claimed.now_seen ∙ sym (append-nil (u.found ++ ask_claimed_by u.number ∷ []));
           now_mine = claimed.now_mine;
-          way = subst (λ (w : Own). IsWay (is_free w) u.number (claimed_ask u.number) []) (sym free) (refl, inl refl);
+          way = subst (λ (w : Own). IsWay (is_free w) u.number (ask_claimed_by u.number) []) (sym free) (refl, inl refl);
         }
 
     pub open_handed : {q : Pass Element} → HandedOn G.limits s o q → is_closed (run S (seen q)) (number q) ≡ false
     open_handed {q} on = ap (λ (k : ℕ). is_closed (run S (seen q)) k) on.goes_on.same_number ∙ (on.closed ∙ claimed.open_pass)
 
     -- it handed on, and accepted later
-    pub came_handed : {q r : Pass Element} → (run S u.found).own ≡ Free → HandedOn G.limits s o q → Begins (seen q) (seen r) → mine r ≡ mine q ++ accepted (number q) ∷ [] → CameBehind S u.number u.found u.mine r
+    pub came_handed : {q r : Pass Element} → (run S u.found).own ≡ Free → HandedOn G.limits s o q → Begins (seen q) (seen r) → mine r ≡ mine q ++ accepted_by (number q) ∷ [] → CameBehind S u.number u.found u.mine r
     came_handed {q} {r} free on grows had =
         let same : number o.pass ≡ u.number = claimed.same_number in
         let all = begins_trans (seen o.pass) (seen q) (seen r) on.goes_on.grows grows in
         let j : ℕ = on.granted_to in
-        let ms : List Element = granted u.number on.granted_to on.rest ∷ accepted u.number ∷ [] in
+        let ms : List Element = granted_by u.number on.granted_to on.rest ∷ accepted_by u.number ∷ [] in
         record {
-          ask = claimed_ask u.number;
+          ask = ask_claimed_by u.number;
           since = all.0;
-          marks = granted u.number on.granted_to on.rest ∷ accepted u.number ∷ [];
+          marks = granted_by u.number on.granted_to on.rest ∷ accepted_by u.number ∷ [];
           now_seen = all.1 ∙ ap (λ (h : List Element). h ++ all.0) claimed.now_seen;
           now_mine =
               had
-              ∙ (ap (λ (k : ℕ). mine q ++ accepted k ∷ []) (on.goes_on.same_number ∙ same)
-              ∙ (ap (λ (h : List Element). h ++ accepted u.number ∷ []) (on.now_mine ∙ ap (λ (k : ℕ). mine o.pass ++ granted k on.granted_to on.rest ∷ []) same)
-              ∙ (append_assoc (mine o.pass) (granted u.number on.granted_to on.rest ∷ []) (accepted u.number ∷ [])
-              ∙ (ap (λ (h : List Element). h ++ (granted u.number on.granted_to on.rest ∷ accepted u.number ∷ [])) claimed.now_mine
-              ∙ append_assoc u.mine (claimed_ask u.number ∷ []) (granted u.number on.granted_to on.rest ∷ accepted u.number ∷ [])))));
-          way = subst (λ (w : Own). IsWay (is_free w) u.number (claimed_ask u.number) (granted u.number on.granted_to on.rest ∷ accepted u.number ∷ [])) (sym free)
+              ∙ (ap (λ (k : ℕ). mine q ++ accepted_by k ∷ []) (on.goes_on.same_number ∙ same)
+              ∙ (ap (λ (h : List Element). h ++ accepted_by u.number ∷ []) (on.now_mine ∙ ap (λ (k : ℕ). mine o.pass ++ granted_by k on.granted_to on.rest ∷ []) same)
+              ∙ (append_assoc (mine o.pass) (granted_by u.number on.granted_to on.rest ∷ []) (accepted_by u.number ∷ [])
+              ∙ (ap (λ (h : List Element). h ++ (granted_by u.number on.granted_to on.rest ∷ accepted_by u.number ∷ [])) claimed.now_mine
+              ∙ append_assoc u.mine (ask_claimed_by u.number ∷ []) (granted_by u.number on.granted_to on.rest ∷ accepted_by u.number ∷ [])))));
+          way = subst (λ (w : Own). IsWay (is_free w) u.number (ask_claimed_by u.number) (granted_by u.number on.granted_to on.rest ∷ accepted_by u.number ∷ [])) (sym free)
               (refl, inr (on.granted_to, on.rest, λ e. on.other (e ∙ sym same), refl));
         }
 
@@ -232,19 +232,19 @@ module _ {R P O : Type 0} (G : Ghosts R P O) (s : Named R) where
         (ap (only_last_ask next.0) one_on.more ∙ only_last_push next.0 (processed (length o.hand.left) (run S u.found).hand) feeds)
         (λ e. next.3 (e ∙ f.same_number)) (omega (arith, below.0))
 
-    same_mark : granted u.number (asker o.hand.left) (length o.hand.left - 1) ≡ plain (On.Grant u.number next.0 (length next.1))
+    same_mark : granted_by u.number (asker o.hand.left) (length o.hand.left - 1) ≡ plain (On.Grant u.number next.0 (length next.1))
     same_mark = granted_is u.number next.0 o.hand.left next.1 next.2
 
-    pub grants : May S u.found (granted u.number (asker o.hand.left) (length o.hand.left - 1))
+    pub grants : May S u.found (granted_by u.number (asker o.hand.left) (length o.hand.left - 1))
     grants = subst (λ (e : Element). May S u.found e) (sym same_mark) grants_plain
 
-    pub handed : (q : Pass Element) → Marked u (granted u.number (asker o.hand.left) (length o.hand.left - 1)) q → HandedOn G.limits s o q
+    pub handed : (q : Pass Element) → Marked u (granted_by u.number (asker o.hand.left) (length o.hand.left - 1)) q → HandedOn G.limits s o q
     handed q m =
         let e : Element = plain (On.Grant u.number next.0 (length next.1)) in
         let state_q : run S (seen q) ≡ after (run S u.found) (On.Grant u.number next.0 (length next.1)) =
         ap (run S) (m.now_seen ∙ ap (λ (x : Element). u.found ++ x ∷ []) same_mark) ∙ run_push (start S) u.found (plain (On.Grant u.number next.0 (length next.1))) in
         record {
-          goes_on = marked_on G.limits s o.pass q u (granted u.number (asker o.hand.left) (length o.hand.left - 1)) f grants m;
+          goes_on = marked_on G.limits s o.pass q u (granted_by u.number (asker o.hand.left) (length o.hand.left - 1)) f grants m;
           granted_to = next.0;
           rest = length next.1;
           other = next.3;
@@ -252,6 +252,6 @@ module _ {R P O : Type 0} (G : Ghosts R P O) (s : Named R) where
               m.now_mine
               ∙ (ap (λ (x : Element). u.mine ++ x ∷ []) same_mark
               ∙ (ap (λ (h : List Element). h ++ plain (On.Grant u.number next.0 (length next.1)) ∷ []) f.same_mine
-              ∙ ap (λ (k : ℕ). mine o.pass ++ granted k next.0 (length next.1) ∷ []) f.same_number));
+              ∙ ap (λ (k : ℕ). mine o.pass ++ granted_by k next.0 (length next.1) ∷ []) f.same_number));
           closed = ap (λ (t : State). is_closed t (number o.pass)) state_q ∙ at.closed;
         }

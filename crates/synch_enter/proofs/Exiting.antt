@@ -25,8 +25,8 @@ use Rattle.perimeter_core.proofs.Rests.{rests_since}
 use Rattle.perimeter_core.proofs.RingKnows.{ring_knows}
 use Rattle.perimeter_core.proofs.Since.{known_since}
 use Rattle.squeue_state.specs.Naming.{Named, Turned, setting_of}
-use Rattle.squeue_state.specs.Elements.{number_of, gone}
-use Rattle.squeue_state.specs.Words.{Found, Marked, Added}
+use Rattle.squeue_state.specs.Elements.{number_of, left_by_pass}
+use Rattle.squeue_state.specs.Clauses.{Found, Marked, Added}
 use Rattle.squeue_state.proofs.Makers.{made-append}
 use Rattle.squeue_state.proofs.Turns.{one_turn}
 use Rattle.squeue_drain.specs.declared.owner.Owner.{Owner}
@@ -83,7 +83,7 @@ act_here : (S : Setting) (H : List Element) (t : State) (p c : ℕ) (queue : Lis
 act_here S H t p c queue act e f = (subst (λ (a : SynchAct). ActFits S H t p queue a) e f).1
 
 -- the acts of a connection that is taken out
-acts_out : (c p rest : ℕ) (t : State) (had : List Act) (act : SynchAct) (note : List Act) → act ≡ Done.Out c → acts_after c t had (gone p rest act note) ≡ had ++ feed_acts c (processed rest t.hand)
+acts_out : (c p rest : ℕ) (t : State) (had : List Act) (act : SynchAct) (note : List Act) → act ≡ Done.Out c → acts_after c t had (left_by_pass p rest act note) ≡ had ++ feed_acts c (processed rest t.hand)
 acts_out c p rest t had act note e = rw e (ap (λ (xs : List Act). had ++ xs) (append-nil (feed_acts c (processed rest t.hand))))
 
 module _ {R P O : Type 0} (G : Ghosts R P O) (s : Named R) (note : List Act) (o : Owner R) (u : Turned R) (is : StandsAtItsAsk G s note o) (f : Found G.limits s o.pass u) where
@@ -112,7 +112,7 @@ module _ {R P O : Type 0} (G : Ghosts R P O) (s : Named R) (note : List Act) (o 
       subst (λ (xs : List Entry). ActFits S u.found (run S u.found) u.number (xs ++ (run S u.found).chain) o.act) (sym rest)
       (subst (λ (p : ℕ). ActFits S u.found (run S u.found) p (run S u.found).chain o.act) (sym f.same_number) found)
 
-  pub exits : May S u.found (gone u.number (length o.hand.left) o.act note)
+  pub exits : May S u.found (left_by_pass u.number (length o.hand.left) o.act note)
   exits =
       let nothing : length o.hand.left ≡ 0 = ap length is.left in
       let below : u.number < length s.given.quotas = subst (λ (k : ℕ). k < length s.given.quotas) (sym f.same_number) is.no_worker in
@@ -123,7 +123,7 @@ module _ {R P O : Type 0} (G : Ghosts R P O) (s : Named R) (note : List Act) (o 
         idle = tt;
         kind = tt;
         enters = tt;
-        quota = quota_kept S u.number u.found (gone u.number (length o.hand.left) o.act note) f.legal refl;
+        quota = quota_kept S u.number u.found (left_by_pass u.number (length o.hand.left) o.act note) f.legal refl;
         asks_last = ap (only_last_ask u.number) all ∙ (ap (λ (k : ℕ). only_last_ask k (state_of G.limits s o).hand) f.same_number ∙ is.only);
         at_its_ask = λ some. ask_at;
         act = fits;
@@ -141,9 +141,9 @@ module _ {R P O : Type 0} (G : Ghosts R P O) (s : Named R) (note : List Act) (o 
           (subst (λ (xs : List Entry). ((run S u.found).hand ≡ []) ⊎ (ends_with_ask (number o.pass) xs ≡ true)) (sym all)
           (subst (λ (xs : List Entry). (xs ≡ []) ⊎ (ends_with_ask (number o.pass) (state_of G.limits s o).hand ≡ true)) (sym at.hand) is.at_ask))
 
-  pub left_by : (q : Pass Element) → Marked u (gone u.number (length o.hand.left) o.act note) q → Added G.limits s o.pass (gone (number o.pass) (length o.hand.left) o.act note) q
+  pub left_by : (q : Pass Element) → Marked u (left_by_pass u.number (length o.hand.left) o.act note) q → Added G.limits s o.pass (left_by_pass (number o.pass) (length o.hand.left) o.act note) q
   left_by q m =
-      let same : gone u.number (length o.hand.left) o.act note ≡ gone (number o.pass) (length o.hand.left) o.act note = ap (λ (k : ℕ). gone k (length o.hand.left) o.act note) f.same_number in
+      let same : left_by_pass u.number (length o.hand.left) o.act note ≡ left_by_pass (number o.pass) (length o.hand.left) o.act note = ap (λ (k : ℕ). left_by_pass k (length o.hand.left) o.act note) f.same_number in
       record {
         found = u.found;
         goes_on = f.goes_on;
@@ -152,14 +152,14 @@ module _ {R P O : Type 0} (G : Ghosts R P O) (s : Named R) (note : List Act) (o 
         is_pass = subst (λ (t : Named R). IsPassOf number_of t.gate q) f.squeue m.is_pass;
         same_number = m.same_number ∙ f.same_number;
         now_seen = m.now_seen ∙ ap (λ (e : Element). u.found ++ e ∷ []) same;
-        now_mine = m.now_mine ∙ (ap (λ (h : List Element). h ++ gone u.number (length o.hand.left) o.act note ∷ []) f.same_mine ∙ ap (λ (e : Element). mine o.pass ++ e ∷ []) same);
+        now_mine = m.now_mine ∙ (ap (λ (h : List Element). h ++ left_by_pass u.number (length o.hand.left) o.act note ∷ []) f.same_mine ∙ ap (λ (e : Element). mine o.pass ++ e ∷ []) same);
         one_turn = one_turn (steps o.pass) u.made (steps q) f.no_turn_yet m.one_step;
       }
 
-  state : (q : Pass Element) → Marked u (gone u.number (length o.hand.left) o.act note) q → run S (seen q) ≡ after (run S u.found) (On.Leave u.number (length o.hand.left) o.act)
-  state q m = ap (run S) m.now_seen ∙ run_push (start S) u.found (gone u.number (length o.hand.left) o.act note)
+  state : (q : Pass Element) → Marked u (left_by_pass u.number (length o.hand.left) o.act note) q → run S (seen q) ≡ after (run S u.found) (On.Leave u.number (length o.hand.left) o.act)
+  state q m = ap (run S) m.now_seen ∙ run_push (start S) u.found (left_by_pass u.number (length o.hand.left) o.act note)
 
-  pub idle_again : (q : Pass Element) → Marked u (gone u.number (length o.hand.left) o.act note) q → Idle (run S (seen q)) (number o.pass)
+  pub idle_again : (q : Pass Element) → Marked u (left_by_pass u.number (length o.hand.left) o.act note) q → Idle (run S (seen q)) (number o.pass)
   idle_again q m =
       let k = known_since S (seen o.pass) f.goes_on.0 (number o.pass) legal none in
       let closed : is_closed (run S u.found) (number o.pass) ≡ false = ap (λ (G : List Element). is_closed (run S G) (number o.pass)) f.goes_on.1 ∙ (k.closed ∙ is.open_pass) in
@@ -173,12 +173,12 @@ module _ {R P O : Type 0} (G : Ghosts R P O) (s : Named R) (note : List Act) (o 
         not_in_chain = ap (λ (xs : List Entry). has_ask (number o.pass) (xs ++ (run S u.found).chain)) rest ∙ no_ask;
       })
 
-  pub taken_acts : (q : Pass Element) → Marked u (gone u.number (length o.hand.left) o.act note) q → (c : ℕ) → o.act ≡ Done.Out c → acts S (seen q) c ≡ acts_at G.limits s c o
+  pub taken_acts : (q : Pass Element) → Marked u (left_by_pass u.number (length o.hand.left) o.act note) q → (c : ℕ) → o.act ≡ Done.Out c → acts S (seen q) c ≡ acts_at G.limits s c o
   taken_acts q m c out =
       let here : is_here (state_of G.limits s o) c ≡ true = act_here S (seen o.pass) (state_of G.limits s o) (number o.pass) c (state_of G.limits s o).chain o.act out is.fits in
       let same : acts S u.found c ≡ acts S (seen o.pass) c = ap (λ (G : List Element). acts S G c) f.goes_on.1 ∙ acts_same S (seen o.pass) f.goes_on.0 (number o.pass) c legal none is.owns.own here in
       ap (λ (G : List Element). acts S G c) m.now_seen
-      ∙ (acts_push c (start S) [] u.found (gone u.number (length o.hand.left) o.act note)
+      ∙ (acts_push c (start S) [] u.found (left_by_pass u.number (length o.hand.left) o.act note)
       ∙ (acts_out c u.number (length o.hand.left) (run S u.found) (acts S u.found c) o.act note out
       ∙ (ap (λ (xs : List Act). xs ++ feed_acts c (processed (length o.hand.left) (run S u.found).hand)) same
       ∙ ap (λ (xs : List Entry). acts S (seen o.pass) c ++ feed_acts c xs) at.same_front)))

@@ -12,7 +12,7 @@ use Rattle.perimeter_core.proofs.OneMore.{legal_front}
 use Rattle.perimeter_core.proofs.RingKnows.{ring_knows}
 use Rattle.squeue_state.specs.Naming.{Named, setting_of}
 use Rattle.squeue_state.proofs.Makers.{only_made}
-use Rattle.squeue_state.specs.Elements.{number_of, gone}
+use Rattle.squeue_state.specs.Elements.{number_of, left_by_pass}
 use Rattle.squeue_drain.specs.declared.owner.Owner.{Owner}
 use Rattle.perimeter_core.specs.declared.entries.Act.{Act}
 use Rattle.perimeter_core.specs.declared.entries.Entry.{Entry}
@@ -92,5 +92,5 @@ pub acts_at_same : {R : Type 0} (limits : R → Limits) (s : Named R) (c : ℕ) 
 acts_at_same limits s c o n pass hand = rw (pass, hand) refl
 
 -- the mark of an owner that leaves nothing
-pub gone_with_nothing : (p q : ℕ) (left : List Entry) (a b : SynchAct) (note : List Act) → p ≡ q → left ≡ [] → a ≡ b → gone p (length left) a note ≡ gone q 0 b note
+pub gone_with_nothing : (p q : ℕ) (left : List Entry) (a b : SynchAct) (note : List Act) → p ≡ q → left ≡ [] → a ≡ b → left_by_pass p (length left) a note ≡ left_by_pass q 0 b note
 gone_with_nothing p q left a b note same none act = rw (same, none, act) refl

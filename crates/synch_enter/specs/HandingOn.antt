@@ -7,7 +7,7 @@ use Rattle.perimeter_core.specs.declared.entries.Entry.TheVariants as Entry'
 use Rattle.perimeter_core.specs.Perimeter.{is_closed}
 use Rattle.perimeter_core.specs.History.{Element, Limits, run}
 use Rattle.squeue_state.specs.Naming.{Named, setting_of}
-use Rattle.squeue_state.specs.Elements.{granted}
+use Rattle.squeue_state.specs.Elements.{granted_by}
 use Rattle.squeue_drain.specs.declared.owner.Owner.{Owner}
 use Rattle.squeue_drain.specs.Draining.{GoesOn}
 use Rattle.squeue_drain.specs.Owning.{state_of}
@@ -22,5 +22,5 @@ pub record HandedOn {R : Type 0} (limits : R → Limits) (s : Named R) (o : Owne
   pub granted_to : ℕ
   pub rest : ℕ
   pub other : granted_to ≢ number o.pass
-  pub now_mine : mine to ≡ mine o.pass ++ granted (number o.pass) granted_to rest ∷ []
+  pub now_mine : mine to ≡ mine o.pass ++ granted_by (number o.pass) granted_to rest ∷ []
   pub closed : is_closed (run (setting_of limits s.given) (seen to)) (number o.pass) ≡ is_closed (state_of limits s o) (number o.pass)

@@ -13,7 +13,7 @@ use Rattle.perimeter_core.specs.History.{Element, Limits, Setting, ask_quota, ru
 use Rattle.perimeter_core.specs.Deeds.{acts, feed_acts, times_left}
 use Rattle.perimeter_core.specs.Legal.{Legal, ActFits, ActInRange, NoteFits, asks_by, only_last_ask}
 use Rattle.squeue_state.specs.Naming.{Named, Turned, setting_of}
-use Rattle.squeue_state.specs.Elements.{number_of, asked, claimed_ask, granted, accepted}
+use Rattle.squeue_state.specs.Elements.{number_of, asked_by, ask_claimed_by, granted_by, accepted_by}
 use Rattle.squeue_drain.specs.declared.owner.Owner.{Owner}
 use Rattle.squeue_drain.specs.Draining.{GoesOn}
 use Rattle.squeue_drain.specs.Owning.{Owns, state_of, processed_by}
@@ -50,13 +50,13 @@ pub record StandsAtItsAsk {R P O : Type 0} (G : Ghosts R P O) (s : Named R) (not
 
 -- it granted to another pass, whose Ask stood before its own, and accepted
 abbrev pub HandsOn : ℕ → List Element → Type 0
-HandsOn p marks = (j : ℕ) × (rest : ℕ) × (j ≢ p) × (marks ≡ granted p j rest ∷ accepted p ∷ [])
+HandsOn p marks = (j : ℕ) × (rest : ℕ) × (j ≢ p) × (marks ≡ granted_by p j rest ∷ accepted_by p ∷ [])
 
 -- What the pass p makes to come, by whether it found the perimeter free: it claims with its Ask last, and either stands there
 -- or hands the perimeter on and accepts later; or it asks, and accepts
 abbrev pub IsWay : Bool → ℕ → Element → List Element → Type 0
-IsWay true p ask marks = (ask ≡ claimed_ask p) × ((marks ≡ []) ⊎ HandsOn p marks)
-IsWay false p ask marks = (ask ≡ asked p) × (marks ≡ accepted p ∷ [])
+IsWay true p ask marks = (ask ≡ ask_claimed_by p) × ((marks ≡ []) ⊎ HandsOn p marks)
+IsWay false p ask marks = (ask ≡ asked_by p) × (marks ≡ accepted_by p ∷ [])
 
 -- Where its turn found H, in which it had made M, the pass p has come with its Ask and what stands since
 pub record CameBehind (S : Setting) (p : ℕ) (H M : List Element) (to : Pass Element) : Type 0 where

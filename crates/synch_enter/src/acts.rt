@@ -7,8 +7,8 @@ ghost use Rattle.perimeter_core.specs.Perimeter.{Idle};
 ghost use Rattle.perimeter_core.specs.History.{run};
 ghost use Rattle.perimeter_core.specs.Deeds.{acts};
 ghost use Rattle.squeue_state.specs.Naming.{Named, setting_of};
-ghost use Rattle.squeue_state.specs.Elements.{gone};
-ghost use Rattle.squeue_state.specs.Words.{Added};
+ghost use Rattle.squeue_state.specs.Elements.{left_by_pass};
+ghost use Rattle.squeue_state.specs.Clauses.{Added};
 ghost use Rattle.squeue_drain.specs.Draining.{GoesOn};
 ghost use Rattle.synch_enter.specs.Synch.{StandsAtItsAsk, MayCall, MayTake, MayPut, HasCalled, HasTaken, HasPut, acts_at};
 
@@ -75,7 +75,7 @@ pub fn put_block<R: Resident>(owner: &mut Owner<R>, c: u32, part: R::Part)
 /// Leaves with the act that was done, and with what is left of the hand. `N` names the note of an `In`.
 pub fn synch_exit<R: Resident, N: Notes, W: Wait>(sq: &Squeue<R>, rt: &W, owner: Owner<R>) -> Pass
     requires { StandsAtItsAsk R.Resident sq.now N.note owner }
-    ensures left { Added R.limits sq.now owner.pass (gone (number owner.pass) (length owner.hand.left) owner.act N.note) result }
+    ensures left { Added R.limits sq.now owner.pass (left_by_pass (number owner.pass) (length owner.hand.left) owner.act N.note) result }
     ensures goes_on { GoesOn R.limits sq.now owner.pass result }
     ensures idle { Idle (run (setting_of R.limits sq.now.given) (seen result)) (number owner.pass) }
     ensures taken { (c : ℕ) → owner.act ≡ Done.Out c → acts (setting_of R.limits sq.now.given) (seen result) c ≡ acts_at R.limits sq.now c owner }

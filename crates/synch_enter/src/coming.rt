@@ -7,7 +7,7 @@ ghost use Rattle.perimeter_core.specs.declared.entries.Entry.TheVariants as Entr
 ghost use Rattle.perimeter_core.specs.declared.marks.Own.TheVariants as Own';
 ghost use Rattle.perimeter_core.specs.Perimeter.{is_closed};
 ghost use Rattle.perimeter_core.specs.History.{run};
-ghost use Rattle.squeue_state.specs.Elements.{number_of, accepted};
+ghost use Rattle.squeue_state.specs.Elements.{number_of, accepted_by};
 ghost use Rattle.squeue_state.specs.Naming.{setting_of};
 ghost use Rattle.perimeter_core.specs.declared.marks.SynchAct.TheVariants as Done;
 ghost use Rattle.squeue_drain.specs.Owning.{Feeds};
@@ -138,7 +138,7 @@ fn wait_for_grant<R: Resident, W: Wait>(sq: &Squeue<R>, rt: &W, pass: Pass) -> O
     ensures no_act { result.act ≡ Done.None }
     ensures number { number result.pass ≡ number pass }
     ensures grows { Begins (seen pass) (seen result.pass) }
-    ensures mine { mine result.pass ≡ mine pass ++ accepted (number pass) ∷ [] }
+    ensures mine { mine result.pass ≡ mine pass ++ accepted_by (number pass) ∷ [] }
 {
     let mut pass = pass;
     for _ in rt.forever() {

@@ -4,7 +4,7 @@ use Rattle.std.proofs.lemmas.Result.{IfOk-weaker}
 use Rattle.perimeter_core.specs.History.{feed_quotas}
 use Rattle.squeue_rings.specs.Runs.{count, is_at}
 use Rattle.squeue_state.specs.Behind.{pairs}
-use Rattle.squeue_state.specs.Words.{ask_quotas}
+use Rattle.squeue_state.specs.Clauses.{ask_quotas}
 use Rattle.stream_blocks.specs.Standing.{Stands}
 use Rattle.datagram_services.proofs.Listed.{few_line}
 use Rattle.ring_jobs.proofs.Starts.{stands_empty}

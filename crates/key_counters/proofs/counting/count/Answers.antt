@@ -5,7 +5,7 @@ use Rattle.std.proofs.lemmas.Result.{IfOk-weaker}
 use Rattle.perimeter_core.specs.History.{feed_quotas}
 use Rattle.perimeter_core.specs.Residing.{HadFeeds}
 use Rattle.squeue_state.specs.Behind.{pairs}
-use Rattle.squeue_state.specs.Words.{ask_quotas}
+use Rattle.squeue_state.specs.Clauses.{ask_quotas}
 use Rattle.placed_parts.specs.Standing.{InOrder, OwnPart, PlacesStand}
 use Rattle.placed_parts.specs.Placing.{limits_of, shared_of}
 use Rattle.key_counters.specs.Counting.{HasAdded, IsPartOf, rows_of, row_of, total_of}

@@ -1,6 +1,6 @@
 use Rattle.std.proofs.Common.{ap, ◌∙◌, length, arith}
 use Rattle.perimeter_core.specs.declared.entries.Entry.TheVariants as Entry'
-use Rattle.squeue_state.specs.Words.{asker}
+use Rattle.squeue_state.specs.Clauses.{asker}
 use Rattle.perimeter_core.specs.Perimeter.{State, polls}
 use Rattle.squeue_drain.proofs.Deciding.{same_state, has_first}
 use Rattle.squeue_drain.proofs.draining.grant.Goals as goal

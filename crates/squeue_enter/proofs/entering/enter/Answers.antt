@@ -1,5 +1,5 @@
 use Rattle.std.proofs.Common.{arith}
-use Rattle.squeue_state.specs.Elements.{fasted, claimed}
+use Rattle.squeue_state.specs.Elements.{fast_by, claimed_by}
 use Rattle.squeue_drain.proofs.Deciding.{queued_is}
 use Rattle.squeue_enter.specs.declared.entering.Way.TheVariants as Way'
 use Rattle.squeue_enter.proofs.Bringing.{brought, goes_on}
@@ -14,7 +14,7 @@ chose_fast g c =
     chose g.R.Resident c.args.mode c.requires.may c.turn-turn.ensures c.own.ensures c.is_free-woke.ensures c.chain_len.ensures c.choose.ensures c.in-Fast.is
 
 became_fast : (g : Over) (c : After-of-owner g)
-    → Became g.R.Resident c.args.sq.now c.args.pass c.args.chain.now c.turn-turn.result c.args.mode Way'.Fast (fasted c.turn-turn.result.number (first c.args.chain.now)) c.of-owner.result
+    → Became g.R.Resident c.args.sq.now c.args.pass c.args.chain.now c.turn-turn.result c.args.mode Way'.Fast (fast_by c.turn-turn.result.number (first c.args.chain.now)) c.of-owner.result
 became_fast g c =
     became_alone c.of-owner.ensures (goes_fast (chose_fast g (goal.at.drain-pass-requires-clause-feeds g c).In-Fast)) c.fast.ensures.pass c.fast.ensures.hand c.fast.ensures.resident
 
@@ -23,7 +23,7 @@ chose_alone g c =
     chose g.R.Resident c.args.mode c.requires.may c.turn-turn.ensures c.own.ensures c.is_free-woke.ensures c.chain_len.ensures c.choose.ensures c.in-Alone.is
 
 became_lone : (g : Over) (c : After-of-owner-in-Alone g)
-    → Became g.R.Resident c.args.sq.now c.args.pass c.args.chain.now c.turn-turn.result c.args.mode Way'.Alone (fasted c.turn-turn.result.number (first c.args.chain.now)) c.of-owner-in-Alone.result
+    → Became g.R.Resident c.args.sq.now c.args.pass c.args.chain.now c.turn-turn.result c.args.mode Way'.Alone (fast_by c.turn-turn.result.number (first c.args.chain.now)) c.of-owner-in-Alone.result
 became_lone g c =
     let f = c.fast-in-Alone.ensures in
     let w = chose g.R.Resident c.args.mode c.requires.may c.turn-turn.ensures c.own.ensures c.is_free-woke.ensures c.chain_len.ensures c.choose.ensures c.in-Alone.is in
@@ -34,7 +34,7 @@ chose_claim g c =
     chose g.R.Resident c.args.mode c.requires.may c.turn-turn.ensures c.own.ensures c.is_free-woke.ensures c.chain_len.ensures c.choose.ensures c.in-Claim.is
 
 became_all : (g : Over) (c : After-of-owner-in-Claim g)
-    → Became g.R.Resident c.args.sq.now c.args.pass c.args.chain.now c.turn-turn.result c.args.mode Way'.Claim (claimed c.turn-turn.result.number c.args.chain.now) c.of-owner-in-Claim.result
+    → Became g.R.Resident c.args.sq.now c.args.pass c.args.chain.now c.turn-turn.result c.args.mode Way'.Claim (claimed_by c.turn-turn.result.number c.args.chain.now) c.of-owner-in-Claim.result
 became_all g c =
     let f = c.claim.ensures in
     became_claim c.of-owner-in-Claim.ensures (chose_claim g (goal.at.drain-pass-requires-in-Claim-clause-feeds g c).In-Claim) c.requires.some f.pass f.hand f.resident

@@ -1,7 +1,7 @@
 use Rattle.std.proofs.Common.{◌+◌, ap, arith}
 use Rattle.perimeter_core.specs.History.{feed_quotas}
 use Rattle.squeue_state.specs.declared.guarded.Quota.{Quota}
-use Rattle.squeue_state.specs.Words.{ask_quotas}
+use Rattle.squeue_state.specs.Clauses.{ask_quotas}
 use Rattle.squeue_state.specs.Behind.{pairs}
 use Rattle.squeue_state.proofs.RoomMade.{all_both, feeds_next, asks_next, feeds_part, asks_part, pairs_all}
 use Rattle.squeue_state.proofs.room.room_for.Goals as goal

@@ -1,5 +1,5 @@
 use Rattle.squeue_drain.proofs.Deciding.{marked_on}
-use Rattle.squeue_state.specs.Elements.{gone}
+use Rattle.squeue_state.specs.Elements.{left_by_pass}
 use Rattle.std.proofs.Common.{length}
 use Rattle.synch_enter.proofs.Exiting.{at, exits, left_by, idle_again, taken_acts}
 use Rattle.synch_enter.proofs.acts.synch_exit.Goals as goal
@@ -18,7 +18,7 @@ returns-clause-left g c = left_by g.R.Resident c.args.sq.now g.N.Notes.note c.ar
 
 pub returns-clause-goes_on : goal.returns-clause-goes_on
 returns-clause-goes_on g c =
-    marked_on g.R.Resident.limits c.args.sq.now c.args.owner.pass c.leave.result c.turn-turn.result (gone c.turn-turn.result.number (length c.args.owner.hand.left) c.args.owner.act g.N.Notes.note) c.turn-turn.ensures
+    marked_on g.R.Resident.limits c.args.sq.now c.args.owner.pass c.leave.result c.turn-turn.result (left_by_pass c.turn-turn.result.number (length c.args.owner.hand.left) c.args.owner.act g.N.Notes.note) c.turn-turn.ensures
     (exits g.R.Resident c.args.sq.now g.N.Notes.note c.args.owner c.turn-turn.result c.requires c.turn-turn.ensures) c.leave.ensures
 
 pub returns-clause-idle : goal.returns-clause-idle

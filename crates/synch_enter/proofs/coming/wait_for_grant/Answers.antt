@@ -5,7 +5,7 @@ use Rattle.perimeter_core.specs.Perimeter.{is_closed}
 use Rattle.perimeter_core.specs.History.{Element, Setting, run}
 use Rattle.perimeter_core.specs.declared.marks.Own.TheVariants.{Granted}
 use Rattle.squeue_state.specs.Naming.{Named, setting_of}
-use Rattle.squeue_state.specs.Elements.{number_of, accepted}
+use Rattle.squeue_state.specs.Elements.{number_of, accepted_by}
 use Rattle.squeue_drain.specs.declared.owner.Owner.{Owner}
 use Rattle.squeue_drain.proofs.Deciding.{marked_on, begins_trans}
 use Rattle.synch_enter.specs.Synch.{StandsAtItsAsk}
@@ -28,14 +28,14 @@ pub returns-then-is_granted-clause-grows : goal.returns-then-is_granted-clause-g
 returns-then-is_granted-clause-grows g c =
     let below = subst (λ (k : ℕ). k < length c.args.sq.now.given.quotas) (sym c.loop.invariant.same_number) c.requires.no_worker in
     let may = may_here g.R.Resident.limits c.args.sq.now c.loop.pass c.turn-turn.result c.turn-turn.ensures below (sym c.own.ensures ∙ (c.is_granted.ensures.0 c.if-is_granted.true ∙ ap Granted c.number.ensures)) in
-    let on = marked_on g.R.Resident.limits c.args.sq.now c.loop.pass c.accept.result.0 c.turn-turn.result (accepted c.turn-turn.result.number) c.turn-turn.ensures may c.accept.ensures.pass in
+    let on = marked_on g.R.Resident.limits c.args.sq.now c.loop.pass c.accept.result.0 c.turn-turn.result (accepted_by c.turn-turn.result.number) c.turn-turn.ensures may c.accept.ensures.pass in
     subst (λ (o : Owner _). Begins (seen c.args.pass) (seen o.pass)) (sym c.of.ensures) (begins_trans (seen c.args.pass) (seen c.loop.pass) (seen c.accept.result.0) c.loop.invariant.grows on.grows)
 
 pub returns-then-is_granted-clause-mine : goal.returns-then-is_granted-clause-mine
 returns-then-is_granted-clause-mine g c =
     let had : c.turn-turn.result.mine ≡ mine c.args.pass = c.turn-turn.ensures.same_mine ∙ c.loop.invariant.same_mine in
     let me : c.turn-turn.result.number ≡ number c.args.pass = c.turn-turn.ensures.same_number ∙ c.loop.invariant.same_number in
-    ap (λ (o : Owner _). mine o.pass) c.of.ensures ∙ (c.accept.ensures.pass.now_mine ∙ (ap (λ (h : List Element). h ++ accepted c.turn-turn.result.number ∷ []) had ∙ ap (λ (k : ℕ). mine c.args.pass ++ accepted k ∷ []) me))
+    ap (λ (o : Owner _). mine o.pass) c.of.ensures ∙ (c.accept.ensures.pass.now_mine ∙ (ap (λ (h : List Element). h ++ accepted_by c.turn-turn.result.number ∷ []) had ∙ ap (λ (k : ℕ). mine c.args.pass ++ accepted_by k ∷ []) me))
 
 pub loop-preserved : goal.loop-preserved
 loop-preserved g c =

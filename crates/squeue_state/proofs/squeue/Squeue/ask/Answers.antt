@@ -2,8 +2,8 @@ use Rattle.std.proofs.Common.{◌++◌, ◌∷◌, [], ◌∙◌, ap, sym, subst
 use Rattle.perimeter_core.specs.Legal.{May}
 use Rattle.squeue_state.specs.Naming.{Turned, setting_of}
 use Rattle.squeue_state.specs.Behind.{Behind}
-use Rattle.squeue_state.specs.Words.{named_of}
-use Rattle.squeue_state.specs.Elements.{asked}
+use Rattle.squeue_state.specs.Clauses.{named_of}
+use Rattle.squeue_state.specs.Elements.{asked_by}
 use Rattle.squeue_state.proofs.Turns.{lent, noted, ends}
 use Rattle.squeue_state.proofs.Bounds.{ask_fits}
 use Rattle.squeue_state.proofs.squeue.Squeue.ask.Goals as goal
@@ -20,7 +20,7 @@ end_turn-requires-clause-value g c =
     let b = lent g.R.Resident c.turn.inside.of.value c.turn.inside.held c.args.turn c.args.self.now c.turn.invariant c.turn.view_is c.requires.squeue c.value.result.now c.value.ensures.value in
     let S = setting_of g.R.Resident.limits c.args.self.now.given in
     let n = (c.number-p.ensures ∙ ap (λ (u : Turned g.row.R.Denot). u.number) c.turn.view_is) in
-    ends g.R.Resident c.turn.inside.held c.args.turn c.turn.inside.of.value c.args.self.now (named_of c.self.inside.gate) c.turn.view_is c.self.view_is c.ask.new.self (λ k. asked k) (subst (λ k. Behind g.R.Resident c.args.self.now.given c.ask.new.self (c.args.turn.found ++ asked k ∷ [])) n (c.ask.ensures.behind c.args.self.now.given c.args.turn.found b (subst (λ k. May S c.args.turn.found (asked k)) (sym n) c.requires.may)))
+    ends g.R.Resident c.turn.inside.held c.args.turn c.turn.inside.of.value c.args.self.now (named_of c.self.inside.gate) c.turn.view_is c.self.view_is c.ask.new.self (λ k. asked_by k) (subst (λ k. Behind g.R.Resident c.args.self.now.given c.ask.new.self (c.args.turn.found ++ asked_by k ∷ [])) n (c.ask.ensures.behind c.args.self.now.given c.args.turn.found b (subst (λ k. May S c.args.turn.found (asked_by k)) (sym n) c.requires.may)))
 
 pub end_turn-requires-clause-noted : goal.end_turn-requires-clause-noted
 end_turn-requires-clause-noted g c =

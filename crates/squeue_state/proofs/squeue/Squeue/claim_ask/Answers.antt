@@ -5,8 +5,8 @@ use Rattle.perimeter_core.specs.Legal.{May}
 use Rattle.perimeter_core.specs.Blocks.{Blocks, peri}
 use Rattle.squeue_state.specs.Naming.{Turned, setting_of}
 use Rattle.squeue_state.specs.Behind.{Behind, IsPeri}
-use Rattle.squeue_state.specs.Words.{named_of}
-use Rattle.squeue_state.specs.Elements.{claimed_ask}
+use Rattle.squeue_state.specs.Clauses.{named_of}
+use Rattle.squeue_state.specs.Elements.{ask_claimed_by}
 use Rattle.squeue_state.proofs.Turns.{lent, noted, ends, lies_free, hand_after, claimed_ask_same}
 use Rattle.squeue_state.proofs.Bounds.{few_hand, claim_ask_fits}
 use Rattle.squeue_state.proofs.squeue.Squeue.claim_ask.Goals as goal
@@ -23,7 +23,7 @@ end_turn-pass-requires-clause-value g c =
     let b = lent g.R.Resident c.turn.inside.of.value c.turn.inside.held c.args.turn c.args.self.now c.turn.invariant c.turn.view_is c.requires.squeue c.value.result.now c.value.ensures.value in
     let S = setting_of g.R.Resident.limits c.args.self.now.given in
     let n = (c.number-p.ensures ∙ ap (λ (u : Turned g.row.R.Denot). u.number) c.turn.view_is) in
-    ends g.R.Resident c.turn.inside.held c.args.turn c.turn.inside.of.value c.args.self.now (named_of c.self.inside.gate) c.turn.view_is c.self.view_is c.claim_ask-resident.new.self (λ k. claimed_ask k) (subst (λ k. Behind g.R.Resident c.args.self.now.given c.claim_ask-resident.new.self (c.args.turn.found ++ claimed_ask k ∷ [])) n (c.claim_ask-resident.ensures.behind c.args.self.now.given c.args.turn.found b (subst (λ k. May S c.args.turn.found (claimed_ask k)) (sym n) c.requires.may)))
+    ends g.R.Resident c.turn.inside.held c.args.turn c.turn.inside.of.value c.args.self.now (named_of c.self.inside.gate) c.turn.view_is c.self.view_is c.claim_ask-resident.new.self (λ k. ask_claimed_by k) (subst (λ k. Behind g.R.Resident c.args.self.now.given c.claim_ask-resident.new.self (c.args.turn.found ++ ask_claimed_by k ∷ [])) n (c.claim_ask-resident.ensures.behind c.args.self.now.given c.args.turn.found b (subst (λ k. May S c.args.turn.found (ask_claimed_by k)) (sym n) c.requires.may)))
 
 pub end_turn-pass-requires-clause-noted : goal.end_turn-pass-requires-clause-noted
 end_turn-pass-requires-clause-noted g c =
@@ -35,7 +35,7 @@ returns-clause-resident g c =
     let S = setting_of g.R.Resident.limits c.args.self.now.given in
     let n = (c.number-p.ensures ∙ ap (λ (u : Turned g.row.R.Denot). u.number) c.turn.view_is) in
     let there : c.value.result.now.inner.resident ≡ Some c.in-Some.resident = sym c.claim_ask-resident.ensures.same.0 ∙ c.in-Some.is in
-    let seen_is = c.end_turn-pass.ensures.seen ∙ ap (λ (u : Turned g.row.R.Denot). u.found ++ claimed_ask u.number ∷ []) c.turn.view_is in
+    let seen_is = c.end_turn-pass.ensures.seen ∙ ap (λ (u : Turned g.row.R.Denot). u.found ++ ask_claimed_by u.number ∷ []) c.turn.view_is in
     subst (λ (x : Blocks). IsPeri g.R.Resident c.args.self.now.given c.in-Some.resident x)
     (sym (ap (λ (H : List Element). peri S H) seen_is ∙ claimed_ask_same S c.args.turn.found c.args.turn.number c.requires.may))
     (lies_free g.R.Resident c.args.self.now.given c.value.result.now.inner.own c.value.result.now.inner.resident c.in-Some.resident (peri S c.args.turn.found) b.resident (b.own ∙ c.requires.may.step.0) there)
@@ -45,9 +45,9 @@ returns-clause-hand g c =
     let b = lent g.R.Resident c.turn.inside.of.value c.turn.inside.held c.args.turn c.args.self.now c.turn.invariant c.turn.view_is c.requires.squeue c.value.result.now c.value.ensures.value in
     let S = setting_of g.R.Resident.limits c.args.self.now.given in
     let n = (c.number-p.ensures ∙ ap (λ (u : Turned g.row.R.Denot). u.number) c.turn.view_is) in
-    let seen_is = c.end_turn-pass.ensures.seen ∙ ap (λ (u : Turned g.row.R.Denot). u.found ++ claimed_ask u.number ∷ []) c.turn.view_is in
+    let seen_is = c.end_turn-pass.ensures.seen ∙ ap (λ (u : Turned g.row.R.Denot). u.found ++ ask_claimed_by u.number ∷ []) c.turn.view_is in
     record {
-      is_whole = hand_after S c.args.turn.found (claimed_ask c.args.turn.number) c.claim_ask-resident.result.1.items (c.claim_ask-resident.ensures.same.1 ∙ (ap (λ xs. xs ++ Entry'.Ask c.number-p.result ∷ []) b.chain ∙ ap (λ k. (run S c.args.turn.found).chain ++ Entry'.Ask k ∷ []) n)) ∙ sym (ap (λ (H : List Element). (run S H).hand) seen_is);
+      is_whole = hand_after S c.args.turn.found (ask_claimed_by c.args.turn.number) c.claim_ask-resident.result.1.items (c.claim_ask-resident.ensures.same.1 ∙ (ap (λ xs. xs ++ Entry'.Ask c.number-p.result ∷ []) b.chain ∙ ap (λ k. (run S c.args.turn.found).chain ++ Entry'.Ask k ∷ []) n)) ∙ sym (ap (λ (H : List Element). (run S H).hand) seen_is);
       has_room = omega (arith, c.claim_ask-resident.ensures.room, b.room);
     }
 
@@ -56,6 +56,6 @@ invariant_of-result g c =
     let b = lent g.R.Resident c.turn.inside.of.value c.turn.inside.held c.args.turn c.args.self.now c.turn.invariant c.turn.view_is c.requires.squeue c.value.result.now c.value.ensures.value in
     let S = setting_of g.R.Resident.limits c.args.self.now.given in
     let n = (c.number-p.ensures ∙ ap (λ (u : Turned g.row.R.Denot). u.number) c.turn.view_is) in
-    let after = (subst (λ k. Behind g.R.Resident c.args.self.now.given c.claim_ask-resident.new.self (c.args.turn.found ++ claimed_ask k ∷ [])) n (c.claim_ask-resident.ensures.behind c.args.self.now.given c.args.turn.found b (subst (λ k. May S c.args.turn.found (claimed_ask k)) (sym n) c.requires.may))) in
-    let whole = hand_after S c.args.turn.found (claimed_ask c.args.turn.number) c.claim_ask-resident.result.1.items (c.claim_ask-resident.ensures.same.1 ∙ (ap (λ xs. xs ++ Entry'.Ask c.number-p.result ∷ []) b.chain ∙ ap (λ k. (run S c.args.turn.found).chain ++ Entry'.Ask k ∷ []) n)) in
-    (omega arith, omega (arith, c.claim_ask-resident.result.1.ok.0, ap length whole, few_hand g.R.Resident c.args.self.now.given c.claim_ask-resident.new.self (c.args.turn.found ++ claimed_ask c.args.turn.number ∷ []) after))
+    let after = (subst (λ k. Behind g.R.Resident c.args.self.now.given c.claim_ask-resident.new.self (c.args.turn.found ++ ask_claimed_by k ∷ [])) n (c.claim_ask-resident.ensures.behind c.args.self.now.given c.args.turn.found b (subst (λ k. May S c.args.turn.found (ask_claimed_by k)) (sym n) c.requires.may))) in
+    let whole = hand_after S c.args.turn.found (ask_claimed_by c.args.turn.number) c.claim_ask-resident.result.1.items (c.claim_ask-resident.ensures.same.1 ∙ (ap (λ xs. xs ++ Entry'.Ask c.number-p.result ∷ []) b.chain ∙ ap (λ k. (run S c.args.turn.found).chain ++ Entry'.Ask k ∷ []) n)) in
+    (omega arith, omega (arith, c.claim_ask-resident.result.1.ok.0, ap length whole, few_hand g.R.Resident c.args.self.now.given c.claim_ask-resident.new.self (c.args.turn.found ++ ask_claimed_by c.args.turn.number ∷ []) after))

@@ -2,7 +2,7 @@ use Rattle.std.proofs.Common.{◌++◌, ◌∷◌, [], ◌∙◌, ap, sym, subst
 use Rattle.perimeter_core.specs.Legal.{May}
 use Rattle.squeue_state.specs.Naming.{Turned, setting_of}
 use Rattle.squeue_state.specs.Behind.{Behind}
-use Rattle.squeue_state.specs.Words.{named_of}
+use Rattle.squeue_state.specs.Clauses.{named_of}
 use Rattle.squeue_state.specs.Elements.{closed_by}
 use Rattle.squeue_state.proofs.squeue.Squeue.close.Goals as goal
 use Rattle.perimeter_core.proofs.HistoryLength.{closed_flags}

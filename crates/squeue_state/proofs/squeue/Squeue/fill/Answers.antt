@@ -1,6 +1,6 @@
 use Rattle.std.proofs.Common.{ap, arith, length}
-use Rattle.squeue_state.specs.Words.{named_of}
-use Rattle.squeue_state.specs.Elements.{filled}
+use Rattle.squeue_state.specs.Clauses.{named_of}
+use Rattle.squeue_state.specs.Elements.{filled_by}
 use Rattle.squeue_state.proofs.Bounds.{fill_fits}
 use Rattle.squeue_state.proofs.Turns.{lent, noted, ends}
 use Rattle.squeue_state.proofs.squeue.Squeue.fill.Goals as goal
@@ -14,7 +14,7 @@ fill-requires g c =
 pub end_turn-pass-requires-clause-value : goal.end_turn-pass-requires-clause-value
 end_turn-pass-requires-clause-value g c =
     let b = lent g.R.Resident c.turn.inside.of.value c.turn.inside.held c.args.turn c.args.self.now c.turn.invariant c.turn.view_is c.requires.squeue c.value.result.now c.value.ensures.value in
-    ends g.R.Resident c.turn.inside.held c.args.turn c.turn.inside.of.value c.args.self.now (named_of c.self.inside.gate) c.turn.view_is c.self.view_is c.fill.new.self (λ k. filled k c.args.es.now)
+    ends g.R.Resident c.turn.inside.held c.args.turn c.turn.inside.of.value c.args.self.now (named_of c.self.inside.gate) c.turn.view_is c.self.view_is c.fill.new.self (λ k. filled_by k c.args.es.now)
     (c.fill.ensures.behind c.args.self.now.given c.args.turn.found c.args.turn.number b c.requires.may)
 
 pub end_turn-pass-requires-clause-noted : goal.end_turn-pass-requires-clause-noted

@@ -6,8 +6,8 @@ use Rattle.perimeter_core.specs.Legal.{May}
 use Rattle.perimeter_core.specs.Blocks.{Blocks, peri}
 use Rattle.squeue_state.specs.Naming.{Handed, setting_of}
 use Rattle.squeue_state.specs.Behind.{Behind, IsPeri, room_of}
-use Rattle.squeue_state.specs.Words.{named_of, asker}
-use Rattle.squeue_state.specs.Elements.{granted}
+use Rattle.squeue_state.specs.Clauses.{named_of, asker}
+use Rattle.squeue_state.specs.Elements.{granted_by}
 use Rattle.squeue_state.proofs.Turns.{lent, noted, ends, marked}
 use Rattle.squeue_state.proofs.Granting.{asks_at, granted_hand, same_blocks, asker_is}
 use Rattle.squeue_state.proofs.Bounds.{left_fits}
@@ -47,9 +47,9 @@ end_turn-pass-requires-clause-value g c =
     let peri_r = subst (λ (x : Blocks). IsPeri g.R.Resident c.args.self.now.given c.args.resident x) (same_blocks (processed (length c.args.hand.left) H) (processed (length c.args.hand.left - 1) H) (asker c.args.hand.left) (peri S c.args.turn.found) hand.1) c.requires.resident in
     let after = c.grant.ensures.behind c.args.self.now.given c.args.turn.found c.args.turn.number (length c.args.hand.left - 1) b
     (record { is_left = left; has_room = subst (λ k. room_of c.args.self.now.given.quotas ≡ k) (sym (ap (λ (h : Handed). h.room) c.hand.view_is)) c.requires.hand.has_room })
-    peri_r (subst (λ k. May S c.args.turn.found (granted c.args.turn.number k (length c.args.hand.left - 1))) (sym j) c.requires.may) in
-    ends g.R.Resident c.turn.inside.held c.args.turn c.turn.inside.of.value c.args.self.now (named_of c.self.inside.gate) c.turn.view_is c.self.view_is c.grant.new.self (λ k. granted k c.in-Ask.j (c.len.result - c.hand.inside.at - 1))
-    (subst (λ k. Behind g.R.Resident c.args.self.now.given c.grant.new.self (c.args.turn.found ++ granted c.args.turn.number c.in-Ask.j k ∷ [])) rest after)
+    peri_r (subst (λ k. May S c.args.turn.found (granted_by c.args.turn.number k (length c.args.hand.left - 1))) (sym j) c.requires.may) in
+    ends g.R.Resident c.turn.inside.held c.args.turn c.turn.inside.of.value c.args.self.now (named_of c.self.inside.gate) c.turn.view_is c.self.view_is c.grant.new.self (λ k. granted_by k c.in-Ask.j (c.len.result - c.hand.inside.at - 1))
+    (subst (λ k. Behind g.R.Resident c.args.self.now.given c.grant.new.self (c.args.turn.found ++ granted_by c.args.turn.number c.in-Ask.j k ∷ [])) rest after)
 
 pub end_turn-pass-requires-clause-noted : goal.end_turn-pass-requires-clause-noted
 end_turn-pass-requires-clause-noted g c =
@@ -60,5 +60,5 @@ returns g c =
     let j : c.in-Ask.j ≡ asker c.args.hand.left = asker_is c.in-Ask.j (asker c.args.hand.left) c.index.result.now c.in-Ask.is (asks_at c.hand.inside.entries.items c.hand.inside.at c.args.hand.left (asker c.args.hand.left) c.index.result.now (ap (λ (h : Handed). h.left) c.hand.view_is) c.requires.first c.index.ensures) in
     let rest : c.len.result - c.hand.inside.at - 1 ≡ (length c.args.hand.left - 1) =
     let l = ap (λ (h : Handed). length h.left) c.hand.view_is in omega (arith, l, length-drop c.hand.inside.at c.hand.inside.entries.items, c.hand.inside.entries.ok.0, c.len.ensures) in
-    marked c.turn.inside.of.value c.args.self.now c.self.inside.gate c.turn.inside.held c.args.turn (λ k. granted k c.in-Ask.j (c.len.result - c.hand.inside.at - 1)) (granted c.args.turn.number (asker c.args.hand.left) (length c.args.hand.left - 1)) c.end_turn-pass.result
-    c.turn.view_is c.requires.squeue c.self.view_is (ap (λ i. granted c.args.turn.number i (c.len.result - c.hand.inside.at - 1)) j ∙ ap (λ k. granted c.args.turn.number (asker c.args.hand.left) k) rest) c.end_turn-pass.ensures.gate c.end_turn-pass.ensures.seen c.end_turn-pass.ensures.mine c.end_turn-pass.ensures.steps
+    marked c.turn.inside.of.value c.args.self.now c.self.inside.gate c.turn.inside.held c.args.turn (λ k. granted_by k c.in-Ask.j (c.len.result - c.hand.inside.at - 1)) (granted_by c.args.turn.number (asker c.args.hand.left) (length c.args.hand.left - 1)) c.end_turn-pass.result
+    c.turn.view_is c.requires.squeue c.self.view_is (ap (λ i. granted_by c.args.turn.number i (c.len.result - c.hand.inside.at - 1)) j ∙ ap (λ k. granted_by c.args.turn.number (asker c.args.hand.left) k) rest) c.end_turn-pass.ensures.gate c.end_turn-pass.ensures.seen c.end_turn-pass.ensures.mine c.end_turn-pass.ensures.steps

@@ -2,8 +2,8 @@ use Rattle.std.proofs.Common.{◌≡◌, ◌-◌, ◌++◌, ◌∷◌, [], ◌�
 use Rattle.perimeter_core.specs.History.{start, run}
 use Rattle.squeue_state.specs.Naming.{Handed, setting_of}
 use Rattle.squeue_state.specs.Behind.{Behind, room_of}
-use Rattle.squeue_state.specs.Words.{named_of}
-use Rattle.squeue_state.specs.Elements.{gone}
+use Rattle.squeue_state.specs.Clauses.{named_of}
+use Rattle.squeue_state.specs.Elements.{left_by_pass}
 use Rattle.squeue_state.proofs.squeue.Squeue.leave.Goals as goal
 use Rattle.std.proofs.lemmas.List.{length-drop}
 use Rattle.perimeter_core.proofs.BlocksFollow.{flags}
@@ -52,8 +52,8 @@ end_turn-pass-requires-clause-value g c =
     let b = lent g.R.Resident c.turn.inside.of.value c.turn.inside.held c.args.turn c.args.self.now c.turn.invariant c.turn.view_is c.requires.squeue c.value.result.now c.value.ensures.value in
     let S = setting_of g.R.Resident.limits c.args.self.now.given in
     let rest : length c.args.hand.left ≡ c.len.result - c.hand.inside.at = (let l = ap (λ (h : Handed). length h.left) c.hand.view_is in omega (arith, l, length-drop c.hand.inside.at c.hand.inside.entries.items, c.hand.inside.entries.ok.0)) ∙ ap (λ k. k - c.hand.inside.at) (sym c.len.ensures) in
-    ends g.R.Resident c.turn.inside.held c.args.turn c.turn.inside.of.value c.args.self.now (named_of c.self.inside.gate) c.turn.view_is c.self.view_is c.leave.new.self (λ k. gone k (c.len.result - c.hand.inside.at) c.args.act g.N.Notes.note)
-    (subst (λ k. Behind g.R.Resident c.args.self.now.given c.leave.new.self (c.args.turn.found ++ gone c.args.turn.number k c.args.act g.N.Notes.note ∷ [])) rest
+    ends g.R.Resident c.turn.inside.held c.args.turn c.turn.inside.of.value c.args.self.now (named_of c.self.inside.gate) c.turn.view_is c.self.view_is c.leave.new.self (λ k. left_by_pass k (c.len.result - c.hand.inside.at) c.args.act g.N.Notes.note)
+    (subst (λ k. Behind g.R.Resident c.args.self.now.given c.leave.new.self (c.args.turn.found ++ left_by_pass c.args.turn.number k c.args.act g.N.Notes.note ∷ [])) rest
     (c.leave.ensures.behind c.args.self.now.given c.args.turn.found g.N.Notes.note c.args.turn.number (length c.args.hand.left) b
     (record { is_left = ap (λ (h : Handed). h.left) c.hand.view_is ∙ c.requires.hand.is_left; has_room = subst (λ k. room_of c.args.self.now.given.quotas ≡ k) (sym (ap (λ (h : Handed). h.room) c.hand.view_is)) c.requires.hand.has_room })
     c.requires.resident c.requires.may))
