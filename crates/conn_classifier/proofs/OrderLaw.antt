@@ -13,7 +13,8 @@ use Rattle.capture_reader.specs.CaptureFile.{last_time}
 use Rattle.capture_reader.specs.Outcome.{CaptureFile}
 use Rattle.conn_classifier.specs.declared.kinds.Arrival.{Arrival}
 use Rattle.conn_classifier.specs.declared.kinds.Item.TheVariants.{Time}
-use Rattle.conn_classifier.specs.Connections.{tuple_of, tuple_eq, served_in, conns, decoded}
+use Rattle.segment_codec.specs.Refusal.{tuple_of}
+use Rattle.conn_classifier.specs.Connections.{tuple_eq, served_in, conns, decoded}
 use Rattle.conn_classifier.specs.Items.{Seen, arrivals, of_conn, items_after, items_of, conn_items}
 use Rattle.conn_classifier.specs.Sorting.{number_in, conn_in, order_of}
 use Rattle.conn_classifier.specs.Plan.{plan_of, IsOrdered, Climbs, records_of, seen}

@@ -16,7 +16,8 @@ use Rattle.conn_classifier.specs.Limits.{most_conns}
 use Rattle.conn_classifier.specs.declared.kinds.Arrival.{Arrival}
 use Rattle.conn_classifier.specs.declared.kinds.Item.{Item}
 use Rattle.conn_classifier.specs.declared.kinds.Item.TheVariants.{Time}
-use Rattle.conn_classifier.specs.Connections.{tuple_of, tuple_eq, served_in, served_tuple, distinct, conns, decoded}
+use Rattle.segment_codec.specs.Refusal.{tuple_of}
+use Rattle.conn_classifier.specs.Connections.{tuple_eq, served_in, served_tuple, distinct, conns, decoded}
 use Rattle.conn_classifier.specs.Items.{Seen, arrivals, of_conn, items_after, items_of, conn_items}
 use Rattle.conn_classifier.specs.Plan.{plan_of, IsPlan, IsItems, IsInside, IsSpaced, Rises, seen}
 use Rattle.conn_classifier.specs.Sorting.{seen_of, SortedOf, sorted_of}

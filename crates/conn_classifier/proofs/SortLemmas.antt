@@ -10,7 +10,8 @@ use Rattle.segment_codec.specs.declared.packet.Packet.{Packet}
 use Rattle.segment_codec.specs.declared.packet.Packet.TheVariants as packet
 use Rattle.segment_codec.specs.declared.packet.Seg.{Seg}
 use Rattle.capture_reader.specs.CaptureFile.{Packet as Captured}
-use Rattle.conn_classifier.specs.Connections.{tuple_of, tuple_eq, served_in}
+use Rattle.segment_codec.specs.Refusal.{tuple_of}
+use Rattle.conn_classifier.specs.Connections.{tuple_eq, served_in}
 use Rattle.conn_classifier.specs.Classes.{class_in, counts_of}
 use Rattle.conn_classifier.specs.Items.{Seen, arrival, arrivals, of_conn}
 use Rattle.conn_classifier.specs.Sorting.{seen_of, number_in, conn_in, place_in, order_of, SortedOf, sorted_of, counted, total}

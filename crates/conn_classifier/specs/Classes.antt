@@ -5,7 +5,8 @@ use Rattle.sq_base.specs.Ports.{is_served_port}
 use Rattle.sq_base.specs.declared.kinds.Tuple.{Tuple}
 use Rattle.segment_codec.specs.declared.packet.Packet.{Packet}
 use Rattle.segment_codec.specs.declared.packet.Packet.TheVariants as packet
-use Rattle.conn_classifier.specs.Connections.{tuple_of, tuple_eq}
+use Rattle.segment_codec.specs.Refusal.{tuple_of}
+use Rattle.conn_classifier.specs.Connections.{tuple_eq}
 use Rattle.conn_classifier.specs.declared.kinds.Class.{Class}
 use Rattle.conn_classifier.specs.declared.kinds.Class.TheVariants as class
 use Rattle.conn_classifier.specs.declared.kinds.Counts.{Counts}

@@ -9,20 +9,12 @@ use Rattle.segment_codec.specs.declared.packet.Packet.{Packet}
 use Rattle.segment_codec.specs.declared.packet.Packet.TheVariants as packet
 use Rattle.segment_codec.specs.declared.packet.Seg.{Seg}
 use Rattle.segment_codec.specs.Packet.{packet_in}
+use Rattle.segment_codec.specs.Refusal.{tuple_of}
 use Rattle.conn_classifier.specs.Limits.{most_conns}
 
 -- what each record of a capture holds
 abbrev pub decoded : CaptureFile → Bool → List Packet
 decoded file verify = map (λ r. packet_in file.link r.body verify) file.packets
-
--- the connection of a segment: its source is the client, its destination the server
-abbrev pub tuple_of : Seg → Tuple
-tuple_of s = record {
-  client = s.src;
-  client_port = s.src_port;
-  server = s.dst;
-  server_port = s.dst_port;
-}
 
 abbrev pub tuple_eq : Tuple → Tuple → Bool
 tuple_eq a b = (a.client.0 == b.client.0) && ((a.client_port == b.client_port) && ((a.server.0 == b.server.0) && (a.server_port == b.server_port)))

@@ -7,7 +7,8 @@ use Rattle.segment_codec.specs.ControlBits.{has_ack, has_rst, has_syn}
 use Rattle.segment_codec.specs.declared.packet.Packet.{Packet}
 use Rattle.segment_codec.specs.declared.packet.Seg.{Seg}
 use Rattle.conn_classifier.specs.Limits.{least_gap}
-use Rattle.conn_classifier.specs.Connections.{served_in, tuple_of, tuple_eq}
+use Rattle.segment_codec.specs.Refusal.{tuple_of}
+use Rattle.conn_classifier.specs.Connections.{served_in, tuple_eq}
 use Rattle.conn_classifier.specs.declared.kinds.Item.{Item}
 use Rattle.conn_classifier.specs.declared.kinds.Item.TheVariants.{Time, Segment}
 use Rattle.conn_classifier.specs.declared.kinds.Arrival.{Arrival}

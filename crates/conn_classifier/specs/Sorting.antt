@@ -1,12 +1,13 @@
 -- What one pass over the records sorts out: the arrivals of each connection, the connection of each arrival, and the counts.
-use Rattle.std.specs.Prelude.{ℕ, ◌+◌, Bool, List, [], ◌∷◌, ◌++◌, map, set, get_or, Option, None, Some, position}
+use Rattle.std.specs.Prelude.{ℕ, ◌+◌, Bool, List, [], ◌∷◌, map, Option, position}
 use Rattle.std.specs.List.{filter_map}
 use Rattle.std.specs.Option.{option_map, option_and_then}
 use Rattle.sq_base.specs.declared.kinds.Tuple.{Tuple}
 use Rattle.segment_codec.specs.declared.packet.Packet.{Packet}
 use Rattle.segment_codec.specs.declared.packet.Seg.{Seg}
 use Rattle.capture_reader.specs.CaptureFile.{Packet as Captured}
-use Rattle.conn_classifier.specs.Connections.{served_in, tuple_of, tuple_eq}
+use Rattle.segment_codec.specs.Refusal.{tuple_of}
+use Rattle.conn_classifier.specs.Connections.{served_in, tuple_eq}
 use Rattle.conn_classifier.specs.Classes.{class_in, counts_of}
 use Rattle.conn_classifier.specs.Items.{Seen, of_conn}
 use Rattle.conn_classifier.specs.declared.kinds.Arrival.{Arrival}

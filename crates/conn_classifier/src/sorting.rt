@@ -6,10 +6,10 @@ ghost use Rattle.conn_classifier.specs.Classes.{class_in, counts_of};
 ghost use Rattle.conn_classifier.specs.Sorting.{counted, total, place_in, sorted_of, seen_of};
 
 use crate::kinds::{Arrival, Class, Counts};
-use crate::tuples::{served, tuple};
+use crate::tuples::served;
 use capture_reader::Capture;
 use indexmap::IndexSet;
-use segment_codec::{Packet, Seg};
+use segment_codec::{Packet, Seg, tuple_of};
 use sq_base::{Tuple, is_served};
 use std::alloc::{AllocError, Global};
 use std::marker::Model;
@@ -131,7 +131,7 @@ fn place(tuples: &IndexSet<Tuple>, packet: &Packet) -> Option<(usize, Seg)>
     ensures { result ≡ place_in tuples.now.keys packet.now }
 {
     let seg = served(packet)?;
-    let c = tuples.get_index_of(&tuple(&seg))?;
+    let c = tuples.get_index_of(&tuple_of(&seg))?;
     Some((c, seg))
 }
 

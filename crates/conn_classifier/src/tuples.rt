@@ -1,26 +1,15 @@
 //! The connections of a capture: the distinct tuples of its served segments, by first appearance.
 
 ghost use Rattle.std.specs.Prelude.{◌≡◌, IfOk};
-ghost use Rattle.conn_classifier.specs.Connections.{conns, served_in, tuple_of};
+ghost use Rattle.segment_codec.specs.Refusal.{tuple_of};
+ghost use Rattle.conn_classifier.specs.Connections.{conns, served_in};
 
 use indexmap::IndexSet;
-use segment_codec::{Packet, Seg};
+use segment_codec::{Packet, Seg, tuple_of};
 use sq_base::{Tuple, is_served};
 use std::alloc::{AllocError, Global};
 
 const MOST_CONNECTIONS: usize = 4096;
-
-/// A segment's connection: its source is the client, its destination the server.
-pub fn tuple(seg: &Seg) -> Tuple
-    ensures { result ≡ tuple_of seg.now }
-{
-    Tuple {
-        client: seg.src,
-        client_port: seg.src_port,
-        server: seg.dst,
-        server_port: seg.dst_port,
-    }
-}
 
 /// The segment that a record holds, where it goes to a served port.
 pub fn served(packet: &Packet) -> Option<Seg>
@@ -40,7 +29,7 @@ pub fn tuples_of(alloc: Global, packets: &[Packet]) -> Result<IndexSet<Tuple>, A
     for packet in packets {
         if let Some(seg) = served(packet) {
             if tuples.len() < MOST_CONNECTIONS {
-                tuples.insert(tuple(&seg))?;
+                tuples.insert(tuple_of(&seg))?;
             }
         }
     }

@@ -12,4 +12,4 @@ returns-in_err-c c =
     let seg = c.in_ok-seg.seg in
     c.from_residual-in_err-c.ensures
     ∙ sym (ap (option_and_then {U = ℕ × Seg} (λ s. option_map (λ n. (n, s)) (number_in keys s))) (sym c.served.ensures ∙ c.in_ok-seg.was)
-    ∙ ap (option_map {U = ℕ × Seg} (λ n. (n, seg))) (ap (λ t. position (tuple_eq t) keys) (sym c.tuple.ensures) ∙ sym c.in_err-c.ensures.index))
+    ∙ ap (option_map {U = ℕ × Seg} (λ n. (n, seg))) (ap (λ t. position (tuple_eq t) keys) (sym c.tuple_of.ensures) ∙ sym c.in_err-c.ensures.index))
