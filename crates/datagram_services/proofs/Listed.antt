@@ -6,8 +6,8 @@ use Rattle.std.proofs.lemmas.List.Sums.{sum-map, sum_by-cons}
 use Rattle.perimeter_core.specs.declared.entries.Feed.{Feed}
 use Rattle.stream_plan.specs.Sound.{IsMorePlan}
 use Rattle.stream_plan.specs.Streams.{MorePlanOf, StreamOf, item_count}
-use Rattle.key_counters.specs.Lists.{items_of, list_of}
-use Rattle.key_counters.proofs.RingLists.{length_items}
+use Rattle.feed_lists.specs.Lists.{items_of, list_of}
+use Rattle.feed_lists.proofs.RingLists.{length_items}
 use Rattle.squeue_rings.specs.Runs.{count, is_at}
 use Rattle.squeue_rings.proofs.Counting.{count_more}
 use Rattle.ring_jobs.specs.declared.lines.Line.{Line}

@@ -22,7 +22,7 @@ use Rattle.ring_jobs.proofs.Ready.{all_ready}
 use Rattle.stream_plan.specs.Streams.{MorePlanOf, item_count}
 use Rattle.stream_blocks.specs.declared.blocks.StreamBlocks.{StreamBlocks}
 use Rattle.stream_blocks.specs.Standing.{limits_of, origin_of}
-use Rattle.key_counters.specs.Lists.{list_of}
+use Rattle.feed_lists.specs.Lists.{list_of}
 use Rattle.datagram_services.specs.Lines.{IsStreamList, counts_of}
 use Rattle.datagram_services.specs.Settings.{AreSet}
 use Rattle.datagram_services.proofs.Suffices.{in_order, none_come, none_leave, none_left_by, own, within}

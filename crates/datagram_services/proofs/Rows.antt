@@ -16,8 +16,8 @@ use Rattle.squeue_rings.proofs.Slots.{at_got}
 use Rattle.ring_jobs.specs.declared.lines.Line.{Line}
 use Rattle.ring_jobs.specs.Ends.{RingEnds}
 use Rattle.ring_jobs.proofs.AtTheEnd.{end_due, end_here}
-use Rattle.key_counters.specs.Lists.{list_of}
-use Rattle.key_counters.proofs.RingLists.{has_all}
+use Rattle.feed_lists.specs.Lists.{list_of}
+use Rattle.feed_lists.proofs.RingLists.{has_all}
 use Rattle.stream_plan.specs.Streams.{MorePlanOf, StreamOf, item_count}
 use Rattle.stream_blocks.specs.declared.block.StreamBlock.{StreamBlock}
 use Rattle.stream_blocks.specs.declared.blocks.StreamBlocks.{StreamBlocks}

@@ -2,7 +2,7 @@
 use Rattle.std.specs.Prelude.{◌≡◌, ℕ, List, map}
 use Rattle.perimeter_core.specs.declared.entries.Feed.{Feed}
 use Rattle.stream_plan.specs.Streams.{MorePlanOf, item_count}
-use Rattle.key_counters.specs.Lists.{list_of}
+use Rattle.feed_lists.specs.Lists.{list_of}
 
 -- how many items each stream has
 abbrev pub counts_of : MorePlanOf → List ℕ

@@ -6,7 +6,7 @@ use Rattle.squeue_state.specs.Naming.{Named}
 use Rattle.squeue_rings.specs.Runs.{count, is_at}
 use Rattle.ring_jobs.specs.declared.lines.Line.{Line}
 use Rattle.ring_jobs.specs.Ends.{RingsEnd}
-use Rattle.key_counters.specs.Lists.{list_of}
+use Rattle.feed_lists.specs.Lists.{list_of}
 use Rattle.stream_plan.specs.Streams.{MorePlanOf}
 use Rattle.stream_blocks.specs.declared.blocks.StreamBlocks.{StreamBlocks}
 use Rattle.stream_blocks.specs.Standing.{limits_of, origin_of}

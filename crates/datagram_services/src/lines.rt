@@ -1,6 +1,6 @@
 //! What comes in by each ring.
 ghost use Rattle.std.specs.Prelude.{◌≡◌, ◌<◌, ◌++◌, IfOk, OnOk, map};
-ghost use Rattle.key_counters.specs.Lists.{items_of};
+ghost use Rattle.feed_lists.specs.Lists.{items_of};
 ghost use Rattle.ring_jobs.specs.Tasks.{AreLines, AreUnused};
 ghost use Rattle.datagram_services.specs.Lines.{IsStreamList};
 

@@ -6,26 +6,20 @@ use Rattle.turn_gate.specs.History.{Begins, only}
 use Rattle.turn_gate.specs.Passes.{IsPassOf, number, seen, mine}
 use Rattle.turn_gate.specs.declared.pass.Pass.{Pass}
 use Rattle.perimeter_core.specs.declared.entries.Feed.{Feed as FeedOf}
-use Rattle.perimeter_core.specs.declared.entries.Entry.{Entry}
 use Rattle.perimeter_core.specs.Perimeter.{State, is_here}
 use Rattle.perimeter_core.specs.History.{Element, Limits, start, run, made_by}
-use Rattle.perimeter_core.specs.Deeds.{entries, feeds_of, due}
+use Rattle.perimeter_core.specs.Deeds.{due}
 use Rattle.perimeter_core.specs.Legal.{Legal, feeds_by, asks_by}
-use Rattle.perimeter_core.proofs.FeedLists.{feeds_of-append}
 use Rattle.perimeter_core.proofs.OneMore.{run_push, due_push}
 use Rattle.squeue_state.specs.Naming.{Named, setting_of}
 use Rattle.squeue_state.specs.Elements.{number_of, closed_by}
 use Rattle.squeue_state.specs.Clauses.{Added}
 use Rattle.squeue_state.proofs.Makers.{others_made}
 use Rattle.squeue_enter.specs.Entering.{MayEnter, Brought, MayGoOn}
-use Rattle.squeue_enter.proofs.Bringing.{may_front, entries_append}
+use Rattle.squeue_enter.proofs.Bringing.{may_front}
 use Rattle.squeue_enter.proofs.Carrying.{due_carried, here_carried}
+use Rattle.feed_lists.proofs.RingLists.{count_append}
 use Rattle.key_counters.specs.Running.{HasClosed}
-
-pub count_append : (c : ℕ) (es fs : List FeedOf) → length (feeds_of c (entries (es ++ fs))) ≡ length (feeds_of c (entries es)) + length (feeds_of c (entries fs))
-count_append c es fs =
-    ap (λ (xs : List Entry). length (feeds_of c xs)) (entries_append es fs)
-    ∙ (ap length (feeds_of-append c (entries es) (entries fs)) ∙ length-append (feeds_of c (entries es)) (feeds_of c (entries fs)))
 
 -- a list that is cut in two
 pub split : (xs ys zs : List FeedOf) (n : ℕ) → ys ≡ take n xs → zs ≡ drop n xs → xs ≡ ys ++ zs

@@ -29,13 +29,13 @@ use Rattle.turn_gate.specs.Passes.{AreFresh, IsPassOf}
 use Rattle.squeue_state.specs.Elements.{number_of}
 use Rattle.key_counters.specs.declared.job.Task.{Task}
 use Rattle.key_counters.specs.declared.job.Task.TheVariants as Task'
-use Rattle.key_counters.specs.Lists.{list_of}
+use Rattle.feed_lists.specs.Lists.{list_of}
 use Rattle.key_counters.specs.Running.{IsReady, ReadyFor, RanFor, Ran, pass_in}
 use Rattle.key_counters.specs.Serving.{AreTasks, HasDone, HasDoneAs, IsNewFor, IsTask, ServesRings, items_in}
 use Rattle.key_counters.proofs.FreshRings.{ready_at}
 use Rattle.key_counters.proofs.Passing.{fresh_at}
 use Rattle.key_counters.proofs.Chains.{still_due, still_here}
-use Rattle.key_counters.proofs.RingLists.{has_all}
+use Rattle.feed_lists.proofs.RingLists.{has_all}
 
 module _ {R : Type 0} (limits : R → Limits) (s : Named R) (serves : ServesRings limits s.given) where
   abbrev S : Setting

@@ -15,7 +15,7 @@ use Rattle.squeue_enter.specs.Entering.{MayEnter}
 use Rattle.squeue_enter.proofs.Bringing.{entries_append}
 use Rattle.key_counters.specs.declared.job.Task.{Task}
 use Rattle.key_counters.specs.declared.job.Task.TheVariants as Task'
-use Rattle.key_counters.specs.Lists.{items_of, list_of}
+use Rattle.feed_lists.specs.Lists.{items_of, list_of}
 use Rattle.key_counters.specs.Running.{ReadyFor}
 use Rattle.key_counters.specs.Serving.{ServesRings, IsNewFor, items_in}
 use Rattle.squeue_serve.proofs.Unused.{start_idle}

@@ -19,7 +19,8 @@ use Rattle.placed_parts.specs.Standing.{InOrder, OwnPart, PlacesStand, all_new}
 use Rattle.placed_parts.specs.Placing.{Stands, limits_of, size_of}
 use Rattle.placed_parts.proofs.PlaceSteps.{part_there, had_feeds}
 use Rattle.key_counters.specs.Counting.{HasAdded, IsPartOf, row_of, total_of}
-use Rattle.key_counters.specs.Lists.{list_of, AreLists, no_asks}
+use Rattle.feed_lists.specs.Lists.{list_of}
+use Rattle.key_counters.specs.Lists.{AreLists, no_asks}
 use Rattle.key_counters.specs.Serving.{ServesRings}
 use Rattle.key_counters.proofs.RingLists.{quotas_within}
 

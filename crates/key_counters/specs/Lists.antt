@@ -1,16 +1,7 @@
--- The feeds that each ring brings.
-use Rattle.std.specs.Prelude.{◌≡◌, ℕ, ◌%◌, ◌==◌, if◌then◌else◌, List, [], ◌∷◌, ◌++◌, Vec, length, map, zero, suc}
+-- The lists of all rings, and their quotas.
+use Rattle.std.specs.Prelude.{◌≡◌, ℕ, List, [], ◌∷◌, Vec, length, map, suc}
 use Rattle.perimeter_core.specs.declared.entries.Feed.{Feed}
-
--- k feeds of key c, from number n on
-abbrev pub items_of : ℕ → ℕ → ℕ → List Feed
-items_of c n zero = []
-items_of c n (suc k) = record { c = c; n = n } ∷ items_of c (suc n) k
-
--- The feeds of ring r, key by key, where the keys from c on have so many items
-abbrev pub list_of : ℕ → ℕ → ℕ → List ℕ → List Feed
-list_of rings r c [] = []
-list_of rings r c (k ∷ counts) = (if c % rings == r then items_of c 0 k else []) ++ list_of rings r (suc c) counts
+use Rattle.feed_lists.specs.Lists.{list_of}
 
 -- the lists of the rings from r on
 abbrev pub AreLists : {A : Type 0} → ℕ → List ℕ → ℕ → List (Vec Feed A) → Type 0

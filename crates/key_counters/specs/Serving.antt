@@ -11,7 +11,7 @@ use Rattle.squeue_state.specs.Elements.{number_of}
 use Rattle.squeue_serve.specs.declared.jobs.Job.{Job}
 use Rattle.key_counters.specs.declared.job.Task.{Task}
 use Rattle.key_counters.specs.declared.job.Task.TheVariants as Task'
-use Rattle.key_counters.specs.Lists.{list_of}
+use Rattle.feed_lists.specs.Lists.{list_of}
 use Rattle.key_counters.specs.Running.{pass_in}
 
 module _ {R : Type 0} (limits : R → Limits) where

@@ -2,7 +2,8 @@
 ghost use Rattle.std.specs.Prelude.{◌≡◌, ◌+◌, ◌^◌, ◌<◌, ◌≤◌, ◌++◌, ℕ, All, IfOk, List, OnOk, length, map};
 ghost use Rattle.squeue_state.specs.Behind.{pairs};
 ghost use Rattle.key_counters.specs.Serving.{AreTasks};
-ghost use Rattle.key_counters.specs.Lists.{items_of, list_of, AreLists, no_asks};
+ghost use Rattle.feed_lists.specs.Lists.{items_of, list_of};
+ghost use Rattle.key_counters.specs.Lists.{AreLists, no_asks};
 
 use crate::job::Task;
 use perimeter_core::Feed;

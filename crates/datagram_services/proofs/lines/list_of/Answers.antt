@@ -1,8 +1,8 @@
 use Rattle.std.proofs.Common.{◌<◌, length, ap, ◌∙◌, arith}
 use Rattle.std.proofs.lemmas.List.{length-map, take_all}
 use Rattle.stream_plan.specs.Streams.{item_count}
-use Rattle.key_counters.specs.Lists.{list_of}
-use Rattle.key_counters.proofs.RingLists.{list_taken, list_skipped}
+use Rattle.feed_lists.specs.Lists.{list_of}
+use Rattle.feed_lists.proofs.RingLists.{list_taken, list_skipped}
 use Rattle.datagram_services.specs.Lines.{counts_of}
 use Rattle.datagram_services.proofs.Listed.{count_at}
 use Rattle.datagram_services.proofs.lines.list_of.Goals as goal

@@ -1,5 +1,5 @@
 use Rattle.std.proofs.Common.{◌≡◌, take}
-use Rattle.key_counters.specs.Lists.{list_of}
+use Rattle.feed_lists.specs.Lists.{list_of}
 use Rattle.datagram_services.specs.Lines.{counts_of}
 use Rattle.datagram_services.proofs.lines.list_of.Given as goal
 

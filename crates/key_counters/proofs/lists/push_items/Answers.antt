@@ -1,4 +1,4 @@
-use Rattle.key_counters.proofs.RingLists.{items_more}
+use Rattle.feed_lists.proofs.RingLists.{items_more}
 use Rattle.key_counters.proofs.lists.push_items.Goals as goal
 
 pub loop-n-preserved : goal.loop-n-preserved

@@ -1,5 +1,5 @@
 use Rattle.std.proofs.Common.{◌≡◌, ◌++◌}
-use Rattle.key_counters.specs.Lists.{items_of}
+use Rattle.feed_lists.specs.Lists.{items_of}
 use Rattle.key_counters.proofs.lists.push_items.Given as goal
 
 abbrev pub invariant-loop-n : goal.invariant-loop-n

@@ -1,7 +1,7 @@
 use Rattle.std.proofs.Common.{◌≡◌, ◌<◌, length, map, get_or, sym, ap, ◌∙◌, arith}
 use Rattle.std.proofs.lemmas.List.{length-map, get_or-map, take_all}
-use Rattle.key_counters.specs.Lists.{list_of}
-use Rattle.key_counters.proofs.RingLists.{list_taken, list_skipped}
+use Rattle.feed_lists.specs.Lists.{list_of}
+use Rattle.feed_lists.proofs.RingLists.{list_taken, list_skipped}
 use Rattle.key_counters.proofs.lists.ring_list.Goals as goal
 use Rattle.key_counters.proofs.lists.ring_list.Goals.{then-c-rings+in_ok-push_items, else-c-rings}
 

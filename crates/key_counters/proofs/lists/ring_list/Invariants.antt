@@ -1,5 +1,5 @@
 use Rattle.std.proofs.Common.{◌≡◌, length, map, take}
-use Rattle.key_counters.specs.Lists.{list_of}
+use Rattle.feed_lists.specs.Lists.{list_of}
 use Rattle.key_counters.proofs.lists.ring_list.Given as goal
 
 abbrev pub invariant-loop-c : goal.invariant-loop-c
