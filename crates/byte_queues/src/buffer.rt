@@ -8,6 +8,7 @@ ghost use Rattle.std.specs.Prelude.{◌≡◌, ◌+◌, ◌<◌, ◌≤◌, ◌+
 use std::alloc::{AllocError, Global};
 use std::marker::Model;
 
+/// Bytes in one piece, for contracts the list of them.
 #[derive(Drop)]
 pub struct Buffer {
     store: Vec<u8>,

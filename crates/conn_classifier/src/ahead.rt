@@ -46,7 +46,7 @@ impl Ahead {
     }
 }
 
-/// The hint of each segment of a connection.
+/// The hint of each segment of a connection. Fails only for want of memory.
 pub fn hints(alloc: Global, arrivals: &[Arrival]) -> Result<Vec<u32>, AllocError>
     ensures { IfOk result (λ v. v.items ≡ hints_of arrivals.now) }
 {

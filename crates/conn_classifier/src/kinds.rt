@@ -31,13 +31,21 @@ pub struct Arrival {
 /// What one record of a capture counts as.
 #[derive(Clone, Copy, Debug, PartialEq, Eq)]
 pub enum Class {
+    /// A segment to an echo or discard port, of one of the first 4,096 connections.
     Served,
+    /// A segment to an echo or discard port, of a later connection.
     NoFit,
+    /// A segment from an echo or discard port to another port.
     Server,
+    /// A segment between other ports, or no TCP over IPv4.
     Other,
+    /// A fragment of an IPv4 datagram.
     Fragment,
+    /// Fewer bytes were captured than the headers name.
     Cut,
+    /// A header contradicts another or its RFC.
     Malformed,
+    /// A wrong checksum, where checksums decide.
     BadSum,
 }
 
@@ -55,9 +63,11 @@ pub struct Counts {
     pub server: u32,
     /// Between other ports, or no TCP over IPv4.
     pub other: u32,
+    /// A fragment of an IPv4 datagram.
     pub fragment: u32,
     /// Fewer bytes were captured than the datagram has.
     pub cut: u32,
+    /// A header contradicts another or its RFC.
     pub malformed: u32,
     /// A wrong checksum, where checksums decide.
     pub badsum: u32,

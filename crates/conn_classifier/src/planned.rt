@@ -79,7 +79,7 @@ impl<'c> Plan<'c> {
         self.view().conns()
     }
 
-    /// How many records count as what.
+    /// How many records there are, and how many of them count as what: each as one of the eight kinds that `Counts` lists.
     pub fn counts(&self) -> Counts
         ensures { result ≡ self.now.counts }
     {

@@ -1,5 +1,5 @@
-//! The reading of a plan: what each call of `Plan` looks up, on borrows alone, so that a value that keeps a plan borrowed has
-//! one lifetime. It takes no memory.
+//! The reading of a plan: what the calls of `Plan` look up of connections and items, on borrows alone, so that a value that keeps
+//! a plan borrowed has one lifetime. It takes no memory. What the records count as `Plan::counts` alone tells.
 
 ghost use Rattle.std.specs.Prelude.{◌≡◌, ℕ, ◌<◌, ◌≤◌, true, length, slice_get, IfSome, Some};
 ghost use Rattle.capture_reader.specs.Limits.{latest_time};

@@ -11,6 +11,7 @@ use squeue_state::Quota;
 use std::alloc::{AllocError, Global};
 
 /// For each ring the feeds of its keys. Key `c` is ring `c % rings`'s, and has a feed for each of its amounts.
+/// Fails only for want of memory.
 pub fn ring_lists(
     alloc: Global,
     amounts: &[Vec<u32>],
@@ -60,7 +61,7 @@ fn push_items(list: &mut Vec<Feed>, c: u32, count: u32) -> Result<(), AllocError
     Ok(())
 }
 
-/// Each ring may enter the feeds of its list, and asks nothing.
+/// Each ring may enter the feeds of its list, and asks nothing. Fails only for want of memory.
 pub fn ring_quotas(alloc: Global, lists: &[Vec<Feed>]) -> Result<Vec<Quota>, AllocError>
     requires { All (λ list. length list.items < 2 ^ 32) lists.now }
     ensures { IfOk result (λ v. pairs v.items ≡ no_asks lists.now) }
@@ -75,7 +76,8 @@ pub fn ring_quotas(alloc: Global, lists: &[Vec<Feed>]) -> Result<Vec<Quota>, All
     Ok(quotas)
 }
 
-/// The tasks of the passes: each ring brings its list, and the last pass works.
+/// The tasks of the passes: each ring brings its list, and the last pass works. Fails only for want of memory; then the
+/// lists are dropped.
 pub fn tasks_of(alloc: Global, lists: Vec<Vec<Feed>>) -> Result<Vec<Task>, AllocError>
     ensures { (rings : ℕ) (counts : List ℕ) → length lists.items ≡ rings → AreLists rings counts 0 lists.items
         → IfOk result (λ v. AreTasks rings counts v.items) }

@@ -19,16 +19,22 @@ pub trait Resident {
     /// What the residents of one run have in common, for contracts alone.
     type Origin;
 
+    /// The maps from connections to lists of acts for which it stands.
     ghost stands: { Self → Blocks → Type 0 };
 
+    /// The lists of acts for which a part stands.
     ghost part_stands: { Self.Part → List Act → Type 0 };
 
+    /// How many feeds each connection may have, how often it may leave, and which calls there are.
     ghost limits: { Self → Limits };
 
+    /// How many connections there are, here or elsewhere.
     ghost size: { Self → ℕ };
 
+    /// What it has in common with the other residents of its run.
     ghost origin: { Self → Self.Origin };
 
+    /// Which parts of a connection, by its number, the residents with this origin take in and give out.
     ghost is_part_of: { Self.Origin → ℕ → Self.Part → Type 0 };
 
     /// How many connections there are, here or elsewhere. No call changes it.

@@ -16,12 +16,16 @@ pub trait Parts {
     /// What the residents of one run have in common, for contracts alone.
     type Origin;
 
+    /// The lists of acts for which a part stands.
     ghost part_stands: { Self.Part → List Act → Type 0 };
 
+    /// How many feeds each connection may have, how often it may leave, and which calls there are.
     ghost limits: { Self → Limits };
 
+    /// What it has in common with what other residents of the run share.
     ghost origin: { Self → Self.Origin };
 
+    /// Which parts are those of a connection, by its number, where the residents have this origin.
     ghost is_part_of: { Self.Origin → ℕ → Self.Part → Type 0 };
 
     /// The part of connection `c`, to which nothing was done.

@@ -1,7 +1,8 @@
 //! How many entries squeues take. Without words it makes short fixed runs and prints what was counted. With the words
 //! THREADS SQUEUES CHAIN ENTRIES MODE it measures: so many rings bring so many entries in all to so many squeues, in chains
 //! of at most CHAIN and in the mode `process`, `nodrain` or `fill`; each squeue has a worker in a thread of its own. It
-//! prints the nanoseconds from before the threads start to after they have ended.
+//! prints the nanoseconds from before the threads start to after they have ended, or nothing where a number is out of its
+//! range or the mode is another word.
 #![tactic(auto)]
 
 mod items;
@@ -97,11 +98,14 @@ fn number(word: Option<String>) -> u32 {
     }
 }
 
-fn mode(word: Option<String>) -> Mode {
+// The mode that the word names, or the default where there is none.
+fn mode(word: Option<String>) -> Option<Mode> {
     match word.as_deref() {
-        Some("fill") => Mode::Fill,
-        Some("nodrain") => Mode::NoDrain,
-        _ => Mode::Process,
+        Some("fill") => Some(Mode::Fill),
+        Some("nodrain") => Some(Mode::NoDrain),
+        Some("process") => Some(Mode::Process),
+        Some(_) => None,
+        None => Some(Mode::Process),
     }
 }
 
@@ -128,7 +132,9 @@ fn main(rt: HostRuntime) -> io::Result<()> {
     let squeues = number(words.next());
     let chain = number(words.next()) as usize;
     let entries = number(words.next());
-    let mode = mode(words.next());
+    let Some(mode) = mode(words.next()) else {
+        return Ok(());
+    };
     if rings < 1 || rings > 32 || squeues < 1 || squeues > 32 || chain < 1 || entries > 1 << 30 {
         return Ok(());
     }

@@ -97,7 +97,8 @@ pub fn enter<R: Resident, H: Hook, W: Wait>(
     }
 }
 
-/// Queues one feed where the gate is free, and doesn't wait. Where the gate is held nothing is entered.
+/// Queues one feed where the gate is free, and doesn't wait. Where the gate is held nothing is entered, and `Missed`
+/// has the pass back.
 pub fn try_fill<R: Resident>(sq: &Squeue<R>, pass: Pass, feed: Feed) -> Result<Pass, Missed>
     requires { MayEnter R.limits sq.now pass (feed ∷ []) }
     ensures filled { MatchResult result (λ q. HasFilled R.limits sq.now pass (feed ∷ []) q × HasTurned (steps pass) (steps q)) (λ m. missed (steps pass) m

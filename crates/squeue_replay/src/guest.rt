@@ -31,7 +31,7 @@ impl Guest {
     ghost use Rattle.squeue_replay.specs.Standing.{guest_of};
     ghost use Rattle.squeue_replay.specs.Steps.{last_longer};
 
-    /// A connection that is here at the start, or not.
+    /// A connection that is here at the start, or not. Fails only for want of memory.
     pub fn make(alloc: Global, here: bool) -> Result<Guest, AllocError>
         ensures { IfOk result (λ g. guest_of g ≡ record { here = here; due = 0; queued = 0; left = 0; came = 0; did = if here then [] ∷ [] else [] }) }
     {
@@ -50,7 +50,7 @@ impl Guest {
         })
     }
 
-    /// It is put in, when it has had so many feeds.
+    /// It is put in, when it has had so many feeds. Fails only for want of memory; then nothing more is promised.
     pub fn put_in(&mut self, fed: u64) -> Result<(), AllocError>
         ensures { OnOk result ((guest_of self.old).came + 1 < 2 ^ 64
             → guest_of self.new
@@ -71,7 +71,7 @@ impl Guest {
         self.left = self.left.saturating_add(1);
     }
 
-    /// This is done to it.
+    /// This is done to it. Fails only for want of memory; then nothing more is promised.
     pub fn does(&mut self, act: Act) -> Result<(), AllocError>
         ensures { OnOk result (guest_of self.new ≡ record (guest_of self.old) { did = last_longer (act ∷ []) (guest_of self.old).did }) }
     {
@@ -86,7 +86,7 @@ impl Guest {
         self.stays.len()
     }
 
-    /// What was done to it in its stay of this number here.
+    /// What was done to it in its stay of this number here, from 0; `None` where it had no such stay.
     pub fn stay(&self, number: usize) -> Option<&[Act]>
         ensures { option_map (λ acts. acts.now) result ≡ slice_get (guest_of self.now).did number }
     {

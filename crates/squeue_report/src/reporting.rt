@@ -80,7 +80,7 @@ fn push_counts(text: &mut String, counts: &Counts, conns: u32) -> Result<(), All
     )
 }
 
-/// Appends an address in dotted decimal, and a port.
+/// Appends an address in dotted decimal, and a port. Fails only for want of memory; then nothing is said of the text.
 #[tactic(auto, using(crate::proofs::Joins::joins), unfolding(crate::specs::ReportText::end_field))]
 pub fn push_end(text: &mut String, addr: Addr, port: u16) -> Result<(), AllocError>
     ensures { OnOk result (string_bytes text.new ≡ string_bytes text.old ++ end_field addr port) }
@@ -173,7 +173,8 @@ fn push_run<'a>(text: &mut String, n: u32, more: &'a [Act]) -> Result<&'a [Act],
     Ok(more.split_at(run).1)
 }
 
-/// Appends a line for each reply that the block has sent, with its IPv4 datagram in hexadecimal.
+/// Appends a line for each reply that the block has sent, with its IPv4 datagram in hexadecimal. Fails only for want of
+/// memory; then nothing is said of the text.
 pub fn push_replies(
     alloc: Global,
     text: &mut String,

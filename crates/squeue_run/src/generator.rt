@@ -9,13 +9,18 @@ use segment_codec::{ACK, Reply, SYN, encode};
 use sq_base::{Addr, Octets, Tuple};
 use std::alloc::{AllocError, Global};
 
+/// How many connections there are.
 const CONNS: u32 = 1000;
 
+/// How many segments each connection has, one in a round.
 const ROUNDS: u32 = 100;
 
+/// The first round whose segments have text.
 const FIRST_TEXT: u32 = 2;
 
+/// The last one.
 const LAST_TEXT: u32 = 97;
+
 /// The bytes of the whole file.
 const SIZE: usize = 10_256_024;
 

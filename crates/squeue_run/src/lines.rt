@@ -35,7 +35,7 @@ fn shown_line(alloc: Global, program: &str, text: &str) -> Result<String, AllocE
     format!(in alloc; "{program}: bad capture: {text}\n")
 }
 
-/// The line of a bad capture, by the program of this name.
+/// The line of a bad capture, by the program of this name. Fails only for want of memory.
 pub fn bad_capture(alloc: Global, program: &str, fault: &CaptureFault) -> Result<String, AllocError>
     requires { IsBad fault.now }
     ensures { IfOk result (λ text. string_bytes text ≡ bad_line program.now fault.now) }
@@ -64,7 +64,7 @@ fn capture_text(alloc: Global, fault: &CaptureFault) -> Result<String, AllocErro
     }
 }
 
-/// The line of a bad pcapng file, by the program of this name.
+/// The line of a bad pcapng file, by the program of this name. Fails only for want of memory.
 pub fn bad_pcapng(alloc: Global, program: &str, fault: &PcapngFault) -> Result<String, AllocError>
     requires { IsBadPcapng fault.now }
     ensures { IfOk result (λ text. string_bytes text ≡ pcapng_line program.now fault.now) }

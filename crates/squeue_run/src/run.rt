@@ -80,7 +80,7 @@ pub fn squeue_run<S: Source, K: Sink, E: Sink>(
     run_with(rt, alloc, words, src, out, err, &NoHook)
 }
 
-/// The same with a hook, which squeues call between their turns.
+/// The same with a hook, which an owner calls before each feed.
 pub fn run_with<S: Source, K: Sink, E: Sink, H: Hook + Sync>(
     rt: &(impl Threads + Wait + Sync),
     alloc: Global,

@@ -109,6 +109,7 @@ fn work_at<R: Resident, T, H: Hook, W: Wait>(
 }
 
 /// Ends the last squeue, all of whose jobs are done: what is left is its resident, its end, and its trace.
+/// `None` where no squeue is left.
 pub fn end_last<R: Resident, T>(
     squeues: &mut Squeues<R>,
     jobs: &mut Vec<Job<T>>,

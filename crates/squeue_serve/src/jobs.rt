@@ -21,7 +21,7 @@ pub struct Squeues<R: Resident> {
 }
 
 impl<R: Resident> Squeues<R> {
-    /// No squeues, and room for so many.
+    /// No squeues, and room for so many. Fails only for want of memory.
     pub fn with_room(alloc: Global, squeues: usize) -> Result<Squeues<R>, AllocError>
         ensures all { IfOk result (λ s. (s.all.items ≡ []) × (squeues ≤ vec_capacity s.all)) }
         ensures rooms { IfOk result (λ s. (s.rooms.items ≡ []) × (squeues ≤ vec_capacity s.rooms)) }
@@ -47,7 +47,8 @@ impl<R: Resident> Squeues<R> {
     }
 }
 
-/// A job for each task, in order, with room for a pass of each of so many squeues.
+/// A job for each task, in order, with room for a pass of each of so many squeues. Fails only for want of memory; then the
+/// tasks are dropped.
 pub fn jobs_of<T: Drop>(
     alloc: Global,
     tasks: Vec<T>,

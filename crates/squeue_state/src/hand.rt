@@ -24,7 +24,7 @@ impl Model for Hand {
 }
 
 impl Hand {
-    /// The first entry that isn't processed yet.
+    /// The first entry that isn't processed yet; `None` where all are.
     pub fn first(&self) -> Option<Entry>
         ensures { result ≡ first_entry self.now.left }
     {

@@ -64,6 +64,8 @@ impl<R: Resident> Squeue<R> {
     /// Makes a squeue and its passes, one for each quota and the worker's last. It takes all memory that the squeue will
     /// ever need: two buffers for what may be queued, a flag for each connection and each pass, a bell for each pass, and with
     /// `trace` room for all marks that may come. The resident's blocks are as new. After an error the resident is dropped.
+    ///
+    /// There are 1 to 63 quotas, so at most 64 passes. All quotas together have at most 2^30 feeds and 2^40 asks.
     pub fn make(
         alloc: Global,
         number: u32,
@@ -134,7 +136,7 @@ impl<R: Resident> Squeue<R> {
         }
     }
 
-    /// Takes the gate where it is free, and doesn't wait.
+    /// Takes the gate where it is free, and doesn't wait. `Missed` says that it was held, and has the pass back.
     pub fn try_turn(&self, pass: Pass) -> Result<Turn<R>, Missed>
         requires { IsPassOf number_of self.now.gate pass }
         ensures { MatchResult result (λ t. Found R.limits self.now pass t × hit (steps pass) t.made) (λ m. missed (steps pass) m

@@ -44,7 +44,8 @@ pub fn synch_enter<R: Resident, H: Hook, W: Wait>(
     come(sq, rt, alloc, hook, turn)
 }
 
-/// The same, unless the first turn finds that the block of `c` isn't here. Then nothing is asked.
+/// The same, unless the first turn finds that the block of `c` isn't here. Then nothing is asked, and the pass
+/// comes back.
 pub fn synch_try<R: Resident, H: Hook, W: Wait>(
     sq: &Squeue<R>,
     rt: &W,

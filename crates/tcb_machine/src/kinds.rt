@@ -1,5 +1,11 @@
 //! The states of a connection, and what is asked of it and answered.
 
+ghost use Rattle.std.specs.Prelude.{◌≡◌};
+ghost use Rattle.tcb_machine.specs.Endings.{ending_by, ending_by_segment, ending_by_time, is_over};
+ghost use Rattle.tcb_machine.specs.States.{is_consumed};
+
+use segment_codec::{RST, SYN, Seg};
+
 /// The states of RFC 9293, 3.3.2, that a server side has. LISTEN stands for CLOSED too.
 #[derive(Clone, Copy, Debug, PartialEq, Eq)]
 pub enum State {
@@ -80,12 +86,6 @@ pub enum AckKind {
     Old,
     Beyond,
 }
-
-ghost use Rattle.std.specs.Prelude.{◌≡◌};
-ghost use Rattle.tcb_machine.specs.Endings.{ending_by, ending_by_segment, ending_by_time, is_over};
-ghost use Rattle.tcb_machine.specs.States.{is_consumed};
-
-use segment_codec::{RST, SYN, Seg};
 
 /// The peer's FIN was consumed.
 pub fn is_consumed(state: State) -> bool

@@ -18,7 +18,8 @@ use tcb_machine::Call;
 /// The most calls of all threads.
 const MOST_CALLS: u32 = 1024;
 
-/// The setup, each number in its range, and whether wrong checksums drop segments.
+/// The setup, each number in its range, whether wrong checksums drop segments, and the text behind the line. `None` where
+/// the text begins with no such line.
 ///
 /// # Example
 ///

@@ -63,7 +63,7 @@ impl<T: Storied> Gate<T> {
     ghost use Rattle.turn_gate.specs.Rule.{dealer, Took, Stays};
     ghost use Rattle.turn_gate.specs.declared.views.Row.{Row};
 
-    /// A gate round the value, and its passes, numbered from 0. After an error the value is dropped.
+    /// A gate round the value, and its passes, numbered from 0, at most 64. After an error the value is dropped.
     pub fn make(
         alloc: Global,
         value: T,

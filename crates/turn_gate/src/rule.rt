@@ -9,6 +9,7 @@ use crate::views::View;
 use atomic_table::TableRule;
 use std::marker::PhantomData;
 
+/// The rule of the table behind a gate round a value of type `T`, as `TableRule` wants it. It is a type alone: nothing makes one.
 pub struct GateRule<T> {
     of: PhantomData<T>,
 }

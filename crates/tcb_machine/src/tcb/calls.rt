@@ -16,6 +16,7 @@ use std::alloc::{AllocError, Global};
 
 impl Tcb {
     /// A program's call (RFC 9293, 3.9.1), at the block's clock. `Go` means that pump and output are to follow.
+    /// After NoMemory the block promises nothing more.
     #[tactic(auto, unfolding(crate::specs::CallAnswers::tcp_call))]
     pub fn call(&mut self, alloc: Global, call: Call) -> Result<(Answer, Next), AllocError>
         ensures called { IfOk result (λ r. tcp_call call self.old ≡ record { answer = r.0; verdict = said r.1 self.new }) }
