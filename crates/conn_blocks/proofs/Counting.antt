@@ -1,12 +1,14 @@
 -- How many acts an order has, and the room that they need.
-use Rattle.std.proofs.Common.{◌≡◌, ℕ, ◌+◌, ◌==◌, ◌<◌, ◌≤◌, suc, Bool, true, false, List, [], ◌∷◌, ◌++◌, length, refl, ap, subst, ◌⊎◌, inl, inr, arith, eq-eqb}
+use Rattle.std.proofs.Common.{◌≡◌, ℕ, ◌+◌, ◌*◌, ◌==◌, ◌<◌, ◌≤◌, suc, Bool, true, false, List, [], ◌∷◌, ◌++◌, length, refl, ap, subst, ◌⊎◌, inl, inr, arith, eq-eqb}
 use Rattle.std.specs.Prelude.{if◌then◌else◌}
 use Rattle.std.proofs.lemmas.Bool.{ne_eqb, cases_eq}
 use Rattle.std.proofs.lemmas.List.{length-append, length_push, get_or_past}
 use Rattle.perimeter_core.specs.declared.entries.Act.{Act}
 use Rattle.perimeter_core.specs.declared.entries.Act.TheVariants as act
+use Rattle.conn_classifier.specs.Limits.{most_items}
 use Rattle.conn_classifier.specs.Plan.{PlanOf}
 use Rattle.conn_blocks.specs.CallLists.{CallLists}
+use Rattle.conn_blocks.specs.Limits.{most_calls}
 use Rattle.conn_blocks.specs.ServeOrder.{BlockOf}
 use Rattle.perimeter_core.specs.Deeds.{feed_numbers}
 use Rattle.conn_blocks.specs.Orders.{numbers_from, numbers_on, call_numbers}
@@ -98,7 +100,7 @@ module _ (p : PlanOf) (calls : CallLists) (c : ℕ) (b : BlockOf) (is : IsSettle
   short_of : (j : ℕ) → length (call_numbers j b.order) ≤ length (numbers_on calls c j)
   short_of j = begins_short (call_numbers j b.order) (numbers_on calls c j) (is.asked j)
 
-  pub few_acts : length b.order ≤ 2101249
+  pub few_acts : length b.order ≤ most_items + 4 * most_calls
   few_acts = omega (arith, acts_counted, short_of 0, short_of 1, short_of 2, short_of 3, is.few_feeds, is.few_items, is.few_calls)
 
   pub has_room : (a : Act) → ComesNext p calls c b.order a → length b.order < b.order_room

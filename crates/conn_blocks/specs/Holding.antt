@@ -7,7 +7,7 @@ use Rattle.byte_queues.specs.ReceiveQueue.{next_of}
 use Rattle.tcb_machine.specs.BlockState.{new_block, offered}
 use Rattle.conn_classifier.specs.Limits.{most_items}
 use Rattle.conn_classifier.specs.Plan.{PlanOf, items_in}
-use Rattle.conn_blocks.specs.Limits.{most_calls}
+use Rattle.conn_blocks.specs.Limits.{callers, most_calls}
 use Rattle.conn_blocks.specs.declared.stages.Stage.{Stage}
 use Rattle.conn_blocks.specs.declared.stages.Stage.TheVariants as stage
 use Rattle.conn_blocks.specs.CallLists.{CallLists, calls_of}
@@ -43,7 +43,7 @@ stage_of false false = stage.Unasked
 
 -- each call's stage is what these acts and the block's order say
 abbrev pub Fits : CallLists → List Act → BlockOf → Type 0
-Fits calls came b = (j k : ℕ) → j < 4 → k < length (calls_of calls j) → stage_at b.stages j k ≡ stage_of (has_call j k b.order) (has_call j k came)
+Fits calls came b = (j k : ℕ) → j < callers → k < length (calls_of calls j) → stage_at b.stages j k ≡ stage_of (has_call j k b.order) (has_call j k came)
 
 -- one list begins another
 pub record Begins (front whole : List ℕ) : Type 0 where
@@ -68,7 +68,7 @@ pub record IsSound (p : PlanOf) (calls : CallLists) (c : ℕ) (b : BlockOf) : Ty
 -- the feeds of the order are the first items, its calls each thread's first ones on the connection, and there is room for all
 pub record IsSettled (p : PlanOf) (calls : CallLists) (c : ℕ) (b : BlockOf) : Type 0 where
   pub of : b.of ≡ record { plan = p; calls = calls; c = c }
-  pub threads : length calls ≡ 4
+  pub threads : length calls ≡ callers
   pub service : b.service ≡ service_in p c
   pub feeds : feed_numbers b.order ≡ range_with_len 0 (fed b)
   pub few_feeds : fed b ≤ length (items_in p c)
@@ -77,7 +77,7 @@ pub record IsSettled (p : PlanOf) (calls : CallLists) (c : ℕ) (b : BlockOf) : 
   pub few_calls : calls_on calls c ≤ most_calls
   pub room : length (items_in p c) + calls_on calls c ≤ b.order_room
   pub answers_room : calls_on calls c ≤ b.answers_room
-  pub table : (j k : ℕ) → j < 4 → k < length (calls_of calls j) → 4 * k + j < length b.stages
+  pub table : (j k : ℕ) → j < callers → k < length (calls_of calls j) → 4 * k + j < length b.stages
   pub sound : b.short ≡ false → IsSound p calls c b
 
 -- the block has had these acts: its order is what settling keeps of them, and it holds back the calls that settling still holds
@@ -95,8 +95,8 @@ pub record IsNew (p : PlanOf) (calls : CallLists) (c : ℕ) (b : BlockOf) : Type
   pub order : b.order ≡ []
   pub answers : b.answers ≡ []
   pub short : b.short ≡ false
-  pub stages : (longest : ℕ) × (b.stages ≡ replicate (4 * longest) stage.Unasked) × ((j : ℕ) → j < 4 → length (calls_of calls j) ≤ longest)
-  pub threads : length calls ≡ 4
+  pub stages : (longest : ℕ) × (b.stages ≡ replicate (4 * longest) stage.Unasked) × ((j : ℕ) → j < callers → length (calls_of calls j) ≤ longest)
+  pub threads : length calls ≡ callers
   pub few_items : length (items_in p c) ≤ most_items
   pub few_calls : calls_on calls c ≤ most_calls
   pub room : length (items_in p c) + calls_on calls c ≤ b.order_room
@@ -105,4 +105,4 @@ pub record IsNew (p : PlanOf) (calls : CallLists) (c : ℕ) (b : BlockOf) : Type
 -- an act comes next in an order: the next item, or the thread's next call on the connection
 abbrev pub ComesNext : PlanOf → CallLists → ℕ → List Act → Act → Type 0
 ComesNext p calls c order (act.Feed n) = (n ≡ length (feed_numbers order)) × (n < length (items_in p c))
-ComesNext p calls c order (act.Call j k) = (j < 4) × Begins (call_numbers j order ++ k ∷ []) (numbers_on calls c j)
+ComesNext p calls c order (act.Call j k) = (j < callers) × Begins (call_numbers j order ++ k ∷ []) (numbers_on calls c j)

@@ -17,6 +17,7 @@ use Rattle.echo_services.specs.Pump.{followed, service_of}
 use Rattle.echo_services.specs.declared.service.Service.{Service}
 use Rattle.conn_blocks.specs.declared.stages.Stage.{Stage}
 use Rattle.conn_blocks.specs.CallLists.{CallLists, calls_of, call_at}
+use Rattle.conn_blocks.specs.Limits.{callers}
 
 -- an item with its text
 abbrev pub receives : Service → Item → List ℕ → Block → Block
@@ -54,7 +55,7 @@ serve p calls c order = serves p calls c (service_in p c) order (record { block 
 -- an act is a call that there is, on connection c
 abbrev pub IsCallOn : CallLists → ℕ → Act → Type 0
 IsCallOn calls c (act.Feed n) = ⊥
-IsCallOn calls c (act.Call j k) = (j < 4) × (k < length (calls_of calls j)) × IfSome (call_at calls j k) (λ x. x.0 ≡ c)
+IsCallOn calls c (act.Call j k) = (j < callers) × (k < length (calls_of calls j)) × IfSome (call_at calls j k) (λ x. x.0 ≡ c)
 
 -- an act can be served on connection c: its item, or its call, is there
 abbrev pub IsActOf : PlanOf → CallLists → ℕ → Act → Type 0

@@ -1,14 +1,17 @@
 //! The calls that the application threads make.
 
-ghost use Rattle.std.specs.Prelude.{◌≡◌, ℕ, ◌+◌, ◌<◌, ◌≤◌, [], ◌∷◌, ◌++◌, length, set, Some, OnOk, OnErr};
+ghost use Rattle.std.specs.Prelude.{◌≡◌, ℕ, ◌<◌, ◌≤◌, [], ◌∷◌, ◌++◌, length, set, Some, OnOk, OnErr};
 ghost use Rattle.conn_blocks.specs.CallLists.{calls_of, call_at, call_count};
 ghost use Rattle.conn_blocks.specs.Holding.{calls_on};
-ghost use Rattle.conn_blocks.specs.Limits.{most_calls};
+ghost use Rattle.conn_blocks.specs.Limits.{callers, most_calls};
 ghost use Rattle.conn_blocks.specs.Orders.{numbers_from};
 
 use std::alloc::{AllocError, Global};
 use std::marker::Model;
 use tcb_machine::Call;
+
+/// The most calls that the application threads make, all together.
+pub const MOST_CALLS: usize = 1024;
 
 /// The calls of the four application threads, each thread's in the order in which it makes them. At most 1,024 in all.
 ///
@@ -69,7 +72,7 @@ impl Calls {
 
     /// One more call of thread `j`, on connection `c`. Unchanged after NoMemory.
     pub fn push(&mut self, j: u32, c: u32, call: Call) -> Result<(), AllocError>
-        requires thread { j < 4 }
+        requires thread { j < callers }
         requires few { call_count self.old < most_calls }
         ensures ok { OnOk result (self.new ≡ set self.old j (calls_of self.old j ++ (c, call) ∷ [])) }
         ensures err { OnErr result (self.new ≡ self.old) }
@@ -85,17 +88,17 @@ impl Calls {
 
     /// How many calls thread `j` makes.
     pub fn len(&self, j: u32) -> u32
-        requires { j < 4 }
+        requires { j < callers }
         ensures value { result ≡ length (calls_of self.now j) }
         ensures most { result ≤ most_calls }
-        ensures threads { length self.now ≡ 4 }
+        ensures threads { length self.now ≡ callers }
     {
         self.thread(j).len() as u32
     }
 
     /// Call `k` of thread `j`: the connection that it is on, and what is asked of it.
     pub fn get(&self, j: u32, k: u32) -> (u32, Call)
-        requires thread { j < 4 }
+        requires thread { j < callers }
         requires call { k < length (calls_of self.now j) }
         ensures { call_at self.now j k ≡ Some result }
     {
@@ -104,10 +107,10 @@ impl Calls {
 
     /// The calls of thread `j`.
     fn thread(&self, j: u32) -> &[(u32, Call)]
-        requires { j < 4 }
+        requires { j < callers }
         ensures value { result.now ≡ calls_of self.now j }
         ensures most { length result.now ≤ most_calls }
-        ensures threads { length self.now ≡ 4 }
+        ensures threads { length self.now ≡ callers }
     {
         match j {
             0 => self.first.as_slice(),
@@ -121,7 +124,7 @@ impl Calls {
     pub fn count_on(&self, c: u32) -> usize
         ensures value { result ≡ calls_on self.now c }
         ensures most { result ≤ most_calls }
-        ensures threads { length self.now ≡ 4 }
+        ensures threads { length self.now ≡ callers }
     {
         count_of(self.first.as_slice(), c)
             + count_of(self.second.as_slice(), c)
@@ -131,7 +134,7 @@ impl Calls {
 
     /// The most calls that a thread makes.
     pub(crate) fn longest(&self) -> u32
-        ensures longest { (j : ℕ) → j < 4 → length (calls_of self.now j) ≤ result }
+        ensures longest { (j : ℕ) → j < callers → length (calls_of self.now j) ≤ result }
         ensures most { result ≤ most_calls }
     {
         self.len(0)

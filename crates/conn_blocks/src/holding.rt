@@ -10,6 +10,7 @@ ghost use Rattle.perimeter_core.specs.declared.entries.Act.TheVariants as Act;
 ghost use Rattle.conn_classifier.specs.Plan.{items_in};
 ghost use Rattle.conn_blocks.specs.declared.stages.Stage.TheVariants as Stage;
 ghost use Rattle.conn_blocks.specs.CallLists.{calls_of};
+ghost use Rattle.conn_blocks.specs.Limits.{callers};
 ghost use Rattle.conn_blocks.specs.ServeOrder.{IsActOf, IsCallOn};
 ghost use Rattle.perimeter_core.specs.Deeds.{feed_numbers};
 ghost use Rattle.conn_blocks.specs.Orders.{call_numbers, numbers_from, numbers_on};
@@ -102,7 +103,7 @@ impl Block {
 
     /// Whether all calls of thread `j` on connection `c` with a smaller number than `k` were made.
     fn is_next(&self, calls: &Calls, c: u32, j: u32, k: u32) -> bool
-        requires thread { j < 4 }
+        requires thread { j < callers }
         requires call { k < length (calls_of calls.now j) }
         requires table { (i : ℕ) → i < length (calls_of calls.now j) → 4 * i + j < length self.now.stages }
         ensures { result ≡ all_made self.now.stages j (numbers_from 0 c (take k (calls_of calls.now j))) }
@@ -126,7 +127,7 @@ impl Block {
         from: u32,
     )
         requires conn { c < length plan.now.tuples }
-        requires thread { j < 4 }
+        requires thread { j < callers }
         requires settled { IsSettled plan.now calls.now c self.old }
         requires next { numbers_on calls.now c j ≡ call_numbers j self.old.order ++ numbers_from from c (drop from (calls_of calls.now j)) }
         ensures order { self.new.order ≡ self.old.order

@@ -11,6 +11,7 @@ ghost use Rattle.conn_classifier.specs.Plan.{PlanOf, items_in};
 ghost use Rattle.tcb_machine.specs.declared.kinds.Call.{Call};
 ghost use Rattle.conn_blocks.specs.Allowed.{all_calls};
 ghost use Rattle.conn_blocks.specs.CallLists.{CallLists, call_at, calls_of};
+ghost use Rattle.conn_blocks.specs.Limits.{callers};
 ghost use Rattle.conn_blocks.specs.Orders.{is_held, numbers_on, settle, IsAll, IsWhole};
 ghost use Rattle.conn_blocks.specs.ServeOrder.{serve, serving_of, BlockOf};
 ghost use Rattle.conn_blocks.specs.Holding.{is_held_back, stage_at, HasFirstCalls, IsNew, StandsFor};
@@ -37,7 +38,7 @@ pub fn a_new_block_stands_for_no_acts()
 /// What a block has had fixes its order: what settling keeps. It holds back the calls that came and weren't kept.
 pub fn a_block_holds_back_what_settling_holds()
     ensures order { (p : PlanOf) (calls : CallLists) (c : ℕ) (came : List Act) (b : BlockOf) → StandsFor p calls c came b → b.order ≡ settle calls c came }
-    ensures held { (p : PlanOf) (calls : CallLists) (c : ℕ) (came : List Act) (b : BlockOf) (j k : ℕ) → StandsFor p calls c came b → j < 4
+    ensures held { (p : PlanOf) (calls : CallLists) (c : ℕ) (came : List Act) (b : BlockOf) (j k : ℕ) → StandsFor p calls c came b → j < callers
         → k < length (calls_of calls j) → is_held_back (stage_at b.stages j k) ≡ is_held came (settle calls c came) j k }
     ensures served { (p : PlanOf) (calls : CallLists) (c : ℕ) (came : List Act) (b : BlockOf) → StandsFor p calls c came b → b.short ≡ false
         → serving_of b ≡ serve p calls c (settle calls c came) }

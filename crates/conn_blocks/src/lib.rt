@@ -16,6 +16,6 @@ mod tests;
 
 pub use block::{Block, serve_one};
 pub use blocks::Blocks;
-pub use calls::Calls;
+pub use calls::{Calls, MOST_CALLS};
 pub use facts::Origin;
 pub use perimeter_core::Act;

@@ -10,12 +10,10 @@ use crate::acting::Datagram;
 use crate::server::Server;
 use byteorder::{BigEndian, ByteOrder};
 use std::alloc::{AllocError, Global};
+use tcb_machine::LAST_TIME;
 
 /// The most bytes of a datagram.
 const MOST_BODY: u64 = 65_535;
-
-/// The last time that a server is given, in microseconds.
-pub const LAST_TIME: u64 = 1 << 62;
 
 /// The bytes of a frame before its body.
 pub const FRAME_HEAD: usize = 16;

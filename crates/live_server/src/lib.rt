@@ -11,7 +11,7 @@ mod laws;
 mod server;
 
 pub use acting::Datagram;
-pub use frames::{FRAME_HEAD, LAST_TIME, is_broken, serve_frames};
+pub use frames::{FRAME_HEAD, is_broken, serve_frames};
 pub use initial::Secret;
 pub use laws::{only_idle_leave, others_stay, own_block_acts, pieces_join};
 pub use server::Server;

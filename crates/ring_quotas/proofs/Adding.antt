@@ -19,6 +19,7 @@ use Rattle.conn_blocks.specs.Allowed.{all_calls}
 use Rattle.conn_blocks.specs.CallLists.{CallLists, call_at}
 use Rattle.conn_blocks.specs.Homes.{home, leaves_after, times_leaving}
 use Rattle.conn_blocks.proofs.Named.{call_is_named}
+use Rattle.ring_quotas.specs.Limits.{most_ring_asks, most_ring_feeds}
 use Rattle.ring_quotas.specs.Quotas.{caller_asks, comes_after, feeds_at, quotas_of, ring_asks, ring_feeds, times_coming}
 use Rattle.ring_quotas.proofs.Moving.{range_more, tally_most}
 use Rattle.squeue_rings.proofs.Slots.{take_one}
@@ -137,7 +138,7 @@ pub fed_as : {s t p r i n l : ℕ} (q c : ℕ) → s ≡ t → p ≡ r → i ≡
 fed_as q c a b d e = e ∙ (λ j. feeds_at (a j) (b j) q c (d j))
 
 -- what one more connection adds fits, and so does the whole
-module _ (p : PlanOf) (few : items_together p ≤ 2101248) (listed : length p.items ≡ length p.tuples) (s spread q rings r : ℕ) where
+module _ (p : PlanOf) (few : items_together p ≤ most_ring_feeds) (listed : length p.items ≡ length p.tuples) (s spread q rings r : ℕ) where
   abbrev pub fed : ℕ → ℕ
   fed c = feeds_at s spread q c (length (items_in p c))
 
@@ -156,10 +157,10 @@ module _ (p : PlanOf) (few : items_together p ≤ 2101248) (listed : length p.it
   come_most : (c : ℕ) → come c ≤ length (items_in p c)
   come_most c = let t = tally_most (comes_after s spread q c) (length (items_in p c) - 1) in omega (arith, t)
 
-  pub few_feeds : (m : ℕ) → m ≤ length p.tuples → sum_of fed (λ c. c % rings == r) 0 m ≤ 2101248
+  pub few_feeds : (m : ℕ) → m ≤ length p.tuples → sum_of fed (λ c. c % rings == r) 0 m ≤ most_ring_feeds
   few_feeds m le = let a = at_most p listed (λ c. c % rings == r) m le fed fed_most in omega (arith, a, few)
 
-  pub few_asks : (m : ℕ) → m ≤ length p.tuples → sum_of (λ c. left c + come c) (λ c. c % rings == r) 0 m ≤ 4202496
+  pub few_asks : (m : ℕ) → m ≤ length p.tuples → sum_of (λ c. left c + come c) (λ c. c % rings == r) 0 m ≤ most_ring_asks
   few_asks m le = let a = twice_at_most p listed (λ c. c % rings == r) m le left come left_most come_most in omega (arith, a, few)
 
 -- one quota more, and what it adds

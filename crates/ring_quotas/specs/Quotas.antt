@@ -7,14 +7,16 @@ use Rattle.conn_classifier.specs.Plan.{PlanOf, items_in}
 use Rattle.conn_blocks.specs.Allowed.{limits_in}
 use Rattle.conn_blocks.specs.CallLists.{CallLists, calls_of}
 use Rattle.conn_blocks.specs.Homes.{home, times_leaving}
+use Rattle.conn_blocks.specs.Limits.{callers}
+use Rattle.ring_quotas.specs.Limits.{most_rings, most_spread, most_squeues}
 use Rattle.ring_quotas.specs.declared.setup.Setup.{Setup}
 
 -- the numbers of a setup are those that it may have
 pub record IsInRange (s : Setup) : Type 0 where
-  pub squeues : (1 ≤ s.squeues) × (s.squeues ≤ 16)
-  pub rings : (1 ≤ s.rings) × (s.rings ≤ 8)
+  pub squeues : (1 ≤ s.squeues) × (s.squeues ≤ most_squeues)
+  pub rings : (1 ≤ s.rings) × (s.rings ≤ most_rings)
   pub budget : 1 ≤ s.budget
-  pub spread : s.spread ≤ 65535
+  pub spread : s.spread ≤ most_spread
 
 -- whether connection c comes to squeue k between its feed n and the next one
 abbrev pub comes_after : ℕ → ℕ → ℕ → ℕ → ℕ → Bool
@@ -51,7 +53,7 @@ module _ (p : PlanOf) (calls : CallLists) (squeues spread q : ℕ) where
 abbrev pub quotas_of : PlanOf → CallLists → ℕ → ℕ → ℕ → ℕ → List (ℕ × ℕ)
 quotas_of p calls squeues rings spread q =
     map (λ r. (ring_feeds p squeues rings spread q r, ring_asks p squeues rings spread q r)) (range_with_len 0 rings)
-    ++ map (λ j. (0, caller_asks p calls squeues spread q j)) (range_with_len 0 4)
+    ++ map (λ j. (0, caller_asks p calls squeues spread q j)) (range_with_len 0 callers)
 
 -- how many marks the squeues make in all at most: each of them eight for each entry of its quotas, and four for each of its passes
 abbrev pub marks_most : PlanOf → CallLists → Setup → ℕ

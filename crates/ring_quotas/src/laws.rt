@@ -8,6 +8,7 @@ ghost use Rattle.conn_classifier.specs.Plan.{PlanOf, IsPlan, items_in};
 ghost use Rattle.conn_classifier.specs.RingList.{IsRingList};
 ghost use Rattle.conn_blocks.specs.Allowed.{all_calls};
 ghost use Rattle.conn_blocks.specs.CallLists.{CallLists};
+ghost use Rattle.conn_blocks.specs.Limits.{callers};
 ghost use Rattle.squeue_rings.specs.Runs.{InOrder, brought};
 ghost use Rattle.squeue_rings.specs.Rings.{MayBring};
 ghost use Rattle.squeue_rings.specs.Calling.{MayMakeEach, conns_called};
@@ -31,7 +32,7 @@ pub fn a_rings_list_may_be_brought<R: Resident>()
 
 /// An application thread may make its calls over squeues that were made with these quotas.
 pub fn a_threads_calls_may_be_made<R: Resident>()
-    ensures { (p : PlanOf) (calls : CallLists) (squeues rings spread j : ℕ) (ss : List (Named R)) → j < 4
+    ensures { (p : PlanOf) (calls : CallLists) (squeues rings spread j : ℕ) (ss : List (Named R)) → j < callers
         → All (λ call. call.0 < length p.tuples) (all_calls calls)
         → Each (IsMadeFor R.limits p calls squeues rings spread) ss → MayMakeEach R.limits j (conns_called calls j) ss }
 {}

@@ -1,10 +1,13 @@
 //! How many feeds and asks each pass of a squeue may enter.
 
-ghost use Rattle.std.specs.Prelude.{◌≡◌, ◌<◌, ◌≤◌, ◌+◌, ◌*◌, ◌^◌, All, IfOk, Some, length, slice_get};
+ghost use Rattle.std.specs.Prelude.{◌≡◌, ◌<◌, ◌≤◌, ◌+◌, ◌^◌, All, IfOk, Some, length, slice_get};
 ghost use Rattle.perimeter_core.specs.History.{all_quotas, feed_quotas};
+ghost use Rattle.squeue_state.specs.Limits.{most_asks, most_feeds};
 ghost use Rattle.squeue_state.specs.Behind.{pairs};
 ghost use Rattle.squeue_state.specs.Clauses.{ask_quotas};
 ghost use Rattle.conn_blocks.specs.Allowed.{all_calls};
+ghost use Rattle.conn_blocks.specs.Limits.{callers};
+ghost use Rattle.ring_quotas.specs.Limits.{most_caller_asks, most_ring_asks, most_ring_feeds};
 ghost use Rattle.ring_quotas.specs.Quotas.{IsInRange, caller_asks, marks_most, quotas_of, ring_asks, ring_feeds};
 
 use crate::setup::Setup;
@@ -41,9 +44,9 @@ pub fn quotas_at(
     requires squeue { q < setup.now.squeues }
     requires calls { All (λ call. call.0 < length plan.now.tuples) (all_calls calls.now) }
     ensures quotas { IfOk result (λ v. pairs v.items ≡ quotas_of plan.now calls.now setup.now.squeues setup.now.rings setup.now.spread q) }
-    ensures count { IfOk result (λ v. length v.items ≡ setup.now.rings + 4) }
-    ensures feeds { IfOk result (λ v. feed_quotas (pairs v.items) ≤ 2 ^ 30) }
-    ensures asks { IfOk result (λ v. ask_quotas (pairs v.items) ≤ 2 ^ 40) }
+    ensures count { IfOk result (λ v. length v.items ≡ setup.now.rings + callers) }
+    ensures feeds { IfOk result (λ v. feed_quotas (pairs v.items) ≤ most_feeds) }
+    ensures asks { IfOk result (λ v. ask_quotas (pairs v.items) ≤ most_asks) }
 {
     let mut quotas = Vec::with_capacity(alloc, (setup.rings + CALLERS) as usize)?;
     for pass in 0..setup.rings + CALLERS {
@@ -85,10 +88,10 @@ fn entries_most(plan: &Plan<'_>, calls: &Calls, setup: &Setup, q: u32) -> u64
 fn quota_of(plan: &Plan<'_>, calls: &Calls, setup: &Setup, pass: u32, q: u32) -> Quota
     requires range { IsInRange setup.now }
     requires squeue { q < setup.now.squeues }
-    requires pass { pass < setup.now.rings + 4 }
+    requires pass { pass < setup.now.rings + callers }
     requires calls { All (λ call. call.0 < length plan.now.tuples) (all_calls calls.now) }
     ensures value { slice_get (quotas_of plan.now calls.now setup.now.squeues setup.now.rings setup.now.spread q) pass ≡ Some (result.feeds, result.asks) }
-    ensures few { (result.feeds ≤ 2101248) × (result.asks ≤ 2147485696) }
+    ensures few { (result.feeds ≤ most_ring_feeds) × (result.asks ≤ most_caller_asks) }
 {
     if pass < setup.rings {
         ring_quota(plan, setup, pass, q)
@@ -106,7 +109,7 @@ fn ring_quota(plan: &Plan<'_>, setup: &Setup, ring: u32, q: u32) -> Quota
     requires squeue { q < setup.now.squeues }
     ensures feeds { result.feeds ≡ ring_feeds plan.now setup.now.squeues setup.now.rings setup.now.spread q ring }
     ensures asks { result.asks ≡ ring_asks plan.now setup.now.squeues setup.now.rings setup.now.spread q ring }
-    ensures few { (result.feeds ≤ 2101248) × (result.asks ≤ 4202496) }
+    ensures few { (result.feeds ≤ most_ring_feeds) × (result.asks ≤ most_ring_asks) }
 {
     plan.is_sound();
     all_items_are_few();
@@ -131,10 +134,10 @@ fn ring_quota(plan: &Plan<'_>, setup: &Setup, ring: u32, q: u32) -> Quota
 fn caller_asks(plan: &Plan<'_>, calls: &Calls, setup: &Setup, thread: u32, q: u32) -> u64
     requires range { IsInRange setup.now }
     requires squeue { q < setup.now.squeues }
-    requires thread { thread < 4 }
+    requires thread { thread < callers }
     requires calls { All (λ call. call.0 < length plan.now.tuples) (all_calls calls.now) }
     ensures value { result ≡ caller_asks plan.now calls.now setup.now.squeues setup.now.spread q thread }
-    ensures few { result ≤ 1024 * 2097154 }
+    ensures few { result ≤ most_caller_asks }
 {
     let homes = setup.homes();
     let mut asks = 0;

@@ -3,6 +3,7 @@
 ghost use Rattle.std.specs.Prelude.{◌≡◌, ◌-◌, ◌/◌, ◌<◌, ◌≤◌, ◌==◌, ◌||◌, if◌then◌else◌};
 ghost use Rattle.conn_classifier.specs.Limits.{most_items};
 ghost use Rattle.conn_blocks.specs.Homes.{times_leaving};
+ghost use Rattle.ring_quotas.specs.Limits.{most_squeues};
 ghost use Rattle.ring_quotas.specs.Quotas.{feeds_at, times_coming};
 
 use squeue_rings::Homes;
@@ -21,7 +22,7 @@ fn moves(homes: Homes, items: u32) -> u32
 /// How often connection `c`, with so many feeds, leaves squeue `q`.
 pub fn leaving(homes: Homes, c: u32, items: u32, q: u32) -> u32
     requires squeue { q < homes.squeues }
-    requires few { homes.squeues ≤ 16 }
+    requires few { homes.squeues ≤ most_squeues }
     requires items { (0 < items) × (items ≤ most_items) }
     ensures value { result ≡ times_leaving homes.squeues homes.spread q c items }
     ensures most { result ≤ items }
@@ -33,7 +34,7 @@ pub fn leaving(homes: Homes, c: u32, items: u32, q: u32) -> u32
 /// How often it comes to squeue `q`.
 pub(crate) fn coming(homes: Homes, c: u32, items: u32, q: u32) -> u32
     requires squeue { q < homes.squeues }
-    requires few { homes.squeues ≤ 16 }
+    requires few { homes.squeues ≤ most_squeues }
     requires items { (0 < items) × (items ≤ most_items) }
     ensures value { result ≡ times_coming homes.squeues homes.spread q c items }
     ensures most { result ≤ items }
@@ -44,7 +45,7 @@ pub(crate) fn coming(homes: Homes, c: u32, items: u32, q: u32) -> u32
 /// How many of its feeds are at home at squeue `q`.
 pub(crate) fn feeds(homes: Homes, c: u32, items: u32, q: u32) -> u32
     requires squeue { q < homes.squeues }
-    requires few { homes.squeues ≤ 16 }
+    requires few { homes.squeues ≤ most_squeues }
     requires items { (0 < items) × (items ≤ most_items) }
     ensures value { result ≡ feeds_at homes.squeues homes.spread q c items }
     ensures most { result ≤ items }

@@ -7,6 +7,7 @@ use Rattle.squeue_state.specs.Naming.{Named, setting_of}
 use Rattle.conn_classifier.specs.Plan.{PlanOf, items_in}
 use Rattle.conn_blocks.specs.declared.blocks.Blocks.{Blocks}
 use Rattle.conn_blocks.specs.CallLists.{CallLists}
+use Rattle.conn_blocks.specs.Limits.{callers}
 use Rattle.conn_blocks.specs.Places.{limits_of, origin_of}
 use Rattle.squeue_rings.specs.Calling.{conns_called}
 use Rattle.squeue_rings.specs.Keeping.{ArePaced}
@@ -35,4 +36,4 @@ pub record HasRun (p : PlanOf) (calls : CallLists) (setup : Setup) (front : ℕ)
   pub rings_end : (r : ℕ) → r < setup.rings → RingsEnd limits_of setup.squeues setup.spread r (lists r) ss (lent (front + r))
   pub paced : (r : ℕ) → r < setup.rings → ArePaced limits_of setup.squeues setup.spread setup.mode setup.budget r ss (lent (front + r))
   pub brought_all : (r c : ℕ) → r < setup.rings → c < length p.tuples → r ≡ c % setup.rings → brought c (lists r) ≡ length (items_in p c)
-  pub callers_end : (j : ℕ) → j < 4 → CallersEnd j (conns_called calls j) ss (lent (front + (setup.rings + j)))
+  pub callers_end : (j : ℕ) → j < callers → CallersEnd j (conns_called calls j) ss (lent (front + (setup.rings + j)))

@@ -2,6 +2,7 @@
 ghost use Rattle.std.specs.Prelude.{◌≡◌, ◌<◌, ◌+◌, All, length};
 ghost use Rattle.conn_classifier.specs.RingList.{IsRingList};
 ghost use Rattle.conn_blocks.specs.Allowed.{all_calls};
+ghost use Rattle.conn_blocks.specs.Limits.{callers};
 ghost use Rattle.conn_blocks.specs.Places.{limits_of, origin_of};
 ghost use Rattle.synch_enter.specs.Hinting.{conns_of, squeues_of};
 ghost use Rattle.squeue_serve.specs.Lending.{AreLent, lent_to, tasks_in};
@@ -44,9 +45,9 @@ pub fn run<H: Hook + Sync, W: Threads + Wait + Sync>(
     requires set { AreSet plan.now calls.now setup.now.squeues setup.now.rings setup.now.spread squeues.now }
     requires lines { AreLines (IsRingList plan.now setup.now.rings) setup.now.rings lines.now }
     requires tasks { AreTasks setup.now.rings 4 setup.now.squeues lines.now (tasks_in jobs.old) }
-    requires lent { AreLent IsNew 1 (setup.now.rings + 4) squeues.now (lent_to jobs.old) }
+    requires lent { AreLent IsNew 1 (setup.now.rings + callers) squeues.now (lent_to jobs.old) }
     ensures ran { HasRun plan.now calls.now setup.now 1 (lists_of lines.now) squeues.now (lent_to jobs.new) }
-    ensures lent { AreLent (MayEnd limits_of) 1 (setup.now.rings + 4) squeues.now (lent_to jobs.new) }
+    ensures lent { AreLent (MayEnd limits_of) 1 (setup.now.rings + callers) squeues.now (lent_to jobs.new) }
     ensures count { length jobs.new ≡ length jobs.old }
 {
     plan.is_sound();

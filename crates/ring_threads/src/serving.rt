@@ -2,6 +2,7 @@
 ghost use Rattle.std.specs.Prelude.{◌≡◌, ◌<◌, ◌≤◌, ◌+◌, [], All, IfOk, length, vec_capacity};
 ghost use Rattle.conn_classifier.specs.RingList.{IsRingList};
 ghost use Rattle.conn_blocks.specs.Allowed.{all_calls};
+ghost use Rattle.conn_blocks.specs.Limits.{callers};
 ghost use Rattle.conn_blocks.specs.Places.{limits_of};
 ghost use Rattle.synch_enter.specs.Hinting.{conns_of, squeues_of};
 ghost use Rattle.squeue_serve.specs.Places.{IsNew, MayEnd};
@@ -149,9 +150,9 @@ fn run_or_end<H: Hook + Sync, W: Threads + Wait + Sync>(
     requires few { length squeues.now ≤ setup.now.squeues }
     requires lines { AreLines (IsRingList plan.now setup.now.rings) setup.now.rings lines.now }
     requires tasks { AreTasks setup.now.rings 4 setup.now.squeues lines.now (tasks_in jobs.old.items) }
-    requires lent { AreLent IsNew 1 (setup.now.rings + 4) squeues.now (lent_to jobs.old.items) }
+    requires lent { AreLent IsNew 1 (setup.now.rings + callers) squeues.now (lent_to jobs.old.items) }
     ensures ran { IfOk made.now (λ _. HasRun plan.now calls.now setup.now 1 (lists_of lines.now) squeues.now (lent_to jobs.new.items)) }
-    ensures lent { AreLent (MayEnd limits_of) 1 (setup.now.rings + 4) squeues.now (lent_to jobs.new.items) }
+    ensures lent { AreLent (MayEnd limits_of) 1 (setup.now.rings + callers) squeues.now (lent_to jobs.new.items) }
     ensures count { length jobs.new.items ≡ length jobs.old.items }
 {
     match made {

@@ -1,13 +1,14 @@
 //! Standard input and output as a TUN device: each read is a datagram, and each write is one.
 
-ghost use Rattle.std.specs.Prelude.{◌≤◌, ◌<◌};
+ghost use Rattle.std.specs.Prelude.{◌≤◌};
 ghost use Rattle.tcb_machine.specs.Limits.{last_time};
 
-use live_server::{Datagram, LAST_TIME, Server};
+use live_server::{Datagram, Server};
 use std::alloc::{AllocError, Global};
 use std::io;
 use std::io::{Read, Write};
 use std::time::{Duration, Instant};
+use tcb_machine::LAST_TIME;
 
 /// The most bytes of a datagram.
 const MOST: usize = 65_536;

@@ -28,6 +28,7 @@ use Rattle.perimeter_core.proofs.IdleKept.{no_ask_split}
 use Rattle.perimeter_core.proofs.OwnAsk.{waits_no_more}
 use Rattle.perimeter_core.proofs.QueuedRange.{queued_range, range_right}
 use Rattle.perimeter_core.proofs.Room.{queued_fits}
+use Rattle.squeue_state.specs.Limits.{most_feeds, most_passes}
 use Rattle.perimeter_core.proofs.BehindAnAsk.{has_ask-append}
 use Rattle.squeue_state.specs.Naming.{Given, Named, Turned, Handed, setting_of}
 use Rattle.squeue_state.specs.Behind.{IsPeri}
@@ -48,7 +49,7 @@ pub begins_trans : (xs ys zs : List Element) → Begins xs ys → Begins ys zs �
 begins_trans xs ys zs a b = (a.0 ++ b.0, b.1 ∙ (ap (λ (w : List Element). w ++ b.0) a.1 ∙ append_assoc xs a.0 b.0))
 
 -- what is queued fits a number
-pub fits_numbers : {R : Type 0} (limits : R → Limits) (g : Given R) (H : List Element) → Legal (setting_of limits g) H → (length g.quotas < 64) × (feed_quotas g.quotas ≤ 2 ^ 30)
+pub fits_numbers : {R : Type 0} (limits : R → Limits) (g : Given R) (H : List Element) → Legal (setting_of limits g) H → (length g.quotas < most_passes) × (feed_quotas g.quotas ≤ most_feeds)
     → length (run (setting_of limits g) H).hand + length (run (setting_of limits g) H).chain < 2 ^ 31
 fits_numbers limits g H l few =
     let q = queued_fits (setting_of limits g) H l in

@@ -1,6 +1,7 @@
 -- The feeds that a connection has had when a stay begins are few.
 use Rattle.std.proofs.Common.{ℕ, ◌+◌, ◌-◌, ◌*◌, ◌%◌, ◌^◌, ◌<◌, ◌≤◌, ◌==◌, Bool, true, false, if◌then◌else◌, arith}
 use Rattle.std.proofs.Math.Nat.{mod-lt, mul-le-mul_left}
+use Rattle.ring_quotas.specs.Limits.{most_spread, most_squeues}
 use Rattle.squeue_replay.specs.Histories.{stay_of}
 
 stay_most : (squeues q c n : ℕ) → 0 < squeues → stay_of squeues q c n ≤ squeues * (n + 1)
@@ -10,7 +11,7 @@ stay_most squeues q c n some = at ((q + squeues - c % squeues) % squeues == 0) (
     at true lt = omega arith
     at false lt = omega (arith, lt)
 
-pub stay_fits : (squeues spread q c n : ℕ) → 0 < squeues → squeues ≤ 16 → spread ≤ 65535 → n < 2 ^ 40 → stay_of squeues q c n * spread < 2 ^ 64
+pub stay_fits : (squeues spread q c n : ℕ) → 0 < squeues → squeues ≤ most_squeues → spread ≤ most_spread → n < 2 ^ 40 → stay_of squeues q c n * spread < 2 ^ 64
 stay_fits squeues spread q c n some few small low =
     let a = stay_most squeues q c n some in
     let more : n + 1 ≤ 2 ^ 40 = omega (arith, low) in

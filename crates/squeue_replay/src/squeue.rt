@@ -5,6 +5,7 @@
 
 ghost use Rattle.std.specs.Prelude.{◌≡◌, ◌+◌, ◌<◌, All, length};
 ghost use Rattle.conn_blocks.specs.Allowed.{all_calls};
+ghost use Rattle.conn_blocks.specs.Limits.{callers};
 ghost use Rattle.ring_quotas.specs.Quotas.{IsInRange};
 
 mod entering;
@@ -64,7 +65,7 @@ pub struct Squeue<'p, 'c> {
     passes: Vec<Pass>,
     guests: Vec<Guest>,
     ghost among: { number < run.setup.squeues },
-    ghost each_pass: { length passes.items ≡ run.setup.rings + 4 },
+    ghost each_pass: { length passes.items ≡ run.setup.rings + callers },
     ghost each_guest: { length guests.items ≡ length run.plan.now.tuples },
 }
 
@@ -144,7 +145,7 @@ impl<'p, 'c> Squeue<'p, 'c> {
 
     /// The number of the worker's pass, the last one.
     fn worker(&self) -> u32
-        ensures { result ≡ self.now.run.setup.rings + 4 }
+        ensures { result ≡ self.now.run.setup.rings + callers }
     {
         self.run.setup.rings + CALLERS
     }

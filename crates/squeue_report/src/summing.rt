@@ -1,6 +1,7 @@
 //! The line that sums up a generated run.
 
 ghost use Rattle.std.specs.Prelude.{◌≡◌, ◌≤◌, ◌^◌, ◌*◌, ◌++◌, length, map, IfOk, OnOk, sum_by, string_bytes};
+ghost use Rattle.tcb_machine.specs.Limits.{most_mss};
 ghost use Rattle.conn_blocks.specs.CallLists.{CallLists};
 ghost use Rattle.ring_threads.specs.ServedBlocks.{AreServed};
 ghost use Rattle.squeue_report.specs.SummaryText.{check_of, text_size, digits_of, summary_line, summary_text};
@@ -45,7 +46,7 @@ fn totals(plan: &Plan, served: &Served) -> (u128, u128)
 /// The bytes of text in a connection's replies.
 fn octets_of(tcb: &Tcb) -> u128
     ensures value { result ≡ text_size tcb.now.replies }
-    ensures most { result ≤ 1460 * 2 ^ 64 }
+    ensures most { result ≤ most_mss * 2 ^ 64 }
 {
     let mut octets = 0u128;
     for i in 0..tcb.replies() {

@@ -13,7 +13,8 @@ use Rattle.squeue_run.specs.Input.{ReadsSuch}
 use Rattle.ring_threads.specs.Served.{ServedOf}
 use Rattle.squeue_run.specs.Asked.{Asked}
 use Rattle.squeue_run.specs.CallWords.{AllThere, IsFirstMissing}
-use Rattle.squeue_run.specs.Ran.{Accepts, AcceptsBy, HasRead, HoldsCapture, HasRan, IsDone, IsLongTrace, IsServable, RanBy, RanFor, RanGenerated, RanRead, Reads, conns_of, marks_in, most_marks}
+use Rattle.squeue_run.specs.Limits.{most_marks}
+use Rattle.squeue_run.specs.Ran.{Accepts, AcceptsBy, HasRead, HoldsCapture, HasRan, IsDone, IsLongTrace, IsServable, RanBy, RanFor, RanGenerated, RanRead, Reads, conns_of, marks_in}
 use Rattle.squeue_run.specs.declared.calls.CallWord.{CallWord}
 
 pub same_file : (f g : CaptureFile) → f.bytes ≡ g.bytes → contents_of f ≡ contents_of g → f ≡ g

@@ -1,5 +1,6 @@
 -- The setup of accepted words is in range.
 use Rattle.std.proofs.Common.{◌≡◌, ℕ, ◌≤◌, Bool, List, Option, Some, None, ap, subst, arith}
+use Rattle.ring_quotas.specs.Limits.{most_budget, most_rings, most_spread, most_squeues}
 use Rattle.ring_quotas.specs.Quotas.{IsInRange}
 use Rattle.ring_quotas.specs.declared.setup.Setup.{Setup}
 use Rattle.squeue_state.proofs.Finish.{some_is}
@@ -14,16 +15,16 @@ within default least most (Some text) n low high e = number_within least most te
 
 by_texts : (squeues rings mode budget spread : Option Text) (trace : Bool) (s : Setup) → setup_by squeues rings mode budget spread trace ≡ Some s → IsInRange s
 by_texts squeues rings mode budget spread trace s e =
-    let q = chained _ (number_or 1 1 16 squeues) s e in
-    let r = chained _ (number_or 1 1 8 rings) s q.gives in
+    let q = chained _ (number_or 1 1 most_squeues squeues) s e in
+    let r = chained _ (number_or 1 1 most_rings rings) s q.gives in
     let m = chained _ (mode_or_process mode) s r.gives in
-    let b = chained _ (number_or 64 1 65535 budget) s m.gives in
-    let d = mapped _ (number_or 0 0 65535 spread) s b.gives in
+    let b = chained _ (number_or 64 1 most_budget budget) s m.gives in
+    let d = mapped _ (number_or 0 0 most_spread spread) s b.gives in
     subst IsInRange d.gives (record {
-      squeues = within 1 1 16 squeues q.value (omega arith) (omega arith) q.found;
-      rings = within 1 1 8 rings r.value (omega arith) (omega arith) r.found;
-      budget = (within 64 1 65535 budget b.value (omega arith) (omega arith) b.found).0;
-      spread = (within 0 0 65535 spread d.value (omega arith) (omega arith) d.found).1;
+      squeues = within 1 1 most_squeues squeues q.value (omega arith) (omega arith) q.found;
+      rings = within 1 1 most_rings rings r.value (omega arith) (omega arith) r.found;
+      budget = (within 64 1 most_budget budget b.value (omega arith) (omega arith) b.found).0;
+      spread = (within 0 0 most_spread spread d.value (omega arith) (omega arith) d.found).1;
     })
 
 pub setup_in_range : (words : List Text) (a : Asked) → asked words ≡ Some a → IsInRange a.setup

@@ -6,6 +6,7 @@ use Rattle.std.specs.Str.{bytes_eq}
 use Rattle.std.proofs.lemmas.Bool.{eqb-true, or_parts}
 use Rattle.std.proofs.lemmas.List.{take-append-drop}
 use Rattle.std.proofs.lemmas.Slice.Eq.{bytes_eq-Decides}
+use Rattle.ring_quotas.specs.Limits.{most_budget, most_rings, most_spread, most_squeues}
 use Rattle.ring_quotas.specs.declared.setup.Setup.{Setup}
 use Rattle.squeue_state.proofs.Finish.{some_is}
 use Rattle.squeue_run.specs.Asked.{Asked, asked, asked_by, calls_of, go_together, input_of, mode_or_process, number_or, setup_by, setup_of}
@@ -129,12 +130,12 @@ no_spread (word ∷ rest) waiting us none waits e =
 -- without a text the spread is 0
 by_texts : (squeues rings mode budget spread : Option Text) (trace : Bool) (s : Setup) → spread ≡ None → setup_by squeues rings mode budget spread trace ≡ Some s → s.spread ≡ 0
 by_texts squeues rings mode budget spread trace s none e =
-    let q = chained _ (number_or 1 1 16 squeues) s e in
-    let r = chained _ (number_or 1 1 8 rings) s q.gives in
+    let q = chained _ (number_or 1 1 most_squeues squeues) s e in
+    let r = chained _ (number_or 1 1 most_rings rings) s q.gives in
     let m = chained _ (mode_or_process mode) s r.gives in
-    let b = chained _ (number_or 64 1 65535 budget) s m.gives in
-    let d = mapped _ (number_or 0 0 65535 spread) s b.gives in
-    let zero_is : 0 ≡ d.value = some_is (sym (ap (number_or 0 0 65535) none) ∙ d.found) in
+    let b = chained _ (number_or 64 1 most_budget budget) s m.gives in
+    let d = mapped _ (number_or 0 0 most_spread spread) s b.gives in
+    let zero_is : 0 ≡ d.value = some_is (sym (ap (number_or 0 0 most_spread) none) ∙ d.found) in
     sym (zero_is ∙ ap (λ (t : Setup). t.spread) d.gives)
 
 pub no_spread_asked : (words : List Text) (a : Asked) → list_any begins_so words ≡ false → asked words ≡ Some a → a.setup.spread ≡ 0

@@ -6,6 +6,7 @@ use Rattle.std.proofs.lemmas.List.{map-append}
 use Rattle.std.proofs.lemmas.List.Elements.{filter-append}
 use Rattle.tcb_machine.specs.declared.kinds.Call.{Call}
 use Rattle.conn_blocks.specs.CallLists.{calls_of as list_of, call_count}
+use Rattle.conn_blocks.specs.Limits.{callers, most_calls}
 use Rattle.squeue_state.proofs.Finish.{some_is}
 use Rattle.squeue_run.specs.Words.{Text, given}
 use Rattle.squeue_run.specs.Asked.{Asked, asked, asked_by, calls_of, call_of, call_by, asked_of, number_between, go_together, input_of, setup_of, split_at}
@@ -14,7 +15,7 @@ use Rattle.squeue_run.specs.declared.calls.CallWord.{CallWord}
 use Rattle.squeue_run.proofs.Chains.{chained, mapped, guarded, number_within}
 use Rattle.squeue_run.proofs.Uses.{and_left}
 
-call_thread : (thread connection what : Text) (w : CallWord) → call_by thread connection what ≡ Some w → w.thread < 4
+call_thread : (thread connection what : Text) (w : CallWord) → call_by thread connection what ≡ Some w → w.thread < callers
 call_thread thread connection what w e =
     let g = guarded (length thread == 1) _ w e in
     let j = chained _ (number_between 0 3 thread) w g.1 in
@@ -24,7 +25,7 @@ call_thread thread connection what w e =
     let same : j.value ≡ w.thread = ap (λ (v : CallWord). v.thread) m.gives in
     omega (arith, most, same)
 
-word_thread : (text : Text) (w : CallWord) → call_of text ≡ Some w → w.thread < 4
+word_thread : (text : Text) (w : CallWord) → call_of text ≡ Some w → w.thread < callers
 word_thread text w e =
     let first = chained _ (split_at 58 text) w e in
     let second = chained _ (split_at 58 first.value.1) w first.gives in
@@ -32,7 +33,7 @@ word_thread text w e =
 
 pub record FewCalls (texts : List Text) (ws : List CallWord) : Type 0 where
   pub count : length ws ≡ length texts
-  pub threads : AllByRecursion (λ w. w.thread < 4) ws
+  pub threads : AllByRecursion (λ w. w.thread < callers) ws
 
 few_calls : (texts : List Text) (ws : List CallWord) → calls_of texts ≡ Some ws → FewCalls texts ws
 few_calls [] ws e = subst (FewCalls []) (some_is e) (record { count = refl; threads = tt })
@@ -43,8 +44,8 @@ few_calls (t ∷ ts) ws e =
     subst (FewCalls (t ∷ ts)) more.gives (record { count = ap suc rest.count; threads = (word_thread t one.value one.found, rest.threads) })
 
 pub record Few (ws : List CallWord) : Type 0 where
-  pub count : length ws ≤ 1024
-  pub threads : AllByRecursion (λ w. w.thread < 4) ws
+  pub count : length ws ≤ most_calls
+  pub threads : AllByRecursion (λ w. w.thread < callers) ws
 
 pub few_asked : (words : List Text) (a : Asked) → asked words ≡ Some a → Few a.calls
 few_asked words a e =
@@ -55,7 +56,7 @@ few_asked words a e =
     let m = mapped _ (calls_of g.value.calls) a c.1 in
     let few = few_calls g.value.calls m.value m.found in
     let same : m.value ≡ a.calls = ap (λ (b : Asked). b.calls) m.gives in
-    let most = leb-true (length g.value.calls) 1024 (and_left _ _ c.0) in
+    let most = leb-true (length g.value.calls) most_calls (and_left _ _ c.0) in
     subst Few same (record { count = omega (arith, few.count, most); threads = few.threads })
 
 -- a filter of one element
@@ -103,7 +104,7 @@ module _ (ws : List CallWord) (w : CallWord) where
   fourth : w.thread ≡ 3 → Pushes 3
   fourth e = (λ k. theirs 0 (apart 3 0 e refl) k ∷ theirs 1 (apart 3 1 e refl) k ∷ theirs 2 (apart 3 2 e refl) k ∷ own 3 e k ∷ [])
 
-  pub lists_push : w.thread < 4 → Pushes w.thread
+  pub lists_push : w.thread < callers → Pushes w.thread
   lists_push lt = by (cases_lt w.thread 1) (cases_lt w.thread 2) (cases_lt w.thread 3)
     where
       by : (w.thread < 1) ⊎ (1 ≤ w.thread) → (w.thread < 2) ⊎ (2 ≤ w.thread) → (w.thread < 3) ⊎ (3 ≤ w.thread) → Pushes w.thread
@@ -129,7 +130,7 @@ lists_count (w ∷ ws) = by (w.thread == 0) (w.thread == 1) (w.thread == 2) (w.t
     by false false false false ea eb ec ed h = rw (ea, eb, ec, ed) (omega (arith, h))
 
 -- a CALL of the words has a thread
-pub thread_at : (ws : List CallWord) (i : ℕ) (d : CallWord) → AllByRecursion (λ w. w.thread < 4) ws → i < length ws → (get_or ws i d).thread < 4
+pub thread_at : (ws : List CallWord) (i : ℕ) (d : CallWord) → AllByRecursion (λ w. w.thread < callers) ws → i < length ws → (get_or ws i d).thread < callers
 thread_at [] i d all lt = absurd (omega (arith, lt))
 thread_at (w ∷ ws) zero d all lt = all.0
 thread_at (w ∷ ws) (suc i) d all lt = thread_at ws i d all.1 (omega (arith, lt))

@@ -6,6 +6,8 @@ use Rattle.std.specs.Str.{bytes_eq}
 use Rattle.std.specs.Char.{is_ascii_digit}
 use Rattle.std.specs.Str.Parse.{digits_value}
 use Rattle.squeue_run.specs.Words.{Text, Given, given}
+use Rattle.conn_blocks.specs.Limits.{most_calls}
+use Rattle.ring_quotas.specs.Limits.{most_budget, most_rings, most_spread, most_squeues}
 use Rattle.ring_quotas.specs.declared.setup.Setup.{Setup}
 use Rattle.squeue_enter.specs.declared.Mode.{Mode}
 use Rattle.squeue_enter.specs.declared.Mode.TheVariants as mode
@@ -71,7 +73,8 @@ abbrev pub setup_by : Option Text → Option Text → Option Text → Option Tex
 setup_by squeues rings mode budget spread trace =
     option_and_then (λ q. option_and_then (λ r. option_and_then (λ m. option_and_then (λ b. option_map (λ s.
     record { squeues = q; rings = r; mode = m; budget = b; spread = s; trace = trace })
-    (number_or 0 0 65535 spread)) (number_or 64 1 65535 budget)) (mode_or_process mode)) (number_or 1 1 8 rings)) (number_or 1 1 16 squeues)
+    (number_or 0 0 most_spread spread)) (number_or 64 1 most_budget budget)) (mode_or_process mode)) (number_or 1 1 most_rings rings))
+    (number_or 1 1 most_squeues squeues)
 
 abbrev pub setup_of : Given → Option Setup
 setup_of g = setup_by g.squeues g.rings g.mode g.budget g.spread g.trace
@@ -83,7 +86,7 @@ input_of (Some text) = option_map (λ n. Some n) (number_between 0 4294967295 te
 
 -- at most 1,024 CALLs; and beside a generated input none, and no trace
 abbrev pub go_together : Option ℕ → Bool → List Text → Bool
-go_together input trace calls = nat_le (length calls) 1024 && not (is_some input && (trace || nat_lt 0 (length calls)))
+go_together input trace calls = nat_le (length calls) most_calls && not (is_some input && (trace || nat_lt 0 (length calls)))
 
 -- what accepted words ask for: the CALLs are in word order
 pub record Asked : Type 0 where

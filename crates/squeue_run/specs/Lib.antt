@@ -3,6 +3,7 @@ pub mod Command
 pub mod Words
 pub mod Asked
 pub mod CallWords
+pub mod Limits
 pub mod Lines
 pub mod GeneratedCapture
 pub mod GeneratorState

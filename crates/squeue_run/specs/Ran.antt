@@ -18,6 +18,7 @@ use Rattle.squeue_run.specs.CallWords.{AllThere, IsFirstMissing, lists_of}
 use Rattle.squeue_run.specs.Input.{ReadsSuch}
 use Rattle.pcapng_reader.specs.Input.{IsInput, IsRefusedCapture, IsRefusedPcapng}
 use Rattle.squeue_run.specs.Output.{IsReport, IsSummary}
+use Rattle.squeue_run.specs.Limits.{most_marks}
 use Rattle.squeue_run.specs.Lines.{sqrun, usage_line, memory_line, read_line, write_line, bad_line, pcapng_line}
 use Rattle.squeue_run.specs.Lines.{many_bytes_line, many_records_line, many_marks_line, missing_line}
 
@@ -78,10 +79,6 @@ HandsBack back _ = back ≡ None
 -- how many connections the capture has
 abbrev pub conns_of : CaptureFile → Bool → ℕ
 conns_of file verify = length (plan_of file verify).tuples
-
--- the most marks that a traced run may make
-abbrev pub most_marks : ℕ
-most_marks = 67108864
 
 -- how many marks the squeues of a run over this capture make at most
 abbrev pub marks_in : CaptureFile → Asked → ℕ

@@ -3,6 +3,7 @@
 ghost use Rattle.std.specs.Prelude.{◌≡◌, ◌<◌, ◌≤◌, None, Some, Err, IfOk, map, length};
 ghost use Rattle.std.specs.List.{AllByRecursion};
 ghost use Rattle.std.specs.String.{string_bytes};
+ghost use Rattle.conn_blocks.specs.Limits.{callers, most_calls};
 ghost use Rattle.ring_quotas.specs.Quotas.{IsInRange};
 ghost use Rattle.squeue_run.specs.Asked.{asked};
 ghost use Rattle.squeue_run.specs.CallWords.{lists_of};
@@ -57,8 +58,8 @@ pub fn read_words(alloc: Global, words: &[String]) -> Result<Words, WordFault>
 
 /// The CALLs by thread.
 fn lists_in(alloc: Global, named: &[CallWord]) -> Result<Calls, AllocError>
-    requires few { length named.now ≤ 1024 }
-    requires threads { AllByRecursion (λ w. w.thread < 4) named.now }
+    requires few { length named.now ≤ most_calls }
+    requires threads { AllByRecursion (λ w. w.thread < callers) named.now }
     ensures { IfOk result (λ calls. calls ≡ lists_of named.now) }
 {
     let mut calls = Calls::make(alloc);

@@ -13,7 +13,8 @@ ghost use Rattle.ring_threads.specs.ServedBlocks.{AreServed};
 ghost use Rattle.squeue_report.specs.ReportText.{report_text};
 ghost use Rattle.squeue_report.specs.TraceText.{trace_text};
 ghost use Rattle.squeue_run.specs.Output.{IsSummary};
-ghost use Rattle.squeue_run.specs.Ran.{HasRan, Accepts, IsDone, most_marks};
+ghost use Rattle.squeue_run.specs.Limits.{most_marks};
+ghost use Rattle.squeue_run.specs.Ran.{HasRan, Accepts, IsDone};
 ghost use Rattle.squeue_run.specs.Causes.{Gives, Fails, GivesBy, FailsBy, Replays, ReplayFails, GeneratedFails, asked_by_words};
 
 use crate::calls::CallWord;

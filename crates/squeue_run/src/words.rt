@@ -12,11 +12,10 @@ use crate::command::parse;
 use crate::numbers::{mode_or_process, number_between, number_or};
 use clap::ArgMatches;
 use clap::error::ErrorKind;
+use conn_blocks::MOST_CALLS;
 use ring_quotas::Setup;
 use std::alloc::Global;
 use thiserror::Error;
-
-const MOST_CALLS: usize = 1024;
 
 /// What the words ask for: the setup, whether checksums decide, the number of a generated input, and the CALLs in word order.
 #[derive(Debug, Drop)]

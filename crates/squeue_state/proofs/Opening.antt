@@ -1,6 +1,6 @@
 -- What lies behind the gate of a new squeue stands for the empty history.
 use mathlib.Core.Path.{fun_ext}
-use Rattle.std.proofs.Common.{◌≡◌, ◌+◌, ◌*◌, ◌<◌, ◌≤◌, ◌^◌, if◌then◌else◌, ℕ, Bool, true, false, Option, Some, None, List, [], length, map, get_or, ap, sym, ◌∙◌, subst, refl, arith}
+use Rattle.std.proofs.Common.{◌≡◌, ◌+◌, ◌*◌, ◌<◌, ◌≤◌, if◌then◌else◌, ℕ, Bool, true, false, Option, Some, None, List, [], length, map, get_or, ap, sym, ◌∙◌, subst, refl, arith}
 use Rattle.std.specs.Prelude.{replicate, is_some, vec_capacity}
 use Rattle.perimeter_core.specs.declared.resident.Resident.{Ghosts}
 use Rattle.perimeter_core.specs.declared.entries.Act.{Act}
@@ -9,6 +9,7 @@ use Rattle.perimeter_core.specs.History.{Limits, all_quotas, feed_quotas}
 use Rattle.perimeter_core.specs.Blocks.{Blocks, peri}
 use Rattle.squeue_state.specs.Told.{Traced, mark_of}
 use Rattle.squeue_state.specs.declared.inner.Inner.{Inner}
+use Rattle.squeue_state.specs.Limits.{most_asks, most_entries, most_feeds, most_passes, most_quotas}
 use Rattle.squeue_state.specs.Naming.{Given, setting_of}
 use Rattle.squeue_state.specs.Behind.{Behind, Noted, HasEmpty, room_of}
 use Rattle.squeue_state.specs.Clauses.{StandsEmpty, ask_quotas}
@@ -30,7 +31,7 @@ both_none false xs = refl
 
 module _ {R P O : Type 0} (G : Ghosts R P O) where
   pub opens : (g : Given R) (i : Inner R) (r : R) (qs : List (ℕ × ℕ)) → g.quotas ≡ qs → g.first ≡ r → length g.starts ≡ G.size r → ((blocks : Blocks) (c : ℕ) → G.stands r blocks → get_or g.starts c false ≡ is_some (blocks c))
-      → StandsEmpty (G.stands r) → length qs ≤ 63 → feed_quotas qs ≤ 2 ^ 30 → ask_quotas qs ≤ 2 ^ 40
+      → StandsEmpty (G.stands r) → length qs ≤ most_quotas → feed_quotas qs ≤ most_feeds → ask_quotas qs ≤ most_asks
       → i.own ≡ Free → i.chain.items ≡ [] → i.wake ≡ false → i.polling ≡ false → i.here.items ≡ g.starts → i.closed.items ≡ replicate (length qs + 1) false → i.resident ≡ Some r → HasEmpty (room_of qs) i.spare → room_of qs ≡ vec_capacity i.chain
       → Behind G g i []
   opens g i r qs is first conns here new few feeds asks own chain wake polling flags closed resident spare room =
@@ -46,7 +47,7 @@ module _ {R P O : Type 0} (G : Ghosts R P O) where
         resident = rw (own, resident) (record { stands_for = subst (G.stands r) same new.1; same_limits = ap G.limits (sym first); same_size = sym conns; same_origin = ap G.origin (sym first) });
         spare = rw own (subst (λ (q : List (ℕ × ℕ)). HasEmpty (room_of q) i.spare) (sym is) spare);
         room = subst (λ (q : List (ℕ × ℕ)). room_of q ≡ vec_capacity i.chain) (sym is) room;
-        few = subst (λ (q : List (ℕ × ℕ)). (all_quotas q ≤ 2 ^ 41) × (length q < 64) × (feed_quotas q ≤ 2 ^ 30)) (sym is) (let both = all_both qs in omega (arith, both, feeds, asks), omega (arith, few), feeds);
+        few = subst (λ (q : List (ℕ × ℕ)). (all_quotas q ≤ most_entries) × (length q < most_passes) × (feed_quotas q ≤ most_feeds)) (sym is) (let both = all_both qs in omega (arith, both, feeds, asks), omega (arith, few), feeds);
       }
 
 pub notes_none : {R : Type 0} (g : Given R) (kept : Bool) (t : Traced) (qs : List (ℕ × ℕ)) → g.quotas ≡ qs → g.traced ≡ kept → t.marks ≡ [] → t.entries ≡ []

@@ -1,5 +1,5 @@
 -- The value behind a gate stands for a legal history.
-use Rattle.std.specs.Prelude.{◌≡◌, ◌<◌, ◌≤◌, ◌+◌, ◌*◌, ◌^◌, ℕ, Bool, if◌then◌else◌, Option, Some, None, List, [], map, length, vec_capacity}
+use Rattle.std.specs.Prelude.{◌≡◌, ◌<◌, ◌≤◌, ◌+◌, ◌*◌, ℕ, Bool, if◌then◌else◌, Option, Some, None, List, [], map, length, vec_capacity}
 use Rattle.std.specs.Prelude.{Vec}
 use Rattle.perimeter_core.specs.declared.resident.Resident.{Ghosts}
 use Rattle.perimeter_core.specs.declared.entries.Entry.{Entry}
@@ -14,6 +14,7 @@ use Rattle.perimeter_core.specs.Blocks.{Blocks, peri}
 use Rattle.squeue_state.specs.declared.inner.Inner.{Inner}
 use Rattle.squeue_state.specs.declared.guarded.Guarded.{Guarded}
 use Rattle.squeue_state.specs.declared.guarded.Quota.{Quota}
+use Rattle.squeue_state.specs.Limits.{most_entries, most_feeds, most_passes}
 use Rattle.squeue_state.specs.Told.{Traced, marks_of}
 use Rattle.perimeter_core.specs.Deeds.{entered}
 use Rattle.squeue_state.specs.Naming.{Given, setting_of}
@@ -81,7 +82,7 @@ module _ {R P O : Type 0} (G : Ghosts R P O) where
     pub resident : Lies G g i.own i.resident (peri (setting_of G.limits g) H)
     pub spare : Spare (room_of g.quotas) i.own i.spare
     pub room : room_of g.quotas ≡ vec_capacity i.chain
-    pub few : (all_quotas g.quotas ≤ 2 ^ 41) × (length g.quotas < 64) × (feed_quotas g.quotas ≤ 2 ^ 30)
+    pub few : (all_quotas g.quotas ≤ most_entries) × (length g.quotas < most_passes) × (feed_quotas g.quotas ≤ most_feeds)
 
 -- The marks of the history are kept where that was asked for, with room for just all that may come
 pub record Noted {R : Type 0} (g : Given R) (traced : Bool) (t : Traced) (H : List Element) : Type 0 where

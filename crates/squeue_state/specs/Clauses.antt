@@ -1,5 +1,5 @@
 -- The clauses of a squeue's calls.
-use Rattle.std.specs.Prelude.{Bool, false, ◌≡◌, ◌<◌, ◌≤◌, ◌^◌, ◌+◌, ℕ, Option, Some, None, is_some, List, [], ◌∷◌, ◌++◌, length, slice_index_or}
+use Rattle.std.specs.Prelude.{Bool, false, ◌≡◌, ◌<◌, ◌≤◌, ◌+◌, ℕ, Option, Some, None, is_some, List, [], ◌∷◌, ◌++◌, length, slice_index_or}
 use Rattle.turn_gate.specs.History.{Begins, only}
 use Rattle.turn_gate.specs.Passes.{IsPassOf, freed_once, turns_of, waited, number, seen, mine, steps}
 use Rattle.turn_gate.specs.Helds.{IsHeldOf, held_number, held_seen, held_mine, held_steps, held_value}
@@ -18,6 +18,7 @@ use Rattle.perimeter_core.specs.Blocks.{Blocks, peri, with_feeds, with_act}
 use Rattle.perimeter_core.specs.declared.entries.Entry.{Entry}
 use Rattle.perimeter_core.specs.declared.entries.Entry.TheVariants as Entry'
 use Rattle.squeue_state.specs.declared.kind.Kind.{Kind}
+use Rattle.squeue_state.specs.Limits.{most_feeds, most_passes}
 use Rattle.squeue_state.specs.declared.guarded.Guarded.{Guarded}
 use Rattle.squeue_state.specs.Naming.{Given, Named, Turned, Handed, setting_of}
 use Rattle.squeue_state.specs.Behind.{given_of, Behind, Noted, room_of}
@@ -48,7 +49,7 @@ pub record Found {R : Type 0} (limits : R → Limits) (s : Named R) (p : Pass El
   pub own : only number_of u.number u.found ≡ u.mine
   pub no_turn_yet : waited (steps p) u.made
   -- so what is queued can be counted in 32 bits
-  pub few : (length s.given.quotas < 64) × (feed_quotas s.given.quotas ≤ 2 ^ 30)
+  pub few : (length s.given.quotas < most_passes) × (feed_quotas s.given.quotas ≤ most_feeds)
 
 -- the pass afterwards has seen what the turn found and then the element, and made one more step, which freed the lock
 pub record Marked {R : Type 0} (u : Turned R) (e : Element) (p : Pass Element) : Type 0 where

@@ -1,9 +1,10 @@
 //! The room that a squeue takes when it is made, and buffers that never grow.
-ghost use Rattle.std.specs.Prelude.{◌≡◌, ℕ, ◌+◌, ◌*◌, ◌<◌, ◌≤◌, ◌^◌, ◌++◌, length, drop};
+ghost use Rattle.std.specs.Prelude.{◌≡◌, ℕ, ◌+◌, ◌*◌, ◌≤◌, ◌++◌, length, drop};
 ghost use Rattle.std.specs.Prelude.{replicate, false, slice_index_or, is_some, vec_len, vec_capacity, IfOk};
 ghost use Rattle.perimeter_core.specs.Deeds.{entries};
 ghost use Rattle.perimeter_core.specs.History.{all_quotas, feed_quotas};
 ghost use Rattle.perimeter_core.specs.Blocks.{Blocks};
+ghost use Rattle.squeue_state.specs.Limits.{most_asks, most_feeds, most_quotas};
 ghost use Rattle.squeue_state.specs.Behind.{pairs, room_of};
 ghost use Rattle.squeue_state.specs.Clauses.{ask_quotas};
 
@@ -56,9 +57,9 @@ pub(crate) struct Room {
 
 /// The room that these quotas need.
 pub(crate) fn room_for(quotas: &[Quota]) -> Room
-    requires few { length quotas.now ≤ 63 }
-    requires feeds { feed_quotas (pairs quotas.now) ≤ 2 ^ 30 }
-    requires asks { ask_quotas (pairs quotas.now) ≤ 2 ^ 40 }
+    requires few { length quotas.now ≤ most_quotas }
+    requires feeds { feed_quotas (pairs quotas.now) ≤ most_feeds }
+    requires asks { ask_quotas (pairs quotas.now) ≤ most_asks }
     ensures queue { result.queue ≡ room_of (pairs quotas.now) }
     ensures marks { result.marks ≡ 8 * all_quotas (pairs quotas.now) + 4 * (length quotas.now + 1) }
     ensures entries { result.entries ≡ all_quotas (pairs quotas.now) }

@@ -1,9 +1,10 @@
 //! The squeue object: how it is made, its turns, and its end.
-ghost use Rattle.std.specs.Prelude.{◌≡◌, ◌+◌, ◌<◌, ◌≤◌, ◌^◌, [], length, map, if◌then◌else◌, MatchResult, IfOk, IsSome, Some};
+ghost use Rattle.std.specs.Prelude.{◌≡◌, ◌+◌, ◌<◌, ◌≤◌, [], length, map, if◌then◌else◌, MatchResult, IfOk, IsSome, Some};
 ghost use Rattle.perimeter_core.specs.Perimeter.{Idle};
 ghost use Rattle.perimeter_core.specs.History.{run, feed_quotas};
 ghost use Rattle.perimeter_core.specs.Blocks.{peri};
 ghost use Rattle.squeue_state.specs.Told.{marks_of};
+ghost use Rattle.squeue_state.specs.Limits.{most_asks, most_feeds, most_quotas};
 ghost use Rattle.squeue_state.specs.Naming.{Chosen, Ending, setting_of};
 ghost use Rattle.squeue_state.specs.Endings.{ending_of, HasEnded, seen_by};
 ghost use Rattle.squeue_state.specs.Behind.{IsPeri, pairs};
@@ -76,10 +77,10 @@ impl<R: Resident> Squeue<R> {
     ) -> Result<(Squeue<R>, Vec<Pass>), AllocError>
     where
         R: Drop,
-        requires few { (1 ≤ length quotas.now) × (length quotas.now ≤ 63) }
+        requires few { (1 ≤ length quotas.now) × (length quotas.now ≤ most_quotas) }
         requires rings { (1 ≤ rings) × (rings ≤ length quotas.now) }
-        requires feeds { feed_quotas (pairs quotas.now) ≤ 2 ^ 30 }
-        requires asks { ask_quotas (pairs quotas.now) ≤ 2 ^ 40 }
+        requires feeds { feed_quotas (pairs quotas.now) ≤ most_feeds }
+        requires asks { ask_quotas (pairs quotas.now) ≤ most_asks }
         requires fresh { StandsEmpty (R.stands resident) }
         ensures given { IfOk result (λ r. IsMade R.stands R.size number rings (pairs quotas.now) trace resident r.0.given) }
         ensures passes { IfOk result (λ r. (length r.1.items ≡ length quotas.now + 1) × AreFresh number_of r.0.gate 0 r.1.items) }

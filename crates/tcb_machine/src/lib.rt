@@ -15,4 +15,5 @@ pub use laws::{
     every_block_is_valid, nothing_fires_before_the_next_deadline, output_moves_no_text,
     sequence_numbers_have_one_order, streams_grow_little, timers_move_no_text,
 };
+pub use limits::LAST_TIME;
 pub use tcb::Tcb;

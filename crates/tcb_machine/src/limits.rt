@@ -37,3 +37,6 @@ pub(crate) const MOST_SHIFT: u8 = 14;
 
 /// A block takes a segment as long as fewer bytes of each of its streams have come.
 pub(crate) const MOST_STREAMED: u64 = 1 << 61;
+
+/// No block is given a later time, in microseconds.
+pub const LAST_TIME: u64 = 1 << 62;

@@ -5,6 +5,7 @@ use Rattle.std.proofs.lemmas.List.{append-nil, length-set}
 use Rattle.std.proofs.lemmas.List.Elements.{All-cons, All-head, All-tail, All-nil}
 use Rattle.tcb_machine.specs.declared.kinds.Call.{Call}
 use Rattle.conn_blocks.specs.CallLists.{CallLists, call_count, calls_of}
+use Rattle.conn_blocks.specs.Limits.{callers, most_calls}
 use Rattle.squeue_report.specs.TraceText.{call_line, calls_text, thread_text}
 use Rattle.trace_lines.specs.Printed.{ArePrintedCalls, BeginsWithCall, IsPrintedCall}
 use Rattle.trace_lines.proofs.CallLines.{BeginsWith, begins, below_conns, printed_below, printed_wider, same_call}
@@ -107,7 +108,7 @@ each_push conns (suc j) (l ∷ ls) x h g = (h.0, each_push conns j ls x h.1 g)
 -- calls with their threads, in order of the threads from one on
 abbrev pub AreDue : ℕ → ℕ → List (ℕ × (ℕ × Call)) → Type 0
 AreDue conns last [] = Unit {0}
-AreDue conns last ((j, x) ∷ due) = (last ≤ j) × (j < 4) × IsPrintedCall conns x × AreDue conns j due
+AreDue conns last ((j, x) ∷ due) = (last ≤ j) × (j < callers) × IsPrintedCall conns x × AreDue conns j due
 
 abbrev pub due_text : List (ℕ × (ℕ × Call)) → List ℕ
 due_text [] = []
@@ -137,24 +138,24 @@ all_due_count : (k : ℕ) (ls : CallLists) → length (due_from k ls) ≡ call_c
 all_due_count k [] = refl
 all_due_count k (l ∷ ls) = omega (arith, thread_due_count k l (due_from (k + 1) ls), all_due_count (k + 1) ls)
 
-thread_due : (conns k last : ℕ) (l : List (ℕ × Call)) (due : List (ℕ × (ℕ × Call))) → k < 4 → EachCall conns l → ((m : ℕ) → m ≤ k → AreDue conns m due) → last ≤ k → AreDue conns last (with_thread k l due)
+thread_due : (conns k last : ℕ) (l : List (ℕ × Call)) (due : List (ℕ × (ℕ × Call))) → k < callers → EachCall conns l → ((m : ℕ) → m ≤ k → AreDue conns m due) → last ≤ k → AreDue conns last (with_thread k l due)
 thread_due conns k last [] due below h rest le = rest last le
 thread_due conns k last (x ∷ xs) due below h rest le = (le, below, h.0, thread_due conns k k xs due below h.1 rest (omega arith))
 
-all_due : (conns k last : ℕ) (ls : CallLists) → EachThread conns ls → k + length ls ≡ 4 → last ≤ k → AreDue conns last (due_from k ls)
+all_due : (conns k last : ℕ) (ls : CallLists) → EachThread conns ls → k + length ls ≡ callers → last ≤ k → AreDue conns last (due_from k ls)
 all_due conns k last [] h size le = tt
 all_due conns k last (l ∷ ls) h size le =
     thread_due conns k last l (due_from (k + 1) ls) (omega (arith, size)) h.0 (λ m n. all_due conns (k + 1) m ls h.1 (omega (arith, size)) (omega (arith, n))) le
 
 -- how far the calls were read: thread last's was the last one
 pub record CallsRead (text : List ℕ) (conns : ℕ) (calls : CallLists) (rest : List ℕ) (last count : ℕ) : Type 0 where
-  pub threads : length calls ≡ 4
+  pub threads : length calls ≡ callers
   pub counted : call_count calls ≡ count
   pub each : EachThread conns calls
   pub above : AreEmptyAbove last calls
   pub read : text ≡ calls_text calls ++ rest
   pub owed : (cs : CallLists) (t : List ℕ) → ArePrintedCalls conns cs → (BeginsWithCall t → ⊥) → text ≡ calls_text cs ++ t
-      → (due : List (ℕ × (ℕ × Call))) × (AreDue conns last due × (count + length due ≤ 1024) × (rest ≡ due_text due ++ t))
+      → (due : List (ℕ × (ℕ × Call))) × (AreDue conns last due × (count + length due ≤ most_calls) × (rest ≡ due_text due ++ t))
 
 pub calls_none : (text : List ℕ) (conns : ℕ) → CallsRead text conns ([] ∷ [] ∷ [] ∷ [] ∷ []) text 0 0
 calls_none text conns = record {
@@ -174,7 +175,7 @@ calls_none text conns = record {
 }
 
 owed_behind : (conns last count j c : ℕ) (call : Call) (rest others t : List ℕ) (due : List (ℕ × (ℕ × Call))) → conns < 2 ^ 32 → (BeginsWithCall t → ⊥) → BeginsWith rest j c call others
-    → AreDue conns last due → count + length due ≤ 1024 → rest ≡ due_text due ++ t → (ds : List (ℕ × (ℕ × Call))) × (AreDue conns j ds × (count + 1 + length ds ≤ 1024) × (others ≡ due_text ds ++ t))
+    → AreDue conns last due → count + length due ≤ most_calls → rest ≡ due_text due ++ t → (ds : List (ℕ × (ℕ × Call))) × (AreDue conns j ds × (count + 1 + length ds ≤ most_calls) × (others ≡ due_text ds ++ t))
 owed_behind conns last count j c call rest others t [] few none b h l e =
     absurd (none (subst BeginsWithCall (sym b.2 ∙ e) (begins j c call others)))
 owed_behind conns last count j c call rest others t ((k, (d, ask)) ∷ ds) few none b h l e =
@@ -184,7 +185,7 @@ owed_behind conns last count j c call rest others t ((k, (d, ask)) ∷ ds) few n
 
 -- a call is read and kept
 pub calls_more : (text : List ℕ) (conns : ℕ) (calls : CallLists) (rest others : List ℕ) (last count j c : ℕ) (call : Call) → CallsRead text conns calls rest last count → conns < 2 ^ 32 → BeginsWith rest j c call others
-    → last ≤ j → j < 4 → c < conns → CallsRead text conns (set calls j (calls_of calls j ++ (c, call) ∷ [])) others j (count + 1)
+    → last ≤ j → j < callers → c < conns → CallsRead text conns (set calls j (calls_of calls j ++ (c, call) ∷ [])) others j (count + 1)
 calls_more text conns calls rest others last count j c call r few b le below on = record {
   threads = length-set calls j (calls_of calls j ++ (c, call) ∷ []) ∙ r.threads;
   counted = omega (arith, push_count j calls (c, call) (omega (arith, below, r.threads)), r.counted);
@@ -218,7 +219,7 @@ other_line text conns calls rest last count r few is other cs t h none e =
     owed_line conns last rest t due.0 few is none other due.1.0 due.1.2
 
 owed_other : (conns last j c : ℕ) (call : Call) (rest others t : List ℕ) (due : List (ℕ × (ℕ × Call))) → conns < 2 ^ 32 → BeginsWithCall rest → (BeginsWithCall t → ⊥) → BeginsWith rest j c call others
-    → (last ≤ j → j < 4 → c < conns → ⊥) → AreDue conns last due → rest ≡ due_text due ++ t → ⊥
+    → (last ≤ j → j < callers → c < conns → ⊥) → AreDue conns last due → rest ≡ due_text due ++ t → ⊥
 owed_other conns last j c call rest others t [] few is none b out h e = none (subst BeginsWithCall e is)
 owed_other conns last j c call rest others t ((k, (d, ask)) ∷ ds) few is none b out h e =
     let both : call_line j (c, call) ++ others ≡ call_line k (d, ask) ++ (due_text ds ++ t) = sym b.2 ∙ (e ∙ append_assoc (call_line k (d, ask)) (due_text ds) t) in
@@ -227,23 +228,23 @@ owed_other conns last j c call rest others t ((k, (d, ask)) ∷ ds) few is none 
 
 -- a call of an earlier thread, of no thread, or on no connection
 pub out_of_order : (text : List ℕ) (conns : ℕ) (calls : CallLists) (rest others : List ℕ) (last count j c : ℕ) (call : Call) → CallsRead text conns calls rest last count → conns < 2 ^ 32 → BeginsWithCall rest → BeginsWith rest j c call others
-    → (last ≤ j → j < 4 → c < conns → ⊥) → NoCalls text conns
+    → (last ≤ j → j < callers → c < conns → ⊥) → NoCalls text conns
 out_of_order text conns calls rest others last count j c call r few is b out cs t h none e =
     let due = r.owed cs t h none e in
     owed_other conns last j c call rest others t due.0 few is none b out due.1.0 due.1.2
 
-owed_too_many : (count : ℕ) (rest t : List ℕ) (due : List (ℕ × (ℕ × Call))) → 1024 ≤ count → BeginsWithCall rest → (BeginsWithCall t → ⊥) → count + length due ≤ 1024 → rest ≡ due_text due ++ t → ⊥
+owed_too_many : (count : ℕ) (rest t : List ℕ) (due : List (ℕ × (ℕ × Call))) → most_calls ≤ count → BeginsWithCall rest → (BeginsWithCall t → ⊥) → count + length due ≤ most_calls → rest ≡ due_text due ++ t → ⊥
 owed_too_many count rest t [] full is none l e = none (subst BeginsWithCall e is)
 owed_too_many count rest t ((k, x) ∷ ds) full is none l e = omega (arith, full, l)
 
 -- one call too many
-pub too_many : (text : List ℕ) (conns : ℕ) (calls : CallLists) (rest : List ℕ) (last count : ℕ) → CallsRead text conns calls rest last count → 1024 ≤ count → BeginsWithCall rest → NoCalls text conns
+pub too_many : (text : List ℕ) (conns : ℕ) (calls : CallLists) (rest : List ℕ) (last count : ℕ) → CallsRead text conns calls rest last count → most_calls ≤ count → BeginsWithCall rest → NoCalls text conns
 too_many text conns calls rest last count r full is cs t h none e =
     let due = r.owed cs t h none e in
     owed_too_many count rest t due.0 full is none due.1.1 due.1.2
 
 -- all calls were read
-pub calls_all : (text : List ℕ) (conns : ℕ) (calls : CallLists) (rest : List ℕ) (last count : ℕ) → CallsRead text conns calls rest last count → count ≤ 1024 → (BeginsWithCall rest → ⊥)
+pub calls_all : (text : List ℕ) (conns : ℕ) (calls : CallLists) (rest : List ℕ) (last count : ℕ) → CallsRead text conns calls rest last count → count ≤ most_calls → (BeginsWithCall rest → ⊥)
     → ArePrintedCalls conns calls × (BeginsWithCall rest → ⊥) × (text ≡ calls_text calls ++ rest)
 calls_all text conns calls rest last count r few none =
     (record { threads = r.threads; few = omega (arith, r.counted, few); each = all_threads conns calls r.each }, none, r.read)

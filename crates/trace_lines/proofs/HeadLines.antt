@@ -3,6 +3,7 @@ use Rattle.std.proofs.Common.{arith, ◌≡◌, ℕ, ◌<◌, ◌≤◌, Bool, t
 use Rattle.std.specs.Fmt.{decimal}
 use Rattle.squeue_enter.specs.declared.Mode.{Mode}
 use Rattle.squeue_enter.specs.declared.Mode.TheVariants.{Process, NoDrain, Fill}
+use Rattle.ring_quotas.specs.Limits.{most_budget, most_rings, most_spread, most_squeues}
 use Rattle.ring_quotas.specs.declared.setup.Setup.{Setup}
 use Rattle.ring_quotas.specs.Quotas.{IsInRange}
 use Rattle.squeue_report.specs.ReportText.{line}
@@ -70,7 +71,7 @@ bit_over text form numbers rest proper blanks found over s verify t h e =
 -- the ranges of the other numbers
 abbrev pub AreInRange : List ℕ → Type 0
 AreInRange l =
-    ((1 ≤ get_or l 0 0) × (get_or l 0 0 ≤ 16)) × ((1 ≤ get_or l 1 0) × (get_or l 1 0 ≤ 8)) × ((1 ≤ get_or l 2 0) × (get_or l 2 0 ≤ 65535)) × (get_or l 3 0 ≤ 65535)
+    ((1 ≤ get_or l 0 0) × (get_or l 0 0 ≤ most_squeues)) × ((1 ≤ get_or l 1 0) × (get_or l 1 0 ≤ most_rings)) × ((1 ≤ get_or l 2 0) × (get_or l 2 0 ≤ most_budget)) × (get_or l 3 0 ≤ most_spread)
 
 pub out_of_range : (text form numbers rest : List ℕ) → is_form form ≡ true → blank_count form ≡ 5 → (length numbers ≡ 5) × AreSmall numbers × (text ≡ filled form numbers ++ rest) → (AreInRange numbers → ⊥)
     → (s : Setup) (verify : Bool) (t : List ℕ) → IsPrintedSetup s → text ≡ filled form (setup_numbers s verify) ++ t → ⊥

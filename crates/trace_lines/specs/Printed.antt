@@ -5,6 +5,8 @@ use Rattle.perimeter_core.specs.declared.marks.Mark.{Mark}
 use Rattle.tcb_machine.specs.declared.kinds.Call.{Call}
 use Rattle.tcb_machine.specs.declared.kinds.Call.TheVariants as Asks
 use Rattle.conn_blocks.specs.CallLists.{CallLists, call_count}
+use Rattle.conn_blocks.specs.Limits.{callers, most_calls}
+use Rattle.ring_quotas.specs.Limits.{most_budget}
 use Rattle.ring_quotas.specs.declared.setup.Setup.{Setup}
 use Rattle.ring_quotas.specs.Quotas.{IsInRange}
 use Rattle.squeue_report.specs.ReportText.{done_line}
@@ -19,7 +21,7 @@ IsPrintedCall conns (c, _) = c < conns
 -- a setup of a run that kept its marks
 pub record IsPrintedSetup (s : Setup) : Type 0 where
   pub range : IsInRange s
-  pub budget : s.budget ≤ 65535
+  pub budget : s.budget ≤ most_budget
   pub traced : s.trace ≡ true
 
 -- the numbers of its line
@@ -28,8 +30,8 @@ setup_numbers s verify = s.squeues ∷ s.rings ∷ s.budget ∷ s.spread ∷ (if
 
 -- the calls of four threads, at most 1,024, each on one of so many connections
 pub record ArePrintedCalls (conns : ℕ) (calls : CallLists) : Type 0 where
-  pub threads : length calls ≡ 4
-  pub few : call_count calls ≤ 1024
+  pub threads : length calls ≡ callers
+  pub few : call_count calls ≤ most_calls
   pub each : All (λ thread. All (IsPrintedCall conns) thread) calls
 
 -- the marks of so many squeues

@@ -4,19 +4,17 @@ ghost use Rattle.std.specs.Prelude.{◌≡◌, ℕ, ◌^◌, ◌<◌, ◌≤◌,
 ghost use Rattle.conn_blocks.specs.CallLists.{CallLists};
 ghost use Rattle.squeue_report.specs.TraceText.{call_line, calls_text, setup_line};
 ghost use Rattle.tcb_machine.specs.declared.kinds.Call.{Call as CallOf};
+ghost use Rattle.ring_quotas.specs.Limits.{most_budget, most_rings, most_spread, most_squeues};
 ghost use Rattle.ring_quotas.specs.declared.setup.Setup.{Setup as SetupOf};
 ghost use Rattle.trace_lines.specs.Forms.{filled, is_form, blank_count};
 ghost use Rattle.trace_lines.specs.Printed.{ArePrintedCalls, BeginsWithCall, IsPrintedCall, IsPrintedSetup, setup_numbers};
 
 use crate::forms::by_form;
-use conn_blocks::Calls;
+use conn_blocks::{Calls, MOST_CALLS};
 use ring_quotas::{CALLERS, Setup};
 use squeue_enter::Mode;
 use std::alloc::{AllocError, Global};
 use tcb_machine::Call;
-
-/// The most calls of all threads.
-const MOST_CALLS: u32 = 1024;
 
 /// The setup, each number in its range, whether wrong checksums drop segments, and the text behind the line. `None` where
 /// the text begins with no such line.
@@ -81,7 +79,8 @@ fn setup_by<'a>(text: &'a [u8], mode: Mode, form: &[u8]) -> Option<(Setup, bool,
 
 /// Whether a setup may have these numbers, and its budget fits its field.
 fn is_in_range(squeues: u32, rings: u32, budget: u32, spread: u32) -> bool
-    ensures { IsTrue result ↔ (((1 ≤ squeues) × (squeues ≤ 16)) × ((1 ≤ rings) × (rings ≤ 8)) × ((1 ≤ budget) × (budget ≤ 65535)) × (spread ≤ 65535)) }
+    ensures { IsTrue result ↔ (((1 ≤ squeues) × (squeues ≤ most_squeues)) × ((1 ≤ rings) × (rings ≤ most_rings))
+        × ((1 ≤ budget) × (budget ≤ most_budget)) × (spread ≤ most_spread)) }
 {
     1 <= squeues
         && squeues <= 16

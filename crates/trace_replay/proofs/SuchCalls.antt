@@ -6,6 +6,8 @@ use Rattle.std.proofs.lemmas.Bool.{false≢true}
 use Rattle.std.proofs.lemmas.List.Elements.{All-cons, All-filter, All-from_recursion, All-map, All-nil}
 use Rattle.tcb_machine.specs.declared.kinds.Call.{Call}
 use Rattle.tcb_machine.specs.declared.kinds.Call.TheVariants as Asks
+use Rattle.conn_blocks.specs.Limits.{most_calls}
+use Rattle.ring_quotas.specs.Limits.{most_budget, most_rings, most_spread, most_squeues}
 use Rattle.ring_quotas.specs.declared.setup.Setup.{Setup}
 use Rattle.squeue_run.specs.Words.{Text, given}
 use Rattle.squeue_run.specs.Asked.{Asked, asked, asked_by, asked_of, buffer_by, call_by, call_of, calls_of, go_together, input_of, mode_or_process, number_between, number_or, setup_by, setup_of, split_at}
@@ -87,28 +89,28 @@ module _ (n : ℕ) where
 record Found (words : List Text) (a : Asked) : Type 0 where
   texts : List Text
   calls : calls_of texts ≡ Some a.calls
-  budget : a.setup.budget ≤ 65535
+  budget : a.setup.budget ≤ most_budget
   alone : a.setup.trace ≡ true → a.number ≡ None
 
-budget_most : (squeues rings mode budget spread : Option Text) (trace : Bool) (s : Setup) → setup_by squeues rings mode budget spread trace ≡ Some s → s.budget ≤ 65535
+budget_most : (squeues rings mode budget spread : Option Text) (trace : Bool) (s : Setup) → setup_by squeues rings mode budget spread trace ≡ Some s → s.budget ≤ most_budget
 budget_most squeues rings mode budget spread trace s e =
-    let q = chained _ (number_or 1 1 16 squeues) s e in
-    let r = chained _ (number_or 1 1 8 rings) s q.gives in
+    let q = chained _ (number_or 1 1 most_squeues squeues) s e in
+    let r = chained _ (number_or 1 1 most_rings rings) s q.gives in
     let m = chained _ (mode_or_process mode) s r.gives in
-    let b = chained _ (number_or 64 1 65535 budget) s m.gives in
-    let d = mapped _ (number_or 0 0 65535 spread) s b.gives in
+    let b = chained _ (number_or 64 1 most_budget budget) s m.gives in
+    let d = mapped _ (number_or 0 0 most_spread spread) s b.gives in
     let same : b.value ≡ s.budget = ap (λ (t : Setup). t.budget) d.gives in
     let most = within budget b.value b.found in
     omega (arith, same, most)
   where
-    within : (text : Option Text) (n : ℕ) → number_or 64 1 65535 text ≡ Some n → n ≤ 65535
+    within : (text : Option Text) (n : ℕ) → number_or 64 1 most_budget text ≡ Some n → n ≤ most_budget
     within None n e = let same : 64 ≡ n = some_is e in omega (arith, same)
-    within (Some text) n e = (number_within 1 65535 text n e).1
+    within (Some text) n e = (number_within 1 most_budget text n e).1
 
 -- beside a trace no input is generated
 read_alone : (number : Option ℕ) (trace : Bool) (calls : List Text) → go_together number trace calls ≡ true → trace ≡ true → number ≡ None
 read_alone None trace calls e on = refl
-read_alone (Some n) true calls e on = absurd (by (nat_le (length calls) 1024) e)
+read_alone (Some n) true calls e on = absurd (by (nat_le (length calls) most_calls) e)
   where
     by : (b : Bool) → (b && false) ≡ true → ⊥
     by true e = false≢true e

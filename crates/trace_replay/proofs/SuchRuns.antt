@@ -23,7 +23,7 @@ use Rattle.squeue_replay.specs.Marks.{IsPrinted}
 use Rattle.squeue_replay.proofs.SettingFacts.{conns_are, worker_is}
 use Rattle.squeue_report.specs.TraceText.{trace_text}
 use Rattle.squeue_run.specs.Output.{histories_of}
-use Rattle.squeue_run.specs.Ran.{most_marks}
+use Rattle.squeue_run.specs.Limits.{most_marks}
 use Rattle.trace_lines.specs.Printed.{ArePrintedCalls, IsPrintedSetup}
 use Rattle.pcapng_reader.specs.Input.{IsInput}
 use Rattle.trace_replay.specs.Replays.{Replays}

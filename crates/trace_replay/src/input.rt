@@ -10,13 +10,10 @@ ghost use Rattle.trace_replay.specs.Replays.{most_input};
 ghost use Rattle.pcapng_reader.specs.Input.{InputFails, IsInput};
 
 use crate::reason::{Reason, Refusal};
-use capture_reader::{Capture, CaptureFault};
+use capture_reader::{Capture, CaptureFault, MOST_BYTES};
 use pcapng_reader::{InputFault as CaptureRefused, PcapngFault, parse_input};
 use sq_base::{Failed, Octets, Source};
 use std::alloc::{AllocError, Global};
-
-/// The most bytes of the capture in it.
-const MOST_CAPTURED: usize = 67_108_864;
 
 /// How many bytes one call asks for at most.
 const PIECE: usize = 65_536;
@@ -95,7 +92,7 @@ pub fn cut(bytes: &mut Vec<u8>) -> Result<Vec<u8>, Refusal>
         return Err(Refusal::No(Reason::NoReport));
     };
     let end = last + b"done\n".len();
-    if bytes.len() - end > MOST_CAPTURED {
+    if bytes.len() - end > MOST_BYTES {
         return Err(Refusal::No(Reason::Capture));
     }
     Ok(bytes.split_off(end)?)

@@ -14,7 +14,8 @@ ghost use Rattle.ring_threads.specs.Served.{HasServed, ServedOf, orders_of};
 ghost use Rattle.squeue_report.specs.TraceText.{trace_text};
 ghost use Rattle.squeue_run.specs.Words.{Text};
 ghost use Rattle.squeue_run.specs.Asked.{Asked, asked};
-ghost use Rattle.squeue_run.specs.Ran.{HasRan, most_marks};
+ghost use Rattle.squeue_run.specs.Limits.{most_marks};
+ghost use Rattle.squeue_run.specs.Ran.{HasRan};
 ghost use Rattle.trace_lines.specs.Printed.{ArePrintedCalls, IsPrintedSetup};
 ghost use Rattle.trace_replay.specs.Replays.{Replays, WroteWhatReplays};
 

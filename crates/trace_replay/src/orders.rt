@@ -1,6 +1,6 @@
 //! What was done to each connection in all its stays, joined and served on one thread.
 
-ghost use Rattle.std.specs.Prelude.{◌≡◌, ℕ, ◌+◌, ◌%◌, ◌^◌, ◌<◌, ◌≤◌, true, false, All, Err};
+ghost use Rattle.std.specs.Prelude.{◌≡◌, ℕ, ◌+◌, ◌^◌, ◌<◌, ◌≤◌, true, false, All, Err};
 ghost use Rattle.std.specs.Prelude.{IfOk, IfSome, List, MatchOption, None, Some, [], length, map, option_map};
 ghost use Rattle.std.specs.List.{AllByRecursion};
 ghost use Rattle.perimeter_core.specs.declared.entries.Act.{Act};
@@ -11,6 +11,7 @@ ghost use Rattle.perimeter_core.specs.Residing.{HadFeeds};
 ghost use Rattle.conn_classifier.specs.Plan.{items_in};
 ghost use Rattle.conn_blocks.specs.Allowed.{all_calls};
 ghost use Rattle.conn_blocks.specs.Places.{Stands, origin_of};
+ghost use Rattle.ring_quotas.specs.Limits.{most_squeues};
 ghost use Rattle.ring_quotas.specs.Quotas.{IsInRange};
 ghost use Rattle.ring_threads.specs.ServedBlocks.{AreServed};
 ghost use Rattle.squeue_replay.specs.Histories.{endings_of};
@@ -74,7 +75,7 @@ fn serve_order(
     blocks: &mut Blocks<'_>,
 ) -> Result<Option<Box<Block>>, AllocError>
     requires conn { c < length run.plan.now.tuples }
-    requires range { (0 < run.setup.squeues) × (run.setup.squeues ≤ 16) }
+    requires range { (0 < run.setup.squeues) × (run.setup.squeues ≤ most_squeues) }
     requires squeues { length guests.now ≡ run.setup.squeues }
     requires conns { All (λ gs. length gs.items ≡ length run.plan.now.tuples) guests.now }
     requires origin { origin_of blocks.old ≡ record { plan = run.plan.now; calls = run.calls.now } }
@@ -105,7 +106,7 @@ fn serve_order(
 /// one didn't.
 fn count_stays(run: Run<'_, '_>, guests: &[Vec<Guest>], c: u32) -> Result<Option<usize>, AllocError>
     requires conn { c < length run.plan.now.tuples }
-    requires range { (0 < run.setup.squeues) × (run.setup.squeues ≤ 16) }
+    requires range { (0 < run.setup.squeues) × (run.setup.squeues ≤ most_squeues) }
     requires squeues { length guests.now ≡ run.setup.squeues }
     requires conns { All (λ gs. length gs.items ≡ length run.plan.now.tuples) guests.now }
     ensures few { IfOk result (λ o. IfSome o (λ n. n < 2 ^ 60)) }
@@ -126,7 +127,7 @@ fn count_stays(run: Run<'_, '_>, guests: &[Vec<Guest>], c: u32) -> Result<Option
 /// Whether no stay follows behind the number of one that isn't there. Each squeue is looked at once, since its stays have no gaps.
 fn is_last(run: Run<'_, '_>, guests: &[Vec<Guest>], c: u32, stay: usize) -> bool
     requires conn { c < length run.plan.now.tuples }
-    requires range { (0 < run.setup.squeues) × (run.setup.squeues ≤ 16) }
+    requires range { (0 < run.setup.squeues) × (run.setup.squeues ≤ most_squeues) }
     requires squeues { length guests.now ≡ run.setup.squeues }
     requires conns { All (λ gs. length gs.items ≡ length run.plan.now.tuples) guests.now }
     requires few { stay < 2 ^ 60 }

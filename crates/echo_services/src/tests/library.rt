@@ -8,10 +8,7 @@ use segment_codec::{Packet, Reply, Seg, decode, encode};
 use sq_base::{Addr, Link, Octets, Tuple};
 use std::alloc::{AllocError, Global};
 use std::test::Fail;
-use tcb_machine::{Ending, State, Tcb};
-
-/// Times stay below this one.
-const LAST_TIME: u64 = 1 << 62;
+use tcb_machine::{Ending, LAST_TIME, State, Tcb};
 
 /// A datagram of the connection comes at a time, in microseconds. The answer are the datagrams that are sent.
 fn receive(

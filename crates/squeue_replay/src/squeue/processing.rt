@@ -1,6 +1,7 @@
 //! The marks by which an owner says what it has processed.
 
 ghost use Rattle.std.specs.Prelude.{◌≡◌, ◌^◌, ◌<◌, ◌≤◌};
+ghost use Rattle.ring_quotas.specs.Limits.{most_squeues};
 ghost use Rattle.squeue_replay.specs.Histories.{stay_of};
 
 use super::Squeue;
@@ -17,7 +18,7 @@ struct Done {
 }
 
 impl<'p, 'c> Squeue<'p, 'c> {
-    ghost use Rattle.std.specs.Prelude.{◌+◌, ◌-◌, ◌*◌, ◌≢◌, ◌↔◌, true, false, List, [], ◌∷◌, ◌++◌, IfOk, IsTrue, MatchOption, OnOk, length, slice_index, take};
+    ghost use Rattle.std.specs.Prelude.{◌-◌, ◌*◌, ◌≢◌, ◌↔◌, true, false, List, [], ◌∷◌, ◌++◌, IfOk, IsTrue, MatchOption, OnOk, length, slice_index, take};
     ghost use Rattle.perimeter_core.specs.declared.entries.Act.{Act as ActOf};
     ghost use Rattle.perimeter_core.specs.declared.entries.Entry.TheVariants as Queued;
     ghost use Rattle.perimeter_core.specs.declared.marks.Mark.TheVariants as On;
@@ -318,7 +319,7 @@ impl<'p, 'c> Squeue<'p, 'c> {
 
 /// Which stay of connection `c`, of all its stays, its In of this number at the squeue begins. Stay 0 begins with no In.
 pub fn stay_of(setup: &Setup, squeue: u32, c: u32, number: u64) -> u64
-    requires squeue { (0 < setup.now.squeues) × (setup.now.squeues ≤ 16) × (squeue < setup.now.squeues) }
+    requires squeue { (0 < setup.now.squeues) × (setup.now.squeues ≤ most_squeues) × (squeue < setup.now.squeues) }
     ensures { number < 2 ^ 59 → result ≡ stay_of setup.now.squeues squeue c number }
 {
     let first = (squeue + setup.squeues - c % setup.squeues) % setup.squeues;

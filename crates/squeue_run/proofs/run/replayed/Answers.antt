@@ -2,7 +2,7 @@ use Rattle.std.proofs.Common.{◌≤◌, ℕ, subst}
 use Rattle.squeue_run.proofs.Named.{calls_there}
 use Rattle.squeue_run.proofs.Reports.{all_there, is_report, marks_are}
 use Rattle.squeue_run.specs.Causes.{asked_by_words}
-use Rattle.squeue_run.specs.Ran.{most_marks}
+use Rattle.squeue_run.specs.Limits.{most_marks}
 use Rattle.squeue_run.proofs.run.replayed.Goals as goal
 
 pub long_trace-requires-clause-calls : goal.long_trace-requires-clause-calls
