@@ -5,8 +5,9 @@ are not checked here: what is past them sqrun itself refuses.
 """
 from struct import Struct, unpack_from
 
+from packets import LINK_SIZE
+
 MOST_BODY = 262_144
-LINKS = (1, 101, 113)               # Ethernet, raw IP, Linux cooked
 MAGICS = {b"\xd4\xc3\xb2\xa1": ("<", 1), b"\xa1\xb2\xc3\xd4": (">", 1),
           b"\x4d\x3c\xb2\xa1": ("<", 1000), b"\xa1\xb2\x3c\x4d": (">", 1000)}
 SECTION = b"\x0a\x0d\x0d\x0a"
@@ -38,7 +39,7 @@ def header(path, data):
     major, minor, link = unpack_from(order + "4xHH12xI", data)
     if (major, minor) != (2, 4):
         raise Refused(f"{path}: version {major}.{minor}", 6)
-    if link not in LINKS:
+    if link not in LINK_SIZE:
         raise Refused(f"{path}: link type {link}", 6)
     return order, unit, link
 
@@ -83,8 +84,8 @@ class Records:
             elif kind == INTERFACE:
                 link, snapshot = unpack_from(order + "H2xI", self.data, at + 8)
                 first = link if first is None else first
-                if link not in LINKS or link != first:
-                    self.refuse(f"{'second ' * (link in LINKS)}link type {link} in block {index}")
+                if link not in LINK_SIZE or link != first:
+                    self.refuse(f"{'second ' * (link in LINK_SIZE)}link type {link} in block {index}")
                 self.link = link
                 interfaces.append((snapshot, self.ticks_a_second(at + 16, at + length - 4, order)))
             elif kind in (PACKET, SIMPLE_PACKET):

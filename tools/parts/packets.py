@@ -5,7 +5,7 @@ KINDS = ("served", "nofit", "server", "other", "fragment", "cut", "malformed", "
 SERVED, NOFIT, SERVER, OTHER, FRAGMENT, CUT, MALFORMED, BADSUM = range(8)
 SERVICES = {7: "echo", 9: "discard"}
 IPV4 = Struct(">B1xH2xHxB")         # version and header length, total length, fragment, protocol
-LINK_SIZE = {1: 14, 101: 0, 113: 16}
+LINK_SIZE = {1: 14, 101: 0, 113: 16}     # by link type the bytes before the datagram: Ethernet, raw IP, Linux cooked
 
 
 def total(data):
@@ -18,7 +18,7 @@ def datagram_at(data, at, end, link):
     """Where the network's packet begins; or what the body counts as, with no place."""
     if end - at < LINK_SIZE[link]:
         return CUT, None
-    if link == 101:
+    if not LINK_SIZE[link]:
         return (OTHER, None) if at < end and data[at] >> 4 == 6 else (None, at)
     kind, at = data[at + LINK_SIZE[link] - 2:at + LINK_SIZE[link]], at + LINK_SIZE[link]
     if link == 1 and kind == b"\x81\0":

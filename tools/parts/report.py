@@ -15,7 +15,7 @@ LINES = {name: re.compile(form) for name, form in {
     "reply": r"reply (\d+) ((?:[0-9a-f]{2}){40,})",
     "answer": rf"answer ([0-3]) (\d+) ((?:{STATES}) \d+ \d+ \d+|ok|notopen|already)",
     "end": rf"end ({STATES})",
-    "setup": r"setup squeues (\d+) rings (\d+) mode (process|nodrain|fill) budget (\d+) spread (\d+) verify ([01])",
+    "setup": r"setup squeues (\d+) rings (\d+) mode (\w+) budget (\d+) spread (\d+) verify ([01])",
     "call": r"call ([0-3]):(\d+):(status|close|buffer=\d+)",
     "squeue": r"squeue (\d+) marks (\d+)",
     "entered": r"(fill|fast|claim) (\d+)((?: \d+\.\d+)+)",

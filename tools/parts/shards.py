@@ -24,7 +24,7 @@ from array import array
 from struct import Struct
 
 from files import MOST_BODY, Records, Refused, header, is_pcapng
-from packets import KINDS, OTHER, SERVED, classify
+from packets import KINDS, LINK_SIZE, OTHER, SERVED, classify
 
 MOST_BYTES, MOST_RECORDS, MOST_CONNECTIONS = 67_108_864, 1_048_576, 4_096      # of one run
 RECORD = Struct("<IIII")
@@ -217,7 +217,8 @@ class Whole:
 
 def last_record(link, time):
     """A record that counts as other, at the greatest time of all: so each shard's connections are told it."""
-    body = {1: bytes(12) + b"\x86\xdd", 101: b"\x60", 113: bytes(14) + b"\x86\xdd"}[link]
+    size = LINK_SIZE[link]
+    body = bytes(size - 2) + b"\x86\xdd" if size else b"\x60"
     seconds = min(time // 1_000_000, 0xffff_ffff)
     return RECORD.pack(seconds, time - seconds * 1_000_000, len(body), len(body)) + body
 

@@ -2,12 +2,13 @@
 use Rattle.std.proofs.Common.{◌≡◌, ℕ, ◌≤◌, Bool, true, false, cond, List, length, drop, map, Option, None, Some, Result, Ok, Err, subst, sym, ◌∙◌, refl, arith, ltb, eqb, ◌&&◌}
 use borrow.Author.Tests.{ltb-false}
 use Rattle.byteorder.specs.Endian.{big_number}
+use Rattle.sq_base.specs.Links.{link_of}
 use Rattle.sq_base.specs.declared.kinds.Link.{Link}
 use Rattle.capture_reader.specs.declared.form.Form.{Form}
 use Rattle.capture_reader.specs.declared.capture.Record.{Record}
 use Rattle.capture_reader.specs.declared.fault.CaptureFault.{CaptureFault}
 use Rattle.capture_reader.specs.declared.fault.CaptureFault.TheVariants as fault
-use Rattle.capture_reader.specs.Form.{number, form_of, link_of}
+use Rattle.capture_reader.specs.Form.{number, form_of}
 use Rattle.capture_reader.specs.Header.{header_answer, magic_answer, link_answer}
 use Rattle.capture_reader.specs.CaptureFile.{Ends, Captured, Refused}
 use Rattle.capture_reader.specs.SoFar.{StopsAt, Fails}

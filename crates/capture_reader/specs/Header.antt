@@ -1,8 +1,9 @@
 -- The header of a capture file (libpcap file format 2.4): magic number, version, link type. The first refusal counts.
 use Rattle.std.specs.Prelude.{ℕ, ◌==◌, ◌&&◌, nat_lt, List, length, drop, take, Option, None, Some, Result, Ok, Err, if◌then◌else◌}
 use Rattle.byteorder.specs.Endian.{big_number}
+use Rattle.sq_base.specs.Links.{link_of}
 use Rattle.sq_base.specs.declared.kinds.Link.{Link}
-use Rattle.capture_reader.specs.Form.{number, form_of, link_of}
+use Rattle.capture_reader.specs.Form.{number, form_of}
 use Rattle.capture_reader.specs.declared.form.Form.{Form}
 use Rattle.capture_reader.specs.declared.fault.CaptureFault.{CaptureFault}
 use Rattle.capture_reader.specs.declared.fault.CaptureFault.TheVariants as fault

@@ -20,7 +20,7 @@ pub enum CaptureFault {
     /// The version isn't 2.4.
     #[error("version {major}.{minor}")]
     Version { major: u16, minor: u16 },
-    /// The link type is none of 1 (Ethernet), 101 (raw IP) and 113 (Linux cooked).
+    /// The link type is none that `Link::of` reads.
     #[error("link type {0}")]
     Link(u32),
     /// The record with this number, from 0, names a captured length over 262,144.

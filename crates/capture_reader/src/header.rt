@@ -2,7 +2,6 @@
 
 ghost use Rattle.std.specs.Prelude.{◌≡◌, ◌≤◌, length};
 ghost use Rattle.capture_reader.specs.Limits.{most_bytes};
-ghost use Rattle.capture_reader.specs.Form.{link_of};
 ghost use Rattle.capture_reader.specs.Header.{header_answer};
 
 use crate::fault::CaptureFault;
@@ -30,19 +29,8 @@ pub fn header_of(bytes: &[u8]) -> Result<(Form, Link), CaptureFault>
         return Err(CaptureFault::Version { major, minor });
     }
     let number = form.u32_at(bytes, 20);
-    match link_of(number) {
+    match Link::of(number) {
         Some(link) => Ok((form, link)),
         None => Err(CaptureFault::Link(number)),
-    }
-}
-
-fn link_of(number: u32) -> Option<Link>
-    ensures { result ≡ link_of number }
-{
-    match number {
-        1 => Some(Link::Ethernet),
-        101 => Some(Link::RawIp),
-        113 => Some(Link::Cooked),
-        _ => None,
     }
 }

@@ -4,7 +4,7 @@ ghost use Rattle.std.specs.Prelude.{◌^◌, ◌<◌, length};
 
 use crate::{GenBlock, pattern};
 use segment_codec::Seg;
-use sq_base::Addr;
+use sq_base::{Addr, Tuple};
 use std::alloc::Global;
 use std::process::Abort;
 use std::test::Fail;
@@ -20,6 +20,13 @@ const R: u8 = 4;
 const P: u8 = 8;
 
 const A: u8 = 16;
+
+const ENDS: Tuple = Tuple {
+    client: Addr(0x0a00_0001),
+    client_port: 5000,
+    server: Addr(0x0a00_0002),
+    server_port: 19,
+};
 
 /// What a block is given.
 #[derive(Clone, Copy, Drop)]
@@ -137,20 +144,7 @@ const ROWS: [Row; 5] = [
 fn segment_of(flags: u8, seq: u32, ack: u32, wnd: u16, text: &[u8]) -> Seg
     requires { length text.now < 2 ^ 32 }
 {
-    Seg {
-        src: Addr(0x0a00_0001),
-        src_port: 5000,
-        dst: Addr(0x0a00_0002),
-        dst_port: 19,
-        seq,
-        ack,
-        flags,
-        wnd,
-        mss: None,
-        scale: None,
-        text_from: 40,
-        text_len: text.len() as u32,
-    }
+    Seg::plain(&ENDS, flags, seq, ack, wnd, 40, text.len() as u32)
 }
 
 /// A segment, at a time that the block takes.

@@ -19,7 +19,7 @@ use std::alloc::{AllocError, Global};
 use std::process::Abort;
 use std::test::Fail;
 use std::thread::Threads;
-use tcb_machine::{Answer, Call, State};
+use tcb_machine::{Answer, Call, State, Tcb};
 
 /// The header of a capture file: little-endian, microseconds, raw IP.
 const HEADER: [u8; 24] = [
@@ -36,49 +36,65 @@ const PSH_ACK: u8 = 24;
 
 const FIN_ACK: u8 = 17;
 
+/// What stands in a datagram between its length and the sequence number, with no sum: from 10.0.0.1:4000 to 10.0.0.2:7.
+const BEFORE_SEQ: [u8; 20] = [
+    0, 0, 0x40, 0, 0x40, 6, 0, 0, 10, 0, 0, 1, 10, 0, 0, 2, 15, 160, 0, 7,
+];
+
 /// A segment from 10.0.0.1:4000 to 10.0.0.2:7 with window 4096: time in microseconds, flags, sequence number, acknowledgement
 /// number, text.
 type Row<'t> = (u32, u8, u32, u32, &'t [u8]);
 
-/// One more record: a datagram without sums.
-fn add(bytes: &mut Vec<u8>, row: &Row<'_>) -> Result<(), Fail> {
-    let &(at, flags, seq, ack, text) = row;
-    let total = 40 + text.len().min(200) as u8;
-    bytes.extend_from_slice(&0u32.to_le_bytes())?;
-    bytes.extend_from_slice(&at.to_le_bytes())?;
-    bytes.extend_from_slice(&[total, 0, 0, 0, total, 0, 0, 0])?;
-    bytes.extend_from_slice(&[0x45, 0, 0, total, 0, 0, 0x40, 0, 0x40, 6, 0, 0])?;
-    bytes.extend_from_slice(&[10, 0, 0, 1, 10, 0, 0, 2])?;
-    bytes.extend_from_slice(&4000u16.to_be_bytes())?;
-    bytes.extend_from_slice(&7u16.to_be_bytes())?;
-    bytes.extend_from_slice(&seq.to_be_bytes())?;
-    bytes.extend_from_slice(&ack.to_be_bytes())?;
-    bytes.extend_from_slice(&[0x50, flags, 16, 0, 0, 0, 0, 0])?;
-    bytes.extend_from_slice(text)?;
+/// Pieces, one behind another.
+fn add_all(bytes: &mut Vec<u8>, pieces: &[&[u8]]) -> Result<(), AllocError> {
+    for piece in pieces {
+        bytes.extend_from_slice(piece)?;
+    }
     Ok(())
 }
 
-fn captured(alloc: Global, rows: &[Row<'_>]) -> Result<Capture, Fail> {
+/// One more record: a datagram without sums.
+fn add(bytes: &mut Vec<u8>, row: &Row<'_>) -> Result<(), AllocError> {
+    let &(at, flags, seq, ack, text) = row;
+    let total = 40 + text.len().min(200) as u8;
+    add_all(
+        bytes,
+        &[
+            &[0; 4],
+            &at.to_le_bytes(),
+            &[total, 0, 0, 0, total, 0, 0, 0],
+            &[0x45, 0, 0, total],
+            &BEFORE_SEQ,
+            &seq.to_be_bytes(),
+            &ack.to_be_bytes(),
+            &[0x50, flags, 16, 0, 0, 0, 0, 0],
+            text,
+        ],
+    )
+}
+
+/// A file of these records.
+fn file(alloc: Global, rows: &[Row<'_>]) -> Result<Vec<u8>, AllocError> {
     let mut bytes = Vec::from_slice(alloc, &HEADER)?;
     for row in rows {
         add(&mut bytes, row)?;
     }
-    Ok(parse_capture(alloc, Octets::of(alloc, &bytes)?)?)
+    Ok(bytes)
+}
+
+fn captured(alloc: Global, rows: &[Row<'_>]) -> Result<Capture, Fail> {
+    let bytes = file(alloc, rows)?;
+    Ok(parse_capture(alloc, Octets::wrap(bytes))?)
 }
 
 /// A connection that is opened, sends "hello" and closes: feeds 0 to 4, and the last time item.
-fn five_segments(alloc: Global) -> Result<Capture, Fail> {
-    captured(
-        alloc,
-        &[
-            (0, SYN, 100, 0, b"".as_slice()),
-            (1000, ACK, 101, 501, b"".as_slice()),
-            (2000, PSH_ACK, 101, 501, b"hello".as_slice()),
-            (3000, FIN_ACK, 106, 506, b"".as_slice()),
-            (4000, ACK, 107, 507, b"".as_slice()),
-        ],
-    )
-}
+const FIVE_SEGMENTS: &[Row] = &[
+    (0, SYN, 100, 0, b""),
+    (1000, ACK, 101, 501, b""),
+    (2000, PSH_ACK, 101, 501, b"hello"),
+    (3000, FIN_ACK, 106, 506, b""),
+    (4000, ACK, 107, 507, b""),
+];
 
 /// Thread 0 asks for the status and closes, thread 1 asks for the status.
 fn two_threads(alloc: Global) -> Result<Calls, AllocError>
@@ -202,50 +218,76 @@ fn given(
     Ok(all.then_some(block))
 }
 
-/// A block's replies without their text: time, flags, sequence number, acknowledgement number, window.
-fn replies(alloc: Global, block: &Block) -> Result<Vec<(u64, u8, u32, u32, u16)>, Fail> {
-    let mut replies = Vec::new(alloc);
-    for i in 0..block.tcb().replies() {
-        let reply = block.tcb().reply(i);
-        replies.push((reply.at, reply.flags, reply.seq, reply.ack, reply.wnd))?;
-    }
-    Ok(replies)
-}
+/// A reply: time, flags, sequence number, acknowledgement number, window, text.
+type Sent = (u64, u8, u32, u32, u16, &'static [u8]);
 
-/// All text that a block sent.
-fn sent(alloc: Global, block: &Block) -> Result<Vec<u8>, Fail> {
-    let mut text = Vec::new(alloc);
-    for i in 0..block.tcb().replies() {
-        text.extend_from_slice(block.tcb().reply(i).text.as_slice())?;
-    }
-    Ok(text)
-}
-
-/// A block's answers: thread, number, answer.
-fn answers(alloc: Global, block: &Block) -> Result<Vec<(u32, u32, Answer)>, Fail> {
-    let mut answers = Vec::new(alloc);
-    for i in 0..block.answers() {
-        answers.push(block.answer(i))?;
-    }
-    Ok(answers)
-}
-
-/// What serving a block gives: its order, replies, text and answers.
+/// A block: its order, the state of its connection, its replies and its answers (thread, number, answer).
 #[derive(Clone, Copy, Drop)]
-struct Wanted<'a> {
-    order: &'a [Act],
-    replies: &'a [(u64, u8, u32, u32, u16)],
-    text: &'a [u8],
-    answers: &'a [(u32, u32, Answer)],
+struct Wanted {
+    order: &'static [Act],
+    state: State,
+    replies: &'static [Sent],
+    answers: &'static [(u32, u32, Answer)],
 }
 
-fn expect(rt: &impl Abort, alloc: Global, block: &Block, wanted: &Wanted) -> Result<(), Fail> {
-    assert!(rt; !block.short());
-    assert_eq!(rt; block.order(), wanted.order);
-    assert_eq!(rt; replies(alloc, block)?.as_slice(), wanted.replies);
-    assert_eq!(rt; sent(alloc, block)?.as_slice(), wanted.text);
-    assert_eq!(rt; answers(alloc, block)?.as_slice(), wanted.answers);
-    Ok(())
+/// Whether these are all replies of a connection.
+fn has_sent(tcb: &Tcb, replies: &[Sent]) -> bool {
+    if tcb.replies() as usize != replies.len() {
+        return false;
+    }
+    for i in 0..tcb.replies() {
+        let reply = tcb.reply(i);
+        let (at, flags, seq, ack, wnd, text) = replies[i as usize];
+        if reply.at != at || reply.flags != flags || reply.seq != seq {
+            return false;
+        }
+        if reply.ack != ack || reply.wnd != wnd || reply.text.as_slice() != text {
+            return false;
+        }
+    }
+    true
+}
+
+/// Whether these are all answers of a block.
+fn has_answered(block: &Block, answers: &[(u32, u32, Answer)]) -> bool {
+    if block.answers() as usize != answers.len() {
+        return false;
+    }
+    for i in 0..block.answers() {
+        if block.answer(i) != answers[i as usize] {
+            return false;
+        }
+    }
+    true
+}
+
+/// What of a block isn't as it is wanted, or nothing.
+fn difference(block: &Block, wanted: &Wanted) -> &'static str {
+    if block.short() {
+        return "memory";
+    }
+    if block.order() != wanted.order {
+        return "order";
+    }
+    if block.tcb().state() != wanted.state {
+        return "state";
+    }
+    if !has_sent(block.tcb(), wanted.replies) {
+        return "replies";
+    }
+    if !has_answered(block, wanted.answers) {
+        return "answers";
+    }
+    ""
+}
+
+/// There is a block, and it is as it is wanted.
+fn expect(rt: &impl Abort, name: &str, block: &Option<Box<Block>>, wanted: &Wanted) {
+    let differs = match block {
+        None => "no block",
+        Some(block) => difference(block, wanted),
+    };
+    assert!(rt; differs.is_empty(), "{name}: {differs}");
 }
 
 /// Connection 0 of a capture served in this order, where it can be.
@@ -255,7 +297,7 @@ fn served(
     capture: &Capture,
     calls: &Calls,
     order: &[Act],
-) -> Result<Option<Box<Block>>, Fail> {
+) -> Result<Option<Box<Block>>, AllocError> {
     let plan = plan(rt, alloc, capture, false)?;
     if plan.conns() == 0 || !can_serve(&plan, calls, order) {
         return Ok(None);
@@ -263,17 +305,25 @@ fn served(
     Ok(Some(serve_one(alloc, &plan, calls, 0, order)?))
 }
 
-/// A connection that is opened and sends "abcdef".
-fn six_bytes(alloc: Global) -> Result<Capture, Fail> {
-    captured(
-        alloc,
-        &[
-            (0, SYN, 100, 0, b"".as_slice()),
-            (1000, ACK, 101, 501, b"".as_slice()),
-            (2000, PSH_ACK, 101, 501, b"abcdef".as_slice()),
-        ],
-    )
+/// Connection 0 of a capture is served in the order that is wanted, and the block is as it is wanted.
+fn expect_served(
+    rt: &(impl Threads + Sync + Abort),
+    alloc: Global,
+    capture: &Capture,
+    calls: &Calls,
+    wanted: &Wanted,
+) -> Result<(), AllocError> {
+    let block = served(rt, alloc, capture, calls, wanted.order)?;
+    expect(rt, "served in an order", &block, wanted);
+    Ok(())
 }
+
+/// A connection that is opened and sends "abcdef".
+const SIX_BYTES: &[Row] = &[
+    (0, SYN, 100, 0, b""),
+    (1000, ACK, 101, 501, b""),
+    (2000, PSH_ACK, 101, 501, b"abcdef"),
+];
 
 /// Thread 0 makes the buffer 4 bytes large.
 fn buffer_of_four(alloc: Global) -> Result<Calls, AllocError> {
@@ -292,18 +342,29 @@ const BUFFER_FIRST: [Act; 4] = [
 
 const FOUR_BYTES: Wanted = Wanted {
     order: &BUFFER_FIRST,
-    replies: &[(0, SYN_ACK, 500, 101, 4), (2000, PSH_ACK, 501, 105, 4)],
-    text: b"abcd",
+    state: State::Established,
+    replies: &[
+        (0, SYN_ACK, 500, 101, 4, b""),
+        (2000, PSH_ACK, 501, 105, 4, b"abcd"),
+    ],
     answers: &[(0, 0, Answer::Done)],
 };
 
+/// The buffer is made small, and then the segments come.
+fn serve_with_a_small_buffer(
+    rt: &(impl Threads + Sync + Abort),
+    alloc: Global,
+    capture: &Capture,
+) -> Result<(), AllocError> {
+    let calls = buffer_of_four(alloc)?;
+    expect_served(rt, alloc, capture, &calls, &FOUR_BYTES)
+}
+
 #[test]
 fn small_buffer(rt: HostRuntime) -> Result<(), Fail> {
-    let capture = six_bytes(rt.alloc())?;
-    let calls = buffer_of_four(rt.alloc())?;
-    let block = served(&rt, rt.alloc(), &capture, &calls, &BUFFER_FIRST)?;
-    let block = block.expect(&rt, "the order can be served");
-    expect(&rt, rt.alloc(), &block, &FOUR_BYTES)
+    let capture = captured(rt.alloc(), SIX_BYTES)?;
+    serve_with_a_small_buffer(&rt, rt.alloc(), &capture)?;
+    Ok(())
 }
 
 /// The order f0 f1 f2 c0.0 c0.1 c1.0 f3 f4 f5.
@@ -321,13 +382,13 @@ const TWO_THREADS: [Act; 9] = [
 
 const HELLO_AND_CLOSE: Wanted = Wanted {
     order: &TWO_THREADS,
+    state: State::TimeWait,
     replies: &[
-        (0, SYN_ACK, 500, 101, 65535),
-        (2000, PSH_ACK, 501, 106, 65535),
-        (2000, FIN_ACK, 506, 106, 65535),
-        (3000, ACK, 507, 107, 65535),
+        (0, SYN_ACK, 500, 101, 65535, b""),
+        (2000, PSH_ACK, 501, 106, 65535, b"hello"),
+        (2000, FIN_ACK, 506, 106, 65535, b""),
+        (3000, ACK, 507, 107, 65535, b""),
     ],
-    text: b"hello",
     answers: &[
         (
             0,
@@ -353,22 +414,6 @@ const HELLO_AND_CLOSE: Wanted = Wanted {
     ],
 };
 
-/// A block of that order, after which the connection waits.
-fn expect_closed(rt: &impl Abort, alloc: Global, block: &Block) -> Result<(), Fail> {
-    assert_eq!(rt; block.tcb().state(), State::TimeWait);
-    expect(rt, alloc, block, &HELLO_AND_CLOSE)
-}
-
-#[test]
-fn calls_of_two_threads(rt: HostRuntime) -> Result<(), Fail> {
-    let capture = five_segments(rt.alloc())?;
-    let calls = two_threads(rt.alloc())?;
-    assert_eq!(rt; (calls.len(0), calls.len(1), calls.len(2)), (2, 1, 0));
-    let block = served(&rt, rt.alloc(), &capture, &calls, &TWO_THREADS)?;
-    let block = block.expect(&rt, "the order can be served");
-    expect_closed(&rt, rt.alloc(), &block)
-}
-
 /// The same acts, with calls that come early and again.
 const EARLY_AND_AGAIN: [Act; 13] = [
     Act::Feed { n: 0 },
@@ -386,14 +431,21 @@ const EARLY_AND_AGAIN: [Act; 13] = [
     Act::Call { j: 1, k: 0 },
 ];
 
-#[test]
-fn early_repeated_and_late_calls(rt: HostRuntime) -> Result<(), Fail> {
-    let capture = five_segments(rt.alloc())?;
-    let plan = plan(&rt, rt.alloc(), &capture, false)?;
-    let calls = two_threads(rt.alloc())?;
-    let block = given(rt.alloc(), &plan.view(), &calls, &EARLY_AND_AGAIN)?;
-    let block = block.expect(&rt, "each act can come");
-    expect_closed(&rt, rt.alloc(), &block)
+/// These acts come to a block, and it is served in the order without them.
+fn expect_closed(
+    rt: &impl Abort,
+    alloc: Global,
+    plan: &Plan,
+    calls: &Calls,
+) -> Result<(), AllocError> {
+    let block = given(alloc, &plan.view(), calls, &EARLY_AND_AGAIN)?;
+    expect(
+        rt,
+        "early, repeated and late calls",
+        &block,
+        &HELLO_AND_CLOSE,
+    );
+    Ok(())
 }
 
 /// Call 1 of thread 0 comes, and call 0 never does.
@@ -403,16 +455,24 @@ const NEVER_LET_GO: [Act; 3] = [
     Act::Call { j: 1, k: 0 },
 ];
 
-#[test]
-fn call_held_to_the_end(rt: HostRuntime) -> Result<(), Fail> {
-    let capture = five_segments(rt.alloc())?;
-    let plan = plan(&rt, rt.alloc(), &capture, false)?;
-    let calls = two_threads(rt.alloc())?;
-    let block = given(rt.alloc(), &plan.view(), &calls, &NEVER_LET_GO)?;
-    let block = block.expect(&rt, "each act can come");
+/// Whether call 1 of thread 0 is still held, and the others were done.
+fn is_held(block: &Option<Box<Block>>) -> bool {
     let order = [Act::Feed { n: 0 }, Act::Call { j: 1, k: 0 }];
-    assert_eq!(rt; block.order(), order.as_slice());
-    assert_eq!(rt; block.answers(), 1);
+    match block {
+        None => false,
+        Some(block) => block.order() == order.as_slice() && block.answers() == 1,
+    }
+}
+
+/// These acts come to a block, and it holds the call to the end.
+fn expect_held(
+    rt: &impl Abort,
+    alloc: Global,
+    plan: &Plan,
+    calls: &Calls,
+) -> Result<(), AllocError> {
+    let block = given(alloc, &plan.view(), calls, &NEVER_LET_GO)?;
+    assert!(rt; is_held(&block), "a call that is held to the end");
     Ok(())
 }
 
@@ -521,30 +581,68 @@ fn moved(
     assert!(rt; plan.conns() == 1 && plan.items(0) == 6);
     let mut first = Blocks::make(alloc, plan, calls, 0, 2, 2)?;
     let mut second = Blocks::make(alloc, plan, calls, 1, 2, 2)?;
-    assert_eq!(rt;
-        (first.conns(), first.is_here(0), second.is_here(0)),
-        (1, true, false)
-    );
+    assert!(rt; first.conns() == 1);
+    assert!(rt; first.is_here(0) && !second.is_here(0));
     first_acts(&mut first, alloc);
     move_over(&mut first, &mut second);
-    assert_eq!(rt;
-        (second.conns(), first.is_here(0), second.is_here(0)),
-        (1, false, true)
-    );
+    assert!(rt; second.conns() == 1);
+    assert!(rt; !first.is_here(0) && second.is_here(0));
     middle_acts(&mut second, alloc);
     last_acts(&mut second, alloc);
     Ok(second.into_places())
 }
 
+/// There is one place, and its block is as that of the acts without a move.
+fn expect_moved(
+    rt: &impl Abort,
+    alloc: Global,
+    plan: &Plan,
+    calls: &Calls,
+) -> Result<(), AllocError>
+    requires below { All (λ call. call.0 < 1) (all_calls calls.now) }
+    requires status { Contains (all_calls calls.now) (0, 0, 0) }
+    requires close { Contains (all_calls calls.now) (0, 0, 1) }
+    requires other { Contains (all_calls calls.now) (0, 1, 0) }
+{
+    let places = moved(rt, alloc, plan, calls)?;
+    assert!(rt; places.len() == 1);
+    expect(rt, "at two squeues", &places[0], &HELLO_AND_CLOSE);
+    Ok(())
+}
+
+/// The acts come, one after another, to a block of a capture's plan, and to two squeues.
+fn expect_acts(
+    rt: &(impl Threads + Sync + Abort),
+    alloc: Global,
+    capture: &Capture,
+    calls: &Calls,
+) -> Result<(), AllocError>
+    requires below { All (λ call. call.0 < 1) (all_calls calls.now) }
+    requires status { Contains (all_calls calls.now) (0, 0, 0) }
+    requires close { Contains (all_calls calls.now) (0, 0, 1) }
+    requires other { Contains (all_calls calls.now) (0, 1, 0) }
+{
+    let plan = plan(rt, alloc, capture, false)?;
+    expect_closed(rt, alloc, &plan, calls)?;
+    expect_held(rt, alloc, &plan, calls)?;
+    expect_moved(rt, alloc, &plan, calls)
+}
+
+/// Two threads call: the connection is served in an order, and acts come to it.
+fn expect_two_threads(
+    rt: &(impl Threads + Sync + Abort),
+    alloc: Global,
+    capture: &Capture,
+) -> Result<(), AllocError> {
+    let calls = two_threads(alloc)?;
+    assert!(rt; calls.len(0) == 2 && calls.len(1) == 1 && calls.len(2) == 0);
+    expect_served(rt, alloc, capture, &calls, &HELLO_AND_CLOSE)?;
+    expect_acts(rt, alloc, capture, &calls)
+}
+
 #[test]
-fn acts_at_two_squeues(rt: HostRuntime) -> Result<(), Fail> {
-    let capture = five_segments(rt.alloc())?;
-    let plan = plan(&rt, rt.alloc(), &capture, false)?;
-    let calls = two_threads(rt.alloc())?;
-    let mut places = moved(&rt, rt.alloc(), &plan, &calls)?;
-    let Some(Some(block)) = places.pop() else {
-        panic!(rt; "the block isn't at its place")
-    };
-    assert!(rt; places.is_empty());
-    expect_closed(&rt, rt.alloc(), &block)
+fn calls_of_two_threads(rt: HostRuntime) -> Result<(), Fail> {
+    let capture = captured(rt.alloc(), FIVE_SEGMENTS)?;
+    expect_two_threads(&rt, rt.alloc(), &capture)?;
+    Ok(())
 }

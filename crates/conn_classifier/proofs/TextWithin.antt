@@ -1,14 +1,14 @@
 -- The text of a record's segment lies within the record's body.
-use Rattle.std.proofs.Common.{◌≡◌, ℕ, ◌+◌, ◌*◌, ◌≤◌, ◌==◌, ◌&&◌, ◌||◌, not, nat_lt, Bool, true, false, List, length, take, drop, bit_and, refl, arith, if◌then◌else◌}
+use Rattle.std.proofs.Common.{◌≡◌, ℕ, ◌+◌, ◌*◌, ◌≤◌, ◌==◌, ◌&&◌, ◌||◌, not, nat_lt, Bool, true, false, List, length, take, drop, bit_and, Result, Ok, Err, inl, inr, refl, sym, subst, arith, if◌then◌else◌}
 use Rattle.std.proofs.lemmas.List.{length-take}
 use Rattle.std.proofs.lemmas.Bool.{ltb-false}
 use Rattle.std.proofs.Common.{length-drop}
 use Rattle.sq_base.specs.declared.kinds.Link.{Link}
-use Rattle.sq_base.specs.declared.kinds.Link.TheVariants.{Ethernet, RawIp, Cooked}
 use Rattle.segment_codec.specs.Places.{byte, word, high, low}
-use Rattle.segment_codec.specs.Packet.{packet_in, datagram, tcp_packet, segment_of, sums_hold, total_of}
+use Rattle.segment_codec.specs.Packet.{packet_in, packet_at, ip_place, datagram, tcp_packet, segment_of, sums_hold, total_of}
 use Rattle.segment_codec.specs.declared.packet.Packet.{Packet}
 use Rattle.segment_codec.specs.declared.packet.Packet.TheVariants as packet
+use Rattle.segment_codec.proofs.PlaceLemmas.{IsPlace, place_within}
 
 -- the text ends within so many bytes
 abbrev pub EndsWithin : ℕ → Packet → Type 0
@@ -52,19 +52,11 @@ datagram_within n verify ip from le =
     tcp_within n verify ip (take ihl ip) (drop ihl (take (total_of ip) ip)) (from + ihl)
     (omega (arith, le, whole, length-drop ihl (take (total_of ip) ip), length-take (total_of ip) ip))))))))))
 
-behind : (k : ℕ) (verify : Bool) (body : List ℕ) → nat_lt (length body) k ≡ false → EndsWithin (length body) (datagram verify (drop k body) k)
-behind k verify body e =
-    let room : k ≤ length body = omega (arith, ltb-false (length body) k e) in
-    datagram_within (length body) verify (drop k body) k (omega (arith, room, length-drop k body))
-
 pub text_within : (link : Link) (body : List ℕ) (verify : Bool) → EndsWithin (length body) (packet_in link body verify)
 unfolding packet_in
-text_within Ethernet body verify =
-    by_if _ (nat_lt (length body) 14) _ _ (λ a. tt) (λ a.
-    by_if _ (word body 12 == 0x8100) _ _
-    (λ b. by_if _ (nat_lt (length body) 18) _ _ (λ c. tt) (λ c. by_if _ (word body 16 == 0x0800) _ _ (λ d. behind 18 verify body c) (λ d. tt)))
-    (λ b. by_if _ (word body 12 == 0x0800) _ _ (λ d. behind 14 verify body a) (λ d. tt)))
-text_within Cooked body verify =
-    by_if _ (nat_lt (length body) 16) _ _ (λ a. tt) (λ a. by_if _ (word body 14 == 0x0800) _ _ (λ b. behind 16 verify body a) (λ b. tt))
-text_within RawIp body verify =
-    by_if _ (nat_lt 0 (length body) && (high (byte body 0) == 6)) _ _ (λ a. tt) (λ a. datagram_within (length body) verify body 0 (omega arith))
+text_within link body verify = by (ip_place link body) (place_within link body)
+  where
+    by : (r : Result ℕ Packet) → IsPlace (length body) r → EndsWithin (length body) (packet_at verify body r)
+    by (Ok at) room = datagram_within (length body) verify (drop at body) at (omega (arith, room, length-drop at body))
+    by (Err answer) (inl e) = subst (EndsWithin (length body)) (sym e) (tt {0})
+    by (Err answer) (inr e) = subst (EndsWithin (length body)) (sym e) (tt {0})

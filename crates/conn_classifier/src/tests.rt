@@ -1,7 +1,8 @@
 use crate::{Counts, Item, Plan, plan};
 use capture_reader::{Capture, parse_capture};
+use perimeter_core::Feed;
 use sq_base::{Addr, Octets, Tuple};
-use std::alloc::Global;
+use std::alloc::{AllocError, AllocGlobal, Global};
 use std::process::Abort;
 use std::test::Fail;
 use std::thread::Threads;
@@ -9,6 +10,12 @@ use std::thread::Threads;
 /// The header of a capture file: little-endian, microseconds, raw IP.
 const HEADER: [u8; 24] = [
     0xd4, 0xc3, 0xb2, 0xa1, 2, 0, 4, 0, 0, 0, 0, 0, 0, 0, 0, 0, 0, 0, 0, 0, 101, 0, 0, 0,
+];
+
+/// What stands in a record between its time and the ports: the two lengths, and 20 bytes of an IP header without a sum.
+const BEFORE_PORTS: [u8; 28] = [
+    41, 0, 0, 0, 41, 0, 0, 0, 0x45, 0, 0, 41, 0, 0, 0x40, 0, 0x40, 6, 0, 0, 10, 0, 0, 1, 10, 0, 0,
+    2,
 ];
 
 const FIN: u8 = 1;
@@ -23,193 +30,304 @@ const ACK: u8 = 16;
 /// the one byte of its text.
 type Row = (u32, u16, u16, u8, u32, u32, u8);
 
-/// One more record: a datagram of 41 bytes without sums. The change, a place and a byte, is made in the datagram.
-fn add(bytes: &mut Vec<u8>, row: &Row, change: Option<(usize, u8)>) -> Result<(), Fail> {
-    let &(at, from, to, flags, seq, ack, text) = row;
-    bytes.extend_from_slice(&0u32.to_le_bytes())?;
-    bytes.extend_from_slice(&at.to_le_bytes())?;
-    bytes.extend_from_slice(&[41, 0, 0, 0, 41, 0, 0, 0])?;
-    let start = bytes.len();
-    bytes.extend_from_slice(&[0x45, 0, 0, 41, 0, 0, 0x40, 0, 0x40, 6, 0, 0])?;
-    bytes.extend_from_slice(&[10, 0, 0, 1, 10, 0, 0, 2])?;
-    bytes.extend_from_slice(&from.to_be_bytes())?;
-    bytes.extend_from_slice(&to.to_be_bytes())?;
-    bytes.extend_from_slice(&seq.to_be_bytes())?;
-    bytes.extend_from_slice(&ack.to_be_bytes())?;
-    bytes.extend_from_slice(&[0x50, flags, 16, 0, 0, 0, 0, 0, text])?;
-    if let Some((place, byte)) = change {
-        if let Some(changed) = bytes.get_mut(start.saturating_add(place)) {
-            *changed = byte;
-        }
+/// Pieces, one behind another.
+fn add_all(bytes: &mut Vec<u8>, pieces: &[&[u8]]) -> Result<(), AllocError> {
+    for piece in pieces {
+        bytes.extend_from_slice(piece)?;
     }
     Ok(())
 }
 
-fn captured(alloc: Global, rows: &[Row]) -> Result<Capture, Fail> {
+/// One more record: a datagram of 41 bytes without sums.
+fn add(bytes: &mut Vec<u8>, row: &Row) -> Result<(), AllocError> {
+    let &(at, from, to, flags, seq, ack, text) = row;
+    add_all(
+        bytes,
+        &[
+            &[0; 4],
+            &at.to_le_bytes(),
+            &BEFORE_PORTS,
+            &from.to_be_bytes(),
+            &to.to_be_bytes(),
+            &seq.to_be_bytes(),
+            &ack.to_be_bytes(),
+            &[0x50, flags, 16, 0, 0, 0, 0, 0, text],
+        ],
+    )
+}
+
+/// A file of these records.
+fn file(alloc: Global, rows: &[Row]) -> Result<Vec<u8>, AllocError> {
     let mut bytes = Vec::from_slice(alloc, &HEADER)?;
     for row in rows {
-        add(&mut bytes, row, None)?;
+        add(&mut bytes, row)?;
     }
-    Ok(parse_capture(alloc, Octets::of(alloc, &bytes)?)?)
+    Ok(bytes)
 }
 
-/// The items of a connection, none where there is no such one.
-fn items_of(alloc: Global, plan: &Plan, c: u32) -> Result<Vec<Item>, Fail> {
-    let mut items = Vec::new(alloc);
-    if c < plan.conns() {
-        for n in 0..plan.items(c) {
-            items.push(plan.item(c, n))?;
-        }
-    }
-    Ok(items)
+fn read(alloc: Global, bytes: Vec<u8>) -> Result<Capture, Fail> {
+    Ok(parse_capture(alloc, Octets::wrap(bytes))?)
 }
 
-/// The texts of a connection's items, one behind another.
-fn texts_of(alloc: Global, plan: &Plan, c: u32) -> Result<Vec<u8>, Fail> {
-    let mut texts = Vec::new(alloc);
-    if c < plan.conns() {
-        for n in 0..plan.items(c) {
-            texts.extend_from_slice(plan.text(c, n))?;
-        }
-    }
-    Ok(texts)
-}
+/// Flags, sequence number and acknowledgement number of a segment of the one connection.
+type Segment = (u8, u32, u32);
 
-/// The time of each item, with the record's number and the hint where it is a segment.
-fn times_of(alloc: Global, items: &[Item]) -> Result<Vec<(u64, Option<(u32, u32)>)>, Fail> {
-    let mut times = Vec::new(alloc);
-    for item in items {
-        times.push(match *item {
-            Item::Time { at } => (at, None),
-            Item::Segment { at, rec, iss, .. } => (at, Some((rec, iss))),
-        })?;
-    }
-    Ok(times)
-}
-
-/// A capture of one connection, of whose segments these are flags, sequence number and acknowledgement number.
-fn one_connection(alloc: Global, segments: &[(u8, u32, u32)]) -> Result<Capture, Fail> {
-    let mut rows = Vec::new(alloc);
+/// A file of one connection, of whose segments this is said.
+fn one_connection(alloc: Global, segments: &[Segment]) -> Result<Vec<u8>, AllocError> {
+    let mut bytes = Vec::from_slice(alloc, &HEADER)?;
     for &(flags, seq, ack) in segments {
-        rows.push((0, 4000, 7, flags, seq, ack, b'a'))?;
+        add(&mut bytes, &(0, 4000, 7, flags, seq, ack, b'a'))?;
     }
-    captured(alloc, rows.as_slice())
+    Ok(bytes)
 }
 
-/// The hints of a connection with these segments.
-fn hints_of(
+/// The hint of segment `k` of those of connection 0, counted from 0; none where there is no such segment.
+fn hint_of(plan: &Plan, k: usize) -> Option<u32> {
+    if plan.conns() == 0 {
+        return None;
+    }
+    let mut left = k;
+    for n in 0..plan.items(0) {
+        if let Item::Segment { iss, .. } = plan.item(0, n) {
+            if left == 0 {
+                return Some(iss);
+            }
+            left -= 1;
+        }
+    }
+    None
+}
+
+/// Whether the segments of connection 0 have these hints, and there are no more segments.
+fn has_hints(plan: &Plan, hints: &[u32]) -> bool {
+    for (k, hint) in hints.iter().enumerate() {
+        if hint_of(plan, k) != Some(*hint) {
+            return false;
+        }
+    }
+    hint_of(plan, hints.len()).is_none()
+}
+
+/// Whether the segments of a capture's connection have these hints.
+fn gives_hints(
     rt: &(impl Threads + Sync),
     alloc: Global,
-    segments: &[(u8, u32, u32)],
-) -> Result<Vec<u32>, Fail> {
-    let capture = one_connection(alloc, segments)?;
-    let plan = plan(rt, alloc, &capture, false)?;
-    let mut hints = Vec::new(alloc);
-    for item in &items_of(alloc, &plan, 0)? {
-        if let Item::Segment { iss, .. } = *item {
-            hints.push(iss)?;
-        }
-    }
-    Ok(hints)
+    capture: &Capture,
+    hints: &[u32],
+) -> Result<bool, AllocError> {
+    let plan = plan(rt, alloc, capture, false)?;
+    Ok(has_hints(&plan, hints))
+}
+
+/// Whether a connection with these segments has these hints.
+fn looks_ahead(
+    rt: &(impl Threads + Sync),
+    alloc: Global,
+    segments: &[Segment],
+    hints: &[u32],
+) -> Result<bool, Fail> {
+    let capture = read(alloc, one_connection(alloc, segments)?)?;
+    Ok(gives_hints(rt, alloc, &capture, hints)?)
 }
 
 /// An acknowledgement of sequence number 500.
-const ACKED: (u8, u32, u32) = (ACK, 101, 501);
+const ACKED: Segment = (ACK, 101, 501);
 
 /// The segments of a connection, and their hints.
-const HINTS: [(&[(u8, u32, u32)], &[u32]); 8] = [
-    (&[(SYN, 100, 0), ACKED, (SYN, 100, 0)], &[500, 0, 0]),
-    (&[(SYN, 100, 0), (SYN, 200, 0), ACKED], &[0, 500, 0]),
+const HINTS: &[(&str, &[Segment], &[u32])] = &[
     (
+        "a SYN again behind the acknowledgement",
+        &[(SYN, 100, 0), ACKED, (SYN, 100, 0)],
+        &[500, 0, 0],
+    ),
+    (
+        "another SYN before the acknowledgement",
+        &[(SYN, 100, 0), (SYN, 200, 0), ACKED],
+        &[0, 500, 0],
+    ),
+    (
+        "the first SYN again behind another",
         &[(SYN, 7, 0), (SYN, 7, 0), (SYN, 8, 0), (SYN, 7, 0), ACKED],
         &[0, 0, 0, 500, 0],
     ),
-    (&[(SYN, 100, 0), (RST | ACK, 101, 901), ACKED], &[500, 0, 0]),
-    (&[(SYN, 100, 0), (FIN, 101, 901), ACKED], &[500, 0, 0]),
     (
+        "a reset between",
+        &[(SYN, 100, 0), (RST | ACK, 101, 901), ACKED],
+        &[500, 0, 0],
+    ),
+    (
+        "a FIN between",
+        &[(SYN, 100, 0), (FIN, 101, 901), ACKED],
+        &[500, 0, 0],
+    ),
+    (
+        "a SYN with an acknowledgement between",
         &[(SYN, 100, 0), (SYN | ACK, 100, 901), ACKED],
         &[500, 500, 0],
     ),
-    (&[(SYN | RST, 100, 0), (ACK, 101, 0)], &[0xffff_ffff, 0]),
-    (&[(SYN, 100, 0), (RST | ACK, 101, 501)], &[0, 0]),
+    (
+        "a SYN with a reset",
+        &[(SYN | RST, 100, 0), (ACK, 101, 0)],
+        &[0xffff_ffff, 0],
+    ),
+    (
+        "an acknowledgement with a reset alone",
+        &[(SYN, 100, 0), (RST | ACK, 101, 501)],
+        &[0, 0],
+    ),
 ];
 
-#[test]
-fn hints(rt: HostRuntime) -> Result<(), Fail> {
-    for (segments, wanted) in HINTS {
-        let hints = hints_of(&rt, rt.alloc(), segments)?;
-        assert_eq!(rt; hints.as_slice(), wanted, "at {segments:?}");
-    }
+/// Whether 39 segments with the same SYN, and its acknowledgement behind them, have the hints that they are to have.
+fn looks_far_ahead(rt: &(impl Threads + Sync), alloc: Global) -> Result<bool, Fail> {
     let mut many = [(SYN, 100, 0); 40];
     many[39] = ACKED;
     let mut same = [500; 40];
     same[39] = 0;
-    let hints = hints_of(&rt, rt.alloc(), &many)?;
-    assert_eq!(rt; hints.as_slice(), same.as_slice());
+    looks_ahead(rt, alloc, &many, &same)
+}
+
+#[test]
+fn hints(rt: HostRuntime) -> Result<(), Fail> {
+    for &(name, segments, hints) in HINTS {
+        assert!(rt; looks_ahead(&rt, rt.alloc(), segments, hints)?, "{name}");
+    }
+    assert!(rt; looks_far_ahead(&rt, rt.alloc())?, "the same SYN 39 times");
     Ok(())
 }
 
-/// A file with eleven records of different classes, and a cut tail.
-fn all_classes(alloc: Global) -> Result<Capture, Fail> {
-    let mut bytes = Vec::from_slice(alloc, &HEADER)?;
-    for (from, to) in [(4000, 7), (9, 7), (4000, 9), (7, 4000), (4000, 4001)] {
-        add(&mut bytes, &(0, from, to, SYN, 100, 0, b'a'), None)?;
+/// Eleven records: five of different ports, and six that are changed before they are read.
+const CLASSES: &[Row] = &[
+    (0, 4000, 7, SYN, 100, 0, b'a'),
+    (0, 9, 7, SYN, 100, 0, b'a'),
+    (0, 4000, 9, SYN, 100, 0, b'a'),
+    (0, 7, 4000, SYN, 100, 0, b'a'),
+    (0, 4000, 4001, SYN, 100, 0, b'a'),
+    (0, 4000, 7, SYN, 100, 0, b'a'),
+    (0, 4000, 7, SYN, 100, 0, b'a'),
+    (0, 4000, 7, SYN, 100, 0, b'a'),
+    (0, 4000, 7, SYN, 100, 0, b'a'),
+    (0, 4000, 7, SYN, 100, 0, b'a'),
+    (0, 4000, 7, SYN, 100, 0, b'a'),
+];
+
+/// The record, the byte of its datagram that is changed, and to what.
+const CHANGES: &[(u8, u8, u8)] = &[
+    (5, 9, 17),
+    (6, 6, 0x20),
+    (7, 3, 42),
+    (8, 0, 0x55),
+    (9, 32, 0x40),
+    (10, 32, 0xf0),
+];
+
+/// Changes a byte of a record's datagram, in a file of records of 16 and 41 bytes.
+fn change(bytes: &mut [u8], (record, place, byte): (u8, u8, u8)) {
+    let at = 24 + 57 * usize::from(record) + 16 + usize::from(place);
+    if let Some(changed) = bytes.get_mut(at) {
+        *changed = byte;
     }
-    for change in [
-        (9, 17),
-        (6, 0x20),
-        (3, 42),
-        (0, 0x55),
-        (32, 0x40),
-        (32, 0xf0),
-    ] {
-        add(&mut bytes, &(0, 4000, 7, SYN, 100, 0, b'a'), Some(change))?;
+}
+
+/// A file with eleven records of different classes, and a cut tail.
+fn all_classes(alloc: Global) -> Result<Vec<u8>, AllocError> {
+    let mut bytes = file(alloc, CLASSES)?;
+    for row in CHANGES {
+        change(bytes.as_mut_slice(), *row);
     }
     bytes.extend_from_slice(&[0; 15])?;
-    Ok(parse_capture(alloc, Octets::of(alloc, &bytes)?)?)
+    Ok(bytes)
+}
+
+/// What they count as.
+const COUNTS: Counts = Counts {
+    records: 11,
+    tail: 1,
+    served: 3,
+    nofit: 0,
+    server: 1,
+    other: 2,
+    fragment: 1,
+    cut: 1,
+    malformed: 3,
+    badsum: 0,
+};
+
+/// The same where sums are verified.
+const VERIFIED: Counts = Counts {
+    records: 11,
+    tail: 1,
+    served: 0,
+    nofit: 0,
+    server: 0,
+    other: 1,
+    fragment: 1,
+    cut: 1,
+    malformed: 3,
+    badsum: 5,
+};
+
+/// The counts of a capture.
+fn counted(
+    rt: &(impl Threads + Sync),
+    alloc: Global,
+    capture: &Capture,
+    verify: bool,
+) -> Result<Counts, AllocError> {
+    let plan = plan(rt, alloc, capture, verify)?;
+    Ok(plan.counts())
+}
+
+/// A capture has these counts.
+fn expect_counts(
+    rt: &(impl Threads + Sync + Abort),
+    alloc: Global,
+    capture: &Capture,
+    verify: bool,
+    wanted: Counts,
+) -> Result<(), AllocError> {
+    let counts = counted(rt, alloc, capture, verify)?;
+    assert_eq!(rt; counts, wanted, "verify {verify}");
+    Ok(())
 }
 
 #[test]
 fn classes(rt: HostRuntime) -> Result<(), Fail> {
-    let capture = all_classes(rt.alloc())?;
-    let counts = Counts {
-        records: 11,
-        tail: 1,
-        served: 3,
-        nofit: 0,
-        server: 1,
-        other: 2,
-        fragment: 1,
-        cut: 1,
-        malformed: 3,
-        badsum: 0,
-    };
-    let verified = Counts {
-        served: 0,
-        server: 0,
-        other: 1,
-        badsum: 5,
-        ..counts
-    };
-    assert_eq!(rt; plan(&rt, rt.alloc(), &capture, false)?.counts(), counts);
-    assert_eq!(rt; plan(&rt, rt.alloc(), &capture, true)?.counts(), verified);
+    let capture = read(rt.alloc(), all_classes(rt.alloc())?)?;
+    expect_counts(&rt, rt.alloc(), &capture, false, COUNTS)?;
+    expect_counts(&rt, rt.alloc(), &capture, true, VERIFIED)?;
     Ok(())
 }
 
-/// A capture of 4,097 connections, the first and the last with two segments each.
-fn one_too_many(alloc: Global) -> Result<Capture, Fail> {
-    let mut rows = Vec::new(alloc);
+/// 4,099 records: of 4,097 connections, the first and the last with two segments each.
+fn add_one_too_many(bytes: &mut Vec<u8>) -> Result<(), AllocError> {
     for i in 0..4097u16 {
-        rows.push((0, 1000 + i, 7, SYN, 100, 0, b'a'))?;
+        add(bytes, &(0, 1000 + i, 7, SYN, 100, 0, b'a'))?;
     }
-    rows.push((0, 1000, 7, ACK, 101, 501, b'a'))?;
-    rows.push((0, 5096, 7, ACK, 101, 501, b'a'))?;
-    captured(alloc, rows.as_slice())
+    add(bytes, &(0, 1000, 7, ACK, 101, 501, b'a'))?;
+    add(bytes, &(0, 5096, 7, ACK, 101, 501, b'a'))
 }
 
-#[test]
-fn connection_limit(rt: HostRuntime) -> Result<(), Fail> {
-    let capture = one_too_many(rt.alloc())?;
+/// A capture of these records.
+fn one_too_many(alloc: Global) -> Result<Capture, Fail> {
+    let mut bytes = Vec::from_slice(alloc, &HEADER)?;
+    add_one_too_many(&mut bytes)?;
+    read(alloc, bytes)
+}
+
+/// The ends of the last connection that fits.
+const LAST: Tuple = Tuple {
+    client: Addr(0x0a00_0001),
+    client_port: 5095,
+    server: Addr(0x0a00_0002),
+    server_port: 7,
+};
+
+/// So many connections fit, and two of the records have no place.
+fn expect_full(
+    rt: &(impl Threads + Sync + Abort + AllocGlobal),
+    capture: &Capture,
+) -> Result<(), AllocError> {
+    let last = LAST;
     let plan = plan(&rt, rt.alloc(), &capture, false)?;
     assert_eq!(rt; plan.conns(), 4096);
     let counts = plan.counts();
@@ -217,19 +335,20 @@ fn connection_limit(rt: HostRuntime) -> Result<(), Fail> {
         (counts.records, counts.served, counts.nofit),
         (4099, 4097, 2)
     );
-    let last = Tuple {
-        client: Addr(0x0a00_0001),
-        client_port: 5095,
-        server: Addr(0x0a00_0002),
-        server_port: 7,
-    };
     assert_eq!(rt; plan.tuple(4095), last);
     assert_eq!(rt; plan.items(0), 3);
     Ok(())
 }
 
+#[test]
+fn connection_limit(rt: HostRuntime) -> Result<(), Fail> {
+    let capture = one_too_many(rt.alloc())?;
+    expect_full(&rt, &capture)?;
+    Ok(())
+}
+
 /// Two connections. The record times fall twice, and the greatest one is of no connection.
-const TWO: [Row; 7] = [
+const TWO: &[Row] = &[
     (0, 4000, 7, SYN, 100, 0, b'a'),
     (50_000, 4001, 9, SYN, 900, 0, b'b'),
     (100_000, 4000, 7, ACK, 101, 501, b'c'),
@@ -239,63 +358,75 @@ const TWO: [Row; 7] = [
     (199_999, 4000, 7, ACK, 101, 501, b'g'),
 ];
 
-/// The items of each of them: the time, with the record's number and the hint where it is a segment.
-const FIRST_ITEMS: [(u64, Option<(u32, u32)>); 6] = [
-    (0, Some((0, 500))),
-    (100_000, None),
-    (100_000, Some((2, 0))),
-    (100_000, Some((4, 0))),
-    (199_999, Some((6, 0))),
-    (250_000, None),
+/// An item: the time, with the record's number and the hint where it is a segment, and the text.
+type Wanted = (u64, Option<(u32, u32)>, &'static [u8]);
+
+/// The items of each of them.
+const FIRST_ITEMS: &[Wanted] = &[
+    (0, Some((0, 500)), b"a"),
+    (100_000, None, b""),
+    (100_000, Some((2, 0)), b"c"),
+    (100_000, Some((4, 0)), b"e"),
+    (199_999, Some((6, 0)), b"g"),
+    (250_000, None, b""),
 ];
 
-const SECOND_ITEMS: [(u64, Option<(u32, u32)>); 3] = [
-    (50_000, Some((1, 700))),
-    (149_999, Some((3, 0))),
-    (250_000, None),
+const SECOND_ITEMS: &[Wanted] = &[
+    (50_000, Some((1, 700)), b"b"),
+    (149_999, Some((3, 0)), b"d"),
+    (250_000, None, b""),
 ];
 
-/// A connection's items have these times and texts.
-fn expect_items(
-    rt: &impl Abort,
+/// Whether this is the item that is wanted.
+fn is(item: Item, text: &[u8], wanted: &Wanted) -> bool {
+    let (at, segment) = match item {
+        Item::Time { at } => (at, None),
+        Item::Segment { at, rec, iss, .. } => (at, Some((rec, iss))),
+    };
+    at == wanted.0 && segment == wanted.1 && text == wanted.2
+}
+
+/// A connection has these items, and no more.
+fn expect_items(rt: &impl Abort, plan: &Plan, c: u32, items: &[Wanted]) {
+    assert!(rt;
+        c < plan.conns() && plan.items(c) as usize == items.len(),
+        "connection {c}"
+    );
+    for n in 0..plan.items(c) {
+        let is_right = is(plan.item(c, n), plan.text(c, n), &items[n as usize]);
+        assert!(rt; is_right, "item {n} of connection {c}");
+    }
+}
+
+/// What the plan of `TWO` says.
+fn expect_two(rt: &impl Abort, plan: &Plan) {
+    assert!(rt; plan.conns() == 2);
+    expect_items(rt, plan, 0, FIRST_ITEMS);
+    expect_items(rt, plan, 1, SECOND_ITEMS);
+    assert!(rt; plan.ring_of(1, 2) == 1);
+    assert!(rt; plan.first_squeue(1, 3) == 1);
+}
+
+/// Looks at the plan of a capture of `TWO`, and at what its rings bring.
+fn look_at_two(
+    rt: &(impl Threads + Sync + Abort),
     alloc: Global,
-    plan: &Plan,
-    c: u32,
-    times: &[(u64, Option<(u32, u32)>)],
-    texts: &[u8],
-) -> Result<(), Fail> {
-    let items = items_of(alloc, plan, c)?;
-    let found = times_of(alloc, items.as_slice())?;
-    assert_eq!(rt; found.as_slice(), times, "connection {c}");
-    let found = texts_of(alloc, plan, c)?;
-    assert_eq!(rt; found.as_slice(), texts, "connection {c}");
-    Ok(())
+    capture: &Capture,
+) -> Result<(), AllocError> {
+    let plan = plan(rt, alloc, capture, false)?;
+    expect_two(rt, &plan);
+    expect_rings(rt, alloc, &plan)
 }
 
 #[test]
-fn items_of_two_connections(rt: HostRuntime) -> Result<(), Fail> {
-    let capture = captured(rt.alloc(), TWO.as_slice())?;
-    let plan = plan(&rt, rt.alloc(), &capture, false)?;
-    assert_eq!(rt; plan.conns(), 2);
-    expect_items(&rt, rt.alloc(), &plan, 0, &FIRST_ITEMS, b"aceg")?;
-    expect_items(&rt, rt.alloc(), &plan, 1, &SECOND_ITEMS, b"bd")?;
-    assert_eq!(rt; (plan.ring_of(1, 2), plan.first_squeue(1, 3)), (1, 1));
+fn items_and_rings_of_two_connections(rt: HostRuntime) -> Result<(), Fail> {
+    let capture = read(rt.alloc(), file(rt.alloc(), TWO)?)?;
+    look_at_two(&rt, rt.alloc(), &capture)?;
     Ok(())
 }
 
-/// What ring `r` of so many brings: connections and items. Nothing, where there is no such ring.
-fn brought(alloc: Global, plan: &Plan, rings: u32, r: u32) -> Result<Vec<(u32, u32)>, Fail> {
-    let mut list = Vec::new(alloc);
-    if r < rings {
-        for feed in &plan.ring_list(alloc, rings, r)? {
-            list.push((feed.c, feed.n))?;
-        }
-    }
-    Ok(list)
-}
-
-/// So many rings, one of them, and what it brings.
-const BROUGHT: [(u32, u32, &[(u32, u32)]); 4] = [
+/// So many rings, one of them, and what it brings: connections and items.
+const BROUGHT: &[(u32, u32, &[(u32, u32)])] = &[
     (
         1,
         0,
@@ -316,13 +447,36 @@ const BROUGHT: [(u32, u32, &[(u32, u32)]); 4] = [
     (4, 3, &[]),
 ];
 
-#[test]
-fn rings_of_two_connections(rt: HostRuntime) -> Result<(), Fail> {
-    let capture = captured(rt.alloc(), TWO.as_slice())?;
-    let plan = plan(&rt, rt.alloc(), &capture, false)?;
-    for (rings, r, wanted) in BROUGHT {
-        let feeds = brought(rt.alloc(), &plan, rings, r)?;
-        assert_eq!(rt; feeds.as_slice(), wanted, "ring {r} of {rings}");
+/// Whether feeds are of these connections and items.
+fn are(feeds: &[Feed], wanted: &[(u32, u32)]) -> bool {
+    if feeds.len() != wanted.len() {
+        return false;
+    }
+    for (feed, &(c, n)) in feeds.iter().zip(wanted) {
+        if feed.c != c || feed.n != n {
+            return false;
+        }
+    }
+    true
+}
+
+/// Whether a ring brings these feeds.
+fn brings(
+    alloc: Global,
+    plan: &Plan,
+    &(rings, r, wanted): &(u32, u32, &[(u32, u32)]),
+) -> Result<bool, AllocError> {
+    if r >= rings {
+        return Ok(false);
+    }
+    let feeds = plan.ring_list(alloc, rings, r)?;
+    Ok(are(feeds.as_slice(), wanted))
+}
+
+/// The rings bring what `BROUGHT` says.
+fn expect_rings(rt: &impl Abort, alloc: Global, plan: &Plan) -> Result<(), AllocError> {
+    for row in BROUGHT {
+        assert!(rt; brings(alloc, plan, row)?, "ring {} of {}", row.1, row.0);
     }
     Ok(())
 }

@@ -2,11 +2,10 @@
 use Rattle.std.specs.Prelude.{ℕ, ◌-◌, ◌==◌, Bool, List, [], ◌∷◌, ◌++◌, length, codes, if◌then◌else◌}
 use Rattle.std.specs.List.{enumerate_from, flat_map}
 use Rattle.std.specs.Fmt.{decimal}
-use Rattle.hex.specs.Hex.{encode_lower}
 use Rattle.sq_base.specs.Ports.{chargen_port, echo_port}
 use Rattle.sq_base.specs.declared.kinds.Tuple.{Tuple}
 use Rattle.capture_reader.specs.Outcome.{CaptureFile}
-use Rattle.squeue_report.specs.ReportText.{done_line, end_field, end_line, line, reply_line}
+use Rattle.squeue_report.specs.ReportText.{datagram_line, done_line, end_field, end_line, line, reply_line}
 use Rattle.stream_plan.specs.declared.kinds.Counts.{Counts}
 use Rattle.stream_plan.specs.Streams.{MorePlanOf, StreamOf, item_count, more_plan_of}
 use Rattle.stream_blocks.specs.declared.answer.Answer.{Answer}
@@ -38,7 +37,7 @@ unfoldable pub items_line : ℕ → List ℕ
 items_line n = line (codes "order" ∷ (if n == 1 then codes "f0" else codes "f0-" ++ decimal (n - 1)) ∷ [])
 
 unfoldable pub answer_line : Answer → List ℕ
-answer_line a = line (codes "reply" ∷ decimal a.at ∷ encode_lower a.datagram ∷ [])
+answer_line a = datagram_line a.at a.datagram
 
 -- a stream, and what its items were served into
 unfoldable pub stream_text : ℕ → StreamOf → ServedOf → List ℕ

@@ -1,9 +1,10 @@
 -- What the program calls itself, and how it is used: its other lines are those of `squeue_run` under this name.
-use Rattle.std.specs.Prelude.{ℕ, List, codes}
+use Rattle.std.specs.Prelude.{ℕ, List, ◌++◌, codes}
+use Rattle.squeue_enter.specs.Ways.{mode_words}
 use Rattle.squeue_run.specs.Lines.{line}
 
 abbrev pub sqmore : List ℕ
 sqmore = codes "sqmore"
 
 abbrev pub usage_line : List ℕ
-usage_line = line (codes "usage: sqmore [--squeues N] [--rings N] [--mode process|nodrain|fill] [--budget N]")
+usage_line = codes "usage: sqmore [--squeues N] [--rings N] [--mode " ++ (mode_words ++ line (codes "] [--budget N]"))

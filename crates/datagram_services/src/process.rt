@@ -4,7 +4,7 @@ ghost use Rattle.std.specs.Prelude.{◌≡◌};
 ghost use Rattle.std.specs.Process.{exit_status};
 ghost use Rattle.sq_base.specs.StatusCode.{code_of};
 
-use crate::refusal::{NO_MEMORY, USAGE, told};
+use crate::refusal::{NO_MEMORY, told, told_usage};
 use crate::run::more_run;
 use sq_base::{Status, StdSink, StdSource};
 use std::alloc::AllocGlobal;
@@ -25,7 +25,7 @@ pub fn run_process<E: Write + Drop>(
         Ok(words) => words,
         // A word that isn't UTF-8 is none of the usage line's.
         Err(error) if error.kind() == io::ErrorKind::InvalidData => {
-            return exit_code(told(&mut err, USAGE, Status::Usage));
+            return exit_code(told_usage(&mut err));
         }
         Err(_) => {
             return exit_code(told(&mut err, NO_MEMORY, Status::NoMemory));

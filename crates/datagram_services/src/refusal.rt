@@ -10,14 +10,17 @@ ghost use Rattle.datagram_services.specs.RefusalLines.{sqmore};
 use capture_reader::CaptureFault;
 use pcapng_reader::{InputFault, PcapngFault};
 use sq_base::{Sink, Status, put};
-use squeue_run::{bad_capture, bad_pcapng};
+use squeue_run::{bad_capture, bad_pcapng, tell_usage};
 use std::alloc::{AllocError, Global};
 
 /// The name that the program calls itself by.
 const SQMORE: &str = "sqmore";
 
-pub const USAGE: &[u8] =
-    b"usage: sqmore [--squeues N] [--rings N] [--mode process|nodrain|fill] [--budget N]\n";
+/// The usage line up to the modes' words.
+const USAGE_FRONT: &[u8] = b"usage: sqmore [--squeues N] [--rings N] [--mode ";
+
+/// The usage line after the modes' words.
+const USAGE_END: &[u8] = b"] [--budget N]\n";
 
 pub const NO_MEMORY: &[u8] = b"sqmore: out of memory\n";
 
@@ -52,7 +55,7 @@ pub fn refuse<E: Sink>(alloc: Global, err: &mut E, refusal: Refusal) -> Status
     ensures { MoreTold refusal (end_of E.contents E.write_faults err.old err.new) result }
 {
     match refusal {
-        Refusal::Usage => told(err, USAGE, Status::Usage),
+        Refusal::Usage => told_usage(err),
         Refusal::NoMemory => told(err, NO_MEMORY, Status::NoMemory),
         Refusal::Input(InputFault::Capture(fault)) => refuse_capture(alloc, err, &fault),
         Refusal::Input(InputFault::Pcapng(fault)) => refuse_pcapng(alloc, err, &fault),
@@ -79,6 +82,14 @@ fn refuse_pcapng<E: Sink>(alloc: Global, err: &mut E, fault: &PcapngFault) -> St
         PcapngFault::TooManyRecords => told(err, MANY_RECORDS, Status::TooLarge),
         _ => told_line(err, bad_pcapng(alloc, SQMORE, fault)),
     }
+}
+
+/// Writes the usage line, and gives its status.
+pub fn told_usage<E: Sink>(err: &mut E) -> Status
+    ensures { MoreTold Refusal.Usage (end_of E.contents E.write_faults err.old err.new) result }
+{
+    tell_usage(err, USAGE_FRONT, USAGE_END);
+    Status::Usage
 }
 
 /// Appends a line, where that works.

@@ -11,7 +11,7 @@ ghost use Rattle.datagram_services.specs.Served.{IsMoreServed};
 use crate::served::MoreServed;
 use chargen_service::GenBlock;
 use sq_base::{CHARGEN_PORT, ECHO_PORT, Octets, Tuple};
-use squeue_report::{push_end, push_replies, state_name};
+use squeue_report::{push_datagram, push_end, push_replies, state_name};
 use std::alloc::{AllocError, Global};
 use stream_blocks::Answer;
 use stream_plan::MorePlan;
@@ -126,8 +126,7 @@ fn push_answers(alloc: Global, text: &mut String, answers: &[Answer]) -> Result<
 fn push_answer(alloc: Global, text: &mut String, answer: &Answer) -> Result<(), AllocError>
     ensures { OnOk result (string_bytes text.new ≡ string_bytes text.old ++ answer_line answer.now) }
 {
-    let digits = hex::encode(alloc, answer.datagram.as_slice())?;
-    writeln!(text, "reply {} {}", answer.at, digits.as_str())
+    push_datagram(alloc, text, answer.at, answer.datagram.as_slice())
 }
 
 /// What the generator sent, and its last state where the stream is its own.

@@ -1,14 +1,15 @@
 //! From the bytes of a capture to what is served, by one squeue and by several.
 
 ghost use Rattle.std.specs.Prelude.{◌≡◌, false};
+ghost use Rattle.datagram_services.specs.Served.{IsMoreServed};
 ghost use Rattle.ring_quotas.specs.Quotas.{IsInRange};
 
-use crate::{Setup, more_report, more_run, serve_more};
+use crate::{MoreServed, Setup, more_report, more_run, serve_more};
 use capture_reader::{Capture, parse_capture};
 use perimeter_core::{Hook, NoHook};
 use sq_base::{MemSink, MemSource, Octets, Status};
 use squeue_enter::Mode;
-use std::alloc::Global;
+use std::alloc::{AllocError, Global};
 use std::process::Abort;
 use std::sync::Wait;
 use std::sync::atomic::{AtomicBool, Ordering};
@@ -49,33 +50,60 @@ const ECHOED: [u8; 30] = [
     0x88, 0, 10, 0x6f, 0xdf, 0x68, 0x69,
 ];
 
-/// One more record.
-fn add(bytes: &mut Vec<u8>, row: &Row) -> Result<(), Fail> {
-    let &(at, protocol, from, to, flags, seq, ack) = row;
-    let len = if protocol == UDP { 30u8 } else { 40 };
-    bytes.extend_from_slice(&0u32.to_le_bytes())?;
-    bytes.extend_from_slice(&at.to_le_bytes())?;
-    bytes.extend_from_slice(&[len, 0, 0, 0, len, 0, 0, 0])?;
-    bytes.extend_from_slice(&[0x45, 0, 0, len, 0, 0, 0x40, 0, 0x40, protocol, 0, 0])?;
-    bytes.extend_from_slice(&[10, 0, 0, 1, 10, 0, 0, 2])?;
-    bytes.extend_from_slice(&from.to_be_bytes())?;
-    bytes.extend_from_slice(&to.to_be_bytes())?;
-    if protocol == UDP {
-        bytes.extend_from_slice(&[0, 10, 0, 0, 0x68, 0x69])?;
-    } else {
-        bytes.extend_from_slice(&seq.to_be_bytes())?;
-        bytes.extend_from_slice(&ack.to_be_bytes())?;
-        bytes.extend_from_slice(&[0x50, flags, 0, 10, 0, 0, 0, 0])?;
+/// Pieces, one behind another.
+fn add_all(bytes: &mut Vec<u8>, pieces: &[&[u8]]) -> Result<(), AllocError> {
+    for piece in pieces {
+        bytes.extend_from_slice(piece)?;
     }
     Ok(())
 }
 
-fn captured(alloc: Global, rows: &[Row]) -> Result<Capture, Fail> {
+/// What stands behind the ports of a row of `ROWS` or `TWO`.
+fn add_rest(bytes: &mut Vec<u8>, row: &Row) -> Result<(), AllocError> {
+    let &(_, protocol, _, _, flags, seq, ack) = row;
+    if protocol == UDP {
+        return bytes.extend_from_slice(&[0, 10, 0, 0, 0x68, 0x69]);
+    }
+    add_all(
+        bytes,
+        &[
+            &seq.to_be_bytes(),
+            &ack.to_be_bytes(),
+            &[0x50, flags, 0, 10, 0, 0, 0, 0],
+        ],
+    )
+}
+
+/// One more record.
+fn add(bytes: &mut Vec<u8>, row: &Row) -> Result<(), AllocError> {
+    let &(at, protocol, from, to, _, _, _) = row;
+    let len = if protocol == UDP { 30u8 } else { 40 };
+    add_all(
+        bytes,
+        &[
+            &[0; 4],
+            &at.to_le_bytes(),
+            &[len, 0, 0, 0, len, 0, 0, 0],
+            &[0x45, 0, 0, len, 0, 0, 0x40, 0, 0x40, protocol, 0, 0],
+            &[10, 0, 0, 1, 10, 0, 0, 2],
+            &from.to_be_bytes(),
+            &to.to_be_bytes(),
+        ],
+    )?;
+    add_rest(bytes, row)
+}
+
+fn file(alloc: Global, rows: &[Row]) -> Result<Vec<u8>, AllocError> {
     let mut bytes = Vec::from_slice(alloc, &HEADER)?;
     for row in rows {
         add(&mut bytes, row)?;
     }
-    Ok(parse_capture(alloc, Octets::of(alloc, &bytes)?)?)
+    Ok(bytes)
+}
+
+fn captured(alloc: Global, rows: &[Row]) -> Result<Capture, Fail> {
+    let bytes = file(alloc, rows)?;
+    Ok(parse_capture(alloc, Octets::wrap(bytes))?)
 }
 
 /// Stream 0 of `ROWS`: its one answer.
@@ -97,22 +125,29 @@ fn expect_chargen(rt: &impl Abort, tcb: &Tcb) {
     assert_eq!(rt; last.text.as_slice(), b"456789:;<=".as_slice());
 }
 
+/// What was served of the plan of `ROWS`.
+fn expect_served(rt: &impl Abort, plan: &MorePlan<'_>, served: &MoreServed)
+    requires { IsMoreServed plan.now served.now }
+{
+    assert!(rt; plan.streams() == 3);
+    expect_echo(rt, served.answers(0));
+    expect_chargen(rt, served.generator(1).tcb());
+    assert!(rt; served.answers(2).is_empty());
+}
+
 /// Serves the plan of `ROWS`, and looks at what was served.
 fn check<W: Threads + Wait + Sync + Abort>(
     rt: &W,
     alloc: Global,
     plan: &MorePlan<'_>,
     setup: &Setup,
-) -> Result<(), Fail>
+) -> Result<(), AllocError>
     requires setup { IsInRange setup.now }
     requires spread { setup.now.spread ≡ 0 }
     requires trace { setup.now.trace ≡ false }
 {
     let served = serve_more(rt, alloc, plan, setup, &NoHook)?;
-    assert!(rt; plan.streams() == 3);
-    expect_echo(rt, served.answers(0));
-    expect_chargen(rt, served.generator(1).tcb());
-    assert_eq!(rt; served.answers(2).len(), 0);
+    expect_served(rt, plan, &served);
     Ok(())
 }
 
@@ -143,14 +178,6 @@ const PAIR: Setup = Setup {
     spread: 0,
     trace: false,
 };
-
-#[test]
-fn setup_does_not_matter(rt: HostRuntime) -> Result<(), Fail> {
-    let capture = captured(rt.alloc(), &ROWS)?;
-    let plan = more_plan(rt.alloc(), &capture)?;
-    check(&rt, rt.alloc(), &plan, &ONE)?;
-    check(&rt, rt.alloc(), &plan, &MOST)
-}
 
 /// How often one looks for the other before it gives up.
 const TURNS: u32 = 1 << 22;
@@ -195,6 +222,16 @@ fn serve_two<W: Threads + Wait + Sync + Abort>(
     Ok(())
 }
 
+/// Both came, and neither waited in vain.
+fn expect_met(rt: &impl Abort, meeting: &Meeting) {
+    assert!(rt; meeting.first.load(Ordering::SeqCst));
+    assert!(rt; meeting.second.load(Ordering::SeqCst));
+    assert!(rt;
+        !meeting.in_vain.load(Ordering::SeqCst),
+        "nobody waits in vain"
+    );
+}
+
 /// Two rings are inside two squeues at once.
 #[test]
 fn rings_beside_each_other(rt: HostRuntime) -> Result<(), Fail> {
@@ -204,12 +241,7 @@ fn rings_beside_each_other(rt: HostRuntime) -> Result<(), Fail> {
         in_vain: AtomicBool::new(false),
     };
     serve_two(&rt, rt.alloc(), &meeting)?;
-    assert!(rt; meeting.first.load(Ordering::SeqCst));
-    assert!(rt; meeting.second.load(Ordering::SeqCst));
-    assert!(rt;
-        !meeting.in_vain.load(Ordering::SeqCst),
-        "nobody waits in vain"
-    );
+    expect_met(&rt, &meeting);
     Ok(())
 }
 
@@ -237,22 +269,42 @@ fn report_of(
     rt: &(impl Threads + Wait + Sync),
     alloc: Global,
     plan: &MorePlan<'_>,
-) -> Result<Octets, Fail> {
+) -> Result<Octets, AllocError> {
     let served = serve_more(rt, alloc, plan, &PAIR, &NoHook)?;
-    Ok(more_report(alloc, plan, &served)?)
+    more_report(alloc, plan, &served)
 }
 
-#[test]
-fn reports(rt: HostRuntime) -> Result<(), Fail> {
-    let capture = captured(rt.alloc(), &ROWS)?;
-    let plan = more_plan(rt.alloc(), &capture)?;
-    let text = report_of(&rt, rt.alloc(), &plan)?;
+fn expect_report(
+    rt: &(impl Threads + Wait + Sync + Abort),
+    alloc: Global,
+    plan: &MorePlan<'_>,
+) -> Result<(), AllocError> {
+    let text = report_of(rt, alloc, plan)?;
     assert_eq!(rt; text.as_slice(), REPORT.as_bytes());
     Ok(())
 }
 
+/// The plan of `ROWS` is served in each setup, and then reported.
+fn expect_rows<W: Threads + Wait + Sync + Abort>(
+    rt: &W,
+    alloc: Global,
+    capture: &Capture,
+) -> Result<(), AllocError> {
+    let plan = more_plan(alloc, capture)?;
+    check(rt, alloc, &plan, &ONE)?;
+    check(rt, alloc, &plan, &MOST)?;
+    expect_report(rt, alloc, &plan)
+}
+
+#[test]
+fn served_and_reported(rt: HostRuntime) -> Result<(), Fail> {
+    let capture = captured(rt.alloc(), &ROWS)?;
+    expect_rows(&rt, rt.alloc(), &capture)?;
+    Ok(())
+}
+
 /// The words that stand between bars; an empty text is no word.
-fn words_of(alloc: Global, line: &str) -> Result<Vec<String>, Fail> {
+fn words_of(alloc: Global, line: &str) -> Result<Vec<String>, AllocError> {
     let mut words = Vec::new(alloc);
     if !line.is_empty() {
         for word in line.split('|') {
@@ -263,7 +315,7 @@ fn words_of(alloc: Global, line: &str) -> Result<Vec<String>, Fail> {
 }
 
 /// Words, and how a run over a capture without records ends for them.
-const WORDS: [(&str, Status); 12] = [
+const WORDS: &[(&str, Status)] = &[
     ("", Status::Ok),
     ("--squeues|16|--rings=8|--mode|fill|--budget|1", Status::Ok),
     ("--spread|1", Status::Usage),
@@ -292,8 +344,11 @@ struct Ended {
     err: MemSink,
 }
 
-fn ran(rt: &(impl Threads + Wait + Sync), alloc: Global, line: &str) -> Result<Ended, Fail> {
-    let words = words_of(alloc, line)?;
+fn ran(
+    rt: &(impl Threads + Wait + Sync),
+    alloc: Global,
+    words: &Vec<String>,
+) -> Result<Ended, AllocError> {
     let mut src = MemSource::make(alloc, &HEADER, 65_536, &[])?;
     let mut out = MemSink::make(alloc, 1000, 1000, &[])?;
     let mut err = MemSink::make(alloc, 1000, 1000, &[])?;
@@ -301,18 +356,49 @@ fn ran(rt: &(impl Threads + Wait + Sync), alloc: Global, line: &str) -> Result<E
     Ok(Ended { status, out, err })
 }
 
+fn ran_with(
+    rt: &(impl Threads + Wait + Sync),
+    alloc: Global,
+    line: &str,
+) -> Result<Ended, AllocError> {
+    let words = words_of(alloc, line)?;
+    ran(rt, alloc, &words)
+}
+
+/// What of it isn't as it is to be where a run ends so, or nothing.
+fn difference(ended: &Ended, status: Status) -> &'static str {
+    let (written, told): (&[u8], &[u8]) = if status == Status::Ok {
+        (NOTHING, b"")
+    } else {
+        (b"", USAGE)
+    };
+    if ended.status != status {
+        return "how it ended";
+    }
+    if ended.out.bytes() != written {
+        return "what was written";
+    }
+    if ended.err.bytes() != told {
+        return "what was told";
+    }
+    ""
+}
+
+fn expect_words(
+    rt: &(impl Threads + Wait + Sync + Abort),
+    alloc: Global,
+    &(line, status): &(&str, Status),
+) -> Result<(), AllocError> {
+    let ended = ran_with(rt, alloc, line)?;
+    let differs = difference(&ended, status);
+    assert!(rt; differs.is_empty(), "{line}: {differs}");
+    Ok(())
+}
+
 #[test]
 fn words_as_a_table(rt: HostRuntime) -> Result<(), Fail> {
-    for (line, status) in WORDS {
-        let ended = ran(&rt, rt.alloc(), line)?;
-        assert_eq!(rt; ended.status, status, "{line}");
-        let (written, told): (&[u8], &[u8]) = if status == Status::Ok {
-            (NOTHING, b"")
-        } else {
-            (b"", USAGE)
-        };
-        assert_eq!(rt; ended.out.bytes(), written, "{line}");
-        assert_eq!(rt; ended.err.bytes(), told, "{line}");
+    for row in WORDS {
+        expect_words(&rt, rt.alloc(), row)?;
     }
     Ok(())
 }

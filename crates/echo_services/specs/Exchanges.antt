@@ -24,7 +24,7 @@ pub record IsAnswered (x : Row) : Type 0 where
 
 -- a SYN with window 4096 and an MSS: time, hint, sequence number, MSS
 abbrev pub gets_mss : ℕ → ℕ → ℕ → ℕ → Entry
-gets_mss at iss seq mss = segment at iss (record (seg syn seq 0 4096 None []) { mss = Some mss }) []
+gets_mss at iss seq mss = segment at iss (record (seg syn seq 0 4096 []) { mss = Some mss }) []
 
 -- the ways to some states
 abbrev pub closed : List Entry

@@ -1,5 +1,5 @@
 -- What a service does with the two streams of a block: echo (RFC 862), discard (RFC 863).
-use Rattle.std.specs.Prelude.{ℕ, ◌==◌, min, ◌&&◌, not, Bool, true, false, ◌++◌, if◌then◌else◌}
+use Rattle.std.specs.Prelude.{ℕ, ◌==◌, min, ◌&&◌, not, Bool, true, false, List, ◌++◌, codes, if◌then◌else◌}
 use Rattle.byte_queues.specs.ReceiveQueue.{ready_of, next_bytes, without}
 use Rattle.byte_queues.specs.SendQueue.{room_of}
 use Rattle.tcb_machine.specs.BlockState.{Block}
@@ -60,3 +60,8 @@ followed service (on b) = b
 -- the service of a port
 abbrev pub service_of : ℕ → Service
 service_of port = if port == echo_port then Echo else Discard
+
+-- RFC 862, RFC 863
+unfoldable pub service_word : Service → List ℕ
+service_word Echo = codes "echo"
+service_word Discard = codes "discard"

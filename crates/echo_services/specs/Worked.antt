@@ -1,9 +1,11 @@
 -- Worked exchanges: what one connection is given, what it sends, and its state then. Times are in microseconds.
 use Rattle.std.specs.Prelude.{◌≡◌, ℕ, ◌+◌, List, [], ◌∷◌, ◌++◌, Option, None, Some, length, zero, suc, codes}
+use Rattle.sq_base.specs.declared.kinds.Tuple.{Tuple}
 use Rattle.segment_codec.specs.declared.packet.Seg.{Seg}
 use Rattle.segment_codec.specs.declared.packet.Reply.{Reply}
 use Rattle.tcb_machine.specs.BlockState.{new_block}
 use Rattle.segment_codec.specs.ControlBits.{ack, fin, psh, rst, syn}
+use Rattle.segment_codec.specs.PlainSegments.{plain, plain_from}
 use Rattle.tcb_machine.specs.declared.kinds.State.{State}
 use Rattle.tcb_machine.specs.declared.kinds.State.TheVariants.{Listen, SynReceived, Established, LastAck, TimeWait}
 use Rattle.tcb_machine.specs.declared.kinds.Call.TheVariants as call
@@ -20,38 +22,29 @@ pub record IsEchoed (x : Exchange) : Type 0 where
   pub sent : (serves Echo x.given new_block).replies ≡ x.sent
   pub state : (serves Echo x.given new_block).state ≡ x.state
 
--- a segment from 10.0.0.1:4000 to 10.0.0.2:7
-abbrev pub seg : ℕ → ℕ → ℕ → ℕ → Option ℕ → List ℕ → Seg
-seg flags seq ack wnd scale text = record {
-  src = record { 0 = 0x0a000001 };
-  src_port = 4000;
-  dst = record { 0 = 0x0a000002 };
-  dst_port = 7;
-  seq = seq;
-  ack = ack;
-  flags = flags;
-  wnd = wnd;
-  mss = None;
-  scale = scale;
-  text_from = 40;
-  text_len = length text;
-}
+-- the client is 10.0.0.1:4000, the server 10.0.0.2:7
+abbrev pub ends : Tuple
+ends = record { client = record { 0 = 0x0a000001 }; client_port = 4000; server = record { 0 = 0x0a000002 }; server_port = 7 }
+
+-- a segment of the client without options: control bits, sequence number, acknowledgement number, window, text
+abbrev pub seg : ℕ → ℕ → ℕ → ℕ → List ℕ → Seg
+seg flags seq ack wnd text = plain_from ends flags seq ack wnd 40 (length text)
 
 -- time, control bits, sequence number, acknowledgement number, window, text
 abbrev pub gets : ℕ → ℕ → ℕ → ℕ → ℕ → List ℕ → Entry
-gets at flags seq ack wnd text = segment at 0 (seg flags seq ack wnd None text) text
+gets at flags seq ack wnd text = segment at 0 (seg flags seq ack wnd text) text
 
 -- a SYN with window 4096: time, hint, sequence number, window scale
 abbrev pub gets_syn : ℕ → ℕ → ℕ → Option ℕ → Entry
-gets_syn at iss seq scale = segment at iss (record (seg syn seq 0 4096 None []) { scale = scale }) []
+gets_syn at iss seq scale = segment at iss (record (seg syn seq 0 4096 []) { scale = scale }) []
 
 -- time, control bits, sequence number, acknowledgement number, window, text
 abbrev pub puts : ℕ → ℕ → ℕ → ℕ → ℕ → List ℕ → Reply
-puts at flags seq ack wnd text = record { at = at; flags = flags; seq = seq; ack = ack; wnd = wnd; mss = None; scale = None; text = text }
+puts at flags seq ack wnd text = plain at flags seq ack wnd text
 
 -- the SYN,ACK with the MSS: time, sequence number, acknowledgement number, window, window scale
 abbrev pub puts_syn : ℕ → ℕ → ℕ → ℕ → Option ℕ → Reply
-puts_syn at seq ack wnd scale = record { at = at; flags = 18; seq = seq; ack = ack; wnd = wnd; mss = Some 1460; scale = scale; text = [] }
+puts_syn at seq ack wnd scale = record (plain at 18 seq ack wnd []) { mss = Some 1460; scale = scale }
 
 -- the handshake of most exchanges
 abbrev pub opened : List Entry

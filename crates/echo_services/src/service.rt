@@ -1,11 +1,11 @@
 //! Which service a port has, and what it does with what was received.
 
-ghost use Rattle.std.specs.Prelude.{◌≡◌, ◌+◌, ◌≤◌, ◌⊎◌, min, OnOk};
+ghost use Rattle.std.specs.Prelude.{◌≡◌, ◌+◌, ◌≤◌, true, min, OnOk};
 ghost use Rattle.tcb_machine.specs.BlockState.{offered};
-ghost use Rattle.echo_services.specs.Pump.{service_of, moves, ends, echoes, pump};
+ghost use Rattle.echo_services.specs.Pump.{service_of, service_word, moves, ends, echoes, pump};
 ghost use Rattle.byte_queues.specs.ReceiveQueue.{next_of, ready_of};
 ghost use Rattle.byte_queues.specs.SendQueue.{room_of};
-ghost use Rattle.sq_base.specs.Ports.{discard_port, echo_port};
+ghost use Rattle.sq_base.specs.Ports.{is_served_port};
 ghost use Rattle.tcb_machine.specs.Limits.{whole_space};
 ghost use Rattle.byte_queues.specs.Limits.{send_space};
 
@@ -25,13 +25,24 @@ pub enum Service {
 impl Service {
     /// The service of a port: 7 is echo, 9 discard.
     pub fn of(port: u16) -> Service
-        requires { (port ≡ echo_port) ⊎ (port ≡ discard_port) }
+        requires { is_served_port port ≡ true }
         ensures { result ≡ service_of port }
     {
         if port == ECHO_PORT {
             Service::Echo
         } else {
             Service::Discard
+        }
+    }
+
+    /// The service's name: echo (RFC 862) or discard (RFC 863).
+    #[tactic(auto, unfolding(crate::specs::Pump::service_word))]
+    pub fn name(self) -> &'static str
+        ensures { result.now ≡ service_word self }
+    {
+        match self {
+            Service::Echo => "echo",
+            Service::Discard => "discard",
         }
     }
 }

@@ -1,13 +1,13 @@
 //! The table of connections, and what a datagram and the time do to it.
 
-ghost use Rattle.std.specs.Prelude.{◌≡◌, ◌++◌, ◌<◌, ◌≤◌, ◌^◌, ◌⊎◌, [], ◌∷◌, length, nat_lt, position, remove, None, Some, IsTrue, false, OnOk};
+ghost use Rattle.std.specs.Prelude.{◌≡◌, ◌++◌, ◌<◌, ◌≤◌, ◌^◌, [], ◌∷◌, length, nat_lt, position, remove, None, Some, IsTrue, true, false, OnOk};
 ghost use Rattle.std.specs.Map.{values_of};
 ghost use Rattle.segment_codec.specs.Refusal.{tuple_of};
 ghost use Rattle.sq_base.specs.declared.kinds.Tuple.{Tuple};
 ghost use Rattle.live_server.specs.Initial.{number_for};
 ghost use Rattle.live_server.specs.Serving.{on_datagram, on_segment, on_time, opens, refused};
 ghost use Rattle.live_server.specs.Table.{gives_way, is_half_open, is_over, with_place, IsNew};
-ghost use Rattle.sq_base.specs.Ports.{discard_port, echo_port};
+ghost use Rattle.sq_base.specs.Ports.{is_served_port};
 ghost use Rattle.tcb_machine.specs.Limits.{last_time};
 
 use crate::acting::{Datagram, encoded, reach, receive, send, text_of};
@@ -132,7 +132,7 @@ impl Server {
         out: &mut Vec<Datagram>,
     ) -> Result<(), AllocError>
         requires time { now ≤ last_time }
-        requires port { (seg.now.dst_port ≡ echo_port) ⊎ (seg.now.dst_port ≡ discard_port) }
+        requires port { is_served_port seg.now.dst_port ≡ true }
         ensures server { OnOk result (self.new ≡ (on_segment now seg.now text.now self.old).server) }
         ensures sent { OnOk result (out.new.items ≡ out.old.items ++ (on_segment now seg.now text.now self.old).sent) }
     {

@@ -1,8 +1,9 @@
 -- Each record of a file lies in its bytes, and there are never too many.
-use Rattle.std.proofs.Common.{◌≡◌, ℕ, zero, suc, ◌+◌, ◌-◌, ◌*◌, ◌/◌, ◌^◌, ◌<◌, ◌≤◌, true, false, cond, List, [], ◌∷◌, ◌++◌, length, drop, slice_get, Option, None, Some, Ok, Err, ◌⊎◌, inl, inr, subst, refl, arith, leb, eqb, ◌&&◌}
+use Rattle.std.proofs.Common.{◌≡◌, ℕ, zero, suc, ◌+◌, ◌-◌, ◌*◌, ◌/◌, ◌^◌, ◌<◌, ◌≤◌, true, false, cond, List, [], ◌∷◌, ◌++◌, length, drop, slice_get, Option, None, Some, is_some, Ok, Err, ◌⊎◌, inl, inr, subst, refl, arith, leb, eqb, ◌&&◌}
 use Rattle.std.proofs.lemmas.Bool.Decides.{nat_tests}
 use Rattle.std.proofs.lemmas.List.{length_push}
 use Rattle.std.specs.List.{AllByRecursion}
+use Rattle.sq_base.specs.Links.{link_of}
 use Rattle.capture_reader.specs.Limits.{most_records, longest_body, latest_time}
 use Rattle.capture_reader.specs.Outcome.{IsInside}
 use Rattle.capture_reader.specs.declared.capture.Record.{Record}
@@ -15,7 +16,7 @@ use Rattle.pcapng_reader.specs.declared.fault.PcapngFault.TheVariants as fault
 use Rattle.pcapng_reader.specs.Limits.{section_type, interface_type, simple_type, packet_type, least}
 use Rattle.pcapng_reader.specs.Numbers.{number, padded}
 use Rattle.pcapng_reader.specs.Options.{time_of}
-use Rattle.pcapng_reader.specs.Blocks.{State, Answer, section_says, interface_in, interface_says, is_link, is_same, record_says, packet_on, packet_says, simple_on, simple_says, last_at, content_says}
+use Rattle.pcapng_reader.specs.Blocks.{State, Answer, section_says, interface_in, interface_says, is_same, record_says, packet_on, packet_says, simple_on, simple_says, last_at, content_says}
 use Rattle.pcapng_reader.specs.SoFar.{AreRecords}
 use Rattle.pcapng_reader.proofs.Frames.{when}
 
@@ -111,8 +112,8 @@ module _ (bytes : List ℕ) (s : State) (were : AreRecords bytes s.records) wher
       by_same (inl h) = alike bytes s Joined new h.1 refl refl were
       by_same (inr h) = absurd (not_read _ new h.1)
 
-      by_link : ((is_link Named ≡ true) × (cond (is_same s.link Named) (read Joined) (refused (fault.MixedLink s.blocks Named)) ≡ read new))
-          ⊎ ((is_link Named ≡ false) × (refused (fault.Link s.blocks Named) ≡ read new)) → Kept bytes s new
+      by_link : ((is_some (link_of Named) ≡ true) × (cond (is_same s.link Named) (read Joined) (refused (fault.MixedLink s.blocks Named)) ≡ read new))
+          ⊎ ((is_some (link_of Named) ≡ false) × (refused (fault.Link s.blocks Named) ≡ read new)) → Kept bytes s new
       by_link (inl h) = by_same (when _ _ _ _ h.1)
       by_link (inr h) = absurd (not_read _ new h.1)
 

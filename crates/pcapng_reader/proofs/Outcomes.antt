@@ -7,7 +7,7 @@ use Rattle.capture_reader.specs.Outcome.{packet_at}
 use Rattle.pcapng_reader.specs.declared.fault.PcapngFault.{PcapngFault}
 use Rattle.pcapng_reader.specs.declared.fault.PcapngFault.TheVariants as fault
 use Rattle.pcapng_reader.specs.Blocks.{State}
-use Rattle.pcapng_reader.specs.PcapngFile.{Says, ends, refuses, leads, Joined, start, link_of, Meets}
+use Rattle.pcapng_reader.specs.PcapngFile.{Says, ends, refuses, leads, Joined, start, file_link, Meets}
 use Rattle.pcapng_reader.proofs.Joining.{is_stop, joined_once, joined_some, Stopped}
 
 abbrev Outcome : Type 0
@@ -21,7 +21,7 @@ refused f = Err f
 
 -- what a file is where reading stops so
 abbrev outcome : List ℕ → State → Says → Outcome
-outcome bytes s (ends cut) = Ok (record { link = link_of s.link; packets = map (packet_at bytes) s.records; cut = cut })
+outcome bytes s (ends cut) = Ok (record { link = file_link s.link; packets = map (packet_at bytes) s.records; cut = cut })
 outcome bytes s (refuses f) = Err f
 outcome bytes s (leads n next) = Err fault.NoMemory
 
@@ -65,7 +65,7 @@ meets_some bytes = by_length (ltb (length bytes) 28) refl
   where
     by_stop : 28 ≤ length bytes → (s : State) (t : Says) → is_stop t ≡ true → Joined start bytes s t → (x : Outcome) × Meets bytes x
     by_stop long s (ends cut) stop j = (
-      accepted (record { link = link_of s.link; packets = map (packet_at bytes) s.records; cut = cut }),
+      accepted (record { link = file_link s.link; packets = map (packet_at bytes) s.records; cut = cut }),
       record { long = long; state = s; joined = j; link = refl; packets = refl },
     )
     by_stop long s (refuses f) stop j = (refused f, inr (long, s, j))

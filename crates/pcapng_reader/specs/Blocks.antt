@@ -1,6 +1,7 @@
 -- What the blocks of a file say, one after the other (draft-ietf-opsawg-pcapng, section 4).
-use Rattle.std.specs.Prelude.{ℕ, ◌+◌, ◌-◌, ◌*◌, ◌^◌, min, Bool, true, ◌==◌, ◌&&◌, nat_le, List, []}
+use Rattle.std.specs.Prelude.{ℕ, ◌+◌, ◌-◌, ◌*◌, ◌^◌, min, Bool, true, ◌==◌, ◌&&◌, nat_le, List, [], is_some}
 use Rattle.std.specs.Prelude.{◌∷◌, ◌++◌, length, drop, take, slice_get, Option, None, Some, Result, Ok, Err, if◌then◌else◌}
+use Rattle.sq_base.specs.Links.{link_of}
 use Rattle.capture_reader.specs.Limits.{most_records, longest_body}
 use Rattle.capture_reader.specs.declared.capture.Record.{Record}
 use Rattle.pcapng_reader.specs.declared.order.Order.{Order}
@@ -32,10 +33,6 @@ section_says s order block =
     then Ok (record { blocks = s.blocks; at = s.at; order = order; interfaces = []; link = s.link; records = s.records })
     else Err (fault.Version s.blocks (number order 2 (drop 12 block)) (number order 2 (drop 14 block)))
 
--- the link types that are read
-abbrev pub is_link : ℕ → Bool
-is_link n = if n == 1 then true else if n == 101 then true else n == 113
-
 -- the same link type as that of the file's first interface, if there was one
 abbrev pub is_same : Option ℕ → ℕ → Bool
 is_same None n = true
@@ -52,7 +49,7 @@ interface_in order block = record {
 abbrev pub interface_says : State → List ℕ → Answer
 interface_says s block =
     let n = number s.order 2 (drop 8 block) in
-    if is_link n
+    if is_some (link_of n)
     then (if is_same s.link n
     then Ok (record {
       blocks = s.blocks;

@@ -1,7 +1,9 @@
 -- The pcapng file (draft-ietf-opsawg-pcapng): its blocks joined, and what an interrupted capture left of the next.
-use Rattle.std.specs.Prelude.{◌≡◌, ℕ, ◌<◌, ◌≤◌, ◌==◌, ◌⊎◌, Bool, true, false, List, []}
-use Rattle.std.specs.Prelude.{◌∷◌, ◌++◌, length, take, map, Option, None, Some, Result, Ok, Err, if◌then◌else◌}
+use Rattle.std.specs.Prelude.{◌≡◌, ℕ, ◌<◌, ◌≤◌, ◌⊎◌, Bool, true, false, List, []}
+use Rattle.std.specs.Prelude.{◌∷◌, ◌++◌, length, take, map, Option, None, Some, Result, Ok, Err}
 use Rattle.std.specs.List.{concat}
+use Rattle.std.specs.Option.{option_and_then, unwrap_or}
+use Rattle.sq_base.specs.Links.{link_of}
 use Rattle.sq_base.specs.declared.kinds.Link.{Link}
 use Rattle.sq_base.specs.declared.kinds.Link.TheVariants as link
 use Rattle.capture_reader.specs.Limits.{most_bytes}
@@ -51,16 +53,15 @@ abbrev pub start : State
 start = record { blocks = 0; at = 0; order = order.Little; interfaces = []; link = None; records = [] }
 
 -- the file's link: that of its first interface, or raw IP without one
-abbrev pub link_of : Option ℕ → Link
-link_of None = link.RawIp
-link_of (Some n) = if n == 1 then link.Ethernet else if n == 113 then link.Cooked else link.RawIp
+abbrev pub file_link : Option ℕ → Link
+file_link number = unwrap_or (option_and_then link_of number) link.RawIp
 
 -- the bytes are a capture of these packets
 pub record Captured (bytes : List ℕ) (contents : Contents) : Type 0 where
   pub long : least_section ≤ length bytes
   pub state : State
   pub joined : Joined start bytes state (ends contents.cut)
-  pub link : contents.link ≡ link_of state.link
+  pub link : contents.link ≡ file_link state.link
   pub packets : contents.packets ≡ map (packet_at bytes) state.records
 
 -- the bytes are refused for this cause: too few for a section header, or where reading stops

@@ -23,7 +23,7 @@ pub enum PcapngFault {
     /// The major version of a section isn't 1 (draft-ietf-opsawg-pcapng, section 4.1).
     #[error("pcapng version {major}.{minor} in block {index}")]
     Version { index: u32, major: u16, minor: u16 },
-    /// The link type of an interface is none of 1 (Ethernet), 101 (raw IP) and 113 (Linux cooked).
+    /// The link type of an interface is none that `Link::of` reads.
     #[error("pcapng link type {link} in block {index}")]
     Link { index: u32, link: u32 },
     /// The link type of an interface isn't that of the file's first one.

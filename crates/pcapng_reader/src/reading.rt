@@ -2,9 +2,9 @@
 
 ghost use Rattle.std.specs.Prelude.{◌≡◌, ◌+◌, ◌-◌, ◌<◌, ◌≤◌, ◌==◌, length, IfOk, IfErr, MatchResult, Ok, Err};
 ghost use Rattle.capture_reader.specs.Limits.{most_bytes};
-ghost use Rattle.pcapng_reader.specs.Blocks.{section_says, interface_says, packet_says, simple_says, record_says, content_says, is_link};
+ghost use Rattle.pcapng_reader.specs.Blocks.{section_says, interface_says, packet_says, simple_says, record_says, content_says};
 ghost use Rattle.pcapng_reader.specs.Limits.{least, least_section, least_interface, least_packet, least_simple};
-ghost use Rattle.pcapng_reader.specs.PcapngFile.{start, link_of, BeginsSection, IsPcapng, ParseFails};
+ghost use Rattle.pcapng_reader.specs.PcapngFile.{start, file_link, BeginsSection, IsPcapng, ParseFails};
 ghost use Rattle.pcapng_reader.specs.SoFar.{Told, state_of, ReadsFile, Fails};
 
 use crate::fault::PcapngFault;
@@ -71,7 +71,7 @@ impl Reading {
         ensures { Told (interface_says (state_of self.old) block.now) (state_of self.new) result }
     {
         let link = u32::from(self.order.u16_at(block, 8));
-        if !is_link(link) {
+        if Link::of(link).is_none() {
             return Err(PcapngFault::Link {
                 index: self.blocks,
                 link,
@@ -178,21 +178,10 @@ impl Reading {
 
     /// The link of all packets.
     fn link(&self) -> Link
-        ensures { result ≡ link_of self.now.link }
+        ensures { result ≡ file_link self.now.link }
     {
-        match self.link {
-            Some(1) => Link::Ethernet,
-            Some(113) => Link::Cooked,
-            _ => Link::RawIp,
-        }
+        self.link.and_then(Link::of).unwrap_or(Link::RawIp)
     }
-}
-
-/// Whether packets of this link type are read.
-fn is_link(number: u32) -> bool
-    ensures { result ≡ is_link number }
-{
-    matches!(number, 1 | 101 | 113)
 }
 
 /// The blocks of a file, and whether its tail is cut.

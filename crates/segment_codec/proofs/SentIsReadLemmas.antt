@@ -1,5 +1,5 @@
 -- What is sent is read again.
-use Rattle.std.proofs.Common.{◌≡◌, ℕ, ◌+◌, ◌*◌, ◌<◌, ◌≤◌, List, [], ◌∷◌, ◌++◌, length, drop, take, Option, None, Some, Bool, true, false, refl, sym, ap, ◌∙◌, arith, cond, eqb, ltb, ◌&&◌, inl, inr, subst}
+use Rattle.std.proofs.Common.{◌≡◌, ℕ, ◌+◌, ◌*◌, ◌<◌, ◌≤◌, List, [], ◌∷◌, ◌++◌, length, drop, take, Option, None, Some, Ok, Err, Bool, true, false, refl, sym, ap, ◌∙◌, arith, cond, eqb, ltb, ◌&&◌, subst}
 use Rattle.std.proofs.lemmas.Bool.Decides.{nat_tests}
 use Rattle.std.proofs.lemmas.List.{take_all, take_at, drop_at, drop-take}
 use Rattle.sq_base.specs.InternetSum.{word_sum, reduced}
@@ -9,13 +9,13 @@ use Rattle.segment_codec.specs.declared.packet.Seg.{Seg}
 use Rattle.sq_base.specs.declared.kinds.Link.TheVariants.{RawIp}
 use Rattle.segment_codec.specs.declared.packet.Packet.TheVariants as packet
 use Rattle.segment_codec.specs.Places.{byte, word, long, high}
-use Rattle.segment_codec.specs.Packet.{packet_in, datagram, tcp_packet, segment_of, sums_hold}
+use Rattle.segment_codec.specs.Packet.{packet_in, packet_at, ip_place, datagram, tcp_packet, segment_of, sums_hold}
 use Rattle.segment_codec.specs.Options.{mss_in, scale_in, options_in}
 use Rattle.byteorder.specs.Endian.{big_bytes}
 use Rattle.segment_codec.specs.SegmentBytes.{segment_bytes, ip_with, tcp_with, option_bytes, offset_of, ip_sum, tcp_sum}
-use Rattle.segment_codec.specs.SentIsRead.{AreSent, Fits, ReadsAgain, seg_sent, text_in}
+use Rattle.segment_codec.specs.SentIsRead.{OurOptions, AreSent, Fits, ReadsAgain, seg_sent, text_in}
 use Rattle.segment_codec.proofs.SumLemmas.{sum_completes, header_sums, length-tcp_with}
-use Rattle.segment_codec.specs.Limits.{announced_mss, announced_shift}
+use Rattle.segment_codec.specs.Limits.{announced_mss}
 
 -- a whole datagram without options, fragments or padding
 datagram_whole : (verify : Bool) (ip : List ℕ) (from : ℕ) → 20 ≤ length ip → byte ip 0 ≡ 69 → word ip 2 ≡ length ip → word ip 6 ≡ 16384 → byte ip 9 ≡ 6
@@ -87,7 +87,7 @@ options_between fixed options text n long e =
 -- what is sent with options that are read again
 reads_with : (t : Tuple) (r : Reply) (k : ℕ) → Fits t r → length (option_bytes r) ≡ 4 * k → k ≤ 2 → mss_in (option_bytes r) ≡ r.mss → scale_in (option_bytes r) ≡ r.scale
     → packet_in RawIp (segment_bytes t r) true ≡ packet.Segment (seg_sent t r)
-unfolding packet_in segment_bytes segment_of word long
+unfolding packet_in ip_place segment_bytes segment_of word long
 reads_with t r k fits options few mss scale =
     let total = 20 + length (tcp_with t r 0) in
     let tcp = tcp_with t r (tcp_sum t r) in
@@ -102,7 +102,7 @@ reads_with t r k fits options few mss scale =
     let offset : high (byte tcp 12) ≡ 5 + k = omega (arith, options) in
     let between : drop 20 (take (4 * high (byte tcp 12)) tcp) ≡ option_bytes r =
     options_between (fixed_with t r (tcp_sum t r)) (option_bytes r) r.text (4 * high (byte tcp 12)) refl (omega (arith, offset, options)) in
-    ap (λ b. cond b packet.Other (datagram true all 0)) raw
+    ap (λ b. packet_at true all (cond b (Err packet.Other) (Ok 0))) raw
     ∙ (datagram_whole true all 0 (omega (arith, size)) refl named refl refl
     ∙ (tcp_whole all ip tcp 20 (5 + k) offset (omega arith) (omega (arith, long_tcp)) sums
     ∙ ap (λ (s : Seg). packet.Segment s) (same_seg _ _ _ _ _ _ _ _ _ _ _ _ _ _ _ _ _ _ _ _ _ _ _ _
@@ -121,14 +121,19 @@ record OptionsRead (r : Reply) : Type 0 where
   mss : mss_in (option_bytes r) ≡ r.mss
   scale : scale_in (option_bytes r) ≡ r.scale
 
-carries : (r : Reply) (mss scale : Option ℕ) → r.mss ≡ mss → r.scale ≡ scale → r ≡ carrying r mss scale
-carries r mss scale p q = ap (λ (m : Option ℕ). carrying r m r.scale) p ∙ ap (carrying r mss) q
+options_carried : (r : Reply) (mss scale : Option ℕ) → OurOptions mss scale → OptionsRead (carrying r mss scale)
+unfolding mss_in scale_in options_in word
+options_carried r None None e = record { words = 0; size = refl; few = omega arith; mss = refl; scale = refl }
+options_carried r None (Some shift) e = absurd e
+options_carried r (Some mss) None e =
+    subst (λ (m : ℕ). OptionsRead (carrying r (Some m) None)) (sym e) (record { words = 1; size = refl; few = omega arith; mss = refl; scale = refl })
+options_carried r (Some mss) (Some shift) e =
+    subst (λ (m : ℕ). OptionsRead (carrying r (Some m) (Some shift))) (sym e.0)
+    (subst (λ (s : ℕ). OptionsRead (carrying r (Some announced_mss) (Some s))) (sym e.1)
+    (record { words = 2; size = refl; few = omega arith; mss = refl; scale = refl }))
 
 options_read : (r : Reply) → AreSent r → OptionsRead r
-unfolding mss_in scale_in options_in word
-options_read r (inl e) = subst OptionsRead (sym (carries r None None e.0 e.1)) (record { words = 0; size = refl; few = omega arith; mss = refl; scale = refl })
-options_read r (inr (inl e)) = subst OptionsRead (sym (carries r (Some announced_mss) None e.0 e.1)) (record { words = 1; size = refl; few = omega arith; mss = refl; scale = refl })
-options_read r (inr (inr e)) = subst OptionsRead (sym (carries r (Some announced_mss) (Some announced_shift) e.0 e.1)) (record { words = 2; size = refl; few = omega arith; mss = refl; scale = refl })
+options_read r sent = options_carried r r.mss r.scale sent
 
 -- all that is sent before the text
 abbrev headers_with : Tuple → Reply → ℕ → ℕ → List ℕ

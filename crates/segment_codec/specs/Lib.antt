@@ -2,6 +2,7 @@ pub mod Limits
 pub mod Places
 pub mod Options
 pub mod Packet
+pub mod PlainSegments
 pub mod SegmentBytes
 pub mod SentIsRead
 pub mod ControlBits

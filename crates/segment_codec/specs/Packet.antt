@@ -1,6 +1,7 @@
 -- What a record's bytes hold: link (IEEE 802.3 and 802.1Q, raw IP, Linux cooked), IPv4 (RFC 791, 3.1), TCP (RFC 9293, 3.1).
 -- In each part the first answer whose condition holds counts.
-use Rattle.std.specs.Prelude.{ℕ, ◌+◌, ◌-◌, ◌*◌, ◌%◌, ◌==◌, nat_lt, ◌&&◌, ◌||◌, not, Bool, List, length, drop, take, if◌then◌else◌, bit_and}
+use Rattle.std.specs.Prelude.{ℕ, ◌+◌, ◌-◌, ◌*◌, ◌%◌, ◌==◌, nat_lt, nat_le, ◌&&◌, ◌||◌, not, Bool, if◌then◌else◌, bit_and}
+use Rattle.std.specs.Prelude.{List, length, drop, take, Result, Ok, Err}
 use Rattle.sq_base.specs.InternetSum.{word_sum, reduced}
 use Rattle.sq_base.specs.declared.kinds.Link.{Link}
 use Rattle.sq_base.specs.declared.kinds.Link.TheVariants.{Ethernet, RawIp, Cooked}
@@ -66,16 +67,24 @@ datagram verify ip from =
     else if nat_lt (length ip) (total_of ip) || nat_lt (length ip) ihl then packet.Cut
     else tcp_packet verify ip (take ihl ip) (drop ihl (take (total_of ip) ip)) (from + ihl)
 
+-- the place behind a link header of so many bytes, whose last two name what follows, if that is IPv4
+unfoldable pub behind_header : ℕ → List ℕ → Result ℕ Packet
+behind_header size body =
+    if nat_lt (length body) size then Err packet.Cut
+    else if word body (size - 2) == 0x0800 then Ok size
+    else Err packet.Other
+
+-- the place at which the IPv4 datagram begins in a record's body, under its link, or the answer where none begins; a header of Ethernet may have one tag
+unfoldable pub ip_place : Link → List ℕ → Result ℕ Packet
+ip_place Ethernet body = behind_header (if nat_le 14 (length body) && (word body 12 == 0x8100) then 18 else 14) body
+ip_place Cooked body = behind_header 16 body
+ip_place RawIp body = if nat_lt 0 (length body) && (high (byte body 0) == 6) then Err packet.Other else Ok 0
+
+-- the datagram at its place in the body, or the answer where none begins
+abbrev pub packet_at : Bool → List ℕ → Result ℕ Packet → Packet
+packet_at verify body (Ok at) = datagram verify (drop at body) at
+packet_at verify body (Err answer) = answer
+
 -- the record's body, under its link
 unfoldable pub packet_in : Link → List ℕ → Bool → Packet
-packet_in Ethernet body verify =
-    if nat_lt (length body) 14 then packet.Cut
-    else if word body 12 == 0x8100
-    then (if nat_lt (length body) 18 then packet.Cut else if word body 16 == 0x0800 then datagram verify (drop 18 body) 18 else packet.Other)
-    else (if word body 12 == 0x0800 then datagram verify (drop 14 body) 14 else packet.Other)
-packet_in Cooked body verify =
-    if nat_lt (length body) 16 then packet.Cut
-    else if word body 14 == 0x0800 then datagram verify (drop 16 body) 16
-    else packet.Other
-packet_in RawIp body verify =
-    if nat_lt 0 (length body) && (high (byte body 0) == 6) then packet.Other else datagram verify body 0
+packet_in link body verify = packet_at verify body (ip_place link body)

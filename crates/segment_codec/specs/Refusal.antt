@@ -2,6 +2,7 @@
 use Rattle.std.specs.Prelude.{ℕ, ◌+◌, ◌%◌, ◌^◌, [], Option, None, Some, if◌then◌else◌}
 use Rattle.sq_base.specs.declared.kinds.Tuple.{Tuple}
 use Rattle.segment_codec.specs.ControlBits.{ack, has_ack, has_fin, has_rst, has_syn, rst}
+use Rattle.segment_codec.specs.PlainSegments.{plain}
 use Rattle.segment_codec.specs.declared.packet.Seg.{Seg}
 use Rattle.segment_codec.specs.declared.packet.Reply.{Reply}
 
@@ -10,7 +11,7 @@ abbrev pub seg_len : Seg → ℕ
 seg_len s = s.text_len + (if has_syn s then 1 else 0) + (if has_fin s then 1 else 0)
 
 abbrev pub reset_with : ℕ → ℕ → ℕ → ℕ → Reply
-reset_with at flags seq ack = record { at = at; flags = flags; seq = seq; ack = ack; wnd = 0; mss = None; scale = None; text = [] }
+reset_with at flags seq ack = plain at flags seq ack 0 []
 
 -- a segment with ACK: <SEQ=SEG.ACK><CTL=RST>; without: <SEQ=0><ACK=SEG.SEQ+SEG.LEN><CTL=RST,ACK>
 abbrev pub reset_for : ℕ → Seg → Reply

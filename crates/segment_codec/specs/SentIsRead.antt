@@ -1,5 +1,5 @@
 -- What is sent is read again.
-use Rattle.std.specs.Prelude.{ℕ, List, take, drop, ◌≡◌, ◌+◌, ◌<◌, ◌^◌, ◌≤◌, ◌⊎◌, true, length, None, Some, All}
+use Rattle.std.specs.Prelude.{ℕ, List, take, drop, ◌≡◌, ◌+◌, ◌<◌, ◌^◌, ◌≤◌, true, length, Option, None, Some, All}
 use Rattle.sq_base.specs.declared.kinds.Link.TheVariants.{RawIp}
 use Rattle.sq_base.specs.declared.kinds.Tuple.{Tuple}
 use Rattle.segment_codec.specs.declared.packet.Reply.{Reply}
@@ -9,11 +9,15 @@ use Rattle.segment_codec.specs.Packet.{packet_in}
 use Rattle.segment_codec.specs.SegmentBytes.{segment_bytes, option_bytes}
 use Rattle.segment_codec.specs.Limits.{announced_mss, announced_shift, most_text}
 
--- the options that are sent: none, our maximum segment size, or that and our window scale
+-- the options that are sent: none, our maximum segment size, or beside it our window scale
+abbrev pub OurOptions : Option ℕ → Option ℕ → Type 0
+OurOptions None None = Unit {0}
+OurOptions None (Some shift) = ⊥
+OurOptions (Some mss) None = mss ≡ announced_mss
+OurOptions (Some mss) (Some shift) = (mss ≡ announced_mss) × (shift ≡ announced_shift)
+
 abbrev pub AreSent : Reply → Type 0
-AreSent r =
-    ((r.mss ≡ None) × (r.scale ≡ None))
-    ⊎ (((r.mss ≡ Some announced_mss) × (r.scale ≡ None)) ⊎ ((r.mss ≡ Some announced_mss) × (r.scale ≡ Some announced_shift)))
+AreSent r = OurOptions r.mss r.scale
 
 -- a tuple and a reply whose numbers fit their fields, and whose options and flags are those that are sent
 pub record Fits (t : Tuple) (r : Reply) : Type 0 where

@@ -16,7 +16,7 @@ mod writing;
 
 pub use control::{ACK, FIN, PSH, RST, SYN};
 pub use packet::{Packet, Reply, Seg, Why};
-pub use reading::decode;
+pub use reading::{decode, ip_place};
 pub use refusing::{refusal, tuple_of};
 pub use writing::{encode, encode_into};
 

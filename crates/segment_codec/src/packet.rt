@@ -1,6 +1,9 @@
 //! What a record holds, and what is sent.
 
-use sq_base::{Addr, Octets};
+ghost use Rattle.std.specs.Prelude.{◌≡◌};
+ghost use Rattle.segment_codec.specs.PlainSegments.{plain, plain_from};
+
+use sq_base::{Addr, Octets, Tuple};
 
 /// The fields of a segment (RFC 9293, 3.1).
 ///
@@ -22,6 +25,37 @@ pub struct Seg {
     pub scale: Option<u8>,
     pub text_from: u32,
     pub text_len: u32,
+}
+
+impl Seg {
+    /// A segment without options that the tuple's client sent: control bits, sequence number, acknowledgement number, window
+    /// field, and where its text stands in the record's body.
+    pub fn plain(
+        tuple: &Tuple,
+        flags: u8,
+        seq: u32,
+        ack: u32,
+        wnd: u16,
+        text_from: u32,
+        text_len: u32,
+    ) -> Seg
+        ensures { result ≡ plain_from tuple.now flags seq ack wnd text_from text_len }
+    {
+        Seg {
+            src: tuple.client,
+            src_port: tuple.client_port,
+            dst: tuple.server,
+            dst_port: tuple.server_port,
+            seq,
+            ack,
+            flags,
+            wnd,
+            mss: None,
+            scale: None,
+            text_from,
+            text_len,
+        }
+    }
 }
 
 /// Which number of a datagram contradicts another, or what RFC 791 or RFC 9293 demands of it.
@@ -69,4 +103,22 @@ pub struct Reply {
     pub mss: Option<u16>,
     pub scale: Option<u8>,
     pub text: Octets,
+}
+
+impl Reply {
+    /// A segment without options: time in microseconds, control bits, sequence number, acknowledgement number, window field, text.
+    pub fn plain(at: u64, flags: u8, seq: u32, ack: u32, wnd: u16, text: Octets) -> Reply
+        ensures { result ≡ plain at flags seq ack wnd text }
+    {
+        Reply {
+            at,
+            flags,
+            seq,
+            ack,
+            wnd,
+            mss: None,
+            scale: None,
+            text,
+        }
+    }
 }

@@ -1,7 +1,7 @@
 //! From a record to a packet: one function for each layer, and the first answer ends it.
 
-ghost use Rattle.std.specs.Prelude.{◌≡◌, ◌+◌, ◌*◌, ◌/◌, ◌<◌, ◌≤◌, ◌^◌, length, slice_index};
-ghost use Rattle.segment_codec.specs.Packet.{packet_in, datagram, tcp_packet, segment_of, sums_hold};
+ghost use Rattle.std.specs.Prelude.{◌≡◌, ◌+◌, ◌*◌, ◌/◌, ◌<◌, ◌≤◌, ◌^◌, length, slice_index, IfOk};
+ghost use Rattle.segment_codec.specs.Packet.{packet_in, ip_place, behind_header, datagram, tcp_packet, segment_of, sums_hold};
 
 use crate::options::{mss_in, scale_in};
 use crate::packet::{Packet, Seg, Why};
@@ -33,40 +33,57 @@ pub fn decode(link: Link, body: &[u8], verify: bool) -> Packet
     requires { length body.now < 2 ^ 32 }
     ensures { result ≡ packet_in link body.now verify }
 {
+    match ip_place(link, body) {
+        Ok(at) => decode_datagram(rest_at(body, at), at as u32, verify),
+        Err(answer) => answer,
+    }
+}
+
+/// The place at which the IPv4 datagram begins in a record's bytes, under the capture's link: IEEE 802.3 with at most one tag of
+/// 802.1Q, Linux cooked, raw IP. Where none begins the error is the answer of `decode`: `Cut` where the bytes end inside the link's
+/// header, else `Other`.
+///
+/// # Example
+///
+/// ```
+/// for (link, body, place) in places {
+///     assert_eq!(rt; ip_place(link, body), place);
+/// }
+/// ```
+#[tactic(auto, unfolding(crate::specs::Packet::ip_place))]
+pub fn ip_place(link: Link, body: &[u8]) -> Result<usize, Packet>
+    ensures is { result ≡ ip_place link body.now }
+    ensures within { IfOk result (λ at. at ≤ length body.now) }
+{
     match link {
         Link::Ethernet => {
-            if body.len() < 14 {
-                Packet::Cut
-            } else if word_at(body, 12) == TAGGED {
-                if body.len() < 18 {
-                    Packet::Cut
-                } else if word_at(body, 16) == IPV4 {
-                    decode_datagram(rest_at(body, 18), 18, verify)
-                } else {
-                    Packet::Other
-                }
-            } else if word_at(body, 12) == IPV4 {
-                decode_datagram(rest_at(body, 14), 14, verify)
-            } else {
-                Packet::Other
-            }
+            let tagged = body.len() >= 14 && word_at(body, 12) == TAGGED;
+            behind_header(if tagged { 18 } else { 14 }, body)
         }
-        Link::Cooked => {
-            if body.len() < 16 {
-                Packet::Cut
-            } else if word_at(body, 14) == IPV4 {
-                decode_datagram(rest_at(body, 16), 16, verify)
-            } else {
-                Packet::Other
-            }
-        }
+        Link::Cooked => behind_header(16, body),
         Link::RawIp => {
             if !body.is_empty() && body[0] >> 4 == 6 {
-                Packet::Other
+                Err(Packet::Other)
             } else {
-                decode_datagram(body, 0, verify)
+                Ok(0)
             }
         }
+    }
+}
+
+/// The place behind a link header of so many bytes, whose last two name what follows.
+#[tactic(auto, unfolding(crate::specs::Packet::behind_header))]
+fn behind_header(size: usize, body: &[u8]) -> Result<usize, Packet>
+    requires { 2 ≤ size }
+    ensures is { result ≡ behind_header size body.now }
+    ensures within { IfOk result (λ at. at ≤ length body.now) }
+{
+    if body.len() < size {
+        Err(Packet::Cut)
+    } else if word_at(body, size - 2) == IPV4 {
+        Ok(size)
+    } else {
+        Err(Packet::Other)
     }
 }
 

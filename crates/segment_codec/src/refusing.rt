@@ -30,16 +30,8 @@ pub fn refusal(alloc: Global, at: u64, seg: &Seg) -> Option<Reply>
         return None;
     }
     let (flags, seq, ack) = reset_numbers(seg);
-    Some(Reply {
-        at,
-        flags,
-        seq,
-        ack,
-        wnd: 0,
-        mss: None,
-        scale: None,
-        text: Octets::wrap(Vec::new(alloc)),
-    })
+    let text = Octets::wrap(Vec::new(alloc));
+    Some(Reply::plain(at, flags, seq, ack, 0, text))
 }
 
 /// The flags of the reset, its sequence number and its acknowledgement number.

@@ -1,4 +1,4 @@
-use crate::{Packet, Reply, Seg, Why, decode, encode, encode_into, refusal, tuple_of};
+use crate::{Packet, Reply, Seg, Why, decode, encode, encode_into, ip_place, refusal, tuple_of};
 use sq_base::{Addr, Link, Octets, Tuple};
 use std::test::Fail;
 
@@ -7,6 +7,13 @@ const SYN: [u8; 40] = [
     0x45, 0, 0, 40, 0, 0, 0x40, 0, 0x40, 6, 0, 0, 10, 0, 0, 1, 10, 0, 0, 2, // IPv4
     0x0f, 0xa0, 0, 7, 0, 0, 0, 100, 0, 0, 0, 0, 0x50, 2, 0x10, 0, 0, 0, 0, 0, // TCP
 ];
+
+const ENDS: Tuple = Tuple {
+    client: Addr(0x0a00_0001),
+    client_port: 4000,
+    server: Addr(0x0a00_0002),
+    server_port: 7,
+};
 
 /// Some bytes, then the SYN with changes at places of its own, then more bytes.
 fn captured(
@@ -28,20 +35,10 @@ fn captured(
 }
 
 fn syn_at(text_from: u32, mss: Option<u16>, scale: Option<u8>) -> Seg {
-    Seg {
-        src: Addr(0x0a00_0001),
-        src_port: 4000,
-        dst: Addr(0x0a00_0002),
-        dst_port: 7,
-        seq: 100,
-        ack: 0,
-        flags: 2,
-        wnd: 4096,
-        mss,
-        scale,
-        text_from,
-        text_len: 0,
-    }
+    let mut seg = Seg::plain(&ENDS, 2, 100, 0, 4096, text_from, 0);
+    seg.mss = mss;
+    seg.scale = scale;
+    seg
 }
 
 #[test]
@@ -101,6 +98,23 @@ fn links_and_sums(rt: HostRuntime) -> Result<(), Fail> {
         assert_eq!(rt; decode(link, &[0; 60], false), Packet::Other);
         assert_eq!(rt; decode(link, &[0; 13], false), Packet::Cut);
     }
+    let places = [
+        (Link::Ethernet, ethernet.as_slice(), Ok(14)),
+        (Link::Ethernet, &ethernet[..13], Err(Packet::Cut)),
+        (Link::Ethernet, cooked.as_slice(), Err(Packet::Other)),
+        (Link::Ethernet, tagged.as_slice(), Ok(18)),
+        (Link::Ethernet, &tagged[..17], Err(Packet::Cut)),
+        (Link::Ethernet, &tagged[..14], Err(Packet::Cut)),
+        (Link::Cooked, cooked.as_slice(), Ok(16)),
+        (Link::Cooked, &cooked[..15], Err(Packet::Cut)),
+        (Link::Cooked, tagged.as_slice(), Err(Packet::Other)),
+        (Link::RawIp, [].as_slice(), Ok(0)),
+        (Link::RawIp, [0x45].as_slice(), Ok(0)),
+        (Link::RawIp, [0x60].as_slice(), Err(Packet::Other)),
+    ];
+    for (link, body, place) in places {
+        assert_eq!(rt; ip_place(link, body), place);
+    }
     Ok(())
 }
 
@@ -155,12 +169,6 @@ fn spelled(rt: &HostRuntime, text: &str) -> Result<Vec<u8>, Fail> {
 
 #[test]
 fn sent_segments_in_bytes(rt: HostRuntime) -> Result<(), Fail> {
-    let tuple = Tuple {
-        client: Addr(0x0a00_0001),
-        client_port: 4000,
-        server: Addr(0x0a00_0002),
-        server_port: 7,
-    };
     // Flags, numbers, window, options, text and bytes of the replies of one echo connection, without and with window scale.
     let table = [
         (
@@ -210,17 +218,10 @@ fn sent_segments_in_bytes(rt: HostRuntime) -> Result<(), Fail> {
         assert!(rt; text.len() < 10);
         assert!(rt; scale.is_none() || mss.is_some());
         let text = Octets::of(rt.alloc(), text.as_bytes())?;
-        let reply = Reply {
-            at: 0,
-            flags,
-            seq,
-            ack,
-            wnd,
-            mss,
-            scale,
-            text,
-        };
-        let sent = encode(rt.alloc(), &tuple, &reply)?;
+        let mut reply = Reply::plain(0, flags, seq, ack, wnd, text);
+        reply.mss = mss;
+        reply.scale = scale;
+        let sent = encode(rt.alloc(), &ENDS, &reply)?;
         assert_eq!(rt; sent.as_slice(), spelled(&rt, bytes)?.as_slice());
     }
     Ok(())
@@ -242,13 +243,7 @@ fn refusals(rt: HostRuntime) -> Result<(), Fail> {
         ((0x14, 100, 501, 0), None),
     ];
     for ((flags, seq, ack, text_len), wanted) in table {
-        let seg = Seg {
-            flags,
-            seq,
-            ack,
-            text_len,
-            ..syn_at(40, None, None)
-        };
+        let seg = Seg::plain(&ENDS, flags, seq, ack, 4096, 40, text_len);
         let answer = refusal(rt.alloc(), 9, &seg);
         let numbers = answer
             .as_ref()

@@ -3,4 +3,5 @@ pub mod InternetSum
 pub mod Ends
 pub mod MemoryEnds
 pub mod StatusCode
+pub mod Links
 pub mod Ports

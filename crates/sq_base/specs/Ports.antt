@@ -13,6 +13,10 @@ discard_port = 9
 abbrev pub chargen_port : ℕ
 chargen_port = 19
 
--- echo and discard have the same ports over TCP and UDP
+-- over TCP: echo and discard
 abbrev pub is_served_port : ℕ → Bool
 is_served_port port = (port == echo_port) || (port == discard_port)
+
+-- over UDP: the same two
+abbrev pub is_served_udp_port : ℕ → Bool
+is_served_udp_port port = (port == echo_port) || (port == discard_port)

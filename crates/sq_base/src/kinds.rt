@@ -58,6 +58,22 @@ pub enum Link {
     Cooked,
 }
 
+impl Link {
+    ghost use Rattle.sq_base.specs.Links.{link_of};
+
+    /// The link layer that libpcap's number names, or `None` where captures of that type aren't read.
+    pub fn of(number: u32) -> Option<Link>
+        ensures { result ≡ link_of number }
+    {
+        match number {
+            1 => Some(Link::Ethernet),
+            101 => Some(Link::RawIp),
+            113 => Some(Link::Cooked),
+            _ => None,
+        }
+    }
+}
+
 /// The two ends of a connection, the client being the one that opens it.
 #[derive(Clone, Copy, Debug, PartialEq, Eq, Hash)]
 pub struct Tuple {

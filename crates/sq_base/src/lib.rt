@@ -19,7 +19,7 @@ pub use ends::{Failed, Sink, Source, put};
 pub use kinds::{Addr, Link, Status, Tuple};
 pub use mem::{MemSink, MemSource};
 pub use octets::Octets;
-pub use ports::{CHARGEN_PORT, DISCARD_PORT, ECHO_PORT, is_served};
+pub use ports::{CHARGEN_PORT, DISCARD_PORT, ECHO_PORT, is_served, is_served_udp};
 pub use serial::{seq_add, seq_dist, seq_le, seq_lt};
 pub use std_ends::{StdSink, StdSource};
 pub use sums::inet_sum;

@@ -1,6 +1,6 @@
 use crate::{
-    MemSink, MemSource, Octets, Sink, Source, Status, StdSink, StdSource, inet_sum, put, seq_add,
-    seq_dist, seq_le, seq_lt,
+    Link, MemSink, MemSource, Octets, Sink, Source, Status, StdSink, StdSource, inet_sum, put,
+    seq_add, seq_dist, seq_le, seq_lt,
 };
 use std::fs::File;
 use std::test::Fail;
@@ -111,6 +111,23 @@ fn numbers_sums_and_codes(rt: HostRuntime) -> Result<(), Fail> {
     ];
     for (status, code) in codes {
         assert_eq!(rt; status.code(), code);
+    }
+
+    let links = [
+        (1, Some(Link::Ethernet)),
+        (101, Some(Link::RawIp)),
+        (113, Some(Link::Cooked)),
+        (0, None),
+        (2, None),
+        (100, None),
+        (102, None),
+        (112, None),
+        (276, None),
+        (0x0001_0001, None),
+        (0x0100_0065, None),
+    ];
+    for (number, link) in links {
+        assert_eq!(rt; Link::of(number), link, "link type {number}");
     }
     Ok(())
 }

@@ -1,8 +1,8 @@
 //! How many entries squeues take. Without words it makes short fixed runs and prints what was counted. With the words
 //! THREADS SQUEUES CHAIN ENTRIES MODE it measures: so many rings bring so many entries in all to so many squeues, in chains
-//! of at most CHAIN and in the mode `process`, `nodrain` or `fill`; each squeue has a worker in a thread of its own. It
-//! prints the nanoseconds from before the threads start to after they have ended, or nothing where a number is out of its
-//! range or the mode is another word.
+//! of at most CHAIN, and MODE is a mode's word; each squeue has a worker in a thread of its own. It prints the nanoseconds
+//! from before the threads start to after they have ended, or nothing where a number is out of its range or the mode is
+//! another word.
 #![tactic(auto)]
 
 mod items;
@@ -101,10 +101,7 @@ fn number(word: Option<String>) -> u32 {
 // The mode that the word names, or the default where there is none.
 fn mode(word: Option<String>) -> Option<Mode> {
     match word.as_deref() {
-        Some("fill") => Some(Mode::Fill),
-        Some("nodrain") => Some(Mode::NoDrain),
-        Some("process") => Some(Mode::Process),
-        Some(_) => None,
+        Some(text) => Mode::of(text),
         None => Some(Mode::Process),
     }
 }

@@ -4,3 +4,4 @@ pub mod Choosing
 pub mod Answering
 pub mod Bringing
 pub mod ByWay
+pub mod ModeWords

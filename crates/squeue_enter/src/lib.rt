@@ -5,6 +5,9 @@
 //! whether the ring is to bring chains. It takes no memory but in the resident.
 #![tactic(auto)]
 
+ghost use Rattle.std.specs.Prelude.{◌≡◌, Some};
+ghost use Rattle.squeue_enter.specs.Ways.{mode_of, mode_word};
+
 mod entering;
 
 pub use entering::{Entered, How, enter, try_fill};
@@ -19,3 +22,34 @@ pub enum Mode {
     /// Queue, and leave it to the worker.
     Fill,
 }
+
+impl Mode {
+    /// The mode's word on a command line and in a report: `process`, `nodrain` or `fill`.
+    #[tactic(auto, using(crate::proofs::ModeWords::word_names), unfolding(crate::specs::Ways::mode_word))]
+    pub fn word(self) -> &'static str
+        ensures word { result.now ≡ mode_word self }
+        ensures names { mode_of result.now ≡ Some self }
+    {
+        match self {
+            Mode::Process => "process",
+            Mode::NoDrain => "nodrain",
+            Mode::Fill => "fill",
+        }
+    }
+
+    /// The mode whose word the text is, byte for byte, or `None`.
+    #[tactic(auto, unfolding(crate::specs::Ways::mode_word))]
+    pub fn of(text: &str) -> Option<Mode>
+        ensures { result ≡ mode_of text.now }
+    {
+        match text {
+            "process" => Some(Mode::Process),
+            "nodrain" => Some(Mode::NoDrain),
+            "fill" => Some(Mode::Fill),
+            _ => None,
+        }
+    }
+}
+
+/// The words of all modes, as a line of usage names them.
+pub const MODE_WORDS: &str = "process|nodrain|fill";

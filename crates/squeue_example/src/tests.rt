@@ -9,6 +9,7 @@ ghost use Rattle.squeue_state.specs.Naming.{setting_of};
 ghost use Rattle.turn_gate.specs.Passes.{IsPassOf, number, seen};
 
 mod beside;
+mod modes;
 mod polling;
 mod short;
 mod three_passes;

@@ -1,14 +1,17 @@
 //! One history, mark by mark: what each mark says was processed, and a mark that isn't legal.
 
+ghost use Rattle.std.specs.Prelude.{◌<◌};
+
 use crate::{Mark, Run, Squeue, Step};
 use capture_reader::parse_capture;
 use conn_blocks::Calls;
-use conn_classifier::plan;
+use conn_classifier::{Plan, plan};
 use perimeter_core::{Feed, SynchAct};
 use ring_quotas::Setup;
 use sq_base::Octets;
 use squeue_enter::Mode;
-use std::alloc::{AllocError, Global};
+use std::alloc::{AllocError, AllocGlobal, Global};
+use std::process::Abort;
 use std::test::Fail;
 
 /// A capture of one SYN to the echo service: one connection of two items.
@@ -41,7 +44,7 @@ const LEAVE_NONE: Step = Step::Leave {
 };
 
 /// The ring enters both feeds and processes one; the worker, whose pass is the last, processes the other.
-const HISTORY: [Row; 9] = [
+const HISTORY: &[Row] = &[
     (1, Step::Close, &[], 0),
     (0, Step::Claim, &[0, 1], 0),
     (0, LEAVE_ONE, &[], 1),
@@ -64,16 +67,10 @@ fn add(alloc: Global, squeue: &mut Squeue<'_, '_>, row: &Row) -> Result<Option<u
     squeue.add(&mark)
 }
 
-#[test]
-fn a_history_mark_by_mark(rt: HostRuntime) -> Result<(), Fail> {
-    let capture = parse_capture(rt.alloc(), Octets::of(rt.alloc(), &CAPTURE)?)?;
-    let plan = plan(&rt, rt.alloc(), &capture, false)?;
-    let calls = Calls::make(rt.alloc());
-    let run = Run {
-        plan: &plan,
-        calls: &calls,
-        setup: SETUP,
-    };
+/// The squeue of a run takes the history, and then not its first mark again.
+fn take_history(rt: &(impl Abort + AllocGlobal), run: Run<'_, '_>) -> Result<(), AllocError>
+    requires { 0 < run.setup.squeues }
+{
     let mut squeue = Squeue::make(rt.alloc(), run, 0)?;
     for row in HISTORY {
         assert!(rt; !squeue.has_ended());
@@ -81,5 +78,24 @@ fn a_history_mark_by_mark(rt: HostRuntime) -> Result<(), Fail> {
     }
     assert!(rt; squeue.has_ended());
     assert_eq!(rt; add(rt.alloc(), &mut squeue, &HISTORY[0])?, None);
+    Ok(())
+}
+
+/// The same of a plan, without calls.
+fn take_history_of(rt: &(impl Abort + AllocGlobal), plan: &Plan<'_>) -> Result<(), AllocError> {
+    let calls = Calls::make(rt.alloc());
+    let run = Run {
+        plan,
+        calls: &calls,
+        setup: SETUP,
+    };
+    take_history(rt, run)
+}
+
+#[test]
+fn a_history_mark_by_mark(rt: HostRuntime) -> Result<(), Fail> {
+    let capture = parse_capture(rt.alloc(), Octets::of(rt.alloc(), &CAPTURE)?)?;
+    let plan = plan(&rt, rt.alloc(), &capture, false)?;
+    take_history_of(&rt, &plan)?;
     Ok(())
 }

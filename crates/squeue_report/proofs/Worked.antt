@@ -1,15 +1,17 @@
 -- Worked examples: the lines of the report of a five-segment echo, orders with calls, a gap or no act, and check values.
-use Rattle.std.proofs.Common.{◌≡◌, [], ◌∷◌, ◌++◌, None, Some, codes, refl}
+use Rattle.std.proofs.Common.{◌≡◌, [], ◌∷◌, ◌++◌, Some, codes, refl}
 use Rattle.std.specs.Fmt.{digits}
 use Rattle.hex.specs.Hex.{encode_with}
 use Rattle.sq_base.specs.declared.kinds.Tuple.{Tuple}
 use Rattle.segment_codec.specs.declared.packet.Reply.{Reply}
+use Rattle.segment_codec.specs.PlainSegments.{plain}
 use Rattle.segment_codec.specs.SegmentBytes.{segment_bytes, ip_sum, tcp_sum}
 use Rattle.perimeter_core.specs.declared.entries.Act.TheVariants.{Feed, Call}
 use Rattle.tcb_machine.specs.declared.kinds.State.TheVariants.{Listen, Established}
 use Rattle.tcb_machine.specs.declared.kinds.Answer.TheVariants.{Status, NotOpen}
-use Rattle.squeue_report.specs.Names.{state_word, service_word}
-use Rattle.squeue_report.specs.ReportText.{counts_line, end_field, conn_line, order_line, reply_line, answer_line, end_line}
+use Rattle.echo_services.specs.Pump.{service_word}
+use Rattle.squeue_report.specs.Names.{state_word}
+use Rattle.squeue_report.specs.ReportText.{counts_line, end_field, conn_line, order_line, datagram_line, reply_line, answer_line, end_line}
 use Rattle.squeue_report.specs.SummaryText.{check_of, digits_of}
 
 -- from 10.0.0.1, port 4000, to the echo port of 10.0.0.2
@@ -17,7 +19,7 @@ ends : Tuple
 ends = record { client = record { 0 = 0x0a000001 }; client_port = 4000; server = record { 0 = 0x0a000002 }; server_port = 7 }
 
 syn_ack : Reply
-syn_ack = record { at = 0; flags = 18; seq = 500; ack = 101; wnd = 65535; mss = Some 1460; scale = None; text = [] }
+syn_ack = record (plain 0 18 500 101 65535 []) { mss = Some 1460 }
 
 counts : counts_line (record { records = 5; tail = 0; served = 5; nofit = 0; server = 0; other = 0; fragment = 0; cut = 0; malformed = 0; badsum = 0 }) 1
     ≡ codes "records 5 tail 0 served 5 nofit 0 server 0 other 0 fragment 0 cut 0 malformed 0 badsum 0 connections 1" ++ 10 ∷ []
@@ -29,7 +31,7 @@ unfolding conn_line end_field service_word digits ends
 head = refl
 
 reply : reply_line ends syn_ack ≡ codes "reply 0 4500002c00004000400626ca0a0000020a00000100070fa0000001f4000000656012ffff72140000020405b4" ++ 10 ∷ []
-unfolding reply_line digits encode_with segment_bytes ip_sum tcp_sum ends syn_ack
+unfolding reply_line datagram_line digits encode_with segment_bytes ip_sum tcp_sum ends syn_ack
 reply = refl
 
 all_feeds : order_line (Feed 0 ∷ Feed 1 ∷ Feed 2 ∷ Feed 3 ∷ Feed 4 ∷ Feed 5 ∷ []) ≡ codes "order f0-5" ++ 10 ∷ []

@@ -6,8 +6,9 @@ use Rattle.perimeter_core.specs.declared.marks.Mark.TheVariants as On
 use Rattle.perimeter_core.specs.declared.marks.SynchAct.TheVariants as Done
 use Rattle.perimeter_core.specs.Worked.{three_passes_one_worker}
 use Rattle.squeue_enter.specs.declared.Mode.TheVariants as Mode'
+use Rattle.squeue_enter.specs.Ways.{mode_word}
 use Rattle.tcb_machine.specs.declared.kinds.Call.TheVariants.{Status, Buffer, Close}
-use Rattle.squeue_report.specs.TraceText.{mode_word, setup_line, call_line, calls_text, mark_line, squeue_line, squeue_text}
+use Rattle.squeue_report.specs.TraceText.{setup_line, call_line, calls_text, mark_line, squeue_line, squeue_text}
 
 least : setup_line (record { squeues = 1; rings = 1; mode = Mode'.Process; budget = 64; spread = 0; trace = true }) false ≡ codes "setup squeues 1 rings 1 mode process budget 64 spread 0 verify 0\n"
 unfolding setup_line mode_word digits

@@ -2,8 +2,6 @@
 use Rattle.std.specs.Prelude.{ℕ, List, codes}
 use Rattle.tcb_machine.specs.declared.kinds.State.{State}
 use Rattle.tcb_machine.specs.declared.kinds.State.TheVariants.{Listen, SynReceived, Established, FinWait1, FinWait2, CloseWait, Closing, LastAck, TimeWait}
-use Rattle.echo_services.specs.declared.service.Service.{Service}
-use Rattle.echo_services.specs.declared.service.Service.TheVariants.{Echo, Discard}
 
 -- RFC 9293, 3.3.2
 unfoldable pub state_word : State → List ℕ
@@ -16,8 +14,3 @@ state_word CloseWait = codes "CLOSE-WAIT"
 state_word Closing = codes "CLOSING"
 state_word LastAck = codes "LAST-ACK"
 state_word TimeWait = codes "TIME-WAIT"
-
--- RFC 862, RFC 863
-unfoldable pub service_word : Service → List ℕ
-service_word Echo = codes "echo"
-service_word Discard = codes "discard"

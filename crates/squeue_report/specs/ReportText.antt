@@ -15,10 +15,10 @@ use Rattle.conn_classifier.specs.Plan.{PlanOf}
 use Rattle.tcb_machine.specs.declared.kinds.Answer.{Answer}
 use Rattle.tcb_machine.specs.declared.kinds.Answer.TheVariants as answer
 use Rattle.tcb_machine.specs.declared.kinds.State.{State}
-use Rattle.echo_services.specs.Pump.{service_of}
+use Rattle.echo_services.specs.Pump.{service_of, service_word}
 use Rattle.conn_blocks.specs.CallLists.{CallLists}
 use Rattle.conn_blocks.specs.ServeOrder.{Serving, serve}
-use Rattle.squeue_report.specs.Names.{state_word, service_word}
+use Rattle.squeue_report.specs.Names.{state_word}
 
 -- fields with one space between them, and a newline
 abbrev pub line_end : List (List ℕ) → List ℕ
@@ -69,8 +69,12 @@ entry_field (call j k) = 99 ∷ (decimal j ++ 46 ∷ decimal k)
 unfoldable pub order_line : List Act → List ℕ
 order_line order = line (codes "order" ∷ map entry_field (entries_of order))
 
+-- a reply: its time in microseconds, and its datagram in hexadecimal
+unfoldable pub datagram_line : ℕ → List ℕ → List ℕ
+datagram_line at bytes = line (codes "reply" ∷ decimal at ∷ encode_lower bytes ∷ [])
+
 unfoldable pub reply_line : Tuple → Reply → List ℕ
-reply_line t r = line (codes "reply" ∷ decimal r.at ∷ encode_lower (segment_bytes t r) ∷ [])
+reply_line t r = datagram_line r.at (segment_bytes t r)
 
 abbrev pub answer_fields : Answer → List (List ℕ)
 answer_fields (answer.Status state received offered unacked) = state_word state ∷ decimal received ∷ decimal offered ∷ decimal unacked ∷ []

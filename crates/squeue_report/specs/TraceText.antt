@@ -10,19 +10,13 @@ use Rattle.perimeter_core.specs.declared.marks.Mark.{Mark}
 use Rattle.perimeter_core.specs.declared.marks.Mark.TheVariants as On
 use Rattle.perimeter_core.specs.declared.marks.SynchAct.{SynchAct}
 use Rattle.perimeter_core.specs.declared.marks.SynchAct.TheVariants as Done
-use Rattle.squeue_enter.specs.declared.Mode.{Mode}
-use Rattle.squeue_enter.specs.declared.Mode.TheVariants.{Process, NoDrain, Fill}
+use Rattle.squeue_enter.specs.Ways.{mode_word}
 use Rattle.conn_classifier.specs.Plan.{PlanOf}
 use Rattle.tcb_machine.specs.declared.kinds.Call.{Call}
 use Rattle.tcb_machine.specs.declared.kinds.Call.TheVariants.{Status, Buffer, Close}
 use Rattle.conn_blocks.specs.CallLists.{CallLists}
 use Rattle.ring_quotas.specs.declared.setup.Setup.{Setup}
 use Rattle.squeue_report.specs.ReportText.{line, body_text, done_line}
-
-unfoldable pub mode_word : Mode → List ℕ
-mode_word Process = codes "process"
-mode_word NoDrain = codes "nodrain"
-mode_word Fill = codes "fill"
 
 -- the setup, and whether wrong checksums drop segments: 1 or 0
 unfoldable pub setup_line : Setup → Bool → List ℕ

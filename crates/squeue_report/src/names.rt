@@ -1,9 +1,8 @@
 //! The words of a report.
 
 ghost use Rattle.std.specs.Prelude.{◌≡◌};
-ghost use Rattle.squeue_report.specs.Names.{state_word, service_word};
+ghost use Rattle.squeue_report.specs.Names.{state_word};
 
-use echo_services::Service;
 use tcb_machine::State;
 
 /// The state's name as RFC 9293, 3.3.2, has it.
@@ -21,16 +20,5 @@ pub fn state_name(state: State) -> &'static str
         State::Closing => "CLOSING",
         State::LastAck => "LAST-ACK",
         State::TimeWait => "TIME-WAIT",
-    }
-}
-
-/// The service's word in a report: echo (RFC 862) or discard (RFC 863).
-#[tactic(auto, unfolding(crate::specs::Names::service_word))]
-pub fn service_name(service: Service) -> &'static str
-    ensures { result.now ≡ service_word service }
-{
-    match service {
-        Service::Echo => "echo",
-        Service::Discard => "discard",
     }
 }

@@ -8,9 +8,9 @@ ghost use Rattle.conn_blocks.specs.CallLists.{CallLists};
 ghost use Rattle.conn_blocks.specs.ServeOrder.{serving_of};
 ghost use Rattle.ring_threads.specs.ServedBlocks.{AreServed};
 ghost use Rattle.squeue_report.specs.ReportText.{counts_line, end_field, conn_line, entries_of, entry_field, feeds, line_end};
-ghost use Rattle.squeue_report.specs.ReportText.{order_line, reply_line, answer_line, conn_text, body_text, report_text};
+ghost use Rattle.squeue_report.specs.ReportText.{order_line, datagram_line, reply_line, answer_line, conn_text, body_text, report_text};
 
-use crate::names::{service_name, state_name};
+use crate::names::state_name;
 use conn_blocks::{Act, Block};
 use conn_classifier::{Counts, Plan};
 use echo_services::Service;
@@ -98,7 +98,7 @@ fn push_head(text: &mut String, c: u32, tuple: &Tuple) -> Result<(), AllocError>
     push_end(text, tuple.client, tuple.client_port)?;
     text.push(' ')?;
     push_end(text, tuple.server, tuple.server_port)?;
-    writeln!(text, " {}", service_name(Service::of(tuple.server_port)))
+    writeln!(text, " {}", Service::of(tuple.server_port).name())
 }
 
 /// What connection `c` has in the report.
@@ -200,8 +200,22 @@ fn push_reply(
     ensures { OnOk result (string_bytes text.new ≡ string_bytes text.old ++ reply_line tuple.now reply.now) }
 {
     let bytes = encode(alloc, tuple, reply)?;
-    let digits = hex::encode(alloc, bytes.as_slice())?;
-    writeln!(text, "reply {} {}", reply.at, digits.as_str())
+    push_datagram(alloc, text, reply.at, bytes.as_slice())
+}
+
+/// Appends the line of a reply that was sent at `at` microseconds, with its IPv4 datagram in hexadecimal. Fails only for want
+/// of memory; then nothing is said of the text.
+#[tactic(auto, using(crate::proofs::Joins::joins), unfolding(crate::specs::ReportText::datagram_line))]
+pub fn push_datagram(
+    alloc: Global,
+    text: &mut String,
+    at: u64,
+    bytes: &[u8],
+) -> Result<(), AllocError>
+    ensures { OnOk result (string_bytes text.new ≡ string_bytes text.old ++ datagram_line at bytes.now) }
+{
+    let digits = hex::encode(alloc, bytes)?;
+    writeln!(text, "reply {at} {}", digits.as_str())
 }
 
 fn push_answers(text: &mut String, block: &Block) -> Result<(), AllocError>

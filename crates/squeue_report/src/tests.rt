@@ -1,12 +1,11 @@
 ghost use Rattle.std.specs.Prelude.{◌≡◌, ◌<◌, length, All, IfOk};
 ghost use Rattle.conn_blocks.specs.Allowed.{all_calls};
 
-use crate::names::{service_name, state_name};
+use crate::names::state_name;
 use crate::{report, report2, summary};
 use capture_reader::{Capture, parse_capture};
 use conn_blocks::Calls;
 use conn_classifier::{Plan, plan};
-use echo_services::Service;
 use perimeter_core::NoHook;
 use ring_quotas::Setup;
 use ring_threads::{Served, serve};
@@ -329,6 +328,4 @@ fn names(rt: HostRuntime) {
     for (state, name) in STATES {
         assert_eq!(rt; state_name(state), name);
     }
-    assert_eq!(rt; service_name(Service::Echo), "echo");
-    assert_eq!(rt; service_name(Service::Discard), "discard");
 }

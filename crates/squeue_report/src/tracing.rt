@@ -7,7 +7,7 @@ ghost use Rattle.squeue_state.specs.Told.{Within, mark_of, marks_of};
 ghost use Rattle.conn_blocks.specs.CallLists.{calls_of};
 ghost use Rattle.ring_threads.specs.ServedBlocks.{AreServed};
 ghost use Rattle.squeue_report.specs.ReportText.{line_end};
-ghost use Rattle.squeue_report.specs.TraceText.{mode_word, setup_line, call_line, thread_text, calls_text};
+ghost use Rattle.squeue_report.specs.TraceText.{setup_line, call_line, thread_text, calls_text};
 ghost use Rattle.squeue_report.specs.TraceText.{entered_field, mark_line, squeue_line, squeue_text, trace_text};
 
 use crate::reporting::push_body;
@@ -17,7 +17,6 @@ use perimeter_core::{Entry, SynchAct};
 use ring_quotas::{CALLERS, Setup};
 use ring_threads::Served;
 use sq_base::Octets;
-use squeue_enter::Mode;
 use squeue_state::{Trace, TraceMark};
 use std::alloc::{AllocError, Global};
 use tcb_machine::Call;
@@ -49,18 +48,6 @@ pub fn report2(
     Ok(Octets::wrap(text.into_bytes()))
 }
 
-/// The mode's name as a word of the program.
-#[tactic(auto, unfolding(crate::specs::TraceText::mode_word))]
-fn mode_name(mode: Mode) -> &'static str
-    ensures { result.now ≡ mode_word mode }
-{
-    match mode {
-        Mode::Process => "process",
-        Mode::NoDrain => "nodrain",
-        Mode::Fill => "fill",
-    }
-}
-
 #[tactic(auto, using(crate::proofs::Joins::joins), unfolding(crate::specs::TraceText::setup_line))]
 fn push_setup(text: &mut String, setup: &Setup, verify: bool) -> Result<(), AllocError>
     ensures { OnOk result (string_bytes text.new ≡ string_bytes text.old ++ setup_line setup.now verify) }
@@ -70,7 +57,7 @@ fn push_setup(text: &mut String, setup: &Setup, verify: bool) -> Result<(), Allo
         "setup squeues {} rings {} mode {}",
         setup.squeues,
         setup.rings,
-        mode_name(setup.mode)
+        setup.mode.word()
     )?;
     let verify = if verify { 1u32 } else { 0 };
     writeln!(

@@ -1,7 +1,8 @@
 -- The clients of the generator, as it goes on.
-use Rattle.std.proofs.Common.{◌≡◌, ℕ, ◌+◌, ◌*◌, ◌/◌, ◌%◌, ◌^◌, ◌<◌, ◌≤◌, Bool, true, false, cond, eqb, ltb, List, [], ◌∷◌, ◌++◌, length, map, set, take, drop, get_or, slice_get, Some, None, refl, sym, ap, ◌∙◌, ◌⊎◌, inl, inr, arith, length-set, get_or-set_other}
+use Rattle.std.proofs.Common.{◌≡◌, ℕ, ◌+◌, ◌*◌, ◌/◌, ◌%◌, ◌^◌, ◌<◌, ◌≤◌, Bool, true, false, cond, eqb, ltb, List, [], ◌∷◌, ◌++◌, length, map, set, take, drop, get_or, slice_get, Some, refl, sym, ap, ◌∙◌, ◌⊎◌, inl, inr, arith, length-set, get_or-set_other}
 use Rattle.sq_base.specs.declared.kinds.Tuple.{Tuple}
 use Rattle.segment_codec.specs.declared.packet.Reply.{Reply}
+use Rattle.segment_codec.specs.PlainSegments.{plain}
 use Rattle.segment_codec.specs.SegmentBytes.{segment_bytes}
 use Rattle.std.proofs.lemmas.Bool.{eqb-true, eqb-false, le-ltb, lt-ltb, cases_lt}
 use Rattle.std.proofs.lemmas.Grind.{get_or-set_at}
@@ -120,10 +121,10 @@ module _ (number round c state : ℕ) (cs : List Client) (r : Ready number round
 -- a client's segment as a record
 pub segment_is : (number round c at flags seq ack : ℕ) (text : List ℕ) → at ≡ 10 * (1000 * round + c) → flags ≡ (numbers_at number round c).flags
     → seq ≡ (numbers_at number round c).seq → ack ≡ (numbers_at number round c).ack → text ≡ text_at number round c
-    → record { at = at; flags = flags; seq = seq; ack = ack; wnd = 65535; mss = None; scale = None; text = text } ≡ segment_at number round c
+    → plain at flags seq ack 65535 text ≡ segment_at number round c
 unfolding segment_at
 segment_is number round c at flags seq ack text e f g h i =
-    λ k. record { at = e k; flags = f k; seq = g k; ack = h k; wnd = 65535; mss = None; scale = None; text = i k }
+    λ k. plain (e k) (f k) (g k) (h k) 65535 (i k)
 
 pub record_is : (number round c : ℕ) (body : List ℕ) (t : Tuple) (r : Reply) → body ≡ segment_bytes t r → t ≡ ends_of c → r ≡ segment_at number round c
     → record_of (10 * (1000 * round + c)) body ≡ record_at number round c

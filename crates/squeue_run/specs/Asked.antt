@@ -11,6 +11,7 @@ use Rattle.ring_quotas.specs.Limits.{most_budget, most_rings, most_spread, most_
 use Rattle.ring_quotas.specs.declared.setup.Setup.{Setup}
 use Rattle.squeue_enter.specs.declared.Mode.{Mode}
 use Rattle.squeue_enter.specs.declared.Mode.TheVariants as mode
+use Rattle.squeue_enter.specs.Ways.{mode_of}
 use Rattle.tcb_machine.specs.declared.kinds.Call.{Call}
 use Rattle.tcb_machine.specs.declared.kinds.Call.TheVariants as call
 use Rattle.squeue_run.specs.declared.calls.CallWord.{CallWord}
@@ -29,13 +30,7 @@ abbrev pub number_or : ℕ → ℕ → ℕ → Option Text → Option ℕ
 number_or default least most None = Some default
 number_or default least most (Some text) = number_between least most text
 
-abbrev pub mode_of : Text → Option Mode
-mode_of text =
-    if bytes_eq text (codes "process") then Some mode.Process
-    else if bytes_eq text (codes "nodrain") then Some mode.NoDrain
-    else if bytes_eq text (codes "fill") then Some mode.Fill
-    else None
-
+-- the mode that a text names, or the default where none is given
 abbrev pub mode_or_process : Option Text → Option Mode
 mode_or_process None = Some mode.Process
 mode_or_process (Some text) = mode_of text

@@ -1,9 +1,10 @@
 -- The capture that is made from a number: 1,000 connections with 100 segments each, one of each connection in a round.
-use Rattle.std.specs.Prelude.{◌≡◌, ℕ, suc, zero, ◌+◌, ◌*◌, ◌/◌, ◌%◌, ◌^◌, ◌==◌, nat_le, ◌&&◌, List, ◌∷◌, ◌++◌, length, map, sum_by, None, if◌then◌else◌}
+use Rattle.std.specs.Prelude.{◌≡◌, ℕ, suc, zero, ◌+◌, ◌*◌, ◌/◌, ◌%◌, ◌^◌, ◌==◌, nat_le, ◌&&◌, List, ◌∷◌, ◌++◌, length, map, sum_by, if◌then◌else◌}
 use Rattle.std.specs.List.{flat_map, range_with_len}
 use Rattle.byteorder.specs.Endian.{little_bytes}
 use Rattle.sq_base.specs.declared.kinds.Tuple.{Tuple}
 use Rattle.segment_codec.specs.declared.packet.Reply.{Reply}
+use Rattle.segment_codec.specs.PlainSegments.{plain}
 use Rattle.segment_codec.specs.SegmentBytes.{segment_bytes}
 use Rattle.capture_reader.specs.declared.fault.CaptureFault.{CaptureFault}
 use Rattle.capture_reader.specs.declared.fault.CaptureFault.TheVariants as fault
@@ -83,16 +84,9 @@ abbrev pub ends_of : ℕ → Tuple
 ends_of c = record { client = record { 0 = 0x0a000002 }; client_port = port_of c; server = record { 0 = 0x0a010000 + c }; server_port = 40000 }
 
 unfoldable pub segment_at : ℕ → ℕ → ℕ → Reply
-segment_at number round c = record {
-  at = 10 * (1000 * round + c);
-  flags = (numbers_at number round c).flags;
-  seq = (numbers_at number round c).seq;
-  ack = (numbers_at number round c).ack;
-  wnd = 65535;
-  mss = None;
-  scale = None;
-  text = text_at number round c;
-}
+segment_at number round c =
+    plain (10 * (1000 * round + c)) (numbers_at number round c).flags (numbers_at number round c).seq (numbers_at number round c).ack 65535
+    (text_at number round c)
 
 -- a record of this time: seconds, microseconds, captured length, original length, body
 unfoldable pub record_of : ℕ → List ℕ → List ℕ

@@ -6,6 +6,7 @@ use Rattle.capture_reader.specs.declared.fault.CaptureFault.{CaptureFault}
 use Rattle.capture_reader.specs.declared.fault.CaptureFault.TheVariants as fault
 use Rattle.pcapng_reader.specs.declared.fault.PcapngFault.{PcapngFault}
 use Rattle.pcapng_reader.specs.declared.fault.PcapngFault.TheVariants as pcapng
+use Rattle.squeue_enter.specs.Ways.{mode_words}
 
 -- a line
 abbrev pub line : List ℕ → List ℕ
@@ -17,7 +18,8 @@ sqrun = codes "sqrun"
 
 abbrev pub usage_line : List ℕ
 usage_line =
-    line (codes "usage: sqrun [--squeues N] [--rings N] [--mode process|nodrain|fill] [--budget N] [--spread N] [--verify] [--trace] [--gen N] [CALL]...")
+    codes "usage: sqrun [--squeues N] [--rings N] [--mode "
+    ++ (mode_words ++ line (codes "] [--budget N] [--spread N] [--verify] [--trace] [--gen N] [CALL]..."))
 
 abbrev pub memory_line : List ℕ → List ℕ
 memory_line program = program ++ line (codes ": out of memory")

@@ -197,16 +197,7 @@ fn push_segment(
     let at = 10 * (CONNS * round + c);
     let (flags, seq, ack) = client.numbers(round);
     let len = text.as_slice().len() as u32;
-    let segment = Reply {
-        at: u64::from(at),
-        flags,
-        seq,
-        ack,
-        wnd: 65535,
-        mss: None,
-        scale: None,
-        text,
-    };
+    let segment = Reply::plain(u64::from(at), flags, seq, ack, 65535, text);
     push_record(file, at, encode(alloc, &tuple(c), &segment)?.as_slice())?;
     client.sent = client.sent.wrapping_add(len);
     Ok(())

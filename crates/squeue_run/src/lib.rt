@@ -20,7 +20,7 @@ mod words;
 
 pub use calls::CallWord;
 pub use generator::generate;
-pub use lines::{bad_capture, bad_pcapng};
+pub use lines::{bad_capture, bad_pcapng, tell_usage};
 pub use process::run_process;
 pub use reading::{Words, read_words};
 pub use run::{Ran, run_with, squeue_run};

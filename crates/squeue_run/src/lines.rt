@@ -1,21 +1,27 @@
 //! The lines that the program writes where it gives no report. Those of a bad capture serve another program too, under its own name.
 
-ghost use Rattle.std.specs.Prelude.{◌≡◌, IfOk, string_bytes};
+ghost use Rattle.std.specs.Prelude.{◌≡◌, ◌++◌, IfOk, string_bytes};
 ghost use Rattle.std.specs.Io.KnownBytes.{Appends};
 ghost use Rattle.sq_base.specs.Ends.{Rose};
+ghost use Rattle.squeue_enter.specs.Ways.{mode_words};
 ghost use Rattle.squeue_run.specs.Lines.{bad_line, capture_text, many_marks_line, missing_line, pcapng_line, pcapng_text, shown_line};
 ghost use Rattle.squeue_run.specs.Ran.{IsBad, IsBadPcapng};
 
 use capture_reader::CaptureFault;
 use pcapng_reader::PcapngFault;
 use sq_base::{Sink, put};
+use squeue_enter::MODE_WORDS;
 use std::alloc::{AllocError, Global};
 
 /// The name that the program calls itself by.
 pub const SQRUN: &str = "sqrun";
 
-pub const USAGE: &[u8] =
-    b"usage: sqrun [--squeues N] [--rings N] [--mode process|nodrain|fill] [--budget N] [--spread N] [--verify] [--trace] [--gen N] [CALL]...\n";
+/// The usage line up to the modes' words.
+pub const USAGE_FRONT: &[u8] = b"usage: sqrun [--squeues N] [--rings N] [--mode ";
+
+/// The usage line after the modes' words.
+pub const USAGE_END: &[u8] =
+    b"] [--budget N] [--spread N] [--verify] [--trace] [--gen N] [CALL]...\n";
 
 pub const NO_MEMORY: &[u8] = b"sqrun: out of memory\n";
 
@@ -132,4 +138,18 @@ pub fn tell<E: Sink>(err: &mut E, line: &[u8])
     ensures { (Rose (E.write_faults err.old) (E.write_faults err.new) → ⊥) → Appends (E.contents err.old) (E.contents err.new) line.now }
 {
     let _ = put(err, line);
+}
+
+/// Appends a usage line: this front, the modes' words and this end. Where a write fails, the rest isn't tried.
+pub fn tell_usage<E: Sink>(err: &mut E, front: &[u8], end: &[u8])
+    ensures { (Rose (E.write_faults err.old) (E.write_faults err.new) → ⊥)
+        → Appends (E.contents err.old) (E.contents err.new) (front.now ++ (mode_words ++ end.now)) }
+{
+    let Ok(()) = put(err, front) else {
+        return;
+    };
+    let Ok(()) = put(err, MODE_WORDS.as_bytes()) else {
+        return;
+    };
+    tell(err, end);
 }

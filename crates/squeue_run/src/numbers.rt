@@ -3,7 +3,7 @@
 ghost use Rattle.std.specs.Prelude.{◌≡◌, option_map};
 ghost use Rattle.std.specs.List.{list_all};
 ghost use Rattle.std.specs.Char.{is_ascii_digit};
-ghost use Rattle.squeue_run.specs.Asked.{is_number, number_between, number_or, mode_of, mode_or_process};
+ghost use Rattle.squeue_run.specs.Asked.{is_number, number_between, number_or, mode_or_process};
 
 use squeue_enter::Mode;
 
@@ -50,24 +50,12 @@ pub fn number_or(default: u32, least: u32, most: u32, text: Option<&str>) -> Opt
     }
 }
 
-/// The mode that a text names.
-fn mode_of(text: &str) -> Option<Mode>
-    ensures { result ≡ mode_of text.now }
-{
-    match text {
-        "process" => Some(Mode::Process),
-        "nodrain" => Some(Mode::NoDrain),
-        "fill" => Some(Mode::Fill),
-        _ => None,
-    }
-}
-
 /// The mode that the text names, or the default where none is given.
 pub fn mode_or_process(text: Option<&str>) -> Option<Mode>
     ensures { result ≡ mode_or_process (option_map (λ t. t.now) text.entry) }
 {
     match text {
-        Some(text) => mode_of(text),
+        Some(text) => Mode::of(text),
         None => Some(Mode::Process),
     }
 }

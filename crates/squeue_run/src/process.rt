@@ -4,7 +4,8 @@ ghost use Rattle.std.specs.Prelude.{◌≡◌};
 ghost use Rattle.std.specs.Process.{exit_status};
 ghost use Rattle.sq_base.specs.StatusCode.{code_of};
 
-use crate::lines::{NO_MEMORY, USAGE, tell};
+use crate::lines::{NO_MEMORY, tell};
+use crate::refusal::told_usage;
 use crate::run::squeue_run;
 use sq_base::{Status, StdSink, StdSource};
 use std::alloc::AllocGlobal;
@@ -25,8 +26,7 @@ pub fn run_process<E: Write + Drop>(
         Ok(words) => words,
         // A word that isn't UTF-8 is none of the usage line's.
         Err(error) if error.kind() == io::ErrorKind::InvalidData => {
-            tell(&mut err, USAGE);
-            return exit_code(Status::Usage);
+            return exit_code(told_usage(&mut err));
         }
         Err(_) => {
             tell(&mut err, NO_MEMORY);

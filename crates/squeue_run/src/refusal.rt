@@ -7,8 +7,8 @@ ghost use Rattle.squeue_run.specs.Lines.{sqrun, memory_line};
 ghost use Rattle.squeue_run.specs.Causes.{Told};
 
 use crate::lines::{
-    MANY_BYTES, MANY_RECORDS, NO_MEMORY, READ_FAULT, SQRUN, USAGE, bad_capture, bad_pcapng,
-    many_marks, no_connection, tell,
+    MANY_BYTES, MANY_RECORDS, NO_MEMORY, READ_FAULT, SQRUN, USAGE_END, USAGE_FRONT, bad_capture,
+    bad_pcapng, many_marks, no_connection, tell, tell_usage,
 };
 use capture_reader::CaptureFault;
 use pcapng_reader::PcapngFault;
@@ -43,7 +43,7 @@ pub fn refuse<E: Sink>(alloc: Global, err: &mut E, refusal: &Refusal) -> Status
     ensures { Told refusal.now (end_of E.contents E.write_faults err.old err.new) result }
 {
     match refusal {
-        Refusal::Usage => told(err, USAGE, Status::Usage),
+        Refusal::Usage => told_usage(err),
         Refusal::NoMemory
         | Refusal::Capture(CaptureFault::NoMemory)
         | Refusal::Pcapng(PcapngFault::NoMemory) => told(err, NO_MEMORY, Status::NoMemory),
@@ -64,6 +64,14 @@ pub fn refuse<E: Sink>(alloc: Global, err: &mut E, refusal: &Refusal) -> Status
         }
         Refusal::LongTrace(marks) => told_line(err, many_marks(alloc, *marks), Status::TooLarge),
     }
+}
+
+/// Writes the usage line, and gives its status.
+pub fn told_usage<E: Sink>(err: &mut E) -> Status
+    ensures { Told Refusal.Usage (end_of E.contents E.write_faults err.old err.new) result }
+{
+    tell_usage(err, USAGE_FRONT, USAGE_END);
+    Status::Usage
 }
 
 fn told<E: Sink>(err: &mut E, line: &[u8], status: Status) -> Status

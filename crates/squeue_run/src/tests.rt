@@ -2,10 +2,9 @@
 
 use crate::squeue_run;
 use sq_base::{MemSink, MemSource, Status};
-use std::alloc::Global;
+use std::alloc::{AllocError, Global};
 use std::process::Abort;
 use std::sync::Wait;
-use std::test::Fail;
 use std::thread::Threads;
 
 mod dialogues;
@@ -48,85 +47,111 @@ const FIVE: [Sent<'static>; 5] = [
     Seg(4000, A, 107, 507, 4096, b""),
 ];
 
-/// Its report, line by line.
-const FIVE_REPORT: [&str; 9] = [
-    "report 1",
-    "records 5 tail 0 served 5 nofit 0 server 0 other 0 fragment 0 cut 0 malformed 0 badsum 0 connections 1",
-    "conn 0 10.0.0.1:4000 10.0.0.2:7 echo",
-    "order f0-5",
-    "reply 0 4500002c00004000400626ca0a0000020a00000100070fa0000001f4000000656012ffff72140000020405b4",
-    "reply 2000 4500002d00004000400626c90a0000020a00000100070fa0000001f50000006a5018ffff45ed000068656c6c6f",
-    "reply 3000 4500002800004000400626ce0a0000020a00000100070fa0000001fa0000006b5011ffff89c50000",
-    "end LISTEN",
-    "done",
-];
+/// Its report.
+const FIVE_REPORT: &str = concat!(
+    "report 1\n",
+    "records 5 tail 0 served 5 nofit 0 server 0 other 0 fragment 0 cut 0 malformed 0 badsum 0 connections 1\n",
+    "conn 0 10.0.0.1:4000 10.0.0.2:7 echo\n",
+    "order f0-5\n",
+    "reply 0 4500002c00004000400626ca0a0000020a00000100070fa0000001f4000000656012ffff72140000020405b4\n",
+    "reply 2000 4500002d00004000400626c90a0000020a00000100070fa0000001f50000006a5018ffff45ed000068656c6c6f\n",
+    "reply 3000 4500002800004000400626ce0a0000020a00000100070fa0000001fa0000006b5011ffff89c50000\n",
+    "end LISTEN\n",
+    "done\n",
+);
+
+/// What is reported of the five segments where the fifth is cut.
+const CUT_REPORT: &str = concat!(
+    "report 1\n",
+    "records 4 tail 1 served 4 nofit 0 server 0 other 0 fragment 0 cut 0 malformed 0 badsum 0 connections 1\n",
+    "conn 0 10.0.0.1:4000 10.0.0.2:7 echo\n",
+    "order f0-4\n",
+    "reply 0 4500002c00004000400626ca0a0000020a00000100070fa0000001f4000000656012ffff72140000020405b4\n",
+    "reply 2000 4500002d00004000400626c90a0000020a00000100070fa0000001f50000006a5018ffff45ed000068656c6c6f\n",
+    "reply 3000 4500002800004000400626ce0a0000020a00000100070fa0000001fa0000006b5011ffff89c50000\n",
+    "end LAST-ACK\n",
+    "done\n",
+);
 
 /// A little-endian file of raw IP packets, in microseconds.
 const HEADER: [u8; 24] = [
     0xd4, 0xc3, 0xb2, 0xa1, 2, 0, 4, 0, 0, 0, 0, 0, 0, 0, 0, 0, 0, 0, 4, 0, 101, 0, 0, 0,
 ];
 
-/// A record's header, and the start of its datagram up to the protocol: of `len` bytes.
-fn push_head(file: &mut Vec<u8>, at: u32, len: u16, protocol: u8) -> Result<(), Fail> {
-    file.extend_from_slice(&(at / 1_000_000).to_le_bytes())?;
-    file.extend_from_slice(&(at % 1_000_000).to_le_bytes())?;
-    file.extend_from_slice(&u32::from(len).to_le_bytes())?;
-    file.extend_from_slice(&u32::from(len).to_le_bytes())?;
-    file.extend_from_slice(&[0x45, 0])?;
-    file.extend_from_slice(&len.to_be_bytes())?;
-    file.extend_from_slice(&[0, 0, 0x40, 0, 64, protocol, 0, 0])?;
-    file.extend_from_slice(&[10, 0, 0, 1, 10, 0, 0, 2])?;
-    Ok(())
+/// A record's header, and the start of its datagram up to the ports: of `len` bytes.
+fn head(at: u32, len: u16, protocol: u8) -> [u8; 36] {
+    let [s0, s1, s2, s3] = (at / 1_000_000).to_le_bytes();
+    let [m0, m1, m2, m3] = (at % 1_000_000).to_le_bytes();
+    let [high, low] = len.to_be_bytes();
+    [
+        s0, s1, s2, s3, m0, m1, m2, m3, low, high, 0, 0, low, high, 0, 0, 0x45, 0, high, low, 0, 0,
+        0x40, 0, 64, protocol, 0, 0, 10, 0, 0, 1, 10, 0, 0, 2,
+    ]
 }
 
-/// The TCP part up to the window, from this port; checksum and urgent pointer are 0.
-fn push_tcp(
+/// The TCP part up to the text or the options, from this port; checksum and urgent pointer are 0.
+fn tcp(port: u16, numbers: (u32, u32), offset: u8, flags: u8, wnd: u16) -> [u8; 20] {
+    let [port_high, port_low] = port.to_be_bytes();
+    let [s0, s1, s2, s3] = numbers.0.to_be_bytes();
+    let [a0, a1, a2, a3] = numbers.1.to_be_bytes();
+    let [wnd_high, wnd_low] = wnd.to_be_bytes();
+    [
+        port_high, port_low, 0, 7, s0, s1, s2, s3, a0, a1, a2, a3, offset, flags, wnd_high,
+        wnd_low, 0, 0, 0, 0,
+    ]
+}
+
+/// A record of one TCP segment: its two headers, and the text or the options.
+fn push_segment(
     file: &mut Vec<u8>,
-    port: u16,
-    numbers: (u32, u32),
-    offset: u8,
-    flags: u8,
-    wnd: u16,
-) -> Result<(), Fail> {
-    file.extend_from_slice(&port.to_be_bytes())?;
-    file.extend_from_slice(&[0, 7])?;
-    file.extend_from_slice(&numbers.0.to_be_bytes())?;
-    file.extend_from_slice(&numbers.1.to_be_bytes())?;
-    file.extend_from_slice(&[offset, flags])?;
-    file.extend_from_slice(&wnd.to_be_bytes())?;
-    file.extend_from_slice(&[0; 4])?;
-    Ok(())
+    head: &[u8; 36],
+    tcp: &[u8; 20],
+    more: &[u8],
+) -> Result<(), AllocError> {
+    file.extend_from_slice(head)?;
+    file.extend_from_slice(tcp)?;
+    file.extend_from_slice(more)
 }
 
 /// What was sent, as a record; a segment comes from this port.
-fn push(file: &mut Vec<u8>, port: u16, sent: &Sent) -> Result<(), Fail> {
+fn push(file: &mut Vec<u8>, port: u16, sent: &Sent) -> Result<(), AllocError> {
     match *sent {
         Seg(at, flags, seq, ack, wnd, text) => {
             let len = 40u16.saturating_add(u16::try_from(text.len()).unwrap_or(u16::MAX));
-            push_head(file, at, len, 6)?;
-            push_tcp(file, port, (seq, ack), 0x50, flags, wnd)?;
-            file.extend_from_slice(text)?;
+            let tcp = tcp(port, (seq, ack), 0x50, flags, wnd);
+            push_segment(file, &head(at, len, 6), &tcp, text)
         }
         Syn(options) => {
-            push_head(file, 0, 44, 6)?;
-            push_tcp(file, port, (100, 0), 0x60, S, 4096)?;
-            file.extend_from_slice(options)?;
+            let tcp = tcp(port, (100, 0), 0x60, S, 4096);
+            push_segment(file, &head(0, 44, 6), &tcp, options)
         }
         Udp(at) => {
-            push_head(file, at, 28, 17)?;
-            file.extend_from_slice(&[0x13, 0x88, 0, 7, 0, 8, 0, 0])?;
+            file.extend_from_slice(&head(at, 28, 17))?;
+            file.extend_from_slice(&[0x13, 0x88, 0, 7, 0, 8, 0, 0])
         }
+    }
+}
+
+/// What was sent, segment by segment, each from so many ports in turn, of which this is the first.
+fn in_turn(alloc: Global, sent: &[Sent], port: u16, count: u16) -> Result<Vec<u8>, AllocError> {
+    let mut file = Vec::from_slice(alloc, &HEADER)?;
+    for one in sent {
+        push_each(&mut file, port, count, one)?;
+    }
+    Ok(file)
+}
+
+/// What was sent, from each of these ports.
+fn push_each(file: &mut Vec<u8>, port: u16, count: u16, sent: &Sent) -> Result<(), AllocError> {
+    for more in 0..count {
+        push(file, port.saturating_add(more), sent)?;
     }
     Ok(())
 }
 
 /// The capture of what was sent.
-fn capture(alloc: Global, sent: &[Sent]) -> Result<Vec<u8>, Fail> {
-    let mut file = Vec::from_slice(alloc, &HEADER)?;
-    for one in sent {
-        push(&mut file, 4000, one)?;
-    }
-    Ok(file)
+fn capture(alloc: Global, sent: &[Sent]) -> Result<Vec<u8>, AllocError> {
+    in_turn(alloc, sent, 4000, 1)
 }
 
 /// The first so many bytes, or all.
@@ -135,27 +160,62 @@ fn front(bytes: &[u8], len: usize) -> &[u8] {
 }
 
 /// The words that stand between bars; an empty text is no word.
-fn words_of(alloc: Global, line: &str) -> Result<Vec<String>, Fail> {
+fn words_of(alloc: Global, line: &str) -> Result<Vec<String>, AllocError> {
     let mut words = Vec::new(alloc);
     if !line.is_empty() {
         for word in line.split('|') {
-            words.push(String::from_str(alloc, word)?)?;
+            push_word(alloc, &mut words, word)?;
         }
     }
     Ok(words)
 }
 
-/// What a run gave, and whether it handed back what was served.
-#[derive(Drop)]
-struct Ended {
+/// One word more.
+fn push_word(alloc: Global, words: &mut Vec<String>, word: &str) -> Result<(), AllocError> {
+    words.push(String::from_str(alloc, word)?)?;
+    Ok(())
+}
+
+/// A run over an input, and what it gives.
+#[derive(Clone, Copy, Drop)]
+struct Row<'a> {
+    words: &'a str,
+    /// How many bytes of the input there are; a large number stands for all.
+    len: usize,
     status: Status,
-    handed: bool,
+    out: &'a str,
+    /// The error line.
+    told: &'a str,
+}
+
+/// All bytes of the input, with no words, end well.
+const GOOD: Row<'static> = Row {
+    words: "",
+    len: usize::MAX,
+    status: Status::Ok,
+    out: "",
+    told: "",
+};
+
+/// What a run reads from and writes to.
+#[derive(Drop)]
+struct Ends {
+    src: MemSource,
     out: MemSink,
     err: MemSink,
 }
 
 /// Room for what runs write.
 const ROOM: usize = 1_000_000;
+
+/// Ends that don't fail.
+fn ends_over(alloc: Global, input: &[u8]) -> Result<Ends, AllocError> {
+    Ok(Ends {
+        src: MemSource::make(alloc, input, 65_536, &[])?,
+        out: MemSink::make(alloc, ROOM, 65_536, &[])?,
+        err: MemSink::make(alloc, 1000, 1000, &[])?,
+    })
+}
 
 /// A run over these ends: its status, and whether it handed back what was served.
 fn outcome(
@@ -170,108 +230,131 @@ fn outcome(
     (ran.status, ran.served.is_some())
 }
 
-/// A run over ends that don't fail.
-fn ran(
+/// What a run gave, and whether it handed back what was served.
+#[derive(Drop)]
+struct Ended {
+    ran: (Status, bool),
+    ends: Ends,
+}
+
+/// A run over these ends, with the words of a line.
+fn run(
+    rt: &(impl Threads + Wait + Sync),
+    alloc: Global,
+    line: &str,
+    mut ends: Ends,
+) -> Result<Ended, AllocError> {
+    let words = words_of(alloc, line)?;
+    let Ends { src, out, err } = &mut ends;
+    let ran = outcome(rt, alloc, words.as_slice(), src, out, err);
+    Ok(Ended { ran, ends })
+}
+
+/// A run over an input, with the words of a line and ends that don't fail.
+fn ran_over(
     rt: &(impl Threads + Wait + Sync),
     alloc: Global,
     line: &str,
     input: &[u8],
-) -> Result<Ended, Fail> {
-    let words = words_of(alloc, line)?;
-    let mut src = MemSource::make(alloc, input, 65_536, &[])?;
-    let mut out = MemSink::make(alloc, ROOM, 65_536, &[])?;
-    let mut err = MemSink::make(alloc, 1000, 1000, &[])?;
-    let (status, handed) = outcome(rt, alloc, words.as_slice(), &mut src, &mut out, &mut err);
-    Ok(Ended {
+) -> Result<Ended, AllocError> {
+    run(rt, alloc, line, ends_over(alloc, input)?)
+}
+
+/// These bytes are this text.
+fn expect_text(rt: &impl Abort, name: &str, row: &str, bytes: &[u8], text: &str) {
+    assert_eq!(rt; bytes, text.as_bytes(), "{name}: {row}");
+}
+
+/// A run gave what its row has, and handed back what was served at status 0 alone. A failure names the row by its error line or its words.
+fn expect(rt: &impl Abort, name: &str, row: &Row, ended: &Ended) {
+    let &Row {
+        words,
         status,
-        handed,
         out,
-        err,
-    })
+        told,
+        ..
+    } = row;
+    let ran = ended.ran;
+    let row = if told.is_empty() { words } else { told };
+    assert_eq!(rt; ran, (status, status == Status::Ok), "{name}: {row}");
+    expect_text(rt, name, row, ended.ends.out.bytes(), out);
+    expect_text(rt, name, row, ended.ends.err.bytes(), told);
 }
 
-/// The text of these lines.
-fn text(alloc: Global, lines: &[&str]) -> Result<String, Fail> {
-    let mut text = String::new(alloc);
-    for line in lines {
-        text.push_str(line)?;
-        text.push('\n')?;
-    }
-    Ok(text)
-}
-
-/// These bytes are these lines.
-fn expect_text(
-    rt: &impl Abort,
+/// A run gives what its row has.
+fn expect_row(
+    rt: &(impl Abort + Threads + Wait + Sync),
     alloc: Global,
     name: &str,
-    bytes: &[u8],
-    lines: &[&str],
-) -> Result<(), Fail> {
-    let text = text(alloc, lines)?;
-    assert_eq!(rt; bytes, text.as_bytes(), "{name}");
+    input: &[u8],
+    row: &Row,
+) -> Result<(), AllocError> {
+    let ended = ran_over(rt, alloc, row.words, front(input, row.len))?;
+    expect(rt, name, row, &ended);
     Ok(())
 }
 
-/// A run ends with this status, this output and this error line, and hands back what was served at status 0 alone.
-fn expect(
-    rt: &impl Abort,
+/// Runs over one input give what their rows have.
+fn expect_rows(
+    rt: &(impl Abort + Threads + Wait + Sync),
     alloc: Global,
     name: &str,
-    ran: &Ended,
-    status: Status,
-    out: &[&str],
-    err: &[&str],
-) -> Result<(), Fail> {
-    assert_eq!(rt; ran.status, status, "{name}");
-    assert_eq!(rt; ran.handed, status == Status::Ok, "{name}");
-    expect_text(rt, alloc, name, ran.out.bytes(), out)?;
-    expect_text(rt, alloc, name, ran.err.bytes(), err)
-}
-
-/// A run ends well, with this output.
-fn expect_good(
-    rt: &(impl Abort + Threads + Wait + Sync),
-    alloc: Global,
     input: &[u8],
-    words: &str,
-    out: &[&str],
-) -> Result<(), Fail> {
-    let ran = ran(rt, alloc, words, input)?;
-    expect(rt, alloc, words, &ran, Status::Ok, out, &[])
-}
-
-/// Runs over one input end well: words, and the output.
-fn expect_all_good(
-    rt: &(impl Abort + Threads + Wait + Sync),
-    alloc: Global,
-    input: &[u8],
-    rows: &[(&str, &[&str])],
-) -> Result<(), Fail> {
-    for (words, out) in rows {
-        expect_good(rt, alloc, input, words, out)?;
+    rows: &[Row],
+) -> Result<(), AllocError> {
+    for row in rows {
+        expect_row(rt, alloc, name, input, row)?;
     }
     Ok(())
 }
 
-/// A run gives no output.
-fn expect_refused(
+/// Words, how the output of a run with them begins, how many bytes it has, and their check value.
+#[derive(Clone, Copy, Drop)]
+struct Sums<'a> {
+    words: &'a str,
+    begin: &'a str,
+    len: usize,
+    check: u64,
+}
+
+impl Sums<'_> {
+    /// A run ended well, and its output begins so, has so many bytes, and this check value.
+    fn expect(&self, rt: &impl Abort, status: Status, out: &[u8]) {
+        let words = self.words;
+        let begins = out.starts_with(self.begin.as_bytes());
+        assert_eq!(rt; (status, begins), (Status::Ok, true), "{words}");
+        assert_eq!(rt;
+            (out.len(), check_of(out)),
+            (self.len, self.check),
+            "{words}"
+        );
+    }
+}
+
+/// A run ends well, and its output begins so, has so many bytes, and this check value.
+fn expect_sums(
     rt: &(impl Abort + Threads + Wait + Sync),
     alloc: Global,
     input: &[u8],
-    words: &str,
-    status: Status,
-    told: &str,
-) -> Result<(), Fail> {
-    let ran = ran(rt, alloc, words, input)?;
-    expect(rt, alloc, told, &ran, status, &[], &[told])
+    sums: &Sums,
+) -> Result<(), AllocError> {
+    let ended = ran_over(rt, alloc, sums.words, input)?;
+    sums.expect(rt, ended.ran.0, ended.ends.out.bytes());
+    Ok(())
 }
 
-/// A run ends well, with so many bytes of output, whose check value is this.
-fn expect_sums(rt: &impl Abort, name: &str, ran: &Ended, len: usize, check: u64) {
-    assert_eq!(rt; ran.status, Status::Ok, "{name}");
-    assert_eq!(rt; ran.out.bytes().len(), len, "{name}");
-    assert_eq!(rt; check_of(ran.out.bytes()), check, "{name}");
+/// What stands in the text behind these parts, where it begins with them, one after another.
+fn after<'a>(text: &'a [u8], parts: &[&str]) -> Option<&'a [u8]> {
+    let mut rest = text;
+    for part in parts {
+        rest = rest.strip_prefix(part.as_bytes())?;
+    }
+    Some(rest)
+}
+
+/// Whether the text is these parts, one after another.
+fn is_made_of(text: &[u8], parts: &[&str]) -> bool {
+    matches!(after(text, parts), Some([]))
 }
 
 /// Output of many lines: each byte in turn, at the multiplier of the 64-bit FNV hash, from 0.

@@ -1,13 +1,14 @@
 -- A datagram's text lies within its record's body, and is short.
-use Rattle.std.proofs.Common.{◌≡◌, ℕ, ◌+◌, ◌≤◌, ◌&&◌, ◌||◌, ◌==◌, nat_le, Bool, true, false, List, length, take, drop, Option, None, Some, bit_and, refl, subst, arith, length-drop}
+use Rattle.std.proofs.Common.{◌≡◌, ℕ, ◌+◌, ◌≤◌, ◌&&◌, ◌||◌, ◌==◌, nat_le, Bool, true, false, List, length, take, drop, Result, Ok, Err, None, Some, bit_and, refl, subst, arith, length-drop}
 use Rattle.std.proofs.lemmas.List.{length-take}
 use Rattle.std.proofs.lemmas.Bool.Decides.{nat_tests}
 use Rattle.sq_base.specs.declared.kinds.Link.{Link}
 use Rattle.segment_codec.specs.Places.{byte, word, high}
-use Rattle.segment_codec.specs.Packet.{total_of}
+use Rattle.segment_codec.specs.Packet.{ip_place, total_of}
+use Rattle.segment_codec.specs.declared.packet.Packet.{Packet}
 use Rattle.udp_codec.specs.Limits.{most_text}
 use Rattle.udp_codec.specs.declared.datagram.Udp.{Udp}
-use Rattle.udp_codec.specs.UdpDatagram.{header_of, ip_place, is_udp, is_whole, part_of, udp_at, udp_in, udp_of}
+use Rattle.udp_codec.specs.UdpDatagram.{header_of, is_udp, is_whole, part_of, udp_at, udp_in, udp_of}
 
 -- the text ends within so many bytes, and is short enough to be sent
 pub record IsShortWithin (n : ℕ) (u : Udp) : Type 0 where
@@ -76,6 +77,6 @@ at_place body at u e = by (is_whole (drop at body)) (is_udp (part_of (drop at bo
 pub udp_within : (link : Link) (body : List ℕ) (u : Udp) → udp_in link body ≡ Some u → IsShortWithin (length body) u
 udp_within link body u e = by (ip_place link body) refl
   where
-    by : (o : Option ℕ) → ip_place link body ≡ o → IsShortWithin (length body) u
-    by None p = absurd (let none : None ≡ Some u = rw p at e in let no : ⊥ = cc in no)
-    by (Some at) p = at_place body at u (rw p at e)
+    by : (r : Result ℕ Packet) → ip_place link body ≡ r → IsShortWithin (length body) u
+    by (Err answer) p = absurd (let none : None ≡ Some u = rw p at e in let no : ⊥ = cc in no)
+    by (Ok at) p = at_place body at u (rw p at e)

@@ -3,7 +3,7 @@
 use Rattle.std.specs.Prelude.{ℕ, ◌+◌, ◌-◌, ◌==◌, not, max, Bool, false}
 use Rattle.std.specs.Prelude.{List, [], ◌∷◌, ◌++◌, take, map, filter, length, Option, None, Some, suc, if◌then◌else◌}
 use Rattle.std.specs.List.{filter_map, list_any}
-use Rattle.sq_base.specs.Ports.{chargen_port, is_served_port}
+use Rattle.sq_base.specs.Ports.{chargen_port, is_served_udp_port}
 use Rattle.sq_base.specs.declared.kinds.Link.{Link}
 use Rattle.sq_base.specs.declared.kinds.Tuple.{Tuple}
 use Rattle.capture_reader.specs.CaptureFile.{last_time, Packet as Captured}
@@ -26,7 +26,7 @@ use Rattle.stream_plan.specs.declared.kinds.Datagram.{Datagram}
 
 -- a datagram to echo or discard is served, and so is a segment to the generator
 abbrev pub served_udp : Udp → Option Found
-served_udp u = if is_served_port u.dst_port then Some (found.Datagram u) else None
+served_udp u = if is_served_udp_port u.dst_port then Some (found.Datagram u) else None
 
 abbrev pub served_tcp : Packet → Option Found
 served_tcp (packet.Segment s) = if s.dst_port == chargen_port then Some (found.Segment s) else None

@@ -6,7 +6,7 @@ ghost use Rattle.stream_plan.specs.Streams.{arrivals_of, served_in, served_tcp, 
 use crate::kinds::{Arrived, Found};
 use capture_reader::Capture;
 use segment_codec::{Packet, decode};
-use sq_base::{CHARGEN_PORT, Link, Tuple, is_served};
+use sq_base::{CHARGEN_PORT, Link, Tuple, is_served_udp};
 use std::alloc::{AllocError, Global};
 use udp_codec::{Udp, decode_udp};
 
@@ -39,7 +39,7 @@ fn served(link: Link, body: &[u8]) -> Option<Found>
 fn served_udp(udp: Udp) -> Option<Found>
     ensures { result ≡ served_udp udp }
 {
-    if is_served(udp.dst_port) {
+    if is_served_udp(udp.dst_port) {
         Some(Found::Datagram(udp))
     } else {
         None

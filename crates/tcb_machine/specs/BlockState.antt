@@ -1,11 +1,13 @@
 -- The block of a connection (RFC 9293, 3.3.1), and what is read off it.
-use Rattle.std.specs.Prelude.{ℕ, ◌+◌, ◌-◌, ◌*◌, ◌%◌, ◌/◌, ◌^◌, ◌==◌, ◌≡◌, ◌<◌, ◌≤◌, min, Bool}
+use Rattle.std.specs.Prelude.{ℕ, ◌+◌, ◌-◌, ◌*◌, ◌%◌, ◌/◌, ◌^◌, ◌==◌, ◌<◌, ◌≤◌, min, Bool}
 use Rattle.std.specs.Prelude.{false, not, List, [], ◌∷◌, ◌++◌, length, drop, Option, None, Some, if◌then◌else◌, bit_and}
 use Rattle.byte_queues.specs.ReceiveQueue.{Recv, empty_recv, next_of, window_of}
 use Rattle.tcb_machine.specs.declared.kinds.State.{State}
 use Rattle.tcb_machine.specs.declared.kinds.State.TheVariants.{Listen}
 use Rattle.tcb_machine.specs.States.{is_consumed}
 use Rattle.segment_codec.specs.ControlBits.{ack, fin, rst, syn}
+use Rattle.segment_codec.specs.PlainSegments.{plain}
+use Rattle.segment_codec.specs.SentIsRead.{AreSent}
 use Rattle.segment_codec.specs.declared.packet.Reply.{Reply}
 use Rattle.segment_codec.specs.declared.packet.Seg.{Seg}
 use Rattle.tcb_machine.specs.Limits.{default_mss, first_timeout, most_mss, our_shift, plain_space, whole_space}
@@ -119,8 +121,7 @@ sent_window b = if b.scaled then rcv_wnd b / 2 ^ our_shift else rcv_wnd b
 
 -- <SEQ=..><ACK=RCV.NXT> with control bits and a text
 unfoldable pub segment_of : ℕ → ℕ → List ℕ → Block → Reply
-segment_of flags seq text b =
-    record { at = b.clock; flags = flags; seq = seq; ack = rcv_nxt b; wnd = sent_window b; mss = None; scale = None; text = text }
+segment_of flags seq text b = plain b.clock flags seq (rcv_nxt b) (sent_window b) text
 
 -- <SEQ=ISS><ACK=RCV.NXT><CTL=SYN,ACK> with the options
 unfoldable pub syn_ack_of : Block → Reply
@@ -137,7 +138,7 @@ syn_ack_of b = record {
 
 -- <SEQ=SEG.ACK><CTL=RST>
 unfoldable pub rst_of : Seg → Block → Reply
-rst_of s b = record { at = b.clock; flags = rst; seq = s.ack; ack = 0; wnd = 0; mss = None; scale = None; text = [] }
+rst_of s b = plain b.clock rst s.ack 0 0 []
 
 -- one reply more
 abbrev pub sends : Reply → Block → Block
@@ -147,15 +148,8 @@ sends r b = record b { replies = b.replies ++ r ∷ [] }
 abbrev pub sends_ack : Block → Block
 sends_ack b = sends (segment_of ack (snd_nxt b) [] b) b
 
--- the options that a reply may carry: none, the MSS of 1,460, or beside it the window scale of 5
-abbrev pub OurOptions : Option ℕ → Option ℕ → Type 0
-OurOptions None None = Unit {0}
-OurOptions None (Some shift) = ⊥
-OurOptions (Some mss) None = mss ≡ most_mss
-OurOptions (Some mss) (Some shift) = (mss ≡ most_mss) × (shift ≡ our_shift)
-
 -- what every reply of a block is
 pub record IsOurs (r : Reply) : Type 0 where
   pub text : length r.text ≤ most_mss
   pub flags : r.flags < 64
-  pub options : OurOptions r.mss r.scale
+  pub options : AreSent r

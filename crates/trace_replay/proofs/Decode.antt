@@ -1,7 +1,8 @@
 -- Fields of lines read back: numbers, entries, acts, marks and calls.
 use Rattle.std.proofs.Common.{◌≡◌, ◌≢◌, ℕ, zero, suc, ◌+◌, ◌/◌, ◌%◌, ◌^◌, ◌<◌, ◌==◌, ◌⊎◌, inl, inr, Bool, true, false, if◌then◌else◌, List, [], ◌∷◌, ◌++◌, map, drop, get_or, refl, ap, sym, ◌∙◌, arith, eq-eqb}
-use Rattle.std.specs.Prelude.{codes, nat_lt}
+use Rattle.std.specs.Prelude.{Option, codes, nat_lt}
 use Rattle.std.specs.Fmt.{decimal, digit_glyph, digits, digits_onto}
+use Rattle.std.specs.Option.{unwrap_or}
 use Rattle.std.proofs.lemmas.Bool.{ne_eqb}
 use Rattle.std.proofs.lemmas.Bool.Decides.{nat_tests}
 use Rattle.std.proofs.lemmas.Nat.{mod_below}
@@ -15,8 +16,10 @@ use Rattle.tcb_machine.specs.declared.kinds.Call.{Call}
 use Rattle.tcb_machine.specs.declared.kinds.Call.TheVariants as Asks
 use Rattle.squeue_enter.specs.declared.Mode.{Mode}
 use Rattle.squeue_enter.specs.declared.Mode.TheVariants as Mode'
+use Rattle.squeue_enter.specs.Ways.{mode_of, mode_word}
+use Rattle.squeue_enter.proofs.ModeWords.{word_names}
 use Rattle.ring_quotas.specs.declared.setup.Setup.{Setup}
-use Rattle.squeue_report.specs.TraceText.{act_fields, asked_text, entered_field, mark_fields, mode_word}
+use Rattle.squeue_report.specs.TraceText.{act_fields, asked_text, entered_field, mark_fields}
 use Rattle.squeue_replay.specs.Marks.{AreFeeds, IsPrinted, IsPrintedAct, IsSmall}
 use Rattle.trace_lines.specs.Printed.{IsPrintedSetup}
 use Rattle.trace_replay.proofs.Words.{all_of, first_byte, in_word, is_word, number_is, number_of}
@@ -209,13 +212,10 @@ call_back j c a small fits =
 
 -- the setup
 abbrev mode_from : List ℕ → Mode
-mode_from w = if same_word w (codes "process") then Mode'.Process else if same_word w (codes "nodrain") then Mode'.NoDrain else Mode'.Fill
+mode_from w = unwrap_or (mode_of w) Mode'.Fill
 
 mode_back : (m : Mode) → mode_from (mode_word m) ≡ m
-unfolding mode_word
-mode_back Mode'.Process = refl
-mode_back Mode'.NoDrain = refl
-mode_back Mode'.Fill = refl
+mode_back m = ap (λ (o : Option Mode). unwrap_or o Mode'.Fill) (word_names m)
 
 abbrev pub setup_words : Setup → Bool → List (List ℕ)
 setup_words s verify =

@@ -27,15 +27,16 @@ use Rattle.tcb_machine.specs.declared.kinds.State.{State}
 use Rattle.tcb_machine.specs.declared.kinds.State.TheVariants as State'
 use Rattle.echo_services.specs.declared.service.Service.{Service}
 use Rattle.echo_services.specs.declared.service.Service.TheVariants as Service'
-use Rattle.echo_services.specs.Pump.{service_of}
+use Rattle.echo_services.specs.Pump.{service_of, service_word}
 use Rattle.squeue_enter.specs.declared.Mode.{Mode}
 use Rattle.squeue_enter.specs.declared.Mode.TheVariants as Mode'
+use Rattle.squeue_enter.specs.Ways.{mode_word}
 use Rattle.conn_blocks.specs.CallLists.{CallLists}
 use Rattle.conn_blocks.specs.ServeOrder.{Serving, serve}
 use Rattle.ring_quotas.specs.declared.setup.Setup.{Setup}
-use Rattle.squeue_report.specs.Names.{service_word, state_word}
-use Rattle.squeue_report.specs.ReportText.{Entry, answer_fields, answer_line, body_text, call, conn_line, conn_text, counts_line, end_field, end_line, entries_of, entry_field, feeds, line, line_end, order_line, reply_line}
-use Rattle.squeue_report.specs.TraceText.{act_fields, asked_text, call_line, calls_text, entered_field, mark_line, mode_word, setup_line, squeue_line, squeue_text, thread_text}
+use Rattle.squeue_report.specs.Names.{state_word}
+use Rattle.squeue_report.specs.ReportText.{Entry, answer_fields, answer_line, body_text, call, conn_line, conn_text, counts_line, datagram_line, end_field, end_line, entries_of, entry_field, feeds, line, line_end, order_line, reply_line}
+use Rattle.squeue_report.specs.TraceText.{act_fields, asked_text, call_line, calls_text, entered_field, mark_line, setup_line, squeue_line, squeue_text, thread_text}
 use Rattle.trace_replay.proofs.FirstLines.{avoids, avoids_both}
 
 -- a field without a newline
@@ -252,7 +253,7 @@ module _ (b : ℕ) (none : BeginsNone b) where
   order_avoids order = line_avoids b 111 (codes "rder") (map entry_field (entries_of order)) none.order refl refl (clear_map entry_field (entries_of order) clear_entry)
 
   reply_avoids : (t : Tuple) (r : Reply) → avoids b true (reply_line t r) ≡ true
-  unfolding reply_line
+  unfolding reply_line datagram_line
   reply_avoids t r = line_avoids b 114 (codes "eply") (decimal r.at ∷ encode_lower (segment_bytes t r) ∷ []) none.record_or_reply refl refl (clear_decimal r.at, (clear_hex lower_digits (segment_bytes t r) refl, tt))
 
   answer_avoids : (x : ℕ × ℕ × Answer) → avoids b true (answer_line x) ≡ true

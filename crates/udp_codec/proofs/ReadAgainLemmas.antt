@@ -1,5 +1,7 @@
 -- What is sent is read again.
-use Rattle.std.proofs.Common.{◌≡◌, ℕ, ◌+◌, ◌-◌, ◌≤◌, List, ◌++◌, length, drop, take, Option, None, Some, Bool, true, false, refl, ap, ◌∙◌, arith, cond, eqb, leb, ◌&&◌}
+use Rattle.std.proofs.Common.{◌≡◌, ℕ, ◌+◌, ◌-◌, ◌≤◌, List, ◌++◌, length, drop, take, Option, None, Some, Ok, Err, Bool, true, false, refl, ap, ◌∙◌, arith, cond, eqb, leb, ltb, ◌&&◌}
+use Rattle.std.specs.Option.{option_and_then}
+use Rattle.std.specs.Result.{result_ok}
 use Rattle.std.proofs.lemmas.Bool.{false≢true}
 use Rattle.std.proofs.lemmas.Bool.Decides.{nat_tests}
 use Rattle.std.proofs.lemmas.List.{take_all, drop_at}
@@ -7,8 +9,10 @@ use Rattle.byteorder.specs.Endian.{big_bytes}
 use Rattle.sq_base.specs.declared.kinds.Tuple.{Tuple}
 use Rattle.sq_base.specs.declared.kinds.Link.TheVariants.{RawIp}
 use Rattle.segment_codec.specs.Places.{byte, word, long}
+use Rattle.segment_codec.specs.Packet.{ip_place}
+use Rattle.segment_codec.specs.declared.packet.Packet.TheVariants as packet
 use Rattle.udp_codec.specs.declared.datagram.Udp.{Udp}
-use Rattle.udp_codec.specs.UdpDatagram.{ip_place, is_whole, part_of, is_udp, udp_of, udp_in, header_of}
+use Rattle.udp_codec.specs.UdpDatagram.{is_whole, part_of, is_udp, udp_of, udp_at, udp_in, header_of}
 use Rattle.udp_codec.specs.UdpBytes.{udp_bytes, ip_with, udp_with, ip_sum, udp_sum}
 use Rattle.udp_codec.specs.ReadAgain.{Fits, ReadsAgain, udp_sent, text_in}
 use Rattle.udp_codec.proofs.SumLemmas.{header_sums, part_sums}
@@ -71,9 +75,11 @@ fields_read t text fits =
     let is_part : part_of all ≡ part = part_whole all least refl named in
     let w : is_whole all ≡ true = whole all least refl named refl refl in
     let p : is_udp part ≡ true = part_holds part (omega (arith, long_part)) (omega (arith, long_part, counted)) (omega (arith, long_part, fits.few)) in
-    chosen (is_whole all) (is_udp (part_of all)) (Some (udp_of all 0)) w (ap is_udp is_part ∙ p)
+    let raw : (ltb 0 (length all) && false) ≡ false = grind (arith, nat_tests) in
+    ap (λ b. option_and_then (λ at. udp_at (drop at all) at) (result_ok (cond b (Err packet.Other) (Ok 0)))) raw
+    ∙ (chosen (is_whole all) (is_udp (part_of all)) (Some (udp_of all 0)) w (ap is_udp is_part ∙ p)
     ∙ ap (λ (u : Udp). Some u) (fields_of all part 0 (udp_sent t text) is_part refl
-    (omega (arith, fits.server)) (omega (arith, fits.client)) (omega (arith, fits.server_port)) (omega (arith, fits.client_port)) (omega arith) (omega (arith, counted)))
+    (omega (arith, fits.server)) (omega (arith, fits.client)) (omega (arith, fits.server_port)) (omega (arith, fits.client_port)) (omega arith) (omega (arith, counted))))
 
 -- all that is sent before the text
 abbrev headers_with : Tuple → List ℕ → ℕ → ℕ → List ℕ

@@ -1,21 +1,12 @@
--- The UDP datagram in a record's bytes (RFC 768): link (IEEE 802.3 and 802.1Q, raw IP, Linux cooked), IPv4 (RFC 791, 3.1), UDP.
+-- The UDP datagram in a record's bytes (RFC 768): link, IPv4 (RFC 791, 3.1), UDP.
 use Rattle.std.specs.Prelude.{ℕ, ◌+◌, ◌-◌, ◌*◌, ◌==◌, nat_le, ◌&&◌, ◌||◌, Bool, List, length, drop, take, Option, None, Some, if◌then◌else◌, bit_and}
 use Rattle.std.specs.Option.{option_and_then}
+use Rattle.std.specs.Result.{result_ok}
 use Rattle.sq_base.specs.declared.kinds.Link.{Link}
-use Rattle.sq_base.specs.declared.kinds.Link.TheVariants.{Ethernet, RawIp, Cooked}
 use Rattle.segment_codec.specs.Places.{byte, word, long, high, low}
-use Rattle.segment_codec.specs.Packet.{total_of}
+use Rattle.segment_codec.specs.Packet.{ip_place, total_of}
 use Rattle.udp_codec.specs.declared.datagram.Udp.{Udp}
 use Rattle.udp_codec.specs.Limits.{ip_header_size, most_length, udp_header_size}
-
--- the place at which an IPv4 datagram begins in a record's body, where the link says that it carries one
-unfoldable pub ip_place : Link → List ℕ → Option ℕ
-ip_place Ethernet body =
-    if nat_le 18 (length body) && ((word body 12 == 0x8100) && (word body 16 == 0x0800)) then Some 18
-    else if nat_le 14 (length body) && (word body 12 == 0x0800) then Some 14
-    else None
-ip_place Cooked body = if nat_le 16 (length body) && (word body 14 == 0x0800) then Some 16 else None
-ip_place RawIp body = Some 0
 
 -- the IPv4 header's length
 abbrev pub header_of : List ℕ → ℕ
@@ -58,4 +49,4 @@ udp_at ip at = if is_whole ip && is_udp (part_of ip) then Some (udp_of ip at) el
 
 -- the UDP datagram in a record's body, under its link
 abbrev pub udp_in : Link → List ℕ → Option Udp
-udp_in link body = option_and_then (λ at. udp_at (drop at body) at) (ip_place link body)
+udp_in link body = option_and_then (λ at. udp_at (drop at body) at) (result_ok (ip_place link body))

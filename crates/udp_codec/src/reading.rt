@@ -1,17 +1,14 @@
 //! From a record to a datagram.
 
-ghost use Rattle.std.specs.Prelude.{◌≡◌, ◌+◌, ◌*◌, ◌<◌, ◌≤◌, ◌^◌, true, length, IfSome};
+ghost use Rattle.std.specs.Prelude.{◌≡◌, ◌+◌, ◌*◌, ◌<◌, ◌≤◌, ◌^◌, true, length};
 ghost use Rattle.segment_codec.specs.Packet.{total_of};
-ghost use Rattle.udp_codec.specs.UdpDatagram.{udp_in, ip_place, is_whole, header_of, part_of, is_udp, udp_at};
+ghost use Rattle.udp_codec.specs.UdpDatagram.{udp_in, is_whole, header_of, part_of, is_udp, udp_at};
 ghost use Rattle.udp_codec.specs.Limits.{ip_header_size, udp_header_size};
 
 use crate::datagram::Udp;
 use crate::places::{front, long_at, rest_at, word_at};
+use segment_codec::ip_place;
 use sq_base::{Addr, Link};
-
-const IPV4: u16 = 0x0800;
-
-const TAGGED: u16 = 0x8100;
 
 const UDP: u8 = 17;
 
@@ -38,36 +35,8 @@ pub fn decode_udp(link: Link, body: &[u8]) -> Option<Udp>
     requires { length body.now < 2 ^ 32 }
     ensures { result ≡ udp_in link body.now }
 {
-    let at = ip_place(link, body)?;
+    let at = ip_place(link, body).ok()?;
     udp_at(rest_at(body, at), at as u32)
-}
-
-/// Where the IPv4 datagram begins.
-#[tactic(auto, unfolding(crate::specs::UdpDatagram::ip_place))]
-fn ip_place(link: Link, body: &[u8]) -> Option<usize>
-    ensures is { result ≡ ip_place link body.now }
-    ensures within { IfSome result (λ at. at ≤ length body.now) }
-{
-    let len = body.len();
-    match link {
-        Link::Ethernet => {
-            if len >= 18 && word_at(body, 12) == TAGGED && word_at(body, 16) == IPV4 {
-                Some(18)
-            } else if len >= 14 && word_at(body, 12) == IPV4 {
-                Some(14)
-            } else {
-                None
-            }
-        }
-        Link::Cooked => {
-            if len >= 16 && word_at(body, 14) == IPV4 {
-                Some(16)
-            } else {
-                None
-            }
-        }
-        Link::RawIp => Some(0),
-    }
 }
 
 /// The UDP datagram in the IPv4 datagram that begins at this place of the record's body.

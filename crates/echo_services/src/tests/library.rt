@@ -7,6 +7,7 @@ use crate::{Service, serve, tick};
 use segment_codec::{Packet, Reply, Seg, decode, encode};
 use sq_base::{Addr, Link, Octets, Tuple};
 use std::alloc::{AllocError, Global};
+use std::process::Abort;
 use std::test::Fail;
 use tcb_machine::{Ending, LAST_TIME, State, Tcb};
 
@@ -71,56 +72,58 @@ fn of_client(alloc: Global, flags: u8, seq: u32, ack: u32, text: &[u8]) -> Resul
         server: Addr(0x0a00_0001),
         server_port: 4000,
     };
-    let reply = Reply {
-        at: 0,
-        flags,
-        seq,
-        ack,
-        wnd: 4096,
-        mss: None,
-        scale: None,
-        text: Octets::of(alloc, text)?,
-    };
+    let reply = Reply::plain(0, flags, seq, ack, 4096, Octets::of(alloc, text)?);
     Ok(encode(alloc, &turned, &reply)?)
 }
 
-/// Handshake, an echo and a close: each datagram's answer is read again.
-#[test]
-fn one_connection(rt: HostRuntime) -> Result<(), Fail> {
-    let alloc = rt.alloc();
-    let mut tcb = Tcb::make(alloc);
-    let segments = [
-        (2u8, 100u32, 0u32, b"".as_slice(), 1usize),
-        (16, 101, 501, b"".as_slice(), 0),
-        (24, 101, 501, b"hello".as_slice(), 1),
-        (17, 106, 506, b"".as_slice(), 1),
-    ];
-    for (i, (flags, seq, ack, text, answers)) in segments.into_iter().enumerate() {
-        assert!(rt; text.len() <= 1460);
-        let datagram = of_client(alloc, flags, seq, ack, text)?;
-        let now = 1000 * (i as u64 & 0xff);
-        assert!(rt; datagram.as_slice().len() < 65_536);
-        let sent = receive(&mut tcb, alloc, now, 500, datagram.as_slice())?;
-        assert_eq!(rt; sent.len(), answers);
-        for octets in &sent {
-            assert!(rt; octets.as_slice().len() < 65_536);
-            match decode(Link::RawIp, octets.as_slice(), true) {
-                Packet::Segment(back) => {
-                    assert!(rt; text_of(&back, octets.as_slice()) == text);
-                    assert_eq!(rt; back.dst_port, 4000);
-                }
-                _ => assert!(rt; false),
-            }
+/// A segment of the client: flags, sequence number, acknowledgement number, text, and how many datagrams answer it.
+#[derive(Clone, Copy, Drop)]
+struct Given<'a>(u8, u32, u32, &'a str, usize);
+
+const GIVEN: [Given; 4] = [
+    Given(2, 100, 0, "", 1),
+    Given(16, 101, 501, "", 0),
+    Given(24, 101, 501, "hello", 1),
+    Given(17, 106, 506, "", 1),
+];
+
+/// A datagram that is sent has this text, and goes to the client.
+fn check_answer(rt: &impl Abort, datagram: &[u8], text: &[u8]) {
+    assert!(rt; datagram.len() < 65_536);
+    match decode(Link::RawIp, datagram, true) {
+        Packet::Segment(back) => {
+            assert!(rt; text_of(&back, datagram) == text);
+            assert_eq!(rt; back.dst_port, 4000);
         }
+        _ => assert!(rt; false),
     }
-    let before = tcb.state();
-    assert_eq!(rt; before, State::LastAck);
-    assert_eq!(rt; tcb.next_deadline(), Some(1_003_000));
-    let last = of_client(alloc, 16, 107, 507, b"")?;
-    assert!(rt; last.as_slice().len() < 65_536);
-    let none = receive(&mut tcb, alloc, 4000, 500, last.as_slice())?;
-    assert_eq!(rt; none.len(), 0);
-    match decode(Link::RawIp, last.as_slice(), true) {
+}
+
+/// Each datagram that is sent has this text, and goes to the client.
+fn check_answers(rt: &impl Abort, sent: &[Octets], text: &[u8]) {
+    for octets in sent {
+        check_answer(rt, octets.as_slice(), text);
+    }
+}
+
+/// The datagram of a segment of the client.
+fn given_datagram(rt: &impl Abort, alloc: Global, given: &Given) -> Result<Octets, Fail> {
+    let Given(flags, seq, ack, text, _) = *given;
+    assert!(rt; text.len() <= 1460);
+    of_client(alloc, flags, seq, ack, text.as_bytes())
+}
+
+/// The last segment of the connection ends it, and is not answered.
+fn check_last(
+    rt: &impl Abort,
+    tcb: &mut Tcb,
+    alloc: Global,
+    before: State,
+    datagram: &[u8],
+) -> Result<(), Fail> {
+    assert!(rt; datagram.len() < 65_536);
+    assert_eq!(rt; receive(tcb, alloc, 4000, 500, datagram)?.len(), 0);
+    match decode(Link::RawIp, datagram, true) {
         Packet::Segment(seg) => {
             assert_eq!(rt;
                 Ending::by_segment(before, &seg, tcb.state()),
@@ -130,4 +133,31 @@ fn one_connection(rt: HostRuntime) -> Result<(), Fail> {
         _ => assert!(rt; false),
     }
     Ok(())
+}
+
+/// The last datagram of the client comes.
+fn end(rt: &impl Abort, tcb: &mut Tcb, alloc: Global, before: State) -> Result<(), Fail> {
+    let last = of_client(alloc, 16, 107, 507, b"")?;
+    check_last(rt, tcb, alloc, before, last.as_slice())
+}
+
+/// Handshake, an echo and a close: each datagram's answer is read again.
+#[test]
+fn one_connection(rt: HostRuntime) -> Result<(), Fail> {
+    let alloc = rt.alloc();
+    let mut tcb = Tcb::make(alloc);
+    let mut now = 0u64;
+    for given in &GIVEN {
+        let Given(_, _, _, text, answers) = *given;
+        let datagram = given_datagram(&rt, alloc, given)?;
+        assert!(rt; datagram.as_slice().len() < 65_536);
+        let sent = receive(&mut tcb, alloc, now, 500, datagram.as_slice())?;
+        assert_eq!(rt; sent.len(), answers);
+        check_answers(&rt, &sent, text.as_bytes());
+        now = now.saturating_add(1000);
+    }
+    let before = tcb.state();
+    assert_eq!(rt; before, State::LastAck);
+    assert_eq!(rt; tcb.next_deadline(), Some(1_003_000));
+    end(&rt, &mut tcb, alloc, before)
 }

@@ -1,35 +1,50 @@
 //! Each read call and each write call failing alone. A failing write to the error line changes no status.
 
-use crate::tests::{Ended, FIVE, FIVE_REPORT, capture, expect, front, outcome, text, words_of};
+use crate::tests::{Ends, FIVE, FIVE_REPORT, GOOD, Row, capture, expect, front, run};
 use sq_base::{MemSink, MemSource, Status};
-use std::alloc::Global;
+use std::alloc::{AllocError, Global};
 use std::process::Abort;
 use std::sync::Wait;
 use std::test::Fail;
 use std::thread::Threads;
 
-/// A run whose source gives 100 bytes a call and whose sink takes 10, with these calls failing.
-fn ran(
-    rt: &(impl Threads + Wait + Sync),
-    alloc: Global,
-    line: &str,
-    input: &[u8],
-    reads: &[u64],
-    writes: &[u64],
-    tellings: &[u64],
-) -> Result<Ended, Fail> {
-    let words = words_of(alloc, line)?;
-    let mut src = MemSource::make(alloc, input, 100, reads)?;
-    let mut out = MemSink::make(alloc, 1000, 10, writes)?;
-    let mut err = MemSink::make(alloc, 1000, 1000, tellings)?;
-    let (status, handed) = outcome(rt, alloc, words.as_slice(), &mut src, &mut out, &mut err);
-    Ok(Ended {
-        status,
-        handed,
-        out,
-        err,
+/// Which reads, writes and writes to the error line fail.
+#[derive(Clone, Copy, Drop)]
+struct Faults<'a> {
+    reads: &'a [u64],
+    writes: &'a [u64],
+    tellings: &'a [u64],
+}
+
+/// A source that gives 100 bytes a call and a sink that takes 10, with calls failing.
+fn failing_ends(alloc: Global, input: &[u8], faults: &Faults) -> Result<Ends, AllocError> {
+    Ok(Ends {
+        src: MemSource::make(alloc, input, 100, faults.reads)?,
+        out: MemSink::make(alloc, 1000, 10, faults.writes)?,
+        err: MemSink::make(alloc, 1000, 1000, faults.tellings)?,
     })
 }
+
+/// A run with failing calls gives what its row has.
+fn expect_failing(
+    rt: &(impl Abort + Threads + Wait + Sync),
+    alloc: Global,
+    name: &str,
+    input: &[u8],
+    faults: &Faults,
+    row: &Row,
+) -> Result<(), AllocError> {
+    let ends = failing_ends(alloc, front(input, row.len), faults)?;
+    let ended = run(rt, alloc, row.words, ends)?;
+    expect(rt, name, row, &ended);
+    Ok(())
+}
+
+const READ_FAULT: Row<'static> = Row {
+    status: Status::ReadFault,
+    told: "sqrun: read fault\n",
+    ..GOOD
+};
 
 /// A run whose read with this number fails.
 fn expect_read_fault(
@@ -37,11 +52,20 @@ fn expect_read_fault(
     alloc: Global,
     input: &[u8],
     call: u64,
-) -> Result<(), Fail> {
-    let ran = ran(rt, alloc, "", input, &[call], &[], &[])?;
-    let told = ["sqrun: read fault"];
-    expect(rt, alloc, "a read", &ran, Status::ReadFault, &[], &told)
+) -> Result<(), AllocError> {
+    let name = format!(in alloc; "read {call}")?;
+    let faults = Faults {
+        reads: &[call],
+        writes: &[],
+        tellings: &[],
+    };
+    expect_failing(rt, alloc, name.as_str(), input, &faults, &READ_FAULT)
 }
+
+const NO_FAULT: Row<'static> = Row {
+    out: FIVE_REPORT,
+    ..GOOD
+};
 
 /// A run in which no call has the number of one that fails.
 fn expect_no_fault(
@@ -50,19 +74,25 @@ fn expect_no_fault(
     input: &[u8],
     reads: &[u64],
     writes: &[u64],
-) -> Result<(), Fail> {
-    let ran = ran(rt, alloc, "", input, reads, writes, &[])?;
-    expect(rt, alloc, "no fault", &ran, Status::Ok, &FIVE_REPORT, &[])
+) -> Result<(), AllocError> {
+    let faults = Faults {
+        reads,
+        writes,
+        tellings: &[],
+    };
+    expect_failing(rt, alloc, "no fault", input, &faults, &NO_FAULT)
 }
 
 /// The 309 bytes come in four calls, and a fifth finds the end.
-#[test]
-fn failing_source(rt: HostRuntime) -> Result<(), Fail> {
-    let input = capture(rt.alloc(), &FIVE)?;
+fn expect_read_faults(
+    rt: &(impl Abort + Threads + Wait + Sync),
+    alloc: Global,
+    input: &[u8],
+) -> Result<(), AllocError> {
     for call in 0..5 {
-        expect_read_fault(&rt, rt.alloc(), input.as_slice(), call)?;
+        expect_read_fault(rt, alloc, input, call)?;
     }
-    expect_no_fault(&rt, rt.alloc(), input.as_slice(), &[5, 6], &[])
+    expect_no_fault(rt, alloc, input, &[5, 6], &[])
 }
 
 /// A run whose write with this number fails: what came before of the report was written.
@@ -70,39 +100,61 @@ fn expect_write_fault(
     rt: &(impl Abort + Threads + Wait + Sync),
     alloc: Global,
     input: &[u8],
-    report: &[u8],
     call: u64,
-) -> Result<(), Fail> {
-    let ran = ran(rt, alloc, "", input, &[], &[call], &[])?;
-    assert_eq!(rt; ran.status, Status::WriteFault, "write {call}");
-    let written = front(report, 10usize.saturating_mul(call as usize));
-    assert_eq!(rt; ran.out.bytes(), written, "write {call}");
-    let told = b"sqrun: write fault\n".as_slice();
-    assert_eq!(rt; ran.err.bytes(), told, "write {call}");
-    Ok(())
+) -> Result<(), AllocError> {
+    let name = format!(in alloc; "write {call}")?;
+    let written = FIVE_REPORT.get(..10usize.saturating_mul(call as usize));
+    let row = Row {
+        words: "",
+        len: input.len(),
+        status: Status::WriteFault,
+        out: written.unwrap_or(FIVE_REPORT),
+        told: "sqrun: write fault\n",
+    };
+    let faults = Faults {
+        reads: &[],
+        writes: &[call],
+        tellings: &[],
+    };
+    expect_failing(rt, alloc, name.as_str(), input, &faults, &row)
 }
 
-#[test]
-fn failing_sink(rt: HostRuntime) -> Result<(), Fail> {
-    let input = capture(rt.alloc(), &FIVE)?;
-    let report = text(rt.alloc(), &FIVE_REPORT)?;
-    assert_eq!(rt; report.as_bytes().len(), 467);
+/// Each of the 47 writes of the report's 467 bytes fails once: so many times 10 bytes came before.
+fn expect_write_faults(
+    rt: &(impl Abort + Threads + Wait + Sync),
+    alloc: Global,
+    input: &[u8],
+) -> Result<(), AllocError> {
     for call in 0..47 {
-        expect_write_fault(&rt, rt.alloc(), input.as_slice(), report.as_bytes(), call)?;
+        expect_write_fault(rt, alloc, input, call)?;
     }
-    expect_no_fault(&rt, rt.alloc(), input.as_slice(), &[], &[47])
+    expect_no_fault(rt, alloc, input, &[], &[47])
 }
 
-/// Words, how many bytes of the five segments there are, which reads and writes fail, and the status.
-type Untold = (&'static str, usize, &'static [u64], &'static [u64], Status);
+/// Words, how many bytes of the five segments there are, which reads and writes fail, the status, and what is written.
+type Untold = (
+    &'static str,
+    usize,
+    &'static [u64],
+    &'static [u64],
+    Status,
+    &'static str,
+);
 
 const UNTOLD: [Untold; 6] = [
-    ("", 309, &[], &[], Status::Ok),
-    ("--squeues|0", 309, &[], &[], Status::Usage),
-    ("", 309, &[0], &[], Status::ReadFault),
-    ("", 309, &[], &[3], Status::WriteFault),
-    ("", 23, &[], &[], Status::BadCapture),
-    ("0:1:close", 309, &[], &[], Status::NoConnection),
+    ("", 309, &[], &[], Status::Ok, FIVE_REPORT),
+    ("--squeues|0", 309, &[], &[], Status::Usage, ""),
+    ("", 309, &[0], &[], Status::ReadFault, ""),
+    (
+        "",
+        309,
+        &[],
+        &[3],
+        Status::WriteFault,
+        "report 1\nrecords 5 tail 0 serv",
+    ),
+    ("", 23, &[], &[], Status::BadCapture, ""),
+    ("0:1:close", 309, &[], &[], Status::NoConnection, ""),
 ];
 
 /// A run whose error line can't be written.
@@ -110,21 +162,41 @@ fn expect_untold(
     rt: &(impl Abort + Threads + Wait + Sync),
     alloc: Global,
     input: &[u8],
-    row: &Untold,
-) -> Result<(), Fail> {
-    let &(line, len, reads, writes, status) = row;
-    let ran = ran(rt, alloc, line, front(input, len), reads, writes, &[0])?;
-    assert_eq!(rt; ran.status, status, "{line}");
-    assert!(rt; ran.err.bytes().is_empty(), "{line}");
+    untold: &Untold,
+) -> Result<(), AllocError> {
+    let &(words, len, reads, writes, status, out) = untold;
+    let faults = Faults {
+        reads,
+        writes,
+        tellings: &[0],
+    };
+    let row = Row {
+        words,
+        len,
+        status,
+        out,
+        told: "",
+    };
+    expect_failing(rt, alloc, "untold", input, &faults, &row)
+}
+
+fn expect_all_untold(
+    rt: &(impl Abort + Threads + Wait + Sync),
+    alloc: Global,
+    input: &[u8],
+) -> Result<(), AllocError> {
+    for untold in &UNTOLD {
+        expect_untold(rt, alloc, input, untold)?;
+    }
     Ok(())
 }
 
 #[test]
-fn failing_error_line(rt: HostRuntime) -> Result<(), Fail> {
+fn failing_calls(rt: HostRuntime) -> Result<(), Fail> {
     let input = capture(rt.alloc(), &FIVE)?;
-    assert_eq!(rt; input.len(), 309);
-    for row in &UNTOLD {
-        expect_untold(&rt, rt.alloc(), input.as_slice(), row)?;
-    }
+    assert_eq!(rt; (input.len(), FIVE_REPORT.len()), (309, 467));
+    expect_read_faults(&rt, rt.alloc(), input.as_slice())?;
+    expect_write_faults(&rt, rt.alloc(), input.as_slice())?;
+    expect_all_untold(&rt, rt.alloc(), input.as_slice())?;
     Ok(())
 }

@@ -1,120 +1,158 @@
 //! Rings, workers and application threads that meet. What is reported of a call follows from where it stands among the feeds.
 
 use crate::run_with;
-use crate::tests::{Ended, FIVE, HEADER, ROOM, push, text, words_of};
+use crate::tests::{Ended, Ends, FIVE, ends_over, in_turn, is_made_of, words_of};
 use perimeter_core::Hook;
 use sq_base::{MemSink, MemSource, Status};
-use std::alloc::Global;
+use std::alloc::{AllocError, Global};
 use std::process::Abort;
 use std::sync::Wait;
 use std::sync::atomic::{AtomicBool, Ordering};
 use std::test::Fail;
 use std::thread::{Threads, yield_now};
 
-/// The session from each of two ports, segment by segment in turn.
-fn two_in_turn(alloc: Global) -> Result<Vec<u8>, Fail> {
-    let mut file = Vec::from_slice(alloc, &HEADER)?;
-    for one in &FIVE {
-        for port in 4000..4002 {
-            push(&mut file, port, one)?;
-        }
-    }
-    Ok(file)
-}
-
-/// What begins the report of the two, up to the order of the first.
-const BEGIN: [&str; 3] = [
-    "report 1",
-    "records 10 tail 0 served 10 nofit 0 server 0 other 0 fragment 0 cut 0 malformed 0 badsum 0 connections 2",
-    "conn 0 10.0.0.1:4000 10.0.0.2:7 echo",
-];
+/// What begins the report of the session from each of two ports, segment by segment in turn, up to the order of the first.
+const BEGIN: &str = concat!(
+    "report 1\n",
+    "records 10 tail 0 served 10 nofit 0 server 0 other 0 fragment 0 cut 0 malformed 0 badsum 0 connections 2\n",
+    "conn 0 10.0.0.1:4000 10.0.0.2:7 echo\n",
+);
 
 /// What ends it: the second connection, which has no call.
-const END: [&str; 7] = [
-    "conn 1 10.0.0.1:4001 10.0.0.2:7 echo",
-    "order f0-5",
-    "reply 0 4500002c00004000400626ca0a0000020a00000100070fa1000001f4000000656012ffff72130000020405b4",
-    "reply 2000 4500002d00004000400626c90a0000020a00000100070fa1000001f50000006a5018ffff45ec000068656c6c6f",
-    "reply 3000 4500002800004000400626ce0a0000020a00000100070fa1000001fa0000006b5011ffff89c40000",
-    "end LISTEN",
-    "done",
-];
+const END: &str = concat!(
+    "conn 1 10.0.0.1:4001 10.0.0.2:7 echo\n",
+    "order f0-5\n",
+    "reply 0 4500002c00004000400626ca0a0000020a00000100070fa1000001f4000000656012ffff72130000020405b4\n",
+    "reply 2000 4500002d00004000400626c90a0000020a00000100070fa1000001f50000006a5018ffff45ec000068656c6c6f\n",
+    "reply 3000 4500002800004000400626ce0a0000020a00000100070fa1000001fa0000006b5011ffff89c40000\n",
+    "end LISTEN\n",
+    "done\n",
+);
 
-/// What the first session gives with or without a close: the answers by the number of feeds before a call, and what is reported.
+/// What the first session gives with or without a close: the answers, a line for each number of feeds before a call, and what is reported.
 #[derive(Clone, Copy, Drop)]
 struct Course<'a> {
-    statuses: [&'a str; 7],
-    closes: [&'a str; 7],
-    replies: &'a [&'a str],
+    statuses: &'a str,
+    closes: &'a str,
+    replies: &'a str,
     end: &'a str,
 }
 
 /// No close was taken so far.
 const UNCLOSED: Course = Course {
-    statuses: [
-        "LISTEN 0 0 0",
-        "SYN-RECEIVED 0 0 0",
-        "ESTABLISHED 0 0 0",
-        "ESTABLISHED 5 5 5",
-        "LAST-ACK 5 5 0",
-        "LISTEN 0 0 0",
-        "LISTEN 0 0 0",
-    ],
-    closes: [
-        "notopen", "notopen", "ok", "ok", "already", "notopen", "notopen",
-    ],
-    replies: &[
-        "reply 0 4500002c00004000400626ca0a0000020a00000100070fa0000001f4000000656012ffff72140000020405b4",
-        "reply 2000 4500002d00004000400626c90a0000020a00000100070fa0000001f50000006a5018ffff45ed000068656c6c6f",
-        "reply 3000 4500002800004000400626ce0a0000020a00000100070fa0000001fa0000006b5011ffff89c50000",
-    ],
-    end: "end LISTEN",
+    statuses: concat!(
+        "LISTEN 0 0 0\n",
+        "SYN-RECEIVED 0 0 0\n",
+        "ESTABLISHED 0 0 0\n",
+        "ESTABLISHED 5 5 5\n",
+        "LAST-ACK 5 5 0\n",
+        "LISTEN 0 0 0\n",
+        "LISTEN 0 0 0\n",
+    ),
+    closes: concat!(
+        "notopen\n",
+        "notopen\n",
+        "ok\n",
+        "ok\n",
+        "already\n",
+        "notopen\n",
+        "notopen\n",
+    ),
+    replies: concat!(
+        "reply 0 4500002c00004000400626ca0a0000020a00000100070fa0000001f4000000656012ffff72140000020405b4\n",
+        "reply 2000 4500002d00004000400626c90a0000020a00000100070fa0000001f50000006a5018ffff45ed000068656c6c6f\n",
+        "reply 3000 4500002800004000400626ce0a0000020a00000100070fa0000001fa0000006b5011ffff89c50000\n",
+    ),
+    end: "end LISTEN\n",
 };
 
 /// A close was taken after two feeds, before the text came.
 const CLOSED_BEFORE_TEXT: Course = Course {
-    statuses: [
-        "",
-        "",
-        "FIN-WAIT-1 0 0 0",
-        "FIN-WAIT-1 5 0 0",
-        "FIN-WAIT-1 5 0 0",
-        "FIN-WAIT-1 5 0 0",
-        "FIN-WAIT-1 5 0 0",
-    ],
-    closes: [
-        "", "", "already", "already", "already", "already", "already",
-    ],
-    replies: &[
-        "reply 0 4500002c00004000400626ca0a0000020a00000100070fa0000001f4000000656012ffff72140000020405b4",
-        "reply 1000 4500002800004000400626ce0a0000020a00000100070fa0000001f5000000655011ffff89d00000",
-        "reply 2000 4500002800004000400626ce0a0000020a00000100070fa0000001f60000006a5010ffff89cb0000",
-        "reply 3000 4500002800004000400626ce0a0000020a00000100070fa0000001f60000006a5010ffff89cb0000",
-        "reply 4000 4500002800004000400626ce0a0000020a00000100070fa0000001f60000006a5010ffff89cb0000",
-    ],
-    end: "end FIN-WAIT-1",
+    statuses: concat!(
+        "\n",
+        "\n",
+        "FIN-WAIT-1 0 0 0\n",
+        "FIN-WAIT-1 5 0 0\n",
+        "FIN-WAIT-1 5 0 0\n",
+        "FIN-WAIT-1 5 0 0\n",
+        "FIN-WAIT-1 5 0 0\n",
+    ),
+    closes: concat!(
+        "\n",
+        "\n",
+        "already\n",
+        "already\n",
+        "already\n",
+        "already\n",
+        "already\n",
+    ),
+    replies: concat!(
+        "reply 0 4500002c00004000400626ca0a0000020a00000100070fa0000001f4000000656012ffff72140000020405b4\n",
+        "reply 1000 4500002800004000400626ce0a0000020a00000100070fa0000001f5000000655011ffff89d00000\n",
+        "reply 2000 4500002800004000400626ce0a0000020a00000100070fa0000001f60000006a5010ffff89cb0000\n",
+        "reply 3000 4500002800004000400626ce0a0000020a00000100070fa0000001f60000006a5010ffff89cb0000\n",
+        "reply 4000 4500002800004000400626ce0a0000020a00000100070fa0000001f60000006a5010ffff89cb0000\n",
+    ),
+    end: "end FIN-WAIT-1\n",
 };
 
 /// A close was taken after three feeds, when the text was echoed.
 const CLOSED_AFTER_TEXT: Course = Course {
-    statuses: [
-        "",
-        "",
-        "",
-        "FIN-WAIT-1 5 5 5",
-        "CLOSING 5 5 0",
-        "TIME-WAIT 5 5 0",
-        "TIME-WAIT 5 5 0",
-    ],
-    closes: ["", "", "", "already", "already", "already", "already"],
-    replies: &[
-        "reply 0 4500002c00004000400626ca0a0000020a00000100070fa0000001f4000000656012ffff72140000020405b4",
-        "reply 2000 4500002d00004000400626c90a0000020a00000100070fa0000001f50000006a5018ffff45ed000068656c6c6f",
-        "reply 2000 4500002800004000400626ce0a0000020a00000100070fa0000001fa0000006a5011ffff89c60000",
-        "reply 3000 4500002800004000400626ce0a0000020a00000100070fa0000001fb0000006b5010ffff89c50000",
-    ],
-    end: "end TIME-WAIT",
+    statuses: concat!(
+        "\n",
+        "\n",
+        "\n",
+        "FIN-WAIT-1 5 5 5\n",
+        "CLOSING 5 5 0\n",
+        "TIME-WAIT 5 5 0\n",
+        "TIME-WAIT 5 5 0\n",
+    ),
+    closes: concat!(
+        "\n",
+        "\n",
+        "\n",
+        "already\n",
+        "already\n",
+        "already\n",
+        "already\n",
+    ),
+    replies: concat!(
+        "reply 0 4500002c00004000400626ca0a0000020a00000100070fa0000001f4000000656012ffff72140000020405b4\n",
+        "reply 2000 4500002d00004000400626c90a0000020a00000100070fa0000001f50000006a5018ffff45ed000068656c6c6f\n",
+        "reply 2000 4500002800004000400626ce0a0000020a00000100070fa0000001fa0000006a5011ffff89c60000\n",
+        "reply 3000 4500002800004000400626ce0a0000020a00000100070fa0000001fb0000006b5010ffff89c50000\n",
+    ),
+    end: "end TIME-WAIT\n",
 };
+
+/// Whether a close was taken, and when.
+#[derive(Clone, Copy, Drop)]
+enum Closed {
+    No,
+    BeforeText,
+    AfterText,
+}
+
+impl Closed {
+    fn course(self) -> Course<'static> {
+        match self {
+            Closed::No => UNCLOSED,
+            Closed::BeforeText => CLOSED_BEFORE_TEXT,
+            Closed::AfterText => CLOSED_AFTER_TEXT,
+        }
+    }
+
+    /// What a close or a status answers after so many feeds.
+    fn answer(self, is_close: bool, feeds: usize) -> &'static str {
+        let Course {
+            statuses,
+            closes,
+            ..
+        } = self.course();
+        let answers = if is_close { closes } else { statuses };
+        answers.lines().nth(feeds).unwrap_or("")
+    }
+}
 
 /// The calls of four threads on the first connection.
 const CALLS: &str =
@@ -128,98 +166,137 @@ const CLOSES: [[bool; 3]; 4] = [
     [false, false, true],
 ];
 
-/// What stands in an order so far, and what it gave.
-#[derive(Drop)]
+/// What stands in an order so far: how many feeds, and how many calls of each thread; and whether a close was taken.
+#[derive(Clone, Copy, Drop)]
 struct Walk {
     feeds: usize,
     made: [usize; 4],
-    course: Course<'static>,
-    answers: String,
+    closed: Closed,
 }
 
 fn number(digit: &u8) -> usize {
     usize::from(digit.wrapping_sub(b'0'))
 }
 
+fn odd_call(rt: &impl Abort, thread: usize, call: usize, feeds: usize) {
+    assert!(rt; false, "call {call} of thread {thread} after {feeds} feeds");
+}
+
 impl Walk {
-    fn new(alloc: Global) -> Walk {
-        Walk {
-            feeds: 0,
-            made: [0; 4],
-            course: UNCLOSED,
-            answers: String::new(alloc),
-        }
-    }
-
     /// The feeds from one number to another, which are the next ones.
-    fn feed(&mut self, rt: &impl Abort, first: &u8, last: &u8) {
-        assert_eq!(rt; number(first), self.feeds, "the next feed");
+    fn feed(&mut self, rt: &impl Abort, first: usize, last: usize) {
+        assert_eq!(rt; first, self.feeds, "the next feed");
         assert!(rt; first <= last, "the last feed of a run");
-        self.feeds = number(last).saturating_add(1);
+        self.feeds = last.saturating_add(1);
     }
 
-    /// A call, which is its thread's next one.
-    fn call(&mut self, rt: &impl Abort, alloc: Global, thread: &u8, call: &u8) -> Result<(), Fail> {
-        let j = number(thread);
-        let k = number(call);
-        if j >= 4 || k >= 3 || self.feeds >= 7 || self.made[j] != k {
-            assert!(rt; false, "call {k} of thread {j} after {} feeds", self.feeds);
-            return Ok(());
+    /// What a call answers, which is its thread's next one.
+    fn call(&mut self, rt: &impl Abort, j: usize, k: usize) -> &'static str {
+        let feeds = self.feeds;
+        if j >= 4 || k >= 3 || feeds >= 7 || self.made[j] != k {
+            odd_call(rt, j, k, feeds);
+            return "";
         }
         self.made[j] = k + 1;
-        let answer = if CLOSES[j][k] {
-            self.course.closes[self.feeds]
-        } else {
-            self.course.statuses[self.feeds]
-        };
+        let answer = self.closed.answer(CLOSES[j][k], feeds);
         if answer == "ok" {
-            self.course = if self.feeds == 2 {
-                CLOSED_BEFORE_TEXT
+            self.closed = if feeds == 2 {
+                Closed::BeforeText
             } else {
-                CLOSED_AFTER_TEXT
+                Closed::AfterText
             };
         }
-        let line = format!(in alloc; "answer {j} {k} {answer}\n")?;
-        self.answers.push_str(line.as_str())?;
-        Ok(())
+        answer
     }
 
-    /// An entry of the order line, or its first word.
-    fn entry(&mut self, rt: &impl Abort, alloc: Global, entry: &str) -> Result<(), Fail> {
+    /// A call, and the line of its answer.
+    fn answer(
+        &mut self,
+        rt: &impl Abort,
+        alloc: Global,
+        answers: &mut String,
+        j: usize,
+        k: usize,
+    ) -> Result<(), AllocError> {
+        let answer = self.call(rt, j, k);
+        let line = format!(in alloc; "answer {j} {k} {answer}\n")?;
+        answers.push_str(line.as_str())
+    }
+
+    /// An entry of the order line.
+    fn entry(
+        &mut self,
+        rt: &impl Abort,
+        alloc: Global,
+        answers: &mut String,
+        entry: &str,
+    ) -> Result<(), AllocError> {
         match entry.as_bytes() {
-            [b'o', ..] => Ok(()),
-            [b'f', only] => {
-                self.feed(rt, only, only);
-                Ok(())
+            [b'f', only] => self.feed(rt, number(only), number(only)),
+            [b'f', first, b'-', last] => self.feed(rt, number(first), number(last)),
+            [b'c', thread, b'.', call] => {
+                return self.answer(rt, alloc, answers, number(thread), number(call));
             }
-            [b'f', first, b'-', last] => {
-                self.feed(rt, first, last);
-                Ok(())
-            }
-            [b'c', thread, b'.', call] => self.call(rt, alloc, thread, call),
-            _ => {
-                assert!(rt; false, "entry {entry}");
-                Ok(())
-            }
+            _ => assert!(rt; false, "entry {entry}"),
         }
+        Ok(())
     }
 }
 
-/// The report that belongs to an order of the first connection, in which each feed and each call stands once: so many of each thread.
-fn report_of(rt: &impl Abort, alloc: Global, order: &str, calls: usize) -> Result<String, Fail> {
-    let mut walk = Walk::new(alloc);
-    for entry in order.split(' ') {
-        walk.entry(rt, alloc, entry)?;
+/// Goes through the entries of an order, and adds what its calls answer.
+fn walked(
+    rt: &impl Abort,
+    alloc: Global,
+    answers: &mut String,
+    entries: &str,
+) -> Result<Walk, AllocError> {
+    let mut walk = Walk {
+        feeds: 0,
+        made: [0; 4],
+        closed: Closed::No,
+    };
+    for entry in entries.split(' ') {
+        walk.entry(rt, alloc, answers, entry)?;
     }
-    assert_eq!(rt; walk.feeds, 6, "{order}");
-    assert_eq!(rt; walk.made, [calls; 4], "{order}");
-    let mut report = text(alloc, &BEGIN)?;
-    report.push_str(text(alloc, &[order])?.as_str())?;
-    report.push_str(text(alloc, walk.course.replies)?.as_str())?;
-    report.push_str(walk.answers.as_str())?;
-    report.push_str(text(alloc, &[walk.course.end])?.as_str())?;
-    report.push_str(text(alloc, &END)?.as_str())?;
-    Ok(report)
+    Ok(walk)
+}
+
+/// The entries of the first connection's order.
+fn entries_of(report: &str) -> Option<&str> {
+    report.lines().nth(3)?.strip_prefix("order ")
+}
+
+/// Whether a report has these entries, replies and answers, and this end of the first connection.
+fn has<'a>(
+    report: &[u8],
+    entries: &'a str,
+    replies: &'a str,
+    answers: &'a str,
+    end: &'a str,
+) -> bool {
+    let parts = [BEGIN, "order ", entries, "\n", replies, answers, end, END];
+    is_made_of(report, &parts)
+}
+
+/// The report is the one that belongs to these entries, among which each feed and each call stands once: so many of each thread.
+fn expect_order(
+    rt: &impl Abort,
+    alloc: Global,
+    report: &str,
+    entries: &str,
+    calls: usize,
+) -> Result<(), AllocError> {
+    let mut answers = String::new(alloc);
+    let walk = walked(rt, alloc, &mut answers, entries)?;
+    let made = walk.made;
+    assert_eq!(rt; walk.feeds, 6, "{entries}");
+    assert_eq!(rt; made, [calls; 4], "{entries}");
+    let Course { replies, end, .. } = walk.closed.course();
+    assert!(rt;
+        has(report.as_bytes(), entries, replies, answers.as_str(), end),
+        "{report}"
+    );
+    Ok(())
 }
 
 /// A run with a hook over these ends: its status, and whether it handed back what was served.
@@ -236,62 +313,46 @@ fn outcome<H: Hook + Sync>(
     (ran.status, ran.served.is_some())
 }
 
-/// A run with a hook over the two sessions.
-fn ran<H: Hook + Sync>(
+/// A run with a hook over these ends, with the words of a line.
+fn run<H: Hook + Sync>(
     rt: &(impl Threads + Wait + Sync),
     alloc: Global,
     line: &str,
+    mut ends: Ends,
     hook: &H,
-) -> Result<Ended, Fail> {
+) -> Result<Ended, AllocError> {
     let words = words_of(alloc, line)?;
-    let input = two_in_turn(alloc)?;
-    let mut src = MemSource::make(alloc, input.as_slice(), 65_536, &[])?;
-    let mut out = MemSink::make(alloc, ROOM, 65_536, &[])?;
-    let mut err = MemSink::make(alloc, 1000, 1000, &[])?;
-    let words = words.as_slice();
-    let (status, handed) = outcome(rt, alloc, words, &mut src, &mut out, &mut err, hook);
-    Ok(Ended {
-        status,
-        handed,
-        out,
-        err,
-    })
+    let Ends { src, out, err } = &mut ends;
+    let ran = outcome(rt, alloc, words.as_slice(), src, out, err, hook);
+    Ok(Ended { ran, ends })
 }
 
-/// The run ended well, and its report belongs to the order that it tells.
+/// The run ended well, and its report belongs to the order that it tells, with so many calls of each thread.
 fn expect_report(
     rt: &impl Abort,
     alloc: Global,
-    name: &str,
-    ran: &Ended,
+    words: &str,
+    ended: &Ended,
     calls: usize,
 ) -> Result<(), Fail> {
-    assert_eq!(rt; ran.status, Status::Ok, "{name}");
-    assert!(rt; ran.handed, "{name}");
-    let told = str::from_utf8(ran.out.bytes())?;
-    let order = told.lines().find(|line| line.starts_with("order "));
-    let Some(order) = order else {
-        assert!(rt; false, "{told}");
-        return Ok(());
-    };
-    assert_eq!(rt;
-        told,
-        report_of(rt, alloc, order, calls)?.as_str(),
-        "{name}"
-    );
+    assert_eq!(rt; ended.ran, (Status::Ok, true), "{words}");
+    let report = str::from_utf8(ended.ends.out.bytes())?;
+    let entries = entries_of(report).expect(rt, "an order");
+    expect_order(rt, alloc, report, entries, calls)?;
     Ok(())
 }
 
-/// A run with a hook over the two sessions, in which each thread has so many calls.
+/// A run with a hook over the two sessions, in which each thread has so many calls, ends well, and its report belongs to the order that it tells.
 fn expect_run<H: Hook + Sync>(
     rt: &(impl Abort + Threads + Wait + Sync),
     alloc: Global,
+    input: &[u8],
     words: &str,
     hook: &H,
     calls: usize,
 ) -> Result<(), Fail> {
-    let ran = ran(rt, alloc, words, hook)?;
-    expect_report(rt, alloc, words, &ran, calls)
+    let ended = run(rt, alloc, words, ends_over(alloc, input)?, hook)?;
+    expect_report(rt, alloc, words, &ended, calls)
 }
 
 /// Lets others run before each feed, so many times.
@@ -312,11 +373,12 @@ impl Hook for Slow {
 fn expect_calls(
     rt: &(impl Abort + Threads + Wait + Sync),
     alloc: Global,
+    input: &[u8],
     setup: &str,
 ) -> Result<(), Fail> {
     let words = format!(in alloc; "{setup}|{CALLS}")?;
     for turns in 0..25 {
-        expect_run(rt, alloc, words.as_str(), &Slow { turns }, 3)?;
+        expect_run(rt, alloc, input, words.as_str(), &Slow { turns }, 3)?;
     }
     Ok(())
 }
@@ -326,8 +388,9 @@ fn expect_calls(
 fn calls_and_moves(rt: HostRuntime) -> Result<(), Fail> {
     let plain = "--squeues|3|--rings|2|--spread|1";
     let fill = "--squeues|3|--rings|2|--spread|1|--mode|fill|--budget|1";
-    expect_calls(&rt, rt.alloc(), plain)?;
-    expect_calls(&rt, rt.alloc(), fill)
+    let input = in_turn(rt.alloc(), &FIVE, 4000, 2)?;
+    expect_calls(&rt, rt.alloc(), input.as_slice(), plain)?;
+    expect_calls(&rt, rt.alloc(), input.as_slice(), fill)
 }
 
 /// How often one looks for the other before it gives up.
@@ -362,6 +425,23 @@ impl Hook for Meeting {
     }
 }
 
+/// A run with this hook over two sessions, in which nobody waits in vain.
+fn expect_meeting(
+    rt: &(impl Abort + Threads + Wait + Sync),
+    alloc: Global,
+    input: &[u8],
+    meeting: &Meeting,
+) -> Result<(), Fail> {
+    expect_run(rt, alloc, input, "--squeues|2|--rings|2", meeting, 0)?;
+    assert!(rt; meeting.first.load(Ordering::SeqCst));
+    assert!(rt; meeting.second.load(Ordering::SeqCst));
+    assert!(rt;
+        !meeting.in_vain.load(Ordering::SeqCst),
+        "nobody waits in vain"
+    );
+    Ok(())
+}
+
 /// Two rings are inside two squeues at once.
 #[test]
 fn rings_beside_each_other(rt: HostRuntime) -> Result<(), Fail> {
@@ -370,13 +450,6 @@ fn rings_beside_each_other(rt: HostRuntime) -> Result<(), Fail> {
         second: AtomicBool::new(false),
         in_vain: AtomicBool::new(false),
     };
-    let words = "--squeues|2|--rings|2";
-    expect_run(&rt, rt.alloc(), words, &meeting, 0)?;
-    assert!(rt; meeting.first.load(Ordering::SeqCst));
-    assert!(rt; meeting.second.load(Ordering::SeqCst));
-    assert!(rt;
-        !meeting.in_vain.load(Ordering::SeqCst),
-        "nobody waits in vain"
-    );
-    Ok(())
+    let input = in_turn(rt.alloc(), &FIVE, 4000, 2)?;
+    expect_meeting(&rt, rt.alloc(), input.as_slice(), &meeting)
 }

@@ -1,94 +1,109 @@
-use crate::tests::words_of;
+use crate::tests::{GOOD, Row, expect_row, push_word, words_of};
 use crate::{CallWord, WordFault, Words, read_words};
 use ring_quotas::Setup;
+use sq_base::Status;
 use squeue_enter::Mode;
-use std::alloc::Global;
+use std::alloc::{AllocError, Global};
 use std::process::Abort;
 use std::test::Fail;
 use tcb_machine::Call;
 
-fn read(alloc: Global, line: &str) -> Result<Result<Words, WordFault>, Fail> {
+fn read(alloc: Global, line: &str) -> Result<Result<Words, WordFault>, AllocError> {
     let words = words_of(alloc, line)?;
     Ok(read_words(alloc, words.as_slice()))
 }
 
-const REFUSED: [&str; 68] = [
-    "--squeues",
-    "--squeues|--",
-    "--squeues|--|2",
-    "--squeues|--verify",
-    "--squeues=",
-    "--gen|",
-    "--gen=",
-    "--budget=-5",
-    "--budget|-5",
-    "--squeues=--verify",
-    "--squeues=a=b",
-    "--squeues|a=b",
-    "--squeues=1|--squeues|2",
-    "--rings|2|--rings|2",
-    "--verify|--verify",
-    "-",
-    "--mode|-",
-    "help",
-    "--verify|",
-    "--squeues|2|3",
-    "-x",
-    "--squeues|-x",
-    "-h",
-    "-V",
-    "--help",
-    "--version",
-    "--bud|3",
-    "--Squeues|2",
-    "--=x",
-    "---",
-    "--verify=x",
-    "--verify=",
-    "--|--",
-    "0:0:close|--|--verify",
-    "--squeues|0",
-    "--squeues|17",
-    "--squeues|00000000001",
-    "--squeues|+5",
-    "--rings|0",
-    "--rings|9",
-    "--mode|Fill",
-    "--mode|fil",
-    "--budget|0",
-    "--budget|65536",
-    "--spread|65536",
-    "--gen|4294967296",
-    "--gen|99999999999",
-    "--gen|7|0:0:close",
-    "0:0:close|--gen=7",
-    "4:0:close",
-    "00:0:close",
-    "0:0:Close",
-    "0:0:buffer",
-    "0:0:buffer=65536",
-    "0:0:buffer=",
-    "0::close",
-    ":0:close",
-    "0:0",
-    "0:4294967296:close",
-    "0:0:close:",
-    "--trace|--trace",
-    "--trace=x",
-    "--trace=",
-    "--trac",
-    "--squeues|--trace",
-    "--trace|--gen|7",
-    "--gen=7|--trace",
-    "0:0:close|-1",
-];
+/// Words that are refused, a line each.
+const REFUSED: &str = concat!(
+    "--squeues\n",
+    "--squeues|--\n",
+    "--squeues|--|2\n",
+    "--squeues|--verify\n",
+    "--squeues=\n",
+    "--gen|\n",
+    "--gen=\n",
+    "--budget=-5\n",
+    "--budget|-5\n",
+    "--squeues=--verify\n",
+    "--squeues=a=b\n",
+    "--squeues|a=b\n",
+    "--squeues=1|--squeues|2\n",
+    "--rings|2|--rings|2\n",
+    "--verify|--verify\n",
+    "-\n",
+    "--mode|-\n",
+    "help\n",
+    "--verify|\n",
+    "--squeues|2|3\n",
+    "-x\n",
+    "--squeues|-x\n",
+    "-h\n",
+    "-V\n",
+    "--help\n",
+    "--version\n",
+    "--bud|3\n",
+    "--Squeues|2\n",
+    "--=x\n",
+    "---\n",
+    "--verify=x\n",
+    "--verify=\n",
+    "--|--\n",
+    "0:0:close|--|--verify\n",
+    "--squeues|0\n",
+    "--squeues|17\n",
+    "--squeues|00000000001\n",
+    "--squeues|+5\n",
+    "--rings|0\n",
+    "--rings|9\n",
+    "--mode|Fill\n",
+    "--mode|fil\n",
+    "--budget|0\n",
+    "--budget|65536\n",
+    "--spread|65536\n",
+    "--gen|4294967296\n",
+    "--gen|99999999999\n",
+    "--gen|7|0:0:close\n",
+    "0:0:close|--gen=7\n",
+    "4:0:close\n",
+    "00:0:close\n",
+    "0:0:Close\n",
+    "0:0:buffer\n",
+    "0:0:buffer=65536\n",
+    "0:0:buffer=\n",
+    "0::close\n",
+    ":0:close\n",
+    "0:0\n",
+    "0:4294967296:close\n",
+    "0:0:close:\n",
+    "--trace|--trace\n",
+    "--trace=x\n",
+    "--trace=\n",
+    "--trac\n",
+    "--squeues|--trace\n",
+    "--trace|--gen|7\n",
+    "--gen=7|--trace\n",
+    "0:0:close|-1\n",
+);
+
+/// How many lines of words are refused.
+fn refused(rt: &impl Abort, alloc: Global) -> Result<usize, AllocError> {
+    let mut count = 0usize;
+    for line in REFUSED.lines() {
+        expect_refused(rt, alloc, line)?;
+        count = count.saturating_add(1);
+    }
+    Ok(count)
+}
+
+fn expect_refused(rt: &impl Abort, alloc: Global, line: &str) -> Result<(), AllocError> {
+    let fault = read(alloc, line)?.err();
+    assert_eq!(rt; fault, Some(WordFault::Usage), "{line}");
+    Ok(())
+}
 
 #[test]
 fn refused_words(rt: HostRuntime) -> Result<(), Fail> {
-    for line in REFUSED {
-        let fault = read(rt.alloc(), line)?.err();
-        assert_eq!(rt; fault, Some(WordFault::Usage), "{line}");
-    }
+    assert_eq!(rt; refused(&rt, rt.alloc())?, 68);
     Ok(())
 }
 
@@ -197,11 +212,13 @@ const ACCEPTED: [Accepted; 15] = [
 /// Words are read as a row of `ACCEPTED` has it.
 fn expect_read(rt: &impl Abort, words: &Words, row: &Accepted) {
     let &(line, setup, verify, number, calls) = row;
-    assert_eq!(rt; words.setup, setup, "{line}");
-    assert_eq!(rt; words.verify, verify, "{line}");
-    assert_eq!(rt; words.trace, setup.trace, "{line}");
-    assert_eq!(rt; words.number, number, "{line}");
-    assert_eq!(rt; words.named.len(), calls, "{line}");
+    let flags = (words.verify, words.trace);
+    let read = (words.setup, flags, words.number, words.named.len());
+    assert_eq!(rt;
+        read,
+        (setup, (verify, setup.trace), number, calls),
+        "{line}"
+    );
 }
 
 /// The calls of words that name three.
@@ -241,16 +258,16 @@ fn accepted_words(rt: HostRuntime) -> Result<(), Fail> {
 }
 
 /// So many words that name a call.
-fn closes(alloc: Global, count: usize) -> Result<Vec<String>, Fail> {
+fn closes(alloc: Global, count: usize) -> Result<Vec<String>, AllocError> {
     let mut words = Vec::new(alloc);
     for _ in 0..count {
-        words.push(String::from_str(alloc, "0:0:close")?)?;
+        push_word(alloc, &mut words, "0:0:close")?;
     }
     Ok(words)
 }
 
 /// How many calls are read of so many words.
-fn calls_read(alloc: Global, count: usize) -> Result<Result<usize, WordFault>, Fail> {
+fn calls_read(alloc: Global, count: usize) -> Result<Result<usize, WordFault>, AllocError> {
     let words = closes(alloc, count)?;
     Ok(read_words(alloc, &words).map(|it| it.named.len()))
 }
@@ -259,5 +276,19 @@ fn calls_read(alloc: Global, count: usize) -> Result<Result<usize, WordFault>, F
 fn at_most_1024_calls(rt: HostRuntime) -> Result<(), Fail> {
     assert_eq!(rt; calls_read(rt.alloc(), 1024)?, Ok(1024));
     assert_eq!(rt; calls_read(rt.alloc(), 1025)?, Err(WordFault::Usage));
+    Ok(())
+}
+
+/// Refused words are told how the program is used.
+const REFUSED_ROW: Row<'static> = Row {
+    words: "--squeues|0",
+    status: Status::Usage,
+    told: "usage: sqrun [--squeues N] [--rings N] [--mode process|nodrain|fill] [--budget N] [--spread N] [--verify] [--trace] [--gen N] [CALL]...\n",
+    ..GOOD
+};
+
+#[test]
+fn refused_words_are_told_the_usage(rt: HostRuntime) -> Result<(), Fail> {
+    expect_row(&rt, rt.alloc(), "usage", &[], &REFUSED_ROW)?;
     Ok(())
 }

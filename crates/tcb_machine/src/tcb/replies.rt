@@ -50,17 +50,9 @@ impl Tcb {
         requires flags { flags < 64 }
         ensures { OnOk result (self.new ≡ sends (segment_of flags seq text self.old) self.old) }
     {
-        let reply = Reply {
-            at: self.clock,
-            flags,
-            seq,
-            ack: self.rcv_nxt(),
-            wnd: self.sent_window(),
-            mss: None,
-            scale: None,
-            text,
-        };
-        self.send(reply)
+        let ack = self.rcv_nxt();
+        let wnd = self.sent_window();
+        self.send(Reply::plain(self.clock, flags, seq, ack, wnd, text))
     }
 
     /// <SEQ=SND.NXT><ACK=RCV.NXT><CTL=ACK>
@@ -84,17 +76,8 @@ impl Tcb {
     pub(super) fn send_rst(&mut self, alloc: Global, seg: &Seg) -> Result<(), AllocError>
         ensures { OnOk result (self.new ≡ sends (rst_of seg.now self.old) self.old) }
     {
-        let reply = Reply {
-            at: self.clock,
-            flags: RST,
-            seq: seg.ack,
-            ack: 0,
-            wnd: 0,
-            mss: None,
-            scale: None,
-            text: Octets::wrap(Vec::new(alloc)),
-        };
-        self.send(reply)
+        let text = Octets::wrap(Vec::new(alloc));
+        self.send(Reply::plain(self.clock, RST, seg.ack, 0, 0, text))
     }
 
     /// <SEQ=ISS><ACK=RCV.NXT><CTL=SYN,ACK> with the MSS, and a window scale where the SYN carried one.
