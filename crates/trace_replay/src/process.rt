@@ -1,5 +1,9 @@
 //! A replay as a process: its words, its standard ends, and what it ends with.
 
+ghost use Rattle.std.specs.Prelude.{◌≡◌};
+ghost use Rattle.std.specs.Process.{exit_status};
+ghost use Rattle.trace_replay.specs.Answers.{code_of};
+
 use crate::run::{NO_MEMORY, Replayed, USAGE, replay_run, told};
 use sq_base::{StdSink, StdSource};
 use std::alloc::AllocGlobal;
@@ -21,9 +25,9 @@ pub fn run_process<E: Write + Drop>(
         Ok(words) => words,
         // A word that isn't UTF-8 is a word too.
         Err(error) if error.kind() == io::ErrorKind::InvalidData => {
-            return ExitCode::from(told(&mut err, USAGE, Replayed::Usage).code());
+            return exit_code(told(&mut err, USAGE, Replayed::Usage));
         }
-        Err(_) => return ExitCode::from(told(&mut err, NO_MEMORY, Replayed::NoMemory).code()),
+        Err(_) => return exit_code(told(&mut err, NO_MEMORY, Replayed::NoMemory)),
     };
     let replayed = replay_run(
         rt,
@@ -33,6 +37,13 @@ pub fn run_process<E: Write + Drop>(
         &mut out,
         &mut err,
     );
+    exit_code(replayed)
+}
+
+/// What the process ends with.
+fn exit_code(replayed: Replayed) -> ExitCode
+    ensures { exit_status result ≡ code_of replayed }
+{
     ExitCode::from(replayed.code())
 }
 
