@@ -1,4 +1,4 @@
-//! `sqreplay`: says whether a report with marks, which stands before its capture in standard input, is one of a right run.
+//! `sqreplay`: says whether a report with marks, which stands before its capture in standard input, is that of histories that fit its setup.
 #![tactic(auto)]
 
 use std::process::ExitCode;

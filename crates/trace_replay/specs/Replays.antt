@@ -1,4 +1,4 @@
--- An input that replays: the report of some right run that kept its marks, and its capture behind it.
+-- An input that replays: a report with the marks of histories that fit its setup, and its capture behind it.
 use Rattle.std.specs.Prelude.{◌≡◌, ℕ, List, ◌++◌, length, map}
 use Rattle.perimeter_core.specs.declared.entries.Act.{Act}
 use Rattle.std.specs.Io.KnownBytes.{Appends}

@@ -1,4 +1,4 @@
-//! Whether a report with marks is one of a right run over a capture.
+//! Whether a report with marks is that of histories that fit its setup, over a capture.
 //!
 //! Who runs squeues with threads says afterwards what each squeue did, mark by mark. This crate believes none of it. It reads the
 //! report's own lines on the setup, the calls and the marks, goes through the marks of each squeue again, one by one, and serves

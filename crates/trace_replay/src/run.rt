@@ -73,7 +73,7 @@ impl Replayed {
     }
 }
 
-/// Reads a report with marks and the capture behind it, and writes to `out` whether the report is one of a right run; or writes why
+/// Reads a report with marks and the capture behind it, and writes to `out` whether it replays; or writes why
 /// not as one line to `err`. It waits for nobody.
 ///
 /// # Example
