@@ -1,0 +1,67 @@
+-- A run written out: one squeue, one ring, and one connection with two items, whatever these are.
+use Rattle.std.specs.Prelude.{ℕ, true, false, List, [], ◌∷◌}
+use Rattle.sq_base.specs.declared.kinds.Tuple.{Tuple}
+use Rattle.capture_reader.specs.Outcome.{CaptureFile}
+use Rattle.conn_classifier.specs.declared.kinds.Counts.{Counts}
+use Rattle.conn_classifier.specs.declared.kinds.Item.{Item}
+use Rattle.conn_classifier.specs.Plan.{PlanOf}
+use Rattle.perimeter_core.specs.declared.entries.Act.{Act}
+use Rattle.perimeter_core.specs.declared.entries.Act.TheVariants as Did
+use Rattle.perimeter_core.specs.declared.entries.Entry.TheVariants.{Feed}
+use Rattle.perimeter_core.specs.declared.marks.SynchAct.TheVariants as Done
+use Rattle.perimeter_core.specs.declared.marks.Mark.{Mark}
+use Rattle.perimeter_core.specs.declared.marks.Mark.TheVariants as On
+use Rattle.perimeter_core.specs.History.{Element, Setting}
+use Rattle.squeue_enter.specs.declared.Mode.TheVariants as Mode'
+use Rattle.squeue_state.specs.Naming.{Ending}
+use Rattle.squeue_state.specs.Told.{Traced}
+use Rattle.conn_blocks.specs.ServeOrder.{BlockOf, serve, service_in}
+use Rattle.ring_quotas.specs.declared.setup.Setup.{Setup}
+use Rattle.ring_threads.specs.Served.{ServedOf}
+
+abbrev pub plan : CaptureFile → Counts → Tuple → Item → Item → PlanOf
+plan file counts t x y = record { file = file; tuples = t ∷ []; items = (x ∷ y ∷ []) ∷ []; order = []; counts = counts }
+
+abbrev pub setup : Setup
+setup = record { squeues = 1; rings = 1; mode = Mode'.Process; budget = 64; spread = 0; trace = false }
+
+abbrev pub setting : Setting
+setting = record {
+  rings = 1;
+  quotas = (2, 0) ∷ (0, 0) ∷ (0, 0) ∷ (0, 0) ∷ (0, 0) ∷ [];
+  starts = true ∷ [];
+  limits = record { feeds = 2 ∷ []; leaves = 0 ∷ []; calls = [] };
+}
+
+abbrev pub bare : Mark → Element
+bare m = record { mark = m; note = [] }
+
+abbrev pub history : List Element
+history =
+    bare (On.Fast 0 (Feed 0 0)) ∷ bare (On.Leave 0 0 Done.None) ∷ bare (On.Fast 0 (Feed 0 1)) ∷ bare (On.Leave 0 0 Done.None)
+    ∷ bare (On.Close 0) ∷ bare (On.Close 1) ∷ bare (On.Close 2) ∷ bare (On.Close 3) ∷ bare (On.Close 4) ∷ []
+
+abbrev pub ending : Ending
+ending = record { number = 0; setting = setting; history = history }
+
+abbrev pub order : List Act
+order = Did.Feed 0 ∷ Did.Feed 1 ∷ []
+
+abbrev pub block : PlanOf → BlockOf
+block p = record {
+  of = record { plan = p; calls = []; c = 0 };
+  service = service_in p 0;
+  tcb = (serve p [] 0 order).block;
+  order = order;
+  answers = (serve p [] 0 order).answers;
+  short = false;
+  stages = [];
+  order_room = 0;
+  answers_room = 0;
+}
+
+abbrev pub no_trace : Traced
+no_trace = record { marks = []; entries = []; mark_room = 0; entry_room = 0 }
+
+abbrev pub served : PlanOf → ServedOf
+served p = record { blocks = block p ∷ []; ended = ending ∷ []; traces = no_trace ∷ [] }
