@@ -216,19 +216,20 @@ impl RecvQueue {
         ensures rest { OnOk result (self.new ≡ without n self.old) }
         ensures unchanged { OnErr result (self.new ≡ self.old) }
     {
-        let bytes = self.front(alloc, n as usize)?;
+        let bytes = Octets::of(alloc, self.peek(n))?;
         self.skip(n);
         Ok(bytes)
     }
 
-    /// A copy of the next `n` bytes.
-    #[tactic(auto, unfolding(crate::specs::ReceiveQueue::next_bytes))]
-    fn front(&self, alloc: Global, n: usize) -> Result<Octets, AllocError>
+    /// The next `n` bytes, which stay in the queue.
+    #[tactic(auto, unfolding(crate::specs::ReceiveQueue::next_bytes, crate::specs::ReceiveQueue::ready_of, crate::specs::ReceiveQueue::next_of))]
+    pub fn peek(&self, n: u32) -> &[u8]
         requires { n ≤ ready_of self.now }
-        ensures { IfOk result (λ text. text ≡ next_bytes n self.now) }
+        ensures bytes { result.now ≡ next_bytes n self.now }
+        ensures count { length result.now ≡ n }
     {
-        let (bytes, _) = front(self.runs.as_slice(), self.taken).split_at(n);
-        Octets::of(alloc, bytes)
+        let (bytes, _) = front(self.runs.as_slice(), self.taken).split_at(n as usize);
+        bytes
     }
 
     /// Throws the next `n` bytes away. The edge rises to `taken + cap`.

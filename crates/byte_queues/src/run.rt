@@ -117,7 +117,12 @@ pub fn drop_front(runs: &mut Vec<Run>, at: u64, n: u32)
     }
     let run = &mut runs[0];
     if run.bytes.len() == n as usize {
-        runs.remove(0);
+        // Mostly it is the only one, and none has to move up.
+        if runs.len() == 1 {
+            runs.clear();
+        } else {
+            runs.remove(0);
+        }
     } else {
         run.bytes.drop_front(n as usize);
         run.start += u64::from(n);
@@ -141,7 +146,13 @@ pub fn join(
     let alloc = *runs.allocator();
     if count == 0 {
         let bytes = Buffer::of(alloc, text)?;
-        runs.insert(first, Run { start: at, bytes })?;
+        let run = Run { start: at, bytes };
+        // Mostly it is the last one, and none has to make room.
+        if first == runs.len() {
+            runs.push(run)?;
+        } else {
+            runs.insert(first, run)?;
+        }
         return Ok(());
     }
     let last = first + count;

@@ -50,21 +50,21 @@ impl Service {
 /// Moves what is ready: echo offers it again as far as there is room, discard throws it away. Where the peer has closed and
 /// nothing is ready any more, our FIN is wanted too. After NoMemory the block promises nothing more.
 #[tactic(auto, unfolding(crate::specs::Pump::pump))]
-pub fn pump(service: Service, tcb: &mut Tcb, alloc: Global) -> Result<(), AllocError>
+pub fn pump(service: Service, tcb: &mut Tcb, _alloc: Global) -> Result<(), AllocError>
     ensures moved { OnOk result (tcb.new ≡ pump service tcb.old) }
     ensures clock { OnOk result (tcb.new.clock ≡ tcb.old.clock) }
     ensures taken { OnOk result (tcb.new.recv.taken ≤ tcb.old.recv.taken + whole_space) }
     ensures next { OnOk result (next_of tcb.new.recv ≡ next_of tcb.old.recv) }
     ensures offered { OnOk result (offered tcb.new ≤ offered tcb.old + send_space) }
 {
-    move_text(service, tcb, alloc)?;
+    move_text(service, tcb)?;
     end(tcb);
     Ok(())
 }
 
 /// What is ready is thrown away or comes back.
 #[tactic(auto, unfolding(byte_queues::specs::ReceiveQueue::without, byte_queues::specs::ReceiveQueue::ready_of, tcb_machine::specs::BlockState::offered))]
-fn move_text(service: Service, tcb: &mut Tcb, alloc: Global) -> Result<(), AllocError>
+fn move_text(service: Service, tcb: &mut Tcb) -> Result<(), AllocError>
     ensures moved { OnOk result (tcb.new ≡ moves service tcb.old.fin_wanted tcb.old) }
     ensures clock { OnOk result (tcb.new.clock ≡ tcb.old.clock) }
     ensures taken { OnOk result (tcb.new.recv.taken ≤ tcb.old.recv.taken + whole_space) }
@@ -76,14 +76,14 @@ fn move_text(service: Service, tcb: &mut Tcb, alloc: Global) -> Result<(), Alloc
         return Ok(());
     }
     match tcb.state() {
-        State::Established | State::CloseWait => echo(tcb, alloc),
+        State::Established | State::CloseWait => echo(tcb),
         _ => Ok(()),
     }
 }
 
 /// The next bytes are offered as they came.
 #[tactic(auto, using(crate::proofs::PumpLemmas::next_length, crate::proofs::PumpLemmas::echo_length), unfolding(byte_queues::specs::ReceiveQueue::without, byte_queues::specs::ReceiveQueue::ready_of, tcb_machine::specs::BlockState::offered))]
-fn echo(tcb: &mut Tcb, alloc: Global) -> Result<(), AllocError>
+fn echo(tcb: &mut Tcb) -> Result<(), AllocError>
     ensures moved { OnOk result (tcb.new ≡ echoes (min (ready_of tcb.old.recv) (room_of tcb.old.out)) tcb.old) }
     ensures clock { OnOk result (tcb.new.clock ≡ tcb.old.clock) }
     ensures taken { OnOk result (tcb.new.recv.taken ≤ tcb.old.recv.taken + whole_space) }
@@ -91,8 +91,7 @@ fn echo(tcb: &mut Tcb, alloc: Global) -> Result<(), AllocError>
     ensures offered { OnOk result (offered tcb.new ≤ offered tcb.old + send_space) }
 {
     let n = tcb.ready().min(tcb.room());
-    let text = tcb.take(alloc, n)?;
-    tcb.offer(text.as_slice())
+    tcb.relay(n)
 }
 
 /// Where the peer has closed and all came back, our FIN is wanted.

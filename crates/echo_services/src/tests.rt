@@ -1,6 +1,7 @@
 //! The rows of one connection: what is given to its block, and what it sends.
 
 mod library;
+mod resending;
 mod rows;
 
 ghost use Rattle.std.specs.Prelude.{◌^◌, ◌<◌, length};
