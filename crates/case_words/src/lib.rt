@@ -4,9 +4,11 @@
 #![tactic(auto)]
 
 mod bytes;
+mod told;
 mod words;
 mod wrong;
 
 pub use bytes::{add_bytes, add_text, spelled};
+pub use told::told_at;
 pub use words::{Words, add_flags, flags_of};
 pub use wrong::Wrong;

@@ -14,6 +14,7 @@ const LETTERS: [(u8, u8, &str); 6] = [
 ];
 
 /// What of a line wasn't read yet.
+#[derive(Drop)]
 pub struct Words<'a> {
     rest: &'a str,
 }
