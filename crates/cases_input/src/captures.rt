@@ -1,7 +1,7 @@
 //! Files, as captures or refused.
 
-use case_rows::Fault;
 use capture_reader::{Capture, CaptureFault, read_bytes, read_capture};
+use case_rows::Fault;
 use case_words::{Words, Wrong, add_text, told_at};
 use pcapng_reader::{InputFault, parse_input};
 use sq_base::{MemSource, Octets};
@@ -75,7 +75,12 @@ fn tell_file(out: &mut String, alloc: Global, bytes: &[u8], words: &str) -> Resu
 }
 
 /// Tells a file.
-pub fn tell_parsed(alloc: Global, bytes: &[u8], words: &str, out: &mut String) -> Result<(), Fault> {
+pub fn tell_parsed(
+    alloc: Global,
+    bytes: &[u8],
+    words: &str,
+    out: &mut String,
+) -> Result<(), Fault> {
     let told = tell_file(out, alloc, bytes, words);
     told_at(alloc, words, told)
 }
@@ -83,7 +88,12 @@ pub fn tell_parsed(alloc: Global, bytes: &[u8], words: &str, out: &mut String) -
 /// What is told of a file that has so many bytes.
 fn front(alloc: Global, bytes: &[u8], n: usize) -> Result<String, Wrong> {
     let mut told = String::new(alloc);
-    tell_file(&mut told, alloc, bytes.get(..n).unwrap_or(bytes), "count cut")?;
+    tell_file(
+        &mut told,
+        alloc,
+        bytes.get(..n).unwrap_or(bytes),
+        "count cut",
+    )?;
     Ok(told)
 }
 
@@ -101,7 +111,12 @@ fn tell_fronts(out: &mut String, alloc: Global, bytes: &[u8], least: usize) -> R
 }
 
 /// Tells the fronts of a file.
-pub fn tell_each_front(alloc: Global, bytes: &[u8], least: &str, out: &mut String) -> Result<(), Fault> {
+pub fn tell_each_front(
+    alloc: Global,
+    bytes: &[u8],
+    least: &str,
+    out: &mut String,
+) -> Result<(), Fault> {
     let told = match least.parse::<usize>() {
         Ok(least) => tell_fronts(out, alloc, bytes, least),
         Err(_) => Err(Wrong::Word),
@@ -149,7 +164,12 @@ fn tell_source(out: &mut String, alloc: Global, bytes: &[u8], line: &str) -> Res
 }
 
 /// Tells what sources of the bytes give, one line after another.
-pub fn tell_sources(alloc: Global, bytes: &[u8], lines: &[&str], out: &mut String) -> Result<(), Fault> {
+pub fn tell_sources(
+    alloc: Global,
+    bytes: &[u8],
+    lines: &[&str],
+    out: &mut String,
+) -> Result<(), Fault> {
     for line in lines {
         let told = tell_source(out, alloc, bytes, line);
         told_at(alloc, line, told)?;

@@ -11,8 +11,8 @@ mod packets;
 mod plans;
 mod streams;
 
-use captures::{tell_each_front, tell_parsed, tell_sources};
 use capture_reader::{Capture, parse_capture};
+use captures::{tell_each_front, tell_parsed, tell_sources};
 use case_rows::{Cases, Fault, Row, bytes_of, expect_lines, run_cases};
 use numbers::tell_numbers;
 use packets::{Form, tell_packets};
@@ -59,7 +59,14 @@ fn planned(
     out: &mut String,
 ) -> Result<(), Fault> {
     let capture = capture_of(alloc, bytes)?;
-    tell_plans(rt, alloc, &capture, row.has("verify"), row.lines("plan"), out)
+    tell_plans(
+        rt,
+        alloc,
+        &capture,
+        row.has("verify"),
+        row.lines("plan"),
+        out,
+    )
 }
 
 /// Tells a capture's streams.
@@ -111,8 +118,21 @@ fn told(
 impl<R: Threads + Sync> Cases for Inputs<'_, R> {
     fn fields(&self) -> &'static [&'static str] {
         &[
-            "packets", "places", "datagrams", "replies", "texts", "refused", "numbers", "file",
-            "plan", "verify", "streams", "fronts", "sources", "tell", "out",
+            "packets",
+            "places",
+            "datagrams",
+            "replies",
+            "texts",
+            "refused",
+            "numbers",
+            "file",
+            "plan",
+            "verify",
+            "streams",
+            "fronts",
+            "sources",
+            "tell",
+            "out",
         ]
     }
 

@@ -233,7 +233,12 @@ fn tell(form: Form, out: &mut String, alloc: Global, line: &str) -> Result<(), W
 }
 
 /// Tells what lines of this form give, one after another.
-pub fn tell_packets(form: Form, alloc: Global, lines: &[&str], out: &mut String) -> Result<(), Fault> {
+pub fn tell_packets(
+    form: Form,
+    alloc: Global,
+    lines: &[&str],
+    out: &mut String,
+) -> Result<(), Fault> {
     for line in lines {
         let told = tell(form, out, alloc, line);
         told_at(alloc, line, told)?;

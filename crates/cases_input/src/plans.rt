@@ -3,10 +3,10 @@
 //! What is told is named by lines: `counts` and `counts verified`, `conns`, `hints` of the segments of connection 0, `tuple C`, `items C`, `many C`
 //! (how many items), `ring R N` (what ring R of N brings) and `homes C N` (its ring of N, and its first squeue of N).
 
+use capture_reader::Capture;
 use case_rows::Fault;
 use case_words::{Words, Wrong, told_at};
 use conn_classifier::{Item, Plan, plan};
-use capture_reader::Capture;
 use std::alloc::{AllocError, Global};
 use std::fmt::Write;
 use std::thread::Threads;
@@ -47,7 +47,13 @@ fn tell_items(out: &mut String, plan: &Plan<'_>, c: u32) -> Result<(), Wrong> {
 }
 
 /// Tells what a ring brings.
-fn tell_ring(out: &mut String, alloc: Global, plan: &Plan<'_>, r: u32, rings: u32) -> Result<(), Wrong> {
+fn tell_ring(
+    out: &mut String,
+    alloc: Global,
+    plan: &Plan<'_>,
+    r: u32,
+    rings: u32,
+) -> Result<(), Wrong> {
     if r >= rings {
         return Err(Wrong::Call);
     }
@@ -65,7 +71,12 @@ fn tell_conn(out: &mut String, plan: &Plan<'_>, word: &str, c: u32, of: u32) -> 
     match word {
         "tuple" => writeln!(out, "{:?}", plan.tuple(c))?,
         "many" => writeln!(out, "items {}", plan.items(c))?,
-        _ => writeln!(out, "ring {} squeue {}", plan.ring_of(c, of), plan.first_squeue(c, of))?,
+        _ => writeln!(
+            out,
+            "ring {} squeue {}",
+            plan.ring_of(c, of),
+            plan.first_squeue(c, of)
+        )?,
     }
     Ok(())
 }

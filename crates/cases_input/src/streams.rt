@@ -32,7 +32,12 @@ fn tell_plan(out: &mut String, plan: &MorePlan<'_>, most: u32) -> Result<(), All
 }
 
 /// Tells the streams of a capture.
-pub fn tell_streams(alloc: Global, capture: &Capture, most: u32, out: &mut String) -> Result<(), AllocError> {
+pub fn tell_streams(
+    alloc: Global,
+    capture: &Capture,
+    most: u32,
+    out: &mut String,
+) -> Result<(), AllocError> {
     let plan = more_plan(alloc, capture)?;
     tell_plan(out, &plan, most)
 }

@@ -82,6 +82,7 @@ fn tell(served: &Served, name: &str, out: &mut String) -> Result<(), Wrong> {
         "ready" => writeln!(out, "ready {}", tcb.ready())?,
         "room" => writeln!(out, "room {}", tcb.room())?,
         "fin" => writeln!(out, "fin {}", tcb.fin_wanted())?,
+        "room for a reply" => writeln!(out, "room for a reply {}", tcb.has_room())?,
         "service" => writeln!(out, "service {}", served.name())?,
         _ => return Err(Wrong::Word),
     }
