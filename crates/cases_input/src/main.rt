@@ -37,7 +37,27 @@ const PACKETS: [(&str, Form); 6] = [
     ("refused", Form::Refused),
 ];
 
+/// All fields of a row.
+const FIELDS: [&str; 15] = [
+    "packets",
+    "places",
+    "datagrams",
+    "replies",
+    "texts",
+    "refused",
+    "numbers",
+    "file",
+    "plan",
+    "verify",
+    "streams",
+    "fronts",
+    "sources",
+    "tell",
+    "out",
+];
+
 /// The rows of what is read, with what a plan's threads come from.
+#[derive(Drop)]
 struct Inputs<'r, R> {
     rt: &'r R,
 }
@@ -116,27 +136,8 @@ fn told(
 }
 
 impl<R: Threads + Sync> Cases for Inputs<'_, R> {
-    fn fields(&self) -> &'static [&'static str] {
-        &[
-            "packets",
-            "places",
-            "datagrams",
-            "replies",
-            "texts",
-            "refused",
-            "numbers",
-            "file",
-            "plan",
-            "verify",
-            "streams",
-            "fronts",
-            "sources",
-            "tell",
-            "out",
-        ]
-    }
-
     fn judge(&self, alloc: Global, row: &Row<'_>) -> Result<(), Fault> {
+        row.expect_fields(alloc, &FIELDS)?;
         let mut out = String::new(alloc);
         told(self.rt, alloc, row, &mut out)?;
         expect_lines(alloc, "out", row.lines("out"), out.as_bytes())

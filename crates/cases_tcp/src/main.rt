@@ -18,7 +18,11 @@ use std::alloc::Global;
 use std::io;
 use std::process::ExitCode;
 
+/// All fields of a row.
+const FIELDS: [&str; 5] = ["port", "given", "queue", "calls", "out"];
+
 /// The rows of TCP.
+#[derive(Drop)]
 struct Connections;
 
 /// Tells what a row gives.
@@ -31,11 +35,8 @@ fn told(alloc: Global, row: &Row<'_>, out: &mut String) -> Result<(), Fault> {
 }
 
 impl Cases for Connections {
-    fn fields(&self) -> &'static [&'static str] {
-        &["port", "given", "queue", "calls", "out"]
-    }
-
     fn judge(&self, alloc: Global, row: &Row<'_>) -> Result<(), Fault> {
+        row.expect_fields(alloc, &FIELDS)?;
         let mut out = String::new(alloc);
         told(alloc, row, &mut out)?;
         expect_lines(alloc, "out", row.lines("out"), out.as_bytes())
