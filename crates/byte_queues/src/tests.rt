@@ -1,4 +1,4 @@
-//! The rows of the receive queue, and the queue beside a plain map from position to byte.
+//! The two queues, and the receive queue beside a plain map from position to byte. Rows of their calls stand in `cases_tcp`.
 
 use crate::{Placed, RecvQueue, SendQueue};
 use std::alloc::{AllocError, Global};
@@ -28,20 +28,6 @@ fn placed(
 }
 
 #[test]
-fn run_limit(rt: HostRuntime) -> Result<(), Fail> {
-    let mut queue = RecvQueue::make(rt.alloc(), 1000);
-    for k in 1..65u64 {
-        assert_eq!(rt; placed(&rt, &mut queue, 2 * k, b"x")?, Placed::Held);
-    }
-    assert_eq!(rt; placed(&rt, &mut queue, 130, b"x")?, Placed::Blocks);
-    assert_eq!(rt; queue.runs(), 64);
-    assert_eq!(rt; placed(&rt, &mut queue, 3, b"x")?, Placed::Held);
-    assert_eq!(rt; placed(&rt, &mut queue, 130, b"x")?, Placed::Held);
-    assert_eq!(rt; queue.take(rt.alloc(), 0)?.as_slice().len(), 0);
-    Ok(())
-}
-
-#[test]
 fn runs_joined(rt: HostRuntime) -> Result<(), Fail> {
     let mut queue = RecvQueue::make(rt.alloc(), 1000);
     assert_eq!(rt; placed(&rt, &mut queue, 2, b"cd")?, Placed::Held);
@@ -52,20 +38,6 @@ fn runs_joined(rt: HostRuntime) -> Result<(), Fail> {
     assert!(rt; bytes == b"cdef".as_slice());
     assert_eq!(rt; placed(&rt, &mut queue, 0, b"XbXdX")?, Placed::Held);
     assert!(rt; taken_bytes(&rt, &mut queue, rt.alloc(), 6)?.as_slice() == b"Xbcdef".as_slice());
-    Ok(())
-}
-
-#[test]
-fn runs_bridged(rt: HostRuntime) -> Result<(), Fail> {
-    let mut queue = RecvQueue::make(rt.alloc(), 1000);
-    assert_eq!(rt; placed(&rt, &mut queue, 1, b"b")?, Placed::Held);
-    assert_eq!(rt; placed(&rt, &mut queue, 3, b"d")?, Placed::Held);
-    assert_eq!(rt; queue.runs(), 2);
-    let (start, bytes) = queue.run(1);
-    assert_eq!(rt; start, 3);
-    assert!(rt; bytes == b"d".as_slice());
-    assert_eq!(rt; placed(&rt, &mut queue, 0, b"abcde")?, Placed::Held);
-    assert!(rt; taken_bytes(&rt, &mut queue, rt.alloc(), 5)?.as_slice() == b"abcde".as_slice());
     Ok(())
 }
 

@@ -1,0 +1,108 @@
+//! A row and its fields. Both are parts of the text that they were read from.
+
+use crate::fault::Fault;
+use std::alloc::Global;
+
+/// Lines with a name.
+#[derive(Debug, Drop)]
+pub struct Field<'a> {
+    pub name: &'a str,
+    pub lines: Vec<&'a str>,
+}
+
+/// What is given and what is wanted, field by field. No two fields have one name.
+#[derive(Debug, Drop)]
+pub struct Row<'a> {
+    pub name: &'a str,
+    /// The line of the file that begins the row, counted from 1.
+    pub at: usize,
+    pub fields: Vec<Field<'a>>,
+}
+
+/// The lines of the field with this name.
+pub fn named<'f, 'a>(fields: &'f [Field<'a>], name: &str) -> Option<&'f [&'a str]> {
+    for field in fields {
+        if field.name == name {
+            return Some(field.lines.as_slice());
+        }
+    }
+    None
+}
+
+impl<'a> Row<'a> {
+    /// Whether the row has this field.
+    pub fn has(&self, name: &str) -> bool {
+        named(&self.fields, name).is_some()
+    }
+
+    /// The lines of a field, or none where the row hasn't it.
+    pub fn lines(&self, name: &str) -> &[&'a str] {
+        named(&self.fields, name).unwrap_or(&[])
+    }
+
+    /// The only line of a field, or `other` where the row hasn't the field. An error where the field has no line, or several.
+    pub fn text(&self, alloc: Global, name: &str, other: &'a str) -> Result<&'a str, Fault> {
+        match named(&self.fields, name) {
+            None => Ok(other),
+            Some([line]) => Ok(line),
+            Some(_) => Err(Fault::Told(format!(in alloc; "{name} isn't one line")?)),
+        }
+    }
+
+    /// The number that a field is, or `other` where the row hasn't the field. An error where the field is no number.
+    pub fn number(&self, alloc: Global, name: &str, other: u64) -> Result<u64, Fault> {
+        if !self.has(name) {
+            return Ok(other);
+        }
+        let text = self.text(alloc, name, "")?;
+        match text.parse::<u64>() {
+            Ok(number) => Ok(number),
+            Err(_) => Err(Fault::Told(format!(in alloc; "{name} isn't a number")?)),
+        }
+    }
+
+    /// The numbers of a field, between blanks; none where the row hasn't the field. An error where one is no number.
+    pub fn numbers(&self, alloc: Global, name: &str) -> Result<Vec<u64>, Fault> {
+        let mut numbers = Vec::new(alloc);
+        for word in self.text(alloc, name, "")?.split_ascii_whitespace() {
+            match word.parse::<u64>() {
+                Ok(number) => numbers.push(number)?,
+                Err(_) => {
+                    return Err(Fault::Told(format!(in alloc; "{name} isn't made of numbers")?));
+                }
+            }
+        }
+        Ok(numbers)
+    }
+
+    /// The words of a field, between blanks; none where the row hasn't the field. A line beginning with `|` has the words between bars, and so may have
+    /// words that are empty or have blanks.
+    pub fn words(&self, alloc: Global, name: &str) -> Result<Vec<String>, Fault> {
+        let mut words = Vec::new(alloc);
+        let line = self.text(alloc, name, "")?;
+        match line.strip_prefix('|') {
+            Some(line) => {
+                for word in line.split('|') {
+                    words.push(String::from_str(alloc, word)?)?;
+                }
+            }
+            None => {
+                for word in line.split_ascii_whitespace() {
+                    words.push(String::from_str(alloc, word)?)?;
+                }
+            }
+        }
+        Ok(words)
+    }
+
+    /// An error where the row has a field that isn't among these.
+    pub fn expect_fields(&self, alloc: Global, known: &[&str]) -> Result<(), Fault> {
+        for field in &self.fields {
+            if !known.contains(&field.name) {
+                let name = field.name;
+                return Err(Fault::Told(format!(in alloc; "no field is called {name}")?));
+            }
+        }
+        Ok(())
+    }
+}

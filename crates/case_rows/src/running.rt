@@ -1,0 +1,93 @@
+//! Runs files of rows, whose names are the program's words, and counts.
+
+use crate::fault::Fault;
+use crate::reading::{Broken, rows_of};
+use crate::rows::Row;
+use std::alloc::{AllocGlobal, Global};
+use std::env::Env;
+use std::process::ExitCode;
+use std::rt::Files;
+use std::{env, fs, io};
+
+/// What a program does with a row.
+pub trait Cases {
+    /// The fields that a row may have. One that has another fails.
+    fn fields(&self) -> &'static [&'static str];
+
+    /// Does what the row says, and compares what came with what is wanted. A fault says what differs.
+    fn judge(&self, alloc: Global, row: &Row<'_>) -> Result<(), Fault>;
+}
+
+/// How many rows passed, and how many failed. A file that can't be read counts as a row that failed.
+#[derive(Clone, Copy, Drop)]
+struct Count {
+    passed: u64,
+    failed: u64,
+}
+
+/// Runs the rows of the files that the process' words name. Prints a line for each row that fails, and one with the count: `N rows passed, M failed`.
+/// The status is 0 where none failed, else 1.
+pub fn run_cases<R: Env + Files + AllocGlobal + Print, C: Cases>(
+    rt: &R,
+    cases: &C,
+) -> io::Result<ExitCode> {
+    let mut count = Count {
+        passed: 0,
+        failed: 0,
+    };
+    for file in env::args(rt)?.skip(1) {
+        run_file(rt, cases, file.as_str(), &mut count)?;
+    }
+    let Count { passed, failed } = count;
+    println!(rt; "{passed} rows passed, {failed} failed")?;
+    Ok(ExitCode::from(u8::from(failed != 0)))
+}
+
+/// Runs the rows of a file.
+fn run_file<R: Files + AllocGlobal + Print, C: Cases>(
+    rt: &R,
+    cases: &C,
+    file: &str,
+    count: &mut Count,
+) -> io::Result<()> {
+    let text = fs::read_to_string(rt, file)?;
+    match rows_of(rt.alloc(), text.as_str()) {
+        Ok(rows) => run_rows(rt, cases, file, &rows, count),
+        Err(Broken::NoMemory) => {
+            count.failed = count.failed.saturating_add(1);
+            println!(rt; "{file}: out of memory")
+        }
+        Err(Broken::Line(number, wrong)) => {
+            count.failed = count.failed.saturating_add(1);
+            println!(rt; "{file}:{number}: {wrong}")
+        }
+    }
+}
+
+/// Runs these rows.
+fn run_rows<R: AllocGlobal + Print, C: Cases>(
+    rt: &R,
+    cases: &C,
+    file: &str,
+    rows: &[Row<'_>],
+    count: &mut Count,
+) -> io::Result<()> {
+    for row in rows {
+        match judged(rt.alloc(), cases, row) {
+            Ok(()) => count.passed = count.passed.saturating_add(1),
+            Err(fault) => {
+                count.failed = count.failed.saturating_add(1);
+                let at = row.at;
+                let name = row.name;
+                println!(rt; "{file}:{at}: {name}: {fault}")?;
+            }
+        }
+    }
+    Ok(())
+}
+
+/// What is wrong with a row.
+fn judged<C: Cases>(alloc: Global, cases: &C, row: &Row<'_>) -> Result<(), Fault> {
+    row.expect_fields(alloc, cases.fields())?;
+    cases.judge(alloc, row)
+}

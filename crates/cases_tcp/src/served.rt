@@ -1,0 +1,125 @@
+//! A connection with what serves it: echo and discard over a block, or the generator.
+
+use case_words::Wrong;
+use chargen_service::GenBlock;
+use echo_services::{Service, ask, serve, tick};
+use segment_codec::Seg;
+use std::alloc::Global;
+use tcb_machine::{Answer, Call, LAST_TIME, Tcb};
+
+/// A connection with what serves it.
+#[derive(Drop)]
+pub enum Served {
+    Plain(Service, Tcb),
+    Generated(GenBlock),
+}
+
+impl Served {
+    /// A new connection to a port; an error where no service has it.
+    pub fn at(alloc: Global, port: u16) -> Result<Served, Wrong> {
+        if port == 7 || port == 9 {
+            Ok(Served::Plain(Service::of(port), Tcb::make(alloc)))
+        } else if port == 19 {
+            Ok(Served::Generated(GenBlock::make(alloc)))
+        } else {
+            Err(Wrong::Word)
+        }
+    }
+
+    /// The connection's block.
+    pub fn tcb(&self) -> &Tcb {
+        match self {
+            Served::Plain(_, tcb) => tcb,
+            Served::Generated(block) => block.tcb(),
+        }
+    }
+
+    /// The block, where echo or discard serves it.
+    pub fn plain(&mut self) -> Result<&mut Tcb, Wrong> {
+        match self {
+            Served::Plain(_, tcb) => Ok(tcb),
+            Served::Generated(_) => Err(Wrong::Call),
+        }
+    }
+
+    /// What the service is called.
+    pub fn name(&self) -> &'static str {
+        match self {
+            Served::Plain(service, _) => service.name(),
+            Served::Generated(_) => "chargen",
+        }
+    }
+
+    /// A segment arrives, with the initial sequence number that a new connection takes.
+    pub fn segment(
+        &mut self,
+        alloc: Global,
+        at: u64,
+        iss: u32,
+        seg: &Seg,
+        text: &[u8],
+    ) -> Result<(), Wrong> {
+        match self {
+            Served::Plain(service, tcb) => plain_segment(*service, tcb, alloc, at, iss, seg, text),
+            Served::Generated(block) => generated_segment(block, alloc, at, iss, seg, text),
+        }
+    }
+
+    /// The time comes.
+    pub fn time(&mut self, alloc: Global, at: u64) -> Result<(), Wrong> {
+        match self {
+            Served::Plain(_, tcb) => {
+                if tcb.clock() > at || at > LAST_TIME {
+                    return Err(Wrong::Call);
+                }
+                tick(tcb, alloc, at)?;
+            }
+            Served::Generated(block) => {
+                if block.tcb().clock() > at || at > LAST_TIME {
+                    return Err(Wrong::Call);
+                }
+                block.time(alloc, at)?;
+            }
+        }
+        Ok(())
+    }
+
+    /// A program calls.
+    pub fn ask(&mut self, alloc: Global, call: Call) -> Result<Answer, Wrong> {
+        match self {
+            Served::Plain(service, tcb) => Ok(ask(*service, tcb, alloc, call)?),
+            Served::Generated(_) => Err(Wrong::Call),
+        }
+    }
+}
+
+fn plain_segment(
+    service: Service,
+    tcb: &mut Tcb,
+    alloc: Global,
+    at: u64,
+    iss: u32,
+    seg: &Seg,
+    text: &[u8],
+) -> Result<(), Wrong> {
+    if tcb.clock() > at || at > LAST_TIME || !tcb.has_room() {
+        return Err(Wrong::Call);
+    }
+    serve(service, tcb, alloc, at, iss, seg, text)?;
+    Ok(())
+}
+
+fn generated_segment(
+    block: &mut GenBlock,
+    alloc: Global,
+    at: u64,
+    iss: u32,
+    seg: &Seg,
+    text: &[u8],
+) -> Result<(), Wrong> {
+    if block.tcb().clock() > at || at > LAST_TIME || !block.tcb().has_room() {
+        return Err(Wrong::Call);
+    }
+    block.segment(alloc, at, iss, seg, text)?;
+    Ok(())
+}
