@@ -3,6 +3,8 @@
 What a capture file is, and which ones are refused, follows sqrun and its definitions; times are whole microseconds. Limits of size
 are not checked here: what is past them sqrun itself refuses.
 """
+import mmap
+import os
 from struct import Struct, unpack_from
 
 from packets import LINK_SIZE
@@ -23,6 +25,14 @@ class Refused(Exception):
     def __init__(self, text, status=1):
         super().__init__(text)
         self.status = status
+
+
+def map_file(path):
+    """A file's bytes, without a copy of them in memory."""
+    with open(path, "rb") as f:
+        if not os.fstat(f.fileno()).st_size:
+            return b""
+        return mmap.mmap(f.fileno(), 0, access=mmap.ACCESS_READ)
 
 
 def is_pcapng(data):
