@@ -3,17 +3,15 @@
 For each record one record comes out, in its place and with its time, so the numbers of frames stay. A record without an IPv4 datagram
 becomes one byte that sqrun counts as `other`, and one that ends before its datagram an empty body, which counts as `cut`.
 """
-import mmap
-import os
 import struct
 from collections import Counter
 
-from files import LINK_SIZE, MOST_BODY, SECTION, Records, Refused
-from packets import OTHER, SERVED, SERVICES, classify, datagram_at
+from files import MOST_BODY, SECTION, Records, Refused, header, map_file
+from packets import LINK_SIZE, SERVICES
 
 RAW_IP = 101
-TOLD = "BSD loopback (0, 108), Ethernet (1), raw IP (12, 14, 101, 228, 229), Linux cooked (113, 276)"
 IPV4, TAGS, PPPOE = b"\x08\0", (b"\x81\0", b"\x88\xa8", b"\x91\0"), b"\x88\x64"
+AROUND = (*TAGS, PPPOE)
 NOTHING, WRONG_VERSION = b"\x60", b"\0"
 HEAD = struct.Struct("<IIII")
 PORTS = struct.Struct(">HH")
@@ -27,12 +25,6 @@ class AnyRecords(Records):
         return BEFORE
 
     mixed = True
-
-
-def map_file(path):
-    """The bytes of a file, without reading it first."""
-    with open(path, "rb") as held:
-        return mmap.mmap(held.fileno(), 0, access=mmap.ACCESS_READ) if os.fstat(held.fileno()).st_size else b""
 
 
 def after_tags(body, at):
@@ -79,22 +71,37 @@ def packet(link, body):
     return WRONG_VERSION if at and data[:1] and data[0] >> 4 == 6 else data
 
 
-def is_plain(path, data):
-    """Whether sqrun reads the file as it stands: one link type, and one that it knows, without clocks set beside each other."""
-    if data[:4] != SECTION:
-        return len(data) >= 24 and struct.unpack_from("<I" if data[:1] in b"\xd4\x4d" else ">I", data, 20)[0] in LINK_SIZE
+def reads(records):
+    """Whether the whole file can be read."""
     try:
-        for _ in Records(path, data):
+        for _ in records:
             pass
     except Refused:
         return False
     return True
 
 
-def stacked_tags(path):
-    """How many Ethernet frames have an IPv4 datagram behind tags that sqrun doesn't skip."""
+def is_plain(path, data):
+    """Whether sqrun is to get the file as it stands. So is one that nothing here reads: sqrun says why."""
+    if data[:4] == SECTION:
+        return reads(Records(path, data)) or not reads(AnyRecords(path, data))
+    try:
+        return header(path, data, BEFORE)[2] in LINK_SIZE
+    except Refused:
+        return True
+
+
+def has_stacked_tags(path):
+    """Whether a frame has an IPv4 datagram behind tags that sqrun doesn't skip."""
     records = AnyRecords(path, map_file(path))
-    return sum(records.link == 1 and datagram_at(body, 0, len(body), 1)[0] == OTHER and packet(1, body) != NOTHING for _, body in records)
+    for _, body in records:
+        at = {1: 12, 113: 14}.get(records.link)
+        if at is None:
+            continue
+        kind = body[at:at + 2]
+        if kind in AROUND and (at == 14 or kind != TAGS[0] or body[16:18] in AROUND) and packet(records.link, body) != NOTHING:
+            return True
+    return False
 
 
 class Ports:
@@ -198,15 +205,3 @@ class Seen:
         parts += [listed("UDP ports", self.udp, " datagrams")] if self.udp else []
         parts += [f"{count:,} {'records' if count != 1 else 'record'} {'of ' * (kind != 'not IPv4')}{kind}" for kind, count in self.other.items()]
         return "; ".join(parts) or "no record"
-
-
-def served(path):
-    """Records and connections of a plain file: (records, connections)."""
-    records = AnyRecords(path, map_file(path))
-    ends, count = set(), 0
-    for _, body in records:
-        count += 1
-        kind, ip, tcp, _ = classify(body, 0, len(body), records.link, False)
-        if kind == SERVED:
-            ends.add(body[ip + 12:ip + 20] + body[tcp:tcp + 4])
-    return count, len(ends)
