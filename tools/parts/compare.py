@@ -3,14 +3,14 @@
 Numbers of sequence count from the first one of their direction, so a SYN is 0 and the first byte of text 1. Times are those of the capture.
 """
 from bisect import insort
-from collections import deque
-from dataclasses import dataclass, field
+from dataclasses import dataclass, field, replace
 from statistics import median
 
 from capture import ACK, FIN, PSH, RST, SYN
 from drawing import plural, seconds
 from packets import total
-from timeseq import kinds as kinds_of, lives, near
+from served import rows
+from timeseq import lives, near
 
 LATE = 10_000               # microseconds beyond the way to the capture's place and back, from which an acknowledgement counts as delayed
 TOO_LATE = 500_000
@@ -18,6 +18,8 @@ SECOND = 1_000_000
 LONG_CLOSED = 60 * SECOND   # a window of 0 for so long is probed by any timer
 USUAL_MSS, ETHERNET_MOST = 536, 1_500
 FRAMES = 20                 # that are named of one kind
+MOST_HELD = 4_096           # texts that wait, and acknowledgements of what didn't come, so that no capture makes this slow
+PAGE = 512
 MSS, SCALE, SACK_PERMITTED, SACK, TIMESTAMP = 2, 3, 4, 5, 8
 SIZES = {MSS: 4, SCALE: 3, SACK_PERMITTED: 2, TIMESTAMP: 10}
 URG, ECE, CWR = 32, 64, 128
@@ -125,13 +127,19 @@ def compare(number, conn, served):
     out = []
     for n, life in enumerate(lives(conn, served)):
         found = Found()
-        state, trip = compare_life(life, found, served.end)
+        state, trip = compare_life(life, found, served.end, in_order(life, rows(conn, served)))
         out.append(Compared(number, n, conn, served, life, list(found.by_kind.values()), state, trip))
     return out
 
 
-def compare_life(life, found, end):
-    """The captured server's state at the end, and the way to the capture's place and back."""
+def in_order(life, listed):
+    """The segments of a life with sqrun's answers, each behind what it answers."""
+    mine = {id(s) for s in life.client + life.replies}
+    return [thing for _, kind, thing in listed if kind in ("segment", "reply") and id(thing) in mine]
+
+
+def compare_life(life, found, end, beside):
+    """The captured server's state at the end, and the way to the capture's place and back. `beside` are the client's segments and sqrun's answers."""
     syn = next((s for s in life.client if s.has(SYN) and not s.has(ACK)), None)
     if not life.server:
         found.add("no answer", life.client[0] if life.client else None, "nothing", plural(len(life.replies), "segment"))
@@ -144,14 +152,22 @@ def compare_life(life, found, end):
         return no_syn_ack(life, syn, found), 0
     shake = Handshake(next((s for s in reversed(life.client) if s.has(SYN) and s.record < answer.record), syn), answer)
     compare_handshake(life, shake, found)
-    watch = Watch(life, shake, found)
-    for segment in sorted(life.client + life.server, key=lambda s: s.record):
-        watch.take(segment)
-    watch.end()
-    compare_streams(life, watch, found)
-    compare_counts(life, watch, found)
+    watch = watched(life, shake, found, sorted(life.client + life.server, key=lambda s: s.record))
+    ours = next((s for s in life.replies if s.has(SYN)), None)
+    if ours is not None:
+        reference = watched(replace(life, server=life.replies), Handshake(syn, ours), Found(), beside)
+        compare_watches(life, watch, reference, found)
     compare_end(life, watch, found, end)
     return watch.state, shake.trip
+
+
+def watched(life, shake, found, segments):
+    """A server watched from the first segment to the last."""
+    watch = Watch(life, shake, found)
+    for segment in segments:
+        watch.take(segment)
+    watch.end()
+    return watch
 
 
 def no_syn_ack(life, syn, found):
@@ -319,11 +335,11 @@ class Incoming:
         self.watch, self.found, self.shake, self.irs = watch, watch.found, watch.shake, watch.life.irs
         self.next, self.beyond, self.top = 1, [], 1         # what came without a gap, stretches beyond it, the greatest end
         self.acked, self.edge, self.last_window = 0, None, None
-        self.waiting, self.delays, self.windows = deque(), [], []
+        self.waiting, self.delays, self.windows = [], [], []
         self.gap = None             # (segment above a gap, what was next)
         self.early = []             # (acknowledgement beyond what had come, its number)
-        self.together = self.pure = 0
-        self.largest = 0
+        self.together, self.first_together, self.pure = 0, None, 0
+        self.largest = self.most_window = 0
         self.silent_syn = None      # a SYN on the established connection that isn't answered yet
 
     def syn(self, s):
@@ -342,16 +358,19 @@ class Incoming:
         self.largest = max(self.largest, s.length)
         self.early_ones(hi, s)
         self.note_again(lo, hi)
-        if hi > self.acked and (self.edge is None or hi <= self.edge) and hi > self.top:
+        if hi > self.acked and (self.edge is None or hi <= self.edge) and not self.holds(lo, hi) and len(self.waiting) < MOST_HELD:
             self.waiting.append(Waiting(s, hi, None))
         if lo > self.next and self.gap is None:
             self.gap = s, self.next
         self.top = max(self.top, hi)
         self.fill(lo, hi, s.at)
 
+    def holds(self, lo, hi):
+        return hi <= self.next or any(first <= lo and hi <= end for first, end in self.beyond)
+
     def early_ones(self, hi, s):
         for ack, number in self.early:
-            if number <= hi and hi > self.top and s.at - ack.at > 1000:
+            if number <= hi and hi > self.top and s.at - ack.at > LATE:
                 self.found.add("acknowledged before it came", ack, f"ack {number}, and byte {hi - 1} came {seconds(s.at - ack.at)} later", "")
                 self.early.remove((ack, number))
                 return
@@ -382,7 +401,7 @@ class Incoming:
             return
         ack = near(s.ack, self.irs)
         self.pure += not s.span()
-        if ack > self.top + 1 or ack > self.top and self.watch.client_fin is None and ack > max(self.top, 1):
+        if ack > self.top and not s.has(SYN) and len(self.early) < MOST_HELD:
             self.early.append((s, ack))
         if ack < self.acked:
             self.found.add("acknowledgement went back", s, f"from {self.acked} to {ack}", "")
@@ -401,13 +420,13 @@ class Incoming:
 
     def pop(self, s, ack):
         """What this acknowledges for the first time."""
-        done = []
-        while self.waiting and self.waiting[0].end <= ack:
-            done.append(self.waiting.popleft())
+        done = [one for one in self.waiting if one.end <= ack]
         if not done:
             return
+        self.waiting = [one for one in self.waiting if one.end > ack]
         if len(done) > 1:
             self.together += 1
+            self.first_together = self.first_together or s
             self.judge_seldom(s, done)
         for one in done:
             if one.ready is not None and not one.again:
@@ -433,11 +452,9 @@ class Incoming:
         slack = 1 << self.shake.server_shift
         if self.edge is not None and ack >= self.acked and self.edge - edge >= slack:
             self.found.add("window shrunk", s, f"edge from {self.edge:,} to {edge:,}", "")
-        before = self.last_window
-        most = max((w for w, _ in self.windows), default=0)
-        if before == 0 and 0 < now < min(self.shake.server_takes, self.largest, most // 2):
+        if self.last_window == 0 and 0 < now < min(self.shake.server_takes, self.largest, self.most_window // 2):
             self.found.add("window opened by little", s, f"from 0 to {now}", "")
-        self.last_window = now
+        self.last_window, self.most_window = now, max(self.most_window, now)
         self.edge = edge if self.edge is None else max(self.edge, edge)
 
     def end(self):
@@ -454,6 +471,42 @@ class Incoming:
                            f"{plural(len(waits), 'time')}, by {seconds(int(median(waits)))} in the middle and {seconds(max(waits))} at most", "at once")
 
 
+class Stream:
+    """Bytes by their place, in pages, so that a text far away takes little room."""
+
+    def __init__(self):
+        self.pages = {}             # by number the bytes, and which of them are there
+
+    def put(self, at, data):
+        """Whether what stood there already is the same. What differs stays as it was first."""
+        same, data, at = True, data[max(0, -at):], max(0, at)
+        place, end = at, at + len(data)
+        while place < end:
+            stop = min(end, place - place % PAGE + PAGE)
+            same = self.put_in_page(place // PAGE, place % PAGE, data[place - at:stop - at]) and same
+            place = stop
+        return same
+
+    def put_in_page(self, number, at, piece):
+        held, there = self.pages.setdefault(number, (bytearray(PAGE), bytearray(PAGE)))
+        end = at + len(piece)
+        if any(there[at:end]) and any(t and a != b for t, a, b in zip(there[at:end], held[at:end], piece)):
+            return False
+        held[at:end], there[at:end] = piece, b"\1" * len(piece)
+        return True
+
+    def whole(self):
+        """The bytes up to the first one that is missing."""
+        out = []
+        for number in range(len(self.pages)):
+            held, there = self.pages.get(number, (b"", b"\0"))
+            end = there.find(0)
+            out.append(bytes(held if end < 0 else held[:end]))
+            if end >= 0:
+                break
+        return b"".join(out)
+
+
 class Outgoing:
     """The server's direction: its text, and the client's acknowledgements and windows."""
 
@@ -462,13 +515,14 @@ class Outgoing:
         self.edge, self.window, self.heard_ack = None, None, 0
         self.acks = {0}                 # the client's acknowledgements, which a reset may take its number from
         self.top, self.fin = 1, None
-        self.stream, self.have = bytearray(), bytearray()
+        self.stream = Stream()
         self.last_sent, self.timeouts = {}, {}          # by a text's first number: when it went last; when it went by timeouts, from the first on
         self.doubled = {}               # by number: acknowledgements of it since it went last
         self.closed_at, self.probes, self.empty_probes, self.closed = None, [], [], []
         self.again = []
         self.sums = [0, 0]              # wrong ones and all
         self.wrong_sum = None
+        self.large = []                 # segments larger than the client takes
 
     def heard(self, s):
         """A segment of the client."""
@@ -520,9 +574,7 @@ class Outgoing:
     def judge_size(self, s):
         beside = (header(s)[12] >> 2 & 60) - 20
         if s.length + beside > self.shake.client_takes:
-            offloaded = len(s.datagram) > ETHERNET_MOST or not sum_holds(s)
-            words = f"{s.length} bytes and {beside} of options, the client takes {self.shake.client_takes}"
-            self.found.add("larger than a packet" if offloaded else "larger than the client takes", s, words, "")
+            self.large.append((s, f"{s.length} bytes and {beside} of options, the client takes {self.shake.client_takes}"))
 
     def judge_room(self, s, lo, hi):
         if self.closed_at is not None and s.at > self.closed_at.at + LATE and (s.length == 1 or hi <= self.top):
@@ -543,20 +595,8 @@ class Outgoing:
 
     def keep(self, s, lo, hi):
         """Puts the text into the stream; what stood there must be the same."""
-        data, start = text(s), lo - 1
-        if start < 0:
-            data, start = data[-start:], 0
-        end = start + len(data)
-        if end > len(self.stream):
-            more = end - len(self.stream)
-            self.stream += bytes(more)
-            self.have += bytes(more)
-        old, held = self.stream[start:end], self.have[start:end]
-        if any(held) and any(h and a != b for h, a, b in zip(held, old, data)):
+        if not self.stream.put(lo - 1, text(s)):
             self.found.add("text changed", s, f"bytes {lo} to {hi - 1} differ from what was sent before", "")
-        else:
-            self.stream[start:end] = data
-            self.have[start:end] = b"\1" * len(data)
 
     def reset(self, s):
         lo = near(s.seq, self.base)
@@ -572,10 +612,13 @@ class Outgoing:
             self.found.add("wrong checksum", self.wrong_sum, f"{wrong} of {whole} segments", "none")
         elif wrong:
             self.found.add("checksums of the card", self.wrong_sum, f"{wrong} of {whole} segments", "none")
+        offloaded = wrong or any(len(s.datagram) > ETHERNET_MOST for s in self.watch.life.client + self.watch.life.server)
+        for s, words in self.large:
+            self.found.add("larger than a packet" if offloaded else "larger than the client takes", s, words, "")
+        last = {near(s.seq, self.base): s for s in self.again}
         for lo, sent in self.timeouts.items():
-            last = next((s for s in reversed(self.again) if near(s.seq, self.base) == lo), None)
-            if last is not None:
-                judge_timeouts(sent, last, self.found)
+            if lo in last:
+                judge_timeouts(sent, last[lo], self.found)
         for closed, opened, probes, top in self.closed:
             if opened - closed.at >= LONG_CLOSED and not probes and self.top > top:
                 self.found.add("window not probed", closed, f"closed for {seconds(opened - closed.at)}", "probed after 1 s")
@@ -583,26 +626,22 @@ class Outgoing:
             self.found.add("window probed without text", self.empty_probes[0], f"{plural(len(self.empty_probes), 'time')}", "one byte")
 
 
-# Streams, counts and the end, both servers beside each other.
+# Both servers beside each other.
 
-def stream_of(replies, iss):
-    """The text that sqrun sent, and the ends of its segments as (first, end)."""
-    out = bytearray()
-    for s in replies:
-        lo = near(s.seq, iss) - 1
-        if s.length and not s.has(RST) and lo <= len(out):
-            out[lo:lo + s.length] = text(s)
-    return bytes(out)
+def compare_watches(life, watch, reference, found):
+    compare_streams(life, watch, reference, found)
+    compare_cuts(life, watch, found)
+    compare_acknowledgements(life, watch, reference, found)
+    compare_windows(watch, reference, found)
+    compare_again(life, watch, reference, found)
 
 
-def compare_streams(life, watch, found):
-    ours, theirs = stream_of(life.replies, life.iss), watch.outgoing.stream
-    whole = watch.outgoing.have.find(0)
-    theirs = bytes(theirs if whole < 0 else theirs[:whole])
+def compare_streams(life, watch, reference, found):
+    theirs, ours = watch.outgoing.stream.whole(), reference.outgoing.stream.whole()
     same = next((n for n, (a, b) in enumerate(zip(theirs, ours)) if a != b), None)
     if same is not None:
         first = next((s for s in life.server if s.length and near(s.seq, watch.base) <= same + 1 < near(s.seq, watch.base) + s.length), None)
-        found.add("text", first, f"byte {same + 1} is {theirs[same:same + 8]!r}", f"{ours[same:same + 8]!r}")
+        found.add("text", first, f"byte {same + 1} on is {theirs[same:same + 8]!r}", f"{ours[same:same + 8]!r}")
     if len(theirs) != len(ours):
         found.add("length of the text", None, f"{len(theirs):,} bytes", f"{len(ours):,} bytes")
 
@@ -618,7 +657,7 @@ def cuts(segments, base):
     return out
 
 
-def compare_counts(life, watch, found):
+def compare_cuts(life, watch, found):
     theirs, ours = cuts(life.server, watch.base), cuts(life.replies, life.iss)
     ends, our_ends = {hi for _, hi, _ in theirs}, {hi for _, hi, _ in ours}
     reach = min(max(ends, default=1), max(our_ends, default=1))
@@ -628,9 +667,6 @@ def compare_counts(life, watch, found):
     if other is not None:
         found.add("boundaries", other, sizes(theirs), sizes(ours))
     compare_pushes(theirs, ours, found)
-    compare_acknowledgements(life, watch, found)
-    compare_windows(life, watch, found)
-    compare_again(life, watch, found)
 
 
 def sizes(listed, most=6):
@@ -639,48 +675,47 @@ def sizes(listed, most=6):
 
 
 def compare_pushes(theirs, ours, found):
-    pushed, our_pushed = ({hi: s for _, hi, s in listed if s.has(PSH)} for listed in (theirs, ours))
-    for end, s in ((hi, s) for _, hi, s in theirs):
-        if (end in pushed) != (end in our_pushed):
-            found.add("PSH", s, f"{len(pushed)} of {len(theirs)} texts", f"{len(our_pushed)} of {len(ours)} texts")
-            return
+    """PSH where both servers end a segment at the same byte."""
+    pushed = {hi: s.has(PSH) for _, hi, s in ours}
+    for _, hi, s in theirs:
+        if pushed.get(hi, s.has(PSH)) != s.has(PSH):
+            found.add("PSH", s, "with PSH" if s.has(PSH) else "without PSH", "with PSH" if pushed[hi] else "without PSH")
 
 
-def compare_acknowledgements(life, watch, found):
-    incoming = watch.incoming
-    if incoming.together:
-        found.add("acknowledged together", None, f"{plural(incoming.together, 'acknowledgement')} of several segments", "each segment")
-    pure = sum(not s.span() and not s.has(RST) for s in life.replies)
-    if any(s.length for s in life.replies) and incoming.pure > pure:
+def compare_acknowledgements(life, watch, reference, found):
+    theirs, ours = watch.incoming, reference.incoming
+    if theirs.together > ours.together:
+        found.add("acknowledged together", theirs.first_together, f"{plural(theirs.together, 'acknowledgement')} of several segments", f"{ours.together}")
+    if any(s.length for s in life.replies) and theirs.pure > ours.pure:
         first = next(s for s in life.server if not s.span() and not s.has(RST))
-        found.add("acknowledged apart", first, f"{plural(incoming.pure, 'segment')} without text", f"{plural(pure, 'segment')} without text")
+        found.add("acknowledged apart", first, f"{plural(theirs.pure, 'segment')} without text", f"{plural(ours.pure, 'segment')} without text")
 
 
-def compare_windows(life, watch, found):
-    theirs = [room_ for room_, _ in watch.incoming.windows]
-    shift = 5 if life.scaled else 0
-    ours = [room(s, shift) for s in life.replies if s.has(ACK) and not s.has(SYN) and not s.has(RST)]
+def compare_windows(watch, reference, found):
+    theirs, ours = ([size for size, _ in side.incoming.windows] for side in (watch, reference))
     if not theirs or not ours:
         return
     if (min(theirs), max(theirs)) != (min(ours), max(ours)):
         found.add("window", None, f"{min(theirs):,} to {max(theirs):,} bytes", f"{min(ours):,} to {max(ours):,} bytes")
     if 0 in theirs and 0 not in ours:
-        found.add("window closed", next(s for room_, s in watch.incoming.windows if room_ == 0), f"{plural(theirs.count(0), 'time')}", "never")
+        found.add("window closed", next(s for size, s in watch.incoming.windows if size == 0), f"{plural(theirs.count(0), 'time')}", "never")
 
 
-def compare_again(life, watch, found):
-    again, probes = watch.outgoing.again, watch.outgoing.probes
-    marks = kinds_of(life.replies, life.iss)
-    ours = [s for s, mark in zip(life.replies, marks) if mark == "again" and s.length]
-    if again or ours and not probes:
-        found.add("sent again", again[0] if again else None, plural(len(again), "segment") + timed(again, life), plural(len(ours), "segment"))
-    if probes:
-        found.add("window probed", probes[0], f"{plural(len(probes), 'time')}, first {seconds(probes[0].at - closed_before(probes[0], watch))} after it closed", "first after 1 s")
+def compare_again(life, watch, reference, found):
+    theirs, ours = watch.outgoing, reference.outgoing
+    if len(theirs.again) != len(ours.again):
+        found.add("sent again", theirs.again[0] if theirs.again else None, plural(len(theirs.again), "segment") + timed(theirs.again, life),
+                  plural(len(ours.again), "segment") + timed(ours.again, life))
+    if len(theirs.probes) != len(ours.probes) and theirs.probes:
+        found.add("window probed", theirs.probes[0], probed(theirs), probed(ours))
 
 
-def closed_before(probe, watch):
-    closed = [one[0].at for one in watch.outgoing.closed] + ([watch.outgoing.closed_at.at] if watch.outgoing.closed_at else [])
-    return max((at for at in closed if at <= probe.at), default=probe.at)
+def probed(side):
+    if not side.probes:
+        return "never"
+    closed = [one[0].at for one in side.closed] + ([side.closed_at.at] if side.closed_at else [])
+    first = side.probes[0].at
+    return f"{plural(len(side.probes), 'time')}, first {seconds(first - max((at for at in closed if at <= first), default=first))} after it closed"
 
 
 def timed(segments, life):

@@ -103,38 +103,42 @@ def program(name, given=""):
 def opened(path, folder, number, told):
     """The file itself, or its unpacked bytes in the folder. `-` is standard input."""
     try:
-        with sys.stdin.buffer if path == "-" else open(path, "rb") as data:
-            start = data.peek(8)
-            packed = [opener for magic, opener in PACKED if start.startswith(magic)]
-            if path != "-" and not packed:
-                return Path(path)
-            told.begin("unpacking" if packed else "reading", 0)
-            with open(folder / f"unpacked-{number}", "wb") as out:
-                unpack(data, packed[0] if packed else plain, out, path, told)
-            told.end()
-            return folder / f"unpacked-{number}"
+        if path == "-":
+            told.begin("reading", 0)
+            path = copied(sys.stdin.buffer, folder / f"input-{number}", told)
+        with open(path, "rb") as data:
+            start = data.read(8)
+        packed = [opener for magic, opener in PACKED if start.startswith(magic)]
+        if not packed:
+            return Path(path)
+        told.begin("unpacking", 0)
+        return unpacked(path, packed[0], folder / f"unpacked-{number}", told)
     except (EOFError, gzip.BadGzipFile, lzma.LZMAError, OSError, ValueError) as fault:
-        raise Refused(f"{path!r}: {getattr(fault, 'strerror', None) or fault}", 4) from None
+        raise Refused(f"{str(path)!r}: {getattr(fault, 'strerror', None) or fault}", 4) from None
+    finally:
+        told.end()
 
 
-def plain(data, _):
-    return data
+def copied(source, end, told):
+    with open(end, "wb") as out:
+        while piece := source.read(PIECE):
+            out.write(piece)
+            told.tell(out.tell())
+    return end
 
 
-def unpack(data, opener, out, path, told):
-    """Copies what the opener reads; Zstandard is unpacked by its own program."""
-    if opener is None:
-        if not shutil.which("zstd"):
-            raise Refused(f"{path!r} is a Zstandard file: needs the Debian package zstd", 2)
-        done = subprocess.run(["zstd", "-dcq"], stdin=data, stdout=out, stderr=subprocess.PIPE)
-        if done.returncode:
-            raise Refused(f"{path!r}: {done.stderr.decode(errors='replace').strip()[:200]}", 4)
-        return
-    source, size = opener(data, "rb"), 0
-    while piece := source.read(PIECE):
-        out.write(piece)
-        size += len(piece)
-        told.tell(size)
+def unpacked(path, opener, end, told):
+    """What the opener reads, as a file; Zstandard is unpacked by its own program."""
+    if opener:
+        with opener(path, "rb") as source:
+            return copied(source, end, told)
+    if not shutil.which("zstd"):
+        raise Refused(f"{str(path)!r} is a Zstandard file: needs the Debian package zstd", 2)
+    with open(path, "rb") as source, open(end, "wb") as out:
+        done = subprocess.run(["zstd", "-dcq"], stdin=source, stdout=out, stderr=subprocess.PIPE)
+    if done.returncode:
+        raise Refused(f"{str(path)!r}: {done.stderr.decode(errors='replace').strip()[:200]!r}", 4)
+    return end
 
 
 def prepared(asked, folder, told):
