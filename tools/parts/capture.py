@@ -1,14 +1,20 @@
-"""A capture: the segments of each connection that sqrun serves, and of the captured server."""
+"""A capture: the segments of each connection that sqrun serves, and of the captured server.
+
+Several files are one capture: all whole records of the first, then those of the second, and so on. A folder of sqshard stands for the
+captures that it is of, and one shard's folder (WORK/shards/S) for that shard.
+"""
+import json
+from bisect import bisect_right
 from dataclasses import dataclass, field
 from pathlib import Path
 from struct import unpack_from
 
-from files import Records
+from files import Records, Refused, map_file
 from packets import SERVED, SERVICES, classify
 
 FIN, SYN, RST, PSH, ACK = 1, 2, 4, 8, 16
 TIMER_GAP = 100_000         # microseconds without a segment, after which sqrun is told the time
-MOST_CONNECTIONS = 4_096
+MOST_CONNECTIONS = 4_096    # of one run
 
 
 @dataclass(slots=True)
@@ -22,7 +28,7 @@ class Segment:
     scale: int | None = None
     mss: int | None = None
     datagram: bytes = b""   # the IPv4 datagram that brought it
-    record: int = -1
+    record: int = -1        # its place among all records, from 0
 
     def has(self, flag):
         return bool(self.flags & flag)
@@ -45,6 +51,12 @@ class Capture:
     conns: list
     records: int
     last: int               # the greatest time
+    files: list = field(default_factory=list)       # (name, its first record) of each file
+
+    def frame(self, record):
+        """The file that a record stands in, and its number there as Wireshark counts, from 1."""
+        at = bisect_right(self.files, record, key=lambda file: file[1]) - 1
+        return self.files[at][0], record - self.files[at][1] + 1
 
 
 def options(data):
@@ -70,7 +82,7 @@ def tcp_segment(at, datagram, header):
     """The segment of a datagram whose IPv4 header has this length."""
     seq, ack, offset, flags, window = unpack_from(">4xIIBBH", datagram, header)
     text = header + (offset >> 2 & 60)
-    mss, scale = options(datagram[header + 20:text])
+    mss, scale = options(datagram[header + 20:text]) if text > header + 20 else (None, None)
     return Segment(at, seq, ack, flags & 63, window, len(datagram) - text, scale, mss, datagram)
 
 
@@ -78,32 +90,63 @@ def address(data, at, port_at):
     return ".".join(map(str, data[at:at + 4])) + f":{data[port_at] << 8 | data[port_at + 1]}"
 
 
-def read(path, verify=False):
-    """The connections in order of first appearance. `verify` leaves out segments with a wrong checksum, as sqrun --verify does."""
-    records = Records(path, Path(path).read_bytes())
-    conns, number, last = {}, 0, 0
-    for at, body in records:
-        last = max(last, at)
-        kind, ip, tcp, end = classify(body, 0, len(body), records.link, verify)
-        if ip is not None:
-            segment = tcp_segment(at, body[ip:end], tcp - ip)
-            segment.record = number
-            source, destination = address(body, ip + 12, tcp), address(body, ip + 16, tcp + 2)
-            place(conns, kind, source, destination, body[tcp + 3], segment)
-        number += 1
+def captures_of(folder):
+    """The captures of a folder of sqshard, by its own list of them."""
+    try:
+        return [Path(one["path"]) for one in json.loads((folder / "captures.json").read_text())["captures"]]
+    except (ValueError, KeyError, TypeError, RecursionError):
+        raise Refused(f"{str(folder / 'captures.json')!r} isn't one of sqshard's") from None
+
+
+def sources(names):
+    """(name, bytes) of each file, in order."""
+    for name in map(Path, names):
+        if (name / "captures.json").is_file():
+            yield from sources(captures_of(name))
+        elif (name / "0-head").is_file():
+            yield name, b"".join(piece.read_bytes() for piece in sorted(name.iterdir()))
+        else:
+            yield name, map_file(name)
+
+
+def read(names, verify=False, most=MOST_CONNECTIONS):
+    """The connections in order of first appearance, of one file or a list of files that are one capture.
+
+    `verify` leaves out segments with a wrong checksum, as sqrun --verify does. At most `most` connections are kept, as in one run;
+    None keeps all, as in a merged report.
+    """
+    conns, files, number, last, link = {}, [], 0, 0, None
+    for name, data in sources([names] if isinstance(names, (str, Path)) else names):
+        records = Records(name, data)
+        files.append((name, number))
+        for at, body in records:
+            last = max(last, at)
+            kind, ip, tcp, end = classify(body, 0, len(body), records.link, verify)
+            if ip is not None:
+                segment = tcp_segment(at, body[ip:end], tcp - ip)
+                segment.record = number
+                place(conns, kind, body[ip + 12:ip + 20] + body[tcp:tcp + 4], segment, most)
+            number += 1
+        if link not in (None, records.link):
+            raise Refused(f"{name}: second link type {records.link}", 6)
+        link = records.link
     for conn in conns.values():
         conn.items = items(conn.client, last)
-    return Capture(list(conns.values()), number, last)
+    return Capture(list(conns.values()), number, last, files)
 
 
-def place(conns, kind, source, destination, port, segment):
-    """Puts a segment to or from a served port where it belongs."""
+def place(conns, kind, ends, segment, most):
+    """Puts a segment to or from a served port where it belongs. `ends` are the two addresses and the two ports."""
     if kind == SERVED:
-        key = f"{source} {destination}"
-        if key in conns or len(conns) < MOST_CONNECTIONS:
-            conns.setdefault(key, Connection(key, SERVICES[port])).client.append(segment)
-    elif f"{destination} {source}" in conns:
-        conns[f"{destination} {source}"].server.append(segment)
+        if ends in conns:
+            conns[ends].client.append(segment)
+        elif most is None or len(conns) < most:
+            key = f"{address(ends, 0, 8)} {address(ends, 4, 10)}"
+            conns[ends] = Connection(key, SERVICES[ends[11]], [segment])
+    else:
+        conn = conns.get(ends[4:8] + ends[:4] + ends[10:] + ends[8:10])
+        if conn:
+            conn.server.append(segment)
 
 
 def items(segments, last):

@@ -3,6 +3,8 @@
 What a capture file is, and which ones are refused, follows sqrun and its definitions; times are whole microseconds. Limits of size
 are not checked here: what is past them sqrun itself refuses.
 """
+import mmap
+import os
 from struct import Struct, unpack_from
 
 from packets import LINK_SIZE
@@ -25,12 +27,20 @@ class Refused(Exception):
         self.status = status
 
 
+def map_file(path):
+    """A file's bytes, without a copy of them in memory."""
+    with open(path, "rb") as f:
+        if not os.fstat(f.fileno()).st_size:
+            return b""
+        return mmap.mmap(f.fileno(), 0, access=mmap.ACCESS_READ)
+
+
 def is_pcapng(data):
     return data[:4] == SECTION
 
 
-def header(path, data):
-    """Byte order, divisor to microseconds, and link type of a pcap file."""
+def header(path, data, links=LINK_SIZE):
+    """Byte order, divisor to microseconds, and link type of a pcap file, which is one of `links`."""
     if len(data) < 24:
         raise Refused(f"{path}: short header of {len(data)} bytes", 6)
     if data[:4] not in MAGICS:
@@ -39,23 +49,25 @@ def header(path, data):
     major, minor, link = unpack_from(order + "4xHH12xI", data)
     if (major, minor) != (2, 4):
         raise Refused(f"{path}: version {major}.{minor}", 6)
-    if link not in LINK_SIZE:
+    if link not in links:
         raise Refused(f"{path}: link type {link}", 6)
     return order, unit, link
 
 
 class Records:
-    """The whole records of a file, as (microseconds, body). `cut` and `link` are known once all were taken."""
+    """The whole records of a file, as (microseconds, body). `cut` and `link` are known once all were taken, `at` is how far it was read."""
+
+    links, mixed = LINK_SIZE, False     # the link types that are taken, and whether one file may have several
 
     def __init__(self, path, data):
-        self.path, self.data, self.cut, self.link = path, data, False, 101
+        self.path, self.data, self.cut, self.link, self.at = path, data, False, 101, 0
         self.from_file = self.pcapng() if is_pcapng(data) else self.pcap()
 
     def __iter__(self):
         return self.from_file
 
     def pcap(self):
-        order, unit, self.link = header(self.path, self.data)
+        order, unit, self.link = header(self.path, self.data, self.links)
         head = Struct(order + "III").unpack_from
         data, at, size, number = self.data, 24, len(self.data), 0
         while size - at >= 16:
@@ -64,6 +76,7 @@ class Records:
                 raise Refused(f"{self.path}: record {number} has length {length}", 6)
             if size - at - 16 < length:
                 break
+            self.at = at
             yield seconds * 1_000_000 + fraction // unit, data[at + 16:at + 16 + length]
             at += 16 + length
             number += 1
@@ -84,14 +97,15 @@ class Records:
             elif kind == INTERFACE:
                 link, snapshot = unpack_from(order + "H2xI", self.data, at + 8)
                 first = link if first is None else first
-                if link not in LINK_SIZE or link != first:
-                    self.refuse(f"{'second ' * (link in LINK_SIZE)}link type {link} in block {index}")
+                if link not in self.links or link != first and not self.mixed:
+                    self.refuse(f"{'second ' * (link in self.links)}link type {link} in block {index}")
                 self.link = link
-                interfaces.append((snapshot, self.ticks_a_second(at + 16, at + length - 4, order)))
+                interfaces.append((snapshot, self.ticks_a_second(at + 16, at + length - 4, order), link))
             elif kind in (PACKET, SIMPLE_PACKET):
                 time, start, size, room = self.packet(kind, at, index, order, length, interfaces, time)
                 if size > MOST_BODY or (size + 3 & ~3) > room:
                     self.refuse(f"packet of {size} bytes in block {index}")
+                self.at = at
                 yield time, self.data[start:start + size]
             at += length
             index += 1
@@ -143,6 +157,7 @@ class Records:
             number, size = 0, unpack_from(order + "I", self.data, at + 8)[0]
         if number >= len(interfaces):
             self.refuse(f"interface {number} in block {index}")
+        self.link = interfaces[number][2]
         if kind == PACKET:
             return min((high << 32 | low) * 1_000_000 // interfaces[number][1], LAST_TIME), at + 28, size, length - 32
         snapshot = interfaces[0][0]

@@ -1,4 +1,9 @@
-"""A report of sqrun, version 1 or 2 (with marks), read line by line, and joined with the capture that it is of."""
+"""A report of sqrun, version 1 or 2 (with marks), read line by line, and joined with the capture that it is of.
+
+A report may come from anybody: each number has a bound, a range of feeds stays a range until a capture says that there are so many, and
+what stands in a line is shown in quotes.
+"""
+import io
 import re
 from dataclasses import dataclass, field
 
@@ -7,22 +12,21 @@ from files import Refused
 from packets import KINDS
 
 STATES = "LISTEN|SYN-RECEIVED|ESTABLISHED|FIN-WAIT-1|FIN-WAIT-2|CLOSE-WAIT|CLOSING|LAST-ACK|TIME-WAIT"
-ENDPOINT = r"\d+\.\d+\.\d+\.\d+:\d+"
-LINES = {name: re.compile(form) for name, form in {
-    "records": r"records (\d+) tail ([01]) " + " ".join(rf"{kind} (\d+)" for kind in KINDS) + r" connections (\d+)",
-    "conn": rf"conn (\d+) ({ENDPOINT} {ENDPOINT}) (echo|discard)",
-    "order": r"order((?: f\d+(?:-\d+)?| c[0-3]\.\d+)+)",
-    "reply": r"reply (\d+) ((?:[0-9a-f]{2}){40,})",
-    "answer": rf"answer ([0-3]) (\d+) ((?:{STATES}) \d+ \d+ \d+|ok|notopen|already)",
+N = r"\d{1,20}"             # a number: no more than 64 bits have
+ENDPOINT = r"(?:\d{1,3}\.){3}\d{1,3}:\d{1,5}"
+LINES = {name: re.compile(form, re.ASCII) for name, form in {
+    "records": rf"records ({N}) tail ([01]) " + " ".join(rf"{kind} ({N})" for kind in KINDS) + rf" connections ({N})",
+    "conn": rf"conn ({N}) ({ENDPOINT} {ENDPOINT}) (echo|discard)",
+    "order": rf"order((?: f{N}(?:-{N})?| c[0-3]\.{N})+)",
+    "reply": rf"reply ({N}) ((?:[0-9a-f]{{2}}){{40,}})",
+    "answer": rf"answer ([0-3]) ({N}) ((?:{STATES}) {N} {N} {N}|ok|notopen|already)",
     "end": rf"end ({STATES})",
-    "setup": r"setup squeues (\d+) rings (\d+) mode (\w+) budget (\d+) spread (\d+) verify ([01])",
-    "call": r"call ([0-3]):(\d+):(status|close|buffer=\d+)",
-    "squeue": r"squeue (\d+) marks (\d+)",
-    "entered": r"(fill|fast|claim) (\d+)((?: \d+\.\d+)+)",
-    "asked": r"(claim) (\d+) ask",
-    "plain": r"(take|ask|accept|work|close) (\d+)",
-    "grant": r"grant (\d+) (\d+) (\d+)",
-    "leave": r"leave (\d+) (\d+) (none|away|call \d+ \d+ \d+|out \d+|in \d+)"}.items()}
+    "setup": rf"setup squeues (\d{{1,2}}) rings (\d) mode (process|nodrain|fill) budget (\d{{1,5}}) spread ({N}) verify ([01])",
+    "call": rf"call ([0-3]):({N}):(status|close|buffer={N})",
+    "squeue": rf"squeue (\d{{1,2}}) marks ({N})"}.items()}
+ENTERED = re.compile(rf"(?: {N}\.{N})+", re.ASCII)
+LEFT = re.compile(rf"none|away|call {N} [0-3] {N}|out {N}|in {N}", re.ASCII)
+MOST_SQUEUES, MOST_RINGS, THREADS = 16, 8, 4
 
 
 @dataclass
@@ -30,13 +34,25 @@ class Served:
     """What the report says of one connection."""
     tuple: str
     service: str
-    order: list = field(default_factory=list)       # a feed's number, or (thread, call)
+    order: list = field(default_factory=list)       # ranges of feeds, and (thread, call)
     replies: list = field(default_factory=list)     # Segments
     answers: dict = field(default_factory=dict)     # (thread, call) -> text
     end: str = ""
 
+    def acts(self):
+        """A feed's number, or (thread, call), one by one."""
+        for one in self.order:
+            if isinstance(one, range):
+                yield from one
+            else:
+                yield one
 
-@dataclass
+    def feeds(self):
+        """One more than the greatest feed's number."""
+        return max((one.stop for one in self.order if isinstance(one, range)), default=0)
+
+
+@dataclass(slots=True)
 class Mark:
     kind: str
     p: int                  # the pass that made it
@@ -52,50 +68,77 @@ class Report:
     conns: list = field(default_factory=list)
     setup: dict | None = None
     calls: dict = field(default_factory=dict)       # (thread, call) -> text
+    called: dict = field(default_factory=dict)      # (thread, call) -> the connection
     squeues: list = field(default_factory=list)     # lists of Marks
 
     def verified(self):
         """Whether segments with a wrong checksum were left out, or there were none."""
         return self.counts["badsum"] > 0 or bool(self.setup and self.setup["verify"])
 
+    def most(self):
+        """How many connections of the capture are served: all, or where some had no place, those of the report."""
+        return self.counts["connections"] if self.counts["nofit"] else None
+
 
 def acts(words):
+    """The order's words as ranges and calls; feeds rise."""
+    out, least = [], 0
     for word in words.split():
         if word[0] == "c":
             j, _, k = word[1:].partition(".")
-            yield int(j), int(k)
+            out.append((int(j), int(k)))
         else:
             first, _, last = word[1:].partition("-")
-            yield from range(int(first), int(last or first) + 1)
+            one = range(int(first), int(last or first) + 1)
+            if one.start < least or not one:
+                raise ValueError
+            out.append(one)
+            least = one.stop
+    return out
+
+
+def number(word):
+    if not word.isdecimal() or len(word) > 20:
+        raise ValueError
+    return int(word)
 
 
 def mark(line):
-    if found := LINES["entered"].fullmatch(line):
-        return Mark(found[1], int(found[2]), tuple(tuple(map(int, feed.split("."))) for feed in found[3].split()))
-    if found := LINES["asked"].fullmatch(line):
-        return Mark("claim", int(found[2]), (("ask", int(found[2])),))
-    if found := LINES["plain"].fullmatch(line):
-        return Mark(found[1], int(found[2]))
-    if found := LINES["grant"].fullmatch(line):
-        return Mark("grant", int(found[1]), j=int(found[2]), rest=int(found[3]))
-    if found := LINES["leave"].fullmatch(line):
-        name, *numbers = found[3].split()
-        return Mark("leave", int(found[1]), rest=int(found[2]), act=(name, *map(int, numbers)))
+    kind, _, rest = line.partition(" ")
+    first, _, more = rest.partition(" ")
+    p = number(first)
+    if kind in ("take", "ask", "accept", "work", "close") and not more:
+        return Mark(kind, p)
+    if kind == "claim" and more == "ask":
+        return Mark(kind, p, (("ask", p),))
+    if kind in ("fill", "fast", "claim") and ENTERED.fullmatch(" " + more):
+        return Mark(kind, p, tuple(tuple(map(int, feed.split("."))) for feed in more.split(" ")))
+    if kind == "grant":
+        j, left = more.split(" ")
+        return Mark(kind, p, j=number(j), rest=number(left))
+    left, _, act = more.partition(" ")
+    if kind == "leave" and LEFT.fullmatch(act):
+        name, *numbers = act.split(" ")
+        return Mark(kind, p, rest=number(left), act=(name, *map(int, numbers)))
     raise ValueError
 
 
 class Reader:
     """Takes a report's lines one after another. A line that can't stand where it stands raises ValueError."""
 
-    def __init__(self, version):
-        self.version, self.report, self.threads, self.due, self.ended = version, None, {}, 0, True
+    def __init__(self, version, datagrams=True):
+        self.version, self.report, self.threads, self.due, self.ended, self.datagrams = version, None, {}, 0, True, datagrams
+        self.passes = 0
 
     def line(self, line):
-        name = line.partition(" ")[0]
         if self.due:
-            self.report.squeues[-1].append(mark(line))
+            found = mark(line)
+            if max(found.p, found.j) >= self.passes:
+                raise ValueError
+            self.report.squeues[-1].append(found)
             self.due -= 1
             return
+        name = line.partition(" ")[0]
         found = LINES[name].fullmatch(line) if name in LINES else None
         if not found or (self.report is None) != (name == "records") or self.report and self.report.setup and name not in ("call", "squeue"):
             raise ValueError
@@ -116,11 +159,18 @@ class Reader:
         return self.report.conns[-1]
 
     def take_order(self, found):
-        self.current().order = list(acts(found[1]))
+        if self.current().order:
+            raise ValueError
+        self.current().order = acts(found[1])
 
     def take_reply(self, found):
         data = bytes.fromhex(found[2])
-        self.current().replies.append(tcp_segment(int(found[1]), data, 20))
+        segment = tcp_segment(int(found[1]), data, 20)
+        if data[0] != 0x45 or segment.length < 0 or data[32] < 0x50:
+            raise ValueError
+        if not self.datagrams:
+            segment.datagram = b""
+        self.current().replies.append(segment)
 
     def take_answer(self, found):
         self.current().answers[int(found[1]), int(found[2])] = found[3]
@@ -133,15 +183,18 @@ class Reader:
         if self.version != 2 or not self.ended:
             raise ValueError
         squeues, rings, mode, budget, spread, verify = found.groups()
+        if not 1 <= int(squeues) <= MOST_SQUEUES or not 1 <= int(rings) <= MOST_RINGS:
+            raise ValueError
         self.report.setup = {"squeues": int(squeues), "rings": int(rings), "mode": mode, "budget": int(budget),
                              "spread": int(spread), "verify": int(verify)}
+        self.passes = int(rings) + THREADS + 1
 
     def take_call(self, found):
         j = int(found[1])
         k = self.threads[j] = self.threads.get(j, -1) + 1
         if self.report.setup is None or self.report.squeues:
             raise ValueError
-        self.report.calls[j, k] = found[3]
+        self.report.calls[j, k], self.report.called[j, k] = found[3], int(found[2])
 
     def take_squeue(self, found):
         if self.report.setup is None or int(found[1]) != len(self.report.squeues):
@@ -154,22 +207,44 @@ class Reader:
                 and (self.version == 1 or self.report.setup is not None and len(self.report.squeues) == self.report.setup["squeues"]))
 
 
-def read(text, name):
-    """The report in the text. A line that isn't one of a report's is refused by its number."""
-    lines = text.split("\n")
-    if lines[0] not in ("report 1", "report 2"):
-        raise Refused(f"{name}: line 1 isn't `report 1` or `report 2`")
-    if lines[-2:] != ["done", ""]:
-        raise Refused(f"{name}: the report isn't whole: its last line isn't `done`")
-    reader = Reader(int(lines[0][-1]))
-    for number, line in enumerate(lines[1:-2], 2):
+def read_lines(lines, name, datagrams=True):
+    """The report in these lines of bytes, each with its end. One that isn't a report's is refused by its number.
+
+    Without `datagrams` each reply's bytes are forgotten when it has been read.
+    """
+    reader, done, number = None, False, 0
+    for number, line in enumerate(lines, 1):
+        if not line.isascii():
+            raise Refused(f"{name}: a report has plain ASCII alone, and line {number} has more")
+        line = line.decode("ascii")
+        if reader is None:
+            if line not in ("report 1\n", "report 2\n"):
+                raise Refused(f"{name}: line 1 isn't `report 1` or `report 2`")
+            reader = Reader(int(line[-2]), datagrams)
+            continue
         try:
-            reader.line(line)
+            if done or line[-1:] != "\n":
+                raise ValueError
+            if line == "done\n" and not reader.due:
+                done = True
+            else:
+                reader.line(line[:-1])
         except ValueError:
-            raise Refused(f"{name}: line {number} isn't a report's, or not there: {line[:60]}") from None
+            if line[-1:] != "\n":
+                break
+            raise Refused(f"{name}: line {number} isn't a report's, or not there: {line[:60].rstrip()!r}") from None
+    if reader is None:
+        raise Refused(f"{name}: line 1 isn't `report 1` or `report 2`")
+    if not done:
+        raise Refused(f"{name}: the report isn't whole: its last line isn't `done`")
     if not reader.is_whole():
         raise Refused(f"{name}: the report isn't whole: lines are missing before `done`")
     return reader.report
+
+
+def read(text, name):
+    """The report in a text."""
+    return read_lines(io.BytesIO(text.encode()), name)
 
 
 def join(report, capture, name, capture_name):
@@ -181,6 +256,8 @@ def join(report, capture, name, capture_name):
     for c, (served, captured) in enumerate(zip(report.conns, capture.conns)):
         if served.tuple != captured.tuple:
             raise Refused(f"connection {c} is {served.tuple} in {name} and {captured.tuple} in {capture_name}")
+        if served.feeds() > len(captured.items):
+            raise Refused(f"connection {c} is fed {served.feeds()} times in {name}, and {capture_name} has {len(captured.items)} of it")
     return capture.conns
 
 

@@ -4,26 +4,39 @@ from pathlib import Path
 
 import capture
 import report as reports
-from capture import Segment
+from capture import Capture, Segment
 from files import Refused
 
 PLACED = ("A report gives each reply's time and not what it answers. Where several segments have that time, a reply is placed after the one that it "
           "acknowledges: a guess for the eye.")
 
 
-def load(report_name, capture_name):
-    """The report and the connections of its capture; without a capture the connections have replies alone."""
+def load(report_name, capture_names=None):
+    """The report, and the connections of its capture."""
+    report, whole = load_whole(report_name, capture_names)
+    return report, whole.conns
+
+
+def load_whole(report_name, capture_names=None, datagrams=True):
+    """The report and its capture; without a capture the connections have replies alone.
+
+    A capture is a file, several files, or a folder of sqshard's; see capture.sources. Without `datagrams` the replies' bytes are left out.
+    """
     name = "standard input" if report_name == "-" else report_name
+    names = [capture_names] if isinstance(capture_names, (str, Path)) else list(capture_names or ())
     try:
-        text = sys.stdin.buffer.read() if report_name == "-" else Path(report_name).read_bytes()
-        report = reports.read(text.decode("ascii"), name)
-        if not capture_name:
-            return report, reports.without_capture(report)
-        return report, reports.join(report, capture.read(capture_name, report.verified()), name, capture_name)
-    except UnicodeDecodeError:
-        raise Refused(f"{name}: a report has plain ASCII alone") from None
+        if report_name == "-":
+            report = reports.read_lines(sys.stdin.buffer, name, datagrams)
+        else:
+            with open(report_name, "rb") as lines:
+                report = reports.read_lines(lines, name, datagrams)
+        if not names:
+            return report, Capture(reports.without_capture(report), 0, 0)
+        whole = capture.read(names, report.verified(), report.most())
+        reports.join(report, whole, name, ", ".join(map(str, names)))
+        return report, whole
     except OSError as fault:
-        raise Refused(str(fault)) from None
+        raise Refused(f"{fault.strerror}: {str(fault.filename)!r}" if fault.filename else str(fault)) from None
 
 
 def numbers(words, option, below):
@@ -31,10 +44,12 @@ def numbers(words, option, below):
     out = []
     for part in words.split(","):
         first, _, last = part.partition("-")
-        if not first.isdigit() or last and not last.isdigit():
+        if not (first.isascii() and first.isdigit() and (not last or last.isascii() and last.isdigit())):
             raise Refused(f"--{option} {words}: not numbers like 0,3-5")
-        if max(int(first), int(last or first)) >= below:
-            raise Refused(f"--{option} {words}: there are {below}")
+        if int(first) > int(last or first):
+            raise Refused(f"--{option} {words}: {part} begins behind its end")
+        if int(last or first) >= below:
+            raise Refused(f"--{option} {words}: there are {below:,}, numbered from 0")
         out += range(int(first), int(last or first) + 1)
     return sorted(set(out))
 
@@ -69,7 +84,7 @@ def rows(conn, served):
     """(time or None, kind, thing) in the order served; replies stand after what they answer."""
     if not conn.items:                  # no capture: the replies alone
         return [(r.at, "reply", r) for r in served.replies]
-    events, at = events_of(conn, served.order), 0
+    events, at = events_of(conn, served.acts()), 0
     for reply in served.replies:
         at = answered(events, at, reply)
         events[at][3].append(reply)

@@ -15,7 +15,6 @@ one run would number them, and a shard holds neighbouring ones, so the shards' r
 All numbers in binary files are little-endian, but those in tuples, which are as in a packet.
 """
 import json
-import mmap
 import os
 import re
 import shutil
@@ -23,7 +22,7 @@ import sys
 from array import array
 from struct import Struct
 
-from files import MOST_BODY, Records, Refused, header, is_pcapng
+from files import MOST_BODY, Records, Refused, header, is_pcapng, map_file
 from packets import KINDS, LINK_SIZE, OTHER, SERVED, classify
 
 MOST_BYTES, MOST_RECORDS, MOST_CONNECTIONS = 67_108_864, 1_048_576, 4_096      # of one run
@@ -57,13 +56,6 @@ def name(number):
 def tuple_text(key):
     a, b = (".".join(map(str, key[i:i + 4])) for i in (0, 4))
     return f"{a}:{key[8] << 8 | key[9]} {b}:{key[10] << 8 | key[11]}"
-
-
-def map_file(path):
-    with open(path, "rb") as f:
-        if not os.fstat(f.fileno()).st_size:
-            return b""
-        return mmap.mmap(f.fileno(), 0, access=mmap.ACCESS_READ)
 
 
 # What is to be done.

@@ -1,0 +1,125 @@
+"""Is a report a right one? sqreplay judges those with marks; one without is compared with a run of its own."""
+import io
+import re
+import subprocess
+from itertools import zip_longest
+from pathlib import Path
+
+import front
+import report as reports
+from files import Refused
+from refusals import reason
+
+BESIDE = 3                  # lines shown before and behind a wrong one
+SHOWN = 160                 # characters of a line
+SETUP = re.compile(r"setup squeues (\d+) rings (\d+) mode (\w+) budget (\d+) spread (\d+) verify ([01])")
+
+
+def check(asked, words, folder, told):
+    """Prints `yes` and answers 0, or prints `no`, what it means and where, and answers 1."""
+    name = asked.files[0]
+    try:
+        data = Path(name).read_bytes()
+    except OSError as fault:
+        raise Refused(f"{name!r}: {fault.strerror}", 4) from None
+    lines = data.decode("ascii", errors="replace").split("\n")
+    captures, _, _ = front.prepared(front.Asked(asked.files[1:], words, dict(asked.port)), folder, told)
+    if lines[0] == "report 1":
+        told_lines = plain(asked, words, lines, captures, folder, told)
+    else:
+        told_lines = traced(asked, data, lines, captures, folder, told)
+    print("\n".join(told_lines))
+    return 0 if told_lines[0] == "yes" else 1
+
+
+def served(asked, words, captures, folder, told):
+    """The lines of a run of its own on the same capture."""
+    run = front.serve(front.Asked([], words, {}, asked.sqrun), captures, folder, told) or front.shard(
+        front.Asked([], words, {}, asked.sqrun, asked.work), captures, folder, told)
+    return run.report.read_text("ascii").split("\n")
+
+
+def plain(asked, words, lines, captures, folder, told):
+    """A report without marks or answers is a function of the capture, and so of a run of its own."""
+    if any(line.startswith("answer ") for line in lines):
+        raise Refused("a report with answers of CALLs is judged with its marks alone: take one of sqrun --trace")
+    right = served(asked, words, captures, folder, told)
+    for number, (line, other) in enumerate(zip_longest(lines, right), 1):
+        if line != other:
+            hint = " Perhaps it was made with --verify: say so." if number == 2 and "--verify" not in words else ""
+            return [f"no: text {number}", f"Line {number} isn't the one that sqrun writes for this capture." + hint, *beside(lines, number, other)]
+    return ["yes"]
+
+
+def traced(asked, data, lines, captures, folder, told):
+    """What sqreplay says, with what it means."""
+    given = data + b"".join(path.read_bytes() for path in captures)
+    told.begin("checking", len(given))
+    done = subprocess.run(front.program("sqreplay", asked.sqreplay), input=given, capture_output=True)
+    told.end()
+    said = done.stdout.decode(errors="replace").strip()
+    if done.returncode not in (0, 1) or not said:
+        raise Refused(done.stderr.decode(errors="replace").strip() or f"sqreplay ended with {done.returncode}", done.returncode or 1)
+    if said == "yes":
+        return ["yes"]
+    meaning, numbers = reason(said)
+    return [said, meaning, *shown(said.split(" ")[1], numbers, asked, lines, captures, folder, told)]
+
+
+def shown(kind, numbers, asked, lines, captures, folder, told):
+    """The lines that a reason speaks of."""
+    if kind == "text":
+        return beside(lines, numbers[0], right_line(numbers[0], asked, lines, captures, folder, told))
+    if kind in ("illegal", "unfit"):
+        at = lines.index(next(line for line in lines if line.startswith(f"squeue {numbers[0]} marks ")))
+        return beside(lines, at + numbers[1] + 2)
+    if kind == "open":
+        at = next((n for n, line in enumerate(lines, 1) if line.startswith(f"squeue {numbers[0] + 1} marks ")), len(lines) - 1)
+        return beside(lines, at - 1)
+    if kind == "order":
+        at = next((n for n, line in enumerate(lines, 1) if line.startswith(f"conn {numbers[0]} ")), 0)
+        return beside(lines, at + 1) if at else []
+    if kind == "form":
+        try:
+            reports.read_lines(io.BytesIO("\n".join(lines[:lines.index("done") + 1]).encode("ascii", errors="replace") + b"\n"), "the report", False)
+        except Refused as refused:
+            return [str(refused)]
+    return []
+
+
+def right_line(number, asked, lines, captures, folder, told):
+    """The line of a run of its own, where it is the same for each order: before the connections, and of one without CALLs."""
+    found = next((SETUP.fullmatch(line) for line in lines if line.startswith("setup ")), None)
+    first, block = block_of(lines, number)
+    if found is None or any(line.startswith("answer ") for line in block):
+        return None
+    other = served(asked, ["--verify"] * (found[6] == "1"), captures, folder, told)
+    if first == 0:
+        return other[number - 1] if 1 < number <= 2 else None
+    begin = next((n for n, line in enumerate(other, 1) if line.split(" ")[:2] == lines[first - 1].split(" ")[:2]), None)
+    return other[begin + number - first - 1] if begin and begin + number - first <= len(other) else None
+
+
+def block_of(lines, number):
+    """The number of the line `conn` that this line is below (0: none), and the block's lines."""
+    first = next((n for n in range(min(number, len(lines)), 0, -1) if lines[n - 1].startswith("conn ")), 0)
+    if not first:
+        return 0, []
+    end = next((n for n in range(first, len(lines)) if lines[n].startswith(("conn ", "setup ", "done"))), len(lines))
+    return first, lines[first - 1:end]
+
+
+def beside(lines, number, right=None):
+    """The line of this number, from 1, with those beside it; and the right one below it, where it is known."""
+    out = []
+    for n in range(max(1, number - BESIDE), min(len(lines), number + BESIDE) + 1):
+        out.append(f"{'>' if n == number else ' '} {n:>7}  {cut(lines[n - 1])}")
+        if n == number and right is not None:
+            out.append(f"    right  {cut(right)}")
+    return out
+
+
+def cut(line):
+    """A line of somebody's file for a terminal."""
+    clean = "".join(c if " " <= c <= "~" else "?" for c in line)
+    return clean if len(clean) <= SHOWN else clean[:SHOWN] + ".."

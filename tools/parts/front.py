@@ -1,0 +1,225 @@
+"""From a person's files to a report: opens what is compressed, turns links and ports that sqrun leaves out, runs sqrun or sqshard."""
+import bz2
+import gzip
+import lzma
+import os
+import re
+import shlex
+import shutil
+import subprocess
+import sys
+import time
+from dataclasses import dataclass, field
+from pathlib import Path
+
+import links
+from files import Refused, map_file
+from packets import KINDS
+from refusals import explained
+
+TOOLS = Path(__file__).resolve().parents[1]
+TOP = TOOLS.parent
+MOST_BYTES = 67_108_864
+PACKED = ((b"\x1f\x8b", gzip.open), (b"\xfd7zXZ\0", lzma.open), (b"BZh", bz2.open), (b"\x28\xb5\x2f\xfd", None))
+PIECE = 1 << 20
+COUNTS = re.compile(rb"report [12]\nrecords (\d+) tail ([01]) " + b" ".join(kind.encode() + rb" (\d+)" for kind in KINDS) + rb" connections (\d+)\n")
+
+
+class Progress:
+    """One line on a terminal that says how far something is. On no terminal it says nothing."""
+
+    def __init__(self, out=None, terminal=None):
+        self.out = out or sys.stderr
+        self.terminal = self.out.isatty() if terminal is None else terminal
+        self.begin("", 0)
+
+    def begin(self, what, whole):
+        """`whole` is how many bytes there are."""
+        self.what, self.whole, self.begun, self.said, self.length = what, whole, time.monotonic(), 0.0, 0
+
+    def tell(self, done, records=0):
+        now = time.monotonic()
+        if not self.terminal or now - self.said < 0.2:
+            return
+        self.said, took = now, now - self.begun
+        left = f", {took * (self.whole - done) / done:.0f} s left" if 0 < done < self.whole and took > 1 else ""
+        counted = f", {records:,} records" if records else ""
+        whole = f" of {self.whole / 1e6:,.1f}" if self.whole else ""
+        self.line(f"{self.what}: {done / 1e6:,.1f}{whole} MB{counted}{left}")
+
+    def tick(self):
+        """For what can't be measured: how long it takes so far."""
+        now = time.monotonic()
+        if self.terminal and now - self.said >= 0.2:
+            self.said = now
+            self.line(f"{self.what}: {now - self.begun:.0f} s")
+
+    def line(self, text):
+        self.out.write("\r" + text + " " * max(0, self.length - len(text)))
+        self.out.flush()
+        self.length = len(text)
+
+    def end(self):
+        if self.terminal and self.length:
+            self.out.write("\r" + " " * self.length + "\r")
+            self.out.flush()
+        self.length = 0
+
+
+@dataclass
+class Asked:
+    """What is to be served, and how."""
+    files: list
+    words: list = field(default_factory=list)       # of sqrun
+    ports: dict = field(default_factory=dict)
+    sqrun: str = ""
+    work: str = ""                                  # sqshard's folder, where it is to be kept
+
+
+@dataclass
+class Run:
+    """A report, and the captures that it is of, as every tool here reads them."""
+    report: Path
+    captures: list
+    counts: dict
+    ports: links.Ports | None = None
+    notes: list = field(default_factory=list)       # what was done beside plain serving, in words
+
+
+def program(name, given=""):
+    """The command of a program: the one given, the one that the environment names, the built one, the unproved one, or that on the path."""
+    if given:
+        return shlex.split(given)
+    if os.environ.get(name.upper()):
+        return shlex.split(os.environ[name.upper()])
+    for path in (TOP / name, TOP / f"{name}-unproved"):
+        if os.access(path, os.X_OK):
+            return [str(path)]
+    if shutil.which(name):
+        return [name]
+    raise Refused(f"no {name}: ./build proves and builds it, tools/try-build {name} builds it unproved in two minutes, --{name} names another", 2)
+
+
+def opened(path, folder, number, told):
+    """The file itself, or its unpacked bytes in the folder. `-` is standard input."""
+    try:
+        if path == "-":
+            told.begin("reading", 0)
+            path = copied(sys.stdin.buffer, folder / f"input-{number}", told)
+        with open(path, "rb") as data:
+            start = data.read(8)
+        packed = [opener for magic, opener in PACKED if start.startswith(magic)]
+        if not packed:
+            return Path(path)
+        told.begin("unpacking", 0)
+        return unpacked(path, packed[0], folder / f"unpacked-{number}", told)
+    except (EOFError, gzip.BadGzipFile, lzma.LZMAError, OSError, ValueError) as fault:
+        raise Refused(f"{str(path)!r}: {getattr(fault, 'strerror', None) or fault}", 4) from None
+    finally:
+        told.end()
+
+
+def copied(source, end, told):
+    with open(end, "wb") as out:
+        while piece := source.read(PIECE):
+            out.write(piece)
+            told.tell(out.tell())
+    return end
+
+
+def unpacked(path, opener, end, told):
+    """What the opener reads, as a file; Zstandard is unpacked by its own program."""
+    if opener:
+        with opener(path, "rb") as source:
+            return copied(source, end, told)
+    if not shutil.which("zstd"):
+        raise Refused(f"{str(path)!r} is a Zstandard file: needs the Debian package zstd", 2)
+    with open(path, "rb") as source, open(end, "wb") as out:
+        done = subprocess.run(["zstd", "-dcq"], stdin=source, stdout=out, stderr=subprocess.PIPE)
+    if done.returncode:
+        raise Refused(f"{str(path)!r}: {done.stderr.decode(errors='replace').strip()[:200]!r}", 4)
+    return end
+
+
+def prepared(asked, folder, told):
+    """The captures as sqrun reads them: the files themselves, or one of raw IP in the folder. Answers them, the ports, and notes."""
+    paths = [opened(path, folder, n, told) for n, path in enumerate(asked.files)]
+    if not asked.ports and len(paths) == 1 and links.is_plain(paths[0], map_file(paths[0])):
+        return paths, None, []
+    return convert(paths, folder, asked.ports, told)
+
+
+def convert(paths, folder, table, told):
+    ports = links.Ports(table) if table else None
+    told.begin("reading", sum(os.stat(path).st_size for path in paths))
+    links.convert(paths, folder / "raw.pcap", ports, told.tell)
+    told.end()
+    notes = [f"{'its packets' if len(paths) == 1 else f'{len(paths)} captures'} turned into raw IP" + "".join(
+        f", port {real} into {port}" for real, port in table.items())]
+    return [folder / "raw.pcap"], ports, notes
+
+
+def run(asked, folder, told):
+    """Serves the files. Refused with sqrun's line and what it means, where there is no report."""
+    captures, ports, notes = prepared(asked, folder, told)
+    made = serve(asked, captures, folder, told)
+    if made is not None and made.counts["other"] and not notes and any(links.has_stacked_tags(path) for path in captures):
+        captures, ports, notes = convert(captures, folder, {}, told)
+        made = serve(asked, captures, folder, told)
+    if made is None:
+        made = shard(asked, captures, folder, told)
+        notes = notes + ["served in shards, since one run is limited"]
+    made.ports, made.notes = ports, notes
+    return made
+
+
+def split(asked):
+    """Whether shards may serve it: they have neither CALLs nor marks."""
+    return not any(word == "--trace" or not word.startswith("-") and ":" in word for word in asked.words)
+
+
+def serve(asked, captures, folder, told):
+    """One run of sqrun, or None where only shards can serve what is asked."""
+    size = sum(os.stat(path).st_size for path in captures)
+    if size > MOST_BYTES and split(asked):
+        return None
+    report = folder / "report"
+    told.begin("serving", size)
+    with open(captures[0], "rb") as data, open(report, "wb") as out:
+        done = subprocess.Popen([*program("sqrun", asked.sqrun), *asked.words], stdin=data, stdout=out, stderr=subprocess.PIPE)
+        while done.poll() is None:
+            try:
+                done.wait(0.2)
+            except subprocess.TimeoutExpired:
+                told.tick()
+        said = done.stderr.read().decode(errors="replace").strip()
+    told.end()
+    if done.returncode == 7 and "marks" not in said and split(asked):
+        return None
+    if done.returncode:
+        raise Refused(f"{said or f'sqrun ended with {done.returncode}'}\n{explained(said)}".strip(), done.returncode if done.returncode > 0 else 1)
+    counts = counted(report)
+    if counts["nofit"] and split(asked):
+        return None
+    return Run(report, captures, counts)
+
+
+def counted(report):
+    with open(report, "rb") as data:
+        found = COUNTS.match(data.read(1024))
+    if not found:
+        raise Refused("sqrun ended well, and wrote no report")
+    return dict(zip(("records", "tail", *KINDS, "connections"), map(int, found.groups())))
+
+
+def shard(asked, captures, folder, told):
+    """One report by sqshard."""
+    work, report = Path(asked.work) if asked.work else folder / "shards", folder / "report"
+    told.begin("serving in shards", 0)
+    words = [sys.executable, TOOLS / "sqshard", "run", *["--verify"] * ("--verify" in asked.words), "--sqrun", shlex.join(program("sqrun", asked.sqrun)), work, *captures]
+    with open(report, "wb") as out:
+        done = subprocess.run(list(map(str, words)), stdin=subprocess.DEVNULL, stdout=out, stderr=None if told.terminal else subprocess.PIPE)
+    told.end()
+    if done.returncode:
+        raise Refused((done.stderr or b"sqshard failed").decode(errors="replace").strip(), done.returncode)
+    return Run(report, captures, counted(report))

@@ -1,0 +1,71 @@
+"""Conversations made by hand: what a client and a server send, segment by segment, as a capture of raw IP."""
+import struct
+from pathlib import Path
+
+from generated import BEGIN, checksum, write
+
+FIN, SYN, RST, PSH, ACK, URG, ECE = 1, 2, 4, 8, 16, 32, 64
+CLIENT, SERVER = (0x0a000001, 4000), (0x0a000002, 7)
+CLIENT_START, SERVER_START = 5_000, 900_000
+MSS, SCALED, SACKED, STAMPED = b"\x02\x04\x05\xb4", b"\x01\x03\x03\x07", b"\x01\x01\x04\x02", b"\x01\x01\x08\x0a" + bytes(7) + b"\1" + bytes(4)
+
+
+def segment(source, destination, seq, ack, flags, window, text, options, reserved=0, wrong=False):
+    """An IPv4 datagram with this segment."""
+    options += b"\1" * (-len(options) % 4)
+    size = 20 + len(options) + len(text)
+    ip = struct.pack(">BBHHHBBHII", 0x45, 0, 20 + size, 0, 0x4000, 64, 6, 0, source[0], destination[0])
+    ip = ip[:10] + struct.pack(">H", checksum(ip)) + ip[12:]
+    tcp = struct.pack(">HHIIBBHHH", source[1], destination[1], seq % 2 ** 32, ack % 2 ** 32, (20 + len(options)) // 4 << 4 | reserved, flags, window, 0, 0)
+    tcp += options + text
+    found = checksum(struct.pack(">IIHH", source[0], destination[0], 6, size) + tcp)
+    return ip + tcp[:16] + struct.pack(">H", found ^ wrong) + tcp[18:]
+
+
+class Talk:
+    """One connection. Numbers count from the first of each side; `wait` is in microseconds; `mark` notes the frame."""
+
+    def __init__(self, port=7, asked=MSS, offered=MSS, window=65_535, room=65_535):
+        self.server = SERVER[0], port
+        self.asked, self.offered, self.window, self.room = asked, offered, window, room
+        self.at, self.records, self.marked = BEGIN, [], None
+        self.mine = self.theirs = 0             # the next number of the client and of the server
+
+    def put(self, wait, mark, *what, **more):
+        self.at += wait
+        self.records.append((self.at, segment(*what, **more)))
+        self.marked = len(self.records) if mark else self.marked
+        return self
+
+    def up(self, flags=ACK, text=b"", wait=100, seq=None, ack=None, window=None, options=b"", mark=False, **more):
+        """The client sends; without `seq` and `ack` what comes next."""
+        here = self.mine if seq is None else seq
+        self.put(wait, mark, CLIENT, self.server, CLIENT_START + here, (SERVER_START + (self.theirs if ack is None else ack)) * bool(flags & ACK),
+                 flags, self.window if window is None else window, text, options, **more)
+        if seq is None:
+            self.mine += len(text) + bool(flags & SYN) + bool(flags & FIN)
+        return self
+
+    def down(self, flags=ACK, text=b"", wait=100, seq=None, ack=None, window=None, options=b"", mark=False, **more):
+        """The server sends."""
+        here = self.theirs if seq is None else seq
+        self.put(wait, mark, self.server, CLIENT, SERVER_START + here, (CLIENT_START + (self.mine if ack is None else ack)) * bool(flags & ACK),
+                 flags, self.room if window is None else window, text, options, **more)
+        if seq is None:
+            self.theirs += len(text) + bool(flags & SYN) + bool(flags & FIN)
+        return self
+
+    def open(self):
+        return self.up(SYN, options=self.asked).down(SYN | ACK, options=self.offered).up()
+
+    def echo(self, text=b"hello", **more):
+        """Text, its echo, and the client's acknowledgement."""
+        return self.up(ACK | PSH, text).down(ACK | PSH, text, **more).up()
+
+    def close(self):
+        return self.up(ACK | FIN).down(ACK | FIN).up()
+
+    def save(self, folder, name="a.pcap"):
+        path = Path(folder) / name
+        write(path, self.records, 101)
+        return path

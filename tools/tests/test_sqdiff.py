@@ -1,0 +1,301 @@
+"""sqdiff: each kind shows where a crafted server does it, and nothing where sqrun itself is the captured server."""
+import json
+import os
+import re
+import subprocess
+import sys
+import tempfile
+import unittest
+from html.parser import HTMLParser
+from pathlib import Path
+
+from common import MODEL, SQRUN, TOOLS, TOP, captures, need, output
+from crafted import ACK, ECE, FIN, MSS, PSH, RST, SACKED, SCALED, STAMPED, SYN, URG, Talk
+from browser import Browser, COMMAND
+from standards import KINDS, VERDICTS
+
+GRAVE = ("MUST", "SHOULD", "unjudged")
+SECOND = 1_000_000
+UNPROVED = str(TOP / "sqrun-unproved")
+
+
+def program():
+    """The command of some sqrun: a built one, an unproved one, or the model."""
+    for path in (SQRUN, UNPROVED):
+        if os.access(path, os.X_OK):
+            return path
+    if MODEL:
+        return f"{sys.executable} {MODEL} run"
+    raise unittest.SkipTest("no sqrun: run ./build, or name it by SQRUN")
+
+
+def lines(path, *words, status=None):
+    """The differences and the summary that sqdiff finds."""
+    done = subprocess.run([TOOLS / "sqdiff", "--json", "--sqrun", program(), *words, path], capture_output=True, text=True)
+    assert done.returncode in (0, 1) and status in (None, done.returncode), (done.returncode, done.stderr)
+    *found, summary = map(json.loads, done.stdout.splitlines())
+    return found, summary, done.returncode
+
+
+def texts(port=9, **more):
+    """An open connection to discard, whose server has nothing to say but acknowledgements."""
+    return Talk(port, **more).open()
+
+
+def stamped(talk, count=1):
+    """So many echoes with timestamps on each segment."""
+    for _ in range(count):
+        talk.up(ACK | PSH, b"hello", options=STAMPED).down(ACK | PSH, b"hello", options=STAMPED).up(options=STAMPED)
+    return talk
+
+
+def opened(asked=MSS, offered=MSS, late=b"", **more):
+    talk = Talk(asked=asked, offered=offered, **more)
+    return talk.up(SYN, options=asked).down(SYN | ACK, options=offered, mark=True).up(options=late)
+
+
+# By kind a conversation that has it. What is marked is the frame that is to be named. Beside the kind itself nothing else that is grave may
+# be found, but for what stands in BESIDE.
+STORIES = {
+    "no answer": lambda: Talk().up(SYN, options=MSS, mark=True),
+    "begins inside": lambda: Talk().up(ACK | PSH, b"hello", mark=True).down(ACK | PSH, b"hello").up(),
+    "SYN refused": lambda: Talk().up(SYN, options=MSS).down(RST | ACK, seq=-900_000, mark=True),
+    "SYN acknowledged wrongly": lambda: Talk().up(SYN, options=MSS).down(SYN | ACK, options=MSS, ack=5, mark=True),
+    "maximum segment size": lambda: opened(offered=b"").echo(),
+    "window scale": lambda: opened(asked=MSS + SCALED).echo(),
+    "window scale unasked": lambda: opened(offered=MSS + SCALED).echo(),
+    "window scale over 14": lambda: opened(asked=MSS + SCALED, offered=MSS + b"\x01\x03\x03\x0f").echo(),
+    "selective acknowledgements": lambda: opened(asked=MSS + SACKED, offered=MSS + SACKED).echo(),
+    "selective acknowledgements unasked": lambda: opened(offered=MSS + SACKED).echo(),
+    "timestamps": lambda: stamped(opened(asked=MSS + STAMPED, offered=MSS + STAMPED, late=STAMPED)),
+    "timestamps unasked": lambda: opened(offered=MSS + STAMPED).echo(),
+    "timestamp missing": lambda: stamped(opened(asked=MSS + STAMPED, offered=MSS + STAMPED, late=STAMPED)).up(ACK | PSH, b"x", options=STAMPED).down(
+        ACK | PSH, b"x", mark=True).up(options=STAMPED),
+    "maximum segment size later": lambda: Talk().open().echo(options=MSS, mark=True),
+    "SYN,ACK again": lambda: Talk().up(SYN, options=MSS).down(SYN | ACK, options=MSS, mark=True).up(wait=SECOND * 3 // 2).echo(),
+    "congestion notification": lambda: Talk().open().up(ACK | PSH, b"hello").down(ACK | PSH | ECE, b"hello", mark=True).up(),
+    "acknowledged later": lambda: Talk().open().up(ACK | PSH, b"hello", mark=True).down(ACK | PSH, b"hello", wait=SECOND // 5).up(),
+    "acknowledged too late": lambda: Talk().open().up(ACK | PSH, b"hello").down(ACK | PSH, b"hello", wait=SECOND * 7 // 10, mark=True).up(),
+    "acknowledged together": lambda: Talk().open().up(ACK | PSH, b"one").up(ACK | PSH, b"two").down(ACK | PSH, b"one").down(ACK | PSH, b"two").up(),
+    "acknowledged too seldom": lambda: texts().up(ACK, b"x" * 1460).up(ACK, b"x" * 1460).up(ACK, b"x" * 1460, wait=50_000).down(wait=50_000, mark=True),
+    "acknowledged apart": lambda: Talk().open().up(ACK | PSH, b"hello").down(mark=True).down(ACK | PSH, b"hello").up(),
+    "gap not acknowledged": lambda: Talk().open().up(ACK | PSH, b"world", seq=6, mark=True).up(ACK | PSH, b"hello", seq=1).down(
+        ACK | PSH, b"helloworld", ack=11).up(seq=11),
+    "acknowledged before it came": lambda: Talk().open().up(ACK | PSH, b"hello").down(ACK | PSH, b"hello", ack=11, mark=True).up(
+        ACK | PSH, b"world", wait=50_000).down(ACK | PSH, b"world").up(),
+    "acknowledged what isn't captured": lambda: Talk().open().up(ACK | PSH, b"hello").down(ACK | PSH, b"hello", ack=11, mark=True).up(),
+    "acknowledgement went back": lambda: Talk().open().echo().down(ack=1, mark=True),
+    "not acknowledged": lambda: texts().up(ACK | PSH, b"hello", mark=True),
+    "window": lambda: Talk(room=1_000).open().echo(),
+    "window closed": lambda: texts(room=5).up(ACK | PSH, b"hello").down(window=0, mark=True).down(window=1_000, wait=SECOND),
+    "window shrunk": lambda: texts().up(ACK | PSH, b"hello").down().up(ACK | PSH, b"hello").down(window=100, mark=True),
+    "window opened by little": lambda: texts(room=1_460).up(ACK | PSH, b"x" * 1_460).down(window=0).down(window=10, wait=SECOND, mark=True),
+    "text": lambda: Talk().open().up(ACK | PSH, b"hello").down(ACK | PSH, b"jello", mark=True).up(),
+    "length of the text": lambda: Talk().open().echo().up(ACK | PSH, b"hello").down(),
+    "boundaries": lambda: Talk().open().up(ACK | PSH, b"hello").down(ACK, b"he", mark=True).down(ACK | PSH, b"llo").up(),
+    "larger than the client takes": lambda: Talk(asked=b"\x02\x04\x01\xf4").open().up(ACK | PSH, b"x" * 600).down(ACK | PSH, b"x" * 600, mark=True).up(),
+    "larger than a packet": lambda: Talk().open().up(ACK | PSH, b"x" * 1_460).up(ACK | PSH, b"x" * 1_460).down(ACK | PSH, b"x" * 2_920, mark=True).up(),
+    "past the window": lambda: Talk(window=100).open().up(ACK | PSH, b"x" * 300).down(ACK | PSH, b"x" * 300, mark=True).up(),
+    "PSH": lambda: Talk().open().up(ACK | PSH, b"hello").down(ACK, b"hello", mark=True).up(),
+    "FIN with text": lambda: Talk().open().up(ACK | PSH | FIN, b"hello").down(ACK | PSH | FIN, b"hello", mark=True).up(),
+    "FIN": lambda: Talk().open().echo().up(ACK | FIN).down(),
+    "text after FIN": lambda: Talk().open().echo().up(ACK | FIN).down(ACK | FIN).down(ACK | PSH, b"more", mark=True).up(),
+    "text changed": lambda: Talk().open().up(ACK | PSH, b"hello").down(ACK | PSH, b"hello").down(ACK | PSH, b"jello", seq=1, wait=SECOND * 11 // 10, mark=True).up(),
+    "without ACK": lambda: Talk().open().up(ACK | PSH, b"hello").down().down(PSH, b"hello", mark=True).up(),
+    "reserved bits": lambda: Talk().open().echo(reserved=4, mark=True),
+    "urgent": lambda: Talk().open().up(ACK | PSH, b"hello").down(ACK | PSH | URG, b"hello", mark=True).up(),
+    "wrong checksum": lambda: Talk().open().echo().echo().echo(wrong=True, mark=True),
+    "checksums of the card": lambda: Talk().up(SYN, options=MSS).down(SYN | ACK, options=MSS, wrong=True, mark=True).up().echo(wrong=True),
+    "sent again": lambda: Talk().open().up(ACK | PSH, b"hello").down(ACK | PSH, b"hello").up(wait=SECOND * 3 // 2),
+    "sent again early": lambda: Talk().open().up(ACK | PSH, b"hello").down(ACK | PSH, b"hello").down(ACK | PSH, b"hello", seq=1, wait=SECOND // 3, mark=True).up(),
+    "no backoff": lambda: Talk().open().up(ACK | PSH, b"hello").down(ACK | PSH, b"hello").down(ACK | PSH, b"hello", seq=1, wait=SECOND).down(
+        ACK | PSH, b"hello", seq=1, wait=SECOND).down(ACK | PSH, b"hello", seq=1, wait=SECOND, mark=True).up(),
+    "window probed": lambda: Talk().open().up(ACK | PSH, b"hello", window=0).down().down(ACK | PSH, b"h", wait=SECOND // 2, mark=True).down(
+        ACK | PSH, b"h", seq=1, wait=SECOND).down(ACK | PSH, b"h", seq=1, wait=SECOND * 2).up().down(ACK | PSH, b"ello").up(),
+    "window probed without text": lambda: Talk().open().up(ACK | PSH, b"hello", window=0).down().down(seq=0, wait=SECOND, mark=True).up(
+        window=0).up().down(ACK | PSH, b"hello").up(),
+    "window not probed": lambda: Talk().open().up(ACK | PSH, b"hello", window=0, mark=True).down().up(wait=SECOND * 70).down(ACK | PSH, b"hello").up(),
+    "reset": lambda: Talk().open().echo().down(ACK | RST, mark=True),
+    "no reset": lambda: Talk().open().echo().up(RST).up(wait=SECOND),
+    "reset with a wrong number": lambda: Talk().open().echo().down(RST, seq=5_000_000, mark=True),
+    "SYN not challenged": lambda: Talk().open().echo().up(SYN, seq=100, options=MSS, mark=True).up(wait=SECOND),
+    "state at the end": lambda: Talk().open().echo().up(ACK | FIN).down(),
+}
+# What a story has beside its own kind, of what is grave.
+BESIDE = {
+    "no backoff": set(), "window scale over 14": set(), "text changed": set(), "reset with a wrong number": set(),
+    "acknowledged too late": set(), "without ACK": set(),
+}
+CONTROLS = {
+    "echo": lambda: Talk().open().echo().echo(b"x" * 1_460).close(),
+    "discard": lambda: texts().up(ACK | PSH, b"hello").down().close(),
+    "a late half of a second less": lambda: Talk().open().up(ACK | PSH, b"hello").down(ACK | PSH, b"hello", wait=SECOND * 49 // 100).up(),
+    "a far client": lambda: Talk().up(SYN, options=MSS).down(SYN | ACK, options=MSS, wait=SECOND // 2).up(wait=SECOND // 2).up(
+        ACK | PSH, b"hello").down(ACK | PSH, b"hello", wait=SECOND * 6 // 10).up(wait=SECOND // 10),
+    "every second full segment": lambda: texts().up(ACK, b"x" * 1460).up(ACK, b"x" * 1460, wait=50_000).down(wait=50_000),
+    "a probe into a closed window": lambda: Talk().open().up(ACK | PSH, b"hello", window=0).down().down(ACK | PSH, b"h", wait=SECOND).up(),
+    "as large as the client takes": lambda: Talk(asked=b"\x02\x04\x01\xf4").open().echo(b"x" * 500),
+    "up to the window": lambda: Talk(window=300).open().echo(b"x" * 300),
+    "doubled timeouts": lambda: Talk().open().up(ACK | PSH, b"hello").down(ACK | PSH, b"hello").down(ACK | PSH, b"hello", seq=1, wait=SECOND).down(
+        ACK | PSH, b"hello", seq=1, wait=2 * SECOND).down(ACK | PSH, b"hello", seq=1, wait=4 * SECOND).up(),
+    "a reset as an answer": lambda: Talk().open().echo().up(ACK | PSH, b"hello").down(RST, seq=6),
+    "a segment asked for by three acknowledgements": lambda: Talk().open().up(ACK | PSH, b"hello").down(ACK | PSH, b"hello").up(ack=1).up(ack=1).up(
+        ack=1).down(ACK | PSH, b"hello", seq=1).up(),
+}
+
+
+class Kinds(unittest.TestCase):
+    def setUp(self):
+        folder = tempfile.TemporaryDirectory()
+        self.addCleanup(folder.cleanup)
+        self.folder = Path(folder.name)
+
+    def test_there_is_a_story_of_each_kind(self):
+        self.assertEqual(set(STORIES), set(KINDS))
+        self.assertTrue(all(kind.verdict in VERDICTS and kind.section and kind.rule.endswith((".", ")")) for kind in KINDS.values()))
+
+    def test_each_kind(self):
+        for name, story in STORIES.items():
+            with self.subTest(name):
+                talk = story()
+                found, summary, status = lines(talk.save(self.folder))
+                mine = [line for line in found if line["kind"] == name]
+                self.assertEqual(len(mine), 1, found)
+                if talk.marked:
+                    self.assertEqual(mine[0]["frame"], talk.marked)
+                grave = {line["kind"] for line in found if line["verdict"] in GRAVE} - {name}
+                self.assertLessEqual(grave, BESIDE.get(name, set()), found)
+                self.assertEqual(status, int(any(line["verdict"] == "MUST" for line in found)))
+                self.assertEqual(summary["must"], sum(line["count"] for line in found if line["verdict"] == "MUST"))
+
+    def test_what_is_right_has_none(self):
+        for name, story in CONTROLS.items():
+            with self.subTest(name):
+                found, _, status = lines(story().save(self.folder))
+                self.assertEqual([line for line in found if line["verdict"] == "MUST"], [])
+                self.assertEqual(status, 0)
+                if name in ("echo", "discard"):
+                    self.assertEqual(found, [])
+
+
+class Recorded(unittest.TestCase):
+    def setUp(self):
+        folder = tempfile.TemporaryDirectory()
+        self.addCleanup(folder.cleanup)
+        self.folder = Path(folder.name)
+
+    def test_sqrun_beside_itself(self):
+        """Where the captured server is sqrun, nothing differs."""
+        for path in captures():
+            with self.subTest(path.name):
+                report = output(program().split() , path.read_bytes())
+                (self.folder / "a.report").write_bytes(report)
+                (self.folder / "self.pcap").write_bytes(output([TOOLS / "sqpcap", self.folder / "a.report", "--capture", path]))
+                found, summary, status = lines(self.folder / "self.pcap")
+                self.assertEqual((found, summary["must"], status), ([], 0, 0))
+
+    def test_real_servers_break_no_must(self):
+        for path in captures():
+            with self.subTest(path.name):
+                found, summary, status = lines(path)
+                self.assertEqual((status, summary["must"]), (0, 0), [line for line in found if line["verdict"] == "MUST"])
+                self.assertTrue(found)
+
+    def test_the_example(self):
+        """What tshark shows of examples/echo_short.pcap: Linux answers the first text by an ACK and an echo of its own."""
+        found, summary, _ = lines(TOP / "examples" / "echo_short.pcap")
+        apart = {line["connection"]: line["frame"] for line in found if line["kind"] == "acknowledged apart"}
+        self.assertEqual(apart, {0: 7, 1: 17, 2: 32})
+        self.assertEqual({(line["kind"], line["captured"], line["sqrun"]) for line in found if line["kind"] in ("window scale", "timestamps")},
+                         {("window scale", "7", "5"), ("timestamps", "yes", "none")})
+        self.assertEqual([line["connection"] for line in found if line["kind"] == "FIN"], [2])
+        self.assertEqual(summary["connections"], 4)
+
+
+class Shapes(unittest.TestCase):
+    def setUp(self):
+        folder = tempfile.TemporaryDirectory()
+        self.addCleanup(folder.cleanup)
+        self.folder = Path(folder.name)
+        self.path = Talk().open().echo(reserved=4).up(ACK | PSH, b"hello").down().down(ACK, b"hello").up().save(self.folder)
+
+    def said(self, *words, status=1):
+        done = subprocess.run([TOOLS / "sqdiff", "--sqrun", program(), *words], capture_output=True, text=True)
+        self.assertEqual(done.returncode, status, done.stderr)
+        return done.stdout if status < 2 else done.stderr
+
+    def test_text(self):
+        text = self.said(self.path)
+        self.assertIn("10.0.0.1:4000 -> 10.0.0.2:7 (connection 0, echo)", text)
+        self.assertRegex(text, r"MUST     reserved bits: frame 5 at [\d.]+ .s: captured: 0100; sqrun: 0000 \[RFC 9293, 3\.1\]")
+        self.assertRegex(text, r"(?s)summary.*MUST +reserved bits +1 connection +1 time +RFC 9293, 3\.1")
+
+    def test_must_alone_and_chosen_connections(self):
+        text = self.said("--must", self.path)
+        self.assertNotIn("PSH", text)
+        self.assertIn("reserved bits", text)
+        self.assertIn("there are 1", self.said("--conn", "1", self.path, status=2))
+
+    def test_kinds(self):
+        text = self.said("--kinds", status=0)
+        for kind in KINDS.values():
+            self.assertRegex(text, rf"(?m)^{kind.verdict} +{re.escape(kind.name)} +{re.escape(kind.section)}$")
+
+    def test_refusals(self):
+        self.assertIn("name a capture", self.said(status=2))
+        (self.folder / "text").write_text("no capture at all, but text")
+        self.assertIn("magic", self.said(self.folder / "text", status=6))
+
+    def test_a_port_turned(self):
+        talk = Talk(8080).open().up(ACK | PSH, b"GET").down(ACK | PSH, b"200").up()
+        found, _, _ = lines(talk.save(self.folder), "--port", "8080=7")
+        self.assertEqual([line["kind"] for line in found], ["text"])
+
+    def test_page(self):
+        """The page is whole, has an anchor for each link, both servers' arrows, and nothing that runs or is loaded."""
+        page = self.said("--page", self.path)
+        seen = Elements()
+        seen.feed(page)
+        self.assertEqual(seen.open, [])
+        self.assertLessEqual({link[1:] for link in seen.links}, seen.names)
+        self.assertNotIn("script", seen.tags)
+        self.assertIn("default-src 'none'", page)
+        self.assertIn("Nothing on this page is proved", page)
+        self.assertIn("· frame 5", page)
+        self.assertEqual(page.count('class="arrow segment '), 2 * 6)
+        self.assertEqual(page.count('class="arrow reply'), 4 + 3)
+
+    def test_page_in_a_browser(self):
+        need(COMMAND)
+        (self.folder / "a.html").write_text(self.said("--page", self.path), encoding="utf-8")
+        browser = Browser()
+        self.addCleanup(browser.close)
+        browser.open(self.folder / "a.html")
+        self.assertEqual(browser.complaints(), [])
+        box = browser.box("svg.fig")
+        self.assertGreater(box["width"], 600)
+        self.assertGreater(box["height"], 300)
+
+
+class Elements(HTMLParser):
+    """Tags that are open, and names and links."""
+
+    def __init__(self):
+        super().__init__()
+        self.open, self.names, self.links, self.tags = [], set(), set(), set()
+
+    def handle_starttag(self, tag, attributes):
+        self.tags.add(tag)
+        held = dict(attributes)
+        self.names |= {held["id"]} if "id" in held else set()
+        self.links |= {held["href"]} if "href" in held else set()
+        if tag in ("section", "svg", "g", "table", "div", "details"):
+            self.open.append(tag)
+
+    def handle_endtag(self, tag):
+        if tag in ("section", "svg", "g", "table", "div", "details"):
+            assert self.open.pop() == tag
+
+
+if __name__ == "__main__":
+    unittest.main()
