@@ -120,6 +120,19 @@ impl Calls {
         }
     }
 
+    /// The connection of each call, by thread. Fails only for want of memory.
+    pub fn conns(&self, alloc: Global) -> Result<Vec<Vec<u32>>, AllocError> {
+        let mut all = Vec::with_capacity(alloc, 4)?;
+        for j in 0..4 {
+            let mut row = Vec::with_capacity(alloc, self.thread(j).len())?;
+            for call in self.thread(j) {
+                row.push_reserved(call.0);
+            }
+            all.push_reserved(row);
+        }
+        Ok(all)
+    }
+
     /// How many calls are on connection `c`.
     pub fn count_on(&self, c: u32) -> usize
         ensures value { result ≡ calls_on self.now c }

@@ -11,7 +11,6 @@ ghost use Rattle.stream_blocks.specs.Standing.{limits_of, origin_of};
 ghost use Rattle.datagram_services.specs.Settings.{AreSet, HasRun};
 ghost use Rattle.datagram_services.specs.Lines.{IsStreamList};
 
-use conn_blocks::Calls;
 use perimeter_core::Hook;
 use ring_jobs::{Line, Task, run_job};
 use ring_quotas::Setup;
@@ -47,14 +46,13 @@ pub fn run<H: Hook + Sync, W: Threads + Wait + Sync>(
     ensures lent { AreLent (MayEnd limits_of) 1 setup.now.rings squeues.now (lent_to jobs.new) }
     ensures count { length jobs.new ≡ length jobs.old }
 {
-    let none = Calls::make(alloc);
     run_all(
         rt,
         alloc,
         hook,
         squeues,
         hints,
-        &none,
+        &[],
         setup.pace(),
         lines,
         jobs,
@@ -68,7 +66,7 @@ fn run_all<H: Hook + Sync, W: Threads + Wait + Sync>(
     hook: &H,
     squeues: &[Squeue<StreamBlocks<'_>>],
     hints: &Hints,
-    calls: &Calls,
+    calls: &[Vec<u32>],
     pace: Pace,
     lines: &[Line],
     jobs: &mut [Job<Task>],

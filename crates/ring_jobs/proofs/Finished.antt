@@ -9,7 +9,6 @@ use Rattle.perimeter_core.specs.History.{Element, Limits, run}
 use Rattle.perimeter_core.specs.Ending.{IsOver}
 use Rattle.squeue_state.specs.Naming.{Named, setting_of}
 use Rattle.squeue_state.specs.Elements.{number_of}
-use Rattle.conn_blocks.specs.CallLists.{CallLists}
 use Rattle.squeue_serve.specs.declared.jobs.Job.{Job}
 use Rattle.squeue_serve.specs.Lending.{AreLent, lent_to, tasks_in}
 use Rattle.squeue_serve.specs.Places.{AtEach, Holds, IsNew, MayEnd}
@@ -43,7 +42,7 @@ module _ {R : Type 0} (limits : R → Limits) where
   abbrev HasEnd : Named R → Pass Element → Type 0
   HasEnd s x = IsOver (setting_of limits s.given) (run (setting_of limits s.given) (seen x))
 
-  module _ (squeues spread : ℕ) (mode : Mode) (budget : ℕ) (calls : CallLists) (lines : List Line) (ss : List (Named R)) (jobs new : List (Job Task)) where
+  module _ (squeues spread : ℕ) (mode : Mode) (budget : ℕ) (calls : List (List ℕ)) (lines : List Line) (ss : List (Named R)) (jobs new : List (Job Task)) where
     abbrev Done : Task → List (Option (Pass Element)) → List (Option (Pass Element)) → Type 0
     Done t old now = HasDone limits squeues spread mode budget calls lines ss t old now
 
@@ -138,7 +137,7 @@ module _ {R : Type 0} (limits : R → Limits) where
               ss (lent_to new (1 + (rings + j))) (each_two (λ (s : Named R). s.given.rings ≡ rings) (λ (s : Named R). length s.given.quotas ≡ count) ss their_rings lent.counts) (caller_done j lt).each
 
   -- the same at equal numbers
-  pub at_pace : (calls : CallLists) (lines : List Line) (ss : List (Named R)) (jobs new : List (Job Task)) (m n : ℕ) (o : Mode) (k squeues spread : ℕ) (mode : Mode) (budget : ℕ) → m ≡ squeues → n ≡ spread → o ≡ mode → k ≡ budget
+  pub at_pace : (calls : List (List ℕ)) (lines : List Line) (ss : List (Named R)) (jobs new : List (Job Task)) (m n : ℕ) (o : Mode) (k squeues spread : ℕ) (mode : Mode) (budget : ℕ) → m ≡ squeues → n ≡ spread → o ≡ mode → k ≡ budget
       → HaveDone limits m n o k calls lines ss jobs new → HaveDone limits squeues spread mode budget calls lines ss jobs new
   at_pace calls lines ss jobs new m n o k squeues spread mode budget a b u v h =
       let Of : ℕ → ℕ → Mode → ℕ → Type 0 = λ m n o k. HaveDone limits m n o k calls lines ss jobs new in

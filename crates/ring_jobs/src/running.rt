@@ -1,5 +1,5 @@
 //! What the threads of a run do, each its job.
-ghost use Rattle.std.specs.Prelude.{◌≡◌, ◌<◌, length};
+ghost use Rattle.std.specs.Prelude.{◌≡◌, ◌<◌, length, map};
 ghost use Rattle.synch_enter.specs.Hinting.{conns_of, squeues_of};
 ghost use Rattle.squeue_rings.specs.Bringing.{AllBelow, AreAt, AreOneRun};
 ghost use Rattle.squeue_rings.specs.Calling.{CallersAt, conns_called};
@@ -10,7 +10,6 @@ ghost use Rattle.ring_jobs.specs.Running.{HasBroughtLine, HasDone, MayBringLine,
 use crate::feeding::feed_all;
 use crate::lines::Line;
 use crate::task::{RingTask, Task};
-use conn_blocks::Calls;
 use perimeter_core::{Hook, Resident};
 use squeue_rings::{Pace, bring_all, make_calls};
 use squeue_serve::{Job, close_all, work};
@@ -26,7 +25,7 @@ pub fn run_job<R: Resident, H: Hook, W: Wait>(
     hook: &H,
     squeues: &[Squeue<R>],
     hints: &Hints,
-    calls: &Calls,
+    calls: &[Vec<u32>],
     pace: Pace,
     lines: &[Line],
     job: &mut Job<Task>,
@@ -34,8 +33,8 @@ pub fn run_job<R: Resident, H: Hook, W: Wait>(
     requires run { AreOneRun R.origin pace.homes.squeues squeues.now }
     requires hints { AllBelow (conns_of hints.now) squeues.now × (squeues_of hints.now ≡ pace.homes.squeues) }
     requires lines { HaveRings lines.now }
-    requires ready { MayDo R.limits pace.homes.squeues pace.homes.spread calls.now lines.now squeues.now job.old.task job.old.places.items }
-    ensures { HasDone R.limits pace.homes.squeues pace.homes.spread pace.mode pace.budget calls.now lines.now squeues.now
+    requires ready { MayDo R.limits pace.homes.squeues pace.homes.spread (map (λ v. v.items) calls.now) lines.now squeues.now job.old.task job.old.places.items }
+    ensures { HasDone R.limits pace.homes.squeues pace.homes.spread pace.mode pace.budget (map (λ v. v.items) calls.now) lines.now squeues.now
         job.old.task job.old.places.items job.new.places.items }
 {
     let places = &mut job.places;
@@ -117,15 +116,24 @@ fn call<R: Resident, H: Hook, W: Wait>(
     hook: &H,
     squeues: &[Squeue<R>],
     hints: &Hints,
-    calls: &Calls,
+    calls: &[Vec<u32>],
     thread: u32,
     places: &mut Vec<Option<Pass>>,
 )
     requires some { 0 < length squeues.now }
     requires hints { AllBelow (conns_of hints.now) squeues.now × (squeues_of hints.now ≡ length squeues.now) }
-    requires ready { MayCallAll R.limits calls.now squeues.now thread places.old.items }
-    ensures { ThenClosed R.limits squeues.now (CallersAt R.limits thread (conns_called calls.now thread) squeues.now) places.new.items }
+    requires ready { MayCallAll R.limits (map (λ v. v.items) calls.now) squeues.now thread places.old.items }
+    ensures { ThenClosed R.limits squeues.now (CallersAt R.limits thread (conns_called (map (λ v. v.items) calls.now) thread) squeues.now) places.new.items }
 {
-    make_calls(rt, alloc, hook, squeues, hints, calls, thread, places);
+    make_calls(
+        rt,
+        alloc,
+        hook,
+        squeues,
+        hints,
+        &calls[thread as usize],
+        thread,
+        places,
+    );
     close_all(rt, squeues, places);
 }

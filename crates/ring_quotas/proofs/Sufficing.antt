@@ -16,7 +16,7 @@ use Rattle.conn_classifier.specs.RingList.{IsRingList}
 use Rattle.tcb_machine.specs.declared.kinds.Call.{Call}
 use Rattle.conn_blocks.specs.Allowed.{all_calls, limits_in}
 use Rattle.conn_blocks.specs.CallLists.{CallLists, calls_of}
-use Rattle.conn_blocks.specs.Homes.{times_leaving}
+use Rattle.placed_parts.specs.Homes.{times_leaving}
 use Rattle.conn_blocks.proofs.Named.{call_is_named}
 use Rattle.squeue_rings.specs.Rings.{MayBring}
 use Rattle.squeue_rings.specs.Calling.{MayMake, MayMakeEach, asks_for, conns_called}

@@ -55,13 +55,14 @@ pub fn serve<H: Hook + Sync, W: Threads + Wait + Sync>(
     ensures { IfOk result (λ v. HasServed plan.now calls.now setup.now v) }
 {
     let hints = Hints::make(alloc, plan.conns(), setup.squeues)?;
+    let conns = calls.conns(alloc)?;
     let rings = lines_of(alloc, plan, setup.rings)?;
     let (lines, tasks) = tasks_of(alloc, rings, CALLERS, setup.squeues)?;
     let gathered = Gathered::with_room(alloc, plan.conns(), setup.squeues)?;
     let jobs = jobs_of(alloc, tasks, setup.squeues as usize)?;
     match Squeues::with_room(alloc, setup.squeues as usize) {
         Ok(squeues) => serve_by(
-            rt, alloc, plan, calls, setup, hook, &hints, &lines, gathered, jobs, squeues,
+            rt, alloc, plan, calls, &conns, setup, hook, &hints, &lines, gathered, jobs, squeues,
         ),
         Err(error) => {
             discard(jobs);
@@ -76,6 +77,7 @@ fn serve_by<'p, H: Hook + Sync, W: Threads + Wait + Sync>(
     alloc: Global,
     plan: &'p Plan<'_>,
     calls: &'p Calls,
+    conns: &[Vec<u32>],
     setup: &Setup,
     hook: &H,
     hints: &Hints,
@@ -110,6 +112,7 @@ fn serve_by<'p, H: Hook + Sync, W: Threads + Wait + Sync>(
         plan,
         hints,
         calls,
+        conns,
         setup,
         lines,
         &mut jobs,
@@ -139,6 +142,7 @@ fn run_or_end<H: Hook + Sync, W: Threads + Wait + Sync>(
     plan: &Plan<'_>,
     hints: &Hints,
     calls: &Calls,
+    conns: &[Vec<u32>],
     setup: &Setup,
     lines: &[Line],
     jobs: &mut Vec<Job<Task>>,
@@ -157,7 +161,7 @@ fn run_or_end<H: Hook + Sync, W: Threads + Wait + Sync>(
 {
     match made {
         Ok(()) => run(
-            rt, alloc, hook, squeues, plan, hints, calls, setup, lines, jobs,
+            rt, alloc, hook, squeues, plan, hints, calls, conns, setup, lines, jobs,
         ),
         Err(_) => run_unused(rt, alloc, hook, squeues, jobs, FRONT, count_of(setup)),
     }
