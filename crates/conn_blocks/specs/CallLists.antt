@@ -1,5 +1,5 @@
 -- The calls of the application threads: by thread, and each thread's in order.
-use Rattle.std.specs.Prelude.{ℕ, ◌+◌, List, [], ◌∷◌, length, get_or, slice_get, Option}
+use Rattle.std.specs.Prelude.{ℕ, ◌+◌, List, [], ◌∷◌, length, map, get_or, slice_get, Option}
 use Rattle.tcb_machine.specs.declared.kinds.Call.{Call}
 
 -- by thread: each call's connection, and what is asked
@@ -8,6 +8,14 @@ CallLists = List (List (ℕ × Call))
 
 abbrev pub calls_of : CallLists → ℕ → List (ℕ × Call)
 calls_of calls j = get_or calls j []
+
+-- the connections of the calls of thread j, in order
+abbrev pub conns_called : CallLists → ℕ → List ℕ
+conns_called calls j = map (λ x. x.0) (calls_of calls j)
+
+-- those of each thread
+abbrev pub conns_of_each : CallLists → List (List ℕ)
+conns_of_each calls = map (λ l. map (λ x. x.0) l) calls
 
 -- call k of thread j
 abbrev pub call_at : CallLists → ℕ → ℕ → Option (ℕ × Call)

@@ -14,7 +14,6 @@ use Rattle.squeue_serve.specs.Lending.{AreLent, lent_to, tasks_in}
 use Rattle.squeue_serve.specs.Places.{AtEach, Holds, IsNew, MayEnd}
 use Rattle.squeue_serve.proofs.Lent.{lent_got, past_jobs, some_at}
 use Rattle.squeue_enter.specs.declared.Mode.{Mode}
-use Rattle.squeue_rings.specs.Calling.{conns_called}
 use Rattle.squeue_rings.specs.Keeping.{ArePaced}
 use Rattle.squeue_rings.proofs.PacedAll.{closed_paced}
 use Rattle.squeue_rings.proofs.Slots.{got_map}
@@ -22,7 +21,7 @@ use Rattle.ring_jobs.specs.declared.lines.Line.{Line}
 use Rattle.ring_jobs.specs.declared.task.Task.{Task}
 use Rattle.ring_jobs.specs.declared.task.Task.TheVariants as Task'
 use Rattle.ring_jobs.specs.Ends.{CallerEnds, CallersEnd, RingEnds, RingsEnd}
-use Rattle.ring_jobs.specs.Running.{HasBroughtLine, HasDone, HaveDone, ThenClosed}
+use Rattle.ring_jobs.specs.Running.{HasBroughtLine, HasDone, HaveDone, ThenClosed, called_by}
 use Rattle.ring_jobs.specs.Tasks.{AreTasks, lists_of}
 use Rattle.ring_jobs.proofs.Closes.{both}
 use Rattle.ring_jobs.proofs.Closing.{callers_end, rings_end}
@@ -81,11 +80,11 @@ module _ {R : Type 0} (limits : R → Limits) where
       ring_paced r lt = let h = line_done r lt in closed_paced limits squeues spread mode budget r ss (lists_of lines r) (lists_of lines r) h.0 (lent_to new (1 + r)) h.1.at h.2 h.1.paced
 
       -- each application thread has made its calls
-      pub caller_done : (j : ℕ) → j < callers → CallersEnd j (conns_called calls j) ss (lent_to new (1 + (rings + j)))
+      pub caller_done : (j : ℕ) → j < callers → CallersEnd j (called_by calls j) ss (lent_to new (1 + (rings + j)))
       caller_done j lt =
           let n = number_of_jobs in
           let h = done (1 + (rings + j)) (Task'.Call j) (omega (arith, lt, n, all)) (tasks.callers_are j lt) in
-          callers_end limits ss h.0 (lent_to new (1 + (rings + j))) h.2 j (conns_called calls j) h.1
+          callers_end limits ss h.0 (lent_to new (1 + (rings + j))) h.2 j (called_by calls j) h.1
 
       worker_done : (q : ℕ) (s : Named R) → slice_get ss q ≡ Some s → (x : Pass Element) × (lent_to new (1 + count + q) ≡ Some x ∷ []) × MayEnd limits count s x
       worker_done q s at =

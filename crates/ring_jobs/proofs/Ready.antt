@@ -13,7 +13,7 @@ use Rattle.squeue_serve.proofs.Coming.{each_got}
 use Rattle.squeue_serve.proofs.Lent.{lent_got, some_at}
 use Rattle.squeue_serve.proofs.Unused.{each_at}
 use Rattle.squeue_rings.specs.Bringing.{AreAt, AreOneRun, MayBringAll}
-use Rattle.squeue_rings.specs.Calling.{MayMakeEach, conns_called}
+use Rattle.squeue_rings.specs.Calling.{MayMakeEach}
 use Rattle.squeue_rings.specs.Starts.{StartAtHome}
 use Rattle.squeue_rings.proofs.NewCallers.{new_callers}
 use Rattle.squeue_rings.proofs.Slots.{got_map}
@@ -22,7 +22,7 @@ use Rattle.ring_jobs.specs.declared.lines.Line.{Line}
 use Rattle.ring_jobs.specs.declared.task.RingTask.{RingTask}
 use Rattle.ring_jobs.specs.declared.task.Task.{Task}
 use Rattle.ring_jobs.specs.declared.task.Task.TheVariants as Task'
-use Rattle.ring_jobs.specs.Running.{MayBringLine, MayCallAll, MayDo, MayDoAll}
+use Rattle.ring_jobs.specs.Running.{MayBringLine, MayCallAll, MayDo, MayDoAll, called_by}
 use Rattle.ring_jobs.specs.Tasks.{AreTasks, IsRingTask}
 use Rattle.ring_jobs.proofs.Closes.{both}
 use Rattle.ring_jobs.proofs.Works.{got_or}
@@ -41,7 +41,7 @@ module _ (rings callers count squeues : ℕ) (all : rings + callers ≡ count) (
 
   module _ {R O : Type 0} (limits : R → Limits) (origin : R → O) (spread : ℕ) (calls : List (List ℕ)) (ss : List (Named R)) (one : AreOneRun origin squeues ss) (some : 1 ≤ squeues) (lent : AreLent IsNew 1 count ss (lent_to jobs))
       (their_rings : Each (λ (s : Named R). s.given.rings ≡ rings) ss) (starts : StartAtHome limits squeues ss) (may_bring : (r : ℕ) (l : Line) → r < rings → slice_get lines r ≡ Some l → MayBringAll limits squeues spread r l.list.items ss)
-      (few : callers ≤ length calls) (short : (j : ℕ) → length (conns_called calls j) < 2 ^ 32) (may_make : (j : ℕ) → j < callers → MayMakeEach limits j (conns_called calls j) ss) where
+      (few : callers ≤ length calls) (short : (j : ℕ) → length (called_by calls j) < 2 ^ 32) (may_make : (j : ℕ) → j < callers → MayMakeEach limits j (called_by calls j) ss) where
     abbrev May : Task → List (Option (Pass Element)) → Type 0
     May t places = MayDo limits squeues spread calls lines ss t places
 

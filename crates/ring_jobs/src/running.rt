@@ -2,10 +2,10 @@
 ghost use Rattle.std.specs.Prelude.{◌≡◌, ◌<◌, length, map};
 ghost use Rattle.synch_enter.specs.Hinting.{conns_of, squeues_of};
 ghost use Rattle.squeue_rings.specs.Bringing.{AllBelow, AreAt, AreOneRun};
-ghost use Rattle.squeue_rings.specs.Calling.{CallersAt, conns_called};
+ghost use Rattle.squeue_rings.specs.Calling.{CallersAt};
 ghost use Rattle.squeue_rings.specs.Keeping.{ArePaced};
 ghost use Rattle.ring_jobs.specs.Tasks.{HaveRings, lists_of};
-ghost use Rattle.ring_jobs.specs.Running.{HasBroughtLine, HasDone, MayBringLine, MayCallAll, MayDo, ThenClosed};
+ghost use Rattle.ring_jobs.specs.Running.{HasBroughtLine, HasDone, MayBringLine, MayCallAll, MayDo, ThenClosed, called_by};
 
 use crate::feeding::feed_all;
 use crate::lines::Line;
@@ -123,7 +123,7 @@ fn call<R: Resident, H: Hook, W: Wait>(
     requires some { 0 < length squeues.now }
     requires hints { AllBelow (conns_of hints.now) squeues.now × (squeues_of hints.now ≡ length squeues.now) }
     requires ready { MayCallAll R.limits (map (λ v. v.items) calls.now) squeues.now thread places.old.items }
-    ensures { ThenClosed R.limits squeues.now (CallersAt R.limits thread (conns_called (map (λ v. v.items) calls.now) thread) squeues.now) places.new.items }
+    ensures { ThenClosed R.limits squeues.now (CallersAt R.limits thread (called_by (map (λ v. v.items) calls.now) thread) squeues.now) places.new.items }
 {
     make_calls(
         rt,

@@ -1,5 +1,5 @@
 -- What a caller needs and knows: an application thread, which makes its calls one after another, each where its block is.
-use Rattle.std.specs.Prelude.{◌≡◌, ◌⊎◌, ℕ, ◌+◌, ◌<◌, ◌≤◌, Bool, true, false, Contains, Option, Some, List, [], ◌∷◌, get_or, length, slice_get, slice_index, take}
+use Rattle.std.specs.Prelude.{◌≡◌, ◌⊎◌, ℕ, ◌+◌, ◌<◌, ◌≤◌, Bool, true, false, Contains, Option, Some, List, [], ◌∷◌, length, slice_get, slice_index, take}
 use Rattle.turn_gate.specs.Passes.{IsPassOf, number, seen}
 use Rattle.turn_gate.specs.declared.pass.Pass.{Pass}
 use Rattle.perimeter_core.specs.declared.marks.SynchAct.TheVariants as Done
@@ -80,7 +80,3 @@ module _ {R : Type 0} (limits : R → Limits) (j : ℕ) where
   -- and each call on these connections, one after another
   abbrev pub MayMakeEach : List ℕ → List (Named R) → Type 0
   MayMakeEach conns ss = (k : ℕ) (c : ℕ) → slice_get conns k ≡ Some c → MayMakeAll k (take k conns) c ss
-
--- the connections of the calls of thread j, in order, where those of each thread are given
-abbrev pub conns_called : List (List ℕ) → ℕ → List ℕ
-conns_called calls j = get_or calls j []
