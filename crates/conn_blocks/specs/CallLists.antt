@@ -1,6 +1,7 @@
 -- The calls of the application threads: by thread, and each thread's in order.
-use Rattle.std.specs.Prelude.{ℕ, ◌+◌, List, [], ◌∷◌, length, map, get_or, slice_get, Option}
+use Rattle.std.specs.Prelude.{◌≡◌, ℕ, ◌+◌, ◌≤◌, List, [], ◌∷◌, length, map, get_or, slice_get, Option}
 use Rattle.tcb_machine.specs.declared.kinds.Call.{Call}
+use Rattle.conn_blocks.specs.Limits.{callers, most_calls}
 
 -- by thread: each call's connection, and what is asked
 abbrev pub CallLists : Type 0
@@ -13,9 +14,11 @@ calls_of calls j = get_or calls j []
 abbrev pub conns_called : CallLists → ℕ → List ℕ
 conns_called calls j = map (λ x. x.0) (calls_of calls j)
 
--- those of each thread
-abbrev pub conns_of_each : CallLists → List (List ℕ)
-conns_of_each calls = map (λ l. map (λ x. x.0) l) calls
+-- the same of all threads: there are few
+pub record AreConnsOf (calls : CallLists) (conns : List (List ℕ)) : Type 0 where
+  pub are : conns ≡ map (λ l. map (λ x. x.0) l) calls
+  pub threads : length conns ≡ callers
+  pub few : (j : ℕ) → length (get_or conns j []) ≤ most_calls
 
 -- call k of thread j
 abbrev pub call_at : CallLists → ℕ → ℕ → Option (ℕ × Call)

@@ -1,7 +1,7 @@
 //! The calls that the application threads make.
 
 ghost use Rattle.std.specs.Prelude.{◌≡◌, ℕ, ◌<◌, ◌≤◌, [], ◌∷◌, ◌++◌, length, map, set, Some, IfOk, OnOk, OnErr};
-ghost use Rattle.conn_blocks.specs.CallLists.{calls_of, call_at, call_count, conns_of_each};
+ghost use Rattle.conn_blocks.specs.CallLists.{AreConnsOf, calls_of, call_at, call_count};
 ghost use Rattle.conn_blocks.specs.Holding.{calls_on};
 ghost use Rattle.conn_blocks.specs.Limits.{callers, most_calls};
 ghost use Rattle.conn_blocks.specs.Orders.{numbers_from};
@@ -133,7 +133,7 @@ impl Calls {
 
     /// The connection of each call, by thread. Fails only for want of memory.
     pub fn conns(&self, alloc: Global) -> Result<Vec<Vec<u32>>, AllocError>
-        ensures { IfOk result (λ v. map (λ row. row.items) v.items ≡ conns_of_each self.now) }
+        ensures { IfOk result (λ v. AreConnsOf self.now (map (λ row. row.items) v.items)) }
     {
         let first = conns_of(alloc, &self.first)?;
         let second = conns_of(alloc, &self.second)?;

@@ -1,5 +1,5 @@
 //! How the threads of a run are set to work.
-ghost use Rattle.std.specs.Prelude.{◌≡◌, length};
+ghost use Rattle.std.specs.Prelude.{◌≡◌, length, map};
 ghost use Rattle.synch_enter.specs.Hinting.{conns_of, squeues_of};
 ghost use Rattle.squeue_serve.specs.Lending.{AreLent, lent_to, tasks_in};
 ghost use Rattle.squeue_serve.specs.Places.{IsNew, MayEnd};
@@ -74,8 +74,8 @@ fn run_all<H: Hook + Sync, W: Threads + Wait + Sync>(
     requires run { AreOneRun origin_of pace.homes.squeues squeues.now }
     requires hints { AllBelow (conns_of hints.now) squeues.now × (squeues_of hints.now ≡ pace.homes.squeues) }
     requires lines { HaveRings lines.now }
-    requires ready { MayDoAll limits_of pace.homes.squeues pace.homes.spread calls.now lines.now squeues.now jobs.old }
-    ensures { HaveDone limits_of pace.homes.squeues pace.homes.spread pace.mode pace.budget calls.now lines.now squeues.now jobs.old jobs.new }
+    requires ready { MayDoAll limits_of pace.homes.squeues pace.homes.spread (map (λ v. v.items) calls.now) lines.now squeues.now jobs.old }
+    ensures { HaveDone limits_of pace.homes.squeues pace.homes.spread pace.mode pace.budget (map (λ v. v.items) calls.now) lines.now squeues.now jobs.old jobs.new }
 {
     run_each(
         rt,

@@ -1,7 +1,8 @@
 //! All connections of a plan, served by threads over squeues.
-ghost use Rattle.std.specs.Prelude.{◌≡◌, ◌<◌, ◌≤◌, ◌+◌, [], All, IfOk, length, vec_capacity};
+ghost use Rattle.std.specs.Prelude.{◌≡◌, ◌<◌, ◌≤◌, ◌+◌, [], All, IfOk, length, map, vec_capacity};
 ghost use Rattle.conn_classifier.specs.RingList.{IsRingList};
 ghost use Rattle.conn_blocks.specs.Allowed.{all_calls};
+ghost use Rattle.conn_blocks.specs.CallLists.{AreConnsOf};
 ghost use Rattle.conn_blocks.specs.Limits.{callers};
 ghost use Rattle.conn_blocks.specs.Places.{limits_of};
 ghost use Rattle.synch_enter.specs.Hinting.{conns_of, squeues_of};
@@ -88,6 +89,7 @@ fn serve_by<'p, H: Hook + Sync, W: Threads + Wait + Sync>(
 ) -> Result<Served, AllocError>
     requires setup { IsInRange setup.now }
     requires calls { All (λ call. call.0 < length plan.now.tuples) (all_calls calls.now) }
+    requires conns { AreConnsOf calls.now (map (λ v. v.items) conns.now) }
     requires hints { (conns_of hints.now ≡ length plan.now.tuples) × (squeues_of hints.now ≡ setup.now.squeues) }
     requires lines { AreLines (IsRingList plan.now setup.now.rings) setup.now.rings lines.now }
     requires tasks { AreTasks setup.now.rings 4 setup.now.squeues lines.now (tasks_in jobs.items) }
@@ -149,6 +151,7 @@ fn run_or_end<H: Hook + Sync, W: Threads + Wait + Sync>(
 )
     requires setup { IsInRange setup.now }
     requires calls { All (λ call. call.0 < length plan.now.tuples) (all_calls calls.now) }
+    requires conns { AreConnsOf calls.now (map (λ v. v.items) conns.now) }
     requires hints { (conns_of hints.now ≡ length plan.now.tuples) × (squeues_of hints.now ≡ setup.now.squeues) }
     requires set { IfOk made.now (λ _. AreSet plan.now calls.now setup.now.squeues setup.now.rings setup.now.spread squeues.now) }
     requires few { length squeues.now ≤ setup.now.squeues }
