@@ -18,7 +18,8 @@ use std::alloc::Global;
 use std::sync::Wait;
 use synch_enter::Hints;
 
-/// Does one job of those of new squeues. A worker waits for the others, so the workers stand last.
+/// Does one job of those of new squeues. A worker waits for the others, so the workers stand last. `calls` has the connection of each
+/// call, by thread.
 pub fn run_job<R: Resident, H: Hook, W: Wait>(
     rt: &W,
     alloc: Global,
