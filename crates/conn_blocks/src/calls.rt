@@ -1,7 +1,7 @@
 //! The calls that the application threads make.
 
-ghost use Rattle.std.specs.Prelude.{◌≡◌, ℕ, ◌<◌, ◌≤◌, [], ◌∷◌, ◌++◌, length, set, Some, OnOk, OnErr};
-ghost use Rattle.conn_blocks.specs.CallLists.{calls_of, call_at, call_count};
+ghost use Rattle.std.specs.Prelude.{◌≡◌, ℕ, ◌<◌, ◌≤◌, [], ◌∷◌, ◌++◌, length, map, set, Some, IfOk, OnOk, OnErr};
+ghost use Rattle.conn_blocks.specs.CallLists.{AreConnsOf, calls_of, call_at, call_count};
 ghost use Rattle.conn_blocks.specs.Holding.{calls_on};
 ghost use Rattle.conn_blocks.specs.Limits.{callers, most_calls};
 ghost use Rattle.conn_blocks.specs.Orders.{numbers_from};
@@ -55,6 +55,17 @@ fn count_of(thread: &[(u32, Call)], c: u32) -> usize
         }
     }
     count
+}
+
+/// The connection of each of a thread's calls.
+fn conns_of(alloc: Global, thread: &[(u32, Call)]) -> Result<Vec<u32>, AllocError>
+    ensures { IfOk result (λ v. v.items ≡ map (λ x. x.0) thread.now) }
+{
+    let mut conns = Vec::with_capacity(alloc, thread.len())?;
+    for call in thread {
+        conns.push_reserved(call.0);
+    }
+    Ok(conns)
 }
 
 impl Calls {
@@ -118,6 +129,17 @@ impl Calls {
             2 => self.third.as_slice(),
             _ => self.fourth.as_slice(),
         }
+    }
+
+    /// The connection of each call, by thread. Fails only for want of memory.
+    pub fn conns(&self, alloc: Global) -> Result<Vec<Vec<u32>>, AllocError>
+        ensures { IfOk result (λ v. AreConnsOf self.now (map (λ row. row.items) v.items)) }
+    {
+        let first = conns_of(alloc, &self.first)?;
+        let second = conns_of(alloc, &self.second)?;
+        let third = conns_of(alloc, &self.third)?;
+        let fourth = conns_of(alloc, &self.fourth)?;
+        Ok(Vec::from_array(alloc, [first, second, third, fourth])?)
     }
 
     /// How many calls are on connection `c`.
