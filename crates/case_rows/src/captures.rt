@@ -393,10 +393,11 @@ impl Maker {
             &[0x45, 0, high, low, 0, 0, 0x40, 0, 64, protocol, 0, 0],
             &from,
             &to,
-            header,
-            options,
-            text,
-        ])
+        ])?;
+        self.bytes.extend_from_slice(header)?;
+        self.bytes.extend_from_slice(options)?;
+        self.bytes.extend_from_slice(text)?;
+        Ok(())
     }
 }
 

@@ -32,5 +32,5 @@ pub use captures::bytes_of;
 pub use comparing::{expect_bytes, expect_lines, expect_number, expect_text};
 pub use fault::Fault;
 pub use reading::{Broken, Wrong, rows_of};
-pub use rows::{Field, Row};
+pub use rows::{Field, Row, words_of};
 pub use running::{Cases, run_cases};

@@ -1,7 +1,7 @@
 //! A row and its fields. Both are parts of the text that they were read from.
 
 use crate::fault::Fault;
-use std::alloc::Global;
+use std::alloc::{AllocError, Global};
 
 /// Lines with a name.
 #[derive(Debug, Drop)]
@@ -36,8 +36,13 @@ impl<'a> Row<'a> {
     }
 
     /// The lines of a field, or none where the row hasn't it.
-    pub fn lines(&self, name: &str) -> &[&'a str] {
-        named(&self.fields, name).unwrap_or(&[])
+    pub fn lines<'s>(&'s self, name: &str) -> &'s [&'a str] {
+        for field in &self.fields {
+            if field.name == name {
+                return field.lines.as_slice();
+            }
+        }
+        &[]
     }
 
     /// The only line of a field, or `other` where the row hasn't the field. An error where the field has no line, or several.
@@ -75,26 +80,6 @@ impl<'a> Row<'a> {
         Ok(numbers)
     }
 
-    /// The words of a field, between blanks; none where the row hasn't the field. A line beginning with `|` has the words between bars, and so may have
-    /// words that are empty or have blanks.
-    pub fn words(&self, alloc: Global, name: &str) -> Result<Vec<String>, Fault> {
-        let mut words = Vec::new(alloc);
-        let line = self.text(alloc, name, "")?;
-        match line.strip_prefix('|') {
-            Some(line) => {
-                for word in line.split('|') {
-                    words.push(String::from_str(alloc, word)?)?;
-                }
-            }
-            None => {
-                for word in line.split_ascii_whitespace() {
-                    words.push(String::from_str(alloc, word)?)?;
-                }
-            }
-        }
-        Ok(words)
-    }
-
     /// An error where the row has a field that isn't among these.
     pub fn expect_fields(&self, alloc: Global, known: &[&str]) -> Result<(), Fault> {
         for field in &self.fields {
@@ -105,4 +90,18 @@ impl<'a> Row<'a> {
         }
         Ok(())
     }
+}
+
+/// The words of a line, between blanks; or between bars where the line has any, so that words may be empty or have blanks. `none` stands
+/// for no words.
+pub fn words_of(alloc: Global, line: &str) -> Result<Vec<String>, AllocError> {
+    let mut words = Vec::new(alloc);
+    if line == "none" {
+        return Ok(words);
+    }
+    let separator = if line.contains('|') { '|' } else { ' ' };
+    for word in line.split(separator) {
+        words.push(String::from_str(alloc, word)?)?;
+    }
+    Ok(words)
 }

@@ -11,10 +11,8 @@ use std::{env, fs, io};
 
 /// What a program does with a row.
 pub trait Cases {
-    /// The fields that a row may have. One that has another fails.
-    fn fields(&self) -> &'static [&'static str];
-
-    /// Does what the row says, and compares what came with what is wanted. A fault says what differs.
+    /// Does what the row says, and compares what came with what is wanted. A fault says what differs, or that the row has a field
+    /// that is none here ([`Row::expect_fields`]).
     fn judge(&self, alloc: Global, row: &Row<'_>) -> Result<(), Fault>;
 }
 
@@ -73,7 +71,7 @@ fn run_rows<R: AllocGlobal + Print, C: Cases>(
     count: &mut Count,
 ) -> io::Result<()> {
     for row in rows {
-        match judged(rt.alloc(), cases, row) {
+        match cases.judge(rt.alloc(), row) {
             Ok(()) => count.passed = count.passed.saturating_add(1),
             Err(fault) => {
                 count.failed = count.failed.saturating_add(1);
@@ -84,10 +82,4 @@ fn run_rows<R: AllocGlobal + Print, C: Cases>(
         }
     }
     Ok(())
-}
-
-/// What is wrong with a row.
-fn judged<C: Cases>(alloc: Global, cases: &C, row: &Row<'_>) -> Result<(), Fault> {
-    row.expect_fields(alloc, cases.fields())?;
-    cases.judge(alloc, row)
 }

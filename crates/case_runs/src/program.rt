@@ -1,0 +1,46 @@
+//! What is run, and what came of it.
+
+use crate::given::Given;
+use case_rows::Fault;
+use sq_base::{MemSink, MemSource};
+use std::alloc::Global;
+
+/// A program that reads words and an input, and writes an output and an error line.
+pub trait Program {
+    /// One run. The answer is the status that the process ends with.
+    fn run(
+        &self,
+        alloc: Global,
+        words: &[String],
+        src: &mut MemSource,
+        out: &mut MemSink,
+        err: &mut MemSink,
+    ) -> u8;
+}
+
+/// Room for what a run writes, and for what it tells.
+const ROOM: usize = 1_000_000;
+
+const ROOM_TO_TELL: usize = 1000;
+
+/// What came of a run.
+#[derive(Drop)]
+pub struct Came {
+    pub status: u8,
+    pub out: MemSink,
+    pub err: MemSink,
+}
+
+/// A run of a program over what is given.
+pub fn came_of<P: Program>(
+    program: &P,
+    alloc: Global,
+    given: &Given,
+    input: &[u8],
+) -> Result<Came, Fault> {
+    let mut src = MemSource::make(alloc, input, given.reads.max(1), &given.failing_reads)?;
+    let mut out = MemSink::make(alloc, ROOM, given.writes.max(1), &given.failing_writes)?;
+    let mut err = MemSink::make(alloc, ROOM_TO_TELL, ROOM_TO_TELL, &given.failing_tellings)?;
+    let status = program.run(alloc, &given.words, &mut src, &mut out, &mut err);
+    Ok(Came { status, out, err })
+}
