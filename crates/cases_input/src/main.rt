@@ -6,6 +6,7 @@
 #![tactic(auto)]
 
 mod captures;
+mod ends;
 mod numbers;
 mod packets;
 mod plans;

@@ -9,6 +9,7 @@
 //! | `texts` | HEX | the bytes of a UDP datagram with this text |
 //! | `refused` | FLAGS SEQ ACK LENGTH | the reset that answers a segment with so long a text |
 
+use crate::ends::tell_end;
 use case_rows::Fault;
 use case_words::{Words, Wrong, add_bytes, add_flags, add_text, spelled, told_at};
 use segment_codec::{Packet, Reply, Seg, decode, encode, ip_place, refusal};
@@ -64,12 +65,6 @@ fn body_of(alloc: Global, line: &str) -> Result<Vec<u8>, Wrong> {
         return Err(Wrong::Call);
     }
     Ok(body)
-}
-
-/// Tells an address and a port.
-fn tell_end(out: &mut String, address: Addr, port: u16) -> Result<(), AllocError> {
-    let [a, b, c, d] = address.0.to_be_bytes();
-    write!(out, " {a}.{b}.{c}.{d}:{port}")
 }
 
 /// Tells the options of a segment.

@@ -3,6 +3,7 @@
 //! What is told is named by lines: `counts` and `counts verified`, `conns`, `hints` of the segments of connection 0, `tuple C`, `items C`, `many C`
 //! (how many items), `ring R N` (what ring R of N brings) and `homes C N` (its ring of N, and its first squeue of N).
 
+use crate::ends::tell_ends;
 use capture_reader::Capture;
 use case_rows::Fault;
 use case_words::{Words, Wrong, told_at};
@@ -69,7 +70,7 @@ fn tell_conn(out: &mut String, plan: &Plan<'_>, word: &str, c: u32, of: u32) -> 
         return Err(Wrong::Call);
     }
     match word {
-        "tuple" => writeln!(out, "{:?}", plan.tuple(c))?,
+        "tuple" => tell_ends(out, "ends", &plan.tuple(c))?,
         "many" => writeln!(out, "items {}", plan.items(c))?,
         _ => writeln!(
             out,

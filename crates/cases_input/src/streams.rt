@@ -1,5 +1,6 @@
 //! Captures, as the plan of their streams.
 
+use crate::ends::tell_ends;
 use capture_reader::Capture;
 use conn_classifier::Item;
 use std::alloc::{AllocError, Global};
@@ -8,7 +9,7 @@ use stream_plan::{MorePlan, Stream, more_plan};
 
 /// Tells a stream: its two ends, its datagrams and its items.
 fn tell_stream(out: &mut String, stream: &Stream) -> Result<(), AllocError> {
-    writeln!(out, "{:?}", stream.tuple())?;
+    tell_ends(out, "stream", &stream.tuple())?;
     for datagram in stream.datagrams() {
         writeln!(out, "datagram {} record {}", datagram.at, datagram.rec)?;
     }
