@@ -169,7 +169,8 @@ def run(asked, folder, told):
     if made is None:
         made = shard(asked, captures, folder, told)
         notes = notes + ["served in shards, since one run is limited"]
-    made.ports, made.notes = ports, notes
+    made.ports = ports
+    made.notes = notes + ["by a program without proof"] * program("sqrun", asked.sqrun)[0].endswith("-unproved")
     return made
 
 

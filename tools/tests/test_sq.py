@@ -182,7 +182,8 @@ class Told(Folder):
                   "client_segments": 6, "client_bytes": 6, "server_segments": 4, "server_bytes": 6, "replies": 3, "reply_bytes": 6, "replies_again": 0,
                   "lives": 1, "answers": [], "end": "LISTEN"}
         self.assertEqual({key: first[key] for key in wanted}, wanted)
-        documented = set(re.findall(r"`(\w+)`", (TOP / "docs" / "TOOLS.md").read_text().split("| Field |")[1].split("\n\n")[0]))
+        rows = (TOP / "docs" / "TOOLS.md").read_text().split("| Field |")[1].split("\n\n")[0].split("\n")
+        documented = {name for row in rows for name in re.findall(r"`(\w+)`", row.split(" | ")[0])}
         self.assertEqual(set(first), documented)
 
     def test_counts_in_words(self):
