@@ -166,7 +166,7 @@ class Reader:
     def take_reply(self, found):
         data = bytes.fromhex(found[2])
         segment = tcp_segment(int(found[1]), data, 20)
-        if data[0] != 0x45 or segment.length < 0 or data[32] < 0x50:
+        if data[0] != 0x45 or segment.length < 0 or data[32] < 0x50 or segment.at >= 2 ** 63:
             raise ValueError
         if not self.datagrams:
             segment.datagram = b""
