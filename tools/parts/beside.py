@@ -108,6 +108,13 @@ def diagram(compared):
     return figure(f"c{compared.number}life{compared.life}", WIDTH, bottom + 30, f"Connection {compared.number}: both servers", desc, "".join(frame + drawn.out))
 
 
+def alone(compared):
+    """The diagram as a file of its own."""
+    svg = diagram(compared)
+    at = svg.index(">") + 1
+    return '<?xml version="1.0" encoding="UTF-8"?>\n' + svg[:at] + f"<style>{drawing.STYLE}{ladder.STYLE}{STYLE}</style>" + svg[at:] + "\n"
+
+
 def difference_rows(compared):
     out = []
     for d in sorted(compared.differences, key=lambda d: VERDICTS.index(KINDS[d.kind].verdict)):

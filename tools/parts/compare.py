@@ -127,8 +127,22 @@ def compare(number, conn, served):
     out = []
     for n, life in enumerate(lives(conn, served)):
         found = Found()
+        life.server = once(life.server, found)
         state, trip = compare_life(life, found, served.end, in_order(life, rows(conn, served)))
         out.append(Compared(number, n, conn, served, life, list(found.by_kind.values()), state, trip))
+    return out
+
+
+def once(segments, found):
+    """The segments without those that the capture holds a second time: the same datagram but for what a router changes."""
+    seen, out = set(), []
+    for s in segments:
+        ip = s.datagram[:2] + s.datagram[4:8] + s.datagram[12:]
+        if ip in seen and s.datagram[4:6] != b"\0\0":
+            found.add("captured twice", s, "the same datagram", "")
+            continue
+        seen.add(ip)
+        out.append(s)
     return out
 
 

@@ -86,6 +86,11 @@ class Run:
     notes: list = field(default_factory=list)       # what was done beside plain serving, in words
 
 
+def printable(text):
+    """A line for a terminal: what would steer it is spelled out."""
+    return "".join(c if c.isprintable() or c == "\n" else repr(c)[1:-1] for c in str(text))
+
+
 def program(name, given=""):
     """The command of a program: the one given, the one that the environment names, the built one, the unproved one, or that on the path."""
     if given:
@@ -169,7 +174,8 @@ def run(asked, folder, told):
     if made is None:
         made = shard(asked, captures, folder, told)
         notes = notes + ["served in shards, since one run is limited"]
-    made.ports, made.notes = ports, notes
+    made.ports = ports
+    made.notes = notes + ["by a program without proof"] * program("sqrun", asked.sqrun)[0].endswith("-unproved")
     return made
 
 

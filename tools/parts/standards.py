@@ -39,6 +39,7 @@ KINDS = kinds(
     ("maximum segment size later", "MUST", "RFC 9293, 3.7.1 (MUST-65)", "The option must not stand in a segment without SYN."),
     ("SYN,ACK again", "choice", "RFC 9293, 3.8.1; RFC 6298, 2.1", "An unanswered SYN,ACK goes again; the first timeout should be one second."),
     ("congestion notification", "choice", "RFC 3168, 6.1", "ECE and CWR are used where both sides agreed; the reference has neither."),
+    ("captured twice", "unjudged", "RFC 791, 3.1", "The same datagram, by its identification, stands twice in the capture, as where it crosses a bridge; the second is left out."),
     # Acknowledgements.
     ("acknowledged later", "choice", "RFC 9293, 3.8.6.3 (SHLD-18)", "An acknowledgement should be delayed a little, below 0.5 s. The reference sends each at once."),
     ("acknowledged too late", "MUST", "RFC 9293, 3.8.6.3 (MUST-40)", "The delay must be below 0.5 s."),

@@ -1,6 +1,7 @@
 """sqdiff: each kind shows where a crafted server does it, and nothing where sqrun itself is the captured server."""
 import json
 import os
+import random
 import re
 import subprocess
 import sys
@@ -12,11 +13,25 @@ from pathlib import Path
 from common import MODEL, SQRUN, TOOLS, TOP, captures, need, output
 from crafted import ACK, ECE, FIN, MSS, PSH, RST, SACKED, SCALED, STAMPED, SYN, URG, Talk
 from browser import Browser, COMMAND
+from generated import write
 from standards import KINDS, VERDICTS
 
 GRAVE = ("MUST", "SHOULD", "unjudged")
 SECOND = 1_000_000
 UNPROVED = str(TOP / "sqrun-unproved")
+
+
+# Runs a command with the same Python, and tells its most memory in kilobytes.
+MEASURED = """
+import resource, runpy, sys
+sys.argv = sys.argv[1:]
+try:
+    runpy.run_path(sys.argv[0], run_name="__main__")
+except SystemExit as end:
+    status = end.code
+print(resource.getrusage(resource.RUSAGE_SELF).ru_maxrss, file=sys.stderr)
+sys.exit(status)
+"""
 
 
 def program():
@@ -74,6 +89,8 @@ STORIES = {
     "maximum segment size later": lambda: Talk().open().echo(options=MSS, mark=True),
     "SYN,ACK again": lambda: Talk().up(SYN, options=MSS).down(SYN | ACK, options=MSS, mark=True).up(wait=SECOND * 3 // 2).echo(),
     "congestion notification": lambda: Talk().open().up(ACK | PSH, b"hello").down(ACK | PSH | ECE, b"hello", mark=True).up(),
+    "captured twice": lambda: Talk().open().up(ACK | PSH, b"hello").down(ACK | PSH, b"hello", number=77).down(
+        ACK | PSH, b"hello", seq=1, number=77, wait=20, mark=True).up(),
     "acknowledged later": lambda: Talk().open().up(ACK | PSH, b"hello", mark=True).down(ACK | PSH, b"hello", wait=SECOND // 5).up(),
     "acknowledged too late": lambda: Talk().open().up(ACK | PSH, b"hello").down(ACK | PSH, b"hello", wait=SECOND * 7 // 10, mark=True).up(),
     "acknowledged together": lambda: Talk().open().up(ACK | PSH, b"one").up(ACK | PSH, b"two").down(ACK | PSH, b"one").down(ACK | PSH, b"two").up(),
@@ -210,6 +227,48 @@ class Recorded(unittest.TestCase):
                          {("window scale", "7", "5"), ("timestamps", "yes", "none")})
         self.assertEqual([line["connection"] for line in found if line["kind"] == "FIN"], [2])
         self.assertEqual(summary["connections"], 4)
+
+
+class Hostile(unittest.TestCase):
+    def setUp(self):
+        folder = tempfile.TemporaryDirectory()
+        self.addCleanup(folder.cleanup)
+        self.folder = Path(folder.name)
+
+    def test_any_segments(self):
+        """400 connections of random segments: there is an answer for each, on the page too."""
+        rnd = random.Random(8)
+        listed = []
+        for port in range(2_000, 2_400):
+            talk = Talk()
+            talk.up(SYN, options=rnd.choice((MSS, MSS + SCALED, b"", STAMPED)))
+            for _ in range(rnd.randrange(12)):
+                side = rnd.choice((talk.up, talk.down))
+                side(rnd.choice((ACK, ACK, ACK | PSH, SYN, SYN | ACK, RST, FIN | ACK, rnd.randrange(256))), rnd.randbytes(rnd.choice((0, 1, 9, 1_000))),
+                     wait=rnd.choice((10, 10_000, SECOND, 100 * SECOND)), seq=rnd.choice((None, None, rnd.randrange(-50, 50), rnd.getrandbits(32))),
+                     ack=rnd.choice((None, None, rnd.randrange(-50, 50), rnd.getrandbits(32))), window=rnd.choice((None, 0, 1, 65_535)),
+                     options=rnd.choice((b"", MSS, rnd.randbytes(8), b"\x05\x00\x01", b"\x03", STAMPED)), reserved=rnd.choice((0, 0, 0, 5)))
+            listed += [(at + port, body[:20] + port.to_bytes(2, "big") + body[22:] if body[22:24] == b"\0\7" else
+                        body[:22] + port.to_bytes(2, "big") + body[24:]) for at, body in talk.records]
+        write(self.folder / "a.pcap", sorted(listed), 101)
+        found, summary, _ = lines(self.folder / "a.pcap")
+        self.assertEqual(summary["connections"], 400)
+        self.assertGreater(len({line["kind"] for line in found}), 25)
+        done = subprocess.run([TOOLS / "sqdiff", "--page", "--sqrun", program(), self.folder / "a.pcap"], capture_output=True, text=True)
+        self.assertEqual((done.returncode, done.stderr), (1, ""))
+        seen = Elements()
+        seen.feed(done.stdout)
+        self.assertEqual(seen.open, [])
+
+    def test_texts_far_away_take_little(self):
+        """One byte at each 2^21 of the numbers: neither time nor memory for what lies between."""
+        talk = Talk().open()
+        for n in range(2_000):
+            talk.down(ACK | PSH, b"x", seq=n << 21)
+        path = talk.save(self.folder)
+        done = subprocess.run([sys.executable, "-c", MEASURED, TOOLS / "sqdiff", "--json", "--sqrun", program(), path], capture_output=True, text=True, timeout=100)
+        self.assertLess(int(done.stderr.split()[-1]), 150_000)
+        self.assertIn(done.returncode, (0, 1), done.stderr)
 
 
 class Shapes(unittest.TestCase):
