@@ -1,5 +1,5 @@
 -- What a pass knows after an entry: its own elements enter the feeds of its chain, and nothing else.
-use Rattle.std.proofs.Common.{◌≡◌, ℕ, zero, suc, ◌+◌, ◌≤◌, ◌%◌, Bool, true, false, if◌then◌else◌, ◌==◌, List, [], ◌∷◌, ◌++◌, length, replicate, refl, ap, sym, ◌∙◌, subst, arith, length-append, append_assoc, append-nil}
+use Rattle.std.proofs.Common.{◌≡◌, ℕ, zero, suc, ◌+◌, ◌<◌, ◌≤◌, ◌%◌, Bool, true, false, if◌then◌else◌, ◌==◌, List, [], ◌∷◌, ◌++◌, length, replicate, refl, ap, sym, ◌∙◌, subst, arith, length-append, append_assoc, append-nil}
 use Rattle.turn_gate.specs.History.{Begins, only}
 use Rattle.turn_gate.specs.Passes.{IsPassOf, number, seen, mine, steps}
 use Rattle.turn_gate.specs.declared.pass.Pass.{Pass}
@@ -245,13 +245,15 @@ module _ {R : Type 0} {limits : R → Limits} {s : Named R} {from to : Pass Elem
       }
 
   -- a turn that ends without a mark, since it found no room
-  pub was_full : (n : ℕ) → s.given.room < length (queue (run (setting_of limits s.given) u.found)) + n + length s.given.quotas → WasFull limits s n from to
+  pub was_full : (n : ℕ) → u.squeue.given.room < length (queue (run (setting_of limits u.squeue.given) u.found)) + n + length u.squeue.given.quotas → WasFull limits s n from to
   was_full n full =
       record {
         goes_on = kept;
         same_mine = m.now_mine ∙ f.same_mine;
         one_turn = one_turn (steps from) u.made (steps to) f.no_turn_yet m.one_step;
-        full = subst (λ (H : List Element). s.given.room < length (queue (run (setting_of limits s.given) H)) + n + length s.given.quotas) (sym m.now_seen) full;
+        full =
+            subst (λ (H : List Element). s.given.room < length (queue (run (setting_of limits s.given) H)) + n + length s.given.quotas) (sym m.now_seen)
+            (subst (λ (t : Named R). t.given.room < length (queue (run (setting_of limits t.given) u.found)) + n + length t.given.quotas) f.squeue full);
       }
 
   pub brought_none : Brought limits s [] from to

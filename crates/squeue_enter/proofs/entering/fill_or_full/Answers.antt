@@ -17,7 +17,7 @@ pub returns-then-fits-clause-more : goal.returns-then-fits-clause-more
 returns-then-fits-clause-more g c = goes_on_filled c.requires.may.pass (returns-then-fits-clause-filled g c)
 
 pub returns-else-fits-clause-full : goal.returns-else-fits-clause-full
-returns-else-fits-clause-full g c = was_full c.requires.may c.turn-turn.ensures c.plain.ensures (length c.args.chain.now) (search rules)
+returns-else-fits-clause-full g c = was_full c.requires.may c.turn-turn.ensures c.plain.ensures (length c.args.chain.now) (c.fits.ensures.full c.if-fits.false)
 
 pub returns-else-fits-clause-brought : goal.returns-else-fits-clause-brought
 returns-else-fits-clause-brought g c = brought_none c.requires.may c.turn-turn.ensures c.plain.ensures
