@@ -2,6 +2,7 @@
 ghost use Rattle.std.specs.Prelude.{◌≡◌, ◌<◌, ◌∷◌, [], true, false, length, slice_index_or, IfOk};
 ghost use Rattle.perimeter_core.specs.Logging.{limits_of};
 ghost use Rattle.synch_enter.specs.Hinting.{conns_of};
+ghost use Rattle.squeue_state.specs.AllRoom.{HasAllRoom};
 ghost use Rattle.squeue_state.specs.Elements.{number_of};
 ghost use Rattle.turn_gate.specs.Passes.{AreFresh};
 
@@ -39,6 +40,7 @@ fn opened(alloc: Global, number: u32, here: bool) -> Result<(Squeue<Logs>, Vec<P
     ensures number { IfOk result (λ r. r.0.given.number ≡ number) }
     ensures traced { IfOk result (λ r. r.0.given.traced ≡ true) }
     ensures given { IfOk result (λ r. (r.0.given.quotas ≡ (2, 1) ∷ (0, 1) ∷ []) × (r.0.given.rings ≡ 1) × (length r.0.given.starts ≡ 3)) }
+    ensures room { IfOk result (λ r. HasAllRoom r.0.given) }
     ensures here { IfOk result (λ r. slice_index_or r.0.given.starts 2 false ≡ here) }
     ensures limits { IfOk result (λ r. limits_of r.0.given.first ≡ record { feeds = 2 ∷ 2 ∷ 2 ∷ []; leaves = 1 ∷ 1 ∷ 1 ∷ []; calls = (0, 0, 0) ∷ [] }) }
 {

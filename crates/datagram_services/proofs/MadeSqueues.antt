@@ -4,6 +4,7 @@ use Rattle.turn_gate.specs.History.{Each}
 use Rattle.perimeter_core.specs.declared.entries.Feed.{Feed}
 use Rattle.perimeter_core.specs.History.{feed_quotas}
 use Rattle.squeue_state.specs.Naming.{Named}
+use Rattle.squeue_state.specs.Behind.{room_of}
 use Rattle.squeue_state.specs.Clauses.{IsMade, ask_quotas}
 use Rattle.squeue_serve.proofs.Coming.{each_got}
 use Rattle.squeue_rings.specs.Runs.{count, is_at}
@@ -37,7 +38,7 @@ pub no_asks : (squeues q : ℕ) (lines : List Line) → ask_quotas (quotas_of sq
 no_asks squeues q [] = refl
 no_asks squeues q (l ∷ lines) = omega (arith, no_asks squeues q lines)
 
-module _ (p : MorePlanOf) (squeues rings : ℕ) (lines : List Line) (q : ℕ) (first : StreamBlocks) (quotas : List (ℕ × ℕ)) (s : Named StreamBlocks) (made : IsMade Stands size_of q rings quotas false first s.given) (are : quotas ≡ quotas_of squeues q lines)
+module _ (p : MorePlanOf) (squeues rings : ℕ) (lines : List Line) (q : ℕ) (first : StreamBlocks) (quotas : List (ℕ × ℕ)) (s : Named StreamBlocks) (made : IsMade Stands size_of q rings quotas false (room_of quotas) first s.given) (are : quotas ≡ quotas_of squeues q lines)
     (stands : Stands first (first_here (length p.streams) q squeues)) (size : size_of first ≡ length p.streams) (origin : origin_of first ≡ p) (calls : calls_of first ≡ []) where
   pub is_set : IsSet p squeues rings lines q s
   is_set =
@@ -47,6 +48,7 @@ module _ (p : MorePlanOf) (squeues rings : ℕ) (lines : List Line) (q : ℕ) (f
         quotas = made.its_quotas ∙ are;
         limits = ap limits_of made.its_first ∙ (λ k. record { feeds = map item_count (origin k).streams; leaves = []; calls = calls k });
         origin = ap origin_of made.its_first ∙ origin;
+        room = omega (arith, made.its_room, ap room_of made.its_quotas);
         size = made.its_conns ∙ size;
         starts = λ c lt. made.its_blocks (first_here (length p.streams) q squeues) c stands ∙ first_flag (length p.streams) q squeues c lt;
       }

@@ -5,6 +5,7 @@ use Rattle.turn_gate.specs.History.{Each}
 use Rattle.perimeter_core.specs.declared.entries.Feed.{Feed}
 use Rattle.perimeter_core.specs.History.{Limits}
 use Rattle.squeue_state.specs.Naming.{Named}
+use Rattle.squeue_state.specs.AllRoom.{HasAllRoom}
 use Rattle.squeue_serve.specs.declared.jobs.Job.{Job}
 use Rattle.squeue_serve.specs.Lending.{AreLent, lent_to, tasks_in}
 use Rattle.squeue_serve.specs.Places.{IsNew}
@@ -34,7 +35,7 @@ quota_at squeues q (m ∷ lines) (suc r) l is = quota_at squeues q lines r l is
 
 module _ (p : MorePlanOf) (squeues rings : ℕ) (lines : List Line) (ss : List (Named StreamBlocks)) (set : AreSet p squeues rings lines ss) where
   pub one_run : AreOneRun origin_of squeues ss
-  one_run = record { count = set.count; numbered = λ q s at. (set.each q s at).number; same_origin = λ i j s t a b. (set.each i s a).origin ∙ sym (set.each j t b).origin }
+  one_run = record { count = set.count; numbered = λ q s at. (set.each q s at).number; same_origin = λ i j s t a b. (set.each i s a).origin ∙ sym (set.each j t b).origin; room = each_got (λ (s : Named StreamBlocks). HasAllRoom s.given) ss (λ q s at. (set.each q s at).room) }
 
   pub rings_same : Each (λ (s : Named StreamBlocks). s.given.rings ≡ rings) ss
   rings_same = each_got (λ (s : Named StreamBlocks). s.given.rings ≡ rings) ss (λ q s at. (set.each q s at).rings_are)

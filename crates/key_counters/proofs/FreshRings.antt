@@ -74,5 +74,5 @@ module _ {R : Type 0} (limits : R → Limits) (s : Named R) (serves : ServesRing
   pub ready_at : (task : Task) (o : Option (Pass Element)) → IsNewFor limits s task o → ReadyFor limits s task o
   ready_at (Task'.Bring list) None h = h
   ready_at Task'.Work None h = h
-  ready_at (Task'.Bring list) (Some p) h = may_new p list.items h.0 h.1 h.2 h.3
+  ready_at (Task'.Bring list) (Some p) h = (may_new p list.items h.0 h.1 h.2 h.3, serves.room)
   ready_at Task'.Work (Some p) h = (h.0, h.2)

@@ -10,6 +10,7 @@ use Rattle.perimeter_core.specs.declared.entries.Feed.{Feed as FeedOf}
 use Rattle.perimeter_core.specs.History.{feed_quotas}
 use Rattle.perimeter_core.specs.Residing.{HadFeeds}
 use Rattle.perimeter_core.proofs.LogSteps.{here_of_feeds}
+use Rattle.squeue_state.specs.Behind.{room_of}
 use Rattle.squeue_state.specs.Naming.{Given}
 use Rattle.squeue_state.specs.Clauses.{IsMade, StandsEmpty, ask_quotas}
 use Rattle.key_counters.specs.declared.counters.Counter.{Counter}
@@ -60,12 +61,13 @@ some_at true had h = refl
 some_at false had h = cc h
 
 -- a squeue of new counters serves its rings
-pub serves : {A S P O : Type 0} {G : Ghosts S P O} (number rings n : ℕ) (quotas : List (ℕ × ℕ)) (traced : Bool) (first : Places S P O G) (g : Given (Places S P O G)) (lists : List (Vec FeedOf A)) → IsMade Stands size_of number rings quotas traced first g → 1 ≤ rings
+pub serves : {A S P O : Type 0} {G : Ghosts S P O} (number rings n : ℕ) (quotas : List (ℕ × ℕ)) (traced : Bool) (first : Places S P O G) (g : Given (Places S P O G)) (lists : List (Vec FeedOf A)) → IsMade Stands size_of number rings quotas traced (room_of quotas) first g → 1 ≤ rings
     → quotas ≡ no_asks lists → length lists ≡ rings → AreLists rings (limits_of first).feeds 0 lists → Stands first (all_new n) → size_of first ≡ n → length (limits_of first).feeds ≡ n → ServesRings limits_of g
 serves number rings n quotas traced first g lists m few are count lists_are new size feeds =
     let long : length g.quotas ≡ rings = ap length (m.its_quotas ∙ are) ∙ (length-map lists (λ v. (length v.items, 0)) ∙ count) in
     record {
       rings = m.its_rings ∙ sym long;
+      room = omega (arith, m.its_room, ap room_of m.its_quotas);
       few = omega (arith, few, m.its_rings);
       here = λ c lt.
           let below : nat_lt c n ≡ true = (let h : c < n = omega (arith, lt, m.its_conns, size) in grind (arith, nat_tests)) in

@@ -12,6 +12,7 @@ use Rattle.squeue_state.specs.Elements.{number_of, closed_by}
 use Rattle.squeue_state.specs.Clauses.{Added}
 use Rattle.squeue_enter.specs.declared.Mode.{Mode}
 use Rattle.squeue_enter.specs.declared.entering.Entered.{Entered}
+use Rattle.squeue_state.specs.AllRoom.{HasAllRoom}
 use Rattle.squeue_enter.specs.Entering.{MayEnter, HasEntered}
 use Rattle.squeue_serve.specs.declared.jobs.Job.{Job}
 use Rattle.key_counters.specs.declared.job.Task.{Task}
@@ -61,7 +62,7 @@ pass_in (o ∷ n ∷ os) = None
 module _ {R : Type 0} (limits : R → Limits) (s : Named R) where
   -- what a task needs of its pass
   abbrev pub MayRun : Task → Pass Element → Type 0
-  MayRun (Task'.Bring list) p = MayEnter limits s p list.items
+  MayRun (Task'.Bring list) p = MayEnter limits s p list.items × HasAllRoom s.given
   MayRun Task'.Work p = IsPassOf number_of s.gate p × (number p ≡ worker (setting_of limits s.given))
 
   -- what a pass has done

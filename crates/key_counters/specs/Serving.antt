@@ -9,6 +9,7 @@ use Rattle.perimeter_core.specs.Ending.{IsOver}
 use Rattle.squeue_state.specs.Naming.{Given, Named, setting_of}
 use Rattle.squeue_state.specs.Elements.{number_of}
 use Rattle.squeue_serve.specs.declared.jobs.Job.{Job}
+use Rattle.squeue_state.specs.AllRoom.{HasAllRoom}
 use Rattle.key_counters.specs.declared.job.Task.{Task}
 use Rattle.key_counters.specs.declared.job.Task.TheVariants as Task'
 use Rattle.feed_lists.specs.Lists.{list_of}
@@ -19,9 +20,11 @@ module _ {R : Type 0} (limits : R → Limits) where
   abbrev pub items_in : Given R → List ℕ
   items_in g = (limits g.first).feeds
 
-  -- A squeue that serves rings alone: all connections are here, and each ring may enter all feeds of its connections
+  -- A squeue that serves rings alone, with room for all that they enter: all connections are here, and each ring may enter all
+  -- feeds of its connections
   pub record ServesRings (g : Given R) : Type 0 where
     pub rings : g.rings ≡ length g.quotas
+    pub room : HasAllRoom g
     pub few : 1 ≤ g.rings
     pub here : (c : ℕ) → c < length g.starts → slice_index_or g.starts c false ≡ true
     pub counts : length (items_in g) ≤ length g.starts

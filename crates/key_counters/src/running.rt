@@ -2,6 +2,7 @@
 //! All of them run beside each other, and share the squeue by reference. Nothing here knows which resident is served.
 ghost use Rattle.std.specs.Prelude.{◌≡◌, ◌<◌, ℕ, All, length, slice_index_or};
 ghost use Rattle.turn_gate.specs.Passes.{number};
+ghost use Rattle.squeue_state.specs.AllRoom.{HasAllRoom};
 ghost use Rattle.squeue_enter.specs.Entering.{MayEnter, Brought, MayGoOn};
 ghost use Rattle.key_counters.specs.declared.job.Task.{Task};
 ghost use Rattle.squeue_serve.specs.declared.jobs.Job.{Job};
@@ -84,7 +85,8 @@ pub fn bring<R: Resident, H: Hook, W: Wait>(
     pass: Pass,
     list: &[Feed],
 ) -> Pass
-    requires { MayEnter R.limits sq.now pass list.now }
+    requires may { MayEnter R.limits sq.now pass list.now }
+    requires room { HasAllRoom sq.now.given }
     ensures number { number result ≡ number pass }
     ensures brought { Brought R.limits sq.now list.now pass result }
     ensures more { MayGoOn R.limits sq.now list.now pass result }

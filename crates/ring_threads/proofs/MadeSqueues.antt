@@ -5,6 +5,7 @@ use Rattle.std.proofs.lemmas.List.FromFn.{length-map-range_with_len}
 use Rattle.turn_gate.specs.History.{Each}
 use Rattle.perimeter_core.specs.History.{Setting}
 use Rattle.squeue_state.specs.Naming.{Named}
+use Rattle.squeue_state.specs.Behind.{room_of}
 use Rattle.squeue_state.specs.Clauses.{IsMade}
 use Rattle.conn_classifier.specs.Plan.{PlanOf}
 use Rattle.conn_blocks.specs.declared.blocks.Blocks.{Blocks}
@@ -30,7 +31,7 @@ same_flags (x ∷ xs) (y ∷ ys) n h =
     rw (first, rest) refl
 
 module _ (p : PlanOf) (calls : CallLists) (squeues rings spread q : ℕ) (first : Blocks) (quotas : List (ℕ × ℕ)) (traced : Bool) (s : Named Blocks)
-    (made : IsMade Stands size_of q rings quotas traced first s.given) (are : quotas ≡ quotas_of p calls squeues rings spread q)
+    (made : IsMade Stands size_of q rings quotas traced (room_of quotas) first s.given) (are : quotas ≡ quotas_of p calls squeues rings spread q)
     (stands : Stands first (first_here (length p.tuples) q squeues)) (size : size_of first ≡ length p.tuples) (limits : limits_of first ≡ limits_in p calls q squeues spread) (origin : origin_of first ≡ record { plan = p; calls = calls }) where
   starts_are : s.given.starts ≡ map (λ c. c % squeues == q) (range_with_len 0 (length p.tuples))
   starts_are =
@@ -47,6 +48,7 @@ module _ (p : PlanOf) (calls : CallLists) (squeues rings spread q : ℕ) (first 
         number = made.its_number;
         setting = rw (made.its_rings, made.its_quotas, are, starts_are, made.its_first, limits) refl;
         origin = ap origin_of made.its_first ∙ origin;
+        room = omega (arith, made.its_room, ap room_of made.its_quotas);
       }
 
 -- the squeues made so far

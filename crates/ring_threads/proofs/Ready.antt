@@ -5,6 +5,7 @@ use Rattle.std.proofs.lemmas.List.FromFn.{length-map-range_with_len}
 use Rattle.turn_gate.specs.History.{Each}
 use Rattle.perimeter_core.specs.History.{Setting}
 use Rattle.squeue_state.specs.Naming.{Named}
+use Rattle.squeue_state.specs.AllRoom.{HasAllRoom}
 use Rattle.conn_classifier.specs.Plan.{PlanOf, IsPlan}
 use Rattle.conn_classifier.specs.RingList.{IsRingList}
 use Rattle.conn_blocks.specs.declared.blocks.Blocks.{Blocks}
@@ -39,7 +40,7 @@ module _ (p : PlanOf) (calls : CallLists) (squeues rings spread : ℕ) (ss : Lis
   made_for = each_got (IsMadeFor limits_of p calls squeues rings spread) ss (λ q s at. let i = set.each q s at in i.setting ∙ ap (setting_at p calls squeues rings spread) (sym i.number))
 
   pub one_run : AreOneRun origin_of squeues ss
-  one_run = record { count = set.count; numbered = λ q s at. (set.each q s at).number; same_origin = λ i j s t a b. (set.each i s a).origin ∙ sym (set.each j t b).origin }
+  one_run = record { count = set.count; numbered = λ q s at. (set.each q s at).number; same_origin = λ i j s t a b. (set.each i s a).origin ∙ sym (set.each j t b).origin; room = each_got (λ (s : Named Blocks). HasAllRoom s.given) ss (λ q s at. (set.each q s at).room) }
 
   its_rings : (q : ℕ) (s : Named Blocks) → slice_get ss q ≡ Some s → s.given.rings ≡ rings
   its_rings q s at = ap (λ (S : Setting). S.rings) (set.each q s at).setting

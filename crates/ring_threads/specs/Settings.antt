@@ -4,6 +4,7 @@ use Rattle.turn_gate.specs.declared.pass.Pass.{Pass}
 use Rattle.perimeter_core.specs.declared.entries.Feed.{Feed}
 use Rattle.perimeter_core.specs.History.{Element}
 use Rattle.squeue_state.specs.Naming.{Named, setting_of}
+use Rattle.squeue_state.specs.AllRoom.{HasAllRoom}
 use Rattle.conn_classifier.specs.Plan.{PlanOf, items_in}
 use Rattle.conn_blocks.specs.declared.blocks.Blocks.{Blocks}
 use Rattle.conn_blocks.specs.CallLists.{CallLists, conns_called}
@@ -16,11 +17,12 @@ use Rattle.ring_quotas.specs.Quotas.{setting_at}
 use Rattle.ring_jobs.specs.Ends.{CallersEnd, RingsEnd}
 
 module _ (p : PlanOf) (calls : CallLists) (squeues rings spread : ℕ) where
-  -- squeue number q was made for the plan and the calls, with its setting
+  -- squeue number q was made for the plan and the calls, with its setting and with room for all
   pub record IsSet (q : ℕ) (s : Named Blocks) : Type 0 where
     pub number : s.given.number ≡ q
     pub setting : setting_of limits_of s.given ≡ setting_at p calls squeues rings spread q
     pub origin : origin_of s.given.first ≡ record { plan = p; calls = calls }
+    pub room : HasAllRoom s.given
 
   -- there are so many, by number
   pub record AreSet (ss : List (Named Blocks)) : Type 0 where

@@ -1,6 +1,7 @@
 //! A new squeue and its passes.
 ghost use Rattle.std.specs.Prelude.{◌≡◌, ◌≤◌, ◌^◌, ◌∷◌, [], true, false, length, slice_index_or, vec_capacity, IfOk};
 ghost use Rattle.perimeter_core.specs.Logging.{limits_of};
+ghost use Rattle.squeue_state.specs.AllRoom.{HasAllRoom};
 ghost use Rattle.squeue_state.specs.Elements.{number_of};
 ghost use Rattle.turn_gate.specs.Passes.{AreFresh};
 
@@ -31,6 +32,7 @@ pub fn opened(
     ensures number { IfOk result (λ r. r.0.given.number ≡ number) }
     ensures traced { IfOk result (λ r. r.0.given.traced ≡ true) }
     ensures given { IfOk result (λ r. (r.0.given.quotas ≡ (feeds, 1) ∷ (0, 1) ∷ []) × (r.0.given.rings ≡ 1) × (length r.0.given.starts ≡ 1)) }
+    ensures room { IfOk result (λ r. HasAllRoom r.0.given) }
     ensures here { IfOk result (λ r. slice_index_or r.0.given.starts 0 false ≡ here) }
     ensures limits { IfOk result (λ r. limits_of r.0.given.first ≡ record { feeds = feeds ∷ []; leaves = 1 ∷ []; calls = (0, 0, 0) ∷ [] }) }
 {

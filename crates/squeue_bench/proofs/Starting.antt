@@ -21,7 +21,7 @@ use Rattle.placed_parts.specs.declared.places.Places.{Places}
 use Rattle.squeue_state.specs.declared.guarded.Quota.{Quota}
 use Rattle.squeue_state.specs.Naming.{Named, setting_of}
 use Rattle.squeue_state.specs.Elements.{number_of}
-use Rattle.squeue_state.specs.Behind.{pairs}
+use Rattle.squeue_state.specs.Behind.{pairs, room_of}
 use Rattle.squeue_state.specs.Clauses.{IsMade, ask_quotas}
 use Rattle.squeue_bench.specs.Rows.{IsRow}
 use Rattle.squeue_bench.specs.Places.{MayBring}
@@ -63,6 +63,7 @@ new_may {R} limits items s k p feeds suits new l row =
         quota = omega (arith, none, quota, row.0);
       },
       new.its_number,
+      suits.room,
     )
 
 module _ (id : TableId) where
@@ -88,13 +89,14 @@ none_had n c had h = none_yet (nat_lt c n) had h
 here_at : (k n : ℕ) → k < n → is_some (all_new n k) ≡ true
 here_at k n l = let e : nat_lt k n ≡ true = grind (arith, nat_tests) in rw e refl
 
-pub new_suits : {S P O : Type 0} {G : Ghosts S P O} (number rings items n : ℕ) (quotas : List Quota) (rows : List (List ℕ)) (first : Places S P O G) (s : Named (Places S P O G)) → IsMade Stands size_of number rings (pairs quotas) false first s.given → rings ≡ n → quotas ≡ replicate n (quota_of items) → length rows ≡ n
+pub new_suits : {S P O : Type 0} {G : Ghosts S P O} (number rings items n : ℕ) (quotas : List Quota) (rows : List (List ℕ)) (first : Places S P O G) (s : Named (Places S P O G)) → IsMade Stands size_of number rings (pairs quotas) false (room_of (pairs quotas)) first s.given → rings ≡ n → quotas ≡ replicate n (quota_of items) → length rows ≡ n
     → All (λ row. length row ≡ items) rows → Stands first (all_new n) → (limits_of first).feeds ≡ map length rows → Suits limits_of items s × (length s.given.quotas ≡ n)
 new_suits number rings items n quotas rows first s m count_is same long all stands is =
     let paired : s.given.quotas ≡ pairs (replicate n (quota_of items)) = m.its_quotas ∙ ap pairs same in
     let count : length s.given.quotas ≡ n = ap (λ (qs : List (ℕ × ℕ)). length qs) paired ∙ (length-map (replicate n (quota_of items)) (λ q. (q.feeds, q.asks)) ∙ length-replicate n (quota_of items)) in (
       record {
         its_rings = m.its_rings ∙ (count_is ∙ sym count);
+        room = omega (arith, m.its_room, ap room_of m.its_quotas);
         here = λ k l. m.its_blocks (all_new n) k stands ∙ here_at k n (omega (arith, l, count));
         quota = λ k l.
             let below : k < n = omega (arith, l, count) in

@@ -7,6 +7,7 @@ use Rattle.perimeter_core.specs.History.{Element, Limits, run}
 use Rattle.perimeter_core.specs.Ending.{IsOver}
 use Rattle.squeue_state.specs.Naming.{Named, setting_of}
 use Rattle.squeue_state.specs.Elements.{number_of}
+use Rattle.squeue_state.specs.AllRoom.{HasAllRoom}
 use Rattle.squeue_enter.specs.Entering.{MayEnter}
 use Rattle.squeue_bench.specs.declared.threads.Ring.{Ring}
 use Rattle.squeue_bench.specs.declared.threads.Worker.{Worker}
@@ -31,9 +32,9 @@ module _ {R : Type 0} where
   HaveClosed squeues rings = (k : ℕ) (d : Ring) → k < length rings → AtEach (HasPass k) squeues (slice_index_or rings k d).passes.items
 
 module _ {R : Type 0} (limits : R → Limits) where
-  -- pass k of the squeue stands there, and may enter these feeds
+  -- pass k of the squeue stands there, and may enter these feeds, for which there is room
   abbrev pub MayBring : ℕ → List Feed → Named R → Option (Pass Element) → Type 0
-  MayBring k es s (Some p) = MayEnter limits s p es × (number p ≡ k)
+  MayBring k es s (Some p) = MayEnter limits s p es × (number p ≡ k) × HasAllRoom s.given
   MayBring k es s None = ⊥
 
   -- a pass that has seen the squeue's end

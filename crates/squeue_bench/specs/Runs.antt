@@ -5,13 +5,15 @@ use Rattle.turn_gate.specs.declared.pass.Pass.{Pass}
 use Rattle.perimeter_core.specs.History.{Element, Limits, feed_quota}
 use Rattle.squeue_state.specs.Naming.{Named, setting_of}
 use Rattle.squeue_state.specs.Elements.{number_of}
+use Rattle.squeue_state.specs.AllRoom.{HasAllRoom}
 use Rattle.squeue_bench.specs.declared.threads.Ring.{Ring}
 use Rattle.squeue_bench.specs.Rows.{IsRow}
 use Rattle.squeue_bench.specs.Places.{AtEach, MayBring}
 
--- the squeue has a ring for each pass but the worker's, and the key of each ring, which is here, has so many items
+-- the squeue has room for all that its rings enter, a ring for each pass but the worker's, and the key of each ring, which is here, has so many items
 pub record Suits {R : Type 0} (limits : R → Limits) (items : ℕ) (s : Named R) : Type 0 where
   pub its_rings : s.given.rings ≡ length s.given.quotas
+  pub room : HasAllRoom s.given
   pub here : (k : ℕ) → k < length s.given.quotas → slice_index_or s.given.starts k false ≡ true
   pub quota : (k : ℕ) → k < length s.given.quotas → feed_quota (setting_of limits s.given) k ≡ items
   pub limit : (k : ℕ) → k < length s.given.quotas → slice_index (limits s.given.first).feeds k ≡ items

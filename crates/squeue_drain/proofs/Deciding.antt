@@ -28,7 +28,7 @@ use Rattle.perimeter_core.proofs.IdleKept.{no_ask_split}
 use Rattle.perimeter_core.proofs.OwnAsk.{waits_no_more}
 use Rattle.perimeter_core.proofs.QueuedRange.{queued_range, range_right}
 use Rattle.perimeter_core.proofs.Room.{queued_fits}
-use Rattle.squeue_state.specs.Limits.{most_feeds, most_passes}
+use Rattle.squeue_state.specs.Limits.{most_room}
 use Rattle.perimeter_core.proofs.BehindAnAsk.{has_ask-append}
 use Rattle.squeue_state.specs.Naming.{Given, Named, Turned, Handed, setting_of}
 use Rattle.squeue_state.specs.Behind.{IsPeri}
@@ -49,13 +49,10 @@ pub begins_trans : (xs ys zs : List Element) → Begins xs ys → Begins ys zs �
 begins_trans xs ys zs a b = (a.0 ++ b.0, b.1 ∙ (ap (λ (w : List Element). w ++ b.0) a.1 ∙ append_assoc xs a.0 b.0))
 
 -- what is queued fits a number
-pub fits_numbers : {R : Type 0} (limits : R → Limits) (g : Given R) (H : List Element) → Legal (setting_of limits g) H → (length g.quotas < most_passes) × (feed_quotas g.quotas ≤ most_feeds)
+pub fits_numbers : {R : Type 0} (limits : R → Limits) (g : Given R) (H : List Element)
+    → (length (run (setting_of limits g) H).hand + length (run (setting_of limits g) H).chain ≤ g.room) × (g.room ≤ most_room)
     → length (run (setting_of limits g) H).hand + length (run (setting_of limits g) H).chain < 2 ^ 31
-fits_numbers limits g H l few =
-    let q = queued_fits (setting_of limits g) H l in
-    let a = few.0 in
-    let b = few.1 in
-    omega (arith, q, a, b, length-append (run (setting_of limits g) H).hand (run (setting_of limits g) H).chain)
+fits_numbers limits g H few = omega (arith, few.0, few.1)
 
 -- after a mark that ends a turn
 pub marked_on : {R : Type 0} (limits : R → Limits) (s : Named R) (p q : Pass Element) (u : Turned R) (e : Element) → Found limits s p u → May (setting_of limits s.given) u.found e → Marked u e q → GoesOn limits s p q
@@ -182,7 +179,7 @@ module _ {R P O : Type 0} {G : Ghosts R P O} {s : Named R} {o : Owner R} {u : Tu
   -- what is queued, with what is left of the hand, fits a number
   pub room : length o.hand.left + length (run T u.found).chain < 2 ^ 31
   room =
-      let all = fits_numbers G.limits s.given u.found f.legal f.few in
+      let all = fits_numbers G.limits s.given u.found f.few in
       let part = within (run T u.found).hand o.hand.left here.left.is_left in
       omega (arith, all, part)
 

@@ -1,7 +1,7 @@
 -- What a pass knows after an entry: its own elements enter the feeds of its chain, and nothing else.
-use Rattle.std.proofs.Common.{◌≡◌, ℕ, zero, suc, ◌+◌, ◌≤◌, ◌%◌, Bool, true, false, if◌then◌else◌, ◌==◌, List, [], ◌∷◌, ◌++◌, length, replicate, refl, ap, sym, ◌∙◌, subst, arith, length-append, append_assoc}
-use Rattle.turn_gate.specs.History.{only}
-use Rattle.turn_gate.specs.Passes.{IsPassOf, number, seen, mine}
+use Rattle.std.proofs.Common.{◌≡◌, ℕ, zero, suc, ◌+◌, ◌<◌, ◌≤◌, ◌%◌, Bool, true, false, if◌then◌else◌, ◌==◌, List, [], ◌∷◌, ◌++◌, length, replicate, refl, ap, sym, ◌∙◌, subst, arith, length-append, append_assoc, append-nil}
+use Rattle.turn_gate.specs.History.{Begins, only}
+use Rattle.turn_gate.specs.Passes.{IsPassOf, number, seen, mine, steps}
 use Rattle.turn_gate.specs.declared.pass.Pass.{Pass}
 use Rattle.perimeter_core.specs.declared.entries.Feed.{Feed as FeedOf}
 use Rattle.perimeter_core.specs.declared.entries.Entry.{Entry}
@@ -18,15 +18,19 @@ use Rattle.perimeter_core.proofs.RingKnows.{ring_knows}
 use Rattle.perimeter_core.proofs.OneMore.{legal_front}
 use Rattle.perimeter_core.proofs.OwnCounts.{own_counts}
 use Rattle.squeue_state.proofs.Makers.{only_made}
-use Rattle.squeue_state.specs.Naming.{Named, setting_of}
+use Rattle.perimeter_core.specs.Backlog.{queue}
+use Rattle.squeue_state.proofs.Turns.{one_turn}
+use Rattle.squeue_state.specs.Clauses.{Found, Unmarked}
+use Rattle.squeue_state.specs.Naming.{Named, Turned, setting_of}
 use Rattle.squeue_state.specs.Elements.{number_of, filled_by, fast_by, claimed_by, taken_by}
-use Rattle.squeue_drain.specs.Draining.{plain, Ends}
+use Rattle.squeue_drain.specs.Draining.{plain, Ends, GoesOn}
 use Rattle.squeue_enter.specs.declared.Mode.{Mode}
 use Rattle.squeue_enter.specs.declared.entering.How.{How}
 use Rattle.squeue_enter.specs.declared.Mode.TheVariants.{Process, NoDrain, Fill}
 use Rattle.squeue_enter.specs.declared.entering.Entered.{Entered}
 use Rattle.squeue_enter.specs.Ways.{way_of}
-use Rattle.squeue_enter.specs.Entering.{MayEnter, HasEntered, HasFilled, Went, Brought, MayGoOn}
+use Rattle.squeue_enter.specs.Entering.{MayEnter, HasEntered, HasFilled, WasFull, Went, Brought, MayGoOn}
+use Rattle.squeue_enter.proofs.Entries.{idle_here}
 use Rattle.squeue_enter.proofs.Carrying.{enters_carried, count_entries, only_feeds, no_asks_in, by_append, own_count}
 
 pub due_append : (c n : ℕ) (H K : List Element) → due_from c n (H ++ K) ≡ due_from c (due_from c n H) K
@@ -229,6 +233,43 @@ module _ {R : Type 0} {limits : R → Limits} {s : Named R} {es : List FeedOf} {
 
   pub goes_on_filled : {to : Pass Element} → HasFilled limits s from es to → MayGoOn limits s es from to
   goes_on_filled h = goes_on_by h.goes_on.is_pass h.goes_on.same_number h.idle (brought_filled h)
+
+module _ {R : Type 0} {limits : R → Limits} {s : Named R} {from to : Pass Element} {es : List FeedOf} {u : Turned R} (may : MayEnter limits s from es) (f : Found limits s from u) (m : Unmarked u to) where
+  kept : GoesOn limits s from to
+  kept =
+      record {
+        is_pass = subst (λ (t : Named R). IsPassOf number_of t.gate to) f.squeue m.is_pass;
+        same_number = m.same_number ∙ f.same_number;
+        grows = subst (λ (H : List Element). Begins (seen from) H) (sym m.now_seen) f.goes_on;
+        legal = subst (λ (H : List Element). Legal (setting_of limits s.given) H) (sym m.now_seen) f.legal;
+      }
+
+  -- a turn that ends without a mark, since it found no room
+  pub was_full : (n : ℕ) → u.squeue.given.room < length (queue (run (setting_of limits u.squeue.given) u.found)) + n + length u.squeue.given.quotas → WasFull limits s n from to
+  was_full n full =
+      record {
+        goes_on = kept;
+        same_mine = m.now_mine ∙ f.same_mine;
+        one_turn = one_turn (steps from) u.made (steps to) f.no_turn_yet m.one_step;
+        full =
+            subst (λ (H : List Element). s.given.room < length (queue (run (setting_of limits s.given) H)) + n + length s.given.quotas) (sym m.now_seen)
+            (subst (λ (t : Named R). t.given.room < length (queue (run (setting_of limits t.given) u.found)) + n + length t.given.quotas) f.squeue full);
+      }
+
+  pub brought_none : Brought limits s [] from to
+  brought_none =
+      let p : ℕ = number from in
+      let own_to = made_of p to (subst (λ (k : ℕ). only number_of k (seen to) ≡ mine to) kept.same_number kept.is_pass.2) in
+      brought_by limits s [] from to (legal_front (setting_of limits s.given) (seen from) f.goes_on.0 (subst (λ (F : List Element). Legal (setting_of limits s.given) F) f.goes_on.1 f.legal)) kept.legal []
+      (own_to ∙ (m.now_mine ∙ (f.same_mine ∙ (sym (made_of p from may.pass.2) ∙ sym (append-nil (made_by p (seen from))))))) (brings_none p)
+
+  idle_kept : Idle (run (setting_of limits s.given) (seen to)) (number from)
+  idle_kept =
+      subst (λ (k : ℕ). Idle (run (setting_of limits s.given) (seen to)) k) f.same_number
+      (subst (λ (H : List Element). Idle (run (setting_of limits s.given) H) u.number) (sym m.now_seen) (idle_here limits s from es u may f))
+
+  pub goes_on_none : MayGoOn limits s [] from to
+  goes_on_none = goes_on_by kept.is_pass kept.same_number idle_kept brought_none
 
 enters_front : (S : Setting) (s : State) (p : ℕ) (next : ℕ → ℕ) (es fs : List Entry) → Enters S s p next (es ++ fs) → Enters S s p next es
 enters_front S s p next [] fs e = tt

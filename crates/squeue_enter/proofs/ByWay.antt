@@ -30,7 +30,9 @@ use Rattle.squeue_enter.specs.declared.entering.Way.TheVariants as Way'
 use Rattle.squeue_enter.specs.Ways.{way_of, is_one}
 use Rattle.squeue_enter.specs.Entering.{MayEnter, HasEntered}
 use Rattle.squeue_enter.proofs.Choosing.{chosen, lone, lone_too, claims, empty_was, one_was}
-use Rattle.squeue_enter.proofs.Entries.{may_fill, may_fast, may_claim, fill_fits, fill_polls, Came, came_fast, came_claim, hand_fast}
+use Rattle.squeue_state.specs.Behind.{FeedsFit}
+use Rattle.squeue_state.specs.AllRoom.{HasAllRoom}
+use Rattle.squeue_enter.proofs.Entries.{may_fill, may_fast, may_claim, fits, fill_fits, fill_polls, Came, came_fast, came_claim, hand_fast}
 use Rattle.squeue_enter.proofs.Answering.{entered_fill, entered_fast, entered_alone, entered_claim}
 
 -- the feed of a chain that brings one
@@ -67,8 +69,11 @@ module _ {R : Type 0} {limits : R → Limits} {s : Named R} {p : Pass Element} {
   pub may_queue : May (setting_of limits s.given) u.found (filled_by u.number es)
   may_queue = may_fill limits s p es u may f some
 
-  pub queue_fits : length (at limits s u).chain + length es < 2 ^ 31
-  queue_fits = fill_fits limits s p es u may f some
+  pub feeds_fit : HasAllRoom s.given → FeedsFit (setting_of limits s.given) s.given.room u.found (length es)
+  feeds_fit = fits limits s p es u may f some
+
+  pub queue_fits : FeedsFit (setting_of limits s.given) s.given.room u.found (length es) → length (at limits s u).chain + length es < 2 ^ 31
+  queue_fits = fill_fits limits s p es u may f
 
 module _ {R P O : Type 0} (G : Ghosts R P O) {s : Named R} {p : Pass Element} {es : List FeedOf} {u : Turned R} (mode : Mode) where
   pub chose : {o : Own} {woke : Bool} {n : ℕ} {w v : Way} → MayEnter G.limits s p es → Found G.limits s p u → o ≡ (run (setting_of G.limits u.squeue.given) u.found).own → woke ≡ is_free o

@@ -12,12 +12,17 @@ use Rattle.perimeter_core.specs.declared.marks.Own.TheVariants.{Free, Out}
 use Rattle.perimeter_core.specs.declared.marks.Mark.TheVariants as On
 use Rattle.perimeter_core.specs.Perimeter.{State, Idle, after, polls, processed, has_ask, is_closed}
 use Rattle.perimeter_core.specs.History.{Element, Setting, Limits, start, run, made_by, feed_quota}
-use Rattle.perimeter_core.specs.Deeds.{entries, due, done}
+use Rattle.perimeter_core.specs.Deeds.{entries, entered, due, done}
 use Rattle.perimeter_core.specs.Legal.{May, Legal, Enters, feeds_by, feed_count}
 use Rattle.perimeter_core.specs.Blocks.{peri}
 use Rattle.perimeter_core.proofs.OneMore.{run_push, legal_more}
 use Rattle.perimeter_core.proofs.IdleKept.{feeds_no_ask}
-use Rattle.perimeter_core.proofs.Room.{queued_fits}
+use Rattle.perimeter_core.proofs.OneMore.{entered_push}
+use Rattle.perimeter_core.proofs.OrderAndWake.{order}
+use Rattle.perimeter_core.proofs.Quotas.{feeds_within, feed_count-append}
+use Rattle.perimeter_core.specs.Backlog.{queue}
+use Rattle.squeue_state.specs.Behind.{FeedsFit}
+use Rattle.squeue_state.proofs.QueuedRoom.{queued_few, feed_entries}
 use Rattle.squeue_state.specs.Naming.{Named, Turned, Handed, setting_of}
 use Rattle.squeue_state.specs.Behind.{IsPeri}
 use Rattle.squeue_state.specs.Elements.{filled_by, fast_by, claimed_by, taken_by}
@@ -31,6 +36,7 @@ use Rattle.squeue_drain.proofs.Hands.{whole_left}
 use Rattle.squeue_drain.proofs.Fresh.{fresh}
 use Rattle.squeue_drain.proofs.Turning.{others}
 use Rattle.squeue_drain.proofs.Deciding.{marked_on}
+use Rattle.squeue_state.specs.AllRoom.{HasAllRoom}
 use Rattle.squeue_enter.specs.Entering.{MayEnter, DrainsFrom}
 use Rattle.squeue_enter.proofs.Carrying.{idle_carried, due_carried, here_carried, enters_carried, entries_in_range, only_feeds, count_entries, quota_enters}
 
@@ -125,16 +131,20 @@ module _ {R : Type 0} (limits : R → Limits) (s : Named R) (p : Pass Element) (
         note = refl;
       })
 
-  -- what is queued after the fill fits a number
-  pub fill_fits : 0 < length es → length (run S u.found).chain + length es < 2 ^ 31
-  fill_fits some =
+  -- the feeds fit where the squeue has room for all that its quotas let come
+  pub fits : 0 < length es → HasAllRoom s.given → FeedsFit S s.given.room u.found (length es)
+  fits some all =
       let e = filled_by u.number es in
-      let q = queued_fits S (u.found ++ e ∷ []) (legal_more S u.found e f.legal (may_fill some)) in
-      let state = run_push (start S) u.found e in
-      let hand = ap (λ t. length t.hand) state in
-      let chain = ap (λ t. length t.chain) state in
+      let within = feeds_within S (u.found ++ e ∷ []) (legal_more S u.found e f.legal (may_fill some)) in
+      let more = ap feed_count (entered_push u.found e) ∙ feed_count-append (entered u.found) (entries es) in
+      let kept = ap feed_count (order S u.found f.legal) ∙ feed_count-append (done S u.found) (queue (run S u.found)) in
+      omega (arith, all, within, more, kept, feed_entries es)
+
+  -- what is queued after the fill fits a number
+  pub fill_fits : FeedsFit S s.given.room u.found (length es) → length (run S u.found).chain + length es < 2 ^ 31
+  fill_fits fit =
       let few = f.few in
-      omega (arith, q, hand, chain, few, entries-length es, length-append (run S (u.found ++ e ∷ [])).hand (run S (u.found ++ e ∷ [])).chain, length-append (run S u.found).chain (entries es))
+      omega (arith, fit, few.1, queued_few S u.found f.legal, length-append (run S u.found).hand (run S u.found).chain)
 
   -- after the fill the pass may enter again
   pub idle_filled : (q : Pass Element) → Marked u (filled_by u.number es) q → Idle (run S (seen q)) n

@@ -1,7 +1,7 @@
 -- What an entry into a squeue needs, and what it adds to the history.
 use Rattle.std.specs.Prelude.{◌≡◌, ◌≢◌, ℕ, ◌+◌, ◌%◌, ◌≤◌, ◌<◌, true, List, [], ◌∷◌, ◌++◌, length, replicate}
 use Rattle.turn_gate.specs.History.{Begins, only}
-use Rattle.turn_gate.specs.Passes.{IsPassOf, freed_once, hit, number, seen, mine}
+use Rattle.turn_gate.specs.Passes.{IsPassOf, freed_once, hit, turns_of, number, seen, mine, steps}
 use Rattle.turn_gate.specs.declared.views.LockStep.{LockStep}
 use Rattle.turn_gate.specs.declared.pass.Pass.{Pass}
 use Rattle.perimeter_core.specs.declared.entries.Feed.{Feed}
@@ -11,7 +11,9 @@ use Rattle.perimeter_core.specs.Perimeter.{Idle, is_free, is_empty, is_here}
 use Rattle.perimeter_core.specs.History.{Element, Setting, Limits, feed_quota, run, made_by}
 use Rattle.perimeter_core.specs.Deeds.{entries, feeds_of, times_left, due, done}
 use Rattle.perimeter_core.specs.Legal.{Legal, Enters, feeds_by, asks_by, feed_count}
-use Rattle.squeue_state.specs.Naming.{Named, setting_of}
+use Rattle.perimeter_core.specs.Backlog.{queue}
+use Rattle.squeue_state.specs.Naming.{Named, Turned, setting_of}
+use Rattle.squeue_state.specs.Clauses.{Found}
 use Rattle.squeue_state.specs.Elements.{number_of, filled_by, fast_by, claimed_by, taken_by, left_by_pass}
 use Rattle.squeue_drain.specs.Draining.{plain, Ends, StaysBelow, is_leave, GoesOn}
 use Rattle.squeue_enter.specs.declared.Mode.{Mode}
@@ -31,6 +33,19 @@ pub record MayEnter {R : Type 0} (limits : R → Limits) (s : Named R) (p : Pass
   pub idle : Idle (run (setting_of limits s.given) (seen p)) (number p)
   pub enters : Enters (setting_of limits s.given) (run (setting_of limits s.given) (seen p)) (number p) (due (seen p)) (entries es)
   pub quota : feeds_by (number p) (seen p) + length es ≤ feed_quota (setting_of limits s.given) (number p)
+
+-- the turn is this pass's, which may enter the feeds by what it had seen before
+pub record IsTurnFor {R : Type 0} (limits : R → Limits) (s : Named R) (es : List Feed) (u : Turned R) (p : Pass Element) : Type 0 where
+  pub found : Found limits s p u
+  pub may : MayEnter limits s p es
+
+-- The pass was refused: in one turn, which it ended without a mark, it found a history behind which n feeds more and an Ask
+-- of each pass don't fit the room
+pub record WasFull {R : Type 0} (limits : R → Limits) (s : Named R) (n : ℕ) (from to : Pass Element) : Type 0 where
+  pub goes_on : GoesOn limits s from to
+  pub same_mine : mine to ≡ mine from
+  pub one_turn : turns_of (steps to) ≡ turns_of (steps from) + 1
+  pub full : s.given.room < length (queue (run (setting_of limits s.given) (seen to))) + n + length s.given.quotas
 
 -- From the history H on, in which it made M, the pass p drained: it took the queue some times, and then left or granted. It
 -- processed at most `budget` feeds, and left with something queued only where it processed just as many. Once it has

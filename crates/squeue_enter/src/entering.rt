@@ -1,14 +1,19 @@
 //! Entering with a chain of feeds.
-ghost use Rattle.std.specs.Prelude.{◌≡◌, ◌+◌, ◌≤◌, ◌<◌, ◌∷◌, [], length, IfOk, MatchResult};
+ghost use Rattle.std.specs.Prelude.{◌≡◌, ◌+◌, ◌≤◌, ◌<◌, ◌∷◌, [], length, IfOk, IfErr, MatchResult};
 ghost use Rattle.turn_gate.specs.Passes.{IsReturned, missed, steps};
+ghost use Rattle.turn_gate.specs.declared.pass.Pass.{Pass};
+ghost use Rattle.perimeter_core.specs.History.{Element};
+ghost use Rattle.squeue_state.specs.Naming.{setting_of};
+ghost use Rattle.squeue_state.specs.Behind.{FeedsFit};
 ghost use Rattle.squeue_state.specs.Elements.{number_of};
 ghost use Rattle.squeue_enter.specs.Ways.{way_of};
-ghost use Rattle.squeue_enter.specs.Entering.{MayEnter, HasEntered, HasFilled, HasTurned, Brought, MayGoOn};
+ghost use Rattle.squeue_state.specs.AllRoom.{HasAllRoom};
+ghost use Rattle.squeue_enter.specs.Entering.{MayEnter, IsTurnFor, HasEntered, HasFilled, HasTurned, WasFull, Brought, MayGoOn};
 
 use crate::Mode;
 use perimeter_core::{Feed, Hook, Resident, is_polling};
 use squeue_drain::{Owner, drain, is_free, serve_one};
-use squeue_state::{Missed, Pass, Squeue};
+use squeue_state::{Missed, Pass, Squeue, Turn};
 use std::alloc::Global;
 use std::sync::Wait;
 
@@ -63,11 +68,60 @@ pub fn enter<R: Resident, H: Hook, W: Wait>(
     requires some { 0 < length chain.now }
     requires may { MayEnter R.limits sq.now pass chain.now }
     requires budget { 1 ≤ budget }
+    requires room { HasAllRoom sq.now.given }
     ensures entered { HasEntered R.limits sq.now mode budget chain.now pass result }
     ensures brought { Brought R.limits sq.now chain.now pass result.pass }
     ensures more { MayGoOn R.limits sq.now chain.now pass result.pass }
 {
     let turn = sq.turn(rt, pass);
+    enter_in(sq, rt, alloc, hook, turn, chain, mode, budget)
+}
+
+/// Enters the feeds of the chain, which isn't empty, where they fit behind what is queued. Else nothing is entered, the
+/// pass comes back, and it may try again. The first turn decides both.
+pub fn enter_or_full<R: Resident, H: Hook, W: Wait>(
+    sq: &Squeue<R>,
+    rt: &W,
+    alloc: Global,
+    hook: &H,
+    pass: Pass,
+    chain: &[Feed],
+    mode: Mode,
+    budget: u32,
+) -> Result<Entered, Pass>
+    requires some { 0 < length chain.now }
+    requires may { MayEnter R.limits sq.now pass chain.now }
+    requires budget { 1 ≤ budget }
+    ensures entered { IfOk result (λ r. HasEntered R.limits sq.now mode budget chain.now pass r) }
+    ensures full { IfErr result (λ q. WasFull R.limits sq.now (length chain.now) pass q) }
+    ensures brought { MatchResult result (λ r. Brought R.limits sq.now chain.now pass r.pass) (λ q. Brought R.limits sq.now [] pass q) }
+    ensures more { MatchResult result (λ r. MayGoOn R.limits sq.now chain.now pass r.pass) (λ q. MayGoOn R.limits sq.now [] pass q) }
+{
+    let turn = sq.turn(rt, pass);
+    if turn.fits(chain.len()) {
+        Ok(enter_in(sq, rt, alloc, hook, turn, chain, mode, budget))
+    } else {
+        Err(sq.plain(turn))
+    }
+}
+
+// Enters the feeds in a turn that found room for them.
+fn enter_in<R: Resident, H: Hook, W: Wait>(
+    sq: &Squeue<R>,
+    rt: &W,
+    alloc: Global,
+    hook: &H,
+    turn: Turn<R>,
+    chain: &[Feed],
+    mode: Mode,
+    budget: u32,
+) -> Entered
+    requires some { 0 < length chain.now }
+    requires turn { (p : Pass Element) × IsTurnFor R.limits sq.now chain.now turn p }
+    requires budget { 1 ≤ budget }
+    requires room { FeedsFit (setting_of R.limits sq.now.given) sq.now.given.room turn.found (length chain.now) }
+    ensures { (p : Pass Element) → IsTurnFor R.limits sq.now chain.now turn p → HasEntered R.limits sq.now mode budget chain.now p result }
+{
     let woke = is_free(turn.own());
     match choose(mode, woke, turn.chain_len() == 0, chain.len() == 1) {
         Way::Fill => {
@@ -100,7 +154,8 @@ pub fn enter<R: Resident, H: Hook, W: Wait>(
 /// Queues one feed where the gate is free, and doesn't wait. Where the gate is held nothing is entered, and `Missed`
 /// has the pass back.
 pub fn try_fill<R: Resident>(sq: &Squeue<R>, pass: Pass, feed: Feed) -> Result<Pass, Missed>
-    requires { MayEnter R.limits sq.now pass (feed ∷ []) }
+    requires may { MayEnter R.limits sq.now pass (feed ∷ []) }
+    requires room { HasAllRoom sq.now.given }
     ensures filled { MatchResult result (λ q. HasFilled R.limits sq.now pass (feed ∷ []) q × HasTurned (steps pass) (steps q)) (λ m. missed (steps pass) m
         × IsReturned number_of sq.now.gate pass m.pass) }
     ensures brought { IfOk result (λ q. Brought R.limits sq.now (feed ∷ []) pass q) }
@@ -109,6 +164,29 @@ pub fn try_fill<R: Resident>(sq: &Squeue<R>, pass: Pass, feed: Feed) -> Result<P
     match sq.try_turn(pass) {
         Ok(turn) => Ok(sq.fill(turn, &[feed])),
         Err(missed) => Err(missed),
+    }
+}
+
+/// Queues the feeds of the chain, which isn't empty, where they fit behind what is queued. Else nothing is entered, the
+/// pass comes back, and it may try again.
+pub fn fill_or_full<R: Resident, W: Wait>(
+    sq: &Squeue<R>,
+    rt: &W,
+    pass: Pass,
+    chain: &[Feed],
+) -> Result<Pass, Pass>
+    requires some { 0 < length chain.now }
+    requires may { MayEnter R.limits sq.now pass chain.now }
+    ensures filled { IfOk result (λ q. HasFilled R.limits sq.now pass chain.now q) }
+    ensures full { IfErr result (λ q. WasFull R.limits sq.now (length chain.now) pass q) }
+    ensures brought { MatchResult result (λ q. Brought R.limits sq.now chain.now pass q) (λ q. Brought R.limits sq.now [] pass q) }
+    ensures more { MatchResult result (λ q. MayGoOn R.limits sq.now chain.now pass q) (λ q. MayGoOn R.limits sq.now [] pass q) }
+{
+    let turn = sq.turn(rt, pass);
+    if turn.fits(chain.len()) {
+        Ok(sq.fill(turn, chain))
+    } else {
+        Err(sq.plain(turn))
     }
 }
 

@@ -10,7 +10,7 @@ ghost use Rattle.squeue_enter.specs.Ways.{mode_of, mode_word};
 
 mod entering;
 
-pub use entering::{Entered, How, enter, try_fill};
+pub use entering::{Entered, How, enter, enter_or_full, fill_or_full, try_fill};
 
 /// What `enter` does with a chain of entries (the entry modes of illumos' `squeue_enter`).
 #[derive(Clone, Copy, Debug, PartialEq, Eq)]

@@ -9,6 +9,7 @@ use Rattle.turn_gate.specs.Passes.{IsPassOf, number, seen}
 use Rattle.turn_gate.specs.declared.pass.Pass.{Pass}
 use Rattle.squeue_state.specs.Naming.{Named, setting_of}
 use Rattle.squeue_state.specs.Elements.{number_of}
+use Rattle.squeue_state.specs.AllRoom.{HasAllRoom}
 use Rattle.squeue_enter.specs.Entering.{MayEnter}
 
 -- each of n connections may have so many feeds, no block may leave, and no call exists
@@ -45,9 +46,9 @@ abbrev pub in_order : ℕ → ℕ → ℕ → List Feed
 in_order c n zero = []
 in_order c n (suc count) = record { c = c; n = n } ∷ in_order c (suc n) count
 
--- the pass of this number may enter these feeds
+-- the pass of this number may enter these feeds, for which there is room
 abbrev pub MayBring : {R : Type 0} → (R → Limits) → Named R → ℕ → List Feed → Pass Element → Type 0
-MayBring limits s k es p = (number p ≡ k) × MayEnter limits s p es
+MayBring limits s k es p = (number p ≡ k) × MayEnter limits s p es × HasAllRoom s.given
 
 -- the pass of this number isn't inside, and may close
 abbrev pub IsIdle : {R : Type 0} → (R → Limits) → Named R → ℕ → Pass Element → Type 0

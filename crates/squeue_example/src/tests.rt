@@ -3,6 +3,7 @@ ghost use Rattle.std.specs.Prelude.{◌≡◌, ◌+◌, ◌<◌, ◌≤◌, leng
 ghost use Rattle.perimeter_core.specs.Logging.{size_of};
 ghost use Rattle.perimeter_core.specs.Perimeter.{Idle};
 ghost use Rattle.perimeter_core.specs.History.{run};
+ghost use Rattle.squeue_state.specs.AllRoom.{HasAllRoom};
 ghost use Rattle.squeue_enter.specs.Entering.{MayEnter, MayGoOn};
 ghost use Rattle.squeue_state.specs.Elements.{number_of};
 ghost use Rattle.squeue_state.specs.Naming.{setting_of};
@@ -46,6 +47,7 @@ fn enters<R: Resident, W: Wait + Abort>(
 ) -> Pass
     requires some { 0 < length chain.now }
     requires may { MayEnter R.limits squeue.now pass chain.now }
+    requires room { HasAllRoom squeue.now.given }
     ensures pass { IsPassOf number_of squeue.now.gate result }
     ensures number { number result ≡ number pass }
     ensures idle { Idle (run (setting_of R.limits squeue.now.given) (seen result)) (number result) }

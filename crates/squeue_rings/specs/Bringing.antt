@@ -10,6 +10,7 @@ use Rattle.perimeter_core.specs.Deeds.{acts, due}
 use Rattle.squeue_state.specs.Naming.{Named, setting_of}
 use Rattle.squeue_enter.specs.declared.Mode.{Mode}
 use Rattle.squeue_enter.specs.declared.entering.Entered.{Entered}
+use Rattle.squeue_state.specs.AllRoom.{HasAllRoom}
 use Rattle.squeue_enter.specs.Entering.{Brought, HasEntered}
 use Rattle.conn_migrate.specs.Moving.{Moved, RingLearns}
 use Rattle.conn_migrate.specs.Stays.{IsLinked}
@@ -51,10 +52,11 @@ pub record HasMoved {R : Type 0} (limits : R → Limits) (squeues spread : ℕ)
   pub next : due (seen qa) f.c ≡ due (seen pa) f.c
   pub due : due (seen qb) f.c ≡ due (seen qa) f.c
 
--- the squeues are numbered, and their residents have the same origin
+-- the squeues are numbered, have room for all that they are made for, and their residents have the same origin
 pub record AreOneRun {R O : Type 0} (origin : R → O) (squeues : ℕ) (ss : List (Named R)) : Type 0 where
   pub count : length ss ≡ squeues
   pub numbered : AreNumbered ss
+  pub room : Each (λ s. HasAllRoom s.given) ss
   pub same_origin : (i j : ℕ) (s t : Named R) → slice_get ss i ≡ Some s → slice_get ss j ≡ Some t → origin s.given.first ≡ origin t.given.first
 
 -- each squeue has at most so many connections

@@ -7,6 +7,7 @@ ghost use Rattle.perimeter_core.specs.declared.entries.Feed.{Feed};
 ghost use Rattle.perimeter_core.specs.History.{Element};
 ghost use Rattle.squeue_state.specs.Naming.{Named};
 ghost use Rattle.squeue_enter.specs.declared.Mode.{Mode};
+ghost use Rattle.squeue_state.specs.AllRoom.{HasAllRoom};
 ghost use Rattle.squeue_enter.specs.Entering.{MayEnter};
 ghost use Rattle.synch_enter.specs.Hinting.{conns_of, squeues_of};
 ghost use Rattle.conn_migrate.specs.Moving.{MayCome, MayLeave};
@@ -321,6 +322,7 @@ fn enter_at<R: Resident, H: Hook, W: Wait>(
 ) -> bool
     requires some { 0 < length run.now }
     requires may { Holds (λ x. MayEnter R.limits squeue.now x run.now) place.old }
+    requires room { HasAllRoom squeue.now.given }
     ensures { Became (λ x y. HasBrought R.limits squeue.now pace.mode pace.budget run.now x y) place.old place.new }
 {
     let pass = take_pass(place);

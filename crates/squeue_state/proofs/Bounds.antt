@@ -8,11 +8,11 @@ use Rattle.perimeter_core.specs.Legal.{May}
 use Rattle.perimeter_core.specs.declared.entries.Feed.{Feed}
 use Rattle.perimeter_core.specs.declared.entries.Entry.TheVariants as Entry'
 use Rattle.perimeter_core.proofs.OneMore.{run_push, legal_more}
-use Rattle.perimeter_core.proofs.Room.{queued_fits}
+use Rattle.squeue_state.proofs.QueuedRoom.{queued_few, queued_within, fits_after}
 use Rattle.perimeter_core.proofs.HistoryLength.{length_bounded}
 use Rattle.squeue_state.specs.declared.inner.Inner.{Inner}
 use Rattle.squeue_state.specs.Naming.{Given, setting_of}
-use Rattle.squeue_state.specs.Behind.{Behind, room_of}
+use Rattle.squeue_state.specs.Behind.{Behind, FeedsFit}
 use Rattle.squeue_state.specs.Elements.{filled_by, claimed_by, ask_claimed_by, asked_by}
 use Rattle.squeue_state.proofs.Marks.{entries-length}
 
@@ -34,44 +34,30 @@ one_flag n = flag_more n ∙ ap (λ k. replicate k false) (sym (add-one n))
 
 module _ {R P O : Type 0} (G : Ghosts R P O) where
   -- what is filled fits beside what is queued
-  pub fill_fits : (g : Given R) (i : Inner R) (H : List Element) (p : ℕ) (es : List Feed) → Behind G g i H → May (setting_of G.limits g) H (filled_by p es) → length (run (setting_of G.limits g) H).chain + length es ≤ room_of g.quotas
-  fill_fits g i H p es b m =
+  pub fill_fits : (g : Given R) (i : Inner R) (H : List Element) (es : List Feed) → Behind G g i H → FeedsFit (setting_of G.limits g) g.room H (length es) → length (run (setting_of G.limits g) H).chain + length es ≤ g.room
+  fill_fits g i H es b fit =
       let S = setting_of G.limits g in
-      let e = filled_by p es in
-      let fits = queued_fits S (H ++ e ∷ []) (legal_more S H e b.legal m) in
-      let s = run_push (start S) H e in
-      let hand = ap (λ t. length t.hand) s in
-      let chain = ap (λ t. length t.chain) s in
-      omega (arith, hand, chain, entries-length es, length-append (run S (H ++ e ∷ [])).hand (run S (H ++ e ∷ [])).chain, length-append (run S H).chain (entries es))
+      omega (arith, fit, queued_few S H b.legal, length-append (run S H).hand (run S H).chain)
 
   -- what is left of the hand fits before the chain
-  pub left_fits : (g : Given R) (i : Inner R) (H : List Element) → Behind G g i H → length (run (setting_of G.limits g) H).hand + length (run (setting_of G.limits g) H).chain ≤ room_of g.quotas
-  left_fits g i H b = let S = setting_of G.limits g in omega (arith, queued_fits S H b.legal, length-append (run S H).hand (run S H).chain)
+  pub left_fits : (g : Given R) (i : Inner R) (H : List Element) → Behind G g i H → length (run (setting_of G.limits g) H).hand + length (run (setting_of G.limits g) H).chain ≤ g.room
+  left_fits g i H b = b.short
 
-  -- so does what is claimed, behind what is queued
-  pub claim_fits : (g : Given R) (i : Inner R) (H : List Element) (p : ℕ) (es : List Feed) → Behind G g i H → May (setting_of G.limits g) H (claimed_by p es) → length (run (setting_of G.limits g) H).chain + length es ≤ room_of g.quotas
-  claim_fits g i H p es b m =
-      let S = setting_of G.limits g in
-      let e = claimed_by p es in
-      let fits = queued_fits S (H ++ e ∷ []) (legal_more S H e b.legal m) in
-      let hand = ap (λ t. length t.hand) (run_push (start S) H e) in
-      omega (arith, hand, entries-length es, length-append (run S (H ++ e ∷ [])).hand (run S (H ++ e ∷ [])).chain, length-append (run S H).chain (entries es))
-
-  pub claim_ask_fits : (g : Given R) (i : Inner R) (H : List Element) (p : ℕ) → Behind G g i H → May (setting_of G.limits g) H (ask_claimed_by p) → length (run (setting_of G.limits g) H).chain < room_of g.quotas
+  pub claim_ask_fits : (g : Given R) (i : Inner R) (H : List Element) (p : ℕ) → Behind G g i H → May (setting_of G.limits g) H (ask_claimed_by p) → length (run (setting_of G.limits g) H).chain < g.room
   claim_ask_fits g i H p b m =
       let S = setting_of G.limits g in
       let e = ask_claimed_by p in
-      let fits = queued_fits S (H ++ e ∷ []) (legal_more S H e b.legal m) in
+      let fits = queued_within S g.room (H ++ e ∷ []) (legal_more S H e b.legal m) (fits_after S g.room H e b.legal m b.fits) in
       let hand = ap (λ t. length t.hand) (run_push (start S) H e) in
-      omega (arith, hand, length-append (run S (H ++ e ∷ [])).hand (run S (H ++ e ∷ [])).chain, length-append (run S H).chain (Entry'.Ask p ∷ []))
+      omega (arith, fits, hand, length-append (run S (H ++ e ∷ [])).hand (run S (H ++ e ∷ [])).chain, length-append (run S H).chain (Entry'.Ask p ∷ []))
 
-  pub ask_fits : (g : Given R) (i : Inner R) (H : List Element) (p : ℕ) → Behind G g i H → May (setting_of G.limits g) H (asked_by p) → length (run (setting_of G.limits g) H).chain < room_of g.quotas
+  pub ask_fits : (g : Given R) (i : Inner R) (H : List Element) (p : ℕ) → Behind G g i H → May (setting_of G.limits g) H (asked_by p) → length (run (setting_of G.limits g) H).chain < g.room
   ask_fits g i H p b m =
       let S = setting_of G.limits g in
       let e = asked_by p in
-      let fits = queued_fits S (H ++ e ∷ []) (legal_more S H e b.legal m) in
+      let fits = queued_within S g.room (H ++ e ∷ []) (legal_more S H e b.legal m) (fits_after S g.room H e b.legal m b.fits) in
       let chain = ap (λ t. length t.chain) (run_push (start S) H e) in
-      omega (arith, chain, length-append (run S (H ++ e ∷ [])).hand (run S (H ++ e ∷ [])).chain, length-append (run S H).chain (Entry'.Ask p ∷ []))
+      omega (arith, fits, chain, length-append (run S (H ++ e ∷ [])).hand (run S (H ++ e ∷ [])).chain, length-append (run S H).chain (Entry'.Ask p ∷ []))
 
   -- a hand is short
   pub few_hand : (g : Given R) (i : Inner R) (H : List Element) → Behind G g i H → length (run (setting_of G.limits g) H).hand < 2 ^ 31

@@ -11,3 +11,4 @@ pub mod Finish
 pub mod Opening
 pub mod Comes
 pub mod Marks
+pub mod QueuedRoom

@@ -9,9 +9,9 @@ use Rattle.perimeter_core.specs.History.{Limits, all_quotas, feed_quotas}
 use Rattle.perimeter_core.specs.Blocks.{Blocks, peri}
 use Rattle.squeue_state.specs.Told.{Traced, mark_of}
 use Rattle.squeue_state.specs.declared.inner.Inner.{Inner}
-use Rattle.squeue_state.specs.Limits.{most_asks, most_entries, most_feeds, most_passes, most_quotas}
+use Rattle.squeue_state.specs.Limits.{most_entries, most_ever, most_room, most_passes, most_quotas}
 use Rattle.squeue_state.specs.Naming.{Given, setting_of}
-use Rattle.squeue_state.specs.Behind.{Behind, Noted, HasEmpty, room_of}
+use Rattle.squeue_state.specs.Behind.{Behind, Noted, HasEmpty}
 use Rattle.squeue_state.specs.Clauses.{StandsEmpty, ask_quotas}
 use Rattle.squeue_state.proofs.RoomMade.{all_both}
 
@@ -31,10 +31,11 @@ both_none false xs = refl
 
 module _ {R P O : Type 0} (G : Ghosts R P O) where
   pub opens : (g : Given R) (i : Inner R) (r : R) (qs : List (ℕ × ℕ)) → g.quotas ≡ qs → g.first ≡ r → length g.starts ≡ G.size r → ((blocks : Blocks) (c : ℕ) → G.stands r blocks → get_or g.starts c false ≡ is_some (blocks c))
-      → StandsEmpty (G.stands r) → length qs ≤ most_quotas → feed_quotas qs ≤ most_feeds → ask_quotas qs ≤ most_asks
-      → i.own ≡ Free → i.chain.items ≡ [] → i.wake ≡ false → i.polling ≡ false → i.here.items ≡ g.starts → i.closed.items ≡ replicate (length qs + 1) false → i.resident ≡ Some r → HasEmpty (room_of qs) i.spare → room_of qs ≡ vec_capacity i.chain
+      → StandsEmpty (G.stands r) → length qs ≤ most_quotas → feed_quotas qs ≤ most_ever → ask_quotas qs ≤ most_ever
+      → (room : ℕ) → g.room ≡ room → length qs ≤ room → room ≤ most_room
+      → i.own ≡ Free → i.chain.items ≡ [] → i.wake ≡ false → i.polling ≡ false → i.here.items ≡ g.starts → i.closed.items ≡ replicate (length qs + 1) false → i.resident ≡ Some r → HasEmpty room i.spare → room ≡ vec_capacity i.chain → i.in_hand ≡ 0
       → Behind G g i []
-  opens g i r qs is first conns here new few feeds asks own chain wake polling flags closed resident spare room =
+  opens g i r qs is first conns here new few feeds asks room its least most own chain wake polling flags closed resident spare full out =
       let same = new_blocks G.limits g new.0 (λ c. here new.0 c new.1) new.2 in
       record {
         legal = tt;
@@ -45,9 +46,12 @@ module _ {R P O : Type 0} (G : Ghosts R P O) where
         here = flags;
         closed = closed ∙ ap (λ (q : List (ℕ × ℕ)). replicate (length q + 1) false) (sym is);
         resident = rw (own, resident) (record { stands_for = subst (G.stands r) same new.1; same_limits = ap G.limits (sym first); same_size = sym conns; same_origin = ap G.origin (sym first) });
-        spare = rw own (subst (λ (q : List (ℕ × ℕ)). HasEmpty (room_of q) i.spare) (sym is) spare);
-        room = subst (λ (q : List (ℕ × ℕ)). room_of q ≡ vec_capacity i.chain) (sym is) room;
-        few = subst (λ (q : List (ℕ × ℕ)). (all_quotas q ≤ most_entries) × (length q < most_passes) × (feed_quotas q ≤ most_feeds)) (sym is) (let both = all_both qs in omega (arith, both, feeds, asks), omega (arith, few), feeds);
+        spare = rw own (subst (λ (n : ℕ). HasEmpty n i.spare) (sym its) spare);
+        room = its ∙ full;
+        out = out;
+        fits = omega (arith, its, least, ap length is);
+        short = omega arith;
+        few = subst (λ (q : List (ℕ × ℕ)). (all_quotas q ≤ most_entries) × (length q < most_passes) × (g.room ≤ most_room)) (sym is) (let both = all_both qs in omega (arith, both, feeds, asks), omega (arith, few), omega (arith, its, most));
       }
 
 pub notes_none : {R : Type 0} (g : Given R) (kept : Bool) (t : Traced) (qs : List (ℕ × ℕ)) → g.quotas ≡ qs → g.traced ≡ kept → t.marks ≡ [] → t.entries ≡ []

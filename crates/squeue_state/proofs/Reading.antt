@@ -3,10 +3,11 @@ use Rattle.std.proofs.Common.{◌≡◌, ◌+◌, ◌<◌, ◌^◌, ◌↔◌, �
 use Rattle.std.proofs.lemmas.List.{get_or_default}
 use Rattle.perimeter_core.specs.declared.resident.Resident.{Ghosts}
 use Rattle.perimeter_core.specs.Perimeter.{is_here, is_closed}
+use Rattle.perimeter_core.specs.Backlog.{queue}
 use Rattle.perimeter_core.specs.History.{Element, start, run}
 use Rattle.perimeter_core.proofs.BlocksFollow.{flags}
 use Rattle.perimeter_core.proofs.HistoryLength.{closed_flags}
-use Rattle.perimeter_core.proofs.Room.{queued_fits}
+use Rattle.squeue_state.proofs.QueuedRoom.{queued_within}
 use Rattle.turn_gate.specs.Helds.{held_value, held_seen}
 use Rattle.turn_gate.specs.declared.held.Held.{Held}
 use Rattle.squeue_state.specs.declared.kind.Kind.{Kind}
@@ -27,9 +28,15 @@ module _ {R P O : Type 0} (G : Ghosts R P O) where
   pub few_queued : (g : Given R) (i : Inner R) (H : List Element) → Behind G g i H → length i.chain.items < 2 ^ 31
   few_queued g i H b =
       let S = setting_of G.limits g in
-      let fits = queued_fits S H b.legal in
+      let fits = queued_within S g.room H b.legal b.fits in
       let few = b.few in
       omega (arith, fits, few.1, few.2, ap length b.chain, length-append (run S H).hand (run S H).chain)
+
+  -- what is queued or in the owner's hand, as the gate counts it
+  pub backlog_is : (g : Given R) (i : Inner R) (H : List Element) → Behind G g i H → length (queue (run (setting_of G.limits g) H)) ≡ i.in_hand + length i.chain.items
+  backlog_is g i H b =
+      let S = setting_of G.limits g in
+      omega (arith, b.out, ap length b.chain, length-append (run S H).hand (run S H).chain)
 
   pub here_flags : (g : Given R) (i : Inner R) (H : List Element) → Behind G g i H → length i.here.items ≡ length g.starts
   here_flags g i H b = ap length b.here ∙ flags (start (setting_of G.limits g)) H

@@ -7,8 +7,9 @@ use Rattle.std.proofs.lemmas.Bool.{cases_lt}
 use Rattle.perimeter_core.specs.declared.entries.Act.{Act}
 use Rattle.perimeter_core.specs.History.{all_quotas, feed_quotas}
 use Rattle.perimeter_core.specs.Blocks.{Blocks}
+use Rattle.squeue_state.specs.declared.guarded.Life.{Life}
 use Rattle.squeue_state.specs.declared.guarded.Quota.{Quota}
-use Rattle.squeue_state.specs.Behind.{pairs}
+use Rattle.squeue_state.specs.Behind.{ever, pairs}
 use Rattle.squeue_state.specs.Clauses.{ask_quotas}
 
 pub all_both : (qs : List (ℕ × ℕ)) → all_quotas qs ≡ feed_quotas qs + ask_quotas qs
@@ -43,6 +44,20 @@ asks_part (q ∷ qs) (suc i) = omega (arith, asks_part qs i)
 
 pub pairs_all : (qs : List Quota) (i : ℕ) → length qs ≤ i → pairs (take i qs) ≡ pairs qs
 pairs_all qs i h = ap pairs (take_all i qs h)
+
+pairs_push : (qs : List Quota) (q : Quota) → pairs (qs ++ q ∷ []) ≡ pairs qs ++ (q.feeds, q.asks) ∷ []
+pairs_push [] q = refl
+pairs_push (x ∷ qs) q = ap (λ rest. (x.feeds, x.asks) ∷ rest) (pairs_push qs q)
+
+ever_push : (ls : List Life) (l : Life) → ever (ls ++ l ∷ []) ≡ ever ls ++ (l.feeds, l.asks) ∷ []
+ever_push [] l = refl
+ever_push (x ∷ ls) l = ap (λ rest. (x.feeds, x.asks) ∷ rest) (ever_push ls l)
+
+-- one life more, as the next quota says
+pub lives_next : (ls : List Life) (l : Life) (qs : List Quota) (i : ℕ) (d : Quota) → i < length qs → ever ls ≡ pairs (take i qs)
+    → l.feeds ≡ (get_or qs i d).feeds → l.asks ≡ (get_or qs i d).asks → ever (ls ++ l ∷ []) ≡ pairs (take (i + 1) qs)
+lives_next ls l qs i d h so_far feeds asks =
+    rw (ever_push ls l, so_far, feeds, asks, take_more qs i d h, pairs_push (take i qs) (get_or qs i d)) refl
 
 none_above : (b : Option (List Act)) (c n : ℕ) → ((had : List Act) → b ≡ Some had → c < n) → n ≤ c → false ≡ is_some b
 none_above None c n small above = refl

@@ -1,5 +1,5 @@
 -- One more element behind the gate.
-use Rattle.std.proofs.Common.{◌≡◌, ℕ, ◌||◌, List, [], ◌∷◌, ◌++◌, ap, sym, ◌∙◌, None, Some, Option, not, Bool, true, false, refl, length, length-set, slice_set, arith}
+use Rattle.std.proofs.Common.{◌≡◌, ℕ, ◌||◌, List, [], ◌∷◌, ◌++◌, ◌+◌, ap, sym, ◌∙◌, None, Some, Option, not, Bool, true, false, refl, length, length-set, slice_set, arith}
 use Rattle.std.specs.Prelude.{vec_capacity}
 use Rattle.std.specs.Prelude.{Vec}
 use Rattle.perimeter_core.specs.declared.resident.Resident.{Ghosts}
@@ -13,8 +13,9 @@ use Rattle.perimeter_core.specs.declared.marks.Own.{Own}
 use Rattle.perimeter_core.specs.declared.marks.Own.TheVariants.{Free, Out, Granted}
 use Rattle.perimeter_core.specs.Perimeter.{State, is_free, is_empty, polls, processed, unprocessed, here_after, after}
 use Rattle.perimeter_core.specs.History.{Element, Setting, start, run}
-use Rattle.perimeter_core.specs.Legal.{May}
-use Rattle.perimeter_core.specs.Deeds.{entries}
+use Rattle.perimeter_core.specs.Legal.{May, feed_count}
+use Rattle.squeue_state.proofs.QueuedRoom.{fits_after, short_queue, feed_entries}
+use Rattle.perimeter_core.specs.Deeds.{entries, entries_of}
 use Rattle.perimeter_core.specs.Blocks.{Blocks, peri, with_feeds, with_act}
 use Rattle.perimeter_core.proofs.OneMore.{run_push, legal_more}
 use Rattle.perimeter_core.proofs.BlocksFollow.{peri_push}
@@ -22,7 +23,7 @@ use Rattle.perimeter_core.proofs.FeedActs.{with_none}
 use Rattle.squeue_state.specs.declared.inner.Inner.{Inner}
 use Rattle.squeue_state.specs.Naming.{Given, setting_of}
 use Rattle.squeue_state.specs.Elements.{filled_by, fast_by, claimed_by, ask_claimed_by, taken_by, left_by_pass, asked_by, granted_by, accepted_by, worked_by, closed_by}
-use Rattle.squeue_state.specs.Behind.{Behind, IsPeri, Lies, Spare, HasEmpty, room_of, ActBelow}
+use Rattle.squeue_state.specs.Behind.{Behind, IsPeri, Lies, Spare, HasEmpty, FeedsFit, ActBelow}
 use Rattle.perimeter_core.specs.Legal.{InRange}
 use Rattle.perimeter_core.specs.History.{conns}
 use Rattle.perimeter_core.specs.declared.marks.Mark.TheVariants as On
@@ -49,12 +50,15 @@ module _ {R P O : Type 0} (G : Ghosts R P O) (g : Given R) (i j : Inner R) (H : 
   pub goes_on : (e : Element) → B i H → May S H e
       → j.own ≡ (after (run S H) e.mark).own → j.chain.items ≡ (after (run S H) e.mark).chain → j.wake ≡ (after (run S H) e.mark).wake → j.polling ≡ (after (run S H) e.mark).polling
       → j.here.items ≡ (after (run S H) e.mark).here → j.closed.items ≡ (after (run S H) e.mark).closed
-      → Lies G g j.own j.resident (peri S (H ++ e ∷ [])) → Spare (room_of g.quotas) j.own j.spare → room_of g.quotas ≡ vec_capacity j.chain
+      → Lies G g j.own j.resident (peri S (H ++ e ∷ [])) → Spare g.room j.own j.spare → g.room ≡ vec_capacity j.chain
+      → j.in_hand ≡ length (after (run S H) e.mark).hand → FeedsFit S g.room H (feed_count (entries_of e.mark))
       → B j (H ++ e ∷ [])
-  goes_on e b m own chain wake polling here closed resident spare room =
+  goes_on e b m own chain wake polling here closed resident spare room out fits =
       let s = sym (run_push (start S) H e) in
+      let legal = legal_more S H e b.legal m in
+      let within = fits_after S g.room H e b.legal m fits in
       record {
-        legal = legal_more S H e b.legal m;
+        legal = legal;
         own = own ∙ ap (λ (t : State). t.own) s;
         chain = chain ∙ ap (λ (t : State). t.chain) s;
         wake = wake ∙ ap (λ (t : State). t.wake) s;
@@ -64,104 +68,107 @@ module _ {R P O : Type 0} (G : Ghosts R P O) (g : Given R) (i j : Inner R) (H : 
         resident = resident;
         spare = spare;
         room = room;
+        out = out ∙ ap (λ (t : State). length t.hand) s;
+        fits = within;
+        short = short_queue S g.room (H ++ e ∷ []) legal within;
         few = b.few;
       }
 
   pub fill_behind : (p : ℕ) (es : List Feed) → B i H → May S H (filled_by p es)
       → j.own ≡ i.own → j.chain.items ≡ i.chain.items ++ entries es → j.wake ≡ (is_free i.own || i.wake) → j.polling ≡ polls (i.chain.items ++ entries es) i.polling
-      → j.here.items ≡ i.here.items → j.closed.items ≡ i.closed.items → j.resident ≡ i.resident → j.spare ≡ i.spare → room_of g.quotas ≡ vec_capacity j.chain → B j (H ++ filled_by p es ∷ [])
-  fill_behind p es b m own chain wake polling here closed resident spare room =
+      → j.here.items ≡ i.here.items → j.closed.items ≡ i.closed.items → j.resident ≡ i.resident → j.spare ≡ i.spare → g.room ≡ vec_capacity j.chain → j.in_hand ≡ i.in_hand → FeedsFit S g.room H (length es) → B j (H ++ filled_by p es ∷ [])
+  fill_behind p es b m own chain wake polling here closed resident spare room out fits =
       let e = filled_by p es in
       goes_on e b m (own ∙ b.own) (rw b.chain at chain) (rw (b.own, b.wake) at wake) (rw (b.chain, b.polling) at polling) (here ∙ b.here) (closed ∙ b.closed)
       (rw (own, resident, peri_push S H e m, with_none (peri S H)) b.resident)
-      (rw (own, spare) b.spare) room
+      (rw (own, spare) b.spare) room (out ∙ b.out) (omega (arith, fits, feed_entries es))
 
   pub close_behind : (p : ℕ) → B i H → May S H (closed_by p)
       → j.own ≡ i.own → j.chain.items ≡ i.chain.items → j.wake ≡ i.wake → j.polling ≡ polls i.chain.items i.polling
-      → j.here.items ≡ i.here.items → j.closed.items ≡ slice_set i.closed.items p true → j.resident ≡ i.resident → j.spare ≡ i.spare → room_of g.quotas ≡ vec_capacity j.chain → B j (H ++ closed_by p ∷ [])
-  close_behind p b m own chain wake polling here closed resident spare room =
+      → j.here.items ≡ i.here.items → j.closed.items ≡ slice_set i.closed.items p true → j.resident ≡ i.resident → j.spare ≡ i.spare → g.room ≡ vec_capacity j.chain → j.in_hand ≡ i.in_hand → B j (H ++ closed_by p ∷ [])
+  close_behind p b m own chain wake polling here closed resident spare room out =
       let e = closed_by p in
       goes_on e b m (own ∙ b.own) (chain ∙ b.chain) (wake ∙ b.wake) (rw (b.chain, b.polling) at polling) (here ∙ b.here) (rw b.closed at closed)
       (rw (own, resident, peri_push S H e m, with_none (peri S H)) b.resident)
-      (rw (own, spare) b.spare) room
+      (rw (own, spare) b.spare) room (out ∙ b.out) b.fits
 
   pub accept_behind : (p : ℕ) → B i H → May S H (accepted_by p)
       → j.own ≡ Out p → j.chain.items ≡ i.chain.items → j.wake ≡ i.wake → j.polling ≡ polls i.chain.items i.polling
-      → j.here.items ≡ i.here.items → j.closed.items ≡ i.closed.items → j.resident ≡ None → j.spare ≡ None → room_of g.quotas ≡ vec_capacity j.chain → B j (H ++ accepted_by p ∷ [])
-  accept_behind p b m own chain wake polling here closed resident spare room =
+      → j.here.items ≡ i.here.items → j.closed.items ≡ i.closed.items → j.resident ≡ None → j.spare ≡ None → g.room ≡ vec_capacity j.chain → j.in_hand ≡ 0 → B j (H ++ accepted_by p ∷ [])
+  accept_behind p b m own chain wake polling here closed resident spare room out =
       let e = accepted_by p in
       goes_on e b m own (chain ∙ b.chain) (wake ∙ b.wake) (rw (b.chain, b.polling) at polling) (here ∙ b.here) (closed ∙ b.closed)
-      (rw (own, resident) tt) (rw (own, spare) tt) room
+      (rw (own, resident) tt) (rw (own, spare) tt) room out b.fits
 
   -- the pass has the perimeter: neither resident nor second buffer lies in the gate
   pub out_behind : (e : Element) (p : ℕ) → B i H → May S H e
       → (after (run S H) e.mark).own ≡ Out p → (after (run S H) e.mark).here ≡ (run S H).here → (after (run S H) e.mark).closed ≡ (run S H).closed
       → j.own ≡ Out p → j.chain.items ≡ (after (run S H) e.mark).chain → j.wake ≡ (after (run S H) e.mark).wake → j.polling ≡ (after (run S H) e.mark).polling
-      → j.here.items ≡ i.here.items → j.closed.items ≡ i.closed.items → j.resident ≡ None → j.spare ≡ None → room_of g.quotas ≡ vec_capacity j.chain → B j (H ++ e ∷ [])
-  out_behind e p b m out same_here same_closed own chain wake polling here closed resident spare room =
-      goes_on e b m (own ∙ sym out) chain wake polling (here ∙ (b.here ∙ sym same_here)) (closed ∙ (b.closed ∙ sym same_closed))
-      (rw (own, resident) tt) (rw (own, spare) tt) room
+      → j.here.items ≡ i.here.items → j.closed.items ≡ i.closed.items → j.resident ≡ None → j.spare ≡ None → g.room ≡ vec_capacity j.chain → j.in_hand ≡ length (after (run S H) e.mark).hand → FeedsFit S g.room H (feed_count (entries_of e.mark)) → B j (H ++ e ∷ [])
+  out_behind e p b m is_out same_here same_closed own chain wake polling here closed resident spare room out fits =
+      goes_on e b m (own ∙ sym is_out) chain wake polling (here ∙ (b.here ∙ sym same_here)) (closed ∙ (b.closed ∙ sym same_closed))
+      (rw (own, resident) tt) (rw (own, spare) tt) room out fits
 
   pub work_behind : (p : ℕ) → B i H → May S H (worked_by p)
       → j.own ≡ Out p → j.chain.items ≡ [] → j.wake ≡ false → j.polling ≡ polls j.chain.items i.polling
-      → j.here.items ≡ i.here.items → j.closed.items ≡ i.closed.items → j.resident ≡ None → j.spare ≡ None → room_of g.quotas ≡ vec_capacity j.chain → B j (H ++ worked_by p ∷ [])
-  work_behind p b m own chain wake polling here closed resident spare room =
-      out_behind (worked_by p) p b m refl refl refl own chain wake (rw (chain, b.polling) at polling) here closed resident spare room
+      → j.here.items ≡ i.here.items → j.closed.items ≡ i.closed.items → j.resident ≡ None → j.spare ≡ None → g.room ≡ vec_capacity j.chain → j.in_hand ≡ length i.chain.items → B j (H ++ worked_by p ∷ [])
+  work_behind p b m own chain wake polling here closed resident spare room out =
+      out_behind (worked_by p) p b m refl refl refl own chain wake (rw (chain, b.polling) at polling) here closed resident spare room (out ∙ ap length b.chain) b.fits
 
   pub claim_behind : (p : ℕ) (es : List Feed) → B i H → May S H (claimed_by p es)
       → j.own ≡ Out p → j.chain.items ≡ [] → j.wake ≡ false → j.polling ≡ polls j.chain.items i.polling
-      → j.here.items ≡ i.here.items → j.closed.items ≡ i.closed.items → j.resident ≡ None → j.spare ≡ None → room_of g.quotas ≡ vec_capacity j.chain → B j (H ++ claimed_by p es ∷ [])
-  claim_behind p es b m own chain wake polling here closed resident spare room =
-      out_behind (claimed_by p es) p b m refl refl refl own chain wake (rw (chain, b.polling) at polling) here closed resident spare room
+      → j.here.items ≡ i.here.items → j.closed.items ≡ i.closed.items → j.resident ≡ None → j.spare ≡ None → g.room ≡ vec_capacity j.chain → j.in_hand ≡ length (i.chain.items ++ entries es) → FeedsFit S g.room H (length es) → B j (H ++ claimed_by p es ∷ [])
+  claim_behind p es b m own chain wake polling here closed resident spare room out fits =
+      out_behind (claimed_by p es) p b m refl refl refl own chain wake (rw (chain, b.polling) at polling) here closed resident spare room (out ∙ ap (λ xs. length (xs ++ entries es)) b.chain) (omega (arith, fits, feed_entries es))
 
   pub claim_ask_behind : (p : ℕ) → B i H → May S H (ask_claimed_by p)
       → j.own ≡ Out p → j.chain.items ≡ [] → j.wake ≡ false → j.polling ≡ polls j.chain.items i.polling
-      → j.here.items ≡ i.here.items → j.closed.items ≡ i.closed.items → j.resident ≡ None → j.spare ≡ None → room_of g.quotas ≡ vec_capacity j.chain → B j (H ++ ask_claimed_by p ∷ [])
-  claim_ask_behind p b m own chain wake polling here closed resident spare room =
-      out_behind (ask_claimed_by p) p b m refl refl refl own chain wake (rw (chain, b.polling) at polling) here closed resident spare room
+      → j.here.items ≡ i.here.items → j.closed.items ≡ i.closed.items → j.resident ≡ None → j.spare ≡ None → g.room ≡ vec_capacity j.chain → j.in_hand ≡ length (i.chain.items ++ Entry'.Ask p ∷ []) → B j (H ++ ask_claimed_by p ∷ [])
+  claim_ask_behind p b m own chain wake polling here closed resident spare room out =
+      out_behind (ask_claimed_by p) p b m refl refl refl own chain wake (rw (chain, b.polling) at polling) here closed resident spare room (out ∙ ap (λ xs. length (xs ++ Entry'.Ask p ∷ [])) b.chain) b.fits
 
   pub fast_behind : (p : ℕ) (e : Feed) → B i H → May S H (fast_by p e)
       → j.own ≡ Out p → j.chain.items ≡ i.chain.items → j.wake ≡ i.wake → j.polling ≡ polls i.chain.items i.polling
-      → j.here.items ≡ i.here.items → j.closed.items ≡ i.closed.items → j.resident ≡ None → j.spare ≡ None → room_of g.quotas ≡ vec_capacity j.chain → B j (H ++ fast_by p e ∷ [])
-  fast_behind p e b m own chain wake polling here closed resident spare room =
-      out_behind (fast_by p e) p b m refl refl refl own (chain ∙ b.chain) (wake ∙ b.wake) (rw (b.chain, b.polling) at polling) here closed resident spare room
+      → j.here.items ≡ i.here.items → j.closed.items ≡ i.closed.items → j.resident ≡ None → j.spare ≡ None → g.room ≡ vec_capacity j.chain → j.in_hand ≡ 1 → FeedsFit S g.room H 1 → B j (H ++ fast_by p e ∷ [])
+  fast_behind p e b m own chain wake polling here closed resident spare room out fits =
+      out_behind (fast_by p e) p b m refl refl refl own (chain ∙ b.chain) (wake ∙ b.wake) (rw (b.chain, b.polling) at polling) here closed resident spare room out (omega (arith, fits))
 
   pub take_behind : (p : ℕ) → B i H → May S H (taken_by p)
       → j.own ≡ i.own → j.chain.items ≡ [] → j.wake ≡ i.wake → j.polling ≡ polls [] i.polling
-      → j.here.items ≡ i.here.items → j.closed.items ≡ i.closed.items → j.resident ≡ i.resident → j.spare ≡ i.spare → room_of g.quotas ≡ vec_capacity j.chain → B j (H ++ taken_by p ∷ [])
-  take_behind p b m own chain wake polling here closed resident spare room =
+      → j.here.items ≡ i.here.items → j.closed.items ≡ i.closed.items → j.resident ≡ i.resident → j.spare ≡ i.spare → g.room ≡ vec_capacity j.chain → j.in_hand ≡ length i.chain.items → B j (H ++ taken_by p ∷ [])
+  take_behind p b m own chain wake polling here closed resident spare room taken_out =
       let out : i.own ≡ Out p = b.own ∙ m.step.0 in
       out_behind (taken_by p) p b m m.step.0 refl refl (own ∙ out) chain (wake ∙ b.wake) (rw b.polling at polling) here closed
-      (resident ∙ none_out G g i.own p i.resident (peri S H) b.resident out) (spare ∙ no_spare (room_of g.quotas) i.own p i.spare b.spare out) room
+      (resident ∙ none_out G g i.own p i.resident (peri S H) b.resident out) (spare ∙ no_spare g.room i.own p i.spare b.spare out) room (taken_out ∙ ap length b.chain) b.fits
 
   pub ask_behind : (p : ℕ) → B i H → May S H (asked_by p)
       → j.own ≡ i.own → j.chain.items ≡ i.chain.items ++ Entry'.Ask p ∷ [] → j.wake ≡ i.wake → j.polling ≡ polls (i.chain.items ++ Entry'.Ask p ∷ []) i.polling
-      → j.here.items ≡ i.here.items → j.closed.items ≡ i.closed.items → j.resident ≡ i.resident → j.spare ≡ i.spare → room_of g.quotas ≡ vec_capacity j.chain → B j (H ++ asked_by p ∷ [])
-  ask_behind p b m own chain wake polling here closed resident spare room =
+      → j.here.items ≡ i.here.items → j.closed.items ≡ i.closed.items → j.resident ≡ i.resident → j.spare ≡ i.spare → g.room ≡ vec_capacity j.chain → j.in_hand ≡ i.in_hand → B j (H ++ asked_by p ∷ [])
+  ask_behind p b m own chain wake polling here closed resident spare room out =
       let e = asked_by p in
       goes_on e b m (own ∙ b.own) (rw b.chain at chain) (wake ∙ b.wake) (rw (b.chain, b.polling) at polling) (here ∙ b.here) (closed ∙ b.closed)
       (rw (own, resident, peri_push S H e m, with_none (peri S H)) b.resident)
-      (rw (own, spare) b.spare) room
+      (rw (own, spare) b.spare) room (out ∙ b.out) b.fits
 
   pub leave_behind : (p rest : ℕ) (act : SynchAct) (note : List Act) (left : List Entry) (r : R)
       → B i H → left ≡ unprocessed rest (run S H).hand → IsPeri G g r (with_act act note (with_feeds (processed rest (run S H).hand) (peri S H))) → May S H (left_by_pass p rest act note)
       → j.own ≡ Free → j.chain.items ≡ left ++ i.chain.items → j.wake ≡ not (is_empty (left ++ i.chain.items)) → j.polling ≡ polls (left ++ i.chain.items) i.polling
-      → j.here.items ≡ here_after act i.here.items → j.closed.items ≡ i.closed.items → j.resident ≡ Some r → HasEmpty (room_of g.quotas) j.spare → room_of g.quotas ≡ vec_capacity j.chain
-      → B j (H ++ left_by_pass p rest act note ∷ [])
-  leave_behind p rest act note left r b is peri_r m own chain wake polling here closed resident spare room =
+      → j.here.items ≡ here_after act i.here.items → j.closed.items ≡ i.closed.items → j.resident ≡ Some r → HasEmpty g.room j.spare → g.room ≡ vec_capacity j.chain
+      → j.in_hand ≡ 0 → B j (H ++ left_by_pass p rest act note ∷ [])
+  leave_behind p rest act note left r b is peri_r m own chain wake polling here closed resident spare room out =
       let e = left_by_pass p rest act note in
       goes_on e b m own (rw (is, b.chain) at chain) (rw (is, b.chain) at wake) (rw (is, b.chain, b.polling) at polling) (rw b.here at here) (closed ∙ b.closed)
-      (rw (own, resident, peri_push S H e m) peri_r) (rw own spare) room
+      (rw (own, resident, peri_push S H e m) peri_r) (rw own spare) room out b.fits
 
   pub grant_behind : (p j' rest : ℕ) (left : List Entry) (r : R)
       → B i H → left ≡ unprocessed rest (run S H).hand → IsPeri G g r (with_feeds (processed rest (run S H).hand) (peri S H)) → May S H (granted_by p j' rest)
       → j.own ≡ Granted j' → j.chain.items ≡ left ++ i.chain.items → j.wake ≡ i.wake → j.polling ≡ polls (left ++ i.chain.items) i.polling
-      → j.here.items ≡ i.here.items → j.closed.items ≡ i.closed.items → j.resident ≡ Some r → HasEmpty (room_of g.quotas) j.spare → room_of g.quotas ≡ vec_capacity j.chain
-      → B j (H ++ granted_by p j' rest ∷ [])
-  grant_behind p j' rest left r b is peri_r m own chain wake polling here closed resident spare room =
+      → j.here.items ≡ i.here.items → j.closed.items ≡ i.closed.items → j.resident ≡ Some r → HasEmpty g.room j.spare → g.room ≡ vec_capacity j.chain
+      → j.in_hand ≡ 0 → B j (H ++ granted_by p j' rest ∷ [])
+  grant_behind p j' rest left r b is peri_r m own chain wake polling here closed resident spare room out =
       let e = granted_by p j' rest in
       goes_on e b m own (rw (is, b.chain) at chain) (wake ∙ b.wake) (rw (is, b.chain, b.polling) at polling) (here ∙ b.here) (closed ∙ b.closed)
-      (rw (own, resident, peri_push S H e m) peri_r) (rw own spare) room
+      (rw (own, resident, peri_push S H e m) peri_r) (rw own spare) room out b.fits
 
 pub same_flags : (act : SynchAct) (here : List Bool) → length (here_after act here) ≡ length here
 same_flags Done.None here = refl

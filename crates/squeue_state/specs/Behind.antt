@@ -8,13 +8,15 @@ use Rattle.perimeter_core.specs.declared.marks.SynchAct.TheVariants as Done
 use Rattle.perimeter_core.specs.declared.marks.Own.{Own}
 use Rattle.perimeter_core.specs.declared.marks.Own.TheVariants.{Free, Out, Granted}
 use Rattle.perimeter_core.specs.Perimeter.{unprocessed}
-use Rattle.perimeter_core.specs.History.{Element, run, all_quotas, feed_quotas}
-use Rattle.perimeter_core.specs.Legal.{Legal}
+use Rattle.perimeter_core.specs.History.{Element, Setting, worker, run, all_quotas, feed_quotas}
+use Rattle.perimeter_core.specs.Backlog.{queue}
+use Rattle.perimeter_core.specs.Legal.{Legal, feed_count}
 use Rattle.perimeter_core.specs.Blocks.{Blocks, peri}
 use Rattle.squeue_state.specs.declared.inner.Inner.{Inner}
 use Rattle.squeue_state.specs.declared.guarded.Guarded.{Guarded}
 use Rattle.squeue_state.specs.declared.guarded.Quota.{Quota}
-use Rattle.squeue_state.specs.Limits.{most_entries, most_feeds, most_passes}
+use Rattle.squeue_state.specs.declared.guarded.Life.{Life}
+use Rattle.squeue_state.specs.Limits.{most_entries, most_room, most_passes}
 use Rattle.squeue_state.specs.Told.{Traced, marks_of}
 use Rattle.perimeter_core.specs.Deeds.{entered}
 use Rattle.squeue_state.specs.Naming.{Given, setting_of}
@@ -22,6 +24,10 @@ use Rattle.squeue_state.specs.Naming.{Given, setting_of}
 -- a slice of quotas, as contracts see it
 abbrev pub pairs : List Quota → List (ℕ × ℕ)
 pairs quotas = map (λ q. (q.feeds, q.asks)) quotas
+
+-- a slice of lives, as contracts see it
+abbrev pub ever : List Life → List (ℕ × ℕ)
+ever lives = map (λ l. (l.feeds, l.asks)) lives
 
 -- what the squeue was made with, by the value that its gate was made with
 abbrev pub given_of : {R : Type 0} → Guarded R → Given R
@@ -32,10 +38,11 @@ given_of v =
       quotas = v.facts.value.quotas;
       starts = v.facts.value.starts;
       traced = v.facts.value.traced;
+      room = v.facts.value.room;
       first = v.first.value;
     }
 
--- how many entries may be queued: all feeds, and one ask for each pass
+-- how many entries may be queued where all feeds of the quotas fit: all feeds, and one ask for each pass
 abbrev pub room_of : List (ℕ × ℕ) → ℕ
 room_of qs = feed_quotas qs + (length qs + 1)
 
@@ -68,9 +75,13 @@ Spare room (Out p) (Some v) = ⊥
 Spare room Free s = HasEmpty room s
 Spare room (Granted p) s = HasEmpty room s
 
+-- n more feeds fit behind what is queued, and an ask of each pass beside them
+abbrev pub FeedsFit : Setting → ℕ → List Element → ℕ → Type 0
+FeedsFit S room H n = feed_count (queue (run S H)) + n + worker S ≤ room
+
 module _ {R P O : Type 0} (G : Ghosts R P O) where
-  -- What lies behind the gate stands for the history. The chain has its room of the beginning. The counts are few enough for
-  -- what counts marks and entries
+  -- What lies behind the gate stands for the history. The chain has its room of the beginning, and what is queued or in the
+  -- owner's hand fits it, with an Ask of each pass. The counts are few enough for what counts marks and entries
   pub record Behind (g : Given R) (i : Inner R) (H : List Element) : Type 0 where
     pub legal : Legal (setting_of G.limits g) H
     pub own : i.own ≡ (run (setting_of G.limits g) H).own
@@ -80,9 +91,12 @@ module _ {R P O : Type 0} (G : Ghosts R P O) where
     pub here : i.here.items ≡ (run (setting_of G.limits g) H).here
     pub closed : i.closed.items ≡ (run (setting_of G.limits g) H).closed
     pub resident : Lies G g i.own i.resident (peri (setting_of G.limits g) H)
-    pub spare : Spare (room_of g.quotas) i.own i.spare
-    pub room : room_of g.quotas ≡ vec_capacity i.chain
-    pub few : (all_quotas g.quotas ≤ most_entries) × (length g.quotas < most_passes) × (feed_quotas g.quotas ≤ most_feeds)
+    pub spare : Spare g.room i.own i.spare
+    pub room : g.room ≡ vec_capacity i.chain
+    pub out : i.in_hand ≡ length (run (setting_of G.limits g) H).hand
+    pub fits : FeedsFit (setting_of G.limits g) g.room H 0
+    pub short : length (run (setting_of G.limits g) H).hand + length (run (setting_of G.limits g) H).chain ≤ g.room
+    pub few : (all_quotas g.quotas ≤ most_entries) × (length g.quotas < most_passes) × (g.room ≤ most_room)
 
 -- The marks of the history are kept where that was asked for, with room for just all that may come
 pub record Noted {R : Type 0} (g : Given R) (traced : Bool) (t : Traced) (H : List Element) : Type 0 where
@@ -106,4 +120,4 @@ ActBelow n _ = Unit {0}
 -- what is left of the squeue's hand, in a buffer with room for just all that may be queued
 pub record LiesAs {R : Type 0} (g : Given R) (capacity rest : ℕ) (entries hand : List Entry) : Type 0 where
   pub is_left : entries ≡ unprocessed rest hand
-  pub has_room : room_of g.quotas ≡ capacity
+  pub has_room : g.room ≡ capacity

@@ -11,17 +11,17 @@ use Rattle.perimeter_core.specs.declared.resident.Resident.{Ghosts}
 use Rattle.perimeter_core.specs.declared.entries.Act.{Act}
 use Rattle.perimeter_core.specs.declared.marks.SynchAct.{SynchAct}
 use Rattle.perimeter_core.specs.Perimeter.{processed, unprocessed}
-use Rattle.perimeter_core.specs.History.{Element, Setting, Limits, worker, feed_quotas, run}
+use Rattle.perimeter_core.specs.History.{Element, Setting, Limits, worker, run}
 use Rattle.perimeter_core.specs.Legal.{Legal}
 use Rattle.perimeter_core.specs.Ending.{IsOver}
 use Rattle.perimeter_core.specs.Blocks.{Blocks, peri, with_feeds, with_act}
 use Rattle.perimeter_core.specs.declared.entries.Entry.{Entry}
 use Rattle.perimeter_core.specs.declared.entries.Entry.TheVariants as Entry'
 use Rattle.squeue_state.specs.declared.kind.Kind.{Kind}
-use Rattle.squeue_state.specs.Limits.{most_feeds, most_passes}
+use Rattle.squeue_state.specs.Limits.{most_room}
 use Rattle.squeue_state.specs.declared.guarded.Guarded.{Guarded}
 use Rattle.squeue_state.specs.Naming.{Given, Named, Turned, Handed, setting_of}
-use Rattle.squeue_state.specs.Behind.{given_of, Behind, Noted, room_of}
+use Rattle.squeue_state.specs.Behind.{given_of, Behind, Noted}
 use Rattle.squeue_state.specs.Elements.{number_of}
 
 -- which squeue a gate is the gate of
@@ -49,7 +49,7 @@ pub record Found {R : Type 0} (limits : R → Limits) (s : Named R) (p : Pass El
   pub own : only number_of u.number u.found ≡ u.mine
   pub no_turn_yet : waited (steps p) u.made
   -- so what is queued can be counted in 32 bits
-  pub few : (length s.given.quotas < most_passes) × (feed_quotas s.given.quotas ≤ most_feeds)
+  pub few : (length (run (setting_of limits s.given) u.found).hand + length (run (setting_of limits s.given) u.found).chain ≤ s.given.room) × (s.given.room ≤ most_room)
 
 -- the pass afterwards has seen what the turn found and then the element, and made one more step, which freed the lock
 pub record Marked {R : Type 0} (u : Turned R) (e : Element) (p : Pass Element) : Type 0 where
@@ -70,12 +70,12 @@ pub record Unmarked {R : Type 0} (u : Turned R) (p : Pass Element) : Type 0 wher
 -- the hand is what is left of the squeue's hand
 pub record IsLeft {R : Type 0} (limits : R → Limits) (g : Given R) (h : List Element) (hand : Handed) : Type 0 where
   pub is_left : hand.left ≡ unprocessed (length hand.left) (run (setting_of limits g) h).hand
-  pub has_room : room_of g.quotas ≡ hand.room
+  pub has_room : g.room ≡ hand.room
 
 -- the hand is the squeue's whole hand
 pub record IsWhole {R : Type 0} (limits : R → Limits) (g : Given R) (h : List Element) (hand : Handed) : Type 0 where
   pub is_whole : hand.left ≡ (run (setting_of limits g) h).hand
-  pub has_room : room_of g.quotas ≡ hand.room
+  pub has_room : g.room ≡ hand.room
 
 -- what the resident stands for when all but what is left of the hand is processed, and the act is done
 abbrev pub peri_left : {R : Type 0} → (R → Limits) → Given R → List Element → Handed → SynchAct → List Act → Blocks
@@ -116,11 +116,12 @@ Knows H p = Begins (seen p) H × (only number_of (number p) H ≡ mine p)
 
 -- what a new squeue was made with, and which blocks are here at its start
 pub record IsMade {R : Type 0} (stands : R → Blocks → Type 0) (size : R → ℕ) (number rings : ℕ) (quotas : List (ℕ
-    × ℕ)) (traced : Bool) (first : R) (g : Given R) : Type 0 where
+    × ℕ)) (traced : Bool) (room : ℕ) (first : R) (g : Given R) : Type 0 where
   pub its_number : g.number ≡ number
   pub its_rings : g.rings ≡ rings
   pub its_quotas : g.quotas ≡ quotas
   pub its_trace : g.traced ≡ traced
+  pub its_room : g.room ≡ room
   pub its_first : g.first ≡ first
   pub its_conns : length g.starts ≡ size first
   pub its_blocks : (blocks : Blocks) (c : ℕ) → stands first blocks → slice_index_or g.starts c false ≡ is_some (blocks c)

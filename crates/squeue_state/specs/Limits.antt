@@ -17,6 +17,14 @@ most_feeds = 2 ^ 30
 abbrev pub most_asks : ℕ
 most_asks = 2 ^ 40
 
+-- the most feeds, and the most asks, of all lives together: 57 years at 160 million of them a second
+abbrev pub most_ever : ℕ
+most_ever = 2 ^ 58
+
+-- the most entries that are queued at once, with those in the owner's hand
+abbrev pub most_room : ℕ
+most_room = most_feeds + most_passes
+
 -- no more entries come than so many, feeds and asks: their marks can be counted in 64 bits
 abbrev pub most_entries : ℕ
-most_entries = 2 ^ 41
+most_entries = 2 ^ 59

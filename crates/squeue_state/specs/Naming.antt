@@ -6,13 +6,14 @@ use Rattle.perimeter_core.specs.History.{Element, Setting, Limits}
 use Rattle.turn_gate.specs.declared.views.LockStep.{LockStep}
 
 -- what a squeue was made with, but for its resident: of each pass but the worker's, how many feeds and asks it may enter;
--- for each connection, whether its block was here; and whether the marks are kept
+-- for each connection, whether its block was here; whether the marks are kept; and how many entries may be queued at once
 pub record Chosen : Type 0 where
   pub number : ℕ
   pub rings : ℕ
   pub quotas : List (ℕ × ℕ)
   pub starts : List Bool
   pub traced : Bool
+  pub room : ℕ
 
 -- the same with the resident
 pub record Given (R : Type 0) : Type 0 where
@@ -21,6 +22,7 @@ pub record Given (R : Type 0) : Type 0 where
   pub quotas : List (ℕ × ℕ)
   pub starts : List Bool
   pub traced : Bool
+  pub room : ℕ
   pub first : R
 
 -- a squeue: which gate it has, and what it was made with

@@ -1,11 +1,11 @@
 //! The calls that end a turn with what enters, asks or closes.
 //!
 //! Each adds exactly its mark, and has the mark's conditions on the history that the turn found. None takes memory.
-ghost use Rattle.std.specs.Prelude.{◌≡◌, []};
+ghost use Rattle.std.specs.Prelude.{◌≡◌, [], length};
 ghost use Rattle.perimeter_core.specs.Legal.{May};
 ghost use Rattle.perimeter_core.specs.Blocks.{peri};
 ghost use Rattle.squeue_state.specs.Naming.{setting_of};
-ghost use Rattle.squeue_state.specs.Behind.{IsPeri};
+ghost use Rattle.squeue_state.specs.Behind.{FeedsFit, IsPeri};
 ghost use Rattle.squeue_state.specs.Elements.{filled_by, fast_by, claimed_by, ask_claimed_by, asked_by, closed_by};
 ghost use Rattle.squeue_state.specs.Clauses.{Marked, IsWhole};
 ghost use Rattle.turn_gate.specs.Passes.{seen};
@@ -23,6 +23,7 @@ impl<R: Resident> Squeue<R> {
     pub fn fill(&self, turn: Turn<R>, es: &[Feed]) -> Pass
         requires squeue { turn.squeue ≡ self.now }
         requires may { May (setting_of R.limits self.now.given) turn.found (filled_by turn.number es.now) }
+        requires room { FeedsFit (setting_of R.limits self.now.given) self.now.given.room turn.found (length es.now) }
         ensures { Marked turn (filled_by turn.number es.now) result }
     {
         let Turn { mut held, of: _ } = turn;
@@ -39,6 +40,7 @@ impl<R: Resident> Squeue<R> {
     pub fn fast(&self, turn: Turn<R>, e: Feed) -> (Pass, R, Hand)
         requires squeue { turn.squeue ≡ self.now }
         requires may { May (setting_of R.limits self.now.given) turn.found (fast_by turn.number e) }
+        requires room { FeedsFit (setting_of R.limits self.now.given) self.now.given.room turn.found 1 }
         ensures pass { Marked turn (fast_by turn.number e) result.0 }
         ensures resident { IsPeri R.Resident self.now.given result.1 (peri (setting_of R.limits self.now.given) (seen result.0)) }
         ensures hand { IsWhole R.limits self.now.given (seen result.0) result.2 }
@@ -58,6 +60,7 @@ impl<R: Resident> Squeue<R> {
     pub fn claim(&self, turn: Turn<R>, es: &[Feed]) -> (Pass, R, Hand)
         requires squeue { turn.squeue ≡ self.now }
         requires may { May (setting_of R.limits self.now.given) turn.found (claimed_by turn.number es.now) }
+        requires room { FeedsFit (setting_of R.limits self.now.given) self.now.given.room turn.found (length es.now) }
         ensures pass { Marked turn (claimed_by turn.number es.now) result.0 }
         ensures resident { IsPeri R.Resident self.now.given result.1 (peri (setting_of R.limits self.now.given) (seen result.0)) }
         ensures hand { IsWhole R.limits self.now.given (seen result.0) result.2 }

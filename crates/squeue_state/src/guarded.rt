@@ -20,6 +20,14 @@ pub struct Quota {
     pub asks: u64,
 }
 
+/// How many feeds and asks a pass may ever enter, of a squeue whose room is apart from them: numbers of contracts alone,
+/// which take no memory.
+#[derive(Clone, Copy)]
+pub struct Life {
+    pub feeds: u64,
+    pub asks: u64,
+}
+
 /// What lies behind a gate. Of `facts` and `first` only those of the value that the gate was made with are ever read, and
 /// by contracts alone.
 #[derive(Drop)]

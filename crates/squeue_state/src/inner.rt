@@ -12,7 +12,7 @@ ghost use Rattle.perimeter_core.specs.Legal.{May};
 ghost use Rattle.perimeter_core.specs.Deeds.{entries};
 ghost use Rattle.perimeter_core.specs.Blocks.{peri, with_feeds, with_act};
 ghost use Rattle.squeue_state.specs.Naming.{Given, setting_of};
-ghost use Rattle.squeue_state.specs.Behind.{Behind, IsPeri, ActBelow, HasEmpty, LiesAs, room_of};
+ghost use Rattle.squeue_state.specs.Behind.{Behind, IsPeri, ActBelow, FeedsFit, HasEmpty, LiesAs};
 ghost use Rattle.squeue_state.specs.Elements.{filled_by, fast_by, claimed_by, ask_claimed_by, asked_by, closed_by};
 ghost use Rattle.squeue_state.specs.Elements.{taken_by, left_by_pass, granted_by, accepted_by, worked_by};
 
@@ -31,6 +31,8 @@ pub struct Inner<R> {
     pub(crate) resident: Option<R>,
     pub(crate) here: Vec<bool>,
     pub(crate) closed: Vec<bool>,
+    /// How many entries the owner took from the chain at its last mark, 0 where nobody is owner.
+    pub(crate) in_hand: usize,
 }
 
 // Whether the worker is to run after entries were queued.
@@ -78,6 +80,7 @@ impl<R: Resident> Inner<R> {
           wake = false;
           polling = polls self.new.chain.items self.old.polling;
           resident = None;
+          in_hand = vec_len self.old.chain;
         } }
         ensures empty { (n : ℕ) → HasEmpty n self.old.spare → (self.new.chain.items ≡ []) × (n ≡ vec_capacity self.new.chain) }
     {
@@ -86,6 +89,7 @@ impl<R: Resident> Inner<R> {
             None => unreachable!(),
         };
         let hand = mem::replace(&mut self.chain, spare);
+        self.in_hand = hand.len();
         self.own = Own::Out(p);
         self.wake = false;
         self.poll();
@@ -97,12 +101,13 @@ impl<R: Resident> Inner<R> {
         requires at { at ≤ vec_len entries }
         requires room { length (drop at entries.items) + length self.old.chain.items ≤ vec_capacity entries }
         requires out { (self.old.resident ≡ None) × (self.old.spare ≡ None) }
-        ensures same { self.new ≡ record self.old { chain = self.new.chain; spare = self.new.spare; resident = Some resident } }
+        ensures same { self.new ≡ record self.old { chain = self.new.chain; spare = self.new.spare; resident = Some resident; in_hand = 0 } }
         ensures queue { self.new.chain.items ≡ drop at entries.items ++ self.old.chain.items }
         ensures room { vec_capacity self.new.chain ≡ vec_capacity entries }
         ensures spare { HasEmpty (vec_capacity self.old.chain) self.new.spare }
     {
         let queue = put_back(entries, at, &self.chain);
+        self.in_hand = 0;
         self.chain.clear();
         let spare = mem::replace(&mut self.chain, queue);
         let old = self.spare.replace(spare);
@@ -117,7 +122,7 @@ impl<R: Resident> Inner<R> {
     pub(crate) fn fill(&mut self, es: &[Feed])
         requires room { vec_len self.old.chain + length es.now ≤ vec_capacity self.old.chain }
         ensures behind { (g : Given R) (H : List Element) (p : ℕ) → Behind R.Resident g self.old H → May (setting_of R.limits g) H (filled_by p es.now)
-            → Behind R.Resident g self.new (H ++ filled_by p es.now ∷ []) }
+            → FeedsFit (setting_of R.limits g) g.room H (length es.now) → Behind R.Resident g self.new (H ++ filled_by p es.now ∷ []) }
     {
         queue_feeds(&mut self.chain, es);
         self.wake = wakes(self.own, self.wake);
@@ -130,13 +135,14 @@ impl<R: Resident> Inner<R> {
         ensures same { (result.0 ≡ self.old.resident) × (result.1.items ≡ Entry'.Feed e.c e.n ∷ []) }
         ensures room { (n : ℕ) → HasEmpty n self.old.spare → n ≡ vec_capacity result.1 }
         ensures behind { (g : Given R) (H : List Element) → Behind R.Resident g self.old H → May (setting_of R.limits g) H (fast_by p e)
-            → Behind R.Resident g self.new (H ++ fast_by p e ∷ []) }
+            → FeedsFit (setting_of R.limits g) g.room H 1 → Behind R.Resident g self.new (H ++ fast_by p e ∷ []) }
     {
         let mut hand = match self.spare.take() {
             Some(spare) => spare,
             None => unreachable!(),
         };
         append(&mut hand, &[Entry::Feed { c: e.c, n: e.n }]);
+        self.in_hand = 1;
         self.own = Own::Out(p);
         self.poll();
         (self.resident.take(), hand)
@@ -149,7 +155,7 @@ impl<R: Resident> Inner<R> {
         ensures same { (result.0 ≡ self.old.resident) × (result.1.items ≡ self.old.chain.items ++ entries es.now) }
         ensures room { vec_capacity result.1 ≡ vec_capacity self.old.chain }
         ensures behind { (g : Given R) (H : List Element) → Behind R.Resident g self.old H → May (setting_of R.limits g) H (claimed_by p es.now)
-            → Behind R.Resident g self.new (H ++ claimed_by p es.now ∷ []) }
+            → FeedsFit (setting_of R.limits g) g.room H (length es.now) → Behind R.Resident g self.new (H ++ claimed_by p es.now ∷ []) }
     {
         queue_feeds(&mut self.chain, es);
         self.take_all(p)
@@ -205,6 +211,7 @@ impl<R: Resident> Inner<R> {
             → Behind R.Resident g self.new (H ++ accepted_by p ∷ []) }
     {
         self.own = Own::Out(p);
+        self.in_hand = 0;
         self.poll();
         (self.resident.take(), self.spare.take())
     }
@@ -212,12 +219,13 @@ impl<R: Resident> Inner<R> {
     /// Takes what is queued, for a buffer that is used up.
     pub(crate) fn take(&mut self, buffer: Vec<Entry>) -> Vec<Entry>
         ensures same { result ≡ self.old.chain }
-        ensures behind { (g : Given R) (H : List Element) (p : ℕ) → Behind R.Resident g self.old H → room_of g.quotas ≡ vec_capacity buffer
+        ensures behind { (g : Given R) (H : List Element) (p : ℕ) → Behind R.Resident g self.old H → g.room ≡ vec_capacity buffer
             → May (setting_of R.limits g) H (taken_by p) → Behind R.Resident g self.new (H ++ taken_by p ∷ []) }
     {
         let mut buffer = buffer;
         buffer.clear();
         let hand = mem::replace(&mut self.chain, buffer);
+        self.in_hand = hand.len();
         self.poll();
         hand
     }

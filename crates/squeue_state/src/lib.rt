@@ -24,7 +24,7 @@ mod turn;
 
 pub use ended::Ended;
 pub use event::{End, Event, Facts, Notes};
-pub use guarded::{Guarded, Quota};
+pub use guarded::{Guarded, Life, Quota};
 pub use hand::Hand;
 pub use inner::Inner;
 pub use squeue::{Missed, Pass, Squeue};

@@ -5,10 +5,10 @@ ghost use Rattle.perimeter_core.specs.Deeds.{entries};
 ghost use Rattle.perimeter_core.specs.History.{all_quotas, feed_quotas};
 ghost use Rattle.perimeter_core.specs.Blocks.{Blocks};
 ghost use Rattle.squeue_state.specs.Limits.{most_asks, most_feeds, most_quotas};
-ghost use Rattle.squeue_state.specs.Behind.{pairs, room_of};
+ghost use Rattle.squeue_state.specs.Behind.{ever, pairs, room_of};
 ghost use Rattle.squeue_state.specs.Clauses.{ask_quotas};
 
-use crate::guarded::Quota;
+use crate::guarded::{Life, Quota};
 use perimeter_core::{Entry, Feed, Resident};
 use std::alloc::{AllocError, Global};
 
@@ -42,7 +42,11 @@ pub(crate) fn put_back(entries: Vec<Entry>, at: usize, chain: &[Entry]) -> Vec<E
     ensures room { vec_capacity result ≡ vec_capacity entries }
 {
     let mut queue = entries;
-    queue.drain(..at);
+    if at == queue.len() {
+        queue.clear();
+    } else {
+        queue.drain(..at);
+    }
     append(&mut queue, chain);
     queue
 }
@@ -76,6 +80,20 @@ pub(crate) fn room_for(quotas: &[Quota]) -> Room
         marks: 8 * (feeds + asks) + 4 * passes,
         entries: feeds + asks,
     }
+}
+
+/// The quotas as lives.
+pub(crate) fn lives_of(alloc: Global, quotas: &[Quota]) -> Result<Vec<Life>, AllocError>
+    ensures { IfOk result (λ v. ever v.items ≡ pairs quotas.now) }
+{
+    let mut lives = Vec::with_capacity(alloc, quotas.len())?;
+    for quota in quotas {
+        lives.push_reserved(Life {
+            feeds: u64::from(quota.feeds),
+            asks: quota.asks,
+        });
+    }
+    Ok(lives)
 }
 
 /// Flags, none of them set.

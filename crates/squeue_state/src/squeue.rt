@@ -1,13 +1,14 @@
 //! The squeue object: how it is made, its turns, and its end.
-ghost use Rattle.std.specs.Prelude.{◌≡◌, ◌+◌, ◌<◌, ◌≤◌, [], length, map, if◌then◌else◌, MatchResult, IfOk, IsSome, Some};
+ghost use Rattle.std.specs.Prelude.{◌≡◌, ◌+◌, ◌*◌, ◌<◌, ◌≤◌, [], length, map, true, false, if◌then◌else◌, MatchResult, IfOk, IsSome, Some};
 ghost use Rattle.perimeter_core.specs.Perimeter.{Idle};
-ghost use Rattle.perimeter_core.specs.History.{run, feed_quotas};
+ghost use Rattle.perimeter_core.specs.History.{run, all_quotas, feed_quotas};
 ghost use Rattle.perimeter_core.specs.Blocks.{peri};
 ghost use Rattle.squeue_state.specs.Told.{marks_of};
-ghost use Rattle.squeue_state.specs.Limits.{most_asks, most_feeds, most_quotas};
+ghost use Rattle.squeue_state.specs.Limits.{most_asks, most_ever, most_feeds, most_quotas, most_room};
 ghost use Rattle.squeue_state.specs.Naming.{Chosen, Ending, setting_of};
 ghost use Rattle.squeue_state.specs.Endings.{ending_of, HasEnded, seen_by};
-ghost use Rattle.squeue_state.specs.Behind.{IsPeri, pairs};
+ghost use Rattle.squeue_state.specs.AllRoom.{HasAllRoom};
+ghost use Rattle.squeue_state.specs.Behind.{IsPeri, ever, pairs, room_of};
 ghost use Rattle.squeue_state.specs.Elements.{number_of, closed_by};
 ghost use Rattle.squeue_state.specs.Clauses.{Found, Unmarked, Added, HasSeenEnd, Knows, IsMade, StandsEmpty, ask_quotas};
 ghost use Rattle.turn_gate.specs.Passes.{IsPassOf, IsReturned, AreAll, AreFresh, hit, missed, number, seen, steps};
@@ -16,9 +17,9 @@ ghost use Rattle.turn_gate.specs.History.{Each};
 use crate::bell::Bells;
 use crate::ended::Ended;
 use crate::event::{End, Event, Facts};
-use crate::guarded::{Guarded, Quota};
+use crate::guarded::{Guarded, Life, Quota};
 use crate::inner::Inner;
-use crate::room::{Room, flags, here_flags, room_for};
+use crate::room::{Room, flags, here_flags, lives_of, room_for};
 use crate::trace::Trace;
 use crate::turn::Turn;
 use perimeter_core::{Known, Own, Resident};
@@ -82,13 +83,73 @@ impl<R: Resident> Squeue<R> {
         requires feeds { feed_quotas (pairs quotas.now) ≤ most_feeds }
         requires asks { ask_quotas (pairs quotas.now) ≤ most_asks }
         requires fresh { StandsEmpty (R.stands resident) }
-        ensures given { IfOk result (λ r. IsMade R.stands R.size number rings (pairs quotas.now) trace resident r.0.given) }
+        ensures given { IfOk result (λ r. IsMade R.stands R.size number rings (pairs quotas.now) trace (room_of (pairs quotas.now)) resident r.0.given) }
+        ensures room { IfOk result (λ r. HasAllRoom r.0.given) }
         ensures passes { IfOk result (λ r. (length r.1.items ≡ length quotas.now + 1) × AreFresh number_of r.0.gate 0 r.1.items) }
     {
+        let lives = lives_of(alloc, quotas)?;
         let room = room_for(quotas);
-        let count = quotas.len() + 1;
+        Squeue::make_in(alloc, number, resident, rings, &lives, trace, room)
+    }
+
+    /// The same, but that room is apart from what may ever be entered: each pass has a life in place of a quota, and `room`
+    /// is how many entries may be queued at once, those in an owner's hand among them. Behind them an Ask of each pass
+    /// always fits. Memory is taken for the room alone, and no marks are kept.
+    ///
+    /// There are 1 to 63 lives, of at most 2^58 feeds and 2^58 asks together, and 1 to 2^30 places.
+    pub fn make_bounded(
+        alloc: Global,
+        number: u32,
+        resident: R,
+        rings: u32,
+        lives: &[Life],
+        room: u32,
+    ) -> Result<(Squeue<R>, Vec<Pass>), AllocError>
+    where
+        R: Drop,
+        requires few { (1 ≤ length lives.now) × (length lives.now ≤ most_quotas) }
+        requires rings { (1 ≤ rings) × (rings ≤ length lives.now) }
+        requires feeds { feed_quotas (ever lives.now) ≤ most_ever }
+        requires asks { ask_quotas (ever lives.now) ≤ most_ever }
+        requires room { (1 ≤ room) × (room ≤ most_feeds) }
+        requires fresh { StandsEmpty (R.stands resident) }
+        ensures given { IfOk result (λ r. IsMade R.stands R.size number rings (ever lives.now) false (room + length lives.now) resident r.0.given) }
+        ensures passes { IfOk result (λ r. (length r.1.items ≡ length lives.now + 1) × AreFresh number_of r.0.gate 0 r.1.items) }
+    {
+        let room = Room {
+            queue: room as usize + lives.len(),
+            marks: 0,
+            entries: 0,
+        };
+        Squeue::make_in(alloc, number, resident, rings, lives, false, room)
+    }
+
+    // A squeue with this room, which has all marks and their entries where the marks are kept.
+    fn make_in(
+        alloc: Global,
+        number: u32,
+        resident: R,
+        rings: u32,
+        lives: &[Life],
+        trace: bool,
+        room: Room,
+    ) -> Result<(Squeue<R>, Vec<Pass>), AllocError>
+    where
+        R: Drop,
+        requires few { (1 ≤ length lives.now) × (length lives.now ≤ most_quotas) }
+        requires rings { (1 ≤ rings) × (rings ≤ length lives.now) }
+        requires feeds { feed_quotas (ever lives.now) ≤ most_ever }
+        requires asks { ask_quotas (ever lives.now) ≤ most_ever }
+        requires queue { (length lives.now ≤ room.queue) × (room.queue ≤ most_room) }
+        requires marks { trace ≡ true → room.marks ≡ 8 * all_quotas (ever lives.now) + 4 * (length lives.now + 1) }
+        requires entries { trace ≡ true → room.entries ≡ all_quotas (ever lives.now) }
+        requires fresh { StandsEmpty (R.stands resident) }
+        ensures given { IfOk result (λ r. IsMade R.stands R.size number rings (ever lives.now) trace room.queue resident r.0.given) }
+        ensures passes { IfOk result (λ r. (length r.1.items ≡ length lives.now + 1) × AreFresh number_of r.0.gate 0 r.1.items) }
+    {
+        let count = lives.len() + 1;
         let here = here_flags(alloc, &resident)?;
-        let facts = chosen(number, rings, quotas, &here, trace);
+        let facts = chosen(number, rings, lives, &here, trace, room.queue);
         let first = Known::of(&resident);
         let inner = Inner {
             own: Own::Free,
@@ -99,6 +160,7 @@ impl<R: Resident> Squeue<R> {
             here,
             closed: flags(alloc, count)?,
             resident: Some(resident),
+            in_hand: 0,
         };
         let guarded = Guarded {
             inner,
@@ -107,7 +169,7 @@ impl<R: Resident> Squeue<R> {
             facts,
             first,
         };
-        let bells = Bells::for_passes(alloc, quotas.len())?;
+        let bells = Bells::for_passes(alloc, lives.len())?;
         let (gate, passes) = Gate::make(alloc, guarded, count as u32)?;
         Ok((
             Squeue {
@@ -217,19 +279,27 @@ fn new_trace(alloc: Global, kept: bool, room: Room) -> Result<Trace, AllocError>
 }
 
 // What the squeue is made with, for contracts.
-fn chosen(number: u32, rings: u32, quotas: &[Quota], here: &[bool], trace: bool) -> Known<Facts>
-    ensures { result.value ≡ record { number = number; rings = rings; quotas = pairs quotas.now; starts = here.now; traced = trace } }
+fn chosen(
+    number: u32,
+    rings: u32,
+    lives: &[Life],
+    here: &[bool],
+    trace: bool,
+    room: usize,
+) -> Known<Facts>
+    ensures { result.value ≡ record { number = number; rings = rings; quotas = ever lives.now; starts = here.now; traced = trace; room = room } }
 {
-    chosen_as(number, rings, quotas, here, trace)
+    chosen_as(number, rings, lives, here, trace, room)
 }
 
 // What the facts are made of is passed beside them, since a pick sees the call's arguments alone.
 fn chosen_as(
     _number: u32,
     _rings: u32,
-    _quotas: &[Quota],
+    _lives: &[Life],
     _here: &[bool],
     _trace: bool,
+    _room: usize,
 ) -> Known<Facts>
     ghost chosen: { Chosen }
     ensures { result.value ≡ chosen }
@@ -273,6 +343,7 @@ fn parts_of<R: Resident>(value: Guarded<R>) -> (R, Trace)
         here: _,
         closed: _,
         resident,
+        in_hand: _,
     } = inner;
     match resident {
         Some(resident) => (resident, trace),

@@ -3,6 +3,8 @@ ghost use Rattle.std.specs.Prelude.{◌≡◌, ℕ, ◌+◌, ◌<◌, true, fals
 ghost use Rattle.perimeter_core.specs.Perimeter.{is_here, is_closed};
 ghost use Rattle.perimeter_core.specs.History.{run};
 ghost use Rattle.squeue_state.specs.Naming.{setting_of};
+ghost use Rattle.squeue_state.specs.Behind.{FeedsFit};
+ghost use Rattle.perimeter_core.specs.Backlog.{queue};
 
 use crate::guarded::Guarded;
 use crate::squeue::Squeue;
@@ -49,6 +51,17 @@ impl<R: Resident> Turn<R> {
         ensures { result ≡ length (run (setting_of R.limits self.now.squeue.given) self.now.found).chain }
     {
         self.held.get().inner.chain.len() as u32
+    }
+
+    /// Whether so many feeds fit behind what is queued and in the owner's hand, with an Ask of each pass.
+    pub fn fits(&self, feeds: usize) -> bool
+        ensures fits { result ≡ true → FeedsFit (setting_of R.limits self.now.squeue.given) self.now.squeue.given.room self.now.found feeds }
+        ensures full { result ≡ false → self.now.squeue.given.room < length (queue (run (setting_of R.limits self.now.squeue.given) self.now.found)) + feeds + length self.now.squeue.given.quotas }
+    {
+        let inner = &self.held.get().inner;
+        let taken = inner.in_hand + inner.chain.len() + (inner.closed.len() - 1);
+        let room = inner.chain.capacity();
+        taken <= room && feeds <= room - taken
     }
 
     /// Whether the worker is to run.

@@ -5,6 +5,7 @@
 //! wait is bounded, so the row ends in any case.
 ghost use Rattle.std.specs.Prelude.{◌≡◌, [], ◌∷◌, length, IfOk};
 ghost use Rattle.perimeter_core.specs.Logging.{limits_of, size_of};
+ghost use Rattle.squeue_state.specs.AllRoom.{HasAllRoom};
 ghost use Rattle.squeue_example.specs.Rows.{Holds, IsIdle, MayBring, two_here};
 ghost use Rattle.squeue_state.specs.Elements.{number_of};
 ghost use Rattle.squeue_state.specs.Naming.{setting_of};
@@ -181,6 +182,7 @@ fn both<W: Threads + Wait + Sync>(
 fn two_rings(alloc: Global) -> Result<(Squeue<Logs>, Vec<Pass>), AllocError>
     ensures passes { IfOk result (λ r. (length r.1.items ≡ 3) × AreFresh number_of r.0.gate 0 r.1.items) }
     ensures setting { IfOk result (λ r. setting_of limits_of r.0.given ≡ two_here) }
+    ensures room { IfOk result (λ r. HasAllRoom r.0.given) }
 {
     let logs = Logs::make(alloc, &[true, true], 1, 0, Vec::new(alloc))?;
     let quotas = [Quota { feeds: 1, asks: 0 }, Quota { feeds: 1, asks: 0 }];

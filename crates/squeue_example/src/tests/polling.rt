@@ -2,6 +2,7 @@
 ghost use Rattle.std.specs.Prelude.{◌≡◌, ◌+◌, ◌-◌, ◌<◌, length, IfOk};
 ghost use Rattle.perimeter_core.specs.Perimeter.{Idle};
 ghost use Rattle.perimeter_core.specs.History.{run};
+ghost use Rattle.squeue_state.specs.AllRoom.{HasAllRoom};
 ghost use Rattle.squeue_enter.specs.Entering.{MayEnter};
 ghost use Rattle.squeue_example.specs.Rows.{IsNew, in_order, one_here, the_one};
 ghost use Rattle.squeue_state.specs.Elements.{number_of};
@@ -28,6 +29,7 @@ fn one_ring<R: Resident + Drop>(
     requires { IsNew R.stands R.limits R.size the_one 20 resident }
     ensures passes { IfOk result (λ r. (length r.1.items ≡ 2) × AreFresh number_of r.0.gate 0 r.1.items) }
     ensures setting { IfOk result (λ r. setting_of R.limits r.0.given ≡ one_here) }
+    ensures room { IfOk result (λ r. HasAllRoom r.0.given) }
 {
     let quotas = [Quota { feeds: 20, asks: 0 }];
     Squeue::make(alloc, 0, resident, 1, &quotas, true)
@@ -52,6 +54,7 @@ fn enters_fifteen<R: Resident, W: Wait + Abort>(
     pass: Pass,
 ) -> Pass
     requires may { MayEnter R.limits squeue.now pass (in_order 0 0 20) }
+    requires room { HasAllRoom squeue.now.given }
     ensures number { number result ≡ number pass }
     ensures more { MayEnter R.limits squeue.now result (in_order 0 15 5) }
 {
@@ -73,6 +76,7 @@ fn enters_next<R: Resident, W: Wait + Abort>(
 ) -> Pass
     requires below { n < 20 }
     requires may { MayEnter R.limits squeue.now pass (in_order 0 n (20 - n)) }
+    requires room { HasAllRoom squeue.now.given }
     ensures pass { IsPassOf number_of squeue.now.gate result }
     ensures number { number result ≡ number pass }
     ensures idle { Idle (run (setting_of R.limits squeue.now.given) (seen result)) (number result) }
@@ -90,6 +94,7 @@ fn enters_twenty<R: Resident, W: Wait + Abort>(
     pass: Pass,
 ) -> Pass
     requires may { MayEnter R.limits squeue.now pass (in_order 0 0 20) }
+    requires room { HasAllRoom squeue.now.given }
     ensures pass { IsPassOf number_of squeue.now.gate result }
     ensures number { number result ≡ number pass }
     ensures idle { Idle (run (setting_of R.limits squeue.now.given) (seen result)) (number result) }

@@ -1,5 +1,6 @@
 //! Three passes bring their feeds, and one worker processes them.
 ghost use Rattle.std.specs.Prelude.{◌≡◌, length, IfOk};
+ghost use Rattle.squeue_state.specs.AllRoom.{HasAllRoom};
 ghost use Rattle.squeue_example.specs.Rows.{IsNew, all_here, four_here};
 ghost use Rattle.squeue_state.specs.Elements.{number_of};
 ghost use Rattle.squeue_state.specs.Naming.{setting_of};
@@ -25,6 +26,7 @@ fn three_rings<R: Resident + Drop>(
     requires { IsNew R.stands R.limits R.size all_here 2 resident }
     ensures passes { IfOk result (λ r. (length r.1.items ≡ 4) × AreFresh number_of r.0.gate 0 r.1.items) }
     ensures setting { IfOk result (λ r. setting_of R.limits r.0.given ≡ four_here) }
+    ensures room { IfOk result (λ r. HasAllRoom r.0.given) }
 {
     let quotas = [
         Quota { feeds: 2, asks: 0 },

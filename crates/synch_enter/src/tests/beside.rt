@@ -12,6 +12,7 @@ ghost use Rattle.perimeter_core.specs.History.{run};
 ghost use Rattle.perimeter_core.specs.Logging.{limits_of, size_of};
 ghost use Rattle.perimeter_core.specs.Perimeter.{Idle, is_here};
 ghost use Rattle.squeue_enter.specs.Entering.{MayEnter};
+ghost use Rattle.squeue_state.specs.AllRoom.{HasAllRoom};
 ghost use Rattle.squeue_state.specs.Elements.{number_of};
 ghost use Rattle.squeue_state.specs.Naming.{setting_of};
 ghost use Rattle.synch_enter.specs.Synch.{MayAsk};
@@ -93,6 +94,7 @@ fn rings<W: Wait>(
 ) -> Pass
     requires may { MayEnter limits_of squeue.now pass (record { c = 0; n = 0 } ∷ []) }
     requires asks { MayAsk limits_of squeue.now pass }
+    requires room { HasAllRoom squeue.now.given }
     requires ring { number pass ≡ 0 }
     requires here { is_here (run (setting_of limits_of squeue.now.given) (seen pass)) 0 ≡ true }
     requires leaves { times_left 0 (seen pass) < slice_index (limits_of squeue.now.given.first).leaves 0 }
@@ -128,6 +130,7 @@ fn run_ring<W: Wait>(
         (λ p. MayEnter limits_of squeue.now p (record { c = 0; n = 0 } ∷ []) × MayAsk limits_of squeue.now p × (number p ≡ 0)
         × (is_here (run (setting_of limits_of squeue.now.given) (seen p)) 0 ≡ true)
         × (times_left 0 (seen p) < slice_index (limits_of squeue.now.given.first).leaves 0)) }
+    requires room { HasAllRoom squeue.now.given }
     ensures some { IsSome job.new.pass }
     ensures pass { IfSome job.new.pass (λ p. IsPassOf number_of squeue.now.gate p × (number p ≡ 0)) }
 {
@@ -223,7 +226,7 @@ fn run_all<W: Threads + Wait + Sync>(
         × (times_left 0 (seen p) < slice_index (limits_of squeue.now.given.first).leaves 0)) }
     requires thread { IsSome thread.old.pass × IfSome thread.old.pass (λ p. MayAsk limits_of squeue.now p × (number p ≡ 1)) }
     requires third { IsSome third.old.pass × IfSome third.old.pass (λ p. IsPassOf number_of squeue.now.gate p × (number p ≡ 2)) }
-    requires given { (squeue.now.given.rings ≡ 1) × (length squeue.now.given.starts ≡ 1) × (length squeue.now.given.quotas ≡ 2) }
+    requires given { (squeue.now.given.rings ≡ 1) × (length squeue.now.given.starts ≡ 1) × (length squeue.now.given.quotas ≡ 2) × HasAllRoom squeue.now.given }
     requires calls { (limits_of squeue.now.given.first).calls ≡ (0, 0, 0) ∷ [] }
     ensures ring { IsSome ring.new.pass × IfSome ring.new.pass (λ p. IsPassOf number_of squeue.now.gate p × (number p ≡ 0)) }
     ensures thread { IsSome thread.new.pass × IfSome thread.new.pass (λ p. IsPassOf number_of squeue.now.gate p × (number p ≡ 1)) }
@@ -240,7 +243,7 @@ fn run_all<W: Threads + Wait + Sync>(
                 × (is_here (run (setting_of limits_of squeue.now.given) (seen p)) 0 ≡ true)
                 × (times_left 0 (seen p) < slice_index (limits_of squeue.now.given.first).leaves 0))
                 × IsSome third.now.pass × IfSome third.now.pass (λ p. IsPassOf number_of squeue.now.gate p × (number p ≡ 2))
-                × (length squeue.now.given.quotas ≡ 2) }
+                × (length squeue.now.given.quotas ≡ 2) × HasAllRoom squeue.now.given }
             ensures { IsSome ring.exit.now.pass × IfSome ring.exit.now.pass (λ p. IsPassOf number_of squeue.entry.now.gate p × (number p ≡ 0))
                 × IsSome third.exit.now.pass × IfSome third.exit.now.pass (λ p. IsPassOf number_of squeue.entry.now.gate p × (number p ≡ 2)
                 × IsOver (setting_of limits_of squeue.entry.now.given) (run (setting_of limits_of squeue.entry.now.given) (seen p))) }
@@ -265,7 +268,7 @@ fn run_two<W: Threads + Wait + Sync>(
         × (is_here (run (setting_of limits_of squeue.now.given) (seen p)) 0 ≡ true)
         × (times_left 0 (seen p) < slice_index (limits_of squeue.now.given.first).leaves 0)) }
     requires third { IsSome third.old.pass × IfSome third.old.pass (λ p. IsPassOf number_of squeue.now.gate p × (number p ≡ 2)) }
-    requires given { length squeue.now.given.quotas ≡ 2 }
+    requires given { (length squeue.now.given.quotas ≡ 2) × HasAllRoom squeue.now.given }
     ensures ring { IsSome ring.new.pass × IfSome ring.new.pass (λ p. IsPassOf number_of squeue.now.gate p × (number p ≡ 0)) }
     ensures third { IsSome third.new.pass × IfSome third.new.pass (λ p. IsPassOf number_of squeue.now.gate p × (number p ≡ 2)
         × IsOver (setting_of limits_of squeue.now.given) (run (setting_of limits_of squeue.now.given) (seen p))) }

@@ -13,7 +13,7 @@ chains-init g c =
 
 pub enter-entered-requires-clause-may : goal.enter-entered-requires-clause-may
 enter-entered-requires-clause-may g c =
-    may_chain g.R.Resident.limits c.args.sq.now c.chains.invariant.done c.args.list.now c.chains.rest.now c.split_at.result.0.now c.split_at.result.1.now c.args.pass c.chains.pass c.chains.invariant.so_far c.requires (split c.chains.rest.now c.split_at.result.0.now c.split_at.result.1.now c.min.result c.split_at.ensures.front c.split_at.ensures.back)
+    may_chain g.R.Resident.limits c.args.sq.now c.chains.invariant.done c.args.list.now c.chains.rest.now c.split_at.result.0.now c.split_at.result.1.now c.args.pass c.chains.pass c.chains.invariant.so_far c.requires.may (split c.chains.rest.now c.split_at.result.0.now c.split_at.result.1.now c.min.result c.split_at.ensures.front c.split_at.ensures.back)
 
 pub chains-preserved : goal.chains-preserved
 chains-preserved g c =

@@ -1,6 +1,8 @@
 use Rattle.std.proofs.Common.{◌≡◌, ◌-◌, ◌<◌, [], ◌∷◌, ◌++◌, ℕ, length, take, drop, slice_get, slice_index_or, sym, ap, ◌∙◌, arith}
 use Rattle.std.proofs.lemmas.List.{length-set}
+use Rattle.squeue_state.specs.AllRoom.{HasAllRoom}
 use Rattle.squeue_serve.specs.Places.{Holds}
+use Rattle.squeue_serve.proofs.Unused.{each_at}
 use Rattle.squeue_rings.specs.Rings.{RingAt}
 use Rattle.squeue_rings.specs.Runs.{home_of, run_of}
 use Rattle.squeue_rings.proofs.PacedAll.{run_paced}
@@ -57,6 +59,13 @@ enter_at-requires-clause-may g c =
     let long = ap length is in
     may_enter limits sq sp ready.0 ready.1 ss ready.2 feeds ready.3 c.args.places.now.items ready.4 f tail is mid at c.index-squeues-q.result here c.requires.run.numbered c.index_mut.result.now (take (length feeds - (length tail - c.run.result)) feeds) it
     (run_is limits sq sp ready.0 ready.1 ss ready.2 feeds ready.3 c.args.places.now.items ready.4 f tail is (length feeds - (length tail - c.run.result)) (omega (arith, long, run, c.run.ensures.most)))
+
+pub enter_at-requires-clause-room : goal.enter_at-requires-clause-room
+enter_at-requires-clause-room g c =
+    let ss = c.args.squeues.now in
+    let q = c.home-home.result in
+    let lq : q < length ss = omega (arith, c.home-home.ensures.range, c.requires.run.count) in
+    each_at (λ s. HasAllRoom s.given) ss q c.index-squeues-q.result c.requires.run.room (got_at ss q c.index-squeues-q.result lq c.index-squeues-q.is)
 
 pub returns-clause-brought : goal.returns-clause-brought
 returns-clause-brought g c r list done behind ready =

@@ -1,5 +1,5 @@
-use Rattle.squeue_state.specs.Behind.{pairs}
+use Rattle.squeue_state.specs.Behind.{ever}
 use Rattle.squeue_state.proofs.squeue.chosen.Given as goal
 
 abbrev pub ghost-chosen_as : goal.ghost-chosen_as
-ghost-chosen_as a = record { number = a._number; rings = a._rings; quotas = pairs a._quotas.now; starts = a._here.now; traced = a._trace }
+ghost-chosen_as a = record { number = a._number; rings = a._rings; quotas = ever a._lives.now; starts = a._here.now; traced = a._trace; room = a._room }

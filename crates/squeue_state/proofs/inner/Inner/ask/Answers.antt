@@ -11,5 +11,5 @@ returns g c =
           let grown = c.append.ensures.room in
           let room = b.room in
           ask_behind g.R.Resident G c.args.self.now _ H c.args.p b m (search rules) (ap (λ w. w.chain.items) c.poll.ensures ∙ c.append.ensures.items) (search rules) (ap (λ w. w.polling) c.poll.ensures ∙ ap (λ xs. polls xs c.args.self.now.polling) c.append.ensures.items) (search rules) (search rules) (search rules) (search rules)
-          (omega (arith, cap, grown, room));
+          (omega (arith, cap, grown, room)) (search rules);
     }

@@ -4,6 +4,6 @@ use Rattle.squeue_state.proofs.Steps.{fast_behind}
 use Rattle.squeue_state.proofs.inner.Inner.fast.Goals as goal
 
 pub returns-clause-behind : goal.returns-clause-behind
-returns-clause-behind g c = λ G H b m.
+returns-clause-behind g c = λ G H b m fit.
     fast_behind g.R.Resident G c.args.self.now _ H c.args.p c.args.e b m (search rules) (search rules) (search rules) (search rules) (search rules) (search rules) (search rules) (search rules)
-    (subst (λ n. room_of G.quotas ≡ n) (sym (ap (λ w. vec_capacity w.chain) c.poll.ensures)) b.room)
+    (subst (λ n. G.room ≡ n) (sym (ap (λ w. vec_capacity w.chain) c.poll.ensures)) b.room) (search rules) fit

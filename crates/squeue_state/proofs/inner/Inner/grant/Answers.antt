@@ -16,6 +16,7 @@ returns g c =
           (ap (λ w. w.wake) all ∙ ap (λ w. w.wake) back.same)
           (ap (λ w. w.polling) all ∙ (ap (λ w. polls c.give_back.new.self.chain.items w.polling) back.same ∙ ap (λ xs. polls xs c.args.self.now.polling) back.queue))
           (ap (λ w. w.here.items) all ∙ ap (λ w. w.here.items) back.same) (ap (λ w. w.closed.items) all ∙ ap (λ w. w.closed.items) back.same) (ap (λ w. w.resident) all ∙ ap (λ w. w.resident) back.same)
-          (empty_more (vec_capacity c.args.self.now.chain) (room_of G.quotas) c.give_back.new.self.spare c.poll.new.self.spare (ap (λ w. w.spare) all) b.room back.spare)
-          (omega (arith, ap (λ w. vec_capacity w.chain) all, back.room, lies.has_room));
+          (empty_more (vec_capacity c.args.self.now.chain) G.room c.give_back.new.self.spare c.poll.new.self.spare (ap (λ w. w.spare) all) b.room back.spare)
+          (omega (arith, ap (λ w. vec_capacity w.chain) all, back.room, lies.has_room))
+          (ap (λ w. w.in_hand) all ∙ ap (λ w. w.in_hand) back.same);
     }

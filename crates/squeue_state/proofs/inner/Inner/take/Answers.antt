@@ -1,4 +1,4 @@
-use Rattle.std.proofs.Common.{◌≡◌, ◌∙◌, [], ap, rules, vec_capacity, arith}
+use Rattle.std.proofs.Common.{◌≡◌, ◌∙◌, [], ap, rules, vec_capacity, arith, length}
 use Rattle.perimeter_core.specs.Perimeter.{polls}
 use Rattle.squeue_state.proofs.Steps.{take_behind}
 use Rattle.squeue_state.proofs.inner.Inner.take.Goals as goal
@@ -9,4 +9,4 @@ returns-clause-behind g c = λ G H p b fits m.
     let empty : c.poll.new.self.chain.items ≡ [] = ap (λ v. v.items) after ∙ c.clear.ensures.items in
     take_behind g.R.Resident G c.args.self.now c.poll.new.self H p b m (search rules) empty (search rules)
     (ap (λ w. w.polling) c.poll.ensures ∙ ap (λ xs. polls xs c.args.self.now.polling) (ap (λ v. v.items) c.replace-hand.ensures.after ∙ c.clear.ensures.items)) (search rules) (search rules) (search rules) (search rules)
-    (omega (arith, ap (λ v. vec_capacity v) after, c.clear.ensures.capacity, fits))
+    (omega (arith, ap (λ v. vec_capacity v) after, c.clear.ensures.capacity, fits)) (omega (arith, ap (λ w. w.in_hand) c.poll.ensures, c.len-self.ensures, ap (λ v. length v.items) c.replace-hand.ensures.value, c.replace-hand.result.ok.0))

@@ -34,7 +34,7 @@ returns-clause-hand g c =
     let b = lent g.R.Resident c.turn.inside.of.value c.turn.inside.held c.args.turn c.args.self.now c.turn.invariant c.turn.view_is c.requires.squeue c.value.result.now c.value.ensures.value in
     let S = setting_of g.R.Resident.limits c.args.self.now.given in
     let seen_is = c.end_turn-pass.ensures.seen ∙ ap (λ (u : Turned g.row.R.Denot). u.found ++ accepted_by u.number ∷ []) c.turn.view_is in
-    let sp = spare_granted (room_of c.args.self.now.given.quotas) c.value.result.now.inner.own c.args.turn.number c.value.result.now.inner.spare c.in-Some-spare.entries b.spare (b.own ∙ c.requires.may.step) (sym c.accept-resident.ensures.same.1 ∙ c.in-Some-spare.is) in
+    let sp = spare_granted c.args.self.now.given.room c.value.result.now.inner.own c.args.turn.number c.value.result.now.inner.spare c.in-Some-spare.entries b.spare (b.own ∙ c.requires.may.step) (sym c.accept-resident.ensures.same.1 ∙ c.in-Some-spare.is) in
     record {
       is_whole = sp.0 ∙ sym (ap (λ (H : List Element). (run S H).hand) seen_is ∙ ap (λ s. s.hand) (run_push (start S) c.args.turn.found (accepted_by c.args.turn.number)));
       has_room = sp.1;

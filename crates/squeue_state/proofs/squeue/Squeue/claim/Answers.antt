@@ -8,7 +8,7 @@ use Rattle.squeue_state.specs.Behind.{Behind, IsPeri}
 use Rattle.squeue_state.specs.Clauses.{named_of}
 use Rattle.squeue_state.specs.Elements.{claimed_by}
 use Rattle.squeue_state.proofs.Turns.{lent, noted, ends, lies_free, hand_after, claimed_same}
-use Rattle.squeue_state.proofs.Bounds.{few_hand, claim_fits}
+use Rattle.squeue_state.proofs.Bounds.{few_hand, fill_fits}
 use Rattle.squeue_state.proofs.squeue.Squeue.claim.Goals as goal
 
 pub claim-resident-requires-clause-room : goal.claim-resident-requires-clause-room
@@ -16,14 +16,14 @@ claim-resident-requires-clause-room g c =
     let b = lent g.R.Resident c.turn.inside.of.value c.turn.inside.held c.args.turn c.args.self.now c.turn.invariant c.turn.view_is c.requires.squeue c.value.result.now c.value.ensures.value in
     let S = setting_of g.R.Resident.limits c.args.self.now.given in
     let n = (c.number-p.ensures ∙ ap (λ (u : Turned g.row.R.Denot). u.number) c.turn.view_is) in
-    omega (arith, claim_fits g.R.Resident c.args.self.now.given c.value.result.now.inner c.args.turn.found c.args.turn.number c.args.es.now b c.requires.may, ap length b.chain, b.room, c.value.result.now.inner.chain.ok.0)
+    omega (arith, fill_fits g.R.Resident c.args.self.now.given c.value.result.now.inner c.args.turn.found c.args.es.now b c.requires.room, ap length b.chain, b.room, c.value.result.now.inner.chain.ok.0)
 
 pub end_turn-pass-requires-clause-value : goal.end_turn-pass-requires-clause-value
 end_turn-pass-requires-clause-value g c =
     let b = lent g.R.Resident c.turn.inside.of.value c.turn.inside.held c.args.turn c.args.self.now c.turn.invariant c.turn.view_is c.requires.squeue c.value.result.now c.value.ensures.value in
     let S = setting_of g.R.Resident.limits c.args.self.now.given in
     let n = (c.number-p.ensures ∙ ap (λ (u : Turned g.row.R.Denot). u.number) c.turn.view_is) in
-    ends g.R.Resident c.turn.inside.held c.args.turn c.turn.inside.of.value c.args.self.now (named_of c.self.inside.gate) c.turn.view_is c.self.view_is c.claim-resident.new.self (λ k. claimed_by k c.args.es.now) (subst (λ k. Behind g.R.Resident c.args.self.now.given c.claim-resident.new.self (c.args.turn.found ++ claimed_by k c.args.es.now ∷ [])) n (c.claim-resident.ensures.behind c.args.self.now.given c.args.turn.found b (subst (λ k. May S c.args.turn.found (claimed_by k c.args.es.now)) (sym n) c.requires.may)))
+    ends g.R.Resident c.turn.inside.held c.args.turn c.turn.inside.of.value c.args.self.now (named_of c.self.inside.gate) c.turn.view_is c.self.view_is c.claim-resident.new.self (λ k. claimed_by k c.args.es.now) (subst (λ k. Behind g.R.Resident c.args.self.now.given c.claim-resident.new.self (c.args.turn.found ++ claimed_by k c.args.es.now ∷ [])) n (c.claim-resident.ensures.behind c.args.self.now.given c.args.turn.found b (subst (λ k. May S c.args.turn.found (claimed_by k c.args.es.now)) (sym n) c.requires.may) c.requires.room))
 
 pub end_turn-pass-requires-clause-noted : goal.end_turn-pass-requires-clause-noted
 end_turn-pass-requires-clause-noted g c =
@@ -56,6 +56,6 @@ invariant_of-result g c =
     let b = lent g.R.Resident c.turn.inside.of.value c.turn.inside.held c.args.turn c.args.self.now c.turn.invariant c.turn.view_is c.requires.squeue c.value.result.now c.value.ensures.value in
     let S = setting_of g.R.Resident.limits c.args.self.now.given in
     let n = (c.number-p.ensures ∙ ap (λ (u : Turned g.row.R.Denot). u.number) c.turn.view_is) in
-    let after = (subst (λ k. Behind g.R.Resident c.args.self.now.given c.claim-resident.new.self (c.args.turn.found ++ claimed_by k c.args.es.now ∷ [])) n (c.claim-resident.ensures.behind c.args.self.now.given c.args.turn.found b (subst (λ k. May S c.args.turn.found (claimed_by k c.args.es.now)) (sym n) c.requires.may))) in
+    let after = (subst (λ k. Behind g.R.Resident c.args.self.now.given c.claim-resident.new.self (c.args.turn.found ++ claimed_by k c.args.es.now ∷ [])) n (c.claim-resident.ensures.behind c.args.self.now.given c.args.turn.found b (subst (λ k. May S c.args.turn.found (claimed_by k c.args.es.now)) (sym n) c.requires.may) c.requires.room)) in
     let whole = hand_after S c.args.turn.found (claimed_by c.args.turn.number c.args.es.now) c.claim-resident.result.1.items (c.claim-resident.ensures.same.1 ∙ ap (λ xs. xs ++ entries c.args.es.now) b.chain) in
     (omega arith, omega (arith, c.claim-resident.result.1.ok.0, ap length whole, few_hand g.R.Resident c.args.self.now.given c.claim-resident.new.self (c.args.turn.found ++ claimed_by c.args.turn.number c.args.es.now ∷ []) after))

@@ -16,14 +16,14 @@ fast-resident-requires g c =
     let b = lent g.R.Resident c.turn.inside.of.value c.turn.inside.held c.args.turn c.args.self.now c.turn.invariant c.turn.view_is c.requires.squeue c.value.result.now c.value.ensures.value in
     let S = setting_of g.R.Resident.limits c.args.self.now.given in
     let n = (c.number-p.ensures ∙ ap (λ (u : Turned g.row.R.Denot). u.number) c.turn.view_is) in
-    (room_of c.args.self.now.given.quotas, omega arith, empty_free (room_of c.args.self.now.given.quotas) c.value.result.now.inner.own c.value.result.now.inner.spare b.spare (b.own ∙ c.requires.may.step.0))
+    (c.args.self.now.given.room, omega (arith, c.requires.room), empty_free c.args.self.now.given.room c.value.result.now.inner.own c.value.result.now.inner.spare b.spare (b.own ∙ c.requires.may.step.0))
 
 pub end_turn-pass-requires-clause-value : goal.end_turn-pass-requires-clause-value
 end_turn-pass-requires-clause-value g c =
     let b = lent g.R.Resident c.turn.inside.of.value c.turn.inside.held c.args.turn c.args.self.now c.turn.invariant c.turn.view_is c.requires.squeue c.value.result.now c.value.ensures.value in
     let S = setting_of g.R.Resident.limits c.args.self.now.given in
     let n = (c.number-p.ensures ∙ ap (λ (u : Turned g.row.R.Denot). u.number) c.turn.view_is) in
-    ends g.R.Resident c.turn.inside.held c.args.turn c.turn.inside.of.value c.args.self.now (named_of c.self.inside.gate) c.turn.view_is c.self.view_is c.fast-resident.new.self (λ k. fast_by k c.args.e) (subst (λ k. Behind g.R.Resident c.args.self.now.given c.fast-resident.new.self (c.args.turn.found ++ fast_by k c.args.e ∷ [])) n (c.fast-resident.ensures.behind c.args.self.now.given c.args.turn.found b (subst (λ k. May S c.args.turn.found (fast_by k c.args.e)) (sym n) c.requires.may)))
+    ends g.R.Resident c.turn.inside.held c.args.turn c.turn.inside.of.value c.args.self.now (named_of c.self.inside.gate) c.turn.view_is c.self.view_is c.fast-resident.new.self (λ k. fast_by k c.args.e) (subst (λ k. Behind g.R.Resident c.args.self.now.given c.fast-resident.new.self (c.args.turn.found ++ fast_by k c.args.e ∷ [])) n (c.fast-resident.ensures.behind c.args.self.now.given c.args.turn.found b (subst (λ k. May S c.args.turn.found (fast_by k c.args.e)) (sym n) c.requires.may) c.requires.room))
 
 pub end_turn-pass-requires-clause-noted : goal.end_turn-pass-requires-clause-noted
 end_turn-pass-requires-clause-noted g c =
@@ -48,7 +48,7 @@ returns-clause-hand g c =
     let seen_is = c.end_turn-pass.ensures.seen ∙ ap (λ (u : Turned g.row.R.Denot). u.found ++ fast_by u.number c.args.e ∷ []) c.turn.view_is in
     record {
       is_whole = hand_after S c.args.turn.found (fast_by c.args.turn.number c.args.e) c.fast-resident.result.1.items c.fast-resident.ensures.same.1 ∙ sym (ap (λ (H : List Element). (run S H).hand) seen_is);
-      has_room = c.fast-resident.ensures.room (room_of c.args.self.now.given.quotas) (empty_free (room_of c.args.self.now.given.quotas) c.value.result.now.inner.own c.value.result.now.inner.spare b.spare (b.own ∙ c.requires.may.step.0));
+      has_room = c.fast-resident.ensures.room c.args.self.now.given.room (empty_free c.args.self.now.given.room c.value.result.now.inner.own c.value.result.now.inner.spare b.spare (b.own ∙ c.requires.may.step.0));
     }
 
 pub invariant_of-result : goal.invariant_of-result
@@ -56,6 +56,6 @@ invariant_of-result g c =
     let b = lent g.R.Resident c.turn.inside.of.value c.turn.inside.held c.args.turn c.args.self.now c.turn.invariant c.turn.view_is c.requires.squeue c.value.result.now c.value.ensures.value in
     let S = setting_of g.R.Resident.limits c.args.self.now.given in
     let n = (c.number-p.ensures ∙ ap (λ (u : Turned g.row.R.Denot). u.number) c.turn.view_is) in
-    let after = (subst (λ k. Behind g.R.Resident c.args.self.now.given c.fast-resident.new.self (c.args.turn.found ++ fast_by k c.args.e ∷ [])) n (c.fast-resident.ensures.behind c.args.self.now.given c.args.turn.found b (subst (λ k. May S c.args.turn.found (fast_by k c.args.e)) (sym n) c.requires.may))) in
+    let after = (subst (λ k. Behind g.R.Resident c.args.self.now.given c.fast-resident.new.self (c.args.turn.found ++ fast_by k c.args.e ∷ [])) n (c.fast-resident.ensures.behind c.args.self.now.given c.args.turn.found b (subst (λ k. May S c.args.turn.found (fast_by k c.args.e)) (sym n) c.requires.may) c.requires.room)) in
     let whole = hand_after S c.args.turn.found (fast_by c.args.turn.number c.args.e) c.fast-resident.result.1.items c.fast-resident.ensures.same.1 in
     (omega arith, omega (arith, c.fast-resident.result.1.ok.0, ap length whole, few_hand g.R.Resident c.args.self.now.given c.fast-resident.new.self (c.args.turn.found ++ fast_by c.args.turn.number c.args.e ∷ []) after))

@@ -46,7 +46,7 @@ end_turn-pass-requires-clause-value g c =
     let left = sym (drop-drop 1 c.hand.inside.at c.hand.inside.entries.items) ∙ (ap (drop 1) (ap (λ (h : Handed). h.left) c.hand.view_is) ∙ hand.0) in
     let peri_r = subst (λ (x : Blocks). IsPeri g.R.Resident c.args.self.now.given c.args.resident x) (same_blocks (processed (length c.args.hand.left) H) (processed (length c.args.hand.left - 1) H) (asker c.args.hand.left) (peri S c.args.turn.found) hand.1) c.requires.resident in
     let after = c.grant.ensures.behind c.args.self.now.given c.args.turn.found c.args.turn.number (length c.args.hand.left - 1) b
-    (record { is_left = left; has_room = subst (λ k. room_of c.args.self.now.given.quotas ≡ k) (sym (ap (λ (h : Handed). h.room) c.hand.view_is)) c.requires.hand.has_room })
+    (record { is_left = left; has_room = subst (λ k. c.args.self.now.given.room ≡ k) (sym (ap (λ (h : Handed). h.room) c.hand.view_is)) c.requires.hand.has_room })
     peri_r (subst (λ k. May S c.args.turn.found (granted_by c.args.turn.number k (length c.args.hand.left - 1))) (sym j) c.requires.may) in
     ends g.R.Resident c.turn.inside.held c.args.turn c.turn.inside.of.value c.args.self.now (named_of c.self.inside.gate) c.turn.view_is c.self.view_is c.grant.new.self (λ k. granted_by k c.in-Ask.j (c.len.result - c.hand.inside.at - 1))
     (subst (λ k. Behind g.R.Resident c.args.self.now.given c.grant.new.self (c.args.turn.found ++ granted_by c.args.turn.number c.in-Ask.j k ∷ [])) rest after)

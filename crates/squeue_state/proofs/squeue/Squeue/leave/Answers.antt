@@ -55,7 +55,7 @@ end_turn-pass-requires-clause-value g c =
     ends g.R.Resident c.turn.inside.held c.args.turn c.turn.inside.of.value c.args.self.now (named_of c.self.inside.gate) c.turn.view_is c.self.view_is c.leave.new.self (λ k. left_by_pass k (c.len.result - c.hand.inside.at) c.args.act g.N.Notes.note)
     (subst (λ k. Behind g.R.Resident c.args.self.now.given c.leave.new.self (c.args.turn.found ++ left_by_pass c.args.turn.number k c.args.act g.N.Notes.note ∷ [])) rest
     (c.leave.ensures.behind c.args.self.now.given c.args.turn.found g.N.Notes.note c.args.turn.number (length c.args.hand.left) b
-    (record { is_left = ap (λ (h : Handed). h.left) c.hand.view_is ∙ c.requires.hand.is_left; has_room = subst (λ k. room_of c.args.self.now.given.quotas ≡ k) (sym (ap (λ (h : Handed). h.room) c.hand.view_is)) c.requires.hand.has_room })
+    (record { is_left = ap (λ (h : Handed). h.left) c.hand.view_is ∙ c.requires.hand.is_left; has_room = subst (λ k. c.args.self.now.given.room ≡ k) (sym (ap (λ (h : Handed). h.room) c.hand.view_is)) c.requires.hand.has_room })
     c.requires.resident c.requires.may))
 
 pub end_turn-pass-requires-clause-noted : goal.end_turn-pass-requires-clause-noted

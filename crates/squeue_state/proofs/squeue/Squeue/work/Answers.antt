@@ -37,7 +37,7 @@ returns-clause-hand g c =
     let chain = c.work-resident.ensures.same.1 in
     record {
       is_whole = ap (λ v. v.items) chain ∙ (b.chain ∙ sym (ap (λ (H : List Element). (run S H).hand) seen_is ∙ ap (λ s. s.hand) (run_push (start S) c.args.turn.found (worked_by c.args.turn.number))));
-      has_room = subst (λ k. room_of c.args.self.now.given.quotas ≡ k) (sym (ap (λ v. vec_capacity v) chain)) b.room;
+      has_room = subst (λ k. c.args.self.now.given.room ≡ k) (sym (ap (λ v. vec_capacity v) chain)) b.room;
     }
 
 pub end_turn-pass-requires-clause-noted : goal.end_turn-pass-requires-clause-noted
