@@ -56,7 +56,7 @@ impl Model for Block {
 
 impl Block {
     /// A new block of connection `c`, in LISTEN, with all the room that its acts, their answers and calls that come early
-    /// will take. Fails only for want of memory.
+    /// will take, and some for its replies. Fails only for want of memory.
     pub fn make(alloc: Global, plan: &Plan, calls: &Calls, c: u32) -> Result<Box<Block>, AllocError>
         requires { c < length plan.now.tuples }
         ensures { IfOk result (λ b. IsNew plan.now calls.now c b.value) }
@@ -75,10 +75,13 @@ impl Block {
         ensures { IfOk result (λ b. IsNew plan.now calls.now c b.value) }
     {
         let asked = calls.count_on(c);
+        let mut tcb = Tcb::make(alloc);
+        // Mostly one segment answers each item.
+        tcb.reserve_replies(plan.items(c) as usize)?;
         let block = Block {
             of: connection_of(plan, calls, c),
             service: Service::of(plan.tuple(c).server_port),
-            tcb: Tcb::make(alloc),
+            tcb,
             order: Vec::with_capacity(alloc, plan.items(c) as usize + asked)?,
             answers: Vec::with_capacity(alloc, asked)?,
             short: false,

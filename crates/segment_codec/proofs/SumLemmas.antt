@@ -1,5 +1,5 @@
 -- A checksum makes the sum whole.
-use Rattle.std.proofs.Common.{◌≡◌, ℕ, ◌+◌, ◌-◌, ◌<◌, List, ◌++◌, length, take, length-append, append_assoc, ap, ◌∙◌, arith, Option, Some, None}
+use Rattle.std.proofs.Common.{◌≡◌, ℕ, ◌+◌, ◌-◌, ◌<◌, List, [], ◌∷◌, ◌++◌, length, slice_index, refl, take, length-append, append_assoc, ap, ◌∙◌, arith, Option, Some, None}
 use Rattle.std.proofs.lemmas.Bool.Decides.{nat_tests}
 use Rattle.sq_base.specs.InternetSum.{word_sum, reduced}
 use Rattle.sq_base.proofs.SumLemmas.{reduced-reduced_add}
@@ -48,3 +48,13 @@ datagram_is_joined t r old reserved header whole total first second p q s size f
     ∙ ap (λ l. old ++ l) (ap (λ k. ip_with t total first ++ tcp_with t r k) g
     ∙ (ap (λ k. ip_with t total k ++ tcp_with t r (tcp_sum t r)) f
     ∙ ap (λ k. ip_with t k (ip_sum t k) ++ tcp_with t r (tcp_sum t r)) size))))
+
+-- five words by their places
+pub five : (xs : List ℕ) → length xs ≡ 5 → xs ≡ slice_index xs 0 ∷ slice_index xs 1 ∷ slice_index xs 2 ∷ slice_index xs 3 ∷ slice_index xs 4 ∷ []
+five [] h = absurd (omega (arith, h))
+five (a ∷ []) h = absurd (omega (arith, h))
+five (a ∷ b ∷ []) h = absurd (omega (arith, h))
+five (a ∷ b ∷ c ∷ []) h = absurd (omega (arith, h))
+five (a ∷ b ∷ c ∷ d ∷ []) h = absurd (omega (arith, h))
+five (a ∷ b ∷ c ∷ d ∷ e ∷ []) h = refl
+five (a ∷ b ∷ c ∷ d ∷ e ∷ f ∷ rest) h = absurd (omega (arith, h))

@@ -1,6 +1,7 @@
-//! A sent segment in bytes. Both checksums are taken over the fields first, so each byte is written once.
+//! A sent segment in bytes. Both checksums are taken over the fields as numbers first, so each byte is written once.
 
-ghost use Rattle.std.specs.Prelude.{◌≡◌, ◌≤◌, ◌+◌, ◌*◌, ◌/◌, ◌<◌, length, take, IfOk, OnOk, OnErr, IsSome, ◌++◌, if◌then◌else◌, is_ok};
+ghost use Rattle.std.specs.Prelude.{◌≡◌, ◌≤◌, ◌+◌, ◌*◌, ◌/◌, ◌<◌, length, take, IfOk, OnOk, OnErr, IsSome, ◌++◌, ◌∷◌, [], if◌then◌else◌, is_ok, flat_map};
+ghost use Rattle.byteorder.specs.Endian.{big_bytes};
 ghost use Rattle.sq_base.specs.InternetSum.{word_sum, reduced};
 ghost use Rattle.segment_codec.specs.SegmentBytes.{segment_bytes, ip_with, tcp_with, option_bytes, offset_of, ip_sum, tcp_sum};
 ghost use Rattle.segment_codec.specs.Limits.{most_text};
@@ -45,7 +46,8 @@ fn append(out: &mut Vec<u8>, tuple: &Tuple, reply: &Reply) -> Result<(), AllocEr
     let len = tcp_len(reply);
     let total = 20 + len;
     out.reserve(usize::from(total))?;
-    push_header(out, tuple, total, header_sum(tuple, total))?;
+    let sum = header_sum(tuple, total);
+    push_header(out, ip_header(tuple, total, sum))?;
     push_tcp(out, tuple, reply, tcp_sum(tuple, reply, len))?;
     Ok(())
 }
@@ -64,11 +66,7 @@ fn tcp_len(reply: &Reply) -> u16
 fn header_sum(tuple: &Tuple, total: u16) -> u16
     ensures { result ≡ ip_sum tuple.now total }
 {
-    // The words that are the same in each header: version and length, no fragment, time to live and protocol.
-    let sum = inet_sum(0x4500, &[0x40, 0, 0x40, 6]);
-    let sum = inet_sum(sum, &total.to_be_bytes());
-    let sum = inet_sum(sum, &tuple.server.0.to_be_bytes());
-    0xffff - inet_sum(sum, &tuple.client.0.to_be_bytes())
+    0xffff - folded(sum_of(ip_header(tuple, total, 0)))
 }
 
 /// The TCP checksum: over the pseudo-header (RFC 9293, 3.1), the header's fields, its options, and the text.
@@ -76,23 +74,73 @@ fn tcp_sum(tuple: &Tuple, reply: &Reply, len: u16) -> u16
     requires { len ≡ 20 + length (option_bytes reply.now) + length reply.now.text }
     ensures { result ≡ tcp_sum tuple.now reply.now }
 {
-    let sum = inet_sum(6, &tuple.server.0.to_be_bytes());
-    let sum = inet_sum(sum, &tuple.client.0.to_be_bytes());
-    let sum = inet_sum(sum, &len.to_be_bytes());
-    let sum = sum_options(sum_fields(sum, tuple, reply), reply);
-    0xffff - inet_sum(sum, reply.text.as_slice())
+    let pseudo = halves(tuple.server.0) + halves(tuple.client.0) + 6 + u32::from(len);
+    let sum = folded(pseudo + sum_of(tcp_header(tuple, reply, 0)));
+    0xffff - inet_sum(sum_options(sum, reply), reply.text.as_slice())
 }
 
-/// The sum of `start` and the fields of the header, but for the checksum.
-fn sum_fields(start: u16, tuple: &Tuple, reply: &Reply) -> u16
-    ensures { result ≡ reduced (start + word_sum (take 20 (tcp_with tuple.now reply.now 0))) }
+/// The IPv4 header with this checksum, in words of 32 bits: no fragment, 64 hops, TCP.
+fn ip_header(tuple: &Tuple, total: u16, sum: u16) -> [u32; 5]
+    ensures { flat_map (big_bytes 4) result ≡ ip_with tuple.now total sum }
 {
-    let sum = inet_sum(start, &tuple.server_port.to_be_bytes());
-    let sum = inet_sum(sum, &tuple.client_port.to_be_bytes());
-    let sum = inet_sum(sum, &reply.seq.to_be_bytes());
-    let sum = inet_sum(sum, &reply.ack.to_be_bytes());
-    let sum = inet_sum(sum, &[offset_byte(reply), reply.flags]);
-    inet_sum(sum, &reply.wnd.to_be_bytes())
+    [
+        joined(0x4500, total),
+        joined(0, 0x4000),
+        joined(0x4006, sum),
+        tuple.server.0,
+        tuple.client.0,
+    ]
+}
+
+/// The TCP header without its options, with this checksum, in words of 32 bits.
+fn tcp_header(tuple: &Tuple, reply: &Reply, sum: u16) -> [u32; 5]
+    ensures { flat_map (big_bytes 4) result ≡ take 20 (tcp_with tuple.now reply.now sum) }
+{
+    [
+        joined(tuple.server_port, tuple.client_port),
+        reply.seq,
+        reply.ack,
+        joined(word(offset_byte(reply), reply.flags), reply.wnd),
+        joined(sum, 0),
+    ]
+}
+
+/// Two bytes as a word of 16 bits.
+fn word(high: u8, low: u8) -> u16
+    ensures { big_bytes 2 result ≡ high ∷ low ∷ [] }
+{
+    u16::from(high) * 256 + u16::from(low)
+}
+
+/// Two words of 16 bits as one of 32.
+fn joined(high: u16, low: u16) -> u32
+    ensures { big_bytes 4 result ≡ big_bytes 2 high ++ big_bytes 2 low }
+{
+    u32::from(high) * 0x1_0000 + u32::from(low)
+}
+
+/// The sum of a header's words of 16 bits.
+fn sum_of(header: [u32; 5]) -> u32
+    ensures is { result ≡ word_sum (flat_map (big_bytes 4) header) }
+    ensures small { result ≤ 10 * 0xffff }
+{
+    let [a, b, c, d, e] = header;
+    halves(a) + halves(b) + halves(c) + halves(d) + halves(e)
+}
+
+/// The sum of the two words of 16 bits.
+fn halves(long: u32) -> u32
+    ensures is { result ≡ word_sum (big_bytes 4 long) }
+    ensures small { result ≤ 2 * 0xffff }
+{
+    (long >> 16) + (long & 0xffff)
+}
+
+/// The sum with its carries added at its end.
+fn folded(sum: u32) -> u16
+    ensures { result ≡ reduced sum }
+{
+    halves(halves(sum)) as u16
 }
 
 /// The sum of `start` and the options that are carried.
@@ -109,17 +157,19 @@ fn sum_options(start: u16, reply: &Reply) -> u16
     }
 }
 
-/// Appends the IPv4 header with this checksum.
-fn push_header(out: &mut Vec<u8>, tuple: &Tuple, total: u16, sum: u16) -> Result<(), AllocError>
-    ensures ok { OnOk result (out.new.items ≡ out.old.items ++ ip_with tuple.now total sum) }
+/// Appends a header.
+fn push_header(out: &mut Vec<u8>, header: [u32; 5]) -> Result<(), AllocError>
+    ensures ok { OnOk result (out.new.items ≡ out.old.items ++ flat_map (big_bytes 4) header) }
     ensures kept { OnErr result (out.new.items ≡ out.old.items) }
 {
-    let [t0, t1] = total.to_be_bytes();
-    let [s0, s1] = sum.to_be_bytes();
-    let [a0, a1, a2, a3] = tuple.server.0.to_be_bytes();
-    let [b0, b1, b2, b3] = tuple.client.0.to_be_bytes();
+    let [a, b, c, d, e] = header;
+    let [a0, a1, a2, a3] = a.to_be_bytes();
+    let [b0, b1, b2, b3] = b.to_be_bytes();
+    let [c0, c1, c2, c3] = c.to_be_bytes();
+    let [d0, d1, d2, d3] = d.to_be_bytes();
+    let [e0, e1, e2, e3] = e.to_be_bytes();
     out.extend_from_slice(&[
-        0x45, 0, t0, t1, 0, 0, 0x40, 0, 0x40, 6, s0, s1, a0, a1, a2, a3, b0, b1, b2, b3,
+        a0, a1, a2, a3, b0, b1, b2, b3, c0, c1, c2, c3, d0, d1, d2, d3, e0, e1, e2, e3,
     ])
 }
 
@@ -129,46 +179,10 @@ fn push_tcp(out: &mut Vec<u8>, tuple: &Tuple, reply: &Reply, sum: u16) -> Result
     ensures ok { OnOk result (out.new.items ≡ out.old.items ++ tcp_with tuple.now reply.now sum) }
     ensures kept { take (length out.old.items) out.new.items ≡ out.old.items }
 {
-    push_fields(out, tuple, reply, sum)?;
+    push_header(out, tcp_header(tuple, reply, sum))?;
     push_options(out, reply)?;
     out.extend_from_slice(reply.text.as_slice())?;
     Ok(())
-}
-
-/// Appends the fixed part of the TCP header with this checksum.
-fn push_fields(out: &mut Vec<u8>, tuple: &Tuple, reply: &Reply, sum: u16) -> Result<(), AllocError>
-    ensures ok { OnOk result (out.new.items ≡ out.old.items ++ take 20 (tcp_with tuple.now reply.now sum)) }
-    ensures kept { OnErr result (out.new.items ≡ out.old.items) }
-{
-    let [p0, p1] = tuple.server_port.to_be_bytes();
-    let [q0, q1] = tuple.client_port.to_be_bytes();
-    let [s0, s1, s2, s3] = reply.seq.to_be_bytes();
-    let [a0, a1, a2, a3] = reply.ack.to_be_bytes();
-    let [w0, w1] = reply.wnd.to_be_bytes();
-    let [c0, c1] = sum.to_be_bytes();
-    let offset = offset_byte(reply);
-    out.extend_from_slice(&[
-        p0,
-        p1,
-        q0,
-        q1,
-        s0,
-        s1,
-        s2,
-        s3,
-        a0,
-        a1,
-        a2,
-        a3,
-        offset,
-        reply.flags,
-        w0,
-        w1,
-        c0,
-        c1,
-        0,
-        0,
-    ])
 }
 
 /// The byte of the data offset: the header's length in words of four bytes, in the upper half.

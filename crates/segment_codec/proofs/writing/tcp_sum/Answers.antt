@@ -9,9 +9,6 @@ unfolding tcp_sum
 returns c =
     let t = c.args.tuple.now in
     let r = c.args.reply.now in
-    let server = goes_on _ _ _ _ c.inet_sum-sum.ensures c.inet_sum-sum-2.ensures in
-    let pseudo = goes_on _ _ _ _ server c.inet_sum-sum-3.ensures in
-    let fields = goes_on _ _ _ _ pseudo c.sum_fields.ensures in
-    let options = goes_on _ _ _ _ fields c.sum_options-sum.ensures in
+    let options = goes_on _ _ _ _ c.folded-sum.ensures c.sum_options.ensures in
     let text = goes_on _ _ _ _ options c.inet_sum.ensures in
-    ap (λ (n : ℕ). 65535 - n) (text ∙ ap reduced (omega (arith, c.requires, ap word_sum c.to_be_bytes.ensures, ap word_sum c.to_be_bytes-2.ensures, ap word_sum c.to_be_bytes-3.ensures, ap word_sum c.as_slice.ensures, word_sum_parts t r, length-tcp_with t r 0)))
+    ap (λ (n : ℕ). 65535 - n) (text ∙ ap reduced (omega (arith, c.requires, c.halves.ensures.is, c.halves-2.ensures.is, c.sum_of.ensures.is, ap word_sum c.tcp_header.ensures, ap word_sum c.as_slice.ensures, word_sum_parts t r, length-tcp_with t r 0)))

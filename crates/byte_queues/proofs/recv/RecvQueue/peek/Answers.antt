@@ -1,4 +1,4 @@
-use Rattle.std.proofs.Common.{◌≡◌, ◌≤◌, length, take, subst, sym, ap, ◌∙◌, arith, rules}
+use Rattle.std.proofs.Common.{◌≡◌, ◌≤◌, length, take, subst, sym, ap, ◌∙◌, arith}
 use Rattle.byte_queues.specs.ReceiveQueue.{Recv, ready_of, next_bytes}
 use Rattle.byte_queues.specs.Runs.{front_of}
 use Rattle.byte_queues.proofs.QueueLemmas.{ahead, ready-within, bytes-are}
