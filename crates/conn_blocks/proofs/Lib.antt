@@ -12,3 +12,4 @@ pub mod FeedsInOrder
 pub mod PlaceSteps
 pub mod SettledOrders
 pub mod Named
+pub mod Conns

@@ -18,7 +18,8 @@ use Rattle.conn_blocks.specs.CallLists.{CallLists, calls_of, call_at}
 use Rattle.conn_blocks.specs.ServeOrder.{BlockOf, IsCallOn}
 use Rattle.conn_blocks.specs.Holding.{StandsFor, IsNew}
 use Rattle.conn_blocks.specs.Allowed.{named_from, all_from, all_calls, feed_limits}
-use Rattle.conn_blocks.specs.Places.{BlockAt, PlaceFits, PlacesStand, first_here}
+use Rattle.conn_blocks.specs.Places.{BlockAt, PlaceFits, PlacesStand}
+use Rattle.placed_parts.specs.Standing.{first_here}
 use Rattle.conn_blocks.proofs.NewBlock.{new_stands}
 
 -- at first those connections are here whose first squeue it is

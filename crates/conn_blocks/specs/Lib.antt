@@ -1,7 +1,6 @@
 pub mod Allowed
 pub mod CallLists
 pub mod Holding
-pub mod Homes
 pub mod Limits
 pub mod Orders
 pub mod PlaceLaws

@@ -51,7 +51,3 @@ PartStands b had = StandsFor b.value.of.plan b.value.of.calls b.value.of.c had b
 
 abbrev pub IsPartOf : OriginOf → ℕ → Box BlockOf Global → Type 0
 IsPartOf o c b = b.value.of ≡ record { plan = o.plan; calls = o.calls; c = c }
-
--- of n connections those are here whose first squeue is number k of so many, and nothing was done to them
-abbrev pub first_here : ℕ → ℕ → ℕ → Had
-first_here = Placed.first_here

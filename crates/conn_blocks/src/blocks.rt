@@ -31,7 +31,8 @@ pub struct Blocks<'p> {
 
 impl<'p> Blocks<'p> {
     ghost use Rattle.perimeter_core.specs.Blocks.{Blocks as Had};
-    ghost use Rattle.conn_blocks.specs.Places.{NoneShort, NotShort, PlaceFits, PlacesStand, Stands, first_here, limits_of, origin_of, size_of};
+    ghost use Rattle.conn_blocks.specs.Places.{NoneShort, NotShort, PlaceFits, PlacesStand, Stands, limits_of, origin_of, size_of};
+    ghost use Rattle.placed_parts.specs.Standing.{first_here};
 
     /// A place for each connection of the plan, and new blocks of those whose first squeue is number `squeue`. Fails only for
     /// want of memory.

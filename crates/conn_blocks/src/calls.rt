@@ -1,7 +1,7 @@
 //! The calls that the application threads make.
 
-ghost use Rattle.std.specs.Prelude.{◌≡◌, ℕ, ◌<◌, ◌≤◌, [], ◌∷◌, ◌++◌, length, set, Some, OnOk, OnErr};
-ghost use Rattle.conn_blocks.specs.CallLists.{calls_of, call_at, call_count};
+ghost use Rattle.std.specs.Prelude.{◌≡◌, ℕ, ◌<◌, ◌≤◌, [], ◌∷◌, ◌++◌, length, map, set, Some, IfOk, OnOk, OnErr};
+ghost use Rattle.conn_blocks.specs.CallLists.{AreConnsOf, calls_of, call_at, call_count, conns_called};
 ghost use Rattle.conn_blocks.specs.Holding.{calls_on};
 ghost use Rattle.conn_blocks.specs.Limits.{callers, most_calls};
 ghost use Rattle.conn_blocks.specs.Orders.{numbers_from};
@@ -55,6 +55,17 @@ fn count_of(thread: &[(u32, Call)], c: u32) -> usize
         }
     }
     count
+}
+
+/// The connection of each of a thread's calls.
+fn conns_in(alloc: Global, thread: &[(u32, Call)]) -> Result<Vec<u32>, AllocError>
+    ensures { IfOk result (λ v. v.items ≡ map (λ x. x.0) thread.now) }
+{
+    let mut conns = Vec::with_capacity(alloc, thread.len())?;
+    for call in thread {
+        conns.push_reserved(call.0);
+    }
+    Ok(conns)
 }
 
 impl Calls {
@@ -118,6 +129,27 @@ impl Calls {
             2 => self.third.as_slice(),
             _ => self.fourth.as_slice(),
         }
+    }
+
+    /// The connection of each call, by thread. Fails only for want of memory.
+    pub fn conns(&self, alloc: Global) -> Result<Vec<Vec<u32>>, AllocError>
+        ensures { IfOk result (λ v. AreConnsOf self.now (map (λ row. row.items) v.items)) }
+    {
+        let first = self.conns_of(alloc, 0)?;
+        let second = self.conns_of(alloc, 1)?;
+        let third = self.conns_of(alloc, 2)?;
+        let fourth = self.conns_of(alloc, 3)?;
+        Ok(Vec::from_array(alloc, [first, second, third, fourth])?)
+    }
+
+    /// The connections of the calls of thread `j`.
+    fn conns_of(&self, alloc: Global, j: u32) -> Result<Vec<u32>, AllocError>
+        requires { j < callers }
+        ensures conns { IfOk result (λ v. v.items ≡ conns_called self.now j) }
+        ensures few { IfOk result (λ v. length v.items ≤ most_calls) }
+        ensures threads { length self.now ≡ callers }
+    {
+        conns_in(alloc, self.thread(j))
     }
 
     /// How many calls are on connection `c`.

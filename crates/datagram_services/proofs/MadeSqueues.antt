@@ -10,7 +10,8 @@ use Rattle.squeue_serve.proofs.Coming.{each_got}
 use Rattle.squeue_rings.specs.Runs.{count, is_at}
 use Rattle.stream_plan.specs.Streams.{MorePlanOf, item_count}
 use Rattle.stream_blocks.specs.declared.blocks.StreamBlocks.{StreamBlocks}
-use Rattle.stream_blocks.specs.Standing.{Stands, calls_of, first_here, limits_of, origin_of, size_of}
+use Rattle.stream_blocks.specs.Standing.{Stands, calls_of, limits_of, origin_of, size_of}
+use Rattle.placed_parts.specs.Standing.{first_here}
 use Rattle.ring_jobs.specs.declared.lines.Line.{Line}
 use Rattle.ring_jobs.proofs.Starts.{first_flag}
 use Rattle.ring_jobs.proofs.Tasked.{each_more}

@@ -6,7 +6,6 @@ use Rattle.perimeter_core.specs.declared.entries.Feed.{Feed}
 use Rattle.perimeter_core.specs.History.{Limits}
 use Rattle.squeue_state.specs.Naming.{Named}
 use Rattle.squeue_state.specs.AllRoom.{HasAllRoom}
-use Rattle.conn_blocks.specs.CallLists.{CallLists}
 use Rattle.squeue_serve.specs.declared.jobs.Job.{Job}
 use Rattle.squeue_serve.specs.Lending.{AreLent, lent_to, tasks_in}
 use Rattle.squeue_serve.specs.Places.{IsNew}
@@ -76,7 +75,7 @@ module _ (p : MorePlanOf) (squeues rings : ℕ) (lines : List Line) (ss : List (
       may = each_got (MayBring limits_of squeues 0 r l.list.items) ss may_bring;
     }
 
-  pub jobs_ready : (calls : CallLists) (jobs : List (Job Task)) → AreLines (IsStreamList p rings) rings lines → AreTasks rings 0 squeues lines (tasks_in jobs) → AreLent IsNew 1 rings ss (lent_to jobs) → 1 ≤ squeues
-      → MayDoAll limits_of squeues 0 calls lines ss jobs
-  jobs_ready calls jobs are tasks lent some =
-      all_ready rings 0 rings squeues (omega arith) lines jobs tasks limits_of origin_of 0 calls ss one_run some lent rings_same start_home (λ r l lt is. may_all are r lt l is) (omega arith) (λ j lt. absurd (omega (arith, lt)))
+  pub jobs_ready : (jobs : List (Job Task)) → AreLines (IsStreamList p rings) rings lines → AreTasks rings 0 squeues lines (tasks_in jobs) → AreLent IsNew 1 rings ss (lent_to jobs) → 1 ≤ squeues
+      → MayDoAll limits_of squeues 0 [] lines ss jobs
+  jobs_ready jobs are tasks lent some =
+      all_ready rings 0 rings squeues (omega arith) lines jobs tasks limits_of origin_of 0 [] ss one_run some lent rings_same start_home (λ r l lt is. may_all are r lt l is) (omega arith) (λ j. omega arith) (λ j lt. absurd (omega (arith, lt)))

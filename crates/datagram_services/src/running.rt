@@ -1,5 +1,5 @@
 //! How the threads of a run are set to work.
-ghost use Rattle.std.specs.Prelude.{◌≡◌, length};
+ghost use Rattle.std.specs.Prelude.{◌≡◌, length, map};
 ghost use Rattle.synch_enter.specs.Hinting.{conns_of, squeues_of};
 ghost use Rattle.squeue_serve.specs.Lending.{AreLent, lent_to, tasks_in};
 ghost use Rattle.squeue_serve.specs.Places.{IsNew, MayEnd};
@@ -11,7 +11,6 @@ ghost use Rattle.stream_blocks.specs.Standing.{limits_of, origin_of};
 ghost use Rattle.datagram_services.specs.Settings.{AreSet, HasRun};
 ghost use Rattle.datagram_services.specs.Lines.{IsStreamList};
 
-use conn_blocks::Calls;
 use perimeter_core::Hook;
 use ring_jobs::{Line, Task, run_job};
 use ring_quotas::Setup;
@@ -47,14 +46,13 @@ pub fn run<H: Hook + Sync, W: Threads + Wait + Sync>(
     ensures lent { AreLent (MayEnd limits_of) 1 setup.now.rings squeues.now (lent_to jobs.new) }
     ensures count { length jobs.new ≡ length jobs.old }
 {
-    let none = Calls::make(alloc);
     run_all(
         rt,
         alloc,
         hook,
         squeues,
         hints,
-        &none,
+        &[],
         setup.pace(),
         lines,
         jobs,
@@ -68,7 +66,7 @@ fn run_all<H: Hook + Sync, W: Threads + Wait + Sync>(
     hook: &H,
     squeues: &[Squeue<StreamBlocks<'_>>],
     hints: &Hints,
-    calls: &Calls,
+    calls: &[Vec<u32>],
     pace: Pace,
     lines: &[Line],
     jobs: &mut [Job<Task>],
@@ -76,8 +74,8 @@ fn run_all<H: Hook + Sync, W: Threads + Wait + Sync>(
     requires run { AreOneRun origin_of pace.homes.squeues squeues.now }
     requires hints { AllBelow (conns_of hints.now) squeues.now × (squeues_of hints.now ≡ pace.homes.squeues) }
     requires lines { HaveRings lines.now }
-    requires ready { MayDoAll limits_of pace.homes.squeues pace.homes.spread calls.now lines.now squeues.now jobs.old }
-    ensures { HaveDone limits_of pace.homes.squeues pace.homes.spread pace.mode pace.budget calls.now lines.now squeues.now jobs.old jobs.new }
+    requires ready { MayDoAll limits_of pace.homes.squeues pace.homes.spread (map (λ v. v.items) calls.now) lines.now squeues.now jobs.old }
+    ensures { HaveDone limits_of pace.homes.squeues pace.homes.spread pace.mode pace.budget (map (λ v. v.items) calls.now) lines.now squeues.now jobs.old jobs.new }
 {
     run_each(
         rt,

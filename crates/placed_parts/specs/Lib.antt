@@ -1,3 +1,4 @@
 pub mod Standing
 pub mod Placing
 pub mod PlaceLaws
+pub mod Homes

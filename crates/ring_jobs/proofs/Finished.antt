@@ -9,13 +9,11 @@ use Rattle.perimeter_core.specs.History.{Element, Limits, run}
 use Rattle.perimeter_core.specs.Ending.{IsOver}
 use Rattle.squeue_state.specs.Naming.{Named, setting_of}
 use Rattle.squeue_state.specs.Elements.{number_of}
-use Rattle.conn_blocks.specs.CallLists.{CallLists}
 use Rattle.squeue_serve.specs.declared.jobs.Job.{Job}
 use Rattle.squeue_serve.specs.Lending.{AreLent, lent_to, tasks_in}
 use Rattle.squeue_serve.specs.Places.{AtEach, Holds, IsNew, MayEnd}
 use Rattle.squeue_serve.proofs.Lent.{lent_got, past_jobs, some_at}
 use Rattle.squeue_enter.specs.declared.Mode.{Mode}
-use Rattle.squeue_rings.specs.Calling.{conns_called}
 use Rattle.squeue_rings.specs.Keeping.{ArePaced}
 use Rattle.squeue_rings.proofs.PacedAll.{closed_paced}
 use Rattle.squeue_rings.proofs.Slots.{got_map}
@@ -23,7 +21,7 @@ use Rattle.ring_jobs.specs.declared.lines.Line.{Line}
 use Rattle.ring_jobs.specs.declared.task.Task.{Task}
 use Rattle.ring_jobs.specs.declared.task.Task.TheVariants as Task'
 use Rattle.ring_jobs.specs.Ends.{CallerEnds, CallersEnd, RingEnds, RingsEnd}
-use Rattle.ring_jobs.specs.Running.{HasBroughtLine, HasDone, HaveDone, ThenClosed}
+use Rattle.ring_jobs.specs.Running.{HasBroughtLine, HasDone, HaveDone, ThenClosed, called_by}
 use Rattle.ring_jobs.specs.Tasks.{AreTasks, lists_of}
 use Rattle.ring_jobs.proofs.Closes.{both}
 use Rattle.ring_jobs.proofs.Closing.{callers_end, rings_end}
@@ -43,7 +41,7 @@ module _ {R : Type 0} (limits : R → Limits) where
   abbrev HasEnd : Named R → Pass Element → Type 0
   HasEnd s x = IsOver (setting_of limits s.given) (run (setting_of limits s.given) (seen x))
 
-  module _ (squeues spread : ℕ) (mode : Mode) (budget : ℕ) (calls : CallLists) (lines : List Line) (ss : List (Named R)) (jobs new : List (Job Task)) where
+  module _ (squeues spread : ℕ) (mode : Mode) (budget : ℕ) (calls : List (List ℕ)) (lines : List Line) (ss : List (Named R)) (jobs new : List (Job Task)) where
     abbrev Done : Task → List (Option (Pass Element)) → List (Option (Pass Element)) → Type 0
     Done t old now = HasDone limits squeues spread mode budget calls lines ss t old now
 
@@ -82,11 +80,11 @@ module _ {R : Type 0} (limits : R → Limits) where
       ring_paced r lt = let h = line_done r lt in closed_paced limits squeues spread mode budget r ss (lists_of lines r) (lists_of lines r) h.0 (lent_to new (1 + r)) h.1.at h.2 h.1.paced
 
       -- each application thread has made its calls
-      pub caller_done : (j : ℕ) → j < callers → CallersEnd j (conns_called calls j) ss (lent_to new (1 + (rings + j)))
+      pub caller_done : (j : ℕ) → j < callers → CallersEnd j (called_by calls j) ss (lent_to new (1 + (rings + j)))
       caller_done j lt =
           let n = number_of_jobs in
           let h = done (1 + (rings + j)) (Task'.Call j) (omega (arith, lt, n, all)) (tasks.callers_are j lt) in
-          callers_end limits ss h.0 (lent_to new (1 + (rings + j))) h.2 j (conns_called calls j) h.1
+          callers_end limits ss h.0 (lent_to new (1 + (rings + j))) h.2 j (called_by calls j) h.1
 
       worker_done : (q : ℕ) (s : Named R) → slice_get ss q ≡ Some s → (x : Pass Element) × (lent_to new (1 + count + q) ≡ Some x ∷ []) × MayEnd limits count s x
       worker_done q s at =
@@ -138,7 +136,7 @@ module _ {R : Type 0} (limits : R → Limits) where
               ss (lent_to new (1 + (rings + j))) (each_two (λ (s : Named R). s.given.rings ≡ rings) (λ (s : Named R). length s.given.quotas ≡ count) ss their_rings lent.counts) (caller_done j lt).each
 
   -- the same at equal numbers
-  pub at_pace : (calls : CallLists) (lines : List Line) (ss : List (Named R)) (jobs new : List (Job Task)) (m n : ℕ) (o : Mode) (k squeues spread : ℕ) (mode : Mode) (budget : ℕ) → m ≡ squeues → n ≡ spread → o ≡ mode → k ≡ budget
+  pub at_pace : (calls : List (List ℕ)) (lines : List Line) (ss : List (Named R)) (jobs new : List (Job Task)) (m n : ℕ) (o : Mode) (k squeues spread : ℕ) (mode : Mode) (budget : ℕ) → m ≡ squeues → n ≡ spread → o ≡ mode → k ≡ budget
       → HaveDone limits m n o k calls lines ss jobs new → HaveDone limits squeues spread mode budget calls lines ss jobs new
   at_pace calls lines ss jobs new m n o k squeues spread mode budget a b u v h =
       let Of : ℕ → ℕ → Mode → ℕ → Type 0 = λ m n o k. HaveDone limits m n o k calls lines ss jobs new in

@@ -1,12 +1,11 @@
 -- Jobs with the passes of new squeues are ready.
-use Rattle.std.proofs.Common.{◌≡◌, ℕ, ◌+◌, ◌-◌, ◌<◌, ◌≤◌, Option, Some, List, [], inl, inr, length, slice_get, ap, sym, ◌∙◌, subst, arith}
+use Rattle.std.proofs.Common.{◌≡◌, ℕ, ◌+◌, ◌-◌, ◌<◌, ◌≤◌, ◌^◌, Option, Some, List, [], inl, inr, length, slice_get, ap, sym, ◌∙◌, subst, arith}
 use Rattle.std.proofs.lemmas.Bool.{cases_lt}
 use Rattle.std.proofs.lemmas.List.{length-map}
 use Rattle.turn_gate.specs.History.{Each}
 use Rattle.turn_gate.specs.declared.pass.Pass.{Pass}
 use Rattle.perimeter_core.specs.History.{Element, Limits}
 use Rattle.squeue_state.specs.Naming.{Named}
-use Rattle.conn_blocks.specs.CallLists.{CallLists}
 use Rattle.squeue_serve.specs.declared.jobs.Job.{Job}
 use Rattle.squeue_serve.specs.Lending.{AreLent, lent_to, tasks_in}
 use Rattle.squeue_serve.specs.Places.{AtEach, Holds, IsNew}
@@ -14,7 +13,7 @@ use Rattle.squeue_serve.proofs.Coming.{each_got}
 use Rattle.squeue_serve.proofs.Lent.{lent_got, some_at}
 use Rattle.squeue_serve.proofs.Unused.{each_at}
 use Rattle.squeue_rings.specs.Bringing.{AreAt, AreOneRun, MayBringAll}
-use Rattle.squeue_rings.specs.Calling.{MayMakeEach, conns_called}
+use Rattle.squeue_rings.specs.Calling.{MayMakeEach}
 use Rattle.squeue_rings.specs.Starts.{StartAtHome}
 use Rattle.squeue_rings.proofs.NewCallers.{new_callers}
 use Rattle.squeue_rings.proofs.Slots.{got_map}
@@ -23,7 +22,7 @@ use Rattle.ring_jobs.specs.declared.lines.Line.{Line}
 use Rattle.ring_jobs.specs.declared.task.RingTask.{RingTask}
 use Rattle.ring_jobs.specs.declared.task.Task.{Task}
 use Rattle.ring_jobs.specs.declared.task.Task.TheVariants as Task'
-use Rattle.ring_jobs.specs.Running.{MayBringLine, MayCallAll, MayDo, MayDoAll}
+use Rattle.ring_jobs.specs.Running.{MayBringLine, MayCallAll, MayDo, MayDoAll, called_by}
 use Rattle.ring_jobs.specs.Tasks.{AreTasks, IsRingTask}
 use Rattle.ring_jobs.proofs.Closes.{both}
 use Rattle.ring_jobs.proofs.Works.{got_or}
@@ -40,9 +39,9 @@ module _ (rings callers count squeues : ℕ) (all : rings + callers ≡ count) (
   pub worker_task : (q : ℕ) → q < squeues → slice_get (tasks_in jobs) (1 + count + q) ≡ Some (Task'.Work q)
   worker_task q lt = ap (λ (n : ℕ). slice_get (tasks_in jobs) (1 + n + q)) (sym all) ∙ tasks.workers q lt
 
-  module _ {R O : Type 0} (limits : R → Limits) (origin : R → O) (spread : ℕ) (calls : CallLists) (ss : List (Named R)) (one : AreOneRun origin squeues ss) (some : 1 ≤ squeues) (lent : AreLent IsNew 1 count ss (lent_to jobs))
+  module _ {R O : Type 0} (limits : R → Limits) (origin : R → O) (spread : ℕ) (calls : List (List ℕ)) (ss : List (Named R)) (one : AreOneRun origin squeues ss) (some : 1 ≤ squeues) (lent : AreLent IsNew 1 count ss (lent_to jobs))
       (their_rings : Each (λ (s : Named R). s.given.rings ≡ rings) ss) (starts : StartAtHome limits squeues ss) (may_bring : (r : ℕ) (l : Line) → r < rings → slice_get lines r ≡ Some l → MayBringAll limits squeues spread r l.list.items ss)
-      (few : callers ≤ 4) (may_make : (j : ℕ) → j < callers → MayMakeEach limits j (conns_called calls j) ss) where
+      (few : callers ≤ length calls) (short : (j : ℕ) → length (called_by calls j) < 2 ^ 32) (may_make : (j : ℕ) → j < callers → MayMakeEach limits j (called_by calls j) ss) where
     abbrev May : Task → List (Option (Pass Element)) → Type 0
     May t places = MayDo limits squeues spread calls lines ss t places
 
@@ -66,6 +65,7 @@ module _ (rings callers count squeues : ℕ) (all : rings + callers ≡ count) (
         let places = lent_to jobs (1 + (rings + j)) in
         record {
           thread = omega (arith, lt, few);
+          few = short j;
           no_worker = each_got (λ (s : Named R). s.given.rings + j < length s.given.quotas) ss
               (λ q s at.
               let n = each_at (λ (s : Named R). length s.given.quotas ≡ count) ss q s lent.counts at in

@@ -5,7 +5,7 @@ use Rattle.std.proofs.lemmas.Bool.Decides.{nat_tests}
 use Rattle.perimeter_core.specs.declared.entries.Act.{Act}
 use Rattle.perimeter_core.specs.Blocks.{Blocks as Had}
 use Rattle.squeue_state.specs.Clauses.{StandsEmpty}
-use Rattle.conn_blocks.specs.Places.{first_here}
+use Rattle.placed_parts.specs.Standing.{first_here}
 
 pub from_ok : {A E : Type 0} (P : A → Type 0) (r : Result A E) (x : A) → r ≡ Ok x → IfOk r P → P x
 from_ok {A = A} {E = E} P r x is h = subst (λ (r : Result A E). IfOk r P) is h

@@ -1,15 +1,14 @@
 -- What a thread needs for its task, and what it has done by it.
-use Rattle.std.specs.Prelude.{◌≡◌, ℕ, ◌+◌, ◌<◌, All, List, Option, Some, [], ◌∷◌, length, slice_get, slice_index_or}
+use Rattle.std.specs.Prelude.{◌≡◌, ℕ, ◌+◌, ◌<◌, ◌^◌, All, List, Option, Some, [], ◌∷◌, get_or, length, slice_get, slice_index_or}
 use Rattle.turn_gate.specs.History.{Each}
 use Rattle.turn_gate.specs.declared.pass.Pass.{Pass}
 use Rattle.perimeter_core.specs.History.{Element, Limits}
 use Rattle.squeue_state.specs.Naming.{Named}
 use Rattle.squeue_serve.specs.declared.jobs.Job.{Job}
 use Rattle.squeue_serve.specs.Places.{AtEach, AtEachTwo, Became, HasClosed, HasWorked, Holds, IsNew, MayWork}
-use Rattle.conn_blocks.specs.CallLists.{CallLists}
 use Rattle.squeue_enter.specs.declared.Mode.{Mode}
 use Rattle.squeue_rings.specs.Bringing.{AreAt, MayBringAll}
-use Rattle.squeue_rings.specs.Calling.{CallersAt, MayMakeEach, conns_called}
+use Rattle.squeue_rings.specs.Calling.{CallersAt, MayMakeEach}
 use Rattle.squeue_rings.specs.Keeping.{ArePaced}
 use Rattle.ring_jobs.specs.declared.lines.Line.{Line}
 use Rattle.ring_jobs.specs.declared.task.RingTask.{RingTask}
@@ -34,12 +33,17 @@ module _ {R : Type 0} (limits : R → Limits) (squeues spread : ℕ) (mode : Mod
     pub at : AreAt limits squeues spread r ss (lists_of lines r) (lists_of lines r) places
     pub paced : ArePaced limits squeues spread mode budget r ss places
 
-module _ {R : Type 0} (limits : R → Limits) (calls : CallLists) (ss : List (Named R)) where
+-- the connections of the calls of thread j, in order, where those of each thread are given
+abbrev pub called_by : List (List ℕ) → ℕ → List ℕ
+called_by calls j = get_or calls j []
+
+module _ {R : Type 0} (limits : R → Limits) (calls : List (List ℕ)) (ss : List (Named R)) where
   -- An application thread is to make its calls, of which none has been made: the quotas suffice for them
   pub record MayCallAll (j : ℕ) (places : List (Option (Pass Element))) : Type 0 where
-    pub thread : j < 4
+    pub thread : j < length calls
+    pub few : length (called_by calls j) < 2 ^ 32
     pub no_worker : Each (λ (s : Named R). s.given.rings + j < length s.given.quotas) ss
-    pub may : MayMakeEach limits j (conns_called calls j) ss
+    pub may : MayMakeEach limits j (called_by calls j) ss
     pub at : CallersAt limits j [] ss places
 
 module _ {R : Type 0} (limits : R → Limits) (ss : List (Named R)) where
@@ -47,7 +51,7 @@ module _ {R : Type 0} (limits : R → Limits) (ss : List (Named R)) where
   abbrev pub ThenClosed : (List (Option (Pass Element)) → Type 0) → List (Option (Pass Element)) → Type 0
   ThenClosed P places = (before : List (Option (Pass Element))) × P before × AtEachTwo (λ s o n. Became (HasClosed limits s) o n) ss before places
 
-module _ {R : Type 0} (limits : R → Limits) (squeues spread : ℕ) (calls : CallLists) (lines : List Line) (ss : List (Named R)) where
+module _ {R : Type 0} (limits : R → Limits) (squeues spread : ℕ) (calls : List (List ℕ)) (lines : List Line) (ss : List (Named R)) where
   -- what a task needs of its places
   abbrev pub MayDo : Task → List (Option (Pass Element)) → Type 0
   MayDo (Task'.Feed ends) places = AreEnds lines ends.items
@@ -58,13 +62,13 @@ module _ {R : Type 0} (limits : R → Limits) (squeues spread : ℕ) (calls : Ca
   abbrev pub MayDoAll : List (Job Task) → Type 0
   MayDoAll jobs = All (λ j. MayDo j.task j.places.items) jobs
 
-module _ {R : Type 0} (limits : R → Limits) (squeues spread : ℕ) (mode : Mode) (budget : ℕ) (calls : CallLists) (lines : List Line) (ss : List (Named R)) where
+module _ {R : Type 0} (limits : R → Limits) (squeues spread : ℕ) (mode : Mode) (budget : ℕ) (calls : List (List ℕ)) (lines : List Line) (ss : List (Named R)) where
   -- what a task has done by its places: a ring has brought all feeds of its line, an application thread has made all its calls, a
   -- worker has seen the end
   abbrev pub HasDone : Task → List (Option (Pass Element)) → List (Option (Pass Element)) → Type 0
   HasDone (Task'.Feed ends) old new = new ≡ old
   HasDone (Task'.Bring t) old new = ThenClosed limits ss (HasBroughtLine limits squeues spread mode budget lines ss t.number) new
-  HasDone (Task'.Call j) old new = ThenClosed limits ss (CallersAt limits j (conns_called calls j) ss) new
+  HasDone (Task'.Call j) old new = ThenClosed limits ss (CallersAt limits j (called_by calls j) ss) new
   HasDone (Task'.Work q) old new =
       (s : Named R) × (x : Pass Element) × (y : Pass Element) × (slice_get ss q ≡ Some s) × (old ≡ Some x ∷ []) × (new ≡ Some y ∷ []) × HasWorked limits s x y
 

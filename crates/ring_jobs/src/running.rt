@@ -1,16 +1,15 @@
 //! What the threads of a run do, each its job.
-ghost use Rattle.std.specs.Prelude.{◌≡◌, ◌<◌, length};
+ghost use Rattle.std.specs.Prelude.{◌≡◌, ◌<◌, length, map};
 ghost use Rattle.synch_enter.specs.Hinting.{conns_of, squeues_of};
 ghost use Rattle.squeue_rings.specs.Bringing.{AllBelow, AreAt, AreOneRun};
-ghost use Rattle.squeue_rings.specs.Calling.{CallersAt, conns_called};
+ghost use Rattle.squeue_rings.specs.Calling.{CallersAt};
 ghost use Rattle.squeue_rings.specs.Keeping.{ArePaced};
 ghost use Rattle.ring_jobs.specs.Tasks.{HaveRings, lists_of};
-ghost use Rattle.ring_jobs.specs.Running.{HasBroughtLine, HasDone, MayBringLine, MayCallAll, MayDo, ThenClosed};
+ghost use Rattle.ring_jobs.specs.Running.{HasBroughtLine, HasDone, MayBringLine, MayCallAll, MayDo, ThenClosed, called_by};
 
 use crate::feeding::feed_all;
 use crate::lines::Line;
 use crate::task::{RingTask, Task};
-use conn_blocks::Calls;
 use perimeter_core::{Hook, Resident};
 use squeue_rings::{Pace, bring_all, make_calls};
 use squeue_serve::{Job, close_all, work};
@@ -19,14 +18,15 @@ use std::alloc::Global;
 use std::sync::Wait;
 use synch_enter::Hints;
 
-/// Does one job of those of new squeues. A worker waits for the others, so the workers stand last.
+/// Does one job of those of new squeues. A worker waits for the others, so the workers stand last. `calls` has the connection of each
+/// call, by thread.
 pub fn run_job<R: Resident, H: Hook, W: Wait>(
     rt: &W,
     alloc: Global,
     hook: &H,
     squeues: &[Squeue<R>],
     hints: &Hints,
-    calls: &Calls,
+    calls: &[Vec<u32>],
     pace: Pace,
     lines: &[Line],
     job: &mut Job<Task>,
@@ -34,8 +34,8 @@ pub fn run_job<R: Resident, H: Hook, W: Wait>(
     requires run { AreOneRun R.origin pace.homes.squeues squeues.now }
     requires hints { AllBelow (conns_of hints.now) squeues.now × (squeues_of hints.now ≡ pace.homes.squeues) }
     requires lines { HaveRings lines.now }
-    requires ready { MayDo R.limits pace.homes.squeues pace.homes.spread calls.now lines.now squeues.now job.old.task job.old.places.items }
-    ensures { HasDone R.limits pace.homes.squeues pace.homes.spread pace.mode pace.budget calls.now lines.now squeues.now
+    requires ready { MayDo R.limits pace.homes.squeues pace.homes.spread (map (λ v. v.items) calls.now) lines.now squeues.now job.old.task job.old.places.items }
+    ensures { HasDone R.limits pace.homes.squeues pace.homes.spread pace.mode pace.budget (map (λ v. v.items) calls.now) lines.now squeues.now
         job.old.task job.old.places.items job.new.places.items }
 {
     let places = &mut job.places;
@@ -117,15 +117,24 @@ fn call<R: Resident, H: Hook, W: Wait>(
     hook: &H,
     squeues: &[Squeue<R>],
     hints: &Hints,
-    calls: &Calls,
+    calls: &[Vec<u32>],
     thread: u32,
     places: &mut Vec<Option<Pass>>,
 )
     requires some { 0 < length squeues.now }
     requires hints { AllBelow (conns_of hints.now) squeues.now × (squeues_of hints.now ≡ length squeues.now) }
-    requires ready { MayCallAll R.limits calls.now squeues.now thread places.old.items }
-    ensures { ThenClosed R.limits squeues.now (CallersAt R.limits thread (conns_called calls.now thread) squeues.now) places.new.items }
+    requires ready { MayCallAll R.limits (map (λ v. v.items) calls.now) squeues.now thread places.old.items }
+    ensures { ThenClosed R.limits squeues.now (CallersAt R.limits thread (called_by (map (λ v. v.items) calls.now) thread) squeues.now) places.new.items }
 {
-    make_calls(rt, alloc, hook, squeues, hints, calls, thread, places);
+    make_calls(
+        rt,
+        alloc,
+        hook,
+        squeues,
+        hints,
+        &calls[thread as usize],
+        thread,
+        places,
+    );
     close_all(rt, squeues, places);
 }

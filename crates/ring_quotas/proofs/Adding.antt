@@ -17,7 +17,7 @@ use Rattle.conn_classifier.specs.declared.kinds.Item.{Item}
 use Rattle.tcb_machine.specs.declared.kinds.Call.{Call}
 use Rattle.conn_blocks.specs.Allowed.{all_calls}
 use Rattle.conn_blocks.specs.CallLists.{CallLists, call_at}
-use Rattle.conn_blocks.specs.Homes.{home, leaves_after, times_leaving}
+use Rattle.placed_parts.specs.Homes.{home, leaves_after, times_leaving}
 use Rattle.conn_blocks.proofs.Named.{call_is_named}
 use Rattle.ring_quotas.specs.Limits.{most_ring_asks, most_ring_feeds}
 use Rattle.ring_quotas.specs.Quotas.{caller_asks, comes_after, feeds_at, quotas_of, ring_asks, ring_feeds, times_coming}

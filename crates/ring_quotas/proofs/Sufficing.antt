@@ -15,11 +15,11 @@ use Rattle.conn_classifier.specs.Plan.{PlanOf, IsPlan, items_in}
 use Rattle.conn_classifier.specs.RingList.{IsRingList}
 use Rattle.tcb_machine.specs.declared.kinds.Call.{Call}
 use Rattle.conn_blocks.specs.Allowed.{all_calls, limits_in}
-use Rattle.conn_blocks.specs.CallLists.{CallLists, calls_of}
-use Rattle.conn_blocks.specs.Homes.{times_leaving}
+use Rattle.conn_blocks.specs.CallLists.{CallLists, calls_of, conns_called}
+use Rattle.placed_parts.specs.Homes.{times_leaving}
 use Rattle.conn_blocks.proofs.Named.{call_is_named}
 use Rattle.squeue_rings.specs.Rings.{MayBring}
-use Rattle.squeue_rings.specs.Calling.{MayMake, MayMakeEach, asks_for, conns_called}
+use Rattle.squeue_rings.specs.Calling.{MayMake, MayMakeEach, asks_for}
 use Rattle.ring_quotas.specs.Quotas.{IsMadeFor, caller_asks, quotas_of, ring_asks, ring_feeds}
 use Rattle.ring_quotas.proofs.Adding.{on_known}
 use Rattle.ring_quotas.proofs.Totals.{all_asks, all_feeds, brought_known, brought_unknown, each_leaves, none_leaves, own}

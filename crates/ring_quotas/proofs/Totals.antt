@@ -10,7 +10,7 @@ use Rattle.perimeter_core.specs.Deeds.{entries, feeds_of}
 use Rattle.perimeter_core.specs.Backlog.{up}
 use Rattle.conn_classifier.specs.Plan.{PlanOf, IsPlan, items_in}
 use Rattle.conn_classifier.specs.RingList.{feeds, IsRingList}
-use Rattle.conn_blocks.specs.Homes.{home, leaves_after, times_leaving}
+use Rattle.placed_parts.specs.Homes.{home, leaves_after, times_leaving}
 use Rattle.squeue_rings.specs.Runs.{InOrder, brought, comes, count, is_at, is_left_by, leaves}
 use Rattle.ring_quotas.specs.Quotas.{comes_after, conns_of, feeds_at, ring_asks, ring_feeds, times_coming}
 use Rattle.ring_quotas.proofs.Moving.{come_never, left_never, tally, tally_more}

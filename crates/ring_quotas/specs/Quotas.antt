@@ -6,7 +6,7 @@ use Rattle.squeue_state.specs.Naming.{Named, setting_of}
 use Rattle.conn_classifier.specs.Plan.{PlanOf, items_in}
 use Rattle.conn_blocks.specs.Allowed.{limits_in}
 use Rattle.conn_blocks.specs.CallLists.{CallLists, calls_of}
-use Rattle.conn_blocks.specs.Homes.{home, times_leaving}
+use Rattle.placed_parts.specs.Homes.{home, times_leaving}
 use Rattle.conn_blocks.specs.Limits.{callers}
 use Rattle.ring_quotas.specs.Limits.{most_rings, most_spread, most_squeues}
 use Rattle.ring_quotas.specs.declared.setup.Setup.{Setup}

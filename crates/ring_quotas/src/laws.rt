@@ -7,11 +7,11 @@ ghost use Rattle.squeue_state.specs.Naming.{Named};
 ghost use Rattle.conn_classifier.specs.Plan.{PlanOf, IsPlan, items_in};
 ghost use Rattle.conn_classifier.specs.RingList.{IsRingList};
 ghost use Rattle.conn_blocks.specs.Allowed.{all_calls};
-ghost use Rattle.conn_blocks.specs.CallLists.{CallLists};
+ghost use Rattle.conn_blocks.specs.CallLists.{CallLists, conns_called};
 ghost use Rattle.conn_blocks.specs.Limits.{callers};
 ghost use Rattle.squeue_rings.specs.Runs.{InOrder, brought};
 ghost use Rattle.squeue_rings.specs.Rings.{MayBring};
-ghost use Rattle.squeue_rings.specs.Calling.{MayMakeEach, conns_called};
+ghost use Rattle.squeue_rings.specs.Calling.{MayMakeEach};
 ghost use Rattle.ring_quotas.specs.Quotas.{IsMadeFor};
 
 use perimeter_core::Resident;

@@ -2,7 +2,7 @@
 
 ghost use Rattle.std.specs.Prelude.{◌≡◌, ◌-◌, ◌/◌, ◌<◌, ◌≤◌, ◌==◌, ◌||◌, if◌then◌else◌};
 ghost use Rattle.conn_classifier.specs.Limits.{most_items};
-ghost use Rattle.conn_blocks.specs.Homes.{times_leaving};
+ghost use Rattle.placed_parts.specs.Homes.{times_leaving};
 ghost use Rattle.ring_quotas.specs.Limits.{most_squeues};
 ghost use Rattle.ring_quotas.specs.Quotas.{feeds_at, times_coming};
 

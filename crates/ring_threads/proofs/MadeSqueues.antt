@@ -11,7 +11,8 @@ use Rattle.conn_classifier.specs.Plan.{PlanOf}
 use Rattle.conn_blocks.specs.declared.blocks.Blocks.{Blocks}
 use Rattle.conn_blocks.specs.Allowed.{limits_in}
 use Rattle.conn_blocks.specs.CallLists.{CallLists}
-use Rattle.conn_blocks.specs.Places.{Stands, first_here, limits_of, origin_of, size_of}
+use Rattle.conn_blocks.specs.Places.{Stands, limits_of, origin_of, size_of}
+use Rattle.placed_parts.specs.Standing.{first_here}
 use Rattle.squeue_serve.proofs.Coming.{each_got}
 use Rattle.ring_quotas.specs.Quotas.{quotas_of}
 use Rattle.ring_jobs.proofs.Starts.{first_flag}

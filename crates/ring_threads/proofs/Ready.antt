@@ -1,5 +1,5 @@
 -- Jobs with the passes of new squeues are ready.
-use Rattle.std.proofs.Common.{◌≡◌, ℕ, ◌+◌, ◌%◌, ◌<◌, ◌≤◌, ◌==◌, zero, suc, All, false, Some, List, length, map, slice_get, slice_index_or, refl, ap, sym, ◌∙◌, arith}
+use Rattle.std.proofs.Common.{◌≡◌, ℕ, ◌+◌, ◌%◌, ◌<◌, ◌≤◌, ◌==◌, zero, suc, All, false, Some, List, length, map, slice_get, slice_index_or, refl, ap, sym, ◌∙◌, subst, arith}
 use Rattle.std.specs.List.{range_with_len}
 use Rattle.std.proofs.lemmas.List.FromFn.{length-map-range_with_len}
 use Rattle.turn_gate.specs.History.{Each}
@@ -10,13 +10,15 @@ use Rattle.conn_classifier.specs.Plan.{PlanOf, IsPlan}
 use Rattle.conn_classifier.specs.RingList.{IsRingList}
 use Rattle.conn_blocks.specs.declared.blocks.Blocks.{Blocks}
 use Rattle.conn_blocks.specs.Allowed.{all_calls}
-use Rattle.conn_blocks.specs.CallLists.{CallLists}
+use Rattle.conn_blocks.specs.CallLists.{AreConnsOf, CallLists}
+use Rattle.conn_blocks.proofs.Conns.{conns_of_thread}
 use Rattle.conn_blocks.specs.Places.{limits_of, origin_of}
 use Rattle.squeue_serve.specs.declared.jobs.Job.{Job}
 use Rattle.squeue_serve.specs.Lending.{AreLent, lent_to, tasks_in}
 use Rattle.squeue_serve.specs.Places.{IsNew}
 use Rattle.squeue_serve.proofs.Coming.{each_got}
 use Rattle.squeue_rings.specs.Bringing.{AllBelow, AreOneRun, MayBringAll}
+use Rattle.squeue_rings.specs.Calling.{MayMakeEach}
 use Rattle.squeue_rings.specs.Starts.{StartAtHome}
 use Rattle.ring_jobs.specs.declared.lines.Line.{Line}
 use Rattle.ring_jobs.specs.declared.task.Task.{Task}
@@ -63,13 +65,13 @@ module _ (p : PlanOf) (calls : CallLists) (squeues rings spread : ℕ) (ss : Lis
       ∙ (ap (λ (d : ℕ). d % squeues == q) z ∙ ap (λ (k : ℕ). c % squeues == k) (sym (set.each q s at).number))))
 
   module _ (lines : List Line) (are : AreLines (IsRingList p rings) rings lines) (jobs : List (Job Task)) (tasks : AreTasks rings 4 squeues lines (tasks_in jobs)) (lent : AreLent IsNew 1 (rings + 4) ss (lent_to jobs))
-      (plan : IsPlan p) (known : All (λ call. call.0 < length p.tuples) (all_calls calls)) (some : 1 ≤ squeues) where
+      (plan : IsPlan p) (known : All (λ call. call.0 < length p.tuples) (all_calls calls)) (some : 1 ≤ squeues) (conns : List (List ℕ)) (called : AreConnsOf calls conns) where
     may_bring : (r : ℕ) (l : Line) → r < rings → slice_get lines r ≡ Some l → MayBringAll limits_of squeues spread r l.list.items ss
     may_bring r l lt is =
         let list = are.each r l is in
         record { order = order p plan rings r l.list.items list; may = all_may_bring limits_of p calls squeues rings spread r l.list.items ss plan lt list made_for }
 
-    pub jobs_ready : MayDoAll limits_of squeues spread calls lines ss jobs
+    pub jobs_ready : MayDoAll limits_of squeues spread conns lines ss jobs
     jobs_ready =
-        all_ready rings 4 (rings + 4) squeues refl lines jobs tasks limits_of origin_of spread calls ss one_run some lent rings_same start_home may_bring (omega arith)
-        (λ j lt. all_may_make limits_of p calls squeues rings spread j ss lt known made_for)
+        all_ready rings 4 (rings + 4) squeues refl lines jobs tasks limits_of origin_of spread conns ss one_run some lent rings_same start_home may_bring (omega (arith, called.threads)) (λ j. let few = called.few j in omega (arith, few))
+        (λ j lt. subst (λ (cs : List ℕ). MayMakeEach limits_of j cs ss) (sym (conns_of_thread calls conns j called)) (all_may_make limits_of p calls squeues rings spread j ss lt known made_for))

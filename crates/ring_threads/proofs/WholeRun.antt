@@ -27,7 +27,7 @@ use Rattle.conn_classifier.specs.Plan.{PlanOf, items_in}
 use Rattle.conn_blocks.specs.declared.blocks.Blocks.{Blocks}
 use Rattle.conn_blocks.specs.CallLists.{CallLists, call_at, calls_of}
 use Rattle.conn_blocks.specs.Holding.{StandsFor}
-use Rattle.conn_blocks.specs.Homes.{home}
+use Rattle.placed_parts.specs.Homes.{home}
 use Rattle.conn_blocks.specs.Orders.{IsAll, IsWhole, settle}
 use Rattle.conn_blocks.specs.Places.{limits_of}
 use Rattle.conn_blocks.specs.ServeOrder.{BlockOf, OriginOf, serve, serving_of}

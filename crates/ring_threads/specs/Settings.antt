@@ -7,10 +7,9 @@ use Rattle.squeue_state.specs.Naming.{Named, setting_of}
 use Rattle.squeue_state.specs.AllRoom.{HasAllRoom}
 use Rattle.conn_classifier.specs.Plan.{PlanOf, items_in}
 use Rattle.conn_blocks.specs.declared.blocks.Blocks.{Blocks}
-use Rattle.conn_blocks.specs.CallLists.{CallLists}
+use Rattle.conn_blocks.specs.CallLists.{CallLists, conns_called}
 use Rattle.conn_blocks.specs.Limits.{callers}
 use Rattle.conn_blocks.specs.Places.{limits_of, origin_of}
-use Rattle.squeue_rings.specs.Calling.{conns_called}
 use Rattle.squeue_rings.specs.Keeping.{ArePaced}
 use Rattle.squeue_rings.specs.Runs.{brought}
 use Rattle.ring_quotas.specs.declared.setup.Setup.{Setup}

@@ -1,7 +1,8 @@
 //! How the threads of a run are set to work.
-ghost use Rattle.std.specs.Prelude.{◌≡◌, ◌<◌, ◌+◌, All, length};
+ghost use Rattle.std.specs.Prelude.{◌≡◌, ◌<◌, ◌+◌, All, length, map};
 ghost use Rattle.conn_classifier.specs.RingList.{IsRingList};
 ghost use Rattle.conn_blocks.specs.Allowed.{all_calls};
+ghost use Rattle.conn_blocks.specs.CallLists.{AreConnsOf};
 ghost use Rattle.conn_blocks.specs.Limits.{callers};
 ghost use Rattle.conn_blocks.specs.Places.{limits_of, origin_of};
 ghost use Rattle.synch_enter.specs.Hinting.{conns_of, squeues_of};
@@ -35,12 +36,14 @@ pub fn run<H: Hook + Sync, W: Threads + Wait + Sync>(
     plan: &Plan<'_>,
     hints: &Hints,
     calls: &Calls,
+    conns: &[Vec<u32>],
     setup: &Setup,
     lines: &[Line],
     jobs: &mut [Job<Task>],
 )
     requires setup { IsInRange setup.now }
     requires calls { All (λ call. call.0 < length plan.now.tuples) (all_calls calls.now) }
+    requires conns { AreConnsOf calls.now (map (λ v. v.items) conns.now) }
     requires hints { (conns_of hints.now ≡ length plan.now.tuples) × (squeues_of hints.now ≡ setup.now.squeues) }
     requires set { AreSet plan.now calls.now setup.now.squeues setup.now.rings setup.now.spread squeues.now }
     requires lines { AreLines (IsRingList plan.now setup.now.rings) setup.now.rings lines.now }
@@ -57,7 +60,7 @@ pub fn run<H: Hook + Sync, W: Threads + Wait + Sync>(
         hook,
         squeues,
         hints,
-        calls,
+        conns,
         setup.pace(),
         lines,
         jobs,
@@ -71,7 +74,7 @@ fn run_all<H: Hook + Sync, W: Threads + Wait + Sync>(
     hook: &H,
     squeues: &[Squeue<Blocks<'_>>],
     hints: &Hints,
-    calls: &Calls,
+    conns: &[Vec<u32>],
     pace: Pace,
     lines: &[Line],
     jobs: &mut [Job<Task>],
@@ -79,14 +82,14 @@ fn run_all<H: Hook + Sync, W: Threads + Wait + Sync>(
     requires run { AreOneRun origin_of pace.homes.squeues squeues.now }
     requires hints { AllBelow (conns_of hints.now) squeues.now × (squeues_of hints.now ≡ pace.homes.squeues) }
     requires lines { HaveRings lines.now }
-    requires ready { MayDoAll limits_of pace.homes.squeues pace.homes.spread calls.now lines.now squeues.now jobs.old }
-    ensures { HaveDone limits_of pace.homes.squeues pace.homes.spread pace.mode pace.budget calls.now lines.now squeues.now jobs.old jobs.new }
+    requires ready { MayDoAll limits_of pace.homes.squeues pace.homes.spread (map (λ v. v.items) conns.now) lines.now squeues.now jobs.old }
+    ensures { HaveDone limits_of pace.homes.squeues pace.homes.spread pace.mode pace.budget (map (λ v. v.items) conns.now) lines.now squeues.now jobs.old jobs.new }
 {
     run_each(
         rt,
         jobs,
         &|_, job: &mut Job<Task>| {
-            run_job(rt, alloc, hook, squeues, hints, calls, pace, lines, job)
+            run_job(rt, alloc, hook, squeues, hints, conns, pace, lines, job)
         },
     );
 }

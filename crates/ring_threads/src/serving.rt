@@ -1,7 +1,8 @@
 //! All connections of a plan, served by threads over squeues.
-ghost use Rattle.std.specs.Prelude.{◌≡◌, ◌<◌, ◌≤◌, ◌+◌, [], All, IfOk, length, vec_capacity};
+ghost use Rattle.std.specs.Prelude.{◌≡◌, ◌<◌, ◌≤◌, ◌+◌, [], All, IfOk, length, map, vec_capacity};
 ghost use Rattle.conn_classifier.specs.RingList.{IsRingList};
 ghost use Rattle.conn_blocks.specs.Allowed.{all_calls};
+ghost use Rattle.conn_blocks.specs.CallLists.{AreConnsOf};
 ghost use Rattle.conn_blocks.specs.Limits.{callers};
 ghost use Rattle.conn_blocks.specs.Places.{limits_of};
 ghost use Rattle.synch_enter.specs.Hinting.{conns_of, squeues_of};
@@ -55,13 +56,14 @@ pub fn serve<H: Hook + Sync, W: Threads + Wait + Sync>(
     ensures { IfOk result (λ v. HasServed plan.now calls.now setup.now v) }
 {
     let hints = Hints::make(alloc, plan.conns(), setup.squeues)?;
+    let conns = calls.conns(alloc)?;
     let rings = lines_of(alloc, plan, setup.rings)?;
     let (lines, tasks) = tasks_of(alloc, rings, CALLERS, setup.squeues)?;
     let gathered = Gathered::with_room(alloc, plan.conns(), setup.squeues)?;
     let jobs = jobs_of(alloc, tasks, setup.squeues as usize)?;
     match Squeues::with_room(alloc, setup.squeues as usize) {
         Ok(squeues) => serve_by(
-            rt, alloc, plan, calls, setup, hook, &hints, &lines, gathered, jobs, squeues,
+            rt, alloc, plan, calls, &conns, setup, hook, &hints, &lines, gathered, jobs, squeues,
         ),
         Err(error) => {
             discard(jobs);
@@ -76,6 +78,7 @@ fn serve_by<'p, H: Hook + Sync, W: Threads + Wait + Sync>(
     alloc: Global,
     plan: &'p Plan<'_>,
     calls: &'p Calls,
+    conns: &[Vec<u32>],
     setup: &Setup,
     hook: &H,
     hints: &Hints,
@@ -86,6 +89,7 @@ fn serve_by<'p, H: Hook + Sync, W: Threads + Wait + Sync>(
 ) -> Result<Served, AllocError>
     requires setup { IsInRange setup.now }
     requires calls { All (λ call. call.0 < length plan.now.tuples) (all_calls calls.now) }
+    requires conns { AreConnsOf calls.now (map (λ v. v.items) conns.now) }
     requires hints { (conns_of hints.now ≡ length plan.now.tuples) × (squeues_of hints.now ≡ setup.now.squeues) }
     requires lines { AreLines (IsRingList plan.now setup.now.rings) setup.now.rings lines.now }
     requires tasks { AreTasks setup.now.rings 4 setup.now.squeues lines.now (tasks_in jobs.items) }
@@ -110,6 +114,7 @@ fn serve_by<'p, H: Hook + Sync, W: Threads + Wait + Sync>(
         plan,
         hints,
         calls,
+        conns,
         setup,
         lines,
         &mut jobs,
@@ -139,12 +144,14 @@ fn run_or_end<H: Hook + Sync, W: Threads + Wait + Sync>(
     plan: &Plan<'_>,
     hints: &Hints,
     calls: &Calls,
+    conns: &[Vec<u32>],
     setup: &Setup,
     lines: &[Line],
     jobs: &mut Vec<Job<Task>>,
 )
     requires setup { IsInRange setup.now }
     requires calls { All (λ call. call.0 < length plan.now.tuples) (all_calls calls.now) }
+    requires conns { AreConnsOf calls.now (map (λ v. v.items) conns.now) }
     requires hints { (conns_of hints.now ≡ length plan.now.tuples) × (squeues_of hints.now ≡ setup.now.squeues) }
     requires set { IfOk made.now (λ _. AreSet plan.now calls.now setup.now.squeues setup.now.rings setup.now.spread squeues.now) }
     requires few { length squeues.now ≤ setup.now.squeues }
@@ -157,7 +164,7 @@ fn run_or_end<H: Hook + Sync, W: Threads + Wait + Sync>(
 {
     match made {
         Ok(()) => run(
-            rt, alloc, hook, squeues, plan, hints, calls, setup, lines, jobs,
+            rt, alloc, hook, squeues, plan, hints, calls, conns, setup, lines, jobs,
         ),
         Err(_) => run_unused(rt, alloc, hook, squeues, jobs, FRONT, count_of(setup)),
     }

@@ -2,7 +2,7 @@
 use Rattle.std.proofs.Common.{◌≡◌, ℕ, zero, suc, ◌<◌, List, [], ◌∷◌, get_or, length, take, arith}
 use Rattle.perimeter_core.specs.declared.entries.Feed.{Feed as FeedOf}
 use Rattle.perimeter_core.specs.Deeds.{entries}
-use Rattle.conn_blocks.specs.Homes.{home}
+use Rattle.placed_parts.specs.Homes.{home}
 use Rattle.squeue_rings.specs.Keeping.{AreHome}
 
 module _ (squeues spread q : ℕ) (d : FeedOf) where

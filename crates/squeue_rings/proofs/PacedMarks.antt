@@ -27,7 +27,7 @@ use Rattle.squeue_enter.specs.declared.Mode.TheVariants as Mode'
 use Rattle.squeue_enter.specs.Entering.{DrainsFrom, LeavesFrom}
 use Rattle.squeue_enter.specs.Ways.{is_one}
 use Rattle.squeue_enter.proofs.Carrying.{only_feeds}
-use Rattle.conn_blocks.specs.Homes.{home}
+use Rattle.placed_parts.specs.Homes.{home}
 use Rattle.squeue_rings.specs.Keeping.{AreHome, Keeps, claims_feeds, fills, fills_one, is_fast, taken, taken_after}
 use Rattle.squeue_rings.proofs.Pacing.{Paces, own_made, paces_all, paces_join, paces_one, paces_others}
 

@@ -12,7 +12,7 @@ use Rattle.squeue_state.specs.Naming.{Named, setting_of}
 use Rattle.squeue_serve.specs.Places.{AtEach, Holds, IsNew}
 use Rattle.squeue_serve.proofs.Lent.{some_at}
 use Rattle.squeue_serve.proofs.Unused.{start_idle, each_at}
-use Rattle.conn_blocks.specs.Homes.{home}
+use Rattle.placed_parts.specs.Homes.{home}
 use Rattle.squeue_rings.specs.Rings.{AreNumbered, RingAt}
 use Rattle.squeue_rings.specs.Starts.{StartAtHome}
 use Rattle.squeue_rings.specs.Bringing.{AreAt}

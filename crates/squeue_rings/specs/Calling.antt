@@ -1,5 +1,5 @@
 -- What a caller needs and knows: an application thread, which makes its calls one after another, each where its block is.
-use Rattle.std.specs.Prelude.{◌≡◌, ◌⊎◌, ℕ, ◌+◌, ◌<◌, ◌≤◌, Bool, true, false, Contains, Option, Some, List, [], ◌∷◌, length, map, slice_get, slice_index, take}
+use Rattle.std.specs.Prelude.{◌≡◌, ◌⊎◌, ℕ, ◌+◌, ◌<◌, ◌≤◌, Bool, true, false, Contains, Option, Some, List, [], ◌∷◌, length, slice_get, slice_index, take}
 use Rattle.turn_gate.specs.Passes.{IsPassOf, number, seen}
 use Rattle.turn_gate.specs.declared.pass.Pass.{Pass}
 use Rattle.perimeter_core.specs.declared.marks.SynchAct.TheVariants as Done
@@ -12,7 +12,6 @@ use Rattle.squeue_state.specs.Elements.{number_of}
 use Rattle.synch_enter.specs.declared.acts.Called.{Called}
 use Rattle.synch_enter.specs.declared.acts.Called.TheVariants as Called'
 use Rattle.synch_enter.specs.Synch.{MayAsk, NotFound}
-use Rattle.conn_blocks.specs.CallLists.{CallLists, calls_of}
 use Rattle.conn_migrate.specs.Moving.{Moved}
 use Rattle.squeue_serve.specs.Places.{AtEach, Holds}
 use Rattle.squeue_rings.specs.Made.{made_in, once_on}
@@ -81,7 +80,3 @@ module _ {R : Type 0} (limits : R → Limits) (j : ℕ) where
   -- and each call on these connections, one after another
   abbrev pub MayMakeEach : List ℕ → List (Named R) → Type 0
   MayMakeEach conns ss = (k : ℕ) (c : ℕ) → slice_get conns k ≡ Some c → MayMakeAll k (take k conns) c ss
-
--- the connections of the calls of thread j, in order
-abbrev pub conns_called : CallLists → ℕ → List ℕ
-conns_called calls j = map (λ x. x.0) (calls_of calls j)

@@ -11,7 +11,7 @@ use Rattle.perimeter_core.specs.History.{Element, Limits, Setting, pass_of, run}
 use Rattle.perimeter_core.specs.Deeds.{done, entries_of}
 use Rattle.perimeter_core.specs.Legal.{all_feeds, feed_count}
 use Rattle.squeue_state.specs.Naming.{Named, setting_of}
-use Rattle.conn_blocks.specs.Homes.{home}
+use Rattle.placed_parts.specs.Homes.{home}
 use Rattle.squeue_enter.specs.declared.Mode.{Mode}
 use Rattle.squeue_enter.specs.declared.Mode.TheVariants as Mode'
 use Rattle.squeue_serve.specs.Places.{AtEach, Holds}

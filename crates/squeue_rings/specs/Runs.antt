@@ -3,7 +3,7 @@ use Rattle.std.specs.Prelude.{◌≡◌, ℕ, ◌+◌, ◌-◌, ◌==◌, ◌&&�
 use Rattle.perimeter_core.specs.declared.entries.Feed.{Feed}
 use Rattle.perimeter_core.specs.Deeds.{entries, feeds_of}
 use Rattle.perimeter_core.specs.Backlog.{up}
-use Rattle.conn_blocks.specs.Homes.{home}
+use Rattle.placed_parts.specs.Homes.{home}
 
 -- how many of these feeds are the connection's
 abbrev pub brought : ℕ → List Feed → ℕ

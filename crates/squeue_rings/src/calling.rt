@@ -1,12 +1,11 @@
 //! An application thread: it makes its calls one after another, each at the squeue where its block is. Where the hint is old
 //! it looks again.
-ghost use Rattle.std.specs.Prelude.{◌≡◌, ◌<◌, ℕ, List, [], ◌∷◌, ◌++◌, length};
+ghost use Rattle.std.specs.Prelude.{◌≡◌, ◌<◌, ◌^◌, ℕ, List, [], ◌∷◌, ◌++◌, length};
 ghost use Rattle.squeue_serve.specs.Places.{Became, Holds};
-ghost use Rattle.squeue_rings.specs.Calling.{CallersAt, HasTried, MayMakeAll, MayMakeEach, MayTry, conns_called, is_done};
+ghost use Rattle.squeue_rings.specs.Calling.{CallersAt, HasTried, MayMakeAll, MayMakeEach, MayTry, is_done};
 ghost use Rattle.squeue_rings.specs.Bringing.{AllBelow};
 ghost use Rattle.synch_enter.specs.Hinting.{conns_of, squeues_of};
 
-use conn_blocks::Calls;
 use perimeter_core::{Hook, Resident};
 use squeue_serve::{put_pass, take_pass};
 use squeue_state::{Pass, Squeue};
@@ -98,25 +97,25 @@ fn make_call<R: Resident, H: Hook, W: Wait>(
     unreachable!()
 }
 
-/// Makes the calls of thread `j`, in order, each once.
+/// Makes the calls of thread `j`, in order, each once; `conns` has the connection of each.
 pub fn make_calls<R: Resident, H: Hook, W: Wait>(
     rt: &W,
     alloc: Global,
     hook: &H,
     squeues: &[Squeue<R>],
     hints: &Hints,
-    calls: &Calls,
+    conns: &[u32],
     j: u32,
     places: &mut Vec<Option<Pass>>,
 )
-    requires thread { j < 4 }
+    requires few { length conns.now < 2 ^ 32 }
     requires hints { (squeues_of hints.now ≡ length squeues.now) × AllBelow (conns_of hints.now) squeues.now × (0 < length squeues.now) }
-    requires may { MayMakeEach R.limits j (conns_called calls.now j) squeues.now }
+    requires may { MayMakeEach R.limits j conns.now squeues.now }
     requires at { CallersAt R.limits j [] squeues.now places.old.items }
-    ensures { CallersAt R.limits j (conns_called calls.now j) squeues.now places.new.items }
+    ensures { CallersAt R.limits j conns.now squeues.now places.new.items }
 {
-    for k in 0..calls.len(j) {
-        let c = calls.get(j, k).0;
-        make_call(rt, alloc, hook, squeues, hints, c, j, k, places);
+    for k in 0..conns.len() {
+        let c = conns[k];
+        make_call(rt, alloc, hook, squeues, hints, c, j, k as u32, places);
     }
 }

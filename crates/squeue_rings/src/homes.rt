@@ -1,6 +1,6 @@
 //! Where a connection is at home.
 ghost use Rattle.std.specs.Prelude.{◌≡◌, ◌-◌, ◌<◌, ◌≤◌, length};
-ghost use Rattle.conn_blocks.specs.Homes.{home};
+ghost use Rattle.placed_parts.specs.Homes.{home};
 ghost use Rattle.squeue_rings.specs.Runs.{home_before, moves, run_of};
 
 use perimeter_core::Feed;

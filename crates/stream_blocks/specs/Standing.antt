@@ -76,7 +76,3 @@ pub record IsNew (k : StreamBlock) : Type 0 where
 abbrev pub FirstFits : Option StreamBlock → Bool → Type 0
 FirstFits (Some k) here = (here ≡ true) × IsNew k
 FirstFits None here = here ≡ false
-
--- of n streams those are here whose number leaves k, divided by so many, and nothing was done to them
-abbrev pub first_here : ℕ → ℕ → ℕ → Blocks
-first_here = Placed.first_here

@@ -32,7 +32,8 @@ pub struct StreamBlocks<'p> {
 
 impl<'p> StreamBlocks<'p> {
     ghost use Rattle.perimeter_core.specs.Blocks.{Blocks};
-    ghost use Rattle.stream_blocks.specs.Standing.{FirstFits, PlacesStand, Stands, calls_of, first_here, origin_of, size_of};
+    ghost use Rattle.stream_blocks.specs.Standing.{FirstFits, PlacesStand, Stands, calls_of, origin_of, size_of};
+    ghost use Rattle.placed_parts.specs.Standing.{first_here};
 
     /// A place for each stream of the plan, and new blocks of those whose number leaves `squeue`, divided by `squeues`. Fails
     /// only for want of memory.

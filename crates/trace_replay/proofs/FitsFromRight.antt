@@ -22,7 +22,7 @@ use Rattle.conn_migrate.proofs.OneSqueue.{IsSound, all_sound, fits, next_one, so
 use Rattle.conn_migrate.proofs.StaysJoin.{all_stays}
 use Rattle.conn_classifier.specs.Plan.{PlanOf, items_in}
 use Rattle.conn_blocks.specs.CallLists.{CallLists}
-use Rattle.conn_blocks.specs.Homes.{times_leaving}
+use Rattle.placed_parts.specs.Homes.{times_leaving}
 use Rattle.conn_blocks.specs.Orders.{settle}
 use Rattle.perimeter_core.proofs.LogSteps.{feed_numbers-append}
 use Rattle.conn_blocks.specs.SettledFeeds.{feeds_settle}

@@ -15,7 +15,7 @@ use Rattle.perimeter_core.proofs.OrderAndWake.{order}
 use Rattle.perimeter_core.proofs.FeedLists.{feeds_of-append}
 use Rattle.squeue_enter.specs.declared.Mode.{Mode}
 use Rattle.perimeter_core.proofs.LogSteps.{feed_numbers-append}
-use Rattle.conn_blocks.specs.Homes.{home}
+use Rattle.placed_parts.specs.Homes.{home}
 use Rattle.conn_migrate.specs.Stays.{Stay, all_in, done_in, reports_from, stays}
 use Rattle.squeue_rings.specs.Keeping.{AreHome, KeepsFrom, KeepsPace}
 use Rattle.trace_replay.proofs.Counted.{numbers_reported}

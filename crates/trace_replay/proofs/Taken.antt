@@ -15,7 +15,8 @@ use Rattle.conn_blocks.specs.Allowed.{feed_limits}
 use Rattle.conn_blocks.specs.CallLists.{CallLists}
 use Rattle.conn_blocks.specs.Holding.{StandsFor, calls_on}
 use Rattle.conn_blocks.specs.Orders.{settle}
-use Rattle.conn_blocks.specs.Places.{IsPartOf, PartStands, first_here}
+use Rattle.conn_blocks.specs.Places.{IsPartOf, PartStands}
+use Rattle.placed_parts.specs.Standing.{first_here}
 use Rattle.conn_blocks.specs.ServeOrder.{BlockOf, OriginOf}
 use Rattle.conn_blocks.specs.SettledFeeds.{feeds_settle}
 use Rattle.conn_blocks.proofs.PlaceSteps.{here_first}

@@ -1,5 +1,5 @@
 use Rattle.std.proofs.Common.{rules, ◌<◌, [], length, refl, arith}
-use Rattle.conn_blocks.specs.Places.{first_here}
+use Rattle.placed_parts.specs.Standing.{first_here}
 use Rattle.conn_blocks.proofs.PlaceSteps.{here_first, away_first}
 use Rattle.conn_blocks.proofs.tests.moved.Goals as goal
 

@@ -1,4 +1,4 @@
-use Rattle.std.proofs.Common.{◌≡◌, ℕ, sym, ◌∙◌, subst}
+use Rattle.std.proofs.Common.{◌≡◌, ℕ, [], sym, ◌∙◌, subst}
 use Rattle.synch_enter.specs.Hinting.{conns_of}
 use Rattle.squeue_rings.specs.Bringing.{AreOneRun}
 use Rattle.stream_blocks.specs.Standing.{limits_of, origin_of}
@@ -29,10 +29,10 @@ run_all-requires-clause-ready g c κs within =
     let ss = c.args.squeues.now in
     let lines = c.args.lines.now in
     let jobs = c.args.jobs.now in
-    let ready = jobs_ready c.args.plan.now s.squeues s.rings lines ss c.requires.set c.make-none.result jobs c.requires.lines c.requires.tasks c.requires.lent c.requires.setup.0.squeues.0 in
+    let ready = jobs_ready c.args.plan.now s.squeues s.rings lines ss c.requires.set jobs c.requires.lines c.requires.tasks c.requires.lent c.requires.setup.0.squeues.0 in
     let spread : c.pace.result.homes.spread ≡ 0 = c.pace.ensures.spread ∙ c.requires.setup.1 in
-    subst (λ (n : ℕ). MayDoAll limits_of n c.pace.result.homes.spread c.make-none.result lines ss jobs) (sym c.pace.ensures.squeues)
-    (subst (λ (n : ℕ). MayDoAll limits_of s.squeues n c.make-none.result lines ss jobs) (sym spread) ready)
+    subst (λ (n : ℕ). MayDoAll limits_of n c.pace.result.homes.spread [] lines ss jobs) (sym c.pace.ensures.squeues)
+    (subst (λ (n : ℕ). MayDoAll limits_of s.squeues n [] lines ss jobs) (sym spread) ready)
 
 pub returns-clause-ran : goal.returns-clause-ran
 returns-clause-ran g c =
@@ -41,9 +41,9 @@ returns-clause-ran g c =
     let lines = c.args.lines.now in
     let jobs = c.args.jobs.now in
     let new = c.run_all.new.jobs in
-    let done = at_pace limits_of c.make-none.result lines ss jobs new c.pace.result.homes.squeues c.pace.result.homes.spread c.pace.result.mode c.pace.result.budget s.squeues 0 s.mode s.budget
+    let done = at_pace limits_of [] lines ss jobs new c.pace.result.homes.squeues c.pace.result.homes.spread c.pace.result.mode c.pace.result.budget s.squeues 0 s.mode s.budget
     c.pace.ensures.squeues (c.pace.ensures.spread ∙ c.requires.setup.1) c.pace.ensures.mode c.pace.ensures.budget c.run_all.ensures in
-    has_run c.args.plan.now s.squeues s.rings s.mode s.budget c.make-none.result lines ss c.requires.set c.requires.lines jobs new c.requires.tasks c.requires.lent c.run_all.auto.jobs done
+    has_run c.args.plan.now s.squeues s.rings s.mode s.budget lines ss c.requires.set c.requires.lines jobs new c.requires.tasks c.requires.lent c.run_all.auto.jobs done
 
 pub returns-clause-lent : goal.returns-clause-lent
 returns-clause-lent g c =
@@ -52,6 +52,6 @@ returns-clause-lent g c =
     let lines = c.args.lines.now in
     let jobs = c.args.jobs.now in
     let new = c.run_all.new.jobs in
-    let done = at_pace limits_of c.make-none.result lines ss jobs new c.pace.result.homes.squeues c.pace.result.homes.spread c.pace.result.mode c.pace.result.budget s.squeues 0 s.mode s.budget
+    let done = at_pace limits_of [] lines ss jobs new c.pace.result.homes.squeues c.pace.result.homes.spread c.pace.result.mode c.pace.result.budget s.squeues 0 s.mode s.budget
     c.pace.ensures.squeues (c.pace.ensures.spread ∙ c.requires.setup.1) c.pace.ensures.mode c.pace.ensures.budget c.run_all.ensures in
-    all_lent c.args.plan.now s.squeues s.rings s.mode s.budget c.make-none.result lines ss c.requires.set c.requires.lines jobs new c.requires.tasks c.requires.lent c.run_all.auto.jobs done
+    all_lent c.args.plan.now s.squeues s.rings s.mode s.budget lines ss c.requires.set c.requires.lines jobs new c.requires.tasks c.requires.lent c.run_all.auto.jobs done

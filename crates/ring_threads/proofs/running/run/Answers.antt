@@ -1,4 +1,4 @@
-use Rattle.std.proofs.Common.{ℕ, sym, ◌∙◌, subst}
+use Rattle.std.proofs.Common.{ℕ, List, map, sym, ◌∙◌, subst}
 use Rattle.conn_blocks.specs.Places.{limits_of, origin_of}
 use Rattle.synch_enter.specs.Hinting.{conns_of}
 use Rattle.squeue_rings.specs.Bringing.{AreOneRun}
@@ -28,32 +28,35 @@ run_all-requires-clause-ready g c κs within =
     let s = c.args.setup.now in
     let ss = c.args.squeues.now in
     let calls = c.args.calls.now in
+    let conns : List (List ℕ) = map (λ v. v.items) c.args.conns.now in
     let lines = c.args.lines.now in
     let jobs = c.args.jobs.now in
-    let ready = jobs_ready c.args.plan.now calls s.squeues s.rings s.spread ss c.requires.set lines c.requires.lines jobs c.requires.tasks c.requires.lent c.is_sound.ensures c.requires.calls c.requires.setup.squeues.0 in
-    subst (λ (n : ℕ). MayDoAll limits_of n c.pace.result.homes.spread calls lines ss jobs) (sym c.pace.ensures.squeues)
-    (subst (λ (n : ℕ). MayDoAll limits_of s.squeues n calls lines ss jobs) (sym c.pace.ensures.spread) ready)
+    let ready = jobs_ready c.args.plan.now calls s.squeues s.rings s.spread ss c.requires.set lines c.requires.lines jobs c.requires.tasks c.requires.lent c.is_sound.ensures c.requires.calls c.requires.setup.squeues.0 conns c.requires.conns in
+    subst (λ (n : ℕ). MayDoAll limits_of n c.pace.result.homes.spread conns lines ss jobs) (sym c.pace.ensures.squeues)
+    (subst (λ (n : ℕ). MayDoAll limits_of s.squeues n conns lines ss jobs) (sym c.pace.ensures.spread) ready)
 
 pub returns-clause-ran : goal.returns-clause-ran
 returns-clause-ran g c =
     let s = c.args.setup.now in
     let ss = c.args.squeues.now in
     let calls = c.args.calls.now in
+    let conns : List (List ℕ) = map (λ v. v.items) c.args.conns.now in
     let lines = c.args.lines.now in
     let jobs = c.args.jobs.now in
     let new = c.run_all.new.jobs in
-    let done = at_pace limits_of calls lines ss jobs new c.pace.result.homes.squeues c.pace.result.homes.spread c.pace.result.mode c.pace.result.budget s.squeues s.spread s.mode s.budget
+    let done = at_pace limits_of conns lines ss jobs new c.pace.result.homes.squeues c.pace.result.homes.spread c.pace.result.mode c.pace.result.budget s.squeues s.spread s.mode s.budget
     c.pace.ensures.squeues c.pace.ensures.spread c.pace.ensures.mode c.pace.ensures.budget c.run_all.ensures in
-    has_run c.args.plan.now calls s ss c.requires.set lines c.requires.lines jobs new c.requires.tasks c.requires.lent c.run_all.auto.jobs done c.is_sound.ensures
+    has_run c.args.plan.now calls s ss c.requires.set lines c.requires.lines jobs new c.requires.tasks c.requires.lent c.run_all.auto.jobs conns c.requires.conns done c.is_sound.ensures
 
 pub returns-clause-lent : goal.returns-clause-lent
 returns-clause-lent g c =
     let s = c.args.setup.now in
     let ss = c.args.squeues.now in
     let calls = c.args.calls.now in
+    let conns : List (List ℕ) = map (λ v. v.items) c.args.conns.now in
     let lines = c.args.lines.now in
     let jobs = c.args.jobs.now in
     let new = c.run_all.new.jobs in
-    let done = at_pace limits_of calls lines ss jobs new c.pace.result.homes.squeues c.pace.result.homes.spread c.pace.result.mode c.pace.result.budget s.squeues s.spread s.mode s.budget
+    let done = at_pace limits_of conns lines ss jobs new c.pace.result.homes.squeues c.pace.result.homes.spread c.pace.result.mode c.pace.result.budget s.squeues s.spread s.mode s.budget
     c.pace.ensures.squeues c.pace.ensures.spread c.pace.ensures.mode c.pace.ensures.budget c.run_all.ensures in
-    all_lent c.args.plan.now calls s ss c.requires.set lines c.requires.lines jobs new c.requires.tasks c.requires.lent c.run_all.auto.jobs done
+    all_lent c.args.plan.now calls s ss c.requires.set lines c.requires.lines jobs new c.requires.tasks c.requires.lent c.run_all.auto.jobs conns c.requires.conns done

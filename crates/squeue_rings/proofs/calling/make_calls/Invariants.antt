@@ -1,6 +1,6 @@
 use Rattle.std.proofs.Common.{take}
-use Rattle.squeue_rings.specs.Calling.{CallersAt, conns_called}
+use Rattle.squeue_rings.specs.Calling.{CallersAt}
 use Rattle.squeue_rings.proofs.calling.make_calls.Given as goal
 
 abbrev pub invariant-loop-k : goal.invariant-loop-k
-invariant-loop-k g l = CallersAt g.R.Resident.limits l.j (take l.k (conns_called l.calls l.j)) l.squeues l.places.items
+invariant-loop-k g l = CallersAt g.R.Resident.limits l.j (take l.k l.conns) l.squeues l.places.items

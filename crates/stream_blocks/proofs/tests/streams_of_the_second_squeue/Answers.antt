@@ -5,7 +5,8 @@ use Rattle.perimeter_core.specs.declared.entries.Act.TheVariants as Did
 use Rattle.perimeter_core.specs.declared.marks.SynchAct.TheVariants as Done
 use Rattle.perimeter_core.specs.Blocks.{Blocks, with_act}
 use Rattle.stream_plan.specs.Streams.{MorePlanOf}
-use Rattle.stream_blocks.specs.Standing.{IsPartOf, first_here}
+use Rattle.stream_blocks.specs.Standing.{IsPartOf}
+use Rattle.placed_parts.specs.Standing.{first_here}
 use Rattle.stream_blocks.proofs.tests.streams_of_the_second_squeue.Goals as goal
 
 at_first : (n : ℕ) → 1 < n → first_here n 1 2 1 ≡ Some []

@@ -4,7 +4,8 @@ use Rattle.std.specs.declared.alloc.Global.{Global}
 use Rattle.std.proofs.lemmas.List.{length-map, length_push}
 use Rattle.std.proofs.lemmas.Option.{MatchOption-at_none, MatchOption-at_some, none-some}
 use Rattle.perimeter_core.specs.Blocks.{Blocks as Had}
-use Rattle.conn_blocks.specs.Places.{Stands, first_here}
+use Rattle.conn_blocks.specs.Places.{Stands}
+use Rattle.placed_parts.specs.Standing.{first_here}
 use Rattle.conn_blocks.specs.ServeOrder.{BlockOf}
 use Rattle.ring_threads.specs.ServedBlocks.{AreServed}
 use Rattle.squeue_replay.specs.declared.guest.Guest.{Guest}

@@ -1,7 +1,8 @@
 use Rattle.std.proofs.Common.{◌≡◌, ◌+◌, ◌∷◌, [], length, length-append, ap, sym, subst, arith}
 use Rattle.std.specs.List.{AllByRecursion}
 use Rattle.capture_reader.proofs.Pieces.{all_push}
-use Rattle.conn_blocks.specs.Places.{BlockAt, NotShort, PlacesStand, first_here}
+use Rattle.conn_blocks.specs.Places.{BlockAt, NotShort, PlacesStand}
+use Rattle.placed_parts.specs.Standing.{first_here}
 use Rattle.placed_parts.proofs.PlaceSteps.{none_stand, push_first}
 use Rattle.conn_blocks.proofs.blocks.Blocks.first.Goals as goal
 

@@ -1,6 +1,7 @@
 use Rattle.std.proofs.Common.{◌≡◌, length}
 use Rattle.std.specs.List.{AllByRecursion}
-use Rattle.conn_blocks.specs.Places.{NotShort, PlacesStand, first_here}
+use Rattle.conn_blocks.specs.Places.{NotShort, PlacesStand}
+use Rattle.placed_parts.specs.Standing.{first_here}
 use Rattle.conn_blocks.proofs.blocks.Blocks.first.Given as goal
 
 abbrev pub invariant-loop-c : goal.invariant-loop-c

@@ -1,6 +1,7 @@
 use Rattle.std.proofs.Common.{◌+◌, Option, List, [], ◌∷◌, length, sym, ap, subst, arith}
 use Rattle.std.proofs.lemmas.List.{length-append}
-use Rattle.stream_blocks.specs.Standing.{BlockAt, PlacesStand, first_here}
+use Rattle.stream_blocks.specs.Standing.{BlockAt, PlacesStand}
+use Rattle.placed_parts.specs.Standing.{first_here}
 use Rattle.stream_blocks.specs.declared.block.StreamBlock.{StreamBlock}
 use Rattle.placed_parts.proofs.PlaceSteps.{push_first}
 use Rattle.stream_blocks.proofs.Placing.{first_fits}

@@ -1,5 +1,6 @@
 use Rattle.std.proofs.Common.{◌≡◌, length}
-use Rattle.stream_blocks.specs.Standing.{PlacesStand, first_here}
+use Rattle.stream_blocks.specs.Standing.{PlacesStand}
+use Rattle.placed_parts.specs.Standing.{first_here}
 use Rattle.stream_blocks.proofs.blocks.StreamBlocks.make.Given as goal
 
 abbrev pub invariant-loop-c : goal.invariant-loop-c
