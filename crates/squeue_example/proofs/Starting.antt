@@ -5,7 +5,6 @@ use Rattle.perimeter_core.specs.Blocks.{Blocks}
 use Rattle.perimeter_core.specs.Logging.{none_done}
 use Rattle.perimeter_core.proofs.LogSteps.{is_fresh}
 use Rattle.squeue_state.specs.Naming.{Given, setting_of}
-use Rattle.squeue_state.specs.Behind.{room_of}
 use Rattle.squeue_state.specs.Clauses.{IsMade}
 use Rattle.squeue_example.specs.Rows.{IsNew, plain_limits}
 
@@ -24,8 +23,8 @@ pub starts_are : (xs ys : List Bool) → length xs ≡ length ys → ((c : ℕ) 
 starts_are xs ys n h = same_flags xs ys n (λ c. h c ∙ is_fresh (slice_index_or ys c false))
 
 -- The setting of a new squeue whose resident is as new
-pub setting_made : {R : Type 0} (stands : R → Blocks → Type 0) (limits : R → Limits) (size : R → ℕ) (number rings feeds : ℕ) (quotas : List (ℕ × ℕ)) (traced : Bool) (first : R) (g : Given R) (ys : List Bool)
-    → IsMade stands size number rings quotas traced (room_of quotas) first g → IsNew stands limits size ys feeds first
+pub setting_made : {R : Type 0} {room : ℕ} (stands : R → Blocks → Type 0) (limits : R → Limits) (size : R → ℕ) (number rings feeds : ℕ) (quotas : List (ℕ × ℕ)) (traced : Bool) (first : R) (g : Given R) (ys : List Bool)
+    → IsMade stands size number rings quotas traced room first g → IsNew stands limits size ys feeds first
     → setting_of limits g ≡ record { rings = rings; quotas = quotas; starts = ys; limits = plain_limits (length ys) feeds }
 setting_made stands limits size number rings feeds quotas traced first g ys m new =
     let here : g.starts ≡ ys = starts_are g.starts ys (m.its_conns ∙ new.1) (λ c. m.its_blocks (none_done ys) c new.0) in

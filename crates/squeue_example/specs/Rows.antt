@@ -1,5 +1,5 @@
 -- What the worked rows begin with.
-use Rattle.std.specs.Prelude.{◌≡◌, ℕ, zero, suc, Bool, true, Option, Some, None, List, [], ◌∷◌, length, replicate}
+use Rattle.std.specs.Prelude.{◌≡◌, ◌^◌, ℕ, zero, suc, Bool, true, Option, Some, None, List, [], ◌∷◌, length, replicate}
 use Rattle.perimeter_core.specs.declared.entries.Feed.{Feed}
 use Rattle.perimeter_core.specs.Perimeter.{Idle}
 use Rattle.perimeter_core.specs.History.{Element, Setting, Limits, run}
@@ -33,6 +33,10 @@ the_one = true ∷ []
 -- one ring and a worker over one connection that is here; the ring may bring twenty feeds
 abbrev pub one_here : Setting
 one_here = record { rings = 1; quotas = (20, 0) ∷ []; starts = the_one; limits = plain_limits 1 20 }
+
+-- the same ring, whose life is of so many feeds that no memory would hold them
+abbrev pub one_for_life : Setting
+one_for_life = record { rings = 1; quotas = (2 ^ 40, 0) ∷ []; starts = the_one; limits = plain_limits 1 20 }
 
 abbrev pub both_here : List Bool
 both_here = true ∷ true ∷ []

@@ -10,6 +10,7 @@ ghost use Rattle.squeue_state.specs.Naming.{setting_of};
 ghost use Rattle.turn_gate.specs.Passes.{IsPassOf, number, seen};
 
 mod beside;
+mod bounded;
 mod modes;
 mod polling;
 mod short;
