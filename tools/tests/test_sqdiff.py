@@ -240,7 +240,10 @@ class Recorded(unittest.TestCase):
                         self.assertIn(", ".join(map(str, theirs.sizes(ends)[:6])), line["captured"])
                     if line["kind"] == "acknowledged later":
                         most = float(re.search(r"and ([\d.]+) ms at most", line["captured"])[1])
-                        self.assertAlmostEqual(most, max(theirs.waits(ends)), delta=1)
+                        # A text above a gap waits for what is missing, which isn't the server's delay.
+                        self.assertLessEqual(most, max(theirs.waits(ends)) + 1)
+                        if not any(row["tcp.analysis.retransmission"] for row in theirs.of(ends[::-1])):
+                            self.assertAlmostEqual(most, max(theirs.waits(ends)), delta=1)
 
     def test_the_servers_differ_as_their_stacks_do(self):
         """lwIP offers a scale of 1 and delays acknowledgements, 4.4BSD's TCP has no scale; neither permits selective acknowledgements."""
