@@ -91,7 +91,7 @@ def events(compared, served_rows):
 
 def diagram(compared):
     life = compared.segments
-    verdicts = {frame: KINDS[d.kind].verdict for d in reversed(compared.differences) for frame in d.frames if KINDS[d.kind].verdict in ("MUST", "SHOULD")}
+    verdicts = {frame: d.verdict for d in reversed(compared.differences) for frame in d.frames if d.verdict in ("MUST", "SHOULD")}
     drawn = Diagram(compared, ladder.told([life]), verdicts)
     listed = events(compared, rows(compared.conn, compared.served))
     if len(listed) > MOST:
@@ -117,10 +117,10 @@ def alone(compared):
 
 def difference_rows(compared):
     out = []
-    for d in sorted(compared.differences, key=lambda d: VERDICTS.index(KINDS[d.kind].verdict)):
+    for d in sorted(compared.differences, key=lambda d: VERDICTS.index(d.verdict)):
         kind = KINDS[d.kind]
         frames = ", ".join(map(str, d.frames)) + (" .." if d.count > len(d.frames) > 0 else "")
-        out.append(f'<tr><td class="verdict {kind.verdict}">{kind.verdict}<td>{escape(d.kind)}<td class="n">{d.count:,}<td>{frames}<td>{escape(d.captured)}'
+        out.append(f'<tr><td class="verdict {d.verdict}">{d.verdict}<td>{escape(d.kind)}<td class="n">{d.count:,}<td>{frames}<td>{escape(d.captured)}'
                    f'<td>{escape(d.reference)}<td>{escape(kind.section)}')
     return "".join(out)
 
@@ -142,7 +142,7 @@ def page(title, compared, summary, drawn, notes):
             "<meta http-equiv=\"Content-Security-Policy\" content=\"default-src 'none'; style-src 'unsafe-inline'\">"
             "<meta name=\"viewport\" content=\"width=device-width\">"
             f"<title>{escape(title)}</title><style>{(HERE / 'page.css').read_text()}{drawing.STYLE}{ladder.STYLE}{STYLE}</style></head><body>")
-    lines = "".join(f'<tr><td class="verdict {s.kind.verdict}">{s.kind.verdict}<td>{escape(s.kind.name)}<td class="n">{s.connections:,}<td class="n">{s.times:,}'
+    lines = "".join(f'<tr><td class="verdict {s.verdict}">{s.verdict}<td>{escape(s.kind.name)}<td class="n">{s.connections:,}<td class="n">{s.times:,}'
                     f'<td>{links_of(s.first)}<td>{escape(s.kind.section)}<td>{escape(s.kind.rule)}' for s in summary)
     out = [head, f"<h1>{escape(title)}</h1>", f'<p class="quiet">{plural(len({c.number for c in compared}), "connection")}. {escape(notes)}</p>',
            f'<p class="quiet">{NOT_PROVED}</p>',

@@ -10,6 +10,7 @@ from capture import ACK, FIN, PSH, RST, SYN
 from drawing import plural, seconds
 from packets import total
 from served import rows
+from standards import KINDS
 from timeseq import lives, near
 
 LATE = 10_000               # microseconds beyond the way to the capture's place and back, from which an acknowledgement counts as delayed
@@ -25,9 +26,16 @@ SIZES = {MSS: 4, SCALE: 3, SACK_PERMITTED: 2, TIMESTAMP: 10}
 URG, ECE, CWR = 32, 64, 128
 
 
+# What a capture with gaps can't tell: there it is unjudged.
+GAPS = ("acknowledged what isn't captured", "text isn't captured")
+NEEDS_WHOLE = ("SYN acknowledged wrongly", "acknowledged too late", "acknowledged too seldom", "acknowledged before it came", "gap not acknowledged",
+               "window opened by little", "past the window", "window not probed", "sent again early", "reset with a wrong number", "SYN not challenged")
+
+
 @dataclass
 class Difference:
     kind: str
+    verdict: str
     frame: int | None           # of the capture, from 1
     at: int | None              # microseconds
     captured: str
@@ -57,11 +65,19 @@ class Found:
         frame = segment.record + 1 if segment is not None and segment.record >= 0 else None
         seen = self.by_kind.get(kind)
         if seen is None:
-            self.by_kind[kind] = Difference(kind, frame, segment.at if segment is not None else None, captured, reference, 1, [frame] if frame else [])
+            self.by_kind[kind] = Difference(kind, KINDS[kind].verdict, frame, segment.at if segment is not None else None, captured, reference, 1, [frame] if frame else [])
             return
         seen.count += 1
         if frame and len(seen.frames) < FRAMES:
             seen.frames.append(frame)
+
+    def differences(self):
+        """All of them; where the capture has gaps, what depends on them is unjudged."""
+        if any(kind in self.by_kind for kind in GAPS):
+            for kind in NEEDS_WHOLE:
+                if kind in self.by_kind:
+                    self.by_kind[kind].verdict = "unjudged"
+        return list(self.by_kind.values())
 
 
 def header(segment):
@@ -129,7 +145,7 @@ def compare(number, conn, served):
         found = Found()
         life.server = once(life.server, found)
         state, trip = compare_life(life, found, served.end, in_order(life, rows(conn, served)))
-        out.append(Compared(number, n, conn, served, life, list(found.by_kind.values()), state, trip))
+        out.append(Compared(number, n, conn, served, life, found.differences(), state, trip))
     return out
 
 
@@ -348,7 +364,7 @@ class Incoming:
     def __init__(self, watch):
         self.watch, self.found, self.shake, self.irs = watch, watch.found, watch.shake, watch.life.irs
         self.next, self.beyond, self.top = 1, [], 1         # what came without a gap, stretches beyond it, the greatest end
-        self.acked, self.edge, self.last_window = 0, None, None
+        self.acked, self.last_ack, self.edge, self.last_window = 0, None, None, None
         self.waiting, self.delays, self.windows = [], [], []
         self.gap = None             # (segment above a gap, what was next)
         self.early = []             # (acknowledgement beyond what had come, its number)
@@ -422,7 +438,8 @@ class Incoming:
         self.judge_gap(s, ack)
         self.pop(s, ack)
         self.window(s, ack)
-        self.acked = max(self.acked, ack)
+        if ack > self.acked and not s.has(SYN):
+            self.acked, self.last_ack = ack, s
 
     def judge_gap(self, s, ack):
         if self.gap is None:
@@ -474,8 +491,10 @@ class Incoming:
     def end(self):
         if self.silent_syn:
             self.found.add("SYN not challenged", self.silent_syn, "no answer", "acknowledged at once")
-        for ack, number in self.early:
-            self.found.add("acknowledged what isn't captured", ack, f"ack {number}, and the captured text ends at {self.top}", "")
+        fin = self.watch.client_fin
+        missing = self.acked - (fin is not None and self.acked > fin) - self.next
+        if missing > 0:
+            self.found.add("acknowledged what isn't captured", self.last_ack, f"{plural(missing, 'byte')} of the client from {self.next} on", "")
         left = [one for one in self.waiting if one.ready is not None]
         if left and self.watch.state != "LISTEN":
             self.found.add("not acknowledged", left[0].segment, f"{plural(len(left), 'segment')} at the end", "at once")
@@ -612,6 +631,11 @@ class Outgoing:
         if not self.stream.put(lo - 1, text(s)):
             self.found.add("text changed", s, f"bytes {lo} to {hi - 1} differ from what was sent before", "")
 
+    def length(self):
+        """How much text the client has acknowledged, or the capture has without a gap."""
+        acknowledged = self.heard_ack - 1 if self.fin is None else min(self.heard_ack, self.fin) - 1
+        return max(acknowledged, len(self.stream.whole()))
+
     def reset(self, s):
         lo = near(s.seq, self.base)
         if s.seq in self.acks or lo in (self.top, self.top + (self.fin is not None)) or s.seq == 0 and s.has(ACK):
@@ -621,6 +645,9 @@ class Outgoing:
         self.found.add("reset with a wrong number", s, f"seq {lo}", f"seq {self.top}, or what the client acknowledged")
 
     def end(self):
+        missing = self.length() - len(self.stream.whole())
+        if missing > 0:
+            self.found.add("text isn't captured", None, f"{plural(missing, 'byte')} of the server, which the client acknowledged", "")
         wrong, whole = self.sums
         if wrong and wrong * 2 < whole:
             self.found.add("wrong checksum", self.wrong_sum, f"{wrong} of {whole} segments", "none")
@@ -656,8 +683,8 @@ def compare_streams(life, watch, reference, found):
     if same is not None:
         first = next((s for s in life.server if s.length and near(s.seq, watch.base) <= same + 1 < near(s.seq, watch.base) + s.length), None)
         found.add("text", first, f"byte {same + 1} on is {theirs[same:same + 8]!r}", f"{ours[same:same + 8]!r}")
-    if len(theirs) != len(ours):
-        found.add("length of the text", None, f"{len(theirs):,} bytes", f"{len(ours):,} bytes")
+    if watch.outgoing.length() != len(ours):
+        found.add("length of the text", None, f"{watch.outgoing.length():,} bytes", f"{len(ours):,} bytes")
 
 
 def cuts(segments, base):

@@ -2,6 +2,7 @@
 
 The marks are followed, not judged: where one doesn't follow from those before it, the story ends there.
 """
+from collections import deque
 from dataclasses import dataclass, field
 
 from capture import Segment
@@ -9,7 +10,7 @@ from capture import Segment
 POLLING = 16
 
 
-@dataclass
+@dataclass(slots=True)
 class Stretch:
     """The marks first to last, between which pass p had the perimeter."""
     p: int
@@ -30,45 +31,72 @@ class Story:
     stuck: int = -1          # the first mark that doesn't follow from those before it
 
 
-def follow(marks):
-    stretches, lengths, polls, waits = [], [], [], []
-    own, chain, hand, polling = None, [], [], False
-    granted = -1
-    for i, m in enumerate(marks):
-        done = []
+class Following:
+    """The state behind the marks so far: who has the perimeter, what is queued, and what the owner has in hand."""
+
+    def __init__(self):
+        self.stretches, self.own, self.chain, self.hand, self.granted = [], None, deque(), deque(), -1
+
+    def enters(self, i, m):
+        """A pass takes the perimeter."""
+        if self.own is not None or m.kind == "accept" and self.granted != m.p:
+            return False
+        self.own, self.granted, self.hand = Stretch(m.p, m.kind, i), -1, deque()
+        self.stretches.append(self.own)
+        if m.kind == "fast":
+            self.hand = deque(m.entries)
+        elif m.kind != "accept":
+            self.hand, self.chain = self.chain, self.hand
+        return True
+
+    def goes_on(self, i, m):
+        """The owner takes the queue, leaves, or grants; what it did not do goes back before what is queued."""
+        if self.own is None or self.own.p != m.p or m.rest > len(self.hand):
+            return False
+        for _ in range(len(self.hand) - m.rest):
+            entry = self.hand.popleft()
+            if entry[0] != "ask":
+                self.own.feeds.append(entry)
+        if m.kind == "take":
+            self.own.takes.append(i)
+            self.hand, self.chain = self.chain, deque()
+            return True
+        self.own.last, self.own.act, self.own, self.granted = i, m.act, None, m.j
+        if len(self.hand) > len(self.chain):
+            self.hand.extend(self.chain)
+            self.chain = self.hand
+        else:
+            self.chain.extendleft(reversed(self.hand))
+        self.hand = deque()
+        return True
+
+    def mark(self, i, m):
+        """Whether the mark follows from those before it."""
         if m.kind in ("fill", "claim"):
-            chain = chain + list(m.entries)
-        if m.kind in ("fast", "claim", "work", "accept"):
-            if own is not None or m.kind == "accept" and granted != m.p:
-                return Story(stretches, lengths, polls, waits, i)
-            own = Stretch(m.p, m.kind, i)
-            stretches.append(own)
-            granted = -1
-            hand, chain = (list(m.entries), chain) if m.kind == "fast" else \
-                ([], chain) if m.kind == "accept" else (chain, [])
-        elif m.kind in ("take", "leave", "grant"):
-            if own is None or own.p != m.p or m.rest > len(hand):
-                return Story(stretches, lengths, polls, waits, i)
-            left = hand[len(hand) - m.rest:]
-            done = hand[:len(hand) - m.rest]
-            own.feeds += [e for e in done if e[0] != "ask"]
-            if m.kind == "take":
-                own.takes.append(i)
-                hand, chain = chain, []
-            else:
-                own.last, own.act, own = i, m.act, None
-                chain, hand = left + chain, []
-                granted = m.j
+            self.chain.extend(m.entries)
         elif m.kind == "ask":
-            chain = chain + [("ask", m.p)]
-        polling = len(chain) >= POLLING or polling and bool(chain)
-        lengths.append(len(chain))
-        polls.append(polling)
-        waits.append(bool(chain) and own is None and granted < 0)
-    return Story(stretches, lengths, polls, waits)
+            self.chain.append(("ask", m.p))
+        if m.kind in ("fast", "claim", "work", "accept"):
+            return self.enters(i, m)
+        return self.goes_on(i, m) if m.kind in ("take", "leave", "grant") else True
 
 
-@dataclass
+def follow(marks):
+    state, story, polling = Following(), Story([], [], [], []), False
+    story.stretches = state.stretches
+    for i, m in enumerate(marks):
+        if not state.mark(i, m):
+            story.stuck = i
+            break
+        queued = len(state.chain)
+        polling = queued >= POLLING or polling and queued > 0
+        story.chain.append(queued)
+        story.polling.append(polling)
+        story.waiting.append(queued > 0 and state.own is None and state.granted < 0)
+    return story
+
+
+@dataclass(slots=True)
 class Work:
     """One thing that a pass did at one squeue: its marks first to last."""
     q: int
@@ -115,11 +143,11 @@ def moves_of(mine, squeues):
     """(connection, the work that took it out, the work that put it in, the how many-th move of it) for each move of one pass."""
     stays, out = {}, []
     for w in sorted((w for w in mine if w.what and w.what[0] in ("out", "in")), key=lambda w: w.first):
-        stays.setdefault((w.what[0], w.what[1], w.q), []).append(w)
+        stays.setdefault((w.what[0], w.what[1], w.q), deque()).append(w)
     for c in sorted({w.what[1] for w in mine if w.what and w.what[0] == "out"}):
         s = 0
         while stays.get(("out", c, (c + s) % squeues)) and stays.get(("in", c, (c + s + 1) % squeues)):
-            away, back = stays["out", c, (c + s) % squeues].pop(0), stays["in", c, (c + s + 1) % squeues].pop(0)
+            away, back = stays["out", c, (c + s) % squeues].popleft(), stays["in", c, (c + s + 1) % squeues].popleft()
             s += 1
             out.append((c, away, back, s))
     return out

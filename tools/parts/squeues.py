@@ -1,5 +1,7 @@
 """The timeline of squeues: who had each one when, what was queued, and which blocks moved."""
 import re
+import sys
+from array import array
 from bisect import bisect_left, bisect_right
 from html import escape
 
@@ -20,6 +22,8 @@ KEY = ((BAR.format("ring"), "a ring has it, and the feeds processed"), (BAR.form
        ('<path class="move" d="M2 5C14 5 14 13 26 13"/><circle class="moveend" cx="26" cy="13" r="3"/>', "a block moved"),
        ('<path class="waiting" d="M2 9H28"/>', "queued, nobody has it"),
        ('<path class="polling" d="M3 2h24v14h-24z"/>', "polling"), ('<path class="close" d="M12 6l6 6m0 -6l-6 6"/>', "closed"))
+OVERVIEW = ("An overview: the share of marks during which each pass had the squeue, and the longest queue, by column. For single marks choose a part "
+            "with --marks.")
 OVERVIEW_KEY = KEY[:3] + KEY[9:10]
 CAME = {"fast": "straight in", "claim": "claimed", "work": "woken", "accept": "was granted"}
 
@@ -71,14 +75,21 @@ def lanes_of(marks):
     return {p: n for n, p in enumerate(used)}
 
 
+class Followed:
+    """What the marks say: each squeue's story, each mark's column, the moves, and how many marks can't stand where they should."""
+
+    def __init__(self, report, conns):
+        self.stories = [follow(marks) for marks in report.squeues]
+        self.column, self.moves, self.dropped = columns(report, conns)
+
+
 class Timeline:
     """The figure of the chosen squeues. `window` is (squeue, first mark, last mark, a mark to point at or -1)."""
 
-    def __init__(self, report, conns, chosen, window):
+    def __init__(self, report, followed, chosen, window):
         self.report, self.squeues, self.rings = report, report.squeues, report.setup["rings"]
         self.chosen, self.window = chosen, window
-        self.stories = [follow(marks) for marks in self.squeues]
-        self.column, self.moves, self.dropped = columns(report, conns)
+        self.stories, self.column, self.moves, self.dropped = followed.stories, followed.column, followed.moves, followed.dropped
         span = (0, max((c[-1] for c in self.column if c), default=0))
         if window:
             span = self.column[window[0]][window[1]], self.column[window[0]][window[2]]
@@ -225,12 +236,77 @@ class Timeline:
                 + (f" Shown is what stands beside the marks {self.window[1]} to {self.window[2]} of squeue {self.window[0]}." if self.window else ""))
 
 
-def draw(report, conns, chosen, window=None):
+def draw(report, followed, chosen, window=None):
     """The figure, its description, and the names at its left once more."""
-    timeline = Timeline(report, conns, chosen, window)
+    timeline = Timeline(report, followed, chosen, window)
     if timeline.too_wide and window:
         raise Refused(f"--marks: more than {MOST_COLUMNS} columns")
-    return overview(report, chosen, timeline.stories) if timeline.too_wide else timeline.draw()
+    return overview(report, timeline) if timeline.too_wide else timeline.draw()
+
+
+LETTERS = {"fill": "F", "fast": "f", "claim": "c", "take": "t", "ask": "a", "accept": "A", "work": "w", "grant": "g", "leave": "l", "close": "x"}
+ACTS = {"none": "-", "call": "c", "out": "o", "in": "i", "away": "a"}
+PACKED_FROM = ord("]")          # what stands before it has a meaning in a page or in JSON
+MOST_PACKED = 0xd000 - PACKED_FROM
+UTF_16 = "utf-16-le" if sys.byteorder == "little" else "utf-16-be"
+
+
+def packed(numbers):
+    """Whole numbers for the script, as a character each where none is large: small ones take a byte in the page."""
+    folded = [2 * n if n >= 0 else -2 * n - 1 for n in numbers]
+    if max(folded, default=0) >= MOST_PACKED:
+        return folded
+    return array("H", [n + PACKED_FROM for n in folded]).tobytes().decode(UTF_16)
+
+
+def deltas(numbers):
+    return packed([b - a for a, b in zip([0] + numbers, numbers)])
+
+
+def all_runs(lists):
+    """The feeds of many lists as runs, behind one another: how many each list has, and of each run connection, first feed, how many."""
+    each, conns, firsts, counts = [], [], [], []
+    for listed in lists:
+        begin = len(conns)
+        for c, n in listed:
+            if len(conns) > begin and conns[-1] == c and firsts[-1] + counts[-1] == n:
+                counts[-1] += 1
+            else:
+                conns.append(c), firsts.append(n), counts.append(1)
+        each.append(len(conns) - begin)
+    return [packed(column) for column in (each, conns, firsts, counts)]
+
+
+def told_of_squeue(q, marks, story, column, rings):
+    """What the script needs of one squeue; the names are those of timeline.js."""
+    acts = [s.act or ("none",) for s in story.stretches]
+    return {"q": q, "lanes": [[p, lane_name(p, rings), role(p, rings)] for p in lanes_of(marks)], "column": deltas(column),
+            "kind": "".join(LETTERS[m.kind] for m in marks), "by": "".join(chr(48 + m.p) for m in marks),
+            "to": "".join(chr(48 + m.j) for m in marks if m.kind == "grant"), "queued": deltas(story.chain),
+            "state": "".join(str(polling + 2 * waiting) for polling, waiting in zip(story.polling, story.waiting)),
+            "fills": all_runs(m.entries for m in marks if m.kind == "fill"), "first": deltas([s.first for s in story.stretches]),
+            "length": packed([(s.last if s.last >= 0 else len(story.chain) - 1) - s.first for s in story.stretches]),
+            "feeds": all_runs(s.feeds for s in story.stretches), "act": "".join(ACTS[act[0]] for act in acts),
+            "actConn": packed([act[1] if len(act) > 1 else 0 for act in acts]), "made": [list(act[2:]) for act in acts if act[0] == "call"],
+            "stuck": story.stuck}
+
+
+def told(report, conns, followed, chosen, window, linked):
+    """The timeline for the script: all marks of the chosen squeues, moves, calls, and the connections, of which `linked` have figures."""
+    firsts = {q: {s.last: s.first for s in followed.stories[q].stretches} for q in chosen}
+    arcs = [[c, away.q, away.last, back.q, back.last, firsts[back.q].get(back.last, back.last)]
+            for c, away, back in followed.moves if away.q in firsts and back.q in firsts]
+    answers = {(j, k): report.conns[c].answers.get((j, k), "") for (j, k), c in report.called.items() if c < len(report.conns)}
+    return {"squeues": [told_of_squeue(q, report.squeues[q], followed.stories[q], followed.column[q], report.setup["rings"]) for q in chosen],
+            "moves": [packed(one) for one in zip(*arcs)] or [[]] * 6, "conns": [conn.tuple for conn in conns], "linked": linked,
+            "calls": [[j, k, c, report.calls[j, k], answers.get((j, k), "")] for (j, k), c in report.called.items()],
+            "window": list(window) if window and window[0] in firsts else None}
+
+
+def legend():
+    """The signs of the timeline, as a figure of their own."""
+    signs, high = key(KEY, 1_000, 4)
+    return f'<svg class="fig" viewBox="0 0 1000 {high}" width="1000" height="{high}" aria-hidden="true">{signs}</svg>'
 
 
 def stays(names, height, under):
@@ -262,8 +338,9 @@ class Shares:
             left = stop
 
 
-def overview(report, chosen, stories):
+def overview(report, timeline):
     """Where the marks are too many to be drawn one by one."""
+    chosen, stories = timeline.chosen, timeline.stories
     rings, width = report.setup["rings"], LEFT + BINS + 10
     signs, y = key(OVERVIEW_KEY, width)
     out = [signs]
@@ -284,8 +361,7 @@ def overview(report, chosen, stories):
         base = top + len(shares.of) * LANE + 4
         out.append(overview_queue(shares, base, step))
         y = base + CURVE + GAP + 8
-    desc = (f"{plural(len(chosen), 'squeue')}: the share of marks during which each pass had the squeue, and the longest queue, by column. "
-            "For single marks choose a part with --marks.")
+    desc = f"{timeline.description()} {OVERVIEW}"
     return figure("squeues", width, y, "Who had each squeue, overview", desc, "".join(out)), desc, ""
 
 

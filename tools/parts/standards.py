@@ -1,7 +1,8 @@
 """The kinds of differences between a captured server and the reference, each with its section and what the standard says of it.
 
 `MUST` is said where the captured server breaks a MUST, `SHOULD` where it departs from a SHOULD, `choice` where the standard leaves both
-free, `service` where the application above TCP differs, and `unjudged` where the capture alone can't tell. Numbers like MUST-40 are
+free, `service` where the application above TCP differs, and `unjudged` where the capture alone can't tell; compare.NEEDS_WHOLE become so
+where the capture has gaps. Numbers like MUST-40 are
 those of RFC 9293, appendix B.
 """
 from dataclasses import dataclass
@@ -48,7 +49,8 @@ KINDS = kinds(
     ("acknowledged apart", "choice", "RFC 9293, 3.10.7.4", "An acknowledgement should go with text where that costs no undue delay; the service needs time, the reference's none."),
     ("gap not acknowledged", "SHOULD", "RFC 5681, 4.2; RFC 9293, 3.10.7.4 (MAY-13)", "A segment above a gap should be acknowledged at once."),
     ("acknowledged before it came", "MUST", "RFC 9293, 3.4", "An acknowledgement of X says that all before X was received."),
-    ("acknowledged what isn't captured", "unjudged", "RFC 9293, 3.4", "The capture lacks segments of the client, or the server acknowledges what never came."),
+    ("acknowledged what isn't captured", "unjudged", "RFC 9293, 3.4", "The capture has gaps, or the server acknowledges what never came. What needs a whole capture isn't judged."),
+    ("text isn't captured", "unjudged", "RFC 9293, 3.4", "The client acknowledged text of the server which the capture lacks. What needs a whole capture isn't judged."),
     ("acknowledgement went back", "unjudged", "RFC 9293, 3.10.7.4", "RCV.NXT never falls; two acknowledgements may have changed places on the way."),
     ("not acknowledged", "unjudged", "RFC 9293, 3.8.6.3", "The capture may end too early, or lack the acknowledgement."),
     # Windows.

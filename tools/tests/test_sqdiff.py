@@ -101,6 +101,7 @@ STORIES = {
     "acknowledged before it came": lambda: Talk().open().up(ACK | PSH, b"hello").down(ACK | PSH, b"hello", ack=11, mark=True).up(
         ACK | PSH, b"world", wait=50_000).down(ACK | PSH, b"world").up(),
     "acknowledged what isn't captured": lambda: Talk().open().up(ACK | PSH, b"hello").down(ACK | PSH, b"hello", ack=11, mark=True).up(),
+    "text isn't captured": lambda: Talk().open().up(ACK | PSH, b"hello").up(seq=6, ack=6),
     "acknowledgement went back": lambda: Talk().open().echo().down(ack=1, mark=True),
     "not acknowledged": lambda: texts().up(ACK | PSH, b"hello", mark=True),
     "window": lambda: Talk(room=1_000).open().echo(),
@@ -139,10 +140,7 @@ STORIES = {
     "state at the end": lambda: Talk().open().echo().up(ACK | FIN).down(),
 }
 # What a story has beside its own kind, of what is grave.
-BESIDE = {
-    "no backoff": set(), "window scale over 14": set(), "text changed": set(), "reset with a wrong number": set(),
-    "acknowledged too late": set(), "without ACK": set(),
-}
+BESIDE = {"text isn't captured": {"not acknowledged"}}
 CONTROLS = {
     "echo": lambda: Talk().open().echo().echo(b"x" * 1_460).close(),
     "discard": lambda: texts().up(ACK | PSH, b"hello").down().close(),
@@ -195,6 +193,15 @@ class Kinds(unittest.TestCase):
                     self.assertEqual(found, [])
 
 
+    def test_gaps_make_unjudged(self):
+        """Where the capture lacks a text, a late acknowledgement breaks no MUST: the one that was in time may be missing too."""
+        late = lambda talk: talk.up(ACK | PSH, b"hello").down(ACK | PSH, b"hello", wait=SECOND * 7 // 10).up()
+        for talk, verdict in ((late(Talk().open()), "MUST"), (late(Talk().open()).up(ACK | PSH, b"world").up(ack=11), "unjudged")):
+            found, _, status = lines(talk.save(self.folder))
+            self.assertEqual(next(line["verdict"] for line in found if line["kind"] == "acknowledged too late"), verdict)
+            self.assertEqual(status, int(verdict == "MUST"))
+
+
 class Recorded(unittest.TestCase):
     def setUp(self):
         folder = tempfile.TemporaryDirectory()
@@ -212,11 +219,41 @@ class Recorded(unittest.TestCase):
                 self.assertEqual((found, summary["must"], status), ([], 0, 0))
 
     def test_real_servers_break_no_must(self):
-        for path in captures():
+        for path in recorded():
             with self.subTest(path.name):
                 found, summary, status = lines(path)
                 self.assertEqual((status, summary["must"]), (0, 0), [line for line in found if line["verdict"] == "MUST"])
                 self.assertTrue(found)
+
+    def test_what_tshark_says_of_them(self):
+        """Options of SYN,ACK, sizes of texts and late acknowledgements are those that tshark shows."""
+        need("tshark")
+        for path in recorded():
+            with self.subTest(path.name):
+                found, _, _ = lines(path)
+                theirs = Dissected(path)
+                for line in found:
+                    ends = line["ends"].split(" ")
+                    if line["kind"] in OPTIONS and line["verdict"] == "choice":
+                        self.assertEqual(theirs.option(ends, line["kind"]), line["captured"], line)
+                    if line["kind"] == "boundaries":
+                        self.assertIn(", ".join(map(str, theirs.sizes(ends)[:6])), line["captured"])
+                    if line["kind"] == "acknowledged later":
+                        most = float(re.search(r"and ([\d.]+) ms at most", line["captured"])[1])
+                        # A text above a gap waits for what is missing, which isn't the server's delay.
+                        self.assertLessEqual(most, max(theirs.waits(ends)) + 1)
+                        if not any(row["tcp.analysis.retransmission"] for row in theirs.of(ends[::-1])):
+                            self.assertAlmostEqual(most, max(theirs.waits(ends)), delta=1)
+
+    def test_the_servers_differ_as_their_stacks_do(self):
+        """lwIP offers a scale of 1 and delays acknowledgements, 4.4BSD's TCP has no scale; neither permits selective acknowledgements."""
+        scales = {}
+        for path in recorded():
+            found, _, _ = lines(path)
+            scales[path.name] = {line["captured"] for line in found if line["kind"] == "window scale"}
+            if path.name.startswith(("lwip", "slirp")):
+                self.assertEqual([line for line in found if line["kind"] in ("selective acknowledgements", "timestamps")], [])
+        self.assertEqual((scales["lwip.pcap.gz"], scales["slirp.pcap.gz"], scales["echo_short.pcap"]), ({"1"}, {"none"}, {"7"}))
 
     def test_the_example(self):
         """What tshark shows of examples/echo_short.pcap: Linux answers the first text by an ACK and an echo of its own."""
@@ -227,6 +264,51 @@ class Recorded(unittest.TestCase):
                          {("window scale", "7", "5"), ("timestamps", "yes", "none")})
         self.assertEqual([line["connection"] for line in found if line["kind"] == "FIN"], [2])
         self.assertEqual(summary["connections"], 4)
+
+
+OPTIONS = {"maximum segment size": "tcp.options.mss_val", "window scale": "tcp.options.wscale.shift", "selective acknowledgements": "tcp.options.sack_perm",
+           "timestamps": "tcp.options.timestamp.tsval"}
+
+
+def recorded():
+    """Captures of real servers: those of all tools, and of other implementations of TCP."""
+    return captures() + sorted((Path(__file__).resolve().parent / "recorded").glob("*.pcap.gz"))
+
+
+class Dissected:
+    """What tshark shows of a capture's segments."""
+
+    def __init__(self, path):
+        names = ("ip.src", "tcp.srcport", "ip.dst", "tcp.dstport", "tcp.flags", "tcp.len", "tcp.ack", "tcp.nxtseq", "frame.time_epoch",
+                 "tcp.analysis.retransmission", "tcp.analysis.out_of_order", *OPTIONS.values())
+        fields = [word for name in names for word in ("-e", name)]
+        told = output(["tshark", "-r", path, "-Y", "tcp", "-T", "fields", "-E", "occurrence=f", *fields]).decode()
+        self.rows = [dict(zip(names, line.split("\t"))) for line in told.splitlines()]
+
+    def of(self, ends):
+        """The segments from the server of these ends."""
+        client, server = (end.rpartition(":") for end in ends)
+        wanted = server[0], server[2], client[0], client[2]
+        return [row for row in self.rows if (row["ip.src"], row["tcp.srcport"], row["ip.dst"], row["tcp.dstport"]) == wanted]
+
+    def option(self, ends, kind):
+        first = next(row for row in self.of(ends) if int(row["tcp.flags"], 16) & 0x12 == 0x12)
+        value = first[OPTIONS[kind]]
+        return "none" if not value else value if kind in ("maximum segment size", "window scale") else "yes"
+
+    def sizes(self, ends):
+        """Of the texts that weren't sent before."""
+        return [int(row["tcp.len"]) for row in self.of(ends) if int(row["tcp.len"]) and not row["tcp.analysis.retransmission"] and not row["tcp.analysis.out_of_order"]]
+
+    def waits(self, ends):
+        """Milliseconds from each text of the client to the first acknowledgement that covers it."""
+        number = lambda row, name: int(row[name] or 0)
+        answers = [(float(row["frame.time_epoch"]), number(row, "tcp.ack")) for row in self.of(ends)]
+        out = []
+        for row in self.of(ends[::-1]):
+            at, end = float(row["frame.time_epoch"]), number(row, "tcp.nxtseq")
+            out += [min((then - at) * 1000 for then, ack in answers if then >= at and ack >= end)] if number(row, "tcp.len") else []
+        return out
 
 
 class Hostile(unittest.TestCase):
