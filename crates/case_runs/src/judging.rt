@@ -7,7 +7,7 @@ use case_rows::{Fault, Row, words_of};
 use std::alloc::Global;
 
 /// The fields of a row.
-const FIELDS: [&str; 21] = [
+const FIELDS: [&str; 22] = [
     "words",
     "input",
     "text",
@@ -24,6 +24,7 @@ const FIELDS: [&str; 21] = [
     "begins",
     "ends",
     "among",
+    "marks",
     "sum",
     "each",
     "fronts",

@@ -14,6 +14,7 @@
 //! | `out_bytes N` | so many bytes of `out` alone are wanted |
 //! | `begins`, `ends` | in place of `out`: lines at both ends of the output |
 //! | `among` | in place of `out`: lines of the output, each behind how often it stands there |
+//! | `marks LEAST MOST` | in place of `out`: how many lines of marks stand behind the lines `squeue Q marks N`, which tell as many |
 //! | `sum LENGTH CHECK` | in place of `out`: its length, and in hexadecimal its check value: each byte added at the multiplier of the 64-bit FNV hash, from 0 |
 //! | `each` | words, line by line, in place of `words`: a run with each; `none` stands for no words |
 //! | `fronts FIRST END` | a run over each front of the input of FIRST bytes up to END - 1 |

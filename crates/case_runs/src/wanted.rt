@@ -27,6 +27,10 @@ fn expect_out(alloc: Global, row: &Row<'_>, out: &[u8], len: usize) -> Result<()
         whole = false;
         expect_among(alloc, row.lines("among"), out)?;
     }
+    if row.has("marks") {
+        whole = false;
+        expect_marks(alloc, &row.numbers(alloc, "marks")?, out)?;
+    }
     if row.has("sum") {
         whole = false;
         expect_sum(alloc, row.text(alloc, "sum", "")?, out)?;
@@ -130,6 +134,34 @@ fn expect_among(alloc: Global, lines: &[&str], out: &[u8]) -> Result<(), Fault> 
         expect_number(alloc, wanted, times, found as u64)?;
     }
     Ok(())
+}
+
+/// So many lines are marks: those behind a line `squeue Q marks N`, of which there are N, up to the next such line or the last line. They
+/// are at least the first number, and at most the second.
+fn expect_marks(alloc: Global, limits: &[u64], out: &[u8]) -> Result<(), Fault> {
+    let ([least, most], Ok(text)) = (limits, str::from_utf8(out)) else {
+        return Err(Fault::Told(format!(in alloc; "marks isn't two numbers, or out isn't text")?));
+    };
+    let mut told = 0u64;
+    let mut found = 0u64;
+    for line in text.lines() {
+        if let Some(count) = marks_of(line) {
+            told = told.saturating_add(count);
+        } else if told > 0 && line != "done" {
+            found = found.saturating_add(1);
+        }
+    }
+    expect_number(alloc, "how many marks are told", found, told)?;
+    if found < *least || found > *most {
+        return Err(Fault::Told(format!(in alloc; "marks: wanted {least} to {most}, got {found}")?));
+    }
+    Ok(())
+}
+
+/// How many marks a line tells of.
+fn marks_of(line: &str) -> Option<u64> {
+    let (_, count) = line.strip_prefix("squeue ")?.split_once(" marks ")?;
+    count.parse::<u64>().ok()
 }
 
 /// The output's length and check value are these.

@@ -1,4 +1,5 @@
-//! Whole replays over memory: the answer, and what is told where there is none. What is expected comes from an independent model.
+//! Two replays over memory at the limit of an input's size, which only this crate can set lower, and one as it is called. All other whole replays are
+//! rows of `cases_replay`. What is expected comes from an independent model.
 
 use crate::run::replay_within;
 use crate::{Replayed, replay_run};
@@ -58,10 +59,9 @@ fn capture() -> &'static [u8] {
     &CAPTURE
 }
 
-/// A replay of these bytes and words; the reads, writes and writes to the error line of these numbers fail.
+/// A replay of these bytes; the reads, writes and writes to the error line of these numbers fail.
 #[derive(Clone, Copy, Drop)]
 struct Given<'a> {
-    words: &'a [&'a str],
     input: &'a [u8],
     reads: &'a [u64],
     writes: &'a [u64],
@@ -71,7 +71,6 @@ struct Given<'a> {
 /// A replay of these bytes, of which nothing fails.
 fn plainly(input: &[u8]) -> Given<'_> {
     Given {
-        words: &[],
         input,
         reads: &[],
         writes: &[],
@@ -87,14 +86,6 @@ struct Ended {
     err: MemSink,
 }
 
-fn words_of(alloc: Global, given: &[&str]) -> Result<Vec<String>, AllocError> {
-    let mut words = Vec::new(alloc);
-    for word in given {
-        words.push(String::from_str(alloc, word)?)?;
-    }
-    Ok(words)
-}
-
 fn replayed(
     rt: &(impl Threads + Sync),
     alloc: Global,
@@ -106,15 +97,6 @@ fn replayed(
     let mut err = MemSink::make(alloc, 1000, 1000, given.tellings)?;
     let replayed = replay_run(rt, alloc, words.as_slice(), &mut src, &mut out, &mut err);
     Ok(Ended { replayed, out, err })
-}
-
-fn end_of(
-    rt: &(impl Threads + Sync),
-    alloc: Global,
-    given: &Given<'_>,
-) -> Result<Ended, AllocError> {
-    let words = words_of(alloc, given.words)?;
-    replayed(rt, alloc, &words, given)
 }
 
 /// How a replay is to end, what is to be written, and what told.
@@ -134,348 +116,23 @@ fn difference(ended: &Ended, &(replayed, out, err): &Wanted<'_>) -> &'static str
     ""
 }
 
-/// A replay ends so, with this answer and this line.
-fn expect(
-    rt: &(impl Abort + Threads + Sync),
-    alloc: Global,
-    name: &str,
-    given: &Given<'_>,
-    wanted: &Wanted<'_>,
-) -> Result<(), AllocError> {
-    let ended = end_of(rt, alloc, given)?;
-    let differs = difference(&ended, wanted);
-    assert!(rt; differs.is_empty(), "{name}: {differs}");
-    Ok(())
-}
-
-/// Lines of the report by their numbers, each with the text that stands in its place.
-type Changes<'a> = &'a [(usize, &'a str)];
-
-/// What stands in the place of a line, where it is changed.
-fn changed<'a>(changes: Changes<'a>, number: usize) -> Option<&'a str> {
-    for change in changes {
-        if change.0 == number {
-            return Some(change.1);
-        }
-    }
-    None
-}
-
-/// The report with these changes.
-fn add_report(text: &mut Vec<u8>, changes: Changes<'_>) -> Result<(), AllocError> {
-    for (number, line) in LINES.iter().enumerate() {
-        match changed(changes, number) {
-            Some(changed) => text.extend_from_slice(changed.as_bytes())?,
-            None => {
-                text.extend_from_slice(line.as_bytes())?;
-                text.push(b'\n')?;
-            }
-        }
-    }
-    Ok(())
-}
-
-/// The report with these changes, and the capture behind it.
-fn input_with(alloc: Global, changes: Changes<'_>) -> Result<Vec<u8>, AllocError> {
+/// The report, and the capture behind it.
+fn whole_input(alloc: Global) -> Result<Vec<u8>, AllocError> {
     let mut input = Vec::new(alloc);
-    add_report(&mut input, changes)?;
+    for line in LINES {
+        input.extend_from_slice(line.as_bytes())?;
+        input.push(b'\n')?;
+    }
     input.extend_from_slice(capture())?;
     Ok(input)
 }
 
-/// Changes of the report, and the answer. Lines are counted from 0 here, and from 1 in the answer.
-const ANSWERS: &[(Changes<'static>, &str)] = &[
-    (&[], "yes\n"),
-    (&[(17, "done")], "no: no report\n"),
-    (&[(0, "report 1\n")], "no: text 1\n"),
-    (&[(3, "order f0-4 f5\n")], "no: text 4\n"),
-    (&[(7, "")], "no: text 8\n"),
-    (&[(7, "end LISTEN\nend LISTEN\n")], "no: text 9\n"),
-    (&[(7, "end LISTEN\nsetup squeues 1\n")], "no: form\n"),
-    (&[(8, "")], "no: form\n"),
-    (
-        &[(
-            8,
-            "setup squeues 1 rings 1 mode process budget 123456789012345678901234567890 spread 0 verify 0\n",
-        )],
-        "no: form\n",
-    ),
-    (
-        &[(
-            8,
-            "setup squeues 1 rings 1 mode process\0budget 6 spread 0 verify 0\n",
-        )],
-        "no: form\n",
-    ),
-    (&[(9, "squeue 0 marks 8\n")], "no: form\n"),
-    (
-        &[(9, "squeue 0 marks 6\n"), (16, "")],
-        "no: open squeue 0\n",
-    ),
-    (
-        &[(
-            8,
-            "setup squeues 1 rings 1 mode process budget 5 spread 0 verify 0\n",
-        )],
-        "no: unfit squeue 0 mark 5\n",
-    ),
-    (
-        &[(
-            8,
-            "setup squeues 1 rings 1 mode fill budget 6 spread 0 verify 0\n",
-        )],
-        "no: unfit squeue 0 mark 4\n",
-    ),
-    (&[(14, "claim 0 0.0 0.1 0.2 0.3 0.4\n")], "no: order 0\n"),
-    (
-        &[(14, "claim 0 0.0 0.1 0.2 0.3 0.5\n")],
-        "no: illegal squeue 0 mark 4\n",
-    ),
-    (&[(14, "take 0\n")], "no: illegal squeue 0 mark 4\n"),
-    (&[(15, "leave 0 1 none\n")], "no: open squeue 0\n"),
-];
-
-/// The name of a row of `ANSWERS`: what stands in the place of its first change.
-fn name_of<'a>(changes: Changes<'a>) -> &'a str {
-    match changes.first() {
-        Some(change) => change.1,
-        None => "no change",
-    }
-}
-
-/// This is answered where the report is changed so.
-fn expect_answer(
-    rt: &(impl Threads + Sync + Abort),
-    alloc: Global,
-    &(changes, answer): &(Changes<'_>, &str),
-) -> Result<(), AllocError> {
-    let input = input_with(alloc, changes)?;
-    let replayed = if answer == "yes\n" {
-        Replayed::Yes
-    } else {
-        Replayed::No
-    };
-    let given = plainly(input.as_slice());
-    let wanted = (replayed, answer, "");
-    expect(rt, alloc, name_of(changes), &given, &wanted)
-}
-
 #[test]
-fn answers(rt: HostRuntime) -> Result<(), Fail> {
-    for row in ANSWERS {
-        expect_answer(&rt, rt.alloc(), row)?;
-    }
-    Ok(())
-}
-
-/// An input without a capture behind its report.
-#[derive(Clone, Copy, Drop)]
-struct Broken {
-    name: &'static str,
-    /// How often the report stands in it.
-    reports: u8,
-    /// What stands behind it, before this part of the capture.
-    more: &'static [u8],
-    from: usize,
-    to: usize,
-    answer: &'static str,
-}
-
-/// What stands behind the report is cut short, or another file; or all of it is something else.
-const BROKEN: &[Broken] = &[
-    Broken {
-        name: "no capture",
-        reports: 1,
-        more: b"",
-        from: 0,
-        to: 0,
-        answer: "no: capture\n",
-    },
-    Broken {
-        name: "a short capture",
-        reports: 1,
-        more: b"",
-        from: 0,
-        to: 23,
-        answer: "no: capture\n",
-    },
-    Broken {
-        name: "the report twice",
-        reports: 2,
-        more: b"",
-        from: 0,
-        to: 309,
-        answer: "no: capture\n",
-    },
-    Broken {
-        name: "the start of a section",
-        reports: 1,
-        more: b"\n\r\r\n",
-        from: 4,
-        to: 309,
-        answer: "no: capture\n",
-    },
-    Broken {
-        name: "the last line alone",
-        reports: 0,
-        more: b"done\n",
-        from: 0,
-        to: 0,
-        answer: "no: capture\n",
-    },
-    Broken {
-        name: "nothing",
-        reports: 0,
-        more: b"",
-        from: 0,
-        to: 0,
-        answer: "no: no report\n",
-    },
-    Broken {
-        name: "zeros",
-        reports: 0,
-        more: &[0; 40],
-        from: 0,
-        to: 0,
-        answer: "no: no report\n",
-    },
-];
-
-fn add_broken(input: &mut Vec<u8>, broken: &Broken) -> Result<(), AllocError> {
-    for _ in 0..broken.reports {
-        add_report(input, &[])?;
-    }
-    input.extend_from_slice(broken.more)?;
-    for (place, byte) in capture().iter().enumerate() {
-        if broken.from <= place && place < broken.to {
-            input.push(*byte)?;
-        }
-    }
-    Ok(())
-}
-
-fn expect_broken(
-    rt: &(impl Threads + Sync + Abort),
-    alloc: Global,
-    broken: &Broken,
-) -> Result<(), AllocError> {
-    let mut input = Vec::new(alloc);
-    add_broken(&mut input, broken)?;
-    let given = plainly(input.as_slice());
-    let wanted = (Replayed::No, broken.answer, "");
-    expect(rt, alloc, broken.name, &given, &wanted)
-}
-
-#[test]
-fn no_captures(rt: HostRuntime) -> Result<(), Fail> {
-    for broken in BROKEN {
-        expect_broken(&rt, rt.alloc(), broken)?;
-    }
-    Ok(())
-}
-
-/// A replay with words, or of which something fails.
-#[derive(Clone, Copy, Drop)]
-struct Failing {
-    name: &'static str,
-    words: &'static [&'static str],
-    reads: &'static [u64],
-    writes: &'static [u64],
-    tellings: &'static [u64],
-    wanted: Wanted<'static>,
-}
-
-/// The 944 bytes come in ten calls, and an eleventh finds the end. The answer goes out in one write of four bytes.
-const FAILING: &[Failing] = &[
-    Failing {
-        name: "a word",
-        words: &["--help"],
-        reads: &[],
-        writes: &[],
-        tellings: &[],
-        wanted: (Replayed::Usage, "", "usage: sqreplay\n"),
-    },
-    Failing {
-        name: "a word and no line",
-        words: &["--help"],
-        reads: &[],
-        writes: &[],
-        tellings: &[0],
-        wanted: (Replayed::Usage, "", ""),
-    },
-    Failing {
-        name: "the first read",
-        words: &[],
-        reads: &[0],
-        writes: &[],
-        tellings: &[],
-        wanted: (Replayed::ReadFault, "", "sqreplay: read fault\n"),
-    },
-    Failing {
-        name: "the last read",
-        words: &[],
-        reads: &[10],
-        writes: &[],
-        tellings: &[],
-        wanted: (Replayed::ReadFault, "", "sqreplay: read fault\n"),
-    },
-    Failing {
-        name: "the last read and no line",
-        words: &[],
-        reads: &[10],
-        writes: &[],
-        tellings: &[0],
-        wanted: (Replayed::ReadFault, "", ""),
-    },
-    Failing {
-        name: "a read behind the last",
-        words: &[],
-        reads: &[11],
-        writes: &[],
-        tellings: &[],
-        wanted: (Replayed::Yes, "yes\n", ""),
-    },
-    Failing {
-        name: "the write",
-        words: &[],
-        reads: &[],
-        writes: &[0],
-        tellings: &[],
-        wanted: (Replayed::WriteFault, "", "sqreplay: write fault\n"),
-    },
-    Failing {
-        name: "a write behind the last",
-        words: &[],
-        reads: &[],
-        writes: &[1],
-        tellings: &[],
-        wanted: (Replayed::Yes, "yes\n", ""),
-    },
-];
-
-/// Replays this input as each row of `FAILING` has it.
-fn expect_failing(
-    rt: &(impl Threads + Sync + Abort),
-    alloc: Global,
-    input: &[u8],
-) -> Result<(), AllocError> {
-    for failing in FAILING {
-        let given = Given {
-            words: failing.words,
-            input,
-            reads: failing.reads,
-            writes: failing.writes,
-            tellings: failing.tellings,
-        };
-        expect(rt, alloc, failing.name, &given, &failing.wanted)?;
-    }
-    Ok(())
-}
-
-#[test]
-fn failing_ends(rt: HostRuntime) -> Result<(), Fail> {
-    let input = input_with(rt.alloc(), &[])?;
-    expect_failing(&rt, rt.alloc(), input.as_slice())?;
+fn kept_run_replays(rt: HostRuntime) -> Result<(), Fail> {
+    let input = whole_input(rt.alloc())?;
+    let words = Vec::new(rt.alloc());
+    let ended = replayed(&rt, rt.alloc(), &words, &plainly(input.as_slice()))?;
+    assert_eq!(rt; difference(&ended, &(Replayed::Yes, "yes\n", "")), "");
     Ok(())
 }
 
@@ -522,7 +179,7 @@ fn expect_sizes(
 
 #[test]
 fn size_limit(rt: HostRuntime) -> Result<(), Fail> {
-    let input = input_with(rt.alloc(), &[])?;
+    let input = whole_input(rt.alloc())?;
     expect_sizes(&rt, rt.alloc(), input.as_slice())?;
     Ok(())
 }
