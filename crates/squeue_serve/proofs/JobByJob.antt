@@ -41,10 +41,6 @@ module _ {X : Type 0} (Q : ℕ → X → X → Type 0) where
   alone all rest x y last none one =
       both all rest x y rest last (subst (λ (n : ℕ). Q n x y) (sym none) one) (record { same = refl; each = λ k d below. absurd (omega (arith, none, below)) })
 
-  -- no job
-  pub nobody : (all : List X) → length all ≡ 0 → BecameByNumber Q all all
-  nobody all none = record { same = refl; each = λ k d below. absurd (omega (arith, none, below)) }
-
 module _ {X : Type 0} (Q : X → X → Type 0) where
   -- a job that was done in its thread
   pub done_there : (done : Bool) (x y : X) → done ≡ true → IsDoneIf done Q x y → Q x y
