@@ -144,7 +144,7 @@ def page(title, compared, summary, drawn, notes):
             f"<title>{escape(title)}</title><style>{(HERE / 'page.css').read_text()}{drawing.STYLE}{ladder.STYLE}{STYLE}</style></head><body>")
     lines = "".join(f'<tr><td class="verdict {s.verdict}">{s.verdict}<td>{escape(s.kind.name)}<td class="n">{s.connections:,}<td class="n">{s.times:,}'
                     f'<td>{links_of(s.first)}<td>{escape(s.kind.section)}<td>{escape(s.kind.rule)}' for s in summary)
-    out = [head, f"<h1>{escape(title)}</h1>", f'<p class="quiet">{plural(len({c.number for c in compared}), "connection")}. {escape(notes)}</p>',
+    out = [head, f"<h1>{escape(title)}</h1>", f'<p class="quiet">{plural(len({c.number for c in compared}), "connection")}{escape("; " + notes if notes else "")}.</p>',
            f'<p class="quiet">{NOT_PROVED}</p>',
            f'<table><tr><th><th>kind<th class="n">connections<th class="n">times<th>first in<th>section<th>what it says{lines}</table>' if summary else "<p>No difference.</p>"]
     left = len(compared) - len(drawn)

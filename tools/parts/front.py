@@ -110,18 +110,24 @@ def opened(path, folder, number, told):
     try:
         if path == "-":
             told.begin("reading", 0)
-            path = copied(sys.stdin.buffer, folder / f"input-{number}", told)
+            path = copied(sys.stdin.buffer, place(folder, f"input-{number}", "standard input"), told)
         with open(path, "rb") as data:
             start = data.read(8)
         packed = [opener for magic, opener in PACKED if start.startswith(magic)]
         if not packed:
             return Path(path)
         told.begin("unpacking", 0)
-        return unpacked(path, packed[0], folder / f"unpacked-{number}", told)
+        return unpacked(path, packed[0], place(folder, f"unpacked-{number}", Path(path).name), told)
     except (EOFError, gzip.BadGzipFile, lzma.LZMAError, OSError, ValueError) as fault:
         raise Refused(f"{str(path)!r}: {getattr(fault, 'strerror', None) or fault}", 4) from None
     finally:
         told.end()
+
+
+def place(folder, stage, name):
+    """A file in a folder of its own, with the name that people know."""
+    (folder / stage).mkdir(exist_ok=True)
+    return folder / stage / name
 
 
 def copied(source, end, told):
@@ -157,11 +163,12 @@ def prepared(asked, folder, told):
 def convert(paths, folder, table, told):
     ports = links.Ports(table) if table else None
     told.begin("reading", sum(os.stat(path).st_size for path in paths))
-    links.convert(paths, folder / "raw.pcap", ports, told.tell)
+    end = place(folder, "raw", paths[0].name)
+    links.convert(paths, end, ports, told.tell)
     told.end()
     notes = [f"{'its packets' if len(paths) == 1 else f'{len(paths)} captures'} turned into raw IP" + "".join(
         f", port {real} into {port}" for real, port in table.items())]
-    return [folder / "raw.pcap"], ports, notes
+    return [end], ports, notes
 
 
 def run(asked, folder, told):
@@ -175,7 +182,7 @@ def run(asked, folder, told):
         made = shard(asked, captures, folder, told)
         notes = notes + ["served in shards, since one run is limited"]
     made.ports = ports
-    made.notes = notes + ["by a program without proof"] * program("sqrun", asked.sqrun)[0].endswith("-unproved")
+    made.notes = notes + ["served by a program without proof"] * program("sqrun", asked.sqrun)[0].endswith("-unproved")
     return made
 
 
