@@ -469,9 +469,11 @@ class Squeues(InBrowser):
         b.settle()
         return b
 
-    def told(self):
-        self.browser.settle()
-        return {name: float(value) if name != "view" else tuple(map(float, value.split())) for name, value in self.browser.js(
+    def told(self, browser=None):
+        """What the figure says of itself, when it has drawn what was due."""
+        browser = browser or self.browser
+        browser.settle()
+        return {name: float(value) if name != "view" else tuple(map(float, value.split())) for name, value in browser.js(
             "Object.assign({}, timeline.box.dataset)").items()}
 
     def test_all_marks_are_drawn(self):
@@ -592,20 +594,22 @@ class Squeues(InBrowser):
         (Path(self.folder.name) / "long.report").write_text(long_trace(400_000))
         page = Path(self.folder.name) / "page.html"
         output([TOOLS / "sqplot", "-o", page, Path(self.folder.name) / "long.report"])
-        b, begun = self.browser, self.browser.processor_seconds()
+        b = Browser()                       # one that holds nothing of other pages
+        self.addCleanup(b.close)
+        begun = b.processor_seconds()
         b.open(page)
-        told = self.told()
+        told = self.told(b)
         self.assertLess(b.processor_seconds() - begun, 2.5)
         self.assertGreater(told["marks"], 250_000)          # of the squeues that are in view
         self.assertEqual(told["bars"], 0)
         begun = b.processor_seconds()
         while told["bars"] == 0 or told["marks"] > 100:
             b.js("timeline.zoom(.2, .5)")
-            told = self.told()
+            told = self.told(b)
         self.assertLess(b.processor_seconds() - begun, 2)
         self.assertGreater(told["bars"], 0)
         b.js("timeline.all(); timeline.follow(17)")
-        told = self.told()
+        told = self.told(b)
         self.assertGreater(told["hits"], 20)
         self.assertGreater(told["arcs"], 5)
         self.assertLess(b.page_memory(), 200_000_000)
