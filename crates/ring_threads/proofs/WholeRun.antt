@@ -398,6 +398,7 @@ module _ (p : PlanOf) (calls : CallLists) (setup : Setup) (front : ℕ) (lists :
                   count = count ∙ sized;
                   each = λ c lt. subst (λ (o : Option BlockOf). IfSome o (IsServing p calls c)) (sym (got c lt).0) (is_serving c lt (got c lt).1);
                 };
+            called = λ c j k lt. made_as_asked c j k (stands c lt (from c lt)).settled.threads;
             traces = back.traces ∙ sym back.ends;
             traced = its_trace;
           }

@@ -1,5 +1,5 @@
 -- What is written out was served.
-use Rattle.std.specs.Prelude.{◌≡◌, ◌≢◌, ℕ, zero, suc, ◌+◌, ◌*◌, ◌/◌, ◌%◌, ◌<◌, ◌==◌, true, false, List, [], ◌∷◌, length, map, slice_get, Some, None, Option, IfSome, if◌then◌else◌}
+use Rattle.std.specs.Prelude.{◌≡◌, ◌≢◌, ◌×◌, ℕ, zero, suc, ◌+◌, ◌*◌, ◌/◌, ◌%◌, ◌<◌, ◌==◌, true, false, List, [], ◌∷◌, length, map, slice_get, Some, None, Option, IfSome, if◌then◌else◌}
 use Rattle.std.proofs.Common.{refl, sym, subst, ap, ◌∙◌, arith}
 use Rattle.std.proofs.lemmas.Option.{slice_get_within}
 use Rattle.sq_base.specs.declared.kinds.Tuple.{Tuple}
@@ -19,7 +19,11 @@ use Rattle.squeue_enter.specs.declared.Mode.TheVariants as Mode'
 use Rattle.squeue_rings.specs.Keeping.{KeepsPace}
 use Rattle.squeue_rings.specs.Noted.{AreNoted}
 use Rattle.conn_migrate.specs.Stays.{AreLinked, IsLinked, StartsAtHome, Stay, Stays, all_in, ended_stay, stay, stays, stays_at, stays_in}
+use Rattle.tcb_machine.specs.declared.kinds.Call.{Call}
+use Rattle.std.specs.Option.{option_map_or}
+use Rattle.conn_blocks.specs.CallLists.{call_at}
 use Rattle.conn_blocks.specs.Orders.{IsWhole, settle}
+use Rattle.run_histories.specs.Counting.{made_in_all}
 use Rattle.ring_quotas.specs.Quotas.{setting_at}
 use Rattle.ring_threads.specs.Fits.{Fits, HistoryFits, IsHereOnce}
 use Rattle.ring_threads.specs.Served.{HasServed}
@@ -50,6 +54,9 @@ the_stay s v e =
 settles : order ≡ settle [] 0 order
 unfolding settle
 settles = refl
+
+none_called : (j k : ℕ) → made_in_all 0 j k (ending ∷ []) ≡ option_map_or (λ (x : ℕ × Call). if x.0 == 0 then 1 else 0) (call_at [] j k) 0
+none_called j k = refl
 
 module _ (file : CaptureFile) (counts : Counts) (t : Tuple) (x y : Item) (legal : Legal setting history) (over : IsOver setting (run setting history))
     (keeps : KeepsPace 1 0 Mode'.Process 64 0 setting 0 history) (set : setting ≡ setting_at (plan file counts t x y) [] 1 1 0 0) where
@@ -116,6 +123,7 @@ module _ (file : CaptureFile) (counts : Counts) (t : Tuple) (x y : Item) (legal 
   is_served = record {
     fits = fits;
     served = one_served;
+    called = λ c j k lt. subst (λ d. made_in_all d j k (ending ∷ []) ≡ option_map_or (λ (x : ℕ × Call). if x.0 == d then 1 else 0) (call_at [] j k) 0) (sym (is_zero c lt)) (none_called j k);
     traces = refl;
     traced = λ q e at. subst (λ k. IfSome (slice_get (no_trace ∷ []) k) (λ t. marks_of t ≡ [])) (sym (only ending e q at).0) refl;
   }
