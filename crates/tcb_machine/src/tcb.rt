@@ -8,6 +8,7 @@ ghost use Rattle.tcb_machine.specs.Limits.{whole_space};
 ghost use Rattle.tcb_machine.specs.Room.{HasRoom};
 
 mod arrival;
+mod beside;
 mod calls;
 mod output;
 mod replies;
