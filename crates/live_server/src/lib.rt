@@ -5,16 +5,24 @@
 #![tactic(auto)]
 
 mod acting;
+mod addresses;
+mod conn;
+mod counts;
 mod frames;
 mod initial;
 mod laws;
 mod server;
+mod setting;
+mod table;
 
 pub use acting::Datagram;
+pub use conn::{Conn, Judged};
+pub use counts::Counts;
 pub use frames::{FRAME_HEAD, is_broken, serve_frames};
 pub use initial::Secret;
 pub use laws::{only_idle_leave, others_stay, own_block_acts, pieces_join};
 pub use server::Server;
+pub use setting::Setting;
 
 #[cfg(test)]
 mod tests;

@@ -1,13 +1,15 @@
 //! The words of the command line.
 
-ghost use Rattle.std.specs.Prelude.{◌≡◌, map};
+ghost use Rattle.std.specs.Prelude.{◌≡◌, ◌<◌, ◌^◌, map, option_map, IfSome};
 ghost use Rattle.std.specs.Char.{is_ascii_digit};
 ghost use Rattle.std.specs.List.{list_all};
 ghost use Rattle.std.specs.String.{string_bytes};
-ghost use Rattle.sqlive.specs.Words.{asked, device_asked, frames_asked, is_number, number, secret_of};
+ghost use Rattle.sqlive.specs.Words.{address_of, asked, device_asked, frames_asked, hex_bytes, is_number, number, secret_of, setting_of};
 
+use byteorder::{BigEndian, ByteOrder};
 use hex::decode_to_slice;
-use live_server::Secret;
+use live_server::{Secret, Setting};
+use sq_base::Addr;
 
 /// Where datagrams come from and go to.
 #[derive(Clone, Copy)]
@@ -22,7 +24,7 @@ pub enum Mode {
 #[derive(Clone, Copy)]
 pub struct Words {
     pub mode: Mode,
-    pub places: usize,
+    pub setting: Setting,
 }
 
 /// What the words behind the program's name ask for, where they do.
@@ -42,28 +44,40 @@ pub fn words_of(words: &[String]) -> Option<Words>
 fn frames_asked(words: &[String]) -> Option<Words>
     ensures { result ≡ frames_asked (map (λ s. string_bytes s) words.now) }
 {
-    let [secret, places] = words else {
+    let [secret, rest @ ..] = words else {
         return None;
     };
     Some(Words {
         mode: Mode::Frames(secret_of(secret.as_str())?),
-        places: number(places.as_str())?,
+        setting: setting_of(rest)?,
     })
 }
 
 fn device_asked(words: &[String]) -> Option<Words>
     ensures { result ≡ device_asked (map (λ s. string_bytes s) words.now) }
 {
-    let [places] = words else {
-        return None;
-    };
     Some(Words {
         mode: Mode::Device,
-        places: number(places.as_str())?,
+        setting: setting_of(words)?,
     })
 }
 
-/// A secret in hexadecimal digits.
+/// The address that is answered for and the network's broadcast address, each as eight hexadecimal digits, how many connections are
+/// kept, and after how many seconds one is idle.
+fn setting_of(words: &[String]) -> Option<Setting>
+    ensures { result ≡ setting_of (map (λ s. string_bytes s) words.now) }
+{
+    let [address, broadcast, places, idle] = words else {
+        return None;
+    };
+    Some(Setting {
+        address: address_of(address.as_str())?,
+        broadcast: address_of(broadcast.as_str())?,
+        places: number(places.as_str())? as usize,
+        idle: u64::from(number(idle.as_str())?) * 1_000_000,
+    })
+}
+
 fn secret_of(word: &str) -> Option<Secret>
     ensures { result ≡ secret_of word.now }
 {
@@ -74,12 +88,22 @@ fn secret_of(word: &str) -> Option<Secret>
     }
 }
 
+fn address_of(word: &str) -> Option<Addr>
+    ensures { result ≡ address_of word.now }
+{
+    let mut bytes = [0u8; 4];
+    match decode_to_slice(word, &mut bytes) {
+        Ok(()) => Some(Addr(BigEndian::read_u32(&bytes))),
+        Err(_) => None,
+    }
+}
+
 /// A number without a sign, and nothing beside it.
-fn number(word: &str) -> Option<usize>
+fn number(word: &str) -> Option<u32>
     ensures { result ≡ number word.now }
 {
     if is_number(word) {
-        word.parse::<usize>().ok()
+        word.parse::<u32>().ok()
     } else {
         None
     }
