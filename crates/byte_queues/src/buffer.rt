@@ -72,7 +72,7 @@ impl Buffer {
     {
         self.from += n;
         if self.from > self.store.len() - self.from {
-            self.store.drain(..self.from);
+            keep_from(&mut self.store, self.from);
             self.from = 0;
         }
     }
@@ -106,4 +106,16 @@ impl Buffer {
         self.from = room;
         Ok(())
     }
+}
+
+/// Bytes lose those before a place, and the rest, which aren't more, move to the front in one go.
+fn keep_from(store: &mut Vec<u8>, from: usize)
+    requires within { from ≤ length store.old.items }
+    requires short { length store.old.items ≤ from + from }
+    ensures { store.new.items ≡ drop from store.old.items }
+{
+    let left = store.len() - from;
+    let (front, kept) = store.split_at_mut(from);
+    front[..left].copy_from_slice(kept);
+    store.truncate(left);
 }

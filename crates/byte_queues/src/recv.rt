@@ -4,10 +4,10 @@
 
 ghost use Rattle.std.specs.Prelude.{◌≡◌, ◌+◌, ◌-◌, ◌^◌, ◌<◌, ◌≤◌, length, None, Some, min, ◌==◌, ◌||◌, nat_lt, IfOk, OnOk, OnErr, slice_get, false, true};
 ghost use Rattle.byte_queues.specs.ReceiveQueue.{Recv, empty_recv, next_of, front, window_of, ready_of, is_ended, runs, runs_of};
-ghost use Rattle.byte_queues.specs.ReceiveQueue.{placed, placed_as, laid, up_to, next_bytes, without, with_cap, with_end};
+ghost use Rattle.byte_queues.specs.ReceiveQueue.{bytes, placed, placed_as, laid, up_to, next_bytes, without, with_cap, with_end};
 ghost use Rattle.byte_queues.specs.Limits.{most_runs, position_limit};
 
-use crate::run::{Run, drop_front, front, join, runs_before, runs_touched};
+use crate::run::{Run, drop_front, front, held_in, join, runs_before, runs_touched};
 use sq_base::Octets;
 use std::alloc::{AllocError, Global};
 use std::marker::Model;
@@ -181,6 +181,15 @@ impl RecvQueue {
         self.taken
     }
 
+    /// How many bytes are held, behind a gap too.
+    #[tactic(auto, using(crate::proofs::HeldLemmas::held_below, crate::proofs::HeldLemmas::held_bytes))]
+    pub fn held(&self) -> u64
+        ensures is { result ≡ length (bytes self.now.got) }
+        ensures most { result < 2 ^ 33 }
+    {
+        held_in(&self.runs)
+    }
+
     /// How many bytes can be taken.
     #[tactic(auto, unfolding(crate::specs::ReceiveQueue::ready_of, crate::specs::ReceiveQueue::next_of))]
     pub fn ready(&self) -> u32
@@ -216,19 +225,20 @@ impl RecvQueue {
         ensures rest { OnOk result (self.new ≡ without n self.old) }
         ensures unchanged { OnErr result (self.new ≡ self.old) }
     {
-        let bytes = self.front(alloc, n as usize)?;
+        let bytes = Octets::of(alloc, self.peek(n))?;
         self.skip(n);
         Ok(bytes)
     }
 
-    /// A copy of the next `n` bytes.
-    #[tactic(auto, unfolding(crate::specs::ReceiveQueue::next_bytes))]
-    fn front(&self, alloc: Global, n: usize) -> Result<Octets, AllocError>
+    /// The next `n` bytes, which stay in the queue.
+    #[tactic(auto, unfolding(crate::specs::ReceiveQueue::next_bytes, crate::specs::ReceiveQueue::ready_of, crate::specs::ReceiveQueue::next_of))]
+    pub fn peek(&self, n: u32) -> &[u8]
         requires { n ≤ ready_of self.now }
-        ensures { IfOk result (λ text. text ≡ next_bytes n self.now) }
+        ensures bytes { result.now ≡ next_bytes n self.now }
+        ensures count { length result.now ≡ n }
     {
-        let (bytes, _) = front(self.runs.as_slice(), self.taken).split_at(n);
-        Octets::of(alloc, bytes)
+        let (bytes, _) = front(self.runs.as_slice(), self.taken).split_at(n as usize);
+        bytes
     }
 
     /// Throws the next `n` bytes away. The edge rises to `taken + cap`.

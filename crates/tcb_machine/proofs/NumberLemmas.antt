@@ -577,5 +577,8 @@ call-numbered a b v n = numbered (left_by (tcp_call a b).verdict) (call-num a b 
 pub output-numbered : (b : Block) → IsValid b → IsNumbered b → IsNumbered (output b)
 output-numbered b v n = numbered (output b) (output-num b (num b v n))
 
+pub resent-numbered : (b : Block) → IsValid b → IsNumbered b → IsNumbered (retransmits b.state b)
+resent-numbered b v n = numbered (retransmits b.state b) (retransmitting b.state b (num b v n))
+
 pub new-numbered : IsNumbered new_block
 new-numbered = numbered new_block new-num

@@ -633,6 +633,16 @@ retransmitting Closing b c m = sends-again b c m
 retransmitting LastAck b c m = sends-again b c m
 retransmitting TimeWait b c m = sends-again b c m
 
+pub resent-valid : (b : Block) → is_listen b.state ≡ false → IsValid b → IsValid (retransmits b.state b)
+resent-valid b e v = moves-valid b (retransmits b.state b) (retransmitting b.state b b (own b e v))
+
+forgotten-new : (b : Block) → b ≡ to_listen b → record b { retransmissions = 0 } ≡ to_listen (record b { retransmissions = 0 })
+unfolding to_listen
+forgotten-new b e = ap (λ (x : Block). record x { retransmissions = 0 }) e
+
+pub forgotten-valid : (b : Block) → IsValid b → IsValid (record b { retransmissions = 0 })
+forgotten-valid b v = record { recv = v.recv; send = v.send; mss = v.mss; timed = v.timed; ours = v.ours; new = λ e. forgotten-new b (v.new e) }
+
 at-time : (n : ℕ) (b c : Block) → Moves b c → Moves b (record c { clock = n })
 at-time n b c m = let k = m.keeps in record { opened = m.opened; keeps = record { recv = k.recv; send = k.send; mss = k.mss; ours = k.ours; taken = k.taken; from = k.from; offered = k.offered; out = k.out; wanted = k.wanted; timed = k.timed } }
 

@@ -6,7 +6,7 @@ use Rattle.tcb_machine.specs.BlockState.{Block, one_if}
 use Rattle.tcb_machine.specs.CallAnswers.{tcp_call}
 use Rattle.tcb_machine.specs.Output.{output}
 use Rattle.tcb_machine.specs.TcpStep.{is_fin_acked, tcp_segment}
-use Rattle.tcb_machine.specs.Timers.{tcp_time}
+use Rattle.tcb_machine.specs.Timers.{tcp_time, retransmits}
 use Rattle.tcb_machine.specs.Validity.{IsValid, left_by}
 use Rattle.tcb_machine.specs.declared.kinds.Call.{Call}
 use Rattle.tcb_machine.specs.declared.kinds.State.{State}
@@ -63,3 +63,7 @@ CallKeepsNumbers = (call : Call) (b : Block) → IsValid b → IsNumbered b → 
 
 abbrev pub OutputKeepsNumbers : Type 0
 OutputKeepsNumbers = (b : Block) → IsValid b → IsNumbered b → IsNumbered (output b)
+
+-- what is sent again outside a deadline
+abbrev pub ResendKeepsNumbers : Type 0
+ResendKeepsNumbers = (b : Block) → IsValid b → IsNumbered b → IsNumbered (retransmits b.state b)

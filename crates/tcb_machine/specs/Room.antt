@@ -6,7 +6,7 @@ use Rattle.tcb_machine.specs.BlockState.{Block, offered}
 use Rattle.tcb_machine.specs.CallAnswers.{tcp_call}
 use Rattle.tcb_machine.specs.Output.{output}
 use Rattle.tcb_machine.specs.TcpStep.{tcp_segment}
-use Rattle.tcb_machine.specs.Timers.{tcp_time}
+use Rattle.tcb_machine.specs.Timers.{tcp_time, retransmits}
 use Rattle.tcb_machine.specs.Validity.{IsValid, left_by}
 use Rattle.tcb_machine.specs.declared.kinds.Call.{Call}
 use Rattle.tcb_machine.specs.Limits.{most_streamed, segment_growth}
@@ -33,3 +33,6 @@ CallAddsNothing = (most : ℕ) (call : Call) (b : Block) → StreamsBelow most b
 
 abbrev pub OutputAddsNothing : Type 0
 OutputAddsNothing = (most : ℕ) (b : Block) → StreamsBelow most b → StreamsBelow most (output b)
+
+abbrev pub ResendAddsNothing : Type 0
+ResendAddsNothing = (most : ℕ) (b : Block) → StreamsBelow most b → StreamsBelow most (retransmits b.state b)

@@ -1,16 +1,17 @@
 //! What the definitions say of every block: each law is a function that does nothing, whose contract is the law.
 
-ghost use Rattle.std.specs.Prelude.{◌≡◌, ℕ, ◌+◌, ◌<◌, ◌≤◌, List};
+ghost use Rattle.std.specs.Prelude.{false, ◌≡◌, ℕ, ◌+◌, ◌<◌, ◌≤◌, List};
 ghost use Rattle.byte_queues.specs.ReceiveQueue.{next_of};
 ghost use Rattle.segment_codec.specs.declared.packet.Seg.{Seg};
 ghost use Rattle.tcb_machine.specs.BlockState.{Block, new_block, offered};
 ghost use Rattle.tcb_machine.specs.CallAnswers.{tcp_call};
 ghost use Rattle.tcb_machine.specs.Challenges.{ChallengeIsAlone};
-ghost use Rattle.tcb_machine.specs.Numbering.{IsNumbered, SegmentKeepsNumbers, TimeKeepsNumbers, CallKeepsNumbers, OutputKeepsNumbers};
+ghost use Rattle.tcb_machine.specs.Numbering.{IsNumbered, SegmentKeepsNumbers, TimeKeepsNumbers, CallKeepsNumbers, OutputKeepsNumbers, ResendKeepsNumbers};
 ghost use Rattle.tcb_machine.specs.Output.{output};
-ghost use Rattle.tcb_machine.specs.Room.{StreamsBelow, SegmentAddsLittle, TimeAddsNothing, CallAddsNothing, OutputAddsNothing};
+ghost use Rattle.tcb_machine.specs.Room.{StreamsBelow, SegmentAddsLittle, TimeAddsNothing, CallAddsNothing, OutputAddsNothing, ResendAddsNothing};
+ghost use Rattle.tcb_machine.specs.States.{is_listen};
 ghost use Rattle.tcb_machine.specs.TcpStep.{tcp_segment, OneSerialOrder};
-ghost use Rattle.tcb_machine.specs.Timers.{tcp_time, QuietBeforeDeadline};
+ghost use Rattle.tcb_machine.specs.Timers.{tcp_time, retransmits, QuietBeforeDeadline};
 ghost use Rattle.tcb_machine.specs.Validity.{IsValid, IsAskable, AtMostOneDeadline, left_by};
 ghost use Rattle.tcb_machine.specs.declared.kinds.Call.{Call};
 ghost use Rattle.tcb_machine.specs.Limits.{segment_growth};
@@ -36,6 +37,8 @@ pub fn every_block_is_valid()
     ensures time { (to : ℕ) (b : Block) → IsValid b → IsValid (tcp_time to b) }
     ensures call { (call : Call) (b : Block) → IsAskable call → IsValid b → IsValid (left_by (tcp_call call b).verdict) }
     ensures output { (b : Block) → IsValid b → IsValid (output b) }
+    ensures resent { (b : Block) → is_listen b.state ≡ false → IsValid b → IsValid (retransmits b.state b) }
+    ensures forgotten { (b : Block) → IsValid b → IsValid (record b { retransmissions = 0 }) }
 {}
 
 /// A segment raises the number of the next byte by less than 2^21, and offers nothing; calls and timers raise neither.
@@ -56,6 +59,7 @@ pub fn streams_grow_little()
     ensures time { TimeAddsNothing }
     ensures call { CallAddsNothing }
     ensures output { OutputAddsNothing }
+    ensures resent { ResendAddsNothing }
 {}
 
 /// At most one deadline of a valid block is set.
@@ -81,6 +85,7 @@ pub fn acknowledged_numbers_and_bytes_go_together()
     ensures time { TimeKeepsNumbers }
     ensures call { CallKeepsNumbers }
     ensures output { OutputKeepsNumbers }
+    ensures resent { ResendKeepsNumbers }
 {}
 
 /// A segment that is challenged is answered by an acknowledgement, and changes nothing else.

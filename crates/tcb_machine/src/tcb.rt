@@ -4,7 +4,7 @@
 //! rule by which text, FIN and acknowledgements go out, `timers` the deadlines, and `calls` what programs and services do.
 
 ghost use Rattle.std.specs.Prelude.{false, ◌≡◌, ◌+◌, ◌-◌, ◌*◌, ◌<◌, ◌≤◌, length, None, Some, slice_get, All, IsTrue, ◌↔◌, []};
-ghost use Rattle.tcb_machine.specs.Limits.{whole_space};
+ghost use Rattle.tcb_machine.specs.Limits.{least_mss, most_mss, most_retransmissions, most_shift, whole_space};
 ghost use Rattle.tcb_machine.specs.Room.{HasRoom};
 
 mod arrival;
@@ -20,7 +20,7 @@ use crate::limits::{DEFAULT_MSS, FIRST_TIMEOUT, MOST_STREAMED, TIME_WAIT, WHOLE_
 use byte_queues::{RecvQueue, SendQueue};
 use segment_codec::Reply;
 use sq_base::seq_dist;
-use std::alloc::Global;
+use std::alloc::{AllocError, Global};
 use std::marker::Model;
 use std::mem::replace;
 
@@ -67,7 +67,7 @@ pub struct Tcb {
     /// At most one of the two deadlines is set.
     retransmit_at: Option<u64>,
     time_wait_at: Option<u64>,
-    /// How many retransmissions and probes were made in the block's life.
+    /// How many retransmissions and probes were made, in the block's life or since they were forgotten.
     retransmissions: u32,
     clock: u64,
     ack_due: bool,
@@ -146,6 +146,55 @@ impl Tcb {
         self.recv.next() < MOST_STREAMED && self.acked + u64::from(self.send.held()) < MOST_STREAMED
     }
 
+    /// SND.UNA, a sequence number: the first one that isn't acknowledged (RFC 9293, 3.3.1).
+    pub fn snd_una(&self) -> u32
+        ensures { result ≡ self.now.una }
+    {
+        self.una
+    }
+
+    /// SND.NXT, a sequence number: the next one that is sent (RFC 9293, 3.3.1). In LISTEN, where none is, it is 1.
+    #[tactic(auto, unfolding(crate::specs::BlockState::snd_nxt, crate::specs::BlockState::snd_end))]
+    pub fn snd_nxt(&self) -> u32
+        ensures { result ≡ snd_nxt self.now }
+    {
+        self.snd_end().wrapping_add(u32::from(self.fin_sent))
+    }
+
+    /// Snd.Wind.Shift: by how many bits the windows that arrive are shifted (RFC 7323, 2.2).
+    pub fn snd_shift(&self) -> u8
+        ensures is { result ≡ self.now.snd_shift }
+        ensures most { result ≤ most_shift }
+    {
+        self.snd_shift
+    }
+
+    /// The most bytes of text that a segment has which is sent (RFC 9293, 3.7.1).
+    pub fn mss(&self) -> u16
+        ensures is { result ≡ self.now.mss }
+        ensures least { least_mss ≤ result }
+        ensures most { result ≤ most_mss }
+    {
+        self.mss
+    }
+
+    /// How many retransmissions and probes were made since the block was new or they were forgotten. Where 64 were, the next
+    /// deadline takes the block to LISTEN.
+    pub fn retransmissions(&self) -> u32
+        ensures is { result ≡ self.now.retransmissions }
+        ensures most { result ≤ most_retransmissions }
+    {
+        self.retransmissions
+    }
+
+    /// Counts retransmissions from 0 again. RFC 9293, 3.8.3 counts those of one segment, so its user calls this where a segment
+    /// acknowledged something new; without it the block counts those of its life.
+    pub fn forget_retransmissions(&mut self)
+        ensures { self.new ≡ record self.old { retransmissions = 0 } }
+    {
+        self.retransmissions = 0;
+    }
+
     /// As new, at the block's clock. So a block for which memory was missing is of use again.
     #[tactic(auto, unfolding(crate::specs::BlockState::new_block))]
     pub fn reset(&mut self, alloc: Global)
@@ -154,6 +203,13 @@ impl Tcb {
         let clock = self.clock;
         *self = Tcb::make(alloc);
         self.clock = clock;
+    }
+
+    /// Takes room for `n` segments more that are sent. An error says that memory was missing. Either way the block stays as it is.
+    pub fn reserve_replies(&mut self, n: usize) -> Result<(), AllocError>
+        ensures { self.new ≡ self.old }
+    {
+        self.replies.reserve(n)
     }
 
     /// How many segments were sent, since they were last taken.
@@ -201,14 +257,6 @@ impl Tcb {
         ensures fits { result ≤ self.now.recv.edge - self.now.recv.taken }
     {
         self.recv.window()
-    }
-
-    /// SND.NXT.
-    #[tactic(auto, unfolding(crate::specs::BlockState::snd_nxt, crate::specs::BlockState::snd_end))]
-    fn snd_nxt(&self) -> u32
-        ensures { result ≡ snd_nxt self.now }
-    {
-        self.snd_end().wrapping_add(u32::from(self.fin_sent))
     }
 
     /// The sequence number behind the last byte that was sent.

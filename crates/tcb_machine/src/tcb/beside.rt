@@ -1,25 +1,19 @@
 //! What a server that stands beside a block asks of it.
 
-ghost use Rattle.std.specs.Prelude.{◌≡◌, false, OnOk};
-ghost use Rattle.tcb_machine.specs.BlockState.{sends_ack, snd_nxt};
+ghost use Rattle.std.specs.Prelude.{◌≡◌, ◌<◌, ◌^◌, false, OnOk};
+ghost use Rattle.tcb_machine.specs.BlockState.{held_in, sends_ack};
 ghost use Rattle.tcb_machine.specs.States.{is_listen};
 
 use super::Tcb;
 use std::alloc::{AllocError, Global};
 
 impl Tcb {
-    /// SND.UNA: the first sequence number that isn't acknowledged.
-    pub fn una(&self) -> u32
-        ensures { result ≡ self.now.una }
+    /// How many bytes are held: received and not taken, behind a gap too, and offered and not acknowledged.
+    pub fn held(&self) -> u64
+        ensures is { result ≡ held_in self.now }
+        ensures most { result < 2 ^ 34 }
     {
-        self.una
-    }
-
-    /// SND.NXT: the next sequence number to be sent.
-    pub fn nxt(&self) -> u32
-        ensures { result ≡ snd_nxt self.now }
-    {
-        self.snd_nxt()
+        self.recv.held() + u64::from(self.send.held())
     }
 
     /// Sends an acknowledgement, as a challenge (RFC 5961). After NoMemory nothing more is promised.

@@ -125,6 +125,27 @@ impl Tcb {
         self.recv.take(alloc, n)
     }
 
+    /// Offers the next `n` received bytes as they came; they leave what was received. After NoMemory nothing more is promised.
+    pub fn relay(&mut self, n: u32) -> Result<(), AllocError>
+        requires ready { n ≤ ready_of self.old.recv }
+        requires room { n ≤ room_of self.old.out }
+        ensures moved { OnOk result (self.new ≡ record self.old { recv = without n self.old.recv; out = self.old.out ++ next_bytes n self.old.recv }) }
+        ensures next { OnOk result (next_of self.new.recv ≡ next_of self.old.recv) }
+    {
+        self.offer_next(n)?;
+        self.skip(n);
+        Ok(())
+    }
+
+    /// Offers a copy of the next `n` received bytes.
+    fn offer_next(&mut self, n: u32) -> Result<(), AllocError>
+        requires ready { n ≤ ready_of self.old.recv }
+        requires room { n ≤ room_of self.old.out }
+        ensures { OnOk result (self.new ≡ record self.old { out = self.old.out ++ next_bytes n self.old.recv }) }
+    {
+        self.send.offer(self.recv.peek(n))
+    }
+
     /// Throws the next `n` received bytes away.
     #[tactic(auto, using(crate::proofs::QueueLemmas::without_below, crate::proofs::QueueLemmas::without_read, crate::proofs::QueueLemmas::next_without), unfolding(byte_queues::specs::ReceiveQueue::without))]
     pub fn skip(&mut self, n: u32)

@@ -117,14 +117,19 @@ impl Tcb {
         Ok(())
     }
 
-    /// What is sent again: in SYN-RECEIVED the SYN,ACK, with the same options.
-    fn resend(&mut self, alloc: Global) -> Result<(), AllocError>
+    /// Sends the first unacknowledged segment again, now: what the deadline would send, while the deadline, RTO and the count of
+    /// retransmissions stay (RFC 5681, 3.2: fast retransmit). In SYN-RECEIVED it is the SYN,ACK, with the same options; where
+    /// nothing is unacknowledged it is a probe with at most one new byte. After NoMemory nothing more is promised.
+    #[tactic(auto, unfolding(crate::specs::BlockState::offered))]
+    pub fn resend(&mut self, alloc: Global) -> Result<(), AllocError>
         requires open { is_listen self.old.state ≡ false }
         ensures is { OnOk result (self.new ≡ retransmits self.old.state self.old) }
         ensures state { OnOk result (self.new.state ≡ self.old.state) }
         ensures tries { OnOk result (self.new.retransmissions ≡ self.old.retransmissions) }
         ensures rto { OnOk result (self.new.rto ≡ self.old.rto) }
         ensures clock { OnOk result (self.new.clock ≡ self.old.clock) }
+        ensures recv { OnOk result (self.new.recv ≡ self.old.recv) }
+        ensures offered { OnOk result (offered self.new ≡ offered self.old) }
     {
         if matches!(self.state, State::SynReceived) {
             self.send_syn_ack(alloc)
@@ -134,7 +139,7 @@ impl Tcb {
     }
 
     /// The first unacknowledged bytes, else our FIN, else one byte to probe a closed window (RFC 9293, 3.8.6.1).
-    #[tactic(auto, unfolding(crate::specs::Timers::sends_again, crate::specs::Output::sends_text))]
+    #[tactic(auto, unfolding(crate::specs::Timers::sends_again, crate::specs::Output::sends_text, crate::specs::BlockState::offered))]
     fn send_again(&mut self, alloc: Global) -> Result<(), AllocError>
         requires open { is_listen self.old.state ≡ false }
         ensures is { OnOk result (self.new ≡ sends_again self.old) }
@@ -142,6 +147,8 @@ impl Tcb {
         ensures tries { OnOk result (self.new.retransmissions ≡ self.old.retransmissions) }
         ensures rto { OnOk result (self.new.rto ≡ self.old.rto) }
         ensures clock { OnOk result (self.new.clock ≡ self.old.clock) }
+        ensures recv { OnOk result (self.new.recv ≡ self.old.recv) }
+        ensures offered { OnOk result (offered self.new ≡ offered self.old) }
     {
         if self.in_flight() > 0 {
             let n = self

@@ -1,4 +1,4 @@
-use Rattle.tcb_machine.proofs.NumberLemmas.{new-numbered, segment-numbered, time-numbered, call-numbered, output-numbered}
+use Rattle.tcb_machine.proofs.NumberLemmas.{new-numbered, segment-numbered, time-numbered, call-numbered, output-numbered, resent-numbered}
 use Rattle.tcb_machine.proofs.laws.acknowledged_numbers_and_bytes_go_together.Goals as goal
 
 pub returns-clause-new : goal.returns-clause-new
@@ -15,3 +15,6 @@ returns-clause-call c = call-numbered
 
 pub returns-clause-output : goal.returns-clause-output
 returns-clause-output c = output-numbered
+
+pub returns-clause-resent : goal.returns-clause-resent
+returns-clause-resent c = resent-numbered

@@ -2,7 +2,7 @@ use Rattle.tcb_machine.specs.CallAnswers.{tcp_call}
 use Rattle.tcb_machine.specs.Output.{output}
 use Rattle.tcb_machine.specs.Timers.{tcp_time}
 use Rattle.tcb_machine.specs.Validity.{left_by}
-use Rattle.tcb_machine.proofs.ValidLemmas.{new-valid, segment-valid, time-moved, call-moved, output-moved, moved-valid}
+use Rattle.tcb_machine.proofs.ValidLemmas.{new-valid, segment-valid, time-moved, call-moved, output-moved, moved-valid, resent-valid, forgotten-valid}
 use Rattle.tcb_machine.proofs.laws.every_block_is_valid.Goals as goal
 
 pub returns-clause-new : goal.returns-clause-new
@@ -19,3 +19,9 @@ returns-clause-call c = λ a b h v. moved-valid b (left_by (tcp_call a b).verdic
 
 pub returns-clause-output : goal.returns-clause-output
 returns-clause-output c = λ b v. moved-valid b (output b) (output-moved b v)
+
+pub returns-clause-resent : goal.returns-clause-resent
+returns-clause-resent c = resent-valid
+
+pub returns-clause-forgotten : goal.returns-clause-forgotten
+returns-clause-forgotten c = forgotten-valid

@@ -1,7 +1,7 @@
-use Rattle.std.proofs.Common.{ap, arith}
+use Rattle.std.proofs.Common.{ap, arith, length}
 use Rattle.byte_queues.specs.ReceiveQueue.{next_of}
 use Rattle.tcb_machine.specs.BlockState.{new_block, offered}
-use Rattle.tcb_machine.proofs.KeepLemmas.{time-less, time-offered, output-same, output-offered}
+use Rattle.tcb_machine.proofs.KeepLemmas.{time-less, time-offered, output-same, output-offered, resent-same}
 use Rattle.tcb_machine.proofs.ValidLemmas.{segment-next, segment-offered, call-next, call-offered}
 use Rattle.tcb_machine.proofs.laws.streams_grow_little.Goals as goal
 
@@ -40,3 +40,14 @@ returns-clause-output c = λ most b h.
     let hn = h.0 in
     let ho = h.1 in
     (omega (arith, n, hn), omega (arith, o, ho))
+
+pub returns-clause-resent : goal.returns-clause-resent
+unfolding offered
+returns-clause-resent c = λ most b h.
+    let k = resent-same b.state b in
+    let n = ap next_of k.recv in
+    let a = k.acked in
+    let o = ap length k.out in
+    let hn = h.0 in
+    let ho = h.1 in
+    (omega (arith, n, hn), omega (arith, a, o, ho))
