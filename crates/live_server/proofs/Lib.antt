@@ -1,7 +1,9 @@
 pub mod NumberLemmas
 pub mod TableLemmas
+pub mod PlaceLemmas
 pub mod TurnLemmas
-pub mod ServerLemmas
-pub mod ReadLemmas
+pub mod ReachLemmas
+pub mod LawLemmas
+pub mod SentLemmas
 pub mod FrameLemmas
 pub mod PieceLemmas

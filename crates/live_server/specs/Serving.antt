@@ -48,7 +48,7 @@ becomes place t c sv = record { server = record sv { conns = replaced place c sv
 
 -- the time comes to the connection of two ends, where there is one
 unfoldable pub time_to : ℕ → Tuple → ServerOf → Outcome
-time_to now t sv = option_map_or (λ place. becomes place t (reached now (conn_at place sv.conns)) sv) (sends_nothing sv) (place_of t sv.conns)
+time_to now t sv = option_map_or (λ place. becomes place t (reached now (conn_at place sv.conns)) sv) (place_of t sv.conns) (sends_nothing sv)
 
 -- what a segment makes of a connection
 abbrev pub served : ℕ → Seg → List ℕ → ServerOf → Conn → Conn
@@ -64,11 +64,16 @@ goes_on now s text place sv =
 unfoldable pub has_place : ServerOf → Bool
 has_place sv = nat_lt (length sv.conns) sv.setting.places && nat_lt (length sv.waiting) sv.setting.places
 
--- the connection of two ends gives way, where it is half open
+-- the connection at a place gives way, where it is half open
+abbrev pub gives_way : ℕ → ServerOf → ServerOf
+gives_way place sv = record sv { conns = without place sv.conns; counts = record sv.counts { gave_way = more 1 sv.counts.gave_way } }
+
+unfoldable pub yields_at : ℕ → ServerOf → ServerOf
+yields_at place sv = if is_half_open (conn_at place sv.conns) then gives_way place sv else sv
+
+-- and that of two ends, where it has a place
 unfoldable pub yields : Tuple → ServerOf → ServerOf
-yields t sv = option_map_or
-    (λ place. if is_half_open (conn_at place sv.conns) then record sv { conns = without place sv.conns; counts = record sv.counts { gave_way = more 1 sv.counts.gave_way } } else sv)
-    sv (place_of t sv.conns)
+yields t sv = option_map_or (λ place. yields_at place sv) (place_of t sv.conns) sv
 
 -- in a full table the oldest half-open connection gives way; and none stays half open behind as many later ones as there are places
 abbrev pub yielding : List Tuple → ServerOf → ServerOf
@@ -78,25 +83,32 @@ yielding (t ∷ ts) sv = if has_place sv then sv else yielding ts (yields t (rec
 abbrev pub makes_place : ServerOf → ServerOf
 makes_place sv = yielding sv.waiting sv
 
--- a connection takes a place, or is answered by nothing where none is free
+-- a connection takes a place that is free
+abbrev pub takes_free : Tuple → Conn → ServerOf → Outcome
+takes_free t c sv = record {
+  server = record sv { conns = sv.conns ++ (t, emptied c) ∷ []; waiting = sv.waiting ++ t ∷ []; counts = record sv.counts { opened = more 1 sv.counts.opened } };
+  sent = sent_by t c;
+}
+
+-- or is answered by nothing
+abbrev pub turns_away : ServerOf → Outcome
+turns_away sv = sends_nothing (record sv { counts = record sv.counts { turned_away = more 1 sv.counts.turned_away } })
+
 unfoldable pub takes_place : Tuple → Conn → ServerOf → Outcome
-takes_place t c sv =
-    if has_place sv
-    then record {
-      server = record sv { conns = sv.conns ++ (t, emptied c) ∷ []; waiting = sv.waiting ++ t ∷ []; counts = record sv.counts { opened = more 1 sv.counts.opened } };
-      sent = sent_by t c;
-    }
-    else sends_nothing (record sv { counts = record sv.counts { turned_away = more 1 sv.counts.turned_away } })
+takes_place t c sv = if has_place sv then takes_free t c sv else turns_away sv
+
+-- what it sent goes out, and nothing else happens
+abbrev pub sends_of : Tuple → Conn → ServerOf → Outcome
+sends_of t c sv = record { server = sv; sent = sent_by t c }
 
 -- a segment of a connection that has no place: it takes one, unless it is over at once
 unfoldable pub opens : ℕ → Seg → List ℕ → ServerOf → Outcome
 opens now s text sv =
     let c = served now s text sv (new_conn now) in
-    if is_over c then record { server = sv; sent = sent_by (tuple_of s) c }
-    else takes_place (tuple_of s) c (makes_place sv)
+    if is_over c then sends_of (tuple_of s) c sv else takes_place (tuple_of s) c (makes_place sv)
 
 unfoldable pub comes : ℕ → Seg → List ℕ → ServerOf → Outcome
-comes now s text sv = option_map_or (λ place. goes_on now s text place sv) (opens now s text sv) (place_of (tuple_of s) sv.conns)
+comes now s text sv = option_map_or (λ place. goes_on now s text place sv) (place_of (tuple_of s) sv.conns) (opens now s text sv)
 
 -- one after the other
 abbrev pub then_sends : Outcome → (ServerOf → Outcome) → Outcome

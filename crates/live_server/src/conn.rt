@@ -1,6 +1,6 @@
 //! One connection: its block, and what the server keeps beside it.
 
-ghost use Rattle.std.specs.Prelude.{◌≡◌, ◌++◌, ◌≤◌, OnOk};
+ghost use Rattle.std.specs.Prelude.{◌≡◌, ◌++◌, ◌≤◌, IfOk, OnOk};
 ghost use Rattle.live_server.specs.Acts.{after, emptied, has_room, is_half_open, is_idle, is_outside, is_over, judged, new_conn, oldest_ack, provokes, reached, receives, sent_by, takes};
 ghost use Rattle.live_server.specs.Acts.{reaches};
 ghost use Rattle.tcb_machine.specs.Limits.{last_time};
@@ -88,22 +88,22 @@ impl Conn {
         }
     }
 
-    /// A segment comes, of which this becomes. After an error nothing more is promised.
+    /// A segment comes. The answer says what became of it. After an error nothing more is promised.
     #[tactic(auto, unfolding(crate::specs::Acts::after))]
     pub fn take(
         &mut self,
         alloc: Global,
-        judged: Judged,
         service: Service,
         now: u64,
         iss: u32,
         seg: &Seg,
         text: &[u8],
-    ) -> Result<(), AllocError>
-        requires time { now ≤ last_time }
-        requires judged { judged ≡ judged now seg.now text.now self.old }
-        ensures { OnOk result (self.new ≡ receives service now iss seg.now text.now self.old) }
+    ) -> Result<Judged, AllocError>
+        requires { now ≤ last_time }
+        ensures judged { IfOk result (λ j. j ≡ judged now seg.now text.now self.old) }
+        ensures conn { OnOk result (self.new ≡ receives service now iss seg.now text.now self.old) }
     {
+        let judged = self.judged(now, seg, text);
         match judged {
             Judged::Taken => {
                 serve(service, &mut self.tcb, alloc, now, iss, seg, text)?;
@@ -116,7 +116,7 @@ impl Conn {
             }
             Judged::Unanswered | Judged::Late => {}
         }
-        Ok(())
+        Ok(judged)
     }
 
     /// The time comes to the block.
@@ -184,11 +184,11 @@ fn is_outside(tcb: &Tcb, seg: &Seg) -> bool
         return false;
     }
     let oldest = oldest_ack(tcb);
-    seg.flags & ACK != 0 && seq_dist(oldest, tcb.nxt()) < seq_dist(oldest, seg.ack)
+    seg.flags & ACK != 0 && seq_dist(oldest, tcb.snd_nxt()) < seq_dist(oldest, seg.ack)
 }
 
 fn oldest_ack(tcb: &Tcb) -> u32
     ensures { result ≡ oldest_ack tcb.now }
 {
-    tcb.una().wrapping_sub(SEND_SPACE)
+    tcb.snd_una().wrapping_sub(SEND_SPACE)
 }

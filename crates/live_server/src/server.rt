@@ -1,14 +1,13 @@
 //! The table of connections, and what a datagram and the time do to it.
 
-ghost use Rattle.std.specs.Prelude.{◌≡◌, ◌++◌, ◌<◌, ◌≤◌, ◌^◌, [], ◌∷◌, length, map, OnOk, IsTrue};
+ghost use Rattle.std.specs.Prelude.{◌≡◌, ◌++◌, ◌<◌, ◌≤◌, ◌^◌, [], true, length, OnOk};
 ghost use Rattle.segment_codec.specs.Refusal.{tuple_of};
 ghost use Rattle.sq_base.specs.Ports.{is_served_port};
 ghost use Rattle.sq_base.specs.declared.kinds.Tuple.{Tuple};
 ghost use Rattle.tcb_machine.specs.Limits.{last_time};
-ghost use Rattle.live_server.specs.Acts.{is_half_open, is_over};
 ghost use Rattle.live_server.specs.Initial.{number_for};
-ghost use Rattle.live_server.specs.Serving.{addressed, comes, goes_on, has_place, makes_place, on_datagram, on_segment, on_time, opens, refused, takes_place, time_to, without_idle, without_over, yields};
-ghost use Rattle.live_server.specs.Table.{conn_at, place_of, settled, without, IsNew};
+ghost use Rattle.live_server.specs.Serving.{addressed, comes, goes_on, has_place, makes_place, on_datagram, on_segment, on_time, opens, refused, takes_place, time_to, yields};
+ghost use Rattle.live_server.specs.Table.{IsNew};
 
 use crate::acting::{Datagram, encoded, text_of};
 use crate::addresses::is_for_us;
@@ -270,16 +269,7 @@ impl Server {
         let tuple = tuple_of(seg);
         let iss = number_for(&self.secret, now, seg, &tuple);
         let mut conn = Conn::make(alloc, now);
-        let judged = conn.judged(now, seg, text);
-        conn.take(
-            alloc,
-            judged,
-            Service::of(seg.dst_port),
-            now,
-            iss,
-            seg,
-            text,
-        )?;
+        conn.take(alloc, Service::of(seg.dst_port), now, iss, seg, text)?;
         if conn.is_over() {
             return conn.send(alloc, &tuple, out);
         }
@@ -334,7 +324,7 @@ impl Server {
     }
 
     /// The connection of two ends gives way, where it is half open.
-    #[tactic(auto, unfolding(crate::specs::Serving::yields))]
+    #[tactic(auto, unfolding(crate::specs::Serving::yields, crate::specs::Serving::yields_at))]
     fn yield_place(&mut self, tuple: &Tuple)
         ensures yields { self.new ≡ yields tuple.now self.old }
         ensures new { (t : Tuple) → IsNew t self.old.conns → IsNew t self.new.conns }

@@ -137,16 +137,7 @@ pub(crate) fn take_at(
         ++ sent_by tuple.now (receives (service_of seg.now.dst_port) now iss seg.now text.now (conn_at place table.old.entries))) }
 {
     let (_, conn) = table.pair_mut(place);
-    let judged = conn.judged(now, seg, text);
-    conn.take(
-        alloc,
-        judged,
-        Service::of(seg.dst_port),
-        now,
-        iss,
-        seg,
-        text,
-    )?;
+    let judged = conn.take(alloc, Service::of(seg.dst_port), now, iss, seg, text)?;
     conn.send(alloc, tuple, out)?;
     settle(table, place);
     Ok(judged)

@@ -102,10 +102,12 @@ fn address_of(word: &str) -> Option<Addr>
 fn number(word: &str) -> Option<u32>
     ensures { result ≡ number word.now }
 {
-    if is_number(word) {
-        word.parse::<u32>().ok()
-    } else {
-        None
+    if !is_number(word) {
+        return None;
+    }
+    match word.parse::<u32>() {
+        Ok(value) => Some(value),
+        Err(_) => None,
     }
 }
 
