@@ -1,4 +1,5 @@
 pub mod NumberLemmas
+pub mod ConnLemmas
 pub mod TableLemmas
 pub mod PlaceLemmas
 pub mod TurnLemmas
