@@ -4,6 +4,7 @@ pub mod TableLemmas
 pub mod PlaceLemmas
 pub mod TurnLemmas
 pub mod ReachLemmas
+pub mod ServerLemmas
 pub mod LawLemmas
 pub mod SentLemmas
 pub mod FrameLemmas

@@ -66,7 +66,8 @@ pub(crate) fn drop_over(table: &mut Table)
 /// From a table that is full all leave that are idle.
 #[tactic(auto, unfolding(crate::specs::Table::without_idle))]
 pub(crate) fn drop_idle(table: &mut Table, places: usize, now: u64, limit: u64)
-    ensures { table.new.entries ≡ without_idle places now limit table.old.entries }
+    ensures table { table.new.entries ≡ without_idle places now limit table.old.entries }
+    ensures fewer { length table.new.entries ≤ length table.old.entries }
 {
     if table.len() >= places {
         table.retain(|_, conn| !conn.is_idle(now, limit));

@@ -4,9 +4,9 @@ use Rattle.live_server.specs.Acts.{is_idle}
 use Rattle.live_server.specs.Table.{Conns, without_idle}
 use Rattle.live_server.proofs.table.drop_idle.Goals as goal
 
-pub returns-then-len-places : goal.returns-then-len-places
+pub returns-then-len-places-clause-table : goal.returns-then-len-places-clause-table
 unfolding without_idle
-returns-then-len-places c =
+returns-then-len-places-clause-table c =
     let cs = c.args.table.now.entries in
     let full : nat_lt (length cs) c.args.places ≡ false = le-ltb (length cs) c.args.places (search rules) in
     filter-RetainsPairs _ _ _ (λ k v b w g call. search rules) _ _ c.retain.ensures.filtered
