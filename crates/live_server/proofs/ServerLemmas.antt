@@ -1,5 +1,5 @@
 -- The server's state after a step of its code. `here` is the state as its fields give it.
-use Rattle.std.proofs.Common.{◌≡◌, ℕ, ◌≤◌, Bool, true, false, cond, List, [], ◌∷◌, ◌++◌, length, Option, None, Some, refl, sym, ap, subst, ◌∙◌}
+use Rattle.std.proofs.Common.{◌≡◌, ℕ, ◌<◌, Bool, true, false, cond, List, [], ◌∷◌, ◌++◌, length, Option, None, Some, refl, sym, ap, subst, ◌∙◌, arith}
 use Rattle.std.specs.Option.{option_map_or}
 use Rattle.indexmap.specs.IndexMap.{insert_entry}
 use Rattle.sq_base.specs.declared.kinds.Tuple.{Tuple}
@@ -62,3 +62,10 @@ goes_on_yielding t ts sv next full front is =
     ∙ ap (λ l. yielding l (yields t (record sv { waiting = ts }))) (waiting_kept t (record sv { waiting = ts }) (place_of t sv.conns) refl)
     ∙ ap (λ b. cond b sv (yielding ts (yields t (record sv { waiting = ts })))) (sym full)
     ∙ ap (λ l. yielding l sv) (sym front)
+
+pub fewer_wait : (t : Tuple) (ts : List Tuple) (sv next : ServerOf) → sv.waiting ≡ t ∷ ts → next ≡ yields t (record sv { waiting = ts }) → length next.waiting < length sv.waiting
+fewer_wait t ts sv next front is =
+    let a = ap (λ (s : ServerOf). length s.waiting) is in
+    let b = ap (λ (l : List Tuple). length l) (waiting_kept t (record sv { waiting = ts }) (place_of t sv.conns) refl) in
+    let d = ap (λ (l : List Tuple). length l) front in
+    omega (arith, a, b, d)
