@@ -27,6 +27,12 @@ CLONE_NEWNET, F_SETPIPE_SZ = 0x40000000, 1031
 CLIENT, SERVER, SECRET = "10.9.0.1", "10.9.0.2", "000102030405060708090a0b0c0d0e0f"
 
 
+def frames_words(**setting):
+    """The words of a run over frames, whose network is that of the client."""
+    network = ipaddress.ip_interface(CLIENT + "/24").network
+    return ["frames", SECRET, *launcher.setting(ipaddress.ip_address(SERVER), network.broadcast_address, **setting)]
+
+
 def new_namespace():
     """A network namespace of this process's own, with its loopback on."""
     libc = ctypes.CDLL(None, use_errno=True)
@@ -67,7 +73,7 @@ class Wire:
         self.device = launcher.open_device("wire0")
         launcher.set_up("wire0", ipaddress.ip_interface(CLIENT + "/24"), mtu)
         os.set_blocking(self.device, False)
-        self.child = subprocess.Popen([program, "frames", SECRET, str(places)], stdin=subprocess.PIPE, stdout=subprocess.PIPE, bufsize=0)
+        self.child = subprocess.Popen([program, *frames_words(places=places)], stdin=subprocess.PIPE, stdout=subprocess.PIPE, bufsize=0)
         self.into, self.out_of = self.child.stdin.fileno(), self.child.stdout.fileno()
         for pipe in (self.into, self.out_of):
             os.set_blocking(pipe, False)

@@ -5,3 +5,4 @@ pub mod JoinLemmas
 pub mod QueueLemmas
 pub mod PlaceLemmas
 pub mod WholeLemmas
+pub mod HeldLemmas

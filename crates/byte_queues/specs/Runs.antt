@@ -11,6 +11,11 @@ abbrev pub cells_from : ℕ → List Run → Cells
 cells_from at [] = []
 cells_from at (r ∷ rs) = gap (r.start - at) (held r.bytes (cells_from (r.start + length r.bytes) rs))
 
+-- how many bytes they have
+abbrev pub held_of : List Run → ℕ
+held_of [] = 0
+held_of (r ∷ rs) = length r.bytes + held_of rs
+
 -- runs with bytes, from one position on and below another, with a gap between each two
 abbrev pub IsSpaced : ℕ → ℕ → List Run → Type 0
 IsSpaced low high [] = low ≤ high

@@ -4,10 +4,10 @@
 
 ghost use Rattle.std.specs.Prelude.{◌≡◌, ◌+◌, ◌-◌, ◌^◌, ◌<◌, ◌≤◌, length, None, Some, min, ◌==◌, ◌||◌, nat_lt, IfOk, OnOk, OnErr, slice_get, false, true};
 ghost use Rattle.byte_queues.specs.ReceiveQueue.{Recv, empty_recv, next_of, front, window_of, ready_of, is_ended, runs, runs_of};
-ghost use Rattle.byte_queues.specs.ReceiveQueue.{placed, placed_as, laid, up_to, next_bytes, without, with_cap, with_end};
+ghost use Rattle.byte_queues.specs.ReceiveQueue.{bytes, placed, placed_as, laid, up_to, next_bytes, without, with_cap, with_end};
 ghost use Rattle.byte_queues.specs.Limits.{most_runs, position_limit};
 
-use crate::run::{Run, drop_front, front, join, runs_before, runs_touched};
+use crate::run::{Run, drop_front, front, held_in, join, runs_before, runs_touched};
 use sq_base::Octets;
 use std::alloc::{AllocError, Global};
 use std::marker::Model;
@@ -179,6 +179,15 @@ impl RecvQueue {
         ensures { result ≡ self.now.taken }
     {
         self.taken
+    }
+
+    /// How many bytes are held, behind a gap too.
+    #[tactic(auto, using(crate::proofs::HeldLemmas::held_below, crate::proofs::HeldLemmas::held_bytes))]
+    pub fn held(&self) -> u64
+        ensures is { result ≡ length (bytes self.now.got) }
+        ensures most { result < 2 ^ 33 }
+    {
+        held_in(&self.runs)
     }
 
     /// How many bytes can be taken.

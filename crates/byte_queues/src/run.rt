@@ -1,7 +1,7 @@
 //! A run of neighbouring positions that are held, and how a text joins runs.
 
 ghost use Rattle.std.specs.Prelude.{◌≡◌, ◌+◌, ◌-◌, ◌^◌, ◌<◌, ◌≤◌, length, drop, min, All, IfOk, OnOk, OnErr, vec_len, slice_set, slice_range};
-ghost use Rattle.byte_queues.specs.Runs.{end_of, count_before, count_up_to, part, fill, front_of, dropped, joined, joined_run, IsSpaced};
+ghost use Rattle.byte_queues.specs.Runs.{held_of, end_of, count_before, count_up_to, part, fill, front_of, dropped, joined, joined_run, IsSpaced};
 
 use crate::buffer::Buffer;
 use std::alloc::{AllocError, Global};
@@ -46,6 +46,20 @@ pub fn runs_touched(runs: &[Run], first: usize, stop: u64) -> usize
         n += 1;
     }
     n
+}
+
+/// How many bytes runs have.
+pub fn held_in(runs: &[Run]) -> u64
+    requires { held_of runs.now < 2 ^ 64 }
+    ensures { result ≡ held_of runs.now }
+{
+    let mut sum = 0;
+    let mut rest = runs;
+    while let [run, others @ ..] = rest {
+        sum += run.bytes.len() as u64;
+        rest = others;
+    }
+    sum
 }
 
 /// What a text at `at` has from one position up to another.

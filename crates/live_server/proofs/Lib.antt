@@ -1,7 +1,11 @@
 pub mod NumberLemmas
+pub mod ConnLemmas
 pub mod TableLemmas
+pub mod PlaceLemmas
 pub mod TurnLemmas
+pub mod ReachLemmas
 pub mod ServerLemmas
-pub mod ReadLemmas
+pub mod LawLemmas
+pub mod SentLemmas
 pub mod FrameLemmas
 pub mod PieceLemmas

@@ -1,88 +1,71 @@
--- The server's state after a write to its table. `here` is the state as its fields give it.
-use Rattle.std.proofs.Common.{◌≡◌, ℕ, ◌+◌, ◌≤◌, List, [], ◌∷◌, ◌++◌, length, take, slice_get, Some, sym, ap, subst, ◌∙◌, add-one, append_assoc}
-use Rattle.std.specs.List.{flat_map}
+-- The server's state after a step of its code. `here` is the state as its fields give it.
+use Rattle.std.proofs.Common.{◌≡◌, ℕ, ◌<◌, Bool, true, false, cond, List, [], ◌∷◌, ◌++◌, length, Option, None, Some, refl, sym, ap, subst, ◌∙◌, arith}
 use Rattle.std.specs.Option.{option_map_or}
-use Rattle.echo_services.specs.Pump.{service_of}
-use Rattle.indexmap.specs.IndexMap.{insert_entry, set_value_at}
-use Rattle.segment_codec.specs.Refusal.{tuple_of}
-use Rattle.segment_codec.specs.declared.packet.Seg.{Seg}
+use Rattle.indexmap.specs.IndexMap.{insert_entry}
 use Rattle.sq_base.specs.declared.kinds.Tuple.{Tuple}
-use Rattle.tcb_machine.specs.BlockState.{Block, new_block}
-use Rattle.live_server.specs.Acts.{emptied, reaches, receives, sent_by}
-use Rattle.live_server.specs.Initial.{number_for}
-use Rattle.live_server.specs.Serving.{Outcome, ServerOf, goes_on, on_segment, on_time, opens}
-use Rattle.live_server.specs.Table.{Conns, block_at, place_of, tuple_eq, IsNew}
+use Rattle.live_server.specs.Acts.{emptied, is_half_open, reached, sent_by}
+use Rattle.live_server.specs.Counting.{more}
+use Rattle.live_server.specs.Serving.{Outcome, ServerOf, becomes, gives_way, has_place, makes_place, sends_nothing, takes_free, takes_place, time_to, turns_away, yielding, yields, yields_at}
+use Rattle.live_server.specs.Table.{Conns, conn_at, place_of, replaced, tuple_eq, without_idle, IsNew}
 use Rattle.live_server.specs.declared.acting.Datagram.{Datagram}
+use Rattle.live_server.specs.declared.conn.Conn.{Conn}
 use Rattle.live_server.proofs.TableLemmas.{appended}
-use Rattle.live_server.proofs.TurnLemmas.{all_turned, next_entry, part_turned, told_all, told_more, turn}
 
--- a new connection joins
-pub joined : (here sv : ServerOf) (t : Tuple) (b : Block) (es : Conns) → here ≡ sv → IsNew t sv.conns → es ≡ insert_entry tuple_eq here.conns t b
-    → record here { conns = es } ≡ record sv { conns = sv.conns ++ (t, b) ∷ [] }
-joined here sv t b es is new inserted =
-    ap (λ (l : Conns). record here { conns = l }) (inserted ∙ appended t b here.conns (subst (λ (s : ServerOf). IsNew t s.conns) (sym is) new))
-    ∙ ap (λ (s : ServerOf). record s { conns = s.conns ++ (t, b) ∷ [] }) is
+-- the time comes to the connection at a place
+module _ (now : ℕ) (t : Tuple) (sv here : ServerOf) (is : here ≡ sv) (i : ℕ) (at : place_of t here.conns ≡ Some i) where
+  timed : time_to now t here ≡ becomes i t (reached now (conn_at i here.conns)) here
+  unfolding time_to
+  timed = ap (λ o. option_map_or (λ j. becomes j t (reached now (conn_at j here.conns)) here) o (sends_nothing here)) at
 
--- a segment of a connection that has a place
-module _ (now : ℕ) (s : Seg) (text : List ℕ) (sv : ServerOf) (place : ℕ) (k : Tuple) (v : Block) where
-  abbrev after : Block → Block
-  after b = receives (service_of s.dst_port) now (number_for sv.secret now s) s text b
+  pub timed_server : (new : Conns) → new ≡ replaced i (reached now (conn_at i here.conns)) here.conns → record here { conns = new } ≡ (time_to now t sv).server
+  unfolding becomes
+  timed_server new e =
+      ap (λ (l : Conns). record here { conns = l }) e ∙ ap (λ (o : Outcome). o.server) (sym timed) ∙ ap (λ (s : ServerOf). (time_to now t s).server) is
 
-  pub continued : place_of (tuple_of s) sv.conns ≡ Some place → slice_get sv.conns place ≡ Some (k, v) → goes_on place (tuple_of s) (after v) sv ≡ on_segment now s text sv
-  unfolding on_segment
-  continued found at =
-      ap (λ b. goes_on place (tuple_of s) (after b) sv) (sym (ap (λ o. option_map_or (λ c. c.1) o new_block) at))
-      ∙ ap (λ o. option_map_or (λ i. goes_on i (tuple_of s) (after (block_at i sv.conns)) sv) o (opens (tuple_of s) (after new_block) sv)) (sym found)
+  pub timed_sent : (before after : List Datagram) → after ≡ before ++ sent_by t (reached now (conn_at i here.conns)) → after ≡ before ++ (time_to now t sv).sent
+  unfolding becomes
+  timed_sent before after e =
+      e ∙ ap (λ l. before ++ l) (ap (λ (o : Outcome). o.sent) (sym timed) ∙ ap (λ (s : ServerOf). (time_to now t s).sent) is)
 
-  pub gone_on : (here : ServerOf) (b kept : Block) → here ≡ sv → place_of (tuple_of s) here.conns ≡ Some place → slice_get here.conns place ≡ Some (k, v)
-      → b ≡ after v → kept ≡ emptied b → record here { conns = set_value_at here.conns place kept } ≡ (on_segment now s text sv).server
-  unfolding goes_on
-  gone_on here b kept is found at is_after is_kept =
-      ap (λ (w : Block). record here { conns = set_value_at here.conns place w }) (is_kept ∙ ap emptied is_after)
-      ∙ ap (λ (h : ServerOf). record h { conns = set_value_at h.conns place (emptied (after v)) }) is
-      ∙ ap (λ (o : Outcome). o.server) (continued (ap (λ (h : ServerOf). place_of (tuple_of s) h.conns) (sym is) ∙ found) (ap (λ (h : ServerOf). slice_get h.conns place) (sym is) ∙ at))
+-- a connection takes a place
+module _ (t : Tuple) (c : Conn) (sv here : ServerOf) (is : here ≡ sv) (free : has_place sv ≡ true) (new : IsNew t sv.conns) where
+  pub took : (kept : Conn) (entries : Conns) (waiting : List Tuple) → kept ≡ emptied c → entries ≡ insert_entry tuple_eq here.conns t kept → waiting ≡ here.waiting ++ t ∷ []
+      → record here { conns = entries; waiting = waiting; counts = record here.counts { opened = more 1 here.counts.opened } } ≡ (takes_place t c sv).server
+  unfolding takes_place
+  took kept entries waiting is_kept inserted pushed =
+      (λ j. record here { conns = inserted j; waiting = pushed j; counts = record here.counts { opened = more 1 here.counts.opened } })
+      ∙ (λ j. record (is j) { conns = insert_entry tuple_eq (is j).conns t (is_kept j); waiting = (is j).waiting ++ t ∷ []; counts = record (is j).counts { opened = more 1 (is j).counts.opened } })
+      ∙ (λ j. record sv { conns = appended t (emptied c) sv.conns new j; waiting = sv.waiting ++ t ∷ []; counts = record sv.counts { opened = more 1 sv.counts.opened } })
+      ∙ ap (λ b. (cond b (takes_free t c sv) (turns_away sv)).server) (sym free)
 
-  pub said_on : (here : ServerOf) (b : Block) → here ≡ sv → place_of (tuple_of s) here.conns ≡ Some place → slice_get here.conns place ≡ Some (k, v)
-      → b ≡ after v → sent_by (tuple_of s) b ≡ (on_segment now s text sv).sent
-  unfolding goes_on
-  said_on here b is found at is_after =
-      ap (sent_by (tuple_of s)) is_after
-      ∙ ap (λ (o : Outcome). o.sent) (continued (ap (λ (h : ServerOf). place_of (tuple_of s) h.conns) (sym is) ∙ found) (ap (λ (h : ServerOf). slice_get h.conns place) (sym is) ∙ at))
+-- half-open connections give way
+pub stops : (ts : List Tuple) (sv : ServerOf) → has_place sv ≡ true → sv ≡ yielding ts sv
+stops [] sv e = refl
+stops (t ∷ ts) sv e = ap (λ b. cond b sv (yielding ts (yields t (record sv { waiting = ts })))) (sym e)
 
--- the time comes to one block after another
-module _ (now : ℕ) (sv : ServerOf) where
-  abbrev reached : Block → Block
-  reached b = emptied (reaches now b)
+pub empties : (sv : ServerOf) → sv.waiting ≡ [] → sv ≡ makes_place sv
+empties sv e = ap (λ ts. yielding ts sv) (sym e)
 
-  abbrev told : Tuple × Block → List Datagram
-  told c = sent_by c.0 (reaches now c.1)
+kept_at : (i : ℕ) (sv : ServerOf) (b : Bool) → is_half_open (conn_at i sv.conns) ≡ b → (yields_at i sv).waiting ≡ sv.waiting
+unfolding yields_at
+kept_at i sv true e = ap (λ b. (cond b (gives_way i sv) sv).waiting) e
+kept_at i sv false e = ap (λ b. (cond b (gives_way i sv) sv).waiting) e
 
-  abbrev pub halfway : ℕ → ServerOf
-  halfway i = record sv { conns = part_turned reached i sv.conns }
+waiting_kept : (t : Tuple) (sv : ServerOf) (r : Option ℕ) → place_of t sv.conns ≡ r → (yields t sv).waiting ≡ sv.waiting
+unfolding yields
+waiting_kept t sv None at = ap (λ o. (option_map_or (λ i. yields_at i sv) o sv).waiting) at
+waiting_kept t sv (Some i) at = ap (λ o. (option_map_or (λ j. yields_at j sv) o sv).waiting) at ∙ kept_at i sv (is_half_open (conn_at i sv.conns)) refl
 
-  abbrev pub told_until : ℕ → List Datagram
-  told_until i = flat_map told (take i sv.conns)
+pub goes_on_yielding : (t : Tuple) (ts : List Tuple) (sv next : ServerOf) → has_place sv ≡ false → sv.waiting ≡ t ∷ ts → next ≡ yields t (record sv { waiting = ts }) → makes_place next ≡ makes_place sv
+goes_on_yielding t ts sv next full front is =
+    ap makes_place is
+    ∙ ap (λ l. yielding l (yields t (record sv { waiting = ts }))) (waiting_kept t (record sv { waiting = ts }) (place_of t sv.conns) refl)
+    ∙ ap (λ b. cond b sv (yielding ts (yields t (record sv { waiting = ts })))) (sym full)
+    ∙ ap (λ l. yielding l sv) (sym front)
 
-  module _ (i : ℕ) (here : ServerOf) (is : here ≡ halfway i) where
-    module _ (k : Tuple) (v b : Block) (at : slice_get here.conns i ≡ Some (k, v)) (is_reached : b ≡ reaches now v) where
-      at_first : slice_get sv.conns i ≡ Some (k, v)
-      at_first = sym (next_entry reached sv.conns i) ∙ sym (ap (λ (h : ServerOf). slice_get h.conns i) is) ∙ at
-
-      pub one_turn : (kept : Block) → kept ≡ emptied b → record here { conns = set_value_at here.conns i kept } ≡ halfway (i + 1)
-      one_turn kept is_kept =
-          ap (λ (w : Block). record here { conns = set_value_at here.conns i w }) (is_kept ∙ ap emptied is_reached)
-          ∙ ap (λ (h : ServerOf). record h { conns = set_value_at h.conns i (reached v) }) is
-          ∙ ap (λ (l : Conns). record sv { conns = l }) (turn reached sv.conns i k v at_first ∙ ap (λ n. part_turned reached n sv.conns) (sym (add-one i)))
-
-      pub one_told : (start before after : List Datagram) → before ≡ start ++ told_until i → after ≡ before ++ sent_by k b → after ≡ start ++ told_until (i + 1)
-      one_told start before after so_far more =
-          more ∙ ap (λ l. l ++ sent_by k b) so_far ∙ append_assoc start (told_until i) (sent_by k b)
-          ∙ ap (λ l. start ++ l) (ap (λ x. told_until i ++ sent_by k x) is_reached ∙ sym (told_more told sv.conns i (k, v) at_first) ∙ ap told_until (sym (add-one i)))
-
-    pub all_reached : length sv.conns ≤ i → here ≡ (on_time now sv).server
-    unfolding on_time
-    all_reached past = is ∙ ap (λ (l : Conns). record sv { conns = l }) (all_turned reached sv.conns i past)
-
-  pub all_told : (i : ℕ) (start out : List Datagram) → out ≡ start ++ told_until i → length sv.conns ≤ i → out ≡ start ++ (on_time now sv).sent
-  unfolding on_time
-  all_told i start out so_far past = so_far ∙ ap (λ l. start ++ l) (told_all told sv.conns i past)
+pub fewer_wait : (t : Tuple) (ts : List Tuple) (sv next : ServerOf) → sv.waiting ≡ t ∷ ts → next ≡ yields t (record sv { waiting = ts }) → length next.waiting < length sv.waiting
+fewer_wait t ts sv next front is =
+    let a = ap (λ (s : ServerOf). length s.waiting) is in
+    let b = ap (λ (l : List Tuple). length l) (waiting_kept t (record sv { waiting = ts }) (place_of t sv.conns) refl) in
+    let d = ap (λ (l : List Tuple). length l) front in
+    omega (arith, a, b, d)

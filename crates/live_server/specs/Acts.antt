@@ -1,16 +1,40 @@
--- What one block makes of a segment and of the time, and the datagrams of what it sends.
-use Rattle.std.specs.Prelude.{ℕ, nat_le, nat_lt, ◌&&◌, Bool, List, [], ◌∷◌, map, if◌then◌else◌}
+-- What one connection makes of a segment and of the time, and the datagrams of what it sends.
+use Rattle.std.specs.Prelude.{ℕ, ◌+◌, ◌-◌, ◌%◌, ◌^◌, ◌==◌, nat_le, nat_lt, ◌&&◌, ◌||◌, not, Bool, true, false, List, [], ◌∷◌, length, map, if◌then◌else◌}
+use Rattle.sq_base.specs.SerialOrder.{dist}
+use Rattle.byte_queues.specs.Limits.{send_space}
 use Rattle.byte_queues.specs.ReceiveQueue.{next_of}
-use Rattle.echo_services.specs.Serving.{serves, segment, time}
+use Rattle.echo_services.specs.Serving.{serves, segment}
 use Rattle.echo_services.specs.declared.service.Service.{Service}
+use Rattle.segment_codec.specs.ControlBits.{ack, rst, syn}
 use Rattle.segment_codec.specs.SegmentBytes.{segment_bytes}
 use Rattle.segment_codec.specs.declared.packet.Reply.{Reply}
 use Rattle.segment_codec.specs.declared.packet.Seg.{Seg}
 use Rattle.sq_base.specs.declared.kinds.Tuple.{Tuple}
-use Rattle.tcb_machine.specs.BlockState.{Block, offered}
-use Rattle.tcb_machine.specs.Timers.{tcp_time}
-use Rattle.live_server.specs.declared.acting.Datagram.{Datagram}
+use Rattle.tcb_machine.specs.BlockState.{Block, has, new_block, offered, sends_ack, snd_nxt}
+use Rattle.tcb_machine.specs.Challenges.{is_challenged, is_syn_received}
 use Rattle.tcb_machine.specs.Limits.{most_streamed}
+use Rattle.tcb_machine.specs.States.{is_listen}
+use Rattle.tcb_machine.specs.Timers.{tcp_time}
+use Rattle.live_server.specs.Limits.{challenge_interval}
+use Rattle.live_server.specs.declared.acting.Datagram.{Datagram}
+use Rattle.live_server.specs.declared.conn.Conn.{Conn}
+use Rattle.live_server.specs.declared.conn.Judged.{Judged}
+use Rattle.live_server.specs.declared.conn.Judged.TheVariants.{Challenged, Late, Taken, Unanswered}
+
+-- a connection that nothing is known of
+abbrev pub new_conn : ℕ → Conn
+new_conn now = record { tcb = new_block; heard = now; quiet_until = 0 }
+
+-- a connection is over, or half open
+abbrev pub is_over : Conn → Bool
+is_over c = is_listen c.tcb.state
+
+abbrev pub is_half_open : Conn → Bool
+is_half_open c = is_syn_received c.tcb.state
+
+-- nothing came from it for so long
+abbrev pub is_idle : ℕ → ℕ → Conn → Bool
+is_idle now limit c = nat_le limit (now - c.heard)
 
 -- fewer than 2^61 bytes of either stream have come
 abbrev pub has_room : Block → Bool
@@ -20,21 +44,54 @@ has_room b = nat_lt (next_of b.recv) most_streamed && nat_lt (offered b) most_st
 abbrev pub takes : ℕ → Block → Bool
 takes now b = nat_le b.clock now && has_room b
 
--- the time comes, so that the deadlines before the segment fire, and then the segment; one that isn't taken changes nothing
-unfoldable pub receives : Service → ℕ → ℕ → Seg → List ℕ → Block → Block
-receives service now iss s text b = if takes now b then serves service (time now ∷ segment now iss s text ∷ []) b else b
+-- SND.UNA less the most that is ever sent and not acknowledged: no acknowledgement that is older is of use
+abbrev pub oldest_ack : Block → ℕ
+oldest_ack b = (b.una + (2 ^ 32 - send_space)) % 2 ^ 32
+
+-- behind the handshake, text or FIN whose acknowledgement is neither of what was sent nor a bit older (RFC 5961, 5.2)
+unfoldable pub is_outside : Seg → Block → Bool
+is_outside s b =
+    if is_listen b.state || is_syn_received b.state then false
+    else if has s.flags rst || has s.flags syn then false
+    else has s.flags ack && nat_lt (dist (oldest_ack b) (snd_nxt b)) (dist (oldest_ack b) s.ack)
+
+-- a segment that gets a challenge, and no more than one in a while: that, and one without text, or with SYN, that the block itself
+-- would answer by an acknowledgement alone (RFC 5961, 7)
+unfoldable pub provokes : Seg → List ℕ → Block → Bool
+provokes s text b = is_outside s b || (is_challenged s text b && ((length text == 0) || has s.flags syn))
+
+-- what becomes of a segment
+unfoldable pub judged : ℕ → Seg → List ℕ → Conn → Judged
+judged now s text c =
+    if not (takes now c.tcb) then Late
+    else if not (provokes s text c.tcb) then Taken
+    else if nat_lt now c.quiet_until then Unanswered
+    else Challenged
+
+-- the block takes it, or a challenge is sent in its place, or nothing happens
+unfoldable pub after : Judged → Service → ℕ → ℕ → Seg → List ℕ → Conn → Conn
+after Taken service now iss s text c = record c { tcb = serves service (segment now iss s text ∷ []) c.tcb; heard = now }
+after Challenged service now iss s text c = record c { tcb = sends_ack c.tcb; heard = now; quiet_until = now + challenge_interval }
+after Unanswered service now iss s text c = c
+after Late service now iss s text c = c
+
+abbrev pub receives : Service → ℕ → ℕ → Seg → List ℕ → Conn → Conn
+receives service now iss s text c = after (judged now s text c) service now iss s text c
 
 -- the time comes, unless it is past
 unfoldable pub reaches : ℕ → Block → Block
 reaches now b = if nat_le b.clock now then tcp_time now b else b
 
+abbrev pub reached : ℕ → Conn → Conn
+reached now c = record c { tcb = reaches now c.tcb }
+
 -- what was sent leaves the block
-unfoldable pub emptied : Block → Block
-emptied b = record b { replies = [] }
+unfoldable pub emptied : Conn → Conn
+emptied c = record c { tcb = record c.tcb { replies = [] } }
 
 abbrev pub datagram_of : Tuple → Reply → Datagram
 datagram_of t r = record { at = r.at; bytes = segment_bytes t r }
 
 -- the datagrams of what it sent
-abbrev pub sent_by : Tuple → Block → List Datagram
-sent_by t b = map (datagram_of t) b.replies
+abbrev pub sent_by : Tuple → Conn → List Datagram
+sent_by t c = map (datagram_of t) c.tcb.replies

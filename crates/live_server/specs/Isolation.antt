@@ -1,31 +1,50 @@
--- A segment to a service changes the block of its own connection, and leaves those of others alone.
-use Rattle.std.specs.Prelude.{◌≡◌, ℕ, ◌<◌, ◌⊎◌, true, false, List, length, remove, slice_get, Option, Some, IfSome}
-use Rattle.std.specs.Map.{lookup}
+-- What holds of every table, and what a segment does to others.
+use Rattle.std.specs.Prelude.{◌≡◌, ℕ, ◌≤◌, ◌⊎◌, true, false, List, length, All, Option, None, Some, IfSome, if◌then◌else◌}
+use Rattle.std.specs.List.{IsDistinct}
+use Rattle.std.specs.Map.{keys_of, lookup}
 use Rattle.echo_services.specs.Pump.{service_of}
 use Rattle.segment_codec.specs.Refusal.{tuple_of}
+use Rattle.segment_codec.specs.declared.packet.Reply.{Reply}
 use Rattle.segment_codec.specs.declared.packet.Seg.{Seg}
 use Rattle.sq_base.specs.declared.kinds.Tuple.{Tuple}
-use Rattle.tcb_machine.specs.BlockState.{Block}
-use Rattle.live_server.specs.Acts.{emptied, receives}
+use Rattle.live_server.specs.Acts.{datagram_of, emptied, is_half_open, is_over, reached, receives}
 use Rattle.live_server.specs.Initial.{number_for}
-use Rattle.live_server.specs.Serving.{ServerOf, on_segment}
-use Rattle.live_server.specs.Table.{Conns, is_half_open, is_over, tuple_eq, with_place, IsNew}
+use Rattle.live_server.specs.Serving.{ServerOf, on_segment, on_time}
+use Rattle.live_server.specs.Table.{tuple_eq}
+use Rattle.live_server.specs.declared.acting.Datagram.{Datagram}
+use Rattle.live_server.specs.declared.conn.Conn.{Conn}
 
--- the block of a connection, where it has one
-abbrev pub block_of : Tuple → ServerOf → Option Block
-block_of t sv = lookup (tuple_eq t) sv.conns
+-- each connection stands once, and there are no more than there are places
+pub record IsTable (sv : ServerOf) : Type 0 where
+  pub once : IsDistinct tuple_eq (keys_of sv.conns)
+  pub bounded : length sv.conns ≤ sv.setting.places
 
--- the block of the segment's connection becomes what the definition of an act makes of it
-abbrev pub OwnBlockActs : Type 0
-OwnBlockActs = (now : ℕ) (s : Seg) (text : List ℕ) (sv : ServerOf) (b : Block) → block_of (tuple_of s) sv ≡ Some b
-    → block_of (tuple_of s) (on_segment now s text sv).server ≡ Some (emptied (receives (service_of s.dst_port) now (number_for sv.secret now s) s text b))
+-- a segment and the time keep that
+abbrev pub SegmentKeepsTable : Type 0
+SegmentKeepsTable = (now : ℕ) (s : Seg) (text : List ℕ) (sv : ServerOf) → IsTable sv → IsTable (on_segment now s text sv).server
 
--- every other block stays, unless the segment opens a connection in a full table
+abbrev pub TimeKeepsTable : Type 0
+TimeKeepsTable = (now : ℕ) (sv : ServerOf) → IsTable sv → IsTable (on_time now sv).server
+
+-- the connection of two ends, where the table has it
+abbrev pub conn_of : Tuple → ServerOf → Option Conn
+conn_of t sv = lookup (tuple_eq t) sv.conns
+
+-- a connection as it stands in the table, where it isn't over
+abbrev pub kept_as : Conn → Option Conn
+kept_as c = if is_over c then None else Some (emptied c)
+
+-- the segment's own connection becomes what the definition of an act makes of it, after the time came to it
+abbrev pub OwnConnActs : Type 0
+OwnConnActs = (now : ℕ) (s : Seg) (text : List ℕ) (sv : ServerOf) (c : Conn) → IsTable sv → conn_of (tuple_of s) sv ≡ Some c → is_over (reached now c) ≡ false
+    → conn_of (tuple_of s) (on_segment now s text sv).server ≡ kept_as (receives (service_of s.dst_port) now (number_for sv.secret now s) s text (emptied (reached now c)))
+
+-- every other connection stays as it is, but for one that is half open, which may leave
 abbrev pub OthersStay : Type 0
-OthersStay = (now : ℕ) (s : Seg) (text : List ℕ) (sv : ServerOf) (other : Tuple) → tuple_eq other (tuple_of s) ≡ false
-    → (IsNew (tuple_of s) sv.conns → length sv.conns < sv.places) → block_of other (on_segment now s text sv).server ≡ block_of other sv
+OthersStay = (now : ℕ) (s : Seg) (text : List ℕ) (sv : ServerOf) (other : Tuple) → IsTable sv → tuple_eq other (tuple_of s) ≡ false
+    → (conn_of other (on_segment now s text sv).server ≡ conn_of other sv)
+    ⊎ ((conn_of other (on_segment now s text sv).server ≡ None) × IfSome (conn_of other sv) (λ c. is_half_open c ≡ true))
 
--- from a full table one connection leaves at most, and only one that is over or half open
-abbrev pub OnlyIdleLeave : Type 0
-OnlyIdleLeave = (places : ℕ) (cs left : Conns) → with_place places cs ≡ Some left → (left ≡ cs)
-    ⊎ ((place : ℕ) × (left ≡ remove cs place) × IfSome (slice_get cs place) (λ c. (is_over c.1 ≡ true) ⊎ (is_half_open c.1 ≡ true)))
+-- what is sent for a segment goes to its own ends
+abbrev pub AnswersItsEnds : Type 0
+AnswersItsEnds = (now : ℕ) (s : Seg) (text : List ℕ) (sv : ServerOf) → All (λ (d : Datagram). (r : Reply) × (d ≡ datagram_of (tuple_of s) r)) (on_segment now s text sv).sent

@@ -1,6 +1,8 @@
 pub mod Limits
 pub mod Initial
+pub mod Addresses
 pub mod Acts
+pub mod Counting
 pub mod Table
 pub mod Serving
 pub mod Isolation

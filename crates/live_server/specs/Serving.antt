@@ -1,30 +1,35 @@
 -- What a server makes of a datagram and of the time.
-use Rattle.std.specs.Prelude.{ℕ, ◌+◌, ◌%◌, ◌^◌, true, List, [], ◌∷◌, ◌++◌, map, if◌then◌else◌}
+use Rattle.std.specs.Prelude.{ℕ, ◌-◌, nat_lt, ◌&&◌, not, Bool, true, List, [], ◌∷◌, ◌++◌, length, if◌then◌else◌}
 use Rattle.std.specs.List.{flat_map}
 use Rattle.std.specs.Option.{option_map_or}
 use Rattle.echo_services.specs.Pump.{service_of}
-use Rattle.indexmap.specs.IndexMap.{set_value_at}
 use Rattle.segment_codec.specs.Packet.{packet_in}
 use Rattle.segment_codec.specs.Refusal.{refusal_of, tuple_of}
 use Rattle.segment_codec.specs.SentIsRead.{text_in}
 use Rattle.segment_codec.specs.declared.packet.Packet.{Packet}
 use Rattle.segment_codec.specs.declared.packet.Packet.TheVariants as packet
 use Rattle.segment_codec.specs.declared.packet.Seg.{Seg}
+use Rattle.sq_base.specs.Ports.{is_served_port}
 use Rattle.sq_base.specs.declared.kinds.Link.TheVariants.{RawIp}
 use Rattle.sq_base.specs.declared.kinds.Tuple.{Tuple}
-use Rattle.tcb_machine.specs.BlockState.{Block, new_block}
-use Rattle.live_server.specs.Acts.{datagram_of, emptied, reaches, receives, sent_by}
+use Rattle.live_server.specs.Acts.{datagram_of, emptied, is_half_open, is_over, judged, new_conn, reached, receives, sent_by}
+use Rattle.live_server.specs.Addresses.{is_for_us}
+use Rattle.live_server.specs.Counting.{counting_judged, more}
 use Rattle.live_server.specs.Initial.{number_for}
-use Rattle.live_server.specs.Table.{Conns, block_at, is_over, place_of, with_place}
+use Rattle.live_server.specs.Table.{Conns, all_reached, conn_at, place_of, replaced, without, without_idle, without_over}
 use Rattle.live_server.specs.declared.acting.Datagram.{Datagram}
-use Rattle.sq_base.specs.Ports.{is_served_port}
+use Rattle.live_server.specs.declared.conn.Conn.{Conn}
+use Rattle.live_server.specs.declared.conn.Judged.{Judged}
+use Rattle.live_server.specs.declared.counts.Counts.{Counts}
+use Rattle.live_server.specs.declared.setting.Setting.{Setting}
 
--- the connections in the order in which they were opened, how many the table has place for, and how many found none
+-- the connections; the ends of those that were opened last, which may be half open, by age; what it was started with; what it met
 pub record ServerOf : Type 0 where
   pub conns : Conns
-  pub places : ℕ
+  pub waiting : List Tuple
+  pub setting : Setting
   pub secret : List ℕ
-  pub turned_away : ℕ
+  pub counts : Counts
 
 -- what becomes of a server, and what it sends
 pub record Outcome : Type 0 where
@@ -34,44 +39,117 @@ pub record Outcome : Type 0 where
 abbrev pub sends_nothing : ServerOf → Outcome
 sends_nothing sv = record { server = sv; sent = [] }
 
--- the block at a place has become b
-unfoldable pub goes_on : ℕ → Tuple → Block → ServerOf → Outcome
-goes_on place t b sv = record { server = record sv { conns = set_value_at sv.conns place (emptied b) }; sent = sent_by t b }
+abbrev pub judging : Judged → ServerOf → ServerOf
+judging j sv = record sv { counts = counting_judged j sv.counts }
 
--- a connection that had no place, whose block is b: it takes one, unless it is over at once; where none is free it is answered by nothing
-unfoldable pub opens : Tuple → Block → ServerOf → Outcome
-opens t b sv =
-    if is_over b then record { server = sv; sent = sent_by t b }
-    else option_map_or (λ cs. record { server = record sv { conns = cs ++ (t, emptied b) ∷ [] }; sent = sent_by t b })
-    (with_place sv.places sv.conns) (sends_nothing (record sv { turned_away = (sv.turned_away + 1) % 2 ^ 64 }))
+-- the connection at a place becomes c, which leaves where it is over
+unfoldable pub becomes : ℕ → Tuple → Conn → ServerOf → Outcome
+becomes place t c sv = record { server = record sv { conns = replaced place c sv.conns }; sent = sent_by t c }
 
--- a segment to a service: the block of its connection, or a new one, receives it
+-- the time comes to the connection of two ends, where there is one
+unfoldable pub time_to : ℕ → Tuple → ServerOf → Outcome
+time_to now t sv = option_map_or (λ place. becomes place t (reached now (conn_at place sv.conns)) sv) (place_of t sv.conns) (sends_nothing sv)
+
+-- what a segment makes of a connection
+abbrev pub served : ℕ → Seg → List ℕ → ServerOf → Conn → Conn
+served now s text sv c = receives (service_of s.dst_port) now (number_for sv.secret now s) s text c
+
+-- a segment of the connection at a place
+unfoldable pub goes_on : ℕ → Seg → List ℕ → ℕ → ServerOf → Outcome
+goes_on now s text place sv =
+    let c = conn_at place sv.conns in
+    becomes place (tuple_of s) (served now s text sv c) (judging (judged now s text c) sv)
+
+-- so many places are free, of connections and of those that may be half open
+unfoldable pub has_place : ServerOf → Bool
+has_place sv = nat_lt (length sv.conns) sv.setting.places && nat_lt (length sv.waiting) sv.setting.places
+
+-- the connection at a place gives way, where it is half open
+abbrev pub gives_way : ℕ → ServerOf → ServerOf
+gives_way place sv = record sv { conns = without place sv.conns; counts = record sv.counts { gave_way = more 1 sv.counts.gave_way } }
+
+unfoldable pub yields_at : ℕ → ServerOf → ServerOf
+yields_at place sv = if is_half_open (conn_at place sv.conns) then gives_way place sv else sv
+
+-- and that of two ends, where it has a place
+unfoldable pub yields : Tuple → ServerOf → ServerOf
+yields t sv = option_map_or (λ place. yields_at place sv) (place_of t sv.conns) sv
+
+-- in a full table the oldest half-open connection gives way; and none stays half open behind as many later ones as there are places
+abbrev pub yielding : List Tuple → ServerOf → ServerOf
+yielding [] sv = sv
+yielding (t ∷ ts) sv = if has_place sv then sv else yielding ts (yields t (record sv { waiting = ts }))
+
+abbrev pub makes_place : ServerOf → ServerOf
+makes_place sv = yielding sv.waiting sv
+
+-- a connection takes a place that is free
+abbrev pub takes_free : Tuple → Conn → ServerOf → Outcome
+takes_free t c sv = record {
+  server = record sv { conns = sv.conns ++ (t, emptied c) ∷ []; waiting = sv.waiting ++ t ∷ []; counts = record sv.counts { opened = more 1 sv.counts.opened } };
+  sent = sent_by t c;
+}
+
+-- or is answered by nothing
+abbrev pub turns_away : ServerOf → Outcome
+turns_away sv = sends_nothing (record sv { counts = record sv.counts { turned_away = more 1 sv.counts.turned_away } })
+
+unfoldable pub takes_place : Tuple → Conn → ServerOf → Outcome
+takes_place t c sv = if has_place sv then takes_free t c sv else turns_away sv
+
+-- what it sent goes out, and nothing else happens
+abbrev pub sends_of : Tuple → Conn → ServerOf → Outcome
+sends_of t c sv = record { server = sv; sent = sent_by t c }
+
+-- a segment of a connection that has no place: it takes one, unless it is over at once
+unfoldable pub opens : ℕ → Seg → List ℕ → ServerOf → Outcome
+opens now s text sv =
+    let c = served now s text sv (new_conn now) in
+    if is_over c then sends_of (tuple_of s) c sv else takes_place (tuple_of s) c (makes_place sv)
+
+unfoldable pub comes : ℕ → Seg → List ℕ → ServerOf → Outcome
+comes now s text sv = option_map_or (λ place. goes_on now s text place sv) (place_of (tuple_of s) sv.conns) (opens now s text sv)
+
+-- one after the other
+abbrev pub then_sends : Outcome → (ServerOf → Outcome) → Outcome
+then_sends first next = record { server = (next first.server).server; sent = first.sent ++ (next first.server).sent }
+
+-- a segment to a service: the time comes to its connection first, so that the deadlines before it fire
 unfoldable pub on_segment : ℕ → Seg → List ℕ → ServerOf → Outcome
-on_segment now s text sv =
-    let t = tuple_of s in
-    let after = receives (service_of s.dst_port) now (number_for sv.secret now s) s text in
-    option_map_or (λ place. goes_on place t (after (block_at place sv.conns)) sv) (place_of t sv.conns) (opens t (after new_block) sv)
+on_segment now s text sv = then_sends (time_to now (tuple_of s) sv) (comes now s text)
 
 -- a segment elsewhere is answered by a reset (RFC 9293, 3.10.7.1)
 abbrev pub refused : ℕ → Seg → List Datagram
 refused now s = option_map_or (λ r. datagram_of (tuple_of s) r ∷ []) (refusal_of now s) []
 
+abbrev pub passes_over : ServerOf → Outcome
+passes_over sv = sends_nothing (record sv { counts = record sv.counts { passed_over = more 1 sv.counts.passed_over } })
+
+-- a segment: for us, and to a service, or elsewhere
+unfoldable pub addressed : ℕ → Seg → List ℕ → ServerOf → Outcome
+addressed now s text sv =
+    if not (is_for_us sv.setting s) then sends_nothing (record sv { counts = record sv.counts { astray = more 1 sv.counts.astray } })
+    else if is_served_port s.dst_port then on_segment now s text sv
+    else record { server = record sv { counts = record sv.counts { refused = more 1 sv.counts.refused } }; sent = refused now s }
+
 unfoldable pub on_packet : ℕ → List ℕ → Packet → ServerOf → Outcome
-on_packet now body (packet.Segment s) sv =
-    if is_served_port s.dst_port then on_segment now s (text_in s body) sv else record { server = sv; sent = refused now s }
-on_packet now body packet.Other sv = sends_nothing sv
-on_packet now body packet.Fragment sv = sends_nothing sv
-on_packet now body packet.Cut sv = sends_nothing sv
-on_packet now body (packet.Malformed why) sv = sends_nothing sv
-on_packet now body packet.BadSum sv = sends_nothing sv
+on_packet now body (packet.Segment s) sv = addressed now s (text_in s body) sv
+on_packet now body packet.Other sv = passes_over sv
+on_packet now body packet.Fragment sv = passes_over sv
+on_packet now body packet.Cut sv = passes_over sv
+on_packet now body (packet.Malformed why) sv = passes_over sv
+on_packet now body packet.BadSum sv = passes_over sv
 
 -- a datagram comes, and its sums are verified
 unfoldable pub on_datagram : ℕ → List ℕ → ServerOf → Outcome
 on_datagram now body sv = on_packet now body (packet_in RawIp body true) sv
 
--- the time comes to every block
+-- the time comes to every connection
 unfoldable pub on_time : ℕ → ServerOf → Outcome
-on_time now sv = record {
-  server = record sv { conns = map (λ c. (c.0, emptied (reaches now c.1))) sv.conns };
-  sent = flat_map (λ c. sent_by c.0 (reaches now c.1)) sv.conns;
-}
+on_time now sv =
+    let here = without_over (all_reached now sv.conns) in
+    let kept = without_idle sv.setting.places now sv.setting.idle here in
+    record {
+      server = record sv { conns = kept; counts = record sv.counts { idled = more (length here - length kept) sv.counts.idled } };
+      sent = flat_map (λ c. sent_by c.0 (reached now c.1)) sv.conns;
+    }

@@ -1,15 +1,14 @@
--- The table of connections: the two ends of each, with its block.
-use Rattle.std.specs.Prelude.{◌≡◌, ℕ, ◌==◌, ◌&&◌, nat_lt, Bool, true, false, List, length, position, remove, slice_get, Option, None, Some, if◌then◌else◌}
-use Rattle.std.specs.Map.{keys_of, lookup, values_of}
-use Rattle.std.specs.Option.{option_map, option_map_or, option_or}
+-- The table of connections: the two ends of each, with what is known of it.
+use Rattle.std.specs.Prelude.{◌≡◌, ℕ, ◌==◌, ◌&&◌, not, nat_lt, Bool, List, length, map, filter, position, slice_get, swap_remove, Option, None, if◌then◌else◌}
+use Rattle.std.specs.Map.{keys_of, lookup}
+use Rattle.std.specs.Option.{option_map_or}
 use Rattle.sq_base.specs.declared.kinds.Tuple.{Tuple}
-use Rattle.tcb_machine.specs.BlockState.{Block, new_block}
-use Rattle.tcb_machine.specs.States.{is_listen}
-use Rattle.tcb_machine.specs.declared.kinds.State.{State}
-use Rattle.tcb_machine.specs.declared.kinds.State.TheVariants.{SynReceived}
+use Rattle.live_server.specs.Acts.{emptied, is_idle, is_over, new_conn, reached}
+use Rattle.indexmap.specs.IndexMap.{set_value_at}
+use Rattle.live_server.specs.declared.conn.Conn.{Conn}
 
 abbrev pub Conns : Type 0
-Conns = List (Tuple × Block)
+Conns = List (Tuple × Conn)
 
 abbrev pub tuple_eq : Tuple → Tuple → Bool
 tuple_eq a b = (a.client.0 == b.client.0) && ((a.client_port == b.client_port) && ((a.server.0 == b.server.0) && (a.server_port == b.server_port)))
@@ -18,29 +17,34 @@ tuple_eq a b = (a.client.0 == b.client.0) && ((a.client_port == b.client_port) &
 abbrev pub place_of : Tuple → Conns → Option ℕ
 place_of t cs = position (tuple_eq t) (keys_of cs)
 
--- the block at a place
-abbrev pub block_at : ℕ → Conns → Block
-block_at place cs = option_map_or (λ c. c.1) (slice_get cs place) new_block
+-- the connection at a place
+abbrev pub conn_at : ℕ → Conns → Conn
+conn_at place cs = option_map_or (λ c. c.1) (slice_get cs place) (new_conn 0)
 
 -- a connection that has none
 abbrev pub IsNew : Tuple → Conns → Type 0
 IsNew t cs = lookup (tuple_eq t) cs ≡ None
 
--- a connection is over, or half open
-abbrev pub is_over : Block → Bool
-is_over b = is_listen b.state
+-- the table without the connection at a place, which the last one takes
+unfoldable pub without : ℕ → Conns → Conns
+without place cs = option_map_or (λ c. swap_remove cs place c) (slice_get cs place) cs
 
-abbrev pub is_syn_received : State → Bool
-is_syn_received SynReceived = true
-is_syn_received _ = false
+-- the connection at a place leaves where it is over
+unfoldable pub settled : ℕ → Conns → Conns
+settled place cs = if is_over (conn_at place cs) then without place cs else cs
 
-abbrev pub is_half_open : Block → Bool
-is_half_open b = is_syn_received b.state
+-- the connection at a place becomes another one, what it sent taken out, and leaves where it is over
+unfoldable pub replaced : ℕ → Conn → Conns → Conns
+replaced place c cs = settled place (set_value_at cs place (emptied c))
 
--- the place that gives way in a full table: of the first connection that is over, else of the first that is half open
-abbrev pub gives_way : Conns → Option ℕ
-gives_way cs = option_or (position is_over (values_of cs)) (position is_half_open (values_of cs))
+-- the time comes to each
+abbrev pub all_reached : ℕ → Conns → Conns
+all_reached now cs = map (λ c. (c.0, emptied (reached now c.1))) cs
 
--- the table with one more place free, where there is one or one gives way
-abbrev pub with_place : ℕ → Conns → Option Conns
-with_place places cs = if nat_lt (length cs) places then Some cs else option_map (remove cs) (gives_way cs)
+-- those that are over leave
+unfoldable pub without_over : Conns → Conns
+without_over cs = filter (λ c. not (is_over c.1)) cs
+
+-- from a full table all leave that are idle
+unfoldable pub without_idle : ℕ → ℕ → ℕ → Conns → Conns
+without_idle places now limit cs = if nat_lt (length cs) places then cs else filter (λ c. not (is_idle now limit c.1)) cs

@@ -5,16 +5,26 @@
 #![tactic(auto)]
 
 mod acting;
+mod addresses;
+mod conn;
+mod counts;
 mod frames;
 mod initial;
 mod laws;
 mod server;
+mod setting;
+mod table;
 
 pub use acting::Datagram;
+pub use conn::{Conn, Judged};
+pub use counts::Counts;
 pub use frames::{FRAME_HEAD, is_broken, serve_frames};
 pub use initial::Secret;
-pub use laws::{only_idle_leave, others_stay, own_block_acts, pieces_join};
+pub use laws::{
+    answers_go_to_its_ends, others_stay, own_connection_acts, pieces_join, the_table_is_bounded,
+};
 pub use server::Server;
+pub use setting::Setting;
 
 #[cfg(test)]
 mod tests;

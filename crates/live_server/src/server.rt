@@ -1,31 +1,37 @@
 //! The table of connections, and what a datagram and the time do to it.
 
-ghost use Rattle.std.specs.Prelude.{◌≡◌, ◌++◌, ◌<◌, ◌≤◌, ◌^◌, [], ◌∷◌, length, nat_lt, position, remove, None, Some, IsTrue, true, false, OnOk};
-ghost use Rattle.std.specs.Map.{values_of};
+ghost use Rattle.std.specs.Prelude.{◌≡◌, ◌++◌, ◌<◌, ◌≤◌, ◌^◌, [], true, length, OnOk};
 ghost use Rattle.segment_codec.specs.Refusal.{tuple_of};
-ghost use Rattle.sq_base.specs.declared.kinds.Tuple.{Tuple};
-ghost use Rattle.live_server.specs.Initial.{number_for};
-ghost use Rattle.live_server.specs.Serving.{on_datagram, on_segment, on_time, opens, refused};
-ghost use Rattle.live_server.specs.Table.{gives_way, is_half_open, is_over, with_place, IsNew};
 ghost use Rattle.sq_base.specs.Ports.{is_served_port};
+ghost use Rattle.sq_base.specs.declared.kinds.Tuple.{Tuple};
 ghost use Rattle.tcb_machine.specs.Limits.{last_time};
+ghost use Rattle.live_server.specs.Initial.{number_for};
+ghost use Rattle.live_server.specs.Serving.{addressed, comes, goes_on, has_place, makes_place, on_datagram, on_segment, on_time, opens, refused, takes_place, time_to, yields};
+ghost use Rattle.live_server.specs.Table.{IsNew};
 
-use crate::acting::{Datagram, encoded, reach, receive, send, text_of};
+use crate::acting::{Datagram, encoded, text_of};
+use crate::addresses::is_for_us;
+use crate::conn::Conn;
+use crate::counts::Counts;
 use crate::initial::{Secret, initial_number};
+use crate::setting::Setting;
+use crate::table::{
+    Table, drop_idle, drop_over, is_half_open_at, leave, reach_all, reach_at, take_at,
+};
 use echo_services::Service;
 use indexmap::IndexMap;
 use segment_codec::{Packet, SYN, Seg, decode, refusal, tuple_of};
 use sq_base::{Link, Tuple, is_served};
 use std::alloc::{AllocError, Global};
+use std::collections::VecDeque;
 use std::marker::Model;
-use tcb_machine::{State, Tcb};
 
-/// The server's state: a table of connections, in the order in which they were opened.
+/// The server's state: a bounded table of connections.
 ///
 /// # Example
 ///
 /// ```
-/// let mut server = Server::new(rt.alloc(), 1, SECRET);
+/// let mut server = Server::new(rt.alloc(), SETTING, SECRET);
 /// let mut sent = Vec::new(rt.alloc());
 /// server.datagram(rt.alloc(), 1_000_000, &SYNS[0], &mut sent)?;
 /// ...
@@ -34,13 +40,12 @@ use tcb_machine::{State, Tcb};
 /// ```
 #[derive(Drop)]
 pub struct Server {
-    /// Each connection's block, with what it sent taken out.
-    conns: IndexMap<Tuple, Tcb>,
-    /// How many connections the table has place for.
-    places: usize,
+    conns: Table,
+    /// The ends of the connections that were opened last, by age: one that is half open is among them.
+    waiting: VecDeque<Tuple>,
+    setting: Setting,
     secret: Secret,
-    /// How many connections were opened in vain, since no place was free, modulo 2^64.
-    turned_away: u64,
+    counts: Counts,
 }
 
 impl Model for Server {
@@ -50,30 +55,34 @@ impl Model for Server {
 
     ghost view = { λ s. record {
       conns = s.conns.entries;
-      places = s.places;
+      waiting = s.waiting.items;
+      setting = s.setting;
       secret = s.secret.0;
-      turned_away = s.turned_away;
+      counts = s.counts;
     } };
 }
 
 impl Server {
-    /// A server with no connection, and places for so many. It takes no memory.
-    pub fn new(alloc: Global, places: usize, secret: Secret) -> Server
-        ensures { result ≡ record { conns = []; places = places; secret = secret.0; turned_away = 0 } }
+    ghost use Rattle.live_server.specs.Counting.{no_counts};
+
+    /// A server with no connection. It takes no memory.
+    pub fn new(alloc: Global, setting: Setting, secret: Secret) -> Server
+        ensures { result ≡ record { conns = []; waiting = []; setting = setting; secret = secret.0; counts = no_counts } }
     {
         Server {
             conns: IndexMap::new(alloc),
-            places,
+            waiting: VecDeque::new(alloc),
+            setting,
             secret,
-            turned_away: 0,
+            counts: Counts::default(),
         }
     }
 
-    /// How many connections were opened in vain, since no place was free, modulo 2^64.
-    pub fn turned_away(&self) -> u64
-        ensures { result ≡ self.now.turned_away }
+    /// What it met since it was made.
+    pub fn counts(&self) -> Counts
+        ensures { result ≡ self.now.counts }
     {
-        self.turned_away
+        self.counts
     }
 
     /// An IPv4 datagram comes at a time in microseconds. What is sent goes behind the datagrams that are there. Both checksums are
@@ -93,16 +102,17 @@ impl Server {
         ensures sent { OnOk result (out.new.items ≡ out.old.items ++ (on_datagram now body.now self.old).sent) }
     {
         match decode(Link::RawIp, body, true) {
-            Packet::Segment(seg) if is_served(seg.dst_port) => {
-                self.segment(alloc, now, &seg, text_of(&seg, body), out)
+            Packet::Segment(seg) => self.addressed(alloc, now, &seg, text_of(&seg, body), out),
+            _ => {
+                self.counts.passed_over = self.counts.passed_over.wrapping_add(1);
+                Ok(())
             }
-            Packet::Segment(seg) => refuse(alloc, now, &seg, out),
-            _ => Ok(()),
         }
     }
 
-    /// The time comes to every block. What is sent goes behind the datagrams that are there, connection by connection.
+    /// The time comes to every connection. What is sent goes behind the datagrams that are there, connection by connection.
     /// After an error, which says that memory was missing, nothing more is promised.
+    #[tactic(auto, unfolding(crate::specs::Serving::on_time))]
     pub fn tick(
         &mut self,
         alloc: Global,
@@ -113,15 +123,41 @@ impl Server {
         ensures server { OnOk result (self.new ≡ (on_time now self.old).server) }
         ensures sent { OnOk result (out.new.items ≡ out.old.items ++ (on_time now self.old).sent) }
     {
-        for place in 0..self.conns.len() {
-            let (tuple, tcb) = self.conns.pair_mut(place);
-            reach(tcb, alloc, now)?;
-            send(tcb, alloc, tuple, out)?;
-        }
+        reach_all(&mut self.conns, alloc, now, out)?;
+        drop_over(&mut self.conns);
+        let here = self.conns.len();
+        drop_idle(&mut self.conns, self.setting.places, now, self.setting.idle);
+        let left = (here - self.conns.len()) as u64;
+        self.counts.idled = self.counts.idled.wrapping_add(left);
         Ok(())
     }
 
-    /// A segment of a connection of ours.
+    /// A segment with right sums.
+    #[tactic(auto, unfolding(crate::specs::Serving::addressed))]
+    fn addressed(
+        &mut self,
+        alloc: Global,
+        now: u64,
+        seg: &Seg,
+        text: &[u8],
+        out: &mut Vec<Datagram>,
+    ) -> Result<(), AllocError>
+        requires time { now ≤ last_time }
+        ensures server { OnOk result (self.new ≡ (addressed now seg.now text.now self.old).server) }
+        ensures sent { OnOk result (out.new.items ≡ out.old.items ++ (addressed now seg.now text.now self.old).sent) }
+    {
+        if !is_for_us(&self.setting, seg) {
+            self.counts.astray = self.counts.astray.wrapping_add(1);
+            Ok(())
+        } else if is_served(seg.dst_port) {
+            self.segment(alloc, now, seg, text, out)
+        } else {
+            self.counts.refused = self.counts.refused.wrapping_add(1);
+            refuse(alloc, now, seg, out)
+        }
+    }
+
+    /// A segment to a service: the time comes to its connection first.
     #[tactic(auto, unfolding(crate::specs::Serving::on_segment))]
     fn segment(
         &mut self,
@@ -136,129 +172,181 @@ impl Server {
         ensures server { OnOk result (self.new ≡ (on_segment now seg.now text.now self.old).server) }
         ensures sent { OnOk result (out.new.items ≡ out.old.items ++ (on_segment now seg.now text.now self.old).sent) }
     {
-        let tuple = tuple_of(seg);
-        let service = Service::of(seg.dst_port);
-        let iss = self.number_for(now, seg, &tuple);
-        match self.conns.get_index_of(&tuple) {
-            Some(place) => {
-                let (_, tcb) = self.conns.pair_mut(place);
-                receive(tcb, alloc, service, now, iss, seg, text)?;
-                send(tcb, alloc, &tuple, out)?;
-                Ok(())
-            }
-            None => {
-                let mut tcb = Tcb::make(alloc);
-                receive(&mut tcb, alloc, service, now, iss, seg, text)?;
-                self.open(alloc, tuple, tcb, out)
-            }
+        self.time_to(alloc, now, &tuple_of(seg), out)?;
+        self.come(alloc, now, seg, text, out)
+    }
+
+    /// The time comes to the connection of two ends, where there is one.
+    #[tactic(auto, unfolding(crate::specs::Serving::time_to))]
+    fn time_to(
+        &mut self,
+        alloc: Global,
+        now: u64,
+        tuple: &Tuple,
+        out: &mut Vec<Datagram>,
+    ) -> Result<(), AllocError>
+        requires time { now ≤ last_time }
+        ensures server { OnOk result (self.new ≡ (time_to now tuple.now self.old).server) }
+        ensures sent { OnOk result (out.new.items ≡ out.old.items ++ (time_to now tuple.now self.old).sent) }
+    {
+        if let Some(place) = self.conns.get_index_of(tuple) {
+            reach_at(&mut self.conns, place, alloc, now, tuple, out)?;
+        }
+        Ok(())
+    }
+
+    /// A segment to a service comes to its connection, or opens one.
+    #[tactic(auto, unfolding(crate::specs::Serving::comes))]
+    fn come(
+        &mut self,
+        alloc: Global,
+        now: u64,
+        seg: &Seg,
+        text: &[u8],
+        out: &mut Vec<Datagram>,
+    ) -> Result<(), AllocError>
+        requires time { now ≤ last_time }
+        requires port { is_served_port seg.now.dst_port ≡ true }
+        ensures server { OnOk result (self.new ≡ (comes now seg.now text.now self.old).server) }
+        ensures sent { OnOk result (out.new.items ≡ out.old.items ++ (comes now seg.now text.now self.old).sent) }
+    {
+        match self.conns.get_index_of(&tuple_of(seg)) {
+            Some(place) => self.go_on(alloc, now, seg, text, place, out),
+            None => self.open(alloc, now, seg, text, out),
         }
     }
 
-    /// A connection that wasn't there, after its first segment, gets a place, unless it is in LISTEN still.
+    /// A segment of the connection at a place.
+    #[tactic(auto, unfolding(crate::specs::Serving::goes_on, crate::specs::Serving::becomes))]
+    fn go_on(
+        &mut self,
+        alloc: Global,
+        now: u64,
+        seg: &Seg,
+        text: &[u8],
+        place: usize,
+        out: &mut Vec<Datagram>,
+    ) -> Result<(), AllocError>
+        requires time { now ≤ last_time }
+        requires port { is_served_port seg.now.dst_port ≡ true }
+        requires place { place < length self.old.conns }
+        ensures server { OnOk result (self.new ≡ (goes_on now seg.now text.now place self.old).server) }
+        ensures sent { OnOk result (out.new.items ≡ out.old.items ++ (goes_on now seg.now text.now place self.old).sent) }
+    {
+        let tuple = tuple_of(seg);
+        let iss = number_for(&self.secret, now, seg, &tuple);
+        let judged = take_at(
+            &mut self.conns,
+            place,
+            alloc,
+            now,
+            iss,
+            seg,
+            text,
+            &tuple,
+            out,
+        )?;
+        self.counts.judge(judged);
+        Ok(())
+    }
+
+    /// A segment of a connection that has no place: it takes one, unless it is over at once.
     #[tactic(auto, unfolding(crate::specs::Serving::opens))]
     fn open(
         &mut self,
         alloc: Global,
+        now: u64,
+        seg: &Seg,
+        text: &[u8],
+        out: &mut Vec<Datagram>,
+    ) -> Result<(), AllocError>
+        requires time { now ≤ last_time }
+        requires port { is_served_port seg.now.dst_port ≡ true }
+        requires new { IsNew (tuple_of seg.now) self.old.conns }
+        ensures server { OnOk result (self.new ≡ (opens now seg.now text.now self.old).server) }
+        ensures sent { OnOk result (out.new.items ≡ out.old.items ++ (opens now seg.now text.now self.old).sent) }
+    {
+        let tuple = tuple_of(seg);
+        let iss = number_for(&self.secret, now, seg, &tuple);
+        let mut conn = Conn::make(alloc, now);
+        conn.take(alloc, Service::of(seg.dst_port), now, iss, seg, text)?;
+        if conn.is_over() {
+            return conn.send(alloc, &tuple, out);
+        }
+        self.make_place();
+        self.take_place(alloc, tuple, conn, out)
+    }
+
+    /// A connection takes a place, where one is free.
+    #[tactic(auto, unfolding(crate::specs::Serving::takes_place))]
+    fn take_place(
+        &mut self,
+        alloc: Global,
         tuple: Tuple,
-        mut tcb: Tcb,
+        mut conn: Conn,
         out: &mut Vec<Datagram>,
     ) -> Result<(), AllocError>
         requires { IsNew tuple self.old.conns }
-        ensures server { OnOk result (self.new ≡ (opens tuple tcb self.old).server) }
-        ensures sent { OnOk result (out.new.items ≡ out.old.items ++ (opens tuple tcb self.old).sent) }
+        ensures server { OnOk result (self.new ≡ (takes_place tuple conn self.old).server) }
+        ensures sent { OnOk result (out.new.items ≡ out.old.items ++ (takes_place tuple conn self.old).sent) }
     {
-        if matches!(tcb.state(), State::Listen) {
-            return send(&mut tcb, alloc, &tuple, out);
-        }
-        if !self.make_place() {
-            self.turned_away = self.turned_away.wrapping_add(1);
+        if !self.has_place() {
+            self.counts.turned_away = self.counts.turned_away.wrapping_add(1);
             return Ok(());
         }
-        send(&mut tcb, alloc, &tuple, out)?;
-        self.join(tuple, tcb)
-    }
-
-    /// Frees a place where none is, and says whether one is free.
-    #[tactic(auto, using(crate::proofs::TableLemmas::place_made, crate::proofs::TableLemmas::still_new))]
-    fn make_place(&mut self) -> bool
-        ensures free { IsTrue result → with_place self.old.places self.old.conns ≡ Some self.new.conns }
-        ensures none { result ≡ false → (with_place self.old.places self.old.conns ≡ None) × (self.new ≡ self.old) }
-        ensures rest { self.new ≡ record self.old { conns = self.new.conns } }
-        ensures new { (t : Tuple) → IsNew t self.old.conns → IsNew t self.new.conns }
-    {
-        if self.has_place() {
-            return true;
-        }
-        match self.gives_way() {
-            Some(place) => {
-                self.leave(place);
-                true
-            }
-            None => false,
-        }
-    }
-
-    /// Whether a place is free.
-    fn has_place(&self) -> bool
-        ensures { result ≡ nat_lt (length self.now.conns) self.now.places }
-    {
-        self.conns.len() < self.places
-    }
-
-    /// The connection at a place leaves the table.
-    fn leave(&mut self, place: usize)
-        ensures { self.new ≡ record self.old { conns = remove self.old.conns place } }
-    {
-        self.conns.shift_remove_index(place);
-    }
-
-    /// A new connection goes behind the others.
-    fn join(&mut self, tuple: Tuple, tcb: Tcb) -> Result<(), AllocError>
-        requires { IsNew tuple self.old.conns }
-        ensures { OnOk result (self.new ≡ record self.old { conns = self.old.conns ++ (tuple, tcb) ∷ [] }) }
-    {
-        self.conns.insert(tuple, tcb)?;
+        conn.send(alloc, &tuple, out)?;
+        self.conns.insert(tuple, conn)?;
+        self.waiting.push_back(tuple)?;
+        self.counts.opened = self.counts.opened.wrapping_add(1);
         Ok(())
     }
 
-    /// The place that gives way to a new connection: of the first that is over, else of the first that is half open.
-    fn gives_way(&self) -> Option<usize>
-        ensures { result ≡ gives_way self.now.conns }
+    /// Half-open connections give way by age, until a place is free.
+    #[tactic(auto, unfolding(crate::specs::Serving::has_place))]
+    fn make_place(&mut self)
+        ensures place { self.new ≡ makes_place self.old }
+        ensures new { (t : Tuple) → IsNew t self.old.conns → IsNew t self.new.conns }
     {
-        match self.first_over() {
-            Some(place) => Some(place),
-            None => self.first_half_open(),
+        'yielding: while !self.has_place() {
+            let Some(tuple) = self.waiting.pop_front() else {
+                return;
+            };
+            self.yield_place(&tuple);
         }
     }
 
-    /// The place of the first connection that is over.
-    fn first_over(&self) -> Option<usize>
-        ensures { result ≡ position is_over (values_of self.now.conns) }
+    /// Whether a place is free, and one of those that may be half open.
+    #[tactic(auto, unfolding(crate::specs::Serving::has_place))]
+    fn has_place(&self) -> bool
+        ensures { result ≡ has_place self.now }
     {
-        self.conns
-            .values()
-            .position(|tcb| matches!(tcb.state(), State::Listen))
+        self.conns.len() < self.setting.places && self.waiting.len() < self.setting.places
     }
 
-    /// The place of the first connection that is half open.
-    fn first_half_open(&self) -> Option<usize>
-        ensures { result ≡ position is_half_open (values_of self.now.conns) }
+    /// The connection of two ends gives way, where it is half open.
+    #[tactic(auto, unfolding(crate::specs::Serving::yields, crate::specs::Serving::yields_at))]
+    fn yield_place(&mut self, tuple: &Tuple)
+        ensures yields { self.new ≡ yields tuple.now self.old }
+        ensures new { (t : Tuple) → IsNew t self.old.conns → IsNew t self.new.conns }
     {
-        self.conns
-            .values()
-            .position(|tcb| matches!(tcb.state(), State::SynReceived))
-    }
-
-    /// The initial sequence number for a segment that opens its connection, and 0 for another one, which needs none.
-    fn number_for(&self, now: u64, seg: &Seg, tuple: &Tuple) -> u32
-        requires { tuple.now ≡ tuple_of seg.now }
-        ensures { result ≡ number_for self.now.secret now seg.now }
-    {
-        if seg.flags & SYN == SYN {
-            initial_number(&self.secret, now, tuple)
-        } else {
-            0
+        if let Some(place) = self.conns.get_index_of(tuple) {
+            if is_half_open_at(&self.conns, place) {
+                leave(&mut self.conns, place);
+                self.counts.gave_way = self.counts.gave_way.wrapping_add(1);
+            }
         }
+    }
+}
+
+/// The initial sequence number for a segment that opens its connection, and 0 for another one, which needs none.
+fn number_for(secret: &Secret, now: u64, seg: &Seg, tuple: &Tuple) -> u32
+    requires { tuple.now ≡ tuple_of seg.now }
+    ensures { result ≡ number_for secret.now.0 now seg.now }
+{
+    if seg.flags & SYN == SYN {
+        initial_number(secret, now, tuple)
+    } else {
+        0
     }
 }
 

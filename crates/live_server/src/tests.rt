@@ -1,12 +1,20 @@
 //! Two clients at a server with one place. The initial sequence numbers are those of an implementation of SHA-256 elsewhere.
 
-use crate::{Datagram, Secret, Server};
+use crate::{Datagram, Secret, Server, Setting};
 use segment_codec::{Packet, Seg, decode};
-use sq_base::Link;
+use sq_base::{Addr, Link};
 use std::process::Abort;
 use std::test::Fail;
 
 const SECRET: Secret = Secret([0, 1, 2, 3, 4, 5, 6, 7, 8, 9, 10, 11, 12, 13, 14, 15]);
+
+/// One place at 10.9.0.2.
+const SETTING: Setting = Setting {
+    address: Addr(0x0a09_0002),
+    broadcast: Addr(0x0a09_00ff),
+    places: 1,
+    idle: 7_200_000_000,
+};
 
 /// SYNs of 10.9.0.1, ports 40000 and 40001, to 10.9.0.2, port 7, with both sums.
 const SYNS: [[u8; 40]; 2] = [
@@ -32,7 +40,7 @@ fn last_of(rt: &impl Abort, sent: &[Datagram]) -> Option<Seg> {
 
 #[test]
 fn one_place(rt: HostRuntime) -> Result<(), Fail> {
-    let mut server = Server::new(rt.alloc(), 1, SECRET);
+    let mut server = Server::new(rt.alloc(), SETTING, SECRET);
     let mut sent = Vec::new(rt.alloc());
     server.datagram(rt.alloc(), 1_000_000, &SYNS[0], &mut sent)?;
     let answer = last_of(&rt, &sent).ok_or("no answer")?;
@@ -52,6 +60,6 @@ fn one_place(rt: HostRuntime) -> Result<(), Fail> {
         (40001, 18, 101)
     );
     server.tick(rt.alloc(), 3_000_001, &mut sent)?;
-    assert_eq!(rt; (sent.len(), server.turned_away()), (4, 0));
+    assert_eq!(rt; (sent.len(), server.counts().gave_way), (4, 1));
     Ok(())
 }

@@ -1,11 +1,22 @@
 //! The words of the command line.
 
-use live_server::Secret;
+ghost use Rattle.std.specs.Prelude.{◌≡◌, ◌<◌, ◌^◌, map, option_map, IfSome};
+ghost use Rattle.std.specs.Char.{is_ascii_digit};
+ghost use Rattle.std.specs.List.{list_all};
+ghost use Rattle.std.specs.String.{string_bytes};
+ghost use Rattle.sqlive.specs.Words.{address_of, asked, device_asked, frames_asked, hex_bytes, is_number, number, secret_of, setting_of};
+
+use byteorder::{BigEndian, ByteOrder};
+use hex::decode_to_slice;
+use live_server::{Secret, Setting};
+use sq_base::Addr;
 
 /// Where datagrams come from and go to.
-#[derive(Clone, Copy, PartialEq, Eq, Debug)]
+#[derive(Clone, Copy)]
 pub enum Mode {
-    Frames,
+    /// Frames, with the secret behind the initial sequence numbers.
+    Frames(Secret),
+    /// A device. Its secret is nobody's to give.
     Device,
 }
 
@@ -13,39 +24,108 @@ pub enum Mode {
 #[derive(Clone, Copy)]
 pub struct Words {
     pub mode: Mode,
-    pub secret: Secret,
-    pub places: usize,
+    pub setting: Setting,
 }
 
-/// What the three words ask for, where they do.
-pub fn words_of(
-    mode: Option<String>,
-    secret: Option<String>,
-    places: Option<String>,
-) -> Option<Words> {
-    Some(Words {
-        mode: mode_of(mode?.as_str())?,
-        secret: secret_of(secret?.as_str())?,
-        places: places?.as_str().parse::<usize>().ok()?,
-    })
-}
-
-fn mode_of(word: &str) -> Option<Mode> {
-    match word {
-        "frames" => Some(Mode::Frames),
-        "device" => Some(Mode::Device),
+/// What the words behind the program's name ask for, where they do.
+pub fn words_of(words: &[String]) -> Option<Words>
+    ensures { result ≡ asked (map (λ s. string_bytes s) words.now) }
+{
+    let [mode, rest @ ..] = words else {
+        return None;
+    };
+    match mode.as_str() {
+        "frames" => frames_asked(rest),
+        "device" => device_asked(rest),
         _ => None,
     }
 }
 
-/// A secret in hexadecimal digits.
-fn secret_of(word: &str) -> Option<Secret> {
-    let high = u64::from_str_radix(word.get(..16)?, 16).ok()?;
-    let low = u64::from_str_radix(word.get(16..32)?, 16).ok()?;
-    if word.len() != 32 {
+fn frames_asked(words: &[String]) -> Option<Words>
+    ensures { result ≡ frames_asked (map (λ s. string_bytes s) words.now) }
+{
+    let [secret, rest @ ..] = words else {
+        return None;
+    };
+    Some(Words {
+        mode: Mode::Frames(secret_of(secret.as_str())?),
+        setting: setting_of(rest)?,
+    })
+}
+
+fn device_asked(words: &[String]) -> Option<Words>
+    ensures { result ≡ device_asked (map (λ s. string_bytes s) words.now) }
+{
+    Some(Words {
+        mode: Mode::Device,
+        setting: setting_of(words)?,
+    })
+}
+
+/// The address that is answered for and the network's broadcast address, each as eight hexadecimal digits, how many connections are
+/// kept, and after how many seconds one is idle.
+fn setting_of(words: &[String]) -> Option<Setting>
+    ensures { result ≡ setting_of (map (λ s. string_bytes s) words.now) }
+{
+    let [address, broadcast, places, idle] = words else {
+        return None;
+    };
+    Some(Setting {
+        address: address_of(address.as_str())?,
+        broadcast: address_of(broadcast.as_str())?,
+        places: number(places.as_str())? as usize,
+        idle: u64::from(number(idle.as_str())?) * 1_000_000,
+    })
+}
+
+fn secret_of(word: &str) -> Option<Secret>
+    ensures { result ≡ secret_of word.now }
+{
+    let mut bytes = [0u8; 16];
+    match decode_to_slice(word, &mut bytes) {
+        Ok(()) => Some(Secret(bytes)),
+        Err(_) => None,
+    }
+}
+
+fn address_of(word: &str) -> Option<Addr>
+    ensures { result ≡ address_of word.now }
+{
+    let mut bytes = [0u8; 4];
+    match decode_to_slice(word, &mut bytes) {
+        Ok(()) => Some(Addr(BigEndian::read_u32(&bytes))),
+        Err(_) => None,
+    }
+}
+
+/// A number without a sign, and nothing beside it.
+fn number(word: &str) -> Option<u32>
+    ensures { result ≡ number word.now }
+{
+    if !is_number(word) {
         return None;
     }
-    let [a, b, c, d, e, f, g, h] = high.to_be_bytes();
-    let [i, j, k, l, m, n, o, p] = low.to_be_bytes();
-    Some(Secret([a, b, c, d, e, f, g, h, i, j, k, l, m, n, o, p]))
+    match word.parse::<u32>() {
+        Ok(value) => Some(value),
+        Err(_) => None,
+    }
+}
+
+fn is_number(word: &str) -> bool
+    ensures { result ≡ is_number word.now }
+{
+    !word.is_empty() && are_digits(word.as_bytes())
+}
+
+fn are_digits(bytes: &[u8]) -> bool
+    ensures { result ≡ list_all is_ascii_digit bytes.now }
+{
+    let mut rest = bytes;
+    while let [first, others @ ..] = rest {
+        if !first.is_ascii_digit() {
+            return false;
+        }
+        rest = others;
+    }
+    true
 }

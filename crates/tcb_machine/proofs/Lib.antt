@@ -5,3 +5,4 @@ pub mod QueueLemmas
 pub mod SteadyLemmas
 pub mod ValidLemmas
 pub mod NumberLemmas
+pub mod ChallengeLemmas

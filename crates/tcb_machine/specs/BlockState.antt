@@ -1,7 +1,7 @@
 -- The block of a connection (RFC 9293, 3.3.1), and what is read off it.
 use Rattle.std.specs.Prelude.{ℕ, ◌+◌, ◌-◌, ◌*◌, ◌%◌, ◌/◌, ◌^◌, ◌==◌, ◌<◌, ◌≤◌, min, Bool}
 use Rattle.std.specs.Prelude.{false, not, List, [], ◌∷◌, ◌++◌, length, drop, Option, None, Some, if◌then◌else◌, bit_and}
-use Rattle.byte_queues.specs.ReceiveQueue.{Recv, empty_recv, next_of, window_of}
+use Rattle.byte_queues.specs.ReceiveQueue.{Recv, bytes, empty_recv, next_of, window_of}
 use Rattle.tcb_machine.specs.declared.kinds.State.{State}
 use Rattle.tcb_machine.specs.declared.kinds.State.TheVariants.{Listen}
 use Rattle.tcb_machine.specs.States.{is_consumed}
@@ -103,6 +103,10 @@ in_flight b = b.sent - b.acked
 
 unfoldable pub offered : Block → ℕ
 offered b = b.acked + length b.out
+
+-- the bytes that are held: received and not taken, behind a gap too, and offered and not acknowledged
+abbrev pub held_in : Block → ℕ
+held_in b = length (bytes b.recv.got) + length b.out
 
 -- whether a control bit is among these
 abbrev pub has : ℕ → ℕ → Bool

@@ -10,3 +10,4 @@ pub mod Validity
 pub mod Room
 pub mod Endings
 pub mod Numbering
+pub mod Challenges

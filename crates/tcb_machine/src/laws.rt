@@ -5,6 +5,7 @@ ghost use Rattle.byte_queues.specs.ReceiveQueue.{next_of};
 ghost use Rattle.segment_codec.specs.declared.packet.Seg.{Seg};
 ghost use Rattle.tcb_machine.specs.BlockState.{Block, new_block, offered};
 ghost use Rattle.tcb_machine.specs.CallAnswers.{tcp_call};
+ghost use Rattle.tcb_machine.specs.Challenges.{ChallengeIsAlone};
 ghost use Rattle.tcb_machine.specs.Numbering.{IsNumbered, SegmentKeepsNumbers, TimeKeepsNumbers, CallKeepsNumbers, OutputKeepsNumbers, ResendKeepsNumbers};
 ghost use Rattle.tcb_machine.specs.Output.{output};
 ghost use Rattle.tcb_machine.specs.Room.{StreamsBelow, SegmentAddsLittle, TimeAddsNothing, CallAddsNothing, OutputAddsNothing, ResendAddsNothing};
@@ -85,4 +86,9 @@ pub fn acknowledged_numbers_and_bytes_go_together()
     ensures call { CallKeepsNumbers }
     ensures output { OutputKeepsNumbers }
     ensures resent { ResendKeepsNumbers }
+{}
+
+/// A segment that is challenged is answered by an acknowledgement, and changes nothing else.
+pub fn a_challenge_is_alone()
+    ensures { ChallengeIsAlone }
 {}

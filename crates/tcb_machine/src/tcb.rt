@@ -8,6 +8,7 @@ ghost use Rattle.tcb_machine.specs.Limits.{least_mss, most_mss, most_retransmiss
 ghost use Rattle.tcb_machine.specs.Room.{HasRoom};
 
 mod arrival;
+mod beside;
 mod calls;
 mod output;
 mod replies;

@@ -1,6 +1,7 @@
 //! The arrival of a segment (RFC 9293, 3.10.7): LISTEN, and the first five checks of the other states.
 
 ghost use Rattle.std.specs.Prelude.{true, false, ◌≡◌, ◌+◌, ◌-◌, ◌%◌, ◌^◌, ◌<◌, ◌≤◌, length, min, max, None, Some, IfOk, OnOk};
+ghost use Rattle.tcb_machine.specs.Challenges.{is_challenged};
 ghost use Rattle.tcb_machine.specs.BlockState.{rcv_nxt, rcv_wnd, snd_nxt, in_flight, has, seg_wnd, offered};
 ghost use Rattle.tcb_machine.specs.Limits.{whole_space, last_time, most_streamed};
 ghost use Rattle.tcb_machine.specs.Room.{HasRoom};
@@ -167,6 +168,22 @@ impl Tcb {
             false
         } else {
             self.is_in_window(seg.seq) || self.is_in_window(seq_after(seg.seq, len - 1))
+        }
+    }
+
+    /// Whether a segment is answered by an acknowledgement alone, and changes nothing else (RFC 9293, 3.10.7.4; RFC 5961, 3.2 and 4.2).
+    #[tactic(auto, unfolding(crate::specs::Challenges::is_challenged))]
+    pub fn is_challenged(&self, seg: &Seg, text: &[u8]) -> bool
+        ensures { result ≡ is_challenged seg.now text.now self.now }
+    {
+        if matches!(self.state, State::Listen) {
+            false
+        } else if !self.is_acceptable(seg, text) {
+            seg.flags & RST == 0 && !(matches!(self.state, State::TimeWait) && seg.flags & FIN != 0)
+        } else if seg.flags & RST != 0 {
+            seg.seq != self.rcv_nxt()
+        } else {
+            seg.flags & SYN != 0 && !matches!(self.state, State::SynReceived)
         }
     }
 

@@ -1,5 +1,5 @@
-use Rattle.live_server.proofs.ReadLemmas.{others_stay_proof}
+use Rattle.live_server.proofs.LawLemmas.{others_stay_law}
 use Rattle.live_server.proofs.laws.others_stay.Goals as goal
 
 pub returns : goal.returns
-returns c = others_stay_proof
+returns c = others_stay_law

@@ -1,0 +1,260 @@
+-- What holds of every table, and what a segment does to others.
+use Rattle.std.proofs.Common.{◌≡◌, ℕ, zero, suc, ◌+◌, ◌<◌, ◌≤◌, ◌⊎◌, inl, inr, Bool, true, false, cond, not, ◌&&◌, nat_lt, List, [], ◌∷◌, ◌++◌, length, map, filter, Option, None, Some, IfSome, All, refl, sym, ap, subst, ◌∙◌, arith, true≢false, is_some, unwrap_or}
+use Rattle.std.specs.List.{IsDistinct}
+use Rattle.std.specs.Map.{keys_of, lookup}
+use Rattle.std.specs.Option.{option_map_or}
+use Rattle.std.proofs.lemmas.Bool.Decides.{nat_tests}
+use Rattle.echo_services.specs.Pump.{service_of}
+use Rattle.segment_codec.specs.Refusal.{tuple_of}
+use Rattle.segment_codec.specs.declared.packet.Seg.{Seg}
+use Rattle.sq_base.specs.declared.kinds.Tuple.{Tuple}
+use Rattle.live_server.specs.Acts.{emptied, is_half_open, is_over, judged, new_conn, reached, receives}
+use Rattle.live_server.specs.Initial.{number_for}
+use Rattle.live_server.specs.Isolation.{conn_of, kept_as, IsTable, OthersStay, OwnConnActs, SegmentKeepsTable}
+use Rattle.live_server.specs.Serving.{Outcome, ServerOf, becomes, comes, gives_way, goes_on, has_place, judging, on_segment, opens, sends_nothing, served, sends_of, takes_free, takes_place, time_to, turns_away, yielding, yields, yields_at}
+use Rattle.live_server.specs.Table.{Conns, conn_at, place_of, replaced, tuple_eq, without, IsNew}
+use Rattle.live_server.specs.declared.conn.Conn.{Conn}
+use Rattle.std.proofs.lemmas.List.{length-append}
+use Rattle.live_server.proofs.TableLemmas.{tuple_equivalence, distinct_appended, distinct_replaced, distinct_without, first_at, length_replaced, length_without, look_appended, look_replaced, look_without, new_from_place, same, within_at}
+use Rattle.live_server.proofs.PlaceLemmas.{conn_looked}
+
+-- what one connection is after a step: it stays, or it was half open and left
+abbrev Stays : Tuple → ServerOf → ServerOf → Type 0
+Stays q before after = (conn_of q after ≡ conn_of q before) ⊎ ((conn_of q after ≡ None) × IfSome (conn_of q before) (λ c. is_half_open c ≡ true))
+
+stays_on : (q : Tuple) (a b c : ServerOf) → Stays q a b → Stays q b c → Stays q a c
+stays_on q a b c (inl here) (inl there) = inl (there ∙ here)
+stays_on q a b c (inl here) (inr there) = inr (there.0, subst (λ o. IfSome o (λ x. is_half_open x ≡ true)) here there.1)
+stays_on q a b c (inr here) (inl there) = inr (there ∙ here.0, here.1)
+stays_on q a b c (inr here) (inr there) = inr (there.0, here.1)
+
+still_new : (q : Tuple) (a b : ServerOf) → Stays q a b → IsNew q a.conns → IsNew q b.conns
+still_new q a b (inl e) new = e ∙ new
+still_new q a b (inr e) new = e.0
+
+chosen : (b : Bool) (v : Bool) (x y : Option Conn) → v ≡ b → cond v x y ≡ cond b x y
+chosen b v x y e = ap (λ w. cond w x y) e
+
+-- ---- one that gives way
+module _ (t : Tuple) (sv : ServerOf) (table : IsTable sv) where
+  module _ (i : ℕ) (at : place_of t sv.conns ≡ Some i) where
+    lt : i < length sv.conns
+    lt = within_at t sv.conns i at
+
+    yielded_table : (h : Bool) → is_half_open (conn_at i sv.conns) ≡ h → IsTable (yields_at i sv)
+    unfolding yields_at
+    yielded_table false whole = subst IsTable (sym (ap (λ b. cond b (gives_way i sv) sv) whole)) table
+    yielded_table true half = subst IsTable (sym (ap (λ b. cond b (gives_way i sv) sv) half)) (record {
+      once = distinct_without sv.conns i lt table.once;
+      bounded = omega (arith, length_without sv.conns i lt, table.bounded);
+    })
+
+    yielded_stays : (q : Tuple) (h : Bool) → is_half_open (conn_at i sv.conns) ≡ h → Stays q sv (yields_at i sv)
+    unfolding yields_at
+    yielded_stays q false whole = subst (Stays q sv) (sym (ap (λ b. cond b (gives_way i sv) sv) whole)) (inl refl)
+    yielded_stays q true half = subst (Stays q sv) (sym (ap (λ b. cond b (gives_way i sv) sv) half)) (by (tuple_eq t q) refl)
+      where
+        look : lookup (tuple_eq q) (without i sv.conns) ≡ cond (tuple_eq t q) None (lookup (tuple_eq q) sv.conns)
+        look = look_without sv.conns i t (first_at t sv.conns i at) lt table.once q
+
+        by : (v : Bool) → tuple_eq t q ≡ v → (lookup (tuple_eq q) (without i sv.conns) ≡ lookup (tuple_eq q) sv.conns)
+            ⊎ ((lookup (tuple_eq q) (without i sv.conns) ≡ None) × IfSome (lookup (tuple_eq q) sv.conns) (λ c. is_half_open c ≡ true))
+        by false e = inl (look ∙ chosen false (tuple_eq t q) None _ e)
+        by true e =
+            let own : place_of q sv.conns ≡ Some i = ap (λ x. place_of x sv.conns) (sym (same t q e)) ∙ at in
+            inr (look ∙ chosen true (tuple_eq t q) None _ e, subst (λ o. IfSome o (λ c. is_half_open c ≡ true)) (sym (conn_looked q sv.conns i own)) half)
+
+  yields_by : (r : Option ℕ) → place_of t sv.conns ≡ r → yields t sv ≡ option_map_or (λ i. yields_at i sv) r sv
+  unfolding yields
+  yields_by r at = ap (λ o. option_map_or (λ i. yields_at i sv) o sv) at
+
+  yields_table : IsTable (yields t sv)
+  yields_table = by (place_of t sv.conns) refl
+    where
+      by : (r : Option ℕ) → place_of t sv.conns ≡ r → IsTable (yields t sv)
+      by None at = subst IsTable (sym (yields_by None at)) table
+      by (Some i) at = subst IsTable (sym (yields_by (Some i) at)) (yielded_table i at (is_half_open (conn_at i sv.conns)) refl)
+
+  yields_stays : (q : Tuple) → Stays q sv (yields t sv)
+  yields_stays q = by (place_of t sv.conns) refl
+    where
+      by : (r : Option ℕ) → place_of t sv.conns ≡ r → Stays q sv (yields t sv)
+      by None at = subst (Stays q sv) (sym (yields_by None at)) (inl refl)
+      by (Some i) at = subst (Stays q sv) (sym (yields_by (Some i) at)) (yielded_stays i at q (is_half_open (conn_at i sv.conns)) refl)
+
+with_waiting : (ts : List Tuple) (sv : ServerOf) → IsTable sv → IsTable (record sv { waiting = ts })
+with_waiting ts sv table = record { once = table.once; bounded = table.bounded }
+
+chosen_table : (b : Bool) (x y : ServerOf) → IsTable x → IsTable y → IsTable (cond b x y)
+chosen_table true x y here there = here
+chosen_table false x y here there = there
+
+chosen_stays : (q : Tuple) (sv : ServerOf) (b : Bool) (x y : ServerOf) → Stays q sv x → Stays q sv y → Stays q sv (cond b x y)
+chosen_stays q sv true x y here there = here
+chosen_stays q sv false x y here there = there
+
+yielding_table : (ts : List Tuple) (sv : ServerOf) → IsTable sv → IsTable (yielding ts sv)
+yielding_table [] sv table = table
+yielding_table (t ∷ ts) sv table =
+    chosen_table (has_place sv) _ _ table (yielding_table ts (yields t (record sv { waiting = ts })) (yields_table t (record sv { waiting = ts }) (with_waiting ts sv table)))
+
+yielding_stays : (q : Tuple) (ts : List Tuple) (sv : ServerOf) → IsTable sv → Stays q sv (yielding ts sv)
+yielding_stays q [] sv table = inl refl
+yielding_stays q (t ∷ ts) sv table =
+    let here = record sv { waiting = ts } in
+    let in_table = with_waiting ts sv table in
+    let next = yields t here in
+    chosen_stays q sv (has_place sv) _ _ (inl refl)
+    (stays_on q sv next (yielding ts next) (yields_stays t here in_table q) (yielding_stays q ts next (yields_table t here in_table)))
+
+-- ---- one that takes a place
+both_left : (a b : Bool) → (a && b) ≡ true → a ≡ true
+both_left true b e = refl
+both_left false b e = e
+
+module _ (t : Tuple) (c : Conn) (sv : ServerOf) (new : IsNew t sv.conns) where
+  taken_by : (b : Bool) → has_place sv ≡ b → takes_place t c sv ≡ cond b (takes_free t c sv) (turns_away sv)
+  unfolding takes_place
+  taken_by b e = ap (λ v. cond v (takes_free t c sv) (turns_away sv)) e
+
+  taken_table : IsTable sv → (b : Bool) → has_place sv ≡ b → IsTable (takes_place t c sv).server
+  unfolding has_place
+  taken_table table true e =
+      let free : nat_lt (length sv.conns) sv.setting.places ≡ true = both_left _ _ e in
+      let room : length sv.conns < sv.setting.places = grind (arith, nat_tests) in
+      subst (λ (o : Outcome). IsTable o.server) (sym (taken_by true e)) (record {
+        once = distinct_appended t (emptied c) sv.conns new table.once;
+        bounded = omega (arith, length-append sv.conns ((t, emptied c) ∷ []), room);
+      })
+  taken_table table false e = subst (λ (o : Outcome). IsTable o.server) (sym (taken_by false e)) (record { once = table.once; bounded = table.bounded })
+
+  taken_stays : (q : Tuple) → tuple_eq t q ≡ false → (b : Bool) → has_place sv ≡ b → conn_of q (takes_place t c sv).server ≡ conn_of q sv
+  taken_stays q apart true e = ap (λ (o : Outcome). conn_of q o.server) (taken_by true e) ∙ look_appended t (emptied c) sv.conns new q ∙ chosen false (tuple_eq t q) _ _ apart
+  taken_stays q apart false e = ap (λ (o : Outcome). conn_of q o.server) (taken_by false e)
+
+-- ---- the connection at a place becomes another one
+module _ (i : ℕ) (t : Tuple) (c : Conn) (sv : ServerOf) (at : place_of t sv.conns ≡ Some i) (table : IsTable sv) where
+  become_table : IsTable (becomes i t c sv).server
+  unfolding becomes
+  become_table = record {
+    once = distinct_replaced sv.conns i c (within_at t sv.conns i at) table.once;
+    bounded = omega (arith, length_replaced sv.conns i c (within_at t sv.conns i at), table.bounded);
+  }
+
+  become_look : (q : Tuple) → conn_of q (becomes i t c sv).server ≡ cond (tuple_eq t q) (kept_as c) (conn_of q sv)
+  unfolding becomes
+  become_look q = look_replaced sv.conns i c (within_at t sv.conns i at) t (first_at t sv.conns i at) table.once q
+
+module _ (now : ℕ) (t : Tuple) (sv : ServerOf) where
+  timed_by : (r : Option ℕ) → place_of t sv.conns ≡ r → time_to now t sv ≡ option_map_or (λ i. becomes i t (reached now (conn_at i sv.conns)) sv) r (sends_nothing sv)
+  unfolding time_to
+  timed_by r at = ap (λ o. option_map_or (λ i. becomes i t (reached now (conn_at i sv.conns)) sv) o (sends_nothing sv)) at
+
+  timed_table : IsTable sv → (r : Option ℕ) → place_of t sv.conns ≡ r → IsTable (time_to now t sv).server
+  timed_table table None at = subst (λ (o : Outcome). IsTable o.server) (sym (timed_by None at)) table
+  timed_table table (Some i) at = subst (λ (o : Outcome). IsTable o.server) (sym (timed_by (Some i) at)) (become_table i t (reached now (conn_at i sv.conns)) sv at table)
+
+  timed_stays : (q : Tuple) → tuple_eq t q ≡ false → IsTable sv → (r : Option ℕ) → place_of t sv.conns ≡ r → conn_of q (time_to now t sv).server ≡ conn_of q sv
+  timed_stays q apart table None at = ap (λ (o : Outcome). conn_of q o.server) (timed_by None at)
+  timed_stays q apart table (Some i) at =
+      ap (λ (o : Outcome). conn_of q o.server) (timed_by (Some i) at) ∙ become_look i t (reached now (conn_at i sv.conns)) sv at table q ∙ chosen false (tuple_eq t q) _ _ apart
+
+  timed_kept : (r : Option ℕ) → place_of t sv.conns ≡ r → ((time_to now t sv).server.setting ≡ sv.setting) × ((time_to now t sv).server.secret ≡ sv.secret)
+  unfolding becomes
+  timed_kept None at = (ap (λ (o : Outcome). o.server.setting) (timed_by None at), ap (λ (o : Outcome). o.server.secret) (timed_by None at))
+  timed_kept (Some i) at = (ap (λ (o : Outcome). o.server.setting) (timed_by (Some i) at), ap (λ (o : Outcome). o.server.secret) (timed_by (Some i) at))
+
+module _ (now : ℕ) (s : Seg) (text : List ℕ) (sv : ServerOf) (table : IsTable sv) where
+  abbrev ends : Tuple
+  ends = tuple_of s
+
+  abbrev fresh : Conn
+  fresh = served now s text sv (new_conn now)
+
+  abbrev room_made : ServerOf
+  room_made = yielding sv.waiting sv
+
+  opened_by : (b : Bool) → is_over fresh ≡ b → opens now s text sv ≡ cond b (sends_of ends fresh sv) (takes_place ends fresh room_made)
+  unfolding opens
+  opened_by b e = ap (λ v. cond v (sends_of ends fresh sv) (takes_place ends fresh room_made)) e
+
+  opened_table : IsNew ends sv.conns → (b : Bool) → is_over fresh ≡ b → IsTable (opens now s text sv).server
+  opened_table new true e = subst (λ (o : Outcome). IsTable o.server) (sym (opened_by true e)) table
+  opened_table new false e =
+      subst (λ (o : Outcome). IsTable o.server) (sym (opened_by false e))
+      (taken_table ends fresh room_made (still_new ends sv room_made (yielding_stays ends sv.waiting sv table) new) (yielding_table sv.waiting sv table) (has_place room_made) refl)
+
+  opened_stays : (q : Tuple) → tuple_eq ends q ≡ false → IsNew ends sv.conns → (b : Bool) → is_over fresh ≡ b → Stays q sv (opens now s text sv).server
+  opened_stays q apart new true e = subst (λ (o : Outcome). Stays q sv o.server) (sym (opened_by true e)) (inl refl)
+  opened_stays q apart new false e =
+      subst (λ (o : Outcome). Stays q sv o.server) (sym (opened_by false e))
+      (stays_on q sv room_made (takes_place ends fresh room_made).server (yielding_stays q sv.waiting sv table)
+      (inl (taken_stays ends fresh room_made (still_new ends sv room_made (yielding_stays ends sv.waiting sv table) new) q apart (has_place room_made) refl)))
+
+  abbrev gone_on : ℕ → Outcome
+  gone_on i = goes_on now s text i sv
+
+  went_on : (i : ℕ) → goes_on now s text i sv ≡ becomes i ends (served now s text sv (conn_at i sv.conns)) (judging (judged now s text (conn_at i sv.conns)) sv)
+  unfolding goes_on
+  went_on i = refl
+
+  judged_table : (i : ℕ) → IsTable (judging (judged now s text (conn_at i sv.conns)) sv)
+  judged_table i = record { once = table.once; bounded = table.bounded }
+
+  came_by : (r : Option ℕ) → place_of ends sv.conns ≡ r → comes now s text sv ≡ option_map_or gone_on r (opens now s text sv)
+  unfolding comes
+  came_by r at = ap (λ o. option_map_or gone_on o (opens now s text sv)) at
+
+  came_table : (r : Option ℕ) → place_of ends sv.conns ≡ r → IsTable (comes now s text sv).server
+  came_table None at = subst (λ (o : Outcome). IsTable o.server) (sym (came_by None at)) (opened_table (new_from_place ends sv.conns at) (is_over fresh) refl)
+  came_table (Some i) at =
+      subst (λ (o : Outcome). IsTable o.server) (sym (came_by (Some i) at ∙ went_on i)) (become_table i ends _ (judging (judged now s text (conn_at i sv.conns)) sv) at (judged_table i))
+
+  came_stays : (q : Tuple) → tuple_eq ends q ≡ false → (r : Option ℕ) → place_of ends sv.conns ≡ r → Stays q sv (comes now s text sv).server
+  came_stays q apart None at = subst (λ (o : Outcome). Stays q sv o.server) (sym (came_by None at)) (opened_stays q apart (new_from_place ends sv.conns at) (is_over fresh) refl)
+  came_stays q apart (Some i) at =
+      subst (λ (o : Outcome). Stays q sv o.server) (sym (came_by (Some i) at ∙ went_on i))
+      (inl (become_look i ends _ (judging (judged now s text (conn_at i sv.conns)) sv) at (judged_table i) q ∙ chosen false (tuple_eq ends q) _ _ apart))
+
+  came_own : (i : ℕ) → place_of ends sv.conns ≡ Some i → conn_of ends (comes now s text sv).server ≡ kept_as (served now s text sv (conn_at i sv.conns))
+  came_own i at =
+      ap (λ (o : Outcome). conn_of ends o.server) (came_by (Some i) at ∙ went_on i)
+      ∙ become_look i ends _ (judging (judged now s text (conn_at i sv.conns)) sv) at (judged_table i) ends ∙ chosen true (tuple_eq ends ends) _ _ (tuple_equivalence.refl ends)
+
+pub segment_keeps_table : SegmentKeepsTable
+unfolding on_segment
+segment_keeps_table now s text sv table =
+    let first = (time_to now (tuple_of s) sv).server in
+    came_table now s text first (timed_table now (tuple_of s) sv table (place_of (tuple_of s) sv.conns) refl) (place_of (tuple_of s) first.conns) refl
+
+pub others_stay_law : OthersStay
+unfolding on_segment
+others_stay_law now s text sv other table apart =
+    let t = tuple_of s in
+    let first = (time_to now t sv).server in
+    let away : tuple_eq t other ≡ false = tuple_equivalence.symm t other ∙ apart in
+    let in_table = timed_table now t sv table (place_of t sv.conns) refl in
+    stays_on other sv first (comes now s text first).server (inl (timed_stays now t sv other away table (place_of t sv.conns) refl)) (came_stays now s text first in_table other away (place_of t first.conns) refl)
+
+-- a connection that is looked up has a place
+placed_at : (t : Tuple) (cs : Conns) (c : Conn) → lookup (tuple_eq t) cs ≡ Some c → (r : Option ℕ) → place_of t cs ≡ r → (i : ℕ) × (place_of t cs ≡ Some i) × (conn_at i cs ≡ c)
+placed_at t cs c look None at = absurd (true≢false (sym (ap is_some look) ∙ ap is_some (new_from_place t cs at)))
+placed_at t cs c look (Some i) at = (i, at, ap (λ o. unwrap_or o c) (sym (conn_looked t cs i at) ∙ look))
+
+pub own_connection_law : OwnConnActs
+unfolding on_segment
+own_connection_law now s text sv c table look alive =
+    let t = tuple_of s in
+    let first = (time_to now t sv).server in
+    let in_table = timed_table now t sv table (place_of t sv.conns) refl in
+    let here = placed_at t sv.conns c look (place_of t sv.conns) refl in
+    let timed : conn_of t first ≡ Some (emptied (reached now c)) =
+    ap (λ (o : Outcome). conn_of t o.server) (timed_by now t sv (Some here.0) here.1)
+    ∙ become_look here.0 t (reached now (conn_at here.0 sv.conns)) sv here.1 table t
+    ∙ chosen true (tuple_eq t t) _ _ (tuple_equivalence.refl t)
+    ∙ ap (λ x. kept_as (reached now x)) here.2
+    ∙ ap (λ b. cond b None (Some (emptied (reached now c)))) alive in
+    let then = placed_at t first.conns (emptied (reached now c)) timed (place_of t first.conns) refl in
+    came_own now s text first in_table then.0 then.1
+    ∙ ap (λ x. kept_as (served now s text first x)) then.2
+    ∙ ap (λ k. kept_as (receives (service_of s.dst_port) now (number_for k now s) s text (emptied (reached now c)))) (timed_kept now t sv (place_of t sv.conns) refl).1

@@ -1,0 +1,7 @@
+use Rattle.std.proofs.Common.{◌∙◌, sym}
+use Rattle.live_server.specs.Acts.{is_over}
+use Rattle.live_server.proofs.TableLemmas.{conn_missed, none_is_over}
+use Rattle.live_server.proofs.table.is_over_at.Goals as goal
+
+pub returns-in-None : goal.returns-in-None
+returns-in-None c = sym none_is_over ∙ conn_missed is_over c.args.table.now.entries c.args.place c.get_index.result c.get_index.ensures.entry c.in-None.is

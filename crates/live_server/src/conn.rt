@@ -1,0 +1,194 @@
+//! One connection: its block, and what the server keeps beside it.
+
+ghost use Rattle.std.specs.Prelude.{◌≡◌, ◌++◌, ◌≤◌, IfOk, OnOk};
+ghost use Rattle.live_server.specs.Acts.{after, emptied, has_room, is_half_open, is_idle, is_outside, is_over, judged, new_conn, oldest_ack, provokes, reached, receives, sent_by, takes};
+ghost use Rattle.live_server.specs.Acts.{reaches};
+ghost use Rattle.tcb_machine.specs.Limits.{last_time};
+
+use crate::acting::{Datagram, encoded};
+use echo_services::{Service, serve, tick};
+use segment_codec::{ACK, RST, SYN, Seg};
+use sq_base::{Tuple, seq_dist};
+use std::alloc::{AllocError, Global};
+use tcb_machine::{State, Tcb};
+
+/// A connection sends one challenge in so many microseconds (RFC 5961, 7).
+const CHALLENGE_INTERVAL: u64 = 500_000;
+
+/// The most that is ever sent and not acknowledged, in bytes.
+const SEND_SPACE: u32 = 65_535;
+
+/// A connection: its block, with what it sent taken out. Times are in microseconds.
+#[derive(Drop)]
+pub struct Conn {
+    pub tcb: Tcb,
+    /// When the last segment came that wasn't dropped.
+    pub heard: u64,
+    /// Before this time no challenge is sent.
+    pub quiet_until: u64,
+}
+
+/// What becomes of a segment.
+#[derive(Clone, Copy, Debug, PartialEq, Eq)]
+pub enum Judged {
+    /// The block takes it.
+    Taken,
+    /// A challenge is sent in its place (RFC 5961).
+    Challenged,
+    /// It is dropped, since a challenge was sent shortly before.
+    Unanswered,
+    /// It is dropped: its time is before the block's, or 2^61 bytes have come.
+    Late,
+}
+
+impl Conn {
+    /// A connection that nothing is known of.
+    pub fn make(alloc: Global, now: u64) -> Conn
+        ensures { result ≡ new_conn now }
+    {
+        Conn {
+            tcb: Tcb::make(alloc),
+            heard: now,
+            quiet_until: 0,
+        }
+    }
+
+    pub fn is_over(&self) -> bool
+        ensures { result ≡ is_over self.now }
+    {
+        matches!(self.tcb.state(), State::Listen)
+    }
+
+    pub fn is_half_open(&self) -> bool
+        ensures { result ≡ is_half_open self.now }
+    {
+        matches!(self.tcb.state(), State::SynReceived)
+    }
+
+    /// Whether nothing came from it for so long.
+    pub fn is_idle(&self, now: u64, limit: u64) -> bool
+        ensures { result ≡ is_idle now limit self.now }
+    {
+        now.saturating_sub(self.heard) >= limit
+    }
+
+    /// What becomes of a segment that comes at a time.
+    #[tactic(auto, unfolding(crate::specs::Acts::judged))]
+    pub fn judged(&self, now: u64, seg: &Seg, text: &[u8]) -> Judged
+        ensures { result ≡ judged now seg.now text.now self.now }
+    {
+        if !takes(&self.tcb, now) {
+            Judged::Late
+        } else if !provokes(&self.tcb, seg, text) {
+            Judged::Taken
+        } else if now < self.quiet_until {
+            Judged::Unanswered
+        } else {
+            Judged::Challenged
+        }
+    }
+
+    /// A segment comes. The answer says what became of it. After an error nothing more is promised.
+    #[tactic(auto, unfolding(crate::specs::Acts::after))]
+    pub fn take(
+        &mut self,
+        alloc: Global,
+        service: Service,
+        now: u64,
+        iss: u32,
+        seg: &Seg,
+        text: &[u8],
+    ) -> Result<Judged, AllocError>
+        requires { now ≤ last_time }
+        ensures judged { IfOk result (λ j. j ≡ judged now seg.now text.now self.old) }
+        ensures conn { OnOk result (self.new ≡ receives service now iss seg.now text.now self.old) }
+    {
+        let judged = self.judged(now, seg, text);
+        match judged {
+            Judged::Taken => {
+                serve(service, &mut self.tcb, alloc, now, iss, seg, text)?;
+                self.heard = now;
+            }
+            Judged::Challenged => {
+                self.tcb.challenge(alloc)?;
+                self.heard = now;
+                self.quiet_until = now + CHALLENGE_INTERVAL;
+            }
+            Judged::Unanswered | Judged::Late => {}
+        }
+        Ok(judged)
+    }
+
+    /// The time comes to the block.
+    #[tactic(auto, unfolding(crate::specs::Acts::reaches))]
+    pub fn reach(&mut self, alloc: Global, now: u64) -> Result<(), AllocError>
+        requires time { now ≤ last_time }
+        ensures { OnOk result (self.new ≡ reached now self.old) }
+    {
+        if self.tcb.clock() <= now {
+            tick(&mut self.tcb, alloc, now)?;
+        }
+        Ok(())
+    }
+
+    /// What the block has sent leaves it, and goes behind the datagrams that are there.
+    #[tactic(auto, unfolding(crate::specs::Acts::emptied))]
+    pub fn send(
+        &mut self,
+        alloc: Global,
+        tuple: &Tuple,
+        out: &mut Vec<Datagram>,
+    ) -> Result<(), AllocError>
+        ensures conn { OnOk result (self.new ≡ emptied self.old) }
+        ensures sent { OnOk result (out.new.items ≡ out.old.items ++ sent_by tuple.now self.old) }
+    {
+        let replies = self.tcb.take_replies(alloc);
+        for reply in &replies {
+            out.push(encoded(alloc, tuple, reply)?)?;
+        }
+        Ok(())
+    }
+}
+
+/// Whether a block takes a segment at this time.
+fn takes(tcb: &Tcb, now: u64) -> bool
+    ensures { result ≡ takes now tcb.now }
+{
+    tcb.clock() <= now && has_room(tcb)
+}
+
+fn has_room(tcb: &Tcb) -> bool
+    ensures { result ≡ has_room tcb.now }
+{
+    tcb.has_room()
+}
+
+/// Whether a segment gets a challenge, and no more than one in a while.
+#[tactic(auto, unfolding(crate::specs::Acts::provokes))]
+fn provokes(tcb: &Tcb, seg: &Seg, text: &[u8]) -> bool
+    ensures { result ≡ provokes seg.now text.now tcb.now }
+{
+    is_outside(tcb, seg)
+        || (tcb.is_challenged(seg, text) && (text.is_empty() || seg.flags & SYN != 0))
+}
+
+/// Whether the acknowledgement is neither of what was sent nor a bit older (RFC 5961, 5.2).
+#[tactic(auto, unfolding(crate::specs::Acts::is_outside))]
+fn is_outside(tcb: &Tcb, seg: &Seg) -> bool
+    ensures { result ≡ is_outside seg.now tcb.now }
+{
+    if matches!(tcb.state(), State::Listen | State::SynReceived)
+        || seg.flags & RST != 0
+        || seg.flags & SYN != 0
+    {
+        return false;
+    }
+    let oldest = oldest_ack(tcb);
+    seg.flags & ACK != 0 && seq_dist(oldest, tcb.snd_nxt()) < seq_dist(oldest, seg.ack)
+}
+
+fn oldest_ack(tcb: &Tcb) -> u32
+    ensures { result ≡ oldest_ack tcb.now }
+{
+    tcb.snd_una().wrapping_sub(SEND_SPACE)
+}

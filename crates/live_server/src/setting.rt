@@ -1,0 +1,16 @@
+//! What a server is started with.
+
+use sq_base::Addr;
+
+/// What a server is started with.
+#[derive(Clone, Copy)]
+pub struct Setting {
+    /// The address that it answers for.
+    pub address: Addr,
+    /// The broadcast address of its network, which is no host's.
+    pub broadcast: Addr,
+    /// How many connections are kept at once.
+    pub places: usize,
+    /// How long a connection from which nothing comes stays in a full table, in microseconds.
+    pub idle: u64,
+}

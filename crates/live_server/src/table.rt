@@ -1,0 +1,145 @@
+//! The table of connections, and who leaves it.
+
+ghost use Rattle.std.specs.Prelude.{◌≡◌, ◌++◌, ◌<◌, ◌≤◌, true, length, map, IfOk, OnOk};
+ghost use Rattle.std.specs.List.{flat_map};
+ghost use Rattle.echo_services.specs.Pump.{service_of};
+ghost use Rattle.indexmap.specs.IndexMap.{set_value_at};
+ghost use Rattle.sq_base.specs.Ports.{is_served_port};
+ghost use Rattle.tcb_machine.specs.Limits.{last_time};
+ghost use Rattle.live_server.specs.Acts.{emptied, is_half_open, is_over, judged, reached, receives, sent_by};
+ghost use Rattle.live_server.specs.Table.{all_reached, conn_at, replaced, settled, without, without_idle, without_over};
+
+use crate::acting::Datagram;
+use crate::conn::{Conn, Judged};
+use echo_services::Service;
+use indexmap::IndexMap;
+use segment_codec::Seg;
+use sq_base::Tuple;
+use std::alloc::{AllocError, Global};
+
+/// Connections by their two ends.
+pub(crate) type Table = IndexMap<Tuple, Conn>;
+
+/// The connection at a place leaves; the last one takes its place.
+#[tactic(auto, unfolding(crate::specs::Table::without))]
+pub(crate) fn leave(table: &mut Table, place: usize)
+    ensures { table.new.entries ≡ without place table.old.entries }
+{
+    table.swap_remove_index(place);
+}
+
+/// The connection at a place leaves where it is over.
+#[tactic(auto, unfolding(crate::specs::Table::settled))]
+pub(crate) fn settle(table: &mut Table, place: usize)
+    ensures { table.new.entries ≡ settled place table.old.entries }
+{
+    if is_over_at(table, place) {
+        leave(table, place);
+    }
+}
+
+fn is_over_at(table: &Table, place: usize) -> bool
+    ensures { result ≡ is_over (conn_at place table.now.entries) }
+{
+    match table.get_index(place) {
+        Some((_, conn)) => conn.is_over(),
+        None => true,
+    }
+}
+
+pub(crate) fn is_half_open_at(table: &Table, place: usize) -> bool
+    ensures { result ≡ is_half_open (conn_at place table.now.entries) }
+{
+    match table.get_index(place) {
+        Some((_, conn)) => conn.is_half_open(),
+        None => false,
+    }
+}
+
+/// All leave that are over.
+pub(crate) fn drop_over(table: &mut Table)
+    ensures { table.new.entries ≡ without_over table.old.entries }
+{
+    table.retain(|_, conn| !conn.is_over());
+}
+
+/// From a table that is full all leave that are idle.
+#[tactic(auto, unfolding(crate::specs::Table::without_idle))]
+pub(crate) fn drop_idle(table: &mut Table, places: usize, now: u64, limit: u64)
+    ensures table { table.new.entries ≡ without_idle places now limit table.old.entries }
+    ensures fewer { length table.new.entries ≤ length table.old.entries }
+{
+    if table.len() >= places {
+        table.retain(|_, conn| !conn.is_idle(now, limit));
+    }
+}
+
+/// The time comes to each connection in turn. What is sent goes behind the datagrams that are there.
+pub(crate) fn reach_all(
+    table: &mut Table,
+    alloc: Global,
+    now: u64,
+    out: &mut Vec<Datagram>,
+) -> Result<(), AllocError>
+    requires { now ≤ last_time }
+    ensures table { OnOk result (table.new.entries ≡ all_reached now table.old.entries) }
+    ensures sent { OnOk result (out.new.items ≡ out.old.items ++ flat_map (λ c. sent_by c.0 (reached now c.1)) table.old.entries) }
+{
+    for place in 0..table.len() {
+        let (tuple, conn) = table.pair_mut(place);
+        conn.reach(alloc, now)?;
+        conn.send(alloc, tuple, out)?;
+    }
+    Ok(())
+}
+
+/// The time comes to the connection at a place, which leaves where it is over.
+#[tactic(auto, unfolding(crate::specs::Table::replaced))]
+pub(crate) fn reach_at(
+    table: &mut Table,
+    place: usize,
+    alloc: Global,
+    now: u64,
+    tuple: &Tuple,
+    out: &mut Vec<Datagram>,
+) -> Result<(), AllocError>
+    requires time { now ≤ last_time }
+    requires place { place < length table.old.entries }
+    ensures table { OnOk result (table.new.entries ≡ replaced place (reached now (conn_at place table.old.entries)) table.old.entries) }
+    ensures sent { OnOk result (out.new.items ≡ out.old.items ++ sent_by tuple.now (reached now (conn_at place table.old.entries))) }
+{
+    let (_, conn) = table.pair_mut(place);
+    conn.reach(alloc, now)?;
+    conn.send(alloc, tuple, out)?;
+    settle(table, place);
+    Ok(())
+}
+
+/// A segment comes to the connection at a place, which leaves where it is over.
+#[tactic(auto, unfolding(crate::specs::Table::replaced))]
+pub(crate) fn take_at(
+    table: &mut Table,
+    place: usize,
+    alloc: Global,
+    now: u64,
+    iss: u32,
+    seg: &Seg,
+    text: &[u8],
+    tuple: &Tuple,
+    out: &mut Vec<Datagram>,
+) -> Result<Judged, AllocError>
+    requires time { now ≤ last_time }
+    requires port { is_served_port seg.now.dst_port ≡ true }
+    requires place { place < length table.old.entries }
+    ensures judged { IfOk result (λ j. j ≡ judged now seg.now text.now (conn_at place table.old.entries)) }
+    ensures table { OnOk result (table.new.entries ≡ replaced place
+        (receives (service_of seg.now.dst_port) now iss seg.now text.now (conn_at place table.old.entries)) table.old.entries) }
+    ensures sent { OnOk result (out.new.items ≡ out.old.items
+        ++ sent_by tuple.now (receives (service_of seg.now.dst_port) now iss seg.now text.now (conn_at place table.old.entries))) }
+{
+    let (_, conn) = table.pair_mut(place);
+    let judged = conn.take(alloc, Service::of(seg.dst_port), now, iss, seg, text)?;
+    conn.send(alloc, tuple, out)?;
+    settle(table, place);
+    Ok(judged)
+}

@@ -1,0 +1,26 @@
+//! What a server that stands beside a block asks of it.
+
+ghost use Rattle.std.specs.Prelude.{◌≡◌, ◌<◌, ◌^◌, false, OnOk};
+ghost use Rattle.tcb_machine.specs.BlockState.{held_in, sends_ack};
+ghost use Rattle.tcb_machine.specs.States.{is_listen};
+
+use super::Tcb;
+use std::alloc::{AllocError, Global};
+
+impl Tcb {
+    /// How many bytes are held: received and not taken, behind a gap too, and offered and not acknowledged.
+    pub fn held(&self) -> u64
+        ensures is { result ≡ held_in self.now }
+        ensures most { result < 2 ^ 34 }
+    {
+        self.recv.held() + u64::from(self.send.held())
+    }
+
+    /// Sends an acknowledgement, as a challenge (RFC 5961). After NoMemory nothing more is promised.
+    pub fn challenge(&mut self, alloc: Global) -> Result<(), AllocError>
+        requires open { is_listen self.old.state ≡ false }
+        ensures { OnOk result (self.new ≡ sends_ack self.old) }
+    {
+        self.send_ack(alloc)
+    }
+}
