@@ -113,6 +113,7 @@ module _ (file : CaptureFile) (counts : Counts) (t : Tuple) (x y : Item) (legal 
         (order, once, sym i.1 ∙ settles);
     whole = λ c o at. let i = only order o c at in subst (λ k. IsWhole p [] k o) (sym i.0) (subst (IsWhole p [] 0) i.1 whole);
   }
+
   one_served : AreServed p [] (block p ∷ [])
   one_served = record {
     count = refl;
@@ -127,4 +128,3 @@ module _ (file : CaptureFile) (counts : Counts) (t : Tuple) (x y : Item) (legal 
     traces = refl;
     traced = λ q e at. subst (λ k. IfSome (slice_get (no_trace ∷ []) k) (λ t. marks_of t ≡ [])) (sym (only ending e q at).0) refl;
   }
-
