@@ -5,7 +5,7 @@ use Rattle.squeue_example.specs.Rows.{in_order}
 use Rattle.squeue_example.proofs.tests.bounded.fills_up.Goals as goal
 
 pub loop-n-preserved : goal.loop-n-preserved
-loop-n-preserved c =
+loop-n-preserved g c =
     let n = c.loop-n.n in
     let left : 19 - n ≡ 20 - (n + 1) = omega arith in
     record {

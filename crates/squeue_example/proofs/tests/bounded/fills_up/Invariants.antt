@@ -6,4 +6,4 @@ use Rattle.squeue_example.specs.Rows.{in_order}
 use Rattle.squeue_example.proofs.tests.bounded.fills_up.Given as goal
 
 abbrev pub invariant-loop-n : goal.invariant-loop-n
-invariant-loop-n l = record { number : number l.pass ≡ number l.fn.pass; may : MayEnter limits_of l.squeue l.pass (in_order 0 l.n (20 - l.n)) }
+invariant-loop-n g l = record { number : number l.pass ≡ number l.fn.pass; may : MayEnter limits_of l.squeue l.pass (in_order 0 l.n (20 - l.n)) }

@@ -7,8 +7,8 @@ use Rattle.squeue_example.specs.Rows.{in_order}
 use Rattle.squeue_example.proofs.Ordered.{first_of}
 use Rattle.squeue_example.proofs.tests.bounded.processes.Goals as goal
 
-pub enter_or_full-entered-requires-clause-may : goal.enter_or_full-entered-requires-clause-may
-enter_or_full-entered-requires-clause-may c =
+pub enter_or_full-requires-clause-may : goal.enter_or_full-requires-clause-may
+enter_or_full-requires-clause-may g c =
     let n = c.args.n in
     let rest = in_order 0 (n + 1) (19 - n) in
     may_front limits_of c.args.squeue.now c.args.pass (c.feed.result ∷ []) rest
@@ -16,7 +16,7 @@ enter_or_full-entered-requires-clause-may c =
     (first_of 0 n (20 - n) (19 - n) (omega (arith, c.requires.below)) ∙ ap (λ (f : Feed). f ∷ rest) (sym c.feed.ensures)) c.requires.may)
 
 pub returns-clause-more : goal.returns-clause-more
-returns-clause-more c =
+returns-clause-more g c =
     let n = c.args.n in
     let rest = in_order 0 (n + 1) (19 - n) in
     c.in-Ok.ensures.more rest
