@@ -40,10 +40,10 @@ fn queues<W: Wait + Abort>(rt: &W, squeue: &Squeue<Logs>, pass: Pass, n: u32) ->
     ensures number { number result ≡ number pass }
     ensures more { MayEnter limits_of squeue.now result (in_order 0 (n + 1) (19 - n)) }
 {
-    let Ok(pass) = fill_or_full(squeue, rt, pass, &[feed(0, n)]) else {
-        panic!(rt; "there is room for feed {n}")
-    };
-    pass
+    match fill_or_full(squeue, rt, pass, &[feed(0, n)]) {
+        Ok(pass) => pass,
+        Err(_) => panic!(rt; "there is room for feed {n}"),
+    }
 }
 
 // Feed `n` of the twenty finds no room.
@@ -53,10 +53,10 @@ fn refuses<W: Wait + Abort>(rt: &W, squeue: &Squeue<Logs>, pass: Pass, n: u32) -
     ensures number { number result ≡ number pass }
     ensures more { MayEnter limits_of squeue.now result (in_order 0 n (20 - n)) }
 {
-    let Err(pass) = fill_or_full(squeue, rt, pass, &[feed(0, n)]) else {
-        panic!(rt; "there is no room for feed {n}")
-    };
-    pass
+    match fill_or_full(squeue, rt, pass, &[feed(0, n)]) {
+        Ok(_) => panic!(rt; "there is no room for feed {n}"),
+        Err(pass) => pass,
+    }
 }
 
 // Feeds 0 and 1 find no room together.
@@ -65,10 +65,10 @@ fn refuses_two<W: Wait + Abort>(rt: &W, squeue: &Squeue<Logs>, pass: Pass) -> Pa
     ensures number { number result ≡ number pass }
     ensures more { MayEnter limits_of squeue.now result (in_order 0 0 20) }
 {
-    let Err(pass) = fill_or_full(squeue, rt, pass, &[feed(0, 0), feed(0, 1)]) else {
-        panic!(rt; "there is no room for two")
-    };
-    pass
+    match fill_or_full(squeue, rt, pass, &[feed(0, 0), feed(0, 1)]) {
+        Ok(_) => panic!(rt; "there is no room for two"),
+        Err(pass) => pass,
+    }
 }
 
 // Feed `n` of the twenty is processed at once, and takes no room.
@@ -85,9 +85,9 @@ fn processes<W: Wait + Abort>(
     ensures more { MayEnter limits_of squeue.now result (in_order 0 (n + 1) (19 - n)) }
 {
     let chain = [feed(0, n)];
-    let Ok(entered) = enter_or_full(squeue, rt, alloc, &NoHook, pass, &chain, Mode::Process, 1)
-    else {
-        panic!(rt; "there is room for feed {n}")
+    let entered = match enter_or_full(squeue, rt, alloc, &NoHook, pass, &chain, Mode::Process, 1) {
+        Ok(entered) => entered,
+        Err(_) => panic!(rt; "there is room for feed {n}"),
     };
     let Entered {
         pass,
