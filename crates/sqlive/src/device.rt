@@ -1,7 +1,8 @@
 //! Standard input and output as a TUN device: each read is a datagram, and each write is one.
 
-ghost use Rattle.std.specs.Prelude.{◌≤◌};
+ghost use Rattle.std.specs.Prelude.{◌≡◌, ◌<◌, ◌≤◌, ◌^◌, length, OnOk};
 ghost use Rattle.tcb_machine.specs.Limits.{last_time};
+ghost use Rattle.sqlive.specs.Rounds.{round, ticked_by};
 
 use live_server::{Datagram, Server};
 use std::alloc::{AllocError, Global};
@@ -13,7 +14,7 @@ use tcb_machine::LAST_TIME;
 /// The most bytes of a datagram.
 const MOST: usize = 65_536;
 
-/// How often the time comes to every block, in microseconds. Something has to be read for it: the launcher sends a datagram.
+/// How often the time comes to every connection, in microseconds. Something has to be read for it: the launcher sends a datagram.
 const TICK: u64 = 20_000;
 
 /// Serves until nothing more can be read.
@@ -31,13 +32,9 @@ pub fn serve(rt: &HostRuntime, server: Server) -> io::Result<()> {
             break;
         }
         let now = micros(start.elapsed(rt)?);
-        if now.saturating_sub(ticked) >= TICK {
-            ticked = now;
-            server.tick(rt.alloc(), now, &mut sent)?;
-        }
-        datagram(&mut server, rt.alloc(), now, &body[..read], &mut sent)?;
+        let (datagram, _) = body[..read].split_at(read.min(MOST));
+        round(&mut server, rt.alloc(), now, &mut ticked, datagram, &mut sent)?;
         write_each(&mut writer, &sent);
-        sent.clear();
     }
     Ok(())
 }
@@ -53,21 +50,28 @@ fn micros(since: Duration) -> u64
         .min(LAST_TIME)
 }
 
-/// A datagram that was read.
-fn datagram(
+/// A datagram that was read: the time comes to every connection first, where that is due. What is sent takes the place of what
+/// was. After an error, which says that memory was missing, nothing more is promised.
+fn round(
     server: &mut Server,
     alloc: Global,
     now: u64,
+    ticked: &mut u64,
     body: &[u8],
     sent: &mut Vec<Datagram>,
 ) -> Result<(), AllocError>
-    requires { now ≤ last_time }
+    requires time { now ≤ last_time }
+    requires body { length body.now < 2 ^ 32 }
+    ensures server { OnOk result (server.new ≡ (round now ticked.old body.now server.old).server) }
+    ensures sent { OnOk result (sent.new.items ≡ (round now ticked.old body.now server.old).sent) }
+    ensures ticked { ticked.new ≡ ticked_by now ticked.old }
 {
-    if body.len() <= MOST {
-        server.datagram(alloc, now, body, sent)
-    } else {
-        Ok(())
+    sent.clear();
+    if now.saturating_sub(*ticked) >= TICK {
+        *ticked = now;
+        server.tick(alloc, now, sent)?;
     }
+    server.datagram(alloc, now, body, sent)
 }
 
 /// Writes each datagram. One that the device refuses is lost, as on any wire.

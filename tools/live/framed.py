@@ -1,0 +1,75 @@
+"""sqlive over frames, where the test gives the time: each step is deterministic, and needs neither root nor a device."""
+import socket
+import subprocess
+
+import tcp_segments
+from tcp_segments import ACK, FIN, PSH, RST, SYN
+from wire import CLIENT, HEAD, SERVER, frames_words
+
+SECOND = 1_000_000
+MSS = b"\2\4\5\xb4"
+
+
+class Framed:
+    """The program, as a context. The clock begins at a second."""
+    def __init__(self, program, **setting):
+        self.words, self.now, self.mark = [program, *frames_words(**setting)], SECOND, 0
+
+    def __enter__(self):
+        self.program = subprocess.Popen(self.words, stdin=subprocess.PIPE, stdout=subprocess.PIPE)
+        return self
+
+    def __exit__(self, *_):
+        self.program.stdin.close()
+        status = self.program.wait()
+        self.program.stdout.close()
+        assert status == 0, f"the program ended with status {status}"
+
+    def step(self, *datagrams, after=0):
+        """What is sent for each datagram, or for the time alone, so many microseconds later.
+
+        Behind them goes a segment to a port that isn't served: its reset is the mark of the end.
+        """
+        self.now += after
+        self.mark += 1
+        mark = datagram(40000, 1, self.mark, 0, SYN, source="10.9.0.250")
+        for body in (*(datagrams or (b"",)), mark):
+            self.program.stdin.write(HEAD.pack(len(body), self.now) + body)
+        self.program.stdin.flush()
+        sent = []
+        while True:
+            length, _ = HEAD.unpack(self.program.stdout.read(HEAD.size))
+            found = tcp_segments.read(self.program.stdout.read(length))
+            if (found.source_port, found.ack) == (1, self.mark + 1):
+                return sent
+            sent.append(found)
+
+
+def datagram(source_port, port, seq, ack, flags, source=CLIENT, target=SERVER, **fields):
+    return tcp_segments.segment(socket.inet_aton(source), source_port, socket.inet_aton(target), port, seq, ack, flags, **fields)
+
+
+class Client:
+    """A client's end of a connection, which is opened here."""
+    def __init__(self, server, port=40000, service=7, isn=1000, options=MSS, **fields):
+        self.server, self.port, self.service, self.fields = server, port, service, fields
+        answer, = server.step(self.segment(isn, 0, SYN, options=options))
+        assert (answer.flags, answer.ack) == (SYN | ACK, isn + 1), answer
+        self.seq, self.ack = isn + 1, answer.seq + 1
+        assert server.step(self.segment(self.seq, self.ack, ACK)) == []
+
+    def segment(self, seq, ack, flags, **fields):
+        return datagram(self.port, self.service, seq, ack, flags, **{**self.fields, **fields})
+
+    def send(self, text=b"", flags=PSH | ACK, after=0):
+        """What comes back for a text that is next in order."""
+        sent = self.server.step(self.segment(self.seq, self.ack, flags, text=text), after=after)
+        self.seq += len(text) + bool(flags & FIN)
+        return sent
+
+    def close(self):
+        """Closes, and acknowledges the server's FIN."""
+        last = self.send(flags=FIN | ACK)[-1]
+        assert last.flags & FIN, last
+        self.ack = last.seq_end()
+        assert self.server.step(self.segment(self.seq, self.ack, ACK)) == []

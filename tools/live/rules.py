@@ -1,0 +1,88 @@
+"""What a server beside its blocks does with what strangers send: one function a rule, each over frames."""
+from framed import SECOND, Client, Framed, datagram
+from tcp_segments import ACK, FIN, PSH, RST, SYN
+
+
+def addresses(program):
+    """RFC 9293, 3.9.2.3: a segment to or from what is no host's address is dropped, also at a port that isn't served."""
+    with Framed(program) as server:
+        for port in (7, 80):
+            for ends in ({"source": "255.255.255.255"}, {"source": "224.0.0.1"}, {"source": "240.0.0.1"}, {"source": "0.0.0.0"}, {"source": "127.0.0.1"},
+                         {"source": "10.9.0.255"}, {"source": "10.9.0.2"}, {"target": "255.255.255.255"}, {"target": "224.0.0.1"}, {"target": "10.9.0.255"}, {"target": "8.8.8.8"}):
+                for flags in (SYN, ACK):
+                    assert server.step(datagram(40000, port, 1, 1, flags, **ends)) == [], f"an answer to port {port}, {ends}"
+            assert server.step(datagram(port, port, 1, 0, SYN, source="10.9.0.2")) == [], "an answer to two equal ends"
+        assert len(server.step(datagram(40000, 80, 1, 0, SYN))) == 1 and len(server.step(datagram(40001, 7, 1, 0, SYN, source="192.0.2.1"))) == 1
+
+
+def challenges(program):
+    """RFC 5961, 7: one challenge in 500 ms for each connection; text out of order is acknowledged each time (RFC 5681, 4.2)."""
+    with Framed(program) as server:
+        client, other = Client(server), Client(server, port=40001)
+        resets = [client.segment(client.seq + 10, 0, RST)] * 10000
+        first = server.step(*resets)
+        assert [(s.flags, s.seq, s.ack) for s in first] == [(ACK, client.ack, client.seq)], first
+        assert server.step(client.segment(client.seq - 1, client.ack, ACK), after=499_999) == []
+        assert len(server.step(client.segment(client.seq, 0, SYN), after=1)) == 1
+        assert len(server.step(other.segment(other.seq + 10, 0, RST))) == 1
+        holes = [client.segment(client.seq + 100 * i, client.ack, ACK, text=b"hole") for i in (1, 2, 3)]
+        assert len(server.step(*holes)) == 3
+        assert server.step(client.segment(client.seq, 0, RST)) == []
+        assert server.step(client.segment(client.seq, client.ack, ACK))[0].flags == RST, "a reset at RCV.NXT has to end it"
+
+
+def blind(program):
+    """RFC 5961, 5.2: text and FIN of somebody who guesses the acknowledgement don't come in, and get one challenge."""
+    with Framed(program) as server:
+        client = Client(server, options=b"\2\4\5\xb4\1\3\3\7")
+        assert [s.text for s in client.send(b"honest")] == [b"honest"]
+        client.ack += 6
+        server.step(client.segment(client.seq, client.ack, ACK))
+        guesses = [client.ack - 65536 - distance for distance in (1, 2**30, 2**31 - 2**17)] + [client.ack + distance for distance in (1, 2**20, 2**31 - 2**17)]
+        for ack in guesses:
+            sent = server.step(client.segment(client.seq, ack, ACK, text=b"evil"), client.segment(client.seq, ack, FIN | ACK), after=SECOND)
+            assert [(s.flags, s.seq, s.ack) for s in sent] == [(ACK, client.ack, client.seq)], (ack, sent)
+        # an acknowledgement that is a bit older is of use with its text
+        sent = server.step(client.segment(client.seq, client.ack - 6, PSH | ACK, text=b"after"))
+        assert [s.text for s in sent] == [b"after"], sent
+
+
+def fresh(program):
+    """The count of retransmissions is a connection's own: after eight connections with eight each, the ninth's text is sent again too."""
+    with Framed(program) as server:
+        client = Client(server)
+        for _ in range(9):
+            for _ in range(8):
+                client.send(b"x")
+                again, = server.step(after=SECOND)
+                assert again.text == b"x", again
+                client.ack += 1
+                server.step(client.segment(client.seq, client.ack, ACK))
+            client.close()
+            client = Client(server, isn=client.seq + 100_000)
+
+
+def idle(program):
+    """Four clients that vanished in a table for four: behind the idle limit the next client is served, and not before."""
+    with Framed(program, places=4, idle=7200) as server:
+        for i in range(4):
+            Client(server, port=41000 + i)
+        server.step(after=7200 * SECOND - 1)
+        assert server.step(datagram(45000, 7, 1, 0, SYN)) == [], "a full table took a connection"
+        server.step(after=1)
+        assert len(server.step(datagram(45000, 7, 1, 0, SYN))) == 1, "nobody left"
+
+
+def half_open(program):
+    """A full table of half-open connections and two that are open: each SYN is answered, the oldest half-open one is the one that left."""
+    with Framed(program, places=6) as server:
+        first, second = Client(server, port=1000), Client(server, port=1001)
+        for i in range(20):
+            assert len(server.step(datagram(2000 + i, 7, 1, 0, SYN))) == 1
+        assert [s.text for s in first.send(b"a")] == [b"a"] and [s.text for s in second.send(b"b")] == [b"b"]
+        # those opened last are there: a second SYN resets them (RFC 9293, 3.10.7.4), and an older one opens a new connection
+        youngest, older = datagram(2019, 7, 2, 0, SYN), datagram(2010, 7, 2, 0, SYN)
+        assert server.step(youngest) == [] and len(server.step(older)) == 1
+
+
+RULES = {function.__name__.replace("_", "-"): function for function in (addresses, challenges, blind, fresh, idle, half_open)}
