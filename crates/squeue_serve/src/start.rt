@@ -8,7 +8,7 @@ use std::time::Duration;
 // How many milliseconds one look for threads that are still to come takes at most, and how many looks there are beside one for each.
 const LOOK: u64 = 10;
 
-const LOOKS: u32 = 500;
+const LOOKS: u32 = 100;
 
 /// A start of so many threads. None of them begins before all have come.
 #[derive(Drop)]
@@ -41,7 +41,7 @@ impl Start {
         let _ = self.begins.set(rt, begins);
     }
 
-    // The kit doesn't say whether `join_mut` could make its thread. One that doesn't come for five seconds, or for one look where no
+    // The kit doesn't say whether `join_mut` could make its thread. One that doesn't come for a second, or for one look where no
     // other thread can be made, counts as refused; it may still come, and then leaves.
     fn have_all_come<W: Threads + Wait>(&self, rt: &W) -> bool {
         for _ in 0..self.threads.saturating_add(LOOKS) {
