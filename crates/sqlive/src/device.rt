@@ -33,7 +33,14 @@ pub fn serve(rt: &HostRuntime, server: Server) -> io::Result<()> {
         }
         let now = micros(start.elapsed(rt)?);
         let (datagram, _) = body[..read].split_at(read.min(MOST));
-        round(&mut server, rt.alloc(), now, &mut ticked, datagram, &mut sent)?;
+        round(
+            &mut server,
+            rt.alloc(),
+            now,
+            &mut ticked,
+            datagram,
+            &mut sent,
+        )?;
         write_each(&mut writer, &sent);
     }
     Ok(())
