@@ -327,6 +327,21 @@ class Large(Folder):
         self.assertTrue(blocks(report).startswith(first))
 
 
+    def test_more_bytes_than_one_run_takes(self):
+        need("parallel")
+        talk = Talk().open().echo().close()
+        write(self.folder / "small.pcap", talk.records, 101)
+        filler = [(talk.records[0][0], b"\x60" + bytes(262_143))] * 260
+        write(self.folder / "a.pcap", talk.records[:1] + filler + talk.records[1:], 101)
+        output([*program().split()], (self.folder / "a.pcap").read_bytes(), status=7)
+        report = sq(self.folder / "a.pcap")
+        self.assertIn(b"records 269 tail 0 served 6 nofit 0 server 3 other 260 ", report)
+        self.assertEqual(blocks(report), blocks(by_hand(self.folder / "small.pcap")))
+        # A trace isn't split.
+        said = sq("--trace", self.folder / "a.pcap", status=7)
+        self.assertIn("too large: more than 67108864 bytes\nOne run takes 64 MiB", said)
+
+
 class Check(Folder):
     def check(self, text, *words, path=EXAMPLE):
         (self.folder / "a.report").write_bytes(text)
