@@ -93,16 +93,19 @@ def address(data, at, port_at):
 def captures_of(folder):
     """The captures of a folder of sqshard, by its own list of them."""
     try:
-        return [Path(one["path"]) for one in json.loads((folder / "captures.json").read_text())["captures"]]
+        names = [one["path"] for one in json.loads((folder / "captures.json").read_text())["captures"]]
+        if not all(isinstance(name, str) and "\0" not in name for name in names):
+            raise ValueError
+        return [Path(name) for name in names]
     except (ValueError, KeyError, TypeError, RecursionError):
-        raise Refused(f"{str(folder / 'captures.json')!r} isn't one of sqshard's") from None
+        raise Refused(f"{folder / 'captures.json'} isn't one of sqshard's") from None
 
 
 def sources(names):
     """(name, bytes) of each file, in order."""
     for name in map(Path, names):
         if (name / "captures.json").is_file():
-            yield from sources(captures_of(name))
+            yield from ((path, map_file(path)) for path in captures_of(name))
         elif (name / "0-head").is_file():
             yield name, b"".join(piece.read_bytes() for piece in sorted(name.iterdir()))
         else:

@@ -5,6 +5,7 @@ are not checked here: what is past them sqrun itself refuses.
 """
 import mmap
 import os
+import stat
 from struct import Struct, unpack_from
 
 from packets import LINK_SIZE
@@ -19,20 +20,26 @@ LEAST = {INTERFACE: 20, SIMPLE_PACKET: 16, PACKET: 32}
 LAST_TIME = 2 ** 53                 # pcapng's times are at most this
 
 
+def plain(text):
+    """The text as a terminal may show it: what would move its cursor or change its colours is written out."""
+    return "".join(c if c.isprintable() else c.encode("unicode_escape").decode() for c in str(text))
+
+
 class Refused(Exception):
     """What the user is told, and the status that goes with it."""
 
     def __init__(self, text, status=1):
-        super().__init__(text)
+        super().__init__(plain(text))
         self.status = status
 
 
 def map_file(path):
-    """A file's bytes, without a copy of them in memory."""
+    """A file's bytes, without a copy of them in memory where it is a plain file."""
     with open(path, "rb") as f:
-        if not os.fstat(f.fileno()).st_size:
-            return b""
-        return mmap.mmap(f.fileno(), 0, access=mmap.ACCESS_READ)
+        state = os.fstat(f.fileno())
+        if not stat.S_ISREG(state.st_mode):
+            return f.read()
+        return mmap.mmap(f.fileno(), 0, access=mmap.ACCESS_READ) if state.st_size else b""
 
 
 def is_pcapng(data):

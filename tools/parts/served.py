@@ -36,7 +36,7 @@ def load_whole(report_name, capture_names=None, datagrams=True):
         reports.join(report, whole, name, ", ".join(map(str, names)))
         return report, whole
     except OSError as fault:
-        raise Refused(f"{fault.strerror}: {str(fault.filename)!r}" if fault.filename else str(fault)) from None
+        raise Refused(f"{fault.filename or name}: {fault.strerror}") from None
 
 
 def numbers(words, option, below):

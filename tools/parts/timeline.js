@@ -422,7 +422,7 @@ class Timeline {
   }
   signAt(one, pass, x) {
     if (this.step < 2) return null;
-    const [i, k] = one.marksIn(this.columnAt(x - 6) - .5, this.columnAt(x + 6) + .5);
+    const [i, k] = one.marksIn(this.columnAt(x - 6) - .5, this.columnAt(x + 6) - .5);
     for (let n = i; n < k; n++) if ("Fagx".includes(one.kind[n]) && one.pass(n) === pass) return {one, mark: n, fill: one.kind[n] === "F" ? one.filled(n)[0] : -1};
     return null;
   }

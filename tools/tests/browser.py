@@ -2,11 +2,13 @@
 import base64
 import json
 import os
+import shutil
 import subprocess
 import tempfile
 from pathlib import Path
 
-COMMAND = "chromium-headless-shell"
+COMMAND = next((name for name in ("chromium-headless-shell", "chromium") if shutil.which(name)), "chromium-headless-shell")
+CONTROL, SHIFT = 2, 8           # of a key that is held
 
 
 class Browser:
@@ -15,7 +17,7 @@ class Browser:
         self.inp, to_write = os.pipe()
         self.home = tempfile.TemporaryDirectory()
         words = [COMMAND, "--disable-gpu", "--hide-scrollbars", "--remote-debugging-pipe", f"--user-data-dir={self.home.name}",
-                 f"--window-size={width},{height}"] + ["--no-sandbox"] * (os.geteuid() == 0) + ["about:blank"]
+                 f"--window-size={width},{height}"] + ["--headless"] * (COMMAND == "chromium") + ["--no-sandbox"] * (os.geteuid() == 0) + ["about:blank"]
 
         def place():                    # the pipe is descriptors 3 and 4
             a, b = os.dup(to_read), os.dup(to_write)
@@ -69,13 +71,67 @@ class Browser:
         return [e for e in self.events if e.get("method") in ("Runtime.exceptionThrown", "Runtime.consoleAPICalled", "Log.entryAdded")
                 or e.get("method") == "Network.requestWillBeSent" and e["params"]["type"] != "Document"]
 
-    def drag(self, a, b):
+    def drag(self, a, b, held=0):
         for kind, (x, y), buttons in (("mousePressed", a, 1), ("mouseMoved", b, 1), ("mouseReleased", b, 0)):
-            self.call("Input.dispatchMouseEvent", type=kind, x=x, y=y, button="left", buttons=buttons, clickCount=1)
+            self.call("Input.dispatchMouseEvent", type=kind, x=x, y=y, button="left", buttons=buttons, clickCount=1, modifiers=held)
+
+    def click(self, at):
+        for kind, buttons in (("mousePressed", 1), ("mouseReleased", 0)):
+            self.call("Input.dispatchMouseEvent", type=kind, x=at[0], y=at[1], button="left", buttons=buttons, clickCount=1)
+
+    def point(self, at):
+        self.call("Input.dispatchMouseEvent", type="mouseMoved", x=at[0], y=at[1])
+
+    def wheel(self, at, down, held=0):
+        self.call("Input.dispatchMouseEvent", type="mouseWheel", x=at[0], y=at[1], deltaX=0, deltaY=down, modifiers=held)
+
+    def fingers(self, *steps):
+        """Each step is where the fingers are, from the first touch on."""
+        for n, places in enumerate(steps):
+            self.call("Input.dispatchTouchEvent", type="touchStart" if n == 0 else "touchMove", touchPoints=[{"x": x, "y": y, "id": k} for k, (x, y) in enumerate(places)])
+        self.call("Input.dispatchTouchEvent", type="touchEnd", touchPoints=[])
 
     def key(self, name):
-        self.call("Input.dispatchKeyEvent", type="keyDown", key=name)
+        self.call("Input.dispatchKeyEvent", type="keyDown", key=name, **({"text": name} if len(name) == 1 else {}))
         self.call("Input.dispatchKeyEvent", type="keyUp", key=name)
+
+    def scripts(self, on):
+        self.call("Emulation.setScriptExecutionDisabled", value=not on)
+
+    def phone(self, on=True):
+        if on:
+            self.call("Emulation.setDeviceMetricsOverride", width=390, height=760, deviceScaleFactor=2, mobile=True)
+        else:
+            self.call("Emulation.clearDeviceMetricsOverride")
+        self.call("Emulation.setTouchEmulationEnabled", enabled=on)
+
+    def settle(self):
+        """Lets the page draw what is due."""
+        self.call("Runtime.evaluate", expression="new Promise(done => requestAnimationFrame(() => requestAnimationFrame(done)))", awaitPromise=True)
+
+    def processes(self, pid=None):
+        """The browser's processes."""
+        pid = pid or self.process.pid
+        out = [pid]
+        for task in Path(f"/proc/{pid}/task").iterdir():
+            for child in (task / "children").read_text().split():
+                out += self.processes(int(child))
+        return out
+
+    def processor_seconds(self):
+        total = 0
+        for pid in self.processes():
+            fields = Path(f"/proc/{pid}/stat").read_text().rpartition(")")[2].split()
+            total += int(fields[11]) + int(fields[12])
+        return total / os.sysconf("SC_CLK_TCK")
+
+    def page_memory(self):
+        """Bytes of the process that shows the page, its share of what it has in common with others."""
+        largest = 0
+        for pid in self.processes():
+            if b"--type=renderer" in Path(f"/proc/{pid}/cmdline").read_bytes():
+                largest = max(largest, *(1024 * int(line.split()[1]) for line in Path(f"/proc/{pid}/smaps_rollup").read_text().split("\n") if line.startswith("Pss:")))
+        return largest
 
     def dark(self, on=True):
         self.call("Emulation.setEmulatedMedia", features=[{"name": "prefers-color-scheme", "value": "dark" if on else "light"}])

@@ -15,8 +15,9 @@ import drawing
 import perimeter
 import report as reports
 import timeseq
-from browser import COMMAND, Browser
+from browser import COMMAND, CONTROL, SHIFT, Browser
 from generated import records, write
+from traces import long_trace
 
 SVG = "{http://www.w3.org/2000/svg}"
 EXAMPLE = TOP / "examples" / "echo_short.pcap"
@@ -106,7 +107,7 @@ class Marks(unittest.TestCase):
 
     def test_marks_that_do_not_follow_are_told(self):
         for text, path in kept_traces():
-            broken = re.sub(r"\nleave (\d+) 0 none", r"\ntake 9", text, count=1)
+            broken = re.sub(r"\nleave (\d+) 0 none", lambda found: f"\ntake {(int(found[1]) + 1) % 5}", text, count=1)
             self.assertNotEqual(broken, text)
             self.assertRegex(plot(broken, "--capture", path), r"mark \d+ doesn&#x27;t follow")
 
@@ -137,7 +138,7 @@ class Graphs(unittest.TestCase):
     def test_numbers_of_the_report(self):
         for path, text, report, _ in self.reported():
             out = plot(text, "--capture", path)
-            self.assertEqual(len(re.findall(r'<h2 id="conn', out)), len(report.conns))
+            self.assertEqual(len(re.findall(r'<section class="conn" id="conn', out)), len(report.conns))
             told = re.findall(r'id="c\d+(?:life\d+)?down-data">(.*?)</script>', out)
             self.assertEqual(sum(len(json.loads(d)["t"]) for d in told), text.count("\nreply "))
             self.assertEqual(sum(sum(json.loads(d)["n"]) for d in told), sum(r.length for c in report.conns for r in c.replies))
@@ -192,9 +193,10 @@ class Graphs(unittest.TestCase):
         wrong = re.sub(r"conn 0 \S+", "conn 0 1.2.3.4:5", text)
         for broken, words, line in (
                 (text[:-5], (), "isn't whole"), ("", (), "line 1 isn't"), (text.replace("\nend ", "\nfin ", 1), (), "line 8 isn't a report's"),
-                (re.sub(r"\nconn 1 .*(\n.+)*?\nend .*", "", text, count=1), (), "isn't a report's, or not there: conn 2"),
+                (re.sub(r"\nconn 1 .*(\n.+)*?\nend .*", "", text, count=1), (), "isn't a report's, or not there: 'conn 2"),
                 (text.replace("report 1", "report 2"), (), "lines are missing before `done`"), (text + "done\n", (), "isn't a report's"),
                 (text, ("--conn", "40"), "--conn 40: there are 4"), (text, ("--conn", "x"), "not numbers like 0,3-5"),
+                (text, ("--conn", "3-1"), "3-1 begins behind its end"), (text, ("--conn", "٣"), "not numbers like 0,3-5"),
                 (text, ("--figure", "squeues"), "has no marks: run sqrun with --trace"), (text, ("--marks", "0:1"), "there are no such marks"),
                 (text, ("--capture", other), "No such file"), (wrong, ("--capture", EXAMPLE), "connection 0 is 1.2.3.4:5"),
                 (text.replace("records 46", "records 47"), ("--capture", EXAMPLE), "is of 47 records, and"), ("report é", (), "plain ASCII")):
@@ -239,7 +241,7 @@ class Graphs(unittest.TestCase):
                 self.assertGreaterEqual((b + .05) / (a + .05), least, name)
 
 
-class Page(unittest.TestCase):
+class InBrowser(unittest.TestCase):
     @classmethod
     def setUpClass(cls):
         need(COMMAND)
@@ -251,10 +253,13 @@ class Page(unittest.TestCase):
         cls.browser.close()
         cls.folder.cleanup()
 
-    def show(self, text, path, *words):
+    def show(self, text, path, *words, scripts=True):
         page = Path(self.folder.name) / "page.html"
-        page.write_text(plot(text, "--capture", path, *words))
+        page.write_text(plot(text, *(["--capture", path] if path else []), *words))
+        self.browser.scripts(scripts)
         self.browser.open(page)
+        if scripts:
+            self.browser.settle()
         return self.browser
 
     def quiet(self, b):
@@ -262,9 +267,20 @@ class Page(unittest.TestCase):
         self.assertFalse(b.js("document.documentElement.scrollWidth > innerWidth"))
         self.assertTrue(b.js("(i => i.length === new Set(i).size)([...document.querySelectorAll('[id]')].map(e => e.id))"))
 
+    def place(self, selector, x, y):
+        """A point of an element: a share of its width, and so many dots below its top."""
+        left, top, width = self.browser.js(f"(()=>{{const r=document.querySelector({selector!r}).getBoundingClientRect();return [r.x,r.y,r.width]}})()")
+        return left + x * width, top + y
+
+
+class Page(InBrowser):
+    """The page as a whole, and the figures of connections."""
+
     def test_quiet_and_alone(self):
         for path in captures():
-            self.quiet(self.show(sqrun(path).decode(), path))
+            b = self.show(sqrun(path).decode(), path)
+            b.js("document.querySelectorAll('section.conn').forEach(fill)")
+            self.quiet(b)
         for text, path in kept_traces():
             self.quiet(self.show(text, path))
 
@@ -275,37 +291,81 @@ class Page(unittest.TestCase):
         self.assertNotEqual(b.js("window.ran"), 1)
         self.assertIn("Content Security Policy", str(b.complaints()))
 
+    def test_without_the_script_all_is_there(self):
+        text, path = kept_traces()[1]
+        b = self.show(text, path, scripts=False)
+        tree = b.call("DOM.getDocument", depth=-1, pierce=True)
+
+        def count(node, name):
+            return (node["nodeName"].lower() == name) + sum(count(child, name) for child in node.get("children", []))
+        self.assertEqual(count(tree["root"], "svg"), 1 + 2 + 4 * 5)       # the key; names and figure; of four connections two graphs with plots, and a ladder
+        b.scripts(True)
+
     def test_zoom_and_keys(self):
         b = self.show(sqrun(EXAMPLE).decode(), EXAMPLE)
-        b.js("document.querySelector('#c2down').scrollIntoView()")
+        b.js("location.hash = '#conn2'; fill(document.querySelector('#conn2')); document.querySelector('#c2down').scrollIntoView()")
+        b.settle()
         ticks = "[...document.querySelectorAll('#c2down .axes .c')].map(e => e.textContent).join()"
         wide = "document.querySelector('#c2down .plot').getBoundingClientRect().width"
         whole, before = b.js(ticks), b.js(wide)
-        x, y, w = b.js("(()=>{const r=document.querySelector('#c2down').getBoundingClientRect();return [r.x,r.y,r.width]})()")
-        b.drag((x + w * 70 / 960, y + 150), (x + w * 300 / 960, y + 150))
+        b.drag(self.place("#c2down", 70 / 960, 150), self.place("#c2down", 300 / 960, 150))
         self.assertNotEqual(b.js(ticks), whole)
         self.assertAlmostEqual(b.js(wide) / before, 874 / 230, delta=.05)         # 230 of 874 pixels were chosen
         self.assertEqual(b.js(ticks), b.js(ticks.replace("c2down", "c2up")))       # the other direction goes with it
+        near = b.js(ticks)
+        b.drag(self.place("#c2down", .4, 150), self.place("#c2down", .3, 150), SHIFT)
+        self.assertNotEqual(b.js(ticks), near)
+        self.assertAlmostEqual(b.js(wide) / before, 874 / 230, delta=.05)         # panned, not zoomed
+        b.wheel(self.place("#c2down", .5, 150), -160, CONTROL)
+        self.assertAlmostEqual(b.js(wide) / before, 874 / 230 * 2.718 ** .5, delta=1)
         b.js("document.querySelector('#c2down').focus()")
-        b.key("ArrowRight")
-        self.assertRegex(b.js("document.getElementById('c2down-read').textContent"), r"^1 of \d+: 0\.000\d+ s, \[SA\] seq 0$")
         b.key("Escape")
         self.assertEqual(b.js(ticks), whole)
+        b.key("ArrowRight")
+        self.assertRegex(b.js("document.getElementById('c2down-read').textContent"), r"^1 of \d+: 0\.\d{3} ms \(\d\d:\d\d:\d\d\.\d{6} UTC\), \[SA\] seq 0$")
+        self.assertEqual(b.complaints(), [])
+
+    def test_times_in_their_unit(self):
+        for span, unit in ((50, "µs"), (1_500, "µs"), (40_000, "ms"), (3_000_000, "seconds")):
+            self.assertIn(f">{unit}<", timeseq.axes(0, span, 0, 100))
+        self.assertIn(">0.5<", timeseq.axes(0, 3_000_000, 0, 100))
+
+    def test_frames_and_filters_are_wiresharks(self):
+        need("tshark")
+        for path in captures():
+            b = self.show(sqrun(path).decode(), path)
+            conns = capture.read(path).conns
+            for c in {0, len(conns) - 1}:
+                b.js(f"fill(document.querySelector('#conn{c}'))")
+                words = b.js(f"document.querySelector('#conn{c} code').textContent")
+                frames = output(["tshark", "-r", path, "-Y", words, "-T", "fields", "-e", "frame.number"]).decode().split()
+                self.assertEqual(sorted(map(int, frames)), sorted(s.record + 1 for s in conns[c].client + conns[c].server))
+                told = json.loads(re.search(rf'id="c{c}up-data">(.*?)</script>', (Path(self.folder.name) / "page.html").read_text())[1])
+                self.assertEqual(told["w"], [s.record + 1 for s in conns[c].client])
+            b.js("document.querySelector('#c0up').focus()")
+            b.key("ArrowRight")
+            self.assertIn(f"frame {conns[0].client[0].record + 1}, ", b.js("document.getElementById('c0up-read').textContent"))
 
     def test_script_draws_what_python_drew(self):
         for path in captures():
             b = self.show(sqrun(path).decode(), path)
+            b.js("fill(document.querySelector('#conn0'))")
             before = b.js("document.querySelector('#c0up .plot').getBoundingClientRect().width")
+            axis = "[...document.querySelectorAll('#c0up .axes text')].map(e => e.textContent).join()"
+            drawn = b.js(axis)
             b.js("document.querySelector('#c0up').focus()")
             b.key("Escape")
             self.assertAlmostEqual(b.js("document.querySelector('#c0up .plot').getBoundingClientRect().width"), before, 3)
+            self.assertEqual(sorted(b.js(axis).split(",")), sorted(drawn.split(",")))
 
     def test_dark(self):
         b = self.show(*kept_traces()[1])
-        paper = "getComputedStyle(document.body).backgroundColor"
-        light = b.js(paper)
+        paper, pixel = "getComputedStyle(document.body).backgroundColor", "[...timeline.canvas.getContext('2d').getImageData(4, 4, 1, 1).data].join()"
+        light = b.js(paper), b.js(pixel)
         b.dark()
-        self.assertNotEqual(b.js(paper), light)
+        b.settle()
+        self.assertNotEqual(b.js(paper), light[0])
+        self.assertNotEqual(b.js(pixel), light[1])
         b.dark(False)
 
     def test_names_are_not_markup(self):
@@ -313,6 +373,47 @@ class Page(unittest.TestCase):
         path.write_bytes(EXAMPLE.read_bytes())
         b = self.show(sqrun(EXAMPLE).decode(), path)
         self.assertEqual(b.js("document.querySelectorAll('img').length"), 0)
+        self.assertEqual(b.complaints(), [])
+
+    def test_table_sorts_and_filters(self):
+        path = captures()[-1] if len(captures()) > 1 else EXAMPLE
+        text = sqrun(path).decode()
+        report = reports.read(text, "report")
+        b = self.show(text, path)
+        column = lambda n: b.js(f"[...document.querySelectorAll('.list tbody tr')].map(row => row.children[{n}].textContent)")
+        special = column(10)
+        self.assertEqual(len(special), len(report.conns))
+        self.assertEqual([bool(words) for words in special], sorted([bool(words) for words in special], reverse=True))
+        b.js("document.querySelectorAll('.list th button')[8].click()")
+        sent = [int(words.replace(",", "")) for words in column(8)]
+        self.assertEqual(sent, sorted([sum(r.length for r in served.replies) for served in report.conns], reverse=True))
+        b.js("document.querySelectorAll('.list th button')[0].click()")
+        self.assertEqual(column(0), [str(c) for c in range(len(report.conns))])
+        client = report.conns[-1].tuple.split(" ")[0]
+        b.js(f"(i => {{ i.value = {client!r}; i.dispatchEvent(new Event('input')); }})(document.querySelector('.list input'))")
+        self.assertEqual(set(column(1)), {client})
+        b.js("document.querySelector('.list tbody a').click()")
+        b.settle()
+        self.assertEqual(b.js("location.hash"), f"#conn{len(report.conns) - 1}")
+        self.assertTrue(b.js("document.querySelector(location.hash + ' svg[data-view]') !== null"))
+
+    def test_many_connections(self):
+        """1,400 of them: in a page of figures that are made when they are near."""
+        path = Path(self.folder.name) / "many.pcap"
+        write(path, records(2, 14_000, 1_400, 101, span=30), 101)
+        (Path(self.folder.name) / "a.report").write_bytes(sqrun(path))
+        page = Path(self.folder.name) / "page.html"
+        output([TOOLS / "sqplot", "--capture", path, "-o", page, Path(self.folder.name) / "a.report"])
+        b, begun = self.browser, self.browser.processor_seconds()
+        b.open(page)
+        b.settle()
+        self.assertLess(b.processor_seconds() - begun, 3)
+        self.assertGreater(b.js("document.querySelectorAll('section.conn').length"), 1_300)
+        self.assertLess(b.js("document.querySelectorAll('svg[data-view]').length"), 100)
+        b.js("location.hash = '#conn700'")
+        b.settle()
+        self.assertGreater(b.js("document.querySelectorAll('#conn700 svg[data-view]').length"), 1)
+        self.assertLess(abs(b.js("document.querySelector('#conn700').getBoundingClientRect().top")), 900)
         self.assertEqual(b.complaints(), [])
 
     def test_a_hundred_thousand_segments(self):
@@ -325,15 +426,194 @@ class Page(unittest.TestCase):
         page = Path(self.folder.name) / "page.html"
         output([TOOLS / "sqplot", "--capture", path, "-o", page, Path(self.folder.name) / "a.report"])
         self.assertLess(page.stat().st_size, 10_000_000)
-        b, begun = self.browser, time.monotonic()
+        b, begun = self.browser, self.browser.processor_seconds()
         b.open(page)
-        self.assertLess(time.monotonic() - begun, 2)
+        b.js("fill(document.querySelector('#conn0'))")
+        b.settle()
+        self.assertLess(b.processor_seconds() - begun, 2)
         self.quiet(b)
         length = "document.querySelector('#c0up .plot .dot.new').getAttribute('d').length"
         self.assertEqual(b.js(length), 0)               # merged
-        x, y, w = b.js("(()=>{const e=document.querySelector('#c0up');e.scrollIntoView();const r=e.getBoundingClientRect();return [r.x,r.y,r.width]})()")
-        b.drag((x + w * .5, y + 150), (x + w * .51, y + 150))
+        b.js("document.querySelector('#c0up').scrollIntoView()")
+        b.drag(self.place("#c0up", .5, 150), self.place("#c0up", .51, 150))
         self.assertGreater(b.js(length), 100)           # one by one
+
+    def test_phone(self):
+        text, path = kept_traces()[1]
+        self.browser.phone()
+        try:
+            b = self.show(text, path)
+            self.quiet(b)
+            b.js("fill(document.querySelector('#conn1'))")
+            b.settle()
+            self.assertFalse(b.js("document.documentElement.scrollWidth > innerWidth"))
+            self.assertGreater(b.js("Math.min(...[...document.querySelectorAll('#conn1 .axes text')].map(e => e.getBoundingClientRect().height))"), 8)
+            b.js("timeline.canvas.scrollIntoView()")
+            x, y = self.place("canvas.lanes", .6, 60)
+            before = b.js("timeline.view.join()")
+            b.fingers([(x - 20, y), (x + 20, y)], [(x - 60, y), (x + 60, y)])
+            b.settle()
+            first, last = b.js("timeline.view")
+            self.assertNotEqual(f"{first},{last}", before)
+            self.assertAlmostEqual((last - first) * 3, float(before.split(",")[1]), delta=2)        # three times as far apart
+        finally:
+            self.browser.phone(False)
+
+
+class Squeues(InBrowser):
+    """The figure of squeues, whose script draws on a canvas."""
+
+    def shown(self, text, path, *words):
+        b = self.show(text, path, *words)
+        b.js("document.getElementById('squeues').scrollIntoView()")
+        b.settle()
+        return b
+
+    def told(self, browser=None):
+        """What the figure says of itself, when it has drawn what was due."""
+        browser = browser or self.browser
+        browser.settle()
+        return {name: float(value) if name != "view" else tuple(map(float, value.split())) for name, value in browser.js(
+            "Object.assign({}, timeline.box.dataset)").items()}
+
+    def test_all_marks_are_drawn(self):
+        for text, path in kept_traces():
+            b, report = self.shown(text, path), reports.read(text, "report")
+            told, stories = self.told(), [perimeter.follow(marks) for marks in report.squeues]
+            self.assertEqual(told["marks"], sum(map(len, report.squeues)))
+            self.assertEqual(told["bars"], sum(len(story.stretches) for story in stories))
+            self.assertEqual(told["arcs"], len(perimeter.columns(report, capture.read(path).conns)[1]))
+            self.assertEqual(b.js("timeline.squeues.map(one => [...one.queued])"), [story.chain for story in stories])
+            self.assertEqual(b.js("timeline.squeues.map(one => [...one.first].map((first, s) => [first, one.last[s]]))"),
+                             [[[s.first, s.last] for s in story.stretches] for story in stories])
+            self.assertEqual(b.complaints(), [])
+
+    def test_bars_have_the_colour_of_who_has_it(self):
+        b = self.shown(*kept_traces()[1])
+        for role in ("ring", "thread", "worker"):
+            wrong = b.js(f"""(() => {{
+                const dots = timeline.dots, pen = timeline.canvas.getContext('2d'), want = timeline.colours[{role!r}], wrong = [];
+                for (const one of timeline.squeues) for (let s = 0; s < one.first.length; s++) if (one.role(one.pass(one.first[s])) === {role!r}) {{
+                    const [left, top, width] = timeline.barBox(one, s);
+                    const [r, g, b] = pen.getImageData((left + width - 4) * dots, (top + 13) * dots, 1, 1).data;
+                    const got = '#' + [r, g, b].map(n => n.toString(16).padStart(2, '0')).join('');
+                    if (got !== want && top + 20 < timeline.high) wrong.push([s, got, want]);
+                }}
+                return wrong;
+            }})()""")
+            self.assertEqual(wrong, [])
+
+    def test_every_way_to_move(self):
+        b = self.shown(*kept_traces()[1])
+        first, last = self.told()["view"]
+        at = self.place("canvas.lanes", .5, 60)
+        b.wheel(at, -160, CONTROL)
+        a, c = self.told()["view"]
+        self.assertAlmostEqual((last - first) / (c - a), 1.65, delta=.1)          # e to the half
+        b.wheel(at, 100, SHIFT)
+        self.assertGreater(self.told()["view"][0], a)
+        a, c = self.told()["view"]
+        b.drag(at, (at[0] + 60, at[1]))
+        self.assertLess(self.told()["view"][0], a)
+        b.js("timeline.canvas.focus()")
+        for key, moved in (("w", lambda p, q: q[1] - q[0] < p[1] - p[0]), ("d", lambda p, q: q[0] > p[0]), ("a", lambda p, q: q[0] < p[0]),
+                           ("s", lambda p, q: q[1] - q[0] > p[1] - p[0]), ("+", lambda p, q: q[1] - q[0] < p[1] - p[0]),
+                           ("End", lambda p, q: q[1] == last), ("Home", lambda p, q: q[0] == 0), ("Escape", lambda p, q: q == (first, last))):
+            before = self.told()["view"]
+            b.key(key)
+            self.assertTrue(moved(before, self.told()["view"]), key)
+        b.drag(self.place("canvas.strip", .3, 20), self.place("canvas.strip", .6, 20))
+        a, c = self.told()["view"]
+        self.assertAlmostEqual((c - a) / last, .33, delta=.03)                    # a part of the strip was chosen
+        b.drag(self.place("canvas.strip", .45, 20), self.place("canvas.strip", .65, 20))
+        self.assertGreater(self.told()["view"][0], a)                             # and dragged along
+        b.js("document.querySelector('[data-do=all]').click()")
+        self.assertEqual(self.told()["view"], (first, last))
+        b.js("timeline.canvas.focus()")
+        b.key("ArrowRight")
+        self.assertRegex(b.js("timeline.readout.textContent"), r"^squeue 0, marks \d+ to \d+: ring 0 ")
+        b.key("ArrowDown")
+        self.assertRegex(b.js("timeline.readout.textContent"), r"^squeue 1, marks ")
+
+    def test_a_line_reads_what_is_under_the_pointer(self):
+        text, path = kept_traces()[1]
+        b, report = self.shown(text, path), reports.read(text, "report")
+        for q, marks in enumerate(report.squeues):
+            for s, stretch in enumerate(perimeter.follow(marks).stretches[:6]):
+                x, y = b.js(f"""(() => {{ const one = timeline.squeues[{q}], [left, top] = timeline.barBox(one, {s}), box = timeline.canvas.getBoundingClientRect();
+                                 return [box.left + left + 3, box.top + top + 8 - timeline.scroll.scrollTop]; }})()""")
+                if not 0 < y < 890:
+                    continue
+                b.point((x, y))
+                said = b.js("timeline.readout.textContent")
+                self.assertIn(f"squeue {q}, marks {stretch.first} to {stretch.last}: ", said)
+                for c, n in stretch.feeds[:1]:
+                    self.assertIn(f"processed {c}.{n}", said)
+
+    def test_a_connection_is_found_and_followed(self):
+        text, path = kept_traces()[1]
+        b, report, conns = self.shown(text, path), reports.read(text, "report"), capture.read(path).conns
+        stories = [perimeter.follow(marks) for marks in report.squeues]
+        for c, conn in enumerate(conns):
+            b.js(f"timeline.input.value = {conn.tuple.split()[0]!r}; timeline.input.form.requestSubmit()")
+            bars = sum(any(feed[0] == c for feed in s.feeds) or s.act[1:2] == (c,) for story in stories for s in story.stretches)
+            fills = sum(m.kind == "fill" and any(e[0] == c for e in m.entries) for marks in report.squeues for m in marks)
+            told = self.told()
+            self.assertEqual((told["followed"], told["hits"]), (c, bars + fills))
+            self.assertIn(f"connection {c}, {conn.tuple}: {bars} bars", b.js("timeline.readout.textContent"))
+        b.js("document.querySelector('[data-do=after]').click()")
+        self.assertRegex(b.js("timeline.readout.textContent"), rf"^squeue \d+, mark.*graph of {len(conns) - 1}$")
+        b.js("[...timeline.readout.querySelectorAll('a')].at(-1).click()")
+        b.settle()
+        self.assertEqual(b.js("location.hash"), f"#conn{len(conns) - 1}")
+        self.assertTrue(b.js("document.querySelector(location.hash + ' svg[data-view]') !== null"))
+        b.js("document.querySelector('#conn0 [data-follow]').click()")
+        self.assertEqual(self.told()["followed"], 0)
+        self.assertLess(abs(b.js("document.getElementById('squeues').getBoundingClientRect().top")), 5)
+        b.js("timeline.input.value = 'nowhere'; timeline.input.form.requestSubmit()")
+        self.assertIn("no connection nowhere", b.js("timeline.readout.textContent"))
+
+    def test_chosen_marks_are_in_view(self):
+        text, path = kept_traces()[1]
+        self.shown(text, path, "--marks", "0:4-12")
+        self.assertLess(self.told()["marks"], 60)
+        self.shown(text, path, "--marks", "0:5")
+        self.assertIn("squeue 0, mark 5: ", self.browser.js("timeline.readout.textContent"))
+
+    def test_names_stay_and_the_figure_is_as_wide_as_the_page(self):
+        b = self.shown(long_trace(30_000, conns=100, squeues=16, rings=8), None)
+        self.assertGreater(b.js("timeline.canvas.getBoundingClientRect().width"), b.js("innerWidth") - 60)
+        self.assertLess(b.js("timeline.box.getBoundingClientRect().bottom"), b.js("innerHeight") + 120)
+        b.js("timeline.scroll.scrollTop = timeline.height")
+        b.settle()
+        inked = "(()=>{const d=timeline.canvas.getContext('2d').getImageData(30,0,60,timeline.high*timeline.dots).data;let n=0;for(let i=0;i<d.length;i+=4)n+=d[i]<128;return n})()"
+        self.assertGreater(b.js(inked), 100)            # names, of the lanes that are in view now
+
+    def test_four_hundred_thousand_marks(self):
+        """From the overview to single marks in under 2 s of processor time, in under 200 MB."""
+        (Path(self.folder.name) / "long.report").write_text(long_trace(400_000))
+        page = Path(self.folder.name) / "page.html"
+        output([TOOLS / "sqplot", "-o", page, Path(self.folder.name) / "long.report"])
+        b = Browser()                       # one that holds nothing of other pages
+        self.addCleanup(b.close)
+        begun = b.processor_seconds()
+        b.open(page)
+        told = self.told(b)
+        self.assertLess(b.processor_seconds() - begun, 2.5)
+        self.assertGreater(told["marks"], 250_000)          # of the squeues that are in view
+        self.assertEqual(told["bars"], 0)
+        begun = b.processor_seconds()
+        while told["bars"] == 0 or told["marks"] > 100:
+            b.js("timeline.zoom(.2, .5)")
+            told = self.told(b)
+        self.assertLess(b.processor_seconds() - begun, 2)
+        self.assertGreater(told["bars"], 0)
+        b.js("timeline.all(); timeline.follow(17)")
+        told = self.told(b)
+        self.assertGreater(told["hits"], 20)
+        self.assertGreater(told["arcs"], 5)
+        self.assertLess(b.page_memory(), 200_000_000)
+        self.assertEqual(b.complaints(), [])
 
 
 if __name__ == "__main__":
