@@ -140,7 +140,7 @@ class Waiting:
     segment: object
     end: int
     ready: int | None           # when nothing before it was missing any more
-    again: bool = False
+    doubtful: bool = False      # perhaps the server got it later than the capture: it was sent again, or something before it was
 
 
 class Incoming:
@@ -191,9 +191,16 @@ class Incoming:
                 return
 
     def note_again(self, lo, hi):
+        """A text that is sent again may have been lost behind the capture, and what was sent after it waits for it."""
+        if any(lo < one.end and near(one.segment.seq, self.irs) < hi for one in self.waiting):
+            for one in self.waiting:
+                one.doubtful = one.doubtful or one.end > lo
+
+    def note_refused(self, s, ack):
+        """An acknowledgement that doesn't cover what should have come by then: the server misses something."""
         for one in self.waiting:
-            if lo < one.end and near(one.segment.seq, self.irs) < hi:
-                one.again = True
+            if one.ready is not None and ack < one.end and s.at > one.ready + self.shake.trip:
+                one.doubtful = True
 
     def fill(self, lo, hi, at):
         if lo > self.next:
@@ -222,6 +229,7 @@ class Incoming:
             self.found.add("acknowledgement went back", s, f"from {self.acked} to {ack}", "")
         self.judge_gap(s, ack)
         self.pop(s, ack)
+        self.note_refused(s, ack)
         self.window(s, ack)
         if ack > self.acked and not s.has(SYN):
             self.acked, self.last_ack = ack, s
@@ -245,11 +253,11 @@ class Incoming:
             self.first_together = self.first_together or s
             self.judge_seldom(s, done)
         for one in done:
-            if one.ready is not None and not one.again:
+            if one.ready is not None and not one.doubtful:
                 self.judge_delay(s, one)
 
     def judge_seldom(self, s, done):
-        full = [one for one in done if one.segment.length >= self.shake.server_takes or one.segment.length >= self.largest >= USUAL_MSS]
+        full = [one for one in done if not one.doubtful and one.segment.length >= min(self.shake.server_takes, max(self.largest, USUAL_MSS))]
         if len(full) > 2 and full[1].ready is not None and s.at - full[1].ready > self.shake.trip + LATE:
             self.found.add("acknowledged too seldom", s, f"{len(full)} full segments at once, {seconds(s.at - full[1].ready)} after the second", "each at once")
 

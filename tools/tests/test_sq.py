@@ -394,6 +394,18 @@ class Check(Folder):
         (self.folder / "none.pcap").write_bytes(b"no capture")
         self.assertIn("no: capture\nWhat stands behind", self.check(right, path=self.folder / "none.pcap")[1])
 
+    def test_hostile_reports(self):
+        """Whatever is given as a report, there is an answer or one refusal, and nothing steers the terminal."""
+        right = by_hand(EXAMPLE)
+        for text in (b"", b"\0" * 50, b"report 1\n", b"report 2\n", b"report 2\ndone\n", b"report 1\n\x1b]0;pwned\x07\ndone\n", right[:100], right + right,
+                     right.replace(b"report 1", b"report 2"), right.replace(b"\nend ", b"\n\x1b[2Jend ", 1), b"report 2\n" + b"9" * 100_000 + b"\ndone\n",
+                     b"report 2\nsetup squeues 99999999999999999999 rings 1 mode process budget 1 spread 0 verify 0\nsqueue 0 marks 99999999999\ndone\n"):
+            (self.folder / "a.report").write_bytes(text)
+            done = subprocess.run([TOOLS / "sq", "--sqrun", program(), "--check", self.folder / "a.report", EXAMPLE], capture_output=True, text=True)
+            self.assertIn(done.returncode, (1, 2), (text[:60], done))
+            self.assertNotIn("Traceback", done.stderr)
+            self.assertNotIn("\x1b", done.stdout + done.stderr)
+
     def test_reasons_are_those_of_the_program(self):
         """docs/RUN.md lists them."""
         listed = re.findall(r"^\| `(no: [^`]*)` \|", (TOP / "docs" / "RUN.md").read_text(), re.M)
