@@ -5,8 +5,8 @@ from pathlib import Path
 import drawing
 import ladder
 from capture import RST, SYN
-from compare import SCALE, options
 from drawing import figure, plural, seconds, text
+from segments import SCALE, options
 from served import rows
 from standards import KINDS, VERDICTS
 

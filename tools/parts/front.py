@@ -13,7 +13,7 @@ from dataclasses import dataclass, field
 from pathlib import Path
 
 import links
-from files import Refused, map_file
+from files import Refused, map_file, plain
 from packets import KINDS
 from refusals import explained
 
@@ -87,8 +87,8 @@ class Run:
 
 
 def printable(text):
-    """A line for a terminal: what would steer it is spelled out."""
-    return "".join(c if c.isprintable() or c == "\n" else repr(c)[1:-1] for c in str(text))
+    """Lines for a terminal."""
+    return "\n".join(map(plain, str(text).split("\n")))
 
 
 def program(name, given=""):

@@ -1,7 +1,7 @@
 """The kinds of differences between a captured server and the reference, each with its section and what the standard says of it.
 
 `MUST` is said where the captured server breaks a MUST, `SHOULD` where it departs from a SHOULD, `choice` where the standard leaves both
-free, `service` where the application above TCP differs, and `unjudged` where the capture alone can't tell; compare.NEEDS_WHOLE become so
+free, `service` where the application above TCP differs, and `unjudged` where the capture alone can't tell; findings.NEEDS_WHOLE become so
 where the capture has gaps. Numbers like MUST-40 are
 those of RFC 9293, appendix B.
 """

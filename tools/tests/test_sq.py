@@ -327,6 +327,21 @@ class Large(Folder):
         self.assertTrue(blocks(report).startswith(first))
 
 
+    def test_more_bytes_than_one_run_takes(self):
+        need("parallel")
+        talk = Talk().open().echo().close()
+        write(self.folder / "small.pcap", talk.records, 101)
+        filler = [(talk.records[0][0], b"\x60" + bytes(262_143))] * 260
+        write(self.folder / "a.pcap", talk.records[:1] + filler + talk.records[1:], 101)
+        output([*program().split()], (self.folder / "a.pcap").read_bytes(), status=7)
+        report = sq(self.folder / "a.pcap")
+        self.assertIn(b"records 269 tail 0 served 6 nofit 0 server 3 other 260 ", report)
+        self.assertEqual(blocks(report), blocks(by_hand(self.folder / "small.pcap")))
+        # A trace isn't split.
+        said = sq("--trace", self.folder / "a.pcap", status=7)
+        self.assertIn("too large: more than 67108864 bytes\nOne run takes 64 MiB", said)
+
+
 class Check(Folder):
     def check(self, text, *words, path=EXAMPLE):
         (self.folder / "a.report").write_bytes(text)
@@ -378,6 +393,18 @@ class Check(Folder):
             self.assertGreater(said.count("\n"), 1 + ("unfit" in told or "illegal" in told))
         (self.folder / "none.pcap").write_bytes(b"no capture")
         self.assertIn("no: capture\nWhat stands behind", self.check(right, path=self.folder / "none.pcap")[1])
+
+    def test_hostile_reports(self):
+        """Whatever is given as a report, there is an answer or one refusal, and nothing steers the terminal."""
+        right = by_hand(EXAMPLE)
+        for text in (b"", b"\0" * 50, b"report 1\n", b"report 2\n", b"report 2\ndone\n", b"report 1\n\x1b]0;pwned\x07\ndone\n", right[:100], right + right,
+                     right.replace(b"report 1", b"report 2"), right.replace(b"\nend ", b"\n\x1b[2Jend ", 1), b"report 2\n" + b"9" * 100_000 + b"\ndone\n",
+                     b"report 2\nsetup squeues 99999999999999999999 rings 1 mode process budget 1 spread 0 verify 0\nsqueue 0 marks 99999999999\ndone\n"):
+            (self.folder / "a.report").write_bytes(text)
+            done = subprocess.run([TOOLS / "sq", "--sqrun", program(), "--check", self.folder / "a.report", EXAMPLE], capture_output=True, text=True)
+            self.assertIn(done.returncode, (1, 2), (text[:60], done))
+            self.assertNotIn("Traceback", done.stderr)
+            self.assertNotIn("\x1b", done.stdout + done.stderr)
 
     def test_reasons_are_those_of_the_program(self):
         """docs/RUN.md lists them."""

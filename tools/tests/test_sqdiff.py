@@ -147,6 +147,8 @@ CONTROLS = {
     "a late half of a second less": lambda: Talk().open().up(ACK | PSH, b"hello").down(ACK | PSH, b"hello", wait=SECOND * 49 // 100).up(),
     "a far client": lambda: Talk().up(SYN, options=MSS).down(SYN | ACK, options=MSS, wait=SECOND // 2).up(wait=SECOND // 2).up(
         ACK | PSH, b"hello").down(ACK | PSH, b"hello", wait=SECOND * 6 // 10).up(wait=SECOND // 10),
+    "a text lost behind the capture": lambda: texts().up(ACK | PSH, b"one").up(ACK | PSH, b"two").down(ack=1).up(ACK | PSH, b"one", seq=1, wait=SECOND).down(),
+    "a text after one that is sent again": lambda: texts().up(ACK | PSH, b"one").up(ACK | PSH, b"two").up(ACK | PSH, b"one", seq=1, wait=SECOND).down(),
     "every second full segment": lambda: texts().up(ACK, b"x" * 1460).up(ACK, b"x" * 1460, wait=50_000).down(wait=50_000),
     "a probe into a closed window": lambda: Talk().open().up(ACK | PSH, b"hello", window=0).down().down(ACK | PSH, b"h", wait=SECOND).up(),
     "as large as the client takes": lambda: Talk(asked=b"\x02\x04\x01\xf4").open().echo(b"x" * 500),
@@ -376,6 +378,10 @@ class Shapes(unittest.TestCase):
         self.assertNotIn("PSH", text)
         self.assertIn("reserved bits", text)
         self.assertIn("there are 1", self.said("--conn", "1", self.path, status=2))
+
+    def test_the_picture_of_the_pages(self):
+        """docs/pictures/beside.svg is what --svg draws, but for the note on the program."""
+        self.assertEqual((TOP / "docs" / "pictures" / "beside.svg").read_text(), self.said("--svg", "--conn", "1", TOP / "examples" / "echo_short.pcap", status=0))
 
     def test_kinds(self):
         text = self.said("--kinds", status=0)

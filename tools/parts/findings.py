@@ -1,0 +1,45 @@
+"""The differences of one life of a connection, by kind; and what a capture with gaps can't tell."""
+from dataclasses import dataclass, field
+
+from standards import KINDS
+
+FRAMES = 20                 # that are named of one kind
+# What a capture with gaps can't tell: there it is unjudged.
+GAPS = ("acknowledged what isn't captured", "text isn't captured")
+NEEDS_WHOLE = ("SYN acknowledged wrongly", "acknowledged too late", "acknowledged too seldom", "acknowledged before it came", "gap not acknowledged",
+               "window opened by little", "past the window", "window not probed", "sent again early", "reset with a wrong number", "SYN not challenged")
+
+
+@dataclass
+class Difference:
+    kind: str
+    verdict: str
+    frame: int | None           # of the capture, from 1
+    at: int | None              # microseconds
+    captured: str
+    reference: str
+    count: int = 1
+    frames: list = field(default_factory=list)
+
+
+class Found:
+    def __init__(self):
+        self.by_kind = {}
+
+    def add(self, kind, segment=None, captured="", reference=""):
+        frame = segment.record + 1 if segment is not None and segment.record >= 0 else None
+        seen = self.by_kind.get(kind)
+        if seen is None:
+            self.by_kind[kind] = Difference(kind, KINDS[kind].verdict, frame, segment.at if segment is not None else None, captured, reference, 1, [frame] if frame else [])
+            return
+        seen.count += 1
+        if frame and len(seen.frames) < FRAMES:
+            seen.frames.append(frame)
+
+    def differences(self):
+        """All of them; where the capture has gaps, what depends on them is unjudged."""
+        if any(kind in self.by_kind for kind in GAPS):
+            for kind in NEEDS_WHOLE:
+                if kind in self.by_kind:
+                    self.by_kind[kind].verdict = "unjudged"
+        return list(self.by_kind.values())

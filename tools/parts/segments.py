@@ -1,0 +1,56 @@
+"""What a segment's bytes say beyond its numbers: options, text, checksum."""
+from capture import SYN
+from packets import total
+
+USUAL_MSS, ETHERNET_MOST = 536, 1_500
+MSS, SCALE, SACK_PERMITTED, SACK, TIMESTAMP = 2, 3, 4, 5, 8
+SIZES = {MSS: 4, SCALE: 3, SACK_PERMITTED: 2, TIMESTAMP: 10}
+URG, ECE, CWR = 32, 64, 128
+
+
+def header(segment):
+    """The bytes from the TCP header on."""
+    return segment.datagram[4 * (segment.datagram[0] & 15):]
+
+
+def all_flags(segment):
+    return header(segment)[13]
+
+
+def options(segment):
+    """The options of a segment by number: the first of each with its right size."""
+    tcp, out = header(segment), {}
+    data, at = tcp[20:tcp[12] >> 2 & 60], 0
+    while at < len(data) and data[at]:
+        if data[at] == 1:
+            at += 1
+            continue
+        if at + 1 >= len(data) or data[at + 1] < 2 or at + data[at + 1] > len(data):
+            break
+        kind, length = data[at], data[at + 1]
+        if SIZES.get(kind, length) == length:
+            out.setdefault(kind, data[at + 2:at + length])
+        at += length
+    return out
+
+
+def text(segment):
+    tcp = header(segment)
+    start = tcp[12] >> 2 & 60
+    return tcp[start:start + segment.length]
+
+
+def sum_holds(segment):
+    data = segment.datagram
+    tcp = header(segment)
+    return total(data[12:20] + bytes((0, 6)) + len(tcp).to_bytes(2, "big") + tcp) == 0xffff
+
+
+def room(segment, shift):
+    return segment.window << (0 if segment.has(SYN) else shift)
+
+
+def option_text(kind, held):
+    if kind not in held:
+        return "none"
+    return str(int.from_bytes(held[kind], "big")) if kind in (MSS, SCALE) else "yes"
