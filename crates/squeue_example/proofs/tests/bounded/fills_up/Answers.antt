@@ -9,6 +9,6 @@ loop-n-preserved g c =
     let n = c.loop-n.n in
     let left : 19 - n ≡ 20 - (n + 1) = omega arith in
     record {
-      number = c.queues.ensures.number ∙ c.loop-n.invariant.number;
-      may = subst (λ (k : ℕ). MayEnter limits_of c.args.squeue.now c.queues.result (in_order 0 (n + 1) k)) left c.queues.ensures.more;
+      number = c.queues-pass.ensures.number ∙ c.loop-n.invariant.number;
+      may = subst (λ (k : ℕ). MayEnter limits_of c.args.squeue.now c.queues-pass.result (in_order 0 (n + 1) k)) left c.queues-pass.ensures.more;
     }
