@@ -296,6 +296,10 @@ def deal(work, wanted):
 COUNTS = re.compile(rb"report 1\nrecords (\d+) tail 0 " + b" ".join(kind.encode() + rb" (\d+)" for kind in KINDS) + rb" connections (\d+)\n")
 
 
+ENDED = re.compile(rb"\nend [A-Z0-9-]{1,20}\n\Z")
+LAST = 40                           # so many bytes of the end of a report hold its last two lines
+
+
 class Damaged(Refused):
     """A shard's report that isn't what it has to be: serve it again."""
 
@@ -363,10 +367,10 @@ class Shard:
         return Damaged(self.shard, f"{self.path}: {text}")
 
     def parts(self, seen=lambda data: None):
-        """The text of the connections as it stands in the whole report; refuses unless they are the plan's."""
-        at, c, last = counts_of(self.path)[1], self.first, b"\n"
+        """The text of the connections as it stands in the whole report; refuses unless they are the plan's, and each has its end."""
+        at, c, last = counts_of(self.path)[1], self.first, b"\nend -\n"
         for text, line in parts_of(self.path, at, seen):
-            last = (last + text)[-6:]
+            last = (last + text)[-LAST:]
             if c == self.first < self.end and text:
                 raise self.damaged("no connection where one has to be")
             yield text
@@ -374,11 +378,13 @@ class Shard:
                 said = line.split(b" ")
                 if c == self.end or said[1:4] != [b"%d" % (c - self.first), *tuple_text(self.tuples[12 * c:12 * c + 12]).encode().split(b" ")]:
                     raise self.damaged(f"{line.decode(errors='replace')[:80]!r} isn't connection {c}")
+                if not ENDED.search(last):
+                    raise self.damaged(f"no end before connection {c}")
                 yield b" ".join([b"conn", b"%d" % c, *said[2:]])
                 c, last = c + 1, b""
         if c != self.end:
             raise self.damaged(f"{c - self.first} connections, not {self.end - self.first}")
-        if last != b"\ndone\n":
+        if not last.endswith(b"\ndone\n") or not ENDED.search(last[:-5]):
             raise self.damaged("no whole report")
 
     def check(self):

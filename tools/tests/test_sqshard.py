@@ -1,7 +1,9 @@
 """sqshard: the merged report is that of one run; beyond one run's limits, that of the independent model without limits."""
+import hashlib
 import json
 import os
 import random
+import re
 import shutil
 import socket
 import struct
@@ -10,10 +12,13 @@ import sys
 import tempfile
 import time
 import unittest
+from array import array
 from pathlib import Path
 
 from common import MODEL, SQRUN, TOOLS, captures, need, output, sqrun
-from generated import records, write
+import records as fast
+from files import header
+from generated import ACK, PSH, SYN, datagram, records, write
 
 NO_LIMITS = """import sys
 sys.path.insert(0, sys.argv[1])
@@ -176,23 +181,145 @@ class Shards(unittest.TestCase):
         self.assertFalse(self.work.exists())
 
     def test_damaged_reports_and_going_on(self):
+        """merge alone refuses what isn't the plan's, whole and unchanged; the same run again serves it again."""
         path = self.folder / "a.pcap"
         write(path, records(3, 2000, 30), 101)
         want = sqrun(path)
         self.assertEqual(self.merged([path]), want)
         self.assertEqual(self.merged([path], anew=False), want)             # nothing is done twice
-        report = self.work / "reports" / "000001"
-        text = report.read_bytes()
-        for damage in (text[:-5], b"", text.replace(b"served ", b"served 1"), text.replace(b"conn 0 1", b"conn 0 2"),
-                       text.replace(b"\nconn 0", b"\nconn 7"), text.replace(b"malformed 0", b"malformed 1")):
+        report, total = self.work / "reports" / "000001", self.work / "sums" / "000001"
+        text, told = report.read_bytes(), total.read_bytes()
+        damages = [text[:-5], text[:len(text) // 2], b"", b"x" + text, text + b"x", text + b"done\n", text.replace(b"served ", b"served 1"),
+                   text.replace(b"conn 0 1", b"conn 0 2"), text.replace(b"\nconn 0", b"\nconn 7"), text.replace(b"malformed 0", b"malformed 1")]
+        for damage in damages:
             self.assertNotEqual(damage, text)
             report.write_bytes(damage)
-            done = subprocess.run([TOOLS / "sqshard", "merge", self.work], capture_output=True)
-            self.assertEqual((done.returncode, done.stdout), (1, b""))
+            for sum_of_it in (hashlib.sha256(damage).hexdigest().encode(), told):       # whether its sum was made again or not
+                total.write_bytes(sum_of_it)
+                done = subprocess.run([TOOLS / "sqshard", "merge", self.work], capture_output=True)
+                self.assertEqual((done.returncode, done.stdout), (1, b""))
+                self.assertIn(b"reports/000001: ", done.stderr)
+        for damage in damages[1:3] + damages[-1:]:
+            report.write_bytes(damage)
+            self.assertEqual(self.merged([path], anew=False), want)
+            self.assertEqual(len((self.work / "serve.log").read_text().splitlines()), 2)    # the one alone was served again
+        report.write_bytes(text.replace(b"LISTEN", b"CLOSED", 1) if b"LISTEN" in text else text[::-1])
+        self.assertIn(b"by its SHA-256", output([TOOLS / "sqshard", "merge", self.work], status=1))
+        self.assertEqual(self.merged([path], anew=False), want)
+        total.unlink()
+        said = subprocess.run([TOOLS / "sqshard", "merge", self.work], capture_output=True, check=True)
+        self.assertEqual(said.stdout, want)
+        self.assertIn(b"1 of the reports have no sum", said.stderr)
         report.unlink()
         self.assertIn(b"no report", output([TOOLS / "sqshard", "merge", self.work], status=1))
-        self.assertEqual(self.merged([path], anew=False), want)             # the missing one alone is served again
-        self.assertEqual(len((self.work / "serve.log").read_text().splitlines()), 2)
+        self.assertEqual(self.merged([path], anew=False), want)
+
+    def test_a_report_that_is_always_wrong_is_refused(self):
+        """Serving it again doesn't help, and that is the end."""
+        path, wrong = self.folder / "a.pcap", self.folder / "wrong"
+        write(path, records(3, 600, 6), 101)
+        wrong.write_text(f"#!/bin/sh\n{SQRUN} \"$@\" | sed 's/^conn 0 1/conn 0 2/'\n")
+        wrong.chmod(0o755)
+        self.assertIn(b"isn't connection", self.merged([path], program=wrong, status=1))
+
+    def test_statuses_and_counts_of_failures(self):
+        good, other = self.folder / "good.pcap", self.folder / "other.pcap"
+        write(good, records(3, 200, 3), 101)
+        other.write_bytes(b"\x1f\x8b" + bytes(40))
+        said = self.merged([good, other, good], status=6)
+        self.assertIn(b"magic 1f8b0000", said)
+        self.assertRegex(said, rb"scan: 1 of 3 jobs failed")
+        write(other, [], 1)
+        self.assertIn(b"second link type 1", self.merged([good, other], status=6))
+
+    def test_sqrun_is_looked_for_first(self):
+        said = output([TOOLS / "sqshard", "run", "--sqrun", "no-such-program", self.work, captures()[0]], status=2)
+        self.assertIn(b"no program 'no-such-program'", said)
+        self.assertFalse(self.work.exists())
+
+    def test_pieces_of_a_file(self):
+        """A file that is scanned in pieces gives what it gives in one."""
+        for seed, form in ((5, 0), (6, 1)):
+            listed = twisted(random.Random(seed), records(seed, 2500, 30, 1, span=40))
+            write(self.folder / "a.pcap", listed, 1, form=form, cut=5)
+            want = sqrun(self.folder / "a.pcap")
+            for size in (1, 3_000, 40_000):
+                self.assertEqual(self.merged([self.folder / "a.pcap"], "--piece-bytes", size if size > 1 else 700, size=20_000), want)
+                self.assertGreater(len((self.work / "pieces").read_text().splitlines()), 2)
+        long = self.folder / "long.pcap"
+        long.write_bytes((self.folder / "a.pcap").read_bytes()[:24] + struct.pack(">IIII", 1, 1, 4, 4) + bytes(4) + struct.pack(">IIII", 0, 0, 262_145, 0))
+        self.assertIn(b"record 1 has length 262145", self.merged([long], "--piece-bytes", 10, status=6))
+
+    def test_python_and_c_agree(self):
+        """The scan, the walk and the deal in C give what the same gives in Python, for each link, form, cut and twist."""
+        if not fast.LIBRARY:
+            self.skipTest("cc isn't installed")
+        for seed in range(24):
+            rnd, link = random.Random(seed), (1, 101, 113)[seed % 3]
+            path = self.folder / "a.pcap"
+            write(path, twisted(rnd, records(seed, 400, 9, link, span=3_000)), link, form=seed % 4, cut=rnd.randrange(20))
+            mapped = fast.Mapped(path)
+            form = header(path, mapped.data)
+            for verify in (False, True):
+                quick, slow = fast.scan(path, mapped, 24, mapped.size, form, verify), fast.scan_slowly(path, mapped.data, 24, mapped.size, form, verify)
+                for name in ("counts", "records", "last", "rest", "end"):
+                    self.assertEqual(getattr(quick, name), getattr(slow, name), (seed, name))
+                self.assertEqual((bytes(quick.connections), bytes(quick.owners)), (bytes(slow.connections), bytes(slow.owners)))
+                for wanted in (24, 700, 9_000, mapped.size):
+                    self.assertEqual(fast.walk(mapped, 24, mapped.size, wanted, form), fast.walk_slowly(mapped.data, 24, mapped.size, wanted, form))
+                owners, conns = array("i", bytes(quick.owners)), len(quick.connections) // fast.CONNECTION.size
+                shards, first_rest = array("I", (c // 3 for c in range(conns))), conns // 3 + 1
+                rest, sides = (first_rest, 2_000, 700, first_rest + 200), []
+                for how, data in ((lambda *words: fast.deal(path, mapped, *words), None), (lambda *words: fast.deal_slowly(mapped.data, *words), None)):
+                    got = {}
+                    how(24, form, owners, shards, rest, 270_000, lambda shard, piece, got=got: got.__setitem__(shard, got.get(shard, b"") + piece))
+                    sides.append(got)
+                self.assertEqual(*sides)
+
+    def test_without_cc(self):
+        path = self.folder / "a.pcap"
+        write(path, twisted(random.Random(2), records(2, 700, 9, 1)), 1)
+        want = self.merged([path], "--piece-bytes", 9_000)
+        shutil.rmtree(self.work)
+        again = output([TOOLS / "sqshard", "run", "--sqrun", SQRUN, "--shard-bytes", 2000, "--piece-bytes", 9_000, self.work, path],
+                       environment={"SQSHARD_PYTHON": "1"})
+        self.assertEqual(again, want)
+        self.assertEqual(want, sqrun(path))
+
+    def test_clients_that_vanish_are_planned_for(self):
+        """Each leaves text that is never acknowledged, and a day passes: the plan says about how large the reports are, and keeps them small."""
+        path, texts = self.folder / "a.pcap", []
+        for c in range(300):
+            ends = (0x0a000100 + c, 4_000), (0x0a000001, 7)
+            texts += [(1_000 + c, datagram(*ends, 99, 0, SYN, options=b"\x02\x04\x05\xb4")), (9_000 + c, datagram(*ends, 100, 1, PSH | ACK, text=bytes(1_460)))]
+        write(path, sorted(texts) + [(86_400_000_000, b"\x60")], 101)
+        self.merged([path], size=1 << 26)
+        plan = json.loads((self.work / "plan.json").read_text())
+        sizes = [(self.work / "reports" / f"{s:06}").stat().st_size for s in range(len(plan["firsts"]))]
+        self.assertGreater(sum(sizes), 40_000_000)
+        for size, said in zip(sizes, plan["reports"]):
+            self.assertLess(size, said)
+            self.assertGreater(2 * size, said)
+        self.assertGreater(plan["memory"], 1.6 * max(sizes))
+        few = self.merged([path], "--shard-conns", 40, size=1 << 26)
+        self.assertEqual(len(json.loads((self.work / "plan.json").read_text())["firsts"]), 8)
+        self.assertEqual(few, sqrun(path))
+
+    def test_what_is_planned_is_never_far_below(self):
+        for seed in range(4):
+            path = self.folder / "a.pcap"
+            write(path, twisted(random.Random(seed), records(seed, 3_000, 30, 101, text=700, span=(5, 600, 90_000, 9)[seed])), 101)
+            self.merged([path], size=30_000)
+            plan = json.loads((self.work / "plan.json").read_text())
+            for s, said in enumerate(plan["reports"]):
+                self.assertLess((self.work / "reports" / f"{s:06}").stat().st_size, 1.2 * said + 1_000, seed)
+
+    def test_told_stages(self):
+        path = self.folder / "a.pcap"
+        write(path, records(3, 600, 6), 101)
+        said = subprocess.run([TOOLS / "sqshard", "run", "--sqrun", SQRUN, self.work, path], capture_output=True, text=True, check=True).stderr
+        self.assertRegex(said, r"^sqshard: scan: 1 done, .*\nsqshard: plan: 600 records, \d+ connections: 1 shards.* of memory\nsqshard: deal: 1 done.*\n"
+                               r"sqshard: serve: \d done, .*\n$")
 
     def test_other_captures_in_the_same_directory(self):
         path = self.folder / "a.pcap"
@@ -222,14 +349,17 @@ class Shards(unittest.TestCase):
         self.merged([path])
         table = self.work / "tables" / "000000"
         about, plan = json.loads((table / "about.json").read_text()), json.loads((self.work / "plan.json").read_text())
-        rows = list(struct.iter_unpack("<12sQQ", (table / "connections").read_bytes()))
+        self.assertEqual((self.work / "pieces").read_text(), f"000000 0 0 {path.stat().st_size} 0\n")
+        rows = list(struct.iter_unpack("<12sIQQQQQII", (table / "connections").read_bytes()))
         owners = struct.unpack(f"<{len(listed)}i", (table / "owners").read_bytes())
         self.assertEqual(sum(about["counts"]), len(listed))
-        self.assertEqual([row[1] for row in rows], [owners.count(c) for c in range(len(rows))])
+        self.assertEqual([row[2] for row in rows], [owners.count(c) for c in range(len(rows))])
         self.assertEqual(b"".join(row[0] for row in rows), (self.work / "tuples").read_bytes())
         shards = struct.unpack(f"<{len(rows)}I", (self.work / "files" / "000000.shards").read_bytes())
         self.assertEqual([shards.index(s) for s in range(len(plan["firsts"]))], plan["firsts"])
-        self.assertEqual(plan["served"], [sum(row[1] for row, t in zip(rows, shards) if t == s) for s in range(len(plan["firsts"]))])
+        self.assertEqual(plan["served"], [sum(row[2] for row, t in zip(rows, shards) if t == s) for s in range(len(plan["firsts"]))])
+        for shard in (self.work / "reports").iterdir():
+            self.assertEqual((self.work / "sums" / shard.name).read_text(), hashlib.sha256(shard.read_bytes()).hexdigest() + "  -\n")
         for file in self.work.rglob("*"):
             self.assertFalse(file.is_file() and file.read_bytes()[:1] == b"\x80", f"{file} looks like a pickle")
 
@@ -278,20 +408,75 @@ class Shards(unittest.TestCase):
         left = [path for folder in (home, Path.home() / ".parallel") for path in folder.rglob("*") if path.name in ("shards", "reports", "0-head")]
         self.assertEqual(left, [])
 
-    def test_slurm_script(self):
-        """The array script's loop, with Slurm's variables set by hand."""
-        path = self.folder / "a.pcap"
-        write(path, records(3, 2000, 30), 101)
+    def test_other_tools_read_what_it_makes(self):
+        """sqplot and sqpcap take the folder, its files, and one shard; more connections than one run has, too."""
+        write(self.folder / "a.pcap", records(1, 24_000, 5_000, text=4), 101)
+        listed = records(2, 400, 6, 101)
+        write(self.folder / "b.pcap", [(at + 10 ** 9, data) for at, data in listed], 101, form=3)
+        files = [self.folder / "a.pcap", self.folder / "b.pcap"]
+        report = self.folder / "a.report"
+        report.write_bytes(self.merged(files, size=200_000))
+        self.assertGreater(report.read_bytes().count(b"\nconn "), 4_096)
+        pages = [output([TOOLS / "sqplot", *words, "--conn", "4999", report]) for words in (["--capture", self.work], ["--capture", files[0], "--capture", files[1]])]
+        strip = lambda page: re.sub(rb"<title>.*?</h1>", b"", page, flags=re.S)
+        self.assertEqual(*map(strip, pages))
+        joined = [output([TOOLS / "sqpcap", *words, report]) for words in (["--capture", self.work], ["--capture", files[0], "--capture", files[1]])]
+        self.assertEqual(*joined)
+        self.assertIn(b"of b.pcap", pages[0] + output([TOOLS / "sqpcap", "--pcapng", "--capture", self.work, report]))
+        told = re.findall(rb"records (\d+) tail", report.read_bytes())[0]
+        both = len(records(1, 24_000, 5_000, text=4)) + len(listed)
+        self.assertEqual(int(told), both)
+        shard, counted = sorted((self.work / "shards").iterdir())[1], 0
+        one = output([TOOLS / "sqpcap", "--capture", shard, self.work / "reports" / shard.name])
+        at = 24
+        while at < len(one):
+            at, counted = at + 16 + struct.unpack_from("<I", one, at + 8)[0], counted + 1
+        text = (self.work / "reports" / shard.name).read_bytes()
+        self.assertEqual(counted, int(re.search(rb" served (\d+)", text)[1]) + text.count(b"\nreply "))
+        self.assertIn(b" is of ", output([TOOLS / "sqpcap", "--capture", files[0], report], status=1))
+
+    def staged(self, path, size=2000):
         stage = [TOOLS / "sqshard"]
         output([*stage, "begin", "--verify", self.work, path])
         output([*stage, "scan", self.work, "000000"])
-        output([*stage, "plan", "--shard-bytes", 2000, self.work])
+        subprocess.run([*stage, "plan", "--shard-bytes", str(size), self.work], check=True, capture_output=True)
         output([*stage, "deal", self.work, "000000"])
-        for task in range(3):
-            done = subprocess.run([TOOLS / "sqshard.slurm"], cwd=self.work, capture_output=True, env={
-                **os.environ, "SLURM_ARRAY_TASK_ID": str(task), "SLURM_ARRAY_TASK_COUNT": "3", "SQRUN": os.path.abspath(SQRUN)})
-            self.assertEqual((done.returncode, done.stderr), (0, b""))
-        self.assertEqual(output([*stage, "merge", self.work]), sqrun(path, "--verify"))
+
+    def task(self, number, count, **more):
+        return subprocess.run([TOOLS / "sqshard.slurm"], cwd=self.work, capture_output=True, env={
+            **os.environ, "SLURM_ARRAY_TASK_ID": str(number), "SLURM_ARRAY_TASK_COUNT": str(count), "SQRUN": os.path.abspath(SQRUN), **more})
+
+    def test_slurm_script(self):
+        """The array script's loop, with Slurm's variables set by hand: scan, deal and serve."""
+        path = self.folder / "a.pcap"
+        write(path, records(3, 2000, 30), 101)
+        output([TOOLS / "sqshard", "begin", "--verify", "--piece-bytes", 30_000, self.work, path])
+        for stage in ("scan", "plan", "deal", "serve"):
+            if stage == "plan":
+                subprocess.run([TOOLS / "sqshard", "plan", "--shard-bytes", "2000", self.work], check=True, capture_output=True)
+                continue
+            for number in range(3):
+                done = self.task(number, 3, STAGE=stage, SQSHARD=str(TOOLS / "sqshard"))
+                self.assertEqual((done.returncode, done.stderr, done.stdout), (0, b"", b""))
+        said = subprocess.run([TOOLS / "sqshard", "merge", self.work], check=True, capture_output=True)
+        self.assertEqual((said.stdout, said.stderr), (sqrun(path, "--verify"), b""))        # each has its sum
+
+    def test_slurm_script_goes_on_past_a_bad_shard(self):
+        path = self.folder / "a.pcap"
+        write(path, records(3, 2000, 30), 101)
+        self.staged(path)
+        count = len(list((self.work / "shards").iterdir()))
+        (self.work / "shards" / "000003" / "0-head").write_bytes(b"x")
+        done = self.task(0, 1)
+        self.assertEqual(done.returncode, 6)
+        self.assertIn(b"shard 000003: sqrun ended with 6", done.stderr)
+        self.assertEqual(len(list((self.work / "reports").iterdir())), count - 1)
+
+    def test_slurm_script_outside_of_a_folder(self):
+        self.folder.joinpath("w").mkdir()
+        done = self.task(0, 1)
+        self.assertEqual(done.returncode, 2)
+        self.assertIn(b"isn't a folder of sqshard", done.stderr)
 
 
 if __name__ == "__main__":
