@@ -9,6 +9,8 @@ from served import rows
 from timeseq import lives, near
 from watching import Handshake, Watch, judge_timeouts
 
+SOON = 1_000                # microseconds, below which no timer sends again
+
 
 @dataclass
 class Compared:
@@ -36,13 +38,13 @@ def compare(number, conn, served):
 
 def once(segments, found):
     """The segments without those that the capture holds a second time: the same datagram but for what a router changes."""
-    seen, out = set(), []
+    seen, out = {}, []
     for s in segments:
         ip = s.datagram[:2] + s.datagram[4:8] + s.datagram[12:]
-        if ip in seen and s.datagram[4:6] != b"\0\0":
+        if ip in seen and (s.datagram[4:6] != b"\0\0" or s.at - seen[ip] < SOON):
             found.add("captured twice", s, "the same datagram", "")
             continue
-        seen.add(ip)
+        seen[ip] = s.at
         out.append(s)
     return out
 
@@ -118,7 +120,17 @@ def compare_handshake(life, shake, found):
     again, again_ours = ([s for s in segments if s.has(SYN)] for segments in (life.server, life.replies))
     if len(again) != len(again_ours):
         found.add("SYN,ACK again", again[min(1, len(again) - 1)], times(again), times(again_ours))
-    judge_timeouts([s.at for s in again], again[-1], found)
+    judge_timeouts([s.at for s in unasked(again, life.client)], again[-1], found)
+
+
+def unasked(answers, client):
+    """The last SYN,ACK that a SYN asked for, and those behind it that a timer sent."""
+    asked, out = 0, []
+    for answer in answers:
+        if asked < sum(s.has(SYN) and s.record < answer.record for s in client):
+            asked, out = asked + 1, []
+        out.append(answer)
+    return out
 
 
 def times(segments):

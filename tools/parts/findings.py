@@ -1,13 +1,13 @@
-"""The differences of one life of a connection, by kind; and what a capture with gaps can't tell."""
+"""The differences of one life of a connection, by kind; and what a capture that leaves doubts can't tell."""
 from dataclasses import dataclass, field
 
 from standards import KINDS
 
 FRAMES = 20                 # that are named of one kind
-# What a capture with gaps can't tell: there it is unjudged.
-GAPS = ("acknowledged what isn't captured", "text isn't captured")
+# What a capture with gaps, or of segments that changed places, can't tell: there it is unjudged.
+DOUBTS = ("acknowledged what isn't captured", "text isn't captured", "acknowledgement went back")
 NEEDS_WHOLE = ("SYN acknowledged wrongly", "acknowledged too late", "acknowledged too seldom", "acknowledged before it came", "gap not acknowledged",
-               "window opened by little", "past the window", "window not probed", "sent again early", "reset with a wrong number", "SYN not challenged")
+               "window shrunk", "window opened by little", "past the window", "window not probed", "sent again early", "reset with a wrong number", "SYN not challenged")
 
 
 @dataclass
@@ -37,8 +37,8 @@ class Found:
             seen.frames.append(frame)
 
     def differences(self):
-        """All of them; where the capture has gaps, what depends on them is unjudged."""
-        if any(kind in self.by_kind for kind in GAPS):
+        """All of them; where the capture leaves doubts, what depends on them is unjudged."""
+        if any(kind in self.by_kind for kind in DOUBTS):
             for kind in NEEDS_WHOLE:
                 if kind in self.by_kind:
                     self.by_kind[kind].verdict = "unjudged"

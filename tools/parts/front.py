@@ -38,14 +38,20 @@ class Progress:
         self.what, self.whole, self.begun, self.said, self.length = what, whole, time.monotonic(), 0.0, 0
 
     def tell(self, done, records=0):
+        whole = f" of {self.whole / 1e6:,.1f}" if self.whole else ""
+        self.say(done, f"{done / 1e6:,.1f}{whole} MB" + (f", {records:,} records" if records else ""))
+
+    def step(self, done, unit):
+        """For what isn't bytes: so many of the whole are done."""
+        self.say(done, f"{done:,} of {self.whole:,} {unit}")
+
+    def say(self, done, text):
         now = time.monotonic()
         if not self.terminal or now - self.said < 0.2:
             return
         self.said, took = now, now - self.begun
         left = f", {took * (self.whole - done) / done:.0f} s left" if 0 < done < self.whole and took > 1 else ""
-        counted = f", {records:,} records" if records else ""
-        whole = f" of {self.whole / 1e6:,.1f}" if self.whole else ""
-        self.line(f"{self.what}: {done / 1e6:,.1f}{whole} MB{counted}{left}")
+        self.line(f"{self.what}: {text}{left}")
 
     def tick(self):
         """For what can't be measured: how long it takes so far."""

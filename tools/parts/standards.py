@@ -2,7 +2,7 @@
 
 `MUST` is said where the captured server breaks a MUST, `SHOULD` where it departs from a SHOULD, `choice` where the standard leaves both
 free, `service` where the application above TCP differs, and `unjudged` where the capture alone can't tell; findings.NEEDS_WHOLE become so
-where the capture has gaps. Numbers like MUST-40 are
+where the capture has gaps or segments that changed places. Numbers like MUST-40 are
 those of RFC 9293, appendix B.
 """
 from dataclasses import dataclass
@@ -51,7 +51,7 @@ KINDS = kinds(
     ("acknowledged before it came", "MUST", "RFC 9293, 3.4", "An acknowledgement of X says that all before X was received."),
     ("acknowledged what isn't captured", "unjudged", "RFC 9293, 3.4", "The capture has gaps, or the server acknowledges what never came. What needs a whole capture isn't judged."),
     ("text isn't captured", "unjudged", "RFC 9293, 3.4", "The client acknowledged text of the server which the capture lacks. What needs a whole capture isn't judged."),
-    ("acknowledgement went back", "unjudged", "RFC 9293, 3.10.7.4", "RCV.NXT never falls; two acknowledgements may have changed places on the way."),
+    ("acknowledgement went back", "unjudged", "RFC 9293, 3.10.7.4", "RCV.NXT never falls; two acknowledgements may have changed places on the way. What needs their order isn't judged."),
     ("not acknowledged", "unjudged", "RFC 9293, 3.8.6.3", "The capture may end too early, or lack the acknowledgement."),
     # Windows.
     ("window", "choice", "RFC 9293, 3.8.6", "How much room a receiver announces is its own matter."),

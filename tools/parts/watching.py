@@ -150,6 +150,7 @@ class Incoming:
         self.watch, self.found, self.shake, self.irs = watch, watch.found, watch.shake, watch.life.irs
         self.next, self.beyond, self.top = 1, [], 1         # what came without a gap, stretches beyond it, the greatest end
         self.acked, self.last_ack, self.edge, self.last_window = 0, None, None, None
+        self.wl1, self.wl2 = None, 0        # number and acknowledgement of the segment with the newest window
         self.waiting, self.delays, self.windows = [], [], []
         self.gap = None             # (segment above a gap, what was next)
         self.early = []             # (acknowledgement beyond what had come, its number)
@@ -274,7 +275,10 @@ class Incoming:
         if not s.has(SYN):
             self.windows.append((now, s))
         slack = 1 << self.shake.server_shift
-        if self.edge is not None and ack >= self.acked and self.edge - edge >= slack:
+        newer = self.wl1 is None or (near(s.seq, self.wl1), ack) >= (0, self.wl2)         # RFC 9293, 3.10.7.4: not an older segment's window
+        if newer:
+            self.wl1, self.wl2 = s.seq, ack
+        if newer and self.edge is not None and ack >= self.acked and self.edge - edge >= slack:
             self.found.add("window shrunk", s, f"edge from {self.edge:,} to {edge:,}", "")
         if self.last_window == 0 and 0 < now < min(self.shake.server_takes, self.largest, self.most_window // 2):
             self.found.add("window opened by little", s, f"from 0 to {now}", "")
@@ -344,6 +348,7 @@ class Outgoing:
         self.stream = Stream()
         self.last_sent, self.timeouts = {}, {}          # by a text's first number: when it went last; when it went by timeouts, from the first on
         self.doubled = {}               # by number: acknowledgements of it since it went last
+        self.selected = 0               # the greatest end of what the client has beyond a gap, by selective acknowledgements
         self.closed_at, self.probes, self.empty_probes, self.closed = None, [], [], []
         self.again = []
         self.sums = [0, 0]              # wrong ones and all
@@ -357,7 +362,9 @@ class Outgoing:
         ack = near(s.ack, self.base)
         self.acks.add(s.ack)
         now = room(s, self.shake.client_shift)
-        self.doubled[ack] = self.doubled.get(ack, 0) + (3 if SACK in options(s) else not s.span() and ack == self.heard_ack)
+        self.doubled[ack] = self.doubled.get(ack, 0) + (not s.span() and ack == self.heard_ack)
+        blocks = options(s).get(SACK, b"")
+        self.selected = max([self.selected, *(near(int.from_bytes(blocks[n + 4:n + 8], "big"), self.base) for n in range(0, len(blocks) - 7, 8))])
         edge = ack + now
         self.edge = edge if self.edge is None else max(self.edge, edge)
         if ack >= self.heard_ack:
@@ -392,7 +399,7 @@ class Outgoing:
         self.top = max(self.top, hi)
 
     def judge_fin(self, s, hi):
-        if self.fin is not None and (hi > self.fin or s.has(FIN) and hi != self.fin):
+        if self.fin is not None and (s.length and hi > self.fin or s.has(FIN) and hi != self.fin):
             self.found.add("text after FIN", s, f"text up to {hi}, FIN was {self.fin}", "")
         if s.has(FIN) and self.fin is None:
             self.fin = hi
@@ -412,7 +419,7 @@ class Outgoing:
         before = self.last_sent.get(lo)
         if hi <= self.top and before is not None and self.closed_at is None:
             self.again.append(s)
-            if self.doubled.get(lo, 0) >= 3:
+            if self.doubled.get(lo, 0) >= 3 or lo < self.selected:
                 self.timeouts[lo] = [s.at]              # it was asked for, not timed out
             else:
                 self.timeouts.setdefault(lo, [before]).append(s.at)

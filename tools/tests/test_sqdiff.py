@@ -147,6 +147,11 @@ CONTROLS = {
     "a late half of a second less": lambda: Talk().open().up(ACK | PSH, b"hello").down(ACK | PSH, b"hello", wait=SECOND * 49 // 100).up(),
     "a far client": lambda: Talk().up(SYN, options=MSS).down(SYN | ACK, options=MSS, wait=SECOND // 2).up(wait=SECOND // 2).up(
         ACK | PSH, b"hello").down(ACK | PSH, b"hello", wait=SECOND * 6 // 10).up(wait=SECOND // 10),
+    "acknowledgements behind FIN": lambda: Talk().open().echo().down(ACK | FIN).up(ACK | PSH, b"x").down().up(ACK | FIN).down(),
+    "a SYN,ACK for each SYN": lambda: Talk().up(SYN, options=MSS).up(SYN, options=MSS, seq=0).down(SYN | ACK, options=MSS).up(
+        SYN, options=MSS, seq=0).down(SYN | ACK, options=MSS, seq=0, wait=5_000).up(SYN, options=MSS, seq=0).down(SYN | ACK, options=MSS, seq=0, wait=5_000).down(
+        SYN | ACK, options=MSS, seq=0, wait=5_000).up(),
+    "two segments that changed places": lambda: texts().up(ACK | PSH, b"hello").up(ACK | PSH, b"hello").down().down(ack=6, window=60_000),
     "a text lost behind the capture": lambda: texts().up(ACK | PSH, b"one").up(ACK | PSH, b"two").down(ack=1).up(ACK | PSH, b"one", seq=1, wait=SECOND).down(),
     "a text after one that is sent again": lambda: texts().up(ACK | PSH, b"one").up(ACK | PSH, b"two").up(ACK | PSH, b"one", seq=1, wait=SECOND).down(),
     "every second full segment": lambda: texts().up(ACK, b"x" * 1460).up(ACK, b"x" * 1460, wait=50_000).down(wait=50_000),
@@ -156,6 +161,9 @@ CONTROLS = {
     "doubled timeouts": lambda: Talk().open().up(ACK | PSH, b"hello").down(ACK | PSH, b"hello").down(ACK | PSH, b"hello", seq=1, wait=SECOND).down(
         ACK | PSH, b"hello", seq=1, wait=2 * SECOND).down(ACK | PSH, b"hello", seq=1, wait=4 * SECOND).up(),
     "a reset as an answer": lambda: Talk().open().echo().up(ACK | PSH, b"hello").down(RST, seq=6),
+    "a segment asked for by a selective acknowledgement": lambda: opened(asked=MSS + SACKED, offered=MSS + SACKED).up(ACK | PSH, b"hello").down(
+        ACK | PSH, b"hello").up(ACK | PSH, b"world").down(ACK | PSH, b"world").up(ack=1, options=b"\1\1\5\x0a" + (900_006).to_bytes(4, "big") + (
+            900_011).to_bytes(4, "big")).down(ACK | PSH, b"hello", seq=1).up(),
     "a segment asked for by three acknowledgements": lambda: Talk().open().up(ACK | PSH, b"hello").down(ACK | PSH, b"hello").up(ack=1).up(ack=1).up(
         ack=1).down(ACK | PSH, b"hello", seq=1).up(),
 }
@@ -189,7 +197,7 @@ class Kinds(unittest.TestCase):
         for name, story in CONTROLS.items():
             with self.subTest(name):
                 found, _, status = lines(story().save(self.folder))
-                self.assertEqual([line for line in found if line["verdict"] == "MUST"], [])
+                self.assertEqual([line for line in found if line["verdict"] in ("MUST", "SHOULD")], [])
                 self.assertEqual(status, 0)
                 if name in ("echo", "discard"):
                     self.assertEqual(found, [])
@@ -238,7 +246,7 @@ class Recorded(unittest.TestCase):
                     ends = line["ends"].split(" ")
                     if line["kind"] in OPTIONS and line["verdict"] == "choice":
                         self.assertEqual(theirs.option(ends, line["kind"]), line["captured"], line)
-                    if line["kind"] == "boundaries":
+                    if line["kind"] == "boundaries" and theirs.in_order(ends):
                         self.assertIn(", ".join(map(str, theirs.sizes(ends)[:6])), line["captured"])
                     if line["kind"] == "acknowledged later":
                         most = float(re.search(r"and ([\d.]+) ms at most", line["captured"])[1])
@@ -298,9 +306,11 @@ class Dissected:
         value = first[OPTIONS[kind]]
         return "none" if not value else value if kind in ("maximum segment size", "window scale") else "yes"
 
+    def in_order(self, ends):
+        return not any(row["tcp.analysis.retransmission"] or row["tcp.analysis.out_of_order"] for row in self.of(ends))
+
     def sizes(self, ends):
-        """Of the texts that weren't sent before."""
-        return [int(row["tcp.len"]) for row in self.of(ends) if int(row["tcp.len"]) and not row["tcp.analysis.retransmission"] and not row["tcp.analysis.out_of_order"]]
+        return [int(row["tcp.len"]) for row in self.of(ends) if int(row["tcp.len"])]
 
     def waits(self, ends):
         """Milliseconds from each text of the client to the first acknowledgement that covers it."""
