@@ -2,6 +2,7 @@ pub mod NumberLemmas
 pub mod ConnLemmas
 pub mod TableLemmas
 pub mod PlaceLemmas
+pub mod HeldLemmas
 pub mod TurnLemmas
 pub mod ReachLemmas
 pub mod ServerLemmas

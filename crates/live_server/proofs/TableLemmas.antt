@@ -58,10 +58,10 @@ pub none_is_whole : is_half_open (new_conn 0) ≡ false
 unfolding new_block
 none_is_whole = refl
 
-pub conn_found : (p : Conn → Bool) (cs : Conns) (i : ℕ) (r : Option (Bor Tuple × Bor Conn)) (x : Bor Tuple × Bor Conn) → option_map deref_pair r ≡ slice_get cs i → r ≡ Some x → p x.1.now ≡ p (conn_at i cs)
+pub conn_found : {A : Type 0} (p : Conn → A) (cs : Conns) (i : ℕ) (r : Option (Bor Tuple × Bor Conn)) (x : Bor Tuple × Bor Conn) → option_map deref_pair r ≡ slice_get cs i → r ≡ Some x → p x.1.now ≡ p (conn_at i cs)
 conn_found p cs i r x at is = ap p (sym (conn_read cs i x.0.now x.1.now (sym at ∙ ap (option_map deref_pair) is)))
 
-pub conn_missed : (p : Conn → Bool) (cs : Conns) (i : ℕ) (r : Option (Bor Tuple × Bor Conn)) → option_map deref_pair r ≡ slice_get cs i → r ≡ None → p (new_conn 0) ≡ p (conn_at i cs)
+pub conn_missed : {A : Type 0} (p : Conn → A) (cs : Conns) (i : ℕ) (r : Option (Bor Tuple × Bor Conn)) → option_map deref_pair r ≡ slice_get cs i → r ≡ None → p (new_conn 0) ≡ p (conn_at i cs)
 conn_missed p cs i r at is = ap (λ o. p (option_map_or (λ e. e.1) o (new_conn 0))) (sym (ap (option_map deref_pair) is) ∙ at)
 
 -- a removal by place

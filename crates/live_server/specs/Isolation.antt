@@ -9,7 +9,7 @@ use Rattle.segment_codec.specs.declared.packet.Seg.{Seg}
 use Rattle.sq_base.specs.declared.kinds.Tuple.{Tuple}
 use Rattle.live_server.specs.Acts.{datagram_of, emptied, is_half_open, is_over, reached, receives}
 use Rattle.live_server.specs.Initial.{number_for}
-use Rattle.live_server.specs.Serving.{ServerOf, on_segment, on_time}
+use Rattle.live_server.specs.Serving.{ServerOf, heeded, heeded_text, on_segment, on_time}
 use Rattle.live_server.specs.Table.{tuple_eq}
 use Rattle.live_server.specs.declared.acting.Datagram.{Datagram}
 use Rattle.live_server.specs.declared.conn.Conn.{Conn}
@@ -34,10 +34,14 @@ conn_of t sv = lookup (tuple_eq t) sv.conns
 abbrev pub kept_as : Conn → Option Conn
 kept_as c = if is_over c then None else Some (emptied c)
 
--- the segment's own connection becomes what the definition of an act makes of it, after the time came to it
+-- what the definition of an act makes of a connection, after the time came to it
+abbrev pub acted : ℕ → Seg → List ℕ → List ℕ → Conn → Conn
+acted now s text secret c = receives (service_of s.dst_port) now (number_for secret now s) s text (emptied (reached now c))
+
+-- the segment's own connection becomes that, its text only where all may hold it
 abbrev pub OwnConnActs : Type 0
 OwnConnActs = (now : ℕ) (s : Seg) (text : List ℕ) (sv : ServerOf) (c : Conn) → IsTable sv → conn_of (tuple_of s) sv ≡ Some c → is_over (reached now c) ≡ false
-    → conn_of (tuple_of s) (on_segment now s text sv).server ≡ kept_as (receives (service_of s.dst_port) now (number_for sv.secret now s) s text (emptied (reached now c)))
+    → conn_of (tuple_of s) (on_segment now s text sv).server ≡ kept_as (acted now (heeded s text sv) (heeded_text text sv) sv.secret c)
 
 -- every other connection stays as it is, but for one that is half open, which may leave
 abbrev pub OthersStay : Type 0

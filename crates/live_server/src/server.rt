@@ -6,7 +6,7 @@ ghost use Rattle.sq_base.specs.Ports.{is_served_port};
 ghost use Rattle.sq_base.specs.declared.kinds.Tuple.{Tuple};
 ghost use Rattle.tcb_machine.specs.Limits.{last_time};
 ghost use Rattle.live_server.specs.Initial.{number_for};
-ghost use Rattle.live_server.specs.Serving.{addressed, comes, goes_on, has_place, makes_place, on_datagram, on_segment, on_time, opens, refused, takes_place, time_to, yields};
+ghost use Rattle.live_server.specs.Serving.{addressed, comes, fits, goes_on, has_place, heeds, makes_place, on_datagram, on_segment, on_time, opens, refused, takes_place, time_to, without_text, yields};
 ghost use Rattle.live_server.specs.Table.{IsNew};
 
 use crate::acting::{Datagram, encoded, text_of};
@@ -16,7 +16,7 @@ use crate::counts::Counts;
 use crate::initial::{Secret, initial_number};
 use crate::setting::Setting;
 use crate::table::{
-    Table, drop_idle, drop_over, is_half_open_at, leave, reach_all, reach_at, take_at,
+    Table, drop_idle, drop_over, held_by, is_half_open_at, leave, reach_all, reach_at, take_at,
 };
 use echo_services::Service;
 use indexmap::IndexMap;
@@ -43,6 +43,8 @@ pub struct Server {
     conns: Table,
     /// The ends of the connections that were opened last, by age: one that is half open is among them.
     waiting: VecDeque<Tuple>,
+    /// How many bytes all held when the time last came to them, with the text that came since.
+    held: u64,
     setting: Setting,
     secret: Secret,
     counts: Counts,
@@ -56,6 +58,7 @@ impl Model for Server {
     ghost view = { λ s. record {
       conns = s.conns.entries;
       waiting = s.waiting.items;
+      held = s.held;
       setting = s.setting;
       secret = s.secret.0;
       counts = s.counts;
@@ -67,11 +70,12 @@ impl Server {
 
     /// A server with no connection. It takes no memory.
     pub fn new(alloc: Global, setting: Setting, secret: Secret) -> Server
-        ensures { result ≡ record { conns = []; waiting = []; setting = setting; secret = secret.0; counts = no_counts } }
+        ensures { result ≡ record { conns = []; waiting = []; held = 0; setting = setting; secret = secret.0; counts = no_counts } }
     {
         Server {
             conns: IndexMap::new(alloc),
             waiting: VecDeque::new(alloc),
+            held: 0,
             setting,
             secret,
             counts: Counts::default(),
@@ -129,6 +133,7 @@ impl Server {
         drop_idle(&mut self.conns, self.setting.places, now, self.setting.idle);
         let left = (here - self.conns.len()) as u64;
         self.counts.idled = self.counts.idled.wrapping_add(left);
+        self.held = held_by(&self.conns);
         Ok(())
     }
 
@@ -173,7 +178,39 @@ impl Server {
         ensures sent { OnOk result (out.new.items ≡ out.old.items ++ (on_segment now seg.now text.now self.old).sent) }
     {
         self.time_to(alloc, now, &tuple_of(seg), out)?;
-        self.come(alloc, now, seg, text, out)
+        self.heed(alloc, now, seg, text, out)
+    }
+
+    /// A segment to a service. Where its text would take all past what they may hold, it counts without it.
+    #[tactic(auto, unfolding(crate::specs::Serving::heeds))]
+    fn heed(
+        &mut self,
+        alloc: Global,
+        now: u64,
+        seg: &Seg,
+        text: &[u8],
+        out: &mut Vec<Datagram>,
+    ) -> Result<(), AllocError>
+        requires time { now ≤ last_time }
+        requires port { is_served_port seg.now.dst_port ≡ true }
+        ensures server { OnOk result (self.new ≡ (heeds now seg.now text.now self.old).server) }
+        ensures sent { OnOk result (out.new.items ≡ out.old.items ++ (heeds now seg.now text.now self.old).sent) }
+    {
+        if self.fits(text) {
+            self.held = self.held.saturating_add(text.len() as u64);
+            self.come(alloc, now, seg, text, out)
+        } else {
+            self.counts.over_full = self.counts.over_full.wrapping_add(1);
+            self.come(alloc, now, &without_text(seg), &[], out)
+        }
+    }
+
+    /// Whether all may hold so much more.
+    #[tactic(auto, unfolding(crate::specs::Serving::fits))]
+    fn fits(&self, text: &[u8]) -> bool
+        ensures { result ≡ fits text.now self.now }
+    {
+        text.len() as u64 <= self.setting.bytes.saturating_sub(self.held)
     }
 
     /// The time comes to the connection of two ends, where there is one.
@@ -347,6 +384,16 @@ fn number_for(secret: &Secret, now: u64, seg: &Seg, tuple: &Tuple) -> u32
         initial_number(secret, now, tuple)
     } else {
         0
+    }
+}
+
+/// A segment without its text and its FIN.
+fn without_text(seg: &Seg) -> Seg
+    ensures { result ≡ without_text seg.now }
+{
+    Seg {
+        flags: seg.flags & 62,
+        ..*seg
     }
 }
 

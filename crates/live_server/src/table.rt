@@ -5,9 +5,10 @@ ghost use Rattle.std.specs.List.{flat_map};
 ghost use Rattle.echo_services.specs.Pump.{service_of};
 ghost use Rattle.indexmap.specs.IndexMap.{set_value_at};
 ghost use Rattle.sq_base.specs.Ports.{is_served_port};
+ghost use Rattle.tcb_machine.specs.BlockState.{held_in};
 ghost use Rattle.tcb_machine.specs.Limits.{last_time};
 ghost use Rattle.live_server.specs.Acts.{emptied, is_half_open, is_over, judged, reached, receives, sent_by};
-ghost use Rattle.live_server.specs.Table.{all_reached, conn_at, replaced, settled, without, without_idle, without_over};
+ghost use Rattle.live_server.specs.Table.{all_reached, conn_at, held_by, replaced, settled, without, without_idle, without_over};
 
 use crate::acting::Datagram;
 use crate::conn::{Conn, Judged};
@@ -71,6 +72,26 @@ pub(crate) fn drop_idle(table: &mut Table, places: usize, now: u64, limit: u64)
 {
     if table.len() >= places {
         table.retain(|_, conn| !conn.is_idle(now, limit));
+    }
+}
+
+/// How many bytes all hold.
+pub(crate) fn held_by(table: &Table) -> u64
+    ensures { result ≡ held_by table.now.entries }
+{
+    let mut total = 0u64;
+    for place in 0..table.len() {
+        total = total.saturating_add(held_at(table, place));
+    }
+    total
+}
+
+fn held_at(table: &Table, place: usize) -> u64
+    ensures { result ≡ held_in (conn_at place table.now.entries).tcb }
+{
+    match table.get_index(place) {
+        Some((_, conn)) => conn.tcb.held(),
+        None => 0,
     }
 }
 
