@@ -10,7 +10,7 @@ use Rattle.segment_codec.specs.declared.packet.Seg.{Seg}
 use Rattle.sq_base.specs.declared.kinds.Tuple.{Tuple}
 use Rattle.live_server.specs.Acts.{emptied, is_half_open, is_over, judged, new_conn, reached, receives}
 use Rattle.live_server.specs.Initial.{number_for}
-use Rattle.live_server.specs.Isolation.{conn_of, kept_as, IsTable, OthersStay, OwnConnActs, SegmentKeepsTable}
+use Rattle.live_server.specs.Isolation.{conn_of, kept_as, IsTable, Loses, OthersStay, OwnConnActs, SegmentKeepsTable, Stays}
 use Rattle.live_server.specs.Serving.{Outcome, ServerOf, becomes, comes, fits, gives_way, goes_on, has_place, heeded, heeded_text, heeds, holding, judging, noting, on_segment, opens, overfull, sends_nothing, sends_of, served, takes_free, takes_place, time_to, turns_away, without_text, yielding, yields, yields_at}
 use Rattle.live_server.specs.Table.{Conns, conn_at, place_of, replaced, tuple_eq, without, IsNew}
 use Rattle.live_server.specs.declared.conn.Conn.{Conn}
@@ -18,10 +18,6 @@ use Rattle.live_server.specs.declared.setting.Setting.{Setting}
 use Rattle.std.proofs.lemmas.List.{length-append}
 use Rattle.live_server.proofs.TableLemmas.{tuple_equivalence, distinct_appended, distinct_replaced, distinct_without, first_at, length_replaced, length_without, look_appended, look_replaced, look_without, new_from_place, same, within_at}
 use Rattle.live_server.proofs.PlaceLemmas.{conn_looked}
-
--- what one connection is after a step: it stays, or it was half open and left
-abbrev Stays : Tuple → ServerOf → ServerOf → Type 0
-Stays q before after = (conn_of q after ≡ conn_of q before) ⊎ ((conn_of q after ≡ None) × IfSome (conn_of q before) (λ c. is_half_open c ≡ true))
 
 stays_on : (q : Tuple) (a b c : ServerOf) → Stays q a b → Stays q b c → Stays q a c
 stays_on q a b c (inl here) (inl there) = inl (there ∙ here)
@@ -309,3 +305,58 @@ own_connection_law now s text sv c table look alive =
     heeded_own now s text first in_table (emptied (reached now c)) timed
     ∙ (λ j. kept_as (receives (service_of (cond (same_fit j) s (without_text s)).dst_port) now (number_for (kept.1 j) now (cond (same_fit j) s (without_text s)))
     (cond (same_fit j) s (without_text s)) (cond (same_fit j) text []) (emptied (reached now c))))
+
+-- ---- where memory was missing
+module _ (t : Tuple) (sv : ServerOf) where
+  -- the connection at its place left
+  pub lost_at : (here : ServerOf) → here ≡ sv → (i : ℕ) → place_of t here.conns ≡ Some i → (new : Conns) → new ≡ without i here.conns → Loses t sv (record here { conns = new })
+  lost_at here is i at new left = subst (λ (x : ServerOf). Loses t x (record here { conns = new })) is (λ table.
+      let lt = within_at t here.conns i at in
+      let look = look_without here.conns i t (first_at t here.conns i at) lt table.once in (
+        record {
+          once = subst (λ (l : Conns). IsDistinct tuple_eq (keys_of l)) (sym left) (distinct_without here.conns i lt table.once);
+          bounded = omega (arith, ap (λ (l : Conns). length l) left, length_without here.conns i lt, table.bounded);
+        },
+        ap (lookup (tuple_eq t)) left ∙ look t ∙ chosen true (tuple_eq t t) _ _ (tuple_equivalence.refl t),
+        λ q apart. inl (ap (lookup (tuple_eq q)) left ∙ look q ∙ chosen false (tuple_eq t q) _ _ apart),
+      ))
+
+  -- a connection that wasn't there isn't there
+  pub never_there : IsNew t sv.conns → (after : ServerOf) → after.conns ≡ sv.conns → after.setting ≡ sv.setting → Loses t sv after
+  never_there new after same places table = (
+    record {
+      once = subst (λ (l : Conns). IsDistinct tuple_eq (keys_of l)) (sym same) table.once;
+      bounded = omega (arith, ap (λ (l : Conns). length l) same, ap (λ (g : Setting). g.places) places, table.bounded);
+    },
+    ap (lookup (tuple_eq t)) same ∙ new,
+    λ q apart. inl (ap (lookup (tuple_eq q)) same),
+  )
+
+  pub lost_after : (b c : ServerOf) → (IsTable sv → IsTable b × ((q : Tuple) → tuple_eq t q ≡ false → Stays q sv b)) → Loses t b c → Loses t sv c
+  lost_after b c step loss table =
+      let first = step table in
+      let last = loss first.0 in
+      (last.0, last.1, λ q apart. stays_on q sv b c (first.1 q apart) (last.2 q apart))
+
+  -- behind those that gave way
+  pub lost_behind : (b c : ServerOf) → b ≡ yielding sv.waiting sv → Loses t b c → Loses t sv c
+  lost_behind b c is loss =
+      lost_after b c (λ table. subst (λ (x : ServerOf). IsTable x × ((q : Tuple) → tuple_eq t q ≡ false → Stays q sv x)) (sym is)
+      (yielding_table sv.waiting sv table, λ q apart. yielding_stays q sv.waiting sv table)) loss
+
+  -- behind the time
+  pub lost_in_time : (now : ℕ) (b c : ServerOf) → b ≡ (time_to now t sv).server → Loses t b c → Loses t sv c
+  lost_in_time now b c is loss =
+      lost_after b c (λ table. subst (λ (x : ServerOf). IsTable x × ((q : Tuple) → tuple_eq t q ≡ false → Stays q sv x)) (sym is)
+      (timed_table now t sv table (place_of t sv.conns) refl, λ q apart. inl (timed_stays now t sv q apart table (place_of t sv.conns) refl))) loss
+
+  -- behind what was noted
+  pub lost_noted : (b c : ServerOf) → b.conns ≡ sv.conns → b.setting ≡ sv.setting → Loses t b c → Loses t sv c
+  lost_noted b c same places loss =
+      lost_after b c (λ table. (
+        record {
+          once = subst (λ (l : Conns). IsDistinct tuple_eq (keys_of l)) (sym same) table.once;
+          bounded = omega (arith, ap (λ (l : Conns). length l) same, ap (λ (g : Setting). g.places) places, table.bounded);
+        },
+        λ q apart. inl (ap (lookup (tuple_eq q)) same),
+      )) loss

@@ -8,7 +8,7 @@ use Rattle.std.specs.Option.{option_map, option_map_or}
 use Rattle.std.proofs.lemmas.Option.{slice_get_within}
 use Rattle.std.proofs.lemmas.Map.Made.{IsDistinct-keys_filter}
 use Rattle.std_collections.proofs.Entries.{keys_set_value_at, length-set_value_at}
-use Rattle.std_collections.proofs.HashLookup.{IsAbsent, IsFirst, Updated-push, Updated-set, Updated-take, distinct_push, distinct_swap_remove, length-swap_remove, lookup-IsAbsent, Rearranges-swap_remove, IsFirst-set_value_at}
+use Rattle.std_collections.proofs.HashLookup.{IsAbsent, IsFirst, Updated-push, Updated-set, Updated-take, distinct_push, distinct_swap_remove, length-swap_remove, lookup-IsAbsent, Rearranges-swap_remove, IsFirst-set_value_at, swap_remove-set_value_at}
 use Rattle.indexmap.specs.IndexMap.{insert_entry, set_value_at}
 use Rattle.indexmap.proofs.MapLemmas.{absent_from_lookup, Found-position, Missing-position, insert_entry-absent}
 use Rattle.sq_base.specs.declared.kinds.Tuple.{Tuple}
@@ -116,6 +116,13 @@ module _ (cs : Conns) (i : ℕ) (c : Conn) where
 
   pub distinct_set : IsDistinct tuple_eq (keys_of cs) → IsDistinct tuple_eq (keys_of (set_value_at cs i c))
   distinct_set d = subst (IsDistinct tuple_eq) (sym (keys_set_value_at cs i c)) d
+
+-- a write to the one that leaves is lost
+pub without_set : (cs : Conns) (i : ℕ) (v : Conn) → i < length cs → without i (set_value_at cs i v) ≡ without i cs
+without_set cs i v lt =
+    let after = without_is (set_value_at cs i v) i (omega (arith, length-set_value_at cs i v, lt)) in
+    let before = without_is cs i lt in
+    after.1 ∙ swap_remove-set_value_at cs i v after.0 before.0 lt ∙ sym before.1
 
 -- the connection at a place becomes another one
 module _ (cs : Conns) (i : ℕ) (c : Conn) (lt : i < length cs) where

@@ -1,5 +1,5 @@
 -- The table of connections: the two ends of each, with what is known of it.
-use Rattle.std.specs.Prelude.{◌≡◌, ℕ, ◌+◌, ◌-◌, ◌^◌, min, ◌==◌, ◌&&◌, not, [], ◌∷◌, nat_lt, Bool, List, length, map, filter, position, slice_get, swap_remove, Option, None, if◌then◌else◌}
+use Rattle.std.specs.Prelude.{◌≡◌, ℕ, ◌+◌, ◌-◌, ◌^◌, min, ◌==◌, ◌&&◌, not, [], ◌∷◌, ◌++◌, take, drop, nat_lt, Bool, List, length, map, filter, position, slice_get, swap_remove, Option, None, if◌then◌else◌}
 use Rattle.std.specs.Map.{keys_of, lookup}
 use Rattle.std.specs.Option.{option_map_or}
 use Rattle.sq_base.specs.declared.kinds.Tuple.{Tuple}
@@ -41,6 +41,10 @@ replaced place c cs = settled place (set_value_at cs place (emptied c))
 -- the time comes to each
 abbrev pub all_reached : ℕ → Conns → Conns
 all_reached now cs = map (λ c. (c.0, emptied (reached now c.1))) cs
+
+-- and to the first so many
+abbrev pub reached_until : ℕ → ℕ → Conns → Conns
+reached_until now i cs = all_reached now (take i cs) ++ drop i cs
 
 -- those that are over leave
 unfoldable pub without_over : Conns → Conns

@@ -30,8 +30,6 @@ pub struct Counts {
     pub late: u64,
     /// Segments whose text was passed over, since all connections hold as much as they may.
     pub over_full: u64,
-    /// Connections that were lost for want of memory.
-    pub starved: u64,
 }
 
 impl Counts {
