@@ -8,5 +8,6 @@ pub mod ReachLemmas
 pub mod ServerLemmas
 pub mod LawLemmas
 pub mod SentLemmas
+pub mod LossLemmas
 pub mod FrameLemmas
 pub mod PieceLemmas

@@ -1,6 +1,6 @@
 //! The table of connections, and what a datagram and the time do to it.
 
-ghost use Rattle.std.specs.Prelude.{◌≡◌, ◌++◌, ◌<◌, ◌≤◌, ◌^◌, [], true, Some, OnErr, OnOk};
+ghost use Rattle.std.specs.Prelude.{◌≡◌, ◌++◌, ◌<◌, ◌≤◌, ◌^◌, [], true, length, Some, OnErr, OnOk};
 ghost use Rattle.segment_codec.specs.Packet.{packet_in};
 ghost use Rattle.segment_codec.specs.Refusal.{tuple_of};
 ghost use Rattle.segment_codec.specs.declared.packet.Seg.{Seg};
