@@ -1,5 +1,5 @@
 -- What holds of every table, and what a segment does to others.
-use Rattle.std.proofs.Common.{◌≡◌, ℕ, zero, suc, ◌+◌, ◌<◌, ◌≤◌, ◌⊎◌, inl, inr, Bool, true, false, cond, not, ◌&&◌, nat_lt, List, [], ◌∷◌, ◌++◌, length, map, filter, Option, None, Some, IfSome, All, refl, sym, ap, subst, ◌∙◌, arith, true≢false, is_some, unwrap_or}
+use Rattle.std.proofs.Common.{◌≡◌, ℕ, zero, suc, ◌+◌, ◌<◌, ◌≤◌, ◌⊎◌, inl, inr, Bool, true, false, cond, not, ◌&&◌, nat_le, nat_lt, ◌-◌, List, [], ◌∷◌, ◌++◌, length, map, filter, Option, None, Some, IfSome, All, refl, sym, ap, subst, ◌∙◌, arith, true≢false, is_some, unwrap_or}
 use Rattle.std.specs.List.{IsDistinct}
 use Rattle.std.specs.Map.{keys_of, lookup}
 use Rattle.std.specs.Option.{option_map_or}
@@ -10,17 +10,14 @@ use Rattle.segment_codec.specs.declared.packet.Seg.{Seg}
 use Rattle.sq_base.specs.declared.kinds.Tuple.{Tuple}
 use Rattle.live_server.specs.Acts.{emptied, is_half_open, is_over, judged, new_conn, reached, receives}
 use Rattle.live_server.specs.Initial.{number_for}
-use Rattle.live_server.specs.Isolation.{conn_of, kept_as, IsTable, OthersStay, OwnConnActs, SegmentKeepsTable}
-use Rattle.live_server.specs.Serving.{Outcome, ServerOf, becomes, comes, gives_way, goes_on, has_place, judging, on_segment, opens, sends_nothing, served, sends_of, takes_free, takes_place, time_to, turns_away, yielding, yields, yields_at}
+use Rattle.live_server.specs.Isolation.{conn_of, kept_as, IsTable, Loses, OthersStay, OwnConnActs, SegmentKeepsTable, Stays}
+use Rattle.live_server.specs.Serving.{Outcome, ServerOf, becomes, comes, fits, gives_way, goes_on, has_place, heeded, heeded_text, heeds, holding, judging, noting, on_segment, opens, overfull, sends_nothing, sends_of, served, takes_free, takes_place, time_to, turns_away, without_text, yielding, yields, yields_at}
 use Rattle.live_server.specs.Table.{Conns, conn_at, place_of, replaced, tuple_eq, without, IsNew}
 use Rattle.live_server.specs.declared.conn.Conn.{Conn}
+use Rattle.live_server.specs.declared.setting.Setting.{Setting}
 use Rattle.std.proofs.lemmas.List.{length-append}
 use Rattle.live_server.proofs.TableLemmas.{tuple_equivalence, distinct_appended, distinct_replaced, distinct_without, first_at, length_replaced, length_without, look_appended, look_replaced, look_without, new_from_place, same, within_at}
 use Rattle.live_server.proofs.PlaceLemmas.{conn_looked}
-
--- what one connection is after a step: it stays, or it was half open and left
-abbrev Stays : Tuple → ServerOf → ServerOf → Type 0
-Stays q before after = (conn_of q after ≡ conn_of q before) ⊎ ((conn_of q after ≡ None) × IfSome (conn_of q before) (λ c. is_half_open c ≡ true))
 
 stays_on : (q : Tuple) (a b c : ServerOf) → Stays q a b → Stays q b c → Stays q a c
 stays_on q a b c (inl here) (inl there) = inl (there ∙ here)
@@ -159,10 +156,10 @@ module _ (now : ℕ) (t : Tuple) (sv : ServerOf) where
   timed_stays q apart table (Some i) at =
       ap (λ (o : Outcome). conn_of q o.server) (timed_by (Some i) at) ∙ become_look i t (reached now (conn_at i sv.conns)) sv at table q ∙ chosen false (tuple_eq t q) _ _ apart
 
-  timed_kept : (r : Option ℕ) → place_of t sv.conns ≡ r → ((time_to now t sv).server.setting ≡ sv.setting) × ((time_to now t sv).server.secret ≡ sv.secret)
+  timed_kept : (r : Option ℕ) → place_of t sv.conns ≡ r → ((time_to now t sv).server.setting ≡ sv.setting) × ((time_to now t sv).server.secret ≡ sv.secret) × ((time_to now t sv).server.held ≡ sv.held)
   unfolding becomes
-  timed_kept None at = (ap (λ (o : Outcome). o.server.setting) (timed_by None at), ap (λ (o : Outcome). o.server.secret) (timed_by None at))
-  timed_kept (Some i) at = (ap (λ (o : Outcome). o.server.setting) (timed_by (Some i) at), ap (λ (o : Outcome). o.server.secret) (timed_by (Some i) at))
+  timed_kept None at = (ap (λ (o : Outcome). o.server.setting) (timed_by None at), ap (λ (o : Outcome). o.server.secret) (timed_by None at), ap (λ (o : Outcome). o.server.held) (timed_by None at))
+  timed_kept (Some i) at = (ap (λ (o : Outcome). o.server.setting) (timed_by (Some i) at), ap (λ (o : Outcome). o.server.secret) (timed_by (Some i) at), ap (λ (o : Outcome). o.server.held) (timed_by (Some i) at))
 
 module _ (now : ℕ) (s : Seg) (text : List ℕ) (sv : ServerOf) (table : IsTable sv) where
   abbrev ends : Tuple
@@ -221,11 +218,65 @@ module _ (now : ℕ) (s : Seg) (text : List ℕ) (sv : ServerOf) (table : IsTabl
       ap (λ (o : Outcome). conn_of ends o.server) (came_by (Some i) at ∙ went_on i)
       ∙ become_look i ends _ (judging (judged now s text (conn_at i sv.conns)) sv) at (judged_table i) ends ∙ chosen true (tuple_eq ends ends) _ _ (tuple_equivalence.refl ends)
 
+-- a connection that is looked up has a place
+placed_at : (t : Tuple) (cs : Conns) (c : Conn) → lookup (tuple_eq t) cs ≡ Some c → (r : Option ℕ) → place_of t cs ≡ r → (i : ℕ) × (place_of t cs ≡ Some i) × (conn_at i cs ≡ c)
+placed_at t cs c look None at = absurd (true≢false (sym (ap is_some look) ∙ ap is_some (new_from_place t cs at)))
+placed_at t cs c look (Some i) at = (i, at, ap (λ o. unwrap_or o c) (sym (conn_looked t cs i at) ∙ look))
+
+module _ (now : ℕ) (s : Seg) (text : List ℕ) (sv : ServerOf) (table : IsTable sv) where
+  noted_conns : (b : Bool) → fits text sv ≡ b → (noting text sv).conns ≡ sv.conns
+  noted_conns true e = ap (λ v. (cond v (holding text sv) (overfull sv)).conns) e
+  noted_conns false e = ap (λ v. (cond v (holding text sv) (overfull sv)).conns) e
+
+  noted_rest : (b : Bool) → fits text sv ≡ b → ((noting text sv).setting ≡ sv.setting) × ((noting text sv).secret ≡ sv.secret)
+  noted_rest true e = (ap (λ v. (cond v (holding text sv) (overfull sv)).setting) e, ap (λ v. (cond v (holding text sv) (overfull sv)).secret) e)
+  noted_rest false e = (ap (λ v. (cond v (holding text sv) (overfull sv)).setting) e, ap (λ v. (cond v (holding text sv) (overfull sv)).secret) e)
+
+  same_ends : (b : Bool) → tuple_of (cond b s (without_text s)) ≡ tuple_of s
+  same_ends true = refl
+  same_ends false = refl
+
+  abbrev noted : ServerOf
+  noted = noting text sv
+
+  noted_table : IsTable noted
+  noted_table =
+      let same = noted_conns (fits text sv) refl in
+      let rest = noted_rest (fits text sv) refl in
+      record {
+        once = subst (λ (l : Conns). IsDistinct tuple_eq (keys_of l)) (sym same) table.once;
+        bounded = omega (arith, ap (λ (l : Conns). length l) same, ap (λ (g : Setting). g.places) rest.0, table.bounded);
+      }
+
+  heeded_table : IsTable (heeds now s text sv).server
+  unfolding heeds
+  heeded_table = came_table now (heeded s text sv) (heeded_text text sv) noted noted_table (place_of (tuple_of (heeded s text sv)) noted.conns) refl
+
+  heeded_stays : (q : Tuple) → tuple_eq (tuple_of s) q ≡ false → Stays q sv (heeds now s text sv).server
+  unfolding heeds
+  heeded_stays q apart =
+      stays_on q sv noted (comes now (heeded s text sv) (heeded_text text sv) noted).server
+      (inl (ap (lookup (tuple_eq q)) (noted_conns (fits text sv) refl)))
+      (came_stays now (heeded s text sv) (heeded_text text sv) noted noted_table q (ap (λ t. tuple_eq t q) (same_ends (fits text sv)) ∙ apart) (place_of (tuple_of (heeded s text sv)) noted.conns) refl)
+
+  heeded_own : (c : Conn) → conn_of (tuple_of s) sv ≡ Some c → conn_of (tuple_of s) (heeds now s text sv).server ≡ kept_as (served now (heeded s text sv) (heeded_text text sv) sv c)
+  unfolding heeds
+  heeded_own c look =
+      let s1 = heeded s text sv in
+      let e : tuple_of s1 ≡ tuple_of s = same_ends (fits text sv) in
+      let same = noted_conns (fits text sv) refl in
+      let there : lookup (tuple_eq (tuple_of s1)) noted.conns ≡ Some c = (λ j. lookup (tuple_eq (e j)) (same j)) ∙ look in
+      let p = placed_at (tuple_of s1) noted.conns c there (place_of (tuple_of s1) noted.conns) refl in
+      ap (λ t. conn_of t (comes now s1 (heeded_text text sv) noted).server) (sym e)
+      ∙ came_own now s1 (heeded_text text sv) noted noted_table p.0 p.1
+      ∙ ap (λ x. kept_as (served now s1 (heeded_text text sv) noted x)) p.2
+      ∙ ap (λ k. kept_as (receives (service_of s1.dst_port) now (number_for k now s1) s1 (heeded_text text sv) c)) (noted_rest (fits text sv) refl).1
+
 pub segment_keeps_table : SegmentKeepsTable
 unfolding on_segment
 segment_keeps_table now s text sv table =
     let first = (time_to now (tuple_of s) sv).server in
-    came_table now s text first (timed_table now (tuple_of s) sv table (place_of (tuple_of s) sv.conns) refl) (place_of (tuple_of s) first.conns) refl
+    heeded_table now s text first (timed_table now (tuple_of s) sv table (place_of (tuple_of s) sv.conns) refl)
 
 pub others_stay_law : OthersStay
 unfolding on_segment
@@ -234,27 +285,78 @@ others_stay_law now s text sv other table apart =
     let first = (time_to now t sv).server in
     let away : tuple_eq t other ≡ false = tuple_equivalence.symm t other ∙ apart in
     let in_table = timed_table now t sv table (place_of t sv.conns) refl in
-    stays_on other sv first (comes now s text first).server (inl (timed_stays now t sv other away table (place_of t sv.conns) refl)) (came_stays now s text first in_table other away (place_of t first.conns) refl)
-
--- a connection that is looked up has a place
-placed_at : (t : Tuple) (cs : Conns) (c : Conn) → lookup (tuple_eq t) cs ≡ Some c → (r : Option ℕ) → place_of t cs ≡ r → (i : ℕ) × (place_of t cs ≡ Some i) × (conn_at i cs ≡ c)
-placed_at t cs c look None at = absurd (true≢false (sym (ap is_some look) ∙ ap is_some (new_from_place t cs at)))
-placed_at t cs c look (Some i) at = (i, at, ap (λ o. unwrap_or o c) (sym (conn_looked t cs i at) ∙ look))
+    stays_on other sv first (heeds now s text first).server (inl (timed_stays now t sv other away table (place_of t sv.conns) refl)) (heeded_stays now s text first in_table other away)
 
 pub own_connection_law : OwnConnActs
-unfolding on_segment
+unfolding on_segment fits
 own_connection_law now s text sv c table look alive =
     let t = tuple_of s in
     let first = (time_to now t sv).server in
     let in_table = timed_table now t sv table (place_of t sv.conns) refl in
     let here = placed_at t sv.conns c look (place_of t sv.conns) refl in
+    let kept = timed_kept now t sv (place_of t sv.conns) refl in
     let timed : conn_of t first ≡ Some (emptied (reached now c)) =
     ap (λ (o : Outcome). conn_of t o.server) (timed_by now t sv (Some here.0) here.1)
     ∙ become_look here.0 t (reached now (conn_at here.0 sv.conns)) sv here.1 table t
     ∙ chosen true (tuple_eq t t) _ _ (tuple_equivalence.refl t)
     ∙ ap (λ x. kept_as (reached now x)) here.2
     ∙ ap (λ b. cond b None (Some (emptied (reached now c)))) alive in
-    let then = placed_at t first.conns (emptied (reached now c)) timed (place_of t first.conns) refl in
-    came_own now s text first in_table then.0 then.1
-    ∙ ap (λ x. kept_as (served now s text first x)) then.2
-    ∙ ap (λ k. kept_as (receives (service_of s.dst_port) now (number_for k now s) s text (emptied (reached now c)))) (timed_kept now t sv (place_of t sv.conns) refl).1
+    let same_fit : fits text first ≡ fits text sv = λ j. nat_le (length text) ((kept.0 j).bytes - kept.2 j) in
+    heeded_own now s text first in_table (emptied (reached now c)) timed
+    ∙ (λ j. kept_as (receives (service_of (cond (same_fit j) s (without_text s)).dst_port) now (number_for (kept.1 j) now (cond (same_fit j) s (without_text s)))
+    (cond (same_fit j) s (without_text s)) (cond (same_fit j) text []) (emptied (reached now c))))
+
+-- ---- where memory was missing
+module _ (t : Tuple) (sv : ServerOf) where
+  -- the connection at its place left
+  pub lost_at : (here : ServerOf) → here ≡ sv → (i : ℕ) → place_of t here.conns ≡ Some i → (new : Conns) → new ≡ without i here.conns → Loses t sv (record here { conns = new })
+  lost_at here is i at new left = subst (λ (x : ServerOf). Loses t x (record here { conns = new })) is (λ table.
+      let lt = within_at t here.conns i at in
+      let look = look_without here.conns i t (first_at t here.conns i at) lt table.once in (
+        record {
+          once = subst (λ (l : Conns). IsDistinct tuple_eq (keys_of l)) (sym left) (distinct_without here.conns i lt table.once);
+          bounded = omega (arith, ap (λ (l : Conns). length l) left, length_without here.conns i lt, table.bounded);
+        },
+        ap (lookup (tuple_eq t)) left ∙ look t ∙ chosen true (tuple_eq t t) _ _ (tuple_equivalence.refl t),
+        λ q apart. inl (ap (lookup (tuple_eq q)) left ∙ look q ∙ chosen false (tuple_eq t q) _ _ apart),
+      ))
+
+  -- a connection that wasn't there isn't there
+  pub never_there : IsNew t sv.conns → (after : ServerOf) → after.conns ≡ sv.conns → after.setting ≡ sv.setting → Loses t sv after
+  never_there new after same places table = (
+    record {
+      once = subst (λ (l : Conns). IsDistinct tuple_eq (keys_of l)) (sym same) table.once;
+      bounded = omega (arith, ap (λ (l : Conns). length l) same, ap (λ (g : Setting). g.places) places, table.bounded);
+    },
+    ap (lookup (tuple_eq t)) same ∙ new,
+    λ q apart. inl (ap (lookup (tuple_eq q)) same),
+  )
+
+  pub lost_after : (b c : ServerOf) → (IsTable sv → IsTable b × ((q : Tuple) → tuple_eq t q ≡ false → Stays q sv b)) → Loses t b c → Loses t sv c
+  lost_after b c step loss table =
+      let first = step table in
+      let last = loss first.0 in
+      (last.0, last.1, λ q apart. stays_on q sv b c (first.1 q apart) (last.2 q apart))
+
+  -- behind those that gave way
+  pub lost_behind : (b c : ServerOf) → b ≡ yielding sv.waiting sv → Loses t b c → Loses t sv c
+  lost_behind b c is loss =
+      lost_after b c (λ table. subst (λ (x : ServerOf). IsTable x × ((q : Tuple) → tuple_eq t q ≡ false → Stays q sv x)) (sym is)
+      (yielding_table sv.waiting sv table, λ q apart. yielding_stays q sv.waiting sv table)) loss
+
+  -- behind the time
+  pub lost_in_time : (now : ℕ) (b c : ServerOf) → b ≡ (time_to now t sv).server → Loses t b c → Loses t sv c
+  lost_in_time now b c is loss =
+      lost_after b c (λ table. subst (λ (x : ServerOf). IsTable x × ((q : Tuple) → tuple_eq t q ≡ false → Stays q sv x)) (sym is)
+      (timed_table now t sv table (place_of t sv.conns) refl, λ q apart. inl (timed_stays now t sv q apart table (place_of t sv.conns) refl))) loss
+
+  -- behind what was noted
+  pub lost_noted : (b c : ServerOf) → b.conns ≡ sv.conns → b.setting ≡ sv.setting → Loses t b c → Loses t sv c
+  lost_noted b c same places loss =
+      lost_after b c (λ table. (
+        record {
+          once = subst (λ (l : Conns). IsDistinct tuple_eq (keys_of l)) (sym same) table.once;
+          bounded = omega (arith, ap (λ (l : Conns). length l) same, ap (λ (g : Setting). g.places) places, table.bounded);
+        },
+        λ q apart. inl (ap (lookup (tuple_eq q)) same),
+      )) loss

@@ -2,10 +2,12 @@ pub mod NumberLemmas
 pub mod ConnLemmas
 pub mod TableLemmas
 pub mod PlaceLemmas
+pub mod HeldLemmas
 pub mod TurnLemmas
 pub mod ReachLemmas
 pub mod ServerLemmas
 pub mod LawLemmas
 pub mod SentLemmas
+pub mod LossLemmas
 pub mod FrameLemmas
 pub mod PieceLemmas

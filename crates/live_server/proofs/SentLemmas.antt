@@ -11,7 +11,7 @@ use Rattle.segment_codec.specs.declared.packet.Seg.{Seg}
 use Rattle.sq_base.specs.declared.kinds.Tuple.{Tuple}
 use Rattle.live_server.specs.Acts.{datagram_of, emptied, is_idle, is_over, new_conn, reached, sent_by}
 use Rattle.live_server.specs.Isolation.{AnswersItsEnds, IsTable, TimeKeepsTable}
-use Rattle.live_server.specs.Serving.{Outcome, ServerOf, becomes, comes, goes_on, has_place, makes_place, on_segment, on_time, opens, sends_nothing, sends_of, served, takes_free, takes_place, time_to, turns_away}
+use Rattle.live_server.specs.Serving.{Outcome, ServerOf, becomes, comes, fits, goes_on, has_place, heeded, heeded_text, heeds, makes_place, noting, on_segment, on_time, opens, sends_nothing, sends_of, served, takes_free, takes_place, time_to, turns_away, without_text}
 use Rattle.live_server.specs.Table.{Conns, all_reached, conn_at, place_of, tuple_eq, without_idle, without_over}
 use Rattle.live_server.specs.declared.acting.Datagram.{Datagram}
 use Rattle.live_server.specs.declared.conn.Conn.{Conn}
@@ -55,9 +55,21 @@ came now s text sv =
     by_place t (place_of t sv.conns) _ _ (λ i. of_replies t _)
     (chosen t (is_over c) (sends_of t c sv) (takes_place t c (makes_place sv)) (of_replies t c.tcb.replies) (taken t c (makes_place sv)))
 
+same_ends : (s : Seg) (b : Bool) → tuple_of (cond b s (without_text s)) ≡ tuple_of s
+same_ends s true = refl
+same_ends s false = refl
+
+heeding : (now : ℕ) (s : Seg) (text : List ℕ) (sv : ServerOf) → AreOfEnds (tuple_of s) (heeds now s text sv).sent
+unfolding heeds
+heeding now s text sv =
+    subst (λ t. AreOfEnds t (comes now (heeded s text sv) (heeded_text text sv) (noting text sv)).sent) (same_ends s (fits text sv))
+    (came now (heeded s text sv) (heeded_text text sv) (noting text sv))
+
 pub answers_law : AnswersItsEnds
 unfolding on_segment
-answers_law now s text sv = All-from_recursion _ _ (both (tuple_of s) _ _ (timed (tuple_of s) now sv) (came now s text (time_to now (tuple_of s) sv).server))
+answers_law now s text sv =
+    let first = (time_to now (tuple_of s) sv).server in
+    All-from_recursion _ _ (both (tuple_of s) _ _ (timed (tuple_of s) now sv) (heeding now s text first))
 
 -- ---- the time
 same_keys : (now : ℕ) (cs : Conns) → keys_of (all_reached now cs) ≡ keys_of cs

@@ -8,7 +8,7 @@ use Rattle.std.specs.Option.{option_map, option_map_or}
 use Rattle.std.proofs.lemmas.Option.{slice_get_within}
 use Rattle.std.proofs.lemmas.Map.Made.{IsDistinct-keys_filter}
 use Rattle.std_collections.proofs.Entries.{keys_set_value_at, length-set_value_at}
-use Rattle.std_collections.proofs.HashLookup.{IsAbsent, IsFirst, Updated-push, Updated-set, Updated-take, distinct_push, distinct_swap_remove, length-swap_remove, lookup-IsAbsent, Rearranges-swap_remove, IsFirst-set_value_at}
+use Rattle.std_collections.proofs.HashLookup.{IsAbsent, IsFirst, Updated-push, Updated-set, Updated-take, distinct_push, distinct_swap_remove, length-swap_remove, lookup-IsAbsent, Rearranges-swap_remove, IsFirst-set_value_at, swap_remove-set_value_at}
 use Rattle.indexmap.specs.IndexMap.{insert_entry, set_value_at}
 use Rattle.indexmap.proofs.MapLemmas.{absent_from_lookup, Found-position, Missing-position, insert_entry-absent}
 use Rattle.sq_base.specs.declared.kinds.Tuple.{Tuple}
@@ -58,10 +58,10 @@ pub none_is_whole : is_half_open (new_conn 0) ≡ false
 unfolding new_block
 none_is_whole = refl
 
-pub conn_found : (p : Conn → Bool) (cs : Conns) (i : ℕ) (r : Option (Bor Tuple × Bor Conn)) (x : Bor Tuple × Bor Conn) → option_map deref_pair r ≡ slice_get cs i → r ≡ Some x → p x.1.now ≡ p (conn_at i cs)
+pub conn_found : {A : Type 0} (p : Conn → A) (cs : Conns) (i : ℕ) (r : Option (Bor Tuple × Bor Conn)) (x : Bor Tuple × Bor Conn) → option_map deref_pair r ≡ slice_get cs i → r ≡ Some x → p x.1.now ≡ p (conn_at i cs)
 conn_found p cs i r x at is = ap p (sym (conn_read cs i x.0.now x.1.now (sym at ∙ ap (option_map deref_pair) is)))
 
-pub conn_missed : (p : Conn → Bool) (cs : Conns) (i : ℕ) (r : Option (Bor Tuple × Bor Conn)) → option_map deref_pair r ≡ slice_get cs i → r ≡ None → p (new_conn 0) ≡ p (conn_at i cs)
+pub conn_missed : {A : Type 0} (p : Conn → A) (cs : Conns) (i : ℕ) (r : Option (Bor Tuple × Bor Conn)) → option_map deref_pair r ≡ slice_get cs i → r ≡ None → p (new_conn 0) ≡ p (conn_at i cs)
 conn_missed p cs i r at is = ap (λ o. p (option_map_or (λ e. e.1) o (new_conn 0))) (sym (ap (option_map deref_pair) is) ∙ at)
 
 -- a removal by place
@@ -116,6 +116,13 @@ module _ (cs : Conns) (i : ℕ) (c : Conn) where
 
   pub distinct_set : IsDistinct tuple_eq (keys_of cs) → IsDistinct tuple_eq (keys_of (set_value_at cs i c))
   distinct_set d = subst (IsDistinct tuple_eq) (sym (keys_set_value_at cs i c)) d
+
+-- a write to the one that leaves is lost
+pub without_set : (cs : Conns) (i : ℕ) (v : Conn) → i < length cs → without i (set_value_at cs i v) ≡ without i cs
+without_set cs i v lt =
+    let after = without_is (set_value_at cs i v) i (omega (arith, length-set_value_at cs i v, lt)) in
+    let before = without_is cs i lt in
+    after.1 ∙ swap_remove-set_value_at cs i v after.0 before.0 lt ∙ sym before.1
 
 -- the connection at a place becomes another one
 module _ (cs : Conns) (i : ℕ) (c : Conn) (lt : i < length cs) where

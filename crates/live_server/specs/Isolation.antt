@@ -1,5 +1,5 @@
 -- What holds of every table, and what a segment does to others.
-use Rattle.std.specs.Prelude.{◌≡◌, ℕ, ◌≤◌, ◌⊎◌, true, false, List, length, All, Option, None, Some, IfSome, if◌then◌else◌}
+use Rattle.std.specs.Prelude.{◌≡◌, ℕ, ◌≤◌, ◌⊎◌, true, false, List, length, All, Option, None, Some, IfSome, option_map, if◌then◌else◌}
 use Rattle.std.specs.List.{IsDistinct}
 use Rattle.std.specs.Map.{keys_of, lookup}
 use Rattle.echo_services.specs.Pump.{service_of}
@@ -9,7 +9,7 @@ use Rattle.segment_codec.specs.declared.packet.Seg.{Seg}
 use Rattle.sq_base.specs.declared.kinds.Tuple.{Tuple}
 use Rattle.live_server.specs.Acts.{datagram_of, emptied, is_half_open, is_over, reached, receives}
 use Rattle.live_server.specs.Initial.{number_for}
-use Rattle.live_server.specs.Serving.{ServerOf, on_segment, on_time}
+use Rattle.live_server.specs.Serving.{ServerOf, heeded, heeded_text, on_segment, on_time}
 use Rattle.live_server.specs.Table.{tuple_eq}
 use Rattle.live_server.specs.declared.acting.Datagram.{Datagram}
 use Rattle.live_server.specs.declared.conn.Conn.{Conn}
@@ -34,16 +34,36 @@ conn_of t sv = lookup (tuple_eq t) sv.conns
 abbrev pub kept_as : Conn → Option Conn
 kept_as c = if is_over c then None else Some (emptied c)
 
--- the segment's own connection becomes what the definition of an act makes of it, after the time came to it
+-- what the definition of an act makes of a connection, after the time came to it
+abbrev pub acted : ℕ → Seg → List ℕ → List ℕ → Conn → Conn
+acted now s text secret c = receives (service_of s.dst_port) now (number_for secret now s) s text (emptied (reached now c))
+
+-- the segment's own connection becomes that, its text only where all may hold it
 abbrev pub OwnConnActs : Type 0
 OwnConnActs = (now : ℕ) (s : Seg) (text : List ℕ) (sv : ServerOf) (c : Conn) → IsTable sv → conn_of (tuple_of s) sv ≡ Some c → is_over (reached now c) ≡ false
-    → conn_of (tuple_of s) (on_segment now s text sv).server ≡ kept_as (receives (service_of s.dst_port) now (number_for sv.secret now s) s text (emptied (reached now c)))
+    → conn_of (tuple_of s) (on_segment now s text sv).server ≡ kept_as (acted now (heeded s text sv) (heeded_text text sv) sv.secret c)
 
--- every other connection stays as it is, but for one that is half open, which may leave
+-- a connection stays as it was, or it was half open and left
+abbrev pub Stays : Tuple → ServerOf → ServerOf → Type 0
+Stays q before after = (conn_of q after ≡ conn_of q before) ⊎ ((conn_of q after ≡ None) × IfSome (conn_of q before) (λ c. is_half_open c ≡ true))
+
+-- every other connection does
 abbrev pub OthersStay : Type 0
 OthersStay = (now : ℕ) (s : Seg) (text : List ℕ) (sv : ServerOf) (other : Tuple) → IsTable sv → tuple_eq other (tuple_of s) ≡ false
-    → (conn_of other (on_segment now s text sv).server ≡ conn_of other sv)
-    ⊎ ((conn_of other (on_segment now s text sv).server ≡ None) × IfSome (conn_of other sv) (λ c. is_half_open c ≡ true))
+    → Stays other sv (on_segment now s text sv).server
+
+-- where memory was missing, the connection of two ends is gone, and every other one stays
+abbrev pub Loses : Tuple → ServerOf → ServerOf → Type 0
+Loses t before after = IsTable before → IsTable after × (conn_of t after ≡ None) × ((q : Tuple) → tuple_eq t q ≡ false → Stays q before after)
+
+-- what a segment costs there: its own connection at most
+abbrev pub Costs : Seg → ServerOf → ServerOf → Type 0
+Costs s before after = Loses (tuple_of s) before after ⊎ (after.conns ≡ before.conns)
+
+-- and what the time does: one connection is gone, and each other one is as it was, or as the time leaves it
+abbrev pub LosesOne : ℕ → ServerOf → ServerOf → Type 0
+LosesOne now before after = IsTable before → IsTable after × ((t : Tuple) × (conn_of t after ≡ None) × ((q : Tuple) → tuple_eq t q ≡ false
+    → (conn_of q after ≡ conn_of q before) ⊎ (conn_of q after ≡ option_map (λ c. emptied (reached now c)) (conn_of q before))))
 
 -- what is sent for a segment goes to its own ends
 abbrev pub AnswersItsEnds : Type 0

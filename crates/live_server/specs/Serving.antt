@@ -1,5 +1,5 @@
 -- What a server makes of a datagram and of the time.
-use Rattle.std.specs.Prelude.{ℕ, ◌-◌, nat_lt, ◌&&◌, not, Bool, true, List, [], ◌∷◌, ◌++◌, length, if◌then◌else◌}
+use Rattle.std.specs.Prelude.{ℕ, ◌+◌, ◌-◌, ◌^◌, min, nat_le, nat_lt, ◌&&◌, not, bit_and, Bool, true, List, [], ◌∷◌, ◌++◌, length, if◌then◌else◌}
 use Rattle.std.specs.List.{flat_map}
 use Rattle.std.specs.Option.{option_map_or}
 use Rattle.echo_services.specs.Pump.{service_of}
@@ -16,17 +16,19 @@ use Rattle.live_server.specs.Acts.{datagram_of, emptied, is_half_open, is_over, 
 use Rattle.live_server.specs.Addresses.{is_for_us}
 use Rattle.live_server.specs.Counting.{counting_judged, more}
 use Rattle.live_server.specs.Initial.{number_for}
-use Rattle.live_server.specs.Table.{Conns, all_reached, conn_at, place_of, replaced, without, without_idle, without_over}
+use Rattle.live_server.specs.Table.{Conns, all_reached, conn_at, held_by, place_of, replaced, without, without_idle, without_over}
 use Rattle.live_server.specs.declared.acting.Datagram.{Datagram}
 use Rattle.live_server.specs.declared.conn.Conn.{Conn}
 use Rattle.live_server.specs.declared.conn.Judged.{Judged}
 use Rattle.live_server.specs.declared.counts.Counts.{Counts}
 use Rattle.live_server.specs.declared.setting.Setting.{Setting}
 
--- the connections; the ends of those that were opened last, which may be half open, by age; what it was started with; what it met
+-- the connections; the ends of those that were opened last, which may be half open, by age; how many bytes all held when the time
+-- last came to them, with the text that came since; what it was started with; what it met
 pub record ServerOf : Type 0 where
   pub conns : Conns
   pub waiting : List Tuple
+  pub held : ℕ
   pub setting : Setting
   pub secret : List ℕ
   pub counts : Counts
@@ -114,9 +116,35 @@ comes now s text sv = option_map_or (λ place. goes_on now s text place sv) (pla
 abbrev pub then_sends : Outcome → (ServerOf → Outcome) → Outcome
 then_sends first next = record { server = (next first.server).server; sent = first.sent ++ (next first.server).sent }
 
+-- whether all may hold so much more
+unfoldable pub fits : List ℕ → ServerOf → Bool
+fits text sv = nat_le (length text) (sv.setting.bytes - sv.held)
+
+-- where they may not, a segment counts without its text and its FIN
+abbrev pub without_text : Seg → Seg
+without_text s = record s { flags = bit_and s.flags 62 }
+
+abbrev pub heeded : Seg → List ℕ → ServerOf → Seg
+heeded s text sv = if fits text sv then s else without_text s
+
+abbrev pub heeded_text : List ℕ → ServerOf → List ℕ
+heeded_text text sv = if fits text sv then text else []
+
+abbrev pub holding : List ℕ → ServerOf → ServerOf
+holding text sv = record sv { held = min (2 ^ 64 - 1) (sv.held + length text) }
+
+abbrev pub overfull : ServerOf → ServerOf
+overfull sv = record sv { counts = record sv.counts { over_full = more 1 sv.counts.over_full } }
+
+abbrev pub noting : List ℕ → ServerOf → ServerOf
+noting text sv = if fits text sv then holding text sv else overfull sv
+
+unfoldable pub heeds : ℕ → Seg → List ℕ → ServerOf → Outcome
+heeds now s text sv = comes now (heeded s text sv) (heeded_text text sv) (noting text sv)
+
 -- a segment to a service: the time comes to its connection first, so that the deadlines before it fire
 unfoldable pub on_segment : ℕ → Seg → List ℕ → ServerOf → Outcome
-on_segment now s text sv = then_sends (time_to now (tuple_of s) sv) (comes now s text)
+on_segment now s text sv = then_sends (time_to now (tuple_of s) sv) (heeds now s text)
 
 -- a segment elsewhere is answered by a reset (RFC 9293, 3.10.7.1)
 abbrev pub refused : ℕ → Seg → List Datagram
@@ -150,6 +178,6 @@ on_time now sv =
     let here = without_over (all_reached now sv.conns) in
     let kept = without_idle sv.setting.places now sv.setting.idle here in
     record {
-      server = record sv { conns = kept; counts = record sv.counts { idled = more (length here - length kept) sv.counts.idled } };
+      server = record sv { conns = kept; held = held_by kept; counts = record sv.counts { idled = more (length here - length kept) sv.counts.idled } };
       sent = flat_map (λ c. sent_by c.0 (reached now c.1)) sv.conns;
     }

@@ -1,8 +1,9 @@
 -- The table of connections: the two ends of each, with what is known of it.
-use Rattle.std.specs.Prelude.{◌≡◌, ℕ, ◌==◌, ◌&&◌, not, nat_lt, Bool, List, length, map, filter, position, slice_get, swap_remove, Option, None, if◌then◌else◌}
+use Rattle.std.specs.Prelude.{◌≡◌, ℕ, ◌+◌, ◌-◌, ◌^◌, min, ◌==◌, ◌&&◌, not, [], ◌∷◌, ◌++◌, take, drop, nat_lt, Bool, List, length, map, filter, position, slice_get, swap_remove, Option, None, if◌then◌else◌}
 use Rattle.std.specs.Map.{keys_of, lookup}
 use Rattle.std.specs.Option.{option_map_or}
 use Rattle.sq_base.specs.declared.kinds.Tuple.{Tuple}
+use Rattle.tcb_machine.specs.BlockState.{held_in}
 use Rattle.live_server.specs.Acts.{emptied, is_idle, is_over, new_conn, reached}
 use Rattle.indexmap.specs.IndexMap.{set_value_at}
 use Rattle.live_server.specs.declared.conn.Conn.{Conn}
@@ -41,6 +42,10 @@ replaced place c cs = settled place (set_value_at cs place (emptied c))
 abbrev pub all_reached : ℕ → Conns → Conns
 all_reached now cs = map (λ c. (c.0, emptied (reached now c.1))) cs
 
+-- and to the first so many
+abbrev pub reached_until : ℕ → ℕ → Conns → Conns
+reached_until now i cs = all_reached now (take i cs) ++ drop i cs
+
 -- those that are over leave
 unfoldable pub without_over : Conns → Conns
 without_over cs = filter (λ c. not (is_over c.1)) cs
@@ -48,3 +53,11 @@ without_over cs = filter (λ c. not (is_over c.1)) cs
 -- from a full table all leave that are idle
 unfoldable pub without_idle : ℕ → ℕ → ℕ → Conns → Conns
 without_idle places now limit cs = if nat_lt (length cs) places then cs else filter (λ c. not (is_idle now limit c.1)) cs
+
+-- how many bytes all hold, as far as 64 bits can say
+abbrev pub total_of : Conns → ℕ
+total_of [] = 0
+total_of (c ∷ cs) = held_in c.1.tcb + total_of cs
+
+abbrev pub held_by : Conns → ℕ
+held_by cs = min (2 ^ 64 - 1) (total_of cs)

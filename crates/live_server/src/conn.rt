@@ -1,8 +1,10 @@
 //! One connection: its block, and what the server keeps beside it.
 
-ghost use Rattle.std.specs.Prelude.{◌≡◌, ◌++◌, ◌≤◌, IfOk, OnOk};
+ghost use Rattle.std.specs.Prelude.{◌≡◌, ◌++◌, ◌≤◌, true, IfOk, OnOk};
 ghost use Rattle.live_server.specs.Acts.{after, emptied, has_room, is_half_open, is_idle, is_outside, is_over, judged, new_conn, oldest_ack, provokes, reached, receives, sent_by, takes};
+ghost use Rattle.echo_services.specs.Pump.{service_of};
 ghost use Rattle.live_server.specs.Acts.{reaches};
+ghost use Rattle.sq_base.specs.Ports.{is_served_port};
 ghost use Rattle.tcb_machine.specs.Limits.{last_time};
 
 use crate::acting::{Datagram, encoded};
@@ -147,6 +149,45 @@ impl Conn {
             out.push(encoded(alloc, tuple, reply)?)?;
         }
         Ok(())
+    }
+
+    /// The time comes to the block, and what it sends leaves it. After an error nothing more is promised of the connection.
+    pub fn time(
+        &mut self,
+        alloc: Global,
+        now: u64,
+        tuple: &Tuple,
+        out: &mut Vec<Datagram>,
+    ) -> Result<(), AllocError>
+        requires { now ≤ last_time }
+        ensures conn { OnOk result (self.new ≡ emptied (reached now self.old)) }
+        ensures sent { OnOk result (out.new.items ≡ out.old.items ++ sent_by tuple.now (reached now self.old)) }
+    {
+        self.reach(alloc, now)?;
+        self.send(alloc, tuple, out)
+    }
+
+    /// A segment comes, and what the block sends leaves it. The answer says what became of the segment. After an error nothing more
+    /// is promised of the connection.
+    pub fn segment(
+        &mut self,
+        alloc: Global,
+        now: u64,
+        iss: u32,
+        seg: &Seg,
+        text: &[u8],
+        tuple: &Tuple,
+        out: &mut Vec<Datagram>,
+    ) -> Result<Judged, AllocError>
+        requires time { now ≤ last_time }
+        requires port { is_served_port seg.now.dst_port ≡ true }
+        ensures judged { IfOk result (λ j. j ≡ judged now seg.now text.now self.old) }
+        ensures conn { OnOk result (self.new ≡ emptied (receives (service_of seg.now.dst_port) now iss seg.now text.now self.old)) }
+        ensures sent { OnOk result (out.new.items ≡ out.old.items ++ sent_by tuple.now (receives (service_of seg.now.dst_port) now iss seg.now text.now self.old)) }
+    {
+        let judged = self.take(alloc, Service::of(seg.dst_port), now, iss, seg, text)?;
+        self.send(alloc, tuple, out)?;
+        Ok(judged)
     }
 }
 

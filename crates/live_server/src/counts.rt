@@ -28,6 +28,8 @@ pub struct Counts {
     pub unanswered: u64,
     /// Segments that came at an earlier time than their connection's last one.
     pub late: u64,
+    /// Segments whose text was passed over, since all connections hold as much as they may.
+    pub over_full: u64,
 }
 
 impl Counts {

@@ -1,13 +1,17 @@
 //! The table of connections, and what a datagram and the time do to it.
 
-ghost use Rattle.std.specs.Prelude.{◌≡◌, ◌++◌, ◌<◌, ◌≤◌, ◌^◌, [], true, length, OnOk};
+ghost use Rattle.std.specs.Prelude.{◌≡◌, ◌++◌, ◌<◌, ◌≤◌, ◌^◌, [], true, length, Some, OnErr, OnOk};
+ghost use Rattle.segment_codec.specs.Packet.{packet_in};
 ghost use Rattle.segment_codec.specs.Refusal.{tuple_of};
+ghost use Rattle.segment_codec.specs.declared.packet.Seg.{Seg};
+ghost use Rattle.sq_base.specs.declared.kinds.Link.TheVariants.{RawIp};
 ghost use Rattle.sq_base.specs.Ports.{is_served_port};
 ghost use Rattle.sq_base.specs.declared.kinds.Tuple.{Tuple};
 ghost use Rattle.tcb_machine.specs.Limits.{last_time};
 ghost use Rattle.live_server.specs.Initial.{number_for};
-ghost use Rattle.live_server.specs.Serving.{addressed, comes, goes_on, has_place, makes_place, on_datagram, on_segment, on_time, opens, refused, takes_place, time_to, yields};
-ghost use Rattle.live_server.specs.Table.{IsNew};
+ghost use Rattle.live_server.specs.Isolation.{Costs, Loses, LosesOne};
+ghost use Rattle.live_server.specs.Serving.{addressed, comes, fits, goes_on, has_place, heeds, makes_place, on_datagram, on_segment, on_time, opens, refused, takes_place, time_to, without_text, yields};
+ghost use Rattle.live_server.specs.Table.{place_of, IsNew};
 
 use crate::acting::{Datagram, encoded, text_of};
 use crate::addresses::is_for_us;
@@ -16,7 +20,7 @@ use crate::counts::Counts;
 use crate::initial::{Secret, initial_number};
 use crate::setting::Setting;
 use crate::table::{
-    Table, drop_idle, drop_over, is_half_open_at, leave, reach_all, reach_at, take_at,
+    Table, drop_idle, drop_over, held_by, is_half_open_at, leave, reach_all, reach_at, take_at,
 };
 use echo_services::Service;
 use indexmap::IndexMap;
@@ -43,6 +47,8 @@ pub struct Server {
     conns: Table,
     /// The ends of the connections that were opened last, by age: one that is half open is among them.
     waiting: VecDeque<Tuple>,
+    /// How many bytes all held when the time last came to them, with the text that came since.
+    held: u64,
     setting: Setting,
     secret: Secret,
     counts: Counts,
@@ -56,6 +62,7 @@ impl Model for Server {
     ghost view = { λ s. record {
       conns = s.conns.entries;
       waiting = s.waiting.items;
+      held = s.held;
       setting = s.setting;
       secret = s.secret.0;
       counts = s.counts;
@@ -67,11 +74,12 @@ impl Server {
 
     /// A server with no connection. It takes no memory.
     pub fn new(alloc: Global, setting: Setting, secret: Secret) -> Server
-        ensures { result ≡ record { conns = []; waiting = []; setting = setting; secret = secret.0; counts = no_counts } }
+        ensures { result ≡ record { conns = []; waiting = []; held = 0; setting = setting; secret = secret.0; counts = no_counts } }
     {
         Server {
             conns: IndexMap::new(alloc),
             waiting: VecDeque::new(alloc),
+            held: 0,
             setting,
             secret,
             counts: Counts::default(),
@@ -86,8 +94,8 @@ impl Server {
     }
 
     /// An IPv4 datagram comes at a time in microseconds. What is sent goes behind the datagrams that are there. Both checksums are
-    /// verified; what is no whole TCP segment is passed over. After an error, which says that memory was missing, nothing more is
-    /// promised.
+    /// verified; what is no whole TCP segment is passed over. An error says that memory was missing: then the segment's own connection
+    /// is gone, and some of what it sent may be.
     #[tactic(auto, unfolding(crate::specs::Serving::on_datagram, crate::specs::Serving::on_packet))]
     pub fn datagram(
         &mut self,
@@ -100,6 +108,7 @@ impl Server {
         requires body { length body.now < 2 ^ 32 }
         ensures server { OnOk result (self.new ≡ (on_datagram now body.now self.old).server) }
         ensures sent { OnOk result (out.new.items ≡ out.old.items ++ (on_datagram now body.now self.old).sent) }
+        ensures lost { OnErr result ((s : Seg) × (packet_in RawIp body.now true ≡ Packet.Segment s) × Costs s self.old self.new) }
     {
         match decode(Link::RawIp, body, true) {
             Packet::Segment(seg) => self.addressed(alloc, now, &seg, text_of(&seg, body), out),
@@ -111,7 +120,7 @@ impl Server {
     }
 
     /// The time comes to every connection. What is sent goes behind the datagrams that are there, connection by connection.
-    /// After an error, which says that memory was missing, nothing more is promised.
+    /// An error says that memory was missing: then one connection is gone, and to those behind it the time didn't come.
     #[tactic(auto, unfolding(crate::specs::Serving::on_time))]
     pub fn tick(
         &mut self,
@@ -122,6 +131,7 @@ impl Server {
         requires time { now ≤ last_time }
         ensures server { OnOk result (self.new ≡ (on_time now self.old).server) }
         ensures sent { OnOk result (out.new.items ≡ out.old.items ++ (on_time now self.old).sent) }
+        ensures lost { OnErr result (LosesOne now self.old self.new) }
     {
         reach_all(&mut self.conns, alloc, now, out)?;
         drop_over(&mut self.conns);
@@ -129,6 +139,7 @@ impl Server {
         drop_idle(&mut self.conns, self.setting.places, now, self.setting.idle);
         let left = (here - self.conns.len()) as u64;
         self.counts.idled = self.counts.idled.wrapping_add(left);
+        self.held = held_by(&self.conns);
         Ok(())
     }
 
@@ -145,6 +156,7 @@ impl Server {
         requires time { now ≤ last_time }
         ensures server { OnOk result (self.new ≡ (addressed now seg.now text.now self.old).server) }
         ensures sent { OnOk result (out.new.items ≡ out.old.items ++ (addressed now seg.now text.now self.old).sent) }
+        ensures lost { OnErr result (Costs seg.now self.old self.new) }
     {
         if !is_for_us(&self.setting, seg) {
             self.counts.astray = self.counts.astray.wrapping_add(1);
@@ -171,9 +183,43 @@ impl Server {
         requires port { is_served_port seg.now.dst_port ≡ true }
         ensures server { OnOk result (self.new ≡ (on_segment now seg.now text.now self.old).server) }
         ensures sent { OnOk result (out.new.items ≡ out.old.items ++ (on_segment now seg.now text.now self.old).sent) }
+        ensures lost { OnErr result (Loses (tuple_of seg.now) self.old self.new) }
     {
         self.time_to(alloc, now, &tuple_of(seg), out)?;
-        self.come(alloc, now, seg, text, out)
+        self.heed(alloc, now, seg, text, out)
+    }
+
+    /// A segment to a service. Where its text would take all past what they may hold, it counts without it.
+    #[tactic(auto, unfolding(crate::specs::Serving::heeds))]
+    fn heed(
+        &mut self,
+        alloc: Global,
+        now: u64,
+        seg: &Seg,
+        text: &[u8],
+        out: &mut Vec<Datagram>,
+    ) -> Result<(), AllocError>
+        requires time { now ≤ last_time }
+        requires port { is_served_port seg.now.dst_port ≡ true }
+        ensures server { OnOk result (self.new ≡ (heeds now seg.now text.now self.old).server) }
+        ensures sent { OnOk result (out.new.items ≡ out.old.items ++ (heeds now seg.now text.now self.old).sent) }
+        ensures lost { OnErr result (Loses (tuple_of seg.now) self.old self.new) }
+    {
+        if self.fits(text) {
+            self.held = self.held.saturating_add(text.len() as u64);
+            self.come(alloc, now, seg, text, out)
+        } else {
+            self.counts.over_full = self.counts.over_full.wrapping_add(1);
+            self.come(alloc, now, &without_text(seg), &[], out)
+        }
+    }
+
+    /// Whether all may hold so much more.
+    #[tactic(auto, unfolding(crate::specs::Serving::fits))]
+    fn fits(&self, text: &[u8]) -> bool
+        ensures { result ≡ fits text.now self.now }
+    {
+        text.len() as u64 <= self.setting.bytes.saturating_sub(self.held)
     }
 
     /// The time comes to the connection of two ends, where there is one.
@@ -188,6 +234,7 @@ impl Server {
         requires time { now ≤ last_time }
         ensures server { OnOk result (self.new ≡ (time_to now tuple.now self.old).server) }
         ensures sent { OnOk result (out.new.items ≡ out.old.items ++ (time_to now tuple.now self.old).sent) }
+        ensures lost { OnErr result (Loses tuple.now self.old self.new) }
     {
         if let Some(place) = self.conns.get_index_of(tuple) {
             reach_at(&mut self.conns, place, alloc, now, tuple, out)?;
@@ -209,6 +256,7 @@ impl Server {
         requires port { is_served_port seg.now.dst_port ≡ true }
         ensures server { OnOk result (self.new ≡ (comes now seg.now text.now self.old).server) }
         ensures sent { OnOk result (out.new.items ≡ out.old.items ++ (comes now seg.now text.now self.old).sent) }
+        ensures lost { OnErr result (Loses (tuple_of seg.now) self.old self.new) }
     {
         match self.conns.get_index_of(&tuple_of(seg)) {
             Some(place) => self.go_on(alloc, now, seg, text, place, out),
@@ -229,9 +277,10 @@ impl Server {
     ) -> Result<(), AllocError>
         requires time { now ≤ last_time }
         requires port { is_served_port seg.now.dst_port ≡ true }
-        requires place { place < length self.old.conns }
+        requires place { place_of (tuple_of seg.now) self.old.conns ≡ Some place }
         ensures server { OnOk result (self.new ≡ (goes_on now seg.now text.now place self.old).server) }
         ensures sent { OnOk result (out.new.items ≡ out.old.items ++ (goes_on now seg.now text.now place self.old).sent) }
+        ensures lost { OnErr result (Loses (tuple_of seg.now) self.old self.new) }
     {
         let tuple = tuple_of(seg);
         let iss = number_for(&self.secret, now, seg, &tuple);
@@ -265,6 +314,7 @@ impl Server {
         requires new { IsNew (tuple_of seg.now) self.old.conns }
         ensures server { OnOk result (self.new ≡ (opens now seg.now text.now self.old).server) }
         ensures sent { OnOk result (out.new.items ≡ out.old.items ++ (opens now seg.now text.now self.old).sent) }
+        ensures lost { OnErr result (Loses (tuple_of seg.now) self.old self.new) }
     {
         let tuple = tuple_of(seg);
         let iss = number_for(&self.secret, now, seg, &tuple);
@@ -289,14 +339,15 @@ impl Server {
         requires { IsNew tuple self.old.conns }
         ensures server { OnOk result (self.new ≡ (takes_place tuple conn self.old).server) }
         ensures sent { OnOk result (out.new.items ≡ out.old.items ++ (takes_place tuple conn self.old).sent) }
+        ensures lost { OnErr result (Loses tuple self.old self.new) }
     {
         if !self.has_place() {
             self.counts.turned_away = self.counts.turned_away.wrapping_add(1);
             return Ok(());
         }
         conn.send(alloc, &tuple, out)?;
-        self.conns.insert(tuple, conn)?;
         self.waiting.push_back(tuple)?;
+        self.conns.insert(tuple, conn)?;
         self.counts.opened = self.counts.opened.wrapping_add(1);
         Ok(())
     }
@@ -347,6 +398,16 @@ fn number_for(secret: &Secret, now: u64, seg: &Seg, tuple: &Tuple) -> u32
         initial_number(secret, now, tuple)
     } else {
         0
+    }
+}
+
+/// A segment without its text and its FIN.
+fn without_text(seg: &Seg) -> Seg
+    ensures { result ≡ without_text seg.now }
+{
+    Seg {
+        flags: seg.flags & 62,
+        ..*seg
     }
 }
 

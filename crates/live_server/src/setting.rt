@@ -13,4 +13,6 @@ pub struct Setting {
     pub places: usize,
     /// How long a connection from which nothing comes stays in a full table, in microseconds.
     pub idle: u64,
+    /// How many bytes of text all connections may hold: what was received and not taken, and what is sent and not acknowledged.
+    pub bytes: u64,
 }

@@ -1,17 +1,16 @@
 //! The table of connections, and who leaves it.
 
-ghost use Rattle.std.specs.Prelude.{◌≡◌, ◌++◌, ◌<◌, ◌≤◌, true, length, map, IfOk, OnOk};
+ghost use Rattle.std.specs.Prelude.{◌≡◌, ℕ, ◌++◌, ◌<◌, ◌≤◌, true, length, IfOk, OnErr, OnOk};
 ghost use Rattle.std.specs.List.{flat_map};
 ghost use Rattle.echo_services.specs.Pump.{service_of};
-ghost use Rattle.indexmap.specs.IndexMap.{set_value_at};
 ghost use Rattle.sq_base.specs.Ports.{is_served_port};
+ghost use Rattle.tcb_machine.specs.BlockState.{held_in};
 ghost use Rattle.tcb_machine.specs.Limits.{last_time};
-ghost use Rattle.live_server.specs.Acts.{emptied, is_half_open, is_over, judged, reached, receives, sent_by};
-ghost use Rattle.live_server.specs.Table.{all_reached, conn_at, replaced, settled, without, without_idle, without_over};
+ghost use Rattle.live_server.specs.Acts.{is_half_open, is_over, judged, reached, receives, sent_by};
+ghost use Rattle.live_server.specs.Table.{all_reached, conn_at, held_by, reached_until, replaced, settled, without, without_idle, without_over};
 
 use crate::acting::Datagram;
 use crate::conn::{Conn, Judged};
-use echo_services::Service;
 use indexmap::IndexMap;
 use segment_codec::Seg;
 use sq_base::Tuple;
@@ -74,7 +73,28 @@ pub(crate) fn drop_idle(table: &mut Table, places: usize, now: u64, limit: u64)
     }
 }
 
-/// The time comes to each connection in turn. What is sent goes behind the datagrams that are there.
+/// How many bytes all hold.
+pub(crate) fn held_by(table: &Table) -> u64
+    ensures { result ≡ held_by table.now.entries }
+{
+    let mut total = 0u64;
+    for place in 0..table.len() {
+        total = total.saturating_add(held_at(table, place));
+    }
+    total
+}
+
+fn held_at(table: &Table, place: usize) -> u64
+    ensures { result ≡ held_in (conn_at place table.now.entries).tcb }
+{
+    match table.get_index(place) {
+        Some((_, conn)) => conn.tcb.held(),
+        None => 0,
+    }
+}
+
+/// The time comes to each connection in turn. What is sent goes behind the datagrams that are there. The connection at which memory
+/// is missing leaves, and those behind it are as they were.
 pub(crate) fn reach_all(
     table: &mut Table,
     alloc: Global,
@@ -84,17 +104,20 @@ pub(crate) fn reach_all(
     requires { now ≤ last_time }
     ensures table { OnOk result (table.new.entries ≡ all_reached now table.old.entries) }
     ensures sent { OnOk result (out.new.items ≡ out.old.items ++ flat_map (λ c. sent_by c.0 (reached now c.1)) table.old.entries) }
+    ensures lost { OnErr result ((i : ℕ) × (i < length table.old.entries) × (table.new.entries ≡ without i (reached_until now i table.old.entries))) }
 {
     for place in 0..table.len() {
         let (tuple, conn) = table.pair_mut(place);
-        conn.reach(alloc, now)?;
-        conn.send(alloc, tuple, out)?;
+        if let Err(error) = conn.time(alloc, now, tuple, out) {
+            leave(table, place);
+            return Err(error);
+        }
     }
     Ok(())
 }
 
-/// The time comes to the connection at a place, which leaves where it is over.
-#[tactic(auto, unfolding(crate::specs::Table::replaced))]
+/// The time comes to the connection at a place, which leaves where it is over, or where memory is missing.
+#[tactic(auto, unfolding(crate::specs::Table::replaced), using(crate::proofs::TableLemmas::without_set))]
 pub(crate) fn reach_at(
     table: &mut Table,
     place: usize,
@@ -107,16 +130,20 @@ pub(crate) fn reach_at(
     requires place { place < length table.old.entries }
     ensures table { OnOk result (table.new.entries ≡ replaced place (reached now (conn_at place table.old.entries)) table.old.entries) }
     ensures sent { OnOk result (out.new.items ≡ out.old.items ++ sent_by tuple.now (reached now (conn_at place table.old.entries))) }
+    ensures lost { OnErr result (table.new.entries ≡ without place table.old.entries) }
 {
     let (_, conn) = table.pair_mut(place);
-    conn.reach(alloc, now)?;
-    conn.send(alloc, tuple, out)?;
+    if let Err(error) = conn.time(alloc, now, tuple, out) {
+        leave(table, place);
+        return Err(error);
+    }
     settle(table, place);
     Ok(())
 }
 
-/// A segment comes to the connection at a place, which leaves where it is over.
-#[tactic(auto, unfolding(crate::specs::Table::replaced))]
+/// A segment comes to the connection at a place, which leaves where it is over, or where memory is missing. The answer says what
+/// became of the segment.
+#[tactic(auto, unfolding(crate::specs::Table::replaced), using(crate::proofs::TableLemmas::without_set))]
 pub(crate) fn take_at(
     table: &mut Table,
     place: usize,
@@ -136,10 +163,17 @@ pub(crate) fn take_at(
         (receives (service_of seg.now.dst_port) now iss seg.now text.now (conn_at place table.old.entries)) table.old.entries) }
     ensures sent { OnOk result (out.new.items ≡ out.old.items
         ++ sent_by tuple.now (receives (service_of seg.now.dst_port) now iss seg.now text.now (conn_at place table.old.entries))) }
+    ensures lost { OnErr result (table.new.entries ≡ without place table.old.entries) }
 {
     let (_, conn) = table.pair_mut(place);
-    let judged = conn.take(alloc, Service::of(seg.dst_port), now, iss, seg, text)?;
-    conn.send(alloc, tuple, out)?;
-    settle(table, place);
-    Ok(judged)
+    match conn.segment(alloc, now, iss, seg, text, tuple, out) {
+        Ok(judged) => {
+            settle(table, place);
+            Ok(judged)
+        }
+        Err(error) => {
+            leave(table, place);
+            Err(error)
+        }
+    }
 }

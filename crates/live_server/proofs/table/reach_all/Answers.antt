@@ -1,5 +1,5 @@
-use Rattle.std.proofs.Common.{◌≤◌, length, refl, arith}
-use Rattle.live_server.proofs.ReachLemmas.{all_told, all_turned_by, one_told, one_turn}
+use Rattle.std.proofs.Common.{◌<◌, ◌≤◌, length, arith}
+use Rattle.live_server.proofs.ReachLemmas.{all_told, all_turned_by, one_lost, one_told, one_turn}
 use Rattle.live_server.proofs.table.reach_all.Goals as goal
 
 pub loop-place-preserved : goal.loop-place-preserved
@@ -7,10 +7,15 @@ loop-place-preserved c =
     let cs = c.args.table.now.entries in
     let here = c.loop-place.table.entries in
     let so_far = c.loop-place.invariant in (
-      one_turn c.args.now cs c.loop-place.place here so_far.0 _ _ c.reach.new.self c.pair_mut-conn.ensures.value c.in_ok-reach.ensures c.send.new.self _ c.in_ok-send.ensures.conn refl,
-      one_told c.args.now cs c.loop-place.place here so_far.0 _ _ c.reach.new.self c.pair_mut-conn.ensures.value c.in_ok-reach.ensures _ _ _ so_far.1 c.in_ok-send.ensures.sent,
+      one_turn c.args.now cs c.loop-place.place here so_far.0 _ _ c.pair_mut-conn.ensures.value c.time.new.self c.in_default.ensures.conn,
+      one_told c.args.now cs c.loop-place.place here so_far.0 _ _ c.pair_mut-conn.ensures.value _ _ _ so_far.1 c.in_default.ensures.sent,
       so_far.2,
     )
+
+pub returns-in-Err-clause-lost : goal.returns-in-Err-clause-lost
+returns-in-Err-clause-lost c =
+    let lt : c.loop-place.place < length c.args.table.now.entries = omega (arith, c.loop-place.invariant.2, c.loop-place-test.true) in
+    (c.loop-place.place, lt, one_lost c.args.now c.args.table.now.entries c.loop-place.place c.loop-place.table.entries c.loop-place.invariant.0 _ _ c.pair_mut-conn.ensures.value c.time.new.self _ c.leave.ensures)
 
 pub returns-clause-table : goal.returns-clause-table
 returns-clause-table c =
