@@ -92,9 +92,20 @@ class Run:
     notes: list = field(default_factory=list)       # what was done beside plain serving, in words
 
 
-def printable(text):
-    """Lines for a terminal."""
-    return "\n".join(map(plain, str(text).split("\n")))
+class Explained(Refused):
+    """A line of sqrun's in place of a report, with what it means."""
+
+    def __init__(self, line, status):
+        super().__init__(line or f"sqrun ended with {status}", status if status > 0 else 1)
+        self.meaning = explained(line)
+
+
+def lines_of(fault):
+    """What a terminal is told of a fault, in one line or two."""
+    if isinstance(fault, OSError) and fault.filename:
+        return f"{fault.strerror}: {plain(repr(fault.filename))}"
+    meaning = getattr(fault, "meaning", "")
+    return plain(fault) + (f"\n{meaning}" if meaning else "")
 
 
 def program(name, given=""):
@@ -216,11 +227,17 @@ def serve(asked, captures, folder, told):
     if done.returncode == 7 and "marks" not in said and split(asked):
         return None
     if done.returncode:
-        raise Refused(f"{said or f'sqrun ended with {done.returncode}'}\n{explained(said)}".strip(), done.returncode if done.returncode > 0 else 1)
+        raise Explained(said, done.returncode)
     counts = counted(report)
     if counts["nofit"] and split(asked):
         return None
     return Run(report, captures, counts)
+
+
+def last_line(said):
+    """What a program said last, without its own name."""
+    lines = said.decode(errors="replace").strip().splitlines() or ["it failed, and said nothing"]
+    return lines[-1].removeprefix("sqshard: ")
 
 
 def counted(report):
@@ -240,5 +257,5 @@ def shard(asked, captures, folder, told):
         done = subprocess.run(list(map(str, words)), stdin=subprocess.DEVNULL, stdout=out, stderr=None if told.terminal else subprocess.PIPE)
     told.end()
     if done.returncode:
-        raise Refused((done.stderr or b"sqshard failed").decode(errors="replace").strip(), done.returncode)
+        raise Refused(last_line(done.stderr or b"sqshard failed"), done.returncode)
     return Run(report, captures, counted(report))
