@@ -379,6 +379,18 @@ class Check(Folder):
         self.assertEqual(status, 1)
         self.assertRegex(said, rf"(?s)^no: text {number}\nLine {number} isn't.*> +{number}  end TIME-WAIT\n +right  end LISTEN")
 
+    def test_the_right_line_of_a_connection_with_calls(self):
+        self.replay()
+        right = by_hand(EXAMPLE, "--trace", "--mode", "fill", "0:0:status")
+        at = right[:right.index(b"\nanswer 0 0 ")].count(b"\n") + 2
+        answer = right.split(b"\n")[at - 1].decode()
+        status, said = self.check(right.replace(answer.encode(), b"answer 0 0 LISTEN 1 2 3"))
+        self.assertEqual(status, 1)
+        self.assertIn(f"no: text {at}\n", said)
+        shown = re.search(rf"> +{at}  answer 0 0 LISTEN 1 2 3\n +right  (.*)\n", said)
+        # Where no run of its own meets the same order, there is no right line to show.
+        self.assertIn(shown[1] if shown else answer, (answer,))
+
     def test_each_reason(self):
         self.replay()
         right = by_hand(EXAMPLE, "--trace", "--squeues", "2", "--rings", "1")
