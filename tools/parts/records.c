@@ -7,12 +7,13 @@
 #include <string.h>
 
 typedef uint8_t u8;
+typedef uint16_t u16;
 typedef uint32_t u32;
 typedef uint64_t u64;
 
 enum { SERVED, NOFIT, SERVER, OTHER, FRAGMENT, CUT, MALFORMED, BADSUM, KINDS };
 enum { ETHERNET = 1, RAW = 101, COOKED = 113 };
-enum { FIN = 1, SYN = 2, RST = 4, ACK = 16 };
+enum { FIN = 1, SYN = 2 };
 enum { HEAD = 16, MOST_BODY = 262144, LEAST_WEIGHT = 64 };
 enum { SECOND = 1000000, GAP = 100000, MOST_AGAIN = 64, LONGEST_WAIT = 60, MOST_TEXT = 1460, USUAL_TEXT = 536, LINE = 108 };
 
@@ -21,12 +22,11 @@ struct form { u32 swapped, unit, link, verify; };
 /* What one connection has, as the file `connections` of a table has it. */
 struct connection {
     u8 ends[12];
-    u32 left;           /* bytes of text, or 1 for a SYN or FIN, that no later segment of the client acknowledges */
+    u16 text;               /* bytes that may be sent to it again: those since its last SYN, at most a segment's */
+    u16 again;              /* how often, at most, something was sent again since then */
     u64 records, octets;
-    u64 report;         /* about how many bytes of report its items make, the last time aside */
-    u64 first, last;    /* its segments' least first time, and their greatest */
-    u32 acknowledged;   /* by the client, in its last segment */
-    u32 again;          /* retransmissions since its last SYN, at most */
+    u64 report;             /* about how many bytes of report its items make at most, the last time aside */
+    u64 first, last;        /* the first segment's time, and the greatest */
 };
 
 struct found {
@@ -179,24 +179,30 @@ static u32 timeouts(u64 time)
     return n;
 }
 
-/* About what this segment adds to the report: its replies, and retransmissions in the time before it. */
+static u64 least(u64 a, u64 b) { return a < b ? a : b; }
+
+/* What the report grows by, at most, while nothing comes from it: whatever was acknowledged, what is sent again has a segment's bytes, and
+   after 64 times the connection is given up. */
+static void wait_until(struct connection *c, u64 time)
+{
+    u64 again;
+    if (!c->text || time < c->last || time - c->last < GAP)
+        return;
+    again = least(timeouts(time - c->last), MOST_AGAIN - c->again);
+    c->again += (u16)again;
+    c->report += again * (LINE + 2 * c->text);
+}
+
+/* What this segment adds to the report: its replies, and what was sent again in the time before it. */
 static void weigh(struct connection *c, u64 time, const struct segment *s)
 {
-    u32 flags = s->tcp[13], acknowledged = big(s->tcp + 8), again;
+    u32 flags = s->tcp[13];
     u64 text = s->tcp[3] == 7 ? s->end - s->tcp - (s->tcp[12] >> 2 & 60) : 0;
-    if (c->left && time > c->last && time - c->last >= GAP) {
-        again = timeouts(time - c->last);
-        again = again < MOST_AGAIN - c->again ? again : MOST_AGAIN - c->again;
-        c->again += again;
-        c->report += again * (LINE + 2 * (u64)(c->left < MOST_TEXT ? c->left : MOST_TEXT));
-    }
-    if ((flags & ACK && acknowledged != c->acknowledged) || flags & RST)
-        c->left = 0;
+    wait_until(c, time);
     if (flags & SYN)
-        c->again = 0;
-    c->acknowledged = acknowledged;
-    text += (flags & (SYN | FIN)) != 0 && !(flags & RST);
-    c->left = c->left + text > 0xffffffff ? 0xffffffff : c->left + (u32)text;
+        c->again = 0, c->text = 0;
+    text += (flags & (SYN | FIN)) != 0;
+    c->text = (u16)least(c->text + text, MOST_TEXT);
     c->report += LINE * (1 + text / USUAL_TEXT) + 2 * text;
     c->first = c->records ? c->first : time;
     c->last = time > c->last ? time : c->last;

@@ -20,11 +20,11 @@ from packets import KINDS, SERVED, classify
 
 SOURCE = Path(__file__).resolve().parent / "records.c"
 RECORD = Struct("<IIII")
-CONNECTION = Struct("<12sIQQQQQII")     # struct connection of records.c
+CONNECTION = Struct("<12sHHQQQQQ")      # struct connection of records.c
 LEAST_WEIGHT = 64                       # so a shard of records that are served nowhere has at most 2^20 - 1 of them
 GAP = 100_000                           # microseconds, after which a connection is told the time
 MOST_AGAIN, LONGEST_WAIT, MOST_TEXT, USUAL_TEXT, LINE = 64, 60, 1460, 536, 108
-FIN, SYN, RST, ACK = 1, 2, 4, 16
+FIN, SYN = 1, 2
 
 
 def timeouts(time):
@@ -36,34 +36,31 @@ def timeouts(time):
 
 
 class One:
-    """What is known of one connection in a part of a file."""
-    __slots__ = ("ends", "left", "records", "octets", "report", "first", "last", "acknowledged", "again")
+    """What is known of one connection in a part of a file: struct connection of records.c."""
+    __slots__ = ("ends", "text", "again", "records", "octets", "report", "first", "last")
 
-    def __init__(self, ends, left=0, records=0, octets=0, report=0, first=0, last=0, acknowledged=0, again=0):
-        self.ends, self.left, self.records, self.octets, self.report = ends, left, records, octets, report
-        self.first, self.last, self.acknowledged, self.again = first, last, acknowledged, again
+    def __init__(self, ends, text=0, again=0, records=0, octets=0, report=0, first=0, last=0):
+        self.ends, self.text, self.again, self.records, self.octets, self.report = ends, text, again, records, octets, report
+        self.first, self.last = first, last
 
     def pack(self):
         return CONNECTION.pack(*(getattr(self, name) for name in self.__slots__))
 
     def wait(self, until):
-        """About what the report grows by while nothing comes until then."""
-        if self.left and until > self.last and until - self.last >= GAP:
+        """What the report grows by, at most, while nothing comes from it until then."""
+        if self.text and until >= self.last and until - self.last >= GAP:
             again = min(timeouts(until - self.last), MOST_AGAIN - self.again)
             self.again += again
-            self.report += again * (LINE + 2 * min(self.left, MOST_TEXT))
+            self.report += again * (LINE + 2 * self.text)
 
     def segment(self, time, size, data, tcp, end):
         self.wait(time)
-        flags, acknowledged = data[tcp + 13], unpack_from(">I", data, tcp + 8)[0]
-        if flags & ACK and acknowledged != self.acknowledged or flags & RST:
-            self.left = 0
+        flags = data[tcp + 13]
         if flags & SYN:
-            self.again = 0
-        self.acknowledged = acknowledged
+            self.again = self.text = 0
         text = end - tcp - (data[tcp + 12] >> 2 & 60) if data[tcp + 3] == 7 else 0
-        text += flags & (SYN | FIN) != 0 and not flags & RST
-        self.left = min(self.left + text, 0xffff_ffff)
+        text += flags & (SYN | FIN) != 0
+        self.text = min(self.text + text, MOST_TEXT)
         self.report += LINE * (1 + text // USUAL_TEXT) + 2 * text
         self.first = self.first if self.records else time
         self.last = max(self.last, time)

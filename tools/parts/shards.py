@@ -8,7 +8,7 @@ one run would number them, and a shard holds neighbouring ones, so the shards' r
     pieces              a line for each part of a file that is scanned alone: its name N, the file's number, first byte, last, records before
     tables/N/           of piece N: about.json; connections (each as struct connection of records.c: addresses and ports, and what is known);
                         owners (by record a 32-bit number, the connection within this piece, or -1); capture.pcap, if it was a pcapng
-    plan.json           the counts, each shard's first connection, the counts that each shard's report must have, and its size, about
+    plan.json           the counts, each shard's first connection, the counts that each shard's report must have, and about its size at most
     tuples              by number 12 bytes: client address, server address, client port, server port
     files/N.json, N.shards    where piece N's records go: by its connections a 32-bit shard number
     shards/S/           0-head, 1-N (the records of piece N), 2-tail: together a capture
@@ -29,7 +29,7 @@ from packets import KINDS, LINK_SIZE, OTHER
 from records import CONNECTION, LEAST_WEIGHT, LINE, Mapped, One, TooLong, deal as deal_records, little, scan as scan_records, walk
 
 MOST_BYTES, MOST_RECORDS, MOST_CONNECTIONS = 67_108_864, 1_048_576, 4_096      # of one run
-MOST_REPORT = 256 << 20             # bytes of a shard's report, about, unless one connection alone makes more
+MOST_REPORT = 640 << 20             # bytes of a shard's report, at most about, unless one connection alone may make more
 MEMORY_BASE, MEMORY_IN, MEMORY_OUT = 32 << 20, 6, 1.6       # of a run: so much, and times the bytes that it reads and writes
 PIECE_BYTES = 64 << 20
 RECORD = Struct("<IIII")
@@ -200,7 +200,7 @@ class Whole:
         """What is known of it in two pieces, one behind the other."""
         one.wait(more.first)
         one.records, one.octets, one.report = one.records + more.records, one.octets + more.octets, one.report + more.report
-        one.left, one.last, one.acknowledged, one.again = more.left, max(one.last, more.last), more.acknowledged, more.again
+        one.text, one.again, one.last = max(one.text, more.text), more.again, max(one.last, more.last)
 
     def fill(self, room, wanted_bytes, wanted_connections):
         """Each shard's first connection, each connection's shard, and each shard's bytes and report: neighbours, filled in order."""
@@ -259,7 +259,7 @@ def plan(work, shard_bytes=MOST_BYTES, shard_conns=MOST_CONNECTIONS):
         "counts": [sum(about["counts"][k] for about in whole.files) for k in range(len(KINDS))]})
     largest = max(shards, key=lambda one: one["report"], default={"bytes": 0, "report": 0})
     return (f"{sum(sum(about['counts']) for about in whole.files):,} records, {len(whole.ones):,} connections: {len(shards)} shards, and {rests} of what is "
-            f"served nowhere; the largest report is about {megabytes(largest['report'])}, and no shard needs more than about {megabytes(needed)} of memory")
+            f"served nowhere; no report has more than about {megabytes(largest['report'])}, and no shard needs more than about {megabytes(needed)} of memory")
 
 
 def make_shards(work, count, head, tail):

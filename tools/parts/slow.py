@@ -94,6 +94,14 @@ def long_texts(count):
     return out + [record(2 + n, FIRST + 1 + 100 * n, 1 + 100 * max(0, n - 50), PSH | ACK, b"x" * 100) for n in range(count - len(out))]
 
 
+def vanishing(count):
+    """So many clients that send a full segment and never acknowledge its echo; the last record stands a day later."""
+    out = []
+    for c in range(count):
+        out += [record(2 * c, FIRST, 0, SYN, options=b"\2\4\5\xb4", port=PORT + c), record(2 * c + 1, FIRST + 1, 1, PSH | ACK, b"x" * 1460, port=PORT + c)]
+    return out + [record(86_400_000_000, FIRST, 0, SYN, service=80)]
+
+
 def fitting(listed, most=67_108_864):
     """As many of the records as one run takes."""
     size = 24

@@ -239,13 +239,11 @@ class Shards(unittest.TestCase):
 
     def test_pieces_of_a_file(self):
         """A file that is scanned in pieces gives what it gives in one."""
-        for seed, form in ((5, 0), (6, 1)):
-            listed = twisted(random.Random(seed), records(seed, 2500, 30, 1, span=40))
+        for form, size in ((0, 9_000), (1, 20_000)):
+            listed = twisted(random.Random(form), records(form, 900, 12, 1, span=40))
             write(self.folder / "a.pcap", listed, 1, form=form, cut=5)
-            want = sqrun(self.folder / "a.pcap")
-            for size in (1, 3_000, 40_000):
-                self.assertEqual(self.merged([self.folder / "a.pcap"], "--piece-bytes", size if size > 1 else 700, size=20_000), want)
-                self.assertGreater(len((self.work / "pieces").read_text().splitlines()), 2)
+            self.assertEqual(self.merged([self.folder / "a.pcap"], "--piece-bytes", size, size=30_000), sqrun(self.folder / "a.pcap"))
+            self.assertGreater(len((self.work / "pieces").read_text().splitlines()), 2)
         long = self.folder / "long.pcap"
         long.write_bytes((self.folder / "a.pcap").read_bytes()[:24] + struct.pack(">IIII", 1, 1, 4, 4) + bytes(4) + struct.pack(">IIII", 0, 0, 262_145, 0))
         self.assertIn(b"record 1 has length 262145", self.merged([long], "--piece-bytes", 10, status=6))
@@ -289,30 +287,31 @@ class Shards(unittest.TestCase):
     def test_clients_that_vanish_are_planned_for(self):
         """Each leaves text that is never acknowledged, and a day passes: the plan says about how large the reports are, and keeps them small."""
         path, texts = self.folder / "a.pcap", []
-        for c in range(300):
+        for c in range(60):
             ends = (0x0a000100 + c, 4_000), (0x0a000001, 7)
             texts += [(1_000 + c, datagram(*ends, 99, 0, SYN, options=b"\x02\x04\x05\xb4")), (9_000 + c, datagram(*ends, 100, 1, PSH | ACK, text=bytes(1_460)))]
         write(path, sorted(texts) + [(86_400_000_000, b"\x60")], 101)
         self.merged([path], size=1 << 26)
         plan = json.loads((self.work / "plan.json").read_text())
         sizes = [(self.work / "reports" / f"{s:06}").stat().st_size for s in range(len(plan["firsts"]))]
-        self.assertGreater(sum(sizes), 40_000_000)
+        self.assertGreater(sum(sizes), 80 * path.stat().st_size)
         for size, said in zip(sizes, plan["reports"]):
             self.assertLess(size, said)
             self.assertGreater(2 * size, said)
         self.assertGreater(plan["memory"], 1.6 * max(sizes))
-        few = self.merged([path], "--shard-conns", 40, size=1 << 26)
-        self.assertEqual(len(json.loads((self.work / "plan.json").read_text())["firsts"]), 8)
+        self.assertLess(plan["memory"], 2 << 30)
+        few = self.merged([path], "--shard-conns", 20, size=1 << 26)
+        self.assertEqual(len(json.loads((self.work / "plan.json").read_text())["firsts"]), 3)
         self.assertEqual(few, sqrun(path))
 
-    def test_what_is_planned_is_never_far_below(self):
-        for seed in range(4):
+    def test_no_report_has_more_than_was_planned(self):
+        for seed, span in enumerate((5, 600, 90_000)):
             path = self.folder / "a.pcap"
-            write(path, twisted(random.Random(seed), records(seed, 3_000, 30, 101, text=700, span=(5, 600, 90_000, 9)[seed])), 101)
-            self.merged([path], size=30_000)
+            write(path, twisted(random.Random(seed), records(seed, 900, 12, 101, text=700, span=span)), 101)
+            self.merged([path], size=50_000)
             plan = json.loads((self.work / "plan.json").read_text())
             for s, said in enumerate(plan["reports"]):
-                self.assertLess((self.work / "reports" / f"{s:06}").stat().st_size, 1.2 * said + 1_000, seed)
+                self.assertLess((self.work / "reports" / f"{s:06}").stat().st_size, said, seed)
 
     def test_told_stages(self):
         path = self.folder / "a.pcap"
@@ -350,14 +349,14 @@ class Shards(unittest.TestCase):
         table = self.work / "tables" / "000000"
         about, plan = json.loads((table / "about.json").read_text()), json.loads((self.work / "plan.json").read_text())
         self.assertEqual((self.work / "pieces").read_text(), f"000000 0 0 {path.stat().st_size} 0\n")
-        rows = list(struct.iter_unpack("<12sIQQQQQII", (table / "connections").read_bytes()))
+        rows = list(struct.iter_unpack("<12sHHQQQQQ", (table / "connections").read_bytes()))
         owners = struct.unpack(f"<{len(listed)}i", (table / "owners").read_bytes())
         self.assertEqual(sum(about["counts"]), len(listed))
-        self.assertEqual([row[2] for row in rows], [owners.count(c) for c in range(len(rows))])
+        self.assertEqual([row[3] for row in rows], [owners.count(c) for c in range(len(rows))])
         self.assertEqual(b"".join(row[0] for row in rows), (self.work / "tuples").read_bytes())
         shards = struct.unpack(f"<{len(rows)}I", (self.work / "files" / "000000.shards").read_bytes())
         self.assertEqual([shards.index(s) for s in range(len(plan["firsts"]))], plan["firsts"])
-        self.assertEqual(plan["served"], [sum(row[2] for row, t in zip(rows, shards) if t == s) for s in range(len(plan["firsts"]))])
+        self.assertEqual(plan["served"], [sum(row[3] for row, t in zip(rows, shards) if t == s) for s in range(len(plan["firsts"]))])
         for shard in (self.work / "reports").iterdir():
             self.assertEqual((self.work / "sums" / shard.name).read_text(), hashlib.sha256(shard.read_bytes()).hexdigest() + "  -\n")
         for file in self.work.rglob("*"):
@@ -410,7 +409,8 @@ class Shards(unittest.TestCase):
 
     def test_other_tools_read_what_it_makes(self):
         """sqplot and sqpcap take the folder, its files, and one shard; more connections than one run has, too."""
-        write(self.folder / "a.pcap", records(1, 24_000, 5_000, text=4), 101)
+        many = records(1, 60_000, 6_000, text=4)
+        write(self.folder / "a.pcap", many, 101)
         listed = records(2, 400, 6, 101)
         write(self.folder / "b.pcap", [(at + 10 ** 9, data) for at, data in listed], 101, form=3)
         files = [self.folder / "a.pcap", self.folder / "b.pcap"]
@@ -424,8 +424,7 @@ class Shards(unittest.TestCase):
         self.assertEqual(*joined)
         self.assertIn(b"of b.pcap", pages[0] + output([TOOLS / "sqpcap", "--pcapng", "--capture", self.work, report]))
         told = re.findall(rb"records (\d+) tail", report.read_bytes())[0]
-        both = len(records(1, 24_000, 5_000, text=4)) + len(listed)
-        self.assertEqual(int(told), both)
+        self.assertEqual(int(told), len(many) + len(listed))
         shard, counted = sorted((self.work / "shards").iterdir())[1], 0
         one = output([TOOLS / "sqpcap", "--capture", shard, self.work / "reports" / shard.name])
         at = 24
@@ -469,7 +468,7 @@ class Shards(unittest.TestCase):
         (self.work / "shards" / "000003" / "0-head").write_bytes(b"x")
         done = self.task(0, 1)
         self.assertEqual(done.returncode, 6)
-        self.assertIn(b"shard 000003: sqrun ended with 6", done.stderr)
+        self.assertRegex(done.stderr, rb"shard 000003: \S+ ended with 6")
         self.assertEqual(len(list((self.work / "reports").iterdir())), count - 1)
 
     def test_slurm_script_outside_of_a_folder(self):
