@@ -422,6 +422,11 @@ class Shapes(unittest.TestCase):
         self.assertEqual(page.count('class="arrow segment '), 2 * 6)
         self.assertEqual(page.count('class="arrow reply'), 4 + 3)
 
+    def test_json_fields_are_documented(self):
+        found, summary, _ = lines(self.path)
+        told = set(re.findall(r"`(\w+)`", (TOP / "docs" / "TOOLS.md").read_text().split("`--json` gives a line for each kind")[1].split("\n\n")[0]))
+        self.assertEqual(set(found[0]) | set(summary), told)
+
     def test_page_in_a_browser(self):
         need(COMMAND)
         (self.folder / "a.html").write_text(self.said("--page", self.path), encoding="utf-8")
@@ -432,6 +437,9 @@ class Shapes(unittest.TestCase):
         box = browser.box("svg.fig")
         self.assertGreater(box["width"], 600)
         self.assertGreater(box["height"], 300)
+        # On a phone tables and diagrams scroll by themselves.
+        browser.call("Emulation.setDeviceMetricsOverride", width=400, height=800, deviceScaleFactor=2, mobile=True)
+        self.assertLessEqual(browser.js("document.documentElement.scrollWidth"), 400)
 
 
 class Elements(HTMLParser):
