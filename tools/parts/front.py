@@ -13,6 +13,7 @@ from dataclasses import dataclass, field
 from pathlib import Path
 
 import links
+from capture import captures_of
 from files import Refused, map_file, plain
 from packets import KINDS
 from refusals import explained
@@ -123,11 +124,13 @@ def program(name, given=""):
 
 
 def opened(path, folder, number, told):
-    """The file itself, or its unpacked bytes in the folder. `-` is standard input."""
+    """The file itself, or its unpacked bytes in the folder. `-` is standard input, and a folder may be a shard of sqshard's."""
     try:
         if path == "-":
             told.begin("reading", 0)
             path = copied(sys.stdin.buffer, place(folder, f"input-{number}", "standard input"), told)
+        elif (Path(path) / "0-head").is_file():
+            return joined(Path(path), place(folder, f"shard-{number}", Path(path).name))
         with open(path, "rb") as data:
             start = data.read(8)
         packed = [opener for magic, opener in PACKED if start.startswith(magic)]
@@ -139,6 +142,15 @@ def opened(path, folder, number, told):
         raise Refused(f"{str(path)!r}: {getattr(fault, 'strerror', None) or fault}", 4) from None
     finally:
         told.end()
+
+
+def joined(shard, end):
+    """A shard of sqshard's as one capture."""
+    with open(end, "wb") as out:
+        for piece in sorted(shard.iterdir()):
+            with open(piece, "rb") as data:
+                shutil.copyfileobj(data, out)
+    return end
 
 
 def place(folder, stage, name):
@@ -169,9 +181,18 @@ def unpacked(path, opener, end, told):
     return end
 
 
+def files_of(names):
+    """The files of these names; a folder of sqshard's stands for its captures."""
+    for name in names:
+        if name != "-" and (Path(name) / "captures.json").is_file():
+            yield from map(str, captures_of(Path(name)))
+        else:
+            yield name
+
+
 def prepared(asked, folder, told):
     """The captures as sqrun reads them: the files themselves, or one of raw IP in the folder. Answers them, the ports, and notes."""
-    paths = [opened(path, folder, n, told) for n, path in enumerate(asked.files)]
+    paths = [opened(path, folder, n, told) for n, path in enumerate(files_of(asked.files))]
     if not asked.ports and len(paths) == 1 and links.is_plain(paths[0], map_file(paths[0])):
         return paths, None, []
     return convert(paths, folder, asked.ports, told)

@@ -141,6 +141,27 @@ class Links(Folder):
         self.assertRegex(sq(self.folder / "a.pcap"), rb"records 5 tail 1 ")
 
 
+    def test_damaged_captures(self):
+        """Whatever bytes change, a capture is turned or refused, and what is turned can be read."""
+        rnd, talk = random.Random(6), Talk().open().echo().close()
+        links_of = [(link, before) for link, (before, _) in BEFORE.items()] + [(1, MACS + b"\x08\0"), (1, MACS + STACKED["PPPoE"]), (113, bytes(14) + b"\x08\0")]
+        turned = 0
+        for n in range(600):
+            link, before = links_of[n % len(links_of)]
+            write(self.folder / "a.pcap", [(at, before + body) for at, body in talk.records], link, form=n % 4)
+            data = bytearray((self.folder / "a.pcap").read_bytes())
+            for _ in range(rnd.randrange(1, 9)):
+                data[rnd.randrange(len(data))] = rnd.choice((0, 1, 8, 127, 255, rnd.randrange(256)))
+            (self.folder / "a.pcap").write_bytes(data[:rnd.choice((len(data), rnd.randrange(len(data))))])
+            try:
+                count, _ = links.convert([self.folder / "a.pcap"], self.folder / "b.pcap", links.Ports({80: 7}), lambda *_: None)
+            except front.Refused:
+                continue
+            self.assertEqual(len(list(Records("b", (self.folder / "b.pcap").read_bytes()))), count)
+            turned += 1
+        self.assertGreater(turned, 300)
+
+
 class Ports(Folder):
     def test_a_port_is_served(self):
         """A conversation on another port gives the report of the same one on the service's port."""

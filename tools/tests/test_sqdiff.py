@@ -408,6 +408,20 @@ class Shapes(unittest.TestCase):
         found, _, _ = lines(talk.save(self.folder), "--port", "8080=7")
         self.assertEqual([line["kind"] for line in found], ["text"])
 
+    def test_a_folder_of_sqshard(self):
+        """The folder, its shards together, and the merged report beside its captures give what the captures give."""
+        need("parallel")
+        path = next(path for path in captures() if path.name == "echo_short.pcap")
+        with open(self.folder / "merged", "wb") as out:
+            subprocess.run([TOOLS / "sqshard", "run", "--sqrun", program(), "--shard-bytes", "1500", self.folder / "work", path], stdout=out, stderr=subprocess.DEVNULL, check=True)
+        right, _, _ = lines(path)
+        self.assertEqual(lines(self.folder / "work")[0], right)
+        self.assertEqual(lines(self.folder / "work", "--report", self.folder / "merged")[0], right)
+        shards = sorted((self.folder / "work" / "shards").iterdir())
+        self.assertGreater(len(shards), 2)
+        apart = [line for shard in shards for line in lines(shard)[0]]
+        self.assertEqual(sorted({line["ends"] for line in apart}), sorted({line["ends"] for line in right}))
+
     def test_page(self):
         """The page is whole, has an anchor for each link, both servers' arrows, and nothing that runs or is loaded."""
         page = self.said("--page", self.path)
