@@ -56,6 +56,7 @@ class Folder(unittest.TestCase):
 
 class Files(Folder):
     def test_plain_files_are_given_as_they_are(self):
+        program()
         for path in captures():
             with self.subTest(path.name):
                 self.assertEqual(sq(path), by_hand(path))
@@ -97,6 +98,7 @@ class Files(Folder):
 class Links(Folder):
     def test_each_link_type(self):
         """The datagrams behind each link give the report that they give as raw IP, with the same counts."""
+        program()
         listed = records(3, 400, 12)
         other = [(listed[0][0], None)]
         for link, (before, instead) in BEFORE.items():
@@ -108,6 +110,7 @@ class Links(Folder):
                 self.assertEqual(sq(self.folder / "a.pcap"), by_hand(self.folder / "raw.pcap"))
 
     def test_tags(self):
+        program()
         talk = Talk().open().echo().close()
         write(self.folder / "raw.pcap", talk.records, 101)
         for name, tags in STACKED.items():

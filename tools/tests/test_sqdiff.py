@@ -180,6 +180,7 @@ class Kinds(unittest.TestCase):
         self.assertTrue(all(kind.verdict in VERDICTS and kind.section and kind.rule.endswith((".", ")")) for kind in KINDS.values()))
 
     def test_each_kind(self):
+        program()
         for name, story in STORIES.items():
             with self.subTest(name):
                 talk = story()
@@ -194,6 +195,7 @@ class Kinds(unittest.TestCase):
                 self.assertEqual(summary["must"], sum(line["count"] for line in found if line["verdict"] == "MUST"))
 
     def test_what_is_right_has_none(self):
+        program()
         for name, story in CONTROLS.items():
             with self.subTest(name):
                 found, _, status = lines(story().save(self.folder))
@@ -214,6 +216,7 @@ class Kinds(unittest.TestCase):
 
 class Recorded(unittest.TestCase):
     def setUp(self):
+        program()
         folder = tempfile.TemporaryDirectory()
         self.addCleanup(folder.cleanup)
         self.folder = Path(folder.name)
@@ -325,6 +328,7 @@ class Dissected:
 
 class Hostile(unittest.TestCase):
     def setUp(self):
+        program()
         folder = tempfile.TemporaryDirectory()
         self.addCleanup(folder.cleanup)
         self.folder = Path(folder.name)
@@ -367,6 +371,7 @@ class Hostile(unittest.TestCase):
 
 class Shapes(unittest.TestCase):
     def setUp(self):
+        program()
         folder = tempfile.TemporaryDirectory()
         self.addCleanup(folder.cleanup)
         self.folder = Path(folder.name)
