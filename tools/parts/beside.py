@@ -129,7 +129,7 @@ def one(compared, drawn):
     conn, life = compared.conn, f", life {compared.life + 1}" if compared.life else ""
     client, server = conn.tuple.split(" ")
     where = f"ip.addr == {client.split(':')[0]} &amp;&amp; tcp.port == {client.split(':')[1]} &amp;&amp; ip.addr == {server.split(':')[0]}"
-    table = (f'<table><tr><th><th>kind<th class="n">times<th>frames<th>captured server<th>sqrun<th>section{difference_rows(compared)}</table>'
+    table = (f'<div class="fit"><table><tr><th><th>kind<th class="n">times<th>frames<th>captured server<th>sqrun<th>section{difference_rows(compared)}</table></div>'
              if compared.differences else "<p>No difference.</p>")
     return (f'<section id="conn{compared.number}life{compared.life}"><h2>Connection {compared.number}{life}: {escape(conn.tuple.replace(" ", " → "))}</h2>'
             f'<p class="quiet">Display filter: <code>{where}</code></p>{table}'
@@ -146,7 +146,7 @@ def page(title, compared, summary, drawn, notes):
                     f'<td>{links_of(s.first)}<td>{escape(s.kind.section)}<td>{escape(s.kind.rule)}' for s in summary)
     out = [head, f"<h1>{escape(title)}</h1>", f'<p class="quiet">{plural(len({c.number for c in compared}), "connection")}{escape("; " + notes if notes else "")}.</p>',
            f'<p class="quiet">{NOT_PROVED}</p>',
-           f'<table><tr><th><th>kind<th class="n">connections<th class="n">times<th>first in<th>section<th>what it says{lines}</table>' if summary else "<p>No difference.</p>"]
+           f'<div class="fit"><table><tr><th><th>kind<th class="n">connections<th class="n">times<th>first in<th>section<th>what it says{lines}</table></div>' if summary else "<p>No difference.</p>"]
     left = len(compared) - len(drawn)
     if left:
         out.append(f'<p class="quiet">Drawn are the {len(drawn):,} that differ most; {left:,} are listed without a diagram. --conn names others.</p>')

@@ -12,6 +12,7 @@ from refusals import reason
 
 BESIDE = 3                  # lines shown before and behind a wrong one
 SHOWN = 160                 # characters of a line
+TRIES = 8                   # runs, to meet a certain order of CALLs
 SETUP = re.compile(r"setup squeues (\d+) rings (\d+) mode (\w+) budget (\d+) spread (\d+) verify ([01])")
 
 
@@ -88,16 +89,25 @@ def shown(kind, numbers, asked, lines, captures, folder, told):
 
 
 def right_line(number, asked, lines, captures, folder, told):
-    """The line of a run of its own, where it is the same for each order: before the connections, and of one without CALLs."""
+    """The line of a run of its own that serves the connection in the same order. With CALLs several runs are tried: the order is chance."""
     found = next((SETUP.fullmatch(line) for line in lines if line.startswith("setup ")), None)
     first, block = block_of(lines, number)
-    if found is None or any(line.startswith("answer ") for line in block):
+    if found is None or not first and number != 2:
         return None
-    other = served(asked, ["--verify"] * (found[6] == "1"), captures, folder, told)
-    if first == 0:
-        return other[number - 1] if 1 < number <= 2 else None
-    begin = next((n for n, line in enumerate(other, 1) if line.split(" ")[:2] == lines[first - 1].split(" ")[:2]), None)
-    return other[begin + number - first - 1] if begin and begin + number - first <= len(other) else None
+    verify, calls = ["--verify"] * (found[6] == "1"), [line[5:] for line in lines if line.startswith("call ")]
+    words = [f"--{name}={value}" for name, value in zip(("squeues", "rings", "mode", "budget", "spread"), found.groups())] + calls
+    by_chance = any(line.startswith("answer ") for line in block)
+    for _ in range(TRIES if by_chance else 1):
+        try:
+            other = served(asked, verify + words if by_chance else verify, captures, folder, told)
+        except Refused:
+            return None
+        begin = next((n for n, line in enumerate(other, 1) if first and line.split(" ")[:2] == block[0].split(" ")[:2]), None)
+        if not first:
+            return other[1]
+        if begin and (not by_chance or other[begin:begin + 1] == block[1:2]):
+            return other[begin + number - first - 1] if begin + number - first <= len(other) else None
+    return None
 
 
 def block_of(lines, number):

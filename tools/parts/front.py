@@ -13,6 +13,7 @@ from dataclasses import dataclass, field
 from pathlib import Path
 
 import links
+from capture import captures_of
 from files import Refused, map_file, plain
 from packets import KINDS
 from refusals import explained
@@ -92,9 +93,20 @@ class Run:
     notes: list = field(default_factory=list)       # what was done beside plain serving, in words
 
 
-def printable(text):
-    """Lines for a terminal."""
-    return "\n".join(map(plain, str(text).split("\n")))
+class Explained(Refused):
+    """A line of sqrun's in place of a report, with what it means."""
+
+    def __init__(self, line, status):
+        super().__init__(line or f"sqrun ended with {status}", status if status > 0 else 1)
+        self.meaning = explained(line)
+
+
+def lines_of(fault):
+    """What a terminal is told of a fault, in one line or two."""
+    if isinstance(fault, OSError) and fault.filename:
+        return f"{fault.strerror}: {plain(repr(fault.filename))}"
+    meaning = getattr(fault, "meaning", "")
+    return plain(fault) + (f"\n{meaning}" if meaning else "")
 
 
 def program(name, given=""):
@@ -112,11 +124,13 @@ def program(name, given=""):
 
 
 def opened(path, folder, number, told):
-    """The file itself, or its unpacked bytes in the folder. `-` is standard input."""
+    """The file itself, or its unpacked bytes in the folder. `-` is standard input, and a folder may be a shard of sqshard's."""
     try:
         if path == "-":
             told.begin("reading", 0)
             path = copied(sys.stdin.buffer, place(folder, f"input-{number}", "standard input"), told)
+        elif (Path(path) / "0-head").is_file():
+            return joined(Path(path), place(folder, f"shard-{number}", Path(path).name))
         with open(path, "rb") as data:
             start = data.read(8)
         packed = [opener for magic, opener in PACKED if start.startswith(magic)]
@@ -128,6 +142,15 @@ def opened(path, folder, number, told):
         raise Refused(f"{str(path)!r}: {getattr(fault, 'strerror', None) or fault}", 4) from None
     finally:
         told.end()
+
+
+def joined(shard, end):
+    """A shard of sqshard's as one capture."""
+    with open(end, "wb") as out:
+        for piece in sorted(shard.iterdir()):
+            with open(piece, "rb") as data:
+                shutil.copyfileobj(data, out)
+    return end
 
 
 def place(folder, stage, name):
@@ -158,9 +181,18 @@ def unpacked(path, opener, end, told):
     return end
 
 
+def files_of(names):
+    """The files of these names; a folder of sqshard's stands for its captures."""
+    for name in names:
+        if name != "-" and (Path(name) / "captures.json").is_file():
+            yield from map(str, captures_of(Path(name)))
+        else:
+            yield name
+
+
 def prepared(asked, folder, told):
     """The captures as sqrun reads them: the files themselves, or one of raw IP in the folder. Answers them, the ports, and notes."""
-    paths = [opened(path, folder, n, told) for n, path in enumerate(asked.files)]
+    paths = [opened(path, folder, n, told) for n, path in enumerate(files_of(asked.files))]
     if not asked.ports and len(paths) == 1 and links.is_plain(paths[0], map_file(paths[0])):
         return paths, None, []
     return convert(paths, folder, asked.ports, told)
@@ -216,11 +248,17 @@ def serve(asked, captures, folder, told):
     if done.returncode == 7 and "marks" not in said and split(asked):
         return None
     if done.returncode:
-        raise Refused(f"{said or f'sqrun ended with {done.returncode}'}\n{explained(said)}".strip(), done.returncode if done.returncode > 0 else 1)
+        raise Explained(said, done.returncode)
     counts = counted(report)
     if counts["nofit"] and split(asked):
         return None
     return Run(report, captures, counts)
+
+
+def last_line(said):
+    """What a program said last, without its own name."""
+    lines = said.decode(errors="replace").strip().splitlines() or ["it failed, and said nothing"]
+    return lines[-1].removeprefix("sqshard: ")
 
 
 def counted(report):
@@ -240,5 +278,5 @@ def shard(asked, captures, folder, told):
         done = subprocess.run(list(map(str, words)), stdin=subprocess.DEVNULL, stdout=out, stderr=None if told.terminal else subprocess.PIPE)
     told.end()
     if done.returncode:
-        raise Refused((done.stderr or b"sqshard failed").decode(errors="replace").strip(), done.returncode)
+        raise Refused(last_line(done.stderr or b"sqshard failed"), done.returncode)
     return Run(report, captures, counted(report))

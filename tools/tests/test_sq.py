@@ -56,6 +56,7 @@ class Folder(unittest.TestCase):
 
 class Files(Folder):
     def test_plain_files_are_given_as_they_are(self):
+        program()
         for path in captures():
             with self.subTest(path.name):
                 self.assertEqual(sq(path), by_hand(path))
@@ -97,6 +98,7 @@ class Files(Folder):
 class Links(Folder):
     def test_each_link_type(self):
         """The datagrams behind each link give the report that they give as raw IP, with the same counts."""
+        program()
         listed = records(3, 400, 12)
         other = [(listed[0][0], None)]
         for link, (before, instead) in BEFORE.items():
@@ -108,6 +110,7 @@ class Links(Folder):
                 self.assertEqual(sq(self.folder / "a.pcap"), by_hand(self.folder / "raw.pcap"))
 
     def test_tags(self):
+        program()
         talk = Talk().open().echo().close()
         write(self.folder / "raw.pcap", talk.records, 101)
         for name, tags in STACKED.items():
@@ -139,6 +142,27 @@ class Links(Folder):
     def test_a_cut_tail_stays(self):
         write(self.folder / "a.pcap", [(at, BEFORE[0][0] + body) for at, body in Talk().open().echo().records], 0, cut=3)
         self.assertRegex(sq(self.folder / "a.pcap"), rb"records 5 tail 1 ")
+
+
+    def test_damaged_captures(self):
+        """Whatever bytes change, a capture is turned or refused, and what is turned can be read."""
+        rnd, talk = random.Random(6), Talk().open().echo().close()
+        links_of = [(link, before) for link, (before, _) in BEFORE.items()] + [(1, MACS + b"\x08\0"), (1, MACS + STACKED["PPPoE"]), (113, bytes(14) + b"\x08\0")]
+        turned = 0
+        for n in range(600):
+            link, before = links_of[n % len(links_of)]
+            write(self.folder / "a.pcap", [(at, before + body) for at, body in talk.records], link, form=n % 4)
+            data = bytearray((self.folder / "a.pcap").read_bytes())
+            for _ in range(rnd.randrange(1, 9)):
+                data[rnd.randrange(len(data))] = rnd.choice((0, 1, 8, 127, 255, rnd.randrange(256)))
+            (self.folder / "a.pcap").write_bytes(data[:rnd.choice((len(data), rnd.randrange(len(data))))])
+            try:
+                count, _ = links.convert([self.folder / "a.pcap"], self.folder / "b.pcap", links.Ports({80: 7}), lambda *_: None)
+            except front.Refused:
+                continue
+            self.assertEqual(len(list(Records("b", (self.folder / "b.pcap").read_bytes()))), count)
+            turned += 1
+        self.assertGreater(turned, 300)
 
 
 class Ports(Folder):
@@ -378,6 +402,18 @@ class Check(Folder):
         status, said = self.check(right.replace(b"\nend LISTEN", b"\nend TIME-WAIT", 1))
         self.assertEqual(status, 1)
         self.assertRegex(said, rf"(?s)^no: text {number}\nLine {number} isn't.*> +{number}  end TIME-WAIT\n +right  end LISTEN")
+
+    def test_the_right_line_of_a_connection_with_calls(self):
+        self.replay()
+        right = by_hand(EXAMPLE, "--trace", "--mode", "fill", "0:0:status")
+        at = right[:right.index(b"\nanswer 0 0 ")].count(b"\n") + 2
+        answer = right.split(b"\n")[at - 1].decode()
+        status, said = self.check(right.replace(answer.encode(), b"answer 0 0 LISTEN 1 2 3"))
+        self.assertEqual(status, 1)
+        self.assertIn(f"no: text {at}\n", said)
+        shown = re.search(rf"> +{at}  answer 0 0 LISTEN 1 2 3\n +right  (.*)\n", said)
+        # Where no run of its own meets the same order, there is no right line to show.
+        self.assertIn(shown[1] if shown else answer, (answer,))
 
     def test_each_reason(self):
         self.replay()

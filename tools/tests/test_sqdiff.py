@@ -180,6 +180,7 @@ class Kinds(unittest.TestCase):
         self.assertTrue(all(kind.verdict in VERDICTS and kind.section and kind.rule.endswith((".", ")")) for kind in KINDS.values()))
 
     def test_each_kind(self):
+        program()
         for name, story in STORIES.items():
             with self.subTest(name):
                 talk = story()
@@ -194,6 +195,7 @@ class Kinds(unittest.TestCase):
                 self.assertEqual(summary["must"], sum(line["count"] for line in found if line["verdict"] == "MUST"))
 
     def test_what_is_right_has_none(self):
+        program()
         for name, story in CONTROLS.items():
             with self.subTest(name):
                 found, _, status = lines(story().save(self.folder))
@@ -214,6 +216,7 @@ class Kinds(unittest.TestCase):
 
 class Recorded(unittest.TestCase):
     def setUp(self):
+        program()
         folder = tempfile.TemporaryDirectory()
         self.addCleanup(folder.cleanup)
         self.folder = Path(folder.name)
@@ -325,6 +328,7 @@ class Dissected:
 
 class Hostile(unittest.TestCase):
     def setUp(self):
+        program()
         folder = tempfile.TemporaryDirectory()
         self.addCleanup(folder.cleanup)
         self.folder = Path(folder.name)
@@ -367,6 +371,7 @@ class Hostile(unittest.TestCase):
 
 class Shapes(unittest.TestCase):
     def setUp(self):
+        program()
         folder = tempfile.TemporaryDirectory()
         self.addCleanup(folder.cleanup)
         self.folder = Path(folder.name)
@@ -408,6 +413,20 @@ class Shapes(unittest.TestCase):
         found, _, _ = lines(talk.save(self.folder), "--port", "8080=7")
         self.assertEqual([line["kind"] for line in found], ["text"])
 
+    def test_a_folder_of_sqshard(self):
+        """The folder, its shards together, and the merged report beside its captures give what the captures give."""
+        need("parallel")
+        path = next(path for path in captures() if path.name == "echo_short.pcap")
+        with open(self.folder / "merged", "wb") as out:
+            subprocess.run([TOOLS / "sqshard", "run", "--sqrun", program(), "--shard-bytes", "1500", self.folder / "work", path], stdout=out, stderr=subprocess.DEVNULL, check=True)
+        right, _, _ = lines(path)
+        self.assertEqual(lines(self.folder / "work")[0], right)
+        self.assertEqual(lines(self.folder / "work", "--report", self.folder / "merged")[0], right)
+        shards = sorted((self.folder / "work" / "shards").iterdir())
+        self.assertGreater(len(shards), 2)
+        apart = [line for shard in shards for line in lines(shard)[0]]
+        self.assertEqual(sorted({line["ends"] for line in apart}), sorted({line["ends"] for line in right}))
+
     def test_page(self):
         """The page is whole, has an anchor for each link, both servers' arrows, and nothing that runs or is loaded."""
         page = self.said("--page", self.path)
@@ -422,6 +441,11 @@ class Shapes(unittest.TestCase):
         self.assertEqual(page.count('class="arrow segment '), 2 * 6)
         self.assertEqual(page.count('class="arrow reply'), 4 + 3)
 
+    def test_json_fields_are_documented(self):
+        found, summary, _ = lines(self.path)
+        told = set(re.findall(r"`(\w+)`", (TOP / "docs" / "TOOLS.md").read_text().split("`--json` gives a line for each kind")[1].split("\n\n")[0]))
+        self.assertEqual(set(found[0]) | set(summary), told)
+
     def test_page_in_a_browser(self):
         need(COMMAND)
         (self.folder / "a.html").write_text(self.said("--page", self.path), encoding="utf-8")
@@ -432,6 +456,9 @@ class Shapes(unittest.TestCase):
         box = browser.box("svg.fig")
         self.assertGreater(box["width"], 600)
         self.assertGreater(box["height"], 300)
+        # On a phone tables and diagrams scroll by themselves.
+        browser.call("Emulation.setDeviceMetricsOverride", width=400, height=800, deviceScaleFactor=2, mobile=True)
+        self.assertLessEqual(browser.js("document.documentElement.scrollWidth"), 400)
 
 
 class Elements(HTMLParser):
