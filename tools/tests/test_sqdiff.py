@@ -81,7 +81,7 @@ STORIES = {
     "window scale unasked": lambda: opened(offered=MSS + SCALED).echo(),
     "window scale over 14": lambda: opened(asked=MSS + SCALED, offered=MSS + b"\x01\x03\x03\x0f").echo(),
     "selective acknowledgements": lambda: opened(asked=MSS + SACKED, offered=MSS + SACKED).echo(),
-    "selective acknowledgements unasked": lambda: opened(offered=MSS + SACKED).echo(),
+    "selective acknowledgements unasked": lambda: Talk().open().echo().down(options=b"\1\1\5\x0a" + bytes(8), mark=True),
     "timestamps": lambda: stamped(opened(asked=MSS + STAMPED, offered=MSS + STAMPED, late=STAMPED)),
     "timestamps unasked": lambda: opened(offered=MSS + STAMPED).echo(),
     "timestamp missing": lambda: stamped(opened(asked=MSS + STAMPED, offered=MSS + STAMPED, late=STAMPED)).up(ACK | PSH, b"x", options=STAMPED).down(
@@ -147,6 +147,7 @@ CONTROLS = {
     "a late half of a second less": lambda: Talk().open().up(ACK | PSH, b"hello").down(ACK | PSH, b"hello", wait=SECOND * 49 // 100).up(),
     "a far client": lambda: Talk().up(SYN, options=MSS).down(SYN | ACK, options=MSS, wait=SECOND // 2).up(wait=SECOND // 2).up(
         ACK | PSH, b"hello").down(ACK | PSH, b"hello", wait=SECOND * 6 // 10).up(wait=SECOND // 10),
+    "selective acknowledgements that the server permits": lambda: opened(offered=MSS + SACKED).echo(),
     "acknowledgements behind FIN": lambda: Talk().open().echo().down(ACK | FIN).up(ACK | PSH, b"x").down().up(ACK | FIN).down(),
     "a SYN,ACK for each SYN": lambda: Talk().up(SYN, options=MSS).up(SYN, options=MSS, seq=0).down(SYN | ACK, options=MSS).up(
         SYN, options=MSS, seq=0).down(SYN | ACK, options=MSS, seq=0, wait=5_000).up(SYN, options=MSS, seq=0).down(SYN | ACK, options=MSS, seq=0, wait=5_000).down(
