@@ -35,7 +35,7 @@ class Progress:
         self.begin("", 0)
 
     def begin(self, what, whole):
-        """`whole` is how many bytes there are."""
+        """`whole` is how much there is to do; 0 where nobody knows."""
         self.what, self.whole, self.begun, self.said, self.length = what, whole, time.monotonic(), 0.0, 0
 
     def tell(self, done, records=0):

@@ -92,12 +92,12 @@ def is_plain(path, data):
 
 
 def has_stacked_tags(path):
-    """Whether a frame has an IPv4 datagram behind tags that sqrun doesn't skip."""
+    """Whether a frame has an IPv4 datagram behind tags that sqrun doesn't skip. The file has one link type."""
     records = AnyRecords(path, map_file(path))
     for _, body in records:
         at = {1: 12, 113: 14}.get(records.link)
         if at is None:
-            continue
+            return False
         kind = body[at:at + 2]
         if kind in AROUND and (at == 14 or kind != TAGS[0] or body[16:18] in AROUND) and packet(records.link, body) != NOTHING:
             return True

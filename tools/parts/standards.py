@@ -1,8 +1,8 @@
 """The kinds of differences between a captured server and the reference, each with its section and what the standard says of it.
 
-`MUST` is said where the captured server breaks a MUST, or what TCP is defined by without that word, `SHOULD` where it departs from a SHOULD, `choice` where the standard leaves both
-free, `service` where the application above TCP differs, and `unjudged` where the capture alone can't tell; findings.NEEDS_WHOLE become so
-where the capture has gaps or segments that changed places. Numbers like MUST-40 are
+`MUST` is said where the captured server breaks a MUST, or what TCP is defined by without that word; `SHOULD` where it departs from a
+SHOULD; `choice` where the standard leaves both free; `service` where the application above TCP differs; and `unjudged` where the capture
+alone can't tell. Where it has gaps, or segments that changed places, findings.NEEDS_WHOLE are unjudged too. Numbers like MUST-40 are
 those of RFC 9293, appendix B.
 """
 from dataclasses import dataclass
