@@ -148,6 +148,11 @@ class Ports:
         one = bytes(map(int, address.split("."))) + int(port).to_bytes(2, "big")
         return self.real.get((one, bytes(map(int, host.split("."))), int(mapped)), int(mapped))
 
+    def real_ends(self, ends):
+        """The two ends of a connection, as they are in the file."""
+        client, server = ends.split(" ")
+        return f"{client} {server.partition(':')[0]}:{self.real_port(client, server)}"
+
 
 def convert(paths, to, ports, told):
     """Writes the records of all files as one pcap of raw IP. Answers how many there are, and whether a tail was cut.

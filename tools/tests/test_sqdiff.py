@@ -412,7 +412,7 @@ class Shapes(unittest.TestCase):
     def test_a_port_turned(self):
         talk = Talk(8080).open().up(ACK | PSH, b"GET").down(ACK | PSH, b"200").up()
         found, _, _ = lines(talk.save(self.folder), "--port", "8080=7")
-        self.assertEqual([line["kind"] for line in found], ["text"])
+        self.assertEqual([(line["kind"], line["ends"]) for line in found], [("text", "10.0.0.1:4000 10.0.0.2:8080")])
 
     def test_a_folder_of_sqshard(self):
         """The folder, its shards together, and the merged report beside its captures give what the captures give."""
