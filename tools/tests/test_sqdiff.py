@@ -206,6 +206,12 @@ class Kinds(unittest.TestCase):
                     self.assertEqual(found, [])
 
 
+    def test_a_pair_of_ends_used_again(self):
+        """Each life is compared by itself, with numbers of its own."""
+        found, summary, _ = lines(Talk().open().echo().close().anew(SECOND).open().echo(reserved=4, mark=True).close().save(self.folder))
+        self.assertEqual([(line["life"], line["kind"], line["frame"]) for line in found], [(1, "reserved bits", 14)])
+        self.assertEqual((summary["connections"], summary["must"]), (1, 1))
+
     def test_gaps_make_unjudged(self):
         """Where the capture lacks a text, a late acknowledgement breaks no MUST: the one that was in time may be missing too."""
         late = lambda talk: talk.up(ACK | PSH, b"hello").down(ACK | PSH, b"hello", wait=SECOND * 7 // 10).up()
