@@ -21,15 +21,17 @@ SECOND = 1_000_000
 UNPROVED = str(TOP / "sqrun-unproved")
 
 
-# Runs a command with the same Python, and tells its most memory in kilobytes.
+# Runs a command with the same Python, and tells its most memory in kilobytes. (getrusage would tell that of the process which started it, where
+# that is larger.)
 MEASURED = """
-import resource, runpy, sys
+import runpy, sys
 sys.argv = sys.argv[1:]
 try:
     runpy.run_path(sys.argv[0], run_name="__main__")
 except SystemExit as end:
     status = end.code
-print(resource.getrusage(resource.RUSAGE_SELF).ru_maxrss, file=sys.stderr)
+with open("/proc/self/status") as lines:
+    print(next(line for line in lines if line.startswith("VmHWM:")).split()[1], file=sys.stderr)
 sys.exit(status)
 """
 
