@@ -113,7 +113,7 @@ def compare_handshake(life, shake, found):
         one, other = option_text(kind, shake.offered), option_text(kind, theirs)
         if one != other:
             found.add(name, answer, one, other)
-        if kind != MSS and kind in shake.offered and kind not in shake.asked:
+        if kind in (SCALE, TIMESTAMP) and kind in shake.offered and kind not in shake.asked:
             found.add(f"{name} unasked", answer, one, other)
     if SCALE in shake.offered and shake.offered[SCALE][0] > 14:
         found.add("window scale over 14", answer, option_text(SCALE, shake.offered), "at most 14")

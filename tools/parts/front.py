@@ -6,6 +6,7 @@ import os
 import re
 import shlex
 import shutil
+import signal
 import subprocess
 import sys
 import time
@@ -35,7 +36,7 @@ class Progress:
         self.begin("", 0)
 
     def begin(self, what, whole):
-        """`whole` is how many bytes there are."""
+        """`whole` is how much there is to do; 0 where nobody knows."""
         self.what, self.whole, self.begun, self.said, self.length = what, whole, time.monotonic(), 0.0, 0
 
     def tell(self, done, records=0):
@@ -238,12 +239,11 @@ def serve(asked, captures, folder, told):
     told.begin("serving", size)
     with open(captures[0], "rb") as data, open(report, "wb") as out:
         done = subprocess.Popen([*program("sqrun", asked.sqrun), *asked.words], stdin=data, stdout=out, stderr=subprocess.PIPE)
-        while done.poll() is None:
-            try:
-                done.wait(0.2)
-            except subprocess.TimeoutExpired:
-                told.tick()
-        said = done.stderr.read().decode(errors="replace").strip()
+        try:
+            said = waited(done, told)
+        finally:
+            done.kill()                 # where this tool is told to stop before it ends
+            done.wait()
     told.end()
     if done.returncode == 7 and "marks" not in said and split(asked):
         return None
@@ -259,6 +259,21 @@ def last_line(said):
     """What a program said last, without its own name."""
     lines = said.decode(errors="replace").strip().splitlines() or ["it failed, and said nothing"]
     return lines[-1].removeprefix("sqshard: ")
+
+
+def waited(running, told):
+    """What a program says on its error output until it ends."""
+    while running.poll() is None:
+        try:
+            running.wait(0.2)
+        except subprocess.TimeoutExpired:
+            told.tick()
+    return running.stderr.read().decode(errors="replace").strip()
+
+
+def end_on_term():
+    """Told to stop, a tool removes its temporary files and ends its programs first."""
+    signal.signal(signal.SIGTERM, lambda *_: sys.exit(143))
 
 
 def counted(report):

@@ -92,12 +92,12 @@ def is_plain(path, data):
 
 
 def has_stacked_tags(path):
-    """Whether a frame has an IPv4 datagram behind tags that sqrun doesn't skip."""
+    """Whether a frame has an IPv4 datagram behind tags that sqrun doesn't skip. The file has one link type."""
     records = AnyRecords(path, map_file(path))
     for _, body in records:
         at = {1: 12, 113: 14}.get(records.link)
         if at is None:
-            continue
+            return False
         kind = body[at:at + 2]
         if kind in AROUND and (at == 14 or kind != TAGS[0] or body[16:18] in AROUND) and packet(records.link, body) != NOTHING:
             return True
@@ -147,6 +147,11 @@ class Ports:
         host, _, mapped = server.partition(":")
         one = bytes(map(int, address.split("."))) + int(port).to_bytes(2, "big")
         return self.real.get((one, bytes(map(int, host.split("."))), int(mapped)), int(mapped))
+
+    def real_ends(self, ends):
+        """The two ends of a connection, as they are in the file."""
+        client, server = ends.split(" ")
+        return f"{client} {server.partition(':')[0]}:{self.real_port(client, server)}"
 
 
 def convert(paths, to, ports, told):

@@ -1,8 +1,8 @@
 """The kinds of differences between a captured server and the reference, each with its section and what the standard says of it.
 
-`MUST` is said where the captured server breaks a MUST, `SHOULD` where it departs from a SHOULD, `choice` where the standard leaves both
-free, `service` where the application above TCP differs, and `unjudged` where the capture alone can't tell; findings.NEEDS_WHOLE become so
-where the capture has gaps or segments that changed places. Numbers like MUST-40 are
+`MUST` is said where the captured server breaks a MUST, or what TCP is defined by without that word; `SHOULD` where it departs from a
+SHOULD; `choice` where the standard leaves both free; `service` where the application above TCP differs; and `unjudged` where the capture
+alone can't tell. Where it has gaps, or segments that changed places, findings.NEEDS_WHOLE are unjudged too. Numbers like MUST-40 are
 those of RFC 9293, appendix B.
 """
 from dataclasses import dataclass
@@ -33,11 +33,11 @@ KINDS = kinds(
     ("window scale unasked", "MUST", "RFC 7323, 2.2", "SYN,ACK may have the option only if the SYN had it."),
     ("window scale over 14", "MUST", "RFC 7323, 2.3", "The shift must be limited to 14."),
     ("selective acknowledgements", "choice", "RFC 2018, 2", "A side may permit them; the reference doesn't."),
-    ("selective acknowledgements unasked", "MUST", "RFC 2018, 4", "Without the client's permission no such option may be sent."),
+    ("selective acknowledgements unasked", "MUST", "RFC 2018, 4", "Without the client's permission none may be sent. (That the server permits them itself is free.)"),
     ("timestamps", "choice", "RFC 7323, 3.2", "SYN,ACK may have them if the SYN had; the reference doesn't."),
     ("timestamps unasked", "MUST", "RFC 7323, 3.2", "They may be sent only if the SYN had them."),
     ("timestamp missing", "MUST", "RFC 7323, 3.2", "Once both sides have sent them in the handshake, each segment but a reset must have one."),
-    ("maximum segment size later", "MUST", "RFC 9293, 3.7.1 (MUST-65)", "The option must not stand in a segment without SYN."),
+    ("maximum segment size later", "MUST", "RFC 9293, 3.2 (MUST-65)", "The option must not stand in a segment without SYN."),
     ("SYN,ACK again", "choice", "RFC 9293, 3.8.1; RFC 6298, 2.1", "An unanswered SYN,ACK goes again; the first timeout should be one second."),
     ("congestion notification", "choice", "RFC 3168, 6.1", "ECE and CWR are used where both sides agreed; the reference has neither."),
     ("captured twice", "unjudged", "RFC 791, 3.1", "The same datagram, by its identification, stands twice in the capture, as where it crosses a bridge; the second is left out."),
@@ -55,13 +55,13 @@ KINDS = kinds(
     ("not acknowledged", "unjudged", "RFC 9293, 3.8.6.3", "The capture may end too early, or lack the acknowledgement."),
     # Windows.
     ("window", "choice", "RFC 9293, 3.8.6", "How much room a receiver announces is its own matter."),
-    ("window closed", "choice", "RFC 9293, 3.8.6 (MAY-8)", "A receiver may keep its window closed."),
+    ("window closed", "choice", "RFC 9293, 3.8.6.1 (MAY-8)", "A receiver may keep its window closed."),
     ("window shrunk", "SHOULD", "RFC 9293, 3.8.6 (SHLD-14)", "The right edge of the window should not move to the left."),
     ("window opened by little", "MUST", "RFC 9293, 3.8.6.2.2 (MUST-39)", "A receiver must wait until it can open the window by a segment, or half its buffer."),
     # What is sent.
     ("text", "service", "RFC 862, RFC 863", "The server sent other bytes than the service of the reference does."),
     ("length of the text", "service", "RFC 862, RFC 863", "The server sent more or fewer bytes than the service of the reference does."),
-    ("boundaries", "choice", "RFC 9293, 3.7 (SHLD-28)", "How a stream is cut into segments is free."),
+    ("boundaries", "choice", "RFC 9293, 3.7 and 3.9.1.2 (SHLD-28)", "How a stream is cut into segments is free."),
     ("larger than the client takes", "MUST", "RFC 9293, 3.7.1 (MUST-15, MUST-16)", "Text and options must fit the client's maximum segment size, 536 where it named none."),
     ("larger than a packet", "unjudged", "RFC 9293, 3.7.1", "The capture was taken before the card cut the segment (segmentation offload), or behind one that joins."),
     ("past the window", "MUST", "RFC 9293, 3.8.6 and 3.10.2", "A sender may send what the client's window has room for, and one byte to probe a window of 0."),
@@ -78,7 +78,7 @@ KINDS = kinds(
     # What is sent again.
     ("sent again", "choice", "RFC 9293, 3.8.1; RFC 6298, 5", "What isn't acknowledged in time is sent again; the wire that was captured lost, the reference's timer is fixed."),
     ("sent again early", "SHOULD", "RFC 6298, 2.4", "A timeout below one second should be rounded up to it. (RFC 8985 allows a probe after two round trips.)"),
-    ("no backoff", "MUST", "RFC 9293, 3.8.1 (MUST-19); RFC 6298, 5.5", "The timeout must double each time."),
+    ("no backoff", "MUST", "RFC 9293, 3.8.2 (MUST-19); RFC 6298, 5.5", "The timeout must double each time."),
     ("window probed", "choice", "RFC 9293, 3.8.6.1 (SHLD-29, SHLD-30)", "A window of 0 is probed first after a timeout, then at growing intervals."),
     ("window probed without text", "unjudged", "RFC 9293, 3.8.6.1 (MUST-36)", "A probe has a byte of new text or one sent again; an empty segment below the window draws the same answer."),
     ("window not probed", "MUST", "RFC 9293, 3.8.6.1 (MUST-36)", "Where text waits, a window of 0 must be probed regularly."),

@@ -27,6 +27,7 @@ class Talk:
 
     def __init__(self, port=7, asked=MSS, offered=MSS, window=65_535, room=65_535):
         self.server = SERVER[0], port
+        self.start = CLIENT_START, SERVER_START
         self.asked, self.offered, self.window, self.room = asked, offered, window, room
         self.at, self.records, self.marked = BEGIN, [], None
         self.mine = self.theirs = 0             # the next number of the client and of the server
@@ -40,7 +41,7 @@ class Talk:
     def up(self, flags=ACK, text=b"", wait=100, seq=None, ack=None, window=None, options=b"", mark=False, **more):
         """The client sends; without `seq` and `ack` what comes next."""
         here = self.mine if seq is None else seq
-        self.put(wait, mark, CLIENT, self.server, CLIENT_START + here, (SERVER_START + (self.theirs if ack is None else ack)) * bool(flags & ACK),
+        self.put(wait, mark, CLIENT, self.server, self.start[0] + here, (self.start[1] + (self.theirs if ack is None else ack)) * bool(flags & ACK),
                  flags, self.window if window is None else window, text, options, **more)
         if seq is None:
             self.mine += len(text) + bool(flags & SYN) + bool(flags & FIN)
@@ -49,7 +50,7 @@ class Talk:
     def down(self, flags=ACK, text=b"", wait=100, seq=None, ack=None, window=None, options=b"", mark=False, **more):
         """The server sends."""
         here = self.theirs if seq is None else seq
-        self.put(wait, mark, self.server, CLIENT, SERVER_START + here, (CLIENT_START + (self.mine if ack is None else ack)) * bool(flags & ACK),
+        self.put(wait, mark, self.server, CLIENT, self.start[1] + here, (self.start[0] + (self.mine if ack is None else ack)) * bool(flags & ACK),
                  flags, self.room if window is None else window, text, options, **more)
         if seq is None:
             self.theirs += len(text) + bool(flags & SYN) + bool(flags & FIN)
@@ -64,6 +65,13 @@ class Talk:
 
     def close(self):
         return self.up(ACK | FIN).down(ACK | FIN).up()
+
+    def anew(self, wait):
+        """The same two ends, with other first numbers."""
+        self.start = self.start[0] + 1_000_000, self.start[1] + 3_000_000
+        self.mine = self.theirs = 0
+        self.at += wait
+        return self
 
     def save(self, folder, name="a.pcap"):
         path = Path(folder) / name

@@ -10,6 +10,7 @@ import shutil
 import struct
 import subprocess
 import tempfile
+import time
 import unittest
 from pathlib import Path
 
@@ -303,6 +304,22 @@ class Told(Folder):
         self.assertEqual(out, ["\rreading: 1.0 of 4.0 MB, 2,000 records, 9 s left"])
         told.end()
         self.assertEqual(out[1].strip("\r "), "")
+
+
+    def test_told_to_stop(self):
+        """It ends sqrun, and removes what it has written."""
+        (self.folder / "temporary").mkdir()
+        (self.folder / "slow").write_text(f"#!/bin/sh\necho $$ > {self.folder}/number\nexec sleep 60\n")
+        (self.folder / "slow").chmod(0o755)
+        done = subprocess.Popen([TOOLS / "sq", "--sqrun", self.folder / "slow", EXAMPLE], stderr=subprocess.PIPE, env={**os.environ, "TMPDIR": str(self.folder / "temporary")})
+        until = time.monotonic() + 20
+        while not ((self.folder / "number").exists() and (self.folder / "number").read_text()) and time.monotonic() < until:
+            time.sleep(.05)
+        done.terminate()
+        self.assertEqual(done.communicate()[1], b"")
+        self.assertEqual(done.returncode, 143)
+        self.assertEqual(list((self.folder / "temporary").iterdir()), [])
+        self.assertFalse(Path(f"/proc/{(self.folder / 'number').read_text().strip()}/cmdline").exists())
 
 
 class Shapes(Folder):

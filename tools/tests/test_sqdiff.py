@@ -21,15 +21,17 @@ SECOND = 1_000_000
 UNPROVED = str(TOP / "sqrun-unproved")
 
 
-# Runs a command with the same Python, and tells its most memory in kilobytes.
+# Runs a command with the same Python, and tells its most memory in kilobytes. (getrusage would tell that of the process which started it, where
+# that is larger.)
 MEASURED = """
-import resource, runpy, sys
+import runpy, sys
 sys.argv = sys.argv[1:]
 try:
     runpy.run_path(sys.argv[0], run_name="__main__")
 except SystemExit as end:
     status = end.code
-print(resource.getrusage(resource.RUSAGE_SELF).ru_maxrss, file=sys.stderr)
+with open("/proc/self/status") as lines:
+    print(next(line for line in lines if line.startswith("VmHWM:")).split()[1], file=sys.stderr)
 sys.exit(status)
 """
 
@@ -81,7 +83,7 @@ STORIES = {
     "window scale unasked": lambda: opened(offered=MSS + SCALED).echo(),
     "window scale over 14": lambda: opened(asked=MSS + SCALED, offered=MSS + b"\x01\x03\x03\x0f").echo(),
     "selective acknowledgements": lambda: opened(asked=MSS + SACKED, offered=MSS + SACKED).echo(),
-    "selective acknowledgements unasked": lambda: opened(offered=MSS + SACKED).echo(),
+    "selective acknowledgements unasked": lambda: Talk().open().echo().down(options=b"\1\1\5\x0a" + bytes(8), mark=True),
     "timestamps": lambda: stamped(opened(asked=MSS + STAMPED, offered=MSS + STAMPED, late=STAMPED)),
     "timestamps unasked": lambda: opened(offered=MSS + STAMPED).echo(),
     "timestamp missing": lambda: stamped(opened(asked=MSS + STAMPED, offered=MSS + STAMPED, late=STAMPED)).up(ACK | PSH, b"x", options=STAMPED).down(
@@ -147,6 +149,7 @@ CONTROLS = {
     "a late half of a second less": lambda: Talk().open().up(ACK | PSH, b"hello").down(ACK | PSH, b"hello", wait=SECOND * 49 // 100).up(),
     "a far client": lambda: Talk().up(SYN, options=MSS).down(SYN | ACK, options=MSS, wait=SECOND // 2).up(wait=SECOND // 2).up(
         ACK | PSH, b"hello").down(ACK | PSH, b"hello", wait=SECOND * 6 // 10).up(wait=SECOND // 10),
+    "selective acknowledgements that the server permits": lambda: opened(offered=MSS + SACKED).echo(),
     "acknowledgements behind FIN": lambda: Talk().open().echo().down(ACK | FIN).up(ACK | PSH, b"x").down().up(ACK | FIN).down(),
     "a SYN,ACK for each SYN": lambda: Talk().up(SYN, options=MSS).up(SYN, options=MSS, seq=0).down(SYN | ACK, options=MSS).up(
         SYN, options=MSS, seq=0).down(SYN | ACK, options=MSS, seq=0, wait=5_000).up(SYN, options=MSS, seq=0).down(SYN | ACK, options=MSS, seq=0, wait=5_000).down(
@@ -204,6 +207,12 @@ class Kinds(unittest.TestCase):
                 if name in ("echo", "discard"):
                     self.assertEqual(found, [])
 
+
+    def test_a_pair_of_ends_used_again(self):
+        """Each life is compared by itself, with numbers of its own."""
+        found, summary, _ = lines(Talk().open().echo().close().anew(SECOND).open().echo(reserved=4, mark=True).close().save(self.folder))
+        self.assertEqual([(line["life"], line["kind"], line["frame"]) for line in found], [(1, "reserved bits", 14)])
+        self.assertEqual((summary["connections"], summary["must"]), (1, 1))
 
     def test_gaps_make_unjudged(self):
         """Where the capture lacks a text, a late acknowledgement breaks no MUST: the one that was in time may be missing too."""
@@ -411,7 +420,7 @@ class Shapes(unittest.TestCase):
     def test_a_port_turned(self):
         talk = Talk(8080).open().up(ACK | PSH, b"GET").down(ACK | PSH, b"200").up()
         found, _, _ = lines(talk.save(self.folder), "--port", "8080=7")
-        self.assertEqual([line["kind"] for line in found], ["text"])
+        self.assertEqual([(line["kind"], line["ends"]) for line in found], [("text", "10.0.0.1:4000 10.0.0.2:8080")])
 
     def test_a_folder_of_sqshard(self):
         """The folder, its shards together, and the merged report beside its captures give what the captures give."""
