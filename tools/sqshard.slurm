@@ -23,7 +23,7 @@ work() {
     serve)
         [[ -e reports/$1 ]] && return
         mkdir -p sums
-        cat "shards/$1"/* | ${SQRUN:-sqrun} $(< words) > "reports/$1.part" && sha256sum < "reports/$1.part" > "sums/$1" && mv "reports/$1.part" "reports/$1"
+        cat "shards/$1"/* | ${SQRUN:-sqrun} $(< words) > "reports/$1.part" && b2sum < "reports/$1.part" > "sums/$1" && mv "reports/$1.part" "reports/$1"
         status=$?
         ((status == 0)) || { rm -f "reports/$1.part"; echo "shard $1: ${SQRUN:-sqrun} ended with $status" >&2; }
         return "$status" ;;
