@@ -12,6 +12,7 @@ one run would number them, and a shard holds neighbouring ones, so the shards' r
     tuples              by number 12 bytes: client address, server address, client port, server port
     files/N.json, N.shards    where piece N's records go: by its connections a 32-bit shard number
     shards/S/           0-head, 1-N (the records of piece N), 2-tail: together a capture
+    logs/               what the tasks of a Slurm array said
     reports/S, sums/S   what sqrun said of it, and the BLAKE2 sum of that as b2sum prints it
 All numbers in binary files are little-endian, but those in tuples, which are as in a packet.
 """
@@ -76,7 +77,7 @@ def begin(work, captures, verify, piece_bytes=PIECE_BYTES):
         state = os.stat(path)
         listed.append({"path": os.path.abspath(path), "size": state.st_size, "changed": state.st_mtime_ns})
     asked = {"verify": verify, "captures": listed}
-    for folder in ("tables", "files", "dealt", "shards", "reports", "sums"):
+    for folder in ("tables", "files", "dealt", "shards", "reports", "sums", "logs"):
         (work / folder).mkdir(parents=True, exist_ok=True)
     if not (work / "captures.json").exists():
         replace(work / "words", b"--verify\n" if verify else b"\n")
