@@ -13,8 +13,10 @@ for (const section of document.querySelectorAll("section.conn")) near.observe(se
 const go = () => {
   const section = /^#conn\d+$/.test(location.hash) && document.querySelector(location.hash);
   if (!section) return;
-  fill(section);
-  section.scrollIntoView();
+  const show = () => section.scrollIntoView();
+  for (let n = 0, one = section; n < 3 && one?.matches("section"); n++, one = one.previousElementSibling) fill(one);
+  show();
+  requestAnimationFrame(() => { show(); requestAnimationFrame(show); });     // what stands above has its height by then
 };
 addEventListener("hashchange", go);
 go();

@@ -314,9 +314,12 @@ class Timeline {
     return seen.length <= ARCS ? seen : seen.filter(move => begin(move) >= a || end(move) < b);
   }
   drawMoves() {
-    const pen = this.pen, seen = this.movesInView();
+    const seen = this.movesInView(), dense = seen.length > this.width / 12;
     if (seen.length > ARCS) return this.drawManyMoves(seen);
-    for (const move of seen) this.drawArc(move, this.followed < 0 ? .8 : move.conn === this.followed ? 1 : .15, move.conn === this.followed ? 3 : 1.8);
+    for (const move of seen) {
+      const mine = move.conn === this.followed;
+      this.drawArc(move, mine ? 1 : this.followed >= 0 ? .15 : dense ? .5 : .8, mine ? 3 : dense ? 1 : 1.8);
+    }
   }
   drawArc(move, alpha, thick) {
     const pen = this.pen, [ax, ay, ...rest] = this.arc(move);
