@@ -12,7 +12,8 @@ one run would number them, and a shard holds neighbouring ones, so the shards' r
     tuples              by number 12 bytes: client address, server address, client port, server port
     files/N.json, N.shards    where piece N's records go: by its connections a 32-bit shard number
     shards/S/           0-head, 1-N (the records of piece N), 2-tail: together a capture
-    reports/S, sums/S   what sqrun said of it, and the SHA-256 of that as sha256sum prints it
+    logs/               what the tasks of a Slurm array said
+    reports/S, sums/S   what sqrun said of it, and the BLAKE2 sum of that as b2sum prints it
 All numbers in binary files are little-endian, but those in tuples, which are as in a packet.
 """
 import hashlib
@@ -76,7 +77,7 @@ def begin(work, captures, verify, piece_bytes=PIECE_BYTES):
         state = os.stat(path)
         listed.append({"path": os.path.abspath(path), "size": state.st_size, "changed": state.st_mtime_ns})
     asked = {"verify": verify, "captures": listed}
-    for folder in ("tables", "files", "dealt", "shards", "reports", "sums"):
+    for folder in ("tables", "files", "dealt", "shards", "reports", "sums", "logs"):
         (work / folder).mkdir(parents=True, exist_ok=True)
     if not (work / "captures.json").exists():
         replace(work / "words", b"--verify\n" if verify else b"\n")
@@ -336,7 +337,7 @@ def looks_whole(work, shard):
 
 def sum_of(path):
     with open(path, "rb") as f:
-        return hashlib.file_digest(f, "sha256").hexdigest()
+        return hashlib.file_digest(f, hashlib.blake2b).hexdigest()
 
 
 def parts_of(path, at, seen):
@@ -389,7 +390,7 @@ class Shard:
 
     def check(self):
         """Reads it once; its counts, and whether it has a sum that it was compared with."""
-        digest, (counts, _) = hashlib.sha256(), counts_of(self.path)
+        digest, (counts, _) = hashlib.blake2b(), counts_of(self.path)
         if self.planned and counts != self.planned:
             raise self.damaged(f"counts {counts}, the plan has {self.planned}")
         for _ in self.parts(digest.update):
@@ -399,7 +400,7 @@ class Shard:
         except FileNotFoundError:
             return counts, False
         if wanted != [digest.hexdigest()]:
-            raise self.damaged("isn't what it was when it was served, by its SHA-256")
+            raise self.damaged("isn't what it was when it was served, by its BLAKE2 sum")
         return counts, True
 
 

@@ -119,6 +119,16 @@ def capture(listed):
     return struct.pack("<IHHIIII", 0xa1b2c3d4, 2, 4, 0, 0, WINDOW, 101) + b"".join(listed)
 
 
+def datagrams():
+    """What sqmore serves: UDP to the ports of echo and discard, and a client of the character generator."""
+    out = []
+    for n, (port, text) in enumerate(((7, b"hello"), (9, b""), (7, b"x" * 400))):
+        data = IP.pack(0x45, 0, 28 + len(text), 0, 0, 64, 17, 0, CLIENT, SERVER) + struct.pack(">HHHH", PORT + n, port, 8 + len(text), 0) + text
+        out.append(HEAD.pack(0, n, len(data), len(data)) + data)
+    return capture(out + [record(1000, FIRST, 0, SYN, service=19), record(2000, FIRST + 1, 1, ACK, window=300, service=19),
+                          record(3000, FIRST + 1, 200, ACK, window=300, service=19), record(4000, FIRST + 1, 300, 17, service=19)])
+
+
 def five_segments():
     """A client opens a connection, sends five bytes, closes, and acknowledges."""
     return capture([record(0, FIRST, 0, SYN), record(1000, FIRST + 1, 1, ACK), record(2000, FIRST + 1, 1, PSH | ACK, b"hello"),

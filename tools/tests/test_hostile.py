@@ -36,21 +36,45 @@ class Hostile(unittest.TestCase):
 
     def table(self, program, *rows):
         done = subprocess.run([TOOLS / "hostile", "--sqrun", program, *rows], capture_output=True, text=True)
-        return done.returncode, done.stdout + done.stderr
+        self.told = done.stderr
+        return done.returncode, done.stdout if done.returncode < 2 else done.stderr
 
     def test_sqrun_passes(self):
         if not os.access(SQRUN, os.X_OK):
             self.skipTest("no sqrun: run ./build, or name it by SQRUN")
-        status, said = self.table(SQRUN, "memory five_segment_echo fill", "memory traced fill", "reads fill", "writes fill", "steps fill", "ends fill")
+        status, said = self.table(SQRUN, "memory five_segment_echo fill", "memory traced fill", "reads fill", "writes fill", "steps fill", "ends fill", "signals fill")
         self.assertEqual(status, 0, said)
         self.assertRegex(said, r"\n\d rows passed, 0 failed, 0 known to fail, \d skipped\n$")
 
-    def test_a_careless_program_fails(self):
+    def careless(self):
         (self.folder / "careless.c").write_text(CARELESS)
         subprocess.run(["cc", "-o", self.folder / "careless", self.folder / "careless.c"], check=True)
-        status, said = self.table(self.folder / "careless", "memory four sessions fill", "reads fill", "writes fill", "steps fill", "ends fill")
+        return self.folder / "careless"
+
+    def test_a_careless_program_fails(self):
+        rows = ["memory four sessions fill", "reads fill", "writes fill", "steps fill", "ends fill", "signals fill", "vanished clients fill"]
+        status, said = self.table(self.careless(), *rows)
         self.assertEqual(status, 1, said)
-        self.assertIn("\n0 rows passed, 5 failed, 0 known to fail, 0 skipped\n", said)
+        self.assertIn("\n0 rows passed, 7 failed, 0 known to fail, 0 skipped\n", said)
+        self.assertEqual(sorted(self.told.splitlines()), sorted(f"begins: {row}" for row in rows))
+
+    def test_a_careless_checker_fails(self):
+        """In the place of sqreplay and sqmore, a program that always says the same."""
+        if not os.access(SQRUN, os.X_OK):
+            self.skipTest("no sqrun: run ./build, or name it by SQRUN")
+        status, said = self.table(SQRUN, "--sqreplay", self.careless(), "--sqmore", self.careless(), "sqreplay", "sqmore")
+        self.assertEqual(status, 1, said)
+        self.assertIn("\n0 rows passed, 12 failed, 0 known to fail, 0 skipped\n", said)
+
+    def test_what_has_no_time_is_told(self):
+        status, said = self.table(self.careless(), "--minutes", "0", "reads", "writes fill")
+        self.assertEqual((status, said.count("LEFT OUT, for want of time\n")), (0, 5))
+        self.assertIn("\n0 rows passed, 0 failed, 0 known to fail, 0 skipped, 5 left out for want of time (--minutes)\n", said)
+
+    def test_the_other_programs_are_skipped_where_they_are_not(self):
+        status, said = self.table(self.careless(), "--sqreplay", self.folder / "none", "sqreplay inputs")
+        self.assertEqual(status, 0)
+        self.assertEqual(said.count("skipped: no "), 2)
 
     def test_no_program(self):
         status, said = self.table(self.folder / "none")

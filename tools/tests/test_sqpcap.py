@@ -1,6 +1,8 @@
 """sqpcap: its packets are the clients' and the replies; tcptrace counts in them what the report says."""
+import random
 import re
 import struct
+import subprocess
 import tempfile
 import unittest
 from pathlib import Path
@@ -9,6 +11,7 @@ from common import TOOLS, captures, need, output, sqrun
 import capture
 import report as reports
 from capture import RST, SYN
+from generated import datagram, records, write
 from timeseq import kinds, lives
 
 
@@ -101,12 +104,84 @@ class Joined(unittest.TestCase):
         flags = [tcp[13] & (SYN | RST | 16) for tcp in listed]
         self.assertEqual(flags[:3], [SYN, SYN | 16, 16])
 
+    def test_comments_say_what_was_captured(self):
+        """tshark reads the pcapng: the same packets, each captured one with its frame in the capture, each reply as answered by sqrun."""
+        need("tshark")
+        for path in captures():
+            with self.subTest(path.name):
+                text, other = sqrun(path), self.folder / "a.pcapng"
+                other.write_bytes(self.joined(path, text, "--pcapng"))
+                fields = ["-T", "fields", "-e", "frame.comment", "-e", "tcp.seq_raw", "-e", "tcp.ack_raw", "-e", "tcp.dstport"]
+                rows = [line.split("\t") for line in output(["tshark", "-r", other, *fields]).decode().splitlines()]
+                self.assertEqual(len(rows), len(packets(self.joined(path, text))))
+                known = {line.split("\t")[0]: line.split("\t")[1:] for line in output(
+                    ["tshark", "-r", path, "-T", "fields", "-e", "frame.number", "-e", "tcp.seq_raw", "-e", "tcp.ack_raw", "-e", "tcp.dstport"]).decode().splitlines()}
+                for said, *ends in rows:
+                    if ends[2] in ("7", "9"):
+                        self.assertEqual(known[re.fullmatch(r"captured, frame (\d+)", said)[1]], ends)
+                    else:
+                        self.assertEqual(said, "answered by sqrun")
+                times = lambda file: [line for line in output(["tshark", "-r", file, "-T", "fields", "-e", "frame.time_epoch"]).decode().split()]
+                (self.folder / "a.pcap").write_bytes(self.joined(path, text))
+                self.assertEqual([t.rstrip("0") for t in times(other)], [t.rstrip("0") for t in times(self.folder / "a.pcap")])
+
+    def test_right_sums_on_a_word(self):
+        """Of an offloading client: tshark finds wrong sums without the word, and none with it; nothing else is changed."""
+        need("tshark")
+        path = self.folder / "offload.pcap"
+        rnd, listed = random.Random(4), []
+        for at, data in records(7, 300, 5):
+            if len(data) >= 40 and data[22:24] in (b"\0\7", b"\0\11") and data[9] == 6 and rnd.random() < .5:
+                data = data[:36] + rnd.randbytes(2) + data[38:]
+                data = data[:2] + b"\0\0" + data[4:] if rnd.random() < .3 else data
+            listed.append((at, data))
+        write(path, listed, 101)
+        text, wrong = sqrun(path), []
+        for words in ((), ("--fix-sums",)):
+            (self.folder / "a.pcap").write_bytes(self.joined(path, text, *words))
+            wrong.append(output(["tshark", "-r", self.folder / "a.pcap", "-o", "tcp.check_checksum:TRUE", "-Y", "tcp.checksum.status == 0 && tcp.dstport < 10",
+                                 "-T", "fields", "-e", "frame.number"]).split())
+            lengths = output(["tshark", "-r", self.folder / "a.pcap", "-o", "ip.check_checksum:TRUE", "-Y", "ip.checksum.status == 0", "-T", "fields", "-e", "ip.id"])
+            self.assertEqual(lengths.split() if words else [], [])
+        self.assertGreater(len(wrong[0]), 20)
+        self.assertEqual(wrong[1], [])
+        for (at, one), (again, other) in zip(*(packets(self.joined(path, text, *words)) for words in ((), ("--fix-sums",)))):
+            size = 4 * (one[0] & 15)
+            self.assertEqual((at, one[:size + 16] + one[size + 18:]), (again, other[:size + 16] + other[size + 18:]))
+
+    def test_a_time_past_what_pcap_says(self):
+        """A reply's timer behind the end of 2106: refused as pcap, and written as pcapng."""
+        path = self.folder / "late.pcap"
+        write(path, [(2 ** 32 * 1_000_000 - 1, datagram((0x0a000001, 4_000), (0x0a000002, 7), 5, 0, SYN))], 101)
+        path.write_bytes(path.read_bytes() + struct.pack("<IIII", 2 ** 32 - 1, 2 ** 32 - 1, 1, 1) + b"\x60")
+        text = sqrun(path)
+        self.assertGreater(max(int(at) for at in re.findall(rb"\nreply (\d+)", text)), 2 ** 32 * 1_000_000)
+        (self.folder / "a.report").write_bytes(text)
+        words = [TOOLS / "sqpcap", "--capture", path, self.folder / "a.report"]
+        self.assertIn(b"past what a pcap file can say: --pcapng can", output(words, status=1))
+        self.assertEqual(output([*words, "--pcapng"]).count(b"answered by sqrun"), text.count(b"\nreply "))
+
+    def test_faults_name_the_file(self):
+        path = captures()[0]
+        (self.folder / "a.report").write_bytes(sqrun(path))
+        words = [TOOLS / "sqpcap", "--capture", path, self.folder / "a.report"]
+        self.assertEqual(output([*words, "-o", "/dev/full"], status=1), b"sqpcap: No space left on device: /dev/full\n")
+        with open("/dev/full", "wb") as full:
+            done = subprocess.run(words, stdout=full, stderr=subprocess.PIPE)
+        self.assertEqual((done.returncode, done.stderr), (1, b"sqpcap: No space left on device: standard output\n"))
+
+    def test_a_capture_through_a_pipe(self):
+        path = captures()[0]
+        (self.folder / "a.report").write_bytes(sqrun(path))
+        done = subprocess.run(["bash", "-c", f"{TOOLS}/sqpcap --capture <(cat {path}) {self.folder}/a.report"], capture_output=True, check=True)
+        self.assertEqual(done.stdout, self.joined(path, sqrun(path)))
+
     def test_refusals(self):
         path = captures()[0]
         text = sqrun(path)
         (self.folder / "other.pcap").write_bytes(path.read_bytes()[:24])
         for broken, words, line in ((text[:-5], [path], "isn't whole"), (b"", [path], "line 1 isn't"), (text, [self.folder / "other.pcap"], "and "),
-                                    (text, [path, "--conn", "99"], "--conn 99: there are"), (text, [self.folder / "none"], "No such file"),
+                                    (text, [path, "--conn", "99"], "--conn 99: there are"), (text, [path, "--conn", "3-1"], "begins behind its end"), (text, [self.folder / "none"], "No such file"),
                                     (text.replace(b"\nend ", b"\nfin ", 1), [path], "isn't a report's")):
             (self.folder / "a.report").write_bytes(broken)
             said = output([TOOLS / "sqpcap", "--capture", *words, self.folder / "a.report"], status=1).decode()

@@ -194,7 +194,7 @@ class Shards(unittest.TestCase):
         for damage in damages:
             self.assertNotEqual(damage, text)
             report.write_bytes(damage)
-            for sum_of_it in (hashlib.sha256(damage).hexdigest().encode(), told):       # whether its sum was made again or not
+            for sum_of_it in (hashlib.blake2b(damage).hexdigest().encode(), told):       # whether its sum was made again or not
                 total.write_bytes(sum_of_it)
                 done = subprocess.run([TOOLS / "sqshard", "merge", self.work], capture_output=True)
                 self.assertEqual((done.returncode, done.stdout), (1, b""))
@@ -204,7 +204,7 @@ class Shards(unittest.TestCase):
             self.assertEqual(self.merged([path], anew=False), want)
             self.assertEqual(len((self.work / "serve.log").read_text().splitlines()), 2)    # the one alone was served again
         report.write_bytes(text.replace(b"LISTEN", b"CLOSED", 1) if b"LISTEN" in text else text[::-1])
-        self.assertIn(b"by its SHA-256", output([TOOLS / "sqshard", "merge", self.work], status=1))
+        self.assertIn(b"by its BLAKE2 sum", output([TOOLS / "sqshard", "merge", self.work], status=1))
         self.assertEqual(self.merged([path], anew=False), want)
         total.unlink()
         said = subprocess.run([TOOLS / "sqshard", "merge", self.work], capture_output=True, check=True)
@@ -358,7 +358,7 @@ class Shards(unittest.TestCase):
         self.assertEqual([shards.index(s) for s in range(len(plan["firsts"]))], plan["firsts"])
         self.assertEqual(plan["served"], [sum(row[3] for row, t in zip(rows, shards) if t == s) for s in range(len(plan["firsts"]))])
         for shard in (self.work / "reports").iterdir():
-            self.assertEqual((self.work / "sums" / shard.name).read_text(), hashlib.sha256(shard.read_bytes()).hexdigest() + "  -\n")
+            self.assertEqual((self.work / "sums" / shard.name).read_text(), hashlib.blake2b(shard.read_bytes()).hexdigest() + "  -\n")
         for file in self.work.rglob("*"):
             self.assertFalse(file.is_file() and file.read_bytes()[:1] == b"\x80", f"{file} looks like a pickle")
 
