@@ -13,7 +13,7 @@ from array import array
 from ctypes import Structure, byref, c_uint8, c_uint32, c_uint64, c_void_p
 from itertools import accumulate
 from pathlib import Path
-from struct import Struct, unpack_from
+from struct import Struct
 
 from files import MOST_BODY, Refused
 from packets import KINDS, SERVED, classify

@@ -27,7 +27,7 @@ from struct import Struct
 
 from files import MOST_BODY, Records, Refused, header, is_pcapng, map_file
 from packets import KINDS, LINK_SIZE, OTHER
-from records import CONNECTION, LEAST_WEIGHT, LINE, Mapped, One, TooLong, deal as deal_records, little, scan as scan_records, walk
+from records import CONNECTION, LINE, Mapped, One, TooLong, deal as deal_records, little, scan as scan_records, walk
 
 MOST_BYTES, MOST_RECORDS, MOST_CONNECTIONS = 67_108_864, 1_048_576, 4_096      # of one run
 MOST_REPORT = 640 << 20             # bytes of a shard's report, at most about, unless one connection alone may make more
