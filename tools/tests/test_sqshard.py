@@ -2,6 +2,7 @@
 import hashlib
 import json
 import os
+import pty
 import random
 import re
 import shutil
@@ -449,6 +450,22 @@ class Shards(unittest.TestCase):
         self.assertEqual(self.merged([path], "--verify", "--nodes", self.folder / "nodes", program=os.path.abspath(SQRUN), size=20_000), sqrun(path, "--verify"))
         left = [path for folder in (home, Path.home() / ".parallel") for path in folder.rglob("*") if path.name in ("shards", "reports", "0-head")]
         self.assertEqual(left, [])
+
+    def test_a_bar_where_somebody_looks(self):
+        path = self.folder / "a.pcap"
+        write(path, records(3, 600, 6), 101)
+        ours, theirs = pty.openpty()
+        with subprocess.Popen([TOOLS / "sqshard", "run", "--sqrun", SQRUN, "--shard-bytes", "9000", self.work, path], stdout=subprocess.DEVNULL, stderr=theirs):
+            os.close(theirs)
+            said = b""
+            try:
+                while more := os.read(ours, 1 << 16):
+                    said += more
+            except OSError:                 # nobody writes any more
+                pass
+        os.close(ours)
+        self.assertRegex(said, rb"\d+% \d+:\d+=")
+        self.assertIn(b"sqshard: serve: ", said)
 
     def test_other_tools_read_what_it_makes(self):
         """sqplot and sqpcap take the folder, its files, and one shard; more connections than one run has, too."""
