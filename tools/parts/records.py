@@ -194,7 +194,7 @@ def load():
     try:
         path = compiled()
         library = ctypes.CDLL(str(path)) if path else None
-    except OSError:
+    except (OSError, RuntimeError):         # no place to keep it
         return None
     if library:
         library.walk.restype = library.measure.restype = library.scatter.restype = c_uint64
