@@ -68,14 +68,9 @@ class Records:
 
     links, mixed = LINK_SIZE, False     # the link types that are taken, and whether one file may have several
 
-<<<<<<< HEAD
-    def __init__(self, path, data):
-        self.path, self.data, self.cut, self.link, self.at = path, data, False, 101, 0
-=======
     def __init__(self, path, data, quick=None):
         """`quick(at, order, ticks, time)` may take blocks of packets of a pcapng itself; it gives where it stopped, how many, and the last time."""
-        self.path, self.data, self.cut, self.link, self.quick = path, data, False, 101, quick
->>>>>>> 6e1d966a7a11e167717dce21eed62bd7b3e92eea
+        self.path, self.data, self.cut, self.link, self.quick, self.at = path, data, False, 101, quick, 0
         self.from_file = self.pcapng() if is_pcapng(data) else self.pcap()
 
     def __iter__(self):
