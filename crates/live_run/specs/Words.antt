@@ -35,20 +35,26 @@ secret_of text = option_map (λ bytes. record { 0 = bytes }) (hex_bytes 16 text)
 abbrev pub address_of : Text → Option Addr
 address_of text = option_map (λ bytes. record { 0 = big_number 4 bytes }) (hex_bytes 4 text)
 
--- ADDRESS BROADCAST PLACES IDLE BYTES, IDLE in seconds
-abbrev pub setting_by : Option Addr → Option Addr → Option ℕ → Option ℕ → Option ℕ → Option Setting
-setting_by address broadcast places idle bytes =
-    option_and_then (λ a. option_and_then (λ b. option_and_then (λ p. option_and_then (λ i. option_map (λ h.
-    record { address = a; broadcast = b; places = p; idle = i * 1000000; bytes = h }) bytes) idle) places) broadcast) address
+-- a length of text, below 2^16
+abbrev pub length_of : Text → Option ℕ
+length_of text = option_and_then (λ n. if nat_lt n (2 ^ 16) then Some n else None) (number text)
+
+-- ADDRESS BROADCAST PLACES IDLE BYTES SEGMENT, IDLE in seconds
+abbrev pub setting_by : Option Addr → Option Addr → Option ℕ → Option ℕ → Option ℕ → Option ℕ → Option Setting
+setting_by address broadcast places idle bytes segment =
+    option_and_then (λ a. option_and_then (λ b. option_and_then (λ p. option_and_then (λ i. option_and_then (λ h. option_map (λ t.
+    record { address = a; broadcast = b; places = p; idle = i * 1000000; bytes = h; segment = t }) segment) bytes) idle) places) broadcast) address
 
 abbrev pub setting_of : List Text → Option Setting
-setting_of (address ∷ broadcast ∷ places ∷ idle ∷ bytes ∷ []) = setting_by (address_of address) (address_of broadcast) (number places) (number idle) (number bytes)
+setting_of (address ∷ broadcast ∷ places ∷ idle ∷ bytes ∷ segment ∷ []) =
+    setting_by (address_of address) (address_of broadcast) (number places) (number idle) (number bytes) (length_of segment)
 setting_of [] = None
 setting_of (_ ∷ []) = None
 setting_of (_ ∷ _ ∷ []) = None
 setting_of (_ ∷ _ ∷ _ ∷ []) = None
 setting_of (_ ∷ _ ∷ _ ∷ _ ∷ []) = None
-setting_of (_ ∷ _ ∷ _ ∷ _ ∷ _ ∷ _ ∷ _) = None
+setting_of (_ ∷ _ ∷ _ ∷ _ ∷ _ ∷ []) = None
+setting_of (_ ∷ _ ∷ _ ∷ _ ∷ _ ∷ _ ∷ _ ∷ _) = None
 
 -- what the words behind the mode's ask for: SECRET and the setting's, and the setting's
 abbrev pub frames_asked : List Text → Option Words

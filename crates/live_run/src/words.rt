@@ -4,7 +4,7 @@ ghost use Rattle.std.specs.Prelude.{◌≡◌, ◌<◌, ◌^◌, map, option_map
 ghost use Rattle.std.specs.Char.{is_ascii_digit};
 ghost use Rattle.std.specs.List.{list_all};
 ghost use Rattle.std.specs.String.{string_bytes};
-ghost use Rattle.live_run.specs.Words.{address_of, asked, device_asked, frames_asked, hex_bytes, is_number, number, secret_of, setting_of};
+ghost use Rattle.live_run.specs.Words.{address_of, asked, device_asked, frames_asked, hex_bytes, is_number, length_of, number, secret_of, setting_of};
 
 use byteorder::{BigEndian, ByteOrder};
 use hex::decode_to_slice;
@@ -63,11 +63,11 @@ fn device_asked(words: &[String]) -> Option<Words>
 }
 
 /// The address that is answered for and the network's broadcast address, each as eight hexadecimal digits, how many connections are
-/// kept, after how many seconds one is idle, and how many bytes all may hold.
+/// kept, after how many seconds one is idle, how many bytes all may hold, and how many a segment that is sent.
 fn setting_of(words: &[String]) -> Option<Setting>
     ensures { result ≡ setting_of (map (λ s. string_bytes s) words.now) }
 {
-    let [address, broadcast, places, idle, bytes] = words else {
+    let [address, broadcast, places, idle, bytes, segment] = words else {
         return None;
     };
     Some(Setting {
@@ -76,6 +76,7 @@ fn setting_of(words: &[String]) -> Option<Setting>
         places: number(places.as_str())? as usize,
         idle: u64::from(number(idle.as_str())?) * 1_000_000,
         bytes: u64::from(number(bytes.as_str())?),
+        segment: length_of(segment.as_str())?,
     })
 }
 
@@ -96,6 +97,18 @@ fn address_of(word: &str) -> Option<Addr>
     match decode_to_slice(word, &mut bytes) {
         Ok(()) => Some(Addr(BigEndian::read_u32(&bytes))),
         Err(_) => None,
+    }
+}
+
+/// A number below 2^16.
+fn length_of(word: &str) -> Option<u16>
+    ensures { result ≡ length_of word.now }
+{
+    let value = number(word)?;
+    if value < 1 << 16 {
+        Some(value as u16)
+    } else {
+        None
     }
 }
 
