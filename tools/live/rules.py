@@ -85,4 +85,21 @@ def half_open(program):
         assert server.step(youngest) == [] and len(server.step(older)) == 1
 
 
-RULES = {function.__name__.replace("_", "-"): function for function in (addresses, challenges, blind, fresh, idle, half_open)}
+def memory(program):
+    """All connections hold at most so many bytes: text beyond is passed over with its FIN, and what is acknowledged makes room again."""
+    with Framed(program, memory=3000) as server:
+        holder, other = Client(server), Client(server, port=40001)
+        # behind a hole, so it is held: two of 1,000 bytes, and of the third nothing
+        for i in (1, 2, 3):
+            server.step(holder.segment(holder.seq + 1000 * i, holder.ack, ACK, text=bytes(1000)))
+        assert len(server.step(b"")) == 0
+        assert [s.text for s in other.send(b"x")] == []
+        other.seq -= 1
+        sent = server.step(holder.segment(holder.seq, 0, RST), b"")
+        assert sent == []
+        assert [s.text for s in other.send(b"x")] == [b"x"], "no room behind a reset"
+        other.ack += 1
+        assert server.step(other.segment(other.seq, other.ack, ACK)) == []
+
+
+RULES = {function.__name__.replace("_", "-"): function for function in (addresses, challenges, blind, fresh, idle, half_open, memory)}

@@ -99,3 +99,16 @@ module _ (there piece pending : List ℕ) (first here : ServerOf) (left : pendin
 
   pub piece_left : rest_of (pending ++ piece) ≡ rest_of (there ++ piece)
   piece_left = ap (λ l. rest_of (l ++ piece)) left ∙ sym (pieces_join_proof there piece).1
+
+-- a broken frame stays one, whatever comes behind it
+pub broken_stays : (r more : List ℕ) → 16 ≤ length r → is_broken r ≡ true → rest_of (r ++ more) ≡ r ++ more
+broken_stays r more head broken =
+    let size : body_size (r ++ more) ≡ body_size r = big_from-append 8 r more (omega (arith, head)) in
+    let time : time_of (r ++ more) ≡ time_of r =
+    ap (λ (l : List ℕ). body_size l) (drop-append-le 8 r more (omega (arith, head))) ∙ big_from-append 8 (drop 8 r) more (omega (arith, length-drop 8 r, head)) in
+    let still : is_broken (r ++ more) ≡ true = (λ j. nat_lt 65535 (size j) || nat_lt (2 ^ 62) (time j)) ∙ broken in
+    rest_last (r ++ more) ((λ j. nat_lt (length (r ++ more)) 16 || (still j || nat_lt (length (r ++ more)) (16 + body_size (r ++ more)))) ∙ or_true (nat_lt (length (r ++ more)) 16))
+  where
+    or_true : (b : Bool) → (b || true) ≡ true
+    or_true true = refl
+    or_true false = refl

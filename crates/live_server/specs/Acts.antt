@@ -14,7 +14,9 @@ use Rattle.tcb_machine.specs.BlockState.{Block, has, new_block, offered, sends_a
 use Rattle.tcb_machine.specs.Challenges.{is_challenged, is_syn_received}
 use Rattle.tcb_machine.specs.Limits.{most_streamed}
 use Rattle.tcb_machine.specs.States.{is_listen}
-use Rattle.tcb_machine.specs.Timers.{tcp_time}
+use Rattle.tcb_machine.specs.Timers.{retransmits, tcp_time}
+use Rattle.live_server.specs.Congestion.{calls_again, eased, no_congestion, seen, timed_out}
+use Rattle.live_server.specs.declared.congestion.Congestion.{Congestion}
 use Rattle.live_server.specs.Limits.{challenge_interval}
 use Rattle.live_server.specs.declared.acting.Datagram.{Datagram}
 use Rattle.live_server.specs.declared.conn.Conn.{Conn}
@@ -23,7 +25,7 @@ use Rattle.live_server.specs.declared.conn.Judged.TheVariants.{Challenged, Late,
 
 -- a connection that nothing is known of
 abbrev pub new_conn : ℕ → Conn
-new_conn now = record { tcb = new_block; heard = now; quiet_until = 0 }
+new_conn now = record { tcb = new_block; heard = now; quiet_until = 0; congestion = no_congestion }
 
 -- a connection is over, or half open
 abbrev pub is_over : Conn → Bool
@@ -68,9 +70,24 @@ judged now s text c =
     else if nat_lt now c.quiet_until then Unanswered
     else Challenged
 
+-- where something new is acknowledged, retransmissions count from 0 again: RFC 9293, 3.8.3 counts those of one segment
+unfoldable pub renewed : ℕ → Block → Block
+renewed una b = if b.una == una then b else record b { retransmissions = 0 }
+
+-- the first segment that isn't acknowledged is sent again
+unfoldable pub resent : Bool → Block → Block
+resent again b = if again && (not (is_listen b.state) && not (b.una == snd_nxt b)) then retransmits b.state b else b
+
+-- the block takes it, as the congestion window lets it
+unfoldable pub taken : Service → ℕ → ℕ → Seg → List ℕ → Conn → Conn
+taken service now iss s text c =
+    let x = eased s text c.tcb c.congestion in
+    let b = serves service (segment now iss (seen s c.tcb x) text ∷ []) c.tcb in
+    record c { tcb = resent (calls_again s text c.tcb c.congestion) (renewed c.tcb.una b); congestion = x; heard = now }
+
 -- the block takes it, or a challenge is sent in its place, or nothing happens
 unfoldable pub after : Judged → Service → ℕ → ℕ → Seg → List ℕ → Conn → Conn
-after Taken service now iss s text c = record c { tcb = serves service (segment now iss s text ∷ []) c.tcb; heard = now }
+after Taken service now iss s text c = taken service now iss s text c
 after Challenged service now iss s text c = record c { tcb = sends_ack c.tcb; heard = now; quiet_until = now + challenge_interval }
 after Unanswered service now iss s text c = c
 after Late service now iss s text c = c
@@ -82,8 +99,12 @@ receives service now iss s text c = after (judged now s text c) service now iss 
 unfoldable pub reaches : ℕ → Block → Block
 reaches now b = if nat_le b.clock now then tcp_time now b else b
 
+-- and the window falls where the retransmission timer fired
+unfoldable pub slowed : ℕ → Block → Congestion → Congestion
+slowed before b x = if nat_lt before b.retransmissions then timed_out b x else x
+
 abbrev pub reached : ℕ → Conn → Conn
-reached now c = record c { tcb = reaches now c.tcb }
+reached now c = record c { tcb = reaches now c.tcb; congestion = slowed c.tcb.retransmissions (reaches now c.tcb) c.congestion }
 
 -- what was sent leaves the block
 unfoldable pub emptied : Conn → Conn

@@ -1,6 +1,7 @@
 pub mod Limits
 pub mod Initial
 pub mod Addresses
+pub mod Congestion
 pub mod Acts
 pub mod Counting
 pub mod Table

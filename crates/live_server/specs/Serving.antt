@@ -1,5 +1,5 @@
 -- What a server makes of a datagram and of the time.
-use Rattle.std.specs.Prelude.{ℕ, ◌+◌, ◌-◌, ◌^◌, min, nat_le, nat_lt, ◌&&◌, not, bit_and, Bool, true, List, [], ◌∷◌, ◌++◌, length, if◌then◌else◌}
+use Rattle.std.specs.Prelude.{ℕ, ◌+◌, ◌-◌, ◌^◌, min, nat_le, nat_lt, ◌&&◌, not, bit_and, Bool, true, Some, unwrap_or, List, [], ◌∷◌, ◌++◌, length, if◌then◌else◌}
 use Rattle.std.specs.List.{flat_map}
 use Rattle.std.specs.Option.{option_map_or}
 use Rattle.echo_services.specs.Pump.{service_of}
@@ -10,6 +10,7 @@ use Rattle.segment_codec.specs.declared.packet.Packet.{Packet}
 use Rattle.segment_codec.specs.declared.packet.Packet.TheVariants as packet
 use Rattle.segment_codec.specs.declared.packet.Seg.{Seg}
 use Rattle.sq_base.specs.Ports.{is_served_port}
+use Rattle.tcb_machine.specs.Limits.{default_mss}
 use Rattle.sq_base.specs.declared.kinds.Link.TheVariants.{RawIp}
 use Rattle.sq_base.specs.declared.kinds.Tuple.{Tuple}
 use Rattle.live_server.specs.Acts.{datagram_of, emptied, is_half_open, is_over, judged, new_conn, reached, receives, sent_by}
@@ -153,11 +154,15 @@ refused now s = option_map_or (λ r. datagram_of (tuple_of s) r ∷ []) (refusal
 abbrev pub passes_over : ServerOf → Outcome
 passes_over sv = sends_nothing (record sv { counts = record sv.counts { passed_over = more 1 sv.counts.passed_over } })
 
+-- the text that is sent to a peer is no longer than the path takes (RFC 9293, 3.7.1)
+abbrev pub limited : ℕ → Seg → Seg
+limited most s = record s { mss = Some (min most (unwrap_or s.mss default_mss)) }
+
 -- a segment: for us, and to a service, or elsewhere
 unfoldable pub addressed : ℕ → Seg → List ℕ → ServerOf → Outcome
 addressed now s text sv =
     if not (is_for_us sv.setting s) then sends_nothing (record sv { counts = record sv.counts { astray = more 1 sv.counts.astray } })
-    else if is_served_port s.dst_port then on_segment now s text sv
+    else if is_served_port s.dst_port then on_segment now (limited sv.setting.segment s) text sv
     else record { server = record sv { counts = record sv.counts { refused = more 1 sv.counts.refused } }; sent = refused now s }
 
 unfoldable pub on_packet : ℕ → List ℕ → Packet → ServerOf → Outcome

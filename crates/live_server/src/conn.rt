@@ -1,13 +1,14 @@
 //! One connection: its block, and what the server keeps beside it.
 
 ghost use Rattle.std.specs.Prelude.{◌≡◌, ◌++◌, ◌≤◌, true, IfOk, OnOk};
-ghost use Rattle.live_server.specs.Acts.{after, emptied, has_room, is_half_open, is_idle, is_outside, is_over, judged, new_conn, oldest_ack, provokes, reached, receives, sent_by, takes};
+ghost use Rattle.live_server.specs.Acts.{after, emptied, has_room, is_half_open, is_idle, is_outside, is_over, judged, new_conn, oldest_ack, provokes, reached, receives, renewed, resent, sent_by, taken, takes};
 ghost use Rattle.echo_services.specs.Pump.{service_of};
-ghost use Rattle.live_server.specs.Acts.{reaches};
+ghost use Rattle.tcb_machine.specs.Room.{HasRoom};
 ghost use Rattle.sq_base.specs.Ports.{is_served_port};
 ghost use Rattle.tcb_machine.specs.Limits.{last_time};
 
 use crate::acting::{Datagram, encoded};
+use crate::congestion::Congestion;
 use echo_services::{Service, serve, tick};
 use segment_codec::{ACK, RST, SYN, Seg};
 use sq_base::{Tuple, seq_dist};
@@ -28,6 +29,7 @@ pub struct Conn {
     pub heard: u64,
     /// Before this time no challenge is sent.
     pub quiet_until: u64,
+    pub congestion: Congestion,
 }
 
 /// What becomes of a segment.
@@ -52,6 +54,7 @@ impl Conn {
             tcb: Tcb::make(alloc),
             heard: now,
             quiet_until: 0,
+            congestion: Congestion::fresh(),
         }
     }
 
@@ -107,10 +110,7 @@ impl Conn {
     {
         let judged = self.judged(now, seg, text);
         match judged {
-            Judged::Taken => {
-                serve(service, &mut self.tcb, alloc, now, iss, seg, text)?;
-                self.heard = now;
-            }
+            Judged::Taken => self.serve(alloc, service, now, iss, seg, text)?,
             Judged::Challenged => {
                 self.tcb.challenge(alloc)?;
                 self.heard = now;
@@ -121,14 +121,45 @@ impl Conn {
         Ok(judged)
     }
 
-    /// The time comes to the block.
-    #[tactic(auto, unfolding(crate::specs::Acts::reaches))]
+    /// The block takes a segment, as the congestion window lets it. After an error nothing more is promised.
+    #[tactic(auto, unfolding(crate::specs::Acts::taken))]
+    fn serve(
+        &mut self,
+        alloc: Global,
+        service: Service,
+        now: u64,
+        iss: u32,
+        seg: &Seg,
+        text: &[u8],
+    ) -> Result<(), AllocError>
+        requires clock { self.old.tcb.clock ≤ now }
+        requires time { now ≤ last_time }
+        requires room { HasRoom self.old.tcb }
+        ensures { OnOk result (self.new ≡ taken service now iss seg.now text.now self.old) }
+    {
+        let again = self.congestion.calls_again(&self.tcb, seg, text);
+        self.congestion.ease(&self.tcb, seg, text);
+        let seen = self.congestion.seen(&self.tcb, seg);
+        let una = self.tcb.snd_una();
+        serve(service, &mut self.tcb, alloc, now, iss, &seen, text)?;
+        renew(&mut self.tcb, una);
+        resend(&mut self.tcb, alloc, again)?;
+        self.heard = now;
+        Ok(())
+    }
+
+    /// The time comes to the block. After an error nothing more is promised.
+    #[tactic(auto, unfolding(crate::specs::Acts::reaches, crate::specs::Acts::slowed))]
     pub fn reach(&mut self, alloc: Global, now: u64) -> Result<(), AllocError>
         requires time { now ≤ last_time }
         ensures { OnOk result (self.new ≡ reached now self.old) }
     {
+        let before = self.tcb.retransmissions();
         if self.tcb.clock() <= now {
             tick(&mut self.tcb, alloc, now)?;
+        }
+        if before < self.tcb.retransmissions() {
+            self.congestion.time_out(&self.tcb);
         }
         Ok(())
     }
@@ -189,6 +220,27 @@ impl Conn {
         self.send(alloc, tuple, out)?;
         Ok(judged)
     }
+}
+
+/// Where something new was acknowledged, retransmissions count from 0 again.
+#[tactic(auto, unfolding(crate::specs::Acts::renewed))]
+fn renew(tcb: &mut Tcb, una: u32)
+    ensures { tcb.new ≡ renewed una tcb.old }
+{
+    if tcb.snd_una() != una {
+        tcb.forget_retransmissions();
+    }
+}
+
+/// The first segment that isn't acknowledged is sent again.
+#[tactic(auto, unfolding(crate::specs::Acts::resent))]
+fn resend(tcb: &mut Tcb, alloc: Global, again: bool) -> Result<(), AllocError>
+    ensures { OnOk result (tcb.new ≡ resent again tcb.old) }
+{
+    if again && !matches!(tcb.state(), State::Listen) && tcb.snd_una() != tcb.snd_nxt() {
+        tcb.resend(alloc)?;
+    }
+    Ok(())
 }
 
 /// Whether a block takes a segment at this time.

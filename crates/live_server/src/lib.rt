@@ -6,6 +6,7 @@
 
 mod acting;
 mod addresses;
+mod congestion;
 mod conn;
 mod counts;
 mod frames;
@@ -16,6 +17,7 @@ mod setting;
 mod table;
 
 pub use acting::Datagram;
+pub use congestion::Congestion;
 pub use conn::{Conn, Judged};
 pub use counts::Counts;
 pub use frames::{FRAME_HEAD, is_broken, serve_frames};

@@ -10,7 +10,7 @@ ghost use Rattle.sq_base.specs.declared.kinds.Tuple.{Tuple};
 ghost use Rattle.tcb_machine.specs.Limits.{last_time};
 ghost use Rattle.live_server.specs.Initial.{number_for};
 ghost use Rattle.live_server.specs.Isolation.{Costs, Loses, LosesOne};
-ghost use Rattle.live_server.specs.Serving.{addressed, comes, fits, goes_on, has_place, heeds, makes_place, on_datagram, on_segment, on_time, opens, refused, takes_place, time_to, without_text, yields};
+ghost use Rattle.live_server.specs.Serving.{addressed, comes, fits, goes_on, has_place, heeds, limited, makes_place, on_datagram, on_segment, on_time, opens, refused, takes_place, time_to, without_text, yields};
 ghost use Rattle.live_server.specs.Table.{place_of, IsNew};
 
 use crate::acting::{Datagram, encoded, text_of};
@@ -29,6 +29,9 @@ use sq_base::{Link, Tuple, is_served};
 use std::alloc::{AllocError, Global};
 use std::collections::VecDeque;
 use std::marker::Model;
+
+/// How long a text a peer takes that doesn't say (RFC 9293, 3.7.1).
+const DEFAULT_MSS: u16 = 536;
 
 /// The server's state: a bounded table of connections.
 ///
@@ -162,7 +165,7 @@ impl Server {
             self.counts.astray = self.counts.astray.wrapping_add(1);
             Ok(())
         } else if is_served(seg.dst_port) {
-            self.segment(alloc, now, seg, text, out)
+            self.segment(alloc, now, &limited(seg, self.setting.segment), text, out)
         } else {
             self.counts.refused = self.counts.refused.wrapping_add(1);
             refuse(alloc, now, seg, out)
@@ -398,6 +401,16 @@ fn number_for(secret: &Secret, now: u64, seg: &Seg, tuple: &Tuple) -> u32
         initial_number(secret, now, tuple)
     } else {
         0
+    }
+}
+
+/// A segment whose peer takes no longer text than the path does.
+fn limited(seg: &Seg, most: u16) -> Seg
+    ensures { result ≡ limited most seg.now }
+{
+    Seg {
+        mss: Some(seg.mss.unwrap_or(DEFAULT_MSS).min(most)),
+        ..*seg
     }
 }
 

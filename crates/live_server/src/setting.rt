@@ -15,4 +15,6 @@ pub struct Setting {
     pub idle: u64,
     /// How many bytes of text all connections may hold: what was received and not taken, and what is sent and not acknowledged.
     pub bytes: u64,
+    /// How many bytes of text a segment has at most that is sent.
+    pub segment: u16,
 }

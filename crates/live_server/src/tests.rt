@@ -15,6 +15,7 @@ const SETTING: Setting = Setting {
     places: 1,
     idle: 7_200_000_000,
     bytes: 1 << 28,
+    segment: 1460,
 };
 
 /// SYNs of 10.9.0.1, ports 40000 and 40001, to 10.9.0.2, port 7, with both sums.

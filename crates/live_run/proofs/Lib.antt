@@ -1,0 +1,5 @@
+pub mod ReadLemmas
+pub mod FrontLemmas
+pub mod PutLemmas
+pub mod EachLemmas
+pub mod NumberLemmas

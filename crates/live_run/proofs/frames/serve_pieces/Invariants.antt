@@ -1,0 +1,16 @@
+use Rattle.std.proofs.Common.{◌≡◌, ℕ, List}
+use Rattle.std.specs.Io.KnownBytes.{Appends, Consumes}
+use Rattle.live_server.specs.Frames.{answers, frames_in, rest_of, serves_frames}
+use Rattle.live_run.proofs.frames.serve_pieces.Given as goal
+
+-- what was read was served, but for what is left of it, and met no fault
+abbrev pub invariant-pieces : goal.invariant-pieces
+invariant-pieces g l = record {
+  there : List ℕ;
+  read : Consumes (g.S.Source.rest l.fn.source) (g.S.Source.rest l.source) there;
+  server : l.server ≡ (serves_frames (frames_in there) l.fn.server).server;
+  written : Appends (g.K.Sink.contents l.fn.sink) (g.K.Sink.contents l.sink) (answers there l.fn.server);
+  left : l.pending.items ≡ rest_of there;
+  read_well : g.S.Source.read_faults l.source ≡ g.S.Source.read_faults l.fn.source;
+  written_well : g.K.Sink.write_faults l.sink ≡ g.K.Sink.write_faults l.fn.sink;
+}

@@ -1,0 +1,4 @@
+pub mod Words
+pub mod Rounds
+pub mod Faults
+pub mod Fronts

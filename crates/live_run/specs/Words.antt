@@ -1,0 +1,76 @@
+-- The words of the command line, and what they ask for.
+use Rattle.std.specs.Prelude.{ℕ, ◌*◌, ◌&&◌, ◌^◌, nat_le, nat_lt, Bool, List, [], ◌∷◌, length, Option, Some, None, if◌then◌else◌, codes, option_map, option_and_then}
+use Rattle.std.specs.Char.{is_ascii_digit}
+use Rattle.std.specs.List.{list_all}
+use Rattle.std.specs.Result.{result_ok}
+use Rattle.std.specs.Str.{bytes_eq}
+use Rattle.std.specs.Str.Parse.{digits_value}
+use Rattle.byteorder.specs.Endian.{big_number}
+use Rattle.hex.specs.Hex.{decode_sized}
+use Rattle.live_server.specs.declared.initial.Secret.{Secret}
+use Rattle.live_server.specs.declared.setting.Setting.{Setting}
+use Rattle.sq_base.specs.declared.kinds.Addr.{Addr}
+use Rattle.live_run.specs.declared.words.Mode.{Mode}
+use Rattle.live_run.specs.declared.words.Mode.TheVariants.{Device, Frames}
+use Rattle.live_run.specs.declared.words.Words.{Words}
+
+abbrev pub Text : Type 0
+Text = List ℕ
+
+-- digits and nothing else
+abbrev pub is_number : Text → Bool
+is_number text = nat_le 1 (length text) && list_all is_ascii_digit text
+
+-- the number that they write, where it is below 2^32
+abbrev pub number : Text → Option ℕ
+number text = if is_number text && nat_lt (digits_value 10 text) (2 ^ 32) then Some (digits_value 10 text) else None
+
+-- so many bytes in hexadecimal digits
+abbrev pub hex_bytes : ℕ → Text → Option (List ℕ)
+hex_bytes n text = result_ok (decode_sized text n)
+
+abbrev pub secret_of : Text → Option Secret
+secret_of text = option_map (λ bytes. record { 0 = bytes }) (hex_bytes 16 text)
+
+abbrev pub address_of : Text → Option Addr
+address_of text = option_map (λ bytes. record { 0 = big_number 4 bytes }) (hex_bytes 4 text)
+
+-- a length of text, below 2^16
+abbrev pub length_of : Text → Option ℕ
+length_of text = option_and_then (λ n. if nat_lt n (2 ^ 16) then Some n else None) (number text)
+
+-- ADDRESS BROADCAST PLACES IDLE BYTES SEGMENT, IDLE in seconds
+abbrev pub setting_by : Option Addr → Option Addr → Option ℕ → Option ℕ → Option ℕ → Option ℕ → Option Setting
+setting_by address broadcast places idle bytes segment =
+    option_and_then (λ a. option_and_then (λ b. option_and_then (λ p. option_and_then (λ i. option_and_then (λ h. option_map (λ t.
+    record { address = a; broadcast = b; places = p; idle = i * 1000000; bytes = h; segment = t }) segment) bytes) idle) places) broadcast) address
+
+abbrev pub setting_of : List Text → Option Setting
+setting_of (address ∷ broadcast ∷ places ∷ idle ∷ bytes ∷ segment ∷ []) =
+    setting_by (address_of address) (address_of broadcast) (number places) (number idle) (number bytes) (length_of segment)
+setting_of [] = None
+setting_of (_ ∷ []) = None
+setting_of (_ ∷ _ ∷ []) = None
+setting_of (_ ∷ _ ∷ _ ∷ []) = None
+setting_of (_ ∷ _ ∷ _ ∷ _ ∷ []) = None
+setting_of (_ ∷ _ ∷ _ ∷ _ ∷ _ ∷ []) = None
+setting_of (_ ∷ _ ∷ _ ∷ _ ∷ _ ∷ _ ∷ _ ∷ _) = None
+
+-- what the words behind the mode's ask for: SECRET and the setting's, and the setting's
+abbrev pub frames_asked : List Text → Option Words
+frames_asked [] = None
+frames_asked (secret ∷ rest) = option_and_then (λ s. option_map (λ g. record { mode = Frames s; setting = g }) (setting_of rest)) (secret_of secret)
+
+abbrev pub device_asked : List Text → Option Words
+device_asked words = option_map (λ g. record { mode = Device; setting = g }) (setting_of words)
+
+-- what all words ask for, the mode's first
+abbrev pub asked_in : Text → List Text → Option Words
+asked_in mode rest =
+    if bytes_eq mode (codes "frames") then frames_asked rest
+    else if bytes_eq mode (codes "device") then device_asked rest
+    else None
+
+abbrev pub asked : List Text → Option Words
+asked [] = None
+asked (mode ∷ rest) = asked_in mode rest

@@ -1,0 +1,107 @@
+//! Standard input and output as a TUN device: each read is a datagram, and each write is one.
+
+ghost use Rattle.std.specs.Prelude.{◌≡◌, ◌<◌, ◌≤◌, ◌^◌, length, OnOk};
+ghost use Rattle.tcb_machine.specs.Limits.{last_time};
+ghost use Rattle.live_run.specs.Rounds.{round, ticked_by, AppendsEach};
+
+use crate::fault::Fault;
+use live_server::{Datagram, Server};
+use std::alloc::{AllocError, Global};
+use std::io;
+use std::io::{Read, Write};
+use std::time::{Duration, Instant};
+use tcb_machine::LAST_TIME;
+
+/// The most bytes of a datagram.
+const MOST: usize = 65_536;
+
+/// How often the time comes to every connection, in microseconds. Something has to be read for it: the launcher sends a datagram.
+const TICK: u64 = 20_000;
+
+/// Serves until nothing more can be read. Where memory is missing one connection is lost, and the others go on.
+pub fn serve(rt: &HostRuntime, server: Server) -> Result<(), Fault> {
+    let mut server = server;
+    let mut reader = rt.reader();
+    let mut writer = io::writer(rt);
+    let mut body = room(rt.alloc())?;
+    let mut sent = Vec::new(rt.alloc());
+    let start = moment(Instant::now(rt))?;
+    let mut ticked = 0u64;
+    for _ in 0..u64::MAX {
+        let Ok(read) = reader.read(&mut body[..]) else {
+            return Err(Fault::Reading);
+        };
+        if read == 0 {
+            break;
+        }
+        let now = micros(moment(start.elapsed(rt))?);
+        let (datagram, _) = body[..read].split_at(read.min(MOST));
+        let _ = round(
+            &mut server,
+            rt.alloc(),
+            now,
+            &mut ticked,
+            datagram,
+            &mut sent,
+        );
+        write_each(&mut writer, &sent);
+    }
+    Ok(())
+}
+
+/// Room for a datagram.
+fn room(alloc: Global) -> Result<Vec<u8>, Fault> {
+    match vec![in alloc; 0u8; MOST] {
+        Ok(body) => Ok(body),
+        Err(_) => Err(Fault::NoMemory),
+    }
+}
+
+/// What the clock says.
+fn moment<T: Drop>(said: io::Result<T>) -> Result<T, Fault> {
+    said.map_err(|_| Fault::Reading)
+}
+
+/// A time in microseconds.
+fn micros(since: Duration) -> u64
+    ensures { result ≤ last_time }
+{
+    since
+        .as_secs()
+        .saturating_mul(1_000_000)
+        .saturating_add(u64::from(since.subsec_micros()))
+        .min(LAST_TIME)
+}
+
+/// A datagram that was read: the time comes to every connection first, where that is due. What is sent takes the place of what
+/// was. An error says that memory was missing.
+fn round(
+    server: &mut Server,
+    alloc: Global,
+    now: u64,
+    ticked: &mut u64,
+    body: &[u8],
+    sent: &mut Vec<Datagram>,
+) -> Result<(), AllocError>
+    requires time { now ≤ last_time }
+    requires body { length body.now < 2 ^ 32 }
+    ensures server { OnOk result (server.new ≡ (round now ticked.old body.now server.old).server) }
+    ensures sent { OnOk result (sent.new.items ≡ (round now ticked.old body.now server.old).sent) }
+    ensures ticked { ticked.new ≡ ticked_by now ticked.old }
+{
+    sent.clear();
+    if now.saturating_sub(*ticked) >= TICK {
+        *ticked = now;
+        server.tick(alloc, now, sent)?;
+    }
+    server.datagram(alloc, now, body, sent)
+}
+
+/// Writes each datagram, by one write each. One that the device refuses is lost, as on any wire.
+fn write_each<W: Write>(writer: &mut W, sent: &[Datagram])
+    ensures { AppendsEach (W.contents writer.old) (W.contents writer.new) sent.now }
+{
+    for datagram in sent {
+        let _ = writer.write(datagram.bytes.as_slice());
+    }
+}

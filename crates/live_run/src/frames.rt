@@ -1,0 +1,131 @@
+//! Frames from a source and to a sink.
+
+ghost use Rattle.std.specs.Prelude.{◌≡◌, ◌≢◌, ◌++◌, ◌<◌, ◌≤◌, [], true, length, Err, IfSome, OnErr, OnOk};
+ghost use Rattle.std.specs.Io.KnownBytes.{Appends};
+ghost use Rattle.sq_base.specs.Ends.{Rose};
+ghost use Rattle.live_server.specs.Frames.{answers, frames_in, is_broken, rest_of, serves_frames};
+ghost use Rattle.live_server.specs.Limits.{frame_head};
+ghost use Rattle.live_run.specs.Fronts.{AppendsFront};
+
+use crate::fault::Fault;
+use live_server::{FRAME_HEAD, Server, is_broken, serve_frames};
+use sq_base::{Sink, Source, put};
+use std::alloc::Global;
+
+/// How many bytes are read at once.
+const PIECE: usize = 1 << 20;
+
+/// Serves the frames up to the end of the input, and writes what is sent after each read. What was answered before a fault is written,
+/// but for want of memory, where only what was answered to earlier reads may be.
+pub fn serve_frames_of<S: Source, K: Sink>(
+    alloc: Global,
+    server: Server,
+    source: &mut S,
+    sink: &mut K,
+) -> Result<(), Fault>
+    ensures written { OnOk result (IfSome (S.rest source.old) (λ input. Appends (K.contents sink.old) (K.contents sink.new) (answers input server))) }
+    ensures whole { OnOk result (IfSome (S.rest source.old) (λ input. rest_of input ≡ [])) }
+    ensures front { IfSome (S.rest source.old) (λ input. AppendsFront (K.contents sink.old) (K.contents sink.new) (answers input server)) }
+    ensures reading { result ≡ Err Fault.Reading → Rose (S.read_faults source.old) (S.read_faults source.new) }
+    ensures writing { result ≡ Err Fault.Writing → Rose (K.write_faults sink.old) (K.write_faults sink.new) }
+    ensures frames { result ≡ Err Fault.Frames → IfSome (S.rest source.old) (λ input. rest_of input ≢ []) }
+    ensures words { result ≢ Err Fault.Words }
+{
+    let Ok(mut piece) = vec![in alloc; 0u8; PIECE] else {
+        return Err(Fault::NoMemory);
+    };
+    serve_pieces(alloc, server, source, sink, &mut piece[..])
+}
+
+/// The same, by pieces of at most so many bytes.
+fn serve_pieces<S: Source, K: Sink>(
+    alloc: Global,
+    server: Server,
+    source: &mut S,
+    sink: &mut K,
+    piece: &mut [u8],
+) -> Result<(), Fault>
+    requires { 0 < length piece.old }
+    ensures written { OnOk result (IfSome (S.rest source.old) (λ input. Appends (K.contents sink.old) (K.contents sink.new) (answers input server))) }
+    ensures whole { OnOk result (IfSome (S.rest source.old) (λ input. rest_of input ≡ [])) }
+    ensures front { IfSome (S.rest source.old) (λ input. AppendsFront (K.contents sink.old) (K.contents sink.new) (answers input server)) }
+    ensures reading { result ≡ Err Fault.Reading → Rose (S.read_faults source.old) (S.read_faults source.new) }
+    ensures writing { result ≡ Err Fault.Writing → Rose (K.write_faults sink.old) (K.write_faults sink.new) }
+    ensures frames { result ≡ Err Fault.Frames → IfSome (S.rest source.old) (λ input. rest_of input ≢ []) }
+    ensures words { result ≢ Err Fault.Words }
+{
+    let mut server = server;
+    let mut pending = Vec::new(alloc);
+    'pieces: for _ in 0..u64::MAX {
+        let Ok(read) = source.read(piece) else {
+            return Err(Fault::Reading);
+        };
+        if read == 0 {
+            return end_of(pending.as_slice());
+        }
+        if let Err(fault) = serve_piece(&mut server, alloc, &mut pending, &piece[..read], sink) {
+            return Err(fault);
+        }
+    }
+    // No run makes so many reads.
+    Err(Fault::NoMemory)
+}
+
+/// Serves the whole frames of what was left and of a piece behind it, and writes what is sent.
+fn serve_piece<K: Sink>(
+    server: &mut Server,
+    alloc: Global,
+    pending: &mut Vec<u8>,
+    piece: &[u8],
+    sink: &mut K,
+) -> Result<(), Fault>
+    ensures server { OnOk result (server.new ≡ (serves_frames (frames_in (pending.old.items ++ piece.now)) server.old).server) }
+    ensures written { OnOk result (Appends (K.contents sink.old) (K.contents sink.new) (answers (pending.old.items ++ piece.now) server.old)) }
+    ensures left { OnOk result (pending.new.items ≡ rest_of (pending.old.items ++ piece.now)) }
+    ensures kept { OnOk result (K.write_faults sink.new ≡ K.write_faults sink.old) }
+    ensures front { OnErr result (AppendsFront (K.contents sink.old) (K.contents sink.new) (answers (pending.old.items ++ piece.now) server.old)) }
+    ensures writing { result ≡ Err Fault.Writing → Rose (K.write_faults sink.old) (K.write_faults sink.new) }
+    ensures frames { result ≡ Err Fault.Frames → (frame_head ≤ length (rest_of (pending.old.items ++ piece.now))) × (is_broken (rest_of (pending.old.items ++ piece.now)) ≡ true) }
+    ensures reading { result ≢ Err Fault.Reading }
+    ensures words { result ≢ Err Fault.Words }
+{
+    if pending.extend_from_slice(piece).is_err() {
+        return Err(Fault::NoMemory);
+    }
+    let mut out = Vec::new(alloc);
+    let Ok(rest) = serve_frames(server, alloc, pending.as_slice(), &mut out) else {
+        return Err(Fault::NoMemory);
+    };
+    let broken = begins_broken(rest);
+    let Ok(left) = Vec::from_slice(alloc, rest) else {
+        return Err(Fault::NoMemory);
+    };
+    if put(sink, out.as_slice()).is_err() {
+        return Err(Fault::Writing);
+    }
+    if broken {
+        return Err(Fault::Frames);
+    }
+    *pending = left;
+    Ok(())
+}
+
+/// Whether a broken frame begins here.
+fn begins_broken(rest: &[u8]) -> bool
+    ensures { result ≡ true → (frame_head ≤ length rest.now) × (is_broken rest.now ≡ true) }
+{
+    rest.len() >= FRAME_HEAD && is_broken(rest)
+}
+
+/// The end of the input, where so many bytes are left.
+fn end_of(pending: &[u8]) -> Result<(), Fault>
+    ensures ok { OnOk result (pending.now ≡ []) }
+    ensures err { OnErr result (pending.now ≢ []) }
+    ensures fault { (fault : Fault) → result ≡ Err fault → fault ≡ Fault.Frames }
+{
+    if pending.is_empty() {
+        Ok(())
+    } else {
+        Err(Fault::Frames)
+    }
+}

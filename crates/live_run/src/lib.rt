@@ -1,0 +1,23 @@
+//! The live server as a process: its words, a device or frames, and what it ends with.
+//!
+//!     sqlive frames SECRET SETTING     datagrams come in frames from standard input, and go in frames to standard output
+//!     sqlive device SETTING            standard input and output are a TUN device: a read is a datagram, and so is a write
+//!
+//! SECRET is 32 hexadecimal digits; for a device the program draws its own. SETTING is six words, ADDRESS BROADCAST PLACES IDLE BYTES SEGMENT:
+//! the address that is answered for and the network's broadcast address, in eight hexadecimal digits each; how many connections are
+//! kept at once; after how many seconds without a word one may leave a full table; how many bytes of text all may hold, and how many a segment that is sent. A frame is
+//! a length in eight bytes and a time in microseconds in eight, both big-endian, and so many bytes; one without bytes only carries the
+//! time.
+#![tactic(auto)]
+
+mod device;
+mod drawing;
+mod fault;
+mod frames;
+mod process;
+mod words;
+
+pub use fault::Fault;
+pub use frames::serve_frames_of;
+pub use process::run_process;
+pub use words::{Mode, Words, words_of};

@@ -1,0 +1,145 @@
+//! The words of the command line.
+
+ghost use Rattle.std.specs.Prelude.{◌≡◌, ◌<◌, ◌^◌, map, option_map, IfSome};
+ghost use Rattle.std.specs.Char.{is_ascii_digit};
+ghost use Rattle.std.specs.List.{list_all};
+ghost use Rattle.std.specs.String.{string_bytes};
+ghost use Rattle.live_run.specs.Words.{address_of, asked, device_asked, frames_asked, hex_bytes, is_number, length_of, number, secret_of, setting_of};
+
+use byteorder::{BigEndian, ByteOrder};
+use hex::decode_to_slice;
+use live_server::{Secret, Setting};
+use sq_base::Addr;
+
+/// Where datagrams come from and go to.
+#[derive(Clone, Copy)]
+pub enum Mode {
+    /// Frames, with the secret behind the initial sequence numbers.
+    Frames(Secret),
+    /// A device. Its secret is nobody's to give.
+    Device,
+}
+
+/// What is asked for.
+#[derive(Clone, Copy)]
+pub struct Words {
+    pub mode: Mode,
+    pub setting: Setting,
+}
+
+/// What the words behind the program's name ask for, where they do.
+pub fn words_of(words: &[String]) -> Option<Words>
+    ensures { result ≡ asked (map (λ s. string_bytes s) words.now) }
+{
+    let [mode, rest @ ..] = words else {
+        return None;
+    };
+    match mode.as_str() {
+        "frames" => frames_asked(rest),
+        "device" => device_asked(rest),
+        _ => None,
+    }
+}
+
+fn frames_asked(words: &[String]) -> Option<Words>
+    ensures { result ≡ frames_asked (map (λ s. string_bytes s) words.now) }
+{
+    let [secret, rest @ ..] = words else {
+        return None;
+    };
+    Some(Words {
+        mode: Mode::Frames(secret_of(secret.as_str())?),
+        setting: setting_of(rest)?,
+    })
+}
+
+fn device_asked(words: &[String]) -> Option<Words>
+    ensures { result ≡ device_asked (map (λ s. string_bytes s) words.now) }
+{
+    Some(Words {
+        mode: Mode::Device,
+        setting: setting_of(words)?,
+    })
+}
+
+/// The address that is answered for and the network's broadcast address, each as eight hexadecimal digits, how many connections are
+/// kept, after how many seconds one is idle, how many bytes all may hold, and how many a segment that is sent.
+fn setting_of(words: &[String]) -> Option<Setting>
+    ensures { result ≡ setting_of (map (λ s. string_bytes s) words.now) }
+{
+    let [address, broadcast, places, idle, bytes, segment] = words else {
+        return None;
+    };
+    Some(Setting {
+        address: address_of(address.as_str())?,
+        broadcast: address_of(broadcast.as_str())?,
+        places: number(places.as_str())? as usize,
+        idle: u64::from(number(idle.as_str())?) * 1_000_000,
+        bytes: u64::from(number(bytes.as_str())?),
+        segment: length_of(segment.as_str())?,
+    })
+}
+
+fn secret_of(word: &str) -> Option<Secret>
+    ensures { result ≡ secret_of word.now }
+{
+    let mut bytes = [0u8; 16];
+    match decode_to_slice(word, &mut bytes) {
+        Ok(()) => Some(Secret(bytes)),
+        Err(_) => None,
+    }
+}
+
+fn address_of(word: &str) -> Option<Addr>
+    ensures { result ≡ address_of word.now }
+{
+    let mut bytes = [0u8; 4];
+    match decode_to_slice(word, &mut bytes) {
+        Ok(()) => Some(Addr(BigEndian::read_u32(&bytes))),
+        Err(_) => None,
+    }
+}
+
+/// A number below 2^16.
+fn length_of(word: &str) -> Option<u16>
+    ensures { result ≡ length_of word.now }
+{
+    let value = number(word)?;
+    if value < 1 << 16 {
+        Some(value as u16)
+    } else {
+        None
+    }
+}
+
+/// A number without a sign, and nothing beside it.
+fn number(word: &str) -> Option<u32>
+    ensures { result ≡ number word.now }
+{
+    if !is_number(word) {
+        return None;
+    }
+    match word.parse::<u32>() {
+        Ok(value) => Some(value),
+        Err(_) => None,
+    }
+}
+
+fn is_number(word: &str) -> bool
+    ensures { result ≡ is_number word.now }
+{
+    !word.is_empty() && are_digits(word.as_bytes())
+}
+
+fn are_digits(bytes: &[u8]) -> bool
+    ensures { result ≡ list_all is_ascii_digit bytes.now }
+{
+    let mut rest = bytes;
+    while let [first, others @ ..] = rest {
+        if !first.is_ascii_digit() {
+            return false;
+        }
+        rest = others;
+    }
+    true
+}

@@ -1,0 +1,98 @@
+-- Slow start, congestion avoidance, fast retransmit and fast recovery beside a block (RFC 5681; RFC 6582).
+use Rattle.std.specs.Prelude.{ℕ, ◌+◌, ◌-◌, ◌*◌, ◌/◌, ◌^◌, ◌==◌, nat_le, nat_lt, min, max, ◌&&◌, ◌||◌, not, Bool, true, false, List, length, if◌then◌else◌}
+use Rattle.sq_base.specs.SerialOrder.{dist}
+use Rattle.segment_codec.specs.ControlBits.{ack, fin, rst, syn}
+use Rattle.segment_codec.specs.declared.packet.Seg.{Seg}
+use Rattle.tcb_machine.specs.BlockState.{Block, has, snd_nxt}
+use Rattle.tcb_machine.specs.Challenges.{is_syn_received}
+use Rattle.tcb_machine.specs.States.{is_listen}
+use Rattle.live_server.specs.declared.congestion.Congestion.{Congestion}
+
+-- cwnd at first (RFC 6928), and the most that it becomes: more than a block ever has sent and not acknowledged
+abbrev pub first_window : ℕ
+first_window = 14600
+
+abbrev pub most_window : ℕ
+most_window = 131072
+
+abbrev pub no_congestion : Congestion
+no_congestion = record { window = first_window; threshold = most_window; duplicates = 0; recovering = false; recover = 0; field = 0 }
+
+-- FlightSize, as bytes and as segments
+abbrev pub flight : Block → ℕ
+flight b = dist b.una (snd_nxt b)
+
+abbrev pub segments : Block → ℕ
+segments b = (flight b - 1) / b.mss + 1
+
+-- ssthresh after a loss (RFC 5681, 3.1, (4))
+abbrev pub halved : Block → ℕ
+halved b = max (flight b / 2) (2 * b.mss)
+
+-- how many duplicate acknowledgements tell a loss: two thirds of those that the flight can cause, so that reordered segments aren't
+-- taken for lost (RFC 4653), and one less than all where the flight is short (RFC 5827)
+abbrev pub tolerance : Block → ℕ
+tolerance b = if nat_lt (segments b) 4 then max 1 (segments b - 1) else max 3 (2 * segments b / 3)
+
+abbrev pub bounded : ℕ → ℕ
+bounded n = min most_window n
+
+-- n new bytes are acknowledged: slow start below ssthresh, else congestion avoidance (3.1, (2) and (3))
+unfoldable pub grown : ℕ → Block → Congestion → Congestion
+grown n b x = record x {
+  window = bounded (x.window + (if nat_lt x.window x.threshold then min n b.mss else max 1 (b.mss * b.mss / max 1 x.window)));
+  duplicates = 0;
+}
+
+-- or fast recovery goes on (RFC 6582, 3.2, 3: a partial acknowledgement), or ends
+abbrev pub reaches : ℕ → Congestion → Bool
+reaches n x = nat_lt (dist x.recover n) (2 ^ 31)
+
+unfoldable pub recovers : ℕ → Seg → Block → Congestion → Congestion
+recovers n s b x =
+    if reaches s.ack x then record x { window = x.threshold; duplicates = 0; recovering = false }
+    else record x { window = max (2 * b.mss) (bounded ((x.window - n) + b.mss)) }
+
+-- one duplicate more: fast recovery begins with the last one that is waited for (RFC 5681, 3.2, 2 to 4)
+unfoldable pub repeated : Block → Congestion → Congestion
+repeated b x =
+    if x.recovering then record x { window = bounded (x.window + b.mss) }
+    else if nat_lt (x.duplicates + 1) (tolerance b) then record x { duplicates = x.duplicates + 1 }
+    else record x { window = bounded (halved b + 3 * b.mss); threshold = halved b; duplicates = 0; recovering = true; recover = snd_nxt b }
+
+-- the retransmission timer fired: one segment, and recovery of all that was sent (RFC 5681, 3.1; RFC 6582, 4)
+unfoldable pub timed_out : Block → Congestion → Congestion
+timed_out b x = record x { window = b.mss; threshold = halved b; duplicates = 0; recovering = true; recover = snd_nxt b }
+
+-- behind the handshake: new bytes are acknowledged, or none, and the segment says nothing else (RFC 5681, 2)
+abbrev pub is_open : Block → Bool
+is_open b = not (is_listen b.state || is_syn_received b.state)
+
+unfoldable pub is_fresh : Seg → Block → Bool
+is_fresh s b = has s.flags ack && (is_open b && (nat_lt 0 (dist b.una s.ack) && nat_le (dist b.una s.ack) (flight b)))
+
+unfoldable pub is_duplicate : Seg → List ℕ → Block → Congestion → Bool
+is_duplicate s text b x =
+    if has s.flags syn || (has s.flags fin || has s.flags rst) then false
+    else has s.flags ack && (is_open b && ((s.ack == b.una) && (nat_lt 0 (flight b) && ((length text == 0) && (s.wnd == x.field)))))
+
+-- what a segment makes of it
+unfoldable pub eased : Seg → List ℕ → Block → Congestion → Congestion
+eased s text b x =
+    let y = if is_fresh s b then (if x.recovering then recovers (dist b.una s.ack) s b x else grown (dist b.una s.ack) b x)
+    else if is_duplicate s text b x then repeated b x
+    else x in
+    record y { field = s.wnd }
+
+-- whether the first segment that isn't acknowledged is to be sent again: as recovery begins, and at each partial acknowledgement
+unfoldable pub calls_again : Seg → List ℕ → Block → Congestion → Bool
+calls_again s text b x =
+    if is_fresh s b then x.recovering && not (reaches s.ack x)
+    else is_duplicate s text b x && (not x.recovering && not (nat_lt (x.duplicates + 1) (tolerance b)))
+
+-- the window field as the block is to see it: no more than cwnd, and never closed where it isn't
+unfoldable pub seen_window : Seg → Block → Congestion → ℕ
+seen_window s b x = if has s.flags syn || (s.wnd == 0) then s.wnd else max 1 (min s.wnd (x.window / 2 ^ b.snd_shift))
+
+abbrev pub seen : Seg → Block → Congestion → Seg
+seen s b x = record s { wnd = seen_window s b x }
