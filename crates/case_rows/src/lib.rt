@@ -33,4 +33,4 @@ pub use comparing::{expect_bytes, expect_lines, expect_number, expect_text};
 pub use fault::Fault;
 pub use reading::{Broken, Wrong, rows_of};
 pub use rows::{Field, Row, words_of};
-pub use running::{Cases, run_cases};
+pub use running::run_cases;

@@ -9,13 +9,6 @@ use std::process::ExitCode;
 use std::rt::Files;
 use std::{env, fs, io};
 
-/// What a program does with a row.
-pub trait Cases {
-    /// Does what the row says, and compares what came with what is wanted. A fault says what differs, or that the row has a field
-    /// that is none here ([`Row::expect_fields`]).
-    fn judge(&self, alloc: Global, row: &Row<'_>) -> Result<(), Fault>;
-}
-
 /// How many rows passed, and how many failed. A file that can't be read counts as a row that failed.
 #[derive(Clone, Copy, Drop)]
 struct Count {
@@ -23,18 +16,21 @@ struct Count {
     failed: u64,
 }
 
-/// Runs the rows of the files that the process' words name. Prints a line for each row that fails, and one with the count: `N rows passed, M failed`.
+/// Runs the rows of the files that the process' words name. `judge` does what a row says, and compares what came with what is wanted; its
+/// fault says what differs, or that the row has a field that is none there ([`Row::expect_fields`]). Prints a line for each row that fails, and one with the count: `N rows passed, M failed`.
 /// The status is 0 where none failed, else 1.
-pub fn run_cases<R: Env + Files + AllocGlobal + Print, C: Cases>(
-    rt: &R,
-    cases: &C,
-) -> io::Result<ExitCode> {
+pub fn run_cases<
+    R: Env + Files + AllocGlobal + Print,
+    J: Fn(Global, &Row<'_>) -> Result<(), Fault>,
+>(rt: &R, judge: &J) -> io::Result<ExitCode>
+    requires { J.IsAlwaysCallable judge.now }
+{
     let mut count = Count {
         passed: 0,
         failed: 0,
     };
     for file in env::args(rt)?.skip(1) {
-        run_file(rt, cases, file.as_str(), &mut count)?;
+        run_file(rt, judge, file.as_str(), &mut count)?;
     }
     let Count { passed, failed } = count;
     println!(rt; "{passed} rows passed, {failed} failed")?;
@@ -42,15 +38,17 @@ pub fn run_cases<R: Env + Files + AllocGlobal + Print, C: Cases>(
 }
 
 /// Runs the rows of a file.
-fn run_file<R: Files + AllocGlobal + Print, C: Cases>(
+fn run_file<R: Files + AllocGlobal + Print, J: Fn(Global, &Row<'_>) -> Result<(), Fault>>(
     rt: &R,
-    cases: &C,
+    judge: &J,
     file: &str,
     count: &mut Count,
-) -> io::Result<()> {
+) -> io::Result<()>
+    requires { J.IsAlwaysCallable judge.now }
+{
     let text = fs::read_to_string(rt, file)?;
     match rows_of(rt.alloc(), text.as_str()) {
-        Ok(rows) => run_rows(rt, cases, file, &rows, count),
+        Ok(rows) => run_rows(rt, judge, file, &rows, count),
         Err(Broken::NoMemory) => {
             count.failed = count.failed.saturating_add(1);
             println!(rt; "{file}: out of memory")
@@ -63,15 +61,17 @@ fn run_file<R: Files + AllocGlobal + Print, C: Cases>(
 }
 
 /// Runs these rows.
-fn run_rows<R: AllocGlobal + Print, C: Cases>(
+fn run_rows<R: AllocGlobal + Print, J: Fn(Global, &Row<'_>) -> Result<(), Fault>>(
     rt: &R,
-    cases: &C,
+    judge: &J,
     file: &str,
     rows: &[Row<'_>],
     count: &mut Count,
-) -> io::Result<()> {
+) -> io::Result<()>
+    requires { J.IsAlwaysCallable judge.now }
+{
     for row in rows {
-        match cases.judge(rt.alloc(), row) {
+        match judge(rt.alloc(), row) {
             Ok(()) => count.passed = count.passed.saturating_add(1),
             Err(fault) => {
                 count.failed = count.failed.saturating_add(1);

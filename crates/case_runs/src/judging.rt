@@ -1,9 +1,10 @@
 //! Does what a row says: one run, or several that differ in their words, in how much of the input there is, or in what fails.
 
 use crate::given::{Given, given_of};
-use crate::program::{Program, came_of};
+use crate::program::came_of;
 use crate::wanted::{expect, front};
 use case_rows::{Fault, Row, words_of};
+use sq_base::{MemSink, MemSource};
 use std::alloc::Global;
 
 /// The fields of a row.
@@ -36,7 +37,13 @@ const FIELDS: [&str; 22] = [
 const FORMS: [&str; 5] = ["each", "fronts", "each_read", "each_write", "out_bytes"];
 
 /// Runs what a row says, and compares. A fault says what differs, or that the row says two things at once.
-pub fn judge_run<P: Program>(program: &P, alloc: Global, row: &Row<'_>) -> Result<(), Fault> {
+pub fn judge_run<P: Fn(Global, &[String], &mut MemSource, &mut MemSink, &mut MemSink) -> u8>(
+    program: &P,
+    alloc: Global,
+    row: &Row<'_>,
+) -> Result<(), Fault>
+    requires { P.IsAlwaysCallable program.now }
+{
     row.expect_fields(alloc, &FIELDS)?;
     let mut given = given_of(alloc, row)?;
     match form_of(alloc, row)? {
@@ -83,12 +90,14 @@ fn in_run(alloc: Global, run: &str, judged: Result<(), Fault>) -> Result<(), Fau
 }
 
 /// A run with each line of words.
-fn each_words<P: Program>(
+fn each_words<P: Fn(Global, &[String], &mut MemSource, &mut MemSink, &mut MemSink) -> u8>(
     program: &P,
     alloc: Global,
     row: &Row<'_>,
     given: &mut Given,
-) -> Result<(), Fault> {
+) -> Result<(), Fault>
+    requires { P.IsAlwaysCallable program.now }
+{
     expect_some(alloc, row.lines("each").is_empty())?;
     for line in row.lines("each") {
         given.words = words_of(alloc, line)?;
@@ -99,12 +108,14 @@ fn each_words<P: Program>(
 }
 
 /// A run over each front.
-fn each_front<P: Program>(
+fn each_front<P: Fn(Global, &[String], &mut MemSource, &mut MemSink, &mut MemSink) -> u8>(
     program: &P,
     alloc: Global,
     row: &Row<'_>,
     given: &Given,
-) -> Result<(), Fault> {
+) -> Result<(), Fault>
+    requires { P.IsAlwaysCallable program.now }
+{
     let lengths = row.numbers(alloc, "fronts")?;
     let [first, end] = lengths.as_slice() else {
         return Err(Fault::Told(format!(in alloc; "fronts isn't two numbers")?));
@@ -119,12 +130,14 @@ fn each_front<P: Program>(
 }
 
 /// A run with each read failing.
-fn each_read<P: Program>(
+fn each_read<P: Fn(Global, &[String], &mut MemSource, &mut MemSink, &mut MemSink) -> u8>(
     program: &P,
     alloc: Global,
     row: &Row<'_>,
     given: &mut Given,
-) -> Result<(), Fault> {
+) -> Result<(), Fault>
+    requires { P.IsAlwaysCallable program.now }
+{
     let runs = row.number(alloc, "each_read", 0)?;
     expect_some(alloc, runs == 0)?;
     for call in 0..runs {
@@ -137,12 +150,14 @@ fn each_read<P: Program>(
 }
 
 /// A run with each write failing: what the writes before took was written.
-fn each_write<P: Program>(
+fn each_write<P: Fn(Global, &[String], &mut MemSource, &mut MemSink, &mut MemSink) -> u8>(
     program: &P,
     alloc: Global,
     row: &Row<'_>,
     given: &mut Given,
-) -> Result<(), Fault> {
+) -> Result<(), Fault>
+    requires { P.IsAlwaysCallable program.now }
+{
     let runs = row.number(alloc, "each_write", 0)?;
     expect_some(alloc, runs == 0)?;
     for call in 0..runs {

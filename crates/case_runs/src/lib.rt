@@ -27,4 +27,3 @@ mod program;
 mod wanted;
 
 pub use judging::judge_run;
-pub use program::Program;

@@ -5,19 +5,6 @@ use case_rows::Fault;
 use sq_base::{MemSink, MemSource};
 use std::alloc::Global;
 
-/// A program that reads words and an input, and writes an output and an error line.
-pub trait Program {
-    /// One run. The answer is the status that the process ends with.
-    fn run(
-        &self,
-        alloc: Global,
-        words: &[String],
-        src: &mut MemSource,
-        out: &mut MemSink,
-        err: &mut MemSink,
-    ) -> u8;
-}
-
 /// Room for what a run writes, and for what it tells.
 const ROOM: usize = 1_000_000;
 
@@ -31,16 +18,19 @@ pub struct Came {
     pub err: MemSink,
 }
 
-/// A run of a program over what is given.
-pub fn came_of<P: Program>(
+/// A run over what is given of a program: it reads words and an input, writes an output and an error line, and answers the status that
+/// its process ends with.
+pub fn came_of<P: Fn(Global, &[String], &mut MemSource, &mut MemSink, &mut MemSink) -> u8>(
     program: &P,
     alloc: Global,
     given: &Given,
     input: &[u8],
-) -> Result<Came, Fault> {
+) -> Result<Came, Fault>
+    requires { P.IsAlwaysCallable program.now }
+{
     let mut src = MemSource::make(alloc, input, given.reads.max(1), &given.failing_reads)?;
     let mut out = MemSink::make(alloc, ROOM, given.writes.max(1), &given.failing_writes)?;
     let mut err = MemSink::make(alloc, ROOM_TO_TELL, ROOM_TO_TELL, &given.failing_tellings)?;
-    let status = program.run(alloc, &given.words, &mut src, &mut out, &mut err);
+    let status = program(alloc, &given.words, &mut src, &mut out, &mut err);
     Ok(Came { status, out, err })
 }

@@ -14,7 +14,7 @@ mod streams;
 
 use capture_reader::{Capture, parse_capture};
 use captures::{tell_each_front, tell_parsed, tell_sources};
-use case_rows::{Cases, Fault, Row, bytes_of, expect_lines, run_cases};
+use case_rows::{Fault, Row, bytes_of, expect_lines, run_cases};
 use numbers::tell_numbers;
 use packets::{Form, tell_packets};
 use plans::tell_plans;
@@ -56,12 +56,6 @@ const FIELDS: [&str; 15] = [
     "tell",
     "out",
 ];
-
-/// The rows of what is read, with what a plan's threads come from.
-#[derive(Drop)]
-struct Inputs<'r, R> {
-    rt: &'r R,
-}
 
 /// The capture that bytes are.
 fn capture_of(alloc: Global, bytes: Vec<u8>) -> Result<Capture, Fault> {
@@ -136,15 +130,14 @@ fn told(
     told_file(rt, alloc, row, out)
 }
 
-impl<R: Threads + Sync> Cases for Inputs<'_, R> {
-    fn judge(&self, alloc: Global, row: &Row<'_>) -> Result<(), Fault> {
-        row.expect_fields(alloc, &FIELDS)?;
-        let mut out = String::new(alloc);
-        told(self.rt, alloc, row, &mut out)?;
-        expect_lines(alloc, "out", row.lines("out"), out.as_bytes())
-    }
+/// Does what a row says, and compares.
+fn judge(rt: &(impl Threads + Sync), alloc: Global, row: &Row<'_>) -> Result<(), Fault> {
+    row.expect_fields(alloc, &FIELDS)?;
+    let mut out = String::new(alloc);
+    told(rt, alloc, row, &mut out)?;
+    expect_lines(alloc, "out", row.lines("out"), out.as_bytes())
 }
 
 fn main(rt: HostRuntime) -> io::Result<ExitCode> {
-    run_cases(&rt, &Inputs { rt: &rt })
+    run_cases(&rt, &|alloc: Global, row: &Row<'_>| judge(&rt, alloc, row))
 }

@@ -9,6 +9,8 @@
 //! | `texts` | HEX | the bytes of a UDP datagram with this text |
 //! | `refused` | FLAGS SEQ ACK LENGTH | the reset that answers a segment with so long a text |
 
+ghost use Rattle.std.specs.Prelude.{◌≤◌, IfOk, length};
+
 use crate::ends::tell_end;
 use case_rows::Fault;
 use case_words::{Words, Wrong, add_bytes, add_flags, add_text, spelled, told_at};
@@ -56,7 +58,9 @@ fn link_of(word: &str) -> Result<Link, Wrong> {
 }
 
 /// Bytes that a line spells; none where it is empty.
-fn body_of(alloc: Global, line: &str) -> Result<Vec<u8>, Wrong> {
+fn body_of(alloc: Global, line: &str) -> Result<Vec<u8>, Wrong>
+    ensures { IfOk result (λ body. length body.items ≤ 1000000) }
+{
     let mut body = Vec::new(alloc);
     if !line.is_empty() {
         add_bytes(&mut body, alloc, line)?;

@@ -2,8 +2,8 @@
 //! say stands in `case_runs`. What is expected comes from an independent model.
 #![tactic(auto)]
 
-use case_rows::{Cases, Fault, Row, run_cases};
-use case_runs::{Program, judge_run};
+use case_rows::{Fault, Row, run_cases};
+use case_runs::judge_run;
 use datagram_services::more_run;
 use sq_base::{MemSink, MemSource};
 use std::alloc::Global;
@@ -12,31 +12,14 @@ use std::process::ExitCode;
 use std::sync::Wait;
 use std::thread::Threads;
 
-/// `sqmore`, on these threads.
-#[derive(Clone, Copy, Drop)]
-struct Sqmore<'a, R: Threads + Wait + Sync> {
-    rt: &'a R,
-}
-
-impl<R: Threads + Wait + Sync> Program for Sqmore<'_, R> {
-    fn run(
-        &self,
-        alloc: Global,
-        words: &[String],
-        src: &mut MemSource,
-        out: &mut MemSink,
-        err: &mut MemSink,
-    ) -> u8 {
-        more_run(self.rt, alloc, words, src, out, err).code()
-    }
-}
-
-impl<R: Threads + Wait + Sync> Cases for Sqmore<'_, R> {
-    fn judge(&self, alloc: Global, row: &Row<'_>) -> Result<(), Fault> {
-        judge_run(self, alloc, row)
-    }
+/// Runs `sqmore` on these threads as the row says.
+fn judge(rt: &(impl Threads + Wait + Sync), alloc: Global, row: &Row<'_>) -> Result<(), Fault> {
+    let program = |alloc: Global, words: &[String], src: &mut MemSource, out: &mut MemSink, err: &mut MemSink| {
+        more_run(rt, alloc, words, src, out, err).code()
+    };
+    judge_run(&program, alloc, row)
 }
 
 fn main(rt: HostRuntime) -> io::Result<ExitCode> {
-    run_cases(&rt, &Sqmore { rt: &rt })
+    run_cases(&rt, &|alloc: Global, row: &Row<'_>| judge(&rt, alloc, row))
 }

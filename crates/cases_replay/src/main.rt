@@ -2,8 +2,8 @@
 //! stands in `case_runs`. What is expected comes from an independent model.
 #![tactic(auto)]
 
-use case_rows::{Cases, Fault, Row, run_cases};
-use case_runs::{Program, judge_run};
+use case_rows::{Fault, Row, run_cases};
+use case_runs::judge_run;
 use sq_base::{MemSink, MemSource};
 use std::alloc::Global;
 use std::io;
@@ -11,31 +11,14 @@ use std::process::ExitCode;
 use std::thread::Threads;
 use trace_replay::replay_run;
 
-/// `sqreplay`, on these threads.
-#[derive(Clone, Copy, Drop)]
-struct Sqreplay<'a, R: Threads + Sync> {
-    rt: &'a R,
-}
-
-impl<R: Threads + Sync> Program for Sqreplay<'_, R> {
-    fn run(
-        &self,
-        alloc: Global,
-        words: &[String],
-        src: &mut MemSource,
-        out: &mut MemSink,
-        err: &mut MemSink,
-    ) -> u8 {
-        replay_run(self.rt, alloc, words, src, out, err).code()
-    }
-}
-
-impl<R: Threads + Sync> Cases for Sqreplay<'_, R> {
-    fn judge(&self, alloc: Global, row: &Row<'_>) -> Result<(), Fault> {
-        judge_run(self, alloc, row)
-    }
+/// Runs `sqreplay` on these threads as the row says.
+fn judge(rt: &(impl Threads + Sync), alloc: Global, row: &Row<'_>) -> Result<(), Fault> {
+    let program = |alloc: Global, words: &[String], src: &mut MemSource, out: &mut MemSink, err: &mut MemSink| {
+        replay_run(rt, alloc, words, src, out, err).code()
+    };
+    judge_run(&program, alloc, row)
 }
 
 fn main(rt: HostRuntime) -> io::Result<ExitCode> {
-    run_cases(&rt, &Sqreplay { rt: &rt })
+    run_cases(&rt, &|alloc: Global, row: &Row<'_>| judge(&rt, alloc, row))
 }

@@ -11,7 +11,7 @@ mod queue;
 mod served;
 mod telling;
 
-use case_rows::{Cases, Fault, Row, expect_lines, run_cases};
+use case_rows::{Fault, Row, expect_lines, run_cases};
 use exchange::tell_exchange;
 use queue::tell_queue;
 use std::alloc::Global;
@@ -20,10 +20,6 @@ use std::process::ExitCode;
 
 /// All fields of a row.
 const FIELDS: [&str; 5] = ["port", "given", "queue", "calls", "out"];
-
-/// The rows of TCP.
-#[derive(Drop)]
-struct Connections;
 
 /// Tells what a row gives.
 fn told(alloc: Global, row: &Row<'_>, out: &mut String) -> Result<(), Fault> {
@@ -34,15 +30,14 @@ fn told(alloc: Global, row: &Row<'_>, out: &mut String) -> Result<(), Fault> {
     tell_queue(alloc, capacity.min(65_535) as u32, row.lines("calls"), out)
 }
 
-impl Cases for Connections {
-    fn judge(&self, alloc: Global, row: &Row<'_>) -> Result<(), Fault> {
-        row.expect_fields(alloc, &FIELDS)?;
-        let mut out = String::new(alloc);
-        told(alloc, row, &mut out)?;
-        expect_lines(alloc, "out", row.lines("out"), out.as_bytes())
-    }
+/// Does what a row says, and compares.
+fn judge(alloc: Global, row: &Row<'_>) -> Result<(), Fault> {
+    row.expect_fields(alloc, &FIELDS)?;
+    let mut out = String::new(alloc);
+    told(alloc, row, &mut out)?;
+    expect_lines(alloc, "out", row.lines("out"), out.as_bytes())
 }
 
 fn main(rt: HostRuntime) -> io::Result<ExitCode> {
-    run_cases(&rt, &Connections)
+    run_cases(&rt, &judge)
 }
