@@ -247,12 +247,11 @@ def dedented(text):
     return "\n".join([lines[0], *("    " + line[least:] for line in lines[1:])])
 
 
-def head_code(site, item, own, ident=""):
-    """A signature, its types linked."""
+def rust_code(site, item, text, ident=""):
+    """Code outside contracts, its types linked."""
     def near(word):
         return site.library.rust(item, word) or cited.Meaning("", "", "")
-    parts = cited.pieces(item.signature, {}, site.library, own, near)
-    return linked(site, parts, 0, item.where, ident)
+    return linked(site, cited.pieces(text, {}, site.library, (), near), 0, item.where, ident)
 
 
 def silent(site, item, name):
@@ -275,7 +274,7 @@ def function(site, item, ident, level, around, crate):
     site.index.append([name, "function", crate, f"{crate}.html#{ident}", words])
     about = context(site, item, *around)
     return (f'<section class=fn id="{ident}"><h{level}><a class=own href="#{ident}">{escape(item.name)}</a></h{level}>'
-            f'<pre class=head tabindex=0>{head_code(site, item, own_names(item, *around), ident)}</pre>{prose(item.doc, link_of(site, item, crate))}'
+            f'<pre class=head tabindex=0>{rust_code(site, item, item.signature, ident)}</pre>{prose(item.doc, link_of(site, item, crate))}'
             f'{clause_list(site, item, about, ident)}<p class=source>{escape(item.where)}</p></section>')
 
 
@@ -301,14 +300,13 @@ def field_rows(site, item):
     for part in item.fields:
         if not (part.public or part.ghost):
             continue
-        own = own_names(item)
         shown = part.text
         if part.ghost:
             text = shown.strip().removeprefix("{").removesuffix("}").strip()
             about = context(site, item)
             body = linked(site, cited.pieces(text, item.scope, site.library, about.own, about.near, about.member), 0, f"{item.where}: {item.name}, ghost {part.name}")
         else:
-            body = linked(site, cited.pieces(shown, {}, site.library, own, lambda word: site.library.rust(item, word) or cited.Meaning("", "", "")), 0, item.where)
+            body = rust_code(site, item, shown)
         label = "<span>ghost</span> " if part.ghost else ""
         name = "" if item.kind == "enum" else escape(part.name)
         rows.append(f"<dt{' class=ghost' if part.ghost else ''}>{label}{name}<dd><pre>{body}</pre>{prose(part.doc, link_of(site, item, item.crate))}")
@@ -330,7 +328,7 @@ def entry(site, item, path, blocks, crate):
     silent(site, item, f"{crate}::{path}")
     site.index.append([path, KIND_WORDS[item.kind], crate, f"{crate}.html#{ident}", first_sentence(item.doc)])
     parts = [f'<section class=item id="{ident}"><h3><span class=kind>{KIND_WORDS[item.kind]}</span> <a class=own href="#{ident}">{escape(path)}</a></h3>',
-             f"<pre class=head tabindex=0>{head_code(site, item, own_names(item), ident)}</pre>", prose(item.doc, link_of(site, item, crate)), field_rows(site, item)]
+             f"<pre class=head tabindex=0>{rust_code(site, item, item.signature, ident)}</pre>", prose(item.doc, link_of(site, item, crate)), field_rows(site, item)]
     if item.kind == "trait":
         assigned = [member.signature.rstrip(";") for member in item.members if member.kind == "type"]
         if assigned:
