@@ -274,7 +274,7 @@ def function(site, item, ident, level, around, crate):
     site.index.append([name, "function", crate, f"{crate}.html#{ident}", words])
     about = context(site, item, *around)
     return (f'<section class=fn id="{ident}"><h{level}><a class=own href="#{ident}">{escape(item.name)}</a></h{level}>'
-            f'<pre class=head tabindex=0>{rust_code(site, item, item.signature, ident)}</pre>{prose(item.doc, link_of(site, item, crate))}'
+            f'<pre class=head>{rust_code(site, item, item.signature, ident)}</pre>{prose(item.doc, link_of(site, item, crate))}'
             f'{clause_list(site, item, about, ident)}<p class=source>{escape(item.where)}</p></section>')
 
 
@@ -328,7 +328,7 @@ def entry(site, item, path, blocks, crate):
     silent(site, item, f"{crate}::{path}")
     site.index.append([path, KIND_WORDS[item.kind], crate, f"{crate}.html#{ident}", first_sentence(item.doc)])
     parts = [f'<section class=item id="{ident}"><h3><span class=kind>{KIND_WORDS[item.kind]}</span> <a class=own href="#{ident}">{escape(path)}</a></h3>',
-             f"<pre class=head tabindex=0>{rust_code(site, item, item.signature, ident)}</pre>", prose(item.doc, link_of(site, item, crate)), field_rows(site, item)]
+             f"<pre class=head>{rust_code(site, item, item.signature, ident)}</pre>", prose(item.doc, link_of(site, item, crate)), field_rows(site, item)]
     if item.kind == "trait":
         assigned = [member.signature.rstrip(";") for member in item.members if member.kind == "type"]
         if assigned:
@@ -348,7 +348,7 @@ def entry(site, item, path, blocks, crate):
             name = f'<a href="{of.page}#{of.id}">{code(block.trait)}</a>' if of and of.page and has_page(site, of.page) else code(block.trait)
             seen.append(name)
             ghosts = ghost_rows(site, block, ())
-            parts.append(f"<details><summary>As {escape(block.trait)}</summary><pre class=head tabindex=0>{escape(block.signature)}</pre>{ghosts}</details>" if ghosts else "")
+            parts.append(f"<details><summary>As {escape(block.trait)}</summary><pre class=head>{escape(block.signature)}</pre>{ghosts}</details>" if ghosts else "")
         else:
             listed += [member for member in block.members if member.kind == "fn" and member.public]
             functions += [function(site, member, f"{ident}.{member.name}", 4, (block,), crate) for member in block.members if member.kind == "fn" and member.public]
@@ -431,7 +431,7 @@ def private_entry(site, item, blocks):
     ident = f"{item.module}.{item.name}".lstrip(".")
     see = "".join(f"<p class=label>What contracts see</p>{ghost_rows(site, block, ())}" for block in blocks if block.trait == "Model")
     shown = "".join(f"<dt>{'' if item.kind == 'enum' else escape(part.name)}<dd><pre>{escape(part.text)}</pre>" for part in item.fields)
-    return (f'<section class=item id="{ident}"><h3><span class=kind>{KIND_WORDS[item.kind]}</span> {escape(item.name)}</h3><pre class=head tabindex=0>{escape(item.signature)}</pre>'
+    return (f'<section class=item id="{ident}"><h3><span class=kind>{KIND_WORDS[item.kind]}</span> {escape(item.name)}</h3><pre class=head>{escape(item.signature)}</pre>'
             f'{prose(item.doc, link_of(site, item, item.crate))}<dl class="clauses">{shown}</dl>{see}<p class=source>{escape(item.where)}</p></section>')
 
 
@@ -450,7 +450,7 @@ def definition_page(site, name):
             text = "\n".join(line for line in lines if not line.startswith("--"))
             words = f"<p>{escape(' '.join(said))}</p>" if said else ""
             shown = linked_definition(site, text, file, f"definitions/{name}.html", f"{short}.{word}")
-            parts.append(f'<div class=definition id="{short}.{escape(word)}" tabindex=-1>{words}<pre tabindex=0>{shown}</pre></div>')
+            parts.append(f'<div class=definition id="{short}.{escape(word)}" tabindex=-1>{words}<pre>{shown}</pre></div>')
             site.index.append([word, "definition", name, f"definitions/{name}.html#{short}.{word}", " ".join(said)[:160]])
         parts.append(f"<p class=source>{file.path.relative_to(TOP)}</p></section>")
     if parts:
