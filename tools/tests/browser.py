@@ -29,6 +29,8 @@ class Browser:
         self.session = self.call("Target.attachToTarget", targetId=target["targetId"], flatten=True)["sessionId"]
         for domain in ("Page", "Runtime", "Log", "Network"):
             self.call(domain + ".enable")
+        self.size = {"width": width, "height": height}
+        self.phone(False)
 
     def call(self, method, **params):
         self.count += 1
@@ -102,7 +104,8 @@ class Browser:
         if on:
             self.call("Emulation.setDeviceMetricsOverride", width=390, height=760, deviceScaleFactor=2, mobile=True)
         else:
-            self.call("Emulation.clearDeviceMetricsOverride")
+            # What the page has: of a whole chromium's window a part is its own.
+            self.call("Emulation.setDeviceMetricsOverride", **self.size, deviceScaleFactor=1, mobile=False)
         self.call("Emulation.setTouchEmulationEnabled", enabled=on)
 
     def settle(self):

@@ -18,6 +18,8 @@ class Page(unittest.TestCase):
         (self.top / "docs").mkdir()
         (self.top / "tools").mkdir()
         shutil.copy2(TOOLS / "reading", self.top / "tools")
+        (self.top / "tools" / "parts").mkdir()
+        shutil.copy2(TOOLS / "parts" / "definitions.py", self.top / "tools" / "parts")
         for part in TOP.glob("crates/*/s[pr]*c*"):
             shutil.copytree(part, self.top / part.relative_to(TOP))
         output([self.top / "tools" / "reading"])
