@@ -17,6 +17,8 @@ SECTION = b"\x0a\x0d\x0d\x0a"
 BLOCK_ORDERS = {b"\x1a\x2b\x3c\x4d": ">", b"\x4d\x3c\x2b\x1a": "<"}
 INTERFACE, SIMPLE_PACKET, PACKET = 1, 3, 6
 LEAST = {INTERFACE: 20, SIMPLE_PACKET: 16, PACKET: 32}
+PACKET_KINDS = (b"\6\0\0\0", b"\0\0\0\6")
+QUICK_INTERFACES = 64
 LAST_TIME = 2 ** 53                 # pcapng's times are at most this
 
 
@@ -66,8 +68,9 @@ class Records:
 
     links, mixed = LINK_SIZE, False     # the link types that are taken, and whether one file may have several
 
-    def __init__(self, path, data):
-        self.path, self.data, self.cut, self.link, self.at = path, data, False, 101, 0
+    def __init__(self, path, data, quick=None):
+        """`quick(at, order, ticks, time)` may take blocks of packets of a pcapng itself; it gives where it stopped, how many, and the last time."""
+        self.path, self.data, self.cut, self.link, self.quick, self.at = path, data, False, 101, quick, 0
         self.from_file = self.pcapng() if is_pcapng(data) else self.pcap()
 
     def __iter__(self):
@@ -95,6 +98,11 @@ class Records:
         at, index, order = 0, 0, "<"
         interfaces, first, time = [], None, 0
         while at < len(self.data):
+            if self.quick and 0 < len(interfaces) <= QUICK_INTERFACES and self.data[at:at + 4] in PACKET_KINDS:
+                at, taken, time = self.quick(at, order, [ticks for _, ticks in interfaces], time)
+                index += taken
+                if at == len(self.data):
+                    return
             order, kind, length = self.block(at, index, order)
             if length == 0:
                 self.cut = True

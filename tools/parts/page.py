@@ -119,7 +119,7 @@ def connection(c, report, whole, reasons, few):
             + f'<noscript>{figures(c, conn, served, report, whole, lives, few)}</noscript></section>')
 
 
-COLUMNS = (("#", 1), ("client", 0), ("server", 0), ("service", 0), ("begins", 0), ("ms", 1), ("segments", 1), ("replies", 1), ("bytes sent", 1), ("again", 1),
+COLUMNS = (("#", 1), ("client", 0), ("server", 0), ("service", 0), ("begins", 0), ("ms", 1), ("segments", 1), ("replies", 1), ("bytes", 1), ("again", 1),
            ("to be seen", 0), ("end", 0))
 
 
@@ -139,7 +139,7 @@ def table(whole, report, drawn, interests):
     plain = "".join("<tr>" + "".join(f'<td{" class=n" * numeric}>' + (f'<a href="#conn{value}">{value}</a>' if name == "#" and value in has else escape(
         f"{value:,}" if isinstance(value, int) and name != "#" else str(value))) for (name, numeric), value in zip(COLUMNS, one)) for one in rows[:PLAIN_MOST])
     return ('<div class="list" hidden><form role="search"><label>Filter <input type="search" placeholder="address, state, again .."></label>'
-            '<span class="count quiet" aria-live="polite"></span></form>'
+            '<span class="count quiet" aria-live="polite"></span><span class="quiet">A column\'s name sorts.</span></form>'
             f'<div class="rows"><table><thead><tr>{buttons}</thead><tbody></tbody></table></div><button type="button" class="more">more</button>'
             + data({"columns": COLUMNS, "rows": rows, "drawn": sorted(has)}) + f'</div><noscript><div class="rows"><table><tr>{head}{plain}</table></div></noscript>')
 

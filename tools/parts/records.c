@@ -15,6 +15,8 @@ enum { SERVED, NOFIT, SERVER, OTHER, FRAGMENT, CUT, MALFORMED, BADSUM, KINDS };
 enum { ETHERNET = 1, RAW = 101, COOKED = 113 };
 enum { FIN = 1, SYN = 2 };
 enum { HEAD = 16, MOST_BODY = 262144, LEAST_WEIGHT = 64 };
+enum { BLOCK = 32, PACKET = 6 };    /* of pcapng: the least length of an enhanced packet block, and its kind */
+#define LAST_TIME (1ull << 53)
 enum { SECOND = 1000000, GAP = 100000, MOST_AGAIN = 64, LONGEST_WAIT = 60, MOST_TEXT = 1460, USUAL_TEXT = 536, LINE = 108 };
 
 struct form { u32 swapped, unit, link, verify; };
@@ -272,6 +274,51 @@ u64 walk(const u8 *data, u64 at, u64 end, u64 wanted, const struct form *f, u64 
     return at;
 }
 
+static void put(u8 *p, u32 n)
+{
+    p[0] = (u8)n, p[1] = (u8)(n >> 8), p[2] = (u8)(n >> 16), p[3] = (u8)(n >> 24);
+}
+
+/* Packets of a pcapng on their way into a pcap's records. */
+struct packets {
+    u64 at, end;                /* where the next block stands, and where the file ends */
+    u64 made, room;             /* bytes of records that were made, and that there is room for */
+    u64 count, last;            /* packets so far, and the last one's time in microseconds */
+    u32 swapped, interfaces;
+    const u64 *ticks;           /* by interface, in a second */
+};
+
+/* Takes enhanced packet blocks one after another, until there is something else, or room is short. Whatever isn't plainly right is left. */
+void take_packets(const u8 *data, struct packets *p, u8 *out)
+{
+    struct form f = {p->swapped, 1, 0, 0};
+    for (; p->end - p->at >= BLOCK; p->count++) {
+        const u8 *block = data + p->at;
+        u64 length = field(&f, block + 4), size = field(&f, block + 20), seconds;
+        unsigned __int128 time;
+        u32 interface = field(&f, block + 8);
+        u8 *to = out + p->made;
+        if (field(&f, block) != PACKET || length % 4 || length < BLOCK || length > p->end - p->at || field(&f, block + length - 4) != length)
+            return;
+        if (interface >= p->interfaces || size > MOST_BODY || ((size + 3) & ~(u64)3) > length - BLOCK || p->room - p->made < HEAD + size)
+            return;
+        time = (unsigned __int128)((u64)field(&f, block + 12) << 32 | field(&f, block + 16)) * SECOND / p->ticks[interface];
+        if (time >= LAST_TIME)
+            return;
+        seconds = least((u64)time / SECOND, 0xffffffff);
+        if ((u64)time - seconds * SECOND > 0xffffffff)
+            return;
+        p->last = (u64)time;
+        put(to, (u32)seconds);
+        put(to + 4, (u32)((u64)time - seconds * SECOND));
+        put(to + 8, (u32)size);
+        put(to + 12, (u32)size);
+        memcpy(to + HEAD, block + 28, size);
+        p->made += HEAD + size;
+        p->at += length;
+    }
+}
+
 /* How records go to shards: a connection's to its shard; those of no connection fill shards of their own by weight. */
 struct dealing {
     const u32 *shards;      /* by connection */
@@ -309,11 +356,6 @@ u64 measure(const u8 *data, u64 at, const struct form *f, const int32_t *owners,
         at += size;
     }
     return n;
-}
-
-static void put(u8 *p, u32 n)
-{
-    p[0] = (u8)n, p[1] = (u8)(n >> 8), p[2] = (u8)(n >> 16), p[3] = (u8)(n >> 24);
 }
 
 /* Copies records that were measured, each behind the others of its shard: places[s] is where the next of shard s goes. Returns where the

@@ -13,7 +13,7 @@ from array import array
 from ctypes import Structure, byref, c_uint8, c_uint32, c_uint64, c_void_p
 from itertools import accumulate
 from pathlib import Path
-from struct import Struct, unpack_from
+from struct import Struct
 
 from files import MOST_BODY, Refused
 from packets import KINDS, SERVED, classify
@@ -22,6 +22,7 @@ SOURCE = Path(__file__).resolve().parent / "records.c"
 RECORD = Struct("<IIII")
 CONNECTION = Struct("<12sHHQQQQQ")      # struct connection of records.c
 LEAST_WEIGHT = 64                       # so a shard of records that are served nowhere has at most 2^20 - 1 of them
+PACKETS_ROOM = 16 << 20
 GAP = 100_000                           # microseconds, after which a connection is told the time
 MOST_AGAIN, LONGEST_WAIT, MOST_TEXT, USUAL_TEXT, LINE = 64, 60, 1460, 536, 108
 FIN, SYN = 1, 2
@@ -158,6 +159,10 @@ class Seen(Structure):
         ("conn", c_void_p), ("places", c_void_p), ("owners", c_void_p)]
 
 
+class Packets(Structure):
+    _fields_ = [(name, c_uint64) for name in ("at", "end", "made", "room", "count", "last")] + [("swapped", c_uint32), ("interfaces", c_uint32), ("ticks", c_void_p)]
+
+
 class Dealing(Structure):
     _fields_ = [("shards", c_void_p)] + [(name, c_uint64) for name in ("conns", "total", "first_rest", "rest_weight", "weight", "end")]
 
@@ -189,11 +194,11 @@ def load():
     try:
         path = compiled()
         library = ctypes.CDLL(str(path)) if path else None
-    except OSError:
+    except (OSError, RuntimeError):         # no place to keep it
         return None
     if library:
         library.walk.restype = library.measure.restype = library.scatter.restype = c_uint64
-        library.scan.restype = library.forget.restype = None
+        library.scan.restype = library.forget.restype = library.take_packets.restype = None
     return library
 
 
@@ -260,6 +265,27 @@ def walk(mapped, at, end, wanted, form):
     records = c_uint64(0)
     at = LIBRARY.walk(c_void_p(mapped.at), c_uint64(at), c_uint64(end), c_uint64(wanted), byref(form_of(form)), byref(records))
     return at, records.value
+
+
+def packets_of(mapped, write):
+    """For files.Records: takes a pcapng's packets as a pcap's records, and gives them to write. None without cc."""
+    if not LIBRARY:
+        return None
+    out = mmap.mmap(-1, PACKETS_ROOM)
+    place = c_uint8.from_buffer(out)
+
+    def quick(at, order, ticks, time):
+        if max(ticks) >= 2 ** 64:
+            return at, 0, time
+        table, count = (c_uint64 * len(ticks))(*ticks), 0
+        while True:
+            now = Packets(at, mapped.size, 0, PACKETS_ROOM, 0, time, int(order == ">"), len(ticks), ctypes.addressof(table))
+            LIBRARY.take_packets(c_void_p(mapped.at), byref(now), byref(place))
+            write(out[:now.made])
+            at, time, count = now.at, now.last, count + now.count
+            if now.made < PACKETS_ROOM - 2 * MOST_BODY:
+                return at, count, time
+    return quick
 
 
 def deal(path, mapped, at, form, owners, shards, rest, room, give):

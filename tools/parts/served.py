@@ -11,12 +11,6 @@ PLACED = ("A report gives each reply's time and not what it answers. Where sever
           "acknowledges: a guess for the eye.")
 
 
-def load(report_name, capture_names=None):
-    """The report, and the connections of its capture."""
-    report, whole = load_whole(report_name, capture_names)
-    return report, whole.conns
-
-
 def load_whole(report_name, capture_names=None, datagrams=True):
     """The report and its capture; without a capture the connections have replies alone.
 

@@ -25,9 +25,9 @@ import sys
 from array import array
 from struct import Struct
 
-from files import MOST_BODY, Records, Refused, header, is_pcapng, map_file
+from files import MOST_BODY, Records, Refused, header, is_pcapng
 from packets import KINDS, LINK_SIZE, OTHER
-from records import CONNECTION, LEAST_WEIGHT, LINE, Mapped, One, TooLong, deal as deal_records, little, scan as scan_records, walk
+from records import CONNECTION, LINE, Mapped, One, TooLong, deal as deal_records, little, packets_of, scan as scan_records, walk
 
 MOST_BYTES, MOST_RECORDS, MOST_CONNECTIONS = 67_108_864, 1_048_576, 4_096      # of one run
 MOST_REPORT = 640 << 20             # bytes of a shard's report, at most about, unless one connection alone may make more
@@ -126,9 +126,10 @@ def piece(work, wanted):
 
 def as_pcap(path, folder):
     """A pcapng's records as a pcap in the folder, and whether the last one was cut."""
-    records = Records(path, map_file(path))
+    mapped = Mapped(path)
     with open(folder / "capture.pcap", "wb") as out:
         out.write(bytes(24))
+        records = Records(path, mapped.data, packets_of(mapped, out.write))
         for time, body in records:
             seconds = min(time // 1_000_000, 0xffff_ffff)
             if time - seconds * 1_000_000 > 0xffff_ffff:

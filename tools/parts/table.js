@@ -8,13 +8,18 @@ const fill = section => {
   section.classList.add("full");
   for (const svg of holder.querySelectorAll("svg[data-view]")) graph(svg);
 };
-const near = new IntersectionObserver(seen => { for (const one of seen) if (one.isIntersecting) { near.unobserve(one.target); fill(one.target); } }, {rootMargin: "800px"});
+const near = new IntersectionObserver(seen => seen.filter(one => one.isIntersecting).forEach(one => {
+  near.unobserve(one.target);
+  fill(one.target);
+}), {rootMargin: "800px"});
 for (const section of document.querySelectorAll("section.conn")) near.observe(section);
 const go = () => {
   const section = /^#conn\d+$/.test(location.hash) && document.querySelector(location.hash);
   if (!section) return;
-  fill(section);
-  section.scrollIntoView();
+  const show = () => section.scrollIntoView();
+  for (let n = 0, one = section; n < 3 && one?.matches("section"); n++, one = one.previousElementSibling) fill(one);
+  show();
+  requestAnimationFrame(() => { show(); requestAnimationFrame(show); });     // what stands above has its height by then
 };
 addEventListener("hashchange", go);
 go();
@@ -43,7 +48,7 @@ const list = document.querySelector(".list");
 if (list) {
   const {columns, rows, drawn} = JSON.parse(list.querySelector("script").textContent), has = new Set(drawn), MOST = 200;
   const [input, count, body, more] = ["input", ".count", "tbody", ".more"].map(selector => list.querySelector(selector));
-  let sorted = rows, by = -1, down = false, shown = MOST, found = rows;
+  let sorted = rows, by = -1, down = false, shown = MOST;
   const cell = (row, n) => {
     const td = document.createElement("td");
     if (columns[n][1]) td.className = "n";
@@ -53,15 +58,18 @@ if (list) {
   };
   const show = () => {
     const words = input.value.trim().toLowerCase().split(/\s+/).filter(Boolean);
-    found = words.length ? sorted.filter(row => words.every(word => row.some(value => String(value).toLowerCase().includes(word)))) : sorted;
-    body.replaceChildren(...found.slice(0, shown).map(row => { const tr = document.createElement("tr"); tr.append(...columns.map((_, n) => cell(row, n))); return tr; }));
-    count.textContent = `${found.length.toLocaleString("en-US")} of ${rows.length.toLocaleString("en-US")}` + (found.length > shown ? `, the first ${shown} shown` : "");
+    const contains = (row, word) => row.some(value => String(value).toLowerCase().includes(word)), told = n => n.toLocaleString("en-US");
+    const line = row => { const tr = document.createElement("tr"); tr.append(...columns.map((_, n) => cell(row, n))); return tr; };
+    const found = sorted.filter(row => words.every(word => contains(row, word)));
+    body.replaceChildren(...found.slice(0, shown).map(line));
+    count.textContent = `${told(found.length)} of ${told(rows.length)}` + (found.length > shown ? `, the first ${shown} shown` : "");
     more.hidden = found.length <= shown;
   };
   list.querySelectorAll("th button").forEach((button, n) => button.addEventListener("click", () => {
     down = by === n ? !down : columns[n][1] === 1 && n > 0;
     by = n;
-    const order = (p, q) => p === q ? 0 : p === "" || p === null ? 1 : q === "" || q === null ? -1 : typeof p === "number" && typeof q === "number" ? p - q : String(p).localeCompare(String(q), "en", {numeric: true});
+    const text = (p, q) => String(p).localeCompare(String(q), "en", {numeric: true});
+    const order = (p, q) => typeof p === "number" && typeof q === "number" ? p - q : (p === "") - (q === "") || text(p, q);
     sorted = rows.slice().sort((p, q) => (down ? -1 : 1) * order(p[n], q[n]));
     list.querySelectorAll("th").forEach((th, k) => k === n ? th.setAttribute("aria-sort", down ? "descending" : "ascending") : th.removeAttribute("aria-sort"));
     show();

@@ -91,7 +91,8 @@ class Timeline {
     this.chosen = this.pointed = null;
     this.followed = -1;
     this.hits = [];
-    this.find("canvas.strip", "strip").find("canvas.lanes", "canvas").find(".scroll", "scroll").find(".tall", "tall").find(".read", "readout").find("input", "input");
+    for (const [name, selector] of Object.entries({strip: "canvas.strip", canvas: "canvas.lanes", scroll: ".scroll", tall: ".tall", readout: ".read", input: "input"}))
+      this[name] = box.querySelector(selector);
     this.colours = colours(box);
     box.hidden = false;
     if (told.window) this.begin(...told.window);
@@ -103,7 +104,6 @@ class Timeline {
     this.view = moved.inside([one.column[first], one.column[last] + 1], this.whole);
     if (point >= 0) this.chosen = {one, mark: point, plain: true};
   }
-  find(selector, name) { this[name] = this.box.querySelector(selector); return this; }
 
   // Size and colours.
   resize() {
@@ -153,7 +153,8 @@ class Timeline {
   }
   drawNames(one) {
     this.words(10, one.y + 16, `squeue ${one.q}`, "ink", "600 12px");
-    this.words(LEFT, one.y + 16, `${one.kind.length.toLocaleString("en-US")} marks` + (one.stuck >= 0 ? `; mark ${one.stuck} doesn't follow from those before it` : ""), "muted");
+    const stuck = one.stuck >= 0 ? `; mark ${one.stuck} doesn't follow from those before it` : "";
+    this.words(LEFT, one.y + 16, `${one.kind.length.toLocaleString("en-US")} marks${stuck}`, "muted");
     for (const [pass, name] of one.lanes) this.words(LEFT - 12, one.laneY(pass) + 15, name, "ink", "11px", "right");
     this.words(LEFT - 12, one.base + CURVE / 2 + 4, "queued", "muted", "11px", "right");
     this.words(LEFT - 12, one.base + CURVE + 16, "mark", "muted", "9.5px", "right");
@@ -314,9 +315,12 @@ class Timeline {
     return seen.length <= ARCS ? seen : seen.filter(move => begin(move) >= a || end(move) < b);
   }
   drawMoves() {
-    const pen = this.pen, seen = this.movesInView();
+    const seen = this.movesInView(), dense = seen.length > this.width / 12;
     if (seen.length > ARCS) return this.drawManyMoves(seen);
-    for (const move of seen) this.drawArc(move, this.followed < 0 ? .8 : move.conn === this.followed ? 1 : .15, move.conn === this.followed ? 3 : 1.8);
+    for (const move of seen) {
+      const mine = move.conn === this.followed;
+      this.drawArc(move, mine ? 1 : this.followed >= 0 ? .15 : dense ? .5 : .8, mine ? 3 : dense ? 1 : 1.8);
+    }
   }
   drawArc(move, alpha, thick) {
     const pen = this.pen, [ax, ay, ...rest] = this.arc(move);
@@ -423,7 +427,8 @@ class Timeline {
   signAt(one, pass, x) {
     if (this.step < 2) return null;
     const [i, k] = one.marksIn(this.columnAt(x - 6) - .5, this.columnAt(x + 6) - .5);
-    for (let n = i; n < k; n++) if ("Fagx".includes(one.kind[n]) && one.pass(n) === pass) return {one, mark: n, fill: one.kind[n] === "F" ? one.filled(n)[0] : -1};
+    for (let n = i; n < k; n++)
+      if ("Fagx".includes(one.kind[n]) && one.pass(n) === pass) return {one, mark: n, fill: one.kind[n] === "F" ? one.filled(n)[0] : -1};
     return null;
   }
   moveAt(x, y) {
@@ -432,7 +437,8 @@ class Timeline {
     for (const move of seen) {
       const [ax, ay, bx, by, cx, cy, dx, dy] = this.arc(move);
       for (let t = 0; t <= 1; t += 1 / 32) {
-        const u = 1 - t, px = u ** 3 * ax + 3 * u * u * t * bx + 3 * u * t * t * cx + t ** 3 * dx, py = u ** 3 * ay + 3 * u * u * t * by + 3 * u * t * t * cy + t ** 3 * dy;
+        const u = 1 - t, along = (a, b, c, d) => u ** 3 * a + 3 * u * u * t * b + 3 * u * t * t * c + t ** 3 * d;
+        const px = along(ax, bx, cx, dx), py = along(ay, by, cy, dy);
         if (Math.abs(px - x) < 5 && Math.abs(py - y) < 5) return {one: move.from, move};
       }
     }
@@ -447,8 +453,10 @@ class Timeline {
     if (move) return `connection ${move.conn} moved from squeue ${move.from.q} (mark ${move.mark}) to squeue ${move.to.q} (mark ${move.end})`;
     if (thing.stretch >= 0) return from + this.saidOfStretch(one, thing.stretch);
     const who = one.name(one.pass(n));
-    if (thing.plain) return `${from}mark ${n}: ${one.queued[n] ?? 0} queued` + ["", ", polling", ", and nobody has it", ", polling, and nobody has it"][one.state.charCodeAt(n) - 48 || 0];
-    const doing = {F: () => "queued " + one.filled(n)[1], a: () => "asked for it", g: () => "granted it to " + one.name(one.grants.get(n)), x: () => "closed its pass"};
+    const state = ["", ", polling", ", and nobody has it", ", polling, and nobody has it"][one.state.charCodeAt(n) - 48 || 0];
+    if (thing.plain) return `${from}mark ${n}: ${one.queued[n] ?? 0} queued${state}`;
+    const doing = {F: () => "queued " + one.filled(n)[1], a: () => "asked for it", g: () => "granted it to " + one.name(one.grants.get(n)),
+      x: () => "closed its pass"};
     return `${from}mark ${n}: ${who} ${doing[one.kind[n]]()}`;
   }
   saidOfStretch(one, s) {
@@ -456,20 +464,23 @@ class Timeline {
     const call = this.calls.find(told => told[0] === j && told[1] === k);
     const done = {c: `made call ${j}.${k} on connection ${c}` + (call ? ` (${call[3]}${call[4] ? ": " + call[4] : ""})` : ""),
       o: `took the block of connection ${c} out`, i: `put the block of connection ${c} in`, a: "looked for a block that is elsewhere"}[one.act[s]];
-    return `marks ${one.first[s]} to ${one.last[s]}: ${one.name(one.pass(one.first[s]))} ${CAME[kind] ?? "had it"}` + (feeds ? `, processed ${feeds}` : "") + (done ? `, ${done}` : "");
+    const what = (feeds ? `, processed ${feeds}` : "") + (done ? `, ${done}` : "");
+    return `marks ${one.first[s]} to ${one.last[s]}: ${one.name(one.pass(one.first[s]))} ${CAME[kind] ?? "had it"}${what}`;
   }
   read() {
     const thing = this.pointed ?? this.chosen, out = this.readout;
     out.textContent = thing ? this.said(thing) : this.followed >= 0 ? this.saidOfFollowed() : out.dataset.hint;
     const conns = thing ? thing.move ? [thing.move.conn] : thing.one.conns(thing) : this.followed >= 0 ? [this.followed] : [];
+    const put = (name, told) => out.append(" ", Object.assign(document.createElement(name), told));
     for (const c of conns) {
-      if (c !== this.followed) out.append(" ", Object.assign(document.createElement("button"), {type: "button", textContent: `follow ${c}`, onclick: () => this.follow(c)}));
-      if (this.linked.has(c)) out.append(" ", Object.assign(document.createElement("a"), {href: "#conn" + c, textContent: `graph of ${c}`}));
+      if (c !== this.followed) put("button", {type: "button", textContent: `follow ${c}`, onclick: () => this.follow(c)});
+      if (this.linked.has(c)) put("a", {href: "#conn" + c, textContent: `graph of ${c}`});
     }
   }
   saidOfFollowed() {
     const fills = this.hits.filter(hit => hit.fill >= 0).length, moves = this.moves.filter(move => move.conn === this.followed).length;
-    return `connection ${this.followed}, ${this.names[this.followed] ?? ""}: ${this.hits.length - fills} bars, queued ${fills} times, ${moves} moves; n and p go through them`;
+    return `connection ${this.followed}, ${this.names[this.followed] ?? ""}: ${this.hits.length - fills} bars, queued ${fills} times, ${moves} moves; `
+      + "n and p go through them";
   }
 
   // Moving and choosing.
@@ -495,14 +506,15 @@ class Timeline {
   bring(thing) {
     const [a, b] = this.span(thing), size = Math.max(this.view[1] - this.view[0], Math.min(b - a + 2, 200)), {one} = thing;
     if (a < this.view[0] || b + 1 > this.view[1]) this.see([(a + b - size) / 2, (a + b + size) / 2]);
-    if (one.y < this.scroll.scrollTop || one.bottom > this.scroll.scrollTop + this.high) this.scroll.scrollTop = Math.max(0, Math.min(one.y, one.bottom - this.high));
+    const hidden = one.y < this.scroll.scrollTop || one.bottom > this.scroll.scrollTop + this.high;
+    if (hidden) this.scroll.scrollTop = Math.max(0, Math.min(one.y, one.bottom - this.high));
   }
   follow(c) {
     this.followed = c;
     this.hits = [];
     for (const one of this.squeues) {
       for (let s = 0; s < one.first.length; s++) if (one.has(s, c)) this.hits.push({one, stretch: s, at: one.column[one.first[s]]});
-      for (let n = 0; n < one.fillMarks.length; n++) if (one.fillHas(n, c)) this.hits.push({one, stretch: -1, fill: n, mark: one.fillMarks[n], at: one.column[one.fillMarks[n]]});
+      one.fillMarks.forEach((mark, fill) => { if (one.fillHas(fill, c)) this.hits.push({one, stretch: -1, fill, mark, at: one.column[mark]}); });
     }
     this.hits.sort((p, q) => p.at - q.at);
     this.chosen = this.pointed = null;
@@ -514,7 +526,7 @@ class Timeline {
   }
   stepHit(way) {
     if (!this.hits.length) return;
-    const now = this.hits.findIndex(hit => this.chosen && hit.one === this.chosen.one && hit.stretch === this.chosen.stretch && hit.fill === this.chosen.fill);
+    const same = hit => this.chosen && ["one", "stretch", "fill"].every(name => hit[name] === this.chosen[name]), now = this.hits.findIndex(same);
     this.choose(this.hits[(now + way + this.hits.length) % this.hits.length] ?? this.hits[0]);
   }
   search() {
@@ -530,7 +542,8 @@ class Timeline {
     const thing = this.chosen, one = thing?.one ?? this.squeues.find(squeue => squeue.first.length);
     if (!one) return;
     const [s, e] = one.stretchesIn(...this.view);
-    const now = thing?.stretch >= 0 ? thing.stretch + way : thing?.mark >= 0 ? search(one.first.length, n => one.first[n] >= thing.mark) - (way < 0) : Math.min(s, one.first.length - 1);
+    const now = thing?.stretch >= 0 ? thing.stretch + way : thing?.mark >= 0 ? search(one.first.length, n => one.first[n] >= thing.mark) - (way < 0)
+      : Math.min(s, one.first.length - 1);
     if (now >= 0 && now < one.first.length) this.choose({one, stretch: now});
   }
   across(way) {
@@ -538,13 +551,21 @@ class Timeline {
     const at = this.squeues.indexOf(this.chosen.one) + way, one = this.squeues[at], column = this.span(this.chosen)[0];
     if (one?.first.length) this.choose({one, stretch: Math.min(one.first.length - 1, search(one.first.length, s => one.column[one.last[s]] >= column))});
   }
+  escape() {
+    if (this.chosen) this.choose(null);
+    else if (this.followed >= 0) this.follow(-1);
+    else this.all();
+  }
+  followChosen() {
+    const [c] = this.chosen?.move ? [this.chosen.move.conn] : this.chosen?.one.conns(this.chosen) ?? [];
+    if (c >= 0) this.follow(c);
+  }
   key(ev) {
+    const size = this.view[1] - this.view[0], nearer = () => this.zoom(.5), farther = () => this.zoom(2);
     const does = {ArrowRight: () => this.walk(1), ArrowLeft: () => this.walk(-1), ArrowDown: () => this.across(1), ArrowUp: () => this.across(-1),
-      "+": () => this.zoom(.5), "=": () => this.zoom(.5), w: () => this.zoom(.5), "-": () => this.zoom(2), s: () => this.zoom(2), a: () => this.pan(-.25), d: () => this.pan(.25),
-      Home: () => this.see([this.whole[0], this.whole[0] + this.view[1] - this.view[0]]), End: () => this.see([this.whole[1] - this.view[1] + this.view[0], this.whole[1]]),
-      n: () => this.stepHit(1), p: () => this.stepHit(-1), "/": () => this.input.focus(),
-      Enter: () => { const [c] = this.chosen ? this.chosen.move ? [this.chosen.move.conn] : this.chosen.one.conns(this.chosen) : []; if (c >= 0) this.follow(c); },
-      Escape: () => { if (this.chosen) this.choose(null); else if (this.followed >= 0) this.follow(-1); else this.all(); }}[ev.key];
+      "+": nearer, "=": nearer, w: nearer, "-": farther, s: farther, a: () => this.pan(-.25), d: () => this.pan(.25),
+      Home: () => this.see([this.whole[0], this.whole[0] + size]), End: () => this.see([this.whole[1] - size, this.whole[1]]),
+      n: () => this.stepHit(1), p: () => this.stepHit(-1), "/": () => this.input.focus(), Enter: () => this.followChosen(), Escape: () => this.escape()}[ev.key];
     if (!does || ev.ctrlKey || ev.metaKey || ev.altKey) return;
     does();
     ev.preventDefault();
@@ -552,7 +573,8 @@ class Timeline {
   wire() {
     const place = () => { const box = this.canvas.getBoundingClientRect(); return [box.left + LEFT, this.width - LEFT - 10]; };
     const act = {zoom: (factor, over) => this.zoom(factor, over), pan: share => this.pan(share)};
-    const touched = gestures(this.canvas, place, act), point = ev => { const box = this.canvas.getBoundingClientRect(); return [ev.clientX - box.left, ev.clientY - box.top + this.scroll.scrollTop]; };
+    const touched = gestures(this.canvas, place, act);
+    const point = ev => { const box = this.canvas.getBoundingClientRect(); return [ev.clientX - box.left, ev.clientY - box.top + this.scroll.scrollTop]; };
     let from = null, dragged = false;
     this.canvas.addEventListener("pointerdown", ev => { from = point(ev); dragged = false; this.canvas.setPointerCapture(ev.pointerId); });
     this.canvas.addEventListener("pointermove", ev => {
@@ -576,8 +598,8 @@ class Timeline {
     this.scroll.addEventListener("scroll", () => this.redraw());
     this.wireStrip(act);
     this.input.form.addEventListener("submit", ev => { ev.preventDefault(); this.search(); });
-    for (const [name, does] of [["out", () => this.zoom(2)], ["in", () => this.zoom(.5)], ["all", () => this.all()], ["before", () => this.stepHit(-1)], ["after", () => this.stepHit(1)]])
-      this.box.querySelector(`[data-do=${name}]`).addEventListener("click", does);
+    const buttons = {out: () => this.zoom(2), in: () => this.zoom(.5), all: () => this.all(), before: () => this.stepHit(-1), after: () => this.stepHit(1)};
+    for (const [name, does] of Object.entries(buttons)) this.box.querySelector(`[data-do=${name}]`).addEventListener("click", does);
     new ResizeObserver(() => this.resize()).observe(this.box);
     matchMedia("(prefers-color-scheme: dark)").addEventListener("change", () => { this.strips = null; this.redraw(); });
     this.read();

@@ -4,7 +4,6 @@ import os
 import random
 import re
 import tempfile
-import time
 import unittest
 from pathlib import Path
 from xml.etree import ElementTree

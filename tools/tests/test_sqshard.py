@@ -2,6 +2,7 @@
 import hashlib
 import json
 import os
+import pty
 import random
 import re
 import shutil
@@ -12,12 +13,14 @@ import sys
 import tempfile
 import time
 import unittest
+import unittest.mock
 from array import array
 from pathlib import Path
 
 from common import MODEL, SQRUN, TOOLS, captures, need, output, sqrun
 import records as fast
-from files import header
+import shards
+from files import Refused, header
 from generated import ACK, PSH, SYN, datagram, records, write
 
 NO_LIMITS = """import sys
@@ -53,6 +56,29 @@ def twisted(rnd, listed):
             at = max(0, at - rnd.randrange(5_000_000))
         listed.insert(rnd.randrange(len(listed)), (at, data))
     return listed
+
+
+def some_pcapng(rnd):
+    """A pcapng file by chance, that is right or nearly so."""
+    order = rnd.choice("<>")
+
+    def block(kind, body):
+        body += bytes(-len(body) % 4)
+        return struct.pack(order + "II", kind, 12 + len(body)) + body + struct.pack(order + "I", 12 + len(body))
+    interface = lambda value: block(1, struct.pack(order + "HHI", 101, 0, rnd.choice((0, 40))) + struct.pack(order + "HHBxxx", 9, 1, value) + bytes(4))
+    values = [rnd.choice((6, 6, 9, 3, 0x8a, 0x80, 19, 0x7f)) for _ in range(rnd.randint(1, 3))]
+    out = [block(0x0a0d0d0a, struct.pack(order + "IHHq", 0x1a2b3c4d, 1, 0, -1)), *map(interface, values)]
+    for _ in range(rnd.randrange(60)):
+        data, time = rnd.randbytes(rnd.randrange(60)), rnd.choice((rnd.getrandbits(31), rnd.getrandbits(50), rnd.getrandbits(64), 2 ** 53, 2 ** 32 * 10 ** 6))
+        number = rnd.randrange(len(values) + (rnd.random() < .01))
+        size = len(data) + (rnd.random() < .01)
+        out.append(block(6, struct.pack(order + "IIIII", number, time >> 32, time & 0xffff_ffff, size, size) + data))
+        if rnd.random() < .1:
+            out.append(rnd.choice((block(3, struct.pack(order + "I", 4) + b"data"), block(5, bytes(12)), block(0x0bad, bytes(8)), interface(6), *out[:1])))
+    whole = bytearray(b"".join(out))
+    if rnd.random() < .3:
+        whole[rnd.randrange(len(whole))] ^= 1 << rnd.randrange(8)
+    return bytes(whole[:len(whole) - rnd.choice((0, 0, 0, 1, 17))])
 
 
 class Shards(unittest.TestCase):
@@ -274,6 +300,24 @@ class Shards(unittest.TestCase):
                     sides.append(got)
                 self.assertEqual(*sides)
 
+    def test_packets_of_pcapng_agree(self):
+        """The same records from C as from Python: both byte orders, resolutions, odd blocks between, times at the edges, cut and changed bytes."""
+        if not fast.LIBRARY:
+            self.skipTest("cc isn't installed")
+        for seed in range(60):
+            rnd = random.Random(seed)
+            (self.folder / "a.pcapng").write_bytes(some_pcapng(rnd))
+            sides = []
+            for library in (fast.LIBRARY, None):
+                folder = self.folder / f"{seed}{bool(library)}"
+                folder.mkdir()
+                with unittest.mock.patch.object(fast, "LIBRARY", library):
+                    try:
+                        sides.append((shards.as_pcap(self.folder / "a.pcapng", folder), (folder / "capture.pcap").read_bytes()))
+                    except Refused as refused:
+                        sides.append(str(refused))
+            self.assertEqual(*sides, seed)
+
     def test_without_cc(self):
         path = self.folder / "a.pcap"
         write(path, twisted(random.Random(2), records(2, 700, 9, 1)), 1)
@@ -406,6 +450,22 @@ class Shards(unittest.TestCase):
         self.assertEqual(self.merged([path], "--verify", "--nodes", self.folder / "nodes", program=os.path.abspath(SQRUN), size=20_000), sqrun(path, "--verify"))
         left = [path for folder in (home, Path.home() / ".parallel") for path in folder.rglob("*") if path.name in ("shards", "reports", "0-head")]
         self.assertEqual(left, [])
+
+    def test_a_bar_where_somebody_looks(self):
+        path = self.folder / "a.pcap"
+        write(path, records(3, 600, 6), 101)
+        ours, theirs = pty.openpty()
+        with subprocess.Popen([TOOLS / "sqshard", "run", "--sqrun", SQRUN, "--shard-bytes", "9000", self.work, path], stdout=subprocess.DEVNULL, stderr=theirs):
+            os.close(theirs)
+            said = b""
+            try:
+                while more := os.read(ours, 1 << 16):
+                    said += more
+            except OSError:                 # nobody writes any more
+                pass
+        os.close(ours)
+        self.assertRegex(said, rb"\d+% \d+:\d+=")
+        self.assertIn(b"sqshard: serve: ", said)
 
     def test_other_tools_read_what_it_makes(self):
         """sqplot and sqpcap take the folder, its files, and one shard; more connections than one run has, too."""
