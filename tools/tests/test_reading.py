@@ -1,6 +1,7 @@
 """reading: the page is up to date, the same at each run, and lists each file behind those that it stands on."""
 import re
 import shutil
+import subprocess
 import tempfile
 import unittest
 from pathlib import Path
@@ -23,10 +24,31 @@ class Page(unittest.TestCase):
         self.page = self.top / "docs" / "READING.md"
 
     def listed(self):
-        return re.findall(r"^\| \d+ \| \[(\w+)/(\w+)\]\(\.\./(\S+)\) \| (\d+) \| (\d+) \|", self.page.read_text(), re.M)
+        """The rows of the page by their numbers, lowest first."""
+        rows = re.findall(r"^\| (\d+) \| \[(\w+)/(\w+)\]\(\.\./(\S+)\) \| (\d+) \| (\d+) \|", self.page.read_text(), re.M)
+        self.assertEqual(sorted(int(row[0]) for row in rows), list(range(1, len(rows) + 1)))
+        return [row[1:] for row in sorted(rows, key=lambda row: int(row[0]))]
 
-    def test_this_repository_s_page_is_up_to_date(self):
-        self.assertIn(b"up to date", output([TOOLS / "reading", "--check"]))
+    def test_this_repository_s_pages_are_up_to_date(self):
+        said = output([TOOLS / "reading", "--check"])
+        self.assertEqual(said.count(b"up to date"), 4, said)
+
+    def test_what_stands_in_a_module_with_parameters_is_followed(self):
+        listed = {(crate, name) for crate, name, *_ in self.listed()}
+        for row in [("ring_threads", "Fits"), ("perimeter_core", "Legal"), ("conn_migrate", "Stays"), ("squeue_rings", "Keeping"), ("squeue_state", "Endings")]:
+            self.assertIn(row, listed)
+
+    def test_a_name_that_is_not_there_is_an_error(self):
+        file = self.top / "crates/ring_threads/specs/Fits.antt"
+        file.write_text(file.read_text().replace("pub record Fits ", "pub record Suits "))
+        said = subprocess.run([self.top / "tools" / "reading"], capture_output=True, check=False)
+        self.assertEqual(said.returncode, 1)
+        self.assertIn(b"reading: Fits is imported from crates/ring_threads/specs/Fits.antt, and isn't defined there", said.stderr)
+
+    def test_traits_and_types_seen_as_values_are_listed(self):
+        text = self.page.read_text()
+        for row in ["`Sink`, `Source`", "`Served`", "`Ended`"]:
+            self.assertIn(row, text)
 
     def test_lowest_first_and_nothing_missing(self):
         above = set()
