@@ -1,5 +1,5 @@
 -- What is written out was served.
-use Rattle.std.specs.Prelude.{◌≡◌, ◌≢◌, ◌×◌, ℕ, zero, suc, ◌+◌, ◌*◌, ◌/◌, ◌%◌, ◌<◌, ◌==◌, true, false, List, [], ◌∷◌, length, map, slice_get, Some, None, Option, IfSome, if◌then◌else◌}
+use Rattle.std.specs.Prelude.{◌≡◌, ℕ, zero, suc, ◌+◌, ◌/◌, ◌%◌, ◌<◌, ◌==◌, List, [], ◌∷◌, slice_get, Some, IfSome, if◌then◌else◌}
 use Rattle.std.proofs.Common.{refl, sym, subst, ap, ◌∙◌, arith}
 use Rattle.std.proofs.lemmas.Option.{slice_get_within}
 use Rattle.sq_base.specs.declared.kinds.Tuple.{Tuple}
@@ -18,7 +18,7 @@ use Rattle.squeue_state.specs.Told.{marks_of}
 use Rattle.squeue_enter.specs.declared.Mode.TheVariants as Mode'
 use Rattle.squeue_rings.specs.Keeping.{KeepsPace}
 use Rattle.squeue_rings.specs.Noted.{AreNoted}
-use Rattle.conn_migrate.specs.Stays.{AreLinked, IsLinked, StartsAtHome, Stay, Stays, all_in, ended_stay, stay, stays, stays_at, stays_in}
+use Rattle.conn_migrate.specs.Stays.{AreLinked, IsLinked, StartsAtHome, Stay, all_in, stay, stays, stays_in}
 use Rattle.tcb_machine.specs.declared.kinds.Call.{Call}
 use Rattle.std.specs.Option.{option_map_or}
 use Rattle.conn_blocks.specs.CallLists.{call_at}

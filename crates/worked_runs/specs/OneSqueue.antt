@@ -1,5 +1,5 @@
 -- A run written out: one squeue, one ring, and one connection with two items, whatever these are.
-use Rattle.std.specs.Prelude.{ℕ, true, false, List, [], ◌∷◌}
+use Rattle.std.specs.Prelude.{true, false, List, [], ◌∷◌}
 use Rattle.sq_base.specs.declared.kinds.Tuple.{Tuple}
 use Rattle.capture_reader.specs.Outcome.{CaptureFile}
 use Rattle.conn_classifier.specs.declared.kinds.Counts.{Counts}
