@@ -1,9 +1,10 @@
 //! How the threads of a run are set to work.
-ghost use Rattle.std.specs.Prelude.{◌≡◌, length, map};
+ghost use Rattle.std.specs.Prelude.{◌≡◌, ◌+◌, ◌<◌, ℕ, length, map};
 ghost use Rattle.synch_enter.specs.Hinting.{conns_of, squeues_of};
 ghost use Rattle.squeue_serve.specs.Lending.{AreLent, lent_to, tasks_in};
 ghost use Rattle.squeue_serve.specs.Places.{IsNew, MayEnd};
 ghost use Rattle.squeue_rings.specs.Bringing.{AllBelow, AreOneRun};
+ghost use Rattle.squeue_rings.specs.Keeping.{ArePaced};
 ghost use Rattle.ring_quotas.specs.Quotas.{IsInRange};
 ghost use Rattle.ring_jobs.specs.Tasks.{AreLines, AreTasks, HaveRings};
 ghost use Rattle.ring_jobs.specs.Running.{HaveDone, MayDoAll};
@@ -24,7 +25,7 @@ use stream_blocks::StreamBlocks;
 use stream_plan::MorePlan;
 use synch_enter::Hints;
 
-/// Runs the jobs of new squeues beside each other, until all are done.
+/// Runs the jobs of new squeues beside each other, until all are done. Each ring keeps the mode and the budget of the setup.
 pub fn run<H: Hook + Sync, W: Threads + Wait + Sync>(
     rt: &W,
     alloc: Global,
@@ -43,6 +44,7 @@ pub fn run<H: Hook + Sync, W: Threads + Wait + Sync>(
     requires tasks { AreTasks setup.now.rings 0 setup.now.squeues lines.now (tasks_in jobs.old) }
     requires lent { AreLent IsNew 1 setup.now.rings squeues.now (lent_to jobs.old) }
     ensures ran { HasRun plan.now setup.now.squeues setup.now.rings lines.now squeues.now (lent_to jobs.new) }
+    ensures paced { (r : ℕ) → r < setup.now.rings → ArePaced limits_of setup.now.squeues 0 setup.now.mode setup.now.budget r squeues.now (lent_to jobs.new (1 + r)) }
     ensures lent { AreLent (MayEnd limits_of) 1 setup.now.rings squeues.now (lent_to jobs.new) }
     ensures count { length jobs.new ≡ length jobs.old }
 {

@@ -1,49 +1,31 @@
 -- Each reason why an input doesn't replay rules out that it does; and what is right and gives the report's text replays.
-use Rattle.std.proofs.Common.{◌≡◌, ℕ, suc, ◌+◌, ◌^◌, ◌≤◌, ◌<◌, inl, inr, Bool, true, Some, List, [], ◌∷◌, ◌++◌, length, take, drop, refl, ap, sym, ◌∙◌, subst, append_assoc, arith}
-use Rattle.std.specs.Prelude.{IfSome, Ok, Result, codes, slice_get}
-use Rattle.std.specs.List.{enumerate_from, filter_map, flat_map}
-use Rattle.std.proofs.lemmas.List.{append_cancel_left, length-take, take-append-drop, take-append-le}
-use Rattle.std.proofs.lemmas.Option.{slice_get_within}
+use Rattle.std.proofs.Common.{◌≡◌, ℕ, ◌+◌, Bool, true, List, [], ◌∷◌, ◌++◌, length, take, drop, refl, ap, sym, ◌∙◌, subst, append_assoc, arith}
+use Rattle.std.specs.Prelude.{codes}
+use Rattle.std.specs.List.{enumerate_from, flat_map}
+use Rattle.std.proofs.lemmas.List.{append_cancel_left, take-append-drop}
 use Rattle.perimeter_core.specs.declared.entries.Act.{Act}
 use Rattle.perimeter_core.specs.declared.marks.Mark.{Mark}
-use Rattle.perimeter_core.specs.History.{Element, Setting}
-use Rattle.perimeter_core.specs.Deeds.{done}
-use Rattle.perimeter_core.specs.Legal.{Legal, feed_count}
+use Rattle.perimeter_core.specs.Legal.{Legal}
 use Rattle.perimeter_core.proofs.OneMore.{legal_front}
-use Rattle.sq_base.specs.declared.kinds.Tuple.{Tuple}
-use Rattle.capture_reader.specs.declared.fault.CaptureFault.{CaptureFault}
-use Rattle.capture_reader.specs.CaptureFile.{Contents}
-use Rattle.capture_reader.specs.CaptureFile as capture_file
-use Rattle.capture_reader.specs.Outcome.{CaptureFile, contents_of}
-use Rattle.capture_reader.proofs.OneOutcome as capture_outcome
-use Rattle.pcapng_reader.specs.declared.fault.PcapngFault.{PcapngFault}
-use Rattle.pcapng_reader.specs.PcapngFile as pcapng_file
-use Rattle.pcapng_reader.specs.PcapngFile.{BeginsSection}
-use Rattle.pcapng_reader.specs.Input.{IsInput}
-use Rattle.pcapng_reader.proofs.Outcomes as pcapng_outcome
+use Rattle.capture_reader.specs.Outcome.{CaptureFile}
 use Rattle.squeue_state.specs.Naming.{Ending}
-use Rattle.conn_classifier.specs.Connections.{conns, decoded, distinct, served_tuple}
 use Rattle.conn_classifier.specs.Plan.{PlanOf, plan_of}
 use Rattle.conn_blocks.specs.CallLists.{CallLists}
-use Rattle.conn_blocks.specs.Orders.{settle}
-use Rattle.squeue_enter.specs.declared.Mode.{Mode}
-use Rattle.squeue_rings.specs.Keeping.{KeepsFrom, KeepsPace, taken}
 use Rattle.ring_quotas.specs.declared.setup.Setup.{Setup}
 use Rattle.squeue_report.specs.ReportText.{body_text, done_line, line}
 use Rattle.squeue_report.specs.TraceText.{calls_text, setup_line, squeue_text, trace_text}
 use Rattle.trace_lines.specs.Printed.{Told, told_text}
-use Rattle.squeue_serve.proofs.Lent.{some_at, get_front}
-use Rattle.squeue_run.proofs.Complete.{same_file}
+use Rattle.squeue_serve.proofs.Lent.{some_at}
 use Rattle.trace_replay.specs.Lines.{HasFirstLine}
 use Rattle.trace_replay.specs.declared.reason.Reason.{Reason}
 use Rattle.trace_replay.specs.declared.reason.Reason.TheVariants as reason
-use Rattle.trace_replay.specs.Reasons.{AreFit, AreOrdered, AreRight, FailsAtLine, FailsAtMark, FailsAtOrder, HasForm, Holds, IsCut, MarksFail, Reading, Says, histories_in}
+use Rattle.trace_replay.specs.Reasons.{AreOrdered, AreRight, FailsAtLine, FailsAtMark, FailsAtOrder, HasForm, Holds, IsCut, MarksFail, Reading, Says, histories_in}
 use Rattle.trace_replay.specs.Replays.{Replays}
+use Rattle.trace_replay.proofs.Once.{few_conns, fit_front, input_once, orders_once}
 use Rattle.trace_replay.proofs.FirstLines.{avoids_both, first_line, first_once}
 use Rattle.trace_replay.proofs.FitsFromRight.{fits_from_right}
 use Rattle.trace_replay.proofs.ReportLines.{head_avoids, head_text, no_d, no_s, told_avoids, told_front}
 use Rattle.trace_replay.proofs.RightFromFits.{right_from_fits}
-use Rattle.trace_replay.proofs.StaysAlike.{all_fixed}
 use Rattle.trace_replay.proofs.ToldOnce.{told_once}
 
 -- the text of a report with marks, in its parts
@@ -91,33 +73,6 @@ module _ (p : PlanOf) (calls : CallLists) (setup : Setup) (verify : Bool) (order
       let at : HasFirstLine (codes "setup ") (head ++ (codes "setup " ++ (s.0 ++ rest))) head = first_line 115 (codes "etup ") head (s.0 ++ rest) (head_avoids 115 no_s p calls orders) in
       let is : told_text told ≡ codes "setup " ++ (s.0 ++ rest) = ap (λ (l : List ℕ). l ++ rest) s.1 ∙ append_assoc (codes "setup ") s.0 rest in
       subst (λ (text : List ℕ). HasFirstLine (codes "setup ") text head) (ap (λ (l : List ℕ). head ++ l) (sym is) ∙ sym in_parts) at
-
--- a capture is fixed by its bytes
-abbrev ok_of : (F : Type 0) → Contents → Result Contents F
-ok_of F x = Ok x
-
-ok_same : (F : Type 0) (x y : Contents) → ok_of F x ≡ ok_of F y → x ≡ y
-ok_same F x y e = cc e
-
-pub input_once : (a b : CaptureFile) → IsInput a → IsInput b → a.bytes ≡ b.bytes → a ≡ b
-input_once a b (inl x) (inl y) bytes =
-    same_file a b bytes
-    (ok_same PcapngFault (contents_of a) (contents_of b)
-    (pcapng_outcome.meets_once b.bytes (Ok (contents_of a)) (Ok (contents_of b)) (subst (λ (bs : List ℕ). pcapng_file.Captured bs (contents_of a)) bytes x.captured) y.captured))
-input_once a b (inr x) (inr y) bytes =
-    same_file a b bytes
-    (ok_same CaptureFault (contents_of a) (contents_of b)
-    (capture_outcome.meets_once b.bytes (Ok (contents_of a)) (Ok (contents_of b)) (subst (λ (bs : List ℕ). capture_file.Captured bs (contents_of a)) bytes x.1.captured) y.1.captured))
-input_once a b (inl x) (inr y) bytes = absurd (y.0 (subst BeginsSection bytes x.begins))
-input_once a b (inr x) (inl y) bytes = absurd (x.0 (subst BeginsSection (sym bytes) y.begins))
-
--- a plan has few connections
-few_taken : (ts : List Tuple) → length (take 4096 ts) < 2 ^ 64
-few_taken ts = let n = length-take 4096 ts in omega (arith, n)
-
-pub few_conns : (file : CaptureFile) (verify : Bool) → length (plan_of file verify).tuples < 2 ^ 64
-unfolding plan_of conns
-few_conns file verify = few_taken (distinct (filter_map served_tuple (decoded file verify)))
 
 -- what was read of an input that replays is what it was made of
 record SameReading (input report : List ℕ) (file : CaptureFile) (t : Told) (r : Replays input) : Type 0 where
@@ -174,26 +129,6 @@ module _ (input : List ℕ) (r : Replays input) where
   right : AreRight t.setup (histories_in r.file t) × AreOrdered p t.calls (histories_in r.file t) r.orders
   right = right_from_fits p t.calls t.setup t.marks r.histories r.orders r.in_range.setup.range r.marks r.count r.fits
 
-keeps_front : (squeues spread : ℕ) (mode : Mode) (budget q : ℕ) (S : Setting) (r : ℕ) (past H K : List Element)
-    → KeepsFrom squeues spread mode budget q S r past (H ++ K) → KeepsFrom squeues spread mode budget q S r past H
-keeps_front squeues spread mode budget q S r past [] K k = tt
-keeps_front squeues spread mode budget q S r past (e ∷ H) K k = (k.0, keeps_front squeues spread mode budget q S r (past ++ e ∷ []) H K k.1)
-
--- the first marks of a history that fits do
-fit_front : (setup : Setup) (q : ℕ) (e : Ending) (A B : List Element) → A ++ B ≡ e.history → AreFit setup q e → AreFit setup q (record e { history = A })
-fit_front setup q e A B split fit = record {
-  pace = λ r lt.
-      keeps_front setup.squeues setup.spread setup.mode setup.budget q e.setting r [] A B
-      (subst (λ (H : List Element). KeepsPace setup.squeues setup.spread setup.mode setup.budget q e.setting r H) (sym split) (fit.pace r lt));
-  takes = λ r lt n m at is.
-      let within = slice_get_within A n m at in
-      let there : slice_get e.history n ≡ Some m = ap (λ (H : List Element). slice_get H n) (sym split) ∙ get_front A B n m at in
-      let before : take n e.history ≡ take n A = ap (take n) (sym split) ∙ take-append-le n A B (omega (arith, within)) in
-      let with_it : take (n + 1) e.history ≡ take (n + 1) A = ap (take (n + 1)) (sym split) ∙ take-append-le (n + 1) A B (omega (arith, within)) in
-      subst (λ (H : List Element). IfSome (taken e.setting r H) (λ had. feed_count (done e.setting (take (n + 1) A)) ≤ had + setup.budget)) before
-      (subst (λ (H : List Element). IfSome (taken e.setting r (take n e.history)) (λ had. feed_count (done e.setting H) ≤ had + setup.budget)) with_it (fit.takes r lt n m there is));
-}
-
 -- marks that are right fail for no reason
 marks_right : (setup : Setup) (hs : List Ending) (r : Reason) → MarksFail setup hs r → AreRight setup hs → ⊥
 marks_right setup hs (reason.Illegal q n) (below, (e, at, ill)) is_right =
@@ -206,21 +141,6 @@ marks_right setup hs reason.Capture fails is_right = fails
 marks_right setup hs reason.Form fails is_right = fails
 marks_right setup hs (reason.Order c) fails is_right = fails
 marks_right setup hs (reason.Text n) fails is_right = fails
-
--- orders are fixed
-same_list : {A : Type 0} (xs ys : List A) → length xs ≡ length ys → ((i : ℕ) (x y : A) → slice_get xs i ≡ Some x → slice_get ys i ≡ Some y → x ≡ y) → xs ≡ ys
-same_list [] [] n h = refl
-same_list [] (y ∷ ys) n h = absurd (let no : ⊥ = omega (arith, n) in no)
-same_list (x ∷ xs) [] n h = absurd (let no : ⊥ = omega (arith, n) in no)
-same_list (x ∷ xs) (y ∷ ys) n h = λ i. h 0 x y refl refl i ∷ same_list xs ys (omega (arith, n)) (λ k a b at is. h (suc k) a b at is) i
-
-pub orders_once : (p : PlanOf) (calls : CallLists) (hs : List Ending) (orders others : List (List Act)) → AreOrdered p calls hs orders → AreOrdered p calls hs others → orders ≡ others
-orders_once p calls hs orders others a b =
-    same_list orders others (a.count ∙ sym b.count)
-    (λ c x y at is.
-    let one = a.each c x at in
-    let two = b.each c y is in
-    one.settled ∙ (ap (settle calls c) (all_fixed hs c one.did two.did one.all two.all) ∙ sym two.settled))
 
 module _ (input : List ℕ) (r : Replays input) where
   no_mark_fails : (x : Reason) → Reading input (λ _. FailsAtMark x) → ⊥

@@ -21,7 +21,9 @@ mod ReportLines
 mod Words
 mod Decode
 mod ToldOnce
+mod Once
 mod Answered
+mod Apart
 mod Judging
 mod Served
 mod FewItems

@@ -1,6 +1,6 @@
-//! A report of a run that kept its marks replays, with its capture behind it.
+//! A report of a run that kept its marks replays, with its capture behind it; and at most one answer fits an input.
 
-ghost use Rattle.std.specs.Prelude.{◌≡◌, ◌≤◌, Bool, true, List, ◌++◌, Option, length, map};
+ghost use Rattle.std.specs.Prelude.{◌≡◌, ◌≤◌, ℕ, Bool, true, List, ◌++◌, Option, length, map};
 ghost use Rattle.sq_base.specs.Ends.{End};
 ghost use Rattle.sq_base.specs.declared.kinds.Status.TheVariants as Status;
 ghost use Rattle.capture_reader.specs.Outcome.{CaptureFile};
@@ -17,6 +17,9 @@ ghost use Rattle.squeue_run.specs.Asked.{Asked, asked};
 ghost use Rattle.squeue_run.specs.Limits.{most_marks};
 ghost use Rattle.squeue_run.specs.Ran.{HasRan};
 ghost use Rattle.trace_lines.specs.Printed.{ArePrintedCalls, IsPrintedSetup};
+ghost use Rattle.trace_replay.specs.Answers.{IsEither};
+ghost use Rattle.trace_replay.specs.declared.reason.Reason.{Reason};
+ghost use Rattle.trace_replay.specs.Reasons.{Holds};
 ghost use Rattle.trace_replay.specs.Replays.{Replays, WroteWhatReplays};
 
 /// Where accepted words ask for a trace and the run ends with status 0, what it wrote replays with what it read behind it.
@@ -33,3 +36,21 @@ pub fn what_was_served_replays()
         → HasServed (plan_of file verify) calls setup v
         → Replays (trace_text (plan_of file verify) calls setup verify (orders_of v) (map marks_of v.traces) ++ file.bytes) }
 {}
+
+/// No input has two reasons why it doesn't replay.
+pub fn an_input_has_one_reason()
+    ensures { (input : List ℕ) (r s : Reason) → Holds r input → Holds s input → r ≡ s }
+{}
+
+/// What replays has no such reason.
+pub fn what_replays_has_no_reason()
+    ensures { (input : List ℕ) (r : Reason) → Holds r input → Replays input → ⊥ }
+{}
+
+/// So an input has one answer, to the letter.
+pub fn an_input_has_one_answer()
+    ensures { (input text other : List ℕ) → IsEither input text → IsEither input other → text ≡ other }
+{
+    an_input_has_one_reason();
+    what_replays_has_no_reason();
+}

@@ -31,11 +31,11 @@ use Rattle.ring_threads.specs.ServedBlocks.{AreServed, IsServing}
 use Rattle.worked_runs.specs.OneSqueue.{plan, setup, setting, history, ending, order, block, no_trace, served}
 
 -- the only place of a list of one
-only : {A : Type 0} (x y : A) (q : ℕ) → slice_get (x ∷ []) q ≡ Some y → (q ≡ 0) × (x ≡ y)
+pub only : {A : Type 0} (x y : A) (q : ℕ) → slice_get (x ∷ []) q ≡ Some y → (q ≡ 0) × (x ≡ y)
 only x y zero e = (refl, cc e)
 only x y (suc q) e = absurd (omega (arith, slice_get_within (x ∷ []) (suc q) y e))
 
-is_zero : (c : ℕ) → c < 1 → c ≡ 0
+pub is_zero : (c : ℕ) → c < 1 → c ≡ 0
 is_zero c lt = omega (arith, lt)
 
 -- with one squeue, stay s is stay s of squeue 0
@@ -51,12 +51,23 @@ the_stay s v e =
     let o = only _ v s there in
     (o.0, ap (λ (w : Stay). w.note) (sym o.1))
 
-settles : order ≡ settle [] 0 order
+pub settles : order ≡ settle [] 0 order
 unfolding settle
 settles = refl
 
 none_called : (j k : ℕ) → made_in_all 0 j k (ending ∷ []) ≡ option_map_or (λ (x : ℕ × Call). if x.0 == 0 then 1 else 0) (call_at [] j k) 0
 none_called j k = refl
+
+-- its block is what one thread gives
+module _ (file : CaptureFile) (counts : Counts) (t : Tuple) (x y : Item) where
+  abbrev its_plan : PlanOf
+  its_plan = plan file counts t x y
+
+  pub one_served : AreServed its_plan [] (block its_plan ∷ [])
+  one_served = record {
+    count = refl;
+    each = λ c lt. subst (λ k. IfSome (slice_get (block its_plan ∷ []) k) (IsServing its_plan [] k)) (sym (is_zero c lt)) record { whole = refl; served = refl };
+  }
 
 module _ (file : CaptureFile) (counts : Counts) (t : Tuple) (x y : Item) (legal : Legal setting history) (over : IsOver setting (run setting history))
     (keeps : KeepsPace 1 0 Mode'.Process 64 0 setting 0 history) (set : setting ≡ setting_at (plan file counts t x y) [] 1 1 0 0) where
@@ -114,16 +125,10 @@ module _ (file : CaptureFile) (counts : Counts) (t : Tuple) (x y : Item) (legal 
     whole = λ c o at. let i = only order o c at in subst (λ k. IsWhole p [] k o) (sym i.0) (subst (IsWhole p [] 0) i.1 whole);
   }
 
-  one_served : AreServed p [] (block p ∷ [])
-  one_served = record {
-    count = refl;
-    each = λ c lt. subst (λ k. IfSome (slice_get (block p ∷ []) k) (IsServing p [] k)) (sym (is_zero c lt)) record { whole = refl; served = refl };
-  }
-
   pub is_served : HasServed p [] setup (served p)
   is_served = record {
     fits = fits;
-    served = one_served;
+    served = one_served file counts t x y;
     called = λ c j k lt. subst (λ d. made_in_all d j k (ending ∷ []) ≡ option_map_or (λ (x : ℕ × Call). if x.0 == d then 1 else 0) (call_at [] j k) 0) (sym (is_zero c lt)) (none_called j k);
     traces = refl;
     traced = λ q e at. subst (λ k. IfSome (slice_get (no_trace ∷ []) k) (λ t. marks_of t ≡ [])) (sym (only ending e q at).0) refl;

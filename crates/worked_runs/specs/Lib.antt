@@ -1,1 +1,2 @@
 pub mod OneSqueue
+pub mod TwoSqueues

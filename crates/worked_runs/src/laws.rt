@@ -13,6 +13,7 @@ ghost use Rattle.squeue_rings.specs.Keeping.{KeepsPace};
 ghost use Rattle.ring_quotas.specs.Quotas.{setting_at};
 ghost use Rattle.ring_threads.specs.Served.{HasServed};
 ghost use Rattle.worked_runs.specs.OneSqueue as One;
+ghost use Rattle.worked_runs.specs.TwoSqueues as Two;
 
 /// The history is legal, ends, keeps the pace of its setup, and has the setting of its homes and quotas.
 pub fn a_history_fits()
@@ -28,4 +29,29 @@ pub fn there_is_a_run()
         → HasServed (One.plan file counts t x y) [] One.setup (One.served (One.plan file counts t x y)) }
 {
     a_history_fits();
+}
+
+/// Of a run with a move, the history of the squeue at which the connection begins.
+pub fn a_history_with_an_out_fits()
+    ensures legal { Legal Two.first_setting Two.first_history }
+    ensures over { IsOver Two.first_setting (run Two.first_setting Two.first_history) }
+    ensures keeps { KeepsPace 2 1 Mode.Process 64 0 Two.first_setting 0 Two.first_history }
+    ensures set { (file : CaptureFile) (counts : Counts) (t : Tuple) (x y : Item) → Two.first_setting ≡ setting_at (One.plan file counts t x y) [] 2 1 1 0 }
+{}
+
+/// And of the squeue to which it moves.
+pub fn a_history_with_an_in_fits()
+    ensures legal { Legal Two.second_setting Two.second_history }
+    ensures over { IsOver Two.second_setting (run Two.second_setting Two.second_history) }
+    ensures keeps { KeepsPace 2 1 Mode.Process 64 1 Two.second_setting 0 Two.second_history }
+    ensures set { (file : CaptureFile) (counts : Counts) (t : Tuple) (x y : Item) → Two.second_setting ≡ setting_at (One.plan file counts t x y) [] 2 1 1 1 }
+{}
+
+/// There is a run with a move: for every capture, tuple and two items, what is written out with two squeues was served.
+pub fn there_is_a_run_with_a_move()
+    ensures { (file : CaptureFile) (counts : Counts) (t : Tuple) (x y : Item)
+        → HasServed (One.plan file counts t x y) [] Two.setup (Two.served (One.plan file counts t x y)) }
+{
+    a_history_with_an_out_fits();
+    a_history_with_an_in_fits();
 }

@@ -1,4 +1,4 @@
-//! A run written out, for which all holds that `serve` promises: so the promise isn't an empty one.
+//! Runs written out, one of them with a move, for which all holds that `serve` promises: so the promise isn't an empty one.
 //!
 //! It stands at the end of what is proved of a run, and nothing stands on it: histories, orders and blocks are given by hand, and the
 //! laws say that they meet the clause (`HasServed`). It never runs a thread.

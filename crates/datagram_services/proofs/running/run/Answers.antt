@@ -5,7 +5,7 @@ use Rattle.stream_blocks.specs.Standing.{limits_of, origin_of}
 use Rattle.ring_jobs.specs.Running.{MayDoAll}
 use Rattle.ring_jobs.proofs.Finished.{at_pace}
 use Rattle.datagram_services.proofs.Ready.{all_below, jobs_ready, one_run}
-use Rattle.datagram_services.proofs.Finished.{all_lent, has_run}
+use Rattle.datagram_services.proofs.Finished.{all_lent, all_paced, has_run}
 use Rattle.datagram_services.proofs.running.run.Goals as goal
 
 pub run_all-requires-clause-run : goal.run_all-requires-clause-run
@@ -44,6 +44,17 @@ returns-clause-ran g c =
     let done = at_pace limits_of [] lines ss jobs new c.pace.result.homes.squeues c.pace.result.homes.spread c.pace.result.mode c.pace.result.budget s.squeues 0 s.mode s.budget
     c.pace.ensures.squeues (c.pace.ensures.spread ∙ c.requires.setup.1) c.pace.ensures.mode c.pace.ensures.budget c.run_all.ensures in
     has_run c.args.plan.now s.squeues s.rings s.mode s.budget lines ss c.requires.set c.requires.lines jobs new c.requires.tasks c.requires.lent c.run_all.auto.jobs done
+
+pub returns-clause-paced : goal.returns-clause-paced
+returns-clause-paced g c =
+    let s = c.args.setup.now in
+    let ss = c.args.squeues.now in
+    let lines = c.args.lines.now in
+    let jobs = c.args.jobs.now in
+    let new = c.run_all.new.jobs in
+    let done = at_pace limits_of [] lines ss jobs new c.pace.result.homes.squeues c.pace.result.homes.spread c.pace.result.mode c.pace.result.budget s.squeues 0 s.mode s.budget
+    c.pace.ensures.squeues (c.pace.ensures.spread ∙ c.requires.setup.1) c.pace.ensures.mode c.pace.ensures.budget c.run_all.ensures in
+    all_paced c.args.plan.now s.squeues s.rings s.mode s.budget lines ss c.requires.set c.requires.lines jobs new c.requires.tasks c.requires.lent c.run_all.auto.jobs done
 
 pub returns-clause-lent : goal.returns-clause-lent
 returns-clause-lent g c =
