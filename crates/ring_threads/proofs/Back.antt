@@ -11,12 +11,13 @@ use Rattle.squeue_state.specs.Told.{Traced}
 use Rattle.conn_blocks.specs.contracts.blocks.BlocksResident.TheImpl.{ghosts}
 use Rattle.conn_blocks.specs.declared.blocks.Blocks.{Blocks}
 use Rattle.conn_blocks.specs.Holding.{StandsFor}
-use Rattle.conn_blocks.specs.Places.{PlaceFits, limits_of, origin_of}
-use Rattle.conn_blocks.specs.ServeOrder.{BlockOf, OriginOf}
+use Rattle.conn_blocks.specs.Places.{limits_of, origin_of}
+use Rattle.conn_blocks.specs.ServeOrder.{BlockOf, ConnectionOf, OriginOf}
+use Rattle.squeue_ends.specs.Finishing.{AreEmpty, AreTaken, PartTaken}
 use Rattle.squeue_serve.specs.Lending.{AreLent, HasCome}
 use Rattle.squeue_serve.specs.Places.{MayEnd}
 use Rattle.ring_jobs.proofs.ComesBack.{AreBack, all_came, came_knows, each_behind, none_came, one_came}
-use Rattle.ring_threads.specs.Gathering.{AreEmpty, EndsAs, HasGathered, IsFrom, IsTraceOf, LiesSo, WasAdded, first_of}
+use Rattle.ring_threads.specs.Gathering.{EndsAs, HasGathered, IsFrom, IsTraceOf, LiesSo}
 
 module _ (front count : ℕ) (ss : List (Named Blocks)) (lent0 : ℕ → List (Option (Pass Element))) where
   -- those behind `left` have come back, with these ends and traces
@@ -42,7 +43,7 @@ module _ (front count : ℕ) (ss : List (Named Blocks)) (lent0 : ℕ → List (O
       }
 
   module _ (all left : List (Named Blocks)) (s : Named Blocks) (having without : ℕ → List (Option (Pass Element))) (places new : List (Option (Box BlockOf Global))) (es : List Ending) (ts : List Traced) (r : Blocks) (e : Ending) (t : Traced)
-      (split : all ≡ left ++ s ∷ []) (h : SoFar all having places es ts) (come : HasCome ghosts front count (length left) s having without r e t) (added : WasAdded r places new) where
+      (split : all ≡ left ++ s ∷ []) (h : SoFar all having places es ts) (come : HasCome ghosts front count (length left) s having without r e t) (added : AreTaken ghosts r places new) where
     ends_as : EndsAs front count lent0 (length left) s e
     ends_as =
         record {
@@ -79,9 +80,9 @@ module _ (front count : ℕ) (ss : List (Named Blocks)) (lent0 : ℕ → List (O
 
     placed_now : (c : ℕ) → c < length new → LiesSo (s ∷ h.back) (e ∷ es) c (slice_get new c)
     placed_now c lt =
-        let old = h.placed c (omega (arith, lt, added.1)) in
-        let fits = added.3 (peri (setting_of limits_of s.given) e.history) come.resident.stands_for c in
-        subst (LiesSo (s ∷ h.back) (e ∷ es) c) (sym (added.2 c)) (by (slice_get added.0 c) (is_here (run (setting_of limits_of s.given) e.history) c) refl fits old)
+        let was : c < length places = omega (arith, lt, added.count) in
+        let part = added.each (peri (setting_of limits_of s.given) e.history) come.resident.stands_for c was in
+        by (is_here (run (setting_of limits_of s.given) e.history) c) refl part (h.placed c was)
       where
         here_is : (b : Bool) → is_here (run (setting_of limits_of s.given) e.history) c ≡ b → is_here (run e.setting e.history) c ≡ b
         here_is b is = ap (λ (S : Setting). is_here (run S e.history) c) its_setting ∙ is
@@ -99,14 +100,13 @@ module _ (front count : ℕ) (ss : List (Named Blocks)) (lent0 : ℕ → List (O
                   (subst (λ (S : Setting). StandsFor (origin_of r).plan (origin_of r).calls c (acts S e.history c) b.value) (sym its_setting) stands);
             }
 
-        by : (o : Option (Option (Box BlockOf Global))) (here : Bool) → is_here (run (setting_of limits_of s.given) e.history) c ≡ here
-            → PlaceFits (origin_of r).plan (origin_of r).calls c o (if here then Some (acts (setting_of limits_of s.given) e.history c) else None) → LiesSo h.back es c (slice_get places c) → LiesSo (s ∷ h.back) (e ∷ es) c (first_of o (slice_get places c))
-        by (Some (Some b)) true is fits old = from b is fits
-        by (Some (Some b)) false is fits old = absurd fits
-        by (Some None) true is fits old = absurd fits
-        by (Some None) false is fits old = later c (slice_get places c) (here_is false is) old
-        by None true is fits old = absurd fits
-        by None false is fits old = later c (slice_get places c) (here_is false is) old
+        by : (here : Bool) → is_here (run (setting_of limits_of s.given) e.history) c ≡ here
+            → PartTaken ghosts (origin_of r) c (if here then Some (acts (setting_of limits_of s.given) e.history c) else None) (slice_get places c) (slice_get new c)
+            → LiesSo h.back es c (slice_get places c) → LiesSo (s ∷ h.back) (e ∷ es) c (slice_get new c)
+        by true is part old =
+            let stands = subst (λ (o : ConnectionOf). StandsFor o.plan o.calls o.c (acts (setting_of limits_of s.given) e.history c) part.0.value) part.2 part.3 in
+            subst (LiesSo (s ∷ h.back) (e ∷ es) c) (sym part.1) (from part.0 is stands)
+        by false is part old = subst (LiesSo (s ∷ h.back) (e ∷ es) c) (sym part) (later c (slice_get places c) (here_is false is) old)
 
     pub one_back : SoFar left without new (e ∷ es) (t ∷ ts)
     one_back =

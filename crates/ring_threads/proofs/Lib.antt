@@ -4,3 +4,4 @@ pub mod WholeRun
 mod FewFeeds
 mod Ready
 mod Finished
+mod Lying

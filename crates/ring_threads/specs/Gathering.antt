@@ -5,30 +5,14 @@ use Rattle.turn_gate.specs.declared.pass.Pass.{Pass}
 use Rattle.perimeter_core.specs.Perimeter.{is_here}
 use Rattle.perimeter_core.specs.History.{Element, run}
 use Rattle.perimeter_core.specs.Deeds.{acts}
-use Rattle.perimeter_core.specs.Blocks.{Blocks as Had}
 use Rattle.conn_blocks.specs.declared.blocks.Blocks.{Blocks}
 use Rattle.conn_blocks.specs.ServeOrder.{BlockOf}
 use Rattle.conn_blocks.specs.Holding.{StandsFor}
-use Rattle.conn_blocks.specs.Places.{PlacesStand, Stands, limits_of, origin_of}
+use Rattle.conn_blocks.specs.Places.{limits_of, origin_of}
 use Rattle.squeue_state.specs.Naming.{Ending, Named, setting_of}
 use Rattle.squeue_state.specs.Endings.{HasEnded}
 use Rattle.squeue_state.specs.Clauses.{Knows}
 use Rattle.squeue_state.specs.Told.{Traced, marks_of}
-
--- nothing lies at any of these places
-abbrev pub AreEmpty : List (Option (Box BlockOf Global)) → Type 0
-AreEmpty places = (c : ℕ) → c < length places → slice_get places c ≡ Some None
-
--- a block that is in the first place where there is one, or else in the second
-abbrev pub first_of : Option (Option (Box BlockOf Global)) → Option (Option (Box BlockOf Global)) → Option (Option (Box BlockOf Global))
-first_of (Some (Some b)) o = Some (Some b)
-first_of _ o = o
-
--- the blocks of a squeue were put into places where others may lie
-abbrev pub WasAdded : Blocks → List (Option (Box BlockOf Global)) → List (Option (Box BlockOf Global)) → Type 0
-WasAdded r old new = (theirs : List (Option (Box BlockOf Global))) × (length new ≡ length old)
-    × ((c : ℕ) → slice_get new c ≡ first_of (slice_get theirs c) (slice_get old c))
-    × ((blocks : Had) → Stands r blocks → PlacesStand (origin_of r).plan (origin_of r).calls theirs blocks)
 
 -- Squeue number q of those lent ended so: its number and setting are those with which it was made, and each of its passes that is
 -- lent by number has seen a beginning of its history, and made what there carries its number

@@ -1,5 +1,6 @@
 pub mod Fits
 pub mod Served
+pub mod Lying
 pub mod ServedBlocks
 pub mod Gathering
 pub mod Settings

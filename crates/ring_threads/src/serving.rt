@@ -8,9 +8,9 @@ ghost use Rattle.conn_blocks.specs.Places.{limits_of};
 ghost use Rattle.synch_enter.specs.Hinting.{conns_of, squeues_of};
 ghost use Rattle.squeue_serve.specs.Places.{IsNew, MayEnd};
 ghost use Rattle.squeue_serve.specs.Lending.{AreLent, HaveRoom, lent_to, tasks_in};
+ghost use Rattle.squeue_ends.specs.Finishing.{AreEmpty};
 ghost use Rattle.ring_quotas.specs.Quotas.{IsInRange};
 ghost use Rattle.ring_jobs.specs.Tasks.{AreLines, AreTasks, lists_of};
-ghost use Rattle.ring_threads.specs.Gathering.{AreEmpty};
 ghost use Rattle.ring_threads.specs.Served.{HasServed};
 ghost use Rattle.ring_threads.specs.Settings.{AreSet, HasRun};
 
@@ -18,13 +18,14 @@ use crate::gathering::gather;
 use crate::lines::lines_of;
 use crate::making::{count_of, make_all};
 use crate::running::run;
-use crate::served::{Gathered, Served};
+use crate::served::Served;
 use conn_blocks::laws::{a_block_holds_back_what_settling_holds, a_settled_order_is_whole};
-use conn_blocks::{Blocks, Calls};
+use conn_blocks::{Block, Blocks, Calls};
 use conn_classifier::Plan;
 use perimeter_core::Hook;
 use ring_jobs::{FRONT, Line, Task, tasks_of};
 use ring_quotas::{CALLERS, Setup};
+use squeue_ends::Finished;
 use squeue_serve::{Job, Squeues, discard, jobs_of, run_unused};
 use squeue_state::Squeue;
 use std::alloc::{AllocError, Global};
@@ -59,11 +60,11 @@ pub fn serve<H: Hook + Sync, W: Threads + Wait + Sync>(
     let conns = calls.conns(alloc)?;
     let rings = lines_of(alloc, plan, setup.rings)?;
     let (lines, tasks) = tasks_of(alloc, rings, CALLERS, setup.squeues)?;
-    let gathered = Gathered::with_room(alloc, plan.conns(), setup.squeues)?;
+    let finished = Finished::with_room(alloc, plan.conns(), setup.squeues)?;
     let jobs = jobs_of(alloc, tasks, setup.squeues as usize)?;
     match Squeues::with_room(alloc, setup.squeues as usize) {
         Ok(squeues) => serve_by(
-            rt, alloc, plan, calls, &conns, setup, hook, &hints, &lines, gathered, jobs, squeues,
+            rt, alloc, plan, calls, &conns, setup, hook, &hints, &lines, finished, jobs, squeues,
         ),
         Err(error) => {
             discard(jobs);
@@ -83,7 +84,7 @@ fn serve_by<'p, H: Hook + Sync, W: Threads + Wait + Sync>(
     hook: &H,
     hints: &Hints,
     lines: &[Line],
-    gathered: Gathered,
+    finished: Finished<Box<Block>>,
     jobs: Vec<Job<Task>>,
     squeues: Squeues<Blocks<'p>>,
 ) -> Result<Served, AllocError>
@@ -96,12 +97,12 @@ fn serve_by<'p, H: Hook + Sync, W: Threads + Wait + Sync>(
     requires jobs { All (λ j. j.places.items ≡ []) jobs.items × HaveRoom setup.now.squeues jobs.items }
     requires squeues { (squeues.all.items ≡ []) × (squeues.rooms.items ≡ []) }
     requires room { (setup.now.squeues ≤ vec_capacity squeues.all) × (setup.now.squeues ≤ vec_capacity squeues.rooms) }
-    requires places { (length gathered.places.items ≡ length plan.now.tuples) × AreEmpty gathered.places.items }
-    requires ended { (gathered.ended.items ≡ []) × (setup.now.squeues ≤ vec_capacity gathered.ended) }
-    requires traces { (gathered.traces.items ≡ []) × (setup.now.squeues ≤ vec_capacity gathered.traces) }
+    requires places { (length finished.parts ≡ length plan.now.tuples) × AreEmpty finished.parts }
+    requires none { (finished.ended ≡ []) × (finished.traces ≡ []) }
+    requires ends { setup.now.squeues ≤ finished.room }
     ensures { IfOk result (λ v. HasServed plan.now calls.now setup.now v) }
 {
-    let mut gathered = gathered;
+    let mut finished = finished;
     let mut jobs = jobs;
     let mut squeues = squeues;
     let made = make_all(alloc, plan, calls, setup, &mut jobs, &mut squeues);
@@ -124,14 +125,14 @@ fn serve_by<'p, H: Hook + Sync, W: Threads + Wait + Sync>(
         &mut jobs,
         FRONT,
         count_of(setup),
-        &mut gathered,
+        &mut finished,
     );
     discard(jobs);
     squeues.destroy_empty();
     made?;
     a_settled_order_is_whole();
     a_block_holds_back_what_settling_holds();
-    gathered.whole(alloc)
+    Served::left(finished, plan.conns())
 }
 
 // Runs the jobs. Where not all squeues could be made, it ends what was made.
