@@ -1,6 +1,7 @@
 mod Back
 mod Finished
 mod Joins
+mod LineParts
 mod Listed
 mod MadeSqueues
 mod MoreComplete

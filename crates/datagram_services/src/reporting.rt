@@ -1,6 +1,6 @@
 //! The report, line by line.
 
-ghost use Rattle.std.specs.Prelude.{[], ◌≡◌, ◌<◌, ◌++◌, IfOk, IfSome, OnOk, if◌then◌else◌, length, slice_get, string_bytes};
+ghost use Rattle.std.specs.Prelude.{[], ◌≡◌, ◌<◌, ◌∷◌, ◌++◌, codes, decimal, IfOk, IfSome, OnOk, if◌then◌else◌, length, slice_get};
 ghost use Rattle.std.specs.List.{flat_map};
 ghost use Rattle.squeue_report.specs.ReportText.{end_line, reply_line};
 ghost use Rattle.stream_blocks.specs.Served.{all_served};
@@ -11,10 +11,11 @@ ghost use Rattle.datagram_services.specs.Served.{IsMoreServed};
 use crate::served::MoreServed;
 use chargen_service::GenBlock;
 use sq_base::{CHARGEN_PORT, ECHO_PORT, Octets, Tuple};
-use squeue_report::{push_datagram, push_end, push_replies, state_name};
+use squeue_report::{push_datagram, push_last, push_next_end, push_replies};
 use std::alloc::{AllocError, Global};
 use stream_blocks::Answer;
 use stream_plan::MorePlan;
+use text_digits::push_field;
 
 /// The report of what was served of the plan: the counts, and for each stream its ends and service, its items, what was sent, and the
 /// generator's last state. Fails only for want of memory.
@@ -26,63 +27,111 @@ pub fn more_report(
     requires { IsMoreServed plan.now served.now }
     ensures { IfOk result (λ text. text ≡ plan_text plan.now) }
 {
-    let mut text = String::new(alloc);
-    text.push_str("more 1\n")?;
+    let mut text = Vec::from_slice(alloc, b"more 1\n")?;
     push_counts(&mut text, plan)?;
+    let mut datagram = Vec::new(alloc);
     for c in 0..plan.streams() {
-        push_stream(alloc, &mut text, plan, served, c)?;
+        push_stream(&mut text, &mut datagram, plan, served, c)?;
     }
-    text.push_str("done\n")?;
-    Ok(Octets::wrap(text.into_bytes()))
+    text.extend_from_slice(b"done\n")?;
+    Ok(Octets::wrap(text))
 }
 
-#[tactic(auto, using(crate::proofs::Joins::joins), unfolding(crate::specs::MoreText::counts_line))]
-fn push_counts(text: &mut String, plan: &MorePlan<'_>) -> Result<(), AllocError>
-    ensures { OnOk result (string_bytes text.new ≡ string_bytes text.old
+fn push_counts(text: &mut Vec<u8>, plan: &MorePlan<'_>) -> Result<(), AllocError>
+    ensures { OnOk result (text.new.items ≡ text.old.items
         ++ counts_line (length plan.now.file.packets) plan.now.file.cut plan.now.counts (length plan.now.streams)) }
 {
-    let counts = plan.counts();
+    push_records(text, plan)?;
+    push_kinds(text, plan)?;
+    push_streams(text, plan)?;
+    Ok(())
+}
+
+/// How many records there are, and whether the last one is cut.
+#[tactic(auto, using(crate::proofs::Joins::joins))]
+fn push_records(text: &mut Vec<u8>, plan: &MorePlan<'_>) -> Result<(), AllocError>
+    ensures { OnOk result (text.new.items ≡ text.old.items ++ (codes "records " ++ (decimal (length plan.now.file.packets)
+        ++ (codes " tail " ++ decimal (if plan.now.file.cut then 1 else 0))))) }
+{
     let capture = plan.capture();
-    write!(
-        text,
-        "records {} tail {} served {} nofit {}",
-        capture.len(),
-        u32::from(capture.cut_tail()),
-        counts.served,
-        counts.nofit
-    )?;
-    writeln!(text, " other {} streams {}", counts.other, plan.streams())
+    push_field(text, b"records ", capture.len())?;
+    push_field(text, b" tail ", u32::from(capture.cut_tail()))
+}
+
+/// How many of them are served, and how many aren't.
+#[tactic(auto, using(crate::proofs::Joins::joins))]
+fn push_kinds(text: &mut Vec<u8>, plan: &MorePlan<'_>) -> Result<(), AllocError>
+    ensures { OnOk result (text.new.items ≡ text.old.items ++ (codes " served " ++ (decimal plan.now.counts.served
+        ++ (codes " nofit " ++ (decimal plan.now.counts.nofit ++ (codes " other " ++ decimal plan.now.counts.other)))))) }
+{
+    let counts = plan.counts();
+    push_field(text, b" served ", counts.served)?;
+    push_field(text, b" nofit ", counts.nofit)?;
+    push_field(text, b" other ", counts.other)
+}
+
+/// How many streams there are, at the line's end.
+#[tactic(auto, using(crate::proofs::Joins::joins))]
+fn push_streams(text: &mut Vec<u8>, plan: &MorePlan<'_>) -> Result<(), AllocError>
+    ensures { OnOk result (text.new.items ≡ text.old.items ++ (codes " streams " ++ (decimal (length plan.now.streams) ++ 10 ∷ []))) }
+{
+    push_field(text, b" streams ", plan.streams())?;
+    text.extend_from_slice(b"\n")
 }
 
 /// What stream `c` has in the report.
 fn push_stream(
-    alloc: Global,
-    text: &mut String,
+    text: &mut Vec<u8>,
+    datagram: &mut Vec<u8>,
     plan: &MorePlan<'_>,
     served: &MoreServed,
     c: u32,
 ) -> Result<(), AllocError>
     requires place { c < length plan.now.streams }
     requires served { IsMoreServed plan.now served.now }
-    ensures { OnOk result (IfSome (slice_get plan.now.streams c) (λ s. string_bytes text.new ≡ string_bytes text.old
+    ensures { OnOk result (IfSome (slice_get plan.now.streams c) (λ s. text.new.items ≡ text.old.items
         ++ stream_text c s (all_served plan.now.file s))) }
 {
     let tuple = plan.stream(c).tuple();
     push_head(text, c, &tuple)?;
     push_items(text, plan.items(c))?;
-    push_answers(alloc, text, served.answers(c))?;
-    push_generated(alloc, text, &tuple, served.generator(c))
+    push_answers(text, served.answers(c))?;
+    push_generated(text, datagram, &tuple, served.generator(c))
 }
 
-#[tactic(auto, using(crate::proofs::Joins::joins), unfolding(crate::specs::MoreText::stream_line))]
-fn push_head(text: &mut String, c: u32, tuple: &Tuple) -> Result<(), AllocError>
-    ensures { OnOk result (string_bytes text.new ≡ string_bytes text.old ++ stream_line c tuple.now) }
+fn push_head(text: &mut Vec<u8>, c: u32, tuple: &Tuple) -> Result<(), AllocError>
+    ensures { OnOk result (text.new.items ≡ text.old.items ++ stream_line c tuple.now) }
 {
-    write!(text, "stream {c} {} ", protocol_name(tuple.server_port))?;
-    push_end(text, tuple.client, tuple.client_port)?;
-    text.push(' ')?;
-    push_end(text, tuple.server, tuple.server_port)?;
-    writeln!(text, " {}", service_name(tuple.server_port))
+    push_field(text, b"stream ", c)?;
+    push_protocol(text, tuple.server_port)?;
+    push_next_end(text, tuple.client, tuple.client_port)?;
+    push_next_end(text, tuple.server, tuple.server_port)?;
+    push_service(text, tuple.server_port)?;
+    Ok(())
+}
+
+fn push_protocol(text: &mut Vec<u8>, port: u16) -> Result<(), AllocError>
+    ensures { OnOk result (text.new.items ≡ text.old.items ++ 32 ∷ protocol_word port) }
+{
+    push_word(text, protocol_name(port))
+}
+
+/// The name of the service at this port, which ends a line.
+#[tactic(auto, using(crate::proofs::Joins::joins))]
+fn push_service(text: &mut Vec<u8>, port: u16) -> Result<(), AllocError>
+    ensures { OnOk result (text.new.items ≡ text.old.items ++ 32 ∷ (service_word port ++ 10 ∷ [])) }
+{
+    push_word(text, service_name(port))?;
+    text.extend_from_slice(b"\n")
+}
+
+/// Appends a space and a word.
+#[tactic(auto, using(crate::proofs::Joins::joins))]
+fn push_word(text: &mut Vec<u8>, word: &str) -> Result<(), AllocError>
+    ensures { OnOk result (text.new.items ≡ text.old.items ++ 32 ∷ word.now) }
+{
+    text.extend_from_slice(b" ")?;
+    text.extend_from_slice(word.as_bytes())
 }
 
 fn protocol_name(port: u16) -> &'static str
@@ -103,46 +152,46 @@ fn service_name(port: u16) -> &'static str
 
 /// The line of so many items, of which there is at least one.
 #[tactic(auto, using(crate::proofs::Joins::joins), unfolding(crate::specs::MoreText::items_line))]
-fn push_items(text: &mut String, count: u32) -> Result<(), AllocError>
-    ensures { OnOk result (string_bytes text.new ≡ string_bytes text.old ++ items_line count) }
+fn push_items(text: &mut Vec<u8>, count: u32) -> Result<(), AllocError>
+    ensures { OnOk result (text.new.items ≡ text.old.items ++ items_line count) }
 {
     if count == 1 {
-        text.push_str("order f0\n")
-    } else {
-        writeln!(text, "order f0-{}", count.saturating_sub(1))
+        return text.extend_from_slice(b"order f0\n");
     }
+    push_field(text, b"order f0-", count.saturating_sub(1))?;
+    text.extend_from_slice(b"\n")
 }
 
-fn push_answers(alloc: Global, text: &mut String, answers: &[Answer]) -> Result<(), AllocError>
-    ensures { OnOk result (string_bytes text.new ≡ string_bytes text.old ++ flat_map answer_line answers.now) }
+fn push_answers(text: &mut Vec<u8>, answers: &[Answer]) -> Result<(), AllocError>
+    ensures { OnOk result (text.new.items ≡ text.old.items ++ flat_map answer_line answers.now) }
 {
     for answer in answers {
-        push_answer(alloc, text, answer)?;
+        push_answer(text, answer)?;
     }
     Ok(())
 }
 
 #[tactic(auto, using(crate::proofs::Joins::joins), unfolding(crate::specs::MoreText::answer_line))]
-fn push_answer(alloc: Global, text: &mut String, answer: &Answer) -> Result<(), AllocError>
-    ensures { OnOk result (string_bytes text.new ≡ string_bytes text.old ++ answer_line answer.now) }
+fn push_answer(text: &mut Vec<u8>, answer: &Answer) -> Result<(), AllocError>
+    ensures { OnOk result (text.new.items ≡ text.old.items ++ answer_line answer.now) }
 {
-    push_datagram(alloc, text, answer.at, answer.datagram.as_slice())
+    push_datagram(text, answer.at, answer.datagram.as_slice())
 }
 
 /// What the generator sent, and its last state where the stream is its own.
-#[tactic(auto, using(crate::proofs::Joins::joins), unfolding(squeue_report::specs::ReportText::end_line))]
+#[tactic(auto, using(crate::proofs::Joins::joins))]
 fn push_generated(
-    alloc: Global,
-    text: &mut String,
+    text: &mut Vec<u8>,
+    datagram: &mut Vec<u8>,
     tuple: &Tuple,
     generator: &GenBlock,
 ) -> Result<(), AllocError>
-    ensures { OnOk result (string_bytes text.new ≡ string_bytes text.old ++ (flat_map (reply_line tuple.now) generator.now.block.replies
+    ensures { OnOk result (text.new.items ≡ text.old.items ++ (flat_map (reply_line tuple.now) generator.now.block.replies
         ++ (if is_generator tuple.now.server_port then end_line generator.now.block.state else []))) }
 {
-    push_replies(alloc, text, tuple, generator.tcb())?;
-    if tuple.server_port == CHARGEN_PORT {
-        writeln!(text, "end {}", state_name(generator.tcb().state()))?;
+    push_replies(text, datagram, tuple, generator.tcb())?;
+    if tuple.server_port != CHARGEN_PORT {
+        return Ok(());
     }
-    Ok(())
+    push_last(text, generator.tcb().state())
 }

@@ -1,4 +1,5 @@
 pub mod Joins
+mod LineParts
 mod Lines
 mod Marked
 mod Runs

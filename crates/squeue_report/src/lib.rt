@@ -10,6 +10,6 @@ mod tests;
 mod tracing;
 
 pub use names::state_name;
-pub use reporting::{push_datagram, push_end, push_replies, report};
+pub use reporting::{push_datagram, push_last, push_next_end, push_replies, report};
 pub use summing::summary;
 pub use tracing::report2;

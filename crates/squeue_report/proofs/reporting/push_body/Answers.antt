@@ -1,4 +1,4 @@
-use Rattle.std.proofs.Common.{◌≤◌, length, arith, ◌∙◌, ◌++◌, string_bytes}
+use Rattle.std.proofs.Common.{◌≤◌, length, arith, ◌∙◌, ◌++◌}
 use Rattle.squeue_report.specs.ReportText.{counts_line}
 use Rattle.squeue_report.proofs.Blocks.{block_more, blocks_end, body}
 use Rattle.squeue_report.proofs.reporting.push_body.Goals as goal
@@ -11,5 +11,5 @@ pub returns : goal.returns
 returns c calls served =
     let past : length c.args.plan.now.tuples ≤ c.loop-c.c = omega (arith, c.conns-c-end.ensures.value, c.loop-c-test.false) in
     body c.args.plan.now calls c.args.served.now.blocks _ _ _ served
-    (c.in_ok-push_counts.ensures ∙ (λ k. string_bytes c.args.text.now ++ counts_line (c.counts.ensures k) (c.conns.ensures.value k)))
+    (c.in_ok-push_counts.ensures ∙ (λ k. c.args.text.now.items ++ counts_line (c.counts.ensures k) (c.conns.ensures.value k)))
     (blocks_end c.args.plan.now.tuples c.args.served.now.blocks _ _ c.loop-c.c past c.loop-c.invariant)

@@ -1,4 +1,4 @@
-use Rattle.std.proofs.Common.{◌≡◌, ◌++◌, ◌-◌, drop, map, take, string_bytes}
+use Rattle.std.proofs.Common.{◌≡◌, ◌++◌, ◌-◌, drop, map, take}
 use Rattle.squeue_report.specs.ReportText.{line_end}
 use Rattle.squeue_report.specs.TraceText.{entered_field}
 use Rattle.squeue_report.proofs.tracing.push_entries.Given as goal
@@ -6,5 +6,5 @@ use Rattle.squeue_report.proofs.tracing.push_entries.Given as goal
 -- what is written, with what is to be written
 abbrev pub invariant-loop-i : goal.invariant-loop-i
 invariant-loop-i l =
-    string_bytes l.text ++ line_end (map entered_field (take (l.end - l.i) (drop l.i l.trace.entries)))
-    ≡ string_bytes l.initial.text ++ line_end (map entered_field (take l.len (drop l.first l.trace.entries)))
+    l.text.items ++ line_end (map entered_field (take (l.end - l.i) (drop l.i l.trace.entries)))
+    ≡ l.initial.text.items ++ line_end (map entered_field (take l.len (drop l.first l.trace.entries)))

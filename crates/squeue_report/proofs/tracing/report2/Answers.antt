@@ -1,9 +1,8 @@
-use Rattle.std.proofs.Common.{◌≡◌, ◌≤◌, [], ◌∷◌, ◌++◌, length, map, ap, ◌∙◌, string_bytes, codes, arith}
+use Rattle.std.proofs.Common.{◌≤◌, length, map, ap, ◌∙◌, arith}
 use Rattle.std.specs.Option.{option_map}
 use Rattle.std.proofs.lemmas.List.{length-map}
 use Rattle.std.proofs.lemmas.Option.{slice_get-map}
 use Rattle.squeue_state.specs.Told.{marks_of}
-use Rattle.squeue_report.specs.ReportText.{line}
 use Rattle.squeue_report.specs.TraceText.{squeue_text}
 use Rattle.squeue_report.proofs.Blocks.{traced}
 use Rattle.squeue_report.proofs.Lines.{line_more}
@@ -22,8 +21,7 @@ pub returns : goal.returns
 returns c served =
     let traces = c.args.served.now.traces in
     let past : length (map marks_of traces) ≤ c.loop-q.q = omega (arith, length-map traces marks_of, c.requires.traces, c.loop-q-test.false) in
-    let first : string_bytes c.push_str.new.self ≡ line (codes "report" ∷ codes "2" ∷ []) = c.in_ok-push_str.ensures.bytes ∙ ap (λ l. l ++ codes "report 2\n") c.new-text.ensures.bytes in
-    c.wrap.ensures ∙ ap (λ v. v.items) c.into_bytes.ensures.value
-    ∙ traced c.args.plan.now c.args.calls.now c.args.setup.now c.args.verify (map (λ b. b.order) c.args.served.now.blocks) (map marks_of traces) _ _ _ _ _ _ first
+    c.wrap.ensures
+    ∙ traced c.args.plan.now c.args.calls.now c.args.setup.now c.args.verify (map (λ b. b.order) c.args.served.now.blocks) (map marks_of traces) _ _ _ _ _ _ c.in_ok-text.ensures.items
     (c.in_ok-push_body.ensures c.args.calls.now served) c.in_ok-push_setup.ensures c.in_ok-push_calls.ensures
-    (numbered_all squeue_text (map marks_of traces) _ _ c.loop-q.q past c.loop-q.invariant) c.in_ok-push_str-2.ensures.bytes
+    (numbered_all squeue_text (map marks_of traces) _ _ c.loop-q.q past c.loop-q.invariant) c.in_ok-extend_from_slice.ensures.items
