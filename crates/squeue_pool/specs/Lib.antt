@@ -1,0 +1,5 @@
+pub mod Works
+pub mod Gathering
+pub mod Running
+pub mod Runs
+pub mod Keys

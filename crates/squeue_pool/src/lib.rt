@@ -1,0 +1,26 @@
+//! One call that runs threads over squeues, for any work: rings bring lists of feeds, application threads make calls, workers
+//! process what is left, and what comes back is the resident, the end and the trace of each squeue.
+//!
+//! `pool` says how many squeues and rings there are and how they enter, `work` what is to be done and what is left of a squeue.
+//! [`run`] does it: `lines` has what comes in by each ring, `making` makes the squeues, `running` sets the threads to work,
+//! `gathering` takes back what is left, `serving` puts these together. [`run_by_key`] is `run` for the plain case: connections stay
+//! at their squeues, nobody calls, and each connection has a number of feeds; `keys` has the lists and quotas of it, and
+//! `placing` makes the resident of one squeue from what its parts share.
+#![tactic(auto)]
+
+mod by_key;
+mod gathering;
+mod keys;
+mod lines;
+mod making;
+mod placing;
+mod pool;
+mod running;
+mod serving;
+mod work;
+
+pub use by_key::run_by_key;
+pub use placing::places_at;
+pub use pool::Pool;
+pub use serving::run;
+pub use work::{Left, Work};
