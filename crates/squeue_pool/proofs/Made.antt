@@ -117,7 +117,7 @@ module _ {R P O : Type 0} (G : Ghosts R P O) (pool : Pool) (residents : List R) 
   next_suits = suit.each q first (pairs qs) next_resident next_quotas
 
   pub next_count : length qs ≡ pool.rings + callers
-  next_count = let n = length-map qs (λ u. (u.feeds, u.asks)) in let m = next_suits.passes in omega (arith, n, m)
+  next_count = let n : length (pairs qs) ≡ length qs = length-map qs (λ u. (u.feeds, u.asks)) in let m = next_suits.passes in omega (arith, n, m)
 
   -- and then it is the squeue of its number
   pub next_is : (room : ℕ) (s : Named R) → IsMade G.stands G.size q pool.rings (pairs qs) pool.trace room first s.given → HasAllRoom s.given → IsFor G pool residents (map (λ v. pairs v.items) quotas) q s

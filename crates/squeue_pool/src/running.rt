@@ -54,16 +54,16 @@ fn run_all<R: Resident + Send, H: Hook + Sync, W: Threads + Wait + Sync>(
     hook: &H,
     squeues: &Shared<R>,
     hints: &Hints,
-    calls: &Vec<Vec<u32>>,
+    calls: &[Vec<u32>],
     pace: Pace,
-    lines: &Vec<Line>,
+    lines: &[Line],
     jobs: &mut [Job<Task>],
 )
     requires run { AreOneRun R.origin pace.homes.squeues squeues.now.all.items }
     requires hints { AllBelow (conns_of hints.now) squeues.now.all.items × (squeues_of hints.now ≡ pace.homes.squeues) }
-    requires lines { HaveRings lines.now.items }
-    requires ready { MayDoAll R.limits pace.homes.squeues pace.homes.spread (map (λ v. v.items) calls.now.items) lines.now.items squeues.now.all.items jobs.old }
-    ensures { HaveDone R.limits pace.homes.squeues pace.homes.spread pace.mode pace.budget (map (λ v. v.items) calls.now.items) lines.now.items
+    requires lines { HaveRings lines.now }
+    requires ready { MayDoAll R.limits pace.homes.squeues pace.homes.spread (map (λ v. v.items) calls.now) lines.now squeues.now.all.items jobs.old }
+    ensures { HaveDone R.limits pace.homes.squeues pace.homes.spread pace.mode pace.budget (map (λ v. v.items) calls.now) lines.now
         squeues.now.all.items jobs.old jobs.new }
 {
     run_each(
@@ -82,17 +82,17 @@ fn run_one<R: Resident, H: Hook, W: Wait>(
     hook: &H,
     squeues: &Shared<R>,
     hints: &Hints,
-    calls: &Vec<Vec<u32>>,
+    calls: &[Vec<u32>],
     pace: Pace,
-    lines: &Vec<Line>,
+    lines: &[Line],
     job: &mut Job<Task>,
 )
     requires run { AreOneRun R.origin pace.homes.squeues squeues.now.all.items }
     requires hints { AllBelow (conns_of hints.now) squeues.now.all.items × (squeues_of hints.now ≡ pace.homes.squeues) }
-    requires lines { HaveRings lines.now.items }
-    requires ready { MayDo R.limits pace.homes.squeues pace.homes.spread (map (λ v. v.items) calls.now.items) lines.now.items squeues.now.all.items
+    requires lines { HaveRings lines.now }
+    requires ready { MayDo R.limits pace.homes.squeues pace.homes.spread (map (λ v. v.items) calls.now) lines.now squeues.now.all.items
         job.old.task job.old.places.items }
-    ensures { HasDone R.limits pace.homes.squeues pace.homes.spread pace.mode pace.budget (map (λ v. v.items) calls.now.items) lines.now.items
+    ensures { HasDone R.limits pace.homes.squeues pace.homes.spread pace.mode pace.budget (map (λ v. v.items) calls.now) lines.now
         squeues.now.all.items job.old.task job.old.places.items job.new.places.items }
 {
     run_job(
@@ -101,9 +101,9 @@ fn run_one<R: Resident, H: Hook, W: Wait>(
         hook,
         squeues.all.as_slice(),
         hints,
-        calls.as_slice(),
+        calls,
         pace,
-        lines.as_slice(),
+        lines,
         job,
     );
 }
