@@ -32,16 +32,16 @@ pub fn run_new<R: Resident + Send, H: Hook + Sync, W: Threads + Wait + Sync>(
     pool: &Pool,
     squeues: &Shared<R>,
     hints: &Hints,
-    calls: &Vec<Vec<u32>>,
-    lines: &Vec<Line>,
+    calls: &[Vec<u32>],
+    lines: &[Line],
     jobs: &mut [Job<Task>],
 )
-    requires may { MayRun R.Resident pool.now lines.now.items (map (λ v. v.items) calls.now.items) squeues.now.all.items (conns_of hints.now) }
+    requires may { MayRun R.Resident pool.now lines.now (map (λ v. v.items) calls.now) squeues.now.all.items (conns_of hints.now) }
     requires hints { squeues_of hints.now ≡ pool.now.pace.homes.squeues }
-    requires tasks { AreTasks pool.now.rings (length calls.now.items) pool.now.pace.homes.squeues lines.now.items (tasks_in jobs.old) }
-    requires lent { AreLent IsNew 1 (pool.now.rings + length calls.now.items) squeues.now.all.items (lent_to jobs.old) }
-    ensures done { AllDone R.Resident pool.now lines.now.items (map (λ v. v.items) calls.now.items) squeues.now.all.items (lent_to jobs.new) }
-    ensures lent { AreLent (MayEnd R.limits) 1 (pool.now.rings + length calls.now.items) squeues.now.all.items (lent_to jobs.new) }
+    requires tasks { AreTasks pool.now.rings (length calls.now) pool.now.pace.homes.squeues lines.now (tasks_in jobs.old) }
+    requires lent { AreLent IsNew 1 (pool.now.rings + length calls.now) squeues.now.all.items (lent_to jobs.old) }
+    ensures done { AllDone R.Resident pool.now lines.now (map (λ v. v.items) calls.now) squeues.now.all.items (lent_to jobs.new) }
+    ensures lent { AreLent (MayEnd R.limits) 1 (pool.now.rings + length calls.now) squeues.now.all.items (lent_to jobs.new) }
     ensures count { length jobs.new ≡ length jobs.old }
 {
     run_all(rt, alloc, hook, squeues, hints, calls, pool.pace, lines, jobs);
