@@ -32,16 +32,16 @@ pub fn run_new<R: Resident + Send, H: Hook + Sync, W: Threads + Wait + Sync>(
     pool: &Pool,
     squeues: &Shared<R>,
     hints: &Hints,
-    calls: &[Vec<u32>],
-    lines: &[Line],
+    calls: &Vec<Vec<u32>>,
+    lines: &Vec<Line>,
     jobs: &mut [Job<Task>],
 )
-    requires may { MayRun R.Resident pool.now lines.now (map (λ v. v.items) calls.now) squeues.now.all.items (conns_of hints.now) }
+    requires may { MayRun R.Resident pool.now lines.now.items (map (λ v. v.items) calls.now.items) squeues.now.all.items (conns_of hints.now) }
     requires hints { squeues_of hints.now ≡ pool.now.pace.homes.squeues }
-    requires tasks { AreTasks pool.now.rings (length calls.now) pool.now.pace.homes.squeues lines.now (tasks_in jobs.old) }
-    requires lent { AreLent IsNew 1 (pool.now.rings + length calls.now) squeues.now.all.items (lent_to jobs.old) }
-    ensures done { AllDone R.Resident pool.now lines.now (map (λ v. v.items) calls.now) squeues.now.all.items (lent_to jobs.new) }
-    ensures lent { AreLent (MayEnd R.limits) 1 (pool.now.rings + length calls.now) squeues.now.all.items (lent_to jobs.new) }
+    requires tasks { AreTasks pool.now.rings (length calls.now.items) pool.now.pace.homes.squeues lines.now.items (tasks_in jobs.old) }
+    requires lent { AreLent IsNew 1 (pool.now.rings + length calls.now.items) squeues.now.all.items (lent_to jobs.old) }
+    ensures done { AllDone R.Resident pool.now lines.now.items (map (λ v. v.items) calls.now.items) squeues.now.all.items (lent_to jobs.new) }
+    ensures lent { AreLent (MayEnd R.limits) 1 (pool.now.rings + length calls.now.items) squeues.now.all.items (lent_to jobs.new) }
     ensures count { length jobs.new ≡ length jobs.old }
 {
     run_all(rt, alloc, hook, squeues, hints, calls, pool.pace, lines, jobs);
@@ -54,16 +54,16 @@ fn run_all<R: Resident + Send, H: Hook + Sync, W: Threads + Wait + Sync>(
     hook: &H,
     squeues: &Shared<R>,
     hints: &Hints,
-    calls: &[Vec<u32>],
+    calls: &Vec<Vec<u32>>,
     pace: Pace,
-    lines: &[Line],
+    lines: &Vec<Line>,
     jobs: &mut [Job<Task>],
 )
     requires run { AreOneRun R.origin pace.homes.squeues squeues.now.all.items }
     requires hints { AllBelow (conns_of hints.now) squeues.now.all.items × (squeues_of hints.now ≡ pace.homes.squeues) }
-    requires lines { HaveRings lines.now }
-    requires ready { MayDoAll R.limits pace.homes.squeues pace.homes.spread (map (λ v. v.items) calls.now) lines.now squeues.now.all.items jobs.old }
-    ensures { HaveDone R.limits pace.homes.squeues pace.homes.spread pace.mode pace.budget (map (λ v. v.items) calls.now) lines.now
+    requires lines { HaveRings lines.now.items }
+    requires ready { MayDoAll R.limits pace.homes.squeues pace.homes.spread (map (λ v. v.items) calls.now.items) lines.now.items squeues.now.all.items jobs.old }
+    ensures { HaveDone R.limits pace.homes.squeues pace.homes.spread pace.mode pace.budget (map (λ v. v.items) calls.now.items) lines.now.items
         squeues.now.all.items jobs.old jobs.new }
 {
     run_each(
@@ -82,17 +82,17 @@ fn run_one<R: Resident, H: Hook, W: Wait>(
     hook: &H,
     squeues: &Shared<R>,
     hints: &Hints,
-    calls: &[Vec<u32>],
+    calls: &Vec<Vec<u32>>,
     pace: Pace,
-    lines: &[Line],
+    lines: &Vec<Line>,
     job: &mut Job<Task>,
 )
     requires run { AreOneRun R.origin pace.homes.squeues squeues.now.all.items }
     requires hints { AllBelow (conns_of hints.now) squeues.now.all.items × (squeues_of hints.now ≡ pace.homes.squeues) }
-    requires lines { HaveRings lines.now }
-    requires ready { MayDo R.limits pace.homes.squeues pace.homes.spread (map (λ v. v.items) calls.now) lines.now squeues.now.all.items
+    requires lines { HaveRings lines.now.items }
+    requires ready { MayDo R.limits pace.homes.squeues pace.homes.spread (map (λ v. v.items) calls.now.items) lines.now.items squeues.now.all.items
         job.old.task job.old.places.items }
-    ensures { HasDone R.limits pace.homes.squeues pace.homes.spread pace.mode pace.budget (map (λ v. v.items) calls.now) lines.now
+    ensures { HasDone R.limits pace.homes.squeues pace.homes.spread pace.mode pace.budget (map (λ v. v.items) calls.now.items) lines.now.items
         squeues.now.all.items job.old.task job.old.places.items job.new.places.items }
 {
     run_job(
@@ -101,9 +101,9 @@ fn run_one<R: Resident, H: Hook, W: Wait>(
         hook,
         squeues.all.as_slice(),
         hints,
-        calls,
+        calls.as_slice(),
         pace,
-        lines,
+        lines.as_slice(),
         job,
     );
 }

@@ -77,23 +77,23 @@ fn run_by<R: Resident + Send + Drop, H: Hook + Sync, W: Threads + Wait + Sync>(
     pool: &Pool,
     residents: Vec<R>,
     quotas: &[Vec<Quota>],
-    calls: &[Vec<u32>],
+    calls: &Vec<Vec<u32>>,
     count: usize,
     hints: &Hints,
-    lines: &[Line],
+    lines: &Vec<Line>,
     left: Vec<Left<R>>,
     jobs: Vec<Job<Task>>,
     squeues: Squeues<R>,
 ) -> Result<Vec<Left<R>>, AllocError>
-    requires pool { IsInRange pool.now (length calls.now) × (count ≡ pool.now.rings + length calls.now) }
-    requires work { Suits R.Resident pool.now (work_by (conns_of hints.now) residents.items quotas.now lines.now calls.now) }
+    requires pool { IsInRange pool.now (length calls.now.items) × (count ≡ pool.now.rings + length calls.now.items) }
+    requires work { Suits R.Resident pool.now (work_by (conns_of hints.now) residents.items quotas.now lines.now.items calls.now.items) }
     requires hints { squeues_of hints.now ≡ pool.now.pace.homes.squeues }
-    requires tasks { AreTasks pool.now.rings (length calls.now) pool.now.pace.homes.squeues lines.now (tasks_in jobs.items) }
+    requires tasks { AreTasks pool.now.rings (length calls.now.items) pool.now.pace.homes.squeues lines.now.items (tasks_in jobs.items) }
     requires jobs { All (λ j. j.places.items ≡ []) jobs.items × HaveRoom pool.now.pace.homes.squeues jobs.items }
     requires squeues { (squeues.all.items ≡ []) × (squeues.rooms.items ≡ []) }
     requires room { (pool.now.pace.homes.squeues ≤ vec_capacity squeues.all) × (pool.now.pace.homes.squeues ≤ vec_capacity squeues.rooms) }
     requires left { (left.items ≡ []) × (pool.now.pace.homes.squeues ≤ vec_capacity left) }
-    ensures { IfOk result (λ v. HasRun R.Resident pool.now (work_by (conns_of hints.now) residents.items quotas.now lines.now calls.now) v.items) }
+    ensures { IfOk result (λ v. HasRun R.Resident pool.now (work_by (conns_of hints.now) residents.items quotas.now lines.now.items calls.now.items) v.items) }
 {
     let mut left = left;
     let mut jobs = jobs;
@@ -118,20 +118,20 @@ fn run_or_end<R: Resident + Send, H: Hook + Sync, W: Threads + Wait + Sync>(
     made: &Result<(), AllocError>,
     pool: &Pool,
     squeues: Squeues<R>,
-    calls: &[Vec<u32>],
+    calls: &Vec<Vec<u32>>,
     count: usize,
     hints: &Hints,
-    lines: &[Line],
+    lines: &Vec<Line>,
     jobs: &mut Vec<Job<Task>>,
 ) -> Squeues<R>
-    requires count { count ≡ pool.now.rings + length calls.now }
-    requires may { IfOk made.now (λ _. MayRun R.Resident pool.now lines.now (map (λ v. v.items) calls.now) squeues.all.items (conns_of hints.now)) }
+    requires count { count ≡ pool.now.rings + length calls.now.items }
+    requires may { IfOk made.now (λ _. MayRun R.Resident pool.now lines.now.items (map (λ v. v.items) calls.now.items) squeues.all.items (conns_of hints.now)) }
     requires hints { squeues_of hints.now ≡ pool.now.pace.homes.squeues }
     requires few { length squeues.all.items ≤ pool.now.pace.homes.squeues }
-    requires tasks { AreTasks pool.now.rings (length calls.now) pool.now.pace.homes.squeues lines.now (tasks_in jobs.old.items) }
+    requires tasks { AreTasks pool.now.rings (length calls.now.items) pool.now.pace.homes.squeues lines.now.items (tasks_in jobs.old.items) }
     requires lent { AreLent IsNew 1 count squeues.all.items (lent_to jobs.old.items) }
     ensures same { result ≡ squeues }
-    ensures done { IfOk made.now (λ _. AllDone R.Resident pool.now lines.now (map (λ v. v.items) calls.now) squeues.all.items (lent_to jobs.new.items)) }
+    ensures done { IfOk made.now (λ _. AllDone R.Resident pool.now lines.now.items (map (λ v. v.items) calls.now.items) squeues.all.items (lent_to jobs.new.items)) }
     ensures lent { AreLent (MayEnd R.limits) 1 count squeues.all.items (lent_to jobs.new.items) }
     ensures count { length jobs.new.items ≡ length jobs.old.items }
 {

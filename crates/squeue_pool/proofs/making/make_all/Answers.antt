@@ -9,7 +9,7 @@ use Rattle.squeue_serve.specs.Lending.{AreLent, lent_to}
 use Rattle.ring_jobs.proofs.Lends.{fits, none_yet, one_more}
 use Rattle.squeue_pool.proofs.Made.{SoFar, all_made, few_made, next_count, next_empty, next_is, next_made, next_passes, next_suits, next_within, none_made}
 use Rattle.squeue_pool.proofs.making.make_all.Given.{Over}
-use Rattle.squeue_pool.proofs.making.make_all.Goals.{After-pop}
+use Rattle.squeue_pool.proofs.making.make_all.Goals.{After-len-q}
 use Rattle.squeue_pool.proofs.making.make_all.Goals as goal
 
 pub loop-resident-init : goal.loop-resident-init
@@ -30,7 +30,7 @@ loop-resident-init g c =
     }
 
 -- what is left, and what was made so far
-so_far : (g : Over) (c : After-pop g) → SoFar g.R.Resident c.args.pool.now c.args.residents.items (map (λ v. pairs v.items) c.args.quotas.now) (c.in-Some.resident ∷ reverse c.pop.new.self.items) c.loop-resident.squeues.all.items
+so_far : (g : Over) (c : After-len-q g) → SoFar g.R.Resident c.args.pool.now c.args.residents.items (map (λ v. pairs v.items) c.args.quotas.now) (c.in-Some.resident ∷ reverse c.pop.new.self.items) c.loop-resident.squeues.all.items
 so_far g c =
     let turned : reverse c.loop-resident.residents.items ≡ c.in-Some.resident ∷ reverse c.pop.new.self.items = ap reverse c.in-Some.ensures.items ∙ reverse-append c.pop.new.self.items (c.in-Some.resident ∷ []) in
     subst (λ (rs : List g.row.R.Denot). SoFar g.R.Resident c.args.pool.now c.args.residents.items (map (λ v. pairs v.items) c.args.quotas.now) rs c.loop-resident.squeues.all.items) turned c.loop-resident.invariant.made
@@ -39,14 +39,14 @@ pub overflow_cast-q : goal.overflow_cast-q
 overflow_cast-q g c =
     let p = c.args.pool.now in
     let quotas : List (List (ℕ × ℕ)) = map (λ v. pairs v.items) c.args.quotas.now in
-    let n = few_made g.R.Resident p c.args.residents.items quotas (c.in-Some.resident ∷ reverse c.pop.new.self.items) c.loop-resident.squeues.all.items c.requires.pool.0 c.requires.pool.3 (so_far g (goal.at.overflow_cast-q g c).After-pop) in
+    let n = few_made g.R.Resident p c.args.residents.items quotas (c.in-Some.resident ∷ reverse c.pop.new.self.items) c.loop-resident.squeues.all.items c.requires.pool.0 c.requires.pool.3 (so_far g (goal.at.overflow_cast-q g c).After-len-q) in
     omega (arith, n, c.len-q.ensures, c.loop-resident.squeues.all.ok.0)
 
 pub make-requires-clause-few : goal.make-requires-clause-few
 make-requires-clause-few g c =
     let at = goal.at.make-requires-clause-few g c in
     let q : c.len-q.result ≡ length c.loop-resident.squeues.all.items = omega (arith, c.len-q.ensures, c.loop-resident.squeues.all.ok.0) in
-    let n = next_count g.R.Resident c.args.pool.now c.args.residents.items c.args.quotas.now (reverse c.pop.new.self.items) c.in-Some.resident c.loop-resident.squeues.all.items c.requires.pool.0 (so_far g at.After-pop) c.requires.pool.3
+    let n = next_count g.R.Resident c.args.pool.now c.args.residents.items c.args.quotas.now (reverse c.pop.new.self.items) c.in-Some.resident c.loop-resident.squeues.all.items c.requires.pool.0 (so_far g at.After-len-q) c.requires.pool.3
     c.len-q.result c.index-quotas-q.result c.deref.result.now q c.index-quotas-q.is c.deref.ensures.value in
     (omega (arith, n, c.requires.pool.1.0), omega (arith, n, c.requires.pool.1.1))
 
@@ -54,7 +54,7 @@ pub make-requires-clause-rings : goal.make-requires-clause-rings
 make-requires-clause-rings g c =
     let at = goal.at.make-requires-clause-rings g c in
     let q : c.len-q.result ≡ length c.loop-resident.squeues.all.items = omega (arith, c.len-q.ensures, c.loop-resident.squeues.all.ok.0) in
-    let n = next_count g.R.Resident c.args.pool.now c.args.residents.items c.args.quotas.now (reverse c.pop.new.self.items) c.in-Some.resident c.loop-resident.squeues.all.items c.requires.pool.0 (so_far g at.After-pop) c.requires.pool.3
+    let n = next_count g.R.Resident c.args.pool.now c.args.residents.items c.args.quotas.now (reverse c.pop.new.self.items) c.in-Some.resident c.loop-resident.squeues.all.items c.requires.pool.0 (so_far g at.After-len-q) c.requires.pool.3
     c.len-q.result c.index-quotas-q.result c.deref.result.now q c.index-quotas-q.is c.deref.ensures.value in
     (c.requires.pool.1.0, omega (arith, n))
 
@@ -62,14 +62,14 @@ pub make-requires-clause-feeds : goal.make-requires-clause-feeds
 make-requires-clause-feeds g c =
     let at = goal.at.make-requires-clause-feeds g c in
     let q : c.len-q.result ≡ length c.loop-resident.squeues.all.items = omega (arith, c.len-q.ensures, c.loop-resident.squeues.all.ok.0) in
-    (next_suits g.R.Resident c.args.pool.now c.args.residents.items c.args.quotas.now (reverse c.pop.new.self.items) c.in-Some.resident c.loop-resident.squeues.all.items c.requires.pool.0 (so_far g at.After-pop) c.requires.pool.3
+    (next_suits g.R.Resident c.args.pool.now c.args.residents.items c.args.quotas.now (reverse c.pop.new.self.items) c.in-Some.resident c.loop-resident.squeues.all.items c.requires.pool.0 (so_far g at.After-len-q) c.requires.pool.3
     c.len-q.result c.index-quotas-q.result c.deref.result.now q c.index-quotas-q.is c.deref.ensures.value).feeds
 
 pub make-requires-clause-asks : goal.make-requires-clause-asks
 make-requires-clause-asks g c =
     let at = goal.at.make-requires-clause-asks g c in
     let q : c.len-q.result ≡ length c.loop-resident.squeues.all.items = omega (arith, c.len-q.ensures, c.loop-resident.squeues.all.ok.0) in
-    (next_suits g.R.Resident c.args.pool.now c.args.residents.items c.args.quotas.now (reverse c.pop.new.self.items) c.in-Some.resident c.loop-resident.squeues.all.items c.requires.pool.0 (so_far g at.After-pop) c.requires.pool.3
+    (next_suits g.R.Resident c.args.pool.now c.args.residents.items c.args.quotas.now (reverse c.pop.new.self.items) c.in-Some.resident c.loop-resident.squeues.all.items c.requires.pool.0 (so_far g at.After-len-q) c.requires.pool.3
     c.len-q.result c.index-quotas-q.result c.deref.result.now q c.index-quotas-q.is c.deref.ensures.value).asks
 
 pub make-requires-clause-fresh : goal.make-requires-clause-fresh
@@ -77,7 +77,7 @@ make-requires-clause-fresh g c =
     let at = goal.at.make-requires-clause-fresh g c in
     let q : c.len-q.result ≡ length c.loop-resident.squeues.all.items = omega (arith, c.len-q.ensures, c.loop-resident.squeues.all.ok.0) in
     next_empty g.R.Resident c.args.pool.now c.requires.pool.0 c.len-q.result c.in-Some.resident (pairs c.deref.result.now)
-    (next_suits g.R.Resident c.args.pool.now c.args.residents.items c.args.quotas.now (reverse c.pop.new.self.items) c.in-Some.resident c.loop-resident.squeues.all.items c.requires.pool.0 (so_far g at.After-pop) c.requires.pool.3
+    (next_suits g.R.Resident c.args.pool.now c.args.residents.items c.args.quotas.now (reverse c.pop.new.self.items) c.in-Some.resident c.loop-resident.squeues.all.items c.requires.pool.0 (so_far g at.After-len-q) c.requires.pool.3
     c.len-q.result c.index-quotas-q.result c.deref.result.now q c.index-quotas-q.is c.deref.ensures.value)
 
 pub lend-requires-clause-fit : goal.lend-requires-clause-fit
@@ -87,7 +87,7 @@ pub lend-requires-clause-jobs : goal.lend-requires-clause-jobs
 lend-requires-clause-jobs g c =
     let at = goal.at.lend-requires-clause-jobs g c in
     let quotas : List (List (ℕ × ℕ)) = map (λ v. pairs v.items) c.args.quotas.now in
-    let n = few_made g.R.Resident c.args.pool.now c.args.residents.items quotas (c.in-Some.resident ∷ reverse c.pop.new.self.items) c.loop-resident.squeues.all.items c.requires.pool.0 c.requires.pool.3 (so_far g at.After-pop) in
+    let n = few_made g.R.Resident c.args.pool.now c.args.residents.items quotas (c.in-Some.resident ∷ reverse c.pop.new.self.items) c.loop-resident.squeues.all.items c.requires.pool.0 c.requires.pool.3 (so_far g at.After-len-q) in
     let same = ap length c.loop-resident.invariant.tasks in
     let a = length-map c.loop-resident.jobs.items (λ j. j.task) in
     let b = length-map c.args.jobs.now.items (λ j. j.task) in
@@ -97,7 +97,7 @@ pub lend-requires-clause-places : goal.lend-requires-clause-places
 lend-requires-clause-places g c k d lt =
     let at = goal.at.lend-requires-clause-places g c in
     let quotas : List (List (ℕ × ℕ)) = map (λ v. pairs v.items) c.args.quotas.now in
-    let n = few_made g.R.Resident c.args.pool.now c.args.residents.items quotas (c.in-Some.resident ∷ reverse c.pop.new.self.items) c.loop-resident.squeues.all.items c.requires.pool.0 c.requires.pool.3 (so_far g at.After-pop) in
+    let n = few_made g.R.Resident c.args.pool.now c.args.residents.items quotas (c.in-Some.resident ∷ reverse c.pop.new.self.items) c.loop-resident.squeues.all.items c.requires.pool.0 c.requires.pool.3 (so_far g at.After-len-q) in
     let room = c.loop-resident.invariant.places k d lt in
     omega (arith, n, room)
 
@@ -105,7 +105,7 @@ pub lend-requires-clause-passes : goal.lend-requires-clause-passes
 lend-requires-clause-passes g c =
     let at = goal.at.lend-requires-clause-passes g c in
     let q : c.len-q.result ≡ length c.loop-resident.squeues.all.items = omega (arith, c.len-q.ensures, c.loop-resident.squeues.all.ok.0) in
-    let n = next_count g.R.Resident c.args.pool.now c.args.residents.items c.args.quotas.now (reverse c.pop.new.self.items) c.in-Some.resident c.loop-resident.squeues.all.items c.requires.pool.0 (so_far g at.After-pop) c.requires.pool.3
+    let n = next_count g.R.Resident c.args.pool.now c.args.residents.items c.args.quotas.now (reverse c.pop.new.self.items) c.in-Some.resident c.loop-resident.squeues.all.items c.requires.pool.0 (so_far g at.After-len-q) c.requires.pool.3
     c.len-q.result c.index-quotas-q.result c.deref.result.now q c.index-quotas-q.is c.deref.ensures.value in
     omega (arith, n, c.in_ok-squeue.ensures.passes.0, c.requires.pool.2)
 
@@ -119,7 +119,7 @@ loop-resident-preserved g c =
     let left = reverse c.pop.new.self.items in
     let first = c.in-Some.resident in
     let q : c.len-q.result ≡ length ss = omega (arith, c.len-q.ensures, c.loop-resident.squeues.all.ok.0) in
-    let so = so_far g at.After-pop in
+    let so = so_far g at.After-len-q in
     let its = next_is G p c.args.residents.items c.args.quotas.now left first ss c.requires.pool.0 so c.requires.pool.3 c.len-q.result c.index-quotas-q.result c.deref.result.now q c.index-quotas-q.is c.deref.ensures.value _ s c.in_ok-squeue.ensures.given c.in_ok-squeue.ensures.room in
     let made = next_made G p c.args.residents.items c.args.quotas.now left first ss c.requires.pool.0 so c.requires.pool.3 c.len-q.result c.index-quotas-q.result c.deref.result.now q c.index-quotas-q.is c.deref.ensures.value s its in
     let passes = next_passes G p c.args.residents.items c.args.quotas.now left first ss c.requires.pool.0 so c.requires.pool.3 c.len-q.result c.index-quotas-q.result c.deref.result.now q c.index-quotas-q.is c.deref.ensures.value s its in
