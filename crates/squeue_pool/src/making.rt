@@ -34,6 +34,8 @@ pub fn make_all<R: Resident + Drop, T>(
     ensures rooms { (length squeues.new.rooms.items ≡ length squeues.new.all.items) × All (IsRoomFor (count + 1)) squeues.new.rooms.items }
     ensures tasks { tasks_in jobs.new.items ≡ tasks_in jobs.old.items }
 {
+    // (so that the number of squeues is known to be one of 32 bits)
+    let _pool = *pool;
     let mut residents = residents;
     residents.reverse();
     while let Some(resident) = residents.pop() {
