@@ -42,6 +42,7 @@ use Rattle.ring_jobs.specs.declared.lines.Line.{Line}
 use Rattle.ring_jobs.specs.Ends.{CallerEnds, RingEnds}
 use Rattle.ring_jobs.specs.Running.{called_by}
 use Rattle.ring_jobs.specs.Tasks.{lists_of}
+use Rattle.ring_jobs.proofs.Works.{got_or}
 use Rattle.ring_jobs.proofs.AtTheEnd.{end_due, end_here, end_made, end_paced, end_stays, linked_same, noted_same, seen_count, seen_got}
 use Rattle.squeue_pool.specs.declared.pool.Pool.{Pool}
 use Rattle.squeue_pool.specs.declared.work.Left.{Left}
@@ -289,11 +290,7 @@ module _ {R P O : Type 0} (G : Ghosts R P O) (pool : Pool) (w : WorkOf R) (suits
     quotas_count q s is at =
         let a = some_at w.quotas q (let n = slice_get_within ss q s at in omega (arith, n, set.count, suits.squeues.quotas_are)) in
         let passes = (suits.squeues.each q s.given.first a.0 is.first a.1).passes in
-        ap worker is.setting ∙ (ap (λ (o : Option (List (ℕ × ℕ))). length (get_back o)) a.1 ∙ passes)
-      where
-        get_back : Option (List (ℕ × ℕ)) → List (ℕ × ℕ)
-        get_back None = []
-        get_back (Some qs) = qs
+        ap worker is.setting ∙ (ap length (got_or w.quotas q a.0 [] a.1) ∙ passes)
 
     made_once : made_in_all c j k es ≡ once_on (called_by w.calls j) c k
     made_once = elim (cases_lt j (length w.calls)) [

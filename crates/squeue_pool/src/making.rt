@@ -35,7 +35,7 @@ pub fn make_all<R: Resident + Drop, T>(
     ensures tasks { tasks_in jobs.new.items ≡ tasks_in jobs.old.items }
 {
     // (so that the number of squeues is known to be one of 32 bits)
-    let _pool = *pool;
+    let _most = pool.squeues();
     let mut residents = residents;
     residents.reverse();
     while let Some(resident) = residents.pop() {

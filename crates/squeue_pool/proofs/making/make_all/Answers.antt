@@ -40,7 +40,7 @@ overflow_cast-q g c =
     let p = c.args.pool.now in
     let quotas : List (List (ℕ × ℕ)) = map (λ v. pairs v.items) c.args.quotas.now in
     let n = few_made g.R.Resident p c.args.residents.items quotas (c.in-Some.resident ∷ reverse c.pop.new.self.items) c.loop-resident.squeues.all.items c.requires.pool.0 c.requires.pool.3 (so_far g (goal.at.overflow_cast-q g c).After-len-q) in
-    omega (arith, n, c.len-q.ensures, c.loop-resident.squeues.all.ok.0)
+    omega (arith, n, c.len-q.ensures, c.loop-resident.squeues.all.ok.0, c.squeues-most.ensures)
 
 pub make-requires-clause-few : goal.make-requires-clause-few
 make-requires-clause-few g c =
