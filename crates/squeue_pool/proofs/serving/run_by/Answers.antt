@@ -1,8 +1,8 @@
-use Rattle.std.proofs.Common.{◌≡◌, ℕ, ◌+◌, List, length, map, reverse, refl, ap, sym, ◌∙◌, subst, arith}
+use Rattle.std.proofs.Common.{◌≡◌, ℕ, ◌+◌, All, List, length, map, reverse, refl, ap, sym, ◌∙◌, subst, arith}
 use Rattle.std.proofs.lemmas.List.{length-map}
 use Rattle.std.proofs.lemmas.Result.{IfOk-weaker}
 use Rattle.squeue_state.specs.Behind.{pairs}
-use Rattle.squeue_serve.specs.Lending.{lent_to}
+use Rattle.squeue_serve.specs.Lending.{IsRoomFor, lent_to}
 use Rattle.squeue_serve.proofs.Lent.{none_lent_to}
 use Rattle.synch_enter.specs.Hinting.{conns_of}
 use Rattle.ring_jobs.proofs.Starts.{from_ok}
@@ -24,6 +24,10 @@ pub run_or_end-squeues-requires-clause-may : goal.run_or_end-squeues-requires-cl
 run_or_end-squeues-requires-clause-may g c =
     let w = work_by (conns_of c.args.hints.now) c.args.residents.items c.args.quotas.now c.args.lines.now.items c.args.calls.now.items in
     IfOk-weaker c.make_all-made.result _ _ (λ _ made. may_run g.R.Resident c.args.pool.now w c.requires.work c.make_all-made.new.squeues.all.items made c.args.lines.now.items refl (conns_of c.args.hints.now) refl) c.make_all-made.ensures.made
+
+pub gather-requires-clause-rooms : goal.gather-requires-clause-rooms
+gather-requires-clause-rooms g c =
+    subst (λ q. (length q.rooms.items ≡ length q.all.items) × All (IsRoomFor (c.args.count + 1)) q.rooms.items) (sym c.run_or_end-squeues.ensures.same) c.make_all-made.ensures.rooms
 
 pub discard-requires : goal.discard-requires
 discard-requires g c = none_lent_to c.gather.new.jobs.items c.gather.ensures.back
