@@ -137,10 +137,39 @@ fn run_or_end<R: Resident + Send, H: Hook + Sync, W: Threads + Wait + Sync>(
 {
     let Squeues { all, rooms } = squeues;
     let shared = Shared { all };
-    match made {
-        Ok(()) => run_new(rt, alloc, hook, pool, &shared, hints, calls, lines, jobs),
-        Err(_) => run_unused(rt, alloc, hook, shared.all.as_slice(), jobs, FRONT, count),
-    }
+    run_shared(
+        rt, alloc, hook, made, pool, &shared, calls, count, hints, lines, jobs,
+    );
     let Shared { all } = shared;
     Squeues { all, rooms }
+}
+
+// The same of squeues that are shared.
+fn run_shared<R: Resident + Send, H: Hook + Sync, W: Threads + Wait + Sync>(
+    rt: &W,
+    alloc: Global,
+    hook: &H,
+    made: &Result<(), AllocError>,
+    pool: &Pool,
+    squeues: &Shared<R>,
+    calls: &Vec<Vec<u32>>,
+    count: usize,
+    hints: &Hints,
+    lines: &Vec<Line>,
+    jobs: &mut Vec<Job<Task>>,
+)
+    requires count { count ≡ pool.now.rings + length calls.now.items }
+    requires may { IfOk made.now (λ _. MayRun R.Resident pool.now lines.now.items (map (λ v. v.items) calls.now.items) squeues.now.all.items (conns_of hints.now)) }
+    requires hints { squeues_of hints.now ≡ pool.now.pace.homes.squeues }
+    requires few { length squeues.now.all.items ≤ pool.now.pace.homes.squeues }
+    requires tasks { AreTasks pool.now.rings (length calls.now.items) pool.now.pace.homes.squeues lines.now.items (tasks_in jobs.old.items) }
+    requires lent { AreLent IsNew 1 count squeues.now.all.items (lent_to jobs.old.items) }
+    ensures done { IfOk made.now (λ _. AllDone R.Resident pool.now lines.now.items (map (λ v. v.items) calls.now.items) squeues.now.all.items (lent_to jobs.new.items)) }
+    ensures lent { AreLent (MayEnd R.limits) 1 count squeues.now.all.items (lent_to jobs.new.items) }
+    ensures count { length jobs.new.items ≡ length jobs.old.items }
+{
+    match made {
+        Ok(()) => run_new(rt, alloc, hook, pool, squeues, hints, calls, lines, jobs),
+        Err(_) => run_unused(rt, alloc, hook, squeues.all.as_slice(), jobs, FRONT, count),
+    }
 }

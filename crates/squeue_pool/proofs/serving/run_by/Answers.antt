@@ -21,7 +21,7 @@ make_all-made-requires-clause-pool g c =
     (callers, c.requires.pool.0, c.requires.pool.1, subst (SuitSqueues g.R.Resident c.args.pool.now c.args.residents.items (map (λ v. pairs v.items) c.args.quotas.now)) n c.requires.work.squeues)
 
 pub run_or_end-squeues-requires-clause-may : goal.run_or_end-squeues-requires-clause-may
-run_or_end-squeues-requires-clause-may g c =
+run_or_end-squeues-requires-clause-may g c κs within =
     let w = work_by (conns_of c.args.hints.now) c.args.residents.items c.args.quotas.now c.args.lines.now.items c.args.calls.now.items in
     IfOk-weaker c.make_all-made.result _ _ (λ _ made. may_run g.R.Resident c.args.pool.now w c.requires.work c.make_all-made.new.squeues.all.items made c.args.lines.now.items refl (conns_of c.args.hints.now) refl) c.make_all-made.ensures.made
 
