@@ -2,4 +2,3 @@ pub mod Works
 pub mod Gathering
 pub mod Running
 pub mod Runs
-pub mod Keys

@@ -41,12 +41,7 @@ pub fn make_all<R: Resident + Drop, T>(
     while let Some(resident) = residents.pop() {
         let q = squeues.all.len();
         let (squeue, passes) = Squeue::make(
-            alloc,
-            q as u32,
-            resident,
-            pool.rings,
-            &quotas[q],
-            pool.trace,
+            alloc, q as u32, resident, pool.rings, &quotas[q], pool.trace,
         )?;
         lend(squeues, jobs, FRONT, count, squeue, passes);
     }

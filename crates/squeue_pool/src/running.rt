@@ -44,7 +44,9 @@ pub fn run_new<R: Resident + Send, H: Hook + Sync, W: Threads + Wait + Sync>(
     ensures lent { AreLent (MayEnd R.limits) 1 (pool.now.rings + length calls.now.items) squeues.now.all.items (lent_to jobs.new) }
     ensures count { length jobs.new ≡ length jobs.old }
 {
-    run_all(rt, alloc, hook, squeues, hints, calls, pool.pace, lines, jobs);
+    run_all(
+        rt, alloc, hook, squeues, hints, calls, pool.pace, lines, jobs,
+    );
 }
 
 // Does all jobs beside each other. The workers stand last, so that no job waits for one behind it.

@@ -17,7 +17,7 @@ pub run_by-requires-clause-work : goal.run_by-requires-clause-work
 run_by-requires-clause-work g c κs within =
     let have = lines_have c.args.work.lists.items c.in_ok-rings.rings.items c.in_ok-lines.lines.items c.in_ok-lines.ensures.lines c.in_ok-rings.ensures.lines in
     let whole : Suits g.R.Resident c.args.pool.now (work_by (conns_of c.in_ok-hints.hints) c.args.work.residents.items c.args.work.quotas.items c.in_ok-lines.lines.items c.args.work.calls.items) =
-        subst (λ (w : WorkOf g.row.R.Denot). Suits g.R.Resident c.args.pool.now w) (sym (same_work c.args.work (conns_of c.in_ok-hints.hints) c.in_ok-lines.lines.items c.in_ok-hints.ensures.conns have)) c.requires.work in
+    subst (λ (w : WorkOf g.row.R.Denot). Suits g.R.Resident c.args.pool.now w) (sym (same_work c.args.work (conns_of c.in_ok-hints.hints) c.in_ok-lines.lines.items c.in_ok-hints.ensures.conns have)) c.requires.work in
     subst (λ (qs : List (Vec Quota Global)). Suits g.R.Resident c.args.pool.now (work_by (conns_of c.in_ok-hints.hints) c.args.work.residents.items qs c.in_ok-lines.lines.items c.args.work.calls.items)) (sym c.deref.ensures.value) whole
 
 pub run_by-requires-clause-tasks : goal.run_by-requires-clause-tasks
@@ -34,6 +34,6 @@ returns-in-Ok g c =
     let have = lines_have c.args.work.lists.items c.in_ok-rings.rings.items c.in_ok-lines.lines.items c.in_ok-lines.ensures.lines c.in_ok-rings.ensures.lines in
     let same = same_work c.args.work (conns_of c.in_ok-hints.hints) c.in_ok-lines.lines.items c.in_ok-hints.ensures.conns have in
     let quotas : work_by (conns_of c.in_ok-hints.hints) c.args.work.residents.items c.deref.result.now c.in_ok-lines.lines.items c.args.work.calls.items
-        ≡ work_by (conns_of c.in_ok-hints.hints) c.args.work.residents.items c.args.work.quotas.items c.in_ok-lines.lines.items c.args.work.calls.items =
-        ap (λ (qs : List (Vec Quota Global)). work_by (conns_of c.in_ok-hints.hints) c.args.work.residents.items qs c.in_ok-lines.lines.items c.args.work.calls.items) c.deref.ensures.value in
+    ≡ work_by (conns_of c.in_ok-hints.hints) c.args.work.residents.items c.args.work.quotas.items c.in_ok-lines.lines.items c.args.work.calls.items =
+    ap (λ (qs : List (Vec Quota Global)). work_by (conns_of c.in_ok-hints.hints) c.args.work.residents.items qs c.in_ok-lines.lines.items c.args.work.calls.items) c.deref.ensures.value in
     subst (λ (w : WorkOf g.row.R.Denot). IfOk c.run_by.result (λ v. HasRun g.R.Resident c.args.pool.now w v.items)) (quotas ∙ same) c.run_by.ensures
