@@ -99,7 +99,7 @@ class Records:
         interfaces, first, time = [], None, 0
         while at < len(self.data):
             if self.quick and 0 < len(interfaces) <= QUICK_INTERFACES and self.data[at:at + 4] in PACKET_KINDS:
-                at, taken, time = self.quick(at, order, [ticks for _, ticks in interfaces], time)
+                at, taken, time = self.quick(at, order, [ticks for _, ticks, _ in interfaces], time)
                 index += taken
                 if at == len(self.data):
                     return

@@ -62,7 +62,7 @@ class Live(unittest.TestCase):
         folder = TOP / "crates" / "sqlive"
         words = (folder / "args").read_text().split()
         done = subprocess.run([SQLIVE, *words], input=(folder / "stdin").read_bytes()[:-1], capture_output=True)
-        self.assertEqual(done.returncode, 1)
+        self.assertEqual((done.returncode, done.stderr), (6, b"the input isn't whole frames\n"))
 
     def test_its_words(self):
         for words in ([], ["frames"], ["frames", "00", "1"], ["frames", "0" * 32, "x"], ["other", "0" * 32, "1"]):
