@@ -16,7 +16,7 @@ DECLARED = re.compile(r"^(\w+)\.specs\.declared\.(?:([\w.]+)\.)?(\w+)$")      # 
 MODULE = re.compile(r"^(\w+)\.specs\.(\w+)$")
 TRAIT = re.compile(r"^pub trait (\w+)", re.M)
 MODEL = re.compile(r"^impl(?:<.*>)? Model for (\w+)", re.M)
-STRUCT = re.compile(r"^pub struct (\w+)[^;{]*\{(.*?)^\}", re.M | re.S)
+STRUCT = re.compile(r"^(?:pub(?:\([^)]*\))? )?(?:struct|enum) (\w+)[^;{]*\{(.*?)^\}", re.M | re.S)
 
 
 @dataclass

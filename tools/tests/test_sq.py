@@ -319,7 +319,10 @@ class Told(Folder):
         self.assertEqual(done.communicate()[1], b"")
         self.assertEqual(done.returncode, 143)
         self.assertEqual(list((self.folder / "temporary").iterdir()), [])
-        self.assertFalse(Path(f"/proc/{(self.folder / 'number').read_text().strip()}/cmdline").exists())
+        slow = Path(f"/proc/{(self.folder / 'number').read_text().strip()}/cmdline")
+        while slow.exists() and slow.read_bytes() and time.monotonic() < until:
+            time.sleep(.05)
+        self.assertFalse(slow.exists() and slow.read_bytes())
 
 
 class Shapes(Folder):
