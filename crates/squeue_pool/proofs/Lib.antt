@@ -1,0 +1,5 @@
+pub mod Back
+pub mod LinesOf
+pub mod Made
+pub mod Ready
+pub mod Whole

@@ -1,0 +1,53 @@
+use Rattle.std.proofs.Common.{◌≡◌, ℕ, ◌+◌, List, length, map, refl, sym, ◌∙◌, subst, arith}
+use Rattle.std.proofs.lemmas.List.{length-map}
+use Rattle.squeue_serve.specs.Lending.{AreLent, lent_to, tasks_in}
+use Rattle.squeue_serve.specs.Places.{IsNew}
+use Rattle.ring_jobs.specs.Tasks.{AreTasks}
+use Rattle.ring_jobs.proofs.Finished.{caller_done, lent_back, ring_done, ring_paced}
+use Rattle.ring_jobs.proofs.Ready.{all_ready}
+use Rattle.squeue_pool.proofs.running.run_new.Goals as goal
+
+pub run_all-requires-clause-run : goal.run_all-requires-clause-run
+run_all-requires-clause-run g c κs within = c.requires.may.one
+
+pub run_all-requires-clause-hints : goal.run_all-requires-clause-hints
+run_all-requires-clause-hints g c κs within = (c.requires.may.below, c.requires.hints)
+
+pub run_all-requires-clause-lines : goal.run_all-requires-clause-lines
+run_all-requires-clause-lines g c κs within = c.requires.tasks.have
+
+pub run_all-requires-clause-ready : goal.run_all-requires-clause-ready
+run_all-requires-clause-ready g c κs within =
+    let p = c.args.pool.now in
+    let callers = length c.args.calls.now.items in
+    let calls : List (List ℕ) = map (λ v. v.items) c.args.calls.now.items in
+    let may = c.requires.may in
+    let n = length-map c.args.calls.now.items (λ v. v.items) in
+    all_ready p.rings callers (p.rings + callers) p.pace.homes.squeues refl c.args.lines.now.items c.args.jobs.now c.requires.tasks g.R.Resident.limits g.R.Resident.origin p.pace.homes.spread calls c.args.squeues.now.all.items
+    may.one p.pace.homes.some c.requires.lent may.rings_same may.starts (λ r l lt is. may.bring r l is) (omega (arith, n)) may.short (λ j lt. may.make j)
+
+pub returns-clause-done : goal.returns-clause-done
+returns-clause-done g c =
+    let p = c.args.pool.now in
+    let m = g.R.Resident.limits in
+    let callers = length c.args.calls.now.items in
+    let calls : List (List ℕ) = map (λ v. v.items) c.args.calls.now.items in
+    let ss = c.args.squeues.now.all.items in
+    let lines = c.args.lines.now.items in
+    let jobs = c.args.jobs.now in
+    let new = c.run_all.new.jobs in
+    let n = length-map c.args.calls.now.items (λ v. v.items) in
+    record {
+      rings_end = ring_done m p.pace.homes.squeues p.pace.homes.spread p.pace.mode p.pace.budget calls lines ss jobs new p.rings callers (p.rings + callers) refl c.requires.may.one.count c.requires.tasks c.requires.lent c.run_all.auto.jobs c.run_all.ensures;
+      paced = ring_paced m p.pace.homes.squeues p.pace.homes.spread p.pace.mode p.pace.budget calls lines ss jobs new p.rings callers (p.rings + callers) refl c.requires.may.one.count c.requires.tasks c.requires.lent c.run_all.auto.jobs c.run_all.ensures;
+      callers_end = λ j lt. caller_done m p.pace.homes.squeues p.pace.homes.spread p.pace.mode p.pace.budget calls lines ss jobs new p.rings callers (p.rings + callers) refl c.requires.may.one.count c.requires.tasks c.requires.lent c.run_all.auto.jobs c.run_all.ensures j
+          (omega (arith, lt, n));
+    }
+
+pub returns-clause-lent : goal.returns-clause-lent
+returns-clause-lent g c =
+    let p = c.args.pool.now in
+    let callers = length c.args.calls.now.items in
+    let calls : List (List ℕ) = map (λ v. v.items) c.args.calls.now.items in
+    lent_back g.R.Resident.limits p.pace.homes.squeues p.pace.homes.spread p.pace.mode p.pace.budget calls c.args.lines.now.items c.args.squeues.now.all.items c.args.jobs.now c.run_all.new.jobs p.rings callers (p.rings + callers) refl
+    c.requires.may.one.count c.requires.tasks c.requires.lent c.run_all.auto.jobs c.run_all.ensures c.requires.may.rings_same

@@ -1,0 +1,4 @@
+pub mod Works
+pub mod Gathering
+pub mod Running
+pub mod Runs
