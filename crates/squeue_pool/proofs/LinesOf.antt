@@ -1,5 +1,5 @@
 -- The lines of lists that are taken one after another.
-use Rattle.std.proofs.Common.{◌≡◌, ℕ, ◌+◌, ◌<◌, ◌^◌, suc, zero, inl, inr, All, Some, List, [], ◌∷◌, ◌++◌, Vec, length, length-append, map, slice_get, slice_index_or, append_assoc, refl, ap, sym, ◌∙◌, subst, arith}
+use Rattle.std.proofs.Common.{◌≡◌, ℕ, ◌+◌, ◌<◌, ◌^◌, suc, All, Some, List, [], ◌∷◌, ◌++◌, Vec, length, map, slice_get, append_assoc, refl, ap, sym, ◌∙◌, subst}
 use Rattle.std.specs.declared.alloc.Global.{Global}
 use Rattle.std.proofs.lemmas.List.{append-nil, map-append}
 use Rattle.std.proofs.lemmas.Option.{slice_get_within}

@@ -1,5 +1,5 @@
 -- What a squeue is that was made for a run.
-use Rattle.std.proofs.Common.{◌≡◌, ℕ, ◌+◌, ◌%◌, ◌<◌, ◌≤◌, ◌==◌, suc, zero, Bool, false, Some, List, [], ◌∷◌, ◌++◌, length, length-append, append_assoc, map, slice_get, slice_index_or, refl, ap, sym, ◌∙◌, subst, arith}
+use Rattle.std.proofs.Common.{◌≡◌, ℕ, ◌+◌, ◌%◌, ◌<◌, ◌==◌, suc, zero, Bool, false, Some, List, [], ◌∷◌, ◌++◌, length, length-append, append_assoc, map, slice_get, slice_index_or, refl, ap, sym, ◌∙◌, subst, arith}
 use Rattle.std.specs.Prelude.{Vec}
 use Rattle.std.specs.List.{range_with_len}
 use Rattle.std.specs.declared.alloc.Global.{Global}
@@ -11,7 +11,7 @@ use Rattle.squeue_state.specs.AllRoom.{HasAllRoom}
 use Rattle.squeue_state.specs.declared.guarded.Quota.{Quota}
 use Rattle.squeue_state.specs.Behind.{pairs}
 use Rattle.squeue_state.specs.Clauses.{IsMade, StandsEmpty}
-use Rattle.squeue_state.specs.Naming.{Named, setting_of}
+use Rattle.squeue_state.specs.Naming.{Named}
 use Rattle.perimeter_core.specs.History.{Setting}
 use Rattle.squeue_serve.proofs.Lent.{get_end}
 use Rattle.squeue_rings.proofs.Slots.{got_at, got_map}
@@ -19,7 +19,7 @@ use Rattle.ring_jobs.proofs.Starts.{first_flag, stands_empty}
 use Rattle.ring_jobs.proofs.Tasked.{each_more}
 use Rattle.ring_jobs.proofs.Works.{got_or}
 use Rattle.squeue_pool.specs.declared.pool.Pool.{Pool}
-use Rattle.squeue_pool.specs.Works.{AreFor, IsFor, SuitSqueues, SuitsSqueue, setting_at}
+use Rattle.squeue_pool.specs.Works.{AreFor, IsFor, SuitSqueues, SuitsSqueue}
 
 pub number_at : {A : Type 0} (f : ℕ → A) (a n k : ℕ) (d : A) → k < n → slice_index_or (map f (range_with_len a n)) k d ≡ f (a + k)
 number_at f a zero k d lt = absurd (omega (arith, lt))

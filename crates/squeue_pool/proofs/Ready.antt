@@ -1,16 +1,12 @@
 -- New squeues that suit the work are ready for it.
-use Rattle.std.proofs.Common.{◌≡◌, ℕ, ◌+◌, ◌%◌, ◌<◌, ◌≤◌, ◌==◌, false, Some, List, length, map, slice_get, slice_index_or, take, ap, sym, ◌∙◌, subst, arith}
-use Rattle.std.specs.Prelude.{Vec}
-use Rattle.std.specs.List.{range_with_len}
-use Rattle.std.specs.declared.alloc.Global.{Global}
+use Rattle.std.proofs.Common.{◌≡◌, ℕ, ◌+◌, ◌%◌, ◌<◌, ◌≤◌, ◌==◌, false, Some, List, length, map, slice_get, slice_index_or, take, ap, sym, ◌∙◌, arith}
 use Rattle.std.proofs.lemmas.List.FromFn.{length-map-range_with_len}
-use Rattle.turn_gate.specs.History.{Each}
 use Rattle.perimeter_core.specs.declared.resident.Resident.{Ghosts}
 use Rattle.perimeter_core.specs.History.{Setting}
 use Rattle.squeue_state.specs.AllRoom.{HasAllRoom}
 use Rattle.squeue_state.specs.Naming.{Named}
 use Rattle.squeue_serve.proofs.Coming.{each_got}
-use Rattle.squeue_rings.specs.Bringing.{AllBelow, AreOneRun, MayBringAll}
+use Rattle.squeue_rings.specs.Bringing.{AreOneRun, MayBringAll}
 use Rattle.squeue_rings.specs.Calling.{MayMake, MayMakeEach}
 use Rattle.squeue_rings.specs.Rings.{MayBring}
 use Rattle.squeue_rings.specs.Starts.{StartAtHome}

@@ -1,11 +1,9 @@
 -- From what the passes knew at the end, and what was left of the squeues, to the whole of the histories.
-use Rattle.std.proofs.Common.{◌≡◌, ◌≢◌, ℕ, ◌+◌, ◌-◌, ◌/◌, ◌%◌, ◌<◌, ◌≤◌, ◌==◌, zero, suc, Bool, true, false, if◌then◌else◌, Option, Some, None, List, [], ◌∷◌, length, inl, inr, map, slice_get, slice_index_or, refl, ap, sym, ◌∙◌, subst, arith}
-use Rattle.std.specs.Prelude.{get_or}
-use Rattle.std.specs.Option.{option_map, option_map_or}
+use Rattle.std.proofs.Common.{◌≡◌, ◌≢◌, ℕ, ◌+◌, ◌-◌, ◌/◌, ◌%◌, ◌<◌, ◌≤◌, ◌==◌, zero, suc, Bool, true, false, if◌then◌else◌, Option, Some, List, [], ◌∷◌, length, inl, inr, map, slice_get, slice_index_or, refl, ap, sym, ◌∙◌, subst, arith}
 use Rattle.std.proofs.lemmas.Bool.{cases_lt}
 use Rattle.std.proofs.lemmas.Bool.Decides.{nat_tests}
 use Rattle.std.proofs.lemmas.List.{length-map}
-use Rattle.std.proofs.lemmas.Option.{slice_get-map, slice_get_within}
+use Rattle.std.proofs.lemmas.Option.{slice_get_within}
 use Rattle.std.proofs.Math.Nat.{mod-lt}
 use Rattle.turn_gate.specs.History.{Each}
 use Rattle.turn_gate.specs.Passes.{number, seen}
@@ -50,7 +48,7 @@ use Rattle.squeue_pool.specs.Gathering.{HaveLeft, Leaves}
 use Rattle.squeue_pool.specs.Running.{AllDone}
 use Rattle.squeue_pool.specs.Runs.{HasRun, IsHereOnce, IsLeft, ends_of, list_for, made_in_all}
 use Rattle.squeue_pool.specs.Works.{AreFor, IsFor, Suits, WorkOf, setting_at}
-use Rattle.squeue_pool.proofs.Ready.{at_home, its_conns, its_rings, its_size}
+use Rattle.squeue_pool.proofs.Ready.{at_home, its_conns, its_rings}
 
 -- a state in which nobody has the perimeter has no hand
 no_hand : (s : State) → WakeKept s → s.own ≡ Free → s.hand ≡ []

@@ -1,5 +1,5 @@
 //! How a run is set up.
-ghost use Rattle.std.specs.Prelude.{◌≡◌, ◌≤◌};
+ghost use Rattle.std.specs.Prelude.{◌≡◌, ◌≤◌, false};
 
 use squeue_enter::Mode;
 use squeue_rings::{Homes, Pace};
@@ -23,6 +23,7 @@ impl Pool {
         ensures rings { result.rings ≡ rings }
         ensures mode { result.pace.mode ≡ mode }
         ensures budget { result.pace.budget ≡ budget }
+        ensures trace { result.trace ≡ false }
     {
         Pool {
             pace: Pace {

@@ -1,8 +1,7 @@
-use Rattle.std.proofs.Common.{◌≡◌, ◌∷◌, [], List, Vec, length, reverse, refl, ap, sym, ◌∙◌, subst, rules}
+use Rattle.std.proofs.Common.{◌≡◌, ◌∷◌, [], List, Vec, reverse, ap, sym, ◌∙◌, subst, rules}
 use Rattle.std.specs.declared.alloc.Global.{Global}
 use Rattle.std.proofs.lemmas.List.{reverse-append, reverse-reverse}
 use Rattle.perimeter_core.specs.declared.entries.Feed.{Feed}
-use Rattle.ring_jobs.specs.declared.lines.Ends.{Ends}
 use Rattle.squeue_pool.proofs.LinesOf.{SoFar, all_lined, next_short, none_yet, one_more}
 use Rattle.squeue_pool.proofs.lines.lines_of.Goals as goal
 

@@ -1,13 +1,11 @@
-use Rattle.std.proofs.Common.{◌≡◌, ℕ, ◌+◌, ◌≤◌, List, [], ◌∷◌, ◌++◌, All, length, length-append, map, reverse, refl, ap, sym, ◌∙◌, subst, arith, rules}
+use Rattle.std.proofs.Common.{◌≡◌, ℕ, List, [], ◌∷◌, length, length-append, map, reverse, refl, ap, sym, ◌∙◌, subst, arith, rules}
 use Rattle.std.proofs.lemmas.List.{length-map, reverse-append, reverse-reverse}
-use Rattle.perimeter_core.specs.History.{feed_quotas}
 use Rattle.squeue_state.specs.Behind.{pairs}
-use Rattle.squeue_state.specs.Clauses.{ask_quotas}
 use Rattle.squeue_state.specs.Naming.{Named}
 use Rattle.squeue_serve.specs.Places.{IsNew}
 use Rattle.squeue_serve.specs.Lending.{AreLent, lent_to}
 use Rattle.ring_jobs.proofs.Lends.{fits, none_yet, one_more}
-use Rattle.squeue_pool.proofs.Made.{SoFar, all_made, few_made, next_count, next_empty, next_is, next_made, next_passes, next_suits, next_within, none_made}
+use Rattle.squeue_pool.proofs.Made.{SoFar, all_made, few_made, next_count, next_empty, next_is, next_made, next_passes, next_suits, none_made}
 use Rattle.squeue_pool.proofs.making.make_all.Given.{Over}
 use Rattle.squeue_pool.proofs.making.make_all.Goals.{After-len-q}
 use Rattle.squeue_pool.proofs.making.make_all.Goals as goal

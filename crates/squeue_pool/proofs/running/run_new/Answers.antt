@@ -1,8 +1,5 @@
-use Rattle.std.proofs.Common.{◌≡◌, ℕ, ◌+◌, List, length, map, refl, sym, ◌∙◌, subst, arith}
+use Rattle.std.proofs.Common.{ℕ, ◌+◌, List, length, map, refl, arith}
 use Rattle.std.proofs.lemmas.List.{length-map}
-use Rattle.squeue_serve.specs.Lending.{AreLent, lent_to, tasks_in}
-use Rattle.squeue_serve.specs.Places.{IsNew}
-use Rattle.ring_jobs.specs.Tasks.{AreTasks}
 use Rattle.ring_jobs.proofs.Finished.{caller_done, lent_back, ring_done, ring_paced}
 use Rattle.ring_jobs.proofs.Ready.{all_ready}
 use Rattle.squeue_pool.proofs.running.run_new.Goals as goal

@@ -1,11 +1,11 @@
-use Rattle.std.proofs.Common.{◌≡◌, ℕ, ◌+◌, IfOk, List, Vec, length, ap, sym, ◌∙◌, subst, arith}
+use Rattle.std.proofs.Common.{◌≡◌, ℕ, IfOk, List, Vec, length, ap, sym, ◌∙◌, subst, arith}
 use Rattle.std.proofs.lemmas.List.{length-map}
 use Rattle.std.specs.declared.alloc.Global.{Global}
 use Rattle.squeue_state.specs.declared.guarded.Quota.{Quota}
 use Rattle.squeue_serve.specs.Lending.{tasks_in}
 use Rattle.synch_enter.specs.Hinting.{conns_of}
 use Rattle.ring_jobs.specs.Tasks.{AreTasks}
-use Rattle.squeue_pool.specs.Works.{Suits, WorkOf, work_by, work_of}
+use Rattle.squeue_pool.specs.Works.{Suits, WorkOf, work_by}
 use Rattle.squeue_pool.specs.Runs.{HasRun}
 use Rattle.squeue_pool.proofs.LinesOf.{all_short, lines_have, list_in, same_work}
 use Rattle.squeue_pool.proofs.serving.run.Goals as goal
