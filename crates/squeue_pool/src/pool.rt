@@ -6,6 +6,13 @@ use squeue_rings::{Homes, Pace};
 
 /// How rings enter (the number of squeues, after how many feeds a connection moves on, the mode, and the most feeds that an entering
 /// thread processes), how many rings there are, and whether each squeue keeps the marks of its history.
+///
+/// # Example
+///
+/// ```
+/// let pool = Pool::of(squeues, rings, mode, 64);
+/// let totals = count(&rt, alloc, &rows, &pool)?;
+/// ```
 #[derive(Clone, Copy)]
 pub struct Pool {
     pub pace: Pace,

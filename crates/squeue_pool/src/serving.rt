@@ -25,6 +25,14 @@ use synch_enter::Hints;
 
 /// Does the work by threads over squeues: a feeder, the rings, the application threads, and a worker for each squeue. What is left
 /// of each squeue comes back by its number. Fails only for want of memory.
+///
+/// # Example
+///
+/// ```
+/// let residents = residents_of(alloc, amounts, pool.squeues())?;
+/// let counts = counts_of(alloc, amounts)?;
+/// let left = run_by_key(rt, alloc, &NoHook, pool, residents, &counts)?;
+/// ```
 pub fn run<R: Resident + Send + Drop, H: Hook + Sync, W: Threads + Wait + Sync>(
     rt: &W,
     alloc: Global,
@@ -90,15 +98,7 @@ fn run_by<R: Resident + Send + Drop, H: Hook + Sync, W: Threads + Wait + Sync>(
     let mut left = left;
     let mut jobs = jobs;
     let mut squeues = squeues;
-    let made = make_all(
-        alloc,
-        pool,
-        residents,
-        quotas,
-        count,
-        &mut jobs,
-        &mut squeues,
-    );
+    let made = make_all(alloc, pool, residents, quotas, count, &mut jobs, &mut squeues);
     let mut squeues = run_or_end(
         rt, alloc, hook, &made, pool, squeues, calls, count, hints, lines, &mut jobs,
     );
