@@ -1,0 +1,47 @@
+-- A stream that takes one item more.
+use Rattle.std.proofs.Common.{◌≡◌, ℕ, zero, suc, ◌+◌, ◌≤◌, ◌<◌, List, [], ◌∷◌, ◌++◌, length, replicate, slice_index, refl, ap, sym, ◌∙◌, subst, arith, length-append}
+use Rattle.perimeter_core.specs.declared.entries.Act.{Act}
+use Rattle.perimeter_core.specs.declared.entries.Act.TheVariants as Did
+use Rattle.perimeter_core.specs.Deeds.{fed}
+use Rattle.perimeter_core.proofs.NextFeed.{fed-append}
+use Rattle.placed_parts.specs.Standing.{HasFed}
+use Rattle.rtrb.specs.Ring.{received}
+use Rattle.squeue_streams.specs.declared.streams.Stream.{Stream}
+use Rattle.squeue_streams.specs.Taking.{HasTaken, IsStreamOf, Takes, most_feeds}
+
+-- one item more
+pub takes_more : {T S : Type 0} (step : S → T → S → Type 0) (from at to : S) (xs : List T) (x : T) → Takes step from xs at → step at x to → Takes step from (xs ++ x ∷ []) to
+takes_more {T} {S} step from at to [] x is one = (to, subst (λ (s : S). step s x to) is one, refl)
+takes_more step from at to (y ∷ xs) x is one = (is.0, is.1, takes_more step is.0 at to xs x is.2 one)
+
+-- no limit is above that of all
+limit_within : (count most c : ℕ) → slice_index (replicate count most) c ≤ most
+limit_within zero most c = omega arith
+limit_within (suc count) most zero = omega arith
+limit_within (suc count) most (suc c) = limit_within count most c
+
+module _ {T S : Type 0} where
+  -- a feed below the limit can be counted
+  pub counted : (stream : Stream T S) (count n c : ℕ) → HasFed (HasTaken stream) n → n < slice_index (replicate count most_feeds) c → stream.had < most_feeds
+  counted stream count n c was below = omega (arith, was.stands.feeds, was.feeds, below, limit_within count most_feeds c)
+
+  pub taken_more : (n : ℕ) (stream next : Stream T S) (x : T) (had : List Act) → received next.input ≡ received stream.input ++ x ∷ [] → next.had ≡ stream.had + 1
+      → HasTaken stream had → HasTaken next (had ++ Did.Feed n ∷ [])
+  taken_more n stream next x had popped more h =
+      record {
+        feeds = fed-append had (Did.Feed n ∷ []) ∙ omega (arith, h.feeds, more);
+        popped = omega (arith, more, h.popped, ap length popped, length-append (received stream.input) (x ∷ []));
+      }
+
+  pub stream_more : {O : Type 0} (begins : O → ℕ → S → Type 0) (step : O → S → T → S → Type 0) (o : O) (c : ℕ) (stream next : Stream T S) (x : T)
+      → IsStreamOf begins step o c stream → received next.input ≡ received stream.input ++ x ∷ [] → step o stream.state x next.state → IsStreamOf begins step o c next
+  stream_more begins step o c stream next x is popped one =
+      record {
+        first = is.first;
+        begun = is.begun;
+        taken = subst (λ (xs : List T). Takes (step o) is.first xs next.state) (sym popped) (takes_more (step o) is.first stream.state next.state (received stream.input) x is.taken one);
+      }
+
+  -- a call changes nothing
+  pub called : (j k : ℕ) (stream : Stream T S) (had : List Act) → HasTaken stream had → HasTaken stream (had ++ Did.Call j k ∷ [])
+  called j k stream had h = record { feeds = fed-append had (Did.Call j k ∷ []) ∙ omega (arith, h.feeds); popped = h.popped }

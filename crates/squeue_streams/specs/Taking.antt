@@ -1,0 +1,52 @@
+-- What a stream stands for, and which items its state is made of.
+use Rattle.std.specs.Prelude.{◌≡◌, ◌-◌, ◌^◌, ◌≤◌, ℕ, List, [], ◌∷◌, length, replicate}
+use Rattle.std.proofs.Common.{Global}
+use Rattle.perimeter_core.specs.declared.entries.Act.{Act}
+use Rattle.perimeter_core.specs.History.{Limits}
+use Rattle.perimeter_core.specs.Deeds.{fed}
+use Rattle.rtrb.specs.declared.consumer.Consumer.{Consumer}
+use Rattle.rtrb.specs.declared.AnyItems.{AnyItems}
+use Rattle.rtrb.specs.Ring.{received}
+use Rattle.squeue_streams.specs.declared.streams.Stream.{Stream}
+
+-- by these steps the items, one after another, lead from one state to another
+abbrev pub Takes : {T S : Type 0} → (S → T → S → Type 0) → S → List T → S → Type 0
+Takes step from [] to = to ≡ from
+Takes {T} {S} step from (x ∷ xs) to = (next : S) × step from x next × Takes step next xs to
+
+module _ {T S : Type 0} where
+  -- the end of the stream's ring that pops
+  abbrev pub input_of : Stream T S → Consumer T Global AnyItems
+  input_of stream = stream.input
+
+  abbrev pub state_of : Stream T S → S
+  state_of stream = stream.state
+
+  -- how many feeds it has had since it was put in
+  abbrev pub count_of : Stream T S → ℕ
+  count_of stream = stream.had
+
+  -- all items that were ever popped, oldest first
+  abbrev pub items_of : Stream T S → List T
+  items_of stream = received stream.input
+
+  -- a stream has had as many feeds as it counts, and popped an item for each
+  pub record HasTaken (stream : Stream T S) (had : List Act) : Type 0 where
+    pub feeds : fed had ≡ stream.had
+    pub popped : stream.had ≤ length (received stream.input)
+
+  -- The state of stream c is what the steps make of all items that were popped, in order, from one in which it may begin
+  pub record IsStreamOf {O : Type 0} (begins : O → ℕ → S → Type 0) (step : O → S → T → S → Type 0) (o : O) (c : ℕ) (stream : Stream T S) : Type 0 where
+    pub first : S
+    pub begun : begins o c first
+    pub taken : Takes (step o) first (received stream.input) stream.state
+
+-- each stream may have so many feeds after it was put in, and leaves so often
+abbrev pub most_feeds : ℕ
+most_feeds = 2 ^ 32 - 1
+
+abbrev pub most_leaves : ℕ
+most_leaves = 2 ^ 26
+
+abbrev pub limits_of : ℕ → Limits
+limits_of count = record { feeds = replicate count most_feeds; leaves = replicate count most_leaves; calls = [] }

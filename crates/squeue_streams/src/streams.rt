@@ -1,0 +1,132 @@
+//! The parts: what is made of the items of each stream.
+ghost use Rattle.std.specs.Prelude.{◌≡◌, ◌+◌, ◌^◌, ◌<◌, ◌≤◌, ℕ, [], ◌∷◌, ◌++◌, IfOk, length};
+ghost use Rattle.rtrb.specs.Ring.{IsPair, consumer_capacity, known_items, producer_capacity, received, sent};
+ghost use Rattle.squeue_streams.specs.Taking.{count_of, input_of, state_of};
+
+use placed_parts::Parts;
+use rtrb::{Consumer, Producer, RingBuffer};
+use std::alloc::{AllocError, Global};
+use std::sync::Wait;
+use std::thread;
+
+/// What is made of the items of streams.
+pub trait Steps {
+    /// What a stream brings.
+    type Item: Drop;
+    /// What is made of the items of one stream.
+    type State: Drop;
+    /// What the streams of one run have in common, for contracts alone.
+    type Origin;
+
+    /// What these streams have in common.
+    ghost origin: { Self → Self.Origin };
+
+    /// Which states a stream, by its number, may have before its first item.
+    ghost begins: { Self.Origin → ℕ → Self.State → Type 0 };
+
+    /// Which states may follow a state by an item.
+    ghost step: { Self.Origin → Self.State → Self.Item → Self.State → Type 0 };
+
+    /// The state of stream `c` before its first item.
+    fn begin(&self, alloc: Global, c: u32) -> Result<Self::State, AllocError>
+        ensures { IfOk result (λ s. begins (origin self.now) c s) };
+
+    /// Takes the next item. Want of memory is the state's to record.
+    fn take(&self, alloc: Global, state: &mut Self::State, item: Self::Item)
+        ensures { step (origin self.now) state.old item state.new };
+}
+
+/// A stream at its squeue: the end of its ring that pops, what was made of the items that were popped, and how many feeds
+/// it has had since it was put in.
+#[derive(Drop)]
+pub struct Stream<T: Drop, S: Drop> {
+    input: Consumer<T>,
+    state: S,
+    had: u32,
+}
+
+impl<T: Drop, S: Drop> Stream<T, S> {
+    /// A stream from which nothing was popped, in this state.
+    pub fn of(input: Consumer<T>, state: S) -> Stream<T, S>
+        ensures input { input_of result ≡ input }
+        ensures state { state_of result ≡ state }
+        ensures count { count_of result ≡ 0 }
+    {
+        Stream {
+            input,
+            state,
+            had: 0,
+        }
+    }
+
+    /// What was made of the items that were popped.
+    pub fn state(&self) -> &S
+        ensures { result.now ≡ state_of self.now }
+    {
+        &self.state
+    }
+
+    /// How many feeds it has had since it was put in.
+    pub fn count(&self) -> u32
+        ensures { result ≡ count_of self.now }
+    {
+        self.had
+    }
+}
+
+/// What all streams share: what is made of their items, and how to wait for an item that was pushed and isn't seen yet.
+/// There are `count` streams, and each may have 2^32 - 1 feeds after it was put in.
+#[derive(Drop)]
+pub struct Streams<X: Steps + Drop, H: Wait + Drop> {
+    pub(crate) steps: X,
+    pub(crate) rt: H,
+    pub(crate) count: u32,
+}
+
+impl<X: Steps + Drop, H: Wait + Drop> Streams<X, H> {
+    /// The next item of a ring. It waits for it.
+    fn next(&self, input: &mut Consumer<X::Item>) -> X::Item
+        ensures { received input.new ≡ received input.old ++ result ∷ [] }
+    {
+        for _ in self.rt.forever() {
+            if let Ok(item) = input.pop() {
+                return item;
+            }
+            thread::yield_now();
+        }
+        unreachable!()
+    }
+}
+
+impl<X: Steps + Drop, H: Wait + Drop> Parts for Streams<X, H> {
+    ghost use Rattle.squeue_streams.specs.Taking.{HasTaken, IsStreamOf, limits_of};
+    ghost use Rattle.std.proofs.Common.{sym, ◌∙◌};
+
+    type Part = Stream<X::Item, X::State>;
+
+    type Origin = X::Origin;
+
+    ghost part_stands = { HasTaken };
+
+    ghost limits = { λ r. limits_of r.count };
+
+    ghost origin = { λ r. X.origin r.steps };
+
+    ghost is_part_of = { IsStreamOf X.begins X.step };
+
+    fn fresh(&self, alloc: Global, c: u32) -> Result<Self::Part, AllocError> {
+        let state = self.steps.begin(alloc, c)?;
+        let (_producer, input) = RingBuffer::new(alloc, 1)?;
+        Ok(Stream::of(input, state))
+    }
+
+    fn feed(&self, alloc: Global, stream: &mut Self::Part, _c: u32, _n: u32) {
+        let item = self.next(&mut stream.input);
+        self.steps.take(alloc, &mut stream.state, item);
+        stream.had += 1;
+    }
+
+    fn call(&self, _alloc: Global, _stream: &mut Self::Part, _c: u32, _j: u32, _k: u32) {}
+
+    ghost same_count = { λ p a b x y. x.feeds ∙ sym y.feeds };
+}
