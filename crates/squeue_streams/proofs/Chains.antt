@@ -1,5 +1,6 @@
 -- A source that enters one chain more of the feeds of its items.
-use Rattle.std.proofs.Common.{◌≡◌, ℕ, zero, suc, ◌+◌, ◌-◌, ◌≤◌, ◌<◌, ◌%◌, ◌==◌, true, if◌then◌else◌, List, [], ◌∷◌, ◌++◌, length, refl, ap, sym, ◌∙◌, subst, arith}
+use Rattle.std.specs.Prelude.{IfErr, OnOk}
+use Rattle.std.proofs.Common.{◌≡◌, ℕ, Result, Ok, Err, zero, suc, ◌+◌, ◌-◌, ◌≤◌, ◌<◌, ◌%◌, ◌==◌, true, if◌then◌else◌, List, [], ◌∷◌, ◌++◌, length, refl, ap, sym, ◌∙◌, subst, arith}
 use Rattle.std.proofs.lemmas.List.{append-nil}
 use Rattle.std.proofs.lemmas.Bool.Decides.{nat_tests}
 use Rattle.turn_gate.specs.Passes.{number, seen}
@@ -12,7 +13,7 @@ use Rattle.squeue_enter.specs.Entering.{Brought, MayEnter, MayGoOn}
 use Rattle.squeue_enter.proofs.Bringing.{may_front}
 use Rattle.feed_lists.specs.Lists.{items_of}
 use Rattle.squeue_streams.specs.declared.source.Source.{Source}
-use Rattle.squeue_streams.specs.Sourcing.{Brings, entered_of, life_of, stream_of}
+use Rattle.squeue_streams.specs.Sourcing.{Brings, SameSource, entered_of, life_of, stream_of}
 
 one_more : (c n k : ℕ) → items_of c n (suc k) ≡ items_of c n k ++ record { c = c; n = n + k } ∷ []
 one_more c n zero = ap (λ (m : ℕ). record { c = c; n = m } ∷ []) (let e : n ≡ n + 0 = omega arith in e)
@@ -81,3 +82,27 @@ module _ {R : Type 0} (limits : R → Limits) (s : Named R) (from to : Pass Elem
           may = rw (same_stream, same_life, entered) may;
           due = ap (due (seen to)) same_stream ∙ omega (arith, brought.next (stream_of old) ring, b.due, entered);
         }
+
+module _ {R : Type 0} (limits : R → Limits) (s : Named R) (p : Pass Element) {T : Type 0} where
+  -- an item that is pushed enters nothing
+  pub brings_pushed : (old new : Source T) → stream_of new ≡ stream_of old → life_of new ≡ life_of old → entered_of new ≡ entered_of old → Brings limits s p old → Brings limits s p new
+  brings_pushed old new stream life entered b = record { may = rw (stream, life, entered) b.may; due = ap (due (seen p)) stream ∙ (b.due ∙ sym entered) }
+
+-- the same source twice
+pub same_both : {T : Type 0} (a b c : Source T) → SameSource a b → SameSource b c → SameSource a c
+same_both a b c x y =
+    record {
+      ring = ((y.ring.0.0 ∙ x.ring.0.0, y.ring.0.1 ∙ x.ring.0.1, y.ring.0.2 ∙ x.ring.0.2, y.ring.0.3 ∙ x.ring.0.3), y.ring.1 ∙ x.ring.1);
+      stream = y.stream ∙ x.stream;
+      most = y.most ∙ x.most;
+      life = y.life ∙ x.life;
+    }
+
+-- what is said of an answer, said otherwise
+pub on_ok : {A E P Q : Type 0} (r : Result A E) → (P → Q) → OnOk r P → OnOk r Q
+on_ok (Ok x) f h = f h
+on_ok (Err e) f h = tt
+
+pub if_err : {A E : Type 0} {P Q : E → Type 0} (r : Result A E) → ((e : E) → P e → Q e) → IfErr r P → IfErr r Q
+if_err (Ok x) f h = tt
+if_err (Err e) f h = f e h

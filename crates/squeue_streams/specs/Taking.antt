@@ -8,6 +8,7 @@ use Rattle.rtrb.specs.declared.consumer.Consumer.{Consumer}
 use Rattle.rtrb.specs.declared.AnyItems.{AnyItems}
 use Rattle.rtrb.specs.Ring.{received}
 use Rattle.squeue_streams.specs.declared.streams.Stream.{Stream}
+use Rattle.squeue_streams.specs.declared.streams.Streams.{Streams}
 
 -- by these steps the items, one after another, lead from one state to another
 abbrev pub Takes : {T S : Type 0} → (S → T → S → Type 0) → S → List T → S → Type 0
@@ -40,6 +41,14 @@ module _ {T S : Type 0} where
     pub first : S
     pub begun : begins o c first
     pub taken : Takes (step o) first (received stream.input) stream.state
+
+module _ {X H T S O : Type 0} where
+  -- what is made of the items, and how many streams there are
+  abbrev pub steps_of : Streams X H T S O → X
+  steps_of r = r.steps
+
+  abbrev pub streams_of : Streams X H T S O → ℕ
+  streams_of r = r.count
 
 -- each stream may have so many feeds after it was put in, and leaves so often
 abbrev pub most_feeds : ℕ

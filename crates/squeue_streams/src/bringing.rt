@@ -113,6 +113,35 @@ impl<T: Drop> Source<T> {
         }
         (pass, true)
     }
+
+    /// Pushes an item, and enters the feeds of all that are pushed, as far as they fit. Where the ring is full what is pushed is
+    /// entered first; where it's still full, or the source's life is over, the item comes back. `waiting` tells afterwards how many
+    /// items are pushed whose feeds are not entered.
+    pub fn bring<R: Resident, H: Hook, W: Wait>(
+        &mut self,
+        sq: &Squeue<R>,
+        rt: &W,
+        alloc: Global,
+        hook: &H,
+        pass: Pass,
+        pace: Pace,
+        item: T,
+    ) -> (Pass, Result<(), T>)
+        requires may { Brings R.limits sq.now pass self.old }
+        ensures may { Brings R.limits sq.now result.0 self.new }
+        ensures number { number result.0 ≡ number pass }
+        ensures same { SameSource self.old self.new }
+        ensures pushed { OnOk result.1 ((sent_of self.new ≡ sent_of self.old ++ item ∷ []) × (pushed_of self.new ≡ pushed_of self.old + 1)) }
+        ensures back { IfErr result.1 (λ x. (x ≡ item) × (sent_of self.new ≡ sent_of self.old) × (pushed_of self.new ≡ pushed_of self.old)) }
+        ensures full { IfErr result.1 (λ _. IsRefused self.new) }
+    {
+        let pushed = self.push(item);
+        let (pass, _) = self.enter_pushed(sq, rt, alloc, hook, pass, pace);
+        match pushed {
+            Ok(()) => (pass, Ok(())),
+            Err(item) => (pass, self.push(item)),
+        }
+    }
 }
 
 // Makes the chain of so many feeds of stream `c`, from number `first` on, in room that was made before.

@@ -1,7 +1,7 @@
 //! The parts: what is made of the items of each stream.
 ghost use Rattle.std.specs.Prelude.{◌≡◌, ◌+◌, ◌^◌, ◌<◌, ◌≤◌, ℕ, [], ◌∷◌, ◌++◌, IfOk, length};
 ghost use Rattle.rtrb.specs.Ring.{IsPair, consumer_capacity, known_items, producer_capacity, received, sent};
-ghost use Rattle.squeue_streams.specs.Taking.{count_of, input_of, state_of};
+ghost use Rattle.squeue_streams.specs.Taking.{count_of, input_of, state_of, steps_of, streams_of};
 
 use placed_parts::Parts;
 use rtrb::{Consumer, Producer, RingBuffer};
@@ -84,6 +84,13 @@ pub struct Streams<X: Steps + Drop, H: Wait + Drop> {
 }
 
 impl<X: Steps + Drop, H: Wait + Drop> Streams<X, H> {
+    /// So many streams, with what is made of their items and how to wait.
+    pub fn of(steps: X, rt: H, count: u32) -> Streams<X, H>
+        ensures { (steps_of result ≡ steps) × (streams_of result ≡ count) }
+    {
+        Streams { steps, rt, count }
+    }
+
     /// The next item of a ring. It waits for it.
     fn next(&self, input: &mut Consumer<X::Item>) -> X::Item
         ensures { received input.new ≡ received input.old ++ result ∷ [] }
