@@ -1,14 +1,13 @@
 -- A source that enters one chain more of the feeds of its items.
 use Rattle.std.specs.Prelude.{IfErr, OnOk}
-use Rattle.std.proofs.Common.{◌≡◌, ℕ, Result, Ok, Err, zero, suc, ◌+◌, ◌-◌, ◌≤◌, ◌<◌, ◌%◌, ◌==◌, true, if◌then◌else◌, List, [], ◌∷◌, ◌++◌, length, refl, ap, sym, ◌∙◌, subst, arith}
-use Rattle.std.proofs.lemmas.List.{append-nil}
+use Rattle.std.proofs.Common.{◌≡◌, ℕ, Result, Ok, Err, zero, suc, ◌+◌, ◌-◌, ◌≤◌, ◌<◌, ◌%◌, ◌==◌, true, List, [], ◌∷◌, ◌++◌, length, refl, ap, sym, ◌∙◌, subst, arith}
 use Rattle.std.proofs.lemmas.Bool.Decides.{nat_tests}
 use Rattle.turn_gate.specs.Passes.{number, seen}
 use Rattle.turn_gate.specs.declared.pass.Pass.{Pass}
 use Rattle.perimeter_core.specs.declared.entries.Feed.{Feed as FeedOf}
 use Rattle.perimeter_core.specs.History.{Element, Limits}
 use Rattle.perimeter_core.specs.Deeds.{due, entries, feeds_of}
-use Rattle.squeue_state.specs.Naming.{Named, setting_of}
+use Rattle.squeue_state.specs.Naming.{Named}
 use Rattle.squeue_enter.specs.Entering.{Brought, MayEnter, MayGoOn}
 use Rattle.squeue_enter.proofs.Bringing.{may_front}
 use Rattle.feed_lists.specs.Lists.{items_of}

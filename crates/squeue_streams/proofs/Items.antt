@@ -2,7 +2,6 @@
 use Rattle.std.proofs.Common.{◌≡◌, ℕ, zero, suc, ◌+◌, ◌≤◌, ◌<◌, List, [], ◌∷◌, ◌++◌, length, replicate, slice_index, refl, ap, sym, ◌∙◌, subst, arith, length-append}
 use Rattle.perimeter_core.specs.declared.entries.Act.{Act}
 use Rattle.perimeter_core.specs.declared.entries.Act.TheVariants as Did
-use Rattle.perimeter_core.specs.Deeds.{fed}
 use Rattle.perimeter_core.proofs.NextFeed.{fed-append}
 use Rattle.placed_parts.specs.Standing.{HasFed}
 use Rattle.rtrb.specs.Ring.{received}

@@ -1,6 +1,5 @@
 -- What a source has pushed and entered, and what it may enter.
 use Rattle.std.specs.Prelude.{◌≡◌, ℕ, ◌-◌, ◌⊎◌, List}
-use Rattle.std.proofs.Common.{Global}
 use Rattle.rtrb.specs.Ring.{SameProducer, known_free, sent}
 use Rattle.turn_gate.specs.Passes.{seen}
 use Rattle.turn_gate.specs.declared.pass.Pass.{Pass}

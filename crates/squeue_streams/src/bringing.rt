@@ -99,12 +99,23 @@ impl<T: Drop> Source<T> {
         'chains: while self.entered < self.pushed {
             let count = (self.pushed - self.entered).min(self.most);
             fill_chain(&mut self.chain, self.stream, self.entered, count);
-            match enter_or_full(sq, rt, alloc, hook, pass, &self.chain, pace.mode, pace.budget) {
-                Ok(Entered {
-                    pass: next,
-                    how: _,
-                    polling: _,
-                }) => {
+            match enter_or_full(
+                sq,
+                rt,
+                alloc,
+                hook,
+                pass,
+                &self.chain,
+                pace.mode,
+                pace.budget,
+            ) {
+                Ok(
+                    Entered {
+                        pass: next,
+                        how: _,
+                        polling: _,
+                    },
+                ) => {
                     pass = next;
                     self.entered += count;
                 }

@@ -1,5 +1,5 @@
-use Rattle.std.proofs.Common.{◌≡◌, ◌+◌, ◌++◌, ◌∷◌, [], List, ap, ◌∙◌}
-use Rattle.squeue_streams.specs.Sourcing.{pushed_of, sent_of}
+use Rattle.std.proofs.Common.{◌+◌, ◌++◌, ◌∷◌, [], ap, ◌∙◌}
+use Rattle.squeue_streams.specs.Sourcing.{sent_of}
 use Rattle.squeue_streams.proofs.Chains.{brings_pushed, if_err, on_ok, same_both}
 use Rattle.squeue_streams.proofs.source.Source.bring.Goals as goal
 

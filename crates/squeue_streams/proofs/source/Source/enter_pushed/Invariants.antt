@@ -1,4 +1,4 @@
-use Rattle.std.proofs.Common.{◌≡◌, ◌≤◌, ◌-◌}
+use Rattle.std.proofs.Common.{◌≡◌, ◌-◌}
 use Rattle.turn_gate.specs.Passes.{number}
 use Rattle.squeue_streams.specs.Sourcing.{Brings, SameSource, pushed_of, sent_of}
 use Rattle.squeue_streams.proofs.source.Source.enter_pushed.Given as goal
