@@ -1,0 +1,140 @@
+//! What the threads do with their passes: each ring brings amounts round after round, and one thread looks each second.
+ghost use Rattle.std.specs.Prelude.{◌≡◌, ◌++◌, ◌∷◌, []};
+ghost use Rattle.turn_gate.specs.Passes.{number};
+ghost use Rattle.squeue_streams.specs.Sourcing.{Brings, entered_of, pushed_of, sent_of};
+ghost use Rattle.endless_sums.specs.Looking.{MayLook};
+
+use perimeter_core::{NoHook, Resident};
+use squeue_look::{Reads, look};
+use squeue_state::{Pass, Squeue};
+use squeue_streams::{Pace, Source};
+use std::alloc::Global;
+use std::fmt::Display;
+use std::sync::Wait;
+use std::time::{Clock, Duration, Instant};
+use std::{io, thread};
+
+/// How many amounts a ring brings before it looks whether its time is over: 0, 1, 2 and so on.
+pub const ROUND: u32 = 1_000;
+
+/// Brings rounds of amounts for so many seconds, one at least, and enters the feeds of all. It ends too where the clock fails
+/// or the source's life has no round more.
+pub fn bring<R: Resident, W: Wait + Clock>(
+    rt: &W,
+    sq: &Squeue<R>,
+    alloc: Global,
+    pace: Pace,
+    pass: Pass,
+    source: &mut Source<u32>,
+    seconds: u32,
+) -> Pass
+    requires may { Brings R.limits sq.now pass source.old }
+    ensures may { Brings R.limits sq.now result source.new }
+    ensures number { number result ≡ number pass }
+    ensures all { entered_of source.new ≡ pushed_of source.new }
+{
+    let start = Instant::now(rt);
+    let mut pass = pass;
+    for _ in rt.forever() {
+        for amount in 0..ROUND {
+            pass = bring_one(rt, sq, alloc, pace, pass, source, amount);
+        }
+        if source.left() < ROUND || is_over(rt, &start, seconds) {
+            return bring_rest(rt, sq, alloc, pace, pass, source);
+        }
+    }
+    unreachable!()
+}
+
+// Whether so many seconds are over since the start.
+fn is_over<W: Clock>(rt: &W, start: &io::Result<Instant>, seconds: u32) -> bool {
+    match start {
+        Ok(start) => match start.elapsed(rt) {
+            Ok(time) => time.as_secs() >= u64::from(seconds),
+            Err(_) => true,
+        },
+        Err(_) => true,
+    }
+}
+
+// Brings one amount. Where ring and room are full it waits.
+fn bring_one<R: Resident, W: Wait>(
+    rt: &W,
+    sq: &Squeue<R>,
+    alloc: Global,
+    pace: Pace,
+    pass: Pass,
+    source: &mut Source<u32>,
+    amount: u32,
+) -> Pass
+    requires may { Brings R.limits sq.now pass source.old }
+    ensures may { Brings R.limits sq.now result source.new }
+    ensures number { number result ≡ number pass }
+    ensures pushed { sent_of source.new ≡ sent_of source.old ++ amount ∷ [] }
+{
+    let mut pass = pass;
+    for _ in rt.forever() {
+        let (next, pushed) = source.bring(sq, rt, alloc, &NoHook, pass, pace, amount);
+        match pushed {
+            Ok(()) => return next,
+            Err(_) => pass = next,
+        }
+        thread::yield_now();
+    }
+    unreachable!()
+}
+
+// Enters what is pushed, and waits until all of it has found room.
+fn bring_rest<R: Resident, W: Wait>(
+    rt: &W,
+    sq: &Squeue<R>,
+    alloc: Global,
+    pace: Pace,
+    pass: Pass,
+    source: &mut Source<u32>,
+) -> Pass
+    requires may { Brings R.limits sq.now pass source.old }
+    ensures may { Brings R.limits sq.now result source.new }
+    ensures number { number result ≡ number pass }
+    ensures all { entered_of source.new ≡ pushed_of source.new }
+    ensures sent { sent_of source.new ≡ sent_of source.old }
+{
+    let mut pass = pass;
+    for _ in rt.forever() {
+        let (next, all) = source.enter_pushed(sq, rt, alloc, &NoHook, pass, pace);
+        if all {
+            return next;
+        }
+        pass = next;
+        thread::yield_now();
+    }
+    unreachable!()
+}
+
+/// Looks after each second, so many times, and tells what was seen. `told` stays as it was where all could be told; else it is
+/// false.
+pub fn watch<R: Resident, V: Reads<R>, W: Wait + Clock + Print>(
+    rt: &W,
+    sq: &Squeue<R>,
+    alloc: Global,
+    pass: Pass,
+    reader: &V,
+    seconds: u32,
+    told: &mut bool,
+) -> Pass
+where
+    V::Seen: Display + Drop,
+    requires may { MayLook R.limits sq.now seconds pass }
+    ensures may { MayLook R.limits sq.now 0 result }
+    ensures number { number result ≡ number pass }
+{
+    let mut pass = pass;
+    for second in 0..seconds {
+        thread::sleep(rt, Duration::from_secs(1));
+        let (next, seen) = look(sq, rt, alloc, pass, reader);
+        pass = next;
+        let line = println!(rt; "second {second} {seen}");
+        *told = *told && line.is_ok();
+    }
+    pass
+}
