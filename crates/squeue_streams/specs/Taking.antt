@@ -50,6 +50,10 @@ module _ {X H T S O : Type 0} where
   abbrev pub streams_of : Streams X H T S O → ℕ
   streams_of r = r.count
 
+  -- the calls that there may be: stream, thread and number
+  abbrev pub calls_of : Streams X H T S O → List (ℕ × ℕ × ℕ)
+  calls_of r = r.calls.items
+
 -- each stream may have so many feeds after it was put in, and leaves so often
 abbrev pub most_feeds : ℕ
 most_feeds = 2 ^ 32 - 1
@@ -57,5 +61,5 @@ most_feeds = 2 ^ 32 - 1
 abbrev pub most_leaves : ℕ
 most_leaves = 2 ^ 26
 
-abbrev pub limits_of : ℕ → Limits
-limits_of count = record { feeds = replicate count most_feeds; leaves = replicate count most_leaves; calls = [] }
+abbrev pub limits_of : {X H T S O : Type 0} → Streams X H T S O → Limits
+limits_of r = record { feeds = replicate (streams_of r) most_feeds; leaves = replicate (streams_of r) most_leaves; calls = calls_of r }

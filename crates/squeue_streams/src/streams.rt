@@ -1,7 +1,7 @@
 //! The parts: what is made of the items of each stream.
 ghost use Rattle.std.specs.Prelude.{◌≡◌, ◌+◌, ◌^◌, ◌<◌, ◌≤◌, ℕ, [], ◌∷◌, ◌++◌, IfOk, length};
 ghost use Rattle.rtrb.specs.Ring.{IsPair, consumer_capacity, known_items, producer_capacity, received, sent};
-ghost use Rattle.squeue_streams.specs.Taking.{count_of, input_of, state_of, steps_of, streams_of};
+ghost use Rattle.squeue_streams.specs.Taking.{calls_of, count_of, input_of, state_of, steps_of, streams_of};
 
 use placed_parts::Parts;
 use rtrb::{Consumer, Producer, RingBuffer};
@@ -75,20 +75,29 @@ impl<T: Drop, S: Drop> Stream<T, S> {
 }
 
 /// What all streams share: what is made of their items, and how to wait for an item that was pushed and isn't seen yet.
-/// There are `count` streams, and each may have 2^32 - 1 feeds after it was put in.
+/// There are `count` streams, and each may have 2^32 - 1 feeds after it was put in. A call changes nothing. The calls that there
+/// may be are given: `(c, j, k)` where call `k` of thread `j` is on stream `c`.
 #[derive(Drop)]
 pub struct Streams<X: Steps + Drop, H: Wait + Drop> {
     pub(crate) steps: X,
     pub(crate) rt: H,
     pub(crate) count: u32,
+    pub(crate) calls: Vec<(u32, u32, u32)>,
 }
 
 impl<X: Steps + Drop, H: Wait + Drop> Streams<X, H> {
-    /// So many streams, with what is made of their items and how to wait.
-    pub fn of(steps: X, rt: H, count: u32) -> Streams<X, H>
-        ensures { (steps_of result ≡ steps) × (streams_of result ≡ count) }
+    /// So many streams, with what is made of their items, how to wait, and the calls that there may be.
+    pub fn of(steps: X, rt: H, count: u32, calls: Vec<(u32, u32, u32)>) -> Streams<X, H>
+        ensures steps { steps_of result ≡ steps }
+        ensures count { streams_of result ≡ count }
+        ensures calls { calls_of result ≡ calls.items }
     {
-        Streams { steps, rt, count }
+        Streams {
+            steps,
+            rt,
+            count,
+            calls,
+        }
     }
 
     /// The next item of a ring. It waits for it.
@@ -115,7 +124,7 @@ impl<X: Steps + Drop, H: Wait + Drop> Parts for Streams<X, H> {
 
     ghost part_stands = { HasTaken };
 
-    ghost limits = { λ r. limits_of r.count };
+    ghost limits = { limits_of };
 
     ghost origin = { λ r. X.origin r.steps };
 
