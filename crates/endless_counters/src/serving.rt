@@ -1,12 +1,22 @@
 //! A run from its making to its end.
+ghost use Rattle.std.specs.Prelude.{◌≡◌, ◌≤◌, ◌+◌, ◌^◌, ℕ, [], All, IfOk, length, vec_capacity};
+ghost use Rattle.turn_gate.specs.Passes.{AreFresh};
+ghost use Rattle.squeue_state.specs.Elements.{number_of};
+ghost use Rattle.squeue_serve.specs.Lending.{HaveRoom, tasks_in};
+ghost use Rattle.endless_counters.specs.Making.{AreSources};
+ghost use Rattle.endless_counters.specs.Serving.{AreTasks, HasSeenAll, ServesStreams};
+
 use crate::making::{MOST, lives, new_sums};
 use crate::running::{Task, run};
-use endless_sums::{Sums, Total, totals_of};
+use endless_sums::{Total, Totals};
+use perimeter_core::Resident;
 use squeue_enter::Mode;
+use squeue_look::Reads;
 use squeue_serve::{Job, Squeues, discard, end_last, jobs_of, lend};
 use squeue_state::{Pass, Squeue};
 use squeue_streams::{Pace, Source};
 use std::alloc::{AllocError, Global};
+use std::fmt::Display;
 use std::io;
 use std::sync::Wait;
 use std::thread::Threads;
@@ -31,7 +41,10 @@ pub fn sum_for<W: Threads + Wait + Clock + Print + Sync>(
     rt: &W,
     alloc: Global,
     size: Size,
-) -> io::Result<Total> {
+) -> io::Result<Total>
+    requires rings { (1 ≤ size.rings) × (size.rings ≤ 62) }
+    requires room { (1 ≤ size.room) × (size.room ≤ 2 ^ 30) }
+{
     let (resident, sources) = new_sums(alloc, rt, size.rings, CAPACITY, MOST.min(size.room))?;
     let lives = lives(alloc, size.rings)?;
     let jobs = jobs_of(alloc, tasks_of(alloc, sources)?, 1)?;
@@ -41,11 +54,20 @@ pub fn sum_for<W: Threads + Wait + Clock + Print + Sync>(
     };
     match Squeue::make_bounded(alloc, 0, resident, size.rings, &lives, size.room) {
         Ok((squeue, passes)) => {
-            let (sums, told) = serve(rt, squeue, alloc, size.seconds, passes, jobs, squeues);
+            let (total, told) = serve(
+                rt,
+                squeue,
+                alloc,
+                &Totals,
+                size.seconds,
+                passes,
+                jobs,
+                squeues,
+            );
             if !told {
                 return Err(io::ErrorKind::WriteZero.into());
             }
-            Ok(totals_of(sums.parts()))
+            Ok(total)
         }
         Err(error) => {
             discard(jobs);
@@ -56,7 +78,9 @@ pub fn sum_for<W: Threads + Wait + Clock + Print + Sync>(
 }
 
 // The tasks of the passes: each ring brings what its source pushes, the next pass looks, and the last works.
-fn tasks_of(alloc: Global, sources: Vec<Source<u32>>) -> Result<Vec<Task>, AllocError> {
+fn tasks_of(alloc: Global, sources: Vec<Source<u32>>) -> Result<Vec<Task>, AllocError>
+    ensures { (rings : ℕ) → AreSources rings sources.items → IfOk result (λ v. AreTasks rings v.items) }
+{
     let mut sources = sources;
     let mut tasks = Vec::with_capacity(alloc, sources.len() + 2)?;
     sources.reverse();
@@ -68,16 +92,28 @@ fn tasks_of(alloc: Global, sources: Vec<Source<u32>>) -> Result<Vec<Task>, Alloc
     Ok(tasks)
 }
 
-// Serves a new squeue to its end. It answers the resident, and whether all that was seen could be told.
-fn serve<'a, W: Threads + Wait + Clock + Print + Sync>(
-    rt: &'a W,
-    squeue: Squeue<Sums<&'a W>>,
+/// Serves a new squeue to its end: the rings bring, one thread looks each second, and the worker processes what is left. It
+/// answers what is read of the resident then, and whether all that was seen could be told. `jobs` has one for each pass, and
+/// `squeues` room for the one squeue.
+pub fn serve<R: Resident + Send + Drop, V: Reads<R> + Sync, W: Threads + Wait + Clock + Print + Sync>(
+    rt: &W,
+    squeue: Squeue<R>,
     alloc: Global,
+    reader: &V,
     seconds: u32,
     passes: Vec<Pass>,
     jobs: Vec<Job<Task>>,
-    squeues: Squeues<Sums<&'a W>>,
-) -> (Sums<&'a W>, bool) {
+    squeues: Squeues<R>,
+) -> (V::Seen, bool)
+where
+    V::Seen: Display + Drop + Send + Sync,
+    requires squeue { ServesStreams R.limits squeue.given squeue.given.rings seconds }
+    requires passes { (length passes.items ≡ length squeue.given.quotas + 1) × AreFresh number_of squeue.gate 0 passes.items }
+    requires tasks { AreTasks squeue.given.rings (tasks_in jobs.items) }
+    requires jobs { All (λ j. j.places.items ≡ []) jobs.items × HaveRoom 1 jobs.items }
+    requires squeues { (squeues.all.items ≡ []) × (squeues.rooms.items ≡ []) × (1 ≤ vec_capacity squeues.all) × (1 ≤ vec_capacity squeues.rooms) }
+    ensures { HasSeenAll R.Resident squeue.given (V.says reader.now) result.0 }
+{
     let mut jobs = jobs;
     let mut squeues = squeues;
     let count = jobs.len() - 1;
@@ -86,14 +122,31 @@ fn serve<'a, W: Threads + Wait + Clock + Print + Sync>(
         budget: BUDGET,
     };
     lend(&mut squeues, &mut jobs, 0, count, squeue, passes);
-    run(rt, &squeues.all[0], alloc, pace, seconds, &mut jobs);
+    run(
+        rt,
+        &squeues.all[0],
+        alloc,
+        pace,
+        reader,
+        seconds,
+        &mut jobs,
+    );
     let Some((resident, _ended, _trace)) = end_last(&mut squeues, &mut jobs, 0, count) else {
         unreachable!()
     };
-    let told = jobs.iter().all(|job| was_told(&job.task));
+    let told = all_told(&jobs);
     discard(jobs);
     squeues.destroy_empty();
-    (resident, told)
+    (reader.read(&resident), told)
+}
+
+fn all_told(jobs: &[Job<Task>]) -> bool {
+    for job in jobs {
+        if !was_told(&job.task) {
+            return false;
+        }
+    }
+    true
 }
 
 fn was_told(task: &Task) -> bool {

@@ -1,0 +1,4 @@
+pub mod Fresh
+pub mod Jobs
+pub mod OneRun
+pub mod Made
