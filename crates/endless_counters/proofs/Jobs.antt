@@ -12,10 +12,9 @@ use Rattle.squeue_serve.specs.Places.{AtEach, Holds, MayEnd}
 use Rattle.squeue_serve.specs.Lending.{AreHanded, AreLent, holder, lent_to, tasks_in}
 use Rattle.squeue_serve.proofs.Lent.{lent_got, past_jobs, some_at}
 use Rattle.squeue_serve.proofs.Coming.{holds_last, holds_other}
-use Rattle.key_counters.specs.Running.{pass_in}
-use Rattle.key_counters.proofs.Passing.{fresh_at}
+use Rattle.endless_counters.proofs.Passing.{fresh_at}
 use Rattle.endless_counters.specs.declared.running.Task.{Task}
-use Rattle.endless_counters.specs.Running.{EndedFrom, IsReady, MayRun, Ran, ReadyFor}
+use Rattle.endless_counters.specs.Running.{EndedFrom, IsReady, MayRun, Ran, ReadyFor, pass_in}
 use Rattle.endless_counters.specs.Serving.{AreTasks, ServesStreams}
 use Rattle.endless_counters.proofs.Fresh.{may_new}
 

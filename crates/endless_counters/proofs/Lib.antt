@@ -1,3 +1,4 @@
+pub mod Passing
 pub mod Fresh
 pub mod Jobs
 pub mod OneRun

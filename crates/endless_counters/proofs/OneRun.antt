@@ -17,7 +17,7 @@ use Rattle.squeue_serve.specs.Places.{MayEnd}
 use Rattle.squeue_serve.specs.Lending.{AreHanded, AreLent, HasCome, lent_to, tasks_in}
 use Rattle.squeue_serve.proofs.Lent.{lent_none}
 use Rattle.squeue_serve.proofs.Coming.{less_lent, none_lent_at_all, one_only}
-use Rattle.key_counters.proofs.Passing.{whole_back}
+use Rattle.endless_counters.proofs.Passing.{whole_back}
 use Rattle.endless_counters.specs.declared.running.Task.{Task}
 use Rattle.endless_counters.specs.Running.{Ran}
 use Rattle.endless_counters.specs.Serving.{AreTasks, HasSeenAll, ServesStreams}

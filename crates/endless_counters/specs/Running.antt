@@ -1,5 +1,5 @@
 -- What the threads of a run need, and what they leave.
-use Rattle.std.specs.Prelude.{◌≡◌, ℕ, Option, Some, None}
+use Rattle.std.specs.Prelude.{◌≡◌, ℕ, Option, Some, None, List, [], ◌∷◌}
 use Rattle.turn_gate.specs.Passes.{IsPassOf, number}
 use Rattle.turn_gate.specs.declared.pass.Pass.{Pass}
 use Rattle.perimeter_core.specs.History.{Element, Limits, worker}
@@ -8,10 +8,15 @@ use Rattle.squeue_state.specs.Elements.{number_of}
 use Rattle.squeue_serve.specs.declared.jobs.Job.{Job}
 use Rattle.squeue_serve.specs.Places.{MayEnd}
 use Rattle.squeue_streams.specs.Sourcing.{Brings}
-use Rattle.key_counters.specs.Running.{pass_in}
 use Rattle.endless_sums.specs.Looking.{MayLook}
 use Rattle.endless_counters.specs.declared.running.Task.{Task}
 use Rattle.endless_counters.specs.declared.running.Task.TheVariants as Task'
+
+-- the pass that lies in one place, where there is no other
+abbrev pub pass_in : List (Option (Pass Element)) → Option (Pass Element)
+pass_in [] = None
+pass_in (o ∷ []) = o
+pass_in (o ∷ n ∷ os) = None
 
 module _ {R : Type 0} (limits : R → Limits) (s : Named R) where
   -- what a task needs of its pass, where who looks looks so many times
