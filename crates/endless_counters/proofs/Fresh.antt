@@ -64,7 +64,7 @@ module _ {R : Type 0} (limits : R → Limits) (s : Named R) (looks : ℕ) (serve
   may_look : (p : Pass Element) → IsPassOf number_of s.gate p → number p ≡ s.given.rings → seen p ≡ [] → MayLook limits s looks p
   may_look p pass is none =
       let zero_by : asks_by (number p) (seen p) ≡ 0 = ap (asks_by (number p)) none in
-      let quota : looks ≤ ask_quota S (number p) = rw is serves.looks in
+      let quota : looks ≤ ask_quota S (number p) = rw is serves.its_looks in
       record {
         pass = pass;
         no_worker = omega (arith, is, serves.passes);

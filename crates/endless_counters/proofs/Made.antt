@@ -135,7 +135,7 @@ pub serves : {S P O : Type 0} {G : Ghosts S P O} (rings room looks : ℕ) (quota
     → quotas ≡ lives_of rings → Stands first (all_new rings) → size_of first ≡ rings → (limits_of first).feeds ≡ replicate rings most_feeds → looks < 2 ^ 32 → ServesStreams limits_of g g.rings looks
 serves rings room looks quotas first g m few are new size feeds short =
     record {
-      rings = refl;
+      its_rings = refl;
       few = omega (arith, few, m.its_rings);
       passes = omega (arith, ap length (m.its_quotas ∙ are), lives_long rings, m.its_rings);
       here = λ c lt.
@@ -143,7 +143,7 @@ serves rings room looks quotas first g m few are new size feeds short =
           m.its_blocks (all_new rings) c new ∙ some_at (nat_lt c rings) below;
       feeds = λ c lt. let e = ap (λ x. slice_index (limits_of x).feeds c) m.its_first ∙ (ap (λ (xs : List ℕ). slice_index xs c) feeds ∙ index_is rings c most_feeds (omega (arith, lt, m.its_rings))) in omega (arith, e);
       lives = λ r lt. let e = ap (λ (qs : List (ℕ × ℕ)). (slice_index_or qs r (0, 0)).0) (m.its_quotas ∙ are) ∙ ap (λ (q : ℕ × ℕ). q.0) (front_is rings r ring_life looker_life (0, 0) (omega (arith, lt, m.its_rings))) in omega (arith, e);
-      looks =
+      its_looks =
           let e = ap (λ (qs : List (ℕ × ℕ)). (slice_index_or qs g.rings (0, 0)).1) (m.its_quotas ∙ are)
           ∙ (ap (λ (n : ℕ). (slice_index_or (lives_of rings) n (0, 0)).1) m.its_rings ∙ ap (λ (q : ℕ × ℕ). q.1) (end_is rings ring_life looker_life (0, 0))) in
           omega (arith, e, short);

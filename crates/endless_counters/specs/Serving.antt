@@ -25,13 +25,13 @@ pub record AreTasks (rings : ℕ) (tasks : List Task) : Type 0 where
 -- A squeue that serves so many rings with a stream each: all streams are here, each ring may enter all feeds of its stream's life,
 -- and the pass behind the rings' may look so often
 pub record ServesStreams {R : Type 0} (limits : R → Limits) (g : Given R) (rings looks : ℕ) : Type 0 where
-  pub rings : g.rings ≡ rings
+  pub its_rings : g.rings ≡ rings
   pub few : 1 ≤ rings
   pub passes : length g.quotas ≡ rings + 1
   pub here : (c : ℕ) → c < rings → slice_index_or g.starts c false ≡ true
   pub feeds : (c : ℕ) → c < rings → most_feeds ≤ slice_index (limits g.first).feeds c
   pub lives : (r : ℕ) → r < rings → most_feeds ≤ (slice_index_or g.quotas r (0, 0)).0
-  pub looks : looks ≤ (slice_index_or g.quotas rings (0, 0)).1
+  pub its_looks : looks ≤ (slice_index_or g.quotas rings (0, 0)).1
 
 -- What was seen at the end, as Says tells it, is of a resident that stands for just what a history did: it is a legal history of
 -- the squeue, all its passes but the worker's are closed, and nothing is queued
