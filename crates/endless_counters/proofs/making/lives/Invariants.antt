@@ -3,8 +3,8 @@ use Rattle.squeue_state.specs.Behind.{ever}
 use Rattle.endless_counters.specs.Making.{ring_life}
 use Rattle.endless_counters.proofs.making.lives.Given as goal
 
-abbrev pub invariant-loop-_k : goal.invariant-loop-_k
-invariant-loop-_k l =
+abbrev pub invariant-loop-k : goal.invariant-loop-k
+invariant-loop-k l =
     record {
       lives : ever l.lives.items ≡ replicate l._k ring_life;
       len : length l.lives.items ≡ l._k;

@@ -8,8 +8,8 @@ use Rattle.endless_counters.proofs.making.no_sums.Goals as goal
 
 pub returns-clause-stands : goal.returns-clause-stands
 returns-clause-stands g c =
-    let last : c.loop-_c._c ≡ c.args.streams = omega (arith, c.loop-_c-test.false, c.loop-_c.auto) in
-    let none : c.deref.result.now ≡ replicate c.args.streams false = c.deref.ensures.value ∙ (c.loop-_c.invariant.none ∙ ap (λ (n : ℕ). replicate n false) last) in
+    let last : c.loop-c._c ≡ c.args.streams = omega (arith, c.loop-c-test.false, c.loop-c.auto) in
+    let none : c.deref.result.now ≡ replicate c.args.streams false = c.deref.ensures.value ∙ (c.loop-c.invariant.none ∙ ap (λ (n : ℕ). replicate n false) last) in
     IfOk-weaker c.make_where.result _ _
     (λ r h. same_blocks r (none_done (replicate c.args.streams false)) (all_new 0) (none_first c.args.streams) (subst (λ (bs : List Bool). Stands r (none_done bs)) none h))
     c.make_where.ensures.stands
