@@ -10,7 +10,7 @@ ghost use Rattle.squeue_state.specs.Elements.{filled_by, fast_by, claimed_by, as
 ghost use Rattle.squeue_state.specs.Clauses.{Marked, IsWhole};
 ghost use Rattle.turn_gate.specs.Passes.{seen};
 
-use crate::hand::Hand;
+use crate::hand::{Hand, Taken};
 use crate::kind::Kind;
 use crate::release::end_turn;
 use crate::squeue::{Pass, Squeue};
@@ -47,13 +47,14 @@ impl<R: Resident> Squeue<R> {
     {
         let Turn { mut held, of: _ } = turn;
         let p = held.number();
-        let (resident, entries) = held.value().inner.fast(p, e);
+        let resident = held.value().inner.fast(p);
         let Some(resident) = resident else {
             unreachable!()
         };
         let kind = Kind::Fast { c: e.c, n: e.n };
         let pass = end_turn::<R, Brand>(&self.gate, held, kind, &[]);
-        (pass, resident, Hand { entries, at: 0 })
+        let taken = Taken::One(Some(e));
+        (pass, resident, Hand { taken })
     }
 
     /// Queues the feeds, and takes the perimeter and all that is queued, where nobody has it.
@@ -72,7 +73,7 @@ impl<R: Resident> Squeue<R> {
             unreachable!()
         };
         let pass = end_turn::<R, Brand>(&self.gate, held, Kind::Claim, es);
-        (pass, resident, Hand { entries, at: 0 })
+        (pass, resident, Hand::of(entries))
     }
 
     /// Queues the pass's own Ask, and takes the perimeter and all that is queued, where nobody has it.
@@ -90,7 +91,7 @@ impl<R: Resident> Squeue<R> {
             unreachable!()
         };
         let pass = end_turn::<R, Brand>(&self.gate, held, Kind::ClaimAsk, &[]);
-        (pass, resident, Hand { entries, at: 0 })
+        (pass, resident, Hand::of(entries))
     }
 
     /// Queues the pass's wish to own the perimeter, where somebody has it.

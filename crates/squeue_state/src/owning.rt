@@ -32,10 +32,9 @@ impl<R: Resident> Squeue<R> {
         ensures hand { IsWhole R.limits self.now.given (seen result.0) result.1 }
     {
         let Turn { mut held, of: _ } = turn;
-        let Hand { entries, at: _ } = hand;
-        let entries = held.value().inner.take(entries);
+        let entries = held.value().inner.take(hand);
         let pass = end_turn::<R, Brand>(&self.gate, held, Kind::Take, &[]);
-        (pass, Hand { entries, at: 0 })
+        (pass, Hand::of(entries))
     }
 
     /// Gives the perimeter back, with what is left of the hand, and reports the act. `N` names the note of an `In`.
@@ -47,9 +46,8 @@ impl<R: Resident> Squeue<R> {
         ensures { Marked turn (left_by_pass turn.number (length hand.left) act N.note) result }
     {
         let Turn { mut held, of: _ } = turn;
-        let Hand { entries, at } = hand;
-        let rest = (entries.len() - at) as u32;
-        held.value().inner.leave(resident, entries, at, act);
+        let rest = hand.len();
+        held.value().inner.leave(resident, hand, act);
         let wakes = held.get().inner.wake;
         let pass = end_turn::<R, N>(&self.gate, held, Kind::Leave { rest, act }, &[]);
         if wakes {
@@ -68,12 +66,13 @@ impl<R: Resident> Squeue<R> {
         ensures { Marked turn (granted_by turn.number (asker hand.left) (length hand.left - 1)) result }
     {
         let Turn { mut held, of: _ } = turn;
-        let Hand { entries, at } = hand;
-        let Entry::Ask { p: j } = entries[at] else {
+        let mut hand = hand;
+        let Some(Entry::Ask { p: j }) = hand.first() else {
             unreachable!()
         };
-        let rest = (entries.len() - at - 1) as u32;
-        held.value().inner.grant(resident, entries, at + 1, j);
+        hand.pass_first();
+        let rest = hand.len();
+        held.value().inner.grant(resident, hand, j);
         let pass = end_turn::<R, Brand>(&self.gate, held, Kind::Grant { j, rest }, &[]);
         self.bells.of(j).ring();
         pass
@@ -95,7 +94,7 @@ impl<R: Resident> Squeue<R> {
         };
         let Some(entries) = spare else { unreachable!() };
         let pass = end_turn::<R, Brand>(&self.gate, held, Kind::Accept, &[]);
-        (pass, resident, Hand { entries, at: 0 })
+        (pass, resident, Hand::of(entries))
     }
 
     /// Takes the perimeter and all that is queued, as the worker.
@@ -113,6 +112,6 @@ impl<R: Resident> Squeue<R> {
             unreachable!()
         };
         let pass = end_turn::<R, Brand>(&self.gate, held, Kind::Work, &[]);
-        (pass, resident, Hand { entries, at: 0 })
+        (pass, resident, Hand::of(entries))
     }
 }
