@@ -73,7 +73,8 @@ impl<R: Resident> Squeue<R> {
             unreachable!()
         };
         let pass = end_turn::<R, Brand>(&self.gate, held, Kind::Claim, es);
-        (pass, resident, Hand::of(entries))
+        let taken = Taken::Many(entries, 0);
+        (pass, resident, Hand { taken })
     }
 
     /// Queues the pass's own Ask, and takes the perimeter and all that is queued, where nobody has it.
@@ -91,7 +92,8 @@ impl<R: Resident> Squeue<R> {
             unreachable!()
         };
         let pass = end_turn::<R, Brand>(&self.gate, held, Kind::ClaimAsk, &[]);
-        (pass, resident, Hand::of(entries))
+        let taken = Taken::Many(entries, 0);
+        (pass, resident, Hand { taken })
     }
 
     /// Queues the pass's wish to own the perimeter, where somebody has it.

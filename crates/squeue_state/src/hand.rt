@@ -1,5 +1,5 @@
 //! What an owner took out of the queue.
-ghost use Rattle.std.specs.Prelude.{◌≡◌, ◌<◌, ◌≤◌, ◌^◌, Some, drop, length, vec_len, vec_capacity};
+ghost use Rattle.std.specs.Prelude.{◌≡◌, ◌<◌, drop, length};
 ghost use Rattle.squeue_state.specs.Clauses.{first_entry};
 
 use perimeter_core::{Entry, Feed};
@@ -33,16 +33,6 @@ impl Model for Hand {
 }
 
 impl Hand {
-    // A hand of all entries of a buffer.
-    pub(crate) fn of(entries: Vec<Entry>) -> Hand
-        requires { vec_len entries < 2 ^ 32 }
-        ensures { result ≡ record { left = entries.items; room = Some (vec_capacity entries) } }
-    {
-        Hand {
-            taken: Taken::Many(entries, 0),
-        }
-    }
-
     /// The first entry that isn't processed yet; `None` where all are.
     pub fn first(&self) -> Option<Entry>
         ensures { result ≡ first_entry self.now.left }

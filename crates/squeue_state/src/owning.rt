@@ -14,7 +14,7 @@ ghost use Rattle.squeue_state.specs.Clauses.{Marked, IsLeft, IsWhole, peri_left,
 ghost use Rattle.turn_gate.specs.Passes.{seen};
 
 use crate::event::Notes;
-use crate::hand::Hand;
+use crate::hand::{Hand, Taken};
 use crate::kind::Kind;
 use crate::release::end_turn;
 use crate::squeue::{Pass, Squeue};
@@ -34,7 +34,8 @@ impl<R: Resident> Squeue<R> {
         let Turn { mut held, of: _ } = turn;
         let entries = held.value().inner.take(hand);
         let pass = end_turn::<R, Brand>(&self.gate, held, Kind::Take, &[]);
-        (pass, Hand::of(entries))
+        let taken = Taken::Many(entries, 0);
+        (pass, Hand { taken })
     }
 
     /// Gives the perimeter back, with what is left of the hand, and reports the act. `N` names the note of an `In`.
@@ -94,7 +95,8 @@ impl<R: Resident> Squeue<R> {
         };
         let Some(entries) = spare else { unreachable!() };
         let pass = end_turn::<R, Brand>(&self.gate, held, Kind::Accept, &[]);
-        (pass, resident, Hand::of(entries))
+        let taken = Taken::Many(entries, 0);
+        (pass, resident, Hand { taken })
     }
 
     /// Takes the perimeter and all that is queued, as the worker.
@@ -112,6 +114,7 @@ impl<R: Resident> Squeue<R> {
             unreachable!()
         };
         let pass = end_turn::<R, Brand>(&self.gate, held, Kind::Work, &[]);
-        (pass, resident, Hand::of(entries))
+        let taken = Taken::Many(entries, 0);
+        (pass, resident, Hand { taken })
     }
 }
