@@ -6,11 +6,12 @@ ghost use Rattle.sq_base.specs.StatusCode.{code_of};
 
 use crate::lines::{NO_MEMORY, tell};
 use crate::refusal::told_usage;
-use crate::run::squeue_run;
+use crate::run::{Ran, squeue_run};
 use sq_base::{Status, StdSink, StdSource};
 use std::alloc::AllocGlobal;
 use std::env::Env;
 use std::io::{Input, Print, Write};
+use std::mem::forget;
 use std::process::ExitCode;
 use std::sync::Wait;
 use std::thread::Threads;
@@ -35,7 +36,7 @@ pub fn run_process<E: Write + Drop>(
     };
     let mut src = StdSource::over(rt.reader());
     let mut out = StdSink::over(io::writer(rt));
-    let ran = squeue_run(
+    let Ran { status, served } = squeue_run(
         rt,
         rt.alloc(),
         words.as_slice(),
@@ -43,7 +44,9 @@ pub fn run_process<E: Write + Drop>(
         &mut out,
         &mut err,
     );
-    exit_code(ran.status)
+    // The process ends, and its memory goes back as a whole.
+    forget(served);
+    exit_code(status)
 }
 
 /// What the process ends with.
