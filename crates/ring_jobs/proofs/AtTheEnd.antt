@@ -1,16 +1,18 @@
 -- What rings and application threads knew by their passes holds of the histories at the end.
-use Rattle.std.proofs.Common.{◌≡◌, ℕ, ◌+◌, ◌/◌, ◌%◌, zero, suc, Option, Some, None, List, [], ◌∷◌, ◌++◌, length, slice_get, refl, ap, sym, ◌∙◌, subst, arith}
+use Rattle.std.proofs.Common.{◌≡◌, ℕ, ◌+◌, ◌/◌, ◌%◌, ◌==◌, zero, suc, Bool, true, false, if◌then◌else◌, Option, Some, None, List, [], ◌∷◌, ◌++◌, length, slice_get, refl, ap, sym, ◌∙◌, subst, arith}
+use Rattle.std.proofs.lemmas.Bool.Decides.{nat_tests}
 use Rattle.std.proofs.lemmas.Option.{slice_get_within}
 use Rattle.turn_gate.specs.History.{only}
 use Rattle.turn_gate.specs.Passes.{IsPassOf, mine, number, seen}
 use Rattle.turn_gate.specs.declared.pass.Pass.{Pass}
 use Rattle.perimeter_core.specs.Perimeter.{is_here}
-use Rattle.perimeter_core.specs.History.{Element, Limits, Setting, made_by, run}
+use Rattle.perimeter_core.specs.History.{Element, Limits, Setting, made_by, pass_of, run}
 use Rattle.perimeter_core.specs.Deeds.{due, fed}
 use Rattle.perimeter_core.specs.Legal.{Legal}
 use Rattle.squeue_state.specs.Naming.{Ending, Named, setting_of}
 use Rattle.squeue_state.specs.Elements.{number_of}
 use Rattle.squeue_state.specs.Clauses.{Knows}
+use Rattle.squeue_drain.specs.Working.{OnlyLeavesNothing}
 use Rattle.squeue_serve.proofs.Lent.{some_at}
 use Rattle.squeue_state.proofs.Makers.{others_made}
 use Rattle.squeue_enter.proofs.Carrying.{due_carried, here_carried}
@@ -23,6 +25,19 @@ use Rattle.squeue_rings.specs.Noted.{AreNoted}
 use Rattle.squeue_rings.specs.Seen.{seen_ends, seen_in}
 use Rattle.squeue_rings.proofs.CallMarks.{calls_kept}
 use Rattle.squeue_rings.proofs.Pacing.{keeps_on}
+
+-- where others alone made marks, wherever it left it left nothing
+left_by_others : (S : Setting) (p : ℕ) (past K : List Element) → made_by p K ≡ [] → OnlyLeavesNothing S p past K
+left_by_others S p past [] none = tt
+left_by_others S p past (e ∷ K) none = by (pass_of e.mark == p) refl none
+  where
+    by : (b : Bool) → (pass_of e.mark == p) ≡ b → (if b then e ∷ made_by p K else made_by p K) ≡ [] → OnlyLeavesNothing S p past (e ∷ K)
+    by true is made = cc made
+    by false is made = (λ own. absurd (grind (arith, nat_tests)), left_by_others S p (past ++ e ∷ []) K made)
+
+left_more : (S : Setting) (p : ℕ) (past H K : List Element) → OnlyLeavesNothing S p past H → made_by p K ≡ [] → OnlyLeavesNothing S p past (H ++ K)
+left_more S p past [] K left none = left_by_others S p past K none
+left_more S p past (e ∷ H) K left none = (left.0, left_more S p (past ++ e ∷ []) H K left.1 none)
 
 -- a pass that has seen a beginning of a legal history, and made what there carries its number
 module _ {R : Type 0} (limits : R → Limits) (s : Named R) (x : Pass Element) (H : List Element) (is : IsPassOf number_of s.gate x) (legal : Legal (setting_of limits s.given) H) (knows : Knows H x) where
@@ -49,6 +64,12 @@ module _ {R : Type 0} (limits : R → Limits) (s : Named R) (x : Pass Element) (
   pub end_made : (c j k : ℕ) → number x ≡ s.given.rings + j → times_made c j k H ≡ times_made c j k (seen x)
   end_made c j k thread =
       ap (times_made c j k) knows.0.1 ∙ calls_kept S (seen x) knows.0.0 c j k parts (subst (λ (r : ℕ). made_by r knows.0.0 ≡ []) thread others)
+
+  -- so does what the worker left
+  pub end_left : (n : ℕ) → number x ≡ n → OnlyLeavesNothing S n [] (seen x) → OnlyLeavesNothing S n [] H
+  end_left n is_number left =
+      subst (λ (K : List Element). OnlyLeavesNothing S n [] K) (sym knows.0.1)
+      (left_more S n [] (seen x) knows.0.0 left (subst (λ (r : ℕ). made_by r knows.0.0 ≡ []) is_number others))
 
   -- what it kept it keeps, since the others' marks don't count
   pub end_paced : (squeues spread : ℕ) (mode : Mode) (budget q r : ℕ) → number x ≡ r → KeepsPace squeues spread mode budget q S r (seen x) → KeepsPace squeues spread mode budget q S r H

@@ -1,5 +1,5 @@
 -- What is known when all jobs are done.
-use Rattle.std.proofs.Common.{◌≡◌, ℕ, ◌+◌, ◌-◌, ◌<◌, Option, Some, None, List, [], ◌∷◌, inl, inr, length, slice_get, slice_index_or, ap, sym, ◌∙◌, subst, arith}
+use Rattle.std.proofs.Common.{◌≡◌, ℕ, ◌+◌, ◌-◌, ◌<◌, Option, Some, None, List, [], ◌∷◌, ◌++◌, inl, inr, length, slice_get, slice_index_or, ap, sym, ◌∙◌, subst, arith}
 use Rattle.std.proofs.lemmas.Bool.{cases_lt}
 use Rattle.std.proofs.lemmas.Option.{slice_get_within}
 use Rattle.turn_gate.specs.History.{Each}
@@ -20,7 +20,8 @@ use Rattle.squeue_rings.proofs.Slots.{got_map}
 use Rattle.ring_jobs.specs.declared.lines.Line.{Line}
 use Rattle.ring_jobs.specs.declared.task.Task.{Task}
 use Rattle.ring_jobs.specs.declared.task.Task.TheVariants as Task'
-use Rattle.ring_jobs.specs.Ends.{CallerEnds, CallersEnd, RingEnds, RingsEnd}
+use Rattle.squeue_drain.specs.Working.{OnlyLeavesNothing}
+use Rattle.ring_jobs.specs.Ends.{CallerEnds, CallersEnd, RingEnds, RingsEnd, WorkerEnds}
 use Rattle.ring_jobs.specs.Running.{HasBroughtLine, HasDone, HaveDone, ThenClosed, called_by}
 use Rattle.ring_jobs.specs.Tasks.{AreTasks, lists_of}
 use Rattle.ring_jobs.proofs.Closes.{both}
@@ -102,6 +103,33 @@ module _ {R : Type 0} (limits : R → Limits) where
               pass = subst (λ (s : Named R). IsPassOf number_of s.gate h.2) it h.6.0.goes_on.is_pass;
               is_number = h.6.0.goes_on.same_number ∙ (ap number from ∙ first.2.is_number);
               over = λ w. subst (λ (s : Named R). HasEnd s h.2) it h.6.1;
+            },
+          )
+
+      -- each worker has worked, and left nothing where it left
+      pub worker_left : (q : ℕ) (s : Named R) → slice_get ss q ≡ Some s → (x : Pass Element) × (lent_to new (1 + count + q) ≡ Some x ∷ []) × WorkerEnds limits count s x
+      worker_left q s at =
+          let n = number_of_jobs in
+          let lt : q < squeues = (let w = slice_get_within ss q s at in omega (arith, w, many)) in
+          let h = done (1 + count + q) (Task'.Work q) (omega (arith, lt, n)) (worker_task rings callers count squeues all lines jobs tasks q lt) in
+          let first = lent.workers q s at in
+          let i : Some h.0 ≡ Some s = sym h.3 ∙ at in
+          let it : h.0 ≡ s = cc i in
+          let j : Some h.1 ∷ [] ≡ Some first.0 ∷ [] = sym h.4 ∙ first.1 in
+          let from : h.1 ≡ first.0 = cc j in
+          let its_number : number h.1 ≡ count = ap number from ∙ first.2.is_number in
+          let none_seen : seen h.1 ≡ [] = ap seen from ∙ first.2.none_seen in
+          let all_seen : seen h.2 ≡ h.6.0.since = h.6.0.now_seen ∙ ap (λ l. l ++ h.6.0.since) none_seen in
+          (
+            h.2,
+            h.5,
+            record {
+              pass = subst (λ (s : Named R). IsPassOf number_of s.gate h.2) it h.6.0.goes_on.is_pass;
+              is_number = h.6.0.goes_on.same_number ∙ its_number;
+              leaves = subst (λ (s : Named R). OnlyLeavesNothing (setting_of limits s.given) count [] (seen h.2)) it
+                  (subst (λ (K : List Element). OnlyLeavesNothing (setting_of limits h.0.given) count [] K) (sym all_seen)
+                  (subst (λ (past : List Element). OnlyLeavesNothing (setting_of limits h.0.given) count past h.6.0.since) none_seen
+                  (subst (λ (p : ℕ). OnlyLeavesNothing (setting_of limits h.0.given) p (seen h.1) h.6.0.since) its_number h.6.0.leaves)));
             },
           )
 

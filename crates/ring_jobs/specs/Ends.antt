@@ -1,5 +1,5 @@
 -- What rings and application threads know by their passes when they are done.
-use Rattle.std.specs.Prelude.{◌≡◌, ℕ, ◌+◌, ◌%◌, ◌<◌, ◌==◌, Option, List, length}
+use Rattle.std.specs.Prelude.{◌≡◌, ℕ, ◌+◌, ◌%◌, ◌<◌, ◌==◌, Option, List, [], length}
 use Rattle.turn_gate.specs.History.{Each}
 use Rattle.turn_gate.specs.Passes.{IsPassOf, number, seen}
 use Rattle.turn_gate.specs.declared.pass.Pass.{Pass}
@@ -9,6 +9,7 @@ use Rattle.perimeter_core.specs.History.{Element, Limits, run}
 use Rattle.perimeter_core.specs.Deeds.{due}
 use Rattle.squeue_state.specs.Naming.{Named, setting_of}
 use Rattle.squeue_state.specs.Elements.{number_of}
+use Rattle.squeue_drain.specs.Working.{OnlyLeavesNothing}
 use Rattle.conn_migrate.specs.Stays.{IsLinked}
 use Rattle.squeue_serve.specs.Places.{AtEach, Holds}
 use Rattle.squeue_rings.specs.Noted.{AreNoted}
@@ -36,6 +37,12 @@ module _ {R : Type 0} (limits : R → Limits) where
 pub record CallerEnds {R : Type 0} (j : ℕ) (s : Named R) (x : Pass Element) : Type 0 where
   pub pass : IsPassOf number_of s.gate x
   pub is_number : number x ≡ s.given.rings + j
+
+-- the worker's pass, of number n, has worked: wherever it left, it left nothing of its hand, in a turn that found nothing queued
+pub record WorkerEnds {R : Type 0} (limits : R → Limits) (n : ℕ) (s : Named R) (x : Pass Element) : Type 0 where
+  pub pass : IsPassOf number_of s.gate x
+  pub is_number : number x ≡ n
+  pub leaves : OnlyLeavesNothing (setting_of limits s.given) n [] (seen x)
 
 -- the thread's passes of all squeues know that each of its calls, which are on these connections, was made once, and no other
 pub record CallersEnd {R : Type 0} (j : ℕ) (conns : List ℕ) (ss : List (Named R)) (places : List (Option (Pass Element))) : Type 0 where

@@ -1,5 +1,5 @@
 -- What the squeues that have come back leave behind.
-use Rattle.std.proofs.Common.{◌≡◌, ℕ, ◌+◌, ◌<◌, zero, suc, Bool, true, false, if◌then◌else◌, Box, Option, Some, None, List, [], ◌∷◌, ◌++◌, length, slice_get, refl, ap, sym, ◌∙◌, subst, arith}
+use Rattle.std.proofs.Common.{◌≡◌, ℕ, ◌+◌, ◌<◌, zero, suc, Bool, true, false, if◌then◌else◌, Box, Option, Some, None, List, [], ◌∷◌, ◌++◌, length, length-append, slice_get, refl, ap, sym, ◌∙◌, subst, arith, inr}
 use Rattle.std.specs.declared.alloc.Global.{Global}
 use Rattle.turn_gate.specs.declared.pass.Pass.{Pass}
 use Rattle.perimeter_core.specs.Blocks.{peri}
@@ -7,6 +7,7 @@ use Rattle.perimeter_core.specs.Deeds.{acts}
 use Rattle.perimeter_core.specs.Perimeter.{is_here}
 use Rattle.perimeter_core.specs.History.{Element, Setting, run}
 use Rattle.squeue_state.specs.Naming.{Ending, Named, setting_of}
+use Rattle.squeue_state.specs.Clauses.{Knows}
 use Rattle.squeue_state.specs.Told.{Traced}
 use Rattle.conn_blocks.specs.contracts.blocks.BlocksResident.TheImpl.{ghosts}
 use Rattle.conn_blocks.specs.declared.blocks.Blocks.{Blocks}
@@ -16,6 +17,9 @@ use Rattle.conn_blocks.specs.ServeOrder.{BlockOf, ConnectionOf, OriginOf}
 use Rattle.squeue_ends.specs.Finishing.{AreEmpty, AreTaken, PartTaken}
 use Rattle.squeue_serve.specs.Lending.{AreLent, HasCome}
 use Rattle.squeue_serve.specs.Places.{MayEnd}
+use Rattle.squeue_serve.proofs.Coming.{apart_from, holds_last, one_only}
+use Rattle.squeue_serve.proofs.Lent.{get_end}
+use Rattle.squeue_serve.proofs.Unused.{each_at}
 use Rattle.ring_jobs.proofs.ComesBack.{AreBack, all_came, came_knows, each_behind, none_came, one_came}
 use Rattle.ring_threads.specs.Gathering.{EndsAs, HasGathered, IsFrom, IsTraceOf, LiesSo}
 
@@ -29,6 +33,7 @@ module _ (front count : ℕ) (ss : List (Named Blocks)) (lent0 : ℕ → List (O
     pub each : (i : ℕ) (s : Named Blocks) (e : Ending) → slice_get back i ≡ Some s → slice_get es i ≡ Some e → EndsAs front count lent0 (length left + i) s e
     pub traced : (i : ℕ) (s : Named Blocks) (e : Ending) (t : Traced) → slice_get back i ≡ Some s → slice_get es i ≡ Some e → slice_get ts i ≡ Some t → IsTraceOf s e t
     pub placed : (c : ℕ) → c < length places → LiesSo back es c (slice_get places c)
+    pub workers : (q : ℕ) → q < length left → lent (front + count + q) ≡ lent0 (front + count + q)
 
   pub none_back : (places : List (Option (Box BlockOf Global))) (es : List Ending) (ts : List Traced) → es ≡ [] → ts ≡ [] → AreEmpty places → AreLent (MayEnd limits_of) front count ss lent0 → SoFar ss lent0 places es ts
   none_back places es ts none no_traces empty lent =
@@ -40,10 +45,24 @@ module _ (front count : ℕ) (ss : List (Named Blocks)) (lent0 : ℕ → List (O
         each = λ i s e is at. cc is;
         traced = λ i s e t is at kept. cc is;
         placed = λ c lt. subst (LiesSo [] es c) (sym (empty c lt)) (λ q e at. cc (subst (λ (l : List Ending). slice_get l q ≡ Some e) none at));
+        workers = λ q lt. refl;
       }
 
   module _ (all left : List (Named Blocks)) (s : Named Blocks) (having without : ℕ → List (Option (Pass Element))) (places new : List (Option (Box BlockOf Global))) (es : List Ending) (ts : List Traced) (r : Blocks) (e : Ending) (t : Traced)
       (split : all ≡ left ++ s ∷ []) (h : SoFar all having places es ts) (come : HasCome ghosts front count (length left) s having without r e t) (added : AreTaken ghosts r places new) where
+    one_less : length all ≡ length left + 1
+    one_less = ap length split ∙ length-append left (s ∷ [])
+
+    -- the worker's pass is the only one that its job was lent
+    worker_came : (x : Pass Element) × (lent0 (front + count + length left) ≡ Some x ∷ []) × Knows e.history x
+    worker_came =
+        let its = h.are.still.workers (length left) s (ap (λ (l : List (Named Blocks)). slice_get l (length left)) split ∙ get_end left [] s (length left) refl) in
+        let back = come.handed.each count (omega arith) in
+        let there : having (front + count + length left) ≡ without (front + count + length left) ++ Some back.0 ∷ [] =
+        subst (λ (i : ℕ). having i ≡ without i ++ Some back.0 ∷ []) (holds_last front count (length left)) back.2 in
+        let same : Some back.0 ≡ Some its.0 = (one_only (without (front + count + length left)) (Some back.0) (Some its.0) (sym there ∙ its.1)).1 in
+        (back.0, sym (h.workers (length left) (omega (arith, one_less))) ∙ (its.1 ∙ ap (λ o. o ∷ []) (sym same)), each_at (Knows e.history) come.passes count back.0 come.knows back.1)
+
     ends_as : EndsAs front count lent0 (length left) s e
     ends_as =
         record {
@@ -51,6 +70,7 @@ module _ (front count : ℕ) (ss : List (Named Blocks)) (lent0 : ℕ → List (O
           its_setting = come.its_setting;
           ended = come.ended;
           knows = came_knows ghosts front count ss lent0 all left h.back s having without r e t split h.are come;
+          worker = worker_came;
         }
 
     each_now : (i : ℕ) (u : Named Blocks) (f : Ending) → slice_get (s ∷ h.back) i ≡ Some u → slice_get (e ∷ es) i ≡ Some f → EndsAs front count lent0 (length left + i) u f
@@ -118,6 +138,9 @@ module _ (front count : ℕ) (ss : List (Named Blocks)) (lent0 : ℕ → List (O
           each = each_now;
           traced = traced_now;
           placed = placed_now;
+          workers = λ q lt.
+              sym (come.handed.rest (front + count + q) (apart_from front count (length left) (front + count + q) (inr (omega arith)) (λ same. absurd (omega (arith, same, lt)))))
+              ∙ h.workers q (omega (arith, lt, one_less));
         }
 
   -- at the end all have

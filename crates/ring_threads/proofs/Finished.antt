@@ -16,7 +16,7 @@ use Rattle.ring_jobs.specs.declared.task.Task.{Task}
 use Rattle.ring_jobs.specs.Ends.{CallersEnd}
 use Rattle.ring_jobs.specs.Running.{HaveDone}
 use Rattle.ring_jobs.specs.Tasks.{AreLines, AreTasks, lists_of}
-use Rattle.ring_jobs.proofs.Finished.{caller_done, lent_back, ring_done, ring_paced}
+use Rattle.ring_jobs.proofs.Finished.{caller_done, lent_back, ring_done, ring_paced, worker_left}
 use Rattle.ring_jobs.proofs.Tasked.{list_is}
 use Rattle.ring_quotas.specs.declared.setup.Setup.{Setup}
 use Rattle.ring_quotas.proofs.Totals.{whole}
@@ -39,6 +39,7 @@ module _ (p : PlanOf) (calls : CallLists) (setup : Setup) (ss : List (Named Bloc
             let n = are.count in
             let l = some_at lines r (omega (arith, lt, n)) in
             whole p plan rings r (lists_of lines r) (subst (λ fs. IsRingList p rings r fs) (sym (list_is lines r l.0 l.1)) (are.each r l.0 l.1)) c known (eq-eqb (c % rings) r (sym ring));
+        workers_end = λ q s at. worker_left limits_of setup.squeues setup.spread setup.mode setup.budget conns lines ss jobs new rings 4 (rings + 4) refl set.count tasks lent same ran q s at;
         callers_end = λ j lt. subst (λ (cs : List ℕ). CallersEnd j cs ss (lent_to new (1 + (rings + j)))) (conns_of_thread calls conns j called)
             (caller_done limits_of setup.squeues setup.spread setup.mode setup.budget conns lines ss jobs new rings 4 (rings + 4) refl set.count tasks lent same ran j lt);
       }

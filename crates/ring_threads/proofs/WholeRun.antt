@@ -51,12 +51,14 @@ use Rattle.run_histories.proofs.Called.{calls_of_all}
 use Rattle.run_histories.proofs.Ends.{all_fed, numbered}
 use Rattle.ring_jobs.specs.Ends.{CallerEnds, RingEnds}
 use Rattle.ring_threads.specs.Gathering.{EndsAs, HasGathered, IsFrom, LiesSo}
+use Rattle.squeue_drain.specs.Working.{OnlyLeavesNothing}
 use Rattle.ring_threads.specs.Fits.{IsHereOnce}
+use Rattle.ring_threads.specs.Keeping.{PassesKeep}
 use Rattle.ring_threads.specs.Served.{HasServed, ServedOf}
 use Rattle.ring_threads.specs.ServedBlocks.{IsServing}
 use Rattle.ring_threads.specs.Settings.{HasRun, IsSet}
 use Rattle.ring_threads.proofs.Ready.{number_at}
-use Rattle.ring_jobs.proofs.AtTheEnd.{end_due, end_here, end_made, end_paced, end_stays, linked_same, noted_same, seen_count, seen_got}
+use Rattle.ring_jobs.proofs.AtTheEnd.{end_due, end_here, end_left, end_made, end_paced, end_stays, linked_same, noted_same, seen_count, seen_got}
 
 home_below : (squeues spread c n : ℕ) → 1 ≤ squeues → home squeues spread c n < squeues
 home_below squeues spread c n some = by (spread == 0)
@@ -357,6 +359,24 @@ module _ (p : PlanOf) (calls : CallLists) (setup : Setup) (front : ℕ) (lists :
       (subst (λ (S : Setting). KeepsPace squeues spread setup.mode setup.budget a.0.given.number S r e.history) (sym a.3.its_setting)
       (end_paced limits_of a.0 x.0 e.history known.pass (legal_at q e at) x.2 squeues spread setup.mode setup.budget a.0.given.number r known.is_number paced.keeps))
 
+  -- each worker left nothing where it left
+  worker_number : (q : ℕ) (s : Named Blocks) → IsSet p calls squeues rings spread q s → worker (setting_of limits_of s.given) ≡ rings + 4
+  worker_number q s set = let n : worker (setting_at p calls squeues rings spread q) ≡ rings + 4 = quotas_count p calls squeues rings spread q in ap worker set.setting ∙ n
+
+  passes_keep : (q : ℕ) (e : Ending) → slice_get es q ≡ Some e → PassesKeep e
+  passes_keep q e at =
+      let a = at_end q e at in
+      let worked = ran.workers_end q a.0 a.1 in
+      let came = a.3.worker in
+      let both : Some came.0 ∷ [] ≡ Some worked.0 ∷ [] = sym came.1 ∙ worked.1 in
+      let same : came.0 ≡ worked.0 = cc both in
+      let knows = subst (Knows e.history) same came.2 in
+      let left = end_left limits_of a.0 worked.0 e.history worked.2.pass (legal_at q e at) knows (rings + 4) worked.2.is_number worked.2.leaves in
+      record {
+        worker_leaves = subst (λ (S : Setting). OnlyLeavesNothing S (worker S) [] e.history) (sym a.3.its_setting)
+            (subst (λ (n : ℕ). OnlyLeavesNothing (setting_of limits_of a.0.given) n [] e.history) (sym (worker_number q a.0 a.2)) left);
+      }
+
   module _ (traced : Each (λ (s : Named Blocks). s.given.traced ≡ setup.trace) ss) where
     -- each trace has the marks of its squeue's history, or nothing
     its_trace : (q : ℕ) (e : Ending) → slice_get es q ≡ Some e → IfSome (slice_get ts q) (λ t. marks_of t ≡ (if setup.trace then map (λ m. m.mark) e.history else []))
@@ -398,6 +418,7 @@ module _ (p : PlanOf) (calls : CallLists) (setup : Setup) (front : ℕ) (lists :
                   count = count ∙ sized;
                   each = λ c lt. subst (λ (o : Option BlockOf). IfSome o (IsServing p calls c)) (sym (got c lt).0) (is_serving c lt (got c lt).1);
                 };
+            keep = passes_keep;
             called = λ c j k lt. made_as_asked c j k (stands c lt (from c lt)).settled.threads;
             traces = back.traces ∙ sym back.ends;
             traced = its_trace;

@@ -15,12 +15,13 @@ use Rattle.squeue_state.specs.Clauses.{Knows}
 use Rattle.squeue_state.specs.Told.{Traced, marks_of}
 
 -- Squeue number q of those lent ended so: its number and setting are those with which it was made, and each of its passes that is
--- lent by number has seen a beginning of its history, and made what there carries its number
+-- lent by number has seen a beginning of its history, and made what there carries its number; so has its worker's pass
 pub record EndsAs (front count : ℕ) (lent : ℕ → List (Option (Pass Element))) (q : ℕ) (s : Named Blocks) (e : Ending) : Type 0 where
   pub its_number : e.number ≡ s.given.number
   pub its_setting : e.setting ≡ setting_of limits_of s.given
   pub ended : HasEnded e
   pub knows : (p : ℕ) → p < count → (x : Pass Element) × (slice_get (lent (front + p)) q ≡ Some (Some x)) × Knows e.history x
+  pub worker : (x : Pass Element) × (lent (front + count + q) ≡ Some x ∷ []) × Knows e.history x
 
 -- the trace holds the marks of the squeue's history where it was to keep them, else nothing
 abbrev pub IsTraceOf : Named Blocks → Ending → Traced → Type 0

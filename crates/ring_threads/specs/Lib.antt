@@ -1,4 +1,5 @@
 pub mod Fits
+pub mod Keeping
 pub mod Served
 pub mod Lying
 pub mod ServedBlocks

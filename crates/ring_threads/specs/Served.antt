@@ -10,6 +10,7 @@ use Rattle.conn_blocks.specs.ServeOrder.{BlockOf}
 use Rattle.ring_quotas.specs.declared.setup.Setup.{Setup}
 use Rattle.run_histories.specs.Counting.{made_in_all}
 use Rattle.ring_threads.specs.Fits.{Fits}
+use Rattle.ring_threads.specs.Keeping.{PassesKeep}
 use Rattle.ring_threads.specs.ServedBlocks.{AreServed}
 
 -- the block of each connection, and the end and the trace of each squeue, by number
@@ -28,6 +29,7 @@ orders_of v = map (λ b. b.order) v.blocks
 pub record HasServed (p : PlanOf) (calls : CallLists) (setup : Setup) (v : ServedOf) : Type 0 where
   pub fits : Fits p calls setup v.ended (orders_of v)
   pub served : AreServed p calls v.blocks
+  pub keep : (q : ℕ) (e : Ending) → slice_get v.ended q ≡ Some e → PassesKeep e
   -- all histories together made each call on a connection once, and no other
   pub called : (c j k : ℕ) → c < length p.tuples → made_in_all c j k v.ended ≡ option_map_or (λ x. if x.0 == c then 1 else 0) (call_at calls j k) 0
   pub traces : length v.traces ≡ length v.ended

@@ -75,7 +75,7 @@ pub holds_last : (front count q : ℕ) → holder front count q count ≡ front 
 holds_last front count q = let b : (count == count) ≡ true = grind (arith, nat_tests) in rw b refl
 
 -- no job at this number holds one
-apart_from : (front count q i : ℕ) → ((i < front) ⊎ (front + count ≤ i)) → i ≢ front + count + q → (p : ℕ) → p ≤ count → i ≢ holder front count q p
+pub apart_from : (front count q i : ℕ) → ((i < front) ⊎ (front + count ≤ i)) → i ≢ front + count + q → (p : ℕ) → p ≤ count → i ≢ holder front count q p
 apart_from front count q i side apart p le e =
     elim (cases_eq p count) [
       | inl at ↦ apart (e ∙ (ap (holder front count q) at ∙ holds_last front count q))

@@ -9,12 +9,13 @@ use Rattle.conn_classifier.specs.declared.kinds.Item.{Item}
 use Rattle.conn_classifier.specs.Plan.{PlanOf}
 use Rattle.perimeter_core.specs.declared.entries.Act.{Act}
 use Rattle.perimeter_core.specs.Perimeter.{is_here}
-use Rattle.perimeter_core.specs.History.{run, start}
+use Rattle.perimeter_core.specs.History.{run, start, worker}
 use Rattle.perimeter_core.specs.Deeds.{fed}
 use Rattle.perimeter_core.specs.Legal.{Legal}
 use Rattle.perimeter_core.specs.Ending.{IsOver}
 use Rattle.squeue_state.specs.Naming.{Ending}
 use Rattle.squeue_state.specs.Told.{marks_of}
+use Rattle.squeue_drain.specs.Working.{OnlyLeavesNothing}
 use Rattle.squeue_enter.specs.declared.Mode.TheVariants as Mode'
 use Rattle.squeue_rings.specs.Keeping.{KeepsPace}
 use Rattle.squeue_rings.specs.Noted.{AreNoted}
@@ -26,6 +27,7 @@ use Rattle.conn_blocks.specs.Orders.{IsWhole, settle}
 use Rattle.run_histories.specs.Counting.{made_in_all}
 use Rattle.ring_quotas.specs.Quotas.{setting_at}
 use Rattle.ring_threads.specs.Fits.{Fits, HistoryFits, IsHereOnce}
+use Rattle.ring_threads.specs.Keeping.{PassesKeep}
 use Rattle.ring_threads.specs.Served.{HasServed}
 use Rattle.ring_threads.specs.ServedBlocks.{AreServed, IsServing}
 use Rattle.worked_runs.specs.OneSqueue.{plan, setup, setting, history, ending, order, block, no_trace, served}
@@ -37,6 +39,21 @@ only x y (suc q) e = absurd (omega (arith, slice_get_within (x ∷ []) (suc q) y
 
 is_zero : (c : ℕ) → c < 1 → c ≡ 0
 is_zero c lt = omega (arith, lt)
+
+-- no mark is the worker's
+worker_left : OnlyLeavesNothing setting (worker setting) [] history
+worker_left = (
+  λ own. absurd (omega (arith, own)),
+  λ own. absurd (omega (arith, own)),
+  λ own. absurd (omega (arith, own)),
+  λ own. absurd (omega (arith, own)),
+  λ own. absurd (omega (arith, own)),
+  λ own. absurd (omega (arith, own)),
+  λ own. absurd (omega (arith, own)),
+  λ own. absurd (omega (arith, own)),
+  λ own. absurd (omega (arith, own)),
+  tt,
+)
 
 -- with one squeue, stay s is stay s of squeue 0
 at_one : (s : ℕ) → ((0 + s) % 1 ≡ 0) × (s / 1 ≡ s)
@@ -124,6 +141,7 @@ module _ (file : CaptureFile) (counts : Counts) (t : Tuple) (x y : Item) (legal 
   is_served = record {
     fits = fits;
     served = one_served;
+    keep = λ q e at. subst PassesKeep (only ending e q at).1 (record { worker_leaves = worker_left });
     called = λ c j k lt. subst (λ d. made_in_all d j k (ending ∷ []) ≡ option_map_or (λ (x : ℕ × Call). if x.0 == d then 1 else 0) (call_at [] j k) 0) (sym (is_zero c lt)) (none_called j k);
     traces = refl;
     traced = λ q e at. subst (λ k. IfSome (slice_get (no_trace ∷ []) k) (λ t. marks_of t ≡ [])) (sym (only ending e q at).0) refl;
