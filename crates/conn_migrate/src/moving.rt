@@ -17,6 +17,10 @@ use synch_enter::{Hints, put_block, synch_enter, synch_exit, take_block};
 /// Moves the block of connection `c` from squeue `a` to squeue `b`. The passes are those of its ring. The hint of `c` names
 /// `b` before the ring leaves there.
 ///
+/// It waits twice to be owner. What was queued before it at either squeue is processed on the way, each feed first by `hook`
+/// and then by the resident with `alloc`. It gives the passes of `a` and `b`. The next feed of `c` has at `b` the number that
+/// it would have had at `a`.
+///
 /// # Example
 ///
 /// ```

@@ -18,7 +18,7 @@ use std::alloc::Global;
 use std::sync::Wait;
 
 /// Closes the passes of the ring and of the thread, lets the worker come to its end, and takes the squeue apart. The passes
-/// are spent in the room given.
+/// are spent in the room given. It gives the logs, the squeue's end and its marks, as `Squeue::finish` does.
 pub fn ended<W: Wait>(
     rt: &W,
     alloc: Global,

@@ -11,7 +11,7 @@ use std::alloc::{AllocError, Global};
 
 /// A squeue of one connection, whose block is here or elsewhere, and which keeps its marks. The ring may bring so many feeds,
 /// the application thread has one call on the connection, and each may ask once. The passes are those of the ring, the
-/// thread and the worker. Fails only for want of memory.
+/// thread and the worker. `number` names the squeue. Fails only for want of memory.
 ///
 /// # Example
 ///
@@ -43,7 +43,8 @@ pub fn opened(
     Squeue::make(alloc, number, logs, 1, &quotas, true)
 }
 
-/// The three passes, in order. The room that they stood in is left.
+/// The passes of the ring, the thread and the worker, of the three that `opened` gives. The room that they stood in is left,
+/// for `ended`.
 pub fn three(passes: &mut Vec<Pass>) -> (Pass, Pass, Pass)
     requires { length passes.old.items ≡ 3 }
     ensures old { passes.old.items ≡ result.0 ∷ result.1 ∷ result.2 ∷ [] }

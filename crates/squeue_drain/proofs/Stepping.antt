@@ -73,7 +73,7 @@ module _ {R P O : Type 0} (G : Ghosts R P O) (s : Named R) (o : Owner R) (c n : 
           own = is.owns.own;
           hand = record {
             is_left = subst (λ (xs : List Entry). xs ≡ unprocessed (length xs) hand) (sym left) step.is_left;
-            has_room = subst (λ (k : ℕ). s.given.room ≡ k) (sym room) is.owns.hand.has_room;
+            has_room = room ∙ is.owns.hand.has_room;
           };
           resident = record {
             stands_for = subst (λ (act : SynchAct). G.stands r (with_act act [] (with_feeds (processed (length h.left) hand) (peri S (seen o.pass))))) (sym is.no_act) new;

@@ -6,6 +6,7 @@ use Rattle.turn_gate.specs.declared.pass.Pass.{Pass}
 use Rattle.perimeter_core.specs.declared.resident.Resident.{Ghosts}
 use Rattle.perimeter_core.specs.declared.entries.Entry.{Entry}
 use Rattle.perimeter_core.specs.declared.entries.Act.{Act}
+use Rattle.perimeter_core.specs.declared.marks.Own.{Own}
 use Rattle.perimeter_core.specs.declared.marks.Own.TheVariants.{Out}
 use Rattle.perimeter_core.specs.Perimeter.{State, processed, unprocessed, is_closed}
 use Rattle.perimeter_core.specs.History.{Element, Setting, Limits, run, made_by}
@@ -17,7 +18,8 @@ use Rattle.perimeter_core.proofs.Rests.{rests_since}
 use Rattle.squeue_state.specs.Naming.{Named, Turned, setting_of}
 use Rattle.squeue_state.specs.Behind.{IsPeri}
 use Rattle.squeue_state.specs.Elements.{number_of}
-use Rattle.squeue_state.specs.Clauses.{Found, IsLeft, peri_left}
+use Rattle.squeue_state.specs.Clauses.{Found, IsLeft, owners_room, peri_left}
+use Rattle.squeue_state.specs.Lone.{buffer_of, ends_fast, is_lone}
 use Rattle.squeue_drain.specs.declared.owner.Owner.{Owner}
 use Rattle.squeue_drain.specs.Owning.{Owns, processed_by, state_of}
 use Rattle.squeue_state.proofs.Makers.{others_made}
@@ -56,12 +58,15 @@ module _ {R P O : Type 0} (G : Ghosts R P O) (s : Named R) where
       let own : (run S u.found).own ≡ Out u.number = ap (λ (t : State). t.own) state ∙ (k.0 ∙ ap Out (sym f.same_number)) in
       let hand : (run S u.found).hand ≡ (run S H).hand = ap (λ (t : State). t.hand) state ∙ k.1 in
       let blocks : peri S u.found ≡ peri S H = ap (λ (G : List Element). peri S G) whole ∙ rest in
+      let mine_still : only number_of u.number u.found ≡ only number_of p H = f.own ∙ (f.same_mine ∙ sym is.pass.2) in
+      let same_room : owners_room G.limits s.given H ≡ owners_room G.limits s.given u.found =
+      ap (λ (o' : Own). buffer_of s.given.room (is_lone o' H)) is.own ∙ (ap (λ (es : List Element). buffer_of s.given.room (ends_fast es)) (sym mine_still) ∙ ap (λ (o' : Own). buffer_of s.given.room (is_lone o' u.found)) (sym own)) in
       record {
         own = own;
         hand = hand;
         left = record {
           is_left = is.hand.is_left ∙ ap (λ (xs : List Entry). unprocessed (length o.hand.left) xs) (sym hand);
-          has_room = is.hand.has_room;
+          has_room = is.hand.has_room ∙ same_room;
         };
         same_front = ap (λ (xs : List Entry). processed (length o.hand.left) xs) hand;
         resident = record {

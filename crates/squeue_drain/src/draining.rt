@@ -29,7 +29,10 @@ pub(crate) enum Round<R> {
 }
 
 /// Processes the hand and what is queued meanwhile, in order, until `budget` feeds are processed, nothing is left, or the
-/// Ask of another pass is met. It returns the pass, and the chain's length and the polling flag after its last mark.
+/// Ask of another pass is met (illumos' `squeue_drain`, whose budget is a time). Asks count nothing. It returns the pass, how
+/// many entries are queued after its last mark, and the polling flag then.
+///
+/// Each feed goes first to `hook`, and then to the resident with `alloc`, outside of the gate.
 pub fn drain<R: Resident, H: Hook, W: Wait>(
     sq: &Squeue<R>,
     rt: &W,
@@ -56,7 +59,8 @@ pub fn drain<R: Resident, H: Hook, W: Wait>(
     unreachable!()
 }
 
-/// Processes the one feed of the hand, and leaves.
+/// Processes the one feed of the hand, which is `e`, and leaves what was queued meanwhile (illumos' `SQ_NODRAIN`). It returns
+/// the same as `drain`.
 pub fn serve_one<R: Resident, H: Hook, W: Wait>(
     sq: &Squeue<R>,
     rt: &W,

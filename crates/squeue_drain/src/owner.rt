@@ -10,7 +10,7 @@ use squeue_state::{Hand, Pass, Squeue};
 use std::alloc::Global;
 
 /// The value of the thread that owns a perimeter: its pass, the resident, what is left of the hand, and what it has done
-/// as a synchronous owner. It must be spent.
+/// as a synchronous owner. It must be spent: by a drain, by a leave, or by a grant to another pass.
 pub struct Owner<R> {
     pub pass: Pass,
     pub resident: R,
@@ -34,7 +34,7 @@ impl<R> Owner<R> {
 }
 
 /// Processes feeds from the front of the hand: at most `budget`, and no further than the first Ask. It answers how many
-/// more the budget allows.
+/// more the budget allows. Each feed goes first to `hook`, and then to the resident with `alloc`.
 pub fn process<R: Resident, H: Hook>(
     sq: &Squeue<R>,
     alloc: Global,

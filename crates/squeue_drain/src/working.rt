@@ -17,7 +17,8 @@ use std::sync::Wait;
 
 /// Works until every other pass is closed, nothing is queued and nobody has the perimeter, as a turn of its own has found.
 /// Where something waits for the worker it takes the queue, and drains without a budget until a turn finds nothing queued or
-/// it grants. Else it releases the gate without a mark, and sleeps until there may be work.
+/// it grants. Else it releases the gate without a mark, and sleeps until there may be work. It is illumos' `squeue_worker`,
+/// but for its end. `pass` is the squeue's last one, and comes back with the end seen, as `Squeue::finish` wants it.
 ///
 /// # Example
 ///

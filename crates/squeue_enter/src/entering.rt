@@ -21,12 +21,16 @@ use std::sync::Wait;
 /// and woke the worker where nobody had the perimeter. `rest` is the number of entries that are queued after it.
 #[derive(Clone, Copy, Debug, PartialEq, Eq)]
 pub enum How {
+    /// The pass was owner with its one feed, which never was queued.
     Fast { rest: u32 },
+    /// The pass was owner with all that was queued and its chain behind that.
     Drained { rest: u32 },
+    /// The chain was queued. `woke` says that nobody had the perimeter, so that the worker is to run.
     Queued { woke: bool },
 }
 
-/// An entry's answer: the pass, what it did, and whether the ring is to bring chains from now on. It must be spent.
+/// An entry's answer: the pass, what it did, and whether the ring is to bring chains from now on (a backlog of 16 entries was
+/// reached, and isn't gone). It must be spent.
 pub struct Entered {
     pub pass: Pass,
     pub how: How,
@@ -42,7 +46,11 @@ pub(crate) enum Way {
     Claim,
 }
 
-/// Enters the feeds of the chain, which isn't empty. The first turn decides by the mode.
+/// Enters the feeds of the chain, which isn't empty (illumos' `squeue_enter`). The first turn decides by the mode.
+///
+/// `chain` has the next feeds of the ring's connections, in order; `pass` is the ring's. Where the pass is owner, it processes
+/// at most `budget` feeds, the queue's among them, and leaves the others or grants. Each goes first to `hook`, and then to
+/// the resident with `alloc`, outside of the gate. Only the resident may want memory, and there is no error.
 ///
 /// # Example
 ///
@@ -78,7 +86,8 @@ pub fn enter<R: Resident, H: Hook, W: Wait>(
 }
 
 /// Enters the feeds of the chain, which isn't empty, where they fit behind what is queued. Else nothing is entered, the
-/// pass comes back, and it may try again. The first turn decides both.
+/// pass comes back, and it may try again. The first turn decides both. The parameters are those of `enter`. `Err` comes only
+/// where what is queued, what is in an owner's hand, the chain and an Ask of each pass are more than the room.
 pub fn enter_or_full<R: Resident, H: Hook, W: Wait>(
     sq: &Squeue<R>,
     rt: &W,
@@ -152,7 +161,7 @@ fn enter_in<R: Resident, H: Hook, W: Wait>(
 }
 
 /// Queues one feed where the gate is free, and doesn't wait. Where the gate is held nothing is entered, and `Missed`
-/// has the pass back.
+/// has the pass back: nothing is queued, and the pass may try again.
 pub fn try_fill<R: Resident>(sq: &Squeue<R>, pass: Pass, feed: Feed) -> Result<Pass, Missed>
     requires may { MayEnter R.limits sq.now pass (feed ∷ []) }
     requires room { HasAllRoom sq.now.given }
@@ -168,7 +177,7 @@ pub fn try_fill<R: Resident>(sq: &Squeue<R>, pass: Pass, feed: Feed) -> Result<P
 }
 
 /// Queues the feeds of the chain, which isn't empty, where they fit behind what is queued. Else nothing is entered, the
-/// pass comes back, and it may try again.
+/// pass comes back, and it may try again. It is `enter_or_full` by `Mode::Fill`, without a resident's feed.
 pub fn fill_or_full<R: Resident, W: Wait>(
     sq: &Squeue<R>,
     rt: &W,

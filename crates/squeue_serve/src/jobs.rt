@@ -85,7 +85,10 @@ pub fn discard<T: Drop>(jobs: Vec<Job<T>>)
     jobs.destroy_empty();
 }
 
-/// Adds a squeue behind the others, and lends its passes.
+/// Adds a squeue behind the others, and lends its passes, which are `count + 1`.
+///
+/// The first `front` jobs are lent nothing. Of each squeue, pass `p` below `count` goes to job `front + p`. The last pass, the
+/// worker's, goes to a job of its squeue alone: `front + count + q`, where `q` is the number of squeues before this one.
 ///
 /// # Example
 ///

@@ -1,8 +1,12 @@
 -- A history's length stays below the count's bound.
-use Rattle.std.proofs.Common.{◌≡◌, ◌+◌, ◌^◌, ◌<◌, ◌≤◌, ℕ, List, [], ◌∷◌, ◌++◌, length, length-append, arith, zero, suc, refl, ap, sym, ◌∙◌, false, add-one}
-use Rattle.std.specs.Prelude.{replicate}
+use Rattle.std.proofs.Common.{◌≡◌, ◌≢◌, ◌+◌, ◌-◌, ◌^◌, ◌<◌, ◌≤◌, ℕ, List, [], ◌∷◌, ◌++◌, length, length-append, arith, zero, suc, refl, ap, sym, ◌∙◌, true, false, None, add-one}
+use Rattle.std.specs.Prelude.{replicate, IsSome}
+use Rattle.std.proofs.lemmas.List.{length-drop}
 use Rattle.perimeter_core.specs.declared.resident.Resident.{Ghosts}
-use Rattle.perimeter_core.specs.History.{Element, start, run}
+use Rattle.perimeter_core.specs.declared.entries.Act.{Act}
+use Rattle.perimeter_core.specs.declared.marks.SynchAct.{SynchAct}
+use Rattle.perimeter_core.specs.declared.marks.Own.{Own}
+use Rattle.perimeter_core.specs.History.{Element, Setting, start, run}
 use Rattle.perimeter_core.specs.Deeds.{entries}
 use Rattle.perimeter_core.specs.Legal.{May}
 use Rattle.perimeter_core.specs.declared.entries.Feed.{Feed}
@@ -11,9 +15,13 @@ use Rattle.perimeter_core.proofs.OneMore.{run_push, legal_more}
 use Rattle.squeue_state.proofs.QueuedRoom.{queued_few, queued_within, fits_after}
 use Rattle.perimeter_core.proofs.HistoryLength.{length_bounded}
 use Rattle.squeue_state.specs.declared.inner.Inner.{Inner}
-use Rattle.squeue_state.specs.Naming.{Given, setting_of}
+use Rattle.squeue_state.specs.Naming.{Given, Handed, setting_of}
 use Rattle.squeue_state.specs.Behind.{Behind, FeedsFit}
-use Rattle.squeue_state.specs.Elements.{filled_by, claimed_by, ask_claimed_by, asked_by}
+use Rattle.squeue_state.specs.Lone.{is_lone, buffer_of}
+use Rattle.squeue_state.specs.Hands.{GoBack}
+use Rattle.squeue_state.specs.Clauses.{IsLeft}
+use Rattle.squeue_state.specs.Elements.{filled_by, claimed_by, ask_claimed_by, asked_by, left_by_pass}
+use Rattle.squeue_state.proofs.Steps.{go_back, lone_one, spare_there}
 use Rattle.squeue_state.proofs.Marks.{entries-length}
 
 module _ {R P O : Type 0} (G : Ghosts R P O) where
@@ -62,3 +70,38 @@ module _ {R P O : Type 0} (G : Ghosts R P O) where
   -- a hand is short
   pub few_hand : (g : Given R) (i : Inner R) (H : List Element) → Behind G g i H → length (run (setting_of G.limits g) H).hand < 2 ^ 31
   few_hand g i H b = let few = b.few in let fits = left_fits g i H b in omega (arith, fits, few.1, few.2)
+
+module _ {R P O : Type 0} (G : Ghosts R P O) (g : Given R) (i : Inner R) (H : List Element) (hand : Handed) (b : Behind G g i H) (is : IsLeft G.limits g H hand) where
+  abbrev S : Setting
+  S = setting_of G.limits g
+
+  within : length hand.left ≤ length (run S H).hand
+  within = let n = ap length is.is_left ∙ length-drop (length (run S H).hand - length hand.left) (run S H).hand in omega (arith, n)
+
+  its : hand.room ≡ buffer_of g.room (is_lone i.own H)
+  its = is.has_room ∙ ap (λ (o : Own). buffer_of g.room (is_lone o H)) (sym b.own)
+
+  one : is_lone i.own H ≡ true → length (run S H).hand ≡ 1
+  one lone = sym b.out ∙ lone_one g.room (is_lone i.own H) i.in_hand i.own i.spare b.spare lone
+
+  -- a hand of at least one entry is longer than what is left of it
+  fewer : (rest : ℕ) → ((run S H).hand ≢ [] → rest < length (run S H).hand) → length (run S H).hand ≡ 1 → rest ≡ 0
+  fewer rest progress long =
+      let less = progress (λ (none : (run S H).hand ≡ []). let l = ap length none in absurd (omega (arith, l, long))) in
+      omega (arith, less, long)
+
+  -- what an owner leaves goes back before what is queued
+  pub leaves_back : (p : ℕ) (act : SynchAct) (note : List Act) → May S H (left_by_pass p (length hand.left) act note) → GoBack hand.room (length hand.left) (length i.chain.items)
+  leaves_back p act note m =
+      go_back g.room (is_lone i.own H) (length hand.left) (length i.chain.items) hand.room its (λ lone. fewer (length hand.left) m.progress (one lone))
+      (let n = within in omega (arith, n, ap length b.chain, b.short))
+
+  -- and so does what is left behind an Ask
+  pub grants_back : (rest : ℕ) → rest + 1 ≤ length hand.left → GoBack hand.room rest (length i.chain.items)
+  grants_back rest some =
+      let n = within in
+      go_back g.room (is_lone i.own H) rest (length i.chain.items) hand.room its (λ lone. let l = one lone in omega (arith, l, n, some)) (omega (arith, n, some, ap length b.chain, b.short))
+
+  -- there is a buffer for what is queued
+  pub one_there : hand.room ≡ None → IsSome i.spare
+  one_there none = spare_there g.room (is_lone i.own H) i.in_hand i.own i.spare hand.room b.spare its none

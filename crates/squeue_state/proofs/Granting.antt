@@ -15,16 +15,14 @@ first_drop [] (suc k) d e h = cc h
 first_drop (x ∷ xs) zero d e h = cc h
 first_drop (x ∷ xs) (suc k) d e h = first_drop xs k d e h
 
-some_first : (xs : List Entry) (e : Entry) → first_entry xs ≡ Some e → 0 < length xs
+pub some_first : (xs : List Entry) (e : Entry) → first_entry xs ≡ Some e → 0 < length xs
 some_first [] e h = cc h
 some_first (x ∷ xs) e h = omega arith
 
--- what stands at the hand's place is the Ask
-pub asks_at : (xs : List Entry) (k : ℕ) (left : List Entry) (j : ℕ) (now : Entry) → drop k xs ≡ left → first_entry left ≡ Some (Entry'.Ask j) → now ≡ get_or xs k now → now ≡ Entry'.Ask j
-asks_at xs k left j now is first at = at ∙ first_drop xs k now (Entry'.Ask j) (ap first_entry is ∙ first)
-
-pub asker_is : (i j : ℕ) (now : Entry) → now ≡ Entry'.Ask i → now ≡ Entry'.Ask j → i ≡ j
-asker_is i j now a b = ap (λ e. asker (e ∷ [])) (sym a ∙ b)
+-- whose Ask stands first
+pub asker_first : (i : ℕ) (xs : List Entry) → first_entry xs ≡ Some (Entry'.Ask i) → i ≡ asker xs
+asker_first i [] e = cc e
+asker_first i (x ∷ xs) e = let same : x ≡ Entry'.Ask i = cc e in sym (ap (λ y. asker (y ∷ xs)) same)
 
 pub granted_hand : (hand left : List Entry) (j : ℕ) → left ≡ unprocessed (length left) hand → first_entry left ≡ Some (Entry'.Ask j)
     → (drop 1 left ≡ unprocessed (length left - 1) hand) × (processed (length left - 1) hand ≡ processed (length left) hand ++ Entry'.Ask j ∷ [])

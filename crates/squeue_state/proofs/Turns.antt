@@ -1,8 +1,8 @@
 -- What a call knows of the value that its turn holds.
-use Rattle.std.proofs.Common.{◌≡◌, ◌+◌, arith, ℕ, List, [], ◌∷◌, ◌++◌, ap, sym, ◌∙◌, subst, refl, Some, None, Option}
+use Rattle.std.proofs.Common.{◌≡◌, ◌+◌, arith, ℕ, List, [], ◌∷◌, ◌++◌, ap, sym, ◌∙◌, subst, refl, Some, None, Option, Bool}
 use Rattle.perimeter_core.specs.declared.resident.Resident.{Ghosts}
 use Rattle.perimeter_core.specs.declared.marks.Own.{Own}
-use Rattle.perimeter_core.specs.declared.marks.Own.TheVariants.{Free, Granted}
+use Rattle.perimeter_core.specs.declared.marks.Own.TheVariants.{Free, Out, Granted}
 use Rattle.perimeter_core.specs.History.{Element, Setting}
 use Rattle.perimeter_core.specs.Legal.{May}
 use Rattle.perimeter_core.specs.Blocks.{Blocks, peri}
@@ -20,7 +20,7 @@ use Rattle.squeue_state.specs.Clauses.{IsTurnOf, turned_of, Marked}
 use Rattle.perimeter_core.specs.declared.entries.Entry.{Entry}
 use Rattle.perimeter_core.specs.declared.entries.Feed.{Feed}
 use Rattle.perimeter_core.specs.History.{start, run}
-use Rattle.perimeter_core.specs.Perimeter.{after}
+use Rattle.perimeter_core.specs.Perimeter.{State, after}
 use Rattle.perimeter_core.proofs.OneMore.{run_push}
 use Rattle.turn_gate.specs.Gates.{gate_id, first_of}
 use Rattle.turn_gate.specs.declared.views.LockStep.{LockStep}
@@ -31,6 +31,8 @@ use Rattle.turn_gate.specs.declared.pass.Pass.{Pass}
 use Rattle.turn_gate.specs.Helds.{Takes}
 use Rattle.squeue_state.specs.Behind.{StandsFor}
 use Rattle.squeue_state.specs.Clauses.{named_of}
+use Rattle.squeue_state.specs.Lone.{is_fast, is_lone, buffer_of}
+use Rattle.squeue_state.proofs.Steps.{own_lone}
 use Rattle.squeue_state.specs.Elements.{number_of, fast_by, claimed_by, ask_claimed_by, accepted_by, worked_by}
 
 module _ {R P O : Type 0} (G : Ghosts R P O) where
@@ -92,6 +94,13 @@ marked {R} t s G h u e x p is sq gs ex its saw made freed =
 -- the hand after the mark
 pub hand_after : (S : Setting) (H : List Element) (e : Element) (xs : List Entry) → xs ≡ (after (run S H) e.mark).hand → xs ≡ (run S (H ++ e ∷ [])).hand
 hand_after S H e xs is = is ∙ sym (ap (λ s. s.hand) (run_push (start S) H e))
+
+-- an owner's buffer after its own mark
+pub room_after : (room : ℕ) (S : Setting) (H K : List Element) (e : Element) (p : ℕ) → K ≡ H ++ e ∷ [] → number_of e ≡ p → (after (run S H) e.mark).own ≡ Out p → buffer_of room (is_fast e.mark) ≡ buffer_of room (is_lone (run S K).own K)
+room_after room S H K e p is number out =
+    let own : (run S (H ++ e ∷ [])).own ≡ Out p = ap (λ (t : State). t.own) (run_push (start S) H e) ∙ out in
+    let lone : is_lone (run S (H ++ e ∷ [])).own (H ++ e ∷ []) ≡ is_fast e.mark = ap (λ (o : Own). is_lone o (H ++ e ∷ [])) own ∙ own_lone p H e number in
+    sym (ap (λ (L : List Element). buffer_of room (is_lone (run S L).own L)) is ∙ ap (λ (b : Bool). buffer_of room b) lone)
 
 pub fasted_same : (S : Setting) (H : List Element) (p : ℕ) (e : Feed) → May S H (fast_by p e) → peri S (H ++ fast_by p e ∷ []) ≡ peri S H
 fasted_same S H p e m = peri_push S H (fast_by p e) m ∙ with_none (peri S H)

@@ -1,5 +1,5 @@
 -- The value behind a gate stands for a legal history.
-use Rattle.std.specs.Prelude.{◌≡◌, ◌<◌, ◌≤◌, ◌+◌, ◌*◌, ℕ, Bool, if◌then◌else◌, Option, Some, None, List, [], map, length, vec_capacity}
+use Rattle.std.specs.Prelude.{◌≡◌, ◌<◌, ◌≤◌, ◌+◌, ◌*◌, ℕ, Bool, true, false, if◌then◌else◌, Option, Some, None, List, [], map, length, vec_capacity}
 use Rattle.std.specs.Prelude.{Vec}
 use Rattle.perimeter_core.specs.declared.resident.Resident.{Ghosts}
 use Rattle.perimeter_core.specs.declared.entries.Entry.{Entry}
@@ -7,7 +7,6 @@ use Rattle.perimeter_core.specs.declared.marks.SynchAct.{SynchAct}
 use Rattle.perimeter_core.specs.declared.marks.SynchAct.TheVariants as Done
 use Rattle.perimeter_core.specs.declared.marks.Own.{Own}
 use Rattle.perimeter_core.specs.declared.marks.Own.TheVariants.{Free, Out, Granted}
-use Rattle.perimeter_core.specs.Perimeter.{unprocessed}
 use Rattle.perimeter_core.specs.History.{Element, Setting, worker, run, all_quotas, feed_quotas}
 use Rattle.perimeter_core.specs.Backlog.{queue}
 use Rattle.perimeter_core.specs.Legal.{Legal, feed_count}
@@ -16,6 +15,7 @@ use Rattle.squeue_state.specs.declared.inner.Inner.{Inner}
 use Rattle.squeue_state.specs.declared.guarded.Guarded.{Guarded}
 use Rattle.squeue_state.specs.declared.guarded.Quota.{Quota}
 use Rattle.squeue_state.specs.declared.guarded.Life.{Life}
+use Rattle.squeue_state.specs.Lone.{is_lone}
 use Rattle.squeue_state.specs.Limits.{most_entries, most_room, most_passes}
 use Rattle.squeue_state.specs.Told.{Traced, marks_of}
 use Rattle.perimeter_core.specs.Deeds.{entered}
@@ -68,12 +68,13 @@ abbrev pub HasEmpty : {A : Type 0} → ℕ → Option (Vec Entry A) → Type 0
 HasEmpty n None = ⊥
 HasEmpty n (Some v) = (v.items ≡ []) × (n ≡ vec_capacity v)
 
--- so does the second buffer, empty
-abbrev pub Spare : {A : Type 0} → ℕ → Own → Option (Vec Entry A) → Type 0
-Spare room (Out p) None = Unit {0}
-Spare room (Out p) (Some v) = ⊥
-Spare room Free s = HasEmpty room s
-Spare room (Granted p) s = HasEmpty room s
+-- so does the second buffer, empty; and where the owner came by Fast it lies here too, and the owner has just one entry
+abbrev pub Spare : {A : Type 0} → ℕ → Bool → ℕ → Own → Option (Vec Entry A) → Type 0
+Spare room true in_hand o s = HasEmpty room s × (in_hand ≡ 1)
+Spare room false in_hand Free s = HasEmpty room s
+Spare room false in_hand (Out p) None = Unit {0}
+Spare room false in_hand (Out p) (Some v) = ⊥
+Spare room false in_hand (Granted p) s = HasEmpty room s
 
 -- n more feeds fit behind what is queued, and an ask of each pass beside them
 abbrev pub FeedsFit : Setting → ℕ → List Element → ℕ → Type 0
@@ -91,7 +92,7 @@ module _ {R P O : Type 0} (G : Ghosts R P O) where
     pub here : i.here.items ≡ (run (setting_of G.limits g) H).here
     pub closed : i.closed.items ≡ (run (setting_of G.limits g) H).closed
     pub resident : Lies G g i.own i.resident (peri (setting_of G.limits g) H)
-    pub spare : Spare g.room i.own i.spare
+    pub spare : Spare g.room (is_lone i.own H) i.in_hand i.own i.spare
     pub room : g.room ≡ vec_capacity i.chain
     pub out : i.in_hand ≡ length (run (setting_of G.limits g) H).hand
     pub fits : FeedsFit (setting_of G.limits g) g.room H 0
@@ -116,8 +117,3 @@ abbrev pub ActBelow : ℕ → SynchAct → Type 0
 ActBelow n (Done.Out c) = c < n
 ActBelow n (Done.In c) = c < n
 ActBelow n _ = Unit {0}
-
--- what is left of the squeue's hand, in a buffer with room for just all that may be queued
-pub record LiesAs {R : Type 0} (g : Given R) (capacity rest : ℕ) (entries hand : List Entry) : Type 0 where
-  pub is_left : entries ≡ unprocessed rest hand
-  pub has_room : g.room ≡ capacity

@@ -23,6 +23,7 @@ use Rattle.squeue_state.specs.declared.guarded.Guarded.{Guarded}
 use Rattle.squeue_state.specs.Naming.{Given, Named, Turned, Handed, setting_of}
 use Rattle.squeue_state.specs.Behind.{given_of, Behind, Noted}
 use Rattle.squeue_state.specs.Elements.{number_of}
+use Rattle.squeue_state.specs.Lone.{is_lone, buffer_of}
 
 -- which squeue a gate is the gate of
 abbrev pub named_of : {R : Type 0} → Gate (Guarded R) Kind Element → Named R
@@ -67,15 +68,19 @@ pub record Unmarked {R : Type 0} (u : Turned R) (p : Pass Element) : Type 0 wher
   pub now_mine : mine p ≡ u.mine
   pub one_step : freed_once u.made (steps p)
 
+-- the room of the owner's buffer, where it has one
+abbrev pub owners_room : {R : Type 0} → (R → Limits) → Given R → List Element → Option ℕ
+owners_room limits g h = buffer_of g.room (is_lone (run (setting_of limits g) h).own h)
+
 -- the hand is what is left of the squeue's hand
 pub record IsLeft {R : Type 0} (limits : R → Limits) (g : Given R) (h : List Element) (hand : Handed) : Type 0 where
   pub is_left : hand.left ≡ unprocessed (length hand.left) (run (setting_of limits g) h).hand
-  pub has_room : g.room ≡ hand.room
+  pub has_room : hand.room ≡ owners_room limits g h
 
 -- the hand is the squeue's whole hand
 pub record IsWhole {R : Type 0} (limits : R → Limits) (g : Given R) (h : List Element) (hand : Handed) : Type 0 where
   pub is_whole : hand.left ≡ (run (setting_of limits g) h).hand
-  pub has_room : g.room ≡ hand.room
+  pub has_room : hand.room ≡ owners_room limits g h
 
 -- what the resident stands for when all but what is left of the hand is processed, and the act is done
 abbrev pub peri_left : {R : Type 0} → (R → Limits) → Given R → List Element → Handed → SynchAct → List Act → Blocks

@@ -1,5 +1,5 @@
 -- What contracts see of a squeue, a turn, a hand and what is left of a squeue at its end.
-use Rattle.std.specs.Prelude.{ℕ, Bool, List}
+use Rattle.std.specs.Prelude.{ℕ, Bool, Option, List}
 use Rattle.atomic_table.specs.Seated.{TableId}
 use Rattle.perimeter_core.specs.declared.entries.Entry.{Entry}
 use Rattle.perimeter_core.specs.History.{Element, Setting, Limits}
@@ -39,10 +39,10 @@ pub record Turned (R : Type 0) : Type 0 where
   pub mine : List Element
   pub made : List LockStep
 
--- what is left of a hand, and the room of its buffer
+-- what is left of a hand, and the room of its buffer; one feed taken by Fast has no buffer
 pub record Handed : Type 0 where
   pub left : List Entry
-  pub room : ℕ
+  pub room : Option ℕ
 
 -- a squeue that has ended: its number, its setting and its history
 pub record Ending : Type 0 where

@@ -10,7 +10,7 @@ ghost use Rattle.squeue_state.specs.Elements.{filled_by, fast_by, claimed_by, as
 ghost use Rattle.squeue_state.specs.Clauses.{Marked, IsWhole};
 ghost use Rattle.turn_gate.specs.Passes.{seen};
 
-use crate::hand::Hand;
+use crate::hand::{Hand, Taken};
 use crate::kind::Kind;
 use crate::release::end_turn;
 use crate::squeue::{Pass, Squeue};
@@ -19,7 +19,11 @@ use perimeter_core::{Feed, Resident};
 use std::marker::Brand;
 
 impl<R: Resident> Squeue<R> {
-    /// Queues the feeds.
+    /// Queues the feeds behind what is queued (illumos' `SQ_FILL`), for the owner or the worker. Where nobody has the perimeter
+    /// a wake is recorded. Where one is recorded, the worker's bell rings after the turn.
+    ///
+    /// `es` isn't empty. Each feed is the next one of its connection, whose block is here, and the pass is that connection's
+    /// ring.
     pub fn fill(&self, turn: Turn<R>, es: &[Feed]) -> Pass
         requires squeue { turn.squeue ≡ self.now }
         requires may { May (setting_of R.limits self.now.given) turn.found (filled_by turn.number es.now) }
@@ -36,7 +40,8 @@ impl<R: Resident> Squeue<R> {
         pass
     }
 
-    /// Takes the perimeter with one feed, where nobody has it and nothing is queued.
+    /// Takes the perimeter with one feed, where nobody has it and nothing is queued. The feed is never queued: it is the whole
+    /// hand, which the caller processes outside of the gate. It gives the pass, the resident and the hand.
     pub fn fast(&self, turn: Turn<R>, e: Feed) -> (Pass, R, Hand)
         requires squeue { turn.squeue ≡ self.now }
         requires may { May (setting_of R.limits self.now.given) turn.found (fast_by turn.number e) }
@@ -47,16 +52,18 @@ impl<R: Resident> Squeue<R> {
     {
         let Turn { mut held, of: _ } = turn;
         let p = held.number();
-        let (resident, entries) = held.value().inner.fast(p, e);
+        let resident = held.value().inner.fast(p);
         let Some(resident) = resident else {
             unreachable!()
         };
         let kind = Kind::Fast { c: e.c, n: e.n };
         let pass = end_turn::<R, Brand>(&self.gate, held, kind, &[]);
-        (pass, resident, Hand { entries, at: 0 })
+        let taken = Taken::One(Some(e));
+        (pass, resident, Hand { taken })
     }
 
-    /// Queues the feeds, and takes the perimeter and all that is queued, where nobody has it.
+    /// Queues the feeds, and takes the perimeter and all that is queued, where nobody has it. The hand is what was queued, and
+    /// then the feeds. A wake that was recorded is over, since the caller comes in the worker's place.
     pub fn claim(&self, turn: Turn<R>, es: &[Feed]) -> (Pass, R, Hand)
         requires squeue { turn.squeue ≡ self.now }
         requires may { May (setting_of R.limits self.now.given) turn.found (claimed_by turn.number es.now) }
@@ -72,10 +79,12 @@ impl<R: Resident> Squeue<R> {
             unreachable!()
         };
         let pass = end_turn::<R, Brand>(&self.gate, held, Kind::Claim, es);
-        (pass, resident, Hand { entries, at: 0 })
+        let taken = Taken::Many(entries, 0);
+        (pass, resident, Hand { taken })
     }
 
-    /// Queues the pass's own Ask, and takes the perimeter and all that is queued, where nobody has it.
+    /// Queues the pass's own Ask, and takes the perimeter and all that is queued, where nobody has it. The Ask is the last
+    /// entry of the hand. An owner that has processed all before it may do one act as it leaves.
     pub fn claim_ask(&self, turn: Turn<R>) -> (Pass, R, Hand)
         requires squeue { turn.squeue ≡ self.now }
         requires may { May (setting_of R.limits self.now.given) turn.found (ask_claimed_by turn.number) }
@@ -90,10 +99,12 @@ impl<R: Resident> Squeue<R> {
             unreachable!()
         };
         let pass = end_turn::<R, Brand>(&self.gate, held, Kind::ClaimAsk, &[]);
-        (pass, resident, Hand { entries, at: 0 })
+        let taken = Taken::Many(entries, 0);
+        (pass, resident, Hand { taken })
     }
 
-    /// Queues the pass's wish to own the perimeter, where somebody has it.
+    /// Queues the pass's wish to own the perimeter, where somebody has it. From then on the pass may only look: by `listen`, a
+    /// turn and `sleep` it waits until a turn finds the perimeter granted to it, and then accepts.
     pub fn ask(&self, turn: Turn<R>) -> Pass
         requires squeue { turn.squeue ≡ self.now }
         requires may { May (setting_of R.limits self.now.given) turn.found (asked_by turn.number) }
@@ -105,7 +116,8 @@ impl<R: Resident> Squeue<R> {
         end_turn::<R, Brand>(&self.gate, held, Kind::Ask, &[])
     }
 
-    /// Closes the pass.
+    /// Closes the pass, which then enters, asks and closes no more. What it has entered stays queued. The worker's bell rings,
+    /// since the worker ends when all other passes are closed.
     pub fn close(&self, turn: Turn<R>) -> Pass
         requires squeue { turn.squeue ≡ self.now }
         requires may { May (setting_of R.limits self.now.given) turn.found (closed_by turn.number) }

@@ -13,7 +13,7 @@ use crate::trace::Trace;
 use perimeter_core::{Feed, Known, Resident};
 use turn_gate::Storied;
 
-/// How many feeds and asks a pass may ever enter.
+/// How many feeds and asks a pass may ever enter. Of a ring the feeds are those of all its connections.
 #[derive(Clone, Copy)]
 pub struct Quota {
     pub feeds: u32,

@@ -5,22 +5,27 @@
 ghost use Rattle.std.specs.Prelude.{◌||◌, not, ◌≡◌, ℕ, ◌+◌, ◌<◌, ◌≤◌, List, [], ◌∷◌, ◌++◌, length, drop, vec_len, vec_capacity, None, Some, IsSome, false};
 ghost use Rattle.perimeter_core.specs.declared.entries.Entry.TheVariants as Entry';
 ghost use Rattle.perimeter_core.specs.declared.entries.Act.{Act};
+ghost use Rattle.perimeter_core.specs.declared.entries.Feed.{Feed as FeedOf};
 ghost use Rattle.perimeter_core.specs.declared.marks.Own.TheVariants as Own';
 ghost use Rattle.perimeter_core.specs.Perimeter.{polls, is_free, is_empty, processed, here_after};
 ghost use Rattle.perimeter_core.specs.History.{Element, run};
 ghost use Rattle.perimeter_core.specs.Legal.{May};
 ghost use Rattle.perimeter_core.specs.Deeds.{entries};
-ghost use Rattle.perimeter_core.specs.Blocks.{peri, with_feeds, with_act};
+ghost use Rattle.perimeter_core.specs.Blocks.{peri, with_feeds};
 ghost use Rattle.squeue_state.specs.Naming.{Given, setting_of};
-ghost use Rattle.squeue_state.specs.Behind.{Behind, IsPeri, ActBelow, FeedsFit, HasEmpty, LiesAs};
+ghost use Rattle.squeue_state.specs.Behind.{Behind, IsPeri, ActBelow, FeedsFit, HasEmpty};
+ghost use Rattle.squeue_state.specs.Hands.{AreBuffers, GoBack};
+ghost use Rattle.squeue_state.specs.Clauses.{IsLeft, owners_room, peri_left};
 ghost use Rattle.squeue_state.specs.Elements.{filled_by, fast_by, claimed_by, ask_claimed_by, asked_by, closed_by};
 ghost use Rattle.squeue_state.specs.Elements.{taken_by, left_by_pass, granted_by, accepted_by, worked_by};
 
+use crate::hand::{Hand, Taken};
 use crate::room::{append, put_back, queue_feeds};
 use perimeter_core::{Entry, Feed, Own, Resident, SynchAct, is_polling};
 use std::mem;
 
-/// What a gate keeps of a perimeter. Where a pass is out, the resident and the second buffer are with it.
+/// What a gate keeps of a perimeter. Where a pass is out, the resident is with it, and the second buffer too unless the pass
+/// came by Fast.
 #[derive(Drop)]
 pub struct Inner<R> {
     pub(crate) own: Own,
@@ -96,24 +101,52 @@ impl<R: Resident> Inner<R> {
         (self.resident.take(), hand)
     }
 
+    // The buffer of a hand that is used up, or the second one where it has none.
+    fn buffer_for(&mut self, hand: Hand) -> Vec<Entry>
+        requires { hand.room ≡ None → IsSome self.old.spare }
+        ensures same { self.new ≡ record self.old { spare = None } }
+        ensures room { (n : ℕ) → AreBuffers n hand.room (vec_capacity self.old.chain) self.old.spare → n ≡ vec_capacity result }
+    {
+        let spare = self.spare.take();
+        match hand.taken {
+            Taken::Many(entries, _) => entries,
+            Taken::One(_) => match spare {
+                Some(spare) => spare,
+                None => unreachable!(),
+            },
+        }
+    }
+
     // Puts the resident back, and what is left of the hand before the chain.
-    fn give_back(&mut self, resident: R, entries: Vec<Entry>, at: usize)
+    fn give_back(&mut self, resident: R, hand: Hand)
+        requires room { GoBack hand.room (length hand.left) (length self.old.chain.items) }
+        requires out { self.old.resident ≡ None }
+        ensures same { self.new ≡ record self.old { chain = self.new.chain; spare = self.new.spare; resident = Some resident; in_hand = 0 } }
+        ensures queue { self.new.chain.items ≡ hand.left ++ self.old.chain.items }
+        ensures buffers { (n : ℕ) → AreBuffers n hand.room (vec_capacity self.old.chain) self.old.spare
+            → (n ≡ vec_capacity self.new.chain) × HasEmpty n self.new.spare }
+    {
+        self.in_hand = 0;
+        let old = self.resident.replace(resident);
+        let None = old else { unreachable!() };
+        if let Taken::Many(entries, at) = hand.taken {
+            self.put_before(entries, at);
+        }
+    }
+
+    // Puts what is left of a buffer before the chain.
+    fn put_before(&mut self, entries: Vec<Entry>, at: usize)
         requires at { at ≤ vec_len entries }
         requires room { length (drop at entries.items) + length self.old.chain.items ≤ vec_capacity entries }
-        requires out { (self.old.resident ≡ None) × (self.old.spare ≡ None) }
-        ensures same { self.new ≡ record self.old { chain = self.new.chain; spare = self.new.spare; resident = Some resident; in_hand = 0 } }
+        ensures same { self.new ≡ record self.old { chain = self.new.chain; spare = self.new.spare } }
         ensures queue { self.new.chain.items ≡ drop at entries.items ++ self.old.chain.items }
         ensures room { vec_capacity self.new.chain ≡ vec_capacity entries }
         ensures spare { HasEmpty (vec_capacity self.old.chain) self.new.spare }
     {
         let queue = put_back(entries, at, &self.chain);
-        self.in_hand = 0;
         self.chain.clear();
         let spare = mem::replace(&mut self.chain, queue);
-        let old = self.spare.replace(spare);
-        let None = old else { unreachable!() };
-        let old = self.resident.replace(resident);
-        let None = old else { unreachable!() };
+        self.spare = Some(spare);
     }
 }
 
@@ -130,22 +163,15 @@ impl<R: Resident> Inner<R> {
     }
 
     /// Takes the perimeter with one feed, where nothing is queued.
-    pub(crate) fn fast(&mut self, p: u32, e: Feed) -> (Option<R>, Vec<Entry>)
-        requires { (n : ℕ) × (1 ≤ n) × HasEmpty n self.old.spare }
-        ensures same { (result.0 ≡ self.old.resident) × (result.1.items ≡ Entry'.Feed e.c e.n ∷ []) }
-        ensures room { (n : ℕ) → HasEmpty n self.old.spare → n ≡ vec_capacity result.1 }
-        ensures behind { (g : Given R) (H : List Element) → Behind R.Resident g self.old H → May (setting_of R.limits g) H (fast_by p e)
+    pub(crate) fn fast(&mut self, p: u32) -> Option<R>
+        ensures same { result ≡ self.old.resident }
+        ensures behind { (g : Given R) (H : List Element) (e : FeedOf) → Behind R.Resident g self.old H → May (setting_of R.limits g) H (fast_by p e)
             → FeedsFit (setting_of R.limits g) g.room H 1 → Behind R.Resident g self.new (H ++ fast_by p e ∷ []) }
     {
-        let mut hand = match self.spare.take() {
-            Some(spare) => spare,
-            None => unreachable!(),
-        };
-        append(&mut hand, &[Entry::Feed { c: e.c, n: e.n }]);
         self.in_hand = 1;
         self.own = Own::Out(p);
         self.poll();
-        (self.resident.take(), hand)
+        self.resident.take()
     }
 
     /// Queues the feeds, and takes the perimeter and all that is queued.
@@ -216,13 +242,14 @@ impl<R: Resident> Inner<R> {
         (self.resident.take(), self.spare.take())
     }
 
-    /// Takes what is queued, for a buffer that is used up.
-    pub(crate) fn take(&mut self, buffer: Vec<Entry>) -> Vec<Entry>
+    /// Takes what is queued, for a hand that is used up.
+    pub(crate) fn take(&mut self, hand: Hand) -> Vec<Entry>
+        requires { hand.room ≡ None → IsSome self.old.spare }
         ensures same { result ≡ self.old.chain }
-        ensures behind { (g : Given R) (H : List Element) (p : ℕ) → Behind R.Resident g self.old H → g.room ≡ vec_capacity buffer
+        ensures behind { (g : Given R) (H : List Element) (p : ℕ) → Behind R.Resident g self.old H → hand.room ≡ owners_room R.limits g H
             → May (setting_of R.limits g) H (taken_by p) → Behind R.Resident g self.new (H ++ taken_by p ∷ []) }
     {
-        let mut buffer = buffer;
+        let mut buffer = self.buffer_for(hand);
         buffer.clear();
         let hand = mem::replace(&mut self.chain, buffer);
         self.in_hand = hand.len();
@@ -231,17 +258,15 @@ impl<R: Resident> Inner<R> {
     }
 
     /// Gives the perimeter back, with what is left of the hand before the chain.
-    pub(crate) fn leave(&mut self, resident: R, entries: Vec<Entry>, at: usize, act: SynchAct)
-        requires at { at ≤ vec_len entries }
-        requires room { length (drop at entries.items) + length self.old.chain.items ≤ vec_capacity entries }
+    pub(crate) fn leave(&mut self, resident: R, hand: Hand, act: SynchAct)
+        requires room { GoBack hand.room (length hand.left) (length self.old.chain.items) }
         requires range { ActBelow (vec_len self.old.here) act }
-        requires out { (self.old.resident ≡ None) × (self.old.spare ≡ None) }
-        ensures behind { (g : Given R) (H : List Element) (note : List Act) (p rest : ℕ) → Behind R.Resident g self.old H
-            → LiesAs g (vec_capacity entries) rest (drop at entries.items) (run (setting_of R.limits g) H).hand
-            → IsPeri R.Resident g resident (with_act act note (with_feeds (processed rest (run (setting_of R.limits g) H).hand) (peri (setting_of R.limits g) H)))
-            → May (setting_of R.limits g) H (left_by_pass p rest act note) → Behind R.Resident g self.new (H ++ left_by_pass p rest act note ∷ []) }
+        requires out { self.old.resident ≡ None }
+        ensures behind { (g : Given R) (H : List Element) (note : List Act) (p : ℕ) → Behind R.Resident g self.old H → IsLeft R.limits g H hand
+            → IsPeri R.Resident g resident (peri_left R.limits g H hand act note)
+            → May (setting_of R.limits g) H (left_by_pass p (length hand.left) act note) → Behind R.Resident g self.new (H ++ left_by_pass p (length hand.left) act note ∷ []) }
     {
-        self.give_back(resident, entries, at);
+        self.give_back(resident, hand);
         set_here(&mut self.here, act);
         self.wake = holds_some(&self.chain);
         self.own = Own::Free;
@@ -249,16 +274,14 @@ impl<R: Resident> Inner<R> {
     }
 
     /// Gives the perimeter to pass `j`, with what is left of the hand before the chain.
-    pub(crate) fn grant(&mut self, resident: R, entries: Vec<Entry>, at: usize, j: u32)
-        requires at { at ≤ vec_len entries }
-        requires room { length (drop at entries.items) + length self.old.chain.items ≤ vec_capacity entries }
-        requires out { (self.old.resident ≡ None) × (self.old.spare ≡ None) }
-        ensures behind { (g : Given R) (H : List Element) (p rest : ℕ) → Behind R.Resident g self.old H
-            → LiesAs g (vec_capacity entries) rest (drop at entries.items) (run (setting_of R.limits g) H).hand
-            → IsPeri R.Resident g resident (with_feeds (processed rest (run (setting_of R.limits g) H).hand) (peri (setting_of R.limits g) H))
-            → May (setting_of R.limits g) H (granted_by p j rest) → Behind R.Resident g self.new (H ++ granted_by p j rest ∷ []) }
+    pub(crate) fn grant(&mut self, resident: R, hand: Hand, j: u32)
+        requires room { GoBack hand.room (length hand.left) (length self.old.chain.items) }
+        requires out { self.old.resident ≡ None }
+        ensures behind { (g : Given R) (H : List Element) (p : ℕ) → Behind R.Resident g self.old H → IsLeft R.limits g H hand
+            → IsPeri R.Resident g resident (with_feeds (processed (length hand.left) (run (setting_of R.limits g) H).hand) (peri (setting_of R.limits g) H))
+            → May (setting_of R.limits g) H (granted_by p j (length hand.left)) → Behind R.Resident g self.new (H ++ granted_by p j (length hand.left) ∷ []) }
     {
-        self.give_back(resident, entries, at);
+        self.give_back(resident, hand);
         self.own = Own::Granted(j);
         self.poll();
     }

@@ -14,7 +14,7 @@ ghost use Rattle.squeue_state.specs.Clauses.{Marked, IsLeft, IsWhole, peri_left,
 ghost use Rattle.turn_gate.specs.Passes.{seen};
 
 use crate::event::Notes;
-use crate::hand::Hand;
+use crate::hand::{Hand, Taken};
 use crate::kind::Kind;
 use crate::release::end_turn;
 use crate::squeue::{Pass, Squeue};
@@ -23,7 +23,7 @@ use perimeter_core::{Entry, Resident, SynchAct};
 use std::marker::Brand;
 
 impl<R: Resident> Squeue<R> {
-    /// Takes what is queued, when the hand is used up.
+    /// Takes what is queued, when the hand is used up. At least one entry is queued. The new hand is all of it, in order.
     pub fn take(&self, turn: Turn<R>, hand: Hand) -> (Pass, Hand)
         requires squeue { turn.squeue ≡ self.now }
         requires hand { IsLeft R.limits self.now.given turn.found hand × (hand.left ≡ []) }
@@ -32,13 +32,17 @@ impl<R: Resident> Squeue<R> {
         ensures hand { IsWhole R.limits self.now.given (seen result.0) result.1 }
     {
         let Turn { mut held, of: _ } = turn;
-        let Hand { entries, at: _ } = hand;
-        let entries = held.value().inner.take(entries);
+        let entries = held.value().inner.take(hand);
         let pass = end_turn::<R, Brand>(&self.gate, held, Kind::Take, &[]);
-        (pass, Hand { entries, at: 0 })
+        let taken = Taken::Many(entries, 0);
+        (pass, Hand { taken })
     }
 
     /// Gives the perimeter back, with what is left of the hand, and reports the act. `N` names the note of an `In`.
+    ///
+    /// What is left stands before what was queued meanwhile. Where anything is queued then, a wake is recorded, and the
+    /// worker's bell rings. Of a hand that wasn't empty at least one entry is processed. Only an owner that accepted, or has
+    /// come to its own Ask, does an act.
     pub fn leave<N: Notes>(&self, turn: Turn<R>, resident: R, hand: Hand, act: SynchAct) -> Pass
         requires squeue { turn.squeue ≡ self.now }
         requires hand { IsLeft R.limits self.now.given turn.found hand }
@@ -47,9 +51,8 @@ impl<R: Resident> Squeue<R> {
         ensures { Marked turn (left_by_pass turn.number (length hand.left) act N.note) result }
     {
         let Turn { mut held, of: _ } = turn;
-        let Hand { entries, at } = hand;
-        let rest = (entries.len() - at) as u32;
-        held.value().inner.leave(resident, entries, at, act);
+        let rest = hand.len();
+        held.value().inner.leave(resident, hand, act);
         let wakes = held.get().inner.wake;
         let pass = end_turn::<R, N>(&self.gate, held, Kind::Leave { rest, act }, &[]);
         if wakes {
@@ -58,7 +61,8 @@ impl<R: Resident> Squeue<R> {
         pass
     }
 
-    /// Gives the perimeter to the pass whose Ask is the first entry of the hand, and the other entries back.
+    /// Gives the perimeter to the pass whose Ask is the first entry of the hand, and the other entries back, before what was
+    /// queued meanwhile. The resident lies in the gate for that pass alone, whose bell rings.
     pub fn grant(&self, turn: Turn<R>, resident: R, hand: Hand) -> Pass
         requires squeue { turn.squeue ≡ self.now }
         requires hand { IsLeft R.limits self.now.given turn.found hand }
@@ -68,18 +72,20 @@ impl<R: Resident> Squeue<R> {
         ensures { Marked turn (granted_by turn.number (asker hand.left) (length hand.left - 1)) result }
     {
         let Turn { mut held, of: _ } = turn;
-        let Hand { entries, at } = hand;
-        let Entry::Ask { p: j } = entries[at] else {
+        let mut hand = hand;
+        let Some(Entry::Ask { p: j }) = hand.first() else {
             unreachable!()
         };
-        let rest = (entries.len() - at - 1) as u32;
-        held.value().inner.grant(resident, entries, at + 1, j);
+        hand.pass_first();
+        let rest = hand.len();
+        held.value().inner.grant(resident, hand, j);
         let pass = end_turn::<R, Brand>(&self.gate, held, Kind::Grant { j, rest }, &[]);
         self.bells.of(j).ring();
         pass
     }
 
-    /// Takes the perimeter that was granted.
+    /// Takes the perimeter that was granted to the pass. The hand is empty, since all before its Ask is processed. The pass
+    /// may do one act, and its next mark is a Leave.
     pub fn accept(&self, turn: Turn<R>) -> (Pass, R, Hand)
         requires squeue { turn.squeue ≡ self.now }
         requires may { May (setting_of R.limits self.now.given) turn.found (accepted_by turn.number) }
@@ -95,10 +101,12 @@ impl<R: Resident> Squeue<R> {
         };
         let Some(entries) = spare else { unreachable!() };
         let pass = end_turn::<R, Brand>(&self.gate, held, Kind::Accept, &[]);
-        (pass, resident, Hand { entries, at: 0 })
+        let taken = Taken::Many(entries, 0);
+        (pass, resident, Hand { taken })
     }
 
-    /// Takes the perimeter and all that is queued, as the worker.
+    /// Takes the perimeter and all that is queued, as the worker (illumos' `squeue_worker`). It is the last pass, a wake is
+    /// recorded, and nobody has the perimeter.
     pub fn work(&self, turn: Turn<R>) -> (Pass, R, Hand)
         requires squeue { turn.squeue ≡ self.now }
         requires may { May (setting_of R.limits self.now.given) turn.found (worked_by turn.number) }
@@ -113,6 +121,7 @@ impl<R: Resident> Squeue<R> {
             unreachable!()
         };
         let pass = end_turn::<R, Brand>(&self.gate, held, Kind::Work, &[]);
-        (pass, resident, Hand { entries, at: 0 })
+        let taken = Taken::Many(entries, 0);
+        (pass, resident, Hand { taken })
     }
 }

@@ -28,10 +28,13 @@ use std::marker::Model;
 use std::sync::Wait;
 use turn_gate::Gate;
 
-/// A pass of a squeue. It must be spent.
+/// A pass of a squeue: the right to use it, under a number. Each call takes it by value and gives it back, so one thread at a
+/// time has it. It must be spent, by `Squeue::finish`. Contracts see its number, the beginning of the history that it has
+/// `seen`, its own elements in that, `mine`, and its `steps` on the lock word.
 pub type Pass = turn_gate::Pass<Event>;
 
-/// The gate of a squeue was held. It must be spent, for the pass is in it.
+/// The gate of a squeue was held when `try_turn` or `try_fill` looked. It must be spent, for the pass is in it, as it was but
+/// for the steps on the lock word.
 pub type Missed = turn_gate::Missed<Event>;
 
 /// A perimeter behind a gate. Threads share it by reference. Contracts see which gate it has, and what it was made with.
@@ -67,7 +70,10 @@ impl<R: Resident> Squeue<R> {
     /// ever need: two buffers for what may be queued, a flag for each connection and each pass, a bell for each pass, and with
     /// `trace` room for all marks that may come. The resident's blocks are as new. After an error the resident is dropped.
     ///
+    /// `number` names the squeue to hooks, reports and hints. The first `rings` passes are rings, and pass `c mod rings` alone
+    /// brings the feeds of connection `c`. The others are application threads'. `quotas` says how much each may ever enter.
     /// There are 1 to 63 quotas, so at most 64 passes. All quotas together have at most 2^30 feeds and 2^40 asks.
+    /// The only error is want of memory.
     pub fn make(
         alloc: Global,
         number: u32,
@@ -96,7 +102,8 @@ impl<R: Resident> Squeue<R> {
     /// is how many entries may be queued at once, those in an owner's hand among them. Behind them an Ask of each pass
     /// always fits. Memory is taken for the room alone, and no marks are kept.
     ///
-    /// There are 1 to 63 lives, of at most 2^58 feeds and 2^58 asks together, and 1 to 2^30 places.
+    /// There are 1 to 63 lives, of at most 2^58 feeds and 2^58 asks together, and 1 to 2^30 places. The only error is want of
+    /// memory.
     pub fn make_bounded(
         alloc: Global,
         number: u32,
@@ -181,14 +188,15 @@ impl<R: Resident> Squeue<R> {
         ))
     }
 
-    /// The squeue's number.
+    /// The number that the squeue was made with.
     pub fn number(&self) -> u32
         ensures { result ≡ self.now.given.number }
     {
         self.number
     }
 
-    /// Waits for the gate.
+    /// Waits for the gate, and takes it. The turn has found a history that goes on from what the pass had seen with elements
+    /// of others alone. No other thread gets the gate until the turn is spent.
     pub fn turn<W: Wait>(&self, rt: &W, pass: Pass) -> Turn<R>
         requires { IsPassOf number_of self.now.gate pass }
         ensures { Found R.limits self.now pass result }
@@ -212,7 +220,7 @@ impl<R: Resident> Squeue<R> {
         })
     }
 
-    /// Ends a turn without a mark.
+    /// Ends a turn without a mark: the squeue is as the turn found it, and the pass has seen what the turn found.
     pub fn plain(&self, turn: Turn<R>) -> Pass
         requires { turn.squeue ≡ self.now }
         ensures { Unmarked turn result }
@@ -233,7 +241,8 @@ impl<R: Resident> Squeue<R> {
         self.bells.of(pass.number()).sleep(rt);
     }
 
-    /// Closes the pass, which then enters, asks and closes no more.
+    /// Closes the pass, which then enters, asks and closes no more, in a turn of its own. The pass isn't the worker's, and is
+    /// neither owner nor waiting.
     pub fn close_pass<W: Wait>(&self, rt: &W, pass: Pass) -> Pass
         requires pass { IsPassOf number_of self.now.gate pass }
         requires other { number pass < length self.now.given.quotas }

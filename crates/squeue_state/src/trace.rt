@@ -36,7 +36,8 @@ pub enum TraceMark {
     Close { p: u32 },
 }
 
-/// Marks in the order in which they were made. Contracts see the marks, the entries that they name, and the room.
+/// Marks in the order in which they were made. Contracts see the marks, the entries that they name, and the room. A squeue
+/// made without `trace` gives an empty one.
 #[derive(Drop)]
 pub struct Trace {
     marks: Vec<TraceMark>,

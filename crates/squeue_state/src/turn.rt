@@ -32,21 +32,21 @@ impl<R: Resident> Model for Turn<R> {
 }
 
 impl<R: Resident> Turn<R> {
-    /// The number of the turn's pass.
+    /// The number of the turn's pass, counted from 0. The worker's is the last.
     pub fn number(&self) -> u32
         ensures { result ≡ self.now.number }
     {
         self.held.number()
     }
 
-    /// Who has the perimeter.
+    /// Who has the perimeter. This and all else that a turn tells stays so until the turn is spent.
     pub fn own(&self) -> Own
         ensures { result ≡ (run (setting_of R.limits self.now.squeue.given) self.now.found).own }
     {
         self.held.get().inner.own
     }
 
-    /// How many entries are queued.
+    /// How many entries are queued, feeds and Asks, without those in an owner's hand.
     pub fn chain_len(&self) -> u32
         ensures { result ≡ length (run (setting_of R.limits self.now.squeue.given) self.now.found).chain }
     {
@@ -64,21 +64,21 @@ impl<R: Resident> Turn<R> {
         taken <= room && feeds <= room - taken
     }
 
-    /// Whether the worker is to run.
+    /// Whether a wake is recorded: something is queued that the worker is to come for.
     pub fn wake(&self) -> bool
         ensures { result ≡ (run (setting_of R.limits self.now.squeue.given) self.now.found).wake }
     {
         self.held.get().inner.wake
     }
 
-    /// Whether rings are to bring chains.
+    /// Whether rings are to bring chains: from a backlog of 16 queued entries on, until nothing is queued.
     pub fn polling(&self) -> bool
         ensures { result ≡ (run (setting_of R.limits self.now.squeue.given) self.now.found).polling }
     {
         self.held.get().inner.polling
     }
 
-    /// Whether the connection's block is here.
+    /// Whether the block of connection `c` is at this squeue. Else it is at another, or on its way.
     pub fn is_here(&self, c: u32) -> bool
         requires { c < length self.now.squeue.given.starts }
         ensures { result ≡ is_here (run (setting_of R.limits self.now.squeue.given) self.now.found) c }

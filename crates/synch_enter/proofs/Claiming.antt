@@ -149,7 +149,7 @@ module _ {R P O : Type 0} (G : Ghosts R P O) (s : Named R) where
             own = is.owns.own;
             hand = record {
               is_left = subst (λ (xs : List Entry). xs ≡ unprocessed (length xs) (state_of G.limits s o).hand) (sym now) one.is_left;
-              has_room = subst (λ (k : ℕ). s.given.room ≡ k) (sym room) is.owns.hand.has_room;
+              has_room = room ∙ is.owns.hand.has_room;
             };
             resident = record {
               stands_for = subst (λ (blocks : Blocks). G.stands o.resident (with_act o.act [] blocks)) (sym same) is.owns.resident.stands_for;

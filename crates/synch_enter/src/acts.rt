@@ -21,11 +21,14 @@ use std::sync::Wait;
 /// Whether a call was made, or found its block elsewhere.
 #[derive(Clone, Copy, Debug, PartialEq, Eq)]
 pub enum Called {
+    /// The block was here, and the resident has made the call.
     Done,
+    /// The block wasn't here, and nothing was called.
     Elsewhere,
 }
 
-/// Makes call `k` of thread `j` on connection `c`, where its block is here.
+/// Makes call `k` of thread `j` on connection `c`, where its block is here. Pass `rings + j` is that thread's. It is the
+/// owner's one act, by whichever answer. `alloc` goes to the resident.
 ///
 /// # Example
 ///
@@ -50,7 +53,8 @@ pub fn call<R: Resident>(owner: &mut Owner<R>, alloc: Global, c: u32, j: u32, k:
     }
 }
 
-/// Takes the block of connection `c` out.
+/// Takes the block of connection `c` out, which is here. The pass is the connection's ring, and no feed of the connection
+/// is queued. It is the owner's one act.
 pub fn take_block<R: Resident>(owner: &mut Owner<R>, c: u32) -> R::Part
     requires { (s : Named R) × MayTake R.Resident s c owner.old }
     ensures pass { owner.new.pass ≡ owner.old.pass }
@@ -61,7 +65,7 @@ pub fn take_block<R: Resident>(owner: &mut Owner<R>, c: u32) -> R::Part
     owner.resident.take_out(c)
 }
 
-/// Puts the block of connection `c` in.
+/// Puts the block of connection `c` in, which isn't here. The pass is the connection's ring. It is the owner's one act.
 pub fn put_block<R: Resident>(owner: &mut Owner<R>, c: u32, part: R::Part)
     requires { (s : Named R) × MayPut R.Resident s c part owner.old }
     ensures pass { owner.new.pass ≡ owner.old.pass }
@@ -72,7 +76,8 @@ pub fn put_block<R: Resident>(owner: &mut Owner<R>, c: u32, part: R::Part)
     owner.resident.put_in(c, part);
 }
 
-/// Leaves with the act that was done, and with what is left of the hand. `N` names the note of an `In`.
+/// Leaves with the act that was done, and with what is left of the hand (illumos' `squeue_synch_exit`). `N` names the note of
+/// an `In`: what was done to the block before it came. Without one it is `Brand`.
 pub fn synch_exit<R: Resident, N: Notes, W: Wait>(sq: &Squeue<R>, rt: &W, owner: Owner<R>) -> Pass
     requires { StandsAtItsAsk R.Resident sq.now N.note owner }
     ensures left { Added R.limits sq.now owner.pass (left_by_pass (number owner.pass) (length owner.hand.left) owner.act N.note) result }

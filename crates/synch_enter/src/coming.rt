@@ -20,7 +20,10 @@ use squeue_state::{Pass, Squeue, Turn};
 use std::alloc::Global;
 use std::sync::Wait;
 
-/// Waits to be owner, and returns at the pass's own Ask.
+/// Waits to be owner, and returns at the pass's own Ask (illumos' `squeue_synch_enter`): all that was queued before the Ask is
+/// processed, and nothing behind it. Where nobody has the perimeter the caller processes that itself, each feed first by
+/// `hook` and then by the resident with `alloc`. The owner has done no act yet, and may do one. `pass` isn't the worker's, and
+/// has an ask left.
 ///
 /// # Example
 ///
@@ -45,7 +48,7 @@ pub fn synch_enter<R: Resident, H: Hook, W: Wait>(
 }
 
 /// The same, unless the first turn finds that the block of `c` isn't here. Then nothing is asked, and the pass
-/// comes back.
+/// comes back. `Err` comes for no other cause.
 pub fn synch_try<R: Resident, H: Hook, W: Wait>(
     sq: &Squeue<R>,
     rt: &W,

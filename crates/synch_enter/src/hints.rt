@@ -30,7 +30,7 @@ impl Hints {
         Ok(Hints { words, squeues })
     }
 
-    /// The hint of connection `c`.
+    /// The hint of connection `c`: the number of a squeue, and no more is claimed.
     pub fn get(&self, c: u32) -> u32
         requires { c < conns_of self.now }
         ensures { result < squeues_of self.now }

@@ -1,4 +1,5 @@
-use Rattle.std.proofs.Common.{◌≡◌, ◌++◌, ◌∷◌, [], ◌∙◌, List, ap, sym, subst, Some, length, arith}
+use Rattle.std.proofs.Common.{◌≡◌, ◌++◌, ◌∷◌, [], ◌∙◌, List, ap, sym, subst, Some, length, arith, ℕ, refl, vec_capacity}
+use Rattle.turn_gate.specs.Passes.{seen}
 use Rattle.perimeter_core.specs.History.{Element, run}
 use Rattle.perimeter_core.specs.Legal.{May}
 use Rattle.perimeter_core.specs.Deeds.{entries}
@@ -7,7 +8,7 @@ use Rattle.squeue_state.specs.Naming.{Turned, setting_of}
 use Rattle.squeue_state.specs.Behind.{Behind, IsPeri}
 use Rattle.squeue_state.specs.Clauses.{named_of}
 use Rattle.squeue_state.specs.Elements.{claimed_by}
-use Rattle.squeue_state.proofs.Turns.{lent, noted, ends, lies_free, hand_after, claimed_same}
+use Rattle.squeue_state.proofs.Turns.{lent, noted, ends, lies_free, hand_after, claimed_same, room_after}
 use Rattle.squeue_state.proofs.Bounds.{few_hand, fill_fits}
 use Rattle.squeue_state.proofs.squeue.Squeue.claim.Goals as goal
 
@@ -48,7 +49,7 @@ returns-clause-hand g c =
     let seen_is = c.end_turn-pass.ensures.seen ∙ ap (λ (u : Turned g.row.R.Denot). u.found ++ claimed_by u.number c.args.es.now ∷ []) c.turn.view_is in
     record {
       is_whole = hand_after S c.args.turn.found (claimed_by c.args.turn.number c.args.es.now) c.claim-resident.result.1.items (c.claim-resident.ensures.same.1 ∙ ap (λ xs. xs ++ entries c.args.es.now) b.chain) ∙ sym (ap (λ (H : List Element). (run S H).hand) seen_is);
-      has_room = omega (arith, c.claim-resident.ensures.room, b.room);
+      has_room = ap (λ (n : ℕ). Some n) (let full : vec_capacity c.claim-resident.result.1 ≡ c.args.self.now.given.room = omega (arith, c.claim-resident.ensures.room, b.room) in full) ∙ room_after c.args.self.now.given.room S c.args.turn.found (seen c.end_turn-pass.result) (claimed_by c.args.turn.number c.args.es.now) c.args.turn.number seen_is refl refl;
     }
 
 pub invariant_of-result : goal.invariant_of-result

@@ -1,29 +1,22 @@
-use Rattle.std.proofs.Common.{◌≡◌, ◌++◌, ◌∷◌, [], ◌∙◌, List, ap, sym, subst, Some, length, arith}
+use Rattle.std.proofs.Common.{◌≡◌, ◌++◌, ◌∷◌, [], ◌∙◌, List, ap, sym, subst, refl, Some}
+use Rattle.turn_gate.specs.Passes.{seen}
+use Rattle.perimeter_core.specs.declared.entries.Entry.TheVariants as Entry'
 use Rattle.perimeter_core.specs.History.{Element, run}
 use Rattle.perimeter_core.specs.Legal.{May}
 use Rattle.perimeter_core.specs.Blocks.{Blocks, peri}
 use Rattle.squeue_state.specs.Naming.{Turned, setting_of}
-use Rattle.squeue_state.specs.Behind.{Behind, IsPeri, room_of}
+use Rattle.squeue_state.specs.Behind.{Behind, IsPeri}
 use Rattle.squeue_state.specs.Clauses.{named_of}
 use Rattle.squeue_state.specs.Elements.{fast_by}
-use Rattle.squeue_state.proofs.Turns.{lent, noted, ends, lies_free, hand_after, fasted_same}
-use Rattle.squeue_state.proofs.Bounds.{few_hand}
-use Rattle.squeue_state.proofs.Steps.{empty_free}
+use Rattle.squeue_state.proofs.Turns.{lent, noted, ends, lies_free, hand_after, fasted_same, room_after}
 use Rattle.squeue_state.proofs.squeue.Squeue.fast.Goals as goal
-
-pub fast-resident-requires : goal.fast-resident-requires
-fast-resident-requires g c =
-    let b = lent g.R.Resident c.turn.inside.of.value c.turn.inside.held c.args.turn c.args.self.now c.turn.invariant c.turn.view_is c.requires.squeue c.value.result.now c.value.ensures.value in
-    let S = setting_of g.R.Resident.limits c.args.self.now.given in
-    let n = (c.number-p.ensures ∙ ap (λ (u : Turned g.row.R.Denot). u.number) c.turn.view_is) in
-    (c.args.self.now.given.room, omega (arith, c.requires.room), empty_free c.args.self.now.given.room c.value.result.now.inner.own c.value.result.now.inner.spare b.spare (b.own ∙ c.requires.may.step.0))
 
 pub end_turn-pass-requires-clause-value : goal.end_turn-pass-requires-clause-value
 end_turn-pass-requires-clause-value g c =
     let b = lent g.R.Resident c.turn.inside.of.value c.turn.inside.held c.args.turn c.args.self.now c.turn.invariant c.turn.view_is c.requires.squeue c.value.result.now c.value.ensures.value in
     let S = setting_of g.R.Resident.limits c.args.self.now.given in
     let n = (c.number-p.ensures ∙ ap (λ (u : Turned g.row.R.Denot). u.number) c.turn.view_is) in
-    ends g.R.Resident c.turn.inside.held c.args.turn c.turn.inside.of.value c.args.self.now (named_of c.self.inside.gate) c.turn.view_is c.self.view_is c.fast-resident.new.self (λ k. fast_by k c.args.e) (subst (λ k. Behind g.R.Resident c.args.self.now.given c.fast-resident.new.self (c.args.turn.found ++ fast_by k c.args.e ∷ [])) n (c.fast-resident.ensures.behind c.args.self.now.given c.args.turn.found b (subst (λ k. May S c.args.turn.found (fast_by k c.args.e)) (sym n) c.requires.may) c.requires.room))
+    ends g.R.Resident c.turn.inside.held c.args.turn c.turn.inside.of.value c.args.self.now (named_of c.self.inside.gate) c.turn.view_is c.self.view_is c.fast-resident.new.self (λ k. fast_by k c.args.e) (subst (λ k. Behind g.R.Resident c.args.self.now.given c.fast-resident.new.self (c.args.turn.found ++ fast_by k c.args.e ∷ [])) n (c.fast-resident.ensures.behind c.args.self.now.given c.args.turn.found c.args.e b (subst (λ k. May S c.args.turn.found (fast_by k c.args.e)) (sym n) c.requires.may) c.requires.room))
 
 pub end_turn-pass-requires-clause-noted : goal.end_turn-pass-requires-clause-noted
 end_turn-pass-requires-clause-noted g c =
@@ -34,7 +27,7 @@ returns-clause-resident g c =
     let b = lent g.R.Resident c.turn.inside.of.value c.turn.inside.held c.args.turn c.args.self.now c.turn.invariant c.turn.view_is c.requires.squeue c.value.result.now c.value.ensures.value in
     let S = setting_of g.R.Resident.limits c.args.self.now.given in
     let n = (c.number-p.ensures ∙ ap (λ (u : Turned g.row.R.Denot). u.number) c.turn.view_is) in
-    let there : c.value.result.now.inner.resident ≡ Some c.in-Some.resident = sym c.fast-resident.ensures.same.0 ∙ c.in-Some.is in
+    let there : c.value.result.now.inner.resident ≡ Some c.in-Some.resident = sym c.fast-resident.ensures.same ∙ c.in-Some.is in
     let seen_is = c.end_turn-pass.ensures.seen ∙ ap (λ (u : Turned g.row.R.Denot). u.found ++ fast_by u.number c.args.e ∷ []) c.turn.view_is in
     subst (λ (x : Blocks). IsPeri g.R.Resident c.args.self.now.given c.in-Some.resident x)
     (sym (ap (λ (H : List Element). peri S H) seen_is ∙ fasted_same S c.args.turn.found c.args.turn.number c.args.e c.requires.may))
@@ -47,15 +40,6 @@ returns-clause-hand g c =
     let n = (c.number-p.ensures ∙ ap (λ (u : Turned g.row.R.Denot). u.number) c.turn.view_is) in
     let seen_is = c.end_turn-pass.ensures.seen ∙ ap (λ (u : Turned g.row.R.Denot). u.found ++ fast_by u.number c.args.e ∷ []) c.turn.view_is in
     record {
-      is_whole = hand_after S c.args.turn.found (fast_by c.args.turn.number c.args.e) c.fast-resident.result.1.items c.fast-resident.ensures.same.1 ∙ sym (ap (λ (H : List Element). (run S H).hand) seen_is);
-      has_room = c.fast-resident.ensures.room c.args.self.now.given.room (empty_free c.args.self.now.given.room c.value.result.now.inner.own c.value.result.now.inner.spare b.spare (b.own ∙ c.requires.may.step.0));
+      is_whole = hand_after S c.args.turn.found (fast_by c.args.turn.number c.args.e) (Entry'.Feed c.args.e.c c.args.e.n ∷ []) refl ∙ sym (ap (λ (H : List Element). (run S H).hand) seen_is);
+      has_room = room_after c.args.self.now.given.room S c.args.turn.found (seen c.end_turn-pass.result) (fast_by c.args.turn.number c.args.e) c.args.turn.number seen_is refl refl;
     }
-
-pub invariant_of-result : goal.invariant_of-result
-invariant_of-result g c =
-    let b = lent g.R.Resident c.turn.inside.of.value c.turn.inside.held c.args.turn c.args.self.now c.turn.invariant c.turn.view_is c.requires.squeue c.value.result.now c.value.ensures.value in
-    let S = setting_of g.R.Resident.limits c.args.self.now.given in
-    let n = (c.number-p.ensures ∙ ap (λ (u : Turned g.row.R.Denot). u.number) c.turn.view_is) in
-    let after = (subst (λ k. Behind g.R.Resident c.args.self.now.given c.fast-resident.new.self (c.args.turn.found ++ fast_by k c.args.e ∷ [])) n (c.fast-resident.ensures.behind c.args.self.now.given c.args.turn.found b (subst (λ k. May S c.args.turn.found (fast_by k c.args.e)) (sym n) c.requires.may) c.requires.room)) in
-    let whole = hand_after S c.args.turn.found (fast_by c.args.turn.number c.args.e) c.fast-resident.result.1.items c.fast-resident.ensures.same.1 in
-    (omega arith, omega (arith, c.fast-resident.result.1.ok.0, ap length whole, few_hand g.R.Resident c.args.self.now.given c.fast-resident.new.self (c.args.turn.found ++ fast_by c.args.turn.number c.args.e ∷ []) after))

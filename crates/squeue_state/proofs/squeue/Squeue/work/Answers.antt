@@ -1,4 +1,5 @@
-use Rattle.std.proofs.Common.{◌≡◌, ◌++◌, ◌∷◌, [], ◌∙◌, List, ap, sym, subst, Some, vec_capacity, length, arith}
+use Rattle.std.proofs.Common.{◌≡◌, ◌++◌, ◌∷◌, [], ◌∙◌, List, ap, sym, subst, Some, vec_capacity, length, arith, ℕ, refl}
+use Rattle.turn_gate.specs.Passes.{seen}
 use Rattle.perimeter_core.specs.History.{Element, start, run}
 use Rattle.perimeter_core.specs.Legal.{May}
 use Rattle.perimeter_core.specs.Blocks.{Blocks, peri}
@@ -8,7 +9,7 @@ use Rattle.squeue_state.specs.Behind.{Behind, IsPeri, room_of}
 use Rattle.squeue_state.specs.Clauses.{named_of}
 use Rattle.squeue_state.specs.Elements.{worked_by}
 use Rattle.squeue_state.proofs.squeue.Squeue.work.Goals as goal
-use Rattle.squeue_state.proofs.Turns.{lent, noted, ends, lies_free, worked_same, hand_after}
+use Rattle.squeue_state.proofs.Turns.{lent, noted, ends, lies_free, worked_same, hand_after, room_after}
 use Rattle.squeue_state.proofs.Bounds.{few_hand}
 
 pub end_turn-pass-requires-clause-value : goal.end_turn-pass-requires-clause-value
@@ -37,7 +38,7 @@ returns-clause-hand g c =
     let chain = c.work-resident.ensures.same.1 in
     record {
       is_whole = ap (λ v. v.items) chain ∙ (b.chain ∙ sym (ap (λ (H : List Element). (run S H).hand) seen_is ∙ ap (λ s. s.hand) (run_push (start S) c.args.turn.found (worked_by c.args.turn.number))));
-      has_room = subst (λ k. c.args.self.now.given.room ≡ k) (sym (ap (λ v. vec_capacity v) chain)) b.room;
+      has_room = ap (λ (n : ℕ). Some n) (sym (subst (λ k. c.args.self.now.given.room ≡ k) (sym (ap (λ v. vec_capacity v) chain)) b.room)) ∙ room_after c.args.self.now.given.room S c.args.turn.found (seen c.end_turn-pass.result) (worked_by c.args.turn.number) c.args.turn.number seen_is refl refl;
     }
 
 pub end_turn-pass-requires-clause-noted : goal.end_turn-pass-requires-clause-noted
