@@ -4,6 +4,7 @@ use Rattle.std.proofs.lemmas.Option.{slice_get_within}
 use Rattle.turn_gate.specs.History.{only}
 use Rattle.turn_gate.specs.Passes.{IsPassOf, mine, number, seen}
 use Rattle.turn_gate.specs.declared.pass.Pass.{Pass}
+use Rattle.perimeter_core.specs.declared.marks.Mark.{Mark}
 use Rattle.perimeter_core.specs.Perimeter.{is_here}
 use Rattle.perimeter_core.specs.History.{Element, Limits, Setting, made_by, run}
 use Rattle.perimeter_core.specs.Deeds.{due, fed}
@@ -22,6 +23,8 @@ use Rattle.squeue_rings.specs.Made.{times_made}
 use Rattle.squeue_rings.specs.Noted.{AreNoted}
 use Rattle.squeue_rings.specs.Seen.{seen_ends, seen_in}
 use Rattle.squeue_rings.proofs.CallMarks.{calls_kept}
+use Rattle.squeue_rings.specs.OwnMarks.{EachOwn}
+use Rattle.squeue_rings.proofs.OwnMarks.{own_on}
 use Rattle.squeue_rings.proofs.Pacing.{keeps_on}
 
 -- a pass that has seen a beginning of a legal history, and made what there carries its number
@@ -55,6 +58,11 @@ module _ {R : Type 0} (limits : R → Limits) (s : Named R) (x : Pass Element) (
   end_paced squeues spread mode budget q r is_number keeps =
       subst (λ (K : List Element). KeepsPace squeues spread mode budget q S r K) (sym knows.0.1)
       (keeps_on squeues spread mode budget q S r (seen x) knows.0.0 keeps (subst (λ (r : ℕ). made_by r knows.0.0 ≡ []) is_number others))
+
+  -- and what was so of each of its marks
+  pub end_exact : (P : List Element → Mark → Type 0) (n : ℕ) → number x ≡ n → EachOwn P n [] (seen x) → EachOwn P n [] H
+  end_exact P n is_number exact =
+      subst (λ (K : List Element). EachOwn P n [] K) (sym knows.0.1) (own_on P n (seen x) knows.0.0 exact (subst (λ (r : ℕ). made_by r knows.0.0 ≡ []) is_number others))
 
 -- the ends that passes have seen
 pub seen_count : {R : Type 0} (limits : R → Limits) (ss : List (Named R)) (os : List (Option (Pass Element))) → length os ≡ length ss → length (seen_ends limits ss os) ≡ length ss

@@ -23,10 +23,12 @@ use Rattle.squeue_rings.specs.Calling.{CallerAt, CallersAt}
 use Rattle.squeue_rings.specs.Made.{made_in, times_made}
 use Rattle.squeue_rings.specs.Rings.{RingAt}
 use Rattle.squeue_rings.specs.Seen.{seen_ends, seen_in}
+use Rattle.squeue_rings.specs.OwnMarks.{EachOwn, OfThread}
 use Rattle.squeue_rings.proofs.CallMarks.{made_more}
+use Rattle.squeue_rings.proofs.OwnMarks.{own_join}
 use Rattle.squeue_rings.proofs.Slots.{at_got, at_length}
-use Rattle.ring_jobs.specs.Ends.{CallerEnds, CallersEnd, RingEnds, RingsEnd}
-use Rattle.ring_jobs.proofs.AtTheEnd.{end_due, end_here, end_made, end_stays, linked_same, noted_same, seen_count, seen_got}
+use Rattle.ring_jobs.specs.Ends.{CallerEnds, CallersEnd, CallersKeep, RingEnds, RingsEnd}
+use Rattle.ring_jobs.proofs.AtTheEnd.{end_due, end_exact, end_here, end_made, end_stays, linked_same, noted_same, seen_count, seen_got}
 
 module _ {R : Type 0} (limits : R → Limits) (s : Named R) (y x : Pass Element) (is : IsPassOf number_of s.gate y) (closes : HasClosed limits s y x) where
   abbrev S : Setting
@@ -62,6 +64,11 @@ module _ {R : Type 0} (limits : R → Limits) (s : Named R) (y x : Pass Element)
   closed_made c j k thread =
       let e = end_made limits s y closes.found is closes.legal knows c j k thread in
       ap (times_made c j k) closes.now_seen ∙ (made_more c j k closes.found (closed_by (number y) ∷ []) ∙ omega (arith, e))
+
+  pub closed_exact : (j : ℕ) → number y ≡ s.given.rings + j → EachOwn (OfThread S j) (s.given.rings + j) [] (seen y) → EachOwn (OfThread S j) (s.given.rings + j) [] (seen x)
+  closed_exact j thread exact =
+      subst (λ (K : List Element). EachOwn (OfThread S j) (s.given.rings + j) [] K) (sym closes.now_seen)
+      (own_join (OfThread S j) (s.given.rings + j) [] closes.found (closed_by (number y) ∷ []) (end_exact limits s y closes.found is closes.legal knows (OfThread S j) (s.given.rings + j) thread exact) (λ _. tt, tt))
 
 at_became : {R A : Type 0} (P Q : Named R → A → Type 0) (C : Named R → A → A → Type 0) → ((s : Named R) (o n : A) → P s o → C s o n → Q s n) → (ss : List (Named R)) (os ns : List A) → AtEach P ss os → AtEachTwo C ss os ns → AtEach Q ss ns
 at_became P Q C f [] [] [] h k = tt
@@ -160,3 +167,13 @@ module _ {R : Type 0} (limits : R → Limits) (ss : List (Named R)) (ys xs : Lis
           each = at_became (λ s o. Holds (CallerAt limits s j conns) o) (λ s o. Holds (CallerEnds j s) o) (λ s o n. Became (HasClosed limits s) o n) caller ss ys xs at.each closed;
           made = λ c k. same_made c k ss ys xs at.each closed ∙ at.made c k;
         }
+
+    keeps : (s : Named R) (o n : Option (Pass Element)) → Holds (CallerAt limits s j conns) o → Became (HasClosed limits s) o n → Holds (λ x. EachOwn (OfThread (setting_of limits s.given) j) (s.given.rings + j) [] (seen x)) n
+    keeps s None n h k = absurd h
+    keeps s (Some y) None h k = absurd k
+    keeps s (Some y) (Some x) h k = closed_exact limits s y x h.pass k j h.is_number h.exact
+
+    pub callers_keep : CallersKeep limits j ss xs
+    callers_keep =
+        at_became (λ s o. Holds (CallerAt limits s j conns) o) (λ s o. Holds (λ x. EachOwn (OfThread (setting_of limits s.given) j) (s.given.rings + j) [] (seen x)) o) (λ s o n. Became (HasClosed limits s) o n) keeps ss ys xs
+        at.each closed

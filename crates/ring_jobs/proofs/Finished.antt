@@ -1,5 +1,5 @@
 -- What is known when all jobs are done.
-use Rattle.std.proofs.Common.{◌≡◌, ℕ, ◌+◌, ◌-◌, ◌<◌, Option, Some, None, List, [], ◌∷◌, inl, inr, length, slice_get, slice_index_or, ap, sym, ◌∙◌, subst, arith}
+use Rattle.std.proofs.Common.{◌≡◌, ℕ, ◌+◌, ◌-◌, ◌<◌, Option, Some, None, List, [], ◌∷◌, ◌++◌, inl, inr, length, slice_get, slice_index_or, ap, sym, ◌∙◌, subst, arith}
 use Rattle.std.proofs.lemmas.Bool.{cases_lt}
 use Rattle.std.proofs.lemmas.Option.{slice_get_within}
 use Rattle.turn_gate.specs.History.{Each}
@@ -15,16 +15,18 @@ use Rattle.squeue_serve.specs.Places.{AtEach, Holds, IsNew, MayEnd}
 use Rattle.squeue_serve.proofs.Lent.{lent_got, past_jobs, some_at}
 use Rattle.squeue_enter.specs.declared.Mode.{Mode}
 use Rattle.squeue_rings.specs.Keeping.{ArePaced}
+use Rattle.squeue_rings.specs.OwnMarks.{EachOwn, OfWorker}
+use Rattle.squeue_rings.proofs.OwnMarks.{worker_own}
 use Rattle.squeue_rings.proofs.PacedAll.{closed_paced}
 use Rattle.squeue_rings.proofs.Slots.{got_map}
 use Rattle.ring_jobs.specs.declared.lines.Line.{Line}
 use Rattle.ring_jobs.specs.declared.task.Task.{Task}
 use Rattle.ring_jobs.specs.declared.task.Task.TheVariants as Task'
-use Rattle.ring_jobs.specs.Ends.{CallerEnds, CallersEnd, RingEnds, RingsEnd}
+use Rattle.ring_jobs.specs.Ends.{CallerEnds, CallersEnd, CallersKeep, RingEnds, RingsEnd, WorkerEnds}
 use Rattle.ring_jobs.specs.Running.{HasBroughtLine, HasDone, HaveDone, ThenClosed, called_by}
 use Rattle.ring_jobs.specs.Tasks.{AreTasks, lists_of}
 use Rattle.ring_jobs.proofs.Closes.{both}
-use Rattle.ring_jobs.proofs.Closing.{callers_end, rings_end}
+use Rattle.ring_jobs.proofs.Closing.{callers_end, callers_keep, rings_end}
 use Rattle.ring_jobs.proofs.Ready.{how_many, ring_task, worker_task}
 use Rattle.ring_jobs.proofs.Works.{got_or}
 
@@ -86,6 +88,13 @@ module _ {R : Type 0} (limits : R → Limits) where
           let h = done (1 + (rings + j)) (Task'.Call j) (omega (arith, lt, n, all)) (tasks.callers_are j lt) in
           callers_end limits ss h.0 (lent_to new (1 + (rings + j))) h.2 j (called_by calls j) h.1
 
+      -- and left only with these, or where a block was gone
+      pub caller_kept : (j : ℕ) → j < callers → CallersKeep limits j ss (lent_to new (1 + (rings + j)))
+      caller_kept j lt =
+          let n = number_of_jobs in
+          let h = done (1 + (rings + j)) (Task'.Call j) (omega (arith, lt, n, all)) (tasks.callers_are j lt) in
+          callers_keep limits ss h.0 (lent_to new (1 + (rings + j))) h.2 j (called_by calls j) h.1
+
       worker_done : (q : ℕ) (s : Named R) → slice_get ss q ≡ Some s → (x : Pass Element) × (lent_to new (1 + count + q) ≡ Some x ∷ []) × MayEnd limits count s x
       worker_done q s at =
           let n = number_of_jobs in
@@ -102,6 +111,33 @@ module _ {R : Type 0} (limits : R → Limits) where
               pass = subst (λ (s : Named R). IsPassOf number_of s.gate h.2) it h.6.0.goes_on.is_pass;
               is_number = h.6.0.goes_on.same_number ∙ (ap number from ∙ first.2.is_number);
               over = λ w. subst (λ (s : Named R). HasEnd s h.2) it h.6.1;
+            },
+          )
+
+      -- and left nothing wherever it left
+      pub worker_left : (q : ℕ) (s : Named R) → slice_get ss q ≡ Some s → (x : Pass Element) × (lent_to new (1 + count + q) ≡ Some x ∷ []) × WorkerEnds limits count s x
+      worker_left q s at =
+          let n = number_of_jobs in
+          let lt : q < squeues = (let w = slice_get_within ss q s at in omega (arith, w, many)) in
+          let h = done (1 + count + q) (Task'.Work q) (omega (arith, lt, n)) (worker_task rings callers count squeues all lines jobs tasks q lt) in
+          let first = lent.workers q s at in
+          let i : Some h.0 ≡ Some s = sym h.3 ∙ at in
+          let it : h.0 ≡ s = cc i in
+          let j : Some h.1 ∷ [] ≡ Some first.0 ∷ [] = sym h.4 ∙ first.1 in
+          let from : h.1 ≡ first.0 = cc j in
+          let its_number : number h.1 ≡ count = ap number from ∙ first.2.is_number in
+          let none_seen : seen h.1 ≡ [] = ap seen from ∙ first.2.none_seen in
+          let all_seen : seen h.2 ≡ h.6.0.since = h.6.0.now_seen ∙ ap (λ l. l ++ h.6.0.since) none_seen in
+          let own : EachOwn (OfWorker (setting_of limits h.0.given)) (number h.1) (seen h.1) h.6.0.since = worker_own (setting_of limits h.0.given) (number h.1) (seen h.1) h.6.0.since h.6.0.leaves in (
+            h.2,
+            h.5,
+            record {
+              pass = subst (λ (s : Named R). IsPassOf number_of s.gate h.2) it h.6.0.goes_on.is_pass;
+              is_number = h.6.0.goes_on.same_number ∙ its_number;
+              exact = subst (λ (s : Named R). EachOwn (OfWorker (setting_of limits s.given)) count [] (seen h.2)) it
+                  (subst (λ (K : List Element). EachOwn (OfWorker (setting_of limits h.0.given)) count [] K) (sym all_seen)
+                  (subst (λ (past : List Element). EachOwn (OfWorker (setting_of limits h.0.given)) count past h.6.0.since) none_seen
+                  (subst (λ (p : ℕ). EachOwn (OfWorker (setting_of limits h.0.given)) p (seen h.1) h.6.0.since) its_number own)));
             },
           )
 

@@ -1,5 +1,5 @@
 -- What rings and application threads know by their passes when they are done.
-use Rattle.std.specs.Prelude.{◌≡◌, ℕ, ◌+◌, ◌%◌, ◌<◌, ◌==◌, Option, List, length}
+use Rattle.std.specs.Prelude.{◌≡◌, ℕ, ◌+◌, ◌%◌, ◌<◌, ◌==◌, Option, List, [], length}
 use Rattle.turn_gate.specs.History.{Each}
 use Rattle.turn_gate.specs.Passes.{IsPassOf, number, seen}
 use Rattle.turn_gate.specs.declared.pass.Pass.{Pass}
@@ -15,6 +15,7 @@ use Rattle.squeue_rings.specs.Noted.{AreNoted}
 use Rattle.squeue_rings.specs.Runs.{brought, place}
 use Rattle.squeue_rings.specs.Seen.{seen_ends}
 use Rattle.squeue_rings.specs.Made.{made_in, once_on}
+use Rattle.squeue_rings.specs.OwnMarks.{EachOwn, OfThread, OfWorker}
 
 module _ {R : Type 0} (limits : R → Limits) where
   -- A ring's pass knows that each of the ring's connections is here exactly where its last feed of the list is at home, and that all
@@ -41,3 +42,14 @@ pub record CallerEnds {R : Type 0} (j : ℕ) (s : Named R) (x : Pass Element) : 
 pub record CallersEnd {R : Type 0} (j : ℕ) (conns : List ℕ) (ss : List (Named R)) (places : List (Option (Pass Element))) : Type 0 where
   pub each : AtEach (λ s o. Holds (CallerEnds j s) o) ss places
   pub made : (c k : ℕ) → made_in c j k places ≡ once_on conns c k
+
+module _ {R : Type 0} (limits : R → Limits) where
+  -- by what each of its passes has seen, the thread left only with its calls, one behind the other, or where a block was gone
+  abbrev pub CallersKeep : ℕ → List (Named R) → List (Option (Pass Element)) → Type 0
+  CallersKeep j ss places = AtEach (λ s o. Holds (λ x. EachOwn (OfThread (setting_of limits s.given) j) (s.given.rings + j) [] (seen x)) o) ss places
+
+  -- the worker's pass, of number n, has worked: wherever it left, it left nothing
+  pub record WorkerEnds (n : ℕ) (s : Named R) (x : Pass Element) : Type 0 where
+    pub pass : IsPassOf number_of s.gate x
+    pub is_number : number x ≡ n
+    pub exact : EachOwn (OfWorker (setting_of limits s.given)) n [] (seen x)

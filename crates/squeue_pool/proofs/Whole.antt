@@ -29,7 +29,8 @@ use Rattle.placed_parts.specs.Homes.{home}
 use Rattle.squeue_serve.specs.Places.{Holds}
 use Rattle.squeue_serve.proofs.Coming.{each_got}
 use Rattle.squeue_serve.proofs.Lent.{some_at}
-use Rattle.squeue_rings.specs.Keeping.{IsPaced, KeepsPace}
+use Rattle.squeue_rings.specs.Keeping.{IsPaced, KeepsPace, OfRing}
+use Rattle.squeue_rings.specs.OwnMarks.{EachOwn, OfThread, OfWorker}
 use Rattle.squeue_rings.specs.Made.{made_in, once_on, times_made}
 use Rattle.squeue_rings.specs.Noted.{AreNoted}
 use Rattle.squeue_rings.specs.Runs.{brought, place}
@@ -41,10 +42,11 @@ use Rattle.ring_jobs.specs.Ends.{CallerEnds, RingEnds}
 use Rattle.ring_jobs.specs.Running.{called_by}
 use Rattle.ring_jobs.specs.Tasks.{lists_of}
 use Rattle.ring_jobs.proofs.Works.{got_or}
-use Rattle.ring_jobs.proofs.AtTheEnd.{end_due, end_here, end_made, end_paced, end_stays, linked_same, noted_same, seen_count, seen_got}
+use Rattle.ring_jobs.proofs.AtTheEnd.{end_due, end_exact, end_here, end_made, end_paced, end_stays, linked_same, noted_same, seen_count, seen_got}
 use Rattle.squeue_pool.specs.declared.pool.Pool.{Pool}
 use Rattle.squeue_pool.specs.declared.work.Left.{Left}
 use Rattle.squeue_pool.specs.Gathering.{HaveLeft, Leaves}
+use Rattle.squeue_pool.specs.Keeping.{PassesKeep}
 use Rattle.squeue_pool.specs.Running.{AllDone}
 use Rattle.squeue_pool.specs.Runs.{HasRun, IsHereOnce, IsLeft, ends_of, list_for, made_in_all}
 use Rattle.squeue_pool.specs.Works.{AreFor, IsFor, Suits, WorkOf, setting_at}
@@ -270,6 +272,12 @@ module _ {R P O : Type 0} (G : Ghosts R P O) (pool : Pool) (w : WorkOf R) (suits
         (subst (λ (g : Ending). AreSameStays (stays (setting_of G.limits (AtEnd.s a).given) (seen x.0) c) (stays g.setting g.history c)) (AtEnd.same a)
         (stays_same q (AtEnd.s a) (AtEnd.v a) (AtEnd.is a) (AtEnd.is_for a) (AtEnd.left a)))
 
+  quotas_count : (q : ℕ) (s : Named R) → Is q s → slice_get ss q ≡ Some s → worker (setting_of G.limits s.given) ≡ rings + length w.calls
+  quotas_count q s is at =
+      let a = some_at w.quotas q (let n = slice_get_within ss q s at in omega (arith, n, set.count, suits.squeues.quotas_are)) in
+      let passes = (suits.squeues.each q s.given.first a.0 is.first a.1).passes in
+      ap worker is.setting ∙ (ap length (got_or w.quotas q a.0 [] a.1) ∙ passes)
+
   -- how often a call was made in all histories
   module _ (c j k : ℕ) where
     seen_as_made : j < length w.calls → made_in_all c j k es ≡ made_in c j k (lent (1 + (rings + j)))
@@ -283,12 +291,6 @@ module _ {R P O : Type 0} (G : Ghosts R P O) (pool : Pool) (w : WorkOf R) (suits
             let ends = at_got (λ s o. Holds (CallerEnds j s) o) ss (lent (1 + (rings + j))) q (AtEnd.s a) (Some x.0) (ran.callers_end j lt).each (AtEnd.is a) x.1 in
             ap (λ (e : Ending). times_made c j k e.history) (sym (AtEnd.same a))
             ∙ (end_made G.limits (AtEnd.s a) x.0 (AtEnd.v a).end.history ends.pass (legal_of q (AtEnd.s a) (AtEnd.v a) (AtEnd.left a)) x.2 c j k ends.is_number ∙ ap (λ (o : Option (Pass Element)). times_made c j k (seen_in o)) (sym same))
-
-    quotas_count : (q : ℕ) (s : Named R) → Is q s → slice_get ss q ≡ Some s → worker (setting_of G.limits s.given) ≡ rings + length w.calls
-    quotas_count q s is at =
-        let a = some_at w.quotas q (let n = slice_get_within ss q s at in omega (arith, n, set.count, suits.squeues.quotas_are)) in
-        let passes = (suits.squeues.each q s.given.first a.0 is.first a.1).passes in
-        ap worker is.setting ∙ (ap length (got_or w.quotas q a.0 [] a.1) ∙ passes)
 
     made_once : made_in_all c j k es ≡ once_on (called_by w.calls j) c k
     made_once = elim (cases_lt j (length w.calls)) [
@@ -364,6 +366,63 @@ module _ {R P O : Type 0} (G : Ghosts R P O) (pool : Pool) (w : WorkOf R) (suits
           trace = subst (λ (b : Bool). marks_of v.trace ≡ (if b then map (λ m. m.mark) v.end.history else [])) its.traced left.trace;
         }
 
+  -- each mark of all passes is the one for what its turn found
+  module _ (q : ℕ) (e : Ending) (there : slice_get es q ≡ Some e) where
+    abbrev its_end : AtEnd q e
+    its_end = at_end q e there
+
+    abbrev its_squeue : Named R
+    its_squeue = AtEnd.s its_end
+
+    abbrev its_setting : Setting
+    its_setting = setting_of G.limits its_squeue.given
+
+    abbrev its_left : Left R
+    its_left = AtEnd.v its_end
+
+    legal_there : Legal its_setting its_left.end.history
+    legal_there = legal_of q its_squeue its_left (AtEnd.left its_end)
+
+    rings_there : its_setting.rings ≡ rings
+    rings_there = its_rings G pool w suits ss set q its_squeue (AtEnd.is_for its_end)
+
+    passes_there : worker its_setting ≡ rings + length w.calls
+    passes_there = quotas_count q its_squeue (AtEnd.is_for its_end) (AtEnd.is its_end)
+
+    ring_keeps : (r : ℕ) → r < rings → EachOwn (OfRing pool.pace.mode its_setting r) r [] its_left.end.history
+    ring_keeps r lt =
+        let x = (AtEnd.left its_end).knows r (omega (arith, lt)) in
+        let known = at_got (λ s o. Holds (RingEnds G.limits squeues spread r (lists_of lines r) s) o) ss (lent (1 + r)) q its_squeue (Some x.0) (ran.rings_end r lt).each (AtEnd.is its_end) x.1 in
+        let paced = at_got (λ s o. Holds (λ x. IsPaced squeues spread pool.pace.mode pool.pace.budget s.given.number (setting_of G.limits s.given) r (seen x)) o) ss (lent (1 + r)) q its_squeue (Some x.0) (ran.paced r lt) (AtEnd.is its_end) x.1 in
+        end_exact G.limits its_squeue x.0 its_left.end.history known.pass legal_there x.2 (OfRing pool.pace.mode its_setting r) r known.is_number paced.exact
+
+    thread_keeps : (j : ℕ) → j < length w.calls → EachOwn (OfThread its_setting j) (its_setting.rings + j) [] its_left.end.history
+    thread_keeps j lt =
+        let x = (AtEnd.left its_end).knows (rings + j) (omega (arith, lt)) in
+        let known = at_got (λ s o. Holds (CallerEnds j s) o) ss (lent (1 + (rings + j))) q its_squeue (Some x.0) (ran.callers_end j lt).each (AtEnd.is its_end) x.1 in
+        let exact = at_got (λ s o. Holds (λ x. EachOwn (OfThread (setting_of G.limits s.given) j) (s.given.rings + j) [] (seen x)) o) ss (lent (1 + (rings + j))) q its_squeue (Some x.0) (ran.callers_keep j lt) (AtEnd.is its_end) x.1 in
+        end_exact G.limits its_squeue x.0 its_left.end.history known.pass legal_there x.2 (OfThread its_setting j) (its_setting.rings + j) known.is_number exact
+
+    worker_keeps : EachOwn (OfWorker its_setting) (worker its_setting) [] its_left.end.history
+    worker_keeps =
+        let known = ran.workers_end q its_squeue (AtEnd.is its_end) in
+        let came = (AtEnd.left its_end).worker in
+        let both : Some came.0 ∷ [] ≡ Some known.0 ∷ [] = sym came.1 ∙ known.1 in
+        let same : came.0 ≡ known.0 = cc both in
+        let exact = end_exact G.limits its_squeue known.0 its_left.end.history known.2.pass legal_there (subst (Knows its_left.end.history) same came.2) (OfWorker its_setting) (rings + length w.calls) known.2.is_number known.2.exact in
+        subst (λ (n : ℕ). EachOwn (OfWorker its_setting) n [] its_left.end.history) (sym passes_there) exact
+
+    keep_there : PassesKeep pool.pace.mode e
+    keep_there =
+        subst (PassesKeep pool.pace.mode) (AtEnd.same its_end)
+        (record {
+          rings = subst (λ (S : Setting). (r : ℕ) → r < S.rings → EachOwn (OfRing pool.pace.mode S r) r [] its_left.end.history) (sym (AtEnd.left its_end).its_setting)
+              (λ r lt. ring_keeps r (let n = rings_there in omega (arith, lt, n)));
+          threads = subst (λ (S : Setting). (j : ℕ) → S.rings + j < worker S → EachOwn (OfThread S j) (S.rings + j) [] its_left.end.history) (sym (AtEnd.left its_end).its_setting)
+              (λ j lt. thread_keeps j (let n = rings_there in let m = passes_there in omega (arith, lt, n, m)));
+          worker_leaves = subst (λ (S : Setting). EachOwn (OfWorker S) (worker S) [] its_left.end.history) (sym (AtEnd.left its_end).its_setting) worker_keeps;
+        })
+
   pub has_run : HasRun G pool w vs
   has_run =
       record {
@@ -373,4 +432,5 @@ module _ {R P O : Type 0} (G : Ghosts R P O) (pool : Pool) (w : WorkOf R) (suits
         noted = noted;
         here = once;
         called = made_once;
+        keep = keep_there;
       }

@@ -1,5 +1,5 @@
 -- What squeues leave that have ended.
-use Rattle.std.specs.Prelude.{◌≡◌, ℕ, ◌+◌, ◌<◌, if◌then◌else◌, Option, Some, List, [], length, map, slice_get}
+use Rattle.std.specs.Prelude.{◌≡◌, ℕ, ◌+◌, ◌<◌, if◌then◌else◌, Option, Some, List, [], ◌∷◌, length, map, slice_get}
 use Rattle.turn_gate.specs.declared.pass.Pass.{Pass}
 use Rattle.perimeter_core.specs.declared.resident.Resident.{Ghosts}
 use Rattle.perimeter_core.specs.History.{Element}
@@ -13,12 +13,14 @@ use Rattle.squeue_pool.specs.declared.work.Left.{Left}
 
 module _ {R P O : Type 0} (G : Ghosts R P O) (front count : ℕ) (lent : ℕ → List (Option (Pass Element))) where
   -- Squeue number q of those lent has left this: its number and setting are those with which it was made, each of its passes that is lent
-  -- by number has seen a beginning of its history, and made what there carries its number, and the resident stands for what it did
+  -- by number has seen a beginning of its history, and made what there carries its number, and so has its worker's; and the resident
+  -- stands for what it did
   pub record Leaves (q : ℕ) (s : Named R) (v : Left R) : Type 0 where
     pub its_number : v.end.number ≡ s.given.number
     pub its_setting : v.end.setting ≡ setting_of G.limits s.given
     pub ended : HasEnded v.end
     pub knows : (p : ℕ) → p < count → (x : Pass Element) × (slice_get (lent (front + p)) q ≡ Some (Some x)) × Knows v.end.history x
+    pub worker : (x : Pass Element) × (lent (front + count + q) ≡ Some x ∷ []) × Knows v.end.history x
     pub resident : IsPeri G s.given v.resident (peri (setting_of G.limits s.given) v.end.history)
     pub trace : marks_of v.trace ≡ (if s.given.traced then map (λ m. m.mark) v.end.history else [])
 

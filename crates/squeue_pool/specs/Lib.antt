@@ -1,4 +1,8 @@
 pub mod Works
 pub mod Gathering
 pub mod Running
+pub mod Keeping
 pub mod Runs
+pub mod Keys
+pub mod Placed
+pub mod ServedParts

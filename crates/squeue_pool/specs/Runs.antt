@@ -17,6 +17,7 @@ use Rattle.squeue_rings.specs.Runs.{brought, place}
 use Rattle.ring_jobs.specs.Running.{called_by}
 use Rattle.squeue_pool.specs.declared.pool.Pool.{Pool}
 use Rattle.squeue_pool.specs.declared.work.Left.{Left}
+use Rattle.squeue_pool.specs.Keeping.{PassesKeep}
 use Rattle.squeue_pool.specs.Works.{WorkOf, setting_at}
 
 -- the ends of the squeues
@@ -57,8 +58,8 @@ module _ {R P O : Type 0} (G : Ghosts R P O) (pool : Pool) (w : WorkOf R) where
     pub trace : marks_of v.trace ≡ (if pool.trace then map (λ m. m.mark) v.end.history else [])
 
   -- There is one for each squeue. Connections go from stay to stay, each stay beginning with the feeds that were due. Each is here at the
-  -- end of one history, that of the home of its last feed, with all feeds that its ring's list has of it done; and each call of the
-  -- application threads was made once, and no other
+  -- end of one history, that of the home of its last feed, with all feeds that its ring's list has of it done; each call of the
+  -- application threads was made once, and no other; and each mark of all passes is the one for what its turn found
   pub record HasRun (vs : List (Left R)) : Type 0 where
     pub count : length vs ≡ pool.pace.homes.squeues
     pub each : (q : ℕ) (first : R) (v : Left R) → slice_get w.residents q ≡ Some first → slice_get vs q ≡ Some v → IsLeft q first v
@@ -68,3 +69,4 @@ module _ {R P O : Type 0} (G : Ghosts R P O) (pool : Pool) (w : WorkOf R) where
         → IsHereOnce (ends_of vs) c (place pool.pace.homes.squeues pool.pace.homes.spread c (list_for w.lists pool.rings c))
         (brought c (list_for w.lists pool.rings c))
     pub called : (c j k : ℕ) → made_in_all c j k (ends_of vs) ≡ once_on (called_by w.calls j) c k
+    pub keep : (q : ℕ) (e : Ending) → slice_get (ends_of vs) q ≡ Some e → PassesKeep pool.pace.mode e

@@ -71,11 +71,14 @@ module _ {R : Type 0} (limits : R → Limits) (j k : ℕ) (cs : List ℕ) (c : �
     had : slice_get places q ≡ Some (Some x.0)
     had = got_at places q o lo it ∙ ap Some x.1
 
-    pub not_yet : (b : Bool) (n : Option (Pass Element)) → b ≡ false → Became (λ x y. HasTried limits s b c j k x y) o n → Tries (slice_set places q n)
-    not_yet b n none ran =
+    its_may : MayMake limits s j k cs c
+    its_may = each_at (λ s. MayMake limits s j k cs c) ss q s may there
+
+    pub not_yet : (b : Bool) (n : Option (Pass Element)) → length cs ≡ k → b ≡ false → Became (λ x y. HasTried limits s b c j k x y) o n → Tries (slice_set places q n)
+    not_yet b n is_next none ran =
         let y = became false n (subst (λ (b : Bool). Became (λ x y. HasTried limits s b c j k x y) o n) none ran) in
         record {
-          each = changed (λ t x. TriesAt limits t j cs c x) n (hold (TriesAt limits s j cs c) y.0 n y.1 (still_tries limits s j k cs c x.0 y.0 x.2 y.2)) (λ t x h. h);
+          each = changed (λ t x. TriesAt limits t j cs c x) n (hold (TriesAt limits s j cs c) y.0 n y.1 (still_tries limits s j k cs c x.0 y.0 is_next its_may x.2 y.2)) (λ t x h. h);
           made = λ d m.
               let one = one_changed d j m places q x.0 y.0 had in
               let new = ap (λ (o : Option (Pass Element)). made_in d j m (slice_set places q o)) y.1 in
@@ -87,7 +90,7 @@ module _ {R : Type 0} (limits : R → Limits) (j k : ℕ) (cs : List ℕ) (c : �
     now_made b n is_next made ran =
         let y = became true n (subst (λ (b : Bool). Became (λ x y. HasTried limits s b c j k x y) o n) made ran) in
         record {
-          each = changed (λ t x. CallerAt limits t j (cs ++ c ∷ []) x) n (hold (CallerAt limits s j (cs ++ c ∷ [])) y.0 n y.1 (has_made limits s j k cs c x.0 y.0 x.2 y.2)) (λ t x h. ends limits t j cs c x h);
+          each = changed (λ t x. CallerAt limits t j (cs ++ c ∷ []) x) n (hold (CallerAt limits s j (cs ++ c ∷ [])) y.0 n y.1 (has_made limits s j k cs c x.0 y.0 is_next x.2 y.2)) (λ t x h. ends limits t j cs c x h);
           made = λ d m.
               let one = one_changed d j m places q x.0 y.0 had in
               let new = ap (λ (o : Option (Pass Element)). made_in d j m (slice_set places q o)) y.1 in

@@ -13,6 +13,8 @@ pub mod WorkedNotes
 pub mod Reaching
 pub mod Running
 pub mod Starting
+pub mod OwnMarks
+pub mod ThreadMarks
 pub mod Trying
 pub mod CallersMake
 pub mod CallMarks

@@ -10,6 +10,7 @@ use Rattle.squeue_serve.specs.Places.{AtEach, Holds, IsNew}
 use Rattle.squeue_serve.proofs.Unused.{start_idle}
 use Rattle.squeue_rings.specs.Made.{made_in, times_made}
 use Rattle.squeue_rings.specs.Calling.{CallerAt, CallersAt}
+use Rattle.squeue_rings.specs.OwnMarks.{EachOwn, OfThread, next_call}
 
 module _ {R : Type 0} (limits : R → Limits) (j : ℕ) where
   new_caller : (s : Named R) (x : Pass Element) → IsNew (s.given.rings + j) s x → CallerAt limits s j [] x
@@ -21,6 +22,8 @@ module _ {R : Type 0} (limits : R → Limits) (j : ℕ) where
             subst (λ (H : List Element). Idle (run (setting_of limits s.given) H) (s.given.rings + j)) (sym new.none_seen) (start_idle (setting_of limits s.given) (s.given.rings + j));
         legal = subst (λ (H : List Element). Legal (setting_of limits s.given) H) (sym new.none_seen) tt;
         asks = let e : asks_by (s.given.rings + j) (seen x) ≡ 0 = ap (asks_by (s.given.rings + j)) new.none_seen in omega (arith, e);
+        exact = subst (λ (H : List Element). EachOwn (OfThread (setting_of limits s.given) j) (s.given.rings + j) [] H) (sym new.none_seen) tt;
+        next = let e : next_call (s.given.rings + j) (seen x) ≡ 0 = ap (next_call (s.given.rings + j)) new.none_seen in omega (arith, e);
       }
 
   each_new : (ss : List (Named R)) (places : List (Option (Pass Element))) → AtEach (λ s o. Holds (IsNew (s.given.rings + j) s) o) ss places

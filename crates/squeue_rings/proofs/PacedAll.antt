@@ -38,7 +38,7 @@ module _ {R : Type 0} (limits : R → Limits) (squeues spread : ℕ) (mode : Mod
       at_made InPlace ss places (at_length (λ s o. Holds (IsNew r s) o) ss places new)
       (λ k s o is it.
       let x = held (IsNew r s) o (at_got (λ s o. Holds (IsNew r s) o) ss places k s o new is it) in
-      hold (Paced s) x.0 o x.1 (subst (λ (H : List Element). IsPaced squeues spread mode budget s.given.number (setting_of limits s.given) r H) (sym x.2.none_seen) (record { keeps = tt; not_taken = refl })))
+      hold (Paced s) x.0 o x.1 (subst (λ (H : List Element). IsPaced squeues spread mode budget s.given.number (setting_of limits s.given) r H) (sym x.2.none_seen) (record { keeps = tt; exact = tt; not_taken = refl })))
 
   module _ (entered reached : List FeedOf) (old new : List (Option (Pass Element))) (at : AreAt limits squeues spread r ss entered reached old) (paced : ArePaced limits squeues spread mode budget r ss old) where
     abbrev At : Named R → Option (Pass Element) → Type 0
@@ -105,13 +105,13 @@ module _ {R : Type 0} (limits : R → Limits) (squeues spread : ℕ) (mode : Mod
         left : Paced h.a h.qa
         left =
             let k = known (home_before squeues spread f) h.a h.pa h.from h.was_from in
-            let p = move_paced limits h.a squeues spread mode budget (Done.Out f.c) [] h.pa h.qa k.pass h.out (its_number h.a (seen h.pa) (number h.pa) k.is_number (was (home_before squeues spread f) h.a h.pa h.from h.was_from)) in
+            let p = move_paced limits h.a squeues spread mode budget (Done.Out f.c) [] (λ p. refl) h.pa h.qa k.pass h.out (its_number h.a (seen h.pa) (number h.pa) k.is_number (was (home_before squeues spread f) h.a h.pa h.from h.was_from)) in
             subst (λ (p : ℕ). IsPaced squeues spread mode budget h.a.given.number (setting_of limits h.a.given) p (seen h.qa)) k.is_number p
 
         come : Paced h.b h.qb
         come =
             let k = known (home_of squeues spread f) h.b h.pb h.to h.was_to in
-            let p = move_paced limits h.b squeues spread mode budget (Done.In f.c) (acts (setting_of limits h.a.given) (seen h.qa) f.c) h.pb h.qb k.pass h.put (its_number h.b (seen h.pb) (number h.pb) k.is_number (was (home_of squeues spread f) h.b h.pb h.to h.was_to)) in
+            let p = move_paced limits h.b squeues spread mode budget (Done.In f.c) (acts (setting_of limits h.a.given) (seen h.qa) f.c) (λ p. refl) h.pb h.qb k.pass h.put (its_number h.b (seen h.pb) (number h.pb) k.is_number (was (home_of squeues spread f) h.b h.pb h.to h.was_to)) in
             subst (λ (p : ℕ). IsPaced squeues spread mode budget h.b.given.number (setting_of limits h.b.given) p (seen h.qb)) k.is_number p
 
   -- each pass was closed

@@ -12,7 +12,7 @@ use Rattle.perimeter_core.specs.declared.marks.Own.TheVariants.{Free, Out}
 use Rattle.perimeter_core.specs.declared.marks.SynchAct.TheVariants as Done
 use Rattle.perimeter_core.specs.declared.marks.Mark.{Mark}
 use Rattle.perimeter_core.specs.declared.marks.Mark.TheVariants as On
-use Rattle.perimeter_core.specs.Perimeter.{State, processed}
+use Rattle.perimeter_core.specs.Perimeter.{State, is_empty, is_free, processed}
 use Rattle.perimeter_core.specs.History.{Element, Setting, made_by, pass_of, run, start}
 use Rattle.perimeter_core.specs.Deeds.{done, entries, entries_of}
 use Rattle.perimeter_core.specs.Legal.{Legal, feed_count}
@@ -25,17 +25,20 @@ use Rattle.squeue_drain.proofs.OwnersFacts.{done_more, done_still}
 use Rattle.squeue_enter.specs.declared.Mode.{Mode}
 use Rattle.squeue_enter.specs.declared.Mode.TheVariants as Mode'
 use Rattle.squeue_enter.specs.Entering.{DrainsFrom, LeavesFrom}
-use Rattle.squeue_enter.specs.Ways.{is_one}
+use Rattle.squeue_enter.specs.Ways.{is_one, way_of}
 use Rattle.squeue_enter.proofs.Carrying.{only_feeds}
 use Rattle.placed_parts.specs.Homes.{home}
-use Rattle.squeue_rings.specs.Keeping.{AreHome, Keeps, claims_feeds, fills, fills_one, is_fast, taken, taken_after}
-use Rattle.squeue_rings.proofs.Pacing.{Paces, own_made, paces_all, paces_join, paces_one, paces_others}
+use Rattle.squeue_rings.specs.Keeping.{AreHome, OfRing, claims_feeds, fills, fills_one, is_fast, leaves_it, taken, taken_after}
+use Rattle.squeue_rings.specs.OwnMarks.{GoesByTable, has_one, moves_block}
+use Rattle.squeue_rings.proofs.OwnMarks.{own_made}
+use Rattle.squeue_rings.proofs.Pacing.{IsRight, Paces, paces_all, paces_join, paces_one, paces_others}
 
--- the mark enters at most an Ask of the pass
+-- the mark enters at most an Ask of the pass, and leaves only with a block that it moves
 abbrev pub EntersNoFeed : ℕ → Mark → Type 0
 EntersNoFeed p (On.Fill q es) = ⊥
 EntersNoFeed p (On.Fast q e) = ⊥
 EntersNoFeed p (On.Claim q es) = es ≡ Ask p ∷ []
+EntersNoFeed p (On.Leave q rest act) = moves_block (On.Leave q rest act) ≡ true
 EntersNoFeed p _ = Unit {0}
 
 module _ (squeues spread : ℕ) (mode : Mode) (budget q : ℕ) (S : Setting) (r : ℕ) where
@@ -46,33 +49,38 @@ module _ (squeues spread : ℕ) (mode : Mode) (budget q : ℕ) (S : Setting) (r 
     no_claim : claims_feeds m ≡ false
     no_fill : fills m ≡ false
     no_fill_of_one : fills_one m ≡ false
+    goes : GoesByTable mode (run S past) m
+    with_block : leaves_it m ≡ true → moves_block m ≡ true
     still : taken_after S past None m ≡ None
 
   is_plain : (past : List Element) (m : Mark) → EntersNoFeed r m → IsPlain past m
   is_plain past (On.Fill p es) none = absurd none
   is_plain past (On.Fast p e) none = absurd none
-  is_plain past (On.Claim p es) none = rw none (record { at_home = tt; no_fast = refl; no_claim = refl; no_fill = refl; no_fill_of_one = refl; still = refl })
-  is_plain past (On.Take p) none = record { at_home = tt; no_fast = refl; no_claim = refl; no_fill = refl; no_fill_of_one = refl; still = refl }
-  is_plain past (On.Leave p rest act) none = record { at_home = tt; no_fast = refl; no_claim = refl; no_fill = refl; no_fill_of_one = refl; still = refl }
-  is_plain past (On.Ask p) none = record { at_home = tt; no_fast = refl; no_claim = refl; no_fill = refl; no_fill_of_one = refl; still = refl }
-  is_plain past (On.Grant p j rest) none = record { at_home = tt; no_fast = refl; no_claim = refl; no_fill = refl; no_fill_of_one = refl; still = refl }
-  is_plain past (On.Accept j) none = record { at_home = tt; no_fast = refl; no_claim = refl; no_fill = refl; no_fill_of_one = refl; still = refl }
-  is_plain past (On.Work p) none = record { at_home = tt; no_fast = refl; no_claim = refl; no_fill = refl; no_fill_of_one = refl; still = refl }
-  is_plain past (On.Close p) none = record { at_home = tt; no_fast = refl; no_claim = refl; no_fill = refl; no_fill_of_one = refl; still = refl }
+  is_plain past (On.Claim p es) none = rw none (record { at_home = tt; no_fast = refl; no_claim = refl; no_fill = refl; no_fill_of_one = refl; goes = λ feeds. cc feeds; with_block = λ leaves. cc leaves; still = refl })
+  is_plain past (On.Take p) none = record { at_home = tt; no_fast = refl; no_claim = refl; no_fill = refl; no_fill_of_one = refl; goes = tt; with_block = λ leaves. cc leaves; still = refl }
+  is_plain past (On.Leave p rest act) none = record { at_home = tt; no_fast = refl; no_claim = refl; no_fill = refl; no_fill_of_one = refl; goes = tt; with_block = λ _. none; still = refl }
+  is_plain past (On.Ask p) none = record { at_home = tt; no_fast = refl; no_claim = refl; no_fill = refl; no_fill_of_one = refl; goes = tt; with_block = λ leaves. cc leaves; still = refl }
+  is_plain past (On.Grant p j rest) none = record { at_home = tt; no_fast = refl; no_claim = refl; no_fill = refl; no_fill_of_one = refl; goes = tt; with_block = λ leaves. cc leaves; still = refl }
+  is_plain past (On.Accept j) none = record { at_home = tt; no_fast = refl; no_claim = refl; no_fill = refl; no_fill_of_one = refl; goes = tt; with_block = λ leaves. cc leaves; still = refl }
+  is_plain past (On.Work p) none = record { at_home = tt; no_fast = refl; no_claim = refl; no_fill = refl; no_fill_of_one = refl; goes = tt; with_block = λ leaves. cc leaves; still = refl }
+  is_plain past (On.Close p) none = record { at_home = tt; no_fast = refl; no_claim = refl; no_fill = refl; no_fill_of_one = refl; goes = tt; with_block = λ leaves. cc leaves; still = refl }
 
-  keeps_plain : (past : List Element) (e : Element) → taken S r past ≡ None → EntersNoFeed r e.mark → Keeps squeues spread mode budget q S r past e × (taken_after S past None e.mark ≡ None)
+  keeps_plain : (past : List Element) (e : Element) → taken S r past ≡ None → EntersNoFeed r e.mark → IsRight squeues spread mode budget q S r past e × (taken_after S past None e.mark ≡ None)
   keeps_plain past e is none =
       let m = is_plain past e.mark none in (
-        record {
-          home = m.at_home;
-          fill = λ _. (m.no_fast, m.no_claim);
-          no_claim = λ _. m.no_claim;
-          busy = λ _ fill. let no : true ≡ false = sym fill ∙ m.no_fill in cc no;
-          busy_or_behind = λ _ fill. let no : true ≡ false = sym fill ∙ m.no_fill_of_one in cc no;
-          leaves_next = λ _ took. absurd (took is);
-          few = λ _. rw is tt;
-          full = λ _ _ _. rw is tt;
-        },
+        (
+          record {
+            home = m.at_home;
+            fill = λ _. (m.no_fast, m.no_claim);
+            no_claim = λ _. m.no_claim;
+            busy = λ _ fill. let no : true ≡ false = sym fill ∙ m.no_fill in cc no;
+            busy_or_behind = λ _ fill. let no : true ≡ false = sym fill ∙ m.no_fill_of_one in cc no;
+            leaves_next = λ _ took. absurd (took is);
+            few = λ _. rw is tt;
+            full = λ _ _ _. rw is tt;
+          },
+          record { way = m.goes; moves = λ leaves _. m.with_block leaves },
+        ),
         m.still,
       )
 
@@ -83,19 +91,22 @@ module _ (squeues spread : ℕ) (mode : Mode) (budget q : ℕ) (S : Setting) (r 
   module _ (past : List Element) (is : taken S r past ≡ None) where
     -- it queues feeds
     pub paces_fill : (es : List FeedOf) → AreHome squeues spread q (entries es) → (mode ≡ Mode'.Process → (run S past).own ≢ Free)
-        → (mode ≡ Mode'.NoDrain → is_one es ≡ true → ((run S past).own ≢ Free) ⊎ ((run S past).chain ≢ [])) → Paces squeues spread mode budget q S r past (filled_by r es ∷ []) None
-    paces_fill es at_home busy behind =
-        paces_one squeues spread mode budget q S r past None None (filled_by r es) refl is
-        (record {
-          home = at_home;
-          fill = λ _. (refl, refl);
-          no_claim = λ _. refl;
-          busy = λ m _. busy m;
-          busy_or_behind = λ m one. behind m (as_one es one);
-          leaves_next = λ _ took. absurd (took is);
-          few = λ gives. cc gives;
-          full = λ _ leaves. cc leaves;
-        }) refl
+        → (mode ≡ Mode'.NoDrain → is_one es ≡ true → ((run S past).own ≢ Free) ⊎ ((run S past).chain ≢ [])) → way_of mode (is_free (run S past).own) (is_empty (run S past).chain) (has_one (entries es)) ≡ way_of Mode'.Fill true true true
+        → Paces squeues spread mode budget q S r past (filled_by r es ∷ []) None
+    paces_fill es at_home busy behind way =
+        paces_one squeues spread mode budget q S r past None None (filled_by r es) refl is (
+          record {
+            home = at_home;
+            fill = λ _. (refl, refl);
+            no_claim = λ _. refl;
+            busy = λ m _. busy m;
+            busy_or_behind = λ m one. behind m (as_one es one);
+            leaves_next = λ _ took. absurd (took is);
+            few = λ gives. cc gives;
+            full = λ _ leaves. cc leaves;
+          },
+          record { way = way; moves = λ leaves. cc leaves },
+        ) refl
       where
         as_one : (es : List FeedOf) → fills_one (On.Fill r (entries es)) ≡ true → is_one es ≡ true
         as_one [] one = cc one
@@ -103,49 +114,62 @@ module _ (squeues spread : ℕ) (mode : Mode) (budget q : ℕ) (S : Setting) (r 
         as_one (f ∷ g ∷ fs) one = cc one
 
     -- it takes the perimeter with one feed
-    pub paces_fast : (f : FeedOf) → home squeues spread f.c f.n ≡ q → mode ≢ Mode'.Fill → Paces squeues spread mode budget q S r past (fast_by r f ∷ []) (Some (feed_count (done S past)))
-    paces_fast f at_home other =
-        paces_one squeues spread mode budget q S r past None (Some (feed_count (done S past))) (fast_by r f) refl is
-        (record {
-          home = (at_home, tt);
-          fill = λ m. absurd (other m);
-          no_claim = λ _. refl;
-          busy = λ _ fill. cc fill;
-          busy_or_behind = λ _ fill. cc fill;
-          leaves_next = λ _ took. absurd (took is);
-          few = λ gives. cc gives;
-          full = λ _ leaves. cc leaves;
-        }) refl
+    pub paces_fast : (f : FeedOf) → home squeues spread f.c f.n ≡ q → mode ≢ Mode'.Fill → GoesByTable mode (run S past) (On.Fast r (Feed f.c f.n))
+        → Paces squeues spread mode budget q S r past (fast_by r f ∷ []) (Some (feed_count (done S past)))
+    paces_fast f at_home other way =
+        paces_one squeues spread mode budget q S r past None (Some (feed_count (done S past))) (fast_by r f) refl is (
+          record {
+            home = (at_home, tt);
+            fill = λ m. absurd (other m);
+            no_claim = λ _. refl;
+            busy = λ _ fill. cc fill;
+            busy_or_behind = λ _ fill. cc fill;
+            leaves_next = λ _ took. absurd (took is);
+            few = λ gives. cc gives;
+            full = λ _ leaves. cc leaves;
+          },
+          record { way = way; moves = λ leaves. cc leaves },
+        ) refl
 
     -- it takes it with all that is queued and its feeds
-    pub paces_claim : (es : List FeedOf) → AreHome squeues spread q (entries es) → mode ≡ Mode'.Process → Paces squeues spread mode budget q S r past (claimed_by r es ∷ []) (Some (feed_count (done S past)))
-    paces_claim es at_home process =
-        paces_one squeues spread mode budget q S r past None (Some (feed_count (done S past))) (claimed_by r es) refl is
-        (record {
-          home = at_home;
-          fill = λ m. let no : Mode'.Fill ≡ Mode'.Process = sym m ∙ process in cc no;
-          no_claim = λ m. let no : Mode'.NoDrain ≡ Mode'.Process = sym m ∙ process in cc no;
-          busy = λ _ fill. cc fill;
-          busy_or_behind = λ _ fill. cc fill;
-          leaves_next = λ _ took. absurd (took is);
-          few = λ gives. cc gives;
-          full = λ _ leaves. cc leaves;
-        }) (rw (only_feeds es) refl)
+    pub paces_claim : (es : List FeedOf) → AreHome squeues spread q (entries es) → mode ≡ Mode'.Process → way_of mode (is_free (run S past).own) (is_empty (run S past).chain) (has_one (entries es)) ≡ way_of Mode'.Process true false true
+        → Paces squeues spread mode budget q S r past (claimed_by r es ∷ []) (Some (feed_count (done S past)))
+    paces_claim es at_home process way =
+        paces_one squeues spread mode budget q S r past None (Some (feed_count (done S past))) (claimed_by r es) refl is (
+          record {
+            home = at_home;
+            fill = λ m. let no : Mode'.Fill ≡ Mode'.Process = sym m ∙ process in cc no;
+            no_claim = λ m. let no : Mode'.NoDrain ≡ Mode'.Process = sym m ∙ process in cc no;
+            busy = λ _ fill. cc fill;
+            busy_or_behind = λ _ fill. cc fill;
+            leaves_next = λ _ took. absurd (took is);
+            few = λ gives. cc gives;
+            full = λ _ leaves. cc leaves;
+          },
+          record { way = λ _. way; moves = λ leaves. cc leaves },
+        ) (rw (only_feeds es) refl)
+
+  -- while it has the perimeter so it may leave
+  of_owner : (past : List Element) (n : ℕ) (m : Mark) → taken S r past ≡ Some n → GoesByTable mode (run S past) m → OfRing mode S r past m
+  of_owner past n m is goes = record { way = goes; moves = λ _ not. let no : Some n ≡ None = sym is ∙ not in cc no }
 
   -- with process it takes the queue while it has the perimeter
-  keeps_take : mode ≡ Mode'.Process → (n : ℕ) (past : List Element) (e : Element) → taken S r past ≡ Some n → e ≡ taken_by r → Keeps squeues spread mode budget q S r past e × (taken_after S past (Some n) e.mark ≡ Some n)
+  keeps_take : mode ≡ Mode'.Process → (n : ℕ) (past : List Element) (e : Element) → taken S r past ≡ Some n → e ≡ taken_by r → IsRight squeues spread mode budget q S r past e × (taken_after S past (Some n) e.mark ≡ Some n)
   keeps_take process n past e is took_it =
-      subst (λ (e : Element). Keeps squeues spread mode budget q S r past e × (taken_after S past (Some n) e.mark ≡ Some n)) (sym took_it) (
-        record {
-          home = tt;
-          fill = λ _. (refl, refl);
-          no_claim = λ _. refl;
-          busy = λ _ fill. cc fill;
-          busy_or_behind = λ _ fill. cc fill;
-          leaves_next = λ m. let no : Mode'.NoDrain ≡ Mode'.Process = sym m ∙ process in cc no;
-          few = λ gives. cc gives;
-          full = λ _ leaves. cc leaves;
-        },
+      subst (λ (e : Element). IsRight squeues spread mode budget q S r past e × (taken_after S past (Some n) e.mark ≡ Some n)) (sym took_it) (
+        (
+          record {
+            home = tt;
+            fill = λ _. (refl, refl);
+            no_claim = λ _. refl;
+            busy = λ _ fill. cc fill;
+            busy_or_behind = λ _ fill. cc fill;
+            leaves_next = λ m. let no : Mode'.NoDrain ≡ Mode'.Process = sym m ∙ process in cc no;
+            few = λ gives. cc gives;
+            full = λ _ leaves. cc leaves;
+          },
+          of_owner past n (On.Take r) is tt,
+        ),
         refl,
       )
 
@@ -153,29 +177,33 @@ module _ (squeues spread : ℕ) (mode : Mode) (budget q : ℕ) (S : Setting) (r 
   paces_end : mode ≡ Mode'.Process → (n : ℕ) (past : List Element) (last : Mark) → taken S r past ≡ Some n → Ends r last → feed_count (done S (past ++ plain last ∷ [])) ≤ n + budget
       → (is_leave last ≡ true → (run S (past ++ plain last ∷ [])).chain ≢ [] → feed_count (done S (past ++ plain last ∷ [])) ≡ n + budget) → Paces squeues spread mode budget q S r past (plain last ∷ []) None
   paces_end process n past (On.Leave p rest Done.None) is ends most full =
-      paces_one squeues spread mode budget q S r past (Some n) None (plain (On.Leave p rest Done.None)) ends is
-      (record {
-        home = tt;
-        fill = λ _. (refl, refl);
-        no_claim = λ _. refl;
-        busy = λ _ fill. cc fill;
-        busy_or_behind = λ _ fill. cc fill;
-        leaves_next = λ _ _. refl;
-        few = λ _. rw is most;
-        full = λ _ _ queued. rw is (full refl queued);
-      }) refl
+      paces_one squeues spread mode budget q S r past (Some n) None (plain (On.Leave p rest Done.None)) ends is (
+        record {
+          home = tt;
+          fill = λ _. (refl, refl);
+          no_claim = λ _. refl;
+          busy = λ _ fill. cc fill;
+          busy_or_behind = λ _ fill. cc fill;
+          leaves_next = λ _ _. refl;
+          few = λ _. rw is most;
+          full = λ _ _ queued. rw is (full refl queued);
+        },
+        of_owner past n (On.Leave p rest Done.None) is tt,
+      ) refl
   paces_end process n past (On.Grant p j rest) is ends most full =
-      paces_one squeues spread mode budget q S r past (Some n) None (plain (On.Grant p j rest)) ends.0 is
-      (record {
-        home = tt;
-        fill = λ _. (refl, refl);
-        no_claim = λ _. refl;
-        busy = λ _ fill. cc fill;
-        busy_or_behind = λ _ fill. cc fill;
-        leaves_next = λ m. let no : Mode'.NoDrain ≡ Mode'.Process = sym m ∙ process in cc no;
-        few = λ _. rw is most;
-        full = λ _ leaves. cc leaves;
-      }) refl
+      paces_one squeues spread mode budget q S r past (Some n) None (plain (On.Grant p j rest)) ends.0 is (
+        record {
+          home = tt;
+          fill = λ _. (refl, refl);
+          no_claim = λ _. refl;
+          busy = λ _ fill. cc fill;
+          busy_or_behind = λ _ fill. cc fill;
+          leaves_next = λ m. let no : Mode'.NoDrain ≡ Mode'.Process = sym m ∙ process in cc no;
+          few = λ _. rw is most;
+          full = λ _ leaves. cc leaves;
+        },
+        of_owner past n (On.Grant p j rest) is tt,
+      ) refl
   paces_end process n past (On.Leave p rest (Done.Call c j k)) is ends most full = absurd ends
   paces_end process n past (On.Leave p rest Done.Away) is ends most full = absurd ends
   paces_end process n past (On.Leave p rest (Done.Out c)) is ends most full = absurd ends
@@ -250,17 +278,19 @@ module _ (squeues spread : ℕ) (mode : Mode) (budget q : ℕ) (S : Setting) (r 
       let before : feed_count (done S first) ≡ n + 0 = done_more S H (fast_by r f) in
       let more : feed_count (done S ((first ++ l.between) ++ e ∷ [])) ≡ feed_count (done S (first ++ l.between)) + feed_count (processed 0 (run S (first ++ l.between)).hand) = done_more S (first ++ l.between) e in
       let few : feed_count (done S ((first ++ l.between) ++ e ∷ [])) ≤ n + budget = omega (arith, some, still, one, before, more) in
-      let end = paces_one squeues spread mode budget q S r (first ++ l.between) (Some n) None e refl others.now
-      (record {
-        home = tt;
-        fill = λ _. (refl, refl);
-        no_claim = λ _. refl;
-        busy = λ _ fill. cc fill;
-        busy_or_behind = λ _ fill. cc fill;
-        leaves_next = λ _ _. refl;
-        few = λ _. rw others.now few;
-        full = λ m. let no : Mode'.Process ≡ Mode'.NoDrain = sym m ∙ nodrain in cc no;
-      }) refl in
+      let end = paces_one squeues spread mode budget q S r (first ++ l.between) (Some n) None e refl others.now (
+        record {
+          home = tt;
+          fill = λ _. (refl, refl);
+          no_claim = λ _. refl;
+          busy = λ _ fill. cc fill;
+          busy_or_behind = λ _ fill. cc fill;
+          leaves_next = λ _ _. refl;
+          few = λ _. rw others.now few;
+          full = λ m. let no : Mode'.Process ≡ Mode'.NoDrain = sym m ∙ nodrain in cc no;
+        },
+        of_owner (first ++ l.between) n e.mark others.now tt,
+      ) refl in
       subst (λ (G : List Element). Paces squeues spread mode budget q S r [] G None) whole
       (paces_join squeues spread mode budget q S r [] (first ++ l.between) (e ∷ []) (Some n) None (paces_join squeues spread mode budget q S r [] first l.between (Some n) (Some n) now others) end)
     where

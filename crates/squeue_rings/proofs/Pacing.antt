@@ -5,13 +5,9 @@ use Rattle.std.proofs.lemmas.List.{append-nil}
 use Rattle.turn_gate.specs.History.{Each}
 use Rattle.perimeter_core.specs.History.{Element, Setting, pass_of, made_by}
 use Rattle.squeue_enter.specs.declared.Mode.{Mode}
-use Rattle.squeue_rings.specs.Keeping.{IsPaced, Keeps, KeepsFrom, KeepsPace, taken, taken_after, taken_from}
-
-pub own_made : (r : ℕ) (e : Element) (K : List Element) → pass_of e.mark ≡ r → made_by r (e ∷ K) ≡ e ∷ made_by r K
-own_made r e K own = rw (eq-eqb (pass_of e.mark) r own) refl
-
-other_made : (r : ℕ) (e : Element) (K : List Element) → pass_of e.mark ≢ r → made_by r (e ∷ K) ≡ made_by r K
-other_made r e K other = rw (ne_eqb (pass_of e.mark) r other) refl
+use Rattle.squeue_rings.specs.Keeping.{IsPaced, Keeps, KeepsFrom, KeepsPace, OfRing, taken, taken_after, taken_from}
+use Rattle.squeue_rings.specs.OwnMarks.{EachOwn}
+use Rattle.squeue_rings.proofs.OwnMarks.{other_made, own_join, own_made}
 
 module _ (S : Setting) (r : ℕ) where
   -- whether the ring has taken the perimeter with feeds, over two parts
@@ -38,33 +34,38 @@ module _ (squeues spread : ℕ) (mode : Mode) (budget q : ℕ) (S : Setting) (r 
   keeps_join past (e ∷ H) K a b =
       (a.0, keeps_join (past ++ e ∷ []) H K a.1 (subst (λ (P : List Element). KeepsFrom squeues spread mode budget q S r P K) (sym (append_assoc past (e ∷ []) H)) b))
 
-  -- behind this past each mark of the ring in K keeps the pace, and afterwards the ring has taken the perimeter so
+  -- the element keeps the pace, and its mark is the one for what its turn found
+  abbrev pub IsRight : List Element → Element → Type 0
+  IsRight past e = Keeps squeues spread mode budget q S r past e × OfRing mode S r past e.mark
+
+  -- behind this past each mark of the ring in K is right so, and afterwards the ring has taken the perimeter so
   pub record Paces (past K : List Element) (o : Option ℕ) : Type 0 where
     pub keeps : KeepsFrom squeues spread mode budget q S r past K
+    pub exact : EachOwn (OfRing mode S r) r past K
     pub now : taken S r (past ++ K) ≡ o
 
   pub paces_join : (past H K : List Element) (o p : Option ℕ) → Paces past H o → Paces (past ++ H) K p → Paces past (H ++ K) p
-  paces_join past H K o p a b = record { keeps = keeps_join past H K a.keeps b.keeps; now = ap (taken S r) (sym (append_assoc past H K)) ∙ b.now }
+  paces_join past H K o p a b = record { keeps = keeps_join past H K a.keeps b.keeps; exact = own_join (OfRing mode S r) r past H K a.exact b.exact; now = ap (taken S r) (sym (append_assoc past H K)) ∙ b.now }
 
   -- one mark of its own
-  pub paces_one : (past : List Element) (o p : Option ℕ) (e : Element) → pass_of e.mark ≡ r → taken S r past ≡ o → Keeps squeues spread mode budget q S r past e → taken_after S past o e.mark ≡ p → Paces past (e ∷ []) p
-  paces_one past o p e own is k after = record { keeps = (λ _. k, tt); now = taken_own S r past o e own is ∙ after }
+  pub paces_one : (past : List Element) (o p : Option ℕ) (e : Element) → pass_of e.mark ≡ r → taken S r past ≡ o → IsRight past e → taken_after S past o e.mark ≡ p → Paces past (e ∷ []) p
+  paces_one past o p e own is k after = record { keeps = (λ _. k.0, tt); exact = (λ _. k.1, tt); now = taken_own S r past o e own is ∙ after }
 
-  -- where each mark of its own keeps the pace and changes nothing, all of them do so
-  module _ (o : Option ℕ) (P : Element → Type 0) (step : (past : List Element) (e : Element) → taken S r past ≡ o → P e → Keeps squeues spread mode budget q S r past e × (taken_after S past o e.mark ≡ o)) where
+  -- where each mark of its own is right and changes nothing, all of them are
+  module _ (o : Option ℕ) (P : Element → Type 0) (step : (past : List Element) (e : Element) → taken S r past ≡ o → P e → IsRight past e × (taken_after S past o e.mark ≡ o)) where
     pub paces_all : (past K : List Element) → taken S r past ≡ o → Each P (made_by r K) → Paces past K o
-    paces_all past [] is each = record { keeps = tt; now = ap (taken S r) (append-nil past) ∙ is }
+    paces_all past [] is each = record { keeps = tt; exact = tt; now = ap (taken S r) (append-nil past) ∙ is }
     paces_all past (e ∷ K) is each =
         elim (cases_eq (pass_of e.mark) r) [
           | inl own ↦
               let h : Each P (e ∷ made_by r K) = subst (Each P) (own_made r e K own) each in
               let one = step past e is h.0 in
               let rest = paces_all (past ++ e ∷ []) K (taken_own S r past o e own is ∙ one.1) h.1 in
-              record { keeps = (λ _. one.0, rest.keeps); now = ap (taken S r) (sym (append_assoc past (e ∷ []) K)) ∙ rest.now }
+              record { keeps = (λ _. one.0.0, rest.keeps); exact = (λ _. one.0.1, rest.exact); now = ap (taken S r) (sym (append_assoc past (e ∷ []) K)) ∙ rest.now }
           | inr other ↦
               let h : Each P (made_by r K) = subst (Each P) (other_made r e K other) each in
               let rest = paces_all (past ++ e ∷ []) K (taken_other S r past o e other is) h in
-              record { keeps = (λ own. absurd (other own), rest.keeps); now = ap (taken S r) (sym (append_assoc past (e ∷ []) K)) ∙ rest.now }
+              record { keeps = (λ own. absurd (other own), rest.keeps); exact = (λ own. absurd (other own), rest.exact); now = ap (taken S r) (sym (append_assoc past (e ∷ []) K)) ∙ rest.now }
         ]
 
   -- what others make changes nothing
@@ -75,7 +76,7 @@ module _ (squeues spread : ℕ) (mode : Mode) (budget q : ℕ) (S : Setting) (r 
   keeps_on H K k none = keeps_join [] H K k (paces_others H K (taken S r H) refl none).keeps
 
   pub paced : (H : List Element) → Paces [] H None → IsPaced squeues spread mode budget q S r H
-  paced H p = record { keeps = p.keeps; not_taken = p.now }
+  paced H p = record { keeps = p.keeps; exact = p.exact; not_taken = p.now }
 
   pub paces : (H : List Element) → IsPaced squeues spread mode budget q S r H → Paces [] H None
-  paces H p = record { keeps = p.keeps; now = p.not_taken }
+  paces H p = record { keeps = p.keeps; exact = p.exact; now = p.not_taken }

@@ -1,11 +1,11 @@
 -- What a try to make a call did.
-use Rattle.std.proofs.Common.{◌≡◌, ℕ, ◌+◌, ◌<◌, ◌≤◌, inl, inr, Bool, true, false, List, [], ◌∷◌, ◌++◌, length, slice_index, refl, ap, sym, ◌∙◌, subst, arith}
+use Rattle.std.proofs.Common.{◌≡◌, ℕ, ◌+◌, ◌<◌, ◌≤◌, inl, inr, Bool, true, false, List, [], ◌∷◌, ◌++◌, length, length-append, slice_index, refl, ap, sym, ◌∙◌, subst, arith}
 use Rattle.turn_gate.specs.Passes.{IsPassOf, mine, number, seen}
 use Rattle.turn_gate.specs.declared.pass.Pass.{Pass}
 use Rattle.perimeter_core.specs.declared.resident.Resident.{Ghosts}
 use Rattle.perimeter_core.specs.declared.marks.SynchAct.{SynchAct}
 use Rattle.perimeter_core.specs.declared.marks.SynchAct.TheVariants as Done
-use Rattle.perimeter_core.specs.Perimeter.{Idle}
+use Rattle.perimeter_core.specs.Perimeter.{Idle, is_here}
 use Rattle.perimeter_core.specs.History.{Element, Limits, ask_quota, made_by, run}
 use Rattle.perimeter_core.specs.Deeds.{times_left}
 use Rattle.perimeter_core.specs.Legal.{Legal, asks_by}
@@ -26,6 +26,7 @@ use Rattle.conn_migrate.specs.Moving.{Moved}
 use Rattle.conn_migrate.proofs.OwnMarks.{asks_away, asks_called}
 use Rattle.squeue_rings.specs.Calling.{CallerAt, HasTried, MayMake, MayTry, TriesAt, asks_for, is_done}
 use Rattle.squeue_enter.proofs.Bringing.{left_append}
+use Rattle.squeue_rings.proofs.ThreadMarks.{away_kept, call_exact, gone_exact, none_exact}
 
 module _ {R P O : Type 0} (G : Ghosts R P O) (s : Named R) (c j k : ℕ) (from : Pass Element) (o : Owner R) (try : MayTry G.limits s c j k from) (at : StandsAtItsAsk G s [] o × (o.act ≡ Done.None)) (came : CameFor G.limits s c from o.pass) where
   pub may_call : MayCall G s c j k o
@@ -55,6 +56,8 @@ module _ {R P O : Type 0} (G : Ghosts R P O) (s : Named R) (c j k : ℕ) (from :
         subst (λ (b : Bool). HasTried G.limits s b c j k from to) (sym e)
         (inr (record {
           moved = made Done.Away h.answers.1;
+          away = away_kept G.limits s Done.Away from to (made Done.Away h.answers.1) c h.stands_at.owns.own
+              (subst (λ (q : Pass Element). is_here (run (setting_of G.limits s.given) (seen q)) c ≡ false) (sym pass) h.answers.0);
           gone = (subst (λ (q : Pass Element). (came : CameFor G.limits s c from q) → Called'.Elsewhere ≡ Called'.Elsewhere → 0 < times_left c came.0.behind.since) (sym pass) (h.gone from)) came_now refl;
         }))
 
@@ -65,7 +68,7 @@ module _ {R : Type 0} (limits : R → Limits) (s : Named R) (j : ℕ) where
 
   -- a caller begins to try a call
   pub begins : (cs : List ℕ) (c : ℕ) (x : Pass Element) → CallerAt limits s j cs x → TriesAt limits s j cs c x
-  begins cs c x known = record { pass = known.pass; is_number = known.is_number; idle = known.idle; legal = known.legal; asks = let a = known.asks in omega (arith, a) }
+  begins cs c x known = record { pass = known.pass; is_number = known.is_number; idle = known.idle; legal = known.legal; asks = let a = known.asks in omega (arith, a); exact = known.exact; next = known.next }
 
   few : (c : ℕ) (x : Pass Element) → Legal (setting_of limits s.given) (seen x) → times_left c (seen x) ≤ slice_index (limits s.given.first).leaves c
   few c x legal = leaves_few (setting_of limits s.given) (seen x) c legal
@@ -87,11 +90,12 @@ module _ {R : Type 0} (limits : R → Limits) (s : Named R) (j : ℕ) where
 
   -- where another call was made or none, the caller has asked for no more than it may
   pub ends : (cs : List ℕ) (c : ℕ) (x : Pass Element) → TriesAt limits s j cs c x → CallerAt limits s j (cs ++ c ∷ []) x
-  ends cs c x known = record { pass = known.pass; is_number = known.is_number; idle = known.idle; legal = known.legal; asks = let a = known.asks in let f = few c x known.legal in let m = for_more cs c in omega (arith, a, f, m) }
+  ends cs c x known = record { pass = known.pass; is_number = known.is_number; idle = known.idle; legal = known.legal; asks = let a = known.asks in let f = few c x known.legal in let m = for_more cs c in omega (arith, a, f, m); exact = known.exact; next = let n = known.next in let m = length-append cs (c ∷ []) in omega (arith, n, m) }
 
   -- the call was made
-  pub has_made : (k : ℕ) (cs : List ℕ) (c : ℕ) (x y : Pass Element) → TriesAt limits s j cs c x → HasTried limits s true c j k x y → CallerAt limits s j (cs ++ c ∷ []) y
-  has_made k cs c x y known m =
+  pub has_made : (k : ℕ) (cs : List ℕ) (c : ℕ) (x y : Pass Element) → length cs ≡ k → TriesAt limits s j cs c x → HasTried limits s true c j k x y → CallerAt limits s j (cs ++ c ∷ []) y
+  has_made k cs c x y is_next known m =
+      let own = call_exact limits s j x y known.pass known.is_number known.exact c k m (let n = known.next in omega (arith, n, is_next)) in
       record {
         pass = m.goes_on.is_pass;
         is_number = m.goes_on.same_number ∙ known.is_number;
@@ -103,11 +107,14 @@ module _ {R : Type 0} (limits : R → Limits) (s : Named R) (j : ℕ) where
             let f = few c x known.legal in
             let n = for_more cs c in
             omega (arith, one, a, f, n);
+        exact = own.0;
+        next = let one = own.1 in let m = length-append cs (c ∷ []) in omega (arith, one, m, is_next);
       }
 
   -- it wasn't
-  pub still_tries : (k : ℕ) (cs : List ℕ) (c : ℕ) (x y : Pass Element) → TriesAt limits s j cs c x → HasTried limits s false c j k x y → TriesAt limits s j cs c y
-  still_tries k cs c x y known (inl away) =
+  pub still_tries : (k : ℕ) (cs : List ℕ) (c : ℕ) (x y : Pass Element) → length cs ≡ k → MayMake limits s j k cs c → TriesAt limits s j cs c x → HasTried limits s false c j k x y → TriesAt limits s j cs c y
+  still_tries k cs c x y is_next may known (inl away) =
+      let kept = none_exact limits s j x y known.pass known.is_number known.exact c away in
       record {
         pass = away.goes_on.is_pass;
         is_number = away.goes_on.same_number ∙ known.is_number;
@@ -122,12 +129,15 @@ module _ {R : Type 0} (limits : R → Limits) (s : Named R) (j : ℕ) where
             let t = ap (times_left c) away.goes_on.grows.1 ∙ left_append c (seen x) away.goes_on.grows.0 in
             let a = known.asks in
             omega (arith, now.1, before.1, same, t, a);
+        exact = kept.0;
+        next = let e = kept.1 in let n = known.next in omega (arith, e, n);
       }
     where
       own_is : (z : Pass Element) → number z ≡ s.given.rings + j → IsPassOf number_of s.gate z → made_by (s.given.rings + j) (seen z) ≡ mine z
       own_is z is pass = subst (λ (p : ℕ). made_by p (seen z) ≡ mine z) is (sym (only_made (number z) (seen z)) ∙ pass.2)
-  still_tries k cs c x y known (inr gone) =
+  still_tries k cs c x y is_next may known (inr gone) =
       let m = gone.moved in
+      let kept = gone_exact limits s j x y known.pass known.is_number known.exact c k gone (let n = known.next in omega (arith, n, is_next)) may.exists in
       record {
         pass = m.goes_on.is_pass;
         is_number = m.goes_on.same_number ∙ known.is_number;
@@ -145,6 +155,8 @@ module _ {R : Type 0} (limits : R → Limits) (s : Named R) (j : ℕ) where
             let a = known.asks in
             let g = gone.gone in
             omega (arith, one, t0, t1, t2, t3, t4, t5, a, g);
+        exact = kept.0;
+        next = let e = kept.1 in let n = known.next in omega (arith, e, n);
       }
     where
       last : Moved limits s Done.Away [] x y → List Element

@@ -3,7 +3,7 @@ use Rattle.std.specs.Prelude.{◌≡◌, ◌⊎◌, ℕ, ◌+◌, ◌<◌, ◌�
 use Rattle.turn_gate.specs.Passes.{IsPassOf, number, seen}
 use Rattle.turn_gate.specs.declared.pass.Pass.{Pass}
 use Rattle.perimeter_core.specs.declared.marks.SynchAct.TheVariants as Done
-use Rattle.perimeter_core.specs.Perimeter.{Idle}
+use Rattle.perimeter_core.specs.Perimeter.{Idle, is_here}
 use Rattle.perimeter_core.specs.History.{Element, Limits, ask_quota, run}
 use Rattle.perimeter_core.specs.Deeds.{times_left}
 use Rattle.perimeter_core.specs.Legal.{Legal, asks_by}
@@ -15,6 +15,7 @@ use Rattle.synch_enter.specs.Synch.{MayAsk, NotFound}
 use Rattle.conn_migrate.specs.Moving.{Moved}
 use Rattle.squeue_serve.specs.Places.{AtEach, Holds}
 use Rattle.squeue_rings.specs.Made.{made_in, once_on}
+use Rattle.squeue_rings.specs.OwnMarks.{EachOwn, OfThread, next_call}
 use Rattle.turn_gate.specs.History.{Each}
 
 abbrev pub is_done : Called → Bool
@@ -33,6 +34,7 @@ module _ {R : Type 0} (limits : R → Limits) (s : Named R) where
   pub record WasGone (c : ℕ) (from to : Pass Element) : Type 0 where
     pub moved : Moved limits s Done.Away [] from to
     pub gone : 0 < times_left c moved.came.behind.since
+    pub away : is_here (run (setting_of limits s.given) moved.left.found) c ≡ false
 
   -- what a try did, by whether it made the call: that act and no other; or nothing was asked, or the block was gone
   abbrev pub HasTried : Bool → ℕ → ℕ → ℕ → Pass Element → Pass Element → Type 0
@@ -44,13 +46,16 @@ module _ {R : Type 0} (limits : R → Limits) (s : Named R) where
   asks_for [] = 0
   asks_for (c ∷ cs) = 1 + slice_index (limits s.given.first).leaves c + asks_for cs
 
-  -- The pass of thread j, which has made calls on these connections: it stands idle, and has asked no more than they may take
+  -- The pass of thread j, which has made calls on these connections: it stands idle, and has asked no more than they may take. It left
+  -- only with these calls, one behind the other, or where the block of the next one was gone
   pub record CallerAt (j : ℕ) (cs : List ℕ) (x : Pass Element) : Type 0 where
     pub pass : IsPassOf number_of s.gate x
     pub is_number : number x ≡ s.given.rings + j
     pub idle : Idle (run (setting_of limits s.given) (seen x)) (s.given.rings + j)
     pub legal : Legal (setting_of limits s.given) (seen x)
     pub asks : asks_by (s.given.rings + j) (seen x) ≤ asks_for cs
+    pub exact : EachOwn (OfThread (setting_of limits s.given) j) (s.given.rings + j) [] (seen x)
+    pub next : next_call (s.given.rings + j) (seen x) ≤ length cs
 
   -- the same while it tries a call on connection c
   pub record TriesAt (j : ℕ) (cs : List ℕ) (c : ℕ) (x : Pass Element) : Type 0 where
@@ -59,6 +64,8 @@ module _ {R : Type 0} (limits : R → Limits) (s : Named R) where
     pub idle : Idle (run (setting_of limits s.given) (seen x)) (s.given.rings + j)
     pub legal : Legal (setting_of limits s.given) (seen x)
     pub asks : asks_by (s.given.rings + j) (seen x) ≤ asks_for cs + times_left c (seen x)
+    pub exact : EachOwn (OfThread (setting_of limits s.given) j) (s.given.rings + j) [] (seen x)
+    pub next : next_call (s.given.rings + j) (seen x) ≤ length cs
 
   -- Thread j may make call k, which is on connection c, behind those on these connections: its quota suffices
   pub record MayMake (j k : ℕ) (cs : List ℕ) (c : ℕ) : Type 0 where

@@ -15,6 +15,7 @@ use Rattle.placed_parts.specs.Homes.{home}
 use Rattle.squeue_enter.specs.declared.Mode.{Mode}
 use Rattle.squeue_enter.specs.declared.Mode.TheVariants as Mode'
 use Rattle.squeue_serve.specs.Places.{AtEach, Holds}
+use Rattle.squeue_rings.specs.OwnMarks.{EachOwn, GoesByTable, moves_block}
 
 -- it takes the perimeter with one feed at once; with its feeds behind all that is queued
 abbrev pub is_fast : Mark → Bool
@@ -66,6 +67,12 @@ module _ (S : Setting) where
   abbrev pub taken : ℕ → List Element → Option ℕ
   taken r H = taken_from r [] None H
 
+-- A mark of ring r behind this past: it enters feeds by the way of the table; and where the ring leaves, without having taken the
+-- perimeter with feeds, and so at its own Ask, it takes a block out or puts one in
+pub record OfRing (mode : Mode) (S : Setting) (r : ℕ) (past : List Element) (m : Mark) : Type 0 where
+  pub way : GoesByTable mode (run S past) m
+  pub moves : leaves_it m ≡ true → taken S r past ≡ None → moves_block m ≡ true
+
 module _ (squeues spread : ℕ) (mode : Mode) (budget q : ℕ) (S : Setting) where
   -- What a mark of ring r at squeue q keeps, behind this past
   pub record Keeps (r : ℕ) (past : List Element) (e : Element) : Type 0 where
@@ -92,12 +99,13 @@ module _ (squeues spread : ℕ) (mode : Mode) (budget q : ℕ) (S : Setting) whe
   abbrev pub KeepsPace : ℕ → List Element → Type 0
   KeepsPace r H = KeepsFrom r [] H
 
-  -- ring r keeps it, and hasn't taken the perimeter with feeds
+  -- ring r keeps it, each mark of its is the one for what its turn found, and it hasn't taken the perimeter with feeds
   pub record IsPaced (r : ℕ) (H : List Element) : Type 0 where
     pub keeps : KeepsPace r H
+    pub exact : EachOwn (OfRing mode S r) r [] H
     pub not_taken : taken S r H ≡ None
 
--- by what each pass of ring r has seen at its squeue, the ring keeps it, and hasn't taken the perimeter with feeds
+-- by what each pass of ring r has seen at its squeue, all this is so of the ring
 abbrev pub ArePaced : {R : Type 0} → (R → Limits) → ℕ → ℕ → Mode → ℕ → ℕ → List (Named R) → List (Option (Pass Element)) → Type 0
 ArePaced limits squeues spread mode budget r ss places =
     AtEach (λ s o. Holds (λ x. IsPaced squeues spread mode budget s.given.number (setting_of limits s.given) r (seen x)) o) ss places

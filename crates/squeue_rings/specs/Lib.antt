@@ -2,6 +2,7 @@ pub mod Seen
 pub mod Made
 pub mod Starts
 pub mod Runs
+pub mod OwnMarks
 pub mod Keeping
 pub mod Noted
 pub mod Rings

@@ -1,6 +1,10 @@
-use Rattle.std.proofs.Common.{ℕ, ◌+◌, List, length, map, refl, arith}
+use Rattle.std.proofs.Common.{◌≡◌, ℕ, ◌+◌, Some, List, [], ◌∷◌, length, map, refl, sym, subst, arith}
 use Rattle.std.proofs.lemmas.List.{length-map}
-use Rattle.ring_jobs.proofs.Finished.{caller_done, lent_back, ring_done, ring_paced}
+use Rattle.turn_gate.specs.declared.pass.Pass.{Pass}
+use Rattle.perimeter_core.specs.History.{Element}
+use Rattle.squeue_serve.specs.Lending.{lent_to}
+use Rattle.ring_jobs.specs.Ends.{WorkerEnds}
+use Rattle.ring_jobs.proofs.Finished.{caller_done, caller_kept, lent_back, ring_done, ring_paced, worker_left}
 use Rattle.ring_jobs.proofs.Ready.{all_ready}
 use Rattle.squeue_pool.proofs.running.run_new.Goals as goal
 
@@ -39,6 +43,10 @@ returns-clause-done g c =
       paced = ring_paced m p.pace.homes.squeues p.pace.homes.spread p.pace.mode p.pace.budget calls lines ss jobs new p.rings callers (p.rings + callers) refl c.requires.may.one.count c.requires.tasks c.requires.lent c.run_all.auto.jobs c.run_all.ensures;
       callers_end = λ j lt. caller_done m p.pace.homes.squeues p.pace.homes.spread p.pace.mode p.pace.budget calls lines ss jobs new p.rings callers (p.rings + callers) refl c.requires.may.one.count c.requires.tasks c.requires.lent c.run_all.auto.jobs c.run_all.ensures j
           (omega (arith, lt, n));
+      callers_keep = λ j lt. caller_kept m p.pace.homes.squeues p.pace.homes.spread p.pace.mode p.pace.budget calls lines ss jobs new p.rings callers (p.rings + callers) refl c.requires.may.one.count c.requires.tasks c.requires.lent c.run_all.auto.jobs c.run_all.ensures j
+          (omega (arith, lt, n));
+      workers_end = λ q s at. subst (λ (k : ℕ). (x : Pass Element) × (lent_to new (1 + (p.rings + k) + q) ≡ Some x ∷ []) × WorkerEnds m (p.rings + k) s x) (sym n)
+          (worker_left m p.pace.homes.squeues p.pace.homes.spread p.pace.mode p.pace.budget calls lines ss jobs new p.rings callers (p.rings + callers) refl c.requires.may.one.count c.requires.tasks c.requires.lent c.run_all.auto.jobs c.run_all.ensures q s at);
     }
 
 pub returns-clause-lent : goal.returns-clause-lent

@@ -31,4 +31,4 @@ pub loop-preserved : goal.loop-preserved
 loop-preserved g c cs next may at =
     let lq : c.get-q.result < length c.args.squeues.now = omega (arith, c.get-q.ensures, c.requires.hints.1) in
     not_yet g.R.Resident.limits c.args.j c.args.k cs c.args.c c.args.squeues.now may c.loop.places.items (c.loop.invariant cs next may at) c.get-q.result c.index-squeues-q.result c.index_mut.result.now lq c.index-squeues-q.is c.index_mut.ensures.value c.try_call.result c.try_call.new.place
-    c.if-try_call.false c.try_call.ensures
+    next c.if-try_call.false c.try_call.ensures
