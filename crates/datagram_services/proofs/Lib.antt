@@ -1,13 +1,11 @@
-mod Back
-mod Finished
 mod Joins
 mod LineParts
 mod Listed
-mod MadeSqueues
+mod Lying
 mod MoreComplete
 mod MoreRuns
-mod Ready
-mod Rows
+mod Ran
+mod Ranged
 mod StreamTexts
 mod Suffices
-mod WholeSteps
+mod Suits

@@ -37,12 +37,12 @@ is_more_done (Some a) source out err status.NoConnection h can nr nw = absurd h.
 is_more_done (Some a) source out err status.ReadFault h can nr nw = absurd (nr h.0.0)
 is_more_done (Some a) source out err status.WriteFault h can nr nw = nw h.1.2.1
 is_more_done (Some a) source out err status.BadCapture (r, inl h) can nr nw =
-    is_done (Some no_words) source out unknown None status.BadCapture (record { ran = (r, inl (h.0, h.1, h.2, (h.3.0, λ k. tt))); handed = refl }) (holds source.was can) nr nw
+    is_done (Some no_words) source out unknown None status.BadCapture (record { ran = (r, inl (h.0, h.1, h.2, (h.3.0, inl (refl, tt)))); handed = refl }) (holds source.was can) nr nw
 is_more_done (Some a) source out err status.BadCapture (r, inr h) can nr nw =
-    is_done (Some no_words) source out unknown None status.BadCapture (record { ran = (r, inr (h.0, h.1, h.2, (h.3.0, λ k. tt))); handed = refl }) (holds source.was can) nr nw
+    is_done (Some no_words) source out unknown None status.BadCapture (record { ran = (r, inr (h.0, h.1, h.2, (h.3.0, inl (refl, tt)))); handed = refl }) (holds source.was can) nr nw
 is_more_done (Some a) source out err status.TooLarge (r, inl h) can nr nw =
-    is_done (Some no_words) source out unknown None status.TooLarge (record { ran = (r, inl (h.0, (h.1.0, λ k. tt))); handed = refl }) (holds source.was can) nr nw
+    is_done (Some no_words) source out unknown None status.TooLarge (record { ran = (r, inl (h.0, (h.1.0, inl (refl, tt)))); handed = refl }) (holds source.was can) nr nw
 is_more_done (Some a) source out err status.TooLarge (r, inr (inl h)) can nr nw =
-    is_done (Some no_words) source out unknown None status.TooLarge (record { ran = (r, inr (inl (h.0, (h.1.0, λ k. tt)))); handed = refl }) (holds source.was can) nr nw
+    is_done (Some no_words) source out unknown None status.TooLarge (record { ran = (r, inr (inl (h.0, (h.1.0, inl (refl, tt))))); handed = refl }) (holds source.was can) nr nw
 is_more_done (Some a) source out err status.TooLarge (r, inr (inr h)) can nr nw =
-    is_done (Some no_words) source out unknown None status.TooLarge (record { ran = (r, inr (inr (inl (h.0, (h.1.0, λ k. tt))))); handed = refl }) (holds source.was can) nr nw
+    is_done (Some no_words) source out unknown None status.TooLarge (record { ran = (r, inr (inr (inl (h.0, (h.1.0, inl (refl, tt)))))); handed = refl }) (holds source.was can) nr nw

@@ -1,7 +1,7 @@
 -- How a run ends, from what its steps say.
 use Rattle.std.proofs.Common.{ℕ, List, [], Option, Some, None, inl, inr, subst, sym, refl, arith}
 use Rattle.std.proofs.KnownBytes.{Consumes-kept, Consumes-nil}
-use Rattle.sq_base.specs.Ends.{End, GetsLine, IsUntouched}
+use Rattle.sq_base.specs.Ends.{End, IsUntouched}
 use Rattle.sq_base.specs.declared.kinds.Status.{Status}
 use Rattle.sq_base.specs.declared.kinds.Status.TheVariants as status
 use Rattle.capture_reader.specs.declared.fault.CaptureFault.TheVariants as fault
@@ -13,12 +13,13 @@ use Rattle.datagram_services.specs.declared.refusal.Refusal.{Refusal}
 use Rattle.datagram_services.specs.declared.refusal.Refusal.TheVariants as refusal
 use Rattle.squeue_run.specs.Lines.{bad_line, memory_line, pcapng_line}
 use Rattle.squeue_run.proofs.Runs.{no_memory_told}
+use Rattle.squeue_run.specs.Telling.{TellsLine}
 use Rattle.datagram_services.specs.RefusalLines.{sqmore}
 use Rattle.datagram_services.specs.MoreRan.{HasMoreRan, MoreRead, MoreRefused}
 use Rattle.datagram_services.specs.MoreCauses.{CountsFaults, LineOrMemory, MoreFails, MoreTold, ReadingFails, RefusedWords}
 
 line_or_memory : (P : Status → Type 0) (wanted : Status) (text : List ℕ) (err : End) (s : Status)
-    → (GetsLine err text → P wanted) → (GetsLine err (memory_line sqmore) → P status.NoMemory) → LineOrMemory wanted text err s → P s
+    → (TellsLine err text → P wanted) → (TellsLine err (memory_line sqmore) → P status.NoMemory) → LineOrMemory wanted text err s → P s
 line_or_memory P wanted text err s line memory (inl t) = subst P (sym t.0) (line t.1)
 line_or_memory P wanted text err s line memory (inr t) = subst P (sym t.0) (memory t.1)
 

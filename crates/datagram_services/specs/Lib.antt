@@ -1,7 +1,8 @@
+pub mod Lists
+pub mod Fits
 pub mod Served
-pub mod Lines
-pub mod Settings
-pub mod Gathering
+pub mod Work
+pub mod Lying
 pub mod MoreText
 pub mod MoreWords
 pub mod RefusalLines

@@ -1,6 +1,6 @@
 -- What the steps of a run say to each other: what is to be written, or why nothing is.
 use Rattle.std.specs.Prelude.{◌≡◌, ℕ, List, Option, Some, None, ◌⊎◌}
-use Rattle.sq_base.specs.Ends.{Rose, End, GetsLine, IsUntouched, MetNoFault}
+use Rattle.sq_base.specs.Ends.{Rose, End, IsUntouched, MetNoFault}
 use Rattle.sq_base.specs.declared.kinds.Status.{Status}
 use Rattle.sq_base.specs.declared.kinds.Status.TheVariants as status
 use Rattle.capture_reader.specs.Outcome.{CaptureFile, BytesFail}
@@ -15,27 +15,28 @@ use Rattle.datagram_services.specs.declared.refusal.Refusal.{Refusal}
 use Rattle.datagram_services.specs.declared.refusal.Refusal.TheVariants as refusal
 use Rattle.datagram_services.specs.MoreText.{more_text}
 use Rattle.squeue_run.specs.Lines.{bad_line, many_bytes_line, many_records_line, memory_line, pcapng_line, read_line}
+use Rattle.squeue_run.specs.Telling.{TellsLine}
 use Rattle.datagram_services.specs.RefusalLines.{sqmore, usage_line}
 
 -- the line and the status of a refusal; where memory for the line is missing, that is the refusal
 abbrev pub LineOrMemory : Status → List ℕ → End → Status → Type 0
-LineOrMemory wanted text err s = ((s ≡ wanted) × GetsLine err text) ⊎ ((s ≡ status.NoMemory) × GetsLine err (memory_line sqmore))
+LineOrMemory wanted text err s = ((s ≡ wanted) × TellsLine err text) ⊎ ((s ≡ status.NoMemory) × TellsLine err (memory_line sqmore))
 
 abbrev pub MoreTold : Refusal → End → Status → Type 0
-MoreTold refusal.NoMemory err s = (s ≡ status.NoMemory) × GetsLine err (memory_line sqmore)
-MoreTold refusal.Usage err s = (s ≡ status.Usage) × GetsLine err usage_line
-MoreTold (refusal.Input (input.Capture fault.NoMemory)) err s = (s ≡ status.NoMemory) × GetsLine err (memory_line sqmore)
-MoreTold (refusal.Input (input.Capture fault.Read)) err s = (s ≡ status.ReadFault) × GetsLine err (read_line sqmore)
-MoreTold (refusal.Input (input.Capture (fault.TooLarge n))) err s = (s ≡ status.TooLarge) × GetsLine err (many_bytes_line sqmore)
-MoreTold (refusal.Input (input.Capture fault.TooManyRecords)) err s = (s ≡ status.TooLarge) × GetsLine err (many_records_line sqmore)
+MoreTold refusal.NoMemory err s = (s ≡ status.NoMemory) × TellsLine err (memory_line sqmore)
+MoreTold refusal.Usage err s = (s ≡ status.Usage) × TellsLine err usage_line
+MoreTold (refusal.Input (input.Capture fault.NoMemory)) err s = (s ≡ status.NoMemory) × TellsLine err (memory_line sqmore)
+MoreTold (refusal.Input (input.Capture fault.Read)) err s = (s ≡ status.ReadFault) × TellsLine err (read_line sqmore)
+MoreTold (refusal.Input (input.Capture (fault.TooLarge n))) err s = (s ≡ status.TooLarge) × TellsLine err (many_bytes_line sqmore)
+MoreTold (refusal.Input (input.Capture fault.TooManyRecords)) err s = (s ≡ status.TooLarge) × TellsLine err (many_records_line sqmore)
 MoreTold (refusal.Input (input.Capture (fault.ShortHeader n))) err s = LineOrMemory status.BadCapture (bad_line sqmore (fault.ShortHeader n)) err s
 MoreTold (refusal.Input (input.Capture (fault.Magic magic))) err s = LineOrMemory status.BadCapture (bad_line sqmore (fault.Magic magic)) err s
 MoreTold (refusal.Input (input.Capture (fault.Version major minor))) err s = LineOrMemory status.BadCapture (bad_line sqmore (fault.Version major minor)) err s
 MoreTold (refusal.Input (input.Capture (fault.Link n))) err s = LineOrMemory status.BadCapture (bad_line sqmore (fault.Link n)) err s
 MoreTold (refusal.Input (input.Capture (fault.RecordLength index len))) err s =
     LineOrMemory status.BadCapture (bad_line sqmore (fault.RecordLength index len)) err s
-MoreTold (refusal.Input (input.Pcapng pcapng.NoMemory)) err s = (s ≡ status.NoMemory) × GetsLine err (memory_line sqmore)
-MoreTold (refusal.Input (input.Pcapng pcapng.TooManyRecords)) err s = (s ≡ status.TooLarge) × GetsLine err (many_records_line sqmore)
+MoreTold (refusal.Input (input.Pcapng pcapng.NoMemory)) err s = (s ≡ status.NoMemory) × TellsLine err (memory_line sqmore)
+MoreTold (refusal.Input (input.Pcapng pcapng.TooManyRecords)) err s = (s ≡ status.TooLarge) × TellsLine err (many_records_line sqmore)
 MoreTold (refusal.Input (input.Pcapng (pcapng.ShortSection n))) err s = LineOrMemory status.BadCapture (pcapng_line sqmore (pcapng.ShortSection n)) err s
 MoreTold (refusal.Input (input.Pcapng (pcapng.Magic i found))) err s = LineOrMemory status.BadCapture (pcapng_line sqmore (pcapng.Magic i found)) err s
 MoreTold (refusal.Input (input.Pcapng (pcapng.BlockLength i n))) err s = LineOrMemory status.BadCapture (pcapng_line sqmore (pcapng.BlockLength i n)) err s

@@ -1,7 +1,7 @@
 -- How a run ends: by its status, what was read, what was written, and which line was told.
 use Rattle.std.specs.Prelude.{◌≡◌, List, ℕ, Option, Some, None, ◌⊎◌}
 use Rattle.std.specs.Io.KnownBytes.{Appends}
-use Rattle.sq_base.specs.Ends.{AppendsProperly, End, GetsLine, IsUntouched, MetNoFault, OnlyTells, Rose}
+use Rattle.sq_base.specs.Ends.{AppendsProperly, End, IsUntouched, MetNoFault, Rose}
 use Rattle.sq_base.specs.declared.kinds.Status.{Status}
 use Rattle.sq_base.specs.declared.kinds.Status.TheVariants as status
 use Rattle.capture_reader.specs.Outcome.{CaptureFile, TakesTooMany}
@@ -15,6 +15,7 @@ use Rattle.squeue_run.specs.Input.{ReadsSuch}
 use Rattle.squeue_run.specs.Ran.{HasRead, IsBad, IsBadPcapng, Reads}
 use Rattle.datagram_services.specs.MoreText.{more_text}
 use Rattle.squeue_run.specs.Lines.{bad_line, many_bytes_line, many_records_line, memory_line, pcapng_line, read_line, write_line}
+use Rattle.squeue_run.specs.Telling.{OnlyTells, TellsLine}
 use Rattle.datagram_services.specs.RefusalLines.{sqmore, usage_line}
 
 -- the report was written whole, and no write failed
@@ -34,7 +35,7 @@ MoreRefused out err _ = ⊥
 -- an input that was read: the setup decides nothing
 abbrev pub MoreRead : End → End → End → Status → Type 0
 MoreRead source out err status.Ok = (file : CaptureFile) × Reads source file × GetsReport file out × IsUntouched err
-MoreRead source out err status.WriteFault = (file : CaptureFile) × Reads source file × GetsFrontOfReport file out × GetsLine err (write_line sqmore)
+MoreRead source out err status.WriteFault = (file : CaptureFile) × Reads source file × GetsFrontOfReport file out × TellsLine err (write_line sqmore)
 MoreRead source out err status.BadCapture =
     ((why : CaptureFault) × IsBad why × ReadsSuch (IsRefusedCapture why) source.was source.is × OnlyTells out err (bad_line sqmore why))
     ⊎ ((why : PcapngFault) × IsBadPcapng why × ReadsSuch (IsRefusedPcapng why) source.was source.is × OnlyTells out err (pcapng_line sqmore why))

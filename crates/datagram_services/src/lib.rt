@@ -1,26 +1,23 @@
 //! Who serves the streams of a plan: threads over squeues, as the connections of another program are served.
 //!
-//! `serving` makes all that a run needs, runs its threads, and hands back what was served. `lines` has what comes in by each ring,
-//! `quotas` how much each pass may enter, `making` the squeues, `running` how the threads run, `gathering` what comes back when they
-//! are done, `served` what is handed out. What each thread does is in `ring_jobs`. There are no calls and no moves: a stream stays
-//! at its squeue, and one ring brings all its items.
+//! `serving` serves them by one call of `squeue_pool`. `work` says what its threads have to do: `lists` what comes in by each ring,
+//! `quotas` how much each pass may enter. `served` is what is handed out. There are no calls and no moves: a stream stays at its
+//! squeue, and one ring brings all its items.
 //!
 //! `reporting` writes what was served, `words` reads the command line, `refusal` has what is written where there is no report, `run` is
 //! the top call, and `process` alone touches the process' own ends.
 #![tactic(auto)]
 
-mod gathering;
-mod lines;
-mod making;
+mod lists;
 mod process;
 mod quotas;
 mod refusal;
 mod reporting;
 mod run;
-mod running;
 mod served;
 mod serving;
 mod words;
+mod work;
 
 pub use process::run_process;
 pub use reporting::more_report;

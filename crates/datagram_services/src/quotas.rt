@@ -1,29 +1,46 @@
 //! How much each pass of a squeue may enter.
-ghost use Rattle.std.specs.Prelude.{◌≡◌, ◌*◌, ◌<◌, ◌≤◌, ◌^◌, ℕ, IfOk, Some, length, map, slice_get};
+ghost use Rattle.std.specs.Prelude.{◌≡◌, ◌*◌, ◌<◌, ◌≤◌, ◌^◌, All, IfOk, length, map};
+ghost use Rattle.std.specs.List.{range_with_len};
 ghost use Rattle.capture_reader.specs.Limits.{most_records};
 ghost use Rattle.squeue_state.specs.Behind.{pairs};
 ghost use Rattle.squeue_rings.specs.Runs.{count, is_at};
-ghost use Rattle.ring_jobs.specs.declared.lines.Line.{Line as LineOf};
 
 use perimeter_core::Feed;
-use ring_jobs::Line;
 use squeue_state::Quota;
 use std::alloc::{AllocError, Global};
 
-/// Each ring may enter at squeue `q` the feeds of its line that are at home there, and asks nothing.
-pub fn quotas_at(
+/// By number the quotas of so many squeues. Each ring may enter at a squeue the feeds of its list that are at home there, and asks
+/// nothing. Fails only for want of memory.
+pub fn quotas_for(
     alloc: Global,
-    lines: &[Line],
+    lists: &[Vec<Feed>],
+    squeues: u32,
+) -> Result<Vec<Vec<Quota>>, AllocError>
+    requires { All (λ list. length list.items ≤ 2 * most_records) lists.now }
+    ensures { IfOk result (λ v. map (λ u. pairs u.items) v.items
+        ≡ map (λ q. map (λ list. (count (is_at squeues 0 q) list.items, 0)) lists.now) (range_with_len 0 squeues)) }
+{
+    let mut quotas = Vec::new(alloc);
+    for q in 0..squeues {
+        quotas.push(quotas_at(alloc, lists, squeues, q)?)?;
+    }
+    Ok(quotas)
+}
+
+// The quotas of squeue `q`.
+fn quotas_at(
+    alloc: Global,
+    lists: &[Vec<Feed>],
     squeues: u32,
     q: u32,
 ) -> Result<Vec<Quota>, AllocError>
     requires squeue { q < squeues }
-    requires few { (r : ℕ) (l : LineOf) → slice_get lines.now r ≡ Some l → length l.list.items ≤ 2 * most_records }
-    ensures { IfOk result (λ v. pairs v.items ≡ map (λ l. (count (is_at squeues 0 q) l.list.items, 0)) lines.now) }
+    requires few { All (λ list. length list.items ≤ 2 * most_records) lists.now }
+    ensures { IfOk result (λ v. pairs v.items ≡ map (λ list. (count (is_at squeues 0 q) list.items, 0)) lists.now) }
 {
     let mut quotas = Vec::new(alloc);
-    for line in lines {
-        let feeds = feeds_at(&line.list, squeues, q);
+    for list in lists {
+        let feeds = feeds_at(list.as_slice(), squeues, q);
         quotas.push(Quota { feeds, asks: 0 })?;
     }
     Ok(quotas)

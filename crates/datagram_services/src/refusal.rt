@@ -1,8 +1,8 @@
 //! Why a run gives no report, and what it then writes.
 
 ghost use Rattle.std.specs.Prelude.{◌≡◌, MatchResult, string_bytes};
-ghost use Rattle.std.specs.Io.KnownBytes.{Appends};
-ghost use Rattle.sq_base.specs.Ends.{Rose, end_of};
+ghost use Rattle.sq_base.specs.Ends.{end_of};
+ghost use Rattle.squeue_run.specs.Telling.{TellsLine};
 ghost use Rattle.squeue_run.specs.Lines.{memory_line};
 ghost use Rattle.datagram_services.specs.MoreCauses.{MoreTold};
 ghost use Rattle.datagram_services.specs.RefusalLines.{sqmore};
@@ -95,7 +95,7 @@ pub fn told_usage<E: Sink>(err: &mut E) -> Status
 /// Appends a line, where that works.
 pub fn told<E: Sink>(err: &mut E, line: &[u8], status: Status) -> Status
     ensures status { result ≡ status }
-    ensures line { (Rose (E.write_faults err.old) (E.write_faults err.new) → ⊥) → Appends (E.contents err.old) (E.contents err.new) line.now }
+    ensures line { TellsLine (end_of E.contents E.write_faults err.old err.new) line.now }
 {
     let _ = put(err, line);
     status
@@ -104,10 +104,8 @@ pub fn told<E: Sink>(err: &mut E, line: &[u8], status: Status) -> Status
 /// Appends the line of a bad capture.
 fn told_line<E: Sink>(err: &mut E, line: Result<String, AllocError>) -> Status
     ensures { MatchResult line
-        (λ text. (result ≡ Status.BadCapture)
-        × ((Rose (E.write_faults err.old) (E.write_faults err.new) → ⊥) → Appends (E.contents err.old) (E.contents err.new) (string_bytes text)))
-        (λ _. (result ≡ Status.NoMemory)
-        × ((Rose (E.write_faults err.old) (E.write_faults err.new) → ⊥) → Appends (E.contents err.old) (E.contents err.new) (memory_line sqmore))) }
+        (λ text. (result ≡ Status.BadCapture) × TellsLine (end_of E.contents E.write_faults err.old err.new) (string_bytes text))
+        (λ _. (result ≡ Status.NoMemory) × TellsLine (end_of E.contents E.write_faults err.old err.new) (memory_line sqmore)) }
 {
     match line {
         Ok(line) => told(err, line.as_bytes(), Status::BadCapture),

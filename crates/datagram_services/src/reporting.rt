@@ -22,9 +22,9 @@ use text_digits::push_field;
 pub fn more_report(
     alloc: Global,
     plan: &MorePlan<'_>,
-    served: &MoreServed,
+    served: &MoreServed<'_>,
 ) -> Result<Octets, AllocError>
-    requires { IsMoreServed plan.now served.now }
+    requires { IsMoreServed plan.now served.now.streams }
     ensures { IfOk result (λ text. text ≡ plan_text plan.now) }
 {
     let mut text = Vec::from_slice(alloc, b"more 1\n")?;
@@ -84,11 +84,11 @@ fn push_stream(
     text: &mut Vec<u8>,
     datagram: &mut Vec<u8>,
     plan: &MorePlan<'_>,
-    served: &MoreServed,
+    served: &MoreServed<'_>,
     c: u32,
 ) -> Result<(), AllocError>
     requires place { c < length plan.now.streams }
-    requires served { IsMoreServed plan.now served.now }
+    requires served { IsMoreServed plan.now served.now.streams }
     ensures { OnOk result (IfSome (slice_get plan.now.streams c) (λ s. text.new.items ≡ text.old.items
         ++ stream_text c s (all_served plan.now.file s))) }
 {

@@ -1,79 +1,89 @@
 //! What was served.
-ghost use Rattle.std.specs.Prelude.{◌≡◌, ◌≢◌, ◌<◌, ◌≤◌, ℕ, IfOk, IfSome, Some, length, map, reverse, slice_get};
-ghost use Rattle.datagram_services.specs.Gathering.{AreRows};
-ghost use Rattle.datagram_services.specs.Served.{IsMoreServed};
+ghost use Rattle.std.specs.Prelude.{◌≡◌, ◌<◌, ℕ, false, IfOk, IfSome, Some, length, slice_get};
+ghost use Rattle.stream_blocks.specs.declared.block.StreamBlock.{StreamBlock as BlockOf};
+ghost use Rattle.datagram_services.specs.Lying.{AreThere, HandsOut, lying};
 
 use chargen_service::GenBlock;
-use std::alloc::{AllocError, Global};
+use squeue_pool::Left;
+use std::alloc::AllocError;
 use std::marker::Model;
-use stream_blocks::{Answer, StreamBlock};
-use stream_plan::MorePlan;
+use stream_blocks::{Answer, StreamBlock, StreamBlocks};
 
-/// What the items of each stream of a plan were served into, by the stream's number. No memory was missing.
+/// What the items of each stream of a plan were served into, by the stream's number, and the end of each squeue, by number. No memory
+/// was missing. A block lies where it lay when its squeue ended: so there is none that no squeue served.
 #[derive(Drop)]
-pub struct MoreServed {
-    blocks: Vec<StreamBlock>,
+pub struct MoreServed<'p> {
+    /// How many streams there are.
+    streams: u32,
+    /// What is left of the squeues, by number. The block of stream `c` lies at squeue `c` modulo the squeues.
+    left: Vec<Left<StreamBlocks<'p>>>,
 }
 
-impl Model for MoreServed {
-    ghost use Rattle.std.specs.Prelude.{List, map};
-    ghost use Rattle.stream_blocks.specs.Served.{ServedOf};
-    ghost use Rattle.stream_blocks.specs.Standing.{served_of};
+impl<'p> Model for MoreServed<'p> {
+    ghost use Rattle.squeue_pool.specs.Runs.{ends_of};
+    ghost use Rattle.datagram_services.specs.Lying.{AreThere, served_in};
+    ghost use Rattle.datagram_services.specs.Served.{MoreServedOf};
 
-    ghost Value = { List ServedOf };
+    ghost Value = { MoreServedOf };
 
-    ghost view = { λ s. map served_of s.blocks.items };
+    ghost view = { λ s. record { streams = served_in s.left.items s.streams; ended = ends_of s.left.items } };
+
+    ghost invariant = { λ s. AreThere s.left.items s.streams };
 }
 
-impl MoreServed {
+impl<'p> MoreServed<'p> {
+    /// What squeues left, if the block of none of so many streams is short. Takes no memory.
+    pub(crate) fn of(
+        left: Vec<Left<StreamBlocks<'p>>>,
+        streams: u32,
+    ) -> Result<MoreServed<'p>, AllocError>
+        requires { AreThere left.items streams }
+        ensures { IfOk result (λ v. HandsOut left.entry.items streams v) }
+    {
+        if is_short(left.as_slice(), streams) {
+            return Err(AllocError);
+        }
+        Ok(MoreServed { streams, left })
+    }
+
     /// The answers to the datagrams of stream `c`, in order.
     pub fn answers(&self, c: u32) -> &[Answer]
-        requires { c < length self.now }
-        ensures { IfSome (slice_get self.now c) (λ s. result.now ≡ s.answers) }
+        requires { c < length self.now.streams }
+        ensures { IfSome (slice_get self.now.streams c) (λ s. result.now ≡ s.answers) }
     {
-        self.blocks[c as usize].answers()
+        block_of(self.left.as_slice(), c).answers()
     }
 
     /// The character generator's block of stream `c`, as new where the stream has datagrams: what it sent, and its state.
     pub fn generator(&self, c: u32) -> &GenBlock
-        requires { c < length self.now }
-        ensures { IfSome (slice_get self.now c) (λ s. result.now ≡ s.generator) }
+        requires { c < length self.now.streams }
+        ensures { IfSome (slice_get self.now.streams c) (λ s. result.now ≡ s.generator) }
     {
-        self.blocks[c as usize].generator()
+        block_of(self.left.as_slice(), c).generator()
     }
 }
 
-/// All blocks by their streams' numbers, if none is short. They lie in one row for each squeue, the last squeue's first, each at the
-/// place of its stream.
-pub(crate) fn whole(
-    alloc: Global,
-    plan: &MorePlan<'_>,
-    rows: Vec<Vec<Option<StreamBlock>>>,
-) -> Result<MoreServed, AllocError>
-    requires some { (1 ≤ length rows.items) × (length rows.items ≤ 16) }
-    requires rows { AreRows plan.now (reverse rows.items) }
-    ensures { IfOk result (λ v. IsMoreServed plan.now v) }
+// Whether the block of one of so many streams is short.
+fn is_short(left: &[Left<StreamBlocks<'_>>], streams: u32) -> bool
+    requires { AreThere left.now streams }
+    ensures { result ≡ false → (c : ℕ) (block : BlockOf) → c < streams → lying left.now c ≡ Some (Some block) → block.short ≡ false }
 {
-    let mut rows = rows;
-    rows.reverse();
-    let squeues = rows.len() as u32;
-    let mut blocks = Vec::new(alloc);
-    for c in 0..plan.streams() {
-        let place = take_block(&mut rows[(c % squeues) as usize], c as usize);
-        let Some(block) = place else { unreachable!() };
-        if block.short() {
-            return Err(AllocError);
+    for c in 0..streams {
+        if block_of(left, c).short() {
+            return true;
         }
-        blocks.push(block)?;
     }
-    Ok(MoreServed { blocks })
+    false
 }
 
-// Takes the block out of its place.
-fn take_block(row: &mut Vec<Option<StreamBlock>>, c: usize) -> Option<StreamBlock>
-    requires { c < length row.old.items }
-    ensures taken { slice_get row.old.items c ≡ Some result }
-    ensures others { (k : ℕ) → k ≢ c → slice_get row.new.items k ≡ slice_get row.old.items k }
+// The block of stream `c`.
+fn block_of<'a>(left: &'a [Left<StreamBlocks<'_>>], c: u32) -> &'a StreamBlock
+    requires { (block : BlockOf) × (lying left.now c ≡ Some (Some block)) }
+    ensures { lying left.now c ≡ Some (Some result.now) }
 {
-    row[c].take()
+    let squeue = c as usize % left.len();
+    let Some(block) = left[squeue].resident.block(c) else {
+        unreachable!()
+    };
+    block
 }

@@ -1,7 +1,5 @@
-mod Back
-mod MadeSqueues
 pub mod WholeRun
 mod FewFeeds
-mod Ready
-mod Finished
+mod Each
+mod Suiting
 mod Lying

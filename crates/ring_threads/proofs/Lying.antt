@@ -1,5 +1,5 @@
 -- The blocks that lie at places.
-use Rattle.std.proofs.Common.{◌≡◌, ℕ, zero, suc, ◌<◌, Box, Option, Some, None, List, [], ◌∷◌, length, slice_get, refl, ap, subst, arith}
+use Rattle.std.proofs.Common.{◌≡◌, ℕ, zero, suc, Box, Option, Some, None, List, [], ◌∷◌, length, slice_get, refl, ap, subst, arith}
 use Rattle.std.specs.declared.alloc.Global.{Global}
 use Rattle.conn_blocks.specs.ServeOrder.{BlockOf}
 use Rattle.ring_threads.specs.Lying.{AreThere, blocks_at}

@@ -2,5 +2,4 @@ pub mod Fits
 pub mod Served
 pub mod Lying
 pub mod ServedBlocks
-pub mod Gathering
-pub mod Settings
+pub mod Working

@@ -1,77 +1,89 @@
-//! How the squeues of a run are made.
-ghost use Rattle.std.specs.Prelude.{◌≡◌, ◌<◌, ◌≤◌, ◌+◌, [], All, IfOk, length, vec_capacity};
-ghost use Rattle.turn_gate.specs.History.{Each};
-ghost use Rattle.turn_gate.specs.Passes.{AreFresh};
-ghost use Rattle.squeue_state.specs.Elements.{number_of};
+//! What a run has to do, and how it is set up.
+ghost use Rattle.std.specs.Prelude.{◌≡◌, ◌<◌, All, IfOk, length, map};
+ghost use Rattle.squeue_state.specs.Behind.{pairs};
+ghost use Rattle.squeue_pool.specs.Works.{work_of};
 ghost use Rattle.conn_blocks.specs.Allowed.{all_calls};
-ghost use Rattle.conn_blocks.specs.Limits.{callers};
-ghost use Rattle.squeue_serve.specs.Places.{IsNew};
-ghost use Rattle.squeue_serve.specs.Lending.{AreLent, HaveRoom, IsRoomFor, lent_to, tasks_in};
 ghost use Rattle.ring_quotas.specs.Quotas.{IsInRange};
-ghost use Rattle.ring_threads.specs.Settings.{AreSet, IsSet};
+ghost use Rattle.ring_threads.specs.Working.{AreEach, AreQuotas, IsFirst, IsWorkFor, setup_of};
 
+use crate::lists::lists_of;
 use conn_blocks::{Blocks, Calls};
 use conn_classifier::Plan;
-use ring_jobs::FRONT;
-use ring_quotas::{CALLERS, Setup, quotas_at};
-use squeue_serve::{Job, Squeues, lend};
-use squeue_state::{Pass, Squeue};
+use ring_quotas::{Setup, quotas_at};
+use squeue_pool::{Pool, Work};
+use squeue_state::Quota;
 use std::alloc::{AllocError, Global};
 
-/// How many jobs are lent a pass of each squeue.
-pub fn count_of(setup: &Setup) -> usize
+/// How the run is set up.
+pub fn pool_for(setup: &Setup) -> Pool
     requires { IsInRange setup.now }
-    ensures { result ≡ setup.now.rings + callers }
+    ensures { setup_of result ≡ setup.now }
 {
-    (setup.rings + CALLERS) as usize
-}
-
-/// Makes all squeues, and lends their passes. Where memory is missing some of them may have been made.
-pub fn make_all<'p, T>(
-    alloc: Global,
-    plan: &'p Plan<'_>,
-    calls: &'p Calls,
-    setup: &Setup,
-    jobs: &mut Vec<Job<T>>,
-    squeues: &mut Squeues<Blocks<'p>>,
-) -> Result<(), AllocError>
-    requires setup { IsInRange setup.now }
-    requires calls { All (λ call. call.0 < length plan.now.tuples) (all_calls calls.now) }
-    requires jobs { 1 + (setup.now.rings + callers) + setup.now.squeues ≤ length jobs.old.items }
-    requires places { All (λ j. j.places.items ≡ []) jobs.old.items × HaveRoom setup.now.squeues jobs.old.items }
-    requires empty { (squeues.old.all.items ≡ []) × (squeues.old.rooms.items ≡ []) }
-    requires room { (setup.now.squeues ≤ vec_capacity squeues.old.all) × (setup.now.squeues ≤ vec_capacity squeues.old.rooms) }
-    ensures set { IfOk result (λ _. AreSet plan.now calls.now setup.now.squeues setup.now.rings setup.now.spread squeues.new.all.items) }
-    ensures sizes { Each (λ s. length s.given.starts ≡ length plan.now.tuples) squeues.new.all.items }
-    ensures traced { Each (λ s. s.given.traced ≡ setup.now.trace) squeues.new.all.items }
-    ensures few { length squeues.new.all.items ≤ setup.now.squeues }
-    ensures lent { AreLent IsNew 1 (setup.now.rings + callers) squeues.new.all.items (lent_to jobs.new.items) }
-    ensures rooms { (length squeues.new.rooms.items ≡ length squeues.new.all.items) × All (IsRoomFor (setup.now.rings + callers + 1)) squeues.new.rooms.items }
-    ensures tasks { tasks_in jobs.new.items ≡ tasks_in jobs.old.items }
-{
-    for q in 0..setup.squeues {
-        let (squeue, passes) = make_one(alloc, plan, calls, setup, q)?;
-        lend(squeues, jobs, FRONT, count_of(setup), squeue, passes);
+    Pool {
+        pace: setup.pace(),
+        rings: setup.rings,
+        trace: setup.trace,
     }
-    Ok(())
 }
 
-// Makes squeue number `q`.
-fn make_one<'p>(
+/// What the run has to do: each connection's items and calls. Fails only for want of memory.
+pub fn work_for<'p>(
     alloc: Global,
     plan: &'p Plan<'_>,
     calls: &'p Calls,
     setup: &Setup,
-    q: u32,
-) -> Result<(Squeue<Blocks<'p>>, Vec<Pass>), AllocError>
+) -> Result<Work<Blocks<'p>>, AllocError>
     requires setup { IsInRange setup.now }
-    requires squeue { q < setup.now.squeues }
     requires calls { All (λ call. call.0 < length plan.now.tuples) (all_calls calls.now) }
-    ensures set { IfOk result (λ r. IsSet plan.now calls.now setup.now.squeues setup.now.rings setup.now.spread q r.0) }
-    ensures traced { IfOk result (λ r. r.0.given.traced ≡ setup.now.trace) }
-    ensures passes { IfOk result (λ r. (length r.1.items ≡ setup.now.rings + callers + 1) × AreFresh number_of r.0.gate 0 r.1.items) }
+    ensures { IfOk result (λ w. IsWorkFor plan.now calls.now setup.now (work_of w)) }
 {
-    let quotas = quotas_at(alloc, plan, calls, setup, q)?;
-    let blocks = Blocks::make(alloc, plan, calls, q, setup.squeues, setup.spread)?;
-    Squeue::make(alloc, q, blocks, setup.rings, &quotas, setup.trace)
+    let conns = calls.conns(alloc)?;
+    let lists = lists_of(alloc, plan, setup.rings)?;
+    let quotas = quotas_for(alloc, plan, calls, setup)?;
+    let residents = residents_for(alloc, plan, calls, setup)?;
+    Ok(Work {
+        conns: plan.conns(),
+        residents,
+        quotas,
+        lists,
+        calls: conns,
+    })
+}
+
+// The quotas of each squeue's passes, by its number.
+fn quotas_for(
+    alloc: Global,
+    plan: &Plan<'_>,
+    calls: &Calls,
+    setup: &Setup,
+) -> Result<Vec<Vec<Quota>>, AllocError>
+    requires setup { IsInRange setup.now }
+    requires calls { All (λ call. call.0 < length plan.now.tuples) (all_calls calls.now) }
+    ensures { IfOk result (λ v. AreEach (AreQuotas plan.now calls.now setup.now) setup.now.squeues (map (λ qs. pairs qs.items) v.items)) }
+{
+    let mut quotas = Vec::with_capacity(alloc, setup.squeues as usize)?;
+    for q in 0..setup.squeues {
+        let its = quotas_at(alloc, plan, calls, setup, q)?;
+        quotas.push_reserved(its);
+    }
+    Ok(quotas)
+}
+
+// The blocks that are first at each squeue, by its number.
+fn residents_for<'p>(
+    alloc: Global,
+    plan: &'p Plan<'_>,
+    calls: &'p Calls,
+    setup: &Setup,
+) -> Result<Vec<Blocks<'p>>, AllocError>
+    requires setup { IsInRange setup.now }
+    requires calls { All (λ call. call.0 < length plan.now.tuples) (all_calls calls.now) }
+    ensures { IfOk result (λ v. AreEach (IsFirst plan.now calls.now setup.now) setup.now.squeues v.items) }
+{
+    let mut residents = Vec::with_capacity(alloc, setup.squeues as usize)?;
+    for q in 0..setup.squeues {
+        let blocks = Blocks::make(alloc, plan, calls, q, setup.squeues, setup.spread)?;
+        residents.push_reserved(blocks);
+    }
+    Ok(residents)
 }

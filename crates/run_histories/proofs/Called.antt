@@ -18,7 +18,8 @@ use Rattle.conn_migrate.specs.Stays.{Stay, all_in, stays, reports_from, done_in,
 use Rattle.conn_migrate.proofs.StaysJoin.{all_stays}
 use Rattle.conn_migrate.proofs.StaysKept.{reports_are_done}
 use Rattle.squeue_rings.specs.Made.{makes_call, times_made}
-use Rattle.run_histories.specs.Counting.{times_called, made_in_all}
+use Rattle.squeue_pool.specs.Runs.{made_in_all}
+use Rattle.run_histories.specs.Counting.{times_called}
 use Rattle.run_histories.proofs.Sums.{sum_below, sum_over, if_there, below_none, below_suc, over_none, over_more, same_terms, by_places, over_all}
 
 called_both : (j k : ℕ) (xs ys : List Act) → times_called j k (xs ++ ys) ≡ times_called j k xs + times_called j k ys

@@ -10,12 +10,13 @@ ghost use Rattle.perimeter_core.specs.Legal.{Legal};
 ghost use Rattle.perimeter_core.specs.Ending.{IsOver};
 ghost use Rattle.squeue_state.specs.Naming.{Ending};
 ghost use Rattle.conn_migrate.specs.Stays.{AreLinked};
+ghost use Rattle.squeue_pool.specs.Runs.{made_in_all};
 ghost use Rattle.conn_classifier.specs.Plan.{PlanOf, items_in};
 ghost use Rattle.conn_blocks.specs.CallLists.{CallLists, call_at};
 ghost use Rattle.conn_blocks.specs.ServeOrder.{BlockOf};
 ghost use Rattle.conn_blocks.specs.Holding.{StandsFor};
 ghost use Rattle.conn_blocks.specs.Orders.{IsAll};
-ghost use Rattle.run_histories.specs.Counting.{times_called, made_in_all};
+ghost use Rattle.run_histories.specs.Counting.{times_called};
 
 /// Where the block of a connection is at the end, the calls among its acts are those that all histories together made.
 pub fn a_blocks_calls_are_those_of_all_histories()

@@ -1,18 +1,15 @@
 -- How the parts are taken out of a resident, connection by connection.
-use Rattle.std.proofs.Common.{◌≡◌, ◌≢◌, ℕ, zero, suc, ◌+◌, ◌<◌, ◌≤◌, ◌==◌, true, false, Option, Some, None, List, [], ◌∷◌, ◌++◌, length, map, reverse, slice_get, slice_set, refl, ap, sym, ◌∙◌, subst, arith, inl, inr}
+use Rattle.std.proofs.Common.{◌≡◌, ◌≢◌, ℕ, zero, suc, ◌+◌, ◌<◌, ◌≤◌, ◌==◌, true, false, Option, Some, None, List, [], ◌∷◌, length, slice_get, slice_set, refl, ap, sym, ◌∙◌, subst, arith, inl, inr}
 use Rattle.std.specs.Prelude.{is_some}
 use Rattle.std.proofs.lemmas.Bool.Decides.{nat_tests}
 use Rattle.std.proofs.lemmas.Bool.{cases_eq}
-use Rattle.std.proofs.lemmas.List.{get_or-set_same, length-set, reverse-append}
+use Rattle.std.proofs.lemmas.List.{get_or-set_same, length-set}
 use Rattle.std.proofs.lemmas.Option.{slice_get-get_or}
 use Rattle.perimeter_core.specs.declared.entries.Act.{Act}
 use Rattle.perimeter_core.specs.declared.marks.SynchAct.TheVariants as Done
 use Rattle.perimeter_core.specs.declared.resident.Resident.{Ghosts}
 use Rattle.perimeter_core.specs.Blocks.{Blocks, with_act}
 use Rattle.perimeter_core.specs.Residing.{Here}
-use Rattle.turn_gate.specs.History.{Each}
-use Rattle.squeue_state.specs.Naming.{Ending}
-use Rattle.squeue_state.specs.Told.{Traced}
 use Rattle.squeue_ends.specs.Finishing.{AreTaken, PartTaken, taken, taken_if}
 
 pub set_here : {A : Type 0} (xs : List A) (i : ℕ) (x : A) → i < length xs → slice_get (slice_set xs i x) i ≡ Some x
@@ -24,17 +21,6 @@ set_elsewhere (y ∷ xs) zero zero x apart = absurd (apart refl)
 set_elsewhere (y ∷ xs) zero (suc k) x apart = refl
 set_elsewhere (y ∷ xs) (suc i) zero x apart = refl
 set_elsewhere (y ∷ xs) (suc i) (suc k) x apart = set_elsewhere xs i k x (λ e. apart (ap suc e))
-
-pub each_end : {A : Type 0} (P : A → Type 0) (xs : List A) (x : A) → Each P (xs ++ x ∷ []) → P x
-each_end P [] x h = h.0
-each_end P (y ∷ xs) x h = each_end P xs x h.1
-
--- an end and a trace that are added behind the others come first by number
-pub end_more : (ends : List (Ending × Traced)) (e : Ending) (t : Traced) → map (λ (x : Ending × Traced). x.0) (reverse (ends ++ (e, t) ∷ [])) ≡ e ∷ map (λ (x : Ending × Traced). x.0) (reverse ends)
-end_more ends e t = ap (map (λ (x : Ending × Traced). x.0)) (reverse-append ends ((e, t) ∷ []))
-
-pub trace_more : (ends : List (Ending × Traced)) (e : Ending) (t : Traced) → map (λ (x : Ending × Traced). x.1) (reverse (ends ++ (e, t) ∷ [])) ≡ t ∷ map (λ (x : Ending × Traced). x.1) (reverse ends)
-trace_more ends e t = ap (map (λ (x : Ending × Traced). x.1)) (reverse-append ends ((e, t) ∷ []))
 
 -- the blocks that are left when those of the first connections were taken
 abbrev pub left_after : ℕ → Blocks → Blocks

@@ -1,22 +1,24 @@
 -- What is left of squeues that have ended.
-use Rattle.std.specs.Prelude.{◌≡◌, ℕ, ◌<◌, Option, Some, None, List, [], ◌∷◌, length, slice_get}
-use Rattle.turn_gate.specs.declared.pass.Pass.{Pass}
+use Rattle.std.specs.Prelude.{◌≡◌, ℕ, ◌<◌, true, false, Option, Some, None, List, [], length, map, slice_get}
 use Rattle.perimeter_core.specs.declared.entries.Act.{Act}
 use Rattle.perimeter_core.specs.declared.marks.SynchAct.TheVariants as Done
 use Rattle.perimeter_core.specs.declared.resident.Resident.{Ghosts}
-use Rattle.perimeter_core.specs.Blocks.{Blocks, with_act}
-use Rattle.perimeter_core.specs.History.{Element}
-use Rattle.squeue_state.specs.Naming.{Ending, Named}
+use Rattle.perimeter_core.specs.Blocks.{Blocks, peri, with_act}
+use Rattle.perimeter_core.specs.Deeds.{acts}
+use Rattle.perimeter_core.specs.History.{run}
+use Rattle.perimeter_core.specs.Perimeter.{is_here}
+use Rattle.squeue_state.specs.Naming.{Ending}
 use Rattle.squeue_state.specs.Told.{Traced}
-use Rattle.squeue_serve.specs.Lending.{HasCome}
+use Rattle.squeue_pool.specs.declared.pool.Pool.{Pool}
+use Rattle.squeue_pool.specs.declared.work.Left.{Left}
+use Rattle.squeue_pool.specs.Runs.{HasRun, ends_of}
+use Rattle.squeue_pool.specs.Works.{WorkOf}
 
--- at the place of each connection its part, if it lies there; by number the end and the trace of each squeue; and for how many
--- squeues there is room
+-- at the place of each connection its part, if it lies there; and by number the end and the trace of each squeue
 pub record FinishedOf (P : Type 0) : Type 0 where
   pub parts : List (Option P)
   pub ended : List Ending
   pub traces : List Traced
-  pub room : ℕ
 
 -- nothing lies at any of these places
 abbrev pub AreEmpty : {P : Type 0} → List (Option P) → Type 0
@@ -42,14 +44,37 @@ module _ {R P O : Type 0} (G : Ghosts R P O) where
     pub count : length new ≡ length old
     pub each : (blocks : Blocks) → G.stands r blocks → (c : ℕ) → c < length old → PartTaken (G.origin r) c (blocks c) (slice_get old c) (slice_get new c)
 
-  -- A squeue ended. Its end and its trace were added before those of the squeues behind it, and the parts that lay in its resident,
-  -- which stands for what its history did, lie at their places
-  pub record HasFinished (front count q : ℕ) (s : Named R) (having without : ℕ → List (Option (Pass Element))) (old new : FinishedOf P) : Type 0 where
-    pub resident : R
-    pub end : Ending
-    pub trace : Traced
-    pub come : HasCome G front count q s having without resident end trace
-    pub ended : new.ended ≡ end ∷ old.ended
-    pub traces : new.traces ≡ trace ∷ old.traces
-    pub parts : AreTaken resident old.parts new.parts
-    pub room : new.room ≡ old.room
+  -- what was left, of so many connections: each resident stands for what its squeue's history did
+  pub record HaveStood (conns : ℕ) (vs : List (Left R)) : Type 0 where
+    pub stands : (q : ℕ) (v : Left R) → slice_get vs q ≡ Some v → G.stands v.resident (peri v.end.setting v.end.history)
+    pub sizes : (q : ℕ) (v : Left R) → slice_get vs q ≡ Some v → G.size v.resident ≡ conns
+
+  module _ (vs : List (Left R)) (c : ℕ) where
+    -- connection c is here after none of these histories
+    abbrev pub IsNowhere : Type 0
+    IsNowhere = (q : ℕ) (v : Left R) → slice_get vs q ≡ Some v → is_here (run v.end.setting v.end.history) c ≡ false
+
+    -- It is here after one of them. The part is its own, of that squeue's resident, and stands for what was done to it there
+    pub record LayIn (part : P) : Type 0 where
+      pub q : ℕ
+      pub left : Left R
+      pub is_left : slice_get vs q ≡ Some left
+      pub here : is_here (run left.end.setting left.end.history) c ≡ true
+      pub own : G.is_part_of (G.origin left.resident) c part
+      pub stands : G.part_stands part (acts left.end.setting left.end.history c)
+
+    -- what lies at its place
+    abbrev pub LiesSo : Option (Option P) → Type 0
+    LiesSo None = ⊥
+    LiesSo (Some None) = IsNowhere
+    LiesSo (Some (Some part)) = LayIn part
+
+  -- The run has left this: the whole of the histories with their traces, and at the place of each connection its part, which lay in
+  -- one of the residents
+  pub record HasFinished (pool : Pool) (w : WorkOf R) (f : FinishedOf P) : Type 0 where
+    pub left : List (Left R)
+    pub ran : HasRun G pool w left
+    pub ended : f.ended ≡ ends_of left
+    pub traces : f.traces ≡ map (λ v. v.trace) left
+    pub count : length f.parts ≡ w.conns
+    pub each : (c : ℕ) → c < w.conns → (part : P) × (slice_get f.parts c ≡ Some (Some part)) × LayIn left c part

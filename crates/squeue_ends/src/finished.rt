@@ -1,20 +1,19 @@
 //! What is left of squeues that have ended: the parts that lay in their residents, and their ends and traces.
-ghost use Rattle.std.specs.Prelude.{◌≡◌, ℕ, ◌+◌, ◌<◌, ◌≤◌, ◌≢◌, ◌++◌, ◌∷◌, [], true, false, All, Option, Some, IfOk, length, option_map, slice_get};
-ghost use Rattle.turn_gate.specs.History.{Each};
+ghost use Rattle.std.specs.Prelude.{◌≡◌, ℕ, ◌<◌, ◌≤◌, ◌≢◌, [], Option, Some, IfOk, length, map, option_map, reverse, slice_get, vec_capacity};
 ghost use Rattle.perimeter_core.specs.Blocks.{Blocks};
-ghost use Rattle.squeue_state.specs.Naming.{Named};
-ghost use Rattle.squeue_serve.specs.Places.{MayEnd};
-ghost use Rattle.squeue_serve.specs.Lending.{AreLent, IsRoomFor, lent_to, tasks_in};
-ghost use Rattle.squeue_ends.specs.Finishing.{AreEmpty, AreTaken, HasFinished, PartTaken, taken};
+ghost use Rattle.squeue_pool.specs.Works.{IsInRange, Suits, work_of};
+ghost use Rattle.squeue_ends.specs.Finishing.{AreEmpty, AreTaken, HasFinished, HaveStood, LiesSo, PartTaken, taken};
 
-use perimeter_core::Resident;
-use squeue_serve::{Job, Squeues, end_last};
+use perimeter_core::{Hook, Resident};
+use squeue_pool::{Left, Pool, Work, run};
 use squeue_state::{Ended, Trace};
 use std::alloc::{AllocError, Global};
 use std::marker::Model;
+use std::sync::Wait;
+use std::thread::Threads;
 
-/// What is left of squeues that have ended: at the place of each connection its part, where it lay in the resident of one of them,
-/// and by number the end and the trace of each squeue. `finish_last` alone adds to it, out of what `Squeue::finish` gives. So a
+/// What is left of squeues that have ended: at the place of each connection its part, which lay in the resident of one of them, and
+/// by number the end and the trace of each squeue. `run_for_parts` alone makes one, out of what `run` of `squeue_pool` leaves. So a
 /// part that lies here lay in the resident of a squeue whose end stands beside it.
 #[derive(Drop)]
 pub struct Finished<P> {
@@ -24,7 +23,7 @@ pub struct Finished<P> {
 }
 
 impl<P> Model for Finished<P> {
-    ghost use Rattle.std.specs.Prelude.{map, reverse, vec_capacity};
+    ghost use Rattle.std.specs.Prelude.{map, reverse};
     ghost use Rattle.squeue_ends.specs.Finishing.{FinishedOf};
 
     ghost Value = { FinishedOf P };
@@ -33,27 +32,10 @@ impl<P> Model for Finished<P> {
       parts = f.parts.items;
       ended = map (λ e. e.0) (reverse f.ends.items);
       traces = map (λ e. e.1) (reverse f.ends.items);
-      room = vec_capacity f.ends;
     } };
 }
 
 impl<P> Finished<P> {
-    /// Nothing yet, with room for what comes of so many connections and squeues. Fails only for want of memory.
-    pub fn with_room(alloc: Global, conns: u32, squeues: u32) -> Result<Finished<P>, AllocError>
-    where
-        P: Drop,
-        ensures parts { IfOk result (λ f. (length f.parts ≡ conns) × AreEmpty f.parts) }
-        ensures ends { IfOk result (λ f. (f.ended ≡ []) × (f.traces ≡ [])) }
-        ensures room { IfOk result (λ f. squeues ≤ f.room) }
-    {
-        let mut parts = Vec::with_capacity(alloc, conns as usize)?;
-        for _ in 0..conns {
-            parts.push_reserved(None);
-        }
-        let ends = Vec::with_capacity(alloc, squeues as usize)?;
-        Ok(Finished { parts, ends })
-    }
-
     /// The part of connection `c`, where it lies here.
     pub fn part(&self, c: u32) -> Option<&P>
         requires { c < length self.now.parts }
@@ -72,34 +54,66 @@ impl<P> Finished<P> {
     }
 }
 
-/// Ends the last squeue, all of whose jobs are done, and keeps what is left of it. Whether there was one. It takes no memory.
-pub fn finish_last<R: Resident, T>(
-    squeues: &mut Squeues<R>,
-    jobs: &mut Vec<Job<T>>,
-    front: usize,
-    count: usize,
-    finished: &mut Finished<R::Part>,
-) -> bool
+/// Does the work by threads over squeues, as `run` of `squeue_pool` does, and takes the part of each connection out of what is left.
+/// Fails only for want of memory.
+pub fn run_for_parts<R: Resident + Send + Drop, H: Hook + Sync, W: Threads + Wait + Sync>(
+    rt: &W,
+    alloc: Global,
+    hook: &H,
+    pool: &Pool,
+    work: Work<R>,
+) -> Result<Finished<R::Part>, AllocError>
+where
+    R::Part: Drop,
+    requires pool { IsInRange pool.now (length work.calls.items) }
+    requires work { Suits R.Resident pool.now (work_of work) }
+    ensures { IfOk result (λ f. HasFinished R.Resident pool.now (work_of work) f) }
+{
+    let mut parts = empty_places(alloc, work.conns)?;
+    let mut ends = Vec::with_capacity(alloc, pool.squeues() as usize)?;
+    let left = run(rt, alloc, hook, pool, work)?;
+    take_left(left, &mut parts, &mut ends);
+    Ok(Finished { parts, ends })
+}
+
+// So many places, at which nothing lies.
+fn empty_places<P: Drop>(alloc: Global, conns: u32) -> Result<Vec<Option<P>>, AllocError>
+    ensures count { IfOk result (λ v. length v.items ≡ conns) }
+    ensures empty { IfOk result (λ v. AreEmpty v.items) }
+{
+    let mut places = Vec::with_capacity(alloc, conns as usize)?;
+    for _ in 0..conns {
+        places.push_reserved(None);
+    }
+    Ok(places)
+}
+
+// Takes apart what squeues left, the last one first: each part goes to the place of its connection.
+fn take_left<R: Resident>(
+    left: Vec<Left<R>>,
+    places: &mut Vec<Option<R::Part>>,
+    ends: &mut Vec<(Ended, Trace)>,
+)
 where
     R: Drop,
     R::Part: Drop,
-    requires jobs { front + count + length squeues.old.all.items ≤ length jobs.old.items }
-    requires lent { AreLent (MayEnd R.limits) front count squeues.old.all.items (lent_to jobs.old.items) }
-    requires rooms { (length squeues.old.rooms.items ≡ length squeues.old.all.items) × All (IsRoomFor (count + 1)) squeues.old.rooms.items }
-    requires room { length finished.old.ended + length squeues.old.all.items ≤ finished.old.room }
-    requires size { Each (λ (s : Named R). length s.given.starts ≡ length finished.old.parts) squeues.old.all.items }
-    ensures none { result ≡ false → (squeues.new.all.items ≡ []) × (squeues.old.all.items ≡ []) × (jobs.new.items ≡ jobs.old.items) × (finished.new ≡ finished.old) }
-    ensures some { result ≡ true → (s : Named R) × (squeues.old.all.items ≡ squeues.new.all.items ++ s ∷ [])
-        × HasFinished R.Resident front count (length squeues.new.all.items) s (lent_to jobs.old.items) (lent_to jobs.new.items) finished.old finished.new }
-    ensures rooms { (length squeues.new.rooms.items ≡ length squeues.new.all.items) × All (IsRoomFor (count + 1)) squeues.new.rooms.items }
-    ensures tasks { tasks_in jobs.new.items ≡ tasks_in jobs.old.items }
+    requires stood { HaveStood R.Resident (length places.old.items) left.items }
+    requires empty { AreEmpty places.old.items × (ends.old.items ≡ []) }
+    requires room { length left.items ≤ vec_capacity ends.old }
+    ensures count { length places.new.items ≡ length places.old.items }
+    ensures placed { (c : ℕ) → c < length places.old.items → LiesSo R.Resident left.items c (slice_get places.new.items c) }
+    ensures ends { reverse ends.new.items ≡ map (λ v. (v.end, v.trace)) left.items }
 {
-    let Some((resident, ended, trace)) = end_last(squeues, jobs, front, count) else {
-        return false;
-    };
-    take_all(&mut finished.parts, resident);
-    finished.ends.push_reserved((ended, trace));
-    true
+    let mut left = left;
+    while let Some(last) = left.pop() {
+        let Left {
+            resident,
+            end,
+            trace,
+        } = last;
+        take_all(places, resident);
+        ends.push_reserved((end, trace));
+    }
 }
 
 // Takes all parts that are here out of a resident, each to the place of its connection.

@@ -1,8 +1,9 @@
 -- The histories of all squeues that have given marks, with notes by connection and stay.
-use Rattle.std.proofs.Common.{◌≡◌, ℕ, zero, suc, ◌+◌, ◌*◌, ◌/◌, ◌%◌, ◌<◌, ◌==◌, false, Option, Some, None, List, [], ◌∷◌, length, map, refl, ap, sym, ◌∙◌, subst, arith}
+use Rattle.std.proofs.Common.{◌≡◌, ◌≢◌, ℕ, zero, suc, ◌+◌, ◌*◌, ◌/◌, ◌%◌, ◌<◌, ◌==◌, Bool, true, false, Option, Some, None, List, [], ◌∷◌, length, map, refl, ap, sym, ◌∙◌, subst, arith}
 use Rattle.std.specs.Prelude.{slice_get}
 use Rattle.std.specs.Option.{option_map}
 use Rattle.std.specs.List.{enumerate_from, range_with_len}
+use Rattle.std.proofs.lemmas.Bool.Decides.{nat_tests}
 use Rattle.std.proofs.lemmas.List.{length-map}
 use Rattle.std.proofs.lemmas.List.FromFn.{get_or-map-range_with_len, length-map-range_with_len, length-enumerate_from}
 use Rattle.std.proofs.lemmas.Option.{slice_get-map}
@@ -21,7 +22,15 @@ use Rattle.squeue_replay.specs.Histories.{endings_of, noted, stay_of}
 use Rattle.trace_replay.proofs.Full.{full_from, marks_of_full, noted_is}
 use Rattle.trace_replay.proofs.NotesIn.{marks_of}
 use Rattle.trace_replay.proofs.Rounds.{noted_right}
-use Rattle.ring_threads.proofs.WholeRun.{same_test}
+
+same_test : (a b : ℕ) → (a == b) ≡ (b == a)
+same_test a b = by (a == b) (b == a) refl refl
+  where
+    by : (x y : Bool) → (a == b) ≡ x → (b == a) ≡ y → (a == b) ≡ (b == a)
+    by true true u v = u ∙ sym v
+    by false false u v = u ∙ sym v
+    by true false u v = let e : a ≡ b = grind (arith, nat_tests) in let f : b ≢ a = grind (arith, nat_tests) in absurd (f (sym e))
+    by false true u v = let e : b ≡ a = grind (arith, nat_tests) in let f : a ≢ b = grind (arith, nat_tests) in absurd (f (sym e))
 
 numbered_got : {A : Type 0} (n : ℕ) (xs : List A) (i : ℕ) → slice_get (enumerate_from n xs) i ≡ option_map (λ x. (n + i, x)) (slice_get xs i)
 numbered_got n [] i = refl

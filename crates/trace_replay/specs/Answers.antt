@@ -1,7 +1,8 @@
 -- How a replay ends: by its answer, what was read, and what was written.
 use Rattle.std.specs.Prelude.{◌≡◌, ℕ, ◌+◌, ◌≤◌, ◌⊎◌, Bool, true, false, List, length, codes}
 use Rattle.std.specs.Io.KnownBytes.{Appends}
-use Rattle.sq_base.specs.Ends.{AppendsProperly, End, GetsLine, IsUntouched, MetNoFault, OnlyTells, Rose}
+use Rattle.sq_base.specs.Ends.{AppendsProperly, End, IsUntouched, MetNoFault, Rose}
+use Rattle.squeue_run.specs.Telling.{OnlyTells, TellsLine}
 use Rattle.capture_reader.specs.Outcome.{ReadsWhole, Takes}
 use Rattle.trace_replay.specs.declared.reason.Reason.{Reason}
 use Rattle.trace_replay.specs.declared.run.Replayed.{Replayed}
@@ -67,6 +68,6 @@ module _ (most : ℕ) where
   HasReplayed false source out err replayed.NoMemory = MetNoFault source × OnlyTells out err (line (codes "sqreplay: out of memory"))
   HasReplayed false source out err replayed.ReadFault =
       Rose source.faults_were source.faults_are × Takes (λ n. n ≤ most) source.was source.is × OnlyTells out err (line (codes "sqreplay: read fault"))
-  HasReplayed false source out err replayed.WriteFault = GetsFront IsEither source out × GetsLine err (line (codes "sqreplay: write fault"))
+  HasReplayed false source out err replayed.WriteFault = GetsFront IsEither source out × TellsLine err (line (codes "sqreplay: write fault"))
   HasReplayed false source out err replayed.TooLarge =
       MetNoFault source × Takes (λ n. n ≡ most + 1) source.was source.is × OnlyTells out err (line (codes "sqreplay: too large"))

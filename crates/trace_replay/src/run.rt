@@ -4,7 +4,8 @@ ghost use Rattle.std.specs.Prelude.{◌≡◌, ℕ, ◌≤◌, ◌⊎◌, List, 
 ghost use Rattle.std.specs.String.{string_bytes};
 ghost use Rattle.std.specs.Io.KnownBytes.{Appends};
 ghost use Rattle.std.specs.List.{flat_map};
-ghost use Rattle.sq_base.specs.Ends.{AppendsProperly, GetsLine, IsUntouched, Rose, end_of};
+ghost use Rattle.sq_base.specs.Ends.{AppendsProperly, IsUntouched, Rose, end_of};
+ghost use Rattle.squeue_run.specs.Telling.{TellsLine};
 ghost use Rattle.perimeter_core.specs.declared.marks.Mark.{Mark};
 ghost use Rattle.squeue_report.specs.TraceText.{mark_line};
 ghost use Rattle.trace_lines.specs.Printed.{ArePrintedMarks};
@@ -149,7 +150,7 @@ fn answer<K: Sink, E: Sink>(out: &mut K, err: &mut E, text: &[u8], replayed: Rep
         × IsUntouched (end_of E.contents E.write_faults err.old err.new))
         ⊎ ((result ≡ Replayed.WriteFault) × AppendsProperly (K.contents out.old) (K.contents out.new) text.now
         × Rose (K.write_faults out.old) (K.write_faults out.new)
-        × GetsLine (end_of E.contents E.write_faults err.old err.new) (line (codes "sqreplay: write fault"))) }
+        × TellsLine (end_of E.contents E.write_faults err.old err.new) (line (codes "sqreplay: write fault"))) }
 {
     match put(out, text) {
         Ok(()) => replayed,
@@ -160,7 +161,7 @@ fn answer<K: Sink, E: Sink>(out: &mut K, err: &mut E, text: &[u8], replayed: Rep
 /// Appends a line to `err`, where that works.
 pub fn told<E: Sink>(err: &mut E, text: &[u8], replayed: Replayed) -> Replayed
     ensures same { result ≡ replayed }
-    ensures told { GetsLine (end_of E.contents E.write_faults err.old err.new) text.now }
+    ensures told { TellsLine (end_of E.contents E.write_faults err.old err.new) text.now }
 {
     let _ = put(err, text);
     replayed

@@ -18,13 +18,14 @@ use Rattle.squeue_state.specs.Naming.{Ending}
 use Rattle.squeue_state.specs.Told.{marks_of}
 use Rattle.squeue_enter.specs.declared.Mode.TheVariants as Mode'
 use Rattle.squeue_rings.specs.Keeping.{KeepsPace}
+use Rattle.squeue_pool.specs.Keeping.{PassesKeep}
 use Rattle.squeue_rings.specs.Noted.{AreNoted}
 use Rattle.conn_migrate.specs.Stays.{AreLinked, IsLinked, StartsAtHome, Stay, all_in, ended_stay, stay, stays_in}
 use Rattle.tcb_machine.specs.declared.kinds.Call.{Call}
 use Rattle.std.specs.Option.{option_map_or}
 use Rattle.conn_blocks.specs.CallLists.{call_at}
 use Rattle.conn_blocks.specs.Orders.{IsWhole, settle}
-use Rattle.run_histories.specs.Counting.{made_in_all}
+use Rattle.squeue_pool.specs.Runs.{made_in_all}
 use Rattle.ring_quotas.specs.Quotas.{setting_at}
 use Rattle.ring_threads.specs.Fits.{Fits, HistoryFits, IsHereOnce}
 use Rattle.ring_threads.specs.Served.{HasServed}
@@ -115,7 +116,8 @@ none_called j k = refl
 module _ (file : CaptureFile) (counts : Counts) (t : Tuple) (x y : Item) (legal : Legal first_setting first_history) (over : IsOver first_setting (run first_setting first_history))
     (keeps : KeepsPace 2 1 Mode'.Process 64 0 first_setting 0 first_history) (set : first_setting ≡ setting_at (plan file counts t x y) [] 2 1 1 0)
     (then_legal : Legal second_setting second_history) (then_over : IsOver second_setting (run second_setting second_history))
-    (then_keeps : KeepsPace 2 1 Mode'.Process 64 1 second_setting 0 second_history) (then_set : second_setting ≡ setting_at (plan file counts t x y) [] 2 1 1 1) where
+    (then_keeps : KeepsPace 2 1 Mode'.Process 64 1 second_setting 0 second_history) (then_set : second_setting ≡ setting_at (plan file counts t x y) [] 2 1 1 1)
+    (first_passes : PassesKeep Mode'.Process first) (second_passes : PassesKeep Mode'.Process second) where
   abbrev p : PlanOf
   p = plan file counts t x y
 
@@ -158,6 +160,7 @@ module _ (file : CaptureFile) (counts : Counts) (t : Tuple) (x y : Item) (legal 
     fits = fits;
     served = one_served file counts t x y;
     called = λ c j k lt. subst (λ d. made_in_all d j k both ≡ option_map_or (λ (x : ℕ × Call). if x.0 == d then 1 else 0) (call_at [] j k) 0) (sym (is_zero c lt)) (none_called j k);
+    keep = of_each (λ q e. PassesKeep Mode'.Process e) first_passes second_passes;
     traces = refl;
     traced = of_each (λ q e. IfSome (slice_get (no_trace ∷ no_trace ∷ []) q) (λ t. marks_of t ≡ [])) refl refl;
   }

@@ -17,13 +17,14 @@ use Rattle.squeue_state.specs.Naming.{Ending}
 use Rattle.squeue_state.specs.Told.{marks_of}
 use Rattle.squeue_enter.specs.declared.Mode.TheVariants as Mode'
 use Rattle.squeue_rings.specs.Keeping.{KeepsPace}
+use Rattle.squeue_pool.specs.Keeping.{PassesKeep}
 use Rattle.squeue_rings.specs.Noted.{AreNoted}
 use Rattle.conn_migrate.specs.Stays.{AreLinked, IsLinked, StartsAtHome, Stay, all_in, stay, stays, stays_in}
 use Rattle.tcb_machine.specs.declared.kinds.Call.{Call}
 use Rattle.std.specs.Option.{option_map_or}
 use Rattle.conn_blocks.specs.CallLists.{call_at}
 use Rattle.conn_blocks.specs.Orders.{IsWhole, settle}
-use Rattle.run_histories.specs.Counting.{made_in_all}
+use Rattle.squeue_pool.specs.Runs.{made_in_all}
 use Rattle.ring_quotas.specs.Quotas.{setting_at}
 use Rattle.ring_threads.specs.Fits.{Fits, HistoryFits, IsHereOnce}
 use Rattle.ring_threads.specs.Served.{HasServed}
@@ -70,7 +71,8 @@ module _ (file : CaptureFile) (counts : Counts) (t : Tuple) (x y : Item) where
   }
 
 module _ (file : CaptureFile) (counts : Counts) (t : Tuple) (x y : Item) (legal : Legal setting history) (over : IsOver setting (run setting history))
-    (keeps : KeepsPace 1 0 Mode'.Process 64 0 setting 0 history) (set : setting ≡ setting_at (plan file counts t x y) [] 1 1 0 0) where
+    (keeps : KeepsPace 1 0 Mode'.Process 64 0 setting 0 history) (set : setting ≡ setting_at (plan file counts t x y) [] 1 1 0 0)
+    (passes : PassesKeep Mode'.Process ending) where
   abbrev p : PlanOf
   p = plan file counts t x y
 
@@ -130,6 +132,7 @@ module _ (file : CaptureFile) (counts : Counts) (t : Tuple) (x y : Item) (legal 
     fits = fits;
     served = one_served file counts t x y;
     called = λ c j k lt. subst (λ d. made_in_all d j k (ending ∷ []) ≡ option_map_or (λ (x : ℕ × Call). if x.0 == d then 1 else 0) (call_at [] j k) 0) (sym (is_zero c lt)) (none_called j k);
+    keep = λ q e at. subst (PassesKeep Mode'.Process) (only ending e q at).1 passes;
     traces = refl;
     traced = λ q e at. subst (λ k. IfSome (slice_get (no_trace ∷ []) k) (λ t. marks_of t ≡ [])) (sym (only ending e q at).0) refl;
   }

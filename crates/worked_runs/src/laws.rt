@@ -9,17 +9,20 @@ ghost use Rattle.perimeter_core.specs.Ending.{IsOver};
 ghost use Rattle.perimeter_core.specs.History.{run};
 ghost use Rattle.perimeter_core.specs.Legal.{Legal};
 ghost use Rattle.squeue_enter.specs.declared.Mode.TheVariants as Mode;
+ghost use Rattle.squeue_pool.specs.Keeping.{PassesKeep};
 ghost use Rattle.squeue_rings.specs.Keeping.{KeepsPace};
 ghost use Rattle.ring_quotas.specs.Quotas.{setting_at};
 ghost use Rattle.ring_threads.specs.Served.{HasServed};
 ghost use Rattle.worked_runs.specs.OneSqueue as One;
 ghost use Rattle.worked_runs.specs.TwoSqueues as Two;
 
-/// The history is legal, ends, keeps the pace of its setup, and has the setting of its homes and quotas.
+/// The history is legal, ends, keeps the pace of its setup, each mark of all passes is the one for what its turn found, and it has the
+/// setting of its homes and quotas.
 pub fn a_history_fits()
     ensures legal { Legal One.setting One.history }
     ensures over { IsOver One.setting (run One.setting One.history) }
     ensures keeps { KeepsPace 1 0 Mode.Process 64 0 One.setting 0 One.history }
+    ensures passes { PassesKeep Mode.Process One.ending }
     ensures set { (file : CaptureFile) (counts : Counts) (t : Tuple) (x y : Item) → One.setting ≡ setting_at (One.plan file counts t x y) [] 1 1 0 0 }
 {}
 
@@ -36,6 +39,7 @@ pub fn a_history_with_an_out_fits()
     ensures legal { Legal Two.first_setting Two.first_history }
     ensures over { IsOver Two.first_setting (run Two.first_setting Two.first_history) }
     ensures keeps { KeepsPace 2 1 Mode.Process 64 0 Two.first_setting 0 Two.first_history }
+    ensures passes { PassesKeep Mode.Process Two.first }
     ensures set { (file : CaptureFile) (counts : Counts) (t : Tuple) (x y : Item) → Two.first_setting ≡ setting_at (One.plan file counts t x y) [] 2 1 1 0 }
 {}
 
@@ -44,6 +48,7 @@ pub fn a_history_with_an_in_fits()
     ensures legal { Legal Two.second_setting Two.second_history }
     ensures over { IsOver Two.second_setting (run Two.second_setting Two.second_history) }
     ensures keeps { KeepsPace 2 1 Mode.Process 64 1 Two.second_setting 0 Two.second_history }
+    ensures passes { PassesKeep Mode.Process Two.second }
     ensures set { (file : CaptureFile) (counts : Counts) (t : Tuple) (x y : Item) → Two.second_setting ≡ setting_at (One.plan file counts t x y) [] 2 1 1 1 }
 {}
 

@@ -1,0 +1,26 @@
+-- What the streams of a plan are as work for squeues and rings.
+use Rattle.std.specs.Prelude.{◌≡◌, ℕ, Some, List, [], length, map, slice_get}
+use Rattle.std.specs.List.{range_with_len}
+use Rattle.placed_parts.specs.Standing.{first_here}
+use Rattle.squeue_pool.specs.Works.{WorkOf}
+use Rattle.stream_plan.specs.Streams.{MorePlanOf}
+use Rattle.stream_blocks.specs.declared.blocks.StreamBlocks.{StreamBlocks}
+use Rattle.stream_blocks.specs.Standing.{Stands, calls_of, origin_of, size_of}
+use Rattle.datagram_services.specs.Fits.{quotas_at}
+use Rattle.datagram_services.specs.Lists.{lists_of}
+
+-- the first resident of squeue q: the streams are here whose number leaves q, divided by the squeues
+pub record IsFirst (p : MorePlanOf) (squeues q : ℕ) (r : StreamBlocks) : Type 0 where
+  pub size : size_of r ≡ length p.streams
+  pub origin : origin_of r ≡ p
+  pub calls : calls_of r ≡ []
+  pub stands : Stands r (first_here (length p.streams) q squeues)
+
+-- such a resident for each squeue, the quotas and the lists of the plan, and no calls
+pub record IsWorkFor (p : MorePlanOf) (squeues rings : ℕ) (w : WorkOf StreamBlocks) : Type 0 where
+  pub conns : w.conns ≡ length p.streams
+  pub count : length w.residents ≡ squeues
+  pub first : (q : ℕ) (r : StreamBlocks) → slice_get w.residents q ≡ Some r → IsFirst p squeues q r
+  pub quotas : w.quotas ≡ map (quotas_at p squeues rings) (range_with_len 0 squeues)
+  pub lists : w.lists ≡ lists_of p rings
+  pub calls : w.calls ≡ []
