@@ -32,3 +32,4 @@ mod GeneratedSize
 mod GeneratedAccepted
 mod GeneratedRead
 pub mod NoSpread
+pub mod TellLemmas

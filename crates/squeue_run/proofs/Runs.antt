@@ -2,7 +2,7 @@
 use Rattle.std.proofs.Common.{◌≡◌, ℕ, List, [], Option, Some, None, inl, inr, subst, sym, ap, refl, arith, Bool, true, false}
 use Rattle.std.specs.Io.KnownBytes.{Appends}
 use Rattle.std.proofs.KnownBytes.{Consumes-kept, Consumes-nil}
-use Rattle.sq_base.specs.Ends.{Rose, AppendsProperly, End, GetsLine, IsUntouched, MetNoFault}
+use Rattle.sq_base.specs.Ends.{Rose, AppendsProperly, End, IsUntouched, MetNoFault}
 use Rattle.sq_base.specs.declared.kinds.Status.{Status}
 use Rattle.sq_base.specs.declared.kinds.Status.TheVariants as status
 use Rattle.capture_reader.specs.declared.fault.CaptureFault.{CaptureFault}
@@ -17,9 +17,10 @@ use Rattle.squeue_run.specs.declared.refusal.Refusal.TheVariants as refusal
 use Rattle.squeue_run.specs.Lines.{sqrun, memory_line, write_line, bad_line, many_marks_line, pcapng_line, missing_line}
 use Rattle.squeue_run.specs.Ran.{HandsBack, HasRan, RanBy, RanFor, RanGenerated, RanRead, RanRefused, HasRead, TakesFew}
 use Rattle.squeue_run.specs.Causes.{CountsFaults, Fails, FailsBy, GeneratedFails, Gives, GivesBy, LineOrMemory, ReadingFails, RefusedWords, Told}
+use Rattle.squeue_run.specs.Telling.{TellsLine}
 
 line_or_memory : (P : Status → Type 0) (wanted : Status) (text : List ℕ) (err : End) (s : Status)
-    → (GetsLine err text → P wanted) → (GetsLine err (memory_line sqrun) → P status.NoMemory) → LineOrMemory wanted text err s → P s
+    → (TellsLine err text → P wanted) → (TellsLine err (memory_line sqrun) → P status.NoMemory) → LineOrMemory wanted text err s → P s
 line_or_memory P wanted text err s line memory (inl t) = subst P (sym t.0) (line t.1)
 line_or_memory P wanted text err s line memory (inr t) = subst P (sym t.0) (memory t.1)
 
@@ -106,7 +107,7 @@ not_read a (refusal.Pcapng (pcapng.PacketLength i k)) source out err s u (inr h)
     line_or_memory (RanRead a source out err None) status.BadCapture (pcapng_line sqrun (pcapng.PacketLength i k)) err s (λ g. inr (pcapng.PacketLength i k, tt, h, (u, g))) (λ g. (u, g)) t
 not_read a (refusal.NoConnection c conns) source out err s u h t =
     let IsFirst : ℕ → Type 0 = λ n. IsFirstMissing n c a.calls in
-    let Gets : ℕ → Type 0 = λ n. GetsLine err (missing_line c n) in
+    let Gets : ℕ → Type 0 = λ n. TellsLine err (missing_line c n) in
     line_or_memory (RanRead a source out err None) status.NoConnection (missing_line c conns) err s
     (λ g. (h.0, h.1, (c, subst IsFirst h.2.0 h.2.1, (u, subst Gets h.2.0 g)))) (λ g. (u, g)) t
 not_read a (refusal.LongTrace n) source out err s u h t =
@@ -179,18 +180,18 @@ pub done : (words : Option Asked) (source out err : End) (v : ServedOf) (text by
     → HasRan words source out err (Some v) status.Ok
 done words source out err v text bytes h e w k u = record { ran = done_for words source out err v text bytes h e w k u; handed = tt }
 
-cut_by : (number : Option ℕ) (a : Asked) (source out err : End) (v : ServedOf) (text : List ℕ) → GivesBy number a source v text → AppendsProperly out.was out.is text → Rose out.faults_were out.faults_are → GetsLine err (write_line sqrun)
+cut_by : (number : Option ℕ) (a : Asked) (source out err : End) (v : ServedOf) (text : List ℕ) → GivesBy number a source v text → AppendsProperly out.was out.is text → Rose out.faults_were out.faults_are → TellsLine err (write_line sqrun)
     → RanBy number a source out err None status.WriteFault
 cut_by (Some n) a source out err v text h w r g = (h.0, (record { served = v; text = text; output = h.1; written = w; failed = r }, g))
 cut_by None a source out err v text h w r g = ((h.0, h.1), (h.2.0, h.2.1, h.2.2.0, record { served = v; text = text; output = h.2.2.1; written = w; failed = r }, g))
 
 cut_for : (words : Option Asked) (source out err : End) (v : ServedOf) (text bytes : List ℕ) → Gives words source v text → bytes ≡ text → AppendsProperly out.was out.is bytes → Rose out.faults_were out.faults_are
-    → GetsLine err (write_line sqrun) → RanFor words source out err None status.WriteFault
+    → TellsLine err (write_line sqrun) → RanFor words source out err None status.WriteFault
 cut_for None source out err v text bytes h e w r g = absurd h
 cut_for (Some a) source out err v text bytes h e w r g = cut_by a.number a source out err v text h (subst (AppendsProperly out.was out.is) e w) r g
 
 pub cut : (words : Option Asked) (source out err : End) (v : ServedOf) (text bytes : List ℕ) → Gives words source v text → bytes ≡ text → AppendsProperly out.was out.is bytes → Rose out.faults_were out.faults_are
-    → GetsLine err (write_line sqrun) → HasRan words source out err None status.WriteFault
+    → TellsLine err (write_line sqrun) → HasRan words source out err None status.WriteFault
 cut words source out err v text bytes h e w r g = record { ran = cut_for words source out err v text bytes h e w r g; handed = refl }
 
 no_memory_by : (number : Option ℕ) (a : Asked) (source : End) → IsUntouched source → FailsBy number a source refusal.NoMemory

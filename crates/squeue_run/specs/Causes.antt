@@ -1,6 +1,6 @@
 -- What the steps of a run say to each other: what was served and is to be written, or why nothing is.
 use Rattle.std.specs.Prelude.{◌≡◌, ℕ, List, Option, Some, None, ◌⊎◌}
-use Rattle.sq_base.specs.Ends.{Rose, End, GetsLine, IsUntouched, MetNoFault}
+use Rattle.sq_base.specs.Ends.{Rose, End, IsUntouched, MetNoFault}
 use Rattle.sq_base.specs.declared.kinds.Status.{Status}
 use Rattle.sq_base.specs.declared.kinds.Status.TheVariants as status
 use Rattle.capture_reader.specs.Outcome.{CaptureFile, BytesFail}
@@ -18,25 +18,26 @@ use Rattle.squeue_run.specs.Input.{ReadsSuch}
 use Rattle.pcapng_reader.specs.Input.{IsRefusedCapture, IsRefusedPcapng}
 use Rattle.squeue_run.specs.Output.{IsReport, IsSummary}
 use Rattle.squeue_run.specs.Ran.{IsLongTrace, IsServable, Reads, TakesFew, conns_of}
+use Rattle.squeue_run.specs.Telling.{TellsLine}
 
 -- the line and the status of a refusal; where memory for the line is missing, that is the refusal
 abbrev pub LineOrMemory : Status → List ℕ → End → Status → Type 0
-LineOrMemory wanted text err s = ((s ≡ wanted) × GetsLine err text) ⊎ ((s ≡ status.NoMemory) × GetsLine err (memory_line sqrun))
+LineOrMemory wanted text err s = ((s ≡ wanted) × TellsLine err text) ⊎ ((s ≡ status.NoMemory) × TellsLine err (memory_line sqrun))
 
 abbrev pub Told : Refusal → End → Status → Type 0
-Told refusal.NoMemory err s = (s ≡ status.NoMemory) × GetsLine err (memory_line sqrun)
-Told refusal.Usage err s = (s ≡ status.Usage) × GetsLine err usage_line
-Told (refusal.Capture fault.NoMemory) err s = (s ≡ status.NoMemory) × GetsLine err (memory_line sqrun)
-Told (refusal.Capture fault.Read) err s = (s ≡ status.ReadFault) × GetsLine err (read_line sqrun)
-Told (refusal.Capture (fault.TooLarge n)) err s = (s ≡ status.TooLarge) × GetsLine err (many_bytes_line sqrun)
-Told (refusal.Capture fault.TooManyRecords) err s = (s ≡ status.TooLarge) × GetsLine err (many_records_line sqrun)
+Told refusal.NoMemory err s = (s ≡ status.NoMemory) × TellsLine err (memory_line sqrun)
+Told refusal.Usage err s = (s ≡ status.Usage) × TellsLine err usage_line
+Told (refusal.Capture fault.NoMemory) err s = (s ≡ status.NoMemory) × TellsLine err (memory_line sqrun)
+Told (refusal.Capture fault.Read) err s = (s ≡ status.ReadFault) × TellsLine err (read_line sqrun)
+Told (refusal.Capture (fault.TooLarge n)) err s = (s ≡ status.TooLarge) × TellsLine err (many_bytes_line sqrun)
+Told (refusal.Capture fault.TooManyRecords) err s = (s ≡ status.TooLarge) × TellsLine err (many_records_line sqrun)
 Told (refusal.Capture (fault.ShortHeader n)) err s = LineOrMemory status.BadCapture (bad_line sqrun (fault.ShortHeader n)) err s
 Told (refusal.Capture (fault.Magic magic)) err s = LineOrMemory status.BadCapture (bad_line sqrun (fault.Magic magic)) err s
 Told (refusal.Capture (fault.Version major minor)) err s = LineOrMemory status.BadCapture (bad_line sqrun (fault.Version major minor)) err s
 Told (refusal.Capture (fault.Link n)) err s = LineOrMemory status.BadCapture (bad_line sqrun (fault.Link n)) err s
 Told (refusal.Capture (fault.RecordLength index len)) err s = LineOrMemory status.BadCapture (bad_line sqrun (fault.RecordLength index len)) err s
-Told (refusal.Pcapng pcapng.NoMemory) err s = (s ≡ status.NoMemory) × GetsLine err (memory_line sqrun)
-Told (refusal.Pcapng pcapng.TooManyRecords) err s = (s ≡ status.TooLarge) × GetsLine err (many_records_line sqrun)
+Told (refusal.Pcapng pcapng.NoMemory) err s = (s ≡ status.NoMemory) × TellsLine err (memory_line sqrun)
+Told (refusal.Pcapng pcapng.TooManyRecords) err s = (s ≡ status.TooLarge) × TellsLine err (many_records_line sqrun)
 Told (refusal.Pcapng (pcapng.ShortSection n)) err s = LineOrMemory status.BadCapture (pcapng_line sqrun (pcapng.ShortSection n)) err s
 Told (refusal.Pcapng (pcapng.Magic i found)) err s = LineOrMemory status.BadCapture (pcapng_line sqrun (pcapng.Magic i found)) err s
 Told (refusal.Pcapng (pcapng.BlockLength i n)) err s = LineOrMemory status.BadCapture (pcapng_line sqrun (pcapng.BlockLength i n)) err s

@@ -10,3 +10,4 @@ pub mod GeneratorState
 pub mod Output
 pub mod Ran
 pub mod Causes
+pub mod Telling

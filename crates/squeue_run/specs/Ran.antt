@@ -1,7 +1,7 @@
 -- How a run ends: by its status, what was read, what was written, which line was told, and what is handed back.
 use Rattle.std.specs.Prelude.{◌≡◌, ◌<◌, ◌≤◌, ℕ, true, List, Option, Some, None, length, ◌⊎◌, Bool}
 use Rattle.std.specs.Io.KnownBytes.{Appends}
-use Rattle.sq_base.specs.Ends.{AppendsProperly, End, GetsLine, IsUntouched, MetNoFault, OnlyTells, Rose}
+use Rattle.sq_base.specs.Ends.{AppendsProperly, End, IsUntouched, MetNoFault, Rose}
 use Rattle.sq_base.specs.declared.kinds.Status.{Status}
 use Rattle.sq_base.specs.declared.kinds.Status.TheVariants as status
 use Rattle.capture_reader.specs.Limits.{most_taken}
@@ -21,6 +21,7 @@ use Rattle.squeue_run.specs.Output.{IsReport, IsSummary}
 use Rattle.squeue_run.specs.Limits.{most_marks}
 use Rattle.squeue_run.specs.Lines.{sqrun, usage_line, memory_line, read_line, write_line, bad_line, pcapng_line}
 use Rattle.squeue_run.specs.Lines.{many_bytes_line, many_records_line, many_marks_line, missing_line}
+use Rattle.squeue_run.specs.Telling.{OnlyTells, TellsLine}
 
 -- such an output of what is handed back was written whole, and no write failed
 pub record GetsWhole (IsOutput : ServedOf → List ℕ → Type 0) (out : End) (back : Option ServedOf) : Type 0 where
@@ -105,7 +106,7 @@ RanRefused out err _ = ⊥
 -- an input that was generated for a number
 abbrev pub RanGenerated : ℕ → Asked → End → End → Option ServedOf → Status → Type 0
 RanGenerated number a out err back status.Ok = GetsWhole (IsSummary number a) out back × IsUntouched err
-RanGenerated number a out err back status.WriteFault = GetsFront (IsSummary number a) out × GetsLine err (write_line sqrun)
+RanGenerated number a out err back status.WriteFault = GetsFront (IsSummary number a) out × TellsLine err (write_line sqrun)
 RanGenerated number a out err back status.NoMemory = OnlyTells out err (memory_line sqrun)
 RanGenerated number a out err back _ = ⊥
 
@@ -114,7 +115,7 @@ abbrev pub RanRead : Asked → End → End → End → Option ServedOf → Statu
 RanRead a source out err back status.Ok =
     (file : CaptureFile) × Reads source file × IsServable file a × GetsWhole (IsReport file a) out back × IsUntouched err
 RanRead a source out err back status.WriteFault =
-    (file : CaptureFile) × Reads source file × IsServable file a × GetsFront (IsReport file a) out × GetsLine err (write_line sqrun)
+    (file : CaptureFile) × Reads source file × IsServable file a × GetsFront (IsReport file a) out × TellsLine err (write_line sqrun)
 RanRead a source out err back status.NoConnection =
     (file : CaptureFile) × Reads source file
     × ((c : ℕ) × IsFirstMissing (conns_of file a.verify) c a.calls × OnlyTells out err (missing_line c (conns_of file a.verify)))

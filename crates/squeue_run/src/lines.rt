@@ -1,11 +1,11 @@
 //! The lines that the program writes where it gives no report. Those of a bad capture serve another program too, under its own name.
 
 ghost use Rattle.std.specs.Prelude.{◌≡◌, ◌++◌, IfOk, string_bytes};
-ghost use Rattle.std.specs.Io.KnownBytes.{Appends};
-ghost use Rattle.sq_base.specs.Ends.{Rose};
+ghost use Rattle.sq_base.specs.Ends.{end_of};
 ghost use Rattle.squeue_enter.specs.Ways.{mode_words};
 ghost use Rattle.squeue_run.specs.Lines.{bad_line, capture_text, many_marks_line, missing_line, pcapng_line, pcapng_text, shown_line};
 ghost use Rattle.squeue_run.specs.Ran.{IsBad, IsBadPcapng};
+ghost use Rattle.squeue_run.specs.Telling.{TellsLine};
 
 use capture_reader::CaptureFault;
 use pcapng_reader::PcapngFault;
@@ -133,17 +133,16 @@ pub fn many_marks(alloc: Global, marks: u64) -> Result<String, AllocError>
     format!(in alloc; "sqrun: too large: trace of {marks} marks\n")
 }
 
-/// Appends a line, where that works.
+/// Appends a line, where that works. A write that failed isn't tried again, and nothing is written behind it.
 pub fn tell<E: Sink>(err: &mut E, line: &[u8])
-    ensures { (Rose (E.write_faults err.old) (E.write_faults err.new) → ⊥) → Appends (E.contents err.old) (E.contents err.new) line.now }
+    ensures { TellsLine (end_of E.contents E.write_faults err.old err.new) line.now }
 {
     let _ = put(err, line);
 }
 
 /// Appends a usage line: this front, the modes' words and this end. Where a write fails, the rest isn't tried.
 pub fn tell_usage<E: Sink>(err: &mut E, front: &[u8], end: &[u8])
-    ensures { (Rose (E.write_faults err.old) (E.write_faults err.new) → ⊥)
-        → Appends (E.contents err.old) (E.contents err.new) (front.now ++ (mode_words ++ end.now)) }
+    ensures { TellsLine (end_of E.contents E.write_faults err.old err.new) (front.now ++ (mode_words ++ end.now)) }
 {
     let Ok(()) = put(err, front) else {
         return;

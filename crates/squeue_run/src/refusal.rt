@@ -1,8 +1,8 @@
 //! Why a run gives no output, and what it then writes.
 
 ghost use Rattle.std.specs.Prelude.{◌≡◌, MatchResult, string_bytes};
-ghost use Rattle.std.specs.Io.KnownBytes.{Appends};
-ghost use Rattle.sq_base.specs.Ends.{Rose, end_of};
+ghost use Rattle.sq_base.specs.Ends.{end_of};
+ghost use Rattle.squeue_run.specs.Telling.{TellsLine};
 ghost use Rattle.squeue_run.specs.Lines.{sqrun, memory_line};
 ghost use Rattle.squeue_run.specs.Causes.{Told};
 
@@ -76,7 +76,7 @@ pub fn told_usage<E: Sink>(err: &mut E) -> Status
 
 fn told<E: Sink>(err: &mut E, line: &[u8], status: Status) -> Status
     ensures status { result ≡ status }
-    ensures line { (Rose (E.write_faults err.old) (E.write_faults err.new) → ⊥) → Appends (E.contents err.old) (E.contents err.new) line.now }
+    ensures line { TellsLine (end_of E.contents E.write_faults err.old err.new) line.now }
 {
     tell(err, line);
     status
@@ -84,10 +84,8 @@ fn told<E: Sink>(err: &mut E, line: &[u8], status: Status) -> Status
 
 fn told_line<E: Sink>(err: &mut E, line: Result<String, AllocError>, status: Status) -> Status
     ensures { MatchResult line
-        (λ text. (result ≡ status) × ((Rose (E.write_faults err.old) (E.write_faults err.new) → ⊥)
-        → Appends (E.contents err.old) (E.contents err.new) (string_bytes text)))
-        (λ _. (result ≡ Status.NoMemory) × ((Rose (E.write_faults err.old) (E.write_faults err.new) → ⊥)
-        → Appends (E.contents err.old) (E.contents err.new) (memory_line sqrun))) }
+        (λ text. (result ≡ status) × TellsLine (end_of E.contents E.write_faults err.old err.new) (string_bytes text))
+        (λ _. (result ≡ Status.NoMemory) × TellsLine (end_of E.contents E.write_faults err.old err.new) (memory_line sqrun)) }
 {
     match line {
         Ok(line) => told(err, line.as_bytes(), status),
