@@ -1,61 +1,48 @@
 //! From the amounts to the totals.
-ghost use Rattle.std.specs.Prelude.{◌≡◌, ◌^◌, ◌<◌, ◌≤◌, IfOk, length, map, sum};
+ghost use Rattle.std.specs.Prelude.{◌≡◌, ◌^◌, ◌<◌, ◌≤◌, All, IfOk, length, map, sum};
+ghost use Rattle.squeue_pool.specs.Works.{IsInRange};
 
-use crate::job::Pace;
-use crate::lists::{ring_lists, ring_quotas, tasks_of};
-use crate::reading::{new_counters, totals_of};
-use crate::serving::serve;
+use crate::reading::{counters_of, totals_in};
 use perimeter_core::NoHook;
-use squeue_serve::{Squeues, discard, jobs_of};
-use squeue_state::Squeue;
+use squeue_pool::{Pool, run_by_key};
 use std::alloc::{AllocError, Global};
 use std::sync::Wait;
 use std::thread::Threads;
 
-/// The sum of each key's amounts, added up by one squeue that `rings` rings and a worker serve beside each other. Fails only for
-/// want of memory.
+/// The sum of each key's amounts, added up at the squeues of the pool, which its rings and their workers serve beside each other.
+/// Fails only for want of memory.
 ///
 /// # Example
 ///
 /// ```
-/// let totals = count(&rt, alloc, &rows, rings, *pace)?;
+/// let totals = count(&rt, alloc, &rows, &pool)?;
 /// assert_eq!(rt;
 ///     totals.as_slice(),
 ///     wanted.as_slice(),
-///     "{rings} rings, pace {i}"
+///     "{squeues} squeues, {rings} rings, budget {budget}"
 /// );
 /// ```
 pub fn count<W: Threads + Wait + Sync>(
     rt: &W,
     alloc: Global,
     amounts: &[Vec<u32>],
-    rings: u32,
-    pace: Pace,
+    pool: &Pool,
 ) -> Result<Vec<u64>, AllocError>
-    requires rings { (1 ≤ rings) × (rings ≤ 63) }
+    requires pool { IsInRange pool.now 0 × (pool.now.pace.homes.spread ≡ 0) }
     requires keys { length amounts.now < 2 ^ 32 }
     requires items { sum (map (λ row. length row.items) amounts.now) ≤ 2 ^ 30 }
     ensures { IfOk result (λ v. v.items ≡ map (λ row. sum row.items) amounts.now) }
 {
-    let lists = ring_lists(alloc, amounts, rings)?;
-    let quotas = ring_quotas(alloc, &lists)?;
-    let resident = new_counters(alloc, amounts, Vec::new(alloc))?;
-    let jobs = jobs_of(alloc, tasks_of(alloc, lists)?, 1)?;
-    match Squeues::with_room(alloc, 1) {
-        Ok(squeues) => match Squeue::make(alloc, 0, resident, rings, &quotas, false) {
-            Ok((squeue, passes)) => {
-                let resident = serve(rt, squeue, alloc, &NoHook, pace, passes, jobs, squeues);
-                totals_of(&resident, alloc)
-            }
-            Err(error) => {
-                discard(jobs);
-                squeues.destroy_empty();
-                Err(error)
-            }
-        },
-        Err(error) => {
-            discard(jobs);
-            Err(error)
-        }
-    }
+    let counts = counts_of(alloc, amounts)?;
+    let residents = counters_of(alloc, amounts, pool.squeues())?;
+    let left = run_by_key(rt, alloc, &NoHook, pool, residents, &counts)?;
+    totals_in(alloc, &left, counts.len() as u32)
+}
+
+// How many amounts each key has.
+fn counts_of(alloc: Global, amounts: &[Vec<u32>]) -> Result<Vec<u32>, AllocError>
+    requires { All (λ row. length row.items < 2 ^ 32) amounts.now }
+    ensures { IfOk result (λ v. v.items ≡ map (λ row. length row.items) amounts.now) }
+{
+    amounts.iter().map(|row| row.len() as u32).collect(alloc)
 }

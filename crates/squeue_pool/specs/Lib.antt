@@ -2,3 +2,4 @@ pub mod Works
 pub mod Gathering
 pub mod Running
 pub mod Runs
+pub mod Keys

@@ -3,17 +3,24 @@
 //!
 //! `pool` says how many squeues and rings there are and how they enter, `work` what is to be done and what is left of a squeue.
 //! [`run`] does it: `lines` has what comes in by each ring, `making` makes the squeues, `running` sets the threads to work,
-//! `gathering` takes back what is left, `serving` puts these together.
+//! `gathering` takes back what is left, `serving` puts these together. [`run_by_key`] is `run` for the plain case: connections stay
+//! at their squeues, nobody calls, and each connection has a number of feeds; `keys` has the lists and quotas of it, and
+//! `placing` makes the resident of one squeue from what its parts share.
 #![tactic(auto)]
 
+mod by_key;
 mod gathering;
+mod keys;
 mod lines;
 mod making;
+mod placing;
 mod pool;
 mod running;
 mod serving;
 mod work;
 
+pub use by_key::run_by_key;
+pub use placing::places_at;
 pub use pool::Pool;
 pub use serving::run;
 pub use work::{Left, Work};
