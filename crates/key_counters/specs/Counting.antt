@@ -42,7 +42,7 @@ pub record HasAdded (k : Counter) (had : List Act) : Type 0 where
 
 -- the readings that there are: key, thread and number
 abbrev pub readings_of : Amounts → List (ℕ × ℕ × ℕ)
-readings_of r = r.readings.items
+readings_of r = r.readings.now
 
 -- each key has a feed for each of its amounts, no counter leaves, and the calls are the readings
 abbrev pub limits_of : Amounts → Limits

@@ -42,10 +42,10 @@ impl Counter {
 
 /// The amounts of all keys, and the readings that there are: `(c, j, k)` where call `k` of thread `j` reads key `c`. A key's feed
 /// `n` adds its amount `n`, and a call on it is a reading: it notes the total as it stands.
-#[derive(Drop)]
+#[derive(Clone, Copy)]
 pub struct Amounts<'a> {
     pub(crate) rows: &'a [Vec<u32>],
-    pub(crate) readings: Vec<(u32, u32, u32)>,
+    pub(crate) readings: &'a [(u32, u32, u32)],
     ghost short: { All (λ row. length row.items < 2 ^ 32) rows.now },
 }
 

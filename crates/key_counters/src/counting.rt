@@ -1,10 +1,11 @@
 //! From the amounts to the totals.
 ghost use Rattle.std.specs.Prelude.{◌≡◌, ◌^◌, ◌<◌, ◌≤◌, All, IfOk, length, map, sum};
+ghost use Rattle.squeue_pool.specs.ServedParts.{counts_of, shared_of};
 ghost use Rattle.squeue_pool.specs.Works.{IsInRange};
+ghost use Rattle.key_counters.specs.Counting.{rows_of};
 
-use crate::reading::{counters_of, totals_in};
-use perimeter_core::NoHook;
-use squeue_pool::{Pool, run_by_key};
+use crate::counters::Amounts;
+use squeue_pool::{Pool, Served, serve_by_key};
 use std::alloc::{AllocError, Global};
 use std::sync::Wait;
 use std::thread::Threads;
@@ -15,6 +16,7 @@ use std::thread::Threads;
 /// # Example
 ///
 /// ```
+/// let pool = Pool::of(squeues, rings, mode, budget);
 /// let totals = count(&rt, alloc, &rows, &pool)?;
 /// assert_eq!(rt;
 ///     totals.as_slice(),
@@ -33,16 +35,31 @@ pub fn count<W: Threads + Wait + Sync>(
     requires items { sum (map (λ row. length row.items) amounts.now) ≤ 2 ^ 30 }
     ensures { IfOk result (λ v. v.items ≡ map (λ row. sum row.items) amounts.now) }
 {
-    let counts = counts_of(alloc, amounts)?;
-    let residents = counters_of(alloc, amounts, pool.squeues())?;
-    let left = run_by_key(rt, alloc, &NoHook, pool, residents, &counts)?;
-    totals_in(alloc, &left, counts.len() as u32)
+    let counts = lengths(alloc, amounts)?;
+    let shared = Amounts {
+        rows: amounts,
+        readings: &[],
+    };
+    let served = serve_by_key(rt, alloc, pool, shared, counts)?;
+    totals_in(alloc, &served)
 }
 
 // How many amounts each key has.
-fn counts_of(alloc: Global, amounts: &[Vec<u32>]) -> Result<Vec<u32>, AllocError>
+fn lengths(alloc: Global, amounts: &[Vec<u32>]) -> Result<Vec<u32>, AllocError>
     requires { All (λ row. length row.items < 2 ^ 32) amounts.now }
     ensures { IfOk result (λ v. v.items ≡ map (λ row. length row.items) amounts.now) }
 {
     amounts.iter().map(|row| row.len() as u32).collect(alloc)
+}
+
+// The totals of counters that had all their amounts.
+fn totals_in(alloc: Global, served: &Served<Amounts<'_>>) -> Result<Vec<u64>, AllocError>
+    requires { counts_of served.now ≡ map length (rows_of (shared_of served.now)) }
+    ensures { IfOk result (λ v. v.items ≡ map sum (rows_of (shared_of served.now))) }
+{
+    let mut totals = Vec::new(alloc);
+    for c in 0..served.count() {
+        totals.push(served.part(c).total)?;
+    }
+    Ok(totals)
 }

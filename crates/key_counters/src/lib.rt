@@ -2,7 +2,7 @@
 //!
 //! Each key has a list of amounts, and a counter that adds them up. Several rings bring the items of their keys beside each
 //! other, workers add what they leave queued, and the totals are the plain sums of the amounts. `counters` is the
-//! resident, `reading` what is made and read off it, `counting` the whole from the amounts to the totals.
+//! resident, `reading` what is read off it, `counting` the whole from the amounts to the totals.
 #![tactic(auto)]
 
 mod counters;
@@ -13,4 +13,4 @@ mod tests;
 
 pub use counters::{Amounts, Counter, Counters};
 pub use counting::count;
-pub use reading::{counters_of, last_reading, new_counters, totals_in, totals_of};
+pub use reading::{last_reading, new_counters, totals_of};

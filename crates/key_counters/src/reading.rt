@@ -1,32 +1,28 @@
 //! The counters of all keys: how they are made, and what is read off them.
-ghost use Rattle.std.specs.Prelude.{◌≡◌, ℕ, ◌^◌, ◌<◌, ◌≤◌, All, IfOk, Some, List, length, map, option_map, slice_get};
+ghost use Rattle.std.specs.Prelude.{◌≡◌, ◌^◌, ◌<◌, All, IfOk, Some, List, length, map, option_map};
 ghost use Rattle.perimeter_core.specs.declared.entries.Act.{Act};
 ghost use Rattle.perimeter_core.specs.Blocks.{Blocks};
 ghost use Rattle.placed_parts.specs.Standing.{all_new};
 ghost use Rattle.placed_parts.specs.Placing.{Stands, size_of, shared_of, parts_of, part_at};
-ghost use Rattle.std.specs.List.{range_with_len};
-ghost use Rattle.squeue_pool.specs.declared.work.Left.{Left as LeftOf};
-ghost use Rattle.key_counters.specs.AsResident.{AreNewAt, Counters as CountersOf, total_in};
 ghost use Rattle.key_counters.specs.Counting.{rows_of, row_of, readings_of, found_by_reading, total_of};
 
 use crate::counters::{Amounts, Counter, Counters};
 use placed_parts::Places;
-use squeue_pool::{Left, places_at};
 use std::alloc::{AllocError, Global};
 
 /// The counters of all keys are here, and nothing was added. Fails only for want of memory.
 pub fn new_counters<'a>(
     alloc: Global,
     amounts: &'a [Vec<u32>],
-    readings: Vec<(u32, u32, u32)>,
+    readings: &'a [(u32, u32, u32)],
 ) -> Result<Counters<'a>, AllocError>
     requires few { length amounts.now < 2 ^ 32 }
     requires short { All (λ row. length row.items < 2 ^ 32) amounts.now }
-    requires named { All (λ call. call.0 < length amounts.now) readings.items }
+    requires named { All (λ call. call.0 < length amounts.now) readings.now }
     ensures stands { IfOk result (λ r. Stands r (all_new (length amounts.now))) }
     ensures count { IfOk result (λ r. size_of r ≡ length amounts.now) }
     ensures amounts { IfOk result (λ r. rows_of (shared_of r) ≡ map (λ row. row.items) amounts.now) }
-    ensures readings { IfOk result (λ r. readings_of (shared_of r) ≡ readings.items) }
+    ensures readings { IfOk result (λ r. readings_of (shared_of r) ≡ readings.now) }
 {
     let count = amounts.len() as u32;
     let shared = Amounts {
@@ -58,57 +54,6 @@ pub fn last_reading(counters: &Counters<'_>, c: u32) -> Option<u64>
     match counters.part(c) {
         Some(counter) => Some(counter.read),
         None => None,
-    }
-}
-
-/// For each of so many squeues the counters of its keys, which are those whose number leaves the squeue's, divided by the squeues;
-/// nothing was added, and there are no readings. Fails only for want of memory.
-pub fn counters_of<'a>(
-    alloc: Global,
-    amounts: &'a [Vec<u32>],
-    squeues: u32,
-) -> Result<Vec<Counters<'a>>, AllocError>
-    requires few { length amounts.now < 2 ^ 32 }
-    requires short { All (λ row. length row.items < 2 ^ 32) amounts.now }
-    ensures count { IfOk result (λ v. length v.items ≡ squeues) }
-    ensures each { IfOk result (λ v. (q : ℕ) (r : CountersOf) → slice_get v.items q ≡ Some r → AreNewAt (map (λ row. row.items) amounts.now) squeues q r) }
-{
-    let mut all = Vec::new(alloc);
-    for q in 0..squeues {
-        let shared = Amounts {
-            rows: amounts,
-            readings: Vec::new(alloc),
-        };
-        all.push(places_at(alloc, shared, amounts.len() as u32, q, squeues)?)?;
-    }
-    Ok(all)
-}
-
-/// The total of each of so many keys, by what is left of the squeues. Fails only for want of memory.
-pub fn totals_in(
-    alloc: Global,
-    left: &[Left<Counters<'_>>],
-    keys: u32,
-) -> Result<Vec<u64>, AllocError>
-    requires some { 1 ≤ length left.now }
-    requires sizes { (q : ℕ) (v : LeftOf CountersOf) → slice_get left.now q ≡ Some v → size_of v.resident ≡ keys }
-    ensures { IfOk result (λ t. t.items ≡ map (total_in left.now) (range_with_len 0 keys)) }
-{
-    let mut totals = Vec::new(alloc);
-    for c in 0..keys {
-        let counters = &left[c as usize % left.len()].resident;
-        totals.push(total(counters.part(c)))?;
-    }
-    Ok(totals)
-}
-
-// The total of a counter, if it is here.
-fn total(counter: Option<&Counter>) -> u64
-    ensures { result ≡ total_of (option_map (λ k. k.now) counter) }
-{
-    match counter {
-        Some(counter) => counter.total,
-        None => 0,
     }
 }
 

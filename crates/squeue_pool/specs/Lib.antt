@@ -3,3 +3,5 @@ pub mod Gathering
 pub mod Running
 pub mod Runs
 pub mod Keys
+pub mod Placed
+pub mod ServedParts
