@@ -1,11 +1,11 @@
 //! From the amounts to the totals.
-ghost use Rattle.std.specs.Prelude.{◌≡◌, ◌^◌, ◌<◌, ◌≤◌, All, IfOk, length, map, sum};
-ghost use Rattle.squeue_pool.specs.ServedParts.{counts_of, shared_of};
+ghost use Rattle.std.specs.Prelude.{◌≡◌, ◌^◌, ◌<◌, ◌≤◌, IfOk, length, map, sum};
+ghost use Rattle.squeue_pool.specs.ServedParts.{IsServed, counts_of, shared_of};
 ghost use Rattle.squeue_pool.specs.Works.{IsInRange};
 ghost use Rattle.key_counters.specs.Counting.{rows_of};
 
 use crate::counters::Amounts;
-use squeue_pool::{Pool, Served, serve_by_key};
+use squeue_pool::{Pool, Served, lengths, serve_by_key};
 use std::alloc::{AllocError, Global};
 use std::sync::Wait;
 use std::thread::Threads;
@@ -44,17 +44,10 @@ pub fn count<W: Threads + Wait + Sync>(
     totals_in(alloc, &served)
 }
 
-// How many amounts each key has.
-fn lengths(alloc: Global, amounts: &[Vec<u32>]) -> Result<Vec<u32>, AllocError>
-    requires { All (λ row. length row.items < 2 ^ 32) amounts.now }
-    ensures { IfOk result (λ v. v.items ≡ map (λ row. length row.items) amounts.now) }
-{
-    amounts.iter().map(|row| row.len() as u32).collect(alloc)
-}
-
 // The totals of counters that had all their amounts.
 fn totals_in(alloc: Global, served: &Served<Amounts<'_>>) -> Result<Vec<u64>, AllocError>
-    requires { counts_of served.now ≡ map length (rows_of (shared_of served.now)) }
+    requires served { IsServed served.now }
+    requires counts { counts_of served.now ≡ map length (rows_of (shared_of served.now)) }
     ensures { IfOk result (λ v. v.items ≡ map sum (rows_of (shared_of served.now))) }
 {
     let mut totals = Vec::new(alloc);

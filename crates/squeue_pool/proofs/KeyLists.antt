@@ -1,6 +1,8 @@
 -- The lists of the rings by key, and how many feeds they have.
 use Rattle.std.proofs.Common.{◌≡◌, ◌≢◌, ℕ, zero, suc, ◌+◌, ◌%◌, ◌<◌, ◌≤◌, ◌^◌, Bool, true, false, if◌then◌else◌, ◌==◌, Some, List, [], ◌∷◌, ◌++◌, length, map, slice_get, sum, take, get_or, refl, ap, sym, ◌∙◌, arith, length-append}
+use Rattle.std.specs.Prelude.{Vec}
 use Rattle.std.specs.List.{range_with_len}
+use Rattle.std.specs.declared.alloc.Global.{Global}
 use Rattle.std.proofs.lemmas.Bool.Decides.{nat_tests}
 use Rattle.std.proofs.lemmas.List.{take_more}
 use Rattle.std.proofs.lemmas.List.Sums.{sum_by-cons}
@@ -109,3 +111,8 @@ module _ (squeues q : ℕ) (fs : List Feed) (i : ℕ) (f : Feed) (lt : i < lengt
       let b : (f.c % squeues == q) ≡ false = grind (arith, nat_tests) in
       let none : count (is_at squeues 0 q) (f ∷ []) ≡ 0 = rw b refl in
       omega (arith, further, none)
+
+-- the quotas of lists that are vectors
+pub quotas_map : (squeues q : ℕ) (lists : List (Vec Feed Global)) → map (λ list. (count (is_at squeues 0 q) list.items, 0)) lists ≡ quotas_at squeues (map (λ list. list.items) lists) q
+quotas_map squeues q [] = refl
+quotas_map squeues q (l ∷ lists) = ap (λ (rest : List (ℕ × ℕ)). (count (is_at squeues 0 q) l.items, 0) ∷ rest) (quotas_map squeues q lists)

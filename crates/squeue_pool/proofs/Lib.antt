@@ -6,3 +6,5 @@ pub mod Whole
 pub mod Suffices
 pub mod KeyLists
 pub mod ByKey
+pub mod Placed
+pub mod Rows

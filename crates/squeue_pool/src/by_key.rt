@@ -4,7 +4,7 @@ ghost use Rattle.perimeter_core.specs.Residing.{IsWithin};
 ghost use Rattle.squeue_state.specs.Limits.{most_feeds};
 ghost use Rattle.squeue_pool.specs.Keys.{HadAll, HaveKeys, key_work};
 ghost use Rattle.squeue_pool.specs.Runs.{HasRun};
-ghost use Rattle.squeue_pool.specs.ServedParts.{counts_of, shared_of};
+ghost use Rattle.squeue_pool.specs.ServedParts.{IsServed, counts_of, shared_of};
 ghost use Rattle.squeue_pool.specs.Works.{IsInRange};
 
 use crate::keys::{key_lists, key_quotas};
@@ -44,6 +44,7 @@ where
     requires counts { (length counts.items < 2 ^ 32) × (sum counts.items ≤ most_feeds) }
     requires feeds { (S.limits shared).feeds ≡ counts.items }
     requires within { IsWithin (length counts.items) (S.limits shared) }
+    ensures served { IfOk result (λ v. IsServed v) }
     ensures shared { IfOk result (λ v. shared_of v ≡ shared) }
     ensures counts { IfOk result (λ v. counts_of v ≡ counts.items) }
 {

@@ -1,4 +1,4 @@
-//! The lists of the rings, and the quotas of the squeues, where each connection has so many feeds, nobody moves, and nobody calls.
+//! How many feeds there are, the lists of the rings, and the quotas of the squeues, where each connection has so many feeds, nobody moves, and nobody calls.
 ghost use Rattle.std.specs.Prelude.{◌≡◌, ◌<◌, ◌≤◌, ◌^◌, ◌++◌, All, IfOk, OnOk, length, map};
 ghost use Rattle.squeue_state.specs.Behind.{pairs};
 ghost use Rattle.squeue_rings.specs.Runs.{count, is_at};
@@ -8,6 +8,18 @@ ghost use Rattle.squeue_pool.specs.Keys.{key_lists, key_quotas, quotas_at};
 use perimeter_core::Feed;
 use squeue_state::Quota;
 use std::alloc::{AllocError, Global};
+
+/// How many items each row has. Fails only for want of memory.
+pub fn lengths<T>(alloc: Global, rows: &[Vec<T>]) -> Result<Vec<u32>, AllocError>
+    requires { All (λ row. length row.items < 2 ^ 32) rows.now }
+    ensures { IfOk result (λ v. v.items ≡ map (λ row. length row.items) rows.now) }
+{
+    let mut counts = Vec::new(alloc);
+    for row in rows {
+        counts.push(row.len() as u32)?;
+    }
+    Ok(counts)
+}
 
 /// For each of so many rings the feeds of its connections, one connection after another. Connection `c` is ring `c % rings`'s.
 /// Fails only for want of memory.

@@ -23,6 +23,7 @@ mod serving;
 mod work;
 
 pub use by_key::{run_by_key, serve_by_key};
+pub use keys::lengths;
 pub use placing::places_of;
 pub use pool::Pool;
 pub use served::Served;

@@ -1,6 +1,5 @@
 //! Parts that were served by key.
 ghost use Rattle.std.specs.Prelude.{◌≡◌, ◌<◌, ◌≤◌, ◌^◌, length};
-ghost use Rattle.squeue_pool.specs.Placed.{HaveHad};
 
 use crate::work::Left;
 use placed_parts::{Parts, Places};
@@ -13,13 +12,12 @@ pub struct Served<S: Parts> {
     pub(crate) left: Vec<Left<Places<S>>>,
     ghost few: { length counts.items < 2 ^ 32 },
     ghost some: { 1 ≤ length left.items },
-    ghost had: { HaveHad shared counts.items left.items },
 }
 
 impl<S: Parts> Served<S> {
     ghost use Rattle.std.specs.Prelude.{slice_index};
     ghost use Rattle.placed_parts.specs.Standing.{HasFed};
-    ghost use Rattle.squeue_pool.specs.ServedParts.{counts_of, shared_of};
+    ghost use Rattle.squeue_pool.specs.ServedParts.{IsServed, counts_of, shared_of};
 
     /// How many connections there are.
     pub fn count(&self) -> u32
@@ -30,7 +28,8 @@ impl<S: Parts> Served<S> {
 
     /// The part of connection `c`: it is its own, and has had all its feeds.
     pub fn part(&self, c: u32) -> &S::Part
-        requires { c < length (counts_of self.now) }
+        requires served { IsServed self.now }
+        requires range { c < length (counts_of self.now) }
         ensures own { S.is_part_of (S.origin (shared_of self.now)) c result.now }
         ensures fed { HasFed (S.part_stands result.now) (slice_index (counts_of self.now) c) }
     {

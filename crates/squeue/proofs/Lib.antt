@@ -1,0 +1,1 @@
+pub use Rattle.perimeter_core.proofs.NextFeed
