@@ -1,21 +1,12 @@
 -- From parts that had all their feeds to the totals.
-use Rattle.std.proofs.Common.{◌≡◌, ℕ, ◌+◌, ◌^◌, ◌<◌, ◌≤◌, Bool, true, false, if◌then◌else◌, Some, None, List, [], ◌∷◌, ◌++◌, length, map, take, sum, get_or, slice_index, refl, ap, sym, ◌∙◌, arith}
-use Rattle.std.specs.Prelude.{All}
+use Rattle.std.proofs.Common.{◌≡◌, ℕ, ◌+◌, ◌<◌, Bool, true, false, if◌then◌else◌, Some, None, List, [], ◌∷◌, ◌++◌, length, map, take, sum, get_or, slice_index, refl, ap, sym, ◌∙◌, arith}
 use Rattle.std.proofs.lemmas.List.{map-append, take_all, take_more}
-use Rattle.std.proofs.lemmas.List.Elements.{All-nil, All-cons}
-use Rattle.std.proofs.lemmas.List.Sums.{sum_by-cons}
-use Rattle.perimeter_core.specs.declared.entries.Act.{Act}
-use Rattle.placed_parts.specs.Standing.{HasFed}
+use Rattle.squeue.specs.declared.Act.{Act}
+use Rattle.squeue.specs.Standing.{HasFed}
 use Rattle.key_counters.specs.declared.counters.Counter.{Counter}
 use Rattle.key_counters.specs.Counting.{HasAdded, IsPartOf, row_of}
-use Rattle.key_counters.proofs.CounterSteps.{had_feeds_is, limit_is}
-
--- what is at most the sum
-pub all_short : {A : Type 0} (f : A → ℕ) (xs : List A) → sum (map f xs) ≤ 2 ^ 30 → All (λ x. f x < 2 ^ 32) xs
-all_short f [] h = All-nil (λ x. f x < 2 ^ 32)
-all_short f (x ∷ xs) h =
-    let both = sum_by-cons (λ (n : ℕ). n) (f x) (map f xs) in
-    All-cons (λ x. f x < 2 ^ 32) x xs (omega (arith, both, h)) (all_short f xs (omega (arith, both, h)))
+use Rattle.squeue.proofs.Rows.{limit_is}
+use Rattle.key_counters.proofs.CounterSteps.{had_feeds_is}
 
 pub none_yet : (b : Bool) (had : List Act) → (if b then Some [] else None) ≡ Some had → had ≡ []
 none_yet true had h = cc h
@@ -35,7 +26,3 @@ totals_more rows c total had new lt so is more =
 pub sums_of : {V : Type 0} (items : V → List ℕ) (xs : List V) → map sum (map items xs) ≡ map (λ x. sum (items x)) xs
 sums_of items [] = refl
 sums_of items (x ∷ xs) = ap (λ ns. sum (items x) ∷ ns) (sums_of items xs)
-
-pub lengths_of : {V : Type 0} (items : V → List ℕ) (xs : List V) → map length (map items xs) ≡ map (λ x. length (items x)) xs
-lengths_of items [] = refl
-lengths_of items (x ∷ xs) = ap (λ ns. length (items x) ∷ ns) (lengths_of items xs)

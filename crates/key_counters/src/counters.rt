@@ -1,7 +1,7 @@
 //! The resident: the part of a key is its counter. It takes no memory after it is made.
 ghost use Rattle.std.specs.Prelude.{◌≡◌, ◌+◌, ◌*◌, ◌^◌, ◌<◌, ◌≤◌, All, length};
 
-use placed_parts::{Parts, Places};
+use squeue::{Parts, Places};
 use std::alloc::{AllocError, Global};
 use std::collections::LinkedList;
 

@@ -1,11 +1,11 @@
 //! From the amounts to the totals.
 ghost use Rattle.std.specs.Prelude.{◌≡◌, ◌^◌, ◌<◌, ◌≤◌, IfOk, length, map, sum};
-ghost use Rattle.squeue_pool.specs.ServedParts.{IsServed, counts_of, shared_of};
-ghost use Rattle.squeue_pool.specs.Works.{IsInRange};
+ghost use Rattle.squeue.specs.ServedParts.{IsServed, counts_of, shared_of};
+ghost use Rattle.squeue.specs.Works.{IsInRange};
 ghost use Rattle.key_counters.specs.Counting.{rows_of};
 
 use crate::counters::Amounts;
-use squeue_pool::{Pool, Served, lengths, serve_by_key};
+use squeue::{Pool, Served, lengths, serve_by_key};
 use std::alloc::{AllocError, Global};
 use std::sync::Wait;
 use std::thread::Threads;

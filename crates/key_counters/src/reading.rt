@@ -1,13 +1,13 @@
 //! The counters of all keys: how they are made, and what is read off them.
 ghost use Rattle.std.specs.Prelude.{◌≡◌, ◌^◌, ◌<◌, All, IfOk, Some, List, length, map, option_map};
-ghost use Rattle.perimeter_core.specs.declared.entries.Act.{Act};
-ghost use Rattle.perimeter_core.specs.Blocks.{Blocks};
-ghost use Rattle.placed_parts.specs.Standing.{all_new};
-ghost use Rattle.placed_parts.specs.Placing.{Stands, size_of, shared_of, parts_of, part_at};
+ghost use Rattle.squeue.specs.declared.Act.{Act};
+ghost use Rattle.squeue.specs.Blocks.{Blocks};
+ghost use Rattle.squeue.specs.Standing.{all_new};
+ghost use Rattle.squeue.specs.Placing.{Stands, size_of, shared_of, parts_of, part_at};
 ghost use Rattle.key_counters.specs.Counting.{rows_of, row_of, readings_of, found_by_reading, total_of};
 
 use crate::counters::{Amounts, Counter, Counters};
-use placed_parts::Places;
+use squeue::Places;
 use std::alloc::{AllocError, Global};
 
 /// The counters of all keys are here, and nothing was added. Fails only for want of memory.

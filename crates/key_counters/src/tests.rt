@@ -1,9 +1,9 @@
 ghost use Rattle.std.specs.Prelude.{◌≡◌, ◌<◌, ◌≤◌, IfOk, length};
 
 use crate::{count, last_reading, new_counters, totals_of};
-use perimeter_core::Resident;
-use squeue_enter::Mode;
-use squeue_pool::Pool;
+use squeue::Resident;
+use squeue::Mode;
+use squeue::Pool;
 use std::alloc::{AllocError, Global};
 use std::test::*;
 

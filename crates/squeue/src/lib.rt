@@ -5,7 +5,7 @@
 //! [`run`] is the same for work with moves and calls, as a [`Work`] says it, and leaves a [`Left`] for each squeue.
 #![tactic(auto)]
 
-pub use perimeter_core::{Act, Feed, Hook, NoHook, Resident};
+pub use perimeter_core::{Act, Entry, Feed, Hook, NoHook, Resident, SynchAct};
 pub use placed_parts::{Parts, Places};
 pub use squeue_enter::{Entered, Mode, enter};
 pub use squeue_pool::{Left, Pool, Served, Work, lengths, places_of, run, run_by_key, serve_by_key};

@@ -5,16 +5,17 @@ use Rattle.std.specs.List.{range_with_len}
 use Rattle.std.proofs.lemmas.List.FromFn.{length-map-range_with_len}
 use Rattle.std.proofs.lemmas.Bool.Decides.{nat_tests}
 use Rattle.std.proofs.lemmas.Option.{slice_get_within}
+use Rattle.std.proofs.Math.Nat.{mod-lt}
 use Rattle.perimeter_core.specs.declared.entries.Act.{Act}
 use Rattle.perimeter_core.specs.declared.resident.Resident.{Ghosts as ResidentGhosts}
 use Rattle.perimeter_core.specs.Blocks.{Blocks}
-use Rattle.perimeter_core.specs.History.{Limits}
 use Rattle.perimeter_core.specs.Logging.{fresh, none_done}
 use Rattle.placed_parts.specs.declared.parts.Parts.{Ghosts}
 use Rattle.placed_parts.specs.declared.places.Places.{Places}
 use Rattle.placed_parts.specs.Placing.{IsItsPart, MayBe, Stands, limits_of, origin_of, shared_of, size_of}
-use Rattle.placed_parts.specs.Standing.{HasFed, PlaceAt, PlacesStand, first_here}
+use Rattle.placed_parts.specs.Standing.{HasFed, InOrder, PlaceAt, PlacesStand, first_here}
 use Rattle.squeue_serve.proofs.Lent.{some_at}
+use Rattle.squeue_rings.proofs.Slots.{got_at}
 use Rattle.ring_jobs.proofs.Tasked.{each_more}
 use Rattle.squeue_pool.specs.declared.pool.Pool.{Pool}
 use Rattle.squeue_pool.specs.declared.work.Left.{Left}
@@ -76,42 +77,44 @@ module _ {S P O : Type 0} {G : Ghosts S P O} (shared : S) (count squeues : ℕ) 
 pub new_by : {S P O : Type 0} {G : Ghosts S P O} (shared : S) (n m k l : ℕ) (rs : List (Places S P O G)) → n ≡ m → k ≡ l → AreNew shared n k rs → AreNew shared m l rs
 new_by shared n m k l rs a b new = subst (λ (x : ℕ). AreNew shared m x rs) b (subst (λ (x : ℕ). AreNew shared x k rs) a new)
 
--- Res is places as a resident
-module _ {S P O : Type 0} {G : Ghosts S P O} (Res : ResidentGhosts (Places S P O G) P O)
-    (as_size : (r : Places S P O G) → Res.size r ≡ size_of r) (as_limits : (r : Places S P O G) → Res.limits r ≡ limits_of r) (as_origin : (r : Places S P O G) → Res.origin r ≡ origin_of r)
-    (to_stand : (r : Places S P O G) (blocks : Blocks) → Stands r blocks → Res.stands r blocks) (of_stand : (r : Places S P O G) (blocks : Blocks) → Res.stands r blocks → Stands r blocks)
-    (shared : S) (counts : List ℕ) (pool : Pool) (rs : List (Places S P O G)) (new : AreNew shared (length counts) pool.pace.homes.squeues rs) where
-  same_origin_as : (q : ℕ) (r : Places S P O G) → slice_get rs q ≡ Some r → Res.origin r ≡ G.origin shared
-  same_origin_as q r at = as_origin r ∙ ap G.origin (new.each q r at).shared_is
+-- places as a resident
+abbrev pub as_resident : {S P O : Type 0} (G : Ghosts S P O) → ResidentGhosts (Places S P O G) P O
+as_resident G = record { stands = Stands; part_stands = InOrder G.part_stands; limits = limits_of; size = size_of; origin = origin_of; is_part_of = G.is_part_of }
+
+module _ {S P O : Type 0} (G : Ghosts S P O) (shared : S) (counts : List ℕ) (pool : Pool) (rs : List (Places S P O G)) (new : AreNew shared (length counts) pool.pace.homes.squeues rs) where
+  same_origin_as : (q : ℕ) (r : Places S P O G) → slice_get rs q ≡ Some r → origin_of r ≡ G.origin shared
+  same_origin_as q r at = ap G.origin (new.each q r at).shared_is
 
   -- new residents let each connection have its feeds
-  pub new_have : (G.limits shared).feeds ≡ counts → HaveKeys Res pool.pace.homes.squeues counts rs
+  pub new_have : (G.limits shared).feeds ≡ counts → HaveKeys (as_resident G) pool.pace.homes.squeues counts rs
   new_have feeds =
       record {
         residents_are = new.as_many;
-        sizes = λ q r at. as_size r ∙ (new.each q r at).size;
-        stand = λ q r at. to_stand r (first_here (length counts) q pool.pace.homes.squeues) (new.each q r at).stands;
-        feeds = λ q r at. ap (λ (l : Limits). l.feeds) (as_limits r) ∙ (ap (λ (s : S). (G.limits s).feeds) (new.each q r at).shared_is ∙ feeds);
+        sizes = λ q r at. (new.each q r at).size;
+        stand = λ q r at. (new.each q r at).stands;
+        feeds = λ q r at. ap (λ (s : S). (G.limits s).feeds) (new.each q r at).shared_is ∙ feeds;
         same_origin = λ i j x y at too. same_origin_as i x at ∙ sym (same_origin_as j y too);
       }
 
   -- and so they have, when all is done
-  module _ (vs : List (Left (Places S P O G))) (ran : HasRun Res pool (key_work pool.pace.homes.squeues pool.rings counts rs) vs) (all : HadAll Res pool.pace.homes.squeues counts vs) where
+  module _ (vs : List (Left (Places S P O G))) (ran : HasRun (as_resident G) pool (key_work pool.pace.homes.squeues pool.rings counts rs) vs) (all : HadAll (as_resident G) pool.pace.homes.squeues counts vs) where
     first : (q : ℕ) (v : Left (Places S P O G)) → slice_get vs q ≡ Some v → (r : Places S P O G) × (slice_get rs q ≡ Some r)
     first q v at = some_at rs q (let m = slice_get_within vs q v at in omega (arith, m, ran.count, new.as_many))
-
-    pub some_left : 1 ≤ length vs
-    some_left = let m = pool.pace.homes.some in omega (arith, m, ran.count)
 
     pub have_had : HaveHad shared counts vs
     have_had =
         record {
-          origin = λ q v at. let r = first q v at in sym (as_origin v.resident) ∙ ((ran.each q r.0 v r.1 at).origin ∙ same_origin_as q r.0 r.1);
-          size = λ q v at. let r = first q v at in sym (as_size v.resident) ∙ (ran.each q r.0 v r.1 at).size;
-          had = λ c v lt at.
-              let h = all c v lt (subst (λ (n : ℕ). slice_get vs (c % n) ≡ Some v) ran.count at) in
-              record { blocks = h.blocks; had = h.had; stands = of_stand v.resident h.blocks h.stands; here = h.here; feeds = h.feeds };
+          origin = λ q v at. let r = first q v at in (ran.each q r.0 v r.1 at).origin ∙ same_origin_as q r.0 r.1;
+          size = λ q v at. let r = first q v at in (ran.each q r.0 v r.1 at).size;
+          had = λ c v lt at. all c v lt (subst (λ (n : ℕ). slice_get vs (c % n) ≡ Some v) ran.count at);
         }
+
+-- what was read at a number, modulo as many as there are
+pub read_at : {A : Type 0} (vs : List A) (n c : ℕ) (v : A) → n ≡ length vs → 1 ≤ length vs → v ≡ slice_index_or vs (c % n) v → slice_get vs (c % length vs) ≡ Some v
+read_at vs n c v many some is =
+    let one : 1 ≤ n = omega (arith, many, some) in
+    let m = mod-lt c one in
+    subst (λ (k : ℕ). slice_get vs (c % k) ≡ Some v) many (got_at vs (c % n) v (omega (arith, m, many)) is)
 
 -- the part of a connection, after all its feeds
 module _ {S P O : Type 0} {G : Ghosts S P O} (shared : S) (counts : List ℕ) (vs : List (Left (Places S P O G))) (had : HaveHad shared counts vs) (c : ℕ) (v : Left (Places S P O G)) (lt : c < length counts) (at : slice_get vs (c % length vs) ≡ Some v) where

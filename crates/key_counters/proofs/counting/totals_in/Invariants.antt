@@ -1,5 +1,5 @@
 use Rattle.std.proofs.Common.{◌≡◌, map, sum, take}
-use Rattle.squeue_pool.specs.ServedParts.{shared_of}
+use Rattle.squeue.specs.ServedParts.{shared_of}
 use Rattle.key_counters.specs.Counting.{rows_of}
 use Rattle.key_counters.proofs.counting.totals_in.Given as goal
 
