@@ -1,9 +1,7 @@
 ghost use Rattle.std.specs.Prelude.{◌≡◌, ◌<◌, ◌≤◌, IfOk, length};
 
 use crate::{count, last_reading, new_counters, totals_of};
-use squeue::Resident;
-use squeue::Mode;
-use squeue::Pool;
+use squeue::{Mode, Pool, Resident};
 use std::alloc::{AllocError, Global};
 use std::test::*;
 

@@ -8,5 +8,7 @@
 pub use perimeter_core::{Act, Entry, Feed, Hook, NoHook, Resident, SynchAct};
 pub use placed_parts::{Parts, Places};
 pub use squeue_enter::{Entered, Mode, enter};
-pub use squeue_pool::{Left, Pool, Served, Work, lengths, places_of, run, run_by_key, serve_by_key};
+pub use squeue_pool::{
+    Left, Pool, Served, Work, lengths, places_of, run, run_by_key, serve_by_key,
+};
 pub use squeue_state::{Ended, Pass, Quota, Squeue, Trace};

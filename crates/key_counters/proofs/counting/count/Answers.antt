@@ -1,4 +1,4 @@
-use Rattle.std.proofs.Common.{◌≡◌, ◌^◌, ◌<◌, ◌≤◌, ℕ, List, length, map, sum, sym, ap, ◌∙◌, subst, arith}
+use Rattle.std.proofs.Common.{◌^◌, ◌<◌, ◌≤◌, ℕ, List, length, map, sum, sym, ap, ◌∙◌, subst, arith}
 use Rattle.std.proofs.lemmas.List.{length-map}
 use Rattle.std.proofs.lemmas.Result.{IfOk-weaker}
 use Rattle.squeue.proofs.Rows.{all_short, lengths_of}

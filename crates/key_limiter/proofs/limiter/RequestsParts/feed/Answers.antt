@@ -1,4 +1,4 @@
-use Rattle.std.proofs.Common.{◌≡◌, ◌<◌, ℕ, List, length, get_or, sym, ap, ◌∙◌, subst, arith, length-append, ◌∷◌, []}
+use Rattle.std.proofs.Common.{◌≡◌, ◌<◌, ℕ, length, get_or, sym, ap, ◌∙◌, subst, arith, length-append, ◌∷◌, []}
 use Rattle.squeue.proofs.NextFeed.{fed-append}
 use Rattle.squeue.specs.declared.Act.TheVariants as Did
 use Rattle.key_limiter.specs.Buckets.{row_of, rows_of}
