@@ -11,6 +11,9 @@ use Rattle.key_counters.proofs.counting.count.Goals as goal
 pub lengths-requires : goal.lengths-requires
 lengths-requires g c = all_short (λ row. length row.items) c.args.amounts.now c.requires.items
 
+pub invariant_of-shared : goal.invariant_of-shared
+invariant_of-shared g c = record { short = all_short (λ row. length row.items) c.args.amounts.now c.requires.items }
+
 pub serve_by_key-requires-clause-counts : goal.serve_by_key-requires-clause-counts
 serve_by_key-requires-clause-counts g c κs within =
     subst (λ (ns : List ℕ). (length ns < 2 ^ 32) × (sum ns ≤ most_feeds)) (sym c.in_ok-counts.ensures)

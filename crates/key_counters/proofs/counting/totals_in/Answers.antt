@@ -9,12 +9,12 @@ pub loop-c-preserved : goal.loop-c-preserved
 loop-c-preserved c =
     let served = c.args.served.now in
     let rows = rows_of (shared_of served) in
-    let lt : c.loop-c.c < length rows = omega (arith, c.loop-c-test.true, c.count.ensures, ap length c.requires.counts, length-map rows length) in
+    let lt : c.loop-c.c < length rows = omega (arith, c.loop-c-test.true, c.count-c-end.ensures, ap length c.requires.counts, length-map rows length) in
     totals_more rows c.loop-c.c c.part.result.now.total c.loop-c.totals.items c.push.new.self.items lt c.loop-c.invariant
     (one_total rows (counts_of served) c.loop-c.c c.part.result.now c.requires.counts c.part.ensures.own c.part.ensures.fed) c.in_ok-push.ensures.items
 
 pub returns : goal.returns
 returns c =
     let rows = rows_of (shared_of c.args.served.now) in
-    let all : length rows ≤ c.loop-c.c = omega (arith, c.loop-c-test.false, c.count.ensures, ap length c.requires.counts, length-map rows length) in
+    let all : length rows ≤ c.loop-c.c = omega (arith, c.loop-c-test.false, c.count-c-end.ensures, ap length c.requires.counts, length-map rows length) in
     c.loop-c.invariant ∙ ap (map sum) (take_all c.loop-c.c rows all)

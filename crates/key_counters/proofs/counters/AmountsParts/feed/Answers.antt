@@ -23,7 +23,7 @@ returns-clause-owner c =
     let was = had_feeds_is c.args.counter.now c.args.n c.requires.next in
     let within : c.args.n < length its = row_within (λ v. v.items) rows c.args.c c.args.n c.requires.limit in
     let amount : c.index.result.now ≡ get_or its c.args.n 0 =
-    value_read (λ v. v.items) rows c.args.c c.args.n c.index-self-c.result c.index.result.now c.requires.range within c.index-self-c.is c.index.ensures in
+    value_read (λ v. v.items) rows c.args.c c.args.n c.index-self-c.result c.index.result.now c.requires.range within c.index-self-c.is (c.index.ensures ∙ ap (λ v. get_or v.items c.args.n c.index.result.now) (sym c.index-self-c.is)) in
     amount_counts c.args.c c.args.n c.index.result.now its c.args.counter.now c.add.new.self c.requires.owner was within amount c.add.ensures.key c.add.ensures.had c.add.ensures.total c.add.ensures.read_at c.add.ensures.read
 
 pub returns-clause-stands : goal.returns-clause-stands

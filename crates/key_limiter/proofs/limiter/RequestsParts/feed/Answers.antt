@@ -14,7 +14,7 @@ returns-clause-owner c =
     let was : length c.args.bucket.now.passed.items ≡ c.args.n = sym c.requires.next.stands ∙ c.requires.next.feeds in
     let within : c.args.n < length its = row_within (λ v. v.items) rows c.args.c c.args.n c.requires.limit in
     let time : c.index.result.now ≡ get_or its c.args.n 0 =
-    value_read (λ v. v.items) rows c.args.c c.args.n c.index-self-c.result c.index.result.now c.requires.range within c.index-self-c.is c.index.ensures in
+    value_read (λ v. v.items) rows c.args.c c.args.n c.index-self-c.result c.index.result.now c.requires.range within c.index-self-c.is (c.index.ensures ∙ ap (λ v. get_or v.items c.args.n c.index.result.now) (sym c.index-self-c.is)) in
     one_decided c.args.self.now.limit its c.index.result.now c.args.bucket.now c.decide.new.self c.requires.owner (omega (arith, was, within)) (time ∙ ap (λ (n : ℕ). get_or its n 0) (sym was)) c.decide.ensures.passed c.decide.ensures.due c.decide.ensures.room
 
 pub returns-clause-stands : goal.returns-clause-stands
