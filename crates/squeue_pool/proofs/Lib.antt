@@ -3,3 +3,8 @@ pub mod LinesOf
 pub mod Made
 pub mod Ready
 pub mod Whole
+pub mod Suffices
+pub mod KeyLists
+pub mod ByKey
+pub mod Placed
+pub mod Rows

@@ -4,16 +4,28 @@
 //! `pool` says how many squeues and rings there are and how they enter, `work` what is to be done and what is left of a squeue.
 //! [`run`] does it: `lines` has what comes in by each ring, `making` makes the squeues, `running` sets the threads to work,
 //! `gathering` takes back what is left, `serving` puts these together.
+//!
+//! Where connections stay at their squeues, nobody calls, and each connection has a number of feeds, [`serve_by_key`] serves parts, and
+//! [`run_by_key`] any resident: `keys` has the lists and quotas of it, `placing` makes the residents from what their parts share, and
+//! `served` has the parts when all is done.
 #![tactic(auto)]
 
+mod by_key;
 mod gathering;
+mod keys;
 mod lines;
 mod making;
+mod placing;
 mod pool;
 mod running;
+mod served;
 mod serving;
 mod work;
 
+pub use by_key::{run_by_key, serve_by_key};
+pub use keys::lengths;
+pub use placing::places_of;
 pub use pool::Pool;
+pub use served::Served;
 pub use serving::run;
 pub use work::{Left, Work};

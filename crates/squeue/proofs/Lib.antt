@@ -1,0 +1,2 @@
+pub use Rattle.perimeter_core.proofs.NextFeed
+pub use Rattle.squeue_pool.proofs.Rows

@@ -1,0 +1,14 @@
+//! The door of the library: what one names to serve parts of one's own from several threads, or to enter a squeue. A crate that
+//! stands on this one lists it alone; what it passes on is proved where it stands.
+//!
+//! Write [`Parts`] for what is done to one part, and call [`serve_by_key`] with a [`Pool`]: it hands back the [`Served`] parts.
+//! [`run`] is the same for work with moves and calls, as a [`Work`] says it, and leaves a [`Left`] for each squeue.
+#![tactic(auto)]
+
+pub use perimeter_core::{Act, Entry, Feed, Hook, NoHook, Resident, SynchAct};
+pub use placed_parts::{Parts, Places};
+pub use squeue_enter::{Entered, Mode, enter};
+pub use squeue_pool::{
+    Left, Pool, Served, Work, lengths, places_of, run, run_by_key, serve_by_key,
+};
+pub use squeue_state::{Ended, Pass, Quota, Squeue, Trace};
