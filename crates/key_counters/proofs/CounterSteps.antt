@@ -1,14 +1,13 @@
 -- A counter that goes on by one amount or one reading.
-use Rattle.std.proofs.Common.{◌≡◌, ℕ, suc, zero, ◌+◌, ◌<◌, true, List, [], ◌∷◌, ◌++◌, length, map, sum, take, get_or, slice_index, refl, ap, sym, ◌∙◌, arith}
-use Rattle.std.proofs.lemmas.List.{get_or-map}
+use Rattle.std.proofs.Common.{◌≡◌, ℕ, zero, ◌+◌, ◌<◌, true, List, [], ◌∷◌, ◌++◌, length, sum, take, get_or, refl, ap, sym, ◌∙◌, arith}
 use Rattle.std.proofs.lemmas.List.Sums.{sum_by_more}
-use Rattle.perimeter_core.specs.declared.entries.Act.{Act}
-use Rattle.perimeter_core.specs.declared.entries.Act.TheVariants as Did
-use Rattle.perimeter_core.specs.Deeds.{fed}
-use Rattle.perimeter_core.proofs.NextFeed.{fed-append}
-use Rattle.placed_parts.specs.Standing.{HasFed}
+use Rattle.squeue.specs.declared.Act.{Act}
+use Rattle.squeue.specs.declared.Act.TheVariants as Did
+use Rattle.squeue.specs.Deeds.{fed}
+use Rattle.squeue.proofs.NextFeed.{fed-append}
+use Rattle.squeue.specs.Standing.{HasFed}
 use Rattle.key_counters.specs.declared.counters.Counter.{Counter}
-use Rattle.key_counters.specs.Counting.{Counts, HasAdded, row_of, has_reading, before_last_reading}
+use Rattle.key_counters.specs.Counting.{Counts, HasAdded, has_reading, before_last_reading}
 
 reading_last : (xs : List Act) (j i : ℕ) → has_reading (xs ++ Did.Call j i ∷ []) ≡ true
 reading_last [] j i = refl
@@ -59,12 +58,3 @@ reading_added j i k had h =
       feeds = fed-append had (Did.Call j i ∷ []) ∙ omega (arith, h.feeds);
       read = ap fed (before-reading had j i) ∙ h.feeds;
     }
-
--- the row that was read
-pub row_read : {V : Type 0} (items : V → List ℕ) (rows : List V) (c : ℕ) (row d : V) → c < length rows → row ≡ get_or rows c d → items row ≡ row_of (map items rows) c
-row_read items rows c row d lt is = ap items is ∙ sym (get_or-map items rows c d [] lt)
-
-pub limit_is : (rows : List (List ℕ)) (c : ℕ) → slice_index (map length rows) c ≡ length (row_of rows c)
-limit_is [] c = refl
-limit_is (x ∷ rows) zero = refl
-limit_is (x ∷ rows) (suc c) = limit_is rows c

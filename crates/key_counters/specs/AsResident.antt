@@ -1,7 +1,7 @@
 -- Counters as a resident: their type, and their limits.
-use Rattle.perimeter_core.specs.History.{Limits}
-use Rattle.placed_parts.specs.declared.places.Places.{Places}
-use Rattle.placed_parts.specs.Placing as Placing
+use Rattle.squeue.specs.History.{Limits}
+use Rattle.squeue.specs.declared.Places.{Places}
+use Rattle.squeue.specs.Placing as Placing
 use Rattle.key_counters.specs.contracts.counters.AmountsParts.TheImpl.{ghosts}
 
 abbrev pub Counters : Type 0

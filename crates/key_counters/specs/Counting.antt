@@ -1,9 +1,9 @@
 -- What the resident of counters stands for.
 use Rattle.std.specs.Prelude.{◌≡◌, ◌≤◌, ℕ, Bool, true, false, Option, Some, None, List, [], ◌∷◌, length, map, sum, take, if◌then◌else◌, slice_index_or}
-use Rattle.perimeter_core.specs.declared.entries.Act.{Act}
-use Rattle.perimeter_core.specs.History.{Limits}
-use Rattle.perimeter_core.specs.declared.entries.Act.TheVariants as Did
-use Rattle.perimeter_core.specs.Deeds.{fed}
+use Rattle.squeue.specs.declared.Act.{Act}
+use Rattle.squeue.specs.History.{Limits}
+use Rattle.squeue.specs.declared.Act.TheVariants as Did
+use Rattle.squeue.specs.Deeds.{fed}
 use Rattle.key_counters.specs.declared.counters.Counter.{Counter}
 use Rattle.key_counters.specs.declared.counters.Amounts.{Amounts}
 
@@ -42,7 +42,7 @@ pub record HasAdded (k : Counter) (had : List Act) : Type 0 where
 
 -- the readings that there are: key, thread and number
 abbrev pub readings_of : Amounts → List (ℕ × ℕ × ℕ)
-readings_of r = r.readings.items
+readings_of r = r.readings.now
 
 -- each key has a feed for each of its amounts, no counter leaves, and the calls are the readings
 abbrev pub limits_of : Amounts → Limits

@@ -1,7 +1,7 @@
 //! The resident: the part of a key is its counter. It takes no memory after it is made.
 ghost use Rattle.std.specs.Prelude.{◌≡◌, ◌+◌, ◌*◌, ◌^◌, ◌<◌, ◌≤◌, All, length};
 
-use placed_parts::{Parts, Places};
+use squeue::{Parts, Places};
 use std::alloc::{AllocError, Global};
 use std::collections::LinkedList;
 
@@ -42,10 +42,10 @@ impl Counter {
 
 /// The amounts of all keys, and the readings that there are: `(c, j, k)` where call `k` of thread `j` reads key `c`. A key's feed
 /// `n` adds its amount `n`, and a call on it is a reading: it notes the total as it stands.
-#[derive(Drop)]
+#[derive(Clone, Copy)]
 pub struct Amounts<'a> {
     pub(crate) rows: &'a [Vec<u32>],
-    pub(crate) readings: Vec<(u32, u32, u32)>,
+    pub(crate) readings: &'a [(u32, u32, u32)],
     ghost short: { All (λ row. length row.items < 2 ^ 32) rows.now },
 }
 

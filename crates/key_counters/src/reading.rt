@@ -1,28 +1,28 @@
 //! The counters of all keys: how they are made, and what is read off them.
 ghost use Rattle.std.specs.Prelude.{◌≡◌, ◌^◌, ◌<◌, All, IfOk, Some, List, length, map, option_map};
-ghost use Rattle.perimeter_core.specs.declared.entries.Act.{Act};
-ghost use Rattle.perimeter_core.specs.Blocks.{Blocks};
-ghost use Rattle.placed_parts.specs.Standing.{all_new};
-ghost use Rattle.placed_parts.specs.Placing.{Stands, size_of, shared_of, parts_of, part_at};
+ghost use Rattle.squeue.specs.declared.Act.{Act};
+ghost use Rattle.squeue.specs.Blocks.{Blocks};
+ghost use Rattle.squeue.specs.Standing.{all_new};
+ghost use Rattle.squeue.specs.Placing.{Stands, size_of, shared_of, parts_of, part_at};
 ghost use Rattle.key_counters.specs.Counting.{rows_of, row_of, readings_of, found_by_reading, total_of};
 
 use crate::counters::{Amounts, Counter, Counters};
-use placed_parts::Places;
+use squeue::Places;
 use std::alloc::{AllocError, Global};
 
 /// The counters of all keys are here, and nothing was added. Fails only for want of memory.
 pub fn new_counters<'a>(
     alloc: Global,
     amounts: &'a [Vec<u32>],
-    readings: Vec<(u32, u32, u32)>,
+    readings: &'a [(u32, u32, u32)],
 ) -> Result<Counters<'a>, AllocError>
     requires few { length amounts.now < 2 ^ 32 }
     requires short { All (λ row. length row.items < 2 ^ 32) amounts.now }
-    requires named { All (λ call. call.0 < length amounts.now) readings.items }
+    requires named { All (λ call. call.0 < length amounts.now) readings.now }
     ensures stands { IfOk result (λ r. Stands r (all_new (length amounts.now))) }
     ensures count { IfOk result (λ r. size_of r ≡ length amounts.now) }
     ensures amounts { IfOk result (λ r. rows_of (shared_of r) ≡ map (λ row. row.items) amounts.now) }
-    ensures readings { IfOk result (λ r. readings_of (shared_of r) ≡ readings.items) }
+    ensures readings { IfOk result (λ r. readings_of (shared_of r) ≡ readings.now) }
 {
     let count = amounts.len() as u32;
     let shared = Amounts {

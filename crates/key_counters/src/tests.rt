@@ -1,8 +1,7 @@
 ghost use Rattle.std.specs.Prelude.{◌≡◌, ◌<◌, ◌≤◌, IfOk, length};
 
-use crate::{Pace, count, last_reading, new_counters, totals_of};
-use perimeter_core::Resident;
-use squeue_enter::Mode;
+use crate::{count, last_reading, new_counters, totals_of};
+use squeue::{Mode, Pool, Resident};
 use std::alloc::{AllocError, Global};
 use std::test::*;
 
@@ -26,17 +25,6 @@ fn summed(row: &[u32]) -> u64 {
     sum
 }
 
-// A mode, the feeds of a chain, and a budget.
-fn pace(mode: Mode, chain: u32, budget: u32) -> Pace
-    requires { (1 ≤ chain) × (1 ≤ budget) }
-{
-    Pace {
-        mode,
-        chain,
-        budget,
-    }
-}
-
 #[test]
 fn totals_are_sums(rt: HostRuntime) -> Result<(), Fail> {
     let alloc = rt.alloc();
@@ -49,22 +37,20 @@ fn totals_are_sums(rt: HostRuntime) -> Result<(), Fail> {
         rising(alloc, 1_000_000, 70)?,
     ];
     let wanted = [6, 0, 8_589_934_591, summed(&rows[3]), 7, summed(&rows[5])];
-    let paces = [
-        pace(Mode::Process, 1, 64),
-        pace(Mode::Process, 32, 64),
-        pace(Mode::Process, 5, 1),
-        pace(Mode::NoDrain, 1, 64),
-        pace(Mode::NoDrain, 32, 64),
-        pace(Mode::Fill, 1, 64),
-        pace(Mode::Fill, 32, 64),
+    let ways = [
+        (Mode::Process, 64),
+        (Mode::Process, 1),
+        (Mode::NoDrain, 64),
+        (Mode::Fill, 64),
     ];
-    for rings in [1, 2, 4, 9] {
-        for (i, pace) in paces.iter().enumerate() {
-            let totals = count(&rt, alloc, &rows, rings, *pace)?;
+    for (squeues, rings) in [(1, 1), (1, 9), (2, 2), (4, 4), (9, 3)] {
+        for (mode, budget) in ways {
+            let pool = Pool::of(squeues, rings, mode, budget);
+            let totals = count(&rt, alloc, &rows, &pool)?;
             assert_eq!(rt;
                 totals.as_slice(),
                 wanted.as_slice(),
-                "{rings} rings, pace {i}"
+                "{squeues} squeues, {rings} rings, budget {budget}"
             );
         }
     }
@@ -73,7 +59,7 @@ fn totals_are_sums(rt: HostRuntime) -> Result<(), Fail> {
 
 #[test]
 fn no_keys(rt: HostRuntime) -> Result<(), Fail> {
-    let totals = count(&rt, rt.alloc(), &[], 2, pace(Mode::Process, 32, 64))?;
+    let totals = count(&rt, rt.alloc(), &[], &Pool::of(2, 2, Mode::Process, 64))?;
     assert!(rt; totals.is_empty());
     Ok(())
 }
@@ -82,8 +68,8 @@ fn no_keys(rt: HostRuntime) -> Result<(), Fail> {
 fn a_counter_leaves_and_comes_back(rt: HostRuntime) -> Result<(), Fail> {
     let alloc = rt.alloc();
     let rows = [[5, 6].to_vec(alloc)?, [7].to_vec(alloc)?];
-    let readings = [(0, 0, 0)].to_vec(alloc)?;
-    let mut counters = new_counters(alloc, &rows, readings)?;
+    let readings = [(0, 0, 0)];
+    let mut counters = new_counters(alloc, &rows, &readings)?;
     assert_eq!(rt; counters.conns(), 2);
     counters.feed(alloc, 0, 0);
     counters.feed(alloc, 1, 0);

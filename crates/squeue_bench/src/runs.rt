@@ -106,7 +106,7 @@ fn make_squeue<'a>(
     ensures squeue { IfOk result (λ r. Suits limits_of items r.0 × (length r.0.given.quotas ≡ length amounts.now)) }
     ensures passes { IfOk result (λ r. (length r.1.items ≡ length amounts.now + 1) × AreFresh number_of r.0.gate 0 r.1.items) }
 {
-    let counters = new_counters(alloc, amounts, Vec::new(alloc))?;
+    let counters = new_counters(alloc, amounts, &[])?;
     Squeue::make(alloc, number, counters, quotas.len() as u32, quotas, false)
 }
 

@@ -1,11 +1,11 @@
 -- The blocks after each call.
 use Rattle.std.proofs.Common.{List, [], ◌∷◌, refl}
-use Rattle.perimeter_core.specs.declared.entries.Act.{Act}
-use Rattle.perimeter_core.specs.declared.entries.Act.TheVariants as Did
-use Rattle.perimeter_core.specs.declared.entries.Entry.TheVariants as Entry'
-use Rattle.perimeter_core.specs.declared.marks.SynchAct.TheVariants as Done
-use Rattle.perimeter_core.specs.Blocks.{Blocks, with_feeds, with_act}
-use Rattle.placed_parts.specs.Standing.{all_new}
+use Rattle.squeue.specs.declared.Act.{Act}
+use Rattle.squeue.specs.declared.Act.TheVariants as Did
+use Rattle.squeue.specs.declared.Entry.TheVariants as Entry'
+use Rattle.squeue.specs.declared.SynchAct.TheVariants as Done
+use Rattle.squeue.specs.Blocks.{Blocks, with_feeds, with_act}
+use Rattle.squeue.specs.Standing.{all_new}
 use Rattle.key_counters.proofs.tests.a_counter_leaves_and_comes_back.Goals as goal
 
 abbrev fed_one : Blocks
