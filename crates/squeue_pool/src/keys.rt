@@ -36,12 +36,7 @@ pub fn key_lists(alloc: Global, counts: &[u32], rings: u32) -> Result<Vec<Vec<Fe
 }
 
 // The feeds of one ring's connections.
-fn key_list(
-    alloc: Global,
-    counts: &[u32],
-    rings: u32,
-    ring: u32,
-) -> Result<Vec<Feed>, AllocError>
+fn key_list(alloc: Global, counts: &[u32], rings: u32, ring: u32) -> Result<Vec<Feed>, AllocError>
     requires rings { 1 ≤ rings }
     requires few { length counts.now < 2 ^ 32 }
     ensures { IfOk result (λ v. v.items ≡ list_of rings ring 0 counts.now) }

@@ -22,8 +22,8 @@ run-requires-clause-work g c κs within =
     let lists = c.in_ok-lists.lists in
     let it : Work g.row.R.Denot = record { conns = length counts; residents = c.args.residents; quotas = c.in_ok-quotas.quotas; lists = lists; calls = c.new.result } in
     let quotas : map (λ v. pairs v.items) c.in_ok-quotas.quotas.items ≡ key_quotas p.pace.homes.squeues (map (λ list. list.items) lists.items) =
-        c.in_ok-quotas.ensures
-        ∙ ((λ i. key_quotas (c.squeues.ensures i) (map (λ list. list.items) c.deref.result.now)) ∙ ap (λ (ls : List (Vec Feed Global)). key_quotas p.pace.homes.squeues (map (λ list. list.items) ls)) c.deref.ensures.value) in
+    c.in_ok-quotas.ensures
+    ∙ ((λ i. key_quotas (c.squeues.ensures i) (map (λ list. list.items) c.deref.result.now)) ∙ ap (λ (ls : List (Vec Feed Global)). key_quotas p.pace.homes.squeues (map (λ list. list.items) ls)) c.deref.ensures.value) in
     let same : work_of it ≡ key_work p.pace.homes.squeues p.rings counts c.args.residents.items = same_work it p.pace.homes.squeues p.rings counts refl quotas c.in_ok-lists.ensures c.new.ensures.items in
     subst (λ (w : WorkOf g.row.R.Denot). Suits g.R.Resident p w) (sym same)
     (keys_suit g.R.Resident p counts c.args.residents.items c.requires.pool.0.0 c.requires.pool.1 c.requires.counts.1 c.requires.residents)
@@ -35,8 +35,8 @@ returns-clause-run g c =
     let lists = c.in_ok-lists.lists in
     let it : Work g.row.R.Denot = record { conns = length counts; residents = c.args.residents; quotas = c.in_ok-quotas.quotas; lists = lists; calls = c.new.result } in
     let quotas : map (λ v. pairs v.items) c.in_ok-quotas.quotas.items ≡ key_quotas p.pace.homes.squeues (map (λ list. list.items) lists.items) =
-        c.in_ok-quotas.ensures
-        ∙ ((λ i. key_quotas (c.squeues.ensures i) (map (λ list. list.items) c.deref.result.now)) ∙ ap (λ (ls : List (Vec Feed Global)). key_quotas p.pace.homes.squeues (map (λ list. list.items) ls)) c.deref.ensures.value) in
+    c.in_ok-quotas.ensures
+    ∙ ((λ i. key_quotas (c.squeues.ensures i) (map (λ list. list.items) c.deref.result.now)) ∙ ap (λ (ls : List (Vec Feed Global)). key_quotas p.pace.homes.squeues (map (λ list. list.items) ls)) c.deref.ensures.value) in
     let same : work_of it ≡ key_work p.pace.homes.squeues p.rings counts c.args.residents.items = same_work it p.pace.homes.squeues p.rings counts refl quotas c.in_ok-lists.ensures c.new.ensures.items in
     subst (λ (w : WorkOf g.row.R.Denot). IfOk c.run.result (λ v. HasRun g.R.Resident p w v.items)) same c.run.ensures
 
