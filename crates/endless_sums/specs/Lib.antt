@@ -1,2 +1,3 @@
 pub mod Totalling
 pub mod Looking
+pub mod Telling

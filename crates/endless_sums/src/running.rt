@@ -7,7 +7,7 @@ ghost use Rattle.endless_sums.specs.Looking.{MayLook};
 use perimeter_core::{NoHook, Resident};
 use squeue_look::{Reads, look};
 use squeue_state::{Pass, Squeue};
-use squeue_streams::{Pace, Source};
+use squeue_streams::{Pace, Renews, Source};
 use std::alloc::Global;
 use std::fmt::Display;
 use std::sync::Wait;
@@ -19,7 +19,7 @@ pub const ROUND: u32 = 1_000;
 
 /// Brings rounds of amounts for so many seconds, one at least, and enters the feeds of all. It ends too where the clock fails
 /// or the source's life has no round more.
-pub fn bring<R: Resident, W: Wait + Clock>(
+pub fn bring<R: Renews, W: Wait + Clock>(
     rt: &W,
     sq: &Squeue<R>,
     alloc: Global,
@@ -39,7 +39,7 @@ pub fn bring<R: Resident, W: Wait + Clock>(
         for amount in 0..ROUND {
             pass = bring_one(rt, sq, alloc, pace, pass, source, amount);
         }
-        if source.left() < ROUND || is_over(rt, &start, seconds) {
+        if source.left() < u64::from(ROUND) || is_over(rt, &start, seconds) {
             return bring_rest(rt, sq, alloc, pace, pass, source);
         }
     }
@@ -58,7 +58,7 @@ fn is_over<W: Clock>(rt: &W, start: &io::Result<Instant>, seconds: u32) -> bool 
 }
 
 // Brings one amount. Where ring and room are full it waits.
-fn bring_one<R: Resident, W: Wait>(
+fn bring_one<R: Renews, W: Wait>(
     rt: &W,
     sq: &Squeue<R>,
     alloc: Global,

@@ -23,15 +23,17 @@ impl Display for Total {
     }
 }
 
-/// Reads the totals of all streams.
+/// Reads the totals of all streams. Where the sums stand for what a history did, they are of the amounts that it has processed.
 pub struct Totals;
 
 impl<H: Wait + Drop> Reads<Sums<H>> for Totals {
     type Seen = Total;
 
-    ghost says = { λ _ r seen. (seen.amounts ≡ amounts_in (parts_of r)) × (seen.total ≡ total_in (parts_of r)) };
+    ghost use Rattle.perimeter_core.specs.Blocks.{Blocks};
+    ghost use Rattle.placed_parts.specs.Placing.{Stands, parts_of};
+    ghost use Rattle.endless_sums.specs.Telling.{AreTotalsOf};
 
-    ghost use Rattle.placed_parts.specs.Placing.{parts_of};
+    ghost says = { λ _ r seen. (seen.amounts ≡ amounts_in (parts_of r)) × (seen.total ≡ total_in (parts_of r)) × ((blocks : Blocks) → Stands r blocks → AreTotalsOf blocks seen) };
 
     fn read(&self, sums: &Sums<H>) -> Total {
         totals_of(sums.parts())
@@ -61,7 +63,7 @@ fn read_at(place: &Option<Stream<u32, Sum>>) -> (u64, u64)
     ensures total { result.1 ≡ sum_of place.now }
 {
     match place {
-        Some(stream) => (u64::from(stream.count()), stream.state().sum),
+        Some(stream) => (stream.count(), stream.state().sum),
         None => (0, 0),
     }
 }

@@ -1,5 +1,6 @@
 -- A stream that takes one item more.
-use Rattle.std.proofs.Common.{◌≡◌, ℕ, zero, suc, ◌+◌, ◌≤◌, ◌<◌, List, [], ◌∷◌, ◌++◌, length, replicate, slice_index, refl, ap, sym, ◌∙◌, subst, arith, length-append}
+use Rattle.std.proofs.Common.{◌≡◌, ℕ, zero, suc, ◌+◌, ◌%◌, ◌^◌, ◌≤◌, ◌<◌, List, [], ◌∷◌, ◌++◌, length, replicate, slice_index, refl, ap, sym, ◌∙◌, subst, arith, length-append}
+use Rattle.std.proofs.Math.Nat.{mod-add-mod}
 use Rattle.perimeter_core.specs.declared.entries.Act.{Act}
 use Rattle.perimeter_core.specs.declared.entries.Act.TheVariants as Did
 use Rattle.perimeter_core.proofs.NextFeed.{fed-append}
@@ -33,14 +34,32 @@ module _ {T S : Type 0} where
       }
 
   pub stream_more : {O : Type 0} (begins : O → ℕ → S → Type 0) (step : O → S → T → S → Type 0) (o : O) (c : ℕ) (stream next : Stream T S) (x : T)
-      → IsStreamOf begins step o c stream → received next.input ≡ received stream.input ++ x ∷ [] → step o stream.state x next.state → IsStreamOf begins step o c next
-  stream_more begins step o c stream next x is popped one =
+      → IsStreamOf begins step o c stream → received next.input ≡ received stream.input ++ x ∷ [] → step o stream.state x next.state → next.count ≡ (stream.count + 1) % 2 ^ 64 → IsStreamOf begins step o c next
+  stream_more begins step o c stream next x is popped one more =
       record {
         first = is.first;
         begun = is.begun;
         taken = subst (λ (xs : List T). Takes (step o) is.first xs next.state) (sym popped) (takes_more (step o) is.first stream.state next.state (received stream.input) x is.taken one);
+        counted =
+            more ∙ (ap (λ (n : ℕ). (n + 1) % 2 ^ 64) is.counted ∙ (mod-add-mod (length (received stream.input)) (2 ^ 64) 1
+            ∙ ap (λ (n : ℕ). n % 2 ^ 64) (sym (ap length popped ∙ length-append (received stream.input) (x ∷ [])))));
       }
 
   -- a call changes nothing
   pub called : (j k : ℕ) (stream : Stream T S) (had : List Act) → HasTaken stream had → HasTaken stream (had ++ Did.Call j k ∷ [])
   called j k stream had h = record { feeds = fed-append had (Did.Call j k ∷ []) ∙ omega (arith, h.feeds); popped = h.popped }
+
+  -- a stream that is put in again has had no feeds
+  pub taken_none : (stream : Stream T S) → stream.had ≡ 0 → HasTaken stream []
+  taken_none stream none = record { feeds = sym none; popped = omega (arith, none) }
+
+  -- and is what it was
+  pub stream_same : {O : Type 0} (begins : O → ℕ → S → Type 0) (step : O → S → T → S → Type 0) (o : O) (c : ℕ) (stream next : Stream T S)
+      → next.input ≡ stream.input → next.state ≡ stream.state → next.count ≡ stream.count → IsStreamOf begins step o c stream → IsStreamOf begins step o c next
+  stream_same begins step o c stream next input state count is =
+      record {
+        first = is.first;
+        begun = is.begun;
+        taken = rw (input, state) is.taken;
+        counted = rw (input, count) is.counted;
+      }

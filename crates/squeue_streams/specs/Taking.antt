@@ -1,5 +1,5 @@
 -- What a stream stands for, and which items its state is made of.
-use Rattle.std.specs.Prelude.{◌≡◌, ◌-◌, ◌^◌, ◌≤◌, ℕ, List, [], ◌∷◌, length, replicate}
+use Rattle.std.specs.Prelude.{◌≡◌, ◌-◌, ◌%◌, ◌^◌, ◌≤◌, ℕ, List, [], ◌∷◌, length, replicate}
 use Rattle.std.proofs.Common.{Global}
 use Rattle.perimeter_core.specs.declared.entries.Act.{Act}
 use Rattle.perimeter_core.specs.History.{Limits}
@@ -24,23 +24,29 @@ module _ {T S : Type 0} where
   state_of stream = stream.state
 
   -- how many feeds it has had since it was put in
+  abbrev pub feeds_of : Stream T S → ℕ
+  feeds_of stream = stream.had
+
+  -- how many items were ever popped, modulo 2^64
   abbrev pub count_of : Stream T S → ℕ
-  count_of stream = stream.had
+  count_of stream = stream.count
 
   -- all items that were ever popped, oldest first
   abbrev pub items_of : Stream T S → List T
   items_of stream = received stream.input
 
-  -- a stream has had as many feeds as it counts, and popped an item for each
+  -- a stream has had as many feeds as it counts since it was put in, and popped an item for each
   pub record HasTaken (stream : Stream T S) (had : List Act) : Type 0 where
     pub feeds : fed had ≡ stream.had
     pub popped : stream.had ≤ length (received stream.input)
 
-  -- The state of stream c is what the steps make of all items that were popped, in order, from one in which it may begin
+  -- The state of stream c is what the steps make of all items that were popped, in order, from one in which it may begin; and the
+  -- stream counts these items
   pub record IsStreamOf {O : Type 0} (begins : O → ℕ → S → Type 0) (step : O → S → T → S → Type 0) (o : O) (c : ℕ) (stream : Stream T S) : Type 0 where
     pub first : S
     pub begun : begins o c first
     pub taken : Takes (step o) first (received stream.input) stream.state
+    pub counted : stream.count ≡ length (received stream.input) % 2 ^ 64
 
 module _ {X H T S O : Type 0} where
   -- what is made of the items, and how many streams there are

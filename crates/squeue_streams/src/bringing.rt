@@ -1,13 +1,14 @@
 //! What a source does: it pushes items, and enters their feeds.
 ghost use Rattle.std.specs.Prelude.{◌≡◌, ℕ, ◌+◌, ◌-◌, ◌^◌, ◌<◌, ◌≤◌, ◌⊎◌, [], ◌∷◌, ◌++◌, true, false, length, min, vec_capacity, IfErr, IfOk, OnOk};
-ghost use Rattle.rtrb.specs.Ring.{sent};
+ghost use Rattle.rtrb.specs.Ring.{known_free, sent};
 ghost use Rattle.turn_gate.specs.Passes.{number};
 ghost use Rattle.turn_gate.specs.declared.pass.Pass.{Pass};
 ghost use Rattle.perimeter_core.specs.History.{Element};
 ghost use Rattle.feed_lists.specs.Lists.{items_of};
 ghost use Rattle.squeue_enter.specs.Entering.{WasFull};
-ghost use Rattle.squeue_streams.specs.Sourcing.{Brings, IsRefused, SameSource, entered_of, life_of, most_of, pushed_of, sent_of, stream_of};
+ghost use Rattle.squeue_streams.specs.Sourcing.{Brings, IsRefused, IsSpent, SameCounts, SameSource, again_of, entered_of, left_of, most_of, pushed_of, sent_of, span_of, stream_of};
 
+use crate::renewing::{Renews, renew};
 use crate::source::{Pace, Source};
 use perimeter_core::{Feed, Hook, Resident};
 use rtrb::{Producer, PushError};
@@ -18,16 +19,20 @@ use std::sync::Wait;
 
 impl<T: Drop> Source<T> {
     /// The source of stream `c`, whose ring nothing was pushed into. It pushes at most `life` items, and enters at most
-    /// `most` feeds at once. Fails only for want of memory.
+    /// `most` feeds at once. After `span` items its stream is put in again, so that feeds are numbered anew, at most `again` times.
+    /// Fails only for want of memory.
     pub fn of(
         alloc: Global,
         producer: Producer<T>,
         c: u32,
         most: u32,
-        life: u32,
+        life: u64,
+        span: u32,
+        again: u32,
     ) -> Result<Source<T>, AllocError>
-        requires { 1 ≤ most }
-        ensures stream { IfOk result (λ s. (stream_of s ≡ c) × (most_of s ≡ most) × (life_of s ≡ life)) }
+        requires { (1 ≤ most) × (1 ≤ span) }
+        ensures stream { IfOk result (λ s. (stream_of s ≡ c) × (most_of s ≡ most)) }
+        ensures lives { IfOk result (λ s. (left_of s ≡ life) × (span_of s ≡ span) × (again_of s ≡ again)) }
         ensures counts { IfOk result (λ s. (entered_of s ≡ 0) × (pushed_of s ≡ 0)) }
         ensures sent { IfOk result (λ s. sent_of s ≡ sent producer) }
     {
@@ -38,7 +43,9 @@ impl<T: Drop> Source<T> {
             stream: c,
             entered: 0,
             pushed: 0,
-            life,
+            span,
+            again,
+            left: life,
         })
     }
 
@@ -50,25 +57,27 @@ impl<T: Drop> Source<T> {
     }
 
     /// How many more items its life allows.
-    pub fn left(&self) -> u32
-        ensures { result + pushed_of self.now ≡ life_of self.now }
+    pub fn left(&self) -> u64
+        ensures { result ≡ left_of self.now }
     {
-        self.life - self.pushed
+        self.left
     }
 
-    /// Pushes an item, and enters nothing. The item comes back where the ring is full, or its life is over.
+    /// Pushes an item, and enters nothing. The item comes back where the ring is full, its life is over, or its stream has to be put
+    /// in again first.
     pub fn push(&mut self, item: T) -> Result<(), T>
-        ensures same { SameSource self.old self.new × (entered_of self.new ≡ entered_of self.old) }
-        ensures pushed { OnOk result ((sent_of self.new ≡ sent_of self.old ++ item ∷ []) × (pushed_of self.new ≡ pushed_of self.old + 1)) }
-        ensures back { IfErr result (λ x. (x ≡ item) × (sent_of self.new ≡ sent_of self.old) × (pushed_of self.new ≡ pushed_of self.old)) }
+        ensures same { SameSource self.old self.new × (entered_of self.new ≡ entered_of self.old) × (again_of self.new ≡ again_of self.old) }
+        ensures pushed { OnOk result ((sent_of self.new ≡ sent_of self.old ++ item ∷ []) × (pushed_of self.new ≡ pushed_of self.old + 1) × (left_of self.old ≡ left_of self.new + 1)) }
+        ensures back { IfErr result (λ x. (x ≡ item) × SameCounts self.old self.new) }
         ensures full { IfErr result (λ _. IsRefused self.new) }
     {
-        if self.pushed == self.life {
+        if self.left == 0 || self.pushed == self.span {
             return Err(item);
         }
         match self.producer.push(item) {
             Ok(()) => {
                 self.pushed += 1;
+                self.left -= 1;
                 Ok(())
             }
             Err(PushError::Full(back)) => Err(back),
@@ -90,8 +99,7 @@ impl<T: Drop> Source<T> {
         requires may { Brings R.limits sq.now pass self.old }
         ensures may { Brings R.limits sq.now result.0 self.new }
         ensures number { number result.0 ≡ number pass }
-        ensures same { SameSource self.old self.new × (pushed_of self.new ≡ pushed_of self.old) }
-        ensures sent { sent_of self.new ≡ sent_of self.old }
+        ensures same { SameCounts self.old self.new }
         ensures all { result.1 ≡ true → entered_of self.new ≡ pushed_of self.new }
         ensures full { result.1 ≡ false → (at : Pass Element) × WasFull R.limits sq.now (min (pushed_of self.new - entered_of self.new) (most_of self.new)) at result.0 }
     {
@@ -125,10 +133,10 @@ impl<T: Drop> Source<T> {
         (pass, true)
     }
 
-    /// Pushes an item, and enters the feeds of all that are pushed, as far as they fit. Where the ring is full what is pushed is
-    /// entered first; where it's still full, or the source's life is over, the item comes back. `waiting` tells afterwards how many
-    /// items are pushed whose feeds are not entered.
-    pub fn bring<R: Resident, H: Hook, W: Wait>(
+    /// Pushes an item, and enters the feeds of all that are pushed, as far as they fit. Where the item is refused what is pushed is
+    /// entered first, and the stream is put in again where its feeds' numbers are used up; where it's still refused it comes back.
+    /// `waiting` tells afterwards how many items are pushed whose feeds are not entered.
+    pub fn bring<R: Renews, H: Hook, W: Wait>(
         &mut self,
         sq: &Squeue<R>,
         rt: &W,
@@ -142,16 +150,79 @@ impl<T: Drop> Source<T> {
         ensures may { Brings R.limits sq.now result.0 self.new }
         ensures number { number result.0 ≡ number pass }
         ensures same { SameSource self.old self.new }
-        ensures pushed { OnOk result.1 ((sent_of self.new ≡ sent_of self.old ++ item ∷ []) × (pushed_of self.new ≡ pushed_of self.old + 1)) }
-        ensures back { IfErr result.1 (λ x. (x ≡ item) × (sent_of self.new ≡ sent_of self.old) × (pushed_of self.new ≡ pushed_of self.old)) }
-        ensures full { IfErr result.1 (λ _. IsRefused self.new) }
+        ensures pushed { OnOk result.1 ((sent_of self.new ≡ sent_of self.old ++ item ∷ []) × (left_of self.old ≡ left_of self.new + 1)) }
+        ensures back { IfErr result.1 (λ x. (x ≡ item) × (sent_of self.new ≡ sent_of self.old) × (left_of self.new ≡ left_of self.old)) }
+        ensures full { IfErr result.1 (λ _. (left_of self.new ≡ 0) ⊎ (known_free self.new.producer ≡ 0) ⊎ IsSpent self.new) }
     {
-        let pushed = self.push(item);
-        let (pass, _) = self.enter_pushed(sq, rt, alloc, hook, pass, pace);
-        match pushed {
-            Ok(()) => (pass, Ok(())),
-            Err(item) => (pass, self.push(item)),
+        match self.push(item) {
+            Ok(()) => {
+                let (pass, _) = self.enter_pushed(sq, rt, alloc, hook, pass, pace);
+                (pass, Ok(()))
+            }
+            Err(item) => {
+                let pass = self.make_way(sq, rt, alloc, hook, pass, pace);
+                (pass, self.push(item))
+            }
         }
+    }
+
+    // Enters what is pushed, as far as it fits, and puts the stream in again where its feeds' numbers are used up and all are entered.
+    fn make_way<R: Renews, H: Hook, W: Wait>(
+        &mut self,
+        sq: &Squeue<R>,
+        rt: &W,
+        alloc: Global,
+        hook: &H,
+        pass: Pass,
+        pace: Pace,
+    ) -> Pass
+        requires may { Brings R.limits sq.now pass self.old }
+        ensures may { Brings R.limits sq.now result self.new }
+        ensures number { number result ≡ number pass }
+        ensures same { SameSource self.old self.new × (sent_of self.new ≡ sent_of self.old) × (left_of self.new ≡ left_of self.old) }
+        ensures way { (pushed_of self.new ≡ span_of self.new) → IsSpent self.new }
+    {
+        let (pass, _) = self.enter_pushed(sq, rt, alloc, hook, pass, pace);
+        if self.is_used_up() {
+            self.begin_anew(sq, rt, alloc, hook, pass)
+        } else {
+            pass
+        }
+    }
+
+    // Whether the numbers of its feeds are used up, all are entered, and the stream may be put in again.
+    fn is_used_up(&self) -> bool
+        ensures used { result ≡ true → (entered_of self.now ≡ span_of self.now) × (pushed_of self.now ≡ span_of self.now) × (0 < again_of self.now) }
+        ensures not_yet { result ≡ false → (entered_of self.now < span_of self.now) ⊎ (again_of self.now ≡ 0) }
+    {
+        if self.entered < self.span {
+            return false;
+        }
+        self.again > 0
+    }
+
+    // Has the stream put in again, so that its next feed is number 0.
+    fn begin_anew<R: Renews, H: Hook, W: Wait>(
+        &mut self,
+        sq: &Squeue<R>,
+        rt: &W,
+        alloc: Global,
+        hook: &H,
+        pass: Pass,
+    ) -> Pass
+        requires may { Brings R.limits sq.now pass self.old }
+        requires all { (entered_of self.old ≡ span_of self.old) × (pushed_of self.old ≡ span_of self.old) }
+        requires again { 0 < again_of self.old }
+        ensures may { Brings R.limits sq.now result self.new }
+        ensures number { number result ≡ number pass }
+        ensures same { SameSource self.old self.new × (sent_of self.new ≡ sent_of self.old) × (left_of self.new ≡ left_of self.old) }
+        ensures counts { (entered_of self.new ≡ 0) × (pushed_of self.new ≡ 0) × (again_of self.old ≡ again_of self.new + 1) }
+    {
+        let pass = renew(sq, rt, alloc, hook, pass, self.stream);
+        self.entered = 0;
+        self.pushed = 0;
+        self.again -= 1;
+        pass
     }
 }
 

@@ -4,12 +4,15 @@
 //! stream pops one item and takes it. So the squeue carries numbers alone, and an item is in one place at a time: with who
 //! brings it, in the ring, or in the state. A [`Source`] is the other end. It pushes items and enters a feed for each, never
 //! more than were pushed, and knows how many are pushed and not entered yet. Where the room of the squeue is full it waits
-//! for nothing, and says so.
+//! for nothing, and says so. Where the numbers of its feeds are used up it has its part taken out and put in again, so that they
+//! begin anew: a stream's life is as long as its ring's.
 #![tactic(auto)]
 
 mod bringing;
+mod renewing;
 mod source;
 mod streams;
 
+pub use renewing::{Renews, renew};
 pub use source::{Pace, Source};
 pub use streams::{Steps, Stream, Streams};

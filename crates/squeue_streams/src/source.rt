@@ -13,8 +13,10 @@ pub struct Pace {
     ghost spends: { 1 ≤ budget },
 }
 
-/// The end of a stream that pushes items and enters their feeds. It counts both: the items pushed, and the feeds entered. An
-/// entry has at most as many feeds as its chain has room for, and no more are ever pushed than its life.
+/// The end of a stream that pushes items and enters their feeds. It counts both since the stream was put in the last time: the
+/// items pushed, and the feeds entered. An entry has at most as many feeds as its chain has room for. Between two times that the
+/// stream is put in at most `span` items are pushed, and it is put in again at most `again` times more. `left` more items are pushed
+/// at most.
 #[derive(Drop)]
 pub struct Source<T: Drop> {
     pub(crate) producer: Producer<T>,
@@ -23,8 +25,10 @@ pub struct Source<T: Drop> {
     pub(crate) stream: u32,
     pub(crate) entered: u32,
     pub(crate) pushed: u32,
-    pub(crate) life: u32,
+    pub(crate) span: u32,
+    pub(crate) again: u32,
+    pub(crate) left: u64,
     ghost room: { most ≤ vec_capacity chain },
-    ghost some: { 1 ≤ most },
-    ghost order: { (entered ≤ pushed) × (pushed ≤ life) },
+    ghost some: { (1 ≤ most) × (1 ≤ span) },
+    ghost order: { (entered ≤ pushed) × (pushed ≤ span) },
 }

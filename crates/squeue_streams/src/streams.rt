@@ -1,9 +1,10 @@
 //! The parts: what is made of the items of each stream.
 ghost use Rattle.std.specs.Prelude.{◌≡◌, ◌+◌, ◌^◌, ◌<◌, ◌≤◌, ℕ, [], ◌∷◌, ◌++◌, IfOk, length};
 ghost use Rattle.rtrb.specs.Ring.{IsPair, consumer_capacity, known_items, producer_capacity, received, sent};
-ghost use Rattle.squeue_streams.specs.Taking.{calls_of, count_of, input_of, state_of, steps_of, streams_of};
+ghost use Rattle.squeue_streams.specs.Taking.{calls_of, count_of, feeds_of, input_of, state_of, steps_of, streams_of};
 
-use placed_parts::Parts;
+use crate::renewing::Renews;
+use placed_parts::{Parts, Places};
 use rtrb::{Consumer, Producer, RingBuffer};
 use std::alloc::{AllocError, Global};
 use std::sync::Wait;
@@ -36,13 +37,14 @@ pub trait Steps {
         ensures { step (origin self.now) state.old item state.new };
 }
 
-/// A stream at its squeue: the end of its ring that pops, what was made of the items that were popped, and how many feeds
-/// it has had since it was put in.
+/// A stream at its squeue: the end of its ring that pops, what was made of the items that were popped, how many feeds it has had
+/// since it was put in, and how many items were popped in all, modulo 2^64.
 #[derive(Drop)]
 pub struct Stream<T: Drop, S: Drop> {
     input: Consumer<T>,
     state: S,
     had: u32,
+    count: u64,
 }
 
 impl<T: Drop, S: Drop> Stream<T, S> {
@@ -51,11 +53,28 @@ impl<T: Drop, S: Drop> Stream<T, S> {
         ensures input { input_of result ≡ input }
         ensures state { state_of result ≡ state }
         ensures count { count_of result ≡ 0 }
+        ensures feeds { feeds_of result ≡ 0 }
     {
         Stream {
             input,
             state,
             had: 0,
+            count: 0,
+        }
+    }
+
+    /// The same stream, as one that is put in again: its feeds begin anew, and what was made of its items stays.
+    pub fn renewed(self) -> Stream<T, S>
+        ensures input { input_of result ≡ input_of self }
+        ensures state { state_of result ≡ state_of self }
+        ensures count { count_of result ≡ count_of self }
+        ensures feeds { feeds_of result ≡ 0 }
+    {
+        Stream {
+            input: self.input,
+            state: self.state,
+            had: 0,
+            count: self.count,
         }
     }
 
@@ -66,11 +85,11 @@ impl<T: Drop, S: Drop> Stream<T, S> {
         &self.state
     }
 
-    /// How many feeds it has had since it was put in.
-    pub fn count(&self) -> u32
+    /// How many items were popped, modulo 2^64.
+    pub fn count(&self) -> u64
         ensures { result ≡ count_of self.now }
     {
-        self.had
+        self.count
     }
 }
 
@@ -140,9 +159,16 @@ impl<X: Steps + Drop, H: Wait + Drop> Parts for Streams<X, H> {
         let item = self.next(&mut stream.input);
         self.steps.take(alloc, &mut stream.state, item);
         stream.had += 1;
+        stream.count = stream.count.wrapping_add(1);
     }
 
     fn call(&self, _alloc: Global, _stream: &mut Self::Part, _c: u32, _j: u32, _k: u32) {}
 
     ghost same_count = { λ p a b x y. x.feeds ∙ sym y.feeds };
+}
+
+impl<X: Steps + Drop, H: Wait + Drop> Renews for Places<Streams<X, H>> {
+    fn renewed(part: Stream<X::Item, X::State>) -> Stream<X::Item, X::State> {
+        part.renewed()
+    }
 }
