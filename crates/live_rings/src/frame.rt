@@ -1,0 +1,20 @@
+//! Frames, as a ring cuts them from what it reads.
+
+use byteorder::{BigEndian, ByteOrder};
+use live_server::{FRAME_HEAD, is_broken};
+
+/// The bytes of one frame. `more` says that another one of the same read follows at once, so what is answered may wait for it.
+#[derive(Drop)]
+pub struct Frame {
+    pub bytes: Vec<u8>,
+    pub more: bool,
+}
+
+/// How many bytes the frame has that begins here. `None` where there is less than a whole frame, or a broken one.
+pub fn frame_size(rest: &[u8]) -> Option<usize> {
+    if rest.len() < FRAME_HEAD || is_broken(rest) {
+        return None;
+    }
+    let size = FRAME_HEAD + BigEndian::read_u64(rest) as usize;
+    if rest.len() < size { None } else { Some(size) }
+}
