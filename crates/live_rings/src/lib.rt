@@ -4,26 +4,17 @@
 //!     sqlive_rings --rings N --squeues M --mode MODE --budget N frames SECRET SETTING IN OUT ..
 //!
 //! IN and OUT are N pairs of files or FIFOs: ring k reads frames from the k-th IN, and what its table sends goes as frames to the k-th
-//! OUT. A stream's time comes in its own frames. `frame` is how a ring cuts what it reads, `table` what is at a squeue for a stream,
-//! `reading` what a ring does, `making` and `running` how rings and tables are set up and set to work, `serving` the whole run. It
-//! knows no clock and no device.
+//! OUT. A stream's time comes in its own frames. `making` and `running` are how rings and tables are set up and set to work, `serving`
+//! is the whole run, `words` and `process` are the program. It knows no clock and no device.
 #![tactic(auto)]
 
-mod fault;
-mod frame;
 mod making;
 mod process;
-mod reading;
 mod running;
 mod serving;
-mod table;
 mod words;
 
-pub use fault::Fault;
-pub use frame::Frame;
 pub use making::Tables;
 pub use process::run_process;
-pub use reading::Ring;
 pub use serving::{Served, serve_streams};
-pub use table::{Serving, Table};
 pub use words::{Setup, Words, words_of};

@@ -1,10 +1,8 @@
 //! How the tables and the rings of a run are made.
 
-use crate::frame::Frame;
-use crate::reading::{MANY, Ring};
 use crate::running::Task;
-use crate::table::{Serving, Table};
 use crate::words::Setup;
+use live_streams::{Frame, MANY, Ring, Serving, Table};
 use perimeter_core::Resident;
 use placed_parts::Places;
 use rtrb::RingBuffer;

@@ -1,9 +1,9 @@
 //! A run as a process: its words, its files, and what it ends with.
 
-use crate::fault::Fault;
 use crate::serving::serve_streams;
 use crate::words::{Setup, Words, words_of};
 use live_run::secret;
+use live_streams::Fault;
 use sq_base::{StdSink, StdSource};
 use std::env::Env;
 use std::fs::OpenOptions;

@@ -1,6 +1,6 @@
 //! What the threads of a run do.
 
-use crate::reading::{Ring, bring_stream};
+use live_streams::{Ring, bring_stream};
 use perimeter_core::{NoHook, Resident};
 use sq_base::Source;
 use squeue_serve::{Job, close_all, put_pass, run_each, take_pass, work};

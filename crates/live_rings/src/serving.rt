@@ -1,10 +1,9 @@
 //! A run from its making to its end.
 
-use crate::fault::Fault;
 use crate::making::{Tables, make_all, no_tables, tasks_of};
-use crate::reading::Ring;
 use crate::running::{Task, run};
 use crate::words::Setup;
+use live_streams::{Fault, Ring};
 use perimeter_core::{NoHook, Resident};
 use sq_base::{Sink, Source};
 use squeue_serve::{Job, Squeues, discard, end_last, jobs_of, run_unused};

@@ -1,5 +1,9 @@
 //! Frames, as a ring cuts them from what it reads.
 
+ghost use Rattle.std.specs.Prelude.{◌≡◌, ◌+◌, ◌≤◌, true, false, length, IfNone, IfSome};
+ghost use Rattle.live_server.specs.Frames.{body_size, is_end};
+ghost use Rattle.live_server.specs.Limits.{frame_head};
+
 use byteorder::{BigEndian, ByteOrder};
 use live_server::{FRAME_HEAD, is_broken};
 
@@ -11,7 +15,11 @@ pub struct Frame {
 }
 
 /// How many bytes the frame has that begins here. `None` where there is less than a whole frame, or a broken one.
-pub fn frame_size(rest: &[u8]) -> Option<usize> {
+pub fn frame_size(rest: &[u8]) -> Option<usize>
+    ensures begins { IfSome result (λ _. is_end rest.now ≡ false) }
+    ensures size { IfSome result (λ n. (n ≡ frame_head + body_size rest.now) × (n ≤ length rest.now)) }
+    ensures none { IfNone result (is_end rest.now ≡ true) }
+{
     if rest.len() < FRAME_HEAD || is_broken(rest) {
         return None;
     }

@@ -1,6 +1,9 @@
-//! Why a stream, or the whole run, ends early.
+//! Why a stream, or a whole run, ends early.
 
-/// Why a stream, or the whole run, ends early. Each has its exit code; those of `sqlive` have the same ones.
+ghost use Rattle.std.specs.Prelude.{◌≡◌};
+ghost use Rattle.live_streams.specs.Faults.{code_of};
+
+/// Why a stream, or a whole run, ends early. Each has its exit code; those that `sqlive` has are the same there.
 #[derive(Clone, Copy, Debug, PartialEq, Eq)]
 pub enum Fault {
     /// The words are none of the usage line.
@@ -19,7 +22,9 @@ pub enum Fault {
 
 impl Fault {
     /// The exit code.
-    pub fn code(self) -> u8 {
+    pub fn code(self) -> u8
+        ensures { result ≡ code_of self }
+    {
         match self {
             Fault::Words => 2,
             Fault::NoMemory => 3,

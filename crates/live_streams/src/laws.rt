@@ -1,0 +1,10 @@
+//! What follows of all frames of a stream: a law is a function that does nothing, whose contract is the law.
+
+ghost use Rattle.live_streams.specs.Tables.{TablesAnswer};
+
+use sq_base::Sink;
+
+/// A table that has taken frames, one after another, has served them as one server serves them in this order, and has told its answers.
+pub fn tables_answer<K: Sink>()
+    ensures { TablesAnswer K.contents K.write_faults }
+{}
