@@ -1,8 +1,13 @@
 //! How the tables and the rings of a run are made.
 
+ghost use Rattle.std.specs.Prelude.{◌≡◌, IfOk};
+ghost use Rattle.squeue_state.specs.Behind.{ever};
+ghost use Rattle.live_rings.specs.Making.{lives_of};
+
 use crate::running::Task;
 use crate::words::Setup;
-use live_streams::{Frame, MANY, Ring, Serving, Table};
+use live_streams::{MANY, Ring};
+use live_tables::{Frame, Serving, Table};
 use perimeter_core::Resident;
 use placed_parts::Places;
 use rtrb::RingBuffer;
@@ -91,7 +96,9 @@ fn begin_stream<'a, S: Drop, K: Sink + Drop, W: Wait>(
     table: Table<K>,
     tables: &mut Tables<'a, K, W>,
 ) -> Result<Ring<S>, AllocError> {
-    let (producer, input): (rtrb::Producer<Frame>, rtrb::Consumer<Frame>) = RingBuffer::new(alloc, CAPACITY)?;
+    let (producer, input): (rtrb::Producer<Frame>, rtrb::Consumer<Frame>) = RingBuffer::new(
+        alloc, CAPACITY,
+    )?;
     let feeds = Feeds::of(alloc, producer, c, MANY, LIFE)?;
     tables.put_in(c, Stream::of(input, table));
     Ok(Ring {
@@ -122,7 +129,9 @@ pub fn make_all<R: Resident + Drop, T>(
 }
 
 // The lives of the rings' passes: each may enter all feeds of its stream's life, and asks nothing.
-fn lives(alloc: Global, rings: u32) -> Result<Vec<Life>, AllocError> {
+fn lives(alloc: Global, rings: u32) -> Result<Vec<Life>, AllocError>
+    ensures { IfOk result (λ v. ever v.items ≡ lives_of rings) }
+{
     let mut lives = Vec::with_capacity(alloc, rings as usize)?;
     for _k in 0..rings {
         lives.push_reserved(Life {

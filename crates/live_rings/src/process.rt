@@ -3,7 +3,7 @@
 use crate::serving::serve_streams;
 use crate::words::{Setup, Words, words_of};
 use live_run::secret;
-use live_streams::Fault;
+use live_tables::Fault;
 use sq_base::{StdSink, StdSource};
 use std::env::Env;
 use std::fs::OpenOptions;
@@ -14,7 +14,9 @@ use std::thread::Threads;
 use std::{env, fs};
 
 /// Runs for the process' words, from the files that they name to those that they name, and tells a fault to the standard error.
-pub fn run_process<W: Env + AllocGlobal + Eprint + Files + Threads + Wait + Sync>(rt: &W) -> ExitCode
+pub fn run_process<W: Env + AllocGlobal + Eprint + Files + Threads + Wait + Sync>(
+    rt: &W,
+) -> ExitCode
 where
     W::File: Send,
 {
@@ -82,10 +84,13 @@ fn open_all<W: AllocGlobal + Files>(
             .write(true)
             .create(true)
             .truncate(true)
-            .open(rt, output.as_str()) else {
+            .open(rt, output.as_str())
+        else {
             return Err(Fault::Writing);
         };
-        if readers.push(StdSource::over(reader)).is_err() || sinks.push(StdSink::over(writer)).is_err() {
+        if readers.push(StdSource::over(reader)).is_err()
+            || sinks.push(StdSink::over(writer)).is_err()
+        {
             return Err(Fault::NoMemory);
         }
         rest = others;

@@ -1,5 +1,10 @@
 //! What the threads of a run do.
 
+ghost use Rattle.std.specs.Prelude.{ℕ, ◌<◌, All, length, slice_index_or};
+ghost use Rattle.squeue_serve.specs.declared.jobs.Job.{Job};
+ghost use Rattle.live_rings.specs.declared.running.Task.{Task};
+ghost use Rattle.live_rings.specs.Running.{IsReady, Ran};
+
 use live_streams::{Ring, bring_stream};
 use perimeter_core::{NoHook, Resident};
 use sq_base::Source;
@@ -24,7 +29,10 @@ pub fn run<R: Resident + Send, S: Source + Drop + Send, W: Threads + Wait + Sync
     squeues: &[Squeue<R>],
     pace: Pace,
     jobs: &mut [Job<Task<S>>],
-) {
+)
+    requires { All (IsReady R.limits S.rest squeues.now) jobs.old }
+    ensures { (k : ℕ) (d : Job (Task S)) → k < length jobs.old → Ran R.limits S.rest squeues.now (slice_index_or jobs.old k d) (slice_index_or jobs.new k d) }
+{
     run_each(
         rt,
         jobs,
@@ -38,7 +46,10 @@ fn run_job<R: Resident, S: Source + Drop, W: Wait>(
     squeues: &[Squeue<R>],
     pace: Pace,
     job: &mut Job<Task<S>>,
-) {
+)
+    requires { IsReady R.limits S.rest squeues.now job.old }
+    ensures { Ran R.limits S.rest squeues.now job.old job.new }
+{
     match &mut job.task {
         Task::Bring { ring, home } => {
             let pass = take_pass(&mut job.places[*home]);

@@ -1,9 +1,14 @@
 //! A run from its making to its end.
 
+ghost use Rattle.std.specs.Prelude.{◌≡◌, IfOk, length};
+ghost use Rattle.live_rings.specs.Ended.{HaveEnded, table_at};
+ghost use Rattle.live_rings.specs.Making.{IsInRange, server_of};
+
 use crate::making::{Tables, make_all, no_tables, tasks_of};
 use crate::running::{Task, run};
 use crate::words::Setup;
-use live_streams::{Fault, Ring};
+use live_streams::Ring;
+use live_tables::Fault;
 use perimeter_core::{NoHook, Resident};
 use sq_base::{Sink, Source};
 use squeue_serve::{Job, Squeues, discard, end_last, jobs_of, run_unused};
@@ -28,7 +33,11 @@ pub fn serve_streams<'a, S: Source + Drop + Send, K: Sink + Drop + Send, W: Thre
     setup: &Setup,
     readers: Vec<S>,
     sinks: Vec<K>,
-) -> Result<Served<'a, S, K, W>, AllocError> {
+) -> Result<Served<'a, S, K, W>, AllocError>
+    requires setup { IsInRange setup.now }
+    requires ends { (length readers.items ≡ setup.now.rings) × (length sinks.items ≡ setup.now.rings) }
+    ensures { IfOk result (λ s. HaveEnded S.rest K.contents K.write_faults (server_of setup.now) readers.items sinks.items s.rings.items (table_at s.tables.items)) }
+{
     let mut tables = no_tables(alloc, rt, setup, &sinks)?;
     let tasks = tasks_of(alloc, setup, readers, sinks, &mut tables)?;
     let left = Vec::with_capacity(alloc, setup.squeues as usize)?;
@@ -70,7 +79,15 @@ fn run_by<'a, S: Source + Drop + Send, K: Sink + Drop + Send, W: Threads + Wait 
             },
             &mut jobs,
         ),
-        Err(_) => run_unused(rt, alloc, &NoHook, squeues.all.as_slice(), &mut jobs, 0, count),
+        Err(_) => run_unused(
+            rt,
+            alloc,
+            &NoHook,
+            squeues.all.as_slice(),
+            &mut jobs,
+            0,
+            count,
+        ),
     }
     while let Some((resident, _ended, _trace)) = end_last(&mut squeues, &mut jobs, 0, count) {
         left.push_reserved(resident);

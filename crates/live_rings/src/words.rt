@@ -2,6 +2,7 @@
 
 ghost use Rattle.std.specs.Prelude.{◌≡◌, map};
 ghost use Rattle.std.specs.String.{string_bytes};
+ghost use Rattle.live_rings.specs.Making.{server_of};
 ghost use Rattle.live_rings.specs.Words.{asked, asked_behind, secret_in, with_servers};
 
 use live_run::{Mode as Ends, Words as ServerWords, number, words_of as live_words_of};
@@ -22,7 +23,9 @@ pub struct Setup {
 
 impl Setup {
     /// A server of a stream to which nothing came.
-    pub fn server(&self, alloc: Global) -> Server {
+    pub fn server(&self, alloc: Global) -> Server
+        ensures { result ≡ server_of self.now }
+    {
         Server::new(alloc, self.setting, self.secret)
     }
 }
@@ -51,7 +54,8 @@ pub fn words_of(words: &[String]) -> Option<(Words, usize)>
     if a.as_str() != "--rings"
         || b.as_str() != "--squeues"
         || c.as_str() != "--mode"
-        || d.as_str() != "--budget" {
+        || d.as_str() != "--budget"
+    {
         return None;
     }
     asked_behind(
@@ -73,7 +77,13 @@ fn asked_behind(
     ensures { result ≡ asked_behind rings squeues mode budget (map (λ s. string_bytes s) rest.now) }
 {
     let files = 2 * rings as usize;
-    if rings < 1 || rings > MOST_RINGS || squeues < 1 || squeues > MOST_RINGS || budget < 1 || rest.len() < files {
+    if rings < 1
+        || rings > MOST_RINGS
+        || squeues < 1
+        || squeues > MOST_RINGS
+        || budget < 1
+        || rest.len() < files
+    {
         return None;
     }
     let (own, _) = rest.split_at(rest.len() - files);

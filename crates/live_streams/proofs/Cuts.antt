@@ -6,10 +6,11 @@ use Rattle.std.proofs.lemmas.Bool.{le-ltb}
 use Rattle.std.proofs.lemmas.Grind.{flat_map-append}
 use Rattle.byteorder.specs.Numbers.{big_from-append}
 use Rattle.live_server.specs.Frames.{FrameOf, body_size, frames_in, is_broken, is_end, rest_of, time_of}
-use Rattle.live_server.proofs.FrameLemmas.{is_whole, rest_last, rest_next}
+use Rattle.live_server.proofs.FrameLemmas.{frames_last, is_whole, rest_last, rest_next}
 use Rattle.live_server.proofs.PieceLemmas.{pieces_join_proof}
-use Rattle.live_streams.specs.declared.frame.Frame.{Frame}
-use Rattle.live_streams.specs.Cutting.{AreFront, EndsARead, frames_of}
+use Rattle.live_tables.specs.declared.frame.Frame.{Frame}
+use Rattle.live_tables.specs.Taken.{EndsARead, frames_of}
+use Rattle.live_streams.specs.Cutting.{AreFront}
 
 module _ (xs : List ℕ) (e : is_end xs ≡ false) where
   n : ℕ
@@ -81,3 +82,20 @@ pub ends_more : (fs : List Frame) (f : Frame) → f.more ≡ false → EndsARead
 ends_more [] f last = last
 ends_more (x ∷ []) f last = last
 ends_more (x ∷ y ∷ fs) f last = ends_more (y ∷ fs) f last
+
+-- one frame more was brought: what was brought and what is left stay the same frames
+pub brought_more : (old new : List Frame) (f : Frame) (xs : List ℕ) (size : ℕ) (others : List ℕ) → is_end xs ≡ false → size ≡ 16 + body_size xs → f.bytes.items ≡ take size xs → others ≡ drop size xs → new ≡ old ++ f ∷ []
+    → frames_of new ++ frames_in others ≡ frames_of old ++ frames_in xs
+brought_more old new f xs size others e is is_piece is_others more =
+    ap (λ (fs : List Frame). frames_of fs ++ frames_in others) more
+    ∙ (ap (λ (l : List FrameOf). l ++ frames_in others) (frames_more old f)
+    ∙ (append_assoc (frames_of old) (frames_in f.bytes.items) (frames_in others)
+    ∙ ap (λ (l : List FrameOf). frames_of old ++ l) (sym (frames_cut xs size f.bytes.items others e is is_piece is_others))))
+
+-- what was brought so far is a front of all
+pub front_brought : (fs : List Frame) (left all : List FrameOf) → frames_of fs ++ left ≡ all → AreFront (frames_of fs) all
+front_brought fs left all is = (left, sym is)
+
+-- and all of it where no whole frame is left
+pub all_brought : (fs : List Frame) (xs : List ℕ) (all : List FrameOf) → is_end xs ≡ true → frames_of fs ++ frames_in xs ≡ all → frames_of fs ≡ all
+all_brought fs xs all e is = sym (append-nil (frames_of fs)) ∙ (ap (λ (l : List FrameOf). frames_of fs ++ l) (sym (frames_last xs e)) ∙ is)

@@ -1,3 +1,3 @@
-pub mod Answering
 pub mod Cuts
 pub mod Bringing
+pub mod Pieces

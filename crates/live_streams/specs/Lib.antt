@@ -1,3 +1,1 @@
-pub mod Faults
 pub mod Cutting
-pub mod Tables

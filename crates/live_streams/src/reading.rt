@@ -1,16 +1,17 @@
 //! A ring: it reads its stream, cuts it into frames, and brings them to the stream's table.
 
-ghost use Rattle.std.specs.Prelude.{◌≡◌, ◌≢◌, ◌++◌, ◌∷◌, ◌≤◌, ◌<◌, [], true, length, Err, IfOk, IfSome, None, OnOk, Some};
+ghost use Rattle.std.specs.Prelude.{◌≡◌, ◌≢◌, ◌++◌, ◌∷◌, ◌≤◌, ◌<◌, [], false, true, length, Err, IfOk, IfSome, None, OnOk, Some};
 ghost use Rattle.sq_base.specs.Ends.{Rose};
 ghost use Rattle.turn_gate.specs.Passes.{number};
 ghost use Rattle.squeue_streams.specs.Sourcing.{Brings, SameSource, entered_of, life_of, pushed_of, sent_of};
-ghost use Rattle.live_server.specs.Frames.{frames_in, is_broken, rest_of};
+ghost use Rattle.live_server.specs.Frames.{frames_in, is_broken, is_end, rest_of};
 ghost use Rattle.live_server.specs.Limits.{frame_head};
-ghost use Rattle.live_streams.specs.Cutting.{AreFront, EndsARead, frames_of};
+ghost use Rattle.live_tables.specs.Taken.{EndsARead, frames_of};
+ghost use Rattle.live_streams.specs.Cutting.{AreFront};
 
-use crate::fault::Fault;
-use crate::frame::{Frame, frame_size};
+use crate::cutting::frame_size;
 use live_server::{FRAME_HEAD, is_broken};
+use live_tables::{Fault, Frame};
 use perimeter_core::{NoHook, Resident};
 use sq_base::Source;
 use squeue_state::{Pass, Squeue};
@@ -158,11 +159,10 @@ fn bring_piece<R: Resident, W: Wait>(
     ensures life { result.1 ≡ Err Fault.Life → pushed_of feeds.new ≡ life_of feeds.new }
     ensures others { (result.1 ≢ Err Fault.Writing) × (result.1 ≢ Err Fault.Words) × (result.1 ≢ Err Fault.Reading) }
 {
-    if pending.extend_from_slice(piece).is_err() {
+    let Ok(()) = pending.extend_from_slice(piece) else {
         return (pass, Err(Fault::NoMemory));
-    }
-    let (pass, brought) = bring_frames(rt, sq, alloc, pace, pass, feeds, pending.as_slice());
-    let pass = enter_rest(rt, sq, alloc, pace, pass, feeds);
+    };
+    let (pass, brought) = bring_whole(rt, sq, alloc, pace, pass, feeds, pending.as_slice());
     match brought {
         Ok(rest) => match kept(alloc, rest) {
             Ok(left) => {
@@ -173,6 +173,34 @@ fn bring_piece<R: Resident, W: Wait>(
         },
         Err(fault) => (pass, Err(fault)),
     }
+}
+
+// Brings the whole frames at the front of some bytes, enters the feeds of all, and answers what is left behind them.
+fn bring_whole<'a, R: Resident, W: Wait>(
+    rt: &W,
+    sq: &Squeue<R>,
+    alloc: Global,
+    pace: Pace,
+    pass: Pass,
+    feeds: &mut Feeds<Frame>,
+    bytes: &'a [u8],
+) -> (Pass, Result<&'a [u8], Fault>)
+    requires may { Brings R.limits sq.now pass feeds.old }
+    requires ends { EndsARead (sent_of feeds.old) }
+    ensures may { Brings R.limits sq.now result.0 feeds.new }
+    ensures number { number result.0 ≡ number pass }
+    ensures same { SameSource feeds.old feeds.new }
+    ensures all { entered_of feeds.new ≡ pushed_of feeds.new }
+    ensures brought { OnOk result.1 (frames_of (sent_of feeds.new) ≡ frames_of (sent_of feeds.old) ++ frames_in bytes.now) }
+    ensures rest { IfOk result.1 (λ rest. rest.now ≡ rest_of bytes.now) }
+    ensures ends { OnOk result.1 (EndsARead (sent_of feeds.new)) }
+    ensures front { AreFront (frames_of (sent_of feeds.new)) (frames_of (sent_of feeds.old) ++ frames_in bytes.now) }
+    ensures life { result.1 ≡ Err Fault.Life → pushed_of feeds.new ≡ life_of feeds.new }
+    ensures others { (result.1 ≢ Err Fault.Writing) × (result.1 ≢ Err Fault.Words) × (result.1 ≢ Err Fault.Reading) × (result.1 ≢ Err Fault.Frames) }
+{
+    let (pass, brought) = bring_frames(rt, sq, alloc, pace, pass, feeds, bytes);
+    let pass = enter_rest(rt, sq, alloc, pace, pass, feeds);
+    (pass, brought)
 }
 
 // What is left, where no broken frame begins there.
@@ -222,11 +250,21 @@ fn bring_frames<'a, R: Resident, W: Wait>(
         if feeds.left() == 0 {
             return (pass, Err(Fault::Life));
         }
-        let more = feeds.left() > 1 && frame_size(others).is_some();
+        let more = follows(feeds.left(), others);
         pass = bring_one(rt, sq, alloc, pace, pass, feeds, Frame { bytes, more });
         rest = others;
     }
     (pass, Ok(rest))
+}
+
+// Whether another whole frame follows at once, where so many frames are left of the stream's life.
+fn follows(left: u32, others: &[u8]) -> bool
+    ensures { is_end others.now ≡ true → result ≡ false }
+{
+    match frame_size(others) {
+        Some(_) => left > 1,
+        None => false,
+    }
 }
 
 // Brings one frame. Where ring and room are full it waits; where the stream's life is over, for ever.
@@ -295,6 +333,7 @@ fn enter_rest<R: Resident, W: Wait>(
     ensures number { number result ≡ number pass }
     ensures same { SameSource feeds.old feeds.new }
     ensures all { entered_of feeds.new ≡ pushed_of feeds.new }
+    ensures pushed { pushed_of feeds.new ≡ pushed_of feeds.old }
     ensures sent { sent_of feeds.new ≡ sent_of feeds.old }
 {
     let mut pass = pass;

@@ -2,7 +2,7 @@ use Rattle.std.proofs.Common.{◌≡◌, ◌++◌, length, true}
 use Rattle.turn_gate.specs.Passes.{number}
 use Rattle.squeue_streams.specs.Sourcing.{Brings, SameSource, sent_of}
 use Rattle.live_server.specs.Frames.{frames_in, is_end, rest_of}
-use Rattle.live_streams.specs.Cutting.{EndsARead, frames_of}
+use Rattle.live_tables.specs.Taken.{EndsARead, frames_of}
 use Rattle.live_streams.proofs.reading.bring_frames.Given as goal
 
 -- what was brought, and then what is left, are the frames of all; and where no whole one is left, the last one ended a read

@@ -3,7 +3,7 @@ use Rattle.std.specs.Io.KnownBytes.{Consumes}
 use Rattle.turn_gate.specs.Passes.{number}
 use Rattle.squeue_streams.specs.Sourcing.{Brings, SameSource, entered_of, pushed_of, sent_of}
 use Rattle.live_server.specs.Frames.{frames_in, rest_of}
-use Rattle.live_streams.specs.Cutting.{EndsARead, frames_of}
+use Rattle.live_tables.specs.Taken.{EndsARead, frames_of}
 use Rattle.live_streams.proofs.reading.bring_pieces.Given as goal
 
 -- the frames of what was read were brought, but for what is left of it, and no read failed

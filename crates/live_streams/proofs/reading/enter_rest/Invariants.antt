@@ -1,6 +1,6 @@
 use Rattle.std.proofs.Common.{◌≡◌}
 use Rattle.turn_gate.specs.Passes.{number}
-use Rattle.squeue_streams.specs.Sourcing.{Brings, SameSource, sent_of}
+use Rattle.squeue_streams.specs.Sourcing.{Brings, SameSource, pushed_of, sent_of}
 use Rattle.live_streams.proofs.reading.enter_rest.Given as goal
 
 abbrev pub invariant-loop : goal.invariant-loop
@@ -9,5 +9,6 @@ invariant-loop g l =
       may : Brings g.R.Resident.limits l.sq l.pass l.feeds;
       number : number l.pass ≡ number l.fn.pass;
       same : SameSource l.fn.feeds l.feeds;
+      pushed : pushed_of l.feeds ≡ pushed_of l.fn.feeds;
       sent : sent_of l.feeds ≡ sent_of l.fn.feeds;
     }

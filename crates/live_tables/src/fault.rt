@@ -1,7 +1,7 @@
 //! Why a stream, or a whole run, ends early.
 
 ghost use Rattle.std.specs.Prelude.{◌≡◌};
-ghost use Rattle.live_streams.specs.Faults.{code_of};
+ghost use Rattle.live_tables.specs.Faults.{code_of};
 
 /// Why a stream, or a whole run, ends early. Each has its exit code; those that `sqlive` has are the same there.
 #[derive(Clone, Copy, Debug, PartialEq, Eq)]

@@ -6,12 +6,12 @@ use Rattle.sq_base.specs.Ends.{Rose}
 use Rattle.live_server.specs.Frames.{FrameOf, answers, frame_of, frames_in, serves_frames}
 use Rattle.live_server.specs.Serving.{ServerOf}
 use Rattle.live_run.specs.Fronts.{AppendsFront}
-use Rattle.live_streams.specs.declared.fault.Fault.{Fault}
-use Rattle.live_streams.specs.declared.fault.Fault.TheVariants as Fault'
-use Rattle.live_streams.specs.declared.frame.Frame.{Frame}
-use Rattle.live_streams.specs.declared.table.Serving.{Serving}
-use Rattle.live_streams.specs.declared.table.Table.{Table}
-use Rattle.live_streams.specs.Cutting.{EndsARead, frames_of}
+use Rattle.live_tables.specs.declared.fault.Fault.{Fault}
+use Rattle.live_tables.specs.declared.fault.Fault.TheVariants as Fault'
+use Rattle.live_tables.specs.declared.frame.Frame.{Frame}
+use Rattle.live_tables.specs.declared.table.Serving.{Serving}
+use Rattle.live_tables.specs.declared.table.Table.{Table}
+use Rattle.live_tables.specs.Taken.{EndsARead, frames_of}
 use Rattle.squeue_streams.specs.Taking.{Takes}
 
 -- what is written where these datagrams are served
@@ -93,3 +93,9 @@ module _ {K : Type 0} where
     -- so it is of whatever frames
     abbrev pub TablesAnswer : Type 0
     TablesAnswer = (server : ServerOf) (sink : K) (first to : Table K) (frames : List Frame) → IsNew server sink first → Takes Serves first frames to → HasServed first frames to
+
+    -- Where a table has taken frames that are those of an input, of which the last one ended a read, and met no fault, its sink got what its
+    -- server answers to this input
+    abbrev pub OutputsAnswer : Type 0
+    OutputsAnswer = (server : ServerOf) (sink : K) (first to : Table K) (frames : List Frame) (input : List ℕ) → IsNew server sink first → Takes Serves first frames to
+        → frames_of frames ≡ frames_in input → EndsARead frames → fault_of to ≡ None → Appends (contents sink) (contents (sink_of to)) (answers input server)

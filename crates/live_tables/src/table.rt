@@ -1,7 +1,7 @@
 //! What is at a squeue for a stream: its server, and where what it sends is written.
 
 ghost use Rattle.std.specs.Prelude.{◌≡◌, None, false};
-ghost use Rattle.live_streams.specs.Tables.{IsNew, IsTableOf, Serves, Writes, fault_of, server_from, sink_of, sinks_of};
+ghost use Rattle.live_tables.specs.Tables.{IsNew, IsTableOf, Serves, Writes, fault_of, server_from, sink_of, sinks_of};
 
 use crate::fault::Fault;
 use crate::frame::Frame;

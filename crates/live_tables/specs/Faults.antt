@@ -1,7 +1,7 @@
 -- The exit code of each fault.
 use Rattle.std.specs.Prelude.{ℕ}
-use Rattle.live_streams.specs.declared.fault.Fault.{Fault}
-use Rattle.live_streams.specs.declared.fault.Fault.TheVariants.{Words, NoMemory, Reading, Writing, Frames, Life}
+use Rattle.live_tables.specs.declared.fault.Fault.{Fault}
+use Rattle.live_tables.specs.declared.fault.Fault.TheVariants.{Words, NoMemory, Reading, Writing, Frames, Life}
 
 abbrev pub code_of : Fault → ℕ
 code_of Words = 2

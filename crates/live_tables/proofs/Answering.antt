@@ -10,12 +10,12 @@ use Rattle.live_server.specs.Serving.{ServerOf}
 use Rattle.live_server.proofs.PieceLemmas.{served_on}
 use Rattle.live_run.specs.Fronts.{AppendsFront}
 use Rattle.squeue_streams.specs.Taking.{Takes}
-use Rattle.live_streams.specs.declared.fault.Fault.{Fault}
-use Rattle.live_streams.specs.declared.fault.Fault.TheVariants as Fault'
-use Rattle.live_streams.specs.declared.frame.Frame.{Frame}
-use Rattle.live_streams.specs.declared.table.Table.{Table}
-use Rattle.live_streams.specs.Cutting.{EndsARead, frames_of}
-use Rattle.live_streams.specs.Tables.{HasServed, IsNew, Serves, TablesAnswer, Tells, Writes, answers_to, fault_of, server_of, sink_of, waiting_of}
+use Rattle.live_tables.specs.declared.fault.Fault.{Fault}
+use Rattle.live_tables.specs.declared.fault.Fault.TheVariants as Fault'
+use Rattle.live_tables.specs.declared.frame.Frame.{Frame}
+use Rattle.live_tables.specs.declared.table.Table.{Table}
+use Rattle.live_tables.specs.Taken.{EndsARead, frames_of}
+use Rattle.live_tables.specs.Tables.{HasServed, IsNew, OutputsAnswer, Serves, TablesAnswer, Tells, Writes, answers_to, fault_of, server_of, sink_of, waiting_of}
 
 none_or_one : (o : Option Fault) → (o ≡ None) ⊎ ((why : Fault) × (o ≡ Some why))
 none_or_one None = inl refl
@@ -93,14 +93,14 @@ module _ {K : Type 0} (contents : K → Option (List ℕ)) (faults : K → ℕ) 
 
     front_on : AppendsFront (contents (sink_of at)) (contents (sink_of to)) (waiting_of at ++ more) → AppendsFront (contents (sink_of from)) (contents (sink_of to)) (waiting_of from ++ (one ++ more))
     front_on then = (
-        told.out ++ then.0,
-        (
-          then.1.0,
-          sym (append_assoc (waiting_of from) one more) ∙ (ap (λ (l : List ℕ). l ++ more) told.rest_waits ∙ (append_assoc told.out (waiting_of at) more
-              ∙ (ap (λ (l : List ℕ). told.out ++ l) then.1.1 ∙ sym (append_assoc told.out then.0 then.1.0)))),
-        ),
-        Appends-trans _ _ _ told.out then.0 told.appended then.2,
-      )
+      told.out ++ then.0,
+      (
+        then.1.0,
+        sym (append_assoc (waiting_of from) one more) ∙ (ap (λ (l : List ℕ). l ++ more) told.rest_waits ∙ (append_assoc told.out (waiting_of at) more
+            ∙ (ap (λ (l : List ℕ). told.out ++ l) then.1.1 ∙ sym (append_assoc told.out then.0 then.1.0)))),
+      ),
+      Appends-trans _ _ _ told.out then.0 told.appended then.2,
+    )
 
   -- a front of some is one of more
   front_of_more : (was is : Option (List ℕ)) (waiting one more : List ℕ) → AppendsFront was is (waiting ++ one) → AppendsFront was is (waiting ++ (one ++ more))
@@ -125,14 +125,15 @@ module _ {K : Type 0} (contents : K → Option (List ℕ)) (faults : K → ℕ) 
     -- it met a fault at this frame
     met_one : (why : Fault) → fault_of at ≡ Some why → to ≡ at → SoFar from (f ∷ frames) to
     met_one why is same =
-        subst (λ (t : Table K). SoFar from (f ∷ frames) t) (sym same) (record {
+        let there : SoFar from (f ∷ frames) at = record {
           served = λ none. absurd (not_both (fault_of at) why none is);
           told = λ none. absurd (not_both (fault_of at) why none is);
           written = λ none _. absurd (not_both (fault_of at) why none is);
           front = subst (λ (l : List ℕ). AppendsFront (contents (sink_of from)) (contents (sink_of at)) (waiting_of from ++ l)) (sym joined)
               (front_of_more _ _ (waiting_of from) (answers f.bytes.items (server_of from)) (answers_to (frames_of frames) behind) (one.front well));
           cause = λ writing. caused (one.cause writing);
-        })
+        } in
+        subst (λ (t : Table K). SoFar from (f ∷ frames) t) (sym same) there
       where
         caused : (fault_of from ≡ Some Fault'.Writing) ⊎ Rose (faults (sink_of from)) (faults (sink_of at)) → Rose (faults (sink_of from)) (faults (sink_of at))
         caused (inl before) = absurd (not_both (fault_of from) Fault'.Writing well before)
@@ -190,6 +191,12 @@ module _ {K : Type 0} (contents : K → Option (List ℕ)) (faults : K → ℕ) 
 pub all_served_of : {K : Type 0} (contents : K → Option (List ℕ)) (faults : K → ℕ) → TablesAnswer contents faults
 all_served_of contents faults = all_served contents faults
 
+pub outputs_answer_of : {K : Type 0} (contents : K → Option (List ℕ)) (faults : K → ℕ) → OutputsAnswer contents faults
+outputs_answer_of contents faults server sink first to frames input new takes are ends well =
+    let wrote = (all_served contents faults server sink first to frames new takes).written well ends in
+    let same : answers_to (frames_of frames) (server_of first) ≡ answers input server = ap (λ (fs : List FrameOf). answers_to fs (server_of first)) are ∙ ap (λ (sv : ServerOf). answers input sv) new.its_server in
+    subst (λ k. Appends (contents k) (contents (sink_of to)) (answers input server)) new.its_sink (subst (λ (l : List ℕ). Appends (contents (sink_of first)) (contents (sink_of to)) l) same wrote)
+
 -- one frame
 module _ {K : Type 0} (contents : K → Option (List ℕ)) (faults : K → ℕ) where
   -- which a table after a fault passes over
@@ -225,13 +232,15 @@ module _ {K : Type 0} (contents : K → Option (List ℕ)) (faults : K → ℕ) 
       no_writing e = subst IsShort e tt
 
   -- which it serves: `at` is what serving makes of it, and then it writes
-  pub was_served : (from at to : Table K) (f : Frame) → fault_of from ≡ None → server_of at ≡ (serves_frames (frames_in f.bytes.items) (server_of from)).server
-      → waiting_of at ≡ waiting_of from ++ answers f.bytes.items (server_of from) → sink_of at ≡ sink_of from → Writes contents faults f.more at to → Serves contents faults from f to
-  was_served from at to f well server waiting sink w =
+  pub was_served : (from at to : Table K) (f : Frame) (bytes : List ℕ) → bytes ≡ f.bytes.items → fault_of from ≡ None → server_of at ≡ (serves_frames (frames_in bytes) (server_of from)).server
+      → waiting_of at ≡ waiting_of from ++ answers bytes (server_of from) → sink_of at ≡ sink_of from → Writes contents faults f.more at to → Serves contents faults from f to
+  was_served from at to f bytes same well is_server is_waiting sink w =
+      let server : server_of at ≡ (serves_frames (frames_in f.bytes.items) (server_of from)).server = is_server ∙ ap (λ (l : List ℕ). (serves_frames (frames_in l) (server_of from)).server) same in
+      let waiting : waiting_of at ≡ all = is_waiting ∙ ap (λ (l : List ℕ). waiting_of from ++ answers l (server_of from)) same in
       record {
         well = λ _. well;
         served = λ _. w.same_server ∙ server;
-        told = λ none. told_on (w.told none);
+        told = λ none. told_on waiting (w.told none);
         written = w.written;
         front = λ _. subst (λ (k : K). AppendsFront (contents k) (contents (sink_of to)) all) sink (subst (λ (l : List ℕ). AppendsFront (contents (sink_of at)) (contents (sink_of to)) l) waiting w.front);
         cause = λ writing. inr (subst (λ (k : K). Rose (faults k) (faults (sink_of to))) sink (w.cause writing));
@@ -242,8 +251,8 @@ module _ {K : Type 0} (contents : K → Option (List ℕ)) (faults : K → ℕ) 
       all : List ℕ
       all = waiting_of from ++ answers f.bytes.items (server_of from)
 
-      told_on : Tells contents faults at [] to → Tells contents faults from (answers f.bytes.items (server_of from)) to
-      told_on t =
+      told_on : waiting_of at ≡ all → Tells contents faults at [] to → Tells contents faults from (answers f.bytes.items (server_of from)) to
+      told_on waiting t =
           record {
             out = t.out;
             appended = subst (λ (k : K). Appends (contents k) (contents (sink_of to)) t.out) sink t.appended;

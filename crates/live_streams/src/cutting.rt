@@ -1,4 +1,4 @@
-//! Frames, as a ring cuts them from what it reads.
+//! How a ring cuts frames from what it reads.
 
 ghost use Rattle.std.specs.Prelude.{◌≡◌, ◌+◌, ◌≤◌, true, false, length, IfNone, IfSome};
 ghost use Rattle.live_server.specs.Frames.{body_size, is_end};
@@ -6,13 +6,6 @@ ghost use Rattle.live_server.specs.Limits.{frame_head};
 
 use byteorder::{BigEndian, ByteOrder};
 use live_server::{FRAME_HEAD, is_broken};
-
-/// The bytes of one frame. `more` says that another one of the same read follows at once, so what is answered may wait for it.
-#[derive(Drop)]
-pub struct Frame {
-    pub bytes: Vec<u8>,
-    pub more: bool,
-}
 
 /// How many bytes the frame has that begins here. `None` where there is less than a whole frame, or a broken one.
 pub fn frame_size(rest: &[u8]) -> Option<usize>
