@@ -1,5 +1,5 @@
 pub mod Distinct
-mod Mapped
+mod PacketPlaces
 pub mod Conns
 mod HintLemmas
 pub mod ItemLemmas
