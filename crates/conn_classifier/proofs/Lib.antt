@@ -10,5 +10,6 @@ pub mod PlanFacts
 pub mod TextWithin
 mod OrderLaw
 pub mod PlanLaw
+pub mod Joining
 pub mod RingLaw
 mod ItemsTogether

@@ -302,14 +302,13 @@ items_made f last time vs slice items e s t = e ∙ (λ k. map (λ v. items_of (
 
 -- the parts that are made one after another are the plan
 pub made : (file : CaptureFile) (verify : Bool) (packets : List Packet) (ts : List Tuple) (lists : List (List Arrival)) (items : List (List Item)) (order : List ℕ) (counts : Counts)
-    → packets ≡ decoded file verify → ts ≡ conns packets
-    → record { lists = lists; order = order; counts = counts } ≡ sorted_of (length file.packets) file.cut ts (seen_of file.packets packets)
+    → packets ≡ decoded file verify
+    → record { tuples = ts; lists = lists; order = order; counts = counts } ≡ sorted_of (length file.packets) file.cut (conns packets) (seen_of file.packets packets)
     → items ≡ map (items_of (last_time file.packets)) lists
     → record { file = file; tuples = ts; items = items; order = order; counts = counts } ≡ plan_of file verify
 unfolding plan_of conn_items
-made file verify packets ts lists items order counts p t s i =
-    let keys : ts ≡ conns (decoded file verify) = t ∙ ap conns p in
-    let sorted : record { lists = lists; order = order; counts = counts } ≡ sorted_of (length file.packets) file.cut (conns (decoded file verify)) (seen file verify) =
-    s ∙ (λ k. sorted_of (length file.packets) file.cut (keys k) ((ap (seen_of file.packets) p ∙ seen_is file verify) k)) in
+made file verify packets ts lists items order counts p s i =
+    let sorted : record { tuples = ts; lists = lists; order = order; counts = counts } ≡ sorted_of (length file.packets) file.cut (conns (decoded file verify)) (seen file verify) =
+    s ∙ (λ k. sorted_of (length file.packets) file.cut (conns (p k)) ((ap (seen_of file.packets) p ∙ seen_is file verify) k)) in
     let all = i ∙ ap (λ (x : SortedOf). map (items_of (last_time file.packets)) x.lists) sorted ∙ twice (items_of (last_time file.packets)) (λ t. of_conn t (seen file verify)) (conns (decoded file verify)) in
-    (λ k. record { file = file; tuples = keys k; items = all k; order = (sorted k).order; counts = (sorted k).counts })
+    (λ k. record { file = file; tuples = (sorted k).tuples; items = all k; order = (sorted k).order; counts = (sorted k).counts })

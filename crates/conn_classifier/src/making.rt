@@ -10,7 +10,6 @@ use crate::items::items_in;
 use crate::kinds::{Arrival, Item};
 use crate::planned::{Plan, Table};
 use crate::sorting::sort;
-use crate::tuples::tuples_of;
 use capture_reader::Capture;
 use std::alloc::{AllocError, Global};
 use std::thread::Threads;
@@ -52,15 +51,14 @@ pub fn plan<'c>(
     ensures { IfOk result (λ p. p ≡ plan_of capture.entry.now verify) }
 {
     let packets = decode_all(rt, alloc, capture, verify)?;
-    let tuples = tuples_of(alloc, packets.as_slice())?;
-    let sorted = sort(alloc, capture, &tuples, packets.as_slice())?;
+    let sorted = sort(alloc, capture, packets.as_slice())?;
     // Segments are kept once: the packets are freed before there are items.
     drop(packets);
     let items = all_items(alloc, capture.last_time(), sorted.lists)?;
     Ok(Plan {
         capture,
         table: Table {
-            tuples,
+            tuples: sorted.tuples,
             items,
             order: sorted.order,
             counts: sorted.counts,
