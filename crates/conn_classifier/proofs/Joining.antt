@@ -17,7 +17,7 @@ use Rattle.conn_classifier.specs.Limits.{most_conns}
 use Rattle.conn_classifier.specs.Connections.{conns, distinct, served_in, served_tuple, tuple_eq}
 use Rattle.conn_classifier.specs.Classes.{class_in, counts_of}
 use Rattle.conn_classifier.specs.Items.{Seen, arrivals, of_conn}
-use Rattle.conn_classifier.specs.Sorting.{seen_of, conn_in, number_in, place_in, order_of, SortedOf, sorted_of, sorted_seen, with_conn, counted, total}
+use Rattle.conn_classifier.specs.Sorting.{seen_of, conn_in, number_in, place_in, order_of, recs_of, SortedOf, sorted_of, sorted_seen, with_conn, counted, total}
 use Rattle.conn_classifier.specs.declared.kinds.Class.{Class}
 use Rattle.conn_classifier.specs.declared.kinds.Class.TheVariants as class
 use Rattle.conn_classifier.proofs.Conns.{conns_none, conns_some, conns_full, same}
@@ -152,11 +152,11 @@ module _ (ts : List Tuple) (t : Tuple) (new : list_any (tuple_eq t) ts ≡ false
   same_classes (x ∷ xs) h = (λ k. same_class_in x.1 h.0 k ∷ same_classes xs h.1 k)
 
   pub grows : (records : ℕ) (cut : Bool) (xs : List Seen) → AllByRecursion (λ x. IsListed ts x.1) xs
-      → record { tuples = ts ++ t ∷ []; lists = map (λ u. of_conn u xs) ts ++ [] ∷ []; order = order_of ts xs; counts = counts_of records cut (map (λ x. class_in ts x.1) xs) }
+      → record { tuples = ts ++ t ∷ []; lists = map (λ u. recs_of u xs) ts ++ [] ∷ []; order = order_of ts xs; counts = counts_of records cut (map (λ x. class_in ts x.1) xs) }
       ≡ sorted_of records cut (ts ++ t ∷ []) xs
   unfolding of_conn order_of
   grows records cut xs h =
-      let lists = ap (λ l. map (λ u. of_conn u xs) ts ++ l ∷ []) (sym (none_of 0 xs h)) ∙ sym (map-append (λ u. of_conn u xs) ts (t ∷ [])) in
+      let lists = ap (λ l. map (λ u. recs_of u xs) ts ++ map (λ a. a.rec) l ∷ []) (sym (none_of 0 xs h)) ∙ sym (map-append (λ u. recs_of u xs) ts (t ∷ [])) in
       (λ k. record { tuples = ts ++ t ∷ []; lists = lists k; order = sym (same_order xs h) k; counts = counts_of records cut (sym (same_classes xs h) k) })
 
 -- what is sorted out so far, with one more tuple
@@ -217,14 +217,14 @@ module _ (records : ℕ) (cut : Bool) (xs : List Seen) (at : ℕ) (p : Packet) w
 
     adds : (c n : ℕ) (g : Seg) → place_in after p ≡ Some (c, g) → n ≡ length xs
         → record s {
-          lists = set s.lists c (get_or s.lists c [] ++ record { rec = n; at = at; seg = g } ∷ []);
+          lists = set s.lists c (get_or s.lists c [] ++ n ∷ []);
           order = s.order ++ c ∷ [];
           counts = counted class.Served s.counts;
         } ≡ sorted_seen records cut (xs ++ (at, p) ∷ [])
     adds c n g q e =
         let turn = turn_some records cut after xs (at, p) c g (apart_conns (map (λ x. x.1) xs ++ p ∷ [])) q in
         (λ k. record (so_far k) {
-          lists = set (so_far k).lists c (get_or (so_far k).lists c [] ++ record { rec = e k; at = at; seg = g } ∷ []);
+          lists = set (so_far k).lists c (get_or (so_far k).lists c [] ++ e k ∷ []);
           order = (so_far k).order ++ c ∷ [];
           counts = counted class.Served (so_far k).counts;
         })
@@ -252,7 +252,7 @@ module _ (records : ℕ) (cut : Bool) (xs : List Seen) (at : ℕ) (p : Packet) w
 
       pub fit : (c n : ℕ) → Some c ≡ position (tuple_eq t) now.tuples → n ≡ length xs
           → record now {
-            lists = set now.lists c (get_or now.lists c [] ++ record { rec = n; at = at; seg = g } ∷ []);
+            lists = set now.lists c (get_or now.lists c [] ++ n ∷ []);
             order = now.order ++ c ∷ [];
             counts = counted class.Served now.counts;
           } ≡ sorted_seen records cut (xs ++ (at, p) ∷ [])
@@ -270,7 +270,7 @@ module _ (records : ℕ) (cut : Bool) (xs : List Seen) (s : SortedOf) (is : s �
 
   pub even_here : length s.lists ≡ length s.tuples
   even_here =
-      ap (λ (t : SortedOf). length t.lists) is ∙ length-map (conns (map (λ x. x.1) xs)) (λ t. of_conn t xs) ∙ sym (ap (λ (t : SortedOf). length t.tuples) is)
+      ap (λ (t : SortedOf). length t.lists) is ∙ length-map (conns (map (λ x. x.1) xs)) (λ t. recs_of t xs) ∙ sym (ap (λ (t : SortedOf). length t.tuples) is)
 
 -- nothing sorted yet
 pub starts : (records : ℕ) (cut : Bool) (rs : List Captured) (ps : List Packet)

@@ -11,5 +11,6 @@ pub mod TextWithin
 mod OrderLaw
 pub mod PlanLaw
 pub mod Joining
+pub mod Kept
 pub mod RingLaw
 mod ItemsTogether

@@ -295,20 +295,17 @@ pub twice : {X Y Z : Type 0} (f : Y → Z) (g : X → Y) (xs : List X) → map f
 twice f g [] = refl
 twice f g (x ∷ xs) = ap (λ l. f (g x) ∷ l) (twice f g xs)
 
--- the items of each list, read of the vectors
-pub items_made : {V : Type 0} (f : V → List Arrival) (last time : ℕ) (vs slice : List V) (items : List (List Item))
-    → items ≡ map (λ v. items_of time (f v)) slice → slice ≡ vs → time ≡ last → items ≡ map (items_of last) (map f vs)
-items_made f last time vs slice items e s t = e ∙ (λ k. map (λ v. items_of (t k) (f v)) (s k)) ∙ sym (twice (items_of last) f vs)
-
 -- the parts that are made one after another are the plan
-pub made : (file : CaptureFile) (verify : Bool) (packets : List Packet) (ts : List Tuple) (lists : List (List Arrival)) (items : List (List Item)) (order : List ℕ) (counts : Counts)
+pub made : (file : CaptureFile) (verify : Bool) (packets : List Packet) (ts : List Tuple) (lists : List (List ℕ)) (items : List (List Item)) (order : List ℕ) (counts : Counts)
     → packets ≡ decoded file verify
     → record { tuples = ts; lists = lists; order = order; counts = counts } ≡ sorted_of (length file.packets) file.cut (conns packets) (seen_of file.packets packets)
-    → items ≡ map (items_of (last_time file.packets)) lists
+    → items ≡ map (items_of (last_time file.packets)) (map (λ t. of_conn t (seen_of file.packets packets)) (conns packets))
     → record { file = file; tuples = ts; items = items; order = order; counts = counts } ≡ plan_of file verify
 unfolding plan_of conn_items
 made file verify packets ts lists items order counts p s i =
+    let xs = ap (seen_of file.packets) p ∙ seen_is file verify in
     let sorted : record { tuples = ts; lists = lists; order = order; counts = counts } ≡ sorted_of (length file.packets) file.cut (conns (decoded file verify)) (seen file verify) =
-    s ∙ (λ k. sorted_of (length file.packets) file.cut (conns (p k)) ((ap (seen_of file.packets) p ∙ seen_is file verify) k)) in
-    let all = i ∙ ap (λ (x : SortedOf). map (items_of (last_time file.packets)) x.lists) sorted ∙ twice (items_of (last_time file.packets)) (λ t. of_conn t (seen file verify)) (conns (decoded file verify)) in
+    s ∙ (λ k. sorted_of (length file.packets) file.cut (conns (p k)) (xs k)) in
+    let all = i ∙ (λ k. map (items_of (last_time file.packets)) (map (λ t. of_conn t (xs k)) (conns (p k))))
+    ∙ twice (items_of (last_time file.packets)) (λ t. of_conn t (seen file verify)) (conns (decoded file verify)) in
     (λ k. record { file = file; tuples = (sorted k).tuples; items = all k; order = (sorted k).order; counts = (sorted k).counts })

@@ -14,7 +14,7 @@ use Rattle.segment_codec.specs.Refusal.{tuple_of}
 use Rattle.conn_classifier.specs.Connections.{tuple_eq, served_in}
 use Rattle.conn_classifier.specs.Classes.{class_in, counts_of}
 use Rattle.conn_classifier.specs.Items.{Seen, arrival, arrivals, of_conn}
-use Rattle.conn_classifier.specs.Sorting.{seen_of, number_in, conn_in, place_in, order_of, SortedOf, sorted_of, counted, total}
+use Rattle.conn_classifier.specs.Sorting.{seen_of, number_in, conn_in, place_in, order_of, recs_of, SortedOf, sorted_of, counted, total}
 use Rattle.conn_classifier.specs.declared.kinds.Arrival.{Arrival}
 use Rattle.conn_classifier.specs.declared.kinds.Class.{Class}
 use Rattle.conn_classifier.specs.declared.kinds.Class.TheVariants as class
@@ -56,6 +56,13 @@ module _ (xs : List Seen) (x : Seen) where
   conn_some s e t =
       ap (filter (λ a. tuple_eq (tuple_of a.seg) t)) (arrivals_more ∙ ap (λ o. arrivals 0 xs ++ arrival (length xs) x.0 o) e)
       ∙ filter_push (λ a. tuple_eq (tuple_of a.seg) t) (arrivals 0 xs) (record { rec = length xs; at = x.0; seg = s })
+
+  recs_some : (s : Seg) → served_in x.1 ≡ Some s → (t : Tuple) → recs_of t (xs ++ x ∷ []) ≡ recs_of t xs ++ (if tuple_eq (tuple_of s) t then length xs ∷ [] else [])
+  recs_some s e t = ap (map (λ a. a.rec)) (conn_some s e t) ∙ map-append (λ (a : Arrival). a.rec) (of_conn t xs) _ ∙ ap (λ l. recs_of t xs ++ l) (one (tuple_eq (tuple_of s) t))
+    where
+      one : (b : Bool) → map (λ (a : Arrival). a.rec) (if b then record { rec = length xs; at = x.0; seg = s } ∷ [] else []) ≡ (if b then length xs ∷ [] else [])
+      one true = refl
+      one false = refl
 
 -- what a place says of the class
 module _ (ts : List Tuple) where
@@ -144,15 +151,15 @@ module _ (records : ℕ) (cut : Bool) (ts : List Tuple) (xs : List Seen) (x : Se
   order_some c e = push_some (λ y. conn_in ts y.1) xs x c e
 
   record Stays : Type 0 where
-    lists : map (λ t. of_conn t (xs ++ x ∷ [])) ts ≡ map (λ t. of_conn t xs) ts
+    lists : map (λ t. recs_of t (xs ++ x ∷ [])) ts ≡ map (λ t. recs_of t xs) ts
     order : order_of ts (xs ++ x ∷ []) ≡ order_of ts xs
 
   stays : place_in ts x.1 ≡ None → Stays
   stays e = place_not ts x.1 e Stays
-      (λ f. record { lists = (λ k. map (λ t. conn_none xs x t f k) ts); order = order_none (ap (option_and_then (number_in ts)) f) })
+      (λ f. record { lists = (λ k. map (λ t. map (λ a. a.rec) (conn_none xs x t f k)) ts); order = order_none (ap (option_and_then (number_in ts)) f) })
       (λ s f q. record {
-        lists = (λ k. map (λ t. conn_some xs x s f t k) ts)
-            ∙ grown_none (tuple_eq (tuple_of s)) (λ t. of_conn t xs) (record { rec = length xs; at = x.0; seg = s }) ts (sym (position_from-zero (tuple_eq (tuple_of s)) ts) ∙ q);
+        lists = (λ k. map (λ t. recs_some xs x s f t k) ts)
+            ∙ grown_none (tuple_eq (tuple_of s)) (λ t. recs_of t xs) (length xs) ts (sym (position_from-zero (tuple_eq (tuple_of s)) ts) ∙ q);
         order = order_none (ap (option_and_then (number_in ts)) f ∙ q);
       })
 
@@ -166,7 +173,7 @@ module _ (records : ℕ) (cut : Bool) (ts : List Tuple) (xs : List Seen) (x : Se
   pub record Turns (c : ℕ) (s : Seg) : Type 0 where
     pub within : c < length ts
     pub all : sorted_of records cut ts (xs ++ x ∷ []) ≡ record (sorted_of records cut ts xs) {
-      lists = set (map (λ t. of_conn t xs) ts) c (get_or (map (λ t. of_conn t xs) ts) c [] ++ record { rec = length xs; at = x.0; seg = s } ∷ []);
+      lists = set (map (λ t. recs_of t xs) ts) c (get_or (map (λ t. recs_of t xs) ts) c [] ++ length xs ∷ []);
       order = order_of ts xs ++ c ∷ [];
       counts = counted class.Served (sorted_of records cut ts xs).counts;
     }
@@ -174,13 +181,13 @@ module _ (records : ℕ) (cut : Bool) (ts : List Tuple) (xs : List Seen) (x : Se
   pub turn_some : (c : ℕ) (s : Seg) → IsDistinct tuple_eq ts → place_in ts x.1 ≡ Some (c, s) → Turns c s
   turn_some c s d e =
       let p = place_is ts x.1 c s e in
-      let g = grown_some (tuple_eq (tuple_of s)) (λ t. of_conn t xs) (record { rec = length xs; at = x.0; seg = s }) tuple_eq apart c ts d (sym (position_from-zero (tuple_eq (tuple_of s)) ts) ∙ p.number) in
+      let g = grown_some (tuple_eq (tuple_of s)) (λ t. recs_of t xs) (length xs) tuple_eq apart c ts d (sym (position_from-zero (tuple_eq (tuple_of s)) ts) ∙ p.number) in
       let zero : c - 0 ≡ c = omega arith in
       let within : c < length ts = omega (arith, g.within) in
       let n = classes_push class.Served (class_some ts x.1 c s e) in
       let o = order_some c (ap (option_and_then (number_in ts)) p.served ∙ p.number) in
-      let one = (λ k. map (λ t. conn_some xs x s p.served t k) ts) ∙ g.one
-      ∙ ap (λ m. set (map (λ t. of_conn t xs) ts) m (get_or (map (λ t. of_conn t xs) ts) m [] ++ record { rec = length xs; at = x.0; seg = s } ∷ [])) zero in
+      let one = (λ k. map (λ t. recs_some xs x s p.served t k) ts) ∙ g.one
+      ∙ ap (λ m. set (map (λ t. recs_of t xs) ts) m (get_or (map (λ t. recs_of t xs) ts) m [] ++ length xs ∷ [])) zero in
       record { within = within; all = (λ k. record { tuples = ts; lists = one k; order = o k; counts = n k }) }
     where
       apart : (t u : Tuple) → tuple_eq (tuple_of s) t ≡ true → tuple_eq t u ≡ false → tuple_eq (tuple_of s) u ≡ false

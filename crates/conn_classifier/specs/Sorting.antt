@@ -1,4 +1,4 @@
--- What one pass over the records sorts out: the connections, the arrivals of each, the connection of each arrival, and the counts.
+-- What one pass over the records sorts out: the connections, the records of each, the connection of each arrival, and the counts.
 use Rattle.std.specs.Prelude.{ℕ, ◌+◌, ◌||◌, nat_le, Bool, List, [], ◌∷◌, ◌++◌, length, map, Option, position, if◌then◌else◌}
 use Rattle.std.specs.List.{filter_map, list_any}
 use Rattle.std.specs.Option.{option_map, option_and_then}
@@ -11,7 +11,6 @@ use Rattle.conn_classifier.specs.Limits.{most_conns}
 use Rattle.conn_classifier.specs.Connections.{conns, served_in, tuple_eq}
 use Rattle.conn_classifier.specs.Classes.{class_in, counts_of}
 use Rattle.conn_classifier.specs.Items.{Seen, of_conn}
-use Rattle.conn_classifier.specs.declared.kinds.Arrival.{Arrival}
 use Rattle.conn_classifier.specs.declared.kinds.Class.{Class}
 use Rattle.conn_classifier.specs.declared.kinds.Class.TheVariants as class
 use Rattle.conn_classifier.specs.declared.kinds.Counts.{Counts}
@@ -38,9 +37,14 @@ place_in ts p = option_and_then (λ s. option_map (λ c. (c, s)) (number_in ts s
 unfoldable pub order_of : List Tuple → List Seen → List ℕ
 order_of ts xs = filter_map (λ x. conn_in ts x.1) xs
 
+-- the records of a connection's arrivals
+abbrev pub recs_of : Tuple → List Seen → List ℕ
+recs_of t xs = map (λ a. a.rec) (of_conn t xs)
+
 pub record SortedOf : Type 0 where
   pub tuples : List Tuple
-  pub lists : List (List Arrival)
+  -- by connection the records of its arrivals
+  pub lists : List (List ℕ)
   pub order : List ℕ
   pub counts : Counts
 
@@ -48,7 +52,7 @@ pub record SortedOf : Type 0 where
 abbrev pub sorted_of : ℕ → Bool → List Tuple → List Seen → SortedOf
 sorted_of records cut ts xs = record {
   tuples = ts;
-  lists = map (λ t. of_conn t xs) ts;
+  lists = map (λ t. recs_of t xs) ts;
   order = order_of ts xs;
   counts = counts_of records cut (map (λ x. class_in ts x.1) xs);
 }

@@ -7,7 +7,7 @@ ghost use Rattle.conn_classifier.specs.Classes.{class_in, counts_of};
 ghost use Rattle.conn_classifier.specs.Items.{Seen};
 ghost use Rattle.conn_classifier.specs.Sorting.{counted, total, with_conn, sorted_of, sorted_seen, seen_of};
 
-use crate::kinds::{Arrival, Class, Counts};
+use crate::kinds::{Class, Counts};
 use crate::tuples::served;
 use capture_reader::Capture;
 use indexmap::IndexSet;
@@ -18,13 +18,13 @@ use std::marker::Model;
 
 const MOST_CONNECTIONS: usize = 4096;
 
-/// What is sorted out of the records: the connections, the segments of each, the connection of each served segment, and the counts.
+/// What is sorted out of the records: the connections, the records of each, the connection of each served segment, and the counts.
 #[derive(Drop)]
 pub struct Sorted {
     /// The first 4,096 tuples of served segments, by first appearance.
     pub tuples: IndexSet<Tuple>,
-    /// By connection, in record order.
-    pub lists: Vec<Vec<Arrival>>,
+    /// By connection the records of its segments, in record order.
+    pub lists: Vec<Vec<u32>>,
     /// The connection of each served segment, in record order.
     pub order: Vec<u32>,
     pub counts: Counts,
@@ -118,17 +118,17 @@ impl Sorted {
     }
 
     /// One more segment, of connection `c`.
-    fn add(&mut self, c: usize, arrival: Arrival) -> Result<(), AllocError>
+    fn add(&mut self, c: usize, rec: u32) -> Result<(), AllocError>
         requires within { c < length self.old.lists }
         requires few { c < most_conns }
         requires room { total self.old.counts < 4294967295 }
         ensures { OnOk result (self.new ≡ record self.old {
-          lists = set self.old.lists c (get_or self.old.lists c [] ++ arrival ∷ []);
+          lists = set self.old.lists c (get_or self.old.lists c [] ++ rec ∷ []);
           order = self.old.order ++ c ∷ [];
           counts = counted Class.Served self.old.counts;
         }) }
     {
-        self.lists[c].push(arrival)?;
+        self.lists[c].push(rec)?;
         self.order.push(c as u32)?;
         self.counts.count(Class::Served);
         Ok(())
@@ -142,18 +142,12 @@ impl Sorted {
         self.counts.count(class);
     }
 
-    /// One more record, with its number and its time.
-    fn sort_in(
-        &mut self,
-        alloc: Global,
-        rec: u32,
-        at: u64,
-        packet: &Packet,
-    ) -> Result<(), AllocError>
+    /// One more record, with its number.
+    fn sort_in(&mut self, alloc: Global, rec: u32, packet: &Packet) -> Result<(), AllocError>
         requires few { length self.old.tuples ≤ most_conns }
         requires even { length self.old.lists ≡ length self.old.tuples }
         requires room { total self.old.counts < 4294967295 }
-        ensures { (records : ℕ) (cut : Bool) (xs : List Seen) → self.old ≡ sorted_seen records cut xs → rec ≡ length xs
+        ensures { (records at : ℕ) (cut : Bool) (xs : List Seen) → self.old ≡ sorted_seen records cut xs → rec ≡ length xs
             → OnOk result (self.new ≡ sorted_seen records cut (xs ++ (at, packet.now) ∷ [])) }
     {
         let Some(seg) = served(packet) else {
@@ -161,7 +155,7 @@ impl Sorted {
             return Ok(());
         };
         match self.number(alloc, tuple_of(&seg))? {
-            Some(c) => self.add(c, Arrival { rec, at, seg })?,
+            Some(c) => self.add(c, rec)?,
             None => self.pass(class_of(packet)),
         }
         Ok(())
@@ -180,7 +174,7 @@ pub fn sort(alloc: Global, capture: &Capture, packets: &[Packet]) -> Result<Sort
         counts: Counts::none(capture.len(), capture.cut_tail()),
     };
     for i in 0..capture.len() {
-        sorted.sort_in(alloc, i, capture.rec(i).at, &packets[i as usize])?;
+        sorted.sort_in(alloc, i, &packets[i as usize])?;
     }
     Ok(sorted)
 }

@@ -1,6 +1,5 @@
-use Rattle.std.proofs.Common.{◌≡◌, ◌<◌, ◌≤◌, ◌++◌, [], ◌∷◌, length, take, ap, sym, ◌∙◌, arith}
+use Rattle.std.proofs.Common.{◌≡◌, ◌<◌, ◌≤◌, ◌++◌, [], ◌∷◌, length, take, get_or, ap, sym, ◌∙◌, arith}
 use Rattle.std.proofs.lemmas.List.{take_all}
-use Rattle.std.proofs.lemmas.Option.{get_or_from_slice_get}
 use Rattle.capture_reader.specs.CaptureFile.{Packet as Captured}
 use Rattle.conn_classifier.specs.Connections.{conns}
 use Rattle.conn_classifier.specs.Classes.{counts_of}
@@ -47,9 +46,8 @@ loop-i-preserved c =
     let b : i < length ps = omega (arith, a, c.requires) in
     let below : i ≤ length rs = omega (arith, a) in
     let inside : i ≤ length ps = omega (arith, b) in
-    let time = sym (ap (λ (p : Captured). p.time) (get_or_from_slice_get rs i _ none c.rec.ensures.packet)) in
-    c.in_ok-sort_in.ensures (length rs) c.args.capture.now.cut xs c.loop-i.invariant (sym (length-seen rs ps i below inside))
-    ∙ (λ k. whole (xs ++ (time k, c.index.ensures k) ∷ []))
+    c.in_ok-sort_in.ensures (length rs) (get_or rs i none).time c.args.capture.now.cut xs c.loop-i.invariant (sym (length-seen rs ps i below inside))
+    ∙ ap (λ p. whole (xs ++ ((get_or rs i none).time, p) ∷ [])) c.index.ensures
     ∙ ap whole (sym (seen_more rs ps i none _ a b))
 
 pub returns : goal.returns
