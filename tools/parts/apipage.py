@@ -438,7 +438,7 @@ def private_entry(site, item, blocks):
 def definition_page(site, name):
     """All definitions of a crate, file by file, each a place of its own."""
     parts = []
-    for module, file in site.library.specs.items():
+    for module, file in list(site.library.specs.items()):
         if not file or file.crate != name:
             continue
         short = module.split(".")[-1]
