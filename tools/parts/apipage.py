@@ -156,7 +156,7 @@ def link_of(site, item, crate, up=0):
         base, _, rest = path.partition(".")
         if base in site.library.crates and rest in ids_of(site, base):
             return f'<a href="{base}.html#{rest}">{shown}</a>'
-        meaning = site.library.rust(item, base) if item else None
+        meaning = site.library.rust(item, base) if item else site.library.public(crate, base)
         if meaning and meaning.page:
             return f'<a href="{meaning.page}#{meaning.id}{"." + rest if rest else ""}">{shown}</a>'
         site.gaps.dead.append(f"{item.where if item else f'crates/{crate}/src/lib.rt'}: the link to {target} leads nowhere")

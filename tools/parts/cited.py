@@ -22,6 +22,16 @@ class Meaning:
     words: str
 
 
+def passed_on(crate, name):
+    """The module of a crate below whose definitions a crate hands on under this name, if it does."""
+    path = TOP / "crates" / crate / "specs" / "Lib.antt"
+    for line in path.read_text().splitlines() if path.is_file() else ():
+        below = line.removeprefix("pub use Rattle.")
+        if below != line and below.endswith(f".specs.{name}"):
+            return below
+    return None
+
+
 @dataclass
 class Library:
     """All crates with their public items, and their definitions."""
@@ -63,9 +73,12 @@ class Library:
         if module.split(".")[0] not in self.crates or ".specs.contracts." in module:
             return Meaning("", "", f"of the kit: {module}")
         if declared:
-            return self.item(declared[1], declared[2] or "", declared[3])
+            return self.item(declared[1], declared[2] or "", declared[3]) or self.public(declared[1], declared[3])
         own = MODULE.match(module)
         file = self.spec(module) if own else None
+        if own and file is None and depth <= 8:
+            below = passed_on(*own.groups())
+            return below and self.meaning(below, word, depth + 1)
         if file is None or depth > 8:
             return None
         if not word:
