@@ -1,0 +1,50 @@
+"""gate-cost: whose work a process is, and what a command costs that looks like the prover. A small script stands in for the kit here."""
+import importlib.machinery
+import importlib.util
+import os
+import shutil
+import subprocess
+import tempfile
+import unittest
+from pathlib import Path
+
+from common import TOOLS
+
+loader = importlib.machinery.SourceFileLoader("gate_cost", str(TOOLS / "gate-cost"))
+gate_cost = importlib.util.module_from_spec(importlib.util.spec_from_loader("gate_cost", loader))
+loader.exec_module(gate_cost)
+
+PROVER = ["/opt/rattle/bin/rattle", "build", "--crate-name", "low", "src/lib.rt"]
+
+
+class Cost(unittest.TestCase):
+    def test_whose_work_it_is(self):
+        work = gate_cost.work_of
+        self.assertEqual(work(PROVER, "/top/crates/low"), ("low", "proofs"))
+        self.assertEqual(work([*PROVER, "--test"], "/top/crates/low"), ("low", "tests"))
+        self.assertEqual(work(PROVER, "/tmp/rt-edit-12-ab"), ("low", "edits"))
+        self.assertEqual(work(["/opt/rattle/bin/rattle-link", "-o", "/top/crates/low/out/low_tests"], "/top/crates/low"), ("low", "tests"))
+        self.assertEqual(work(["/top/crates/low/out/low_tests", "one"], "/tmp/empty"), ("low", "tests"))
+        self.assertEqual(work(["/top/crates/prog/out/prog.llvm"], "/tmp/empty"), ("prog", "proofs"))
+        self.assertIsNone(work(["/usr/bin/python3", "/opt/rattle/bin/rt", "ci"], "/top"))
+        self.assertIsNone(work([], "/top"))
+
+    def test_what_a_command_costs(self):
+        with tempfile.TemporaryDirectory() as folder:
+            top = Path(folder)
+            (top / "tools").mkdir()
+            shutil.copy2(TOOLS / "gate-cost", top / "tools")
+            (top / "crates.txt").write_text("# NAME: what it stands on\nlow:\nhigh may_wait=1: low\n")
+            prover = top / "rattle"
+            shutil.copy2("/bin/bash", prover)           # its name alone tells the prover
+            busy = "end=$((SECONDS + 3)); while [ $SECONDS -lt $end ]; do :; done; exit 4"
+            done = subprocess.run([top / "tools" / "gate-cost", "--table", str(prover), "-c", busy, "--crate-name", "high"],
+                                  capture_output=True, text=True, timeout=60, env=os.environ)
+        self.assertEqual(done.returncode, 4)
+        lines = done.stdout.splitlines()
+        self.assertEqual([line.split("|")[1].strip() for line in lines[2:4]], ["`high`", "`all`"])
+        self.assertIn("of 0.", lines[-1])
+
+
+if __name__ == "__main__":
+    unittest.main()
