@@ -34,6 +34,10 @@ class Cost(unittest.TestCase):
             top = Path(folder)
             (top / "tools").mkdir()
             shutil.copy2(TOOLS / "gate-cost", top / "tools")
+            (top / "docs").mkdir()
+            (top / "docs" / "GATE.md").write_text("| Crate | Notes |\n|---|---|\n| `high` | 9 | a program |\n")
+            (top / "crates" / "high" / "must-fail").mkdir(parents=True)
+            (top / "crates" / "high" / "must-fail" / "one.edit").write_text("file: src/lib.rt\n")
             (top / "crates.txt").write_text("# NAME: what it stands on\nlow:\nhigh may_wait=1: low\n")
             prover = top / "rattle"
             shutil.copy2("/bin/bash", prover)           # its name alone tells the prover
@@ -42,7 +46,8 @@ class Cost(unittest.TestCase):
                                   capture_output=True, text=True, timeout=60, env=os.environ)
         self.assertEqual(done.returncode, 4)
         lines = done.stdout.splitlines()
-        self.assertEqual([line.split("|")[1].strip() for line in lines[2:4]], ["`high`", "`all`"])
+        rows = [[word.strip() for word in line.strip("|").split("|")] for line in lines[2:4]]
+        self.assertEqual([[row[0], *row[6:]] for row in rows], [["`high`", "1", "–", "–", "a program"], ["all", "1", "–", "–", ""]])
         self.assertIn("of 0.", lines[-1])
 
 
