@@ -1,7 +1,5 @@
 -- The connections, one packet further.
-use Rattle.std.proofs.Common.{◌≡◌, ℕ, ◌<◌, true, List, [], ◌∷◌, ◌++◌, length, take, Option, Some, None, refl, sym, ap, ◌∙◌, arith}
-use Rattle.std.proofs.Common.{◌+◌, ◌≤◌, get_or, subst}
-use Rattle.std.proofs.lemmas.List.{take_more}
+use Rattle.std.proofs.Common.{◌≡◌, ◌<◌, true, List, [], ◌∷◌, ◌++◌, length, take, Option, Some, None, refl, ap, ◌∙◌, arith}
 use Rattle.std.specs.List.{filter_map}
 use Rattle.sq_base.specs.declared.kinds.Tuple.{Tuple}
 use Rattle.segment_codec.specs.declared.packet.Packet.{Packet}
@@ -46,28 +44,3 @@ pub conns_full : (ps : List Packet) (p : Packet) (t : Tuple) → served_tuple p 
     → conns (ps ++ p ∷ []) ≡ conns ps
 unfolding conns
 conns_full ps p t e full = ap (take most_conns) (grown ps p t e) ∙ take_full tuple_eq same most_conns (distinct (filter_map served_tuple ps)) t full
-
-pub conns_nil : conns [] ≡ []
-unfolding conns
-conns_nil = refl
-
--- one turn of the loop, by what the packet is
-module _ (ps : List Packet) (i : ℕ) (d : Packet) (lt : i < length ps) (keys : List Tuple) (so_far : keys ≡ conns (take i ps)) where
-  more : conns (take (i + 1) ps) ≡ conns (take i ps ++ get_or ps i d ∷ [])
-  more = ap conns (take_more ps i d lt)
-
-  pub turn_none : served_tuple (get_or ps i d) ≡ None → keys ≡ conns (take (i + 1) ps)
-  turn_none e = so_far ∙ sym (more ∙ conns_none (take i ps) (get_or ps i d) e)
-
-  pub turn_some : (t : Tuple) → served_tuple (get_or ps i d) ≡ Some t → length keys < most_conns → insert_key tuple_eq keys t ≡ conns (take (i + 1) ps)
-  turn_some t e few =
-      let room : length (conns (take i ps)) < most_conns = subst (λ l. length l < most_conns) so_far few in
-      ap (λ l. insert_key tuple_eq l t) so_far ∙ sym (more ∙ conns_some (take i ps) (get_or ps i d) t e room)
-
-  pub turn_full : (t : Tuple) → served_tuple (get_or ps i d) ≡ Some t → most_conns ≤ length keys → keys ≡ conns (take (i + 1) ps)
-  turn_full t e full =
-      let none : length (conns (take i ps)) < most_conns → ⊥ = λ room. below (subst (λ l. most_conns ≤ length l) so_far full) room in
-      so_far ∙ sym (more ∙ conns_full (take i ps) (get_or ps i d) t e none)
-    where
-      below : {n : ℕ} → most_conns ≤ n → n < most_conns → ⊥
-      below a b = omega arith

@@ -19,7 +19,7 @@ filter_push f (d ∷ ds) t = by (f d) refl (filter_push f ds t)
     by false e rest = rw e rest
 
 module _ {X : Type 0} (eq : X → X → Bool) (same : (x y : X) → eq x y ≡ true → x ≡ y) where
-  any_without : (t x : X) → eq t x ≡ false → (ds : List X) → list_any (eq t) (filter (λ u. not (eq u x)) ds) ≡ list_any (eq t) ds
+  pub any_without : (t x : X) → eq t x ≡ false → (ds : List X) → list_any (eq t) (filter (λ u. not (eq u x)) ds) ≡ list_any (eq t) ds
   any_without t x ne [] = refl
   any_without t x ne (d ∷ ds) = by (eq d x) refl (any_without t x ne ds)
     where

@@ -3,6 +3,7 @@ use Rattle.std.proofs.Common.{◌≡◌, ℕ, ◌+◌, ◌<◌, ◌%◌, ◌==�
 use Rattle.std.proofs.lemmas.Bool.{ne_eqb, eqb-true}
 use Rattle.std.proofs.lemmas.List.{drop_more, drop-set}
 use Rattle.segment_codec.specs.ControlBits.{ack, has_ack, has_rst, has_syn, rst, syn}
+use Rattle.segment_codec.specs.declared.packet.Seg.{Seg}
 use Rattle.conn_classifier.specs.declared.kinds.Arrival.{Arrival}
 use Rattle.conn_classifier.specs.declared.ahead.Ahead.{Ahead}
 use Rattle.conn_classifier.specs.Items.{hint, looked}
@@ -51,6 +52,13 @@ module _ (a : Arrival) (x : Ahead) (more : List Arrival) (is : IsAhead x more) (
   pub ahead_none : (bit_and a.seg.flags syn ≡ syn → ⊥) → (bit_and a.seg.flags rst ≡ rst → ⊥) → (bit_and a.seg.flags ack ≡ ack → ⊥)
       → said x seq ≡ looked seq (a ∷ more)
   ahead_none s r k = is seq ∙ sym (looked_none a more seq (ne_eqb _ _ s) (ne_eqb _ _ r) (ne_eqb _ _ k))
+
+-- an arrival of this segment
+abbrev pub of_segment : Arrival → Seg → Arrival
+of_segment a s = record { rec = a.rec; at = a.at; seg = s }
+
+pub same_segment : (a : Arrival) (s : Seg) → a.seg ≡ s → (more : List Arrival) (seq : ℕ) → looked seq (of_segment a s ∷ more) ≡ looked seq (a ∷ more)
+same_segment a s e more seq = ap (λ t. looked seq (of_segment a t ∷ more)) (sym e)
 
 -- one turn of the walk from the back
 module _ (xs : List Arrival) (hs : List ℕ) (j : ℕ) (d : Arrival) (lt : j < length xs) (long : length hs ≡ length xs)

@@ -1,5 +1,5 @@
 pub mod Distinct
-mod Mapped
+mod PacketPlaces
 pub mod Conns
 mod HintLemmas
 pub mod ItemLemmas
@@ -10,5 +10,8 @@ pub mod PlanFacts
 pub mod TextWithin
 mod OrderLaw
 pub mod PlanLaw
+pub mod Joining
+pub mod Kept
+mod SlotLemmas
 pub mod RingLaw
 mod ItemsTogether

@@ -1,5 +1,5 @@
 -- The plan of a capture is a plan: what holds of every plan follows from the sizes of the capture.
-use Rattle.std.proofs.Common.{◌≡◌, ℕ, ◌+◌, ◌*◌, ◌<◌, ◌≤◌, ◌==◌, not, max, Bool, true, false, List, [], ◌∷◌, ◌++◌, suc, zero, length, map, take, filter, fold, Option, Some, None, IfSome, slice_get, refl, sym, ap, subst, ◌∙◌, arith, eq-eqb}
+use Rattle.std.proofs.Common.{◌≡◌, ℕ, ◌+◌, ◌*◌, ◌<◌, ◌≤◌, ◌==◌, not, max, Bool, true, false, List, [], ◌∷◌, ◌++◌, suc, zero, length, map, take, filter, fold, Option, Some, None, IfSome, slice_get, refl, ap, subst, ◌∙◌, arith, eq-eqb}
 use Rattle.std.specs.List.{AllByRecursion, IsDistinct, filter_map}
 use Rattle.std.proofs.lemmas.List.{length-map, length-take, length-append}
 use Rattle.std.proofs.lemmas.Bool.{and_from}
@@ -20,7 +20,7 @@ use Rattle.segment_codec.specs.Refusal.{tuple_of}
 use Rattle.conn_classifier.specs.Connections.{tuple_eq, served_in, served_tuple, distinct, conns, decoded}
 use Rattle.conn_classifier.specs.Items.{Seen, arrivals, of_conn, items_after, items_of, conn_items}
 use Rattle.conn_classifier.specs.Plan.{plan_of, IsPlan, IsItems, IsInside, IsSpaced, Rises, seen}
-use Rattle.conn_classifier.specs.Sorting.{seen_of, SortedOf, sorted_of}
+use Rattle.conn_classifier.specs.Sorting.{seen_of, sorted_of}
 use Rattle.conn_classifier.specs.declared.kinds.Counts.{Counts}
 use Rattle.conn_classifier.proofs.Conns.{same}
 use Rattle.conn_classifier.proofs.ItemLemmas.{gap_by}
@@ -295,21 +295,17 @@ pub twice : {X Y Z : Type 0} (f : Y → Z) (g : X → Y) (xs : List X) → map f
 twice f g [] = refl
 twice f g (x ∷ xs) = ap (λ l. f (g x) ∷ l) (twice f g xs)
 
--- the items of each list, read of the vectors
-pub items_made : {V : Type 0} (f : V → List Arrival) (last time : ℕ) (vs slice : List V) (items : List (List Item))
-    → items ≡ map (λ v. items_of time (f v)) slice → slice ≡ vs → time ≡ last → items ≡ map (items_of last) (map f vs)
-items_made f last time vs slice items e s t = e ∙ (λ k. map (λ v. items_of (t k) (f v)) (s k)) ∙ sym (twice (items_of last) f vs)
-
 -- the parts that are made one after another are the plan
-pub made : (file : CaptureFile) (verify : Bool) (packets : List Packet) (ts : List Tuple) (lists : List (List Arrival)) (items : List (List Item)) (order : List ℕ) (counts : Counts)
-    → packets ≡ decoded file verify → ts ≡ conns packets
-    → record { lists = lists; order = order; counts = counts } ≡ sorted_of (length file.packets) file.cut ts (seen_of file.packets packets)
-    → items ≡ map (items_of (last_time file.packets)) lists
+pub made : (file : CaptureFile) (verify : Bool) (packets : List Packet) (ts : List Tuple) (lists : List (List ℕ)) (items : List (List Item)) (order : List ℕ) (counts : Counts)
+    → packets ≡ decoded file verify
+    → record { tuples = ts; lists = lists; order = order; counts = counts } ≡ sorted_of (length file.packets) file.cut (conns packets) (seen_of file.packets packets)
+    → items ≡ map (items_of (last_time file.packets)) (map (λ t. of_conn t (seen_of file.packets packets)) (conns packets))
     → record { file = file; tuples = ts; items = items; order = order; counts = counts } ≡ plan_of file verify
 unfolding plan_of conn_items
-made file verify packets ts lists items order counts p t s i =
-    let keys : ts ≡ conns (decoded file verify) = t ∙ ap conns p in
-    let sorted : record { lists = lists; order = order; counts = counts } ≡ sorted_of (length file.packets) file.cut (conns (decoded file verify)) (seen file verify) =
-    s ∙ (λ k. sorted_of (length file.packets) file.cut (keys k) ((ap (seen_of file.packets) p ∙ seen_is file verify) k)) in
-    let all = i ∙ ap (λ (x : SortedOf). map (items_of (last_time file.packets)) x.lists) sorted ∙ twice (items_of (last_time file.packets)) (λ t. of_conn t (seen file verify)) (conns (decoded file verify)) in
-    (λ k. record { file = file; tuples = keys k; items = all k; order = (sorted k).order; counts = (sorted k).counts })
+made file verify packets ts lists items order counts p s i =
+    let xs = ap (seen_of file.packets) p ∙ seen_is file verify in
+    let sorted : record { tuples = ts; lists = lists; order = order; counts = counts } ≡ sorted_of (length file.packets) file.cut (conns (decoded file verify)) (seen file verify) =
+    s ∙ (λ k. sorted_of (length file.packets) file.cut (conns (p k)) (xs k)) in
+    let all = i ∙ (λ k. map (items_of (last_time file.packets)) (map (λ t. of_conn t (xs k)) (conns (p k))))
+    ∙ twice (items_of (last_time file.packets)) (λ t. of_conn t (seen file verify)) (conns (decoded file verify)) in
+    (λ k. record { file = file; tuples = (sorted k).tuples; items = all k; order = (sorted k).order; counts = (sorted k).counts })

@@ -1,5 +1,5 @@
 -- What is sorted out, one record further.
-use Rattle.std.proofs.Common.{◌≡◌, ℕ, ◌+◌, ◌-◌, ◌<◌, ◌≤◌, Bool, true, false, List, [], ◌∷◌, ◌++◌, zero, suc, length, map, take, set, get_or, replicate, Option, Some, None, refl, sym, ap, ◌∙◌, arith, if◌then◌else◌, append-nil, append_assoc, filter}
+use Rattle.std.proofs.Common.{◌≡◌, ℕ, ◌+◌, ◌-◌, ◌<◌, ◌≤◌, Bool, true, false, List, [], ◌∷◌, ◌++◌, zero, suc, length, map, take, set, get_or, Option, Some, None, refl, sym, ap, ◌∙◌, arith, if◌then◌else◌, append-nil, append_assoc, filter}
 use Rattle.std.specs.List.{list_any, IsDistinct}
 use Rattle.std.specs.Option.{option_map, option_and_then}
 use Rattle.std.proofs.lemmas.Iterator.Adapters.{position_from-zero}
@@ -14,14 +14,14 @@ use Rattle.segment_codec.specs.Refusal.{tuple_of}
 use Rattle.conn_classifier.specs.Connections.{tuple_eq, served_in}
 use Rattle.conn_classifier.specs.Classes.{class_in, counts_of}
 use Rattle.conn_classifier.specs.Items.{Seen, arrival, arrivals, of_conn}
-use Rattle.conn_classifier.specs.Sorting.{seen_of, number_in, conn_in, place_in, order_of, SortedOf, sorted_of, counted, total}
+use Rattle.conn_classifier.specs.Sorting.{seen_of, number_in, conn_in, place_in, order_of, recs_of, sorted_of, counted}
 use Rattle.conn_classifier.specs.declared.kinds.Arrival.{Arrival}
 use Rattle.conn_classifier.specs.declared.kinds.Class.{Class}
 use Rattle.conn_classifier.specs.declared.kinds.Class.TheVariants as class
 use Rattle.conn_classifier.proofs.Conns.{push_none, push_some, same}
 use Rattle.conn_classifier.proofs.Distinct.{filter_push}
 use Rattle.conn_classifier.proofs.OneKey.{grown_none, grown_some, none_any, some_any}
-use Rattle.conn_classifier.proofs.Tallies.{counts_push, total-counts}
+use Rattle.conn_classifier.proofs.Tallies.{counts_push}
 
 none_some : {A Q : Type 0} {x : A} → None ≡ Some x → Q
 none_some e = absurd (let no : ⊥ = cc in no)
@@ -56,6 +56,13 @@ module _ (xs : List Seen) (x : Seen) where
   conn_some s e t =
       ap (filter (λ a. tuple_eq (tuple_of a.seg) t)) (arrivals_more ∙ ap (λ o. arrivals 0 xs ++ arrival (length xs) x.0 o) e)
       ∙ filter_push (λ a. tuple_eq (tuple_of a.seg) t) (arrivals 0 xs) (record { rec = length xs; at = x.0; seg = s })
+
+  recs_some : (s : Seg) → served_in x.1 ≡ Some s → (t : Tuple) → recs_of t (xs ++ x ∷ []) ≡ recs_of t xs ++ (if tuple_eq (tuple_of s) t then length xs ∷ [] else [])
+  recs_some s e t = ap (map (λ a. a.rec)) (conn_some s e t) ∙ map-append (λ (a : Arrival). a.rec) (of_conn t xs) _ ∙ ap (λ l. recs_of t xs ++ l) (one (tuple_eq (tuple_of s) t))
+    where
+      one : (b : Bool) → map (λ (a : Arrival). a.rec) (if b then record { rec = length xs; at = x.0; seg = s } ∷ [] else []) ≡ (if b then length xs ∷ [] else [])
+      one true = refl
+      one false = refl
 
 -- what a place says of the class
 module _ (ts : List Tuple) where
@@ -144,15 +151,15 @@ module _ (records : ℕ) (cut : Bool) (ts : List Tuple) (xs : List Seen) (x : Se
   order_some c e = push_some (λ y. conn_in ts y.1) xs x c e
 
   record Stays : Type 0 where
-    lists : map (λ t. of_conn t (xs ++ x ∷ [])) ts ≡ map (λ t. of_conn t xs) ts
+    lists : map (λ t. recs_of t (xs ++ x ∷ [])) ts ≡ map (λ t. recs_of t xs) ts
     order : order_of ts (xs ++ x ∷ []) ≡ order_of ts xs
 
   stays : place_in ts x.1 ≡ None → Stays
   stays e = place_not ts x.1 e Stays
-      (λ f. record { lists = (λ k. map (λ t. conn_none xs x t f k) ts); order = order_none (ap (option_and_then (number_in ts)) f) })
+      (λ f. record { lists = (λ k. map (λ t. map (λ a. a.rec) (conn_none xs x t f k)) ts); order = order_none (ap (option_and_then (number_in ts)) f) })
       (λ s f q. record {
-        lists = (λ k. map (λ t. conn_some xs x s f t k) ts)
-            ∙ grown_none (tuple_eq (tuple_of s)) (λ t. of_conn t xs) (record { rec = length xs; at = x.0; seg = s }) ts (sym (position_from-zero (tuple_eq (tuple_of s)) ts) ∙ q);
+        lists = (λ k. map (λ t. recs_some xs x s f t k) ts)
+            ∙ grown_none (tuple_eq (tuple_of s)) (λ t. recs_of t xs) (length xs) ts (sym (position_from-zero (tuple_eq (tuple_of s)) ts) ∙ q);
         order = order_none (ap (option_and_then (number_in ts)) f ∙ q);
       })
 
@@ -161,12 +168,12 @@ module _ (records : ℕ) (cut : Bool) (ts : List Tuple) (xs : List Seen) (x : Se
   turn_none e =
       let h = stays e in
       let n = classes_push (class_in [] x.1) (class_none ts x.1 e) in
-      (λ k. record { lists = h.lists k; order = h.order k; counts = n k })
+      (λ k. record { tuples = ts; lists = h.lists k; order = h.order k; counts = n k })
 
   pub record Turns (c : ℕ) (s : Seg) : Type 0 where
     pub within : c < length ts
     pub all : sorted_of records cut ts (xs ++ x ∷ []) ≡ record (sorted_of records cut ts xs) {
-      lists = set (map (λ t. of_conn t xs) ts) c (get_or (map (λ t. of_conn t xs) ts) c [] ++ record { rec = length xs; at = x.0; seg = s } ∷ []);
+      lists = set (map (λ t. recs_of t xs) ts) c (get_or (map (λ t. recs_of t xs) ts) c [] ++ length xs ∷ []);
       order = order_of ts xs ++ c ∷ [];
       counts = counted class.Served (sorted_of records cut ts xs).counts;
     }
@@ -174,14 +181,14 @@ module _ (records : ℕ) (cut : Bool) (ts : List Tuple) (xs : List Seen) (x : Se
   pub turn_some : (c : ℕ) (s : Seg) → IsDistinct tuple_eq ts → place_in ts x.1 ≡ Some (c, s) → Turns c s
   turn_some c s d e =
       let p = place_is ts x.1 c s e in
-      let g = grown_some (tuple_eq (tuple_of s)) (λ t. of_conn t xs) (record { rec = length xs; at = x.0; seg = s }) tuple_eq apart c ts d (sym (position_from-zero (tuple_eq (tuple_of s)) ts) ∙ p.number) in
+      let g = grown_some (tuple_eq (tuple_of s)) (λ t. recs_of t xs) (length xs) tuple_eq apart c ts d (sym (position_from-zero (tuple_eq (tuple_of s)) ts) ∙ p.number) in
       let zero : c - 0 ≡ c = omega arith in
       let within : c < length ts = omega (arith, g.within) in
       let n = classes_push class.Served (class_some ts x.1 c s e) in
       let o = order_some c (ap (option_and_then (number_in ts)) p.served ∙ p.number) in
-      let one = (λ k. map (λ t. conn_some xs x s p.served t k) ts) ∙ g.one
-      ∙ ap (λ m. set (map (λ t. of_conn t xs) ts) m (get_or (map (λ t. of_conn t xs) ts) m [] ++ record { rec = length xs; at = x.0; seg = s } ∷ [])) zero in
-      record { within = within; all = (λ k. record { lists = one k; order = o k; counts = n k }) }
+      let one = (λ k. map (λ t. recs_some xs x s p.served t k) ts) ∙ g.one
+      ∙ ap (λ m. set (map (λ t. recs_of t xs) ts) m (get_or (map (λ t. recs_of t xs) ts) m [] ++ length xs ∷ [])) zero in
+      record { within = within; all = (λ k. record { tuples = ts; lists = one k; order = o k; counts = n k }) }
     where
       apart : (t u : Tuple) → tuple_eq (tuple_of s) t ≡ true → tuple_eq t u ≡ false → tuple_eq (tuple_of s) u ≡ false
       apart t u q h = ap (λ v. tuple_eq v u) (same (tuple_of s) t q) ∙ h
@@ -223,55 +230,3 @@ length-seen (r ∷ rs) (p ∷ ps) (suc i) a b =
     let c : i ≤ length rs = omega (arith, a) in
     let d : i ≤ length ps = omega (arith, b) in
     ap suc (length-seen rs ps i c d)
-
--- one turn of the pass
-module _ (records : ℕ) (cut : Bool) (ts : List Tuple) (rs : List Captured) (ps : List Packet) (i : ℕ) (r : Captured) (d : Packet)
-    (a : i < length rs) (b : i < length ps) (s : SortedOf) (so_far : s ≡ sorted_of records cut ts (seen_of rs (take i ps))) where
-  many : length (seen_of rs (take i ps)) ≡ i
-  many = let c : i ≤ length rs = omega (arith, a) in let e : i ≤ length ps = omega (arith, b) in length-seen rs ps i c e
-
-  pub total_here : total s.counts ≡ i
-  total_here = ap (λ (t : SortedOf). total t.counts) so_far ∙ total-counts records cut (map (λ x. class_in ts x.1) (seen_of rs (take i ps)))
-      ∙ length-map (seen_of rs (take i ps)) (λ x. class_in ts x.1) ∙ many
-
-  pub length_here : length s.lists ≡ length ts
-  length_here = ap (λ (t : SortedOf). length t.lists) so_far ∙ length-map ts (λ t. of_conn t (seen_of rs (take i ps)))
-
-  pub passes : place_in ts (get_or ps i d) ≡ None → (k : Class) → k ≡ class_in [] (get_or ps i d)
-      → record s { counts = counted k s.counts } ≡ sorted_of records cut ts (seen_of rs (take (i + 1) ps))
-  passes q k e =
-      (λ j. record (so_far j) { counts = counted (e j) (so_far j).counts })
-      ∙ sym (turn_none records cut ts (seen_of rs (take i ps)) ((get_or rs i r).time, get_or ps i d) q)
-      ∙ ap (sorted_of records cut ts) (sym (seen_more rs ps i r d a b))
-
-  module _ (c : ℕ) (g : Seg) (apart : IsDistinct tuple_eq ts) (q : place_in ts (get_or ps i d) ≡ Some (c, g)) where
-    turn : Turns records cut ts (seen_of rs (take i ps)) ((get_or rs i r).time, get_or ps i d) c g
-    turn = turn_some records cut ts (seen_of rs (take i ps)) ((get_or rs i r).time, get_or ps i d) c g apart q
-
-    pub fits : c < length ts
-    fits = turn.within
-
-    pub adds : (at : ℕ) → at ≡ (get_or rs i r).time
-        → record s {
-          lists = set s.lists c (get_or s.lists c [] ++ record { rec = i; at = at; seg = g } ∷ []);
-          order = s.order ++ c ∷ [];
-          counts = counted class.Served s.counts;
-        } ≡ sorted_of records cut ts (seen_of rs (take (i + 1) ps))
-    adds at same_time =
-        let number = sym many in
-        (λ k. record (so_far k) {
-          lists = set (so_far k).lists c (get_or (so_far k).lists c [] ++ record { rec = number k; at = same_time k; seg = g } ∷ []);
-          order = (so_far k).order ++ c ∷ [];
-          counts = counted class.Served (so_far k).counts;
-        })
-        ∙ sym turn.all ∙ ap (sorted_of records cut ts) (sym (seen_more rs ps i r d a b))
-
--- nothing sorted yet
-pub starts : (records : ℕ) (cut : Bool) (ts : List Tuple) (rs : List Captured) (ps : List Packet)
-    → record { lists = replicate (length ts) []; order = []; counts = counts_of records cut [] } ≡ sorted_of records cut ts (seen_of rs (take 0 ps))
-unfolding of_conn order_of
-starts records cut ts rs ps = (λ k. record { lists = empty ts k; order = []; counts = counts_of records cut [] }) ∙ ap (sorted_of records cut ts) (sym (seen_nil rs))
-  where
-    empty : (ts : List Tuple) → ◌≡◌ {A = List (List Arrival)} (replicate (length ts) []) (map (λ t. of_conn t []) ts)
-    empty [] = refl
-    empty (t ∷ ts) = ap (λ l. [] ∷ l) (empty ts)

@@ -3,6 +3,7 @@ pub mod Connections
 pub mod Classes
 pub mod Items
 pub mod Hints
+pub mod Slots
 pub mod Sorting
 pub mod Plan
 pub mod RingList

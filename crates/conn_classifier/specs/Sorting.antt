@@ -1,16 +1,16 @@
--- What one pass over the records sorts out: the arrivals of each connection, the connection of each arrival, and the counts.
-use Rattle.std.specs.Prelude.{ℕ, ◌+◌, Bool, List, [], ◌∷◌, map, Option, position}
-use Rattle.std.specs.List.{filter_map}
+-- What one pass over the records sorts out: the connections, the records of each, the connection of each arrival, and the counts.
+use Rattle.std.specs.Prelude.{ℕ, ◌+◌, ◌||◌, nat_le, Bool, List, [], ◌∷◌, ◌++◌, length, map, Option, position, if◌then◌else◌}
+use Rattle.std.specs.List.{filter_map, list_any}
 use Rattle.std.specs.Option.{option_map, option_and_then}
 use Rattle.sq_base.specs.declared.kinds.Tuple.{Tuple}
 use Rattle.segment_codec.specs.declared.packet.Packet.{Packet}
 use Rattle.segment_codec.specs.declared.packet.Seg.{Seg}
 use Rattle.capture_reader.specs.CaptureFile.{Packet as Captured}
 use Rattle.segment_codec.specs.Refusal.{tuple_of}
-use Rattle.conn_classifier.specs.Connections.{served_in, tuple_eq}
+use Rattle.conn_classifier.specs.Limits.{most_conns}
+use Rattle.conn_classifier.specs.Connections.{conns, served_in, tuple_eq}
 use Rattle.conn_classifier.specs.Classes.{class_in, counts_of}
 use Rattle.conn_classifier.specs.Items.{Seen, of_conn}
-use Rattle.conn_classifier.specs.declared.kinds.Arrival.{Arrival}
 use Rattle.conn_classifier.specs.declared.kinds.Class.{Class}
 use Rattle.conn_classifier.specs.declared.kinds.Class.TheVariants as class
 use Rattle.conn_classifier.specs.declared.kinds.Counts.{Counts}
@@ -37,18 +37,35 @@ place_in ts p = option_and_then (λ s. option_map (λ c. (c, s)) (number_in ts s
 unfoldable pub order_of : List Tuple → List Seen → List ℕ
 order_of ts xs = filter_map (λ x. conn_in ts x.1) xs
 
+-- the records of a connection's arrivals
+abbrev pub recs_of : Tuple → List Seen → List ℕ
+recs_of t xs = map (λ a. a.rec) (of_conn t xs)
+
 pub record SortedOf : Type 0 where
-  pub lists : List (List Arrival)
+  pub tuples : List Tuple
+  -- by connection the records of its arrivals
+  pub lists : List (List ℕ)
   pub order : List ℕ
   pub counts : Counts
 
 -- all that is sorted out of the records seen, in a capture with this many records and a cut tail or none
 abbrev pub sorted_of : ℕ → Bool → List Tuple → List Seen → SortedOf
 sorted_of records cut ts xs = record {
-  lists = map (λ t. of_conn t xs) ts;
+  tuples = ts;
+  lists = map (λ t. recs_of t xs) ts;
   order = order_of ts xs;
   counts = counts_of records cut (map (λ x. class_in ts x.1) xs);
 }
+
+-- the same, where the connections are those of the records seen
+abbrev pub sorted_seen : ℕ → Bool → List Seen → SortedOf
+sorted_seen records cut xs = sorted_of records cut (conns (map (λ x. x.1) xs)) xs
+
+-- one more tuple: a new one is a connection without segments, where connections still fit
+abbrev pub with_conn : Tuple → SortedOf → SortedOf
+with_conn t s =
+    if nat_le most_conns (length s.tuples) || list_any (tuple_eq t) s.tuples then s
+    else record s { tuples = s.tuples ++ t ∷ []; lists = s.lists ++ [] ∷ [] }
 
 -- one more record of this class
 abbrev pub counted : Class → Counts → Counts

@@ -20,6 +20,13 @@ pub enum Item {
     },
 }
 
+/// An item as a plan keeps it: a segment by its record's number.
+#[derive(Clone, Copy, Debug, PartialEq, Eq)]
+pub enum Slot {
+    Time { at: u64 },
+    Segment { at: u64, rec: u32, iss: u32 },
+}
+
 /// A served segment, with its record's number, and its time in microseconds.
 #[derive(Clone, Copy, Debug, PartialEq, Eq)]
 pub struct Arrival {

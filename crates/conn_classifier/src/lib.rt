@@ -1,7 +1,8 @@
 //! The connections of a capture and their items: what the rings bring to the squeues, and in which order.
 //!
 //! The records are decoded in several threads, in record order, and then gone through once by one thread, with a hashed
-//! set of the connections; each connection's segments are gone through once from the back, for the hints.
+//! set of the connections; each connection's segments are gone through once from the back, for the hints. The packets stay as
+//! they were decoded, and an item is kept by its record's number.
 #![tactic(auto)]
 
 mod ahead;
@@ -12,6 +13,7 @@ pub mod laws;
 mod making;
 mod planned;
 mod rings;
+mod slots;
 mod sorting;
 mod tuples;
 mod view;
@@ -23,6 +25,3 @@ pub use making::plan;
 pub use perimeter_core::Feed;
 pub use planned::Plan;
 pub use view::PlanView;
-
-#[cfg(test)]
-mod tests;

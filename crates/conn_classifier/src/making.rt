@@ -1,32 +1,41 @@
 //! A plan is made of a capture.
 
-ghost use Rattle.std.specs.Prelude.{◌≡◌, IfOk, map};
+ghost use Rattle.std.specs.Prelude.{◌≡◌, ◌<◌, List, IfOk, length, map};
+ghost use Rattle.std.specs.List.{AllByRecursion};
+ghost use Rattle.conn_classifier.specs.declared.kinds.Arrival.{Arrival};
 ghost use Rattle.conn_classifier.specs.Items.{items_of};
 ghost use Rattle.conn_classifier.specs.Plan.{plan_of};
+ghost use Rattle.conn_classifier.specs.Slots.{IsKept, item_of};
 
-use crate::ahead::hints;
+use crate::ahead::hints_at;
 use crate::decoding::decode_all;
-use crate::items::items_in;
-use crate::kinds::{Arrival, Item};
+use crate::kinds::Slot;
 use crate::planned::{Plan, Table};
+use crate::slots::slots_in;
 use crate::sorting::sort;
-use crate::tuples::tuples_of;
 use capture_reader::Capture;
+use segment_codec::Packet;
 use std::alloc::{AllocError, Global};
 use std::thread::Threads;
 
-/// The items of each list of segments, where this is the greatest time of all records. A list is freed as soon as its items are made.
+/// The items of each list of records, where this is the greatest time of all. Fails only for want of memory.
 fn all_items(
     alloc: Global,
     last: u64,
-    lists: Vec<Vec<Arrival>>,
-) -> Result<Vec<Vec<Item>>, AllocError>
-    ensures { IfOk result (λ v. map (λ x. x.items) v.items ≡ map (λ l. items_of last l.items) lists.items) }
+    capture: &Capture,
+    packets: &[Packet],
+    lists: &[Vec<u32>],
+) -> Result<Vec<Vec<Slot>>, AllocError>
+    requires { AllByRecursion (λ l. AllByRecursion (λ n. n < length capture.now.packets) l.items) lists.now }
+    ensures { (xss : List (List Arrival)) → map (λ l. l.items) lists.now ≡ map (map (λ a. a.rec)) xss
+        → AllByRecursion (AllByRecursion (IsKept capture.now.packets packets.now)) xss
+        → IfOk result (λ v. map (λ x. map (item_of packets.now) x.items) v.items ≡ map (items_of last) xss) }
 {
     let mut items = Vec::with_capacity(alloc, lists.len())?;
     for list in lists {
-        let hints = hints(alloc, list.as_slice())?;
-        items.push(items_in(alloc, last, list.as_slice(), hints.as_slice())?)?;
+        let recs = list.as_slice();
+        let hints = hints_at(alloc, packets, recs)?;
+        items.push(slots_in(alloc, last, capture, recs, hints.as_slice())?)?;
     }
     Ok(items)
 }
@@ -52,15 +61,19 @@ pub fn plan<'c>(
     ensures { IfOk result (λ p. p ≡ plan_of capture.entry.now verify) }
 {
     let packets = decode_all(rt, alloc, capture, verify)?;
-    let tuples = tuples_of(alloc, packets.as_slice())?;
-    let sorted = sort(alloc, capture, &tuples, packets.as_slice())?;
-    // Segments are kept once: the packets are freed before there are items.
-    drop(packets);
-    let items = all_items(alloc, capture.last_time(), sorted.lists)?;
+    let sorted = sort(alloc, capture, packets.as_slice())?;
+    let items = all_items(
+        alloc,
+        capture.last_time(),
+        capture,
+        packets.as_slice(),
+        sorted.lists.as_slice(),
+    )?;
     Ok(Plan {
         capture,
         table: Table {
-            tuples,
+            tuples: sorted.tuples,
+            packets,
             items,
             order: sorted.order,
             counts: sorted.counts,

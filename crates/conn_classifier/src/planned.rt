@@ -6,10 +6,11 @@ ghost use Rattle.conn_classifier.specs.Limits.{most_conns, most_items};
 ghost use Rattle.sq_base.specs.Ports.{is_served_port};
 ghost use Rattle.conn_classifier.specs.Plan.{IsPlan, items_in, time_of, text_of, text_len_of};
 
-use crate::kinds::{Counts, Item};
+use crate::kinds::{Counts, Item, Slot};
 use crate::view::PlanView;
 use capture_reader::Capture;
 use indexmap::IndexSet;
+use segment_codec::Packet;
 use sq_base::Tuple;
 use std::marker::Model;
 
@@ -17,7 +18,9 @@ use std::marker::Model;
 #[derive(Drop)]
 pub(crate) struct Table {
     pub(crate) tuples: IndexSet<Tuple>,
-    pub(crate) items: Vec<Vec<Item>>,
+    /// What each record holds.
+    pub(crate) packets: Vec<Packet>,
+    pub(crate) items: Vec<Vec<Slot>>,
     /// The connection of each served segment, in record order.
     pub(crate) order: Vec<u32>,
     pub(crate) counts: Counts,
@@ -33,13 +36,14 @@ pub struct Plan<'c> {
 impl<'c> Model for Plan<'c> {
     ghost use Rattle.std.specs.Prelude.{map};
     ghost use Rattle.conn_classifier.specs.Plan.{PlanOf, IsPlan};
+    ghost use Rattle.conn_classifier.specs.Slots.{item_of};
 
     ghost Value = { PlanOf };
 
     ghost view = { λ p. record {
       file = p.capture.now;
       tuples = p.table.tuples.keys;
-      items = map (λ v. v.items) p.table.items.items;
+      items = map (λ v. map (item_of p.table.packets.items) v.items) p.table.items.items;
       order = p.table.order.items;
       counts = p.table.counts;
     } };
@@ -47,7 +51,7 @@ impl<'c> Model for Plan<'c> {
     ghost invariant = { λ p. IsPlan (record {
       file = p.capture.now;
       tuples = p.table.tuples.keys;
-      items = map (λ v. v.items) p.table.items.items;
+      items = map (λ v. map (item_of p.table.packets.items) v.items) p.table.items.items;
       order = p.table.order.items;
       counts = p.table.counts;
     }) };

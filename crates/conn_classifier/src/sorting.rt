@@ -1,24 +1,30 @@
-//! The records of a capture, sorted by connection and counted by class, in one pass.
+//! The records of a capture: their connections found, sorted by connection and counted by class, all in one pass.
 
-ghost use Rattle.std.specs.Prelude.{◌≡◌, ◌+◌, ◌<◌, ◌≤◌, length, map, replicate, IfOk, OnOk, Some, None, [], ◌∷◌, ◌++◌, set, get_or};
+ghost use Rattle.std.specs.Prelude.{◌≡◌, ℕ, ◌+◌, ◌<◌, ◌≤◌, Bool, List, length, IfOk, IfSome, OnOk, [], ◌∷◌, ◌++◌, set, get_or, position};
 ghost use Rattle.conn_classifier.specs.Limits.{most_conns};
+ghost use Rattle.conn_classifier.specs.Connections.{conns, tuple_eq};
 ghost use Rattle.conn_classifier.specs.Classes.{class_in, counts_of};
-ghost use Rattle.conn_classifier.specs.Sorting.{counted, total, place_in, sorted_of, seen_of};
+ghost use Rattle.conn_classifier.specs.Items.{Seen};
+ghost use Rattle.conn_classifier.specs.Sorting.{counted, total, with_conn, sorted_of, sorted_seen, seen_of};
 
-use crate::kinds::{Arrival, Class, Counts};
+use crate::kinds::{Class, Counts};
 use crate::tuples::served;
 use capture_reader::Capture;
 use indexmap::IndexSet;
-use segment_codec::{Packet, Seg, tuple_of};
+use segment_codec::{Packet, tuple_of};
 use sq_base::{Tuple, is_served};
 use std::alloc::{AllocError, Global};
 use std::marker::Model;
 
-/// What is sorted out of the records: the segments of each connection, the connection of each served segment, and the counts.
+const MOST_CONNECTIONS: usize = 4096;
+
+/// What is sorted out of the records: the connections, the records of each, the connection of each served segment, and the counts.
 #[derive(Drop)]
 pub struct Sorted {
-    /// By connection, in record order.
-    pub lists: Vec<Vec<Arrival>>,
+    /// The first 4,096 tuples of served segments, by first appearance.
+    pub tuples: IndexSet<Tuple>,
+    /// By connection the records of its segments, in record order.
+    pub lists: Vec<Vec<u32>>,
     /// The connection of each served segment, in record order.
     pub order: Vec<u32>,
     pub counts: Counts,
@@ -31,6 +37,7 @@ impl Model for Sorted {
     ghost Value = { SortedOf };
 
     ghost view = { λ s. record {
+      tuples = s.tuples.keys;
       lists = map (λ v. v.items) s.lists.items;
       order = s.order.items;
       counts = s.counts;
@@ -88,30 +95,40 @@ impl Counts {
     }
 }
 
-/// So many empty lists.
-fn empty_lists(alloc: Global, count: usize) -> Result<Vec<Vec<Arrival>>, AllocError>
-    ensures { IfOk result (λ v. map (λ l. l.items) v.items ≡ replicate count []) }
-{
-    let mut lists = Vec::with_capacity(alloc, count)?;
-    for _i in 0..count {
-        lists.push(Vec::new(alloc))?;
-    }
-    Ok(lists)
-}
-
 impl Sorted {
+    /// The number of the connection with this tuple. A new one has the next number, where connections still fit.
+    fn number(&mut self, alloc: Global, tuple: Tuple) -> Result<Option<usize>, AllocError>
+        requires few { length self.old.tuples ≤ most_conns }
+        requires even { length self.old.lists ≡ length self.old.tuples }
+        ensures conns { OnOk result (self.new ≡ with_conn tuple self.old) }
+        ensures number { IfOk result (λ c. c ≡ position (tuple_eq tuple) self.new.tuples) }
+        ensures within { IfOk result (λ o. IfSome o (λ c. (c < length self.new.lists) × (c < most_conns))) }
+        ensures counts { self.new.counts ≡ self.old.counts }
+    {
+        if let Some(c) = self.tuples.get_index_of(&tuple) {
+            return Ok(Some(c));
+        }
+        let next = self.tuples.len();
+        if next >= MOST_CONNECTIONS {
+            return Ok(None);
+        }
+        self.tuples.insert(tuple)?;
+        self.lists.push(Vec::new(alloc))?;
+        Ok(Some(next))
+    }
+
     /// One more segment, of connection `c`.
-    fn add(&mut self, c: usize, arrival: Arrival) -> Result<(), AllocError>
+    fn add(&mut self, c: usize, rec: u32) -> Result<(), AllocError>
         requires within { c < length self.old.lists }
         requires few { c < most_conns }
         requires room { total self.old.counts < 4294967295 }
         ensures { OnOk result (self.new ≡ record self.old {
-          lists = set self.old.lists c (get_or self.old.lists c [] ++ arrival ∷ []);
+          lists = set self.old.lists c (get_or self.old.lists c [] ++ rec ∷ []);
           order = self.old.order ++ c ∷ [];
           counts = counted Class.Served self.old.counts;
         }) }
     {
-        self.lists[c].push(arrival)?;
+        self.lists[c].push(rec)?;
         self.order.push(c as u32)?;
         self.counts.count(Class::Served);
         Ok(())
@@ -124,46 +141,40 @@ impl Sorted {
     {
         self.counts.count(class);
     }
-}
 
-/// The number of the connection of a record's segment, and the segment, where it is of one of these connections.
-fn place(tuples: &IndexSet<Tuple>, packet: &Packet) -> Option<(usize, Seg)>
-    ensures { result ≡ place_in tuples.now.keys packet.now }
-{
-    let seg = served(packet)?;
-    let c = tuples.get_index_of(&tuple_of(&seg))?;
-    Some((c, seg))
+    /// One more record, with its number.
+    fn sort_in(&mut self, alloc: Global, rec: u32, packet: &Packet) -> Result<(), AllocError>
+        requires few { length self.old.tuples ≤ most_conns }
+        requires even { length self.old.lists ≡ length self.old.tuples }
+        requires room { total self.old.counts < 4294967295 }
+        ensures { (records at : ℕ) (cut : Bool) (xs : List Seen) → self.old ≡ sorted_seen records cut xs → rec ≡ length xs
+            → OnOk result (self.new ≡ sorted_seen records cut (xs ++ (at, packet.now) ∷ [])) }
+    {
+        let Some(seg) = served(packet) else {
+            self.pass(class_of(packet));
+            return Ok(());
+        };
+        match self.number(alloc, tuple_of(&seg))? {
+            Some(c) => self.add(c, rec)?,
+            None => self.pass(class_of(packet)),
+        }
+        Ok(())
+    }
 }
 
 /// The records' packets, sorted.
-pub fn sort(
-    alloc: Global,
-    capture: &Capture,
-    tuples: &IndexSet<Tuple>,
-    packets: &[Packet],
-) -> Result<Sorted, AllocError>
-    requires all { length packets.now ≡ length capture.now.packets }
-    requires few { length tuples.now.keys ≤ most_conns }
-    ensures { IfOk result (λ s. s ≡ sorted_of (length capture.now.packets) capture.now.cut tuples.now.keys (seen_of capture.now.packets packets.now)) }
+pub fn sort(alloc: Global, capture: &Capture, packets: &[Packet]) -> Result<Sorted, AllocError>
+    requires { length packets.now ≡ length capture.now.packets }
+    ensures { IfOk result (λ s. s ≡ sorted_of (length capture.now.packets) capture.now.cut (conns packets.now) (seen_of capture.now.packets packets.now)) }
 {
     let mut sorted = Sorted {
-        lists: empty_lists(alloc, tuples.len())?,
+        tuples: IndexSet::new(alloc),
+        lists: Vec::new(alloc),
         order: Vec::new(alloc),
         counts: Counts::none(capture.len(), capture.cut_tail()),
     };
     for i in 0..capture.len() {
-        let packet = &packets[i as usize];
-        match place(tuples, packet) {
-            Some((c, seg)) => sorted.add(
-                c,
-                Arrival {
-                    rec: i,
-                    at: capture.rec(i).at,
-                    seg,
-                },
-            )?,
-            None => sorted.pass(class_of(packet)),
-        }
+        sorted.sort_in(alloc, i, &packets[i as usize])?;
     }
     Ok(sorted)
 }

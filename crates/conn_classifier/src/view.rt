@@ -9,6 +9,7 @@ ghost use Rattle.conn_classifier.specs.Plan.{items_in, time_of, text_of, text_le
 
 use crate::kinds::Item;
 use crate::planned::Table;
+use crate::slots::item_of;
 use capture_reader::Capture;
 use sq_base::Tuple;
 use std::marker::Model;
@@ -23,13 +24,14 @@ pub struct PlanView<'p> {
 impl<'p> Model for PlanView<'p> {
     ghost use Rattle.std.specs.Prelude.{map};
     ghost use Rattle.conn_classifier.specs.Plan.{PlanOf, IsPlan};
+    ghost use Rattle.conn_classifier.specs.Slots.{item_of};
 
     ghost Value = { PlanOf };
 
     ghost view = { λ p. record {
       file = p.capture.now;
       tuples = p.table.now.tuples.keys;
-      items = map (λ v. v.items) p.table.now.items.items;
+      items = map (λ v. map (item_of p.table.now.packets.items) v.items) p.table.now.items.items;
       order = p.table.now.order.items;
       counts = p.table.now.counts;
     } };
@@ -37,7 +39,7 @@ impl<'p> Model for PlanView<'p> {
     ghost invariant = { λ p. IsPlan (record {
       file = p.capture.now;
       tuples = p.table.now.tuples.keys;
-      items = map (λ v. v.items) p.table.now.items.items;
+      items = map (λ v. map (item_of p.table.now.packets.items) v.items) p.table.now.items.items;
       order = p.table.now.order.items;
       counts = p.table.now.counts;
     }) };
@@ -82,7 +84,8 @@ impl<'p> PlanView<'p> {
         ensures most { time_of result ≤ latest_time }
         ensures rises { (m : ℕ) → m ≤ n → IfSome (slice_get (items_in self.now c) m) (λ before. time_of before ≤ time_of result) }
     {
-        self.table.items[c as usize][n as usize]
+        let slot = self.table.items[c as usize][n as usize];
+        item_of(self.table.packets.as_slice(), slot)
     }
 
     /// The text of item `n` of connection `c`: the segment's, or none for a time item.

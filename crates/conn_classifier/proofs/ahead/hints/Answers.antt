@@ -1,4 +1,4 @@
-use Rattle.std.proofs.Common.{◌≡◌, ℕ, ◌+◌, ◌-◌, ◌<◌, [], length, drop, sym, ap, subst, ◌∙◌, arith}
+use Rattle.std.proofs.Common.{◌≡◌, ℕ, ◌+◌, ◌-◌, ◌<◌, [], length, drop, refl, sym, ap, subst, ◌∙◌, arith}
 use Rattle.std.proofs.lemmas.List.{length-set, drop_all}
 use Rattle.conn_classifier.specs.Items.{looked}
 use Rattle.conn_classifier.specs.Hints.{hints_of, IsAhead}
@@ -28,5 +28,5 @@ loop-i-preserved c =
       omega (arith, lt),
       length-set hs j v ∙ inv.1,
       turn_hints xs hs j _ lt inv.1 so_far c.loop-i.ahead is v (c.before-now.ensures.hint (drop (j + 1) xs) is),
-      turn_ahead xs hs j _ lt inv.1 so_far c.loop-i.ahead is c.before-now.result.0 (c.before-now.ensures.ahead (drop (j + 1) xs) is),
+      turn_ahead xs hs j _ lt inv.1 so_far c.loop-i.ahead is c.before-now.result.0 (c.before-now.ensures.ahead _ (drop (j + 1) xs) refl is),
     )

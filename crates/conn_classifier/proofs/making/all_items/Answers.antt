@@ -1,20 +1,28 @@
-use Rattle.std.proofs.Common.{◌≡◌, [], ◌∷◌, ◌++◌, map, ap, sym, ◌∙◌, map-id, length, arith}
-use Rattle.std.proofs.lemmas.Iterator.Adapters.{YieldsList-from_vec}
-use Rattle.std.proofs.lemmas.Iterator.Consumers.{YieldsList-end}
-use Rattle.std.proofs.lemmas.List.{map-append}
+use Rattle.std.proofs.Common.{◌<◌, [], length, get_or, map, ap, ◌∙◌, arith}
+use Rattle.std.proofs.lemmas.List.{length-map, take_all}
 use Rattle.conn_classifier.specs.Items.{items_of}
+use Rattle.conn_classifier.specs.Slots.{item_of}
+use Rattle.conn_classifier.specs.declared.kinds.Arrival.{Arrival}
+use Rattle.conn_classifier.proofs.SlotLemmas.{recs_of_list, kept_in_list, turn_lists}
 use Rattle.conn_classifier.proofs.making.all_items.Goals as goal
 
 pub loop-list-preserved : goal.loop-list-preserved
-loop-list-preserved c =
-    let item = c.in_ok-items_in.ensures ∙ ap (items_of c.args.last) c.as_slice-in-loop-list.ensures.value in
-    ap (map (λ x. x.items)) c.in_ok-push.ensures.items ∙ map-append (λ x. x.items) c.loop-list.items.items (c.in_ok-items_in.field-0 ∷ [])
-    ∙ (λ k. c.loop-list.invariant k ++ item k ∷ [])
-    ∙ sym (map-append (λ x. items_of c.args.last x.items) c.loop-list.yielded (c.in-Some.list ∷ []))
+loop-list-preserved c = λ xss is kept.
+    let rs = c.args.capture.now.packets in
+    let ps = c.args.packets.now in
+    let vs = c.args.lists.now in
+    let k = c.loop-list.list-index in
+    let v = c.list-item.result in
+    let lt : k < length vs = c.loop-list-test.true in
+    let xs = get_or xss k [] in
+    let recs = c.as_slice-recs.ensures.value ∙ recs_of_list rs ps (λ v. v.items) vs xss is kept k v lt c.list-item.is in
+    let here = kept_in_list rs ps (λ v. v.items) vs xss is kept k v lt c.list-item.is in
+    let hints = c.as_slice.ensures.value ∙ c.in_ok-hints.ensures.value rs xs recs here in
+    turn_lists rs ps (λ v. v.items) vs xss is kept k v lt c.list-item.is (λ x. map (item_of ps) x.items) c.args.last c.loop-list.items.items c.push.new.self.items
+    c.in_ok-slots_in.field-0 (c.loop-list.invariant xss is kept) (c.in_ok-slots_in.ensures ps xs recs here hints) c.in_ok-push.ensures.items
 
 pub returns : goal.returns
-returns c =
-    let given = c.into_iter-list-iterator.ensures.into_iter_gives in
-    let long : c.into_iter-list-iterator.result.rest.len ≡ length c.args.lists.items = omega (arith, given.1, c.args.lists.ok) in
-    let end = YieldsList-end (YieldsList-from_vec c.args.lists.items given.0 long) c.loop-list.yielded _ c.loop-list.yielded_by _ c.next.new.self c.in-None.is c.next.ensures.steps in
-    c.loop-list.invariant ∙ ap (map (λ x. items_of c.args.last x.items)) (sym (map-id c.loop-list.yielded) ∙ end.0)
+returns c = λ xss is kept.
+    let k = c.loop-list.list-index in
+    c.loop-list.invariant xss is kept
+    ∙ ap (map (items_of c.args.last)) (take_all k xss (omega (arith, c.loop-list-test.false, ap length is, length-map c.args.lists.now (λ v. v.items), length-map xss (map (λ (a : Arrival). a.rec)))))
