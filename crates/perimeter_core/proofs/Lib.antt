@@ -11,7 +11,7 @@ pub mod QueuedRange
 pub mod Room
 pub mod OwnAsk
 pub mod ShortFlags
-pub mod LogSteps
+pub mod ActLists
 pub mod OneBlock
 pub mod TheEnd
 pub mod AskLists

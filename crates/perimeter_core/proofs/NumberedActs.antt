@@ -21,7 +21,7 @@ use Rattle.perimeter_core.proofs.FeedOrder.{runs_grow, queue_after, in_order}
 use Rattle.perimeter_core.proofs.BlocksFollow.{acts_push, flags}
 use Rattle.perimeter_core.proofs.RingKnows.{here_step}
 use Rattle.perimeter_core.proofs.NextFeed.{had, here_was, fed-append, fed_feeds, fed_call}
-use Rattle.perimeter_core.proofs.LogSteps.{feed_numbers-append}
+use Rattle.perimeter_core.proofs.ActLists.{feed_numbers-append}
 
 pub numbers_at : (b : Bool) (n : ℕ) (done : List Act) (ns : List ℕ) → feed_numbers done ≡ ns → feed_numbers (if b then Did.Feed n ∷ done else done) ≡ (if b then n ∷ ns else ns)
 numbers_at true n done ns h = ap (λ xs. n ∷ xs) h

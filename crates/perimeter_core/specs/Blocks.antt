@@ -1,5 +1,5 @@
 -- The blocks that a resident stands for, and how processed entries and acts change them.
-use Rattle.std.specs.Prelude.{◌≡◌, ℕ, if◌then◌else◌, ◌==◌, Option, Some, None, List, [], ◌∷◌, ◌++◌}
+use Rattle.std.specs.Prelude.{◌≡◌, ℕ, Bool, false, if◌then◌else◌, ◌==◌, Option, Some, None, List, [], ◌∷◌, ◌++◌, slice_index_or}
 use Rattle.perimeter_core.specs.declared.entries.Act.{Act}
 use Rattle.perimeter_core.specs.declared.entries.Act.TheVariants as Did
 use Rattle.perimeter_core.specs.declared.entries.Entry.{Entry}
@@ -18,6 +18,13 @@ Blocks = ℕ → Option (List Act)
 -- the connections that are here after a history, each with its acts
 abbrev pub peri : Setting → List Element → Blocks
 peri S H c = if is_here (run S H) c then Some (acts S H c) else None
+
+-- the connections with a flag are here, and nothing was done to them
+abbrev pub fresh : Bool → Option (List Act)
+fresh here = if here then Some [] else None
+
+abbrev pub none_done : List Bool → Blocks
+none_done starts c = fresh (slice_index_or starts c false)
 
 -- a block, if it is here, after more acts
 abbrev pub longer : List Act → Option (List Act) → Option (List Act)

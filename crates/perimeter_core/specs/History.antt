@@ -11,6 +11,10 @@ pub record Element : Type 0 where
   pub mark : Mark
   pub note : List Act
 
+-- an element without a note
+abbrev pub plain : Mark → Element
+plain m = record { mark = m; note = [] }
+
 -- what a resident allows: for each connection, how many feeds it may have and how often it may leave; and the calls
 -- that exist, (c, j, k) where call k of thread j is on connection c
 pub record Limits : Type 0 where

@@ -1,6 +1,7 @@
 pub mod Perimeter
 pub mod History
 pub mod Deeds
+pub mod Kinds
 pub mod Legal
 pub mod Blocks
 pub mod Residing
@@ -9,6 +10,3 @@ pub mod Ending
 pub mod Knowledge
 pub mod Numbered
 pub mod SmallPerimeter
-pub mod Logging
-pub mod LogLaws
-pub mod Worked

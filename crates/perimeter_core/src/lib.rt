@@ -12,18 +12,14 @@ mod flags;
 pub mod hook;
 mod known;
 pub mod laws;
-pub mod logs;
 pub mod machine;
 pub mod marks;
 pub mod resident;
-#[cfg(test)]
-mod tests;
-pub mod worked;
 
 pub use entries::{Act, Entry, Feed};
 pub use few::Few;
 pub use hook::{Hook, NoHook};
 pub use known::Known;
 pub use machine::{Core, is_polling};
-pub use marks::{Mark, Own, SynchAct};
+pub use marks::{Kind, Mark, Own, SynchAct};
 pub use resident::Resident;

@@ -25,6 +25,23 @@ pub enum SynchAct {
     In { c: u32 },
 }
 
+/// What a mark is, but for its pass and the feeds that it enters.
+#[derive(Clone, Copy, Debug, PartialEq, Eq)]
+pub enum Kind {
+    Fill,
+    Fast,
+    Claim,
+    /// A Claim of the pass's own Ask.
+    ClaimAsk,
+    Take,
+    Leave { rest: u64, act: SynchAct },
+    Ask,
+    Grant { j: u32, rest: u64 },
+    Accept,
+    Work,
+    Close,
+}
+
 /// One change of a perimeter's state. The first number is the pass that makes it.
 #[derive(Drop)]
 pub enum Mark {

@@ -8,10 +8,9 @@ use Rattle.perimeter_core.specs.declared.entries.Act.TheVariants as Did
 use Rattle.perimeter_core.specs.declared.entries.Entry.TheVariants as Entry'
 use Rattle.perimeter_core.specs.declared.marks.SynchAct.TheVariants as Done
 use Rattle.perimeter_core.specs.Deeds.{fed, feed_numbers}
-use Rattle.perimeter_core.specs.Blocks.{Blocks, longer, with_feeds, with_act}
+use Rattle.perimeter_core.specs.Blocks.{Blocks, longer, with_feeds, with_act, fresh, none_done}
 use Rattle.perimeter_core.specs.Residing.{HadFeeds, Here}
-use Rattle.perimeter_core.specs.Logging.{fresh, none_done}
-use Rattle.perimeter_core.proofs.LogSteps.{get_same, get_other, got, some_longer, feed_numbers-append}
+use Rattle.perimeter_core.proofs.ActLists.{get_same, get_other, got, some_longer, feed_numbers-append}
 use Rattle.perimeter_core.proofs.FeedLists.{up-append}
 use Rattle.perimeter_core.proofs.NextFeed.{fed-append}
 use Rattle.perimeter_core.specs.Backlog.{up}

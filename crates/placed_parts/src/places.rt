@@ -31,8 +31,7 @@ pub struct Places<S: Parts> {
 
 impl<S: Parts> Places<S> {
     ghost use Rattle.perimeter_core.specs.declared.entries.Act.{Act};
-    ghost use Rattle.perimeter_core.specs.Blocks.{Blocks};
-    ghost use Rattle.perimeter_core.specs.Logging.{fresh, none_done};
+    ghost use Rattle.perimeter_core.specs.Blocks.{Blocks, fresh, none_done};
     ghost use Rattle.placed_parts.specs.Standing.{InOrder, OwnPart, PlaceAt, all_new};
     ghost use Rattle.placed_parts.specs.Placing.{Stands, IsItsPart, shared_of, size_of, parts_of, part_at};
 

@@ -1,7 +1,7 @@
 //! The end of a small squeue.
 ghost use Rattle.std.specs.Prelude.{◌≡◌, ◌≤◌, [], true, length, map, vec_capacity};
 ghost use Rattle.perimeter_core.specs.Blocks.{peri};
-ghost use Rattle.perimeter_core.specs.Logging.{Stands, limits_of, size_of};
+ghost use Rattle.perimeter_trial.specs.Logging.{Stands, limits_of, size_of};
 ghost use Rattle.perimeter_core.specs.Perimeter.{Idle};
 ghost use Rattle.perimeter_core.specs.History.{run};
 ghost use Rattle.squeue_state.specs.Endings.{HasEnded};
@@ -11,7 +11,7 @@ ghost use Rattle.squeue_state.specs.Told.{marks_of};
 ghost use Rattle.turn_gate.specs.Passes.{IsPassOf, number, seen};
 
 use perimeter_core::NoHook;
-use perimeter_core::logs::Logs;
+use perimeter_trial::Logs;
 use squeue_drain::worker;
 use squeue_state::{Ended, Pass, Squeue, Trace};
 use std::alloc::Global;

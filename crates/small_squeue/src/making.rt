@@ -1,11 +1,11 @@
 //! A new squeue and its passes.
 ghost use Rattle.std.specs.Prelude.{◌≡◌, ◌≤◌, ◌^◌, ◌∷◌, [], true, false, length, slice_index_or, vec_capacity, IfOk};
-ghost use Rattle.perimeter_core.specs.Logging.{limits_of};
+ghost use Rattle.perimeter_trial.specs.Logging.{limits_of};
 ghost use Rattle.squeue_state.specs.AllRoom.{HasAllRoom};
 ghost use Rattle.squeue_state.specs.Elements.{number_of};
 ghost use Rattle.turn_gate.specs.Passes.{AreFresh};
 
-use perimeter_core::logs::Logs;
+use perimeter_trial::Logs;
 use squeue_state::{Pass, Quota, Squeue};
 use std::alloc::{AllocError, Global};
 

@@ -12,7 +12,8 @@ use Rattle.perimeter_core.specs.History.{Element, Setting, run}
 use Rattle.perimeter_core.specs.Deeds.{done_by, entries}
 use Rattle.perimeter_core.specs.Legal.{Legal, NoteFits, feed_count}
 use Rattle.squeue_replay.specs.Histories.{note_of, noted}
-use Rattle.squeue_replay.specs.Marks.{AreFeeds, IsPrinted, fast_entry}
+use Rattle.perimeter_core.specs.Kinds.{fast_entry}
+use Rattle.squeue_replay.specs.Marks.{AreFeeds, IsPrinted}
 use Rattle.squeue_replay.specs.Standing.{SqueueOf, Stands}
 use Rattle.squeue_replay.specs.Steps.{NotesFeeds, Tells}
 use Rattle.squeue_replay.specs.Entering.{AreSmall, Follows}

@@ -17,9 +17,9 @@ use Rattle.squeue_enter.specs.declared.Mode.TheVariants as Mode'
 use Rattle.squeue_rings.specs.Keeping.{AreHome, Keeps, claims_feeds, fills, fills_one, gives_it_up, is_fast, leaves_it, taken}
 use Rattle.ring_quotas.specs.declared.setup.Setup.{Setup}
 use Rattle.squeue_replay.specs.declared.pace.Met.{Met}
-use Rattle.squeue_replay.specs.declared.marks.Step.{Step}
-use Rattle.squeue_replay.specs.declared.marks.Step.TheVariants as step
-use Rattle.squeue_replay.specs.Marks.{mark_by}
+use Rattle.perimeter_core.specs.declared.marks.Kind.{Kind}
+use Rattle.perimeter_core.specs.declared.marks.Kind.TheVariants as Kind'
+use Rattle.perimeter_core.specs.Kinds.{mark_by}
 use Rattle.squeue_replay.specs.Pacing.{CountStands, count_after, HasMet, KeepsAt, at_most, fits_budget, fits_mode, just, takes, takes_or_grants}
 use Rattle.squeue_replay.proofs.OwnersCount.{count_more, count_stands, since}
 
@@ -202,18 +202,18 @@ module _ (squeues spread budget rings q : ℕ) (S : Setting) (past : List Elemen
       (record { home = h.0; fill = λ x. cc x; no_claim = λ _. (m.0 h.1).0; busy = λ x. cc x; busy_or_behind = λ _. (m.0 h.1).1.0; leaves_next = λ _. (m.0 h.1).1.1; few = (b.0 h.2).0.0; full = λ x. cc x }, (b.0 h.2).0.1))
       (λ (k : Keeping Mode'.NoDrain). (k.0.home, m.1 (k.0.no_claim refl, (k.0.busy_or_behind refl, k.0.leaves_next refl)), b.1 ((k.0.few, k.1), tt))) d
 
-pub pass_by : (p : ℕ) (step : Step) (fs : List FeedOf) → pass_of (mark_by p step fs) ≡ p
-pass_by p step.Fill fs = refl
-pass_by p step.Fast fs = refl
-pass_by p step.Claim fs = refl
-pass_by p step.ClaimAsk fs = refl
-pass_by p step.Take fs = refl
-pass_by p (step.Leave rest act) fs = refl
-pass_by p step.Ask fs = refl
-pass_by p (step.Grant j rest) fs = refl
-pass_by p step.Accept fs = refl
-pass_by p step.Work fs = refl
-pass_by p step.Close fs = refl
+pub pass_by : (p : ℕ) (kind : Kind) (fs : List FeedOf) → pass_of (mark_by p kind fs) ≡ p
+pass_by p Kind'.Fill fs = refl
+pass_by p Kind'.Fast fs = refl
+pass_by p Kind'.Claim fs = refl
+pass_by p Kind'.ClaimAsk fs = refl
+pass_by p Kind'.Take fs = refl
+pass_by p (Kind'.Leave rest act) fs = refl
+pass_by p Kind'.Ask fs = refl
+pass_by p (Kind'.Grant j rest) fs = refl
+pass_by p Kind'.Accept fs = refl
+pass_by p Kind'.Work fs = refl
+pass_by p Kind'.Close fs = refl
 
 module _ (setup : Setup) (q : ℕ) (S : Setting) (past : List Element) (e : Element) (m : Mark) (is : e.mark ≡ m) (met : Met) (count : Option ℕ) (stands : CountStands S past count) (may : May S past e) (has : HasMet S past e met) where
   -- the count behind the mark

@@ -7,28 +7,8 @@ use Rattle.perimeter_core.specs.declared.marks.Mark.{Mark}
 use Rattle.perimeter_core.specs.declared.marks.Mark.TheVariants as On
 use Rattle.perimeter_core.specs.declared.marks.SynchAct.{SynchAct}
 use Rattle.perimeter_core.specs.declared.marks.SynchAct.TheVariants as Done
-use Rattle.perimeter_core.specs.Deeds.{entries}
-use Rattle.squeue_replay.specs.declared.marks.Step.{Step}
-use Rattle.squeue_replay.specs.declared.marks.Step.TheVariants as step
-
--- the one entry of a Fast; where none was read it is no feed
-abbrev pub fast_entry : ℕ → List Feed → Entry
-fast_entry p [] = Entered.Ask p
-fast_entry p (f ∷ fs) = Entered.Feed f.c f.n
-
--- by the pass, what it is, and the feeds that it enters
-abbrev pub mark_by : ℕ → Step → List Feed → Mark
-mark_by p step.Fill fs = On.Fill p (entries fs)
-mark_by p step.Fast fs = On.Fast p (fast_entry p fs)
-mark_by p step.Claim fs = On.Claim p (entries fs)
-mark_by p step.ClaimAsk fs = On.Claim p (Entered.Ask p ∷ [])
-mark_by p step.Take fs = On.Take p
-mark_by p (step.Leave rest act) fs = On.Leave p rest act
-mark_by p step.Ask fs = On.Ask p
-mark_by p (step.Grant j rest) fs = On.Grant p j rest
-mark_by p step.Accept fs = On.Accept p
-mark_by p step.Work fs = On.Work p
-mark_by p step.Close fs = On.Close p
+use Rattle.perimeter_core.specs.declared.marks.Kind.{Kind}
+use Rattle.perimeter_core.specs.declared.marks.Kind.TheVariants as Kind'
 
 -- passes, connections, feeds and calls are numbers of 32 bits
 abbrev pub IsSmall : ℕ → Type 0
@@ -60,8 +40,8 @@ IsPrinted (On.Work p) = IsSmall p
 IsPrinted (On.Close p) = IsSmall p
 
 -- the feeds that were read are those that the mark enters: a Fast has one, and what enters no feeds has none
-abbrev pub HasItsFeeds : Step → List Feed → Type 0
-HasItsFeeds step.Fill fs = Unit {0}
-HasItsFeeds step.Claim fs = Unit {0}
-HasItsFeeds step.Fast fs = length fs ≡ 1
+abbrev pub HasItsFeeds : Kind → List Feed → Type 0
+HasItsFeeds Kind'.Fill fs = Unit {0}
+HasItsFeeds Kind'.Claim fs = Unit {0}
+HasItsFeeds Kind'.Fast fs = length fs ≡ 1
 HasItsFeeds _ fs = fs ≡ []

@@ -14,10 +14,8 @@ mod guest;
 mod marks;
 mod pace;
 mod squeue;
-#[cfg(test)]
-mod tests;
 
 pub use guest::Guest;
-pub use marks::{Mark, Step};
+pub use marks::ReadMark;
 pub use pace::{Met, Pace};
 pub use squeue::{Run, Squeue, stay_of};

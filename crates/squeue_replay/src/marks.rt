@@ -2,42 +2,25 @@
 
 ghost use Rattle.std.specs.Prelude.{◌≡◌, []};
 
-use perimeter_core::{Feed, SynchAct};
+use perimeter_core::{Feed, Kind};
 use std::alloc::Global;
 
-/// What a mark is, but for its pass and the feeds that it enters.
-#[derive(Clone, Copy, Debug, PartialEq, Eq)]
-pub enum Step {
-    Fill,
-    Fast,
-    Claim,
-    /// A Claim of the pass's own Ask.
-    ClaimAsk,
-    Take,
-    Leave { rest: u64, act: SynchAct },
-    Ask,
-    Grant { j: u32, rest: u64 },
-    Accept,
-    Work,
-    Close,
-}
-
-/// A mark: the pass that makes it, what it is, and the feeds that it enters. One value serves for many lines, one after another.
+/// A mark: the pass that makes it, its kind, and the feeds that it enters. One value serves for many lines, one after another.
 #[derive(Drop)]
-pub struct Mark {
+pub struct ReadMark {
     pub p: u32,
-    pub step: Step,
+    pub kind: Kind,
     pub feeds: Vec<Feed>,
 }
 
-impl Mark {
+impl ReadMark {
     /// A Take of pass 0, to be read into.
-    pub fn make(alloc: Global) -> Mark
-        ensures { (result.p ≡ 0) × (result.step ≡ Step.Take) × (result.feeds.items ≡ []) }
+    pub fn make(alloc: Global) -> ReadMark
+        ensures { (result.p ≡ 0) × (result.kind ≡ Kind.Take) × (result.feeds.items ≡ []) }
     {
-        Mark {
+        ReadMark {
             p: 0,
-            step: Step::Take,
+            kind: Kind::Take,
             feeds: Vec::new(alloc),
         }
     }

@@ -6,11 +6,11 @@ ghost use Rattle.perimeter_core.specs.Deeds.{entries, entries_of};
 ghost use Rattle.perimeter_core.specs.History.{Element, Setting};
 ghost use Rattle.perimeter_core.specs.Legal.{May};
 ghost use Rattle.squeue_rings.specs.Keeping.{AreHome};
-ghost use Rattle.squeue_replay.specs.Marks.{mark_by};
+ghost use Rattle.perimeter_core.specs.Kinds.{mark_by};
 ghost use Rattle.squeue_replay.specs.Pacing.{HasMet, KeepsAt, PaceStands, count_after, fits_budget, fits_mode};
 
-use crate::marks::{Mark, Step};
-use perimeter_core::Feed;
+use crate::marks::ReadMark;
+use perimeter_core::{Feed, Kind};
 use ring_quotas::Setup;
 use squeue_enter::Mode;
 
@@ -47,16 +47,16 @@ impl Pace {
     }
 
     /// One more legal mark: whether it keeps the homes, the mode and the budget.
-    pub fn keeps(&mut self, mark: &Mark, met: Met) -> bool
+    pub fn keeps(&mut self, mark: &ReadMark, met: Met) -> bool
         requires { 1 ≤ self.old.setup.squeues }
         ensures same { (self.new.setup ≡ self.old.setup) × (self.new.squeue ≡ self.old.squeue) }
-        ensures keeps { (S : Setting) (past : List Element) (e : Element) → e.mark ≡ mark_by mark.now.p mark.now.step mark.now.feeds.items → May S past e
+        ensures keeps { (S : Setting) (past : List Element) (e : Element) → e.mark ≡ mark_by mark.now.p mark.now.kind mark.now.feeds.items → May S past e
             → HasMet S past e met → PaceStands S past self.old
             → PaceStands S (past ++ e ∷ []) self.new × Decides result (KeepsAt self.old.setup self.old.squeue S past e) }
     {
         let setup = self.setup;
         let now = self.with(met.processed);
-        self.processed = count_after(mark.step, now);
+        self.processed = count_after(mark.kind, now);
         mark.p >= setup.rings || self.fits(mark, met, now)
     }
 
@@ -69,28 +69,28 @@ impl Pace {
     }
 
     /// Whether a ring's mark keeps all of it.
-    fn fits(&self, mark: &Mark, met: Met, now: Option<u64>) -> bool
+    fn fits(&self, mark: &ReadMark, met: Met, now: Option<u64>) -> bool
         requires { 1 ≤ self.now.setup.squeues }
-        ensures { let m = mark_by mark.now.p mark.now.step mark.now.feeds.items in Decides result (
+        ensures { let m = mark_by mark.now.p mark.now.kind mark.now.feeds.items in Decides result (
             AreHome self.now.setup.squeues self.now.setup.spread self.now.squeue (entries_of m)
             × (fits_mode self.now.setup.mode m met.taken met.queued (is_some now) ≡ true)
             × (fits_budget self.now.setup.mode self.now.setup.budget m now met.left ≡ true)) }
     {
         self.are_home(mark)
             && self.keeps_mode(mark, met, now.is_some())
-            && self.keeps_budget(mark.step, now, met.left)
+            && self.keeps_budget(mark.kind, now, met.left)
     }
 
     /// Whether the feeds that the mark enters are at home.
-    fn are_home(&self, mark: &Mark) -> bool
+    fn are_home(&self, mark: &ReadMark) -> bool
         requires { 1 ≤ self.now.setup.squeues }
         ensures { Decides result (AreHome self.now.setup.squeues self.now.setup.spread self.now.squeue
-            (entries_of (mark_by mark.now.p mark.now.step mark.now.feeds.items))) }
+            (entries_of (mark_by mark.now.p mark.now.kind mark.now.feeds.items))) }
     {
         let feeds = mark.feeds.as_slice();
-        match mark.step {
-            Step::Fill | Step::Claim => self.all_home(feeds),
-            Step::Fast => match feeds {
+        match mark.kind {
+            Kind::Fill | Kind::Claim => self.all_home(feeds),
+            Kind::Fast => match feeds {
                 [feed, ..] => self.is_home(*feed),
                 [] => true,
             },
@@ -119,17 +119,17 @@ impl Pace {
 
     /// Whether a ring's mark keeps the mode; `by_feeds` says whether the owner took the perimeter with feeds.
     #[tactic(auto, using(squeue_enter::proofs::Carrying::only_feeds))]
-    fn keeps_mode(&self, mark: &Mark, met: Met, by_feeds: bool) -> bool
-        ensures { result ≡ fits_mode self.now.setup.mode (mark_by mark.now.p mark.now.step mark.now.feeds.items) met.taken met.queued by_feeds }
+    fn keeps_mode(&self, mark: &ReadMark, met: Met, by_feeds: bool) -> bool
+        ensures { result ≡ fits_mode self.now.setup.mode (mark_by mark.now.p mark.now.kind mark.now.feeds.items) met.taken met.queued by_feeds }
     {
         let feeds = mark.feeds.as_slice();
         match self.setup.mode {
-            Mode::Fill => !matches!(mark.step, Step::Fast | Step::Claim),
-            Mode::Process => !matches!(mark.step, Step::Fill) || met.taken,
-            Mode::NoDrain => match mark.step {
-                Step::Fill => feeds.len() != 1 || met.taken || met.queued,
-                Step::Claim => false,
-                Step::Take | Step::Grant { .. } => !by_feeds,
+            Mode::Fill => !matches!(mark.kind, Kind::Fast | Kind::Claim),
+            Mode::Process => !matches!(mark.kind, Kind::Fill) || met.taken,
+            Mode::NoDrain => match mark.kind {
+                Kind::Fill => feeds.len() != 1 || met.taken || met.queued,
+                Kind::Claim => false,
+                Kind::Take | Kind::Grant { .. } => !by_feeds,
                 _ => true,
             },
         }
@@ -137,16 +137,16 @@ impl Pace {
 
     /// Whether the owner keeps the budget, by how many feeds it has processed with the mark's, and whether something is queued
     /// after it.
-    fn keeps_budget(&self, step: Step, now: Option<u64>, left: bool) -> bool
-        ensures { (p : ℕ) (fs : List FeedOf) → result ≡ fits_budget self.now.setup.mode self.now.setup.budget (mark_by p step fs) now left }
+    fn keeps_budget(&self, kind: Kind, now: Option<u64>, left: bool) -> bool
+        ensures { (p : ℕ) (fs : List FeedOf) → result ≡ fits_budget self.now.setup.mode self.now.setup.budget (mark_by p kind fs) now left }
     {
         let Some(processed) = now else {
             return true;
         };
         let budget = u64::from(self.setup.budget);
-        match step {
-            Step::Take | Step::Grant { .. } => processed <= budget,
-            Step::Leave { .. } => {
+        match kind {
+            Kind::Take | Kind::Grant { .. } => processed <= budget,
+            Kind::Leave { .. } => {
                 processed <= budget
                     && (self.setup.mode != Mode::Process || !left || processed == budget)
             }
@@ -157,13 +157,13 @@ impl Pace {
 
 /// The owner's count behind a mark, by what it is with the feeds that the mark says were processed.
 #[tactic(auto, using(squeue_enter::proofs::Carrying::only_feeds))]
-fn count_after(step: Step, now: Option<u64>) -> Option<u64>
-    ensures { (p : ℕ) (fs : List FeedOf) → result ≡ count_after (mark_by p step fs) now }
+fn count_after(kind: Kind, now: Option<u64>) -> Option<u64>
+    ensures { (p : ℕ) (fs : List FeedOf) → result ≡ count_after (mark_by p kind fs) now }
 {
-    match step {
-        Step::Fast | Step::Claim => Some(0),
-        Step::Fill | Step::Take | Step::Ask | Step::Close => now,
-        Step::ClaimAsk | Step::Leave { .. } | Step::Grant { .. } | Step::Accept | Step::Work =>
+    match kind {
+        Kind::Fast | Kind::Claim => Some(0),
+        Kind::Fill | Kind::Take | Kind::Ask | Kind::Close => now,
+        Kind::ClaimAsk | Kind::Leave { .. } | Kind::Grant { .. } | Kind::Accept | Kind::Work =>
             None,
     }
 }

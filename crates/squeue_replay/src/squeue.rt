@@ -12,10 +12,10 @@ mod entering;
 mod processing;
 
 use crate::guest::Guest;
-use crate::marks::{Mark, Step};
+use crate::marks::ReadMark;
 use conn_blocks::Calls;
 use conn_classifier::Plan;
-use perimeter_core::{Entry, Own};
+use perimeter_core::{Entry, Kind, Own};
 pub use processing::stay_of;
 use ring_quotas::{CALLERS, Setup, quotas_at};
 use squeue_state::Quota;
@@ -72,14 +72,15 @@ pub struct Squeue<'p, 'c> {
 impl<'p, 'c> Squeue<'p, 'c> {
     ghost use Rattle.std.specs.Prelude.{List, [], ◌∷◌, ◌++◌, IfOk, IsTrue, MatchOption, None, Ok, Some, ◌↔◌, ◌≢◌, ◌≤◌, ◌%◌, ◌==◌, false, if◌then◌else◌, map};
     ghost use Rattle.std.specs.List.{range_with_len};
-    ghost use Rattle.perimeter_core.specs.declared.marks.Mark.{Mark as MarkOf};
+    ghost use Rattle.perimeter_core.specs.declared.marks.Mark.{Mark};
     ghost use Rattle.perimeter_core.specs.declared.marks.Own.TheVariants.{Free};
     ghost use Rattle.perimeter_core.specs.Deeds.{done_by};
     ghost use Rattle.perimeter_core.specs.Ending.{IsOver};
     ghost use Rattle.perimeter_core.specs.History.{Element, run};
     ghost use Rattle.perimeter_core.specs.Legal.{Legal, feed_count};
     ghost use Rattle.squeue_replay.specs.Entering.{first_guest};
-    ghost use Rattle.squeue_replay.specs.Marks.{mark_by, HasItsFeeds, IsPrinted};
+    ghost use Rattle.perimeter_core.specs.Kinds.{mark_by};
+    ghost use Rattle.squeue_replay.specs.Marks.{HasItsFeeds, IsPrinted};
     ghost use Rattle.squeue_replay.specs.Replaying.{history_of, setting_of, squeue_of};
     ghost use Rattle.squeue_replay.specs.Standing.{Stands, guest_of};
 
@@ -152,31 +153,31 @@ impl<'p, 'c> Squeue<'p, 'c> {
 
     /// One more mark. Gives how many feeds it says were processed, or `None` where it isn't legal, and then the squeue is as it may
     /// be. Fails only for want of memory.
-    pub fn add(&mut self, mark: &Mark) -> Result<Option<u64>, AllocError>
+    pub fn add(&mut self, mark: &ReadMark) -> Result<Option<u64>, AllocError>
         ensures same { (self.new.run ≡ self.old.run) × (self.new.number ≡ self.old.number) }
-        ensures marked { IfOk result (λ o. (past : List MarkOf)
+        ensures marked { IfOk result (λ o. (past : List Mark)
             → Stands (setting_of self.old) (history_of self.old past) (squeue_of self.old)
-            → IsPrinted (mark_by mark.now.p mark.now.step mark.now.feeds.items)
-            → HasItsFeeds mark.now.step mark.now.feeds.items
+            → IsPrinted (mark_by mark.now.p mark.now.kind mark.now.feeds.items)
+            → HasItsFeeds mark.now.kind mark.now.feeds.items
             → MatchOption o
-            (Legal (setting_of self.old) (history_of self.old (past ++ mark_by mark.now.p mark.now.step mark.now.feeds.items ∷ [])) → ⊥)
-            (λ n. Stands (setting_of self.old) (history_of self.old (past ++ mark_by mark.now.p mark.now.step mark.now.feeds.items ∷ [])) (squeue_of self.new)
-            × (n ≡ feed_count (done_by (run (setting_of self.old) (history_of self.old past)) (mark_by mark.now.p mark.now.step mark.now.feeds.items))))) }
+            (Legal (setting_of self.old) (history_of self.old (past ++ mark_by mark.now.p mark.now.kind mark.now.feeds.items ∷ [])) → ⊥)
+            (λ n. Stands (setting_of self.old) (history_of self.old (past ++ mark_by mark.now.p mark.now.kind mark.now.feeds.items ∷ [])) (squeue_of self.new)
+            × (n ≡ feed_count (done_by (run (setting_of self.old) (history_of self.old past)) (mark_by mark.now.p mark.now.kind mark.now.feeds.items))))) }
     {
         let p = mark.p;
         let feeds = mark.feeds.as_slice();
-        match mark.step {
-            Step::Fill => Self::none_processed(self.fill(p, feeds)?),
-            Step::Fast => Self::none_processed(self.fast(p, feeds)?),
-            Step::Claim => Self::none_processed(self.claim(p, feeds)?),
-            Step::ClaimAsk => Self::none_processed(self.claim_ask(p)?),
-            Step::Take => self.take(p),
-            Step::Leave { rest, act } => self.leave(p, rest, act),
-            Step::Ask => Self::none_processed(self.ask(p)?),
-            Step::Grant { j, rest } => self.grant(p, j, rest),
-            Step::Accept => Self::none_processed(self.accept(p)),
-            Step::Work => Self::none_processed(self.work(p)),
-            Step::Close => Self::none_processed(self.close(p)),
+        match mark.kind {
+            Kind::Fill => Self::none_processed(self.fill(p, feeds)?),
+            Kind::Fast => Self::none_processed(self.fast(p, feeds)?),
+            Kind::Claim => Self::none_processed(self.claim(p, feeds)?),
+            Kind::ClaimAsk => Self::none_processed(self.claim_ask(p)?),
+            Kind::Take => self.take(p),
+            Kind::Leave { rest, act } => self.leave(p, rest, act),
+            Kind::Ask => Self::none_processed(self.ask(p)?),
+            Kind::Grant { j, rest } => self.grant(p, j, rest),
+            Kind::Accept => Self::none_processed(self.accept(p)),
+            Kind::Work => Self::none_processed(self.work(p)),
+            Kind::Close => Self::none_processed(self.close(p)),
         }
     }
 

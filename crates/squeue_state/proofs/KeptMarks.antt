@@ -9,12 +9,12 @@ use Rattle.perimeter_core.specs.History.{Limits, all_quotas}
 use Rattle.perimeter_core.proofs.OneMore.{entered_push}
 use Rattle.perimeter_core.proofs.Quotas.{entered_within}
 use Rattle.perimeter_core.proofs.HistoryLength.{length_bounded}
+use Rattle.perimeter_core.specs.Kinds.{mark_by}
 use Rattle.squeue_state.specs.Told.{Traced, marks_of}
 use Rattle.squeue_state.specs.Naming.{Given, setting_of}
 use Rattle.perimeter_core.specs.declared.entries.Feed.{Feed}
 use Rattle.perimeter_core.specs.declared.entries.Act.{Act}
-use Rattle.squeue_state.specs.declared.kind.Kind.{Kind}
-use Rattle.squeue_state.specs.Told.{mark_by}
+use Rattle.perimeter_core.specs.declared.marks.Kind.{Kind}
 use Rattle.squeue_state.specs.declared.guarded.Guarded.{Guarded}
 use Rattle.squeue_state.specs.Elements.{element_of}
 use Rattle.squeue_state.specs.Behind.{Noted}

@@ -10,7 +10,7 @@ use Rattle.perimeter_core.proofs.HistoryLength.{closed_flags}
 use Rattle.squeue_state.proofs.QueuedRoom.{queued_within}
 use Rattle.turn_gate.specs.Helds.{held_value, held_seen}
 use Rattle.turn_gate.specs.declared.held.Held.{Held}
-use Rattle.squeue_state.specs.declared.kind.Kind.{Kind}
+use Rattle.perimeter_core.specs.declared.marks.Kind.{Kind}
 use Rattle.squeue_state.specs.declared.inner.Inner.{Inner}
 use Rattle.squeue_state.specs.declared.guarded.Guarded.{Guarded}
 use Rattle.squeue_state.specs.Naming.{Given, Named, Turned, setting_of}

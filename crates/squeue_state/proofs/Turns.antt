@@ -13,7 +13,7 @@ use Rattle.turn_gate.specs.Helds.{held_value, held_seen, held_mine, held_number,
 use Rattle.turn_gate.specs.declared.held.Held.{Held}
 use Rattle.squeue_state.specs.declared.inner.Inner.{Inner}
 use Rattle.squeue_state.specs.declared.guarded.Guarded.{Guarded}
-use Rattle.squeue_state.specs.declared.kind.Kind.{Kind}
+use Rattle.perimeter_core.specs.declared.marks.Kind.{Kind}
 use Rattle.squeue_state.specs.Naming.{Given, Named, Turned}
 use Rattle.squeue_state.specs.Behind.{Behind, Noted, IsPeri, Lies}
 use Rattle.squeue_state.specs.Clauses.{IsTurnOf, turned_of, Marked}

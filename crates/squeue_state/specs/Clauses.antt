@@ -17,7 +17,7 @@ use Rattle.perimeter_core.specs.Ending.{IsOver}
 use Rattle.perimeter_core.specs.Blocks.{Blocks, peri, with_feeds, with_act}
 use Rattle.perimeter_core.specs.declared.entries.Entry.{Entry}
 use Rattle.perimeter_core.specs.declared.entries.Entry.TheVariants as Entry'
-use Rattle.squeue_state.specs.declared.kind.Kind.{Kind}
+use Rattle.perimeter_core.specs.declared.marks.Kind.{Kind}
 use Rattle.squeue_state.specs.Limits.{most_room}
 use Rattle.squeue_state.specs.declared.guarded.Guarded.{Guarded}
 use Rattle.squeue_state.specs.Naming.{Given, Named, Turned, Handed, setting_of}

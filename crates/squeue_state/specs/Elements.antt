@@ -1,12 +1,12 @@
 -- The elements that the calls of a squeue add.
-use Rattle.std.specs.Prelude.{ℕ, List, []}
+use Rattle.std.specs.Prelude.{ℕ, List, [], ◌∷◌}
 use Rattle.perimeter_core.specs.declared.entries.Feed.{Feed}
 use Rattle.perimeter_core.specs.declared.entries.Act.{Act}
 use Rattle.perimeter_core.specs.declared.marks.SynchAct.{SynchAct}
 use Rattle.perimeter_core.specs.History.{Element, pass_of}
-use Rattle.squeue_state.specs.declared.kind.Kind.{Kind}
-use Rattle.squeue_state.specs.declared.kind.Kind.TheVariants as Kind'
-use Rattle.squeue_state.specs.Told.{mark_by}
+use Rattle.perimeter_core.specs.declared.marks.Kind.{Kind}
+use Rattle.perimeter_core.specs.declared.marks.Kind.TheVariants as Kind'
+use Rattle.perimeter_core.specs.Kinds.{mark_by}
 
 abbrev pub number_of : Element → ℕ
 number_of e = pass_of e.mark
@@ -19,7 +19,7 @@ abbrev pub filled_by : ℕ → List Feed → Element
 filled_by p fs = element_of p Kind'.Fill fs []
 
 abbrev pub fast_by : ℕ → Feed → Element
-fast_by p f = element_of p (Kind'.Fast f.c f.n) [] []
+fast_by p f = element_of p Kind'.Fast (f ∷ []) []
 
 abbrev pub claimed_by : ℕ → List Feed → Element
 claimed_by p fs = element_of p Kind'.Claim fs []

@@ -4,26 +4,11 @@ use Rattle.perimeter_core.specs.declared.entries.Entry.{Entry}
 use Rattle.perimeter_core.specs.declared.entries.Entry.TheVariants as Entry'
 use Rattle.perimeter_core.specs.declared.marks.Mark.{Mark}
 use Rattle.perimeter_core.specs.declared.marks.Mark.TheVariants as On
-use Rattle.perimeter_core.specs.declared.entries.Feed.{Feed}
-use Rattle.perimeter_core.specs.Deeds.{entries, entries_of}
-use Rattle.squeue_state.specs.declared.kind.Kind.{Kind}
-use Rattle.squeue_state.specs.declared.kind.Kind.TheVariants as Kind'
+use Rattle.perimeter_core.specs.Deeds.{entries_of}
+use Rattle.perimeter_core.specs.declared.marks.Kind.{Kind}
+use Rattle.perimeter_core.specs.declared.marks.Kind.TheVariants as Kind'
 use Rattle.squeue_state.specs.declared.trace.TraceMark.{TraceMark}
 use Rattle.squeue_state.specs.declared.trace.TraceMark.TheVariants as Told
-
--- the mark that a turn leaves, by its pass, its kind and the feeds that it enters
-abbrev pub mark_by : ℕ → Kind → List Feed → Mark
-mark_by p Kind'.Fill fs = On.Fill p (entries fs)
-mark_by p (Kind'.Fast c n) fs = On.Fast p (Entry'.Feed c n)
-mark_by p Kind'.Claim fs = On.Claim p (entries fs)
-mark_by p Kind'.ClaimAsk fs = On.Claim p (Entry'.Ask p ∷ [])
-mark_by p Kind'.Take fs = On.Take p
-mark_by p (Kind'.Leave rest act) fs = On.Leave p rest act
-mark_by p Kind'.Ask fs = On.Ask p
-mark_by p (Kind'.Grant j rest) fs = On.Grant p j rest
-mark_by p Kind'.Accept fs = On.Accept p
-mark_by p Kind'.Work fs = On.Work p
-mark_by p Kind'.Close fs = On.Close p
 
 -- a trace keeps the entries that its mark names, and an Ask names none
 abbrev pub noted_entries : Kind → Mark → List Entry
@@ -33,7 +18,7 @@ noted_entries _ m = entries_of m
 -- the mark of this kind names no entry
 abbrev pub IsBare : Kind → Type 0
 IsBare Kind'.Fill = ⊥
-IsBare (Kind'.Fast c n) = ⊥
+IsBare Kind'.Fast = ⊥
 IsBare Kind'.Claim = ⊥
 IsBare Kind'.ClaimAsk = ⊥
 IsBare _ = Unit {0}

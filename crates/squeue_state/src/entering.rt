@@ -11,11 +11,10 @@ ghost use Rattle.squeue_state.specs.Clauses.{Marked, IsWhole};
 ghost use Rattle.turn_gate.specs.Passes.{seen};
 
 use crate::hand::{Hand, Taken};
-use crate::kind::Kind;
 use crate::release::end_turn;
 use crate::squeue::{Pass, Squeue};
 use crate::turn::Turn;
-use perimeter_core::{Feed, Resident};
+use perimeter_core::{Feed, Kind, Resident};
 use std::marker::Brand;
 
 impl<R: Resident> Squeue<R> {
@@ -56,8 +55,7 @@ impl<R: Resident> Squeue<R> {
         let Some(resident) = resident else {
             unreachable!()
         };
-        let kind = Kind::Fast { c: e.c, n: e.n };
-        let pass = end_turn::<R, Brand>(&self.gate, held, kind, &[]);
+        let pass = end_turn::<R, Brand>(&self.gate, held, Kind::Fast, &[e]);
         let taken = Taken::One(Some(e));
         (pass, resident, Hand { taken })
     }

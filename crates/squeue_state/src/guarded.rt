@@ -2,15 +2,14 @@
 ghost use Rattle.std.specs.Prelude.{◌≡◌, ◌+◌, ◌<◌, ◌≤◌, List, [], ◌∷◌, ◌++◌, length, true};
 ghost use Rattle.perimeter_core.specs.History.{Element};
 ghost use Rattle.perimeter_core.specs.Deeds.{entries_of};
-ghost use Rattle.squeue_state.specs.Told.{mark_by};
+ghost use Rattle.perimeter_core.specs.Kinds.{mark_by};
 ghost use Rattle.squeue_state.specs.Naming.{Given};
 ghost use Rattle.squeue_state.specs.Behind.{Noted};
 
 use crate::event::{Event, Facts};
 use crate::inner::Inner;
-use crate::kind::Kind;
 use crate::trace::Trace;
-use perimeter_core::{Feed, Known, Resident};
+use perimeter_core::{Feed, Kind, Known, Resident};
 use turn_gate::Storied;
 
 /// How many feeds and asks a pass may ever enter. Of a ring the feeds are those of all its connections.

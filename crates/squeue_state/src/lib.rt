@@ -13,7 +13,6 @@ mod event;
 mod guarded;
 mod hand;
 mod inner;
-mod kind;
 pub mod laws;
 mod owning;
 mod release;

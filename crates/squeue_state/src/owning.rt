@@ -15,11 +15,10 @@ ghost use Rattle.turn_gate.specs.Passes.{seen};
 
 use crate::event::Notes;
 use crate::hand::{Hand, Taken};
-use crate::kind::Kind;
 use crate::release::end_turn;
 use crate::squeue::{Pass, Squeue};
 use crate::turn::Turn;
-use perimeter_core::{Entry, Resident, SynchAct};
+use perimeter_core::{Entry, Kind, Resident, SynchAct};
 use std::marker::Brand;
 
 impl<R: Resident> Squeue<R> {
@@ -51,7 +50,7 @@ impl<R: Resident> Squeue<R> {
         ensures { Marked turn (left_by_pass turn.number (length hand.left) act N.note) result }
     {
         let Turn { mut held, of: _ } = turn;
-        let rest = hand.len();
+        let rest = hand.len() as u64;
         held.value().inner.leave(resident, hand, act);
         let wakes = held.get().inner.wake;
         let pass = end_turn::<R, N>(&self.gate, held, Kind::Leave { rest, act }, &[]);
@@ -77,7 +76,7 @@ impl<R: Resident> Squeue<R> {
             unreachable!()
         };
         hand.pass_first();
-        let rest = hand.len();
+        let rest = hand.len() as u64;
         held.value().inner.grant(resident, hand, j);
         let pass = end_turn::<R, Brand>(&self.gate, held, Kind::Grant { j, rest }, &[]);
         self.bells.of(j).ring();

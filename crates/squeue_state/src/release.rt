@@ -9,9 +9,8 @@ ghost use Rattle.squeue_state.specs.Elements.{number_of, element_of};
 
 use crate::event::{Event, Notes};
 use crate::guarded::Guarded;
-use crate::kind::Kind;
 use crate::squeue::Pass;
-use perimeter_core::{Feed, Resident};
+use perimeter_core::{Feed, Kind, Resident};
 use std::marker::Brand;
 use turn_gate::{Gate, Held, Names};
 

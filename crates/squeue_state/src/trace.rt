@@ -4,10 +4,10 @@ ghost use Rattle.std.specs.Prelude.{◌≡◌, ℕ, List, ◌+◌, ◌<◌, ◌�
 ghost use Rattle.perimeter_core.specs.declared.entries.Entry.{Entry};
 ghost use Rattle.perimeter_core.specs.Deeds.{entries, entries_of};
 ghost use Rattle.squeue_state.specs.declared.trace.TraceMark.{TraceMark};
-ghost use Rattle.squeue_state.specs.Told.{marks_of, mark_of, mark_by, noted_entries, IsBare, Within};
+ghost use Rattle.perimeter_core.specs.Kinds.{fast_entry, mark_by};
+ghost use Rattle.squeue_state.specs.Told.{marks_of, mark_of, noted_entries, IsBare, Within};
 
-use crate::kind::Kind;
-use perimeter_core::{Entry, Feed, SynchAct};
+use perimeter_core::{Entry, Feed, Kind, SynchAct};
 use std::alloc::{AllocError, Global};
 use std::marker::Model;
 
@@ -128,8 +128,8 @@ impl Trace {
                 self.enter_feeds(es);
                 TraceMark::Fill { p, first, len }
             }
-            Kind::Fast { c, n } => {
-                self.enter(Entry::Feed { c, n });
+            Kind::Fast => {
+                self.enter(fast_entry(p, es));
                 TraceMark::Fast { p, first }
             }
             Kind::Claim => {
@@ -157,6 +157,16 @@ impl Trace {
     }
 }
 
+// The one entry of a Fast.
+fn fast_entry(p: u32, es: &[Feed]) -> Entry
+    ensures { result ≡ fast_entry p es.now }
+{
+    match es {
+        [f, ..] => Entry::Feed { c: f.c, n: f.n },
+        [] => Entry::Ask { p },
+    }
+}
+
 // A mark that names no entry.
 fn bare(p: u32, kind: Kind) -> TraceMark
     requires { IsBare kind }
@@ -166,17 +176,9 @@ fn bare(p: u32, kind: Kind) -> TraceMark
 {
     match kind {
         Kind::Take => TraceMark::Take { p },
-        Kind::Leave { rest, act } => TraceMark::Leave {
-            p,
-            rest: rest as u64,
-            act,
-        },
+        Kind::Leave { rest, act } => TraceMark::Leave { p, rest, act },
         Kind::Ask => TraceMark::Ask { p },
-        Kind::Grant { j, rest } => TraceMark::Grant {
-            p,
-            j,
-            rest: rest as u64,
-        },
+        Kind::Grant { j, rest } => TraceMark::Grant { p, j, rest },
         Kind::Accept => TraceMark::Accept { j: p },
         Kind::Work => TraceMark::Work { p },
         Kind::Close => TraceMark::Close { p },

@@ -11,9 +11,10 @@ use Rattle.perimeter_core.specs.declared.marks.SynchAct.TheVariants as Done
 use Rattle.perimeter_core.specs.Deeds.{entries}
 use Rattle.squeue_report.specs.ReportText.{line, line_end}
 use Rattle.squeue_report.specs.TraceText.{entered_field, act_fields, mark_line}
-use Rattle.squeue_replay.specs.declared.marks.Step.{Step}
-use Rattle.squeue_replay.specs.declared.marks.Step.TheVariants as step
-use Rattle.squeue_replay.specs.Marks.{mark_by, AreFeeds, IsPrinted, IsPrintedAct, IsSmall}
+use Rattle.perimeter_core.specs.declared.marks.Kind.{Kind}
+use Rattle.perimeter_core.specs.declared.marks.Kind.TheVariants as Kind'
+use Rattle.perimeter_core.specs.Kinds.{mark_by}
+use Rattle.squeue_replay.specs.Marks.{AreFeeds, IsPrinted, IsPrintedAct, IsSmall}
 use Rattle.trace_lines.specs.Forms.{filled, blank_count, is_form, AreSmall}
 use Rattle.trace_lines.proofs.Numbers.{same_numbers, tail_same}
 use Rattle.trace_lines.proofs.Filled.{one_way}
@@ -147,58 +148,58 @@ never_claims p (inr e) = cc
 pub none_without_feeds : (text : List ℕ) → NoLine text (codes "take #\n") → NoLine text (codes "ask #\n") → NoLine text (codes "accept #\n") → NoLine text (codes "work #\n") → NoLine text (codes "close #\n") → NoLine text (codes "claim # ask\n")
     → ((p j left : ℕ) (rest : List ℕ) → IsPrinted (On.Grant p j left) → text ≡ mark_line (On.Grant p j left) ++ rest → ⊥)
     → ((p left : ℕ) (a : SynchAct) (rest : List ℕ) → IsPrinted (On.Leave p left a) → text ≡ mark_line (On.Leave p left a) ++ rest → ⊥)
-    → (p : ℕ) (s : Step) (rest : List ℕ) → IsPrinted (mark_by p s []) → text ≡ mark_line (mark_by p s []) ++ rest → ⊥
-none_without_feeds text a b c d f g grants leaves p step.Fill rest h e = h.1 refl
-none_without_feeds text a b c d f g grants leaves p step.Fast rest h e = h.1
-none_without_feeds text a b c d f g grants leaves p step.Claim rest h e = never_claims p h.1
-none_without_feeds text a b c d f g grants leaves p step.ClaimAsk rest h e = g p rest h.0 (e ∙ claim_ask_line p rest)
-none_without_feeds text a b c d f g grants leaves p step.Take rest h e = a p rest h (e ∙ take_line p rest)
-none_without_feeds text a b c d f g grants leaves p (step.Leave left act) rest h e = leaves p left act rest h e
-none_without_feeds text a b c d f g grants leaves p step.Ask rest h e = b p rest h (e ∙ ask_line p rest)
-none_without_feeds text a b c d f g grants leaves p (step.Grant j left) rest h e = grants p j left rest h e
-none_without_feeds text a b c d f g grants leaves p step.Accept rest h e = c p rest h (e ∙ accept_line p rest)
-none_without_feeds text a b c d f g grants leaves p step.Work rest h e = d p rest h (e ∙ work_line p rest)
-none_without_feeds text a b c d f g grants leaves p step.Close rest h e = f p rest h (e ∙ close_line p rest)
+    → (p : ℕ) (s : Kind) (rest : List ℕ) → IsPrinted (mark_by p s []) → text ≡ mark_line (mark_by p s []) ++ rest → ⊥
+none_without_feeds text a b c d f g grants leaves p Kind'.Fill rest h e = h.1 refl
+none_without_feeds text a b c d f g grants leaves p Kind'.Fast rest h e = h.1
+none_without_feeds text a b c d f g grants leaves p Kind'.Claim rest h e = never_claims p h.1
+none_without_feeds text a b c d f g grants leaves p Kind'.ClaimAsk rest h e = g p rest h.0 (e ∙ claim_ask_line p rest)
+none_without_feeds text a b c d f g grants leaves p Kind'.Take rest h e = a p rest h (e ∙ take_line p rest)
+none_without_feeds text a b c d f g grants leaves p (Kind'.Leave left act) rest h e = leaves p left act rest h e
+none_without_feeds text a b c d f g grants leaves p Kind'.Ask rest h e = b p rest h (e ∙ ask_line p rest)
+none_without_feeds text a b c d f g grants leaves p (Kind'.Grant j left) rest h e = grants p j left rest h e
+none_without_feeds text a b c d f g grants leaves p Kind'.Accept rest h e = c p rest h (e ∙ accept_line p rest)
+none_without_feeds text a b c d f g grants leaves p Kind'.Work rest h e = d p rest h (e ∙ work_line p rest)
+none_without_feeds text a b c d f g grants leaves p Kind'.Close rest h e = f p rest h (e ∙ close_line p rest)
 
 -- none of all marks
 abbrev pub NoFeeds : List ℕ → List ℕ → Type 0
 NoFeeds text form = (p : ℕ) (es : List Entry) (rest : List ℕ) → IsSmall p → es ≢ [] → AreFeeds es → text ≡ filled form (p ∷ []) ++ (line (map entered_field es) ++ rest) → ⊥
 
-no_claim : (text : List ℕ) → NoFeeds text (codes "claim # ") → ((p : ℕ) (s : Step) (rest : List ℕ) → IsPrinted (mark_by p s []) → text ≡ mark_line (mark_by p s []) ++ rest → ⊥)
+no_claim : (text : List ℕ) → NoFeeds text (codes "claim # ") → ((p : ℕ) (s : Kind) (rest : List ℕ) → IsPrinted (mark_by p s []) → text ≡ mark_line (mark_by p s []) ++ rest → ⊥)
     → (p : ℕ) (es : List Entry) (rest : List ℕ) → IsSmall p → ((es ≢ []) × AreFeeds es) ⊎ (es ≡ Ask p ∷ []) → text ≡ mark_line (On.Claim p es) ++ rest → ⊥
 no_claim text claims without p es rest small (inl h) e = claims p es rest small h.0 h.1 (e ∙ claim_line p es rest h.0)
-no_claim text claims without p es rest small (inr is) e = without p step.ClaimAsk rest (small, inr refl) (subst (λ l. text ≡ mark_line (On.Claim p l) ++ rest) is e)
+no_claim text claims without p es rest small (inr is) e = without p Kind'.ClaimAsk rest (small, inr refl) (subst (λ l. text ≡ mark_line (On.Claim p l) ++ rest) is e)
 
-pub no_mark : (text : List ℕ) → ((p : ℕ) (s : Step) (rest : List ℕ) → IsPrinted (mark_by p s []) → text ≡ mark_line (mark_by p s []) ++ rest → ⊥)
+pub no_mark : (text : List ℕ) → ((p : ℕ) (s : Kind) (rest : List ℕ) → IsPrinted (mark_by p s []) → text ≡ mark_line (mark_by p s []) ++ rest → ⊥)
     → ((p : ℕ) (e : Entry) (rest : List ℕ) → IsPrinted (On.Fast p e) → text ≡ mark_line (On.Fast p e) ++ rest → ⊥) → NoFeeds text (codes "fill # ") → NoFeeds text (codes "claim # ")
     → (m : Mark) (rest : List ℕ) → IsPrinted m → text ≡ mark_line m ++ rest → ⊥
 no_mark text without fast fills claims (On.Fill p es) rest h e = fills p es rest h.0 h.1 h.2 (e ∙ fill_line p es rest h.1)
 no_mark text without fast fills claims (On.Fast p x) rest h e = fast p x rest h e
 no_mark text without fast fills claims (On.Claim p es) rest h e = no_claim text claims without p es rest h.0 h.1 e
-no_mark text without fast fills claims (On.Take p) rest h e = without p step.Take rest h e
-no_mark text without fast fills claims (On.Leave p left act) rest h e = without p (step.Leave left act) rest h e
-no_mark text without fast fills claims (On.Ask p) rest h e = without p step.Ask rest h e
-no_mark text without fast fills claims (On.Grant p j left) rest h e = without p (step.Grant j left) rest h e
-no_mark text without fast fills claims (On.Accept p) rest h e = without p step.Accept rest h e
-no_mark text without fast fills claims (On.Work p) rest h e = without p step.Work rest h e
-no_mark text without fast fills claims (On.Close p) rest h e = without p step.Close rest h e
+no_mark text without fast fills claims (On.Take p) rest h e = without p Kind'.Take rest h e
+no_mark text without fast fills claims (On.Leave p left act) rest h e = without p (Kind'.Leave left act) rest h e
+no_mark text without fast fills claims (On.Ask p) rest h e = without p Kind'.Ask rest h e
+no_mark text without fast fills claims (On.Grant p j left) rest h e = without p (Kind'.Grant j left) rest h e
+no_mark text without fast fills claims (On.Accept p) rest h e = without p Kind'.Accept rest h e
+no_mark text without fast fills claims (On.Work p) rest h e = without p Kind'.Work rest h e
+no_mark text without fast fills claims (On.Close p) rest h e = without p Kind'.Close rest h e
 
 -- marks with feeds
 pub fill_found : (text rest : List ℕ) (p : ℕ) (fs : List FeedOf) → IsSmall p × (entries fs ≢ []) × AreFeeds (entries fs) × (text ≡ filled (codes "fill # ") (p ∷ []) ++ (line (map entered_field (entries fs)) ++ rest))
-    → IsPrinted (mark_by p step.Fill fs) × (text ≡ mark_line (mark_by p step.Fill fs) ++ rest)
+    → IsPrinted (mark_by p Kind'.Fill fs) × (text ≡ mark_line (mark_by p Kind'.Fill fs) ++ rest)
 fill_found text rest p fs h = ((h.0, h.1, h.2), h.3 ∙ sym (fill_line p (entries fs) rest h.1))
 
 pub claim_found : (text rest : List ℕ) (p : ℕ) (fs : List FeedOf) → IsSmall p × (entries fs ≢ []) × AreFeeds (entries fs) × (text ≡ filled (codes "claim # ") (p ∷ []) ++ (line (map entered_field (entries fs)) ++ rest))
-    → IsPrinted (mark_by p step.Claim fs) × (text ≡ mark_line (mark_by p step.Claim fs) ++ rest)
+    → IsPrinted (mark_by p Kind'.Claim fs) × (text ≡ mark_line (mark_by p Kind'.Claim fs) ++ rest)
 claim_found text rest p fs h = ((h.0, inl (h.1, h.2)), h.3 ∙ sym (claim_line p (entries fs) rest h.1))
 
-pub with_fill : (text rest : List ℕ) (p : ℕ) (s : Step) (fs : List FeedOf)
-    → IsSmall p × (s ≡ step.Fill) × (entries fs ≢ []) × AreFeeds (entries fs) × (text ≡ filled (codes "fill # ") (p ∷ []) ++ (line (map entered_field (entries fs)) ++ rest))
+pub with_fill : (text rest : List ℕ) (p : ℕ) (s : Kind) (fs : List FeedOf)
+    → IsSmall p × (s ≡ Kind'.Fill) × (entries fs ≢ []) × AreFeeds (entries fs) × (text ≡ filled (codes "fill # ") (p ∷ []) ++ (line (map entered_field (entries fs)) ++ rest))
     → IsPrinted (mark_by p s fs) × (text ≡ mark_line (mark_by p s fs) ++ rest)
 with_fill text rest p s fs h = subst (λ x. IsPrinted (mark_by p x fs) × (text ≡ mark_line (mark_by p x fs) ++ rest)) (sym h.1) (fill_found text rest p fs (h.0, h.2, h.3, h.4))
 
-pub with_claim : (text rest : List ℕ) (p : ℕ) (s : Step) (fs : List FeedOf)
-    → IsSmall p × (s ≡ step.Claim) × (entries fs ≢ []) × AreFeeds (entries fs) × (text ≡ filled (codes "claim # ") (p ∷ []) ++ (line (map entered_field (entries fs)) ++ rest))
+pub with_claim : (text rest : List ℕ) (p : ℕ) (s : Kind) (fs : List FeedOf)
+    → IsSmall p × (s ≡ Kind'.Claim) × (entries fs ≢ []) × AreFeeds (entries fs) × (text ≡ filled (codes "claim # ") (p ∷ []) ++ (line (map entered_field (entries fs)) ++ rest))
     → IsPrinted (mark_by p s fs) × (text ≡ mark_line (mark_by p s fs) ++ rest)
 with_claim text rest p s fs h = subst (λ x. IsPrinted (mark_by p x fs) × (text ≡ mark_line (mark_by p x fs) ++ rest)) (sym h.1) (claim_found text rest p fs (h.0, h.2, h.3, h.4))
 

@@ -2,7 +2,7 @@
 
 ghost use Rattle.std.specs.Prelude.{◌≡◌, ℕ, ◌^◌, ◌<◌, All, List, ◌++◌, IfOk, MatchOption, length, map};
 ghost use Rattle.std.specs.List.{enumerate_from, flat_map};
-ghost use Rattle.perimeter_core.specs.declared.marks.Mark.{Mark as MarkOf};
+ghost use Rattle.perimeter_core.specs.declared.marks.Mark.{Mark};
 ghost use Rattle.squeue_report.specs.ReportText.{done_line};
 ghost use Rattle.squeue_report.specs.TraceText.{mark_line, squeue_line, squeue_text};
 ghost use Rattle.trace_lines.specs.Printed.{ArePrintedMarks};
@@ -11,7 +11,7 @@ ghost use Rattle.squeue_replay.specs.Marks.{IsPrinted};
 use crate::fields::number_to;
 use crate::forms::lone_number;
 use crate::marks::read_mark;
-use squeue_replay::Mark;
+use squeue_replay::ReadMark;
 use std::alloc::{AllocError, Global};
 
 /// The mark lines of each squeue, by number, where the text is their headings with so many marks each, and then the last line.
@@ -31,11 +31,11 @@ use std::alloc::{AllocError, Global};
 /// ```
 pub fn histories(alloc: Global, text: &[u8], squeues: u32) -> Result<Option<Vec<&[u8]>>, AllocError>
     ensures { IfOk result (λ o. MatchOption o
-        ((marks : List (List MarkOf)) → ArePrintedMarks squeues marks → text.now ≡ flat_map squeue_text (enumerate_from 0 marks) ++ done_line → ⊥)
-        (λ v. (marks : List (List MarkOf)) × ArePrintedMarks squeues marks × (text.now ≡ flat_map squeue_text (enumerate_from 0 marks) ++ done_line)
+        ((marks : List (List Mark)) → ArePrintedMarks squeues marks → text.now ≡ flat_map squeue_text (enumerate_from 0 marks) ++ done_line → ⊥)
+        (λ v. (marks : List (List Mark)) × ArePrintedMarks squeues marks × (text.now ≡ flat_map squeue_text (enumerate_from 0 marks) ++ done_line)
         × (map (λ l. l.now) v.items ≡ map (flat_map mark_line) marks))) }
 {
-    let mut mark = Mark::make(alloc);
+    let mut mark = ReadMark::make(alloc);
     let mut found = Vec::with_capacity(alloc, squeues as usize)?;
     let mut rest = text;
     for q in 0..squeues {
@@ -76,13 +76,13 @@ fn heading(text: &[u8], q: u32) -> Option<(u64, &[u8])>
 
 /// What stands behind the lines of so many marks.
 fn behind_marks<'a>(
-    mark: &mut Mark,
+    mark: &mut ReadMark,
     text: &'a [u8],
     count: u64,
 ) -> Result<Option<&'a [u8]>, AllocError>
     ensures { IfOk result (λ o. MatchOption o
-        ((ms : List MarkOf) (rest : List ℕ) → All IsPrinted ms → length ms ≡ count → text.entry.now ≡ flat_map mark_line ms ++ rest → ⊥)
-        (λ rest. (ms : List MarkOf) × All IsPrinted ms × (length ms ≡ count) × (text.entry.now ≡ flat_map mark_line ms ++ rest.now))) }
+        ((ms : List Mark) (rest : List ℕ) → All IsPrinted ms → length ms ≡ count → text.entry.now ≡ flat_map mark_line ms ++ rest → ⊥)
+        (λ rest. (ms : List Mark) × All IsPrinted ms × (length ms ≡ count) × (text.entry.now ≡ flat_map mark_line ms ++ rest.now))) }
 {
     let mut rest = text;
     let mut left = count;

@@ -13,8 +13,6 @@ mod form;
 mod forms;
 mod heads;
 mod marks;
-#[cfg(test)]
-mod tests;
 
 pub use form::histories;
 pub use heads::{calls, setup_line};

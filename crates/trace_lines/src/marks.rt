@@ -2,48 +2,49 @@
 
 ghost use Rattle.std.specs.Prelude.{◌≡◌, ◌≢◌, ℕ, ◌<◌, true, List, [], ◌∷◌, ◌++◌, IfOk, MatchOption, map};
 ghost use Rattle.perimeter_core.specs.declared.entries.Entry.{Entry};
-ghost use Rattle.perimeter_core.specs.declared.marks.Mark.{Mark as MarkOf};
+ghost use Rattle.perimeter_core.specs.declared.marks.Mark.{Mark};
 ghost use Rattle.perimeter_core.specs.declared.marks.Mark.TheVariants as On;
 ghost use Rattle.perimeter_core.specs.declared.marks.SynchAct.{SynchAct as ActOf};
 ghost use Rattle.perimeter_core.specs.declared.marks.SynchAct.TheVariants as Done;
 ghost use Rattle.perimeter_core.specs.Deeds.{entries};
 ghost use Rattle.squeue_report.specs.ReportText.{line};
 ghost use Rattle.squeue_report.specs.TraceText.{act_fields, entered_field, mark_line};
-ghost use Rattle.squeue_replay.specs.declared.marks.Step.{Step as StepOf};
-ghost use Rattle.squeue_replay.specs.Marks.{mark_by, AreFeeds, HasItsFeeds, IsPrinted, IsPrintedAct, IsSmall};
+ghost use Rattle.perimeter_core.specs.declared.marks.Kind.{Kind as KindOf};
+ghost use Rattle.perimeter_core.specs.Kinds.{mark_by};
+ghost use Rattle.squeue_replay.specs.Marks.{AreFeeds, HasItsFeeds, IsPrinted, IsPrintedAct, IsSmall};
 ghost use Rattle.trace_lines.specs.Forms.{filled, is_form, blank_count};
 
 use crate::fields::number_to;
 use crate::forms::{behind_word, by_form, lone_number};
-use perimeter_core::{Feed, SynchAct};
-use squeue_replay::{Mark, Step};
+use perimeter_core::{Feed, Kind, SynchAct};
+use squeue_replay::ReadMark;
 use std::alloc::AllocError;
 
 /// The mark becomes the one whose line the text begins with; gives what stands behind it. `None` where there is no such line.
 /// Fails only for want of memory.
-pub fn read_mark<'a>(mark: &mut Mark, text: &'a [u8]) -> Result<Option<&'a [u8]>, AllocError>
+pub fn read_mark<'a>(mark: &mut ReadMark, text: &'a [u8]) -> Result<Option<&'a [u8]>, AllocError>
     ensures { IfOk result (λ o. MatchOption o
-        ((m : MarkOf) (rest : List ℕ) → IsPrinted m → text.entry.now ≡ mark_line m ++ rest → ⊥)
-        (λ rest. IsPrinted (mark_by mark.new.p mark.new.step mark.new.feeds.items)
-        × (text.entry.now ≡ mark_line (mark_by mark.new.p mark.new.step mark.new.feeds.items) ++ rest.now)
-        × HasItsFeeds mark.new.step mark.new.feeds.items)) }
+        ((m : Mark) (rest : List ℕ) → IsPrinted m → text.entry.now ≡ mark_line m ++ rest → ⊥)
+        (λ rest. IsPrinted (mark_by mark.new.p mark.new.kind mark.new.feeds.items)
+        × (text.entry.now ≡ mark_line (mark_by mark.new.p mark.new.kind mark.new.feeds.items) ++ rest.now)
+        × HasItsFeeds mark.new.kind mark.new.feeds.items)) }
 {
     mark.feeds.clear();
-    if let Some((p, step, rest)) = without_feeds(text) {
+    if let Some((p, kind, rest)) = without_feeds(text) {
         mark.p = p;
-        mark.step = step;
+        mark.kind = kind;
         return Ok(Some(rest));
     }
     if let Some((p, feed, rest)) = fast(text) {
         mark.p = p;
-        mark.step = Step::Fast;
+        mark.kind = Kind::Fast;
         mark.feeds.push(feed)?;
         return Ok(Some(rest));
     }
-    if let Some(rest) = with_feeds(mark, Step::Fill, text, b"fill # ")? {
+    if let Some(rest) = with_feeds(mark, Kind::Fill, text, b"fill # ")? {
         return Ok(Some(rest));
     }
-    let Some(rest) = with_feeds(mark, Step::Claim, text, b"claim # ")? else {
+    let Some(rest) = with_feeds(mark, Kind::Claim, text, b"claim # ")? else {
         return Ok(None);
     };
     Ok(Some(rest))
@@ -53,7 +54,7 @@ pub fn read_mark<'a>(mark: &mut Mark, text: &'a [u8]) -> Result<Option<&'a [u8]>
 fn fast(text: &[u8]) -> Option<(u32, Feed, &[u8])>
     ensures { MatchOption result
         ((p : ℕ) (e : Entry) (rest : List ℕ) → IsPrinted (On.Fast p e) → text.now ≡ mark_line (On.Fast p e) ++ rest → ⊥)
-        (λ r. IsPrinted (mark_by r.0 Step.Fast (r.1 ∷ [])) × (text.now ≡ mark_line (mark_by r.0 Step.Fast (r.1 ∷ [])) ++ r.2.now)) }
+        (λ r. IsPrinted (mark_by r.0 Kind.Fast (r.1 ∷ [])) × (text.now ≡ mark_line (mark_by r.0 Kind.Fast (r.1 ∷ [])) ++ r.2.now)) }
 {
     let Some(found) = by_form::<3>(text, b"fast # #.#\n") else {
         return None;
@@ -65,8 +66,8 @@ fn fast(text: &[u8]) -> Option<(u32, Feed, &[u8])>
 
 /// A mark behind whose pass its feeds stand, where the form says how its line begins.
 fn with_feeds<'a>(
-    mark: &mut Mark,
-    step: Step,
+    mark: &mut ReadMark,
+    kind: Kind,
     text: &'a [u8],
     form: &[u8],
 ) -> Result<Option<&'a [u8]>, AllocError>
@@ -75,14 +76,14 @@ fn with_feeds<'a>(
     ensures { IfOk result (λ o. MatchOption o
         ((p : ℕ) (es : List Entry) (rest : List ℕ) → IsSmall p → es ≢ [] → AreFeeds es
         → text.entry.now ≡ filled form.now (p ∷ []) ++ (line (map entered_field es) ++ rest) → ⊥)
-        (λ rest. IsSmall mark.new.p × (mark.new.step ≡ step) × (entries mark.new.feeds.items ≢ []) × AreFeeds (entries mark.new.feeds.items)
+        (λ rest. IsSmall mark.new.p × (mark.new.kind ≡ kind) × (entries mark.new.feeds.items ≢ []) × AreFeeds (entries mark.new.feeds.items)
         × (text.entry.now ≡ filled form.now (mark.new.p ∷ []) ++ (line (map entered_field (entries mark.new.feeds.items)) ++ rest.now)))) }
 {
     let Some((p, rest)) = lone_number(text, form) else {
         return Ok(None);
     };
     mark.p = p;
-    mark.step = step;
+    mark.kind = kind;
     let Some(others) = read_feeds(&mut mark.feeds, rest)? else {
         return Ok(None);
     };
@@ -129,34 +130,34 @@ fn feed<'a>(text: &'a [u8], form: &[u8]) -> Option<(Feed, &'a [u8])>
 }
 
 /// A mark that enters no feed.
-fn without_feeds(text: &[u8]) -> Option<(u32, Step, &[u8])>
+fn without_feeds(text: &[u8]) -> Option<(u32, Kind, &[u8])>
     ensures { MatchOption result
-        ((p : ℕ) (step : StepOf) (rest : List ℕ) → IsPrinted (mark_by p step []) → text.now ≡ mark_line (mark_by p step []) ++ rest → ⊥)
+        ((p : ℕ) (kind : KindOf) (rest : List ℕ) → IsPrinted (mark_by p kind []) → text.now ≡ mark_line (mark_by p kind []) ++ rest → ⊥)
         (λ r. IsPrinted (mark_by r.0 r.1 []) × (text.now ≡ mark_line (mark_by r.0 r.1 []) ++ r.2.now)) }
 {
     if let Some((p, rest)) = lone_number(text, b"take #\n") {
-        return Some((p, Step::Take, rest));
+        return Some((p, Kind::Take, rest));
     }
     if let Some((p, rest)) = lone_number(text, b"ask #\n") {
-        return Some((p, Step::Ask, rest));
+        return Some((p, Kind::Ask, rest));
     }
     if let Some((p, rest)) = lone_number(text, b"accept #\n") {
-        return Some((p, Step::Accept, rest));
+        return Some((p, Kind::Accept, rest));
     }
     if let Some((p, rest)) = lone_number(text, b"work #\n") {
-        return Some((p, Step::Work, rest));
+        return Some((p, Kind::Work, rest));
     }
     if let Some((p, rest)) = lone_number(text, b"close #\n") {
-        return Some((p, Step::Close, rest));
+        return Some((p, Kind::Close, rest));
     }
     if let Some((p, rest)) = lone_number(text, b"claim # ask\n") {
-        return Some((p, Step::ClaimAsk, rest));
+        return Some((p, Kind::ClaimAsk, rest));
     }
     if let Some((p, j, left, rest)) = grant(text) {
-        return Some((p, Step::Grant { j, rest: left }, rest));
+        return Some((p, Kind::Grant { j, rest: left }, rest));
     }
     if let Some((p, left, act, rest)) = leave(text) {
-        return Some((p, Step::Leave { rest: left, act }, rest));
+        return Some((p, Kind::Leave { rest: left, act }, rest));
     }
     None
 }

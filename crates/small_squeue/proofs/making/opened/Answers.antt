@@ -1,7 +1,8 @@
 use Rattle.std.proofs.Common.{[], ◌∷◌}
 use Rattle.std.proofs.lemmas.Result.{IfOk-weaker}
-use Rattle.perimeter_core.specs.Logging.{Stands, none_done}
-use Rattle.perimeter_core.proofs.LogSteps.{none_had}
+use Rattle.perimeter_core.specs.Blocks.{none_done}
+use Rattle.perimeter_trial.specs.Logging.{Stands}
+use Rattle.perimeter_core.proofs.ActLists.{none_had}
 use Rattle.small_squeue.proofs.NewLogs.{here_at}
 use Rattle.small_squeue.proofs.making.opened.Goals as goal
 

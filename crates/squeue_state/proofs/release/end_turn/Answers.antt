@@ -1,7 +1,7 @@
 use Rattle.std.proofs.Common.{◌≡◌, ◌++◌, ◌∷◌, [], ◌∙◌, ap, sym, subst}
 use Rattle.turn_gate.specs.Helds.{held_seen, held_value, held_number}
 use Rattle.turn_gate.specs.Gates.{first_of}
-use Rattle.squeue_state.specs.Told.{mark_by}
+use Rattle.perimeter_core.specs.Kinds.{mark_by}
 use Rattle.squeue_state.specs.declared.inner.Inner.{Inner}
 use Rattle.squeue_state.specs.declared.guarded.Guarded.{Guarded}
 use Rattle.squeue_state.specs.Behind.{Behind, Noted, given_of}

@@ -1,6 +1,6 @@
 use Rattle.std.proofs.Common.{◌≡◌, ℕ, Bool, true, List, replicate, ap, ◌∙◌, subst, arith}
 use Rattle.std.proofs.lemmas.Result.{IfOk-weaker}
-use Rattle.perimeter_core.specs.Logging.{none_done}
+use Rattle.perimeter_core.specs.Blocks.{none_done}
 use Rattle.placed_parts.specs.Standing.{PlacesStand}
 use Rattle.placed_parts.specs.Placing.{MayBe}
 use Rattle.placed_parts.proofs.PlaceSteps.{all_stand}

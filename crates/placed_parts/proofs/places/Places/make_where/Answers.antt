@@ -1,6 +1,6 @@
 use Rattle.std.proofs.Common.{◌≡◌, ℕ, Some, ◌∷◌, [], length, take, get_or, false, sym, subst, ◌∙◌, arith, length-append}
 use Rattle.std.proofs.lemmas.List.{take_more, length-take-le}
-use Rattle.perimeter_core.specs.Logging.{fresh}
+use Rattle.perimeter_core.specs.Blocks.{fresh}
 use Rattle.placed_parts.specs.Standing.{InOrder, OwnPart, PlaceAt}
 use Rattle.placed_parts.proofs.PlaceSteps.{first_stand}
 use Rattle.placed_parts.proofs.places.Places.make_where.Goals as goal

@@ -1,5 +1,5 @@
 use Rattle.std.proofs.Common.{◌≡◌, ◌≤◌, length, take, vec_capacity}
-use Rattle.perimeter_core.specs.Logging.{none_done}
+use Rattle.perimeter_core.specs.Blocks.{none_done}
 use Rattle.placed_parts.specs.Standing.{InOrder, OwnPart, PlacesStand}
 use Rattle.placed_parts.proofs.places.Places.make_where.Given as goal
 

@@ -1,5 +1,5 @@
 use Rattle.std.proofs.Common.{Some, ap, ◌∙◌}
-use Rattle.perimeter_core.proofs.LogSteps.{got}
+use Rattle.perimeter_core.proofs.ActLists.{got}
 use Rattle.placed_parts.specs.Placing.{MayBe}
 use Rattle.placed_parts.proofs.PlaceSteps.{call_stands, call_in_order, no_place}
 use Rattle.placed_parts.proofs.places.PlacesResident.call.Goals as goal

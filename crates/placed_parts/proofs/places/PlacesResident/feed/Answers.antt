@@ -1,5 +1,5 @@
 use Rattle.std.proofs.Common.{Some, ap, ◌∙◌}
-use Rattle.perimeter_core.proofs.LogSteps.{got, here_of_feeds}
+use Rattle.perimeter_core.proofs.ActLists.{got, here_of_feeds}
 use Rattle.placed_parts.specs.Standing.{HasFed, InOrder, PlacesStand}
 use Rattle.placed_parts.specs.Placing.{MayBe}
 use Rattle.placed_parts.proofs.PlaceSteps.{feed_stands, feed_in_order, had_feeds, no_place}

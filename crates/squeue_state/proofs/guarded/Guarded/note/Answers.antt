@@ -1,4 +1,4 @@
-use Rattle.squeue_state.specs.Told.{mark_by}
+use Rattle.perimeter_core.specs.Kinds.{mark_by}
 use Rattle.squeue_state.proofs.KeptMarks.{noted_one, noted_none}
 use Rattle.squeue_state.proofs.guarded.Guarded.note.Goals as goal
 

@@ -1,5 +1,6 @@
 use Rattle.std.proofs.Common.{◌≡◌, ◌∙◌, ◌++◌, ◌∷◌, [], ap, sym, subst, length}
-use Rattle.squeue_state.specs.Told.{Traced, Within, AllWithin, marks_of, mark_of, mark_by}
+use Rattle.perimeter_core.specs.Kinds.{mark_by}
+use Rattle.squeue_state.specs.Told.{Traced, Within, AllWithin, marks_of, mark_of}
 use Rattle.squeue_state.proofs.Marks.{all_push, marks_push}
 use Rattle.squeue_state.proofs.trace.Trace.note.Goals as goal
 

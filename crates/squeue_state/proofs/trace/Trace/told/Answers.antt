@@ -2,7 +2,8 @@ use Rattle.std.proofs.Common.{◌≤◌, ◌+◌, ◌++◌, ◌∙◌, ap, sym, 
 use Rattle.std.proofs.lemmas.List.{append-nil}
 use Rattle.perimeter_core.specs.declared.marks.Mark.TheVariants as On
 use Rattle.perimeter_core.specs.Deeds.{entries_of}
-use Rattle.squeue_state.specs.Told.{Traced, mark_by}
+use Rattle.perimeter_core.specs.Kinds.{mark_by}
+use Rattle.squeue_state.specs.Told.{Traced}
 use Rattle.squeue_state.proofs.Marks.{part_fits, part_there, part_within}
 use Rattle.squeue_state.proofs.trace.Trace.told.Goals as goal
 

@@ -1,7 +1,8 @@
 use Rattle.std.proofs.Common.{◌+◌, ◌<◌, length, Some, ap, refl, ◌∙◌, arith}
-use Rattle.perimeter_core.specs.Logging.{LogsStand}
-use Rattle.perimeter_core.proofs.LogSteps.{feed_stands, got, no_place, here_of_feeds}
-use Rattle.perimeter_core.proofs.logs.LogsResident.feed.Goals as goal
+use Rattle.perimeter_trial.specs.Logging.{LogsStand}
+use Rattle.perimeter_core.proofs.ActLists.{got, here_of_feeds}
+use Rattle.perimeter_trial.proofs.LogSteps.{feed_stands, no_place}
+use Rattle.perimeter_trial.proofs.logs.LogsResident.feed.Goals as goal
 
 pub returns-in-Some-clause-stands : goal.returns-in-Some-clause-stands
 returns-in-Some-clause-stands c blocks old =

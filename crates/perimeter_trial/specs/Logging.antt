@@ -1,8 +1,8 @@
 -- What the resident of logs stands for.
-use Rattle.std.specs.Prelude.{◌≡◌, ℕ, false, if◌then◌else◌, Bool, Option, Some, None, List, [], length, replicate, slice_get, slice_index_or}
+use Rattle.std.specs.Prelude.{◌≡◌, ℕ, false, Bool, Option, Some, None, List, length, replicate, slice_get, slice_index_or}
 use Rattle.perimeter_core.specs.declared.entries.Act.{Act}
-use Rattle.perimeter_core.specs.declared.logs.Log.{Log}
-use Rattle.perimeter_core.specs.declared.logs.Logs.{Logs}
+use Rattle.perimeter_trial.specs.declared.logs.Log.{Log}
+use Rattle.perimeter_trial.specs.declared.logs.Logs.{Logs}
 use Rattle.perimeter_core.specs.History.{Limits}
 use Rattle.perimeter_core.specs.Deeds.{feed_numbers}
 use Rattle.perimeter_core.specs.Blocks.{Blocks}
@@ -50,10 +50,3 @@ limits_of r =
       leaves = replicate (length r.logs.items) r.leaves;
       calls = r.calls.items;
     }
-
--- the connections with a flag are here, and nothing was done to them
-abbrev pub fresh : Bool → Option (List Act)
-fresh here = if here then Some [] else None
-
-abbrev pub none_done : List Bool → Blocks
-none_done starts c = fresh (slice_index_or starts c false)

@@ -1,5 +1,5 @@
 -- A log that goes on by one act.
-use Rattle.std.proofs.Common.{◌≡◌, ◌≢◌, ℕ, zero, suc, ◌+◌, ◌<◌, Bool, true, false, ◌==◌, inl, inr, Option, Some, None, is_some, get_or, List, [], ◌∷◌, ◌++◌, length, slice_get, slice_set, slice_index_or, refl, ap, sym, ◌∙◌, subst, arith}
+use Rattle.std.proofs.Common.{◌≡◌, ◌≢◌, ℕ, zero, suc, ◌+◌, ◌<◌, Bool, true, false, ◌==◌, inl, inr, Option, Some, None, List, [], ◌∷◌, ◌++◌, length, slice_get, slice_set, slice_index_or, refl, ap, sym, ◌∙◌, subst, arith}
 use Rattle.std.proofs.lemmas.List.{append-nil}
 use Rattle.std.proofs.lemmas.Bool.{cases_eq}
 use Rattle.std.proofs.lemmas.Bool.Decides.{nat_tests}
@@ -7,26 +7,14 @@ use Rattle.perimeter_core.specs.declared.entries.Act.{Act}
 use Rattle.perimeter_core.specs.declared.entries.Act.TheVariants as Did
 use Rattle.perimeter_core.specs.declared.entries.Entry.TheVariants as Entry'
 use Rattle.perimeter_core.specs.declared.marks.SynchAct.TheVariants as Done
-use Rattle.perimeter_core.specs.declared.logs.Log.{Log}
+use Rattle.perimeter_trial.specs.declared.logs.Log.{Log}
 use Rattle.perimeter_core.specs.Deeds.{fed, feed_numbers}
-use Rattle.perimeter_core.specs.Blocks.{Blocks, longer, with_feeds, with_act}
+use Rattle.perimeter_core.specs.Blocks.{Blocks, fresh, longer, none_done, with_feeds, with_act}
 use Rattle.perimeter_core.specs.Residing.{HadFeeds, Here}
-use Rattle.perimeter_core.specs.Backlog.{up}
-use Rattle.perimeter_core.specs.Logging.{IsLogOf, LogAt, LogsStand, fresh, none_done}
-use Rattle.perimeter_core.proofs.FeedLists.{length-up, up-append}
+use Rattle.perimeter_trial.specs.Logging.{IsLogOf, LogAt, LogsStand}
+use Rattle.perimeter_core.proofs.FeedLists.{length-up}
 use Rattle.perimeter_core.proofs.FeedActs.{longer_none}
-
-pub get_same : {A : Type 0} (xs : List A) (c : ℕ) (x : A) → c < length xs → slice_get (slice_set xs c x) c ≡ Some x
-get_same [] c x h = absurd (omega arith)
-get_same (y ∷ xs) zero x h = refl
-get_same (y ∷ xs) (suc c) x h = get_same xs c x (omega arith)
-
-pub get_other : {A : Type 0} (xs : List A) (c d : ℕ) (x : A) → c ≢ d → slice_get (slice_set xs c x) d ≡ slice_get xs d
-get_other [] c d x h = refl
-get_other (y ∷ xs) zero zero x h = absurd (h refl)
-get_other (y ∷ xs) zero (suc d) x h = refl
-get_other (y ∷ xs) (suc c) zero x h = refl
-get_other (y ∷ xs) (suc c) (suc d) x h = get_other xs c d x (λ e. h (ap suc e))
+use Rattle.perimeter_core.proofs.ActLists.{get_same, get_other, feed_numbers-append, fed_is, up_next, some_longer, got}
 
 -- one log is changed
 pub logs_set : (logs : List (Option Log)) (c : ℕ) (v : Option Log) (blocks next : Blocks) → c < length logs → LogsStand logs blocks → LogAt c (Some v) (next c)
@@ -36,19 +24,6 @@ logs_set logs c v blocks next lt old here others d =
       | inl e ↦ rw (← e, get_same logs c v lt) here
       | inr e ↦ rw (get_other logs c d v e, others d e) (old d)
     ]
-
-pub feed_numbers-append : (xs ys : List Act) → feed_numbers (xs ++ ys) ≡ feed_numbers xs ++ feed_numbers ys
-feed_numbers-append [] ys = refl
-feed_numbers-append (Did.Feed n ∷ xs) ys = ap (λ ns. n ∷ ns) (feed_numbers-append xs ys)
-feed_numbers-append (Did.Call j k ∷ xs) ys = feed_numbers-append xs ys
-
-pub fed_is : (xs : List Act) → fed xs ≡ length (feed_numbers xs)
-fed_is [] = refl
-fed_is (Did.Feed n ∷ xs) = omega (arith, fed_is xs)
-fed_is (Did.Call j k ∷ xs) = fed_is xs
-
-pub up_next : (n : ℕ) → up 0 n ++ n ∷ [] ≡ up 0 (n + 1)
-up_next n = let z : 0 + n ≡ n = omega arith in (rw z at (up-append 0 n 1))
 
 -- what the block of c was, by its log
 pub found : (c : ℕ) (o : Option (Option Log)) (b : Option (List Act)) (log : Log) → o ≡ Some (Some log) → LogAt c o b → (had : List Act) × (b ≡ Some had) × (log.c ≡ c) × IsLogOf log had
@@ -63,9 +38,6 @@ count_is log logs c n e h =
     let same : f.0 ≡ h.had = cc (f.1, h.here) in
     let numbers : length (feed_numbers f.0) ≡ log.fed = ap length f.3.feeds ∙ length-up 0 log.fed in
     sym numbers ∙ (sym (fed_is f.0) ∙ (ap fed same ∙ h.feeds))
-
-pub some_longer : (o : Option (List Act)) (had more : List Act) → o ≡ Some had → longer more o ≡ Some (had ++ more)
-some_longer o had more h = rw h refl
 
 pub feed_stands : (logs : List (Option Log)) (blocks : Blocks) (c n : ℕ) (log next : Log) → c < length logs → slice_get logs c ≡ Some (Some log) → HadFeeds (LogsStand logs) c n
     → next.c ≡ log.c → next.fed ≡ n + 1 → (next.short ≡ false → (log.short ≡ false) × (next.acts.items ≡ log.acts.items ++ Did.Feed n ∷ []))
@@ -113,32 +85,11 @@ log_there logs c h = go (slice_get logs c) refl (subst (λ (b : Option (List Act
     go (Some None) e l = absurd l
     go None e l = absurd l
 
--- what was read at an index
-pub got : {A : Type 0} (xs : List A) (c : ℕ) (x d : A) → c < length xs → x ≡ slice_index_or xs c d → slice_get xs c ≡ Some x
-got [] c x d lt h = absurd (omega arith)
-got (y ∷ xs) zero x d lt h = ap Some (sym h)
-got (y ∷ xs) (suc c) x d lt h = got xs c x d (omega arith) h
-
-pub here_of_feeds : (Stands : Blocks → Type 0) (c n : ℕ) → HadFeeds Stands c n → Here Stands c
-here_of_feeds Stands c n h = record { blocks = h.blocks; had = h.had; stands = h.stands; here = h.here }
-
 -- where the block is here, no place is empty
 pub no_place : (logs : List (Option Log)) (c : ℕ) (d x : Option Log) → c < length logs → Here (LogsStand logs) c → x ≡ slice_index_or logs c d → ((log : Log) → x ≡ Some log → ⊥) → ⊥
 no_place logs c d x lt h is none =
     let log = log_there logs c h in
     let at = got logs c x d lt is in none log.0 (cc (at, log.1))
-
--- to new blocks nothing was done
-fresh_empty : (b : Bool) (had : List Act) → fresh b ≡ Some had → had ≡ []
-fresh_empty true had h = cc h
-fresh_empty false had h = cc h
-
-pub none_had : (starts : List Bool) (c : ℕ) (had : List Act) → none_done starts c ≡ Some had → had ≡ []
-none_had starts c had h = fresh_empty (get_or starts c false) had h
-
-pub is_fresh : (b : Bool) → is_some (fresh b) ≡ b
-is_fresh true = refl
-is_fresh false = refl
 
 -- one more place
 pub first_at : (k : ℕ) (logs : List (Option Log)) (starts : List Bool) (place : Option Log) (here : Bool) → length logs ≡ length starts

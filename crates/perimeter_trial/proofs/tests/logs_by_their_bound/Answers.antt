@@ -1,6 +1,6 @@
 use Rattle.std.proofs.Common.{true, false, [], ◌∷◌, refl}
-use Rattle.perimeter_core.specs.Logging.{none_done}
-use Rattle.perimeter_core.proofs.tests.logs_by_their_bound.Goals as goal
+use Rattle.perimeter_core.specs.Blocks.{none_done}
+use Rattle.perimeter_trial.proofs.tests.logs_by_their_bound.Goals as goal
 
 pub each_call-requires-clause-fresh : goal.each_call-requires-clause-fresh
 each_call-requires-clause-fresh g c =

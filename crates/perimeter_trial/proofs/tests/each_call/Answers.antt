@@ -4,7 +4,7 @@ use Rattle.perimeter_core.specs.declared.entries.Entry.TheVariants as Entry'
 use Rattle.perimeter_core.specs.declared.marks.SynchAct.TheVariants as Done
 use Rattle.perimeter_core.specs.Blocks.{with_feeds, with_act}
 use Rattle.perimeter_core.proofs.OneBlock.{after_feed, after_call}
-use Rattle.perimeter_core.proofs.tests.each_call.Goals as goal
+use Rattle.perimeter_trial.proofs.tests.each_call.Goals as goal
 
 pub call-requires-clause-here : goal.call-requires-clause-here
 call-requires-clause-here g c =

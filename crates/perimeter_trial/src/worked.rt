@@ -3,12 +3,12 @@ ghost use Rattle.std.specs.Prelude.{◌≡◌, [], ◌∷◌, Some, None};
 ghost use Rattle.perimeter_core.specs.declared.entries.Entry.TheVariants.{Feed, Ask};
 ghost use Rattle.perimeter_core.specs.declared.marks.SynchAct.TheVariants as Done;
 ghost use Rattle.perimeter_core.specs.declared.marks.Mark.TheVariants as On;
-ghost use Rattle.perimeter_core.specs.History.{run};
+ghost use Rattle.perimeter_core.specs.History.{plain, run};
 ghost use Rattle.perimeter_core.specs.Deeds.{done, due, acts};
 ghost use Rattle.perimeter_core.specs.Legal.{May, Legal};
 ghost use Rattle.perimeter_core.specs.Blocks.{peri};
 ghost use Rattle.perimeter_core.specs.Ending.{IsOver};
-ghost use Rattle.perimeter_core.specs.Worked as W;
+ghost use Rattle.perimeter_trial.specs.Worked as W;
 
 /// Three rings fill and close, and the worker processes all five feeds in the order in which they were filled.
 pub fn three_passes_one_worker()
@@ -39,21 +39,21 @@ pub fn granted_call()
 
 /// What may not come next, one for each thing that a legal history asks of an element.
 pub fn what_may_not_follow()
-    ensures unknown_pass { ¬ May W.two_rings [] (W.plain (On.Close 4)) }
-    ensures worker_closes { ¬ May W.two_rings [] (W.plain (On.Close 3)) }
-    ensures closed_pass_enters { ¬ May W.two_rings (W.plain (On.Close 0) ∷ []) (W.plain (On.Fill 0 (Feed 0 0 ∷ []))) }
-    ensures ask_by_fill { ¬ May W.two_rings [] (W.plain (On.Fill 0 (Ask 0 ∷ []))) }
-    ensures other_ring { ¬ May W.two_rings [] (W.plain (On.Fill 1 (Feed 0 0 ∷ []))) }
-    ensures not_due { ¬ May W.two_rings [] (W.plain (On.Fill 0 (Feed 0 1 ∷ []))) }
-    ensures past_limit { ¬ May W.two_rings [] (W.plain (On.Fill 0 (Feed 0 0 ∷ Feed 0 1 ∷ Feed 0 2 ∷ []))) }
-    ensures past_quota { ¬ May W.two_rings [] (W.plain (On.Fill 1 (Feed 1 0 ∷ Feed 1 1 ∷ []))) }
-    ensures block_elsewhere { ¬ May W.new_home [] (W.plain (On.Fill 0 (Feed 0 0 ∷ []))) }
-    ensures ask_taken { ¬ May W.two_rings (W.plain (On.Claim 0 (Ask 0 ∷ [])) ∷ W.plain (On.Fill 1 (Feed 1 0 ∷ [])) ∷ []) (W.plain (On.Take 0)) }
-    ensures act_without_ask { ¬ May W.two_rings (W.plain (On.Fast 0 (Feed 0 0)) ∷ []) (W.plain (On.Leave 0 0 (Done.Out 0))) }
-    ensures no_such_call { ¬ May W.two_rings (W.plain (On.Claim 2 (Ask 2 ∷ [])) ∷ []) (W.plain (On.Leave 2 0 (Done.Call 0 0 1))) }
-    ensures ring_away { ¬ May W.two_rings (W.plain (On.Claim 0 (Ask 0 ∷ [])) ∷ []) (W.plain (On.Leave 0 0 Done.Away)) }
-    ensures may_not_leave { ¬ May W.two_rings (W.plain (On.Claim 1 (Ask 1 ∷ [])) ∷ []) (W.plain (On.Leave 1 0 (Done.Out 1))) }
-    ensures in_twice { ¬ May W.two_rings (W.plain (On.Claim 0 (Ask 0 ∷ [])) ∷ []) (W.plain (On.Leave 0 0 (Done.In 0))) }
-    ensures no_progress { ¬ May W.two_rings (W.plain (On.Claim 0 (Feed 0 0 ∷ [])) ∷ []) (W.plain (On.Leave 0 1 Done.None)) }
-    ensures idle_note { ¬ May W.two_rings (W.plain (On.Fast 0 (Feed 0 0)) ∷ []) (record { mark = On.Leave 0 0 Done.None; note = W.both_feeds }) }
+    ensures unknown_pass { ¬ May W.two_rings [] (plain (On.Close 4)) }
+    ensures worker_closes { ¬ May W.two_rings [] (plain (On.Close 3)) }
+    ensures closed_pass_enters { ¬ May W.two_rings (plain (On.Close 0) ∷ []) (plain (On.Fill 0 (Feed 0 0 ∷ []))) }
+    ensures ask_by_fill { ¬ May W.two_rings [] (plain (On.Fill 0 (Ask 0 ∷ []))) }
+    ensures other_ring { ¬ May W.two_rings [] (plain (On.Fill 1 (Feed 0 0 ∷ []))) }
+    ensures not_due { ¬ May W.two_rings [] (plain (On.Fill 0 (Feed 0 1 ∷ []))) }
+    ensures past_limit { ¬ May W.two_rings [] (plain (On.Fill 0 (Feed 0 0 ∷ Feed 0 1 ∷ Feed 0 2 ∷ []))) }
+    ensures past_quota { ¬ May W.two_rings [] (plain (On.Fill 1 (Feed 1 0 ∷ Feed 1 1 ∷ []))) }
+    ensures block_elsewhere { ¬ May W.new_home [] (plain (On.Fill 0 (Feed 0 0 ∷ []))) }
+    ensures ask_taken { ¬ May W.two_rings (plain (On.Claim 0 (Ask 0 ∷ [])) ∷ plain (On.Fill 1 (Feed 1 0 ∷ [])) ∷ []) (plain (On.Take 0)) }
+    ensures act_without_ask { ¬ May W.two_rings (plain (On.Fast 0 (Feed 0 0)) ∷ []) (plain (On.Leave 0 0 (Done.Out 0))) }
+    ensures no_such_call { ¬ May W.two_rings (plain (On.Claim 2 (Ask 2 ∷ [])) ∷ []) (plain (On.Leave 2 0 (Done.Call 0 0 1))) }
+    ensures ring_away { ¬ May W.two_rings (plain (On.Claim 0 (Ask 0 ∷ [])) ∷ []) (plain (On.Leave 0 0 Done.Away)) }
+    ensures may_not_leave { ¬ May W.two_rings (plain (On.Claim 1 (Ask 1 ∷ [])) ∷ []) (plain (On.Leave 1 0 (Done.Out 1))) }
+    ensures in_twice { ¬ May W.two_rings (plain (On.Claim 0 (Ask 0 ∷ [])) ∷ []) (plain (On.Leave 0 0 (Done.In 0))) }
+    ensures no_progress { ¬ May W.two_rings (plain (On.Claim 0 (Feed 0 0 ∷ [])) ∷ []) (plain (On.Leave 0 1 Done.None)) }
+    ensures idle_note { ¬ May W.two_rings (plain (On.Fast 0 (Feed 0 0)) ∷ []) (record { mark = On.Leave 0 0 Done.None; note = W.both_feeds }) }
 {}

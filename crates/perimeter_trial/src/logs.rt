@@ -1,8 +1,7 @@
-//! The plainest resident: the block of a connection is the list of its acts. Tests of this crate and of those above run on it.
+//! The plainest resident: the block of a connection is the list of its acts. Tests of this crate and of others run on it.
 ghost use Rattle.std.specs.Prelude.{◌≡◌, ◌+◌, ◌^◌, ◌<◌, ◌++◌, ◌∷◌, [], All, IfOk, length, option_map, replicate, false};
 
-use crate::entries::Act;
-use crate::resident::Resident;
+use perimeter_core::{Act, Resident};
 use std::alloc::{AllocError, Global};
 
 /// The block of connection `c`: the acts that were done to it, and how many of them are feeds. Where memory was missing for
@@ -16,7 +15,8 @@ pub struct Log {
 }
 
 impl Log {
-    ghost use Rattle.perimeter_core.specs.Logging.{LogAt, fresh, noted, is_short};
+    ghost use Rattle.perimeter_core.specs.Blocks.{fresh};
+    ghost use Rattle.perimeter_trial.specs.Logging.{LogAt, noted, is_short};
 
     // The log of the connection, if it is here, with no act yet.
     fn first(alloc: Global, c: u32, here: bool) -> Option<Log>
@@ -74,7 +74,8 @@ pub struct Logs {
 }
 
 impl Logs {
-    ghost use Rattle.perimeter_core.specs.Logging.{Stands, limits_of, size_of, log_of, none_done};
+    ghost use Rattle.perimeter_core.specs.Blocks.{none_done};
+    ghost use Rattle.perimeter_trial.specs.Logging.{Stands, limits_of, size_of, log_of};
 
     /// The connections that the flags name are here, and nothing was done to them. Fails only for want of memory.
     pub fn make(
@@ -114,8 +115,8 @@ impl Logs {
 }
 
 impl Resident for Logs {
-    ghost use Rattle.perimeter_core.specs.Logging.{Stands, IsLogOf, limits_of, size_of};
-    ghost use Rattle.perimeter_core.specs.LogLaws.{logs_in_range, logs_within, log_same_feeds, logs_same_feeds};
+    ghost use Rattle.perimeter_trial.specs.Logging.{Stands, IsLogOf, limits_of, size_of};
+    ghost use Rattle.perimeter_trial.specs.LogLaws.{logs_in_range, logs_within, log_same_feeds, logs_same_feeds};
 
     type Part = Log;
 

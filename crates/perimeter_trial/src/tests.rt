@@ -7,13 +7,8 @@ ghost use Rattle.perimeter_core.specs.declared.marks.SynchAct.TheVariants as Don
 ghost use Rattle.perimeter_core.specs.Blocks.{Blocks, with_feeds, with_act};
 ghost use Rattle.perimeter_core.specs.Residing.{HadFeeds};
 
-use crate::entries::{Act, Entry};
-use crate::few::Few;
-use crate::hook::{Hook, NoHook};
-use crate::logs::Logs;
-use crate::machine::Core;
-use crate::marks::{Mark, Own, SynchAct};
-use crate::resident::Resident;
+use crate::Logs;
+use perimeter_core::{Act, Core, Entry, Few, Hook, Mark, NoHook, Own, Resident, SynchAct};
 use std::alloc::Global;
 use std::process::Abort;
 use std::test::Fail;

@@ -3,12 +3,12 @@ use Rattle.std.specs.Prelude.{◌≡◌, ℕ, ◌<◌, Option, Some, None, List,
 use Rattle.std.proofs.Common.{ap, sym, ◌∙◌, refl, suc, zero, subst, arith}
 use Rattle.std.proofs.lemmas.List.{length-replicate}
 use Rattle.perimeter_core.specs.declared.entries.Act.{Act}
-use Rattle.perimeter_core.specs.declared.logs.Log.{Log}
-use Rattle.perimeter_core.specs.declared.logs.Logs.{Logs}
+use Rattle.perimeter_trial.specs.declared.logs.Log.{Log}
+use Rattle.perimeter_trial.specs.declared.logs.Logs.{Logs}
 use Rattle.perimeter_core.specs.Deeds.{feed_numbers}
 use Rattle.perimeter_core.specs.Blocks.{Blocks}
 use Rattle.perimeter_core.specs.Residing.{IsWithin, feeds_had, feeds_in}
-use Rattle.perimeter_core.specs.Logging.{IsLogOf, LogAt, Stands, limits_of}
+use Rattle.perimeter_trial.specs.Logging.{IsLogOf, LogAt, Stands, limits_of}
 
 pub log_same_feeds : (log : Log) (a b : List Act) → IsLogOf log a → IsLogOf log b → feed_numbers a ≡ feed_numbers b
 log_same_feeds log a b h k = h.feeds ∙ sym k.feeds

@@ -7,10 +7,9 @@ use Rattle.perimeter_core.specs.declared.entries.Entry.TheVariants.{Feed, Ask}
 use Rattle.perimeter_core.specs.declared.marks.Own.{Own}
 use Rattle.perimeter_core.specs.declared.marks.Own.TheVariants.{Free, Out, Granted}
 use Rattle.perimeter_core.specs.declared.marks.SynchAct.TheVariants as Done
-use Rattle.perimeter_core.specs.declared.marks.Mark.{Mark}
 use Rattle.perimeter_core.specs.declared.marks.Mark.TheVariants as On
 use Rattle.perimeter_core.specs.Perimeter.{State, after}
-use Rattle.perimeter_core.specs.History.{Element, Setting, start}
+use Rattle.perimeter_core.specs.History.{Element, Setting, plain, start}
 
 -- the state after each element of a history
 abbrev pub states_from : State → List Element → List State
@@ -20,10 +19,7 @@ states_from s (e ∷ H) = after s e.mark ∷ states_from (after s e.mark) H
 abbrev pub states : Setting → List Element → List State
 states S H = states_from (start S) H
 
--- an element without a note, and a state that doesn't poll
-abbrev pub plain : Mark → Element
-plain m = record { mark = m; note = [] }
-
+-- a state that doesn't poll
 abbrev pub quiet : Own → List Entry → List Entry → Bool → List Bool → List Bool → State
 quiet own chain hand wake here closed =
     record { own = own; chain = chain; hand = hand; wake = wake; polling = false; here = here; closed = closed }

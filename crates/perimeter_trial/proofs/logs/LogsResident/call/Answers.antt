@@ -1,6 +1,7 @@
 use Rattle.std.proofs.Common.{◌<◌, length, Some, ap, ◌∙◌, arith}
-use Rattle.perimeter_core.proofs.LogSteps.{call_stands, got, no_place}
-use Rattle.perimeter_core.proofs.logs.LogsResident.call.Goals as goal
+use Rattle.perimeter_core.proofs.ActLists.{got}
+use Rattle.perimeter_trial.proofs.LogSteps.{call_stands, no_place}
+use Rattle.perimeter_trial.proofs.logs.LogsResident.call.Goals as goal
 
 pub returns-in-Some-clause-stands : goal.returns-in-Some-clause-stands
 returns-in-Some-clause-stands c blocks old =

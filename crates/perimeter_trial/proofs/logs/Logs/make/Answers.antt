@@ -1,8 +1,9 @@
 use Rattle.std.proofs.Common.{◌≡◌, ℕ, Some, ◌∷◌, [], length, take, get_or, false, sym, subst, ◌∙◌, arith, length-append}
 use Rattle.std.proofs.lemmas.List.{take_more, length-take-le}
-use Rattle.perimeter_core.specs.Logging.{LogAt, fresh}
-use Rattle.perimeter_core.proofs.LogSteps.{first_stand}
-use Rattle.perimeter_core.proofs.logs.Logs.make.Goals as goal
+use Rattle.perimeter_core.specs.Blocks.{fresh}
+use Rattle.perimeter_trial.specs.Logging.{LogAt}
+use Rattle.perimeter_trial.proofs.LogSteps.{first_stand}
+use Rattle.perimeter_trial.proofs.logs.Logs.make.Goals as goal
 
 pub loop-c-preserved : goal.loop-c-preserved
 loop-c-preserved c =

@@ -1,0 +1,3 @@
+pub mod Logging
+pub mod LogLaws
+pub mod Worked
