@@ -5,8 +5,7 @@ use Rattle.perimeter_core.specs.declared.entries.Act.TheVariants as Did
 use Rattle.perimeter_core.specs.declared.entries.Entry.TheVariants.{Feed, Ask}
 use Rattle.perimeter_core.specs.declared.marks.SynchAct.TheVariants as Done
 use Rattle.perimeter_core.specs.declared.marks.Mark.TheVariants as On
-use Rattle.perimeter_core.specs.History.{Element, Setting}
-use Rattle.perimeter_core.specs.Worked.{plain}
+use Rattle.perimeter_core.specs.History.{Element, Setting, plain}
 use Rattle.squeue_state.specs.Naming.{Ending}
 
 -- There and back. Connection 0 is at squeue 0 at the start. There its ring enters feed 0, takes the block out, and later puts

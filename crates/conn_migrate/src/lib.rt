@@ -9,8 +9,6 @@
 
 pub mod laws;
 mod moving;
-#[cfg(test)]
-mod tests;
 pub mod worked;
 
 pub use moving::migrate;

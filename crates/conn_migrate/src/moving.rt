@@ -52,8 +52,23 @@ pub fn migrate<R: Resident, H: Hook, W: Wait>(
     ensures due { due (seen result.1) c ≡ due (seen result.0) c }
 {
     let (left, part) = take_from(rt, alloc, hook, a, pass_a, c);
-    let come = put_into::<R, Brand, H, W>(rt, alloc, hook, b, pass_b, c, part, hints, a, &left);
+    let taken = Taken {
+        from: a,
+        left: &left,
+        c,
+        part,
+    };
+    let come = put_into::<R, Brand, H, W>(rt, alloc, hook, b, pass_b, hints, taken);
     (left, come)
+}
+
+// The block of connection `c` on its way, with the squeue that it was taken from, and the pass that left there. From these two a
+// proof picks what the block has had, and a pick sees the call's arguments alone.
+struct Taken<'a, R: Resident> {
+    from: &'a Squeue<R>,
+    left: &'a Pass,
+    c: u32,
+    part: R::Part,
 }
 
 // Takes the block out, behind all that was queued for it, and leaves.
@@ -75,26 +90,28 @@ fn take_from<R: Resident, H: Hook, W: Wait>(
     (synch_exit::<R, Brand, W>(sq, rt, owner), part)
 }
 
-// Puts the block in, writes its hint, and leaves. `N` names what the part stands for. What that is made of is passed beside
-// it, since a pick sees the call's arguments alone.
+// Puts the block in, writes its hint, and leaves. `N` names what the part stands for.
 fn put_into<R: Resident, N: Notes, H: Hook, W: Wait>(
     rt: &W,
     alloc: Global,
     hook: &H,
     sq: &Squeue<R>,
     pass: Pass,
-    c: u32,
-    part: R::Part,
     hints: &Hints,
-    _from: &Squeue<R>,
-    _left: &Pass,
+    taken: Taken<'_, R>,
 ) -> Pass
-    requires may { MayCome R.limits sq.now c pass }
-    requires had { R.part_stands part N.note }
-    requires part { R.is_part_of (R.origin sq.now.given.first) c part }
-    requires hint { (c < conns_of hints.now) × (sq.now.given.number < squeues_of hints.now) }
-    ensures { Moved R.limits sq.now (Done.In c) N.note pass result }
+    requires may { MayCome R.limits sq.now taken.c pass }
+    requires had { R.part_stands taken.part N.note }
+    requires part { R.is_part_of (R.origin sq.now.given.first) taken.c taken.part }
+    requires hint { (taken.c < conns_of hints.now) × (sq.now.given.number < squeues_of hints.now) }
+    ensures { Moved R.limits sq.now (Done.In taken.entry.c) N.note pass result }
 {
+    let Taken {
+        from: _,
+        left: _,
+        c,
+        part,
+    } = taken;
     let mut arrived = synch_enter(sq, rt, alloc, hook, pass);
     put_block(&mut arrived, c, part);
     hints.set(c, sq.number());

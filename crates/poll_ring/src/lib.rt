@@ -23,8 +23,6 @@
 mod ends;
 mod ring;
 mod rule;
-#[cfg(test)]
-mod tests;
 
 pub use ends::{FeedEnd, PollEnd};
 pub use ring::Ring;

@@ -19,11 +19,11 @@ use Rattle.squeue_rings.specs.OwnMarks.{EachOwn, OfWorker}
 use Rattle.squeue_rings.proofs.OwnMarks.{worker_own}
 use Rattle.squeue_rings.proofs.PacedAll.{closed_paced}
 use Rattle.squeue_rings.proofs.Slots.{got_map}
-use Rattle.ring_jobs.specs.declared.lines.Line.{Line}
+use Rattle.ring_jobs.specs.declared.intake.Intake.{Intake}
 use Rattle.ring_jobs.specs.declared.task.Task.{Task}
 use Rattle.ring_jobs.specs.declared.task.Task.TheVariants as Task'
 use Rattle.ring_jobs.specs.Ends.{CallerEnds, CallersEnd, CallersKeep, RingEnds, RingsEnd, WorkerEnds}
-use Rattle.ring_jobs.specs.Running.{HasBroughtLine, HasDone, HaveDone, ThenClosed, called_by}
+use Rattle.ring_jobs.specs.Doing.{HasBroughtIntake, HasDone, HaveDone, ThenClosed, called_by}
 use Rattle.ring_jobs.specs.Tasks.{AreTasks, lists_of}
 use Rattle.ring_jobs.proofs.Closes.{both}
 use Rattle.ring_jobs.proofs.Closing.{callers_end, callers_keep, rings_end}
@@ -43,11 +43,11 @@ module _ {R : Type 0} (limits : R → Limits) where
   abbrev HasEnd : Named R → Pass Element → Type 0
   HasEnd s x = IsOver (setting_of limits s.given) (run (setting_of limits s.given) (seen x))
 
-  module _ (squeues spread : ℕ) (mode : Mode) (budget : ℕ) (calls : List (List ℕ)) (lines : List Line) (ss : List (Named R)) (jobs new : List (Job Task)) where
+  module _ (squeues spread : ℕ) (mode : Mode) (budget : ℕ) (calls : List (List ℕ)) (intakes : List Intake) (ss : List (Named R)) (jobs new : List (Job Task)) where
     abbrev Done : Task → List (Option (Pass Element)) → List (Option (Pass Element)) → Type 0
-    Done t old now = HasDone limits squeues spread mode budget calls lines ss t old now
+    Done t old now = HasDone limits squeues spread mode budget calls intakes ss t old now
 
-    module _ (rings callers count : ℕ) (all : rings + callers ≡ count) (many : length ss ≡ squeues) (tasks : AreTasks rings callers squeues lines (tasks_in jobs)) (lent : AreLent IsNew 1 count ss (lent_to jobs)) (same : length new ≡ length jobs) (ran : HaveDone limits squeues spread mode budget calls lines ss jobs new) where
+    module _ (rings callers count : ℕ) (all : rings + callers ≡ count) (many : length ss ≡ squeues) (tasks : AreTasks rings callers squeues intakes (tasks_in jobs)) (lent : AreLent IsNew 1 count ss (lent_to jobs)) (same : length new ≡ length jobs) (ran : HaveDone limits squeues spread mode budget calls intakes ss jobs new) where
       -- what the job of a task has done
       done : (k : ℕ) (t : Task) → k < length jobs → slice_get (tasks_in jobs) k ≡ Some t → Done t (lent_to jobs k) (lent_to new k)
       done k t lt at =
@@ -65,21 +65,21 @@ module _ {R : Type 0} (limits : R → Limits) where
           (subst (λ (os : List (Option (Pass Element))). Done t j.0.places.items os) (sym (lent_got new k n.0 n.1)) c)
 
       number_of_jobs : length jobs ≡ 1 + count + squeues
-      number_of_jobs = how_many rings callers count squeues all lines jobs tasks
+      number_of_jobs = how_many rings callers count squeues all intakes jobs tasks
 
-      line_done : (r : ℕ) → r < rings → ThenClosed limits ss (HasBroughtLine limits squeues spread mode budget lines ss r) (lent_to new (1 + r))
-      line_done r lt =
-          let t = ring_task rings callers count squeues all lines jobs tasks r lt in
+      intake_done : (r : ℕ) → r < rings → ThenClosed limits ss (HasBroughtIntake limits squeues spread mode budget intakes ss r) (lent_to new (1 + r))
+      intake_done r lt =
+          let t = ring_task rings callers count squeues all intakes jobs tasks r lt in
           let n = number_of_jobs in
-          subst (λ (k : ℕ). ThenClosed limits ss (HasBroughtLine limits squeues spread mode budget lines ss k) (lent_to new (1 + r))) t.4.number (done (1 + r) (Task'.Bring t.1) (omega (arith, lt, n, all)) t.3)
+          subst (λ (k : ℕ). ThenClosed limits ss (HasBroughtIntake limits squeues spread mode budget intakes ss k) (lent_to new (1 + r))) t.4.number (done (1 + r) (Task'.Bring t.1) (omega (arith, lt, n, all)) t.3)
 
-      -- by its passes each ring has brought its line
-      pub ring_done : (r : ℕ) → r < rings → RingsEnd limits squeues spread r (lists_of lines r) ss (lent_to new (1 + r))
-      ring_done r lt = let h = line_done r lt in rings_end limits ss h.0 (lent_to new (1 + r)) h.2 squeues spread r (lists_of lines r) h.1.at
+      -- by its passes each ring has brought its intake
+      pub ring_done : (r : ℕ) → r < rings → RingsEnd limits squeues spread r (lists_of intakes r) ss (lent_to new (1 + r))
+      ring_done r lt = let h = intake_done r lt in rings_end limits ss h.0 (lent_to new (1 + r)) h.2 squeues spread r (lists_of intakes r) h.1.at
 
       -- and kept the homes, the mode and the budget
       pub ring_paced : (r : ℕ) → r < rings → ArePaced limits squeues spread mode budget r ss (lent_to new (1 + r))
-      ring_paced r lt = let h = line_done r lt in closed_paced limits squeues spread mode budget r ss (lists_of lines r) (lists_of lines r) h.0 (lent_to new (1 + r)) h.1.at h.2 h.1.paced
+      ring_paced r lt = let h = intake_done r lt in closed_paced limits squeues spread mode budget r ss (lists_of intakes r) (lists_of intakes r) h.0 (lent_to new (1 + r)) h.1.at h.2 h.1.paced
 
       -- each application thread has made its calls
       pub caller_done : (j : ℕ) → j < callers → CallersEnd j (called_by calls j) ss (lent_to new (1 + (rings + j)))
@@ -99,7 +99,7 @@ module _ {R : Type 0} (limits : R → Limits) where
       worker_done q s at =
           let n = number_of_jobs in
           let lt : q < squeues = (let w = slice_get_within ss q s at in omega (arith, w, many)) in
-          let h = done (1 + count + q) (Task'.Work q) (omega (arith, lt, n)) (worker_task rings callers count squeues all lines jobs tasks q lt) in
+          let h = done (1 + count + q) (Task'.Drain q) (omega (arith, lt, n)) (worker_task rings callers count squeues all intakes jobs tasks q lt) in
           let first = lent.workers q s at in
           let i : Some h.0 ≡ Some s = sym h.3 ∙ at in
           let it : h.0 ≡ s = cc i in
@@ -119,7 +119,7 @@ module _ {R : Type 0} (limits : R → Limits) where
       worker_left q s at =
           let n = number_of_jobs in
           let lt : q < squeues = (let w = slice_get_within ss q s at in omega (arith, w, many)) in
-          let h = done (1 + count + q) (Task'.Work q) (omega (arith, lt, n)) (worker_task rings callers count squeues all lines jobs tasks q lt) in
+          let h = done (1 + count + q) (Task'.Drain q) (omega (arith, lt, n)) (worker_task rings callers count squeues all intakes jobs tasks q lt) in
           let first = lent.workers q s at in
           let i : Some h.0 ≡ Some s = sym h.3 ∙ at in
           let it : h.0 ≡ s = cc i in
@@ -148,8 +148,8 @@ module _ {R : Type 0} (limits : R → Limits) where
             counts = lent.counts;
             others = λ k lt. elim (cases_lt k rings) [
               | inl ring ↦
-                  both (λ (s : Named R). length s.given.quotas ≡ count) (λ s o. Holds (RingEnds limits squeues spread k (lists_of lines k) s) o) (λ s o. Holds (MayEnd limits k s) o)
-                  (λ s o e h. may_end s k o (RingEnds limits squeues spread k (lists_of lines k) s) (omega (arith, ring, e, all)) (λ x i. (i.pass, i.is_number)) h)
+                  both (λ (s : Named R). length s.given.quotas ≡ count) (λ s o. Holds (RingEnds limits squeues spread k (lists_of intakes k) s) o) (λ s o. Holds (MayEnd limits k s) o)
+                  (λ s o e h. may_end s k o (RingEnds limits squeues spread k (lists_of intakes k) s) (omega (arith, ring, e, all)) (λ x i. (i.pass, i.is_number)) h)
                   ss (lent_to new (1 + k)) lent.counts (ring_done k ring).each
               | inr past ↦
                   let j : ℕ = k - rings in
@@ -172,8 +172,8 @@ module _ {R : Type 0} (limits : R → Limits) where
               ss (lent_to new (1 + (rings + j))) (each_two (λ (s : Named R). s.given.rings ≡ rings) (λ (s : Named R). length s.given.quotas ≡ count) ss their_rings lent.counts) (caller_done j lt).each
 
   -- the same at equal numbers
-  pub at_pace : (calls : List (List ℕ)) (lines : List Line) (ss : List (Named R)) (jobs new : List (Job Task)) (m n : ℕ) (o : Mode) (k squeues spread : ℕ) (mode : Mode) (budget : ℕ) → m ≡ squeues → n ≡ spread → o ≡ mode → k ≡ budget
-      → HaveDone limits m n o k calls lines ss jobs new → HaveDone limits squeues spread mode budget calls lines ss jobs new
-  at_pace calls lines ss jobs new m n o k squeues spread mode budget a b u v h =
-      let Of : ℕ → ℕ → Mode → ℕ → Type 0 = λ m n o k. HaveDone limits m n o k calls lines ss jobs new in
+  pub at_pace : (calls : List (List ℕ)) (intakes : List Intake) (ss : List (Named R)) (jobs new : List (Job Task)) (m n : ℕ) (o : Mode) (k squeues spread : ℕ) (mode : Mode) (budget : ℕ) → m ≡ squeues → n ≡ spread → o ≡ mode → k ≡ budget
+      → HaveDone limits m n o k calls intakes ss jobs new → HaveDone limits squeues spread mode budget calls intakes ss jobs new
+  at_pace calls intakes ss jobs new m n o k squeues spread mode budget a b u v h =
+      let Of : ℕ → ℕ → Mode → ℕ → Type 0 = λ m n o k. HaveDone limits m n o k calls intakes ss jobs new in
       subst (Of squeues spread mode) v (subst (λ (o : Mode). Of squeues spread o k) u (subst (λ (n : ℕ). Of squeues n o k) b (subst (λ (m : ℕ). Of m n o k) a h)))

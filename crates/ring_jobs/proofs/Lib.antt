@@ -1,5 +1,5 @@
 pub mod Tasked
-pub mod Lined
+pub mod Intakes
 pub mod Fed
 pub mod Works
 pub mod Lends

@@ -18,40 +18,40 @@ use Rattle.squeue_rings.specs.Starts.{StartAtHome}
 use Rattle.squeue_rings.proofs.NewCallers.{new_callers}
 use Rattle.squeue_rings.proofs.Slots.{got_map}
 use Rattle.squeue_rings.proofs.Starting.{none_brought}
-use Rattle.ring_jobs.specs.declared.lines.Line.{Line}
+use Rattle.ring_jobs.specs.declared.intake.Intake.{Intake}
 use Rattle.ring_jobs.specs.declared.task.RingTask.{RingTask}
 use Rattle.ring_jobs.specs.declared.task.Task.{Task}
 use Rattle.ring_jobs.specs.declared.task.Task.TheVariants as Task'
-use Rattle.ring_jobs.specs.Running.{MayBringLine, MayCallAll, MayDo, MayDoAll, called_by}
+use Rattle.ring_jobs.specs.Doing.{MayBringIntake, MayCallAll, MayDo, MayDoAll, called_by}
 use Rattle.ring_jobs.specs.Tasks.{AreTasks, IsRingTask}
 use Rattle.ring_jobs.proofs.Closes.{both}
 use Rattle.ring_jobs.proofs.Works.{got_or}
 
 -- the jobs of so many rings, callers and squeues, by number
-module _ (rings callers count squeues : ℕ) (all : rings + callers ≡ count) (lines : List Line) (jobs : List (Job Task)) (tasks : AreTasks rings callers squeues lines (tasks_in jobs)) where
+module _ (rings callers count squeues : ℕ) (all : rings + callers ≡ count) (intakes : List Intake) (jobs : List (Job Task)) (tasks : AreTasks rings callers squeues intakes (tasks_in jobs)) where
   pub how_many : length jobs ≡ 1 + count + squeues
   how_many = let e = tasks.count in let m = length-map jobs (λ (j : Job Task). j.task) in omega (arith, e, m, all)
 
-  -- the task of a line's ring
-  pub ring_task : (r : ℕ) → r < rings → (l : Line) × (t : RingTask) × (slice_get lines r ≡ Some l) × (slice_get (tasks_in jobs) (1 + r) ≡ Some (Task'.Bring t)) × IsRingTask squeues r l t
-  ring_task r lt = let n = tasks.lines_are in let l = some_at lines r (omega (arith, lt, n)) in let t = tasks.rings_are r l.0 l.1 in (l.0, t.0, l.1, t.1, t.2)
+  -- the task of an intake's ring
+  pub ring_task : (r : ℕ) → r < rings → (l : Intake) × (t : RingTask) × (slice_get intakes r ≡ Some l) × (slice_get (tasks_in jobs) (1 + r) ≡ Some (Task'.Bring t)) × IsRingTask squeues r l t
+  ring_task r lt = let n = tasks.intakes_are in let l = some_at intakes r (omega (arith, lt, n)) in let t = tasks.rings_are r l.0 l.1 in (l.0, t.0, l.1, t.1, t.2)
 
-  pub worker_task : (q : ℕ) → q < squeues → slice_get (tasks_in jobs) (1 + count + q) ≡ Some (Task'.Work q)
+  pub worker_task : (q : ℕ) → q < squeues → slice_get (tasks_in jobs) (1 + count + q) ≡ Some (Task'.Drain q)
   worker_task q lt = ap (λ (n : ℕ). slice_get (tasks_in jobs) (1 + n + q)) (sym all) ∙ tasks.workers q lt
 
   module _ {R O : Type 0} (limits : R → Limits) (origin : R → O) (spread : ℕ) (calls : List (List ℕ)) (ss : List (Named R)) (one : AreOneRun origin squeues ss) (some : 1 ≤ squeues) (lent : AreLent IsNew 1 count ss (lent_to jobs))
-      (their_rings : Each (λ (s : Named R). s.given.rings ≡ rings) ss) (starts : StartAtHome limits squeues ss) (may_bring : (r : ℕ) (l : Line) → r < rings → slice_get lines r ≡ Some l → MayBringAll limits squeues spread r l.list.items ss)
+      (their_rings : Each (λ (s : Named R). s.given.rings ≡ rings) ss) (starts : StartAtHome limits squeues ss) (may_bring : (r : ℕ) (l : Intake) → r < rings → slice_get intakes r ≡ Some l → MayBringAll limits squeues spread r l.list.items ss)
       (few : callers ≤ length calls) (short : (j : ℕ) → length (called_by calls j) < 2 ^ 32) (may_make : (j : ℕ) → j < callers → MayMakeEach limits j (called_by calls j) ss) where
     abbrev May : Task → List (Option (Pass Element)) → Type 0
-    May t places = MayDo limits squeues spread calls lines ss t places
+    May t places = MayDo limits squeues spread calls intakes ss t places
 
-    ring_ready : (r : ℕ) (lt : r < rings) → MayBringLine limits squeues spread lines ss (ring_task r lt).1 (lent_to jobs (1 + r))
+    ring_ready : (r : ℕ) (lt : r < rings) → MayBringIntake limits squeues spread intakes ss (ring_task r lt).1 (lent_to jobs (1 + r))
     ring_ready r lt =
         let t = ring_task r lt in
         let places = lent_to jobs (1 + r) in
         record {
-          line = t.0;
-          is_line = ap (slice_get lines) t.4.number ∙ t.2;
+          intake = t.0;
+          is_intake = ap (slice_get intakes) t.4.number ∙ t.2;
           ring = tasks.have r t.0 t.2;
           task = subst (λ (k : ℕ). IsRingTask squeues k t.0 t.1) (sym t.4.number) t.4;
           may = subst (λ (k : ℕ). MayBringAll limits squeues spread k t.0.list.items ss) (sym t.4.number) (may_bring r t.0 lt t.2);
@@ -77,7 +77,7 @@ module _ (rings callers count squeues : ℕ) (all : rings + callers ≡ count) (
               (λ s o e h. subst (λ (k : ℕ). Holds (IsNew (k + j) s) o) (sym e) h) ss places their_rings (lent.others (rings + j) (omega (arith, lt, all))));
         }
 
-    worker_ready : (q : ℕ) → q < squeues → May (Task'.Work q) (lent_to jobs (1 + count + q))
+    worker_ready : (q : ℕ) → q < squeues → May (Task'.Drain q) (lent_to jobs (1 + count + q))
     worker_ready q lt =
         let n = one.count in
         let s = some_at ss q (omega (arith, lt, n)) in
@@ -107,10 +107,10 @@ module _ (rings callers count squeues : ℕ) (all : rings + callers ≡ count) (
               | inr end ↦
                   let n = how_many in
                   let lt : k - (1 + count) < squeues = omega (arith, end, within, n) in
-                  job_at k (1 + count + (k - (1 + count))) j (Task'.Work (k - (1 + count))) (omega (arith, end)) is (worker_task (k - (1 + count)) lt) (worker_ready (k - (1 + count)) lt)
+                  job_at k (1 + count + (k - (1 + count))) j (Task'.Drain (k - (1 + count))) (omega (arith, end)) is (worker_task (k - (1 + count)) lt) (worker_ready (k - (1 + count)) lt)
             ]
           ]
         ]
 
-    pub all_ready : MayDoAll limits squeues spread calls lines ss jobs
+    pub all_ready : MayDoAll limits squeues spread calls intakes ss jobs
     all_ready k d lt = let j = some_at jobs k lt in subst (λ (i : Job Task). May i.task i.places.items) (sym (got_or jobs k j.0 d j.1)) (ready k j.0 lt j.1)

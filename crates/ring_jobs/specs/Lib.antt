@@ -1,3 +1,3 @@
 pub mod Tasks
-pub mod Running
+pub mod Doing
 pub mod Ends

@@ -2,21 +2,21 @@
 ghost use Rattle.std.specs.Prelude.{◌≡◌, IfOk, length, map};
 ghost use Rattle.ring_jobs.specs.Tasks.{AreEnds, AreRingTasks, AreTasks, AreUnused, HaveRings};
 
-use crate::lines::{Ends, Line};
+use crate::intake::{Ends, Intake};
 use poll_ring::{FeedEnd, PollEnd};
 use std::alloc::{AllocError, Global};
 
 /// How many jobs stand before those that are lent passes by number: the feeder's.
 pub const FRONT: usize = 1;
 
-/// The feeder puts the numbers of all lines; a ring brings the feeds of its line; a caller makes the calls of its application
+/// The feeder puts the numbers of all intakes; a ring brings the feeds of its intake; a caller makes the calls of its application
 /// thread; a worker works its squeue to its end.
 #[derive(Drop)]
 pub enum Task {
     Feed(Vec<Option<FeedEnd>>),
     Bring(RingTask),
     Call(u32),
-    Work(u32),
+    Drain(u32),
 }
 
 /// A ring: its number, its end of the receive ring, and for each squeue whether chains are to be brought there.
@@ -27,28 +27,28 @@ pub struct RingTask {
     pub polling: Vec<bool>,
 }
 
-// What comes in by the rings: their lines, the feeder's ends, and the rings' tasks.
+// What comes in by the rings: their intakes, the feeder's ends, and the rings' tasks.
 #[derive(Drop)]
 struct Rings {
-    lines: Vec<Line>,
+    intakes: Vec<Intake>,
     ends: Vec<Option<FeedEnd>>,
     tasks: Vec<Task>,
 }
 
-/// The lines of the rings, and the tasks of a run with so many callers and squeues: the feeder's, the rings', the callers', the
+/// The intakes of the rings, and the tasks of a run with so many callers and squeues: the feeder's, the rings', the callers', the
 /// workers'. Fails only for want of memory.
 pub fn tasks_of(
     alloc: Global,
     rings: Vec<Ends>,
     callers: u32,
     squeues: u32,
-) -> Result<(Vec<Line>, Vec<Task>), AllocError>
+) -> Result<(Vec<Intake>, Vec<Task>), AllocError>
     requires { AreUnused rings.items }
-    ensures lines { IfOk result (λ r. r.0.items ≡ map (λ e. e.line) rings.items) }
+    ensures intakes { IfOk result (λ r. r.0.items ≡ map (λ e. e.intake) rings.items) }
     ensures tasks { IfOk result (λ r. AreTasks (length rings.items) callers squeues r.0.items r.1.items) }
 {
     let Rings {
-        lines,
+        intakes,
         ends,
         tasks: bringing,
     } = take_apart(alloc, rings, squeues)?;
@@ -60,29 +60,29 @@ pub fn tasks_of(
         tasks.push(Task::Call(thread))?;
     }
     for q in 0..squeues {
-        tasks.push(Task::Work(q))?;
+        tasks.push(Task::Drain(q))?;
     }
-    Ok((lines, tasks))
+    Ok((intakes, tasks))
 }
 
-// The lines, the feeder's ends, and a task for each ring.
+// The intakes, the feeder's ends, and a task for each ring.
 fn take_apart(alloc: Global, rings: Vec<Ends>, squeues: u32) -> Result<Rings, AllocError>
     requires { AreUnused rings.items }
-    ensures lines { IfOk result (λ r. r.lines.items ≡ map (λ e. e.line) rings.items) }
-    ensures have { IfOk result (λ r. HaveRings r.lines.items) }
-    ensures ends { IfOk result (λ r. AreEnds r.lines.items r.ends.items) }
-    ensures tasks { IfOk result (λ r. AreRingTasks squeues r.lines.items r.tasks.items) }
+    ensures intakes { IfOk result (λ r. r.intakes.items ≡ map (λ e. e.intake) rings.items) }
+    ensures have { IfOk result (λ r. HaveRings r.intakes.items) }
+    ensures ends { IfOk result (λ r. AreEnds r.intakes.items r.ends.items) }
+    ensures tasks { IfOk result (λ r. AreRingTasks squeues r.intakes.items r.tasks.items) }
 {
     let mut rings = rings;
-    let mut lines = Vec::new(alloc);
+    let mut intakes = Vec::new(alloc);
     let mut ends = Vec::new(alloc);
     let mut tasks = Vec::new(alloc);
     rings.reverse();
     while let Some(ring) = rings.pop() {
-        let Ends { line, feed, poll } = ring;
-        let number = lines.len();
+        let Ends { intake, feed, poll } = ring;
+        let number = intakes.len();
         let polling = vec![in alloc; false; squeues as usize]?;
-        lines.push(line)?;
+        intakes.push(intake)?;
         ends.push(feed)?;
         tasks.push(Task::Bring(RingTask {
             number,
@@ -90,5 +90,9 @@ fn take_apart(alloc: Global, rings: Vec<Ends>, squeues: u32) -> Result<Rings, Al
             polling,
         }))?;
     }
-    Ok(Rings { lines, ends, tasks })
+    Ok(Rings {
+        intakes,
+        ends,
+        tasks,
+    })
 }

@@ -13,7 +13,4 @@ mod shares;
 
 pub use quotas::{CALLERS, marks_most, quotas_at};
 pub use setup::Setup;
-pub use shares::leaving;
-
-#[cfg(test)]
-mod tests;
+pub use shares::{coming, feeds, leaving};

@@ -32,7 +32,7 @@ pub fn leaving(homes: Homes, c: u32, items: u32, q: u32) -> u32
 }
 
 /// How often it comes to squeue `q`.
-pub(crate) fn coming(homes: Homes, c: u32, items: u32, q: u32) -> u32
+pub fn coming(homes: Homes, c: u32, items: u32, q: u32) -> u32
     requires squeue { q < homes.squeues }
     requires few { homes.squeues ≤ most_squeues }
     requires items { (0 < items) × (items ≤ most_items) }
@@ -43,7 +43,7 @@ pub(crate) fn coming(homes: Homes, c: u32, items: u32, q: u32) -> u32
 }
 
 /// How many of its feeds are at home at squeue `q`.
-pub(crate) fn feeds(homes: Homes, c: u32, items: u32, q: u32) -> u32
+pub fn feeds(homes: Homes, c: u32, items: u32, q: u32) -> u32
     requires squeue { q < homes.squeues }
     requires few { homes.squeues ≤ most_squeues }
     requires items { (0 < items) × (items ≤ most_items) }

@@ -8,7 +8,7 @@ use Rattle.squeue_state.specs.Naming.{Named}
 use Rattle.placed_parts.specs.Standing.{first_here}
 use Rattle.squeue_serve.proofs.Lent.{some_at}
 use Rattle.squeue_rings.specs.Calling.{MayMake}
-use Rattle.ring_jobs.specs.Running.{called_by}
+use Rattle.ring_jobs.specs.Doing.{called_by}
 use Rattle.ring_jobs.proofs.Works.{got_or}
 use Rattle.squeue_pool.specs.declared.pool.Pool.{Pool}
 use Rattle.squeue_pool.specs.Works as Pooled

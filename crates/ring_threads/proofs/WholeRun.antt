@@ -35,7 +35,7 @@ use Rattle.conn_blocks.specs.ServeOrder.{BlockOf, ConnectionOf, OriginOf, serve,
 use Rattle.conn_blocks.proofs.Conns.{conns_of_thread}
 use Rattle.ring_quotas.proofs.Totals.{whole}
 use Rattle.run_histories.proofs.AllActs.{are_all}
-use Rattle.run_histories.proofs.Called.{calls_of_all}
+use Rattle.called_acts.proofs.Called.{calls_of_all}
 use Rattle.run_histories.proofs.Ends.{numbered}
 use Rattle.ring_threads.specs.Fits.{HistoryFits, IsHereOnce}
 use Rattle.ring_threads.specs.Served.{HasServed, ServedOf}

@@ -1,18 +1,15 @@
 //! Who serves the connections of a plan: threads over squeues.
 //!
-//! `serving` makes all that a run needs, runs its threads, and hands back what was served. `lists` has what comes in by each ring,
-//! `making` the setup and the work of the run, `served` what is handed out.
+//! `all_conns` makes all that a run needs, runs its threads, and hands back what was served. `ring_lists` has what comes in by each ring,
+//! `plan_work` the setup and the work of the run, `served` what is handed out.
 //! The run itself is that of `squeue_pool`; where connections are at home and how much each pass may enter is in `ring_quotas`.
 #![tactic(auto)]
 
-mod lists;
-mod making;
+mod all_conns;
+mod plan_work;
+mod ring_lists;
 mod served;
-mod serving;
 
+pub use all_conns::serve;
 pub use ring_quotas::{Setup, marks_most};
 pub use served::Served;
-pub use serving::serve;
-
-#[cfg(test)]
-mod tests;

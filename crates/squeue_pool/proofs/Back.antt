@@ -13,7 +13,7 @@ use Rattle.squeue_serve.proofs.Lent.{get_end}
 use Rattle.squeue_serve.proofs.Unused.{each_at}
 use Rattle.ring_jobs.proofs.ComesBack.{AreBack, all_came, came_knows, each_behind, none_came, one_came}
 use Rattle.squeue_pool.specs.declared.work.Left.{Left}
-use Rattle.squeue_pool.specs.Gathering.{HaveLeft, Leaves}
+use Rattle.squeue_pool.specs.Leftovers.{HaveLeft, Leaves}
 
 -- a worker before isn't among those that hold passes of squeue q
 not_held : (front count q k p : ℕ) → k < q → p ≤ count → front + count + k ≢ holder front count q p

@@ -1,5 +1,5 @@
 -- Work by key suits the squeues, and when it is done each connection has had all its feeds.
-use Rattle.std.proofs.Common.{◌≡◌, ℕ, ◌+◌, ◌%◌, ◌<◌, ◌≤◌, ◌^◌, ◌==◌, zero, suc, Bool, true, if◌then◌else◌, Option, Some, None, List, [], length, map, sum, slice_get, slice_index, slice_index_or, refl, ap, sym, ◌∙◌, subst, arith}
+use Rattle.std.proofs.Common.{◌≡◌, ℕ, ◌+◌, ◌%◌, ◌<◌, ◌≤◌, ◌^◌, ◌==◌, zero, suc, Bool, true, if◌then◌else◌, Some, None, List, [], length, map, sum, slice_get, slice_index, slice_index_or, refl, ap, sym, ◌∙◌, subst, arith}
 use Rattle.std.specs.Prelude.{All, Vec}
 use Rattle.std.specs.List.{range_with_len}
 use Rattle.std.specs.declared.alloc.Global.{Global}
@@ -8,12 +8,11 @@ use Rattle.std.proofs.lemmas.List.FromFn.{length-map-range_with_len}
 use Rattle.std.proofs.lemmas.Option.{slice_get_within}
 use Rattle.std.proofs.Math.Nat.{mod-lt}
 use Rattle.turn_gate.specs.History.{Each}
-use Rattle.perimeter_core.specs.declared.entries.Act.{Act}
 use Rattle.perimeter_core.specs.declared.entries.Feed.{Feed}
 use Rattle.perimeter_core.specs.declared.resident.Resident.{Ghosts}
 use Rattle.perimeter_core.specs.Blocks.{peri}
 use Rattle.perimeter_core.specs.Deeds.{acts, fed}
-use Rattle.perimeter_core.specs.History.{Limits, Setting, feed_quotas, run}
+use Rattle.perimeter_core.specs.History.{Setting, feed_quotas, run}
 use Rattle.perimeter_core.specs.Perimeter.{is_here}
 use Rattle.perimeter_core.specs.Residing.{HadFeeds}
 use Rattle.placed_parts.specs.Standing.{first_here}
@@ -30,9 +29,9 @@ use Rattle.feed_lists.proofs.RingLists.{has_all}
 use Rattle.squeue_pool.specs.declared.pool.Pool.{Pool}
 use Rattle.squeue_pool.specs.declared.work.Left.{Left}
 use Rattle.squeue_pool.specs.declared.work.Work.{Work}
-use Rattle.squeue_pool.specs.Keys.{HadAll, HaveKeys, key_lists, key_quotas, key_work, quotas_at}
+use Rattle.squeue_pool.specs.Keys.{HaveKeys, key_lists, key_quotas, key_work, quotas_at}
 use Rattle.squeue_pool.specs.Runs.{HasRun, IsHereOnce, ends_of, list_for}
-use Rattle.squeue_pool.specs.Works.{IsFor, SuitSqueues, Suits, SuitsSqueue, WorkOf, work_of}
+use Rattle.squeue_pool.specs.Works.{IsFor, Suits, SuitsSqueue, WorkOf, work_of}
 use Rattle.squeue_pool.proofs.KeyLists.{few_quotas, no_asks, short_list}
 use Rattle.squeue_pool.proofs.Made.{number_at}
 use Rattle.squeue_pool.proofs.Suffices.{in_order, none_come, none_leave, none_left_by, own, within}

@@ -1,5 +1,5 @@
 pub mod Back
-pub mod LinesOf
+pub mod IntakesOf
 pub mod Made
 pub mod Ready
 pub mod Whole

@@ -1,5 +1,5 @@
 -- The residents of parts that are served by key.
-use Rattle.std.proofs.Common.{◌≡◌, ℕ, ◌+◌, ◌%◌, ◌<◌, ◌≤◌, ◌==◌, ◌&&◌, zero, suc, Bool, true, false, Option, Some, None, Result, Ok, Err, List, [], ◌∷◌, ◌++◌, length, length-append, map, nat_lt, slice_get, slice_index, slice_index_or, refl, ap, sym, ◌∙◌, subst, arith}
+use Rattle.std.proofs.Common.{◌≡◌, ℕ, ◌+◌, ◌%◌, ◌<◌, ◌≤◌, ◌==◌, ◌&&◌, zero, suc, Bool, true, false, Option, Some, Result, Ok, Err, List, [], ◌∷◌, ◌++◌, length, length-append, map, nat_lt, slice_get, slice_index, slice_index_or, refl, ap, sym, ◌∙◌, subst, arith}
 use Rattle.std.specs.Prelude.{IfOk, IsSome}
 use Rattle.std.specs.List.{range_with_len}
 use Rattle.std.proofs.lemmas.List.FromFn.{length-map-range_with_len}
@@ -8,8 +8,7 @@ use Rattle.std.proofs.lemmas.Option.{slice_get_within}
 use Rattle.std.proofs.Math.Nat.{mod-lt}
 use Rattle.perimeter_core.specs.declared.entries.Act.{Act}
 use Rattle.perimeter_core.specs.declared.resident.Resident.{Ghosts as ResidentGhosts}
-use Rattle.perimeter_core.specs.Blocks.{Blocks}
-use Rattle.perimeter_core.specs.Logging.{fresh, none_done}
+use Rattle.perimeter_core.specs.Blocks.{Blocks, fresh, none_done}
 use Rattle.placed_parts.specs.declared.parts.Parts.{Ghosts}
 use Rattle.placed_parts.specs.declared.places.Places.{Places}
 use Rattle.placed_parts.specs.Placing.{IsItsPart, MayBe, Stands, limits_of, origin_of, shared_of, size_of}

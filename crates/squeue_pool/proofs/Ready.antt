@@ -11,10 +11,10 @@ use Rattle.squeue_rings.specs.Calling.{MayMake, MayMakeEach}
 use Rattle.squeue_rings.specs.Rings.{MayBring}
 use Rattle.squeue_rings.specs.Starts.{StartAtHome}
 use Rattle.squeue_rings.proofs.Slots.{got_map}
-use Rattle.ring_jobs.specs.declared.lines.Line.{Line}
-use Rattle.ring_jobs.specs.Running.{called_by}
+use Rattle.ring_jobs.specs.declared.intake.Intake.{Intake}
+use Rattle.ring_jobs.specs.Doing.{called_by}
 use Rattle.squeue_pool.specs.declared.pool.Pool.{Pool}
-use Rattle.squeue_pool.specs.Running.{MayRun}
+use Rattle.squeue_pool.specs.AllJobs.{MayRun}
 use Rattle.squeue_pool.specs.Works.{AreFor, IsFor, Suits, WorkOf}
 use Rattle.squeue_pool.proofs.Made.{number_at}
 
@@ -55,10 +55,10 @@ module _ {R P O : Type 0} (G : Ghosts R P O) (pool : Pool) (w : WorkOf R) (suits
       let n = its_conns q s is in
       at_home q s is c (omega (arith, lt, n)) ∙ ap (λ (k : ℕ). c % squeues == k) (sym is.number))
 
-  module _ (lines : List Line) (lists_are : w.lists ≡ map (λ l. l.list.items) lines) (conns : ℕ) (conns_are : conns ≡ w.conns) where
-    bring_all : (r : ℕ) (l : Line) → slice_get lines r ≡ Some l → MayBringAll G.limits squeues pool.pace.homes.spread r l.list.items ss
+  module _ (intakes : List Intake) (lists_are : w.lists ≡ map (λ l. l.list.items) intakes) (conns : ℕ) (conns_are : conns ≡ w.conns) where
+    bring_all : (r : ℕ) (l : Intake) → slice_get intakes r ≡ Some l → MayBringAll G.limits squeues pool.pace.homes.spread r l.list.items ss
     bring_all r l at =
-        let there : slice_get w.lists r ≡ Some l.list.items = ap (λ ls. slice_get ls r) lists_are ∙ got_map (λ (l : Line). l.list.items) lines r l at in
+        let there : slice_get w.lists r ≡ Some l.list.items = ap (λ ls. slice_get ls r) lists_are ∙ got_map (λ (l : Intake). l.list.items) intakes r l at in
         record {
           order = suits.order r l.list.items there;
           may = each_got (MayBring G.limits squeues pool.pace.homes.spread r l.list.items) ss (λ q s is. suits.bring r l.list.items q s there (set.each q s is));
@@ -67,7 +67,7 @@ module _ {R P O : Type 0} (G : Ghosts R P O) (pool : Pool) (w : WorkOf R) (suits
     make_each : (j : ℕ) → MayMakeEach G.limits j (called_by w.calls j) ss
     make_each j k c at = each_got (λ (s : Named R). MayMake G.limits s j k (take k (called_by w.calls j)) c) ss (λ q s is. suits.make j k c q s at (set.each q s is))
 
-    pub may_run : MayRun G pool lines w.calls ss conns
+    pub may_run : MayRun G pool intakes w.calls ss conns
     may_run =
         record {
           one = one_run;

@@ -37,17 +37,17 @@ use Rattle.squeue_rings.specs.Runs.{brought, place}
 use Rattle.squeue_rings.specs.Seen.{seen_ends, seen_in}
 use Rattle.squeue_rings.proofs.CallMarks.{none_beyond as no_thread_beyond}
 use Rattle.squeue_rings.proofs.Slots.{at_got, at_length, got_map}
-use Rattle.ring_jobs.specs.declared.lines.Line.{Line}
+use Rattle.ring_jobs.specs.declared.intake.Intake.{Intake}
 use Rattle.ring_jobs.specs.Ends.{CallerEnds, RingEnds}
-use Rattle.ring_jobs.specs.Running.{called_by}
+use Rattle.ring_jobs.specs.Doing.{called_by}
 use Rattle.ring_jobs.specs.Tasks.{lists_of}
 use Rattle.ring_jobs.proofs.Works.{got_or}
 use Rattle.ring_jobs.proofs.AtTheEnd.{end_due, end_exact, end_here, end_made, end_paced, end_stays, linked_same, noted_same, seen_count, seen_got}
 use Rattle.squeue_pool.specs.declared.pool.Pool.{Pool}
 use Rattle.squeue_pool.specs.declared.work.Left.{Left}
-use Rattle.squeue_pool.specs.Gathering.{HaveLeft, Leaves}
+use Rattle.squeue_pool.specs.Leftovers.{HaveLeft, Leaves}
 use Rattle.squeue_pool.specs.Keeping.{PassesKeep}
-use Rattle.squeue_pool.specs.Running.{AllDone}
+use Rattle.squeue_pool.specs.AllJobs.{AllDone}
 use Rattle.squeue_pool.specs.Runs.{HasRun, IsHereOnce, IsLeft, ends_of, list_for, made_in_all}
 use Rattle.squeue_pool.specs.Works.{AreFor, IsFor, Suits, WorkOf, setting_at}
 use Rattle.squeue_pool.proofs.Ready.{at_home, its_conns, its_rings}
@@ -107,8 +107,8 @@ none_in_all c j k (e ∷ es) h =
     let rest = none_in_all c j k es (λ q f a. h (suc q) f a) in
     omega (arith, here, rest)
 
-module _ {R P O : Type 0} (G : Ghosts R P O) (pool : Pool) (w : WorkOf R) (suits : Suits G pool w) (some_rings : 1 ≤ pool.rings) (ss : List (Named R)) (set : AreFor G pool w.residents w.quotas ss) (lines : List Line) (lists_are : w.lists ≡ map (λ l. l.list.items) lines)
-    (lent : ℕ → List (Option (Pass Element))) (ran : AllDone G pool lines w.calls ss lent) (vs : List (Left R)) (back : HaveLeft G 1 (pool.rings + length w.calls) lent ss vs) where
+module _ {R P O : Type 0} (G : Ghosts R P O) (pool : Pool) (w : WorkOf R) (suits : Suits G pool w) (some_rings : 1 ≤ pool.rings) (ss : List (Named R)) (set : AreFor G pool w.residents w.quotas ss) (intakes : List Intake) (lists_are : w.lists ≡ map (λ l. l.list.items) intakes)
+    (lent : ℕ → List (Option (Pass Element))) (ran : AllDone G pool intakes w.calls ss lent) (vs : List (Left R)) (back : HaveLeft G 1 (pool.rings + length w.calls) lent ss vs) where
   abbrev squeues : ℕ
   squeues = pool.pace.homes.squeues
 
@@ -169,8 +169,8 @@ module _ {R P O : Type 0} (G : Ghosts R P O) (pool : Pool) (w : WorkOf R) (suits
     pub legal_of : Legal (setting_of G.limits s.given) v.end.history
     legal_of = subst (λ (S : Setting). Legal S v.end.history) left.its_setting left.ended.legal
 
-  -- the list of a ring by its line
-  list_is : (r : ℕ) → lists_of lines r ≡ slice_index_or w.lists r []
+  -- the list of a ring by its intake
+  list_is : (r : ℕ) → lists_of intakes r ≡ slice_index_or w.lists r []
   list_is r = ap (λ ls. slice_index_or ls r []) (sym lists_are)
 
   -- what the ring of a connection knew of it
@@ -182,7 +182,7 @@ module _ {R P O : Type 0} (G : Ghosts R P O) (pool : Pool) (w : WorkOf R) (suits
     r_below = mod-lt c some_rings
 
     abbrev list : List Feed
-    list = lists_of lines r
+    list = lists_of intakes r
 
     abbrev last : ℕ
     last = place squeues spread c list
@@ -345,7 +345,7 @@ module _ {R P O : Type 0} (G : Ghosts R P O) (pool : Pool) (w : WorkOf R) (suits
     keeps : (r : ℕ) → r < rings → KeepsPace squeues spread pool.pace.mode pool.pace.budget q v.end.setting r v.end.history
     keeps r lt =
         let x = left.knows r (omega (arith, lt)) in
-        let known = at_got (λ s o. Holds (RingEnds G.limits squeues spread r (lists_of lines r) s) o) ss (lent (1 + r)) q s (Some x.0) (ran.rings_end r lt).each of_squeue.1 x.1 in
+        let known = at_got (λ s o. Holds (RingEnds G.limits squeues spread r (lists_of intakes r) s) o) ss (lent (1 + r)) q s (Some x.0) (ran.rings_end r lt).each of_squeue.1 x.1 in
         let paced = at_got (λ s o. Holds (λ x. IsPaced squeues spread pool.pace.mode pool.pace.budget s.given.number (setting_of G.limits s.given) r (seen x)) o) ss (lent (1 + r)) q s (Some x.0) (ran.paced r lt) of_squeue.1 x.1 in
         subst (λ (k : ℕ). KeepsPace squeues spread pool.pace.mode pool.pace.budget k v.end.setting r v.end.history) its.number
         (subst (λ (S : Setting). KeepsPace squeues spread pool.pace.mode pool.pace.budget s.given.number S r v.end.history) (sym left.its_setting)
@@ -392,7 +392,7 @@ module _ {R P O : Type 0} (G : Ghosts R P O) (pool : Pool) (w : WorkOf R) (suits
     ring_keeps : (r : ℕ) → r < rings → EachOwn (OfRing pool.pace.mode its_setting r) r [] its_left.end.history
     ring_keeps r lt =
         let x = (AtEnd.left its_end).knows r (omega (arith, lt)) in
-        let known = at_got (λ s o. Holds (RingEnds G.limits squeues spread r (lists_of lines r) s) o) ss (lent (1 + r)) q its_squeue (Some x.0) (ran.rings_end r lt).each (AtEnd.is its_end) x.1 in
+        let known = at_got (λ s o. Holds (RingEnds G.limits squeues spread r (lists_of intakes r) s) o) ss (lent (1 + r)) q its_squeue (Some x.0) (ran.rings_end r lt).each (AtEnd.is its_end) x.1 in
         let paced = at_got (λ s o. Holds (λ x. IsPaced squeues spread pool.pace.mode pool.pace.budget s.given.number (setting_of G.limits s.given) r (seen x)) o) ss (lent (1 + r)) q its_squeue (Some x.0) (ran.paced r lt) (AtEnd.is its_end) x.1 in
         end_exact G.limits its_squeue x.0 its_left.end.history known.pass legal_there x.2 (OfRing pool.pace.mode its_setting r) r known.is_number paced.exact
 

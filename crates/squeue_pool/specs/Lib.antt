@@ -1,6 +1,6 @@
 pub mod Works
-pub mod Gathering
-pub mod Running
+pub mod Leftovers
+pub mod AllJobs
 pub mod Keeping
 pub mod Runs
 pub mod Keys

@@ -14,7 +14,7 @@ use Rattle.squeue_rings.specs.Keeping.{KeepsPace}
 use Rattle.squeue_rings.specs.Made.{once_on, times_made}
 use Rattle.squeue_rings.specs.Noted.{AreNoted}
 use Rattle.squeue_rings.specs.Runs.{brought, place}
-use Rattle.ring_jobs.specs.Running.{called_by}
+use Rattle.ring_jobs.specs.Doing.{called_by}
 use Rattle.squeue_pool.specs.declared.pool.Pool.{Pool}
 use Rattle.squeue_pool.specs.declared.work.Left.{Left}
 use Rattle.squeue_pool.specs.Keeping.{PassesKeep}

@@ -15,8 +15,8 @@ use Rattle.squeue_state.specs.Naming.{Named, setting_of}
 use Rattle.squeue_rings.specs.Calling.{MayMake}
 use Rattle.squeue_rings.specs.Rings.{MayBring}
 use Rattle.squeue_rings.specs.Runs.{InOrder}
-use Rattle.ring_jobs.specs.Running.{called_by}
-use Rattle.ring_jobs.specs.declared.lines.Line.{Line}
+use Rattle.ring_jobs.specs.Doing.{called_by}
+use Rattle.ring_jobs.specs.declared.intake.Intake.{Intake}
 use Rattle.squeue_pool.specs.declared.pool.Pool.{Pool}
 use Rattle.squeue_pool.specs.declared.work.Work.{Work}
 
@@ -39,14 +39,14 @@ work_of w =
       calls = map (λ v. v.items) w.calls.items;
     }
 
--- the same by its parts, where the lists stand in lines
-abbrev pub work_by : {R : Type 0} → ℕ → List R → List (Vec Quota Global) → List Line → List (Vec ℕ Global) → WorkOf R
-work_by conns residents quotas lines calls =
+-- the same by its parts, where the lists stand in intakes
+abbrev pub work_by : {R : Type 0} → ℕ → List R → List (Vec Quota Global) → List Intake → List (Vec ℕ Global) → WorkOf R
+work_by conns residents quotas intakes calls =
     record {
       conns = conns;
       residents = residents;
       quotas = map (λ v. pairs v.items) quotas;
-      lists = map (λ l. l.list.items) lines;
+      lists = map (λ l. l.list.items) intakes;
       calls = map (λ v. v.items) calls;
     }
 

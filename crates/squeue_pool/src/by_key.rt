@@ -11,7 +11,7 @@ use crate::keys::{key_lists, key_quotas};
 use crate::placing::places_of;
 use crate::pool::Pool;
 use crate::served::Served;
-use crate::serving::run;
+use crate::whole_run::run;
 use crate::work::{Left, Work};
 use perimeter_core::{Hook, NoHook, Resident};
 use placed_parts::Parts;

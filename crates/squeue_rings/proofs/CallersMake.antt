@@ -4,7 +4,7 @@ use Rattle.std.proofs.lemmas.Bool.{cases_eq}
 use Rattle.std.proofs.lemmas.List.{length-set}
 use Rattle.turn_gate.specs.declared.pass.Pass.{Pass}
 use Rattle.perimeter_core.specs.History.{Element, Limits}
-use Rattle.perimeter_core.proofs.LogSteps.{get_same}
+use Rattle.perimeter_core.proofs.ActLists.{get_same}
 use Rattle.squeue_state.specs.Naming.{Named}
 use Rattle.squeue_serve.specs.Places.{AtEach, Became, Holds}
 use Rattle.squeue_serve.proofs.Unused.{each_at}

@@ -25,4 +25,3 @@ pub mod Pacing
 pub mod PacedMarks
 pub mod PacedPasses
 pub mod PacedAll
-pub mod Worked

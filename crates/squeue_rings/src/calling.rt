@@ -6,20 +6,18 @@ ghost use Rattle.squeue_rings.specs.Calling.{CallersAt, HasTried, MayMakeAll, Ma
 ghost use Rattle.squeue_rings.specs.Bringing.{AllBelow};
 ghost use Rattle.synch_enter.specs.Hinting.{conns_of, squeues_of};
 
+use crate::access::Access;
 use perimeter_core::{Hook, Resident};
 use squeue_serve::{put_pass, take_pass};
 use squeue_state::{Pass, Squeue};
-use std::alloc::Global;
 use std::marker::Brand;
 use std::sync::Wait;
 use std::thread::yield_now;
-use synch_enter::{Called, Hints, call, synch_exit, synch_try};
+use synch_enter::{Called, call, synch_exit, synch_try};
 
 /// Makes call `k` of thread `j`, which is on connection `c`, at one squeue, if its block is there; tells whether it did.
 pub fn try_call<R: Resident, H: Hook, W: Wait>(
-    rt: &W,
-    alloc: Global,
-    hook: &H,
+    access: &Access<'_, R, H, W>,
     squeue: &Squeue<R>,
     c: u32,
     j: u32,
@@ -30,15 +28,13 @@ pub fn try_call<R: Resident, H: Hook, W: Wait>(
     ensures { Became (λ x y. HasTried R.limits squeue.now result c j k x y) place.old place.new }
 {
     let pass = take_pass(place);
-    let (pass, made) = try_with(rt, alloc, hook, squeue, c, j, k, pass);
+    let (pass, made) = try_with(access, squeue, c, j, k, pass);
     put_pass(place, pass);
     made
 }
 
 fn try_with<R: Resident, H: Hook, W: Wait>(
-    rt: &W,
-    alloc: Global,
-    hook: &H,
+    access: &Access<'_, R, H, W>,
     squeue: &Squeue<R>,
     c: u32,
     j: u32,
@@ -48,13 +44,13 @@ fn try_with<R: Resident, H: Hook, W: Wait>(
     requires { MayTry R.limits squeue.now c j k pass }
     ensures { HasTried R.limits squeue.now result.1 c j k pass result.0 }
 {
-    match synch_try(squeue, rt, alloc, hook, pass, c) {
+    match synch_try(squeue, access.rt, access.alloc, access.hook, pass, c) {
         Err(pass) => (pass, false),
         Ok(owner) => {
             let mut owner = owner;
-            let called = call(&mut owner, alloc, c, j, k);
+            let called = call(&mut owner, access.alloc, c, j, k);
             (
-                synch_exit::<R, Brand, W>(squeue, rt, owner),
+                synch_exit::<R, Brand, W>(squeue, access.rt, owner),
                 was_made(called),
             )
         }
@@ -72,24 +68,23 @@ fn was_made(called: Called) -> bool
 
 /// Makes call `k` of thread `j`, which is on connection `c`, wherever its block is.
 fn make_call<R: Resident, H: Hook, W: Wait>(
-    rt: &W,
-    alloc: Global,
-    hook: &H,
-    squeues: &[Squeue<R>],
-    hints: &Hints,
+    access: &Access<'_, R, H, W>,
     c: u32,
     j: u32,
     k: u32,
     places: &mut Vec<Option<Pass>>,
 )
-    requires hints { (c < conns_of hints.now) × (squeues_of hints.now ≡ length squeues.now) }
-    requires ready { (cs : List ℕ) × (length cs ≡ k) × MayMakeAll R.limits j k cs c squeues.now × CallersAt R.limits j cs squeues.now places.old.items }
-    ensures { (cs : List ℕ) → length cs ≡ k → MayMakeAll R.limits j k cs c squeues.now → CallersAt R.limits j cs squeues.now places.old.items
-        → CallersAt R.limits j (cs ++ c ∷ []) squeues.now places.new.items }
+    requires hints { (c < conns_of access.now.hints.now) × (squeues_of access.now.hints.now ≡ length access.now.squeues.now) }
+    requires ready { (cs : List ℕ) × (length cs ≡ k) × MayMakeAll R.limits j k cs c access.now.squeues.now
+        × CallersAt R.limits j cs access.now.squeues.now places.old.items }
+    ensures { (cs : List ℕ) → length cs ≡ k → MayMakeAll R.limits j k cs c access.now.squeues.now
+        → CallersAt R.limits j cs access.now.squeues.now places.old.items
+        → CallersAt R.limits j (cs ++ c ∷ []) access.now.squeues.now places.new.items }
 {
-    for _ in rt.forever() {
-        let q = hints.get(c) as usize;
-        if try_call(rt, alloc, hook, &squeues[q], c, j, k, &mut places[q]) {
+    let squeues = access.squeues;
+    for _ in access.rt.forever() {
+        let q = access.hints.get(c) as usize;
+        if try_call(access, &squeues[q], c, j, k, &mut places[q]) {
             return;
         }
         yield_now();
@@ -99,23 +94,20 @@ fn make_call<R: Resident, H: Hook, W: Wait>(
 
 /// Makes the calls of thread `j`, in order, each once; `conns` has the connection of each.
 pub fn make_calls<R: Resident, H: Hook, W: Wait>(
-    rt: &W,
-    alloc: Global,
-    hook: &H,
-    squeues: &[Squeue<R>],
-    hints: &Hints,
+    access: &Access<'_, R, H, W>,
     conns: &[u32],
     j: u32,
     places: &mut Vec<Option<Pass>>,
 )
     requires few { length conns.now < 2 ^ 32 }
-    requires hints { (squeues_of hints.now ≡ length squeues.now) × AllBelow (conns_of hints.now) squeues.now × (0 < length squeues.now) }
-    requires may { MayMakeEach R.limits j conns.now squeues.now }
-    requires at { CallersAt R.limits j [] squeues.now places.old.items }
-    ensures { CallersAt R.limits j conns.now squeues.now places.new.items }
+    requires hints { (squeues_of access.now.hints.now ≡ length access.now.squeues.now) × AllBelow (conns_of access.now.hints.now) access.now.squeues.now
+        × (0 < length access.now.squeues.now) }
+    requires may { MayMakeEach R.limits j conns.now access.now.squeues.now }
+    requires at { CallersAt R.limits j [] access.now.squeues.now places.old.items }
+    ensures { CallersAt R.limits j conns.now access.now.squeues.now places.new.items }
 {
     for k in 0..conns.len() {
         let c = conns[k];
-        make_call(rt, alloc, hook, squeues, hints, c, j, k as u32, places);
+        make_call(access, c, j, k as u32, places);
     }
 }

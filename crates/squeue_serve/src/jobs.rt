@@ -94,10 +94,10 @@ pub fn discard<T: Drop>(jobs: Vec<Job<T>>)
 ///
 /// ```
 /// lend(&mut squeues, &mut jobs, 0, count, squeue, passes);
-/// run(rt, &squeues.all[0], alloc, hook, pace, &mut jobs);
-/// let ended = end_last(&mut squeues, &mut jobs, 0, count);
-/// ...
-/// discard(jobs);
+/// run(rt, &squeues.all[0], alloc, pace, reader, stint, &mut jobs);
+/// let Some((resident, _ended, _trace)) = end_last(&mut squeues, &mut jobs, 0, count) else {
+///     unreachable!()
+/// };
 /// squeues.destroy_empty();
 /// ```
 pub fn lend<R: Resident, T>(

@@ -8,8 +8,6 @@
 mod acts;
 mod coming;
 mod hints;
-#[cfg(test)]
-mod tests;
 
 pub use acts::{Called, call, put_block, synch_exit, take_block};
 pub use coming::{synch_enter, synch_try};

@@ -7,4 +7,4 @@ abbrev pub invariant-loop-thread : goal.invariant-loop-thread
 invariant-loop-thread l = l.tasks.items ≡ l.initial.tasks.items ++ map (λ (j : ℕ). Task'.Call j) (range_with_len 0 l.thread)
 
 abbrev pub invariant-loop-q : goal.invariant-loop-q
-invariant-loop-q l = l.tasks.items ≡ l.initial.tasks.items ++ map (λ (q : ℕ). Task'.Work q) (range_with_len 0 l.q)
+invariant-loop-q l = l.tasks.items ≡ l.initial.tasks.items ++ map (λ (q : ℕ). Task'.Drain q) (range_with_len 0 l.q)

@@ -8,9 +8,9 @@ invariant-loop g l =
     record {
       ring : l.end.ring ≡ l.ring.ring;
       empty : l.empty ≤ 1024;
-      far : (r : ℕ) → IsFar g.R.Resident.limits l.pace.homes.squeues l.pace.homes.spread r l.list l.squeues 0 l.fn.places.items → IsFar g.R.Resident.limits l.pace.homes.squeues l.pace.homes.spread r l.list l.squeues l.end.popped l.places.items;
-      paced : (r : ℕ) → IsFar g.R.Resident.limits l.pace.homes.squeues l.pace.homes.spread r l.list l.squeues 0 l.fn.places.items
-          → ArePaced g.R.Resident.limits l.pace.homes.squeues l.pace.homes.spread l.pace.mode l.pace.budget r l.squeues l.fn.places.items
-          → ArePaced g.R.Resident.limits l.pace.homes.squeues l.pace.homes.spread l.pace.mode l.pace.budget r l.squeues l.places.items;
+      far : (r : ℕ) → IsFar g.R.Resident.limits l.pace.homes.squeues l.pace.homes.spread r l.list l.access.squeues.now 0 l.fn.places.items → IsFar g.R.Resident.limits l.pace.homes.squeues l.pace.homes.spread r l.list l.access.squeues.now l.end.popped l.places.items;
+      paced : (r : ℕ) → IsFar g.R.Resident.limits l.pace.homes.squeues l.pace.homes.spread r l.list l.access.squeues.now 0 l.fn.places.items
+          → ArePaced g.R.Resident.limits l.pace.homes.squeues l.pace.homes.spread l.pace.mode l.pace.budget r l.access.squeues.now l.fn.places.items
+          → ArePaced g.R.Resident.limits l.pace.homes.squeues l.pace.homes.spread l.pace.mode l.pace.budget r l.access.squeues.now l.places.items;
       polling : length l.polling.items ≡ l.pace.homes.squeues;
     }

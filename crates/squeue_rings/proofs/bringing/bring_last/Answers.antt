@@ -14,7 +14,7 @@ bring_rest-requires-clause-ready g c =
       list,
       take n list,
       drop k (drop n list),
-      next_ready g.R.Resident.limits c.args.pace.homes.squeues c.args.pace.homes.spread ready.0 list c.args.squeues.now n k c.args.places.now.items ready.1 (take (first + k - first) (drop first list)) (part_is list first n k c.cleanup-first.ensures.first),
+      next_ready g.R.Resident.limits c.args.pace.homes.squeues c.args.pace.homes.spread ready.0 list c.args.access.now.squeues.now n k c.args.places.now.items ready.1 (take (first + k - first) (drop first list)) (part_is list first n k c.cleanup-first.ensures.first),
     )
 
 pub returns : goal.returns
@@ -22,7 +22,7 @@ returns g c =
     let limits = g.R.Resident.limits in
     let sq = c.args.pace.homes.squeues in
     let sp = c.args.pace.homes.spread in
-    let ss = c.args.squeues.now in
+    let ss = c.args.access.now.squeues.now in
     let list = c.args.list.now in
     let n = c.args.end.now.popped in
     let first = c.cleanup-first.result.0 in

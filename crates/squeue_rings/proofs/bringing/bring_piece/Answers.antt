@@ -12,7 +12,7 @@ loop-rest-init g c =
       front = [];
       is = refl;
       at = λ r list done behind ready.
-          subst (λ (l : List Feed). AreAt g.R.Resident.limits c.args.pace.homes.squeues c.args.pace.homes.spread r c.args.squeues.now l l c.args.places.now.items) (sym (append-nil done)) ready.at;
+          subst (λ (l : List Feed). AreAt g.R.Resident.limits c.args.pace.homes.squeues c.args.pace.homes.spread r c.args.access.now.squeues.now l l c.args.places.now.items) (sym (append-nil done)) ready.at;
       paced = λ r list done behind ready before. before;
       polling = c.requires.polling;
     }
@@ -25,7 +25,7 @@ bring_run-len-requires-clause-ready g c =
       ready.1,
       ready.2 ++ i.front,
       ready.3,
-      goes_on g.R.Resident.limits c.args.pace.homes.squeues c.args.pace.homes.spread ready.0 ready.1 c.args.squeues.now ready.2 c.args.piece.now ready.3 c.args.places.now.items ready.4 i.front c.loop-rest.rest.now i.is c.loop-rest.places.items
+      goes_on g.R.Resident.limits c.args.pace.homes.squeues c.args.pace.homes.spread ready.0 ready.1 c.args.access.now.squeues.now ready.2 c.args.piece.now ready.3 c.args.places.now.items ready.4 i.front c.loop-rest.rest.now i.is c.loop-rest.places.items
           (i.at ready.0 ready.1 ready.2 ready.3 ready.4),
     )
 
@@ -34,7 +34,7 @@ loop-rest-preserved g c =
     let limits = g.R.Resident.limits in
     let sq = c.args.pace.homes.squeues in
     let sp = c.args.pace.homes.spread in
-    let ss = c.args.squeues.now in
+    let ss = c.args.access.now.squeues.now in
     let piece = c.args.piece.now in
     let i = c.loop-rest.invariant in
     let rest = c.loop-rest.rest.now in
@@ -55,7 +55,7 @@ returns-clause-brought g c r list done behind ready =
     let i = c.loop-rest.invariant in
     let none = none_left c.loop-rest.rest.now c.is_empty.result c.is_empty.ensures c.loop-rest-test.false in
     let whole : c.args.piece.now ≡ i.front = i.is ∙ (ap (λ (l : List Feed). i.front ++ l) none ∙ append-nil i.front) in
-    subst (λ (l : List Feed). AreAt g.R.Resident.limits c.args.pace.homes.squeues c.args.pace.homes.spread r c.args.squeues.now (done ++ l) (done ++ l) c.loop-rest.places.items) (sym whole) (i.at r list done behind ready)
+    subst (λ (l : List Feed). AreAt g.R.Resident.limits c.args.pace.homes.squeues c.args.pace.homes.spread r c.args.access.now.squeues.now (done ++ l) (done ++ l) c.loop-rest.places.items) (sym whole) (i.at r list done behind ready)
 
 pub returns-clause-paced : goal.returns-clause-paced
 returns-clause-paced g c r list done behind ready before = c.loop-rest.invariant.paced r list done behind ready before

@@ -9,11 +9,11 @@ invariant-loop-rest g l =
     record {
       front : List Feed;
       is : l.fn.piece ≡ front ++ l.rest;
-      at : (r : ℕ) (list done behind : List Feed) → IsReady g.R.Resident.limits l.pace.homes.squeues l.pace.homes.spread r list l.squeues done l.fn.piece behind l.fn.places.items
-          → AreAt g.R.Resident.limits l.pace.homes.squeues l.pace.homes.spread r l.squeues (done ++ front) (done ++ front) l.places.items;
-      paced : (r : ℕ) (list done behind : List Feed) → IsReady g.R.Resident.limits l.pace.homes.squeues l.pace.homes.spread r list l.squeues done l.fn.piece behind l.fn.places.items
-          → ArePaced g.R.Resident.limits l.pace.homes.squeues l.pace.homes.spread l.pace.mode l.pace.budget r l.squeues l.fn.places.items
-          → ArePaced g.R.Resident.limits l.pace.homes.squeues l.pace.homes.spread l.pace.mode l.pace.budget r l.squeues l.places.items;
+      at : (r : ℕ) (list done behind : List Feed) → IsReady g.R.Resident.limits l.pace.homes.squeues l.pace.homes.spread r list l.access.squeues.now done l.fn.piece behind l.fn.places.items
+          → AreAt g.R.Resident.limits l.pace.homes.squeues l.pace.homes.spread r l.access.squeues.now (done ++ front) (done ++ front) l.places.items;
+      paced : (r : ℕ) (list done behind : List Feed) → IsReady g.R.Resident.limits l.pace.homes.squeues l.pace.homes.spread r list l.access.squeues.now done l.fn.piece behind l.fn.places.items
+          → ArePaced g.R.Resident.limits l.pace.homes.squeues l.pace.homes.spread l.pace.mode l.pace.budget r l.access.squeues.now l.fn.places.items
+          → ArePaced g.R.Resident.limits l.pace.homes.squeues l.pace.homes.spread l.pace.mode l.pace.budget r l.access.squeues.now l.places.items;
       polling : length l.polling.items ≡ l.pace.homes.squeues;
     }
 

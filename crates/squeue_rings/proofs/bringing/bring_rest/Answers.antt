@@ -12,7 +12,7 @@ loop-rest-init g c =
       front = [];
       is = refl;
       at = λ r list done behind ready.
-          subst (λ (l : List Feed). AreAt g.R.Resident.limits c.args.pace.homes.squeues c.args.pace.homes.spread r c.args.squeues.now l l c.args.places.now.items) (sym (append-nil done)) ready.at;
+          subst (λ (l : List Feed). AreAt g.R.Resident.limits c.args.pace.homes.squeues c.args.pace.homes.spread r c.args.access.now.squeues.now l l c.args.places.now.items) (sym (append-nil done)) ready.at;
       paced = λ r list done behind ready before. before;
       polling = c.requires.polling;
     }
@@ -22,7 +22,7 @@ bring_piece-requires-clause-ready g c =
     let limits = g.R.Resident.limits in
     let sq = c.args.pace.homes.squeues in
     let sp = c.args.pace.homes.spread in
-    let ss = c.args.squeues.now in
+    let ss = c.args.access.now.squeues.now in
     let ready = c.requires.ready in
     let i = c.loop-rest.invariant in
     let rest = c.loop-rest.rest.now in
@@ -42,7 +42,7 @@ loop-rest-preserved g c =
     let limits = g.R.Resident.limits in
     let sq = c.args.pace.homes.squeues in
     let sp = c.args.pace.homes.spread in
-    let ss = c.args.squeues.now in
+    let ss = c.args.access.now.squeues.now in
     let i = c.loop-rest.invariant in
     let rest = c.loop-rest.rest.now in
     let a = c.split_at.result.0.now in
@@ -67,7 +67,7 @@ returns-clause-brought g c r list done behind ready =
     let i = c.loop-rest.invariant in
     let none = none_left c.loop-rest.rest.now c.is_empty.result c.is_empty.ensures c.loop-rest-test.false in
     let whole : c.args.rest.now ≡ i.front = i.is ∙ (ap (λ (l : List Feed). i.front ++ l) none ∙ append-nil i.front) in
-    subst (λ (l : List Feed). AreAt g.R.Resident.limits c.args.pace.homes.squeues c.args.pace.homes.spread r c.args.squeues.now (done ++ l) (done ++ l) c.loop-rest.places.items) (sym whole) (i.at r list done behind ready)
+    subst (λ (l : List Feed). AreAt g.R.Resident.limits c.args.pace.homes.squeues c.args.pace.homes.spread r c.args.access.now.squeues.now (done ++ l) (done ++ l) c.loop-rest.places.items) (sym whole) (i.at r list done behind ready)
 
 pub returns-clause-paced : goal.returns-clause-paced
 returns-clause-paced g c r list done behind ready before = c.loop-rest.invariant.paced r list done behind ready before

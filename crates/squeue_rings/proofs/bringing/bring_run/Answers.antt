@@ -9,7 +9,7 @@ use Rattle.squeue_rings.proofs.PacedAll.{run_paced}
 use Rattle.squeue_rings.proofs.Running.{all_entered, first_ready, may_enter, run_is}
 use Rattle.squeue_rings.proofs.Slots.{at_length, got_at, got_other, head_rest}
 use Rattle.squeue_rings.proofs.bringing.bring_run.Goals as goal
-use Rattle.perimeter_core.proofs.LogSteps.{get_same}
+use Rattle.perimeter_core.proofs.ActLists.{get_same}
 
 pub reach-requires-clause-ready : goal.reach-requires-clause-ready
 reach-requires-clause-ready g c =
@@ -17,7 +17,7 @@ reach-requires-clause-ready g c =
     let feeds = c.args.feeds.now in
     let f = slice_index_or feeds 0 (record { c = 0; n = 0 }) in
     let tail = take (length feeds - 1) (drop 1 feeds) in
-    (ready.0, ready.1, ready.2, tail ++ ready.3, first_ready g.R.Resident.limits c.args.pace.homes.squeues c.args.pace.homes.spread ready.0 ready.1 c.args.squeues.now ready.2 feeds ready.3 c.args.places.now.items ready.4 f tail (head_rest feeds (record { c = 0; n = 0 }) c.requires.some))
+    (ready.0, ready.1, ready.2, tail ++ ready.3, first_ready g.R.Resident.limits c.args.pace.homes.squeues c.args.pace.homes.spread ready.0 ready.1 c.args.access.now.squeues.now ready.2 feeds ready.3 c.args.places.now.items ready.4 f tail (head_rest feeds (record { c = 0; n = 0 }) c.requires.some))
 
 pub index_mut-requires : goal.index_mut-requires
 index_mut-requires g c =
@@ -29,9 +29,9 @@ index_mut-requires g c =
     let f = slice_index_or feeds 0 (record { c = 0; n = 0 }) in
     let tail = take (length feeds - 1) (drop 1 feeds) in
     let is = head_rest feeds (record { c = 0; n = 0 }) c.requires.some in
-    let first = first_ready limits sq sp ready.0 ready.1 c.args.squeues.now ready.2 feeds ready.3 c.args.places.now.items ready.4 f tail is in
+    let first = first_ready limits sq sp ready.0 ready.1 c.args.access.now.squeues.now ready.2 feeds ready.3 c.args.places.now.items ready.4 f tail is in
     let at = c.reach.ensures.reached ready.0 ready.1 ready.2 (tail ++ ready.3) first in
-    let n = at_length (λ s o. Holds (RingAt limits sq sp ready.0 ready.2 (ready.2 ++ f ∷ []) s) o) c.args.squeues.now c.reach.new.places.items at.each in
+    let n = at_length (λ s o. Holds (RingAt limits sq sp ready.0 ready.2 (ready.2 ++ f ∷ []) s) o) c.args.access.now.squeues.now c.reach.new.places.items at.each in
     omega (arith, n, c.home-home.ensures.range, c.requires.run.count, c.reach.new.places.ok)
 
 pub enter_at-requires-clause-may : goal.enter_at-requires-clause-may
@@ -41,7 +41,7 @@ enter_at-requires-clause-may g c =
     let sp = c.args.pace.homes.spread in
     let ready = c.requires.ready in
     let feeds = c.args.feeds.now in
-    let ss = c.args.squeues.now in
+    let ss = c.args.access.now.squeues.now in
     let f = slice_index_or feeds 0 (record { c = 0; n = 0 }) in
     let tail = take (length feeds - 1) (drop 1 feeds) in
     let is = head_rest feeds (record { c = 0; n = 0 }) c.requires.some in
@@ -62,7 +62,7 @@ enter_at-requires-clause-may g c =
 
 pub enter_at-requires-clause-room : goal.enter_at-requires-clause-room
 enter_at-requires-clause-room g c =
-    let ss = c.args.squeues.now in
+    let ss = c.args.access.now.squeues.now in
     let q = c.home-home.result in
     let lq : q < length ss = omega (arith, c.home-home.ensures.range, c.requires.run.count) in
     each_at (λ s. HasAllRoom s.given) ss q c.index-squeues-q.result c.requires.run.room (got_at ss q c.index-squeues-q.result lq c.index-squeues-q.is)
@@ -73,7 +73,7 @@ returns-clause-brought g c r list done behind ready =
     let sq = c.args.pace.homes.squeues in
     let sp = c.args.pace.homes.spread in
     let feeds = c.args.feeds.now in
-    let ss = c.args.squeues.now in
+    let ss = c.args.access.now.squeues.now in
     let f = slice_index_or feeds 0 (record { c = 0; n = 0 }) in
     let tail = take (length feeds - 1) (drop 1 feeds) in
     let is = head_rest feeds (record { c = 0; n = 0 }) c.requires.some in
@@ -99,7 +99,7 @@ returns-clause-paced g c r list done behind ready before =
     let sq = c.args.pace.homes.squeues in
     let sp = c.args.pace.homes.spread in
     let feeds = c.args.feeds.now in
-    let ss = c.args.squeues.now in
+    let ss = c.args.access.now.squeues.now in
     let f = slice_index_or feeds 0 (record { c = 0; n = 0 }) in
     let tail = take (length feeds - 1) (drop 1 feeds) in
     let is = head_rest feeds (record { c = 0; n = 0 }) c.requires.some in

@@ -10,8 +10,8 @@ pub take_at-left-requires : goal.take_at-left-requires
 take_at-left-requires g c =
     let from = c.home_before-from.result in
     let e : from ≡ home_before c.args.homes.squeues c.args.homes.spread c.args.feed = c.home_before-from.ensures.home in
-    let s = some_at c.args.squeues.now from (omega (arith, c.home_before-from.ensures.range, c.requires.run.count)) in
-    let r = c.requires.from s.0 (ap (slice_get c.args.squeues.now) (sym e) ∙ s.1) in
+    let s = some_at c.args.access.now.squeues.now from (omega (arith, c.home_before-from.ensures.range, c.requires.run.count)) in
+    let r = c.requires.from s.0 (ap (slice_get c.args.access.now.squeues.now) (sym e) ∙ s.1) in
     (r.0, ap (slice_get c.args.places.now.items) e ∙ r.1)
 
 pub take_at-come-requires : goal.take_at-come-requires
@@ -21,8 +21,8 @@ take_at-come-requires g c =
     let e : from ≡ home_before c.args.homes.squeues c.args.homes.spread c.args.feed = c.home_before-from.ensures.home in
     let d : to ≡ home_of c.args.homes.squeues c.args.homes.spread c.args.feed = c.home-to.ensures.home in
     let apart : to ≢ from = λ h. other_home c.args.homes.squeues c.args.homes.spread c.args.feed c.requires.moves (sym e ∙ (sym h ∙ d)) in
-    let s = some_at c.args.squeues.now to (omega (arith, c.home-to.ensures.range, c.requires.run.count)) in
-    let r = c.requires.to s.0 (ap (slice_get c.args.squeues.now) (sym d) ∙ s.1) in
+    let s = some_at c.args.access.now.squeues.now to (omega (arith, c.home-to.ensures.range, c.requires.run.count)) in
+    let r = c.requires.to s.0 (ap (slice_get c.args.access.now.squeues.now) (sym d) ∙ s.1) in
     (r.0, c.take_at-left.ensures.others to apart ∙ (ap (slice_get c.args.places.now.items) d ∙ r.1))
 
 pub migrate-left-requires-clause-from : goal.migrate-left-requires-clause-from
@@ -30,9 +30,9 @@ migrate-left-requires-clause-from g c =
     let from = c.home_before-from.result in
     let a = c.index-squeues-from.result in
     let e : from ≡ home_before c.args.homes.squeues c.args.homes.spread c.args.feed = c.home_before-from.ensures.home in
-    let lt : from < length c.args.squeues.now = omega (arith, c.home_before-from.ensures.range, c.requires.run.count) in
-    let is = got_at c.args.squeues.now from a lt c.index-squeues-from.is in
-    let r = c.requires.from a (ap (slice_get c.args.squeues.now) (sym e) ∙ is) in
+    let lt : from < length c.args.access.now.squeues.now = omega (arith, c.home_before-from.ensures.range, c.requires.run.count) in
+    let is = got_at c.args.access.now.squeues.now from a lt c.index-squeues-from.is in
+    let r = c.requires.from a (ap (slice_get c.args.access.now.squeues.now) (sym e) ∙ is) in
     subst (MayLeave g.R.Resident.limits a c.args.feed.c) (one_pass c.args.places.now.items from r.0 c.take_at-left.result (ap (slice_get c.args.places.now.items) e ∙ r.1) c.take_at-left.ensures.taken) r.2
 
 pub migrate-left-requires-clause-to : goal.migrate-left-requires-clause-to
@@ -43,9 +43,9 @@ migrate-left-requires-clause-to g c =
     let e : from ≡ home_before c.args.homes.squeues c.args.homes.spread c.args.feed = c.home_before-from.ensures.home in
     let d : to ≡ home_of c.args.homes.squeues c.args.homes.spread c.args.feed = c.home-to.ensures.home in
     let apart : to ≢ from = λ h. other_home c.args.homes.squeues c.args.homes.spread c.args.feed c.requires.moves (sym e ∙ (sym h ∙ d)) in
-    let lt : to < length c.args.squeues.now = omega (arith, c.home-to.ensures.range, c.requires.run.count) in
-    let is = got_at c.args.squeues.now to b lt c.index-squeues-to.is in
-    let r = c.requires.to b (ap (slice_get c.args.squeues.now) (sym d) ∙ is) in
+    let lt : to < length c.args.access.now.squeues.now = omega (arith, c.home-to.ensures.range, c.requires.run.count) in
+    let is = got_at c.args.access.now.squeues.now to b lt c.index-squeues-to.is in
+    let r = c.requires.to b (ap (slice_get c.args.access.now.squeues.now) (sym d) ∙ is) in
     subst (MayCome g.R.Resident.limits b c.args.feed.c)
     (one_pass c.take_at-left.new.places.items to r.0 c.take_at-come.result (c.take_at-left.ensures.others to apart ∙ (ap (slice_get c.args.places.now.items) d ∙ r.1)) c.take_at-come.ensures.taken) r.2
 
@@ -53,15 +53,15 @@ pub migrate-left-requires-clause-origin : goal.migrate-left-requires-clause-orig
 migrate-left-requires-clause-origin g c =
     let from = c.home_before-from.result in
     let to = c.home-to.result in
-    let lf : from < length c.args.squeues.now = omega (arith, c.home_before-from.ensures.range, c.requires.run.count) in
-    let lt : to < length c.args.squeues.now = omega (arith, c.home-to.ensures.range, c.requires.run.count) in
-    c.requires.run.same_origin from to c.index-squeues-from.result c.index-squeues-to.result (got_at c.args.squeues.now from c.index-squeues-from.result lf c.index-squeues-from.is) (got_at c.args.squeues.now to c.index-squeues-to.result lt c.index-squeues-to.is)
+    let lf : from < length c.args.access.now.squeues.now = omega (arith, c.home_before-from.ensures.range, c.requires.run.count) in
+    let lt : to < length c.args.access.now.squeues.now = omega (arith, c.home-to.ensures.range, c.requires.run.count) in
+    c.requires.run.same_origin from to c.index-squeues-from.result c.index-squeues-to.result (got_at c.args.access.now.squeues.now from c.index-squeues-from.result lf c.index-squeues-from.is) (got_at c.args.access.now.squeues.now to c.index-squeues-to.result lt c.index-squeues-to.is)
 
 pub migrate-left-requires-clause-hint : goal.migrate-left-requires-clause-hint
 migrate-left-requires-clause-hint g c =
     let to = c.home-to.result in
-    let lt : to < length c.args.squeues.now = omega (arith, c.home-to.ensures.range, c.requires.run.count) in
-    let n = c.requires.run.numbered to c.index-squeues-to.result (got_at c.args.squeues.now to c.index-squeues-to.result lt c.index-squeues-to.is) in
+    let lt : to < length c.args.access.now.squeues.now = omega (arith, c.home-to.ensures.range, c.requires.run.count) in
+    let n = c.requires.run.numbered to c.index-squeues-to.result (got_at c.args.access.now.squeues.now to c.index-squeues-to.result lt c.index-squeues-to.is) in
     (c.requires.hints.0, omega (arith, n, c.home-to.ensures.range, c.requires.hints.1))
 
 pub returns : goal.returns
@@ -71,8 +71,8 @@ returns g c =
     let e : from ≡ home_before c.args.homes.squeues c.args.homes.spread c.args.feed = c.home_before-from.ensures.home in
     let d : to ≡ home_of c.args.homes.squeues c.args.homes.spread c.args.feed = c.home-to.ensures.home in
     let apart : to ≢ from = λ h. other_home c.args.homes.squeues c.args.homes.spread c.args.feed c.requires.moves (sym e ∙ (sym h ∙ d)) in
-    let lf : from < length c.args.squeues.now = omega (arith, c.home_before-from.ensures.range, c.requires.run.count) in
-    let lt : to < length c.args.squeues.now = omega (arith, c.home-to.ensures.range, c.requires.run.count) in
+    let lf : from < length c.args.access.now.squeues.now = omega (arith, c.home_before-from.ensures.range, c.requires.run.count) in
+    let lt : to < length c.args.access.now.squeues.now = omega (arith, c.home-to.ensures.range, c.requires.run.count) in
     record {
       a = c.index-squeues-from.result;
       b = c.index-squeues-to.result;
@@ -80,8 +80,8 @@ returns g c =
       qa = c.migrate-left.result.0;
       pb = c.take_at-come.result;
       qb = c.migrate-left.result.1;
-      from = ap (slice_get c.args.squeues.now) (sym e) ∙ got_at c.args.squeues.now from c.index-squeues-from.result lf c.index-squeues-from.is;
-      to = ap (slice_get c.args.squeues.now) (sym d) ∙ got_at c.args.squeues.now to c.index-squeues-to.result lt c.index-squeues-to.is;
+      from = ap (slice_get c.args.access.now.squeues.now) (sym e) ∙ got_at c.args.access.now.squeues.now from c.index-squeues-from.result lf c.index-squeues-from.is;
+      to = ap (slice_get c.args.access.now.squeues.now) (sym d) ∙ got_at c.args.access.now.squeues.now to c.index-squeues-to.result lt c.index-squeues-to.is;
       was_from = ap (slice_get c.args.places.now.items) (sym e) ∙ c.take_at-left.ensures.taken;
       was_to = ap (slice_get c.args.places.now.items) (sym d) ∙ (sym (c.take_at-left.ensures.others to apart) ∙ c.take_at-come.ensures.taken);
       now_from = ap (slice_get c.put_at-2.new.places.items) (sym e) ∙ (c.put_at-2.ensures.others from (λ h. apart (sym h)) ∙ c.put_at.ensures.place);

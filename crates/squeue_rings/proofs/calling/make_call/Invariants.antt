@@ -5,5 +5,5 @@ use Rattle.squeue_rings.proofs.calling.make_call.Given as goal
 
 abbrev pub invariant-loop : goal.invariant-loop
 invariant-loop g l =
-    (cs : List ℕ) → length cs ≡ l.k → MayMakeAll g.R.Resident.limits l.j l.k cs l.c l.squeues → CallersAt g.R.Resident.limits l.j cs l.squeues l.fn.places.items
-    → Tries g.R.Resident.limits l.j l.k cs l.c l.squeues l.places.items
+    (cs : List ℕ) → length cs ≡ l.k → MayMakeAll g.R.Resident.limits l.j l.k cs l.c l.access.squeues.now → CallersAt g.R.Resident.limits l.j cs l.access.squeues.now l.fn.places.items
+    → Tries g.R.Resident.limits l.j l.k cs l.c l.access.squeues.now l.places.items

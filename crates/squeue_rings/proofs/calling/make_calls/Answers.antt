@@ -13,9 +13,9 @@ make_call-requires-clause-hints g c =
     let conns = c.args.conns.now in
     let d = get_or conns c.loop-k.k 0 in
     let got = slice_get-get_or conns c.loop-k.k 0 c.loop-k-test.true in
-    let s = some_at c.args.squeues.now 0 c.requires.hints.2 in
-    let may = each_at (λ s. MayMake g.R.Resident.limits s c.args.j c.loop-k.k (take c.loop-k.k conns) d) c.args.squeues.now 0 s.0 (c.requires.may c.loop-k.k d got) s.1 in
-    let most = each_at (λ s. length s.given.starts ≤ conns_of c.args.hints.now) c.args.squeues.now 0 s.0 c.requires.hints.1 s.1 in
+    let s = some_at c.args.access.now.squeues.now 0 c.requires.hints.2 in
+    let may = each_at (λ s. MayMake g.R.Resident.limits s c.args.j c.loop-k.k (take c.loop-k.k conns) d) c.args.access.now.squeues.now 0 s.0 (c.requires.may c.loop-k.k d got) s.1 in
+    let most = each_at (λ s. length s.given.starts ≤ conns_of c.args.access.now.hints.now) c.args.access.now.squeues.now 0 s.0 c.requires.hints.1 s.1 in
     (omega (arith, may.range, most), c.requires.hints.0)
 
 pub make_call-requires-clause-ready : goal.make_call-requires-clause-ready
@@ -30,5 +30,5 @@ loop-k-preserved g c =
     let conns = c.args.conns.now in
     let d = get_or conns c.loop-k.k 0 in
     let got = slice_get-get_or conns c.loop-k.k 0 c.loop-k-test.true in
-    subst (λ (cs : List ℕ). CallersAt g.R.Resident.limits c.args.j cs c.args.squeues.now c.make_call.new.places.items) (sym (take_one conns c.loop-k.k d got))
+    subst (λ (cs : List ℕ). CallersAt g.R.Resident.limits c.args.j cs c.args.access.now.squeues.now c.make_call.new.places.items) (sym (take_one conns c.loop-k.k d got))
     (c.make_call.ensures (take c.loop-k.k conns) (take_length conns c.loop-k.k d got) (c.requires.may c.loop-k.k d got) c.loop-k.invariant)

@@ -1,6 +1,0 @@
-use Rattle.std.proofs.Common.{◌≡◌, ◌+◌}
-use Rattle.poll_ring.proofs.tests.puts.Given as goal
-
-abbrev pub invariant-loop : goal.invariant-loop
-invariant-loop g l =
-    (l.end.ring ≡ l.initial.end.ring) × (l.initial.end.ring ≡ l.ring.ring) × (l.end.put ≡ l.initial.end.put + l.counter)

@@ -1,7 +1,0 @@
-use Rattle.std.proofs.Common.{◌≡◌}
-use Rattle.turn_gate.specs.Passes.{IsPassOf, number}
-use Rattle.squeue_state.specs.Elements.{number_of}
-use Rattle.synch_enter.proofs.tests.beside.look.Given as goal
-
-abbrev pub invariant-loop : goal.invariant-loop
-invariant-loop g l = record { is : IsPassOf number_of l.squeue.gate l.pass; same : number l.pass ≡ number l.fn.pass }
