@@ -1,5 +1,5 @@
 -- Bytes are one capture, in whichever form, or none.
-use Rattle.std.proofs.Common.{◌≡◌, ◌≤◌, length, Result, Ok, Err, inl, inr, subst, sym}
+use Rattle.std.proofs.Common.{◌≡◌, ◌∙◌, ◌≤◌, ap, length, Result, Ok, Err, inl, inr, subst, sym}
 use Rattle.capture_reader.specs.CaptureFile.{Contents, Meets}
 use Rattle.capture_reader.specs.Limits.{most_bytes}
 use Rattle.capture_reader.specs.Outcome.{CaptureFile, contents_of}
@@ -34,7 +34,7 @@ same_ng x y e = cc
 not_both_ng : (x : Contents) (f : PcapngFault) → ng_accepted x ≡ ng_refused f → ⊥
 not_both_ng x f e = cc
 
-pub same_contents_of : (file found : CaptureFile) → found.bytes ≡ file.bytes → IsInput file → IsInput found → contents_of found ≡ contents_of file
+same_contents_of : (file found : CaptureFile) → found.bytes ≡ file.bytes → IsInput file → IsInput found → contents_of found ≡ contents_of file
 same_contents_of file found bytes (inl p) (inl q) =
     same_ng (contents_of found) (contents_of file)
     (ng_meets_once file.bytes (ng_accepted (contents_of found)) (ng_accepted (contents_of file)) (subst (λ b. Captured b (contents_of found)) bytes q.captured) p.captured)
@@ -43,6 +43,15 @@ same_contents_of file found bytes (inr p) (inl q) = absurd (p.0 (subst BeginsSec
 same_contents_of file found bytes (inr p) (inr q) =
     same_contents (contents_of found) (contents_of file)
     (meets_once file.bytes (accepted (contents_of found)) (accepted (contents_of file)) (subst (λ b. Meets b (Ok (contents_of found))) bytes q.1.captured) p.1.captured)
+
+same_file : (file found : CaptureFile) → found.bytes ≡ file.bytes → contents_of found ≡ contents_of file → found ≡ file
+same_file file found bytes contents =
+    ap (λ b. record { bytes = b; link = found.link; packets = found.packets; cut = found.cut }) bytes
+    ∙ ap (λ c. record { bytes = file.bytes; link = c.link; packets = c.packets; cut = c.cut }) contents
+
+-- a capture is fixed by its bytes
+pub same_input : (file found : CaptureFile) → found.bytes ≡ file.bytes → IsInput file → IsInput found → found ≡ file
+same_input file found bytes is found_is = same_file file found bytes (same_contents_of file found bytes is found_is)
 
 pub input_small : (file : CaptureFile) → IsInput file → length file.bytes ≤ most_bytes
 input_small file (inl p) = p.small

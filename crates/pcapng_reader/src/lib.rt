@@ -17,6 +17,3 @@ mod reading;
 pub use fault::PcapngFault;
 pub use input::{InputFault, parse_input};
 pub use reading::parse_pcapng;
-
-#[cfg(test)]
-mod tests;

@@ -1,10 +1,9 @@
 -- Worked examples: what marks add to a report.
-use Rattle.std.proofs.Common.{◌≡◌, [], ◌∷◌, map, true, false, codes, refl}
+use Rattle.std.proofs.Common.{◌≡◌, [], ◌∷◌, true, false, codes, refl}
 use Rattle.std.specs.Fmt.{digits}
 use Rattle.perimeter_core.specs.declared.entries.Entry.TheVariants.{Feed, Ask}
 use Rattle.perimeter_core.specs.declared.marks.Mark.TheVariants as On
 use Rattle.perimeter_core.specs.declared.marks.SynchAct.TheVariants as Done
-use Rattle.perimeter_core.specs.Worked.{three_passes_one_worker}
 use Rattle.squeue_enter.specs.declared.Mode.TheVariants as Mode'
 use Rattle.squeue_enter.specs.Ways.{mode_word}
 use Rattle.tcb_machine.specs.declared.kinds.Call.TheVariants.{Status, Buffer, Close}
@@ -26,7 +25,9 @@ three_calls : calls_text (((0, Status) ∷ (12, Close) ∷ []) ∷ [] ∷ ((3, B
 unfolding call_line digits
 three_calls = refl
 
-three_passes : squeue_text (0, map (λ e. e.mark) three_passes_one_worker) ≡ codes "squeue 0 marks 8\nfill 0 0.0 0.1\nfill 1 1.0 1.1\nfill 2 2.0\nclose 0\nclose 1\nclose 2\nwork 3\nleave 3 0 none\n"
+three_passes :
+    squeue_text (0, On.Fill 0 (Feed 0 0 ∷ Feed 0 1 ∷ []) ∷ On.Fill 1 (Feed 1 0 ∷ Feed 1 1 ∷ []) ∷ On.Fill 2 (Feed 2 0 ∷ []) ∷ On.Close 0 ∷ On.Close 1 ∷ On.Close 2 ∷ On.Work 3 ∷ On.Leave 3 0 Done.None ∷ [])
+    ≡ codes "squeue 0 marks 8\nfill 0 0.0 0.1\nfill 1 1.0 1.1\nfill 2 2.0\nclose 0\nclose 1\nclose 2\nwork 3\nleave 3 0 none\n"
 unfolding squeue_line mark_line digits
 three_passes = refl
 

@@ -3,3 +3,4 @@ pub mod ReportText
 pub mod TraceText
 pub mod SummaryText
 pub mod OrderLaw
+pub mod Telling

@@ -5,8 +5,6 @@ pub mod laws;
 mod names;
 mod reporting;
 mod summing;
-#[cfg(test)]
-mod tests;
 mod tracing;
 
 pub use names::state_name;

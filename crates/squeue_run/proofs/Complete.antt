@@ -1,14 +1,14 @@
 -- Accepted words and an accepted capture end with the whole output, where nothing fails.
-use Rattle.std.proofs.Common.{◌≡◌, ◌∙◌, ℕ, ◌<◌, ◌≤◌, List, [], ◌∷◌, Option, Some, None, inl, inr, subst, ap, arith}
+use Rattle.std.proofs.Common.{◌≡◌, ℕ, ◌<◌, ◌≤◌, List, [], ◌∷◌, Option, Some, None, inl, inr, subst, arith}
 use Rattle.sq_base.specs.Ends.{Rose, End}
 use Rattle.sq_base.specs.declared.kinds.Status.{Status}
 use Rattle.sq_base.specs.declared.kinds.Status.TheVariants as status
-use Rattle.capture_reader.specs.Outcome.{CaptureFile, contents_of}
+use Rattle.capture_reader.specs.Outcome.{CaptureFile}
 use Rattle.capture_reader.specs.declared.fault.CaptureFault.TheVariants as fault
 use Rattle.capture_reader.proofs.Taken.{not_too_many, whole_is}
 use Rattle.pcapng_reader.specs.declared.fault.PcapngFault.TheVariants as pcapng
 use Rattle.pcapng_reader.specs.Input.{IsInput, IsRefusedCapture, IsRefusedPcapng}
-use Rattle.pcapng_reader.proofs.Inputs.{input_small, refused_not, refused_not_ng, same_contents_of}
+use Rattle.pcapng_reader.proofs.Inputs.{input_small, refused_not, refused_not_ng, same_input}
 use Rattle.squeue_run.specs.Input.{ReadsSuch}
 use Rattle.ring_threads.specs.Served.{ServedOf}
 use Rattle.squeue_run.specs.Asked.{Asked}
@@ -17,16 +17,11 @@ use Rattle.squeue_run.specs.Limits.{most_marks}
 use Rattle.squeue_run.specs.Ran.{Accepts, AcceptsBy, HasRead, HoldsCapture, HasRan, IsDone, IsLongTrace, IsServable, RanBy, RanFor, RanGenerated, RanRead, Reads, conns_of, marks_in}
 use Rattle.squeue_run.specs.declared.calls.CallWord.{CallWord}
 
-pub same_file : (f g : CaptureFile) → f.bytes ≡ g.bytes → contents_of f ≡ contents_of g → f ≡ g
-same_file f g bytes contents =
-    ap (λ b. record { bytes = b; link = f.link; packets = f.packets; cut = f.cut }) bytes
-    ∙ ap (λ c. record { bytes = g.bytes; link = c.link; packets = c.packets; cut = c.cut }) contents
-
 -- the capture that was read is the one that was there
 read_once : (file found : CaptureFile) (source : End) → source.was ≡ Some file.bytes → IsInput file → Reads source found → found ≡ file
 read_once file found source there capture r =
     let bytes : found.bytes ≡ file.bytes = whole_is file.bytes found.bytes source.was source.is there r.read in
-    same_file found file bytes (same_contents_of file found bytes capture r.capture)
+    same_input file found bytes capture r.capture
 
 not_refused : (Such : List ℕ → Type 0) (file : CaptureFile) (source : End) → source.was ≡ Some file.bytes → (Such file.bytes → ⊥) → ReadsSuch Such source.was source.is → ⊥
 not_refused Such file source there not r = not (subst Such (whole_is file.bytes r.0 source.was source.is there r.1) r.2)

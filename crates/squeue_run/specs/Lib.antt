@@ -10,4 +10,3 @@ pub mod GeneratorState
 pub mod Output
 pub mod Ran
 pub mod Causes
-pub mod Telling

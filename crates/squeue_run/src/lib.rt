@@ -14,8 +14,6 @@ mod process;
 mod reading;
 mod refusal;
 mod run;
-#[cfg(test)]
-mod tests;
 mod words;
 
 pub use calls::CallWord;

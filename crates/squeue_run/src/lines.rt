@@ -5,7 +5,7 @@ ghost use Rattle.sq_base.specs.Ends.{end_of};
 ghost use Rattle.squeue_enter.specs.Ways.{mode_words};
 ghost use Rattle.squeue_run.specs.Lines.{bad_line, capture_text, many_marks_line, missing_line, pcapng_line, pcapng_text, shown_line};
 ghost use Rattle.squeue_run.specs.Ran.{IsBad, IsBadPcapng};
-ghost use Rattle.squeue_run.specs.Telling.{TellsLine};
+ghost use Rattle.squeue_report.specs.Telling.{TellsLine};
 
 use capture_reader::CaptureFault;
 use pcapng_reader::PcapngFault;

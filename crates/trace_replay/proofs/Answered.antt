@@ -8,6 +8,7 @@ use Rattle.perimeter_core.specs.declared.marks.Mark.{Mark}
 use Rattle.perimeter_core.specs.Legal.{Legal}
 use Rattle.perimeter_core.proofs.OneMore.{legal_front}
 use Rattle.capture_reader.specs.Outcome.{CaptureFile}
+use Rattle.pcapng_reader.proofs.Inputs.{same_input}
 use Rattle.squeue_state.specs.Naming.{Ending}
 use Rattle.conn_classifier.specs.Plan.{PlanOf, plan_of}
 use Rattle.conn_blocks.specs.CallLists.{CallLists}
@@ -21,7 +22,7 @@ use Rattle.trace_replay.specs.declared.reason.Reason.{Reason}
 use Rattle.trace_replay.specs.declared.reason.Reason.TheVariants as reason
 use Rattle.trace_replay.specs.Reasons.{AreOrdered, AreRight, FailsAtLine, FailsAtMark, FailsAtOrder, HasForm, Holds, IsCut, MarksFail, Reading, Says, histories_in}
 use Rattle.trace_replay.specs.Replays.{Replays}
-use Rattle.trace_replay.proofs.Once.{few_conns, fit_front, input_once, orders_once}
+use Rattle.trace_replay.proofs.Once.{few_conns, fit_front, orders_once}
 use Rattle.trace_replay.proofs.FirstLines.{avoids_both, first_line, first_once}
 use Rattle.trace_replay.proofs.FitsFromRight.{fits_from_right}
 use Rattle.trace_replay.proofs.ReportLines.{head_avoids, head_text, no_d, no_s, told_avoids, told_front}
@@ -103,7 +104,7 @@ module _ (input : List ℕ) (r : Replays input) where
   same_reading report file u form =
       let cut = same_cut report file.bytes form.read.cut in
       let says = form.says in
-      let its_file = input_once file r.file form.read.capture r.capture cut.1 in
+      let its_file = same_input r.file file cut.1 r.capture form.read.capture in
       let first = subst (λ (l : List ℕ). HasFirstLine (codes "setup ") l says.before) cut.0 says.first in
       let before = first_once (codes "setup ") text says.before (head p t.calls t.setup t.verify r.orders t.marks) first (first_setup p t.calls t.setup t.verify r.orders t.marks) in
       let both : head p t.calls t.setup t.verify r.orders t.marks ++ told_text u ≡ head p t.calls t.setup t.verify r.orders t.marks ++ told_text t =
@@ -172,7 +173,7 @@ not_both reason.NoReport input none r = none (front (plan_of r.file r.told.verif
 not_both reason.Capture input (report, rest, cut, none) r = none r.file (sym (same_cut input r report rest cut).1) r.capture
 not_both reason.Form input (report, file, read, none) r =
     let cut = same_cut input r report file.bytes read.cut in
-    none r.told (says_so input r report file cut.0 (input_once file r.file read.capture r.capture cut.1))
+    none r.told (says_so input r report file cut.0 (same_input r.file file cut.1 r.capture read.capture))
 not_both (reason.Illegal q n) input holds r = no_mark_fails input r (reason.Illegal q n) holds
 not_both (reason.Open q) input holds r = no_mark_fails input r (reason.Open q) holds
 not_both (reason.Unfit q n) input holds r = no_mark_fails input r (reason.Unfit q n) holds

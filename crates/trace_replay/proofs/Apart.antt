@@ -8,6 +8,7 @@ use Rattle.perimeter_core.specs.History.{Element, Setting}
 use Rattle.perimeter_core.specs.Legal.{Legal}
 use Rattle.perimeter_core.proofs.OneMore.{legal_front}
 use Rattle.capture_reader.specs.Outcome.{CaptureFile}
+use Rattle.pcapng_reader.proofs.Inputs.{same_input}
 use Rattle.squeue_state.specs.Naming.{Ending}
 use Rattle.conn_classifier.specs.Plan.{PlanOf, plan_of}
 use Rattle.squeue_serve.proofs.Lent.{some_at}
@@ -18,7 +19,7 @@ use Rattle.trace_lines.specs.Printed.{Told, told_text}
 use Rattle.trace_replay.specs.declared.reason.Reason.{Reason}
 use Rattle.trace_replay.specs.declared.reason.Reason.TheVariants as reason
 use Rattle.trace_replay.specs.Reasons.{AllClosed, AllFit, AllLegal, AreFit, AreOrdered, DifferAt, FailsAtLine, FailsAtMark, FailsAtOrder, HasForm, Holds, IsCut, IsIllegalAt, IsRead, IsUnfitAt, MarksFail, Reading, Says, first_marks, histories_in, lines_in}
-use Rattle.trace_replay.proofs.Once.{few_conns, fit_front, input_once, orders_once}
+use Rattle.trace_replay.proofs.Once.{few_conns, fit_front, orders_once}
 use Rattle.trace_replay.proofs.FirstLines.{first_once}
 use Rattle.trace_replay.proofs.ToldOnce.{told_once}
 
@@ -118,7 +119,7 @@ same_cut input report rest other more a b =
 same_read : (input report other : List ℕ) (file next : CaptureFile) → IsRead input report file → IsRead input other next → (report ≡ other) × (file ≡ next)
 same_read input report other file next a b =
     let cut = same_cut input report file.bytes other next.bytes a.cut b.cut in
-    (cut.0, input_once file next a.capture b.capture cut.1)
+    (cut.0, same_input next file cut.1 b.capture a.capture)
 
 same_told : (report : List ℕ) (file next : CaptureFile) (t u : Told) → Says report file t → Says report next u → t ≡ u
 same_told report file next t u a b =

@@ -24,7 +24,7 @@ use Rattle.conn_classifier.specs.Plan.{PlanOf, items_in}
 use Rattle.conn_blocks.specs.CallLists.{CallLists}
 use Rattle.placed_parts.specs.Homes.{times_leaving}
 use Rattle.conn_blocks.specs.Orders.{settle}
-use Rattle.perimeter_core.proofs.LogSteps.{feed_numbers-append}
+use Rattle.perimeter_core.proofs.ActLists.{feed_numbers-append}
 use Rattle.conn_blocks.specs.SettledFeeds.{feeds_settle}
 use Rattle.squeue_rings.specs.Keeping.{KeepsPace}
 use Rattle.squeue_rings.specs.Noted.{AreNoted}

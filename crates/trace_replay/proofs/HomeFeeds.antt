@@ -14,7 +14,7 @@ use Rattle.perimeter_core.specs.Backlog.{queue, up}
 use Rattle.perimeter_core.proofs.OrderAndWake.{order}
 use Rattle.perimeter_core.proofs.FeedLists.{feeds_of-append}
 use Rattle.squeue_enter.specs.declared.Mode.{Mode}
-use Rattle.perimeter_core.proofs.LogSteps.{feed_numbers-append}
+use Rattle.perimeter_core.proofs.ActLists.{feed_numbers-append}
 use Rattle.placed_parts.specs.Homes.{home}
 use Rattle.conn_migrate.specs.Stays.{Stay, all_in, done_in, reports_from, stays}
 use Rattle.squeue_rings.specs.Keeping.{AreHome, KeepsFrom, KeepsPace}

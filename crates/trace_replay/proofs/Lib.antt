@@ -25,11 +25,6 @@ mod Once
 mod Answered
 mod Apart
 mod Judging
-mod Served
-mod FewItems
-mod SuchMarks
-mod SuchCalls
-mod SuchRuns
 mod EndedStays
 mod NamedCalls
 mod JoinedStays

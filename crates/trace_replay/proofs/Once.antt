@@ -1,6 +1,6 @@
--- What is fixed by an input: a capture by its bytes, the orders by the histories; and a plan has few connections.
-use Rattle.std.proofs.Common.{◌≡◌, ℕ, suc, ◌+◌, ◌^◌, ◌≤◌, ◌<◌, inl, inr, Bool, Some, List, [], ◌∷◌, ◌++◌, length, take, refl, ap, sym, ◌∙◌, subst, arith}
-use Rattle.std.specs.Prelude.{IfSome, Ok, Result, slice_get}
+-- What is fixed by an input: the orders by the histories; and a plan has few connections.
+use Rattle.std.proofs.Common.{◌≡◌, ℕ, suc, ◌+◌, ◌^◌, ◌≤◌, ◌<◌, Bool, Some, List, [], ◌∷◌, ◌++◌, length, take, refl, ap, sym, ◌∙◌, subst, arith}
+use Rattle.std.specs.Prelude.{IfSome, slice_get}
 use Rattle.std.specs.List.{filter_map}
 use Rattle.std.proofs.lemmas.List.{length-take, take-append-le}
 use Rattle.std.proofs.lemmas.Option.{slice_get_within}
@@ -9,16 +9,7 @@ use Rattle.perimeter_core.specs.History.{Element, Setting}
 use Rattle.perimeter_core.specs.Deeds.{done}
 use Rattle.perimeter_core.specs.Legal.{feed_count}
 use Rattle.sq_base.specs.declared.kinds.Tuple.{Tuple}
-use Rattle.capture_reader.specs.declared.fault.CaptureFault.{CaptureFault}
-use Rattle.capture_reader.specs.CaptureFile.{Contents}
-use Rattle.capture_reader.specs.CaptureFile as capture_file
-use Rattle.capture_reader.specs.Outcome.{CaptureFile, contents_of}
-use Rattle.capture_reader.proofs.OneOutcome as capture_outcome
-use Rattle.pcapng_reader.specs.declared.fault.PcapngFault.{PcapngFault}
-use Rattle.pcapng_reader.specs.PcapngFile as pcapng_file
-use Rattle.pcapng_reader.specs.PcapngFile.{BeginsSection}
-use Rattle.pcapng_reader.specs.Input.{IsInput}
-use Rattle.pcapng_reader.proofs.Outcomes as pcapng_outcome
+use Rattle.capture_reader.specs.Outcome.{CaptureFile}
 use Rattle.squeue_state.specs.Naming.{Ending}
 use Rattle.conn_classifier.specs.Connections.{conns, decoded, distinct, served_tuple}
 use Rattle.conn_classifier.specs.Plan.{PlanOf, plan_of}
@@ -28,28 +19,8 @@ use Rattle.squeue_enter.specs.declared.Mode.{Mode}
 use Rattle.squeue_rings.specs.Keeping.{KeepsFrom, KeepsPace, taken}
 use Rattle.ring_quotas.specs.declared.setup.Setup.{Setup}
 use Rattle.squeue_serve.proofs.Lent.{get_front}
-use Rattle.squeue_run.proofs.Complete.{same_file}
 use Rattle.trace_replay.specs.Reasons.{AreFit, AreOrdered}
 use Rattle.trace_replay.proofs.StaysAlike.{all_fixed}
-
--- a capture is fixed by its bytes
-abbrev ok_of : (F : Type 0) → Contents → Result Contents F
-ok_of F x = Ok x
-
-ok_same : (F : Type 0) (x y : Contents) → ok_of F x ≡ ok_of F y → x ≡ y
-ok_same F x y e = cc e
-
-pub input_once : (a b : CaptureFile) → IsInput a → IsInput b → a.bytes ≡ b.bytes → a ≡ b
-input_once a b (inl x) (inl y) bytes =
-    same_file a b bytes
-    (ok_same PcapngFault (contents_of a) (contents_of b)
-    (pcapng_outcome.meets_once b.bytes (Ok (contents_of a)) (Ok (contents_of b)) (subst (λ (bs : List ℕ). pcapng_file.Captured bs (contents_of a)) bytes x.captured) y.captured))
-input_once a b (inr x) (inr y) bytes =
-    same_file a b bytes
-    (ok_same CaptureFault (contents_of a) (contents_of b)
-    (capture_outcome.meets_once b.bytes (Ok (contents_of a)) (Ok (contents_of b)) (subst (λ (bs : List ℕ). capture_file.Captured bs (contents_of a)) bytes x.1.captured) y.1.captured))
-input_once a b (inl x) (inr y) bytes = absurd (y.0 (subst BeginsSection bytes x.begins))
-input_once a b (inr x) (inl y) bytes = absurd (x.0 (subst BeginsSection (sym bytes) y.begins))
 
 -- a plan has few connections
 few_taken : (ts : List Tuple) → length (take 4096 ts) < 2 ^ 64

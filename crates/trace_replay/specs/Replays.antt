@@ -1,9 +1,7 @@
 -- An input that replays: a report with the marks of histories that fit its setup, and its capture behind it.
 use Rattle.std.specs.Prelude.{◌≡◌, ℕ, List, ◌++◌, length, map}
 use Rattle.perimeter_core.specs.declared.entries.Act.{Act}
-use Rattle.std.specs.Io.KnownBytes.{Appends}
-use Rattle.sq_base.specs.Ends.{End}
-use Rattle.capture_reader.specs.Outcome.{CaptureFile, ReadsWhole}
+use Rattle.capture_reader.specs.Outcome.{CaptureFile}
 use Rattle.pcapng_reader.specs.Input.{IsInput}
 use Rattle.conn_classifier.specs.Plan.{plan_of}
 use Rattle.squeue_state.specs.Naming.{Ending}
@@ -27,11 +25,3 @@ pub record Replays (input : List ℕ) : Type 0 where
   pub count : length orders ≡ length (plan_of file told.verify).tuples
   pub fits : Fits (plan_of file told.verify) told.calls told.setup histories orders
   pub joined : input ≡ trace_text (plan_of file told.verify) told.calls told.setup told.verify orders told.marks ++ file.bytes
-
--- what was read to its end replays behind what was written
-pub record WroteWhatReplays (source out : End) : Type 0 where
-  pub read : List ℕ
-  pub written : List ℕ
-  pub whole : ReadsWhole source.was source.is read
-  pub appended : Appends out.was out.is written
-  pub replays : Replays (written ++ read)

@@ -25,9 +25,7 @@ mod process;
 mod reason;
 mod replaying;
 mod run;
-#[cfg(test)]
-mod tests;
 
 pub use process::run_process;
 pub use reason::Reason;
-pub use run::{Replayed, replay_run};
+pub use run::{Replayed, replay_run, replay_within};

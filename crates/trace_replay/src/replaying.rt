@@ -2,11 +2,12 @@
 
 ghost use Rattle.std.specs.Prelude.{◌≡◌, ◌<◌, ◌≤◌, ℕ, All, Err, IfOk, MatchOption, List, [], ◌∷◌, ◌++◌, map, option_map};
 ghost use Rattle.std.specs.List.{flat_map};
-ghost use Rattle.perimeter_core.specs.declared.marks.Mark.{Mark as MarkOf};
+ghost use Rattle.perimeter_core.specs.declared.marks.Mark.{Mark};
 ghost use Rattle.perimeter_core.specs.Legal.{Legal};
 ghost use Rattle.squeue_report.specs.TraceText.{mark_line};
 ghost use Rattle.squeue_replay.specs.Histories.{ending_of, endings_of};
-ghost use Rattle.squeue_replay.specs.Marks.{mark_by, HasItsFeeds, IsPrinted};
+ghost use Rattle.perimeter_core.specs.Kinds.{mark_by};
+ghost use Rattle.squeue_replay.specs.Marks.{HasItsFeeds, IsPrinted};
 ghost use Rattle.squeue_replay.specs.Pacing.{PaceStands};
 ghost use Rattle.squeue_replay.specs.Replaying.{history_of, setting_of, squeue_of};
 ghost use Rattle.squeue_replay.specs.Standing.{GuestsStand, Stands, guest_of};
@@ -15,7 +16,7 @@ ghost use Rattle.trace_replay.specs.Going.{HasAdded, HasGone};
 ghost use Rattle.trace_replay.specs.Reasons.{AreRight, IsIllegalAt, MarksFail};
 
 use crate::reason::{Reason, Refusal};
-use squeue_replay::{Guest, Mark, Met, Pace, Run, Squeue};
+use squeue_replay::{Guest, Met, Pace, ReadMark, Run, Squeue};
 use std::alloc::{AllocError, Global};
 use trace_lines::read_mark;
 
@@ -34,16 +35,16 @@ pub fn replay_all(
     run: Run<'_, '_>,
     histories: &[&[u8]],
 ) -> Result<Vec<Vec<Guest>>, Refusal>
-    requires { (marks : List (List MarkOf)) × ArePrintedMarks run.setup.squeues marks × (map (λ l. l.now) histories.now ≡ map (flat_map mark_line) marks) }
-    ensures right { IfOk result (λ v. (marks : List (List MarkOf)) → ArePrintedMarks run.entry.setup.squeues marks
+    requires { (marks : List (List Mark)) × ArePrintedMarks run.setup.squeues marks × (map (λ l. l.now) histories.now ≡ map (flat_map mark_line) marks) }
+    ensures right { IfOk result (λ v. (marks : List (List Mark)) → ArePrintedMarks run.entry.setup.squeues marks
         → map (λ l. l.now) histories.now ≡ map (flat_map mark_line) marks
         → AreRight run.entry.setup (endings_of run.entry.plan.now run.entry.calls.now run.entry.setup marks)
         × GuestsStand (endings_of run.entry.plan.now run.entry.calls.now run.entry.setup marks) (map (λ gs. map guest_of gs.items) v.items)) }
-    ensures no { (r : Reason) → result ≡ Err (Refusal.No r) → (marks : List (List MarkOf)) → ArePrintedMarks run.entry.setup.squeues marks
+    ensures no { (r : Reason) → result ≡ Err (Refusal.No r) → (marks : List (List Mark)) → ArePrintedMarks run.entry.setup.squeues marks
         → map (λ l. l.now) histories.now ≡ map (flat_map mark_line) marks
         → MarksFail run.entry.setup (endings_of run.entry.plan.now run.entry.calls.now run.entry.setup marks) r }
 {
-    let mut mark = Mark::make(alloc);
+    let mut mark = ReadMark::make(alloc);
     let mut all = Vec::with_capacity(alloc, histories.len())?;
     let mut open = None;
     let mut unfit = None;
@@ -73,14 +74,14 @@ fn replay_one(
     alloc: Global,
     run: Run<'_, '_>,
     number: u32,
-    mark: &mut Mark,
+    mark: &mut ReadMark,
     lines: &[u8],
 ) -> Result<Replay, Refusal>
     requires { number < run.setup.squeues }
-    ensures gone { IfOk result (λ r. (ms : List MarkOf) → All IsPrinted ms → lines.now ≡ flat_map mark_line ms
+    ensures gone { IfOk result (λ r. (ms : List Mark) → All IsPrinted ms → lines.now ≡ flat_map mark_line ms
         → HasGone run.entry.setup number (ending_of run.entry.plan.now run.entry.calls.now run.entry.setup (number, ms))
         (map guest_of r.guests.items) r.ended r.unfit) }
-    ensures no { (r : Reason) → result ≡ Err (Refusal.No r) → (ms : List MarkOf) → All IsPrinted ms → lines.now ≡ flat_map mark_line ms
+    ensures no { (r : Reason) → result ≡ Err (Refusal.No r) → (ms : List Mark) → All IsPrinted ms → lines.now ≡ flat_map mark_line ms
         → (n : ℕ) × (r ≡ Reason.Illegal number n) × IsIllegalAt (ending_of run.entry.plan.now run.entry.calls.now run.entry.setup (number, ms)) n }
 {
     let mut squeue = Squeue::make(alloc, run, number)?;
@@ -113,17 +114,17 @@ fn replay_one(
 fn add(
     squeue: &mut Squeue<'_, '_>,
     pace: &mut Pace,
-    mark: &Mark,
+    mark: &ReadMark,
 ) -> Result<Option<bool>, AllocError>
     requires { 1 ≤ pace.old.setup.squeues }
     ensures same { (squeue.new.run ≡ squeue.old.run) × (squeue.new.number ≡ squeue.old.number)
         × (pace.new.setup ≡ pace.old.setup) × (pace.new.squeue ≡ pace.old.squeue) }
-    ensures added { IfOk result (λ o. (past : List MarkOf) → Stands (setting_of squeue.old) (history_of squeue.old past) (squeue_of squeue.old)
+    ensures added { IfOk result (λ o. (past : List Mark) → Stands (setting_of squeue.old) (history_of squeue.old past) (squeue_of squeue.old)
         → PaceStands (setting_of squeue.old) (history_of squeue.old past) pace.old
-        → IsPrinted (mark_by mark.now.p mark.now.step mark.now.feeds.items) → HasItsFeeds mark.now.step mark.now.feeds.items
+        → IsPrinted (mark_by mark.now.p mark.now.kind mark.now.feeds.items) → HasItsFeeds mark.now.kind mark.now.feeds.items
         → MatchOption o
-        (Legal (setting_of squeue.old) (history_of squeue.old (past ++ mark_by mark.now.p mark.now.step mark.now.feeds.items ∷ [])) → ⊥)
-        (λ keeps. HasAdded squeue.old pace.old past (mark_by mark.now.p mark.now.step mark.now.feeds.items) squeue.new pace.new keeps)) }
+        (Legal (setting_of squeue.old) (history_of squeue.old (past ++ mark_by mark.now.p mark.now.kind mark.now.feeds.items ∷ [])) → ⊥)
+        (λ keeps. HasAdded squeue.old pace.old past (mark_by mark.now.p mark.now.kind mark.now.feeds.items) squeue.new pace.new keeps)) }
 {
     let taken = squeue.is_taken();
     let queued = squeue.has_queued();

@@ -5,7 +5,7 @@ ghost use Rattle.std.specs.String.{string_bytes};
 ghost use Rattle.std.specs.Io.KnownBytes.{Appends};
 ghost use Rattle.std.specs.List.{flat_map};
 ghost use Rattle.sq_base.specs.Ends.{AppendsProperly, IsUntouched, Rose, end_of};
-ghost use Rattle.squeue_run.specs.Telling.{TellsLine};
+ghost use Rattle.squeue_report.specs.Telling.{TellsLine};
 ghost use Rattle.perimeter_core.specs.declared.marks.Mark.{Mark};
 ghost use Rattle.squeue_report.specs.TraceText.{mark_line};
 ghost use Rattle.trace_lines.specs.Printed.{ArePrintedMarks};

@@ -4,7 +4,7 @@ use Rattle.perimeter_core.specs.declared.entries.Act.TheVariants as Did
 use Rattle.perimeter_core.specs.Blocks.{Blocks as Had}
 use Rattle.perimeter_core.specs.Deeds.{fed}
 use Rattle.perimeter_core.specs.Residing.{HadFeeds}
-use Rattle.perimeter_core.proofs.LogSteps.{here_of_feeds}
+use Rattle.perimeter_core.proofs.ActLists.{here_of_feeds}
 use Rattle.conn_classifier.specs.Plan.{PlanOf, items_in}
 use Rattle.conn_blocks.specs.declared.blocks.Blocks.{Blocks}
 use Rattle.conn_blocks.specs.Allowed.{feed_limits}

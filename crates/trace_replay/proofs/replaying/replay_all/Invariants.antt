@@ -1,6 +1,6 @@
 use Rattle.std.proofs.Common.{◌≡◌, ◌≤◌, List, length, map, vec_capacity, vec_len}
 use Rattle.std.specs.List.{flat_map}
-use Rattle.perimeter_core.specs.declared.marks.Mark.{Mark as MarkOf}
+use Rattle.perimeter_core.specs.declared.marks.Mark.{Mark}
 use Rattle.squeue_report.specs.TraceText.{mark_line}
 use Rattle.squeue_replay.specs.Standing.{guest_of}
 use Rattle.trace_lines.specs.Printed.{ArePrintedMarks}
@@ -13,6 +13,6 @@ invariant-loop-lines l = record {
   so_many : vec_len l.all ≡ l.lines-index;
   room : length l.histories ≤ vec_capacity l.all;
   many : length l.histories ≡ l.run.setup.squeues;
-  gone : (marks : List (List MarkOf)) → ArePrintedMarks l.run.setup.squeues marks → map (λ h. h.now) l.histories ≡ map (flat_map mark_line) marks
+  gone : (marks : List (List Mark)) → ArePrintedMarks l.run.setup.squeues marks → map (λ h. h.now) l.histories ≡ map (flat_map mark_line) marks
       → AreGone l.run.plan.now l.run.calls.now l.run.setup marks l.squeue (map (λ gs. map guest_of gs.items) l.all.items) l.open l.unfit;
 }

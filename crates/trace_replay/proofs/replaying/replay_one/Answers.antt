@@ -1,7 +1,8 @@
 use Rattle.std.proofs.Common.{◌≡◌, ◌<◌, ◌∙◌, [], ap, arith, length}
 use Rattle.std.specs.Option.{option_or}
 use Rattle.std.proofs.lemmas.Bool.Decides.{nat_tests}
-use Rattle.squeue_replay.specs.Marks.{HasItsFeeds, mark_by}
+use Rattle.perimeter_core.specs.Kinds.{mark_by}
+use Rattle.squeue_replay.specs.Marks.{HasItsFeeds}
 use Rattle.squeue_replay.specs.Replaying.{squeue_of}
 use Rattle.trace_replay.specs.declared.reason.Reason.TheVariants.{Illegal}
 use Rattle.trace_replay.proofs.Adding.{its_stands}
@@ -37,25 +38,25 @@ returns-in_default-2-clause-no c =
     λ r e ms printed lines.
     let reached = c.loop-rest.invariant.reached ms printed lines in
     let read = rw c.in-Some.is at c.in_ok-others.ensures in
-    let m = mark_by c.read_mark.new.mark.p c.read_mark.new.mark.step c.read_mark.new.mark.feeds.items in
+    let m = mark_by c.read_mark.new.mark.p c.read_mark.new.mark.kind c.read_mark.new.mark.feeds.items in
     let is : r ≡ Illegal c.args.number c.loop-rest.count = cc e in (
       c.loop-rest.count,
       is,
       refused c.args.run c.args.number c.loop-rest.squeue c.loop-rest.pace c.loop-rest.invariant.run c.loop-rest.invariant.number c.loop-rest.invariant.setup c.loop-rest.invariant.at ms c.loop-rest.rest.now c.loop-rest.count c.loop-rest.unfit reached m c.in-Some.others.now read.0 read.1 c.add.new.squeue c.add.new.pace
-          (HasItsFeeds c.read_mark.new.mark.step c.read_mark.new.mark.feeds.items) read.2 c.in_ok-keeps.field-0 c.in_ok-keeps.ensures.added c.in_default-2.is,
+          (HasItsFeeds c.read_mark.new.mark.kind c.read_mark.new.mark.feeds.items) read.2 c.in_ok-keeps.field-0 c.in_ok-keeps.ensures.added c.in_default-2.is,
     )
 
 pub loop-rest-smaller : goal.loop-rest-smaller
 loop-rest-smaller c =
     let read = rw c.in-Some.is at c.in_ok-others.ensures in
-    let m = mark_by c.read_mark.new.mark.p c.read_mark.new.mark.step c.read_mark.new.mark.feeds.items in
+    let m = mark_by c.read_mark.new.mark.p c.read_mark.new.mark.kind c.read_mark.new.mark.feeds.items in
     let less = shorter m c.loop-rest.rest.now c.in-Some.others.now read.1 in
     omega (arith, less)
 
 pub loop-rest-preserved : goal.loop-rest-preserved
 loop-rest-preserved c =
     let read = rw c.in-Some.is at c.in_ok-others.ensures in
-    let m = mark_by c.read_mark.new.mark.p c.read_mark.new.mark.step c.read_mark.new.mark.feeds.items in
+    let m = mark_by c.read_mark.new.mark.p c.read_mark.new.mark.kind c.read_mark.new.mark.feeds.items in
     let less = shorter m c.loop-rest.rest.now c.in-Some.others.now read.1 in
     let few = c.loop-rest.invariant.few in
     record {
@@ -66,7 +67,7 @@ loop-rest-preserved c =
       few = omega (arith, less, few);
       reached = λ ms printed lines.
           stepped c.args.run c.args.number c.loop-rest.squeue c.loop-rest.pace c.loop-rest.invariant.run c.loop-rest.invariant.number c.loop-rest.invariant.setup c.loop-rest.invariant.at ms c.loop-rest.rest.now c.loop-rest.count c.loop-rest.unfit (c.loop-rest.invariant.reached ms printed lines) m c.in-Some.others.now read.0 read.1 c.add.new.squeue c.add.new.pace
-          (HasItsFeeds c.read_mark.new.mark.step c.read_mark.new.mark.feeds.items) read.2 c.in_ok-keeps.field-0 c.in_ok-keeps.ensures.added c.in-Some-2.keeps c.or-unfit.result c.in-Some-2.is (c.or-unfit.ensures ∙ ap (option_or c.loop-rest.unfit) c.then_some.ensures);
+          (HasItsFeeds c.read_mark.new.mark.kind c.read_mark.new.mark.feeds.items) read.2 c.in_ok-keeps.field-0 c.in_ok-keeps.ensures.added c.in-Some-2.keeps c.or-unfit.result c.in-Some-2.is (c.or-unfit.ensures ∙ ap (option_or c.loop-rest.unfit) c.then_some.ensures);
     }
 
 pub returns-clause-gone : goal.returns-clause-gone

@@ -1,6 +1,6 @@
 use Rattle.std.proofs.Common.{◌≡◌, ◌+◌, ◌≤◌, All, List, length}
 use Rattle.std.specs.List.{flat_map}
-use Rattle.perimeter_core.specs.declared.marks.Mark.{Mark as MarkOf}
+use Rattle.perimeter_core.specs.declared.marks.Mark.{Mark}
 use Rattle.squeue_report.specs.TraceText.{mark_line}
 use Rattle.squeue_replay.specs.Marks.{IsPrinted}
 use Rattle.squeue_replay.specs.Replaying.{squeue_of}
@@ -14,7 +14,7 @@ invariant-loop-rest l = record {
   setup : l.pace.setup ≡ l.fn.run.setup;
   at : l.pace.squeue ≡ l.number;
   few : l.count + length l.rest ≤ length l.fn.lines;
-  reached : (ms : List MarkOf) → All IsPrinted ms → l.fn.lines ≡ flat_map mark_line ms → Reached l.fn.run.plan.now l.fn.run.calls.now l.fn.run.setup l.number ms l.rest l.count l.unfit (squeue_of l.squeue) l.pace;
+  reached : (ms : List Mark) → All IsPrinted ms → l.fn.lines ≡ flat_map mark_line ms → Reached l.fn.run.plan.now l.fn.run.calls.now l.fn.run.setup l.number ms l.rest l.count l.unfit (squeue_of l.squeue) l.pace;
 }
 
 abbrev pub decreases-loop-rest : goal.decreases-loop-rest

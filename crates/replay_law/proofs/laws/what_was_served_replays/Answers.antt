@@ -6,9 +6,9 @@ use Rattle.ring_threads.specs.Served.{orders_of}
 use Rattle.squeue_report.specs.TraceText.{trace_text}
 use Rattle.squeue_run.specs.Output.{histories_of}
 use Rattle.trace_replay.specs.Replays.{Replays}
-use Rattle.trace_replay.proofs.Served.{marks_are}
-use Rattle.trace_replay.proofs.SuchRuns.{served_replays}
-use Rattle.trace_replay.proofs.laws.what_was_served_replays.Goals as goal
+use Rattle.replay_law.proofs.Served.{marks_are}
+use Rattle.replay_law.proofs.SuchRuns.{served_replays}
+use Rattle.replay_law.proofs.laws.what_was_served_replays.Goals as goal
 
 pub returns : goal.returns
 returns c file setup verify calls v input said printed most served =

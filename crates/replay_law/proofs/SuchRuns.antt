@@ -27,9 +27,9 @@ use Rattle.squeue_run.specs.Limits.{most_marks}
 use Rattle.trace_lines.specs.Printed.{ArePrintedCalls, IsPrintedSetup}
 use Rattle.pcapng_reader.specs.Input.{IsInput}
 use Rattle.trace_replay.specs.Replays.{Replays}
-use Rattle.trace_replay.proofs.FewItems.{few_items, few_marks}
-use Rattle.trace_replay.proofs.Served.{marks_in}
-use Rattle.trace_replay.proofs.SuchMarks.{IsSmallSetting, marks_said}
+use Rattle.replay_law.proofs.FewItems.{few_items, few_marks}
+use Rattle.replay_law.proofs.Served.{marks_in}
+use Rattle.replay_law.proofs.SuchMarks.{IsSmallSetting, marks_said}
 
 few_tuples : (file : CaptureFile) (verify : Bool) → length (plan_of file verify).tuples ≤ 4096
 unfolding plan_of

@@ -10,10 +10,11 @@ use Rattle.squeue_run.specs.Asked.{Asked, asked}
 use Rattle.squeue_run.specs.CallWords.{lists_of}
 use Rattle.squeue_run.specs.Output.{histories_of}
 use Rattle.squeue_run.specs.Ran.{HasRan, RanBy, RanRead, conns_of}
-use Rattle.trace_replay.specs.Replays.{Replays, WroteWhatReplays}
-use Rattle.trace_replay.proofs.SuchCalls.{calls_said, setup_said, traced_reads}
-use Rattle.trace_replay.proofs.SuchRuns.{served_replays}
-use Rattle.trace_replay.proofs.laws.a_traced_run_replays.Goals as goal
+use Rattle.trace_replay.specs.Replays.{Replays}
+use Rattle.replay_law.specs.Wrote.{WroteWhatReplays}
+use Rattle.replay_law.proofs.SuchCalls.{calls_said, setup_said, traced_reads}
+use Rattle.replay_law.proofs.SuchRuns.{served_replays}
+use Rattle.replay_law.proofs.laws.a_traced_run_replays.Goals as goal
 
 wrote : (words : List Text) (a : Asked) (source out err : End) (back : Option ServedOf) → asked words ≡ Some a → a.setup.trace ≡ true → RanRead a source out err back status.Ok → WroteWhatReplays source out
 wrote words a source out err back accepted traced ran =

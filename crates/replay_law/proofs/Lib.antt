@@ -1,0 +1,5 @@
+mod Served
+mod FewItems
+mod SuchMarks
+mod SuchCalls
+mod SuchRuns
