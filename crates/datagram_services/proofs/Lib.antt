@@ -7,5 +7,4 @@ mod MoreRuns
 mod Ran
 mod Ranged
 mod StreamTexts
-mod Suffices
 mod Suits

@@ -1,41 +1,23 @@
--- Where the blocks lie that were served: each in what is left of its squeue.
-use Rattle.std.specs.Prelude.{◌≡◌, ℕ, ◌%◌, ◌<◌, false, Option, Some, None, List, [], length, map, slice_get}
-use Rattle.std.specs.List.{range_with_len}
-use Rattle.squeue_pool.specs.declared.work.Left.{Left}
-use Rattle.squeue_pool.specs.Runs.{ends_of}
-use Rattle.chargen_service.specs.Chargen.{new_generating}
+-- Where the blocks lie that were served, and what is served so.
+use Rattle.std.specs.Prelude.{◌≡◌, ℕ, ◌<◌, false, Option, Some, None, List, [], ◌∷◌, length, slice_get}
+use Rattle.squeue_ends.specs.Finishing.{FinishedOf}
 use Rattle.stream_blocks.specs.Served.{ServedOf}
-use Rattle.stream_blocks.specs.Standing.{places_of, served_of}
+use Rattle.stream_blocks.specs.Standing.{served_of}
 use Rattle.stream_blocks.specs.declared.block.StreamBlock.{StreamBlock}
-use Rattle.stream_blocks.specs.declared.blocks.StreamBlocks.{StreamBlocks}
 use Rattle.datagram_services.specs.Served.{MoreServedOf}
 
--- what lies at the place of stream c at one of the squeues, if that is there
-abbrev pub lying_at : Option (Left StreamBlocks) → ℕ → Option (Option StreamBlock)
-lying_at (Some v) c = slice_get (places_of v.resident) c
-lying_at None c = None
+-- a block lies at each of these places
+abbrev pub AreThere : List (Option StreamBlock) → Type 0
+AreThere places = (c : ℕ) → c < length places → (block : StreamBlock) × (slice_get places c ≡ Some (Some block))
 
--- what lies at the place of stream c, at the squeue whose number c leaves, divided by the squeues
-abbrev pub lying : List (Left StreamBlocks) → ℕ → Option (Option StreamBlock)
-lying vs c = lying_at (slice_get vs (c % length vs)) c
-
--- the block of each of so many streams lies there
-abbrev pub AreThere : List (Left StreamBlocks) → ℕ → Type 0
-AreThere vs streams = (c : ℕ) → c < streams → (block : StreamBlock) × (lying vs c ≡ Some (Some block))
-
--- what was served of a stream, by its block, and nothing where there is none
-abbrev pub served_by : Option (Option StreamBlock) → ServedOf
-served_by (Some (Some block)) = served_of block
-served_by (Some None) = record { answers = []; generator = new_generating }
-served_by None = record { answers = []; generator = new_generating }
-
--- what was served of so many streams
-abbrev pub served_in : List (Left StreamBlocks) → ℕ → List ServedOf
-served_in vs streams = map (λ c. served_by (lying vs c)) (range_with_len 0 streams)
+-- what was served by the blocks that lie there, in the order of the places
+abbrev pub streams_at : List (Option StreamBlock) → List ServedOf
+streams_at [] = []
+streams_at (Some block ∷ places) = served_of block ∷ streams_at places
+streams_at (None ∷ places) = streams_at places
 
 -- what is handed out is what lies there, none of it short, and the end of each squeue
-pub record HandsOut (vs : List (Left StreamBlocks)) (streams : ℕ) (v : MoreServedOf) : Type 0 where
-  pub ended : v.ended ≡ ends_of vs
-  pub count : length v.streams ≡ streams
-  pub each : (c : ℕ) (block : StreamBlock) → c < streams → lying vs c ≡ Some (Some block)
-      → (slice_get v.streams c ≡ Some (served_of block)) × (block.short ≡ false)
+pub record HandsOut (f : FinishedOf StreamBlock) (v : MoreServedOf) : Type 0 where
+  pub ended : v.ended ≡ f.ended
+  pub count : length v.streams ≡ length f.parts
+  pub each : (c : ℕ) (block : StreamBlock) → slice_get f.parts c ≡ Some (Some block) → (slice_get v.streams c ≡ Some (served_of block)) × (block.short ≡ false)

@@ -1,5 +1,5 @@
 -- What the streams of a plan are as work for squeues and rings.
-use Rattle.std.specs.Prelude.{◌≡◌, ℕ, Some, List, [], length, map, slice_get}
+use Rattle.std.specs.Prelude.{◌≡◌, ℕ, Some, [], length, map, slice_get}
 use Rattle.std.specs.List.{range_with_len}
 use Rattle.placed_parts.specs.Standing.{first_here}
 use Rattle.squeue_pool.specs.Works.{WorkOf}

@@ -1,6 +1,6 @@
 //! Who serves the streams of a plan: threads over squeues, as the connections of another program are served.
 //!
-//! `serving` serves them by one call of `squeue_pool`. `work` says what its threads have to do: `lists` what comes in by each ring,
+//! `serving` serves them by one call of `squeue_ends`. `work` says what its threads have to do: `lists` what comes in by each ring,
 //! `quotas` how much each pass may enter. `served` is what is handed out. There are no calls and no moves: a stream stays at its
 //! squeue, and one ring brings all its items.
 //!
@@ -25,6 +25,3 @@ pub use ring_quotas::Setup;
 pub use run::more_run;
 pub use served::MoreServed;
 pub use serving::serve_more;
-
-#[cfg(test)]
-mod tests;

@@ -22,7 +22,7 @@ use text_digits::push_field;
 pub fn more_report(
     alloc: Global,
     plan: &MorePlan<'_>,
-    served: &MoreServed<'_>,
+    served: &MoreServed,
 ) -> Result<Octets, AllocError>
     requires { IsMoreServed plan.now served.now.streams }
     ensures { IfOk result (λ text. text ≡ plan_text plan.now) }
@@ -84,7 +84,7 @@ fn push_stream(
     text: &mut Vec<u8>,
     datagram: &mut Vec<u8>,
     plan: &MorePlan<'_>,
-    served: &MoreServed<'_>,
+    served: &MoreServed,
     c: u32,
 ) -> Result<(), AllocError>
     requires place { c < length plan.now.streams }

@@ -1,49 +1,48 @@
 //! What was served.
 ghost use Rattle.std.specs.Prelude.{◌≡◌, ◌<◌, ℕ, false, IfOk, IfSome, Some, length, slice_get};
+ghost use Rattle.stream_blocks.specs.Standing.{served_of};
 ghost use Rattle.stream_blocks.specs.declared.block.StreamBlock.{StreamBlock as BlockOf};
-ghost use Rattle.datagram_services.specs.Lying.{AreThere, HandsOut, lying};
+ghost use Rattle.datagram_services.specs.Lying.{AreThere, HandsOut};
 
 use chargen_service::GenBlock;
-use squeue_pool::Left;
+use squeue_ends::Finished;
 use std::alloc::AllocError;
 use std::marker::Model;
-use stream_blocks::{Answer, StreamBlock, StreamBlocks};
+use stream_blocks::{Answer, StreamBlock};
 
 /// What the items of each stream of a plan were served into, by the stream's number, and the end of each squeue, by number. No memory
-/// was missing. A block lies where it lay when its squeue ended: so there is none that no squeue served.
+/// was missing. Each block lay in the resident of a squeue that ended: that is the type of `Finished`.
 #[derive(Drop)]
-pub struct MoreServed<'p> {
-    /// How many streams there are.
-    streams: u32,
-    /// What is left of the squeues, by number. The block of stream `c` lies at squeue `c` modulo the squeues.
-    left: Vec<Left<StreamBlocks<'p>>>,
+pub struct MoreServed {
+    /// What squeues left that have ended, the block of each stream at its number.
+    finished: Finished<StreamBlock>,
 }
 
-impl<'p> Model for MoreServed<'p> {
-    ghost use Rattle.squeue_pool.specs.Runs.{ends_of};
-    ghost use Rattle.datagram_services.specs.Lying.{AreThere, served_in};
+impl Model for MoreServed {
+    ghost use Rattle.datagram_services.specs.Lying.{AreThere, streams_at};
     ghost use Rattle.datagram_services.specs.Served.{MoreServedOf};
 
     ghost Value = { MoreServedOf };
 
-    ghost view = { λ s. record { streams = served_in s.left.items s.streams; ended = ends_of s.left.items } };
+    ghost view = { λ s. record { streams = streams_at s.finished.parts; ended = s.finished.ended } };
 
-    ghost invariant = { λ s. AreThere s.left.items s.streams };
+    ghost invariant = { λ s. AreThere s.finished.parts };
 }
 
-impl<'p> MoreServed<'p> {
-    /// What squeues left, if the block of none of so many streams is short. Takes no memory.
-    pub(crate) fn of(
-        left: Vec<Left<StreamBlocks<'p>>>,
+impl MoreServed {
+    /// What squeues left, if the block of none of these streams is short. Takes no memory.
+    pub(crate) fn left(
+        finished: Finished<StreamBlock>,
         streams: u32,
-    ) -> Result<MoreServed<'p>, AllocError>
-        requires { AreThere left.items streams }
-        ensures { IfOk result (λ v. HandsOut left.entry.items streams v) }
+    ) -> Result<MoreServed, AllocError>
+        requires count { length finished.parts ≡ streams }
+        requires there { AreThere finished.parts }
+        ensures { IfOk result (λ v. HandsOut finished v) }
     {
-        if is_short(left.as_slice(), streams) {
+        if is_short(&finished, streams) {
             return Err(AllocError);
         }
-        Ok(MoreServed { streams, left })
+        Ok(MoreServed { finished })
     }
 
     /// The answers to the datagrams of stream `c`, in order.
@@ -51,7 +50,7 @@ impl<'p> MoreServed<'p> {
         requires { c < length self.now.streams }
         ensures { IfSome (slice_get self.now.streams c) (λ s. result.now ≡ s.answers) }
     {
-        block_of(self.left.as_slice(), c).answers()
+        self.block(c).answers()
     }
 
     /// The character generator's block of stream `c`, as new where the stream has datagrams: what it sent, and its state.
@@ -59,31 +58,34 @@ impl<'p> MoreServed<'p> {
         requires { c < length self.now.streams }
         ensures { IfSome (slice_get self.now.streams c) (λ s. result.now ≡ s.generator) }
     {
-        block_of(self.left.as_slice(), c).generator()
+        self.block(c).generator()
+    }
+
+    // The block of stream `c`.
+    fn block(&self, c: u32) -> &StreamBlock
+        requires { c < length self.now.streams }
+        ensures { slice_get self.now.streams c ≡ Some (served_of result.now) }
+    {
+        let Some(block) = self.finished.part(c) else {
+            unreachable!()
+        };
+        block
     }
 }
 
-// Whether the block of one of so many streams is short.
-fn is_short(left: &[Left<StreamBlocks<'_>>], streams: u32) -> bool
-    requires { AreThere left.now streams }
-    ensures { result ≡ false → (c : ℕ) (block : BlockOf) → c < streams → lying left.now c ≡ Some (Some block) → block.short ≡ false }
+// Whether the block of one of these streams is short.
+fn is_short(finished: &Finished<StreamBlock>, streams: u32) -> bool
+    requires count { length finished.now.parts ≡ streams }
+    requires there { AreThere finished.now.parts }
+    ensures { result ≡ false → (c : ℕ) (block : BlockOf) → slice_get finished.now.parts c ≡ Some (Some block) → block.short ≡ false }
 {
     for c in 0..streams {
-        if block_of(left, c).short() {
+        let Some(block) = finished.part(c) else {
+            unreachable!()
+        };
+        if block.short() {
             return true;
         }
     }
     false
-}
-
-// The block of stream `c`.
-fn block_of<'a>(left: &'a [Left<StreamBlocks<'_>>], c: u32) -> &'a StreamBlock
-    requires { (block : BlockOf) × (lying left.now c ≡ Some (Some block)) }
-    ensures { lying left.now c ≡ Some (Some result.now) }
-{
-    let squeue = c as usize % left.len();
-    let Some(block) = left[squeue].resident.block(c) else {
-        unreachable!()
-    };
-    block
 }

@@ -7,7 +7,8 @@ use crate::served::MoreServed;
 use crate::work::work_for;
 use perimeter_core::Hook;
 use ring_quotas::Setup;
-use squeue_pool::{Pool, run};
+use squeue_ends::run_for_parts;
+use squeue_pool::Pool;
 use std::alloc::{AllocError, Global};
 use std::sync::Wait;
 use std::thread::Threads;
@@ -25,13 +26,13 @@ use stream_plan::MorePlan;
 /// assert!(rt; plan.streams() == 2);
 /// assert!(rt; served.answers(0).len() == 1 && served.answers(1).len() == 1);
 /// ```
-pub fn serve_more<'p, H: Hook + Sync, W: Threads + Wait + Sync>(
+pub fn serve_more<H: Hook + Sync, W: Threads + Wait + Sync>(
     rt: &W,
     alloc: Global,
-    plan: &'p MorePlan<'p>,
+    plan: &MorePlan<'_>,
     setup: &Setup,
     hook: &H,
-) -> Result<MoreServed<'p>, AllocError>
+) -> Result<MoreServed, AllocError>
     requires setup { IsInRange setup.now }
     requires spread { setup.now.spread ≡ 0 }
     requires trace { setup.now.trace ≡ false }
@@ -40,6 +41,6 @@ pub fn serve_more<'p, H: Hook + Sync, W: Threads + Wait + Sync>(
     plan.is_sound();
     let pool = Pool::of(setup.squeues, setup.rings, setup.mode, setup.budget);
     let work = work_for(alloc, plan, setup)?;
-    let left = run(rt, alloc, hook, &pool, work)?;
-    MoreServed::of(left, plan.streams())
+    let finished = run_for_parts(rt, alloc, hook, &pool, work)?;
+    MoreServed::left(finished, plan.streams())
 }

@@ -6,12 +6,11 @@ use Rattle.perimeter_core.specs.declared.entries.Act.TheVariants as Did
 use Rattle.perimeter_core.specs.declared.entries.Entry.TheVariants as Entry'
 use Rattle.perimeter_core.specs.Deeds.{fed, feed_numbers}
 use Rattle.perimeter_core.specs.declared.marks.SynchAct.TheVariants as Done
-use Rattle.perimeter_core.specs.Blocks.{Blocks, longer, with_feeds, with_act}
+use Rattle.perimeter_core.specs.Blocks.{Blocks, longer, with_feeds, with_act, fresh}
 use Rattle.perimeter_core.specs.Residing.{HadFeeds}
-use Rattle.perimeter_core.specs.Logging.{fresh}
 use Rattle.perimeter_core.specs.Backlog.{up}
 use Rattle.perimeter_core.proofs.FeedLists.{length-up}
-use Rattle.perimeter_core.proofs.LogSteps.{fed_is, feed_numbers-append, up_next}
+use Rattle.perimeter_core.proofs.ActLists.{fed_is, feed_numbers-append, up_next}
 use Rattle.placed_parts.proofs.PlaceSteps as Steps
 use Rattle.stream_plan.specs.Sound.{IsMorePlan, IsStream}
 use Rattle.stream_plan.specs.Streams.{MorePlanOf, StreamOf, item_count}

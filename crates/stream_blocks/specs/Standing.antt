@@ -50,10 +50,6 @@ PlacesStand p = Placed.PlacesStand (BlockAt p)
 abbrev pub Stands : StreamBlocks → Blocks → Type 0
 Stands r blocks = PlacesStand r.plan.now r.places.items blocks
 
--- the places, one for each stream
-abbrev pub places_of : StreamBlocks → List (Option StreamBlock)
-places_of r = r.places.items
-
 -- how many streams there are
 abbrev pub size_of : StreamBlocks → ℕ
 size_of r = length r.places.items

@@ -1,6 +1,6 @@
 //! The resident: a place for each stream of a plan, with its block where that is here.
 
-ghost use Rattle.std.specs.Prelude.{◌≡◌, ◌<◌, All, IfOk, Some, length, option_map, slice_get};
+ghost use Rattle.std.specs.Prelude.{◌≡◌, ◌<◌, All, IfOk, length};
 
 use crate::block::StreamBlock;
 use perimeter_core::Resident;
@@ -31,7 +31,7 @@ pub struct StreamBlocks<'p> {
 }
 
 impl<'p> StreamBlocks<'p> {
-    ghost use Rattle.stream_blocks.specs.Standing.{FirstFits, Stands, calls_of, origin_of, places_of, size_of};
+    ghost use Rattle.stream_blocks.specs.Standing.{FirstFits, Stands, calls_of, origin_of, size_of};
     ghost use Rattle.placed_parts.specs.Standing.{first_here};
 
     /// A place for each stream of the plan, and new blocks of those whose number leaves `squeue`, divided by `squeues`. Fails
@@ -71,14 +71,6 @@ impl<'p> StreamBlocks<'p> {
         } else {
             None
         }
-    }
-
-    /// The block of stream `c`, where it is here.
-    pub fn block(&self, c: u32) -> Option<&StreamBlock>
-        requires { c < size_of self.now }
-        ensures { slice_get (places_of self.now) c ≡ Some (option_map (λ block. block.now) result) }
-    {
-        self.places[c as usize].as_ref()
     }
 }
 

@@ -125,6 +125,6 @@ fn streams_of_the_second_squeue(rt: HostRuntime) -> Result<(), Fail> {
     let block = blocks.take_out(1);
     assert!(rt; !blocks.is_here(1));
     blocks.put_in(1, block);
-    assert!(rt; blocks.block(1).is_some() && blocks.block(2).is_none());
+    assert!(rt; blocks.is_here(1) && !blocks.is_here(2));
     Ok(())
 }

@@ -16,6 +16,3 @@ mod tuples;
 pub use kinds::{Arrived, Counts, Datagram, Found};
 pub use making::more_plan;
 pub use planned::{MorePlan, Stream};
-
-#[cfg(test)]
-mod tests;

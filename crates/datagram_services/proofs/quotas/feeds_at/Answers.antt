@@ -1,7 +1,7 @@
 use Rattle.std.proofs.Common.{◌≡◌, get_or, arith}
 use Rattle.std.proofs.lemmas.List.{get_or_default}
 use Rattle.perimeter_core.specs.declared.entries.Feed.{Feed}
-use Rattle.datagram_services.proofs.Listed.{one_away, one_home}
+use Rattle.squeue_pool.proofs.KeyLists.{one_away, one_home}
 use Rattle.datagram_services.proofs.quotas.feeds_at.Goals as goal
 use Rattle.datagram_services.proofs.quotas.feeds_at.Goals.{then-feed-squeues, else-feed-squeues}
 

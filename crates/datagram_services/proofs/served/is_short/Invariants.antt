@@ -1,7 +1,6 @@
-use Rattle.std.proofs.Common.{◌≡◌, ℕ, ◌<◌, false, Some}
+use Rattle.std.proofs.Common.{◌≡◌, ℕ, ◌<◌, false, Some, slice_get}
 use Rattle.stream_blocks.specs.declared.block.StreamBlock.{StreamBlock}
-use Rattle.datagram_services.specs.Lying.{lying}
 use Rattle.datagram_services.proofs.served.is_short.Given as goal
 
 abbrev pub invariant-loop-c : goal.invariant-loop-c
-invariant-loop-c l = (c : ℕ) (block : StreamBlock) → c < l.c → lying l.left c ≡ Some (Some block) → block.short ≡ false
+invariant-loop-c l = (k : ℕ) (block : StreamBlock) → k < l.c → slice_get l.finished.parts k ≡ Some (Some block) → block.short ≡ false

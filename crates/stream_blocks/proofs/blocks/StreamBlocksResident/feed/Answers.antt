@@ -1,6 +1,6 @@
 use Rattle.std.proofs.Common.{◌≡◌, Some, ap, sym, ◌∙◌, subst, arith}
 use Rattle.capture_reader.specs.Outcome.{CaptureFile}
-use Rattle.perimeter_core.proofs.LogSteps.{got, here_of_feeds}
+use Rattle.perimeter_core.proofs.ActLists.{got, here_of_feeds}
 use Rattle.stream_plan.specs.Sound.{IsStream}
 use Rattle.stream_plan.specs.Streams.{StreamOf, item_count}
 use Rattle.stream_plan.proofs.PlanFacts.{one_of_all, part_of_sum}

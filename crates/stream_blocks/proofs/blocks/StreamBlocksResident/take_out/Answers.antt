@@ -2,7 +2,7 @@ use Rattle.std.proofs.Common.{◌≡◌, Option, Some, List, [], slice_get, slic
 use Rattle.perimeter_core.specs.declared.entries.Act.{Act}
 use Rattle.perimeter_core.specs.declared.marks.SynchAct.TheVariants as Done
 use Rattle.perimeter_core.specs.Blocks.{with_act}
-use Rattle.perimeter_core.proofs.LogSteps.{got}
+use Rattle.perimeter_core.proofs.ActLists.{got}
 use Rattle.stream_blocks.specs.Standing.{BlockAt, HasHad, PlacesStand}
 use Rattle.stream_blocks.specs.declared.block.StreamBlock.{StreamBlock}
 use Rattle.placed_parts.proofs.PlaceSteps.{found, had_some, out_stands}
