@@ -1,2 +1,5 @@
 pub mod Witness
 pub mod Moved
+pub mod Told
+pub mod Whole
+mod Paces

@@ -1,2 +1,3 @@
 pub mod OneSqueue
 pub mod TwoSqueues
+pub mod FiveSegments

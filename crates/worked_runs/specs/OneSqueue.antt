@@ -15,6 +15,7 @@ use Rattle.perimeter_core.specs.History.{Element, Setting}
 use Rattle.squeue_enter.specs.declared.Mode.TheVariants as Mode'
 use Rattle.squeue_state.specs.Naming.{Ending}
 use Rattle.squeue_state.specs.Told.{Traced}
+use Rattle.conn_blocks.specs.CallLists.{CallLists}
 use Rattle.conn_blocks.specs.ServeOrder.{BlockOf, serve, service_in}
 use Rattle.ring_quotas.specs.declared.setup.Setup.{Setup}
 use Rattle.ring_threads.specs.Served.{ServedOf}
@@ -47,21 +48,29 @@ ending = record { number = 0; setting = setting; history = history }
 abbrev pub order : List Act
 order = Did.Feed 0 ∷ Did.Feed 1 ∷ []
 
-abbrev pub block : PlanOf → BlockOf
-block p = record {
-  of = record { plan = p; calls = []; c = 0 };
+-- the block of the only connection, which had this order, with no room for more
+abbrev pub block_of : PlanOf → CallLists → List Act → BlockOf
+block_of p calls order = record {
+  of = record { plan = p; calls = calls; c = 0 };
   service = service_in p 0;
-  tcb = (serve p [] 0 order).block;
+  tcb = (serve p calls 0 order).block;
   order = order;
-  answers = (serve p [] 0 order).answers;
+  answers = (serve p calls 0 order).answers;
   short = false;
   stages = [];
   order_room = 0;
   answers_room = 0;
 }
 
+abbrev pub block : PlanOf → BlockOf
+block p = block_of p [] order
+
 abbrev pub no_trace : Traced
 no_trace = record { marks = []; entries = []; mark_room = 0; entry_room = 0 }
 
+-- one block, and one end, of which no marks were kept
+abbrev pub only_block : BlockOf → Ending → ServedOf
+only_block b e = record { blocks = b ∷ []; ended = e ∷ []; traces = no_trace ∷ [] }
+
 abbrev pub served : PlanOf → ServedOf
-served p = record { blocks = block p ∷ []; ended = ending ∷ []; traces = no_trace ∷ [] }
+served p = only_block (block p) ending

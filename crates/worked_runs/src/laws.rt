@@ -1,8 +1,11 @@
 //! What is written out was served.
 
-ghost use Rattle.std.specs.Prelude.{◌≡◌, []};
+ghost use Rattle.std.specs.Prelude.{◌≡◌, false, Some, []};
+ghost use Rattle.sq_base.specs.declared.kinds.Status.TheVariants as status;
 ghost use Rattle.sq_base.specs.declared.kinds.Tuple.{Tuple};
 ghost use Rattle.capture_reader.specs.Outcome.{CaptureFile};
+ghost use Rattle.pcapng_reader.specs.Input.{IsInput};
+ghost use Rattle.conn_classifier.specs.Plan.{plan_of};
 ghost use Rattle.conn_classifier.specs.declared.kinds.Counts.{Counts};
 ghost use Rattle.conn_classifier.specs.declared.kinds.Item.{Item};
 ghost use Rattle.perimeter_core.specs.Ending.{IsOver};
@@ -13,6 +16,9 @@ ghost use Rattle.squeue_pool.specs.Keeping.{PassesKeep};
 ghost use Rattle.squeue_rings.specs.Keeping.{KeepsPace};
 ghost use Rattle.ring_quotas.specs.Quotas.{setting_at};
 ghost use Rattle.ring_threads.specs.Served.{HasServed};
+ghost use Rattle.squeue_run.specs.Asked.{asked};
+ghost use Rattle.squeue_run.specs.Ran.{Accepts, HasRan};
+ghost use Rattle.worked_runs.specs.FiveSegments as Five;
 ghost use Rattle.worked_runs.specs.OneSqueue as One;
 ghost use Rattle.worked_runs.specs.TwoSqueues as Two;
 
@@ -59,4 +65,29 @@ pub fn there_is_a_run_with_a_move()
 {
     a_history_with_an_out_fits();
     a_history_with_an_in_fits();
+}
+
+/// The bytes that are written out of a short echo session are a capture, and its plan is the one that is written out.
+pub fn a_capture_has_a_plan()
+    ensures capture { IsInput Five.file }
+    ensures plan { plan_of Five.file false ≡ Five.plan }
+{}
+
+/// Of a run over it, the history of its squeue.
+pub fn a_history_of_six_feeds_fits()
+    ensures legal { Legal Five.setting Five.history }
+    ensures over { IsOver Five.setting (run Five.setting Five.history) }
+    ensures keeps { KeepsPace 1 0 Mode.Process 64 0 Five.setting 0 Five.history }
+    ensures passes { PassesKeep Mode.Process Five.ending }
+    ensures set { Five.setting ≡ setting_at Five.plan Five.no_calls 1 1 0 0 }
+{}
+
+/// There is a whole run that ends well: without words, over this capture, its report was written, and what is written out was served
+/// and is handed back. And the capture is one with which a run has to end so, but for want of memory, or a read or a write
+/// that fails.
+pub fn there_is_a_run_that_ends_well()
+    ensures ran { HasRan (asked []) Five.source Five.out Five.err (Some Five.served) status.Ok }
+    ensures accepted { Accepts (asked []) (Some Five.file.bytes) }
+{
+    a_history_of_six_feeds_fits();
 }

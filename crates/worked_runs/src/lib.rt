@@ -1,7 +1,8 @@
-//! Runs written out, one of them with a move, for which all holds that `serve` promises: so the promise isn't an empty one.
+//! Runs written out, one of them with a move, for which all holds that `serve` promises, and a whole one, for which all holds that the
+//! top call promises where it ends well: so neither promise is an empty one.
 //!
 //! It stands at the end of what is proved of a run, and nothing stands on it: histories, orders and blocks are given by hand, and the
-//! laws say that they meet the clause (`HasServed`). It never runs a thread.
+//! laws say that they meet the clauses (`HasServed`, `HasRan`). It never runs a thread.
 #![tactic(auto)]
 
 pub mod laws;
