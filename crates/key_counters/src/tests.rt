@@ -68,8 +68,8 @@ fn no_keys(rt: HostRuntime) -> Result<(), Fail> {
 fn a_counter_leaves_and_comes_back(rt: HostRuntime) -> Result<(), Fail> {
     let alloc = rt.alloc();
     let rows = [[5, 6].to_vec(alloc)?, [7].to_vec(alloc)?];
-    let readings = [(0, 0, 0)];
-    let mut counters = new_counters(alloc, &rows, &readings)?;
+    let readings: &[(u32, u32, u32)] = &[(0, 0, 0)];
+    let mut counters = new_counters(alloc, &rows, readings)?;
     assert_eq!(rt; counters.conns(), 2);
     counters.feed(alloc, 0, 0);
     counters.feed(alloc, 1, 0);

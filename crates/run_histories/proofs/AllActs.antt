@@ -11,7 +11,7 @@ use Rattle.tcb_machine.specs.declared.kinds.Call.{Call}
 use Rattle.conn_classifier.specs.Plan.{PlanOf, items_in}
 use Rattle.conn_blocks.specs.CallLists.{CallLists, calls_of, call_at}
 use Rattle.conn_blocks.specs.Orders.{numbers_from, numbers_on, call_numbers, IsAll}
-use Rattle.run_histories.specs.Counting.{times_called}
+use Rattle.called_acts.specs.Counting.{times_called}
 use Rattle.run_histories.proofs.SameCounts.{once_if, count, permuted}
 
 -- the calls of a thread, by their numbers

@@ -1,5 +1,3 @@
 pub mod AllActs
-pub mod Called
 pub mod Ends
 pub mod SameCounts
-pub mod Sums

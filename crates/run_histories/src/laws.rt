@@ -1,5 +1,5 @@
 //! The laws of linked histories at the end of a run. Each is a function that does nothing, whose contract is the law.
-ghost use Rattle.std.specs.Prelude.{◌≡◌, ℕ, ◌==◌, ◌<◌, true, if◌then◌else◌, List, Some, length, slice_get};
+ghost use Rattle.std.specs.Prelude.{◌≡◌, ℕ, ◌==◌, true, if◌then◌else◌, List, length};
 ghost use Rattle.std.specs.Option.{option_map_or};
 ghost use Rattle.std.specs.List.{range_with_len};
 ghost use Rattle.perimeter_core.specs.declared.entries.Act.{Act};
@@ -8,21 +8,12 @@ ghost use Rattle.perimeter_core.specs.History.{Element, Setting, run};
 ghost use Rattle.perimeter_core.specs.Deeds.{acts, due, fed, feed_numbers};
 ghost use Rattle.perimeter_core.specs.Legal.{Legal};
 ghost use Rattle.perimeter_core.specs.Ending.{IsOver};
-ghost use Rattle.squeue_state.specs.Naming.{Ending};
-ghost use Rattle.conn_migrate.specs.Stays.{AreLinked};
-ghost use Rattle.squeue_pool.specs.Runs.{made_in_all};
 ghost use Rattle.conn_classifier.specs.Plan.{PlanOf, items_in};
 ghost use Rattle.conn_blocks.specs.CallLists.{CallLists, call_at};
 ghost use Rattle.conn_blocks.specs.ServeOrder.{BlockOf};
 ghost use Rattle.conn_blocks.specs.Holding.{StandsFor};
 ghost use Rattle.conn_blocks.specs.Orders.{IsAll};
-ghost use Rattle.run_histories.specs.Counting.{times_called};
-
-/// Where the block of a connection is at the end, the calls among its acts are those that all histories together made.
-pub fn a_blocks_calls_are_those_of_all_histories()
-    ensures { (n : ℕ) (hs : List Ending) (c q : ℕ) (h : Ending) (j k : ℕ) → AreLinked n hs → c < n → slice_get hs q ≡ Some h
-        → is_here (run h.setting h.history) c ≡ true → times_called j k (acts h.setting h.history c) ≡ made_in_all c j k hs }
-{}
+ghost use Rattle.called_acts.specs.Counting.{times_called};
 
 /// Acts with the feeds of all items in order, and with each call as often as the lists have it on the connection, are all.
 pub fn whole_acts()

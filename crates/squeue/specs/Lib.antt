@@ -1,3 +1,4 @@
+pub use Rattle.perimeter_core.specs.Backlog
 pub use Rattle.perimeter_core.specs.Blocks
 pub use Rattle.perimeter_core.specs.Deeds
 pub use Rattle.perimeter_core.specs.History
@@ -10,3 +11,5 @@ pub use Rattle.squeue_pool.specs.Placed
 pub use Rattle.squeue_pool.specs.Runs
 pub use Rattle.squeue_pool.specs.ServedParts
 pub use Rattle.squeue_pool.specs.Works
+pub use Rattle.squeue_calls.specs.Calls
+pub use Rattle.squeue_ends.specs.Finishing

@@ -19,12 +19,13 @@ use Rattle.conn_migrate.proofs.StaysJoin.{all_stays}
 use Rattle.conn_migrate.proofs.StaysKept.{reports_are_done}
 use Rattle.squeue_rings.specs.Made.{makes_call, times_made}
 use Rattle.squeue_pool.specs.Runs.{made_in_all}
-use Rattle.run_histories.specs.Counting.{times_called}
-use Rattle.run_histories.proofs.Sums.{sum_below, sum_over, if_there, below_none, below_suc, over_none, over_more, same_terms, by_places, over_all}
+use Rattle.called_acts.specs.Counting.{times_called}
+use Rattle.called_acts.proofs.Sums.{sum_below, sum_over, if_there, below_none, below_suc, over_none, over_more, same_terms, by_places, over_all}
 
 called_both : (j k : ℕ) (xs ys : List Act) → times_called j k (xs ++ ys) ≡ times_called j k xs + times_called j k ys
 called_both j k [] ys = omega arith
-called_both j k (x ∷ xs) ys = omega (arith, called_both j k xs ys)
+called_both j k (Did.Feed n ∷ xs) ys = called_both j k xs ys
+called_both j k (Did.Call i m ∷ xs) ys = omega (arith, called_both j k xs ys)
 
 module _ (c j k : ℕ) where
   feeds_call_nothing : (es : List Entry) → times_called j k (feed_acts c es) ≡ 0

@@ -1,0 +1,2 @@
+pub mod LimiterSteps
+pub mod Decided

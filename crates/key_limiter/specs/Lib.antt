@@ -1,0 +1,2 @@
+pub mod Limiting
+pub mod Buckets

@@ -1,0 +1,5 @@
+pub mod BankSteps
+pub mod Plans
+pub mod Statements
+pub mod Kept
+pub mod Totals

@@ -1,0 +1,5 @@
+pub mod CallQuotas
+pub mod Named
+pub mod CallsSuit
+pub mod AllHad
+pub mod ActSums

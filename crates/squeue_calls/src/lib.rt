@@ -1,0 +1,11 @@
+//! Work by key whose connections move from squeue to squeue, and are called.
+//!
+//! Rings bring the feeds of each connection, application threads make calls on them, and connections leave for the next squeue as the
+//! pool says. [`serve_called`] serves parts so, and hands out each of them after all its feeds and all its calls; `quotas` has how
+//! much each pass may enter for that.
+#![tactic(auto)]
+
+mod quotas;
+mod serving;
+
+pub use serving::serve_called;
