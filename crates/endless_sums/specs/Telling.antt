@@ -1,5 +1,5 @@
 -- What totals tell of the streams.
-use Rattle.std.specs.Prelude.{◌≡◌, ℕ, ◌%◌, ◌^◌, ◌≤◌, Option, Some, List, [], length, slice_index_or, sum, sum_by}
+use Rattle.std.specs.Prelude.{◌≡◌, ℕ, ◌%◌, ◌^◌, ◌≤◌, Some, List, [], length, slice_index_or, sum, sum_by}
 use Rattle.perimeter_core.specs.declared.entries.Act.{Act}
 use Rattle.perimeter_core.specs.Blocks.{Blocks}
 use Rattle.perimeter_core.specs.Deeds.{fed}

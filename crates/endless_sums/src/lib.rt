@@ -11,5 +11,5 @@ mod running;
 mod totals;
 
 pub use adding::{Adding, Sum, Sums};
-pub use running::{bring, watch};
+pub use running::{Looked, Stint, bring, watch};
 pub use totals::{Total, Totals, totals_of};

@@ -1,8 +1,9 @@
 //! What the threads do with their passes: each ring brings amounts round after round, and one thread looks each second.
-ghost use Rattle.std.specs.Prelude.{◌≡◌, ◌++◌, ◌∷◌, []};
-ghost use Rattle.turn_gate.specs.Passes.{number};
+ghost use Rattle.std.specs.Prelude.{◌≡◌, ◌<◌, ◌++◌, ◌∷◌, [], IsSome};
+ghost use Rattle.turn_gate.specs.History.{Begins};
+ghost use Rattle.turn_gate.specs.Passes.{number, seen};
 ghost use Rattle.squeue_streams.specs.Sourcing.{Brings, entered_of, pushed_of, sent_of};
-ghost use Rattle.endless_sums.specs.Looking.{MayLook};
+ghost use Rattle.endless_sums.specs.Looking.{HasLooked, MayLook};
 
 use perimeter_core::{NoHook, Resident};
 use squeue_look::{Reads, look};
@@ -17,8 +18,22 @@ use std::{io, thread};
 /// How many amounts a ring brings before it looks whether its time is over: 0, 1, 2 and so on.
 pub const ROUND: u32 = 1_000;
 
-/// Brings rounds of amounts for so many seconds, one at least, and enters the feeds of all. It ends too where the clock fails
-/// or the source's life has no round more.
+/// How long a ring brings: so many seconds, and so many rounds at least.
+#[derive(Clone, Copy)]
+pub struct Stint {
+    pub seconds: u32,
+    pub rounds: u32,
+}
+
+/// What who looked has at its end: what the last look has seen, and whether all that was seen could be told.
+#[derive(Drop)]
+pub struct Looked<S: Drop> {
+    pub last: Option<S>,
+    pub told: bool,
+}
+
+/// Brings rounds of amounts, one at least, until the stint is over, and enters the feeds of all. The seconds are over too where
+/// the clock fails, and the stint where the source's life has no round more.
 pub fn bring<R: Renews, W: Wait + Clock>(
     rt: &W,
     sq: &Squeue<R>,
@@ -26,7 +41,7 @@ pub fn bring<R: Renews, W: Wait + Clock>(
     pace: Pace,
     pass: Pass,
     source: &mut Source<u32>,
-    seconds: u32,
+    stint: Stint,
 ) -> Pass
     requires may { Brings R.limits sq.now pass source.old }
     ensures may { Brings R.limits sq.now result source.new }
@@ -35,11 +50,14 @@ pub fn bring<R: Renews, W: Wait + Clock>(
 {
     let start = Instant::now(rt);
     let mut pass = pass;
+    let mut rounds = stint.rounds;
     for _ in rt.forever() {
         for amount in 0..ROUND {
             pass = bring_one(rt, sq, alloc, pace, pass, source, amount);
         }
-        if source.left() < u64::from(ROUND) || is_over(rt, &start, seconds) {
+        rounds = rounds.saturating_sub(1);
+        let over = rounds == 0 && is_over(rt, &start, stint.seconds);
+        if over || source.left() < u64::from(ROUND) {
             return bring_rest(rt, sq, alloc, pace, pass, source);
         }
     }
@@ -111,8 +129,8 @@ fn bring_rest<R: Resident, W: Wait>(
     unreachable!()
 }
 
-/// Looks after each second, so many times, and tells what was seen. `told` stays as it was where all could be told; else it is
-/// false.
+/// Looks after each second, so many times, and tells what was seen. What the last look has seen comes back: it is of the history
+/// that the pass has seen then, of which what it saw before is a beginning.
 pub fn watch<R: Resident, V: Reads<R>, W: Wait + Clock + Print>(
     rt: &W,
     sq: &Squeue<R>,
@@ -120,21 +138,30 @@ pub fn watch<R: Resident, V: Reads<R>, W: Wait + Clock + Print>(
     pass: Pass,
     reader: &V,
     seconds: u32,
-    told: &mut bool,
-) -> Pass
+) -> (Pass, Looked<V::Seen>)
 where
     V::Seen: Display + Drop,
     requires may { MayLook R.limits sq.now seconds pass }
-    ensures may { MayLook R.limits sq.now 0 result }
-    ensures number { number result ≡ number pass }
+    ensures may { MayLook R.limits sq.now 0 result.0 }
+    ensures number { number result.0 ≡ number pass }
+    ensures grows { Begins (seen pass) (seen result.0) }
+    ensures some { 0 < seconds → IsSome result.1.last }
+    ensures looked { HasLooked R.Resident sq.now (V.says reader.now) (seen result.0) result.1.last }
 {
     let mut pass = pass;
+    let mut looked = Looked {
+        last: None,
+        told: true,
+    };
     for second in 0..seconds {
         thread::sleep(rt, Duration::from_secs(1));
         let (next, seen) = look(sq, rt, alloc, pass, reader);
         pass = next;
         let line = println!(rt; "second {second} {seen}");
-        *told = *told && line.is_ok();
+        looked = Looked {
+            last: Some(seen),
+            told: looked.told && line.is_ok(),
+        };
     }
-    pass
+    (pass, looked)
 }

@@ -63,6 +63,13 @@ impl<T: Drop> Source<T> {
         self.left
     }
 
+    /// How often its stream may still be put in again.
+    pub fn again(&self) -> u32
+        ensures { result ≡ again_of self.now }
+    {
+        self.again
+    }
+
     /// Pushes an item, and enters nothing. The item comes back where the ring is full, its life is over, or its stream has to be put
     /// in again first.
     pub fn push(&mut self, item: T) -> Result<(), T>

@@ -1,0 +1,37 @@
+-- The ends of streams as they are made.
+use Rattle.std.specs.Prelude.{◌≡◌, ℕ, ◌*◌, ◌^◌, ◌≤◌, Some, List, [], ◌∷◌, ◌++◌, length, replicate, slice_get}
+use Rattle.squeue_streams.specs.declared.source.Source.{Source}
+use Rattle.squeue_streams.specs.Sourcing.{again_of, entered_of, left_of, pushed_of, span_of, stream_of}
+use Rattle.squeue_streams.specs.Taking.{most_feeds}
+
+-- so many amounts a stream has in its life at most, and so often it is put in again
+abbrev pub most_amounts : ℕ
+most_amounts = 2 ^ 52
+
+abbrev pub most_again : ℕ
+most_again = 2 ^ 21
+
+-- the source of stream c, into whose ring nothing was pushed
+pub record IsNewSource (c : ℕ) (source : Source ℕ) : Type 0 where
+  pub stream : stream_of source ≡ c
+  pub entered : entered_of source ≡ 0
+  pub pushed : pushed_of source ≡ 0
+  pub left : left_of source ≡ most_amounts
+  pub span : span_of source ≤ most_feeds
+  pub again : again_of source ≡ most_again
+
+-- there is a new source of each of so many streams, by number
+pub record AreSources (streams : ℕ) (sources : List (Source ℕ)) : Type 0 where
+  pub count : length sources ≡ streams
+  pub each : (k : ℕ) (source : Source ℕ) → slice_get sources k ≡ Some source → IsNewSource k source
+
+-- each ring may enter the feeds of one stream's life, and ask twice each time that the stream is put in again; and who looks may ask
+-- so often
+abbrev pub ring_life : ℕ × ℕ
+ring_life = (most_amounts, 2 * most_again)
+
+abbrev pub looker_life : ℕ × ℕ
+looker_life = (0, 2 ^ 56)
+
+abbrev pub lives_of : ℕ → List (ℕ × ℕ)
+lives_of rings = replicate rings ring_life ++ looker_life ∷ []

@@ -1,0 +1,149 @@
+//! The jobs of a run, and how they run beside each other.
+ghost use Rattle.std.specs.Prelude.{◌≡◌, ◌<◌, ℕ, All, Some, length, slice_index_or};
+ghost use Rattle.turn_gate.specs.Passes.{IsPassOf, number, seen};
+ghost use Rattle.perimeter_core.specs.History.{worker as worker_of};
+ghost use Rattle.squeue_state.specs.Naming.{setting_of};
+ghost use Rattle.squeue_state.specs.Elements.{number_of};
+ghost use Rattle.squeue_serve.specs.declared.jobs.Job.{Job};
+ghost use Rattle.squeue_serve.specs.Places.{MayEnd};
+ghost use Rattle.squeue_streams.specs.Sourcing.{Brings};
+ghost use Rattle.endless_sums.specs.Looking.{MayLook};
+ghost use Rattle.endless_counters.specs.declared.running.Task.{Task};
+ghost use Rattle.endless_counters.specs.Running.{HasKept, IsReady, LookedWithin, MayRun, Ran};
+
+use endless_sums::{Looked, Stint, bring, watch};
+use perimeter_core::{NoHook, Resident};
+use squeue_drain::worker;
+use squeue_look::Reads;
+use squeue_serve::{Job, put_pass, run_each, take_pass};
+use squeue_state::{Pass, Squeue};
+use squeue_streams::{Pace, Renews, Source};
+use std::alloc::Global;
+use std::fmt::Display;
+use std::sync::Wait;
+use std::thread::Threads;
+use std::time::Clock;
+
+/// What a pass is used for: to bring what a source pushes, to look, or to work. Who looked keeps what was seen last.
+#[derive(Drop)]
+pub enum Task<S: Drop> {
+    Bring(Source<u32>),
+    Look(Looked<S>),
+    Work,
+}
+
+/// Runs the jobs beside each other until all are done. Who looks does so in each second of the stint. The worker's job waits for the
+/// others, so it stands last.
+pub fn run<R: Renews + Send, V: Reads<R> + Sync, W: Threads + Wait + Clock + Print + Sync>(
+    rt: &W,
+    sq: &Squeue<R>,
+    alloc: Global,
+    pace: Pace,
+    reader: &V,
+    stint: Stint,
+    jobs: &mut [Job<Task<V::Seen>>],
+)
+where
+    V::Seen: Display + Drop + Send + Sync,
+    requires { All (IsReady R.limits sq.now stint.seconds) jobs.old }
+    ensures { (k : ℕ) (d : Job (Task V.Seen)) → k < length jobs.old
+        → Ran R.Resident sq.now (V.says reader.now) (slice_index_or jobs.old k d) (slice_index_or jobs.new k d) }
+{
+    run_each(
+        rt,
+        jobs,
+        &|_, job: &mut Job<Task<V::Seen>>|
+            requires { IsReady R.limits sq.now stint.seconds job.now }
+            ensures { Ran R.Resident sq.entry.now (V.says reader.entry.now) job.entry.now job.exit.now }
+        { run_job(rt, sq, alloc, pace, reader, stint, job) },
+    );
+}
+
+fn run_job<R: Renews, V: Reads<R>, W: Wait + Clock + Print>(
+    rt: &W,
+    sq: &Squeue<R>,
+    alloc: Global,
+    pace: Pace,
+    reader: &V,
+    stint: Stint,
+    job: &mut Job<Task<V::Seen>>,
+)
+where
+    V::Seen: Display + Drop + Send + Sync,
+    requires { IsReady R.limits sq.now stint.seconds job.old }
+    ensures { Ran R.Resident sq.now (V.says reader.now) job.old job.new }
+{
+    let pass = take_pass(&mut job.places[0]);
+    let pass = run_pass(rt, sq, alloc, pace, reader, stint, pass, &mut job.task);
+    put_pass(&mut job.places[0], pass);
+}
+
+fn run_pass<R: Renews, V: Reads<R>, W: Wait + Clock + Print>(
+    rt: &W,
+    sq: &Squeue<R>,
+    alloc: Global,
+    pace: Pace,
+    reader: &V,
+    stint: Stint,
+    pass: Pass,
+    task: &mut Task<V::Seen>,
+) -> Pass
+where
+    V::Seen: Display + Drop + Send + Sync,
+    requires { MayRun R.limits sq.now stint.seconds task.old pass }
+    ensures ended { MayEnd R.limits (number pass) sq.now result }
+    ensures kept { HasKept R.Resident sq.now (V.says reader.now) task.new (Some result) }
+{
+    match task {
+        Task::Bring(source) => bring_all(rt, sq, alloc, pace, stint, pass, source),
+        Task::Look(looked) => look_on(rt, sq, alloc, reader, stint.seconds, pass, looked),
+        Task::Work => work(rt, sq, alloc, pass),
+    }
+}
+
+// Brings what the source pushes until the stint is over, and closes the pass.
+fn bring_all<R: Renews, W: Wait + Clock>(
+    rt: &W,
+    sq: &Squeue<R>,
+    alloc: Global,
+    pace: Pace,
+    stint: Stint,
+    pass: Pass,
+    source: &mut Source<u32>,
+) -> Pass
+    requires { Brings R.limits sq.now pass source.old }
+    ensures { MayEnd R.limits (number pass) sq.now result }
+{
+    let pass = bring(rt, sq, alloc, pace, pass, source, stint);
+    sq.close_pass(rt, pass)
+}
+
+// Looks each second, and closes the pass. What was seen last is kept: it is of a beginning of the history that the pass has seen.
+fn look_on<R: Resident, V: Reads<R>, W: Wait + Clock + Print>(
+    rt: &W,
+    sq: &Squeue<R>,
+    alloc: Global,
+    reader: &V,
+    seconds: u32,
+    pass: Pass,
+    looked: &mut Looked<V::Seen>,
+) -> Pass
+where
+    V::Seen: Display + Drop + Send + Sync,
+    requires { MayLook R.limits sq.now seconds pass }
+    ensures ended { MayEnd R.limits (number pass) sq.now result }
+    ensures kept { LookedWithin R.Resident sq.now (V.says reader.now) (seen result) looked.new.last }
+{
+    let (pass, now) = watch(rt, sq, alloc, pass, reader, seconds);
+    *looked = now;
+    sq.close_pass(rt, pass)
+}
+
+// Works until all is over.
+fn work<R: Resident, W: Wait>(rt: &W, sq: &Squeue<R>, alloc: Global, pass: Pass) -> Pass
+    requires pass { IsPassOf number_of sq.now.gate pass }
+    requires worker { number pass ≡ worker_of (setting_of R.limits sq.now.given) }
+    ensures { MayEnd R.limits (number pass) sq.now result }
+{
+    worker(sq, rt, alloc, &NoHook, pass)
+}
