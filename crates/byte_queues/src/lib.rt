@@ -12,6 +12,3 @@ mod send;
 pub use laws::{offered_is_kept, positions, received_is_kept, what_is_taken_was_held};
 pub use recv::{Placed, RecvQueue};
 pub use send::SendQueue;
-
-#[cfg(test)]
-mod tests;

@@ -18,6 +18,3 @@ pub use capture::{Capture, Record, parse_capture};
 pub use fault::CaptureFault;
 pub use limits::{LATEST_TIME, LONGEST_BODY, MOST_BYTES, MOST_RECORDS};
 pub use source::{read_bytes, read_capture};
-
-#[cfg(test)]
-mod tests;

@@ -16,10 +16,9 @@
 //!         report 1
 //!
 //! `rows` has a row and its fields, `reading` reads a file, `fault` says why a row fails, `comparing` has what is wanted beside what came,
-//! `captures` makes the bytes of a capture from lines, and `running` runs files of rows.
+//! and `running` runs files of rows. What the words of a line mean stands in `case_words`.
 #![tactic(auto)]
 
-mod captures;
 mod comparing;
 mod fault;
 mod reading;
@@ -28,7 +27,6 @@ mod running;
 #[cfg(test)]
 mod tests;
 
-pub use captures::bytes_of;
 pub use comparing::{expect_bytes, expect_lines, expect_number, expect_text};
 pub use fault::Fault;
 pub use reading::{Broken, Wrong, rows_of};

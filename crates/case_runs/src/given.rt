@@ -1,6 +1,7 @@
 //! What a row gives to a program.
 
-use case_rows::{Fault, Row, bytes_of, words_of};
+use case_rows::{Fault, Row, words_of};
+use case_words::bytes_of;
 use std::alloc::Global;
 
 /// The words, the input, and which reads and writes fail.

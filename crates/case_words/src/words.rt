@@ -65,6 +65,24 @@ impl<'a> Words<'a> {
         self.word().parse::<u16>().map_err(|_| Wrong::Word)
     }
 
+    /// The last word, a number of 32 bits.
+    pub fn last(&mut self) -> Result<u32, Wrong> {
+        let number = self.number()?;
+        if self.is_done() {
+            Ok(number)
+        } else {
+            Err(Wrong::Word)
+        }
+    }
+
+    /// Whether this is the next word.
+    pub fn begin_with(&self, word: &str) -> bool {
+        match self.rest.strip_prefix(word) {
+            Some(rest) => rest.is_empty() || rest.starts_with(' '),
+            None => false,
+        }
+    }
+
     /// The next word, control bits.
     pub fn flags(&mut self) -> Result<u8, Wrong> {
         flags_of(self.word())

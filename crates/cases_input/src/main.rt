@@ -14,7 +14,8 @@ mod streams;
 
 use capture_reader::{Capture, parse_capture};
 use captures::{tell_each_front, tell_parsed, tell_sources};
-use case_rows::{Fault, Row, bytes_of, expect_lines, run_cases};
+use case_rows::{Fault, Row, expect_lines, run_cases};
+use case_words::bytes_of;
 use numbers::tell_numbers;
 use packets::{Form, tell_packets};
 use plans::tell_plans;

@@ -13,6 +13,3 @@ pub use laws::{
     a_segment_adds_little, every_served_block_is_valid, serving_is_kept, the_pattern_is_offered,
 };
 pub use text::pattern;
-
-#[cfg(test)]
-mod tests;

@@ -10,7 +10,7 @@ use Rattle.perimeter_core.specs.declared.entries.Act.{Act}
 use Rattle.perimeter_core.specs.declared.entries.Act.TheVariants as act
 use Rattle.perimeter_core.specs.Deeds.{feed_numbers}
 use Rattle.perimeter_core.specs.Residing.{HadFeeds}
-use Rattle.perimeter_core.proofs.LogSteps.{fed_is}
+use Rattle.perimeter_core.proofs.ActLists.{fed_is}
 use Rattle.placed_parts.proofs.PlaceSteps.{had_feeds}
 use Rattle.tcb_machine.specs.declared.kinds.Call.{Call}
 use Rattle.conn_classifier.specs.Plan.{PlanOf, items_in}

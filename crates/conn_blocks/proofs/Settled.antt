@@ -16,7 +16,7 @@ use Rattle.perimeter_core.specs.Deeds.{feed_numbers}
 use Rattle.conn_blocks.specs.Orders.{numbers_on, call_numbers}
 use Rattle.conn_blocks.specs.Holding.{fed, Begins, IsSettled, IsSound, ComesNext}
 use Rattle.conn_blocks.proofs.Counting.{few_acts}
-use Rattle.perimeter_core.proofs.LogSteps.{feed_numbers-append}
+use Rattle.perimeter_core.proofs.ActLists.{feed_numbers-append}
 use Rattle.conn_blocks.proofs.Settling.{calls_append, calls_of_thread, calls_of_other}
 
 serves_more : (p : PlanOf) (calls : CallLists) (c : ℕ) (order : List Act) (a : Act) (s : Serving)

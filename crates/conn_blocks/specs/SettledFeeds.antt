@@ -4,7 +4,7 @@ use Rattle.std.proofs.Common.{refl, sym, ap, ◌∙◌, append_assoc}
 use Rattle.perimeter_core.specs.declared.entries.Act.{Act}
 use Rattle.perimeter_core.specs.declared.entries.Act.TheVariants as act
 use Rattle.perimeter_core.specs.Deeds.{feed_numbers}
-use Rattle.perimeter_core.proofs.LogSteps.{feed_numbers-append}
+use Rattle.perimeter_core.proofs.ActLists.{feed_numbers-append}
 use Rattle.conn_blocks.specs.CallLists.{CallLists}
 use Rattle.conn_blocks.specs.Orders.{numbers_on, has_call, is_held, is_next, let_go, keeps, settles, settle}
 

@@ -19,6 +19,3 @@ pub use worked::{
     scaled_five_segment_echo, scaled_small_window, sequence_numbers_wrap, small_buffer,
     text_out_of_order, tuple_used_again, zero_window_probe,
 };
-
-#[cfg(test)]
-mod tests;

@@ -27,6 +27,3 @@ pub use laws::{
 };
 pub use server::Server;
 pub use setting::Setting;
-
-#[cfg(test)]
-mod tests;

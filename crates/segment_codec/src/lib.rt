@@ -19,6 +19,3 @@ pub use packet::{Packet, Reply, Seg, Why};
 pub use reading::{decode, ip_place};
 pub use refusing::{refusal, tuple_of};
 pub use writing::{encode, encode_into};
-
-#[cfg(test)]
-mod tests;

@@ -23,6 +23,3 @@ pub use ports::{CHARGEN_PORT, DISCARD_PORT, ECHO_PORT, is_served, is_served_udp}
 pub use serial::{seq_add, seq_dist, seq_le, seq_lt};
 pub use std_ends::{StdSink, StdSource};
 pub use sums::inet_sum;
-
-#[cfg(test)]
-mod tests;

@@ -11,9 +11,6 @@ use hex::encode_to_slice;
 use itoa::{Buffer, Integer};
 use std::alloc::AllocError;
 
-#[cfg(test)]
-mod tests;
-
 /// Appends a number in decimal. After an error the text is as it was.
 ///
 /// # Example

@@ -13,6 +13,3 @@ mod writing;
 pub use datagram::Udp;
 pub use reading::decode_udp;
 pub use writing::encode_udp;
-
-#[cfg(test)]
-mod tests;

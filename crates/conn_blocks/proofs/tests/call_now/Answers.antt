@@ -2,7 +2,7 @@ use Rattle.std.proofs.Common.{◌++◌, ◌∷◌, [], arith}
 use Rattle.perimeter_core.specs.declared.entries.Act.TheVariants as act
 use Rattle.perimeter_core.specs.declared.marks.SynchAct.TheVariants as Done
 use Rattle.perimeter_core.specs.Blocks.{with_act}
-use Rattle.perimeter_core.proofs.LogSteps.{here_of_feeds}
+use Rattle.perimeter_core.proofs.ActLists.{here_of_feeds}
 use Rattle.perimeter_core.proofs.OneBlock.{after_call}
 use Rattle.perimeter_core.proofs.NextFeed.{fed-append}
 use Rattle.conn_blocks.proofs.tests.call_now.Goals as goal

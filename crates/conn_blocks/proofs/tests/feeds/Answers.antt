@@ -1,7 +1,7 @@
 use Rattle.std.proofs.Common.{ℕ, ◌++◌, ◌∷◌, [], length, take, sym, ap, ◌∙◌, arith}
 use Rattle.std.proofs.lemmas.List.{append-nil, length_push, take_more}
 use Rattle.perimeter_core.specs.Deeds.{feed_numbers}
-use Rattle.perimeter_core.proofs.LogSteps.{feed_numbers-append}
+use Rattle.perimeter_core.proofs.ActLists.{feed_numbers-append}
 use Rattle.conn_blocks.proofs.tests.feeds.Goals.{in-Feed, in-Call}
 use Rattle.conn_blocks.proofs.tests.feeds.Goals as goal
 

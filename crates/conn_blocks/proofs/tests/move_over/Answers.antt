@@ -1,7 +1,7 @@
 use Rattle.std.proofs.Common.{refl, subst}
 use Rattle.perimeter_core.specs.declared.marks.SynchAct.TheVariants as Done
 use Rattle.perimeter_core.specs.Blocks.{with_act}
-use Rattle.perimeter_core.proofs.LogSteps.{here_of_feeds}
+use Rattle.perimeter_core.proofs.ActLists.{here_of_feeds}
 use Rattle.conn_blocks.proofs.tests.move_over.Goals as goal
 
 pub take_out-part-requires-clause-here : goal.take_out-part-requires-clause-here

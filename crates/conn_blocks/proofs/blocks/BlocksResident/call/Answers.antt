@@ -1,5 +1,5 @@
 use Rattle.std.proofs.Common.{◌<◌, length, Some, ap, sym, subst, ◌∙◌, arith}
-use Rattle.perimeter_core.proofs.LogSteps.{got}
+use Rattle.perimeter_core.proofs.ActLists.{got}
 use Rattle.conn_blocks.specs.Holding.{StandsFor}
 use Rattle.placed_parts.proofs.PlaceSteps.{call_stands, had_some, no_place}
 use Rattle.conn_blocks.specs.Places.{BlockAt}

@@ -1,5 +1,5 @@
 use Rattle.std.proofs.Common.{◌<◌, length, Some, ap, sym, subst, ◌∙◌, arith}
-use Rattle.perimeter_core.proofs.LogSteps.{got, here_of_feeds}
+use Rattle.perimeter_core.proofs.ActLists.{got, here_of_feeds}
 use Rattle.conn_blocks.specs.Holding.{StandsFor}
 use Rattle.conn_blocks.specs.Places.{BlockAt, PlacesStand}
 use Rattle.placed_parts.proofs.PlaceSteps.{feed_stands, no_place}

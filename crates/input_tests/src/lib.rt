@@ -1,0 +1,19 @@
+//! Tests of what reads captures and makes plans of them: of calls that rows of `cases_input` can't make, and of one happy path each.
+#![tactic(auto)]
+
+#[cfg(test)]
+mod captures;
+#[cfg(test)]
+mod datagrams;
+#[cfg(test)]
+mod digits;
+#[cfg(test)]
+mod ends;
+#[cfg(test)]
+mod pcapng;
+#[cfg(test)]
+mod plans;
+#[cfg(test)]
+mod segments;
+#[cfg(test)]
+mod streams;

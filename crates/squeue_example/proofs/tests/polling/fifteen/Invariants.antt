@@ -1,6 +1,0 @@
-use Rattle.std.proofs.Common.{◌≡◌, length, take}
-use Rattle.squeue_example.specs.Rows.{in_order}
-use Rattle.squeue_example.proofs.tests.polling.fifteen.Given as goal
-
-abbrev pub invariant-loop-n : goal.invariant-loop-n
-invariant-loop-n l = record { size : length l.chain ≡ 15; front : take l.n l.chain ≡ in_order 0 0 l.n }

@@ -1,0 +1,19 @@
+use Rattle.std.proofs.Common.{◌+◌, ◌-◌, [], ◌∷◌, List, ap, sym, ◌∙◌, subst, arith}
+use Rattle.perimeter_core.specs.declared.entries.Feed.{Feed}
+use Rattle.perimeter_trial.specs.Logging.{limits_of}
+use Rattle.squeue_enter.specs.Entering.{MayEnter}
+use Rattle.squeue_enter.proofs.Bringing.{may_front}
+use Rattle.squeue_tests.specs.Rows.{in_order}
+use Rattle.squeue_tests.proofs.Ordered.{first_of}
+use Rattle.squeue_tests.proofs.worked.bounded.refuses.Goals as goal
+
+pub fill_or_full-requires-clause-may : goal.fill_or_full-requires-clause-may
+fill_or_full-requires-clause-may g c =
+    let n = c.args.n in
+    let rest = in_order 0 (n + 1) (19 - n) in
+    may_front limits_of c.args.squeue.now c.args.pass (c.feed.result ∷ []) rest
+    (subst (λ (fs : List Feed). MayEnter limits_of c.args.squeue.now c.args.pass fs)
+    (first_of 0 n (20 - n) (19 - n) (omega (arith, c.requires.below)) ∙ ap (λ (f : Feed). f ∷ rest) (sym c.feed.ensures)) c.requires.may)
+
+pub returns-clause-more : goal.returns-clause-more
+returns-clause-more g c = c.in-Err.ensures.more (in_order 0 c.args.n (20 - c.args.n)) c.requires.may

@@ -1,0 +1,197 @@
+//! The two queues, and the receive queue beside a plain map from position to byte. Rows of their calls stand in `cases_tcp`.
+
+use byte_queues::{Placed, RecvQueue, SendQueue};
+use std::alloc::{AllocError, Global};
+use std::collections::BTreeMap;
+use std::process::Abort;
+use std::test::Fail;
+
+fn taken_bytes(
+    rt: &impl Abort,
+    queue: &mut RecvQueue,
+    alloc: Global,
+    n: u32,
+) -> Result<Vec<u8>, AllocError> {
+    assert!(rt; n <= queue.ready());
+    Vec::from_slice(alloc, queue.take(alloc, n)?.as_slice())
+}
+
+/// Places a text that stands at or behind the next byte.
+fn placed(
+    rt: &impl Abort,
+    queue: &mut RecvQueue,
+    at: u64,
+    text: &[u8],
+) -> Result<Placed, AllocError> {
+    assert!(rt; queue.next() <= at && at < 1_000_000);
+    queue.place(at, text)
+}
+
+#[test]
+fn runs_joined(rt: HostRuntime) -> Result<(), Fail> {
+    let mut queue = RecvQueue::make(rt.alloc(), 1000);
+    assert_eq!(rt; placed(&rt, &mut queue, 2, b"cd")?, Placed::Held);
+    assert_eq!(rt; placed(&rt, &mut queue, 4, b"ef")?, Placed::Held);
+    assert_eq!(rt; queue.runs(), 1);
+    let (start, bytes) = queue.run(0);
+    assert_eq!(rt; start, 2);
+    assert!(rt; bytes == b"cdef".as_slice());
+    assert_eq!(rt; placed(&rt, &mut queue, 0, b"XbXdX")?, Placed::Held);
+    assert!(rt; taken_bytes(&rt, &mut queue, rt.alloc(), 6)?.as_slice() == b"Xbcdef".as_slice());
+    Ok(())
+}
+
+/// What a queue holds, byte by byte.
+#[derive(Drop)]
+struct Plain {
+    held: BTreeMap<u64, u8>,
+    taken: u64,
+    edge: u64,
+    cap: u64,
+    end: u64,
+}
+
+impl Plain {
+    fn next(&self) -> u64 {
+        let mut next = self.taken;
+        for _ in 0..4096 {
+            if next >= self.end || !self.held.contains_key(&next) {
+                break;
+            }
+            next = next.wrapping_add(1);
+        }
+        next
+    }
+
+    /// How many runs stand above a position.
+    fn runs_above(&self, from: u64) -> u64 {
+        let mut runs = 0u64;
+        let mut behind = from;
+        for at in self.held.keys() {
+            if *at >= from && (*at != behind || *at == from) {
+                runs = runs.wrapping_add(1);
+            }
+            behind = at.wrapping_add(1);
+        }
+        runs
+    }
+
+    fn place(&mut self, alloc: Global, at: u64, text: &[u8]) -> Result<Placed, AllocError> {
+        let mut put = Vec::new(alloc);
+        for (k, byte) in text.iter().enumerate() {
+            let here = at.wrapping_add(k as u64);
+            if here < self.edge && here < self.end && !self.held.contains_key(&here) {
+                self.held.insert(here, *byte)?;
+                put.push(here)?;
+            }
+        }
+        if self.runs_above(self.next()) <= 64 {
+            return Ok(Placed::Held);
+        }
+        for here in &put {
+            self.held.remove(here);
+        }
+        Ok(Placed::Blocks)
+    }
+
+    fn skip(&mut self, n: u64) {
+        for _ in 0..n.min(4096) {
+            self.held.remove(&self.taken);
+            self.taken = self.taken.wrapping_add(1);
+        }
+        self.edge = self.edge.max(self.taken.wrapping_add(self.cap));
+    }
+}
+
+/// A fixed sequence of numbers.
+fn draw(x: &mut u64, below: u32) -> u32 {
+    *x = x
+        .wrapping_mul(6_364_136_223_846_793_005)
+        .wrapping_add(1_442_695_040_888_963_407);
+    ((*x >> 33) as u32) % below.max(1)
+}
+
+fn compare(rt: &impl Abort, queue: &RecvQueue, plain: &Plain) {
+    let next = plain.next();
+    assert_eq!(rt; queue.next(), next);
+    assert_eq!(rt; queue.taken(), plain.taken);
+    assert_eq!(rt; u64::from(queue.window()), plain.edge.wrapping_sub(next));
+    assert_eq!(rt; u64::from(queue.runs()), plain.runs_above(plain.taken));
+    let mut count = 0usize;
+    for i in 0..queue.runs() {
+        let (start, bytes) = queue.run(i);
+        count = count.wrapping_add(bytes.len());
+        for (k, byte) in bytes.iter().enumerate() {
+            assert!(rt; plain.held.get(&start.wrapping_add(k as u64)).copied() == Some(*byte));
+        }
+    }
+    assert_eq!(rt; count, plain.held.len());
+}
+
+/// Several thousand placements, takes and changed capacities, at sizes that make runs join, stick out and block.
+#[test]
+fn beside_a_plain_map(rt: HostRuntime) -> Result<(), Fail> {
+    let mut queue = RecvQueue::make(rt.alloc(), 300);
+    let mut plain = Plain {
+        held: BTreeMap::new(rt.alloc()),
+        taken: 0,
+        edge: 300,
+        cap: 300,
+        end: u64::MAX,
+    };
+    let mut x = 7;
+    let text = b"abcdefghijklmnopqrstuvwxyz";
+    let mut blocks = 0u32;
+    for turn in 0..2000u32 {
+        let most = if turn % 1000 < 600 { 2 } else { 26 };
+        let length = draw(&mut x, most) as usize;
+        let from = draw(&mut x, 26) as usize;
+        assert!(rt; from <= 26 && length <= 26);
+        let piece = &text[from..(from + length).min(26)];
+        let at = queue.next().wrapping_add(u64::from(draw(&mut x, 320)));
+        let answer = placed(&rt, &mut queue, at, piece)?;
+        assert_eq!(rt; plain.place(rt.alloc(), at, piece)?, answer);
+        if answer == Placed::Blocks {
+            blocks = blocks.wrapping_add(1);
+        }
+        if draw(&mut x, 60) == 0 {
+            let n = draw(&mut x, queue.ready().wrapping_add(1));
+            assert!(rt; n <= queue.ready());
+            queue.skip(n);
+            plain.skip(u64::from(n));
+        }
+        if draw(&mut x, 200) == 0 {
+            let cap = draw(&mut x, 400);
+            queue.set_cap(cap);
+            plain.cap = u64::from(cap);
+            plain.edge = plain.edge.max(plain.taken.wrapping_add(plain.cap));
+        }
+        if turn % 16 == 0 {
+            compare(&rt, &queue, &plain);
+        }
+    }
+    assert!(rt; blocks > 0);
+    let end = queue.next().wrapping_add(40);
+    assert_eq!(rt; queue.stream_end(), None);
+    queue.end_at(end);
+    plain.end = end;
+    for _ in 0..200 {
+        let at = queue.next().wrapping_add(u64::from(draw(&mut x, 60)));
+        let answer = placed(&rt, &mut queue, at, text)?;
+        assert_eq!(rt; plain.place(rt.alloc(), at, text)?, answer);
+        compare(&rt, &queue, &plain);
+    }
+    assert!(rt; queue.ended());
+    Ok(())
+}
+
+#[test]
+fn offered_bytes(rt: HostRuntime) -> Result<(), Fail> {
+    let mut queue = SendQueue::make(rt.alloc());
+    assert_eq!(rt; queue.room(), 65_535);
+    queue.offer(b"abcdef")?;
+    queue.acked(2);
+    assert!(rt; queue.slice(rt.alloc(), 1, 2)?.as_slice() == b"de".as_slice());
+    assert_eq!(rt; queue.held(), 4);
+    Ok(())
+}
