@@ -57,7 +57,7 @@ class Examples(unittest.TestCase):
         self.assertEqual(self.told(1), "crates/low/src/sink.rt:7: Sink: in no test\n")
 
     def test_this_repository_s_examples_stand_in_tests(self):
-        self.assertIn(b": in a_file_is_written_and_read of crates/sq_base/src/tests.rt\n", output([TOOLS / "examples"]))
+        self.assertIn(b": in a_file_is_written_and_read of crates/input_tests/src/ends.rt\n", output([TOOLS / "examples"]))
 
     def test_lines_of_a_test(self):
         self.sink("let mut sink = Sink::make(rt.alloc(), 64)?;", "filled(&mut sink)?;")
@@ -98,6 +98,11 @@ class Examples(unittest.TestCase):
         self.write("key_counters", "counting.rt", "pub fn count(sink: Sink) {\n    sink.close();\n}\n")
         self.write("key_counters", "tests.rt", "#[test]\nfn counts(rt: HostRuntime) {\n    count(Sink);\n}\n")
         self.assertIn("in count of crates/key_counters/src/counting.rt, which the test counts runs", self.told())
+
+    def test_a_crate_of_tests(self):
+        self.sink("sink.close();", crate="high")
+        self.write("high_tests", "sinks.rt", "#[test]\nfn closes(rt: HostRuntime) {\n    sink.close();\n}\n")
+        self.assertIn("in closes of crates/high_tests/src/sinks.rt", self.told())
 
     def test_crates_without_an_example_are_told(self):
         self.write("low", "sink.rt", "/// A sink.\npub struct Sink;\n")

@@ -27,6 +27,7 @@ class Cost(unittest.TestCase):
         self.assertEqual(work(["/top/crates/low/out/low_tests", "one"], "/tmp/empty"), ("low", "tests"))
         self.assertEqual(work(["/top/crates/prog/out/prog.llvm"], "/tmp/empty"), ("prog", "proofs"))
         self.assertIsNone(work(["/usr/bin/python3", "/opt/rattle/bin/rt", "ci"], "/top"))
+        self.assertEqual(work([*PROVER[:3], "low_tests", "src/lib.rt"], "/top/crates/low_tests"), ("low_tests", "proofs"))
         self.assertIsNone(work([], "/top"))
 
     def test_what_a_command_costs(self):
