@@ -22,7 +22,7 @@ sleep 5
 first=0
 most=0
 samples=0
-while resident=$(awk '$1 == "VmRSS:" { print $2 }' "/proc/$run/status" 2>/dev/null) && [ -n "$resident" ]; do
+while [ $(($(date +%s) - begin)) -lt "$seconds" ] && resident=$(awk '$1 == "VmRSS:" { print $2 }' "/proc/$run/status" 2>/dev/null) && [ -n "$resident" ]; do
     samples=$((samples + 1))
     echo "| $(($(date +%s) - begin)) | $resident | $(tail -1 "$said" | awk '{ print $4 }') |"
     if [ "$samples" = 2 ]; then
