@@ -4,12 +4,11 @@ use Rattle.std.specs.List.{range_with_len}
 use Rattle.std.specs.declared.alloc.Global.{Global}
 use Rattle.std.proofs.lemmas.List.Sums.{sum-map}
 use Rattle.perimeter_core.specs.declared.entries.Feed.{Feed}
-use Rattle.squeue_serve.proofs.Lent.{some_at}
+use Rattle.histories.proofs.ListPlaces.{some_at, got_map}
 use Rattle.stream_plan.specs.Sound.{IsMorePlan}
 use Rattle.stream_plan.specs.Streams.{MorePlanOf, StreamOf, item_count}
 use Rattle.feed_lists.specs.Lists.{list_of}
-use Rattle.squeue_rings.specs.Runs.{count, is_at}
-use Rattle.squeue_rings.proofs.Slots.{got_map}
+use Rattle.histories.specs.Runs.{count, is_at}
 use Rattle.ring_jobs.proofs.Works.{got_or}
 use Rattle.squeue_pool.specs.Keys.{quotas_at as quotas_by}
 use Rattle.squeue_pool.proofs.KeyLists.{quotas_map, short_list}

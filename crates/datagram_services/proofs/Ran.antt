@@ -7,11 +7,10 @@ use Rattle.std.proofs.lemmas.Option.{slice_get_within}
 use Rattle.std.proofs.Math.Nat.{mod-lt}
 use Rattle.perimeter_core.specs.declared.entries.Feed.{Feed}
 use Rattle.perimeter_core.specs.Deeds.{acts, fed}
-use Rattle.squeue_state.specs.Naming.{Ending}
-use Rattle.squeue_serve.proofs.Lent.{some_at}
-use Rattle.squeue_rings.specs.Keeping.{KeepsPace}
-use Rattle.squeue_rings.specs.Runs.{brought, place}
-use Rattle.squeue_rings.proofs.Slots.{got_map}
+use Rattle.histories.specs.Endings.{Ending}
+use Rattle.histories.proofs.ListPlaces.{some_at, got_map}
+use Rattle.histories.specs.Keeping.{KeepsPace}
+use Rattle.histories.specs.Runs.{brought, place}
 use Rattle.ring_jobs.proofs.Works.{got_or}
 use Rattle.squeue_pool.specs.declared.pool.Pool.{Pool}
 use Rattle.squeue_pool.specs.declared.work.Left.{Left}

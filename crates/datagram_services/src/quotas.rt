@@ -2,8 +2,8 @@
 ghost use Rattle.std.specs.Prelude.{◌≡◌, ◌*◌, ◌<◌, ◌≤◌, ◌^◌, All, IfOk, length, map};
 ghost use Rattle.std.specs.List.{range_with_len};
 ghost use Rattle.capture_reader.specs.Limits.{most_records};
-ghost use Rattle.squeue_state.specs.Behind.{pairs};
-ghost use Rattle.squeue_rings.specs.Runs.{count, is_at};
+ghost use Rattle.histories.specs.Quotas.{pairs};
+ghost use Rattle.histories.specs.Runs.{count, is_at};
 
 use perimeter_core::Feed;
 use squeue_state::Quota;

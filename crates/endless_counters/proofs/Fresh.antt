@@ -8,7 +8,7 @@ use Rattle.perimeter_core.specs.History.{Element, Setting, Limits, start, run, f
 use Rattle.perimeter_core.specs.Deeds.{due, times_left}
 use Rattle.perimeter_core.specs.Legal.{asks_by, feeds_by}
 use Rattle.squeue_state.specs.Naming.{Named, setting_of}
-use Rattle.squeue_state.specs.Elements.{number_of}
+use Rattle.histories.specs.Elements.{number_of}
 use Rattle.squeue_serve.proofs.Unused.{start_idle}
 use Rattle.squeue_streams.specs.Taking.{most_feeds}
 use Rattle.squeue_streams.specs.declared.source.Source.{Source}

@@ -11,12 +11,13 @@ use Rattle.turn_gate.specs.declared.pass.Pass.{Pass}
 use Rattle.perimeter_core.specs.History.{Element, Limits}
 use Rattle.squeue_state.specs.Naming.{Named}
 use Rattle.squeue_state.specs.Clauses.{Knows}
-use Rattle.squeue_state.specs.Elements.{number_of}
+use Rattle.histories.specs.Elements.{number_of}
 use Rattle.squeue_drain.proofs.Deciding.{begins_trans}
 use Rattle.squeue_serve.specs.declared.jobs.Job.{Job}
 use Rattle.squeue_serve.specs.Places.{AtEach, Holds, MayEnd}
 use Rattle.squeue_serve.specs.Lending.{AreHanded, AreLent, holder, lent_to, tasks_in}
-use Rattle.squeue_serve.proofs.Lent.{get_end, get_front, lent_got, past_jobs, some_at}
+use Rattle.squeue_serve.proofs.Lent.{get_end, lent_got, past_jobs}
+use Rattle.histories.proofs.ListPlaces.{get_front, some_at}
 use Rattle.squeue_serve.proofs.Coming.{came, holds_last, holds_other}
 use Rattle.endless_sums.specs.declared.running.Looked.{Looked}
 use Rattle.endless_counters.proofs.Passing.{fresh_at}

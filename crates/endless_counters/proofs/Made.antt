@@ -16,7 +16,8 @@ use Rattle.placed_parts.specs.declared.places.Places.{Places}
 use Rattle.placed_parts.specs.Standing.{PlaceAt, all_new}
 use Rattle.placed_parts.specs.Placing.{MayBe, Stands, limits_of, size_of}
 use Rattle.squeue_state.specs.Naming.{Given, Named, setting_of}
-use Rattle.squeue_state.specs.Clauses.{IsMade, StandsEmpty, ask_quotas}
+use Rattle.squeue_state.specs.Clauses.{IsMade, StandsEmpty}
+use Rattle.histories.specs.Quotas.{ask_quotas}
 use Rattle.squeue_streams.specs.Taking.{IsStreamOf, Takes, count_of, input_of, most_feeds, most_leaves, state_of}
 use Rattle.rtrb.specs.Ring.{received}
 use Rattle.squeue_streams.specs.declared.source.Source.{Source}

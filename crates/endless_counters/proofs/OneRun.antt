@@ -8,8 +8,9 @@ use Rattle.turn_gate.specs.declared.pass.Pass.{Pass}
 use Rattle.perimeter_core.specs.History.{Element, Limits}
 use Rattle.perimeter_core.specs.declared.resident.Resident.{Ghosts}
 use Rattle.squeue_state.specs.Told.{Traced}
-use Rattle.squeue_state.specs.Naming.{Ending, Named}
-use Rattle.squeue_state.specs.Elements.{number_of}
+use Rattle.squeue_state.specs.Naming.{Named}
+use Rattle.histories.specs.Endings.{Ending}
+use Rattle.histories.specs.Elements.{number_of}
 use Rattle.squeue_serve.specs.declared.jobs.Job.{Job}
 use Rattle.squeue_serve.specs.Places.{MayEnd}
 use Rattle.squeue_serve.specs.Lending.{AreHanded, AreLent, HasCome, lent_to, tasks_in}

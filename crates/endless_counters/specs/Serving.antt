@@ -9,8 +9,8 @@ use Rattle.perimeter_core.specs.Blocks.{Blocks, peri}
 use Rattle.placed_parts.specs.declared.parts.Parts.{Ghosts as PartsOf}
 use Rattle.placed_parts.specs.declared.places.Places.{Places}
 use Rattle.placed_parts.specs.Placing.{Stands, limits_of}
-use Rattle.squeue_state.specs.Naming.{Ending, Given, Named, setting_of}
-use Rattle.squeue_state.specs.Endings.{HasEnded}
+use Rattle.squeue_state.specs.Naming.{Given, Named, setting_of}
+use Rattle.histories.specs.Endings.{Ending, HasEnded}
 use Rattle.squeue_state.specs.Behind.{IsPeri}
 use Rattle.squeue_streams.specs.Taking.{most_feeds}
 use Rattle.endless_sums.specs.declared.totals.Total.{Total}

@@ -5,7 +5,7 @@ ghost use Rattle.placed_parts.specs.Standing.{all_new};
 ghost use Rattle.placed_parts.specs.Placing.{Stands, limits_of, size_of};
 ghost use Rattle.turn_gate.specs.Passes.{AreFresh};
 ghost use Rattle.squeue_state.specs.Behind.{ever};
-ghost use Rattle.squeue_state.specs.Elements.{number_of};
+ghost use Rattle.histories.specs.Elements.{number_of};
 ghost use Rattle.squeue_streams.specs.Taking.{count_of, feeds_of, input_of, most_feeds, most_leaves, state_of};
 ghost use Rattle.endless_counters.specs.Making.{AreSources, IsNewSource, lives_of};
 ghost use Rattle.endless_counters.specs.Serving.{ServesStreams};

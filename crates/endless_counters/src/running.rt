@@ -3,7 +3,7 @@ ghost use Rattle.std.specs.Prelude.{◌≡◌, ◌<◌, ℕ, All, Some, length, 
 ghost use Rattle.turn_gate.specs.Passes.{IsPassOf, number, seen};
 ghost use Rattle.perimeter_core.specs.History.{worker as worker_of};
 ghost use Rattle.squeue_state.specs.Naming.{setting_of};
-ghost use Rattle.squeue_state.specs.Elements.{number_of};
+ghost use Rattle.histories.specs.Elements.{number_of};
 ghost use Rattle.squeue_serve.specs.declared.jobs.Job.{Job};
 ghost use Rattle.squeue_serve.specs.Places.{MayEnd};
 ghost use Rattle.squeue_streams.specs.Sourcing.{Brings};

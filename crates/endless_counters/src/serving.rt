@@ -2,7 +2,7 @@
 ghost use Rattle.std.specs.Prelude.{◌≡◌, ◌≤◌, ◌+◌, ◌^◌, ℕ, [], All, IfOk, IfSome, length, vec_capacity};
 ghost use Rattle.turn_gate.specs.Passes.{AreFresh};
 ghost use Rattle.placed_parts.specs.Placing.{limits_of, parts_of};
-ghost use Rattle.squeue_state.specs.Elements.{number_of};
+ghost use Rattle.histories.specs.Elements.{number_of};
 ghost use Rattle.squeue_serve.specs.Lending.{HaveRoom, tasks_in};
 ghost use Rattle.endless_counters.specs.Making.{AreSources};
 ghost use Rattle.endless_counters.specs.Serving.{AreTasks, AreTotalsOfAll, HasSeenAll, HasSeenStreams, IsKept, ServesStreams, last_of};

@@ -6,12 +6,13 @@
 //! it, and leaves a [`Left`] for each squeue.
 #![tactic(auto)]
 
+pub use histories::{Mode, Quota};
 pub use perimeter_core::{Act, Entry, Feed, Hook, NoHook, Resident, SynchAct};
 pub use placed_parts::{Parts, Places};
 pub use squeue_calls::serve_called;
 pub use squeue_ends::Finished;
-pub use squeue_enter::{Entered, Mode, enter};
+pub use squeue_enter::{Entered, enter};
 pub use squeue_pool::{
     Left, Pool, Served, Work, lengths, places_of, run, run_by_key, serve_by_key,
 };
-pub use squeue_state::{Ended, Pass, Quota, Squeue, Trace};
+pub use squeue_state::{Ended, Pass, Squeue, Trace};

@@ -18,11 +18,12 @@ use Rattle.placed_parts.specs.Placing.{Stands, limits_of, size_of}
 use Rattle.placed_parts.specs.Standing.{all_new}
 use Rattle.placed_parts.specs.declared.parts.Parts.{Ghosts}
 use Rattle.placed_parts.specs.declared.places.Places.{Places}
-use Rattle.squeue_state.specs.declared.guarded.Quota.{Quota}
+use Rattle.histories.specs.declared.quota.Quota.{Quota}
 use Rattle.squeue_state.specs.Naming.{Named, setting_of}
-use Rattle.squeue_state.specs.Elements.{number_of}
-use Rattle.squeue_state.specs.Behind.{pairs, room_of}
-use Rattle.squeue_state.specs.Clauses.{IsMade, ask_quotas}
+use Rattle.histories.specs.Elements.{number_of}
+use Rattle.squeue_state.specs.Behind.{room_of}
+use Rattle.histories.specs.Quotas.{pairs, ask_quotas}
+use Rattle.squeue_state.specs.Clauses.{IsMade}
 use Rattle.squeue_bench.specs.Rows.{IsRow}
 use Rattle.squeue_bench.specs.Places.{MayBring}
 use Rattle.squeue_bench.specs.Runs.{IsNewPass, Suits}

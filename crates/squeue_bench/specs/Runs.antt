@@ -4,7 +4,7 @@ use Rattle.turn_gate.specs.Passes.{IsPassOf, number, seen}
 use Rattle.turn_gate.specs.declared.pass.Pass.{Pass}
 use Rattle.perimeter_core.specs.History.{Element, Limits, feed_quota}
 use Rattle.squeue_state.specs.Naming.{Named, setting_of}
-use Rattle.squeue_state.specs.Elements.{number_of}
+use Rattle.histories.specs.Elements.{number_of}
 use Rattle.squeue_state.specs.AllRoom.{HasAllRoom}
 use Rattle.squeue_bench.specs.declared.threads.Ring.{Ring}
 use Rattle.squeue_bench.specs.Rows.{IsRow}

@@ -2,7 +2,7 @@
 ghost use Rattle.std.specs.Prelude.{◌≡◌, ◌*◌, ◌+◌, ◌<◌, ◌≤◌, ◌^◌, ℕ, All, [], ◌∷◌, ◌++◌, IfOk, length, replicate, slice_index_or, vec_capacity, vec_len};
 ghost use Rattle.gate_trial.specs.Counted.{AreFrom};
 ghost use Rattle.key_counters.specs.AsResident.{limits_of};
-ghost use Rattle.squeue_state.specs.Elements.{number_of};
+ghost use Rattle.histories.specs.Elements.{number_of};
 ghost use Rattle.turn_gate.specs.Passes.{AreFresh, IsPassOf, number};
 ghost use Rattle.squeue_bench.specs.Places.{AtEach, HasPass, HasWorked, HaveClosed, IsWorker, MayRun};
 ghost use Rattle.squeue_bench.specs.Runs.{AreReady, HavePasses, IsNewPass, IsReady, Suits};

@@ -7,8 +7,8 @@ use Rattle.std.proofs.Math.Nat.{mod-lt}
 use Rattle.perimeter_core.specs.declared.entries.Feed.{Feed}
 use Rattle.perimeter_core.specs.Deeds.{entries, feeds_of}
 use Rattle.perimeter_core.specs.History.{feed_quotas}
-use Rattle.squeue_state.specs.Clauses.{ask_quotas}
-use Rattle.squeue_rings.specs.Runs.{brought, count, is_at, is_left_by, leaves}
+use Rattle.histories.specs.Quotas.{ask_quotas}
+use Rattle.histories.specs.Runs.{brought, count, is_at, is_left_by, leaves}
 use Rattle.squeue_pool.specs.Keys.{key_lists, quotas_at}
 use Rattle.squeue_pool.proofs.KeyLists.{few_quotas}
 use Rattle.squeue_calls.specs.Quotas.{asks_of, quotas_of, thread_quota}

@@ -12,13 +12,12 @@ use Rattle.perimeter_core.specs.declared.entries.Feed.{Feed}
 use Rattle.perimeter_core.specs.declared.resident.Resident.{Ghosts}
 use Rattle.perimeter_core.specs.History.{Limits, Setting, feed_quotas}
 use Rattle.placed_parts.specs.Standing.{first_here}
-use Rattle.squeue_state.specs.Behind.{pairs}
-use Rattle.squeue_state.specs.Clauses.{ask_quotas}
+use Rattle.histories.specs.Quotas.{pairs, ask_quotas}
 use Rattle.squeue_state.specs.Naming.{Named}
 use Rattle.squeue_rings.specs.Calling.{MayMake, asks_for}
 use Rattle.squeue_rings.specs.Rings.{MayBring}
-use Rattle.squeue_rings.specs.Runs.{InOrder, brought, comes, is_at, leaves}
-use Rattle.squeue_rings.proofs.Slots.{got_map}
+use Rattle.histories.specs.Runs.{InOrder, brought, comes, is_at, leaves}
+use Rattle.histories.proofs.ListPlaces.{got_map}
 use Rattle.ring_jobs.specs.Doing.{called_by}
 use Rattle.ring_jobs.proofs.Works.{got_or}
 use Rattle.feed_lists.specs.Lists.{list_of}

@@ -16,13 +16,12 @@ use Rattle.perimeter_core.specs.History.{Setting, feed_quotas, run}
 use Rattle.perimeter_core.specs.Perimeter.{is_here}
 use Rattle.perimeter_core.specs.Residing.{HadFeeds}
 use Rattle.placed_parts.specs.Standing.{first_here}
-use Rattle.squeue_state.specs.Behind.{pairs}
-use Rattle.squeue_state.specs.Clauses.{ask_quotas}
-use Rattle.squeue_state.specs.Naming.{Ending, Named}
-use Rattle.squeue_serve.proofs.Lent.{some_at}
+use Rattle.histories.specs.Quotas.{pairs, ask_quotas}
+use Rattle.squeue_state.specs.Naming.{Named}
+use Rattle.histories.specs.Endings.{Ending}
+use Rattle.histories.proofs.ListPlaces.{some_at, got_map}
 use Rattle.squeue_rings.specs.Rings.{MayBring}
-use Rattle.squeue_rings.specs.Runs.{InOrder, brought, count, is_at, place}
-use Rattle.squeue_rings.proofs.Slots.{got_map}
+use Rattle.histories.specs.Runs.{InOrder, brought, count, is_at, place}
 use Rattle.ring_jobs.proofs.Works.{got_or}
 use Rattle.feed_lists.specs.Lists.{list_of}
 use Rattle.feed_lists.proofs.RingLists.{has_all}

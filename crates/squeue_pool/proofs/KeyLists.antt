@@ -8,8 +8,8 @@ use Rattle.std.proofs.lemmas.List.{take_more}
 use Rattle.std.proofs.lemmas.List.Sums.{sum_by-cons}
 use Rattle.perimeter_core.specs.declared.entries.Feed.{Feed}
 use Rattle.perimeter_core.specs.History.{feed_quotas}
-use Rattle.squeue_state.specs.Clauses.{ask_quotas}
-use Rattle.squeue_rings.specs.Runs.{count, is_at}
+use Rattle.histories.specs.Quotas.{ask_quotas}
+use Rattle.histories.specs.Runs.{count, is_at}
 use Rattle.squeue_rings.proofs.Counting.{count_more}
 use Rattle.feed_lists.specs.Lists.{items_of, list_of}
 use Rattle.feed_lists.proofs.RingLists.{length_items}

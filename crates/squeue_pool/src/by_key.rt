@@ -1,7 +1,7 @@
 //! Work by key: each connection has a number of feeds, stays at its squeue, and nobody calls.
 ghost use Rattle.std.specs.Prelude.{◌≡◌, ◌<◌, ◌≤◌, ◌^◌, IfOk, length, sum};
 ghost use Rattle.perimeter_core.specs.Residing.{IsWithin};
-ghost use Rattle.squeue_state.specs.Limits.{most_feeds};
+ghost use Rattle.histories.specs.Limits.{most_feeds};
 ghost use Rattle.squeue_pool.specs.Keys.{HadAll, HaveKeys, key_work};
 ghost use Rattle.squeue_pool.specs.Runs.{HasRun};
 ghost use Rattle.squeue_pool.specs.ServedParts.{IsServed, counts_of, shared_of};

@@ -7,9 +7,9 @@ use Rattle.perimeter_core.specs.declared.marks.Own.TheVariants.{Free, Out}
 use Rattle.perimeter_core.specs.History.{Element, Setting, pass_of, run}
 use Rattle.perimeter_core.specs.Deeds.{done, done_by}
 use Rattle.perimeter_core.specs.Legal.{all_feeds, feed_count}
-use Rattle.squeue_enter.specs.declared.Mode.{Mode}
-use Rattle.squeue_enter.specs.declared.Mode.TheVariants as Mode'
-use Rattle.squeue_rings.specs.Keeping.{Keeps, claims_feeds, fills, fills_one, gives_it_up, is_fast, leaves_it, taken}
+use Rattle.histories.specs.declared.mode.Mode.{Mode}
+use Rattle.histories.specs.declared.mode.Mode.TheVariants as Mode'
+use Rattle.histories.specs.Keeping.{Keeps, claims_feeds, fills, fills_one, gives_it_up, is_fast, leaves_it, taken}
 use Rattle.ring_quotas.specs.declared.setup.Setup.{Setup}
 use Rattle.squeue_replay.specs.declared.pace.Met.{Met}
 use Rattle.squeue_replay.specs.declared.pace.Pace.{Pace}

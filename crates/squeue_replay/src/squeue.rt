@@ -15,10 +15,10 @@ use crate::guest::Guest;
 use crate::marks::ReadMark;
 use conn_blocks::Calls;
 use conn_classifier::Plan;
+use histories::Quota;
 use perimeter_core::{Entry, Kind, Own};
 pub use processing::stay_of;
 use ring_quotas::{CALLERS, Setup, quotas_at};
-use squeue_state::Quota;
 use std::alloc::{AllocError, Global};
 use std::collections::VecDeque;
 

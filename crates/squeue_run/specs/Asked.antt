@@ -9,9 +9,9 @@ use Rattle.squeue_run.specs.Words.{Text, Given, given}
 use Rattle.conn_blocks.specs.Limits.{most_calls}
 use Rattle.ring_quotas.specs.Limits.{most_budget, most_rings, most_spread, most_squeues}
 use Rattle.ring_quotas.specs.declared.setup.Setup.{Setup}
-use Rattle.squeue_enter.specs.declared.Mode.{Mode}
-use Rattle.squeue_enter.specs.declared.Mode.TheVariants as mode
-use Rattle.squeue_enter.specs.Ways.{mode_of}
+use Rattle.histories.specs.declared.mode.Mode.{Mode}
+use Rattle.histories.specs.declared.mode.Mode.TheVariants as mode
+use Rattle.histories.specs.ModeWords.{mode_of}
 use Rattle.tcb_machine.specs.declared.kinds.Call.{Call}
 use Rattle.tcb_machine.specs.declared.kinds.Call.TheVariants as call
 use Rattle.squeue_run.specs.declared.calls.CallWord.{CallWord}

@@ -9,8 +9,8 @@ use Rattle.conn_blocks.specs.Limits.{callers, most_calls}
 use Rattle.ring_quotas.specs.Limits.{most_budget}
 use Rattle.ring_quotas.specs.declared.setup.Setup.{Setup}
 use Rattle.ring_quotas.specs.Quotas.{IsInRange}
-use Rattle.squeue_report.specs.ReportText.{done_line}
-use Rattle.squeue_report.specs.TraceText.{setup_line, calls_text, squeue_text}
+use Rattle.report_lines.specs.ReportText.{done_line}
+use Rattle.report_lines.specs.TraceText.{setup_line, calls_text, squeue_text}
 use Rattle.squeue_replay.specs.Marks.{IsPrinted}
 
 -- a call on one of so many connections

@@ -2,7 +2,7 @@
 
 ghost use Rattle.std.specs.Prelude.{◌≡◌, ℕ, ◌^◌, ◌<◌, ◌≤◌, ◌↔◌, Bool, true, List, ◌++◌, IfOk, IsTrue, MatchOption};
 ghost use Rattle.conn_blocks.specs.CallLists.{CallLists};
-ghost use Rattle.squeue_report.specs.TraceText.{call_line, calls_text, setup_line};
+ghost use Rattle.report_lines.specs.TraceText.{call_line, calls_text, setup_line};
 ghost use Rattle.tcb_machine.specs.declared.kinds.Call.{Call as CallOf};
 ghost use Rattle.ring_quotas.specs.Limits.{most_budget, most_rings, most_spread, most_squeues};
 ghost use Rattle.ring_quotas.specs.declared.setup.Setup.{Setup as SetupOf};
@@ -11,8 +11,7 @@ ghost use Rattle.trace_lines.specs.Printed.{ArePrintedCalls, BeginsWithCall, IsP
 
 use crate::forms::by_form;
 use conn_blocks::{Calls, MOST_CALLS};
-use ring_quotas::{CALLERS, Setup};
-use squeue_enter::Mode;
+use ring_quotas::{CALLERS, Mode, Setup};
 use std::alloc::{AllocError, Global};
 use tcb_machine::Call;
 

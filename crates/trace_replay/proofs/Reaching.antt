@@ -9,13 +9,13 @@ use Rattle.perimeter_core.specs.declared.marks.Mark.{Mark}
 use Rattle.perimeter_core.specs.Ending.{IsOver}
 use Rattle.perimeter_core.specs.History.{Element, Setting, run}
 use Rattle.perimeter_core.specs.Legal.{Legal}
-use Rattle.squeue_state.specs.Naming.{Ending}
+use Rattle.histories.specs.Endings.{Ending}
 use Rattle.conn_classifier.specs.Plan.{PlanOf}
 use Rattle.conn_blocks.specs.CallLists.{CallLists}
 use Rattle.ring_quotas.specs.declared.setup.Setup.{Setup}
 use Rattle.ring_quotas.specs.Quotas.{setting_at}
-use Rattle.squeue_report.specs.ReportText.{line, line_end}
-use Rattle.squeue_report.specs.TraceText.{mark_fields, mark_line}
+use Rattle.report_lines.specs.ReportText.{line, line_end}
+use Rattle.report_lines.specs.TraceText.{mark_fields, mark_line}
 use Rattle.squeue_replay.specs.declared.pace.Pace.{Pace}
 use Rattle.squeue_replay.specs.Histories.{ending_of, note_of, noted, noted_from}
 use Rattle.squeue_replay.specs.Marks.{IsPrinted}

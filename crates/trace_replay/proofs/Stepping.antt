@@ -8,7 +8,7 @@ use Rattle.perimeter_core.specs.History.{Element}
 use Rattle.perimeter_core.specs.History as history
 use Rattle.perimeter_core.specs.Legal.{Legal}
 use Rattle.ring_quotas.specs.Quotas.{setting_at}
-use Rattle.squeue_report.specs.TraceText.{mark_line}
+use Rattle.report_lines.specs.TraceText.{mark_line}
 use Rattle.squeue_replay.specs.declared.pace.Pace.{Pace}
 use Rattle.squeue_replay.specs.declared.squeue.Run.{Run}
 use Rattle.squeue_replay.specs.declared.squeue.Squeue.{Squeue}

@@ -1,7 +1,7 @@
 -- What is found by going through the marks of one squeue, which are legal.
 use Rattle.std.specs.Prelude.{◌≡◌, ◌↔◌, ℕ, Bool, Decides, IsTrue, MatchOption, Option, Some, List, [], ◌∷◌, ◌++◌, length, slice_get}
 use Rattle.perimeter_core.specs.Legal.{Legal}
-use Rattle.squeue_state.specs.Naming.{Ending}
+use Rattle.histories.specs.Endings.{Ending}
 use Rattle.ring_quotas.specs.declared.setup.Setup.{Setup}
 use Rattle.perimeter_core.specs.declared.marks.Mark.{Mark}
 use Rattle.squeue_replay.specs.declared.pace.Pace.{Pace}

@@ -4,7 +4,7 @@ ghost use Rattle.std.specs.Prelude.{◌≡◌, ◌<◌, ◌≤◌, ℕ, All, Err
 ghost use Rattle.std.specs.List.{flat_map};
 ghost use Rattle.perimeter_core.specs.declared.marks.Mark.{Mark};
 ghost use Rattle.perimeter_core.specs.Legal.{Legal};
-ghost use Rattle.squeue_report.specs.TraceText.{mark_line};
+ghost use Rattle.report_lines.specs.TraceText.{mark_line};
 ghost use Rattle.squeue_replay.specs.Histories.{ending_of, endings_of};
 ghost use Rattle.perimeter_core.specs.Kinds.{mark_by};
 ghost use Rattle.squeue_replay.specs.Marks.{HasItsFeeds, IsPrinted};

@@ -24,8 +24,8 @@ use Rattle.tcb_machine.specs.declared.kinds.Call.{Call}
 use Rattle.perimeter_core.specs.History.{run}
 use Rattle.perimeter_core.specs.Legal.{Legal}
 use Rattle.perimeter_core.specs.Ending.{IsOver}
-use Rattle.squeue_enter.specs.declared.Mode.TheVariants as Mode'
-use Rattle.squeue_rings.specs.Keeping.{KeepsPace}
+use Rattle.histories.specs.declared.mode.Mode.TheVariants as Mode'
+use Rattle.histories.specs.Keeping.{KeepsPace}
 use Rattle.squeue_pool.specs.Keeping.{PassesKeep}
 use Rattle.conn_blocks.specs.CallLists.{calls_of}
 use Rattle.conn_blocks.specs.Orders.{IsWhole, numbers_from, settle}

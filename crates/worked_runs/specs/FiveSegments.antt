@@ -21,7 +21,7 @@ use Rattle.perimeter_core.specs.declared.entries.Entry.TheVariants.{Feed}
 use Rattle.perimeter_core.specs.declared.marks.SynchAct.TheVariants as Done
 use Rattle.perimeter_core.specs.declared.marks.Mark.TheVariants as On
 use Rattle.perimeter_core.specs.History.{Element, Setting}
-use Rattle.squeue_state.specs.Naming.{Ending}
+use Rattle.histories.specs.Endings.{Ending}
 use Rattle.conn_blocks.specs.CallLists.{CallLists}
 use Rattle.ring_threads.specs.Served.{ServedOf}
 use Rattle.squeue_run.specs.GeneratedCapture.{file_header, record_of}

@@ -5,8 +5,8 @@ use Rattle.perimeter_core.specs.declared.entries.Entry.TheVariants.{Feed, Ask}
 use Rattle.perimeter_core.specs.declared.marks.SynchAct.TheVariants as Done
 use Rattle.perimeter_core.specs.declared.marks.Mark.TheVariants as On
 use Rattle.perimeter_core.specs.History.{Element, Setting}
-use Rattle.squeue_enter.specs.declared.Mode.TheVariants as Mode'
-use Rattle.squeue_state.specs.Naming.{Ending}
+use Rattle.histories.specs.declared.mode.Mode.TheVariants as Mode'
+use Rattle.histories.specs.Endings.{Ending}
 use Rattle.conn_classifier.specs.Plan.{PlanOf}
 use Rattle.ring_quotas.specs.declared.setup.Setup.{Setup}
 use Rattle.ring_threads.specs.Served.{ServedOf}

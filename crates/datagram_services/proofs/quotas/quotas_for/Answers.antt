@@ -1,7 +1,7 @@
 use Rattle.std.proofs.Common.{◌≡◌, ℕ, map, subst, arith}
 use Rattle.std.specs.List.{range_with_len}
-use Rattle.squeue_rings.specs.Runs.{count, is_at}
-use Rattle.squeue_state.specs.Behind.{pairs}
+use Rattle.histories.specs.Runs.{count, is_at}
+use Rattle.histories.specs.Quotas.{pairs}
 use Rattle.datagram_services.proofs.Ranged.{one_numbered}
 use Rattle.datagram_services.proofs.quotas.quotas_for.Goals as goal
 

@@ -1,7 +1,7 @@
 use Rattle.std.proofs.Common.{◌≡◌, map}
 use Rattle.std.specs.List.{range_with_len}
-use Rattle.squeue_rings.specs.Runs.{count, is_at}
-use Rattle.squeue_state.specs.Behind.{pairs}
+use Rattle.histories.specs.Runs.{count, is_at}
+use Rattle.histories.specs.Quotas.{pairs}
 use Rattle.datagram_services.proofs.quotas.quotas_for.Given as goal
 
 abbrev pub invariant-loop-q : goal.invariant-loop-q

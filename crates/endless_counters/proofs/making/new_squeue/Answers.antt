@@ -2,7 +2,7 @@ use Rattle.std.proofs.Common.{◌≡◌, ℕ, ◌+◌, length, ap, sym, ◌∙�
 use Rattle.std.proofs.lemmas.List.{length-map}
 use Rattle.std.proofs.lemmas.Result.{IfOk-weaker}
 use Rattle.squeue_state.specs.Behind.{ever}
-use Rattle.squeue_state.specs.Clauses.{ask_quotas}
+use Rattle.histories.specs.Quotas.{ask_quotas}
 use Rattle.perimeter_core.specs.History.{feed_quotas}
 use Rattle.endless_counters.specs.Making.{lives_of}
 use Rattle.endless_counters.proofs.Made.{both_ok, lives_asks, lives_feeds, lives_long, new_empty, serves}

@@ -1,6 +1,6 @@
 use Rattle.std.proofs.Common.{◌≡◌, ◌+◌, ◌<◌, List, [], ◌∷◌, ◌++◌, length, ap, subst, ◌∙◌, arith, set, length-append, length-set}
 use Rattle.turn_gate.specs.Passes.{AreFresh}
-use Rattle.squeue_state.specs.Elements.{number_of}
+use Rattle.histories.specs.Elements.{number_of}
 use Rattle.squeue_bench.specs.Runs.{IsReady}
 use Rattle.squeue_bench.proofs.Places.{Halfway, back}
 use Rattle.squeue_bench.proofs.Starting.{last_new}

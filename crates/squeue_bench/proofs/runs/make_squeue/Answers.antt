@@ -4,8 +4,7 @@ use Rattle.std.proofs.lemmas.List.Elements.{All-map}
 use Rattle.std.proofs.lemmas.Result.{IfOk-weaker}
 use Rattle.perimeter_core.specs.History.{feed_quotas}
 use Rattle.placed_parts.specs.Standing.{all_new}
-use Rattle.squeue_state.specs.Behind.{pairs}
-use Rattle.squeue_state.specs.Clauses.{ask_quotas}
+use Rattle.histories.specs.Quotas.{pairs, ask_quotas}
 use Rattle.squeue_bench.proofs.Starting.{feeds_sum, asks_sum, none_had, new_suits}
 use Rattle.squeue_bench.proofs.runs.make_squeue.Goals as goal
 

@@ -2,7 +2,7 @@ use Rattle.std.proofs.Common.{◌≡◌, ◌+◌, ◌≤◌, Some, List, [], ◌
 use Rattle.std.specs.Prelude.{vec_capacity}
 use Rattle.std.proofs.lemmas.List.Elements.{All-push}
 use Rattle.turn_gate.specs.Passes.{AreFresh, number}
-use Rattle.squeue_state.specs.Elements.{number_of}
+use Rattle.histories.specs.Elements.{number_of}
 use Rattle.key_counters.specs.AsResident.{limits_of}
 use Rattle.squeue_bench.specs.declared.threads.Worker.{Worker}
 use Rattle.squeue_bench.specs.Places.{AtEach, IsWorker}

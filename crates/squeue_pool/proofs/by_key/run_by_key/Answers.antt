@@ -2,7 +2,7 @@ use Rattle.std.proofs.Common.{◌≡◌, ◌^◌, ◌<◌, All, IfOk, List, Vec,
 use Rattle.std.specs.declared.alloc.Global.{Global}
 use Rattle.std.proofs.lemmas.Result.{IfOk-weaker}
 use Rattle.perimeter_core.specs.declared.entries.Feed.{Feed}
-use Rattle.squeue_state.specs.Behind.{pairs}
+use Rattle.histories.specs.Quotas.{pairs}
 use Rattle.squeue_pool.specs.declared.work.Work.{Work}
 use Rattle.squeue_pool.specs.Keys.{HadAll, key_quotas, key_work}
 use Rattle.squeue_pool.specs.Runs.{HasRun}

@@ -1,6 +1,6 @@
 use Rattle.std.proofs.Common.{take}
 use Rattle.perimeter_core.specs.Deeds.{entries}
-use Rattle.squeue_rings.specs.Keeping.{AreHome}
+use Rattle.histories.specs.Keeping.{AreHome}
 use Rattle.squeue_replay.proofs.pace.Pace.all_home.Given as goal
 
 abbrev pub invariant-loop-feed : goal.invariant-loop-feed

@@ -7,7 +7,7 @@ use Rattle.squeue_replay.specs.Steps.{guest_acted}
 use Rattle.squeue_replay.proofs.Places.{became_at, became_nowhere, none_past, other_in, own_in}
 use Rattle.squeue_replay.proofs.StayBounds.{stay_fits}
 use Rattle.squeue_replay.proofs.squeue.Squeue.put_in.Goals as goal
-use Rattle.squeue_rings.proofs.Slots.{got_map}
+use Rattle.histories.proofs.ListPlaces.{got_map}
 
 not_cut : (x : ℕ) → x < 2 ^ 64 → min x 18446744073709551615 ≡ x
 not_cut x lt = omega arith

@@ -5,7 +5,7 @@ use Rattle.squeue_replay.specs.Standing.{guest_of}
 use Rattle.squeue_replay.specs.Steps.{guest_acted}
 use Rattle.squeue_replay.proofs.Places.{became_at, became_nowhere, none_past, other_out, own_out}
 use Rattle.squeue_replay.proofs.squeue.Squeue.take_out.Goals as goal
-use Rattle.squeue_rings.proofs.Slots.{got_map}
+use Rattle.histories.proofs.ListPlaces.{got_map}
 
 pub returns-in-Some-clause-gone : goal.returns-in-Some-clause-gone
 returns-in-Some-clause-gone c few =
