@@ -1,4 +1,4 @@
-//! Why there is no capture.
+//! Why there is no capture, and why not even its bytes.
 
 use thiserror::Error;
 
@@ -32,4 +32,17 @@ pub enum CaptureFault {
     /// Bytes follow the record with number 1,048,575.
     #[error("too many records")]
     TooManyRecords,
+}
+
+/// Why a source's bytes were not all read.
+#[derive(Clone, Copy, Debug, PartialEq, Eq, Error)]
+pub enum SourceFault {
+    /// A read failed.
+    #[error("read fault")]
+    Read,
+    #[error("out of memory")]
+    NoMemory,
+    /// There are more bytes than may be read.
+    #[error("too many bytes")]
+    TooLarge,
 }

@@ -15,6 +15,6 @@ mod limits;
 mod source;
 
 pub use capture::{Capture, Record, parse_capture};
-pub use fault::CaptureFault;
+pub use fault::{CaptureFault, SourceFault};
 pub use limits::{LATEST_TIME, LONGEST_BODY, MOST_BYTES, MOST_RECORDS};
-pub use source::{read_bytes, read_capture};
+pub use source::{read_bytes, read_capture, read_within};

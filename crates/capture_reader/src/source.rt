@@ -1,12 +1,12 @@
 //! A capture, or its bytes alone, from a source, which is read to the end of its input.
 
-ghost use Rattle.std.specs.Prelude.{◌≡◌, ◌≤◌, length, IfOk, IfErr, Err};
+ghost use Rattle.std.specs.Prelude.{◌≡◌, ◌+◌, ◌<◌, ◌≤◌, length, IfOk, IfErr, Err};
 ghost use Rattle.capture_reader.specs.Limits.{most_bytes, most_taken};
 ghost use Rattle.sq_base.specs.Ends.{Rose};
 ghost use Rattle.capture_reader.specs.Outcome.{IsCapture, ReadsWhole, ReadFails, BytesFail, Takes};
 
 use crate::capture::{Capture, parse_capture};
-use crate::fault::CaptureFault;
+use crate::fault::{CaptureFault, SourceFault};
 use crate::limits::MOST_BYTES;
 use sq_base::{Failed, Octets, Source};
 use std::alloc::Global;
@@ -46,21 +46,51 @@ pub fn read_bytes<S: Source>(alloc: Global, src: &mut S) -> Result<Octets, Captu
     ensures few { Takes (λ n. n ≤ most_taken) (S.rest src.old) (S.rest src.new) }
     ensures never_falls { S.read_faults src.old ≤ S.read_faults src.new }
 {
+    match read_within(alloc, src, MOST_BYTES) {
+        Ok(bytes) => Ok(Octets::wrap(bytes)),
+        Err(SourceFault::Read) => Err(CaptureFault::Read),
+        Err(SourceFault::NoMemory) => Err(CaptureFault::NoMemory),
+        Err(SourceFault::TooLarge) => Err(CaptureFault::TooLarge(MOST_BYTES as u64 + 1)),
+    }
+}
+
+/// All bytes that a source gives, so many at most. `TooLarge` comes where one more was taken, and none but that one ever is.
+///
+/// # Example
+///
+/// ```
+/// let mut source = MemSource::make(alloc, bytes, 100, failing)?;
+/// let bytes = read_within(alloc, &mut source, 4096)?;
+/// ```
+pub fn read_within<S: Source>(
+    alloc: Global,
+    src: &mut S,
+    most: usize,
+) -> Result<Vec<u8>, SourceFault>
+    requires { most < 18446744073709551615 }
+    ensures ok { IfOk result (λ v. ReadsWhole (S.rest src.old) (S.rest src.new) v.items × (length v.items ≤ most)) }
+    ensures read { result ≡ Err SourceFault.Read → Rose (S.read_faults src.old) (S.read_faults src.new)
+        × Takes (λ n. n ≤ most) (S.rest src.old) (S.rest src.new) }
+    ensures large { result ≡ Err SourceFault.TooLarge → Takes (λ n. n ≡ most + 1) (S.rest src.old) (S.rest src.new) }
+    ensures kept { (result ≡ Err SourceFault.Read → ⊥) → S.read_faults src.new ≡ S.read_faults src.old }
+    ensures few { Takes (λ n. n ≤ most + 1) (S.rest src.old) (S.rest src.new) }
+    ensures never_falls { S.read_faults src.old ≤ S.read_faults src.new }
+{
     let mut bytes = Vec::new(alloc);
     let mut buf = [0; PIECE];
     loop {
         // Never more than one byte past the size is asked for.
-        let room = PIECE.min(MOST_BYTES + 1 - bytes.len());
+        let room = PIECE.min(most + 1 - bytes.len());
         let n = match src.read(&mut buf[..room]) {
-            Ok(0) => return Ok(Octets::wrap(bytes)),
+            Ok(0) => return Ok(bytes),
             Ok(n) => n,
-            Err(Failed) => return Err(CaptureFault::Read),
+            Err(Failed) => return Err(SourceFault::Read),
         };
         bytes
             .extend_from_slice(&buf[..n])
-            .map_err(|_| CaptureFault::NoMemory)?;
-        if bytes.len() > MOST_BYTES {
-            return Err(CaptureFault::TooLarge(bytes.len() as u64));
+            .map_err(|_| SourceFault::NoMemory)?;
+        if bytes.len() > most {
+            return Err(SourceFault::TooLarge);
         }
     }
 }

@@ -8,3 +8,4 @@ mod Ran
 mod Ranged
 mod StreamTexts
 mod Suits
+pub mod InRange

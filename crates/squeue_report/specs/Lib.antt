@@ -3,4 +3,3 @@ pub mod ReportText
 pub mod TraceText
 pub mod SummaryText
 pub mod OrderLaw
-pub mod Telling

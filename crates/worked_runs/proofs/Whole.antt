@@ -34,8 +34,9 @@ use Rattle.ring_threads.specs.Served.{HasServed, orders_of}
 use Rattle.squeue_run.specs.Asked.{Asked, asked}
 use Rattle.squeue_run.specs.GeneratedCapture.{file_header, record_of}
 use Rattle.squeue_run.specs.Output.{AreOrders, IsReport, items_alone, told_of}
-use Rattle.squeue_run.specs.Ran.{Accepts, HasRan, IsServable, Reads, TakesFew}
-use Rattle.squeue_run.specs.Words.{uses_from}
+use Rattle.squeue_run.specs.Ran.{Accepts, HasRan, IsServable}
+use Rattle.shell.specs.Reading.{Reads, TakesFew}
+use Rattle.shell.specs.Words.{uses_from}
 use Rattle.worked_runs.specs.OneSqueue.{setup, block_of}
 use Rattle.worked_runs.specs.FiveSegments.{records, form, file, plan, no_calls, setting, history, ending, order, served, text, source, out, err}
 use Rattle.worked_runs.proofs.Told.{told}
