@@ -13,10 +13,10 @@ use Rattle.perimeter_core.specs.Perimeter.{State, after, is_here}
 use Rattle.perimeter_core.specs.History.{Element, start, run}
 use Rattle.perimeter_core.specs.Deeds.{acts, done_by, feed_acts, call_act, reported}
 use Rattle.perimeter_core.specs.Legal.{Legal}
-use Rattle.squeue_state.specs.Naming.{Ending}
-use Rattle.conn_migrate.specs.Stays.{Stay, all_in, stays, reports_from, done_in, stays_in, stay, own_of, joined, AreLinked}
-use Rattle.conn_migrate.proofs.StaysJoin.{all_stays}
-use Rattle.conn_migrate.proofs.StaysKept.{reports_are_done}
+use Rattle.histories.specs.Endings.{Ending}
+use Rattle.histories.specs.Stays.{Stay, all_in, stays, reports_from, done_in, stays_in, stay, own_of, joined, AreLinked}
+use Rattle.histories.proofs.StaysJoin.{all_stays}
+use Rattle.histories.proofs.StaysKept.{reports_are_done}
 use Rattle.squeue_rings.specs.Made.{makes_call, times_made}
 use Rattle.squeue_pool.specs.Runs.{made_in_all}
 use Rattle.called_acts.specs.Counting.{times_called}

@@ -3,8 +3,8 @@ ghost use Rattle.std.specs.Prelude.{◌≡◌, ℕ, ◌<◌, true, List, Some, s
 ghost use Rattle.perimeter_core.specs.Perimeter.{is_here};
 ghost use Rattle.perimeter_core.specs.History.{run};
 ghost use Rattle.perimeter_core.specs.Deeds.{acts};
-ghost use Rattle.squeue_state.specs.Naming.{Ending};
-ghost use Rattle.conn_migrate.specs.Stays.{AreLinked};
+ghost use Rattle.histories.specs.Endings.{Ending};
+ghost use Rattle.histories.specs.Stays.{AreLinked};
 ghost use Rattle.squeue_pool.specs.Runs.{made_in_all};
 ghost use Rattle.called_acts.specs.Counting.{times_called};
 

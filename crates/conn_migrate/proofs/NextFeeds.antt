@@ -17,7 +17,7 @@ use Rattle.perimeter_core.proofs.NextFeed.{fed-append, fed_feeds, had}
 use Rattle.perimeter_core.proofs.OneMore.{due_push, legal_front, legal_next}
 use Rattle.perimeter_core.proofs.OrderAndWake.{sound}
 use Rattle.squeue_state.specs.Naming.{Named, setting_of}
-use Rattle.squeue_state.specs.Elements.{left_by_pass}
+use Rattle.histories.specs.Elements.{left_by_pass}
 use Rattle.conn_migrate.specs.Moving.{Moved}
 
 all_fed : (S : Setting) (F : List Element) (p c : ℕ) → Legal S (F ++ left_by_pass p 0 (Done.Out c) [] ∷ []) → fed (acts S (F ++ left_by_pass p 0 (Done.Out c) [] ∷ []) c) ≡ due (F ++ left_by_pass p 0 (Done.Out c) [] ∷ []) c

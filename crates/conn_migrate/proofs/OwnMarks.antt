@@ -15,11 +15,12 @@ use Rattle.perimeter_core.proofs.OneMore.{legal_front}
 use Rattle.perimeter_core.proofs.RingKnows.{ring_knows}
 use Rattle.perimeter_core.proofs.OwnCounts.{own_counts}
 use Rattle.squeue_state.specs.Naming.{Named, setting_of}
-use Rattle.squeue_state.specs.Elements.{number_of, left_by_pass, asked_by, ask_claimed_by, granted_by, accepted_by}
+use Rattle.histories.specs.Elements.{number_of, left_by_pass, asked_by, ask_claimed_by, granted_by, accepted_by}
 use Rattle.squeue_state.proofs.Makers.{only_made}
 use Rattle.synch_enter.specs.Synch.{IsWay}
 use Rattle.conn_migrate.specs.Moving.{Moved, IsKept, RingLearns}
-use Rattle.squeue_enter.proofs.Bringing.{left_append, here_append, none_count, due_append}
+use Rattle.squeue_enter.proofs.Bringing.{here_append, none_count, due_append}
+use Rattle.histories.proofs.Counts.{left_append}
 use Rattle.squeue_enter.proofs.Carrying.{by_append}
 
 -- Elements T of the pass p, with no feed and so many Asks; after them connection d is here or not, has left so many times

@@ -9,7 +9,7 @@ use Rattle.perimeter_core.specs.History.{Element, Limits, Setting, run}
 use Rattle.perimeter_core.specs.Deeds.{due, times_left}
 use Rattle.perimeter_core.specs.Legal.{feeds_by, asks_by}
 use Rattle.squeue_state.specs.Naming.{Named, setting_of}
-use Rattle.squeue_state.specs.Elements.{left_by_pass}
+use Rattle.histories.specs.Elements.{left_by_pass}
 use Rattle.squeue_state.specs.Clauses.{Added}
 use Rattle.squeue_drain.specs.Draining.{GoesOn}
 use Rattle.synch_enter.specs.Synch.{MayAsk, Came}

@@ -6,7 +6,7 @@ use Rattle.perimeter_core.specs.declared.entries.Entry.TheVariants.{Feed, Ask}
 use Rattle.perimeter_core.specs.declared.marks.SynchAct.TheVariants as Done
 use Rattle.perimeter_core.specs.declared.marks.Mark.TheVariants as On
 use Rattle.perimeter_core.specs.History.{Element, Setting, plain}
-use Rattle.squeue_state.specs.Naming.{Ending}
+use Rattle.histories.specs.Endings.{Ending}
 
 -- There and back. Connection 0 is at squeue 0 at the start. There its ring enters feed 0, takes the block out, and later puts
 -- it in again and enters feed 2; in between the block is at squeue 1, where it has feed 1

@@ -7,10 +7,10 @@ ghost use Rattle.perimeter_core.specs.Perimeter.{is_here};
 ghost use Rattle.perimeter_core.specs.History.{Element, Setting, run, made_by};
 ghost use Rattle.perimeter_core.specs.Deeds.{acts};
 ghost use Rattle.perimeter_core.specs.Legal.{Legal};
-ghost use Rattle.squeue_state.specs.Elements.{left_by_pass};
-ghost use Rattle.squeue_state.specs.Naming.{Ending};
-ghost use Rattle.conn_migrate.specs.Stays.{all_in, begun, stays, reports, done_in};
-ghost use Rattle.conn_migrate.specs.Stays.{AreSameStays, EndsAStay, AreLegal, StartsAtHome, IsLinked, AreLinked, AreOfAllStays};
+ghost use Rattle.histories.specs.Elements.{left_by_pass};
+ghost use Rattle.histories.specs.Endings.{Ending};
+ghost use Rattle.histories.specs.Stays.{all_in, begun, stays, reports, done_in};
+ghost use Rattle.histories.specs.Stays.{AreSameStays, EndsAStay, AreLegal, StartsAtHome, IsLinked, AreLinked, AreOfAllStays};
 
 /// An Out ends the stay that goes on.
 pub fn an_out_ends_a_stay()

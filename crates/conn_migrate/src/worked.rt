@@ -3,7 +3,7 @@ ghost use Rattle.std.specs.Prelude.{◌≡◌, [], ◌∷◌, Some, None};
 ghost use Rattle.perimeter_core.specs.declared.entries.Act.TheVariants as Did;
 ghost use Rattle.perimeter_core.specs.Deeds.{acts};
 ghost use Rattle.perimeter_core.specs.Legal.{Legal};
-ghost use Rattle.conn_migrate.specs.Stays.{stay, ended_stay, joined};
+ghost use Rattle.histories.specs.Stays.{stay, ended_stay, joined};
 ghost use Rattle.conn_migrate.specs.Worked as W;
 
 /// A block leaves its first squeue after one feed, has one at the other, and comes back for a third.

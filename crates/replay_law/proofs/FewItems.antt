@@ -8,7 +8,7 @@ use Rattle.std.proofs.lemmas.Nat.{mod_below}
 use Rattle.perimeter_core.specs.History.{all_quotas}
 use Rattle.conn_classifier.specs.Plan.{PlanOf, items_in}
 use Rattle.conn_blocks.specs.CallLists.{CallLists}
-use Rattle.placed_parts.specs.Homes.{home}
+use Rattle.histories.specs.Homes.{home}
 use Rattle.ring_quotas.specs.declared.setup.Setup.{Setup}
 use Rattle.ring_quotas.specs.Quotas.{caller_asks, feeds_at, marks_most, quotas_of, ring_asks, ring_feeds}
 use Rattle.ring_quotas.proofs.Moving.{home_below}

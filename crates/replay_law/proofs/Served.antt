@@ -1,7 +1,7 @@
 -- The traces of a run that kept its marks are the marks of its histories.
 use Rattle.std.proofs.Common.{◌≡◌, ◌∙◌, ℕ, suc, Bool, true, if◌then◌else◌, IfSome, Some, List, [], ◌∷◌, length, map, slice_get, refl, ap, subst, arith}
 use Rattle.perimeter_core.specs.declared.marks.Mark.{Mark}
-use Rattle.squeue_state.specs.Naming.{Ending}
+use Rattle.histories.specs.Endings.{Ending}
 use Rattle.squeue_state.specs.Told.{Traced, marks_of}
 
 -- the marks of a history

@@ -7,7 +7,7 @@ use Rattle.std.proofs.lemmas.List.FromFn.{get_or-map-range_with_len}
 use Rattle.perimeter_core.specs.declared.marks.Mark.{Mark}
 use Rattle.perimeter_core.specs.History.{Setting, all_quotas, passes}
 use Rattle.perimeter_core.proofs.HistoryLength.{length_bounded}
-use Rattle.squeue_state.specs.Naming.{Ending}
+use Rattle.histories.specs.Endings.{Ending}
 use Rattle.capture_reader.specs.Outcome.{CaptureFile}
 use Rattle.tcb_machine.specs.declared.kinds.Call.{Call}
 use Rattle.conn_classifier.specs.Connections.{decoded}
@@ -17,11 +17,11 @@ use Rattle.conn_blocks.specs.Allowed.{all_calls, all_from, feed_limits, named_fr
 use Rattle.conn_blocks.specs.CallLists.{CallLists, call_count}
 use Rattle.ring_quotas.specs.declared.setup.Setup.{Setup}
 use Rattle.ring_quotas.specs.Quotas.{marks_most, setting_at}
-use Rattle.ring_threads.specs.Fits.{HistoryFits}
+use Rattle.ring_quotas.specs.Fits.{HistoryFits}
 use Rattle.ring_threads.specs.Served.{HasServed, ServedOf, orders_of}
 use Rattle.squeue_replay.specs.Marks.{IsPrinted}
 use Rattle.squeue_replay.proofs.SettingFacts.{conns_are, worker_is}
-use Rattle.squeue_report.specs.TraceText.{trace_text}
+use Rattle.report_lines.specs.TraceText.{trace_text}
 use Rattle.squeue_run.specs.Output.{histories_of}
 use Rattle.squeue_run.specs.Limits.{most_marks}
 use Rattle.trace_lines.specs.Printed.{ArePrintedCalls, IsPrintedSetup}

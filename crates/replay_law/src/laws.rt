@@ -11,7 +11,7 @@ ghost use Rattle.conn_blocks.specs.CallLists.{CallLists};
 ghost use Rattle.ring_quotas.specs.declared.setup.Setup.{Setup};
 ghost use Rattle.ring_quotas.specs.Quotas.{marks_most};
 ghost use Rattle.ring_threads.specs.Served.{HasServed, ServedOf, orders_of};
-ghost use Rattle.squeue_report.specs.TraceText.{trace_text};
+ghost use Rattle.report_lines.specs.TraceText.{trace_text};
 ghost use Rattle.squeue_run.specs.Words.{Text};
 ghost use Rattle.squeue_run.specs.Asked.{Asked, asked};
 ghost use Rattle.squeue_run.specs.Limits.{most_marks};

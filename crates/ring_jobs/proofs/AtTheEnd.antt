@@ -9,18 +9,19 @@ use Rattle.perimeter_core.specs.Perimeter.{is_here}
 use Rattle.perimeter_core.specs.History.{Element, Limits, Setting, made_by, run}
 use Rattle.perimeter_core.specs.Deeds.{due, fed}
 use Rattle.perimeter_core.specs.Legal.{Legal}
-use Rattle.squeue_state.specs.Naming.{Ending, Named, setting_of}
-use Rattle.squeue_state.specs.Elements.{number_of}
+use Rattle.squeue_state.specs.Naming.{Named, setting_of}
+use Rattle.histories.specs.Endings.{Ending}
+use Rattle.histories.specs.Elements.{number_of}
 use Rattle.squeue_state.specs.Clauses.{Knows}
-use Rattle.squeue_serve.proofs.Lent.{some_at}
+use Rattle.histories.proofs.ListPlaces.{some_at}
 use Rattle.squeue_state.proofs.Makers.{others_made}
 use Rattle.squeue_enter.proofs.Carrying.{due_carried, here_carried}
-use Rattle.conn_migrate.specs.Stays.{AreSameStays, IsLinked, Stay, Stays, all_in, as_list, note_of, stays, stays_at, stays_in}
-use Rattle.conn_migrate.proofs.StaysKept.{same_stays}
-use Rattle.squeue_enter.specs.declared.Mode.{Mode}
-use Rattle.squeue_rings.specs.Keeping.{KeepsPace}
+use Rattle.histories.specs.Stays.{AreSameStays, IsLinked, Stay, Stays, all_in, as_list, note_of, stays, stays_at, stays_in}
+use Rattle.histories.proofs.StaysKept.{same_stays}
+use Rattle.histories.specs.declared.mode.Mode.{Mode}
+use Rattle.histories.specs.Keeping.{KeepsPace}
 use Rattle.squeue_rings.specs.Made.{times_made}
-use Rattle.squeue_rings.specs.Noted.{AreNoted}
+use Rattle.histories.specs.Noted.{AreNoted}
 use Rattle.squeue_rings.specs.Seen.{seen_ends, seen_in}
 use Rattle.squeue_rings.proofs.CallMarks.{calls_kept}
 use Rattle.squeue_rings.specs.OwnMarks.{EachOwn}

@@ -9,13 +9,14 @@ use Rattle.perimeter_core.specs.Perimeter.{State, is_here}
 use Rattle.perimeter_core.specs.History.{Element, Limits, Setting, run, start}
 use Rattle.perimeter_core.specs.Deeds.{acts, acts_after, due, reported}
 use Rattle.perimeter_core.proofs.OneMore.{due_push, run_push}
-use Rattle.squeue_state.specs.Naming.{Ending, Named, setting_of}
-use Rattle.squeue_state.specs.Elements.{closed_by, number_of}
+use Rattle.squeue_state.specs.Naming.{Named, setting_of}
+use Rattle.histories.specs.Endings.{Ending}
+use Rattle.histories.specs.Elements.{closed_by, number_of}
 use Rattle.squeue_state.specs.Clauses.{Knows}
-use Rattle.conn_migrate.specs.Stays.{AreSameStays, Stays, begun, longer_by, note_of, stays}
-use Rattle.conn_migrate.proofs.OneSqueue.{stays_push}
-use Rattle.conn_migrate.proofs.StaysKept.{note_longer}
-use Rattle.squeue_serve.proofs.Lent.{some_at}
+use Rattle.histories.specs.Stays.{AreSameStays, Stays, begun, longer_by, note_of, stays}
+use Rattle.histories.proofs.OneSqueue.{stays_push}
+use Rattle.histories.proofs.StaysKept.{note_longer}
+use Rattle.histories.proofs.ListPlaces.{some_at}
 use Rattle.squeue_serve.specs.Places.{AtEach, AtEachTwo, Became, HasClosed, Holds}
 use Rattle.squeue_serve.proofs.Unused.{each_at}
 use Rattle.squeue_rings.specs.Bringing.{AreAt}

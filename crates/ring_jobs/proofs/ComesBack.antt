@@ -5,7 +5,8 @@ use Rattle.turn_gate.specs.History.{Each}
 use Rattle.turn_gate.specs.declared.pass.Pass.{Pass}
 use Rattle.perimeter_core.specs.declared.resident.Resident.{Ghosts}
 use Rattle.perimeter_core.specs.History.{Element, Limits}
-use Rattle.squeue_state.specs.Naming.{Ending, Named}
+use Rattle.squeue_state.specs.Naming.{Named}
+use Rattle.histories.specs.Endings.{Ending}
 use Rattle.squeue_state.specs.Clauses.{Knows}
 use Rattle.squeue_state.specs.Told.{Traced}
 use Rattle.squeue_serve.specs.Lending.{AreLent, HasCome}

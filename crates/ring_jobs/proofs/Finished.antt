@@ -8,17 +8,17 @@ use Rattle.turn_gate.specs.declared.pass.Pass.{Pass}
 use Rattle.perimeter_core.specs.History.{Element, Limits, run}
 use Rattle.perimeter_core.specs.Ending.{IsOver}
 use Rattle.squeue_state.specs.Naming.{Named, setting_of}
-use Rattle.squeue_state.specs.Elements.{number_of}
+use Rattle.histories.specs.Elements.{number_of}
 use Rattle.squeue_serve.specs.declared.jobs.Job.{Job}
 use Rattle.squeue_serve.specs.Lending.{AreLent, lent_to, tasks_in}
 use Rattle.squeue_serve.specs.Places.{AtEach, Holds, IsNew, MayEnd}
-use Rattle.squeue_serve.proofs.Lent.{lent_got, past_jobs, some_at}
-use Rattle.squeue_enter.specs.declared.Mode.{Mode}
-use Rattle.squeue_rings.specs.Keeping.{ArePaced}
+use Rattle.squeue_serve.proofs.Lent.{lent_got, past_jobs}
+use Rattle.histories.proofs.ListPlaces.{some_at, got_map}
+use Rattle.histories.specs.declared.mode.Mode.{Mode}
+use Rattle.squeue_rings.specs.Paced.{ArePaced}
 use Rattle.squeue_rings.specs.OwnMarks.{EachOwn, OfWorker}
 use Rattle.squeue_rings.proofs.OwnMarks.{worker_own}
 use Rattle.squeue_rings.proofs.PacedAll.{closed_paced}
-use Rattle.squeue_rings.proofs.Slots.{got_map}
 use Rattle.ring_jobs.specs.declared.intake.Intake.{Intake}
 use Rattle.ring_jobs.specs.declared.task.Task.{Task}
 use Rattle.ring_jobs.specs.declared.task.Task.TheVariants as Task'

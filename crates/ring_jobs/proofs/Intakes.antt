@@ -2,7 +2,7 @@
 use Rattle.std.proofs.Common.{◌≡◌, ℕ, ◌+◌, Some, List, [], ◌∷◌, ◌++◌, length, length-append, map, slice_get, refl, sym, subst, arith}
 use Rattle.std.proofs.lemmas.List.{length-map}
 use Rattle.perimeter_core.specs.declared.entries.Feed.{Feed}
-use Rattle.squeue_rings.proofs.RingStays.{from_map}
+use Rattle.histories.proofs.ListPlaces.{from_map}
 use Rattle.ring_jobs.specs.declared.intake.Ends.{Ends}
 use Rattle.ring_jobs.specs.declared.intake.Intake.{Intake}
 use Rattle.ring_jobs.specs.Tasks.{AreIntakes, AreUnused, IsUnused}

@@ -6,7 +6,7 @@ use Rattle.turn_gate.specs.Passes.{AreFresh, IsPassOf, mine, number, seen}
 use Rattle.turn_gate.specs.declared.pass.Pass.{Pass}
 use Rattle.perimeter_core.specs.History.{Element}
 use Rattle.squeue_state.specs.Naming.{Named}
-use Rattle.squeue_state.specs.Elements.{number_of}
+use Rattle.histories.specs.Elements.{number_of}
 use Rattle.squeue_serve.specs.declared.jobs.Job.{Job}
 use Rattle.squeue_serve.specs.Places.{AtEach, Holds, IsNew}
 use Rattle.squeue_serve.specs.Lending.{AreHanded, AreLent, holder, lent_to}

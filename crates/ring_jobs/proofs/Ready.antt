@@ -10,13 +10,13 @@ use Rattle.squeue_serve.specs.declared.jobs.Job.{Job}
 use Rattle.squeue_serve.specs.Lending.{AreLent, lent_to, tasks_in}
 use Rattle.squeue_serve.specs.Places.{AtEach, Holds, IsNew}
 use Rattle.squeue_serve.proofs.Coming.{each_got}
-use Rattle.squeue_serve.proofs.Lent.{lent_got, some_at}
+use Rattle.squeue_serve.proofs.Lent.{lent_got}
+use Rattle.histories.proofs.ListPlaces.{some_at, got_map}
 use Rattle.squeue_serve.proofs.Unused.{each_at}
 use Rattle.squeue_rings.specs.Bringing.{AreAt, AreOneRun, MayBringAll}
 use Rattle.squeue_rings.specs.Calling.{MayMakeEach}
 use Rattle.squeue_rings.specs.Starts.{StartAtHome}
 use Rattle.squeue_rings.proofs.NewCallers.{new_callers}
-use Rattle.squeue_rings.proofs.Slots.{got_map}
 use Rattle.squeue_rings.proofs.Starting.{none_brought}
 use Rattle.ring_jobs.specs.declared.intake.Intake.{Intake}
 use Rattle.ring_jobs.specs.declared.task.RingTask.{RingTask}

@@ -11,7 +11,8 @@ use Rattle.ring_jobs.specs.declared.task.RingTask.{RingTask}
 use Rattle.ring_jobs.specs.declared.task.Task.{Task}
 use Rattle.ring_jobs.specs.declared.task.Task.TheVariants as Task'
 use Rattle.ring_jobs.specs.Tasks.{AreEnds, AreRingTasks, AreTasks, AreUnused, HasRing, HasRingTask, HaveRings, feed_end, lists_of}
-use Rattle.squeue_serve.proofs.Lent.{get_front, get_end}
+use Rattle.squeue_serve.proofs.Lent.{get_end}
+use Rattle.histories.proofs.ListPlaces.{get_front}
 
 -- what is so of each and of the next one is so of each, with it
 pub each_more : {A : Type 0} (P : ℕ → A → Type 0) (xs : List A) (x : A) → ((k : ℕ) (a : A) → slice_get xs k ≡ Some a → P k a) → P (length xs) x → (k : ℕ) (a : A) → slice_get (xs ++ x ∷ []) k ≡ Some a → P k a

@@ -6,10 +6,10 @@ use Rattle.perimeter_core.specs.History.{Element, Limits}
 use Rattle.squeue_state.specs.Naming.{Named}
 use Rattle.squeue_serve.specs.declared.jobs.Job.{Job}
 use Rattle.squeue_serve.specs.Places.{AtEach, AtEachTwo, Became, HasClosed, HasWorked, Holds, IsNew, MayWork}
-use Rattle.squeue_enter.specs.declared.Mode.{Mode}
+use Rattle.histories.specs.declared.mode.Mode.{Mode}
 use Rattle.squeue_rings.specs.Bringing.{AreAt, MayBringAll}
 use Rattle.squeue_rings.specs.Calling.{CallersAt, MayMakeEach}
-use Rattle.squeue_rings.specs.Keeping.{ArePaced}
+use Rattle.squeue_rings.specs.Paced.{ArePaced}
 use Rattle.ring_jobs.specs.declared.intake.Intake.{Intake}
 use Rattle.ring_jobs.specs.declared.task.RingTask.{RingTask}
 use Rattle.ring_jobs.specs.declared.task.Task.{Task}

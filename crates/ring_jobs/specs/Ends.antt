@@ -8,11 +8,11 @@ use Rattle.perimeter_core.specs.Perimeter.{is_here}
 use Rattle.perimeter_core.specs.History.{Element, Limits, run}
 use Rattle.perimeter_core.specs.Deeds.{due}
 use Rattle.squeue_state.specs.Naming.{Named, setting_of}
-use Rattle.squeue_state.specs.Elements.{number_of}
-use Rattle.conn_migrate.specs.Stays.{IsLinked}
+use Rattle.histories.specs.Elements.{number_of}
+use Rattle.histories.specs.Stays.{IsLinked}
 use Rattle.squeue_serve.specs.Places.{AtEach, Holds}
-use Rattle.squeue_rings.specs.Noted.{AreNoted}
-use Rattle.squeue_rings.specs.Runs.{brought, place}
+use Rattle.histories.specs.Noted.{AreNoted}
+use Rattle.histories.specs.Runs.{brought, place}
 use Rattle.squeue_rings.specs.Seen.{seen_ends}
 use Rattle.squeue_rings.specs.Made.{made_in, once_on}
 use Rattle.squeue_rings.specs.OwnMarks.{EachOwn, OfThread, OfWorker}

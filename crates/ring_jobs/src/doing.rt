@@ -3,7 +3,7 @@ ghost use Rattle.std.specs.Prelude.{◌≡◌, ◌<◌, length, map};
 ghost use Rattle.synch_enter.specs.Hinting.{conns_of, squeues_of};
 ghost use Rattle.squeue_rings.specs.Bringing.{AllBelow, AreAt, AreOneRun};
 ghost use Rattle.squeue_rings.specs.Calling.{CallersAt};
-ghost use Rattle.squeue_rings.specs.Keeping.{ArePaced};
+ghost use Rattle.squeue_rings.specs.Paced.{ArePaced};
 ghost use Rattle.ring_jobs.specs.Tasks.{HaveRings, lists_of};
 ghost use Rattle.ring_jobs.specs.Doing.{HasBroughtIntake, HasDone, MayBringIntake, MayCallAll, MayDo, ThenClosed, called_by};
 

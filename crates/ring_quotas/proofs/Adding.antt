@@ -8,21 +8,20 @@ use Rattle.std.proofs.lemmas.List.Elements.{All-contains, filter-append}
 use Rattle.std.proofs.lemmas.List.Sums.{sum_by-append, sum_by-cons, sum_by-le-sum_by}
 use Rattle.std.proofs.lemmas.Option.{slice_get-get_or}
 use Rattle.perimeter_core.specs.History.{all_quotas, feed_quotas}
-use Rattle.squeue_state.specs.declared.guarded.Quota.{Quota}
-use Rattle.squeue_state.specs.Behind.{pairs}
-use Rattle.squeue_state.specs.Clauses.{ask_quotas}
-use Rattle.squeue_state.proofs.RoomMade.{all_both}
+use Rattle.histories.specs.declared.quota.Quota.{Quota}
+use Rattle.histories.specs.Quotas.{pairs, ask_quotas}
+use Rattle.histories.proofs.Counts.{all_both}
 use Rattle.conn_classifier.specs.Plan.{PlanOf, items_in, items_together}
 use Rattle.conn_classifier.specs.declared.kinds.Item.{Item}
 use Rattle.tcb_machine.specs.declared.kinds.Call.{Call}
 use Rattle.conn_blocks.specs.Allowed.{all_calls}
 use Rattle.conn_blocks.specs.CallLists.{CallLists, call_at}
-use Rattle.placed_parts.specs.Homes.{home, leaves_after, times_leaving}
+use Rattle.histories.specs.Homes.{home, leaves_after, times_leaving}
 use Rattle.conn_blocks.proofs.Named.{call_is_named}
 use Rattle.ring_quotas.specs.Limits.{most_ring_asks, most_ring_feeds}
 use Rattle.ring_quotas.specs.Quotas.{caller_asks, comes_after, feeds_at, quotas_of, ring_asks, ring_feeds, times_coming}
 use Rattle.ring_quotas.proofs.Moving.{range_more, tally_most}
-use Rattle.squeue_rings.proofs.Slots.{take_one}
+use Rattle.histories.proofs.ListPlaces.{take_one}
 
 -- one connection more
 module _ (f : ℕ → ℕ) (on : ℕ → Bool) (n : ℕ) where

@@ -1,5 +1,3 @@
 pub mod Moving
-pub mod Listing
-pub mod Totals
-pub mod Sufficing
 pub mod Adding
+pub mod EachQuota

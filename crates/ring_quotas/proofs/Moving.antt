@@ -7,7 +7,7 @@ use Rattle.std.proofs.lemmas.List.Elements.{filter-append}
 use Rattle.std.proofs.lemmas.Nat.{div-add-mod', div-mul-add, mod-mul-add, mod_below}
 use Rattle.std.proofs.Math.Nat.{add-mod, div-eq_of_lt, mod-eq_of_lt, zero-div}
 use Rattle.ring_quotas.specs.Quotas.{comes_after, times_coming, feeds_at}
-use Rattle.placed_parts.specs.Homes.{home, leaves_after, times_leaving}
+use Rattle.histories.specs.Homes.{home, leaves_after, times_leaving}
 
 -- the quotient and the remainder of the next number: the same quotient, or the next one
 pub record Within (n b : ℕ) : Type 0 where

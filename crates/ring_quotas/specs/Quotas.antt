@@ -1,12 +1,11 @@
 -- What each pass of a squeue may enter, by where connections are at home, and the squeue's setting.
-use Rattle.std.specs.Prelude.{◌≡◌, ℕ, ◌+◌, ◌-◌, ◌*◌, ◌%◌, ◌≤◌, ◌==◌, ◌&&◌, not, Bool, List, ◌++◌, filter, length, map, sum_by}
+use Rattle.std.specs.Prelude.{ℕ, ◌+◌, ◌-◌, ◌*◌, ◌%◌, ◌≤◌, ◌==◌, ◌&&◌, not, Bool, List, ◌++◌, filter, length, map, sum_by}
 use Rattle.std.specs.List.{range_with_len}
-use Rattle.perimeter_core.specs.History.{Limits, Setting, all_quotas}
-use Rattle.squeue_state.specs.Naming.{Named, setting_of}
+use Rattle.perimeter_core.specs.History.{Setting, all_quotas}
 use Rattle.conn_classifier.specs.Plan.{PlanOf, items_in}
 use Rattle.conn_blocks.specs.Allowed.{limits_in}
 use Rattle.conn_blocks.specs.CallLists.{CallLists, calls_of}
-use Rattle.placed_parts.specs.Homes.{home, times_leaving}
+use Rattle.histories.specs.Homes.{home, times_leaving}
 use Rattle.conn_blocks.specs.Limits.{callers}
 use Rattle.ring_quotas.specs.Limits.{most_rings, most_spread, most_squeues}
 use Rattle.ring_quotas.specs.declared.setup.Setup.{Setup}
@@ -69,7 +68,3 @@ setting_at p calls squeues rings spread q =
       starts = map (λ c. c % squeues == q) (range_with_len 0 (length p.tuples));
       limits = limits_in p calls q squeues spread;
     }
-
--- the squeue was made with the setting of its number
-abbrev pub IsMadeFor : {R : Type 0} → (R → Limits) → PlanOf → CallLists → ℕ → ℕ → ℕ → Named R → Type 0
-IsMadeFor limits p calls squeues rings spread s = setting_of limits s.given ≡ setting_at p calls squeues rings spread s.given.number

@@ -2,15 +2,16 @@
 //!
 //! A connection is at home at one squeue after another, so how many feeds a ring enters at a squeue, and how often its connections
 //! come and leave there, is fixed before the run by the plan alone; what an application thread may ask, by its calls and these
-//! moves. `shares` counts for one connection, by closed forms, `quotas` for each pass. The laws say that these quotas suffice for
-//! the list of each ring and the calls of each application thread.
+//! moves. `shares` counts for one connection, by closed forms, `quotas` for each pass.
 #![tactic(auto)]
 
-pub mod laws;
+mod limits;
 mod quotas;
 mod setup;
 mod shares;
 
-pub use quotas::{CALLERS, marks_most, quotas_at};
+pub use histories::Mode;
+pub use limits::{MOST_BUDGET, MOST_RINGS, MOST_SPREAD, MOST_SQUEUES};
+pub use quotas::{marks_most, quotas_at};
 pub use setup::Setup;
 pub use shares::{coming, feeds, leaving};

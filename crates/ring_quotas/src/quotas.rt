@@ -2,9 +2,8 @@
 
 ghost use Rattle.std.specs.Prelude.{◌≡◌, ◌<◌, ◌≤◌, ◌+◌, ◌^◌, All, IfOk, Some, length, slice_get};
 ghost use Rattle.perimeter_core.specs.History.{all_quotas, feed_quotas};
-ghost use Rattle.squeue_state.specs.Limits.{most_asks, most_feeds};
-ghost use Rattle.squeue_state.specs.Behind.{pairs};
-ghost use Rattle.squeue_state.specs.Clauses.{ask_quotas};
+ghost use Rattle.histories.specs.Limits.{most_asks, most_feeds};
+ghost use Rattle.histories.specs.Quotas.{pairs, ask_quotas};
 ghost use Rattle.conn_blocks.specs.Allowed.{all_calls};
 ghost use Rattle.conn_blocks.specs.Limits.{callers};
 ghost use Rattle.ring_quotas.specs.Limits.{most_caller_asks, most_ring_asks, most_ring_feeds};
@@ -12,14 +11,11 @@ ghost use Rattle.ring_quotas.specs.Quotas.{IsInRange, caller_asks, marks_most, q
 
 use crate::setup::Setup;
 use crate::shares::{coming, feeds, leaving};
-use conn_blocks::Calls;
+use conn_blocks::{CALLERS, Calls};
 use conn_classifier::Plan;
 use conn_classifier::laws::all_items_are_few;
-use squeue_state::Quota;
+use histories::Quota;
 use std::alloc::{AllocError, Global};
-
-/// How many application threads there are.
-pub const CALLERS: u32 = 4;
 
 /// The quotas of the passes of squeue `q` but the worker's: those of the rings, then those of the application threads. Fails only
 /// for want of memory.

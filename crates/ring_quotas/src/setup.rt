@@ -2,8 +2,7 @@
 
 ghost use Rattle.std.specs.Prelude.{◌≡◌, ◌≤◌};
 
-use squeue_enter::Mode;
-use squeue_rings::{Homes, Pace};
+use histories::{Homes, Mode, Pace};
 
 /// The squeues (1 to 16), the rings (1 to 8), how rings enter, the most entries that an entering thread processes (1 to
 /// 65,535), after how many feeds a connection moves on (0 to 65,535; 0 never), and whether each squeue keeps the marks of its

@@ -2,11 +2,11 @@
 
 ghost use Rattle.std.specs.Prelude.{◌≡◌, ◌-◌, ◌/◌, ◌<◌, ◌≤◌, ◌==◌, ◌||◌, if◌then◌else◌};
 ghost use Rattle.conn_classifier.specs.Limits.{most_items};
-ghost use Rattle.placed_parts.specs.Homes.{times_leaving};
+ghost use Rattle.histories.specs.Homes.{times_leaving};
 ghost use Rattle.ring_quotas.specs.Limits.{most_squeues};
 ghost use Rattle.ring_quotas.specs.Quotas.{feeds_at, times_coming};
 
-use squeue_rings::Homes;
+use histories::Homes;
 
 /// How often a connection with so many feeds moves.
 fn moves(homes: Homes, items: u32) -> u32

@@ -3,3 +3,6 @@ mod FewFeeds
 mod Each
 mod Suiting
 mod Lying
+mod Listing
+mod Totals
+mod Sufficing

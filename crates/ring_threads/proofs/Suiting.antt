@@ -6,7 +6,7 @@ use Rattle.std.proofs.lemmas.Bool.{cases_lt}
 use Rattle.std.proofs.lemmas.Option.{slice_get_within}
 use Rattle.squeue_state.specs.Naming.{Named}
 use Rattle.placed_parts.specs.Standing.{first_here}
-use Rattle.squeue_serve.proofs.Lent.{some_at}
+use Rattle.histories.proofs.ListPlaces.{some_at}
 use Rattle.squeue_rings.specs.Calling.{MayMake}
 use Rattle.ring_jobs.specs.Doing.{called_by}
 use Rattle.ring_jobs.proofs.Works.{got_or}
@@ -20,10 +20,11 @@ use Rattle.conn_blocks.specs.Allowed.{all_calls}
 use Rattle.conn_blocks.specs.CallLists.{CallLists}
 use Rattle.conn_blocks.specs.Places.{Stands, limits_of}
 use Rattle.conn_blocks.proofs.Conns.{conns_of_thread}
-use Rattle.ring_quotas.specs.Quotas.{IsMadeFor, quotas_of, setting_at}
+use Rattle.ring_quotas.specs.Quotas.{quotas_of, setting_at}
+use Rattle.ring_threads.specs.MadeFor.{IsMadeFor}
 use Rattle.ring_quotas.proofs.Adding.{quotas_count}
-use Rattle.ring_quotas.proofs.Sufficing.{may_bring, may_make}
-use Rattle.ring_quotas.proofs.Totals.{order}
+use Rattle.ring_threads.proofs.Sufficing.{may_bring, may_make}
+use Rattle.ring_threads.proofs.Totals.{order}
 use Rattle.ring_threads.specs.Working.{IsWorkFor, setup_of}
 use Rattle.ring_threads.proofs.FewFeeds.{list_few}
 

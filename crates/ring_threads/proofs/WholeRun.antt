@@ -10,14 +10,13 @@ use Rattle.std.proofs.lemmas.Option.{slice_get-map, slice_get_within}
 use Rattle.std.proofs.Math.Nat.{mod-lt}
 use Rattle.perimeter_core.specs.declared.entries.Act.{Act}
 use Rattle.perimeter_core.specs.Deeds.{acts, fed, feed_numbers}
-use Rattle.squeue_state.specs.Naming.{Ending}
+use Rattle.histories.specs.Endings.{Ending}
 use Rattle.squeue_state.specs.Told.{Traced, marks_of}
-use Rattle.conn_migrate.specs.Stays.{AreLinked}
-use Rattle.squeue_serve.proofs.Lent.{some_at}
+use Rattle.histories.specs.Stays.{AreLinked}
+use Rattle.histories.proofs.ListPlaces.{some_at, got_map}
 use Rattle.squeue_rings.specs.Made.{once_on}
-use Rattle.squeue_rings.specs.Noted.{AreNoted}
-use Rattle.squeue_rings.specs.Runs.{brought, place}
-use Rattle.squeue_rings.proofs.Slots.{got_map}
+use Rattle.histories.specs.Noted.{AreNoted}
+use Rattle.histories.specs.Runs.{brought, place}
 use Rattle.ring_jobs.proofs.Works.{got_or}
 use Rattle.squeue_pool.specs.declared.pool.Pool.{Pool}
 use Rattle.squeue_pool.specs.declared.work.Left.{Left}
@@ -33,13 +32,14 @@ use Rattle.conn_blocks.specs.Holding.{StandsFor}
 use Rattle.conn_blocks.specs.Orders.{IsAll, IsWhole, settle}
 use Rattle.conn_blocks.specs.ServeOrder.{BlockOf, ConnectionOf, OriginOf, serve, serving_of}
 use Rattle.conn_blocks.proofs.Conns.{conns_of_thread}
-use Rattle.ring_quotas.proofs.Totals.{whole}
+use Rattle.ring_threads.proofs.Totals.{whole}
 use Rattle.run_histories.proofs.AllActs.{are_all}
 use Rattle.called_acts.proofs.Called.{calls_of_all}
 use Rattle.run_histories.proofs.Ends.{numbered}
-use Rattle.ring_threads.specs.Fits.{HistoryFits, IsHereOnce}
+use Rattle.ring_quotas.specs.Fits.{HistoryFits}
+use Rattle.histories.specs.Fitting.{IsHereOnce}
 use Rattle.ring_threads.specs.Served.{HasServed, ServedOf}
-use Rattle.ring_threads.specs.ServedBlocks.{IsServing}
+use Rattle.conn_blocks.specs.ServedBlocks.{IsServing}
 use Rattle.ring_threads.specs.Working.{IsFirst, IsWorkFor, setup_of}
 use Rattle.ring_threads.proofs.Suiting.{same_setting}
 

@@ -1,5 +1,4 @@
-pub mod Fits
 pub mod Served
 pub mod Lying
-pub mod ServedBlocks
 pub mod Working
+pub mod MadeFor

@@ -2,7 +2,7 @@
 use Rattle.std.specs.Prelude.{◌≡◌, ℕ, ◌<◌, ◌==◌, if◌then◌else◌, IfSome, List, [], Some, length, map, slice_get}
 use Rattle.std.specs.Option.{option_map_or}
 use Rattle.perimeter_core.specs.declared.entries.Act.{Act}
-use Rattle.squeue_state.specs.Naming.{Ending}
+use Rattle.histories.specs.Endings.{Ending}
 use Rattle.squeue_state.specs.Told.{Traced, marks_of}
 use Rattle.conn_classifier.specs.Plan.{PlanOf}
 use Rattle.conn_blocks.specs.CallLists.{CallLists, call_at}
@@ -10,8 +10,8 @@ use Rattle.conn_blocks.specs.ServeOrder.{BlockOf}
 use Rattle.ring_quotas.specs.declared.setup.Setup.{Setup}
 use Rattle.squeue_pool.specs.Keeping.{PassesKeep}
 use Rattle.squeue_pool.specs.Runs.{made_in_all}
-use Rattle.ring_threads.specs.Fits.{Fits}
-use Rattle.ring_threads.specs.ServedBlocks.{AreServed}
+use Rattle.ring_quotas.specs.Fits.{Fits}
+use Rattle.conn_blocks.specs.ServedBlocks.{AreServed}
 
 -- the block of each connection, and the end and the trace of each squeue, by number
 pub record ServedOf : Type 0 where

@@ -1,7 +1,7 @@
 -- What a run has to do for a plan.
 use Rattle.std.specs.Prelude.{◌≡◌, ℕ, ◌≤◌, Some, List, length, slice_get}
-use Rattle.squeue_state.specs.Clauses.{ask_quotas}
-use Rattle.squeue_state.specs.Limits.{most_asks, most_feeds}
+use Rattle.histories.specs.Quotas.{ask_quotas}
+use Rattle.histories.specs.Limits.{most_asks, most_feeds}
 use Rattle.perimeter_core.specs.History.{feed_quotas}
 use Rattle.placed_parts.specs.Standing.{first_here}
 use Rattle.squeue_pool.specs.declared.pool.Pool.{Pool}

@@ -2,10 +2,12 @@
 //!
 //! `all_conns` makes all that a run needs, runs its threads, and hands back what was served. `ring_lists` has what comes in by each ring,
 //! `plan_work` the setup and the work of the run, `served` what is handed out.
-//! The run itself is that of `squeue_pool`; where connections are at home and how much each pass may enter is in `ring_quotas`.
+//! The run itself is that of `squeue_pool`; how much each pass may enter is in `ring_quotas`, and that it suffices for the list of each
+//! ring and the calls of each application thread is in `laws`.
 #![tactic(auto)]
 
 mod all_conns;
+pub mod laws;
 mod plan_work;
 mod ring_lists;
 mod served;

@@ -1,6 +1,6 @@
 //! What a run has to do, and how it is set up.
 ghost use Rattle.std.specs.Prelude.{◌≡◌, ◌<◌, All, IfOk, length, map};
-ghost use Rattle.squeue_state.specs.Behind.{pairs};
+ghost use Rattle.histories.specs.Quotas.{pairs};
 ghost use Rattle.squeue_pool.specs.Works.{work_of};
 ghost use Rattle.conn_blocks.specs.Allowed.{all_calls};
 ghost use Rattle.ring_quotas.specs.Quotas.{IsInRange};

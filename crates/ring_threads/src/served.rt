@@ -1,5 +1,5 @@
 //! What was served.
-ghost use Rattle.std.specs.Prelude.{◌≡◌, ℕ, ◌<◌, [], false, Box, IfOk, Some, length, map, slice_get};
+ghost use Rattle.std.specs.Prelude.{◌≡◌, ℕ, ◌<◌, false, Box, IfOk, Some, length, slice_get};
 ghost use Rattle.std.specs.declared.alloc.Global.{Global};
 ghost use Rattle.conn_blocks.specs.ServeOrder.{BlockOf};
 ghost use Rattle.ring_threads.specs.Lying.{AreThere};
@@ -7,48 +7,29 @@ ghost use Rattle.ring_threads.specs.Lying.{AreThere};
 use conn_blocks::Block;
 use squeue_ends::Finished;
 use squeue_state::Trace;
-use std::alloc::{AllocError, Global};
+use std::alloc::AllocError;
 use std::marker::Model;
 
 /// One block for each connection of the plan, by number, and the end and the trace of each squeue, by number. No block is short.
-/// A block lies where it lay when its squeue ended: only where no squeue was at work is there another one.
+/// A block lies where it lay when its squeue ended: so there is none that no squeue served.
 #[derive(Drop)]
 pub struct Served {
-    place: Place,
-}
-
-/// Where the blocks lie.
-#[derive(Drop)]
-enum Place {
-    /// Among what squeues left that have ended.
-    Left(Finished<Box<Block>>),
-    /// By themselves, where no squeue was at work.
-    Alone(Vec<Box<Block>>),
+    /// What squeues left that have ended, the block of each connection at its number.
+    finished: Finished<Box<Block>>,
 }
 
 impl Model for Served {
     ghost use Rattle.ring_threads.specs.Served.{ServedOf};
-    ghost use Rattle.ring_threads.specs.Lying.{IsThere, served_of};
+    ghost use Rattle.ring_threads.specs.Lying.{AreThere, blocks_at};
 
     ghost Value = { ServedOf };
 
-    ghost view = { λ s. served_of s.place };
+    ghost view = { λ s. record { blocks = blocks_at s.finished.parts; ended = s.finished.ended; traces = s.finished.traces } };
 
-    ghost invariant = { λ s. IsThere s.place };
+    ghost invariant = { λ s. AreThere s.finished.parts };
 }
 
 impl Served {
-    /// What was served where no squeue was at work: these blocks, none of them short, the block of each connection at its number, and
-    /// neither ends nor traces. Takes no memory.
-    pub fn of(_alloc: Global, blocks: Vec<Box<Block>>) -> Result<Served, AllocError>
-        ensures blocks { IfOk result (λ v. v.blocks ≡ map (λ b. b.value) blocks.items) }
-        ensures alone { IfOk result (λ v. (v.ended ≡ []) × (v.traces ≡ [])) }
-    {
-        Ok(Served {
-            place: Place::Alone(blocks),
-        })
-    }
-
     /// What squeues left, if the block of none of these connections is short. Takes no memory.
     pub(crate) fn left(finished: Finished<Box<Block>>, conns: u32) -> Result<Served, AllocError>
         requires count { length finished.parts ≡ conns }
@@ -62,9 +43,7 @@ impl Served {
         if is_short(&finished, conns) {
             return Err(AllocError);
         }
-        Ok(Served {
-            place: Place::Left(finished),
-        })
+        Ok(Served { finished })
     }
 
     /// The block of connection `c`.
@@ -72,15 +51,10 @@ impl Served {
         requires { c < length self.now.blocks }
         ensures { slice_get self.now.blocks c ≡ Some result.now }
     {
-        match &self.place {
-            Place::Left(finished) => {
-                let Some(block) = finished.part(c) else {
-                    unreachable!()
-                };
-                block
-            }
-            Place::Alone(blocks) => &blocks[c as usize],
-        }
+        let Some(block) = self.finished.part(c) else {
+            unreachable!()
+        };
+        block
     }
 
     /// The trace of squeue `q`: the marks of its history where they were kept, else nothing.
@@ -88,10 +62,7 @@ impl Served {
         requires { q < length self.now.traces }
         ensures { slice_get self.now.traces q ≡ Some result.now }
     {
-        match &self.place {
-            Place::Left(finished) => finished.trace(q),
-            Place::Alone(_) => unreachable!(),
-        }
+        self.finished.trace(q)
     }
 }
 

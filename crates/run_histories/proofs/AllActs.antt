@@ -12,7 +12,7 @@ use Rattle.conn_classifier.specs.Plan.{PlanOf, items_in}
 use Rattle.conn_blocks.specs.CallLists.{CallLists, calls_of, call_at}
 use Rattle.conn_blocks.specs.Orders.{numbers_from, numbers_on, call_numbers, IsAll}
 use Rattle.called_acts.specs.Counting.{times_called}
-use Rattle.run_histories.proofs.SameCounts.{once_if, count, permuted}
+use Rattle.histories.proofs.SameCounts.{once_if, count, permuted}
 
 -- the calls of a thread, by their numbers
 counted : (j k : ℕ) (acts : List Act) → count k (call_numbers j acts) ≡ times_called j k acts

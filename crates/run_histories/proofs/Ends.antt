@@ -2,7 +2,6 @@
 use Rattle.std.proofs.Common.{◌≡◌, ℕ, ◌+◌, true, List, [], ◌∷◌, length, refl, sym, ap, ◌∙◌, arith}
 use Rattle.std.specs.List.{range_with_len}
 use Rattle.perimeter_core.specs.declared.entries.Act.{Act}
-use Rattle.perimeter_core.specs.declared.entries.Act.TheVariants as Did
 use Rattle.perimeter_core.specs.declared.entries.Entry.{Entry}
 use Rattle.perimeter_core.specs.declared.marks.Own.TheVariants.{Free, Out}
 use Rattle.perimeter_core.specs.Perimeter.{State, is_here}
@@ -18,6 +17,7 @@ use Rattle.conn_blocks.specs.CallLists.{CallLists}
 use Rattle.conn_blocks.specs.ServeOrder.{BlockOf}
 use Rattle.conn_blocks.specs.Holding.{StandsFor}
 use Rattle.conn_blocks.specs.SettledFeeds.{feeds_settle}
+use Rattle.histories.proofs.Counts.{fed_counts}
 
 -- a state in which nobody has the perimeter has no hand
 no_hand : (s : State) → WakeKept s → s.own ≡ Free → s.hand ≡ []
@@ -33,11 +33,6 @@ all_fed S H c l over here =
     let missing : fed (acts S H c) + length (feeds_of c (queue (run S H))) ≡ due H c = had S c H l here in
     let last : length (feeds_of c (queue (run S H))) ≡ 0 = ap (λ (es : List Entry). length (feeds_of c es)) none in
     omega (arith, missing, last)
-
-pub fed_counts : (acts : List Act) → length (feed_numbers acts) ≡ fed acts
-fed_counts [] = refl
-fed_counts (Did.Feed n ∷ acts) = omega (arith, fed_counts acts)
-fed_counts (Did.Call j k ∷ acts) = fed_counts acts
 
 pub numbered : (p : PlanOf) (calls : CallLists) (c : ℕ) (came : List Act) (b : BlockOf) → StandsFor p calls c came b
     → feed_numbers came ≡ range_with_len 0 (fed came)

@@ -1,3 +1,2 @@
 pub mod AllActs
 pub mod Ends
-pub mod SameCounts

@@ -4,9 +4,9 @@ ghost use Rattle.perimeter_core.specs.Blocks.{peri};
 ghost use Rattle.perimeter_trial.specs.Logging.{Stands, limits_of, size_of};
 ghost use Rattle.perimeter_core.specs.Perimeter.{Idle};
 ghost use Rattle.perimeter_core.specs.History.{run};
-ghost use Rattle.squeue_state.specs.Endings.{HasEnded};
+ghost use Rattle.histories.specs.Endings.{HasEnded};
 ghost use Rattle.squeue_state.specs.Naming.{setting_of};
-ghost use Rattle.squeue_state.specs.Elements.{number_of};
+ghost use Rattle.histories.specs.Elements.{number_of};
 ghost use Rattle.squeue_state.specs.Told.{marks_of};
 ghost use Rattle.turn_gate.specs.Passes.{IsPassOf, number, seen};
 

@@ -2,7 +2,7 @@
 ghost use Rattle.std.specs.Prelude.{◌≡◌, ◌≤◌, ◌^◌, ◌∷◌, [], true, false, length, slice_index_or, vec_capacity, IfOk};
 ghost use Rattle.perimeter_trial.specs.Logging.{limits_of};
 ghost use Rattle.squeue_state.specs.AllRoom.{HasAllRoom};
-ghost use Rattle.squeue_state.specs.Elements.{number_of};
+ghost use Rattle.histories.specs.Elements.{number_of};
 ghost use Rattle.turn_gate.specs.Passes.{AreFresh};
 
 use perimeter_trial::Logs;

@@ -28,17 +28,18 @@ use Rattle.perimeter_core.proofs.IdleKept.{no_ask_split}
 use Rattle.perimeter_core.proofs.OwnAsk.{waits_no_more}
 use Rattle.perimeter_core.proofs.QueuedRange.{queued_range, range_right}
 use Rattle.perimeter_core.proofs.Room.{queued_fits}
-use Rattle.squeue_state.specs.Limits.{most_room}
+use Rattle.histories.specs.Limits.{most_room}
 use Rattle.perimeter_core.proofs.BehindAnAsk.{has_ask-append}
 use Rattle.squeue_state.specs.Naming.{Given, Named, Turned, Handed, setting_of}
 use Rattle.squeue_state.specs.Behind.{IsPeri}
-use Rattle.squeue_state.specs.Elements.{number_of, taken_by, left_by_pass, granted_by}
+use Rattle.histories.specs.Elements.{number_of, taken_by, left_by_pass, granted_by}
 use Rattle.squeue_state.specs.Clauses.{Found, Marked, IsWhole, peri_left, first_entry, asker}
 use Rattle.squeue_drain.specs.declared.owner.Owner.{Owner}
 use Rattle.squeue_drain.specs.Owning.{Feeds, HasFeeds, NoFeedFirst, processed_by, state_of, fed_so_far}
 use Rattle.squeue_drain.specs.Draining.{GoesOn, Tells, Off, Onward, plain}
-use Rattle.squeue_drain.proofs.Hands.{parts, count_ask, within, none_left, whole_left, only_last_of_feeds, Passed, passed, only_last_push, ends_at_ask, asks_other}
-use Rattle.squeue_drain.proofs.OwnersFacts.{done_more}
+use Rattle.squeue_drain.proofs.Hands.{parts, within, none_left, whole_left, only_last_of_feeds, Passed, passed, only_last_push, ends_at_ask, asks_other}
+use Rattle.histories.proofs.Counts.{count_ask}
+use Rattle.histories.proofs.OwnersFacts.{done_more}
 use Rattle.squeue_drain.proofs.Marks.{may_leave, may_take, may_grant}
 use Rattle.squeue_drain.proofs.Turning.{others, AtTurn, at_turn}
 

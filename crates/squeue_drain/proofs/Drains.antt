@@ -13,7 +13,7 @@ use Rattle.squeue_state.specs.Naming.{Named, setting_of}
 use Rattle.perimeter_core.specs.declared.entries.Entry.{Entry}
 use Rattle.perimeter_core.specs.declared.marks.SynchAct.TheVariants as Done
 use Rattle.perimeter_core.specs.declared.marks.Mark.TheVariants as On
-use Rattle.squeue_state.specs.Elements.{taken_by, left_by_pass}
+use Rattle.histories.specs.Elements.{taken_by, left_by_pass}
 use Rattle.squeue_drain.specs.declared.owner.Owner.{Owner}
 use Rattle.squeue_drain.specs.Owning.{Feeds, HasFeeds, processed_by, state_of, fed_so_far}
 use Rattle.squeue_drain.specs.Draining.{plain, is_leave, Ends, StaysBelow, GoesOn, TookOnly, Drained, Off, Onward, ServedOne}

@@ -13,7 +13,7 @@ use Rattle.perimeter_core.specs.Blocks.{peri, with_feeds}
 use Rattle.perimeter_core.proofs.FeedActs.{with_none}
 use Rattle.squeue_state.specs.Naming.{Named, Handed, setting_of}
 use Rattle.squeue_state.specs.Behind.{IsPeri}
-use Rattle.squeue_state.specs.Elements.{number_of}
+use Rattle.histories.specs.Elements.{number_of}
 use Rattle.squeue_state.specs.Clauses.{IsWhole}
 use Rattle.squeue_drain.specs.Owning.{Feeds}
 use Rattle.squeue_drain.proofs.Hands.{whole_left}

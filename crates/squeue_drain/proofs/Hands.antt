@@ -65,11 +65,6 @@ none_left hand left is none =
     nil [] = refl
     nil (x ∷ xs) = ap (λ (ys : List Entry). x ∷ ys) (nil xs)
 
-pub feeds_push : (xs : List Entry) (c n : ℕ) → all_feeds xs ≡ true → all_feeds (xs ++ Feed c n ∷ []) ≡ true
-feeds_push [] c n h = refl
-feeds_push (Feed d m ∷ xs) c n h = feeds_push xs c n h
-feeds_push (Ask p ∷ xs) c n h = absurd cc
-
 pub only_last_of_feeds : (p : ℕ) (xs : List Entry) → all_feeds xs ≡ true → only_last_ask p xs ≡ true
 only_last_of_feeds p [] h = refl
 only_last_of_feeds p (Feed c n ∷ xs) h = only_last_of_feeds p xs h
@@ -102,9 +97,3 @@ asks_other p q xs ys h same = no (q == p) (ap (λ (k : ℕ). k == p) same ∙ sa
 pub first_is : (xs : List Entry) (e : Entry) → first_entry xs ≡ Some e → (rest : List Entry) × (xs ≡ e ∷ rest)
 first_is [] e h = absurd cc
 first_is (x ∷ xs) e h = let same : x ≡ e = cc h in (xs, ap (λ y. y ∷ xs) same)
-
--- an Ask is no feed
-pub count_ask : (xs : List Entry) (j : ℕ) → feed_count (xs ++ Ask j ∷ []) ≡ feed_count xs
-count_ask [] j = refl
-count_ask (Feed c n ∷ xs) j = omega (arith, count_ask xs j)
-count_ask (Ask p ∷ xs) j = count_ask xs j

@@ -1,5 +1,4 @@
 pub mod Hands
-pub mod OwnersFacts
 pub mod Marks
 pub mod Stepping
 pub mod Turning

@@ -1,36 +1,13 @@
 -- Which marks an owner and the worker may make.
-use Rattle.std.proofs.Common.{◌≡◌, ◌≢◌, ℕ, ◌+◌, ◌<◌, ◌≤◌, Bool, true, false, ◌==◌, if◌then◌else◌, List, [], ◌∷◌, ◌++◌, length, refl, arith}
+use Rattle.std.proofs.Common.{◌≡◌, ◌≢◌, ℕ, ◌<◌, ◌≤◌, true, List, [], length, refl, arith}
 use Rattle.perimeter_core.specs.declared.marks.Own.TheVariants.{Free, Out}
 use Rattle.perimeter_core.specs.declared.marks.SynchAct.TheVariants as Done
 use Rattle.perimeter_core.specs.declared.marks.Mark.TheVariants as On
 use Rattle.perimeter_core.specs.Perimeter.{ends_with_ask, processed}
-use Rattle.perimeter_core.specs.History.{Element, Setting, worker, passes, pass_of, run}
-use Rattle.perimeter_core.specs.Deeds.{entries_of}
-use Rattle.perimeter_core.specs.Legal.{May, Legal, WithinQuota, feeds_by, asks_by, all_feeds, only_last_ask}
-use Rattle.perimeter_core.proofs.Quotas.{within}
-use Rattle.squeue_drain.proofs.OwnersFacts.{owner_below}
-
-feeds_same : (p : ℕ) (H : List Element) (e : Element) → entries_of e.mark ≡ [] → feeds_by p (H ++ e ∷ []) ≡ feeds_by p H
-feeds_same p [] e h = rw h (none (pass_of e.mark == p))
-  where
-    none : (b : Bool) → (if b then 0 else 0) + 0 ≡ 0
-    none true = refl
-    none false = refl
-feeds_same p (x ∷ H) e h = omega (arith, feeds_same p H e h)
-
-asks_same : (p : ℕ) (H : List Element) (e : Element) → entries_of e.mark ≡ [] → asks_by p (H ++ e ∷ []) ≡ asks_by p H
-asks_same p [] e h = rw h (none (pass_of e.mark == p))
-  where
-    none : (b : Bool) → (if b then 0 else 0) + 0 ≡ 0
-    none true = refl
-    none false = refl
-asks_same p (x ∷ H) e h = omega (arith, asks_same p H e h)
-
--- a mark that enters nothing keeps the quotas
-pub quota_kept : (S : Setting) (p : ℕ) (H : List Element) (e : Element) → Legal S H → entries_of e.mark ≡ [] → WithinQuota S p (H ++ e ∷ [])
-quota_kept S p H e l h =
-    let w = within S p H l in
-    record { feeds = omega (arith, w.feeds, feeds_same p H e h); asks = omega (arith, w.asks, asks_same p H e h) }
+use Rattle.perimeter_core.specs.History.{Element, Setting, worker, passes, run}
+use Rattle.perimeter_core.specs.Legal.{May, Legal, all_feeds, only_last_ask}
+use Rattle.histories.proofs.OwnersFacts.{owner_below}
+use Rattle.histories.proofs.Counts.{quota_kept}
 
 pub may_leave : (S : Setting) (H : List Element) (p rest : ℕ) → Legal S H → (run S H).own ≡ Out p → rest ≤ length (run S H).hand
     → only_last_ask p (processed rest (run S H).hand) ≡ true → ((run S H).hand ≢ [] → rest < length (run S H).hand) → May S H record { mark = On.Leave p rest Done.None; note = [] }

@@ -19,7 +19,8 @@ use Rattle.squeue_state.specs.Naming.{Named, Handed, setting_of}
 use Rattle.squeue_state.specs.Behind.{room_of}
 use Rattle.squeue_drain.specs.declared.owner.Owner.{Owner}
 use Rattle.squeue_drain.specs.Owning.{Feeds, IsFeedFirst, processed_by, state_of}
-use Rattle.squeue_drain.proofs.Hands.{Passed, passed, feeds_push}
+use Rattle.squeue_drain.proofs.Hands.{Passed, passed}
+use Rattle.histories.proofs.Counts.{feeds_push}
 
 -- the block of a feed that stands first is here, and has had all feeds before it
 pub block_at : (S : Setting) (H : List Element) (xs : List Entry) (c n : ℕ) → FeedFits S H xs c n → with_feeds xs (peri S H) c ≡ Some (acts S H c ++ feed_acts c xs)

@@ -17,13 +17,13 @@ use Rattle.perimeter_core.proofs.Since.{known_since}
 use Rattle.perimeter_core.proofs.Rests.{rests_since}
 use Rattle.squeue_state.specs.Naming.{Named, Turned, setting_of}
 use Rattle.squeue_state.specs.Behind.{IsPeri}
-use Rattle.squeue_state.specs.Elements.{number_of}
+use Rattle.histories.specs.Elements.{number_of}
 use Rattle.squeue_state.specs.Clauses.{Found, IsLeft, owners_room, peri_left}
 use Rattle.squeue_state.specs.Lone.{buffer_of, ends_fast, is_lone}
 use Rattle.squeue_drain.specs.declared.owner.Owner.{Owner}
 use Rattle.squeue_drain.specs.Owning.{Owns, processed_by, state_of}
 use Rattle.squeue_state.proofs.Makers.{others_made}
-use Rattle.squeue_drain.proofs.OwnersFacts.{done_still}
+use Rattle.histories.proofs.OwnersFacts.{done_still}
 
 -- what the turn found beyond what the pass had seen, others made
 pub others : {R : Type 0} (limits : R → Limits) (s : Named R) (p : Pass Element) (u : Turned R) → IsPassOf number_of s.gate p → (f : Found limits s p u) → made_by (number p) f.goes_on.0 ≡ []

@@ -20,7 +20,7 @@ use Rattle.perimeter_core.proofs.QueuedRange.{queued_range, range_right}
 use Rattle.perimeter_core.proofs.OwnAsk.{no_worker}
 use Rattle.squeue_state.specs.Naming.{Named, Turned, Handed, setting_of}
 use Rattle.squeue_state.specs.Behind.{IsPeri}
-use Rattle.squeue_state.specs.Elements.{number_of, taken_by, worked_by}
+use Rattle.histories.specs.Elements.{number_of, taken_by, worked_by}
 use Rattle.squeue_state.specs.Clauses.{Found, Marked, Unmarked, IsWhole}
 use Rattle.squeue_drain.specs.declared.owner.Owner.{Owner}
 use Rattle.squeue_drain.specs.Owning.{Feeds, HasFeeds, NoFeedFirst}

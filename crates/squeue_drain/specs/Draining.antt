@@ -12,7 +12,7 @@ use Rattle.perimeter_core.specs.History.{Element, Setting, Limits, pass_of, run,
 use Rattle.perimeter_core.specs.Deeds.{done}
 use Rattle.perimeter_core.specs.Legal.{Legal, feed_count}
 use Rattle.squeue_state.specs.Naming.{Named, setting_of}
-use Rattle.squeue_state.specs.Elements.{number_of, taken_by, left_by_pass}
+use Rattle.histories.specs.Elements.{number_of, taken_by, left_by_pass}
 use Rattle.squeue_drain.specs.declared.owner.Owner.{Owner}
 use Rattle.squeue_drain.specs.Owning.{Feeds, HasFeeds, state_of, fed_so_far}
 

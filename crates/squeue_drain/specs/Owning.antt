@@ -13,7 +13,7 @@ use Rattle.perimeter_core.specs.Deeds.{done}
 use Rattle.perimeter_core.specs.Legal.{Legal, all_feeds, feed_count}
 use Rattle.squeue_state.specs.Naming.{Named, setting_of}
 use Rattle.squeue_state.specs.Behind.{IsPeri}
-use Rattle.squeue_state.specs.Elements.{number_of}
+use Rattle.histories.specs.Elements.{number_of}
 use Rattle.squeue_state.specs.Clauses.{IsLeft, peri_left}
 use Rattle.squeue_drain.specs.declared.owner.Owner.{Owner}
 

@@ -6,7 +6,7 @@ ghost use Rattle.perimeter_core.specs.Perimeter.{polls};
 ghost use Rattle.perimeter_core.specs.History.{run};
 ghost use Rattle.perimeter_core.specs.Legal.{May};
 ghost use Rattle.squeue_state.specs.Naming.{setting_of};
-ghost use Rattle.squeue_state.specs.Elements.{left_by_pass, granted_by};
+ghost use Rattle.histories.specs.Elements.{left_by_pass, granted_by};
 ghost use Rattle.squeue_state.specs.Behind.{IsPeri};
 ghost use Rattle.squeue_state.specs.Clauses.{IsLeft, Marked, peri_left, first_entry, asker};
 ghost use Rattle.perimeter_core.specs.declared.entries.Entry.TheVariants as Entry';

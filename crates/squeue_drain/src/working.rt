@@ -3,7 +3,7 @@ ghost use Rattle.std.specs.Prelude.{◌≡◌, ◌↔◌, true};
 ghost use Rattle.turn_gate.specs.Passes.{IsPassOf, number, seen};
 ghost use Rattle.perimeter_core.specs.Ending.{IsOver};
 ghost use Rattle.perimeter_core.specs.History.{run, worker as worker_of};
-ghost use Rattle.squeue_state.specs.Elements.{number_of};
+ghost use Rattle.histories.specs.Elements.{number_of};
 ghost use Rattle.squeue_state.specs.Naming.{setting_of};
 ghost use Rattle.squeue_drain.specs.Owning.{Feeds, HasFeeds};
 ghost use Rattle.squeue_drain.specs.Working.{SomethingWaits, Worked};

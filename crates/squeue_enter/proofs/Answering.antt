@@ -9,13 +9,13 @@ use Rattle.perimeter_core.specs.Perimeter.{Idle, is_free, is_empty}
 use Rattle.perimeter_core.specs.History.{Element, Setting, Limits, run, made_by}
 use Rattle.squeue_state.specs.Naming.{Named, Turned, Handed, setting_of}
 use Rattle.turn_gate.specs.History.{only}
-use Rattle.squeue_state.specs.Elements.{number_of, filled_by, fast_by, claimed_by, left_by_pass}
+use Rattle.histories.specs.Elements.{number_of, filled_by, fast_by, claimed_by, left_by_pass}
 use Rattle.squeue_state.specs.Clauses.{Found, Marked}
 use Rattle.squeue_drain.specs.declared.owner.Owner.{Owner}
 use Rattle.squeue_drain.specs.Draining.{GoesOn, Drained, ServedOne, Tells}
 use Rattle.squeue_drain.proofs.Deciding.{marked_on}
 use Rattle.squeue_drain.proofs.Drains.{on_trans}
-use Rattle.squeue_enter.specs.declared.Mode.{Mode}
+use Rattle.histories.specs.declared.mode.Mode.{Mode}
 use Rattle.squeue_enter.specs.declared.entering.How.{How}
 use Rattle.squeue_enter.specs.declared.entering.How.TheVariants as How'
 use Rattle.squeue_enter.specs.declared.entering.Way.{Way}

@@ -22,16 +22,17 @@ use Rattle.perimeter_core.specs.Backlog.{queue}
 use Rattle.squeue_state.proofs.Turns.{one_turn}
 use Rattle.squeue_state.specs.Clauses.{Found, Unmarked}
 use Rattle.squeue_state.specs.Naming.{Named, Turned, setting_of}
-use Rattle.squeue_state.specs.Elements.{number_of, filled_by, fast_by, claimed_by, taken_by}
+use Rattle.histories.specs.Elements.{number_of, filled_by, fast_by, claimed_by, taken_by}
 use Rattle.squeue_drain.specs.Draining.{plain, Ends, GoesOn}
-use Rattle.squeue_enter.specs.declared.Mode.{Mode}
+use Rattle.histories.specs.declared.mode.Mode.{Mode}
 use Rattle.squeue_enter.specs.declared.entering.How.{How}
-use Rattle.squeue_enter.specs.declared.Mode.TheVariants.{Process, NoDrain, Fill}
+use Rattle.histories.specs.declared.mode.Mode.TheVariants.{Process, NoDrain, Fill}
 use Rattle.squeue_enter.specs.declared.entering.Entered.{Entered}
 use Rattle.squeue_enter.specs.Ways.{way_of}
 use Rattle.squeue_enter.specs.Entering.{MayEnter, HasEntered, HasFilled, WasFull, Went, Brought, MayGoOn}
 use Rattle.squeue_enter.proofs.Entries.{idle_here}
-use Rattle.squeue_enter.proofs.Carrying.{enters_carried, count_entries, only_feeds, no_asks_in, by_append, own_count}
+use Rattle.squeue_enter.proofs.Carrying.{enters_carried, count_entries, no_asks_in, by_append, own_count}
+use Rattle.histories.proofs.Counts.{only_feeds, left_append}
 
 pub due_append : (c n : ℕ) (H K : List Element) → due_from c n (H ++ K) ≡ due_from c (due_from c n H) K
 due_append c n [] K = refl
@@ -40,10 +41,6 @@ due_append c n (e ∷ H) K = due_append c (due_after c n e) H K
 pub here_append : (c : ℕ) (b : Bool) (H K : List Element) → here_by c b (H ++ K) ≡ here_by c (here_by c b H) K
 here_append c b [] K = refl
 here_append c b (e ∷ H) K = here_append c (if puts_in c e.mark then true else if takes_out c e.mark then false else b) H K
-
-pub left_append : (c : ℕ) (H K : List Element) → times_left c (H ++ K) ≡ times_left c H + times_left c K
-left_append c [] K = omega arith
-left_append c (e ∷ H) K = omega (arith, left_append c H K)
 
 -- elements of p that enter these feeds, no Ask, and move no block
 record Brings (p : ℕ) (es : List FeedOf) (M : List Element) : Type 0 where

@@ -17,13 +17,13 @@ use Rattle.perimeter_core.specs.Legal.{May}
 use Rattle.perimeter_core.specs.Blocks.{peri}
 use Rattle.squeue_state.specs.Naming.{Named, Turned, Handed, setting_of}
 use Rattle.squeue_state.specs.Behind.{IsPeri}
-use Rattle.squeue_state.specs.Elements.{filled_by, fast_by, claimed_by}
+use Rattle.histories.specs.Elements.{filled_by, fast_by, claimed_by}
 use Rattle.squeue_state.specs.Clauses.{Found, Marked, IsWhole}
 use Rattle.squeue_drain.specs.declared.owner.Owner.{Owner}
 use Rattle.squeue_drain.specs.Owning.{Feeds, HasFeeds}
 use Rattle.squeue_drain.specs.Draining.{Drained, ServedOne, Tells}
 use Rattle.squeue_drain.proofs.Deciding.{same_state, queued_is}
-use Rattle.squeue_enter.specs.declared.Mode.{Mode}
+use Rattle.histories.specs.declared.mode.Mode.{Mode}
 use Rattle.squeue_enter.specs.declared.entering.How.TheVariants as How'
 use Rattle.squeue_enter.specs.declared.entering.Way.{Way}
 use Rattle.squeue_enter.specs.declared.entering.Way.TheVariants as Way'

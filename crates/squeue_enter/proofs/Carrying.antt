@@ -59,10 +59,6 @@ entries_in_range S H p next (Feed c n ∷ es) f e =
     (subst (λ (k : ℕ). c < k) (flags (start S) H) (here_below (run S H).here c e.1), entries_in_range S H p (one_more c next) es f e.4)
 entries_in_range S H p next (Ask q ∷ es) f e = absurd (cc f)
 
-pub only_feeds : (fs : List FeedOf) → all_feeds (entries fs) ≡ true
-only_feeds [] = refl
-only_feeds (f ∷ fs) = only_feeds fs
-
 pub count_entries : (fs : List FeedOf) → feed_count (entries fs) ≡ length fs
 count_entries [] = refl
 count_entries (f ∷ fs) = omega (arith, count_entries fs)

@@ -8,8 +8,8 @@ use Rattle.perimeter_core.specs.Perimeter.{State, is_free, is_empty}
 use Rattle.perimeter_core.specs.History.{Element, Limits, run}
 use Rattle.squeue_state.specs.Naming.{Named, setting_of}
 use Rattle.squeue_drain.proofs.Deciding.{same_state}
-use Rattle.squeue_enter.specs.declared.Mode.{Mode}
-use Rattle.squeue_enter.specs.declared.Mode.TheVariants.{Process, NoDrain, Fill}
+use Rattle.histories.specs.declared.mode.Mode.{Mode}
+use Rattle.histories.specs.declared.mode.Mode.TheVariants.{Process, NoDrain, Fill}
 use Rattle.squeue_enter.specs.declared.entering.Way.{Way}
 use Rattle.squeue_enter.specs.declared.entering.Way.TheVariants as Way'
 use Rattle.squeue_enter.specs.Ways.{way_of, is_one}

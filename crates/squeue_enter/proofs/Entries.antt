@@ -25,7 +25,7 @@ use Rattle.squeue_state.specs.Behind.{FeedsFit}
 use Rattle.squeue_state.proofs.QueuedRoom.{queued_few, feed_entries}
 use Rattle.squeue_state.specs.Naming.{Named, Turned, Handed, setting_of}
 use Rattle.squeue_state.specs.Behind.{IsPeri}
-use Rattle.squeue_state.specs.Elements.{filled_by, fast_by, claimed_by, taken_by}
+use Rattle.histories.specs.Elements.{filled_by, fast_by, claimed_by, taken_by}
 use Rattle.squeue_state.specs.Clauses.{Found, Marked, IsWhole}
 use Rattle.squeue_state.proofs.Marks.{entries-length}
 use Rattle.squeue_drain.specs.Owning.{Feeds, HasFeeds, fed_so_far}
@@ -38,7 +38,8 @@ use Rattle.squeue_drain.proofs.Turning.{others}
 use Rattle.squeue_drain.proofs.Deciding.{marked_on}
 use Rattle.squeue_state.specs.AllRoom.{HasAllRoom}
 use Rattle.squeue_enter.specs.Entering.{MayEnter, DrainsFrom}
-use Rattle.squeue_enter.proofs.Carrying.{idle_carried, due_carried, here_carried, enters_carried, entries_in_range, only_feeds, count_entries, quota_enters}
+use Rattle.squeue_enter.proofs.Carrying.{idle_carried, due_carried, here_carried, enters_carried, entries_in_range, count_entries, quota_enters}
+use Rattle.histories.proofs.Counts.{only_feeds}
 
 pub some_entries : (fs : List FeedOf) → 0 < length fs → entries fs ≢ []
 some_entries [] some = absurd (omega arith)

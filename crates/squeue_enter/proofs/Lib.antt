@@ -4,4 +4,3 @@ pub mod Choosing
 pub mod Answering
 pub mod Bringing
 pub mod ByWay
-pub mod ModeWords

@@ -14,9 +14,9 @@ use Rattle.perimeter_core.specs.Legal.{Legal, Enters, feeds_by, asks_by, feed_co
 use Rattle.perimeter_core.specs.Backlog.{queue}
 use Rattle.squeue_state.specs.Naming.{Named, Turned, setting_of}
 use Rattle.squeue_state.specs.Clauses.{Found}
-use Rattle.squeue_state.specs.Elements.{number_of, filled_by, fast_by, claimed_by, taken_by, left_by_pass}
+use Rattle.histories.specs.Elements.{number_of, filled_by, fast_by, claimed_by, taken_by, left_by_pass}
 use Rattle.squeue_drain.specs.Draining.{plain, Ends, StaysBelow, is_leave, GoesOn}
-use Rattle.squeue_enter.specs.declared.Mode.{Mode}
+use Rattle.histories.specs.declared.mode.Mode.{Mode}
 use Rattle.squeue_enter.specs.declared.entering.How.{How}
 use Rattle.squeue_enter.specs.declared.entering.How.TheVariants as How'
 use Rattle.squeue_enter.specs.declared.entering.Way.{Way}

@@ -5,12 +5,12 @@ ghost use Rattle.turn_gate.specs.declared.pass.Pass.{Pass};
 ghost use Rattle.perimeter_core.specs.History.{Element};
 ghost use Rattle.squeue_state.specs.Naming.{setting_of};
 ghost use Rattle.squeue_state.specs.Behind.{FeedsFit};
-ghost use Rattle.squeue_state.specs.Elements.{number_of};
+ghost use Rattle.histories.specs.Elements.{number_of};
 ghost use Rattle.squeue_enter.specs.Ways.{way_of};
 ghost use Rattle.squeue_state.specs.AllRoom.{HasAllRoom};
 ghost use Rattle.squeue_enter.specs.Entering.{MayEnter, IsTurnFor, HasEntered, HasFilled, HasTurned, WasFull, Brought, MayGoOn};
 
-use crate::Mode;
+use histories::Mode;
 use perimeter_core::{Feed, Hook, Resident, is_polling};
 use squeue_drain::{Owner, drain, is_free, serve_one};
 use squeue_state::{Missed, Pass, Squeue, Turn};

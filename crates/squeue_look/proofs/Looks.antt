@@ -14,7 +14,7 @@ use Rattle.perimeter_core.proofs.BlocksFollow.{peri_push}
 use Rattle.perimeter_core.proofs.OwnCounts.{own_counts}
 use Rattle.squeue_state.specs.Naming.{Named, Turned, setting_of}
 use Rattle.squeue_state.specs.Behind.{IsPeri}
-use Rattle.squeue_state.specs.Elements.{ask_claimed_by, left_by_pass, number_of}
+use Rattle.histories.specs.Elements.{ask_claimed_by, left_by_pass, number_of}
 use Rattle.squeue_state.specs.Clauses.{Found, Marked, peri_left}
 use Rattle.squeue_state.proofs.Makers.{only_made}
 use Rattle.squeue_enter.proofs.Carrying.{by_append}

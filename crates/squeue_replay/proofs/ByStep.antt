@@ -11,7 +11,7 @@ use Rattle.perimeter_core.specs.Perimeter.{State}
 use Rattle.perimeter_core.specs.History.{Element}
 use Rattle.perimeter_core.specs.Deeds.{done_by, entries}
 use Rattle.perimeter_core.specs.Legal.{NoteFits}
-use Rattle.squeue_replay.specs.declared.squeue.Squeue.{Squeue}
+use Rattle.squeue_replay.specs.declared.squeue.ReplayedSqueue.{ReplayedSqueue}
 use Rattle.perimeter_core.specs.declared.marks.Kind.{Kind}
 use Rattle.perimeter_core.specs.declared.marks.Kind.TheVariants as Kind'
 use Rattle.squeue_replay.specs.Histories.{note_of}
@@ -24,10 +24,10 @@ use Rattle.squeue_replay.specs.Steps.{NotesFeeds, Tells}
 use Rattle.squeue_replay.proofs.Adding.{Answers, claimed_feeds, fast_follows, leave_told, none_told, plain_told, small_feeds, some_feeds}
 
 -- the answer to the mark of this kind
-abbrev pub Told : {E : Type 0} → Squeue → SqueueOf → ℕ → List Feed → Result (Option ℕ) E → Kind → Type 0
+abbrev pub Told : {E : Type 0} → ReplayedSqueue → SqueueOf → ℕ → List Feed → Result (Option ℕ) E → Kind → Type 0
 Told s t p feeds r y = IfOk r (λ o. Answers s.run.setup.squeues s.run.setup.spread s.number (setting_of s) (squeue_of s) t (mark_by p y feeds) (HasItsFeeds y feeds) o)
 
-module _ {E : Type 0} (s : Squeue) (t : SqueueOf) (p : ℕ) (feeds : List Feed) {x : Kind} {r : Result (Option ℕ) E} where
+module _ {E : Type 0} (s : ReplayedSqueue) (t : SqueueOf) (p : ℕ) (feeds : List Feed) {x : Kind} {r : Result (Option ℕ) E} where
   -- nothing is processed
   nothing_told : (y : Kind) (b : Bool) → x ≡ y → r ≡ Ok (if b then Some 0 else None)
       → ((past : List Mark) → note_of s.run.setup.squeues s.run.setup.spread s.number past (mark_by p y feeds) ≡ []) → ((st : State) → done_by st (mark_by p y feeds) ≡ [])
@@ -61,7 +61,7 @@ module _ {E : Type 0} (s : Squeue) (t : SqueueOf) (p : ℕ) (feeds : List Feed) 
         nothing_told Kind'.Fast b is made (λ past. refl) (λ st. refl) (λ H k printed has. fast_follows (setting_of s) H t p feeds b has printed.1 (all H k))
 
 -- feeds may be processed
-module _ {E : Type 0} (s : Squeue) (t : SqueueOf) (p : ℕ) (feeds : List Feed) {x : Kind} (r : Result (Option ℕ) E) where
+module _ {E : Type 0} (s : ReplayedSqueue) (t : SqueueOf) (p : ℕ) (feeds : List Feed) {x : Kind} (r : Result (Option ℕ) E) where
   pub told_take : x ≡ Kind'.Take → IfOk r (λ o. (H : List Element) → Stands (setting_of s) H (squeue_of s) → Tells (setting_of s) H t (record { mark = On.Take p; note = [] }) o) → Told s t p feeds r x
   told_take is tells =
       subst (λ (z : Kind). Told s t p feeds r z) (sym is)

@@ -14,8 +14,8 @@ use Rattle.perimeter_core.specs.Legal.{Legal, ask_count, feed_count}
 use Rattle.perimeter_core.proofs.FeedLists.{feeds_of-append}
 use Rattle.perimeter_core.proofs.FeedOrder.{queue_after}
 use Rattle.perimeter_core.proofs.OrderAndWake.{sound}
-use Rattle.conn_migrate.specs.Stays.{Stay, Stays, all_in, as_list, begun, longer_by, stays}
-use Rattle.conn_migrate.proofs.OneSqueue.{stays_push}
+use Rattle.histories.specs.Stays.{Stay, Stays, all_in, as_list, begun, longer_by, stays}
+use Rattle.histories.proofs.OneSqueue.{stays_push}
 use Rattle.squeue_replay.specs.Standing.{GuestOf, GuestStands, PassOf, PassStands}
 use Rattle.squeue_replay.proofs.OneMoreMark.{GuestGoes, PassGoes}
 use Rattle.squeue_replay.proofs.QueuedFeeds.{GuestQueued}

@@ -2,8 +2,8 @@
 use Rattle.std.proofs.Common.{◌≡◌, ℕ, zero, suc, ◌<◌, List, [], ◌∷◌, get_or, length, take, arith}
 use Rattle.perimeter_core.specs.declared.entries.Feed.{Feed as FeedOf}
 use Rattle.perimeter_core.specs.Deeds.{entries}
-use Rattle.placed_parts.specs.Homes.{home}
-use Rattle.squeue_rings.specs.Keeping.{AreHome}
+use Rattle.histories.specs.Homes.{home}
+use Rattle.histories.specs.Keeping.{AreHome}
 
 module _ (squeues spread q : ℕ) (d : FeedOf) where
   pub home_at : (fs : List FeedOf) (i : ℕ) → i < length fs → AreHome squeues spread q (entries fs) → home squeues spread (get_or fs i d).c (get_or fs i d).n ≡ q

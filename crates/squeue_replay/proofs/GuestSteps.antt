@@ -16,9 +16,9 @@ use Rattle.perimeter_core.proofs.RingKnows.{here_step}
 use Rattle.perimeter_core.proofs.BlocksFollow.{flags}
 use Rattle.perimeter_core.proofs.OwnersReport.{none_reported}
 use Rattle.perimeter_core.proofs.LeavesFew.{left_push}
-use Rattle.conn_migrate.specs.Stays.{Stay, Stays, as_list, all_in, begun, longer_by, stays}
-use Rattle.conn_migrate.proofs.OneSqueue.{stays_push, fits}
-use Rattle.conn_migrate.proofs.StaysKept.{at_first}
+use Rattle.histories.specs.Stays.{Stay, Stays, as_list, all_in, begun, longer_by, stays}
+use Rattle.histories.proofs.OneSqueue.{stays_push, fits}
+use Rattle.histories.proofs.StaysKept.{at_first}
 use Rattle.squeue_replay.specs.Standing.{GuestOf, GuestStands}
 use Rattle.squeue_replay.specs.Steps.{last_longer}
 use Rattle.squeue_replay.proofs.OneMoreMark.{times_in_push}

@@ -20,15 +20,15 @@ use Rattle.perimeter_core.proofs.Room.{asks_of, one_ask}
 use Rattle.perimeter_core.proofs.FeedLists.{feeds_of-append}
 use Rattle.perimeter_core.proofs.QueuedRange.{queued_range}
 use Rattle.perimeter_core.proofs.OwnersReport.{none_reported}
-use Rattle.squeue_serve.proofs.Lent.{some_at}
+use Rattle.histories.proofs.ListPlaces.{some_at}
 use Rattle.squeue_replay.specs.Standing.{GuestOf, SqueueOf, Stands}
 use Rattle.squeue_replay.specs.Steps.{ActMay, Answered, Became, Processed, guest_acted, guest_fed}
 use Rattle.squeue_replay.proofs.AskSteps.{asks_left, has_ask-append}
 use Rattle.squeue_replay.proofs.GuestSteps.{guest_after}
 use Rattle.squeue_replay.proofs.GuestActs.{became_same, became_twice, granted_guest, left_guest}
 use Rattle.squeue_replay.proofs.ProcessSteps.{goes_on}
-use Rattle.squeue_drain.proofs.OwnersFacts.{owner_below}
-use Rattle.squeue_drain.proofs.Marks.{quota_kept}
+use Rattle.histories.proofs.OwnersFacts.{owner_below}
+use Rattle.histories.proofs.Counts.{quota_kept}
 
 same_back : (xs ys zs : List Entry) → xs ++ ys ≡ xs ++ zs → ys ≡ zs
 same_back [] ys zs e = e

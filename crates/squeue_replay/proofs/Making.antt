@@ -10,17 +10,15 @@ use Rattle.std.proofs.lemmas.Option.{get_or_from_slice_get, slice_get_within}
 use Rattle.perimeter_core.specs.declared.marks.Own.TheVariants.{Free}
 use Rattle.perimeter_core.specs.Ending.{IsOver}
 use Rattle.perimeter_core.specs.History.{Element, Setting, passes, run}
-use Rattle.conn_migrate.specs.Stays.{Stay, as_list, begun}
-use Rattle.squeue_state.specs.Behind.{pairs}
-use Rattle.squeue_state.specs.declared.guarded.Quota.{Quota}
-use Rattle.squeue_serve.proofs.Lent.{some_at}
-use Rattle.squeue_serve.proofs.Unused.{open_flag}
+use Rattle.histories.specs.Stays.{Stay, as_list, begun}
+use Rattle.histories.specs.Quotas.{pairs}
+use Rattle.histories.specs.declared.quota.Quota.{Quota}
+use Rattle.histories.proofs.ListPlaces.{some_at, open_flag, from_map}
 use Rattle.squeue_replay.specs.declared.guest.Guest.{Guest}
 use Rattle.squeue_replay.specs.declared.squeue.Pass.{Pass}
 use Rattle.squeue_replay.specs.Standing.{GuestOf, GuestStands, PassOf, PassStands, SqueueOf, Stands, guest_of}
 use Rattle.squeue_replay.specs.Entering.{first_guest, first_pass}
 use Rattle.squeue_replay.proofs.Reading.{kept}
-use Rattle.squeue_rings.proofs.RingStays.{from_map}
 
 pass_first : (S : Setting) (p : ℕ) (x : PassOf) → slice_get (map first_pass S.quotas) p ≡ Some x → PassStands S [] p x
 pass_first S p x at =

@@ -10,7 +10,7 @@ use Rattle.perimeter_core.specs.Legal.{Legal, May, ask_count, feed_count}
 use Rattle.perimeter_core.proofs.OneMore.{due_push, legal_more, legal_next, run_push}
 use Rattle.perimeter_core.proofs.Quotas.{feeds_push, asks_push}
 use Rattle.perimeter_core.proofs.LeavesFew.{left_push}
-use Rattle.conn_migrate.specs.Stays.{all_in, stays}
+use Rattle.histories.specs.Stays.{all_in, stays}
 use Rattle.squeue_replay.specs.Histories.{note_of, noted, noted_from, times_in}
 use Rattle.squeue_replay.specs.Standing.{GuestOf, GuestStands, PassOf, PassStands, SqueueOf, Stands}
 

@@ -27,7 +27,7 @@ use Rattle.perimeter_core.proofs.OrderAndWake.{sound}
 use Rattle.perimeter_core.proofs.QueuedRange.{queued_range}
 use Rattle.perimeter_core.proofs.Quotas.{within, feeds_push, asks_push, own_count}
 use Rattle.perimeter_core.proofs.Sound.{hand_free, hand_granted}
-use Rattle.squeue_serve.proofs.Lent.{some_at}
+use Rattle.histories.proofs.ListPlaces.{some_at}
 use Rattle.squeue_replay.specs.Standing.{GuestOf, PassOf, PassStands, SqueueOf, Stands}
 use Rattle.squeue_replay.specs.Entering.{AreSmall, IsIdle, Queues, QueuesAsk}
 use Rattle.squeue_replay.proofs.OneMoreMark.{Goes, stands_more}

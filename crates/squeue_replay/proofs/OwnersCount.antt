@@ -12,8 +12,8 @@ use Rattle.perimeter_core.specs.History.{Element, Setting, pass_of, run, start, 
 use Rattle.perimeter_core.specs.Deeds.{done, done_by}
 use Rattle.perimeter_core.specs.Legal.{IdleFirst, May, all_feeds, feed_count}
 use Rattle.perimeter_core.proofs.OneMore.{run_push}
-use Rattle.squeue_drain.proofs.OwnersFacts.{done_more}
-use Rattle.squeue_rings.specs.Keeping.{taken, taken_after, taken_from}
+use Rattle.histories.proofs.OwnersFacts.{done_more}
+use Rattle.histories.specs.Keeping.{taken, taken_after, taken_from}
 use Rattle.squeue_replay.specs.Pacing.{CountStands, count_after}
 
 module _ (S : Setting) (p : ℕ) where

@@ -11,10 +11,10 @@ use Rattle.perimeter_core.specs.History.{Element, Setting, pass_of, run, worker}
 use Rattle.perimeter_core.specs.declared.entries.Feed.{Feed as FeedOf}
 use Rattle.perimeter_core.specs.Deeds.{done, done_by, entries, entries_of}
 use Rattle.perimeter_core.specs.Legal.{IdleFirst, May, feed_count}
-use Rattle.squeue_drain.proofs.OwnersFacts.{done_more}
-use Rattle.squeue_enter.specs.declared.Mode.{Mode}
-use Rattle.squeue_enter.specs.declared.Mode.TheVariants as Mode'
-use Rattle.squeue_rings.specs.Keeping.{AreHome, Keeps, claims_feeds, fills, fills_one, gives_it_up, is_fast, leaves_it, taken}
+use Rattle.histories.proofs.OwnersFacts.{done_more}
+use Rattle.histories.specs.declared.mode.Mode.{Mode}
+use Rattle.histories.specs.declared.mode.Mode.TheVariants as Mode'
+use Rattle.histories.specs.Keeping.{AreHome, Keeps, claims_feeds, fills, fills_one, gives_it_up, is_fast, leaves_it, taken}
 use Rattle.ring_quotas.specs.declared.setup.Setup.{Setup}
 use Rattle.squeue_replay.specs.declared.pace.Met.{Met}
 use Rattle.perimeter_core.specs.declared.marks.Kind.{Kind}

@@ -13,7 +13,7 @@ use Rattle.squeue_replay.specs.Standing.{GuestOf, PassOf, SqueueOf}
 use Rattle.squeue_replay.specs.Steps.{Answered, Became, Processed, guest_fed}
 use Rattle.squeue_replay.proofs.AskSteps.{alone_right, feeds_alone}
 use Rattle.squeue_replay.proofs.GuestActs.{became_same, became_twice, fed_none, fed_twice}
-use Rattle.squeue_drain.proofs.Hands.{count_ask, feeds_push}
+use Rattle.histories.proofs.Counts.{count_ask, feeds_push}
 
 -- nothing was processed yet
 pub began : (j : ℕ) (s : SqueueOf) → Processed [] j 0 false s s

@@ -17,8 +17,8 @@ use Rattle.squeue_replay.specs.Steps.{Answered, Became, Processed, guest_fed}
 use Rattle.squeue_replay.proofs.AskSteps.{feeds_alone}
 use Rattle.squeue_replay.proofs.GuestActs.{became_same, taken_guest}
 use Rattle.squeue_replay.proofs.GuestSteps.{guest_after, guest_goes_on}
-use Rattle.squeue_drain.proofs.OwnersFacts.{owner_below}
-use Rattle.squeue_drain.proofs.Marks.{quota_kept}
+use Rattle.histories.proofs.OwnersFacts.{owner_below}
+use Rattle.histories.proofs.Counts.{quota_kept}
 
 no_more : (b : Bool) (n : ℕ) → n ≡ 0 → (if b then n else 0) ≡ 0
 no_more true n h = h

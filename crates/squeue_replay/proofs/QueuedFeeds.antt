@@ -11,7 +11,7 @@ use Rattle.perimeter_core.specs.Perimeter.{State, is_here}
 use Rattle.perimeter_core.specs.History.{Setting, conns}
 use Rattle.perimeter_core.specs.Deeds.{entries, feeds_of}
 use Rattle.perimeter_core.specs.Legal.{Enters, EntriesInRange, all_feeds, ask_count, feed_count, one_more}
-use Rattle.squeue_serve.proofs.Lent.{some_at}
+use Rattle.histories.proofs.ListPlaces.{some_at}
 use Rattle.squeue_replay.specs.Standing.{GuestOf, PassOf, SqueueOf}
 use Rattle.squeue_replay.specs.Entering.{AreSmall, Queues}
 

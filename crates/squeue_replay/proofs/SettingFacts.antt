@@ -8,7 +8,7 @@ use Rattle.conn_classifier.specs.Plan.{IsItems, IsPlan, PlanOf, items_in}
 use Rattle.conn_classifier.proofs.PlanFacts.{all_at}
 use Rattle.conn_classifier.proofs.PlanLaw.{length-filter_le}
 use Rattle.conn_blocks.specs.CallLists.{CallLists}
-use Rattle.placed_parts.specs.Homes.{leaves_after, times_leaving}
+use Rattle.histories.specs.Homes.{leaves_after, times_leaving}
 use Rattle.ring_quotas.specs.Quotas.{caller_asks, ring_asks, ring_feeds, setting_at}
 
 module _ (p : PlanOf) (calls : CallLists) (squeues rings spread q : ℕ) where

@@ -7,12 +7,12 @@ use Rattle.perimeter_core.specs.declared.marks.Own.TheVariants.{Free, Out}
 use Rattle.perimeter_core.specs.History.{Element, Setting, pass_of, run}
 use Rattle.perimeter_core.specs.Deeds.{done, done_by}
 use Rattle.perimeter_core.specs.Legal.{all_feeds, feed_count}
-use Rattle.squeue_enter.specs.declared.Mode.{Mode}
-use Rattle.squeue_enter.specs.declared.Mode.TheVariants as Mode'
-use Rattle.squeue_rings.specs.Keeping.{Keeps, claims_feeds, fills, fills_one, gives_it_up, is_fast, leaves_it, taken}
+use Rattle.histories.specs.declared.mode.Mode.{Mode}
+use Rattle.histories.specs.declared.mode.Mode.TheVariants as Mode'
+use Rattle.histories.specs.Keeping.{Keeps, claims_feeds, fills, fills_one, gives_it_up, is_fast, leaves_it, taken}
 use Rattle.ring_quotas.specs.declared.setup.Setup.{Setup}
 use Rattle.squeue_replay.specs.declared.pace.Met.{Met}
-use Rattle.squeue_replay.specs.declared.pace.Pace.{Pace}
+use Rattle.squeue_replay.specs.declared.pace.PaceCheck.{PaceCheck}
 
 -- what was told of the mark that comes next
 pub record HasMet (S : Setting) (past : List Element) (e : Element) (met : Met) : Type 0 where
@@ -31,7 +31,7 @@ pub record CountStands (S : Setting) (past : List Element) (count : Option ℕ) 
   pub others : (p : ℕ) → (run S past).own ≢ Out p → taken S p past ≡ None
   pub before : (p : ℕ) → IfSome (taken S p past) (λ had. had ≤ feed_count (done S past))
 
-abbrev pub PaceStands : Setting → List Element → Pace → Type 0
+abbrev pub PaceStands : Setting → List Element → PaceCheck → Type 0
 PaceStands S past pace = CountStands S past pace.processed
 
 -- the mark keeps homes, mode and budget, a Take too

@@ -8,8 +8,8 @@ use Rattle.perimeter_core.specs.Perimeter.{has_ask, is_closed, is_here}
 use Rattle.perimeter_core.specs.History.{Element, Setting, ask_quota, feed_quota, run}
 use Rattle.perimeter_core.specs.Deeds.{due, feeds_of, times_left}
 use Rattle.perimeter_core.specs.Legal.{Legal, asks_by, feeds_by}
-use Rattle.squeue_state.specs.Naming.{Ending}
-use Rattle.conn_migrate.specs.Stays.{all_in, stays}
+use Rattle.histories.specs.Endings.{Ending}
+use Rattle.histories.specs.Stays.{all_in, stays}
 use Rattle.squeue_replay.specs.declared.guest.Guest.{Guest}
 use Rattle.squeue_replay.specs.Histories.{times_in}
 use Rattle.squeue_replay.specs.Parts.{parts_of}

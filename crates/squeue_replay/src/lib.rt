@@ -17,5 +17,5 @@ mod squeue;
 
 pub use guest::Guest;
 pub use marks::ReadMark;
-pub use pace::{Met, Pace};
-pub use squeue::{Run, Squeue, stay_of};
+pub use pace::{Met, PaceCheck};
+pub use squeue::{ReplayedSqueue, Run, stay_of};

@@ -5,14 +5,14 @@ ghost use Rattle.perimeter_core.specs.declared.entries.Feed.{Feed as FeedOf};
 ghost use Rattle.perimeter_core.specs.Deeds.{entries, entries_of};
 ghost use Rattle.perimeter_core.specs.History.{Element, Setting};
 ghost use Rattle.perimeter_core.specs.Legal.{May};
-ghost use Rattle.squeue_rings.specs.Keeping.{AreHome};
+ghost use Rattle.histories.specs.Keeping.{AreHome};
 ghost use Rattle.perimeter_core.specs.Kinds.{mark_by};
 ghost use Rattle.squeue_replay.specs.Pacing.{HasMet, KeepsAt, PaceStands, count_after, fits_budget, fits_mode};
 
 use crate::marks::ReadMark;
+use histories::Mode;
 use perimeter_core::{Feed, Kind};
 use ring_quotas::Setup;
-use squeue_enter::Mode;
 
 /// What a mark met: whether somebody had the perimeter, and whether something was queued; how many feeds it says were processed;
 /// and whether something is queued after it.
@@ -26,20 +26,20 @@ pub struct Met {
 
 /// How far the owner is.
 #[derive(Clone, Copy)]
-pub struct Pace {
+pub struct PaceCheck {
     setup: Setup,
     squeue: u32,
     /// How many feeds the owner has processed, where it took the perimeter with feeds.
     processed: Option<u64>,
 }
 
-impl Pace {
+impl PaceCheck {
     /// Before the first mark of a squeue.
-    pub fn make(setup: Setup, squeue: u32) -> Pace
+    pub fn make(setup: Setup, squeue: u32) -> PaceCheck
         ensures same { (result.setup ≡ setup) × (result.squeue ≡ squeue) }
         ensures stands { (S : Setting) → PaceStands S [] result }
     {
-        Pace {
+        PaceCheck {
             setup,
             squeue,
             processed: None,
@@ -118,7 +118,7 @@ impl Pace {
     }
 
     /// Whether a ring's mark keeps the mode; `by_feeds` says whether the owner took the perimeter with feeds.
-    #[tactic(auto, using(squeue_enter::proofs::Carrying::only_feeds))]
+    #[tactic(auto, using(histories::proofs::Counts::only_feeds))]
     fn keeps_mode(&self, mark: &ReadMark, met: Met, by_feeds: bool) -> bool
         ensures { result ≡ fits_mode self.now.setup.mode (mark_by mark.now.p mark.now.kind mark.now.feeds.items) met.taken met.queued by_feeds }
     {
@@ -156,7 +156,7 @@ impl Pace {
 }
 
 /// The owner's count behind a mark, by what it is with the feeds that the mark says were processed.
-#[tactic(auto, using(squeue_enter::proofs::Carrying::only_feeds))]
+#[tactic(auto, using(histories::proofs::Counts::only_feeds))]
 fn count_after(kind: Kind, now: Option<u64>) -> Option<u64>
     ensures { (p : ℕ) (fs : List FeedOf) → result ≡ count_after (mark_by p kind fs) now }
 {

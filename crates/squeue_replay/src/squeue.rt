@@ -13,12 +13,12 @@ mod processing;
 
 use crate::guest::Guest;
 use crate::marks::ReadMark;
-use conn_blocks::Calls;
+use conn_blocks::{CALLERS, Calls};
 use conn_classifier::Plan;
+use histories::Quota;
 use perimeter_core::{Entry, Kind, Own};
 pub use processing::stay_of;
-use ring_quotas::{CALLERS, Setup, quotas_at};
-use squeue_state::Quota;
+use ring_quotas::{Setup, quotas_at};
 use std::alloc::{AllocError, Global};
 use std::collections::VecDeque;
 
@@ -46,7 +46,7 @@ pub struct Run<'p, 'c> {
 /// # Example
 ///
 /// ```
-/// let mut squeue = Squeue::make(rt.alloc(), run, 0)?;
+/// let mut squeue = ReplayedSqueue::make(rt.alloc(), run, 0)?;
 /// for row in HISTORY {
 ///     assert!(rt; !squeue.has_ended());
 ///     assert_eq!(rt; add(rt.alloc(), &mut squeue, &row)?, Some(row.3));
@@ -54,7 +54,7 @@ pub struct Run<'p, 'c> {
 /// assert!(rt; squeue.has_ended());
 /// ```
 #[derive(Drop)]
-pub struct Squeue<'p, 'c> {
+pub struct ReplayedSqueue<'p, 'c> {
     run: Run<'p, 'c>,
     number: u32,
     own: Own,
@@ -69,7 +69,7 @@ pub struct Squeue<'p, 'c> {
     ghost each_guest: { length guests.items ≡ length run.plan.now.tuples },
 }
 
-impl<'p, 'c> Squeue<'p, 'c> {
+impl<'p, 'c> ReplayedSqueue<'p, 'c> {
     ghost use Rattle.std.specs.Prelude.{List, [], ◌∷◌, ◌++◌, IfOk, IsTrue, MatchOption, None, Ok, Some, ◌↔◌, ◌≢◌, ◌≤◌, ◌%◌, ◌==◌, false, if◌then◌else◌, map};
     ghost use Rattle.std.specs.List.{range_with_len};
     ghost use Rattle.perimeter_core.specs.declared.marks.Mark.{Mark};
@@ -85,15 +85,19 @@ impl<'p, 'c> Squeue<'p, 'c> {
     ghost use Rattle.squeue_replay.specs.Standing.{Stands, guest_of};
 
     /// The squeue of this number before its first mark. Fails only for want of memory.
-    pub fn make(alloc: Global, run: Run<'p, 'c>, number: u32) -> Result<Squeue<'p, 'c>, AllocError>
+    pub fn make(
+        alloc: Global,
+        run: Run<'p, 'c>,
+        number: u32,
+    ) -> Result<ReplayedSqueue<'p, 'c>, AllocError>
         requires { number < run.setup.squeues }
         ensures same { IfOk result (λ s. (s.run ≡ run.entry) × (s.number ≡ number)) }
         ensures stands { IfOk result (λ s. Stands (setting_of s) [] (squeue_of s)) }
     {
         let quotas = quotas_at(alloc, run.plan, run.calls, &run.setup, number)?;
-        let passes = Squeue::passes_of(alloc, quotas.as_slice())?;
-        let guests = Squeue::guests_of(alloc, run.plan.conns(), run.setup.squeues, number)?;
-        Ok(Squeue {
+        let passes = ReplayedSqueue::passes_of(alloc, quotas.as_slice())?;
+        let guests = ReplayedSqueue::guests_of(alloc, run.plan.conns(), run.setup.squeues, number)?;
+        Ok(ReplayedSqueue {
             run,
             number,
             own: Own::Free,

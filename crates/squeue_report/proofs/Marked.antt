@@ -6,8 +6,8 @@ use Rattle.std.proofs.lemmas.List.{take_all}
 use Rattle.std.proofs.lemmas.List.FromFn.{length-enumerate_from}
 use Rattle.std.proofs.lemmas.Option.{slice_get-get_or, slice_get-map}
 use Rattle.perimeter_core.specs.declared.entries.Entry.{Entry}
-use Rattle.squeue_report.specs.ReportText.{line_end}
-use Rattle.squeue_report.specs.TraceText.{entered_field}
+use Rattle.report_lines.specs.ReportText.{line_end}
+use Rattle.report_lines.specs.TraceText.{entered_field}
 
 -- an element of a list, by what stands there whatever is given beside the list
 pub there : {X : Type 0} (xs : List X) (i : ℕ) (x : X) → i < length xs → ((d : X) → x ≡ get_or xs i d) → slice_get xs i ≡ Some x

@@ -6,10 +6,10 @@ use Rattle.perimeter_core.specs.declared.entries.Act.{Act}
 use Rattle.conn_classifier.specs.Plan.{PlanOf}
 use Rattle.conn_blocks.specs.CallLists.{CallLists}
 use Rattle.conn_blocks.specs.ServeOrder.{BlockOf, Serving, serve, serving_of}
-use Rattle.ring_threads.specs.ServedBlocks.{AreServed}
+use Rattle.conn_blocks.specs.ServedBlocks.{AreServed}
 use Rattle.squeue_report.specs.SummaryText.{reply_count, octet_count, text_size}
-use Rattle.squeue_rings.proofs.Slots.{take_one}
-use Rattle.squeue_report.proofs.Blocks.{Agrees, agrees}
+use Rattle.histories.proofs.ListPlaces.{take_one}
+use Rattle.report_lines.proofs.Blocks.{Agrees, agrees}
 
 pub sum_more : {X : Type 0} (f : X → ℕ) (xs : List X) (i n m : ℕ) (x : X) → n ≡ sum_by f (take i xs) → slice_get xs i ≡ Some x → m ≡ n + f x
     → m ≡ sum_by f (take (i + 1) xs)

@@ -1,6 +1,1 @@
-pub mod Names
-pub mod ReportText
-pub mod TraceText
 pub mod SummaryText
-pub mod OrderLaw
-pub mod Telling

@@ -9,7 +9,7 @@ use Rattle.segment_codec.specs.declared.packet.Reply.{Reply}
 use Rattle.conn_classifier.specs.Plan.{PlanOf}
 use Rattle.conn_blocks.specs.CallLists.{CallLists}
 use Rattle.conn_blocks.specs.ServeOrder.{serve}
-use Rattle.squeue_report.specs.ReportText.{line, report_text}
+use Rattle.report_lines.specs.ReportText.{line, report_text}
 
 -- each byte in turn, at the multiplier of the 64-bit FNV hash, from 0
 unfoldable pub check_of : List ℕ → ℕ

@@ -1,13 +1,11 @@
-//! The report of a run, and the one line that sums up a generated run.
+//! The report of a run, with its marks where they were kept, and the one line that sums up a generated run. The lines of a report are
+//! those of `report_lines`.
 #![tactic(auto)]
 
-pub mod laws;
-mod names;
 mod reporting;
 mod summing;
 mod tracing;
 
-pub use names::state_name;
-pub use reporting::{push_datagram, push_last, push_next_end, push_replies, report};
+pub use reporting::report;
 pub use summing::summary;
 pub use tracing::report2;

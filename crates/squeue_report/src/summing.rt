@@ -3,7 +3,7 @@
 ghost use Rattle.std.specs.Prelude.{◌≡◌, ◌≤◌, ◌^◌, ◌*◌, ◌++◌, length, map, IfOk, OnOk, sum_by, string_bytes};
 ghost use Rattle.tcb_machine.specs.Limits.{most_mss};
 ghost use Rattle.conn_blocks.specs.CallLists.{CallLists};
-ghost use Rattle.ring_threads.specs.ServedBlocks.{AreServed};
+ghost use Rattle.conn_blocks.specs.ServedBlocks.{AreServed};
 ghost use Rattle.squeue_report.specs.SummaryText.{check_of, text_size, digits_of, summary_line, summary_text};
 
 use crate::reporting::report;

@@ -4,21 +4,23 @@ ghost use Rattle.std.specs.Prelude.{[], ◌≡◌, ◌+◌, ◌<◌, ◌≤◌, 
 ghost use Rattle.std.specs.List.{flat_map};
 ghost use Rattle.perimeter_core.specs.declared.marks.Mark.TheVariants as On;
 ghost use Rattle.squeue_state.specs.Told.{Within, mark_of, marks_of};
-ghost use Rattle.squeue_enter.specs.Ways.{mode_word};
+ghost use Rattle.histories.specs.ModeWords.{mode_word};
 ghost use Rattle.conn_blocks.specs.CallLists.{calls_of};
-ghost use Rattle.ring_threads.specs.ServedBlocks.{AreServed};
-ghost use Rattle.squeue_report.specs.ReportText.{line_end};
-ghost use Rattle.squeue_report.specs.TraceText.{setup_line, call_line, thread_text, calls_text};
-ghost use Rattle.squeue_report.specs.TraceText.{act_fields, entered_field, mark_line, squeue_line, squeue_text, trace_text};
+ghost use Rattle.conn_blocks.specs.Limits.{callers};
+ghost use Rattle.conn_blocks.specs.ServedBlocks.{AreServed};
+ghost use Rattle.report_lines.specs.ReportText.{line_end};
+ghost use Rattle.report_lines.specs.TraceText.{setup_line, call_line, thread_text, calls_text};
+ghost use Rattle.report_lines.specs.TraceText.{act_fields, entered_field, mark_line, squeue_line, squeue_text, trace_text};
 
-use crate::reporting::{push_body, push_pair};
-use conn_blocks::Calls;
+use crate::reporting::push_body;
+use conn_blocks::{CALLERS, Calls};
 use conn_classifier::Plan;
+use histories::Mode;
 use perimeter_core::{Entry, SynchAct};
-use ring_quotas::{CALLERS, Setup};
+use report_lines::push_pair;
+use ring_quotas::Setup;
 use ring_threads::Served;
 use sq_base::Octets;
-use squeue_enter::Mode;
 use squeue_state::{Trace, TraceMark};
 use std::alloc::{AllocError, Global};
 use tcb_machine::Call;
@@ -60,7 +62,7 @@ fn push_setup(text: &mut Vec<u8>, setup: &Setup, verify: bool) -> Result<(), All
 }
 
 /// How many squeues and rings there are.
-#[tactic(auto, using(crate::proofs::Joins::joins))]
+#[tactic(auto, using(report_lines::proofs::Joins::joins))]
 fn push_sizes(text: &mut Vec<u8>, setup: &Setup) -> Result<(), AllocError>
     ensures { OnOk result (text.new.items ≡ text.old.items
         ++ (codes "setup squeues " ++ (decimal setup.now.squeues ++ (codes " rings " ++ decimal setup.now.rings)))) }
@@ -69,7 +71,7 @@ fn push_sizes(text: &mut Vec<u8>, setup: &Setup) -> Result<(), AllocError>
     push_field(text, b" rings ", setup.rings)
 }
 
-#[tactic(auto, using(crate::proofs::Joins::joins))]
+#[tactic(auto, using(report_lines::proofs::Joins::joins))]
 fn push_mode(text: &mut Vec<u8>, mode: Mode) -> Result<(), AllocError>
     ensures { OnOk result (text.new.items ≡ text.old.items ++ (codes " mode " ++ mode_word mode)) }
 {
@@ -78,7 +80,7 @@ fn push_mode(text: &mut Vec<u8>, mode: Mode) -> Result<(), AllocError>
 }
 
 /// The rest of the setup's line.
-#[tactic(auto, using(crate::proofs::Joins::joins))]
+#[tactic(auto, using(report_lines::proofs::Joins::joins))]
 fn push_pace(text: &mut Vec<u8>, setup: &Setup, verify: bool) -> Result<(), AllocError>
     ensures { OnOk result (text.new.items ≡ text.old.items ++ (codes " budget " ++ (decimal setup.now.budget
         ++ (codes " spread " ++ (decimal setup.now.spread ++ (codes " verify " ++ (decimal (if verify then 1 else 0) ++ 10 ∷ []))))))) }
@@ -100,9 +102,9 @@ fn push_calls(text: &mut Vec<u8>, calls: &Calls) -> Result<(), AllocError>
 
 /// The calls of thread `j`.
 fn push_thread(text: &mut Vec<u8>, calls: &Calls, j: u32) -> Result<(), AllocError>
-    requires { j < 4 }
+    requires { j < callers }
     ensures text { OnOk result (text.new.items ≡ text.old.items ++ thread_text (j, calls_of calls.now j)) }
-    ensures threads { length calls.now ≡ 4 }
+    ensures threads { length calls.now ≡ callers }
 {
     for k in 0..calls.len(j) {
         let (c, call) = calls.get(j, k);
@@ -111,7 +113,7 @@ fn push_thread(text: &mut Vec<u8>, calls: &Calls, j: u32) -> Result<(), AllocErr
     Ok(())
 }
 
-#[tactic(auto, using(crate::proofs::Joins::joins), unfolding(crate::specs::TraceText::call_line))]
+#[tactic(auto, using(report_lines::proofs::Joins::joins), unfolding(report_lines::specs::TraceText::call_line))]
 fn push_call(text: &mut Vec<u8>, j: u32, c: u32, call: Call) -> Result<(), AllocError>
     ensures { OnOk result (text.new.items ≡ text.old.items ++ call_line j (c, call)) }
 {
@@ -132,7 +134,7 @@ fn push_squeue(text: &mut Vec<u8>, q: u32, trace: &Trace) -> Result<(), AllocErr
     push_marks(text, trace)
 }
 
-#[tactic(auto, using(crate::proofs::Joins::joins), unfolding(crate::specs::TraceText::squeue_line))]
+#[tactic(auto, using(report_lines::proofs::Joins::joins), unfolding(report_lines::specs::TraceText::squeue_line))]
 fn push_heading(text: &mut Vec<u8>, q: u32, count: u64) -> Result<(), AllocError>
     ensures { OnOk result (text.new.items ≡ text.old.items ++ squeue_line q count) }
 {
@@ -141,7 +143,7 @@ fn push_heading(text: &mut Vec<u8>, q: u32, count: u64) -> Result<(), AllocError
 }
 
 /// A word and a number that end a line.
-#[tactic(auto, using(crate::proofs::Joins::joins))]
+#[tactic(auto, using(report_lines::proofs::Joins::joins))]
 fn push_number(text: &mut Vec<u8>, word: &[u8], n: u64) -> Result<(), AllocError>
     ensures { OnOk result (text.new.items ≡ text.old.items ++ (word.now ++ (decimal n ++ 10 ∷ []))) }
 {
@@ -158,7 +160,7 @@ fn push_marks(text: &mut Vec<u8>, trace: &Trace) -> Result<(), AllocError>
     Ok(())
 }
 
-#[tactic(auto, using(crate::proofs::Joins::joins), unfolding(crate::specs::TraceText::mark_line))]
+#[tactic(auto, using(report_lines::proofs::Joins::joins), unfolding(report_lines::specs::TraceText::mark_line))]
 fn push_mark(text: &mut Vec<u8>, trace: &Trace, mark: TraceMark) -> Result<(), AllocError>
     requires { Within (length trace.now.entries) mark }
     ensures { OnOk result (text.new.items ≡ text.old.items ++ mark_line (mark_of trace.now.entries mark)) }
@@ -206,7 +208,7 @@ fn push_entries(text: &mut Vec<u8>, trace: &Trace, first: u64, len: u64) -> Resu
     text.extend_from_slice(b"\n")
 }
 
-#[tactic(auto, using(crate::proofs::Joins::joins))]
+#[tactic(auto, using(report_lines::proofs::Joins::joins))]
 fn push_entry(text: &mut Vec<u8>, entry: Entry) -> Result<(), AllocError>
     ensures { OnOk result (text.new.items ≡ text.old.items ++ 32 ∷ entered_field entry) }
 {
@@ -217,7 +219,7 @@ fn push_entry(text: &mut Vec<u8>, entry: Entry) -> Result<(), AllocError>
 }
 
 /// The line of an owner that leaves, with what it did.
-#[tactic(auto, using(crate::proofs::Joins::joins), unfolding(crate::specs::TraceText::mark_line))]
+#[tactic(auto, using(report_lines::proofs::Joins::joins), unfolding(report_lines::specs::TraceText::mark_line))]
 fn push_leave(text: &mut Vec<u8>, p: u32, rest: u64, act: SynchAct) -> Result<(), AllocError>
     ensures { OnOk result (text.new.items ≡ text.old.items ++ mark_line (On.Leave p rest act)) }
 {
@@ -227,7 +229,7 @@ fn push_leave(text: &mut Vec<u8>, p: u32, rest: u64, act: SynchAct) -> Result<()
 }
 
 /// The rest of such a line: what the owner did.
-#[tactic(auto, using(crate::proofs::Joins::joins))]
+#[tactic(auto, using(report_lines::proofs::Joins::joins))]
 fn push_act(text: &mut Vec<u8>, act: SynchAct) -> Result<(), AllocError>
     ensures { OnOk result (text.new.items ≡ text.old.items ++ line_end (act_fields act)) }
 {

@@ -10,7 +10,7 @@ use Rattle.perimeter_core.specs.History.{Element, Limits, made_by, run}
 use Rattle.perimeter_core.specs.Legal.{Legal}
 use Rattle.squeue_state.proofs.Makers.{only_made}
 use Rattle.squeue_state.specs.Naming.{Named, setting_of}
-use Rattle.squeue_state.specs.Elements.{left_by_pass, number_of}
+use Rattle.histories.specs.Elements.{left_by_pass, number_of}
 use Rattle.synch_enter.specs.Synch.{IsWay}
 use Rattle.conn_migrate.specs.Moving.{Moved}
 use Rattle.squeue_rings.specs.Made.{times_made}

@@ -5,7 +5,7 @@ use Rattle.turn_gate.specs.History.{Each}
 use Rattle.perimeter_core.specs.declared.entries.Feed.{Feed as FeedOf}
 use Rattle.perimeter_core.specs.Deeds.{entries, feeds_of}
 use Rattle.perimeter_core.specs.Backlog.{up}
-use Rattle.squeue_rings.specs.Runs.{InOrder, brought, count}
+use Rattle.histories.specs.Runs.{InOrder, brought, count}
 
 pub feeds_more : (c : ℕ) (xs ys : List FeedOf) → feeds_of c (entries (xs ++ ys)) ≡ feeds_of c (entries xs) ++ feeds_of c (entries ys)
 feeds_more c [] ys = refl

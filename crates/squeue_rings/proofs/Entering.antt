@@ -10,10 +10,10 @@ use Rattle.perimeter_core.specs.History.{Element, Limits, Setting, feed_quota, r
 use Rattle.perimeter_core.specs.Deeds.{due, entries}
 use Rattle.perimeter_core.specs.Legal.{Enters, asks_by, feeds_by, one_more}
 use Rattle.squeue_state.specs.Naming.{Named, setting_of}
-use Rattle.squeue_state.specs.Elements.{number_of}
+use Rattle.histories.specs.Elements.{number_of}
 use Rattle.squeue_enter.specs.Entering.{Brought, MayEnter}
-use Rattle.placed_parts.specs.Homes.{home}
-use Rattle.squeue_rings.specs.Runs.{InOrder, brought, comes, count, home_of, is_at, is_left_by, leaves, moves, place}
+use Rattle.histories.specs.Homes.{home}
+use Rattle.histories.specs.Runs.{InOrder, brought, comes, count, home_of, is_at, is_left_by, leaves, moves, place}
 use Rattle.squeue_rings.specs.Rings.{MayBring, RingAt}
 use Rattle.squeue_rings.proofs.Counting.{brought_more, count_all, count_more, count_none, each_as, each_behind, each_front, number_below, number_is, other_more, own_more}
 use Rattle.squeue_rings.proofs.Standing.{no_come, no_leave, not_left, place_before, place_kept, place_own, same_home}

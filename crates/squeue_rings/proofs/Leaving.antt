@@ -5,8 +5,8 @@ use Rattle.std.proofs.lemmas.List.{append-nil}
 use Rattle.std.proofs.lemmas.Nat.{div-add-mod'}
 use Rattle.std.proofs.Math.Nat.{mod-add-mod, mod-lt, zero-div}
 use Rattle.perimeter_core.specs.declared.entries.Feed.{Feed as FeedOf}
-use Rattle.placed_parts.specs.Homes.{home}
-use Rattle.squeue_rings.specs.Runs.{InOrder, brought, count, home_before, home_of, is_left_by, leaves, moves}
+use Rattle.histories.specs.Homes.{home}
+use Rattle.histories.specs.Runs.{InOrder, brought, count, home_before, home_of, is_left_by, leaves, moves}
 use Rattle.squeue_rings.proofs.Counting.{count_one, number_is, other_more, own_more}
 use Rattle.squeue_rings.proofs.Standing.{not_left, other_home, same_home}
 use Rattle.squeue_rings.proofs.Visits.{elsewhere, visits, visits_are}

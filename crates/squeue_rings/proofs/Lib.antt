@@ -6,7 +6,6 @@ pub mod Slots
 pub mod Linking
 pub mod Visits
 pub mod Leaving
-pub mod StaysSeen
 pub mod RingStays
 pub mod Noting
 pub mod WorkedNotes

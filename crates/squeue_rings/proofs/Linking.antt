@@ -4,7 +4,7 @@ use Rattle.std.proofs.Common.{◌≡◌, ◌≢◌, ℕ, zero, suc, ◌+◌, ◌
 use Rattle.std.proofs.lemmas.Bool.{cases_eq, cases_lt}
 use Rattle.std.proofs.lemmas.Nat.{div-add-mod', div-mul-add, mod-mul-add}
 use Rattle.std.proofs.Math.Nat.{mod-lt, add-div_right, add-mod_right, div-eq_of_lt, mul-add-mod_self_right, zero-div}
-use Rattle.squeue_serve.proofs.Lent.{some_at, get_front}
+use Rattle.histories.proofs.ListPlaces.{some_at, get_front}
 use Rattle.squeue_rings.proofs.Slots.{within}
 use Rattle.placed_parts.proofs.PlaceSteps.{get_seam}
 

@@ -12,7 +12,7 @@ use Rattle.perimeter_core.specs.Deeds.{due, times_left}
 use Rattle.perimeter_core.specs.Legal.{asks_by, feeds_by}
 use Rattle.squeue_state.specs.Naming.{Named, setting_of}
 use Rattle.conn_migrate.specs.Moving.{Moved, RingLearns}
-use Rattle.squeue_rings.specs.Runs.{brought, comes, count, home_before, home_of, is_left_by, leaves, moves, place}
+use Rattle.histories.specs.Runs.{brought, comes, count, home_before, home_of, is_left_by, leaves, moves, place}
 use Rattle.squeue_rings.specs.Rings.{RingAt}
 use Rattle.squeue_rings.proofs.Counting.{count_one}
 use Rattle.squeue_rings.proofs.Standing.{no_come, no_leave, not_left, other_home, place_before, place_kept, place_other, place_own}

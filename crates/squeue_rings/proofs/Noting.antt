@@ -9,18 +9,20 @@ use Rattle.perimeter_core.specs.declared.entries.Feed.{Feed as FeedOf}
 use Rattle.perimeter_core.specs.Perimeter.{is_here}
 use Rattle.perimeter_core.specs.History.{Element, Limits, run, start}
 use Rattle.perimeter_core.specs.Deeds.{acts, fed, times_left}
-use Rattle.squeue_state.specs.Naming.{Ending, Named, setting_of}
-use Rattle.conn_migrate.specs.Stays.{Stay, Stays, all_in, stays_at}
+use Rattle.squeue_state.specs.Naming.{Named, setting_of}
+use Rattle.histories.specs.Endings.{Ending}
+use Rattle.histories.specs.Stays.{Stay, Stays, all_in, stays_at}
 use Rattle.squeue_rings.specs.Bringing.{HasMoved}
-use Rattle.squeue_rings.specs.Noted.{AreNoted}
-use Rattle.squeue_rings.specs.Runs.{moves}
+use Rattle.histories.specs.Noted.{AreNoted}
+use Rattle.histories.specs.Runs.{moves}
 use Rattle.squeue_rings.specs.Seen.{seen_ends}
 use Rattle.squeue_rings.proofs.Leaving.{Turns, home_is, turns}
 use Rattle.squeue_rings.proofs.Linking.{front_or_last, one_number}
-use Rattle.squeue_rings.proofs.RingStays.{N, at_place, ends_length, first_stays, from_map, had, ho, legal_before, long_new, note_more, notes_at, notes_kept, was_b}
-use Rattle.squeue_rings.proofs.Slots.{got_map, within}
+use Rattle.squeue_rings.proofs.RingStays.{N, at_place, ends_length, first_stays, had, ho, legal_before, long_new, note_more, notes_at, notes_kept, was_b}
+use Rattle.histories.proofs.ListPlaces.{from_map, got_map}
+use Rattle.squeue_rings.proofs.Slots.{within}
 use Rattle.squeue_rings.proofs.Standing.{other_home}
-use Rattle.squeue_rings.proofs.StaysSeen.{AreAlike, all_over_away, ended_count, notes}
+use Rattle.histories.proofs.StaysSeen.{AreAlike, all_over_away, ended_count, notes}
 
 -- A row of lists, one list for each of n places, whose number s is what stands at place (c + s) mod n in its round s div n
 module _ {A : Type 0} (n c : ℕ) (P : ℕ → A → Type 0) where

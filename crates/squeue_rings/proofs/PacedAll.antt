@@ -9,12 +9,12 @@ use Rattle.perimeter_core.specs.declared.marks.SynchAct.TheVariants as Done
 use Rattle.perimeter_core.specs.History.{Element, Limits}
 use Rattle.perimeter_core.specs.Deeds.{acts}
 use Rattle.squeue_state.specs.Naming.{Named, setting_of}
-use Rattle.squeue_enter.specs.declared.Mode.{Mode}
+use Rattle.histories.specs.declared.mode.Mode.{Mode}
 use Rattle.squeue_serve.specs.Places.{AtEach, AtEachTwo, Became, HasClosed, Holds, IsNew}
 use Rattle.squeue_rings.specs.Bringing.{AreAt, HasBrought, HasMoved}
-use Rattle.squeue_rings.specs.Keeping.{ArePaced, IsPaced}
+use Rattle.squeue_rings.specs.Paced.{ArePaced, IsPaced}
 use Rattle.squeue_rings.specs.Rings.{RingAt}
-use Rattle.squeue_rings.specs.Runs.{home_before, home_of, run_of}
+use Rattle.histories.specs.Runs.{home_before, home_of, run_of}
 use Rattle.squeue_rings.proofs.Counting.{each_as}
 use Rattle.squeue_rings.proofs.PacedPasses.{close_paced, entry_paced, move_paced}
 use Rattle.squeue_rings.proofs.Reaching.{held, hold}

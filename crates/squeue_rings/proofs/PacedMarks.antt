@@ -18,17 +18,18 @@ use Rattle.perimeter_core.specs.Deeds.{done, entries, entries_of}
 use Rattle.perimeter_core.specs.Legal.{Legal, feed_count}
 use Rattle.perimeter_core.proofs.OneMore.{legal_front, run_push}
 use Rattle.perimeter_core.proofs.Since.{known_since}
-use Rattle.squeue_state.specs.Elements.{claimed_by, fast_by, filled_by, left_by_pass, taken_by}
+use Rattle.histories.specs.Elements.{claimed_by, fast_by, filled_by, left_by_pass, taken_by}
 use Rattle.squeue_state.proofs.Makers.{made-append}
 use Rattle.squeue_drain.specs.Draining.{Ends, is_leave, plain}
-use Rattle.squeue_drain.proofs.OwnersFacts.{done_more, done_still}
-use Rattle.squeue_enter.specs.declared.Mode.{Mode}
-use Rattle.squeue_enter.specs.declared.Mode.TheVariants as Mode'
+use Rattle.histories.proofs.OwnersFacts.{done_more, done_still}
+use Rattle.histories.specs.declared.mode.Mode.{Mode}
+use Rattle.histories.specs.declared.mode.Mode.TheVariants as Mode'
 use Rattle.squeue_enter.specs.Entering.{DrainsFrom, LeavesFrom}
 use Rattle.squeue_enter.specs.Ways.{is_one, way_of}
-use Rattle.squeue_enter.proofs.Carrying.{only_feeds}
-use Rattle.placed_parts.specs.Homes.{home}
-use Rattle.squeue_rings.specs.Keeping.{AreHome, OfRing, claims_feeds, fills, fills_one, is_fast, leaves_it, taken, taken_after}
+use Rattle.histories.proofs.Counts.{only_feeds}
+use Rattle.histories.specs.Homes.{home}
+use Rattle.histories.specs.Keeping.{AreHome, claims_feeds, fills, fills_one, is_fast, leaves_it, taken, taken_after}
+use Rattle.squeue_rings.specs.Paced.{OfRing}
 use Rattle.squeue_rings.specs.OwnMarks.{GoesByTable, has_one, moves_block}
 use Rattle.squeue_rings.proofs.OwnMarks.{own_made}
 use Rattle.squeue_rings.proofs.Pacing.{IsRight, Paces, paces_all, paces_join, paces_one, paces_others}

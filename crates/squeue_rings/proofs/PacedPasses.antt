@@ -16,11 +16,11 @@ use Rattle.perimeter_core.specs.History.{Element, Limits, Setting, made_by, pass
 use Rattle.perimeter_core.specs.Deeds.{done, done_by, entries}
 use Rattle.perimeter_core.specs.Legal.{Legal, feed_count}
 use Rattle.squeue_state.specs.Naming.{Named, setting_of}
-use Rattle.squeue_state.specs.Elements.{claimed_by, closed_by, fast_by, filled_by, left_by_pass, number_of}
+use Rattle.histories.specs.Elements.{claimed_by, closed_by, fast_by, filled_by, left_by_pass, number_of}
 use Rattle.squeue_state.proofs.Makers.{made-append, only_made, others_made}
-use Rattle.squeue_drain.proofs.OwnersFacts.{done_more}
-use Rattle.squeue_enter.specs.declared.Mode.{Mode}
-use Rattle.squeue_enter.specs.declared.Mode.TheVariants as Mode'
+use Rattle.histories.proofs.OwnersFacts.{done_more}
+use Rattle.histories.specs.declared.mode.Mode.{Mode}
+use Rattle.histories.specs.declared.mode.Mode.TheVariants as Mode'
 use Rattle.squeue_enter.specs.declared.entering.Entered.{Entered}
 use Rattle.squeue_enter.specs.declared.entering.How.{How}
 use Rattle.squeue_enter.specs.Entering.{DrainsFrom, HasEntered, LeavesFrom, Went}
@@ -28,9 +28,10 @@ use Rattle.squeue_enter.specs.Ways.{is_one, way_of}
 use Rattle.synch_enter.specs.Synch.{IsWay}
 use Rattle.conn_migrate.specs.Moving.{Moved}
 use Rattle.squeue_serve.specs.Places.{HasClosed}
-use Rattle.squeue_rings.specs.Keeping.{AreHome, IsPaced}
+use Rattle.histories.specs.Keeping.{AreHome}
+use Rattle.squeue_rings.specs.Paced.{IsPaced}
 use Rattle.squeue_rings.specs.OwnMarks.{has_one, moves_block}
-use Rattle.squeue_rings.specs.Runs.{home_of}
+use Rattle.histories.specs.Runs.{home_of}
 use Rattle.squeue_rings.proofs.OwnMarks.{own_made}
 use Rattle.squeue_rings.proofs.Pacing.{Paces, paced, paces, paces_join, paces_others}
 use Rattle.squeue_rings.proofs.PacedMarks.{EntersNoFeed, paces_alone, paces_claim, paces_drain, paces_fast, paces_fill, paces_plain}

@@ -1,31 +1,26 @@
 -- What a ring's marks keep, over the parts of a history.
-use Rattle.std.proofs.Common.{◌≡◌, ◌≢◌, ℕ, ◌==◌, Bool, if◌then◌else◌, inl, inr, Option, None, List, [], ◌∷◌, ◌++◌, refl, ap, sym, ◌∙◌, subst, append_assoc}
+use Rattle.std.proofs.Common.{◌≡◌, ◌≢◌, ℕ, Bool, if◌then◌else◌, inl, inr, Option, None, List, [], ◌∷◌, ◌++◌, refl, ap, sym, ◌∙◌, subst, append_assoc}
 use Rattle.std.proofs.lemmas.Bool.{cases_eq, eq-eqb, ne_eqb}
 use Rattle.std.proofs.lemmas.List.{append-nil}
 use Rattle.turn_gate.specs.History.{Each}
 use Rattle.perimeter_core.specs.History.{Element, Setting, pass_of, made_by}
-use Rattle.squeue_enter.specs.declared.Mode.{Mode}
-use Rattle.squeue_rings.specs.Keeping.{IsPaced, Keeps, KeepsFrom, KeepsPace, OfRing, taken, taken_after, taken_from}
+use Rattle.histories.specs.declared.mode.Mode.{Mode}
+use Rattle.squeue_rings.specs.Paced.{IsPaced, OfRing}
+use Rattle.histories.specs.Keeping.{Keeps, KeepsFrom, KeepsPace, taken, taken_after}
 use Rattle.squeue_rings.specs.OwnMarks.{EachOwn}
 use Rattle.squeue_rings.proofs.OwnMarks.{other_made, own_join, own_made}
+use Rattle.histories.proofs.Keeping.{taken_join}
 
 module _ (S : Setting) (r : ℕ) where
-  -- whether the ring has taken the perimeter with feeds, over two parts
-  pub taken_join : (past : List Element) (o : Option ℕ) (H K : List Element) → taken_from S r past o (H ++ K) ≡ taken_from S r (past ++ H) (taken_from S r past o H) K
-  taken_join past o [] K = ap (λ (P : List Element). taken_from S r P o K) (sym (append-nil past))
-  taken_join past o (e ∷ H) K =
-      let next : Option ℕ = if pass_of e.mark == r then taken_after S past o e.mark else o in
-      taken_join (past ++ e ∷ []) next H K ∙ ap (λ (P : List Element). taken_from S r P (taken_from S r (past ++ e ∷ []) next H) K) (append_assoc past (e ∷ []) H)
-
   taken_own : (past : List Element) (o : Option ℕ) (e : Element) → pass_of e.mark ≡ r → taken S r past ≡ o → taken S r (past ++ e ∷ []) ≡ taken_after S past o e.mark
   taken_own past o e own is =
-      taken_join [] None past (e ∷ [])
+      taken_join S r [] None past (e ∷ [])
       ∙ (ap (λ (b : Bool). if b then taken_after S past (taken S r past) e.mark else taken S r past) (eq-eqb (pass_of e.mark) r own)
       ∙ ap (λ (t : Option ℕ). taken_after S past t e.mark) is)
 
   taken_other : (past : List Element) (o : Option ℕ) (e : Element) → pass_of e.mark ≢ r → taken S r past ≡ o → taken S r (past ++ e ∷ []) ≡ o
   taken_other past o e other is =
-      taken_join [] None past (e ∷ [])
+      taken_join S r [] None past (e ∷ [])
       ∙ (ap (λ (b : Bool). if b then taken_after S past (taken S r past) e.mark else taken S r past) (ne_eqb (pass_of e.mark) r other) ∙ is)
 
 module _ (squeues spread : ℕ) (mode : Mode) (budget q : ℕ) (S : Setting) (r : ℕ) where

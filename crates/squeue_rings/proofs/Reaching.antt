@@ -13,14 +13,14 @@ use Rattle.perimeter_core.specs.Legal.{asks_by}
 use Rattle.squeue_state.specs.Naming.{Named, setting_of}
 use Rattle.synch_enter.specs.Synch.{MayAsk}
 use Rattle.conn_migrate.specs.Moving.{MayCome, MayLeave}
-use Rattle.conn_migrate.specs.Stays.{IsLinked}
+use Rattle.histories.specs.Stays.{IsLinked}
 use Rattle.conn_migrate.proofs.NextFeeds.{fed_is_due}
 use Rattle.squeue_serve.specs.Places.{Holds}
 use Rattle.squeue_serve.proofs.Unused.{each_at}
-use Rattle.squeue_rings.specs.Runs.{brought, comes, count, home_before, home_of, is_left_by, leaves, moves, place}
+use Rattle.histories.specs.Runs.{brought, comes, count, home_before, home_of, is_left_by, leaves, moves, place}
 use Rattle.squeue_rings.specs.Rings.{AreNumbered, MayBring, RingAt}
 use Rattle.squeue_rings.specs.Bringing.{AreAt, HasMoved, IsReady}
-use Rattle.squeue_rings.specs.Noted.{AreNoted}
+use Rattle.histories.specs.Noted.{AreNoted}
 use Rattle.squeue_rings.specs.Seen.{seen_ends}
 use Rattle.squeue_rings.proofs.Counting.{count_more, each_behind, number_is}
 use Rattle.squeue_rings.proofs.Standing.{other_home, place_before}
@@ -29,7 +29,7 @@ use Rattle.squeue_rings.proofs.Leaving.{gone_round}
 use Rattle.squeue_rings.proofs.Noting.{noted_kept, noted_own}
 use Rattle.squeue_rings.proofs.RingStays.{alike_others, at_place, linked_kept, linked_own}
 use Rattle.squeue_rings.proofs.Slots.{at_got, at_length, at_made, within}
-use Rattle.squeue_rings.proofs.StaysSeen.{AreAlike}
+use Rattle.histories.proofs.StaysSeen.{AreAlike}
 
 pub held : (P : Pass Element → Type 0) (o : Option (Pass Element)) → Holds P o → (x : Pass Element) × (o ≡ Some x) × P x
 held P None h = absurd h

@@ -1,5 +1,5 @@
 -- The stays of a ring's connections stay linked, by what its passes have seen.
-use Rattle.std.proofs.Common.{◌≡◌, ◌≢◌, ℕ, zero, suc, ◌+◌, ◌/◌, ◌%◌, ◌<◌, ◌==◌, inl, inr, Bool, true, false, if◌then◌else◌, Option, Some, None, List, [], ◌∷◌, ◌++◌, length, map, slice_get, refl, ap, sym, ◌∙◌, subst, append_assoc, arith}
+use Rattle.std.proofs.Common.{◌≡◌, ◌≢◌, ℕ, zero, suc, ◌+◌, ◌/◌, ◌%◌, ◌<◌, ◌==◌, inl, inr, Bool, true, false, if◌then◌else◌, Option, Some, None, List, [], ◌∷◌, ◌++◌, length, slice_get, refl, ap, sym, ◌∙◌, subst, append_assoc, arith}
 use Rattle.std.proofs.lemmas.Bool.{cases_eq, eqb-true}
 use Rattle.turn_gate.specs.Passes.{number, seen}
 use Rattle.turn_gate.specs.declared.pass.Pass.{Pass}
@@ -12,24 +12,21 @@ use Rattle.perimeter_core.specs.History.{Element, Limits, run, start}
 use Rattle.perimeter_core.specs.Deeds.{acts, times_left}
 use Rattle.perimeter_core.specs.Legal.{Legal}
 use Rattle.perimeter_core.proofs.OneMore.{legal_front}
-use Rattle.squeue_state.specs.Naming.{Ending, Named, setting_of}
-use Rattle.squeue_state.specs.Elements.{left_by_pass}
+use Rattle.squeue_state.specs.Naming.{Named, setting_of}
+use Rattle.histories.specs.Endings.{Ending}
+use Rattle.histories.specs.Elements.{left_by_pass}
 use Rattle.squeue_drain.specs.Draining.{GoesOn}
 use Rattle.conn_migrate.specs.Moving.{IsKept, Moved}
-use Rattle.conn_migrate.specs.Stays.{IsLinked, Stay, Stays, all_in, begun, stays, stays_at, stays_in}
-use Rattle.squeue_rings.specs.Runs.{home_before, home_of, moves}
+use Rattle.histories.specs.Stays.{IsLinked, Stay, Stays, all_in, begun, stays, stays_at, stays_in}
+use Rattle.histories.specs.Runs.{home_before, home_of, moves}
 use Rattle.squeue_rings.specs.Bringing.{HasMoved}
 use Rattle.squeue_rings.specs.Seen.{seen_ends, seen_in}
 use Rattle.squeue_rings.proofs.Leaving.{next_home}
 use Rattle.squeue_rings.proofs.Linking.{Joins, joins_first, joins_kept, joins_more}
-use Rattle.squeue_rings.proofs.Slots.{got_map, within}
+use Rattle.squeue_rings.proofs.Slots.{within}
+use Rattle.histories.proofs.ListPlaces.{got_map, from_map}
 use Rattle.squeue_rings.proofs.Standing.{other_home}
-use Rattle.squeue_rings.proofs.StaysSeen.{AreAlike, HasBegun, HasEnded, fewer_ended, goes_on_here, hads, notes, one_in, one_out, stays_kept}
-
-pub from_map : {A B : Type 0} (f : A → B) (xs : List A) (k : ℕ) (y : B) → slice_get (map f xs) k ≡ Some y → (x : A) × (slice_get xs k ≡ Some x) × (f x ≡ y)
-from_map f [] k y is = cc is
-from_map f (x ∷ xs) zero y is = (x, refl, cc is)
-from_map f (x ∷ xs) (suc k) y is = from_map f xs k y is
+use Rattle.histories.proofs.StaysSeen.{AreAlike, HasBegun, HasEnded, fewer_ended, goes_on_here, hads, notes, one_in, one_out, stays_kept}
 
 -- the stays are linked where each note is what the stay before it had
 module _ (hs : List Ending) (c : ℕ) where

@@ -8,20 +8,20 @@ use Rattle.perimeter_core.specs.declared.entries.Feed.{Feed as FeedOf}
 use Rattle.perimeter_core.specs.Perimeter.{Idle}
 use Rattle.perimeter_core.specs.History.{Element, Limits, run}
 use Rattle.squeue_state.specs.Naming.{Named, setting_of}
-use Rattle.squeue_state.specs.Elements.{number_of}
+use Rattle.histories.specs.Elements.{number_of}
 use Rattle.squeue_drain.specs.Draining.{GoesOn}
-use Rattle.squeue_enter.specs.declared.Mode.{Mode}
+use Rattle.histories.specs.declared.mode.Mode.{Mode}
 use Rattle.squeue_enter.specs.Entering.{Brought, MayEnter}
 use Rattle.squeue_serve.specs.Places.{Became, Holds}
 use Rattle.squeue_serve.proofs.Unused.{each_at}
-use Rattle.squeue_rings.specs.Runs.{home_of, moves, run_of}
+use Rattle.histories.specs.Runs.{home_of, moves, run_of}
 use Rattle.squeue_rings.specs.Rings.{AreNumbered, MayBring, RingAt}
 use Rattle.squeue_rings.specs.Bringing.{AreAt, HasBrought, IsFar, IsReady}
 use Rattle.squeue_rings.proofs.Entering.{Stay, may_enter_run, run_elsewhere, run_entered}
 use Rattle.squeue_rings.proofs.Reaching.{held, hold}
 use Rattle.squeue_rings.proofs.Noting.{noted_kept}
 use Rattle.squeue_rings.proofs.RingStays.{alike_entered, alike_kept, at_place, linked_kept}
-use Rattle.squeue_rings.proofs.StaysSeen.{AreAlike}
+use Rattle.histories.proofs.StaysSeen.{AreAlike}
 use Rattle.squeue_rings.proofs.Slots.{all_taken, at_got, at_length, at_made, take_next, three_parts}
 
 pub cut : {A : Type 0} (n : ℕ) (xs : List A) → xs ≡ take n xs ++ drop n xs

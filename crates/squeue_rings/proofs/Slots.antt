@@ -1,5 +1,5 @@
 -- Places of a list, read and written.
-use Rattle.std.proofs.Common.{◌≡◌, ◌≢◌, ℕ, zero, suc, ◌+◌, ◌-◌, ◌<◌, ◌≤◌, ◌==◌, ◌++◌, Bool, true, Option, Some, List, [], ◌∷◌, length, drop, map, take, slice_get, slice_index_or, slice_set, refl, ap, sym, ◌∙◌, subst, arith}
+use Rattle.std.proofs.Common.{◌≡◌, ◌≢◌, ℕ, zero, suc, ◌+◌, ◌-◌, ◌<◌, ◌≤◌, ◌==◌, ◌++◌, Bool, true, Option, Some, List, [], ◌∷◌, length, drop, take, slice_get, slice_index_or, slice_set, refl, ap, sym, ◌∙◌, subst, arith}
 use Rattle.std.proofs.lemmas.Bool.{eqb-true}
 use Rattle.squeue_state.specs.Naming.{Named}
 use Rattle.squeue_serve.specs.Places.{AtEach}
@@ -109,13 +109,3 @@ all_taken (suc n) (x ∷ xs) e = ap (λ l. x ∷ l) (all_taken n xs (omega (arit
 -- a part of a list by its ends is the next k behind the first n
 pub part_is : {A : Type 0} (xs : List A) (from n k : ℕ) → from ≡ n → take (from + k - from) (drop from xs) ≡ take k (drop n xs)
 part_is xs from n k e = let c : from + k - from ≡ k = omega arith in ap (λ (m : ℕ). take m (drop from xs)) c ∙ ap (λ (m : ℕ). take k (drop m xs)) e
-
-pub got_map : {A B : Type 0} (f : A → B) (xs : List A) (k : ℕ) (x : A) → slice_get xs k ≡ Some x → slice_get (map f xs) k ≡ Some (f x)
-got_map f [] k x is = cc is
-got_map f (y ∷ xs) zero x is = let e : y ≡ x = cc is in ap (λ z. Some (f z)) e
-got_map f (y ∷ xs) (suc k) x is = got_map f xs k x is
-
-pub take_one : {A : Type 0} (xs : List A) (k : ℕ) (x : A) → slice_get xs k ≡ Some x → take (k + 1) xs ≡ take k xs ++ x ∷ []
-take_one [] k x is = cc is
-take_one (y ∷ xs) zero x is = let e : y ≡ x = cc is in ap (λ z. z ∷ []) e
-take_one (y ∷ xs) (suc k) x is = let e : suc k + 1 ≡ suc (k + 1) = omega arith in ap (λ (m : ℕ). take m (y ∷ xs)) e ∙ ap (λ l. y ∷ l) (take_one xs k x is)

@@ -3,8 +3,8 @@ use Rattle.std.proofs.Common.{◌≡◌, ◌≢◌, ℕ, ◌-◌, ◌==◌, ◌&
 use Rattle.std.proofs.lemmas.Bool.{cases_eq}
 use Rattle.std.proofs.lemmas.Bool.Decides.{nat_tests}
 use Rattle.perimeter_core.specs.declared.entries.Feed.{Feed as FeedOf}
-use Rattle.placed_parts.specs.Homes.{home}
-use Rattle.squeue_rings.specs.Runs.{brought, comes, home_before, home_of, is_left_by, leaves, moves, place}
+use Rattle.histories.specs.Homes.{home}
+use Rattle.histories.specs.Runs.{brought, comes, home_before, home_of, is_left_by, leaves, moves, place}
 use Rattle.squeue_rings.proofs.Counting.{other_more, own_more}
 
 module _ (squeues spread : ℕ) where

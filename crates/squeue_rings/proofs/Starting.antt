@@ -10,9 +10,9 @@ use Rattle.perimeter_core.specs.Deeds.{due, times_left}
 use Rattle.perimeter_core.specs.Legal.{asks_by, feeds_by}
 use Rattle.squeue_state.specs.Naming.{Named, setting_of}
 use Rattle.squeue_serve.specs.Places.{AtEach, Holds, IsNew}
-use Rattle.squeue_serve.proofs.Lent.{some_at}
+use Rattle.histories.proofs.ListPlaces.{some_at}
 use Rattle.squeue_serve.proofs.Unused.{start_idle, each_at}
-use Rattle.placed_parts.specs.Homes.{home}
+use Rattle.histories.specs.Homes.{home}
 use Rattle.squeue_rings.specs.Rings.{AreNumbered, RingAt}
 use Rattle.squeue_rings.specs.Starts.{StartAtHome}
 use Rattle.squeue_rings.specs.Bringing.{AreAt}

@@ -16,12 +16,12 @@ use Rattle.perimeter_core.specs.Deeds.{entries_of, times_left}
 use Rattle.perimeter_core.specs.Legal.{Legal}
 use Rattle.perimeter_core.proofs.Since.{known_since}
 use Rattle.squeue_state.specs.Naming.{Named, setting_of}
-use Rattle.squeue_state.specs.Elements.{left_by_pass, number_of}
+use Rattle.histories.specs.Elements.{left_by_pass, number_of}
 use Rattle.squeue_state.proofs.Makers.{made-append, only_made, others_made}
 use Rattle.squeue_drain.proofs.Deciding.{begins_trans}
 use Rattle.synch_enter.specs.Synch.{IsWay, NotFound}
 use Rattle.conn_migrate.specs.Moving.{Moved}
-use Rattle.squeue_enter.proofs.Bringing.{left_append}
+use Rattle.histories.proofs.Counts.{left_append}
 use Rattle.squeue_rings.specs.Calling.{WasGone}
 use Rattle.squeue_rings.specs.OwnMarks.{EachOwn, OfThread, asks, behind_call, next_call, next_call_from, since_ask, since_ask_from}
 use Rattle.squeue_rings.proofs.OwnMarks.{other_made, own_all, own_join, own_made, own_on}

@@ -13,7 +13,7 @@ use Rattle.perimeter_core.proofs.LeavesFew.{leaves_few}
 use Rattle.perimeter_core.proofs.OwnCounts.{own_counts}
 use Rattle.squeue_state.proofs.Makers.{only_made}
 use Rattle.squeue_state.specs.Naming.{Named, setting_of}
-use Rattle.squeue_state.specs.Elements.{left_by_pass, number_of}
+use Rattle.histories.specs.Elements.{left_by_pass, number_of}
 use Rattle.squeue_state.specs.Clauses.{Added}
 use Rattle.squeue_drain.specs.declared.owner.Owner.{Owner}
 use Rattle.squeue_drain.specs.Draining.{GoesOn}
@@ -25,7 +25,7 @@ use Rattle.synch_enter.proofs.Knowing.{gone_with_nothing}
 use Rattle.conn_migrate.specs.Moving.{Moved}
 use Rattle.conn_migrate.proofs.OwnMarks.{asks_away, asks_called}
 use Rattle.squeue_rings.specs.Calling.{CallerAt, HasTried, MayMake, MayTry, TriesAt, asks_for, is_done}
-use Rattle.squeue_enter.proofs.Bringing.{left_append}
+use Rattle.histories.proofs.Counts.{left_append}
 use Rattle.squeue_rings.proofs.ThreadMarks.{away_kept, call_exact, gone_exact, none_exact}
 
 module _ {R P O : Type 0} (G : Ghosts R P O) (s : Named R) (c j k : ℕ) (from : Pass Element) (o : Owner R) (try : MayTry G.limits s c j k from) (at : StandsAtItsAsk G s [] o × (o.act ≡ Done.None)) (came : CameFor G.limits s c from o.pass) where

@@ -3,9 +3,9 @@ use Rattle.std.proofs.Common.{◌≡◌, ℕ, zero, suc, ◌+◌, ◌*◌, ◌/�
 use Rattle.std.proofs.lemmas.Nat.{div-add-mod'}
 use Rattle.std.proofs.Math.Nat.{mod-lt}
 use Rattle.perimeter_core.specs.Deeds.{fed}
-use Rattle.conn_migrate.specs.Stays.{Stay, all_in, stay, stays_in}
+use Rattle.histories.specs.Stays.{Stay, all_in, stay, stays_in}
 use Rattle.conn_migrate.specs.Worked.{there_and_back}
-use Rattle.squeue_rings.specs.Noted.{AreNoted}
+use Rattle.histories.specs.Noted.{AreNoted}
 
 -- stay d of the connection at squeue m
 abbrev fed_before : ℕ → ℕ → ℕ → Stay → Type 0

@@ -8,15 +8,15 @@ use Rattle.perimeter_core.specs.declared.marks.SynchAct.TheVariants as Done
 use Rattle.perimeter_core.specs.History.{Element, Limits}
 use Rattle.perimeter_core.specs.Deeds.{acts, due}
 use Rattle.squeue_state.specs.Naming.{Named, setting_of}
-use Rattle.squeue_enter.specs.declared.Mode.{Mode}
+use Rattle.histories.specs.declared.mode.Mode.{Mode}
 use Rattle.squeue_enter.specs.declared.entering.Entered.{Entered}
 use Rattle.squeue_state.specs.AllRoom.{HasAllRoom}
 use Rattle.squeue_enter.specs.Entering.{Brought, HasEntered}
 use Rattle.conn_migrate.specs.Moving.{Moved, RingLearns}
-use Rattle.conn_migrate.specs.Stays.{IsLinked}
+use Rattle.histories.specs.Stays.{IsLinked}
 use Rattle.squeue_serve.specs.Places.{AtEach, Holds}
-use Rattle.squeue_rings.specs.Runs.{InOrder, home_before, home_of}
-use Rattle.squeue_rings.specs.Noted.{AreNoted}
+use Rattle.histories.specs.Runs.{InOrder, home_before, home_of}
+use Rattle.histories.specs.Noted.{AreNoted}
 use Rattle.squeue_rings.specs.Rings.{AreNumbered, MayBring, RingAt}
 use Rattle.squeue_rings.specs.Seen.{seen_ends}
 

@@ -8,7 +8,7 @@ use Rattle.perimeter_core.specs.History.{Element, Limits, ask_quota, run}
 use Rattle.perimeter_core.specs.Deeds.{times_left}
 use Rattle.perimeter_core.specs.Legal.{Legal, asks_by}
 use Rattle.squeue_state.specs.Naming.{Named, setting_of}
-use Rattle.squeue_state.specs.Elements.{number_of}
+use Rattle.histories.specs.Elements.{number_of}
 use Rattle.synch_enter.specs.declared.acts.Called.{Called}
 use Rattle.synch_enter.specs.declared.acts.Called.TheVariants as Called'
 use Rattle.synch_enter.specs.Synch.{MayAsk, NotFound}

@@ -1,10 +1,8 @@
 pub mod Seen
 pub mod Made
 pub mod Starts
-pub mod Runs
 pub mod OwnMarks
-pub mod Keeping
-pub mod Noted
+pub mod Paced
 pub mod Rings
 pub mod Bringing
 pub mod Calling

@@ -9,8 +9,8 @@ use Rattle.perimeter_core.specs.History.{Element, Setting, pass_of, run}
 use Rattle.perimeter_core.specs.Deeds.{entries_of, times_left}
 use Rattle.perimeter_core.specs.Legal.{all_feeds}
 use Rattle.squeue_drain.specs.Draining.{LeavesNothing}
-use Rattle.squeue_enter.specs.declared.Mode.{Mode}
-use Rattle.squeue_enter.specs.declared.Mode.TheVariants as Mode'
+use Rattle.histories.specs.declared.mode.Mode.{Mode}
+use Rattle.histories.specs.declared.mode.Mode.TheVariants as Mode'
 use Rattle.squeue_enter.specs.Ways.{way_of}
 
 -- so is each mark of pass p among these elements, behind what stands before it

@@ -9,8 +9,8 @@ use Rattle.perimeter_core.specs.History.{Element, Limits, ask_quota, feed_quota,
 use Rattle.perimeter_core.specs.Deeds.{due, times_left}
 use Rattle.perimeter_core.specs.Legal.{asks_by, feeds_by}
 use Rattle.squeue_state.specs.Naming.{Named, setting_of}
-use Rattle.squeue_state.specs.Elements.{number_of}
-use Rattle.squeue_rings.specs.Runs.{brought, comes, count, is_at, is_left_by, leaves, place}
+use Rattle.histories.specs.Elements.{number_of}
+use Rattle.histories.specs.Runs.{brought, comes, count, is_at, is_left_by, leaves, place}
 
 -- the squeues are numbered from 0 on
 abbrev pub AreNumbered : {R : Type 0} → List (Named R) → Type 0

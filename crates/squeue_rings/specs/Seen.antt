@@ -3,7 +3,8 @@ use Rattle.std.specs.Prelude.{List, [], ◌∷◌, Option, Some, None}
 use Rattle.turn_gate.specs.Passes.{seen}
 use Rattle.turn_gate.specs.declared.pass.Pass.{Pass}
 use Rattle.perimeter_core.specs.History.{Element, Limits}
-use Rattle.squeue_state.specs.Naming.{Ending, Named, setting_of}
+use Rattle.squeue_state.specs.Naming.{Named, setting_of}
+use Rattle.histories.specs.Endings.{Ending}
 
 -- what the pass in the place has seen; where there is none, nothing
 abbrev pub seen_in : Option (Pass Element) → List Element

@@ -6,23 +6,23 @@ ghost use Rattle.turn_gate.specs.declared.pass.Pass.{Pass};
 ghost use Rattle.perimeter_core.specs.declared.entries.Feed.{Feed};
 ghost use Rattle.perimeter_core.specs.History.{Element};
 ghost use Rattle.squeue_state.specs.Naming.{Named};
-ghost use Rattle.squeue_enter.specs.declared.Mode.{Mode};
+ghost use Rattle.histories.specs.declared.mode.Mode.{Mode};
 ghost use Rattle.squeue_state.specs.AllRoom.{HasAllRoom};
 ghost use Rattle.squeue_enter.specs.Entering.{MayEnter};
 ghost use Rattle.synch_enter.specs.Hinting.{conns_of, squeues_of};
 ghost use Rattle.conn_migrate.specs.Moving.{MayCome, MayLeave};
 ghost use Rattle.squeue_serve.specs.Places.{Became, Holds};
-ghost use Rattle.squeue_rings.specs.Runs.{home_before, home_of, moves};
+ghost use Rattle.histories.specs.Runs.{home_before, home_of, moves};
 ghost use Rattle.squeue_rings.specs.Bringing.{AllBelow, AreAt, AreOneRun, HasBrought, HasMoved, IsFar, IsReady};
-ghost use Rattle.squeue_rings.specs.Keeping.{ArePaced};
+ghost use Rattle.squeue_rings.specs.Paced.{ArePaced};
 
 use crate::access::Access;
-use crate::homes::Homes;
 use crate::places::{put_at, take_at};
 use conn_migrate::migrate;
+use histories::{Homes, Mode, Pace};
 use perimeter_core::{Feed, Hook, Resident};
 use poll_ring::{PollEnd, Ring};
-use squeue_enter::{Entered, Mode, enter};
+use squeue_enter::{Entered, enter};
 use squeue_serve::{put_pass, take_pass};
 use squeue_state::{Pass, Squeue};
 use std::sync::Wait;
@@ -33,15 +33,6 @@ const MOST: u32 = 32;
 
 /// After so many empty looks in a row a ring waits for all that is left.
 const LOOKS: u32 = 1024;
-
-/// How a ring enters its feeds: where they are at home, the mode, and how many it processes at most in one entry.
-#[derive(Clone, Copy)]
-pub struct Pace {
-    pub homes: Homes,
-    pub mode: Mode,
-    pub budget: u32,
-    ghost spends: { 1 ≤ budget },
-}
 
 /// Brings the feeds of the list, in order.
 pub fn bring_all<R: Resident, H: Hook, W: Wait>(

@@ -7,12 +7,13 @@ ghost use Rattle.perimeter_core.specs.declared.entries.Feed.{Feed};
 ghost use Rattle.perimeter_core.specs.History.{Element, Setting, made_by, worker};
 ghost use Rattle.perimeter_core.specs.Legal.{Legal};
 ghost use Rattle.squeue_state.specs.Naming.{Named};
-ghost use Rattle.squeue_enter.specs.declared.Mode.{Mode};
+ghost use Rattle.histories.specs.declared.mode.Mode.{Mode};
 ghost use Rattle.squeue_serve.specs.Places.{AtEach, AtEachTwo, Became, HasClosed, Holds, IsNew};
 ghost use Rattle.squeue_rings.specs.Rings.{AreNumbered};
 ghost use Rattle.squeue_rings.specs.Starts.{StartAtHome};
 ghost use Rattle.squeue_rings.specs.Bringing.{AreAt};
-ghost use Rattle.squeue_rings.specs.Keeping.{ArePaced, KeepsPace};
+ghost use Rattle.squeue_rings.specs.Paced.{ArePaced};
+ghost use Rattle.histories.specs.Keeping.{KeepsPace};
 ghost use Rattle.squeue_rings.specs.Made.{times_made};
 ghost use Rattle.squeue_rings.specs.Calling.{CallersAt};
 

@@ -10,11 +10,12 @@ use Rattle.perimeter_core.specs.History.{Element, Limits}
 use Rattle.squeue_state.specs.Naming.{Named}
 use Rattle.turn_gate.specs.Passes.{IsPassOf, number}
 use Rattle.squeue_state.specs.Naming.{setting_of}
-use Rattle.squeue_state.specs.Elements.{number_of}
+use Rattle.histories.specs.Elements.{number_of}
 use Rattle.squeue_state.specs.Clauses.{HasSeenEnd}
 use Rattle.squeue_serve.specs.Places.{Holds, AtEach, MayEnd}
 use Rattle.squeue_serve.specs.Lending.{AreLent, AreHanded, HaveLast, holder}
-use Rattle.squeue_serve.proofs.Lent.{get_end, get_front}
+use Rattle.squeue_serve.proofs.Lent.{get_end}
+use Rattle.histories.proofs.ListPlaces.{get_front}
 
 module _ {R A : Type 0} (Q : Named R → A → Type 0) where
   pub at_more : (ss : List (Named R)) (os : List A) (s : Named R) (o : A) → AtEach Q ss os → Q s o → AtEach Q (ss ++ s ∷ []) (os ++ o ∷ [])

@@ -9,6 +9,7 @@ use Rattle.turn_gate.specs.declared.pass.Pass.{Pass}
 use Rattle.perimeter_core.specs.History.{Element}
 use Rattle.squeue_serve.specs.declared.jobs.Job.{Job}
 use Rattle.squeue_serve.specs.Lending.{lent_to, tasks_in, holder, AreHanded}
+use Rattle.histories.proofs.ListPlaces.{get_front}
 
 module _ {T : Type 0} where
   pub lent_same : (jobs : List (Job T)) (i : ℕ) (j : Job T) → i < length jobs → lent_to (slice_set jobs i j) i ≡ j.places.items
@@ -48,11 +49,6 @@ module _ {T : Type 0} where
   past_jobs (j ∷ jobs) zero le = absurd (omega (arith, le))
   past_jobs (j ∷ jobs) (suc i) le = past_jobs jobs i (omega (arith, le))
 
-pub some_at : {X : Type 0} (xs : List X) (k : ℕ) → k < length xs → (x : X) × (slice_get xs k ≡ Some x)
-some_at [] k lt = absurd (omega (arith, lt))
-some_at (x ∷ xs) zero lt = (x, refl)
-some_at (x ∷ xs) (suc k) lt = some_at xs k (omega (arith, lt))
-
 -- different passes of a squeue go to different jobs
 pub holders_apart : (front count q p r : ℕ) → p ≤ count → r ≤ count → p ≢ r → holder front count q p ≢ holder front count q r
 holders_apart front count q p r a b apart = by (p == count) (r == count) refl refl
@@ -62,11 +58,6 @@ holders_apart front count q p r a b apart = by (p == count) (r == count) refl re
     by true false u v e = let j : r ≢ count = grind (arith, nat_tests) in let k : r ≡ count = omega (arith, e, b) in j k
     by false true u v e = let j : p ≢ count = grind (arith, nat_tests) in let k : p ≡ count = omega (arith, e, a) in j k
     by false false u v e = apart (omega (arith, e))
-
-pub get_front : {X : Type 0} (xs ys : List X) (k : ℕ) (x : X) → slice_get xs k ≡ Some x → slice_get (xs ++ ys) k ≡ Some x
-get_front [] ys k x h = cc h
-get_front (y ∷ xs) ys zero x h = h
-get_front (y ∷ xs) ys (suc k) x h = get_front xs ys k x h
 
 pub get_end : {X : Type 0} (xs ys : List X) (x : X) (k : ℕ) → k ≡ length xs → slice_get (xs ++ x ∷ ys) k ≡ Some x
 get_end [] ys x zero e = refl

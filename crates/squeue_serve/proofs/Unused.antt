@@ -1,5 +1,5 @@
 -- Passes that nobody used are closed, and the workers work.
-use Rattle.std.proofs.Common.{◌≡◌, ◌≢◌, ◌⊎◌, ℕ, zero, suc, ◌+◌, ◌<◌, ◌≤◌, false, Option, Some, None, List, [], ◌∷◌, length, replicate, slice_get, slice_index_or, slice_set, refl, ap, sym, ◌∙◌, subst, arith, inl, inr}
+use Rattle.std.proofs.Common.{◌≡◌, ◌≢◌, ◌⊎◌, ℕ, zero, suc, ◌+◌, ◌<◌, ◌≤◌, Option, Some, None, List, [], ◌∷◌, length, slice_get, slice_index_or, slice_set, refl, ap, sym, ◌∙◌, subst, arith, inl, inr}
 use Rattle.std.proofs.lemmas.Bool.{cases_eq}
 use Rattle.turn_gate.specs.History.{Each}
 use Rattle.turn_gate.specs.Passes.{number}
@@ -9,11 +9,7 @@ use Rattle.perimeter_core.specs.History.{Element, Limits, Setting, start, run}
 use Rattle.squeue_state.specs.Naming.{Named, setting_of}
 use Rattle.squeue_serve.specs.Places.{Holds, Became, AtEach, AtEachTwo, IsNew, MayClose, HasClosed, MayWork, HasWorked, MayEnd}
 use Rattle.squeue_serve.specs.Lending.{WorkersHold}
-
-pub open_flag : (n p : ℕ) → slice_index_or (replicate n false) p false ≡ false
-open_flag zero p = refl
-open_flag (suc n) zero = refl
-open_flag (suc n) (suc p) = open_flag n p
+use Rattle.histories.proofs.ListPlaces.{open_flag}
 
 -- at the start every pass is idle
 pub start_idle : (S : Setting) (p : ℕ) → Idle (start S) p

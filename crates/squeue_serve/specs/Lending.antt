@@ -7,8 +7,8 @@ use Rattle.perimeter_core.specs.declared.resident.Resident.{Ghosts}
 use Rattle.perimeter_core.specs.History.{Element}
 use Rattle.perimeter_core.specs.Blocks.{peri}
 use Rattle.squeue_state.specs.Told.{Traced, marks_of}
-use Rattle.squeue_state.specs.Naming.{Named, Ending, setting_of}
-use Rattle.squeue_state.specs.Endings.{HasEnded}
+use Rattle.squeue_state.specs.Naming.{Named, setting_of}
+use Rattle.histories.specs.Endings.{Ending, HasEnded}
 use Rattle.squeue_state.specs.Behind.{IsPeri}
 use Rattle.squeue_state.specs.Clauses.{Knows}
 use Rattle.squeue_serve.specs.declared.jobs.Job.{Job}

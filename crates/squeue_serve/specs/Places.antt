@@ -6,7 +6,7 @@ use Rattle.perimeter_core.specs.Perimeter.{Idle}
 use Rattle.perimeter_core.specs.History.{Element, Limits, run, worker}
 use Rattle.perimeter_core.specs.Ending.{IsOver}
 use Rattle.squeue_state.specs.Naming.{Named, setting_of}
-use Rattle.squeue_state.specs.Elements.{number_of, closed_by}
+use Rattle.histories.specs.Elements.{number_of, closed_by}
 use Rattle.squeue_state.specs.Clauses.{Added, HasSeenEnd}
 use Rattle.squeue_drain.specs.Working.{Worked}
 

@@ -20,7 +20,7 @@ use Rattle.squeue_state.specs.Behind.{Behind, FeedsFit}
 use Rattle.squeue_state.specs.Lone.{is_lone, buffer_of}
 use Rattle.squeue_state.specs.Hands.{GoBack}
 use Rattle.squeue_state.specs.Clauses.{IsLeft}
-use Rattle.squeue_state.specs.Elements.{filled_by, claimed_by, ask_claimed_by, asked_by, left_by_pass}
+use Rattle.histories.specs.Elements.{filled_by, claimed_by, ask_claimed_by, asked_by, left_by_pass}
 use Rattle.squeue_state.proofs.Steps.{go_back, lone_one, spare_there}
 use Rattle.squeue_state.proofs.Marks.{entries-length}
 

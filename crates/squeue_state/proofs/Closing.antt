@@ -6,7 +6,7 @@ use Rattle.perimeter_core.specs.History.{Element, Setting, run}
 use Rattle.perimeter_core.specs.Legal.{Legal, May, feeds_by, asks_by}
 use Rattle.perimeter_core.proofs.Since.{known_since}
 use Rattle.perimeter_core.proofs.Quotas.{within}
-use Rattle.squeue_state.specs.Elements.{number_of, closed_by}
+use Rattle.histories.specs.Elements.{number_of, closed_by}
 use Rattle.squeue_state.proofs.Makers.{others_made}
 
 nothing : (b : Bool) (x : ℕ) → (if b then x else x) ≡ x

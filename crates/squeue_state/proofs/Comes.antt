@@ -15,7 +15,7 @@ use Rattle.squeue_state.specs.declared.inner.Inner.{Inner}
 use Rattle.squeue_state.specs.declared.guarded.Guarded.{Guarded}
 use Rattle.squeue_state.specs.Naming.{Given, setting_of}
 use Rattle.squeue_state.specs.Behind.{Behind, StandsFor}
-use Rattle.squeue_state.specs.Elements.{number_of}
+use Rattle.histories.specs.Elements.{number_of}
 use Rattle.squeue_state.specs.Lawful.{SomebodyComes, LiesWhole}
 
 by_owner : (o : Own) (W : Type 0) → (o ≡ Free → W) → ((p : ℕ) × (o ≡ Out p)) ⊎ (((p : ℕ) × (o ≡ Granted p)) ⊎ W)

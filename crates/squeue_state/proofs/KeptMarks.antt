@@ -16,7 +16,7 @@ use Rattle.perimeter_core.specs.declared.entries.Feed.{Feed}
 use Rattle.perimeter_core.specs.declared.entries.Act.{Act}
 use Rattle.perimeter_core.specs.declared.marks.Kind.{Kind}
 use Rattle.squeue_state.specs.declared.guarded.Guarded.{Guarded}
-use Rattle.squeue_state.specs.Elements.{element_of}
+use Rattle.histories.specs.Elements.{element_of}
 use Rattle.squeue_state.specs.Behind.{Noted}
 
 entered_more : (H : List Element) (e : Element) → length (entered (H ++ e ∷ [])) ≡ length (entered H) + length (entries_of e.mark)

@@ -2,7 +2,7 @@
 use Rattle.std.proofs.Common.{◌≡◌, ◌==◌, if◌then◌else◌, ℕ, Bool, true, false, List, [], ◌∷◌, ◌++◌, ap, sym, ◌∙◌, refl}
 use Rattle.turn_gate.specs.History.{only}
 use Rattle.perimeter_core.specs.History.{Element, pass_of, made_by}
-use Rattle.squeue_state.specs.Elements.{number_of}
+use Rattle.histories.specs.Elements.{number_of}
 
 -- the gate's elements of a number are the machine's elements of that pass
 pub only_made : (p : ℕ) (H : List Element) → only number_of p H ≡ made_by p H

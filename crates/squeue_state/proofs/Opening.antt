@@ -9,11 +9,12 @@ use Rattle.perimeter_core.specs.History.{Limits, all_quotas, feed_quotas}
 use Rattle.perimeter_core.specs.Blocks.{Blocks, peri}
 use Rattle.squeue_state.specs.Told.{Traced, mark_of}
 use Rattle.squeue_state.specs.declared.inner.Inner.{Inner}
-use Rattle.squeue_state.specs.Limits.{most_entries, most_ever, most_room, most_passes, most_quotas}
+use Rattle.histories.specs.Limits.{most_entries, most_ever, most_room, most_passes, most_quotas}
 use Rattle.squeue_state.specs.Naming.{Given, setting_of}
 use Rattle.squeue_state.specs.Behind.{Behind, Noted, HasEmpty}
-use Rattle.squeue_state.specs.Clauses.{StandsEmpty, ask_quotas}
-use Rattle.squeue_state.proofs.RoomMade.{all_both}
+use Rattle.squeue_state.specs.Clauses.{StandsEmpty}
+use Rattle.histories.specs.Quotas.{ask_quotas}
+use Rattle.histories.proofs.Counts.{all_both}
 
 new_at : (b : Bool) (o : Option (List Act)) → b ≡ is_some o → ((had : List Act) → o ≡ Some had → had ≡ []) → (if b then Some [] else None) ≡ o
 new_at true None is empty = cc is

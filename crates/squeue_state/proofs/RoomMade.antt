@@ -5,16 +5,12 @@ use Rattle.std.proofs.lemmas.List.{take_more, take_all}
 use Rattle.std.proofs.Math.ListN.{get_or-eq_default}
 use Rattle.std.proofs.lemmas.Bool.{cases_lt}
 use Rattle.perimeter_core.specs.declared.entries.Act.{Act}
-use Rattle.perimeter_core.specs.History.{all_quotas, feed_quotas}
+use Rattle.perimeter_core.specs.History.{feed_quotas}
 use Rattle.perimeter_core.specs.Blocks.{Blocks}
 use Rattle.squeue_state.specs.declared.guarded.Life.{Life}
-use Rattle.squeue_state.specs.declared.guarded.Quota.{Quota}
-use Rattle.squeue_state.specs.Behind.{ever, pairs}
-use Rattle.squeue_state.specs.Clauses.{ask_quotas}
-
-pub all_both : (qs : List (ℕ × ℕ)) → all_quotas qs ≡ feed_quotas qs + ask_quotas qs
-all_both [] = omega arith
-all_both (q ∷ qs) = omega (arith, all_both qs)
+use Rattle.histories.specs.declared.quota.Quota.{Quota}
+use Rattle.squeue_state.specs.Behind.{ever}
+use Rattle.histories.specs.Quotas.{pairs, ask_quotas}
 
 feeds_push : (qs : List Quota) (q : Quota) → feed_quotas (pairs (qs ++ q ∷ [])) ≡ feed_quotas (pairs qs) + q.feeds
 feeds_push [] q = omega arith

@@ -26,7 +26,7 @@ use Rattle.squeue_state.specs.declared.inner.Inner.{Inner}
 use Rattle.squeue_state.specs.Naming.{Given, setting_of}
 use Rattle.squeue_state.specs.Lone.{is_fast, ends_fast, is_lone, buffer_of}
 use Rattle.squeue_state.specs.Hands.{AreBuffers, GoBack}
-use Rattle.squeue_state.specs.Elements.{number_of, filled_by, fast_by, claimed_by, ask_claimed_by, taken_by, left_by_pass, asked_by, granted_by, accepted_by, worked_by, closed_by}
+use Rattle.histories.specs.Elements.{number_of, filled_by, fast_by, claimed_by, ask_claimed_by, taken_by, left_by_pass, asked_by, granted_by, accepted_by, worked_by, closed_by}
 use Rattle.squeue_state.specs.Behind.{Behind, IsPeri, Lies, Spare, HasEmpty, FeedsFit, ActBelow}
 use Rattle.perimeter_core.specs.Legal.{InRange}
 use Rattle.perimeter_core.specs.History.{conns}

@@ -33,7 +33,7 @@ use Rattle.squeue_state.specs.Behind.{StandsFor}
 use Rattle.squeue_state.specs.Clauses.{named_of}
 use Rattle.squeue_state.specs.Lone.{is_fast, is_lone, buffer_of}
 use Rattle.squeue_state.proofs.Steps.{own_lone}
-use Rattle.squeue_state.specs.Elements.{number_of, fast_by, claimed_by, ask_claimed_by, accepted_by, worked_by}
+use Rattle.histories.specs.Elements.{number_of, fast_by, claimed_by, ask_claimed_by, accepted_by, worked_by}
 
 module _ {R P O : Type 0} (G : Ghosts R P O) where
   -- the value that the turn holds

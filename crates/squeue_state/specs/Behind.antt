@@ -13,17 +13,12 @@ use Rattle.perimeter_core.specs.Legal.{Legal, feed_count}
 use Rattle.perimeter_core.specs.Blocks.{Blocks, peri}
 use Rattle.squeue_state.specs.declared.inner.Inner.{Inner}
 use Rattle.squeue_state.specs.declared.guarded.Guarded.{Guarded}
-use Rattle.squeue_state.specs.declared.guarded.Quota.{Quota}
 use Rattle.squeue_state.specs.declared.guarded.Life.{Life}
 use Rattle.squeue_state.specs.Lone.{is_lone}
-use Rattle.squeue_state.specs.Limits.{most_entries, most_room, most_passes}
+use Rattle.histories.specs.Limits.{most_entries, most_room, most_passes}
 use Rattle.squeue_state.specs.Told.{Traced, marks_of}
 use Rattle.perimeter_core.specs.Deeds.{entered}
 use Rattle.squeue_state.specs.Naming.{Given, setting_of}
-
--- a slice of quotas, as contracts see it
-abbrev pub pairs : List Quota → List (ℕ × ℕ)
-pairs quotas = map (λ q. (q.feeds, q.asks)) quotas
 
 -- a slice of lives, as contracts see it
 abbrev pub ever : List Life → List (ℕ × ℕ)

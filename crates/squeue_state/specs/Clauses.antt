@@ -18,11 +18,11 @@ use Rattle.perimeter_core.specs.Blocks.{Blocks, peri, with_feeds, with_act}
 use Rattle.perimeter_core.specs.declared.entries.Entry.{Entry}
 use Rattle.perimeter_core.specs.declared.entries.Entry.TheVariants as Entry'
 use Rattle.perimeter_core.specs.declared.marks.Kind.{Kind}
-use Rattle.squeue_state.specs.Limits.{most_room}
+use Rattle.histories.specs.Limits.{most_room}
 use Rattle.squeue_state.specs.declared.guarded.Guarded.{Guarded}
 use Rattle.squeue_state.specs.Naming.{Given, Named, Turned, Handed, setting_of}
 use Rattle.squeue_state.specs.Behind.{given_of, Behind, Noted}
-use Rattle.squeue_state.specs.Elements.{number_of}
+use Rattle.histories.specs.Elements.{number_of}
 use Rattle.squeue_state.specs.Lone.{is_lone, buffer_of}
 
 -- which squeue a gate is the gate of
@@ -134,8 +134,3 @@ pub record IsMade {R : Type 0} (stands : R → Blocks → Type 0) (size : R → 
 -- the resident stands for empty lists
 abbrev pub StandsEmpty : (Blocks → Type 0) → Type 0
 StandsEmpty stands = (blocks : Blocks) × stands blocks × ((c : ℕ) (had : List Act) → blocks c ≡ Some had → had ≡ [])
-
--- the sum of the asks of the quotas
-abbrev pub ask_quotas : List (ℕ × ℕ) → ℕ
-ask_quotas [] = 0
-ask_quotas (q ∷ qs) = q.1 + ask_quotas qs

@@ -2,19 +2,13 @@
 use Rattle.std.specs.Prelude.{ℕ, List, [], ◌∷◌, if◌then◌else◌, ◌==◌}
 use Rattle.turn_gate.specs.Passes.{number, seen}
 use Rattle.turn_gate.specs.declared.pass.Pass.{Pass}
-use Rattle.perimeter_core.specs.History.{Element, Limits, run}
-use Rattle.perimeter_core.specs.Legal.{Legal}
-use Rattle.perimeter_core.specs.Ending.{IsOver}
-use Rattle.squeue_state.specs.Naming.{Given, Ending, setting_of}
+use Rattle.perimeter_core.specs.History.{Element, Limits}
+use Rattle.squeue_state.specs.Naming.{Given, setting_of}
+use Rattle.histories.specs.Endings.{Ending}
 
 -- how the squeue ends whose history is this one
 abbrev pub ending_of : {R : Type 0} → (R → Limits) → Given R → List Element → Ending
 ending_of limits g H = record { number = g.number; setting = setting_of limits g; history = H }
-
--- the history is legal, and nothing may follow
-pub record HasEnded (e : Ending) : Type 0 where
-  pub legal : Legal e.setting e.history
-  pub over : IsOver e.setting (run e.setting e.history)
 
 -- what the pass of this number has seen
 abbrev pub seen_by : ℕ → List (Pass Element) → List Element

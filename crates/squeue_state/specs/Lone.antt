@@ -6,7 +6,7 @@ use Rattle.perimeter_core.specs.declared.marks.Mark.TheVariants as On
 use Rattle.perimeter_core.specs.declared.marks.Own.{Own}
 use Rattle.perimeter_core.specs.declared.marks.Own.TheVariants.{Free, Out, Granted}
 use Rattle.perimeter_core.specs.History.{Element}
-use Rattle.squeue_state.specs.Elements.{number_of}
+use Rattle.histories.specs.Elements.{number_of}
 
 abbrev pub is_fast : Mark → Bool
 is_fast (On.Fast p e) = true

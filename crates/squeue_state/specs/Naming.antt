@@ -44,11 +44,5 @@ pub record Handed : Type 0 where
   pub left : List Entry
   pub room : Option ℕ
 
--- a squeue that has ended: its number, its setting and its history
-pub record Ending : Type 0 where
-  pub number : ℕ
-  pub setting : Setting
-  pub history : List Element
-
 abbrev pub setting_of : {R : Type 0} → (R → Limits) → Given R → Setting
 setting_of limits g = record { rings = g.rings; quotas = g.quotas; starts = g.starts; limits = limits g.first }

@@ -14,8 +14,7 @@ pub struct Ended {
 
 impl Model for Ended {
     ghost use Rattle.std.specs.Prelude.{◌≡◌};
-    ghost use Rattle.squeue_state.specs.Naming.{Ending};
-    ghost use Rattle.squeue_state.specs.Endings.{HasEnded};
+    ghost use Rattle.histories.specs.Endings.{Ending, HasEnded};
 
     ghost Value = { Ending };
 
@@ -26,7 +25,7 @@ impl Model for Ended {
 
 impl Ended {
     ghost use Rattle.std.specs.Prelude.{◌≡◌};
-    ghost use Rattle.squeue_state.specs.Endings.{HasEnded};
+    ghost use Rattle.histories.specs.Endings.{HasEnded};
 
     /// The squeue's number.
     pub fn number(&self) -> u32

@@ -26,7 +26,7 @@ pub struct End {
 }
 
 impl Model for End {
-    ghost use Rattle.squeue_state.specs.Naming.{Ending};
+    ghost use Rattle.histories.specs.Endings.{Ending};
 
     ghost Value = { Ending };
 

@@ -12,13 +12,6 @@ use crate::trace::Trace;
 use perimeter_core::{Feed, Kind, Known, Resident};
 use turn_gate::Storied;
 
-/// How many feeds and asks a pass may ever enter. Of a ring the feeds are those of all its connections.
-#[derive(Clone, Copy)]
-pub struct Quota {
-    pub feeds: u32,
-    pub asks: u64,
-}
-
 /// How many feeds and asks a pass may ever enter, of a squeue whose room is apart from them: numbers of contracts alone,
 /// which take no memory.
 #[derive(Clone, Copy)]
@@ -39,7 +32,7 @@ pub struct Guarded<R> {
 }
 
 impl<R: Resident> Storied for Guarded<R> {
-    ghost use Rattle.squeue_state.specs.Elements.{number_of};
+    ghost use Rattle.histories.specs.Elements.{number_of};
     ghost use Rattle.squeue_state.specs.Behind.{StandsFor};
 
     type Mark = Kind;

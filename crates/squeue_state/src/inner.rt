@@ -16,8 +16,8 @@ ghost use Rattle.squeue_state.specs.Naming.{Given, setting_of};
 ghost use Rattle.squeue_state.specs.Behind.{Behind, IsPeri, ActBelow, FeedsFit, HasEmpty};
 ghost use Rattle.squeue_state.specs.Hands.{AreBuffers, GoBack};
 ghost use Rattle.squeue_state.specs.Clauses.{IsLeft, owners_room, peri_left};
-ghost use Rattle.squeue_state.specs.Elements.{filled_by, fast_by, claimed_by, ask_claimed_by, asked_by, closed_by};
-ghost use Rattle.squeue_state.specs.Elements.{taken_by, left_by_pass, granted_by, accepted_by, worked_by};
+ghost use Rattle.histories.specs.Elements.{filled_by, fast_by, claimed_by, ask_claimed_by, asked_by, closed_by};
+ghost use Rattle.histories.specs.Elements.{taken_by, left_by_pass, granted_by, accepted_by, worked_by};
 
 use crate::hand::{Hand, Taken};
 use crate::room::{append, put_back, queue_feeds};

@@ -7,7 +7,7 @@ ghost use Rattle.turn_gate.specs.declared.views.View.{View};
 ghost use Rattle.perimeter_core.specs.History.{Element};
 ghost use Rattle.squeue_state.specs.declared.guarded.Guarded.{Guarded};
 ghost use Rattle.squeue_state.specs.Behind.{StandsFor};
-ghost use Rattle.squeue_state.specs.Elements.{number_of};
+ghost use Rattle.histories.specs.Elements.{number_of};
 ghost use Rattle.squeue_state.specs.Lawful.{LiesWhole};
 
 use perimeter_core::Resident;

@@ -23,8 +23,9 @@ mod turn;
 
 pub use ended::Ended;
 pub use event::{End, Event, Facts, Notes};
-pub use guarded::{Guarded, Life, Quota};
+pub use guarded::{Guarded, Life};
 pub use hand::Hand;
+pub use histories::Quota;
 pub use inner::Inner;
 pub use squeue::{Missed, Pass, Squeue};
 pub use trace::{Trace, TraceMark};

@@ -9,7 +9,7 @@ ghost use Rattle.perimeter_core.specs.Legal.{May};
 ghost use Rattle.perimeter_core.specs.Blocks.{peri};
 ghost use Rattle.squeue_state.specs.Naming.{setting_of};
 ghost use Rattle.squeue_state.specs.Behind.{IsPeri};
-ghost use Rattle.squeue_state.specs.Elements.{taken_by, left_by_pass, granted_by, accepted_by, worked_by};
+ghost use Rattle.histories.specs.Elements.{taken_by, left_by_pass, granted_by, accepted_by, worked_by};
 ghost use Rattle.squeue_state.specs.Clauses.{Marked, IsLeft, IsWhole, peri_left, first_entry, asker};
 ghost use Rattle.turn_gate.specs.Passes.{seen};
 

@@ -5,7 +5,7 @@ ghost use Rattle.turn_gate.specs.Passes.{IsPassOf, freed_once, number, seen, min
 ghost use Rattle.turn_gate.specs.Helds.{IsHeldOf, held_number, held_seen, held_mine, held_steps, held_value};
 ghost use Rattle.turn_gate.specs.Gates.{gate_id, first_of};
 ghost use Rattle.squeue_state.specs.Behind.{Behind, Noted, StandsFor, given_of};
-ghost use Rattle.squeue_state.specs.Elements.{number_of, element_of};
+ghost use Rattle.histories.specs.Elements.{number_of, element_of};
 
 use crate::event::{Event, Notes};
 use crate::guarded::Guarded;

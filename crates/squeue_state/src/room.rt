@@ -4,11 +4,12 @@ ghost use Rattle.std.specs.Prelude.{replicate, false, slice_index_or, is_some, v
 ghost use Rattle.perimeter_core.specs.Deeds.{entries};
 ghost use Rattle.perimeter_core.specs.History.{all_quotas, feed_quotas};
 ghost use Rattle.perimeter_core.specs.Blocks.{Blocks};
-ghost use Rattle.squeue_state.specs.Limits.{most_asks, most_feeds, most_quotas};
-ghost use Rattle.squeue_state.specs.Behind.{ever, pairs, room_of};
-ghost use Rattle.squeue_state.specs.Clauses.{ask_quotas};
+ghost use Rattle.histories.specs.Limits.{most_asks, most_feeds, most_quotas};
+ghost use Rattle.squeue_state.specs.Behind.{ever, room_of};
+ghost use Rattle.histories.specs.Quotas.{pairs, ask_quotas};
 
-use crate::guarded::{Life, Quota};
+use crate::guarded::Life;
+use histories::Quota;
 use perimeter_core::{Entry, Feed, Resident};
 use std::alloc::{AllocError, Global};
 

@@ -3,7 +3,7 @@ ghost use Rattle.std.specs.Prelude.{◌≡◌, ◌<◌, ◌∷◌, [], true, fal
 ghost use Rattle.perimeter_trial.specs.Logging.{limits_of};
 ghost use Rattle.synch_enter.specs.Hinting.{conns_of};
 ghost use Rattle.squeue_state.specs.AllRoom.{HasAllRoom};
-ghost use Rattle.squeue_state.specs.Elements.{number_of};
+ghost use Rattle.histories.specs.Elements.{number_of};
 ghost use Rattle.turn_gate.specs.Passes.{AreFresh};
 
 use conn_migrate::migrate;

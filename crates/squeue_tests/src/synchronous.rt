@@ -5,7 +5,7 @@ ghost use Rattle.perimeter_core.specs.declared.marks.SynchAct.TheVariants as Don
 ghost use Rattle.perimeter_core.specs.Perimeter.{Idle};
 ghost use Rattle.perimeter_core.specs.History.{run};
 ghost use Rattle.squeue_state.specs.Naming.{setting_of};
-ghost use Rattle.squeue_state.specs.Elements.{number_of};
+ghost use Rattle.histories.specs.Elements.{number_of};
 ghost use Rattle.synch_enter.specs.Synch.{MayAsk, StandsAtItsAsk};
 
 mod beside;

@@ -5,7 +5,7 @@ ghost use Rattle.perimeter_core.specs.Perimeter.{Idle};
 ghost use Rattle.perimeter_core.specs.History.{run};
 ghost use Rattle.squeue_state.specs.AllRoom.{HasAllRoom};
 ghost use Rattle.squeue_enter.specs.Entering.{MayEnter, MayGoOn};
-ghost use Rattle.squeue_state.specs.Elements.{number_of};
+ghost use Rattle.histories.specs.Elements.{number_of};
 ghost use Rattle.squeue_state.specs.Naming.{setting_of};
 ghost use Rattle.turn_gate.specs.Passes.{IsPassOf, number, seen};
 

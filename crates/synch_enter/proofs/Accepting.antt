@@ -13,11 +13,11 @@ use Rattle.perimeter_core.specs.Blocks.{peri}
 use Rattle.perimeter_core.proofs.OneMore.{run_push}
 use Rattle.squeue_state.specs.Naming.{Named, Turned, Handed, setting_of}
 use Rattle.squeue_state.specs.Behind.{IsPeri}
-use Rattle.squeue_state.specs.Elements.{number_of, accepted_by}
+use Rattle.histories.specs.Elements.{number_of, accepted_by}
 use Rattle.squeue_state.specs.Clauses.{Found, Marked, IsWhole}
 use Rattle.perimeter_core.proofs.Since.{known_since}
 use Rattle.squeue_drain.proofs.Turning.{others}
-use Rattle.squeue_drain.proofs.Marks.{quota_kept}
+use Rattle.histories.proofs.Counts.{quota_kept}
 use Rattle.squeue_drain.proofs.Fresh.{fresh}
 use Rattle.squeue_drain.proofs.Deciding.{marked_on, same_state}
 use Rattle.synch_enter.specs.Synch.{StandsAtItsAsk}

@@ -15,7 +15,7 @@ use Rattle.perimeter_core.proofs.OneMore.{run_push}
 use Rattle.perimeter_core.proofs.Quotas.{within}
 use Rattle.perimeter_core.proofs.Since.{known_since, none_made}
 use Rattle.squeue_state.specs.Naming.{Named, Turned, setting_of}
-use Rattle.squeue_state.specs.Elements.{number_of, asked_by, ask_claimed_by, accepted_by}
+use Rattle.histories.specs.Elements.{number_of, asked_by, ask_claimed_by, accepted_by}
 use Rattle.squeue_state.specs.Clauses.{Found, Marked, Unmarked}
 use Rattle.squeue_drain.proofs.Turning.{others}
 use Rattle.squeue_drain.proofs.Deciding.{begins_trans, same_state}

@@ -25,15 +25,15 @@ use Rattle.perimeter_core.proofs.Rests.{rests_since}
 use Rattle.perimeter_core.proofs.RingKnows.{ring_knows}
 use Rattle.perimeter_core.proofs.Since.{known_since}
 use Rattle.squeue_state.specs.Naming.{Named, Turned, setting_of}
-use Rattle.squeue_state.specs.Elements.{number_of, left_by_pass}
+use Rattle.histories.specs.Elements.{number_of, left_by_pass}
 use Rattle.squeue_state.specs.Clauses.{Found, Marked, Added}
 use Rattle.squeue_state.proofs.Makers.{made-append}
 use Rattle.squeue_state.proofs.Turns.{one_turn}
 use Rattle.squeue_drain.specs.declared.owner.Owner.{Owner}
 use Rattle.squeue_drain.specs.Owning.{state_of}
 use Rattle.squeue_drain.proofs.Hands.{none_left, within}
-use Rattle.squeue_drain.proofs.OwnersFacts.{owner_below}
-use Rattle.squeue_drain.proofs.Marks.{quota_kept}
+use Rattle.histories.proofs.OwnersFacts.{owner_below}
+use Rattle.histories.proofs.Counts.{quota_kept}
 use Rattle.squeue_drain.proofs.Turning.{others, AtTurn, at_turn}
 use Rattle.synch_enter.specs.Synch.{StandsAtItsAsk, acts_at}
 

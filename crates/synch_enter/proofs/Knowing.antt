@@ -12,7 +12,7 @@ use Rattle.perimeter_core.proofs.OneMore.{legal_front}
 use Rattle.perimeter_core.proofs.RingKnows.{ring_knows}
 use Rattle.squeue_state.specs.Naming.{Named, setting_of}
 use Rattle.squeue_state.proofs.Makers.{only_made}
-use Rattle.squeue_state.specs.Elements.{number_of, left_by_pass}
+use Rattle.histories.specs.Elements.{number_of, left_by_pass}
 use Rattle.squeue_drain.specs.declared.owner.Owner.{Owner}
 use Rattle.perimeter_core.specs.declared.entries.Act.{Act}
 use Rattle.perimeter_core.specs.declared.entries.Entry.{Entry}
@@ -20,7 +20,8 @@ use Rattle.perimeter_core.specs.declared.marks.SynchAct.{SynchAct}
 use Rattle.perimeter_core.specs.declared.marks.SynchAct.TheVariants as Done
 use Rattle.std.specs.Prelude.{slice_index}
 use Rattle.synch_enter.specs.Synch.{MayAsk, Came, IsWay, StandsAtItsAsk, MayTake, MayPut, acts_at}
-use Rattle.squeue_enter.proofs.Bringing.{left_append, here_append}
+use Rattle.squeue_enter.proofs.Bringing.{here_append}
+use Rattle.histories.proofs.Counts.{left_append}
 
 -- what a pass makes to come neither puts in nor takes out
 coming : (c : ℕ) (b f : Bool) (p : ℕ) (ask : Element) (marks : List Element) → IsWay f p ask marks → (here_by c b (ask ∷ marks) ≡ b) × (times_left c (ask ∷ marks) ≡ 0)

@@ -7,7 +7,7 @@ use Rattle.perimeter_core.specs.declared.entries.Entry.TheVariants as Entry'
 use Rattle.perimeter_core.specs.Perimeter.{is_closed}
 use Rattle.perimeter_core.specs.History.{Element, Limits, run}
 use Rattle.squeue_state.specs.Naming.{Named, setting_of}
-use Rattle.squeue_state.specs.Elements.{granted_by}
+use Rattle.histories.specs.Elements.{granted_by}
 use Rattle.squeue_drain.specs.declared.owner.Owner.{Owner}
 use Rattle.squeue_drain.specs.Draining.{GoesOn}
 use Rattle.squeue_drain.specs.Owning.{state_of}

@@ -13,7 +13,7 @@ use Rattle.perimeter_core.specs.History.{Element, Limits, Setting, ask_quota, ru
 use Rattle.perimeter_core.specs.Deeds.{acts, feed_acts, times_left}
 use Rattle.perimeter_core.specs.Legal.{Legal, ActFits, ActInRange, NoteFits, asks_by, only_last_ask}
 use Rattle.squeue_state.specs.Naming.{Named, Turned, setting_of}
-use Rattle.squeue_state.specs.Elements.{number_of, asked_by, ask_claimed_by, granted_by, accepted_by}
+use Rattle.histories.specs.Elements.{number_of, asked_by, ask_claimed_by, granted_by, accepted_by}
 use Rattle.squeue_drain.specs.declared.owner.Owner.{Owner}
 use Rattle.squeue_drain.specs.Draining.{GoesOn}
 use Rattle.squeue_drain.specs.Owning.{Owns, state_of, processed_by}

@@ -7,7 +7,7 @@ ghost use Rattle.perimeter_core.specs.Perimeter.{Idle};
 ghost use Rattle.perimeter_core.specs.History.{run};
 ghost use Rattle.perimeter_core.specs.Deeds.{acts};
 ghost use Rattle.squeue_state.specs.Naming.{Named, setting_of};
-ghost use Rattle.squeue_state.specs.Elements.{left_by_pass};
+ghost use Rattle.histories.specs.Elements.{left_by_pass};
 ghost use Rattle.squeue_state.specs.Clauses.{Added};
 ghost use Rattle.squeue_drain.specs.Draining.{GoesOn};
 ghost use Rattle.synch_enter.specs.Synch.{StandsAtItsAsk, MayCall, MayTake, MayPut, HasCalled, HasTaken, HasPut, acts_at};

@@ -7,7 +7,7 @@ ghost use Rattle.perimeter_core.specs.declared.entries.Entry.TheVariants as Entr
 ghost use Rattle.perimeter_core.specs.declared.marks.Own.TheVariants as Own';
 ghost use Rattle.perimeter_core.specs.Perimeter.{is_closed};
 ghost use Rattle.perimeter_core.specs.History.{run};
-ghost use Rattle.squeue_state.specs.Elements.{number_of, accepted_by};
+ghost use Rattle.histories.specs.Elements.{number_of, accepted_by};
 ghost use Rattle.squeue_state.specs.Naming.{setting_of};
 ghost use Rattle.perimeter_core.specs.declared.marks.SynchAct.TheVariants as Done;
 ghost use Rattle.squeue_drain.specs.Owning.{Feeds};

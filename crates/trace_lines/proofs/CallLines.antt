@@ -6,8 +6,8 @@ use Rattle.std.proofs.lemmas.Bool.{eqb-true}
 use Rattle.std.proofs.lemmas.Slice.Eq.{slice_eq-Decides}
 use Rattle.tcb_machine.specs.declared.kinds.Call.{Call}
 use Rattle.tcb_machine.specs.declared.kinds.Call.TheVariants.{Status, Buffer, Close}
-use Rattle.squeue_report.specs.ReportText.{line}
-use Rattle.squeue_report.specs.TraceText.{asked_text, call_line}
+use Rattle.report_lines.specs.ReportText.{line}
+use Rattle.report_lines.specs.TraceText.{asked_text, call_line}
 use Rattle.trace_lines.specs.Forms.{filled, AreSmall}
 use Rattle.trace_lines.specs.Printed.{BeginsWithCall, IsPrintedCall}
 use Rattle.trace_lines.proofs.Numbers.{same_numbers}

@@ -6,7 +6,7 @@ use Rattle.std.proofs.lemmas.List.Elements.{All-cons, All-head, All-tail, All-ni
 use Rattle.tcb_machine.specs.declared.kinds.Call.{Call}
 use Rattle.conn_blocks.specs.CallLists.{CallLists, call_count, calls_of}
 use Rattle.conn_blocks.specs.Limits.{callers, most_calls}
-use Rattle.squeue_report.specs.TraceText.{call_line, calls_text, thread_text}
+use Rattle.report_lines.specs.TraceText.{call_line, calls_text, thread_text}
 use Rattle.trace_lines.specs.Printed.{ArePrintedCalls, BeginsWithCall, IsPrintedCall}
 use Rattle.trace_lines.proofs.CallLines.{BeginsWith, begins, below_conns, printed_below, printed_wider, same_call}
 

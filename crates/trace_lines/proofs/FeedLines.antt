@@ -5,8 +5,8 @@ use Rattle.perimeter_core.specs.declared.entries.Feed.{Feed as FeedOf}
 use Rattle.perimeter_core.specs.declared.entries.Entry.{Entry}
 use Rattle.perimeter_core.specs.declared.entries.Entry.TheVariants.{Feed, Ask}
 use Rattle.perimeter_core.specs.Deeds.{entries}
-use Rattle.squeue_report.specs.ReportText.{line}
-use Rattle.squeue_report.specs.TraceText.{entered_field}
+use Rattle.report_lines.specs.ReportText.{line}
+use Rattle.report_lines.specs.TraceText.{entered_field}
 use Rattle.squeue_replay.specs.Marks.{AreFeeds, IsSmall}
 use Rattle.trace_lines.specs.Forms.{filled}
 use Rattle.trace_lines.proofs.Numbers.{same_numbers, tail_same}

@@ -1,14 +1,14 @@
 -- The lines of setups and calls, by forms.
 use Rattle.std.proofs.Common.{arith, ◌≡◌, ℕ, ◌<◌, ◌≤◌, Bool, true, false, if◌then◌else◌, List, [], ◌∷◌, ◌++◌, codes, length, get_or, refl, subst, ◌∙◌, sym, ap, append_assoc}
 use Rattle.std.specs.Fmt.{decimal}
-use Rattle.squeue_enter.specs.declared.Mode.{Mode}
-use Rattle.squeue_enter.specs.declared.Mode.TheVariants.{Process, NoDrain, Fill}
-use Rattle.squeue_enter.specs.Ways.{mode_word}
+use Rattle.histories.specs.declared.mode.Mode.{Mode}
+use Rattle.histories.specs.declared.mode.Mode.TheVariants.{Process, NoDrain, Fill}
+use Rattle.histories.specs.ModeWords.{mode_word}
 use Rattle.ring_quotas.specs.Limits.{most_budget, most_rings, most_spread, most_squeues}
 use Rattle.ring_quotas.specs.declared.setup.Setup.{Setup}
 use Rattle.ring_quotas.specs.Quotas.{IsInRange}
-use Rattle.squeue_report.specs.ReportText.{line}
-use Rattle.squeue_report.specs.TraceText.{setup_line}
+use Rattle.report_lines.specs.ReportText.{line}
+use Rattle.report_lines.specs.TraceText.{setup_line}
 use Rattle.trace_lines.specs.Forms.{filled, is_form, blank_count, AreSmall}
 use Rattle.trace_lines.specs.Printed.{IsPrintedSetup, setup_numbers}
 use Rattle.trace_lines.proofs.Filled.{one_way}

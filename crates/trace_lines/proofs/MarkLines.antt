@@ -9,8 +9,8 @@ use Rattle.perimeter_core.specs.declared.marks.Mark.TheVariants as On
 use Rattle.perimeter_core.specs.declared.marks.SynchAct.{SynchAct}
 use Rattle.perimeter_core.specs.declared.marks.SynchAct.TheVariants as Done
 use Rattle.perimeter_core.specs.Deeds.{entries}
-use Rattle.squeue_report.specs.ReportText.{line, line_end}
-use Rattle.squeue_report.specs.TraceText.{entered_field, act_fields, mark_line}
+use Rattle.report_lines.specs.ReportText.{line, line_end}
+use Rattle.report_lines.specs.TraceText.{entered_field, act_fields, mark_line}
 use Rattle.perimeter_core.specs.declared.marks.Kind.{Kind}
 use Rattle.perimeter_core.specs.declared.marks.Kind.TheVariants as Kind'
 use Rattle.perimeter_core.specs.Kinds.{mark_by}

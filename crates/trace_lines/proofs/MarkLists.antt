@@ -9,8 +9,8 @@ use Rattle.std.proofs.lemmas.List.{append-nil, map-append}
 use Rattle.std.proofs.lemmas.List.Elements.{All-cons, All-head, All-tail, All-nil}
 use Rattle.std.proofs.Math.Seq.{take-append_seam}
 use Rattle.perimeter_core.specs.declared.marks.Mark.{Mark}
-use Rattle.squeue_report.specs.ReportText.{done_line}
-use Rattle.squeue_report.specs.TraceText.{mark_line, squeue_line, squeue_text}
+use Rattle.report_lines.specs.ReportText.{done_line}
+use Rattle.report_lines.specs.TraceText.{mark_line, squeue_line, squeue_text}
 use Rattle.squeue_replay.specs.Marks.{IsPrinted}
 use Rattle.trace_lines.specs.Forms.{filled}
 use Rattle.trace_lines.specs.Printed.{ArePrintedMarks}

@@ -7,7 +7,7 @@ use Rattle.perimeter_core.specs.declared.marks.Mark.{Mark}
 use Rattle.perimeter_core.specs.declared.marks.Mark.TheVariants as On
 use Rattle.perimeter_core.specs.declared.marks.SynchAct.{SynchAct}
 use Rattle.perimeter_core.specs.declared.marks.SynchAct.TheVariants as Done
-use Rattle.squeue_report.specs.TraceText.{act_fields, entered_field, mark_fields, mark_line}
+use Rattle.report_lines.specs.TraceText.{act_fields, entered_field, mark_fields, mark_line}
 use Rattle.squeue_replay.specs.Marks.{AreFeeds, IsPrinted, IsPrintedAct, IsSmall}
 use Rattle.trace_lines.proofs.OneLine.{AreFields, IsClear, apart, clear-append, decimal_clear, decimal_field, ends_field, front_same, no_digit, one_line, word_field}
 

@@ -4,7 +4,7 @@ use Rattle.std.specs.Char.{is_ascii_digit}
 use Rattle.std.specs.Str.{all_ascii_digits}
 use Rattle.std.proofs.lemmas.Bool.Decides.{nat_tests}
 use Rattle.std.proofs.lemmas.Fmt.{digits_decimal}
-use Rattle.squeue_report.specs.ReportText.{line, line_end}
+use Rattle.report_lines.specs.ReportText.{line, line_end}
 use Rattle.trace_lines.proofs.Numbers.{own}
 
 -- no byte of the text passes the test

@@ -2,6 +2,7 @@
 use Rattle.std.specs.Prelude.{◌≡◌, ℕ, ◌^◌, ◌<◌, ◌≤◌, All, Bool, true, if◌then◌else◌, List, [], ◌∷◌, ◌++◌, codes, length, take}
 use Rattle.std.specs.List.{enumerate_from, flat_map}
 use Rattle.perimeter_core.specs.declared.marks.Mark.{Mark}
+use Rattle.tcb_machine.specs.Limits.{plain_space}
 use Rattle.tcb_machine.specs.declared.kinds.Call.{Call}
 use Rattle.tcb_machine.specs.declared.kinds.Call.TheVariants as Asks
 use Rattle.conn_blocks.specs.CallLists.{CallLists, call_count}
@@ -9,13 +10,13 @@ use Rattle.conn_blocks.specs.Limits.{callers, most_calls}
 use Rattle.ring_quotas.specs.Limits.{most_budget}
 use Rattle.ring_quotas.specs.declared.setup.Setup.{Setup}
 use Rattle.ring_quotas.specs.Quotas.{IsInRange}
-use Rattle.squeue_report.specs.ReportText.{done_line}
-use Rattle.squeue_report.specs.TraceText.{setup_line, calls_text, squeue_text}
+use Rattle.report_lines.specs.ReportText.{done_line}
+use Rattle.report_lines.specs.TraceText.{setup_line, calls_text, squeue_text}
 use Rattle.squeue_replay.specs.Marks.{IsPrinted}
 
 -- a call on one of so many connections
 abbrev pub IsPrintedCall : ℕ → ℕ × Call → Type 0
-IsPrintedCall conns (c, Asks.Buffer n) = (c < conns) × (n ≤ 65535)
+IsPrintedCall conns (c, Asks.Buffer n) = (c < conns) × (n ≤ plain_space)
 IsPrintedCall conns (c, _) = c < conns
 
 -- a setup of a run that kept its marks

@@ -3,8 +3,8 @@
 ghost use Rattle.std.specs.Prelude.{◌≡◌, ℕ, ◌^◌, ◌<◌, All, List, ◌++◌, IfOk, MatchOption, length, map};
 ghost use Rattle.std.specs.List.{enumerate_from, flat_map};
 ghost use Rattle.perimeter_core.specs.declared.marks.Mark.{Mark};
-ghost use Rattle.squeue_report.specs.ReportText.{done_line};
-ghost use Rattle.squeue_report.specs.TraceText.{mark_line, squeue_line, squeue_text};
+ghost use Rattle.report_lines.specs.ReportText.{done_line};
+ghost use Rattle.report_lines.specs.TraceText.{mark_line, squeue_line, squeue_text};
 ghost use Rattle.trace_lines.specs.Printed.{ArePrintedMarks};
 ghost use Rattle.squeue_replay.specs.Marks.{IsPrinted};
 

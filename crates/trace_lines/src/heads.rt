@@ -2,7 +2,7 @@
 
 ghost use Rattle.std.specs.Prelude.{◌≡◌, ℕ, ◌^◌, ◌<◌, ◌≤◌, ◌↔◌, Bool, true, List, ◌++◌, IfOk, IsTrue, MatchOption};
 ghost use Rattle.conn_blocks.specs.CallLists.{CallLists};
-ghost use Rattle.squeue_report.specs.TraceText.{call_line, calls_text, setup_line};
+ghost use Rattle.report_lines.specs.TraceText.{call_line, calls_text, setup_line};
 ghost use Rattle.tcb_machine.specs.declared.kinds.Call.{Call as CallOf};
 ghost use Rattle.ring_quotas.specs.Limits.{most_budget, most_rings, most_spread, most_squeues};
 ghost use Rattle.ring_quotas.specs.declared.setup.Setup.{Setup as SetupOf};
@@ -10,11 +10,10 @@ ghost use Rattle.trace_lines.specs.Forms.{filled, is_form, blank_count};
 ghost use Rattle.trace_lines.specs.Printed.{ArePrintedCalls, BeginsWithCall, IsPrintedCall, IsPrintedSetup, setup_numbers};
 
 use crate::forms::by_form;
-use conn_blocks::{Calls, MOST_CALLS};
-use ring_quotas::{CALLERS, Setup};
-use squeue_enter::Mode;
+use conn_blocks::{CALLERS, Calls, MOST_CALLS};
+use ring_quotas::{MOST_BUDGET, MOST_RINGS, MOST_SPREAD, MOST_SQUEUES, Mode, Setup};
 use std::alloc::{AllocError, Global};
-use tcb_machine::Call;
+use tcb_machine::{Call, PLAIN_SPACE};
 
 /// The setup, each number in its range, whether wrong checksums drop segments, and the text behind the line. `None` where
 /// the text begins with no such line.
@@ -83,12 +82,12 @@ fn is_in_range(squeues: u32, rings: u32, budget: u32, spread: u32) -> bool
         × ((1 ≤ budget) × (budget ≤ most_budget)) × (spread ≤ most_spread)) }
 {
     1 <= squeues
-        && squeues <= 16
+        && squeues <= MOST_SQUEUES
         && 1 <= rings
-        && rings <= 8
+        && rings <= MOST_RINGS
         && 1 <= budget
-        && budget <= 65_535
-        && spread <= 65_535
+        && budget <= MOST_BUDGET
+        && spread <= MOST_SPREAD
 }
 
 /// One call: its thread, its connection, and what is asked.
@@ -109,7 +108,7 @@ fn call_line(text: &[u8]) -> Option<(u32, u32, Call, &[u8])>
         return None;
     };
     let numbers = found.0;
-    if numbers[2] > 65_535 {
+    if numbers[2] > PLAIN_SPACE {
         return None;
     }
     Some((

@@ -1,4 +1,4 @@
-//! Reads the lines that a report with marks has from its setup on, which `squeue_report` writes, and nothing else.
+//! Reads the lines that a report with marks has from its setup on, as `report_lines` has them, and nothing else.
 //!
 //! Each function takes a text and gives what its front says and what stands behind it. A text that is read is the one that is
 //! written of what was read, so the lines fix setup, calls and marks; what isn't read is no such text. No list of marks is kept:

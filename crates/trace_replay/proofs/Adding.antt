@@ -10,9 +10,9 @@ use Rattle.perimeter_core.specs.Legal.{Legal, May, feed_count}
 use Rattle.perimeter_core.proofs.OneMore.{legal_next}
 use Rattle.ring_quotas.specs.declared.setup.Setup.{Setup}
 use Rattle.ring_quotas.specs.Quotas.{setting_at}
-use Rattle.squeue_replay.specs.declared.pace.Pace.{Pace}
+use Rattle.squeue_replay.specs.declared.pace.PaceCheck.{PaceCheck}
 use Rattle.squeue_replay.specs.declared.squeue.Run.{Run}
-use Rattle.squeue_replay.specs.declared.squeue.Squeue.{Squeue}
+use Rattle.squeue_replay.specs.declared.squeue.ReplayedSqueue.{ReplayedSqueue}
 use Rattle.squeue_replay.specs.Histories.{note_of, noted}
 use Rattle.squeue_replay.specs.Pacing.{HasMet, KeepsAt, PaceStands}
 use Rattle.squeue_replay.specs.Replaying.{history_of, setting_of, squeue_of}
@@ -20,7 +20,7 @@ use Rattle.squeue_replay.specs.Standing.{SqueueOf, Stands}
 use Rattle.squeue_replay.proofs.OneMoreMark.{noted_push}
 use Rattle.trace_replay.specs.Going.{HasAdded}
 
-module _ (old : Squeue) (was : Pace) (past : List Mark) (m : Mark) (next : Squeue) where
+module _ (old : ReplayedSqueue) (was : PaceCheck) (past : List Mark) (m : Mark) (next : ReplayedSqueue) where
   abbrev S : Setting
   S = setting_of old
 
@@ -33,7 +33,7 @@ module _ (old : Squeue) (was : Pace) (past : List Mark) (m : Mark) (next : Squeu
   pushed : history_of old (past ++ m ∷ []) ≡ H ++ e ∷ []
   pushed = noted_push old.run.setup.squeues old.run.setup.spread old.number past m
 
-  pub added_one : (pace : Pace) (keeps taken queued left : Bool) (o : Option ℕ) (n : ℕ) → o ≡ Some n
+  pub added_one : (pace : PaceCheck) (keeps taken queued left : Bool) (o : Option ℕ) (n : ℕ) → o ≡ Some n
       → MatchOption o (Legal S (history_of old (past ++ m ∷ [])) → ⊥) (λ k. Stands S (history_of old (past ++ m ∷ [])) (squeue_of next) × (k ≡ feed_count (done_by (run S H) m))) → Stands S H (squeue_of old) → PaceStands S H was
       → (IsTrue taken ↔ ((squeue_of old).own ≢ Free)) → (IsTrue queued ↔ ((squeue_of old).chain ≢ [])) → (IsTrue left ↔ ((squeue_of next).chain ≢ []))
       → ((T : Setting) (G : List Element) (x : Element) → x.mark ≡ m → May T G x → HasMet T G x (record { taken = taken; queued = queued; processed = n; left = left }) → PaceStands T G was
@@ -54,11 +54,11 @@ module _ (old : Squeue) (was : Pace) (past : List Mark) (m : Mark) (next : Squeu
       record { stands = now.0; paced = subst (λ (G : List Element). PaceStands S G pace) (sym pushed) k.0; fits = k.1 }
 
 -- the squeue and the pace are those of a run and a number
-module _ (run : Run) (number : ℕ) (old : Squeue) (was : Pace) (run_is : old.run ≡ run) (number_is : old.number ≡ number) (setup_is : was.setup ≡ run.setup) (squeue_is : was.squeue ≡ number) where
+module _ (run : Run) (number : ℕ) (old : ReplayedSqueue) (was : PaceCheck) (run_is : old.run ≡ run) (number_is : old.number ≡ number) (setup_is : was.setup ≡ run.setup) (squeue_is : was.squeue ≡ number) where
   abbrev pub Standing : Run → ℕ → List Mark → SqueueOf → Type 0
   Standing r n ms s = Stands (setting_at r.plan.now r.calls.now r.setup.squeues r.setup.rings r.setup.spread n) (noted r.setup.squeues r.setup.spread n ms) s
 
-  abbrev pub Pacing : Run → ℕ → List Mark → Pace → Type 0
+  abbrev pub Pacing : Run → ℕ → List Mark → PaceCheck → Type 0
   Pacing r n ms pace = PaceStands (setting_at r.plan.now r.calls.now r.setup.squeues r.setup.rings r.setup.spread n) (noted r.setup.squeues r.setup.spread n ms) pace
 
   pub its_stands : (ms : List Mark) (s : SqueueOf) → Standing old.run old.number ms s → Standing run number ms s
@@ -67,10 +67,10 @@ module _ (run : Run) (number : ℕ) (old : Squeue) (was : Pace) (run_is : old.ru
   pub stands_of : (ms : List Mark) (s : SqueueOf) → Standing run number ms s → Standing old.run old.number ms s
   stands_of ms s h = subst (λ (r : Run). Standing r old.number ms s) (sym run_is) (subst (λ (n : ℕ). Standing run n ms s) (sym number_is) h)
 
-  pub its_pace : (ms : List Mark) (pace : Pace) → Pacing old.run old.number ms pace → Pacing run number ms pace
+  pub its_pace : (ms : List Mark) (pace : PaceCheck) → Pacing old.run old.number ms pace → Pacing run number ms pace
   its_pace ms pace h = subst (λ (n : ℕ). Pacing run n ms pace) number_is (subst (λ (r : Run). Pacing r old.number ms pace) run_is h)
 
-  pub pace_of : (ms : List Mark) (pace : Pace) → Pacing run number ms pace → Pacing old.run old.number ms pace
+  pub pace_of : (ms : List Mark) (pace : PaceCheck) → Pacing run number ms pace → Pacing old.run old.number ms pace
   pace_of ms pace h = subst (λ (r : Run). Pacing r old.number ms pace) (sym run_is) (subst (λ (n : ℕ). Pacing run n ms pace) (sym number_is) h)
 
   pub its_legal : (ms : List Mark) → (Legal (setting_of old) (history_of old ms) → ⊥)

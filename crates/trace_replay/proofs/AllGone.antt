@@ -7,11 +7,11 @@ use Rattle.std.proofs.lemmas.Bool.{cases_eq}
 use Rattle.std.proofs.lemmas.Option.{get_or_from_slice_get, slice_get_within}
 use Rattle.perimeter_core.specs.declared.marks.Mark.{Mark}
 use Rattle.perimeter_core.specs.Legal.{Legal}
-use Rattle.squeue_state.specs.Naming.{Ending}
+use Rattle.histories.specs.Endings.{Ending}
 use Rattle.conn_classifier.specs.Plan.{PlanOf}
 use Rattle.conn_blocks.specs.CallLists.{CallLists}
 use Rattle.ring_quotas.specs.declared.setup.Setup.{Setup}
-use Rattle.squeue_report.specs.TraceText.{mark_line}
+use Rattle.report_lines.specs.TraceText.{mark_line}
 use Rattle.squeue_replay.specs.Histories.{ending_of, endings_of}
 use Rattle.squeue_replay.specs.Marks.{IsPrinted}
 use Rattle.squeue_replay.specs.Standing.{GuestOf, GuestStands, GuestsStand}

@@ -8,19 +8,18 @@ use Rattle.std.proofs.lemmas.List.FromFn.{length-map-range_with_len}
 use Rattle.std.proofs.lemmas.Option.{none-some, slice_get_within}
 use Rattle.perimeter_core.specs.declared.entries.Act.{Act}
 use Rattle.perimeter_core.specs.declared.marks.Mark.{Mark}
-use Rattle.squeue_state.specs.Naming.{Ending}
-use Rattle.conn_migrate.specs.Stays.{AreOfAllStays}
+use Rattle.histories.specs.Endings.{Ending}
+use Rattle.histories.specs.Stays.{AreOfAllStays}
 use Rattle.conn_classifier.specs.Plan.{PlanOf}
 use Rattle.conn_blocks.specs.Allowed.{all_calls}
 use Rattle.conn_blocks.specs.CallLists.{CallLists}
 use Rattle.conn_blocks.specs.Orders.{IsWhole, settle}
 use Rattle.conn_blocks.specs.ServeOrder.{BlockOf}
 use Rattle.ring_quotas.specs.declared.setup.Setup.{Setup}
-use Rattle.ring_threads.specs.ServedBlocks.{AreServed, IsServing}
+use Rattle.conn_blocks.specs.ServedBlocks.{AreServed, IsServing}
 use Rattle.squeue_replay.specs.Histories.{ending_of, endings_of}
 use Rattle.squeue_replay.specs.Standing.{GuestOf, GuestsStand}
-use Rattle.squeue_rings.proofs.RingStays.{from_map}
-use Rattle.squeue_serve.proofs.Lent.{some_at}
+use Rattle.histories.proofs.ListPlaces.{from_map, some_at}
 use Rattle.trace_replay.specs.Joining.{HasNoOrder, HasOrder, HasStays, IsNamed, LacksAStay, did_before, did_in}
 use Rattle.trace_replay.specs.Reasons.{AreOrdered, AreRight, IsOrdered, IsUnordered}
 use Rattle.trace_replay.proofs.JoinedStays.{are_all, misses, misses_none, named_in}

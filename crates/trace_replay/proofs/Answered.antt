@@ -9,14 +9,14 @@ use Rattle.perimeter_core.specs.Legal.{Legal}
 use Rattle.perimeter_core.proofs.OneMore.{legal_front}
 use Rattle.capture_reader.specs.Outcome.{CaptureFile}
 use Rattle.pcapng_reader.proofs.Inputs.{same_input}
-use Rattle.squeue_state.specs.Naming.{Ending}
+use Rattle.histories.specs.Endings.{Ending}
 use Rattle.conn_classifier.specs.Plan.{PlanOf, plan_of}
 use Rattle.conn_blocks.specs.CallLists.{CallLists}
 use Rattle.ring_quotas.specs.declared.setup.Setup.{Setup}
-use Rattle.squeue_report.specs.ReportText.{body_text, done_line, line}
-use Rattle.squeue_report.specs.TraceText.{calls_text, setup_line, squeue_text, trace_text}
+use Rattle.report_lines.specs.ReportText.{body_text, done_line, line}
+use Rattle.report_lines.specs.TraceText.{calls_text, setup_line, squeue_text, trace_text}
 use Rattle.trace_lines.specs.Printed.{Told, told_text}
-use Rattle.squeue_serve.proofs.Lent.{some_at}
+use Rattle.histories.proofs.ListPlaces.{some_at}
 use Rattle.trace_replay.specs.Lines.{HasFirstLine}
 use Rattle.trace_replay.specs.declared.reason.Reason.{Reason}
 use Rattle.trace_replay.specs.declared.reason.Reason.TheVariants as reason

@@ -17,8 +17,8 @@ use Rattle.perimeter_core.proofs.FeedOrder.{in_order, queue_after, runs_grow}
 use Rattle.perimeter_core.proofs.NextFeed.{fed-append, fed_call, fed_feeds, had}
 use Rattle.perimeter_core.proofs.NumberedActs.{numbers_feeds, up_front}
 use Rattle.perimeter_core.proofs.ActLists.{feed_numbers-append}
-use Rattle.conn_migrate.specs.Stays.{Stay, Stays, all_in, as_list, begun, longer_by, stays}
-use Rattle.conn_migrate.proofs.OneSqueue.{GoesOnWith, fits, stays_push}
+use Rattle.histories.specs.Stays.{Stay, Stays, all_in, as_list, begun, longer_by, stays}
+use Rattle.histories.proofs.OneSqueue.{GoesOnWith, fits, stays_push}
 
 none_fed : (xs : List Act) → fed xs ≡ 0 → feed_numbers xs ≡ []
 none_fed [] h = refl

@@ -14,12 +14,12 @@ use Rattle.perimeter_core.specs.declared.marks.SynchAct.{SynchAct}
 use Rattle.perimeter_core.specs.declared.marks.SynchAct.TheVariants as Done
 use Rattle.tcb_machine.specs.declared.kinds.Call.{Call}
 use Rattle.tcb_machine.specs.declared.kinds.Call.TheVariants as Asks
-use Rattle.squeue_enter.specs.declared.Mode.{Mode}
-use Rattle.squeue_enter.specs.declared.Mode.TheVariants as Mode'
-use Rattle.squeue_enter.specs.Ways.{mode_of, mode_word}
-use Rattle.squeue_enter.proofs.ModeWords.{word_names}
+use Rattle.histories.specs.declared.mode.Mode.{Mode}
+use Rattle.histories.specs.declared.mode.Mode.TheVariants as Mode'
+use Rattle.histories.specs.ModeWords.{mode_of, mode_word}
+use Rattle.histories.proofs.ModeWords.{word_names}
 use Rattle.ring_quotas.specs.declared.setup.Setup.{Setup}
-use Rattle.squeue_report.specs.TraceText.{act_fields, asked_text, entered_field, mark_fields}
+use Rattle.report_lines.specs.TraceText.{act_fields, asked_text, entered_field, mark_fields}
 use Rattle.squeue_replay.specs.Marks.{AreFeeds, IsPrinted, IsPrintedAct, IsSmall}
 use Rattle.trace_lines.specs.Printed.{IsPrintedSetup}
 use Rattle.trace_replay.proofs.Words.{all_of, first_byte, in_word, is_word, number_is, number_of}

@@ -9,9 +9,9 @@ use Rattle.perimeter_core.specs.Legal.{Legal}
 use Rattle.perimeter_core.proofs.OneMore.{legal_ind}
 use Rattle.perimeter_core.proofs.FeedOrder.{puts_away}
 use Rattle.perimeter_core.proofs.LeavesFew.{left_push}
-use Rattle.conn_migrate.specs.Stays.{Stay, Stays, as_list, all_in, begun, longer_by, stays}
-use Rattle.conn_migrate.proofs.OneSqueue.{stays_push, fits}
-use Rattle.squeue_rings.proofs.StaysSeen.{takes_here}
+use Rattle.histories.specs.Stays.{Stay, Stays, as_list, all_in, begun, longer_by, stays}
+use Rattle.histories.proofs.OneSqueue.{stays_push, fits}
+use Rattle.histories.proofs.StaysSeen.{takes_here}
 
 one_longer : (vs : List Stay) (more had : List Act) (o : Option Stay) → is_some o ≡ true → length (vs ++ as_list (longer_by more had o)) ≡ length vs + 1
 one_longer vs more had None h = absurd (let no : false ≡ true = h in let bad : ⊥ = cc in bad)

@@ -12,8 +12,8 @@ use Rattle.perimeter_core.specs.declared.entries.Act.TheVariants as Did
 use Rattle.perimeter_core.specs.declared.marks.Mark.{Mark}
 use Rattle.perimeter_core.specs.Perimeter.{is_here}
 use Rattle.perimeter_core.specs.History.{Setting, start}
-use Rattle.squeue_state.specs.Naming.{Ending}
-use Rattle.conn_migrate.specs.Stays.{StartsAtHome, Stay, all_in, stay, stays_in}
+use Rattle.histories.specs.Endings.{Ending}
+use Rattle.histories.specs.Stays.{StartsAtHome, Stay, all_in, stay, stays_in}
 use Rattle.conn_classifier.specs.Plan.{PlanOf}
 use Rattle.conn_blocks.specs.CallLists.{CallLists}
 use Rattle.ring_quotas.specs.declared.setup.Setup.{Setup}

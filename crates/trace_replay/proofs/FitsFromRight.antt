@@ -16,26 +16,27 @@ use Rattle.perimeter_core.specs.Backlog.{up}
 use Rattle.perimeter_core.specs.Deeds.{acts, fed, feed_numbers}
 use Rattle.perimeter_core.proofs.FeedLists.{length-up}
 use Rattle.perimeter_core.proofs.LeavesFew.{leaves_few}
-use Rattle.squeue_state.specs.Naming.{Ending}
-use Rattle.conn_migrate.specs.Stays.{AreLegal, AreLinked, AreOfAllStays, IsLinked, StartsAtHome, Stay, Stays, all_in, as_list, ended_stay, joined, own_of, stay, stays, stays_in}
-use Rattle.conn_migrate.proofs.OneSqueue.{IsSound, all_sound, fits, next_one, some_of, sound_at}
-use Rattle.conn_migrate.proofs.StaysJoin.{all_stays}
+use Rattle.histories.specs.Endings.{Ending}
+use Rattle.histories.specs.Stays.{AreLegal, AreLinked, AreOfAllStays, IsLinked, StartsAtHome, Stay, Stays, all_in, as_list, ended_stay, joined, own_of, stay, stays, stays_in}
+use Rattle.histories.proofs.OneSqueue.{IsSound, all_sound, fits, next_one, some_of, sound_at}
+use Rattle.histories.proofs.StaysJoin.{all_stays}
 use Rattle.conn_classifier.specs.Plan.{PlanOf, items_in}
 use Rattle.conn_blocks.specs.CallLists.{CallLists}
-use Rattle.placed_parts.specs.Homes.{times_leaving}
+use Rattle.histories.specs.Homes.{times_leaving}
 use Rattle.conn_blocks.specs.Orders.{settle}
 use Rattle.perimeter_core.proofs.ActLists.{feed_numbers-append}
 use Rattle.conn_blocks.specs.SettledFeeds.{feeds_settle}
-use Rattle.squeue_rings.specs.Keeping.{KeepsPace}
-use Rattle.squeue_rings.specs.Noted.{AreNoted}
-use Rattle.squeue_rings.proofs.StaysSeen.{ended_count}
+use Rattle.histories.specs.Keeping.{KeepsPace}
+use Rattle.histories.specs.Noted.{AreNoted}
+use Rattle.histories.proofs.StaysSeen.{ended_count}
 use Rattle.ring_quotas.specs.declared.setup.Setup.{Setup}
 use Rattle.ring_quotas.specs.Quotas.{IsInRange}
-use Rattle.ring_quotas.proofs.Sufficing.{leaves_known}
-use Rattle.ring_threads.specs.Fits.{Fits, HistoryFits, IsHereOnce}
+use Rattle.ring_quotas.proofs.EachQuota.{leaves_known}
+use Rattle.ring_quotas.specs.Fits.{Fits, HistoryFits}
+use Rattle.histories.specs.Fitting.{IsHereOnce}
 use Rattle.squeue_replay.specs.Histories.{endings_of, stay_of, times_in}
-use Rattle.run_histories.proofs.Ends.{fed_counts}
-use Rattle.squeue_serve.proofs.Lent.{some_at}
+use Rattle.histories.proofs.Counts.{fed_counts}
+use Rattle.histories.proofs.ListPlaces.{some_at}
 use Rattle.trace_replay.specs.Reasons.{AreOrdered, AreRight, IsOrdered}
 use Rattle.trace_replay.proofs.Counted.{counted_at, IsCounted}
 use Rattle.trace_replay.proofs.Endings.{all_start, due_by_stay, endings_are, full_at, full_count, full_ending, full_endings, full_is, full_marks, full_notes, full_setting, starts_at, starts_count}

@@ -8,9 +8,9 @@ use Rattle.perimeter_core.specs.declared.marks.Mark.TheVariants as On
 use Rattle.perimeter_core.specs.Deeds.{done}
 use Rattle.perimeter_core.specs.History.{Element, Setting, pass_of}
 use Rattle.perimeter_core.specs.Legal.{feed_count}
-use Rattle.squeue_enter.specs.declared.Mode.{Mode}
-use Rattle.squeue_state.specs.Naming.{Ending}
-use Rattle.squeue_rings.specs.Keeping.{Keeps, KeepsFrom, taken}
+use Rattle.histories.specs.declared.mode.Mode.{Mode}
+use Rattle.histories.specs.Endings.{Ending}
+use Rattle.histories.specs.Keeping.{Keeps, KeepsFrom, taken}
 use Rattle.ring_quotas.specs.declared.setup.Setup.{Setup}
 use Rattle.squeue_replay.specs.Pacing.{KeepsAt}
 use Rattle.trace_replay.specs.Reasons.{AreFit, IsUnfitAt, TakesFew}

@@ -15,7 +15,7 @@ use Rattle.perimeter_core.specs.Legal.{NoteFits}
 use Rattle.squeue_replay.specs.Histories.{note_of, noted_from, stay_of, times_in}
 use Rattle.trace_replay.proofs.Notes.{Alike, NotesFit}
 use Rattle.trace_replay.proofs.NotesIn.{marks_of, notes_in}
-use Rattle.run_histories.proofs.SameCounts.{once_if}
+use Rattle.histories.proofs.SameCounts.{once_if}
 
 module _ (f : ℕ → ℕ → List Act) where
   abbrev pub full_note : List Mark → Mark → List Act

@@ -13,14 +13,14 @@ use Rattle.perimeter_core.specs.Legal.{Enters, Legal, LegalFrom}
 use Rattle.perimeter_core.specs.Backlog.{queue, up}
 use Rattle.perimeter_core.proofs.OrderAndWake.{order}
 use Rattle.perimeter_core.proofs.FeedLists.{feeds_of-append}
-use Rattle.squeue_enter.specs.declared.Mode.{Mode}
+use Rattle.histories.specs.declared.mode.Mode.{Mode}
 use Rattle.perimeter_core.proofs.ActLists.{feed_numbers-append}
-use Rattle.placed_parts.specs.Homes.{home}
-use Rattle.conn_migrate.specs.Stays.{Stay, all_in, done_in, reports_from, stays}
-use Rattle.squeue_rings.specs.Keeping.{AreHome, KeepsFrom, KeepsPace}
+use Rattle.histories.specs.Homes.{home}
+use Rattle.histories.specs.Stays.{Stay, all_in, done_in, reports_from, stays}
+use Rattle.histories.specs.Keeping.{AreHome, KeepsFrom, KeepsPace}
 use Rattle.trace_replay.proofs.Counted.{numbers_reported}
 use Rattle.ring_quotas.proofs.Moving.{mod_sum}
-use Rattle.conn_migrate.proofs.StaysKept.{reports_are_done}
+use Rattle.histories.proofs.StaysKept.{reports_are_done}
 
 -- feeds of connection c that are at home at squeue q
 abbrev pub HomeAt : ℕ → ℕ → ℕ → ℕ → List ℕ → Type 0

@@ -10,9 +10,9 @@ use Rattle.perimeter_core.specs.Perimeter.{is_here}
 use Rattle.perimeter_core.specs.History.{Element, Setting, conns, start}
 use Rattle.perimeter_core.specs.Deeds.{puts_in}
 use Rattle.perimeter_core.specs.Legal.{InRange, Legal, LegalFrom}
-use Rattle.squeue_state.specs.Naming.{Ending}
-use Rattle.conn_migrate.specs.Stays.{Stay, all_in, as_list, ended_stay, stay, stays, stays_at, stays_in}
-use Rattle.conn_migrate.proofs.OneSqueue.{in_front}
+use Rattle.histories.specs.Endings.{Ending}
+use Rattle.histories.specs.Stays.{Stay, all_in, as_list, ended_stay, stay, stays, stays_at, stays_in}
+use Rattle.histories.proofs.OneSqueue.{in_front}
 use Rattle.squeue_replay.specs.Histories.{times_in}
 use Rattle.trace_replay.proofs.NotesIn.{firsts, marks_of, notes_are, notes_counted, notes_in}
 

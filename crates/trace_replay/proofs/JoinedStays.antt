@@ -7,10 +7,10 @@ use Rattle.std.proofs.lemmas.Bool.{cases_lt}
 use Rattle.std.proofs.lemmas.Bool.Decides.{nat_tests}
 use Rattle.std.proofs.lemmas.Option.{none-some, slice_get-map, slice_get_within}
 use Rattle.perimeter_core.specs.declared.entries.Act.{Act}
-use Rattle.squeue_state.specs.Naming.{Ending}
-use Rattle.conn_migrate.specs.Stays.{Stay, all_in, stays, stays_in, stay, ended_stay, own_of, joined, AreLegal, AreOfAllStays}
+use Rattle.histories.specs.Endings.{Ending}
+use Rattle.histories.specs.Stays.{Stay, all_in, stays, stays_in, stay, ended_stay, own_of, joined, AreLegal, AreOfAllStays}
 use Rattle.squeue_replay.specs.Standing.{GuestOf, GuestStands, GuestsStand}
-use Rattle.squeue_serve.proofs.Lent.{some_at}
+use Rattle.histories.proofs.ListPlaces.{some_at}
 use Rattle.trace_replay.specs.Reasons.{MissesAnOut}
 use Rattle.trace_replay.specs.Joining.{guest_among, did_at, has_left, acts_in, did_in, left_in, did_before, HasStays, IsNamed, LacksAStay}
 use Rattle.trace_replay.proofs.EndedStays.{ended_count}

@@ -1,7 +1,8 @@
 -- Why a report isn't one, from what is read of its lines; and what all of it says.
-use Rattle.std.proofs.Common.{◌≡◌, ◌∙◌, ℕ, suc, ◌+◌, ◌<◌, Bool, true, if◌then◌else◌, codes, List, [], ◌∷◌, ◌++◌, drop, get_or, length, map, Result, Ok, Err, refl, sym, ap, subst, arith}
+use Rattle.std.proofs.Common.{◌≡◌, ◌∙◌, ℕ, suc, ◌+◌, ◌<◌, Bool, Box, true, if◌then◌else◌, codes, List, [], ◌∷◌, ◌++◌, drop, get_or, length, map, Result, Ok, Err, refl, sym, ap, subst, arith}
 use Rattle.std.specs.Fmt.{decimal}
 use Rattle.std.specs.Prelude.{All, OnOk}
+use Rattle.std.specs.declared.alloc.Global.{Global}
 use Rattle.std.proofs.lemmas.List.Elements.{All-append, All-cons, All-head, All-nil, All-tail}
 use Rattle.std.specs.List.{enumerate_from, flat_map}
 use Rattle.std.proofs.lemmas.List.{append_assoc, append_cancel_left, length-map}
@@ -15,9 +16,11 @@ use Rattle.pcapng_reader.specs.Input.{IsInput}
 use Rattle.conn_classifier.specs.Plan.{PlanOf, plan_of}
 use Rattle.conn_blocks.specs.Allowed.{all_from, named_from}
 use Rattle.conn_blocks.specs.CallLists.{CallLists}
+use Rattle.conn_blocks.specs.ServeOrder.{BlockOf}
+use Rattle.conn_blocks.specs.ServedBlocks.{AreServed, blocks_in}
 use Rattle.ring_quotas.specs.declared.setup.Setup.{Setup}
-use Rattle.squeue_report.specs.ReportText.{body_text, done_line, report_text}
-use Rattle.squeue_report.specs.TraceText.{asked_text, call_line, calls_text, setup_line, squeue_line, squeue_text, thread_text, trace_text}
+use Rattle.report_lines.specs.ReportText.{body_text, done_line, report_text}
+use Rattle.report_lines.specs.TraceText.{asked_text, call_line, calls_text, setup_line, squeue_line, squeue_text, thread_text, trace_text}
 use Rattle.squeue_replay.specs.Histories.{ending_of, endings_of}
 use Rattle.squeue_replay.specs.Standing.{GuestOf, GuestsStand}
 use Rattle.trace_lines.specs.Printed.{ArePrintedCalls, ArePrintedMarks, BeginsWithCall, IsPrintedCall, IsPrintedSetup, IsTold, Told, told_text}
@@ -183,6 +186,17 @@ calls_named n j (l ∷ ls) h =
 pub trace_is : (report head : List ℕ) (p : PlanOf) (t : Told) (orders : List (List Act)) → HasTold report head p t → head ≡ head_of p t.calls orders → report ≡ trace_text p t.calls t.setup t.verify orders t.marks
 unfolding trace_text
 trace_is report head p t orders told same = told.at.joined ∙ ap (λ f. f ++ told_text t) same ∙ append_assoc (codes "report 2\n") (body_text p t.calls orders) (told_text t)
+
+-- the orders of the blocks in these boxes
+abbrev pub orders_in : List (Box BlockOf Global) → List (List Act)
+orders_in boxes = map (λ b. b.order) (blocks_in boxes)
+
+-- a report of the boxes of a slice is one of those that the slice shows
+pub reported_as : (p : PlanOf) (calls : CallLists) (shown boxes : List (Box BlockOf Global)) (text : List ℕ) → shown ≡ boxes → AreServed p calls (blocks_in boxes)
+    → (AreServed p calls (blocks_in shown) → text ≡ report_text p calls (orders_in shown)) → text ≡ report_text p calls (orders_in boxes)
+reported_as p calls shown boxes text same served told =
+    told (subst (λ (l : List (Box BlockOf Global)). AreServed p calls (blocks_in l)) (sym same) served)
+    ∙ ap (λ (l : List (Box BlockOf Global)). report_text p calls (orders_in l)) same
 
 pub report_is : (p : PlanOf) (calls : CallLists) (orders : List (List Act)) → report_text p calls orders ≡ codes "report 1\n" ++ (body_text p calls orders ++ codes "done\n")
 unfolding report_text

@@ -10,7 +10,7 @@ use Rattle.conn_blocks.specs.CallLists.{CallLists}
 use Rattle.ring_quotas.specs.declared.setup.Setup.{Setup}
 use Rattle.squeue_replay.specs.Histories.{endings_of}
 use Rattle.squeue_replay.specs.Standing.{GuestOf, GuestsStand}
-use Rattle.squeue_serve.proofs.Lent.{some_at}
+use Rattle.histories.proofs.ListPlaces.{some_at}
 use Rattle.trace_replay.specs.Joining.{guest_among}
 use Rattle.trace_replay.proofs.AllOrders.{starts_of}
 

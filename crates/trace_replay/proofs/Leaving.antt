@@ -4,7 +4,7 @@ use Rattle.std.specs.Prelude.{◌||◌}
 use Rattle.std.proofs.lemmas.Bool.{cases_lt}
 use Rattle.std.proofs.lemmas.Bool.Decides.{nat_tests}
 use Rattle.std.proofs.lemmas.Nat.{div-add-mod', mod_below}
-use Rattle.placed_parts.specs.Homes.{times_leaving}
+use Rattle.histories.specs.Homes.{times_leaving}
 use Rattle.ring_quotas.proofs.Moving.{away, leaving_is, moves_of}
 use Rattle.trace_replay.proofs.Rounds.{away_of}
 

@@ -16,8 +16,8 @@ use Rattle.perimeter_core.specs.History.{Element, Setting, start, run_from}
 use Rattle.perimeter_core.specs.Deeds.{call_act, done_by, feed_acts, reported}
 use Rattle.perimeter_core.specs.Legal.{Legal, ActsFit}
 use Rattle.perimeter_core.proofs.OneMore.{legal_ind}
-use Rattle.conn_migrate.specs.Stays.{Stay, all_in, done_in, reports, stays}
-use Rattle.conn_migrate.proofs.StaysKept.{reports_are_done, reports_push}
+use Rattle.histories.specs.Stays.{Stay, all_in, done_in, reports, stays}
+use Rattle.histories.proofs.StaysKept.{reports_are_done, reports_push}
 use Rattle.trace_replay.specs.Joining.{IsNamed}
 
 module _ (names : List (ℕ × ℕ × ℕ)) (c : ℕ) where

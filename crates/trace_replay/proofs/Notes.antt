@@ -11,8 +11,8 @@ use Rattle.perimeter_core.specs.Perimeter.{State, Can, after}
 use Rattle.perimeter_core.specs.History.{Element, Setting, ask_quota, feed_quota, pass_of, run, run_from, start, worker}
 use Rattle.perimeter_core.specs.Deeds.{done, done_by, done_from, due, due_after, due_from, entries_of, fed, feeds_of, puts_in, takes_out, times_left}
 use Rattle.perimeter_core.specs.Legal.{ActsFit, AsksLast, AtItsAsk, Enters, IdleFirst, InRange, Legal, LegalFrom, May, NoteFits, Progress, RightKind, WorkerOnly, all_feeds, ask_count, asks_by, feed_count, feeds_by}
-use Rattle.squeue_enter.specs.declared.Mode.{Mode}
-use Rattle.squeue_rings.specs.Keeping.{AreHome, Keeps, KeepsFrom, KeepsPace, claims_feeds, fills, fills_one, gives_it_up, is_fast, leaves_it, taken, taken_after, taken_from}
+use Rattle.histories.specs.declared.mode.Mode.{Mode}
+use Rattle.histories.specs.Keeping.{AreHome, Keeps, KeepsFrom, KeepsPace, claims_feeds, fills, fills_one, gives_it_up, is_fast, leaves_it, taken, taken_after, taken_from}
 
 abbrev pub Alike : List Element → List Element → Type 0
 Alike [] [] = Unit {0}

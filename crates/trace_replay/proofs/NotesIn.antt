@@ -9,9 +9,9 @@ use Rattle.perimeter_core.specs.declared.marks.Mark.{Mark}
 use Rattle.perimeter_core.specs.Perimeter.{State, after, is_here}
 use Rattle.perimeter_core.specs.History.{Element, Setting, start}
 use Rattle.perimeter_core.specs.Deeds.{acts_after, puts_in, reported, takes_out}
-use Rattle.conn_migrate.specs.Stays.{Stay, Stays, all_in, as_list, begun, longer_by, stays, stays_after, stays_from}
+use Rattle.histories.specs.Stays.{Stay, Stays, all_in, as_list, begun, longer_by, stays, stays_after, stays_from}
 use Rattle.squeue_replay.specs.Histories.{times_in}
-use Rattle.squeue_rings.proofs.StaysSeen.{notes, same_note}
+use Rattle.histories.proofs.StaysSeen.{notes, same_note}
 
 abbrev pub marks_of : List Element → List Mark
 marks_of H = map (λ (e : Element). e.mark) H

@@ -10,15 +10,15 @@ use Rattle.perimeter_core.specs.Deeds.{done}
 use Rattle.perimeter_core.specs.Legal.{feed_count}
 use Rattle.sq_base.specs.declared.kinds.Tuple.{Tuple}
 use Rattle.capture_reader.specs.Outcome.{CaptureFile}
-use Rattle.squeue_state.specs.Naming.{Ending}
+use Rattle.histories.specs.Endings.{Ending}
 use Rattle.conn_classifier.specs.Connections.{conns, decoded, distinct, served_tuple}
 use Rattle.conn_classifier.specs.Plan.{PlanOf, plan_of}
 use Rattle.conn_blocks.specs.CallLists.{CallLists}
 use Rattle.conn_blocks.specs.Orders.{settle}
-use Rattle.squeue_enter.specs.declared.Mode.{Mode}
-use Rattle.squeue_rings.specs.Keeping.{KeepsFrom, KeepsPace, taken}
+use Rattle.histories.specs.declared.mode.Mode.{Mode}
+use Rattle.histories.specs.Keeping.{KeepsFrom, KeepsPace, taken}
 use Rattle.ring_quotas.specs.declared.setup.Setup.{Setup}
-use Rattle.squeue_serve.proofs.Lent.{get_front}
+use Rattle.histories.proofs.ListPlaces.{get_front}
 use Rattle.trace_replay.specs.Reasons.{AreFit, AreOrdered}
 use Rattle.trace_replay.proofs.StaysAlike.{all_fixed}
 

@@ -9,14 +9,14 @@ use Rattle.perimeter_core.specs.declared.marks.Mark.{Mark}
 use Rattle.perimeter_core.specs.Ending.{IsOver}
 use Rattle.perimeter_core.specs.History.{Element, Setting, run}
 use Rattle.perimeter_core.specs.Legal.{Legal}
-use Rattle.squeue_state.specs.Naming.{Ending}
+use Rattle.histories.specs.Endings.{Ending}
 use Rattle.conn_classifier.specs.Plan.{PlanOf}
 use Rattle.conn_blocks.specs.CallLists.{CallLists}
 use Rattle.ring_quotas.specs.declared.setup.Setup.{Setup}
 use Rattle.ring_quotas.specs.Quotas.{setting_at}
-use Rattle.squeue_report.specs.ReportText.{line, line_end}
-use Rattle.squeue_report.specs.TraceText.{mark_fields, mark_line}
-use Rattle.squeue_replay.specs.declared.pace.Pace.{Pace}
+use Rattle.report_lines.specs.ReportText.{line, line_end}
+use Rattle.report_lines.specs.TraceText.{mark_fields, mark_line}
+use Rattle.squeue_replay.specs.declared.pace.PaceCheck.{PaceCheck}
 use Rattle.squeue_replay.specs.Histories.{ending_of, note_of, noted, noted_from}
 use Rattle.squeue_replay.specs.Marks.{IsPrinted}
 use Rattle.squeue_replay.specs.Pacing.{KeepsAt, PaceStands}
@@ -105,7 +105,7 @@ module _ (p : PlanOf) (calls : CallLists) (setup : Setup) (q : ℕ) where
       ∙ (ap (λ (n : ℕ). take n (history a ++ noted_from setup.squeues setup.spread q a b)) (sym (long a)) ∙ take-append_seam (history a) (noted_from setup.squeues setup.spread q a b))
 
   -- so many of these marks were gone through, and these lines are those of the rest
-  pub record Reached (ms : List Mark) (rest : List ℕ) (count : ℕ) (unfit : Option ℕ) (s : SqueueOf) (pace : Pace) : Type 0 where
+  pub record Reached (ms : List Mark) (rest : List ℕ) (count : ℕ) (unfit : Option ℕ) (s : SqueueOf) (pace : PaceCheck) : Type 0 where
     pub past : List Mark
     pub more : List Mark
     pub joined : ms ≡ past ++ more
@@ -116,7 +116,7 @@ module _ (p : PlanOf) (calls : CallLists) (setup : Setup) (q : ℕ) where
     pub paced : PaceStands its_setting (history past) pace
     pub fit : MatchOption unfit (AreFit setup q (ended past)) (IsUnfitAt setup q (ended past))
 
-  pub begins : (ms : List Mark) (lines : List ℕ) (s : SqueueOf) (pace : Pace) → All IsPrinted ms → lines ≡ flat_map mark_line ms → Stands its_setting [] s → PaceStands its_setting [] pace → Reached ms lines 0 None s pace
+  pub begins : (ms : List Mark) (lines : List ℕ) (s : SqueueOf) (pace : PaceCheck) → All IsPrinted ms → lines ≡ flat_map mark_line ms → Stands its_setting [] s → PaceStands its_setting [] pace → Reached ms lines 0 None s pace
   begins ms lines s pace printed are stands paced =
       record { past = []; more = ms; joined = refl; printed = printed; lines = are; counted = refl; stands = stands; paced = paced; fit = fit_none setup q q its_setting }
 
@@ -138,14 +138,14 @@ module _ (p : PlanOf) (calls : CallLists) (setup : Setup) (q : ℕ) where
   one_more past m count unfit keeps counted fit decided =
       subst (λ (H : List Element). MatchOption (option_or unfit (then_some (not keeps) count)) (AreFit setup q (with H)) (IsUnfitAt setup q (with H))) (sym (noted_push setup.squeues setup.spread q past m)) (first_unfit past m count unfit keeps counted fit decided)
 
-  module _ (ms : List Mark) (text : List ℕ) (count : ℕ) (unfit : Option ℕ) (s : SqueueOf) (pace : Pace) (reached : Reached ms text count unfit s pace) (m : Mark) (rest : List ℕ) (printed : IsPrinted m) (is : text ≡ mark_line m ++ rest) where
+  module _ (ms : List Mark) (text : List ℕ) (count : ℕ) (unfit : Option ℕ) (s : SqueueOf) (pace : PaceCheck) (reached : Reached ms text count unfit s pace) (m : Mark) (rest : List ℕ) (printed : IsPrinted m) (is : text ≡ mark_line m ++ rest) where
     next : Next reached.more m rest
     next = next_mark reached.more text m rest reached.printed reached.lines printed is
 
     whole : ms ≡ (reached.past ++ m ∷ []) ++ next.others
     whole = reached.joined ∙ (ap (λ (more : List Mark). reached.past ++ more) next.is ∙ sym (append_assoc reached.past (m ∷ []) next.others))
 
-    pub goes_on : (t : SqueueOf) (after : Pace) (keeps : Bool) → Stands its_setting (history (reached.past ++ m ∷ [])) t → PaceStands its_setting (history (reached.past ++ m ∷ [])) after
+    pub goes_on : (t : SqueueOf) (after : PaceCheck) (keeps : Bool) → Stands its_setting (history (reached.past ++ m ∷ [])) t → PaceStands its_setting (history (reached.past ++ m ∷ [])) after
         → Decides keeps (KeepsAt setup q its_setting (history reached.past) (record { mark = m; note = note_of setup.squeues setup.spread q reached.past m }))
         → Reached ms rest (count + 1) (option_or unfit (then_some (not keeps) count)) t after
     goes_on t after keeps stands paced decided =
@@ -177,7 +177,7 @@ module _ (p : PlanOf) (calls : CallLists) (setup : Setup) (q : ℕ) where
           illegal = λ legal. unlike (subst (Legal its_setting) to legal);
         }
 
-  pub ends : (ms : List Mark) (text : List ℕ) (count : ℕ) (unfit : Option ℕ) (s : SqueueOf) (pace : Pace) (has : Bool) → Reached ms text count unfit s pace → length text ≡ 0
+  pub ends : (ms : List Mark) (text : List ℕ) (count : ℕ) (unfit : Option ℕ) (s : SqueueOf) (pace : PaceCheck) (has : Bool) → Reached ms text count unfit s pace → length text ≡ 0
       → ((H : List Element) → Stands its_setting H s → (IsTrue has ↔ IsOver its_setting (run its_setting H))) → HasGone setup q (ended ms) s.guests has unfit
   ends ms text count unfit s pace has reached none over =
       subst (λ (l : List Mark). HasGone setup q (ended l) s.guests has unfit)

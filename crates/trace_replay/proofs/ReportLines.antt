@@ -28,15 +28,15 @@ use Rattle.tcb_machine.specs.declared.kinds.State.TheVariants as State'
 use Rattle.echo_services.specs.declared.service.Service.{Service}
 use Rattle.echo_services.specs.declared.service.Service.TheVariants as Service'
 use Rattle.echo_services.specs.Pump.{service_of, service_word}
-use Rattle.squeue_enter.specs.declared.Mode.{Mode}
-use Rattle.squeue_enter.specs.declared.Mode.TheVariants as Mode'
-use Rattle.squeue_enter.specs.Ways.{mode_word}
+use Rattle.histories.specs.declared.mode.Mode.{Mode}
+use Rattle.histories.specs.declared.mode.Mode.TheVariants as Mode'
+use Rattle.histories.specs.ModeWords.{mode_word}
 use Rattle.conn_blocks.specs.CallLists.{CallLists}
 use Rattle.conn_blocks.specs.ServeOrder.{Serving, serve}
 use Rattle.ring_quotas.specs.declared.setup.Setup.{Setup}
-use Rattle.squeue_report.specs.Names.{state_word}
-use Rattle.squeue_report.specs.ReportText.{Entry, answer_fields, answer_line, body_text, call, conn_line, conn_text, counts_line, datagram_line, end_field, end_line, entries_of, entry_field, feeds, line, line_end, order_line, reply_line}
-use Rattle.squeue_report.specs.TraceText.{act_fields, asked_text, call_line, calls_text, entered_field, mark_line, setup_line, squeue_line, squeue_text, thread_text}
+use Rattle.report_lines.specs.Names.{state_word}
+use Rattle.report_lines.specs.ReportText.{Entry, answer_fields, answer_line, body_text, call, conn_line, conn_text, counts_line, datagram_line, end_field, end_line, entries_of, entry_field, feeds, line, line_end, order_line, reply_line}
+use Rattle.report_lines.specs.TraceText.{act_fields, asked_text, call_line, calls_text, entered_field, mark_line, setup_line, squeue_line, squeue_text, thread_text}
 use Rattle.trace_replay.proofs.FirstLines.{avoids, avoids_both}
 
 -- a field without a newline

@@ -12,17 +12,17 @@ use Rattle.perimeter_core.specs.Deeds.{fed, puts_in}
 use Rattle.perimeter_core.specs.Legal.{Legal}
 use Rattle.perimeter_core.specs.Ending.{IsOver}
 use Rattle.perimeter_core.proofs.OneMore.{legal_next}
-use Rattle.squeue_state.specs.Naming.{Ending}
-use Rattle.conn_migrate.specs.Stays.{AreOfAllStays, Stay, all_in, ended_stay, stay, stays}
-use Rattle.conn_migrate.proofs.StaysJoin.{all_stays}
+use Rattle.histories.specs.Endings.{Ending}
+use Rattle.histories.specs.Stays.{AreOfAllStays, Stay, all_in, ended_stay, stay, stays}
+use Rattle.histories.proofs.StaysJoin.{all_stays}
 use Rattle.conn_classifier.specs.Plan.{PlanOf}
 use Rattle.conn_blocks.specs.CallLists.{CallLists}
-use Rattle.squeue_rings.specs.Keeping.{KeepsPace}
+use Rattle.histories.specs.Keeping.{KeepsPace}
 use Rattle.ring_quotas.specs.declared.setup.Setup.{Setup}
 use Rattle.ring_quotas.specs.Quotas.{IsInRange}
-use Rattle.ring_threads.specs.Fits.{Fits}
+use Rattle.ring_quotas.specs.Fits.{Fits}
 use Rattle.squeue_replay.specs.Histories.{endings_of, stay_of, times_in}
-use Rattle.squeue_serve.proofs.Lent.{some_at}
+use Rattle.histories.proofs.ListPlaces.{some_at}
 use Rattle.trace_replay.specs.Reasons.{AreOrdered, AreRight, HasClosed, IsOrdered, MissesAnOut}
 use Rattle.trace_replay.proofs.Endings.{due_by_stay, endings_are, full_at, full_count, full_endings, full_setting, starts_at, starts_count}
 use Rattle.trace_replay.proofs.Full.{alike_full, fed_dues, full_fits, full_from}

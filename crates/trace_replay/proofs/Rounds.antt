@@ -7,7 +7,7 @@ use Rattle.perimeter_core.specs.declared.entries.Act.{Act}
 use Rattle.perimeter_core.specs.declared.marks.Mark.{Mark}
 use Rattle.perimeter_core.specs.Perimeter.{is_here}
 use Rattle.perimeter_core.specs.History.{Setting, start}
-use Rattle.conn_migrate.specs.Stays.{Stay, all_in, stays}
+use Rattle.histories.specs.Stays.{Stay, all_in, stays}
 use Rattle.squeue_replay.specs.Histories.{stay_of}
 use Rattle.ring_quotas.proofs.Moving.{mod_sum}
 use Rattle.trace_replay.proofs.NotesIn.{firsts, note_at, notes_in}

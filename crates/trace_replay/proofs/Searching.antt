@@ -2,7 +2,7 @@
 use Rattle.std.proofs.Common.{◌≡◌, ◌≢◌, ℕ, ◌+◌, ◌-◌, ◌<◌, ◌≤◌, ◌⊎◌, List, [], ◌∷◌, ◌++◌, get_or, length, take, drop, inl, inr, sym, ap, ◌∙◌, arith}
 use Rattle.std.proofs.lemmas.Bool.{cases_eq, cases_lt}
 use Rattle.std.proofs.lemmas.List.{append_assoc, drop_at, get_or_at, get_or-drop, length-append, length-drop, length-take-le, take-append-drop, take_at, take_more}
-use Rattle.squeue_report.specs.ReportText.{done_line}
+use Rattle.report_lines.specs.ReportText.{done_line}
 use Rattle.trace_replay.specs.Reasons.{IsCut}
 use Rattle.trace_replay.specs.Lines.{EndsLine, HasLine, HasFirstLine, HasNoLine}
 

@@ -10,9 +10,9 @@ use Rattle.perimeter_core.specs.declared.marks.Mark.{Mark}
 use Rattle.perimeter_core.specs.Perimeter.{State, after}
 use Rattle.perimeter_core.specs.History.{Element, Setting}
 use Rattle.perimeter_core.specs.Deeds.{acts_after, puts_in, reported, takes_out}
-use Rattle.squeue_state.specs.Naming.{Ending}
-use Rattle.conn_migrate.specs.Stays.{AreOfAllStays, Stay, Stays, all_in, as_list, begun, ended_stay, joined, longer_by, own_of, stay, stays, stays_after, stays_at, stays_from, stays_in}
-use Rattle.squeue_serve.proofs.Lent.{some_at}
+use Rattle.histories.specs.Endings.{Ending}
+use Rattle.histories.specs.Stays.{AreOfAllStays, Stay, Stays, all_in, as_list, begun, ended_stay, joined, longer_by, own_of, stay, stays, stays_after, stays_at, stays_from, stays_in}
+use Rattle.histories.proofs.ListPlaces.{some_at}
 use Rattle.trace_replay.proofs.Notes.{Alike, alike_ind}
 
 abbrev pub own_now : Option Stay → Option (List Act)

@@ -8,10 +8,10 @@ use Rattle.perimeter_core.specs.History.{Element}
 use Rattle.perimeter_core.specs.History as history
 use Rattle.perimeter_core.specs.Legal.{Legal}
 use Rattle.ring_quotas.specs.Quotas.{setting_at}
-use Rattle.squeue_report.specs.TraceText.{mark_line}
-use Rattle.squeue_replay.specs.declared.pace.Pace.{Pace}
+use Rattle.report_lines.specs.TraceText.{mark_line}
+use Rattle.squeue_replay.specs.declared.pace.PaceCheck.{PaceCheck}
 use Rattle.squeue_replay.specs.declared.squeue.Run.{Run}
-use Rattle.squeue_replay.specs.declared.squeue.Squeue.{Squeue}
+use Rattle.squeue_replay.specs.declared.squeue.ReplayedSqueue.{ReplayedSqueue}
 use Rattle.squeue_replay.specs.Histories.{ending_of}
 use Rattle.squeue_replay.specs.Marks.{IsPrinted}
 use Rattle.squeue_replay.specs.Pacing.{PaceStands}
@@ -22,10 +22,10 @@ use Rattle.trace_replay.specs.Reasons.{IsIllegalAt}
 use Rattle.trace_replay.proofs.Adding.{its_fit, its_legal, its_pace, its_stands, pace_of, stands_of}
 use Rattle.trace_replay.proofs.Reaching.{Reached, ends, goes_on, illegal}
 
-module _ (r : Run) (q : ℕ) (old : Squeue) (was : Pace) (run_is : old.run ≡ r) (number_is : old.number ≡ q) (setup_is : was.setup ≡ r.setup) (squeue_is : was.squeue ≡ q) (ms : List Mark) (text : List ℕ) (count : ℕ) (unfit : Option ℕ)
+module _ (r : Run) (q : ℕ) (old : ReplayedSqueue) (was : PaceCheck) (run_is : old.run ≡ r) (number_is : old.number ≡ q) (setup_is : was.setup ≡ r.setup) (squeue_is : was.squeue ≡ q) (ms : List Mark) (text : List ℕ) (count : ℕ) (unfit : Option ℕ)
     (reached : Reached r.plan.now r.calls.now r.setup q ms text count unfit (squeue_of old) was) where
   -- one mark more was read, and added
-  module _ (m : Mark) (rest : List ℕ) (printed : IsPrinted m) (is : text ≡ mark_line m ++ rest) (next : Squeue) (after : Pace) (HasRead : Type 0) (read : HasRead) (o : Option Bool)
+  module _ (m : Mark) (rest : List ℕ) (printed : IsPrinted m) (is : text ≡ mark_line m ++ rest) (next : ReplayedSqueue) (after : PaceCheck) (HasRead : Type 0) (read : HasRead) (o : Option Bool)
       (added : (past : List Mark) → Stands (setting_of old) (history_of old past) (squeue_of old) → PaceStands (setting_of old) (history_of old past) was → IsPrinted m → HasRead
       → MatchOption o (Legal (setting_of old) (history_of old (past ++ m ∷ [])) → ⊥) (λ keeps. HasAdded old was past m next after keeps)) where
     answer : MatchOption o (Legal (setting_of old) (history_of old (reached.past ++ m ∷ [])) → ⊥) (λ keeps. HasAdded old was reached.past m next after keeps)

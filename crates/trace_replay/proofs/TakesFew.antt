@@ -13,11 +13,11 @@ use Rattle.perimeter_core.specs.Legal.{IdleFirst, Legal, LegalFrom, May, feed_co
 use Rattle.perimeter_core.proofs.OneMore.{done_push, legal_from_back, legal_front, legal_more, legal_next, run_push}
 use Rattle.perimeter_core.proofs.PassKept.{pass_kept}
 use Rattle.perimeter_core.proofs.Quotas.{feed_count-append}
-use Rattle.squeue_enter.specs.declared.Mode.{Mode}
-use Rattle.squeue_state.specs.Naming.{Ending}
+use Rattle.histories.specs.declared.mode.Mode.{Mode}
+use Rattle.histories.specs.Endings.{Ending}
 use Rattle.trace_replay.specs.Reasons.{TakesFew}
-use Rattle.squeue_rings.proofs.Pacing.{taken_join}
-use Rattle.squeue_rings.specs.Keeping.{KeepsFrom, KeepsPace, gives_it_up, taken, taken_after}
+use Rattle.histories.proofs.Keeping.{taken_join}
+use Rattle.histories.specs.Keeping.{KeepsFrom, KeepsPace, gives_it_up, taken, taken_after}
 
 pub does_more : (S : Setting) (H : List Element) (e : Element) → feed_count (done S H) ≤ feed_count (done S (H ++ e ∷ []))
 does_more S H e =

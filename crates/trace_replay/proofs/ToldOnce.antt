@@ -16,13 +16,13 @@ use Rattle.perimeter_core.specs.declared.marks.SynchAct.{SynchAct}
 use Rattle.perimeter_core.specs.declared.marks.SynchAct.TheVariants as Done
 use Rattle.tcb_machine.specs.declared.kinds.Call.{Call}
 use Rattle.tcb_machine.specs.declared.kinds.Call.TheVariants as Asks
-use Rattle.squeue_enter.specs.declared.Mode.{Mode}
-use Rattle.squeue_enter.specs.declared.Mode.TheVariants as Mode'
-use Rattle.squeue_enter.specs.Ways.{mode_word}
+use Rattle.histories.specs.declared.mode.Mode.{Mode}
+use Rattle.histories.specs.declared.mode.Mode.TheVariants as Mode'
+use Rattle.histories.specs.ModeWords.{mode_word}
 use Rattle.conn_blocks.specs.CallLists.{CallLists}
 use Rattle.ring_quotas.specs.declared.setup.Setup.{Setup}
-use Rattle.squeue_report.specs.ReportText.{done_line, line}
-use Rattle.squeue_report.specs.TraceText.{act_fields, asked_text, call_line, entered_field, mark_fields, mark_line, setup_line, squeue_line, squeue_text, thread_text}
+use Rattle.report_lines.specs.ReportText.{done_line, line}
+use Rattle.report_lines.specs.TraceText.{act_fields, asked_text, call_line, entered_field, mark_fields, mark_line, setup_line, squeue_line, squeue_text, thread_text}
 use Rattle.squeue_replay.specs.Marks.{IsPrinted}
 use Rattle.trace_lines.specs.Printed.{IsPrintedCall, IsTold, Told, told_text}
 use Rattle.trace_replay.proofs.Decode.{call_back, call_from, call_word, mark_back, mark_from, same_word, setup_back, setup_from, setup_words, thread_back, thread_from, verify_back, verify_from, word_decimal}

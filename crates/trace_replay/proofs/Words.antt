@@ -4,7 +4,7 @@ use Rattle.std.specs.Fmt.{decimal}
 use Rattle.std.specs.List.{flat_map}
 use Rattle.std.specs.Str.Parse.{digits_value}
 use Rattle.std.proofs.lemmas.Fmt.{decimal_is_IsNumeral}
-use Rattle.squeue_report.specs.ReportText.{line, line_end}
+use Rattle.report_lines.specs.ReportText.{line, line_end}
 
 -- all elements of a list are of a kind; the list goes on with none of it
 abbrev pub all_of : {A : Type 0} → (A → Bool) → List A → Bool

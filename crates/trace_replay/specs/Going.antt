@@ -1,11 +1,11 @@
 -- What is found by going through the marks of one squeue, which are legal.
 use Rattle.std.specs.Prelude.{◌≡◌, ◌↔◌, ℕ, Bool, Decides, IsTrue, MatchOption, Option, Some, List, [], ◌∷◌, ◌++◌, length, slice_get}
 use Rattle.perimeter_core.specs.Legal.{Legal}
-use Rattle.squeue_state.specs.Naming.{Ending}
+use Rattle.histories.specs.Endings.{Ending}
 use Rattle.ring_quotas.specs.declared.setup.Setup.{Setup}
 use Rattle.perimeter_core.specs.declared.marks.Mark.{Mark}
-use Rattle.squeue_replay.specs.declared.pace.Pace.{Pace}
-use Rattle.squeue_replay.specs.declared.squeue.Squeue.{Squeue}
+use Rattle.squeue_replay.specs.declared.pace.PaceCheck.{PaceCheck}
+use Rattle.squeue_replay.specs.declared.squeue.ReplayedSqueue.{ReplayedSqueue}
 use Rattle.squeue_replay.specs.Histories.{note_of}
 use Rattle.squeue_replay.specs.Pacing.{KeepsAt, PaceStands}
 use Rattle.squeue_replay.specs.Replaying.{history_of, setting_of, squeue_of}
@@ -21,7 +21,7 @@ pub record HasGone (setup : Setup) (q : ℕ) (e : Ending) (guests : List GuestOf
   pub unfit : MatchOption broken (AreFit setup q e) (IsUnfitAt setup q e)
 
 -- one more legal mark: what is kept stands for the longer history, and whether the mark fits is told
-pub record HasAdded (old : Squeue) (was : Pace) (past : List Mark) (m : Mark) (new : Squeue) (pace : Pace) (keeps : Bool) : Type 0 where
+pub record HasAdded (old : ReplayedSqueue) (was : PaceCheck) (past : List Mark) (m : Mark) (new : ReplayedSqueue) (pace : PaceCheck) (keeps : Bool) : Type 0 where
   pub stands : Stands (setting_of old) (history_of old (past ++ m ∷ [])) (squeue_of new)
   pub paced : PaceStands (setting_of old) (history_of old (past ++ m ∷ [])) pace
   pub fits : Decides keeps (KeepsAt was.setup was.squeue (setting_of old) (history_of old past)

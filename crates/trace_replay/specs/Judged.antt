@@ -5,7 +5,7 @@ use Rattle.perimeter_core.specs.declared.marks.Mark.{Mark}
 use Rattle.conn_classifier.specs.Plan.{PlanOf}
 use Rattle.conn_blocks.specs.CallLists.{CallLists}
 use Rattle.ring_quotas.specs.declared.setup.Setup.{Setup}
-use Rattle.squeue_report.specs.ReportText.{body_text}
+use Rattle.report_lines.specs.ReportText.{body_text}
 use Rattle.squeue_replay.specs.Histories.{endings_of}
 use Rattle.trace_replay.specs.declared.reason.Reason.{Reason}
 use Rattle.trace_replay.specs.declared.reason.Reason.TheVariants as reason

@@ -6,16 +6,16 @@ use Rattle.perimeter_core.specs.Deeds.{done}
 use Rattle.perimeter_core.specs.Ending.{IsOver}
 use Rattle.perimeter_core.specs.History.{Element, run}
 use Rattle.perimeter_core.specs.Legal.{Legal, feed_count}
-use Rattle.squeue_state.specs.Naming.{Ending}
+use Rattle.histories.specs.Endings.{Ending}
 use Rattle.capture_reader.specs.Outcome.{CaptureFile}
-use Rattle.conn_migrate.specs.Stays.{AreOfAllStays, Stay, ended_stay, stay}
+use Rattle.histories.specs.Stays.{AreOfAllStays, Stay, ended_stay, stay}
 use Rattle.conn_classifier.specs.Plan.{PlanOf, plan_of}
 use Rattle.conn_blocks.specs.CallLists.{CallLists}
 use Rattle.conn_blocks.specs.Orders.{IsWhole, settle}
-use Rattle.squeue_rings.specs.Keeping.{KeepsPace, taken}
+use Rattle.histories.specs.Keeping.{KeepsPace, taken}
 use Rattle.ring_quotas.specs.declared.setup.Setup.{Setup}
-use Rattle.squeue_report.specs.ReportText.{done_line}
-use Rattle.squeue_report.specs.TraceText.{trace_text}
+use Rattle.report_lines.specs.ReportText.{done_line}
+use Rattle.report_lines.specs.TraceText.{trace_text}
 use Rattle.trace_replay.specs.declared.reason.Reason.{Reason}
 use Rattle.trace_replay.specs.declared.reason.Reason.TheVariants as reason
 use Rattle.squeue_replay.specs.Histories.{endings_of}

@@ -4,9 +4,9 @@ use Rattle.perimeter_core.specs.declared.entries.Act.{Act}
 use Rattle.capture_reader.specs.Outcome.{CaptureFile}
 use Rattle.pcapng_reader.specs.Input.{IsInput}
 use Rattle.conn_classifier.specs.Plan.{plan_of}
-use Rattle.squeue_state.specs.Naming.{Ending}
-use Rattle.ring_threads.specs.Fits.{Fits}
-use Rattle.squeue_report.specs.TraceText.{trace_text}
+use Rattle.histories.specs.Endings.{Ending}
+use Rattle.ring_quotas.specs.Fits.{Fits}
+use Rattle.report_lines.specs.TraceText.{trace_text}
 use Rattle.trace_lines.specs.Printed.{Told, IsTold}
 
 -- the most bytes of an input: 1 GiB

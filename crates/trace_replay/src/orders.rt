@@ -13,7 +13,7 @@ ghost use Rattle.conn_blocks.specs.Allowed.{all_calls};
 ghost use Rattle.conn_blocks.specs.Places.{Stands, origin_of};
 ghost use Rattle.ring_quotas.specs.Limits.{most_squeues};
 ghost use Rattle.ring_quotas.specs.Quotas.{IsInRange};
-ghost use Rattle.ring_threads.specs.ServedBlocks.{AreServed};
+ghost use Rattle.conn_blocks.specs.ServedBlocks.{AreServed, blocks_in};
 ghost use Rattle.squeue_replay.specs.Histories.{endings_of};
 ghost use Rattle.squeue_replay.specs.Standing.{GuestsStand, guest_of};
 ghost use Rattle.trace_replay.specs.Joining.{FeedsFollow, HasNoOrder, HasOrder, HasStays};
@@ -23,7 +23,6 @@ ghost use Rattle.trace_replay.specs.Reasons.{AreOrdered, AreRight, IsUnordered};
 use crate::reason::{Reason, Refusal};
 use conn_blocks::{Block, Blocks};
 use perimeter_core::{Act, Resident};
-use ring_threads::Served;
 use squeue_replay::{Guest, Run};
 use std::alloc::{AllocError, Global};
 
@@ -36,18 +35,18 @@ pub fn serve_orders(
     alloc: Global,
     run: Run<'_, '_>,
     guests: &[Vec<Guest>],
-) -> Result<Served, Refusal>
+) -> Result<Vec<Box<Block>>, Refusal>
     requires range { IsInRange run.setup }
     requires calls { All (λ call. call.0 < length run.plan.now.tuples) (all_calls run.calls.now) }
     requires squeues { length guests.now ≡ run.setup.squeues }
     requires marks { (marks : List (List Mark)) × AreRight run.setup (endings_of run.plan.now run.calls.now run.setup marks)
         × GuestsStand (endings_of run.plan.now run.calls.now run.setup marks) (map (λ gs. map guest_of gs.items) guests.now) }
-    ensures served { IfOk result (λ v. AreServed run.entry.plan.now run.entry.calls.now v.blocks) }
+    ensures served { IfOk result (λ v. AreServed run.entry.plan.now run.entry.calls.now (blocks_in v.items)) }
     ensures ordered { IfOk result (λ v. (marks : List (List Mark))
         → AreRight run.entry.setup (endings_of run.entry.plan.now run.entry.calls.now run.entry.setup marks)
         → GuestsStand (endings_of run.entry.plan.now run.entry.calls.now run.entry.setup marks) (map (λ gs. map guest_of gs.items) guests.now)
         → AreOrdered run.entry.plan.now run.entry.calls.now (endings_of run.entry.plan.now run.entry.calls.now run.entry.setup marks)
-        (map (λ b. b.order) v.blocks)) }
+        (map (λ b. b.order) (blocks_in v.items))) }
     ensures no { (r : Reason) → result ≡ Err (Refusal.No r) → (c : ℕ) × (r ≡ Reason.Order c)
         × ((marks : List (List Mark))
         → AreRight run.entry.setup (endings_of run.entry.plan.now run.entry.calls.now run.entry.setup marks)
@@ -62,7 +61,7 @@ pub fn serve_orders(
             None => return Err(Refusal::No(Reason::Order(c))),
         }
     }
-    Ok(Served::of(alloc, served)?)
+    Ok(served)
 }
 
 /// The block of connection `c`, taken out after it was served in the order that settles of all that was done to it. Nothing where

@@ -4,7 +4,7 @@ ghost use Rattle.std.specs.Prelude.{◌≡◌, ◌<◌, ◌≤◌, ℕ, All, Err
 ghost use Rattle.std.specs.List.{flat_map};
 ghost use Rattle.perimeter_core.specs.declared.marks.Mark.{Mark};
 ghost use Rattle.perimeter_core.specs.Legal.{Legal};
-ghost use Rattle.squeue_report.specs.TraceText.{mark_line};
+ghost use Rattle.report_lines.specs.TraceText.{mark_line};
 ghost use Rattle.squeue_replay.specs.Histories.{ending_of, endings_of};
 ghost use Rattle.perimeter_core.specs.Kinds.{mark_by};
 ghost use Rattle.squeue_replay.specs.Marks.{HasItsFeeds, IsPrinted};
@@ -16,7 +16,7 @@ ghost use Rattle.trace_replay.specs.Going.{HasAdded, HasGone};
 ghost use Rattle.trace_replay.specs.Reasons.{AreRight, IsIllegalAt, MarksFail};
 
 use crate::reason::{Reason, Refusal};
-use squeue_replay::{Guest, Met, Pace, ReadMark, Run, Squeue};
+use squeue_replay::{Guest, Met, PaceCheck, ReadMark, ReplayedSqueue, Run};
 use std::alloc::{AllocError, Global};
 use trace_lines::read_mark;
 
@@ -84,8 +84,8 @@ fn replay_one(
     ensures no { (r : Reason) → result ≡ Err (Refusal.No r) → (ms : List Mark) → All IsPrinted ms → lines.now ≡ flat_map mark_line ms
         → (n : ℕ) × (r ≡ Reason.Illegal number n) × IsIllegalAt (ending_of run.entry.plan.now run.entry.calls.now run.entry.setup (number, ms)) n }
 {
-    let mut squeue = Squeue::make(alloc, run, number)?;
-    let mut pace = Pace::make(run.setup, number);
+    let mut squeue = ReplayedSqueue::make(alloc, run, number)?;
+    let mut pace = PaceCheck::make(run.setup, number);
     let mut unfit = None;
     let mut count = 0;
     let mut rest = lines;
@@ -112,8 +112,8 @@ fn replay_one(
 
 /// One more mark: whether it fits, or `None` where it isn't legal.
 fn add(
-    squeue: &mut Squeue<'_, '_>,
-    pace: &mut Pace,
+    squeue: &mut ReplayedSqueue<'_, '_>,
+    pace: &mut PaceCheck,
     mark: &ReadMark,
 ) -> Result<Option<bool>, AllocError>
     requires { 1 ≤ pace.old.setup.squeues }

@@ -5,9 +5,9 @@ ghost use Rattle.std.specs.String.{string_bytes};
 ghost use Rattle.std.specs.Io.KnownBytes.{Appends};
 ghost use Rattle.std.specs.List.{flat_map};
 ghost use Rattle.sq_base.specs.Ends.{AppendsProperly, IsUntouched, Rose, end_of};
-ghost use Rattle.squeue_report.specs.Telling.{TellsLine};
+ghost use Rattle.report_lines.specs.Telling.{TellsLine};
 ghost use Rattle.perimeter_core.specs.declared.marks.Mark.{Mark};
-ghost use Rattle.squeue_report.specs.TraceText.{mark_line};
+ghost use Rattle.report_lines.specs.TraceText.{mark_line};
 ghost use Rattle.trace_lines.specs.Printed.{ArePrintedMarks};
 ghost use Rattle.trace_replay.specs.Answers.{HasReplayed, code_of};
 ghost use Rattle.trace_replay.specs.Judged.{FailsFor, IsHead};
@@ -23,9 +23,9 @@ use crate::reason::{Reason, Refusal};
 use crate::replaying::replay_all;
 use capture_reader::Capture;
 use conn_classifier::plan;
+use report_lines::report_of;
 use sq_base::{Sink, Source, put};
 use squeue_replay::Run;
-use squeue_report::report;
 use std::alloc::{AllocError, Global};
 use std::thread::Threads;
 use trace_lines::{calls, histories, setup_line};
@@ -235,7 +235,7 @@ fn judge_run(
 {
     let guests = replay_all(alloc, run, histories)?;
     let served = serve_orders(alloc, run, guests.as_slice())?;
-    let right = report(alloc, run.plan, &served)?;
+    let right = report_of(alloc, run.plan, served.as_slice())?;
     match first_wrong(head, right.as_slice()) {
         Some(line) => Err(Refusal::No(Reason::Text(line))),
         None => Ok(()),

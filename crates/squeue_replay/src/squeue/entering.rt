@@ -11,12 +11,12 @@ ghost use Rattle.squeue_replay.specs.Entering.{AreSmall, Follows, IsIdle, IsNext
 ghost use Rattle.squeue_replay.specs.Replaying.{setting_of, squeue_of};
 ghost use Rattle.squeue_replay.specs.Standing.{SqueueOf, Stands};
 
-use super::Squeue;
+use super::ReplayedSqueue;
 use perimeter_core::{Entry, Feed, Own};
 use std::alloc::AllocError;
 use std::mem;
 
-impl<'p, 'c> Squeue<'p, 'c> {
+impl<'p, 'c> ReplayedSqueue<'p, 'c> {
     /// Whether the pass is none of the worker's, isn't closed, isn't owner, isn't granted, and no Ask of it is queued.
     fn is_idle(&self, p: u32) -> bool
         ensures { IsTrue result ↔ IsIdle p (squeue_of self.now) }

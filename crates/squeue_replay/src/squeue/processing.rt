@@ -4,9 +4,10 @@ ghost use Rattle.std.specs.Prelude.{◌≡◌, ◌^◌, ◌<◌, ◌≤◌};
 ghost use Rattle.ring_quotas.specs.Limits.{most_squeues};
 ghost use Rattle.squeue_replay.specs.Histories.{stay_of};
 
-use super::Squeue;
+use super::ReplayedSqueue;
+use conn_blocks::CALLERS;
 use perimeter_core::{Act, Entry, Own, SynchAct};
-use ring_quotas::{CALLERS, Setup, leaving};
+use ring_quotas::{Setup, leaving};
 use std::alloc::AllocError;
 use std::mem;
 
@@ -17,7 +18,7 @@ struct Done {
     ask: bool,
 }
 
-impl<'p, 'c> Squeue<'p, 'c> {
+impl<'p, 'c> ReplayedSqueue<'p, 'c> {
     ghost use Rattle.std.specs.Prelude.{◌-◌, ◌*◌, ◌≢◌, ◌↔◌, true, false, List, [], ◌∷◌, ◌++◌, IfOk, IsTrue, MatchOption, OnOk, length, slice_index, take};
     ghost use Rattle.perimeter_core.specs.declared.entries.Act.{Act as ActOf};
     ghost use Rattle.perimeter_core.specs.declared.entries.Entry.TheVariants as Queued;

@@ -13,7 +13,7 @@ ghost use Rattle.perimeter_trial.specs.Logging.{limits_of, size_of};
 ghost use Rattle.perimeter_core.specs.Perimeter.{Idle, is_here};
 ghost use Rattle.squeue_enter.specs.Entering.{MayEnter};
 ghost use Rattle.squeue_state.specs.AllRoom.{HasAllRoom};
-ghost use Rattle.squeue_state.specs.Elements.{number_of};
+ghost use Rattle.histories.specs.Elements.{number_of};
 ghost use Rattle.squeue_state.specs.Naming.{setting_of};
 ghost use Rattle.synch_enter.specs.Synch.{MayAsk};
 ghost use Rattle.turn_gate.specs.Passes.{IsPassOf, number, seen};

@@ -7,7 +7,7 @@ ghost use Rattle.std.specs.Prelude.{◌≡◌, [], ◌∷◌, length, IfOk};
 ghost use Rattle.perimeter_trial.specs.Logging.{limits_of, size_of};
 ghost use Rattle.squeue_state.specs.AllRoom.{HasAllRoom};
 ghost use Rattle.squeue_tests.specs.Rows.{Holds, IsIdle, MayBring, two_here};
-ghost use Rattle.squeue_state.specs.Elements.{number_of};
+ghost use Rattle.histories.specs.Elements.{number_of};
 ghost use Rattle.squeue_state.specs.Naming.{setting_of};
 ghost use Rattle.turn_gate.specs.Passes.{AreFresh};
 

@@ -3,8 +3,8 @@ ghost use Rattle.std.specs.Prelude.{◌≡◌, ◌+◌, ◌-◌, ◌<◌, ◌≤
 ghost use Rattle.perimeter_trial.specs.Logging.{limits_of, size_of};
 ghost use Rattle.squeue_enter.specs.Entering.{MayEnter};
 ghost use Rattle.squeue_tests.specs.Rows.{in_order, one_for_life};
-ghost use Rattle.squeue_state.specs.Elements.{number_of};
-ghost use Rattle.squeue_state.specs.Limits.{most_feeds};
+ghost use Rattle.histories.specs.Elements.{number_of};
+ghost use Rattle.histories.specs.Limits.{most_feeds};
 ghost use Rattle.squeue_state.specs.Naming.{setting_of};
 ghost use Rattle.turn_gate.specs.Passes.{AreFresh, number};
 

@@ -5,7 +5,7 @@ ghost use Rattle.perimeter_core.specs.History.{run};
 ghost use Rattle.squeue_state.specs.AllRoom.{HasAllRoom};
 ghost use Rattle.squeue_enter.specs.Entering.{MayEnter};
 ghost use Rattle.squeue_tests.specs.Rows.{IsNew, in_order, one_here, the_one};
-ghost use Rattle.squeue_state.specs.Elements.{number_of};
+ghost use Rattle.histories.specs.Elements.{number_of};
 ghost use Rattle.squeue_state.specs.Naming.{setting_of};
 ghost use Rattle.turn_gate.specs.Passes.{AreFresh, IsPassOf, number, seen};
 

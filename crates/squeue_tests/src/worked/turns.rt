@@ -1,6 +1,6 @@
 //! What the turns of a new squeue tell, and its end with nothing entered.
 ghost use Rattle.std.specs.Prelude.{◌≡◌, ◌∷◌, [], length, IfOk};
-ghost use Rattle.squeue_state.specs.Elements.{number_of};
+ghost use Rattle.histories.specs.Elements.{number_of};
 ghost use Rattle.turn_gate.specs.Passes.{AreFresh};
 
 use super::has_marks;

@@ -1,4 +1,4 @@
-use Rattle.conn_migrate.proofs.StaysJoin.{all_stays}
+use Rattle.histories.proofs.StaysJoin.{all_stays}
 use Rattle.conn_migrate.proofs.laws.acts_are_those_of_all_stays.Goals as goal
 
 pub returns-clause-each : goal.returns-clause-each

@@ -1,4 +1,4 @@
-use Rattle.conn_migrate.proofs.OneSqueue.{in_begins}
+use Rattle.histories.proofs.OneSqueue.{in_begins}
 use Rattle.conn_migrate.proofs.laws.an_in_begins_a_stay.Goals as goal
 
 pub returns : goal.returns

@@ -1,4 +1,4 @@
-use Rattle.conn_migrate.proofs.OneSqueue.{out_ends}
+use Rattle.histories.proofs.OneSqueue.{out_ends}
 use Rattle.conn_migrate.proofs.laws.an_out_ends_a_stay.Goals as goal
 
 pub returns : goal.returns

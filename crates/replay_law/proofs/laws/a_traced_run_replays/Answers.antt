@@ -3,8 +3,8 @@ use Rattle.sq_base.specs.Ends.{End}
 use Rattle.sq_base.specs.declared.kinds.Status.TheVariants as status
 use Rattle.conn_classifier.specs.Plan.{plan_of}
 use Rattle.ring_threads.specs.Served.{ServedOf, orders_of}
-use Rattle.squeue_report.specs.ReportText.{report_text}
-use Rattle.squeue_report.specs.TraceText.{trace_text}
+use Rattle.report_lines.specs.ReportText.{report_text}
+use Rattle.report_lines.specs.TraceText.{trace_text}
 use Rattle.squeue_run.specs.Words.{Text}
 use Rattle.squeue_run.specs.Asked.{Asked, asked}
 use Rattle.squeue_run.specs.CallWords.{lists_of}

@@ -3,7 +3,7 @@ use Rattle.perimeter_core.specs.declared.marks.Mark.{Mark}
 use Rattle.squeue_state.specs.Told.{marks_of}
 use Rattle.conn_classifier.specs.Plan.{plan_of}
 use Rattle.ring_threads.specs.Served.{orders_of}
-use Rattle.squeue_report.specs.TraceText.{trace_text}
+use Rattle.report_lines.specs.TraceText.{trace_text}
 use Rattle.squeue_run.specs.Output.{histories_of}
 use Rattle.trace_replay.specs.Replays.{Replays}
 use Rattle.replay_law.proofs.Served.{marks_are}

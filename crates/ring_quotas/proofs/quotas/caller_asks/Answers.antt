@@ -2,7 +2,7 @@ use Rattle.std.proofs.Common.{◌+◌, length, sum_by, ap, ◌∙◌, arith}
 use Rattle.std.proofs.lemmas.List.{take_all}
 use Rattle.conn_classifier.specs.Plan.{items_in}
 use Rattle.conn_blocks.specs.CallLists.{calls_of}
-use Rattle.placed_parts.specs.Homes.{times_leaving}
+use Rattle.histories.specs.Homes.{times_leaving}
 use Rattle.ring_quotas.proofs.Adding.{calls_next, left_as, on_known}
 use Rattle.ring_quotas.proofs.quotas.caller_asks.Goals as goal
 

@@ -1,7 +1,7 @@
 use Rattle.std.proofs.Common.{◌≡◌, ◌+◌, ◌*◌, ◌≤◌, length, sum_by, take}
 use Rattle.conn_classifier.specs.Plan.{items_in}
 use Rattle.conn_blocks.specs.CallLists.{calls_of}
-use Rattle.placed_parts.specs.Homes.{times_leaving}
+use Rattle.histories.specs.Homes.{times_leaving}
 use Rattle.ring_quotas.proofs.quotas.caller_asks.Given as goal
 
 abbrev pub invariant-loop-k : goal.invariant-loop-k

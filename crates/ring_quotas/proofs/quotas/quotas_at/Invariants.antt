@@ -1,7 +1,6 @@
 use Rattle.std.proofs.Common.{◌≡◌, ◌+◌, ◌*◌, ◌≤◌, take, vec_capacity, vec_len}
 use Rattle.perimeter_core.specs.History.{feed_quotas}
-use Rattle.squeue_state.specs.Behind.{pairs}
-use Rattle.squeue_state.specs.Clauses.{ask_quotas}
+use Rattle.histories.specs.Quotas.{pairs, ask_quotas}
 use Rattle.ring_quotas.specs.Quotas.{quotas_of}
 use Rattle.ring_quotas.proofs.quotas.quotas_at.Given as goal
 

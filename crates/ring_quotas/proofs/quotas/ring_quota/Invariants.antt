@@ -1,6 +1,6 @@
 use Rattle.std.proofs.Common.{◌≡◌, ◌+◌, ◌%◌, ◌==◌, length}
 use Rattle.conn_classifier.specs.Plan.{items_in}
-use Rattle.placed_parts.specs.Homes.{times_leaving}
+use Rattle.histories.specs.Homes.{times_leaving}
 use Rattle.ring_quotas.specs.Quotas.{feeds_at, times_coming}
 use Rattle.ring_quotas.proofs.Adding.{sum_of}
 use Rattle.ring_quotas.proofs.quotas.ring_quota.Given as goal

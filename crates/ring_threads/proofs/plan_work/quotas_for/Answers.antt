@@ -1,6 +1,6 @@
 use Rattle.std.proofs.Common.{◌≡◌, map, arith}
 use Rattle.std.proofs.lemmas.List.{length-map}
-use Rattle.squeue_state.specs.Behind.{pairs}
+use Rattle.histories.specs.Quotas.{pairs}
 use Rattle.ring_threads.specs.Working.{AreQuotas}
 use Rattle.ring_threads.proofs.Each.{all_of_them, none_yet, one_more_seen}
 use Rattle.ring_threads.proofs.plan_work.quotas_for.Goals as goal

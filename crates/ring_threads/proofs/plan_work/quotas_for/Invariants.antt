@@ -1,5 +1,5 @@
 use Rattle.std.proofs.Common.{◌≤◌, map, vec_capacity}
-use Rattle.squeue_state.specs.Behind.{pairs}
+use Rattle.histories.specs.Quotas.{pairs}
 use Rattle.ring_threads.specs.Working.{AreEach, AreQuotas}
 use Rattle.ring_threads.proofs.plan_work.quotas_for.Given as goal
 

@@ -2,7 +2,7 @@ use Rattle.std.proofs.Common.{◌≡◌, ◌⊎◌}
 use Rattle.turn_gate.specs.Passes.{IsPassOf, number}
 use Rattle.perimeter_core.specs.History.{worker}
 use Rattle.squeue_state.specs.Naming.{setting_of}
-use Rattle.squeue_state.specs.Elements.{number_of}
+use Rattle.histories.specs.Elements.{number_of}
 use Rattle.squeue_drain.specs.Working.{Worked}
 use Rattle.squeue_drain.proofs.working.worker.Given as goal
 

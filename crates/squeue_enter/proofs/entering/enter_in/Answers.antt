@@ -1,7 +1,7 @@
 use Rattle.std.proofs.Common.{◌≡◌, arith}
 use Rattle.turn_gate.specs.declared.pass.Pass.{Pass}
 use Rattle.perimeter_core.specs.History.{Element}
-use Rattle.squeue_state.specs.Elements.{fast_by, claimed_by}
+use Rattle.histories.specs.Elements.{fast_by, claimed_by}
 use Rattle.squeue_drain.proofs.Deciding.{queued_is}
 use Rattle.squeue_enter.specs.declared.entering.Way.TheVariants as Way'
 use Rattle.squeue_enter.specs.Entering.{IsTurnFor}

@@ -3,7 +3,7 @@ use Rattle.turn_gate.specs.Passes.{number, seen}
 use Rattle.perimeter_core.specs.Perimeter.{Idle}
 use Rattle.perimeter_core.specs.History.{run}
 use Rattle.squeue_state.specs.Naming.{setting_of}
-use Rattle.squeue_state.specs.Elements.{left_by_pass}
+use Rattle.histories.specs.Elements.{left_by_pass}
 use Rattle.squeue_drain.proofs.Deciding.{begins_trans, marked_on}
 use Rattle.synch_enter.proofs.Exiting.{at, exits, idle_again}
 use Rattle.squeue_look.proofs.Looks.{asked_once, both_on, stands_now}

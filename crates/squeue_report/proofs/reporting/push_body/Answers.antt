@@ -1,6 +1,6 @@
 use Rattle.std.proofs.Common.{◌≤◌, length, arith, ◌∙◌, ◌++◌}
-use Rattle.squeue_report.specs.ReportText.{counts_line}
-use Rattle.squeue_report.proofs.Blocks.{block_more, blocks_end, body}
+use Rattle.report_lines.specs.ReportText.{counts_line}
+use Rattle.report_lines.proofs.Blocks.{block_more, blocks_end, body}
 use Rattle.squeue_report.proofs.reporting.push_body.Goals as goal
 
 pub loop-c-preserved : goal.loop-c-preserved

@@ -1,5 +1,5 @@
 use Rattle.std.proofs.Common.{◌≡◌, ◌++◌, drop}
-use Rattle.squeue_report.proofs.Blocks.{blocks_text}
+use Rattle.report_lines.proofs.Blocks.{blocks_text}
 use Rattle.squeue_report.proofs.reporting.push_body.Given as goal
 
 -- what is written, with what is to be written

@@ -1,5 +1,5 @@
 use Rattle.std.proofs.Common.{map, ◌∙◌}
-use Rattle.squeue_report.proofs.Blocks.{reported}
+use Rattle.report_lines.proofs.Blocks.{reported}
 use Rattle.squeue_report.proofs.reporting.report.Goals as goal
 
 pub returns : goal.returns

@@ -1,7 +1,7 @@
 use Rattle.std.proofs.Common.{◌≡◌, ◌<◌, length, arith}
 use Rattle.conn_blocks.specs.CallLists.{calls_of}
-use Rattle.squeue_report.specs.TraceText.{thread_text}
-use Rattle.squeue_report.proofs.Lines.{line_more}
+use Rattle.report_lines.specs.TraceText.{thread_text}
+use Rattle.report_lines.proofs.Lines.{line_more}
 use Rattle.squeue_report.proofs.Marked.{numbered_all, numbered_or}
 use Rattle.squeue_report.proofs.tracing.push_calls.Goals as goal
 

@@ -1,6 +1,6 @@
 use Rattle.std.proofs.Common.{◌≡◌, ◌<◌, ◌++◌, length, take}
 use Rattle.std.specs.List.{enumerate_from, flat_map}
-use Rattle.squeue_report.specs.TraceText.{thread_text}
+use Rattle.report_lines.specs.TraceText.{thread_text}
 use Rattle.squeue_report.proofs.tracing.push_calls.Given as goal
 
 abbrev pub invariant-loop-j : goal.invariant-loop-j

@@ -1,6 +1,6 @@
 use Rattle.std.proofs.Common.{◌≡◌, ◌++◌, ◌-◌, drop, map, take}
-use Rattle.squeue_report.specs.ReportText.{line_end}
-use Rattle.squeue_report.specs.TraceText.{entered_field}
+use Rattle.report_lines.specs.ReportText.{line_end}
+use Rattle.report_lines.specs.TraceText.{entered_field}
 use Rattle.squeue_report.proofs.tracing.push_entries.Given as goal
 
 -- what is written, with what is to be written

@@ -1,7 +1,7 @@
 use Rattle.std.proofs.Common.{◌<◌, length, arith}
 use Rattle.squeue_state.specs.Told.{mark_of, marks_of}
-use Rattle.squeue_report.specs.TraceText.{mark_line}
-use Rattle.squeue_report.proofs.Lines.{line_more}
+use Rattle.report_lines.specs.TraceText.{mark_line}
+use Rattle.report_lines.proofs.Lines.{line_more}
 use Rattle.squeue_report.proofs.Marked.{there_as}
 use Rattle.squeue_report.proofs.tracing.push_marks.Goals as goal
 

@@ -1,7 +1,7 @@
 use Rattle.std.proofs.Common.{◌≡◌, ◌++◌, take}
 use Rattle.std.specs.List.{flat_map}
 use Rattle.squeue_state.specs.Told.{marks_of}
-use Rattle.squeue_report.specs.TraceText.{mark_line}
+use Rattle.report_lines.specs.TraceText.{mark_line}
 use Rattle.squeue_report.proofs.tracing.push_marks.Given as goal
 
 abbrev pub invariant-loop-i : goal.invariant-loop-i

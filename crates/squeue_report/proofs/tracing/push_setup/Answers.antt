@@ -1,4 +1,4 @@
-use Rattle.squeue_report.proofs.LineParts.{set_up}
+use Rattle.report_lines.proofs.LineParts.{set_up}
 use Rattle.squeue_report.proofs.tracing.push_setup.Goals as goal
 
 pub returns : goal.returns

@@ -1,6 +1,6 @@
 use Rattle.conn_blocks.specs.CallLists.{calls_of}
-use Rattle.squeue_report.specs.TraceText.{call_line}
-use Rattle.squeue_report.proofs.Lines.{line_more}
+use Rattle.report_lines.specs.TraceText.{call_line}
+use Rattle.report_lines.proofs.Lines.{line_more}
 use Rattle.squeue_report.proofs.tracing.push_thread.Goals as goal
 
 pub loop-k-preserved : goal.loop-k-preserved

@@ -3,9 +3,9 @@ use Rattle.std.specs.Option.{option_map}
 use Rattle.std.proofs.lemmas.List.{length-map}
 use Rattle.std.proofs.lemmas.Option.{slice_get-map}
 use Rattle.squeue_state.specs.Told.{marks_of}
-use Rattle.squeue_report.specs.TraceText.{squeue_text}
-use Rattle.squeue_report.proofs.Blocks.{traced}
-use Rattle.squeue_report.proofs.Lines.{line_more}
+use Rattle.report_lines.specs.TraceText.{squeue_text}
+use Rattle.report_lines.proofs.Blocks.{traced}
+use Rattle.report_lines.proofs.Lines.{line_more}
 use Rattle.squeue_report.proofs.Marked.{numbered, numbered_all}
 use Rattle.squeue_report.proofs.tracing.report2.Goals as goal
 

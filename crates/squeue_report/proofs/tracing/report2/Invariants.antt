@@ -1,7 +1,7 @@
 use Rattle.std.proofs.Common.{◌≡◌, ◌++◌, map, take}
 use Rattle.std.specs.List.{enumerate_from, flat_map}
 use Rattle.squeue_state.specs.Told.{marks_of}
-use Rattle.squeue_report.specs.TraceText.{squeue_text}
+use Rattle.report_lines.specs.TraceText.{squeue_text}
 use Rattle.squeue_report.proofs.tracing.report2.Given as goal
 
 abbrev pub invariant-loop-q : goal.invariant-loop-q

@@ -1,6 +1,6 @@
 use Rattle.std.proofs.Common.{◌≡◌, ◌≤◌, ℕ, length}
 use Rattle.squeue_rings.specs.Bringing.{IsFar}
-use Rattle.squeue_rings.specs.Keeping.{ArePaced}
+use Rattle.squeue_rings.specs.Paced.{ArePaced}
 use Rattle.squeue_rings.proofs.bringing.bring_all.Given as goal
 
 abbrev pub invariant-loop : goal.invariant-loop

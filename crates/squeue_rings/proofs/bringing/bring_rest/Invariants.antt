@@ -1,7 +1,7 @@
 use Rattle.std.proofs.Common.{◌≡◌, ◌++◌, ℕ, List, length}
 use Rattle.perimeter_core.specs.declared.entries.Feed.{Feed}
 use Rattle.squeue_rings.specs.Bringing.{AreAt, IsReady}
-use Rattle.squeue_rings.specs.Keeping.{ArePaced}
+use Rattle.squeue_rings.specs.Paced.{ArePaced}
 use Rattle.squeue_rings.proofs.bringing.bring_rest.Given as goal
 
 abbrev pub invariant-loop-rest : goal.invariant-loop-rest

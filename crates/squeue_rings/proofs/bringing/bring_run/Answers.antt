@@ -4,7 +4,7 @@ use Rattle.squeue_state.specs.AllRoom.{HasAllRoom}
 use Rattle.squeue_serve.specs.Places.{Holds}
 use Rattle.squeue_serve.proofs.Unused.{each_at}
 use Rattle.squeue_rings.specs.Rings.{RingAt}
-use Rattle.squeue_rings.specs.Runs.{home_of, run_of}
+use Rattle.histories.specs.Runs.{home_of, run_of}
 use Rattle.squeue_rings.proofs.PacedAll.{run_paced}
 use Rattle.squeue_rings.proofs.Running.{all_entered, first_ready, may_enter, run_is}
 use Rattle.squeue_rings.proofs.Slots.{at_length, got_at, got_other, head_rest}

@@ -1,7 +1,7 @@
 use Rattle.std.proofs.Common.{◌≡◌, ◌≢◌, ◌<◌, length, slice_get, sym, ap, ◌∙◌, subst, arith}
 use Rattle.conn_migrate.specs.Moving.{MayCome, MayLeave}
-use Rattle.squeue_serve.proofs.Lent.{some_at}
-use Rattle.squeue_rings.specs.Runs.{home_before, home_of}
+use Rattle.histories.proofs.ListPlaces.{some_at}
+use Rattle.histories.specs.Runs.{home_before, home_of}
 use Rattle.squeue_rings.proofs.Slots.{got_at, one_pass}
 use Rattle.squeue_rings.proofs.Standing.{other_home}
 use Rattle.squeue_rings.proofs.bringing.move_home.Goals as goal

@@ -1,7 +1,7 @@
 use Rattle.std.proofs.Common.{◌≤◌, length, sym, ◌∙◌, arith}
-use Rattle.squeue_serve.proofs.Lent.{some_at}
+use Rattle.histories.proofs.ListPlaces.{some_at}
 use Rattle.squeue_serve.proofs.Unused.{each_at}
-use Rattle.squeue_rings.specs.Runs.{home_before, home_of}
+use Rattle.histories.specs.Runs.{home_before, home_of}
 use Rattle.squeue_rings.proofs.PacedAll.{moved_paced}
 use Rattle.squeue_rings.proofs.Reaching.{may_come, may_leave, moved_all, own, pass_at, stays_all}
 use Rattle.squeue_rings.proofs.bringing.reach.Goals as goal

@@ -1,11 +1,10 @@
 use Rattle.std.proofs.Common.{◌≤◌, ℕ, List, length, get_or, slice_get, take, sym, subst, arith}
 use Rattle.std.proofs.lemmas.Option.{slice_get-get_or}
 use Rattle.synch_enter.specs.Hinting.{conns_of}
-use Rattle.squeue_serve.proofs.Lent.{some_at}
+use Rattle.histories.proofs.ListPlaces.{some_at, take_one}
 use Rattle.squeue_serve.proofs.Unused.{each_at}
 use Rattle.squeue_rings.specs.Calling.{CallersAt, MayMake}
 use Rattle.squeue_rings.proofs.OnceEach.{take_length}
-use Rattle.squeue_rings.proofs.Slots.{take_one}
 use Rattle.squeue_rings.proofs.calling.make_calls.Goals as goal
 
 pub make_call-requires-clause-hints : goal.make_call-requires-clause-hints

@@ -5,7 +5,7 @@ use Rattle.perimeter_core.specs.Kinds.{mark_by}
 use Rattle.squeue_state.specs.declared.inner.Inner.{Inner}
 use Rattle.squeue_state.specs.declared.guarded.Guarded.{Guarded}
 use Rattle.squeue_state.specs.Behind.{Behind, Noted, given_of}
-use Rattle.squeue_state.specs.Elements.{element_of}
+use Rattle.histories.specs.Elements.{element_of}
 use Rattle.squeue_state.proofs.Bounds.{counts}
 use Rattle.squeue_state.proofs.KeptMarks.{room_at}
 use Rattle.squeue_state.proofs.release.end_turn.Goals as goal

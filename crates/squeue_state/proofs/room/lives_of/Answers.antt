@@ -1,6 +1,6 @@
 use Rattle.std.proofs.Common.{◌∙◌, ap, refl, length, arith}
 use Rattle.squeue_state.specs.declared.guarded.Life.{Life}
-use Rattle.squeue_state.specs.declared.guarded.Quota.{Quota}
+use Rattle.histories.specs.declared.quota.Quota.{Quota}
 use Rattle.squeue_state.specs.Behind.{ever}
 use Rattle.squeue_state.proofs.RoomMade.{lives_next}
 use Rattle.squeue_state.proofs.room.lives_of.Goals as goal

@@ -1,5 +1,6 @@
 use Rattle.std.proofs.Common.{◌≡◌, ◌≤◌, length, take, vec_capacity}
-use Rattle.squeue_state.specs.Behind.{ever, pairs}
+use Rattle.squeue_state.specs.Behind.{ever}
+use Rattle.histories.specs.Quotas.{pairs}
 use Rattle.squeue_state.proofs.room.lives_of.Given as goal
 
 abbrev pub invariant-loop-quota : goal.invariant-loop-quota

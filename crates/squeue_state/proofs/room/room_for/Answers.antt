@@ -1,9 +1,9 @@
 use Rattle.std.proofs.Common.{◌+◌, ap, arith}
 use Rattle.perimeter_core.specs.History.{feed_quotas}
-use Rattle.squeue_state.specs.declared.guarded.Quota.{Quota}
-use Rattle.squeue_state.specs.Clauses.{ask_quotas}
-use Rattle.squeue_state.specs.Behind.{pairs}
-use Rattle.squeue_state.proofs.RoomMade.{all_both, feeds_next, asks_next, feeds_part, asks_part, pairs_all}
+use Rattle.histories.specs.declared.quota.Quota.{Quota}
+use Rattle.histories.specs.Quotas.{ask_quotas, pairs}
+use Rattle.squeue_state.proofs.RoomMade.{feeds_next, asks_next, feeds_part, asks_part, pairs_all}
+use Rattle.histories.proofs.Counts.{all_both}
 use Rattle.squeue_state.proofs.room.room_for.Goals as goal
 
 pub overflow_add-feeds : goal.overflow_add-feeds

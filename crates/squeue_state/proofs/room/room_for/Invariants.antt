@@ -1,7 +1,6 @@
 use Rattle.std.proofs.Common.{◌≡◌, take}
 use Rattle.perimeter_core.specs.History.{feed_quotas}
-use Rattle.squeue_state.specs.Behind.{pairs}
-use Rattle.squeue_state.specs.Clauses.{ask_quotas}
+use Rattle.histories.specs.Quotas.{pairs, ask_quotas}
 use Rattle.squeue_state.proofs.room.room_for.Given as goal
 
 abbrev pub invariant-loop-quota : goal.invariant-loop-quota

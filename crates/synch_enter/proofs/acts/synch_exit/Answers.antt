@@ -1,5 +1,5 @@
 use Rattle.squeue_drain.proofs.Deciding.{marked_on}
-use Rattle.squeue_state.specs.Elements.{left_by_pass}
+use Rattle.histories.specs.Elements.{left_by_pass}
 use Rattle.std.proofs.Common.{length}
 use Rattle.synch_enter.proofs.Exiting.{at, exits, left_by, idle_again, taken_acts}
 use Rattle.synch_enter.proofs.acts.synch_exit.Goals as goal

@@ -5,7 +5,7 @@ use Rattle.perimeter_core.specs.Perimeter.{is_closed}
 use Rattle.perimeter_core.specs.History.{Element, Setting, run}
 use Rattle.perimeter_core.specs.declared.marks.Own.TheVariants.{Granted}
 use Rattle.squeue_state.specs.Naming.{Named, setting_of}
-use Rattle.squeue_state.specs.Elements.{number_of, accepted_by}
+use Rattle.histories.specs.Elements.{number_of, accepted_by}
 use Rattle.squeue_drain.specs.declared.owner.Owner.{Owner}
 use Rattle.squeue_drain.proofs.Deciding.{marked_on, begins_trans}
 use Rattle.synch_enter.specs.Synch.{StandsAtItsAsk}

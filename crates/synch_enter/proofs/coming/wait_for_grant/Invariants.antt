@@ -4,7 +4,7 @@ use Rattle.turn_gate.specs.Passes.{IsPassOf, number, seen, mine}
 use Rattle.perimeter_core.specs.Perimeter.{is_closed}
 use Rattle.perimeter_core.specs.History.{run}
 use Rattle.squeue_state.specs.Naming.{setting_of}
-use Rattle.squeue_state.specs.Elements.{number_of}
+use Rattle.histories.specs.Elements.{number_of}
 use Rattle.synch_enter.proofs.coming.wait_for_grant.Given as goal
 
 abbrev pub invariant-loop : goal.invariant-loop

@@ -1,5 +1,5 @@
 use Rattle.std.proofs.Common.{arith, ℕ, ◌-◌, List, length, take, Bor}
-use Rattle.squeue_report.specs.ReportText.{done_line}
+use Rattle.report_lines.specs.ReportText.{done_line}
 use Rattle.trace_lines.proofs.MarkLists.{at_end, no_marks_there, no_more_squeues, not_at_end, other_end, squeues_all, squeues_kept, squeues_more}
 use Rattle.trace_lines.proofs.form.histories.Goals as goal
 

@@ -11,12 +11,12 @@ returns-in-Some-by_form c =
 pub returns-in_default-by_form-2 : goal.returns-in_default-by_form-2
 returns-in_default-by_form-2 c = no_call c.args.text.now c.in_default.ensures c.in_default-by_form.ensures c.in_default-by_form-2.ensures
 
-pub returns-then-numbers-gt65535 : goal.returns-then-numbers-gt65535
-returns-then-numbers-gt65535 c =
+pub returns-then-numbers-gt-PLAIN_SPACE : goal.returns-then-numbers-gt-PLAIN_SPACE
+returns-then-numbers-gt-PLAIN_SPACE c =
     let h = c.in-Some-by_form-2.ensures in
-    too_large c.args.text.now c.in-Some-by_form-2.found.0 c.in-Some-by_form-2.found.1.now c.in_default.ensures c.in_default-by_form.ensures h.0 h.1 h.2 c.if-numbers-gt65535.true
+    too_large c.args.text.now c.in-Some-by_form-2.found.0 c.in-Some-by_form-2.found.1.now c.in_default.ensures c.in_default-by_form.ensures h.0 h.1 h.2 c.if-numbers-gt-PLAIN_SPACE.true
 
 pub returns : goal.returns
 returns c =
     let h = c.in-Some-by_form-2.ensures in
-    buffer_found c.args.text.now c.in-Some-by_form-2.found.0 c.in-Some-by_form-2.found.1.now h.0 h.1 h.2 c.if-numbers-gt65535.false
+    buffer_found c.args.text.now c.in-Some-by_form-2.found.0 c.in-Some-by_form-2.found.1.now h.0 h.1 h.2 c.if-numbers-gt-PLAIN_SPACE.false

@@ -2,7 +2,7 @@ use Rattle.std.proofs.Common.{◌≡◌, ◌+◌, ◌-◌, ◌≤◌, length, ta
 use Rattle.capture_reader.specs.Limits.{most_bytes}
 use Rattle.trace_replay.specs.declared.reason.Reason.TheVariants as reason
 use Rattle.trace_replay.specs.Lines.{HasFirstLine, HasNoLine}
-use Rattle.squeue_report.specs.ReportText.{done_line}
+use Rattle.report_lines.specs.ReportText.{done_line}
 use Rattle.trace_replay.specs.Reasons.{Holds, IsCut}
 use Rattle.pcapng_reader.proofs.Inputs.{input_small}
 use Rattle.trace_replay.proofs.Captures.{same_reason}

@@ -7,13 +7,12 @@ use Rattle.perimeter_core.specs.Blocks.{Blocks as Had}
 use Rattle.conn_blocks.specs.Places.{Stands}
 use Rattle.placed_parts.specs.Standing.{first_here}
 use Rattle.conn_blocks.specs.ServeOrder.{BlockOf}
-use Rattle.ring_threads.specs.ServedBlocks.{AreServed}
 use Rattle.squeue_replay.specs.declared.guest.Guest.{Guest}
 use Rattle.squeue_replay.specs.Histories.{endings_of}
 use Rattle.squeue_replay.specs.Standing.{GuestOf, guest_of}
 use Rattle.trace_replay.specs.declared.reason.Reason.TheVariants as reason
 use Rattle.trace_replay.specs.Joining.{HasNoOrder, HasOrder, without}
-use Rattle.trace_replay.specs.Reasons.{AreOrdered, IsUnordered}
+use Rattle.trace_replay.specs.Reasons.{IsUnordered}
 use Rattle.trace_replay.proofs.AllOrders.{all_named, all_ordered, all_served, first_without, push_order}
 use Rattle.trace_replay.proofs.KeptGuests.{all_there}
 use Rattle.trace_replay.proofs.Taken.{here_at_one, others_stay, some_has}
@@ -101,7 +100,7 @@ returns-clause-served c =
     let blocks : List BlockOf = map (λ x. x.value) c.loop-c.served.items in
     let len : length blocks ≡ length c.args.run.plan.now.tuples =
     omega (arith, length-map c.loop-c.served.items (λ (x : Box BlockOf Global). x.value), c.loop-c.invariant.count, c.loop-c-test.false, c.loop-c.auto.c-end, c.conns-c-end.ensures.value) in
-    subst (λ (l : List BlockOf). AreServed p calls l) (sym c.in_ok-of.ensures.blocks) (all_served p calls kept squeues blocks c.loop-c.invariant.orders len)
+    all_served p calls kept squeues blocks c.loop-c.invariant.orders len
 
 pub returns-clause-ordered : goal.returns-clause-ordered
 returns-clause-ordered c =
@@ -114,6 +113,4 @@ returns-clause-ordered c =
     let blocks : List BlockOf = map (λ x. x.value) c.loop-c.served.items in
     let len : length blocks ≡ length c.args.run.plan.now.tuples =
     omega (arith, length-map c.loop-c.served.items (λ (x : Box BlockOf Global). x.value), c.loop-c.invariant.count, c.loop-c-test.false, c.loop-c.auto.c-end, c.conns-c-end.ensures.value) in
-    λ marks right stand.
-    subst (λ (l : List BlockOf). AreOrdered p calls (endings_of p calls setup marks) (map (λ b. b.order) l)) (sym c.in_ok-of.ensures.blocks)
-    (all_ordered p calls kept squeues blocks c.loop-c.invariant.orders setup marks right stand count len)
+    λ marks right stand. all_ordered p calls kept squeues blocks c.loop-c.invariant.orders setup marks right stand count len

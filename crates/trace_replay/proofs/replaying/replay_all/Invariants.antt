@@ -1,7 +1,7 @@
 use Rattle.std.proofs.Common.{◌≡◌, ◌≤◌, List, length, map, vec_capacity, vec_len}
 use Rattle.std.specs.List.{flat_map}
 use Rattle.perimeter_core.specs.declared.marks.Mark.{Mark}
-use Rattle.squeue_report.specs.TraceText.{mark_line}
+use Rattle.report_lines.specs.TraceText.{mark_line}
 use Rattle.squeue_replay.specs.Standing.{guest_of}
 use Rattle.trace_lines.specs.Printed.{ArePrintedMarks}
 use Rattle.trace_replay.proofs.AllGone.{AreGone}

@@ -1,7 +1,7 @@
 use Rattle.std.proofs.Common.{◌≡◌, ◌+◌, ◌≤◌, All, List, length}
 use Rattle.std.specs.List.{flat_map}
 use Rattle.perimeter_core.specs.declared.marks.Mark.{Mark}
-use Rattle.squeue_report.specs.TraceText.{mark_line}
+use Rattle.report_lines.specs.TraceText.{mark_line}
 use Rattle.squeue_replay.specs.Marks.{IsPrinted}
 use Rattle.squeue_replay.specs.Replaying.{squeue_of}
 use Rattle.trace_replay.proofs.Reaching.{Reached}

@@ -3,7 +3,7 @@ use Rattle.perimeter_core.specs.Legal.{May}
 use Rattle.squeue_state.specs.Naming.{Turned, setting_of}
 use Rattle.squeue_state.specs.Behind.{Behind}
 use Rattle.squeue_state.specs.Clauses.{named_of}
-use Rattle.squeue_state.specs.Elements.{asked_by}
+use Rattle.histories.specs.Elements.{asked_by}
 use Rattle.squeue_state.proofs.Turns.{lent, noted, ends}
 use Rattle.squeue_state.proofs.Bounds.{ask_fits}
 use Rattle.squeue_state.proofs.squeue.Squeue.ask.Goals as goal

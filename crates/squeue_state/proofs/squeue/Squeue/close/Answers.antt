@@ -3,7 +3,7 @@ use Rattle.perimeter_core.specs.Legal.{May}
 use Rattle.squeue_state.specs.Naming.{Turned, setting_of}
 use Rattle.squeue_state.specs.Behind.{Behind}
 use Rattle.squeue_state.specs.Clauses.{named_of}
-use Rattle.squeue_state.specs.Elements.{closed_by}
+use Rattle.histories.specs.Elements.{closed_by}
 use Rattle.squeue_state.proofs.squeue.Squeue.close.Goals as goal
 use Rattle.perimeter_core.proofs.HistoryLength.{closed_flags}
 use Rattle.squeue_state.proofs.Turns.{lent, noted, ends}

@@ -7,7 +7,7 @@ use Rattle.perimeter_core.specs.Blocks.{Blocks, peri}
 use Rattle.squeue_state.specs.Naming.{Turned, setting_of}
 use Rattle.squeue_state.specs.Behind.{Behind, IsPeri}
 use Rattle.squeue_state.specs.Clauses.{named_of}
-use Rattle.squeue_state.specs.Elements.{fast_by}
+use Rattle.histories.specs.Elements.{fast_by}
 use Rattle.squeue_state.proofs.Turns.{lent, noted, ends, lies_free, hand_after, fasted_same, room_after}
 use Rattle.squeue_state.proofs.squeue.Squeue.fast.Goals as goal
 

@@ -1,6 +1,6 @@
 use Rattle.std.proofs.Common.{ap, arith, length}
 use Rattle.squeue_state.specs.Clauses.{named_of}
-use Rattle.squeue_state.specs.Elements.{filled_by}
+use Rattle.histories.specs.Elements.{filled_by}
 use Rattle.squeue_state.proofs.Bounds.{fill_fits}
 use Rattle.squeue_state.proofs.Turns.{lent, noted, ends}
 use Rattle.squeue_state.proofs.squeue.Squeue.fill.Goals as goal

@@ -5,11 +5,12 @@ use Rattle.turn_gate.specs.Passes.{AreAll}
 use Rattle.perimeter_core.specs.History.{Element}
 use Rattle.perimeter_core.specs.Blocks.{peri}
 use Rattle.squeue_state.specs.Told.{Traced, marks_of}
-use Rattle.squeue_state.specs.Naming.{Named, Ending, setting_of}
-use Rattle.squeue_state.specs.Endings.{HasEnded, ending_of, seen_by}
+use Rattle.squeue_state.specs.Naming.{Named, setting_of}
+use Rattle.histories.specs.Endings.{Ending, HasEnded}
+use Rattle.squeue_state.specs.Endings.{ending_of, seen_by}
 use Rattle.squeue_state.specs.Behind.{IsPeri}
 use Rattle.squeue_state.specs.Clauses.{Knows, named_of}
-use Rattle.squeue_state.specs.Elements.{number_of}
+use Rattle.histories.specs.Elements.{number_of}
 use Rattle.squeue_state.proofs.Finish.{finished, some_is}
 use Rattle.squeue_state.proofs.squeue.Squeue.finish.Goals as goal
 

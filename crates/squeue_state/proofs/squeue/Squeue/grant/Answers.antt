@@ -9,7 +9,7 @@ use Rattle.squeue_state.specs.Naming.{setting_of}
 use Rattle.squeue_state.specs.Behind.{Behind, IsPeri}
 use Rattle.squeue_state.specs.Hands.{GoBack}
 use Rattle.squeue_state.specs.Clauses.{named_of, asker}
-use Rattle.squeue_state.specs.Elements.{granted_by}
+use Rattle.histories.specs.Elements.{granted_by}
 use Rattle.squeue_state.proofs.Turns.{lent, noted, ends, marked}
 use Rattle.squeue_state.proofs.Granting.{granted_hand, same_blocks, asker_first, some_first}
 use Rattle.squeue_state.proofs.Bounds.{grants_back}

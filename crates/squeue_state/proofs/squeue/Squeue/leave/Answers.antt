@@ -3,7 +3,7 @@ use Rattle.perimeter_core.specs.History.{start, run}
 use Rattle.squeue_state.specs.Naming.{Handed, setting_of}
 use Rattle.squeue_state.specs.Behind.{Behind, room_of}
 use Rattle.squeue_state.specs.Clauses.{named_of}
-use Rattle.squeue_state.specs.Elements.{left_by_pass}
+use Rattle.histories.specs.Elements.{left_by_pass}
 use Rattle.squeue_state.proofs.squeue.Squeue.leave.Goals as goal
 use Rattle.std.proofs.lemmas.List.{length-drop}
 use Rattle.perimeter_core.proofs.BlocksFollow.{flags}

@@ -4,7 +4,7 @@ use Rattle.perimeter_core.specs.History.{Element, run}
 use Rattle.squeue_state.specs.Naming.{Turned, setting_of}
 use Rattle.squeue_state.specs.Behind.{room_of}
 use Rattle.squeue_state.specs.Clauses.{named_of}
-use Rattle.squeue_state.specs.Elements.{taken_by}
+use Rattle.histories.specs.Elements.{taken_by}
 use Rattle.squeue_state.proofs.Turns.{lent, noted, ends, hand_after, room_after}
 use Rattle.squeue_state.proofs.Bounds.{few_hand, one_there}
 use Rattle.squeue_state.proofs.squeue.Squeue.take.Goals as goal

@@ -7,7 +7,7 @@ use Rattle.perimeter_core.proofs.OneMore.{run_push}
 use Rattle.squeue_state.specs.Naming.{Turned, setting_of}
 use Rattle.squeue_state.specs.Behind.{Behind, IsPeri, room_of}
 use Rattle.squeue_state.specs.Clauses.{named_of}
-use Rattle.squeue_state.specs.Elements.{worked_by}
+use Rattle.histories.specs.Elements.{worked_by}
 use Rattle.squeue_state.proofs.squeue.Squeue.work.Goals as goal
 use Rattle.squeue_state.proofs.Turns.{lent, noted, ends, lies_free, worked_same, hand_after, room_after}
 use Rattle.squeue_state.proofs.Bounds.{few_hand}

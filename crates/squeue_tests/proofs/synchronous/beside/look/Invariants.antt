@@ -1,6 +1,6 @@
 use Rattle.std.proofs.Common.{◌≡◌}
 use Rattle.turn_gate.specs.Passes.{IsPassOf, number}
-use Rattle.squeue_state.specs.Elements.{number_of}
+use Rattle.histories.specs.Elements.{number_of}
 use Rattle.squeue_tests.proofs.synchronous.beside.look.Given as goal
 
 abbrev pub invariant-loop : goal.invariant-loop

@@ -1,0 +1,10 @@
+pub mod ListPlaces
+pub mod SameCounts
+pub mod OwnersFacts
+pub mod Counts
+pub mod ModeWords
+pub mod OneSqueue
+pub mod StaysKept
+pub mod StaysJoin
+pub mod StaysSeen
+pub mod Keeping

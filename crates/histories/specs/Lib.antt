@@ -1,0 +1,11 @@
+pub mod Elements
+pub mod Limits
+pub mod Endings
+pub mod Quotas
+pub mod ModeWords
+pub mod Homes
+pub mod Runs
+pub mod Stays
+pub mod Noted
+pub mod Keeping
+pub mod Fitting

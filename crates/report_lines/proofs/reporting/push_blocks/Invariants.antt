@@ -1,0 +1,9 @@
+use Rattle.std.proofs.Common.{◌≡◌, ◌++◌, drop}
+use Rattle.conn_blocks.specs.ServedBlocks.{blocks_in}
+use Rattle.report_lines.proofs.Blocks.{blocks_text}
+use Rattle.report_lines.proofs.reporting.push_blocks.Given as goal
+
+-- what is written, with what is to be written
+abbrev pub invariant-loop-c : goal.invariant-loop-c
+invariant-loop-c l =
+    l.text.items ++ blocks_text l.c (drop l.c l.plan.tuples) (drop l.c (blocks_in l.blocks)) ≡ l.initial.text.items ++ blocks_text 0 l.plan.tuples (blocks_in l.blocks)

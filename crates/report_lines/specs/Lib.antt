@@ -1,0 +1,5 @@
+pub mod Names
+pub mod ReportText
+pub mod TraceText
+pub mod OrderLaw
+pub mod Telling

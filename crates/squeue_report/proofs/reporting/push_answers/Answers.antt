@@ -1,6 +1,0 @@
-use Rattle.squeue_report.specs.ReportText.{answer_line}
-use Rattle.squeue_report.proofs.Lines.{line_more}
-use Rattle.squeue_report.proofs.reporting.push_answers.Goals as goal
-
-pub loop-i-preserved : goal.loop-i-preserved
-loop-i-preserved c = line_more answer_line _ _ _ c.args.block.now.answers c.loop-i.i c.answer-j.result c.loop-i.invariant c.answer-j.ensures c.in_ok-push_answer.ensures

@@ -1,7 +1,0 @@
-use Rattle.std.proofs.Common.{◌≡◌, ◌++◌, take}
-use Rattle.std.specs.List.{flat_map}
-use Rattle.squeue_report.specs.ReportText.{answer_line}
-use Rattle.squeue_report.proofs.reporting.push_answers.Given as goal
-
-abbrev pub invariant-loop-i : goal.invariant-loop-i
-invariant-loop-i l = l.text.items ≡ l.initial.text.items ++ flat_map answer_line (take l.i l.block.answers)

@@ -1,7 +1,0 @@
-use Rattle.std.proofs.Common.{◌≡◌, ◌++◌, take}
-use Rattle.std.specs.List.{flat_map}
-use Rattle.squeue_report.specs.ReportText.{reply_line}
-use Rattle.squeue_report.proofs.reporting.push_replies.Given as goal
-
-abbrev pub invariant-loop-i : goal.invariant-loop-i
-invariant-loop-i l = l.text.items ≡ l.initial.text.items ++ flat_map (reply_line l.tuple) (take l.i l.tcb.replies)
