@@ -14,7 +14,7 @@ ghost use Rattle.std.specs.Prelude.{◌≤◌, IfOk, length};
 use crate::ends::tell_end;
 use case_rows::Fault;
 use case_words::{Words, Wrong, add_bytes, add_flags, add_text, spelled, told_at};
-use segment_codec::{Packet, Reply, Seg, decode, encode, ip_place, refusal};
+use segment_codec::{MOST_TEXT, Options, Packet, Reply, Seg, decode, encode, ip_place, refusal};
 use sq_base::{Addr, Link, Octets, Tuple};
 use std::alloc::{AllocError, Global};
 use std::fmt::Write;
@@ -72,11 +72,11 @@ fn body_of(alloc: Global, line: &str) -> Result<Vec<u8>, Wrong>
 }
 
 /// Tells the options of a segment.
-fn tell_options(out: &mut String, seg: &Seg) -> Result<(), AllocError> {
-    if let Some(mss) = seg.mss {
+fn tell_options(out: &mut String, options: &Options) -> Result<(), AllocError> {
+    if let Some(mss) = options.mss {
         write!(out, " mss={mss}")?;
     }
-    if let Some(scale) = seg.scale {
+    if let Some(scale) = options.scale {
         write!(out, " scale={scale}")?;
     }
     Ok(())
@@ -90,7 +90,7 @@ fn tell_segment(out: &mut String, seg: &Seg) -> Result<(), AllocError> {
     out.push_str(" ")?;
     add_flags(out, seg.flags)?;
     write!(out, " {} {} {}", seg.seq, seg.ack, seg.wnd)?;
-    tell_options(out, seg)?;
+    tell_options(out, &seg.options)?;
     writeln!(out, " text {} {}", seg.text_from, seg.text_len)
 }
 
@@ -151,10 +151,10 @@ fn datagram(out: &mut String, alloc: Global, line: &str) -> Result<(), Wrong> {
 fn set(reply: &mut Reply, word: &str) -> Result<bool, Wrong> {
     match word.split_once('=') {
         Some(("mss", value)) => {
-            reply.mss = Some(value.parse::<u16>().map_err(|_| Wrong::Word)?);
+            reply.options.mss = Some(value.parse::<u16>().map_err(|_| Wrong::Word)?);
         }
         Some(("scale", value)) => {
-            reply.scale = Some(value.parse::<u8>().map_err(|_| Wrong::Word)?);
+            reply.options.scale = Some(value.parse::<u8>().map_err(|_| Wrong::Word)?);
         }
         _ => return Ok(false),
     }
@@ -180,7 +180,7 @@ fn reply_of(alloc: Global, line: &str) -> Result<Reply, Wrong> {
 /// Tells the bytes of a reply.
 fn reply(out: &mut String, alloc: Global, line: &str) -> Result<(), Wrong> {
     let reply = reply_of(alloc, line)?;
-    if reply.text.as_slice().len() > 1460 || reply.scale.is_some() && reply.mss.is_none() {
+    if reply.text.as_slice().len() > usize::from(MOST_TEXT) {
         return Err(Wrong::Call);
     }
     let sent = encode(alloc, &ENDS, &reply)?;

@@ -1,6 +1,6 @@
 //! Where datagrams begin, and a reset behind other bytes. What bytes are read as and written stands as rows of `cases_input`.
 
-use segment_codec::{Packet, Seg, encode_into, ip_place, refusal, tuple_of};
+use segment_codec::{Options, Packet, Seg, encode_into, ip_place, refusal, tuple_of};
 use sq_base::{Addr, Link, Tuple};
 use std::test::Fail;
 
@@ -40,7 +40,7 @@ fn encode_into_appends(rt: HostRuntime) -> Result<(), Fail> {
     let mut out = Vec::from_slice(rt.alloc(), &[7, 9])?;
     let reset = refusal(rt.alloc(), 0, &seg);
     if let Some(reset) = &reset {
-        assert!(rt; reset.text.as_slice().is_empty() && reset.scale.is_none());
+        assert!(rt; reset.text.as_slice().is_empty() && reset.options == Options::none());
         encode_into(&mut out, &tuple_of(&seg), reset)?;
     }
     assert_eq!(rt; out.as_slice(), BEHIND.as_slice());

@@ -1,5 +1,5 @@
 -- What is sent is read again.
-use Rattle.std.proofs.Common.{◌≡◌, ℕ, ◌+◌, ◌*◌, ◌<◌, ◌≤◌, List, [], ◌∷◌, ◌++◌, length, drop, take, Option, None, Some, Ok, Err, Bool, true, false, refl, sym, ap, ◌∙◌, arith, cond, eqb, ltb, ◌&&◌, subst}
+use Rattle.std.proofs.Common.{◌≡◌, ℕ, ◌+◌, ◌*◌, ◌<◌, ◌≤◌, List, [], ◌∷◌, ◌++◌, length, drop, take, Option, None, Some, Ok, Err, Bool, true, false, refl, sym, ap, ◌∙◌, arith, cond, eqb, ltb, ◌&&◌}
 use Rattle.std.proofs.lemmas.Bool.Decides.{nat_tests}
 use Rattle.std.proofs.lemmas.List.{take_all, take_at, drop_at, drop-take}
 use Rattle.sq_base.specs.InternetSum.{word_sum, reduced}
@@ -10,12 +10,12 @@ use Rattle.sq_base.specs.declared.kinds.Link.TheVariants.{RawIp}
 use Rattle.segment_codec.specs.declared.packet.Packet.TheVariants as packet
 use Rattle.segment_codec.specs.Places.{byte, word, long, high}
 use Rattle.segment_codec.specs.Packet.{packet_in, packet_at, ip_place, datagram, tcp_packet, segment_of, sums_hold}
-use Rattle.segment_codec.specs.Options.{mss_in, scale_in, options_in}
+use Rattle.segment_codec.specs.Options.{AreWritable, OptionsAreReadAgain, mss_in, option_bytes, options_in, options_read, scale_in}
+use Rattle.segment_codec.specs.declared.options.Options.{Options}
 use Rattle.byteorder.specs.Endian.{big_bytes}
-use Rattle.segment_codec.specs.SegmentBytes.{segment_bytes, ip_with, tcp_with, option_bytes, offset_of, ip_sum, tcp_sum}
-use Rattle.segment_codec.specs.SentIsRead.{OurOptions, AreSent, Fits, ReadsAgain, seg_sent, text_in}
+use Rattle.segment_codec.specs.SegmentBytes.{segment_bytes, ip_with, tcp_with, offset_of, ip_sum, tcp_sum}
+use Rattle.segment_codec.specs.SentIsRead.{Fits, ReadsAgain, seg_sent, text_in}
 use Rattle.segment_codec.proofs.SumLemmas.{sum_completes, header_sums, length-tcp_with}
-use Rattle.segment_codec.specs.Limits.{announced_mss}
 
 -- a whole datagram without options, fragments or padding
 datagram_whole : (verify : Bool) (ip : List ℕ) (from : ℕ) → 20 ≤ length ip → byte ip 0 ≡ 69 → word ip 2 ≡ length ip → word ip 6 ≡ 16384 → byte ip 9 ≡ 6
@@ -60,15 +60,15 @@ sums_sent t r total small =
     ap (λ p. p && (ltb (length (tcp_with t r sum)) 65536 && eqb (reduced (word_sum (drop 12 (take 20 (ip_with t total (ip_sum t total) ++ tcp_with t r sum))) + 6 + length (tcp_with t r sum) + word_sum (tcp_with t r sum))) 65535)) a
     ∙ (ap (λ p. p && eqb (reduced (word_sum (drop 12 (take 20 (ip_with t total (ip_sum t total) ++ tcp_with t r sum))) + 6 + length (tcp_with t r sum) + word_sum (tcp_with t r sum))) 65535) b ∙ c)
 
-abbrev seg_of : ℕ → ℕ → ℕ → ℕ → ℕ → ℕ → ℕ → ℕ → Option ℕ → Option ℕ → ℕ → ℕ → Seg
-seg_of src dst src_port dst_port seq ack flags wnd mss scale from len =
-    record { src = record { 0 = src }; dst = record { 0 = dst }; src_port = src_port; dst_port = dst_port; seq = seq; ack = ack; flags = flags; wnd = wnd; mss = mss; scale = scale; text_from = from; text_len = len }
+abbrev seg_of : ℕ → ℕ → ℕ → ℕ → ℕ → ℕ → ℕ → ℕ → Options → ℕ → ℕ → Seg
+seg_of src dst src_port dst_port seq ack flags wnd options from len =
+    record { src = record { 0 = src }; dst = record { 0 = dst }; src_port = src_port; dst_port = dst_port; seq = seq; ack = ack; flags = flags; wnd = wnd; options = options; text_from = from; text_len = len }
 
-same_seg : (a b c d e f g h : ℕ) (m n : Option ℕ) (i j a' b' c' d' e' f' g' h' : ℕ) (m' n' : Option ℕ) (i' j' : ℕ)
-    → a ≡ a' → b ≡ b' → c ≡ c' → d ≡ d' → e ≡ e' → f ≡ f' → g ≡ g' → h ≡ h' → m ≡ m' → n ≡ n' → i ≡ i' → j ≡ j'
-    → seg_of a b c d e f g h m n i j ≡ seg_of a' b' c' d' e' f' g' h' m' n' i' j'
-same_seg a b c d e f g h m n i j a' b' c' d' e' f' g' h' m' n' i' j' p q r s t u v w x o y z =
-    rw (p, q, r, s, t, u, v, w, x, o, y, z) refl
+same_seg : (a b c d e f g h : ℕ) (o : Options) (i j a' b' c' d' e' f' g' h' : ℕ) (o' : Options) (i' j' : ℕ)
+    → a ≡ a' → b ≡ b' → c ≡ c' → d ≡ d' → e ≡ e' → f ≡ f' → g ≡ g' → h ≡ h' → o ≡ o' → i ≡ i' → j ≡ j'
+    → seg_of a b c d e f g h o i j ≡ seg_of a' b' c' d' e' f' g' h' o' i' j'
+same_seg a b c d e f g h o i j a' b' c' d' e' f' g' h' o' i' j' p q r s t u v w x y z =
+    rw (p, q, r, s, t, u, v, w, x, y, z) refl
 
 -- the TCP header without its options
 abbrev fixed_with : Tuple → Reply → ℕ → List ℕ
@@ -85,10 +85,10 @@ options_between fixed options text n long e =
     ∙ take_at options text (length options) refl))
 
 -- what is sent with options that are read again
-reads_with : (t : Tuple) (r : Reply) (k : ℕ) → Fits t r → length (option_bytes r) ≡ 4 * k → k ≤ 2 → mss_in (option_bytes r) ≡ r.mss → scale_in (option_bytes r) ≡ r.scale
+reads_with : (t : Tuple) (r : Reply) (k : ℕ) → Fits t r → length (option_bytes r.options) ≡ 4 * k → k ≤ 10 → options_read (option_bytes r.options) ≡ r.options
     → packet_in RawIp (segment_bytes t r) true ≡ packet.Segment (seg_sent t r)
 unfolding packet_in ip_place segment_bytes segment_of word long
-reads_with t r k fits options few mss scale =
+reads_with t r k fits options few again =
     let total = 20 + length (tcp_with t r 0) in
     let tcp = tcp_with t r (tcp_sum t r) in
     let ip = ip_with t total (ip_sum t total) in
@@ -100,53 +100,54 @@ reads_with t r k fits options few mss scale =
     let named : word all 2 ≡ length all = omega (arith, size, long_blank, fits.text, few) in
     let sums : sums_hold all ip tcp ≡ true = sums_sent t r total (omega (arith, long_blank, fits.text, few)) in
     let offset : high (byte tcp 12) ≡ 5 + k = omega (arith, options) in
-    let between : drop 20 (take (4 * high (byte tcp 12)) tcp) ≡ option_bytes r =
-    options_between (fixed_with t r (tcp_sum t r)) (option_bytes r) r.text (4 * high (byte tcp 12)) refl (omega (arith, offset, options)) in
+    let between : drop 20 (take (4 * high (byte tcp 12)) tcp) ≡ option_bytes r.options =
+    options_between (fixed_with t r (tcp_sum t r)) (option_bytes r.options) r.text (4 * high (byte tcp 12)) refl (omega (arith, offset, options)) in
     ap (λ b. packet_at true all (cond b (Err packet.Other) (Ok 0))) raw
     ∙ (datagram_whole true all 0 (omega (arith, size)) refl named refl refl
     ∙ (tcp_whole all ip tcp 20 (5 + k) offset (omega arith) (omega (arith, long_tcp)) sums
-    ∙ ap (λ (s : Seg). packet.Segment s) (same_seg _ _ _ _ _ _ _ _ _ _ _ _ _ _ _ _ _ _ _ _ _ _ _ _
+    ∙ ap (λ (s : Seg). packet.Segment s) (same_seg _ _ _ _ _ _ _ _ _ _ _ _ _ _ _ _ _ _ _ _ _ _
     (omega (arith, fits.server)) (omega (arith, fits.client)) (omega (arith, fits.server_port)) (omega (arith, fits.client_port))
     (omega (arith, fits.seq)) (omega (arith, fits.ack)) (omega (arith, fits.flags)) (omega (arith, fits.wnd))
-    (ap mss_in between ∙ mss) (ap scale_in between ∙ scale) (omega (arith, offset, options)) (omega (arith, long_tcp, offset)))))
+    (ap options_read between ∙ again) (omega (arith, offset, options)) (omega (arith, long_tcp, offset)))))
 
-abbrev carrying : Reply → Option ℕ → Option ℕ → Reply
-carrying r mss scale = record r { mss = mss; scale = scale }
-
--- the options that are sent are read again
-record OptionsRead (r : Reply) : Type 0 where
+-- options are whole words
+record AreWords (o : Options) : Type 0 where
   words : ℕ
-  size : length (option_bytes r) ≡ 4 * words
-  few : words ≤ 2
-  mss : mss_in (option_bytes r) ≡ r.mss
-  scale : scale_in (option_bytes r) ≡ r.scale
+  size : length (option_bytes o) ≡ 4 * words
+  few : words ≤ 10
 
-options_carried : (r : Reply) (mss scale : Option ℕ) → OurOptions mss scale → OptionsRead (carrying r mss scale)
-unfolding mss_in scale_in options_in word
-options_carried r None None e = record { words = 0; size = refl; few = omega arith; mss = refl; scale = refl }
-options_carried r None (Some shift) e = absurd e
-options_carried r (Some mss) None e =
-    subst (λ (m : ℕ). OptionsRead (carrying r (Some m) None)) (sym e) (record { words = 1; size = refl; few = omega arith; mss = refl; scale = refl })
-options_carried r (Some mss) (Some shift) e =
-    subst (λ (m : ℕ). OptionsRead (carrying r (Some m) (Some shift))) (sym e.0)
-    (subst (λ (s : ℕ). OptionsRead (carrying r (Some announced_mss) (Some s))) (sym e.1)
-    (record { words = 2; size = refl; few = omega arith; mss = refl; scale = refl }))
+abbrev both : Option ℕ → Option ℕ → Options
+both mss scale = record { mss = mss; scale = scale }
 
-options_read : (r : Reply) → AreSent r → OptionsRead r
-options_read r sent = options_carried r r.mss r.scale sent
+are_words : (mss scale : Option ℕ) → AreWords (both mss scale)
+are_words None None = record { words = 0; size = refl; few = omega arith }
+are_words None (Some shift) = record { words = 1; size = refl; few = omega arith }
+are_words (Some mss) None = record { words = 1; size = refl; few = omega arith }
+are_words (Some mss) (Some shift) = record { words = 2; size = refl; few = omega arith }
+
+-- an option is read from the bytes that are written
+both_read : (mss scale : Option ℕ) → AreWritable (both mss scale) → options_read (option_bytes (both mss scale)) ≡ both mss scale
+unfolding options_read mss_in scale_in options_in word
+both_read None None w = refl
+both_read None (Some shift) w = refl
+both_read (Some mss) None w = ap (λ n. both (Some n) None) (omega (arith, w.mss))
+both_read (Some mss) (Some shift) w = ap (λ n. both (Some n) (Some shift)) (omega (arith, w.mss))
+
+pub options_read_again : OptionsAreReadAgain
+options_read_again o w = both_read o.mss o.scale w
 
 -- all that is sent before the text
 abbrev headers_with : Tuple → Reply → ℕ → ℕ → List ℕ
-headers_with t r total sum = ip_with t total (ip_sum t total) ++ (fixed_with t r sum ++ option_bytes r)
+headers_with t r total sum = ip_with t total (ip_sum t total) ++ (fixed_with t r sum ++ option_bytes r.options)
 
 text_read : (t : Tuple) (r : Reply) → text_in (seg_sent t r) (segment_bytes t r) ≡ r.text
 unfolding segment_bytes
 text_read t r =
     let before = headers_with t r (20 + length (tcp_with t r 0)) (tcp_sum t r) in
-    let size : length before ≡ 40 + length (option_bytes r) = omega arith in
-    ap (take (length r.text)) (drop_at before r.text (40 + length (option_bytes r)) size) ∙ take_all (length r.text) r.text (omega arith)
+    let size : length before ≡ 40 + length (option_bytes r.options) = omega arith in
+    ap (take (length r.text)) (drop_at before r.text (40 + length (option_bytes r.options)) size) ∙ take_all (length r.text) r.text (omega arith)
 
 pub reads_again : (t : Tuple) (r : Reply) → Fits t r → ReadsAgain t r
 reads_again t r fits =
-    let again = options_read r fits.options in
-    record { fields = reads_with t r again.words fits again.size again.few again.mss again.scale; text = text_read t r }
+    let whole = are_words r.options.mss r.options.scale in
+    record { fields = reads_with t r whole.words fits whole.size whole.few (options_read_again r.options fits.options); text = text_read t r }

@@ -1,11 +1,15 @@
 -- A checksum makes the sum whole.
-use Rattle.std.proofs.Common.{◌≡◌, ℕ, ◌+◌, ◌-◌, ◌<◌, List, [], ◌∷◌, ◌++◌, length, slice_index, refl, take, length-append, append_assoc, ap, ◌∙◌, arith, Option, Some, None}
+use Rattle.std.proofs.Common.{◌≡◌, ℕ, ◌+◌, ◌-◌, ◌<◌, List, [], ◌∷◌, ◌++◌, length, slice_index, refl, take, length-append, append_assoc, ap, ◌∙◌, arith, Option, Some, None, subst}
+use Rattle.std.proofs.Math.ListN.{get_or}
+use Rattle.std.proofs.lemmas.List.{take_more}
 use Rattle.std.proofs.lemmas.Bool.Decides.{nat_tests}
 use Rattle.sq_base.specs.InternetSum.{word_sum, reduced}
 use Rattle.sq_base.proofs.SumLemmas.{reduced-reduced_add}
 use Rattle.sq_base.specs.declared.kinds.Tuple.{Tuple}
 use Rattle.segment_codec.specs.declared.packet.Reply.{Reply}
-use Rattle.segment_codec.specs.SegmentBytes.{ip_with, ip_sum, tcp_with, tcp_sum, segment_bytes, option_bytes, mss_bytes, scale_bytes}
+use Rattle.segment_codec.specs.SegmentBytes.{ip_with, ip_sum, tcp_with, tcp_sum, segment_bytes}
+use Rattle.segment_codec.specs.Options.{option_bytes, word_bytes}
+use Rattle.std.specs.Prelude.{flat_map}
 
 pub sum_completes : (n : ℕ) → reduced (n + (65535 - reduced n)) ≡ 65535
 sum_completes n = grind (arith, nat_tests)
@@ -18,19 +22,35 @@ unfolding ip_sum
 header_sums t total =
     ap reduced (word_sum-ip_with t total (ip_sum t total) (omega arith)) ∙ sum_completes (word_sum (ip_with t total 0))
 
-pub length-tcp_with : (t : Tuple) (r : Reply) (sum : ℕ) → length (tcp_with t r sum) ≡ 20 + length (option_bytes r) + length r.text
-length-tcp_with t r sum = omega (arith, length-append (option_bytes r) r.text)
+pub length-tcp_with : (t : Tuple) (r : Reply) (sum : ℕ) → length (tcp_with t r sum) ≡ 20 + length (option_bytes r.options) + length r.text
+length-tcp_with t r sum = omega (arith, length-append (option_bytes r.options) r.text)
 
 -- options are whole words
-word_sum-options : (mss scale : Option ℕ) (text : List ℕ) → word_sum ((mss_bytes mss ++ scale_bytes scale) ++ text) ≡ word_sum (mss_bytes mss ++ scale_bytes scale) + word_sum text
-word_sum-options None None text = omega arith
-word_sum-options None (Some shift) text = omega arith
-word_sum-options (Some mss) None text = omega arith
-word_sum-options (Some mss) (Some shift) text = omega arith
+word_sum-words : (words : List (Option ℕ)) (text : List ℕ) → word_sum (flat_map word_bytes words ++ text) ≡ word_sum (flat_map word_bytes words) + word_sum text
+word_sum-words [] text = omega arith
+word_sum-words (None ∷ words) text = word_sum-words words text
+word_sum-words (Some w ∷ words) text = omega (arith, word_sum-words words text)
+
+word_sum-push : (words : List (Option ℕ)) (w : Option ℕ) → word_sum (flat_map word_bytes (words ++ (w ∷ []))) ≡ word_sum (flat_map word_bytes words) + word_sum (word_bytes w)
+word_sum-push [] None = omega arith
+word_sum-push [] (Some w) = omega arith
+word_sum-push (None ∷ words) w = word_sum-push words w
+word_sum-push (Some x ∷ words) w = omega (arith, word_sum-push words w)
+
+-- the sum of one word more
+pub sum_next : (words : List (Option ℕ)) (i : ℕ) (w : Option ℕ) → i < length words → get_or words i None ≡ w
+    → word_sum (flat_map word_bytes (take (i + 1) words)) ≡ word_sum (flat_map word_bytes (take i words)) + word_sum (word_bytes w)
+sum_next words i w within e =
+    ap (λ l. word_sum (flat_map word_bytes l)) (take_more words i None within)
+    ∙ (ap (λ o. word_sum (flat_map word_bytes (take i words ++ (o ∷ [])))) e ∙ word_sum-push (take i words) w)
+
+word_sum-options : (words : List (Option ℕ)) (options text : List ℕ) → flat_map word_bytes words ≡ options → word_sum (options ++ text) ≡ word_sum options + word_sum text
+word_sum-options words options text e = subst (λ o. word_sum (o ++ text) ≡ word_sum o + word_sum text) e (word_sum-words words text)
 
 -- the sum of a TCP part is that of its fields, of its options, and of its text
-pub word_sum_parts : (t : Tuple) (r : Reply) → word_sum (tcp_with t r 0) ≡ word_sum (take 20 (tcp_with t r 0)) + word_sum (option_bytes r) + word_sum r.text
-word_sum_parts t r = omega (arith, word_sum-options r.mss r.scale r.text)
+pub word_sum_parts : (t : Tuple) (r : Reply) (words : List (Option ℕ)) → flat_map word_bytes words ≡ option_bytes r.options
+    → word_sum (tcp_with t r 0) ≡ word_sum (take 20 (tcp_with t r 0)) + word_sum (option_bytes r.options) + word_sum r.text
+word_sum_parts t r words e = omega (arith, word_sum-options words (option_bytes r.options) r.text e)
 
 -- a sum that goes on from a reduced one
 pub goes_on : (m n s t : ℕ) → s ≡ reduced m → t ≡ reduced (s + n) → t ≡ reduced (m + n)

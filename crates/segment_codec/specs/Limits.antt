@@ -5,9 +5,6 @@ use Rattle.std.specs.Prelude.{ℕ}
 abbrev pub most_text : ℕ
 most_text = 1460
 
--- the maximum segment size that is announced, and the shift of the window scale (RFC 7323, 2.2)
-abbrev pub announced_mss : ℕ
-announced_mss = most_text
-
-abbrev pub announced_shift : ℕ
-announced_shift = 5
+-- the most words of four bytes that options take: a header of 60 bytes without its first 20 (RFC 9293, 3.1)
+abbrev pub most_option_words : ℕ
+most_option_words = 10

@@ -6,7 +6,7 @@ use Rattle.sq_base.specs.InternetSum.{word_sum, reduced}
 use Rattle.sq_base.specs.declared.kinds.Link.{Link}
 use Rattle.sq_base.specs.declared.kinds.Link.TheVariants.{Ethernet, RawIp, Cooked}
 use Rattle.segment_codec.specs.Places.{byte, word, long, high, low}
-use Rattle.segment_codec.specs.Options.{mss_in, scale_in}
+use Rattle.segment_codec.specs.Options.{options_read}
 use Rattle.segment_codec.specs.declared.packet.Packet.{Packet}
 use Rattle.segment_codec.specs.declared.packet.Packet.TheVariants as packet
 use Rattle.segment_codec.specs.declared.packet.Why.TheVariants as why
@@ -16,7 +16,6 @@ use Rattle.segment_codec.specs.declared.packet.Seg.{Seg}
 unfoldable pub segment_of : List ℕ → List ℕ → ℕ → Seg
 segment_of ip tcp from =
     let header = 4 * high (byte tcp 12) in
-    let options = drop 20 (take header tcp) in
     record {
       src = record { 0 = long ip 12 };
       src_port = word tcp 0;
@@ -26,8 +25,7 @@ segment_of ip tcp from =
       ack = long tcp 8;
       flags = byte tcp 13 % 64;
       wnd = word tcp 14;
-      mss = mss_in options;
-      scale = scale_in options;
+      options = options_read (drop 20 (take header tcp));
       text_from = from + header;
       text_len = length tcp - header;
     }

@@ -1,26 +1,14 @@
--- A sent segment in bytes (RFC 791, 3.1; RFC 9293, 3.1; window scale: RFC 7323, 2.2).
-use Rattle.std.specs.Prelude.{ℕ, ◌+◌, ◌-◌, ◌*◌, ◌/◌, List, [], ◌∷◌, ◌++◌, length, Option, None, Some}
+-- A sent segment in bytes (RFC 791, 3.1; RFC 9293, 3.1).
+use Rattle.std.specs.Prelude.{ℕ, ◌+◌, ◌-◌, ◌*◌, ◌/◌, List, ◌∷◌, ◌++◌, length}
 use Rattle.sq_base.specs.InternetSum.{word_sum, reduced}
 use Rattle.byteorder.specs.Endian.{big_bytes}
 use Rattle.sq_base.specs.declared.kinds.Tuple.{Tuple}
+use Rattle.segment_codec.specs.Options.{option_bytes}
 use Rattle.segment_codec.specs.declared.packet.Reply.{Reply}
-
--- the maximum segment size, where it is carried
-abbrev pub mss_bytes : Option ℕ → List ℕ
-mss_bytes None = []
-mss_bytes (Some mss) = 2 ∷ 4 ∷ big_bytes 2 mss
-
--- the window scale, where it is carried, with a byte before it that fills four
-abbrev pub scale_bytes : Option ℕ → List ℕ
-scale_bytes None = []
-scale_bytes (Some shift) = 1 ∷ 3 ∷ 3 ∷ shift ∷ []
-
-abbrev pub option_bytes : Reply → List ℕ
-option_bytes r = mss_bytes r.mss ++ scale_bytes r.scale
 
 -- the header's length in words of four bytes, which is the data offset
 abbrev pub offset_of : Reply → ℕ
-offset_of r = 5 + length (option_bytes r) / 4
+offset_of r = 5 + length (option_bytes r.options) / 4
 
 -- the IPv4 header with this total length and this checksum: no fragment, TTL 64, protocol 6
 abbrev pub ip_with : Tuple → ℕ → ℕ → List ℕ
@@ -30,7 +18,7 @@ ip_with t total sum = 0x45 ∷ 0 ∷ (big_bytes 2 total ++ (0 ∷ 0 ∷ 0x40 ∷
 abbrev pub tcp_with : Tuple → Reply → ℕ → List ℕ
 tcp_with t r sum =
     big_bytes 2 t.server_port ++ (big_bytes 2 t.client_port ++ (big_bytes 4 r.seq ++ (big_bytes 4 r.ack
-    ++ (offset_of r * 16 ∷ r.flags ∷ (big_bytes 2 r.wnd ++ (big_bytes 2 sum ++ (0 ∷ 0 ∷ (option_bytes r ++ r.text))))))))
+    ++ (offset_of r * 16 ∷ r.flags ∷ (big_bytes 2 r.wnd ++ (big_bytes 2 sum ++ (0 ∷ 0 ∷ (option_bytes r.options ++ r.text))))))))
 
 -- a checksum is the complement of the sum with its own field 0
 unfoldable pub ip_sum : Tuple → ℕ → ℕ

@@ -1,25 +1,16 @@
 -- What is sent is read again.
-use Rattle.std.specs.Prelude.{ℕ, List, take, drop, ◌≡◌, ◌+◌, ◌<◌, ◌^◌, ◌≤◌, true, length, Option, None, Some, All}
+use Rattle.std.specs.Prelude.{ℕ, List, take, drop, ◌≡◌, ◌+◌, ◌<◌, ◌^◌, ◌≤◌, true, length, All}
 use Rattle.sq_base.specs.declared.kinds.Link.TheVariants.{RawIp}
 use Rattle.sq_base.specs.declared.kinds.Tuple.{Tuple}
 use Rattle.segment_codec.specs.declared.packet.Reply.{Reply}
 use Rattle.segment_codec.specs.declared.packet.Seg.{Seg}
 use Rattle.segment_codec.specs.declared.packet.Packet.TheVariants as packet
 use Rattle.segment_codec.specs.Packet.{packet_in}
-use Rattle.segment_codec.specs.SegmentBytes.{segment_bytes, option_bytes}
-use Rattle.segment_codec.specs.Limits.{announced_mss, announced_shift, most_text}
+use Rattle.segment_codec.specs.SegmentBytes.{segment_bytes}
+use Rattle.segment_codec.specs.Options.{AreWritable, option_bytes}
+use Rattle.segment_codec.specs.Limits.{most_text}
 
--- the options that are sent: none, our maximum segment size, or beside it our window scale
-abbrev pub OurOptions : Option ℕ → Option ℕ → Type 0
-OurOptions None None = Unit {0}
-OurOptions None (Some shift) = ⊥
-OurOptions (Some mss) None = mss ≡ announced_mss
-OurOptions (Some mss) (Some shift) = (mss ≡ announced_mss) × (shift ≡ announced_shift)
-
-abbrev pub AreSent : Reply → Type 0
-AreSent r = OurOptions r.mss r.scale
-
--- a tuple and a reply whose numbers fit their fields, and whose options and flags are those that are sent
+-- a tuple and a reply whose numbers fit their fields
 pub record Fits (t : Tuple) (r : Reply) : Type 0 where
   pub client : t.client.0 < 2 ^ 32
   pub server : t.server.0 < 2 ^ 32
@@ -29,7 +20,7 @@ pub record Fits (t : Tuple) (r : Reply) : Type 0 where
   pub ack : r.ack < 2 ^ 32
   pub wnd : r.wnd < 2 ^ 16
   pub flags : r.flags < 64
-  pub options : AreSent r
+  pub options : AreWritable r.options
   pub text : length r.text ≤ most_text
   pub bytes : All (λ b. b < 256) r.text
 
@@ -44,9 +35,8 @@ seg_sent t r = record {
   ack = r.ack;
   flags = r.flags;
   wnd = r.wnd;
-  mss = r.mss;
-  scale = r.scale;
-  text_from = 40 + length (option_bytes r);
+  options = r.options;
+  text_from = 40 + length (option_bytes r.options);
   text_len = length r.text;
 }
 

@@ -7,6 +7,7 @@
 
 mod control;
 pub mod laws;
+mod limits;
 mod options;
 mod packet;
 mod places;
@@ -15,6 +16,8 @@ mod refusing;
 mod writing;
 
 pub use control::{ACK, FIN, PSH, RST, SYN};
+pub use limits::MOST_TEXT;
+pub use options::Options;
 pub use packet::{Packet, Reply, Seg, Why};
 pub use reading::{decode, ip_place};
 pub use refusing::{refusal, tuple_of};

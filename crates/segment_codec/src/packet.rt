@@ -3,13 +3,14 @@
 ghost use Rattle.std.specs.Prelude.{◌≡◌};
 ghost use Rattle.segment_codec.specs.PlainSegments.{plain, plain_from};
 
+use crate::options::Options;
 use sq_base::{Addr, Octets, Tuple};
 
 /// The fields of a segment (RFC 9293, 3.1).
 ///
 /// The ports, the sequence number `seq`, the acknowledgement number `ack` and the window `wnd` are the header's own;
-/// `flags` are its lower six bits (FIN 1, SYN 2, RST 4, PSH 8, ACK 16, URG 32). `mss` is the option for the maximum
-/// segment size and `scale` the shift of the window scale (RFC 7323), wherever they stand; no rule on flags is applied.
+/// `flags` are its lower six bits (FIN 1, SYN 2, RST 4, PSH 8, ACK 16, URG 32). `options` is what its options say, with
+/// whatever flags; no rule on flags is applied.
 /// The text is the `text_len` bytes of the record's body from `text_from` on; the window isn't scaled.
 #[derive(Clone, Copy, Debug, PartialEq, Eq)]
 pub struct Seg {
@@ -21,8 +22,7 @@ pub struct Seg {
     pub ack: u32,
     pub flags: u8,
     pub wnd: u16,
-    pub mss: Option<u16>,
-    pub scale: Option<u8>,
+    pub options: Options,
     pub text_from: u32,
     pub text_len: u32,
 }
@@ -50,8 +50,7 @@ impl Seg {
             ack,
             flags,
             wnd,
-            mss: None,
-            scale: None,
+            options: Options::none(),
             text_from,
             text_len,
         }
@@ -92,7 +91,7 @@ pub enum Packet {
 
 /// A segment that is sent: its time `at` in microseconds, the fields of its header (RFC 9293, 3.1), the options that it carries, and its text.
 ///
-/// `wnd` is the field as it is sent, `mss` counts bytes, and `scale` is a shift (RFC 7323, 2.2). `encode` takes at most 1,460 bytes of text.
+/// `wnd` is the field as it is sent. `encode` takes at most 1,460 bytes of text.
 #[derive(Debug, Drop)]
 pub struct Reply {
     pub at: u64,
@@ -100,8 +99,7 @@ pub struct Reply {
     pub seq: u32,
     pub ack: u32,
     pub wnd: u16,
-    pub mss: Option<u16>,
-    pub scale: Option<u8>,
+    pub options: Options,
     pub text: Octets,
 }
 
@@ -116,8 +114,7 @@ impl Reply {
             seq,
             ack,
             wnd,
-            mss: None,
-            scale: None,
+            options: Options::none(),
             text,
         }
     }

@@ -3,7 +3,7 @@
 ghost use Rattle.std.specs.Prelude.{◌≡◌, ◌+◌, ◌*◌, ◌/◌, ◌<◌, ◌≤◌, ◌^◌, length, slice_index, IfOk};
 ghost use Rattle.segment_codec.specs.Packet.{packet_in, ip_place, behind_header, datagram, tcp_packet, segment_of, sums_hold};
 
-use crate::options::{mss_in, scale_in};
+use crate::options::Options;
 use crate::packet::{Packet, Seg, Why};
 use crate::places::{front, long_at, rest_at, word_at};
 use sq_base::{Addr, Link, inet_sum};
@@ -168,7 +168,6 @@ fn segment_of(ip: &[u8], tcp: &[u8], from: u32) -> Seg
     ensures { result ≡ segment_of ip.now tcp.now from }
 {
     let header = 4 * usize::from(tcp[12] >> 4);
-    let options = rest_at(front(tcp, header), 20);
     Seg {
         src: Addr(long_at(ip, 12)),
         src_port: word_at(tcp, 0),
@@ -178,8 +177,7 @@ fn segment_of(ip: &[u8], tcp: &[u8], from: u32) -> Seg
         ack: long_at(tcp, 8),
         flags: tcp[13] & 63,
         wnd: word_at(tcp, 14),
-        mss: mss_in(options),
-        scale: scale_in(options),
+        options: Options::read(rest_at(front(tcp, header), 20)),
         text_from: from + header as u32,
         text_len: (tcp.len() - header) as u32,
     }

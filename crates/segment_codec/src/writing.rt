@@ -1,10 +1,11 @@
 //! A sent segment in bytes. Both checksums are taken over the fields as numbers first, so each byte is written once.
 
-ghost use Rattle.std.specs.Prelude.{◌≡◌, ◌≤◌, ◌+◌, ◌*◌, ◌/◌, ◌<◌, length, take, IfOk, OnOk, OnErr, IsSome, ◌++◌, ◌∷◌, [], if◌then◌else◌, is_ok, flat_map};
+ghost use Rattle.std.specs.Prelude.{◌≡◌, ◌≤◌, ◌+◌, ◌*◌, ◌/◌, ◌<◌, length, take, IfOk, OnOk, OnErr, ◌++◌, ◌∷◌, [], if◌then◌else◌, is_ok, flat_map};
 ghost use Rattle.byteorder.specs.Endian.{big_bytes};
 ghost use Rattle.sq_base.specs.InternetSum.{word_sum, reduced};
-ghost use Rattle.segment_codec.specs.SegmentBytes.{segment_bytes, ip_with, tcp_with, option_bytes, offset_of, ip_sum, tcp_sum};
-ghost use Rattle.segment_codec.specs.Limits.{most_text};
+ghost use Rattle.segment_codec.specs.SegmentBytes.{segment_bytes, ip_with, tcp_with, offset_of, ip_sum, tcp_sum};
+ghost use Rattle.segment_codec.specs.Options.{option_bytes, word_bytes};
+ghost use Rattle.segment_codec.specs.Limits.{most_text, most_option_words};
 
 use crate::packet::Reply;
 use sq_base::{Octets, Tuple, inet_sum};
@@ -14,7 +15,6 @@ use std::alloc::{AllocError, Global};
 /// An error says that memory for it was missing.
 pub fn encode(alloc: Global, tuple: &Tuple, reply: &Reply) -> Result<Octets, AllocError>
     requires text { length reply.now.text ≤ most_text }
-    requires scale { IsSome reply.now.scale → IsSome reply.now.mss }
     ensures { IfOk result (λ o. o ≡ segment_bytes tuple.now reply.now) }
 {
     let mut out = Vec::new(alloc);
@@ -25,7 +25,6 @@ pub fn encode(alloc: Global, tuple: &Tuple, reply: &Reply) -> Result<Octets, All
 /// Appends the datagram that `encode` gives to a buffer that the caller keeps. After an error the buffer is as it was.
 pub fn encode_into(out: &mut Vec<u8>, tuple: &Tuple, reply: &Reply) -> Result<(), AllocError>
     requires text { length reply.now.text ≤ most_text }
-    requires scale { IsSome reply.now.scale → IsSome reply.now.mss }
     ensures { out.new.items ≡ (if is_ok result then out.old.items ++ segment_bytes tuple.now reply.now else out.old.items) }
 {
     let before = out.len();
@@ -55,10 +54,10 @@ fn append(out: &mut Vec<u8>, tuple: &Tuple, reply: &Reply) -> Result<(), AllocEr
 /// The length of the TCP part.
 fn tcp_len(reply: &Reply) -> u16
     requires { length reply.now.text ≤ most_text }
-    ensures value { result ≡ 20 + length (option_bytes reply.now) + length reply.now.text }
-    ensures small { result ≤ most_text + 28 }
+    ensures value { result ≡ 20 + length (option_bytes reply.now.options) + length reply.now.text }
+    ensures small { result ≤ most_text + 60 }
 {
-    u16::from(offset_byte(reply)) / 4 + reply.text.as_slice().len() as u16
+    u16::from(offset(reply)) * 4 + reply.text.as_slice().len() as u16
 }
 
 /// The header's checksum.
@@ -71,12 +70,13 @@ fn header_sum(tuple: &Tuple, total: u16) -> u16
 
 /// The TCP checksum: over the pseudo-header (RFC 9293, 3.1), the header's fields, its options, and the text.
 fn tcp_sum(tuple: &Tuple, reply: &Reply, len: u16) -> u16
-    requires { len ≡ 20 + length (option_bytes reply.now) + length reply.now.text }
+    requires { len ≡ 20 + length (option_bytes reply.now.options) + length reply.now.text }
     ensures { result ≡ tcp_sum tuple.now reply.now }
 {
     let pseudo = halves(tuple.server.0) + halves(tuple.client.0) + 6 + u32::from(len);
-    let sum = folded(pseudo + sum_of(tcp_header(tuple, reply, 0)));
-    0xffff - inet_sum(sum_options(sum, reply), reply.text.as_slice())
+    let header = sum_of(tcp_header(tuple, reply, 0));
+    let sum = folded(pseudo + header + sum_options(&reply.options.words()));
+    0xffff - inet_sum(sum, reply.text.as_slice())
 }
 
 /// The IPv4 header with this checksum, in words of 32 bits: no fragment, 64 hops, TCP.
@@ -100,7 +100,7 @@ fn tcp_header(tuple: &Tuple, reply: &Reply, sum: u16) -> [u32; 5]
         joined(tuple.server_port, tuple.client_port),
         reply.seq,
         reply.ack,
-        joined(word(offset_byte(reply), reply.flags), reply.wnd),
+        joined(word(offset(reply) * 16, reply.flags), reply.wnd),
         joined(sum, 0),
     ]
 }
@@ -143,18 +143,19 @@ fn folded(sum: u32) -> u16
     halves(halves(sum)) as u16
 }
 
-/// The sum of `start` and the options that are carried.
-fn sum_options(start: u16, reply: &Reply) -> u16
-    ensures { result ≡ reduced (start + word_sum (option_bytes reply.now)) }
+/// The sum of the words of options.
+fn sum_options(words: &[Option<u32>]) -> u32
+    requires { length words.now ≤ most_option_words }
+    ensures is { result ≡ word_sum (flat_map word_bytes words.now) }
+    ensures small { result ≤ 2 * most_option_words * 0xffff }
 {
-    let sum = match reply.mss {
-        Some(mss) => inet_sum(inet_sum(start, &[2, 4]), &mss.to_be_bytes()),
-        None => start,
-    };
-    match reply.scale {
-        Some(shift) => inet_sum(sum, &[1, 3, 3, shift]),
-        None => sum,
+    let mut sum = 0;
+    for word in words {
+        if let Some(word) = word {
+            sum += halves(*word);
+        }
     }
+    sum
 }
 
 /// Appends a header.
@@ -180,31 +181,42 @@ fn push_tcp(out: &mut Vec<u8>, tuple: &Tuple, reply: &Reply, sum: u16) -> Result
     ensures kept { take (length out.old.items) out.new.items ≡ out.old.items }
 {
     push_header(out, tcp_header(tuple, reply, sum))?;
-    push_options(out, reply)?;
+    push_options(out, &reply.options.words())?;
     out.extend_from_slice(reply.text.as_slice())?;
     Ok(())
 }
 
-/// The byte of the data offset: the header's length in words of four bytes, in the upper half.
-fn offset_byte(reply: &Reply) -> u8
-    ensures value { result ≡ offset_of reply.now * 16 }
-    ensures small { result ≤ 112 }
+/// The data offset: the header's length in words of four bytes.
+fn offset(reply: &Reply) -> u8
+    ensures value { result ≡ offset_of reply.now }
+    ensures small { result ≤ 15 }
 {
-    0x50 + 0x10 * u8::from(reply.mss.is_some()) + 0x10 * u8::from(reply.scale.is_some())
+    5 + carried(&reply.options.words())
 }
 
-/// Appends the options that are carried.
+/// How many words of options are carried.
+fn carried(words: &[Option<u32>]) -> u8
+    requires { length words.now ≤ most_option_words }
+    ensures value { 4 * result ≡ length (flat_map word_bytes words.now) }
+    ensures small { result ≤ most_option_words }
+{
+    let mut count = 0;
+    for word in words {
+        count += u8::from(word.is_some());
+    }
+    count
+}
+
+/// Appends the words of options, or a front of them where memory is missing.
 #[tactic(auto, using(crate::proofs::Joins::joins, crate::proofs::Joins::fronts))]
-fn push_options(out: &mut Vec<u8>, reply: &Reply) -> Result<(), AllocError>
-    ensures ok { OnOk result (out.new.items ≡ out.old.items ++ option_bytes reply.now) }
+fn push_options(out: &mut Vec<u8>, words: &[Option<u32>]) -> Result<(), AllocError>
+    ensures ok { OnOk result (out.new.items ≡ out.old.items ++ flat_map word_bytes words.now) }
     ensures kept { take (length out.old.items) out.new.items ≡ out.old.items }
 {
-    if let Some(mss) = reply.mss {
-        out.extend_from_slice(&[2, 4])?;
-        out.extend_from_slice(&mss.to_be_bytes())?;
-    }
-    if let Some(shift) = reply.scale {
-        out.extend_from_slice(&[1, 3, 3, shift])?;
+    for word in words {
+        if let Some(word) = word {
+            out.extend_from_slice(&word.to_be_bytes())?;
+        }
     }
     Ok(())
 }

@@ -10,7 +10,6 @@ use Rattle.capture_reader.specs.Outcome.{CaptureFile}
 use Rattle.conn_classifier.specs.Connections.{distinct, tuple_eq}
 use Rattle.conn_classifier.proofs.Conns.{same}
 use Rattle.conn_classifier.proofs.PlanLaw.{all_to, all_take, all_map, all_distinct, same_tuple, times_from, apart_take, apart_distinct}
-use Rattle.conn_classifier.proofs.Conns.{same}
 use Rattle.stream_plan.specs.Limits.{most_streams}
 use Rattle.stream_plan.specs.declared.kinds.Arrived.{Arrived}
 use Rattle.stream_plan.specs.declared.kinds.Found.{Found}

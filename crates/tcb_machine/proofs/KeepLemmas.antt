@@ -33,7 +33,7 @@ pieces-same (t ∷ u ∷ ts) a b h = pieces-same (u ∷ ts) a (sends_text 16 t b
 
 text-same : (a b : Block) → Same a b → Same a (outputs_text b)
 unfolding outputs_text
-text-same a b h = pieces-same (pieces (length (sendable b)) b.mss (sendable b)) a b h
+text-same a b h = pieces-same (pieces (length (sendable b)) b.agreed.mss (sendable b)) a b h
 
 fin-same : (a b : Block) → Same a b → Same a (outputs_fin b)
 unfolding outputs_fin
@@ -95,7 +95,7 @@ again-same : (b : Block) → Same b (sends_again b)
 unfolding sends_again
 again-same b =
     three (ltb 0 (in_flight b)) (b.fin_sent && not (b.una == snd_nxt b))
-    (segment_of 24 b.una (take (min b.mss (min (in_flight b) (max 1 b.wnd))) b.out) b)
+    (segment_of 24 b.una (take (min b.agreed.mss (min (in_flight b) (max 1 b.wnd))) b.out) b)
     (segment_of 17 (snd_end b) [] b) 24 (take 1 (unsent b)) b
 
 pub resent-same : (st : State) (b : Block) → Same b (retransmits st b)

@@ -9,7 +9,7 @@ use Rattle.sq_base.specs.SerialOrder.{dist}
 use Rattle.tcb_machine.specs.States.{is_listen}
 use Rattle.tcb_machine.specs.BlockState.{Block, rst_of, segment_of, to_listen, new_block, has, in_flight, one_if, rcv_nxt, snd_nxt, snd_end, unsent, sends_ack, sends}
 use Rattle.segment_codec.specs.ControlBits.{ack, fin, rst, syn}
-use Rattle.tcb_machine.specs.TcpStep.{sends_syn_ack, waits, ahead, Verdict, over, go, on, and_then, with_scale, opened, listen, is_acceptable, is_time_wait, refused, check_sequence, check_reset, syn_again, check_syn, ack_kind, is_before, with_window, takes_window, takes_ack, in_time_wait, after_ack, is_fin_acked, after, acknowledged, established, ack_in, check_ack, consumes, closes, keeps_end, takes_fin, takes_text, check_text, repeated, first_checks, arrives, in_state, tcp_segment}
+use Rattle.tcb_machine.specs.TcpStep.{sends_syn_ack, waits, ahead, Verdict, over, go, on, and_then, opened, listen, is_acceptable, is_time_wait, refused, check_sequence, check_reset, syn_again, check_syn, ack_kind, is_before, with_window, takes_window, takes_ack, in_time_wait, after_ack, is_fin_acked, after, acknowledged, established, ack_in, check_ack, consumes, closes, keeps_end, takes_fin, takes_text, check_text, repeated, first_checks, arrives, in_state, tcp_segment}
 use Rattle.tcb_machine.specs.Output.{sends_text, sends_pieces, pieces, sendable, outputs_text, outputs_fin, outputs_ack, outputs_deadline, starts, is_sending, output}
 use Rattle.tcb_machine.specs.Timers.{Firing, time_wait, retransmission, gives_up, firings, sends_again, retransmits, fires, fires_all, tcp_time}
 use Rattle.tcb_machine.specs.CallAnswers.{tcp_call, with_buffer, close_in, wants_fin}
@@ -93,20 +93,16 @@ first-num iss acked sent out wanted fin h u =
     let o = u.none_offered in
     record { una_is = λ e. absurd (false≢true e); before = λ e. u; small = h; asked = λ e. absurd (false≢true (sym f ∙ e)); last = λ e. absurd (false≢true (sym f ∙ e)); held = omega (arith, o); low = omega (arith, a, s); high = omega (arith, a, s) }
 
-open-num : (o : Option ℕ) (s : Seg) (iss : ℕ) (b : Block) → s.scale ≡ o → iss < 2 ^ 32 → b ≡ to_listen b → Num (opened s iss b)
+open-num : (s : Seg) (iss : ℕ) (b : Block) → iss < 2 ^ 32 → b ≡ to_listen b → Num (opened s iss b)
 unfolding opened
-open-num o s iss b e h n = subst (λ (x : Option ℕ). N SynReceived iss iss (with_scale x b).acked (with_scale x b).sent (with_scale x b).out (with_scale x b).fin_wanted (with_scale x b).fin_sent) (sym e) (by o)
-  where
-    by : (x : Option ℕ) → N SynReceived iss iss (with_scale x b).acked (with_scale x b).sent (with_scale x b).out (with_scale x b).fin_wanted (with_scale x b).fin_sent
-    by None = first-num iss b.acked b.sent b.out b.fin_wanted b.fin_sent h (untouched iss b n)
-    by (Some k) = first-num iss b.acked b.sent b.out b.fin_wanted b.fin_sent h (untouched iss b n)
+open-num s iss b h n = first-num iss b.acked b.sent b.out b.fin_wanted b.fin_sent h (untouched iss b n)
 
 listens : (s : Seg) (iss : ℕ) (b : Block) → iss < 2 ^ 32 → b ≡ to_listen b → Num b → Num (left_by (listen s iss b))
 unfolding listen
 listens s iss b i e h =
     left-cond (has s.flags rst) (over b) _ h
     (left-cond (has s.flags ack) (over (sends (rst_of s b) b)) _ h
-    (left-cond (has s.flags syn) (over (sends_syn_ack (opened s iss b))) (over b) (open-num s.scale s iss b refl i e) h))
+    (left-cond (has s.flags syn) (over (sends_syn_ack (opened s iss b))) (over b) (open-num s iss b i e) h))
 
 -- the first checks
 
@@ -414,8 +410,8 @@ outputs-text-num c k =
     let t = sendable c in
     let l = length-take (c.wnd - dist c.una (snd_nxt c)) (unsent c) in
     let u = unsent-length c in
-    let p = pieces-total (length t) c.mss t in
-    pieces-num (pieces (length t) c.mss t) c (omega (arith, l, u, p)) k
+    let p = pieces-total (length t) c.agreed.mss t in
+    pieces-num (pieces (length t) c.agreed.mss t) c (omega (arith, l, u, p)) k
 
 -- our FIN, behind all text
 finishes : (st : State) (una iss acked sent : ℕ) (out : List ℕ) (wanted f : Bool) → wanted ≡ true → f ≡ false → length out - (sent - acked) ≡ 0 → N st una iss acked sent out wanted f → N st una iss acked sent out wanted true
@@ -501,7 +497,7 @@ unfolding sends_again
 sends-again-num c k =
     let one = length-take 1 (unsent c) in
     let u = unsent-length c in
-    num-cond (nat_lt 0 (in_flight c)) (sends (segment_of 24 c.una (take (min c.mss (min (in_flight c) (max 1 c.wnd))) c.out) c) c) _ k
+    num-cond (nat_lt 0 (in_flight c)) (sends (segment_of 24 c.una (take (min c.agreed.mss (min (in_flight c) (max 1 c.wnd))) c.out) c) c) _ k
     (num-cond (c.fin_sent && not (c.una == snd_nxt c)) (sends (segment_of 17 (snd_end c) [] c) c) (sends_text 24 (take 1 (unsent c)) c) k
     (text-num 24 (take 1 (unsent c)) c (omega (arith, one, u)) k))
 

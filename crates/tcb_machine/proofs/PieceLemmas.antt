@@ -94,14 +94,14 @@ text-last left m b some few within =
     take-all (suc n) (x ∷ xs) h = ap (λ (ys : List ℕ). x ∷ ys) (take-all n xs (omega (arith, h)))
 
 pub text-first : (u left : ℕ) (b : Block) → u ≡ b.wnd - dist b.una (snd_nxt b) → left ≡ min u (length (unsent b))
-    → sends_pieces (pieces left b.mss (take left (unsent b))) b ≡ outputs_text b
+    → sends_pieces (pieces left b.agreed.mss (take left (unsent b))) b ≡ outputs_text b
 unfolding outputs_text sendable
 text-first u left b e l =
     let xs = unsent b in
     let same : take left xs ≡ take (b.wnd - dist b.una (snd_nxt b)) xs = ap (λ (k : ℕ). take k xs) l ∙ (take-min u xs ∙ ap (λ (k : ℕ). take k xs) e) in
     let long : left ≡ length (take left xs) = sym (length-take-le left xs (omega (arith, l))) in
-    ap (λ (k : ℕ). sends_pieces (pieces k b.mss (take left xs)) b) long
-    ∙ ap (λ (t : List ℕ). sends_pieces (pieces (length t) b.mss t) b) same
+    ap (λ (k : ℕ). sends_pieces (pieces k b.agreed.mss (take left xs)) b) long
+    ∙ ap (λ (t : List ℕ). sends_pieces (pieces (length t) b.agreed.mss t) b) same
   where
     take-min : (n : ℕ) (xs : List ℕ) → take (min n (length xs)) xs ≡ take n xs
     take-min zero xs = let e : min zero (length xs) ≡ zero = omega arith in ap (λ (k : ℕ). take k xs) e
@@ -111,7 +111,7 @@ text-first u left b e l =
 -- the pieces that are left to send make the rest of the output
 pub record Left (left most : ℕ) (b old : Block) : Type 0 where
   pub opened : is_listen b.state ≡ false
-  pub size : most ≡ b.mss
+  pub size : most ≡ b.agreed.mss
   pub some : least_mss ≤ most
   pub small : most ≤ most_mss
   pub within : left ≤ length (unsent b)

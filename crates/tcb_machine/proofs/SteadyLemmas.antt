@@ -5,7 +5,7 @@ use Rattle.byte_queues.specs.ReceiveQueue.{Recv, next_of, placed, with_end, is_e
 use Rattle.sq_base.specs.SerialOrder.{dist}
 use Rattle.tcb_machine.specs.BlockState.{Block, rst_of, to_listen, has, in_flight, rcv_nxt, sends_ack, sends}
 use Rattle.segment_codec.specs.ControlBits.{ack, fin, rst, syn}
-use Rattle.tcb_machine.specs.TcpStep.{sends_syn_ack, waits, ahead, Verdict, over, go, on, and_then, with_scale, opened, listen, is_acceptable, is_time_wait, refused, check_sequence, check_reset, syn_again, check_syn, ack_kind, is_before, with_window, takes_window, takes_ack, in_time_wait, after_ack, is_fin_acked, acknowledged, established, ack_in, check_ack, consumes, closes, is_end_kept, keeps_end, takes_fin, takes_text, check_text, repeated, first_checks, arrives, in_state, tcp_segment, said}
+use Rattle.tcb_machine.specs.TcpStep.{sends_syn_ack, waits, ahead, Verdict, over, go, on, and_then, opened, listen, is_acceptable, is_time_wait, refused, check_sequence, check_reset, syn_again, check_syn, ack_kind, is_before, with_window, takes_window, takes_ack, in_time_wait, after_ack, is_fin_acked, acknowledged, established, ack_in, check_ack, consumes, closes, is_end_kept, keeps_end, takes_fin, takes_text, check_text, repeated, first_checks, arrives, in_state, tcp_segment, said}
 use Rattle.tcb_machine.specs.declared.kinds.State.{State}
 use Rattle.tcb_machine.specs.declared.kinds.State.TheVariants.{Listen, SynReceived, Established, FinWait1, FinWait2, CloseWait, Closing, LastAck, TimeWait}
 use Rattle.tcb_machine.specs.declared.kinds.AckKind.{AckKind}
@@ -57,15 +57,9 @@ listened b c h = let k = h.clock in record { clock = k; taken = omega arith; off
 sent-ack : (b c : Block) → Steady b c → Steady b (sends_ack c)
 sent-ack b c h = record { clock = h.clock; taken = h.taken; offered = h.offered; bound = h.bound }
 
-scaled : (o : Option ℕ) (b c : Block) → Steady b c → Steady b (with_scale o c)
-scaled None b c h = record { clock = h.clock; taken = omega arith; offered = h.offered; bound = h.bound }
-scaled (Some s) b c h = record { clock = h.clock; taken = omega arith; offered = h.offered; bound = h.bound }
-
 open-steady : (s : Seg) (iss : ℕ) (b c : Block) → Steady b c → Steady b (opened s iss c)
 unfolding opened
-open-steady s iss b c h =
-    let k = scaled s.scale b c h in
-    record { clock = k.clock; taken = k.taken; offered = k.offered; bound = k.bound }
+open-steady s iss b c h = record { clock = h.clock; taken = omega arith; offered = h.offered; bound = h.bound }
 
 listen-steady : (s : Seg) (iss : ℕ) (b c : Block) → Steady b c → Says b (listen s iss c)
 unfolding listen

@@ -27,7 +27,7 @@ three false false q r flags text b = record { wait = refl; clock = refl }
 again-kept : (b : Block) → Kept b (sends_again b)
 unfolding sends_again
 again-kept b = three (ltb 0 (in_flight b)) (b.fin_sent && not (b.una == snd_nxt b))
-    (segment_of 24 b.una (take (min b.mss (min (in_flight b) (max 1 b.wnd))) b.out) b)
+    (segment_of 24 b.una (take (min b.agreed.mss (min (in_flight b) (max 1 b.wnd))) b.out) b)
     (segment_of 17 (snd_end b) [] b) 24 (take 1 (unsent b)) b
 
 retransmits-kept : (st : State) (b : Block) → Kept b (retransmits st b)

@@ -12,8 +12,9 @@ use Rattle.sq_base.specs.SerialOrder.{dist}
 use Rattle.tcb_machine.specs.States.{is_listen}
 use Rattle.tcb_machine.specs.BlockState.{Block, IsOurs, rst_of, syn_ack_of, segment_of, to_listen, new_block, has, in_flight, rcv_nxt, snd_nxt, snd_end, unsent, sends_ack, sends, listening, offered}
 use Rattle.segment_codec.specs.ControlBits.{ack, fin, rst, syn}
-use Rattle.segment_codec.specs.SentIsRead.{OurOptions}
-use Rattle.tcb_machine.specs.TcpStep.{sends_syn_ack, waits, ahead, Verdict, over, go, on, and_then, with_scale, send_mss, opened, listen, is_acceptable, is_time_wait, refused, check_sequence, check_reset, syn_again, check_syn, ack_kind, is_before, with_window, takes_window, takes_ack, in_time_wait, after_ack, is_fin_acked, acknowledged, established, ack_in, check_ack, consumes, closes, is_none, is_end_kept, keeps_end, takes_fin, takes_text, check_text, repeated, first_checks, arrives, in_state, tcp_segment}
+use Rattle.tcb_machine.specs.Agreed.{send_mss, space_of, taken_from}
+use Rattle.tcb_machine.specs.declared.agreed.Agreed.{Agreed}
+use Rattle.tcb_machine.specs.TcpStep.{sends_syn_ack, waits, ahead, Verdict, over, go, on, and_then, opened, listen, is_acceptable, is_time_wait, refused, check_sequence, check_reset, syn_again, check_syn, ack_kind, is_before, with_window, takes_window, takes_ack, in_time_wait, after_ack, is_fin_acked, acknowledged, established, ack_in, check_ack, consumes, closes, is_none, is_end_kept, keeps_end, takes_fin, takes_text, check_text, repeated, first_checks, arrives, in_state, tcp_segment}
 use Rattle.tcb_machine.specs.Output.{sends_text, sends_pieces, pieces, sendable, outputs_text, outputs_fin, outputs_ack, outputs_deadline, starts, is_sending, output}
 use Rattle.tcb_machine.specs.Timers.{Firing, time_wait, retransmission, gives_up, until, timers, retransmissions_from, backed_off, firings, sends_again, retransmits, fires, fires_all, tcp_time}
 use Rattle.tcb_machine.specs.CallAnswers.{tcp_call, with_buffer, close_in, wants_fin}
@@ -27,7 +28,7 @@ use Rattle.tcb_machine.specs.declared.kinds.State.TheVariants.{Listen, SynReceiv
 use Rattle.tcb_machine.specs.declared.kinds.AckKind.{AckKind}
 use Rattle.tcb_machine.specs.declared.kinds.AckKind.TheVariants.{Fresh, Equal, Old, Beyond}
 use Rattle.tcb_machine.proofs.QueueLemmas.{next_near, placed_taken, placed_edge, placed_cap, placed_below, placed_read, without_below, without_read}
-use Rattle.tcb_machine.specs.Limits.{most_mss, most_retransmissions, our_shift, plain_space, whole_space}
+use Rattle.tcb_machine.specs.Limits.{most_mss, most_retransmissions, plain_space, whole_space}
 use Rattle.tcb_machine.proofs.SteadyLemmas.{end-taken}
 
 none-gone : (n : ℕ) (xs : List ℕ) → xs ≡ drop (n - n) xs
@@ -37,7 +38,7 @@ none-gone n xs = let e : 0 ≡ n - n = omega arith in ap (λ (k : ℕ). drop k x
 pub record Keeps (b c : Block) : Type 0 where
   pub recv : IsReceiving c.want c.recv
   pub send : IsSending c.acked c.sent c.out
-  pub mss : c.mss ≤ most_mss
+  pub mss : c.agreed.mss ≤ most_mss
   pub ours : All IsOurs c.replies
   pub taken : c.recv.taken ≡ b.recv.taken
   pub from : b.acked ≤ c.acked
@@ -110,22 +111,18 @@ new-valid = listen-valid whole_space 0 0 [] (omega arith) none-ours
 
 pub segment-ours : (flags seq : ℕ) (text : List ℕ) (c : Block) → flags < 64 → length text ≤ most_mss → IsOurs (segment_of flags seq text c)
 unfolding segment_of
-segment-ours flags seq text c f t = record { text = t; flags = f; options = tt }
+segment-ours flags seq text c f t = record { text = t; flags = f; options = inl refl }
 
 pub ack-ours : (c : Block) → IsOurs (segment_of ack (snd_nxt c) [] c)
 ack-ours c = segment-ours ack (snd_nxt c) [] c (omega arith) (omega arith)
 
 reset-ours : (s : Seg) (c : Block) → IsOurs (rst_of s c)
 unfolding rst_of
-reset-ours s c = record { text = omega arith; flags = omega arith; options = tt }
+reset-ours s c = record { text = omega arith; flags = omega arith; options = inl refl }
 
 pub syn-ours : (c : Block) → IsOurs (syn_ack_of c)
 unfolding syn_ack_of
-syn-ours c = record { text = omega arith; flags = omega arith; options = by c.scaled }
-  where
-    by : (t : Bool) → OurOptions (Some most_mss) (cond t (Some our_shift) None)
-    by true = (refl, refl)
-    by false = refl
+syn-ours c = record { text = omega arith; flags = omega arith; options = inr (c.agreed, refl) }
 
 pub sent-keeps : (r : Reply) (b c : Block) → IsOurs r → Keeps b c → Keeps b (sends r c)
 sent-keeps r b c o k = record { recv = k.recv; send = k.send; mss = k.mss; ours = ours-more c.replies r k.ours o; taken = k.taken; from = k.from; offered = k.offered; out = k.out; wanted = k.wanted; timed = k.timed }
@@ -181,26 +178,23 @@ pub new-acked : (b : Block) → b ≡ to_listen b → b.acked ≡ 0
 unfolding to_listen
 new-acked b e = ap (λ (x : Block). x.acked) e
 
-scaled : (o : Option ℕ) (b : Block) → b.recv.taken ≡ 0 → IsValid b → Keeps b (with_scale o b)
-scaled None b z v =
-    let h = v.recv.asked in
-    record { recv = empty-receiving b.want (min b.want plain_space) h (omega (arith, h)); send = v.send; mss = v.mss; ours = v.ours; taken = sym z; from = omega arith; offered = omega arith; out = none-gone b.acked b.out; wanted = λ e. e; timed = v.timed }
-scaled (Some s) b z v =
-    record { recv = empty-receiving b.want b.want v.recv.asked v.recv.asked; send = v.send; mss = v.mss; ours = v.ours; taken = sym z; from = omega arith; offered = omega arith; out = none-gone b.acked b.out; wanted = λ e. e; timed = v.timed }
+space-within : (a : Agreed) (want : ℕ) → want ≤ whole_space → space_of a want ≤ whole_space
+space-within a want h = by a.scaled
+  where
+    by : (t : Bool) → cond t want (min want plain_space) ≤ whole_space
+    by true = h
+    by false = omega (arith, h)
 
 mss-most : (o : Option ℕ) → send_mss o ≤ most_mss
 mss-most None = omega arith
 mss-most (Some n) = omega arith
 
-scale-waits : (o : Option ℕ) (b : Block) → b.time_wait_at ≡ None → (with_scale o b).time_wait_at ≡ None
-scale-waits None b w = w
-scale-waits (Some s) b w = w
-
 opens : (s : Seg) (iss : ℕ) (b : Block) → b.recv.taken ≡ 0 → b.time_wait_at ≡ None → IsValid b → Moves b (opened s iss b)
 unfolding opened
 opens s iss b z w v =
-    let k = scaled s.scale b z v in
-    record { opened = refl; keeps = record { recv = k.recv; send = k.send; mss = mss-most s.mss; ours = k.ours; taken = k.taken; from = k.from; offered = k.offered; out = k.out; wanted = k.wanted; timed = record { elsewhere = λ e. scale-waits s.scale b w; there = λ e. absurd (false≢true e) } } }
+    let h = v.recv.asked in
+    let space = space_of (taken_from s.options) b.want in
+    record { opened = refl; keeps = record { recv = empty-receiving b.want space h (space-within (taken_from s.options) b.want h); send = v.send; mss = mss-most s.options.mss; ours = v.ours; taken = sym z; from = omega arith; offered = omega arith; out = none-gone b.acked b.out; wanted = λ e. e; timed = record { elsewhere = λ e. w; there = λ e. absurd (false≢true e) } } }
 
 listen-elsewhere : (st : State) → is_listen st ≡ true → is_time_wait st ≡ false
 listen-elsewhere Listen e = refl
@@ -533,10 +527,10 @@ outputs-text b c m =
     let t = sendable c in
     let l = length-take (c.wnd - dist c.una (snd_nxt c)) (unsent c) in
     let u = unsent-length c in
-    let p = pieces-total (length t) c.mss t in
+    let p = pieces-total (length t) c.agreed.mss t in
     let a = m.keeps.send.acked_sent in
     let w = m.keeps.send.sent_out in
-    sends-pieces (pieces (length t) c.mss t) b c (pieces-small (length t) c.mss t m.keeps.mss) (omega (arith, l, u, p, a, w)) m
+    sends-pieces (pieces (length t) c.agreed.mss t) b c (pieces-small (length t) c.agreed.mss t m.keeps.mss) (omega (arith, l, u, p, a, w)) m
 
 outputs-fin : (b c : Block) → Moves b c → Moves b (outputs_fin c)
 unfolding outputs_fin
@@ -608,7 +602,7 @@ output-moved b v = chosen (is_listen b.state) refl
 sends-again : (b c : Block) → Moves b c → Moves b (sends_again c)
 unfolding sends_again
 sends-again b c m =
-    let n = min c.mss (min (in_flight c) (max 1 c.wnd)) in
+    let n = min c.agreed.mss (min (in_flight c) (max 1 c.wnd)) in
     let l = length-take n c.out in
     let s = m.keeps.mss in
     let one = length-take 1 (unsent c) in

@@ -1,16 +1,17 @@
 -- The block of a connection (RFC 9293, 3.3.1), and what is read off it.
 use Rattle.std.specs.Prelude.{ℕ, ◌+◌, ◌-◌, ◌*◌, ◌%◌, ◌/◌, ◌^◌, ◌==◌, ◌<◌, ◌≤◌, min, Bool}
-use Rattle.std.specs.Prelude.{false, not, List, [], ◌∷◌, ◌++◌, length, drop, Option, None, Some, if◌then◌else◌, bit_and}
+use Rattle.std.specs.Prelude.{false, not, List, [], ◌∷◌, ◌++◌, length, drop, Option, None, if◌then◌else◌, bit_and}
 use Rattle.byte_queues.specs.ReceiveQueue.{Recv, bytes, empty_recv, next_of, window_of}
 use Rattle.tcb_machine.specs.declared.kinds.State.{State}
 use Rattle.tcb_machine.specs.declared.kinds.State.TheVariants.{Listen}
 use Rattle.tcb_machine.specs.States.{is_consumed}
 use Rattle.segment_codec.specs.ControlBits.{ack, fin, rst, syn}
 use Rattle.segment_codec.specs.PlainSegments.{plain}
-use Rattle.segment_codec.specs.SentIsRead.{AreSent}
 use Rattle.segment_codec.specs.declared.packet.Reply.{Reply}
 use Rattle.segment_codec.specs.declared.packet.Seg.{Seg}
-use Rattle.tcb_machine.specs.Limits.{default_mss, first_timeout, most_mss, our_shift, plain_space, whole_space}
+use Rattle.tcb_machine.specs.declared.agreed.Agreed.{Agreed}
+use Rattle.tcb_machine.specs.Agreed.{OurOptions, announced, nothing_agreed}
+use Rattle.tcb_machine.specs.Limits.{first_timeout, most_mss, our_shift, plain_space, whole_space}
 
 pub record Block : Type 0 where
   pub state : State
@@ -21,12 +22,10 @@ pub record Block : Type 0 where
   pub wnd : ℕ
   pub wl1 : ℕ
   pub wl2 : ℕ
-  -- the most text of a segment that is sent (RFC 9293, 3.7.1)
-  pub mss : ℕ
-  -- the receive space asked for, whether the SYN carried a window scale, and Snd.Wind.Shift (RFC 7323, 2.2)
+  -- what the options of both SYNs agree on
+  pub agreed : Agreed
+  -- the receive space asked for
   pub want : ℕ
-  pub scaled : Bool
-  pub snd_shift : ℕ
   pub recv : Recv
   -- the bytes offered that aren't acknowledged, how many were acknowledged before them, and how many were sent in all
   pub out : List ℕ
@@ -53,10 +52,8 @@ listening want retransmissions clock replies = record {
   wnd = 0;
   wl1 = 0;
   wl2 = 0;
-  mss = default_mss;
+  agreed = nothing_agreed;
   want = want;
-  scaled = false;
-  snd_shift = 0;
   recv = empty_recv want;
   out = [];
   acked = 0;
@@ -117,11 +114,11 @@ unfoldable pub seg_len : Seg → List ℕ → ℕ
 seg_len s text = length text + one_if (has s.flags syn) + one_if (has s.flags fin)
 
 unfoldable pub seg_wnd : Seg → Block → ℕ
-seg_wnd s b = s.wnd * 2 ^ b.snd_shift
+seg_wnd s b = s.wnd * 2 ^ b.agreed.snd_shift
 
 -- the window field of a segment that is sent without SYN (RFC 7323, 2.3)
 unfoldable pub sent_window : Block → ℕ
-sent_window b = if b.scaled then rcv_wnd b / 2 ^ our_shift else rcv_wnd b
+sent_window b = if b.agreed.scaled then rcv_wnd b / 2 ^ our_shift else rcv_wnd b
 
 -- <SEQ=..><ACK=RCV.NXT> with control bits and a text
 unfoldable pub segment_of : ℕ → ℕ → List ℕ → Block → Reply
@@ -135,8 +132,7 @@ syn_ack_of b = record {
   seq = b.iss;
   ack = rcv_nxt b;
   wnd = min (rcv_wnd b) plain_space;
-  mss = Some most_mss;
-  scale = if b.scaled then Some our_shift else None;
+  options = announced b.agreed;
   text = [];
 }
 
@@ -156,4 +152,4 @@ sends_ack b = sends (segment_of ack (snd_nxt b) [] b) b
 pub record IsOurs (r : Reply) : Type 0 where
   pub text : length r.text ≤ most_mss
   pub flags : r.flags < 64
-  pub options : AreSent r
+  pub options : OurOptions r.options

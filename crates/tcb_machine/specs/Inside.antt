@@ -16,10 +16,8 @@ block_of a = record {
   wnd = a.wnd;
   wl1 = a.wl1;
   wl2 = a.wl2;
-  mss = a.mss;
+  agreed = a.agreed;
   want = a.want;
-  scaled = a.scaled;
-  snd_shift = a.snd_shift;
   recv = a.recv;
   out = a.send;
   acked = a.acked;
@@ -37,16 +35,16 @@ block_of a = record {
 
 pub record IsSound (a : Inside) : Type 0 where
   pub want : a.want ≤ whole_space
-  pub shift : a.snd_shift ≤ most_shift
-  pub mss : least_mss ≤ a.mss
-  pub most : a.mss ≤ most_mss
+  pub shift : a.agreed.snd_shift ≤ most_shift
+  pub mss : least_mss ≤ a.agreed.mss
+  pub most : a.agreed.mss ≤ most_mss
   -- the window that is announced fits its field
   pub space : a.recv.edge ≤ a.recv.taken + whole_space
   pub read : a.recv.taken ≤ next_of a.recv
   pub below : a.recv.taken + length a.recv.got ≤ a.recv.edge
   pub cap : a.recv.cap ≤ whole_space
-  pub announced : is_listen a.state ≡ false → a.scaled ≡ false → a.recv.edge ≤ a.recv.taken + plain_space
-  pub plain : is_listen a.state ≡ false → a.scaled ≡ false → a.recv.cap ≤ plain_space
+  pub announced : is_listen a.state ≡ false → a.agreed.scaled ≡ false → a.recv.edge ≤ a.recv.taken + plain_space
+  pub plain : is_listen a.state ≡ false → a.agreed.scaled ≡ false → a.recv.cap ≤ plain_space
   -- the counts of the send side
   pub held : length a.send ≤ send_space
   pub sent_acked : a.acked ≤ a.sent

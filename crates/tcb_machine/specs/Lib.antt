@@ -1,5 +1,6 @@
 pub mod Limits
 pub mod States
+pub mod Agreed
 pub mod BlockState
 pub mod TcpStep
 pub mod Output

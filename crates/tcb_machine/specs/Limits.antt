@@ -1,6 +1,6 @@
 -- The numbers that the rules fix. Changing one here and its constant in the code changes the rule.
 use Rattle.std.specs.Prelude.{ℕ, ◌*◌, ◌^◌}
-use Rattle.segment_codec.specs.Limits.{announced_mss, announced_shift}
+use Rattle.segment_codec.specs.Limits.{most_text}
 
 -- times are in microseconds
 abbrev pub second : ℕ
@@ -30,7 +30,7 @@ abbrev pub least_mss : ℕ
 least_mss = 64
 
 abbrev pub most_mss : ℕ
-most_mss = announced_mss
+most_mss = most_text
 
 -- the receive space: at first, and the most that is announced without window scale
 abbrev pub whole_space : ℕ
@@ -41,7 +41,7 @@ plain_space = 65535
 
 -- the window scale that we announce, and the most that is taken from the peer (RFC 7323, 2.3)
 abbrev pub our_shift : ℕ
-our_shift = announced_shift
+our_shift = 5
 
 abbrev pub most_shift : ℕ
 most_shift = 14

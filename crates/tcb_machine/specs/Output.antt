@@ -28,7 +28,7 @@ sends_pieces (t ∷ []) b = sends_text (psh + ack) t b
 sends_pieces (t ∷ u ∷ ts) b = sends_pieces (u ∷ ts) (sends_text ack t b)
 
 unfoldable pub outputs_text : Block → Block
-outputs_text b = sends_pieces (pieces (length (sendable b)) b.mss (sendable b)) b
+outputs_text b = sends_pieces (pieces (length (sendable b)) b.agreed.mss (sendable b)) b
 
 unfoldable pub outputs_fin : Block → Block
 outputs_fin b =

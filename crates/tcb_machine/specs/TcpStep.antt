@@ -1,5 +1,5 @@
 -- The arrival of a segment (RFC 9293, 3.10.7), check by check.
-use Rattle.std.specs.Prelude.{ℕ, ◌↔◌, IsTrue, ◌+◌, ◌-◌, ◌%◌, ◌^◌, ◌==◌, nat_lt, nat_le, min, max, ◌&&◌}
+use Rattle.std.specs.Prelude.{ℕ, ◌↔◌, IsTrue, ◌+◌, ◌-◌, ◌%◌, ◌^◌, ◌==◌, nat_lt, nat_le, min, ◌&&◌}
 use Rattle.std.specs.Prelude.{◌||◌, Bool, true, false, not, List, length, drop, Option, None, Some, if◌then◌else◌}
 use Rattle.sq_base.specs.SerialOrder.{IsBefore, dist}
 use Rattle.byte_queues.specs.ReceiveQueue.{Recv, empty_recv, next_of, is_ended, placed, with_end}
@@ -15,7 +15,8 @@ use Rattle.tcb_machine.specs.declared.kinds.Step.{Step}
 use Rattle.tcb_machine.specs.declared.kinds.Step.TheVariants as step
 use Rattle.tcb_machine.specs.declared.kinds.AckKind.{AckKind}
 use Rattle.tcb_machine.specs.declared.kinds.AckKind.TheVariants.{Fresh, Equal, Old, Beyond}
-use Rattle.tcb_machine.specs.Limits.{default_mss, first_timeout, least_mss, most_mss, most_shift, plain_space, time_wait_length}
+use Rattle.tcb_machine.specs.Agreed.{space_of, taken_from}
+use Rattle.tcb_machine.specs.Limits.{first_timeout, time_wait_length}
 
 -- what a check says: the arrival is over, or pump and output follow, or the next check does
 pub data Verdict : Type 0 where
@@ -30,23 +31,14 @@ and_then (on b) f = f b
 
 -- LISTEN (3.10.7.2)
 
--- SendMSS (3.7.1)
-abbrev pub send_mss : Option ℕ → ℕ
-send_mss None = default_mss
-send_mss (Some n) = min most_mss (max least_mss n)
-
--- RFC 7323, 2.3
-abbrev pub with_scale : Option ℕ → Block → Block
-with_scale None b = record b { scaled = false; snd_shift = 0; recv = empty_recv (min b.want plain_space) }
-with_scale (Some s) b = record b { scaled = true; snd_shift = min s most_shift; recv = empty_recv b.want }
-
 unfoldable pub opened : Seg → ℕ → Block → Block
-opened s iss b = record (with_scale s.scale b) {
+opened s iss b = record b {
+  agreed = taken_from s.options;
+  recv = empty_recv (space_of (taken_from s.options) b.want);
   state = SynReceived;
   irs = s.seq;
   iss = iss;
   una = iss;
-  mss = send_mss s.mss;
   rto = first_timeout;
   retransmit_at = Some (b.clock + first_timeout);
 }

@@ -57,7 +57,7 @@ firings to b = until to (timers b.time_wait_at b.retransmit_at b)
 unfoldable pub sends_again : Block → Block
 sends_again b =
     if nat_lt 0 (in_flight b)
-    then sends (segment_of (psh + ack) b.una (take (min b.mss (min (in_flight b) (max 1 b.wnd))) b.out) b) b
+    then sends (segment_of (psh + ack) b.una (take (min b.agreed.mss (min (in_flight b) (max 1 b.wnd))) b.out) b) b
     else if b.fin_sent && not (b.una == snd_nxt b)
     then sends (segment_of (fin + ack) (snd_end b) [] b) b
     else sends_text (psh + ack) (take 1 (unsent b)) b

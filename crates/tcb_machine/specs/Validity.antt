@@ -31,7 +31,7 @@ pub record IsTimed (state : State) (time_wait_at retransmit_at : Option ℕ) : T
 pub record IsValid (b : Block) : Type 0 where
   pub recv : IsReceiving b.want b.recv
   pub send : IsSending b.acked b.sent b.out
-  pub mss : b.mss ≤ most_mss
+  pub mss : b.agreed.mss ≤ most_mss
   pub timed : IsTimed b.state b.time_wait_at b.retransmit_at
   -- what was sent: at most 1,460 bytes of text, and no options but ours
   pub ours : All IsOurs b.replies

@@ -4,11 +4,13 @@
 //! programs. It keeps what it sends in a list of replies. It knows no other connection, no thread and no clock of its own.
 #![tactic(auto)]
 
+mod agreed;
 mod kinds;
 mod laws;
 mod limits;
 mod tcb;
 
+pub use agreed::Agreed;
 pub use kinds::{AckKind, Answer, Call, Ending, Next, State, Step};
 pub use laws::{
     a_challenge_is_alone, a_segment_adds_little, acknowledged_numbers_and_bytes_go_together,
@@ -16,5 +18,5 @@ pub use laws::{
     output_moves_no_text, sequence_numbers_have_one_order, streams_grow_little,
     timers_move_no_text,
 };
-pub use limits::LAST_TIME;
+pub use limits::{DEFAULT_MSS, LAST_TIME, PLAIN_SPACE};
 pub use tcb::Tcb;

@@ -1,5 +1,7 @@
 //! The numbers that the rules fix, as `specs/Limits.antt` has them. Times are in microseconds, spaces and segment sizes in bytes.
 
+use segment_codec::MOST_TEXT;
+
 pub(crate) const SECOND: u64 = 1_000_000;
 
 /// The retransmission timeout at first (RFC 6298, 2.1).
@@ -15,19 +17,19 @@ pub(crate) const MOST_RETRANSMISSIONS: u32 = 64;
 pub(crate) const TIME_WAIT: u64 = 240 * SECOND;
 
 /// The most text of a segment that is sent, where the peer's SYN has no MSS option (RFC 9293, 3.7.1).
-pub(crate) const DEFAULT_MSS: u16 = 536;
+pub const DEFAULT_MSS: u16 = 536;
 
 /// A smaller MSS of the peer counts as this one.
 pub(crate) const LEAST_MSS: u16 = 64;
 
 /// A larger MSS of the peer counts as this one, and it is the one that we announce.
-pub(crate) const MOST_MSS: u16 = 1460;
+pub(crate) const MOST_MSS: u16 = MOST_TEXT;
 
 /// The receive space of a connection whose SYN carries a window scale, until a program asks for another.
 pub(crate) const WHOLE_SPACE: u32 = 1_048_576;
 
-/// The largest window without window scale.
-pub(crate) const PLAIN_SPACE: u32 = 65_535;
+/// The largest window without window scale, in bytes, and the most receive space that a program asks for.
+pub const PLAIN_SPACE: u32 = 65_535;
 
 /// The window scale that we announce (RFC 7323, 2.2).
 pub(crate) const OUR_SHIFT: u8 = 5;

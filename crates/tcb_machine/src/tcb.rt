@@ -15,8 +15,9 @@ mod replies;
 mod text;
 mod timers;
 
+use crate::agreed::Agreed;
 use crate::kinds::{State, is_consumed};
-use crate::limits::{DEFAULT_MSS, FIRST_TIMEOUT, MOST_STREAMED, TIME_WAIT, WHOLE_SPACE};
+use crate::limits::{FIRST_TIMEOUT, MOST_STREAMED, TIME_WAIT, WHOLE_SPACE};
 use byte_queues::{RecvQueue, SendQueue};
 use segment_codec::Reply;
 use sq_base::seq_dist;
@@ -48,14 +49,10 @@ pub struct Tcb {
     wnd: u32,
     wl1: u32,
     wl2: u32,
-    /// The most text of a segment that is sent.
-    mss: u16,
+    /// What the options of both SYNs agree on.
+    agreed: Agreed,
     /// The receive space asked for.
     want: u32,
-    /// The SYN carried a window scale.
-    scaled: bool,
-    /// The shift of the windows that arrive (Snd.Wind.Shift).
-    snd_shift: u8,
     recv: RecvQueue,
     send: SendQueue,
     /// How many bytes were acknowledged, and how many were sent, since LISTEN.
@@ -104,10 +101,8 @@ impl Tcb {
             wnd: 0,
             wl1: 0,
             wl2: 0,
-            mss: DEFAULT_MSS,
+            agreed: Agreed::nothing(),
             want: WHOLE_SPACE,
-            scaled: false,
-            snd_shift: 0,
             recv: RecvQueue::make(alloc, WHOLE_SPACE),
             send: SendQueue::make(alloc),
             acked: 0,
@@ -163,19 +158,19 @@ impl Tcb {
 
     /// Snd.Wind.Shift: by how many bits the windows that arrive are shifted (RFC 7323, 2.2).
     pub fn snd_shift(&self) -> u8
-        ensures is { result ≡ self.now.snd_shift }
+        ensures is { result ≡ self.now.agreed.snd_shift }
         ensures most { result ≤ most_shift }
     {
-        self.snd_shift
+        self.agreed.snd_shift
     }
 
     /// The most bytes of text that a segment has which is sent (RFC 9293, 3.7.1).
     pub fn mss(&self) -> u16
-        ensures is { result ≡ self.now.mss }
+        ensures is { result ≡ self.now.agreed.mss }
         ensures least { least_mss ≤ result }
         ensures most { result ≤ most_mss }
     {
-        self.mss
+        self.agreed.mss
     }
 
     /// How many retransmissions and probes were made since the block was new or they were forgotten. Where 64 were, the next
@@ -304,9 +299,7 @@ impl Tcb {
         self.wnd = 0;
         self.wl1 = 0;
         self.wl2 = 0;
-        self.mss = DEFAULT_MSS;
-        self.scaled = false;
-        self.snd_shift = 0;
+        self.agreed = Agreed::nothing();
         self.recv = RecvQueue::make(alloc, self.want);
         self.send = SendQueue::make(alloc);
         self.acked = 0;

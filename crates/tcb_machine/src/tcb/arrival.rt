@@ -6,16 +6,15 @@ ghost use Rattle.tcb_machine.specs.BlockState.{rcv_nxt, rcv_wnd, snd_nxt, in_fli
 ghost use Rattle.tcb_machine.specs.Limits.{whole_space, last_time, most_streamed};
 ghost use Rattle.tcb_machine.specs.Room.{HasRoom};
 ghost use Rattle.tcb_machine.specs.States.{is_listen};
-ghost use Rattle.tcb_machine.specs.TcpStep.{over, listen, opened, send_mss, is_in_window, is_acceptable, check_sequence, refused};
+ghost use Rattle.tcb_machine.specs.TcpStep.{over, listen, opened, is_in_window, is_acceptable, check_sequence, refused};
 ghost use Rattle.tcb_machine.specs.TcpStep.{check_reset, syn_again, ack_kind, with_window, takes_window, takes_ack, is_fin_acked, after_ack};
 ghost use Rattle.tcb_machine.specs.TcpStep.{acknowledged, check_ack, first_checks, check_text, in_state, tcp_segment, said, step_said};
 ghost use Rattle.byte_queues.specs.ReceiveQueue.{next_of};
 
 use super::Tcb;
+use crate::agreed::Agreed;
 use crate::kinds::{AckKind, Next, State, Step};
-use crate::limits::{
-    DEFAULT_MSS, FIRST_TIMEOUT, LEAST_MSS, MOST_MSS, MOST_SHIFT, PLAIN_SPACE, TIME_WAIT,
-};
+use crate::limits::{FIRST_TIMEOUT, TIME_WAIT};
 use byte_queues::RecvQueue;
 use segment_codec::{ACK, FIN, RST, SYN, Seg};
 use sq_base::{seq_dist, seq_lt};
@@ -94,28 +93,17 @@ impl Tcb {
         Ok(())
     }
 
-    /// A SYN in LISTEN, with its options (RFC 7323, 2.3).
+    /// A SYN in LISTEN, with its options.
     #[tactic(auto, unfolding(crate::specs::TcpStep::opened))]
     fn open(&mut self, alloc: Global, iss: u32, seg: &Seg)
         ensures { self.new ≡ opened seg.now iss self.old }
     {
-        match seg.scale {
-            None => {
-                self.scaled = false;
-                self.snd_shift = 0;
-                self.recv = RecvQueue::make(alloc, self.want.min(PLAIN_SPACE));
-            }
-            Some(shift) => {
-                self.scaled = true;
-                self.snd_shift = shift.min(MOST_SHIFT);
-                self.recv = RecvQueue::make(alloc, self.want);
-            }
-        }
+        self.agreed = Agreed::taken_from(&seg.options);
+        self.recv = RecvQueue::make(alloc, self.agreed.space_of(self.want));
         self.state = State::SynReceived;
         self.irs = seg.seq;
         self.iss = iss;
         self.una = iss;
-        self.mss = send_mss(seg.mss);
         self.rto = FIRST_TIMEOUT;
         self.retransmit_at = Some(self.clock + FIRST_TIMEOUT);
     }
@@ -332,7 +320,7 @@ impl Tcb {
     fn set_window(&mut self, seg: &Seg)
         ensures { self.new ≡ with_window seg.now self.old }
     {
-        self.wnd = u32::from(seg.wnd) << self.snd_shift;
+        self.wnd = u32::from(seg.wnd) << self.agreed.snd_shift;
         self.wl1 = seg.seq;
         self.wl2 = seg.ack;
     }
@@ -368,16 +356,6 @@ impl Tcb {
             State::Established | State::FinWait2 => Step::On,
             State::Listen | State::SynReceived | State::TimeWait => Step::Over,
         }
-    }
-}
-
-/// SendMSS (3.7.1): the option's value from 64 to 1,460, or 536 without it.
-fn send_mss(mss: Option<u16>) -> u16
-    ensures { result ≡ send_mss mss }
-{
-    match mss {
-        None => DEFAULT_MSS,
-        Some(n) => n.max(LEAST_MSS).min(MOST_MSS),
     }
 }
 

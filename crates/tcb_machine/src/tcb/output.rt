@@ -48,7 +48,7 @@ impl Tcb {
     {
         let usable = self.wnd.saturating_sub(seq_dist(self.una, self.snd_nxt()));
         let mut left = usable.min(self.unsent());
-        let most = u32::from(self.mss);
+        let most = u32::from(self.agreed.mss);
         while left > most {
             self.send_text(alloc, ACK, most)?;
             left -= most;

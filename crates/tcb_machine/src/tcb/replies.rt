@@ -10,7 +10,7 @@ ghost use Rattle.tcb_machine.specs.Output.{sends_text};
 ghost use Rattle.tcb_machine.specs.Limits.{most_mss};
 
 use super::Tcb;
-use crate::limits::{MOST_MSS, OUR_SHIFT, PLAIN_SPACE};
+use crate::limits::{OUR_SHIFT, PLAIN_SPACE};
 use segment_codec::{ACK, FIN, RST, Reply, SYN, Seg};
 use sq_base::Octets;
 use std::alloc::{AllocError, Global};
@@ -22,7 +22,7 @@ impl Tcb {
         requires { is_listen self.now.state ≡ false }
         ensures { result ≡ sent_window self.now }
     {
-        if self.scaled {
+        if self.agreed.scaled {
             (self.rcv_wnd() >> OUR_SHIFT) as u16
         } else {
             self.rcv_wnd() as u16
@@ -80,7 +80,7 @@ impl Tcb {
         self.send(Reply::plain(self.clock, RST, seg.ack, 0, 0, text))
     }
 
-    /// <SEQ=ISS><ACK=RCV.NXT><CTL=SYN,ACK> with the MSS, and a window scale where the SYN carried one.
+    /// <SEQ=ISS><ACK=RCV.NXT><CTL=SYN,ACK> with our options.
     #[tactic(auto, unfolding(crate::specs::BlockState::syn_ack_of))]
     pub(super) fn send_syn_ack(&mut self, alloc: Global) -> Result<(), AllocError>
         ensures { OnOk result (self.new ≡ sends_syn_ack self.old) }
@@ -91,8 +91,7 @@ impl Tcb {
             seq: self.iss,
             ack: self.rcv_nxt(),
             wnd: self.rcv_wnd().min(PLAIN_SPACE) as u16,
-            mss: Some(MOST_MSS),
-            scale: if self.scaled { Some(OUR_SHIFT) } else { None },
+            options: self.agreed.announced(),
             text: Octets::wrap(Vec::new(alloc)),
         };
         self.send(reply)

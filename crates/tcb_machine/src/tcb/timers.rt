@@ -154,7 +154,7 @@ impl Tcb {
             let n = self
                 .in_flight()
                 .min(self.wnd.max(1))
-                .min(u32::from(self.mss));
+                .min(u32::from(self.agreed.mss));
             let text = self.send.slice(alloc, 0, n)?;
             self.send_segment(PSH | ACK, self.una, text)
         } else if self.fin_sent && self.una != self.snd_nxt() {

@@ -9,6 +9,6 @@ unfolding tcp_sum
 returns c =
     let t = c.args.tuple.now in
     let r = c.args.reply.now in
-    let options = goes_on _ _ _ _ c.folded-sum.ensures c.sum_options.ensures in
-    let text = goes_on _ _ _ _ options c.inet_sum.ensures in
-    ap (λ (n : ℕ). 65535 - n) (text ∙ ap reduced (omega (arith, c.requires, c.halves.ensures.is, c.halves-2.ensures.is, c.sum_of.ensures.is, ap word_sum c.tcp_header.ensures, ap word_sum c.as_slice.ensures, word_sum_parts t r, length-tcp_with t r 0)))
+    let text = goes_on _ _ _ _ c.folded-sum.ensures c.inet_sum.ensures in
+    let parts = word_sum_parts t r c.words.result c.words.ensures in
+    ap (λ (n : ℕ). 65535 - n) (text ∙ ap reduced (omega (arith, c.requires, c.halves.ensures.is, c.halves-2.ensures.is, c.sum_of-header.ensures.is, c.sum_options.ensures.is, ap word_sum c.words.ensures, ap word_sum c.tcp_header.ensures, ap word_sum c.as_slice.ensures, parts, length-tcp_with t r 0)))

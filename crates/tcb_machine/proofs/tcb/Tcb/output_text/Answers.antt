@@ -9,10 +9,10 @@ use Rattle.tcb_machine.proofs.tcb.Tcb.output_text.Goals as goal
 pub loop-left-init : goal.loop-left-init
 loop-left-init c =
     let b = c.args.self.now in
-    let size : c.from-most.result ≡ b.mss = c.from-most.ensures ∙ ap (λ (x : Block). x.mss) c.self.view_is in
+    let size : c.from-most.result ≡ b.agreed.mss = c.from-most.ensures ∙ ap (λ (x : Block). x.agreed.mss) c.self.view_is in
     let usable : c.saturating_sub-usable.result ≡ b.wnd - dist b.una (snd_nxt b) = search (rules, c.self.view_is) in
     let left : c.min-left.result ≡ min c.saturating_sub-usable.result (length (unsent b)) = search rules in
-    let mss : c.self.inside.mss ≡ b.mss = ap (λ (x : Block). x.mss) c.self.view_is in
+    let mss : c.self.inside.agreed.mss ≡ b.agreed.mss = ap (λ (x : Block). x.agreed.mss) c.self.view_is in
     let acked : c.self.inside.acked ≡ b.acked = ap (λ (x : Block). x.acked) c.self.view_is in
     let sent : c.self.inside.sent ≡ b.sent = ap (λ (x : Block). x.sent) c.self.view_is in
     let out : length c.self.inside.send ≡ length b.out = ap (λ (x : Block). length x.out) c.self.view_is in
