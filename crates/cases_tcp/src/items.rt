@@ -65,8 +65,8 @@ fn set(seg: &mut Seg, word: &str) -> Result<(), Wrong> {
     let (name, value) = value_of(word);
     match name {
         "wnd" => seg.wnd = value.parse::<u16>().map_err(|_| Wrong::Word)?,
-        "mss" => seg.mss = Some(value.parse::<u16>().map_err(|_| Wrong::Word)?),
-        "scale" => seg.scale = Some(value.parse::<u8>().map_err(|_| Wrong::Word)?),
+        "mss" => seg.options.mss = Some(value.parse::<u16>().map_err(|_| Wrong::Word)?),
+        "scale" => seg.options.scale = Some(value.parse::<u8>().map_err(|_| Wrong::Word)?),
         _ => return Err(Wrong::Word),
     }
     Ok(())

@@ -1,35 +1,41 @@
-//! A connection with what serves it: echo and discard over a block, or the generator.
+//! A connection with what serves it: echo, discard or daytime over a block, or the generator.
 
 use case_words::Wrong;
 use chargen_service::GenBlock;
-use echo_services::{Service, ask, serve, tick};
+use echo_services::{Daytime, PortService, Service, ask, serve, tick};
 use segment_codec::Seg;
 use std::alloc::Global;
 use tcb_machine::{Answer, Call, LAST_TIME, Tcb};
+
+/// What daytime sends here: the example of RFC 867, without the end of its line.
+const DAYTIME: &str = "Tuesday, February 22, 1982 17:37:43-PST";
 
 /// A connection with what serves it.
 #[derive(Drop)]
 pub enum Served {
     Plain(Service, Tcb),
+    Dated(Daytime, Tcb),
     Generated(GenBlock),
 }
 
 impl Served {
     /// A new connection to a port; an error where no service has it.
     pub fn at(alloc: Global, port: u16) -> Result<Served, Wrong> {
-        if port == 7 || port == 9 {
-            Ok(Served::Plain(Service::of(port), Tcb::make(alloc)))
-        } else if port == 19 {
-            Ok(Served::Generated(GenBlock::make(alloc)))
-        } else {
-            Err(Wrong::Word)
+        match port {
+            7 | 9 => Ok(Served::Plain(Service::of(port), Tcb::make(alloc))),
+            13 => {
+                let text = Vec::from_slice(alloc, DAYTIME.as_bytes())?;
+                Ok(Served::Dated(Daytime { text }, Tcb::make(alloc)))
+            }
+            19 => Ok(Served::Generated(GenBlock::make(alloc))),
+            _ => Err(Wrong::Word),
         }
     }
 
     /// The connection's block.
     pub fn tcb(&self) -> &Tcb {
         match self {
-            Served::Plain(_, tcb) => tcb,
+            Served::Plain(_, tcb) | Served::Dated(_, tcb) => tcb,
             Served::Generated(block) => block.tcb(),
         }
     }
@@ -38,7 +44,7 @@ impl Served {
     pub fn plain(&mut self) -> Result<&mut Tcb, Wrong> {
         match self {
             Served::Plain(_, tcb) => Ok(tcb),
-            Served::Generated(_) => Err(Wrong::Call),
+            _ => Err(Wrong::Call),
         }
     }
 
@@ -46,6 +52,7 @@ impl Served {
     pub fn name(&self) -> &'static str {
         match self {
             Served::Plain(service, _) => service.name(),
+            Served::Dated(..) => "daytime",
             Served::Generated(_) => "chargen",
         }
     }
@@ -60,7 +67,8 @@ impl Served {
         text: &[u8],
     ) -> Result<(), Wrong> {
         match self {
-            Served::Plain(service, tcb) => plain_segment(*service, tcb, alloc, at, iss, seg, text),
+            Served::Plain(service, tcb) => segment_to(service, tcb, alloc, at, iss, seg, text),
+            Served::Dated(service, tcb) => segment_to(service, tcb, alloc, at, iss, seg, text),
             Served::Generated(block) => generated_segment(block, alloc, at, iss, seg, text),
         }
     }
@@ -68,7 +76,7 @@ impl Served {
     /// The time comes.
     pub fn time(&mut self, alloc: Global, at: u64) -> Result<(), Wrong> {
         match self {
-            Served::Plain(_, tcb) => {
+            Served::Plain(_, tcb) | Served::Dated(_, tcb) => {
                 if tcb.clock() > at || at > LAST_TIME {
                     return Err(Wrong::Call);
                 }
@@ -87,14 +95,15 @@ impl Served {
     /// A program calls.
     pub fn ask(&mut self, alloc: Global, call: Call) -> Result<Answer, Wrong> {
         match self {
-            Served::Plain(service, tcb) => Ok(ask(*service, tcb, alloc, call)?),
+            Served::Plain(service, tcb) => Ok(ask(service, tcb, alloc, call)?),
+            Served::Dated(service, tcb) => Ok(ask(service, tcb, alloc, call)?),
             Served::Generated(_) => Err(Wrong::Call),
         }
     }
 }
 
-fn plain_segment(
-    service: Service,
+fn segment_to<S: PortService>(
+    service: &mut S,
     tcb: &mut Tcb,
     alloc: Global,
     at: u64,

@@ -1,7 +1,7 @@
 //! What is told of a connection, as lines.
 
 use case_words::add_flags;
-use segment_codec::Reply;
+use segment_codec::{Options, Reply};
 use std::alloc::AllocError;
 use std::fmt::Write;
 use tcb_machine::Tcb;
@@ -47,11 +47,11 @@ pub fn tell_text(out: &mut String, text: &[u8]) -> Result<(), AllocError> {
 }
 
 /// Tells the options of a reply.
-fn tell_options(out: &mut String, reply: &Reply) -> Result<(), AllocError> {
-    if let Some(mss) = reply.mss {
+fn tell_options(out: &mut String, options: &Options) -> Result<(), AllocError> {
+    if let Some(mss) = options.mss {
         write!(out, " mss={mss}")?;
     }
-    if let Some(scale) = reply.scale {
+    if let Some(scale) = options.scale {
         write!(out, " scale={scale}")?;
     }
     Ok(())
@@ -69,7 +69,7 @@ fn tell_reply(out: &mut String, reply: &Reply) -> Result<(), AllocError> {
     write!(out, "{at} ")?;
     add_flags(out, reply.flags)?;
     write!(out, " {seq} {ack} {wnd}")?;
-    tell_options(out, reply)?;
+    tell_options(out, &reply.options)?;
     if !reply.text.as_slice().is_empty() {
         out.push_str(" ")?;
         tell_text(out, reply.text.as_slice())?;

@@ -1,96 +1,76 @@
 -- A block that generates: it stays valid, and all that it offered is the pattern's first bytes.
-use Rattle.std.proofs.Common.{◌≡◌, ℕ, ◌+◌, ◌-◌, ◌≤◌, List, [], ◌∷◌, ◌++◌, Bool, true, false, cond, length, take, drop, min, refl, sym, ap, ◌∙◌, subst, arith, append_assoc, append-nil, length-append}
+use Rattle.std.proofs.Common.{◌≡◌, ℕ, ◌+◌, ◌-◌, ◌≤◌, List, [], ◌∷◌, ◌++◌, Bool, true, false, cond, take, drop, refl, sym, ap, ◌∙◌, subst, arith, append_assoc, append-nil}
 use Rattle.std.proofs.lemmas.Bool.{false≢true}
 use Rattle.std.proofs.lemmas.List.{take-append-drop}
 use Rattle.segment_codec.specs.declared.packet.Seg.{Seg}
 use Rattle.byte_queues.specs.ReceiveQueue.{next_of, ready_of}
-use Rattle.byte_queues.specs.SendQueue.{room_of}
 use Rattle.tcb_machine.specs.BlockState.{Block, new_block, offered}
 use Rattle.tcb_machine.specs.CallAnswers.{wants_fin}
+use Rattle.tcb_machine.specs.Limits.{segment_growth}
 use Rattle.tcb_machine.specs.Output.{output}
 use Rattle.tcb_machine.specs.Room.{StreamsBelow}
 use Rattle.tcb_machine.specs.States.{is_listen}
-use Rattle.tcb_machine.specs.TcpStep.{Verdict, over, go, on, is_time_wait, tcp_segment}
+use Rattle.tcb_machine.specs.TcpStep.{Verdict, over, go, on, tcp_segment}
 use Rattle.tcb_machine.specs.Timers.{tcp_time}
 use Rattle.tcb_machine.specs.Validity.{IsValid, left_by}
 use Rattle.tcb_machine.specs.declared.kinds.State.{State}
 use Rattle.tcb_machine.specs.declared.kinds.State.TheVariants.{Listen, SynReceived, Established, FinWait1, FinWait2, CloseWait, Closing, LastAck, TimeWait}
 use Rattle.tcb_machine.proofs.KeepLemmas.{output-same, output-offered, time-less, time-offered}
-use Rattle.tcb_machine.proofs.QueueLemmas.{next_without}
-use Rattle.tcb_machine.proofs.ValidLemmas.{Moved, moves, as_new, Says, new-valid, moves-valid, moved-valid, segment-says, segment-next, segment-offered, output-moved, time-moved, wanting, without-receiving, new-out, not-listen}
-use Rattle.chargen_service.specs.Limits.{most_given}
-use Rattle.chargen_service.specs.Chargen.{Generating, new_generating, pattern_from, throws_ready, gives, gives_in, pump, followed, Entry, segment, time, enters, serves}
+use Rattle.tcb_machine.proofs.ValidLemmas.{Moved, moves, as_new, Says, new-valid, moves-valid, moved-valid, segment-says, segment-next, segment-offered, output-moved, time-moved, new-out}
+use Rattle.echo_services.specs.Chargen.{chargen, given_after, given_in, gives_in, next_given, pattern_from}
+use Rattle.echo_services.specs.Closing.{throws}
+use Rattle.echo_services.specs.Limits.{most_given}
+use Rattle.echo_services.specs.Pumping.{Pumps}
+use Rattle.echo_services.specs.Serving.{followed as followed_by, kept}
+use Rattle.echo_services.proofs.PatternLemmas.{pattern_begins}
+use Rattle.echo_services.proofs.PumpsLemmas.{chargen-pumps}
+use Rattle.echo_services.proofs.ServingLemmas.{pumps-valid}
+use Rattle.chargen_service.specs.Chargen.{Generating, new_generating, pump, followed, Entry, segment, time, enters, serves}
 use Rattle.chargen_service.specs.WholeStream.{Whole, all_offered, follows, whole_followed, whole_enters, whole_serves, whole_new}
-use Rattle.chargen_service.proofs.PatternLemmas.{pattern_length, pattern_begins}
-use Rattle.tcb_machine.specs.Limits.{segment_growth}
+
+-- the block that a step leaves, and how many bytes were offered then
+pub followed_is : (g : ℕ) (v : Verdict) → record { block = followed_by (chargen g) v; given = kept given_after g v } ≡ followed g v
+unfolding pump
+followed_is g (over b) = refl
+followed_is g (go b) = refl
+followed_is g (on b) = refl
 
 -- the pump, outside LISTEN: so many bytes more of the pattern are offered
-record Pumps (x y : Generating) : Type 0 where
+record Gives (b c : Block) (g h : ℕ) : Type 0 where
+  more : ℕ
+  out : c.out ≡ b.out ++ pattern_from g more
+  given : h ≡ g + more
+  most : g ≤ most_given → h ≤ most_given
+
+no-more : (b c : Block) (g : ℕ) → c.out ≡ b.out → Gives b c g g
+no-more b c g e = record { more = 0; out = e ∙ sym (append-nil b.out); given = omega arith; most = λ h. h }
+
+giving-in : (st : State) (g : ℕ) (b : Block) → Gives b (gives_in st g (throws (ready_of b.recv) b)) g (given_in st g b)
+giving-in Listen g b = no-more b (throws (ready_of b.recv) b) g refl
+giving-in SynReceived g b = no-more b (throws (ready_of b.recv) b) g refl
+giving-in Established g b = record { more = next_given g b; out = refl; given = refl; most = λ h. omega (arith, h) }
+giving-in FinWait1 g b = no-more b (throws (ready_of b.recv) b) g refl
+giving-in FinWait2 g b = no-more b (throws (ready_of b.recv) b) g refl
+giving-in CloseWait g b = no-more b (wants_fin LastAck (throws (ready_of b.recv) b)) g refl
+giving-in Closing g b = no-more b (throws (ready_of b.recv) b) g refl
+giving-in LastAck g b = no-more b (throws (ready_of b.recv) b) g refl
+giving-in TimeWait g b = no-more b (throws (ready_of b.recv) b) g refl
+
+gives : (g : ℕ) (b : Block) → Gives b (chargen g b) g (given_after g b)
+unfolding chargen given_after
+gives g b = giving-in b.state g b
+
+record Pumped (x y : Generating) : Type 0 where
   opened : is_listen y.block.state ≡ false
   valid : IsValid y.block
-  acked : y.block.acked ≡ x.block.acked
-  next : next_of y.block.recv ≡ next_of x.block.recv
-  more : ℕ
-  small : more ≤ 65535
-  out : y.block.out ≡ x.block.out ++ pattern_from x.given more
-  given : y.given ≡ x.given + more
-  most : x.given ≤ most_given → y.given ≤ most_given
+  pumps : Pumps x.block y.block
+  gives : Gives x.block y.block x.given y.given
 
-thrown : (b : Block) → is_listen b.state ≡ false → IsValid b → IsValid (throws_ready b)
-thrown b e v =
-    let n = ready_of b.recv in
-    record { recv = without-receiving b.want n b.recv (omega arith) v.recv; send = v.send; mss = v.mss; timed = v.timed; ours = v.ours; new = not-listen b.state (throws_ready b) e }
-
-resting : (x : Generating) → is_listen x.block.state ≡ false → IsValid x.block → Pumps x x
-resting x e v = record { opened = e; valid = v; acked = refl; next = refl; more = 0; small = omega arith; out = sym (append-nil x.block.out); given = omega arith; most = λ h. h }
-
-giving : (n : ℕ) (x : Generating) → n ≤ 65535 → n ≤ most_given - x.given → is_listen x.block.state ≡ false → IsValid x.block → Pumps x (gives n x)
-giving n x w u e v =
-    let y = gives n x in
-    let s = v.send.sent_out in
-    let l = length-append x.block.out (pattern_from x.given n) in
-    record {
-      opened = e;
-      valid = record { recv = v.recv; send = record { acked_sent = v.send.acked_sent; sent_out = omega (arith, s, l) }; mss = v.mss; timed = v.timed; ours = v.ours; new = not-listen y.block.state y.block e };
-      acked = refl;
-      next = refl;
-      more = n;
-      small = w;
-      out = refl;
-      given = refl;
-      most = λ h. omega (arith, h, u);
-    }
-
-closing : (x : Generating) → is_time_wait x.block.state ≡ false → IsValid x.block → Pumps x (record x { block = wants_fin LastAck x.block })
-closing x w v = record {
-  opened = refl;
-  valid = moves-valid x.block (wants_fin LastAck x.block) (wanting LastAck x.block refl refl w v);
-  acked = refl;
-  next = refl;
-  more = 0;
-  small = omega arith;
-  out = sym (append-nil x.block.out);
-  given = omega arith;
-  most = λ h. h;
-}
-
-giving-in : (st : State) (x : Generating) → x.block.state ≡ st → is_listen x.block.state ≡ false → IsValid x.block → Pumps x (gives_in st x)
-giving-in Listen x s e v = resting x e v
-giving-in SynReceived x s e v = resting x e v
-giving-in Established x s e v = giving (min (room_of x.block.out) (most_given - x.given)) x (omega arith) (omega arith) e v
-giving-in FinWait1 x s e v = resting x e v
-giving-in FinWait2 x s e v = resting x e v
-giving-in CloseWait x s e v = closing x (ap is_time_wait s) v
-giving-in Closing x s e v = resting x e v
-giving-in LastAck x s e v = resting x e v
-giving-in TimeWait x s e v = resting x e v
-
-pumping : (x : Generating) → is_listen x.block.state ≡ false → IsValid x.block → Pumps x (pump x)
+pumping : (x : Generating) → is_listen x.block.state ≡ false → IsValid x.block → Pumped x (pump x)
 unfolding pump
 pumping x e v =
-    let n = ready_of x.block.recv in
-    let p = giving-in x.block.state (record x { block = throws_ready x.block }) refl e (thrown x.block e v) in
-    record { opened = p.opened; valid = p.valid; acked = p.acked; next = p.next ∙ next_without n x.block.recv (omega arith); more = p.more; small = p.small; out = p.out; given = p.given; most = p.most }
+    let p = chargen-pumps x.given x.block e v in
+    record { opened = p.opened; valid = pumps-valid x.block (chargen x.given x.block) v p; pumps = p; gives = gives x.given x.block }
 
 -- a valid block
 
@@ -159,19 +139,19 @@ moved-all w b c a o (as_new e v) = let d = w.now.block in new-all (is_listen c.s
 moved-pattern : (w : Whole) (b c : Block) → b.acked ≡ w.now.block.acked → b.out ≡ w.now.block.out → Moved b c → IsPattern w → IsPattern (follows w (record w.now { block = c }))
 moved-pattern w b c a o m i = record { valid = moved-valid b c m; all = moved-all w b c a o m ∙ i.all; most = i.most }
 
-pumped-pattern : (w : Whole) (y : Generating) → Pumps w.now y → IsPattern w → IsPattern (follows w y)
+pumped-pattern : (w : Whole) (y : Generating) → Pumped w.now y → IsPattern w → IsPattern (follows w y)
 pumped-pattern w y p i =
     let d = w.now.block in
     let g = w.now.given in
-    let a = p.acked in
+    let a = p.pumps.acked in
     let z : y.block.acked - d.acked ≡ 0 = omega (arith, a) in
-    let more = pattern_from g p.more in
+    let more = pattern_from g p.gives.more in
     record {
       valid = p.valid;
       all =
-          more-all (is_listen y.block.state) w.gone d.out y.block.out more (y.block.acked - d.acked) p.opened z p.out
-          ∙ (ap (λ (xs : List ℕ). xs ++ more) i.all ∙ (pattern_begins g p.more ∙ ap (pattern_from 0) (sym p.given)));
-      most = p.most i.most;
+          more-all (is_listen y.block.state) w.gone d.out y.block.out more (y.block.acked - d.acked) p.opened z p.gives.out
+          ∙ (ap (λ (xs : List ℕ). xs ++ more) i.all ∙ (pattern_begins g p.gives.more ∙ ap (pattern_from 0) (sym p.gives.given)));
+      most = p.gives.most i.most;
     }
 
 followed-pattern : (w : Whole) (b : Block) (v : Verdict) → b.acked ≡ w.now.block.acked → b.out ≡ w.now.block.out → Says b v → IsPattern w → IsPattern (whole_followed w v)
@@ -211,7 +191,7 @@ followed-next given b (over c) h = refl
 followed-next given b (on c) h = refl
 followed-next given b (go c) h =
     let x : Generating = record { block = c; given = given } in
-    ap next_of (output-same (pump x).block).recv ∙ (pumping x h.opened (moves-valid b c h)).next
+    ap next_of (output-same (pump x).block).recv ∙ (pumping x h.opened (moves-valid b c h)).pumps.next
 
 followed-offered : (given : ℕ) (b : Block) (w : Verdict) → Says b w → offered (followed given w).block ≤ offered (left_by w) + 65535
 unfolding offered
@@ -221,12 +201,9 @@ followed-offered given b (go c) h =
     let x : Generating = record { block = c; given = given } in
     let p = pumping x h.opened (moves-valid b c h) in
     let o = output-offered (pump x).block in
-    let a = p.acked in
-    let n = ap length p.out in
-    let l = length-append c.out (pattern_from given p.more) in
-    let k = pattern_length given p.more in
-    let s = p.small in
-    omega (arith, o, a, n, l, k, s)
+    let a = p.pumps.acked in
+    let n = p.pumps.out in
+    omega (arith, o, a, n)
 
 pub segment-adds : (most now iss : ℕ) (s : Seg) (text : List ℕ) (x : Generating) → IsValid x.block → StreamsBelow most x.block → StreamsBelow (most + segment_growth) (enters (segment now iss s text) x).block
 segment-adds most now iss s text x v h =

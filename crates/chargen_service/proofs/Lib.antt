@@ -1,2 +1,1 @@
-pub mod PatternLemmas
 pub mod GeneratingLemmas

@@ -1,16 +1,11 @@
--- The character generator (as RFC 864, with a pattern of its own): what it does with the two streams of a block.
-use Rattle.std.specs.Prelude.{ℕ, ◌+◌, ◌-◌, ◌%◌, min, List, [], ◌∷◌, ◌++◌, suc, zero}
-use Rattle.byte_queues.specs.ReceiveQueue.{ready_of, without}
-use Rattle.byte_queues.specs.SendQueue.{room_of}
+-- A connection's block with the character generator behind it: what is done with the segments and times that it is given.
+use Rattle.std.specs.Prelude.{ℕ, List, [], ◌∷◌}
 use Rattle.segment_codec.specs.declared.packet.Seg.{Seg}
 use Rattle.tcb_machine.specs.BlockState.{Block, new_block}
-use Rattle.tcb_machine.specs.CallAnswers.{wants_fin}
 use Rattle.tcb_machine.specs.Output.{output}
 use Rattle.tcb_machine.specs.TcpStep.{Verdict, over, go, on, tcp_segment}
 use Rattle.tcb_machine.specs.Timers.{tcp_time}
-use Rattle.tcb_machine.specs.declared.kinds.State.{State}
-use Rattle.chargen_service.specs.Limits.{most_given}
-use Rattle.tcb_machine.specs.declared.kinds.State.TheVariants.{Listen, SynReceived, Established, FinWait1, FinWait2, CloseWait, Closing, LastAck, TimeWait}
+use Rattle.echo_services.specs.Chargen.{chargen, given_after}
 
 -- a block, and how many bytes were offered in its life
 pub record Generating : Type 0 where
@@ -20,37 +15,9 @@ pub record Generating : Type 0 where
 abbrev pub new_generating : Generating
 new_generating = record { block = new_block; given = 0 }
 
--- byte i of the pattern: the printable characters of ASCII, from the space to the tilde, again and again
-abbrev pub pattern : ℕ → ℕ
-pattern i = 32 + i % 95
-
--- n bytes of the pattern, from number i on
-abbrev pub pattern_from : ℕ → ℕ → List ℕ
-pattern_from i zero = []
-pattern_from i (suc n) = pattern i ∷ pattern_from (i + 1) n
-
--- all that is ready is thrown away
-abbrev pub throws_ready : Block → Block
-throws_ready b = record b { recv = without (ready_of b.recv) b.recv }
-
--- the next n bytes of the pattern are offered
-abbrev pub gives : ℕ → Generating → Generating
-gives n x = record { block = record x.block { out = x.block.out ++ pattern_from x.given n }; given = x.given + n }
-
--- in ESTABLISHED as much is offered as there is room for; where the peer has closed, our FIN is wanted
-abbrev pub gives_in : State → Generating → Generating
-gives_in Listen x = x
-gives_in SynReceived x = x
-gives_in Established x = gives (min (room_of x.block.out) (most_given - x.given)) x
-gives_in FinWait1 x = x
-gives_in FinWait2 x = x
-gives_in CloseWait x = record x { block = wants_fin LastAck x.block }
-gives_in Closing x = x
-gives_in LastAck x = x
-gives_in TimeWait x = x
-
+-- a pump of the generator
 unfoldable pub pump : Generating → Generating
-pump x = gives_in x.block.state (record x { block = throws_ready x.block })
+pump x = record { block = chargen x.given x.block; given = given_after x.given x.block }
 
 abbrev pub outputs : Generating → Generating
 outputs x = record x { block = output x.block }

@@ -3,8 +3,9 @@
 ghost use Rattle.std.specs.Prelude.{◌≡◌, ℕ, ◌+◌, ◌≤◌, List};
 ghost use Rattle.tcb_machine.specs.Room.{StreamsBelow};
 ghost use Rattle.tcb_machine.specs.Validity.{IsValid};
-ghost use Rattle.chargen_service.specs.Chargen.{Generating, Entry, segment, time, enters, serves, new_generating, pattern_from};
-ghost use Rattle.chargen_service.specs.Limits.{most_given};
+ghost use Rattle.chargen_service.specs.Chargen.{Generating, Entry, segment, time, enters, serves, new_generating};
+ghost use Rattle.echo_services.specs.Chargen.{pattern_from};
+ghost use Rattle.echo_services.specs.Limits.{most_given};
 ghost use Rattle.chargen_service.specs.WholeStream.{whole_serves, whole_new, all_offered};
 ghost use Rattle.segment_codec.specs.declared.packet.Seg.{Seg};
 ghost use Rattle.tcb_machine.specs.Limits.{segment_growth};

@@ -5,7 +5,7 @@ use Rattle.tcb_machine.specs.declared.kinds.Call.{Call}
 use Rattle.perimeter_core.specs.History.{Limits}
 use Rattle.conn_classifier.specs.Plan.{PlanOf, items_in}
 use Rattle.conn_blocks.specs.CallLists.{CallLists}
-use Rattle.placed_parts.specs.Homes.{times_leaving}
+use Rattle.histories.specs.Homes.{times_leaving}
 
 -- the calls of thread j, numbered from k on: connection, thread, number
 abbrev pub named_from : ℕ → ℕ → List (ℕ × Call) → List (ℕ × ℕ × ℕ)

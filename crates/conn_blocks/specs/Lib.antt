@@ -7,3 +7,4 @@ pub mod PlaceLaws
 pub mod Places
 pub mod ServeOrder
 pub mod SettledFeeds
+pub mod ServedBlocks

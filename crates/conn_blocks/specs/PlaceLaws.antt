@@ -13,7 +13,7 @@ use Rattle.conn_blocks.specs.declared.blocks.Blocks.{Blocks}
 use Rattle.conn_blocks.specs.CallLists.{CallLists}
 use Rattle.conn_blocks.specs.ServeOrder.{BlockOf}
 use Rattle.conn_blocks.specs.Holding.{StandsFor}
-use Rattle.placed_parts.specs.Homes.{times_leaving}
+use Rattle.histories.specs.Homes.{times_leaving}
 use Rattle.conn_blocks.specs.Places.{BlockAt, PartStands, Stands, size_of, limits_of}
 use Rattle.conn_blocks.specs.SettledFeeds.{feeds_settle}
 

@@ -13,7 +13,8 @@ use Rattle.tcb_machine.specs.Timers.{tcp_time}
 use Rattle.tcb_machine.specs.CallAnswers.{tcp_call}
 use Rattle.tcb_machine.specs.declared.kinds.Answer.{Answer}
 use Rattle.tcb_machine.specs.declared.kinds.Call.{Call}
-use Rattle.echo_services.specs.Pump.{followed, service_of}
+use Rattle.echo_services.specs.Pump.{pump, service_of}
+use Rattle.echo_services.specs.Serving.{followed}
 use Rattle.echo_services.specs.declared.service.Service.{Service}
 use Rattle.conn_blocks.specs.declared.stages.Stage.{Stage}
 use Rattle.conn_blocks.specs.CallLists.{CallLists, calls_of, call_at}
@@ -22,7 +23,7 @@ use Rattle.conn_blocks.specs.Limits.{callers}
 -- an item with its text
 abbrev pub receives : Service → Item → List ℕ → Block → Block
 receives service (item.Time at) text b = tcp_time at b
-receives service (item.Segment at rec iss seg) text b = followed service (tcp_segment at iss seg text b)
+receives service (item.Segment at rec iss seg) text b = followed (pump service) (tcp_segment at iss seg text b)
 
 -- a block, and the answers so far: thread, number, answer
 pub record Serving : Type 0 where
@@ -31,7 +32,7 @@ pub record Serving : Type 0 where
 
 abbrev pub asks : Service → ℕ → ℕ → Call → Serving → Serving
 asks service j k call s = record {
-  block = followed service (tcp_call call s.block).verdict;
+  block = followed (pump service) (tcp_call call s.block).verdict;
   answers = s.answers ++ (j, k, (tcp_call call s.block).answer) ∷ [];
 }
 

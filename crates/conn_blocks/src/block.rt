@@ -12,6 +12,7 @@ ghost use Rattle.conn_blocks.specs.ServeOrder.{asks, receives, serve, serves_act
 
 use crate::calls::Calls;
 use crate::facts::{Connection, connection_of};
+use crate::limits::CALLERS;
 use crate::stages::Stage;
 use conn_classifier::{Item, Plan, PlanView};
 use echo_services::{Service, ask, serve, tick};
@@ -85,7 +86,7 @@ impl Block {
             order: Vec::with_capacity(alloc, plan.items(c) as usize + asked)?,
             answers: Vec::with_capacity(alloc, asked)?,
             short: false,
-            stages: vec![in alloc; Stage::Unasked; 4 * calls.longest() as usize]?,
+            stages: vec![in alloc; Stage::Unasked; CALLERS as usize * calls.longest() as usize]?,
         };
         Ok(Box::new(alloc, block)?)
     }
@@ -142,7 +143,8 @@ impl Block {
         match item {
             Item::Time { at } => tick(&mut self.tcb, alloc, at),
             Item::Segment { at, iss, seg, .. } => {
-                serve(self.service, &mut self.tcb, alloc, at, iss, &seg, text)
+                let mut service = self.service;
+                serve(&mut service, &mut self.tcb, alloc, at, iss, &seg, text)
             }
         }
     }
@@ -155,7 +157,8 @@ impl Block {
         ensures offered { OnOk result (offered self.new.tcb ≤ offered self.old.tcb + 2 ^ 16) }
         ensures same { SameOrder self.new self.old × (self.new.short ≡ self.old.short) }
     {
-        let answer = ask(self.service, &mut self.tcb, alloc, call)?;
+        let mut service = self.service;
+        let answer = ask(&mut service, &mut self.tcb, alloc, call)?;
         self.answers.push((j, k, answer))?;
         Ok(())
     }

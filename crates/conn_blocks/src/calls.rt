@@ -6,12 +6,10 @@ ghost use Rattle.conn_blocks.specs.Holding.{calls_on};
 ghost use Rattle.conn_blocks.specs.Limits.{callers, most_calls};
 ghost use Rattle.conn_blocks.specs.Orders.{numbers_from};
 
+use crate::limits::MOST_CALLS;
 use std::alloc::{AllocError, Global};
 use std::marker::Model;
 use tcb_machine::Call;
-
-/// The most calls that the application threads make, all together.
-pub const MOST_CALLS: usize = 1024;
 
 /// The calls of the four application threads, each thread's in the order in which it makes them. At most 1,024 in all.
 ///

@@ -10,12 +10,14 @@ mod calls;
 mod facts;
 mod holding;
 pub mod laws;
+mod limits;
 mod stages;
 #[cfg(test)]
 mod tests;
 
 pub use block::{Block, serve_one};
 pub use blocks::Blocks;
-pub use calls::{Calls, MOST_CALLS};
+pub use calls::Calls;
 pub use facts::Origin;
+pub use limits::{CALLERS, MOST_CALLS};
 pub use perimeter_core::Act;

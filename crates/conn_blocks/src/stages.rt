@@ -2,6 +2,8 @@
 
 ghost use Rattle.std.specs.Prelude.{◌≡◌, ◌+◌, ◌*◌};
 
+use crate::limits::CALLERS;
+
 /// A call that didn't come yet, one that came before an earlier one of its thread and is held back, or one that was made.
 #[derive(Clone, Copy, Debug, PartialEq, Eq)]
 pub enum Stage {
@@ -14,5 +16,5 @@ pub enum Stage {
 pub fn place(j: u32, k: u32) -> usize
     ensures { result ≡ 4 * k + j }
 {
-    4 * k as usize + j as usize
+    CALLERS as usize * k as usize + j as usize
 }

@@ -11,7 +11,7 @@ use Rattle.segment_codec.specs.ControlBits.{ack, fin, rst, syn}
 use Rattle.tcb_machine.specs.CallAnswers.{tcp_call, with_buffer, wants_fin}
 use Rattle.tcb_machine.specs.Output.{sends_text, sends_pieces, pieces, sendable, outputs_text, outputs_fin, outputs_ack, outputs_deadline, starts, is_sending, output}
 use Rattle.tcb_machine.specs.States.{is_listen}
-use Rattle.tcb_machine.specs.TcpStep.{sends_syn_ack, waits, ahead, Verdict, over, go, on, and_then, with_scale, opened, listen, is_acceptable, is_time_wait, refused, check_sequence, check_reset, syn_again, check_syn, ack_kind, is_before, with_window, takes_window, takes_ack, in_time_wait, after_ack, is_fin_acked, after, acknowledged, established, ack_in, check_ack, consumes, closes, keeps_end, takes_fin, takes_text, check_text, repeated, first_checks, arrives, in_state, tcp_segment}
+use Rattle.tcb_machine.specs.TcpStep.{sends_syn_ack, waits, ahead, Verdict, over, go, on, and_then, opened, listen, is_acceptable, is_time_wait, refused, check_sequence, check_reset, syn_again, check_syn, ack_kind, is_before, with_window, takes_window, takes_ack, in_time_wait, after_ack, is_fin_acked, after, acknowledged, established, ack_in, check_ack, consumes, closes, keeps_end, takes_fin, takes_text, check_text, repeated, first_checks, arrives, in_state, tcp_segment}
 use Rattle.tcb_machine.specs.Timers.{Firing, time_wait, retransmission, gives_up, firings, sends_again, retransmits, fires, fires_all, tcp_time}
 use Rattle.tcb_machine.specs.Validity.{IsValid, left_by}
 use Rattle.tcb_machine.specs.declared.kinds.Call.{Call}
@@ -22,12 +22,15 @@ use Rattle.tcb_machine.specs.declared.kinds.AckKind.{AckKind}
 use Rattle.tcb_machine.specs.declared.kinds.AckKind.TheVariants.{Fresh, Equal, Old, Beyond}
 use Rattle.tcb_machine.proofs.QueueLemmas.{next_without}
 use Rattle.tcb_machine.proofs.ValidLemmas.{Moved, moves, as_new, Says, new-valid, moves-valid, segment-says, call-moved, output-moved, time-moved, new-out}
-use Rattle.echo_services.specs.Pump.{throws, echoes_in, moves as moves_text, is_close_wait, ends, pump}
+use Rattle.echo_services.specs.Closing.{ends, is_close_wait, throws}
+use Rattle.echo_services.specs.Echo.{echoes_in, moves as moves_text}
+use Rattle.echo_services.specs.Pump.{pump}
 use Rattle.echo_services.specs.Serving.{Entry, segment, time, asks}
 use Rattle.echo_services.specs.WholeStreams.{Whole, follows, all_offered, whole_followed, whole_enters, whole_serves, whole_new, IsEntry, AreEntries, IsNoClose, HasNoClose}
 use Rattle.echo_services.specs.declared.service.Service.TheVariants.{Echo}
 use Rattle.echo_services.proofs.EchoLemmas.{Echoed, echoed-in, no-bytes, nothing-gone, join-open, join-new, clock-says}
-use Rattle.echo_services.proofs.ServingLemmas.{pumping, pumps-valid, enters-valid, enters-block}
+use Rattle.echo_services.proofs.PumpsLemmas.{service-pumps}
+use Rattle.echo_services.proofs.ServingLemmas.{pumps-valid, enters-valid, enters-block}
 use Rattle.tcb_machine.proofs.NumberLemmas.{both}
 
 -- a step that wants no FIN, and in LAST-ACK takes nothing in
@@ -86,16 +89,12 @@ quiet-cond false b x y p q = q
 
 -- LISTEN
 
-scale-asked : (o : Option ℕ) (b : Block) → (with_scale o b).fin_wanted ≡ b.fin_wanted
-scale-asked None b = refl
-scale-asked (Some k) b = refl
-
 not-last : (b : Block) → b.state ≡ Listen → b.state ≡ LastAck → ⊥
 not-last b e f = false≢true (ap is_last (sym e ∙ f))
 
 opens : (s : Seg) (iss : ℕ) (b : Block) → b.state ≡ Listen → Quiet b (opened s iss b)
 unfolding opened
-opens s iss b e = record { asked = λ f. sym (scale-asked s.scale b) ∙ f; last = λ f. absurd (not-last b e f) }
+opens s iss b e = record { asked = λ f. f; last = λ f. absurd (not-last b e f) }
 
 listens : (s : Seg) (iss : ℕ) (b : Block) → b.state ≡ Listen → Quiet b (left_by (listen s iss b))
 unfolding listen
@@ -290,7 +289,7 @@ pieces-quiet (t ∷ u ∷ ts) b c h = pieces-quiet (u ∷ ts) b (sends_text 16 t
 
 outputs-text-quiet : (b c : Block) → Quiet b c → Quiet b (outputs_text c)
 unfolding outputs_text
-outputs-text-quiet b c h = pieces-quiet (pieces (length (sendable c)) c.mss (sendable c)) b c h
+outputs-text-quiet b c h = pieces-quiet (pieces (length (sendable c)) c.agreed.mss (sendable c)) b c h
 
 outputs-fin-quiet : (b c : Block) → Quiet b c → Quiet b (outputs_fin c)
 unfolding outputs_fin
@@ -321,7 +320,7 @@ output-quiet b =
 sends-again-quiet : (b c : Block) → Quiet b c → Quiet b (sends_again c)
 unfolding sends_again sends_text
 sends-again-quiet b c h =
-    quiet-cond (nat_lt 0 (in_flight c)) b (sends (segment_of 24 c.una (take (min c.mss (min (in_flight c) (max 1 c.wnd))) c.out) c) c) _ h
+    quiet-cond (nat_lt 0 (in_flight c)) b (sends (segment_of 24 c.una (take (min c.agreed.mss (min (in_flight c) (max 1 c.wnd))) c.out) c) c) _ h
     (quiet-cond (c.fin_sent && not (c.una == snd_nxt c)) b (sends (segment_of 17 (snd_end c) [] c) c) (sends_text 24 (take 1 (unsent c)) c) h h)
 
 retransmitting : (st : State) (b c : Block) → Quiet b c → Quiet b (retransmits st c)
@@ -456,7 +455,7 @@ pump-took : (b : Block) → (b.fin_wanted ≡ true → (b.state ≡ LastAck) × 
 unfolding pump
 pump-took b l = chosen b.fin_wanted refl
   where
-    chosen : (t : Bool) → b.fin_wanted ≡ t → Took b (ends (moves_text Echo t b))
+    chosen : (t : Bool) → b.fin_wanted ≡ t → Took b (ends (moves_text t b))
     chosen true e = let r = l e in ending b (throws (ready_of b.recv) b) (thrown b r.1) (λ f. (r.0, none-ready b.recv r.1))
     chosen false e = let h = echoed-in b.state b in ending b (echoes_in b.state b) h (λ f. absurd (false≢true (sym (h.wanted ∙ e) ∙ f)))
 
@@ -466,11 +465,11 @@ given-pumped w o v h =
     let k = pump-took w.block h.last in
     let a = k.acked in
     record {
-      same = joined w d (pumping Echo w.block o v).opened h.same (nothing-gone (d.acked - w.block.acked) w.block.out d.out (omega (arith, a)) ∙ k.out);
+      same = joined w d (service-pumps Echo w.block o v).opened h.same (nothing-gone (d.acked - w.block.acked) w.block.out d.out (omega (arith, a)) ∙ k.out);
       last = k.rest;
     }
 
-given-followed : (w : Whole) (v : Verdict) → IsGiven w → Says w.block v → Quiet w.block (left_by v) → IsGiven (whole_followed Echo w v)
+given-followed : (w : Whole) (v : Verdict) → IsGiven w → Says w.block v → Quiet w.block (left_by v) → IsGiven (whole_followed (pump Echo) w v)
 given-followed w (over c) h s q = given-moved w c h s q
 given-followed w (on c) h s q = given-moved w c h (moves s) q
 given-followed w (go c) h s q =
@@ -478,25 +477,25 @@ given-followed w (go c) h s q =
     let d = pump Echo c in
     let w1 = follows w c in
     let w2 = follows w1 d in
-    given-moved w2 (output d) (given-pumped w1 s.opened v (given-moved w c h (moves s) q)) (output-moved d (pumps-valid c d v (pumping Echo c s.opened v))) (output-quiet d)
+    given-moved w2 (output d) (given-pumped w1 s.opened v (given-moved w c h (moves s) q)) (output-moved d (pumps-valid c d v (service-pumps Echo c s.opened v))) (output-quiet d)
 
-given-asked : (c : Call) (w : Whole) → IsEntry (asks c) → IsNoClose (asks c) → IsValid w.block → IsGiven w → IsGiven (whole_enters Echo (asks c) w)
+given-asked : (c : Call) (w : Whole) → IsEntry (asks c) → IsNoClose (asks c) → IsValid w.block → IsGiven w → IsGiven (whole_enters (pump Echo) (asks c) w)
 unfolding tcp_call
 given-asked call.Status w i n v h = given-moved w w.block h (call-moved call.Status w.block i v) (own w.block)
 given-asked (call.Buffer m) w i n v h = given-moved w (with_buffer w.block.state m w.block) h (call-moved (call.Buffer m) w.block i v) (buffer-quiet w.block.state m w.block refl)
 given-asked call.Close w i n v h = absurd n
 
-given-enters : (e : Entry) (w : Whole) → IsEntry e → IsNoClose e → IsValid w.block → IsGiven w → IsGiven (whole_enters Echo e w)
+given-enters : (e : Entry) (w : Whole) → IsEntry e → IsNoClose e → IsValid w.block → IsGiven w → IsGiven (whole_enters (pump Echo) e w)
 given-enters (segment now iss s text) w i n v h =
     given-followed w (tcp_segment now iss s text w.block) h (clock-says now w.block (tcp_segment now iss s text w.block) (segment-says now iss s text w.block v)) (segment-quiet now iss s text w.block)
 given-enters (time to) w i n v h = given-moved w (tcp_time to w.block) h (time-moved to w.block v) (time-quiet to w.block)
 given-enters (asks c) w i n v h = given-asked c w i n v h
 
-given-serves : (es : List Entry) (w : Whole) → AreEntries es → HasNoClose es → IsValid w.block → IsGiven w → IsGiven (whole_serves Echo es w)
+given-serves : (es : List Entry) (w : Whole) → AreEntries es → HasNoClose es → IsValid w.block → IsGiven w → IsGiven (whole_serves (pump Echo) es w)
 given-serves [] w i n v h = h
 given-serves (e ∷ es) w i n v h =
-    given-serves es (whole_enters Echo e w) i.1 n.1 (subst (λ (b : Block). IsValid b) (sym (enters-block Echo e w)) (enters-valid Echo e w.block i.0 v)) (given-enters e w i.0 n.0 v h)
+    given-serves es (whole_enters (pump Echo) e w) i.1 n.1 (subst (λ (b : Block). IsValid b) (sym (enters-block (pump Echo) e w)) (enters-valid (pump Echo) (service-pumps Echo) e w.block i.0 v)) (given-enters e w i.0 n.0 v h)
 
-pub gives-back-all : (es : List Entry) → AreEntries es → HasNoClose es → all_offered (whole_serves Echo es whole_new) ≡ (whole_serves Echo es whole_new).read
+pub gives-back-all : (es : List Entry) → AreEntries es → HasNoClose es → all_offered (whole_serves (pump Echo) es whole_new) ≡ (whole_serves (pump Echo) es whole_new).read
 unfolding new_block
 gives-back-all es i n = (given-serves es whole_new i n new-valid (record { same = refl; last = λ f. absurd (false≢true f) })).same

@@ -14,11 +14,14 @@ use Rattle.tcb_machine.specs.Validity.{IsValid}
 use Rattle.tcb_machine.specs.declared.kinds.State.{State}
 use Rattle.tcb_machine.specs.declared.kinds.State.TheVariants.{Listen, SynReceived, Established, FinWait1, FinWait2, CloseWait, Closing, LastAck, TimeWait}
 use Rattle.tcb_machine.proofs.ValidLemmas.{Moves, Moved, moves, as_new, Says, new-valid, moves-valid, segment-says, call-says, output-moved, time-moved, new-out}
-use Rattle.echo_services.specs.Pump.{echoes, echoes_in, moves as moves_text, is_close_wait, pump}
+use Rattle.echo_services.specs.Closing.{is_close_wait}
+use Rattle.echo_services.specs.Echo.{echoes, echoes_in, moves as moves_text}
+use Rattle.echo_services.specs.Pump.{pump}
 use Rattle.echo_services.specs.Serving.{Entry, segment, time, asks}
 use Rattle.echo_services.specs.WholeStreams.{Whole, follows, all_offered, whole_followed, whole_enters, whole_serves, whole_new, IsEntry, AreEntries}
 use Rattle.echo_services.specs.declared.service.Service.TheVariants.{Echo}
-use Rattle.echo_services.proofs.ServingLemmas.{pumping, pumps-valid, enters-valid, enters-block}
+use Rattle.echo_services.proofs.PumpsLemmas.{service-pumps}
+use Rattle.echo_services.proofs.ServingLemmas.{pumps-valid, enters-valid, enters-block}
 
 abbrev IsEchoing : Whole → Type 0
 IsEchoing w = w.block.fin_wanted ≡ false → all_offered w ≡ w.read
@@ -116,11 +119,11 @@ ends-leaves false b x o h =
     let a = h.acked in
     record { opened = o; wanted = λ f. sym h.wanted ∙ f; out = λ f. nothing-gone (x.acked - b.acked) b.out x.out (omega (arith, a)) ∙ h.out }
 
-moves-echoed : (t : Bool) (b : Block) → t ≡ false → Echoed b (moves_text Echo t b)
+moves-echoed : (t : Bool) (b : Block) → t ≡ false → Echoed b (moves_text t b)
 moves-echoed true b e = absurd (false≢true (sym e))
 moves-echoed false b e = echoed-in b.state b
 
-wanted-in : (t : Bool) (b : Block) → t ≡ true → b.fin_wanted ≡ true → (moves_text Echo t b).fin_wanted ≡ true
+wanted-in : (t : Bool) (b : Block) → t ≡ true → b.fin_wanted ≡ true → (moves_text t b).fin_wanted ≡ true
 wanted-in true b e h = h
 wanted-in false b e h = absurd (false≢true e)
 
@@ -131,14 +134,14 @@ ends-wanted false x h = h
 pump-wanted : (b : Block) → b.fin_wanted ≡ true → (pump Echo b).fin_wanted ≡ true
 unfolding pump
 pump-wanted b e =
-    let x = moves_text Echo b.fin_wanted b in
+    let x = moves_text b.fin_wanted b in
     ends-wanted (is_close_wait x.state && ((ready_of x.recv == 0) && not x.fin_wanted)) x (wanted-in b.fin_wanted b e e)
 
 pump-leaves : (b : Block) → is_listen b.state ≡ false → IsValid b → b.fin_wanted ≡ false → Leaves b (pump Echo b)
 unfolding pump
 pump-leaves b o v e =
-    let x = moves_text Echo b.fin_wanted b in
-    ends-leaves (is_close_wait x.state && ((ready_of x.recv == 0) && not x.fin_wanted)) b x (pumping Echo b o v).opened (moves-echoed b.fin_wanted b e)
+    let x = moves_text b.fin_wanted b in
+    ends-leaves (is_close_wait x.state && ((ready_of x.recv == 0) && not x.fin_wanted)) b x (service-pumps Echo b o v).opened (moves-echoed b.fin_wanted b e)
 
 echoing-pumped : (w : Whole) → is_listen w.block.state ≡ false → IsValid w.block → IsEchoing w → IsEchoing (follows w (pump Echo w.block))
 echoing-pumped w o v h = chosen w.block.fin_wanted refl
@@ -147,7 +150,7 @@ echoing-pumped w o v h = chosen w.block.fin_wanted refl
     chosen true e = λ f. absurd (false≢true (sym f ∙ pump-wanted w.block e))
     chosen false e = echoing-open w (pump Echo w.block) h (pump-leaves w.block o v e)
 
-echoing-followed : (w : Whole) (v : Verdict) → IsEchoing w → Says w.block v → IsEchoing (whole_followed Echo w v)
+echoing-followed : (w : Whole) (v : Verdict) → IsEchoing w → Says w.block v → IsEchoing (whole_followed (pump Echo) w v)
 echoing-followed w (over c) h s = echoing-moved w c h s
 echoing-followed w (on c) h s = echoing-moved w c h (moves s)
 echoing-followed w (go c) h s =
@@ -155,23 +158,23 @@ echoing-followed w (go c) h s =
     let d = pump Echo c in
     let w1 = follows w c in
     let w2 = follows w1 d in
-    echoing-moved w2 (output d) (echoing-pumped w1 s.opened v (echoing-moved w c h (moves s))) (output-moved d (pumps-valid c d v (pumping Echo c s.opened v)))
+    echoing-moved w2 (output d) (echoing-pumped w1 s.opened v (echoing-moved w c h (moves s))) (output-moved d (pumps-valid c d v (service-pumps Echo c s.opened v)))
 
 pub clock-says : (n : ℕ) (b : Block) (v : Verdict) → Says (record b { clock = n }) v → Says b v
 clock-says n b (over c) s = clock-moved n b c s
 clock-says n b (go c) s = clock-moves n b c s
 clock-says n b (on c) s = clock-moves n b c s
 
-echoing-enters : (e : Entry) (w : Whole) → IsEntry e → IsValid w.block → IsEchoing w → IsEchoing (whole_enters Echo e w)
+echoing-enters : (e : Entry) (w : Whole) → IsEntry e → IsValid w.block → IsEchoing w → IsEchoing (whole_enters (pump Echo) e w)
 echoing-enters (segment now iss s text) w i v h = echoing-followed w (tcp_segment now iss s text w.block) h (clock-says now w.block (tcp_segment now iss s text w.block) (segment-says now iss s text w.block v))
 echoing-enters (time to) w i v h = echoing-moved w (tcp_time to w.block) h (time-moved to w.block v)
 echoing-enters (asks c) w i v h = echoing-followed w (tcp_call c w.block).verdict h (call-says c w.block i v)
 
-echoing-serves : (es : List Entry) (w : Whole) → AreEntries es → IsValid w.block → IsEchoing w → IsEchoing (whole_serves Echo es w)
+echoing-serves : (es : List Entry) (w : Whole) → AreEntries es → IsValid w.block → IsEchoing w → IsEchoing (whole_serves (pump Echo) es w)
 echoing-serves [] w i v h = h
 echoing-serves (e ∷ es) w i v h =
-    echoing-serves es (whole_enters Echo e w) i.1 (subst (λ (b : Block). IsValid b) (sym (enters-block Echo e w)) (enters-valid Echo e w.block i.0 v)) (echoing-enters e w i.0 v h)
+    echoing-serves es (whole_enters (pump Echo) e w) i.1 (subst (λ (b : Block). IsValid b) (sym (enters-block (pump Echo) e w)) (enters-valid (pump Echo) (service-pumps Echo) e w.block i.0 v)) (echoing-enters e w i.0 v h)
 
-pub offers-what-it-took : (es : List Entry) → AreEntries es → (whole_serves Echo es whole_new).block.fin_wanted ≡ false → all_offered (whole_serves Echo es whole_new) ≡ (whole_serves Echo es whole_new).read
+pub offers-what-it-took : (es : List Entry) → AreEntries es → (whole_serves (pump Echo) es whole_new).block.fin_wanted ≡ false → all_offered (whole_serves (pump Echo) es whole_new) ≡ (whole_serves (pump Echo) es whole_new).read
 unfolding new_block
 offers-what-it-took es i = echoing-serves es whole_new i new-valid (λ f. refl)

@@ -1,6 +1,9 @@
-pub mod EchoLemmas
+pub mod PatternLemmas
+pub mod DaytimeLemmas
 pub mod PumpLemmas
+pub mod PumpsLemmas
 pub mod ServingLemmas
+pub mod EchoLemmas
+pub mod CloseLemmas
 pub mod WorkedRows
 pub mod ExchangeRows
-pub mod CloseLemmas

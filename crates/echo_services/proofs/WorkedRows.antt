@@ -6,9 +6,10 @@ use Rattle.tcb_machine.specs.TcpStep.{opened, listen, is_in_window, is_acceptabl
 use Rattle.tcb_machine.specs.Output.{sendable, sends_text, outputs_text, outputs_fin, outputs_ack, outputs_deadline, output}
 use Rattle.tcb_machine.specs.Timers.{firings, sends_again, fires, tcp_time}
 use Rattle.tcb_machine.specs.CallAnswers.{tcp_call}
+use Rattle.echo_services.specs.Daytime.{daytime}
 use Rattle.echo_services.specs.Pump.{pump}
 use Rattle.echo_services.specs.Worked as row
-use Rattle.echo_services.specs.Worked.{IsEchoed}
+use Rattle.echo_services.specs.Worked.{IsEchoed, IsServed}
 
 pub five_segment_echo : IsEchoed row.five_segment_echo
 unfolding next_of window_of ready_of is_ended placed next_bytes without with_cap with_end new_block to_listen rcv_nxt rcv_wnd snd_end snd_nxt unsent offered seg_len seg_wnd sent_window segment_of syn_ack_of rst_of opened listen is_in_window is_acceptable refused check_sequence check_reset check_syn ack_kind takes_window takes_ack is_fin_acked in_time_wait acknowledged check_ack repeated ahead closes keeps_end takes_fin check_text first_checks arrives tcp_segment sendable sends_text outputs_text outputs_fin outputs_ack outputs_deadline output firings sends_again fires tcp_time tcp_call pump
@@ -73,3 +74,15 @@ scaled_small_window = record { sent = refl; state = refl }
 pub scale_over_fourteen : IsEchoed row.scale_over_fourteen
 unfolding next_of window_of ready_of is_ended placed next_bytes without with_cap with_end new_block to_listen rcv_nxt rcv_wnd snd_end snd_nxt unsent offered seg_len seg_wnd sent_window segment_of syn_ack_of rst_of opened listen is_in_window is_acceptable refused check_sequence check_reset check_syn ack_kind takes_window takes_ack is_fin_acked in_time_wait acknowledged check_ack repeated ahead closes keeps_end takes_fin check_text first_checks arrives tcp_segment sendable sends_text outputs_text outputs_fin outputs_ack outputs_deadline output firings sends_again fires tcp_time tcp_call pump
 scale_over_fourteen = record { sent = refl; state = refl }
+
+pub daytime_closes_first : IsServed (daytime row.day) row.daytime_closes_first
+unfolding next_of window_of ready_of is_ended placed next_bytes without with_cap with_end new_block to_listen rcv_nxt rcv_wnd snd_end snd_nxt unsent offered seg_len seg_wnd sent_window segment_of syn_ack_of rst_of opened listen is_in_window is_acceptable refused check_sequence check_reset check_syn ack_kind takes_window takes_ack is_fin_acked in_time_wait acknowledged check_ack repeated ahead closes keeps_end takes_fin check_text first_checks arrives tcp_segment sendable sends_text outputs_text outputs_fin outputs_ack outputs_deadline output firings sends_again fires tcp_time tcp_call daytime
+daytime_closes_first = record { sent = refl; state = refl }
+
+pub daytime_small_window : IsServed (daytime row.day) row.daytime_small_window
+unfolding next_of window_of ready_of is_ended placed next_bytes without with_cap with_end new_block to_listen rcv_nxt rcv_wnd snd_end snd_nxt unsent offered seg_len seg_wnd sent_window segment_of syn_ack_of rst_of opened listen is_in_window is_acceptable refused check_sequence check_reset check_syn ack_kind takes_window takes_ack is_fin_acked in_time_wait acknowledged check_ack repeated ahead closes keeps_end takes_fin check_text first_checks arrives tcp_segment sendable sends_text outputs_text outputs_fin outputs_ack outputs_deadline output firings sends_again fires tcp_time tcp_call daytime
+daytime_small_window = record { sent = refl; state = refl }
+
+pub daytime_behind_the_close : IsServed (daytime row.day) row.daytime_behind_the_close
+unfolding next_of window_of ready_of is_ended placed next_bytes without with_cap with_end new_block to_listen rcv_nxt rcv_wnd snd_end snd_nxt unsent offered seg_len seg_wnd sent_window segment_of syn_ack_of rst_of opened listen is_in_window is_acceptable refused check_sequence check_reset check_syn ack_kind takes_window takes_ack is_fin_acked in_time_wait acknowledged check_ack repeated ahead closes keeps_end takes_fin check_text first_checks arrives tcp_segment sendable sends_text outputs_text outputs_fin outputs_ack outputs_deadline output firings sends_again fires tcp_time tcp_call daytime
+daytime_behind_the_close = record { sent = refl; state = refl }

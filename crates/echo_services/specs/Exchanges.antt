@@ -1,11 +1,13 @@
 -- Further exchanges, as those of `Worked`: each state, each check of a segment, and each deadline.
 use Rattle.std.specs.Prelude.{◌≡◌, ℕ, ◌+◌, List, [], ◌∷◌, ◌++◌, None, Some, zero, suc, codes}
+use Rattle.segment_codec.specs.Options.{no_options}
 use Rattle.segment_codec.specs.declared.packet.Reply.{Reply}
 use Rattle.tcb_machine.specs.BlockState.{new_block}
 use Rattle.segment_codec.specs.ControlBits.{ack, fin, psh, rst, syn}
 use Rattle.tcb_machine.specs.declared.kinds.State.{State}
 use Rattle.tcb_machine.specs.declared.kinds.State.TheVariants.{Listen, SynReceived, Established, FinWait1, FinWait2, CloseWait, Closing, LastAck, TimeWait}
 use Rattle.tcb_machine.specs.declared.kinds.Call.TheVariants as call
+use Rattle.echo_services.specs.Pump.{pump}
 use Rattle.echo_services.specs.Serving.{Entry, segment, time, asks, serves}
 use Rattle.echo_services.specs.Worked.{seg, gets, gets_syn, puts, puts_syn, opened, greeted, letters}
 use Rattle.echo_services.specs.declared.service.Service.{Service}
@@ -19,12 +21,12 @@ pub record Row : Type 0 where
 
 -- the service answers so
 pub record IsAnswered (x : Row) : Type 0 where
-  pub sent : (serves x.service x.given new_block).replies ≡ x.sent
-  pub state : (serves x.service x.given new_block).state ≡ x.state
+  pub sent : (serves (pump x.service) x.given new_block).replies ≡ x.sent
+  pub state : (serves (pump x.service) x.given new_block).state ≡ x.state
 
 -- a SYN with window 4096 and an MSS: time, hint, sequence number, MSS
 abbrev pub gets_mss : ℕ → ℕ → ℕ → ℕ → Entry
-gets_mss at iss seq mss = segment at iss (record (seg syn seq 0 4096 []) { mss = Some mss }) []
+gets_mss at iss seq mss = segment at iss (record (seg syn seq 0 4096 []) { options = record no_options { mss = Some mss } }) []
 
 -- the ways to some states
 abbrev pub closed : List Entry

@@ -1,5 +1,12 @@
+pub mod Limits
+pub mod Closing
+pub mod Echo
+pub mod Discard
+pub mod Chargen
+pub mod Daytime
 pub mod Pump
 pub mod Serving
+pub mod Pumping
 pub mod WholeStreams
 pub mod Worked
 pub mod Exchanges

@@ -10,9 +10,7 @@ use Rattle.tcb_machine.specs.Timers.{tcp_time}
 use Rattle.tcb_machine.specs.Validity.{IsAskable}
 use Rattle.tcb_machine.specs.declared.kinds.Call.{Call}
 use Rattle.tcb_machine.specs.declared.kinds.Call.TheVariants as call
-use Rattle.echo_services.specs.Pump.{pump}
 use Rattle.echo_services.specs.Serving.{Entry, segment, time, asks}
-use Rattle.echo_services.specs.declared.service.Service.{Service}
 
 pub record Whole : Type 0 where
   pub block : Block
@@ -35,19 +33,19 @@ follows w b = record {
   confirmed = if is_listen b.state then [] else w.confirmed ++ take (b.acked - w.block.acked) w.block.out;
 }
 
-abbrev pub whole_followed : Service → Whole → Verdict → Whole
-whole_followed service w (over b) = follows w b
-whole_followed service w (go b) = follows (follows (follows w b) (pump service b)) (output (pump service b))
-whole_followed service w (on b) = follows w b
+abbrev pub whole_followed : (Block → Block) → Whole → Verdict → Whole
+whole_followed pump w (over b) = follows w b
+whole_followed pump w (go b) = follows (follows (follows w b) (pump b)) (output (pump b))
+whole_followed pump w (on b) = follows w b
 
-abbrev pub whole_enters : Service → Entry → Whole → Whole
-whole_enters service (segment now iss s text) w = whole_followed service w (tcp_segment now iss s text w.block)
-whole_enters service (time to) w = follows w (tcp_time to w.block)
-whole_enters service (asks call) w = whole_followed service w (tcp_call call w.block).verdict
+abbrev pub whole_enters : (Block → Block) → Entry → Whole → Whole
+whole_enters pump (segment now iss s text) w = whole_followed pump w (tcp_segment now iss s text w.block)
+whole_enters pump (time to) w = follows w (tcp_time to w.block)
+whole_enters pump (asks call) w = whole_followed pump w (tcp_call call w.block).verdict
 
-abbrev pub whole_serves : Service → List Entry → Whole → Whole
-whole_serves service [] w = w
-whole_serves service (e ∷ es) w = whole_serves service es (whole_enters service e w)
+abbrev pub whole_serves : (Block → Block) → List Entry → Whole → Whole
+whole_serves pump [] w = w
+whole_serves pump (e ∷ es) w = whole_serves pump es (whole_enters pump e w)
 
 abbrev pub whole_new : Whole
 whole_new = record { block = new_block; read = []; confirmed = [] }

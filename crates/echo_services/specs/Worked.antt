@@ -3,12 +3,14 @@ use Rattle.std.specs.Prelude.{◌≡◌, ℕ, ◌+◌, List, [], ◌∷◌, ◌+
 use Rattle.sq_base.specs.declared.kinds.Tuple.{Tuple}
 use Rattle.segment_codec.specs.declared.packet.Seg.{Seg}
 use Rattle.segment_codec.specs.declared.packet.Reply.{Reply}
-use Rattle.tcb_machine.specs.BlockState.{new_block}
+use Rattle.tcb_machine.specs.BlockState.{Block, new_block}
 use Rattle.segment_codec.specs.ControlBits.{ack, fin, psh, rst, syn}
+use Rattle.segment_codec.specs.Options.{no_options}
 use Rattle.segment_codec.specs.PlainSegments.{plain, plain_from}
 use Rattle.tcb_machine.specs.declared.kinds.State.{State}
-use Rattle.tcb_machine.specs.declared.kinds.State.TheVariants.{Listen, SynReceived, Established, LastAck, TimeWait}
+use Rattle.tcb_machine.specs.declared.kinds.State.TheVariants.{Listen, SynReceived, Established, FinWait1, LastAck, TimeWait}
 use Rattle.tcb_machine.specs.declared.kinds.Call.TheVariants as call
+use Rattle.echo_services.specs.Pump.{pump}
 use Rattle.echo_services.specs.Serving.{Entry, segment, time, asks, serves}
 use Rattle.echo_services.specs.declared.service.Service.TheVariants.{Echo}
 
@@ -19,8 +21,13 @@ pub record Exchange : Type 0 where
 
 -- the echo service answers so
 pub record IsEchoed (x : Exchange) : Type 0 where
-  pub sent : (serves Echo x.given new_block).replies ≡ x.sent
-  pub state : (serves Echo x.given new_block).state ≡ x.state
+  pub sent : (serves (pump Echo) x.given new_block).replies ≡ x.sent
+  pub state : (serves (pump Echo) x.given new_block).state ≡ x.state
+
+-- the service of this pump answers so
+pub record IsServed (pump : Block → Block) (x : Exchange) : Type 0 where
+  pub sent : (serves pump x.given new_block).replies ≡ x.sent
+  pub state : (serves pump x.given new_block).state ≡ x.state
 
 -- the client is 10.0.0.1:4000, the server 10.0.0.2:7
 abbrev pub ends : Tuple
@@ -36,7 +43,7 @@ gets at flags seq ack wnd text = segment at 0 (seg flags seq ack wnd text) text
 
 -- a SYN with window 4096: time, hint, sequence number, window scale
 abbrev pub gets_syn : ℕ → ℕ → ℕ → Option ℕ → Entry
-gets_syn at iss seq scale = segment at iss (record (seg syn seq 0 4096 []) { scale = scale }) []
+gets_syn at iss seq scale = segment at iss (record (seg syn seq 0 4096 []) { options = record no_options { scale = scale } }) []
 
 -- time, control bits, sequence number, acknowledgement number, window, text
 abbrev pub puts : ℕ → ℕ → ℕ → ℕ → ℕ → List ℕ → Reply
@@ -44,7 +51,7 @@ puts at flags seq ack wnd text = plain at flags seq ack wnd text
 
 -- the SYN,ACK with the MSS: time, sequence number, acknowledgement number, window, window scale
 abbrev pub puts_syn : ℕ → ℕ → ℕ → ℕ → Option ℕ → Reply
-puts_syn at seq ack wnd scale = record (plain at 18 seq ack wnd []) { mss = Some 1460; scale = scale }
+puts_syn at seq ack wnd scale = record (plain at 18 seq ack wnd []) { options = record no_options { mss = Some 1460; scale = scale } }
 
 -- the handshake of most exchanges
 abbrev pub opened : List Entry
@@ -255,4 +262,40 @@ scale_over_fourteen = record {
   given = gets_syn 0 500 100 (Some 15) ∷ gets 1000 ack 101 501 1 [] ∷ gets 2000 (psh + ack) 101 501 1 (letters 20000) ∷ [];
   sent = puts_syn 0 500 101 65535 (Some 5) ∷ same_pieces 30 501 (puts 2000 (psh + ack) 16581 20101 32768 (letters 304) ∷ []);
   state = Established;
+}
+
+-- the line of RFC 867, with its end: 41 bytes
+abbrev pub line_end : List ℕ
+line_end = 13 ∷ 10 ∷ []
+
+abbrev pub day : List ℕ
+day = codes "Tuesday, February 22, 1982 17:37:43-PST" ++ line_end
+
+-- daytime closes first: its FIN stands behind the line, and the client's is acknowledged
+abbrev pub daytime_closes_first : Exchange
+daytime_closes_first = record {
+  given = opened ++ gets 2000 ack 101 543 4096 [] ∷ gets 3000 (fin + ack) 101 543 4096 [] ∷ [];
+  sent = greeted ∷ puts 1000 (psh + ack) 501 101 65535 day ∷ puts 1000 (fin + ack) 542 101 65535 [] ∷ puts 3000 ack 543 102 65535 [] ∷ [];
+  state = TimeWait;
+}
+
+-- a window of 10 holds the first 10 bytes; the FIN waits for the others
+abbrev pub daytime_small_window : Exchange
+daytime_small_window = record {
+  given = gets_syn 0 500 100 None ∷ gets 1000 ack 101 501 10 [] ∷ gets 2000 ack 101 511 4096 [] ∷ [];
+  sent =
+      greeted
+      ∷ puts 1000 (psh + ack) 501 101 65535 (codes "Tuesday, F")
+      ∷ puts 2000 (psh + ack) 511 101 65535 (codes "ebruary 22, 1982 17:37:43-PST" ++ line_end)
+      ∷ puts 2000 (fin + ack) 542 101 65535 []
+      ∷ [];
+  state = FinWait1;
+}
+
+-- what the client sends is thrown away, and where it closes first the line comes nevertheless
+abbrev pub daytime_behind_the_close : Exchange
+daytime_behind_the_close = record {
+  given = gets_syn 0 500 100 None ∷ gets 1000 (fin + (psh + ack)) 101 501 4096 (codes "hello") ∷ [];
+  sent = greeted ∷ puts 1000 (psh + ack) 501 107 65535 day ∷ puts 1000 (fin + ack) 542 107 65535 [] ∷ [];
+  state = LastAck;
 }

@@ -1,17 +1,19 @@
-//! Which service a port has, and what it does with what was received.
+//! Which service a port has.
 
-ghost use Rattle.std.specs.Prelude.{◌≡◌, ◌+◌, ◌≤◌, true, min, OnOk};
-ghost use Rattle.tcb_machine.specs.BlockState.{offered};
-ghost use Rattle.echo_services.specs.Pump.{service_of, service_word, moves, ends, echoes, pump};
-ghost use Rattle.byte_queues.specs.ReceiveQueue.{next_of, ready_of};
-ghost use Rattle.byte_queues.specs.SendQueue.{room_of};
-ghost use Rattle.sq_base.specs.Ports.{is_served_port};
-ghost use Rattle.tcb_machine.specs.Limits.{whole_space};
+ghost use Rattle.std.specs.Prelude.{◌≡◌, ◌+◌, ◌≤◌, true, OnOk};
 ghost use Rattle.byte_queues.specs.Limits.{send_space};
+ghost use Rattle.byte_queues.specs.ReceiveQueue.{next_of};
+ghost use Rattle.sq_base.specs.Ports.{is_served_port};
+ghost use Rattle.tcb_machine.specs.BlockState.{offered};
+ghost use Rattle.tcb_machine.specs.Limits.{whole_space};
+ghost use Rattle.echo_services.specs.Pump.{service_of, service_word, pump};
 
+use crate::discard::throw_away;
+use crate::echo::give_back;
+use crate::port_service::PortService;
 use sq_base::ECHO_PORT;
 use std::alloc::{AllocError, Global};
-use tcb_machine::{State, Tcb};
+use tcb_machine::Tcb;
 
 /// The services of RFC 862 and RFC 863.
 #[derive(Clone, Copy, Debug, PartialEq, Eq)]
@@ -57,53 +59,23 @@ pub fn pump(service: Service, tcb: &mut Tcb, _alloc: Global) -> Result<(), Alloc
     ensures next { OnOk result (next_of tcb.new.recv ≡ next_of tcb.old.recv) }
     ensures offered { OnOk result (offered tcb.new ≤ offered tcb.old + send_space) }
 {
-    move_text(service, tcb)?;
-    end(tcb);
-    Ok(())
-}
-
-/// What is ready is thrown away or comes back.
-#[tactic(auto, unfolding(byte_queues::specs::ReceiveQueue::without, byte_queues::specs::ReceiveQueue::ready_of, tcb_machine::specs::BlockState::offered))]
-fn move_text(service: Service, tcb: &mut Tcb) -> Result<(), AllocError>
-    ensures moved { OnOk result (tcb.new ≡ moves service tcb.old.fin_wanted tcb.old) }
-    ensures clock { OnOk result (tcb.new.clock ≡ tcb.old.clock) }
-    ensures taken { OnOk result (tcb.new.recv.taken ≤ tcb.old.recv.taken + whole_space) }
-    ensures next { OnOk result (next_of tcb.new.recv ≡ next_of tcb.old.recv) }
-    ensures offered { OnOk result (offered tcb.new ≤ offered tcb.old + send_space) }
-{
-    if tcb.fin_wanted() || matches!(service, Service::Discard) {
-        tcb.skip(tcb.ready());
-        return Ok(());
-    }
-    match tcb.state() {
-        State::Established | State::CloseWait => echo(tcb),
-        _ => Ok(()),
+    match service {
+        Service::Echo => give_back(tcb),
+        Service::Discard => {
+            throw_away(tcb);
+            Ok(())
+        }
     }
 }
 
-/// The next bytes are offered as they came.
-#[tactic(auto, using(crate::proofs::PumpLemmas::next_length, crate::proofs::PumpLemmas::echo_length), unfolding(byte_queues::specs::ReceiveQueue::without, byte_queues::specs::ReceiveQueue::ready_of, tcb_machine::specs::BlockState::offered))]
-fn echo(tcb: &mut Tcb) -> Result<(), AllocError>
-    ensures moved { OnOk result (tcb.new ≡ echoes (min (ready_of tcb.old.recv) (room_of tcb.old.out)) tcb.old) }
-    ensures clock { OnOk result (tcb.new.clock ≡ tcb.old.clock) }
-    ensures taken { OnOk result (tcb.new.recv.taken ≤ tcb.old.recv.taken + whole_space) }
-    ensures next { OnOk result (next_of tcb.new.recv ≡ next_of tcb.old.recv) }
-    ensures offered { OnOk result (offered tcb.new ≤ offered tcb.old + send_space) }
-{
-    let n = tcb.ready().min(tcb.room());
-    tcb.relay(n)
-}
+impl PortService for Service {
+    ghost use Rattle.echo_services.specs.Pump.{pump};
 
-/// Where the peer has closed and all came back, our FIN is wanted.
-#[tactic(auto, unfolding(tcb_machine::specs::BlockState::offered))]
-fn end(tcb: &mut Tcb)
-    ensures ended { tcb.new ≡ ends tcb.old }
-    ensures clock { tcb.new.clock ≡ tcb.old.clock }
-    ensures taken { tcb.new.recv.taken ≡ tcb.old.recv.taken }
-    ensures next { next_of tcb.new.recv ≡ next_of tcb.old.recv }
-    ensures offered { offered tcb.new ≡ offered tcb.old }
-{
-    if matches!(tcb.state(), State::CloseWait) && tcb.ready() == 0 && !tcb.fin_wanted() {
-        tcb.want_fin();
+    ghost pumps = { pump };
+
+    ghost after = { λ s _. s };
+
+    fn pump(&mut self, tcb: &mut Tcb, alloc: Global) -> Result<(), AllocError> {
+        pump(*self, tcb, alloc)
     }
 }

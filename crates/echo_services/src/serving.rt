@@ -4,14 +4,13 @@ ghost use Rattle.std.specs.Prelude.{◌≡◌, ◌+◌, ◌^◌, ◌≤◌, IfOk
 ghost use Rattle.byte_queues.specs.ReceiveQueue.{next_of};
 ghost use Rattle.tcb_machine.specs.BlockState.{offered};
 ghost use Rattle.tcb_machine.specs.CallAnswers.{tcp_call};
-ghost use Rattle.tcb_machine.specs.Room.{HasRoom};
-ghost use Rattle.tcb_machine.specs.TcpStep.{said};
-ghost use Rattle.tcb_machine.specs.Timers.{tcp_time};
-ghost use Rattle.echo_services.specs.Pump.{followed};
-ghost use Rattle.echo_services.specs.Serving.{asks, enters, segment};
 ghost use Rattle.tcb_machine.specs.Limits.{last_time, whole_space};
+ghost use Rattle.tcb_machine.specs.Room.{HasRoom};
+ghost use Rattle.tcb_machine.specs.TcpStep.{said, tcp_segment};
+ghost use Rattle.tcb_machine.specs.Timers.{tcp_time};
+ghost use Rattle.echo_services.specs.Serving.{asks, enters, followed, kept, segment};
 
-use crate::service::{Service, pump};
+use crate::port_service::PortService;
 use segment_codec::Seg;
 use std::alloc::{AllocError, Global};
 use tcb_machine::{Answer, Call, Next, Tcb};
@@ -25,12 +24,12 @@ use tcb_machine::{Answer, Call, Next, Tcb};
 /// ```
 /// if tcb.has_room() && tcb.clock() <= now && now <= LAST_TIME {
 ///     tick(tcb, alloc, now)?;
-///     serve(Service::of(seg.dst_port), tcb, alloc, now, iss, &seg, text)?;
+///     serve(&mut Service::of(seg.dst_port), tcb, alloc, now, iss, &seg, text)?;
 /// }
 /// datagrams(alloc, &tuple_of(&seg), &tcb.take_replies(alloc))
 /// ```
-pub fn serve(
-    service: Service,
+pub fn serve<S: PortService>(
+    service: &mut S,
     tcb: &mut Tcb,
     alloc: Global,
     now: u64,
@@ -41,7 +40,8 @@ pub fn serve(
     requires clock { tcb.old.clock ≤ now }
     requires time { now ≤ last_time }
     requires room { HasRoom tcb.old }
-    ensures step { OnOk result (tcb.new ≡ enters service (segment now iss seg.now text.now) tcb.old) }
+    ensures step { OnOk result (tcb.new ≡ enters (S.pumps service.old) (segment now iss seg.now text.now) tcb.old) }
+    ensures kept { OnOk result (service.new ≡ kept S.after service.old (tcp_segment now iss seg.now text.now tcb.old)) }
     ensures clock { OnOk result (tcb.new.clock ≡ now) }
     ensures next { OnOk result (next_of tcb.new.recv ≤ next_of tcb.old.recv + whole_space) }
     ensures offered { OnOk result (offered tcb.new ≤ offered tcb.old + 2 ^ 16) }
@@ -65,9 +65,15 @@ pub fn tick(tcb: &mut Tcb, alloc: Global, now: u64) -> Result<(), AllocError>
 
 /// A program's call, at the block's clock (RFC 9293, 3.10): pump and output follow a close that is done. After NoMemory nothing
 /// more is promised of the block, until it is reset.
-pub fn ask(service: Service, tcb: &mut Tcb, alloc: Global, call: Call) -> Result<Answer, AllocError>
+pub fn ask<S: PortService>(
+    service: &mut S,
+    tcb: &mut Tcb,
+    alloc: Global,
+    call: Call,
+) -> Result<Answer, AllocError>
     ensures answer { IfOk result (λ answer. answer ≡ (tcp_call call tcb.old).answer) }
-    ensures step { OnOk result (tcb.new ≡ enters service (asks call) tcb.old) }
+    ensures step { OnOk result (tcb.new ≡ enters (S.pumps service.old) (asks call) tcb.old) }
+    ensures kept { OnOk result (service.new ≡ kept S.after service.old (tcp_call call tcb.old).verdict) }
     ensures clock { OnOk result (tcb.new.clock ≡ tcb.old.clock) }
     ensures next { OnOk result (next_of tcb.new.recv ≤ next_of tcb.old.recv) }
     ensures offered { OnOk result (offered tcb.new ≤ offered tcb.old + 2 ^ 16) }
@@ -78,8 +84,14 @@ pub fn ask(service: Service, tcb: &mut Tcb, alloc: Global, call: Call) -> Result
 }
 
 /// Pump and output, where they follow.
-fn follow(service: Service, tcb: &mut Tcb, alloc: Global, next: Next) -> Result<(), AllocError>
-    ensures step { OnOk result (tcb.new ≡ followed service (said next tcb.old)) }
+fn follow<S: PortService>(
+    service: &mut S,
+    tcb: &mut Tcb,
+    alloc: Global,
+    next: Next,
+) -> Result<(), AllocError>
+    ensures step { OnOk result (tcb.new ≡ followed (S.pumps service.old) (said next tcb.old)) }
+    ensures kept { OnOk result (service.new ≡ kept S.after service.old (said next tcb.old)) }
     ensures clock { OnOk result (tcb.new.clock ≡ tcb.old.clock) }
     ensures next { OnOk result (next_of tcb.new.recv ≡ next_of tcb.old.recv) }
     ensures offered { OnOk result (offered tcb.new ≤ offered tcb.old + 2 ^ 16) }
@@ -87,7 +99,7 @@ fn follow(service: Service, tcb: &mut Tcb, alloc: Global, next: Next) -> Result<
     match next {
         Next::Over => Ok(()),
         Next::Go => {
-            pump(service, tcb, alloc)?;
+            service.pump(tcb, alloc)?;
             tcb.output(alloc)
         }
     }

@@ -1,10 +1,11 @@
-//! Worked exchanges, computed on the definitions: what one connection is given, what the echo service sends, and the state then.
+//! Worked exchanges, computed on the definitions: what one connection is given, what the service sends, and the state then.
 //! Each is a function that does nothing, whose contract is the exchange.
 
 ghost use Rattle.std.specs.List.{AllByRecursion};
+ghost use Rattle.echo_services.specs.Daytime.{daytime};
 ghost use Rattle.echo_services.specs.Exchanges.{IsAnswered, exchanges as all_exchanges};
 ghost use Rattle.echo_services.specs.Worked as row;
-ghost use Rattle.echo_services.specs.Worked.{IsEchoed};
+ghost use Rattle.echo_services.specs.Worked.{IsEchoed, IsServed};
 
 /// One echo from handshake to close, in five segments.
 pub fn five_segment_echo()
@@ -89,4 +90,19 @@ pub fn scale_over_fourteen()
 /// All further exchanges: each state, each check of a segment, each deadline, and discard.
 pub fn exchanges()
     ensures { AllByRecursion IsAnswered all_exchanges }
+{}
+
+/// Daytime sends its line and closes first (RFC 867).
+pub fn daytime_closes_first()
+    ensures { IsServed (daytime row.day) row.daytime_closes_first }
+{}
+
+/// A line that waits for the window, and our FIN behind it.
+pub fn daytime_small_window()
+    ensures { IsServed (daytime row.day) row.daytime_small_window }
+{}
+
+/// The line comes too where the client closes first.
+pub fn daytime_behind_the_close()
+    ensures { IsServed (daytime row.day) row.daytime_behind_the_close }
 {}

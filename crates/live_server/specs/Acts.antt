@@ -3,6 +3,7 @@ use Rattle.std.specs.Prelude.{ℕ, ◌+◌, ◌-◌, ◌%◌, ◌^◌, ◌==◌,
 use Rattle.sq_base.specs.SerialOrder.{dist}
 use Rattle.byte_queues.specs.Limits.{send_space}
 use Rattle.byte_queues.specs.ReceiveQueue.{next_of}
+use Rattle.echo_services.specs.Pump.{pump}
 use Rattle.echo_services.specs.Serving.{serves, segment}
 use Rattle.echo_services.specs.declared.service.Service.{Service}
 use Rattle.segment_codec.specs.ControlBits.{ack, rst, syn}
@@ -82,7 +83,7 @@ resent again b = if again && (not (is_listen b.state) && not (b.una == snd_nxt b
 unfoldable pub taken : Service → ℕ → ℕ → Seg → List ℕ → Conn → Conn
 taken service now iss s text c =
     let x = eased s text c.tcb c.congestion in
-    let b = serves service (segment now iss (seen s c.tcb x) text ∷ []) c.tcb in
+    let b = serves (pump service) (segment now iss (seen s c.tcb x) text ∷ []) c.tcb in
     record c { tcb = resent (calls_again s text c.tcb c.congestion) (renewed c.tcb.una b); congestion = x; heard = now }
 
 -- the block takes it, or a challenge is sent in its place, or nothing happens

@@ -23,11 +23,11 @@ abbrev pub flight : Block → ℕ
 flight b = dist b.una (snd_nxt b)
 
 abbrev pub segments : Block → ℕ
-segments b = (flight b - 1) / b.mss + 1
+segments b = (flight b - 1) / b.agreed.mss + 1
 
 -- ssthresh after a loss (RFC 5681, 3.1, (4))
 abbrev pub halved : Block → ℕ
-halved b = max (flight b / 2) (2 * b.mss)
+halved b = max (flight b / 2) (2 * b.agreed.mss)
 
 -- how many duplicate acknowledgements tell a loss: two thirds of those that the flight can cause, so that reordered segments aren't
 -- taken for lost (RFC 4653), and one less than all where the flight is short (RFC 5827)
@@ -40,7 +40,7 @@ bounded n = min most_window n
 -- n new bytes are acknowledged: slow start below ssthresh, else congestion avoidance (3.1, (2) and (3))
 unfoldable pub grown : ℕ → Block → Congestion → Congestion
 grown n b x = record x {
-  window = bounded (x.window + (if nat_lt x.window x.threshold then min n b.mss else max 1 (b.mss * b.mss / max 1 x.window)));
+  window = bounded (x.window + (if nat_lt x.window x.threshold then min n b.agreed.mss else max 1 (b.agreed.mss * b.agreed.mss / max 1 x.window)));
   duplicates = 0;
 }
 
@@ -51,18 +51,18 @@ reaches n x = nat_lt (dist x.recover n) (2 ^ 31)
 unfoldable pub recovers : ℕ → Seg → Block → Congestion → Congestion
 recovers n s b x =
     if reaches s.ack x then record x { window = x.threshold; duplicates = 0; recovering = false }
-    else record x { window = max (2 * b.mss) (bounded ((x.window - n) + b.mss)) }
+    else record x { window = max (2 * b.agreed.mss) (bounded ((x.window - n) + b.agreed.mss)) }
 
 -- one duplicate more: fast recovery begins with the last one that is waited for (RFC 5681, 3.2, 2 to 4)
 unfoldable pub repeated : Block → Congestion → Congestion
 repeated b x =
-    if x.recovering then record x { window = bounded (x.window + b.mss) }
+    if x.recovering then record x { window = bounded (x.window + b.agreed.mss) }
     else if nat_lt (x.duplicates + 1) (tolerance b) then record x { duplicates = x.duplicates + 1 }
-    else record x { window = bounded (halved b + 3 * b.mss); threshold = halved b; duplicates = 0; recovering = true; recover = snd_nxt b }
+    else record x { window = bounded (halved b + 3 * b.agreed.mss); threshold = halved b; duplicates = 0; recovering = true; recover = snd_nxt b }
 
 -- the retransmission timer fired: one segment, and recovery of all that was sent (RFC 5681, 3.1; RFC 6582, 4)
 unfoldable pub timed_out : Block → Congestion → Congestion
-timed_out b x = record x { window = b.mss; threshold = halved b; duplicates = 0; recovering = true; recover = snd_nxt b }
+timed_out b x = record x { window = b.agreed.mss; threshold = halved b; duplicates = 0; recovering = true; recover = snd_nxt b }
 
 -- behind the handshake: new bytes are acknowledged, or none, and the segment says nothing else (RFC 5681, 2)
 abbrev pub is_open : Block → Bool
@@ -92,7 +92,7 @@ calls_again s text b x =
 
 -- the window field as the block is to see it: no more than cwnd, and never closed where it isn't
 unfoldable pub seen_window : Seg → Block → Congestion → ℕ
-seen_window s b x = if has s.flags syn || (s.wnd == 0) then s.wnd else max 1 (min s.wnd (x.window / 2 ^ b.snd_shift))
+seen_window s b x = if has s.flags syn || (s.wnd == 0) then s.wnd else max 1 (min s.wnd (x.window / 2 ^ b.agreed.snd_shift))
 
 abbrev pub seen : Seg → Block → Congestion → Seg
 seen s b x = record s { wnd = seen_window s b x }

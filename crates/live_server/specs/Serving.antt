@@ -156,7 +156,7 @@ passes_over sv = sends_nothing (record sv { counts = record sv.counts { passed_o
 
 -- the text that is sent to a peer is no longer than the path takes (RFC 9293, 3.7.1)
 abbrev pub limited : ℕ → Seg → Seg
-limited most s = record s { mss = Some (min most (unwrap_or s.mss default_mss)) }
+limited most s = record s { options = record s.options { mss = Some (min most (unwrap_or s.options.mss default_mss)) } }
 
 -- a segment: for us, and to a service, or elsewhere
 unfoldable pub addressed : ℕ → Seg → List ℕ → ServerOf → Outcome

@@ -242,7 +242,7 @@ fn tolerance(tcb: &Tcb) -> u64
 
 /// The square of the most text of a segment.
 fn square(tcb: &Tcb) -> u32
-    ensures { result ≡ tcb.now.mss * tcb.now.mss }
+    ensures { result ≡ tcb.now.agreed.mss * tcb.now.agreed.mss }
 {
     let mss = u32::from(tcb.mss());
     mss * mss

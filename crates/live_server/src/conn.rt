@@ -126,7 +126,7 @@ impl Conn {
     fn serve(
         &mut self,
         alloc: Global,
-        service: Service,
+        mut service: Service,
         now: u64,
         iss: u32,
         seg: &Seg,
@@ -141,7 +141,7 @@ impl Conn {
         self.congestion.ease(&self.tcb, seg, text);
         let seen = self.congestion.seen(&self.tcb, seg);
         let una = self.tcb.snd_una();
-        serve(service, &mut self.tcb, alloc, now, iss, &seen, text)?;
+        serve(&mut service, &mut self.tcb, alloc, now, iss, &seen, text)?;
         renew(&mut self.tcb, una);
         resend(&mut self.tcb, alloc, again)?;
         self.heard = now;

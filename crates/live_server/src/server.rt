@@ -24,14 +24,12 @@ use crate::table::{
 };
 use echo_services::Service;
 use indexmap::IndexMap;
-use segment_codec::{Packet, SYN, Seg, decode, refusal, tuple_of};
+use segment_codec::{Options, Packet, SYN, Seg, decode, refusal, tuple_of};
 use sq_base::{Link, Tuple, is_served};
 use std::alloc::{AllocError, Global};
 use std::collections::VecDeque;
 use std::marker::Model;
-
-/// How long a text a peer takes that doesn't say (RFC 9293, 3.7.1).
-const DEFAULT_MSS: u16 = 536;
+use tcb_machine::DEFAULT_MSS;
 
 /// The server's state: a bounded table of connections.
 ///
@@ -408,8 +406,12 @@ fn number_for(secret: &Secret, now: u64, seg: &Seg, tuple: &Tuple) -> u32
 fn limited(seg: &Seg, most: u16) -> Seg
     ensures { result ≡ limited most seg.now }
 {
+    let mss = seg.options.mss.unwrap_or(DEFAULT_MSS).min(most);
     Seg {
-        mss: Some(seg.mss.unwrap_or(DEFAULT_MSS).min(most)),
+        options: Options {
+            mss: Some(mss),
+            ..seg.options
+        },
         ..*seg
     }
 }

@@ -1,7 +1,7 @@
 //! The pattern.
 
 ghost use Rattle.std.specs.Prelude.{◌≡◌, length, IfOk};
-ghost use Rattle.chargen_service.specs.Chargen.{pattern, pattern_from};
+ghost use Rattle.echo_services.specs.Chargen.{pattern, pattern_from};
 
 use std::alloc::{AllocError, Global};
 

@@ -1,7 +1,7 @@
 -- The pattern's lists: their length, and how they join.
 use Rattle.std.proofs.Common.{◌≡◌, ℕ, ◌+◌, List, [], ◌∷◌, ◌++◌, length, refl, sym, ap, ◌∙◌, arith, length-append}
 use Rattle.std.specs.Prelude.{suc, zero}
-use Rattle.chargen_service.specs.Chargen.{pattern, pattern_from}
+use Rattle.echo_services.specs.Chargen.{pattern, pattern_from}
 
 pub pattern_length : (i n : ℕ) → length (pattern_from i n) ≡ n
 pattern_length i zero = refl

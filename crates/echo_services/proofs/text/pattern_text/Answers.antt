@@ -1,7 +1,7 @@
 use Rattle.std.proofs.Common.{ap, ◌∙◌, arith}
-use Rattle.chargen_service.specs.Chargen.{pattern}
-use Rattle.chargen_service.proofs.PatternLemmas.{pattern_goes_on}
-use Rattle.chargen_service.proofs.text.pattern_text.Goals as goal
+use Rattle.echo_services.specs.Chargen.{pattern}
+use Rattle.echo_services.proofs.PatternLemmas.{pattern_goes_on}
+use Rattle.echo_services.proofs.text.pattern_text.Goals as goal
 
 pub loop-i-preserved : goal.loop-i-preserved
 loop-i-preserved c =

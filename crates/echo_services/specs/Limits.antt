@@ -1,4 +1,4 @@
--- The most bytes that are offered in a block's life.
+-- The most bytes that the character generator offers in its life.
 use Rattle.std.specs.Prelude.{ℕ}
 
 abbrev pub most_given : ℕ
