@@ -2,7 +2,7 @@
 use Rattle.std.proofs.Common.{◌≡◌, ℕ, Bool, List, [], ◌∷◌, ◌++◌, codes, if◌then◌else◌, ap, ◌∙◌, append_assoc}
 use Rattle.std.specs.Fmt.{decimal}
 use Rattle.sq_base.specs.declared.kinds.Tuple.{Tuple}
-use Rattle.squeue_report.specs.ReportText.{end_field}
+use Rattle.report_lines.specs.ReportText.{end_field}
 use Rattle.stream_plan.specs.declared.kinds.Counts.{Counts}
 use Rattle.datagram_services.specs.MoreText.{counts_line, protocol_word, service_word, stream_line}
 

@@ -6,7 +6,7 @@ use Rattle.sq_base.specs.declared.kinds.Status.TheVariants as status
 use Rattle.pcapng_reader.specs.Input.{IsInput}
 use Rattle.capture_reader.specs.Outcome.{CaptureFile}
 use Rattle.ring_quotas.specs.declared.setup.Setup.{Setup}
-use Rattle.squeue_enter.specs.declared.Mode.TheVariants as mode
+use Rattle.histories.specs.declared.mode.Mode.TheVariants as mode
 use Rattle.squeue_run.specs.Asked.{Asked}
 use Rattle.squeue_run.specs.Ran.{Accepts, IsDone}
 use Rattle.squeue_run.proofs.Complete.{is_done}

@@ -13,7 +13,7 @@ use Rattle.datagram_services.specs.declared.refusal.Refusal.{Refusal}
 use Rattle.datagram_services.specs.declared.refusal.Refusal.TheVariants as refusal
 use Rattle.squeue_run.specs.Lines.{bad_line, memory_line, pcapng_line}
 use Rattle.squeue_run.proofs.Runs.{no_memory_told}
-use Rattle.squeue_report.specs.Telling.{TellsLine}
+use Rattle.report_lines.specs.Telling.{TellsLine}
 use Rattle.datagram_services.specs.RefusalLines.{sqmore}
 use Rattle.datagram_services.specs.MoreRan.{HasMoreRan, MoreRead, MoreRefused}
 use Rattle.datagram_services.specs.MoreCauses.{CountsFaults, LineOrMemory, MoreFails, MoreTold, ReadingFails, RefusedWords}

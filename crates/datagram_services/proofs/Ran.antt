@@ -1,5 +1,5 @@
 -- What a run over the streams of a plan leaves: histories that fit, and the block of each stream with all its items served.
-use Rattle.std.proofs.Common.{◌≡◌, ℕ, ◌%◌, ◌<◌, ◌≤◌, ◌==◌, true, false, zero, suc, Some, List, [], ◌∷◌, length, map, slice_get, slice_index, slice_index_or, refl, ap, sym, ◌∙◌, subst, arith, inl, inr}
+use Rattle.std.proofs.Common.{◌≡◌, ℕ, ◌+◌, ◌%◌, ◌<◌, ◌≤◌, ◌==◌, true, false, zero, suc, Some, List, [], ◌∷◌, length, map, slice_get, slice_index, slice_index_or, refl, ap, sym, ◌∙◌, subst, arith, inl, inr}
 use Rattle.std.specs.List.{range_with_len}
 use Rattle.std.proofs.lemmas.Bool.{cases_eq}
 use Rattle.std.proofs.lemmas.List.{length-map}
@@ -7,16 +7,17 @@ use Rattle.std.proofs.lemmas.Option.{slice_get_within}
 use Rattle.std.proofs.Math.Nat.{mod-lt}
 use Rattle.perimeter_core.specs.declared.entries.Feed.{Feed}
 use Rattle.perimeter_core.specs.Deeds.{acts, fed}
-use Rattle.squeue_state.specs.Naming.{Ending}
-use Rattle.squeue_serve.proofs.Lent.{some_at}
-use Rattle.squeue_rings.specs.Keeping.{KeepsPace}
-use Rattle.squeue_rings.specs.Runs.{brought, place}
-use Rattle.squeue_rings.proofs.Slots.{got_map}
-use Rattle.ring_jobs.proofs.Works.{got_or}
+use Rattle.histories.specs.Endings.{Ending}
+use Rattle.histories.proofs.ListPlaces.{some_at}
+use Rattle.histories.specs.Keeping.{KeepsPace}
+use Rattle.histories.specs.Runs.{brought, place}
+use Rattle.histories.proofs.ListPlaces.{got_map}
 use Rattle.squeue_pool.specs.declared.pool.Pool.{Pool}
 use Rattle.squeue_pool.specs.declared.work.Left.{Left}
+use Rattle.squeue_pool.specs.Keys.{key_lists, quotas_at}
 use Rattle.squeue_pool.specs.Runs.{IsHereOnce, IsLeft, ends_of, list_for}
 use Rattle.squeue_pool.specs.Works.{WorkOf}
+use Rattle.squeue_pool.proofs.Made.{number_at}
 use Rattle.squeue_ends.specs.Finishing.{FinishedOf, HasFinished, LayIn}
 use Rattle.ring_quotas.specs.declared.setup.Setup.{Setup}
 use Rattle.feed_lists.specs.Lists.{list_of}
@@ -28,12 +29,10 @@ use Rattle.stream_blocks.specs.declared.blocks.StreamBlocks.{StreamBlocks}
 use Rattle.stream_blocks.specs.Served.{all_served, served}
 use Rattle.stream_blocks.specs.Standing.{HasServed, IsPartOf, served_of}
 use Rattle.stream_blocks.proofs.Placing.{had_is}
-use Rattle.datagram_services.specs.Fits.{Fits, HistoryFits, quotas_at, setting_at}
-use Rattle.datagram_services.specs.Lists.{counts_of, lists_of}
+use Rattle.datagram_services.specs.Fits.{Fits, HistoryFits, counts_of, setting_at}
 use Rattle.datagram_services.specs.Lying.{AreThere, HandsOut}
 use Rattle.datagram_services.specs.Served.{HasMoreServed, IsMoreServed, MoreServedOf}
 use Rattle.datagram_services.specs.Work.{IsFirst, IsWorkFor}
-use Rattle.datagram_services.proofs.Ranged.{numbered_there, same_list}
 use Rattle.datagram_services.proofs.Suits.{its_limits}
 
 count_of : (ss : List StreamOf) (c : ℕ) (s : StreamOf) → slice_get ss c ≡ Some s → slice_index (map item_count ss) c ≡ item_count s
@@ -45,6 +44,16 @@ count_of (x ∷ ss) (suc c) s e = count_of ss c s e
 whole_served : (p : MorePlanOf) (c : ℕ) (s : StreamOf) (k : StreamBlock) → slice_get p.streams c ≡ Some s → IsPartOf p c k → k.had ≡ item_count s → k.short ≡ false → served_of k ≡ all_served p.file s
 whole_served p c s k stream part had whole = let h : HasServed p.file s k = part s stream whole in h.same ∙ ap (served p.file s) had
 
+-- lists that agree by number
+same_list : {A : Type 0} (xs ys : List A) → length xs ≡ length ys → ((k : ℕ) (y : A) → slice_get ys k ≡ Some y → slice_get xs k ≡ Some y) → xs ≡ ys
+same_list [] [] n h = refl
+same_list [] (y ∷ ys) n h = absurd (omega (arith, n))
+same_list (x ∷ xs) [] n h = absurd (omega (arith, n))
+same_list (x ∷ xs) (y ∷ ys) n h =
+    let first : x ≡ y = (let e : Some x ≡ Some y = h 0 y refl in cc e) in
+    let rest : xs ≡ ys = same_list xs ys (omega (arith, n)) (λ k z is. h (suc k) z is) in
+    (λ i. first i ∷ rest i)
+
 differ : true ≡ false → ⊥
 differ e = cc e
 
@@ -54,6 +63,12 @@ module _ (p : MorePlanOf) (pool : Pool) (w : WorkOf StreamBlocks) (work : IsWork
 
   abbrev rings : ℕ
   rings = pool.rings
+
+  abbrev lists : List (List Feed)
+  lists = key_lists rings (counts_of p)
+
+  conns_are : w.conns ≡ length p.streams
+  conns_are = ap (λ (w : WorkOf StreamBlocks). w.conns) work.by_key ∙ length-map p.streams item_count
 
   abbrev vs : List (Left StreamBlocks)
   vs = done.left
@@ -88,21 +103,23 @@ module _ (p : MorePlanOf) (pool : Pool) (w : WorkOf StreamBlocks) (work : IsWork
   its_setting q v at =
       let o = of q v at in
       let first = Of.is_first o in
-      let quotas : slice_index_or w.quotas q [] ≡ quotas_at p squeues rings q =
-      ap (λ (l : List (List (ℕ × ℕ))). slice_index_or l q []) work.quotas
-      ∙ got_or (map (quotas_at p squeues rings) (range_with_len 0 squeues)) q (quotas_at p squeues rings q) [] (numbered_there (quotas_at p squeues rings) squeues q (omega (arith, slice_get_within vs q v at, done.ran.count))) in
+      let z : 0 + q ≡ q = omega arith in
+      let quotas : slice_index_or w.quotas q [] ≡ quotas_at squeues lists q =
+      ap (λ (w : WorkOf StreamBlocks). slice_index_or w.quotas q []) work.by_key
+      ∙ (number_at (quotas_at squeues lists) 0 squeues q [] (omega (arith, slice_get_within vs q v at, done.ran.count)) ∙ ap (quotas_at squeues lists) z) in
       let limits = its_limits p squeues q (Of.first o) first in
       (Of.left o).setting ∙ (λ i. record { rings = rings; quotas = quotas i; starts = map (λ c. c % squeues == q) (range_with_len 0 (first.size i)); limits = limits i })
 
   -- the feeds of a stream in its ring's list
   module _ (c : ℕ) (s : StreamOf) (stream : slice_get p.streams c ≡ Some s) where
     known : c < w.conns
-    known = omega (arith, slice_get_within p.streams c s stream, work.conns)
+    known = omega (arith, slice_get_within p.streams c s stream, conns_are)
 
     list_is : list_for w.lists rings c ≡ list_of rings (c % rings) 0 (counts_of p)
     list_is =
-        ap (λ (l : List (List Feed)). slice_index_or l (c % rings) []) work.lists
-        ∙ got_or (lists_of p rings) (c % rings) (list_of rings (c % rings) 0 (counts_of p)) [] (numbered_there (λ r. list_of rings r 0 (counts_of p)) rings (c % rings) (mod-lt c rings_are))
+        let z : 0 + c % rings ≡ c % rings = omega arith in
+        ap (λ (w : WorkOf StreamBlocks). slice_index_or w.lists (c % rings) []) work.by_key
+        ∙ (number_at (λ r. list_of rings r 0 (counts_of p)) 0 rings (c % rings) [] (mod-lt c rings_are) ∙ ap (λ (k : ℕ). list_of rings k 0 (counts_of p)) z)
 
     all_brought : brought c (list_for w.lists rings c) ≡ item_count s
     all_brought = ap (brought c) list_is ∙ (has_all rings c (counts_of p) (c % rings) refl ∙ count_of p.streams c s stream)
@@ -186,7 +203,7 @@ module _ (p : MorePlanOf) (pool : Pool) (w : WorkOf StreamBlocks) (work : IsWork
       all_streams : IsMoreServed p v.streams
       all_streams =
           let n = length-map p.streams (all_served p.file) in
-          same_list v.streams (map (all_served p.file) p.streams) (omega (arith, held.count, done.count, work.conns, n))
+          same_list v.streams (map (all_served p.file) p.streams) (omega (arith, held.count, done.count, conns_are, n))
           (λ c y is.
           let lt : c < length p.streams = (let m = slice_get_within (map (all_served p.file) p.streams) c y is in omega (arith, m, n)) in
           let s = some_at p.streams c lt in

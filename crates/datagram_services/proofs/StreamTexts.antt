@@ -6,7 +6,7 @@ use Rattle.std.proofs.lemmas.List.{drop_all, length-map}
 use Rattle.std.proofs.lemmas.Option.{slice_get-map}
 use Rattle.sq_base.specs.declared.kinds.Tuple.{Tuple}
 use Rattle.chargen_service.specs.Chargen.{Generating}
-use Rattle.squeue_report.specs.ReportText.{done_line, end_line, line, reply_line}
+use Rattle.report_lines.specs.ReportText.{done_line, end_line, line, reply_line}
 use Rattle.stream_plan.specs.Streams.{MorePlanOf, StreamOf, item_count}
 use Rattle.stream_blocks.specs.declared.answer.Answer.{Answer}
 use Rattle.stream_blocks.specs.Served.{ServedOf, all_served}

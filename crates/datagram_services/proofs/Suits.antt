@@ -5,7 +5,7 @@ use Rattle.std.proofs.lemmas.List.Sums.{sum-map}
 use Rattle.perimeter_core.specs.History.{Limits}
 use Rattle.placed_parts.specs.Standing.{first_here}
 use Rattle.squeue_pool.specs.declared.pool.Pool.{Pool}
-use Rattle.squeue_pool.specs.Keys.{HaveKeys, key_work}
+use Rattle.squeue_pool.specs.Keys.{HaveKeys}
 use Rattle.squeue_pool.specs.Works.{Suits, WorkOf}
 use Rattle.squeue_pool.proofs.ByKey.{keys_suit}
 use Rattle.stream_plan.specs.Sound.{IsMorePlan}
@@ -13,7 +13,7 @@ use Rattle.stream_plan.specs.Streams.{MorePlanOf, item_count}
 use Rattle.stream_blocks.specs.contracts.blocks.StreamBlocksResident.TheImpl.{ghosts}
 use Rattle.stream_blocks.specs.declared.blocks.StreamBlocks.{StreamBlocks}
 use Rattle.stream_blocks.specs.Standing.{Stands, limits_of}
-use Rattle.datagram_services.specs.Lists.{counts_of}
+use Rattle.datagram_services.specs.Fits.{counts_of}
 use Rattle.datagram_services.specs.Work.{IsFirst, IsWorkFor}
 
 -- the limits of a squeue's first resident
@@ -40,11 +40,8 @@ module _ (p : MorePlanOf) (sound : IsMorePlan p) (pool : Pool) (w : WorkOf Strea
         same_origin = λ i j x y a b. (work.first i x a).origin ∙ sym (work.first j y b).origin;
       }
 
-  by_key : w ≡ key_work squeues pool.rings (counts_of p) w.residents
-  by_key = λ i. record { conns = (work.conns ∙ sym counted) i; residents = w.residents; quotas = work.quotas i; lists = work.lists i; calls = work.calls i }
-
   pub suits : Suits ghosts pool w
-  suits = subst (Suits ghosts pool) (sym by_key) (keys_suit ghosts pool (counts_of p) w.residents some_rings still few have)
+  suits = subst (Suits ghosts pool) (sym work.by_key) (keys_suit ghosts pool (counts_of p) w.residents some_rings still few have)
 
 -- the same work by the pool
 pub by_pool : (p : MorePlanOf) (pool : Pool) (n r : ℕ) (w : WorkOf StreamBlocks) → pool.pace.homes.squeues ≡ n → pool.rings ≡ r → IsWorkFor p n r w → IsWorkFor p pool.pace.homes.squeues pool.rings w

@@ -1,4 +1,3 @@
-pub mod Lists
 pub mod Fits
 pub mod Served
 pub mod Work

@@ -15,7 +15,7 @@ use Rattle.datagram_services.specs.declared.refusal.Refusal.{Refusal}
 use Rattle.datagram_services.specs.declared.refusal.Refusal.TheVariants as refusal
 use Rattle.datagram_services.specs.MoreText.{more_text}
 use Rattle.squeue_run.specs.Lines.{bad_line, many_bytes_line, many_records_line, memory_line, pcapng_line, read_line}
-use Rattle.squeue_report.specs.Telling.{TellsLine}
+use Rattle.report_lines.specs.Telling.{TellsLine}
 use Rattle.datagram_services.specs.RefusalLines.{sqmore, usage_line}
 
 -- the line and the status of a refusal; where memory for the line is missing, that is the refusal

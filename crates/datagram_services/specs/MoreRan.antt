@@ -15,7 +15,7 @@ use Rattle.squeue_run.specs.Input.{ReadsSuch}
 use Rattle.squeue_run.specs.Ran.{HasRead, IsBad, IsBadPcapng, Reads}
 use Rattle.datagram_services.specs.MoreText.{more_text}
 use Rattle.squeue_run.specs.Lines.{bad_line, many_bytes_line, many_records_line, memory_line, pcapng_line, read_line, write_line}
-use Rattle.squeue_report.specs.Telling.{OnlyTells, TellsLine}
+use Rattle.report_lines.specs.Telling.{OnlyTells, TellsLine}
 use Rattle.datagram_services.specs.RefusalLines.{sqmore, usage_line}
 
 -- the report was written whole, and no write failed

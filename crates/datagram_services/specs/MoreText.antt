@@ -5,7 +5,7 @@ use Rattle.std.specs.Fmt.{decimal}
 use Rattle.sq_base.specs.Ports.{chargen_port, echo_port}
 use Rattle.sq_base.specs.declared.kinds.Tuple.{Tuple}
 use Rattle.capture_reader.specs.Outcome.{CaptureFile}
-use Rattle.squeue_report.specs.ReportText.{datagram_line, done_line, end_field, end_line, line, reply_line}
+use Rattle.report_lines.specs.ReportText.{datagram_line, done_line, end_field, end_line, line, reply_line}
 use Rattle.stream_plan.specs.declared.kinds.Counts.{Counts}
 use Rattle.stream_plan.specs.Streams.{MorePlanOf, StreamOf, item_count, more_plan_of}
 use Rattle.stream_blocks.specs.declared.answer.Answer.{Answer}

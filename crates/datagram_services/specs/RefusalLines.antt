@@ -1,6 +1,6 @@
 -- What the program calls itself, and how it is used: its other lines are those of `squeue_run` under this name.
 use Rattle.std.specs.Prelude.{ℕ, List, ◌++◌, codes}
-use Rattle.squeue_enter.specs.Ways.{mode_words}
+use Rattle.histories.specs.ModeWords.{mode_words}
 use Rattle.squeue_run.specs.Lines.{line}
 
 abbrev pub sqmore : List ℕ

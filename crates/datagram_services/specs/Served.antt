@@ -1,6 +1,6 @@
 -- What was served of a plan.
 use Rattle.std.specs.Prelude.{◌≡◌, List, map}
-use Rattle.squeue_state.specs.Naming.{Ending}
+use Rattle.histories.specs.Endings.{Ending}
 use Rattle.ring_quotas.specs.declared.setup.Setup.{Setup}
 use Rattle.stream_plan.specs.Streams.{MorePlanOf}
 use Rattle.stream_blocks.specs.Served.{ServedOf, all_served}

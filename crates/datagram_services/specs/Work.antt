@@ -1,13 +1,12 @@
 -- What the streams of a plan are as work for squeues and rings.
-use Rattle.std.specs.Prelude.{◌≡◌, ℕ, Some, [], length, map, slice_get}
-use Rattle.std.specs.List.{range_with_len}
+use Rattle.std.specs.Prelude.{◌≡◌, ℕ, Some, [], length, slice_get}
 use Rattle.placed_parts.specs.Standing.{first_here}
+use Rattle.squeue_pool.specs.Keys.{key_work}
 use Rattle.squeue_pool.specs.Works.{WorkOf}
 use Rattle.stream_plan.specs.Streams.{MorePlanOf}
 use Rattle.stream_blocks.specs.declared.blocks.StreamBlocks.{StreamBlocks}
 use Rattle.stream_blocks.specs.Standing.{Stands, calls_of, origin_of, size_of}
-use Rattle.datagram_services.specs.Fits.{quotas_at}
-use Rattle.datagram_services.specs.Lists.{lists_of}
+use Rattle.datagram_services.specs.Fits.{counts_of}
 
 -- the first resident of squeue q: the streams are here whose number leaves q, divided by the squeues
 pub record IsFirst (p : MorePlanOf) (squeues q : ℕ) (r : StreamBlocks) : Type 0 where
@@ -16,11 +15,8 @@ pub record IsFirst (p : MorePlanOf) (squeues q : ℕ) (r : StreamBlocks) : Type 
   pub calls : calls_of r ≡ []
   pub stands : Stands r (first_here (length p.streams) q squeues)
 
--- such a resident for each squeue, the quotas and the lists of the plan, and no calls
+-- such a resident for each squeue, and the items of the streams by key
 pub record IsWorkFor (p : MorePlanOf) (squeues rings : ℕ) (w : WorkOf StreamBlocks) : Type 0 where
-  pub conns : w.conns ≡ length p.streams
   pub count : length w.residents ≡ squeues
   pub first : (q : ℕ) (r : StreamBlocks) → slice_get w.residents q ≡ Some r → IsFirst p squeues q r
-  pub quotas : w.quotas ≡ map (quotas_at p squeues rings) (range_with_len 0 squeues)
-  pub lists : w.lists ≡ lists_of p rings
-  pub calls : w.calls ≡ []
+  pub by_key : w ≡ key_work squeues rings (counts_of p) w.residents

@@ -1,16 +1,14 @@
 //! Who serves the streams of a plan: threads over squeues, as the connections of another program are served.
 //!
-//! `serving` serves them by one call of `squeue_ends`. `work` says what its threads have to do: `lists` what comes in by each ring,
-//! `quotas` how much each pass may enter. `served` is what is handed out. There are no calls and no moves: a stream stays at its
-//! squeue, and one ring brings all its items.
+//! `serving` serves them by one call of `squeue_ends`. `work` says what its threads have to do: work by key, the
+//! items of each stream as its feeds. `served` is what is handed out. There are no calls and no moves: a stream stays at its squeue, and
+//! one ring brings all its items.
 //!
 //! `reporting` writes what was served, `words` reads the command line, `refusal` has what is written where there is no report, `run` is
 //! the top call, and `process` alone touches the process' own ends.
 #![tactic(auto)]
 
-mod lists;
 mod process;
-mod quotas;
 mod refusal;
 mod reporting;
 mod run;

@@ -2,7 +2,7 @@
 
 ghost use Rattle.std.specs.Prelude.{[], ◌≡◌, ◌<◌, ◌∷◌, ◌++◌, codes, decimal, IfOk, IfSome, OnOk, if◌then◌else◌, length, slice_get};
 ghost use Rattle.std.specs.List.{flat_map};
-ghost use Rattle.squeue_report.specs.ReportText.{end_line, reply_line};
+ghost use Rattle.report_lines.specs.ReportText.{end_line, reply_line};
 ghost use Rattle.stream_blocks.specs.Served.{all_served};
 ghost use Rattle.datagram_services.specs.MoreText.{answer_line, counts_line, is_generator, items_line, plan_text};
 ghost use Rattle.datagram_services.specs.MoreText.{protocol_word, service_word, stream_line, stream_text};
@@ -10,8 +10,8 @@ ghost use Rattle.datagram_services.specs.Served.{IsMoreServed};
 
 use crate::served::MoreServed;
 use chargen_service::GenBlock;
+use report_lines::{push_datagram, push_last, push_next_end, push_replies};
 use sq_base::{CHARGEN_PORT, ECHO_PORT, Octets, Tuple};
-use squeue_report::{push_datagram, push_last, push_next_end, push_replies};
 use std::alloc::{AllocError, Global};
 use stream_blocks::Answer;
 use stream_plan::MorePlan;

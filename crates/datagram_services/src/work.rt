@@ -3,12 +3,11 @@ ghost use Rattle.std.specs.Prelude.{◌≡◌, ◌<◌, ◌≤◌, ℕ, IfOk, So
 ghost use Rattle.squeue_pool.specs.Works.{work_of};
 ghost use Rattle.ring_quotas.specs.Quotas.{IsInRange};
 ghost use Rattle.stream_blocks.specs.declared.blocks.StreamBlocks.{StreamBlocks as BlocksOf};
+ghost use Rattle.datagram_services.specs.Fits.{counts_of};
 ghost use Rattle.datagram_services.specs.Work.{IsFirst, IsWorkFor};
 
-use crate::lists::lists_for;
-use crate::quotas::quotas_for;
 use ring_quotas::Setup;
-use squeue_pool::Work;
+use squeue_pool::{Work, work_by_key};
 use std::alloc::{AllocError, Global};
 use stream_blocks::StreamBlocks;
 use stream_plan::MorePlan;
@@ -24,16 +23,20 @@ pub fn work_for<'p>(
     ensures { IfOk result (λ w. IsWorkFor plan.now setup.now.squeues setup.now.rings (work_of w)) }
 {
     plan.is_sound();
-    let lists = lists_for(alloc, plan, setup.rings)?;
-    let quotas = quotas_for(alloc, lists.as_slice(), setup.squeues)?;
+    let counts = counts_for(alloc, plan)?;
     let residents = residents_for(alloc, plan, setup.squeues)?;
-    Ok(Work {
-        conns: plan.streams(),
-        residents,
-        quotas,
-        lists,
-        calls: Vec::new(alloc),
-    })
+    work_by_key(alloc, residents, &counts, setup.squeues, setup.rings)
+}
+
+// How many items each stream has.
+fn counts_for(alloc: Global, plan: &MorePlan<'_>) -> Result<Vec<u32>, AllocError>
+    ensures { IfOk result (λ v. v.items ≡ counts_of plan.now) }
+{
+    let mut counts = Vec::new(alloc);
+    for c in 0..plan.streams() {
+        counts.push(plan.items(c))?;
+    }
+    Ok(counts)
 }
 
 // By number the residents of so many squeues.

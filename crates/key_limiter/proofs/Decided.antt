@@ -1,15 +1,15 @@
 -- From buckets that decided all their requests to what passed.
-use Rattle.std.proofs.Common.{◌≡◌, ℕ, ◌+◌, ◌<◌, Bool, List, [], ◌∷◌, ◌++◌, length, map, take, get_or, slice_index, refl, ap, sym, ◌∙◌, arith}
+use Rattle.std.proofs.Common.{◌≡◌, ℕ, ◌+◌, ◌<◌, Bool, List, [], ◌∷◌, ◌++◌, length, map, take, get_or, slice_index, ap, sym, ◌∙◌, arith}
 use Rattle.std.proofs.lemmas.List.{map-append, take_all, take_more}
 use Rattle.squeue.specs.Standing.{HasFed}
 use Rattle.squeue.proofs.Rows.{limit_is}
 use Rattle.key_limiter.specs.declared.limiter.Bucket.{Bucket}
 use Rattle.key_limiter.specs.declared.limiter.Limit.{Limit}
-use Rattle.key_limiter.specs.Buckets.{HasDecided, IsPartOf, row_of}
+use Rattle.key_limiter.specs.Buckets.{Decides, HasDecided, row_of}
 use Rattle.key_limiter.specs.Limiting.{decisions_of}
 
 -- a bucket that has decided all requests of its key
-pub all_decided : (limit : Limit) (rows : List (List ℕ)) (counts : List ℕ) (c : ℕ) (k : Bucket) → counts ≡ map length rows → IsPartOf (limit, rows) c k → HasFed (HasDecided k) (slice_index counts c)
+pub all_decided : (limit : Limit) (rows : List (List ℕ)) (counts : List ℕ) (c : ℕ) (k : Bucket) → counts ≡ map length rows → Decides limit (row_of rows c) k → HasFed (HasDecided k) (slice_index counts c)
     → k.passed.items ≡ decisions_of limit (row_of rows c)
 all_decided limit rows counts c k are own fed =
     let row = row_of rows c in
@@ -20,7 +20,3 @@ all_decided limit rows counts c k are own fed =
 pub decided_more : (f : List ℕ → List Bool) (rows : List (List ℕ)) (c : ℕ) (one : List Bool) (had new : List (List Bool)) → c < length rows → had ≡ map f (take c rows) → one ≡ f (row_of rows c) → new ≡ had ++ one ∷ [] → new ≡ map f (take (c + 1) rows)
 decided_more f rows c one had new lt so is more =
     more ∙ ((λ i. so i ++ is i ∷ []) ∙ sym (ap (map f) (take_more rows c [] lt) ∙ map-append f (take c rows) (get_or rows c [] ∷ [])))
-
-pub of_rows : {V : Type 0} (f : List ℕ → List Bool) (items : V → List ℕ) (xs : List V) → map f (map items xs) ≡ map (λ x. f (items x)) xs
-of_rows f items [] = refl
-of_rows f items (x ∷ xs) = ap (λ (ns : List (List Bool)). f (items x) ∷ ns) (of_rows f items xs)

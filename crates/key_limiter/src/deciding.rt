@@ -1,12 +1,10 @@
 //! From the requests to what passed.
 ghost use Rattle.std.specs.Prelude.{◌≡◌, ◌^◌, ◌<◌, ◌≤◌, IfOk, length, map, sum};
-ghost use Rattle.squeue.specs.ServedParts.{IsServed, counts_of, shared_of};
 ghost use Rattle.squeue.specs.Works.{IsInRange};
-ghost use Rattle.key_limiter.specs.Buckets.{rows_of};
 ghost use Rattle.key_limiter.specs.Limiting.{decisions_of};
 
 use crate::limiter::{Limit, Requests};
-use squeue::{Pool, Served, lengths, serve_by_key};
+use squeue::{Pool, lengths, serve_by_key};
 use std::alloc::{AllocError, Global};
 use std::sync::Wait;
 use std::thread::Threads;
@@ -39,15 +37,6 @@ pub fn decide<W: Threads + Wait + Sync>(
         calls: &[],
     };
     let served = serve_by_key(rt, alloc, pool, shared, counts)?;
-    passed_in(alloc, &served)
-}
-
-// What passed of each key, where all requests were decided.
-fn passed_in(alloc: Global, served: &Served<Requests<'_>>) -> Result<Vec<Vec<bool>>, AllocError>
-    requires served { IsServed served.now }
-    requires counts { counts_of served.now ≡ map length (rows_of (shared_of served.now)) }
-    ensures { IfOk result (λ v. map (λ row. row.items) v.items ≡ map (decisions_of (shared_of served.now).limit) (rows_of (shared_of served.now))) }
-{
     let mut all = Vec::new(alloc);
     for c in 0..served.count() {
         all.push(served.part(c).passed.to_vec(alloc)?)?;

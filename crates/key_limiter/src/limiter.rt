@@ -1,5 +1,5 @@
 //! The part of a key: which of its requests passed so far, and what its bucket holds. It takes no memory after it is made.
-ghost use Rattle.std.specs.Prelude.{◌≡◌, ◌^◌, ◌<◌, ◌∷◌, ◌++◌, [], length, vec_capacity};
+ghost use Rattle.std.specs.Prelude.{◌≡◌};
 
 use squeue::Parts;
 use std::alloc::{AllocError, Global};
@@ -55,21 +55,6 @@ impl Level {
     }
 }
 
-impl Bucket {
-    ghost use Rattle.key_limiter.specs.Limiting.{level_after, passes};
-
-    // Decides one request more.
-    fn decide(&mut self, limit: Limit, time: u32)
-        requires { length self.old.passed.items < vec_capacity self.old.passed }
-        ensures passed { self.new.passed.items ≡ self.old.passed.items ++ passes limit self.old.level time ∷ [] }
-        ensures level { self.new.level ≡ level_after limit self.old.level time }
-        ensures room { vec_capacity self.new.passed ≡ vec_capacity self.old.passed }
-    {
-        let passes = self.level.take(limit, time);
-        self.passed.push_reserved(passes);
-    }
-}
-
 impl Parts for Requests<'_> {
     ghost use Rattle.key_limiter.specs.Buckets.{HasDecided, IsPartOf, limits_of, origin_of};
     ghost use Rattle.std.proofs.Common.{sym, ◌∙◌};
@@ -96,7 +81,9 @@ impl Parts for Requests<'_> {
     }
 
     fn feed(&self, _alloc: Global, bucket: &mut Bucket, c: u32, n: u32) {
-        bucket.decide(self.limit, self.rows[c as usize][n as usize]);
+        let time = self.rows[c as usize][n as usize];
+        let passes = bucket.level.take(self.limit, time);
+        bucket.passed.push_reserved(passes);
     }
 
     fn call(&self, _alloc: Global, _bucket: &mut Bucket, _c: u32, _j: u32, _k: u32) {}

@@ -1,5 +1,4 @@
 pub mod BankSteps
-pub mod Plans
+pub mod Called
 pub mod Statements
-pub mod Kept
 pub mod Totals

@@ -1,16 +1,16 @@
 -- All statements together.
-use Rattle.std.proofs.Common.{◌≡◌, ℕ, zero, suc, ◌+◌, ◌<◌, ◌≤◌, ◌==◌, Bool, if◌then◌else◌, List, [], ◌∷◌, length, min, sum, refl, ap, sym, ◌∙◌, arith}
+use Rattle.std.proofs.Common.{◌≡◌, ℕ, zero, suc, ◌+◌, ◌<◌, ◌==◌, Bool, if◌then◌else◌, List, [], ◌∷◌, length, map, sum, refl, ap, sym, ◌∙◌, arith}
 use Rattle.std.specs.Prelude.{All, sum_by}
 use Rattle.std.specs.List.{range_with_len}
 use Rattle.std.proofs.lemmas.List.Elements.{All-head, All-tail}
 use Rattle.std.proofs.lemmas.List.Sums.{sum_by-cons}
 use Rattle.std.proofs.Math.Dec.{eqb-suc-suc, eqb-suc-zero, eqb-zero-suc}
-use Rattle.moving_bank.specs.declared.settling.Statement.{Statement}
-use Rattle.moving_bank.specs.declared.settling.Transfer.{Transfer}
-use Rattle.moving_bank.specs.Booking.{most, row_of}
-use Rattle.moving_bank.specs.Settling.{AreWhole, received, sent, statement_of, statements_of}
-use Rattle.moving_bank.proofs.Plans.{IsOf}
-use Rattle.moving_bank.proofs.Statements.{mapped, zeros}
+use Rattle.moving_bank.specs.declared.accounts.Statement.{Statement}
+use Rattle.moving_bank.specs.declared.accounts.Transfer.{Transfer}
+use Rattle.moving_bank.specs.Booking.{row_of}
+use Rattle.moving_bank.specs.Settling.{received, statement_of, statements_of}
+use Rattle.moving_bank.proofs.Called.{IsOf}
+use Rattle.moving_bank.proofs.Statements.{zeros}
 
 two : {X : Type 0} (f g : X → ℕ) (xs : List X) → sum_by (λ x. f x + g x) xs ≡ sum_by f xs + sum_by g xs
 two f g [] = refl
@@ -36,13 +36,6 @@ shifted f a (suc n) =
     let next : a + 1 ≡ suc a = omega arith in
     sum_by-cons f (a + 1) (range_with_len (a + 1 + 1) n)
     ∙ ((λ i. f (next i) + shifted f (a + 1) n i) ∙ sym (sum_by-cons (λ c. f (suc c)) a (range_with_len (a + 1) n)))
-
-same_terms : (f g : ℕ → ℕ) (n : ℕ) → ((c : ℕ) → c < n → f c ≡ g c) → sum_by f (range_with_len 0 n) ≡ sum_by g (range_with_len 0 n)
-same_terms f g zero same = refl
-same_terms f g (suc n) same =
-    sum_by-cons f 0 (range_with_len (0 + 1) n)
-    ∙ ((λ i. same 0 (omega arith) i + (shifted f 0 n ∙ (same_terms (λ c. f (suc c)) (λ c. g (suc c)) n (λ c lt. same (suc c) (omega (arith, lt))) ∙ sym (shifted g 0 n))) i)
-    ∙ sym (sum_by-cons g 0 (range_with_len (0 + 1) n)))
 
 -- one number alone below n is m
 one_place : (amount m n : ℕ) → m < n → sum_by (λ c. if m == c then amount else 0) (range_with_len 0 n) ≡ amount
@@ -75,21 +68,21 @@ at_places place n transfers there all =
     (λ row named. columns (IsOf n) (λ t c. if place t == c then t.amount else 0) (λ t. t.amount) (range_with_len 0 n) row (λ t is. one_place t.amount (place t) n (there t is)) named)
     all
 
-within : (n : ℕ) → n ≤ most → min most n ≡ n
-within n le = omega (arith, le)
+mapped : {A B : Type 0} (f : B → ℕ) (g : A → B) (xs : List A) → sum_by f (map g xs) ≡ sum_by (λ x. f (g x)) xs
+mapped f g [] = refl
+mapped f g (x ∷ xs) = let one = sum_by-cons f (g x) (map g xs) in let two = sum_by-cons (λ x. f (g x)) x xs in let rest = mapped f g xs in omega (arith, one, two, rest)
 
-pub money_kept : (deposits : List (List ℕ)) (transfers : List (List Transfer)) → All (All (IsOf (length deposits))) transfers → AreWhole deposits transfers
+-- all that came into the accounts is what was deposited and what went out of them
+pub money_kept : (deposits : List (List ℕ)) (transfers : List (List Transfer)) → All (All (IsOf (length deposits))) transfers
     → sum_by (λ s. s.credit) (statements_of deposits transfers) ≡ sum_by sum deposits + sum_by (λ s. s.debit) (statements_of deposits transfers)
-money_kept deposits transfers named whole =
+money_kept deposits transfers named =
     let n = length deposits in
     let cs = range_with_len 0 n in
     let came =
     mapped (λ (s : Statement). s.credit) (statement_of deposits transfers) cs
-    ∙ (same_terms (λ c. min most (sum (row_of deposits c) + received transfers c)) (λ c. sum (row_of deposits c) + received transfers c) n
-    (λ c lt. within (sum (row_of deposits c) + received transfers c) (whole c lt).0)
-    ∙ (two (λ c. sum (row_of deposits c)) (received transfers) cs ∙ (λ i. all_rows deposits i + at_places (λ t. t.to) n transfers (λ t is. is.1) named i))) in
-    let went =
-    mapped (λ (s : Statement). s.debit) (statement_of deposits transfers) cs
-    ∙ (same_terms (λ c. min most (sent transfers c)) (sent transfers) n (λ c lt. within (sent transfers c) (whole c lt).1)
-    ∙ at_places (λ t. t.from) n transfers (λ t is. is.0) named) in
+    ∙ (two (λ c. sum (row_of deposits c)) (received transfers) cs ∙ (λ i. all_rows deposits i + at_places (λ t. t.to) n transfers (λ t is. is.1) named i)) in
+    let went = mapped (λ (s : Statement). s.debit) (statement_of deposits transfers) cs ∙ at_places (λ t. t.from) n transfers (λ t is. is.0) named in
     came ∙ ap (λ (m : ℕ). sum_by sum deposits + m) (sym went)
+
+pub summed_rows : {V : Type 0} (items : V → List ℕ) (xs : List V) → sum_by sum (map items xs) ≡ sum_by (λ x. sum (items x)) xs
+summed_rows items xs = mapped sum items xs

@@ -1,72 +1,61 @@
 //! The part of an account: what came in and what went out. It takes no memory.
-ghost use Rattle.std.specs.Prelude.{◌≡◌, ◌+◌, ◌<◌, if◌then◌else◌, min};
-
-use squeue::Parts;
+use squeue::{Errand, Parts};
 use std::alloc::{AllocError, Global};
-use std::collections::LinkedList;
 
-/// Half of a transfer: an amount comes into an account, or goes out of it.
+/// So much goes from one account to another. Its thread makes two calls for it: one takes the amount out, the next brings it in.
 #[derive(Clone, Copy)]
-pub struct Step {
-    pub account: u32,
+pub struct Transfer {
+    pub from: u32,
+    pub to: u32,
     pub amount: u32,
-    pub comes: bool,
 }
 
-/// The deposits of each account, and the steps of each thread: call `k` of thread `j` is its step `k`.
+/// The deposits of each account, and the transfers of each thread.
 #[derive(Clone, Copy)]
 pub struct Bank<'a> {
     pub(crate) deposits: &'a [Vec<u32>],
-    pub(crate) steps: &'a [Vec<Step>],
+    pub(crate) transfers: &'a [Vec<Transfer>],
 }
 
-/// How many deposits there were, what came in by these and by steps, and what went out. A sum that would be greater than 64 bits
-/// hold stays at the greatest.
+/// What came into an account, and what went out.
+#[derive(Clone, Copy, Default)]
+pub struct Statement {
+    pub credit: u64,
+    pub debit: u64,
+}
+
+/// How many deposits there were, and the sums so far. One that would be greater than 64 bits hold stays at the greatest.
 #[derive(Drop)]
 pub struct Account<'a> {
     bank: Bank<'a>,
     number: u32,
     had: u64,
-    pub(crate) credit: u64,
-    pub(crate) debit: u64,
+    pub(crate) sums: Statement,
 }
 
-impl Account<'_> {
-    ghost use Rattle.moving_bank.specs.Booking.{most};
+impl Errand for Transfer {
+    ghost use Rattle.moving_bank.specs.Booking.{both_of};
 
-    fn deposit(&mut self, amount: u32)
-        requires { self.old.had < 4294967296 }
-        ensures { self.new ≡ record self.old { had = self.old.had + 1; credit = min most (self.old.credit + amount) } }
-    {
-        self.had += 1;
-        self.credit = self.credit.saturating_add(u64::from(amount));
-    }
+    ghost called = { both_of };
 
-    fn step(&mut self, step: Step)
-        ensures { self.new ≡ (if step.comes then record self.old { credit = min most (self.old.credit + step.amount) }
-            else record self.old { debit = min most (self.old.debit + step.amount) }) }
-    {
-        if step.comes {
-            self.credit = self.credit.saturating_add(u64::from(step.amount));
-        } else {
-            self.debit = self.debit.saturating_add(u64::from(step.amount));
-        }
+    fn add_to(&self, calls: &mut Vec<u32>) -> Result<(), AllocError> {
+        calls.extend_from_slice(&[self.from, self.to])
     }
 }
 
 impl<'a> Parts for Bank<'a> {
-    ghost use Rattle.moving_bank.specs.Booking.{HasBooked, IsPartOf, limits_of, origin_of};
+    ghost use Rattle.moving_bank.specs.Booking.{HasBooked, IsPartOf, limits_of};
     ghost use Rattle.std.proofs.Common.{sym, ◌∙◌};
 
     type Part = Account<'a>;
 
-    type Origin = (LinkedList<LinkedList<u32>>, LinkedList<LinkedList<Step>>);
+    type Origin = Bank<'a>;
 
     ghost part_stands = { HasBooked };
 
     ghost limits = { limits_of };
 
-    ghost origin = { origin_of };
+    ghost origin = { λ bank. bank };
 
     ghost is_part_of = { IsPartOf };
 
@@ -75,17 +64,23 @@ impl<'a> Parts for Bank<'a> {
             bank: *self,
             number: c,
             had: 0,
-            credit: 0,
-            debit: 0,
+            sums: Statement::default(),
         })
     }
 
     fn feed(&self, _alloc: Global, account: &mut Account<'a>, c: u32, n: u32) {
-        account.deposit(self.deposits[c as usize][n as usize]);
+        let amount = self.deposits[c as usize][n as usize];
+        account.had += 1;
+        account.sums.credit = account.sums.credit.saturating_add(u64::from(amount));
     }
 
     fn call(&self, _alloc: Global, account: &mut Account<'a>, _c: u32, j: u32, k: u32) {
-        account.step(self.steps[j as usize][k as usize]);
+        let amount = self.transfers[j as usize][k as usize / 2].amount;
+        if k % 2 == 0 {
+            account.sums.debit = account.sums.debit.saturating_add(u64::from(amount));
+        } else {
+            account.sums.credit = account.sums.credit.saturating_add(u64::from(amount));
+        }
     }
 
     ghost same_count = { λ k a b x y. x.feeds ∙ sym y.feeds };

@@ -1,14 +1,13 @@
 //! Accounts behind squeues: deposits come in by rings, threads transfer between accounts, and the accounts move from squeue to squeue.
 //!
 //! `accounts` is the part of an account, two sums: what came in and what went out. A transfer is two calls of one thread, one on each
-//! account. `settling` serves them all, and hands out the statements. `laws` says when these make no money and lose none.
+//! account. `settling` serves them all, and hands out the statements.
 #![tactic(auto)]
 
 mod accounts;
-pub mod laws;
 mod settling;
 #[cfg(test)]
 mod tests;
 
-pub use accounts::{Account, Bank, Step};
-pub use settling::{Statement, Transfer, settle};
+pub use accounts::{Account, Bank, Statement, Transfer};
+pub use settling::settle;

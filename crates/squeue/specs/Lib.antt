@@ -3,9 +3,9 @@ pub use Rattle.perimeter_core.specs.Blocks
 pub use Rattle.perimeter_core.specs.Deeds
 pub use Rattle.perimeter_core.specs.History
 pub use Rattle.perimeter_core.specs.Residing
+pub use Rattle.histories.specs.Limits
 pub use Rattle.placed_parts.specs.Placing
 pub use Rattle.placed_parts.specs.Standing
-pub use Rattle.squeue_state.specs.Limits
 pub use Rattle.squeue_pool.specs.Keys
 pub use Rattle.squeue_pool.specs.Placed
 pub use Rattle.squeue_pool.specs.Runs

@@ -2,16 +2,18 @@
 //! stands on this one lists it alone; what it passes on is proved where it stands.
 //!
 //! Write [`Parts`] for what is done to one part, and call [`serve_by_key`] with a [`Pool`]: it hands back the [`Served`] parts.
-//! [`serve_called`] serves parts that move from squeue to squeue, and that threads call beside. [`run`] does any work, as a [`Work`] says
+//! [`serve_called`] serves parts that move from squeue to squeue, and that threads call beside; [`calls_for`] makes these calls of the
+//! [`Errand`]s of each thread. [`run`] does any work, as a [`Work`] says
 //! it, and leaves a [`Left`] for each squeue.
 #![tactic(auto)]
 
+pub use histories::{Mode, Quota};
 pub use perimeter_core::{Act, Entry, Feed, Hook, NoHook, Resident, SynchAct};
 pub use placed_parts::{Parts, Places};
-pub use squeue_calls::serve_called;
+pub use squeue_calls::{Errand, calls_for, serve_called};
 pub use squeue_ends::Finished;
-pub use squeue_enter::{Entered, Mode, enter};
+pub use squeue_enter::{Entered, enter};
 pub use squeue_pool::{
     Left, Pool, Served, Work, lengths, places_of, run, run_by_key, serve_by_key,
 };
-pub use squeue_state::{Ended, Pass, Quota, Squeue, Trace};
+pub use squeue_state::{Ended, Pass, Squeue, Trace};

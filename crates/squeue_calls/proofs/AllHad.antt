@@ -7,10 +7,9 @@ use Rattle.perimeter_core.specs.declared.entries.Feed.{Feed}
 use Rattle.perimeter_core.specs.Deeds.{acts, fed}
 use Rattle.placed_parts.specs.declared.parts.Parts.{Ghosts}
 use Rattle.placed_parts.specs.declared.places.Places.{Places}
-use Rattle.squeue_state.specs.Naming.{Ending}
-use Rattle.squeue_serve.proofs.Lent.{some_at}
-use Rattle.squeue_rings.specs.Runs.{brought, place}
-use Rattle.squeue_rings.proofs.Slots.{got_map}
+use Rattle.histories.specs.Endings.{Ending}
+use Rattle.histories.proofs.ListPlaces.{some_at, got_map}
+use Rattle.histories.specs.Runs.{brought, place}
 use Rattle.feed_lists.specs.Lists.{list_of}
 use Rattle.feed_lists.proofs.RingLists.{has_all}
 use Rattle.squeue_pool.specs.declared.pool.Pool.{Pool}

@@ -7,21 +7,14 @@ use Rattle.std.proofs.Math.Nat.{mod-lt}
 use Rattle.perimeter_core.specs.declared.entries.Feed.{Feed}
 use Rattle.perimeter_core.specs.Deeds.{entries, feeds_of}
 use Rattle.perimeter_core.specs.History.{feed_quotas}
-use Rattle.squeue_state.specs.Clauses.{ask_quotas}
-use Rattle.squeue_rings.specs.Runs.{brought, count, is_at, is_left_by, leaves}
+use Rattle.histories.specs.Quotas.{ask_quotas}
+use Rattle.histories.specs.Runs.{brought, count, is_at, is_left_by, leaves}
 use Rattle.squeue_pool.specs.Keys.{key_lists, quotas_at}
 use Rattle.squeue_pool.proofs.KeyLists.{few_quotas}
+use Rattle.squeue_pool.proofs.Rows.{index_few}
 use Rattle.squeue_calls.specs.Quotas.{asks_of, quotas_of, thread_quota}
 
--- no more feeds pass a test than there are; where there is one squeue, all are at it
-pub counted : (test : Feed → Bool) (fs : List Feed) → count test fs ≤ length fs
-counted test [] = omega arith
-counted test (f ∷ fs) = by (test f) (counted test fs)
-  where
-    by : (b : Bool) → count test fs ≤ length fs → (if b then 1 else 0) + count test fs ≤ length (f ∷ fs)
-    by true h = omega (arith, h)
-    by false h = omega (arith, h)
-
+-- where there is one squeue, all feeds are at it
 all_at_one : (fs : List Feed) → count (is_at 1 0 0) fs ≡ length fs
 all_at_one [] = refl
 all_at_one (f ∷ fs) =
@@ -53,11 +46,6 @@ pub few_feeds : (rings : ℕ) (counts : List ℕ) (calls : List (List ℕ)) → 
 few_feeds rings counts calls = let e = feeds_at_one (key_lists rings counts) counts calls in let le = few_quotas 1 0 rings counts in omega (arith, e, le)
 
 -- all asks together
-pub index_few : (xs : List ℕ) (c : ℕ) → slice_index xs c ≤ sum xs
-index_few [] c = omega arith
-index_few (x ∷ xs) zero = let both = sum_by-cons (λ (n : ℕ). n) x xs in omega (arith, both)
-index_few (x ∷ xs) (suc c) = let both = sum_by-cons (λ (n : ℕ). n) x xs in let le = index_few xs c in omega (arith, both, le)
-
 thread_few : (counts called : List ℕ) → sum counts ≤ 2 ^ 20 → asks_of counts called ≤ length called * 2097152
 thread_few counts [] few = omega arith
 thread_few counts (c ∷ called) few =
@@ -119,8 +107,3 @@ asks_before counts (x ∷ called) (suc k) c at =
     let both = sum_by-cons (λ (d : ℕ). 1 + slice_index counts d) x called in
     let front = sum_by-cons (λ (d : ℕ). 1 + slice_index counts d) x (take k called) in
     omega (arith, rest, both, front)
-
--- a map of a map
-pub both_maps : {A B C : Type 0} (f : B → C) (g : A → B) (xs : List A) → map (λ x. f (g x)) xs ≡ map f (map g xs)
-both_maps f g [] = refl
-both_maps f g (x ∷ xs) = ap (λ rest. f (g x) ∷ rest) (both_maps f g xs)

@@ -12,13 +12,12 @@ use Rattle.perimeter_core.specs.declared.entries.Feed.{Feed}
 use Rattle.perimeter_core.specs.declared.resident.Resident.{Ghosts}
 use Rattle.perimeter_core.specs.History.{Limits, Setting, feed_quotas}
 use Rattle.placed_parts.specs.Standing.{first_here}
-use Rattle.squeue_state.specs.Behind.{pairs}
-use Rattle.squeue_state.specs.Clauses.{ask_quotas}
+use Rattle.histories.specs.Quotas.{pairs, ask_quotas}
 use Rattle.squeue_state.specs.Naming.{Named}
 use Rattle.squeue_rings.specs.Calling.{MayMake, asks_for}
 use Rattle.squeue_rings.specs.Rings.{MayBring}
-use Rattle.squeue_rings.specs.Runs.{InOrder, brought, comes, is_at, leaves}
-use Rattle.squeue_rings.proofs.Slots.{got_map}
+use Rattle.histories.specs.Runs.{InOrder, brought, comes, is_at, leaves}
+use Rattle.histories.proofs.ListPlaces.{got_map}
 use Rattle.ring_jobs.specs.Doing.{called_by}
 use Rattle.ring_jobs.proofs.Works.{got_or}
 use Rattle.feed_lists.specs.Lists.{list_of}
@@ -26,24 +25,14 @@ use Rattle.squeue_pool.specs.declared.pool.Pool.{Pool}
 use Rattle.squeue_pool.specs.declared.work.Work.{Work}
 use Rattle.squeue_pool.specs.Keys.{HaveKeys, key_lists}
 use Rattle.squeue_pool.specs.Works.{IsFor, IsInRange, Suits, SuitsSqueue, WorkOf, work_of}
-use Rattle.squeue_pool.proofs.KeyLists.{short_list}
+use Rattle.squeue_pool.proofs.ByKey.{got_number}
+use Rattle.squeue_pool.proofs.KeyLists.{counted, short_list}
 use Rattle.squeue_pool.proofs.Made.{number_at}
 use Rattle.squeue_pool.proofs.Suffices.{in_order, own, within}
 use Rattle.squeue_calls.specs.Calls.{AreFew, called_work, limits_for}
 use Rattle.squeue_calls.specs.Quotas.{asks_of, call_quotas, quotas_of, ring_quota, thread_quota}
 use Rattle.squeue_calls.proofs.Named.{call_exists, call_within}
-use Rattle.squeue_calls.proofs.CallQuotas.{asks_before, counted, few_asks, few_feeds, got_behind, got_front, left_few, thread_there}
-
-pub got_number : {A : Type 0} (f : ℕ → A) (a n k : ℕ) (x : A) → slice_get (map f (range_with_len a n)) k ≡ Some x → (k < n) × (x ≡ f (a + k))
-got_number f a zero k x is = cc is
-got_number f a (suc n) zero x is =
-    let z : a ≡ a + 0 = omega arith in
-    let e : f a ≡ x = cc is in
-    (omega arith, sym e ∙ ap f z)
-got_number f a (suc n) (suc k) x is =
-    let r = got_number f (a + 1) n k x is in
-    let z : (a + 1) + k ≡ a + suc k = omega arith in
-    (let lt = r.0 in omega (arith, lt), r.1 ∙ ap f z)
+use Rattle.squeue_calls.proofs.CallQuotas.{asks_before, few_asks, few_feeds, got_behind, got_front, left_few, thread_there}
 
 -- the work that is handed over
 pub same_work : {R : Type 0} (it : Work R) (squeues rings : ℕ) (counts : List ℕ) → it.conns ≡ length counts

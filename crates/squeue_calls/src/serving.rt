@@ -15,6 +15,18 @@ use std::thread::Threads;
 /// Serves the parts of connections of which number `c` has `counts[c]` feeds, while for each list of `calls` a thread calls the
 /// connections that it names, in order. Connections begin at squeue `c % squeues`, and move on after each `spread` feeds, as the pool's
 /// homes say. Hands out the part of each connection after all its feeds and its calls. Fails only for want of memory.
+///
+/// # Example
+///
+/// ```
+/// let counts = lengths(alloc, deposits)?;
+/// let calls = calls_for(alloc, transfers)?;
+/// let bank = Bank {
+///     deposits,
+///     transfers,
+/// };
+/// let finished = serve_called(rt, alloc, pool, bank, &counts, calls)?;
+/// ```
 pub fn serve_called<S: Parts + Copy + Send, W: Threads + Wait + Sync>(
     rt: &W,
     alloc: Global,

@@ -7,10 +7,10 @@ use Rattle.perimeter_core.specs.Blocks.{peri}
 use Rattle.perimeter_core.specs.Deeds.{acts}
 use Rattle.perimeter_core.specs.History.{run}
 use Rattle.perimeter_core.specs.Perimeter.{is_here}
-use Rattle.squeue_state.specs.Naming.{Ending}
+use Rattle.histories.specs.Endings.{Ending}
 use Rattle.squeue_state.specs.Told.{Traced}
-use Rattle.squeue_serve.proofs.Lent.{get_end, some_at}
-use Rattle.squeue_rings.proofs.Slots.{got_map}
+use Rattle.squeue_serve.proofs.Lent.{get_end}
+use Rattle.histories.proofs.ListPlaces.{some_at, got_map}
 use Rattle.squeue_pool.specs.declared.pool.Pool.{Pool}
 use Rattle.squeue_pool.specs.declared.work.Left.{Left}
 use Rattle.squeue_pool.specs.Runs.{HasRun, ends_of}

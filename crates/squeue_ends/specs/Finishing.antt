@@ -7,7 +7,7 @@ use Rattle.perimeter_core.specs.Blocks.{Blocks, peri, with_act}
 use Rattle.perimeter_core.specs.Deeds.{acts}
 use Rattle.perimeter_core.specs.History.{run}
 use Rattle.perimeter_core.specs.Perimeter.{is_here}
-use Rattle.squeue_state.specs.Naming.{Ending}
+use Rattle.histories.specs.Endings.{Ending}
 use Rattle.squeue_state.specs.Told.{Traced}
 use Rattle.squeue_pool.specs.declared.pool.Pool.{Pool}
 use Rattle.squeue_pool.specs.declared.work.Left.{Left}

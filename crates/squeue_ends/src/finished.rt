@@ -44,6 +44,17 @@ impl<P> Finished<P> {
         self.parts[c as usize].as_ref()
     }
 
+    /// The part of connection `c`, which lies here.
+    pub fn part_there(&self, c: u32) -> &P
+        requires { (part : P) × (slice_get self.now.parts c ≡ Some (Some part)) }
+        ensures { slice_get self.now.parts c ≡ Some (Some result.now) }
+    {
+        match self.part(c) {
+            Some(part) => part,
+            None => unreachable!(),
+        }
+    }
+
     /// The trace of squeue `q`: the marks of its history where they were kept, else nothing.
     pub fn trace(&self, q: u32) -> &Trace
         requires { q < length self.now.traces }

@@ -16,13 +16,12 @@ use Rattle.perimeter_core.specs.History.{Setting, feed_quotas, run}
 use Rattle.perimeter_core.specs.Perimeter.{is_here}
 use Rattle.perimeter_core.specs.Residing.{HadFeeds}
 use Rattle.placed_parts.specs.Standing.{first_here}
-use Rattle.squeue_state.specs.Behind.{pairs}
-use Rattle.squeue_state.specs.Clauses.{ask_quotas}
-use Rattle.squeue_state.specs.Naming.{Ending, Named}
-use Rattle.squeue_serve.proofs.Lent.{some_at}
+use Rattle.histories.specs.Quotas.{pairs, ask_quotas}
+use Rattle.squeue_state.specs.Naming.{Named}
+use Rattle.histories.specs.Endings.{Ending}
+use Rattle.histories.proofs.ListPlaces.{some_at, got_map}
 use Rattle.squeue_rings.specs.Rings.{MayBring}
-use Rattle.squeue_rings.specs.Runs.{InOrder, brought, count, is_at, place}
-use Rattle.squeue_rings.proofs.Slots.{got_map}
+use Rattle.histories.specs.Runs.{InOrder, brought, count, is_at, place}
 use Rattle.ring_jobs.proofs.Works.{got_or}
 use Rattle.feed_lists.specs.Lists.{list_of}
 use Rattle.feed_lists.proofs.RingLists.{has_all}
@@ -36,7 +35,8 @@ use Rattle.squeue_pool.proofs.KeyLists.{few_quotas, no_asks, short_list}
 use Rattle.squeue_pool.proofs.Made.{number_at}
 use Rattle.squeue_pool.proofs.Suffices.{in_order, none_come, none_leave, none_left_by, own, within}
 
-got_number : {A : Type 0} (f : ℕ → A) (a n k : ℕ) (x : A) → slice_get (map f (range_with_len a n)) k ≡ Some x → (k < n) × (x ≡ f (a + k))
+-- what stands at a number
+pub got_number : {A : Type 0} (f : ℕ → A) (a n k : ℕ) (x : A) → slice_get (map f (range_with_len a n)) k ≡ Some x → (k < n) × (x ≡ f (a + k))
 got_number f a zero k x is = cc is
 got_number f a (suc n) zero x is =
     let z : a ≡ a + 0 = omega arith in

@@ -4,9 +4,8 @@ use Rattle.std.specs.declared.alloc.Global.{Global}
 use Rattle.std.proofs.lemmas.List.{append-nil, map-append}
 use Rattle.std.proofs.lemmas.Option.{slice_get_within}
 use Rattle.perimeter_core.specs.declared.entries.Feed.{Feed}
-use Rattle.squeue_state.specs.Behind.{pairs}
-use Rattle.squeue_serve.proofs.Lent.{some_at}
-use Rattle.squeue_rings.proofs.Slots.{got_map}
+use Rattle.histories.specs.Quotas.{pairs}
+use Rattle.histories.proofs.ListPlaces.{some_at, got_map}
 use Rattle.ring_jobs.specs.declared.intake.Ends.{Ends}
 use Rattle.ring_jobs.specs.declared.intake.Intake.{Intake}
 use Rattle.ring_jobs.proofs.Works.{got_or}

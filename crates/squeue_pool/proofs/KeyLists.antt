@@ -8,8 +8,8 @@ use Rattle.std.proofs.lemmas.List.{take_more}
 use Rattle.std.proofs.lemmas.List.Sums.{sum_by-cons}
 use Rattle.perimeter_core.specs.declared.entries.Feed.{Feed}
 use Rattle.perimeter_core.specs.History.{feed_quotas}
-use Rattle.squeue_state.specs.Clauses.{ask_quotas}
-use Rattle.squeue_rings.specs.Runs.{count, is_at}
+use Rattle.histories.specs.Quotas.{ask_quotas}
+use Rattle.histories.specs.Runs.{count, is_at}
 use Rattle.squeue_rings.proofs.Counting.{count_more}
 use Rattle.feed_lists.specs.Lists.{items_of, list_of}
 use Rattle.feed_lists.proofs.RingLists.{length_items}
@@ -59,7 +59,8 @@ lens_within rings r n c [] = omega (arith, lens_none rings r n c)
 lens_within rings r n c (k ∷ counts) =
     omega (arith, lens_step rings r n c k counts, hits_one r n (c % rings) k, lens_within rings r n (suc c) counts, sum_by-cons (λ x. x) k counts)
 
-counted : (test : Feed → Bool) (fs : List Feed) → count test fs ≤ length fs
+-- no more feeds pass a test than there are
+pub counted : (test : Feed → Bool) (fs : List Feed) → count test fs ≤ length fs
 counted test [] = omega arith
 counted test (f ∷ fs) = by (test f) (counted test fs)
   where

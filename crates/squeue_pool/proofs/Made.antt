@@ -8,13 +8,14 @@ use Rattle.std.proofs.lemmas.List.FromFn.{length-map-range_with_len}
 use Rattle.perimeter_core.specs.declared.resident.Resident.{Ghosts}
 use Rattle.placed_parts.specs.Standing.{first_here}
 use Rattle.squeue_state.specs.AllRoom.{HasAllRoom}
-use Rattle.squeue_state.specs.declared.guarded.Quota.{Quota}
-use Rattle.squeue_state.specs.Behind.{pairs}
+use Rattle.histories.specs.declared.quota.Quota.{Quota}
+use Rattle.histories.specs.Quotas.{pairs}
 use Rattle.squeue_state.specs.Clauses.{IsMade, StandsEmpty}
 use Rattle.squeue_state.specs.Naming.{Named}
 use Rattle.perimeter_core.specs.History.{Setting}
 use Rattle.squeue_serve.proofs.Lent.{get_end}
-use Rattle.squeue_rings.proofs.Slots.{got_at, got_map}
+use Rattle.squeue_rings.proofs.Slots.{got_at}
+use Rattle.histories.proofs.ListPlaces.{got_map}
 use Rattle.ring_jobs.proofs.Starts.{first_flag, stands_empty}
 use Rattle.ring_jobs.proofs.Tasked.{each_more}
 use Rattle.ring_jobs.proofs.Works.{got_or}

@@ -13,7 +13,7 @@ use Rattle.placed_parts.specs.declared.parts.Parts.{Ghosts}
 use Rattle.placed_parts.specs.declared.places.Places.{Places}
 use Rattle.placed_parts.specs.Placing.{IsItsPart, MayBe, Stands, limits_of, origin_of, shared_of, size_of}
 use Rattle.placed_parts.specs.Standing.{HasFed, InOrder, PlaceAt, PlacesStand, first_here}
-use Rattle.squeue_serve.proofs.Lent.{some_at}
+use Rattle.histories.proofs.ListPlaces.{some_at}
 use Rattle.squeue_rings.proofs.Slots.{got_at}
 use Rattle.ring_jobs.proofs.Tasked.{each_more}
 use Rattle.squeue_pool.specs.declared.pool.Pool.{Pool}

@@ -10,7 +10,7 @@ use Rattle.squeue_rings.specs.Bringing.{AreOneRun, MayBringAll}
 use Rattle.squeue_rings.specs.Calling.{MayMake, MayMakeEach}
 use Rattle.squeue_rings.specs.Rings.{MayBring}
 use Rattle.squeue_rings.specs.Starts.{StartAtHome}
-use Rattle.squeue_rings.proofs.Slots.{got_map}
+use Rattle.histories.proofs.ListPlaces.{got_map}
 use Rattle.ring_jobs.specs.declared.intake.Intake.{Intake}
 use Rattle.ring_jobs.specs.Doing.{called_by}
 use Rattle.squeue_pool.specs.declared.pool.Pool.{Pool}

@@ -12,6 +12,12 @@ all_short f (x ∷ xs) h =
     let both = sum_by-cons (λ (n : ℕ). n) (f x) (map f xs) in
     All-cons (λ x. f x < 2 ^ 32) x xs (omega (arith, both, h)) (all_short f xs (omega (arith, both, h)))
 
+-- no number of a list is greater than their sum
+pub index_few : (xs : List ℕ) (c : ℕ) → slice_index xs c ≤ sum xs
+index_few [] c = omega arith
+index_few (x ∷ xs) zero = let both = sum_by-cons (λ (n : ℕ). n) x xs in omega (arith, both)
+index_few (x ∷ xs) (suc c) = let both = sum_by-cons (λ (n : ℕ). n) x xs in let le = index_few xs c in omega (arith, both, le)
+
 pub lengths_of : {V : Type 0} (items : V → List ℕ) (xs : List V) → map length (map items xs) ≡ map (λ x. length (items x)) xs
 lengths_of items [] = refl
 lengths_of items (x ∷ xs) = ap (λ ns. length (items x) ∷ ns) (lengths_of items xs)

@@ -22,21 +22,23 @@ use Rattle.perimeter_core.specs.Perimeter.{State, is_here}
 use Rattle.perimeter_core.proofs.NextFeed.{had}
 use Rattle.perimeter_core.proofs.OrderAndWake.{sound, wake_of_sound}
 use Rattle.squeue_state.specs.Clauses.{Knows}
-use Rattle.squeue_state.specs.Naming.{Ending, Named, setting_of}
+use Rattle.squeue_state.specs.Naming.{Named, setting_of}
+use Rattle.histories.specs.Endings.{Ending}
 use Rattle.squeue_state.specs.Told.{marks_of}
-use Rattle.conn_migrate.specs.Stays.{AreLinked, AreSameStays, stays}
-use Rattle.placed_parts.specs.Homes.{home}
+use Rattle.histories.specs.Stays.{AreLinked, AreSameStays, stays}
+use Rattle.histories.specs.Homes.{home}
 use Rattle.squeue_serve.specs.Places.{Holds}
 use Rattle.squeue_serve.proofs.Coming.{each_got}
-use Rattle.squeue_serve.proofs.Lent.{some_at}
-use Rattle.squeue_rings.specs.Keeping.{IsPaced, KeepsPace, OfRing}
+use Rattle.histories.proofs.ListPlaces.{some_at, got_map}
+use Rattle.squeue_rings.specs.Paced.{IsPaced, OfRing}
+use Rattle.histories.specs.Keeping.{KeepsPace}
 use Rattle.squeue_rings.specs.OwnMarks.{EachOwn, OfThread, OfWorker}
 use Rattle.squeue_rings.specs.Made.{made_in, once_on, times_made}
-use Rattle.squeue_rings.specs.Noted.{AreNoted}
-use Rattle.squeue_rings.specs.Runs.{brought, place}
+use Rattle.histories.specs.Noted.{AreNoted}
+use Rattle.histories.specs.Runs.{brought, place}
 use Rattle.squeue_rings.specs.Seen.{seen_ends, seen_in}
 use Rattle.squeue_rings.proofs.CallMarks.{none_beyond as no_thread_beyond}
-use Rattle.squeue_rings.proofs.Slots.{at_got, at_length, got_map}
+use Rattle.squeue_rings.proofs.Slots.{at_got, at_length}
 use Rattle.ring_jobs.specs.declared.intake.Intake.{Intake}
 use Rattle.ring_jobs.specs.Ends.{CallerEnds, RingEnds}
 use Rattle.ring_jobs.specs.Doing.{called_by}

@@ -7,7 +7,7 @@ use Rattle.perimeter_core.specs.History.{Element}
 use Rattle.squeue_state.specs.Naming.{Named}
 use Rattle.squeue_rings.specs.Bringing.{AllBelow, AreOneRun, MayBringAll}
 use Rattle.squeue_rings.specs.Calling.{MayMakeEach}
-use Rattle.squeue_rings.specs.Keeping.{ArePaced}
+use Rattle.squeue_rings.specs.Paced.{ArePaced}
 use Rattle.squeue_rings.specs.Starts.{StartAtHome}
 use Rattle.ring_jobs.specs.declared.intake.Intake.{Intake}
 use Rattle.ring_jobs.specs.Ends.{CallersEnd, CallersKeep, RingsEnd, WorkerEnds}

@@ -1,9 +1,9 @@
 -- What all passes of a squeue keep: each of their marks is the one for what its turn found.
 use Rattle.std.specs.Prelude.{ℕ, ◌+◌, ◌<◌, []}
 use Rattle.perimeter_core.specs.History.{worker}
-use Rattle.squeue_state.specs.Naming.{Ending}
-use Rattle.squeue_enter.specs.declared.Mode.{Mode}
-use Rattle.squeue_rings.specs.Keeping.{OfRing}
+use Rattle.histories.specs.Endings.{Ending}
+use Rattle.histories.specs.declared.mode.Mode.{Mode}
+use Rattle.squeue_rings.specs.Paced.{OfRing}
 use Rattle.squeue_rings.specs.OwnMarks.{EachOwn, OfThread, OfWorker}
 
 -- At each end of a squeue, by the marks of its history. A ring enters feeds by the way of the table, and leaves after its Ask with a block

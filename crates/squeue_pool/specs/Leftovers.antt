@@ -6,7 +6,7 @@ use Rattle.perimeter_core.specs.History.{Element}
 use Rattle.perimeter_core.specs.Blocks.{peri}
 use Rattle.squeue_state.specs.Behind.{IsPeri}
 use Rattle.squeue_state.specs.Clauses.{Knows}
-use Rattle.squeue_state.specs.Endings.{HasEnded}
+use Rattle.histories.specs.Endings.{HasEnded}
 use Rattle.squeue_state.specs.Naming.{Named, setting_of}
 use Rattle.squeue_state.specs.Told.{marks_of}
 use Rattle.squeue_pool.specs.declared.work.Left.{Left}

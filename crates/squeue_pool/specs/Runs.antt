@@ -6,14 +6,13 @@ use Rattle.perimeter_core.specs.Blocks.{peri}
 use Rattle.perimeter_core.specs.Deeds.{acts, fed}
 use Rattle.perimeter_core.specs.History.{run}
 use Rattle.perimeter_core.specs.Perimeter.{is_here}
-use Rattle.squeue_state.specs.Endings.{HasEnded}
-use Rattle.squeue_state.specs.Naming.{Ending}
+use Rattle.histories.specs.Endings.{HasEnded, Ending}
 use Rattle.squeue_state.specs.Told.{marks_of}
-use Rattle.conn_migrate.specs.Stays.{AreLinked}
-use Rattle.squeue_rings.specs.Keeping.{KeepsPace}
+use Rattle.histories.specs.Stays.{AreLinked}
+use Rattle.histories.specs.Keeping.{KeepsPace}
 use Rattle.squeue_rings.specs.Made.{once_on, times_made}
-use Rattle.squeue_rings.specs.Noted.{AreNoted}
-use Rattle.squeue_rings.specs.Runs.{brought, place}
+use Rattle.histories.specs.Noted.{AreNoted}
+use Rattle.histories.specs.Runs.{brought, place}
 use Rattle.ring_jobs.specs.Doing.{called_by}
 use Rattle.squeue_pool.specs.declared.pool.Pool.{Pool}
 use Rattle.squeue_pool.specs.declared.work.Left.{Left}

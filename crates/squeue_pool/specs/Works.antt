@@ -6,15 +6,14 @@ use Rattle.perimeter_core.specs.declared.entries.Feed.{Feed}
 use Rattle.perimeter_core.specs.declared.resident.Resident.{Ghosts}
 use Rattle.perimeter_core.specs.History.{Setting, feed_quotas}
 use Rattle.placed_parts.specs.Standing.{first_here}
-use Rattle.squeue_state.specs.declared.guarded.Quota.{Quota}
+use Rattle.histories.specs.declared.quota.Quota.{Quota}
 use Rattle.squeue_state.specs.AllRoom.{HasAllRoom}
-use Rattle.squeue_state.specs.Behind.{pairs}
-use Rattle.squeue_state.specs.Clauses.{ask_quotas}
-use Rattle.squeue_state.specs.Limits.{most_asks, most_feeds, most_quotas}
+use Rattle.histories.specs.Quotas.{pairs, ask_quotas}
+use Rattle.histories.specs.Limits.{most_asks, most_feeds, most_quotas}
 use Rattle.squeue_state.specs.Naming.{Named, setting_of}
 use Rattle.squeue_rings.specs.Calling.{MayMake}
 use Rattle.squeue_rings.specs.Rings.{MayBring}
-use Rattle.squeue_rings.specs.Runs.{InOrder}
+use Rattle.histories.specs.Runs.{InOrder}
 use Rattle.ring_jobs.specs.Doing.{called_by}
 use Rattle.ring_jobs.specs.declared.intake.Intake.{Intake}
 use Rattle.squeue_pool.specs.declared.pool.Pool.{Pool}

@@ -1,11 +1,11 @@
 //! Work by key: each connection has a number of feeds, stays at its squeue, and nobody calls.
 ghost use Rattle.std.specs.Prelude.{◌≡◌, ◌<◌, ◌≤◌, ◌^◌, IfOk, length, sum};
 ghost use Rattle.perimeter_core.specs.Residing.{IsWithin};
-ghost use Rattle.squeue_state.specs.Limits.{most_feeds};
+ghost use Rattle.histories.specs.Limits.{most_feeds};
 ghost use Rattle.squeue_pool.specs.Keys.{HadAll, HaveKeys, key_work};
 ghost use Rattle.squeue_pool.specs.Runs.{HasRun};
 ghost use Rattle.squeue_pool.specs.ServedParts.{IsServed, counts_of, shared_of};
-ghost use Rattle.squeue_pool.specs.Works.{IsInRange};
+ghost use Rattle.squeue_pool.specs.Works.{IsInRange, work_of};
 
 use crate::keys::{key_lists, key_quotas};
 use crate::placing::places_of;
@@ -73,14 +73,30 @@ pub fn run_by_key<R: Resident + Send + Drop, H: Hook + Sync, W: Threads + Wait +
     ensures run { IfOk result (λ v. HasRun R.Resident pool.now (key_work pool.now.pace.homes.squeues pool.now.rings counts.now residents.items) v.items) }
     ensures had { IfOk result (λ v. HadAll R.Resident pool.now.pace.homes.squeues counts.now v.items) }
 {
-    let lists = key_lists(alloc, counts, pool.rings)?;
-    let quotas = key_quotas(alloc, &lists, pool.squeues())?;
-    let work = Work {
+    let work = work_by_key(alloc, residents, counts, pool.squeues(), pool.rings)?;
+    run(rt, alloc, hook, pool, work)
+}
+
+/// The same as work, for these residents and so many rings: the lists of the rings, the quotas of their passes, and no calls. Fails only
+/// for want of memory.
+pub fn work_by_key<R: Drop>(
+    alloc: Global,
+    residents: Vec<R>,
+    counts: &[u32],
+    squeues: u32,
+    rings: u32,
+) -> Result<Work<R>, AllocError>
+    requires rings { 1 ≤ rings }
+    requires counts { (length counts.now < 2 ^ 32) × (sum counts.now ≤ most_feeds) }
+    ensures { IfOk result (λ w. work_of w ≡ key_work squeues rings counts.now residents.items) }
+{
+    let lists = key_lists(alloc, counts, rings)?;
+    let quotas = key_quotas(alloc, &lists, squeues)?;
+    Ok(Work {
         conns: counts.len() as u32,
         residents,
         quotas,
         lists,
         calls: Vec::new(alloc),
-    };
-    run(rt, alloc, hook, pool, work)
+    })
 }

@@ -1,7 +1,7 @@
 //! How many feeds there are, the lists of the rings, and the quotas of the squeues, where each connection has so many feeds, nobody moves, and nobody calls.
 ghost use Rattle.std.specs.Prelude.{◌≡◌, ◌<◌, ◌≤◌, ◌^◌, ◌++◌, All, IfOk, OnOk, length, map};
-ghost use Rattle.squeue_state.specs.Behind.{pairs};
-ghost use Rattle.squeue_rings.specs.Runs.{count, is_at};
+ghost use Rattle.histories.specs.Quotas.{pairs};
+ghost use Rattle.histories.specs.Runs.{count, is_at};
 ghost use Rattle.feed_lists.specs.Lists.{items_of, list_of};
 ghost use Rattle.squeue_pool.specs.Keys.{key_lists, key_quotas, quotas_at};
 

@@ -6,7 +6,7 @@
 //! `leftovers` takes back what is left, `whole_run` puts these together.
 //!
 //! Where connections stay at their squeues, nobody calls, and each connection has a number of feeds, [`serve_by_key`] serves parts, and
-//! [`run_by_key`] any resident: `keys` has the lists and quotas of it, `placing` makes the residents from what their parts share, and
+//! [`run_by_key`] any resident, by [`work_by_key`]: `keys` has the lists and quotas of it, `placing` makes the residents from what their parts share, and
 //! `served` has the parts when all is done.
 #![tactic(auto)]
 
@@ -22,7 +22,7 @@ mod squeues;
 mod whole_run;
 mod work;
 
-pub use by_key::{run_by_key, serve_by_key};
+pub use by_key::{run_by_key, serve_by_key, work_by_key};
 pub use keys::{key_lists, lengths};
 pub use placing::places_of;
 pub use pool::Pool;

@@ -2,7 +2,7 @@
 ghost use Rattle.std.specs.Prelude.{◌≡◌, ◌+◌, ◌<◌, ◌≤◌, ℕ, [], All, IfOk, length, map, vec_capacity};
 ghost use Rattle.squeue_serve.specs.Places.{IsNew};
 ghost use Rattle.squeue_serve.specs.Lending.{AreLent, HaveRoom, IsRoomFor, lent_to, tasks_in};
-ghost use Rattle.squeue_state.specs.Behind.{pairs};
+ghost use Rattle.histories.specs.Quotas.{pairs};
 ghost use Rattle.squeue_pool.specs.Works.{AreFor, IsInRange, SuitSqueues};
 
 use crate::pool::Pool;

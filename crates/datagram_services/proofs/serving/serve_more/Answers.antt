@@ -1,7 +1,9 @@
 use Rattle.std.proofs.Common.{length, ap, sym, ◌∙◌, arith}
 use Rattle.std.proofs.lemmas.List.{length-map}
 use Rattle.std.proofs.lemmas.Result.{IfOk-weaker}
-use Rattle.squeue_pool.specs.Works.{work_of}
+use Rattle.squeue_pool.specs.Works.{WorkOf, work_of}
+use Rattle.stream_blocks.specs.declared.blocks.StreamBlocks.{StreamBlocks}
+use Rattle.stream_plan.specs.Streams.{item_count}
 use Rattle.datagram_services.proofs.Ran.{filled, has_served}
 use Rattle.datagram_services.proofs.Suits.{by_pool, suits}
 use Rattle.datagram_services.proofs.serving.serve_more.Goals as goal
@@ -9,7 +11,7 @@ use Rattle.datagram_services.proofs.serving.serve_more.Goals as goal
 pub run_for_parts-requires-clause-pool : goal.run_for_parts-requires-clause-pool
 run_for_parts-requires-clause-pool g c κs within =
     let work = c.in_ok-work.work in
-    let none = ap length c.in_ok-work.ensures.calls in
+    let none = ap (λ (w : WorkOf StreamBlocks). length w.calls) c.in_ok-work.ensures.by_key in
     let n = length-map work.calls.items (λ v. v.items) in
     (omega (arith, c.of-pool.ensures.rings, c.requires.setup.rings.0), omega (arith, c.of-pool.ensures.rings, c.requires.setup.rings.1, none, n))
 
@@ -22,7 +24,9 @@ run_for_parts-requires-clause-work g c κs within =
     (omega (arith, c.of-pool.ensures.rings, c.requires.setup.rings.0))
 
 pub left-requires-clause-count : goal.left-requires-clause-count
-left-requires-clause-count g c = c.in_ok-finished.ensures.count ∙ (c.in_ok-work.ensures.conns ∙ sym c.streams.ensures.value)
+left-requires-clause-count g c =
+    c.in_ok-finished.ensures.count
+    ∙ (ap (λ (w : WorkOf StreamBlocks). w.conns) c.in_ok-work.ensures.by_key ∙ (length-map c.args.plan.now.streams item_count ∙ sym c.streams.ensures.value))
 
 pub left-requires-clause-there : goal.left-requires-clause-there
 left-requires-clause-there g c =

@@ -1,5 +1,5 @@
 use Rattle.std.proofs.Common.{◌≡◌, map}
-use Rattle.squeue_state.specs.Behind.{pairs}
+use Rattle.histories.specs.Quotas.{pairs}
 use Rattle.squeue_calls.specs.Quotas.{call_quotas}
 use Rattle.squeue_calls.proofs.quotas.call_quotas.Given as goal
 

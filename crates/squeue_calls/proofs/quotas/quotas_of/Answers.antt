@@ -1,7 +1,8 @@
-use Rattle.std.proofs.Common.{ap, map, ◌++◌, ◌∙◌, arith}
+use Rattle.std.proofs.Common.{ℕ, Vec, ap, sym, map, ◌++◌, ◌∙◌, arith}
+use Rattle.std.specs.declared.alloc.Global.{Global}
 use Rattle.std.proofs.lemmas.List.{take_all}
+use Rattle.std.proofs.lemmas.Simd.{map-map}
 use Rattle.squeue_calls.specs.Quotas.{ring_quota, thread_quota}
-use Rattle.squeue_calls.proofs.CallQuotas.{both_maps}
 use Rattle.squeue_calls.proofs.quotas.quotas_of.Goals as goal
 
 pub returns : goal.returns
@@ -10,4 +11,4 @@ returns c =
     c.loop-called.invariant
     ∙ ap (λ qs. rings ++ qs)
     (ap (map (λ called. thread_quota c.args.counts.now called.items)) (take_all c.loop-called.called-index c.args.calls.now (omega (arith, c.loop-called-test.false)))
-    ∙ both_maps (thread_quota c.args.counts.now) (λ called. called.items) c.args.calls.now)
+    ∙ sym (map-map (thread_quota c.args.counts.now) (λ (called : Vec ℕ Global). called.items) c.args.calls.now))

@@ -1,5 +1,5 @@
 use Rattle.std.proofs.Common.{◌≡◌, map, take}
-use Rattle.squeue_state.specs.Behind.{pairs}
+use Rattle.histories.specs.Quotas.{pairs}
 use Rattle.squeue_calls.specs.Quotas.{ring_quota}
 use Rattle.squeue_calls.proofs.quotas.ring_quotas.Given as goal
 

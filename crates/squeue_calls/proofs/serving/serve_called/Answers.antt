@@ -7,7 +7,7 @@ use Rattle.perimeter_core.specs.declared.entries.Feed.{Feed}
 use Rattle.perimeter_core.specs.History.{Limits}
 use Rattle.perimeter_core.specs.Residing.{IsWithin}
 use Rattle.placed_parts.specs.declared.places.Places.{Places}
-use Rattle.squeue_state.specs.Behind.{pairs}
+use Rattle.histories.specs.Quotas.{pairs}
 use Rattle.squeue_pool.specs.declared.work.Work.{Work}
 use Rattle.squeue_pool.specs.Works.{Suits, WorkOf, work_of}
 use Rattle.squeue_pool.proofs.ByKey.{all_short}

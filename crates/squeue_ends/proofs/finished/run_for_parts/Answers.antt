@@ -1,5 +1,5 @@
 use Rattle.std.proofs.Common.{map, ap, ◌∙◌, arith}
-use Rattle.squeue_state.specs.Naming.{Ending}
+use Rattle.histories.specs.Endings.{Ending}
 use Rattle.squeue_state.specs.Told.{Traced}
 use Rattle.squeue_pool.specs.Works.{work_of}
 use Rattle.squeue_ends.proofs.Placing.{ends_are, have_stood, is_there, traces_are}

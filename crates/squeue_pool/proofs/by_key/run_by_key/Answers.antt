@@ -1,30 +1,25 @@
-use Rattle.std.proofs.Common.{◌≡◌, ◌^◌, ◌<◌, All, IfOk, List, Vec, length, map, refl, ap, sym, ◌∙◌, subst}
-use Rattle.std.specs.declared.alloc.Global.{Global}
+use Rattle.std.proofs.Common.{◌≡◌, IfOk, length, ap, ◌∙◌, sym, subst, arith}
+use Rattle.std.proofs.lemmas.List.{length-map}
 use Rattle.std.proofs.lemmas.Result.{IfOk-weaker}
-use Rattle.perimeter_core.specs.declared.entries.Feed.{Feed}
-use Rattle.squeue_state.specs.Behind.{pairs}
-use Rattle.squeue_pool.specs.declared.work.Work.{Work}
-use Rattle.squeue_pool.specs.Keys.{HadAll, key_quotas, key_work}
+use Rattle.squeue_pool.specs.Keys.{HadAll, key_work}
 use Rattle.squeue_pool.specs.Runs.{HasRun}
 use Rattle.squeue_pool.specs.Works.{Suits, WorkOf, work_of}
-use Rattle.squeue_pool.proofs.ByKey.{all_short, had_all, keys_suit, same_work}
+use Rattle.squeue_pool.proofs.ByKey.{had_all, keys_suit}
 use Rattle.squeue_pool.proofs.by_key.run_by_key.Goals as goal
 
-pub key_quotas-requires : goal.key_quotas-requires
-key_quotas-requires g c =
-    subst (λ (ls : List (Vec Feed Global)). All (λ list. length list.items < 2 ^ 32) ls) (sym c.deref.ensures.value)
-    (all_short c.in_ok-lists.lists.items c.args.pool.now.rings c.args.counts.now c.in_ok-lists.ensures c.requires.counts.1)
+pub run-requires-clause-pool : goal.run-requires-clause-pool
+run-requires-clause-pool g c κs within =
+    let none = ap (λ (w : WorkOf g.row.R.Denot). length w.calls) c.in_ok-work.ensures in
+    let n = length-map c.in_ok-work.work.calls.items (λ v. v.items) in
+    let rings = c.requires.pool.0.1 in
+    (c.requires.pool.0.0, omega (arith, rings, none, n))
 
 pub run-requires-clause-work : goal.run-requires-clause-work
 run-requires-clause-work g c κs within =
     let p = c.args.pool.now in
     let counts = c.args.counts.now in
-    let lists = c.in_ok-lists.lists in
-    let it : Work g.row.R.Denot = record { conns = length counts; residents = c.args.residents; quotas = c.in_ok-quotas.quotas; lists = lists; calls = c.new.result } in
-    let quotas : map (λ v. pairs v.items) c.in_ok-quotas.quotas.items ≡ key_quotas p.pace.homes.squeues (map (λ list. list.items) lists.items) =
-    c.in_ok-quotas.ensures
-    ∙ ((λ i. key_quotas (c.squeues.ensures i) (map (λ list. list.items) c.deref.result.now)) ∙ ap (λ (ls : List (Vec Feed Global)). key_quotas p.pace.homes.squeues (map (λ list. list.items) ls)) c.deref.ensures.value) in
-    let same : work_of it ≡ key_work p.pace.homes.squeues p.rings counts c.args.residents.items = same_work it p.pace.homes.squeues p.rings counts refl quotas c.in_ok-lists.ensures c.new.ensures.items in
+    let same : work_of c.in_ok-work.work ≡ key_work p.pace.homes.squeues p.rings counts c.args.residents.items =
+    c.in_ok-work.ensures ∙ ap (λ n. key_work n p.rings counts c.args.residents.items) c.squeues.ensures in
     subst (λ (w : WorkOf g.row.R.Denot). Suits g.R.Resident p w) (sym same)
     (keys_suit g.R.Resident p counts c.args.residents.items c.requires.pool.0.0 c.requires.pool.1 c.requires.counts.1 c.requires.residents)
 
@@ -32,12 +27,8 @@ pub returns-clause-run : goal.returns-clause-run
 returns-clause-run g c =
     let p = c.args.pool.now in
     let counts = c.args.counts.now in
-    let lists = c.in_ok-lists.lists in
-    let it : Work g.row.R.Denot = record { conns = length counts; residents = c.args.residents; quotas = c.in_ok-quotas.quotas; lists = lists; calls = c.new.result } in
-    let quotas : map (λ v. pairs v.items) c.in_ok-quotas.quotas.items ≡ key_quotas p.pace.homes.squeues (map (λ list. list.items) lists.items) =
-    c.in_ok-quotas.ensures
-    ∙ ((λ i. key_quotas (c.squeues.ensures i) (map (λ list. list.items) c.deref.result.now)) ∙ ap (λ (ls : List (Vec Feed Global)). key_quotas p.pace.homes.squeues (map (λ list. list.items) ls)) c.deref.ensures.value) in
-    let same : work_of it ≡ key_work p.pace.homes.squeues p.rings counts c.args.residents.items = same_work it p.pace.homes.squeues p.rings counts refl quotas c.in_ok-lists.ensures c.new.ensures.items in
+    let same : work_of c.in_ok-work.work ≡ key_work p.pace.homes.squeues p.rings counts c.args.residents.items =
+    c.in_ok-work.ensures ∙ ap (λ n. key_work n p.rings counts c.args.residents.items) c.squeues.ensures in
     subst (λ (w : WorkOf g.row.R.Denot). IfOk c.run.result (λ v. HasRun g.R.Resident p w v.items)) same c.run.ensures
 
 pub returns-clause-had : goal.returns-clause-had

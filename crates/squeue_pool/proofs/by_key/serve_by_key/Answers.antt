@@ -1,6 +1,6 @@
 use Rattle.std.proofs.Common.{◌≡◌, ℕ, ◌<◌, ◌≤◌, ◌^◌, List, length, sum, ap, sym, subst, arith}
 use Rattle.perimeter_core.specs.Residing.{IsWithin}
-use Rattle.squeue_state.specs.Limits.{most_feeds}
+use Rattle.histories.specs.Limits.{most_feeds}
 use Rattle.squeue_pool.specs.Keys.{HadAll, HaveKeys, key_work}
 use Rattle.squeue_pool.specs.Runs.{HasRun}
 use Rattle.squeue_pool.proofs.Placed.{as_resident, have_had, new_by, new_have}

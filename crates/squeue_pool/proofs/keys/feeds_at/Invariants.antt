@@ -1,5 +1,5 @@
 use Rattle.std.proofs.Common.{◌≡◌, ◌≤◌, take}
-use Rattle.squeue_rings.specs.Runs.{count, is_at}
+use Rattle.histories.specs.Runs.{count, is_at}
 use Rattle.squeue_pool.proofs.keys.feeds_at.Given as goal
 
 abbrev pub invariant-loop-feed : goal.invariant-loop-feed

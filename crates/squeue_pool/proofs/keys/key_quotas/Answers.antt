@@ -3,8 +3,8 @@ use Rattle.std.specs.List.{range_with_len}
 use Rattle.std.specs.declared.alloc.Global.{Global}
 use Rattle.std.proofs.lemmas.List.{map-append}
 use Rattle.perimeter_core.specs.declared.entries.Feed.{Feed}
-use Rattle.squeue_state.specs.Behind.{pairs}
-use Rattle.squeue_state.specs.declared.guarded.Quota.{Quota}
+use Rattle.histories.specs.Quotas.{pairs}
+use Rattle.histories.specs.declared.quota.Quota.{Quota}
 use Rattle.ring_jobs.proofs.Tasked.{numbers_more}
 use Rattle.squeue_pool.specs.Keys.{quotas_at}
 use Rattle.squeue_pool.proofs.keys.key_quotas.Goals as goal

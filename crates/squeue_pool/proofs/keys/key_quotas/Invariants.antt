@@ -1,6 +1,6 @@
 use Rattle.std.proofs.Common.{◌≡◌, map}
 use Rattle.std.specs.List.{range_with_len}
-use Rattle.squeue_state.specs.Behind.{pairs}
+use Rattle.histories.specs.Quotas.{pairs}
 use Rattle.squeue_pool.specs.Keys.{quotas_at}
 use Rattle.squeue_pool.proofs.keys.key_quotas.Given as goal
 

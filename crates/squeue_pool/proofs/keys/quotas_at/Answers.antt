@@ -1,6 +1,6 @@
 use Rattle.std.proofs.Common.{ap, map, ◌∙◌, arith}
 use Rattle.std.proofs.lemmas.List.{take_all}
-use Rattle.squeue_rings.specs.Runs.{count, is_at}
+use Rattle.histories.specs.Runs.{count, is_at}
 use Rattle.squeue_pool.proofs.KeyLists.{quotas_map}
 use Rattle.squeue_pool.proofs.keys.quotas_at.Goals as goal
 

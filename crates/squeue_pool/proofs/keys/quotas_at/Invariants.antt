@@ -1,6 +1,6 @@
 use Rattle.std.proofs.Common.{◌≡◌, map, take}
-use Rattle.squeue_rings.specs.Runs.{count, is_at}
-use Rattle.squeue_state.specs.Behind.{pairs}
+use Rattle.histories.specs.Runs.{count, is_at}
+use Rattle.histories.specs.Quotas.{pairs}
 use Rattle.squeue_pool.proofs.keys.quotas_at.Given as goal
 
 abbrev pub invariant-loop-list : goal.invariant-loop-list

@@ -1,5 +1,5 @@
 use Rattle.std.proofs.Common.{◌≡◌, ◌+◌, ◌≤◌, All, length, map, reverse, vec_capacity}
-use Rattle.squeue_state.specs.Behind.{pairs}
+use Rattle.histories.specs.Quotas.{pairs}
 use Rattle.squeue_serve.specs.Places.{IsNew}
 use Rattle.squeue_serve.specs.Lending.{AreLent, HaveRoom, IsRoomFor, lent_to, tasks_in}
 use Rattle.squeue_pool.proofs.Made.{SoFar}

@@ -1,7 +1,7 @@
 use Rattle.std.proofs.Common.{◌≡◌, ℕ, IfOk, List, Vec, length, ap, sym, ◌∙◌, subst, arith}
 use Rattle.std.proofs.lemmas.List.{length-map}
 use Rattle.std.specs.declared.alloc.Global.{Global}
-use Rattle.squeue_state.specs.declared.guarded.Quota.{Quota}
+use Rattle.histories.specs.declared.quota.Quota.{Quota}
 use Rattle.squeue_serve.specs.Lending.{tasks_in}
 use Rattle.synch_enter.specs.Hinting.{conns_of}
 use Rattle.ring_jobs.specs.Tasks.{AreTasks}

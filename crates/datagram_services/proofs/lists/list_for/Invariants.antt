@@ -1,7 +1,0 @@
-use Rattle.std.proofs.Common.{◌≡◌, take}
-use Rattle.feed_lists.specs.Lists.{list_of}
-use Rattle.datagram_services.specs.Lists.{counts_of}
-use Rattle.datagram_services.proofs.lists.list_for.Given as goal
-
-abbrev pub invariant-loop-c : goal.invariant-loop-c
-invariant-loop-c l = l.list.items ≡ list_of l.rings l.ring 0 (take l.c (counts_of l.plan))

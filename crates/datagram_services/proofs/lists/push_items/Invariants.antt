@@ -1,6 +1,0 @@
-use Rattle.std.proofs.Common.{◌≡◌, ◌++◌}
-use Rattle.feed_lists.specs.Lists.{items_of}
-use Rattle.datagram_services.proofs.lists.push_items.Given as goal
-
-abbrev pub invariant-loop-n : goal.invariant-loop-n
-invariant-loop-n l = l.list.items ≡ l.initial.list.items ++ items_of l.c 0 l.n
