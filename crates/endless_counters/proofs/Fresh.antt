@@ -8,14 +8,14 @@ use Rattle.perimeter_core.specs.History.{Element, Setting, Limits, start, run, f
 use Rattle.perimeter_core.specs.Deeds.{due, times_left}
 use Rattle.perimeter_core.specs.Legal.{asks_by, feeds_by}
 use Rattle.squeue_state.specs.Naming.{Named, setting_of}
-use Rattle.squeue_state.specs.Elements.{number_of}
+use Rattle.histories.specs.Elements.{number_of}
 use Rattle.squeue_serve.proofs.Unused.{start_idle}
 use Rattle.squeue_streams.specs.Taking.{most_feeds}
 use Rattle.squeue_streams.specs.declared.source.Source.{Source}
 use Rattle.squeue_streams.specs.Sourcing.{Brings, stream_of}
 use Rattle.endless_sums.specs.Looking.{MayLook}
-use Rattle.endless_counters.specs.declared.running.Task.{Task}
-use Rattle.endless_counters.specs.declared.running.Task.TheVariants as Task'
+use Rattle.endless_counters.specs.declared.running.Role.{Role}
+use Rattle.endless_counters.specs.declared.running.Role.TheVariants as Role'
 use Rattle.endless_counters.specs.Making.{IsNewSource, most_again, most_amounts}
 use Rattle.endless_counters.specs.Running.{MayRun}
 use Rattle.endless_counters.specs.Serving.{IsTask, ServesStreams}
@@ -51,18 +51,20 @@ module _ {R : Type 0} (limits : R → Limits) (s : Named R) (looks : ℕ) (serve
         leaves = omega (arith, not_left, leaves, new.again);
       }
 
-  may_look : (p : Pass Element) → IsPassOf number_of s.gate p → number p ≡ s.given.rings → seen p ≡ [] → MayLook limits s looks p
+  may_look : (p : Pass Element) → IsPassOf number_of s.gate p → number p ≡ s.given.rings → seen p ≡ [] → MayLook limits s looks p × (asks_by (number p) (seen p) ≡ 0)
   may_look p pass is none =
       let zero_by : asks_by (number p) (seen p) ≡ 0 = ap (asks_by (number p)) none in
-      let quota : looks ≤ ask_quota S (number p) = rw is serves.its_looks in
-      record {
-        pass = pass;
-        no_worker = omega (arith, is, serves.passes);
-        idle = subst (λ (H : List Element). Idle (run S H) (number p)) (sym none) (start_idle S (number p));
-        asks = omega (arith, zero_by, quota);
-      }
+      let quota : looks ≤ ask_quota S (number p) = rw is serves.its_looks in (
+        record {
+          pass = pass;
+          no_worker = omega (arith, is, serves.passes);
+          idle = subst (λ (H : List Element). Idle (run S H) (number p)) (sym none) (start_idle S (number p));
+          asks = omega (arith, zero_by, quota);
+        },
+        zero_by,
+      )
 
-  pub may_new : {A : Type 0} (task : Task A) (p : Pass Element) (k : ℕ) → IsTask s.given.rings k task → IsPassOf number_of s.gate p → number p ≡ k → seen p ≡ [] → MayRun limits s looks task p
-  may_new (Task'.Bring source) p k t pass is none = may_bring p source k pass is none t.0 t.1
-  may_new (Task'.Look looked) p k t pass is none = may_look p pass (is ∙ t) none
-  may_new Task'.Work p k t pass is none = (pass, omega (arith, is, t, serves.passes))
+  pub may_new : {A : Type 0} (task : Role A) (p : Pass Element) (k : ℕ) → IsTask s.given.rings k task → IsPassOf number_of s.gate p → number p ≡ k → seen p ≡ [] → MayRun limits s looks task p
+  may_new (Role'.Bring source) p k t pass is none = may_bring p source k pass is none t.0 t.1
+  may_new (Role'.Look looked) p k t pass is none = may_look p pass (is ∙ t) none
+  may_new Role'.Work p k t pass is none = (pass, omega (arith, is, t, serves.passes))

@@ -1,3 +1,4 @@
 pub mod Making
 pub mod Running
+pub mod Preparing
 pub mod Serving

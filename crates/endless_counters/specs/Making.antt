@@ -1,8 +1,9 @@
 -- The ends of streams as they are made.
-use Rattle.std.specs.Prelude.{◌≡◌, ℕ, ◌*◌, ◌^◌, ◌≤◌, Some, List, [], ◌∷◌, ◌++◌, length, replicate, slice_get}
+use Rattle.std.specs.Prelude.{◌≡◌, ℕ, ◌*◌, ◌^◌, ◌≤◌, Some, List, [], ◌∷◌, ◌++◌, true, length, replicate, slice_get}
 use Rattle.squeue_streams.specs.declared.source.Source.{Source}
-use Rattle.squeue_streams.specs.Sourcing.{again_of, entered_of, left_of, pushed_of, span_of, stream_of}
-use Rattle.squeue_streams.specs.Taking.{most_feeds}
+use Rattle.squeue_streams.specs.Sourcing.{again_of, entered_of, left_of, pushed_of, sent_of, span_of, stream_of}
+use Rattle.squeue_streams.specs.Taking.{most_feeds, most_leaves}
+use Rattle.perimeter_core.specs.History.{Setting}
 
 -- so many amounts a stream has in its life at most, and so often it is put in again
 abbrev pub most_amounts : ℕ
@@ -16,6 +17,7 @@ pub record IsNewSource (c : ℕ) (source : Source ℕ) : Type 0 where
   pub stream : stream_of source ≡ c
   pub entered : entered_of source ≡ 0
   pub pushed : pushed_of source ≡ 0
+  pub sent : sent_of source ≡ []
   pub left : left_of source ≡ most_amounts
   pub span : span_of source ≤ most_feeds
   pub again : again_of source ≡ most_again
@@ -35,3 +37,13 @@ looker_life = (0, 2 ^ 56)
 
 abbrev pub lives_of : ℕ → List (ℕ × ℕ)
 lives_of rings = replicate rings ring_life ++ looker_life ∷ []
+
+-- a squeue with a stream for each of so many rings, all here at its start
+abbrev pub setting_for : ℕ → Setting
+setting_for rings =
+    record {
+      rings = rings;
+      quotas = lives_of rings;
+      starts = replicate rings true;
+      limits = record { feeds = replicate rings most_feeds; leaves = replicate rings most_leaves; calls = [] };
+    }

@@ -5,9 +5,10 @@ ghost use Rattle.placed_parts.specs.Standing.{all_new};
 ghost use Rattle.placed_parts.specs.Placing.{Stands, limits_of, size_of};
 ghost use Rattle.turn_gate.specs.Passes.{AreFresh};
 ghost use Rattle.squeue_state.specs.Behind.{ever};
-ghost use Rattle.squeue_state.specs.Elements.{number_of};
+ghost use Rattle.histories.specs.Elements.{number_of};
 ghost use Rattle.squeue_streams.specs.Taking.{count_of, feeds_of, input_of, most_feeds, most_leaves, state_of};
-ghost use Rattle.endless_counters.specs.Making.{AreSources, IsNewSource, lives_of};
+ghost use Rattle.squeue_state.specs.Naming.{setting_of};
+ghost use Rattle.endless_counters.specs.Making.{AreSources, IsNewSource, lives_of, setting_for};
 ghost use Rattle.endless_counters.specs.Serving.{ServesStreams};
 
 use endless_sums::{Adding, Sum, Sums};
@@ -20,7 +21,7 @@ use std::alloc::{AllocError, Global};
 use std::sync::Wait;
 
 // How many amounts a stream has in its life, how often it is put in again at most, and how often its ring asks for that.
-const LIFE: u64 = 1 << 52;
+pub const LIFE: u64 = 1 << 52;
 
 pub const AGAIN: u32 = 1 << 21;
 
@@ -47,6 +48,7 @@ pub fn new_sums<H: Wait + Drop>(
     ensures count { IfOk result (λ r. size_of r.0 ≡ streams) }
     ensures feeds { IfOk result (λ r. (limits_of r.0).feeds ≡ replicate streams most_feeds) }
     ensures leaves { IfOk result (λ r. (limits_of r.0).leaves ≡ replicate streams most_leaves) }
+    ensures calls { IfOk result (λ r. (limits_of r.0).calls ≡ []) }
     ensures sources { IfOk result (λ r. AreSources streams r.1.items) }
 {
     let mut sources = Vec::with_capacity(alloc, streams as usize)?;
@@ -65,6 +67,7 @@ fn no_sums<H: Wait + Drop>(alloc: Global, rt: H, streams: u32) -> Result<Sums<H>
     ensures count { IfOk result (λ r. size_of r ≡ streams) }
     ensures feeds { IfOk result (λ r. (limits_of r).feeds ≡ replicate streams most_feeds) }
     ensures leaves { IfOk result (λ r. (limits_of r).leaves ≡ replicate streams most_leaves) }
+    ensures calls { IfOk result (λ r. (limits_of r).calls ≡ []) }
 {
     let mut none = Vec::with_capacity(alloc, streams as usize)?;
     for _c in 0..streams {
@@ -122,8 +125,9 @@ pub fn new_squeue<H: Wait + Drop>(
     requires count { size_of sums ≡ rings }
     requires feeds { (limits_of sums).feeds ≡ replicate rings most_feeds }
     requires leaves { (limits_of sums).leaves ≡ replicate rings most_leaves }
+    requires calls { (limits_of sums).calls ≡ [] }
     ensures serves { IfOk result (λ r. (looks : ℕ) → looks < 2 ^ 32 → ServesStreams limits_of r.0.given r.0.given.rings looks) }
-    ensures rings { IfOk result (λ r. r.0.given.rings ≡ rings) }
+    ensures setting { IfOk result (λ r. setting_of limits_of r.0.given ≡ setting_for rings) }
     ensures passes { IfOk result (λ r. (length r.1.items ≡ length r.0.given.quotas + 1) × AreFresh number_of r.0.gate 0 r.1.items) }
 {
     let all = lives(alloc, rings)?;

@@ -9,7 +9,7 @@ use std::time::Clock;
 use std::{env, io};
 
 const USAGE: &str =
-    "usage: endless_counters RINGS ROOM SECONDS [ROUNDS] (RINGS 1 to 62, ROOM 1 to 1073741824)";
+    "usage: endless_counters RINGS ROOM SECONDS [ROUNDS [PAUSE]] (RINGS 1 to 62, ROOM 1 to 1073741824)";
 
 /// Runs the process by its words. Its status is 0 where all was brought, added and told; 2 where the words are no such
 /// numbers; 1 for want of memory, and where reading or printing failed.
@@ -34,15 +34,14 @@ fn run_words<W: Env + AllocGlobal + Print + Threads + Wait + Clock + Sync>(
     let rings = number(words.next());
     let room = number(words.next());
     let seconds = number(words.next());
-    let rounds = match words.next() {
-        Some(word) => number(Some(word)),
-        None => Some(1),
-    };
-    let (Some(rings), Some(room), Some(seconds), Some(rounds), None) = (
+    let rounds = number_or(words.next(), 1);
+    let pause = number_or(words.next(), 0);
+    let (Some(rings), Some(room), Some(seconds), Some(rounds), Some(pause), None) = (
         rings,
         room,
         seconds,
         rounds,
+        pause,
         words.next(),
     ) else {
         return Ok(false);
@@ -53,7 +52,11 @@ fn run_words<W: Env + AllocGlobal + Print + Threads + Wait + Clock + Sync>(
     let size = Size {
         rings,
         room,
-        stint: Stint { seconds, rounds },
+        stint: Stint {
+            seconds,
+            rounds,
+            pause,
+        },
         span: u32::MAX,
     };
     let left = sum_for(rt, rt.alloc(), size)?;
@@ -63,4 +66,12 @@ fn run_words<W: Env + AllocGlobal + Print + Threads + Wait + Clock + Sync>(
 
 fn number(word: Option<String>) -> Option<u32> {
     word?.parse().ok()
+}
+
+// The number that the word is, or the default where there is none.
+fn number_or(word: Option<String>, default: u32) -> Option<u32> {
+    match word {
+        Some(word) => number(Some(word)),
+        None => Some(default),
+    }
 }

@@ -1,3 +1,4 @@
 pub mod Looks
+pub mod Rounds
 pub mod Sums
 pub mod Told

@@ -1,3 +1,4 @@
 pub mod Totalling
 pub mod Looking
+pub mod Rounds
 pub mod Telling

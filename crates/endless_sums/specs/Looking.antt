@@ -6,7 +6,7 @@ use Rattle.perimeter_core.specs.Perimeter.{Idle}
 use Rattle.perimeter_core.specs.History.{Element, Limits, ask_quota, run}
 use Rattle.perimeter_core.specs.declared.resident.Resident.{Ghosts}
 use Rattle.perimeter_core.specs.Legal.{Legal, asks_by}
-use Rattle.squeue_state.specs.Elements.{number_of}
+use Rattle.histories.specs.Elements.{number_of}
 use Rattle.squeue_state.specs.Naming.{Named, setting_of}
 use Rattle.squeue_look.specs.Seeing.{HasSeen}
 

@@ -1,7 +1,7 @@
 -- The totals of all streams.
-use Rattle.std.specs.Prelude.{ℕ, ◌%◌, ◌^◌, Option, Some, None, List, sum_by}
+use Rattle.std.specs.Prelude.{ℕ, ◌%◌, ◌^◌, Option, Some, None, List, [], map, sum_by}
 use Rattle.squeue_streams.specs.declared.streams.Stream.{Stream}
-use Rattle.squeue_streams.specs.Taking.{count_of, state_of}
+use Rattle.squeue_streams.specs.Taking.{count_of, items_of, state_of}
 use Rattle.endless_sums.specs.declared.adding.Sum.{Sum}
 
 -- how many amounts of a stream were added, and their sum, where it's here
@@ -19,3 +19,11 @@ amounts_in parts = sum_by amounts_of parts % 2 ^ 64
 
 abbrev pub total_in : List (Option (Stream ℕ Sum)) → ℕ
 total_in parts = sum_by sum_of parts % 2 ^ 64
+
+-- the amounts that were popped off the ring of a stream, where it's here; and those of each stream
+abbrev pub taken_of : Option (Stream ℕ Sum) → List ℕ
+taken_of (Some stream) = items_of stream
+taken_of None = []
+
+abbrev pub taken_in : List (Option (Stream ℕ Sum)) → List (List ℕ)
+taken_in parts = map taken_of parts

@@ -27,7 +27,7 @@ impl Steps for Adding {
 
     ghost origin = { λ _. tt };
 
-    ghost begins = { λ _ _ s. s.sum ≡ 0 };
+    ghost begins = { λ _ _ _ s. s.sum ≡ 0 };
 
     ghost step = { λ _ from amount to. to.sum ≡ (from.sum + amount) % 2 ^ 64 };
 

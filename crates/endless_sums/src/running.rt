@@ -1,14 +1,16 @@
 //! What the threads do with their passes: each ring brings amounts round after round, and one thread looks each second.
-ghost use Rattle.std.specs.Prelude.{◌≡◌, ◌<◌, ◌++◌, ◌∷◌, [], IsSome};
+ghost use Rattle.std.specs.Prelude.{◌≡◌, ◌+◌, ◌<◌, ◌⊎◌, ◌++◌, ◌∷◌, [], true, IsSome};
 ghost use Rattle.turn_gate.specs.History.{Begins};
 ghost use Rattle.turn_gate.specs.Passes.{number, seen};
-ghost use Rattle.squeue_streams.specs.Sourcing.{Brings, entered_of, pushed_of, sent_of};
+ghost use Rattle.perimeter_core.specs.Legal.{asks_by};
+ghost use Rattle.squeue_streams.specs.Sourcing.{Brings, entered_of, left_of, pushed_of, sent_of};
 ghost use Rattle.endless_sums.specs.Looking.{HasLooked, MayLook};
+ghost use Rattle.endless_sums.specs.Rounds.{HasPushed, HasPushedRounds};
 
 use perimeter_core::{NoHook, Resident};
 use squeue_look::{Reads, look};
 use squeue_state::{Pass, Squeue};
-use squeue_streams::{Pace, Renews, Source};
+use squeue_streams::{Renews, Source, SourcePace};
 use std::alloc::Global;
 use std::fmt::Display;
 use std::sync::Wait;
@@ -18,11 +20,12 @@ use std::{io, thread};
 /// How many amounts a ring brings before it looks whether its time is over: 0, 1, 2 and so on.
 pub const ROUND: u32 = 1_000;
 
-/// How long a ring brings: so many seconds, and so many rounds at least.
+/// How long a ring brings: so many seconds, and so many rounds at least; and how many microseconds it rests after each amount.
 #[derive(Clone, Copy)]
 pub struct Stint {
     pub seconds: u32,
     pub rounds: u32,
+    pub pause: u32,
 }
 
 /// What who looked has at its end: what the last look has seen, and whether all that was seen could be told.
@@ -33,12 +36,12 @@ pub struct Looked<S: Drop> {
 }
 
 /// Brings rounds of amounts, one at least, until the stint is over, and enters the feeds of all. The seconds are over too where
-/// the clock fails, and the stint where the source's life has no round more.
+/// the clock fails, and the stint where the source's life has no round more. Where it hasn't got one at first, this waits for ever.
 pub fn bring<R: Renews, W: Wait + Clock>(
     rt: &W,
     sq: &Squeue<R>,
     alloc: Global,
-    pace: Pace,
+    pace: SourcePace,
     pass: Pass,
     source: &mut Source<u32>,
     stint: Stint,
@@ -47,21 +50,59 @@ pub fn bring<R: Renews, W: Wait + Clock>(
     ensures may { Brings R.limits sq.now result source.new }
     ensures number { number result ≡ number pass }
     ensures all { entered_of source.new ≡ pushed_of source.new }
+    ensures pushed { HasPushedRounds stint.rounds source.old source.new }
 {
     let start = Instant::now(rt);
     let mut pass = pass;
     let mut rounds = stint.rounds;
     for _ in rt.forever() {
-        for amount in 0..ROUND {
-            pass = bring_one(rt, sq, alloc, pace, pass, source, amount);
-        }
+        pass = bring_round(rt, sq, alloc, pace, pass, source, stint.pause);
         rounds = rounds.saturating_sub(1);
-        let over = rounds == 0 && is_over(rt, &start, stint.seconds);
-        if over || source.left() < u64::from(ROUND) {
+        let over = is_done(rt, &start, stint.seconds, rounds, source.left());
+        if over {
             return bring_rest(rt, sq, alloc, pace, pass, source);
         }
     }
     unreachable!()
+}
+
+// Brings the amounts of one round, and rests after each.
+fn bring_round<R: Renews, W: Wait + Clock>(
+    rt: &W,
+    sq: &Squeue<R>,
+    alloc: Global,
+    pace: SourcePace,
+    pass: Pass,
+    source: &mut Source<u32>,
+    pause: u32,
+) -> Pass
+    requires may { Brings R.limits sq.now pass source.old }
+    ensures may { Brings R.limits sq.now result source.new }
+    ensures number { number result ≡ number pass }
+    ensures pushed { HasPushed 1000 source.old source.new }
+{
+    let mut pass = pass;
+    for amount in 0..ROUND {
+        pass = bring_one(rt, sq, alloc, pace, pass, source, amount);
+        rest(rt, pause);
+    }
+    pass
+}
+
+// Whether the stint is over by so many rounds that are left of it, or what is left of the life has no round more.
+fn is_done<W: Clock>(
+    rt: &W,
+    start: &io::Result<Instant>,
+    seconds: u32,
+    rounds: u32,
+    left: u64,
+) -> bool
+    ensures { result ≡ true → (rounds ≡ 0) ⊎ (left < 1000) }
+{
+    if left < u64::from(ROUND) {
+        return true;
+    }
+    rounds == 0 && is_over(rt, start, seconds)
 }
 
 // Whether so many seconds are over since the start.
@@ -75,12 +116,19 @@ fn is_over<W: Clock>(rt: &W, start: &io::Result<Instant>, seconds: u32) -> bool 
     }
 }
 
+// Sleeps for so many microseconds, where there are some.
+fn rest<W: Clock>(rt: &W, pause: u32) {
+    if pause > 0 {
+        thread::sleep(rt, Duration::from_micros(u64::from(pause)));
+    }
+}
+
 // Brings one amount. Where ring and room are full it waits.
 fn bring_one<R: Renews, W: Wait>(
     rt: &W,
     sq: &Squeue<R>,
     alloc: Global,
-    pace: Pace,
+    pace: SourcePace,
     pass: Pass,
     source: &mut Source<u32>,
     amount: u32,
@@ -107,7 +155,7 @@ fn bring_rest<R: Resident, W: Wait>(
     rt: &W,
     sq: &Squeue<R>,
     alloc: Global,
-    pace: Pace,
+    pace: SourcePace,
     pass: Pass,
     source: &mut Source<u32>,
 ) -> Pass
@@ -115,7 +163,7 @@ fn bring_rest<R: Resident, W: Wait>(
     ensures may { Brings R.limits sq.now result source.new }
     ensures number { number result ≡ number pass }
     ensures all { entered_of source.new ≡ pushed_of source.new }
-    ensures sent { sent_of source.new ≡ sent_of source.old }
+    ensures same { (sent_of source.new ≡ sent_of source.old) × (left_of source.new ≡ left_of source.old) }
 {
     let mut pass = pass;
     for _ in rt.forever() {
@@ -130,7 +178,7 @@ fn bring_rest<R: Resident, W: Wait>(
 }
 
 /// Looks after each second, so many times, and tells what was seen. What the last look has seen comes back: it is of the history
-/// that the pass has seen then, of which what it saw before is a beginning.
+/// that the pass has seen then, of which what it saw before is a beginning. There each look is an ask of the pass, and no other.
 pub fn watch<R: Resident, V: Reads<R>, W: Wait + Clock + Print>(
     rt: &W,
     sq: &Squeue<R>,
@@ -145,6 +193,7 @@ where
     ensures may { MayLook R.limits sq.now 0 result.0 }
     ensures number { number result.0 ≡ number pass }
     ensures grows { Begins (seen pass) (seen result.0) }
+    ensures asks { asks_by (number pass) (seen result.0) ≡ asks_by (number pass) (seen pass) + seconds }
     ensures some { 0 < seconds → IsSome result.1.last }
     ensures looked { HasLooked R.Resident sq.now (V.says reader.now) (seen result.0) result.1.last }
 {

@@ -1,14 +1,11 @@
-//! What a look reads: the totals of all streams.
+//! What is read of streams: the totals of all.
 ghost use Rattle.std.specs.Prelude.{◌≡◌};
 ghost use Rattle.endless_sums.specs.Totalling.{amounts_in, amounts_of, sum_of, total_in};
 
-use crate::adding::{Sum, Sums};
-use placed_parts::Places;
-use squeue_look::Reads;
+use crate::adding::Sum;
 use squeue_streams::Stream;
 use std::fmt;
 use std::fmt::{Display, Formatter, Write};
-use std::sync::Wait;
 
 /// How many amounts were added in all, and their total; both modulo 2^64.
 #[derive(Clone, Copy, Debug, PartialEq, Eq)]
@@ -23,22 +20,8 @@ impl Display for Total {
     }
 }
 
-/// Reads the totals of all streams. Where the sums stand for what a history did, they are of the amounts that it has processed.
+/// Reads the totals of all streams.
 pub struct Totals;
-
-impl<H: Wait + Drop> Reads<Sums<H>> for Totals {
-    type Seen = Total;
-
-    ghost use Rattle.perimeter_core.specs.Blocks.{Blocks};
-    ghost use Rattle.placed_parts.specs.Placing.{Stands, parts_of};
-    ghost use Rattle.endless_sums.specs.Telling.{AreTotalsOf};
-
-    ghost says = { λ _ r seen. (seen.amounts ≡ amounts_in (parts_of r)) × (seen.total ≡ total_in (parts_of r)) × ((blocks : Blocks) → Stands r blocks → AreTotalsOf blocks seen) };
-
-    fn read(&self, sums: &Sums<H>) -> Total {
-        totals_of(sums.parts())
-    }
-}
 
 /// The totals of these parts.
 pub fn totals_of(parts: &[Option<Stream<u32, Sum>>]) -> Total

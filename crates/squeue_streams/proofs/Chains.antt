@@ -9,7 +9,7 @@ use Rattle.turn_gate.specs.declared.pass.Pass.{Pass}
 use Rattle.perimeter_core.specs.declared.entries.Feed.{Feed as FeedOf}
 use Rattle.perimeter_core.specs.Perimeter.{State, is_here}
 use Rattle.perimeter_core.specs.History.{Element, Limits, Setting, ask_quota, feed_quota, run}
-use Rattle.perimeter_core.specs.Deeds.{due, entries, feeds_of, times_left}
+use Rattle.perimeter_core.specs.Deeds.{due, entries, feeds_of}
 use Rattle.perimeter_core.specs.Legal.{Enters, asks_by, feeds_by, one_more}
 use Rattle.squeue_state.specs.Naming.{Named, setting_of}
 use Rattle.squeue_enter.specs.Entering.{Brought, MayEnter, MayGoOn}

@@ -1,13 +1,19 @@
 -- A stream that takes one item more.
-use Rattle.std.proofs.Common.{◌≡◌, ℕ, zero, suc, ◌+◌, ◌%◌, ◌^◌, ◌≤◌, ◌<◌, List, [], ◌∷◌, ◌++◌, length, replicate, slice_index, refl, ap, sym, ◌∙◌, subst, arith, length-append}
+use Rattle.std.proofs.Common.{◌≡◌, Global, ℕ, zero, suc, ◌+◌, ◌%◌, ◌^◌, ◌≤◌, ◌<◌, List, [], ◌∷◌, ◌++◌, length, replicate, slice_index, refl, ap, sym, ◌∙◌, subst, arith, length-append}
 use Rattle.std.proofs.Math.Nat.{mod-add-mod}
 use Rattle.perimeter_core.specs.declared.entries.Act.{Act}
 use Rattle.perimeter_core.specs.declared.entries.Act.TheVariants as Did
 use Rattle.perimeter_core.proofs.NextFeed.{fed-append}
 use Rattle.placed_parts.specs.Standing.{HasFed}
-use Rattle.rtrb.specs.Ring.{received}
+use Rattle.rtrb.specs.declared.AnyItems.{AnyItems}
+use Rattle.rtrb.specs.declared.consumer.Consumer.{Consumer}
+use Rattle.rtrb.specs.Ring.{SameConsumer, received}
 use Rattle.squeue_streams.specs.declared.streams.Stream.{Stream}
-use Rattle.squeue_streams.specs.Taking.{HasTaken, IsStreamOf, Takes, most_feeds}
+use Rattle.squeue_streams.specs.Taking.{HasTaken, IsStreamOf, Takes, count_of, input_of, most_feeds, state_of}
+
+-- the same end of the same ring
+pub same_end : {T : Type 0} (a b c : Consumer T Global AnyItems) → SameConsumer a b → SameConsumer b c → SameConsumer a c
+same_end a b c x y = ((y.0.0 ∙ x.0.0, y.0.1 ∙ x.0.1, y.0.2 ∙ x.0.2, y.0.3 ∙ x.0.3), y.1 ∙ x.1)
 
 -- one item more
 pub takes_more : {T S : Type 0} (step : S → T → S → Type 0) (from at to : S) (xs : List T) (x : T) → Takes step from xs at → step at x to → Takes step from (xs ++ x ∷ []) to
@@ -33,16 +39,31 @@ module _ {T S : Type 0} where
         popped = omega (arith, more, h.popped, ap length popped, length-append (received stream.input) (x ∷ []));
       }
 
-  pub stream_more : {O : Type 0} (begins : O → ℕ → S → Type 0) (step : O → S → T → S → Type 0) (o : O) (c : ℕ) (stream next : Stream T S) (x : T)
-      → IsStreamOf begins step o c stream → received next.input ≡ received stream.input ++ x ∷ [] → step o stream.state x next.state → next.count ≡ (stream.count + 1) % 2 ^ 64 → IsStreamOf begins step o c next
-  stream_more begins step o c stream next x is popped one more =
+  pub stream_more : {O : Type 0} (begins : O → ℕ → Consumer T Global AnyItems → S → Type 0) (step : O → S → T → S → Type 0) (o : O) (c : ℕ) (stream next : Stream T S) (x : T)
+      → IsStreamOf begins step o c stream → SameConsumer stream.input next.input → received next.input ≡ received stream.input ++ x ∷ [] → step o stream.state x next.state → next.count ≡ (stream.count + 1) % 2 ^ 64 → IsStreamOf begins step o c next
+  stream_more begins step o c stream next x is ring popped one more =
       record {
         first = is.first;
+        first_input = is.first_input;
         begun = is.begun;
+        its_ring = same_end is.first_input stream.input next.input is.its_ring ring;
         taken = subst (λ (xs : List T). Takes (step o) is.first xs next.state) (sym popped) (takes_more (step o) is.first stream.state next.state (received stream.input) x is.taken one);
         counted =
             more ∙ (ap (λ (n : ℕ). (n + 1) % 2 ^ 64) is.counted ∙ (mod-add-mod (length (received stream.input)) (2 ^ 64) 1
             ∙ ap (λ (n : ℕ). n % 2 ^ 64) (sym (ap length popped ∙ length-append (received stream.input) (x ∷ [])))));
+      }
+
+  -- a stream from which nothing was popped is what it begins with
+  pub stream_new : {O : Type 0} (begins : O → ℕ → Consumer T Global AnyItems → S → Type 0) (step : O → S → T → S → Type 0) (o : O) (c : ℕ) (stream : Stream T S)
+      → received (input_of stream) ≡ [] → count_of stream ≡ 0 → begins o c (input_of stream) (state_of stream) → IsStreamOf begins step o c stream
+  stream_new begins step o c stream none uncounted begun =
+      record {
+        first = state_of stream;
+        first_input = input_of stream;
+        begun = begun;
+        its_ring = ((refl, refl, refl, refl), refl);
+        taken = subst (λ (xs : List T). Takes (step o) (state_of stream) xs (state_of stream)) (sym none) refl;
+        counted = uncounted ∙ sym (ap (λ (xs : List T). length xs % 2 ^ 64) none);
       }
 
   -- a call changes nothing
@@ -54,12 +75,14 @@ module _ {T S : Type 0} where
   taken_none stream none = record { feeds = sym none; popped = omega (arith, none) }
 
   -- and is what it was
-  pub stream_same : {O : Type 0} (begins : O → ℕ → S → Type 0) (step : O → S → T → S → Type 0) (o : O) (c : ℕ) (stream next : Stream T S)
+  pub stream_same : {O : Type 0} (begins : O → ℕ → Consumer T Global AnyItems → S → Type 0) (step : O → S → T → S → Type 0) (o : O) (c : ℕ) (stream next : Stream T S)
       → next.input ≡ stream.input → next.state ≡ stream.state → next.count ≡ stream.count → IsStreamOf begins step o c stream → IsStreamOf begins step o c next
   stream_same begins step o c stream next input state count is =
       record {
         first = is.first;
+        first_input = is.first_input;
         begun = is.begun;
+        its_ring = rw input is.its_ring;
         taken = rw (input, state) is.taken;
         counted = rw (input, count) is.counted;
       }

@@ -1,10 +1,10 @@
 -- A stream that is taken out and put in again.
-use Rattle.std.proofs.Common.{◌≡◌, ℕ, ◌+◌, ◌-◌, ◌*◌, ◌%◌, ◌<◌, ◌≤◌, true, [], length, ap, sym, ◌∙◌, subst, arith}
+use Rattle.std.proofs.Common.{◌≡◌, ℕ, ◌+◌, ◌%◌, ◌<◌, [], length, ap, sym, ◌∙◌, subst, arith}
 use Rattle.turn_gate.specs.Passes.{number, seen}
 use Rattle.turn_gate.specs.declared.pass.Pass.{Pass}
 use Rattle.perimeter_core.specs.Perimeter.{Idle, is_here}
 use Rattle.perimeter_core.specs.History.{Element, Limits, Setting, ask_quota, feed_quota, run}
-use Rattle.perimeter_core.specs.Deeds.{due, times_left}
+use Rattle.perimeter_core.specs.Deeds.{due}
 use Rattle.perimeter_core.specs.Legal.{asks_by, feeds_by}
 use Rattle.perimeter_core.specs.declared.marks.SynchAct.TheVariants as Done
 use Rattle.squeue_state.specs.Naming.{Named, setting_of}

@@ -7,7 +7,7 @@ use Rattle.perimeter_core.specs.Perimeter.{Idle, is_here}
 use Rattle.perimeter_core.specs.History.{Element, Limits, ask_quota, run}
 use Rattle.perimeter_core.specs.Deeds.{times_left}
 use Rattle.perimeter_core.specs.Legal.{asks_by}
-use Rattle.squeue_state.specs.Elements.{number_of}
+use Rattle.histories.specs.Elements.{number_of}
 use Rattle.squeue_state.specs.Naming.{Named, setting_of}
 use Rattle.conn_migrate.specs.Moving.{Moved}
 

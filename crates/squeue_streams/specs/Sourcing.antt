@@ -1,5 +1,8 @@
 -- What a source has pushed and entered, and what it may enter.
+use Rattle.std.proofs.Common.{Global}
 use Rattle.std.specs.Prelude.{◌≡◌, ℕ, ◌+◌, ◌-◌, ◌*◌, ◌%◌, ◌≤◌, ◌<◌, ◌⊎◌, true, List, length, slice_index}
+use Rattle.rtrb.specs.declared.AnyItems.{AnyItems}
+use Rattle.rtrb.specs.declared.producer.Producer.{Producer}
 use Rattle.rtrb.specs.Ring.{SameProducer, known_free, sent}
 use Rattle.turn_gate.specs.Passes.{IsPassOf, number, seen}
 use Rattle.turn_gate.specs.declared.pass.Pass.{Pass}
@@ -7,7 +10,7 @@ use Rattle.perimeter_core.specs.Perimeter.{Idle, is_here}
 use Rattle.perimeter_core.specs.History.{Element, Limits, ask_quota, feed_quota, run}
 use Rattle.perimeter_core.specs.Deeds.{due, times_left}
 use Rattle.perimeter_core.specs.Legal.{asks_by, feeds_by}
-use Rattle.squeue_state.specs.Elements.{number_of}
+use Rattle.histories.specs.Elements.{number_of}
 use Rattle.squeue_state.specs.Naming.{Named, setting_of}
 use Rattle.squeue_streams.specs.declared.source.Source.{Source}
 
@@ -37,6 +40,10 @@ module _ {T : Type 0} where
   -- how many feeds it enters at most at once
   abbrev pub most_of : Source T → ℕ
   most_of s = s.most
+
+  -- the end of its ring that pushes
+  abbrev pub producer_of : Source T → Producer T Global AnyItems
+  producer_of s = s.producer
 
   -- all items that were ever pushed, oldest first
   abbrev pub sent_of : Source T → List T

@@ -6,7 +6,7 @@ use Rattle.perimeter_core.specs.History.{Limits}
 use Rattle.perimeter_core.specs.Deeds.{fed}
 use Rattle.rtrb.specs.declared.consumer.Consumer.{Consumer}
 use Rattle.rtrb.specs.declared.AnyItems.{AnyItems}
-use Rattle.rtrb.specs.Ring.{received}
+use Rattle.rtrb.specs.Ring.{SameConsumer, received}
 use Rattle.squeue_streams.specs.declared.streams.Stream.{Stream}
 use Rattle.squeue_streams.specs.declared.streams.Streams.{Streams}
 
@@ -40,11 +40,13 @@ module _ {T S : Type 0} where
     pub feeds : fed had ≡ stream.had
     pub popped : stream.had ≤ length (received stream.input)
 
-  -- The state of stream c is what the steps make of all items that were popped, in order, from one in which it may begin; and the
-  -- stream counts these items
-  pub record IsStreamOf {O : Type 0} (begins : O → ℕ → S → Type 0) (step : O → S → T → S → Type 0) (o : O) (c : ℕ) (stream : Stream T S) : Type 0 where
+  -- The state of stream c is what the steps make of all items that were popped, in order, from one in which it may begin with this end of
+  -- a ring, of which it still holds the same end; and the stream counts these items
+  pub record IsStreamOf {O : Type 0} (begins : O → ℕ → Consumer T Global AnyItems → S → Type 0) (step : O → S → T → S → Type 0) (o : O) (c : ℕ) (stream : Stream T S) : Type 0 where
     pub first : S
-    pub begun : begins o c first
+    pub first_input : Consumer T Global AnyItems
+    pub begun : begins o c first_input first
+    pub its_ring : SameConsumer first_input stream.input
     pub taken : Takes (step o) first (received stream.input) stream.state
     pub counted : stream.count ≡ length (received stream.input) % 2 ^ 64
 

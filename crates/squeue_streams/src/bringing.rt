@@ -6,10 +6,10 @@ ghost use Rattle.turn_gate.specs.declared.pass.Pass.{Pass};
 ghost use Rattle.perimeter_core.specs.History.{Element};
 ghost use Rattle.feed_lists.specs.Lists.{items_of};
 ghost use Rattle.squeue_enter.specs.Entering.{WasFull};
-ghost use Rattle.squeue_streams.specs.Sourcing.{Brings, IsRefused, IsSpent, SameCounts, SameSource, again_of, entered_of, left_of, most_of, pushed_of, sent_of, span_of, stream_of};
+ghost use Rattle.squeue_streams.specs.Sourcing.{Brings, IsRefused, IsSpent, SameCounts, SameSource, again_of, entered_of, left_of, most_of, producer_of, pushed_of, sent_of, span_of, stream_of};
 
 use crate::renewing::{Renews, renew};
-use crate::source::{Pace, Source};
+use crate::source::{Source, SourcePace};
 use perimeter_core::{Feed, Hook, Resident};
 use rtrb::{Producer, PushError};
 use squeue_enter::{Entered, enter_or_full};
@@ -34,6 +34,7 @@ impl<T: Drop> Source<T> {
         ensures stream { IfOk result (λ s. (stream_of s ≡ c) × (most_of s ≡ most)) }
         ensures lives { IfOk result (λ s. (left_of s ≡ life) × (span_of s ≡ span) × (again_of s ≡ again)) }
         ensures counts { IfOk result (λ s. (entered_of s ≡ 0) × (pushed_of s ≡ 0)) }
+        ensures ring { IfOk result (λ s. producer_of s ≡ producer) }
         ensures sent { IfOk result (λ s. sent_of s ≡ sent producer) }
     {
         Ok(Source {
@@ -101,7 +102,7 @@ impl<T: Drop> Source<T> {
         alloc: Global,
         hook: &H,
         pass: Pass,
-        pace: Pace,
+        pace: SourcePace,
     ) -> (Pass, bool)
         requires may { Brings R.limits sq.now pass self.old }
         ensures may { Brings R.limits sq.now result.0 self.new }
@@ -150,7 +151,7 @@ impl<T: Drop> Source<T> {
         alloc: Global,
         hook: &H,
         pass: Pass,
-        pace: Pace,
+        pace: SourcePace,
         item: T,
     ) -> (Pass, Result<(), T>)
         requires may { Brings R.limits sq.now pass self.old }
@@ -173,15 +174,15 @@ impl<T: Drop> Source<T> {
         }
     }
 
-    // Enters what is pushed, as far as it fits, and puts the stream in again where its feeds' numbers are used up and all are entered.
-    fn make_way<R: Renews, H: Hook, W: Wait>(
+    /// Enters what is pushed, as far as it fits, and puts the stream in again where its feeds' numbers are used up and all are entered.
+    pub fn make_way<R: Renews, H: Hook, W: Wait>(
         &mut self,
         sq: &Squeue<R>,
         rt: &W,
         alloc: Global,
         hook: &H,
         pass: Pass,
-        pace: Pace,
+        pace: SourcePace,
     ) -> Pass
         requires may { Brings R.limits sq.now pass self.old }
         ensures may { Brings R.limits sq.now result self.new }

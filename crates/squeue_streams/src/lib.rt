@@ -14,5 +14,5 @@ mod source;
 mod streams;
 
 pub use renewing::{Renews, renew};
-pub use source::{Pace, Source};
+pub use source::{Source, SourcePace};
 pub use streams::{Steps, Stream, Streams};

@@ -7,7 +7,7 @@ use squeue_enter::Mode;
 
 /// How a source enters: the mode, and how many feeds it processes at most in one entry.
 #[derive(Clone, Copy)]
-pub struct Pace {
+pub struct SourcePace {
     pub mode: Mode,
     pub budget: u32,
     ghost spends: { 1 ≤ budget },

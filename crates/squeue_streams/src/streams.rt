@@ -1,11 +1,16 @@
 //! The parts: what is made of the items of each stream.
 ghost use Rattle.std.specs.Prelude.{◌≡◌, ◌+◌, ◌^◌, ◌<◌, ◌≤◌, ℕ, [], ◌∷◌, ◌++◌, IfOk, length};
-ghost use Rattle.rtrb.specs.Ring.{IsPair, consumer_capacity, known_items, producer_capacity, received, sent};
-ghost use Rattle.squeue_streams.specs.Taking.{calls_of, count_of, feeds_of, input_of, state_of, steps_of, streams_of};
+ghost use Rattle.std.proofs.Common.{Global, List};
+ghost use Rattle.rtrb.specs.declared.AnyItems.{AnyItems};
+ghost use Rattle.rtrb.specs.declared.consumer.Consumer.{Consumer};
+ghost use Rattle.rtrb.specs.Ring.{IsPair, SameConsumer, received};
+ghost use Rattle.squeue_streams.specs.Sourcing.{SameCounts, entered_of, producer_of, sent_of};
+ghost use Rattle.squeue_streams.specs.Taking.{calls_of, count_of, feeds_of, input_of, items_of, state_of, steps_of, streams_of};
 
 use crate::renewing::Renews;
+use crate::source::Source;
 use placed_parts::{Parts, Places};
-use rtrb::{Consumer, Producer, RingBuffer};
+use rtrb::{Consumer, RingBuffer};
 use std::alloc::{AllocError, Global};
 use std::sync::Wait;
 use std::thread;
@@ -22,15 +27,15 @@ pub trait Steps {
     /// What these streams have in common.
     ghost origin: { Self → Self.Origin };
 
-    /// Which states a stream, by its number, may have before its first item.
-    ghost begins: { Self.Origin → ℕ → Self.State → Type 0 };
+    /// With which end of a ring and in which state a stream, by its number, may begin.
+    ghost begins: { Self.Origin → ℕ → Consumer Self.Item Global AnyItems → Self.State → Type 0 };
 
     /// Which states may follow a state by an item.
     ghost step: { Self.Origin → Self.State → Self.Item → Self.State → Type 0 };
 
-    /// The state of stream `c` before its first item.
+    /// The state of stream `c` before its first item, whichever ring it has.
     fn begin(&self, alloc: Global, c: u32) -> Result<Self::State, AllocError>
-        ensures { IfOk result (λ s. begins (origin self.now) c s) };
+        ensures { IfOk result (λ s. (input : Consumer Self.Item Global AnyItems) → begins (origin self.now) c input s) };
 
     /// Takes the next item. Want of memory is the state's to record.
     fn take(&self, alloc: Global, state: &mut Self::State, item: Self::Item)
@@ -85,6 +90,23 @@ impl<T: Drop, S: Drop> Stream<T, S> {
         &self.state
     }
 
+    /// The same, where the stream is no more.
+    pub fn into_state(self) -> S
+        ensures { result ≡ state_of self }
+    {
+        self.state
+    }
+
+    /// How many items are pushed and not popped yet, where the source of the same ring is at hand.
+    pub fn left_beside(&mut self, source: &mut Source<T>) -> usize
+        requires { IsPair (producer_of source.old) (input_of self.old) }
+        ensures same { (state_of self.new ≡ state_of self.old) × (items_of self.new ≡ items_of self.old) }
+        ensures source { SameCounts source.old source.new × (entered_of source.new ≡ entered_of source.old) }
+        ensures left { (left : List T) × (length left ≡ result) × (items_of self.old ++ left ≡ sent_of source.old) }
+    {
+        self.input.slots_beside(&mut source.producer)
+    }
+
     /// How many items were popped, modulo 2^64.
     pub fn count(&self) -> u64
         ensures { result ≡ count_of self.now }
@@ -121,7 +143,8 @@ impl<X: Steps + Drop, H: Wait + Drop> Streams<X, H> {
 
     /// The next item of a ring. It waits for it.
     fn next(&self, input: &mut Consumer<X::Item>) -> X::Item
-        ensures { received input.new ≡ received input.old ++ result ∷ [] }
+        ensures popped { received input.new ≡ received input.old ++ result ∷ [] }
+        ensures ring { SameConsumer input.old input.new }
     {
         for _ in self.rt.forever() {
             if let Ok(item) = input.pop() {

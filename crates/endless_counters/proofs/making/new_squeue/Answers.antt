@@ -2,10 +2,10 @@ use Rattle.std.proofs.Common.{◌≡◌, ℕ, ◌+◌, length, ap, sym, ◌∙�
 use Rattle.std.proofs.lemmas.List.{length-map}
 use Rattle.std.proofs.lemmas.Result.{IfOk-weaker}
 use Rattle.squeue_state.specs.Behind.{ever}
-use Rattle.squeue_state.specs.Clauses.{ask_quotas}
+use Rattle.histories.specs.Quotas.{ask_quotas}
 use Rattle.perimeter_core.specs.History.{feed_quotas}
 use Rattle.endless_counters.specs.Making.{lives_of}
-use Rattle.endless_counters.proofs.Made.{both_ok, lives_asks, lives_feeds, lives_long, new_empty, serves}
+use Rattle.endless_counters.proofs.Made.{both_ok, lives_asks, lives_feeds, lives_long, new_empty, serves, set_for}
 use Rattle.endless_counters.proofs.making.new_squeue.Given.{Over}
 use Rattle.endless_counters.proofs.making.new_squeue.Goals.{After-deref}
 use Rattle.endless_counters.proofs.making.new_squeue.Goals as goal
@@ -46,8 +46,11 @@ returns-clause-serves g c =
     let is = given g (goal.at.returns-clause-serves g c).After-deref in
     IfOk-weaker c.make_bounded.result _ _ (λ made m looks short. serves c.args.rings _ looks (ever c.deref.result.now) c.args.sums made.0.given m r.rings.0 is r.new r.count r.feeds r.leaves short) c.make_bounded.ensures.given
 
-pub returns-clause-rings : goal.returns-clause-rings
-returns-clause-rings g c = IfOk-weaker c.make_bounded.result _ _ (λ made m. m.its_rings) c.make_bounded.ensures.given
+pub returns-clause-setting : goal.returns-clause-setting
+returns-clause-setting g c =
+    let r = c.requires in
+    let is = given g (goal.at.returns-clause-setting g c).After-deref in
+    IfOk-weaker c.make_bounded.result _ _ (λ made m. set_for c.args.rings _ (ever c.deref.result.now) c.args.sums made.0.given m is r.new r.count r.feeds r.leaves r.calls) c.make_bounded.ensures.given
 
 pub returns-clause-passes : goal.returns-clause-passes
 returns-clause-passes g c =

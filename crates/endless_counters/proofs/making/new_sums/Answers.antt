@@ -3,9 +3,9 @@ use Rattle.perimeter_core.specs.Blocks.{with_act}
 use Rattle.perimeter_core.specs.declared.marks.SynchAct.TheVariants as Done
 use Rattle.placed_parts.specs.Standing.{all_new}
 use Rattle.placed_parts.specs.Placing.{Stands}
-use Rattle.squeue_streams.proofs.Items.{taken_none}
+use Rattle.squeue_streams.proofs.Items.{stream_new, taken_none}
 use Rattle.endless_counters.specs.Making.{AreSources}
-use Rattle.endless_counters.proofs.Made.{away_next, is_new, none_made, one_made, one_put_in, same_blocks}
+use Rattle.endless_counters.proofs.Made.{away_next, none_made, one_made, one_put_in, same_blocks}
 use Rattle.endless_counters.proofs.making.new_sums.Goals as goal
 
 pub loop-c-init : goal.loop-c-init
@@ -15,6 +15,7 @@ loop-c-init g c =
       count = c.in_ok-sums.ensures.count;
       feeds = c.in_ok-sums.ensures.feeds;
       leaves = c.in_ok-sums.ensures.leaves;
+      calls = c.in_ok-sums.ensures.calls;
       sources = none_made c.in_ok-sources.sources.items c.in_ok-sources.ensures.items;
       room = omega (arith, c.in_ok-sources.ensures.exact);
     }
@@ -23,7 +24,7 @@ pub put_in-requires-clause-away : goal.put_in-requires-clause-away
 put_in-requires-clause-away g c = record { blocks = all_new c.loop-c.c; stands = c.loop-c.invariant.stands; away = away_next c.loop-c.c }
 
 pub put_in-requires-clause-owner : goal.put_in-requires-clause-owner
-put_in-requires-clause-owner g c = is_new _ _ _ c.loop-c.c c.in_ok-stream.stream c.in_ok-stream.ensures.input c.in_ok-stream.ensures.sum.1 c.in_ok-stream.ensures.sum.0
+put_in-requires-clause-owner g c = stream_new _ _ _ c.loop-c.c c.in_ok-stream.stream c.in_ok-stream.ensures.input c.in_ok-stream.ensures.sum.1 c.in_ok-stream.ensures.sum.0
 
 pub loop-c-preserved : goal.loop-c-preserved
 loop-c-preserved g c =
@@ -36,6 +37,7 @@ loop-c-preserved g c =
       count = c.put_in.ensures.size ∙ i.count;
       feeds = ap (λ l. l.feeds) c.put_in.ensures.limits ∙ i.feeds;
       leaves = ap (λ l. l.leaves) c.put_in.ensures.limits ∙ i.leaves;
+      calls = ap (λ l. l.calls) c.put_in.ensures.limits ∙ i.calls;
       sources = last;
       room = omega (arith, i.room, c.push_reserved.ensures.capacity);
     }

@@ -3,7 +3,7 @@ use Rattle.std.proofs.lemmas.Result.{IfOk-weaker}
 use Rattle.perimeter_core.specs.Blocks.{none_done}
 use Rattle.placed_parts.specs.Standing.{all_new}
 use Rattle.placed_parts.specs.Placing.{Stands}
-use Rattle.squeue_streams.specs.Taking.{most_feeds, most_leaves, streams_of}
+use Rattle.squeue_streams.specs.Taking.{calls_of, most_feeds, most_leaves, streams_of}
 use Rattle.endless_counters.proofs.Made.{long, none_first, same_blocks}
 use Rattle.endless_counters.proofs.making.no_sums.Goals as goal
 
@@ -50,3 +50,6 @@ returns-clause-leaves g c =
     IfOk-weaker c.make_where.result _ _
     (λ r h. ap (λ s. replicate (streams_of s) most_leaves) h ∙ ap (λ (n : ℕ). replicate n most_leaves) c.of-shared.ensures.count)
     c.make_where.ensures.shared
+
+pub returns-clause-calls : goal.returns-clause-calls
+returns-clause-calls g c = IfOk-weaker c.make_where.result _ _ (λ r h. ap (λ s. calls_of s) h ∙ (c.of-shared.ensures.calls ∙ c.new.ensures.items)) c.make_where.ensures.shared

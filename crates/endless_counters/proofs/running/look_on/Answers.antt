@@ -1,6 +1,8 @@
-use Rattle.std.proofs.Common.{◌∙◌, arith}
-use Rattle.turn_gate.specs.Passes.{seen}
+use Rattle.std.proofs.Common.{ap, sym, ◌∙◌, subst, ℕ, ◌≡◌, arith}
+use Rattle.turn_gate.specs.Passes.{mine, number, seen}
+use Rattle.perimeter_core.specs.Legal.{asks_by}
 use Rattle.squeue_drain.proofs.Deciding.{begins_more}
+use Rattle.endless_counters.proofs.Kept.{asks_closed, asks_same}
 use Rattle.endless_counters.proofs.running.look_on.Goals as goal
 
 pub returns-clause-ended : goal.returns-clause-ended
@@ -13,5 +15,21 @@ pub returns-clause-kept : goal.returns-clause-kept
 returns-clause-kept g c =
     let a = c.close_pass.ensures in
     let w = c.watch-pass.ensures in
-    let begins = begins_more (seen c.watch-pass.result.0) a.found _ a.goes_on in
-    (seen c.watch-pass.result.0, (begins.0, a.now_seen ∙ begins.1), w.looked)
+    let p = c.watch-pass.result.0 in
+    let q = c.close_pass.result in
+    let n = number p in
+    let begins = begins_more (seen p) a.found _ a.goes_on in
+    let own : number c.args.pass ≡ number q = sym (a.same_number ∙ w.number) in
+    let there : asks_by (number q) (seen p) ≡ c.args.seconds =
+    ap (λ (k : ℕ). asks_by k (seen p)) (sym own) ∙ (let e = w.asks in let z = c.requires.none in omega (arith, e, z)) in
+    let same : asks_by (number q) (seen q) ≡ asks_by (number q) (seen p) =
+    subst (λ (k : ℕ). asks_by k (seen q) ≡ asks_by k (seen p)) (sym a.same_number)
+    (ap (asks_by n) a.now_seen ∙ (asks_closed n n a.found ∙ asks_same n (seen p) a.found (mine p) w.may.pass.2 a.own)) in
+    record {
+      before = seen p;
+      begins = (begins.0, a.now_seen ∙ begins.1);
+      there = there;
+      no_more = same ∙ there;
+      some = w.some;
+      looked = w.looked;
+    }

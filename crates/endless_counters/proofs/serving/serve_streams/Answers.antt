@@ -3,4 +3,6 @@ use Rattle.endless_counters.proofs.Made.{whole_streams}
 use Rattle.endless_counters.proofs.serving.serve_streams.Goals as goal
 
 pub returns : goal.returns
-returns g c = whole_streams _ c.args.squeue _ c.serve.result.last c.serve.result.end (λ r blocks stands. stands) refl c.serve.ensures
+returns g c =
+    let left = c.serve.result in
+    whole_streams _ c.args.squeue _ c.args.stint left.ended left.resident left.sources.items left.last left.end (λ r blocks stands. stands) refl c.serve.ensures
