@@ -10,3 +10,5 @@ mod live;
 mod queues;
 #[cfg(test)]
 mod services;
+#[cfg(test)]
+mod tables;

@@ -26,7 +26,15 @@ fn receive(
             let text = text_of(&seg, datagram);
             if tcb.has_room() && tcb.clock() <= now && now <= LAST_TIME {
                 tick(tcb, alloc, now)?;
-                serve(Service::of(seg.dst_port), tcb, alloc, now, iss, &seg, text)?;
+                serve(
+                    &mut Service::of(seg.dst_port),
+                    tcb,
+                    alloc,
+                    now,
+                    iss,
+                    &seg,
+                    text,
+                )?;
             }
             datagrams(alloc, &tuple_of(&seg), &tcb.take_replies(alloc))
         }

@@ -25,7 +25,7 @@ fn receive(
     text: &[u8],
 ) -> Result<(), Fail> {
     assert!(rt; tcb.has_room() && tcb.clock() <= now && now < 1_000_000);
-    serve(Service::Echo, tcb, alloc, now, 500, seg, text)?;
+    serve(&mut Service::Echo, tcb, alloc, now, 500, seg, text)?;
     Ok(())
 }
 
@@ -45,8 +45,8 @@ fn an_echo_comes_again(rt: HostRuntime) -> Result<(), Fail> {
     let mut tcb = Tcb::make(alloc);
     tcb.reserve_replies(4)?;
     let mut syn = Seg::plain(&ENDS, SYN, 100, 0, 4096, 40, 0);
-    syn.mss = Some(1000);
-    syn.scale = Some(3);
+    syn.options.mss = Some(1000);
+    syn.options.scale = Some(3);
     receive(&rt, &mut tcb, alloc, 0, &syn, b"")?;
     let text = Seg::plain(&ENDS, PSH | ACK, 101, 501, 512, 40, 5);
     receive(&rt, &mut tcb, alloc, 2000, &text, b"hello")?;

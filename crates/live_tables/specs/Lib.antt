@@ -1,0 +1,4 @@
+pub mod Faults
+pub mod Taken
+pub mod Fronts
+pub mod Tables
