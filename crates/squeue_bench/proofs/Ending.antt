@@ -5,7 +5,7 @@ use Rattle.turn_gate.specs.declared.pass.Pass.{Pass}
 use Rattle.gate_trial.specs.Counted.{AreFrom}
 use Rattle.perimeter_core.specs.History.{Element, Limits}
 use Rattle.squeue_state.specs.Naming.{Named, setting_of}
-use Rattle.squeue_state.specs.Elements.{number_of}
+use Rattle.histories.specs.Elements.{number_of}
 use Rattle.squeue_state.specs.Clauses.{HasSeenEnd}
 use Rattle.squeue_bench.specs.Places.{HasSeenOver}
 

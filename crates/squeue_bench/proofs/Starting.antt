@@ -2,7 +2,7 @@
 use Rattle.std.proofs.Common.{◌≡◌, ℕ, zero, suc, ◌+◌, ◌*◌, ◌<◌, ◌≤◌, ◌%◌, true, false, Some, List, [], ◌∷◌, ◌++◌, length, map, replicate, get_or, slice_index, slice_index_or, is_some, ◌==◌, refl, sym, ap, ◌∙◌, subst, arith}
 use Rattle.std.specs.Prelude.{All, nat_lt}
 use Rattle.std.proofs.Math.Nat.{mod-eq_of_lt}
-use Rattle.std.proofs.lemmas.List.{length-map, get_or-map, get_or-replicate, length-replicate}
+use Rattle.std.proofs.lemmas.List.{get_or-map, get_or-replicate, length-replicate}
 use Rattle.std.proofs.lemmas.List.Elements.{All-get_or}
 use Rattle.std.proofs.lemmas.Bool.Decides.{nat_tests}
 use Rattle.turn_gate.specs.Passes.{IsPassOf, AreFresh, number, seen}
@@ -18,11 +18,16 @@ use Rattle.placed_parts.specs.Placing.{Stands, limits_of, size_of}
 use Rattle.placed_parts.specs.Standing.{all_new}
 use Rattle.placed_parts.specs.declared.parts.Parts.{Ghosts}
 use Rattle.placed_parts.specs.declared.places.Places.{Places}
-use Rattle.squeue_state.specs.declared.guarded.Quota.{Quota}
-use Rattle.squeue_state.specs.Naming.{Named, setting_of}
-use Rattle.squeue_state.specs.Elements.{number_of}
-use Rattle.squeue_state.specs.Behind.{pairs, room_of}
-use Rattle.squeue_state.specs.Clauses.{IsMade, ask_quotas}
+use Rattle.squeue_state.specs.declared.guarded.Life.{Life}
+use Rattle.histories.specs.declared.quota.Quota.{Quota}
+use Rattle.squeue_state.specs.AllRoom.{HasAllRoom}
+use Rattle.squeue_state.specs.Naming.{Given, Named, setting_of}
+use Rattle.histories.specs.Elements.{number_of}
+use Rattle.perimeter_core.specs.Blocks.{Blocks}
+use Rattle.squeue_state.specs.Behind.{ever, room_of}
+use Rattle.histories.specs.Quotas.{pairs}
+use Rattle.squeue_state.specs.Clauses.{IsMade}
+use Rattle.histories.specs.Quotas.{ask_quotas}
 use Rattle.squeue_bench.specs.Rows.{IsRow}
 use Rattle.squeue_bench.specs.Places.{MayBring}
 use Rattle.squeue_bench.specs.Runs.{IsNewPass, Suits}
@@ -48,8 +53,8 @@ row_enters S s c n next (f ∷ fs) ring here due_is most is =
           (λ i d l. is (suc i) d (omega (arith, l)) ∙ ap (λ (k : ℕ). record { c = c; n = k }) (omega arith)),
     )
 
-pub new_may : {R : Type 0} (limits : R → Limits) (items : ℕ) (s : Named R) (k : ℕ) (p : Pass Element) (feeds : List Feed) → Suits limits items s → IsNewPass k s p → k < length s.given.quotas → IsRow k items feeds → MayBring limits k feeds s (Some p)
-new_may {R} limits items s k p feeds suits new l row =
+pub new_may : {R : Type 0} (limits : R → Limits) (bound items : ℕ) (s : Named R) (k : ℕ) (p : Pass Element) (feeds : List Feed) → Suits limits bound items s → IsNewPass k s p → k < length s.given.quotas → IsRow k items feeds → MayBring limits bound k feeds s (Some p)
+new_may {R} limits bound items s k p feeds suits new l row =
     let S : Setting = setting_of limits s.given in
     let none : feeds_by (number p) (seen p) ≡ 0 = ap (feeds_by (number p)) new.nothing_seen in
     let ring : k ≡ k % S.rings = sym (mod-eq_of_lt (omega (arith, l, suits.its_rings))) in
@@ -75,11 +80,22 @@ module _ (id : TableId) where
 abbrev pub quota_of : ℕ → Quota
 quota_of items = record { feeds = items; asks = 0 }
 
-pub feeds_sum : (n items : ℕ) → feed_quotas (pairs (replicate n (quota_of items))) ≡ n * items
+abbrev pub life_of : ℕ → Life
+life_of items = record { feeds = items; asks = 0 }
+
+pub pairs_are : (n items : ℕ) → pairs (replicate n (quota_of items)) ≡ replicate n (items, 0)
+pairs_are zero items = refl
+pairs_are (suc n) items = ap (λ (qs : List (ℕ × ℕ)). (items, 0) ∷ qs) (pairs_are n items)
+
+pub ever_are : (n items : ℕ) → ever (replicate n (life_of items)) ≡ replicate n (items, 0)
+ever_are zero items = refl
+ever_are (suc n) items = ap (λ (qs : List (ℕ × ℕ)). (items, 0) ∷ qs) (ever_are n items)
+
+pub feeds_sum : (n items : ℕ) → feed_quotas (replicate n (items, 0)) ≡ n * items
 feeds_sum zero items = omega arith
 feeds_sum (suc n) items = let r = feeds_sum n items in let m : suc n * items ≡ items + n * items = grind arith in omega (arith, r, m)
 
-pub asks_sum : (n items : ℕ) → ask_quotas (pairs (replicate n (quota_of items))) ≡ 0
+pub asks_sum : (n items : ℕ) → ask_quotas (replicate n (items, 0)) ≡ 0
 asks_sum zero items = refl
 asks_sum (suc n) items = omega (arith, asks_sum n items)
 
@@ -89,20 +105,19 @@ none_had n c had h = none_yet (nat_lt c n) had h
 here_at : (k n : ℕ) → k < n → is_some (all_new n k) ≡ true
 here_at k n l = let e : nat_lt k n ≡ true = grind (arith, nat_tests) in rw e refl
 
-pub new_suits : {S P O : Type 0} {G : Ghosts S P O} (number rings items n : ℕ) (quotas : List Quota) (rows : List (List ℕ)) (first : Places S P O G) (s : Named (Places S P O G)) → IsMade Stands size_of number rings (pairs quotas) false (room_of (pairs quotas)) first s.given → rings ≡ n → quotas ≡ replicate n (quota_of items) → length rows ≡ n
-    → All (λ row. length row ≡ items) rows → Stands first (all_new n) → (limits_of first).feeds ≡ map length rows → Suits limits_of items s × (length s.given.quotas ≡ n)
-new_suits number rings items n quotas rows first s m count_is same long all stands is =
-    let paired : s.given.quotas ≡ pairs (replicate n (quota_of items)) = m.its_quotas ∙ ap pairs same in
-    let count : length s.given.quotas ≡ n = ap (λ (qs : List (ℕ × ℕ)). length qs) paired ∙ (length-map (replicate n (quota_of items)) (λ q. (q.feeds, q.asks)) ∙ length-replicate n (quota_of items)) in (
+pub new_suits : {S P O : Type 0} {G : Ghosts S P O} (bound number rings room items n : ℕ) (quotas : List (ℕ × ℕ)) (rows : List (List ℕ)) (first : Places S P O G) (s : Named (Places S P O G)) → IsMade Stands size_of number rings quotas false room first s.given → rings ≡ n
+    → quotas ≡ replicate n (items, 0) → length rows ≡ n → All (λ row. length row ≡ items) rows → Stands first (all_new n) → (limits_of first).feeds ≡ map length rows → (bound ≡ 0 → HasAllRoom s.given)
+    → Suits limits_of bound items s × (length s.given.quotas ≡ n)
+new_suits bound number rings room items n quotas rows first s m count_is same long all stands is fits =
+    let paired : s.given.quotas ≡ replicate n (items, 0) = m.its_quotas ∙ same in
+    let count : length s.given.quotas ≡ n = ap (λ (qs : List (ℕ × ℕ)). length qs) paired ∙ length-replicate n (items, 0) in (
       record {
         its_rings = m.its_rings ∙ (count_is ∙ sym count);
-        room = omega (arith, m.its_room, ap room_of m.its_quotas);
+        room = fits;
         here = λ k l. m.its_blocks (all_new n) k stands ∙ here_at k n (omega (arith, l, count));
         quota = λ k l.
             let below : k < n = omega (arith, l, count) in
-            ap (λ (qs : List (ℕ × ℕ)). (get_or qs k (0, 0)).0) paired
-            ∙ (ap (λ (x : ℕ × ℕ). x.0) (get_or-map (λ (q : Quota). (q.feeds, q.asks)) (replicate n (quota_of items)) k (quota_of items) (0, 0) (omega (arith, below, length-replicate n (quota_of items))))
-            ∙ ap (λ (q : Quota). q.feeds) (get_or-replicate n k (quota_of items) (quota_of items) below));
+            ap (λ (qs : List (ℕ × ℕ)). (get_or qs k (0, 0)).0) paired ∙ ap (λ (x : ℕ × ℕ). x.0) (get_or-replicate n k (items, 0) (0, 0) below);
         limit = λ k l.
             let below : k < length rows = omega (arith, l, count, long) in
             ap (λ r. slice_index (limits_of r).feeds k) m.its_first
@@ -111,3 +126,7 @@ new_suits number rings items n quotas rows first s m count_is same long all stan
       },
       count,
     )
+
+-- a squeue made for these quotas has room for all
+pub made_whole : {R : Type 0} (stands : R → Blocks → Type 0) (size : R → ℕ) (number rings : ℕ) (quotas : List (ℕ × ℕ)) (first : R) (g : Given R) → IsMade stands size number rings quotas false (room_of quotas) first g → HasAllRoom g
+made_whole stands size number rings quotas first g m = omega (arith, m.its_room, ap room_of m.its_quotas)

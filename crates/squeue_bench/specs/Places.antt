@@ -6,7 +6,7 @@ use Rattle.perimeter_core.specs.declared.entries.Feed.{Feed}
 use Rattle.perimeter_core.specs.History.{Element, Limits, run}
 use Rattle.perimeter_core.specs.Ending.{IsOver}
 use Rattle.squeue_state.specs.Naming.{Named, setting_of}
-use Rattle.squeue_state.specs.Elements.{number_of}
+use Rattle.histories.specs.Elements.{number_of}
 use Rattle.squeue_state.specs.AllRoom.{HasAllRoom}
 use Rattle.squeue_enter.specs.Entering.{MayEnter}
 use Rattle.squeue_bench.specs.declared.threads.Ring.{Ring}
@@ -32,11 +32,6 @@ module _ {R : Type 0} where
   HaveClosed squeues rings = (k : ℕ) (d : Ring) → k < length rings → AtEach (HasPass k) squeues (slice_index_or rings k d).passes.items
 
 module _ {R : Type 0} (limits : R → Limits) where
-  -- pass k of the squeue stands there, and may enter these feeds, for which there is room
-  abbrev pub MayBring : ℕ → List Feed → Named R → Option (Pass Element) → Type 0
-  MayBring k es s (Some p) = MayEnter limits s p es × (number p ≡ k) × HasAllRoom s.given
-  MayBring k es s None = ⊥
-
   -- a pass that has seen the squeue's end
   abbrev pub HasSeenOver : Named R → Option (Pass Element) → Type 0
   HasSeenOver s (Some p) = IsOver (setting_of limits s.given) (run (setting_of limits s.given) (seen p))
@@ -45,6 +40,12 @@ module _ {R : Type 0} (limits : R → Limits) where
   -- the worker's pass, which has seen the squeue's end
   abbrev pub HasWorked : Named R → Worker → Type 0
   HasWorked s w = IsWorker s w × HasSeenOver s w.pass
+
+module _ {R : Type 0} (limits : R → Limits) (bound : ℕ) where
+  -- pass k of the squeue stands there, and may enter these feeds, for which there is room where it has no bound
+  abbrev pub MayBring : ℕ → List Feed → Named R → Option (Pass Element) → Type 0
+  MayBring k es s (Some p) = MayEnter limits s p es × (number p ≡ k) × (bound ≡ 0 → HasAllRoom s.given)
+  MayBring k es s None = ⊥
 
   -- ring k has pass k of each squeue, with which it may enter all its feeds
   abbrev pub MayRun : List (Named R) → List Ring → Type 0

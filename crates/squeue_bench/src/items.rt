@@ -3,7 +3,7 @@ ghost use Rattle.std.specs.Prelude.{◌≡◌, ◌*◌, ◌≤◌, ◌<◌, ◌^
 ghost use Rattle.squeue_bench.specs.Rows.{IsRow};
 
 use perimeter_core::Feed;
-use squeue_state::Quota;
+use squeue_state::{Life, Quota};
 use std::alloc::{AllocError, Global};
 
 /// How many items each ring brings to each squeue, where so many entries are brought in all. It is a multiple of 32, so that
@@ -59,4 +59,15 @@ pub fn quotas_of(alloc: Global, rings: u32, items: u32) -> Result<Vec<Quota>, Al
         asks: 0,
     };
     vec![in alloc; quota; rings as usize]
+}
+
+/// The same as lives, for a squeue of bounded room.
+pub fn lives_of(alloc: Global, rings: u32, items: u32) -> Result<Vec<Life>, AllocError>
+    ensures { IfOk result (λ v. v.items ≡ replicate rings record { feeds = items; asks = 0 }) }
+{
+    let life = Life {
+        feeds: u64::from(items),
+        asks: 0,
+    };
+    vec![in alloc; life; rings as usize]
 }

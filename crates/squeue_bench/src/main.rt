@@ -1,8 +1,8 @@
 //! How many entries squeues take. Without words it makes short fixed runs and prints what was counted. With the words
-//! THREADS SQUEUES CHAIN ENTRIES MODE it measures: so many rings bring so many entries in all to so many squeues, in chains
-//! of at most CHAIN, and MODE is a mode's word; each squeue has a worker in a thread of its own. It prints the nanoseconds
-//! from before the threads start to after they have ended, or nothing where a number is out of its range or the mode is
-//! another word.
+//! THREADS SQUEUES CHAIN ENTRIES MODE [ROOM] it measures: so many rings bring so many entries in all to so many squeues, in chains
+//! of at most CHAIN, and MODE is a mode's word; each squeue has a worker in a thread of its own, and room for ROOM entries, or for
+//! all where ROOM is 0 or left out. It prints the nanoseconds from before the threads start to after they have ended, or nothing
+//! where a number is out of its range or the mode is another word.
 #![tactic(auto)]
 
 mod items;
@@ -11,7 +11,7 @@ mod threads;
 
 ghost use Rattle.std.specs.Prelude.{◌*◌, ◌≤◌, ◌^◌};
 
-use items::{amounts_of, items_each, quotas_of};
+use items::{amounts_of, items_each};
 use key_counters::{Counters, totals_of};
 use runs::{finish_all, make_rings, make_squeues, spend};
 use squeue_enter::Mode;
@@ -39,6 +39,7 @@ fn measure<W: Threads + Wait + Clock + Sync>(
 ) -> io::Result<(Duration, u64)>
     requires few { (1 ≤ case.rings) × (case.rings ≤ 63) × (case.rings * case.items ≤ 2 ^ 30) }
     requires chain { 1 ≤ case.way.chain }
+    requires bound { case.way.bound ≤ 2 ^ 30 }
 {
     let Case {
         rings,
@@ -47,14 +48,13 @@ fn measure<W: Threads + Wait + Clock + Sync>(
         way,
     } = case;
     let amounts = amounts_of(alloc, rings, items)?;
-    let quotas = quotas_of(alloc, rings, items)?;
     let mut ends = Vec::with_capacity(alloc, wanted as usize)?;
     let mut squeues = Vec::with_capacity(alloc, wanted as usize)?;
     let Ok(mut workers) = Vec::with_capacity(alloc, wanted as usize) else {
         squeues.destroy_empty();
         return Err(AllocError.into());
     };
-    let Ok(mut rings) = make_rings(alloc, rings, items, wanted as usize) else {
+    let Ok(mut rings) = make_rings(alloc, rings, way.bound, items, wanted as usize) else {
         squeues.destroy_empty();
         workers.destroy_empty();
         return Err(AllocError.into());
@@ -63,7 +63,7 @@ fn measure<W: Threads + Wait + Clock + Sync>(
         alloc,
         &amounts,
         items,
-        &quotas,
+        way.bound,
         wanted,
         &mut squeues,
         &mut rings,
@@ -109,10 +109,16 @@ fn mode(word: Option<String>) -> Option<Mode> {
 fn main(rt: HostRuntime) -> io::Result<()> {
     let mut words = env::args(&rt)?.skip(1);
     let Some(first) = words.next() else {
-        for (rings, squeues, chain) in [(1, 1, 1), (2, 4, 1), (4, 2, 32)] {
+        for (rings, squeues, chain, bound) in [
+            (1, 1, 1, 0),
+            (2, 4, 1, 0),
+            (4, 2, 32, 0),
+            (2, 2, 1, 8),
+        ] {
             let way = Way {
                 mode: Mode::Process,
                 chain,
+                bound,
             };
             let case = Case {
                 rings,
@@ -121,7 +127,9 @@ fn main(rt: HostRuntime) -> io::Result<()> {
                 way,
             };
             let (_, total) = measure(&rt, rt.alloc(), case)?;
-            println!(rt; "threads {rings} squeues {squeues} chain {chain} total {total}")?;
+            println!(rt;
+                "threads {rings} squeues {squeues} chain {chain} room {bound} total {total}"
+            )?;
         }
         return Ok(());
     };
@@ -132,11 +140,15 @@ fn main(rt: HostRuntime) -> io::Result<()> {
     let Some(mode) = mode(words.next()) else {
         return Ok(());
     };
+    let bound = number(words.next());
     if rings < 1 || rings > 32 || squeues < 1 || squeues > 32 || chain < 1 || entries > 1 << 30 {
         return Ok(());
     }
+    if bound > 1 << 30 || bound > 0 && chain > bound as usize {
+        return Ok(());
+    }
     let items = items_each(entries, squeues, rings);
-    let way = Way { mode, chain };
+    let way = Way { mode, chain, bound };
     let case = Case {
         rings,
         squeues,

@@ -1,6 +1,6 @@
 use Rattle.std.proofs.Common.{◌≡◌, ◌+◌, ◌<◌, List, [], ◌∷◌, ◌++◌, length, ap, subst, ◌∙◌, arith, set, length-append, length-set}
 use Rattle.turn_gate.specs.Passes.{AreFresh}
-use Rattle.squeue_state.specs.Elements.{number_of}
+use Rattle.histories.specs.Elements.{number_of}
 use Rattle.squeue_bench.specs.Runs.{IsReady}
 use Rattle.squeue_bench.proofs.Places.{Halfway, back}
 use Rattle.squeue_bench.proofs.Starting.{last_new}
@@ -22,8 +22,8 @@ loop-pass-preserved g c =
     let ring = c.give.new.ring in
     let f = last_new c.args.squeue.now.gate 0 left c.in-Some.pass (subst (AreFresh number_of c.args.squeue.now.gate 0) c.in-Some.ensures.items i.fresh) in
     let long : length c.loop-pass.passes.items ≡ k + 1 = ap (λ (ps : List _). length ps) c.in-Some.ensures.items ∙ (length-append left (c.in-Some.pass ∷ []) ∙ omega (arith, c.len-k.ensures)) in
-    let P = IsReady g.R.Resident.limits c.args.items c.args.wanted (c.args.squeues.now ++ c.args.squeue.now ∷ []) in
-    let Q = IsReady g.R.Resident.limits c.args.items c.args.wanted c.args.squeues.now in
+    let P = IsReady g.R.Resident.limits c.args.bound c.args.items c.args.wanted (c.args.squeues.now ++ c.args.squeue.now ∷ []) in
+    let Q = IsReady g.R.Resident.limits c.args.bound c.args.items c.args.wanted c.args.squeues.now in
     let within : k < length rings = omega (arith, long, i.some) in
     record {
       rings = length-set rings k ring ∙ i.rings;

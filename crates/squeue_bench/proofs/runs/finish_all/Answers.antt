@@ -4,7 +4,7 @@ use Rattle.gate_trial.specs.Counted.{AreFrom}
 use Rattle.gate_trial.proofs.Counting.{from_more, all_from}
 use Rattle.turn_gate.specs.History.{Each}
 use Rattle.squeue_state.specs.Naming.{setting_of}
-use Rattle.squeue_state.specs.Elements.{number_of}
+use Rattle.histories.specs.Elements.{number_of}
 use Rattle.squeue_state.specs.Clauses.{HasSeenEnd}
 use Rattle.squeue_bench.specs.Places.{HasPass, HasSeenOver, HasWorked, HaveClosed}
 use Rattle.squeue_bench.proofs.Places.{at_split}

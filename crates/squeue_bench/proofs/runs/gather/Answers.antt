@@ -1,7 +1,7 @@
 use Rattle.std.proofs.Common.{List, [], ◌∷◌, length, ap, sym, subst, ◌∙◌, arith, length-append, length-set}
 use Rattle.gate_trial.specs.Counted.{AreFrom}
 use Rattle.gate_trial.proofs.Counting.{from_more}
-use Rattle.squeue_state.specs.Elements.{number_of}
+use Rattle.histories.specs.Elements.{number_of}
 use Rattle.squeue_bench.proofs.Places.{next}
 use Rattle.squeue_bench.proofs.runs.gather.Goals as goal
 

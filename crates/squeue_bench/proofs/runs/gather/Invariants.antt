@@ -1,7 +1,7 @@
 use Rattle.std.proofs.Common.{◌≡◌, [], ◌∷◌, ◌++◌, length}
 use Rattle.std.specs.Prelude.{vec_capacity}
 use Rattle.gate_trial.specs.Counted.{AreFrom}
-use Rattle.squeue_state.specs.Elements.{number_of}
+use Rattle.histories.specs.Elements.{number_of}
 use Rattle.squeue_bench.specs.Places.{AtEach, HasPass}
 use Rattle.squeue_bench.proofs.Places.{Halfway}
 use Rattle.squeue_bench.proofs.runs.gather.Given as goal

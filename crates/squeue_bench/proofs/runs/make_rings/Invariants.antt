@@ -5,4 +5,4 @@ use Rattle.squeue_bench.specs.Runs.{AreReady}
 use Rattle.squeue_bench.proofs.runs.make_rings.Given as goal
 
 abbrev pub invariant-loop-k : goal.invariant-loop-k
-invariant-loop-k l = record { so_far : length l.all.items ≡ l.k; room : l.rings ≤ vec_capacity l.all; ready : AreReady limits_of l.items l.squeues [] l.all.items }
+invariant-loop-k l = record { so_far : length l.all.items ≡ l.k; room : l.rings ≤ vec_capacity l.all; ready : AreReady limits_of l.bound l.items l.squeues [] l.all.items }

@@ -2,7 +2,7 @@ use Rattle.std.proofs.Common.{◌≡◌, ◌+◌, ◌≤◌, Some, List, [], ◌
 use Rattle.std.specs.Prelude.{vec_capacity}
 use Rattle.std.proofs.lemmas.List.Elements.{All-push}
 use Rattle.turn_gate.specs.Passes.{AreFresh, number}
-use Rattle.squeue_state.specs.Elements.{number_of}
+use Rattle.histories.specs.Elements.{number_of}
 use Rattle.key_counters.specs.AsResident.{limits_of}
 use Rattle.squeue_bench.specs.declared.threads.Worker.{Worker}
 use Rattle.squeue_bench.specs.Places.{AtEach, IsWorker}
@@ -33,7 +33,7 @@ loop-q-preserved c =
     let push = c.push_reserved-in-loop-q.ensures in
     record {
       rings = c.deal.ensures.rings.0 ∙ i.rings;
-      ready = subst (λ ss. AreReady limits_of c.args.items c.args.wanted ss c.deal.new.rings) (sym push.items) (subst (λ ss. AreReady limits_of c.args.items c.args.wanted (ss ++ s ∷ []) c.deal.new.rings) c.deref.ensures.value c.deal.ensures.rings.1);
+      ready = subst (λ ss. AreReady limits_of c.args.bound c.args.items c.args.wanted ss c.deal.new.rings) (sym push.items) (subst (λ ss. AreReady limits_of c.args.bound c.args.items c.args.wanted (ss ++ s ∷ []) c.deal.new.rings) c.deref.ensures.value c.deal.ensures.rings.1);
       squeues = ap (λ (ss : List _). length ss) push.items ∙ (length-append c.loop-q.squeues.items (s ∷ []) ∙ omega (arith, i.squeues));
       passes = subst (HavePasses (length c.args.rings.now)) (sym push.items) (All-push (λ z. length z.given.quotas ≡ length c.args.rings.now) c.loop-q.squeues.items s i.passes (omega (arith, c.in-Ok.ensures.squeue.1, c.requires.amounts.0)));
       workers = subst (λ ss. AtEach IsWorker ss c.push_reserved.new.self.items) (sym push.items) (subst (AtEach IsWorker _) (sym c.push_reserved.ensures.items) more);

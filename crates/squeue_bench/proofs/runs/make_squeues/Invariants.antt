@@ -9,7 +9,7 @@ abbrev pub invariant-loop-q : goal.invariant-loop-q
 invariant-loop-q l =
     record {
       rings : length l.rings ≡ length l.initial.rings;
-      ready : AreReady limits_of l.items l.wanted l.squeues.items l.rings;
+      ready : AreReady limits_of l.bound l.items l.wanted l.squeues.items l.rings;
       squeues : length l.squeues.items ≡ l.q;
       passes : HavePasses (length l.initial.rings) l.squeues.items;
       workers : AtEach IsWorker l.squeues.items l.workers.items;
