@@ -1,19 +1,12 @@
 -- Numbers of words, as std's calls give them and as the words' definition says them.
 use Rattle.std.proofs.Common.{◌≡◌, ◌∙◌, ℕ, ◌<◌, ◌^◌, Bool, cond, true, false, refl, sym, ap, ap₂, subst, List, [], ◌∷◌, length, drop, Option, Some, None, ◌&&◌, eqb, leb, arith}
+use Rattle.std.proofs.lemmas.Bool.{and_parts}
 use Rattle.std.specs.Prelude.{nat_lt}
 use Rattle.std.specs.List.{list_all}
 use Rattle.std.specs.Char.{is_ascii_digit, digit_value}
 use Rattle.std.specs.Str.Parse.{AllDigits, IsNumeral, digits_value, without_leading_plus}
 use Rattle.std.proofs.lemmas.Bool.Decides.{nat_tests}
 use Rattle.live_run.specs.Words.{Text, is_number, number}
-
-and_left : (a b : Bool) → (a && b) ≡ true → a ≡ true
-and_left true b e = refl
-and_left false b e = e
-
-and_right : (a b : Bool) → (a && b) ≡ true → b ≡ true
-and_right true b e = e
-and_right false b e = absurd (cc)
 
 digit_below : (c : ℕ) → is_ascii_digit c ≡ true → digit_value c < 10
 digit_below c e = grind (arith, nat_tests)
@@ -23,22 +16,22 @@ digit_no_plus c e h = grind (arith, nat_tests)
 
 digits_below : (xs : Text) → list_all is_ascii_digit xs ≡ true → AllDigits 10 xs
 digits_below [] e = tt
-digits_below (x ∷ xs) e = (digit_below x (and_left (is_ascii_digit x) (list_all is_ascii_digit xs) e), digits_below xs (and_right (is_ascii_digit x) (list_all is_ascii_digit xs) e))
+digits_below (x ∷ xs) e = (digit_below x ((and_parts (is_ascii_digit x) (list_all is_ascii_digit xs) e).0), digits_below xs ((and_parts (is_ascii_digit x) (list_all is_ascii_digit xs) e).1))
 
 no_plus : (xs : Text) → list_all is_ascii_digit xs ≡ true → without_leading_plus xs ≡ xs
 no_plus [] e = refl
 no_plus (x ∷ xs) e = go (eqb x 43) refl
   where
     go : (b : Bool) → eqb x 43 ≡ b → drop (cond b 1 0) (x ∷ xs) ≡ x ∷ xs
-    go true f = absurd (digit_no_plus x (and_left (is_ascii_digit x) (list_all is_ascii_digit xs) e) (grind (arith, nat_tests)))
+    go true f = absurd (digit_no_plus x ((and_parts (is_ascii_digit x) (list_all is_ascii_digit xs) e).0) (grind (arith, nat_tests)))
     go false f = refl
 
 module _ (text : Text) (is : is_number text ≡ true) where
   digits : list_all is_ascii_digit text ≡ true
-  digits = and_right (leb 1 (length text)) (list_all is_ascii_digit text) is
+  digits = (and_parts (leb 1 (length text)) (list_all is_ascii_digit text) is).1
 
   some : 0 < length text
-  some = let long = and_left (leb 1 (length text)) (list_all is_ascii_digit text) is in grind (arith, nat_tests)
+  some = let long = (and_parts (leb 1 (length text)) (list_all is_ascii_digit text) is).0 in grind (arith, nat_tests)
 
   read_as : (b : Bool) → nat_lt (digits_value 10 text) (2 ^ 32) ≡ b → number text ≡ cond b (Some (digits_value 10 text)) None
   read_as b e = ap₂ (λ (x y : Bool). cond (x && y) (Some (digits_value 10 text)) None) is e

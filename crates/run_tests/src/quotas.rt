@@ -4,10 +4,10 @@ ghost use Rattle.conn_blocks.specs.Allowed.{all_calls};
 use capture_reader::{Capture, parse_capture};
 use conn_blocks::{Blocks, Calls};
 use conn_classifier::plan;
-use ring_quotas::laws::{
+use ring_quotas::{Setup, coming, feeds, leaving, marks_most, quotas_at};
+use ring_threads::laws::{
     a_rings_list_is_whole, a_rings_list_may_be_brought, a_threads_calls_may_be_made,
 };
-use ring_quotas::{Setup, coming, feeds, leaving, marks_most, quotas_at};
 use sq_base::Octets;
 use squeue_enter::Mode;
 use squeue_rings::Homes;

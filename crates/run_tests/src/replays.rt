@@ -9,7 +9,7 @@ use perimeter_core::{Feed, Kind, SynchAct};
 use ring_quotas::Setup;
 use sq_base::Octets;
 use squeue_enter::Mode;
-use squeue_replay::{ReadMark, Run, Squeue};
+use squeue_replay::{ReadMark, ReplayedSqueue, Run};
 use std::alloc::{AllocError, AllocGlobal, Global};
 use std::process::Abort;
 use std::test::Fail;
@@ -56,7 +56,11 @@ const HISTORY: &[Row] = &[
     (4, Kind::Close, &[], 0),
 ];
 
-fn add(alloc: Global, squeue: &mut Squeue<'_, '_>, row: &Row) -> Result<Option<u64>, AllocError> {
+fn add(
+    alloc: Global,
+    squeue: &mut ReplayedSqueue<'_, '_>,
+    row: &Row,
+) -> Result<Option<u64>, AllocError> {
     let (p, kind, numbers, _) = *row;
     let mut mark = ReadMark::make(alloc);
     mark.p = p;
@@ -71,7 +75,7 @@ fn add(alloc: Global, squeue: &mut Squeue<'_, '_>, row: &Row) -> Result<Option<u
 fn take_history(rt: &(impl Abort + AllocGlobal), run: Run<'_, '_>) -> Result<(), AllocError>
     requires { 0 < run.setup.squeues }
 {
-    let mut squeue = Squeue::make(rt.alloc(), run, 0)?;
+    let mut squeue = ReplayedSqueue::make(rt.alloc(), run, 0)?;
     for row in HISTORY {
         assert!(rt; !squeue.has_ended());
         assert_eq!(rt; add(rt.alloc(), &mut squeue, &row)?, Some(row.3));

@@ -1,5 +1,6 @@
 -- clap's walk takes exactly the words that their own definition takes, and ends with the rows of what they say.
 use Rattle.std.proofs.Common.{◌≡◌, ◌∙◌, ℕ, Bool, cond, true, false, true≢false, refl, sym, ap, ap₂, subst, codes, List, [], ◌∷◌, ◌++◌, Option, Some, None, ◌&&◌, not, map, fold, length, append_assoc}
+use Rattle.std.proofs.lemmas.Bool.{and_parts}
 use Rattle.std.specs.Prelude.{option_map, slice_get}
 use Rattle.std.specs.Option.{option_map_or}
 use Rattle.std.specs.List.{AllByRecursion}
@@ -16,7 +17,7 @@ use Rattle.squeue_run.specs.Command.{calls_rule, flag_rule, option_rule}
 use Rattle.squeue_run.specs.Words.{Look, Text, Use, value, flag, call, dashed, end, look_of, named, plain, valued, is_flag, is_option, uses_from, and_then_uses, met}
 use Rattle.squeue_run.proofs.Known.{known_flag, known_id, known_long, each_option}
 use Rattle.squeue_run.proofs.Names.{rules_built, shape_built}
-use Rattle.squeue_run.proofs.Uses.{and_assoc, and_false, and_true, and_right, apply_all, apply_all-append, fine, fine-append, quiet, quiet-or_else}
+use Rattle.squeue_run.proofs.Uses.{and_assoc, and_false, and_true, apply_all, apply_all-append, fine, fine-append, quiet, quiet-or_else}
 use Rattle.squeue_run.proofs.Turns.{at, await, fault_at, fault_by, hold, IsHeld, listed, once_fault, once_is, quiet-once, settles, settles_quiet, turn_fault_is, walk_at, walked_is}
 use Rattle.squeue_run.proofs.Unknown.{not_known, taken, taken_unknown, taken_waiting, unknown_named, unknown_valued}
 
@@ -79,7 +80,7 @@ turn_agrees w next x ws before done now extra rows o walks turns same rest = rec
         let said : before ++ us ≡ done ++ (now ++ vs) = ap (λ l. before ++ l) (sym (some_same (extra ++ vs) us is)) ∙ same vs in
         let all : (fine done rows && fine (now ++ vs) (apply_all done rows)) ≡ true = sym (fine-append done (now ++ vs) rows) ∙ (ap (λ l. fine l rows) (sym said) ∙ good) in
         ap (λ n. (settled rules_built (end_of n ws).held).rows) walks
-        ∙ (rest.ends vs refl (and_right (fine done rows) (fine (now ++ vs) (apply_all done rows)) all)
+        ∙ (rest.ends vs refl ((and_parts (fine done rows) (fine (now ++ vs) (apply_all done rows)) all).1)
         ∙ (sym (apply_all-append done (now ++ vs) rows) ∙ ap (λ l. apply_all l rows) (sym said)))
 
 -- no word is left

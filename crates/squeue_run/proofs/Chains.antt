@@ -2,11 +2,10 @@
 use Rattle.std.proofs.Common.{◌≡◌, ℕ, ◌≤◌, Bool, true, false, Option, Some, None, refl, subst, ◌&&◌, if◌then◌else◌}
 use Rattle.std.specs.Prelude.{option_map, option_and_then, nat_le}
 use Rattle.std.specs.Str.Parse.{digits_value}
-use Rattle.std.proofs.lemmas.Bool.{leb-true}
+use Rattle.std.proofs.lemmas.Bool.{and_parts, leb-true}
 use Rattle.squeue_state.proofs.Finish.{some_is}
 use Rattle.squeue_run.specs.Words.{Text}
 use Rattle.squeue_run.specs.Asked.{number_between, is_number}
-use Rattle.squeue_run.proofs.Uses.{and_left, and_right}
 
 pub record Chained {A B : Type 0} (f : A → Option B) (o : Option A) (y : B) : Type 0 where
   pub value : A
@@ -34,6 +33,6 @@ pub number_within : (least most : ℕ) (text : Text) (n : ℕ) → number_betwee
 number_within least most text n e =
     let m = digits_value 10 text in
     let g = guarded (is_number text && (nat_le least m && nat_le m most)) (Some m) n e in
-    let tests = and_right (is_number text) (nat_le least m && nat_le m most) g.0 in
+    let tests = (and_parts (is_number text) (nat_le least m && nat_le m most) g.0).1 in
     let Within : ℕ → Type 0 = λ k. (least ≤ k) × (k ≤ most) in
-    subst Within (some_is g.1) (leb-true least m (and_left (nat_le least m) (nat_le m most) tests), leb-true m most (and_right (nat_le least m) (nat_le m most) tests))
+    subst Within (some_is g.1) (leb-true least m ((and_parts (nat_le least m) (nat_le m most) tests).0), leb-true m most ((and_parts (nat_le least m) (nat_le m most) tests).1))

@@ -5,7 +5,7 @@ use Rattle.std.specs.List.{list_any}
 use Rattle.std.specs.Str.{bytes_eq}
 use Rattle.std.proofs.lemmas.List.{append-nil}
 use Rattle.std.proofs.lemmas.Slice.Eq.{bytes_eq-Decides}
-use Rattle.std.proofs.lemmas.Bool.{not-true}
+use Rattle.std.proofs.lemmas.Bool.{and_parts, not-true}
 use Rattle.clap.specs.Words.{Row}
 use Rattle.clap.specs.Walk.{Rule, has_row, more_values, reading_by, stronger, with_values, without}
 use Rattle.clap.specs.declared.builder.value_parser.Reading.{Reading}
@@ -15,7 +15,7 @@ use Rattle.squeue_run.specs.Words.{Text, Use, value, flag, call, is_flag, is_opt
 use Rattle.squeue_run.specs.Command.{values_at}
 use Rattle.squeue_run.proofs.Known.{each_flag, flag_no_option}
 use Rattle.squeue_run.proofs.Rows.{fresh, find_first, find_last}
-use Rattle.squeue_run.proofs.Uses.{and_left, and_right, apply, apply_all, fine, permitted, rule_for}
+use Rattle.squeue_run.proofs.Uses.{apply, apply_all, fine, permitted, rule_for}
 
 abbrev pub look : Text → List Row → Option Row
 look id rows = find (λ r. bytes_eq r.id id) rows
@@ -147,10 +147,10 @@ value_row name v = option_map (option_row name) v
 pub look_option : (name : Text) → is_option name ≡ true → (us : List Use) (rows : List Row) → fine us rows ≡ true → look name (apply_all us rows) ≡ or_first (look name rows) (value_row name (value_of name us))
 look_option name known [] rows good = sym (or_first-none (look name rows))
 look_option name known (value n v ∷ us) rows good =
-    let may = and_left (permitted (value n v) rows) (fine us (apply (value n v) rows)) good in
-    let none : has_row n rows ≡ false = not-true (has_row n rows) (and_right (is_option n) (not (has_row n rows)) may) in
+    let may = (and_parts (permitted (value n v) rows) (fine us (apply (value n v) rows)) good).0 in
+    let none : has_row n rows ≡ false = not-true (has_row n rows) ((and_parts (is_option n) (not (has_row n rows)) may).1) in
     let added : apply (value n v) rows ≡ rows ++ option_row n v ∷ [] = apply_value n v rows none in
-    look_option name known us (apply (value n v) rows) (and_right (permitted (value n v) rows) (fine us (apply (value n v) rows)) good)
+    look_option name known us (apply (value n v) rows) ((and_parts (permitted (value n v) rows) (fine us (apply (value n v) rows)) good).1)
     ∙ (ap (λ (l : List Row). or_first (look name l) (value_row name (value_of name us))) added ∙ go (bytes_eq n name) refl none)
   where
     go : (b : Bool) → bytes_eq n name ≡ b → has_row n rows ≡ false → or_first (look name (rows ++ option_row n v ∷ [])) (value_row name (value_of name us)) ≡ or_first (look name rows) (value_row name (cond b (Some v) (value_of name us)))
@@ -162,11 +162,11 @@ look_option name known (value n v ∷ us) rows good =
         ∙ sym (ap (λ (o : Option Row). or_first o (value_row name (Some v))) (look_none name rows mine)))
     go false e none = ap (λ (o : Option Row). or_first o (value_row name (value_of name us))) (push_other name rows (option_row n v) e)
 look_option name known (flag n ∷ us) rows good =
-    let may = and_left (permitted (flag n) rows) (fine us (apply (flag n) rows)) good in
-    let none : has_row n rows ≡ false = not-true (has_row n rows) (and_right (is_flag n) (not (has_row n rows)) may) in
-    look_option name known us (apply (flag n) rows) (and_right (permitted (flag n) rows) (fine us (apply (flag n) rows)) good)
+    let may = (and_parts (permitted (flag n) rows) (fine us (apply (flag n) rows)) good).0 in
+    let none : has_row n rows ≡ false = not-true (has_row n rows) ((and_parts (is_flag n) (not (has_row n rows)) may).1) in
+    look_option name known us (apply (flag n) rows) ((and_parts (permitted (flag n) rows) (fine us (apply (flag n) rows)) good).1)
     ∙ ap (λ (o : Option Row). or_first o (value_row name (value_of name us)))
-    (ap (look name) (apply_flag n rows none) ∙ push_other name rows (flag_row n) (other_apart n name (flag_no_option n (and_left (is_flag n) (not (has_row n rows)) may)) known))
+    (ap (look name) (apply_flag n rows none) ∙ push_other name rows (flag_row n) (other_apart n name (flag_no_option n ((and_parts (is_flag n) (not (has_row n rows)) may).0)) known))
 look_option name known (call word ∷ us) rows good =
     look_option name known us (apply (call word) rows) good
     ∙ ap (λ (o : Option Row). or_first o (value_row name (value_of name us)))
@@ -183,15 +183,15 @@ calls_apart = each_flag (λ n. bytes_eq (codes "calls") n ≡ false) refl refl
 pub look_flag : (name : Text) → is_flag name ≡ true → (us : List Use) (rows : List Row) → fine us rows ≡ true → look name (apply_all us rows) ≡ or_first (look name rows) (set_row name (list_any (sets name) us))
 look_flag name known [] rows good = sym (or_first-none (look name rows))
 look_flag name known (value n v ∷ us) rows good =
-    let may = and_left (permitted (value n v) rows) (fine us (apply (value n v) rows)) good in
-    let none : has_row n rows ≡ false = not-true (has_row n rows) (and_right (is_option n) (not (has_row n rows)) may) in
-    look_flag name known us (apply (value n v) rows) (and_right (permitted (value n v) rows) (fine us (apply (value n v) rows)) good)
+    let may = (and_parts (permitted (value n v) rows) (fine us (apply (value n v) rows)) good).0 in
+    let none : has_row n rows ≡ false = not-true (has_row n rows) ((and_parts (is_option n) (not (has_row n rows)) may).1) in
+    look_flag name known us (apply (value n v) rows) ((and_parts (permitted (value n v) rows) (fine us (apply (value n v) rows)) good).1)
     ∙ ap (λ (o : Option Row). or_first o (set_row name (list_any (sets name) us)))
-    (ap (look name) (apply_value n v rows none) ∙ push_other name rows (option_row n v) (option_apart n name (and_left (is_option n) (not (has_row n rows)) may) (flag_no_option name known)))
+    (ap (look name) (apply_value n v rows none) ∙ push_other name rows (option_row n v) (option_apart n name ((and_parts (is_option n) (not (has_row n rows)) may).0) (flag_no_option name known)))
 look_flag name known (flag n ∷ us) rows good =
-    let may = and_left (permitted (flag n) rows) (fine us (apply (flag n) rows)) good in
-    let none : has_row n rows ≡ false = not-true (has_row n rows) (and_right (is_flag n) (not (has_row n rows)) may) in
-    look_flag name known us (apply (flag n) rows) (and_right (permitted (flag n) rows) (fine us (apply (flag n) rows)) good)
+    let may = (and_parts (permitted (flag n) rows) (fine us (apply (flag n) rows)) good).0 in
+    let none : has_row n rows ≡ false = not-true (has_row n rows) ((and_parts (is_flag n) (not (has_row n rows)) may).1) in
+    look_flag name known us (apply (flag n) rows) ((and_parts (permitted (flag n) rows) (fine us (apply (flag n) rows)) good).1)
     ∙ (ap (λ (l : List Row). or_first (look name l) (set_row name (list_any (sets name) us))) (apply_flag n rows none) ∙ go (bytes_eq n name) refl none)
   where
     go : (b : Bool) → bytes_eq n name ≡ b → has_row n rows ≡ false → or_first (look name (rows ++ flag_row n ∷ [])) (set_row name (list_any (sets name) us)) ≡ or_first (look name rows) (set_row name (b || list_any (sets name) us))
@@ -214,17 +214,17 @@ apart_calls = each_flag (λ n. bytes_eq n (codes "calls") ≡ false) refl refl
 pub values_calls : (us : List Use) (rows : List Row) → fine us rows ≡ true → values_at (codes "calls") (apply_all us rows) ≡ values_at (codes "calls") rows ++ calls_in us
 values_calls [] rows good = sym (append-nil (values_at (codes "calls") rows))
 values_calls (value n v ∷ us) rows good =
-    let may = and_left (permitted (value n v) rows) (fine us (apply (value n v) rows)) good in
-    let none : has_row n rows ≡ false = not-true (has_row n rows) (and_right (is_option n) (not (has_row n rows)) may) in
-    values_calls us (apply (value n v) rows) (and_right (permitted (value n v) rows) (fine us (apply (value n v) rows)) good)
+    let may = (and_parts (permitted (value n v) rows) (fine us (apply (value n v) rows)) good).0 in
+    let none : has_row n rows ≡ false = not-true (has_row n rows) ((and_parts (is_option n) (not (has_row n rows)) may).1) in
+    values_calls us (apply (value n v) rows) ((and_parts (permitted (value n v) rows) (fine us (apply (value n v) rows)) good).1)
     ∙ ap (λ (o : Option Row). unwrap_or (option_map (λ (x : Row). x.values) o) [] ++ calls_in us)
-    (ap (look (codes "calls")) (apply_value n v rows none) ∙ push_other (codes "calls") rows (option_row n v) (option_apart n (codes "calls") (and_left (is_option n) (not (has_row n rows)) may) refl))
+    (ap (look (codes "calls")) (apply_value n v rows none) ∙ push_other (codes "calls") rows (option_row n v) (option_apart n (codes "calls") ((and_parts (is_option n) (not (has_row n rows)) may).0) refl))
 values_calls (flag n ∷ us) rows good =
-    let may = and_left (permitted (flag n) rows) (fine us (apply (flag n) rows)) good in
-    let none : has_row n rows ≡ false = not-true (has_row n rows) (and_right (is_flag n) (not (has_row n rows)) may) in
-    values_calls us (apply (flag n) rows) (and_right (permitted (flag n) rows) (fine us (apply (flag n) rows)) good)
+    let may = (and_parts (permitted (flag n) rows) (fine us (apply (flag n) rows)) good).0 in
+    let none : has_row n rows ≡ false = not-true (has_row n rows) ((and_parts (is_flag n) (not (has_row n rows)) may).1) in
+    values_calls us (apply (flag n) rows) ((and_parts (permitted (flag n) rows) (fine us (apply (flag n) rows)) good).1)
     ∙ ap (λ (o : Option Row). unwrap_or (option_map (λ (x : Row). x.values) o) [] ++ calls_in us)
-    (ap (look (codes "calls")) (apply_flag n rows none) ∙ push_other (codes "calls") rows (flag_row n) (apart_calls n (and_left (is_flag n) (not (has_row n rows)) may)))
+    (ap (look (codes "calls")) (apply_flag n rows none) ∙ push_other (codes "calls") rows (flag_row n) (apart_calls n ((and_parts (is_flag n) (not (has_row n rows)) may).0)))
 values_calls (call word ∷ us) rows good =
     values_calls us (apply (call word) rows) good
     ∙ (ap (λ (vs : List Text). vs ++ calls_in us) (values_more (codes "calls") (reading_by (rule_for (call word))) CommandLine (word ∷ []) rows refl)

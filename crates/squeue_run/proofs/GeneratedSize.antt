@@ -6,12 +6,13 @@ use Rattle.std.proofs.lemmas.List.Concat.{length-flat_map}
 use Rattle.std.proofs.lemmas.List.Sums.{sum_by-cons}
 use Rattle.sq_base.specs.declared.kinds.Tuple.{Tuple}
 use Rattle.segment_codec.specs.declared.packet.Reply.{Reply}
-use Rattle.segment_codec.specs.SegmentBytes.{segment_bytes, option_bytes, ip_with, tcp_with, ip_sum, tcp_sum}
+use Rattle.segment_codec.specs.SegmentBytes.{segment_bytes, ip_with, tcp_with, ip_sum, tcp_sum}
+use Rattle.segment_codec.specs.Options.{option_bytes}
 use Rattle.squeue_run.specs.GeneratedCapture.{below, text_len, sent_before, round_text, text_before, segment_at, ends_of, record_of, record_at, round_before, rounds_before, file_header, generated}
 use Rattle.squeue_run.proofs.GeneratorSteps.{text_at_len, all_sent}
 use Rattle.squeue_run.proofs.Records.{tcp_len}
 
-segment_size : (t : Tuple) (r : Reply) → option_bytes r ≡ [] → length (segment_bytes t r) ≡ 40 + length r.text
+segment_size : (t : Tuple) (r : Reply) → option_bytes r.options ≡ [] → length (segment_bytes t r) ≡ 40 + length r.text
 unfolding segment_bytes
 segment_size t r none =
     let total = 20 + length (tcp_with t r 0) in

@@ -1,5 +1,6 @@
 -- Uses are permitted one after another exactly where all are known and no name stands twice.
 use Rattle.std.proofs.Common.{◌≡◌, ◌∙◌, Bool, true, false, true≢false, refl, sym, ap, codes, List, [], ◌∷◌, ◌++◌, ◌&&◌, ◌||◌, not}
+use Rattle.std.proofs.lemmas.Bool.{and_parts}
 use Rattle.std.specs.List.{list_all, list_any}
 use Rattle.std.specs.Str.{bytes_eq}
 use Rattle.clap.specs.Words.{Row}
@@ -7,7 +8,7 @@ use Rattle.clap.specs.Walk.{has_row, reading_by}
 use Rattle.clap.specs.declared.parser.matches.ValueSource.TheVariants.{CommandLine}
 use Rattle.squeue_run.specs.Words.{Text, Use, value, flag, call, is_flag, is_known, is_option, names_of, stand_once}
 use Rattle.squeue_run.proofs.Found.{apply_flag, apply_value, calls_apart, flag_row, has_other, has_row-push, option_row, other_apart}
-use Rattle.squeue_run.proofs.Uses.{and_assoc, and_false, and_left, and_right, apply, fine, rule_for}
+use Rattle.squeue_run.proofs.Uses.{and_assoc, and_false, apply, fine, rule_for}
 
 -- no name has a row
 abbrev apart : List Text → List Row → Bool
@@ -29,11 +30,11 @@ apart-push (m ∷ ms) rows r =
 apart-call : (us : List Use) (word : Text) (rows : List Row) → list_all is_known us ≡ true → apart (names_of us) (apply (call word) rows) ≡ apart (names_of us) rows
 apart-call [] word rows known = refl
 apart-call (value n v ∷ us) word rows known =
-    ap (λ b. not b && apart (names_of us) (apply (call word) rows)) (has_other (codes "calls") n (reading_by (rule_for (call word))) CommandLine (word ∷ []) rows (other_apart (codes "calls") n refl (and_left (is_option n) (list_all is_known us) known)))
-    ∙ ap (λ b. not (has_row n rows) && b) (apart-call us word rows (and_right (is_option n) (list_all is_known us) known))
+    ap (λ b. not b && apart (names_of us) (apply (call word) rows)) (has_other (codes "calls") n (reading_by (rule_for (call word))) CommandLine (word ∷ []) rows (other_apart (codes "calls") n refl ((and_parts (is_option n) (list_all is_known us) known).0)))
+    ∙ ap (λ b. not (has_row n rows) && b) (apart-call us word rows ((and_parts (is_option n) (list_all is_known us) known).1))
 apart-call (flag n ∷ us) word rows known =
-    ap (λ b. not b && apart (names_of us) (apply (call word) rows)) (has_other (codes "calls") n (reading_by (rule_for (call word))) CommandLine (word ∷ []) rows (calls_apart n (and_left (is_flag n) (list_all is_known us) known)))
-    ∙ ap (λ b. not (has_row n rows) && b) (apart-call us word rows (and_right (is_flag n) (list_all is_known us) known))
+    ap (λ b. not b && apart (names_of us) (apply (call word) rows)) (has_other (codes "calls") n (reading_by (rule_for (call word))) CommandLine (word ∷ []) rows (calls_apart n ((and_parts (is_flag n) (list_all is_known us) known).0)))
+    ∙ ap (λ b. not (has_row n rows) && b) (apart-call us word rows ((and_parts (is_flag n) (list_all is_known us) known).1))
 apart-call (call w ∷ us) word rows known = apart-call us word rows known
 
 -- a name that has no row yet
@@ -66,11 +67,11 @@ named_once u n k r us rows known own adds more = go (has_row n rows) refl
 once_fine : (us : List Use) (rows : List Row) → list_all is_known us ≡ true → fine us rows ≡ (apart (names_of us) rows && stand_once (names_of us))
 once_fine [] rows known = refl
 once_fine (value n v ∷ us) rows known =
-    named_once (value n v) n (is_option n) (option_row n v) us rows (and_left (is_option n) (list_all is_known us) known) refl (apply_value n v rows)
-    (λ l. once_fine us l (and_right (is_option n) (list_all is_known us) known))
+    named_once (value n v) n (is_option n) (option_row n v) us rows ((and_parts (is_option n) (list_all is_known us) known).0) refl (apply_value n v rows)
+    (λ l. once_fine us l ((and_parts (is_option n) (list_all is_known us) known).1))
 once_fine (flag n ∷ us) rows known =
-    named_once (flag n) n (is_flag n) (flag_row n) us rows (and_left (is_flag n) (list_all is_known us) known) refl (apply_flag n rows)
-    (λ l. once_fine us l (and_right (is_flag n) (list_all is_known us) known))
+    named_once (flag n) n (is_flag n) (flag_row n) us rows ((and_parts (is_flag n) (list_all is_known us) known).0) refl (apply_flag n rows)
+    (λ l. once_fine us l ((and_parts (is_flag n) (list_all is_known us) known).1))
 once_fine (call word ∷ us) rows known =
     once_fine us (apply (call word) rows) known ∙ ap (λ b. b && stand_once (names_of us)) (apart-call us word rows known)
 

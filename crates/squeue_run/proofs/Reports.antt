@@ -11,7 +11,7 @@ use Rattle.conn_classifier.specs.Plan.{PlanOf, plan_of}
 use Rattle.conn_classifier.specs.declared.kinds.Item.{Item}
 use Rattle.conn_blocks.specs.CallLists.{CallLists}
 use Rattle.perimeter_core.specs.declared.marks.Mark.{Mark}
-use Rattle.squeue_state.specs.Naming.{Ending}
+use Rattle.histories.specs.Endings.{Ending}
 use Rattle.squeue_state.specs.Told.{Traced, marks_of}
 use Rattle.conn_blocks.specs.Orders.{IsWhole, numbers_on}
 use Rattle.conn_blocks.specs.ServeOrder.{BlockOf}
@@ -19,10 +19,10 @@ use Rattle.conn_blocks.proofs.WholeOrders.{is_feeds}
 use Rattle.ring_quotas.specs.declared.setup.Setup.{Setup}
 use Rattle.ring_quotas.specs.Quotas.{marks_most}
 use Rattle.ring_threads.specs.Served.{HasServed, ServedOf, orders_of}
-use Rattle.ring_threads.specs.ServedBlocks.{AreServed}
-use Rattle.squeue_report.specs.ReportText.{report_text}
+use Rattle.conn_blocks.specs.ServedBlocks.{AreServed}
+use Rattle.report_lines.specs.ReportText.{report_text}
 use Rattle.squeue_report.specs.SummaryText.{summary_text}
-use Rattle.squeue_report.specs.TraceText.{trace_text}
+use Rattle.report_lines.specs.TraceText.{trace_text}
 use Rattle.squeue_run.specs.Asked.{Asked}
 use Rattle.squeue_run.specs.CallWords.{AllThere, lists_of}
 use Rattle.squeue_run.specs.Output.{AreOrders, IsGenerated, IsReport, IsSummary, histories_of, items_alone, told_of}

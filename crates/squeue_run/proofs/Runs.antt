@@ -17,7 +17,7 @@ use Rattle.squeue_run.specs.declared.refusal.Refusal.TheVariants as refusal
 use Rattle.squeue_run.specs.Lines.{sqrun, memory_line, write_line, bad_line, many_marks_line, pcapng_line, missing_line}
 use Rattle.squeue_run.specs.Ran.{HandsBack, HasRan, RanBy, RanFor, RanGenerated, RanRead, RanRefused, HasRead, TakesFew}
 use Rattle.squeue_run.specs.Causes.{CountsFaults, Fails, FailsBy, GeneratedFails, Gives, GivesBy, LineOrMemory, ReadingFails, RefusedWords, Told}
-use Rattle.squeue_report.specs.Telling.{TellsLine}
+use Rattle.report_lines.specs.Telling.{TellsLine}
 
 line_or_memory : (P : Status → Type 0) (wanted : Status) (text : List ℕ) (err : End) (s : Status)
     → (TellsLine err text → P wanted) → (TellsLine err (memory_line sqrun) → P status.NoMemory) → LineOrMemory wanted text err s → P s

@@ -5,7 +5,7 @@ use Rattle.std.proofs.Math.Seq.{take-append-add}
 use Rattle.std.proofs.lemmas.List.{take-append-le}
 use Rattle.std.specs.Io.KnownBytes.{Appends}
 use Rattle.sq_base.specs.Ends.{AppendsProperly, Rose}
-use Rattle.squeue_report.specs.Telling.{TellsLine}
+use Rattle.report_lines.specs.Telling.{TellsLine}
 
 -- a front that isn't all of the beginning isn't all of the whole
 pub stops_early : (was is : Option (List ℕ)) (a b : List ℕ) → AppendsProperly was is a → AppendsProperly was is (a ++ b)

@@ -1,5 +1,6 @@
 -- Numbers and parts of texts, as std's calls give them and as the words' definition says them.
 use Rattle.std.proofs.Common.{◌≡◌, ◌∙◌, ℕ, ◌+◌, ◌<◌, ◌^◌, Bool, cond, true, false, refl, sym, ap, ap₂, subst, List, [], ◌∷◌, ◌++◌, length, drop, Option, Some, None, ◌&&◌, ◌||◌, not, eqb, leb, arith, Bor}
+use Rattle.std.proofs.lemmas.Bool.{and_parts}
 use Rattle.std.specs.Prelude.{option_map, option_and_then, MatchOption}
 use Rattle.std.specs.List.{list_all, list_any, position_or_len, before_first, after_first}
 use Rattle.std.specs.Char.{is_ascii_digit, digit_value}
@@ -9,7 +10,6 @@ use Rattle.std.proofs.lemmas.Str.Pattern.{IsSplitOnceResult, split_once_first}
 use Rattle.squeue_run.specs.Words.{Text}
 use Rattle.squeue_run.specs.Asked.{call_of, calls_of, is_number, number_between, split_at}
 use Rattle.squeue_run.specs.declared.calls.CallWord.{CallWord}
-use Rattle.squeue_run.proofs.Uses.{and_left, and_right}
 
 -- ---- parts
 
@@ -56,22 +56,22 @@ digit_no_plus c e h = grind (arith, nat_tests)
 
 digits_below : (xs : Text) → list_all is_ascii_digit xs ≡ true → AllDigits 10 xs
 digits_below [] e = tt
-digits_below (x ∷ xs) e = (digit_below x (and_left (is_ascii_digit x) (list_all is_ascii_digit xs) e), digits_below xs (and_right (is_ascii_digit x) (list_all is_ascii_digit xs) e))
+digits_below (x ∷ xs) e = (digit_below x ((and_parts (is_ascii_digit x) (list_all is_ascii_digit xs) e).0), digits_below xs ((and_parts (is_ascii_digit x) (list_all is_ascii_digit xs) e).1))
 
 no_plus : (xs : Text) → list_all is_ascii_digit xs ≡ true → without_leading_plus xs ≡ xs
 no_plus [] e = refl
 no_plus (x ∷ xs) e = go (eqb x 43) refl
   where
     go : (b : Bool) → eqb x 43 ≡ b → drop (cond b 1 0) (x ∷ xs) ≡ x ∷ xs
-    go true f = absurd (digit_no_plus x (and_left (is_ascii_digit x) (list_all is_ascii_digit xs) e) (grind (arith, nat_tests)))
+    go true f = absurd (digit_no_plus x ((and_parts (is_ascii_digit x) (list_all is_ascii_digit xs) e).0) (grind (arith, nat_tests)))
     go false f = refl
 
 -- a number that doesn't fit its type is out of range
 pub too_great : (text : Text) (least most : ℕ) → most < 2 ^ 32 → is_number text ≡ true → (IsNumeral 10 (without_leading_plus text) × (digits_value 10 (without_leading_plus text) < 2 ^ 32) → ⊥) → None ≡ number_between least most text
 too_great text least most fits number unfit =
-    let long : leb 1 (length text) ≡ true = and_left (leb 1 (length text)) (leb (length text) 10 && list_all is_ascii_digit text) number in
-    let rest : (leb (length text) 10 && list_all is_ascii_digit text) ≡ true = and_right (leb 1 (length text)) (leb (length text) 10 && list_all is_ascii_digit text) number in
-    let digits : list_all is_ascii_digit text ≡ true = and_right (leb (length text) 10) (list_all is_ascii_digit text) rest in
+    let long : leb 1 (length text) ≡ true = (and_parts (leb 1 (length text)) (leb (length text) 10 && list_all is_ascii_digit text) number).0 in
+    let rest : (leb (length text) 10 && list_all is_ascii_digit text) ≡ true = (and_parts (leb 1 (length text)) (leb (length text) 10 && list_all is_ascii_digit text) number).1 in
+    let digits : list_all is_ascii_digit text ≡ true = (and_parts (leb (length text) 10) (list_all is_ascii_digit text) rest).1 in
     let some : 0 < length text = grind (arith, nat_tests) in
     let numeral : IsNumeral 10 text = (some, digits_below text digits) in
     let great : digits_value 10 text < 2 ^ 32 → ⊥ = λ small. unfit (subst (λ (t : Text). IsNumeral 10 t × (digits_value 10 t < 2 ^ 32)) (sym (no_plus text digits)) (numeral, small)) in

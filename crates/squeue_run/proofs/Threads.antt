@@ -1,7 +1,7 @@
 -- The CALLs of accepted words: at most 1,024, of the four threads; and their lists, one CALL further.
 use Rattle.std.proofs.Common.{◌≡◌, ℕ, ◌<◌, ◌≤◌, ◌==◌, Bool, true, false, List, [], ◌∷◌, ◌++◌, suc, length, map, filter, zero, get_or, set, Some, refl, sym, ap, subst, ◌∙◌, arith, if◌then◌else◌, append-nil, eq-eqb, ◌⊎◌, inl, inr}
 use Rattle.std.specs.List.{AllByRecursion}
-use Rattle.std.proofs.lemmas.Bool.{leb-true, cases_lt, eqb-true}
+use Rattle.std.proofs.lemmas.Bool.{and_parts, cases_lt, eqb-true, leb-true}
 use Rattle.std.proofs.lemmas.List.{map-append}
 use Rattle.std.proofs.lemmas.List.Elements.{filter-append}
 use Rattle.tcb_machine.specs.declared.kinds.Call.{Call}
@@ -13,7 +13,6 @@ use Rattle.squeue_run.specs.Asked.{Asked, asked, asked_by, calls_of, call_of, ca
 use Rattle.squeue_run.specs.CallWords.{lists_of}
 use Rattle.squeue_run.specs.declared.calls.CallWord.{CallWord}
 use Rattle.squeue_run.proofs.Chains.{chained, mapped, guarded, number_within}
-use Rattle.squeue_run.proofs.Uses.{and_left}
 
 call_thread : (thread connection what : Text) (w : CallWord) → call_by thread connection what ≡ Some w → w.thread < callers
 call_thread thread connection what w e =
@@ -56,7 +55,7 @@ few_asked words a e =
     let m = mapped _ (calls_of g.value.calls) a c.1 in
     let few = few_calls g.value.calls m.value m.found in
     let same : m.value ≡ a.calls = ap (λ (b : Asked). b.calls) m.gives in
-    let most = leb-true (length g.value.calls) most_calls (and_left _ _ c.0) in
+    let most = leb-true (length g.value.calls) most_calls ((and_parts _ _ c.0).0) in
     subst Few same (record { count = omega (arith, few.count, most); threads = few.threads })
 
 -- a filter of one element

@@ -47,14 +47,6 @@ pub and_true : (a : Bool) → (a && true) ≡ a
 and_true true = refl
 and_true false = refl
 
-pub and_left : (a b : Bool) → (a && b) ≡ true → a ≡ true
-and_left true b e = refl
-and_left false b e = e
-
-pub and_right : (a b : Bool) → (a && b) ≡ true → b ≡ true
-and_right true b e = e
-and_right false b e = cc
-
 pub fine-append : (us vs : List Use) (rows : List Row) → fine (us ++ vs) rows ≡ (fine us rows && fine vs (apply_all us rows))
 fine-append [] vs rows = refl
 fine-append (u ∷ us) vs rows = ap (λ b. permitted u rows && b) (fine-append us vs (apply u rows)) ∙ sym (and_assoc (permitted u rows) (fine us (apply u rows)) (fine vs (apply_all us (apply u rows))))

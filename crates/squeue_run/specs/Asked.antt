@@ -1,17 +1,18 @@
 -- What the texts of accepted words ask for: numbers, the mode, CALLs; and that each is in range.
-use Rattle.std.specs.Prelude.{ℕ, ◌==◌, ◌&&◌, ◌||◌, not, nat_le, nat_lt, Bool, if◌then◌else◌, codes}
+use Rattle.std.specs.Prelude.{ℕ, ◌-◌, ◌==◌, ◌&&◌, ◌||◌, not, nat_le, nat_lt, Bool, if◌then◌else◌, codes}
 use Rattle.std.specs.Prelude.{List, [], ◌∷◌, length, Option, None, Some, is_some, option_map, option_and_then}
 use Rattle.std.specs.List.{list_all, list_any, before_first, after_first}
 use Rattle.std.specs.Str.{bytes_eq}
 use Rattle.std.specs.Char.{is_ascii_digit}
 use Rattle.std.specs.Str.Parse.{digits_value}
 use Rattle.squeue_run.specs.Words.{Text, Given, given}
-use Rattle.conn_blocks.specs.Limits.{most_calls}
+use Rattle.conn_blocks.specs.Limits.{callers, most_calls}
 use Rattle.ring_quotas.specs.Limits.{most_budget, most_rings, most_spread, most_squeues}
 use Rattle.ring_quotas.specs.declared.setup.Setup.{Setup}
-use Rattle.squeue_enter.specs.declared.Mode.{Mode}
-use Rattle.squeue_enter.specs.declared.Mode.TheVariants as mode
-use Rattle.squeue_enter.specs.Ways.{mode_of}
+use Rattle.histories.specs.declared.mode.Mode.{Mode}
+use Rattle.histories.specs.declared.mode.Mode.TheVariants as mode
+use Rattle.histories.specs.ModeWords.{mode_of}
+use Rattle.tcb_machine.specs.Limits.{plain_space}
 use Rattle.tcb_machine.specs.declared.kinds.Call.{Call}
 use Rattle.tcb_machine.specs.declared.kinds.Call.TheVariants as call
 use Rattle.squeue_run.specs.declared.calls.CallWord.{CallWord}
@@ -42,7 +43,7 @@ split_at byte text =
 
 -- `status`, `close`, or `buffer=N` with the `=` (61)
 abbrev pub buffer_by : Text × Text → Option Call
-buffer_by parts = if bytes_eq parts.0 (codes "buffer") then option_map call.Buffer (number_between 0 65535 parts.1) else None
+buffer_by parts = if bytes_eq parts.0 (codes "buffer") then option_map call.Buffer (number_between 0 plain_space parts.1) else None
 
 abbrev pub asked_of : Text → Option Call
 asked_of text =
@@ -54,7 +55,7 @@ asked_of text =
 abbrev pub call_by : Text → Text → Text → Option CallWord
 call_by thread connection asked =
     if length thread == 1 then option_and_then (λ j. option_and_then (λ c. option_map (λ what.
-    record { thread = j; connection = c; call = what }) (asked_of asked)) (number_between 0 4294967295 connection)) (number_between 0 3 thread)
+    record { thread = j; connection = c; call = what }) (asked_of asked)) (number_between 0 4294967295 connection)) (number_between 0 (callers - 1) thread)
     else None
 
 abbrev pub call_of : Text → Option CallWord

@@ -18,7 +18,7 @@ use Rattle.squeue_run.specs.Input.{ReadsSuch}
 use Rattle.pcapng_reader.specs.Input.{IsRefusedCapture, IsRefusedPcapng}
 use Rattle.squeue_run.specs.Output.{IsReport, IsSummary}
 use Rattle.squeue_run.specs.Ran.{IsLongTrace, IsServable, Reads, TakesFew, conns_of}
-use Rattle.squeue_report.specs.Telling.{TellsLine}
+use Rattle.report_lines.specs.Telling.{TellsLine}
 
 -- the line and the status of a refusal; where memory for the line is missing, that is the refusal
 abbrev pub LineOrMemory : Status → List ℕ → End → Status → Type 0

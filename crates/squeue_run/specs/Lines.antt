@@ -6,7 +6,7 @@ use Rattle.capture_reader.specs.declared.fault.CaptureFault.{CaptureFault}
 use Rattle.capture_reader.specs.declared.fault.CaptureFault.TheVariants as fault
 use Rattle.pcapng_reader.specs.declared.fault.PcapngFault.{PcapngFault}
 use Rattle.pcapng_reader.specs.declared.fault.PcapngFault.TheVariants as pcapng
-use Rattle.squeue_enter.specs.Ways.{mode_words}
+use Rattle.histories.specs.ModeWords.{mode_words}
 
 -- a line
 abbrev pub line : List ℕ → List ℕ

@@ -9,9 +9,9 @@ use Rattle.conn_classifier.specs.Plan.{PlanOf, plan_of}
 use Rattle.conn_blocks.specs.CallLists.{CallLists}
 use Rattle.conn_blocks.specs.Orders.{IsWhole}
 use Rattle.ring_threads.specs.Served.{HasServed, ServedOf, orders_of}
-use Rattle.squeue_report.specs.ReportText.{report_text}
+use Rattle.report_lines.specs.ReportText.{report_text}
 use Rattle.squeue_report.specs.SummaryText.{summary_text}
-use Rattle.squeue_report.specs.TraceText.{trace_text}
+use Rattle.report_lines.specs.TraceText.{trace_text}
 use Rattle.squeue_run.specs.Asked.{Asked}
 use Rattle.squeue_run.specs.CallWords.{lists_of}
 use Rattle.squeue_run.specs.GeneratedCapture.{generated}

@@ -21,7 +21,7 @@ use Rattle.squeue_run.specs.Output.{IsReport, IsSummary}
 use Rattle.squeue_run.specs.Limits.{most_marks}
 use Rattle.squeue_run.specs.Lines.{sqrun, usage_line, memory_line, read_line, write_line, bad_line, pcapng_line}
 use Rattle.squeue_run.specs.Lines.{many_bytes_line, many_records_line, many_marks_line, missing_line}
-use Rattle.squeue_report.specs.Telling.{OnlyTells, TellsLine}
+use Rattle.report_lines.specs.Telling.{OnlyTells, TellsLine}
 
 -- such an output of what is handed back was written whole, and no write failed
 pub record GetsWhole (IsOutput : ServedOf → List ℕ → Type 0) (out : End) (back : Option ServedOf) : Type 0 where

@@ -4,7 +4,8 @@ ghost use Rattle.std.specs.Prelude.{◌≡◌, option_map, option_and_then};
 ghost use Rattle.squeue_run.specs.Asked.{asked_of, buffer_by, call_by, call_of, split_at};
 
 use crate::numbers::number_between;
-use tcb_machine::Call;
+use conn_blocks::CALLERS;
+use tcb_machine::{Call, PLAIN_SPACE};
 
 /// One CALL: the thread that makes it (0 to 3), the connection that it is on, and what it asks.
 #[derive(Clone, Copy, Debug, PartialEq, Eq)]
@@ -33,7 +34,7 @@ fn buffer_in(text: &str) -> Option<Call>
     if name != "buffer" {
         return None;
     }
-    let size = number_between(size, 0, 65_535)?;
+    let size = number_between(size, 0, PLAIN_SPACE)?;
     Some(Call::Buffer(size as u16))
 }
 
@@ -67,7 +68,7 @@ fn call_by(thread: &str, connection: &str, asked: &str) -> Option<CallWord>
         return None;
     }
     Some(CallWord {
-        thread: number_between(thread, 0, 3)?,
+        thread: number_between(thread, 0, CALLERS - 1)?,
         connection: number_between(connection, 0, u32::MAX)?,
         call: asked_in(asked)?,
     })

@@ -2,15 +2,15 @@
 
 ghost use Rattle.std.specs.Prelude.{◌≡◌, ◌++◌, IfOk, string_bytes};
 ghost use Rattle.sq_base.specs.Ends.{end_of};
-ghost use Rattle.squeue_enter.specs.Ways.{mode_words};
+ghost use Rattle.histories.specs.ModeWords.{mode_words};
 ghost use Rattle.squeue_run.specs.Lines.{bad_line, capture_text, many_marks_line, missing_line, pcapng_line, pcapng_text, shown_line};
 ghost use Rattle.squeue_run.specs.Ran.{IsBad, IsBadPcapng};
-ghost use Rattle.squeue_report.specs.Telling.{TellsLine};
+ghost use Rattle.report_lines.specs.Telling.{TellsLine};
 
 use capture_reader::CaptureFault;
+use histories::MODE_WORDS;
 use pcapng_reader::PcapngFault;
 use sq_base::{Sink, put};
-use squeue_enter::MODE_WORDS;
 use std::alloc::{AllocError, Global};
 
 /// The name that the program calls itself by.

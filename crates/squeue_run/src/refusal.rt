@@ -2,7 +2,7 @@
 
 ghost use Rattle.std.specs.Prelude.{◌≡◌, MatchResult, string_bytes};
 ghost use Rattle.sq_base.specs.Ends.{end_of};
-ghost use Rattle.squeue_report.specs.Telling.{TellsLine};
+ghost use Rattle.report_lines.specs.Telling.{TellsLine};
 ghost use Rattle.squeue_run.specs.Lines.{sqrun, memory_line};
 ghost use Rattle.squeue_run.specs.Causes.{Told};
 

@@ -13,7 +13,7 @@ use crate::numbers::{mode_or_process, number_between, number_or};
 use clap::ArgMatches;
 use clap::error::ErrorKind;
 use conn_blocks::MOST_CALLS;
-use ring_quotas::Setup;
+use ring_quotas::{MOST_BUDGET, MOST_RINGS, MOST_SPREAD, MOST_SQUEUES, Setup};
 use std::alloc::Global;
 use thiserror::Error;
 
@@ -109,11 +109,11 @@ fn setup_by(
         (option_map (λ t. t.now) mode.entry) (option_map (λ t. t.now) budget.entry) (option_map (λ t. t.now) spread.entry) trace }
 {
     Some(Setup {
-        squeues: number_or(1, 1, 16, squeues)?,
-        rings: number_or(1, 1, 8, rings)?,
+        squeues: number_or(1, 1, MOST_SQUEUES, squeues)?,
+        rings: number_or(1, 1, MOST_RINGS, rings)?,
         mode: mode_or_process(mode)?,
-        budget: number_or(64, 1, 65_535, budget)?,
-        spread: number_or(0, 0, 65_535, spread)?,
+        budget: number_or(64, 1, MOST_BUDGET, budget)?,
+        spread: number_or(0, 0, MOST_SPREAD, spread)?,
         trace,
     })
 }

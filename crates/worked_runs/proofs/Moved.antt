@@ -14,20 +14,21 @@ use Rattle.perimeter_core.specs.History.{run, start}
 use Rattle.perimeter_core.specs.Deeds.{fed}
 use Rattle.perimeter_core.specs.Legal.{Legal}
 use Rattle.perimeter_core.specs.Ending.{IsOver}
-use Rattle.squeue_state.specs.Naming.{Ending}
+use Rattle.histories.specs.Endings.{Ending}
 use Rattle.squeue_state.specs.Told.{marks_of}
-use Rattle.squeue_enter.specs.declared.Mode.TheVariants as Mode'
-use Rattle.squeue_rings.specs.Keeping.{KeepsPace}
+use Rattle.histories.specs.declared.mode.Mode.TheVariants as Mode'
+use Rattle.histories.specs.Keeping.{KeepsPace}
 use Rattle.squeue_pool.specs.Keeping.{PassesKeep}
-use Rattle.squeue_rings.specs.Noted.{AreNoted}
-use Rattle.conn_migrate.specs.Stays.{AreLinked, IsLinked, StartsAtHome, Stay, all_in, ended_stay, stay, stays_in}
+use Rattle.histories.specs.Noted.{AreNoted}
+use Rattle.histories.specs.Stays.{AreLinked, IsLinked, StartsAtHome, Stay, all_in, ended_stay, stay, stays_in}
 use Rattle.tcb_machine.specs.declared.kinds.Call.{Call}
 use Rattle.std.specs.Option.{option_map_or}
 use Rattle.conn_blocks.specs.CallLists.{call_at}
 use Rattle.conn_blocks.specs.Orders.{IsWhole, settle}
 use Rattle.squeue_pool.specs.Runs.{made_in_all}
 use Rattle.ring_quotas.specs.Quotas.{setting_at}
-use Rattle.ring_threads.specs.Fits.{Fits, HistoryFits, IsHereOnce}
+use Rattle.ring_quotas.specs.Fits.{Fits, HistoryFits}
+use Rattle.histories.specs.Fitting.{IsHereOnce}
 use Rattle.ring_threads.specs.Served.{HasServed}
 use Rattle.worked_runs.specs.OneSqueue.{plan, order, no_trace}
 use Rattle.worked_runs.specs.TwoSqueues.{setup, first_setting, second_setting, first_history, second_history, first, second, both, served}

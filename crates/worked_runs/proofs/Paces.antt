@@ -6,9 +6,9 @@ use Rattle.perimeter_core.specs.declared.marks.Mark.{Mark}
 use Rattle.perimeter_core.specs.declared.marks.Mark.TheVariants as On
 use Rattle.perimeter_core.specs.History.{Element, plain}
 use Rattle.perimeter_trial.specs.Worked.{three_passes, three_passes_one_worker}
-use Rattle.squeue_enter.specs.declared.Mode.{Mode}
-use Rattle.squeue_enter.specs.declared.Mode.TheVariants.{Process, NoDrain, Fill}
-use Rattle.squeue_rings.specs.Keeping.{Keeps, KeepsPace}
+use Rattle.histories.specs.declared.mode.Mode.{Mode}
+use Rattle.histories.specs.declared.mode.Mode.TheVariants.{Process, NoDrain, Fill}
+use Rattle.histories.specs.Keeping.{Keeps, KeepsPace}
 
 -- ring r of three, at the one squeue that there is, where each connection is at home
 abbrev AfterNothing : Mode → ℕ → Mark → Type 0

@@ -11,8 +11,8 @@ use Rattle.tcb_machine.specs.Output.{sendable, sends_text, outputs_text, outputs
 use Rattle.tcb_machine.specs.Timers.{firings, sends_again, fires, tcp_time}
 use Rattle.echo_services.specs.Pump.{pump, service_word}
 use Rattle.conn_blocks.specs.ServeOrder.{serve}
-use Rattle.squeue_report.specs.Names.{state_word}
-use Rattle.squeue_report.specs.ReportText.{answer_line, body_text, conn_line, conn_text, counts_line, datagram_line, end_field, end_line, order_line, reply_line, report_text}
+use Rattle.report_lines.specs.Names.{state_word}
+use Rattle.report_lines.specs.ReportText.{answer_line, body_text, conn_line, conn_text, counts_line, datagram_line, end_field, end_line, order_line, reply_line, report_text}
 use Rattle.squeue_run.specs.GeneratedCapture.{record_of}
 use Rattle.worked_runs.specs.FiveSegments.{no_calls, order, plan, text}
 

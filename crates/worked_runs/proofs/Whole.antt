@@ -7,7 +7,7 @@ use Rattle.std.proofs.lemmas.List.{append-nil}
 use Rattle.sq_base.specs.declared.kinds.Link.TheVariants.{RawIp}
 use Rattle.sq_base.specs.declared.kinds.Status.TheVariants as status
 use Rattle.segment_codec.specs.Places.{word, long}
-use Rattle.segment_codec.specs.Options.{options_in, mss_in, scale_in}
+use Rattle.segment_codec.specs.Options.{options_in, options_read, mss_in, scale_in}
 use Rattle.segment_codec.specs.Packet.{segment_of, tcp_packet, datagram, ip_place, packet_in}
 use Rattle.capture_reader.specs.CaptureFile.{IsSpelling, IsSplit, named_length}
 use Rattle.capture_reader.specs.Form.{number}
@@ -24,8 +24,8 @@ use Rattle.tcb_machine.specs.declared.kinds.Call.{Call}
 use Rattle.perimeter_core.specs.History.{run}
 use Rattle.perimeter_core.specs.Legal.{Legal}
 use Rattle.perimeter_core.specs.Ending.{IsOver}
-use Rattle.squeue_enter.specs.declared.Mode.TheVariants as Mode'
-use Rattle.squeue_rings.specs.Keeping.{KeepsPace}
+use Rattle.histories.specs.declared.mode.Mode.TheVariants as Mode'
+use Rattle.histories.specs.Keeping.{KeepsPace}
 use Rattle.squeue_pool.specs.Keeping.{PassesKeep}
 use Rattle.conn_blocks.specs.CallLists.{calls_of}
 use Rattle.conn_blocks.specs.Orders.{IsWhole, numbers_from, settle}
@@ -88,7 +88,7 @@ pub is_input : IsInput file
 is_input = inr (no_section, is_capture)
 
 pub plan_is : plan_of file false ≡ plan
-unfolding plan_of conns conn_items looked of_conn order_of packet_in ip_place datagram tcp_packet segment_of word long options_in mss_in scale_in number record_of
+unfolding plan_of conns conn_items looked of_conn order_of packet_in ip_place datagram tcp_packet segment_of word long options_in options_read mss_in scale_in number record_of
 plan_is = refl
 
 -- What was served

@@ -20,12 +20,12 @@ use Rattle.perimeter_core.specs.declared.entries.Act.TheVariants as Did
 use Rattle.perimeter_core.specs.declared.entries.Entry.TheVariants.{Feed}
 use Rattle.perimeter_core.specs.declared.marks.SynchAct.TheVariants as Done
 use Rattle.perimeter_core.specs.declared.marks.Mark.TheVariants as On
-use Rattle.perimeter_core.specs.History.{Element, Setting}
-use Rattle.squeue_state.specs.Naming.{Ending}
+use Rattle.perimeter_core.specs.History.{Element, Setting, plain}
+use Rattle.histories.specs.Endings.{Ending}
 use Rattle.conn_blocks.specs.CallLists.{CallLists}
 use Rattle.ring_threads.specs.Served.{ServedOf}
 use Rattle.squeue_run.specs.GeneratedCapture.{file_header, record_of}
-use Rattle.worked_runs.specs.OneSqueue.{bare, block_of, only_block}
+use Rattle.worked_runs.specs.OneSqueue.{block_of, only_block}
 
 -- the client is 10.0.0.1:4000, the server 10.0.0.2:7
 abbrev pub ends : Tuple
@@ -90,8 +90,8 @@ setting = record {
 -- the ring brings all items at once, finds the squeue free, and processes them
 abbrev pub history : List Element
 history =
-    bare (On.Claim 0 (Feed 0 0 ∷ Feed 0 1 ∷ Feed 0 2 ∷ Feed 0 3 ∷ Feed 0 4 ∷ Feed 0 5 ∷ [])) ∷ bare (On.Leave 0 0 Done.None)
-    ∷ bare (On.Close 0) ∷ bare (On.Close 1) ∷ bare (On.Close 2) ∷ bare (On.Close 3) ∷ bare (On.Close 4) ∷ []
+    plain (On.Claim 0 (Feed 0 0 ∷ Feed 0 1 ∷ Feed 0 2 ∷ Feed 0 3 ∷ Feed 0 4 ∷ Feed 0 5 ∷ [])) ∷ plain (On.Leave 0 0 Done.None)
+    ∷ plain (On.Close 0) ∷ plain (On.Close 1) ∷ plain (On.Close 2) ∷ plain (On.Close 3) ∷ plain (On.Close 4) ∷ []
 
 abbrev pub ending : Ending
 ending = record { number = 0; setting = setting; history = history }

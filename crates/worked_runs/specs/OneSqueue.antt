@@ -9,11 +9,10 @@ use Rattle.perimeter_core.specs.declared.entries.Act.{Act}
 use Rattle.perimeter_core.specs.declared.entries.Act.TheVariants as Did
 use Rattle.perimeter_core.specs.declared.entries.Entry.TheVariants.{Feed}
 use Rattle.perimeter_core.specs.declared.marks.SynchAct.TheVariants as Done
-use Rattle.perimeter_core.specs.declared.marks.Mark.{Mark}
 use Rattle.perimeter_core.specs.declared.marks.Mark.TheVariants as On
-use Rattle.perimeter_core.specs.History.{Element, Setting}
-use Rattle.squeue_enter.specs.declared.Mode.TheVariants as Mode'
-use Rattle.squeue_state.specs.Naming.{Ending}
+use Rattle.perimeter_core.specs.History.{Element, Setting, plain}
+use Rattle.histories.specs.declared.mode.Mode.TheVariants as Mode'
+use Rattle.histories.specs.Endings.{Ending}
 use Rattle.squeue_state.specs.Told.{Traced}
 use Rattle.conn_blocks.specs.CallLists.{CallLists}
 use Rattle.conn_blocks.specs.ServeOrder.{BlockOf, serve, service_in}
@@ -34,13 +33,10 @@ setting = record {
   limits = record { feeds = 2 ∷ []; leaves = 0 ∷ []; calls = [] };
 }
 
-abbrev pub bare : Mark → Element
-bare m = record { mark = m; note = [] }
-
 abbrev pub history : List Element
 history =
-    bare (On.Fast 0 (Feed 0 0)) ∷ bare (On.Leave 0 0 Done.None) ∷ bare (On.Fast 0 (Feed 0 1)) ∷ bare (On.Leave 0 0 Done.None)
-    ∷ bare (On.Close 0) ∷ bare (On.Close 1) ∷ bare (On.Close 2) ∷ bare (On.Close 3) ∷ bare (On.Close 4) ∷ []
+    plain (On.Fast 0 (Feed 0 0)) ∷ plain (On.Leave 0 0 Done.None) ∷ plain (On.Fast 0 (Feed 0 1)) ∷ plain (On.Leave 0 0 Done.None)
+    ∷ plain (On.Close 0) ∷ plain (On.Close 1) ∷ plain (On.Close 2) ∷ plain (On.Close 3) ∷ plain (On.Close 4) ∷ []
 
 abbrev pub ending : Ending
 ending = record { number = 0; setting = setting; history = history }

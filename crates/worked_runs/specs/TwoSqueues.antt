@@ -4,13 +4,13 @@ use Rattle.perimeter_core.specs.declared.entries.Act.TheVariants as Did
 use Rattle.perimeter_core.specs.declared.entries.Entry.TheVariants.{Feed, Ask}
 use Rattle.perimeter_core.specs.declared.marks.SynchAct.TheVariants as Done
 use Rattle.perimeter_core.specs.declared.marks.Mark.TheVariants as On
-use Rattle.perimeter_core.specs.History.{Element, Setting}
-use Rattle.squeue_enter.specs.declared.Mode.TheVariants as Mode'
-use Rattle.squeue_state.specs.Naming.{Ending}
+use Rattle.perimeter_core.specs.History.{Element, Setting, plain}
+use Rattle.histories.specs.declared.mode.Mode.TheVariants as Mode'
+use Rattle.histories.specs.Endings.{Ending}
 use Rattle.conn_classifier.specs.Plan.{PlanOf}
 use Rattle.ring_quotas.specs.declared.setup.Setup.{Setup}
 use Rattle.ring_threads.specs.Served.{ServedOf}
-use Rattle.worked_runs.specs.OneSqueue.{bare, block, no_trace}
+use Rattle.worked_runs.specs.OneSqueue.{block, no_trace}
 
 abbrev pub setup : Setup
 setup = record { squeues = 2; rings = 1; mode = Mode'.Process; budget = 64; spread = 1; trace = false }
@@ -33,14 +33,14 @@ second_setting = setting_with false 0
 -- the block has its first item here, and goes
 abbrev pub first_history : List Element
 first_history =
-    bare (On.Fast 0 (Feed 0 0)) ∷ bare (On.Leave 0 0 Done.None) ∷ bare (On.Claim 0 (Ask 0 ∷ [])) ∷ bare (On.Leave 0 0 (Done.Out 0))
-    ∷ bare (On.Close 0) ∷ bare (On.Close 1) ∷ bare (On.Close 2) ∷ bare (On.Close 3) ∷ bare (On.Close 4) ∷ []
+    plain (On.Fast 0 (Feed 0 0)) ∷ plain (On.Leave 0 0 Done.None) ∷ plain (On.Claim 0 (Ask 0 ∷ [])) ∷ plain (On.Leave 0 0 (Done.Out 0))
+    ∷ plain (On.Close 0) ∷ plain (On.Close 1) ∷ plain (On.Close 2) ∷ plain (On.Close 3) ∷ plain (On.Close 4) ∷ []
 
 -- it comes with a note of what was done to it, and has its second one
 abbrev pub second_history : List Element
 second_history =
-    bare (On.Claim 0 (Ask 0 ∷ [])) ∷ record { mark = On.Leave 0 0 (Done.In 0); note = Did.Feed 0 ∷ [] } ∷ bare (On.Fast 0 (Feed 0 1)) ∷ bare (On.Leave 0 0 Done.None)
-    ∷ bare (On.Close 0) ∷ bare (On.Close 1) ∷ bare (On.Close 2) ∷ bare (On.Close 3) ∷ bare (On.Close 4) ∷ []
+    plain (On.Claim 0 (Ask 0 ∷ [])) ∷ record { mark = On.Leave 0 0 (Done.In 0); note = Did.Feed 0 ∷ [] } ∷ plain (On.Fast 0 (Feed 0 1)) ∷ plain (On.Leave 0 0 Done.None)
+    ∷ plain (On.Close 0) ∷ plain (On.Close 1) ∷ plain (On.Close 2) ∷ plain (On.Close 3) ∷ plain (On.Close 4) ∷ []
 
 abbrev pub first : Ending
 first = record { number = 0; setting = first_setting; history = first_history }

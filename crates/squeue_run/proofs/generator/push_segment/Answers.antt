@@ -1,5 +1,5 @@
 use Rattle.std.proofs.Common.{◌≡◌, [], ◌++◌, ◌≤◌, length, ap, ◌∙◌, subst, sym, arith}
-use Rattle.segment_codec.specs.SegmentBytes.{option_bytes}
+use Rattle.segment_codec.specs.Options.{option_bytes}
 use Rattle.segment_codec.specs.declared.packet.Reply.{Reply}
 use Rattle.squeue_run.proofs.Records.{segment_len}
 use Rattle.squeue_run.proofs.GeneratorSteps.{text_at_len}
@@ -9,7 +9,7 @@ use Rattle.squeue_run.proofs.generator.push_segment.Goals as goal
 pub push_record-requires : goal.push_record-requires
 push_record-requires c =
     let short : length c.plain-segment.result.text ≤ 96 = subst (λ (r : Reply). length r.text ≤ 96) (sym c.plain-segment.ensures) c.requires.text in
-    let none : option_bytes c.plain-segment.result ≡ [] = ap option_bytes c.plain-segment.ensures in
+    let none : option_bytes c.plain-segment.result.options ≡ [] = ap (λ (r : Reply). option_bytes r.options) c.plain-segment.ensures in
     let within : length c.as_slice-3.result.now ≤ 136 = subst (λ l. length l ≤ 136) (sym (c.as_slice-3.ensures ∙ c.in_ok-encode.ensures)) (segment_len _ _ none short) in
     omega (arith, within)
 
