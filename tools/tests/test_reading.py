@@ -37,15 +37,15 @@ class Page(unittest.TestCase):
 
     def test_what_stands_in_a_module_with_parameters_is_followed(self):
         listed = {(crate, name) for crate, name, *_ in self.listed()}
-        for row in [("ring_threads", "Fits"), ("perimeter_core", "Legal"), ("conn_migrate", "Stays"), ("squeue_rings", "Keeping"), ("squeue_state", "Endings")]:
+        for row in [("ring_quotas", "Fits"), ("perimeter_core", "Legal"), ("histories", "Stays"), ("histories", "Keeping"), ("histories", "Endings")]:
             self.assertIn(row, listed)
 
     def test_a_name_that_is_not_there_is_an_error(self):
-        file = self.top / "crates/ring_threads/specs/Fits.antt"
+        file = self.top / "crates/ring_quotas/specs/Fits.antt"
         file.write_text(file.read_text().replace("pub record Fits ", "pub record Suits "))
         said = subprocess.run([self.top / "tools" / "reading"], capture_output=True, check=False)
         self.assertEqual(said.returncode, 1)
-        self.assertIn(b"reading: Fits is imported from crates/ring_threads/specs/Fits.antt, and isn't defined there", said.stderr)
+        self.assertIn(b"reading: Fits is imported from crates/ring_quotas/specs/Fits.antt, and isn't defined there", said.stderr)
 
     def test_traits_and_types_seen_as_values_are_listed(self):
         text = self.page.read_text()
