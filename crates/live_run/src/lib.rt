@@ -20,4 +20,4 @@ mod words;
 pub use fault::Fault;
 pub use frames::serve_frames_of;
 pub use process::run_process;
-pub use words::{Mode, Words, words_of};
+pub use words::{Mode, Words, asked_in};
