@@ -7,3 +7,4 @@ mod MoreRuns
 mod Ran
 mod StreamTexts
 mod Suits
+pub mod InRange

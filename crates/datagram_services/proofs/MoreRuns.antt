@@ -8,18 +8,19 @@ use Rattle.capture_reader.specs.declared.fault.CaptureFault.TheVariants as fault
 use Rattle.pcapng_reader.specs.declared.fault.PcapngFault.TheVariants as pcapng
 use Rattle.pcapng_reader.specs.declared.input.InputFault.TheVariants as input
 use Rattle.ring_quotas.specs.declared.setup.Setup.{Setup}
-use Rattle.squeue_run.specs.Ran.{HasRead, TakesFew}
+use Rattle.shell.specs.Reading.{HasRead, TakesFew}
+use Rattle.shell.specs.Refusals.{LineOrMemory}
 use Rattle.datagram_services.specs.declared.refusal.Refusal.{Refusal}
 use Rattle.datagram_services.specs.declared.refusal.Refusal.TheVariants as refusal
-use Rattle.squeue_run.specs.Lines.{bad_line, memory_line, pcapng_line}
-use Rattle.squeue_run.proofs.Runs.{no_memory_told}
-use Rattle.report_lines.specs.Telling.{TellsLine}
+use Rattle.shell.specs.Lines.{bad_line, memory_line, pcapng_line}
+use Rattle.shell.proofs.Faults.{no_memory_told}
+use Rattle.shell.specs.Telling.{TellsLine}
 use Rattle.datagram_services.specs.RefusalLines.{sqmore}
 use Rattle.datagram_services.specs.MoreRan.{HasMoreRan, MoreRead, MoreRefused}
-use Rattle.datagram_services.specs.MoreCauses.{CountsFaults, LineOrMemory, MoreFails, MoreTold, ReadingFails, RefusedWords}
+use Rattle.datagram_services.specs.MoreCauses.{CountsFaults, MoreFails, MoreTold, ReadingFails, RefusedWords}
 
 line_or_memory : (P : Status → Type 0) (wanted : Status) (text : List ℕ) (err : End) (s : Status)
-    → (TellsLine err text → P wanted) → (TellsLine err (memory_line sqmore) → P status.NoMemory) → LineOrMemory wanted text err s → P s
+    → (TellsLine err text → P wanted) → (TellsLine err (memory_line sqmore) → P status.NoMemory) → LineOrMemory sqmore wanted text err s → P s
 line_or_memory P wanted text err s line memory (inl t) = subst P (sym t.0) (line t.1)
 line_or_memory P wanted text err s line memory (inr t) = subst P (sym t.0) (memory t.1)
 
@@ -78,7 +79,7 @@ not_read (refusal.Input (input.Pcapng (pcapng.PacketLength i k))) source out err
 not_read (refusal.Input (input.Pcapng (pcapng.PacketLength i k))) source out err s u (inr h) t =
     line_or_memory (MoreRead source out err) status.BadCapture (pcapng_line sqmore (pcapng.PacketLength i k)) err s (λ g. inr (pcapng.PacketLength i k, tt, h, (u, g))) (λ g. (u, g)) t
 
-by_line : (source err : End) (wanted s : Status) (text : List ℕ) → HasRead source wanted → HasRead source status.NoMemory → LineOrMemory wanted text err s → HasRead source s
+by_line : (source err : End) (wanted s : Status) (text : List ℕ) → HasRead source wanted → HasRead source status.NoMemory → LineOrMemory sqmore wanted text err s → HasRead source s
 by_line source err wanted s text h m t = line_or_memory (HasRead source) wanted text err s (λ g. h) (λ g. m) t
 
 has_read : (source err : End) (why : Refusal) (s : Status) → CountsFaults source why → TakesFew source → MoreTold why err s → HasRead source s

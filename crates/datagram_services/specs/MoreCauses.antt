@@ -9,44 +9,21 @@ use Rattle.pcapng_reader.specs.Input.{IsRefusedCapture, IsRefusedPcapng}
 use Rattle.pcapng_reader.specs.declared.fault.PcapngFault.TheVariants as pcapng
 use Rattle.pcapng_reader.specs.declared.input.InputFault.TheVariants as input
 use Rattle.ring_quotas.specs.declared.setup.Setup.{Setup}
-use Rattle.squeue_run.specs.Input.{ReadsSuch}
-use Rattle.squeue_run.specs.Ran.{Reads, TakesFew}
+use Rattle.shell.specs.Reading.{Reads, ReadsSuch, TakesFew}
 use Rattle.datagram_services.specs.declared.refusal.Refusal.{Refusal}
 use Rattle.datagram_services.specs.declared.refusal.Refusal.TheVariants as refusal
 use Rattle.datagram_services.specs.MoreText.{more_text}
-use Rattle.squeue_run.specs.Lines.{bad_line, many_bytes_line, many_records_line, memory_line, pcapng_line, read_line}
-use Rattle.report_lines.specs.Telling.{TellsLine}
+use Rattle.shell.specs.Lines.{memory_line}
+use Rattle.shell.specs.Refusals.{CaptureTold, PcapngTold}
+use Rattle.shell.specs.Telling.{TellsLine}
 use Rattle.datagram_services.specs.RefusalLines.{sqmore, usage_line}
 
--- the line and the status of a refusal; where memory for the line is missing, that is the refusal
-abbrev pub LineOrMemory : Status → List ℕ → End → Status → Type 0
-LineOrMemory wanted text err s = ((s ≡ wanted) × TellsLine err text) ⊎ ((s ≡ status.NoMemory) × TellsLine err (memory_line sqmore))
-
+-- the line and the status of a refusal
 abbrev pub MoreTold : Refusal → End → Status → Type 0
 MoreTold refusal.NoMemory err s = (s ≡ status.NoMemory) × TellsLine err (memory_line sqmore)
 MoreTold refusal.Usage err s = (s ≡ status.Usage) × TellsLine err usage_line
-MoreTold (refusal.Input (input.Capture fault.NoMemory)) err s = (s ≡ status.NoMemory) × TellsLine err (memory_line sqmore)
-MoreTold (refusal.Input (input.Capture fault.Read)) err s = (s ≡ status.ReadFault) × TellsLine err (read_line sqmore)
-MoreTold (refusal.Input (input.Capture (fault.TooLarge n))) err s = (s ≡ status.TooLarge) × TellsLine err (many_bytes_line sqmore)
-MoreTold (refusal.Input (input.Capture fault.TooManyRecords)) err s = (s ≡ status.TooLarge) × TellsLine err (many_records_line sqmore)
-MoreTold (refusal.Input (input.Capture (fault.ShortHeader n))) err s = LineOrMemory status.BadCapture (bad_line sqmore (fault.ShortHeader n)) err s
-MoreTold (refusal.Input (input.Capture (fault.Magic magic))) err s = LineOrMemory status.BadCapture (bad_line sqmore (fault.Magic magic)) err s
-MoreTold (refusal.Input (input.Capture (fault.Version major minor))) err s = LineOrMemory status.BadCapture (bad_line sqmore (fault.Version major minor)) err s
-MoreTold (refusal.Input (input.Capture (fault.Link n))) err s = LineOrMemory status.BadCapture (bad_line sqmore (fault.Link n)) err s
-MoreTold (refusal.Input (input.Capture (fault.RecordLength index len))) err s =
-    LineOrMemory status.BadCapture (bad_line sqmore (fault.RecordLength index len)) err s
-MoreTold (refusal.Input (input.Pcapng pcapng.NoMemory)) err s = (s ≡ status.NoMemory) × TellsLine err (memory_line sqmore)
-MoreTold (refusal.Input (input.Pcapng pcapng.TooManyRecords)) err s = (s ≡ status.TooLarge) × TellsLine err (many_records_line sqmore)
-MoreTold (refusal.Input (input.Pcapng (pcapng.ShortSection n))) err s = LineOrMemory status.BadCapture (pcapng_line sqmore (pcapng.ShortSection n)) err s
-MoreTold (refusal.Input (input.Pcapng (pcapng.Magic i found))) err s = LineOrMemory status.BadCapture (pcapng_line sqmore (pcapng.Magic i found)) err s
-MoreTold (refusal.Input (input.Pcapng (pcapng.BlockLength i n))) err s = LineOrMemory status.BadCapture (pcapng_line sqmore (pcapng.BlockLength i n)) err s
-MoreTold (refusal.Input (input.Pcapng (pcapng.EndLength i n))) err s = LineOrMemory status.BadCapture (pcapng_line sqmore (pcapng.EndLength i n)) err s
-MoreTold (refusal.Input (input.Pcapng (pcapng.Version i major minor))) err s =
-    LineOrMemory status.BadCapture (pcapng_line sqmore (pcapng.Version i major minor)) err s
-MoreTold (refusal.Input (input.Pcapng (pcapng.Link i n))) err s = LineOrMemory status.BadCapture (pcapng_line sqmore (pcapng.Link i n)) err s
-MoreTold (refusal.Input (input.Pcapng (pcapng.MixedLink i n))) err s = LineOrMemory status.BadCapture (pcapng_line sqmore (pcapng.MixedLink i n)) err s
-MoreTold (refusal.Input (input.Pcapng (pcapng.NoInterface i n))) err s = LineOrMemory status.BadCapture (pcapng_line sqmore (pcapng.NoInterface i n)) err s
-MoreTold (refusal.Input (input.Pcapng (pcapng.PacketLength i n))) err s = LineOrMemory status.BadCapture (pcapng_line sqmore (pcapng.PacketLength i n)) err s
+MoreTold (refusal.Input (input.Capture f)) err s = CaptureTold sqmore f err s
+MoreTold (refusal.Input (input.Pcapng f)) err s = PcapngTold sqmore f err s
 
 -- why an input that is read gives nothing
 abbrev pub ReadingFails : End → Refusal → Type 0

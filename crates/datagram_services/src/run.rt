@@ -3,22 +3,22 @@
 ghost use Rattle.std.specs.Prelude.{◌≡◌, false, IfOk, MatchResult, map, string_bytes};
 ghost use Rattle.sq_base.specs.Ends.{Rose, end_of};
 ghost use Rattle.ring_quotas.specs.Quotas.{IsInRange};
-ghost use Rattle.squeue_run.specs.Ran.{IsDone};
+ghost use Rattle.shell.specs.Reading.{IsDone};
 ghost use Rattle.datagram_services.specs.MoreCauses.{MoreFails, MoreGives, ReadFails, ReadGives};
 ghost use Rattle.datagram_services.specs.MoreRan.{HasMoreRan, MoreAccepts};
 ghost use Rattle.datagram_services.specs.MoreText.{more_text};
 ghost use Rattle.datagram_services.specs.MoreWords.{more_setup};
 
-use crate::refusal::{Refusal, WRITE_FAULT, refuse, told};
+use crate::refusal::{Refusal, refuse};
 use crate::reporting::more_report;
 use crate::serving::serve_more;
-use crate::words::setup_words;
+use crate::words::{TABLE, setup_words};
 use capture_reader::{Capture, read_bytes};
 use pcapng_reader::{InputFault, parse_input};
 use perimeter_core::NoHook;
 use ring_quotas::Setup;
+use shell::{WRITE_FAULT, WordFault, told};
 use sq_base::{Octets, Sink, Source, Status, put};
-use squeue_run::WordFault;
 use std::alloc::{AllocError, Global};
 use std::sync::Wait;
 use std::thread::Threads;
@@ -57,7 +57,7 @@ pub fn more_run<S: Source, K: Sink, E: Sink>(
     };
     match put(out, text.as_slice()) {
         Ok(()) => Status::Ok,
-        Err(_) => told(err, WRITE_FAULT, Status::WriteFault),
+        Err(_) => told(err, TABLE.program, WRITE_FAULT, Status::WriteFault),
     }
 }
 
