@@ -4,8 +4,7 @@ use Rattle.std.specs.Io.KnownBytes.{Appends}
 use Rattle.sq_base.specs.Ends.{AppendsProperly, End, IsUntouched, MetNoFault, Rose}
 use Rattle.sq_base.specs.declared.kinds.Status.{Status}
 use Rattle.sq_base.specs.declared.kinds.Status.TheVariants as status
-use Rattle.capture_reader.specs.Limits.{most_taken}
-use Rattle.capture_reader.specs.Outcome.{CaptureFile, ReadsWhole, Takes, TakesTooMany}
+use Rattle.capture_reader.specs.Outcome.{CaptureFile, TakesTooMany}
 use Rattle.capture_reader.specs.declared.fault.CaptureFault.{CaptureFault}
 use Rattle.capture_reader.specs.declared.fault.CaptureFault.TheVariants as fault
 use Rattle.pcapng_reader.specs.declared.fault.PcapngFault.{PcapngFault}
@@ -15,13 +14,14 @@ use Rattle.ring_quotas.specs.Quotas.{marks_most}
 use Rattle.ring_threads.specs.Served.{ServedOf}
 use Rattle.squeue_run.specs.Asked.{Asked}
 use Rattle.squeue_run.specs.CallWords.{AllThere, IsFirstMissing, lists_of}
-use Rattle.squeue_run.specs.Input.{ReadsSuch}
 use Rattle.pcapng_reader.specs.Input.{IsInput, IsRefusedCapture, IsRefusedPcapng}
 use Rattle.squeue_run.specs.Output.{IsReport, IsSummary}
 use Rattle.squeue_run.specs.Limits.{most_marks}
-use Rattle.squeue_run.specs.Lines.{sqrun, usage_line, memory_line, read_line, write_line, bad_line, pcapng_line}
-use Rattle.squeue_run.specs.Lines.{many_bytes_line, many_records_line, many_marks_line, missing_line}
-use Rattle.report_lines.specs.Telling.{OnlyTells, TellsLine}
+use Rattle.shell.specs.Lines.{memory_line, read_line, write_line, bad_line, pcapng_line, many_bytes_line, many_records_line}
+use Rattle.shell.specs.Reading.{HasRead, IsBad, IsBadPcapng, Reads, ReadsSuch}
+use Rattle.shell.specs.Telling.{OnlyTells, TellsLine}
+use Rattle.squeue_run.specs.Lines.{usage_line, many_marks_line, missing_line}
+use Rattle.squeue_run.specs.Words.{sqrun}
 
 -- such an output of what is handed back was written whole, and no write failed
 pub record GetsWhole (IsOutput : ServedOf → List ℕ → Type 0) (out : End) (back : Option ServedOf) : Type 0 where
@@ -39,38 +39,6 @@ pub record GetsFront (IsOutput : ServedOf → List ℕ → Type 0) (out : End) :
   pub output : IsOutput served text
   pub written : AppendsProperly out.was out.is text
   pub failed : Rose out.faults_were out.faults_are
-
--- at most one byte more than the size was taken
-abbrev pub TakesFew : End → Type 0
-TakesFew source = Takes (λ n. n ≤ most_taken) source.was source.is
-
--- the source was read to its end: this capture, within the size
-pub record Reads (source : End) (file : CaptureFile) : Type 0 where
-  pub read : ReadsWhole source.was source.is file.bytes
-  pub capture : IsInput file
-
--- which refusals of a capture are a bad one
-abbrev pub IsBad : CaptureFault → Type 0
-IsBad (fault.ShortHeader n) = Unit {0}
-IsBad (fault.Magic magic) = Unit {0}
-IsBad (fault.Version major minor) = Unit {0}
-IsBad (fault.Link n) = Unit {0}
-IsBad (fault.RecordLength index len) = Unit {0}
-IsBad fault.TooManyRecords = ⊥
-IsBad (fault.TooLarge n) = ⊥
-IsBad fault.Read = ⊥
-IsBad fault.NoMemory = ⊥
-
--- and which of a pcapng file
-abbrev pub IsBadPcapng : PcapngFault → Type 0
-IsBadPcapng pcapng.NoMemory = ⊥
-IsBadPcapng pcapng.TooManyRecords = ⊥
-IsBadPcapng _ = Unit {0}
-
--- At a read fault, and only there, a read failed. However the run ended, few bytes were taken.
-abbrev pub HasRead : End → Status → Type 0
-HasRead source status.ReadFault = Rose source.faults_were source.faults_are × TakesFew source
-HasRead source _ = MetNoFault source × TakesFew source
 
 -- At status 0 what was served is handed back (GetsWhole), and at every other nothing is.
 abbrev pub HandsBack : Option ServedOf → Status → Type 0
@@ -160,9 +128,3 @@ AcceptsBy None a left = HoldsCapture a left
 abbrev pub Accepts : Option Asked → Option (List ℕ) → Type 0
 Accepts None left = ⊥
 Accepts (Some a) left = AcceptsBy a.number a left
-
--- the whole output was written, or memory was missing
-abbrev pub IsDone : Status → Type 0
-IsDone status.Ok = Unit {0}
-IsDone status.NoMemory = Unit {0}
-IsDone _ = ⊥

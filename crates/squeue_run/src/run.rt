@@ -14,22 +14,23 @@ ghost use Rattle.report_lines.specs.ReportText.{report_text};
 ghost use Rattle.report_lines.specs.TraceText.{trace_text};
 ghost use Rattle.squeue_run.specs.Output.{IsSummary};
 ghost use Rattle.squeue_run.specs.Limits.{most_marks};
-ghost use Rattle.squeue_run.specs.Ran.{HasRan, Accepts, IsDone};
+ghost use Rattle.shell.specs.Reading.{IsDone};
+ghost use Rattle.squeue_run.specs.Ran.{HasRan, Accepts};
 ghost use Rattle.squeue_run.specs.Causes.{Gives, Fails, GivesBy, FailsBy, Replays, ReplayFails, GeneratedFails, asked_by_words};
 
 use crate::calls::CallWord;
 use crate::generator::generate;
 use crate::input::captured;
-use crate::lines::{WRITE_FAULT, tell};
 use crate::reading::{Words, read_words};
 use crate::refusal::{Refusal, refuse};
-use crate::words::WordFault;
+use crate::words::SQRUN;
 use capture_reader::{Capture, parse_capture, read_bytes};
 use conn_blocks::Calls;
 use conn_classifier::{Plan, plan};
 use perimeter_core::{Hook, NoHook};
 use ring_quotas::{Setup, marks_most};
 use ring_threads::{Served, serve};
+use shell::{WRITE_FAULT, WordFault, tell};
 use sq_base::{Octets, Sink, Source, Status, put};
 use squeue_report::{report, report2, summary};
 use std::alloc::{AllocError, Global};
@@ -115,7 +116,7 @@ pub fn run_with<S: Source, K: Sink, E: Sink, H: Hook + Sync>(
             served: Some(written.served),
         },
         Err(_) => {
-            tell(err, WRITE_FAULT);
+            tell(err, SQRUN, WRITE_FAULT);
             Ran {
                 status: Status::WriteFault,
                 served: None,

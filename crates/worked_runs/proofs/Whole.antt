@@ -26,6 +26,7 @@ use Rattle.perimeter_core.specs.Legal.{Legal}
 use Rattle.perimeter_core.specs.Ending.{IsOver}
 use Rattle.histories.specs.declared.mode.Mode.TheVariants as Mode'
 use Rattle.histories.specs.Keeping.{KeepsPace}
+use Rattle.histories.specs.ModeWords.{mode_word}
 use Rattle.squeue_pool.specs.Keeping.{PassesKeep}
 use Rattle.conn_blocks.specs.CallLists.{calls_of}
 use Rattle.conn_blocks.specs.Orders.{IsWhole, numbers_from, settle}
@@ -34,8 +35,9 @@ use Rattle.ring_threads.specs.Served.{HasServed, orders_of}
 use Rattle.squeue_run.specs.Asked.{Asked, asked}
 use Rattle.squeue_run.specs.GeneratedCapture.{file_header, record_of}
 use Rattle.squeue_run.specs.Output.{AreOrders, IsReport, items_alone, told_of}
-use Rattle.squeue_run.specs.Ran.{Accepts, HasRan, IsServable, Reads, TakesFew}
-use Rattle.squeue_run.specs.Words.{uses_from}
+use Rattle.squeue_run.specs.Ran.{Accepts, HasRan, IsServable}
+use Rattle.shell.specs.Reading.{Reads, TakesFew}
+use Rattle.shell.specs.Words.{uses_from}
 use Rattle.worked_runs.specs.OneSqueue.{setup, block_of}
 use Rattle.worked_runs.specs.FiveSegments.{records, form, file, plan, no_calls, setting, history, ending, order, served, text, source, out, err}
 use Rattle.worked_runs.proofs.Told.{told}
@@ -126,7 +128,7 @@ abbrev no_words : Asked
 no_words = record { setup = setup; verify = false; number = None; calls = [] }
 
 asked_is : asked [] ≡ Some no_words
-unfolding uses_from
+unfolding uses_from mode_word
 asked_is = refl
 
 differ : false ≡ true → ⊥
