@@ -112,8 +112,8 @@ fn length_of(word: &str) -> Option<u16>
     }
 }
 
-/// A number without a sign, and nothing beside it.
-fn number(word: &str) -> Option<u32>
+/// A number below 2^32 without a sign, and nothing beside it.
+pub fn number(word: &str) -> Option<u32>
     ensures { result ≡ number word.now }
 {
     if !is_number(word) {

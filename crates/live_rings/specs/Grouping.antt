@@ -1,0 +1,37 @@
+-- Streams in groups, each of which one squeue serves.
+use Rattle.std.specs.Prelude.{◌≡◌, ℕ, ◌≤◌, Option, List, [], ◌∷◌, ◌++◌, length}
+use Rattle.live_server.specs.Serving.{ServerOf}
+use Rattle.live_rings.specs.declared.making.Ends.{Ends}
+use Rattle.live_rings.specs.declared.gathering.Ended.{Ended}
+use Rattle.live_rings.specs.declared.serving.Group.{Group}
+use Rattle.live_rings.specs.declared.serving.Group.TheVariants as Group'
+use Rattle.live_rings.specs.Ended.{AllEnded}
+
+module _ {S K : Type 0} where
+  -- the streams of a group that is not served yet
+  abbrev pub ends_in : Group S K → List (Ends S K)
+  ends_in (Group'.Before ends) = ends.items
+  ends_in (Group'.After ended) = []
+  ends_in Group'.Short = []
+
+  -- all of them, group by group
+  abbrev pub all_in : List (Group S K) → List (Ends S K)
+  all_in [] = []
+  all_in (g ∷ gs) = ends_in g ++ all_in gs
+
+  -- a squeue can serve them
+  abbrev pub MayServe : Group S K → Type 0
+  MayServe g = (1 ≤ length (ends_in g)) × (length (ends_in g) ≤ 63)
+
+  abbrev pub AreGroups : List (Ends S K) → List (Group S K) → Type 0
+  AreGroups ends groups = all_in groups ≡ ends
+
+module _ {S K : Type 0} (rest : S → Option (List ℕ)) (contents : K → Option (List ℕ)) (faults : K → ℕ) where
+  -- the streams of a group have ended, or memory was missing for its squeue
+  abbrev pub IsServedOf : ServerOf → List (Ends S K) → Group S K → Type 0
+  IsServedOf server ends (Group'.Before more) = ⊥
+  IsServedOf server ends (Group'.After ended) = AllEnded rest contents faults server ends ended.items
+  IsServedOf server ends Group'.Short = Unit {0}
+
+  abbrev pub HasServed : ServerOf → Group S K → Group S K → Type 0
+  HasServed server old new = IsServedOf server (ends_in old) new
