@@ -33,3 +33,4 @@ mod GeneratedAccepted
 mod GeneratedRead
 pub mod NoSpread
 pub mod TellLemmas
+mod Outputs
