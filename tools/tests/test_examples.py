@@ -67,6 +67,12 @@ class Examples(unittest.TestCase):
         self.sink("let mut sink = Sink::make(rt.alloc(), 64)?;", "...", "    sink.put(&[i])?;", "}", "...", "Ok(())")
         self.assertIn("in bytes_are_kept", self.told())
 
+    def test_a_call_in_several_lines_and_a_name_that_is_not_used(self):
+        self.write("low", "tests.rt", TESTS + "\n#[test]\nfn broken(rt: HostRuntime) -> Result<(), Fail> {\n    let kept = fill(\n        &mut sink,\n        2,\n    )?;\n    Ok(())\n}\n")
+        self.sink("let _kept = fill(&mut sink, 2)?;")
+        self.assertIn("in broken of", self.told())
+        self.refused("let _kept = fill(&mut sink, 3)?;")
+
     def test_what_a_test_calls_counts_and_other_code_not(self):
         self.sink('sink.put(b"ab")?;', "Ok(())")
         self.assertIn("in filled of crates/low/src/tests.rt, which the test bytes_are_kept runs", self.told())
