@@ -1,5 +1,5 @@
 -- How many bytes runs hold.
-use Rattle.std.proofs.Common.{◌≡◌, ℕ, zero, suc, ◌+◌, ◌-◌, ◌^◌, ◌<◌, ◌≤◌, List, [], ◌∷◌, length, refl, ap, ◌∙◌, min, arith}
+use Rattle.std.proofs.Common.{◌≡◌, ℕ, zero, suc, ◌+◌, ◌-◌, ◌^◌, ◌≤◌, List, [], ◌∷◌, length, refl, ap, min, arith}
 use Rattle.byte_queues.specs.ReceiveQueue.{Cells, bytes, gap, held}
 use Rattle.byte_queues.specs.Inside.{IsQueue}
 use Rattle.byte_queues.specs.Runs.{cells_from, held_of, IsSpaced}

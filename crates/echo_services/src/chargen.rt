@@ -1,13 +1,11 @@
 //! A character generator (as RFC 864, with a pattern of its own).
 
-ghost use Rattle.std.specs.Prelude.{◌≡◌, ◌+◌, ◌-◌, ◌≤◌, ◌++◌, length, min, OnOk};
+ghost use Rattle.std.specs.Prelude.{◌≡◌, ◌+◌, ◌-◌, ◌≤◌, ◌++◌, OnOk};
 ghost use Rattle.byte_queues.specs.Limits.{send_space};
 ghost use Rattle.byte_queues.specs.ReceiveQueue.{next_of};
-ghost use Rattle.byte_queues.specs.SendQueue.{room_of};
 ghost use Rattle.tcb_machine.specs.BlockState.{offered};
 ghost use Rattle.tcb_machine.specs.CallAnswers.{wants_fin};
 ghost use Rattle.echo_services.specs.Chargen.{next_given, pattern_from};
-ghost use Rattle.echo_services.specs.Limits.{most_given};
 
 use crate::closing::throw;
 use crate::port_service::PortService;

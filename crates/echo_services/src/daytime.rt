@@ -12,8 +12,8 @@ use crate::port_service::PortService;
 use std::alloc::{AllocError, Global};
 use tcb_machine::{Answer, Call, State, Tcb};
 
-/// A text is sent, and then our FIN, whether the peer has closed or not; what comes is thrown away. RFC 867 leaves the text open: one
-/// line of at most 512 printable characters is usual.
+/// A text is sent, and then our FIN, whether the peer has closed or not; what comes is thrown away. RFC 867 leaves the text open, and
+/// recommends printable characters, spaces and line ends, on one line.
 #[derive(Drop)]
 pub struct Daytime {
     pub text: Vec<u8>,

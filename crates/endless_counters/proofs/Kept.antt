@@ -1,18 +1,12 @@
 -- What a pass knew of its own elements still holds where others made what came since.
-use Rattle.std.proofs.Common.{◌≡◌, ℕ, ◌+◌, ◌%◌, ◌==◌, Bool, true, false, if◌then◌else◌, Some, List, [], ◌∷◌, ◌++◌, length, refl, ap, sym, ◌∙◌, subst, arith}
+use Rattle.std.proofs.Common.{◌≡◌, ℕ, ◌+◌, ◌%◌, ◌==◌, Bool, true, false, if◌then◌else◌, Some, List, [], ◌∷◌, ◌++◌, refl, ap, sym, ◌∙◌, subst, arith}
 use Rattle.turn_gate.specs.History.{Begins, only}
-use Rattle.perimeter_core.specs.declared.entries.Entry.{Entry}
-use Rattle.perimeter_core.specs.declared.marks.Own.TheVariants.{Free, Out}
 use Rattle.perimeter_core.specs.Perimeter.{State, is_here}
 use Rattle.perimeter_core.specs.History.{Element, Setting, made_by, pass_of, run, start}
-use Rattle.perimeter_core.specs.Deeds.{acts, due, entries_of, fed, feeds_of}
+use Rattle.perimeter_core.specs.Deeds.{acts, due, entries_of}
 use Rattle.perimeter_core.specs.Legal.{Legal, ask_count, asks_by}
-use Rattle.perimeter_core.specs.Backlog.{queue, WakeKept}
 use Rattle.perimeter_core.specs.Blocks.{peri}
-use Rattle.perimeter_core.specs.Ending.{IsOver}
-use Rattle.perimeter_core.proofs.NextFeed.{had}
 use Rattle.perimeter_core.proofs.OneMore.{due_push, run_push}
-use Rattle.perimeter_core.proofs.OrderAndWake.{sound, wake_of_sound}
 use Rattle.perimeter_core.proofs.OwnCounts.{own_counts}
 use Rattle.histories.specs.Elements.{closed_by, number_of}
 use Rattle.squeue_state.proofs.Makers.{only_made, others_made}
@@ -53,22 +47,6 @@ asks_closed p q H = omega (arith, (by_append q H (closed_by p ∷ [])).1, none)
 
     none : asks_by q (closed_by p ∷ []) ≡ 0
     none = by (pass_of (closed_by p).mark == q)
-
--- a state in which nobody has the perimeter has no hand
-no_hand : (s : State) → WakeKept s → s.own ≡ Free → s.hand ≡ []
-no_hand s kept free = by s.hand kept.hand
-  where
-    by : (hand : List Entry) → ((hand ≡ [] → ⊥) → (p : ℕ) × (s.own ≡ Out p)) → hand ≡ []
-    by [] h = refl
-    by (e ∷ es) h = let out = h (λ (bad : e ∷ es ≡ []). cc) in let is = out.1 in absurd (cc (free, is))
-
--- what was entered is processed once nothing is queued
-pub all_fed : (S : Setting) (H : List Element) (c : ℕ) → Legal S H → IsOver S (run S H) → is_here (run S H) c ≡ true → fed (acts S H c) ≡ due H c
-all_fed S H c l over here =
-    let none : queue (run S H) ≡ [] = rw (no_hand (run S H) (wake_of_sound (run S H) (sound S H l)) over.free, over.empty) refl in
-    let missing : fed (acts S H c) + length (feeds_of c (queue (run S H))) ≡ due H c = had S c H l here in
-    let last : length (feeds_of c (queue (run S H))) ≡ 0 = ap (λ (es : List Entry). length (feeds_of c es)) none in
-    omega (arith, missing, last)
 
 pub here_peri : (S : Setting) (H : List Element) (c : ℕ) → is_here (run S H) c ≡ true → peri S H c ≡ Some (acts S H c)
 here_peri S H c here = rw here refl

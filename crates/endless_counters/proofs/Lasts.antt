@@ -25,7 +25,8 @@ use Rattle.endless_counters.specs.declared.running.Role.{Role}
 use Rattle.endless_counters.specs.declared.running.Role.TheVariants as Role'
 use Rattle.endless_counters.specs.Running.{DoneBy, HasBrought, LookedWithin}
 use Rattle.endless_counters.specs.Serving.{AreBrought, AreTasks, HasSentRounds, IsBrought, IsTask, ServesStreams, last_from, last_of, source_of, sources_in}
-use Rattle.endless_counters.proofs.Kept.{all_fed, asks_same, due_same, here_peri, here_same}
+use Rattle.histories.proofs.AllFed.{all_fed}
+use Rattle.endless_counters.proofs.Kept.{asks_same, due_same, here_peri, here_same}
 use Rattle.endless_counters.proofs.Jobs.{DoneAt}
 
 -- one task more, at the end

@@ -3,7 +3,7 @@
 //! Each ring brings the amounts of one stream; a worker adds what the rings leave queued; and a thread with a pass of its own
 //! looks at the sums in between, as often as it likes. What is queued is bounded by the squeue's room and what is pushed by
 //! each stream's ring, so a run takes as much memory after a year as after a second. `adding` is what is made of an amount,
-//! `totals` what a look reads, `running` what the threads do.
+//! `totals` what the sums of a look come to, `running` what the threads do.
 #![tactic(auto)]
 
 mod adding;

@@ -8,3 +8,4 @@ pub mod StaysKept
 pub mod StaysJoin
 pub mod StaysSeen
 pub mod Keeping
+pub mod AllFed

@@ -1,5 +1,5 @@
 -- A counter that goes on by one amount or one reading.
-use Rattle.std.proofs.Common.{◌≡◌, ℕ, zero, ◌+◌, ◌<◌, true, List, [], ◌∷◌, ◌++◌, length, sum, take, get_or, refl, ap, sym, ◌∙◌, arith}
+use Rattle.std.proofs.Common.{◌≡◌, ℕ, ◌+◌, ◌<◌, true, List, [], ◌∷◌, ◌++◌, length, sum, take, get_or, refl, ap, sym, ◌∙◌, arith}
 use Rattle.std.proofs.lemmas.List.Sums.{sum_by_more}
 use Rattle.squeue.specs.declared.Act.{Act}
 use Rattle.squeue.specs.declared.Act.TheVariants as Did

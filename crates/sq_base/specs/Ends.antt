@@ -33,11 +33,3 @@ MetNoFault end = end.faults_are ≡ end.faults_were
 pub record IsUntouched (end : End) : Type 0 where
   pub bytes : Keeps end.was end.is
   pub faults : MetNoFault end
-
--- this line was appended, unless a write failed
-abbrev pub GetsLine : End → List ℕ → Type 0
-GetsLine end text = (Rose end.faults_were end.faults_are → ⊥) → Appends end.was end.is text
-
--- nothing was written to `out`, and this line to `err`
-abbrev pub OnlyTells : End → End → List ℕ → Type 0
-OnlyTells out err text = IsUntouched out × GetsLine err text

@@ -1,5 +1,5 @@
 //! How much each pass may enter at any squeue, where a connection may leave one before each of its feeds.
-ghost use Rattle.std.specs.Prelude.{◌≡◌, ◌<◌, ◌≤◌, ◌^◌, All, IfOk, length, map};
+ghost use Rattle.std.specs.Prelude.{◌≡◌, ◌<◌, ◌^◌, All, IfOk, length, map};
 ghost use Rattle.histories.specs.Quotas.{pairs};
 ghost use Rattle.squeue_calls.specs.Quotas.{asks_of, call_quotas, quotas_of, ring_quota};
 

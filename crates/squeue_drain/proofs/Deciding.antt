@@ -16,7 +16,7 @@ use Rattle.perimeter_core.specs.declared.marks.Own.TheVariants.{Out}
 use Rattle.perimeter_core.specs.declared.marks.Mark.{Mark}
 use Rattle.perimeter_core.specs.declared.marks.Mark.TheVariants as On
 use Rattle.perimeter_core.specs.Perimeter.{State, Idle, after, polls, processed, unprocessed, has_ask, ends_with_ask, is_closed}
-use Rattle.perimeter_core.specs.History.{Element, Setting, Limits, start, run, feed_quotas}
+use Rattle.perimeter_core.specs.History.{Element, Setting, Limits, start, run}
 use Rattle.perimeter_core.specs.Deeds.{done}
 use Rattle.perimeter_core.specs.Legal.{May, Legal, all_feeds, only_last_ask, feed_count}
 use Rattle.perimeter_core.specs.Blocks.{peri, with_feeds, with_act}
@@ -27,7 +27,6 @@ use Rattle.perimeter_core.proofs.FeedActs.{with_none}
 use Rattle.perimeter_core.proofs.IdleKept.{no_ask_split}
 use Rattle.perimeter_core.proofs.OwnAsk.{waits_no_more}
 use Rattle.perimeter_core.proofs.QueuedRange.{queued_range, range_right}
-use Rattle.perimeter_core.proofs.Room.{queued_fits}
 use Rattle.histories.specs.Limits.{most_room}
 use Rattle.perimeter_core.proofs.BehindAnAsk.{has_ask-append}
 use Rattle.squeue_state.specs.Naming.{Given, Named, Turned, Handed, setting_of}

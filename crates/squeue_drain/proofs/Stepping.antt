@@ -16,7 +16,6 @@ use Rattle.perimeter_core.specs.Residing.{HadFeeds}
 use Rattle.perimeter_core.proofs.NextFeed.{feed_fits}
 use Rattle.perimeter_core.proofs.FeedActs.{with_twice}
 use Rattle.squeue_state.specs.Naming.{Named, Handed, setting_of}
-use Rattle.squeue_state.specs.Behind.{room_of}
 use Rattle.squeue_drain.specs.declared.owner.Owner.{Owner}
 use Rattle.squeue_drain.specs.Owning.{Feeds, IsFeedFirst, processed_by, state_of}
 use Rattle.squeue_drain.proofs.Hands.{Passed, passed}

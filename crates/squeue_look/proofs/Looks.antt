@@ -8,7 +8,7 @@ use Rattle.perimeter_core.specs.declared.marks.SynchAct.{SynchAct}
 use Rattle.perimeter_core.specs.declared.marks.SynchAct.TheVariants as Done
 use Rattle.perimeter_core.specs.Perimeter.{is_free}
 use Rattle.perimeter_core.specs.History.{Element, Limits, Setting, made_by, run}
-use Rattle.perimeter_core.specs.Legal.{May, asks_by}
+use Rattle.perimeter_core.specs.Legal.{asks_by}
 use Rattle.perimeter_core.specs.Blocks.{Blocks, peri}
 use Rattle.perimeter_core.proofs.BlocksFollow.{peri_push}
 use Rattle.perimeter_core.proofs.OwnCounts.{own_counts}

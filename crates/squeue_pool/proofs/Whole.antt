@@ -8,19 +8,13 @@ use Rattle.std.proofs.Math.Nat.{mod-lt}
 use Rattle.turn_gate.specs.History.{Each}
 use Rattle.turn_gate.specs.Passes.{number, seen}
 use Rattle.turn_gate.specs.declared.pass.Pass.{Pass}
-use Rattle.perimeter_core.specs.declared.entries.Entry.{Entry}
 use Rattle.perimeter_core.specs.declared.entries.Feed.{Feed}
-use Rattle.perimeter_core.specs.declared.marks.Own.TheVariants.{Free, Out}
 use Rattle.perimeter_core.specs.declared.resident.Resident.{Ghosts}
-use Rattle.perimeter_core.specs.Backlog.{queue, WakeKept}
 use Rattle.perimeter_core.specs.Blocks.{peri}
-use Rattle.perimeter_core.specs.Deeds.{acts, due, fed, feeds_of}
-use Rattle.perimeter_core.specs.Ending.{IsOver}
+use Rattle.perimeter_core.specs.Deeds.{acts, due, fed}
 use Rattle.perimeter_core.specs.History.{Element, Setting, run, worker}
 use Rattle.perimeter_core.specs.Legal.{Legal}
-use Rattle.perimeter_core.specs.Perimeter.{State, is_here}
-use Rattle.perimeter_core.proofs.NextFeed.{had}
-use Rattle.perimeter_core.proofs.OrderAndWake.{sound, wake_of_sound}
+use Rattle.perimeter_core.specs.Perimeter.{is_here}
 use Rattle.squeue_state.specs.Clauses.{Knows}
 use Rattle.squeue_state.specs.Naming.{Named, setting_of}
 use Rattle.histories.specs.Endings.{Ending}
@@ -29,6 +23,7 @@ use Rattle.histories.specs.Stays.{AreLinked, AreSameStays, stays}
 use Rattle.histories.specs.Homes.{home}
 use Rattle.squeue_serve.specs.Places.{Holds}
 use Rattle.squeue_serve.proofs.Coming.{each_got}
+use Rattle.histories.proofs.AllFed.{all_fed}
 use Rattle.histories.proofs.ListPlaces.{some_at, got_map}
 use Rattle.squeue_rings.specs.Paced.{IsPaced, OfRing}
 use Rattle.histories.specs.Keeping.{KeepsPace}
@@ -53,22 +48,6 @@ use Rattle.squeue_pool.specs.AllJobs.{AllDone}
 use Rattle.squeue_pool.specs.Runs.{HasRun, IsHereOnce, IsLeft, ends_of, list_for, made_in_all}
 use Rattle.squeue_pool.specs.Works.{AreFor, IsFor, Suits, WorkOf, setting_at}
 use Rattle.squeue_pool.proofs.Ready.{at_home, its_conns, its_rings}
-
--- a state in which nobody has the perimeter has no hand
-no_hand : (s : State) → WakeKept s → s.own ≡ Free → s.hand ≡ []
-no_hand s kept free = by s.hand kept.hand
-  where
-    by : (hand : List Entry) → ((hand ≡ [] → ⊥) → (p : ℕ) × (s.own ≡ Out p)) → hand ≡ []
-    by [] h = refl
-    by (e ∷ es) h = let out = h (λ (bad : e ∷ es ≡ []). cc) in let is = out.1 in absurd (cc (free, is))
-
--- once nothing is queued, a block has had all feeds that were brought
-all_fed : (S : Setting) (H : List Element) (c : ℕ) → Legal S H → IsOver S (run S H) → is_here (run S H) c ≡ true → fed (acts S H c) ≡ due H c
-all_fed S H c l over here =
-    let none : queue (run S H) ≡ [] = rw (no_hand (run S H) (wake_of_sound (run S H) (sound S H l)) over.free, over.empty) refl in
-    let missing : fed (acts S H c) + length (feeds_of c (queue (run S H))) ≡ due H c = had S c H l here in
-    let last : length (feeds_of c (queue (run S H))) ≡ 0 = ap (λ (es : List Entry). length (feeds_of c es)) none in
-    omega (arith, missing, last)
 
 home_below : (squeues spread c n : ℕ) → 1 ≤ squeues → home squeues spread c n < squeues
 home_below squeues spread c n some = by (spread == 0)

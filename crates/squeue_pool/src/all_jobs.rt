@@ -1,5 +1,5 @@
 //! How the threads of a run are set to work.
-ghost use Rattle.std.specs.Prelude.{◌≡◌, ◌+◌, ◌≤◌, length, map};
+ghost use Rattle.std.specs.Prelude.{◌≡◌, ◌+◌, length, map};
 ghost use Rattle.synch_enter.specs.Hinting.{conns_of, squeues_of};
 ghost use Rattle.squeue_serve.specs.Lending.{AreLent, lent_to, tasks_in};
 ghost use Rattle.squeue_serve.specs.Places.{IsNew, MayEnd};

@@ -7,7 +7,6 @@ use Rattle.perimeter_core.specs.declared.entries.Act.{Act}
 use Rattle.perimeter_core.specs.declared.marks.SynchAct.{SynchAct}
 use Rattle.perimeter_core.specs.declared.marks.Own.{Own}
 use Rattle.perimeter_core.specs.History.{Element, Setting, start, run}
-use Rattle.perimeter_core.specs.Deeds.{entries}
 use Rattle.perimeter_core.specs.Legal.{May}
 use Rattle.perimeter_core.specs.declared.entries.Feed.{Feed}
 use Rattle.perimeter_core.specs.declared.entries.Entry.TheVariants as Entry'
@@ -20,9 +19,8 @@ use Rattle.squeue_state.specs.Behind.{Behind, FeedsFit}
 use Rattle.squeue_state.specs.Lone.{is_lone, buffer_of}
 use Rattle.squeue_state.specs.Hands.{GoBack}
 use Rattle.squeue_state.specs.Clauses.{IsLeft}
-use Rattle.histories.specs.Elements.{filled_by, claimed_by, ask_claimed_by, asked_by, left_by_pass}
+use Rattle.histories.specs.Elements.{ask_claimed_by, asked_by, left_by_pass}
 use Rattle.squeue_state.proofs.Steps.{go_back, lone_one, spare_there}
-use Rattle.squeue_state.proofs.Marks.{entries-length}
 
 module _ {R P O : Type 0} (G : Ghosts R P O) where
   pub counts : (g : Given R) (i : Inner R) (H : List Element) (e : Element) → Behind G g i (H ++ e ∷ []) → length H < 2 ^ 63

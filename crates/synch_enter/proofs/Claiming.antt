@@ -21,7 +21,7 @@ use Rattle.perimeter_core.proofs.OneMore.{run_push, legal_more}
 use Rattle.perimeter_core.proofs.FeedActs.{with_none, with_twice}
 use Rattle.perimeter_core.proofs.QueuedRange.{queued_range, range_right}
 use Rattle.squeue_state.specs.Naming.{Named, Turned, Handed, setting_of}
-use Rattle.squeue_state.specs.Behind.{IsPeri, room_of}
+use Rattle.squeue_state.specs.Behind.{IsPeri}
 use Rattle.histories.specs.Elements.{ask_claimed_by, granted_by, accepted_by}
 use Rattle.squeue_state.specs.Clauses.{Found, Marked, IsWhole, peri_left, first_entry, asker}
 use Rattle.squeue_drain.specs.declared.owner.Owner.{Owner}

@@ -1,14 +1,14 @@
 //! The arrival of a segment (RFC 9293, 3.10.7): LISTEN, and the first five checks of the other states.
 
-ghost use Rattle.std.specs.Prelude.{true, false, ◌≡◌, ◌+◌, ◌-◌, ◌%◌, ◌^◌, ◌<◌, ◌≤◌, length, min, max, None, Some, IfOk, OnOk};
+ghost use Rattle.std.specs.Prelude.{true, false, ◌≡◌, ◌+◌, ◌-◌, ◌%◌, ◌^◌, ◌<◌, ◌≤◌, length, None, Some, IfOk, OnOk};
 ghost use Rattle.tcb_machine.specs.Challenges.{is_challenged};
-ghost use Rattle.tcb_machine.specs.BlockState.{rcv_nxt, rcv_wnd, snd_nxt, in_flight, has, seg_wnd, offered};
+ghost use Rattle.tcb_machine.specs.BlockState.{has, seg_wnd, offered};
 ghost use Rattle.tcb_machine.specs.Limits.{whole_space, last_time, most_streamed};
 ghost use Rattle.tcb_machine.specs.Room.{HasRoom};
 ghost use Rattle.tcb_machine.specs.States.{is_listen};
 ghost use Rattle.tcb_machine.specs.TcpStep.{over, listen, opened, is_in_window, is_acceptable, check_sequence, refused};
 ghost use Rattle.tcb_machine.specs.TcpStep.{check_reset, syn_again, ack_kind, with_window, takes_window, takes_ack, is_fin_acked, after_ack};
-ghost use Rattle.tcb_machine.specs.TcpStep.{acknowledged, check_ack, first_checks, check_text, in_state, tcp_segment, said, step_said};
+ghost use Rattle.tcb_machine.specs.TcpStep.{acknowledged, check_ack, first_checks, in_state, tcp_segment, said, step_said};
 ghost use Rattle.byte_queues.specs.ReceiveQueue.{next_of};
 
 use super::Tcb;

@@ -1,7 +1,7 @@
 //! What goes out: text, FIN, acknowledgement, and the retransmission deadline (RFC 9293, 3.8.6 and 3.10.2).
 
-ghost use Rattle.std.specs.Prelude.{true, false, ◌≡◌, ◌+◌, ◌-◌, ◌<◌, min, None, Some, OnOk};
-ghost use Rattle.tcb_machine.specs.BlockState.{snd_nxt, unsent, segment_of, offered};
+ghost use Rattle.std.specs.Prelude.{true, false, ◌≡◌, ◌+◌, ◌-◌, ◌<◌, None, Some, OnOk};
+ghost use Rattle.tcb_machine.specs.BlockState.{unsent, segment_of, offered};
 ghost use Rattle.tcb_machine.specs.States.{is_listen};
 ghost use Rattle.tcb_machine.specs.Output.{output, outputs_text, outputs_fin, outputs_ack, outputs_deadline};
 

@@ -1,8 +1,8 @@
 //! The segments that are sent.
 
-ghost use Rattle.std.specs.Prelude.{false, ◌≡◌, ◌+◌, ◌-◌, ◌<◌, ◌≤◌, [], length, take, min, None, Some, OnOk};
+ghost use Rattle.std.specs.Prelude.{false, ◌≡◌, ◌+◌, ◌-◌, ◌<◌, ◌≤◌, [], length, take, OnOk};
 ghost use Rattle.segment_codec.specs.ControlBits.{ack, fin};
-ghost use Rattle.tcb_machine.specs.BlockState.{rcv_nxt, rcv_wnd, snd_nxt, unsent, in_flight, sent_window};
+ghost use Rattle.tcb_machine.specs.BlockState.{unsent, sent_window};
 ghost use Rattle.tcb_machine.specs.BlockState.{segment_of, syn_ack_of, rst_of, sends, sends_ack, IsOurs};
 ghost use Rattle.tcb_machine.specs.States.{is_listen};
 ghost use Rattle.tcb_machine.specs.TcpStep.{sends_syn_ack};

@@ -1,7 +1,6 @@
 //! The last two checks of an arriving segment: text and FIN (RFC 9293, 3.10.7.4, seventh and eighth).
 
-ghost use Rattle.std.specs.Prelude.{true, false, ◌≡◌, ◌+◌, ◌-◌, ◌<◌, ◌≤◌, min, None, Some, OnOk};
-ghost use Rattle.tcb_machine.specs.BlockState.{rcv_nxt};
+ghost use Rattle.std.specs.Prelude.{true, false, ◌≡◌, ◌+◌, ◌-◌, ◌<◌, ◌≤◌, None, Some, OnOk};
 ghost use Rattle.tcb_machine.specs.States.{is_listen};
 ghost use Rattle.tcb_machine.specs.TcpStep.{go, in_time_wait, repeated, ahead, takes_fin, takes_text, closes, check_text};
 ghost use Rattle.byte_queues.specs.ReceiveQueue.{next_of, placed};

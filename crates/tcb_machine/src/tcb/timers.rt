@@ -1,8 +1,7 @@
 //! The deadlines (RFC 9293, 3.8.1 and 3.10.8; RFC 6298).
 
-ghost use Rattle.std.specs.Prelude.{false, ◌≡◌, ◌+◌, ◌-◌, ◌*◌, ◌<◌, ◌≤◌, min, max, None, Some, OnOk, IfSome, IfNone, IsSome};
+ghost use Rattle.std.specs.Prelude.{false, ◌≡◌, ◌+◌, ◌-◌, ◌*◌, ◌<◌, ◌≤◌, None, Some, OnOk, IfSome, IfNone, IsSome};
 ghost use Rattle.std.specs.Option.{ForSome};
-ghost use Rattle.tcb_machine.specs.BlockState.{snd_nxt, snd_end, unsent, in_flight};
 ghost use Rattle.tcb_machine.specs.States.{is_listen};
 ghost use Rattle.tcb_machine.specs.Timers.{next_deadline, tcp_time, fired, fires, retransmission, sends_again, retransmits};
 ghost use Rattle.byte_queues.specs.ReceiveQueue.{next_of};

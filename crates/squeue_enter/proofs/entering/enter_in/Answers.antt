@@ -1,4 +1,4 @@
-use Rattle.std.proofs.Common.{◌≡◌, arith}
+use Rattle.std.proofs.Common.{arith}
 use Rattle.turn_gate.specs.declared.pass.Pass.{Pass}
 use Rattle.perimeter_core.specs.History.{Element}
 use Rattle.histories.specs.Elements.{fast_by, claimed_by}
@@ -7,7 +7,7 @@ use Rattle.squeue_enter.specs.declared.entering.Way.TheVariants as Way'
 use Rattle.squeue_enter.specs.Entering.{IsTurnFor}
 use Rattle.squeue_enter.proofs.ByWay.{Chose, Became, first, may_queue, queue_fits, chose, goes_fast, goes_alone, may_alone, claims_all, became_alone, became_claim, left_alone, owner_feeds, owner_has, by_fill, by_fast, by_alone, by_claim}
 use Rattle.squeue_enter.proofs.entering.enter_in.Given.{Over}
-use Rattle.squeue_enter.proofs.entering.enter_in.Goals.{In-Fill, In-Fast, In-Alone, In-Claim, After-of-owner, After-of-owner-in-Alone, After-of-owner-in-Claim}
+use Rattle.squeue_enter.proofs.entering.enter_in.Goals.{In-Fast, In-Alone, In-Claim, After-of-owner, After-of-owner-in-Alone, After-of-owner-in-Claim}
 use Rattle.squeue_enter.proofs.entering.enter_in.Goals as goal
 
 -- what the turn chose in each arm, for the pass whose turn it is, and the owner that the entry became there

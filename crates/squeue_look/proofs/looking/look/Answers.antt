@@ -1,10 +1,10 @@
-use Rattle.std.proofs.Common.{◌∙◌, ℕ, [], sym, subst, length}
-use Rattle.turn_gate.specs.Passes.{number, seen}
+use Rattle.std.proofs.Common.{ℕ, [], subst, length}
+use Rattle.turn_gate.specs.Passes.{seen}
 use Rattle.perimeter_core.specs.Perimeter.{Idle}
 use Rattle.perimeter_core.specs.History.{run}
 use Rattle.squeue_state.specs.Naming.{setting_of}
 use Rattle.histories.specs.Elements.{left_by_pass}
-use Rattle.squeue_drain.proofs.Deciding.{begins_trans, marked_on}
+use Rattle.squeue_drain.proofs.Deciding.{marked_on}
 use Rattle.synch_enter.proofs.Exiting.{at, exits, idle_again}
 use Rattle.squeue_look.proofs.Looks.{asked_once, both_on, stands_now}
 use Rattle.squeue_look.proofs.looking.look.Goals as goal

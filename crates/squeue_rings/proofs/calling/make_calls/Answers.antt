@@ -1,4 +1,4 @@
-use Rattle.std.proofs.Common.{◌≤◌, ℕ, List, length, get_or, slice_get, take, sym, subst, arith}
+use Rattle.std.proofs.Common.{◌≤◌, ℕ, List, length, get_or, take, sym, subst, arith}
 use Rattle.std.proofs.lemmas.Option.{slice_get-get_or}
 use Rattle.synch_enter.specs.Hinting.{conns_of}
 use Rattle.histories.proofs.ListPlaces.{some_at, take_one}

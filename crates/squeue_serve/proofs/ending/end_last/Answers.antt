@@ -1,4 +1,4 @@
-use Rattle.std.proofs.Common.{◌≡◌, ◌+◌, ◌∷◌, [], ℕ, List, Some, length, ap, sym, ◌∙◌, subst, arith, length-append}
+use Rattle.std.proofs.Common.{◌≡◌, ◌+◌, ◌∷◌, [], ℕ, List, length, ap, sym, ◌∙◌, subst, arith, length-append}
 use Rattle.squeue_state.specs.Naming.{Named}
 use Rattle.squeue_serve.specs.Places.{MayEnd}
 use Rattle.squeue_serve.specs.Lending.{AreLent, AreHanded, HaveLast, IsRoomFor, lent_to}

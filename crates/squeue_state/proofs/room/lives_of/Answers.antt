@@ -1,5 +1,4 @@
 use Rattle.std.proofs.Common.{◌∙◌, ap, refl, length, arith}
-use Rattle.squeue_state.specs.declared.guarded.Life.{Life}
 use Rattle.histories.specs.declared.quota.Quota.{Quota}
 use Rattle.squeue_state.specs.Behind.{ever}
 use Rattle.squeue_state.proofs.RoomMade.{lives_next}

@@ -1,5 +1,4 @@
 use Rattle.std.proofs.Common.{ap, ◌∙◌, length, arith}
-use Rattle.squeue_state.specs.Behind.{room_of}
 use Rattle.squeue_state.specs.Lone.{is_lone}
 use Rattle.squeue_state.proofs.Steps.{claim_behind, empty_free}
 use Rattle.squeue_state.proofs.inner.Inner.claim.Goals as goal

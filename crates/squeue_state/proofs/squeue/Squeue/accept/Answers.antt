@@ -5,7 +5,7 @@ use Rattle.perimeter_core.specs.Legal.{May}
 use Rattle.perimeter_core.specs.Blocks.{Blocks, peri}
 use Rattle.perimeter_core.proofs.OneMore.{run_push}
 use Rattle.squeue_state.specs.Naming.{Turned, setting_of}
-use Rattle.squeue_state.specs.Behind.{Behind, IsPeri, room_of}
+use Rattle.squeue_state.specs.Behind.{Behind, IsPeri}
 use Rattle.squeue_state.specs.Clauses.{named_of}
 use Rattle.histories.specs.Elements.{accepted_by}
 use Rattle.squeue_state.proofs.squeue.Squeue.accept.Goals as goal

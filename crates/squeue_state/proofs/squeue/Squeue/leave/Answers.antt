@@ -1,15 +1,13 @@
-use Rattle.std.proofs.Common.{◌≡◌, ◌-◌, ◌++◌, ◌∷◌, [], ◌∙◌, ap, sym, subst, arith, length, vec_len}
-use Rattle.perimeter_core.specs.History.{start, run}
-use Rattle.squeue_state.specs.Naming.{Handed, setting_of}
-use Rattle.squeue_state.specs.Behind.{Behind, room_of}
+use Rattle.std.proofs.Common.{◌-◌, ◌++◌, ◌∷◌, [], ap, sym, subst, arith, length, vec_len}
+use Rattle.perimeter_core.specs.History.{start}
+use Rattle.squeue_state.specs.Naming.{setting_of}
+use Rattle.squeue_state.specs.Behind.{Behind}
 use Rattle.squeue_state.specs.Clauses.{named_of}
 use Rattle.histories.specs.Elements.{left_by_pass}
 use Rattle.squeue_state.proofs.squeue.Squeue.leave.Goals as goal
-use Rattle.std.proofs.lemmas.List.{length-drop}
 use Rattle.perimeter_core.proofs.BlocksFollow.{flags}
-use Rattle.squeue_state.proofs.Turns.{lent, here, noted, ends}
+use Rattle.squeue_state.proofs.Turns.{lent, noted, ends}
 use Rattle.squeue_state.proofs.Bounds.{leaves_back}
-use Rattle.turn_gate.specs.Helds.{held_value}
 use Rattle.squeue_state.proofs.Steps.{act_below}
 
 pub leave-requires-clause-room : goal.leave-requires-clause-room

@@ -2,7 +2,6 @@ use Rattle.std.proofs.Common.{◌≡◌, ◌++◌, ◌∷◌, [], ◌∙◌, Lis
 use Rattle.turn_gate.specs.Passes.{seen}
 use Rattle.perimeter_core.specs.History.{Element, run}
 use Rattle.squeue_state.specs.Naming.{Turned, setting_of}
-use Rattle.squeue_state.specs.Behind.{room_of}
 use Rattle.squeue_state.specs.Clauses.{named_of}
 use Rattle.histories.specs.Elements.{taken_by}
 use Rattle.squeue_state.proofs.Turns.{lent, noted, ends, hand_after, room_after}
