@@ -68,12 +68,16 @@ pub record Takes (Count : ℕ → Type 0) (old new : Option (List ℕ)) : Type 0
 abbrev pub TakesTooMany : Option (List ℕ) → Option (List ℕ) → Type 0
 TakesTooMany old new = Takes (λ n. n ≡ most_taken) old new
 
--- why a source's bytes were not all read: a fault, want of memory, or too many bytes, and nothing else
+-- why not all bytes of a source were read that may give so many: a fault, want of memory, or one byte more, and nothing else
+abbrev pub FailsWithin : ℕ → Option (List ℕ) → Option (List ℕ) → CaptureFault → Type 0
+FailsWithin most old new fault.Read = Takes (λ n. n ≤ most) old new
+FailsWithin most old new fault.NoMemory = Unit {0}
+FailsWithin most old new (fault.TooLarge n) = (n ≡ most + 1) × Takes (λ k. k ≡ most + 1) old new
+FailsWithin most old new _ = ⊥
+
+-- the same within the size of a capture
 abbrev pub BytesFail : Option (List ℕ) → Option (List ℕ) → CaptureFault → Type 0
-BytesFail old new fault.Read = Takes (λ n. n ≤ most_bytes) old new
-BytesFail old new fault.NoMemory = Unit {0}
-BytesFail old new (fault.TooLarge n) = (n ≡ most_taken) × TakesTooMany old new
-BytesFail old new _ = ⊥
+BytesFail = FailsWithin most_bytes
 
 -- the source was read to its end, and its bytes are refused for this cause
 abbrev pub ReadsRefused : Option (List ℕ) → Option (List ℕ) → CaptureFault → Type 0

@@ -1,9 +1,9 @@
 //! A capture, or its bytes alone, from a source, which is read to the end of its input.
 
-ghost use Rattle.std.specs.Prelude.{◌≡◌, ◌≤◌, length, IfOk, IfErr, Err};
+ghost use Rattle.std.specs.Prelude.{◌≡◌, ◌≤◌, ◌+◌, length, IfOk, IfErr, Err};
 ghost use Rattle.capture_reader.specs.Limits.{most_bytes, most_taken};
 ghost use Rattle.sq_base.specs.Ends.{Rose};
-ghost use Rattle.capture_reader.specs.Outcome.{IsCapture, ReadsWhole, ReadFails, BytesFail, Takes};
+ghost use Rattle.capture_reader.specs.Outcome.{IsCapture, ReadsWhole, ReadFails, BytesFail, FailsWithin, Takes};
 
 use crate::capture::{Capture, parse_capture};
 use crate::fault::CaptureFault;
@@ -46,20 +46,37 @@ pub fn read_bytes<S: Source>(alloc: Global, src: &mut S) -> Result<Octets, Captu
     ensures few { Takes (λ n. n ≤ most_taken) (S.rest src.old) (S.rest src.new) }
     ensures never_falls { S.read_faults src.old ≤ S.read_faults src.new }
 {
+    Ok(Octets::wrap(read_within(alloc, src, MOST_BYTES)?))
+}
+
+/// All bytes that a source gives, so many at most, whatever they mean. `Read` comes only where the source's count of faults rose,
+/// `TooLarge` where one byte more than these was taken, and no other fault comes but `NoMemory`.
+pub fn read_within<S: Source>(
+    alloc: Global,
+    src: &mut S,
+    most: usize,
+) -> Result<Vec<u8>, CaptureFault>
+    ensures ok { IfOk result (λ bytes. ReadsWhole (S.rest src.old) (S.rest src.new) bytes.items × (length bytes.items ≤ most)) }
+    ensures err { IfErr result (FailsWithin most (S.rest src.old) (S.rest src.new)) }
+    ensures read { result ≡ Err CaptureFault.Read → Rose (S.read_faults src.old) (S.read_faults src.new) }
+    ensures kept { (result ≡ Err CaptureFault.Read → ⊥) → S.read_faults src.new ≡ S.read_faults src.old }
+    ensures few { Takes (λ n. n ≤ most + 1) (S.rest src.old) (S.rest src.new) }
+    ensures never_falls { S.read_faults src.old ≤ S.read_faults src.new }
+{
     let mut bytes = Vec::new(alloc);
     let mut buf = [0; PIECE];
     loop {
         // Never more than one byte past the size is asked for.
-        let room = PIECE.min(MOST_BYTES + 1 - bytes.len());
+        let room = 1 + (most - bytes.len()).min(PIECE - 1);
         let n = match src.read(&mut buf[..room]) {
-            Ok(0) => return Ok(Octets::wrap(bytes)),
+            Ok(0) => return Ok(bytes),
             Ok(n) => n,
             Err(Failed) => return Err(CaptureFault::Read),
         };
         bytes
             .extend_from_slice(&buf[..n])
             .map_err(|_| CaptureFault::NoMemory)?;
-        if bytes.len() > MOST_BYTES {
+        if bytes.len() > most {
             return Err(CaptureFault::TooLarge(bytes.len() as u64));
         }
     }
