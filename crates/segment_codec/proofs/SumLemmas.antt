@@ -1,5 +1,5 @@
 -- A checksum makes the sum whole.
-use Rattle.std.proofs.Common.{◌≡◌, ℕ, ◌+◌, ◌-◌, ◌<◌, List, [], ◌∷◌, ◌++◌, length, slice_index, refl, take, length-append, append_assoc, ap, ◌∙◌, arith, Option, Some, None, subst}
+use Rattle.std.proofs.Common.{◌≡◌, ℕ, zero, suc, ◌+◌, ◌-◌, ◌<◌, ◌≤◌, List, [], ◌∷◌, ◌++◌, length, slice_index, refl, take, length-append, append_assoc, ap, ◌∙◌, arith, Option, Some, None, subst}
 use Rattle.std.proofs.Math.ListN.{get_or}
 use Rattle.std.proofs.lemmas.List.{take_more}
 use Rattle.std.proofs.lemmas.Bool.Decides.{nat_tests}
@@ -78,3 +78,12 @@ five (a ∷ b ∷ c ∷ []) h = absurd (omega (arith, h))
 five (a ∷ b ∷ c ∷ d ∷ []) h = absurd (omega (arith, h))
 five (a ∷ b ∷ c ∷ d ∷ e ∷ []) h = refl
 five (a ∷ b ∷ c ∷ d ∷ e ∷ f ∷ rest) h = absurd (omega (arith, h))
+
+-- a word that is carried has its room among all of them
+pub word_within : (words : List (Option ℕ)) (i w : ℕ) → i < length words → get_or words i None ≡ Some w
+    → length (flat_map word_bytes (take i words)) + 4 ≤ length (flat_map word_bytes words)
+word_within [] i w within e = absurd (omega (arith, within))
+word_within (None ∷ words) zero w within e = absurd (let no : ⊥ = cc in no)
+word_within (Some x ∷ words) zero w within e = omega arith
+word_within (None ∷ words) (suc i) w within e = word_within words i w (omega (arith, within)) e
+word_within (Some x ∷ words) (suc i) w within e = omega (arith, word_within words i w (omega (arith, within)) e)

@@ -7,3 +7,4 @@ pub mod SegmentBytes
 pub mod SentIsRead
 pub mod ControlBits
 pub mod Refusal
+pub mod Datagrams

@@ -21,4 +21,4 @@ pub use options::Options;
 pub use packet::{Packet, Reply, Seg, Why};
 pub use reading::{decode, ip_place};
 pub use refusing::{refusal, tuple_of};
-pub use writing::{encode, encode_into};
+pub use writing::{MOST_DATAGRAM, encode, encode_into};

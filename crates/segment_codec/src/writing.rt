@@ -1,15 +1,20 @@
 //! A sent segment in bytes. Both checksums are taken over the fields as numbers first, so each byte is written once.
 
-ghost use Rattle.std.specs.Prelude.{◌≡◌, ◌≤◌, ◌+◌, ◌*◌, ◌/◌, ◌<◌, length, take, IfOk, OnOk, OnErr, ◌++◌, ◌∷◌, [], if◌then◌else◌, is_ok, flat_map};
+ghost use Rattle.std.specs.Prelude.{◌≡◌, ◌≤◌, ◌+◌, ◌*◌, ◌/◌, ◌<◌, length, take, IfOk, IsOk, OnOk, OnErr, ◌++◌, ◌∷◌, [], if◌then◌else◌, is_ok, flat_map};
+ghost use Rattle.std.specs.Prelude.{vec_capacity, vec_len};
 ghost use Rattle.byteorder.specs.Endian.{big_bytes};
 ghost use Rattle.sq_base.specs.InternetSum.{word_sum, reduced};
 ghost use Rattle.segment_codec.specs.SegmentBytes.{segment_bytes, ip_with, tcp_with, offset_of, ip_sum, tcp_sum};
 ghost use Rattle.segment_codec.specs.Options.{option_bytes, word_bytes};
 ghost use Rattle.segment_codec.specs.Limits.{most_text, most_option_words};
+ghost use Rattle.segment_codec.specs.Datagrams.{most_datagram};
 
 use crate::packet::Reply;
 use sq_base::{Octets, Tuple, inet_sum};
 use std::alloc::{AllocError, Global};
+
+/// The most bytes of a datagram that is sent: an IPv4 header without options, the largest TCP header, and the text.
+pub const MOST_DATAGRAM: usize = 1540;
 
 /// The IPv4 datagram of a reply from the tuple's server to its client (RFC 791, 3.1; RFC 9293, 3.1), with both checksums.
 /// An error says that memory for it was missing.
@@ -22,10 +27,13 @@ pub fn encode(alloc: Global, tuple: &Tuple, reply: &Reply) -> Result<Octets, All
     Ok(Octets::wrap(out))
 }
 
-/// Appends the datagram that `encode` gives to a buffer that the caller keeps. After an error the buffer is as it was.
+/// Appends the datagram that `encode` gives to a buffer that the caller keeps. After an error the buffer is as it was;
+/// there is none where it has room for the largest datagram.
 pub fn encode_into(out: &mut Vec<u8>, tuple: &Tuple, reply: &Reply) -> Result<(), AllocError>
     requires text { length reply.now.text ≤ most_text }
-    ensures { out.new.items ≡ (if is_ok result then out.old.items ++ segment_bytes tuple.now reply.now else out.old.items) }
+    ensures items { out.new.items ≡ (if is_ok result then out.old.items ++ segment_bytes tuple.now reply.now else out.old.items) }
+    ensures succeeds { vec_len out.old + most_datagram ≤ vec_capacity out.old → IsOk result }
+    ensures capacity { vec_capacity out.old ≤ vec_capacity out.new }
 {
     let before = out.len();
     let written = append(out, tuple, reply);
@@ -41,6 +49,8 @@ fn append(out: &mut Vec<u8>, tuple: &Tuple, reply: &Reply) -> Result<(), AllocEr
     requires text { length reply.now.text ≤ most_text }
     ensures ok { OnOk result (out.new.items ≡ out.old.items ++ segment_bytes tuple.now reply.now) }
     ensures kept { take (length out.old.items) out.new.items ≡ out.old.items }
+    ensures succeeds { vec_len out.old + most_datagram ≤ vec_capacity out.old → IsOk result }
+    ensures capacity { vec_capacity out.old ≤ vec_capacity out.new }
 {
     let len = tcp_len(reply);
     let total = 20 + len;
@@ -162,6 +172,9 @@ fn sum_options(words: &[Option<u32>]) -> u32
 fn push_header(out: &mut Vec<u8>, header: [u32; 5]) -> Result<(), AllocError>
     ensures ok { OnOk result (out.new.items ≡ out.old.items ++ flat_map (big_bytes 4) header) }
     ensures kept { OnErr result (out.new.items ≡ out.old.items) }
+    ensures len { OnOk result (vec_len out.new ≡ vec_len out.old + 20) }
+    ensures succeeds { vec_len out.old + 20 ≤ vec_capacity out.old → IsOk result }
+    ensures capacity { vec_capacity out.old ≤ vec_capacity out.new }
 {
     let [a, b, c, d, e] = header;
     let [a0, a1, a2, a3] = a.to_be_bytes();
@@ -179,6 +192,8 @@ fn push_header(out: &mut Vec<u8>, header: [u32; 5]) -> Result<(), AllocError>
 fn push_tcp(out: &mut Vec<u8>, tuple: &Tuple, reply: &Reply, sum: u16) -> Result<(), AllocError>
     ensures ok { OnOk result (out.new.items ≡ out.old.items ++ tcp_with tuple.now reply.now sum) }
     ensures kept { take (length out.old.items) out.new.items ≡ out.old.items }
+    ensures succeeds { vec_len out.old + (20 + length (option_bytes reply.now.options) + length reply.now.text) ≤ vec_capacity out.old → IsOk result }
+    ensures capacity { vec_capacity out.old ≤ vec_capacity out.new }
 {
     push_header(out, tcp_header(tuple, reply, sum))?;
     push_options(out, &reply.options.words())?;
@@ -212,6 +227,9 @@ fn carried(words: &[Option<u32>]) -> u8
 fn push_options(out: &mut Vec<u8>, words: &[Option<u32>]) -> Result<(), AllocError>
     ensures ok { OnOk result (out.new.items ≡ out.old.items ++ flat_map word_bytes words.now) }
     ensures kept { take (length out.old.items) out.new.items ≡ out.old.items }
+    ensures len { OnOk result (vec_len out.new ≡ vec_len out.old + length (flat_map word_bytes words.now)) }
+    ensures succeeds { vec_len out.old + length (flat_map word_bytes words.now) ≤ vec_capacity out.old → IsOk result }
+    ensures capacity { vec_capacity out.old ≤ vec_capacity out.new }
 {
     for word in words {
         if let Some(word) = word {
