@@ -11,7 +11,8 @@ use Rattle.perimeter_core.specs.declared.entries.Act.TheVariants as act
 use Rattle.conn_classifier.specs.Plan.{PlanOf, items_in}
 use Rattle.conn_blocks.specs.declared.stages.Stage.{Stage}
 use Rattle.conn_blocks.specs.CallLists.{CallLists, calls_of}
-use Rattle.conn_blocks.specs.ServeOrder.{BlockOf, Serving, ClockIsPast, IsDone, IsTimely, SetsClock, serve, serves, serves_act, service_in}
+use Rattle.conn_blocks.specs.ServeOrder.{BlockOf, Serving, ClockIsPast, IsDone, IsTimely, SetsClock, serve, serves, serves_act}
+use Rattle.conn_blocks.specs.Services.{service_in}
 use Rattle.perimeter_core.specs.Deeds.{feed_numbers}
 use Rattle.conn_blocks.specs.Orders.{numbers_on, call_numbers}
 use Rattle.conn_blocks.specs.Holding.{fed, Begins, IsSettled, IsSound, ComesNext}

@@ -7,7 +7,8 @@ use Rattle.conn_classifier.specs.Plan.{PlanOf, items_in}
 use Rattle.perimeter_core.specs.declared.entries.Act.{Act}
 use Rattle.perimeter_core.specs.declared.entries.Act.TheVariants as act
 use Rattle.conn_blocks.specs.CallLists.{CallLists}
-use Rattle.conn_blocks.specs.ServeOrder.{BlockOf, serving_of, serves, serves_act, serve, service_in, IsActOf, FeedsRise, ClockIsPast, IsTimely, SetsClock}
+use Rattle.conn_blocks.specs.ServeOrder.{BlockOf, serving_of, serves, serves_act, serve, IsActOf, FeedsRise, ClockIsPast, IsTimely, SetsClock}
+use Rattle.conn_blocks.specs.Services.{service_in}
 
 -- what was served so far, and what is still to come
 pub record SoFar (p : PlanOf) (calls : CallLists) (c : ℕ) (order : List Act) (i : ℕ) (b : BlockOf) : Type 0 where

@@ -11,7 +11,8 @@ use Rattle.conn_blocks.specs.Limits.{callers, most_calls}
 use Rattle.conn_blocks.specs.declared.stages.Stage.{Stage}
 use Rattle.conn_blocks.specs.declared.stages.Stage.TheVariants as stage
 use Rattle.conn_blocks.specs.CallLists.{CallLists, calls_of}
-use Rattle.conn_blocks.specs.ServeOrder.{BlockOf, ClockIsPast, IsActOf, serve, service_in, serving_of}
+use Rattle.conn_blocks.specs.ServeOrder.{BlockOf, ClockIsPast, IsActOf, serve, serving_of}
+use Rattle.conn_blocks.specs.Services.{service_in}
 use Rattle.perimeter_core.specs.Deeds.{feed_numbers}
 use Rattle.conn_blocks.specs.Orders.{numbers_on, call_numbers, has_call, settle}
 

@@ -6,5 +6,6 @@ pub mod Orders
 pub mod PlaceLaws
 pub mod Places
 pub mod ServeOrder
+pub mod Services
 pub mod SettledFeeds
 pub mod ServedBlocks

@@ -13,12 +13,13 @@ use Rattle.tcb_machine.specs.Timers.{tcp_time}
 use Rattle.tcb_machine.specs.CallAnswers.{tcp_call}
 use Rattle.tcb_machine.specs.declared.kinds.Answer.{Answer}
 use Rattle.tcb_machine.specs.declared.kinds.Call.{Call}
-use Rattle.echo_services.specs.Pump.{pump, service_of}
+use Rattle.echo_services.specs.Pump.{pump}
 use Rattle.echo_services.specs.Serving.{followed}
 use Rattle.echo_services.specs.declared.service.Service.{Service}
 use Rattle.conn_blocks.specs.declared.stages.Stage.{Stage}
 use Rattle.conn_blocks.specs.CallLists.{CallLists, calls_of, call_at}
 use Rattle.conn_blocks.specs.Limits.{callers}
+use Rattle.conn_blocks.specs.Services.{service_in}
 
 -- an item with its text
 abbrev pub receives : Service → Item → List ℕ → Block → Block
@@ -45,10 +46,6 @@ serves_act p calls c service (act.Call j k) s = option_map_or (λ x. asks servic
 abbrev pub serves : PlanOf → CallLists → ℕ → Service → List Act → Serving → Serving
 serves p calls c service [] s = s
 serves p calls c service (a ∷ order) s = serves p calls c service order (serves_act p calls c service a s)
-
--- the service of connection c
-abbrev pub service_in : PlanOf → ℕ → Service
-service_in p c = option_map_or (λ t. service_of t.server_port) (slice_get p.tuples c) (service_of 7)
 
 unfoldable pub serve : PlanOf → CallLists → ℕ → List Act → Serving
 serve p calls c order = serves p calls c (service_in p c) order (record { block = new_block; answers = [] })

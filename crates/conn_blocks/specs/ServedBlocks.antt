@@ -3,7 +3,6 @@ use Rattle.std.specs.Prelude.{◌≡◌, ℕ, ◌<◌, false, Box, List, length,
 use Rattle.std.specs.declared.alloc.Global.{Global}
 use Rattle.conn_classifier.specs.Plan.{PlanOf}
 use Rattle.conn_blocks.specs.CallLists.{CallLists}
-use Rattle.conn_blocks.specs.Orders.{IsWhole}
 use Rattle.conn_blocks.specs.ServeOrder.{BlockOf, serve, serving_of}
 
 -- the blocks in these boxes
@@ -19,7 +18,3 @@ pub record IsServing (p : PlanOf) (calls : CallLists) (c : ℕ) (b : BlockOf) : 
 pub record AreServed (p : PlanOf) (calls : CallLists) (blocks : List BlockOf) : Type 0 where
   pub count : length blocks ≡ length p.tuples
   pub each : (c : ℕ) → c < length p.tuples → IfSome (slice_get blocks c) (IsServing p calls c)
-
--- each block's order has each item and each call of its connection once, in order
-abbrev pub AreWhole : PlanOf → CallLists → List BlockOf → Type 0
-AreWhole p calls blocks = (c : ℕ) → c < length p.tuples → IfSome (slice_get blocks c) (λ b. IsWhole p calls c b.order)

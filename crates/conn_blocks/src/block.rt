@@ -13,6 +13,7 @@ ghost use Rattle.conn_blocks.specs.ServeOrder.{asks, receives, serve, serves_act
 use crate::calls::Calls;
 use crate::facts::{Connection, connection_of};
 use crate::limits::CALLERS;
+use crate::services::service_in;
 use crate::stages::Stage;
 use conn_classifier::{Item, Plan, PlanView};
 use echo_services::{Service, ask, serve, tick};
@@ -81,7 +82,7 @@ impl Block {
         tcb.reserve_replies(plan.items(c) as usize)?;
         let block = Block {
             of: connection_of(plan, calls, c),
-            service: Service::of(plan.tuple(c).server_port),
+            service: service_in(plan, c),
             tcb,
             order: Vec::with_capacity(alloc, plan.items(c) as usize + asked)?,
             answers: Vec::with_capacity(alloc, asked)?,

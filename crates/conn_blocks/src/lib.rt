@@ -11,6 +11,7 @@ mod facts;
 mod holding;
 pub mod laws;
 mod limits;
+mod services;
 mod stages;
 #[cfg(test)]
 mod tests;
@@ -21,3 +22,4 @@ pub use calls::Calls;
 pub use facts::Origin;
 pub use limits::{CALLERS, MOST_CALLS};
 pub use perimeter_core::Act;
+pub use services::service_in;

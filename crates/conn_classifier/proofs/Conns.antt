@@ -7,6 +7,7 @@ use Rattle.indexmap.specs.IndexSet.{insert_key}
 use Rattle.conn_classifier.specs.Limits.{most_conns}
 use Rattle.conn_classifier.specs.Connections.{conns, distinct, served_tuple, tuple_eq}
 use Rattle.conn_classifier.proofs.Distinct.{distinct_push, take_insert, take_full}
+use Rattle.conn_classifier.specs.declared.rules.Ports.{Ports}
 
 pub same : (a b : Tuple) → tuple_eq a b ≡ true → a ≡ b
 same a b e = grind (arith, e)
@@ -27,20 +28,20 @@ push_some f (y ∷ ys) x t e = by (f y) refl (push_some f ys x t e)
     by None q rest = rw q rest
     by (Some z) q rest = rw q (ap (λ l. z ∷ l) rest)
 
-pub conns_none : (ps : List Packet) (p : Packet) → served_tuple p ≡ None → conns (ps ++ p ∷ []) ≡ conns ps
+pub conns_none : (ports : Ports) (ps : List Packet) (p : Packet) → served_tuple ports p ≡ None → conns ports (ps ++ p ∷ []) ≡ conns ports ps
 unfolding conns
-conns_none ps p e = ap (λ l. take most_conns (distinct l)) (push_none served_tuple ps p e)
+conns_none ports ps p e = ap (λ l. take most_conns (distinct l)) (push_none (served_tuple ports) ps p e)
 
-grown : (ps : List Packet) (p : Packet) (t : Tuple) → served_tuple p ≡ Some t
-    → distinct (filter_map served_tuple (ps ++ p ∷ [])) ≡ insert_key tuple_eq (distinct (filter_map served_tuple ps)) t
-grown ps p t e = ap distinct (push_some served_tuple ps p t e) ∙ distinct_push tuple_eq same distinct refl (λ x xs. refl) (filter_map served_tuple ps) t
+grown : (ports : Ports) (ps : List Packet) (p : Packet) (t : Tuple) → served_tuple ports p ≡ Some t
+    → distinct (filter_map (served_tuple ports) (ps ++ p ∷ [])) ≡ insert_key tuple_eq (distinct (filter_map (served_tuple ports) ps)) t
+grown ports ps p t e = ap distinct (push_some (served_tuple ports) ps p t e) ∙ distinct_push tuple_eq same distinct refl (λ x xs. refl) (filter_map (served_tuple ports) ps) t
 
-pub conns_some : (ps : List Packet) (p : Packet) (t : Tuple) → served_tuple p ≡ Some t → length (conns ps) < most_conns
-    → conns (ps ++ p ∷ []) ≡ insert_key tuple_eq (conns ps) t
+pub conns_some : (ports : Ports) (ps : List Packet) (p : Packet) (t : Tuple) → served_tuple ports p ≡ Some t → length (conns ports ps) < most_conns
+    → conns ports (ps ++ p ∷ []) ≡ insert_key tuple_eq (conns ports ps) t
 unfolding conns
-conns_some ps p t e lt = ap (take most_conns) (grown ps p t e) ∙ take_insert tuple_eq same most_conns (distinct (filter_map served_tuple ps)) t lt
+conns_some ports ps p t e lt = ap (take most_conns) (grown ports ps p t e) ∙ take_insert tuple_eq same most_conns (distinct (filter_map (served_tuple ports) ps)) t lt
 
-pub conns_full : (ps : List Packet) (p : Packet) (t : Tuple) → served_tuple p ≡ Some t → (length (conns ps) < most_conns → ⊥)
-    → conns (ps ++ p ∷ []) ≡ conns ps
+pub conns_full : (ports : Ports) (ps : List Packet) (p : Packet) (t : Tuple) → served_tuple ports p ≡ Some t → (length (conns ports ps) < most_conns → ⊥)
+    → conns ports (ps ++ p ∷ []) ≡ conns ports ps
 unfolding conns
-conns_full ps p t e full = ap (take most_conns) (grown ps p t e) ∙ take_full tuple_eq same most_conns (distinct (filter_map served_tuple ps)) t full
+conns_full ports ps p t e full = ap (take most_conns) (grown ports ps p t e) ∙ take_full tuple_eq same most_conns (distinct (filter_map (served_tuple ports) ps)) t full

@@ -3,7 +3,6 @@ use Rattle.std.proofs.Common.{◌≡◌, ℕ, ◌+◌, ◌<◌, Bool, List, [], 
 use Rattle.std.specs.List.{AllByRecursion}
 use Rattle.std.specs.Option.{option_map, option_and_then}
 use Rattle.std.proofs.lemmas.List.{get_or-map, length-map}
-use Rattle.sq_base.specs.Ports.{is_served_port}
 use Rattle.sq_base.specs.declared.kinds.Tuple.{Tuple}
 use Rattle.capture_reader.specs.CaptureFile.{Packet as Captured}
 use Rattle.segment_codec.specs.declared.packet.Packet.{Packet}
@@ -17,27 +16,29 @@ use Rattle.conn_classifier.specs.Sorting.{seen_of}
 use Rattle.conn_classifier.specs.declared.kinds.Item.{Item}
 use Rattle.conn_classifier.specs.declared.kinds.Slot.{Slot}
 use Rattle.conn_classifier.proofs.PlanLaw.{all_filter}
+use Rattle.conn_classifier.specs.declared.rules.Ports.{Ports}
+use Rattle.conn_classifier.specs.Rules.{is_served}
 
 -- a served segment is its packet's
-served_segment : (p : Packet) (s : Seg) → served_in p ≡ Some s → segment_of p ≡ Some s
-served_segment (packet.Segment q) s e = by (is_served_port q.dst_port) refl
+served_segment : (ports : Ports) (p : Packet) (s : Seg) → served_in ports p ≡ Some s → segment_of p ≡ Some s
+served_segment ports (packet.Segment q) s e = by (is_served ports q.dst_port) refl
   where
-    by : (b : Bool) → is_served_port q.dst_port ≡ b → segment_of (packet.Segment q) ≡ Some s
+    by : (b : Bool) → is_served ports q.dst_port ≡ b → segment_of (packet.Segment q) ≡ Some s
     by true f = let now : Some q ≡ Some s = rw f at e in now
     by false f = absurd (let no : None ≡ Some s = rw f at e in let bad : ⊥ = cc in bad)
-served_segment packet.Other s e = absurd (let bad : ⊥ = cc in bad)
-served_segment packet.Fragment s e = absurd (let bad : ⊥ = cc in bad)
-served_segment packet.Cut s e = absurd (let bad : ⊥ = cc in bad)
-served_segment (packet.Malformed why) s e = absurd (let bad : ⊥ = cc in bad)
-served_segment packet.BadSum s e = absurd (let bad : ⊥ = cc in bad)
+served_segment ports packet.Other s e = absurd (let bad : ⊥ = cc in bad)
+served_segment ports packet.Fragment s e = absurd (let bad : ⊥ = cc in bad)
+served_segment ports packet.Cut s e = absurd (let bad : ⊥ = cc in bad)
+served_segment ports (packet.Malformed why) s e = absurd (let bad : ⊥ = cc in bad)
+served_segment ports packet.BadSum s e = absurd (let bad : ⊥ = cc in bad)
 
-module _ (RS : List Captured) (PS : List Packet) where
+module _ (ports : Ports) (RS : List Captured) (PS : List Packet) where
   -- the records from number n on are these
   all_kept : (n : ℕ) (rs : List Captured) (ps : List Packet) → ((k : ℕ) → slice_get RS (n + k) ≡ slice_get rs k) → ((k : ℕ) → slice_get PS (n + k) ≡ slice_get ps k)
-      → AllByRecursion (IsKept RS PS) (arrivals n (seen_of rs ps))
+      → AllByRecursion (IsKept RS PS) (arrivals ports n (seen_of rs ps))
   all_kept n [] ps f g = tt
   all_kept n (r ∷ rs) [] f g = tt
-  all_kept n (r ∷ rs) (p ∷ ps) f g = by (served_in p) refl (all_kept (suc n) rs ps (λ k. on RS k ∙ f (suc k)) (λ k. on PS k ∙ g (suc k)))
+  all_kept n (r ∷ rs) (p ∷ ps) f g = by (served_in ports p) refl (all_kept (suc n) rs ps (λ k. on RS k ∙ f (suc k)) (λ k. on PS k ∙ g (suc k)))
     where
       on : {X : Type 0} (l : List X) (k : ℕ) → slice_get l (suc n + k) ≡ slice_get l (n + suc k)
       on l k = let e : suc n + k ≡ n + suc k = omega arith in ap (slice_get l) e
@@ -45,26 +46,26 @@ module _ (RS : List Captured) (PS : List Packet) where
       here : {X : Type 0} (l : List X) → slice_get l n ≡ slice_get l (n + 0)
       here l = let e : n ≡ n + 0 = omega arith in ap (slice_get l) e
 
-      by : (o : Option Seg) → served_in p ≡ o → AllByRecursion (IsKept RS PS) (arrivals (suc n) (seen_of rs ps))
-          → AllByRecursion (IsKept RS PS) (arrivals n (seen_of (r ∷ rs) (p ∷ ps)))
+      by : (o : Option Seg) → served_in ports p ≡ o → AllByRecursion (IsKept RS PS) (arrivals ports (suc n) (seen_of rs ps))
+          → AllByRecursion (IsKept RS PS) (arrivals ports n (seen_of (r ∷ rs) (p ∷ ps)))
       by None e rest = rw e rest
       by (Some s) e rest = rw e (
         record {
           time = ap (option_map (λ r. r.time)) (here RS ∙ f 0);
-          segment = ap (option_and_then segment_of) (here PS ∙ g 0) ∙ served_segment p s e;
+          segment = ap (option_and_then segment_of) (here PS ∙ g 0) ∙ served_segment ports p s e;
         },
         rest,
       )
 
   -- the arrivals of a connection are kept
-  conn_kept : (t : Tuple) → AllByRecursion (IsKept RS PS) (of_conn t (seen_of RS PS))
+  conn_kept : (t : Tuple) → AllByRecursion (IsKept RS PS) (of_conn ports t (seen_of RS PS))
   unfolding of_conn
   conn_kept t =
       let zero : (k : ℕ) → 0 + k ≡ k = λ k. omega arith in
-      all_filter _ (λ a. tuple_eq (tuple_of a.seg) t) (arrivals 0 (seen_of RS PS)) (all_kept 0 RS PS (λ k. ap (slice_get RS) (zero k)) (λ k. ap (slice_get PS) (zero k)))
+      all_filter _ (λ a. tuple_eq (tuple_of a.seg) t) (arrivals ports 0 (seen_of RS PS)) (all_kept 0 RS PS (λ k. ap (slice_get RS) (zero k)) (λ k. ap (slice_get PS) (zero k)))
 
   -- those of all connections
-  pub conns_kept : (ts : List Tuple) → AllByRecursion (AllByRecursion (IsKept RS PS)) (map (λ t. of_conn t (seen_of RS PS)) ts)
+  pub conns_kept : (ts : List Tuple) → AllByRecursion (AllByRecursion (IsKept RS PS)) (map (λ t. of_conn ports t (seen_of RS PS)) ts)
   conns_kept [] = tt
   conns_kept (t ∷ ts) = (conn_kept t, conns_kept ts)
 

@@ -17,10 +17,12 @@ use Rattle.segment_codec.specs.Refusal.{tuple_of}
 use Rattle.conn_classifier.specs.Connections.{tuple_eq, served_in, conns, decoded}
 use Rattle.conn_classifier.specs.Items.{Seen, arrivals, of_conn, items_after, items_of, conn_items}
 use Rattle.conn_classifier.specs.Sorting.{number_in, conn_in, order_of}
-use Rattle.conn_classifier.specs.Plan.{plan_of, IsOrdered, Climbs, records_of, seen}
+use Rattle.conn_classifier.specs.Plan.{plan_by, IsOrdered, Climbs, records_of, seen}
 use Rattle.conn_classifier.proofs.Conns.{same}
 use Rattle.conn_classifier.proofs.PlanFacts.{all_at, no_below}
 use Rattle.conn_classifier.proofs.ItemLemmas.{gap_by}
+use Rattle.conn_classifier.specs.declared.rules.Ports.{Ports}
+use Rattle.conn_classifier.specs.declared.rules.Rules.{Rules}
 
 -- the number of a tuple among different ones
 is_at : Option ℕ → ℕ → Bool
@@ -74,54 +76,54 @@ number_below ts s c e = by (nat_lt (position_or_len (tuple_eq (tuple_of s)) ts) 
         omega (arith, at, ltb-true (position_or_len (tuple_eq (tuple_of s)) ts) (length ts) q)
     by false q = absurd (let here : None ≡ Some c = rw q at e in let no : ⊥ = cc in no)
 
-conn_below : (ts : List Tuple) (p : Packet) (c : ℕ) → conn_in ts p ≡ Some c → c < length ts
-conn_below ts p c e = by (served_in p) refl
+conn_below : (ports : Ports) (ts : List Tuple) (p : Packet) (c : ℕ) → conn_in ports ts p ≡ Some c → c < length ts
+conn_below ports ts p c e = by (served_in ports p) refl
   where
-    by : (o : Option Seg) → served_in p ≡ o → c < length ts
+    by : (o : Option Seg) → served_in ports p ≡ o → c < length ts
     by None q = absurd (let here : None ≡ Some c = rw q at e in let no : ⊥ = cc in no)
     by (Some s) q = number_below ts s c (rw q at e)
 
-module _ (ts : List Tuple) where
+module _ (ports : Ports) (ts : List Tuple) where
   places : ℕ → List Seen → List (ℕ × ℕ)
   places n [] = []
-  places n (x ∷ xs) = place n (conn_in ts x.1) ++ places (suc n) xs
+  places n (x ∷ xs) = place n (conn_in ports ts x.1) ++ places (suc n) xs
 
-  order_is : (n : ℕ) (xs : List Seen) → filter_map (λ (x : Seen). conn_in ts x.1) xs ≡ map (λ q. q.0) (places n xs)
+  order_is : (n : ℕ) (xs : List Seen) → filter_map (λ (x : Seen). conn_in ports ts x.1) xs ≡ map (λ q. q.0) (places n xs)
   unfolding place places
   order_is n [] = refl
-  order_is n (x ∷ xs) = by (conn_in ts x.1) refl (order_is (suc n) xs)
+  order_is n (x ∷ xs) = by (conn_in ports ts x.1) refl (order_is (suc n) xs)
     where
-      by : (o : Option ℕ) → conn_in ts x.1 ≡ o → filter_map (λ (x : Seen). conn_in ts x.1) xs ≡ map (λ q. q.0) (places (suc n) xs)
-          → filter_map (λ (x : Seen). conn_in ts x.1) (x ∷ xs) ≡ map (λ q. q.0) (places n (x ∷ xs))
+      by : (o : Option ℕ) → conn_in ports ts x.1 ≡ o → filter_map (λ (x : Seen). conn_in ports ts x.1) xs ≡ map (λ q. q.0) (places (suc n) xs)
+          → filter_map (λ (x : Seen). conn_in ports ts x.1) (x ∷ xs) ≡ map (λ q. q.0) (places n (x ∷ xs))
       by None e rest = rw e rest
       by (Some c) e rest = rw e (ap (λ l. c ∷ l) rest)
 
   places_few : (n : ℕ) (xs : List Seen) → length (places n xs) ≤ length xs
   unfolding place places
   places_few n [] = omega arith
-  places_few n (x ∷ xs) = by (conn_in ts x.1) refl (places_few (suc n) xs)
+  places_few n (x ∷ xs) = by (conn_in ports ts x.1) refl (places_few (suc n) xs)
     where
-      by : (o : Option ℕ) → conn_in ts x.1 ≡ o → length (places (suc n) xs) ≤ length xs → length (places n (x ∷ xs)) ≤ length (x ∷ xs)
+      by : (o : Option ℕ) → conn_in ports ts x.1 ≡ o → length (places (suc n) xs) ≤ length xs → length (places n (x ∷ xs)) ≤ length (x ∷ xs)
       by None e rest = rw e (omega (arith, rest))
       by (Some c) e rest = rw e (omega (arith, rest))
 
   places_climb : (n : ℕ) (xs : List Seen) → Climbs n (map (λ q. q.1) (places n xs))
   unfolding place places
   places_climb n [] = tt
-  places_climb n (x ∷ xs) = by (conn_in ts x.1) refl (climbs_low n _ (places_climb (suc n) xs))
+  places_climb n (x ∷ xs) = by (conn_in ports ts x.1) refl (climbs_low n _ (places_climb (suc n) xs))
     where
-      by : (o : Option ℕ) → conn_in ts x.1 ≡ o → Climbs n (map (λ q. q.1) (places (suc n) xs)) → Climbs n (map (λ q. q.1) (places n (x ∷ xs)))
+      by : (o : Option ℕ) → conn_in ports ts x.1 ≡ o → Climbs n (map (λ q. q.1) (places (suc n) xs)) → Climbs n (map (λ q. q.1) (places n (x ∷ xs)))
       by None e rest = rw e rest
       by (Some c) e rest = rw e (omega arith, rest)
 
   places_within : (n : ℕ) (xs : List Seen) → AllByRecursion (λ (q : ℕ × ℕ). q.0 < length ts) (places n xs)
   unfolding place places
   places_within n [] = tt
-  places_within n (x ∷ xs) = by (conn_in ts x.1) refl (places_within (suc n) xs)
+  places_within n (x ∷ xs) = by (conn_in ports ts x.1) refl (places_within (suc n) xs)
     where
-      by : (o : Option ℕ) → conn_in ts x.1 ≡ o → AllByRecursion (λ (q : ℕ × ℕ). q.0 < length ts) (places (suc n) xs) → AllByRecursion (λ (q : ℕ × ℕ). q.0 < length ts) (places n (x ∷ xs))
+      by : (o : Option ℕ) → conn_in ports ts x.1 ≡ o → AllByRecursion (λ (q : ℕ × ℕ). q.0 < length ts) (places (suc n) xs) → AllByRecursion (λ (q : ℕ × ℕ). q.0 < length ts) (places n (x ∷ xs))
       by None e rest = rw e rest
-      by (Some c) e rest = rw e (conn_below ts x.1 c e, rest)
+      by (Some c) e rest = rw e (conn_below ports ts x.1 c e, rest)
 
   module _ (apart : IsDistinct tuple_eq ts) (c : ℕ) (lt : c < length ts) (d : Tuple) where
     at_conn : (s : Seg) → tuple_eq (tuple_of s) (get_or ts c d) ≡ is_at (number_in ts s) c
@@ -129,23 +131,23 @@ module _ (ts : List Tuple) where
         let zero : 0 + c ≡ c = omega arith in
         at_number (tuple_of s) d 0 c ts apart lt ∙ (λ i. is_at (sym (position_from-zero (tuple_eq (tuple_of s)) ts) i) (zero i))
 
-    records_are : (n : ℕ) (xs : List Seen) → map (λ (a : Arrival). a.rec) (filter (λ (a : Arrival). tuple_eq (tuple_of a.seg) (get_or ts c d)) (arrivals n xs)) ≡ map (λ q. q.1) (filter (λ q. q.0 == c) (places n xs))
+    records_are : (n : ℕ) (xs : List Seen) → map (λ (a : Arrival). a.rec) (filter (λ (a : Arrival). tuple_eq (tuple_of a.seg) (get_or ts c d)) (arrivals ports n xs)) ≡ map (λ q. q.1) (filter (λ q. q.0 == c) (places n xs))
     unfolding place places is_at
     records_are n [] = refl
-    records_are n (x ∷ xs) = by (served_in x.1) refl (records_are (suc n) xs)
+    records_are n (x ∷ xs) = by (served_in ports x.1) refl (records_are (suc n) xs)
       where
         Goal : ℕ → List Seen → Type 0
-        Goal n xs = map (λ (a : Arrival). a.rec) (filter (λ (a : Arrival). tuple_eq (tuple_of a.seg) (get_or ts c d)) (arrivals n xs)) ≡ map (λ q. q.1) (filter (λ q. q.0 == c) (places n xs))
+        Goal n xs = map (λ (a : Arrival). a.rec) (filter (λ (a : Arrival). tuple_eq (tuple_of a.seg) (get_or ts c d)) (arrivals ports n xs)) ≡ map (λ q. q.1) (filter (λ q. q.0 == c) (places n xs))
 
-        hit : (s : Seg) (j : ℕ) (b : Bool) → served_in x.1 ≡ Some s → number_in ts s ≡ Some j → (j == c) ≡ b → Goal (suc n) xs → Goal n (x ∷ xs)
+        hit : (s : Seg) (j : ℕ) (b : Bool) → served_in ports x.1 ≡ Some s → number_in ts s ≡ Some j → (j == c) ≡ b → Goal (suc n) xs → Goal n (x ∷ xs)
         hit s j true e f h rest = let on : tuple_eq (tuple_of s) (get_or ts c d) ≡ true = at_conn s ∙ ap (λ o. is_at o c) f ∙ h in rw e (rw (on, f) (rw h (ap (λ l. n ∷ l) rest)))
         hit s j false e f h rest = let on : tuple_eq (tuple_of s) (get_or ts c d) ≡ false = at_conn s ∙ ap (λ o. is_at o c) f ∙ h in rw e (rw (on, f) (rw h rest))
 
-        inner : (s : Seg) (o : Option ℕ) → served_in x.1 ≡ Some s → number_in ts s ≡ o → Goal (suc n) xs → Goal n (x ∷ xs)
+        inner : (s : Seg) (o : Option ℕ) → served_in ports x.1 ≡ Some s → number_in ts s ≡ o → Goal (suc n) xs → Goal n (x ∷ xs)
         inner s None e f rest = let off : tuple_eq (tuple_of s) (get_or ts c d) ≡ false = at_conn s ∙ ap (λ o. is_at o c) f in rw e (rw (off, f) rest)
         inner s (Some j) e f rest = hit s j (j == c) e f refl rest
 
-        by : (o : Option Seg) → served_in x.1 ≡ o → Goal (suc n) xs → Goal n (x ∷ xs)
+        by : (o : Option Seg) → served_in ports x.1 ≡ o → Goal (suc n) xs → Goal n (x ∷ xs)
         by None e rest = rw e rest
         by (Some s) e rest = inner s (number_in ts s) e refl rest
 
@@ -163,19 +165,19 @@ records_items last (a ∷ arrived) = ap (λ l. a.rec ∷ l) (records_after last 
 nobody : Tuple
 nobody = record { client = record { 0 = 0 }; client_port = 0; server = record { 0 = 0 }; server_port = 0 }
 
-pub is_ordered : (file : CaptureFile) (verify : Bool) → length file.packets ≤ most_records → IsDistinct tuple_eq (conns (decoded file verify)) → IsOrdered (plan_of file verify)
-unfolding plan_of order_of conn_items of_conn
-is_ordered file verify few apart =
-    let ts = conns (decoded file verify) in
-    let xs = seen file verify in
+pub is_ordered : (file : CaptureFile) (rules : Rules) → length file.packets ≤ most_records → IsDistinct tuple_eq (conns rules.ports (decoded file rules.verify)) → IsOrdered (plan_by file rules)
+unfolding plan_by order_of conn_items of_conn
+is_ordered file rules few apart =
+    let ts = conns rules.ports (decoded file rules.verify) in
+    let xs = seen file rules.verify in
     record {
-      places = places ts 0 xs;
-      few = omega (arith, few, places_few ts 0 xs, length-map {B = Seen} file.packets (λ r. (r.time, packet_in file.link r.body verify)));
-      order = order_is ts 0 xs;
-      rising = places_climb ts 0 xs;
-      within = places_within ts 0 xs;
+      places = places rules.ports ts 0 xs;
+      few = omega (arith, few, places_few rules.ports ts 0 xs, length-map {B = Seen} file.packets (λ r. (r.time, packet_in file.link r.body rules.verify)));
+      order = order_is rules.ports ts 0 xs;
+      rising = places_climb rules.ports ts 0 xs;
+      within = places_within rules.ports ts 0 xs;
       each = λ c lt.
-          ap records_of (get_or-map (λ t. conn_items (last_time file.packets) t xs) ts c nobody [] lt)
-          ∙ records_items (last_time file.packets) (of_conn (get_or ts c nobody) xs)
-          ∙ records_are ts apart c lt nobody 0 xs;
+          ap records_of (get_or-map (λ t. conn_items rules.ports (last_time file.packets) t xs) ts c nobody [] lt)
+          ∙ records_items (last_time file.packets) (of_conn rules.ports (get_or ts c nobody) xs)
+          ∙ records_are rules.ports ts apart c lt nobody 0 xs;
     }

@@ -3,7 +3,6 @@ use Rattle.std.proofs.Common.{◌≡◌, ℕ, ◌+◌, ◌*◌, ◌<◌, ◌≤�
 use Rattle.std.specs.List.{AllByRecursion, IsDistinct, filter_map}
 use Rattle.std.proofs.lemmas.List.{length-map, length-take, length-append}
 use Rattle.std.proofs.lemmas.Bool.{and_from}
-use Rattle.sq_base.specs.Ports.{is_served_port}
 use Rattle.sq_base.specs.declared.kinds.Tuple.{Tuple}
 use Rattle.segment_codec.specs.declared.packet.Packet.{Packet}
 use Rattle.segment_codec.specs.declared.packet.Packet.TheVariants as packet
@@ -19,13 +18,16 @@ use Rattle.conn_classifier.specs.declared.kinds.Item.TheVariants.{Time}
 use Rattle.segment_codec.specs.Refusal.{tuple_of}
 use Rattle.conn_classifier.specs.Connections.{tuple_eq, served_in, served_tuple, distinct, conns, decoded}
 use Rattle.conn_classifier.specs.Items.{Seen, arrivals, of_conn, items_after, items_of, conn_items}
-use Rattle.conn_classifier.specs.Plan.{plan_of, IsPlan, IsItems, IsInside, IsSpaced, Rises, seen}
+use Rattle.conn_classifier.specs.Plan.{plan_by, IsPlan, IsItems, IsInside, IsSpaced, Rises, seen}
 use Rattle.conn_classifier.specs.Sorting.{seen_of, sorted_of}
 use Rattle.conn_classifier.specs.declared.kinds.Counts.{Counts}
 use Rattle.conn_classifier.proofs.Conns.{same}
 use Rattle.conn_classifier.proofs.ItemLemmas.{gap_by}
 use Rattle.conn_classifier.proofs.OrderLaw.{is_ordered}
 use Rattle.conn_classifier.proofs.TextWithin.{EndsWithin, text_within}
+use Rattle.conn_classifier.specs.declared.rules.Ports.{Ports}
+use Rattle.conn_classifier.specs.declared.rules.Rules.{Rules}
+use Rattle.conn_classifier.specs.Rules.{is_served}
 
 -- what holds of all elements holds of all of a part
 pub all_to : {X : Type 0} (P Q : X → Type 0) → ((x : X) → P x → Q x) → (xs : List X) → AllByRecursion P xs → AllByRecursion Q xs
@@ -72,42 +74,42 @@ same_tuple t = and_from _ _ (same t.client.0) (and_from _ _ (same t.client_port)
     same n = eq-eqb n n refl
 
 -- a connection has a served port, and a segment among these
-pub record IsConn (arrived : List Arrival) (t : Tuple) : Type 0 where
-  pub served : is_served_port t.server_port ≡ true
+pub record IsConn (ports : Ports) (arrived : List Arrival) (t : Tuple) : Type 0 where
+  pub served : is_served ports t.server_port ≡ true
   pub some : 0 < length (filter (λ a. tuple_eq (tuple_of a.seg) t) arrived)
 
-pub served_port : (p : Packet) (s : Seg) → served_in p ≡ Some s → is_served_port s.dst_port ≡ true
-served_port (packet.Segment q) s e = by (is_served_port q.dst_port) refl e
+pub served_port : (ports : Ports) (p : Packet) (s : Seg) → served_in ports p ≡ Some s → is_served ports s.dst_port ≡ true
+served_port ports (packet.Segment q) s e = by (is_served ports q.dst_port) refl e
   where
-    by : (b : Bool) → is_served_port q.dst_port ≡ b → served_in (packet.Segment q) ≡ Some s → is_served_port s.dst_port ≡ true
-    by true h e = let same : q ≡ s = (let now : Some q ≡ Some s = rw h at e in cc) in subst (λ (r : Seg). is_served_port r.dst_port ≡ true) same h
+    by : (b : Bool) → is_served ports q.dst_port ≡ b → served_in ports (packet.Segment q) ≡ Some s → is_served ports s.dst_port ≡ true
+    by true h e = let same : q ≡ s = (let now : Some q ≡ Some s = rw h at e in cc) in subst (λ (r : Seg). is_served ports r.dst_port ≡ true) same h
     by false h e = absurd (let no : None ≡ Some s = rw h at e in let bad : ⊥ = cc in bad)
-served_port packet.Other s e = absurd (let bad : ⊥ = cc in bad)
-served_port packet.Fragment s e = absurd (let bad : ⊥ = cc in bad)
-served_port packet.Cut s e = absurd (let bad : ⊥ = cc in bad)
-served_port (packet.Malformed why) s e = absurd (let bad : ⊥ = cc in bad)
-served_port packet.BadSum s e = absurd (let bad : ⊥ = cc in bad)
+served_port ports packet.Other s e = absurd (let bad : ⊥ = cc in bad)
+served_port ports packet.Fragment s e = absurd (let bad : ⊥ = cc in bad)
+served_port ports packet.Cut s e = absurd (let bad : ⊥ = cc in bad)
+served_port ports (packet.Malformed why) s e = absurd (let bad : ⊥ = cc in bad)
+served_port ports packet.BadSum s e = absurd (let bad : ⊥ = cc in bad)
 
-pub one_more : (a : Arrival) (arrived : List Arrival) (t : Tuple) → IsConn arrived t → IsConn (a ∷ arrived) t
-one_more a arrived t is = by (tuple_eq (tuple_of a.seg) t) refl
+pub one_more : (ports : Ports) (a : Arrival) (arrived : List Arrival) (t : Tuple) → IsConn ports arrived t → IsConn ports (a ∷ arrived) t
+one_more ports a arrived t is = by (tuple_eq (tuple_of a.seg) t) refl
   where
-    by : (b : Bool) → tuple_eq (tuple_of a.seg) t ≡ b → IsConn (a ∷ arrived) t
+    by : (b : Bool) → tuple_eq (tuple_of a.seg) t ≡ b → IsConn ports (a ∷ arrived) t
     by true e = record { served = is.served; some = rw e (omega arith) }
     by false e = record { served = is.served; some = rw e is.some }
 
-pub all_conns : (n : ℕ) (xs : List Seen) → AllByRecursion (IsConn (arrivals n xs)) (filter_map served_tuple (map (λ x. x.1) xs))
-all_conns n [] = tt
-all_conns n (x ∷ xs) = by (served_in x.1) refl (all_conns (suc n) xs)
+pub all_conns : (ports : Ports) (n : ℕ) (xs : List Seen) → AllByRecursion (IsConn ports (arrivals ports n xs)) (filter_map (served_tuple ports) (map (λ x. x.1) xs))
+all_conns ports n [] = tt
+all_conns ports n (x ∷ xs) = by (served_in ports x.1) refl (all_conns ports (suc n) xs)
   where
     first : (s : Seg) (more : List Arrival) → 0 < length (filter (λ a. tuple_eq (tuple_of a.seg) (tuple_of s)) (record { rec = n; at = x.0; seg = s } ∷ more))
     first s more = let same = same_tuple (tuple_of s) in rw same (omega arith)
 
-    by : (o : Option Seg) → served_in x.1 ≡ o → AllByRecursion (IsConn (arrivals (suc n) xs)) (filter_map served_tuple (map (λ x. x.1) xs))
-        → AllByRecursion (IsConn (arrivals n (x ∷ xs))) (filter_map served_tuple (x.1 ∷ map (λ x. x.1) xs))
+    by : (o : Option Seg) → served_in ports x.1 ≡ o → AllByRecursion (IsConn ports (arrivals ports (suc n) xs)) (filter_map (served_tuple ports) (map (λ x. x.1) xs))
+        → AllByRecursion (IsConn ports (arrivals ports n (x ∷ xs))) (filter_map (served_tuple ports) (x.1 ∷ map (λ x. x.1) xs))
     by None e rest = rw e rest
     by (Some s) e rest = rw e (
-      record { served = served_port x.1 s e; some = first s (arrivals (suc n) xs) },
-      all_to _ _ (one_more (record { rec = n; at = x.0; seg = s }) (arrivals (suc n) xs)) _ rest,
+      record { served = served_port ports x.1 s e; some = first s (arrivals ports (suc n) xs) },
+      all_to _ _ (one_more ports (record { rec = n; at = x.0; seg = s }) (arrivals ports (suc n) xs)) _ rest,
     )
 
 -- the segments of a capture's records
@@ -116,23 +118,23 @@ pub record IsIn (file : CaptureFile) (last : ℕ) (a : Arrival) : Type 0 where
   pub record_number : a.rec < length file.packets
   pub text : IfSome (slice_get file.packets a.rec) (λ p. a.seg.text_from + a.seg.text_len ≤ length p.body)
 
-pub served_within : (n : ℕ) (p : Packet) (s : Seg) → EndsWithin n p → served_in p ≡ Some s → s.text_from + s.text_len ≤ n
-served_within n (packet.Segment q) s h e = by (is_served_port q.dst_port) refl e
+pub served_within : (ports : Ports) (n : ℕ) (p : Packet) (s : Seg) → EndsWithin n p → served_in ports p ≡ Some s → s.text_from + s.text_len ≤ n
+served_within ports n (packet.Segment q) s h e = by (is_served ports q.dst_port) refl e
   where
-    by : (b : Bool) → is_served_port q.dst_port ≡ b → served_in (packet.Segment q) ≡ Some s → s.text_from + s.text_len ≤ n
+    by : (b : Bool) → is_served ports q.dst_port ≡ b → served_in ports (packet.Segment q) ≡ Some s → s.text_from + s.text_len ≤ n
     by true f e = let same : q ≡ s = (let now : Some q ≡ Some s = rw f at e in cc) in subst (λ (r : Seg). r.text_from + r.text_len ≤ n) same h
     by false f e = absurd (let no : None ≡ Some s = rw f at e in let bad : ⊥ = cc in bad)
-served_within n packet.Other s h e = absurd (let bad : ⊥ = cc in bad)
-served_within n packet.Fragment s h e = absurd (let bad : ⊥ = cc in bad)
-served_within n packet.Cut s h e = absurd (let bad : ⊥ = cc in bad)
-served_within n (packet.Malformed why) s h e = absurd (let bad : ⊥ = cc in bad)
-served_within n packet.BadSum s h e = absurd (let bad : ⊥ = cc in bad)
+served_within ports n packet.Other s h e = absurd (let bad : ⊥ = cc in bad)
+served_within ports n packet.Fragment s h e = absurd (let bad : ⊥ = cc in bad)
+served_within ports n packet.Cut s h e = absurd (let bad : ⊥ = cc in bad)
+served_within ports n (packet.Malformed why) s h e = absurd (let bad : ⊥ = cc in bad)
+served_within ports n packet.BadSum s h e = absurd (let bad : ⊥ = cc in bad)
 
-module _ (file : CaptureFile) (verify : Bool) (last : ℕ) where
+module _ (file : CaptureFile) (rules : Rules) (last : ℕ) where
   all_in : (n : ℕ) (rs : List Captured) → n + length rs ≡ length file.packets → ((k : ℕ) → slice_get file.packets (n + k) ≡ slice_get rs k)
-      → AllByRecursion (λ r. r.time ≤ last) rs → AllByRecursion (IsIn file last) (arrivals n (map (λ r. (r.time, packet_in file.link r.body verify)) rs))
+      → AllByRecursion (λ r. r.time ≤ last) rs → AllByRecursion (IsIn file last) (arrivals rules.ports n (map (λ r. (r.time, packet_in file.link r.body rules.verify)) rs))
   all_in n [] long is h = tt
-  all_in n (r ∷ rs) long is h = by (served_in (packet_in file.link r.body verify)) refl (all_in (suc n) rs (omega (arith, long)) on h.1)
+  all_in n (r ∷ rs) long is h = by (served_in rules.ports (packet_in file.link r.body rules.verify)) refl (all_in (suc n) rs (omega (arith, long)) on h.1)
     where
       here : slice_get file.packets n ≡ Some r
       here = let none : n ≡ n + 0 = omega arith in ap (slice_get file.packets) none ∙ is 0
@@ -140,11 +142,11 @@ module _ (file : CaptureFile) (verify : Bool) (last : ℕ) where
       on : (k : ℕ) → slice_get file.packets (suc n + k) ≡ slice_get rs k
       on k = let e : suc n + k ≡ n + suc k = omega arith in ap (slice_get file.packets) e ∙ is (suc k)
 
-      by : (o : Option Seg) → served_in (packet_in file.link r.body verify) ≡ o → AllByRecursion (IsIn file last) (arrivals (suc n) (map (λ r. (r.time, packet_in file.link r.body verify)) rs))
-          → AllByRecursion (IsIn file last) (arrivals n (map (λ r. (r.time, packet_in file.link r.body verify)) (r ∷ rs)))
+      by : (o : Option Seg) → served_in rules.ports (packet_in file.link r.body rules.verify) ≡ o → AllByRecursion (IsIn file last) (arrivals rules.ports (suc n) (map (λ r. (r.time, packet_in file.link r.body rules.verify)) rs))
+          → AllByRecursion (IsIn file last) (arrivals rules.ports n (map (λ r. (r.time, packet_in file.link r.body rules.verify)) (r ∷ rs)))
       by None e rest = rw e rest
       by (Some s) e rest =
-          let ends = served_within (length r.body) (packet_in file.link r.body verify) s (text_within file.link r.body verify) e in
+          let ends = served_within rules.ports (length r.body) (packet_in file.link r.body rules.verify) s (text_within file.link r.body rules.verify) e in
           rw e (record { time = h.0; record_number = omega (arith, long); text = rw here ends }, rest)
 
 -- the items of segments of a capture
@@ -187,11 +189,11 @@ module _ (file : CaptureFile) (last : ℕ) where
     spaced = spaced_after a.at arrived;
   }
 
-pub length-arrivals : (n : ℕ) (xs : List Seen) → length (arrivals n xs) ≤ length xs
-length-arrivals n [] = omega arith
-length-arrivals n (x ∷ xs) = by (served_in x.1) refl (length-arrivals (suc n) xs)
+pub length-arrivals : (ports : Ports) (n : ℕ) (xs : List Seen) → length (arrivals ports n xs) ≤ length xs
+length-arrivals ports n [] = omega arith
+length-arrivals ports n (x ∷ xs) = by (served_in ports x.1) refl (length-arrivals ports (suc n) xs)
   where
-    by : (o : Option Seg) → served_in x.1 ≡ o → length (arrivals (suc n) xs) ≤ length xs → length (arrivals n (x ∷ xs)) ≤ length (x ∷ xs)
+    by : (o : Option Seg) → served_in ports x.1 ≡ o → length (arrivals ports (suc n) xs) ≤ length xs → length (arrivals ports n (x ∷ xs)) ≤ length (x ∷ xs)
     by None e rest = rw e (omega (arith, rest))
     by (Some s) e rest = rw e (omega (arith, rest))
 
@@ -218,9 +220,9 @@ seen_is file verify = over file.packets
     over [] = refl
     over (r ∷ rs) = ap (λ l. (r.time, packet_in file.link r.body verify) ∷ l) (over rs)
 
-pub few_conns : (ps : List Packet) → length (conns ps) ≤ most_conns
+pub few_conns : (ports : Ports) (ps : List Packet) → length (conns ports ps) ≤ most_conns
 unfolding conns
-few_conns ps = omega (arith, length-take most_conns (distinct (filter_map served_tuple ps)))
+few_conns ports ps = omega (arith, length-take most_conns (distinct (filter_map (served_tuple ports) ps)))
 
 -- the connections are different
 pub apart_filter : (p : Tuple → Bool) (ts : List Tuple) → IsDistinct tuple_eq ts → IsDistinct tuple_eq (filter p ts)
@@ -259,36 +261,36 @@ unfolding IsDistinct
 apart_distinct [] = tt
 apart_distinct (t ∷ ts) = (all_others t (distinct ts), apart_filter (λ u. not (tuple_eq u t)) (distinct ts) (apart_distinct ts))
 
-pub apart_conns : (ps : List Packet) → IsDistinct tuple_eq (conns ps)
+pub apart_conns : (ports : Ports) (ps : List Packet) → IsDistinct tuple_eq (conns ports ps)
 unfolding conns
-apart_conns ps = apart_take most_conns (distinct (filter_map served_tuple ps)) (apart_distinct (filter_map served_tuple ps))
+apart_conns ports ps = apart_take most_conns (distinct (filter_map (served_tuple ports) ps)) (apart_distinct (filter_map (served_tuple ports) ps))
 
-module _ (file : CaptureFile) (verify : Bool) (few : length file.packets ≤ most_records) (most : last_time file.packets ≤ latest_time) where
-  all_are_conns : AllByRecursion (IsConn (arrivals 0 (seen file verify))) (conns (decoded file verify))
+module _ (file : CaptureFile) (rules : Rules) (few : length file.packets ≤ most_records) (most : last_time file.packets ≤ latest_time) where
+  all_are_conns : AllByRecursion (IsConn rules.ports (arrivals rules.ports 0 (seen file rules.verify))) (conns rules.ports (decoded file rules.verify))
   unfolding conns
   all_are_conns =
-      all_take _ most_conns _ (all_distinct _ _ (subst (λ ps. AllByRecursion (IsConn (arrivals 0 (seen file verify))) (filter_map served_tuple ps))
-      (seen_packets file verify) (all_conns 0 (seen file verify))))
+      all_take _ most_conns _ (all_distinct _ _ (subst (λ ps. AllByRecursion (IsConn rules.ports (arrivals rules.ports 0 (seen file rules.verify))) (filter_map (served_tuple rules.ports) ps))
+      (seen_packets file rules.verify) (all_conns rules.ports 0 (seen file rules.verify))))
 
-  all_are_in : AllByRecursion (IsIn file (last_time file.packets)) (arrivals 0 (seen file verify))
-  all_are_in = all_in file verify (last_time file.packets) 0 file.packets (omega arith) (λ k. let e : 0 + k ≡ k = omega arith in ap (slice_get file.packets) e) (times_from 0 file.packets)
+  all_are_in : AllByRecursion (IsIn file (last_time file.packets)) (arrivals rules.ports 0 (seen file rules.verify))
+  all_are_in = all_in file rules (last_time file.packets) 0 file.packets (omega arith) (λ k. let e : 0 + k ≡ k = omega arith in ap (slice_get file.packets) e) (times_from 0 file.packets)
 
-  conn_is : (t : Tuple) → IsConn (arrivals 0 (seen file verify)) t → IsItems file (conn_items (last_time file.packets) t (seen file verify))
+  conn_is : (t : Tuple) → IsConn rules.ports (arrivals rules.ports 0 (seen file rules.verify)) t → IsItems file (conn_items rules.ports (last_time file.packets) t (seen file rules.verify))
   unfolding conn_items of_conn
   conn_is t is =
-      let all = arrivals 0 (seen file verify) in
+      let all = arrivals rules.ports 0 (seen file rules.verify) in
       items_are file (last_time file.packets) (filter (λ a. tuple_eq (tuple_of a.seg) t) all) is.some
-      (omega (arith, few, length-filter_le (λ (a : Arrival). tuple_eq (tuple_of a.seg) t) all, length-arrivals 0 (seen file verify), length-map {B = Seen} file.packets (λ r. (r.time, packet_in file.link r.body verify))))
+      (omega (arith, few, length-filter_le (λ (a : Arrival). tuple_eq (tuple_of a.seg) t) all, length-arrivals rules.ports 0 (seen file rules.verify), length-map {B = Seen} file.packets (λ r. (r.time, packet_in file.link r.body rules.verify))))
       most (all_filter _ _ all all_are_in)
 
-  pub is_plan : IsPlan (plan_of file verify)
-  unfolding plan_of
+  pub is_plan : IsPlan (plan_by file rules)
+  unfolding plan_by
   is_plan = record {
-    few = few_conns (decoded file verify);
-    listed = length-map (conns (decoded file verify)) (λ t. conn_items (last_time file.packets) t (seen file verify));
+    few = few_conns rules.ports (decoded file rules.verify);
+    listed = length-map (conns rules.ports (decoded file rules.verify)) (λ t. conn_items rules.ports (last_time file.packets) t (seen file rules.verify));
     served = all_to _ _ (λ t is. is.served) _ all_are_conns;
-    each = all_map (IsItems file) (λ t. conn_items (last_time file.packets) t (seen file verify)) _ (all_to _ _ conn_is _ all_are_conns);
-    ordered = is_ordered file verify few (apart_conns (decoded file verify));
+    each = all_map (IsItems file) (λ t. conn_items rules.ports (last_time file.packets) t (seen file rules.verify)) _ (all_to _ _ conn_is _ all_are_conns);
+    ordered = is_ordered file rules few (apart_conns rules.ports (decoded file rules.verify));
   }
 
 pub twice : {X Y Z : Type 0} (f : Y → Z) (g : X → Y) (xs : List X) → map f (map g xs) ≡ map (λ x. f (g x)) xs
@@ -296,16 +298,16 @@ twice f g [] = refl
 twice f g (x ∷ xs) = ap (λ l. f (g x) ∷ l) (twice f g xs)
 
 -- the parts that are made one after another are the plan
-pub made : (file : CaptureFile) (verify : Bool) (packets : List Packet) (ts : List Tuple) (lists : List (List ℕ)) (items : List (List Item)) (order : List ℕ) (counts : Counts)
-    → packets ≡ decoded file verify
-    → record { tuples = ts; lists = lists; order = order; counts = counts } ≡ sorted_of (length file.packets) file.cut (conns packets) (seen_of file.packets packets)
-    → items ≡ map (items_of (last_time file.packets)) (map (λ t. of_conn t (seen_of file.packets packets)) (conns packets))
-    → record { file = file; tuples = ts; items = items; order = order; counts = counts } ≡ plan_of file verify
-unfolding plan_of conn_items
-made file verify packets ts lists items order counts p s i =
-    let xs = ap (seen_of file.packets) p ∙ seen_is file verify in
-    let sorted : record { tuples = ts; lists = lists; order = order; counts = counts } ≡ sorted_of (length file.packets) file.cut (conns (decoded file verify)) (seen file verify) =
-    s ∙ (λ k. sorted_of (length file.packets) file.cut (conns (p k)) (xs k)) in
-    let all = i ∙ (λ k. map (items_of (last_time file.packets)) (map (λ t. of_conn t (xs k)) (conns (p k))))
-    ∙ twice (items_of (last_time file.packets)) (λ t. of_conn t (seen file verify)) (conns (decoded file verify)) in
-    (λ k. record { file = file; tuples = (sorted k).tuples; items = all k; order = (sorted k).order; counts = (sorted k).counts })
+pub made : (file : CaptureFile) (rules : Rules) (packets : List Packet) (ts : List Tuple) (lists : List (List ℕ)) (items : List (List Item)) (order : List ℕ) (counts : Counts)
+    → packets ≡ decoded file rules.verify
+    → record { tuples = ts; lists = lists; order = order; counts = counts } ≡ sorted_of rules.ports (length file.packets) file.cut (conns rules.ports packets) (seen_of file.packets packets)
+    → items ≡ map (items_of (last_time file.packets)) (map (λ t. of_conn rules.ports t (seen_of file.packets packets)) (conns rules.ports packets))
+    → record { file = file; ports = rules.ports; tuples = ts; items = items; order = order; counts = counts } ≡ plan_by file rules
+unfolding plan_by conn_items
+made file rules packets ts lists items order counts p s i =
+    let xs = ap (seen_of file.packets) p ∙ seen_is file rules.verify in
+    let sorted : record { tuples = ts; lists = lists; order = order; counts = counts } ≡ sorted_of rules.ports (length file.packets) file.cut (conns rules.ports (decoded file rules.verify)) (seen file rules.verify) =
+    s ∙ (λ k. sorted_of rules.ports (length file.packets) file.cut (conns rules.ports (p k)) (xs k)) in
+    let all = i ∙ (λ k. map (items_of (last_time file.packets)) (map (λ t. of_conn rules.ports t (xs k)) (conns rules.ports (p k))))
+    ∙ twice (items_of (last_time file.packets)) (λ t. of_conn rules.ports t (seen file rules.verify)) (conns rules.ports (decoded file rules.verify)) in
+    (λ k. record { file = file; ports = rules.ports; tuples = (sorted k).tuples; items = all k; order = (sorted k).order; counts = (sorted k).counts })

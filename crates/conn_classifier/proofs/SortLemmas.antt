@@ -4,7 +4,6 @@ use Rattle.std.specs.List.{list_any, IsDistinct}
 use Rattle.std.specs.Option.{option_map, option_and_then}
 use Rattle.std.proofs.lemmas.Iterator.Adapters.{position_from-zero}
 use Rattle.std.proofs.lemmas.List.{map-append, map-set, length-map, get_or-map}
-use Rattle.sq_base.specs.Ports.{is_served_port}
 use Rattle.sq_base.specs.declared.kinds.Tuple.{Tuple}
 use Rattle.segment_codec.specs.declared.packet.Packet.{Packet}
 use Rattle.segment_codec.specs.declared.packet.Packet.TheVariants as packet
@@ -22,6 +21,8 @@ use Rattle.conn_classifier.proofs.Conns.{push_none, push_some, same}
 use Rattle.conn_classifier.proofs.Distinct.{filter_push}
 use Rattle.conn_classifier.proofs.OneKey.{grown_none, grown_some, none_any, some_any}
 use Rattle.conn_classifier.proofs.Tallies.{counts_push}
+use Rattle.conn_classifier.specs.declared.rules.Ports.{Ports}
+use Rattle.conn_classifier.specs.Rules.{is_served}
 
 none_some : {A Q : Type 0} {x : A} → None ≡ Some x → Q
 none_some e = absurd (let no : ⊥ = cc in no)
@@ -32,42 +33,42 @@ some_is e = cc
 some_none : {A Q : Type 0} {x : A} → Some x ≡ None → Q
 some_none e = absurd (let no : ⊥ = cc in no)
 
-pub arrivals_push : (n : ℕ) (xs : List Seen) (x : Seen) → arrivals n (xs ++ x ∷ []) ≡ arrivals n xs ++ arrival (n + length xs) x.0 (served_in x.1)
-arrivals_push n [] x =
+pub arrivals_push : (ports : Ports) (n : ℕ) (xs : List Seen) (x : Seen) → arrivals ports n (xs ++ x ∷ []) ≡ arrivals ports n xs ++ arrival (n + length xs) x.0 (served_in ports x.1)
+arrivals_push ports n [] x =
     let none : n + 0 ≡ n = omega arith in
-    append-nil (arrival n x.0 (served_in x.1)) ∙ ap (λ m. arrival m x.0 (served_in x.1)) (sym none)
-arrivals_push n (y ∷ ys) x =
+    append-nil (arrival n x.0 (served_in ports x.1)) ∙ ap (λ m. arrival m x.0 (served_in ports x.1)) (sym none)
+arrivals_push ports n (y ∷ ys) x =
     let on : suc n + length ys ≡ n + suc (length ys) = omega arith in
-    ap (λ l. arrival n y.0 (served_in y.1) ++ l) (arrivals_push (suc n) ys x ∙ ap (λ m. arrivals (suc n) ys ++ arrival m x.0 (served_in x.1)) on)
-    ∙ sym (append_assoc (arrival n y.0 (served_in y.1)) (arrivals (suc n) ys) (arrival (n + suc (length ys)) x.0 (served_in x.1)))
+    ap (λ l. arrival n y.0 (served_in ports y.1) ++ l) (arrivals_push ports (suc n) ys x ∙ ap (λ m. arrivals ports (suc n) ys ++ arrival m x.0 (served_in ports x.1)) on)
+    ∙ sym (append_assoc (arrival n y.0 (served_in ports y.1)) (arrivals ports (suc n) ys) (arrival (n + suc (length ys)) x.0 (served_in ports x.1)))
 
-module _ (xs : List Seen) (x : Seen) where
-  arrivals_more : arrivals 0 (xs ++ x ∷ []) ≡ arrivals 0 xs ++ arrival (length xs) x.0 (served_in x.1)
-  arrivals_more = let zero : 0 + length xs ≡ length xs = omega arith in arrivals_push 0 xs x ∙ ap (λ n. arrivals 0 xs ++ arrival n x.0 (served_in x.1)) zero
+module _ (ports : Ports) (xs : List Seen) (x : Seen) where
+  arrivals_more : arrivals ports 0 (xs ++ x ∷ []) ≡ arrivals ports 0 xs ++ arrival (length xs) x.0 (served_in ports x.1)
+  arrivals_more = let zero : 0 + length xs ≡ length xs = omega arith in arrivals_push ports 0 xs x ∙ ap (λ n. arrivals ports 0 xs ++ arrival n x.0 (served_in ports x.1)) zero
 
-  conn_none : (t : Tuple) → served_in x.1 ≡ None → of_conn t (xs ++ x ∷ []) ≡ of_conn t xs
+  conn_none : (t : Tuple) → served_in ports x.1 ≡ None → of_conn ports t (xs ++ x ∷ []) ≡ of_conn ports t xs
   unfolding of_conn
   conn_none t e =
-      ap (filter (λ a. tuple_eq (tuple_of a.seg) t)) (arrivals_more ∙ ap (λ o. arrivals 0 xs ++ arrival (length xs) x.0 o) e ∙ append-nil (arrivals 0 xs))
+      ap (filter (λ a. tuple_eq (tuple_of a.seg) t)) (arrivals_more ∙ ap (λ o. arrivals ports 0 xs ++ arrival (length xs) x.0 o) e ∙ append-nil (arrivals ports 0 xs))
 
-  conn_some : (s : Seg) → served_in x.1 ≡ Some s → (t : Tuple)
-      → of_conn t (xs ++ x ∷ []) ≡ of_conn t xs ++ (if tuple_eq (tuple_of s) t then record { rec = length xs; at = x.0; seg = s } ∷ [] else [])
+  conn_some : (s : Seg) → served_in ports x.1 ≡ Some s → (t : Tuple)
+      → of_conn ports t (xs ++ x ∷ []) ≡ of_conn ports t xs ++ (if tuple_eq (tuple_of s) t then record { rec = length xs; at = x.0; seg = s } ∷ [] else [])
   unfolding of_conn
   conn_some s e t =
-      ap (filter (λ a. tuple_eq (tuple_of a.seg) t)) (arrivals_more ∙ ap (λ o. arrivals 0 xs ++ arrival (length xs) x.0 o) e)
-      ∙ filter_push (λ a. tuple_eq (tuple_of a.seg) t) (arrivals 0 xs) (record { rec = length xs; at = x.0; seg = s })
+      ap (filter (λ a. tuple_eq (tuple_of a.seg) t)) (arrivals_more ∙ ap (λ o. arrivals ports 0 xs ++ arrival (length xs) x.0 o) e)
+      ∙ filter_push (λ a. tuple_eq (tuple_of a.seg) t) (arrivals ports 0 xs) (record { rec = length xs; at = x.0; seg = s })
 
-  recs_some : (s : Seg) → served_in x.1 ≡ Some s → (t : Tuple) → recs_of t (xs ++ x ∷ []) ≡ recs_of t xs ++ (if tuple_eq (tuple_of s) t then length xs ∷ [] else [])
-  recs_some s e t = ap (map (λ a. a.rec)) (conn_some s e t) ∙ map-append (λ (a : Arrival). a.rec) (of_conn t xs) _ ∙ ap (λ l. recs_of t xs ++ l) (one (tuple_eq (tuple_of s) t))
+  recs_some : (s : Seg) → served_in ports x.1 ≡ Some s → (t : Tuple) → recs_of ports t (xs ++ x ∷ []) ≡ recs_of ports t xs ++ (if tuple_eq (tuple_of s) t then length xs ∷ [] else [])
+  recs_some s e t = ap (map (λ a. a.rec)) (conn_some s e t) ∙ map-append (λ (a : Arrival). a.rec) (of_conn ports t xs) _ ∙ ap (λ l. recs_of ports t xs ++ l) (one (tuple_eq (tuple_of s) t))
     where
       one : (b : Bool) → map (λ (a : Arrival). a.rec) (if b then record { rec = length xs; at = x.0; seg = s } ∷ [] else []) ≡ (if b then length xs ∷ [] else [])
       one true = refl
       one false = refl
 
 -- what a place says of the class
-module _ (ts : List Tuple) where
-  class_none : (p : Packet) → place_in ts p ≡ None → class_in ts p ≡ class_in [] p
-  class_none (packet.Segment s) e = by (is_served_port s.dst_port) refl e
+module _ (ports : Ports) (ts : List Tuple) where
+  class_none : (p : Packet) → place_in ports ts p ≡ None → class_in ports ts p ≡ class_in ports [] p
+  class_none (packet.Segment s) e = by (is_served ports s.dst_port) refl e
     where
       unfit : number_in ts s ≡ None → list_any (tuple_eq (tuple_of s)) ts ≡ false
       unfit h = none_any {X = ℕ} (tuple_eq (tuple_of s)) (λ t. []) 0 0 ts (sym (position_from-zero (tuple_eq (tuple_of s)) ts) ∙ h)
@@ -76,7 +77,7 @@ module _ (ts : List Tuple) where
       out None q h = q
       out (Some c) q h = some_none (rw q at h)
 
-      by : (b : Bool) → is_served_port s.dst_port ≡ b → place_in ts (packet.Segment s) ≡ None → class_in ts (packet.Segment s) ≡ class_in [] (packet.Segment s)
+      by : (b : Bool) → is_served ports s.dst_port ≡ b → place_in ports ts (packet.Segment s) ≡ None → class_in ports ts (packet.Segment s) ≡ class_in ports [] (packet.Segment s)
       by true q h = rw (q, unfit (out (number_in ts s) refl (rw q at h))) refl
       by false q h = rw q refl
   class_none packet.Other e = refl
@@ -85,14 +86,14 @@ module _ (ts : List Tuple) where
   class_none (packet.Malformed why) e = refl
   class_none packet.BadSum e = refl
 
-  class_some : (p : Packet) (c : ℕ) (s : Seg) → place_in ts p ≡ Some (c, s) → class_in ts p ≡ class.Served
-  class_some (packet.Segment s) c t e = by (is_served_port s.dst_port) refl e
+  class_some : (p : Packet) (c : ℕ) (s : Seg) → place_in ports ts p ≡ Some (c, s) → class_in ports ts p ≡ class.Served
+  class_some (packet.Segment s) c t e = by (is_served ports s.dst_port) refl e
     where
       out : (o : Option ℕ) → number_in ts s ≡ o → option_map {U = ℕ × Seg} (λ c. (c, s)) (number_in ts s) ≡ Some (c, t) → list_any (tuple_eq (tuple_of s)) ts ≡ true
       out None q h = none_some (rw q at h)
       out (Some j) q h = some_any {X = ℕ} (tuple_eq (tuple_of s)) (λ t. []) 0 0 j ts (sym (position_from-zero (tuple_eq (tuple_of s)) ts) ∙ q)
 
-      by : (b : Bool) → is_served_port s.dst_port ≡ b → place_in ts (packet.Segment s) ≡ Some (c, t) → class_in ts (packet.Segment s) ≡ class.Served
+      by : (b : Bool) → is_served ports s.dst_port ≡ b → place_in ports ts (packet.Segment s) ≡ Some (c, t) → class_in ports ts (packet.Segment s) ≡ class.Served
       by true q h = rw (q, out (number_in ts s) refl (rw q at h)) refl
       by false q h = none_some (rw q at h)
   class_some packet.Other c s e = none_some e
@@ -103,13 +104,13 @@ module _ (ts : List Tuple) where
 
   -- a place is the number of the served segment
   pub record IsPlace (p : Packet) (c : ℕ) (s : Seg) : Type 0 where
-    pub served : served_in p ≡ Some s
+    pub served : served_in ports p ≡ Some s
     pub number : number_in ts s ≡ Some c
 
-  place_is : (p : Packet) (c : ℕ) (s : Seg) → place_in ts p ≡ Some (c, s) → IsPlace p c s
-  place_is p c s e = by (served_in p) refl e
+  place_is : (p : Packet) (c : ℕ) (s : Seg) → place_in ports ts p ≡ Some (c, s) → IsPlace p c s
+  place_is p c s e = by (served_in ports p) refl e
     where
-      inner : (t : Seg) (o : Option ℕ) → served_in p ≡ Some t → number_in ts t ≡ o → option_map {U = ℕ × Seg} (λ c. (c, t)) (number_in ts t) ≡ Some (c, s) → IsPlace p c s
+      inner : (t : Seg) (o : Option ℕ) → served_in ports p ≡ Some t → number_in ts t ≡ o → option_map {U = ℕ × Seg} (λ c. (c, t)) (number_in ts t) ≡ Some (c, s) → IsPlace p c s
       inner t None f q h = none_some (rw q at h)
       inner t (Some j) f q h =
           let pair : ◌≡◌ {A = Option (ℕ × Seg)} (Some (j, t)) (Some (c, s)) = rw q at h in
@@ -118,76 +119,76 @@ module _ (ts : List Tuple) where
           let seg : t ≡ s = ap (λ p. p.1) pairs in
           record { served = f ∙ ap Some seg; number = ap (number_in ts) (sym seg) ∙ q ∙ ap Some num }
 
-      by : (o : Option Seg) → served_in p ≡ o → place_in ts p ≡ Some (c, s) → IsPlace p c s
+      by : (o : Option Seg) → served_in ports p ≡ o → place_in ports ts p ≡ Some (c, s) → IsPlace p c s
       by None f h = none_some (rw f at h)
       by (Some t) f h = inner t (number_in ts t) f refl (rw f at h)
 
   -- no place: no served segment, or none of these connections
-  place_not : (p : Packet) → place_in ts p ≡ None → (Q : Type 0) → (served_in p ≡ None → Q) → ((s : Seg) → served_in p ≡ Some s → number_in ts s ≡ None → Q) → Q
-  place_not p e Q none some = by (served_in p) refl e
+  place_not : (p : Packet) → place_in ports ts p ≡ None → (Q : Type 0) → (served_in ports p ≡ None → Q) → ((s : Seg) → served_in ports p ≡ Some s → number_in ts s ≡ None → Q) → Q
+  place_not p e Q none some = by (served_in ports p) refl e
     where
-      inner : (t : Seg) (o : Option ℕ) → served_in p ≡ Some t → number_in ts t ≡ o → option_map {U = ℕ × Seg} (λ c. (c, t)) (number_in ts t) ≡ None → Q
+      inner : (t : Seg) (o : Option ℕ) → served_in ports p ≡ Some t → number_in ts t ≡ o → option_map {U = ℕ × Seg} (λ c. (c, t)) (number_in ts t) ≡ None → Q
       inner t None f q h = some t f q
       inner t (Some j) f q h = some_none (rw q at h)
 
-      by : (o : Option Seg) → served_in p ≡ o → place_in ts p ≡ None → Q
+      by : (o : Option Seg) → served_in ports p ≡ o → place_in ports ts p ≡ None → Q
       by None f h = none f
       by (Some t) f h = inner t (number_in ts t) f refl (rw f at h)
 
 -- one record further
-module _ (records : ℕ) (cut : Bool) (ts : List Tuple) (xs : List Seen) (x : Seen) where
-  classes_push : (c : Class) → class_in ts x.1 ≡ c
-      → counts_of records cut (map (λ y. class_in ts y.1) (xs ++ x ∷ [])) ≡ counted c (counts_of records cut (map (λ y. class_in ts y.1) xs))
+module _ (ports : Ports) (records : ℕ) (cut : Bool) (ts : List Tuple) (xs : List Seen) (x : Seen) where
+  classes_push : (c : Class) → class_in ports ts x.1 ≡ c
+      → counts_of records cut (map (λ y. class_in ports ts y.1) (xs ++ x ∷ [])) ≡ counted c (counts_of records cut (map (λ y. class_in ports ts y.1) xs))
   classes_push c e =
-      ap (counts_of records cut) (map-append (λ y. class_in ts y.1) xs (x ∷ []) ∙ ap (λ k. map (λ y. class_in ts y.1) xs ++ k ∷ []) e)
-      ∙ counts_push records cut (map (λ y. class_in ts y.1) xs) c
+      ap (counts_of records cut) (map-append (λ y. class_in ports ts y.1) xs (x ∷ []) ∙ ap (λ k. map (λ y. class_in ports ts y.1) xs ++ k ∷ []) e)
+      ∙ counts_push records cut (map (λ y. class_in ports ts y.1) xs) c
 
-  order_none : conn_in ts x.1 ≡ None → order_of ts (xs ++ x ∷ []) ≡ order_of ts xs
+  order_none : conn_in ports ts x.1 ≡ None → order_of ports ts (xs ++ x ∷ []) ≡ order_of ports ts xs
   unfolding order_of
-  order_none e = push_none (λ y. conn_in ts y.1) xs x e
+  order_none e = push_none (λ y. conn_in ports ts y.1) xs x e
 
-  order_some : (c : ℕ) → conn_in ts x.1 ≡ Some c → order_of ts (xs ++ x ∷ []) ≡ order_of ts xs ++ c ∷ []
+  order_some : (c : ℕ) → conn_in ports ts x.1 ≡ Some c → order_of ports ts (xs ++ x ∷ []) ≡ order_of ports ts xs ++ c ∷ []
   unfolding order_of
-  order_some c e = push_some (λ y. conn_in ts y.1) xs x c e
+  order_some c e = push_some (λ y. conn_in ports ts y.1) xs x c e
 
   record Stays : Type 0 where
-    lists : map (λ t. recs_of t (xs ++ x ∷ [])) ts ≡ map (λ t. recs_of t xs) ts
-    order : order_of ts (xs ++ x ∷ []) ≡ order_of ts xs
+    lists : map (λ t. recs_of ports t (xs ++ x ∷ [])) ts ≡ map (λ t. recs_of ports t xs) ts
+    order : order_of ports ts (xs ++ x ∷ []) ≡ order_of ports ts xs
 
-  stays : place_in ts x.1 ≡ None → Stays
-  stays e = place_not ts x.1 e Stays
-      (λ f. record { lists = (λ k. map (λ t. map (λ a. a.rec) (conn_none xs x t f k)) ts); order = order_none (ap (option_and_then (number_in ts)) f) })
+  stays : place_in ports ts x.1 ≡ None → Stays
+  stays e = place_not ports ts x.1 e Stays
+      (λ f. record { lists = (λ k. map (λ t. map (λ a. a.rec) (conn_none ports xs x t f k)) ts); order = order_none (ap (option_and_then (number_in ts)) f) })
       (λ s f q. record {
-        lists = (λ k. map (λ t. recs_some xs x s f t k) ts)
-            ∙ grown_none (tuple_eq (tuple_of s)) (λ t. recs_of t xs) (length xs) ts (sym (position_from-zero (tuple_eq (tuple_of s)) ts) ∙ q);
+        lists = (λ k. map (λ t. recs_some ports xs x s f t k) ts)
+            ∙ grown_none (tuple_eq (tuple_of s)) (λ t. recs_of ports t xs) (length xs) ts (sym (position_from-zero (tuple_eq (tuple_of s)) ts) ∙ q);
         order = order_none (ap (option_and_then (number_in ts)) f ∙ q);
       })
 
-  pub turn_none : place_in ts x.1 ≡ None
-      → sorted_of records cut ts (xs ++ x ∷ []) ≡ record (sorted_of records cut ts xs) { counts = counted (class_in [] x.1) (sorted_of records cut ts xs).counts }
+  pub turn_none : place_in ports ts x.1 ≡ None
+      → sorted_of ports records cut ts (xs ++ x ∷ []) ≡ record (sorted_of ports records cut ts xs) { counts = counted (class_in ports [] x.1) (sorted_of ports records cut ts xs).counts }
   turn_none e =
       let h = stays e in
-      let n = classes_push (class_in [] x.1) (class_none ts x.1 e) in
+      let n = classes_push (class_in ports [] x.1) (class_none ports ts x.1 e) in
       (λ k. record { tuples = ts; lists = h.lists k; order = h.order k; counts = n k })
 
   pub record Turns (c : ℕ) (s : Seg) : Type 0 where
     pub within : c < length ts
-    pub all : sorted_of records cut ts (xs ++ x ∷ []) ≡ record (sorted_of records cut ts xs) {
-      lists = set (map (λ t. recs_of t xs) ts) c (get_or (map (λ t. recs_of t xs) ts) c [] ++ length xs ∷ []);
-      order = order_of ts xs ++ c ∷ [];
-      counts = counted class.Served (sorted_of records cut ts xs).counts;
+    pub all : sorted_of ports records cut ts (xs ++ x ∷ []) ≡ record (sorted_of ports records cut ts xs) {
+      lists = set (map (λ t. recs_of ports t xs) ts) c (get_or (map (λ t. recs_of ports t xs) ts) c [] ++ length xs ∷ []);
+      order = order_of ports ts xs ++ c ∷ [];
+      counts = counted class.Served (sorted_of ports records cut ts xs).counts;
     }
 
-  pub turn_some : (c : ℕ) (s : Seg) → IsDistinct tuple_eq ts → place_in ts x.1 ≡ Some (c, s) → Turns c s
+  pub turn_some : (c : ℕ) (s : Seg) → IsDistinct tuple_eq ts → place_in ports ts x.1 ≡ Some (c, s) → Turns c s
   turn_some c s d e =
-      let p = place_is ts x.1 c s e in
-      let g = grown_some (tuple_eq (tuple_of s)) (λ t. recs_of t xs) (length xs) tuple_eq apart c ts d (sym (position_from-zero (tuple_eq (tuple_of s)) ts) ∙ p.number) in
+      let p = place_is ports ts x.1 c s e in
+      let g = grown_some (tuple_eq (tuple_of s)) (λ t. recs_of ports t xs) (length xs) tuple_eq apart c ts d (sym (position_from-zero (tuple_eq (tuple_of s)) ts) ∙ p.number) in
       let zero : c - 0 ≡ c = omega arith in
       let within : c < length ts = omega (arith, g.within) in
-      let n = classes_push class.Served (class_some ts x.1 c s e) in
+      let n = classes_push class.Served (class_some ports ts x.1 c s e) in
       let o = order_some c (ap (option_and_then (number_in ts)) p.served ∙ p.number) in
-      let one = (λ k. map (λ t. recs_some xs x s p.served t k) ts) ∙ g.one
-      ∙ ap (λ m. set (map (λ t. recs_of t xs) ts) m (get_or (map (λ t. recs_of t xs) ts) m [] ++ length xs ∷ [])) zero in
+      let one = (λ k. map (λ t. recs_some ports xs x s p.served t k) ts) ∙ g.one
+      ∙ ap (λ m. set (map (λ t. recs_of ports t xs) ts) m (get_or (map (λ t. recs_of ports t xs) ts) m [] ++ length xs ∷ [])) zero in
       record { within = within; all = (λ k. record { tuples = ts; lists = one k; order = o k; counts = n k }) }
     where
       apart : (t u : Tuple) → tuple_eq (tuple_of s) t ≡ true → tuple_eq t u ≡ false → tuple_eq (tuple_of s) u ≡ false

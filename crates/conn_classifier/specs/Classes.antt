@@ -1,27 +1,28 @@
 -- What the records of a capture count as: each in exactly one class.
 use Rattle.std.specs.Prelude.{ℕ, ◌+◌, Bool, true, false, List, [], ◌∷◌, if◌then◌else◌}
 use Rattle.std.specs.List.{list_any}
-use Rattle.sq_base.specs.Ports.{is_served_port}
 use Rattle.sq_base.specs.declared.kinds.Tuple.{Tuple}
 use Rattle.segment_codec.specs.declared.packet.Packet.{Packet}
 use Rattle.segment_codec.specs.declared.packet.Packet.TheVariants as packet
 use Rattle.segment_codec.specs.Refusal.{tuple_of}
+use Rattle.conn_classifier.specs.Rules.{is_served}
 use Rattle.conn_classifier.specs.Connections.{tuple_eq}
+use Rattle.conn_classifier.specs.declared.rules.Ports.{Ports}
 use Rattle.conn_classifier.specs.declared.kinds.Class.{Class}
 use Rattle.conn_classifier.specs.declared.kinds.Class.TheVariants as class
 use Rattle.conn_classifier.specs.declared.kinds.Counts.{Counts}
 
 -- the class of a record, where these are the connections
-abbrev pub class_in : List Tuple → Packet → Class
-class_in ts (packet.Segment s) =
-    if is_served_port s.dst_port then (if list_any (tuple_eq (tuple_of s)) ts then class.Served else class.NoFit)
-    else if is_served_port s.src_port then class.Server
+abbrev pub class_in : Ports → List Tuple → Packet → Class
+class_in ports ts (packet.Segment s) =
+    if is_served ports s.dst_port then (if list_any (tuple_eq (tuple_of s)) ts then class.Served else class.NoFit)
+    else if is_served ports s.src_port then class.Server
     else class.Other
-class_in ts packet.Other = class.Other
-class_in ts packet.Fragment = class.Fragment
-class_in ts packet.Cut = class.Cut
-class_in ts (packet.Malformed why) = class.Malformed
-class_in ts packet.BadSum = class.BadSum
+class_in ports ts packet.Other = class.Other
+class_in ports ts packet.Fragment = class.Fragment
+class_in ports ts packet.Cut = class.Cut
+class_in ports ts (packet.Malformed why) = class.Malformed
+class_in ports ts packet.BadSum = class.BadSum
 
 abbrev pub same_class : Class → Class → Bool
 same_class class.Served class.Served = true

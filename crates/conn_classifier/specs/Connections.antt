@@ -2,7 +2,6 @@
 use Rattle.std.specs.Prelude.{◌==◌, ◌&&◌, not, Bool, List, [], ◌∷◌, take, map, filter, Option, None, Some, if◌then◌else◌}
 use Rattle.std.specs.List.{filter_map}
 use Rattle.std.specs.Option.{option_map}
-use Rattle.sq_base.specs.Ports.{is_served_port}
 use Rattle.sq_base.specs.declared.kinds.Tuple.{Tuple}
 use Rattle.capture_reader.specs.Outcome.{CaptureFile}
 use Rattle.segment_codec.specs.declared.packet.Packet.{Packet}
@@ -11,6 +10,8 @@ use Rattle.segment_codec.specs.declared.packet.Seg.{Seg}
 use Rattle.segment_codec.specs.Packet.{packet_in}
 use Rattle.segment_codec.specs.Refusal.{tuple_of}
 use Rattle.conn_classifier.specs.Limits.{most_conns}
+use Rattle.conn_classifier.specs.Rules.{is_served}
+use Rattle.conn_classifier.specs.declared.rules.Ports.{Ports}
 
 -- what each record of a capture holds
 abbrev pub decoded : CaptureFile → Bool → List Packet
@@ -20,21 +21,21 @@ abbrev pub tuple_eq : Tuple → Tuple → Bool
 tuple_eq a b = (a.client.0 == b.client.0) && ((a.client_port == b.client_port) && ((a.server.0 == b.server.0) && (a.server_port == b.server_port)))
 
 -- the segment that a record holds, where it goes to a served port
-abbrev pub served_in : Packet → Option Seg
-served_in (packet.Segment s) = if is_served_port s.dst_port then Some s else None
-served_in packet.Other = None
-served_in packet.Fragment = None
-served_in packet.Cut = None
-served_in (packet.Malformed why) = None
-served_in packet.BadSum = None
+abbrev pub served_in : Ports → Packet → Option Seg
+served_in ports (packet.Segment s) = if is_served ports s.dst_port then Some s else None
+served_in ports packet.Other = None
+served_in ports packet.Fragment = None
+served_in ports packet.Cut = None
+served_in ports (packet.Malformed why) = None
+served_in ports packet.BadSum = None
 
-abbrev pub served_tuple : Packet → Option Tuple
-served_tuple p = option_map tuple_of (served_in p)
+abbrev pub served_tuple : Ports → Packet → Option Tuple
+served_tuple ports p = option_map tuple_of (served_in ports p)
 
 -- the different tuples, each where it comes first
 abbrev pub distinct : List Tuple → List Tuple
 distinct [] = []
 distinct (t ∷ ts) = t ∷ filter (λ u. not (tuple_eq u t)) (distinct ts)
 
-unfoldable pub conns : List Packet → List Tuple
-conns ps = take most_conns (distinct (filter_map served_tuple ps))
+unfoldable pub conns : Ports → List Packet → List Tuple
+conns ports ps = take most_conns (distinct (filter_map (served_tuple ports) ps))

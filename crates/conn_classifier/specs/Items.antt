@@ -9,6 +9,7 @@ use Rattle.segment_codec.specs.declared.packet.Seg.{Seg}
 use Rattle.conn_classifier.specs.Limits.{least_gap}
 use Rattle.segment_codec.specs.Refusal.{tuple_of}
 use Rattle.conn_classifier.specs.Connections.{served_in, tuple_eq}
+use Rattle.conn_classifier.specs.declared.rules.Ports.{Ports}
 use Rattle.conn_classifier.specs.declared.kinds.Item.{Item}
 use Rattle.conn_classifier.specs.declared.kinds.Item.TheVariants.{Time, Segment}
 use Rattle.conn_classifier.specs.declared.kinds.Arrival.{Arrival}
@@ -23,13 +24,13 @@ arrival n time None = []
 arrival n time (Some s) = record { rec = n; at = time; seg = s } ∷ []
 
 -- all those of the records, numbered from n
-abbrev pub arrivals : ℕ → List Seen → List Arrival
-arrivals n [] = []
-arrivals n (x ∷ xs) = arrival n x.0 (served_in x.1) ++ arrivals (suc n) xs
+abbrev pub arrivals : Ports → ℕ → List Seen → List Arrival
+arrivals ports n [] = []
+arrivals ports n (x ∷ xs) = arrival n x.0 (served_in ports x.1) ++ arrivals ports (suc n) xs
 
 -- those of one connection
-unfoldable pub of_conn : Tuple → List Seen → List Arrival
-of_conn t xs = filter (λ a. tuple_eq (tuple_of a.seg) t) (arrivals 0 xs)
+unfoldable pub of_conn : Ports → Tuple → List Seen → List Arrival
+of_conn ports t xs = filter (λ a. tuple_eq (tuple_of a.seg) t) (arrivals ports 0 xs)
 
 -- a later segment that decides the hint of a SYN with this sequence number: a SYN with another number, or else an ACK that is no reset
 abbrev pub decides : ℕ → Arrival → Bool
@@ -62,5 +63,5 @@ items_of last [] = []
 items_of last (a ∷ more) = Segment a.at a.rec (hint a.seg more) a.seg ∷ (items_after a.at more ++ Time last ∷ [])
 
 -- the items of a connection in the records seen, of which the greatest time is given
-unfoldable pub conn_items : ℕ → Tuple → List Seen → List Item
-conn_items last t xs = items_of last (of_conn t xs)
+unfoldable pub conn_items : Ports → ℕ → Tuple → List Seen → List Item
+conn_items ports last t xs = items_of last (of_conn ports t xs)

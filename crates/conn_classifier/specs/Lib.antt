@@ -1,4 +1,5 @@
 pub mod Limits
+pub mod Rules
 pub mod Connections
 pub mod Classes
 pub mod Items

@@ -2,13 +2,13 @@
 use Rattle.std.specs.Prelude.{sum_by, ℕ, ◌≡◌, ◌==◌, filter, ◌+◌, ◌<◌, ◌≤◌, Bool, true, List, [], ◌∷◌, take, drop, length, map, get_or, slice_get, IfSome}
 use Rattle.std.specs.List.{AllByRecursion}
 use Rattle.std.specs.Option.{option_map_or}
-use Rattle.sq_base.specs.Ports.{is_served_port}
 use Rattle.sq_base.specs.declared.kinds.Tuple.{Tuple}
 use Rattle.segment_codec.specs.Packet.{packet_in}
 use Rattle.capture_reader.specs.CaptureFile.{last_time}
 use Rattle.capture_reader.specs.Limits.{latest_time, most_records}
 use Rattle.capture_reader.specs.Outcome.{CaptureFile}
 use Rattle.conn_classifier.specs.Limits.{most_conns, most_items}
+use Rattle.conn_classifier.specs.Rules.{is_served, usual}
 use Rattle.conn_classifier.specs.Connections.{conns, decoded}
 use Rattle.conn_classifier.specs.Classes.{class_in, counts_of}
 use Rattle.conn_classifier.specs.Items.{Seen, conn_items}
@@ -16,10 +16,13 @@ use Rattle.conn_classifier.specs.Sorting.{order_of}
 use Rattle.conn_classifier.specs.declared.kinds.Item.{Item}
 use Rattle.conn_classifier.specs.declared.kinds.Item.TheVariants.{Time, Segment}
 use Rattle.conn_classifier.specs.declared.kinds.Counts.{Counts}
+use Rattle.conn_classifier.specs.declared.rules.Ports.{Ports}
+use Rattle.conn_classifier.specs.declared.rules.Rules.{Rules}
 
--- the capture; by number the connections and the items of each; the connection of each served segment, in record order; the counts
+-- the capture; the ports of the services; by number the connections and the items of each; the connection of each served segment, in record order; the counts
 pub record PlanOf : Type 0 where
   pub file : CaptureFile
+  pub ports : Ports
   pub tuples : List Tuple
   pub items : List (List Item)
   pub order : List ℕ
@@ -29,16 +32,21 @@ pub record PlanOf : Type 0 where
 abbrev pub seen : CaptureFile → Bool → List Seen
 seen file verify = map (λ r. (r.time, packet_in file.link r.body verify)) file.packets
 
-unfoldable pub plan_of : CaptureFile → Bool → PlanOf
-plan_of file verify =
-    let ts = conns (decoded file verify) in
+unfoldable pub plan_by : CaptureFile → Rules → PlanOf
+plan_by file rules =
+    let ts = conns rules.ports (decoded file rules.verify) in
     record {
       file = file;
+      ports = rules.ports;
       tuples = ts;
-      items = map (λ t. conn_items (last_time file.packets) t (seen file verify)) ts;
-      order = order_of ts (seen file verify);
-      counts = counts_of (length file.packets) file.cut (map (λ x. class_in ts x.1) (seen file verify));
+      items = map (λ t. conn_items rules.ports (last_time file.packets) t (seen file rules.verify)) ts;
+      order = order_of rules.ports ts (seen file rules.verify);
+      counts = counts_of (length file.packets) file.cut (map (λ x. class_in rules.ports ts x.1) (seen file rules.verify));
     }
+
+-- the plan by the well-known ports
+abbrev pub plan_of : CaptureFile → Bool → PlanOf
+plan_of file verify = plan_by file (usual verify)
 
 -- the items of connection c
 abbrev pub items_in : PlanOf → ℕ → List Item
@@ -108,7 +116,7 @@ pub record IsOrdered (p : PlanOf) : Type 0 where
 pub record IsPlan (p : PlanOf) : Type 0 where
   pub few : length p.tuples ≤ most_conns
   pub listed : length p.items ≡ length p.tuples
-  pub served : AllByRecursion (λ t. is_served_port t.server_port ≡ true) p.tuples
+  pub served : AllByRecursion (λ t. is_served p.ports t.server_port ≡ true) p.tuples
   pub each : AllByRecursion (IsItems p.file) p.items
   pub ordered : IsOrdered p
 

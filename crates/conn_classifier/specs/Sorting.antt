@@ -11,6 +11,7 @@ use Rattle.conn_classifier.specs.Limits.{most_conns}
 use Rattle.conn_classifier.specs.Connections.{conns, served_in, tuple_eq}
 use Rattle.conn_classifier.specs.Classes.{class_in, counts_of}
 use Rattle.conn_classifier.specs.Items.{Seen, of_conn}
+use Rattle.conn_classifier.specs.declared.rules.Ports.{Ports}
 use Rattle.conn_classifier.specs.declared.kinds.Class.{Class}
 use Rattle.conn_classifier.specs.declared.kinds.Class.TheVariants as class
 use Rattle.conn_classifier.specs.declared.kinds.Counts.{Counts}
@@ -26,20 +27,20 @@ abbrev pub number_in : List Tuple → Seg → Option ℕ
 number_in ts s = position (tuple_eq (tuple_of s)) ts
 
 -- the number of a record's connection, where it is among these
-abbrev pub conn_in : List Tuple → Packet → Option ℕ
-conn_in ts p = option_and_then (number_in ts) (served_in p)
+abbrev pub conn_in : Ports → List Tuple → Packet → Option ℕ
+conn_in ports ts p = option_and_then (number_in ts) (served_in ports p)
 
 -- that number and the segment
-abbrev pub place_in : List Tuple → Packet → Option (ℕ × Seg)
-place_in ts p = option_and_then (λ s. option_map (λ c. (c, s)) (number_in ts s)) (served_in p)
+abbrev pub place_in : Ports → List Tuple → Packet → Option (ℕ × Seg)
+place_in ports ts p = option_and_then (λ s. option_map (λ c. (c, s)) (number_in ts s)) (served_in ports p)
 
 -- the connection of each record that is of one, in record order
-unfoldable pub order_of : List Tuple → List Seen → List ℕ
-order_of ts xs = filter_map (λ x. conn_in ts x.1) xs
+unfoldable pub order_of : Ports → List Tuple → List Seen → List ℕ
+order_of ports ts xs = filter_map (λ x. conn_in ports ts x.1) xs
 
 -- the records of a connection's arrivals
-abbrev pub recs_of : Tuple → List Seen → List ℕ
-recs_of t xs = map (λ a. a.rec) (of_conn t xs)
+abbrev pub recs_of : Ports → Tuple → List Seen → List ℕ
+recs_of ports t xs = map (λ a. a.rec) (of_conn ports t xs)
 
 pub record SortedOf : Type 0 where
   pub tuples : List Tuple
@@ -49,17 +50,17 @@ pub record SortedOf : Type 0 where
   pub counts : Counts
 
 -- all that is sorted out of the records seen, in a capture with this many records and a cut tail or none
-abbrev pub sorted_of : ℕ → Bool → List Tuple → List Seen → SortedOf
-sorted_of records cut ts xs = record {
+abbrev pub sorted_of : Ports → ℕ → Bool → List Tuple → List Seen → SortedOf
+sorted_of ports records cut ts xs = record {
   tuples = ts;
-  lists = map (λ t. recs_of t xs) ts;
-  order = order_of ts xs;
-  counts = counts_of records cut (map (λ x. class_in ts x.1) xs);
+  lists = map (λ t. recs_of ports t xs) ts;
+  order = order_of ports ts xs;
+  counts = counts_of records cut (map (λ x. class_in ports ts x.1) xs);
 }
 
 -- the same, where the connections are those of the records seen
-abbrev pub sorted_seen : ℕ → Bool → List Seen → SortedOf
-sorted_seen records cut xs = sorted_of records cut (conns (map (λ x. x.1) xs)) xs
+abbrev pub sorted_seen : Ports → ℕ → Bool → List Seen → SortedOf
+sorted_seen ports records cut xs = sorted_of ports records cut (conns ports (map (λ x. x.1) xs)) xs
 
 -- one more tuple: a new one is a connection without segments, where connections still fit
 abbrev pub with_conn : Tuple → SortedOf → SortedOf

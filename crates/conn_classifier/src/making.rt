@@ -4,13 +4,14 @@ ghost use Rattle.std.specs.Prelude.{◌≡◌, ◌<◌, List, IfOk, length, map}
 ghost use Rattle.std.specs.List.{AllByRecursion};
 ghost use Rattle.conn_classifier.specs.declared.kinds.Arrival.{Arrival};
 ghost use Rattle.conn_classifier.specs.Items.{items_of};
-ghost use Rattle.conn_classifier.specs.Plan.{plan_of};
+ghost use Rattle.conn_classifier.specs.Plan.{plan_by, plan_of};
 ghost use Rattle.conn_classifier.specs.Slots.{IsKept, item_of};
 
 use crate::ahead::hints_at;
 use crate::decoding::decode_all;
 use crate::kinds::Slot;
 use crate::planned::{Plan, Table};
+use crate::rules::Rules;
 use crate::slots::slots_in;
 use crate::sorting::sort;
 use capture_reader::Capture;
@@ -40,8 +41,8 @@ fn all_items(
     Ok(items)
 }
 
-/// The plan of a capture. With `verify` a record whose checksums are wrong counts as `badsum`. Fails only for want of
-/// memory.
+/// The plan of a capture by the well-known ports. With `verify` a record whose checksums are wrong counts as `badsum`.
+/// Fails only for want of memory.
 ///
 /// # Example
 ///
@@ -60,8 +61,20 @@ pub fn plan<'c>(
 ) -> Result<Plan<'c>, AllocError>
     ensures { IfOk result (λ p. p ≡ plan_of capture.entry.now verify) }
 {
-    let packets = decode_all(rt, alloc, capture, verify)?;
-    let sorted = sort(alloc, capture, packets.as_slice())?;
+    plan_with(rt, alloc, capture, Rules::usual(verify))
+}
+
+/// The plan of a capture by these rules. Fails only for want of memory.
+pub fn plan_with<'c>(
+    rt: &(impl Threads + Sync),
+    alloc: Global,
+    capture: &'c Capture,
+    rules: Rules,
+) -> Result<Plan<'c>, AllocError>
+    ensures { IfOk result (λ p. p ≡ plan_by capture.entry.now rules) }
+{
+    let packets = decode_all(rt, alloc, capture, rules.verify)?;
+    let sorted = sort(alloc, rules.ports, capture, packets.as_slice())?;
     let items = all_items(
         alloc,
         capture.last_time(),
@@ -72,6 +85,7 @@ pub fn plan<'c>(
     Ok(Plan {
         capture,
         table: Table {
+            ports: rules.ports,
             tuples: sorted.tuples,
             packets,
             items,

@@ -3,10 +3,11 @@
 ghost use Rattle.std.specs.Prelude.{◌≡◌, ℕ, ◌<◌, ◌≤◌, ◌%◌, true, length, slice_get, IfSome, Some};
 ghost use Rattle.capture_reader.specs.Limits.{latest_time};
 ghost use Rattle.conn_classifier.specs.Limits.{most_conns, most_items};
-ghost use Rattle.sq_base.specs.Ports.{is_served_port};
+ghost use Rattle.conn_classifier.specs.Rules.{is_served};
 ghost use Rattle.conn_classifier.specs.Plan.{IsPlan, items_in, time_of, text_of, text_len_of};
 
 use crate::kinds::{Counts, Item, Slot};
+use crate::rules::Ports;
 use crate::view::PlanView;
 use capture_reader::Capture;
 use indexmap::IndexSet;
@@ -17,6 +18,8 @@ use std::marker::Model;
 /// What a plan owns.
 #[derive(Drop)]
 pub(crate) struct Table {
+    /// The ports by which the connections were found.
+    pub(crate) ports: Ports,
     pub(crate) tuples: IndexSet<Tuple>,
     /// What each record holds.
     pub(crate) packets: Vec<Packet>,
@@ -42,6 +45,7 @@ impl<'c> Model for Plan<'c> {
 
     ghost view = { λ p. record {
       file = p.capture.now;
+      ports = p.table.ports;
       tuples = p.table.tuples.keys;
       items = map (λ v. map (item_of p.table.packets.items) v.items) p.table.items.items;
       order = p.table.order.items;
@@ -50,6 +54,7 @@ impl<'c> Model for Plan<'c> {
 
     ghost invariant = { λ p. IsPlan (record {
       file = p.capture.now;
+      ports = p.table.ports;
       tuples = p.table.tuples.keys;
       items = map (λ v. map (item_of p.table.packets.items) v.items) p.table.items.items;
       order = p.table.order.items;
@@ -75,6 +80,13 @@ impl<'c> Plan<'c> {
         let _table = &self.table;
     }
 
+    /// The ports by which the connections were found.
+    pub fn ports(&self) -> Ports
+        ensures { result ≡ self.now.ports }
+    {
+        self.table.ports
+    }
+
     /// How many connections there are.
     pub fn conns(&self) -> u32
         ensures value { result ≡ length self.now.tuples }
@@ -90,11 +102,11 @@ impl<'c> Plan<'c> {
         self.table.counts
     }
 
-    /// The two ends of connection `c`. The server's port is that of echo or of discard.
+    /// The two ends of connection `c`. The server's port is one of the plan's.
     pub fn tuple(&self, c: u32) -> Tuple
         requires { c < length self.now.tuples }
         ensures value { slice_get self.now.tuples c ≡ Some result }
-        ensures served { is_served_port result.server_port ≡ true }
+        ensures served { is_served self.now.ports result.server_port ≡ true }
     {
         self.view().tuple(c)
     }

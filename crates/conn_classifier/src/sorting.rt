@@ -8,11 +8,12 @@ ghost use Rattle.conn_classifier.specs.Items.{Seen};
 ghost use Rattle.conn_classifier.specs.Sorting.{counted, total, with_conn, sorted_of, sorted_seen, seen_of};
 
 use crate::kinds::{Class, Counts};
+use crate::rules::Ports;
 use crate::tuples::served;
 use capture_reader::Capture;
 use indexmap::IndexSet;
 use segment_codec::{Packet, tuple_of};
-use sq_base::{Tuple, is_served};
+use sq_base::Tuple;
 use std::alloc::{AllocError, Global};
 use std::marker::Model;
 
@@ -45,12 +46,12 @@ impl Model for Sorted {
 }
 
 /// The class of a record that is of no connection.
-fn class_of(packet: &Packet) -> Class
-    ensures { result ≡ class_in [] packet.now }
+fn class_of(ports: Ports, packet: &Packet) -> Class
+    ensures { result ≡ class_in ports [] packet.now }
 {
     match packet {
-        Packet::Segment(seg) if is_served(seg.dst_port) => Class::NoFit,
-        Packet::Segment(seg) if is_served(seg.src_port) => Class::Server,
+        Packet::Segment(seg) if ports.is_served(seg.dst_port) => Class::NoFit,
+        Packet::Segment(seg) if ports.is_served(seg.src_port) => Class::Server,
         Packet::Segment(_) | Packet::Other => Class::Other,
         Packet::Fragment => Class::Fragment,
         Packet::Cut => Class::Cut,
@@ -143,29 +144,40 @@ impl Sorted {
     }
 
     /// One more record, with its number.
-    fn sort_in(&mut self, alloc: Global, rec: u32, packet: &Packet) -> Result<(), AllocError>
+    fn sort_in(
+        &mut self,
+        alloc: Global,
+        ports: Ports,
+        rec: u32,
+        packet: &Packet,
+    ) -> Result<(), AllocError>
         requires few { length self.old.tuples ≤ most_conns }
         requires even { length self.old.lists ≡ length self.old.tuples }
         requires room { total self.old.counts < 4294967295 }
-        ensures { (records at : ℕ) (cut : Bool) (xs : List Seen) → self.old ≡ sorted_seen records cut xs → rec ≡ length xs
-            → OnOk result (self.new ≡ sorted_seen records cut (xs ++ (at, packet.now) ∷ [])) }
+        ensures { (records at : ℕ) (cut : Bool) (xs : List Seen) → self.old ≡ sorted_seen ports records cut xs → rec ≡ length xs
+            → OnOk result (self.new ≡ sorted_seen ports records cut (xs ++ (at, packet.now) ∷ [])) }
     {
-        let Some(seg) = served(packet) else {
-            self.pass(class_of(packet));
+        let Some(seg) = served(ports, packet) else {
+            self.pass(class_of(ports, packet));
             return Ok(());
         };
         match self.number(alloc, tuple_of(&seg))? {
             Some(c) => self.add(c, rec)?,
-            None => self.pass(class_of(packet)),
+            None => self.pass(class_of(ports, packet)),
         }
         Ok(())
     }
 }
 
-/// The records' packets, sorted.
-pub fn sort(alloc: Global, capture: &Capture, packets: &[Packet]) -> Result<Sorted, AllocError>
+/// The records' packets, sorted, where these ports are served.
+pub fn sort(
+    alloc: Global,
+    ports: Ports,
+    capture: &Capture,
+    packets: &[Packet],
+) -> Result<Sorted, AllocError>
     requires { length packets.now ≡ length capture.now.packets }
-    ensures { IfOk result (λ s. s ≡ sorted_of (length capture.now.packets) capture.now.cut (conns packets.now) (seen_of capture.now.packets packets.now)) }
+    ensures { IfOk result (λ s. s ≡ sorted_of ports (length capture.now.packets) capture.now.cut (conns ports packets.now) (seen_of capture.now.packets packets.now)) }
 {
     let mut sorted = Sorted {
         tuples: IndexSet::new(alloc),
@@ -174,7 +186,7 @@ pub fn sort(alloc: Global, capture: &Capture, packets: &[Packet]) -> Result<Sort
         counts: Counts::none(capture.len(), capture.cut_tail()),
     };
     for i in 0..capture.len() {
-        sorted.sort_in(alloc, i, &packets[i as usize])?;
+        sorted.sort_in(alloc, ports, i, &packets[i as usize])?;
     }
     Ok(sorted)
 }

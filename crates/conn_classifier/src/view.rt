@@ -4,11 +4,12 @@
 ghost use Rattle.std.specs.Prelude.{◌≡◌, ℕ, ◌<◌, ◌≤◌, true, length, slice_get, IfSome, Some};
 ghost use Rattle.capture_reader.specs.Limits.{latest_time};
 ghost use Rattle.conn_classifier.specs.Limits.{most_conns, most_items};
-ghost use Rattle.sq_base.specs.Ports.{is_served_port};
+ghost use Rattle.conn_classifier.specs.Rules.{is_served};
 ghost use Rattle.conn_classifier.specs.Plan.{items_in, time_of, text_of, text_len_of};
 
 use crate::kinds::Item;
 use crate::planned::Table;
+use crate::rules::Ports;
 use crate::slots::item_of;
 use capture_reader::Capture;
 use sq_base::Tuple;
@@ -30,6 +31,7 @@ impl<'p> Model for PlanView<'p> {
 
     ghost view = { λ p. record {
       file = p.capture.now;
+      ports = p.table.now.ports;
       tuples = p.table.now.tuples.keys;
       items = map (λ v. map (item_of p.table.now.packets.items) v.items) p.table.now.items.items;
       order = p.table.now.order.items;
@@ -38,6 +40,7 @@ impl<'p> Model for PlanView<'p> {
 
     ghost invariant = { λ p. IsPlan (record {
       file = p.capture.now;
+      ports = p.table.now.ports;
       tuples = p.table.now.tuples.keys;
       items = map (λ v. map (item_of p.table.now.packets.items) v.items) p.table.now.items.items;
       order = p.table.now.order.items;
@@ -46,6 +49,13 @@ impl<'p> Model for PlanView<'p> {
 }
 
 impl<'p> PlanView<'p> {
+    /// The ports by which the connections were found.
+    pub fn ports(&self) -> Ports
+        ensures { result ≡ self.now.ports }
+    {
+        self.table.ports
+    }
+
     /// How many connections there are.
     pub fn conns(&self) -> u32
         ensures value { result ≡ length self.now.tuples }
@@ -54,11 +64,11 @@ impl<'p> PlanView<'p> {
         self.table.tuples.len() as u32
     }
 
-    /// The two ends of connection `c`. The server's port is that of echo or of discard.
+    /// The two ends of connection `c`. The server's port is one of the plan's.
     pub fn tuple(&self, c: u32) -> Tuple
         requires { c < length self.now.tuples }
         ensures value { slice_get self.now.tuples c ≡ Some result }
-        ensures served { is_served_port result.server_port ≡ true }
+        ensures served { is_served self.now.ports result.server_port ≡ true }
     {
         match self.table.tuples.get_index(c as usize) {
             Some(tuple) => *tuple,

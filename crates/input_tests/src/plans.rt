@@ -1,7 +1,7 @@
-//! As many connections as may be. What captures are planned as stands as rows of `cases_input`.
+//! As many connections as may be, and ports that a caller gives. What captures are planned as stands as rows of `cases_input`.
 
 use capture_reader::{Capture, parse_capture};
-use conn_classifier::plan;
+use conn_classifier::{Ports, Rules, plan, plan_with};
 use sq_base::{Addr, Octets, Tuple};
 use std::alloc::{AllocError, AllocGlobal, Global};
 use std::process::Abort;
@@ -103,5 +103,44 @@ fn expect_full(
 fn connection_limit(rt: HostRuntime) -> Result<(), Fail> {
     let capture = one_too_many(rt.alloc())?;
     expect_full(&rt, &capture)?;
+    Ok(())
+}
+
+/// To and from ports that no well-known service has, and to one that has.
+fn to_other_ports(alloc: Global) -> Result<Capture, Fail> {
+    let mut bytes = Vec::from_slice(alloc, &HEADER)?;
+    add(&mut bytes, &(0, 1000, 7000, SYN, 100, 0, b'a'))?;
+    add(&mut bytes, &(0, 1001, 9000, SYN, 100, 0, b'a'))?;
+    add(&mut bytes, &(0, 9000, 1001, ACK, 100, 101, b'a'))?;
+    add(&mut bytes, &(0, 1002, 7, SYN, 100, 0, b'a'))?;
+    read(alloc, bytes)
+}
+
+/// The ports of the rules are served, and no others.
+fn expect_ports(
+    rt: &(impl Threads + Sync + Abort + AllocGlobal),
+    capture: &Capture,
+) -> Result<(), AllocError> {
+    let ports = Ports {
+        echo: 7000,
+        discard: 9000,
+    };
+    let rules = Rules {
+        verify: false,
+        ports,
+    };
+    let plan = plan_with(&rt, rt.alloc(), capture, rules)?;
+    assert_eq!(rt; plan.ports(), ports);
+    assert_eq!(rt; plan.conns(), 2);
+    let counts = plan.counts();
+    assert_eq!(rt; (counts.served, counts.server, counts.other), (2, 1, 1));
+    assert!(rt; ports.is_served(plan.tuple(1).server_port));
+    Ok(())
+}
+
+#[test]
+fn ports_of_the_rules(rt: HostRuntime) -> Result<(), Fail> {
+    let capture = to_other_ports(rt.alloc())?;
+    expect_ports(&rt, &capture)?;
     Ok(())
 }

@@ -2,7 +2,8 @@ use Rattle.std.proofs.Common.{ap, sym, subst}
 use Rattle.std.proofs.lemmas.List.{drop_more, take_more}
 use Rattle.byte_queues.specs.ReceiveQueue.{next_of}
 use Rattle.tcb_machine.specs.BlockState.{Block as Tcp, new_block, offered}
-use Rattle.conn_blocks.specs.ServeOrder.{BlockOf, serve, serves, service_in}
+use Rattle.conn_blocks.specs.ServeOrder.{BlockOf, serve, serves}
+use Rattle.conn_blocks.specs.Services.{service_in}
 use Rattle.conn_blocks.proofs.SoFar.{SoFar, starts, more}
 use Rattle.conn_blocks.proofs.block.serve_order.Goals as goal
 

@@ -1,4 +1,4 @@
-use Rattle.run_histories.proofs.Ends.{all_fed}
+use Rattle.histories.proofs.AllFed.{all_fed}
 use Rattle.run_histories.proofs.laws.feeds_of_a_block.Goals as goal
 
 pub returns : goal.returns
