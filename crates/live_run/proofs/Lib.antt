@@ -2,4 +2,3 @@ pub mod ReadLemmas
 pub mod FrontLemmas
 pub mod PutLemmas
 pub mod EachLemmas
-pub mod NumberLemmas

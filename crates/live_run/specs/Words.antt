@@ -1,29 +1,17 @@
 -- The words of the command line, and what they ask for.
-use Rattle.std.specs.Prelude.{ℕ, ◌*◌, ◌&&◌, ◌^◌, nat_le, nat_lt, Bool, List, [], ◌∷◌, length, Option, Some, None, if◌then◌else◌, codes, option_map, option_and_then}
-use Rattle.std.specs.Char.{is_ascii_digit}
-use Rattle.std.specs.List.{list_all}
+use Rattle.std.specs.Prelude.{ℕ, ◌*◌, ◌^◌, nat_lt, List, [], ◌∷◌, Option, Some, None, if◌then◌else◌, codes, option_map, option_and_then}
 use Rattle.std.specs.Result.{result_ok}
 use Rattle.std.specs.Str.{bytes_eq}
-use Rattle.std.specs.Str.Parse.{digits_value}
 use Rattle.byteorder.specs.Endian.{big_number}
 use Rattle.hex.specs.Hex.{decode_sized}
+use Rattle.shell.specs.Numbers.{numeral}
+use Rattle.shell.specs.Table.{Text}
 use Rattle.live_server.specs.declared.initial.Secret.{Secret}
 use Rattle.live_server.specs.declared.setting.Setting.{Setting}
 use Rattle.sq_base.specs.declared.kinds.Addr.{Addr}
 use Rattle.live_run.specs.declared.words.Mode.{Mode}
 use Rattle.live_run.specs.declared.words.Mode.TheVariants.{Device, Frames}
 use Rattle.live_run.specs.declared.words.Words.{Words}
-
-abbrev pub Text : Type 0
-Text = List ℕ
-
--- digits and nothing else
-abbrev pub is_number : Text → Bool
-is_number text = nat_le 1 (length text) && list_all is_ascii_digit text
-
--- the number that they write, where it is below 2^32
-abbrev pub number : Text → Option ℕ
-number text = if is_number text && nat_lt (digits_value 10 text) (2 ^ 32) then Some (digits_value 10 text) else None
 
 -- so many bytes in hexadecimal digits
 abbrev pub hex_bytes : ℕ → Text → Option (List ℕ)
@@ -37,7 +25,7 @@ address_of text = option_map (λ bytes. record { 0 = big_number 4 bytes }) (hex_
 
 -- a length of text, below 2^16
 abbrev pub length_of : Text → Option ℕ
-length_of text = option_and_then (λ n. if nat_lt n (2 ^ 16) then Some n else None) (number text)
+length_of text = option_and_then (λ n. if nat_lt n (2 ^ 16) then Some n else None) (numeral text)
 
 -- ADDRESS BROADCAST PLACES IDLE BYTES SEGMENT, IDLE in seconds
 abbrev pub setting_by : Option Addr → Option Addr → Option ℕ → Option ℕ → Option ℕ → Option ℕ → Option Setting
@@ -47,7 +35,7 @@ setting_by address broadcast places idle bytes segment =
 
 abbrev pub setting_of : List Text → Option Setting
 setting_of (address ∷ broadcast ∷ places ∷ idle ∷ bytes ∷ segment ∷ []) =
-    setting_by (address_of address) (address_of broadcast) (number places) (number idle) (number bytes) (length_of segment)
+    setting_by (address_of address) (address_of broadcast) (numeral places) (numeral idle) (numeral bytes) (length_of segment)
 setting_of [] = None
 setting_of (_ ∷ []) = None
 setting_of (_ ∷ _ ∷ []) = None

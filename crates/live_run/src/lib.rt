@@ -17,7 +17,8 @@ mod frames;
 mod process;
 mod words;
 
+pub use drawing::secret;
 pub use fault::Fault;
 pub use frames::serve_frames_of;
 pub use process::run_process;
-pub use words::{Mode, Words, words_of};
+pub use words::{Mode, Words, asked_in};

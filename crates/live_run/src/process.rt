@@ -2,12 +2,23 @@
 
 use crate::fault::Fault;
 use crate::frames::serve_frames_of;
-use crate::words::{Mode, words_of};
+use crate::words::{Mode, asked_in};
 use crate::{device, drawing};
 use live_server::Server;
+use shell::{Ending, WordFault, exit, words_of};
 use sq_base::{StdSink, StdSource};
+use std::io;
 use std::process::ExitCode;
-use std::{env, io};
+
+impl Ending for Fault {
+    ghost use Rattle.live_run.specs.Faults.{code_of};
+
+    ghost code = { λ f. code_of f };
+
+    fn exit_code(self) -> u8 {
+        self.code()
+    }
+}
 
 /// Runs for the process' words, from its standard input to its standard output, and tells a fault to the standard error.
 pub fn run_process(rt: &HostRuntime) -> ExitCode {
@@ -15,14 +26,18 @@ pub fn run_process(rt: &HostRuntime) -> ExitCode {
         Ok(()) => ExitCode::SUCCESS,
         Err(fault) => {
             let _ = rt.eprintln(fault.line());
-            ExitCode::from(fault.code())
+            exit(fault)
         }
     }
 }
 
 fn run(rt: &HostRuntime) -> Result<(), Fault> {
-    let words = words_in(rt)?;
-    let Some(asked) = words_of(words.as_slice()) else {
+    let words = match words_of(rt) {
+        Ok(words) => words,
+        Err(WordFault::Usage) => return Err(Fault::Words),
+        Err(WordFault::NoMemory) => return Err(Fault::NoMemory),
+    };
+    let Some(asked) = asked_in(words.as_slice()) else {
         return Err(Fault::Words);
     };
     match asked.mode {
@@ -37,18 +52,4 @@ fn run(rt: &HostRuntime) -> Result<(), Fault> {
             device::serve(rt, Server::new(rt.alloc(), asked.setting, secret))
         }
     }
-}
-
-/// The words behind the program's name.
-fn words_in(rt: &HostRuntime) -> Result<Vec<String>, Fault> {
-    let mut words = Vec::new(rt.alloc());
-    let Ok(args) = env::args(rt) else {
-        return Err(Fault::Words);
-    };
-    for word in args.skip(1) {
-        if words.push(word).is_err() {
-            return Err(Fault::NoMemory);
-        }
-    }
-    Ok(words)
 }

@@ -1,14 +1,14 @@
 //! The words of the command line.
 
 ghost use Rattle.std.specs.Prelude.{◌≡◌, ◌<◌, ◌^◌, map, option_map, IfSome};
-ghost use Rattle.std.specs.Char.{is_ascii_digit};
-ghost use Rattle.std.specs.List.{list_all};
 ghost use Rattle.std.specs.String.{string_bytes};
-ghost use Rattle.live_run.specs.Words.{address_of, asked, device_asked, frames_asked, hex_bytes, is_number, length_of, number, secret_of, setting_of};
+ghost use Rattle.shell.specs.Numbers.{numeral};
+ghost use Rattle.live_run.specs.Words.{address_of, asked, device_asked, frames_asked, hex_bytes, length_of, secret_of, setting_of};
 
 use byteorder::{BigEndian, ByteOrder};
 use hex::decode_to_slice;
 use live_server::{Secret, Setting};
+use shell::numeral;
 use sq_base::Addr;
 
 /// Where datagrams come from and go to.
@@ -28,7 +28,7 @@ pub struct Words {
 }
 
 /// What the words behind the program's name ask for, where they do.
-pub fn words_of(words: &[String]) -> Option<Words>
+pub fn asked_in(words: &[String]) -> Option<Words>
     ensures { result ≡ asked (map (λ s. string_bytes s) words.now) }
 {
     let [mode, rest @ ..] = words else {
@@ -73,9 +73,9 @@ fn setting_of(words: &[String]) -> Option<Setting>
     Some(Setting {
         address: address_of(address.as_str())?,
         broadcast: address_of(broadcast.as_str())?,
-        places: number(places.as_str())? as usize,
-        idle: u64::from(number(idle.as_str())?) * 1_000_000,
-        bytes: u64::from(number(bytes.as_str())?),
+        places: numeral(places.as_str())? as usize,
+        idle: u64::from(numeral(idle.as_str())?) * 1_000_000,
+        bytes: u64::from(numeral(bytes.as_str())?),
         segment: length_of(segment.as_str())?,
     })
 }
@@ -104,42 +104,10 @@ fn address_of(word: &str) -> Option<Addr>
 fn length_of(word: &str) -> Option<u16>
     ensures { result ≡ length_of word.now }
 {
-    let value = number(word)?;
+    let value = numeral(word)?;
     if value < 1 << 16 {
         Some(value as u16)
     } else {
         None
     }
-}
-
-/// A number without a sign, and nothing beside it.
-fn number(word: &str) -> Option<u32>
-    ensures { result ≡ number word.now }
-{
-    if !is_number(word) {
-        return None;
-    }
-    match word.parse::<u32>() {
-        Ok(value) => Some(value),
-        Err(_) => None,
-    }
-}
-
-fn is_number(word: &str) -> bool
-    ensures { result ≡ is_number word.now }
-{
-    !word.is_empty() && are_digits(word.as_bytes())
-}
-
-fn are_digits(bytes: &[u8]) -> bool
-    ensures { result ≡ list_all is_ascii_digit bytes.now }
-{
-    let mut rest = bytes;
-    while let [first, others @ ..] = rest {
-        if !first.is_ascii_digit() {
-            return false;
-        }
-        rest = others;
-    }
-    true
 }

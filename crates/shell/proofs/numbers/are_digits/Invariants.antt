@@ -1,7 +1,7 @@
 use Rattle.std.proofs.Common.{◌≡◌, length}
 use Rattle.std.specs.List.{list_all}
 use Rattle.std.specs.Char.{is_ascii_digit}
-use Rattle.live_run.proofs.words.are_digits.Given as goal
+use Rattle.shell.proofs.numbers.are_digits.Given as goal
 
 -- the bytes that are left are digits exactly where all are
 abbrev pub invariant-loop-rest : goal.invariant-loop-rest

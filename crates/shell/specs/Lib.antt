@@ -1,0 +1,10 @@
+pub mod Table
+pub mod Words
+pub mod Numbers
+pub mod Asked
+pub mod Command
+pub mod Telling
+pub mod Usage
+pub mod Lines
+pub mod Reading
+pub mod Refusals
