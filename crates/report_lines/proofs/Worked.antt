@@ -11,6 +11,7 @@ use Rattle.perimeter_core.specs.declared.entries.Act.TheVariants.{Feed, Call}
 use Rattle.tcb_machine.specs.declared.kinds.State.TheVariants.{Listen, Established}
 use Rattle.tcb_machine.specs.declared.kinds.Answer.TheVariants.{Status, NotOpen}
 use Rattle.echo_services.specs.Pump.{service_word}
+use Rattle.echo_services.specs.declared.service.Service.TheVariants.{Echo}
 use Rattle.report_lines.specs.Names.{state_word}
 use Rattle.report_lines.specs.ReportText.{counts_line, end_field, conn_line, order_line, datagram_line, reply_line, answer_line, end_line}
 
@@ -26,7 +27,7 @@ counts : counts_line (record { records = 5; tail = 0; served = 5; nofit = 0; ser
 unfolding counts_line digits
 counts = refl
 
-head : conn_line 0 ends ≡ codes "conn 0 10.0.0.1:4000 10.0.0.2:7 echo" ++ 10 ∷ []
+head : conn_line 0 ends Echo ≡ codes "conn 0 10.0.0.1:4000 10.0.0.2:7 echo" ++ 10 ∷ []
 unfolding conn_line end_field service_word digits ends
 head = refl
 

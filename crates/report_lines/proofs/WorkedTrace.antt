@@ -8,12 +8,13 @@ use Rattle.histories.specs.declared.mode.Mode.TheVariants as Mode'
 use Rattle.histories.specs.ModeWords.{mode_word}
 use Rattle.tcb_machine.specs.declared.kinds.Call.TheVariants.{Status, Buffer, Close}
 use Rattle.report_lines.specs.TraceText.{setup_line, call_line, calls_text, mark_line, squeue_line, squeue_text}
+use Rattle.conn_classifier.specs.Rules.{usual}
 
-least : setup_line (record { squeues = 1; rings = 1; mode = Mode'.Process; budget = 64; spread = 0; trace = true }) false ≡ codes "setup squeues 1 rings 1 mode process budget 64 spread 0 verify 0\n"
+least : setup_line (record { squeues = 1; rings = 1; mode = Mode'.Process; budget = 64; spread = 0; trace = true }) (usual false) ≡ codes "setup squeues 1 rings 1 mode process budget 64 spread 0 verify 0\n"
 unfolding setup_line mode_word digits
 least = refl
 
-most : setup_line (record { squeues = 16; rings = 8; mode = Mode'.NoDrain; budget = 65535; spread = 65535; trace = true }) true ≡ codes "setup squeues 16 rings 8 mode nodrain budget 65535 spread 65535 verify 1\n"
+most : setup_line (record { squeues = 16; rings = 8; mode = Mode'.NoDrain; budget = 65535; spread = 65535; trace = true }) (usual true) ≡ codes "setup squeues 16 rings 8 mode nodrain budget 65535 spread 65535 verify 1\n"
 unfolding setup_line mode_word digits
 most = refl
 

@@ -2,4 +2,3 @@ pub mod Names
 pub mod ReportText
 pub mod TraceText
 pub mod OrderLaw
-pub mod Telling

@@ -15,9 +15,11 @@ use Rattle.conn_classifier.specs.Plan.{PlanOf}
 use Rattle.tcb_machine.specs.declared.kinds.Answer.{Answer}
 use Rattle.tcb_machine.specs.declared.kinds.Answer.TheVariants as answer
 use Rattle.tcb_machine.specs.declared.kinds.State.{State}
-use Rattle.echo_services.specs.Pump.{service_of, service_word}
+use Rattle.echo_services.specs.Pump.{service_word}
+use Rattle.echo_services.specs.declared.service.Service.{Service}
 use Rattle.conn_blocks.specs.CallLists.{CallLists}
 use Rattle.conn_blocks.specs.ServeOrder.{Serving, serve}
+use Rattle.conn_blocks.specs.Services.{service_in}
 use Rattle.report_lines.specs.Names.{state_word}
 
 -- fields with one space between them, and a newline
@@ -40,10 +42,10 @@ counts_line n conns = line (
 unfoldable pub end_field : Addr → ℕ → List ℕ
 end_field a port = join_with_byte 46 (map decimal (big_bytes 4 a.0)) ++ 58 ∷ decimal port
 
--- the client first
-unfoldable pub conn_line : ℕ → Tuple → List ℕ
-conn_line c t = line (
-    codes "conn" ∷ decimal c ∷ end_field t.client t.client_port ∷ end_field t.server t.server_port ∷ service_word (service_of t.server_port) ∷ [])
+-- the client first; then the server, and the service that it has
+unfoldable pub conn_line : ℕ → Tuple → Service → List ℕ
+conn_line c t service = line (
+    codes "conn" ∷ decimal c ∷ end_field t.client t.client_port ∷ end_field t.server t.server_port ∷ service_word service ∷ [])
 
 -- an entry of an order: the feeds from one number to another, or a call
 pub data Entry : Type 0 where
@@ -90,9 +92,9 @@ unfoldable pub end_line : State → List ℕ
 end_line state = line (codes "end" ∷ state_word state ∷ [])
 
 -- a connection that was served in this order
-unfoldable pub conn_text : ℕ → Tuple → List Act → Serving → List ℕ
-conn_text c t order s =
-    conn_line c t ++ (order_line order
+unfoldable pub conn_text : ℕ → Tuple → Service → List Act → Serving → List ℕ
+conn_text c t service order s =
+    conn_line c t service ++ (order_line order
     ++ (flat_map (reply_line t) s.block.replies ++ (flat_map answer_line s.answers ++ end_line s.block.state)))
 
 -- what stands between the first line and the last: the counts, and each connection, served by number in this order on one thread
@@ -100,7 +102,7 @@ unfoldable pub body_text : PlanOf → CallLists → List (List Act) → List ℕ
 body_text p calls orders =
     let order = λ (c : ℕ). get_or orders c [] in
     counts_line p.counts (length p.tuples)
-    ++ flat_map (λ (c, t). conn_text c t (order c) (serve p calls c (order c))) (enumerate_from 0 p.tuples)
+    ++ flat_map (λ (c, t). conn_text c t (service_in p c) (order c) (serve p calls c (order c))) (enumerate_from 0 p.tuples)
 
 abbrev pub done_line : List ℕ
 done_line = line (codes "done" ∷ [])

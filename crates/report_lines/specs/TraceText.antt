@@ -1,6 +1,6 @@
 -- The report of a run that kept its marks: the report under another first line, and before its last line the setup, the calls of
 -- the application threads, and the marks of each squeue.
-use Rattle.std.specs.Prelude.{ℕ, Bool, if◌then◌else◌, List, [], ◌∷◌, ◌++◌, length, map, codes}
+use Rattle.std.specs.Prelude.{ℕ, if◌then◌else◌, List, [], ◌∷◌, ◌++◌, length, map, codes}
 use Rattle.std.specs.List.{flat_map, enumerate_from}
 use Rattle.std.specs.Fmt.{decimal}
 use Rattle.perimeter_core.specs.declared.entries.Act.{Act}
@@ -12,6 +12,7 @@ use Rattle.perimeter_core.specs.declared.marks.SynchAct.{SynchAct}
 use Rattle.perimeter_core.specs.declared.marks.SynchAct.TheVariants as Done
 use Rattle.histories.specs.ModeWords.{mode_word}
 use Rattle.conn_classifier.specs.Plan.{PlanOf}
+use Rattle.conn_classifier.specs.declared.rules.Rules.{Rules}
 use Rattle.tcb_machine.specs.declared.kinds.Call.{Call}
 use Rattle.tcb_machine.specs.declared.kinds.Call.TheVariants.{Status, Buffer, Close}
 use Rattle.conn_blocks.specs.CallLists.{CallLists}
@@ -19,10 +20,10 @@ use Rattle.ring_quotas.specs.declared.setup.Setup.{Setup}
 use Rattle.report_lines.specs.ReportText.{line, body_text, done_line}
 
 -- the setup, and whether wrong checksums drop segments: 1 or 0
-unfoldable pub setup_line : Setup → Bool → List ℕ
-setup_line s verify = line (
+unfoldable pub setup_line : Setup → Rules → List ℕ
+setup_line s rules = line (
     codes "setup" ∷ codes "squeues" ∷ decimal s.squeues ∷ codes "rings" ∷ decimal s.rings ∷ codes "mode" ∷ mode_word s.mode
-    ∷ codes "budget" ∷ decimal s.budget ∷ codes "spread" ∷ decimal s.spread ∷ codes "verify" ∷ decimal (if verify then 1 else 0) ∷ [])
+    ∷ codes "budget" ∷ decimal s.budget ∷ codes "spread" ∷ decimal s.spread ∷ codes "verify" ∷ decimal (if rules.verify then 1 else 0) ∷ [])
 
 -- what is asked of a connection
 abbrev pub asked_text : Call → List ℕ
@@ -78,7 +79,7 @@ abbrev pub squeue_text : ℕ × List Mark → List ℕ
 squeue_text (q, marks) = squeue_line q (length marks) ++ flat_map mark_line marks
 
 -- the report of these orders, and of the marks of each squeue, by number
-unfoldable pub trace_text : PlanOf → CallLists → Setup → Bool → List (List Act) → List (List Mark) → List ℕ
-trace_text p calls setup verify orders marks =
+unfoldable pub trace_text : PlanOf → CallLists → Setup → Rules → List (List Act) → List (List Mark) → List ℕ
+trace_text p calls setup rules orders marks =
     line (codes "report" ∷ codes "2" ∷ [])
-    ++ (body_text p calls orders ++ (setup_line setup verify ++ (calls_text calls ++ (flat_map squeue_text (enumerate_from 0 marks) ++ done_line))))
+    ++ (body_text p calls orders ++ (setup_line setup rules ++ (calls_text calls ++ (flat_map squeue_text (enumerate_from 0 marks) ++ done_line))))

@@ -1,7 +1,9 @@
 -- The lines of marks, one after another, and of the entries that a mark names.
-use Rattle.std.proofs.Common.{◌≡◌, ℕ, ◌+◌, ◌-◌, ◌<◌, ◌≤◌, List, [], ◌∷◌, ◌++◌, suc, zero, length, map, take, drop, get_or, slice_get, Some, sym, ap, ◌∙◌, append_assoc, arith, add-one}
+use Rattle.std.proofs.Common.{◌≡◌, ℕ, ◌+◌, ◌-◌, ◌<◌, ◌≤◌, List, [], ◌∷◌, suc, zero, length, map, take, drop, get_or, slice_get, Some, sym, ap, ◌∙◌, arith, add-one}
 use Rattle.std.specs.List.{enumerate_from, flat_map}
 use Rattle.std.specs.Option.{option_map}
+use Rattle.text_digits.specs.Told.{Told, more}
+use Rattle.text_digits.proofs.Joins.{more_more}
 use Rattle.std.proofs.lemmas.List.{take_all}
 use Rattle.std.proofs.lemmas.List.FromFn.{length-enumerate_from}
 use Rattle.std.proofs.lemmas.Option.{slice_get-get_or, slice_get-map}
@@ -28,15 +30,20 @@ part_first (y ∷ xs) zero (suc n) x e lt =
 part_first (y ∷ xs) (suc i) (suc n) x e lt = rw add-one (let more = part_first xs i (suc n) x e lt in rw add-one at more)
 
 -- one entry more, where so many are to come
-pub entry_more : (es : List Entry) (was new whole : List ℕ) (i n m : ℕ) (e : Entry) → was ++ line_end (map entered_field (take n (drop i es))) ≡ whole
-    → slice_get es i ≡ Some e → n ≡ m + 1 → new ≡ was ++ 32 ∷ entered_field e → new ++ line_end (map entered_field (take m (drop (i + 1) es))) ≡ whole
+pub entry_more : (es : List Entry) (was new whole : Told) (i n m : ℕ) (e : Entry) → more was (line_end (map entered_field (take n (drop i es)))) ≡ whole
+    → slice_get es i ≡ Some e → n ≡ m + 1 → new ≡ more was (32 ∷ entered_field e) → more new (line_end (map entered_field (take m (drop (i + 1) es)))) ≡ whole
 entry_more es was new whole i n m e so_far here count n_is =
     let some : 0 < n = omega (arith, count) in
     let less : n - 1 ≡ m = omega (arith, count) in
     let rest = line_end (map entered_field (take m (drop (i + 1) es))) in
     let first = part_first es i n e here some ∙ ap (λ k. e ∷ take k (drop (i + 1) es)) less in
-    ap (λ l. l ++ rest) n_is ∙ append_assoc was (32 ∷ entered_field e) rest
-    ∙ sym (ap (λ l. was ++ line_end (map entered_field l)) first) ∙ so_far
+    ap (λ l. more l rest) n_is ∙ more_more was (32 ∷ entered_field e) rest
+    ∙ sym (ap (λ l. more was (line_end (map entered_field l))) first) ∙ so_far
+
+-- no entry is to come
+pub entries_end : (es : List Entry) (n i : ℕ) (last whole new : Told) → n ≡ 0 → more last (line_end (map entered_field (take n (drop i es)))) ≡ whole → new ≡ more last (10 ∷ []) → new ≡ whole
+entries_end es zero i last whole new none h e = e ∙ h
+entries_end es (suc n) i last whole new none h e = absurd (let no : ⊥ = omega (arith, none) in no)
 
 -- the numbered elements of a list, by its elements
 pub numbered : {X : Type 0} (xs : List X) (a b i : ℕ) (x : X) → b ≡ a + i → slice_get xs i ≡ Some x → slice_get (enumerate_from a xs) i ≡ Some (b, x)
@@ -51,5 +58,5 @@ pub numbered_or : {X : Type 0} (xs : List X) (i : ℕ) (d : X) → i < length xs
 numbered_or xs i d lt = numbered xs 0 i i (get_or xs i d) (omega arith) (slice_get-get_or xs i d lt)
 
 -- the texts of all numbered elements
-pub numbered_all : {X : Type 0} (f : ℕ × X → List ℕ) (xs : List X) (old new : List ℕ) (n : ℕ) → length xs ≤ n → new ≡ old ++ flat_map f (take n (enumerate_from 0 xs)) → new ≡ old ++ flat_map f (enumerate_from 0 xs)
-numbered_all f xs old new n past e = e ∙ ap (λ l. old ++ flat_map f l) (take_all n (enumerate_from 0 xs) (omega (arith, past, length-enumerate_from 0 xs)))
+pub numbered_all : {X : Type 0} (f : ℕ × X → List ℕ) (xs : List X) (old new : Told) (n : ℕ) → length xs ≤ n → new ≡ more old (flat_map f (take n (enumerate_from 0 xs))) → new ≡ more old (flat_map f (enumerate_from 0 xs))
+numbered_all f xs old new n past e = e ∙ ap (λ l. more old (flat_map f l)) (take_all n (enumerate_from 0 xs) (omega (arith, past, length-enumerate_from 0 xs)))

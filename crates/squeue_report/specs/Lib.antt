@@ -1,1 +1,3 @@
 pub mod SummaryText
+pub mod Countable
+pub mod Written

@@ -15,6 +15,10 @@ use Rattle.report_lines.specs.ReportText.{line, report_text}
 unfoldable pub check_of : List ℕ → ℕ
 check_of bytes = fold (λ h b. (h * 1099511628211 + b) % 2 ^ 64) 0 bytes
 
+-- the same behind other bytes, from their value
+unfoldable pub check_behind : ℕ → List ℕ → ℕ
+check_behind check bytes = fold (λ h b. (h * 1099511628211 + b) % 2 ^ 64) check bytes
+
 -- the replies of connection c
 abbrev pub replies_in : PlanOf → CallLists → List (List Act) → ℕ → List Reply
 replies_in p calls orders c = (serve p calls c (get_or orders c [])).block.replies

@@ -2,10 +2,13 @@
 //! those of `report_lines`.
 #![tactic(auto)]
 
+mod checking;
 mod reporting;
 mod summing;
 mod tracing;
+mod writing;
 
-pub use reporting::report;
+pub use reporting::{push_report, report};
 pub use summing::summary;
-pub use tracing::report2;
+pub use tracing::{countable, push_report2, report2};
+pub use writing::{Room, write_report, write_report2};

@@ -1,15 +1,20 @@
 //! The report of what was served.
 
-ghost use Rattle.std.specs.Prelude.{◌≡◌, ◌++◌, length, map, IfOk, OnOk};
+ghost use Rattle.std.specs.Prelude.{◌≡◌, ◌≤◌, length, map, vec_capacity, IfOk, OnOk};
+ghost use Rattle.segment_codec.specs.Datagrams.{most_datagram};
 ghost use Rattle.conn_blocks.specs.CallLists.{CallLists};
 ghost use Rattle.conn_blocks.specs.ServedBlocks.{AreServed};
 ghost use Rattle.report_lines.specs.ReportText.{body_text, report_text};
+ghost use Rattle.squeue_report.specs.Written.{HasTold};
 
+use conn_blocks::service_in;
 use conn_classifier::Plan;
 use report_lines::{push_conn, push_counts};
 use ring_threads::Served;
+use segment_codec::MOST_DATAGRAM;
 use sq_base::Octets;
 use std::alloc::{AllocError, Global};
+use text_digits::TextEnd;
 
 /// The report of what was served: the counts, and for each connection its order, its replies, its answers and its last state.
 /// There is a block for each connection of the plan. Fails only for want of memory.
@@ -25,27 +30,46 @@ pub fn report(alloc: Global, plan: &Plan, served: &Served) -> Result<Octets, All
     ensures { IfOk result (λ text. (calls : CallLists) → AreServed plan.now calls served.now.blocks
         → text ≡ report_text plan.now calls (map (λ b. b.order) served.now.blocks)) }
 {
-    let mut text = Vec::from_slice(alloc, b"report 1\n")?;
-    push_body(alloc, &mut text, plan, served)?;
-    text.extend_from_slice(b"done\n")?;
+    let mut text = Vec::new(alloc);
+    let mut datagram = Vec::with_capacity(alloc, MOST_DATAGRAM)?;
+    push_report(&mut text, &mut datagram, plan, served)?;
     Ok(Octets::wrap(text))
 }
 
-/// The counts, and what each connection has in the report.
-pub fn push_body(
-    alloc: Global,
-    text: &mut Vec<u8>,
+/// Appends the report of what was served. Each datagram is made in `datagram`, whose bytes are lost.
+pub fn push_report<T: TextEnd>(
+    text: &mut T,
+    datagram: &mut Vec<u8>,
     plan: &Plan,
     served: &Served,
-) -> Result<(), AllocError>
-    requires { length served.now.blocks ≡ length plan.now.tuples }
-    ensures { OnOk result ((calls : CallLists) → AreServed plan.now calls served.now.blocks
-        → text.new.items ≡ text.old.items ++ body_text plan.now calls (map (λ b. b.order) served.now.blocks)) }
+) -> Result<(), T::Fault>
+    requires blocks { length served.now.blocks ≡ length plan.now.tuples }
+    requires room { most_datagram ≤ vec_capacity datagram.old }
+    ensures { OnOk result (HasTold (λ told. (calls : CallLists) → AreServed plan.now calls served.now.blocks
+        → told ≡ report_text plan.now calls (map (λ b. b.order) served.now.blocks)) (T.told text.old) (T.told text.new)) }
+{
+    text.put(b"report 1\n")?;
+    push_body(text, datagram, plan, served)?;
+    text.put(b"done\n")?;
+    Ok(())
+}
+
+/// The counts, and what each connection has in the report.
+pub fn push_body<T: TextEnd>(
+    text: &mut T,
+    datagram: &mut Vec<u8>,
+    plan: &Plan,
+    served: &Served,
+) -> Result<(), T::Fault>
+    requires blocks { length served.now.blocks ≡ length plan.now.tuples }
+    requires room { most_datagram ≤ vec_capacity datagram.old }
+    ensures { OnOk result (HasTold (λ told. (calls : CallLists) → AreServed plan.now calls served.now.blocks
+        → told ≡ body_text plan.now calls (map (λ b. b.order) served.now.blocks)) (T.told text.old) (T.told text.new)) }
 {
     push_counts(text, &plan.counts(), plan.conns())?;
-    let mut datagram = Vec::new(alloc);
     for c in 0..plan.conns() {
-        push_conn(text, &mut datagram, c, &plan.tuple(c), served.block(c))?;
+        let service = service_in(&plan.view(), c);
+        push_conn(text, datagram, c, &plan.tuple(c), service, served.block(c))?;
     }
     Ok(())
 }

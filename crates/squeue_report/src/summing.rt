@@ -1,31 +1,21 @@
 //! The line that sums up a generated run.
 
-ghost use Rattle.std.specs.Prelude.{◌≡◌, ◌≤◌, ◌^◌, ◌*◌, ◌++◌, length, map, IfOk, OnOk, sum_by, string_bytes};
+ghost use Rattle.std.specs.Prelude.{[], ◌≡◌, ◌≤◌, ◌^◌, ◌*◌, ◌++◌, length, map, IfOk, OnOk, sum_by, string_bytes, vec_capacity};
 ghost use Rattle.tcb_machine.specs.Limits.{most_mss};
 ghost use Rattle.conn_blocks.specs.CallLists.{CallLists};
 ghost use Rattle.conn_blocks.specs.ServedBlocks.{AreServed};
+ghost use Rattle.segment_codec.specs.Datagrams.{most_datagram};
+ghost use Rattle.report_lines.specs.ReportText.{report_text};
 ghost use Rattle.squeue_report.specs.SummaryText.{check_of, text_size, digits_of, summary_line, summary_text};
 
-use crate::reporting::report;
+use crate::checking::Checked;
+use crate::reporting::push_report;
 use conn_classifier::Plan;
 use ring_threads::Served;
+use segment_codec::MOST_DATAGRAM;
 use sq_base::Octets;
 use std::alloc::{AllocError, Global};
 use tcb_machine::Tcb;
-
-/// The check value of a report: each byte in turn, at the multiplier of the 64-bit FNV hash, from 0.
-#[tactic(auto, unfolding(crate::specs::SummaryText::check_of))]
-fn check_of(text: &[u8]) -> u64
-    ensures { result ≡ check_of text.now }
-{
-    let mut check = 0u64;
-    for byte in text {
-        check = check
-            .wrapping_mul(1_099_511_628_211)
-            .wrapping_add(u64::from(*byte));
-    }
-    check
-}
 
 /// The number of replies, and the bytes of text in them.
 fn totals(plan: &Plan, served: &Served) -> (u128, u128)
@@ -104,7 +94,8 @@ pub fn summary(
     ensures { IfOk result (λ text. (calls : CallLists) → AreServed plan.now calls served.now.blocks
         → text ≡ summary_text number input.now plan.now calls (map (λ b. b.order) served.now.blocks)) }
 {
-    let check = check_of(report(alloc, plan, served)?.as_slice());
+    let mut datagram = Vec::with_capacity(alloc, MOST_DATAGRAM)?;
+    let check = checked(&mut datagram, plan, served);
     let (replies, octets) = totals(plan, served);
     let sums = Sums {
         bytes: input.len(),
@@ -117,4 +108,18 @@ pub fn summary(
     let mut text = String::new(alloc);
     push_line(&mut text, number, &sums, digits.as_str())?;
     Ok(Octets::wrap(text.into_bytes()))
+}
+
+/// The check value of the report, of which no piece is kept. Each datagram is made in `datagram`.
+fn checked(datagram: &mut Vec<u8>, plan: &Plan, served: &Served) -> u64
+    requires blocks { length served.now.blocks ≡ length plan.now.tuples }
+    requires room { most_datagram ≤ vec_capacity datagram.old }
+    ensures { (calls : CallLists) → AreServed plan.now calls served.now.blocks
+        → result ≡ check_of (report_text plan.now calls (map (λ b. b.order) served.now.blocks)) }
+{
+    let mut end = Checked::new();
+    match push_report(&mut end, datagram, plan, served) {
+        Ok(()) => end.value(),
+        Err(never) => match never {},
+    }
 }

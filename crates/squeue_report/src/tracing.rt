@@ -1,14 +1,19 @@
 //! The report of a run that kept its marks.
 
-ghost use Rattle.std.specs.Prelude.{[], ◌≡◌, ◌+◌, ◌<◌, ◌≤◌, ◌∷◌, ◌++◌, codes, decimal, if◌then◌else◌, length, drop, map, take, IfOk, OnOk};
+ghost use Rattle.std.specs.Prelude.{[], ◌≡◌, ◌+◌, ◌<◌, ◌≤◌, ◌∷◌, ◌++◌, ◌^◌, true, codes, decimal, if◌then◌else◌, length, vec_capacity, drop, map, take, IfOk, OnOk};
 ghost use Rattle.std.specs.List.{flat_map};
 ghost use Rattle.perimeter_core.specs.declared.marks.Mark.TheVariants as On;
 ghost use Rattle.squeue_state.specs.Told.{Within, mark_of, marks_of};
 ghost use Rattle.histories.specs.ModeWords.{mode_word};
 ghost use Rattle.conn_blocks.specs.CallLists.{calls_of};
+ghost use Rattle.conn_classifier.specs.Rules.{usual};
 ghost use Rattle.conn_blocks.specs.Limits.{callers};
 ghost use Rattle.conn_blocks.specs.ServedBlocks.{AreServed};
+ghost use Rattle.text_digits.specs.Told.{more};
+ghost use Rattle.segment_codec.specs.Datagrams.{most_datagram};
 ghost use Rattle.report_lines.specs.ReportText.{line_end};
+ghost use Rattle.squeue_report.specs.Countable.{AreCountable, HasEnd, IsCountable};
+ghost use Rattle.squeue_report.specs.Written.{HasTold};
 ghost use Rattle.report_lines.specs.TraceText.{setup_line, call_line, thread_text, calls_text};
 ghost use Rattle.report_lines.specs.TraceText.{act_fields, entered_field, mark_line, squeue_line, squeue_text, trace_text};
 
@@ -20,11 +25,12 @@ use perimeter_core::{Entry, SynchAct};
 use report_lines::push_pair;
 use ring_quotas::Setup;
 use ring_threads::Served;
+use segment_codec::MOST_DATAGRAM;
 use sq_base::Octets;
 use squeue_state::{Trace, TraceMark};
 use std::alloc::{AllocError, Global};
 use tcb_machine::Call;
-use text_digits::push_field;
+use text_digits::{TextEnd, push_field};
 
 /// The report of what was served, with the setup, the calls, and the marks of each squeue. There is a block for each connection of
 /// the plan, and a trace for each squeue of the setup. Fails only for want of memory.
@@ -39,21 +45,80 @@ pub fn report2(
     requires blocks { length served.now.blocks ≡ length plan.now.tuples }
     requires traces { length served.now.traces ≡ setup.now.squeues }
     ensures { IfOk result (λ text. AreServed plan.now calls.now served.now.blocks
-        → text ≡ trace_text plan.now calls.now setup.now verify (map (λ b. b.order) served.now.blocks) (map marks_of served.now.traces)) }
+        → text ≡ trace_text plan.now calls.now setup.now (usual verify) (map (λ b. b.order) served.now.blocks) (map marks_of served.now.traces)) }
 {
-    let mut text = Vec::from_slice(alloc, b"report 2\n")?;
-    push_body(alloc, &mut text, plan, served)?;
-    push_setup(&mut text, setup, verify)?;
-    push_calls(&mut text, calls)?;
-    for q in 0..setup.squeues {
-        push_squeue(&mut text, q, served.trace(q))?;
-    }
-    text.extend_from_slice(b"done\n")?;
+    countable(setup, served)?;
+    let mut text = Vec::new(alloc);
+    let mut datagram = Vec::with_capacity(alloc, MOST_DATAGRAM)?;
+    push_report2(&mut text, &mut datagram, plan, calls, setup, verify, served)?;
     Ok(Octets::wrap(text))
 }
 
-fn push_setup(text: &mut Vec<u8>, setup: &Setup, verify: bool) -> Result<(), AllocError>
-    ensures { OnOk result (text.new.items ≡ text.old.items ++ setup_line setup.now verify) }
+/// Appends that report. Each datagram is made in `datagram`, whose bytes are lost.
+pub fn push_report2<T: TextEnd>(
+    text: &mut T,
+    datagram: &mut Vec<u8>,
+    plan: &Plan,
+    calls: &Calls,
+    setup: &Setup,
+    verify: bool,
+    served: &Served,
+) -> Result<(), T::Fault>
+    requires blocks { length served.now.blocks ≡ length plan.now.tuples }
+    requires traces { length served.now.traces ≡ setup.now.squeues }
+    requires countable { AreCountable served.now.traces }
+    requires room { most_datagram ≤ vec_capacity datagram.old }
+    ensures { OnOk result (HasTold (λ told. AreServed plan.now calls.now served.now.blocks
+        → told ≡ trace_text plan.now calls.now setup.now (usual verify) (map (λ b. b.order) served.now.blocks) (map marks_of served.now.traces))
+        (T.told text.old) (T.told text.new)) }
+{
+    text.put(b"report 2\n")?;
+    push_body(text, datagram, plan, served)?;
+    push_setup(text, setup, verify)?;
+    push_calls(text, calls)?;
+    for q in 0..setup.squeues {
+        push_squeue(text, q, served.trace(q))?;
+    }
+    text.put(b"done\n")?;
+    Ok(())
+}
+
+/// That the places in all traces can be counted; an error else, since no trace in memory is as long as that.
+pub fn countable(setup: &Setup, served: &Served) -> Result<(), AllocError>
+    requires { length served.now.traces ≡ setup.now.squeues }
+    ensures { OnOk result (AreCountable served.now.traces) }
+{
+    for q in 0..setup.squeues {
+        if !is_countable(served.trace(q)) {
+            return Err(AllocError);
+        }
+    }
+    Ok(())
+}
+
+fn is_countable(trace: &Trace) -> bool
+    ensures { result ≡ true → IsCountable trace.now }
+{
+    for i in 0..trace.len() {
+        if !has_end(trace.mark(i)) {
+            return false;
+        }
+    }
+    true
+}
+
+fn has_end(mark: TraceMark) -> bool
+    ensures { result ≡ true → HasEnd mark }
+{
+    match mark {
+        TraceMark::Fill { first, len, .. } => first.checked_add(len).is_some(),
+        TraceMark::Claim { first, len, .. } => first.checked_add(len).is_some(),
+        _ => true,
+    }
+}
+
+fn push_setup<T: TextEnd>(text: &mut T, setup: &Setup, verify: bool) -> Result<(), T::Fault>
+    ensures { OnOk result (T.told text.new ≡ more (T.told text.old) (setup_line setup.now (usual verify))) }
 {
     push_sizes(text, setup)?;
     push_mode(text, setup.mode)?;
@@ -63,26 +128,26 @@ fn push_setup(text: &mut Vec<u8>, setup: &Setup, verify: bool) -> Result<(), All
 
 /// How many squeues and rings there are.
 #[tactic(auto, using(report_lines::proofs::Joins::joins))]
-fn push_sizes(text: &mut Vec<u8>, setup: &Setup) -> Result<(), AllocError>
-    ensures { OnOk result (text.new.items ≡ text.old.items
-        ++ (codes "setup squeues " ++ (decimal setup.now.squeues ++ (codes " rings " ++ decimal setup.now.rings)))) }
+fn push_sizes<T: TextEnd>(text: &mut T, setup: &Setup) -> Result<(), T::Fault>
+    ensures { OnOk result (T.told text.new ≡ more (T.told text.old)
+        (codes "setup squeues " ++ (decimal setup.now.squeues ++ (codes " rings " ++ decimal setup.now.rings)))) }
 {
     push_field(text, b"setup squeues ", setup.squeues)?;
     push_field(text, b" rings ", setup.rings)
 }
 
 #[tactic(auto, using(report_lines::proofs::Joins::joins))]
-fn push_mode(text: &mut Vec<u8>, mode: Mode) -> Result<(), AllocError>
-    ensures { OnOk result (text.new.items ≡ text.old.items ++ (codes " mode " ++ mode_word mode)) }
+fn push_mode<T: TextEnd>(text: &mut T, mode: Mode) -> Result<(), T::Fault>
+    ensures { OnOk result (T.told text.new ≡ more (T.told text.old) (codes " mode " ++ mode_word mode)) }
 {
-    text.extend_from_slice(b" mode ")?;
-    text.extend_from_slice(mode.word().as_bytes())
+    text.put(b" mode ")?;
+    text.put(mode.word().as_bytes())
 }
 
 /// The rest of the setup's line.
 #[tactic(auto, using(report_lines::proofs::Joins::joins))]
-fn push_pace(text: &mut Vec<u8>, setup: &Setup, verify: bool) -> Result<(), AllocError>
-    ensures { OnOk result (text.new.items ≡ text.old.items ++ (codes " budget " ++ (decimal setup.now.budget
+fn push_pace<T: TextEnd>(text: &mut T, setup: &Setup, verify: bool) -> Result<(), T::Fault>
+    ensures { OnOk result (T.told text.new ≡ more (T.told text.old) (codes " budget " ++ (decimal setup.now.budget
         ++ (codes " spread " ++ (decimal setup.now.spread ++ (codes " verify " ++ (decimal (if verify then 1 else 0) ++ 10 ∷ []))))))) }
 {
     push_field(text, b" budget ", setup.budget)?;
@@ -91,8 +156,8 @@ fn push_pace(text: &mut Vec<u8>, setup: &Setup, verify: bool) -> Result<(), Allo
 }
 
 /// The calls of all application threads.
-fn push_calls(text: &mut Vec<u8>, calls: &Calls) -> Result<(), AllocError>
-    ensures { OnOk result (text.new.items ≡ text.old.items ++ calls_text calls.now) }
+fn push_calls<T: TextEnd>(text: &mut T, calls: &Calls) -> Result<(), T::Fault>
+    ensures { OnOk result (T.told text.new ≡ more (T.told text.old) (calls_text calls.now)) }
 {
     for j in 0..CALLERS {
         push_thread(text, calls, j)?;
@@ -101,9 +166,9 @@ fn push_calls(text: &mut Vec<u8>, calls: &Calls) -> Result<(), AllocError>
 }
 
 /// The calls of thread `j`.
-fn push_thread(text: &mut Vec<u8>, calls: &Calls, j: u32) -> Result<(), AllocError>
+fn push_thread<T: TextEnd>(text: &mut T, calls: &Calls, j: u32) -> Result<(), T::Fault>
     requires { j < callers }
-    ensures text { OnOk result (text.new.items ≡ text.old.items ++ thread_text (j, calls_of calls.now j)) }
+    ensures text { OnOk result (T.told text.new ≡ more (T.told text.old) (thread_text (j, calls_of calls.now j))) }
     ensures threads { length calls.now ≡ callers }
 {
     for k in 0..calls.len(j) {
@@ -114,29 +179,31 @@ fn push_thread(text: &mut Vec<u8>, calls: &Calls, j: u32) -> Result<(), AllocErr
 }
 
 #[tactic(auto, using(report_lines::proofs::Joins::joins), unfolding(report_lines::specs::TraceText::call_line))]
-fn push_call(text: &mut Vec<u8>, j: u32, c: u32, call: Call) -> Result<(), AllocError>
-    ensures { OnOk result (text.new.items ≡ text.old.items ++ call_line j (c, call)) }
+fn push_call<T: TextEnd>(text: &mut T, j: u32, c: u32, call: Call) -> Result<(), T::Fault>
+    ensures { OnOk result (T.told text.new ≡ more (T.told text.old) (call_line j (c, call))) }
 {
     push_field(text, b"call ", j)?;
     push_field(text, b":", c)?;
     match call {
-        Call::Status => text.extend_from_slice(b":status\n"),
+        Call::Status => text.put(b":status\n"),
         Call::Buffer(size) => push_number(text, b":buffer=", u64::from(size)),
-        Call::Close => text.extend_from_slice(b":close\n"),
+        Call::Close => text.put(b":close\n"),
     }
 }
 
 /// What squeue `q` has in the report.
-fn push_squeue(text: &mut Vec<u8>, q: u32, trace: &Trace) -> Result<(), AllocError>
-    ensures { OnOk result (text.new.items ≡ text.old.items ++ squeue_text (q, marks_of trace.now)) }
+fn push_squeue<T: TextEnd>(text: &mut T, q: u32, trace: &Trace) -> Result<(), T::Fault>
+    requires { IsCountable trace.now }
+    ensures { OnOk result (T.told text.new ≡ more (T.told text.old) (squeue_text (q, marks_of trace.now))) }
 {
     push_heading(text, q, trace.len())?;
-    push_marks(text, trace)
+    push_marks(text, trace)?;
+    Ok(())
 }
 
 #[tactic(auto, using(report_lines::proofs::Joins::joins), unfolding(report_lines::specs::TraceText::squeue_line))]
-fn push_heading(text: &mut Vec<u8>, q: u32, count: u64) -> Result<(), AllocError>
-    ensures { OnOk result (text.new.items ≡ text.old.items ++ squeue_line q count) }
+fn push_heading<T: TextEnd>(text: &mut T, q: u32, count: u64) -> Result<(), T::Fault>
+    ensures { OnOk result (T.told text.new ≡ more (T.told text.old) (squeue_line q count)) }
 {
     push_field(text, b"squeue ", q)?;
     push_number(text, b" marks ", count)
@@ -144,15 +211,16 @@ fn push_heading(text: &mut Vec<u8>, q: u32, count: u64) -> Result<(), AllocError
 
 /// A word and a number that end a line.
 #[tactic(auto, using(report_lines::proofs::Joins::joins))]
-fn push_number(text: &mut Vec<u8>, word: &[u8], n: u64) -> Result<(), AllocError>
-    ensures { OnOk result (text.new.items ≡ text.old.items ++ (word.now ++ (decimal n ++ 10 ∷ []))) }
+fn push_number<T: TextEnd>(text: &mut T, word: &[u8], n: u64) -> Result<(), T::Fault>
+    ensures { OnOk result (T.told text.new ≡ more (T.told text.old) (word.now ++ (decimal n ++ 10 ∷ []))) }
 {
     push_field(text, word, n)?;
-    text.extend_from_slice(b"\n")
+    text.put(b"\n")
 }
 
-fn push_marks(text: &mut Vec<u8>, trace: &Trace) -> Result<(), AllocError>
-    ensures { OnOk result (text.new.items ≡ text.old.items ++ flat_map mark_line (marks_of trace.now)) }
+fn push_marks<T: TextEnd>(text: &mut T, trace: &Trace) -> Result<(), T::Fault>
+    requires { IsCountable trace.now }
+    ensures { OnOk result (T.told text.new ≡ more (T.told text.old) (flat_map mark_line (marks_of trace.now))) }
 {
     for i in 0..trace.len() {
         push_mark(text, trace, trace.mark(i))?;
@@ -161,9 +229,10 @@ fn push_marks(text: &mut Vec<u8>, trace: &Trace) -> Result<(), AllocError>
 }
 
 #[tactic(auto, using(report_lines::proofs::Joins::joins), unfolding(report_lines::specs::TraceText::mark_line))]
-fn push_mark(text: &mut Vec<u8>, trace: &Trace, mark: TraceMark) -> Result<(), AllocError>
-    requires { Within (length trace.now.entries) mark }
-    ensures { OnOk result (text.new.items ≡ text.old.items ++ mark_line (mark_of trace.now.entries mark)) }
+fn push_mark<T: TextEnd>(text: &mut T, trace: &Trace, mark: TraceMark) -> Result<(), T::Fault>
+    requires places { Within (length trace.now.entries) mark }
+    requires countable { HasEnd mark }
+    ensures { OnOk result (T.told text.new ≡ more (T.told text.old) (mark_line (mark_of trace.now.entries mark))) }
 {
     match mark {
         TraceMark::Fill { p, first, len } => {
@@ -173,7 +242,7 @@ fn push_mark(text: &mut Vec<u8>, trace: &Trace, mark: TraceMark) -> Result<(), A
         TraceMark::Fast { p, first } => {
             push_field(text, b"fast ", p)?;
             push_entry(text, trace.entry(first))?;
-            text.extend_from_slice(b"\n")
+            text.put(b"\n")
         }
         TraceMark::Claim { p, first, len } => {
             push_field(text, b"claim ", p)?;
@@ -194,34 +263,37 @@ fn push_mark(text: &mut Vec<u8>, trace: &Trace, mark: TraceMark) -> Result<(), A
 }
 
 /// The rest of the line of a mark that names these entries.
-fn push_entries(text: &mut Vec<u8>, trace: &Trace, first: u64, len: u64) -> Result<(), AllocError>
-    requires { first + len ≤ length trace.now.entries }
-    ensures { OnOk result (text.new.items ≡ text.old.items ++ line_end (map entered_field (take len (drop first trace.now.entries)))) }
+fn push_entries<T: TextEnd>(
+    text: &mut T,
+    trace: &Trace,
+    first: u64,
+    len: u64,
+) -> Result<(), T::Fault>
+    requires places { first + len ≤ length trace.now.entries }
+    requires countable { first + len < 2 ^ 64 }
+    ensures { OnOk result (T.told text.new ≡ more (T.told text.old) (line_end (map entered_field (take len (drop first trace.now.entries))))) }
 {
-    // A trace in memory has fewer entries than that.
-    let Some(end) = first.checked_add(len) else {
-        return Err(AllocError);
-    };
-    for i in first..end {
+    for i in first..first + len {
         push_entry(text, trace.entry(i))?;
     }
-    text.extend_from_slice(b"\n")
+    text.put(b"\n")?;
+    Ok(())
 }
 
 #[tactic(auto, using(report_lines::proofs::Joins::joins))]
-fn push_entry(text: &mut Vec<u8>, entry: Entry) -> Result<(), AllocError>
-    ensures { OnOk result (text.new.items ≡ text.old.items ++ 32 ∷ entered_field entry) }
+fn push_entry<T: TextEnd>(text: &mut T, entry: Entry) -> Result<(), T::Fault>
+    ensures { OnOk result (T.told text.new ≡ more (T.told text.old) (32 ∷ entered_field entry)) }
 {
     match entry {
         Entry::Feed { c, n } => push_pair(text, b" ", c, n),
-        Entry::Ask { .. } => text.extend_from_slice(b" ask"),
+        Entry::Ask { .. } => text.put(b" ask"),
     }
 }
 
 /// The line of an owner that leaves, with what it did.
 #[tactic(auto, using(report_lines::proofs::Joins::joins), unfolding(report_lines::specs::TraceText::mark_line))]
-fn push_leave(text: &mut Vec<u8>, p: u32, rest: u64, act: SynchAct) -> Result<(), AllocError>
-    ensures { OnOk result (text.new.items ≡ text.old.items ++ mark_line (On.Leave p rest act)) }
+fn push_leave<T: TextEnd>(text: &mut T, p: u32, rest: u64, act: SynchAct) -> Result<(), T::Fault>
+    ensures { OnOk result (T.told text.new ≡ more (T.told text.old) (mark_line (On.Leave p rest act))) }
 {
     push_field(text, b"leave ", p)?;
     push_field(text, b" ", rest)?;
@@ -230,17 +302,17 @@ fn push_leave(text: &mut Vec<u8>, p: u32, rest: u64, act: SynchAct) -> Result<()
 
 /// The rest of such a line: what the owner did.
 #[tactic(auto, using(report_lines::proofs::Joins::joins))]
-fn push_act(text: &mut Vec<u8>, act: SynchAct) -> Result<(), AllocError>
-    ensures { OnOk result (text.new.items ≡ text.old.items ++ line_end (act_fields act)) }
+fn push_act<T: TextEnd>(text: &mut T, act: SynchAct) -> Result<(), T::Fault>
+    ensures { OnOk result (T.told text.new ≡ more (T.told text.old) (line_end (act_fields act))) }
 {
     match act {
-        SynchAct::None => text.extend_from_slice(b" none\n"),
+        SynchAct::None => text.put(b" none\n"),
         SynchAct::Call { c, j, k } => {
             push_field(text, b" call ", c)?;
             push_field(text, b" ", j)?;
             push_number(text, b" ", u64::from(k))
         }
-        SynchAct::Away => text.extend_from_slice(b" away\n"),
+        SynchAct::Away => text.put(b" away\n"),
         SynchAct::Out { c } => push_number(text, b" out ", u64::from(c)),
         SynchAct::In { c } => push_number(text, b" in ", u64::from(c)),
     }

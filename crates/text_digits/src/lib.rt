@@ -1,15 +1,20 @@
 //! Numbers and bytes as digits, at the end of a text of bytes.
 //!
 //! Each digit comes from a table by its index, without any format machinery, so that a report may have millions of them. A call fails
-//! only for want of memory, and none that appends digits alone fails where the text has room for them.
+//! only where the text's end does: one that grows in memory for want of it, and none that appends digits alone where there is room.
 #![tactic(auto)]
 
-ghost use Rattle.std.specs.Prelude.{◌≡◌, ◌*◌, ◌+◌, ◌<◌, ◌++◌, OnErr, OnOk, if◌then◌else◌, is_ok, length, vec_capacity, vec_len};
+ghost use Rattle.std.specs.Prelude.{◌≡◌, ℕ, ◌+◌, ◌*◌, ◌≤◌, ◌++◌, IsOk, OnOk, if◌then◌else◌, is_ok, length};
 ghost use Rattle.hex.specs.Hex.{encode_lower};
+ghost use Rattle.text_digits.specs.Told.{more};
 
+mod ends;
+mod pieces;
+
+pub use ends::TextEnd;
 use hex::encode_to_slice;
 use itoa::{Buffer, Integer};
-use std::alloc::AllocError;
+pub use pieces::Pieces;
 
 /// Appends a number in decimal. After an error the text is as it was.
 ///
@@ -20,31 +25,48 @@ use std::alloc::AllocError;
 /// push_field(&mut text, b" port ", 65_535u16)?;
 /// push_hex(&mut text, &[0, 10, 255])?;
 /// ```
-pub fn push_decimal<I: Integer>(text: &mut Vec<u8>, n: I) -> Result<(), AllocError>
-    ensures items { text.new.items ≡ (if is_ok result then text.old.items ++ I.text n else text.old.items) }
-    ensures full { OnErr result (vec_capacity text.old < vec_len text.old + length (I.text n)) }
+pub fn push_decimal<T: TextEnd, I: Integer>(text: &mut T, n: I) -> Result<(), T::Fault>
+    ensures items { T.told text.new ≡ (if is_ok result then more (T.told text.old) (I.text n) else T.told text.old) }
+    ensures succeeds { T.has_room text.old (length (I.text n)) → IsOk result }
 {
-    text.extend_from_slice(Buffer::new().format(n).as_bytes())
+    text.put(Buffer::new().format(n).as_bytes())
 }
 
 /// Appends a word, and behind it a number in decimal. After an error nothing is said of the text.
-pub fn push_field<I: Integer>(text: &mut Vec<u8>, word: &[u8], n: I) -> Result<(), AllocError>
-    ensures { OnOk result (text.new.items ≡ text.old.items ++ (word.now ++ I.text n)) }
+#[tactic(auto, using(crate::proofs::Joins::joins))]
+pub fn push_field<T: TextEnd, I: Integer>(text: &mut T, word: &[u8], n: I) -> Result<(), T::Fault>
+    ensures { OnOk result (T.told text.new ≡ more (T.told text.old) (word.now ++ I.text n)) }
 {
-    text.extend_from_slice(word)?;
+    text.put(word)?;
     push_decimal(text, n)
 }
 
 /// Appends each byte as two hexadecimal digits, in lower case. After an error the text is as it was.
-pub fn push_hex(text: &mut Vec<u8>, bytes: &[u8]) -> Result<(), AllocError>
-    ensures items { text.new.items ≡ (if is_ok result then text.old.items ++ encode_lower bytes.now else text.old.items) }
-    ensures full { OnErr result (vec_capacity text.old < vec_len text.old + 2 * length bytes.now) }
+pub fn push_hex<T: TextEnd>(text: &mut T, bytes: &[u8]) -> Result<(), T::Fault>
+    ensures items { T.told text.new ≡ (if is_ok result then more (T.told text.old) (encode_lower bytes.now) else T.told text.old) }
+    ensures succeeds { T.has_room text.old (2 * length bytes.now) → IsOk result }
 {
-    let from = text.len();
     text.reserve(2 * bytes.len())?;
-    text.resize(from + 2 * bytes.len(), 0)?;
-    match encode_to_slice(bytes, &mut text[from..]) {
-        Ok(()) => Ok(()),
+    let mut digits = [0u8; 128];
+    let mut rest = bytes;
+    while !rest.is_empty() {
+        let (part, behind) = rest.split_at(rest.len().min(64));
+        push_part(text, part, &mut digits)?;
+        rest = behind;
+    }
+    Ok(())
+}
+
+/// Appends the digits of at most 64 bytes, which are made in `digits`.
+fn push_part<T: TextEnd>(text: &mut T, part: &[u8], digits: &mut [u8; 128]) -> Result<(), T::Fault>
+    requires { length part.now ≤ 64 }
+    ensures items { OnOk result (T.told text.new ≡ more (T.told text.old) (encode_lower part.now)) }
+    ensures succeeds { T.has_room text.old (2 * length part.now) → IsOk result }
+    ensures left { (n : ℕ) → T.has_room text.old (2 * length part.now + n) → OnOk result (T.has_room text.new n) }
+{
+    let room = &mut digits[..2 * part.len()];
+    match encode_to_slice(part, room) {
+        Ok(()) => text.put(room),
         Err(_) => unreachable!(),
     }
 }

@@ -12,6 +12,7 @@ use Rattle.report_lines.specs.TraceText.{setup_line}
 use Rattle.trace_lines.specs.Forms.{filled, is_form, blank_count, AreSmall}
 use Rattle.trace_lines.specs.Printed.{IsPrintedSetup, setup_numbers}
 use Rattle.trace_lines.proofs.Filled.{one_way}
+use Rattle.conn_classifier.specs.Rules.{usual}
 
 -- the line with this word as mode
 abbrev text_with : List ℕ → Setup → Bool → List ℕ
@@ -19,19 +20,19 @@ text_with w s verify = line (
     codes "setup" ∷ codes "squeues" ∷ decimal s.squeues ∷ codes "rings" ∷ decimal s.rings ∷ codes "mode" ∷ w
     ∷ codes "budget" ∷ decimal s.budget ∷ codes "spread" ∷ decimal s.spread ∷ codes "verify" ∷ decimal (if verify then 1 else 0) ∷ [])
 
-by_word : (s : Setup) (verify : Bool) (t : List ℕ) (m : Mode) → s.mode ≡ m → setup_line s verify ++ t ≡ text_with (mode_word m) s verify ++ t
+by_word : (s : Setup) (verify : Bool) (t : List ℕ) (m : Mode) → s.mode ≡ m → setup_line s (usual verify) ++ t ≡ text_with (mode_word m) s verify ++ t
 unfolding setup_line
 by_word s verify t m e = ap (λ x. text_with (mode_word x) s verify ++ t) e
 
-pub process_line : (s : Setup) (verify : Bool) (t : List ℕ) → s.mode ≡ Process → setup_line s verify ++ t ≡ filled (codes "setup squeues # rings # mode process budget # spread # verify #\n") (setup_numbers s verify) ++ t
+pub process_line : (s : Setup) (verify : Bool) (t : List ℕ) → s.mode ≡ Process → setup_line s (usual verify) ++ t ≡ filled (codes "setup squeues # rings # mode process budget # spread # verify #\n") (setup_numbers s verify) ++ t
 unfolding mode_word
 process_line s verify t e = by_word s verify t Process e ∙ simp append_assoc
 
-pub no_drain_line : (s : Setup) (verify : Bool) (t : List ℕ) → s.mode ≡ NoDrain → setup_line s verify ++ t ≡ filled (codes "setup squeues # rings # mode nodrain budget # spread # verify #\n") (setup_numbers s verify) ++ t
+pub no_drain_line : (s : Setup) (verify : Bool) (t : List ℕ) → s.mode ≡ NoDrain → setup_line s (usual verify) ++ t ≡ filled (codes "setup squeues # rings # mode nodrain budget # spread # verify #\n") (setup_numbers s verify) ++ t
 unfolding mode_word
 no_drain_line s verify t e = by_word s verify t NoDrain e ∙ simp append_assoc
 
-pub fill_line : (s : Setup) (verify : Bool) (t : List ℕ) → s.mode ≡ Fill → setup_line s verify ++ t ≡ filled (codes "setup squeues # rings # mode fill budget # spread # verify #\n") (setup_numbers s verify) ++ t
+pub fill_line : (s : Setup) (verify : Bool) (t : List ℕ) → s.mode ≡ Fill → setup_line s (usual verify) ++ t ≡ filled (codes "setup squeues # rings # mode fill budget # spread # verify #\n") (setup_numbers s verify) ++ t
 unfolding mode_word
 fill_line s verify t e = by_word s verify t Fill e ∙ simp append_assoc
 
@@ -40,13 +41,13 @@ abbrev pub NoSetup : List ℕ → List ℕ → Type 0
 NoSetup text form = (s : Setup) (verify : Bool) (rest : List ℕ) → IsPrintedSetup s → text ≡ filled form (setup_numbers s verify) ++ rest → ⊥
 
 none_by : (text : List ℕ) → NoSetup text (codes "setup squeues # rings # mode process budget # spread # verify #\n") → NoSetup text (codes "setup squeues # rings # mode nodrain budget # spread # verify #\n")
-    → NoSetup text (codes "setup squeues # rings # mode fill budget # spread # verify #\n") → (m : Mode) (s : Setup) (verify : Bool) (rest : List ℕ) → s.mode ≡ m → IsPrintedSetup s → text ≡ setup_line s verify ++ rest → ⊥
+    → NoSetup text (codes "setup squeues # rings # mode fill budget # spread # verify #\n") → (m : Mode) (s : Setup) (verify : Bool) (rest : List ℕ) → s.mode ≡ m → IsPrintedSetup s → text ≡ setup_line s (usual verify) ++ rest → ⊥
 none_by text a b c Process s verify rest is h e = a s verify rest h (e ∙ process_line s verify rest is)
 none_by text a b c NoDrain s verify rest is h e = b s verify rest h (e ∙ no_drain_line s verify rest is)
 none_by text a b c Fill s verify rest is h e = c s verify rest h (e ∙ fill_line s verify rest is)
 
 pub no_setup : (text : List ℕ) → NoSetup text (codes "setup squeues # rings # mode process budget # spread # verify #\n") → NoSetup text (codes "setup squeues # rings # mode nodrain budget # spread # verify #\n")
-    → NoSetup text (codes "setup squeues # rings # mode fill budget # spread # verify #\n") → (s : Setup) (verify : Bool) (rest : List ℕ) → IsPrintedSetup s → text ≡ setup_line s verify ++ rest → ⊥
+    → NoSetup text (codes "setup squeues # rings # mode fill budget # spread # verify #\n") → (s : Setup) (verify : Bool) (rest : List ℕ) → IsPrintedSetup s → text ≡ setup_line s (usual verify) ++ rest → ⊥
 no_setup text a b c s verify rest h e = none_by text a b c s.mode s verify rest refl h e
 
 pub bit_most : (v : Bool) → (if v then 1 else 0) ≤ 1

@@ -5,6 +5,8 @@ use Rattle.perimeter_core.specs.declared.marks.Mark.{Mark}
 use Rattle.tcb_machine.specs.Limits.{plain_space}
 use Rattle.tcb_machine.specs.declared.kinds.Call.{Call}
 use Rattle.tcb_machine.specs.declared.kinds.Call.TheVariants as Asks
+use Rattle.conn_classifier.specs.Rules.{usual}
+use Rattle.conn_classifier.specs.declared.rules.Rules.{Rules}
 use Rattle.conn_blocks.specs.CallLists.{CallLists, call_count}
 use Rattle.conn_blocks.specs.Limits.{callers, most_calls}
 use Rattle.ring_quotas.specs.Limits.{most_budget}
@@ -52,8 +54,12 @@ pub record Told : Type 0 where
   pub calls : CallLists
   pub marks : List (List Mark)
 
+-- by what the plan was made
+abbrev pub rules_told : Told → Rules
+rules_told t = usual t.verify
+
 abbrev pub told_text : Told → List ℕ
-told_text t = setup_line t.setup t.verify ++ (calls_text t.calls ++ (flat_map squeue_text (enumerate_from 0 t.marks) ++ done_line))
+told_text t = setup_line t.setup (rules_told t) ++ (calls_text t.calls ++ (flat_map squeue_text (enumerate_from 0 t.marks) ++ done_line))
 
 -- all of it is in range, where there are so many connections
 pub record IsTold (conns : ℕ) (t : Told) : Type 0 where

@@ -2,6 +2,7 @@
 
 ghost use Rattle.std.specs.Prelude.{◌≡◌, ℕ, ◌^◌, ◌<◌, ◌≤◌, ◌↔◌, Bool, true, List, ◌++◌, IfOk, IsTrue, MatchOption};
 ghost use Rattle.conn_blocks.specs.CallLists.{CallLists};
+ghost use Rattle.conn_classifier.specs.Rules.{usual};
 ghost use Rattle.report_lines.specs.TraceText.{call_line, calls_text, setup_line};
 ghost use Rattle.tcb_machine.specs.declared.kinds.Call.{Call as CallOf};
 ghost use Rattle.ring_quotas.specs.Limits.{most_budget, most_rings, most_spread, most_squeues};
@@ -29,8 +30,8 @@ use tcb_machine::{Call, PLAIN_SPACE};
 /// ```
 pub fn setup_line(text: &[u8]) -> Option<(Setup, bool, &[u8])>
     ensures { MatchOption result
-        ((s : SetupOf) (verify : Bool) (rest : List ℕ) → IsPrintedSetup s → text.now ≡ setup_line s verify ++ rest → ⊥)
-        (λ r. IsPrintedSetup r.0 × (text.now ≡ setup_line r.0 r.1 ++ r.2.now)) }
+        ((s : SetupOf) (verify : Bool) (rest : List ℕ) → IsPrintedSetup s → text.now ≡ setup_line s (usual verify) ++ rest → ⊥)
+        (λ r. IsPrintedSetup r.0 × (text.now ≡ setup_line r.0 (usual r.1) ++ r.2.now)) }
 {
     let process = b"setup squeues # rings # mode process budget # spread # verify #\n";
     if let Some((setup, verify, rest)) = setup_by(text, Mode::Process, process) {

@@ -1,8 +1,13 @@
-use Rattle.std.proofs.Common.{◌≡◌, ◌++◌, drop}
+use Rattle.std.proofs.Common.{◌≡◌, ◌≤◌, drop, vec_capacity}
+use Rattle.segment_codec.specs.Datagrams.{most_datagram}
+use Rattle.text_digits.specs.Told.{more}
 use Rattle.report_lines.proofs.Blocks.{blocks_text}
 use Rattle.squeue_report.proofs.reporting.push_body.Given as goal
 
 -- what is written, with what is to be written
 abbrev pub invariant-loop-c : goal.invariant-loop-c
-invariant-loop-c l =
-    l.text.items ++ blocks_text l.c (drop l.c l.plan.tuples) (drop l.c l.served.blocks) ≡ l.initial.text.items ++ blocks_text 0 l.plan.tuples l.served.blocks
+invariant-loop-c g l =
+    record {
+      text : more (g.T.TextEnd.told l.text) (blocks_text l.plan l.c (drop l.c l.plan.tuples) (drop l.c l.served.blocks)) ≡ more (g.T.TextEnd.told l.initial.text) (blocks_text l.plan 0 l.plan.tuples l.served.blocks);
+      room : most_datagram ≤ vec_capacity l.datagram;
+    }

@@ -1,8 +1,8 @@
-use Rattle.std.proofs.Common.{map, ◌∙◌}
-use Rattle.report_lines.proofs.Blocks.{reported}
+use Rattle.std.proofs.Common.{ap, ◌++◌, ◌∙◌}
+use Rattle.text_digits.proofs.Joins.{in_memory}
 use Rattle.squeue_report.proofs.reporting.report.Goals as goal
 
 pub returns : goal.returns
 returns c calls served =
-    c.wrap.ensures
-    ∙ reported c.args.plan.now calls (map (λ b. b.order) c.args.served.now.blocks) _ _ _ c.in_ok-text.ensures.items (c.in_ok-push_body.ensures calls served) c.in_ok-extend_from_slice.ensures.items
+    let h = c.in_ok-push_report.ensures in
+    c.wrap.ensures ∙ in_memory _ _ _ h.told ∙ ap (λ l. l ++ h.text) c.new-text.ensures.items ∙ h.is calls served

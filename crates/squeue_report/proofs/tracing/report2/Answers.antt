@@ -1,27 +1,8 @@
-use Rattle.std.proofs.Common.{◌≤◌, length, map, ap, ◌∙◌, arith}
-use Rattle.std.specs.Option.{option_map}
-use Rattle.std.proofs.lemmas.List.{length-map}
-use Rattle.std.proofs.lemmas.Option.{slice_get-map}
-use Rattle.squeue_state.specs.Told.{marks_of}
-use Rattle.report_lines.specs.TraceText.{squeue_text}
-use Rattle.report_lines.proofs.Blocks.{traced}
-use Rattle.report_lines.proofs.Lines.{line_more}
-use Rattle.squeue_report.proofs.Marked.{numbered, numbered_all}
+use Rattle.std.proofs.Common.{ap, ◌++◌, ◌∙◌}
+use Rattle.text_digits.proofs.Joins.{in_memory}
 use Rattle.squeue_report.proofs.tracing.report2.Goals as goal
-
-pub loop-q-preserved : goal.loop-q-preserved
-loop-q-preserved c =
-    let traces = c.args.served.now.traces in
-    let q = c.loop-q.q in
-    let trace = c.trace.result.now in
-    let there = slice_get-map marks_of traces q ∙ ap (option_map marks_of) c.trace.ensures in
-    line_more squeue_text _ _ _ _ q (q, marks_of trace) c.loop-q.invariant (numbered (map marks_of traces) 0 q q (marks_of trace) (omega arith) there) c.in_ok-push_squeue.ensures
 
 pub returns : goal.returns
 returns c served =
-    let traces = c.args.served.now.traces in
-    let past : length (map marks_of traces) ≤ c.loop-q.q = omega (arith, length-map traces marks_of, c.requires.traces, c.loop-q-test.false) in
-    c.wrap.ensures
-    ∙ traced c.args.plan.now c.args.calls.now c.args.setup.now c.args.verify (map (λ b. b.order) c.args.served.now.blocks) (map marks_of traces) _ _ _ _ _ _ c.in_ok-text.ensures.items
-    (c.in_ok-push_body.ensures c.args.calls.now served) c.in_ok-push_setup.ensures c.in_ok-push_calls.ensures
-    (numbered_all squeue_text (map marks_of traces) _ _ c.loop-q.q past c.loop-q.invariant) c.in_ok-extend_from_slice.ensures.items
+    let h = c.in_ok-push_report2.ensures in
+    c.wrap.ensures ∙ in_memory _ _ _ h.told ∙ ap (λ l. l ++ h.text) c.new-text.ensures.items ∙ h.is served

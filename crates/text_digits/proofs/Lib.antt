@@ -1,0 +1,3 @@
+pub mod Joins
+mod Digits
+mod Written
