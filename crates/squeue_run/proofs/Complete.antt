@@ -5,26 +5,18 @@ use Rattle.sq_base.specs.declared.kinds.Status.{Status}
 use Rattle.sq_base.specs.declared.kinds.Status.TheVariants as status
 use Rattle.capture_reader.specs.Outcome.{CaptureFile}
 use Rattle.capture_reader.specs.declared.fault.CaptureFault.TheVariants as fault
-use Rattle.capture_reader.proofs.Taken.{not_too_many, whole_is}
+use Rattle.capture_reader.proofs.Taken.{not_too_many}
+use Rattle.shell.proofs.ReadOnce.{not_refused, read_once}
 use Rattle.pcapng_reader.specs.declared.fault.PcapngFault.TheVariants as pcapng
-use Rattle.pcapng_reader.specs.Input.{IsInput, IsRefusedCapture, IsRefusedPcapng}
-use Rattle.pcapng_reader.proofs.Inputs.{input_small, refused_not, refused_not_ng, same_input}
-use Rattle.squeue_run.specs.Input.{ReadsSuch}
+use Rattle.pcapng_reader.specs.Input.{IsRefusedCapture, IsRefusedPcapng}
+use Rattle.pcapng_reader.proofs.Inputs.{input_small, refused_not, refused_not_ng}
+use Rattle.shell.specs.Reading.{HasRead, IsDone}
 use Rattle.ring_threads.specs.Served.{ServedOf}
 use Rattle.squeue_run.specs.Asked.{Asked}
 use Rattle.squeue_run.specs.CallWords.{AllThere, IsFirstMissing}
 use Rattle.squeue_run.specs.Limits.{most_marks}
-use Rattle.squeue_run.specs.Ran.{Accepts, AcceptsBy, HasRead, HoldsCapture, HasRan, IsDone, IsLongTrace, IsServable, RanBy, RanFor, RanGenerated, RanRead, Reads, conns_of, marks_in}
+use Rattle.squeue_run.specs.Ran.{Accepts, AcceptsBy, HoldsCapture, HasRan, IsLongTrace, IsServable, RanBy, RanFor, RanGenerated, RanRead, conns_of, marks_in}
 use Rattle.squeue_run.specs.declared.calls.CallWord.{CallWord}
-
--- the capture that was read is the one that was there
-read_once : (file found : CaptureFile) (source : End) → source.was ≡ Some file.bytes → IsInput file → Reads source found → found ≡ file
-read_once file found source there capture r =
-    let bytes : found.bytes ≡ file.bytes = whole_is file.bytes found.bytes source.was source.is there r.read in
-    same_input file found bytes capture r.capture
-
-not_refused : (Such : List ℕ → Type 0) (file : CaptureFile) (source : End) → source.was ≡ Some file.bytes → (Such file.bytes → ⊥) → ReadsSuch Such source.was source.is → ⊥
-not_refused Such file source there not r = not (subst Such (whole_is file.bytes r.0 source.was source.is there r.1) r.2)
 
 not_missing : (n c : ℕ) (ws : List CallWord) → AllThere n ws → IsFirstMissing n c ws → ⊥
 not_missing n c [] a m = m
@@ -54,8 +46,8 @@ read_done a source out err back status.TooLarge can nr nw (r, inr (inr (inr h)))
     not_long can.file a h.2.0 can.servable (subst Long (read_once can.file h.0 source can.bytes can.capture h.1) h.2.1)
 read_done a source out err back status.TooLarge can nr nw (r, inr (inr (inl h))) = not_refused (IsRefusedPcapng pcapng.TooManyRecords) can.file source can.bytes (refused_not_ng can.file pcapng.TooManyRecords can.capture) h.0
 read_done a source out err back status.NoConnection can nr nw h =
-    let Named : CaptureFile → Type 0 = λ f. IsFirstMissing (conns_of f a.verify) h.1.2.0 a.calls in
-    not_missing (conns_of can.file a.verify) h.1.2.0 a.calls can.servable.there (subst Named (read_once can.file h.1.0 source can.bytes can.capture h.1.1) h.1.2.1)
+    let Named : CaptureFile → Type 0 = λ f. IsFirstMissing (conns_of f a) h.1.2.0 a.calls in
+    not_missing (conns_of can.file a) h.1.2.0 a.calls can.servable.there (subst Named (read_once can.file h.1.0 source can.bytes can.capture h.1.1) h.1.2.1)
 
 generated_done : (n : ℕ) (a : Asked) (out err : End) (back : Option ServedOf) (s : Status) → (Rose out.faults_were out.faults_are → ⊥) → RanGenerated n a out err back s → IsDone s
 generated_done n a out err back status.Ok nw h = tt

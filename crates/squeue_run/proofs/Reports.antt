@@ -7,7 +7,7 @@ use Rattle.std.proofs.lemmas.Option.{slice_get-get_or}
 use Rattle.perimeter_core.specs.declared.entries.Act.{Act}
 use Rattle.perimeter_core.specs.declared.entries.Act.TheVariants as act
 use Rattle.capture_reader.specs.Outcome.{CaptureFile}
-use Rattle.conn_classifier.specs.Plan.{PlanOf, plan_of}
+use Rattle.conn_classifier.specs.Plan.{PlanOf, plan_by, plan_of}
 use Rattle.conn_classifier.specs.declared.kinds.Item.{Item}
 use Rattle.conn_blocks.specs.CallLists.{CallLists}
 use Rattle.perimeter_core.specs.declared.marks.Mark.{Mark}
@@ -23,9 +23,9 @@ use Rattle.conn_blocks.specs.ServedBlocks.{AreServed}
 use Rattle.report_lines.specs.ReportText.{report_text}
 use Rattle.squeue_report.specs.SummaryText.{summary_text}
 use Rattle.report_lines.specs.TraceText.{trace_text}
-use Rattle.squeue_run.specs.Asked.{Asked}
+use Rattle.squeue_run.specs.Asked.{Asked, rules_of}
 use Rattle.squeue_run.specs.CallWords.{AllThere, lists_of}
-use Rattle.squeue_run.specs.Output.{AreOrders, IsGenerated, IsReport, IsSummary, histories_of, items_alone, told_of}
+use Rattle.squeue_run.specs.Output.{plan_for, AreOrders, IsGenerated, IsReport, IsSummary, histories_of, items_alone, told_of}
 use Rattle.squeue_run.specs.Ran.{conns_of, marks_in}
 use Rattle.squeue_run.specs.declared.calls.CallWord.{CallWord}
 
@@ -50,7 +50,7 @@ no_call c (suc (suc (suc (suc j)))) = refl
 
 -- each connection has its items
 listed : (file : CaptureFile) (verify : Bool) → length (plan_of file verify).items ≡ length (plan_of file verify).tuples
-unfolding plan_of
+unfolding plan_by
 listed file verify = length-map _ _
 
 alone : (file : CaptureFile) (verify : Bool) (orders : List (List Act)) → AreOrders (plan_of file verify) (lists_of []) orders → orders ≡ items_alone (plan_of file verify)
@@ -75,13 +75,13 @@ module _ (marks : Ending → List Mark) where
 
 -- the report with what the traces hold is that with the marks of the histories
 told : (p : PlanOf) (calls : CallLists) (a : Asked) (v : ServedOf) → HasServed p calls a.setup v
-    → (if a.setup.trace then trace_text p calls a.setup a.verify (orders_of v) (map marks_of v.traces) else report_text p calls (orders_of v)) ≡ told_of p calls a v
+    → (if a.setup.trace then trace_text p calls a.setup (rules_of a) (orders_of v) (map marks_of v.traces) else report_text p calls (orders_of v)) ≡ told_of p calls a v
 told p calls a v h = by a.setup.trace h.traced
   where
     by : (b : Bool) → Tell (λ e. map (λ m. m.mark) e.history) b v.ended v.traces
-        → (if b then trace_text p calls a.setup a.verify (orders_of v) (map marks_of v.traces) else report_text p calls (orders_of v))
-        ≡ (if b then trace_text p calls a.setup a.verify (orders_of v) (histories_of v) else report_text p calls (orders_of v))
-    by true t = ap (trace_text p calls a.setup a.verify (orders_of v)) (traced (λ e. map (λ m. m.mark) e.history) v.ended v.traces h.traces t)
+        → (if b then trace_text p calls a.setup (rules_of a) (orders_of v) (map marks_of v.traces) else report_text p calls (orders_of v))
+        ≡ (if b then trace_text p calls a.setup (rules_of a) (orders_of v) (histories_of v) else report_text p calls (orders_of v))
+    by true t = ap (trace_text p calls a.setup (rules_of a) (orders_of v)) (traced (λ e. map (λ m. m.mark) e.history) v.ended v.traces h.traces t)
     by false t = refl
 
 -- the plan is that of the capture, and the calls are those of the words
@@ -94,7 +94,7 @@ at_home s v p q calls others same equal h =
 pub is_report : (file : CaptureFile) (a : Asked) (p : PlanOf) (calls : CallLists) (v : ServedOf) (text : List ℕ)
     → p ≡ plan_of file a.verify → calls ≡ lists_of a.calls → HasServed p calls a.setup v
     → (AreServed p calls v.blocks
-    → text ≡ (if a.setup.trace then trace_text p calls a.setup a.verify (orders_of v) (map marks_of v.traces) else report_text p calls (orders_of v)))
+    → text ≡ (if a.setup.trace then trace_text p calls a.setup (rules_of a) (orders_of v) (map marks_of v.traces) else report_text p calls (orders_of v)))
     → IsReport file a v text
 is_report file a p calls v text same equal h says =
     let q = plan_of file a.verify in
@@ -127,12 +127,12 @@ is_summary number file a p calls v input text generated same equal bytes h says 
     }
 
 -- each CALL that was looked up has its connection
-pub all_there : (file : CaptureFile) (verify : Bool) (p : PlanOf) (n : ℕ) (vs ws : List CallWord) → p ≡ plan_of file verify → n ≡ length p.tuples → vs ≡ ws
-    → AllThere n vs → AllThere (conns_of file verify) ws
-all_there file verify p n vs ws same count equal a =
+pub all_there : (file : CaptureFile) (a : Asked) (p : PlanOf) (n : ℕ) (vs ws : List CallWord) → p ≡ plan_for file a → n ≡ length p.tuples → vs ≡ ws
+    → AllThere n vs → AllThere (conns_of file a) ws
+all_there file a p n vs ws same count equal all =
     let At : ℕ → Type 0 = λ k. AllThere k vs in
-    let Of : List CallWord → Type 0 = λ us. AllThere (conns_of file verify) us in
-    subst Of equal (subst At (count ∙ ap (λ q. length q.tuples) same) a)
+    let Of : List CallWord → Type 0 = λ us. AllThere (conns_of file a) us in
+    subst Of equal (subst At (count ∙ ap (λ q. length q.tuples) same) all)
 
 -- the marks are those of the capture and of the words
 pub marks_are : (file : CaptureFile) (a : Asked) (p : PlanOf) (calls : CallLists) → p ≡ plan_of file a.verify → calls ≡ lists_of a.calls → marks_most p calls a.setup ≡ marks_in file a

@@ -1,5 +1,5 @@
 -- How a run ends, from what its steps say.
-use Rattle.std.proofs.Common.{◌≡◌, ℕ, List, [], Option, Some, None, inl, inr, subst, sym, ap, refl, arith, Bool, true, false}
+use Rattle.std.proofs.Common.{◌≡◌, ℕ, List, [], Option, Some, None, inl, inr, subst, sym, refl, arith}
 use Rattle.std.specs.Io.KnownBytes.{Appends}
 use Rattle.std.proofs.KnownBytes.{Consumes-kept, Consumes-nil}
 use Rattle.sq_base.specs.Ends.{Rose, AppendsProperly, End, IsUntouched, MetNoFault}
@@ -7,20 +7,24 @@ use Rattle.sq_base.specs.declared.kinds.Status.{Status}
 use Rattle.sq_base.specs.declared.kinds.Status.TheVariants as status
 use Rattle.capture_reader.specs.declared.fault.CaptureFault.{CaptureFault}
 use Rattle.capture_reader.specs.declared.fault.CaptureFault.TheVariants as fault
-use Rattle.pcapng_reader.specs.declared.fault.PcapngFault.{PcapngFault}
 use Rattle.pcapng_reader.specs.declared.fault.PcapngFault.TheVariants as pcapng
 use Rattle.ring_threads.specs.Served.{ServedOf}
 use Rattle.squeue_run.specs.Asked.{Asked}
 use Rattle.squeue_run.specs.CallWords.{IsFirstMissing}
 use Rattle.squeue_run.specs.declared.refusal.Refusal.{Refusal}
 use Rattle.squeue_run.specs.declared.refusal.Refusal.TheVariants as refusal
-use Rattle.squeue_run.specs.Lines.{sqrun, memory_line, write_line, bad_line, many_marks_line, pcapng_line, missing_line}
-use Rattle.squeue_run.specs.Ran.{HandsBack, HasRan, RanBy, RanFor, RanGenerated, RanRead, RanRefused, HasRead, TakesFew}
-use Rattle.squeue_run.specs.Causes.{CountsFaults, Fails, FailsBy, GeneratedFails, Gives, GivesBy, LineOrMemory, ReadingFails, RefusedWords, Told}
-use Rattle.report_lines.specs.Telling.{TellsLine}
+use Rattle.shell.specs.Lines.{memory_line, write_line, bad_line, pcapng_line}
+use Rattle.shell.specs.Reading.{HasRead, TakesFew}
+use Rattle.shell.specs.Refusals.{LineOrMemory}
+use Rattle.shell.specs.Telling.{TellsLine}
+use Rattle.shell.proofs.Faults.{no_memory_told}
+use Rattle.squeue_run.specs.Lines.{many_marks_line, missing_line}
+use Rattle.squeue_run.specs.Words.{sqrun}
+use Rattle.squeue_run.specs.Ran.{HandsBack, HasRan, RanBy, RanFor, RanGenerated, RanRead, RanRefused}
+use Rattle.squeue_run.specs.Causes.{CountsFaults, Fails, FailsBy, GeneratedFails, Gives, GivesBy, ReadingFails, RefusedWords, Told}
 
 line_or_memory : (P : Status → Type 0) (wanted : Status) (text : List ℕ) (err : End) (s : Status)
-    → (TellsLine err text → P wanted) → (TellsLine err (memory_line sqrun) → P status.NoMemory) → LineOrMemory wanted text err s → P s
+    → (TellsLine err text → P wanted) → (TellsLine err (memory_line sqrun) → P status.NoMemory) → LineOrMemory sqrun wanted text err s → P s
 line_or_memory P wanted text err s line memory (inl t) = subst P (sym t.0) (line t.1)
 line_or_memory P wanted text err s line memory (inr t) = subst P (sym t.0) (memory t.1)
 
@@ -42,14 +46,6 @@ not_generated n a (refusal.Capture f) out err s u h t =
 not_generated n a (refusal.Pcapng f) out err s u h t = absurd h
 not_generated n a (refusal.NoConnection c k) out err s u h t = absurd h
 not_generated n a (refusal.LongTrace k) out err s u h t = absurd h
-
--- memory isn't missing where another fault is told
-abbrev is_memory : PcapngFault → Bool
-is_memory pcapng.NoMemory = true
-is_memory _ = false
-
-pub no_memory_told : (f : PcapngFault) → is_memory f ≡ false → f ≡ pcapng.NoMemory → ⊥
-no_memory_told f other e = let is : is_memory f ≡ true = ap is_memory e in cc
 
 not_read : (a : Asked) (why : Refusal) (source out err : End) (s : Status) → IsUntouched out → ReadingFails a source why → Told why err s → RanRead a source out err None s
 not_read a refusal.NoMemory source out err s u h t = subst (RanRead a source out err None) (sym t.0) (u, t.1)
@@ -114,7 +110,7 @@ not_read a (refusal.LongTrace n) source out err s u h t =
     line_or_memory (RanRead a source out err None) status.TooLarge (many_marks_line n) err s
     (λ g. inr (inr (inr (h.0, h.1, (n, h.2, (u, g)))))) (λ g. (u, g)) t
 
-by_line : (source err : End) (wanted s : Status) (text : List ℕ) → HasRead source wanted → HasRead source status.NoMemory → LineOrMemory wanted text err s → HasRead source s
+by_line : (source err : End) (wanted s : Status) (text : List ℕ) → HasRead source wanted → HasRead source status.NoMemory → LineOrMemory sqrun wanted text err s → HasRead source s
 by_line source err wanted s text h m t = line_or_memory (HasRead source) wanted text err s (λ g. h) (λ g. m) t
 
 has_read : (source err : End) (why : Refusal) (s : Status) → CountsFaults source why → TakesFew source → Told why err s → HasRead source s

@@ -1,18 +1,22 @@
 -- The CALLs of accepted words: at most 1,024, of the four threads; and their lists, one CALL further.
 use Rattle.std.proofs.Common.{◌≡◌, ℕ, ◌<◌, ◌≤◌, ◌==◌, Bool, true, false, List, [], ◌∷◌, ◌++◌, suc, length, map, filter, zero, get_or, set, Some, refl, sym, ap, subst, ◌∙◌, arith, if◌then◌else◌, append-nil, eq-eqb, ◌⊎◌, inl, inr}
 use Rattle.std.specs.List.{AllByRecursion}
-use Rattle.std.proofs.lemmas.Bool.{and_parts, cases_lt, eqb-true, leb-true}
+use Rattle.std.proofs.lemmas.Bool.{cases_lt, eqb-true, leb-true}
 use Rattle.std.proofs.lemmas.List.{map-append}
 use Rattle.std.proofs.lemmas.List.Elements.{filter-append}
 use Rattle.tcb_machine.specs.declared.kinds.Call.{Call}
 use Rattle.conn_blocks.specs.CallLists.{calls_of as list_of, call_count}
 use Rattle.conn_blocks.specs.Limits.{callers, most_calls}
 use Rattle.squeue_state.proofs.Finish.{some_is}
-use Rattle.squeue_run.specs.Words.{Text, given}
-use Rattle.squeue_run.specs.Asked.{Asked, asked, asked_by, calls_of, call_of, call_by, asked_of, number_between, go_together, input_of, setup_of, split_at}
+use Rattle.squeue_run.specs.Words.{Text}
+use Rattle.squeue_run.specs.Asked.{Asked, asked, call_of, call_by, asked_of, split_at}
 use Rattle.squeue_run.specs.CallWords.{lists_of}
 use Rattle.squeue_run.specs.declared.calls.CallWord.{CallWord}
-use Rattle.squeue_run.proofs.Chains.{chained, mapped, guarded, number_within}
+use Rattle.shell.proofs.Chains.{chained, mapped, guarded, number_within}
+use Rattle.shell.specs.Asked.{calls_of}
+use Rattle.shell.specs.Numbers.{number_between}
+use Rattle.shell.specs.Words.{calls_in}
+use Rattle.squeue_run.proofs.InRange.{parts_of}
 
 call_thread : (thread connection what : Text) (w : CallWord) → call_by thread connection what ≡ Some w → w.thread < callers
 call_thread thread connection what w e =
@@ -34,11 +38,11 @@ pub record FewCalls (texts : List Text) (ws : List CallWord) : Type 0 where
   pub count : length ws ≡ length texts
   pub threads : AllByRecursion (λ w. w.thread < callers) ws
 
-few_calls : (texts : List Text) (ws : List CallWord) → calls_of texts ≡ Some ws → FewCalls texts ws
+few_calls : (texts : List Text) (ws : List CallWord) → calls_of call_of texts ≡ Some ws → FewCalls texts ws
 few_calls [] ws e = subst (FewCalls []) (some_is e) (record { count = refl; threads = tt })
 few_calls (t ∷ ts) ws e =
     let one = chained _ (call_of t) ws e in
-    let more = mapped _ (calls_of ts) ws one.gives in
+    let more = mapped _ (calls_of call_of ts) ws one.gives in
     let rest = few_calls ts more.value more.found in
     subst (FewCalls (t ∷ ts)) more.gives (record { count = ap suc rest.count; threads = (word_thread t one.value one.found, rest.threads) })
 
@@ -48,15 +52,10 @@ pub record Few (ws : List CallWord) : Type 0 where
 
 pub few_asked : (words : List Text) (a : Asked) → asked words ≡ Some a → Few a.calls
 few_asked words a e =
-    let g = chained asked_by (given words) a e in
-    let s = chained _ (setup_of g.value) a g.gives in
-    let n = chained _ (input_of g.value.number) a s.gives in
-    let c = guarded (go_together n.value s.value.trace g.value.calls) _ a n.gives in
-    let m = mapped _ (calls_of g.value.calls) a c.1 in
-    let few = few_calls g.value.calls m.value m.found in
-    let same : m.value ≡ a.calls = ap (λ (b : Asked). b.calls) m.gives in
-    let most = leb-true (length g.value.calls) most_calls ((and_parts _ _ c.0).0) in
-    subst Few same (record { count = omega (arith, few.count, most); threads = few.threads })
+    let p = parts_of words a e in
+    let few = few_calls (calls_in p.uses) p.given.calls p.calls_are in
+    let most = leb-true (length (calls_in p.uses)) most_calls p.few in
+    subst Few p.same_calls (record { count = omega (arith, few.count, most); threads = few.threads })
 
 -- a filter of one element
 alone : {X : Type 0} (f : X → Bool) (x : X) → filter f (x ∷ []) ≡ (if f x then x ∷ [] else [])

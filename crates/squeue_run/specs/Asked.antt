@@ -1,40 +1,22 @@
--- What the texts of accepted words ask for: numbers, the mode, CALLs; and that each is in range.
-use Rattle.std.specs.Prelude.{ℕ, ◌-◌, ◌==◌, ◌&&◌, ◌||◌, not, nat_le, nat_lt, Bool, if◌then◌else◌, codes}
-use Rattle.std.specs.Prelude.{List, [], ◌∷◌, length, Option, None, Some, is_some, option_map, option_and_then}
-use Rattle.std.specs.List.{list_all, list_any, before_first, after_first}
+-- What the words of `sqrun` ask for: the setup, the number of a generated input, and CALLs.
+use Rattle.std.specs.Prelude.{ℕ, ◌-◌, ◌==◌, ◌&&◌, ◌||◌, not, nat_lt, Bool, if◌then◌else◌, codes}
+use Rattle.std.specs.Prelude.{List, length, Option, None, Some, is_some, option_map, option_and_then}
+use Rattle.std.specs.List.{list_any, before_first, after_first}
 use Rattle.std.specs.Str.{bytes_eq}
-use Rattle.std.specs.Char.{is_ascii_digit}
-use Rattle.std.specs.Str.Parse.{digits_value}
-use Rattle.squeue_run.specs.Words.{Text, Given, given}
-use Rattle.conn_blocks.specs.Limits.{callers, most_calls}
-use Rattle.ring_quotas.specs.Limits.{most_budget, most_rings, most_spread, most_squeues}
+use Rattle.shell.specs.Asked.{AskedOf, GivenOf, is_set, number_for, text_for}
+use Rattle.shell.specs.Asked as shell
+use Rattle.shell.specs.Numbers.{number_between}
+use Rattle.squeue_run.specs.Words.{Text, sqrun_table}
+use Rattle.conn_blocks.specs.Limits.{callers}
 use Rattle.ring_quotas.specs.declared.setup.Setup.{Setup}
 use Rattle.histories.specs.declared.mode.Mode.{Mode}
-use Rattle.histories.specs.declared.mode.Mode.TheVariants as mode
 use Rattle.histories.specs.ModeWords.{mode_of}
 use Rattle.tcb_machine.specs.Limits.{plain_space}
 use Rattle.tcb_machine.specs.declared.kinds.Call.{Call}
 use Rattle.tcb_machine.specs.declared.kinds.Call.TheVariants as call
 use Rattle.squeue_run.specs.declared.calls.CallWord.{CallWord}
-
--- one to ten digits
-abbrev pub is_number : Text → Bool
-is_number text = nat_le 1 (length text) && (nat_le (length text) 10 && list_all is_ascii_digit text)
-
--- the number that they write, where it is in range
-abbrev pub number_between : ℕ → ℕ → Text → Option ℕ
-number_between least most text =
-    if is_number text && (nat_le least (digits_value 10 text) && nat_le (digits_value 10 text) most) then Some (digits_value 10 text) else None
-
--- an option's number, or its default where the option isn't given
-abbrev pub number_or : ℕ → ℕ → ℕ → Option Text → Option ℕ
-number_or default least most None = Some default
-number_or default least most (Some text) = number_between least most text
-
--- the mode that a text names, or the default where none is given
-abbrev pub mode_or_process : Option Text → Option Mode
-mode_or_process None = Some mode.Process
-mode_or_process (Some text) = mode_of text
+use Rattle.conn_classifier.specs.Rules.{usual}
+use Rattle.conn_classifier.specs.declared.rules.Rules.{Rules}
 
 -- the parts of a text before and behind the first of this byte
 abbrev pub split_at : ℕ → Text → Option (Text × Text)
@@ -61,28 +43,20 @@ call_by thread connection asked =
 abbrev pub call_of : Text → Option CallWord
 call_of text = option_and_then (λ first. option_and_then (λ second. call_by first.0 second.0 second.1) (split_at 58 first.1)) (split_at 58 text)
 
-abbrev pub calls_of : List Text → Option (List CallWord)
-calls_of [] = Some []
-calls_of (text ∷ more) = option_and_then (λ one. option_map (λ others. one ∷ others) (calls_of more)) (call_of text)
-
-abbrev pub setup_by : Option Text → Option Text → Option Text → Option Text → Option Text → Bool → Option Setup
+-- the setup that the options name
+abbrev pub setup_by : Option ℕ → Option ℕ → Option Mode → Option ℕ → Option ℕ → Bool → Option Setup
 setup_by squeues rings mode budget spread trace =
     option_and_then (λ q. option_and_then (λ r. option_and_then (λ m. option_and_then (λ b. option_map (λ s.
-    record { squeues = q; rings = r; mode = m; budget = b; spread = s; trace = trace })
-    (number_or 0 0 most_spread spread)) (number_or 64 1 most_budget budget)) (mode_or_process mode)) (number_or 1 1 most_rings rings))
-    (number_or 1 1 most_squeues squeues)
+    record { squeues = q; rings = r; mode = m; budget = b; spread = s; trace = trace }) spread) budget) mode) rings) squeues
 
-abbrev pub setup_of : Given → Option Setup
-setup_of g = setup_by g.squeues g.rings g.mode g.budget g.spread g.trace
+abbrev pub setup_of : List GivenOf → Option Setup
+setup_of gs =
+    setup_by (number_for (codes "squeues") gs) (number_for (codes "rings") gs) (option_and_then mode_of (text_for (codes "mode") gs))
+    (number_for (codes "budget") gs) (number_for (codes "spread") gs) (is_set (codes "trace") gs)
 
--- the number of a generated input, where one is given
-abbrev pub input_of : Option Text → Option (Option ℕ)
-input_of None = Some None
-input_of (Some text) = option_map (λ n. Some n) (number_between 0 4294967295 text)
-
--- at most 1,024 CALLs; and beside a generated input none, and no trace
-abbrev pub go_together : Option ℕ → Bool → List Text → Bool
-go_together input trace calls = nat_le (length calls) most_calls && not (is_some input && (trace || nat_lt 0 (length calls)))
+-- beside a generated input no CALL, and no trace
+abbrev pub go_together : Option ℕ → Bool → ℕ → Bool
+go_together number trace calls = not (is_some number && (trace || nat_lt 0 calls))
 
 -- what accepted words ask for: the CALLs are in word order
 pub record Asked : Type 0 where
@@ -91,12 +65,19 @@ pub record Asked : Type 0 where
   pub number : Option ℕ
   pub calls : List CallWord
 
-abbrev pub asked_by : Given → Option Asked
-asked_by g =
-    option_and_then (λ setup. option_and_then (λ number. if go_together number setup.trace g.calls
-    then option_map (λ calls. record { setup = setup; verify = g.verify; number = number; calls = calls }) (calls_of g.calls)
-    else None) (input_of g.number)) (setup_of g)
+-- by what the plan is made
+abbrev pub rules_of : Asked → Rules
+rules_of a = usual a.verify
+
+abbrev pub asked_with : AskedOf CallWord → Option ℕ → Setup → Option Asked
+asked_with a number setup =
+    if go_together number setup.trace (length a.calls)
+    then Some (record { setup = setup; verify = is_set (codes "verify") a.givens; number = number; calls = a.calls })
+    else None
+
+abbrev pub asked_by : AskedOf CallWord → Option Asked
+asked_by a = option_and_then (asked_with a (number_for (codes "gen") a.givens)) (setup_of a.givens)
 
 -- what the words ask for, where they aren't refused
 abbrev pub asked : List Text → Option Asked
-asked words = option_and_then asked_by (given words)
+asked words = option_and_then asked_by (shell.asked call_of sqrun_table words)

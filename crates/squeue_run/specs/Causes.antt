@@ -12,43 +12,24 @@ use Rattle.squeue_run.specs.CallWords.{IsFirstMissing}
 use Rattle.squeue_run.specs.declared.reading.Words.{Words}
 use Rattle.squeue_run.specs.declared.refusal.Refusal.{Refusal}
 use Rattle.squeue_run.specs.declared.refusal.Refusal.TheVariants as refusal
-use Rattle.squeue_run.specs.Lines.{sqrun, usage_line, memory_line, read_line, bad_line, pcapng_line, many_bytes_line}
-use Rattle.squeue_run.specs.Lines.{many_records_line, many_marks_line, missing_line}
-use Rattle.squeue_run.specs.Input.{ReadsSuch}
+use Rattle.squeue_run.specs.Lines.{usage_line, many_marks_line, missing_line}
+use Rattle.squeue_run.specs.Words.{sqrun}
+use Rattle.shell.specs.Lines.{memory_line}
+use Rattle.shell.specs.Reading.{Reads, ReadsSuch, TakesFew}
+use Rattle.shell.specs.Refusals.{CaptureTold, LineOrMemory, PcapngTold}
 use Rattle.pcapng_reader.specs.Input.{IsRefusedCapture, IsRefusedPcapng}
 use Rattle.squeue_run.specs.Output.{IsReport, IsSummary}
-use Rattle.squeue_run.specs.Ran.{IsLongTrace, IsServable, Reads, TakesFew, conns_of}
-use Rattle.report_lines.specs.Telling.{TellsLine}
+use Rattle.squeue_run.specs.Ran.{IsLongTrace, IsServable, conns_of}
+use Rattle.shell.specs.Telling.{TellsLine}
 
--- the line and the status of a refusal; where memory for the line is missing, that is the refusal
-abbrev pub LineOrMemory : Status → List ℕ → End → Status → Type 0
-LineOrMemory wanted text err s = ((s ≡ wanted) × TellsLine err text) ⊎ ((s ≡ status.NoMemory) × TellsLine err (memory_line sqrun))
-
+-- the line and the status of a refusal
 abbrev pub Told : Refusal → End → Status → Type 0
 Told refusal.NoMemory err s = (s ≡ status.NoMemory) × TellsLine err (memory_line sqrun)
 Told refusal.Usage err s = (s ≡ status.Usage) × TellsLine err usage_line
-Told (refusal.Capture fault.NoMemory) err s = (s ≡ status.NoMemory) × TellsLine err (memory_line sqrun)
-Told (refusal.Capture fault.Read) err s = (s ≡ status.ReadFault) × TellsLine err (read_line sqrun)
-Told (refusal.Capture (fault.TooLarge n)) err s = (s ≡ status.TooLarge) × TellsLine err (many_bytes_line sqrun)
-Told (refusal.Capture fault.TooManyRecords) err s = (s ≡ status.TooLarge) × TellsLine err (many_records_line sqrun)
-Told (refusal.Capture (fault.ShortHeader n)) err s = LineOrMemory status.BadCapture (bad_line sqrun (fault.ShortHeader n)) err s
-Told (refusal.Capture (fault.Magic magic)) err s = LineOrMemory status.BadCapture (bad_line sqrun (fault.Magic magic)) err s
-Told (refusal.Capture (fault.Version major minor)) err s = LineOrMemory status.BadCapture (bad_line sqrun (fault.Version major minor)) err s
-Told (refusal.Capture (fault.Link n)) err s = LineOrMemory status.BadCapture (bad_line sqrun (fault.Link n)) err s
-Told (refusal.Capture (fault.RecordLength index len)) err s = LineOrMemory status.BadCapture (bad_line sqrun (fault.RecordLength index len)) err s
-Told (refusal.Pcapng pcapng.NoMemory) err s = (s ≡ status.NoMemory) × TellsLine err (memory_line sqrun)
-Told (refusal.Pcapng pcapng.TooManyRecords) err s = (s ≡ status.TooLarge) × TellsLine err (many_records_line sqrun)
-Told (refusal.Pcapng (pcapng.ShortSection n)) err s = LineOrMemory status.BadCapture (pcapng_line sqrun (pcapng.ShortSection n)) err s
-Told (refusal.Pcapng (pcapng.Magic i found)) err s = LineOrMemory status.BadCapture (pcapng_line sqrun (pcapng.Magic i found)) err s
-Told (refusal.Pcapng (pcapng.BlockLength i n)) err s = LineOrMemory status.BadCapture (pcapng_line sqrun (pcapng.BlockLength i n)) err s
-Told (refusal.Pcapng (pcapng.EndLength i n)) err s = LineOrMemory status.BadCapture (pcapng_line sqrun (pcapng.EndLength i n)) err s
-Told (refusal.Pcapng (pcapng.Version i major minor)) err s = LineOrMemory status.BadCapture (pcapng_line sqrun (pcapng.Version i major minor)) err s
-Told (refusal.Pcapng (pcapng.Link i n)) err s = LineOrMemory status.BadCapture (pcapng_line sqrun (pcapng.Link i n)) err s
-Told (refusal.Pcapng (pcapng.MixedLink i n)) err s = LineOrMemory status.BadCapture (pcapng_line sqrun (pcapng.MixedLink i n)) err s
-Told (refusal.Pcapng (pcapng.NoInterface i n)) err s = LineOrMemory status.BadCapture (pcapng_line sqrun (pcapng.NoInterface i n)) err s
-Told (refusal.Pcapng (pcapng.PacketLength i n)) err s = LineOrMemory status.BadCapture (pcapng_line sqrun (pcapng.PacketLength i n)) err s
-Told (refusal.NoConnection c conns) err s = LineOrMemory status.NoConnection (missing_line c conns) err s
-Told (refusal.LongTrace n) err s = LineOrMemory status.TooLarge (many_marks_line n) err s
+Told (refusal.Capture f) err s = CaptureTold sqrun f err s
+Told (refusal.Pcapng f) err s = PcapngTold sqrun f err s
+Told (refusal.NoConnection c conns) err s = LineOrMemory sqrun status.NoConnection (missing_line c conns) err s
+Told (refusal.LongTrace n) err s = LineOrMemory sqrun status.TooLarge (many_marks_line n) err s
 
 -- what the words ask, from what the program holds of them
 abbrev pub asked_by_words : Words → Asked
@@ -63,7 +44,7 @@ ReplayFails file a refusal.NoMemory = Unit {0}
 ReplayFails file a refusal.Usage = ⊥
 ReplayFails file a (refusal.Capture f) = ⊥
 ReplayFails file a (refusal.Pcapng f) = ⊥
-ReplayFails file a (refusal.NoConnection c conns) = (conns ≡ conns_of file a.verify) × IsFirstMissing conns c a.calls
+ReplayFails file a (refusal.NoConnection c conns) = (conns ≡ conns_of file a) × IsFirstMissing conns c a.calls
 ReplayFails file a (refusal.LongTrace n) = IsLongTrace file a n
 
 -- why a generated run gives nothing

@@ -1,5 +1,3 @@
-pub mod Input
-pub mod Command
 pub mod Words
 pub mod Asked
 pub mod CallWords

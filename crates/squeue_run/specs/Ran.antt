@@ -1,27 +1,26 @@
 -- How a run ends: by its status, what was read, what was written, which line was told, and what is handed back.
-use Rattle.std.specs.Prelude.{◌≡◌, ◌<◌, ◌≤◌, ℕ, true, List, Option, Some, None, length, ◌⊎◌, Bool}
+use Rattle.std.specs.Prelude.{◌≡◌, ◌<◌, ◌≤◌, ℕ, true, List, Option, Some, None, length, ◌⊎◌}
 use Rattle.std.specs.Io.KnownBytes.{Appends}
 use Rattle.sq_base.specs.Ends.{AppendsProperly, End, IsUntouched, MetNoFault, Rose}
 use Rattle.sq_base.specs.declared.kinds.Status.{Status}
 use Rattle.sq_base.specs.declared.kinds.Status.TheVariants as status
-use Rattle.capture_reader.specs.Limits.{most_taken}
-use Rattle.capture_reader.specs.Outcome.{CaptureFile, ReadsWhole, Takes, TakesTooMany}
+use Rattle.capture_reader.specs.Outcome.{CaptureFile, TakesTooMany}
 use Rattle.capture_reader.specs.declared.fault.CaptureFault.{CaptureFault}
 use Rattle.capture_reader.specs.declared.fault.CaptureFault.TheVariants as fault
 use Rattle.pcapng_reader.specs.declared.fault.PcapngFault.{PcapngFault}
 use Rattle.pcapng_reader.specs.declared.fault.PcapngFault.TheVariants as pcapng
-use Rattle.conn_classifier.specs.Plan.{plan_of}
 use Rattle.ring_quotas.specs.Quotas.{marks_most}
 use Rattle.ring_threads.specs.Served.{ServedOf}
 use Rattle.squeue_run.specs.Asked.{Asked}
 use Rattle.squeue_run.specs.CallWords.{AllThere, IsFirstMissing, lists_of}
-use Rattle.squeue_run.specs.Input.{ReadsSuch}
 use Rattle.pcapng_reader.specs.Input.{IsInput, IsRefusedCapture, IsRefusedPcapng}
-use Rattle.squeue_run.specs.Output.{IsReport, IsSummary}
+use Rattle.squeue_run.specs.Output.{IsReport, IsSummary, plan_for}
 use Rattle.squeue_run.specs.Limits.{most_marks}
-use Rattle.squeue_run.specs.Lines.{sqrun, usage_line, memory_line, read_line, write_line, bad_line, pcapng_line}
-use Rattle.squeue_run.specs.Lines.{many_bytes_line, many_records_line, many_marks_line, missing_line}
-use Rattle.report_lines.specs.Telling.{OnlyTells, TellsLine}
+use Rattle.shell.specs.Lines.{memory_line, read_line, write_line, bad_line, pcapng_line, many_bytes_line, many_records_line}
+use Rattle.shell.specs.Reading.{HasRead, IsBad, IsBadPcapng, Reads, ReadsSuch}
+use Rattle.shell.specs.Telling.{OnlyTells, TellsLine}
+use Rattle.squeue_run.specs.Lines.{usage_line, many_marks_line, missing_line}
+use Rattle.squeue_run.specs.Words.{sqrun}
 
 -- such an output of what is handed back was written whole, and no write failed
 pub record GetsWhole (IsOutput : ServedOf → List ℕ → Type 0) (out : End) (back : Option ServedOf) : Type 0 where
@@ -40,59 +39,27 @@ pub record GetsFront (IsOutput : ServedOf → List ℕ → Type 0) (out : End) :
   pub written : AppendsProperly out.was out.is text
   pub failed : Rose out.faults_were out.faults_are
 
--- at most one byte more than the size was taken
-abbrev pub TakesFew : End → Type 0
-TakesFew source = Takes (λ n. n ≤ most_taken) source.was source.is
-
--- the source was read to its end: this capture, within the size
-pub record Reads (source : End) (file : CaptureFile) : Type 0 where
-  pub read : ReadsWhole source.was source.is file.bytes
-  pub capture : IsInput file
-
--- which refusals of a capture are a bad one
-abbrev pub IsBad : CaptureFault → Type 0
-IsBad (fault.ShortHeader n) = Unit {0}
-IsBad (fault.Magic magic) = Unit {0}
-IsBad (fault.Version major minor) = Unit {0}
-IsBad (fault.Link n) = Unit {0}
-IsBad (fault.RecordLength index len) = Unit {0}
-IsBad fault.TooManyRecords = ⊥
-IsBad (fault.TooLarge n) = ⊥
-IsBad fault.Read = ⊥
-IsBad fault.NoMemory = ⊥
-
--- and which of a pcapng file
-abbrev pub IsBadPcapng : PcapngFault → Type 0
-IsBadPcapng pcapng.NoMemory = ⊥
-IsBadPcapng pcapng.TooManyRecords = ⊥
-IsBadPcapng _ = Unit {0}
-
--- At a read fault, and only there, a read failed. However the run ended, few bytes were taken.
-abbrev pub HasRead : End → Status → Type 0
-HasRead source status.ReadFault = Rose source.faults_were source.faults_are × TakesFew source
-HasRead source _ = MetNoFault source × TakesFew source
-
 -- At status 0 what was served is handed back (GetsWhole), and at every other nothing is.
 abbrev pub HandsBack : Option ServedOf → Status → Type 0
 HandsBack back status.Ok = Unit {0}
 HandsBack back _ = back ≡ None
 
 -- how many connections the capture has
-abbrev pub conns_of : CaptureFile → Bool → ℕ
-conns_of file verify = length (plan_of file verify).tuples
+abbrev pub conns_of : CaptureFile → Asked → ℕ
+conns_of file a = length (plan_for file a).tuples
 
 -- how many marks the squeues of a run over this capture make at most
 abbrev pub marks_in : CaptureFile → Asked → ℕ
-marks_in file a = marks_most (plan_of file a.verify) (lists_of a.calls) a.setup
+marks_in file a = marks_most (plan_for file a) (lists_of a.calls) a.setup
 
 -- each CALL's connection is there, and of a trace that is asked for the marks are within the limit
 pub record IsServable (file : CaptureFile) (a : Asked) : Type 0 where
-  pub there : AllThere (conns_of file a.verify) a.calls
+  pub there : AllThere (conns_of file a) a.calls
   pub marks : a.setup.trace ≡ true → marks_in file a ≤ most_marks
 
 -- each CALL's connection is there, and a trace is asked for, of n marks, which is over the limit
 pub record IsLongTrace (file : CaptureFile) (a : Asked) (n : ℕ) : Type 0 where
-  pub there : AllThere (conns_of file a.verify) a.calls
+  pub there : AllThere (conns_of file a) a.calls
   pub asked : a.setup.trace ≡ true
   pub count : n ≡ marks_in file a
   pub many : most_marks < n
@@ -118,7 +85,7 @@ RanRead a source out err back status.WriteFault =
     (file : CaptureFile) × Reads source file × IsServable file a × GetsFront (IsReport file a) out × TellsLine err (write_line sqrun)
 RanRead a source out err back status.NoConnection =
     (file : CaptureFile) × Reads source file
-    × ((c : ℕ) × IsFirstMissing (conns_of file a.verify) c a.calls × OnlyTells out err (missing_line c (conns_of file a.verify)))
+    × ((c : ℕ) × IsFirstMissing (conns_of file a) c a.calls × OnlyTells out err (missing_line c (conns_of file a)))
 RanRead a source out err back status.BadCapture =
     ((why : CaptureFault) × IsBad why × ReadsSuch (IsRefusedCapture why) source.was source.is × OnlyTells out err (bad_line sqrun why))
     ⊎ ((why : PcapngFault) × IsBadPcapng why × ReadsSuch (IsRefusedPcapng why) source.was source.is × OnlyTells out err (pcapng_line sqrun why))
@@ -160,9 +127,3 @@ AcceptsBy None a left = HoldsCapture a left
 abbrev pub Accepts : Option Asked → Option (List ℕ) → Type 0
 Accepts None left = ⊥
 Accepts (Some a) left = AcceptsBy a.number a left
-
--- the whole output was written, or memory was missing
-abbrev pub IsDone : Status → Type 0
-IsDone status.Ok = Unit {0}
-IsDone status.NoMemory = Unit {0}
-IsDone _ = ⊥

@@ -3,8 +3,8 @@
 ghost use Rattle.std.specs.Prelude.{◌≡◌, option_map, option_and_then};
 ghost use Rattle.squeue_run.specs.Asked.{asked_of, buffer_by, call_by, call_of, split_at};
 
-use crate::numbers::number_between;
 use conn_blocks::CALLERS;
+use shell::{ReadsCall, number_between};
 use tcb_machine::{Call, PLAIN_SPACE};
 
 /// One CALL: the thread that makes it (0 to 3), the connection that it is on, and what it asks.
@@ -13,6 +13,16 @@ pub struct CallWord {
     pub thread: u32,
     pub connection: u32,
     pub call: Call,
+}
+
+impl ReadsCall for CallWord {
+    ghost use Rattle.squeue_run.specs.Asked.{call_of};
+
+    ghost call_of = { λ word. call_of word };
+
+    fn read_call(word: &str) -> Option<CallWord> {
+        call_in(word)
+    }
 }
 
 /// What a CALL asks: `status`, `close` or `buffer=N`.
@@ -53,7 +63,7 @@ fn at_colon(text: &str) -> Option<(&str, &str)>
 }
 
 /// The CALL that a word is.
-pub fn call_in(word: &str) -> Option<CallWord>
+fn call_in(word: &str) -> Option<CallWord>
     ensures { result ≡ call_of word.now }
 {
     let (thread, rest) = at_colon(word)?;

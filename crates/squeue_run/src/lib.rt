@@ -1,15 +1,14 @@
 //! What `sqrun` does: it replays a capture, and writes per connection every segment that the serving side sends.
 //!
-//! `words`, `command`, `numbers`, `calls` and `reading` read the command line, `input` tells the forms of a capture apart, `generator` makes an input from a
-//! number, `run` is the top call, `lines` has what is written where there is no report. `process` alone touches the process' own ends.
+//! `words` has the table of the words of the command line, which `shell` reads; `calls` and `reading` go on with what they ask for. `input` tells the
+//! forms of a capture apart, `generator` makes an input from a number, `run` is the top call, `lines` and `refusal` have what is written where
+//! there is no report. `process` alone touches the process' own ends.
 #![tactic(auto)]
 
 mod calls;
-mod command;
 mod generator;
 mod input;
 mod lines;
-mod numbers;
 mod process;
 mod reading;
 mod refusal;
@@ -18,8 +17,7 @@ mod words;
 
 pub use calls::CallWord;
 pub use generator::generate;
-pub use lines::{bad_capture, bad_pcapng, tell_usage};
 pub use process::run_process;
 pub use reading::{Words, read_words};
 pub use run::{Ran, run_with, squeue_run};
-pub use words::WordFault;
+pub use shell::WordFault;

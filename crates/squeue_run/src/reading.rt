@@ -10,9 +10,10 @@ ghost use Rattle.squeue_run.specs.CallWords.{lists_of};
 ghost use Rattle.squeue_run.specs.Causes.{asked_by_words};
 
 use crate::calls::CallWord;
-use crate::words::{WordFault, words_asked};
+use crate::words::asked_in;
 use conn_blocks::Calls;
 use ring_quotas::Setup;
+use shell::WordFault;
 use std::alloc::{AllocError, Global};
 
 /// What the words ask for.
@@ -39,7 +40,7 @@ pub fn read_words(alloc: Global, words: &[String]) -> Result<Words, WordFault>
     ensures calls { IfOk result (λ w. w.calls ≡ lists_of w.named.items) }
     ensures usage { result ≡ Err WordFault.Usage → asked (map (λ s. string_bytes s) words.now) ≡ None }
 {
-    let given = match words_asked(alloc, words) {
+    let given = match asked_in(alloc, words) {
         Ok(given) => given,
         Err(fault) => return Err(fault),
     };

@@ -1,17 +1,14 @@
 //! Why a run gives no output, and what it then writes.
 
-ghost use Rattle.std.specs.Prelude.{◌≡◌, MatchResult, string_bytes};
+ghost use Rattle.std.specs.Prelude.{◌≡◌};
 ghost use Rattle.sq_base.specs.Ends.{end_of};
-ghost use Rattle.report_lines.specs.Telling.{TellsLine};
-ghost use Rattle.squeue_run.specs.Lines.{sqrun, memory_line};
 ghost use Rattle.squeue_run.specs.Causes.{Told};
 
-use crate::lines::{
-    MANY_BYTES, MANY_RECORDS, NO_MEMORY, READ_FAULT, SQRUN, USAGE_END, USAGE_FRONT, bad_capture,
-    bad_pcapng, many_marks, no_connection, tell, tell_usage,
-};
+use crate::lines::{many_marks, no_connection};
+use crate::words::{SQRUN, TABLE};
 use capture_reader::CaptureFault;
 use pcapng_reader::PcapngFault;
+use shell::{WordFault, refuse_capture, refuse_pcapng, refuse_words, told_line};
 use sq_base::{Sink, Status};
 use std::alloc::{AllocError, Global};
 
@@ -43,52 +40,17 @@ pub fn refuse<E: Sink>(alloc: Global, err: &mut E, refusal: &Refusal) -> Status
     ensures { Told refusal.now (end_of E.contents E.write_faults err.old err.new) result }
 {
     match refusal {
-        Refusal::Usage => told_usage(err),
-        Refusal::NoMemory
-        | Refusal::Capture(CaptureFault::NoMemory)
-        | Refusal::Pcapng(PcapngFault::NoMemory) => told(err, NO_MEMORY, Status::NoMemory),
-        Refusal::Capture(CaptureFault::Read) => told(err, READ_FAULT, Status::ReadFault),
-        Refusal::Capture(CaptureFault::TooLarge(_)) => told(err, MANY_BYTES, Status::TooLarge),
-        Refusal::Capture(CaptureFault::TooManyRecords)
-        | Refusal::Pcapng(PcapngFault::TooManyRecords) => {
-            told(err, MANY_RECORDS, Status::TooLarge)
-        }
-        Refusal::Capture(fault) => {
-            told_line(err, bad_capture(alloc, SQRUN, fault), Status::BadCapture)
-        }
-        Refusal::Pcapng(fault) => {
-            told_line(err, bad_pcapng(alloc, SQRUN, fault), Status::BadCapture)
-        }
+        Refusal::Usage => refuse_words(err, &TABLE, WordFault::Usage),
+        Refusal::NoMemory => refuse_words(err, &TABLE, WordFault::NoMemory),
+        Refusal::Capture(fault) => refuse_capture(alloc, err, SQRUN, fault),
+        Refusal::Pcapng(fault) => refuse_pcapng(alloc, err, SQRUN, fault),
         Refusal::NoConnection { c, conns } => {
-            told_line(err, no_connection(alloc, *c, *conns), Status::NoConnection)
+            let line = no_connection(alloc, *c, *conns);
+            told_line(err, SQRUN, line, Status::NoConnection)
         }
-        Refusal::LongTrace(marks) => told_line(err, many_marks(alloc, *marks), Status::TooLarge),
-    }
-}
-
-/// Writes the usage line, and gives its status.
-pub fn told_usage<E: Sink>(err: &mut E) -> Status
-    ensures { Told Refusal.Usage (end_of E.contents E.write_faults err.old err.new) result }
-{
-    tell_usage(err, USAGE_FRONT, USAGE_END);
-    Status::Usage
-}
-
-fn told<E: Sink>(err: &mut E, line: &[u8], status: Status) -> Status
-    ensures status { result ≡ status }
-    ensures line { TellsLine (end_of E.contents E.write_faults err.old err.new) line.now }
-{
-    tell(err, line);
-    status
-}
-
-fn told_line<E: Sink>(err: &mut E, line: Result<String, AllocError>, status: Status) -> Status
-    ensures { MatchResult line
-        (λ text. (result ≡ status) × TellsLine (end_of E.contents E.write_faults err.old err.new) (string_bytes text))
-        (λ _. (result ≡ Status.NoMemory) × TellsLine (end_of E.contents E.write_faults err.old err.new) (memory_line sqrun)) }
-{
-    match line {
-        Ok(line) => told(err, line.as_bytes(), status),
-        Err(_) => told(err, NO_MEMORY, Status::NoMemory),
+        Refusal::LongTrace(marks) => {
+            let line = many_marks(alloc, *marks);
+            told_line(err, SQRUN, line, Status::TooLarge)
+        }
     }
 }

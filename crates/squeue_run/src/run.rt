@@ -1,6 +1,6 @@
 //! The top call: from the words and the bytes of a capture to the bytes of a report.
 
-ghost use Rattle.std.specs.Prelude.{◌≡◌, ◌<◌, ◌≤◌, if◌then◌else◌, true, All, IfOk, MatchOption, MatchResult, length, map};
+ghost use Rattle.std.specs.Prelude.{◌≡◌, ◌<◌, ◌≤◌, if◌then◌else◌, true, All, IfOk, OnErr, MatchOption, MatchResult, length, map};
 ghost use Rattle.std.specs.String.{string_bytes};
 ghost use Rattle.squeue_run.specs.Asked.{asked};
 ghost use Rattle.squeue_run.specs.CallWords.{AllThere, IsFirstMissing, lists_of};
@@ -10,28 +10,31 @@ ghost use Rattle.conn_blocks.specs.Allowed.{all_calls};
 ghost use Rattle.ring_quotas.specs.Quotas.{IsInRange, marks_most};
 ghost use Rattle.ring_threads.specs.Served.{orders_of};
 ghost use Rattle.conn_blocks.specs.ServedBlocks.{AreServed};
+ghost use Rattle.conn_classifier.specs.Rules.{usual};
 ghost use Rattle.report_lines.specs.ReportText.{report_text};
 ghost use Rattle.report_lines.specs.TraceText.{trace_text};
+ghost use Rattle.squeue_report.specs.Written.{IsWritten};
 ghost use Rattle.squeue_run.specs.Output.{IsSummary};
 ghost use Rattle.squeue_run.specs.Limits.{most_marks};
-ghost use Rattle.squeue_run.specs.Ran.{HasRan, Accepts, IsDone};
+ghost use Rattle.shell.specs.Reading.{IsDone};
+ghost use Rattle.squeue_run.specs.Ran.{HasRan, Accepts};
 ghost use Rattle.squeue_run.specs.Causes.{Gives, Fails, GivesBy, FailsBy, Replays, ReplayFails, GeneratedFails, asked_by_words};
 
 use crate::calls::CallWord;
 use crate::generator::generate;
 use crate::input::captured;
-use crate::lines::{WRITE_FAULT, tell};
 use crate::reading::{Words, read_words};
 use crate::refusal::{Refusal, refuse};
-use crate::words::WordFault;
+use crate::words::SQRUN;
 use capture_reader::{Capture, parse_capture, read_bytes};
 use conn_blocks::Calls;
 use conn_classifier::{Plan, plan};
 use perimeter_core::{Hook, NoHook};
 use ring_quotas::{Setup, marks_most};
 use ring_threads::{Served, serve};
-use sq_base::{Octets, Sink, Source, Status, put};
-use squeue_report::{report, report2, summary};
+use shell::{WRITE_FAULT, WordFault, tell};
+use sq_base::{Failed, Sink, Source, Status, put};
+use squeue_report::{Room, countable, summary, write_report, write_report2};
 use std::alloc::{AllocError, Global};
 use std::sync::Wait;
 use std::thread::Threads;
@@ -46,10 +49,10 @@ pub struct Ran {
     pub served: Option<Served>,
 }
 
-/// What is to be written, and what it tells of.
+/// What was served, and whether all that tells of it was written.
 #[derive(Drop)]
 struct Written {
-    text: Octets,
+    wrote: Result<(), Failed>,
     served: Served,
 }
 
@@ -100,7 +103,7 @@ pub fn run_with<S: Source, K: Sink, E: Sink, H: Hook + Sync>(
         → (Rose (S.read_faults src.old) (S.read_faults src.new) → ⊥) → (Rose (K.write_faults out.old) (K.write_faults out.new) → ⊥)
         → IsDone result.status }
 {
-    let written = match output(rt, alloc, words, src, hook) {
+    let written = match output(rt, alloc, words, src, out, hook) {
         Ok(written) => written,
         Err(refusal) => {
             return Ran {
@@ -109,13 +112,13 @@ pub fn run_with<S: Source, K: Sink, E: Sink, H: Hook + Sync>(
             };
         }
     };
-    match put(out, written.text.as_slice()) {
+    match written.wrote {
         Ok(()) => Ran {
             status: Status::Ok,
             served: Some(written.served),
         },
         Err(_) => {
-            tell(err, WRITE_FAULT);
+            tell(err, SQRUN, WRITE_FAULT);
             Ran {
                 status: Status::WriteFault,
                 served: None,
@@ -124,45 +127,51 @@ pub fn run_with<S: Source, K: Sink, E: Sink, H: Hook + Sync>(
     }
 }
 
-/// What is to be written, or why there is none.
-fn output<S: Source, H: Hook + Sync>(
+/// Writes what is to be written, or says why there is none; then nothing is written.
+fn output<S: Source, K: Sink, H: Hook + Sync>(
     rt: &(impl Threads + Wait + Sync),
     alloc: Global,
     words: &[String],
     src: &mut S,
+    out: &mut K,
     hook: &H,
 ) -> Result<Written, Refusal>
-    ensures { MatchResult result
-        (λ w. Gives (asked (map (λ s. string_bytes s) words.now)) (end_of S.rest S.read_faults src.old src.new) w.served w.text)
+    ensures quiet { OnErr result (out.new ≡ out.old) }
+    ensures ends { MatchResult result
+        (λ w. IsWritten (Gives (asked (map (λ s. string_bytes s) words.now)) (end_of S.rest S.read_faults src.old src.new) w.served)
+        (end_of K.contents K.write_faults out.old out.new) w.wrote)
         (Fails (asked (map (λ s. string_bytes s) words.now)) (end_of S.rest S.read_faults src.old src.new)) }
 {
     match read_words(alloc, words) {
-        Ok(words) => output_for(rt, alloc, &words, src, hook),
+        Ok(words) => output_for(rt, alloc, &words, src, out, hook),
         Err(WordFault::Usage) => Err(Refusal::Usage),
         Err(WordFault::NoMemory) => Err(Refusal::NoMemory),
     }
 }
 
-/// What is to be written for accepted words.
-fn output_for<S: Source, H: Hook + Sync>(
+/// The same for accepted words.
+fn output_for<S: Source, K: Sink, H: Hook + Sync>(
     rt: &(impl Threads + Wait + Sync),
     alloc: Global,
     words: &Words,
     src: &mut S,
+    out: &mut K,
     hook: &H,
 ) -> Result<Written, Refusal>
     requires setup { IsInRange words.now.setup }
     requires calls { words.now.calls ≡ lists_of words.now.named.items }
-    ensures { MatchResult result
-        (λ w. GivesBy words.now.number (asked_by_words words.now) (end_of S.rest S.read_faults src.old src.new) w.served w.text)
+    ensures quiet { OnErr result (out.new ≡ out.old) }
+    ensures ends { MatchResult result
+        (λ w. IsWritten (GivesBy words.now.number (asked_by_words words.now) (end_of S.rest S.read_faults src.old src.new) w.served)
+        (end_of K.contents K.write_faults out.old out.new) w.wrote)
         (FailsBy words.now.number (asked_by_words words.now) (end_of S.rest S.read_faults src.old src.new)) }
 {
     match words.number {
-        Some(number) => generated(rt, alloc, words, number, hook),
+        Some(number) => generated(rt, alloc, words, number, out, hook),
         None => match read_bytes(alloc, src) {
             Ok(bytes) => {
                 let capture = captured(alloc, bytes)?;
-                replayed(rt, alloc, words, &capture, hook)
+                replayed(rt, alloc, words, &capture, out, hook)
             }
             Err(fault) => Err(Refusal::Capture(fault)),
         },
@@ -200,46 +209,52 @@ fn long_trace(plan: &Plan<'_>, calls: &Calls, setup: &Setup) -> Option<u64>
     }
 }
 
-/// The report of what was served, with the marks where a trace is asked for.
-fn reported(
+/// Writes the report of what was served, with the marks where a trace is asked for. At an error nothing is written.
+fn reported<K: Sink>(
     alloc: Global,
     plan: &Plan<'_>,
     words: &Words,
     served: &Served,
-) -> Result<Octets, AllocError>
+    out: &mut K,
+) -> Result<Result<(), Failed>, AllocError>
     requires blocks { length served.now.blocks ≡ length plan.now.tuples }
     requires traces { length served.now.traces ≡ words.now.setup.squeues }
-    ensures { IfOk result (λ text. AreServed plan.now words.now.calls served.now.blocks → text ≡
+    ensures quiet { OnErr result (out.new ≡ out.old) }
+    ensures ends { IfOk result (λ wrote. IsWritten (λ text. AreServed plan.now words.now.calls served.now.blocks → text ≡
         (if words.now.setup.trace
-        then trace_text plan.now words.now.calls words.now.setup words.now.verify (orders_of served.now) (map marks_of served.now.traces)
-        else report_text plan.now words.now.calls (orders_of served.now))) }
+        then trace_text plan.now words.now.calls words.now.setup (usual words.now.verify) (orders_of served.now) (map marks_of served.now.traces)
+        else report_text plan.now words.now.calls (orders_of served.now))) (end_of K.contents K.write_faults out.old out.new) wrote) }
 {
-    if words.setup.trace {
-        report2(
-            alloc,
-            plan,
-            &words.calls,
-            &words.setup,
-            words.verify,
-            served,
-        )
-    } else {
-        report(alloc, plan, served)
+    let room = Room::make(alloc)?;
+    if !words.setup.trace {
+        return Ok(write_report(out, room, plan, served));
     }
+    countable(&words.setup, served)?;
+    Ok(write_report2(
+        out,
+        room,
+        plan,
+        &words.calls,
+        &words.setup,
+        words.verify,
+        served,
+    ))
 }
 
 /// The report of a capture.
-fn replayed<H: Hook + Sync>(
+fn replayed<K: Sink, H: Hook + Sync>(
     rt: &(impl Threads + Wait + Sync),
     alloc: Global,
     words: &Words,
     capture: &Capture,
+    out: &mut K,
     hook: &H,
 ) -> Result<Written, Refusal>
     requires setup { IsInRange words.now.setup }
     requires calls { words.now.calls ≡ lists_of words.now.named.items }
-    ensures { MatchResult result
-        (λ w. Replays capture.now (asked_by_words words.now) w.served w.text)
+    ensures quiet { OnErr result (out.new ≡ out.old) }
+    ensures ends { MatchResult result
+        (λ w. IsWritten (Replays capture.now (asked_by_words words.now) w.served) (end_of K.contents K.write_faults out.old out.new) w.wrote)
         (ReplayFails capture.now (asked_by_words words.now)) }
 {
     let plan = plan(rt, alloc, capture, words.verify)?;
@@ -251,20 +266,24 @@ fn replayed<H: Hook + Sync>(
         return Err(Refusal::LongTrace(marks));
     }
     let served = serve(rt, alloc, &plan, &words.calls, &words.setup, hook)?;
-    let text = reported(alloc, &plan, words, &served)?;
-    Ok(Written { text, served })
+    let wrote = reported(alloc, &plan, words, &served, out)?;
+    Ok(Written { wrote, served })
 }
 
 /// The summary of the run over the generated capture.
-fn generated<H: Hook + Sync>(
+fn generated<K: Sink, H: Hook + Sync>(
     rt: &(impl Threads + Wait + Sync),
     alloc: Global,
     words: &Words,
     number: u32,
+    out: &mut K,
     hook: &H,
 ) -> Result<Written, Refusal>
     requires { IsInRange words.now.setup }
-    ensures { MatchResult result (λ w. IsSummary number (asked_by_words words.now) w.served w.text) GeneratedFails }
+    ensures quiet { OnErr result (out.new ≡ out.old) }
+    ensures ends { MatchResult result
+        (λ w. IsWritten (IsSummary number (asked_by_words words.now) w.served) (end_of K.contents K.write_faults out.old out.new) w.wrote)
+        GeneratedFails }
 {
     let capture = match parse_capture(alloc, generate(alloc, number)?) {
         Ok(capture) => capture,
@@ -274,5 +293,6 @@ fn generated<H: Hook + Sync>(
     let calls = Calls::make(alloc);
     let served = serve(rt, alloc, &plan, &calls, &words.setup, hook)?;
     let text = summary(alloc, number, capture.bytes(), &plan, &served)?;
-    Ok(Written { text, served })
+    let wrote = put(out, text.as_slice());
+    Ok(Written { wrote, served })
 }

@@ -18,7 +18,7 @@ use Rattle.pcapng_reader.specs.Input.{IsInput}
 use Rattle.pcapng_reader.specs.PcapngFile.{BeginsSection}
 use Rattle.conn_classifier.specs.Connections.{conns}
 use Rattle.conn_classifier.specs.Items.{conn_items, looked, of_conn}
-use Rattle.conn_classifier.specs.Plan.{PlanOf, plan_of}
+use Rattle.conn_classifier.specs.Plan.{PlanOf, plan_by, plan_of}
 use Rattle.conn_classifier.specs.Sorting.{order_of}
 use Rattle.tcb_machine.specs.declared.kinds.Call.{Call}
 use Rattle.perimeter_core.specs.History.{run}
@@ -26,6 +26,7 @@ use Rattle.perimeter_core.specs.Legal.{Legal}
 use Rattle.perimeter_core.specs.Ending.{IsOver}
 use Rattle.histories.specs.declared.mode.Mode.TheVariants as Mode'
 use Rattle.histories.specs.Keeping.{KeepsPace}
+use Rattle.histories.specs.ModeWords.{mode_word}
 use Rattle.squeue_pool.specs.Keeping.{PassesKeep}
 use Rattle.conn_blocks.specs.CallLists.{calls_of}
 use Rattle.conn_blocks.specs.Orders.{IsWhole, numbers_from, settle}
@@ -34,8 +35,9 @@ use Rattle.ring_threads.specs.Served.{HasServed, orders_of}
 use Rattle.squeue_run.specs.Asked.{Asked, asked}
 use Rattle.squeue_run.specs.GeneratedCapture.{file_header, record_of}
 use Rattle.squeue_run.specs.Output.{AreOrders, IsReport, items_alone, told_of}
-use Rattle.squeue_run.specs.Ran.{Accepts, HasRan, IsServable, Reads, TakesFew}
-use Rattle.squeue_run.specs.Words.{uses_from}
+use Rattle.squeue_run.specs.Ran.{Accepts, HasRan, IsServable}
+use Rattle.shell.specs.Reading.{Reads, TakesFew}
+use Rattle.shell.specs.Words.{uses_from}
 use Rattle.worked_runs.specs.OneSqueue.{setup, block_of}
 use Rattle.worked_runs.specs.FiveSegments.{records, form, file, plan, no_calls, setting, history, ending, order, served, text, source, out, err}
 use Rattle.worked_runs.proofs.Told.{told}
@@ -88,7 +90,7 @@ pub is_input : IsInput file
 is_input = inr (no_section, is_capture)
 
 pub plan_is : plan_of file false ≡ plan
-unfolding plan_of conns conn_items looked of_conn order_of packet_in ip_place datagram tcp_packet segment_of word long options_in options_read mss_in scale_in number record_of
+unfolding plan_by conns conn_items looked of_conn order_of packet_in ip_place datagram tcp_packet segment_of word long options_in options_read mss_in scale_in number record_of
 plan_is = refl
 
 -- What was served
@@ -126,7 +128,7 @@ abbrev no_words : Asked
 no_words = record { setup = setup; verify = false; number = None; calls = [] }
 
 asked_is : asked [] ≡ Some no_words
-unfolding uses_from
+unfolding uses_from mode_word
 asked_is = refl
 
 differ : false ≡ true → ⊥

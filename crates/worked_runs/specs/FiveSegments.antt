@@ -13,6 +13,7 @@ use Rattle.capture_reader.specs.Limits.{header_size}
 use Rattle.capture_reader.specs.Outcome.{CaptureFile}
 use Rattle.capture_reader.specs.declared.form.Form.{Form}
 use Rattle.conn_classifier.specs.Plan.{PlanOf}
+use Rattle.conn_classifier.specs.Rules.{usual_ports}
 use Rattle.conn_classifier.specs.declared.kinds.Item.{Item}
 use Rattle.conn_classifier.specs.declared.kinds.Item.TheVariants.{Time, Segment}
 use Rattle.perimeter_core.specs.declared.entries.Act.{Act}
@@ -62,6 +63,7 @@ item at rec hint bits seq acked len = Segment at rec hint (plain_from ends bits 
 abbrev pub plan : PlanOf
 plan = record {
   file = file;
+  ports = usual_ports;
   tuples = ends ∷ [];
   items = (
       item 0 0 500 syn 100 0 0

@@ -5,6 +5,7 @@ use Rattle.capture_reader.specs.Outcome.{CaptureFile}
 use Rattle.conn_classifier.specs.declared.kinds.Counts.{Counts}
 use Rattle.conn_classifier.specs.declared.kinds.Item.{Item}
 use Rattle.conn_classifier.specs.Plan.{PlanOf}
+use Rattle.conn_classifier.specs.Rules.{usual_ports}
 use Rattle.perimeter_core.specs.declared.entries.Act.{Act}
 use Rattle.perimeter_core.specs.declared.entries.Act.TheVariants as Did
 use Rattle.perimeter_core.specs.declared.entries.Entry.TheVariants.{Feed}
@@ -15,12 +16,13 @@ use Rattle.histories.specs.declared.mode.Mode.TheVariants as Mode'
 use Rattle.histories.specs.Endings.{Ending}
 use Rattle.squeue_state.specs.Told.{Traced}
 use Rattle.conn_blocks.specs.CallLists.{CallLists}
-use Rattle.conn_blocks.specs.ServeOrder.{BlockOf, serve, service_in}
+use Rattle.conn_blocks.specs.ServeOrder.{BlockOf, serve}
+use Rattle.conn_blocks.specs.Services.{service_in}
 use Rattle.ring_quotas.specs.declared.setup.Setup.{Setup}
 use Rattle.ring_threads.specs.Served.{ServedOf}
 
 abbrev pub plan : CaptureFile → Counts → Tuple → Item → Item → PlanOf
-plan file counts t x y = record { file = file; tuples = t ∷ []; items = (x ∷ y ∷ []) ∷ []; order = []; counts = counts }
+plan file counts t x y = record { file = file; ports = usual_ports; tuples = t ∷ []; items = (x ∷ y ∷ []) ∷ []; order = []; counts = counts }
 
 abbrev pub setup : Setup
 setup = record { squeues = 1; rings = 1; mode = Mode'.Process; budget = 64; spread = 0; trace = false }

@@ -11,15 +11,21 @@ long_trace-requires-clause-calls g c = calls_there _ _ _ _ _ c.conns-conns.ensur
 pub serve-requires-clause-calls : goal.serve-requires-clause-calls
 serve-requires-clause-calls g c κs within = calls_there _ _ _ _ _ c.conns-conns.ensures.value c.deref.ensures.value c.requires.calls c.in_default.ensures
 
-pub returns : goal.returns
-returns g c =
+pub returns-clause-ends : goal.returns-clause-ends
+returns-clause-ends g c =
     let a = asked_by_words c.args.words.now in
-    let IsWithin : ℕ → Type 0 = λ n. n ≤ most_marks in (
-      record {
-        there = all_there c.args.capture.now c.args.words.now.verify c.in_ok-plan.plan c.conns-conns.result c.deref.result.now c.args.words.now.named.items
-            c.in_ok-plan.ensures c.conns-conns.ensures.value c.deref.ensures.value c.in_default.ensures;
-        marks = λ asked. subst IsWithin (marks_are c.args.capture.now a c.in_ok-plan.plan c.args.words.now.calls c.in_ok-plan.ensures c.requires.calls) (c.in_default-long_trace.ensures asked);
-      },
-      is_report c.args.capture.now a c.in_ok-plan.plan c.args.words.now.calls c.in_ok-served.served c.in_ok-text.text
-          c.in_ok-plan.ensures c.requires.calls c.in_ok-served.ensures c.in_ok-text.ensures,
-    )
+    let IsWithin : ℕ → Type 0 = λ n. n ≤ most_marks in
+    let w = c.in_ok-wrote.ensures.ends in
+    record {
+      text = w.text;
+      is = (
+        record {
+          there = all_there c.args.capture.now a c.in_ok-plan.plan c.conns-conns.result c.deref.result.now c.args.words.now.named.items
+              c.in_ok-plan.ensures c.conns-conns.ensures.value c.deref.ensures.value c.in_default.ensures;
+          marks = λ asked. subst IsWithin (marks_are c.args.capture.now a c.in_ok-plan.plan c.args.words.now.calls c.in_ok-plan.ensures c.requires.calls) (c.in_default-long_trace.ensures asked);
+        },
+        is_report c.args.capture.now a c.in_ok-plan.plan c.args.words.now.calls c.in_ok-served.served w.text
+            c.in_ok-plan.ensures c.requires.calls c.in_ok-served.ensures w.is,
+      );
+      wrote = w.wrote;
+    }

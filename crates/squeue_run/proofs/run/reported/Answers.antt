@@ -1,0 +1,13 @@
+use Rattle.std.proofs.Common.{rules, ◌≡◌, false, true}
+use Rattle.squeue_run.proofs.Outputs.{with_marks, without_marks, written_as}
+use Rattle.squeue_run.proofs.run.reported.Goals as goal
+
+pub returns-then-not-words-clause-ends : goal.returns-then-not-words-clause-ends
+returns-then-not-words-clause-ends g c =
+    let plain : c.args.words.now.setup.trace ≡ false = search rules in
+    written_as _ _ _ _ (λ t h served. without_marks _ t _ _ plain (h c.args.words.now.calls served)) c.write_report.ensures
+
+pub returns-clause-ends : goal.returns-clause-ends
+returns-clause-ends g c =
+    let marked : c.args.words.now.setup.trace ≡ true = search rules in
+    written_as _ _ _ _ (λ t h served. with_marks _ t _ _ marked (h served)) c.write_report2.ensures
