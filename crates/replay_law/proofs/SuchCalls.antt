@@ -7,14 +7,16 @@ use Rattle.std.proofs.lemmas.List.Elements.{All-cons, All-filter, All-from_recur
 use Rattle.tcb_machine.specs.declared.kinds.Call.{Call}
 use Rattle.tcb_machine.specs.declared.kinds.Call.TheVariants as Asks
 use Rattle.conn_blocks.specs.Limits.{most_calls}
-use Rattle.ring_quotas.specs.Limits.{most_budget, most_rings, most_spread, most_squeues}
 use Rattle.ring_quotas.specs.declared.setup.Setup.{Setup}
-use Rattle.squeue_run.specs.Words.{Text, given}
-use Rattle.squeue_run.specs.Asked.{Asked, asked, asked_by, asked_of, buffer_by, call_by, call_of, calls_of, go_together, input_of, mode_or_process, number_between, number_or, setup_by, setup_of, split_at}
+use Rattle.shell.specs.Asked.{calls_of}
+use Rattle.shell.specs.Numbers.{number_between}
+use Rattle.shell.specs.Words.{calls_in}
+use Rattle.squeue_run.specs.Words.{Text}
+use Rattle.squeue_run.specs.Asked.{Asked, asked, asked_of, buffer_by, call_by, call_of, go_together, split_at}
 use Rattle.squeue_run.specs.CallWords.{AllThere, lists_of}
 use Rattle.squeue_run.specs.declared.calls.CallWord.{CallWord}
-use Rattle.squeue_run.proofs.Chains.{chained, guarded, mapped, number_within}
-use Rattle.squeue_run.proofs.InRange.{setup_in_range}
+use Rattle.shell.proofs.Chains.{chained, guarded, mapped, number_within}
+use Rattle.squeue_run.proofs.InRange.{budget_most, parts_of, setup_in_range}
 use Rattle.squeue_run.proofs.Threads.{few_asked, lists_count}
 use Rattle.trace_lines.specs.Printed.{ArePrintedCalls, IsPrintedCall, IsPrintedSetup}
 use Rattle.squeue_state.proofs.Finish.{some_is}
@@ -55,11 +57,11 @@ word_short text w e =
 abbrev AreShort : List CallWord → Type 0
 AreShort ws = All (λ w. IsShort w.call) ws
 
-words_short : (texts : List Text) (ws : List CallWord) → calls_of texts ≡ Some ws → AreShort ws
+words_short : (texts : List Text) (ws : List CallWord) → calls_of call_of texts ≡ Some ws → AreShort ws
 words_short [] ws e = subst AreShort (some_is e) (All-nil (λ (w : CallWord). IsShort w.call))
 words_short (t ∷ ts) ws e =
     let one = chained _ (call_of t) ws e in
-    let more = mapped _ (calls_of ts) ws one.gives in
+    let more = mapped _ (calls_of call_of ts) ws one.gives in
     subst AreShort more.gives (All-cons (λ (w : CallWord). IsShort w.call) one.value more.value (word_short t one.value one.found) (words_short ts more.value more.found))
 
 printed : (n : ℕ) (w : CallWord) → w.connection < n → IsShort w.call → IsPrintedCall n (w.connection, w.call)
@@ -85,61 +87,26 @@ module _ (n : ℕ) where
   lists_said ws said =
       All-from_recursion (All (IsPrintedCall n)) (lists_of ws) (list_said ws 0 said, (list_said ws 1 said, (list_said ws 2 said, (list_said ws 3 said, tt))))
 
--- what the texts of accepted words gave
-record Found (words : List Text) (a : Asked) : Type 0 where
-  texts : List Text
-  calls : calls_of texts ≡ Some a.calls
-  budget : a.setup.budget ≤ most_budget
-  alone : a.setup.trace ≡ true → a.number ≡ None
-
-budget_most : (squeues rings mode budget spread : Option Text) (trace : Bool) (s : Setup) → setup_by squeues rings mode budget spread trace ≡ Some s → s.budget ≤ most_budget
-budget_most squeues rings mode budget spread trace s e =
-    let q = chained _ (number_or 1 1 most_squeues squeues) s e in
-    let r = chained _ (number_or 1 1 most_rings rings) s q.gives in
-    let m = chained _ (mode_or_process mode) s r.gives in
-    let b = chained _ (number_or 64 1 most_budget budget) s m.gives in
-    let d = mapped _ (number_or 0 0 most_spread spread) s b.gives in
-    let same : b.value ≡ s.budget = ap (λ (t : Setup). t.budget) d.gives in
-    let most = within budget b.value b.found in
-    omega (arith, same, most)
-  where
-    within : (text : Option Text) (n : ℕ) → number_or 64 1 most_budget text ≡ Some n → n ≤ most_budget
-    within None n e = let same : 64 ≡ n = some_is e in omega (arith, same)
-    within (Some text) n e = (number_within 1 most_budget text n e).1
-
 -- beside a trace no input is generated
-read_alone : (number : Option ℕ) (trace : Bool) (calls : List Text) → go_together number trace calls ≡ true → trace ≡ true → number ≡ None
+read_alone : (number : Option ℕ) (trace : Bool) (calls : ℕ) → go_together number trace calls ≡ true → trace ≡ true → number ≡ None
 read_alone None trace calls e on = refl
-read_alone (Some n) true calls e on = absurd (by (nat_le (length calls) most_calls) e)
-  where
-    by : (b : Bool) → (b && false) ≡ true → ⊥
-    by true e = false≢true e
-    by false e = false≢true e
+read_alone (Some n) true calls e on = absurd (false≢true e)
 read_alone (Some n) false calls e on = absurd (false≢true on)
 
-found : (words : List Text) (a : Asked) → asked words ≡ Some a → Found words a
-found words a e =
-    let g = chained asked_by (given words) a e in
-    let s = chained _ (setup_of g.value) a g.gives in
-    let n = chained _ (input_of g.value.number) a s.gives in
-    let c = guarded (go_together n.value s.value.trace g.value.calls) _ a n.gives in
-    let m = mapped _ (calls_of g.value.calls) a c.1 in
-    let most = budget_most g.value.squeues g.value.rings g.value.mode g.value.budget g.value.spread g.value.trace s.value s.found in
-    subst (Found words) m.gives (record { texts = g.value.calls; calls = m.found; budget = most; alone = read_alone n.value s.value.trace g.value.calls c.0 })
-
 pub setup_said : (words : List Text) (a : Asked) → asked words ≡ Some a → a.setup.trace ≡ true → IsPrintedSetup a.setup
-setup_said words a e traced = record { range = setup_in_range words a e; budget = (found words a e).budget; traced = traced }
+setup_said words a e traced = record { range = setup_in_range words a e; budget = budget_most words a e; traced = traced }
 
 pub calls_said : (words : List Text) (a : Asked) (n : ℕ) → asked words ≡ Some a → AllThere n a.calls → ArePrintedCalls n (lists_of a.calls)
 calls_said words a n e there =
-    let f = found words a e in
+    let p = parts_of words a e in
+    let short = subst AreShort p.same_calls (words_short (calls_in p.uses) p.given.calls p.calls_are) in
     let few = few_asked words a e in
     record {
       threads = refl;
       few = omega (arith, lists_count a.calls, few.count);
-      each = lists_said n a.calls (words_said n a.calls there (words_short f.texts a.calls f.calls));
+      each = lists_said n a.calls (words_said n a.calls there short);
     }
 
 -- a traced run reads its input
 pub traced_reads : (words : List Text) (a : Asked) → asked words ≡ Some a → a.setup.trace ≡ true → a.number ≡ None
-traced_reads words a e = (found words a e).alone
+traced_reads words a e = read_alone a.number a.setup.trace (length a.calls) (parts_of words a e).together

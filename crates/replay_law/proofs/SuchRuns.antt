@@ -11,7 +11,9 @@ use Rattle.histories.specs.Endings.{Ending}
 use Rattle.capture_reader.specs.Outcome.{CaptureFile}
 use Rattle.tcb_machine.specs.declared.kinds.Call.{Call}
 use Rattle.conn_classifier.specs.Connections.{decoded}
-use Rattle.conn_classifier.specs.Plan.{PlanOf, items_in, plan_of}
+use Rattle.conn_classifier.specs.Plan.{PlanOf, items_in, plan_by, plan_of}
+use Rattle.conn_classifier.specs.Rules.{usual}
+use Rattle.conn_classifier.specs.Rules.{usual_ports}
 use Rattle.conn_classifier.proofs.PlanLaw.{few_conns}
 use Rattle.conn_blocks.specs.Allowed.{all_calls, all_from, feed_limits, named_from}
 use Rattle.conn_blocks.specs.CallLists.{CallLists, call_count}
@@ -32,8 +34,8 @@ use Rattle.replay_law.proofs.Served.{marks_in}
 use Rattle.replay_law.proofs.SuchMarks.{IsSmallSetting, marks_said}
 
 few_tuples : (file : CaptureFile) (verify : Bool) → length (plan_of file verify).tuples ≤ 4096
-unfolding plan_of
-few_tuples file verify = few_conns (decoded file verify)
+unfolding plan_by
+few_tuples file verify = few_conns usual_ports (decoded file verify)
 
 -- a call's thread and number are small
 abbrev IsFew : ℕ × ℕ × ℕ → Type 0
@@ -91,7 +93,7 @@ module _ (p : PlanOf) (calls : CallLists) (s : Setup) (few : length p.tuples ≤
 -- its report replays
 pub served_replays : (file : CaptureFile) (verify : Bool) (setup : Setup) (calls : CallLists) (v : ServedOf) → IsInput file → IsPrintedSetup setup → ArePrintedCalls (length (plan_of file verify).tuples) calls
     → marks_most (plan_of file verify) calls setup ≤ most_marks → HasServed (plan_of file verify) calls setup v
-    → Replays (trace_text (plan_of file verify) calls setup verify (orders_of v) (histories_of v) ++ file.bytes)
+    → Replays (trace_text (plan_of file verify) calls setup (usual verify) (orders_of v) (histories_of v) ++ file.bytes)
 served_replays file verify setup calls v input said printed most served =
     let all = histories_said (plan_of file verify) calls setup (few_tuples file verify) said printed most v served in
     record {

@@ -7,6 +7,7 @@ ghost use Rattle.capture_reader.specs.Outcome.{CaptureFile};
 ghost use Rattle.pcapng_reader.specs.Input.{IsInput};
 ghost use Rattle.squeue_state.specs.Told.{marks_of};
 ghost use Rattle.conn_classifier.specs.Plan.{plan_of};
+ghost use Rattle.conn_classifier.specs.Rules.{usual};
 ghost use Rattle.conn_blocks.specs.CallLists.{CallLists};
 ghost use Rattle.ring_quotas.specs.declared.setup.Setup.{Setup};
 ghost use Rattle.ring_quotas.specs.Quotas.{marks_most};
@@ -32,5 +33,5 @@ pub fn what_was_served_replays()
     ensures { (file : CaptureFile) (setup : Setup) (verify : Bool) (calls : CallLists) (v : ServedOf) → IsInput file
         → IsPrintedSetup setup → ArePrintedCalls (length (plan_of file verify).tuples) calls → marks_most (plan_of file verify) calls setup ≤ most_marks
         → HasServed (plan_of file verify) calls setup v
-        → Replays (trace_text (plan_of file verify) calls setup verify (orders_of v) (map marks_of v.traces) ++ file.bytes) }
+        → Replays (trace_text (plan_of file verify) calls setup (usual verify) (orders_of v) (map marks_of v.traces) ++ file.bytes) }
 {}

@@ -28,6 +28,7 @@ use Rattle.trace_replay.proofs.FitsFromRight.{fits_from_right}
 use Rattle.trace_replay.proofs.ReportLines.{head_avoids, head_text, no_d, no_s, told_avoids, told_front}
 use Rattle.trace_replay.proofs.RightFromFits.{right_from_fits}
 use Rattle.trace_replay.proofs.ToldOnce.{told_once}
+use Rattle.conn_classifier.specs.Rules.{usual}
 
 -- the text of a report with marks, in its parts
 module _ (p : PlanOf) (calls : CallLists) (setup : Setup) (verify : Bool) (orders : List (List Act)) (marks : List (List Mark)) where
@@ -35,7 +36,7 @@ module _ (p : PlanOf) (calls : CallLists) (setup : Setup) (verify : Bool) (order
   told = record { setup = setup; verify = verify; calls = calls; marks = marks }
 
   abbrev whole : List ℕ
-  whole = trace_text p calls setup verify orders marks
+  whole = trace_text p calls setup (usual verify) orders marks
 
   abbrev pub head : List ℕ
   head = head_text p calls orders
@@ -51,8 +52,8 @@ module _ (p : PlanOf) (calls : CallLists) (setup : Setup) (verify : Bool) (order
   up_to_done =
       in_parts
       ∙ (ap (λ (l : List ℕ). head ++ l)
-      (ap (λ (l : List ℕ). setup_line setup verify ++ l) (sym (append_assoc (calls_text calls) (flat_map squeue_text (enumerate_from 0 marks)) done_line))
-      ∙ sym (append_assoc (setup_line setup verify) (calls_text calls ++ flat_map squeue_text (enumerate_from 0 marks)) done_line))
+      (ap (λ (l : List ℕ). setup_line setup (usual verify) ++ l) (sym (append_assoc (calls_text calls) (flat_map squeue_text (enumerate_from 0 marks)) done_line))
+      ∙ sym (append_assoc (setup_line setup (usual verify)) (calls_text calls ++ flat_map squeue_text (enumerate_from 0 marks)) done_line))
       ∙ sym (append_assoc head (told_front setup verify calls marks) done_line))
 
   -- its first line `done` is its last one, whatever stands behind it
@@ -62,7 +63,7 @@ module _ (p : PlanOf) (calls : CallLists) (setup : Setup) (verify : Bool) (order
       first_line 100 (codes "one" ++ 10 ∷ []) front rest (avoids_both 100 true head (told_front setup verify calls marks) (head_avoids 100 no_d p calls orders) (told_avoids setup verify calls marks)) in
       subst (λ (text : List ℕ). HasFirstLine done_line text front) (sym (append_assoc front done_line rest) ∙ ap (λ (l : List ℕ). l ++ rest) (sym up_to_done)) at
 
-  setup_begins : (after : List ℕ) × (setup_line setup verify ≡ codes "setup " ++ after)
+  setup_begins : (after : List ℕ) × (setup_line setup (usual verify) ≡ codes "setup " ++ after)
   unfolding setup_line
   setup_begins = (_, refl)
 
@@ -77,7 +78,7 @@ module _ (p : PlanOf) (calls : CallLists) (setup : Setup) (verify : Bool) (order
 
 -- what was read of an input that replays is what it was made of
 record SameReading (input report : List ℕ) (file : CaptureFile) (t : Told) (r : Replays input) : Type 0 where
-  text : report ≡ trace_text (plan_of r.file r.told.verify) r.told.calls r.told.setup r.told.verify r.orders r.told.marks
+  text : report ≡ trace_text (plan_of r.file r.told.verify) r.told.calls r.told.setup (usual r.told.verify) r.orders r.told.marks
   its_file : file ≡ r.file
   its_told : t ≡ r.told
 
@@ -89,7 +90,7 @@ module _ (input : List ℕ) (r : Replays input) where
   t = r.told
 
   abbrev text : List ℕ
-  text = trace_text p t.calls t.setup t.verify r.orders t.marks
+  text = trace_text p t.calls t.setup (usual t.verify) r.orders t.marks
 
   cut_first : HasFirstLine done_line input (front p t.calls t.setup t.verify r.orders t.marks)
   cut_first = subst (λ (l : List ℕ). HasFirstLine done_line l (front p t.calls t.setup t.verify r.orders t.marks)) (sym r.joined) (first_done p t.calls t.setup t.verify r.orders t.marks r.file.bytes)
@@ -165,7 +166,7 @@ module _ (input : List ℕ) (r : Replays input) where
       let here : FailsAtLine n reading.report r.file r.told = subst (λ (u : Told). FailsAtLine n reading.report r.file u) same.its_told (subst (λ (f : CaptureFile). FailsAtLine n reading.report f reading.told) same.its_file reading.holds) in
       let orders = orders_once (plan_of r.file r.told.verify) r.told.calls (histories_in r.file r.told) r.orders here.orders (right input r).1 here.ordered in
       let d = here.differ in
-      let texts = same.text ∙ ap (λ (orders : List (List Act)). trace_text (plan_of r.file r.told.verify) r.told.calls r.told.setup r.told.verify orders r.told.marks) orders in
+      let texts = same.text ∙ ap (λ (orders : List (List Act)). trace_text (plan_of r.file r.told.verify) r.told.calls r.told.setup (usual r.told.verify) orders r.told.marks) orders in
       d.differ (append_cancel_left d.same d.found_left d.right_left (sym d.found_is ∙ (texts ∙ d.right_is)))
 
 pub not_both : (x : Reason) (input : List ℕ) → Holds x input → Replays input → ⊥
@@ -182,7 +183,7 @@ not_both (reason.Text n) input holds r = no_line_fails input r n holds
 
 pub it_replays : (input report : List ℕ) (file : CaptureFile) (t : Told) (orders : List (List Act)) → HasForm input report file t → AreRight t.setup (histories_in file t)
     → AreOrdered (plan_of file t.verify) t.calls (histories_in file t) orders
-    → report ≡ trace_text (plan_of file t.verify) t.calls t.setup t.verify orders t.marks → Replays input
+    → report ≡ trace_text (plan_of file t.verify) t.calls t.setup (usual t.verify) orders t.marks → Replays input
 it_replays input report file t orders form right ordered text =
     let range = form.says.in_range in
     let fitting = fits_from_right (plan_of file t.verify) t.calls t.setup t.marks orders range.setup.range range.marks.count right ordered in

@@ -22,6 +22,7 @@ use Rattle.trace_replay.specs.Reasons.{AllClosed, AllFit, AllLegal, AreFit, AreO
 use Rattle.trace_replay.proofs.Once.{few_conns, fit_front, orders_once}
 use Rattle.trace_replay.proofs.FirstLines.{first_once}
 use Rattle.trace_replay.proofs.ToldOnce.{told_once}
+use Rattle.conn_classifier.specs.Rules.{usual}
 
 -- of two fronts of a list the shorter is a front of the longer
 record GoesOn {A : Type 0} (xs ys us vs : List A) : Type 0 where
@@ -240,9 +241,9 @@ module _ (report : List ℕ) (file : CaptureFile) (t : Told) where
   same_text : (n k : ℕ) → FailsAtLine n report file t → FailsAtLine k report file t → reason.Text n ≡ reason.Text k
   same_text n k a b =
       let orders = orders_once p t.calls hs b.orders a.orders b.ordered a.ordered in
-      let there : DifferAt k report (trace_text p t.calls t.setup t.verify a.orders t.marks) =
-      subst (λ (os : List (List Act)). DifferAt k report (trace_text p t.calls t.setup t.verify os t.marks)) orders b.differ in
-      let line : n ≡ k = one_line report (trace_text p t.calls t.setup t.verify a.orders t.marks) n k a.differ there in
+      let there : DifferAt k report (trace_text p t.calls t.setup (usual t.verify) a.orders t.marks) =
+      subst (λ (os : List (List Act)). DifferAt k report (trace_text p t.calls t.setup (usual t.verify) os t.marks)) orders b.differ in
+      let line : n ≡ k = one_line report (trace_text p t.calls t.setup (usual t.verify) a.orders t.marks) n k a.differ there in
       λ i. reason.Text (line i)
 
   alike : (r s : Reason) → Fails r report file t → Fails s report file t → r ≡ s

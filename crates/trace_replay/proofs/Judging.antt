@@ -37,13 +37,14 @@ use Rattle.trace_replay.proofs.ReportLines.{head_avoids, no_s}
 use Rattle.trace_replay.proofs.TextLines.{whole_differ}
 use Rattle.trace_replay.proofs.Words.{AreWords, all_both, in_word, is_word, line_apart}
 use Rattle.trace_replay.proofs.ToldOnce.{word_asked, word_mode}
+use Rattle.conn_classifier.specs.Rules.{usual}
 
 words_are : (s : Setup) (v : Bool) → AreWords (codes "setup" ∷ setup_words s v)
 words_are s v =
     (refl, (refl, (word_decimal s.squeues, (refl, (word_decimal s.rings, (refl, (word_mode s.mode, (refl, (word_decimal s.budget, (refl, (word_decimal s.spread, (refl, (word_decimal (if v then 1 else 0), tt)))))))))))))
 
 -- a setup's line fixes it
-pub same_setup : (s t : Setup) (v w : Bool) (r u : List ℕ) → IsPrintedSetup s → IsPrintedSetup t → setup_line s v ++ r ≡ setup_line t w ++ u → (s ≡ t) × (v ≡ w) × (r ≡ u)
+pub same_setup : (s t : Setup) (v w : Bool) (r u : List ℕ) → IsPrintedSetup s → IsPrintedSetup t → setup_line s (usual v) ++ r ≡ setup_line t (usual w) ++ u → (s ≡ t) × (v ≡ w) × (r ≡ u)
 unfolding setup_line
 same_setup s t v w r u a b e =
     let x : (codes "setup" ∷ setup_words s v ≡ codes "setup" ∷ setup_words t w) × (r ≡ u) = line_apart (codes "setup") (codes "setup") (setup_words s v) (setup_words t w) r u (words_are s v) (words_are t w) e in
@@ -124,10 +125,10 @@ SaysNone report file = (told : Told) → Says report file told → ⊥
 pub no_setup : (report : List ℕ) (file : CaptureFile) → HasNoLine (codes "setup ") report → SaysNone report file
 no_setup report file none told says = none says.before says.first.there
 
-pub bad_setup : (report head lines : List ℕ) (file : CaptureFile) → StartsAt report head lines → ((s : Setup) (v : Bool) (rest : List ℕ) → IsPrintedSetup s → lines ≡ setup_line s v ++ rest → ⊥) → SaysNone report file
+pub bad_setup : (report head lines : List ℕ) (file : CaptureFile) → StartsAt report head lines → ((s : Setup) (v : Bool) (rest : List ℕ) → IsPrintedSetup s → lines ≡ setup_line s (usual v) ++ rest → ⊥) → SaysNone report file
 bad_setup report head lines file at none told says = none told.setup told.verify (calls_text told.calls ++ marks_text told.marks) says.in_range.setup (lines_are report head lines file told at says)
 
-pub bad_calls : (report head lines rest : List ℕ) (file : CaptureFile) (s : Setup) (v : Bool) (n : ℕ) → StartsAt report head lines → IsPrintedSetup s → lines ≡ setup_line s v ++ rest → n ≡ length (plan_of file v).tuples
+pub bad_calls : (report head lines rest : List ℕ) (file : CaptureFile) (s : Setup) (v : Bool) (n : ℕ) → StartsAt report head lines → IsPrintedSetup s → lines ≡ setup_line s (usual v) ++ rest → n ≡ length (plan_of file v).tuples
     → ((calls : CallLists) (more : List ℕ) → ArePrintedCalls n calls → (BeginsWithCall more → ⊥) → rest ≡ calls_text calls ++ more → ⊥) → SaysNone report file
 bad_calls report head lines rest file s v n at printed joined count none told says =
     let same : (s ≡ told.setup) × (v ≡ told.verify) × (rest ≡ calls_text told.calls ++ marks_text told.marks) =
@@ -135,7 +136,7 @@ bad_calls report head lines rest file s v n at printed joined count none told sa
     let conns : length (plan_of file told.verify).tuples ≡ n = ap (λ w. length (plan_of file w).tuples) (sym same.1) ∙ sym count in
     none told.calls (marks_text told.marks) (subst (λ k. ArePrintedCalls k told.calls) conns says.in_range.calls) (not_call told.marks) same.2
 
-pub bad_marks : (report head lines rest more : List ℕ) (file : CaptureFile) (s : Setup) (v : Bool) (calls : CallLists) → StartsAt report head lines → IsPrintedSetup s → lines ≡ setup_line s v ++ rest
+pub bad_marks : (report head lines rest more : List ℕ) (file : CaptureFile) (s : Setup) (v : Bool) (calls : CallLists) → StartsAt report head lines → IsPrintedSetup s → lines ≡ setup_line s (usual v) ++ rest
     → (BeginsWithCall more → ⊥) → rest ≡ calls_text calls ++ more → ((marks : List (List Mark)) → ArePrintedMarks s.squeues marks → more ≡ marks_text marks → ⊥) → SaysNone report file
 bad_marks report head lines rest more file s v calls at printed joined ends read none told says =
     let same : (s ≡ told.setup) × (v ≡ told.verify) × (rest ≡ calls_text told.calls ++ marks_text told.marks) =
@@ -151,10 +152,10 @@ pub record HasTold (report head : List ℕ) (p : PlanOf) (t : Told) : Type 0 whe
   pub at : StartsAt report head (told_text t)
   pub range : IsTold (length p.tuples) t
 
-pub has_told : (report head lines rest more : List ℕ) (p : PlanOf) (s : Setup) (v : Bool) (calls : CallLists) (marks : List (List Mark)) → StartsAt report head lines → IsPrintedSetup s → lines ≡ setup_line s v ++ rest
+pub has_told : (report head lines rest more : List ℕ) (p : PlanOf) (s : Setup) (v : Bool) (calls : CallLists) (marks : List (List Mark)) → StartsAt report head lines → IsPrintedSetup s → lines ≡ setup_line s (usual v) ++ rest
     → ArePrintedCalls (length p.tuples) calls → rest ≡ calls_text calls ++ more → ArePrintedMarks s.squeues marks → more ≡ marks_text marks → HasTold report head p (told_of s v calls marks)
 has_told report head lines rest more p s v calls marks at printed joined in_calls read in_marks ends =
-    let whole : lines ≡ told_text (told_of s v calls marks) = joined ∙ ap (λ t. setup_line s v ++ t) (read ∙ ap (λ t. calls_text calls ++ t) ends) in
+    let whole : lines ≡ told_text (told_of s v calls marks) = joined ∙ ap (λ t. setup_line s (usual v) ++ t) (read ∙ ap (λ t. calls_text calls ++ t) ends) in
     record {
       at = subst (StartsAt report head) whole at;
       range = record { setup = printed; calls = in_calls; marks = in_marks };
@@ -183,7 +184,7 @@ calls_named n j (l ∷ ls) h =
     All-append (λ call. call.0 < n) (named_from j 0 l) (all_from (suc j) ls) (thread_named n j 0 l (All-head (λ thread. All (IsPrintedCall n) thread) l ls h)) (calls_named n (suc j) ls (All-tail (λ thread. All (IsPrintedCall n) thread) l ls h))
 
 -- where the lines before the setup are those of the report, all of it is
-pub trace_is : (report head : List ℕ) (p : PlanOf) (t : Told) (orders : List (List Act)) → HasTold report head p t → head ≡ head_of p t.calls orders → report ≡ trace_text p t.calls t.setup t.verify orders t.marks
+pub trace_is : (report head : List ℕ) (p : PlanOf) (t : Told) (orders : List (List Act)) → HasTold report head p t → head ≡ head_of p t.calls orders → report ≡ trace_text p t.calls t.setup (usual t.verify) orders t.marks
 unfolding trace_text
 trace_is report head p t orders told same = told.at.joined ∙ ap (λ f. f ++ told_text t) same ∙ append_assoc (codes "report 2\n") (body_text p t.calls orders) (told_text t)
 
@@ -217,7 +218,7 @@ trace_differs n report head p t orders told d =
     let there : HasFirstLine word (head ++ told_text t) head = subst (λ x. HasFirstLine word x head) told.at.joined told.at.first in
     subst (λ x. DifferAt n x (right ++ told_text t)) (sym told.at.joined) (whole_differ n word begins.0 head right (told_text t) refl there first begins.1 d)
 
-whole_is : (p : PlanOf) (t : Told) (orders : List (List Act)) → head_of p t.calls orders ++ told_text t ≡ trace_text p t.calls t.setup t.verify orders t.marks
+whole_is : (p : PlanOf) (t : Told) (orders : List (List Act)) → head_of p t.calls orders ++ told_text t ≡ trace_text p t.calls t.setup (usual t.verify) orders t.marks
 unfolding trace_text
 whole_is p t orders = append_assoc (codes "report 2\n") (body_text p t.calls orders) (told_text t)
 
@@ -274,7 +275,7 @@ pub record AllRead (report head : List ℕ) (file : CaptureFile) (t : Told) : Ty
   pub told : HasTold report head (plan_of file t.verify) t
 
 pub all_read : (report head lines rest more : List ℕ) (file : CaptureFile) (s : Setup) (v : Bool) (n : ℕ) (calls : CallLists) (marks : List (List Mark)) → IsInput file → IsCut (report ++ file.bytes) report file.bytes
-    → StartsAt report head lines → IsPrintedSetup s → lines ≡ setup_line s v ++ rest → n ≡ length (plan_of file v).tuples → ArePrintedCalls n calls → rest ≡ calls_text calls ++ more
+    → StartsAt report head lines → IsPrintedSetup s → lines ≡ setup_line s (usual v) ++ rest → n ≡ length (plan_of file v).tuples → ArePrintedCalls n calls → rest ≡ calls_text calls ++ more
     → ArePrintedMarks s.squeues marks → more ≡ marks_text marks → AllRead report head file (told_of s v calls marks)
 all_read report head lines rest more file s v n calls marks capture cut at printed joined count in_calls read in_marks ends =
     let told = has_told report head lines rest more (plan_of file v) s v calls marks at printed joined (subst (λ k. ArePrintedCalls k calls) count in_calls) read in_marks ends in

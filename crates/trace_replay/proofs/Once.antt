@@ -12,7 +12,8 @@ use Rattle.sq_base.specs.declared.kinds.Tuple.{Tuple}
 use Rattle.capture_reader.specs.Outcome.{CaptureFile}
 use Rattle.histories.specs.Endings.{Ending}
 use Rattle.conn_classifier.specs.Connections.{conns, decoded, distinct, served_tuple}
-use Rattle.conn_classifier.specs.Plan.{PlanOf, plan_of}
+use Rattle.conn_classifier.specs.Rules.{usual_ports}
+use Rattle.conn_classifier.specs.Plan.{PlanOf, plan_by, plan_of}
 use Rattle.conn_blocks.specs.CallLists.{CallLists}
 use Rattle.conn_blocks.specs.Orders.{settle}
 use Rattle.histories.specs.declared.mode.Mode.{Mode}
@@ -27,8 +28,8 @@ few_taken : (ts : List Tuple) → length (take 4096 ts) < 2 ^ 64
 few_taken ts = let n = length-take 4096 ts in omega (arith, n)
 
 pub few_conns : (file : CaptureFile) (verify : Bool) → length (plan_of file verify).tuples < 2 ^ 64
-unfolding plan_of conns
-few_conns file verify = few_taken (distinct (filter_map served_tuple (decoded file verify)))
+unfolding plan_by conns
+few_conns file verify = few_taken (distinct (filter_map (served_tuple usual_ports) (decoded file verify)))
 
 keeps_front : (squeues spread : ℕ) (mode : Mode) (budget q : ℕ) (S : Setting) (r : ℕ) (past H K : List Element)
     → KeepsFrom squeues spread mode budget q S r past (H ++ K) → KeepsFrom squeues spread mode budget q S r past H

@@ -27,17 +27,19 @@ use Rattle.tcb_machine.specs.declared.kinds.State.{State}
 use Rattle.tcb_machine.specs.declared.kinds.State.TheVariants as State'
 use Rattle.echo_services.specs.declared.service.Service.{Service}
 use Rattle.echo_services.specs.declared.service.Service.TheVariants as Service'
-use Rattle.echo_services.specs.Pump.{service_of, service_word}
+use Rattle.echo_services.specs.Pump.{service_word}
 use Rattle.histories.specs.declared.mode.Mode.{Mode}
 use Rattle.histories.specs.declared.mode.Mode.TheVariants as Mode'
 use Rattle.histories.specs.ModeWords.{mode_word}
 use Rattle.conn_blocks.specs.CallLists.{CallLists}
 use Rattle.conn_blocks.specs.ServeOrder.{Serving, serve}
+use Rattle.conn_blocks.specs.Services.{service_in}
 use Rattle.ring_quotas.specs.declared.setup.Setup.{Setup}
 use Rattle.report_lines.specs.Names.{state_word}
 use Rattle.report_lines.specs.ReportText.{Entry, answer_fields, answer_line, body_text, call, conn_line, conn_text, counts_line, datagram_line, end_field, end_line, entries_of, entry_field, feeds, line, line_end, order_line, reply_line}
 use Rattle.report_lines.specs.TraceText.{act_fields, asked_text, call_line, calls_text, entered_field, mark_line, setup_line, squeue_line, squeue_text, thread_text}
 use Rattle.trace_replay.proofs.FirstLines.{avoids, avoids_both}
+use Rattle.conn_classifier.specs.Rules.{usual}
 
 -- a field without a newline
 abbrev pub clear : List ℕ → Bool
@@ -241,12 +243,12 @@ module _ (b : ℕ) (none : BeginsNone b) where
         ),
       )
 
-  conn_avoids : (c : ℕ) (t : Tuple) → avoids b true (conn_line c t) ≡ true
+  conn_avoids : (c : ℕ) (t : Tuple) (service : Service) → avoids b true (conn_line c t service) ≡ true
   unfolding conn_line
-  conn_avoids c t =
+  conn_avoids c t service =
       line_avoids b 99 (codes "onn")
-      (decimal c ∷ end_field t.client t.client_port ∷ end_field t.server t.server_port ∷ service_word (service_of t.server_port) ∷ []) none.conn refl refl
-      (clear_decimal c, (clear_end t.client t.client_port, (clear_end t.server t.server_port, (clear_service (service_of t.server_port), tt))))
+      (decimal c ∷ end_field t.client t.client_port ∷ end_field t.server t.server_port ∷ service_word service ∷ []) none.conn refl refl
+      (clear_decimal c, (clear_end t.client t.client_port, (clear_end t.server t.server_port, (clear_service service, tt))))
 
   order_avoids : (order : List Act) → avoids b true (order_line order) ≡ true
   unfolding order_line
@@ -264,10 +266,10 @@ module _ (b : ℕ) (none : BeginsNone b) where
   unfolding end_line
   end_avoids s = line_avoids b 101 (codes "nd") (state_word s ∷ []) none.end refl refl (clear_state s, tt)
 
-  served_avoids : (c : ℕ) (t : Tuple) (order : List Act) (s : Serving) → avoids b true (conn_text c t order s) ≡ true
+  served_avoids : (c : ℕ) (t : Tuple) (service : Service) (order : List Act) (s : Serving) → avoids b true (conn_text c t service order s) ≡ true
   unfolding conn_text
-  served_avoids c t order s =
-      avoids_both b true (conn_line c t) _ (conn_avoids c t)
+  served_avoids c t service order s =
+      avoids_both b true (conn_line c t service) _ (conn_avoids c t service)
       (avoids_both b true (order_line order) _ (order_avoids order)
       (avoids_both b true (flat_map (reply_line t) s.block.replies) _ (flat_avoids b (reply_line t) s.block.replies (reply_avoids t))
       (avoids_both b true (flat_map answer_line s.answers) (end_line s.block.state) (flat_avoids b answer_line s.answers answer_avoids) (end_avoids s.block.state))))
@@ -276,11 +278,11 @@ module _ (b : ℕ) (none : BeginsNone b) where
   unfolding body_text
   body_avoids p calls orders =
       avoids_both b true (counts_line p.counts (length p.tuples)) _ (counts_avoid p.counts (length p.tuples))
-      (flat_avoids b (λ (c, t). conn_text c t (get_or orders c []) (serve p calls c (get_or orders c []))) (enumerate_from 0 p.tuples)
-      (λ (c, t). served_avoids c t (get_or orders c []) (serve p calls c (get_or orders c []))))
+      (flat_avoids b (λ (c, t). conn_text c t (service_in p c) (get_or orders c []) (serve p calls c (get_or orders c []))) (enumerate_from 0 p.tuples)
+      (λ (c, t). served_avoids c t (service_in p c) (get_or orders c []) (serve p calls c (get_or orders c []))))
 
 -- no line but the last one begins with a d
-setup_avoids : (s : Setup) (verify : Bool) → avoids 100 true (setup_line s verify) ≡ true
+setup_avoids : (s : Setup) (verify : Bool) → avoids 100 true (setup_line s (usual verify)) ≡ true
 unfolding setup_line
 setup_avoids s verify =
     line_avoids 100 115 (codes "etup")
@@ -326,11 +328,11 @@ head_avoids b none p calls orders =
 
 -- and from there up to its last line
 abbrev pub told_front : Setup → Bool → CallLists → List (List Mark) → List ℕ
-told_front setup verify calls marks = setup_line setup verify ++ (calls_text calls ++ flat_map squeue_text (enumerate_from 0 marks))
+told_front setup verify calls marks = setup_line setup (usual verify) ++ (calls_text calls ++ flat_map squeue_text (enumerate_from 0 marks))
 
 pub told_avoids : (setup : Setup) (verify : Bool) (calls : CallLists) (marks : List (List Mark)) → avoids 100 true (told_front setup verify calls marks) ≡ true
 told_avoids setup verify calls marks =
-    avoids_both 100 true (setup_line setup verify) _ (setup_avoids setup verify)
+    avoids_both 100 true (setup_line setup (usual verify)) _ (setup_avoids setup verify)
     (avoids_both 100 true (calls_text calls) _ (flat_avoids 100 thread_text (enumerate_from 0 calls) thread_avoids) (flat_avoids 100 squeue_text (enumerate_from 0 marks) squeue_avoids))
 
 pub no_d : BeginsNone 100

@@ -28,6 +28,7 @@ use Rattle.trace_lines.specs.Printed.{IsPrintedCall, IsTold, Told, told_text}
 use Rattle.trace_replay.proofs.Decode.{call_back, call_from, call_word, mark_back, mark_from, same_word, setup_back, setup_from, setup_words, thread_back, thread_from, verify_back, verify_from, word_decimal}
 use Rattle.trace_replay.proofs.FirstLines.{same_front}
 use Rattle.trace_replay.proofs.Words.{AreLines, AreWords, Line, Stops, all_both, all_of, apart, in_word, is_word, lines_apart, text_of, words_of}
+use Rattle.conn_classifier.specs.Rules.{usual}
 
 -- the lines, by words
 abbrev mark_words : Mark → Line
@@ -91,7 +92,7 @@ one_head : (q n : ℕ) → squeue_line q n ≡ text_of (squeue_words q n)
 unfolding squeue_line
 one_head q n = refl
 
-one_setup : (s : Setup) (verify : Bool) → setup_line s verify ≡ text_of (codes "setup", setup_words s verify)
+one_setup : (s : Setup) (verify : Bool) → setup_line s (usual verify) ≡ text_of (codes "setup", setup_words s verify)
 unfolding setup_line
 one_setup s verify = refl
 

@@ -2,7 +2,7 @@
 use Rattle.std.specs.Prelude.{◌≡◌, ℕ, ◌+◌, ◌≤◌, ◌⊎◌, Bool, true, false, List, length, codes}
 use Rattle.std.specs.Io.KnownBytes.{Appends}
 use Rattle.sq_base.specs.Ends.{AppendsProperly, End, IsUntouched, MetNoFault, Rose}
-use Rattle.report_lines.specs.Telling.{OnlyTells, TellsLine}
+use Rattle.shell.specs.Telling.{OnlyTells, TellsLine}
 use Rattle.capture_reader.specs.Outcome.{ReadsWhole, Takes}
 use Rattle.trace_replay.specs.declared.reason.Reason.{Reason}
 use Rattle.trace_replay.specs.declared.run.Replayed.{Replayed}

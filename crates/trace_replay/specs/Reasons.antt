@@ -9,7 +9,7 @@ use Rattle.perimeter_core.specs.Legal.{Legal, feed_count}
 use Rattle.histories.specs.Endings.{Ending}
 use Rattle.capture_reader.specs.Outcome.{CaptureFile}
 use Rattle.histories.specs.Stays.{AreOfAllStays, Stay, ended_stay, stay}
-use Rattle.conn_classifier.specs.Plan.{PlanOf, plan_of}
+use Rattle.conn_classifier.specs.Plan.{PlanOf, plan_by}
 use Rattle.conn_blocks.specs.CallLists.{CallLists}
 use Rattle.conn_blocks.specs.Orders.{IsWhole, settle}
 use Rattle.histories.specs.Keeping.{KeepsPace, taken}
@@ -20,7 +20,7 @@ use Rattle.trace_replay.specs.declared.reason.Reason.{Reason}
 use Rattle.trace_replay.specs.declared.reason.Reason.TheVariants as reason
 use Rattle.squeue_replay.specs.Histories.{endings_of}
 use Rattle.trace_replay.specs.Lines.{EndsLine, HasFirstLine, HasNoLine}
-use Rattle.trace_lines.specs.Printed.{Told, IsTold, told_text}
+use Rattle.trace_lines.specs.Printed.{Told, IsTold, rules_told, told_text}
 use Rattle.pcapng_reader.specs.Input.{IsInput}
 
 -- the input is a report up to its first line `done`, and what stands behind that
@@ -39,7 +39,7 @@ pub record IsRead (input report : List ℕ) (file : CaptureFile) : Type 0 where
 pub record Says (report : List ℕ) (file : CaptureFile) (told : Told) : Type 0 where
   pub before : List ℕ
   pub first : HasFirstLine (codes "setup ") report before
-  pub in_range : IsTold (length (plan_of file told.verify).tuples) told
+  pub in_range : IsTold (length (plan_by file (rules_told told)).tuples) told
   pub joined : report ≡ before ++ told_text told
 
 -- all of this was read of the input
@@ -49,7 +49,7 @@ pub record HasForm (input report : List ℕ) (file : CaptureFile) (told : Told) 
 
 -- the histories that the marks stand for
 abbrev pub histories_in : CaptureFile → Told → List Ending
-histories_in file t = endings_of (plan_of file t.verify) t.calls t.setup t.marks
+histories_in file t = endings_of (plan_by file (rules_told t)) t.calls t.setup t.marks
 
 -- its first marks, so many
 abbrev pub first_marks : ℕ → Ending → Ending
@@ -173,13 +173,13 @@ pub record IsUnordered (p : PlanOf) (calls : CallLists) (hs : List Ending) (c : 
 
 pub record FailsAtOrder (c : ℕ) (file : CaptureFile) (t : Told) : Type 0 where
   pub right : AreRight t.setup (histories_in file t)
-  pub unordered : IsUnordered (plan_of file t.verify) t.calls (histories_in file t) c
+  pub unordered : IsUnordered (plan_by file (rules_told t)) t.calls (histories_in file t) c
 
 pub record FailsAtLine (n : ℕ) (report : List ℕ) (file : CaptureFile) (t : Told) : Type 0 where
   pub right : AreRight t.setup (histories_in file t)
   pub orders : List (List Act)
-  pub ordered : AreOrdered (plan_of file t.verify) t.calls (histories_in file t) orders
-  pub differ : DifferAt n report (trace_text (plan_of file t.verify) t.calls t.setup t.verify orders t.marks)
+  pub ordered : AreOrdered (plan_by file (rules_told t)) t.calls (histories_in file t) orders
+  pub differ : DifferAt n report (trace_text (plan_by file (rules_told t)) t.calls t.setup (rules_told t) orders t.marks)
 
 abbrev pub FailsAtMark : Reason → CaptureFile → Told → Type 0
 FailsAtMark r file t = MarksFail t.setup (histories_in file t) r

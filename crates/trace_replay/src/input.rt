@@ -1,60 +1,17 @@
-//! The input: a report, and a capture behind it.
+//! The input: a report, and a capture behind it, and where the one ends and the other begins.
 
 ghost use Rattle.std.specs.Prelude.{◌≡◌, ◌≢◌, ℕ, ◌+◌, ◌<◌, ◌≤◌, Err, IfOk, List, MatchOption, length, slice_index, take};
-ghost use Rattle.sq_base.specs.Ends.{Rose};
 ghost use Rattle.capture_reader.specs.Limits.{most_bytes};
-ghost use Rattle.capture_reader.specs.Outcome.{CaptureFile, ReadsWhole, Takes};
+ghost use Rattle.capture_reader.specs.Outcome.{CaptureFile};
 ghost use Rattle.trace_replay.specs.Lines.{HasFirstLine, HasNoLine};
 ghost use Rattle.trace_replay.specs.Reasons.{Holds, IsCut};
-ghost use Rattle.trace_replay.specs.Replays.{most_input};
 ghost use Rattle.pcapng_reader.specs.Input.{InputFails, IsInput};
 
 use crate::reason::{Reason, Refusal};
 use capture_reader::{Capture, CaptureFault, MOST_BYTES};
-use pcapng_reader::{InputFault as CaptureRefused, PcapngFault, parse_input};
-use sq_base::{Failed, Octets, Source};
+use pcapng_reader::{InputFault, PcapngFault, parse_input};
+use sq_base::Octets;
 use std::alloc::{AllocError, Global};
-
-/// How many bytes one call asks for at most.
-const PIECE: usize = 65_536;
-
-/// Why there is no input.
-#[derive(Clone, Copy, Debug, PartialEq, Eq)]
-pub enum InputFault {
-    NoMemory,
-    Read,
-    TooLarge,
-}
-
-/// All bytes that a source gives, so many at most.
-pub fn read_all<S: Source>(alloc: Global, src: &mut S, most: usize) -> Result<Vec<u8>, InputFault>
-    requires { most ≤ most_input }
-    ensures ok { IfOk result (λ v. ReadsWhole (S.rest src.old) (S.rest src.new) v.items × (length v.items ≤ most)) }
-    ensures read { result ≡ Err InputFault.Read → Rose (S.read_faults src.old) (S.read_faults src.new)
-        × Takes (λ n. n ≤ most) (S.rest src.old) (S.rest src.new) }
-    ensures large { result ≡ Err InputFault.TooLarge → Takes (λ n. n ≡ most + 1) (S.rest src.old) (S.rest src.new) }
-    ensures kept { (result ≡ Err InputFault.Read → ⊥) → S.read_faults src.new ≡ S.read_faults src.old }
-    ensures few { Takes (λ n. n ≤ most + 1) (S.rest src.old) (S.rest src.new) }
-    ensures never_falls { S.read_faults src.old ≤ S.read_faults src.new }
-{
-    let mut bytes = Vec::new(alloc);
-    let mut buf = [0; PIECE];
-    loop {
-        // Never more than one byte past the size is asked for.
-        let room = PIECE.min(most + 1 - bytes.len());
-        let n = match src.read(&mut buf[..room]) {
-            Ok(0) => return Ok(bytes),
-            Ok(n) => n,
-            Err(Failed) => return Err(InputFault::Read),
-        };
-        bytes
-            .extend_from_slice(&buf[..n])
-            .map_err(|_| InputFault::NoMemory)?;
-        if bytes.len() > most {
-            return Err(InputFault::TooLarge);
-        }
-    }
-}
 
 /// Where the first line begins that begins so.
 pub fn line_at(text: &[u8], word: &[u8]) -> Option<usize>
@@ -111,16 +68,16 @@ pub fn captured(alloc: Global, bytes: Vec<u8>) -> Result<Capture, Refusal>
 }
 
 /// Why there is no capture.
-fn refused(fault: CaptureRefused) -> Refusal
+fn refused(fault: InputFault) -> Refusal
     ensures { (r : Reason) → result ≡ Refusal.No r → (r ≡ Reason.Capture)
         × ((bytes : List ℕ) → InputFails bytes fault → (file : CaptureFile) → file.bytes ≡ bytes → IsInput file → ⊥) }
 {
     match fault {
-        CaptureRefused::Capture(fault) => match fault {
+        InputFault::Capture(fault) => match fault {
             CaptureFault::NoMemory => Refusal::NoMemory,
             _ => Refusal::No(Reason::Capture),
         },
-        CaptureRefused::Pcapng(fault) => match fault {
+        InputFault::Pcapng(fault) => match fault {
             PcapngFault::NoMemory => Refusal::NoMemory,
             _ => Refusal::No(Reason::Capture),
         },

@@ -5,8 +5,8 @@
 //! on one thread the orders that they give. A report passes only if all of that fits, and its first reason to fail is told.
 //!
 //! The parts, in the order in which a report meets them:
-//! - `input` reads all bytes and finds where the report ends and the capture begins; no part of either is copied but the capture,
-//!   once, into a list of its own.
+//! - `input` finds where the report ends and the capture begins; no part of either is copied but the capture, once, into a list of
+//!   its own.
 //! - `trace_lines`, a crate below, reads lines. Mark lines are only looked at there; they are read again, one by one, as they are
 //!   replayed, so that no list of marks is kept.
 //! - `squeue_replay`, another one, has the state of one squeue and what each mark does to it.

@@ -5,7 +5,7 @@ ghost use Rattle.std.specs.String.{string_bytes};
 ghost use Rattle.std.specs.Io.KnownBytes.{Appends};
 ghost use Rattle.std.specs.List.{flat_map};
 ghost use Rattle.sq_base.specs.Ends.{AppendsProperly, IsUntouched, Rose, end_of};
-ghost use Rattle.report_lines.specs.Telling.{TellsLine};
+ghost use Rattle.shell.specs.Telling.{TellsLine};
 ghost use Rattle.perimeter_core.specs.declared.marks.Mark.{Mark};
 ghost use Rattle.report_lines.specs.TraceText.{mark_line};
 ghost use Rattle.trace_lines.specs.Printed.{ArePrintedMarks};
@@ -17,13 +17,14 @@ ghost use Rattle.trace_replay.specs.Texts.{line, no_line};
 ghost use Rattle.pcapng_reader.specs.Input.{IsInput};
 
 use crate::comparing::first_wrong;
-use crate::input::{InputFault, captured, cut, line_at, read_all};
+use crate::input::{captured, cut, line_at};
 use crate::orders::serve_orders;
 use crate::reason::{Reason, Refusal};
 use crate::replaying::replay_all;
-use capture_reader::Capture;
+use capture_reader::{Capture, CaptureFault, read_within};
 use conn_classifier::plan;
 use report_lines::report_of;
+use shell::{NO_MEMORY, READ_FAULT, TOO_LARGE, Table, WRITE_FAULT, tell, tell_usage};
 use sq_base::{Sink, Source, put};
 use squeue_replay::Run;
 use std::alloc::{AllocError, Global};
@@ -32,15 +33,15 @@ use trace_lines::{calls, histories, setup_line};
 
 const YES: &[u8] = b"yes\n";
 
-pub const USAGE: &[u8] = b"usage: sqreplay\n";
+/// The name that the program calls itself by.
+const SQREPLAY: &str = "sqreplay";
 
-pub const NO_MEMORY: &[u8] = b"sqreplay: out of memory\n";
-
-const READ_FAULT: &[u8] = b"sqreplay: read fault\n";
-
-const WRITE_FAULT: &[u8] = b"sqreplay: write fault\n";
-
-const TOO_LARGE: &[u8] = b"sqreplay: too large\n";
+/// It takes no words.
+pub const TABLE: Table = Table {
+    program: SQREPLAY,
+    options: &[],
+    most_calls: 0,
+};
 
 /// The most bytes of an input.
 const MOST_BYTES: usize = 1_073_741_824;
@@ -126,13 +127,13 @@ pub fn replay_within<S: Source, K: Sink, E: Sink>(
         → (result ≡ Replayed.Yes) ⊎ (result ≡ Replayed.NoMemory) }
 {
     if !words.is_empty() {
-        return told(err, USAGE, Replayed::Usage);
+        return told_usage(err);
     }
-    let bytes = match read_all(alloc, src, most) {
+    let bytes = match read_within(alloc, src, most) {
         Ok(bytes) => bytes,
-        Err(InputFault::NoMemory) => return told(err, NO_MEMORY, Replayed::NoMemory),
-        Err(InputFault::Read) => return told(err, READ_FAULT, Replayed::ReadFault),
-        Err(InputFault::TooLarge) => return told(err, TOO_LARGE, Replayed::TooLarge),
+        Err(CaptureFault::Read) => return told(err, READ_FAULT, Replayed::ReadFault),
+        Err(CaptureFault::TooLarge(_)) => return told(err, TOO_LARGE, Replayed::TooLarge),
+        Err(_) => return told(err, NO_MEMORY, Replayed::NoMemory),
     };
     match judge(rt, alloc, bytes) {
         Ok(()) => answer(out, err, YES, Replayed::Yes),
@@ -158,13 +159,22 @@ fn answer<K: Sink, E: Sink>(out: &mut K, err: &mut E, text: &[u8], replayed: Rep
     }
 }
 
-/// Appends a line to `err`, where that works.
-pub fn told<E: Sink>(err: &mut E, text: &[u8], replayed: Replayed) -> Replayed
+/// Tells this under the program's name, where that works.
+pub fn told<E: Sink>(err: &mut E, what: &str, replayed: Replayed) -> Replayed
     ensures same { result ≡ replayed }
-    ensures told { TellsLine (end_of E.contents E.write_faults err.old err.new) text.now }
+    ensures told { TellsLine (end_of E.contents E.write_faults err.old err.new) (codes "sqreplay" ++ what.now) }
 {
-    let _ = put(err, text);
+    tell(err, SQREPLAY, what);
     replayed
+}
+
+/// Writes the usage line, where that works.
+pub fn told_usage<E: Sink>(err: &mut E) -> Replayed
+    ensures same { result ≡ Replayed.Usage }
+    ensures told { TellsLine (end_of E.contents E.write_faults err.old err.new) (line (codes "usage: sqreplay")) }
+{
+    tell_usage(err, &TABLE);
+    Replayed::Usage
 }
 
 fn line_of(alloc: Global, reason: Reason) -> Result<String, AllocError>

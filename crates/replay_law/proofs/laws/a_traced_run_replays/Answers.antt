@@ -15,6 +15,7 @@ use Rattle.replay_law.specs.Wrote.{WroteWhatReplays}
 use Rattle.replay_law.proofs.SuchCalls.{calls_said, setup_said, traced_reads}
 use Rattle.replay_law.proofs.SuchRuns.{served_replays}
 use Rattle.replay_law.proofs.laws.a_traced_run_replays.Goals as goal
+use Rattle.squeue_run.specs.Asked.{rules_of}
 
 wrote : (words : List Text) (a : Asked) (source out err : End) (back : Option ServedOf) → asked words ≡ Some a → a.setup.trace ≡ true → RanRead a source out err back status.Ok → WroteWhatReplays source out
 wrote words a source out err back accepted traced ran =
@@ -24,10 +25,10 @@ wrote words a source out err back accepted traced ran =
     let report = gets.output in
     let p = plan_of file a.verify in
     let calls = lists_of a.calls in
-    let says : gets.text ≡ trace_text p calls a.setup a.verify (orders_of v) (histories_of v) =
-    report.says ∙ ap (λ (b : Bool). if b then trace_text p calls a.setup a.verify (orders_of v) (histories_of v) else report_text p calls (orders_of v)) traced in
+    let says : gets.text ≡ trace_text p calls a.setup (rules_of a) (orders_of v) (histories_of v) =
+    report.says ∙ ap (λ (b : Bool). if b then trace_text p calls a.setup (rules_of a) (orders_of v) (histories_of v) else report_text p calls (orders_of v)) traced in
     let replays =
-    served_replays file a.verify a.setup calls v ran.1.capture (setup_said words a accepted traced) (calls_said words a (conns_of file a.verify) accepted ran.2.there) (ran.2.marks traced) report.served in
+    served_replays file a.verify a.setup calls v ran.1.capture (setup_said words a accepted traced) (calls_said words a (conns_of file a) accepted ran.2.there) (ran.2.marks traced) report.served in
     record {
       read = file.bytes;
       written = gets.text;
