@@ -7,3 +7,5 @@ mod MoreRuns
 mod Ran
 mod StreamTexts
 mod Suits
+mod Written
+pub mod InRange

@@ -1,34 +1,20 @@
 -- Accepted words and an accepted capture end with the whole report, where nothing fails.
-use Rattle.std.proofs.Common.{◌≡◌, ℕ, List, [], Option, Some, None, true, false, inl, inr, refl}
+use Rattle.std.proofs.Common.{Option, Some, None, inl, inr}
 use Rattle.sq_base.specs.Ends.{Rose, End}
 use Rattle.sq_base.specs.declared.kinds.Status.{Status}
 use Rattle.sq_base.specs.declared.kinds.Status.TheVariants as status
-use Rattle.pcapng_reader.specs.Input.{IsInput}
-use Rattle.capture_reader.specs.Outcome.{CaptureFile}
+use Rattle.capture_reader.specs.declared.fault.CaptureFault.TheVariants as fault
+use Rattle.capture_reader.proofs.Taken.{not_too_many}
+use Rattle.pcapng_reader.specs.Input.{IsRefusedCapture, IsRefusedPcapng}
+use Rattle.pcapng_reader.specs.declared.fault.PcapngFault.TheVariants as pcapng
+use Rattle.pcapng_reader.proofs.Inputs.{input_small, refused_not, refused_not_ng}
 use Rattle.ring_quotas.specs.declared.setup.Setup.{Setup}
-use Rattle.histories.specs.declared.mode.Mode.TheVariants as mode
-use Rattle.squeue_run.specs.Asked.{Asked}
-use Rattle.squeue_run.specs.Ran.{Accepts, IsDone}
-use Rattle.squeue_run.proofs.Complete.{is_done}
+use Rattle.shell.specs.Reading.{IsDone}
+use Rattle.shell.proofs.ReadOnce.{not_refused}
 use Rattle.datagram_services.specs.MoreRan.{HasMoreRan, MoreAccepts}
-
--- What no words ask of `sqrun`, whose refusals of an input are the same but for their lines: these go to an end of which nothing is known.
-no_words : Asked
-no_words = record { setup = record { squeues = 1; rings = 1; mode = mode.Process; budget = 64; spread = 0; trace = false }; verify = false; number = None; calls = [] }
-
-unknown : End
-unknown = record { was = None; is = None; faults_were = 0; faults_are = 0 }
-
-not_traced : false ≡ true → ⊥
-not_traced e = cc
-
-holds : (left : Option (List ℕ)) → ((file : CaptureFile) × (left ≡ Some file.bytes) × IsInput file) → Accepts (Some no_words) left
-unfolding no_words
-holds left can = record { file = can.0; bytes = can.1; capture = can.2; servable = record { there = tt; marks = λ e. absurd (not_traced e) } }
 
 pub is_more_done : (words : Option Setup) (source out err : End) (s : Status) → HasMoreRan words source out err s → MoreAccepts words source.was
     → (Rose source.faults_were source.faults_are → ⊥) → (Rose out.faults_were out.faults_are → ⊥) → IsDone s
-unfolding no_words unknown
 is_more_done None source out err s h can nr nw = absurd can
 is_more_done (Some a) source out err status.Ok h can nr nw = tt
 is_more_done (Some a) source out err status.NoMemory h can nr nw = tt
@@ -36,13 +22,10 @@ is_more_done (Some a) source out err status.Usage h can nr nw = absurd h.1
 is_more_done (Some a) source out err status.NoConnection h can nr nw = absurd h.1
 is_more_done (Some a) source out err status.ReadFault h can nr nw = absurd (nr h.0.0)
 is_more_done (Some a) source out err status.WriteFault h can nr nw = nw h.1.2.1
-is_more_done (Some a) source out err status.BadCapture (r, inl h) can nr nw =
-    is_done (Some no_words) source out unknown None status.BadCapture (record { ran = (r, inl (h.0, h.1, h.2, (h.3.0, inl (refl, tt)))); handed = refl }) (holds source.was can) nr nw
-is_more_done (Some a) source out err status.BadCapture (r, inr h) can nr nw =
-    is_done (Some no_words) source out unknown None status.BadCapture (record { ran = (r, inr (h.0, h.1, h.2, (h.3.0, inl (refl, tt)))); handed = refl }) (holds source.was can) nr nw
-is_more_done (Some a) source out err status.TooLarge (r, inl h) can nr nw =
-    is_done (Some no_words) source out unknown None status.TooLarge (record { ran = (r, inl (h.0, (h.1.0, inl (refl, tt)))); handed = refl }) (holds source.was can) nr nw
+is_more_done (Some a) source out err status.BadCapture (r, inl h) can nr nw = not_refused (IsRefusedCapture h.0) can.0 source can.1 (refused_not can.0 h.0 can.2) h.2
+is_more_done (Some a) source out err status.BadCapture (r, inr h) can nr nw = not_refused (IsRefusedPcapng h.0) can.0 source can.1 (refused_not_ng can.0 h.0 can.2) h.2
+is_more_done (Some a) source out err status.TooLarge (r, inl h) can nr nw = not_too_many can.0.bytes source.was source.is can.1 (input_small can.0 can.2) h.0
 is_more_done (Some a) source out err status.TooLarge (r, inr (inl h)) can nr nw =
-    is_done (Some no_words) source out unknown None status.TooLarge (record { ran = (r, inr (inl (h.0, (h.1.0, inl (refl, tt))))); handed = refl }) (holds source.was can) nr nw
+    not_refused (IsRefusedCapture fault.TooManyRecords) can.0 source can.1 (refused_not can.0 fault.TooManyRecords can.2) h.0
 is_more_done (Some a) source out err status.TooLarge (r, inr (inr h)) can nr nw =
-    is_done (Some no_words) source out unknown None status.TooLarge (record { ran = (r, inr (inr (inl (h.0, (h.1.0, inl (refl, tt)))))); handed = refl }) (holds source.was can) nr nw
+    not_refused (IsRefusedPcapng pcapng.TooManyRecords) can.0 source can.1 (refused_not_ng can.0 pcapng.TooManyRecords can.2) h.0

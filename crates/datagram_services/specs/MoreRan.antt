@@ -11,11 +11,10 @@ use Rattle.pcapng_reader.specs.Input.{IsInput, IsRefusedCapture, IsRefusedPcapng
 use Rattle.pcapng_reader.specs.declared.fault.PcapngFault.{PcapngFault}
 use Rattle.pcapng_reader.specs.declared.fault.PcapngFault.TheVariants as pcapng
 use Rattle.ring_quotas.specs.declared.setup.Setup.{Setup}
-use Rattle.squeue_run.specs.Input.{ReadsSuch}
-use Rattle.squeue_run.specs.Ran.{HasRead, IsBad, IsBadPcapng, Reads}
+use Rattle.shell.specs.Reading.{HasRead, IsBad, IsBadPcapng, Reads, ReadsSuch}
 use Rattle.datagram_services.specs.MoreText.{more_text}
-use Rattle.squeue_run.specs.Lines.{bad_line, many_bytes_line, many_records_line, memory_line, pcapng_line, read_line, write_line}
-use Rattle.report_lines.specs.Telling.{OnlyTells, TellsLine}
+use Rattle.shell.specs.Lines.{bad_line, many_bytes_line, many_records_line, memory_line, pcapng_line, read_line, write_line}
+use Rattle.shell.specs.Telling.{OnlyTells, TellsLine}
 use Rattle.datagram_services.specs.RefusalLines.{sqmore, usage_line}
 
 -- the report was written whole, and no write failed

@@ -4,8 +4,8 @@
 //! items of each stream as its feeds. `served` is what is handed out. There are no calls and no moves: a stream stays at its squeue, and
 //! one ring brings all its items.
 //!
-//! `reporting` writes what was served, `words` reads the command line, `refusal` has what is written where there is no report, `run` is
-//! the top call, and `process` alone touches the process' own ends.
+//! `reporting` says what was served line by line, `writing` writes it in pieces, `words` reads the command line, `refusal` has what is
+//! told where there is no whole report, `run` is the top call, and `process` alone touches the process' own ends.
 #![tactic(auto)]
 
 mod process;
@@ -16,6 +16,7 @@ mod served;
 mod serving;
 mod words;
 mod work;
+mod writing;
 
 pub use process::run_process;
 pub use reporting::more_report;

@@ -1,7 +1,9 @@
 //! The report, line by line.
 
-ghost use Rattle.std.specs.Prelude.{[], ◌≡◌, ◌<◌, ◌∷◌, ◌++◌, codes, decimal, IfOk, IfSome, OnOk, if◌then◌else◌, length, slice_get};
+ghost use Rattle.std.specs.Prelude.{[], ◌≡◌, ◌<◌, ◌≤◌, ◌∷◌, ◌++◌, codes, decimal, IfOk, IfSome, OnOk, if◌then◌else◌, length, slice_get, vec_capacity};
 ghost use Rattle.std.specs.List.{flat_map};
+ghost use Rattle.segment_codec.specs.Datagrams.{most_datagram};
+ghost use Rattle.text_digits.specs.Told.{more};
 ghost use Rattle.report_lines.specs.ReportText.{end_line, reply_line};
 ghost use Rattle.stream_blocks.specs.Served.{all_served};
 ghost use Rattle.datagram_services.specs.MoreText.{answer_line, counts_line, is_generator, items_line, plan_text};
@@ -11,11 +13,12 @@ ghost use Rattle.datagram_services.specs.Served.{IsMoreServed};
 use crate::served::MoreServed;
 use chargen_service::GenBlock;
 use report_lines::{push_datagram, push_last, push_next_end, push_replies};
+use segment_codec::MOST_DATAGRAM;
 use sq_base::{CHARGEN_PORT, ECHO_PORT, Octets, Tuple};
 use std::alloc::{AllocError, Global};
 use stream_blocks::Answer;
 use stream_plan::MorePlan;
-use text_digits::push_field;
+use text_digits::{TextEnd, push_field};
 
 /// The report of what was served of the plan: the counts, and for each stream its ends and service, its items, what was sent, and the
 /// generator's last state. Fails only for want of memory.
@@ -27,19 +30,35 @@ pub fn more_report(
     requires { IsMoreServed plan.now served.now.streams }
     ensures { IfOk result (λ text. text ≡ plan_text plan.now) }
 {
-    let mut text = Vec::from_slice(alloc, b"more 1\n")?;
-    push_counts(&mut text, plan)?;
-    let mut datagram = Vec::new(alloc);
-    for c in 0..plan.streams() {
-        push_stream(&mut text, &mut datagram, plan, served, c)?;
-    }
-    text.extend_from_slice(b"done\n")?;
+    let mut text = Vec::new(alloc);
+    let mut datagram = Vec::with_capacity(alloc, MOST_DATAGRAM)?;
+    push_report(&mut text, &mut datagram, plan, served)?;
     Ok(Octets::wrap(text))
 }
 
-fn push_counts(text: &mut Vec<u8>, plan: &MorePlan<'_>) -> Result<(), AllocError>
-    ensures { OnOk result (text.new.items ≡ text.old.items
-        ++ counts_line (length plan.now.file.packets) plan.now.file.cut plan.now.counts (length plan.now.streams)) }
+/// Appends that report. Each datagram is made in `datagram`, whose bytes are lost.
+pub fn push_report<T: TextEnd>(
+    text: &mut T,
+    datagram: &mut Vec<u8>,
+    plan: &MorePlan<'_>,
+    served: &MoreServed,
+) -> Result<(), T::Fault>
+    requires served { IsMoreServed plan.now served.now.streams }
+    requires room { most_datagram ≤ vec_capacity datagram.old }
+    ensures { OnOk result (T.told text.new ≡ more (T.told text.old) (plan_text plan.now)) }
+{
+    text.put(b"more 1\n")?;
+    push_counts(text, plan)?;
+    for c in 0..plan.streams() {
+        push_stream(text, datagram, plan, served, c)?;
+    }
+    text.put(b"done\n")?;
+    Ok(())
+}
+
+fn push_counts<T: TextEnd>(text: &mut T, plan: &MorePlan<'_>) -> Result<(), T::Fault>
+    ensures { OnOk result (T.told text.new ≡ more (T.told text.old)
+        (counts_line (length plan.now.file.packets) plan.now.file.cut plan.now.counts (length plan.now.streams))) }
 {
     push_records(text, plan)?;
     push_kinds(text, plan)?;
@@ -49,8 +68,8 @@ fn push_counts(text: &mut Vec<u8>, plan: &MorePlan<'_>) -> Result<(), AllocError
 
 /// How many records there are, and whether the last one is cut.
 #[tactic(auto, using(crate::proofs::Joins::joins))]
-fn push_records(text: &mut Vec<u8>, plan: &MorePlan<'_>) -> Result<(), AllocError>
-    ensures { OnOk result (text.new.items ≡ text.old.items ++ (codes "records " ++ (decimal (length plan.now.file.packets)
+fn push_records<T: TextEnd>(text: &mut T, plan: &MorePlan<'_>) -> Result<(), T::Fault>
+    ensures { OnOk result (T.told text.new ≡ more (T.told text.old) (codes "records " ++ (decimal (length plan.now.file.packets)
         ++ (codes " tail " ++ decimal (if plan.now.file.cut then 1 else 0))))) }
 {
     let capture = plan.capture();
@@ -60,8 +79,8 @@ fn push_records(text: &mut Vec<u8>, plan: &MorePlan<'_>) -> Result<(), AllocErro
 
 /// How many of them are served, and how many aren't.
 #[tactic(auto, using(crate::proofs::Joins::joins))]
-fn push_kinds(text: &mut Vec<u8>, plan: &MorePlan<'_>) -> Result<(), AllocError>
-    ensures { OnOk result (text.new.items ≡ text.old.items ++ (codes " served " ++ (decimal plan.now.counts.served
+fn push_kinds<T: TextEnd>(text: &mut T, plan: &MorePlan<'_>) -> Result<(), T::Fault>
+    ensures { OnOk result (T.told text.new ≡ more (T.told text.old) (codes " served " ++ (decimal plan.now.counts.served
         ++ (codes " nofit " ++ (decimal plan.now.counts.nofit ++ (codes " other " ++ decimal plan.now.counts.other)))))) }
 {
     let counts = plan.counts();
@@ -72,25 +91,27 @@ fn push_kinds(text: &mut Vec<u8>, plan: &MorePlan<'_>) -> Result<(), AllocError>
 
 /// How many streams there are, at the line's end.
 #[tactic(auto, using(crate::proofs::Joins::joins))]
-fn push_streams(text: &mut Vec<u8>, plan: &MorePlan<'_>) -> Result<(), AllocError>
-    ensures { OnOk result (text.new.items ≡ text.old.items ++ (codes " streams " ++ (decimal (length plan.now.streams) ++ 10 ∷ []))) }
+fn push_streams<T: TextEnd>(text: &mut T, plan: &MorePlan<'_>) -> Result<(), T::Fault>
+    ensures { OnOk result (T.told text.new ≡ more (T.told text.old) (codes " streams " ++ (decimal (length plan.now.streams) ++ 10 ∷ []))) }
 {
     push_field(text, b" streams ", plan.streams())?;
-    text.extend_from_slice(b"\n")
+    text.put(b"\n")
 }
 
 /// What stream `c` has in the report.
-fn push_stream(
-    text: &mut Vec<u8>,
+fn push_stream<T: TextEnd>(
+    text: &mut T,
     datagram: &mut Vec<u8>,
     plan: &MorePlan<'_>,
     served: &MoreServed,
     c: u32,
-) -> Result<(), AllocError>
+) -> Result<(), T::Fault>
     requires place { c < length plan.now.streams }
     requires served { IsMoreServed plan.now served.now.streams }
-    ensures { OnOk result (IfSome (slice_get plan.now.streams c) (λ s. text.new.items ≡ text.old.items
-        ++ stream_text c s (all_served plan.now.file s))) }
+    requires room { most_datagram ≤ vec_capacity datagram.old }
+    ensures room { most_datagram ≤ vec_capacity datagram.new }
+    ensures text { OnOk result (IfSome (slice_get plan.now.streams c) (λ s. T.told text.new ≡ more (T.told text.old)
+        (stream_text c s (all_served plan.now.file s)))) }
 {
     let tuple = plan.stream(c).tuple();
     push_head(text, c, &tuple)?;
@@ -99,8 +120,8 @@ fn push_stream(
     push_generated(text, datagram, &tuple, served.generator(c))
 }
 
-fn push_head(text: &mut Vec<u8>, c: u32, tuple: &Tuple) -> Result<(), AllocError>
-    ensures { OnOk result (text.new.items ≡ text.old.items ++ stream_line c tuple.now) }
+fn push_head<T: TextEnd>(text: &mut T, c: u32, tuple: &Tuple) -> Result<(), T::Fault>
+    ensures { OnOk result (T.told text.new ≡ more (T.told text.old) (stream_line c tuple.now)) }
 {
     push_field(text, b"stream ", c)?;
     push_protocol(text, tuple.server_port)?;
@@ -110,28 +131,28 @@ fn push_head(text: &mut Vec<u8>, c: u32, tuple: &Tuple) -> Result<(), AllocError
     Ok(())
 }
 
-fn push_protocol(text: &mut Vec<u8>, port: u16) -> Result<(), AllocError>
-    ensures { OnOk result (text.new.items ≡ text.old.items ++ 32 ∷ protocol_word port) }
+fn push_protocol<T: TextEnd>(text: &mut T, port: u16) -> Result<(), T::Fault>
+    ensures { OnOk result (T.told text.new ≡ more (T.told text.old) (32 ∷ protocol_word port)) }
 {
     push_word(text, protocol_name(port))
 }
 
 /// The name of the service at this port, which ends a line.
 #[tactic(auto, using(crate::proofs::Joins::joins))]
-fn push_service(text: &mut Vec<u8>, port: u16) -> Result<(), AllocError>
-    ensures { OnOk result (text.new.items ≡ text.old.items ++ 32 ∷ (service_word port ++ 10 ∷ [])) }
+fn push_service<T: TextEnd>(text: &mut T, port: u16) -> Result<(), T::Fault>
+    ensures { OnOk result (T.told text.new ≡ more (T.told text.old) (32 ∷ (service_word port ++ 10 ∷ []))) }
 {
     push_word(text, service_name(port))?;
-    text.extend_from_slice(b"\n")
+    text.put(b"\n")
 }
 
 /// Appends a space and a word.
 #[tactic(auto, using(crate::proofs::Joins::joins))]
-fn push_word(text: &mut Vec<u8>, word: &str) -> Result<(), AllocError>
-    ensures { OnOk result (text.new.items ≡ text.old.items ++ 32 ∷ word.now) }
+fn push_word<T: TextEnd>(text: &mut T, word: &str) -> Result<(), T::Fault>
+    ensures { OnOk result (T.told text.new ≡ more (T.told text.old) (32 ∷ word.now)) }
 {
-    text.extend_from_slice(b" ")?;
-    text.extend_from_slice(word.as_bytes())
+    text.put(b" ")?;
+    text.put(word.as_bytes())
 }
 
 fn protocol_name(port: u16) -> &'static str
@@ -152,18 +173,18 @@ fn service_name(port: u16) -> &'static str
 
 /// The line of so many items, of which there is at least one.
 #[tactic(auto, using(crate::proofs::Joins::joins), unfolding(crate::specs::MoreText::items_line))]
-fn push_items(text: &mut Vec<u8>, count: u32) -> Result<(), AllocError>
-    ensures { OnOk result (text.new.items ≡ text.old.items ++ items_line count) }
+fn push_items<T: TextEnd>(text: &mut T, count: u32) -> Result<(), T::Fault>
+    ensures { OnOk result (T.told text.new ≡ more (T.told text.old) (items_line count)) }
 {
     if count == 1 {
-        return text.extend_from_slice(b"order f0\n");
+        return text.put(b"order f0\n");
     }
     push_field(text, b"order f0-", count.saturating_sub(1))?;
-    text.extend_from_slice(b"\n")
+    text.put(b"\n")
 }
 
-fn push_answers(text: &mut Vec<u8>, answers: &[Answer]) -> Result<(), AllocError>
-    ensures { OnOk result (text.new.items ≡ text.old.items ++ flat_map answer_line answers.now) }
+fn push_answers<T: TextEnd>(text: &mut T, answers: &[Answer]) -> Result<(), T::Fault>
+    ensures { OnOk result (T.told text.new ≡ more (T.told text.old) (flat_map answer_line answers.now)) }
 {
     for answer in answers {
         push_answer(text, answer)?;
@@ -172,21 +193,23 @@ fn push_answers(text: &mut Vec<u8>, answers: &[Answer]) -> Result<(), AllocError
 }
 
 #[tactic(auto, using(crate::proofs::Joins::joins), unfolding(crate::specs::MoreText::answer_line))]
-fn push_answer(text: &mut Vec<u8>, answer: &Answer) -> Result<(), AllocError>
-    ensures { OnOk result (text.new.items ≡ text.old.items ++ answer_line answer.now) }
+fn push_answer<T: TextEnd>(text: &mut T, answer: &Answer) -> Result<(), T::Fault>
+    ensures { OnOk result (T.told text.new ≡ more (T.told text.old) (answer_line answer.now)) }
 {
     push_datagram(text, answer.at, answer.datagram.as_slice())
 }
 
 /// What the generator sent, and its last state where the stream is its own.
 #[tactic(auto, using(crate::proofs::Joins::joins))]
-fn push_generated(
-    text: &mut Vec<u8>,
+fn push_generated<T: TextEnd>(
+    text: &mut T,
     datagram: &mut Vec<u8>,
     tuple: &Tuple,
     generator: &GenBlock,
-) -> Result<(), AllocError>
-    ensures { OnOk result (text.new.items ≡ text.old.items ++ (flat_map (reply_line tuple.now) generator.now.block.replies
+) -> Result<(), T::Fault>
+    requires { most_datagram ≤ vec_capacity datagram.old }
+    ensures room { most_datagram ≤ vec_capacity datagram.new }
+    ensures text { OnOk result (T.told text.new ≡ more (T.told text.old) (flat_map (reply_line tuple.now) generator.now.block.replies
         ++ (if is_generator tuple.now.server_port then end_line generator.now.block.state else []))) }
 {
     push_replies(text, datagram, tuple, generator.tcb())?;

@@ -1,25 +1,24 @@
-//! The top call: from the words and the bytes of a capture to the bytes of a report.
+//! The top call: from the words and the bytes of a capture to a report that is written.
 
-ghost use Rattle.std.specs.Prelude.{◌≡◌, false, IfOk, MatchResult, map, string_bytes};
+ghost use Rattle.std.specs.Prelude.{◌≡◌, false, MatchResult, map, string_bytes};
 ghost use Rattle.sq_base.specs.Ends.{Rose, end_of};
 ghost use Rattle.ring_quotas.specs.Quotas.{IsInRange};
-ghost use Rattle.squeue_run.specs.Ran.{IsDone};
-ghost use Rattle.datagram_services.specs.MoreCauses.{MoreFails, MoreGives, ReadFails, ReadGives};
-ghost use Rattle.datagram_services.specs.MoreRan.{HasMoreRan, MoreAccepts};
-ghost use Rattle.datagram_services.specs.MoreText.{more_text};
+ghost use Rattle.shell.specs.Reading.{IsDone};
+ghost use Rattle.datagram_services.specs.MoreCauses.{MoreFails, MoreGives, ReadFails, ReadGives, ReportFails};
+ghost use Rattle.datagram_services.specs.MoreRan.{GetsReport, HasMoreRan, MoreAccepts};
 ghost use Rattle.datagram_services.specs.MoreWords.{more_setup};
 
-use crate::refusal::{Refusal, WRITE_FAULT, refuse, told};
-use crate::reporting::more_report;
+use crate::refusal::{Refusal, refuse};
 use crate::serving::serve_more;
 use crate::words::setup_words;
+use crate::writing::{Room, write_more};
 use capture_reader::{Capture, read_bytes};
 use pcapng_reader::{InputFault, parse_input};
 use perimeter_core::NoHook;
 use ring_quotas::Setup;
-use sq_base::{Octets, Sink, Source, Status, put};
-use squeue_run::WordFault;
-use std::alloc::{AllocError, Global};
+use shell::WordFault;
+use sq_base::{Sink, Source, Status};
+use std::alloc::Global;
 use std::sync::Wait;
 use std::thread::Threads;
 use stream_plan::more_plan;
@@ -51,72 +50,78 @@ pub fn more_run<S: Source, K: Sink, E: Sink>(
         → (Rose (S.read_faults src.old) (S.read_faults src.new) → ⊥) → (Rose (K.write_faults out.old) (K.write_faults out.new) → ⊥)
         → IsDone result }
 {
-    let text = match output(rt, alloc, words, src) {
-        Ok(text) => text,
-        Err(refusal) => return refuse(alloc, err, refusal),
-    };
-    match put(out, text.as_slice()) {
+    match output(rt, alloc, words, src, out) {
         Ok(()) => Status::Ok,
-        Err(_) => told(err, WRITE_FAULT, Status::WriteFault),
+        Err(refusal) => refuse(alloc, err, refusal),
     }
 }
 
-/// What is to be written, or why there is none.
-fn output<S: Source>(
+/// Writes the report, or says why there is no whole one. Unless a write failed, nothing is written then.
+fn output<S: Source, K: Sink>(
     rt: &(impl Threads + Wait + Sync),
     alloc: Global,
     words: &[String],
     src: &mut S,
-) -> Result<Octets, Refusal>
+    out: &mut K,
+) -> Result<(), Refusal>
     ensures { MatchResult result
-        (MoreGives (more_setup (map (λ w. string_bytes w) words.now)) (end_of S.rest S.read_faults src.old src.new))
-        (MoreFails (more_setup (map (λ w. string_bytes w) words.now)) (end_of S.rest S.read_faults src.old src.new)) }
+        (λ _. MoreGives (more_setup (map (λ w. string_bytes w) words.now)) (end_of S.rest S.read_faults src.old src.new)
+        (end_of K.contents K.write_faults out.old out.new))
+        (MoreFails (more_setup (map (λ w. string_bytes w) words.now)) (end_of S.rest S.read_faults src.old src.new)
+        (end_of K.contents K.write_faults out.old out.new)) }
 {
     match setup_words(alloc, words) {
-        Ok(setup) => output_for(rt, alloc, &setup, src),
+        Ok(setup) => output_for(rt, alloc, &setup, src, out),
         Err(WordFault::Usage) => Err(Refusal::Usage),
         Err(WordFault::NoMemory) => Err(Refusal::NoMemory),
     }
 }
 
-/// What is to be written for accepted words.
-fn output_for<S: Source>(
+/// The same for accepted words.
+fn output_for<S: Source, K: Sink>(
     rt: &(impl Threads + Wait + Sync),
     alloc: Global,
     setup: &Setup,
     src: &mut S,
-) -> Result<Octets, Refusal>
+    out: &mut K,
+) -> Result<(), Refusal>
     requires setup { IsInRange setup.now }
     requires spread { setup.now.spread ≡ 0 }
     requires trace { setup.now.trace ≡ false }
     ensures { MatchResult result
-        (ReadGives (end_of S.rest S.read_faults src.old src.new))
-        (ReadFails (end_of S.rest S.read_faults src.old src.new)) }
+        (λ _. ReadGives (end_of S.rest S.read_faults src.old src.new) (end_of K.contents K.write_faults out.old out.new))
+        (ReadFails (end_of S.rest S.read_faults src.old src.new) (end_of K.contents K.write_faults out.old out.new)) }
 {
     let bytes = match read_bytes(alloc, src) {
         Ok(bytes) => bytes,
         Err(fault) => return Err(Refusal::Input(InputFault::Capture(fault))),
     };
     match parse_input(alloc, bytes) {
-        Ok(capture) => Ok(report(rt, alloc, setup, &capture)?),
+        Ok(capture) => report(rt, alloc, setup, &capture, out),
         Err(fault) => Err(Refusal::Input(fault)),
     }
 }
 
-/// The report of a capture.
-#[tactic(auto, unfolding(crate::specs::MoreText::more_text))]
-fn report(
+/// Writes the report of a capture. Where memory is missing nothing is written.
+fn report<K: Sink>(
     rt: &(impl Threads + Wait + Sync),
     alloc: Global,
     setup: &Setup,
     capture: &Capture,
-) -> Result<Octets, AllocError>
+    out: &mut K,
+) -> Result<(), Refusal>
     requires setup { IsInRange setup.now }
     requires spread { setup.now.spread ≡ 0 }
     requires trace { setup.now.trace ≡ false }
-    ensures { IfOk result (λ text. text ≡ more_text capture.now) }
+    ensures { MatchResult result
+        (λ _. GetsReport capture.now (end_of K.contents K.write_faults out.old out.new))
+        (ReportFails capture.now (end_of K.contents K.write_faults out.old out.new)) }
 {
     let plan = more_plan(alloc, capture)?;
     let served = serve_more(rt, alloc, &plan, setup, &NoHook)?;
-    more_report(alloc, &plan, &served)
+    let room = Room::make(alloc)?;
+    match write_more(out, room, &plan, &served) {
+        Ok(()) => Ok(()),
+        Err(_) => Err(Refusal::Write),
+    }
 }

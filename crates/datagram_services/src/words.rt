@@ -1,20 +1,55 @@
-//! The words of the command line: the setup, and nothing else.
+//! The words of the command line: the table of the options, and the setup that they name.
 
 ghost use Rattle.std.specs.Prelude.{◌≡◌, false, Err, None, Some, IfOk, map, string_bytes};
-ghost use Rattle.std.specs.List.{list_any};
 ghost use Rattle.ring_quotas.specs.Quotas.{IsInRange};
-ghost use Rattle.squeue_run.specs.Causes.{asked_by_words};
-ghost use Rattle.datagram_services.specs.MoreWords.{is_plain, more_setup, names_spread};
+ghost use Rattle.shell.specs.Asked.{givens_of};
+ghost use Rattle.datagram_services.specs.MoreWords.{more_setup, setup_of};
 
-use ring_quotas::Setup;
-use squeue_run::{WordFault, Words, read_words};
+use histories::{MODE_WORDS, Mode};
+use ring_quotas::{MOST_BUDGET, MOST_RINGS, MOST_SQUEUES, Setup};
+use shell::{Asked, NoCall, OptionRow, Table, Takes, WordFault, words_asked};
 use std::alloc::Global;
 
-/// How words begin that name a spread: streams don't move.
-const SPREAD: &str = "--spread";
+/// The words that the program takes. Streams don't move, so there is no spread.
+pub const TABLE: Table = Table {
+    program: "sqmore",
+    options: &[
+        OptionRow {
+            name: "squeues",
+            takes: Takes::Number {
+                least: 1,
+                most: MOST_SQUEUES,
+                default: Some(1),
+            },
+        },
+        OptionRow {
+            name: "rings",
+            takes: Takes::Number {
+                least: 1,
+                most: MOST_RINGS,
+                default: Some(1),
+            },
+        },
+        OptionRow {
+            name: "mode",
+            takes: Takes::Text {
+                shown: MODE_WORDS,
+                default: Some("process"),
+            },
+        },
+        OptionRow {
+            name: "budget",
+            takes: Takes::Number {
+                least: 1,
+                most: MOST_BUDGET,
+                default: Some(64),
+            },
+        },
+    ],
+    most_calls: 0,
+};
 
-/// The setup that the words name, where they are words of `sqrun` that name nothing but squeues, rings, mode and budget. `Usage` comes
-/// exactly where they aren't.
+/// The setup that the words name. `Usage` comes exactly where they are refused.
 #[tactic(auto, unfolding(crate::specs::MoreWords::more_setup))]
 pub fn setup_words(alloc: Global, words: &[String]) -> Result<Setup, WordFault>
     ensures ok { IfOk result (λ s. more_setup (map (λ w. string_bytes w) words.now) ≡ Some s) }
@@ -23,39 +58,23 @@ pub fn setup_words(alloc: Global, words: &[String]) -> Result<Setup, WordFault>
     ensures trace { IfOk result (λ s. s.trace ≡ false) }
     ensures usage { result ≡ Err WordFault.Usage → more_setup (map (λ w. string_bytes w) words.now) ≡ None }
 {
-    if some_spread(words) {
-        return Err(WordFault::Usage);
-    }
-    let asked = read_words(alloc, words)?;
-    if plain(&asked) {
-        Ok(asked.setup)
-    } else {
-        Err(WordFault::Usage)
+    let asked = words_asked::<NoCall>(alloc, &TABLE, words)?;
+    match setup_in(&asked) {
+        Some(setup) => Ok(setup),
+        None => Err(WordFault::Usage),
     }
 }
 
-/// Whether the words ask for a setup without trace, and for nothing beside it.
-fn plain(asked: &Words) -> bool
-    requires { asked.now.trace ≡ asked.now.setup.trace }
-    ensures { result ≡ is_plain (asked_by_words asked.now) }
+/// The setup that the options name.
+fn setup_in(asked: &Asked<'_, NoCall>) -> Option<Setup>
+    ensures { result ≡ setup_of (givens_of asked.now.givens.items) }
 {
-    !asked.verify && !asked.trace && asked.number.is_none() && asked.named.is_empty()
-}
-
-/// Whether a word names a spread.
-fn some_spread(words: &[String]) -> bool
-    ensures { result ≡ list_any names_spread (map (λ w. string_bytes w) words.now) }
-{
-    for word in words {
-        if spreads(word) {
-            return true;
-        }
-    }
-    false
-}
-
-fn spreads(word: &str) -> bool
-    ensures { result ≡ names_spread word.now }
-{
-    word.starts_with(SPREAD)
+    Some(Setup {
+        squeues: asked.number("squeues")?,
+        rings: asked.number("rings")?,
+        mode: Mode::of(asked.text("mode")?)?,
+        budget: asked.number("budget")?,
+        spread: 0,
+        trace: false,
+    })
 }
