@@ -27,12 +27,12 @@ one_longer c n (suc k) =
 pub items_end : (c n k : ℕ) → items_of c n (k + 1) ≡ items_of c n k ++ record { c = c; n = n + k } ∷ []
 items_end c n k = ap (items_of c n) (let e : k + 1 ≡ suc k = omega arith in e) ∙ one_longer c n k
 
-all_of : (c n k : ℕ) → length (feeds_of c (entries (items_of c n k))) ≡ k
+pub all_of : (c n k : ℕ) → length (feeds_of c (entries (items_of c n k))) ≡ k
 all_of c n zero = refl
 all_of c n (suc k) = let b : (c == c) ≡ true = grind (arith, nat_tests) in rw b (ap suc (all_of c (suc n) k))
 
 -- k feeds of one stream, from the next one on
-enters_items : (S : Setting) (t : State) (p c n k : ℕ) (next : ℕ → ℕ) → p ≡ c % S.rings → is_here t c ≡ true → n ≡ next c → n + k ≤ slice_index S.limits.feeds c → Enters S t p next (entries (items_of c n k))
+pub enters_items : (S : Setting) (t : State) (p c n k : ℕ) (next : ℕ → ℕ) → p ≡ c % S.rings → is_here t c ≡ true → n ≡ next c → n + k ≤ slice_index S.limits.feeds c → Enters S t p next (entries (items_of c n k))
 enters_items S t p c n zero next mine here is within = tt
 enters_items S t p c n (suc k) next mine here is within =
     let one : (c == c) ≡ true = grind (arith, nat_tests) in

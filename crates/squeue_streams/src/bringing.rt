@@ -1,5 +1,5 @@
 //! What a source does: it pushes items, and enters their feeds.
-ghost use Rattle.std.specs.Prelude.{◌≡◌, ℕ, ◌+◌, ◌-◌, ◌^◌, ◌<◌, ◌≤◌, ◌⊎◌, [], ◌∷◌, ◌++◌, true, false, length, min, vec_capacity, IfErr, IfOk, OnOk};
+ghost use Rattle.std.specs.Prelude.{◌≡◌, ◌+◌, ◌-◌, ◌^◌, ◌<◌, ◌≤◌, ◌⊎◌, [], ◌∷◌, ◌++◌, true, false, min, vec_capacity, IfErr, IfOk, OnOk};
 ghost use Rattle.rtrb.specs.Ring.{known_free, sent};
 ghost use Rattle.turn_gate.specs.Passes.{number};
 ghost use Rattle.turn_gate.specs.declared.pass.Pass.{Pass};
@@ -234,8 +234,8 @@ impl<T: Drop> Source<T> {
     }
 }
 
-// Makes the chain of so many feeds of stream `c`, from number `first` on, in room that was made before.
-fn fill_chain(chain: &mut Vec<Feed>, c: u32, first: u32, count: u32)
+/// Makes the chain of so many feeds of stream `c`, from number `first` on, in room that was made before.
+pub fn fill_chain(chain: &mut Vec<Feed>, c: u32, first: u32, count: u32)
     requires room { count ≤ vec_capacity chain.old }
     requires fits { first + count < 2 ^ 32 }
     ensures chain { chain.new.items ≡ items_of c first count }

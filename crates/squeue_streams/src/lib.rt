@@ -13,6 +13,7 @@ mod renewing;
 mod source;
 mod streams;
 
-pub use renewing::{Renews, renew};
+pub use bringing::fill_chain;
+pub use renewing::{Renews, put_into, renew, take_from};
 pub use source::{Source, SourcePace};
 pub use streams::{Steps, Stream, Streams};

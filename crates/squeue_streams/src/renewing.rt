@@ -1,8 +1,11 @@
 //! Putting a stream in again, so that its feeds are numbered from 0 on.
-ghost use Rattle.std.specs.Prelude.{◌≡◌, ℕ, []};
+ghost use Rattle.std.specs.Prelude.{◌≡◌, ℕ, [], true, false};
+ghost use Rattle.turn_gate.specs.Passes.{seen};
 ghost use Rattle.placed_parts.specs.Standing.{HasHad};
 ghost use Rattle.perimeter_core.specs.declared.marks.SynchAct.TheVariants as Done;
-ghost use Rattle.conn_migrate.specs.Moving.{MayCome, MayLeave, Moved};
+ghost use Rattle.perimeter_core.specs.Deeds.{acts, due, fed};
+ghost use Rattle.squeue_state.specs.Naming.{setting_of};
+ghost use Rattle.conn_migrate.specs.Moving.{MayCome, MayLeave, Moved, RingLearns};
 ghost use Rattle.squeue_streams.specs.Renewing.{IsRenewed, MayRenew};
 
 use perimeter_core::{Hook, Resident};
@@ -37,8 +40,9 @@ pub fn renew<R: Renews, H: Hook, W: Wait>(
     put_into(sq, rt, alloc, hook, pass, c, R::renewed(part))
 }
 
-// Takes the part out, behind all that was queued for it, and leaves.
-fn take_from<R: Resident, H: Hook, W: Wait>(
+/// Takes the part of connection `c` out, behind all that was queued for it, and leaves. It has had all feeds that were entered for it
+/// since it was put in. It takes one ask of the pass's life.
+pub fn take_from<R: Resident, H: Hook, W: Wait>(
     sq: &Squeue<R>,
     rt: &W,
     alloc: Global,
@@ -48,6 +52,9 @@ fn take_from<R: Resident, H: Hook, W: Wait>(
 ) -> (Pass, R::Part)
     requires { MayLeave R.limits sq.now c pass }
     ensures moved { Moved R.limits sq.now (Done.Out c) [] pass result.0 }
+    ensures learns { RingLearns R.limits sq.now c false 1 pass result.0 }
+    ensures had { R.part_stands result.1 (acts (setting_of R.limits sq.now.given) (seen result.0) c) }
+    ensures all { fed (acts (setting_of R.limits sq.now.given) (seen result.0) c) ≡ due (seen pass) c }
     ensures stood { HasHad (R.part_stands result.1) }
     ensures part { R.is_part_of (R.origin sq.now.given.first) c result.1 }
 {
@@ -56,8 +63,9 @@ fn take_from<R: Resident, H: Hook, W: Wait>(
     (synch_exit::<R, Brand, W>(sq, rt, owner), part)
 }
 
-// Puts a part in to which nothing was done, and leaves.
-fn put_into<R: Resident, H: Hook, W: Wait>(
+/// Puts a part of connection `c` in to which nothing was done, and leaves: its feeds are numbered from 0 on. It takes one ask of the
+/// pass's life.
+pub fn put_into<R: Resident, H: Hook, W: Wait>(
     sq: &Squeue<R>,
     rt: &W,
     alloc: Global,
@@ -69,7 +77,9 @@ fn put_into<R: Resident, H: Hook, W: Wait>(
     requires may { MayCome R.limits sq.now c pass }
     requires new { R.part_stands part [] }
     requires part { R.is_part_of (R.origin sq.now.given.first) c part }
-    ensures { Moved R.limits sq.now (Done.In c) [] pass result }
+    ensures moved { Moved R.limits sq.now (Done.In c) [] pass result }
+    ensures learns { RingLearns R.limits sq.now c true 0 pass result }
+    ensures next { due (seen result) c ≡ 0 }
 {
     let mut owner = synch_enter(sq, rt, alloc, hook, pass);
     put_block(&mut owner, c, part);

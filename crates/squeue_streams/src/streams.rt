@@ -1,16 +1,16 @@
 //! The parts: what is made of the items of each stream.
-ghost use Rattle.std.specs.Prelude.{◌≡◌, ◌+◌, ◌^◌, ◌<◌, ◌≤◌, ℕ, [], ◌∷◌, ◌++◌, IfOk, length};
+ghost use Rattle.std.specs.Prelude.{◌≡◌, ◌+◌, ◌^◌, ◌<◌, ℕ, [], ◌∷◌, ◌++◌, IfOk, length};
 ghost use Rattle.std.proofs.Common.{Global, List};
 ghost use Rattle.rtrb.specs.declared.AnyItems.{AnyItems};
 ghost use Rattle.rtrb.specs.declared.consumer.Consumer.{Consumer};
-ghost use Rattle.rtrb.specs.Ring.{IsPair, SameConsumer, received};
+ghost use Rattle.rtrb.specs.Ring.{IsPair, ProducerLooked, SameConsumer, received, sent};
 ghost use Rattle.squeue_streams.specs.Sourcing.{SameCounts, entered_of, producer_of, sent_of};
-ghost use Rattle.squeue_streams.specs.Taking.{calls_of, count_of, feeds_of, input_of, items_of, state_of, steps_of, streams_of};
+ghost use Rattle.squeue_streams.specs.Taking.{SameStream, calls_of, count_of, feeds_of, input_of, items_of, state_of, steps_of, streams_of};
 
 use crate::renewing::Renews;
 use crate::source::Source;
 use placed_parts::{Parts, Places};
-use rtrb::{Consumer, RingBuffer};
+use rtrb::{Consumer, Producer, RingBuffer};
 use std::alloc::{AllocError, Global};
 use std::sync::Wait;
 use std::thread;
@@ -105,6 +105,16 @@ impl<T: Drop, S: Drop> Stream<T, S> {
         ensures left { (left : List T) × (length left ≡ result) × (items_of self.old ++ left ≡ sent_of source.old) }
     {
         self.input.slots_beside(&mut source.producer)
+    }
+
+    /// How many items are pushed and not popped yet, where the end of the ring that pushes is at hand. Nothing else changes.
+    pub fn left_behind(&mut self, producer: &mut Producer<T>) -> usize
+        requires { IsPair producer.old (input_of self.old) }
+        ensures same { SameStream self.old self.new }
+        ensures producer { ProducerLooked producer.old producer.new }
+        ensures left { (left : List T) × (length left ≡ result) × (items_of self.old ++ left ≡ sent producer.old) }
+    {
+        self.input.slots_beside(producer)
     }
 
     /// How many items were popped, modulo 2^64.

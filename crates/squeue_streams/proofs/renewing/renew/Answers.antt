@@ -11,4 +11,4 @@ pub put_into-requires-clause-part : goal.put_into-requires-clause-part
 put_into-requires-clause-part g c = c.renewed.ensures.owner (g.R.Resident.origin c.args.sq.now.given.first) c.args.c c.take_from-pass.ensures.part
 
 pub returns : goal.returns
-returns g c = record { renewed = record { between = c.take_from-pass.result.0; out = c.take_from-pass.ensures.moved; come = c.put_into.ensures } }
+returns g c = record { renewed = record { between = c.take_from-pass.result.0; out = c.take_from-pass.ensures.moved; come = c.put_into.ensures.moved } }

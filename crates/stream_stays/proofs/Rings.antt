@@ -1,0 +1,52 @@
+-- The two ends of a ring, and what was made of its items.
+use Rattle.std.proofs.Common.{◌≡◌, Global, ℕ, ◌%◌, ◌^◌, List, [], ◌∷◌, ◌++◌, length, ap, sym, ◌∙◌, subst}
+use Rattle.rtrb.specs.declared.AnyItems.{AnyItems}
+use Rattle.rtrb.specs.declared.consumer.Consumer.{Consumer}
+use Rattle.rtrb.specs.declared.producer.Producer.{Producer}
+use Rattle.rtrb.specs.Ring.{IsPair, SameConsumer, SameProducer}
+use Rattle.squeue_streams.specs.declared.streams.Stream.{Stream}
+use Rattle.squeue_streams.specs.Taking.{IsStreamOf, SameStream, Takes, input_of, items_of, state_of}
+use Rattle.squeue_streams.proofs.Items.{same_end}
+use Rattle.stream_stays.specs.Staying.{IsOfRing}
+
+-- what was made of the last of some items
+pub takes_behind : {T S : Type 0} (step : S → T → S → Type 0) (from to : S) (xs ys : List T) → Takes step from (xs ++ ys) to → (at : S) × Takes step at ys to
+takes_behind step from to [] ys t = (from, t)
+takes_behind step from to (x ∷ xs) ys t = takes_behind step t.0 to xs ys t.2
+
+module _ {T : Type 0} where
+  -- who has one end has it also where the other one went on
+  pub pair_on : (p : Producer T Global AnyItems) (a b : Consumer T Global AnyItems) → IsPair p a → SameConsumer a b → IsPair p b
+  pair_on p a b x y = (y.0.0 ∙ x.0, y.0.1 ∙ x.1, y.0.2 ∙ x.2, y.0.3 ∙ x.3)
+
+  pub pair_by : (p q : Producer T Global AnyItems) (a : Consumer T Global AnyItems) → IsPair p a → SameProducer p q → IsPair q a
+  pair_by p q a x y = (x.0 ∙ sym y.0.0, x.1 ∙ sym y.0.1, x.2 ∙ sym y.0.2, x.3 ∙ sym y.0.3)
+
+  module _ {S O : Type 0} (begins : O → ℕ → Consumer T Global AnyItems → S → Type 0) where
+    pub of_ring : (o : O) (c : ℕ) (p q : Producer T Global AnyItems) → SameProducer p q → IsOfRing begins o c p → IsOfRing begins o c q
+    of_ring o c p q same is = λ input first begun. pair_by p q input (is input first begun) same
+
+    module _ (step : O → S → T → S → Type 0) (o : O) (c : ℕ) (a : Stream T S) (is : IsStreamOf begins step o c a) where
+      -- the part of a stream has the other end of its ring
+      pub its_pair : (p : Producer T Global AnyItems) → IsOfRing begins o c p → IsPair p (input_of a)
+      its_pair p ring = pair_on p is.first_input (input_of a) (ring is.first_input is.first is.begun) is.its_ring
+
+      still_made : (b : Stream T S) → SameStream a b → Takes (step o) is.first (items_of b) (state_of b)
+      still_made b same = subst (λ (xs : List T). Takes (step o) is.first xs (state_of b)) (sym same.items) (subst (λ (t : S). Takes (step o) is.first (items_of a) t) (sym same.state) is.taken)
+
+      -- and is a part of the stream as long as nothing is made of more items
+      pub still_its : (b : Stream T S) → SameStream a b → IsStreamOf begins step o c b
+      still_its b same =
+          record {
+            first = is.first;
+            first_input = is.first_input;
+            begun = is.begun;
+            its_ring = same_end is.first_input (input_of a) (input_of b) is.its_ring same.ring;
+            taken = still_made b same;
+            counted = same.count ∙ (is.counted ∙ sym (ap (λ (xs : List T). length xs % 2 ^ 64) same.items));
+          }
+
+      -- of all items the last ones made its state
+      pub made_of : (b : Stream T S) (before mine all : List T) → SameStream a b → items_of b ≡ all → all ≡ before ++ mine → (from : S) × Takes (step o) from mine (state_of b)
+      made_of b before mine all same are split =
+          takes_behind (step o) is.first (state_of b) before mine (subst (λ (xs : List T). Takes (step o) is.first xs (state_of b)) (are ∙ split) (still_made b same))

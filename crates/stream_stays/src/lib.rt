@@ -1,0 +1,15 @@
+//! Streams whose stays at a squeue follow one another.
+//!
+//! A stream has a ring of its own, which is made once. While it is at no squeue its thread has both ends of the ring ([`Vacant`]).
+//! To [`open`] it the thread puts its part in at an Ask of its own, as one that has had no feeds, and keeps the end that pushes
+//! ([`Stay`]): it pushes items, and enters a feed for each. To [`close`] it the thread takes the part out at an Ask of its own, and
+//! looks at both ends of the ring. So each stay is told by a call that returns, also where the squeue runs for ever; and neither
+//! call takes memory. A pass may have many streams: what it knows of the others is the same after each of these calls.
+#![tactic(auto)]
+
+mod entering;
+mod passing;
+mod stay;
+
+pub use passing::{Closed, close, open};
+pub use stay::{Stay, Vacant};
