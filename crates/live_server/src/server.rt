@@ -87,6 +87,13 @@ impl Server {
         }
     }
 
+    /// How many connections it has.
+    pub fn connections(&self) -> usize
+        ensures { result ≡ length self.now.conns }
+    {
+        self.conns.len()
+    }
+
     /// What it met since it was made.
     pub fn counts(&self) -> Counts
         ensures { result ≡ self.now.counts }

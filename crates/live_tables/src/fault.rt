@@ -41,8 +41,7 @@ impl Fault {
     /// What is told of it.
     pub fn line(self) -> &'static str {
         match self {
-            Fault::Words =>
-                "usage: sqlive_rings --rings N --squeues M --mode process|nodrain|fill --budget N frames SECRET SETTING | device SETTING, and then IN OUT for each ring",
+            Fault::Words => "the words are none of the usage line",
             Fault::NoMemory => "out of memory",
             Fault::Reading => "cannot read",
             Fault::Writing => "cannot write",

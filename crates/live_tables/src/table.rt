@@ -1,7 +1,7 @@
 //! What is at a squeue for a stream: its server, and where what it sends is written.
 
-ghost use Rattle.std.specs.Prelude.{◌≡◌, None, false};
-ghost use Rattle.live_tables.specs.Tables.{IsFirst, IsNew, Serves, Writes, fault_of, first_of, sink_of};
+ghost use Rattle.std.specs.Prelude.{◌≡◌, None, false, length};
+ghost use Rattle.live_tables.specs.Tables.{IsFirst, IsNew, Serves, Writes, fault_of, first_of, server_of, sink_of};
 
 use crate::fault::Fault;
 use crate::frame::Frame;
@@ -42,6 +42,13 @@ impl<K: Sink> Table<K> {
         ensures { result ≡ fault_of self.now }
     {
         self.fault
+    }
+
+    /// How many connections its server has.
+    pub fn connections(&self) -> usize
+        ensures { result ≡ length (server_of self.now).conns }
+    {
+        self.server.connections()
     }
 
     /// Where it writes.

@@ -1,0 +1,2 @@
+pub mod Conns
+pub mod Backs
