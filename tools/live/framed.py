@@ -1,10 +1,9 @@
-"""sqlive over frames, where the test gives the time: each step is deterministic, and needs neither root nor a device."""
+"""The live server over frames, where the test gives the time: each step is deterministic, and needs neither root nor a device."""
 import socket
-import subprocess
 
 import tcp_segments
-from tcp_segments import ACK, FIN, PSH, RST, SYN
-from wire import CLIENT, HEAD, SERVER, frames_words
+from frames import CLIENT, HEAD, SERVER, started
+from tcp_segments import ACK, FIN, PSH, SYN
 
 SECOND = 1_000_000
 MSS = b"\2\4\5\xb4"
@@ -13,16 +12,17 @@ MSS = b"\2\4\5\xb4"
 class Framed:
     """The program, as a context. The clock begins at a second."""
     def __init__(self, program, **setting):
-        self.words, self.now, self.mark = [program, *frames_words(**setting)], SECOND, 0
+        self.program, self.setting, self.now, self.mark = program, setting, SECOND, 0
 
     def __enter__(self):
-        self.program = subprocess.Popen(self.words, stdin=subprocess.PIPE, stdout=subprocess.PIPE)
+        self.server = started(self.program, **self.setting)
+        self.into, self.out_of = self.server.stdin, self.server.stdout
         return self
 
     def __exit__(self, *_):
-        self.program.stdin.close()
-        status = self.program.wait()
-        self.program.stdout.close()
+        self.into.close()
+        status = self.server.wait(60)
+        self.out_of.close()
         assert status == 0, f"the program ended with status {status}"
 
     def step(self, *datagrams, after=0):
@@ -34,12 +34,12 @@ class Framed:
         self.mark += 1
         mark = datagram(40000, 1, self.mark, 0, SYN, source="10.9.0.250")
         for body in (*(datagrams or (b"",)), mark):
-            self.program.stdin.write(HEAD.pack(len(body), self.now) + body)
-        self.program.stdin.flush()
+            self.into.write(HEAD.pack(len(body), self.now) + body)
+        self.into.flush()
         sent = []
         while True:
-            length, _ = HEAD.unpack(self.program.stdout.read(HEAD.size))
-            found = tcp_segments.read(self.program.stdout.read(length))
+            length, _ = HEAD.unpack(self.out_of.read(HEAD.size))
+            found = tcp_segments.read(self.out_of.read(length))
             if (found.source_port, found.ack) == (1, self.mark + 1):
                 return sent
             sent.append(found)

@@ -9,7 +9,8 @@ import subprocess
 import tempfile
 from pathlib import Path
 
-from wire import SERVER, launcher
+import tun
+from frames import SERVER
 
 HERE = Path(__file__).resolve().parent
 LWIP, LWIP_NETWORK = "10.8.0.2", ipaddress.ip_interface("10.8.0.1/24")
@@ -35,8 +36,8 @@ class Lwip:
         self.program = f"{self.folder.name}/lwip_client"
         subprocess.run(["cc", "-O2", "-o", self.program, HERE / "lwip_client.c", f"-I{LWIP_HEADERS}", "-llwip"], check=True)
         Path("/proc/sys/net/ipv4/ip_forward").write_text("1")
-        self.device, self.first = launcher.open_device("lwip0"), 40000
-        launcher.set_up("lwip0", LWIP_NETWORK)
+        self.device, self.first = tun.open_device("lwip0"), 40000
+        tun.set_up("lwip0", LWIP_NETWORK)
         return self
 
     def __exit__(self, *_):

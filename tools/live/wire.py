@@ -17,20 +17,12 @@ import subprocess
 import sys
 import time
 from dataclasses import dataclass, field
-from importlib.machinery import SourceFileLoader
-from pathlib import Path
 
-TOOLS = Path(__file__).resolve().parent.parent
-launcher = SourceFileLoader("launcher", str(TOOLS / "sqlive")).load_module()
-HEAD = struct.Struct(">QQ")
-CLONE_NEWNET, F_SETPIPE_SZ = 0x40000000, 1031
-CLIENT, SERVER, SECRET = "10.9.0.1", "10.9.0.2", "000102030405060708090a0b0c0d0e0f"
+import tun
+from frames import CLIENT, HEAD, started
+from programs import most_memory_kb
 
-
-def frames_words(**setting):
-    """The words of a run over frames, whose network is that of the client."""
-    network = ipaddress.ip_interface(CLIENT + "/24").network
-    return ["frames", SECRET, *launcher.setting(ipaddress.ip_address(SERVER), network.broadcast_address, **setting)]
+CLONE_NEWNET, F_SETPIPE_SZ, PIPE = 0x40000000, 1031, 1 << 20
 
 
 def new_namespace():
@@ -70,14 +62,14 @@ class Direction:
 class Wire:
     def __init__(self, program, impairments, places=1024, capture=None, tick=0.02, mtu=1500):
         self.asked, self.random = impairments, random.Random(impairments.seed)
-        self.device = launcher.open_device("wire0")
-        launcher.set_up("wire0", ipaddress.ip_interface(CLIENT + "/24"), mtu)
+        self.device = tun.open_device("wire0")
+        tun.set_up("wire0", ipaddress.ip_interface(CLIENT + "/24"), mtu)
         os.set_blocking(self.device, False)
-        self.child = subprocess.Popen([program, *frames_words(places=places)], stdin=subprocess.PIPE, stdout=subprocess.PIPE, bufsize=0)
+        self.child = started(program, places=places)
         self.into, self.out_of = self.child.stdin.fileno(), self.child.stdout.fileno()
         for pipe in (self.into, self.out_of):
             os.set_blocking(pipe, False)
-            fcntl.fcntl(pipe, F_SETPIPE_SZ, 1 << 20)
+            fcntl.fcntl(pipe, F_SETPIPE_SZ, PIPE)
         self.start, self.tick, self.next_tick = time.monotonic(), tick, 0.0
         self.to_write, self.was_read = bytearray(), bytearray()
         self.heap, self.entered, self.ended = [], 0, False
@@ -179,8 +171,7 @@ class Wire:
             pass
 
     def result(self):
-        status = Path(f"/proc/{self.child.pid}/status").read_text()
-        return dict(inward=self.inward.counts, outward=self.outward.counts, peak_kb=int(status.split("VmHWM:")[1].split()[0]))
+        return dict(inward=self.inward.counts, outward=self.outward.counts, peak_kb=most_memory_kb(self.child.pid))
 
     def end(self, *_):
         self.ended = True
@@ -219,17 +210,21 @@ class Wire:
                     self.read_device()
                 elif pipe == self.out_of:
                     self.read_program()
-            now = time.monotonic()
-            while self.heap and self.heap[0][0] <= now:
-                _, _, way, datagram = heapq.heappop(self.heap)
-                way.queued -= bool(self.asked.rate)
-                way.deliver(datagram)
-            if now >= self.next_tick:
-                self.next_tick = now + self.tick
-                self.to_write += HEAD.pack(0, self.now())
+            self.deliver_due()
             if self.to_write:
                 self.write_program()
         self.finish()
+
+    def deliver_due(self):
+        """What the wire held comes, and every 20 ms the time."""
+        now = time.monotonic()
+        while self.heap and self.heap[0][0] <= now:
+            _, _, way, datagram = heapq.heappop(self.heap)
+            way.queued -= bool(self.asked.rate)
+            way.deliver(datagram)
+        if now >= self.next_tick:
+            self.next_tick = now + self.tick
+            self.to_write += HEAD.pack(0, self.now())
 
 
 def main():

@@ -1,7 +1,7 @@
 // Search, and definitions beside what cites them. It asks for nothing from the net.
 "use strict";
 const find = document.getElementById("find"), hits = document.getElementById("hits"), beside = document.getElementById("beside");
-const frame = beside.querySelector("iframe"), whole = document.getElementById("whole");
+const frame = beside.querySelector("iframe"), whole = document.getElementById("beside.whole");
 const MOST = 40;
 let from = null;
 
@@ -82,7 +82,7 @@ document.addEventListener("click", event => {
   document.body.classList.add("aside");
   frame.focus();
 });
-document.getElementById("close").addEventListener("click", close);
+document.getElementById("beside.close").addEventListener("click", close);
 addEventListener("message", event => {
   if (event.source !== frame.contentWindow) return;
   if (event.data === "close") close();

@@ -302,7 +302,8 @@ def field_rows(site, item):
             continue
         shown = part.text
         if part.ghost:
-            text = shown.strip().removeprefix("{").removesuffix("}").strip()
+            # What holds of it, without how that is shown (`by { .. }`).
+            text = re.sub(r"\}\s*by\s*\{.*\}$", "}", shown.strip(), flags=re.S).removeprefix("{").removesuffix("}").strip()
             about = context(site, item)
             body = linked(site, cited.pieces(text, item.scope, site.library, about.own, about.near, about.member), 0, f"{item.where}: {item.name}, ghost {part.name}")
         else:
@@ -371,7 +372,7 @@ def page(title, body, up=0, script=True, name="page"):
     search = ('<form class=search role=search><label for=find>Search</label><input id=find type=search autocomplete=off spellcheck=false '
               'placeholder="a type, a call, a clause\'s definition" aria-controls=hits aria-keyshortcuts=/><ol id=hits hidden></ol></form>') if script else ""
     scripts = f'<script src="{top}names.js" defer></script><script src="{top}api.js" defer></script>' if script else f'<script src="{top}definitions.js" defer></script>'
-    beside = ('<aside id=beside hidden aria-label="Definition"><p><button type=button id=close>Close</button> <a id=whole href="#">Open as a page</a></p>'
+    beside = ('<aside id=beside hidden aria-label="Definition"><p><button type=button id=beside.close>Close</button> <a id=beside.whole href="#">Open as a page</a></p>'
               '<iframe name=beside title="Definition"></iframe></aside>') if script else ""
     header = f'<header><a href="{top}index.html">{TITLE}</a>{search}</header>' if script else ""
     return (f'<!doctype html><html lang=en><meta charset=utf-8><meta name=viewport content="width=device-width,initial-scale=1"><title>{escape(title)}</title>'

@@ -1,0 +1,50 @@
+"""The live server as a process: where it is, its words, and how it is started without privileges."""
+import ctypes
+import os
+import signal
+import subprocess
+from pathlib import Path
+
+TOP = Path(__file__).resolve().parents[2]
+# The user and the group "nobody" of Debian.
+NOBODY = 65534
+PR_SET_PDEATHSIG, PR_SET_NO_NEW_PRIVS = 1, 38
+
+
+def built(name):
+    """The program as ./build leaves it, else as tools/try-build does; the former where there is neither."""
+    proved, unproved = TOP / name, TOP / f"{name}-unproved"
+    return str(unproved if unproved.exists() and not proved.exists() else proved)
+
+
+def setting(server, broadcast, places=1024, idle=7200, memory=256 << 20, mtu=1500):
+    """The words that say what a server is started with. Both headers of a segment take 40 bytes."""
+    return [server.packed.hex(), broadcast.packed.hex(), str(places), str(idle), str(memory), str(mtu - 40)]
+
+
+def end_with_the_launcher():
+    """The process ends when its parent does, and never gains a privilege."""
+    libc = ctypes.CDLL(None, use_errno=True)
+    if libc.prctl(PR_SET_PDEATHSIG, signal.SIGKILL, 0, 0, 0) or libc.prctl(PR_SET_NO_NEW_PRIVS, 1, 0, 0, 0):
+        os._exit(126)
+
+
+def as_nobody(program, words, device):
+    """Starts a program as nobody, with the device as its standard input and output. Nobody may not see the folder that it lies in."""
+    file = os.open(program, os.O_RDONLY | os.O_CLOEXEC)
+    try:
+        return subprocess.Popen(words, executable=f"/proc/self/fd/{file}", pass_fds=[file], stdin=device, stdout=device,
+                                user=NOBODY, group=NOBODY, extra_groups=[], preexec_fn=end_with_the_launcher)
+    finally:
+        os.close(file)
+
+
+def most_memory_kb(pid):
+    """The most memory that a process had."""
+    return int(Path(f"/proc/{pid}/status").read_text().split("VmHWM:")[1].split()[0])
+
+
+def cpu_seconds(pid):
+    """The processor time of a process so far."""
+    ticks = Path(f"/proc/{pid}/stat").read_text().rsplit(")", 1)[1].split()[11:13]
+    return sum(map(int, ticks)) / os.sysconf("SC_CLK_TCK")

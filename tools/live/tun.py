@@ -1,0 +1,43 @@
+"""TUN devices, whose reads and writes are whole IPv4 datagrams."""
+import errno
+import fcntl
+import os
+import socket
+import struct
+
+TUNSETIFF, SIOCSIFFLAGS, SIOCSIFADDR, SIOCSIFNETMASK, SIOCSIFMTU, SIOCSIFTXQLEN = 0x400454CA, 0x8914, 0x8916, 0x891C, 0x8922, 0x8943
+TUN_WITHOUT_HEADER = 0x0001 | 0x1000
+UP_AND_RUNNING = 0x1 | 0x40
+# So many datagrams wait for the program: more are lost, and a lost one costs a second.
+QUEUE = 10000
+
+
+def open_device(name):
+    """A TUN device."""
+    device = os.open("/dev/net/tun", os.O_RDWR | os.O_CLOEXEC)
+    try:
+        fcntl.ioctl(device, TUNSETIFF, struct.pack("16sH22x", name.encode(), TUN_WITHOUT_HEADER))
+    except OSError:
+        os.close(device)
+        raise
+    return device
+
+
+def set_up(name, interface, mtu=1500):
+    """Gives the device an address with its network, and switches it on."""
+    def address(ip):
+        return struct.pack("16sHH4s8x", name.encode(), socket.AF_INET, 0, ip.packed)
+
+    with socket.socket(socket.AF_INET, socket.SOCK_DGRAM) as any_socket:
+        fcntl.ioctl(any_socket, SIOCSIFADDR, address(interface.ip))
+        fcntl.ioctl(any_socket, SIOCSIFNETMASK, address(interface.network.netmask))
+        fcntl.ioctl(any_socket, SIOCSIFMTU, struct.pack("16si12x", name.encode(), mtu))
+        fcntl.ioctl(any_socket, SIOCSIFTXQLEN, struct.pack("16si12x", name.encode(), QUEUE))
+        fcntl.ioctl(any_socket, SIOCSIFFLAGS, struct.pack("16sH14x", name.encode(), UP_AND_RUNNING))
+
+
+def why_none(error, name):
+    """What is in the way of a TUN device."""
+    return {errno.EBUSY: f"{name} is in use, so another tools/sqlive runs (--device names another one)",
+            errno.EPERM: "it takes root", errno.EACCES: "it takes root",
+            errno.ENOENT: "there is no /dev/net/tun (modprobe tun)", errno.ENODEV: "there is no /dev/net/tun (modprobe tun)"}.get(error.errno, error.strerror)
