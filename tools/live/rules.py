@@ -8,8 +8,7 @@ def addresses(program):
     with Framed(program) as server:
         for port in (7, 80):
             for ends in ({"source": "255.255.255.255"}, {"source": "224.0.0.1"}, {"source": "240.0.0.1"}, {"source": "0.0.0.0"}, {"source": "127.0.0.1"},
-                         {"source": "10.9.0.255"}, {"source": "10.9.0.2"}, {"target": "255.255.255.255"}, {"target": "224.0.0.1"},
-                         {"target": "10.9.0.255"}, {"target": "8.8.8.8"}):
+                         {"source": "10.9.0.255"}, {"source": "10.9.0.2"}, {"target": "255.255.255.255"}, {"target": "224.0.0.1"}, {"target": "10.9.0.255"}, {"target": "8.8.8.8"}):
                 for flags in (SYN, ACK):
                     assert server.step(datagram(40000, port, 1, 1, flags, **ends)) == [], f"an answer to port {port}, {ends}"
             assert server.step(datagram(port, port, 1, 0, SYN, source="10.9.0.2")) == [], "an answer to two equal ends"
