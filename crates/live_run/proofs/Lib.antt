@@ -1,3 +1,4 @@
+pub mod SplitTexts
 pub mod ReadLemmas
 pub mod FrontLemmas
 pub mod PutLemmas
