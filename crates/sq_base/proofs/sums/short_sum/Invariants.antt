@@ -1,6 +1,6 @@
 use Rattle.std.proofs.Common.{◌≡◌, ◌+◌, ◌<◌, length}
 use Rattle.sq_base.specs.InternetSum.{word_sum, reduced}
-use Rattle.sq_base.proofs.sums.inet_sum.Given as goal
+use Rattle.sq_base.proofs.sums.short_sum.Given as goal
 
 -- the sum so far with the rest is the sum of all
 abbrev pub invariant-loop-rest : goal.invariant-loop-rest

@@ -1,0 +1,14 @@
+use Rattle.std.proofs.Common.{◌≡◌, ◌+◌, ◌*◌, ◌<◌, length}
+use Rattle.sq_base.specs.InternetSum.{word_sum, reduced}
+use Rattle.sq_base.proofs.sums.long_sum.Given as goal
+
+-- the sum so far, whose bytes are turned, with the rest is the sum of all
+abbrev pub invariant-loop-rest : goal.invariant-loop-rest
+invariant-loop-rest l =
+    record {
+      fits : l.sum < 65536;
+      all : reduced (256 * l.sum + word_sum l.rest) ≡ reduced (l.start + word_sum l.bytes);
+    }
+
+abbrev pub decreases-loop-rest : goal.decreases-loop-rest
+decreases-loop-rest l = length l.rest
