@@ -1,3 +1,5 @@
+pub mod SplitTexts
+pub mod PortLemmas
 pub mod ReadLemmas
 pub mod FrontLemmas
 pub mod PutLemmas

@@ -1,5 +1,5 @@
 -- What a call of `put` wrote of a text.
-use Rattle.std.proofs.Common.{◌≡◌, ◌∙◌, ℕ, List, ◌++◌, [], Option, Result, Ok, Err, OnErr, OnOk, ap, append-nil, drop, sym, subst, take, take-append-drop, true, false, true≢false}
+use Rattle.std.proofs.Common.{◌≡◌, ◌∙◌, ℕ, List, [], Option, Result, Ok, Err, OnErr, OnOk, append-nil, drop, sym, take, take-append-drop, true, false, true≢false}
 use Rattle.std.specs.Io.KnownBytes.{Appends}
 use Rattle.std.specs.Result.{is_err}
 use Rattle.sq_base.specs.Ends.{AppendsProperly}

@@ -1,3 +1,4 @@
+pub mod PortWords
 pub mod Words
 pub mod Rounds
 pub mod Faults

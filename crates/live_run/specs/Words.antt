@@ -7,9 +7,10 @@ use Rattle.hex.specs.Hex.{decode_sized}
 use Rattle.shell.specs.Numbers.{numeral}
 use Rattle.shell.specs.Table.{Text}
 use Rattle.live_server.specs.declared.initial.Secret.{Secret}
+use Rattle.live_server.specs.declared.ports.Ports.{Ports}
 use Rattle.live_server.specs.declared.setting.Setting.{Setting}
 use Rattle.sq_base.specs.declared.kinds.Addr.{Addr}
-use Rattle.live_run.specs.declared.words.Mode.{Mode}
+use Rattle.live_run.specs.PortWords.{ports_in}
 use Rattle.live_run.specs.declared.words.Mode.TheVariants.{Device, Frames}
 use Rattle.live_run.specs.declared.words.Words.{Words}
 
@@ -27,22 +28,22 @@ address_of text = option_map (λ bytes. record { 0 = big_number 4 bytes }) (hex_
 abbrev pub length_of : Text → Option ℕ
 length_of text = option_and_then (λ n. if nat_lt n (2 ^ 16) then Some n else None) (numeral text)
 
--- ADDRESS BROADCAST PLACES IDLE BYTES SEGMENT, IDLE in seconds
-abbrev pub setting_by : Option Addr → Option Addr → Option ℕ → Option ℕ → Option ℕ → Option ℕ → Option Setting
-setting_by address broadcast places idle bytes segment =
-    option_and_then (λ a. option_and_then (λ b. option_and_then (λ p. option_and_then (λ i. option_and_then (λ h. option_map (λ t.
-    record { address = a; broadcast = b; places = p; idle = i * 1000000; bytes = h; segment = t }) segment) bytes) idle) places) broadcast) address
+-- ADDRESS BROADCAST PLACES IDLE BYTES SEGMENT [PORTS], IDLE in seconds
+abbrev pub setting_by : Option Addr → Option Addr → Option ℕ → Option ℕ → Option ℕ → Option ℕ → Option Ports → Option Setting
+setting_by address broadcast places idle bytes segment ports =
+    option_and_then (λ a. option_and_then (λ b. option_and_then (λ p. option_and_then (λ i. option_and_then (λ h. option_and_then (λ t. option_map (λ s.
+    record { address = a; broadcast = b; places = p; idle = i * 1000000; bytes = h; segment = t; ports = s })
+    ports) segment) bytes) idle) places) broadcast) address
 
 abbrev pub setting_of : List Text → Option Setting
-setting_of (address ∷ broadcast ∷ places ∷ idle ∷ bytes ∷ segment ∷ []) =
-    setting_by (address_of address) (address_of broadcast) (numeral places) (numeral idle) (numeral bytes) (length_of segment)
+setting_of (address ∷ broadcast ∷ places ∷ idle ∷ bytes ∷ segment ∷ rest) =
+    setting_by (address_of address) (address_of broadcast) (numeral places) (numeral idle) (numeral bytes) (length_of segment) (ports_in rest)
 setting_of [] = None
 setting_of (_ ∷ []) = None
 setting_of (_ ∷ _ ∷ []) = None
 setting_of (_ ∷ _ ∷ _ ∷ []) = None
 setting_of (_ ∷ _ ∷ _ ∷ _ ∷ []) = None
 setting_of (_ ∷ _ ∷ _ ∷ _ ∷ _ ∷ []) = None
-setting_of (_ ∷ _ ∷ _ ∷ _ ∷ _ ∷ _ ∷ _ ∷ _) = None
 
 -- what the words behind the mode's ask for: SECRET and the setting's, and the setting's
 abbrev pub frames_asked : List Text → Option Words

@@ -9,7 +9,7 @@ use live_server::{Datagram, Server};
 use std::alloc::{AllocError, Global};
 use std::io;
 use std::io::{Read, Write};
-use std::time::{Duration, Instant};
+use std::time::{Duration, Instant, SystemTime};
 use tcb_machine::LAST_TIME;
 
 /// The most bytes of a datagram.
@@ -18,13 +18,15 @@ const MOST: usize = 65_536;
 /// How often the time comes to every connection, in microseconds. Something has to be read for it: the launcher sends a datagram.
 const TICK: u64 = 20_000;
 
-/// Serves until nothing more can be read. Where memory is missing one connection is lost, and the others go on.
+/// Serves until nothing more can be read. Where memory is missing one connection is lost, and the others go on. The time is the
+/// system's at the start, and goes on by a clock that nobody sets.
 pub fn serve(rt: &HostRuntime, server: Server) -> Result<(), Fault> {
     let mut server = server;
     let mut reader = rt.reader();
     let mut writer = io::writer(rt);
     let mut body = room(rt.alloc())?;
     let mut sent = Vec::new(rt.alloc());
+    let begun = since_1970(rt)?;
     let start = moment(Instant::now(rt))?;
     let mut ticked = 0u64;
     for _ in 0..u64::MAX {
@@ -34,7 +36,7 @@ pub fn serve(rt: &HostRuntime, server: Server) -> Result<(), Fault> {
         if read == 0 {
             break;
         }
-        let now = micros(moment(start.elapsed(rt))?);
+        let now = later(begun, micros(moment(start.elapsed(rt))?));
         let (datagram, _) = body[..read].split_at(read.min(MOST));
         let _ = round(
             &mut server,
@@ -62,15 +64,27 @@ fn moment<T: Drop>(said: io::Result<T>) -> Result<T, Fault> {
     said.map_err(|_| Fault::Reading)
 }
 
+/// The microseconds since 1970, by the system's clock.
+fn since_1970(rt: &HostRuntime) -> Result<u64, Fault> {
+    match moment(SystemTime::now(rt))?.duration_since(SystemTime::UNIX_EPOCH) {
+        Ok(since) => Ok(micros(since)),
+        Err(_) => Err(Fault::Reading),
+    }
+}
+
 /// A time in microseconds.
-fn micros(since: Duration) -> u64
-    ensures { result ≤ last_time }
-{
+fn micros(since: Duration) -> u64 {
     since
         .as_secs()
         .saturating_mul(1_000_000)
         .saturating_add(u64::from(since.subsec_micros()))
-        .min(LAST_TIME)
+}
+
+/// So many microseconds later, or the last time that there is.
+fn later(begun: u64, passed: u64) -> u64
+    ensures { result ≤ last_time }
+{
+    begun.saturating_add(passed).min(LAST_TIME)
 }
 
 /// A datagram that was read: the time comes to every connection first, where that is due. What is sent takes the place of what

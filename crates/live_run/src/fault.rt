@@ -36,7 +36,7 @@ impl Fault {
     pub fn line(self) -> &'static str {
         match self {
             Fault::Words =>
-                "usage: sqlive frames SECRET SETTING | device SETTING, where SETTING is ADDRESS BROADCAST PLACES IDLE BYTES SEGMENT",
+                "usage: sqlive frames SECRET SETTING | device SETTING, where SETTING is ADDRESS BROADCAST PLACES IDLE BYTES SEGMENT [PORTS]",
             Fault::NoMemory => "out of memory",
             Fault::Reading => "cannot read",
             Fault::Writing => "cannot write",

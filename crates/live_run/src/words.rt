@@ -1,10 +1,11 @@
 //! The words of the command line.
 
-ghost use Rattle.std.specs.Prelude.{◌≡◌, ◌<◌, ◌^◌, map, option_map, IfSome};
+ghost use Rattle.std.specs.Prelude.{◌≡◌, ◌<◌, map};
 ghost use Rattle.std.specs.String.{string_bytes};
 ghost use Rattle.shell.specs.Numbers.{numeral};
-ghost use Rattle.live_run.specs.Words.{address_of, asked, device_asked, frames_asked, hex_bytes, length_of, secret_of, setting_of};
+ghost use Rattle.live_run.specs.Words.{address_of, asked, device_asked, frames_asked, length_of, secret_of, setting_of};
 
+use crate::port_words::ports_in;
 use byteorder::{BigEndian, ByteOrder};
 use hex::decode_to_slice;
 use live_server::{Secret, Setting};
@@ -63,11 +64,12 @@ fn device_asked(words: &[String]) -> Option<Words>
 }
 
 /// The address that is answered for and the network's broadcast address, each as eight hexadecimal digits, how many connections are
-/// kept, after how many seconds one is idle, how many bytes all may hold, and how many a segment that is sent.
+/// kept, after how many seconds one is idle, how many bytes all may hold, and how many a segment that is sent; then, where it is given,
+/// the ports of the services.
 fn setting_of(words: &[String]) -> Option<Setting>
     ensures { result ≡ setting_of (map (λ s. string_bytes s) words.now) }
 {
-    let [address, broadcast, places, idle, bytes, segment] = words else {
+    let [address, broadcast, places, idle, bytes, segment, rest @ ..] = words else {
         return None;
     };
     Some(Setting {
@@ -77,6 +79,7 @@ fn setting_of(words: &[String]) -> Option<Setting>
         idle: u64::from(numeral(idle.as_str())?) * 1_000_000,
         bytes: u64::from(numeral(bytes.as_str())?),
         segment: length_of(segment.as_str())?,
+        ports: ports_in(rest)?,
     })
 }
 

@@ -1,10 +1,10 @@
 -- How many bytes all hold.
-use Rattle.std.proofs.Common.{◌≡◌, ℕ, zero, suc, ◌+◌, ◌-◌, ◌^◌, ◌<◌, ◌≤◌, min, List, [], ◌∷◌, length, take, slice_get, Some, refl, sym, ap, ◌∙◌, arith, add-one}
+use Rattle.std.proofs.Common.{◌≡◌, ℕ, zero, suc, ◌+◌, ◌-◌, ◌^◌, ◌<◌, ◌≤◌, min, [], ◌∷◌, length, take, refl, ap, ◌∙◌, arith, add-one}
 use Rattle.tcb_machine.specs.BlockState.{held_in, new_block}
-use Rattle.live_server.specs.Acts.{new_conn}
+use Rattle.live_server.specs.Acts.{no_conn}
 use Rattle.live_server.specs.Table.{Conns, conn_at, held_by, total_of}
 
-pub none_holds : held_in (new_conn 0).tcb ≡ 0
+pub none_holds : held_in no_conn.tcb ≡ 0
 unfolding new_block
 none_holds = refl
 

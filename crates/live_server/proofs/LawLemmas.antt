@@ -1,18 +1,19 @@
 -- What holds of every table, and what a segment does to others.
-use Rattle.std.proofs.Common.{◌≡◌, ℕ, zero, suc, ◌+◌, ◌<◌, ◌≤◌, ◌⊎◌, inl, inr, Bool, true, false, cond, not, ◌&&◌, nat_le, nat_lt, ◌-◌, List, [], ◌∷◌, ◌++◌, length, map, filter, Option, None, Some, IfSome, All, refl, sym, ap, subst, ◌∙◌, arith, true≢false, is_some, unwrap_or}
+use Rattle.std.proofs.Common.{◌≡◌, ℕ, ◌<◌, ◌⊎◌, inl, inr, Bool, true, false, cond, nat_le, nat_lt, ◌-◌, List, [], ◌∷◌, length, Option, None, Some, IfSome, refl, sym, ap, subst, ◌∙◌, arith, true≢false, is_some, unwrap_or}
 use Rattle.std.specs.List.{IsDistinct}
 use Rattle.std.specs.Map.{keys_of, lookup}
 use Rattle.std.specs.Option.{option_map_or}
+use Rattle.std.proofs.lemmas.Bool.{and_parts}
 use Rattle.std.proofs.lemmas.Bool.Decides.{nat_tests}
-use Rattle.echo_services.specs.Pump.{service_of}
 use Rattle.segment_codec.specs.Refusal.{tuple_of}
 use Rattle.segment_codec.specs.declared.packet.Seg.{Seg}
 use Rattle.sq_base.specs.declared.kinds.Tuple.{Tuple}
 use Rattle.live_server.specs.Acts.{emptied, is_half_open, is_over, judged, new_conn, reached, receives}
 use Rattle.live_server.specs.Initial.{number_for}
+use Rattle.live_server.specs.Services.{service_at}
 use Rattle.live_server.specs.Isolation.{conn_of, kept_as, IsTable, Loses, OthersStay, OwnConnActs, SegmentKeepsTable, Stays}
 use Rattle.live_server.specs.Serving.{Outcome, ServerOf, becomes, comes, fits, gives_way, goes_on, has_place, heeded, heeded_text, heeds, holding, judging, noting, on_segment, opens, overfull, sends_nothing, sends_of, served, takes_free, takes_place, time_to, turns_away, without_text, yielding, yields, yields_at}
-use Rattle.live_server.specs.Table.{Conns, conn_at, place_of, replaced, tuple_eq, without, IsNew}
+use Rattle.live_server.specs.Table.{Conns, conn_at, place_of, tuple_eq, without, IsNew}
 use Rattle.live_server.specs.declared.conn.Conn.{Conn}
 use Rattle.live_server.specs.declared.setting.Setting.{Setting}
 use Rattle.std.proofs.lemmas.List.{length-append}
@@ -105,10 +106,6 @@ yielding_stays q (t ∷ ts) sv table =
     (stays_on q sv next (yielding ts next) (yields_stays t here in_table q) (yielding_stays q ts next (yields_table t here in_table)))
 
 -- ---- one that takes a place
-both_left : (a b : Bool) → (a && b) ≡ true → a ≡ true
-both_left true b e = refl
-both_left false b e = e
-
 module _ (t : Tuple) (c : Conn) (sv : ServerOf) (new : IsNew t sv.conns) where
   taken_by : (b : Bool) → has_place sv ≡ b → takes_place t c sv ≡ cond b (takes_free t c sv) (turns_away sv)
   unfolding takes_place
@@ -117,7 +114,7 @@ module _ (t : Tuple) (c : Conn) (sv : ServerOf) (new : IsNew t sv.conns) where
   taken_table : IsTable sv → (b : Bool) → has_place sv ≡ b → IsTable (takes_place t c sv).server
   unfolding has_place
   taken_table table true e =
-      let free : nat_lt (length sv.conns) sv.setting.places ≡ true = both_left _ _ e in
+      let free : nat_lt (length sv.conns) sv.setting.places ≡ true = (and_parts _ _ e).0 in
       let room : length sv.conns < sv.setting.places = grind (arith, nat_tests) in
       subst (λ (o : Outcome). IsTable o.server) (sym (taken_by true e)) (record {
         once = distinct_appended t (emptied c) sv.conns new table.once;
@@ -166,7 +163,7 @@ module _ (now : ℕ) (s : Seg) (text : List ℕ) (sv : ServerOf) (table : IsTabl
   ends = tuple_of s
 
   abbrev fresh : Conn
-  fresh = served now s text sv (new_conn now)
+  fresh = served now s text sv (new_conn (service_at sv.setting.ports now s.dst_port) now)
 
   abbrev room_made : ServerOf
   room_made = yielding sv.waiting sv
@@ -270,7 +267,7 @@ module _ (now : ℕ) (s : Seg) (text : List ℕ) (sv : ServerOf) (table : IsTabl
       ap (λ t. conn_of t (comes now s1 (heeded_text text sv) noted).server) (sym e)
       ∙ came_own now s1 (heeded_text text sv) noted noted_table p.0 p.1
       ∙ ap (λ x. kept_as (served now s1 (heeded_text text sv) noted x)) p.2
-      ∙ ap (λ k. kept_as (receives (service_of s1.dst_port) now (number_for k now s1) s1 (heeded_text text sv) c)) (noted_rest (fits text sv) refl).1
+      ∙ ap (λ k. kept_as (receives now (number_for k now s1) s1 (heeded_text text sv) c)) (noted_rest (fits text sv) refl).1
 
 pub segment_keeps_table : SegmentKeepsTable
 unfolding on_segment
@@ -303,7 +300,7 @@ own_connection_law now s text sv c table look alive =
     ∙ ap (λ b. cond b None (Some (emptied (reached now c)))) alive in
     let same_fit : fits text first ≡ fits text sv = λ j. nat_le (length text) ((kept.0 j).bytes - kept.2 j) in
     heeded_own now s text first in_table (emptied (reached now c)) timed
-    ∙ (λ j. kept_as (receives (service_of (cond (same_fit j) s (without_text s)).dst_port) now (number_for (kept.1 j) now (cond (same_fit j) s (without_text s)))
+    ∙ (λ j. kept_as (receives now (number_for (kept.1 j) now (cond (same_fit j) s (without_text s)))
     (cond (same_fit j) s (without_text s)) (cond (same_fit j) text []) (emptied (reached now c))))
 
 -- ---- where memory was missing

@@ -1,12 +1,12 @@
 -- What want of memory costs when the time comes to all.
-use Rattle.std.proofs.Common.{◌≡◌, ℕ, zero, suc, ◌+◌, ◌<◌, ◌≤◌, ◌⊎◌, inl, inr, Bool, true, false, cond, List, [], ◌∷◌, length, get_or, Option, None, Some, Result, Ok, Err, OnErr, refl, sym, ap, subst, ◌∙◌, arith}
+use Rattle.std.proofs.Common.{◌≡◌, ℕ, zero, suc, ◌<◌, ◌⊎◌, inl, inr, Bool, true, false, cond, [], ◌∷◌, length, get_or, Option, None, Some, Result, Ok, Err, OnErr, refl, sym, ap, subst, ◌∙◌, arith}
 use Rattle.std.specs.List.{IsDistinct}
 use Rattle.std.specs.Map.{keys_of, lookup}
 use Rattle.std.specs.Option.{option_map}
 use Rattle.std_collections.proofs.HashLookup.{own_IsFirst}
 use Rattle.sq_base.specs.declared.kinds.Tuple.{Tuple}
 use Rattle.live_server.specs.Acts.{emptied, reached}
-use Rattle.live_server.specs.Isolation.{IsTable, LosesOne}
+use Rattle.live_server.specs.Isolation.{LosesOne}
 use Rattle.live_server.specs.Serving.{ServerOf}
 use Rattle.live_server.specs.Table.{Conns, reached_until, tuple_eq, without}
 use Rattle.live_server.specs.declared.conn.Conn.{Conn}

@@ -1,5 +1,5 @@
 -- What a look-up finds at a place.
-use Rattle.std.proofs.Common.{◌≡◌, ℕ, zero, suc, true, false, cond, List, [], ◌∷◌, slice_get, Option, None, Some, refl, sym, ap, ◌∙◌}
+use Rattle.std.proofs.Common.{◌≡◌, ℕ, zero, suc, cond, [], ◌∷◌, Some, ap, ◌∙◌}
 use Rattle.std.specs.Map.{lookup}
 use Rattle.std_collections.proofs.HashLookup.{IsFirst}
 use Rattle.sq_base.specs.declared.kinds.Tuple.{Tuple}

@@ -1,5 +1,5 @@
 -- Where what is sent goes, and a table in time.
-use Rattle.std.proofs.Common.{◌≡◌, ℕ, ◌+◌, ◌≤◌, Bool, true, false, cond, nat_lt, not, List, [], ◌∷◌, ◌++◌, length, map, filter, Option, None, Some, All, refl, sym, ap, subst, ◌∙◌, arith}
+use Rattle.std.proofs.Common.{◌≡◌, ℕ, ◌≤◌, Bool, true, false, cond, nat_lt, not, List, [], ◌∷◌, ◌++◌, length, map, filter, Option, None, Some, refl, sym, ap, subst, arith}
 use Rattle.std.specs.List.{AllByRecursion, IsDistinct}
 use Rattle.std.specs.Map.{keys_of}
 use Rattle.std.specs.Option.{option_map_or}
@@ -9,10 +9,11 @@ use Rattle.segment_codec.specs.Refusal.{tuple_of}
 use Rattle.segment_codec.specs.declared.packet.Reply.{Reply}
 use Rattle.segment_codec.specs.declared.packet.Seg.{Seg}
 use Rattle.sq_base.specs.declared.kinds.Tuple.{Tuple}
-use Rattle.live_server.specs.Acts.{datagram_of, emptied, is_idle, is_over, new_conn, reached, sent_by}
-use Rattle.live_server.specs.Isolation.{AnswersItsEnds, IsTable, TimeKeepsTable}
-use Rattle.live_server.specs.Serving.{Outcome, ServerOf, becomes, comes, fits, goes_on, has_place, heeded, heeded_text, heeds, makes_place, noting, on_segment, on_time, opens, sends_nothing, sends_of, served, takes_free, takes_place, time_to, turns_away, without_text}
-use Rattle.live_server.specs.Table.{Conns, all_reached, conn_at, place_of, tuple_eq, without_idle, without_over}
+use Rattle.live_server.specs.Acts.{datagram_of, is_idle, is_over, new_conn}
+use Rattle.live_server.specs.Isolation.{AnswersItsEnds, TimeKeepsTable}
+use Rattle.live_server.specs.Services.{service_at}
+use Rattle.live_server.specs.Serving.{Outcome, ServerOf, becomes, comes, fits, goes_on, has_place, heeded, heeded_text, heeds, makes_place, noting, on_segment, on_time, opens, sends_of, served, takes_free, takes_place, time_to, turns_away, without_text}
+use Rattle.live_server.specs.Table.{Conns, all_reached, place_of, tuple_eq, without_idle, without_over}
 use Rattle.live_server.specs.declared.acting.Datagram.{Datagram}
 use Rattle.live_server.specs.declared.conn.Conn.{Conn}
 
@@ -51,7 +52,7 @@ came : (now : ℕ) (s : Seg) (text : List ℕ) (sv : ServerOf) → AreOfEnds (tu
 unfolding comes goes_on becomes opens
 came now s text sv =
     let t = tuple_of s in
-    let c = served now s text sv (new_conn now) in
+    let c = served now s text sv (new_conn (service_at sv.setting.ports now s.dst_port) now) in
     by_place t (place_of t sv.conns) _ _ (λ i. of_replies t _)
     (chosen t (is_over c) (sends_of t c sv) (takes_place t c (makes_place sv)) (of_replies t c.tcb.replies) (taken t c (makes_place sv)))
 

@@ -1,12 +1,12 @@
 -- The server's state after a step of its code. `here` is the state as its fields give it.
-use Rattle.std.proofs.Common.{◌≡◌, ℕ, ◌<◌, Bool, true, false, cond, List, [], ◌∷◌, ◌++◌, length, Option, None, Some, refl, sym, ap, subst, ◌∙◌, arith}
+use Rattle.std.proofs.Common.{◌≡◌, ℕ, ◌<◌, Bool, true, false, cond, List, [], ◌∷◌, ◌++◌, length, Option, None, Some, refl, sym, ap, ◌∙◌, arith}
 use Rattle.std.specs.Option.{option_map_or}
 use Rattle.indexmap.specs.IndexMap.{insert_entry}
 use Rattle.sq_base.specs.declared.kinds.Tuple.{Tuple}
 use Rattle.live_server.specs.Acts.{emptied, is_half_open, reached, sent_by}
 use Rattle.live_server.specs.Counting.{more}
 use Rattle.live_server.specs.Serving.{Outcome, ServerOf, becomes, gives_way, has_place, makes_place, sends_nothing, takes_free, takes_place, time_to, turns_away, yielding, yields, yields_at}
-use Rattle.live_server.specs.Table.{Conns, conn_at, place_of, replaced, tuple_eq, without_idle, IsNew}
+use Rattle.live_server.specs.Table.{Conns, conn_at, place_of, replaced, tuple_eq, IsNew}
 use Rattle.live_server.specs.declared.acting.Datagram.{Datagram}
 use Rattle.live_server.specs.declared.conn.Conn.{Conn}
 use Rattle.live_server.proofs.TableLemmas.{appended}

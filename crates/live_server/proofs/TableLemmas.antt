@@ -1,19 +1,17 @@
 -- The table: who leaves it, who joins, and what each connection is then.
-use Rattle.std.proofs.Common.{◌≡◌, ℕ, zero, suc, ◌+◌, ◌<◌, ◌≤◌, ◌⊎◌, inl, inr, Bool, true, false, cond, ◌&&◌, eqb, List, [], ◌∷◌, ◌++◌, length, remove, slice_get, filter, Option, None, Some, IfSome, IfNone, unwrap_or, refl, sym, ap, subst, ◌∙◌, is_some, true≢false, arith, Bor}
+use Rattle.std.proofs.Common.{◌≡◌, ℕ, zero, suc, ◌+◌, ◌<◌, ◌≤◌, Bool, true, false, cond, [], ◌∷◌, ◌++◌, length, remove, slice_get, Option, None, Some, IfSome, IfNone, refl, sym, ap, subst, ◌∙◌, arith, Bor}
 use Rattle.std.specs.Cmp.{IsEquivalence}
 use Rattle.std.specs.List.{swap_remove, IsDistinct}
-use Rattle.std.specs.Map.{keys_of, lookup, values_of, IsKeyTest}
+use Rattle.std.specs.Map.{keys_of, lookup, IsKeyTest}
 use Rattle.std.specs.Map.Iter.{deref_pair}
 use Rattle.std.specs.Option.{option_map, option_map_or}
-use Rattle.std.proofs.lemmas.Option.{slice_get_within}
-use Rattle.std.proofs.lemmas.Map.Made.{IsDistinct-keys_filter}
 use Rattle.std_collections.proofs.Entries.{keys_set_value_at, length-set_value_at}
 use Rattle.std_collections.proofs.HashLookup.{IsAbsent, IsFirst, Updated-push, Updated-set, Updated-take, distinct_push, distinct_swap_remove, length-swap_remove, lookup-IsAbsent, Rearranges-swap_remove, IsFirst-set_value_at, swap_remove-set_value_at}
 use Rattle.indexmap.specs.IndexMap.{insert_entry, set_value_at}
 use Rattle.indexmap.proofs.MapLemmas.{absent_from_lookup, Found-position, Missing-position, insert_entry-absent}
 use Rattle.sq_base.specs.declared.kinds.Tuple.{Tuple}
 use Rattle.tcb_machine.specs.BlockState.{new_block}
-use Rattle.live_server.specs.Acts.{emptied, is_half_open, is_over, new_conn}
+use Rattle.live_server.specs.Acts.{emptied, is_half_open, is_over, no_conn}
 use Rattle.live_server.specs.Isolation.{kept_as}
 use Rattle.live_server.specs.Table.{Conns, conn_at, place_of, replaced, settled, tuple_eq, without, IsNew}
 use Rattle.live_server.specs.declared.conn.Conn.{Conn}
@@ -48,21 +46,21 @@ entry_at (c ∷ cs) zero lt = (c.0, refl)
 entry_at (c ∷ cs) (suc i) lt = entry_at cs i (omega arith)
 
 pub conn_read : (cs : Conns) (i : ℕ) (k : Tuple) (c : Conn) → slice_get cs i ≡ Some (k, c) → conn_at i cs ≡ c
-conn_read cs i k c at = ap (λ o. option_map_or (λ e. e.1) o (new_conn 0)) at
+conn_read cs i k c at = ap (λ o. option_map_or (λ e. e.1) o no_conn) at
 
-pub none_is_over : is_over (new_conn 0) ≡ true
+pub none_is_over : is_over no_conn ≡ true
 unfolding new_block
 none_is_over = refl
 
-pub none_is_whole : is_half_open (new_conn 0) ≡ false
+pub none_is_whole : is_half_open no_conn ≡ false
 unfolding new_block
 none_is_whole = refl
 
 pub conn_found : {A : Type 0} (p : Conn → A) (cs : Conns) (i : ℕ) (r : Option (Bor Tuple × Bor Conn)) (x : Bor Tuple × Bor Conn) → option_map deref_pair r ≡ slice_get cs i → r ≡ Some x → p x.1.now ≡ p (conn_at i cs)
 conn_found p cs i r x at is = ap p (sym (conn_read cs i x.0.now x.1.now (sym at ∙ ap (option_map deref_pair) is)))
 
-pub conn_missed : {A : Type 0} (p : Conn → A) (cs : Conns) (i : ℕ) (r : Option (Bor Tuple × Bor Conn)) → option_map deref_pair r ≡ slice_get cs i → r ≡ None → p (new_conn 0) ≡ p (conn_at i cs)
-conn_missed p cs i r at is = ap (λ o. p (option_map_or (λ e. e.1) o (new_conn 0))) (sym (ap (option_map deref_pair) is) ∙ at)
+pub conn_missed : {A : Type 0} (p : Conn → A) (cs : Conns) (i : ℕ) (r : Option (Bor Tuple × Bor Conn)) → option_map deref_pair r ≡ slice_get cs i → r ≡ None → p no_conn ≡ p (conn_at i cs)
+conn_missed p cs i r at is = ap (λ o. p (option_map_or (λ e. e.1) o no_conn)) (sym (ap (option_map deref_pair) is) ∙ at)
 
 -- a removal by place
 module _ (cs : Conns) (i : ℕ) where

@@ -1,11 +1,9 @@
 -- What one connection makes of a segment and of the time, and the datagrams of what it sends.
-use Rattle.std.specs.Prelude.{ℕ, ◌+◌, ◌-◌, ◌%◌, ◌^◌, ◌==◌, nat_le, nat_lt, ◌&&◌, ◌||◌, not, Bool, true, false, List, [], ◌∷◌, length, map, if◌then◌else◌}
+use Rattle.std.specs.Prelude.{ℕ, ◌+◌, ◌-◌, ◌%◌, ◌^◌, ◌==◌, nat_le, nat_lt, ◌&&◌, ◌||◌, not, Bool, false, List, [], ◌∷◌, length, map, if◌then◌else◌}
 use Rattle.sq_base.specs.SerialOrder.{dist}
 use Rattle.byte_queues.specs.Limits.{send_space}
 use Rattle.byte_queues.specs.ReceiveQueue.{next_of}
-use Rattle.echo_services.specs.Pump.{pump}
-use Rattle.echo_services.specs.Serving.{serves, segment}
-use Rattle.echo_services.specs.declared.service.Service.{Service}
+use Rattle.echo_services.specs.Serving.{kept, serves, segment}
 use Rattle.segment_codec.specs.ControlBits.{ack, rst, syn}
 use Rattle.segment_codec.specs.SegmentBytes.{segment_bytes}
 use Rattle.segment_codec.specs.declared.packet.Reply.{Reply}
@@ -15,18 +13,26 @@ use Rattle.tcb_machine.specs.BlockState.{Block, has, new_block, offered, sends_a
 use Rattle.tcb_machine.specs.Challenges.{is_challenged, is_syn_received}
 use Rattle.tcb_machine.specs.Limits.{most_streamed}
 use Rattle.tcb_machine.specs.States.{is_listen}
+use Rattle.tcb_machine.specs.TcpStep.{tcp_segment}
 use Rattle.tcb_machine.specs.Timers.{retransmits, tcp_time}
 use Rattle.live_server.specs.Congestion.{calls_again, eased, no_congestion, seen, timed_out}
 use Rattle.live_server.specs.declared.congestion.Congestion.{Congestion}
 use Rattle.live_server.specs.Limits.{challenge_interval}
+use Rattle.live_server.specs.Services.{after_pump, pump_of}
 use Rattle.live_server.specs.declared.acting.Datagram.{Datagram}
 use Rattle.live_server.specs.declared.conn.Conn.{Conn}
 use Rattle.live_server.specs.declared.conn.Judged.{Judged}
 use Rattle.live_server.specs.declared.conn.Judged.TheVariants.{Challenged, Late, Taken, Unanswered}
+use Rattle.live_server.specs.declared.service.Service.{Service}
+use Rattle.live_server.specs.declared.service.Service.TheVariants.{Discard}
 
--- a connection that nothing is known of
-abbrev pub new_conn : ℕ → Conn
-new_conn now = record { tcb = new_block; heard = now; quiet_until = 0; congestion = no_congestion }
+-- a connection that nothing is known of, with its service
+abbrev pub new_conn : Service → ℕ → Conn
+new_conn service now = record { tcb = new_block; service = service; heard = now; quiet_until = 0; congestion = no_congestion }
+
+-- what stands for one where there is none
+abbrev pub no_conn : Conn
+no_conn = new_conn Discard 0
 
 -- a connection is over, or half open
 abbrev pub is_over : Conn → Bool
@@ -79,22 +85,27 @@ renewed una b = if b.una == una then b else record b { retransmissions = 0 }
 unfoldable pub resent : Bool → Block → Block
 resent again b = if again && (not (is_listen b.state) && not (b.una == snd_nxt b)) then retransmits b.state b else b
 
--- the block takes it, as the congestion window lets it
-unfoldable pub taken : Service → ℕ → ℕ → Seg → List ℕ → Conn → Conn
-taken service now iss s text c =
+-- the block and the service take it, as the congestion window lets it
+unfoldable pub taken : ℕ → ℕ → Seg → List ℕ → Conn → Conn
+taken now iss s text c =
     let x = eased s text c.tcb c.congestion in
-    let b = serves (pump service) (segment now iss (seen s c.tcb x) text ∷ []) c.tcb in
-    record c { tcb = resent (calls_again s text c.tcb c.congestion) (renewed c.tcb.una b); congestion = x; heard = now }
+    let b = serves (pump_of c.service) (segment now iss (seen s c.tcb x) text ∷ []) c.tcb in
+    record c {
+      tcb = resent (calls_again s text c.tcb c.congestion) (renewed c.tcb.una b);
+      service = kept after_pump c.service (tcp_segment now iss (seen s c.tcb x) text c.tcb);
+      congestion = x;
+      heard = now;
+    }
 
 -- the block takes it, or a challenge is sent in its place, or nothing happens
-unfoldable pub after : Judged → Service → ℕ → ℕ → Seg → List ℕ → Conn → Conn
-after Taken service now iss s text c = taken service now iss s text c
-after Challenged service now iss s text c = record c { tcb = sends_ack c.tcb; heard = now; quiet_until = now + challenge_interval }
-after Unanswered service now iss s text c = c
-after Late service now iss s text c = c
+unfoldable pub after : Judged → ℕ → ℕ → Seg → List ℕ → Conn → Conn
+after Taken now iss s text c = taken now iss s text c
+after Challenged now iss s text c = record c { tcb = sends_ack c.tcb; heard = now; quiet_until = now + challenge_interval }
+after Unanswered now iss s text c = c
+after Late now iss s text c = c
 
-abbrev pub receives : Service → ℕ → ℕ → Seg → List ℕ → Conn → Conn
-receives service now iss s text c = after (judged now s text c) service now iss s text c
+abbrev pub receives : ℕ → ℕ → Seg → List ℕ → Conn → Conn
+receives now iss s text c = after (judged now s text c) now iss s text c
 
 -- the time comes, unless it is past
 unfoldable pub reaches : ℕ → Block → Block

@@ -2,7 +2,6 @@
 use Rattle.std.specs.Prelude.{◌≡◌, ℕ, ◌≤◌, ◌⊎◌, true, false, List, length, All, Option, None, Some, IfSome, option_map, if◌then◌else◌}
 use Rattle.std.specs.List.{IsDistinct}
 use Rattle.std.specs.Map.{keys_of, lookup}
-use Rattle.echo_services.specs.Pump.{service_of}
 use Rattle.segment_codec.specs.Refusal.{tuple_of}
 use Rattle.segment_codec.specs.declared.packet.Reply.{Reply}
 use Rattle.segment_codec.specs.declared.packet.Seg.{Seg}
@@ -36,7 +35,7 @@ kept_as c = if is_over c then None else Some (emptied c)
 
 -- what the definition of an act makes of a connection, after the time came to it
 abbrev pub acted : ℕ → Seg → List ℕ → List ℕ → Conn → Conn
-acted now s text secret c = receives (service_of s.dst_port) now (number_for secret now s) s text (emptied (reached now c))
+acted now s text secret c = receives now (number_for secret now s) s text (emptied (reached now c))
 
 -- the segment's own connection becomes that, its text only where all may hold it
 abbrev pub OwnConnActs : Type 0

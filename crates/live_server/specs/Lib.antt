@@ -2,6 +2,8 @@ pub mod Limits
 pub mod Initial
 pub mod Addresses
 pub mod Congestion
+pub mod DaytimeText
+pub mod Services
 pub mod Acts
 pub mod Counting
 pub mod Table

@@ -2,14 +2,12 @@
 use Rattle.std.specs.Prelude.{ℕ, ◌+◌, ◌-◌, ◌^◌, min, nat_le, nat_lt, ◌&&◌, not, bit_and, Bool, true, Some, unwrap_or, List, [], ◌∷◌, ◌++◌, length, if◌then◌else◌}
 use Rattle.std.specs.List.{flat_map}
 use Rattle.std.specs.Option.{option_map_or}
-use Rattle.echo_services.specs.Pump.{service_of}
 use Rattle.segment_codec.specs.Packet.{packet_in}
 use Rattle.segment_codec.specs.Refusal.{refusal_of, tuple_of}
 use Rattle.segment_codec.specs.SentIsRead.{text_in}
 use Rattle.segment_codec.specs.declared.packet.Packet.{Packet}
 use Rattle.segment_codec.specs.declared.packet.Packet.TheVariants as packet
 use Rattle.segment_codec.specs.declared.packet.Seg.{Seg}
-use Rattle.sq_base.specs.Ports.{is_served_port}
 use Rattle.tcb_machine.specs.Limits.{default_mss}
 use Rattle.sq_base.specs.declared.kinds.Link.TheVariants.{RawIp}
 use Rattle.sq_base.specs.declared.kinds.Tuple.{Tuple}
@@ -17,6 +15,7 @@ use Rattle.live_server.specs.Acts.{datagram_of, emptied, is_half_open, is_over, 
 use Rattle.live_server.specs.Addresses.{is_for_us}
 use Rattle.live_server.specs.Counting.{counting_judged, more}
 use Rattle.live_server.specs.Initial.{number_for}
+use Rattle.live_server.specs.Services.{is_served_at, service_at}
 use Rattle.live_server.specs.Table.{Conns, all_reached, conn_at, held_by, place_of, replaced, without, without_idle, without_over}
 use Rattle.live_server.specs.declared.acting.Datagram.{Datagram}
 use Rattle.live_server.specs.declared.conn.Conn.{Conn}
@@ -55,7 +54,7 @@ time_to now t sv = option_map_or (λ place. becomes place t (reached now (conn_a
 
 -- what a segment makes of a connection
 abbrev pub served : ℕ → Seg → List ℕ → ServerOf → Conn → Conn
-served now s text sv c = receives (service_of s.dst_port) now (number_for sv.secret now s) s text c
+served now s text sv c = receives now (number_for sv.secret now s) s text c
 
 -- a segment of the connection at a place
 unfoldable pub goes_on : ℕ → Seg → List ℕ → ℕ → ServerOf → Outcome
@@ -107,7 +106,7 @@ sends_of t c sv = record { server = sv; sent = sent_by t c }
 -- a segment of a connection that has no place: it takes one, unless it is over at once
 unfoldable pub opens : ℕ → Seg → List ℕ → ServerOf → Outcome
 opens now s text sv =
-    let c = served now s text sv (new_conn now) in
+    let c = served now s text sv (new_conn (service_at sv.setting.ports now s.dst_port) now) in
     if is_over c then sends_of (tuple_of s) c sv else takes_place (tuple_of s) c (makes_place sv)
 
 unfoldable pub comes : ℕ → Seg → List ℕ → ServerOf → Outcome
@@ -162,7 +161,7 @@ limited most s = record s { options = record s.options { mss = Some (min most (u
 unfoldable pub addressed : ℕ → Seg → List ℕ → ServerOf → Outcome
 addressed now s text sv =
     if not (is_for_us sv.setting s) then sends_nothing (record sv { counts = record sv.counts { astray = more 1 sv.counts.astray } })
-    else if is_served_port s.dst_port then on_segment now (limited sv.setting.segment s) text sv
+    else if is_served_at sv.setting.ports s.dst_port then on_segment now (limited sv.setting.segment s) text sv
     else record { server = record sv { counts = record sv.counts { refused = more 1 sv.counts.refused } }; sent = refused now s }
 
 unfoldable pub on_packet : ℕ → List ℕ → Packet → ServerOf → Outcome

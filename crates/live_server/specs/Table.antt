@@ -4,7 +4,7 @@ use Rattle.std.specs.Map.{keys_of, lookup}
 use Rattle.std.specs.Option.{option_map_or}
 use Rattle.sq_base.specs.declared.kinds.Tuple.{Tuple}
 use Rattle.tcb_machine.specs.BlockState.{held_in}
-use Rattle.live_server.specs.Acts.{emptied, is_idle, is_over, new_conn, reached}
+use Rattle.live_server.specs.Acts.{emptied, is_idle, is_over, no_conn, reached}
 use Rattle.indexmap.specs.IndexMap.{set_value_at}
 use Rattle.live_server.specs.declared.conn.Conn.{Conn}
 
@@ -20,7 +20,7 @@ place_of t cs = position (tuple_eq t) (keys_of cs)
 
 -- the connection at a place
 abbrev pub conn_at : ℕ → Conns → Conn
-conn_at place cs = option_map_or (λ c. c.1) (slice_get cs place) (new_conn 0)
+conn_at place cs = option_map_or (λ c. c.1) (slice_get cs place) no_conn
 
 -- a connection that has none
 abbrev pub IsNew : Tuple → Conns → Type 0

@@ -1,15 +1,14 @@
 //! One connection: its block, and what the server keeps beside it.
 
-ghost use Rattle.std.specs.Prelude.{◌≡◌, ◌++◌, ◌≤◌, true, IfOk, OnOk};
+ghost use Rattle.std.specs.Prelude.{◌≡◌, ◌++◌, ◌≤◌, IfOk, OnOk};
 ghost use Rattle.live_server.specs.Acts.{after, emptied, has_room, is_half_open, is_idle, is_outside, is_over, judged, new_conn, oldest_ack, provokes, reached, receives, renewed, resent, sent_by, taken, takes};
-ghost use Rattle.echo_services.specs.Pump.{service_of};
 ghost use Rattle.tcb_machine.specs.Room.{HasRoom};
-ghost use Rattle.sq_base.specs.Ports.{is_served_port};
 ghost use Rattle.tcb_machine.specs.Limits.{last_time};
 
 use crate::acting::{Datagram, encoded};
 use crate::congestion::Congestion;
-use echo_services::{Service, serve, tick};
+use crate::service::Service;
+use echo_services::{serve, tick};
 use segment_codec::{ACK, RST, SYN, Seg};
 use sq_base::{Tuple, seq_dist};
 use std::alloc::{AllocError, Global};
@@ -21,10 +20,11 @@ const CHALLENGE_INTERVAL: u64 = 500_000;
 /// The most that is ever sent and not acknowledged, in bytes.
 const SEND_SPACE: u32 = 65_535;
 
-/// A connection: its block, with what it sent taken out. Times are in microseconds.
+/// A connection: its block, with what it sent taken out, and its service. Times are in microseconds.
 #[derive(Drop)]
 pub struct Conn {
     pub tcb: Tcb,
+    pub service: Service,
     /// When the last segment came that wasn't dropped.
     pub heard: u64,
     /// Before this time no challenge is sent.
@@ -46,12 +46,13 @@ pub enum Judged {
 }
 
 impl Conn {
-    /// A connection that nothing is known of.
-    pub fn make(alloc: Global, now: u64) -> Conn
-        ensures { result ≡ new_conn now }
+    /// A connection that nothing is known of, with its service.
+    pub fn make(alloc: Global, service: Service, now: u64) -> Conn
+        ensures { result ≡ new_conn service now }
     {
         Conn {
             tcb: Tcb::make(alloc),
+            service,
             heard: now,
             quiet_until: 0,
             congestion: Congestion::fresh(),
@@ -98,7 +99,6 @@ impl Conn {
     pub fn take(
         &mut self,
         alloc: Global,
-        service: Service,
         now: u64,
         iss: u32,
         seg: &Seg,
@@ -106,11 +106,11 @@ impl Conn {
     ) -> Result<Judged, AllocError>
         requires { now ≤ last_time }
         ensures judged { IfOk result (λ j. j ≡ judged now seg.now text.now self.old) }
-        ensures conn { OnOk result (self.new ≡ receives service now iss seg.now text.now self.old) }
+        ensures conn { OnOk result (self.new ≡ receives now iss seg.now text.now self.old) }
     {
         let judged = self.judged(now, seg, text);
         match judged {
-            Judged::Taken => self.serve(alloc, service, now, iss, seg, text)?,
+            Judged::Taken => self.serve(alloc, now, iss, seg, text)?,
             Judged::Challenged => {
                 self.tcb.challenge(alloc)?;
                 self.heard = now;
@@ -121,12 +121,11 @@ impl Conn {
         Ok(judged)
     }
 
-    /// The block takes a segment, as the congestion window lets it. After an error nothing more is promised.
+    /// The block and the service take a segment, as the congestion window lets it. After an error nothing more is promised.
     #[tactic(auto, unfolding(crate::specs::Acts::taken))]
     fn serve(
         &mut self,
         alloc: Global,
-        mut service: Service,
         now: u64,
         iss: u32,
         seg: &Seg,
@@ -135,13 +134,21 @@ impl Conn {
         requires clock { self.old.tcb.clock ≤ now }
         requires time { now ≤ last_time }
         requires room { HasRoom self.old.tcb }
-        ensures { OnOk result (self.new ≡ taken service now iss seg.now text.now self.old) }
+        ensures { OnOk result (self.new ≡ taken now iss seg.now text.now self.old) }
     {
         let again = self.congestion.calls_again(&self.tcb, seg, text);
         self.congestion.ease(&self.tcb, seg, text);
         let seen = self.congestion.seen(&self.tcb, seg);
         let una = self.tcb.snd_una();
-        serve(&mut service, &mut self.tcb, alloc, now, iss, &seen, text)?;
+        serve(
+            &mut self.service,
+            &mut self.tcb,
+            alloc,
+            now,
+            iss,
+            &seen,
+            text,
+        )?;
         renew(&mut self.tcb, una);
         resend(&mut self.tcb, alloc, again)?;
         self.heard = now;
@@ -210,13 +217,12 @@ impl Conn {
         tuple: &Tuple,
         out: &mut Vec<Datagram>,
     ) -> Result<Judged, AllocError>
-        requires time { now ≤ last_time }
-        requires port { is_served_port seg.now.dst_port ≡ true }
+        requires { now ≤ last_time }
         ensures judged { IfOk result (λ j. j ≡ judged now seg.now text.now self.old) }
-        ensures conn { OnOk result (self.new ≡ emptied (receives (service_of seg.now.dst_port) now iss seg.now text.now self.old)) }
-        ensures sent { OnOk result (out.new.items ≡ out.old.items ++ sent_by tuple.now (receives (service_of seg.now.dst_port) now iss seg.now text.now self.old)) }
+        ensures conn { OnOk result (self.new ≡ emptied (receives now iss seg.now text.now self.old)) }
+        ensures sent { OnOk result (out.new.items ≡ out.old.items ++ sent_by tuple.now (receives now iss seg.now text.now self.old)) }
     {
-        let judged = self.take(alloc, Service::of(seg.dst_port), now, iss, seg, text)?;
+        let judged = self.take(alloc, now, iss, seg, text)?;
         self.send(alloc, tuple, out)?;
         Ok(judged)
     }

@@ -1,5 +1,7 @@
 //! What the definitions say of connections beside one another: each law is a function that does nothing, whose contract is the law.
 
+ghost use Rattle.std.specs.Prelude.{◌≡◌, codes};
+ghost use Rattle.live_server.specs.DaytimeText.{date_of, daytime_text};
 ghost use Rattle.live_server.specs.Frames.{PiecesJoin};
 ghost use Rattle.live_server.specs.Isolation.{AnswersItsEnds, OthersStay, OwnConnActs, SegmentKeepsTable, TimeKeepsTable};
 
@@ -27,4 +29,16 @@ pub fn answers_go_to_its_ends()
 /// An input in pieces is served as one.
 pub fn pieces_join()
     ensures { PiecesJoin }
+{}
+
+/// Days by their number since 1 January 1970: a leap day every four years, none every hundred, and one every four hundred again; and the
+/// line that daytime tells at a moment.
+#[tactic(auto, unfolding(crate::specs::DaytimeText::date_of, crate::specs::DaytimeText::daytime_text))]
+pub fn days_have_their_dates()
+    ensures first { date_of 0 ≡ record { year = 1970; month = 1; day = 1 } }
+    ensures leap_day { date_of 11016 ≡ record { year = 2000; month = 2; day = 29 } }
+    ensures last_of_year { date_of 47481 ≡ record { year = 2099; month = 12; day = 31 } }
+    ensures last_of_february { date_of 47540 ≡ record { year = 2100; month = 2; day = 28 } }
+    ensures no_leap_day { date_of 47541 ≡ record { year = 2100; month = 3; day = 1 } }
+    ensures line { daytime_text 1795957662123456 ≡ codes "2026-11-29 13:07:42 UTC\r\n" }
 {}

@@ -1,6 +1,6 @@
 //! A server over the TCP crates: datagrams come with their times, and datagrams go out.
 //!
-//! It keeps a table of connections that is bounded, each with its block, and the secret behind its initial sequence numbers. It
+//! It keeps a table of connections that is bounded, each with its block and its service, and the secret behind its initial sequence numbers. It
 //! knows no socket, no device and no clock, and starts no thread: the caller brings each datagram, and the times in between.
 #![tactic(auto)]
 
@@ -9,10 +9,13 @@ mod addresses;
 mod congestion;
 mod conn;
 mod counts;
+mod daytime;
 mod frames;
 mod initial;
 mod laws;
+mod ports;
 mod server;
+mod service;
 mod setting;
 mod table;
 
@@ -23,7 +26,10 @@ pub use counts::Counts;
 pub use frames::{FRAME_HEAD, is_broken, serve_frames};
 pub use initial::Secret;
 pub use laws::{
-    answers_go_to_its_ends, others_stay, own_connection_acts, pieces_join, the_table_is_bounded,
+    answers_go_to_its_ends, days_have_their_dates, others_stay, own_connection_acts, pieces_join,
+    the_table_is_bounded,
 };
+pub use ports::{NO_PORTS, PLAIN_PORTS, Ports};
 pub use server::Server;
+pub use service::Service;
 pub use setting::Setting;

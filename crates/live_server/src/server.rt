@@ -5,7 +5,6 @@ ghost use Rattle.segment_codec.specs.Packet.{packet_in};
 ghost use Rattle.segment_codec.specs.Refusal.{tuple_of};
 ghost use Rattle.segment_codec.specs.declared.packet.Seg.{Seg};
 ghost use Rattle.sq_base.specs.declared.kinds.Link.TheVariants.{RawIp};
-ghost use Rattle.sq_base.specs.Ports.{is_served_port};
 ghost use Rattle.sq_base.specs.declared.kinds.Tuple.{Tuple};
 ghost use Rattle.tcb_machine.specs.Limits.{last_time};
 ghost use Rattle.live_server.specs.Initial.{number_for};
@@ -18,14 +17,14 @@ use crate::addresses::is_for_us;
 use crate::conn::Conn;
 use crate::counts::Counts;
 use crate::initial::{Secret, initial_number};
+use crate::ports::{is_served_at, service_at};
 use crate::setting::Setting;
 use crate::table::{
     Table, drop_idle, drop_over, held_by, is_half_open_at, leave, reach_all, reach_at, take_at,
 };
-use echo_services::Service;
 use indexmap::IndexMap;
 use segment_codec::{Options, Packet, SYN, Seg, decode, refusal, tuple_of};
-use sq_base::{Link, Tuple, is_served};
+use sq_base::{Link, Tuple};
 use std::alloc::{AllocError, Global};
 use std::collections::VecDeque;
 use std::marker::Model;
@@ -169,7 +168,7 @@ impl Server {
         if !is_for_us(&self.setting, seg) {
             self.counts.astray = self.counts.astray.wrapping_add(1);
             Ok(())
-        } else if is_served(seg.dst_port) {
+        } else if is_served_at(&self.setting.ports, seg.dst_port) {
             self.segment(alloc, now, &limited(seg, self.setting.segment), text, out)
         } else {
             self.counts.refused = self.counts.refused.wrapping_add(1);
@@ -188,7 +187,6 @@ impl Server {
         out: &mut Vec<Datagram>,
     ) -> Result<(), AllocError>
         requires time { now ≤ last_time }
-        requires port { is_served_port seg.now.dst_port ≡ true }
         ensures server { OnOk result (self.new ≡ (on_segment now seg.now text.now self.old).server) }
         ensures sent { OnOk result (out.new.items ≡ out.old.items ++ (on_segment now seg.now text.now self.old).sent) }
         ensures lost { OnErr result (Loses (tuple_of seg.now) self.old self.new) }
@@ -208,7 +206,6 @@ impl Server {
         out: &mut Vec<Datagram>,
     ) -> Result<(), AllocError>
         requires time { now ≤ last_time }
-        requires port { is_served_port seg.now.dst_port ≡ true }
         ensures server { OnOk result (self.new ≡ (heeds now seg.now text.now self.old).server) }
         ensures sent { OnOk result (out.new.items ≡ out.old.items ++ (heeds now seg.now text.now self.old).sent) }
         ensures lost { OnErr result (Loses (tuple_of seg.now) self.old self.new) }
@@ -261,7 +258,6 @@ impl Server {
         out: &mut Vec<Datagram>,
     ) -> Result<(), AllocError>
         requires time { now ≤ last_time }
-        requires port { is_served_port seg.now.dst_port ≡ true }
         ensures server { OnOk result (self.new ≡ (comes now seg.now text.now self.old).server) }
         ensures sent { OnOk result (out.new.items ≡ out.old.items ++ (comes now seg.now text.now self.old).sent) }
         ensures lost { OnErr result (Loses (tuple_of seg.now) self.old self.new) }
@@ -284,7 +280,6 @@ impl Server {
         out: &mut Vec<Datagram>,
     ) -> Result<(), AllocError>
         requires time { now ≤ last_time }
-        requires port { is_served_port seg.now.dst_port ≡ true }
         requires place { place_of (tuple_of seg.now) self.old.conns ≡ Some place }
         ensures server { OnOk result (self.new ≡ (goes_on now seg.now text.now place self.old).server) }
         ensures sent { OnOk result (out.new.items ≡ out.old.items ++ (goes_on now seg.now text.now place self.old).sent) }
@@ -318,7 +313,6 @@ impl Server {
         out: &mut Vec<Datagram>,
     ) -> Result<(), AllocError>
         requires time { now ≤ last_time }
-        requires port { is_served_port seg.now.dst_port ≡ true }
         requires new { IsNew (tuple_of seg.now) self.old.conns }
         ensures server { OnOk result (self.new ≡ (opens now seg.now text.now self.old).server) }
         ensures sent { OnOk result (out.new.items ≡ out.old.items ++ (opens now seg.now text.now self.old).sent) }
@@ -326,8 +320,9 @@ impl Server {
     {
         let tuple = tuple_of(seg);
         let iss = number_for(&self.secret, now, seg, &tuple);
-        let mut conn = Conn::make(alloc, now);
-        conn.take(alloc, Service::of(seg.dst_port), now, iss, seg, text)?;
+        let service = service_at(&self.setting.ports, now, seg.dst_port);
+        let mut conn = Conn::make(alloc, service, now);
+        conn.take(alloc, now, iss, seg, text)?;
         if conn.is_over() {
             return conn.send(alloc, &tuple, out);
         }

@@ -1,5 +1,6 @@
 //! What a server is started with.
 
+use crate::ports::Ports;
 use sq_base::Addr;
 
 /// What a server is started with.
@@ -17,4 +18,6 @@ pub struct Setting {
     pub bytes: u64,
     /// How many bytes of text a segment has at most that is sent.
     pub segment: u16,
+    /// At which ports it has which service.
+    pub ports: Ports,
 }

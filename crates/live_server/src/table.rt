@@ -1,9 +1,7 @@
 //! The table of connections, and who leaves it.
 
-ghost use Rattle.std.specs.Prelude.{◌≡◌, ℕ, ◌++◌, ◌<◌, ◌≤◌, true, length, IfOk, OnErr, OnOk};
+ghost use Rattle.std.specs.Prelude.{◌≡◌, ℕ, ◌++◌, ◌<◌, ◌≤◌, length, IfOk, OnErr, OnOk};
 ghost use Rattle.std.specs.List.{flat_map};
-ghost use Rattle.echo_services.specs.Pump.{service_of};
-ghost use Rattle.sq_base.specs.Ports.{is_served_port};
 ghost use Rattle.tcb_machine.specs.BlockState.{held_in};
 ghost use Rattle.tcb_machine.specs.Limits.{last_time};
 ghost use Rattle.live_server.specs.Acts.{is_half_open, is_over, judged, reached, receives, sent_by};
@@ -156,13 +154,12 @@ pub(crate) fn take_at(
     out: &mut Vec<Datagram>,
 ) -> Result<Judged, AllocError>
     requires time { now ≤ last_time }
-    requires port { is_served_port seg.now.dst_port ≡ true }
     requires place { place < length table.old.entries }
     ensures judged { IfOk result (λ j. j ≡ judged now seg.now text.now (conn_at place table.old.entries)) }
     ensures table { OnOk result (table.new.entries ≡ replaced place
-        (receives (service_of seg.now.dst_port) now iss seg.now text.now (conn_at place table.old.entries)) table.old.entries) }
+        (receives now iss seg.now text.now (conn_at place table.old.entries)) table.old.entries) }
     ensures sent { OnOk result (out.new.items ≡ out.old.items
-        ++ sent_by tuple.now (receives (service_of seg.now.dst_port) now iss seg.now text.now (conn_at place table.old.entries))) }
+        ++ sent_by tuple.now (receives now iss seg.now text.now (conn_at place table.old.entries))) }
     ensures lost { OnErr result (table.new.entries ≡ without place table.old.entries) }
 {
     let (_, conn) = table.pair_mut(place);

@@ -1,8 +1,9 @@
 //! Two clients at a server with one place. The initial sequence numbers are those of an implementation of SHA-256 elsewhere.
 
-use live_server::{Datagram, Secret, Server, Setting};
+use live_server::{Datagram, NO_PORTS, PLAIN_PORTS, Ports, Secret, Server, Setting};
 use segment_codec::{Packet, Seg, decode};
 use sq_base::{Addr, Link};
+use std::alloc::{AllocError, Global};
 use std::process::Abort;
 use std::test::Fail;
 
@@ -16,6 +17,7 @@ const SETTING: Setting = Setting {
     idle: 7_200_000_000,
     bytes: 1 << 28,
     segment: 1460,
+    ports: PLAIN_PORTS,
 };
 
 /// SYNs of 10.9.0.1, ports 40000 and 40001, to 10.9.0.2, port 7, with both sums.
@@ -29,6 +31,24 @@ const SYNS: [[u8; 40]; 2] = [
         0, 7, 0, 0, 0, 100, 0, 0, 0, 0, 0x50, 2, 0x10, 0, 0xef, 0x21, 0, 0,
     ],
 ];
+
+/// 29 November 2026, 13:07:42, and some microseconds.
+const BEGUN: u64 = 1_795_957_662_123_456;
+
+/// The acknowledgement of what a SYN of 10.9.0.1, port 40000, is answered by then.
+const ACKNOWLEDGED: [u8; 40] = [
+    0x45, 0, 0, 0x28, 0, 0, 0x40, 0, 0x40, 6, 0x26, 0xbc, 10, 9, 0, 1, 10, 9, 0, 2, 0x9c, 0x40, 0,
+    7, 0, 0, 0, 0x65, 0x86, 0xb3, 0xeb, 0x0b, 0x50, 0x10, 0x10, 0, 0x7d, 0x54, 0, 0,
+];
+
+/// What is sent where the services have these ports, and a connection to port 7 is opened.
+fn opened(alloc: Global, ports: Ports) -> Result<Vec<Datagram>, AllocError> {
+    let mut server = Server::new(alloc, Setting { ports, ..SETTING }, SECRET);
+    let mut sent = Vec::new(alloc);
+    server.datagram(alloc, BEGUN, &SYNS[0], &mut sent)?;
+    server.datagram(alloc, BEGUN, &ACKNOWLEDGED, &mut sent)?;
+    Ok(sent)
+}
 
 /// The segment of the last datagram.
 fn last_of(rt: &impl Abort, sent: &[Datagram]) -> Option<Seg> {
@@ -63,5 +83,59 @@ fn one_place(rt: HostRuntime) -> Result<(), Fail> {
     );
     server.tick(rt.alloc(), 3_000_001, &mut sent)?;
     assert_eq!(rt; (sent.len(), server.counts().gave_way), (4, 1));
+    Ok(())
+}
+
+#[test]
+fn daytime_at_port_seven(rt: HostRuntime) -> Result<(), Fail> {
+    let sent = opened(
+        rt.alloc(),
+        Ports {
+            daytime: 7,
+            ..NO_PORTS
+        },
+    )?;
+    let last = last_of(&rt, &sent).ok_or("no answer")?;
+    assert_eq!(rt; (sent.len(), last.flags & 1, last.text_len), (3, 1, 0));
+    let line = sent.get(1).ok_or("no line")?;
+    assert!(rt;
+        line.bytes
+            .as_slice()
+            .ends_with(b"2026-11-29 13:07:42 UTC\r\n")
+    );
+    Ok(())
+}
+
+#[test]
+fn chargen_at_port_seven(rt: HostRuntime) -> Result<(), Fail> {
+    let sent = opened(
+        rt.alloc(),
+        Ports {
+            discard: 9,
+            chargen: 7,
+            ..NO_PORTS
+        },
+    )?;
+    let last = last_of(&rt, &sent).ok_or("no answer")?;
+    assert!(rt; sent.len() > 1 && last.text_len > 0 && last.flags & 1 == 0);
+    let pattern = sent.get(1).ok_or("no pattern")?;
+    assert!(rt; pattern.bytes.as_slice().ends_with(b"MNOPQRSTUVWXYZ[\\"));
+    Ok(())
+}
+
+#[test]
+fn nobody_at_port_seven(rt: HostRuntime) -> Result<(), Fail> {
+    let mut server = Server::new(
+        rt.alloc(),
+        Setting {
+            ports: NO_PORTS,
+            ..SETTING
+        },
+        SECRET,
+    );
+    let mut sent = Vec::new(rt.alloc());
+    server.datagram(rt.alloc(), BEGUN, &SYNS[0], &mut sent)?;
+    let answer = last_of(&rt, &sent).ok_or("no answer")?;
+    assert_eq!(rt; (answer.flags & 4, server.counts().refused), (4, 1));
     Ok(())
 }

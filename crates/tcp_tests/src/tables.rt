@@ -1,6 +1,6 @@
 //! One stream's table of the live server: what is answered is written once no frame of the same read follows.
 
-use live_server::{Secret, Server, Setting};
+use live_server::{PLAIN_PORTS, Secret, Server, Setting};
 use live_tables::{Fault, Frame, Serving, Table};
 use segment_codec::{Packet, Seg, decode};
 use sq_base::{Addr, Link, MemSink};
@@ -18,6 +18,7 @@ const SETTING: Setting = Setting {
     idle: 7_200_000_000,
     bytes: 1 << 28,
     segment: 1460,
+    ports: PLAIN_PORTS,
 };
 
 /// At one second a SYN of 10.9.0.1, port 40000, to 10.9.0.2, port 7, with both sums.

@@ -1,4 +1,4 @@
-use Rattle.std.proofs.Common.{◌≡◌, ◌∙◌, ◌++◌, ap, false, rules, sym, true}
+use Rattle.std.proofs.Common.{◌≡◌, ◌++◌, false, rules, true}
 use Rattle.std.specs.Result.{is_err}
 use Rattle.live_server.specs.Frames.{answers}
 use Rattle.live_run.proofs.PutLemmas.{all_put, front_put}

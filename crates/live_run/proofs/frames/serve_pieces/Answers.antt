@@ -1,10 +1,10 @@
-use Rattle.std.proofs.Common.{◌≡◌, ◌<◌, ℕ, List, ◌++◌, ◌∙◌, [], length, refl, subst, sym, take, arith}
+use Rattle.std.proofs.Common.{◌++◌, ◌∙◌, [], refl, subst, take}
 use Rattle.std.proofs.KnownBytes.{Appends-nil, Appends-trans, Consumes-nil, Consumes-trans}
 use Rattle.std.specs.Io.KnownBytes.{Appends}
-use Rattle.live_server.specs.Frames.{answers, frames_in, rest_of}
+use Rattle.live_server.specs.Frames.{frames_in}
 use Rattle.live_server.proofs.PieceLemmas.{piece_answered, piece_left, piece_served}
 use Rattle.live_run.proofs.FrontLemmas.{broken_left, wrote_further, wrote_so_far}
-use Rattle.live_run.proofs.ReadLemmas.{all_read, front_read, nothing_read}
+use Rattle.live_run.proofs.ReadLemmas.{front_read}
 use Rattle.live_run.proofs.frames.serve_pieces.Goals as goal
 
 pub pieces-init : goal.pieces-init

@@ -1,7 +1,7 @@
 use Rattle.std.proofs.Common.{◌≡◌, ◌∙◌, ap, cond, length, false, le-ltb, nat_lt, not, rules, sym, filter}
 use Rattle.indexmap.proofs.CallerLemmas.{filter-RetainsPairs}
 use Rattle.live_server.specs.Acts.{is_idle}
-use Rattle.live_server.specs.Table.{Conns, without_idle}
+use Rattle.live_server.specs.Table.{without_idle}
 use Rattle.live_server.proofs.table.drop_idle.Goals as goal
 
 pub returns-then-len-places-clause-table : goal.returns-then-len-places-clause-table

@@ -1,4 +1,4 @@
-use Rattle.std.proofs.Common.{◌∙◌, ap, subst, sym}
+use Rattle.std.proofs.Common.{subst}
 use Rattle.segment_codec.specs.Refusal.{tuple_of}
 use Rattle.live_server.specs.Isolation.{Loses}
 use Rattle.live_server.proofs.LawLemmas.{lost_behind}

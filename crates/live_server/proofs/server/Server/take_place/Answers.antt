@@ -1,4 +1,4 @@
-use Rattle.std.proofs.Common.{◌≡◌, ◌∙◌, sym, true, rules}
+use Rattle.std.proofs.Common.{◌≡◌, true, rules}
 use Rattle.live_server.specs.contracts.server.Server.{the_view}
 use Rattle.live_server.specs.Serving.{has_place}
 use Rattle.live_server.proofs.ServerLemmas.{took}

@@ -1,4 +1,4 @@
-use Rattle.std.proofs.Common.{ap, sym, ◌∙◌, subst}
+use Rattle.std.proofs.Common.{sym, subst}
 use Rattle.live_server.specs.Serving.{ServerOf}
 use Rattle.live_server.specs.Table.{IsNew}
 use Rattle.live_server.proofs.TableLemmas.{new_without}

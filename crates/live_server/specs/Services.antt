@@ -1,0 +1,46 @@
+-- The services of a server: at which ports they are, and what each does behind a connection.
+use Rattle.std.specs.Prelude.{ℕ, ◌==◌, ◌&&◌, ◌||◌, not, Bool, if◌then◌else◌}
+use Rattle.sq_base.specs.Ports.{discard_port, echo_port}
+use Rattle.tcb_machine.specs.BlockState.{Block}
+use Rattle.echo_services.specs.Chargen.{chargen, given_after}
+use Rattle.echo_services.specs.Daytime.{daytime}
+use Rattle.echo_services.specs.Discard.{discard}
+use Rattle.echo_services.specs.Echo.{echo}
+use Rattle.live_server.specs.DaytimeText.{daytime_text}
+use Rattle.live_server.specs.declared.ports.Ports.{Ports}
+use Rattle.live_server.specs.declared.service.Service.{Service}
+use Rattle.live_server.specs.declared.service.Service.TheVariants.{Chargen, Daytime, Discard, Echo}
+
+-- echo (RFC 862) and discard (RFC 863) at their own ports, and nothing else
+abbrev pub plain_ports : Ports
+plain_ports = record { echo = echo_port; discard = discard_port; daytime = 0; chargen = 0 }
+
+-- no service has a port
+abbrev pub no_ports : Ports
+no_ports = record { echo = 0; discard = 0; daytime = 0; chargen = 0 }
+
+-- port 0 is nobody's
+abbrev pub is_served_at : Ports → ℕ → Bool
+is_served_at p port = not (port == 0) && ((port == p.echo) || ((port == p.discard) || ((port == p.daytime) || (port == p.chargen))))
+
+-- the service of a port that is served, for a connection that begins at this time
+abbrev pub service_at : Ports → ℕ → ℕ → Service
+service_at p now port =
+    if port == p.echo then Echo
+    else if port == p.daytime then Daytime now
+    else if port == p.chargen then Chargen 0
+    else Discard
+
+-- what a pump makes of a block, by what the service keeps
+unfoldable pub pump_of : Service → Block → Block
+pump_of Echo b = echo b
+pump_of Discard b = discard b
+pump_of (Daytime begun) b = daytime (daytime_text begun) b
+pump_of (Chargen given) b = chargen given b
+
+-- and what the service keeps then
+unfoldable pub after_pump : Service → Block → Service
+after_pump Echo b = Echo
+after_pump Discard b = Discard
+after_pump (Daytime begun) b = Daytime begun
+after_pump (Chargen given) b = Chargen (given_after given b)
