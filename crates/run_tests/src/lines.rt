@@ -1,3 +1,4 @@
+use conn_classifier::Rules;
 use perimeter_core::Kind;
 use squeue_enter::Mode;
 use squeue_replay::ReadMark;
@@ -92,13 +93,14 @@ fn a_mark_with_two_feeds(rt: HostRuntime) -> Result<(), Fail> {
 #[test]
 fn a_setup(rt: HostRuntime) -> Result<(), Fail> {
     let text = b"setup squeues 2 rings 3 mode nodrain budget 64 spread 5 verify 1\ncall";
-    let Some((setup, verify, rest)) = setup_line(text) else {
+    let Some((setup, rules, rest)) = setup_line(text) else {
         panic!(rt; "the setup isn't read")
     };
     assert_eq!(rt; (setup.squeues, setup.rings), (2, 3));
     assert_eq!(rt; setup.mode, Mode::NoDrain);
     assert_eq!(rt; (setup.budget, setup.spread), (64, 5));
-    assert!(rt; setup.trace && verify);
+    assert!(rt; setup.trace);
+    assert_eq!(rt; rules, Rules::usual(true));
     assert!(rt; rest == b"call".as_slice());
     Ok(())
 }

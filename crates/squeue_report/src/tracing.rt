@@ -19,7 +19,7 @@ ghost use Rattle.report_lines.specs.TraceText.{act_fields, entered_field, mark_l
 
 use crate::reporting::push_body;
 use conn_blocks::{CALLERS, Calls};
-use conn_classifier::Plan;
+use conn_classifier::{Plan, Rules};
 use histories::Mode;
 use perimeter_core::{Entry, SynchAct};
 use report_lines::push_pair;
@@ -32,7 +32,7 @@ use std::alloc::{AllocError, Global};
 use tcb_machine::Call;
 use text_digits::{TextEnd, push_field};
 
-/// The report of what was served, with the setup, the calls, and the marks of each squeue. There is a block for each connection of
+/// The report of what was served by the well-known ports, with the setup, the calls, and the marks of each squeue. There is a block for each connection of
 /// the plan, and a trace for each squeue of the setup. Fails only for want of memory.
 pub fn report2(
     alloc: Global,
@@ -50,18 +50,26 @@ pub fn report2(
     countable(setup, served)?;
     let mut text = Vec::new(alloc);
     let mut datagram = Vec::with_capacity(alloc, MOST_DATAGRAM)?;
-    push_report2(&mut text, &mut datagram, plan, calls, setup, verify, served)?;
+    push_report2(
+        &mut text,
+        &mut datagram,
+        plan,
+        calls,
+        setup,
+        Rules::usual(verify),
+        served,
+    )?;
     Ok(Octets::wrap(text))
 }
 
-/// Appends that report. Each datagram is made in `datagram`, whose bytes are lost.
+/// Appends that report of a plan by these rules. Each datagram is made in `datagram`, whose bytes are lost.
 pub fn push_report2<T: TextEnd>(
     text: &mut T,
     datagram: &mut Vec<u8>,
     plan: &Plan,
     calls: &Calls,
     setup: &Setup,
-    verify: bool,
+    rules: Rules,
     served: &Served,
 ) -> Result<(), T::Fault>
     requires blocks { length served.now.blocks ≡ length plan.now.tuples }
@@ -69,12 +77,12 @@ pub fn push_report2<T: TextEnd>(
     requires countable { AreCountable served.now.traces }
     requires room { most_datagram ≤ vec_capacity datagram.old }
     ensures { OnOk result (HasTold (λ told. AreServed plan.now calls.now served.now.blocks
-        → told ≡ trace_text plan.now calls.now setup.now (usual verify) (map (λ b. b.order) served.now.blocks) (map marks_of served.now.traces))
+        → told ≡ trace_text plan.now calls.now setup.now rules (map (λ b. b.order) served.now.blocks) (map marks_of served.now.traces))
         (T.told text.old) (T.told text.new)) }
 {
     text.put(b"report 2\n")?;
     push_body(text, datagram, plan, served)?;
-    push_setup(text, setup, verify)?;
+    push_setup(text, setup, rules)?;
     push_calls(text, calls)?;
     for q in 0..setup.squeues {
         push_squeue(text, q, served.trace(q))?;
@@ -117,12 +125,12 @@ fn has_end(mark: TraceMark) -> bool
     }
 }
 
-fn push_setup<T: TextEnd>(text: &mut T, setup: &Setup, verify: bool) -> Result<(), T::Fault>
-    ensures { OnOk result (T.told text.new ≡ more (T.told text.old) (setup_line setup.now (usual verify))) }
+fn push_setup<T: TextEnd>(text: &mut T, setup: &Setup, rules: Rules) -> Result<(), T::Fault>
+    ensures { OnOk result (T.told text.new ≡ more (T.told text.old) (setup_line setup.now rules)) }
 {
     push_sizes(text, setup)?;
     push_mode(text, setup.mode)?;
-    push_pace(text, setup, verify)?;
+    push_pace(text, setup, rules)?;
     Ok(())
 }
 
@@ -146,13 +154,13 @@ fn push_mode<T: TextEnd>(text: &mut T, mode: Mode) -> Result<(), T::Fault>
 
 /// The rest of the setup's line.
 #[tactic(auto, using(report_lines::proofs::Joins::joins))]
-fn push_pace<T: TextEnd>(text: &mut T, setup: &Setup, verify: bool) -> Result<(), T::Fault>
+fn push_pace<T: TextEnd>(text: &mut T, setup: &Setup, rules: Rules) -> Result<(), T::Fault>
     ensures { OnOk result (T.told text.new ≡ more (T.told text.old) (codes " budget " ++ (decimal setup.now.budget
-        ++ (codes " spread " ++ (decimal setup.now.spread ++ (codes " verify " ++ (decimal (if verify then 1 else 0) ++ 10 ∷ []))))))) }
+        ++ (codes " spread " ++ (decimal setup.now.spread ++ (codes " verify " ++ (decimal (if rules.verify then 1 else 0) ++ 10 ∷ []))))))) }
 {
     push_field(text, b" budget ", setup.budget)?;
     push_field(text, b" spread ", setup.spread)?;
-    push_number(text, b" verify ", u64::from(verify))
+    push_number(text, b" verify ", u64::from(rules.verify))
 }
 
 /// The calls of all application threads.

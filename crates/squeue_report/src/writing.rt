@@ -7,7 +7,6 @@ ghost use Rattle.sq_base.specs.Ends.{end_of};
 ghost use Rattle.segment_codec.specs.Datagrams.{most_datagram};
 ghost use Rattle.squeue_state.specs.Told.{marks_of};
 ghost use Rattle.conn_blocks.specs.CallLists.{CallLists};
-ghost use Rattle.conn_classifier.specs.Rules.{usual};
 ghost use Rattle.conn_blocks.specs.ServedBlocks.{AreServed};
 ghost use Rattle.squeue_report.specs.Countable.{AreCountable};
 ghost use Rattle.report_lines.specs.ReportText.{report_text};
@@ -17,7 +16,7 @@ ghost use Rattle.squeue_report.specs.Written.{IsWritten};
 use crate::reporting::push_report;
 use crate::tracing::push_report2;
 use conn_blocks::Calls;
-use conn_classifier::Plan;
+use conn_classifier::{Plan, Rules};
 use ring_quotas::Setup;
 use ring_threads::Served;
 use segment_codec::MOST_DATAGRAM;
@@ -74,21 +73,21 @@ pub fn write_report<K: Sink>(
     wrote
 }
 
-/// Writes it with the setup, the calls, and the marks of each squeue.
+/// Writes it with the setup, the rules that the plan was made by, the calls, and the marks of each squeue.
 pub fn write_report2<K: Sink>(
     out: &mut K,
     room: Room,
     plan: &Plan,
     calls: &Calls,
     setup: &Setup,
-    verify: bool,
+    rules: Rules,
     served: &Served,
 ) -> Result<(), Failed>
     requires blocks { length served.now.blocks ≡ length plan.now.tuples }
     requires traces { length served.now.traces ≡ setup.now.squeues }
     requires countable { AreCountable served.now.traces }
     ensures { IsWritten (λ text. AreServed plan.now calls.now served.now.blocks
-        → text ≡ trace_text plan.now calls.now setup.now (usual verify) (map (λ b. b.order) served.now.blocks) (map marks_of served.now.traces))
+        → text ≡ trace_text plan.now calls.now setup.now rules (map (λ b. b.order) served.now.blocks) (map marks_of served.now.traces))
         (end_of K.contents K.write_faults out.old out.new) result }
 {
     let Room {
@@ -96,7 +95,7 @@ pub fn write_report2<K: Sink>(
         mut datagram,
     } = room;
     let mut text = Pieces::over(out, piece);
-    match push_report2(&mut text, &mut datagram, plan, calls, setup, verify, served) {
+    match push_report2(&mut text, &mut datagram, plan, calls, setup, rules, served) {
         Ok(()) => {}
         Err(never) => match never {},
     }

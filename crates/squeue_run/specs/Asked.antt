@@ -15,6 +15,7 @@ use Rattle.tcb_machine.specs.Limits.{plain_space}
 use Rattle.tcb_machine.specs.declared.kinds.Call.{Call}
 use Rattle.tcb_machine.specs.declared.kinds.Call.TheVariants as call
 use Rattle.squeue_run.specs.declared.calls.CallWord.{CallWord}
+use Rattle.squeue_run.specs.declared.reading.Words.{Words}
 use Rattle.conn_classifier.specs.Rules.{usual}
 use Rattle.conn_classifier.specs.declared.rules.Rules.{Rules}
 
@@ -64,6 +65,10 @@ pub record Asked : Type 0 where
   pub verify : Bool
   pub number : Option ℕ
   pub calls : List CallWord
+
+-- what the words ask, from what the program holds of them
+abbrev pub asked_by_words : Words → Asked
+asked_by_words w = record { setup = w.setup; verify = w.verify; number = w.number; calls = w.named.items }
 
 -- by what the plan is made
 abbrev pub rules_of : Asked → Rules

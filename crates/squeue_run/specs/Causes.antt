@@ -9,11 +9,10 @@ use Rattle.pcapng_reader.specs.declared.fault.PcapngFault.TheVariants as pcapng
 use Rattle.ring_threads.specs.Served.{ServedOf}
 use Rattle.squeue_run.specs.Asked.{Asked}
 use Rattle.squeue_run.specs.CallWords.{IsFirstMissing}
-use Rattle.squeue_run.specs.declared.reading.Words.{Words}
 use Rattle.squeue_run.specs.declared.refusal.Refusal.{Refusal}
 use Rattle.squeue_run.specs.declared.refusal.Refusal.TheVariants as refusal
-use Rattle.squeue_run.specs.Lines.{usage_line, many_marks_line, missing_line}
-use Rattle.squeue_run.specs.Words.{sqrun}
+use Rattle.squeue_run.specs.Lines.{many_marks_line, missing_line}
+use Rattle.squeue_run.specs.Words.{sqrun, usage_line}
 use Rattle.shell.specs.Lines.{memory_line}
 use Rattle.shell.specs.Reading.{Reads, ReadsSuch, TakesFew}
 use Rattle.shell.specs.Refusals.{CaptureTold, LineOrMemory, PcapngTold}
@@ -30,10 +29,6 @@ Told (refusal.Capture f) err s = CaptureTold sqrun f err s
 Told (refusal.Pcapng f) err s = PcapngTold sqrun f err s
 Told (refusal.NoConnection c conns) err s = LineOrMemory sqrun status.NoConnection (missing_line c conns) err s
 Told (refusal.LongTrace n) err s = LineOrMemory sqrun status.TooLarge (many_marks_line n) err s
-
--- what the words ask, from what the program holds of them
-abbrev pub asked_by_words : Words → Asked
-asked_by_words w = record { setup = w.setup; verify = w.verify; number = w.number; calls = w.named.items }
 
 -- what was served in the replay of a capture, and what it writes, or why it gives nothing
 abbrev pub Replays : CaptureFile → Asked → ServedOf → List ℕ → Type 0

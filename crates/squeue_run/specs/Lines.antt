@@ -1,13 +1,7 @@
--- The lines that `sqrun` alone writes where it gives no output: those of its words, of a trace and of a CALL. The others are those of `shell` under its name.
+-- The lines that `sqrun` alone writes where it gives no output: those of a trace and of a CALL; `Words` has the usage line. The others are those of `shell` under its name.
 use Rattle.std.specs.Prelude.{ℕ, List, [], ◌++◌, codes}
 use Rattle.std.specs.Fmt.{decimal}
 use Rattle.shell.specs.Lines.{line}
-use Rattle.histories.specs.ModeWords.{mode_words}
-
-abbrev pub usage_line : List ℕ
-usage_line =
-    codes "usage: sqrun [--squeues N] [--rings N] [--mode "
-    ++ (mode_words ++ line (codes "] [--budget N] [--spread N] [--verify] [--trace] [--gen N] [CALL]..."))
 
 -- the line of a trace that may have n marks
 unfoldable pub many_marks_line : ℕ → List ℕ

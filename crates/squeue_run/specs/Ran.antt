@@ -19,8 +19,8 @@ use Rattle.squeue_run.specs.Limits.{most_marks}
 use Rattle.shell.specs.Lines.{memory_line, read_line, write_line, bad_line, pcapng_line, many_bytes_line, many_records_line}
 use Rattle.shell.specs.Reading.{HasRead, IsBad, IsBadPcapng, Reads, ReadsSuch}
 use Rattle.shell.specs.Telling.{OnlyTells, TellsLine}
-use Rattle.squeue_run.specs.Lines.{usage_line, many_marks_line, missing_line}
-use Rattle.squeue_run.specs.Words.{sqrun}
+use Rattle.squeue_run.specs.Lines.{many_marks_line, missing_line}
+use Rattle.squeue_run.specs.Words.{sqrun, usage_line}
 
 -- such an output of what is handed back was written whole, and no write failed
 pub record GetsWhole (IsOutput : ServedOf → List ℕ → Type 0) (out : End) (back : Option ServedOf) : Type 0 where

@@ -1,10 +1,11 @@
--- The words of `sqrun`: its options in the order of the usage line, and its CALLs.
-use Rattle.std.specs.Prelude.{[], ◌∷◌, None, Some, codes}
+-- The words of `sqrun`: its options in the order of the usage line, its CALLs, and that line.
+use Rattle.std.specs.Prelude.{[], ◌∷◌, ◌++◌, None, Some, codes}
 use Rattle.conn_blocks.specs.Limits.{most_calls}
 use Rattle.ring_quotas.specs.Limits.{most_budget, most_rings, most_spread, most_squeues}
 use Rattle.histories.specs.ModeWords.{mode_words}
 use Rattle.shell.specs.Table.{TableOf, nothing, number, row, text}
 pub use Rattle.shell.specs.Table.{Text}
+use Rattle.shell.specs.Lines.{line}
 
 -- the name that the program calls itself by
 abbrev pub sqrun : Text
@@ -25,3 +26,9 @@ sqrun_table = record {
       ∷ [];
   most_calls = most_calls;
 }
+
+-- what is written where the words are refused
+abbrev pub usage_line : Text
+usage_line =
+    codes "usage: sqrun [--squeues N] [--rings N] [--mode "
+    ++ (mode_words ++ line (codes "] [--budget N] [--spread N] [--verify] [--trace] [--gen N] [CALL]..."))

@@ -5,13 +5,13 @@ ghost use Rattle.std.specs.List.{AllByRecursion};
 ghost use Rattle.std.specs.String.{string_bytes};
 ghost use Rattle.conn_blocks.specs.Limits.{callers, most_calls};
 ghost use Rattle.ring_quotas.specs.Quotas.{IsInRange};
-ghost use Rattle.squeue_run.specs.Asked.{asked};
+ghost use Rattle.squeue_run.specs.Asked.{asked, asked_by_words, rules_of};
 ghost use Rattle.squeue_run.specs.CallWords.{lists_of};
-ghost use Rattle.squeue_run.specs.Causes.{asked_by_words};
 
 use crate::calls::CallWord;
 use crate::words::asked_in;
 use conn_blocks::Calls;
+use conn_classifier::Rules;
 use ring_quotas::Setup;
 use shell::WordFault;
 use std::alloc::{AllocError, Global};
@@ -30,6 +30,15 @@ pub struct Words {
     pub calls: Calls,
     /// The CALLs in word order.
     pub named: Vec<CallWord>,
+}
+
+impl Words {
+    /// By what the plan is made, beside the capture.
+    pub fn rules(&self) -> Rules
+        ensures { result ≡ rules_of (asked_by_words self.now) }
+    {
+        Rules::usual(self.verify)
+    }
 }
 
 /// What the words of the command line, without the program's name, ask for. `Usage` comes exactly where they are refused.

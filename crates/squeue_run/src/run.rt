@@ -2,7 +2,7 @@
 
 ghost use Rattle.std.specs.Prelude.{◌≡◌, ◌<◌, ◌≤◌, if◌then◌else◌, true, All, IfOk, OnErr, MatchOption, MatchResult, length, map};
 ghost use Rattle.std.specs.String.{string_bytes};
-ghost use Rattle.squeue_run.specs.Asked.{asked};
+ghost use Rattle.squeue_run.specs.Asked.{asked, asked_by_words, rules_of};
 ghost use Rattle.squeue_run.specs.CallWords.{AllThere, IsFirstMissing, lists_of};
 ghost use Rattle.sq_base.specs.Ends.{Rose, end_of};
 ghost use Rattle.squeue_state.specs.Told.{marks_of};
@@ -10,7 +10,6 @@ ghost use Rattle.conn_blocks.specs.Allowed.{all_calls};
 ghost use Rattle.ring_quotas.specs.Quotas.{IsInRange, marks_most};
 ghost use Rattle.ring_threads.specs.Served.{orders_of};
 ghost use Rattle.conn_blocks.specs.ServedBlocks.{AreServed};
-ghost use Rattle.conn_classifier.specs.Rules.{usual};
 ghost use Rattle.report_lines.specs.ReportText.{report_text};
 ghost use Rattle.report_lines.specs.TraceText.{trace_text};
 ghost use Rattle.squeue_report.specs.Written.{IsWritten};
@@ -18,7 +17,7 @@ ghost use Rattle.squeue_run.specs.Output.{IsSummary};
 ghost use Rattle.squeue_run.specs.Limits.{most_marks};
 ghost use Rattle.shell.specs.Reading.{IsDone};
 ghost use Rattle.squeue_run.specs.Ran.{HasRan, Accepts};
-ghost use Rattle.squeue_run.specs.Causes.{Gives, Fails, GivesBy, FailsBy, Replays, ReplayFails, GeneratedFails, asked_by_words};
+ghost use Rattle.squeue_run.specs.Causes.{Gives, Fails, GivesBy, FailsBy, Replays, ReplayFails, GeneratedFails};
 
 use crate::calls::CallWord;
 use crate::generator::generate;
@@ -28,7 +27,7 @@ use crate::refusal::{Refusal, refuse};
 use crate::words::SQRUN;
 use capture_reader::{Capture, parse_capture, read_bytes};
 use conn_blocks::Calls;
-use conn_classifier::{Plan, plan};
+use conn_classifier::{Plan, plan_with};
 use perimeter_core::{Hook, NoHook};
 use ring_quotas::{Setup, marks_most};
 use ring_threads::{Served, serve};
@@ -222,7 +221,7 @@ fn reported<K: Sink>(
     ensures quiet { OnErr result (out.new ≡ out.old) }
     ensures ends { IfOk result (λ wrote. IsWritten (λ text. AreServed plan.now words.now.calls served.now.blocks → text ≡
         (if words.now.setup.trace
-        then trace_text plan.now words.now.calls words.now.setup (usual words.now.verify) (orders_of served.now) (map marks_of served.now.traces)
+        then trace_text plan.now words.now.calls words.now.setup (rules_of (asked_by_words words.now)) (orders_of served.now) (map marks_of served.now.traces)
         else report_text plan.now words.now.calls (orders_of served.now))) (end_of K.contents K.write_faults out.old out.new) wrote) }
 {
     let room = Room::make(alloc)?;
@@ -236,7 +235,7 @@ fn reported<K: Sink>(
         plan,
         &words.calls,
         &words.setup,
-        words.verify,
+        words.rules(),
         served,
     ))
 }
@@ -257,7 +256,7 @@ fn replayed<K: Sink, H: Hook + Sync>(
         (λ w. IsWritten (Replays capture.now (asked_by_words words.now) w.served) (end_of K.contents K.write_faults out.old out.new) w.wrote)
         (ReplayFails capture.now (asked_by_words words.now)) }
 {
-    let plan = plan(rt, alloc, capture, words.verify)?;
+    let plan = plan_with(rt, alloc, capture, words.rules())?;
     let conns = plan.conns();
     if let Some(c) = missing(&words.named, conns) {
         return Err(Refusal::NoConnection { c, conns });
@@ -289,7 +288,7 @@ fn generated<K: Sink, H: Hook + Sync>(
         Ok(capture) => capture,
         Err(fault) => return Err(Refusal::Capture(fault)),
     };
-    let plan = plan(rt, alloc, &capture, words.verify)?;
+    let plan = plan_with(rt, alloc, &capture, words.rules())?;
     let calls = Calls::make(alloc);
     let served = serve(rt, alloc, &plan, &calls, &words.setup, hook)?;
     let text = summary(alloc, number, capture.bytes(), &plan, &served)?;

@@ -27,6 +27,10 @@ pub record IsPrintedSetup (s : Setup) : Type 0 where
   pub budget : s.budget ≤ most_budget
   pub traced : s.trace ≡ true
 
+-- the rules that its line tells: the ports are the well-known ones
+abbrev pub ArePrintedRules : Rules → Type 0
+ArePrintedRules rules = rules ≡ usual rules.verify
+
 -- the numbers of its line
 abbrev pub setup_numbers : Setup → Bool → List ℕ
 setup_numbers s verify = s.squeues ∷ s.rings ∷ s.budget ∷ s.spread ∷ (if verify then 1 else 0) ∷ []

@@ -8,42 +8,43 @@ ghost use Rattle.tcb_machine.specs.declared.kinds.Call.{Call as CallOf};
 ghost use Rattle.ring_quotas.specs.Limits.{most_budget, most_rings, most_spread, most_squeues};
 ghost use Rattle.ring_quotas.specs.declared.setup.Setup.{Setup as SetupOf};
 ghost use Rattle.trace_lines.specs.Forms.{filled, is_form, blank_count};
-ghost use Rattle.trace_lines.specs.Printed.{ArePrintedCalls, BeginsWithCall, IsPrintedCall, IsPrintedSetup, setup_numbers};
+ghost use Rattle.trace_lines.specs.Printed.{ArePrintedCalls, ArePrintedRules, BeginsWithCall, IsPrintedCall, IsPrintedSetup, setup_numbers};
 
 use crate::forms::by_form;
 use conn_blocks::{CALLERS, Calls, MOST_CALLS};
+use conn_classifier::Rules;
 use ring_quotas::{MOST_BUDGET, MOST_RINGS, MOST_SPREAD, MOST_SQUEUES, Mode, Setup};
 use std::alloc::{AllocError, Global};
 use tcb_machine::{Call, PLAIN_SPACE};
 
-/// The setup, each number in its range, whether wrong checksums drop segments, and the text behind the line. `None` where
+/// The setup, each number in its range, the rules that the plan was made by, and the text behind the line. `None` where
 /// the text begins with no such line.
 ///
 /// # Example
 ///
 /// ```
 /// let text = b"setup squeues 2 rings 3 mode nodrain budget 64 spread 5 verify 1\ncall";
-/// let Some((setup, verify, rest)) = setup_line(text) else {
+/// let Some((setup, rules, rest)) = setup_line(text) else {
 ///     panic!(rt; "the setup isn't read")
 /// };
 /// assert_eq!(rt; (setup.squeues, setup.rings), (2, 3));
 /// ```
-pub fn setup_line(text: &[u8]) -> Option<(Setup, bool, &[u8])>
+pub fn setup_line(text: &[u8]) -> Option<(Setup, Rules, &[u8])>
     ensures { MatchOption result
         ((s : SetupOf) (verify : Bool) (rest : List ℕ) → IsPrintedSetup s → text.now ≡ setup_line s (usual verify) ++ rest → ⊥)
-        (λ r. IsPrintedSetup r.0 × (text.now ≡ setup_line r.0 (usual r.1) ++ r.2.now)) }
+        (λ r. IsPrintedSetup r.0 × (text.now ≡ setup_line r.0 (usual r.1.verify) ++ r.2.now) × ArePrintedRules r.1) }
 {
     let process = b"setup squeues # rings # mode process budget # spread # verify #\n";
     if let Some((setup, verify, rest)) = setup_by(text, Mode::Process, process) {
-        return Some((setup, verify, rest));
+        return Some((setup, Rules::usual(verify), rest));
     }
     let no_drain = b"setup squeues # rings # mode nodrain budget # spread # verify #\n";
     if let Some((setup, verify, rest)) = setup_by(text, Mode::NoDrain, no_drain) {
-        return Some((setup, verify, rest));
+        return Some((setup, Rules::usual(verify), rest));
     }
     let fill = b"setup squeues # rings # mode fill budget # spread # verify #\n";
     if let Some((setup, verify, rest)) = setup_by(text, Mode::Fill, fill) {
-        return Some((setup, verify, rest));
+        return Some((setup, Rules::usual(verify), rest));
     }
     None
 }

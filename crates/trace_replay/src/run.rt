@@ -22,7 +22,7 @@ use crate::orders::serve_orders;
 use crate::reason::{Reason, Refusal};
 use crate::replaying::replay_all;
 use capture_reader::{Capture, CaptureFault, read_within};
-use conn_classifier::plan;
+use conn_classifier::plan_with;
 use report_lines::report_of;
 use shell::{NO_MEMORY, READ_FAULT, TOO_LARGE, Table, WRITE_FAULT, tell, tell_usage};
 use sq_base::{Sink, Source, put};
@@ -210,10 +210,10 @@ fn judge_report(
         return Err(Refusal::No(Reason::Form));
     };
     let (head, lines) = text.split_at(from);
-    let Some((setup, verify, behind_setup)) = setup_line(lines) else {
+    let Some((setup, rules, behind_setup)) = setup_line(lines) else {
         return Err(Refusal::No(Reason::Form));
     };
-    let plan = plan(rt, alloc, capture, verify)?;
+    let plan = plan_with(rt, alloc, capture, rules)?;
     let Some((calls, behind_calls)) = calls(alloc, behind_setup, plan.conns())? else {
         return Err(Refusal::No(Reason::Form));
     };

@@ -2,7 +2,6 @@ use Rattle.std.proofs.Common.{◌≤◌, length, map, ap, sym, ◌∙◌, arith}
 use Rattle.std.specs.Option.{option_map}
 use Rattle.std.proofs.lemmas.List.{length-map}
 use Rattle.std.proofs.lemmas.Option.{slice_get-map}
-use Rattle.conn_classifier.specs.Rules.{usual}
 use Rattle.squeue_state.specs.Told.{marks_of}
 use Rattle.report_lines.specs.TraceText.{squeue_text}
 use Rattle.report_lines.proofs.Lines.{line_more}
@@ -29,6 +28,6 @@ pub returns : goal.returns
 returns g c =
     let traces = c.args.served.now.traces in
     let past : length (map marks_of traces) ≤ c.loop-q.q = omega (arith, length-map traces marks_of, c.requires.traces, c.loop-q-test.false) in
-    trace_told c.args.plan.now c.args.calls.now c.args.setup.now (usual c.args.verify) c.args.served.now.blocks (map marks_of traces) _ _ _ _ _ _ _ c.in_ok-put.ensures.told
+    trace_told c.args.plan.now c.args.calls.now c.args.setup.now c.args.rules c.args.served.now.blocks (map marks_of traces) _ _ _ _ _ _ _ c.in_ok-put.ensures.told
     c.in_ok-push_body.ensures c.in_ok-push_setup.ensures c.in_ok-push_calls.ensures
     (numbered_all squeue_text (map marks_of traces) _ _ c.loop-q.q past c.loop-q.invariant) c.in_ok-put-2.ensures.told

@@ -1,6 +1,5 @@
 use Rattle.report_lines.proofs.LineParts.{set_up}
 use Rattle.squeue_report.proofs.tracing.push_setup.Goals as goal
-use Rattle.conn_classifier.specs.Rules.{usual}
 
 pub returns : goal.returns
-returns g c = set_up _ _ _ _ c.args.setup.now (usual c.args.verify) c.in_ok-push_sizes.ensures c.in_ok-push_mode.ensures c.in_ok-push_pace.ensures
+returns g c = set_up _ _ _ _ c.args.setup.now c.args.rules c.in_ok-push_sizes.ensures c.in_ok-push_mode.ensures c.in_ok-push_pace.ensures

@@ -1,6 +1,6 @@
 use Rattle.std.proofs.Common.{refl}
 use Rattle.std.proofs.KnownBytes.{Keeps-refl}
-use Rattle.squeue_run.specs.Causes.{asked_by_words}
+use Rattle.squeue_run.specs.Asked.{asked_by_words}
 use Rattle.squeue_run.proofs.Outputs.{generated_for, replayed_for}
 use Rattle.squeue_run.proofs.run.output_for.Goals as goal
 
