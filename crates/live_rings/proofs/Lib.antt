@@ -1,0 +1,11 @@
+pub mod Made
+pub mod Makings
+pub mod Fresh
+pub mod Jobs
+pub mod OneRun
+pub mod Reading
+pub mod Pairs
+pub mod Leaving
+pub mod Endings
+pub mod Groups
+pub mod Beginnings
