@@ -1,8 +1,8 @@
 /* A client of many connections: load HOST echo|discard|pings CONNECTIONS SECONDS
 
    echo sends and reads at once, discard sends, pings sends 100 bytes and waits for them. Each byte that comes back is checked. Behind the time
-   each connection half closes, and reads to its end. It prints how many bytes went to and fro, or how many pings; in how many seconds;
-   and the median and the 99th percentile of a ping in microseconds. */
+   each connection half closes, and reads to its end. It prints how many bytes went to and fro, or how many pings; when it began and ended, in
+   seconds of the machine's clock; and the median and the 99th percentile of a ping in microseconds. */
 #include <arpa/inet.h>
 #include <errno.h>
 #include <fcntl.h>
@@ -121,6 +121,6 @@ int main(int words, char **word) {
             else if (es[i].events & EPOLLOUT) put(c);
         }
     }
-    printf("%llu %.6f %u %u\n", (unsigned long long)(ping ? pings : total), (now() - start) / 1e6, percentile(50), percentile(99));
+    printf("%llu %.6f %.6f %u %u\n", (unsigned long long)(ping ? pings : total), start / 1e6, now() / 1e6, percentile(50), percentile(99));
     return 0;
 }

@@ -1,27 +1,69 @@
-"""The live server over frames, where the test gives the time: each step is deterministic, and needs neither root nor a device."""
+"""The live servers over frames, where the test gives the time: each step is deterministic, and needs neither root nor a device."""
 import socket
+import threading
 
 import tcp_segments
-from frames import CLIENT, HEAD, SERVER, started
-from tcp_segments import ACK, FIN, PSH, SYN
+from frames import CLIENT, HEAD, SERVER, Frames
+from tcp_segments import ACK, FIN, PSH, RST, SYN
 
 SECOND = 1_000_000
 MSS = b"\2\4\5\xb4"
 
 
+class Alone:
+    """`sqlive`, with one stream."""
+    def __init__(self, program):
+        self.program = program
+
+    def start(self, **setting):
+        server = Frames(self.program, **setting)
+        self.process = server.process
+        return server.ends[0]
+
+    def ended(self):
+        return self.process.wait(60)
+
+
+class Shared:
+    """`sqlive_rings`: whoever uses one of its rings shares the process with those who use the others."""
+    def __init__(self, program, rings, **layout):
+        self.words, self.lock, self.server = (program, rings, layout), threading.Lock(), None
+
+    def start(self, ring, setting):
+        with self.lock:
+            if not self.server:
+                self.server = Frames(*self.words, **setting)
+            return self.server.ends[ring]
+
+    def ended(self):
+        return self.server.process.wait(60)
+
+
+class Ring:
+    """One of the rings of a shared server."""
+    def __init__(self, server, ring):
+        self.server, self.ring = server, ring
+
+    def start(self, **setting):
+        return self.server.start(self.ring, setting)
+
+    def ended(self):
+        return self.server.ended()
+
+
 class Framed:
-    """The program, as a context. The clock begins at a second."""
+    """A stream of a program, as a context. The clock begins at a second."""
     def __init__(self, program, **setting):
         self.program, self.setting, self.now, self.mark = program, setting, SECOND, 0
 
     def __enter__(self):
-        self.server = started(self.program, **self.setting)
-        self.into, self.out_of = self.server.stdin, self.server.stdout
+        into, out_of = self.program.start(**self.setting)
+        self.into, self.out_of = open(into, "wb"), open(out_of, "rb")
         return self
 
     def __exit__(self, *_):
         self.into.close()
-        status = self.server.wait(60)
+        status = self.program.ended()
         self.out_of.close()
         assert status == 0, f"the program ended with status {status}"
 

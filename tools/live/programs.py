@@ -1,4 +1,4 @@
-"""The live server as a process: where it is, its words, and how it is started without privileges."""
+"""The live servers as processes: where they are, their words, and how one is started without privileges."""
 import ctypes
 import os
 import signal
@@ -17,9 +17,16 @@ def built(name):
     return str(unproved if unproved.exists() and not proved.exists() else proved)
 
 
-def setting(server, broadcast, places=1024, idle=7200, memory=256 << 20, mtu=1500):
-    """The words that say what a server is started with. Both headers of a segment take 40 bytes."""
-    return [server.packed.hex(), broadcast.packed.hex(), str(places), str(idle), str(memory), str(mtu - 40)]
+def setting(server, broadcast, places=1024, idle=7200, memory=256 << 20, mtu=1500, ports=None):
+    """The words that say what a server is started with. Both headers of a segment take 40 bytes. `ports` has the port of each service by
+    its name; without it there are echo at 7 and discard at 9, and no word says so."""
+    words = [server.packed.hex(), broadcast.packed.hex(), str(places), str(idle), str(memory), str(mtu - 40)]
+    return words if ports is None else [*words, ",".join(f"{name}={port}" for name, port in ports.items())]
+
+
+def rings_words(rings, squeues=None, mode="process", budget=64):
+    """The words that say how the server by several rings is laid out."""
+    return ["--rings", str(rings), "--squeues", str(squeues or rings), "--mode", mode, "--budget", str(budget)]
 
 
 def end_with_the_launcher():
@@ -29,12 +36,12 @@ def end_with_the_launcher():
         os._exit(126)
 
 
-def as_nobody(program, words, device):
-    """Starts a program as nobody, with the device as its standard input and output. Nobody may not see the folder that it lies in."""
+def as_nobody(program, words, descriptors=(), **streams):
+    """Starts a program as nobody, with these descriptors. Nobody may not see the folder that it lies in."""
     file = os.open(program, os.O_RDONLY | os.O_CLOEXEC)
     try:
-        return subprocess.Popen(words, executable=f"/proc/self/fd/{file}", pass_fds=[file], stdin=device, stdout=device,
-                                user=NOBODY, group=NOBODY, extra_groups=[], preexec_fn=end_with_the_launcher)
+        return subprocess.Popen(words, executable=f"/proc/self/fd/{file}", pass_fds=[file, *descriptors], user=NOBODY, group=NOBODY, extra_groups=[],
+                                preexec_fn=end_with_the_launcher, **streams)
     finally:
         os.close(file)
 

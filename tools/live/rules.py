@@ -74,6 +74,18 @@ def idle(program):
         assert len(server.step(datagram(45000, 7, 1, 0, SYN))) == 1, "nobody left"
 
 
+def vanished(program):
+    """As many clients as a table has places, and none is ever heard of again: thirty days later the next one is served."""
+    with Framed(program, places=1024) as server:
+        ports = range(20000, 21024)
+        answers = server.step(*(datagram(port, 7, 1, 0, SYN) for port in ports))
+        assert [s.target_port for s in answers] == list(ports)
+        assert server.step(*(datagram(s.target_port, 7, 2, s.seq + 1, ACK) for s in answers)) == []
+        assert server.step(datagram(45000, 7, 1, 0, SYN)) == [], "a full table took a connection"
+        server.step(after=30 * 24 * 3600 * SECOND)
+        assert [s.text for s in Client(server, port=45000).send(b"here")] == [b"here"], "nobody left"
+
+
 def half_open(program):
     """A full table of half-open connections and two that are open: each SYN is answered, the oldest half-open one is the one that left."""
     with Framed(program, places=6) as server:
@@ -103,4 +115,30 @@ def memory(program):
         assert server.step(other.segment(other.seq, other.ack, ACK)) == []
 
 
-RULES = {function.__name__.replace("_", "-"): function for function in (addresses, challenges, blind, fresh, idle, half_open, memory)}
+def ports(program):
+    """Each service at the port that the words name: echo, daytime (RFC 867), which closes first, and the generator; port 9, unnamed, refuses."""
+    with Framed(program, ports={"echo": 7007, "daytime": 13, "chargen": 19}) as server:
+        client = Client(server, service=7007)
+        assert [s.text for s in client.send(b"here")] == [b"here"]
+        opened, = server.step(datagram(40001, 13, 1000, 0, SYN), after=86_400 * SECOND)
+        told, closed = server.step(datagram(40001, 13, 1001, opened.seq + 1, ACK), after=SECOND - 1)
+        assert (told.text, closed.flags & FIN) == (b"1970-01-02 00:00:01 UTC\r\n", FIN), (told, closed)
+        opened, = server.step(datagram(40002, 19, 1000, 0, SYN))
+        given = b"".join(s.text for s in server.step(datagram(40002, 19, 1001, opened.seq + 1, ACK)))
+        assert given[:190] == 2 * bytes(range(32, 127)), given
+        refused, = server.step(datagram(40003, 9, 1000, 0, SYN))
+        assert refused.flags & RST, refused
+
+
+def path_mtu(program):
+    """Where the paths take 1,300 bytes nothing longer is sent (RFC 9293, 3.7.1), also to a client that takes more, and also where it comes again."""
+    with Framed(program, mtu=1300) as server:
+        client, text = Client(server), bytes(range(250)) * 10
+        sent = client.send(text[:1400]) + client.send(text[1400:])
+        assert b"".join(s.text for s in sent) == text and {len(s.text) for s in sent} == {1260, 140, 1100}, sent
+        again = server.step(after=SECOND)
+        assert [s.text for s in again] == [text[:1260]], again
+
+
+RULES = {function.__name__.replace("_", "-"): function
+         for function in (addresses, challenges, blind, fresh, idle, vanished, half_open, memory, path_mtu, ports)}

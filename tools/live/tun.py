@@ -6,21 +6,47 @@ import socket
 import struct
 
 TUNSETIFF, SIOCSIFFLAGS, SIOCSIFADDR, SIOCSIFNETMASK, SIOCSIFMTU, SIOCSIFTXQLEN = 0x400454CA, 0x8914, 0x8916, 0x891C, 0x8922, 0x8943
-TUN_WITHOUT_HEADER = 0x0001 | 0x1000
+TUN_WITHOUT_HEADER, MULTI_QUEUE, LONG_SEGMENTS, NEW_ALONE = 0x0001 | 0x1000, 0x0100, 0x4000, 0x8000
+# What a device with long segments takes: segments over IPv4 that aren't cut, without their checksums.
+TUNSETOFFLOAD, NOT_CUT = 0x400454D0, 0x1 | 0x2
 UP_AND_RUNNING = 0x1 | 0x40
-# So many datagrams wait for the program: more are lost, and a lost one costs a second.
+# So many datagrams wait for the program in each queue: more are lost, and a lost one costs a second.
 QUEUE = 10000
 
 
-def open_device(name):
-    """A TUN device."""
+def attached(name, flags):
     device = os.open("/dev/net/tun", os.O_RDWR | os.O_CLOEXEC)
     try:
-        fcntl.ioctl(device, TUNSETIFF, struct.pack("16sH22x", name.encode(), TUN_WITHOUT_HEADER))
+        fcntl.ioctl(device, TUNSETIFF, struct.pack("16sH22x", name.encode(), flags))
     except OSError:
         os.close(device)
         raise
     return device
+
+
+def open_device(name):
+    """A TUN device."""
+    return attached(name, TUN_WITHOUT_HEADER)
+
+
+def open_queues(name, count, long_segments):
+    """A TUN device with so many queues, a descriptor each. It must be a new one: else these would take a part of another server's flows.
+
+    The kernel gives a flow to the queue that last sent for it, and a new one to a queue by its hash. With long segments each datagram
+    stands behind a virtio_net_hdr.
+    """
+    flags = TUN_WITHOUT_HEADER | MULTI_QUEUE | (LONG_SEGMENTS if long_segments else 0)
+    queues = [attached(name, flags | NEW_ALONE)]
+    try:
+        if long_segments:
+            fcntl.ioctl(queues[0], TUNSETOFFLOAD, NOT_CUT)
+        while len(queues) < count:
+            queues.append(attached(name, flags))
+    except OSError:
+        for queue in queues:
+            os.close(queue)
+        raise
+    return queues
 
 
 def set_up(name, interface, mtu=1500):
@@ -38,6 +64,6 @@ def set_up(name, interface, mtu=1500):
 
 def why_none(error, name):
     """What is in the way of a TUN device."""
-    return {errno.EBUSY: f"{name} is in use, so another tools/sqlive runs (--device names another one)",
-            errno.EPERM: "it takes root", errno.EACCES: "it takes root",
+    in_use = f"{name} is in use, so another tools/sqlive runs (--device names another one)"
+    return {errno.EBUSY: in_use, errno.EINVAL: in_use, errno.EPERM: "it takes root", errno.EACCES: "it takes root",
             errno.ENOENT: "there is no /dev/net/tun (modprobe tun)", errno.ENODEV: "there is no /dev/net/tun (modprobe tun)"}.get(error.errno, error.strerror)

@@ -19,10 +19,11 @@ import time
 from dataclasses import dataclass, field
 
 import tun
-from frames import CLIENT, HEAD, started
+from frames import CLIENT, HEAD, Frames
 from programs import most_memory_kb
+from rings import F_SETPIPE_SZ, PIPE
 
-CLONE_NEWNET, F_SETPIPE_SZ, PIPE = 0x40000000, 1031, 1 << 20
+CLONE_NEWNET = 0x40000000
 
 
 def new_namespace():
@@ -59,19 +60,46 @@ class Direction:
     queued: int = 0
 
 
+class End:
+    """Both pipes of a ring, and what isn't written or isn't a whole frame yet."""
+    def __init__(self, into, out_of):
+        self.into, self.out_of, self.to_write, self.was_read = into, out_of, bytearray(), bytearray()
+        for pipe in (into, out_of):
+            os.set_blocking(pipe, False)
+            fcntl.fcntl(pipe, F_SETPIPE_SZ, PIPE)
+
+    def put(self, at, datagram=b""):
+        self.to_write += HEAD.pack(len(datagram), at) + datagram
+
+    def write(self):
+        try:
+            del self.to_write[:os.write(self.into, self.to_write)]
+        except BlockingIOError:
+            pass
+
+    def frames(self, data):
+        """The datagrams that are whole now."""
+        self.was_read += data
+        at = 0
+        while len(self.was_read) - at >= HEAD.size:
+            length, _ = HEAD.unpack_from(self.was_read, at)
+            end = at + HEAD.size + length
+            if len(self.was_read) < end:
+                break
+            yield bytes(self.was_read[at + HEAD.size:end])
+            at = end
+        del self.was_read[:at]
+
+
 class Wire:
-    def __init__(self, program, impairments, places=1024, capture=None, tick=0.02, mtu=1500):
+    def __init__(self, program, impairments, places=1024, capture=None, rings=0, tick=0.02, mtu=1500):
         self.asked, self.random = impairments, random.Random(impairments.seed)
         self.device = tun.open_device("wire0")
         tun.set_up("wire0", ipaddress.ip_interface(CLIENT + "/24"), mtu)
         os.set_blocking(self.device, False)
-        self.child = started(program, places=places)
-        self.into, self.out_of = self.child.stdin.fileno(), self.child.stdout.fileno()
-        for pipe in (self.into, self.out_of):
-            os.set_blocking(pipe, False)
-            fcntl.fcntl(pipe, F_SETPIPE_SZ, PIPE)
+        server = Frames(program, rings, places=places)
+        self.child, self.ends = server.process, [End(*pair) for pair in server.ends]
         self.start, self.tick, self.next_tick = time.monotonic(), tick, 0.0
-        self.to_write, self.was_read = bytearray(), bytearray()
         self.heap, self.entered, self.ended = [], 0, False
         self.inward, self.outward = Direction(self.to_program), Direction(self.to_client)
         self.capture = open(capture, "wb", 1 << 20) if capture else None
@@ -85,10 +113,14 @@ class Wire:
         if self.capture:
             self.capture.write(struct.pack("<IIII", at // 10**6, at % 10**6, len(datagram), len(datagram)) + datagram)
 
+    def end_of(self, datagram):
+        """The ring of a datagram's connection."""
+        return self.ends[sum(datagram[12:24]) % len(self.ends)]
+
     def to_program(self, datagram):
         at = self.now()
         self.keep(at, datagram)
-        self.to_write += HEAD.pack(len(datagram), at) + datagram
+        self.end_of(datagram).put(at, datagram)
 
     def to_client(self, datagram):
         try:
@@ -140,35 +172,20 @@ class Wire:
             if datagram[0] >> 4 == 4 and len(datagram) > 19 and datagram[9] == 6:
                 self.send(self.inward, datagram)
 
-    def read_program(self, time_to_keep=None):
+    def read_program(self, end, time_to_keep=None):
         try:
-            data = os.read(self.out_of, 1 << 20)
+            data = os.read(end.out_of, 1 << 20)
         except BlockingIOError:
             return
         if not data:
             sys.exit(f"the program ended with status {self.child.wait()}")
-        self.take(data, time_to_keep)
+        self.take(end, data, time_to_keep)
 
-    def take(self, data, time_to_keep):
+    def take(self, end, data, time_to_keep):
         """The program's answers: they are kept at this time, else at the present one."""
-        self.was_read += data
-        at = 0
-        while len(self.was_read) - at >= HEAD.size:
-            length, _ = HEAD.unpack_from(self.was_read, at)
-            end = at + HEAD.size + length
-            if len(self.was_read) < end:
-                break
-            datagram = bytes(self.was_read[at + HEAD.size:end])
+        for datagram in end.frames(data):
             self.keep(time_to_keep or self.now(), datagram)
             self.send(self.outward, datagram)
-            at = end
-        del self.was_read[:at]
-
-    def write_program(self):
-        try:
-            del self.to_write[:os.write(self.into, self.to_write)]
-        except BlockingIOError:
-            pass
 
     def result(self):
         return dict(inward=self.inward.counts, outward=self.outward.counts, peak_kb=most_memory_kb(self.child.pid))
@@ -179,15 +196,19 @@ class Wire:
     def finish(self):
         """A last time comes to the program, and what it still answers to all that it was given stands in the capture at that time."""
         last = self.now()
-        self.to_write += HEAD.pack(0, last)
-        while self.to_write:
-            self.write_program()
-            self.read_program(last)
+        for end in self.ends:
+            end.put(last)
+            while end.to_write:
+                end.write()
+                for other in self.ends:
+                    self.read_program(other, last)
         result = self.result()
-        self.child.stdin.close()
-        os.set_blocking(self.out_of, True)
-        while data := os.read(self.out_of, 1 << 20):
-            self.take(data, last)
+        for end in self.ends:
+            os.close(end.into)
+            os.set_blocking(end.out_of, True)
+        for end in self.ends:
+            while data := os.read(end.out_of, 1 << 20):
+                self.take(end, data, last)
         if self.capture:
             self.capture.close()
         self.child.wait()
@@ -195,12 +216,15 @@ class Wire:
 
     def run(self):
         poll = select.poll()
-        poll.register(self.out_of, select.POLLIN)
+        read = {end.out_of: end for end in self.ends}
+        for pipe in read:
+            poll.register(pipe, select.POLLIN)
         print("ready", flush=True)
         while not self.ended:
-            room = len(self.to_write) < 1 << 20
+            room = all(len(end.to_write) < 1 << 20 for end in self.ends)
             poll.register(self.device, select.POLLIN if room else 0)
-            poll.register(self.into, select.POLLOUT if self.to_write else 0)
+            for end in self.ends:
+                poll.register(end.into, select.POLLOUT if end.to_write else 0)
             now = time.monotonic()
             wait = self.next_tick - now
             if self.heap:
@@ -208,15 +232,16 @@ class Wire:
             for pipe, _ in poll.poll(int(wait * 1000) if wait > 0.001 else 0):
                 if pipe == self.device:
                     self.read_device()
-                elif pipe == self.out_of:
-                    self.read_program()
+                elif pipe in read:
+                    self.read_program(read[pipe])
             self.deliver_due()
-            if self.to_write:
-                self.write_program()
+            for end in self.ends:
+                if end.to_write:
+                    end.write()
         self.finish()
 
     def deliver_due(self):
-        """What the wire held comes, and every 20 ms the time."""
+        """What the wire held comes, and every 20 ms the time to each ring."""
         now = time.monotonic()
         while self.heap and self.heap[0][0] <= now:
             _, _, way, datagram = heapq.heappop(self.heap)
@@ -224,13 +249,14 @@ class Wire:
             way.deliver(datagram)
         if now >= self.next_tick:
             self.next_tick = now + self.tick
-            self.to_write += HEAD.pack(0, self.now())
+            for end in self.ends:
+                end.put(self.now())
 
 
 def main():
-    """wire.py PROGRAM PLACES CAPTURE JSON: runs until SIGTERM, and then prints its counts."""
-    program, places, capture, asked = sys.argv[1:]
-    wire = Wire(program, Impairments(**json.loads(asked)), int(places), capture or None)
+    """wire.py PROGRAM RINGS PLACES CAPTURE JSON: runs until SIGTERM, and then prints its counts. Without rings RINGS is 0."""
+    program, rings, places, capture, asked = sys.argv[1:]
+    wire = Wire(program, Impairments(**json.loads(asked)), int(places), capture or None, int(rings))
     signal.signal(signal.SIGTERM, wire.end)
     wire.run()
 

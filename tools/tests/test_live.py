@@ -1,7 +1,10 @@
 """Tests of the live server's tools: datagrams written and read again, what is counted, and a few cases of live_test where they can run."""
 import ipaddress
 import os
+import random
 import shutil
+import socket
+import struct
 import subprocess
 import sys
 import tempfile
@@ -11,30 +14,37 @@ from importlib.machinery import SourceFileLoader
 from common import TOOLS, TOP, need
 
 sys.path.insert(0, str(TOOLS / "live"))
+import floods
+import rings
 import seen
 import tcp_segments
 from programs import built
-from tcp_segments import ACK, FIN, RST, SYN
+from tcp_segments import ACK, FIN, PSH, RST, SYN
 
 live_test = SourceFileLoader("live_test", str(TOOLS / "live_test")).load_module()
 
 CLIENT, SERVER = b"\x0a\x09\0\1", b"\x0a\x09\0\2"
 SQLIVE = os.environ.get("SQLIVE", built("sqlive"))
+SQLIVE_RINGS = os.environ.get("SQLIVE_RINGS", built("sqlive_rings"))
 
 
 class Packets(unittest.TestCase):
     def test_what_is_written_is_read(self):
         for text, options in ((b"", b""), (b"odd", b"\2\4\5\xb4"), (bytes(1460), b"\3\3\7")):
-            flags = tcp_segments.PSH | tcp_segments.ACK
-            found = tcp_segments.read(tcp_segments.segment(CLIENT, 40000, SERVER, 7, 2**32 + 5, 9, flags, text=text, options=options))
+            found = tcp_segments.read(tcp_segments.segment(CLIENT, 40000, SERVER, 7, 2**32 + 5, 9, tcp_segments.PSH | tcp_segments.ACK, text=text, options=options))
             self.assertEqual((found.source, found.source_port, found.target, found.target_port), (CLIENT, 40000, SERVER, 7))
-            self.assertEqual((found.seq, found.ack, found.flags, found.text), (5, 9, flags, text))
+            self.assertEqual((found.seq, found.ack, found.flags, found.text), (5, 9, tcp_segments.PSH | tcp_segments.ACK, text))
 
     def test_a_wrong_sum_is_seen(self):
         datagram = bytearray(tcp_segments.segment(CLIENT, 40000, SERVER, 7, 5, 9, tcp_segments.ACK, text=b"text"))
         datagram[-1] ^= 1
         with self.assertRaises(AssertionError):
             tcp_segments.read(bytes(datagram))
+
+    def test_spoofed(self):
+        for number in (0, 1, 249, 250, 65535, 65536, 123456, 15_999_999):
+            found = tcp_segments.read(floods.spoofed(number))
+            self.assertEqual((found.source[3], found.source_port, found.seq, found.flags), (3 + number % 250, 1024 + number // 250, number, SYN))
 
 
 class Deadlines(unittest.TestCase):
@@ -102,13 +112,148 @@ class Counted(unittest.TestCase):
         self.assertEqual(len(self.connections.known), 3)
 
 
+class Queues(unittest.TestCase):
+    """queues.c between a pair of sockets, which stands for a queue of the device, and two pipes."""
+    HEAD, DEVICE = struct.Struct(">QQ"), struct.Struct("=BBHHHH")
+    NEEDS_SUM, TCP = 1, 1
+
+    def start(self, join):
+        need("cc")
+        folder = tempfile.TemporaryDirectory()
+        self.addCleanup(folder.cleanup)
+        self.device, queue = socket.socketpair(socket.AF_UNIX, socket.SOCK_DGRAM)
+        self.device.settimeout(30)
+        to_ring, from_ring, self.counts = os.pipe(), os.pipe(), os.memfd_create("counts")
+        os.ftruncate(self.counts, 2 * rings.DIRECTION)
+        ends = [self.counts, queue.fileno(), to_ring[1], from_ring[0]]
+        self.program = subprocess.Popen([rings.compiled(folder.name), str(int(join)), *map(str, ends)], pass_fds=ends, stderr=subprocess.PIPE)
+        queue.close()
+        for pipe in (to_ring[1], from_ring[0]):
+            os.close(pipe)
+        self.ring, self.join = (open(to_ring[0], "rb"), open(from_ring[1], "wb")), join
+        self.addCleanup(self.end)
+
+    def end(self):
+        for end in self.ring:
+            end.close()
+        self.program.kill()
+        self.program.wait()
+        self.program.stderr.close()
+        self.device.close()
+        os.close(self.counts)
+
+    def comes(self, datagram, *head):
+        """A datagram of the device, and the frame that the ring gets for it."""
+        self.device.send((self.DEVICE.pack(*head) if self.join else b"") + datagram)
+        while True:
+            length, time = self.HEAD.unpack(self.ring[0].read(16))
+            self.assertGreater(time, 0)
+            if length:
+                return self.ring[0].read(length)
+
+    def goes(self, *datagrams):
+        self.ring[1].write(b"".join(self.HEAD.pack(len(datagram), 5) + datagram for datagram in datagrams))
+        self.ring[1].flush()
+
+    def got(self):
+        """The head and the datagram that the device gets next."""
+        said = self.device.recv(1 << 17)
+        return (self.DEVICE.unpack(said[:10]), said[10:]) if self.join else (None, said)
+
+    def segment(self, at, text, flags=ACK, **fields):
+        return tcp_segments.segment(SERVER, 7, CLIENT, 40000, 100 + at, 5, flags, text=text, **fields)
+
+    def test_each_datagram(self):
+        self.start(join=False)
+        some = [self.segment(0, b"one"), self.segment(3, b"two"), b"no datagram", self.segment(6, bytes(1460))]
+        for datagram in some:
+            self.assertEqual(self.comes(datagram), datagram)
+        self.goes(*some, b"", some[0])
+        for datagram in (*some, some[0]):
+            self.assertEqual(self.got(), (None, datagram))
+        counts = os.pread(self.counts, 128, 0)
+        self.assertEqual(struct.unpack_from("QQQ", counts), (4, sum(map(len, some)), 0))
+
+    def test_the_time_alone(self):
+        self.start(join=True)
+        times = [self.HEAD.unpack(self.ring[0].read(16)) for _ in range(4)]
+        self.assertTrue(all(length == 0 for length, _ in times) and times == sorted(times), times)
+
+    def test_an_open_sum(self):
+        self.start(join=True)
+        for text in (b"", b"odd", bytes(range(256)) * 200):
+            whole = self.segment(0, text, PSH | ACK)
+            of_ends = tcp_segments.inet_sum(whole[12:20] + struct.pack(">HH", 6, len(whole) - 20)) ^ 0xFFFF
+            left_open = whole[:36] + struct.pack(">H", of_ends) + whole[38:]
+            self.assertEqual(self.comes(left_open, self.NEEDS_SUM, self.TCP, 40, 1460, 20, 16), whole)
+            self.assertEqual(self.comes(whole, 0, 0, 0, 0, 0, 0), whole)
+
+    def cut_again(self, head, datagram):
+        """The segments that the kernel cuts a joined one into."""
+        needs, kind, length, size, start, offset = head
+        if not needs:
+            self.assertEqual(head, (0,) * 6)
+            return [datagram]
+        self.assertEqual((kind, length, start, offset), (self.TCP, 40, 20, 16))
+        whole = self.segment(int.from_bytes(datagram[24:28], "big") - 100, datagram[40:], datagram[33])
+        self.assertEqual((datagram[:36], datagram[38:]), (whole[:36], whole[38:]))
+        self.assertEqual(struct.unpack(">H", datagram[36:38])[0], tcp_segments.inet_sum(datagram[12:20] + struct.pack(">HH", 6, len(datagram) - 20)) ^ 0xFFFF)
+        found, text = tcp_segments.read(whole), datagram[40:]
+        parts = [text[at:at + size] for at in range(0, len(text), size)]
+        return [self.segment(found.seq - 100 + place * size, part, found.flags if place + 1 == len(parts) else ACK) for place, part in enumerate(parts)]
+
+    def test_what_is_joined(self):
+        """Whatever is joined is the same segments again when it is cut; and rows end where they have to."""
+        self.start(join=True)
+        full, text = 1460, random.Random(1).randbytes(1460)
+        row = [self.segment(full * i, text) for i in range(20)]
+        last = self.segment(full * 20, text[:100], PSH | ACK)
+        for datagrams, many in ((row, 1), ([*row, last], 1),
+                                ([*row, last, self.segment(full * 20 + 100, text)], 2),
+                                ([row[0], row[2]], 2), ([row[0], row[0]], 2),
+                                ([self.segment(0, text, PSH | ACK), row[1]], 2),
+                                ([self.segment(0, text[:9]), self.segment(9, text)], 2),
+                                ([row[0], self.segment(full, text, window=9)], 2),
+                                ([row[0], self.segment(full, text, FIN | ACK)], 2),
+                                ([row[0], self.segment(full, b"")], 2),
+                                ([self.segment(full * i, text) for i in range(60)], 2),
+                                ([self.segment(0, b"", SYN | ACK, options=b"\2\4\5\xb4"), self.segment(1, text)], 2),
+                                ([row[0], self.segment(full, text, options=b"\3\3\7\0")], 2),
+                                ([bytes(40), bytes(41)], 2)):
+            self.goes(*datagrams)
+            joined = [self.got() for _ in range(many)]
+            self.assertEqual([segment for head, datagram in joined for segment in self.cut_again(head, datagram)], datagrams)
+
+    def test_what_is_no_frame(self):
+        self.start(join=True)
+        self.ring[1].write(b"\xff" * 16)
+        self.ring[1].flush()
+        self.assertEqual(self.program.wait(30), 0)
+        self.assertEqual(self.program.stderr.read(), b"what ring 0 writes is no frame\n")
+
+    def test_its_end(self):
+        """SIGTERM ends the ring's input; where its output ends too, so does the program."""
+        self.start(join=True)
+        self.comes(self.segment(0, b"one"), 0, 0, 0, 0, 0, 0)
+        self.program.terminate()
+        while self.ring[0].read(16):
+            pass
+        self.goes(self.segment(0, b"late"))
+        self.assertEqual(self.got()[1], self.segment(0, b"late"))
+        self.ring[1].close()
+        self.assertEqual(self.program.wait(30), 0)
+
+
 class Launcher(unittest.TestCase):
     def refused(self, *words):
         done = subprocess.run([TOOLS / "sqlive", "--program", "/bin/true", *words], capture_output=True, text=True)
         self.assertEqual((done.returncode, done.stdout), (2, ""), words)
+        return done.stderr
 
     def test_words_that_are_none(self):
-        for words in (("--places", "0"), ("--places", "-1"), ("--server", "10.9.0.1"), ("--server", "10.8.0.2"), ("--mtu", "500")):
+        self.assertIn("--squeues goes with --rings", self.refused("--squeues", "2"))
+        self.assertIn("at most 63", self.refused("--rings", "64"))
+        for words in (("--rings", "0"), ("--rings", "2", "--mode", "none"), ("--places", "-1"), ("--server", "10.9.0.1"), ("--server", "10.8.0.2"), ("--mtu", "500")):
             self.refused(*words)
 
     def test_no_server_to_ask(self):
@@ -149,6 +294,12 @@ class Live(unittest.TestCase):
 
     def test_with_this_machine(self):
         self.run_live_test("short", "full")
+
+    def test_on_rings(self):
+        need("cc")
+        if not os.access(SQLIVE_RINGS, os.X_OK):
+            self.skipTest("no sqlive_rings: run tools/try-build --fast sqlive_rings, or name it by SQLIVE_RINGS")
+        self.run_live_test("rings-status", "rings-pause", "rings-half-open")
 
     def test_with_lwip(self):
         need("cc")

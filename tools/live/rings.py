@@ -1,0 +1,89 @@
+"""The server by several rings on a TUN device with as many queues: its pipes, and the small C program that moves datagrams between both.
+
+A pipe has no datagrams' bounds and no time, so it carries frames, as docs/LIVE.md has them.
+"""
+import fcntl
+import mmap
+import os
+import shutil
+import struct
+import subprocess
+import tempfile
+from pathlib import Path
+
+from programs import NOBODY, as_nobody, cpu_seconds, most_memory_kb, rings_words
+
+F_SETPIPE_SZ, PIPE = 1031, 1 << 20
+# What a queue counts, by direction: datagrams, their bytes, and those that the device refused; each direction in 64 bytes.
+COUNTS, DIRECTION = struct.Struct("QQQ"), 64
+
+
+def compiled(folder):
+    """The program that moves datagrams, in this folder."""
+    if not shutil.which("cc"):
+        raise FileNotFoundError("several rings take a C compiler (Debian: gcc libc6-dev)")
+    subprocess.run(["cc", "-O3", "-pthread", "-o", f"{folder}/queues", Path(__file__).with_name("queues.c")], check=True)
+    return f"{folder}/queues"
+
+
+def pipe_for_nobody():
+    """A pipe that nobody may open by /dev/fd: the end to read, and the one to write."""
+    ends = os.pipe2(os.O_CLOEXEC)
+    os.fchown(ends[0], NOBODY, NOBODY)
+    fcntl.fcntl(ends[0], F_SETPIPE_SZ, PIPE)
+    return ends
+
+
+class Pipes:
+    """A pipe to each ring and one from it."""
+    def __init__(self, rings):
+        self.to_rings = [pipe_for_nobody() for _ in range(rings)]
+        self.from_rings = [pipe_for_nobody() for _ in range(rings)]
+        self.of_server = [end for to, back in zip(self.to_rings, self.from_rings) for end in (to[0], back[1])]
+
+    def words(self):
+        """The files of the server, in its order."""
+        return [f"/dev/fd/{end}" for end in self.of_server]
+
+
+class Rings:
+    """The server and what moves its datagrams, both as nobody. The queues are handed over, and closed here."""
+    def __init__(self, program, queues, words, long_segments, **layout):
+        pipes, size = Pipes(len(queues)), 2 * DIRECTION * len(queues)
+        counts = os.memfd_create("counts")
+        os.ftruncate(counts, size)
+        self.rings, self.counts = len(queues), mmap.mmap(counts, size, prot=mmap.PROT_READ)
+        of_mover = [counts, *(end for queue, to, back in zip(queues, pipes.to_rings, pipes.from_rings) for end in (queue, to[1], back[0]))]
+        apart = {"stdin": subprocess.DEVNULL, "start_new_session": True}
+        with tempfile.TemporaryDirectory() as folder:
+            mover = compiled(folder)
+            self.server = as_nobody(program, ["sqlive_rings", *rings_words(self.rings, **layout), *words, *pipes.words()], pipes.of_server, **apart)
+            self.mover = as_nobody(mover, ["queues", str(int(long_segments)), *map(str, of_mover)], of_mover, **apart)
+        for end in (*pipes.of_server, *of_mover):
+            os.close(end)
+
+    def counted(self):
+        """Of each ring what it was brought, and what was taken from it: datagrams, bytes, and those that the device refused."""
+        each = [COUNTS.unpack_from(self.counts, DIRECTION * place) for place in range(2 * self.rings)]
+        return list(zip(each[::2], each[1::2]))
+
+    def serve(self):
+        self.server.wait()
+
+    def facts(self):
+        """Sums are the device's; these are the rings' own."""
+        each = {f"ring_{k}_{way}": counts[0] for k, ways in enumerate(self.counted()) for way, counts in zip(("in", "out"), ways)}
+        taken = dict(cpu_seconds=cpu_seconds(self.server.pid), mover_cpu_seconds=cpu_seconds(self.mover.pid), most_memory_kb=most_memory_kb(self.server.pid))
+        return {**taken, "rings": self.rings, **each}
+
+    def end(self, seconds=10):
+        """Ends the input of each ring, so that the server ends; kills it where it doesn't. The server's status."""
+        self.mover.terminate()
+        try:
+            self.server.wait(seconds)
+        except subprocess.TimeoutExpired:
+            self.server.kill()
+        self.server.wait()
+        self.mover.kill()
+        self.mover.wait()
+        return self.server.returncode
