@@ -1,0 +1,4 @@
+pub mod Backs
+pub mod Conns
+pub mod Made
+pub mod Fresh
