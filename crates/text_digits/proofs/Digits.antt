@@ -1,5 +1,6 @@
 -- Digits of a few bytes at a time.
-use Rattle.std.proofs.Common.{true, false, ◌≡◌, ℕ, List, [], ◌∷◌, ◌++◌, length, refl, sym, ap, ◌∙◌, arith, ◌/◌, ◌%◌}
+use Rattle.std.proofs.Common.{true, false, ◌≡◌, ℕ, ◌≤◌, List, [], ◌∷◌, ◌++◌, length, take, drop, append-nil, refl, sym, ap, ◌∙◌, arith, ◌/◌, ◌%◌}
+use Rattle.std.proofs.lemmas.List.{drop_all}
 use Rattle.hex.specs.Hex.{encode_lower, encode_with, lower_digits}
 use Rattle.std.specs.Prelude.{slice_index}
 use Rattle.text_digits.specs.Told.{Told, more}
@@ -13,6 +14,11 @@ joined t (x ∷ a) b = ap (λ l. slice_index t (x / 16) ∷ slice_index t (x % 1
 no_digits : encode_lower [] ≡ []
 unfolding encode_with
 no_digits = refl
+
+-- every byte's digits are made
+pub all_made : (n : ℕ) (out bytes : List ℕ) (at : ℕ) → length bytes ≤ at → take n out ++ encode_lower (drop at bytes) ≡ encode_lower bytes → take n out ≡ encode_lower bytes
+unfolding encode_with
+all_made n out bytes at all so_far = sym (append-nil (take n out)) ∙ ap (λ l. take n out ++ encode_lower l) (sym (drop_all at bytes all)) ∙ so_far
 
 -- what is told, with what is to be told
 pub part_more : (was new whole : Told) (part behind rest : List ℕ) → more was (encode_lower rest) ≡ whole → rest ≡ part ++ behind → new ≡ more was (encode_lower part)

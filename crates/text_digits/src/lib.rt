@@ -4,7 +4,7 @@
 //! only where the text's end does: one that grows in memory for want of it, and none that appends digits alone where there is room.
 #![tactic(auto)]
 
-ghost use Rattle.std.specs.Prelude.{◌≡◌, ℕ, ◌+◌, ◌*◌, ◌≤◌, ◌++◌, IsOk, OnOk, if◌then◌else◌, is_ok, length};
+ghost use Rattle.std.specs.Prelude.{◌≡◌, ℕ, ◌+◌, ◌*◌, ◌≤◌, ◌++◌, IsOk, OnOk, if◌then◌else◌, is_ok, length, take};
 ghost use Rattle.hex.specs.Hex.{encode_lower};
 ghost use Rattle.text_digits.specs.Told.{more};
 
@@ -12,9 +12,11 @@ mod ends;
 mod pieces;
 
 pub use ends::TextEnd;
-use hex::encode_to_slice;
 use itoa::{Buffer, Integer};
 pub use pieces::Pieces;
+
+/// The digits of a hexadecimal number, in lower case.
+const DIGITS: [u8; 16] = *b"0123456789abcdef";
 
 /// Appends a number in decimal. After an error the text is as it was.
 ///
@@ -64,9 +66,17 @@ fn push_part<T: TextEnd>(text: &mut T, part: &[u8], digits: &mut [u8; 128]) -> R
     ensures succeeds { T.has_room text.old (2 * length part.now) → IsOk result }
     ensures left { (n : ℕ) → T.has_room text.old (2 * length part.now + n) → OnOk result (T.has_room text.new n) }
 {
-    let room = &mut digits[..2 * part.len()];
-    match encode_to_slice(part, room) {
-        Ok(()) => text.put(room),
-        Err(_) => unreachable!(),
+    fill(digits, part);
+    text.put(&digits[..2 * part.len()])
+}
+
+/// Makes the digits of these bytes at the front of `digits`.
+fn fill(digits: &mut [u8; 128], part: &[u8])
+    requires { length part.now ≤ 64 }
+    ensures { take (2 * length part.now) digits.new ≡ encode_lower part.now }
+{
+    for at in 0..part.len() {
+        digits[2 * at] = DIGITS[(part[at] / 16) as usize];
+        digits[2 * at + 1] = DIGITS[(part[at] % 16) as usize];
     }
 }
