@@ -7,7 +7,7 @@ use Rattle.stream_plan.specs.declared.kinds.Found.{Found}
 use Rattle.stream_plan.specs.Streams.{arrived, arrived_from, served_in}
 
 -- a list, one element further
-pub taken : {A : Type 0} (xs : List A) (i : ℕ) (x : A) → slice_get xs i ≡ Some x → take (i + 1) xs ≡ take i xs ++ x ∷ []
+taken : {A : Type 0} (xs : List A) (i : ℕ) (x : A) → slice_get xs i ≡ Some x → take (i + 1) xs ≡ take i xs ++ x ∷ []
 taken xs i x e = let on : i + 1 ≡ suc i = omega arith in ap (λ n. take n xs) on ∙ more xs i e
   where
     more : {A : Type 0} {x : A} (xs : List A) (i : ℕ) → slice_get xs i ≡ Some x → take (suc i) xs ≡ take i xs ++ x ∷ []
@@ -15,7 +15,7 @@ taken xs i x e = let on : i + 1 ≡ suc i = omega arith in ap (λ n. take n xs) 
     more (y ∷ ys) zero e = let same : y ≡ _ = cc in ap (λ z. z ∷ []) same
     more (y ∷ ys) (suc i) e = ap (λ l. y ∷ l) (more ys i e)
 
-pub taken_length : {A : Type 0} (xs : List A) (i : ℕ) (x : A) → slice_get xs i ≡ Some x → length (take i xs) ≡ i
+taken_length : {A : Type 0} (xs : List A) (i : ℕ) (x : A) → slice_get xs i ≡ Some x → length (take i xs) ≡ i
 taken_length [] i x e = absurd (let no : ⊥ = cc in no)
 taken_length (y ∷ ys) zero x e = refl
 taken_length (y ∷ ys) (suc i) x e = ap suc (taken_length ys i x e)

@@ -21,7 +21,7 @@ use Rattle.stream_plan.proofs.StreamFacts.{IsFound, all_found, all_here, length-
 use Rattle.stream_plan.proofs.StreamSteps.{none_or_all}
 use Rattle.stream_plan.proofs.TupleSteps.{few_tuples}
 
-apart_tuples : (xs : List Arrived) → IsDistinct tuple_eq (tuples_in xs)
+pub apart_tuples : (xs : List Arrived) → IsDistinct tuple_eq (tuples_in xs)
 unfolding tuples_in
 apart_tuples xs = apart_take most_streams (distinct (map (λ x. tuple_of x.found) xs)) (apart_distinct (map (λ x. tuple_of x.found) xs))
 

@@ -1,32 +1,15 @@
 //! What of a record is served, and of which stream it is.
 
-ghost use Rattle.std.specs.Prelude.{◌≡◌, ◌≤◌, ◌<◌, ◌^◌, length, IfOk};
-ghost use Rattle.stream_plan.specs.Streams.{arrivals_of, served_in, served_tcp, served_udp, tuple_of};
+ghost use Rattle.std.specs.Prelude.{◌≡◌, ◌<◌, ◌^◌, length};
+ghost use Rattle.stream_plan.specs.Streams.{served_in, served_tcp, served_udp, tuple_of};
 
-use crate::kinds::{Arrived, Found};
-use capture_reader::Capture;
+use crate::kinds::Found;
 use segment_codec::{Packet, decode};
 use sq_base::{CHARGEN_PORT, Link, Tuple, is_served_udp};
-use std::alloc::{AllocError, Global};
 use udp_codec::{Udp, decode_udp};
 
-/// What is served of each record, in record order.
-pub fn arrivals_in(alloc: Global, capture: &Capture) -> Result<Vec<Arrived>, AllocError>
-    ensures value { IfOk result (λ v. v.items ≡ arrivals_of capture.now) }
-    ensures few { IfOk result (λ v. length v.items ≤ length capture.now.packets) }
-{
-    let mut arrivals = Vec::new(alloc);
-    for rec in 0..capture.len() {
-        if let Some(found) = served(capture.link(), capture.body(rec)) {
-            let at = capture.rec(rec).at;
-            arrivals.push(Arrived { rec, at, found })?;
-        }
-    }
-    Ok(arrivals)
-}
-
-// What a record holds, where it is served.
-fn served(link: Link, body: &[u8]) -> Option<Found>
+/// What a record holds, where it is served.
+pub fn served(link: Link, body: &[u8]) -> Option<Found>
     requires { length body.now < 2 ^ 32 }
     ensures { result ≡ served_in link body.now }
 {

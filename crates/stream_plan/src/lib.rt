@@ -1,8 +1,8 @@
 //! The streams of a capture that are served beside connections: UDP datagrams to echo or discard (RFC 862, RFC 863), and TCP
 //! segments to the character generator's port.
 //!
-//! What the records hold is looked up once, in record order. A hashed set of the streams then sorts it, and each stream's
-//! segments are gone through once from the back, for the hints. It holds no bytes of the capture.
+//! The records are gone through once, in record order, with a hashed set of the streams, and what each one holds is kept with its
+//! stream at once. Each stream's segments are then gone through once from the back, for the hints. It holds no bytes of the capture.
 #![tactic(auto)]
 
 mod finding;
@@ -11,7 +11,6 @@ mod making;
 mod planned;
 mod sorting;
 mod streams;
-mod tuples;
 
 pub use kinds::{Arrived, Counts, Datagram, Found};
 pub use making::more_plan;

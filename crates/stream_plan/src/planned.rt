@@ -1,16 +1,20 @@
 //! The plan of a capture: its streams and their items.
 
-ghost use Rattle.std.specs.Prelude.{◌≡◌, ◌*◌, ◌<◌, ◌≤◌, length, slice_get, IfSome, Some};
+ghost use Rattle.std.specs.Prelude.{◌≡◌, ◌*◌, ◌<◌, ◌≤◌, length, slice_get, IfSome, OnOk, Some};
 ghost use Rattle.capture_reader.specs.Limits.{most_records};
 ghost use Rattle.stream_plan.specs.Limits.{most_streams};
 ghost use Rattle.stream_plan.specs.Sound.{IsMorePlan};
 ghost use Rattle.stream_plan.specs.Streams.{item_count};
+ghost use Rattle.stream_plan.specs.Sorting.{last_at, new_stream, with_datagram};
+ghost use Rattle.conn_classifier.specs.Items.{items_of};
 
 use crate::kinds::{Counts, Datagram};
 use capture_reader::Capture;
-use conn_classifier::Item;
+use conn_classifier::{Arrival, Item, hints, items_in};
 use sq_base::Tuple;
+use std::alloc::{AllocError, Global};
 use std::marker::Model;
+use udp_codec::Udp;
 
 /// The streams of a capture, numbered from 0 by first appearance, at most 4,096, and their items, numbered from 0.
 #[derive(Drop)]
@@ -47,7 +51,51 @@ impl<'c> Model for MorePlan<'c> {
     ghost invariant = { λ p. IsMorePlan (record { file = p.capture.now; counts = p.counts; streams = p.streams.items }) };
 }
 
+/// The time of the last datagram, or 0.
+fn last_time(datagrams: &[Datagram]) -> u64
+    ensures { result ≡ last_at 0 datagrams.now }
+{
+    match datagrams.last() {
+        Some(datagram) => datagram.at,
+        None => 0,
+    }
+}
+
 impl Stream {
+    /// A stream without datagrams and items. It takes no memory.
+    pub(crate) fn new(alloc: Global, tuple: Tuple) -> Stream
+        ensures { result ≡ new_stream tuple }
+    {
+        Stream {
+            tuple,
+            datagrams: Vec::new(alloc),
+            items: Vec::new(alloc),
+        }
+    }
+
+    /// One datagram more. Its time doesn't fall behind that of the one before it.
+    pub(crate) fn hear(&mut self, rec: u32, at: u64, udp: Udp) -> Result<(), AllocError>
+        ensures { OnOk result (self.new ≡ with_datagram rec at udp self.old) }
+    {
+        let at = last_time(self.datagrams.as_slice()).max(at);
+        self.datagrams.push(Datagram { at, rec, udp })?;
+        Ok(())
+    }
+
+    /// The items of these segments come in place of those that are here, where this is the greatest time of all records.
+    pub(crate) fn enter(
+        &mut self,
+        alloc: Global,
+        last: u64,
+        segments: &[Arrival],
+    ) -> Result<(), AllocError>
+        ensures { OnOk result (self.new ≡ record self.old { items = items_of last segments.now }) }
+    {
+        let hints = hints(alloc, segments)?;
+        self.items = items_in(alloc, last, segments, hints.as_slice())?;
+        Ok(())
+    }
+
     /// The client's end and the server's, whose port is that of the service.
     pub fn tuple(&self) -> Tuple
         ensures { result ≡ self.now.tuple }

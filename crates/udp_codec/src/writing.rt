@@ -1,6 +1,8 @@
-//! A sent datagram in bytes. Both checksums are taken over the fields first, so each byte is written once.
+//! A sent datagram in bytes. Both checksums are taken over the fields as numbers first, so each byte is written once.
 
-ghost use Rattle.std.specs.Prelude.{◌≡◌, ◌+◌, ◌++◌, ◌≤◌, length, IfOk, OnOk};
+ghost use Rattle.std.specs.Prelude.{◌≡◌, ◌+◌, ◌*◌, ◌++◌, ◌≤◌, length, IfOk, OnOk};
+ghost use Rattle.byteorder.specs.Endian.{big_bytes};
+ghost use Rattle.sq_base.specs.InternetSum.{word_sum, reduced};
 ghost use Rattle.udp_codec.specs.UdpBytes.{udp_bytes, ip_with, udp_with, ip_sum, udp_sum, not_none};
 ghost use Rattle.udp_codec.specs.Limits.{most_text};
 
@@ -28,10 +30,8 @@ fn header_sum(tuple: &Tuple, total: u16) -> u16
     ensures { result ≡ ip_sum tuple.now total }
 {
     // The words that are the same in each header: version and length, no fragment, time to live and protocol.
-    let sum = inet_sum(0x4500, &[0x40, 0, 0x40, 17]);
-    let sum = inet_sum(sum, &total.to_be_bytes());
-    let sum = inet_sum(sum, &tuple.server.0.to_be_bytes());
-    0xffff - inet_sum(sum, &tuple.client.0.to_be_bytes())
+    let same = 0x4500 + 0x4000 + 0x4011;
+    0xffff - folded(same + u32::from(total) + halves(tuple.server.0) + halves(tuple.client.0))
 }
 
 /// The UDP checksum: over the pseudo-header, the header's fields, and the text.
@@ -39,14 +39,24 @@ fn udp_sum(tuple: &Tuple, text: &[u8], len: u16) -> u16
     requires { len ≡ 8 + length text.now }
     ensures { result ≡ udp_sum tuple.now text.now }
 {
-    let sum = inet_sum(17, &tuple.server.0.to_be_bytes());
-    let sum = inet_sum(sum, &tuple.client.0.to_be_bytes());
-    // The length stands in the pseudo-header and in the header.
-    let sum = inet_sum(sum, &len.to_be_bytes());
-    let sum = inet_sum(sum, &len.to_be_bytes());
-    let sum = inet_sum(sum, &tuple.server_port.to_be_bytes());
-    let sum = inet_sum(sum, &tuple.client_port.to_be_bytes());
-    not_none(0xffff - inet_sum(sum, text))
+    let pseudo = halves(tuple.server.0) + halves(tuple.client.0) + 17 + u32::from(len);
+    let header = u32::from(tuple.server_port) + u32::from(tuple.client_port) + u32::from(len);
+    not_none(0xffff - inet_sum(folded(pseudo + header), text))
+}
+
+/// The sum of the two words of 16 bits.
+fn halves(long: u32) -> u32
+    ensures is { result ≡ word_sum (big_bytes 4 long) }
+    ensures small { result ≤ 2 * 0xffff }
+{
+    (long >> 16) + (long & 0xffff)
+}
+
+/// The sum with its carries added at its end.
+fn folded(sum: u32) -> u16
+    ensures { result ≡ reduced sum }
+{
+    halves(halves(sum)) as u16
 }
 
 /// A checksum of 0 would say that there is none.
