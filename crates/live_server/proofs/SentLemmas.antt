@@ -9,7 +9,7 @@ use Rattle.segment_codec.specs.Refusal.{tuple_of}
 use Rattle.segment_codec.specs.declared.packet.Reply.{Reply}
 use Rattle.segment_codec.specs.declared.packet.Seg.{Seg}
 use Rattle.sq_base.specs.declared.kinds.Tuple.{Tuple}
-use Rattle.live_server.specs.Acts.{datagram_of, is_idle, is_over, new_conn}
+use Rattle.live_server.specs.Acts.{announcing, datagram_of, is_idle, is_over, new_conn}
 use Rattle.live_server.specs.Isolation.{AnswersItsEnds, TimeKeepsTable}
 use Rattle.live_server.specs.Services.{service_at}
 use Rattle.live_server.specs.Serving.{Outcome, ServerOf, becomes, comes, fits, goes_on, has_place, heeded, heeded_text, heeds, makes_place, noting, on_segment, on_time, opens, sends_of, served, takes_free, takes_place, time_to, turns_away, without_text}
@@ -24,9 +24,9 @@ module _ (t : Tuple) where
   abbrev AreOfEnds : List Datagram → Type 0
   AreOfEnds ds = AllByRecursion IsOfEnds ds
 
-  of_replies : (rs : List Reply) → AreOfEnds (map (datagram_of t) rs)
-  of_replies [] = tt
-  of_replies (r ∷ rs) = ((r, refl), of_replies rs)
+  of_replies : (most : ℕ) (rs : List Reply) → AreOfEnds (map (λ r. datagram_of t (announcing most r)) rs)
+  of_replies most [] = tt
+  of_replies most (r ∷ rs) = ((announcing most r, refl), of_replies most rs)
 
   both : (xs ys : List Datagram) → AreOfEnds xs → AreOfEnds ys → AreOfEnds (xs ++ ys)
   both [] ys here there = there
@@ -42,19 +42,19 @@ module _ (t : Tuple) where
 
   timed : (now : ℕ) (sv : ServerOf) → AreOfEnds (time_to now t sv).sent
   unfolding time_to becomes
-  timed now sv = by_place (place_of t sv.conns) _ _ (λ i. of_replies _) tt
+  timed now sv = by_place (place_of t sv.conns) _ _ (λ i. of_replies _ _) tt
 
   taken : (c : Conn) (sv : ServerOf) → AreOfEnds (takes_place t c sv).sent
   unfolding takes_place
-  taken c sv = chosen (has_place sv) (takes_free t c sv) (turns_away sv) (of_replies _) tt
+  taken c sv = chosen (has_place sv) (takes_free t c sv) (turns_away sv) (of_replies _ _) tt
 
 came : (now : ℕ) (s : Seg) (text : List ℕ) (sv : ServerOf) → AreOfEnds (tuple_of s) (comes now s text sv).sent
 unfolding comes goes_on becomes opens
 came now s text sv =
     let t = tuple_of s in
-    let c = served now s text sv (new_conn (service_at sv.setting.ports now s.dst_port) now) in
-    by_place t (place_of t sv.conns) _ _ (λ i. of_replies t _)
-    (chosen t (is_over c) (sends_of t c sv) (takes_place t c (makes_place sv)) (of_replies t c.tcb.replies) (taken t c (makes_place sv)))
+    let c = served now s text sv (new_conn (service_at sv.setting.ports now s.dst_port) sv.setting.segment now) in
+    by_place t (place_of t sv.conns) _ _ (λ i. of_replies t _ _)
+    (chosen t (is_over c) (sends_of t c sv) (takes_place t c (makes_place sv)) (of_replies t c.most c.tcb.replies) (taken t c (makes_place sv)))
 
 same_ends : (s : Seg) (b : Bool) → tuple_of (cond b s (without_text s)) ≡ tuple_of s
 same_ends s true = refl

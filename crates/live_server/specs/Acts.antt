@@ -1,5 +1,5 @@
 -- What one connection makes of a segment and of the time, and the datagrams of what it sends.
-use Rattle.std.specs.Prelude.{ℕ, ◌+◌, ◌-◌, ◌%◌, ◌^◌, ◌==◌, nat_le, nat_lt, ◌&&◌, ◌||◌, not, Bool, false, List, [], ◌∷◌, length, map, if◌then◌else◌}
+use Rattle.std.specs.Prelude.{ℕ, ◌+◌, ◌-◌, ◌%◌, ◌^◌, ◌==◌, nat_le, nat_lt, ◌&&◌, ◌||◌, not, Bool, false, Option, None, Some, List, [], ◌∷◌, length, map, if◌then◌else◌}
 use Rattle.sq_base.specs.SerialOrder.{dist}
 use Rattle.byte_queues.specs.Limits.{send_space}
 use Rattle.byte_queues.specs.ReceiveQueue.{next_of}
@@ -26,13 +26,13 @@ use Rattle.live_server.specs.declared.conn.Judged.TheVariants.{Challenged, Late,
 use Rattle.live_server.specs.declared.service.Service.{Service}
 use Rattle.live_server.specs.declared.service.Service.TheVariants.{Discard}
 
--- a connection that nothing is known of, with its service
-abbrev pub new_conn : Service → ℕ → Conn
-new_conn service now = record { tcb = new_block; service = service; heard = now; quiet_until = 0; congestion = no_congestion }
+-- a connection that nothing is known of, with its service, and with the most text that a segment may have on its path
+abbrev pub new_conn : Service → ℕ → ℕ → Conn
+new_conn service most now = record { tcb = new_block; service = service; most = most; heard = now; quiet_until = 0; congestion = no_congestion }
 
 -- what stands for one where there is none
 abbrev pub no_conn : Conn
-no_conn = new_conn Discard 0
+no_conn = new_conn Discard 0 0
 
 -- a connection is over, or half open
 abbrev pub is_over : Conn → Bool
@@ -125,6 +125,15 @@ emptied c = record c { tcb = record c.tcb { replies = [] } }
 abbrev pub datagram_of : Tuple → Reply → Datagram
 datagram_of t r = record { at = r.at; bytes = segment_bytes t r }
 
+-- whether an MSS is announced that is longer than this
+abbrev pub is_longer : ℕ → Option ℕ → Bool
+is_longer most None = false
+is_longer most (Some mss) = nat_lt most mss
+
+-- the MSS that is announced is no longer than what the path takes (RFC 9293, 3.7.1)
+unfoldable pub announcing : ℕ → Reply → Reply
+announcing most r = if is_longer most r.options.mss then record r { options = record r.options { mss = Some most } } else r
+
 -- the datagrams of what it sent
 abbrev pub sent_by : Tuple → Conn → List Datagram
-sent_by t c = map (datagram_of t) c.tcb.replies
+sent_by t c = map (λ r. datagram_of t (announcing c.most r)) c.tcb.replies

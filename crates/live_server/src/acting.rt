@@ -3,9 +3,9 @@
 ghost use Rattle.std.specs.Prelude.{◌≡◌, IfOk};
 ghost use Rattle.tcb_machine.specs.BlockState.{IsOurs};
 ghost use Rattle.segment_codec.specs.SentIsRead.{text_in};
-ghost use Rattle.live_server.specs.Acts.{datagram_of};
+ghost use Rattle.live_server.specs.Acts.{announcing, datagram_of, is_longer};
 
-use segment_codec::{Reply, Seg, encode};
+use segment_codec::{Options, Reply, Seg, encode};
 use sq_base::{Octets, Tuple};
 use std::alloc::{AllocError, Global};
 
@@ -25,6 +25,46 @@ pub(crate) fn encoded(alloc: Global, tuple: &Tuple, reply: &Reply) -> Result<Dat
         at: reply.at,
         bytes: encode(alloc, tuple, reply)?,
     })
+}
+
+/// The same, where no longer MSS is announced than this. A segment that announces one has next to no text, which is copied.
+#[tactic(auto, unfolding(crate::specs::Acts::announcing))]
+pub(crate) fn announced(
+    alloc: Global,
+    tuple: &Tuple,
+    reply: &Reply,
+    most: u16,
+) -> Result<Datagram, AllocError>
+    requires { IsOurs reply.now }
+    ensures { IfOk result (λ d. d ≡ datagram_of tuple.now (announcing most reply.now)) }
+{
+    if !is_longer(reply.options.mss, most) {
+        return encoded(alloc, tuple, reply);
+    }
+    let options = Options {
+        mss: Some(most),
+        ..reply.options
+    };
+    let text = Octets::of(alloc, reply.text.as_slice())?;
+    let reply = Reply {
+        options,
+        text,
+        ..*reply
+    };
+    Ok(Datagram {
+        at: reply.at,
+        bytes: encode(alloc, tuple, &reply)?,
+    })
+}
+
+/// Whether an MSS is announced that is longer than this.
+fn is_longer(mss: Option<u16>, most: u16) -> bool
+    ensures { result ≡ is_longer most mss }
+{
+    match mss {
+        Some(mss) => most < mss,
+        None => false,
+    }
 }
 
 /// The segment's text in its datagram.

@@ -5,7 +5,7 @@ ghost use Rattle.live_server.specs.Acts.{after, emptied, has_room, is_half_open,
 ghost use Rattle.tcb_machine.specs.Room.{HasRoom};
 ghost use Rattle.tcb_machine.specs.Limits.{last_time};
 
-use crate::acting::{Datagram, encoded};
+use crate::acting::{Datagram, announced};
 use crate::congestion::Congestion;
 use crate::service::Service;
 use echo_services::{serve, tick};
@@ -25,6 +25,8 @@ const SEND_SPACE: u32 = 65_535;
 pub struct Conn {
     pub tcb: Tcb,
     pub service: Service,
+    /// How many bytes of text a segment has at most on the path to its peer: no longer MSS is announced.
+    pub most: u16,
     /// When the last segment came that wasn't dropped.
     pub heard: u64,
     /// Before this time no challenge is sent.
@@ -46,13 +48,14 @@ pub enum Judged {
 }
 
 impl Conn {
-    /// A connection that nothing is known of, with its service.
-    pub fn make(alloc: Global, service: Service, now: u64) -> Conn
-        ensures { result ≡ new_conn service now }
+    /// A connection that nothing is known of, with its service, and with the most text that a segment may have on its path.
+    pub fn make(alloc: Global, service: Service, most: u16, now: u64) -> Conn
+        ensures { result ≡ new_conn service most now }
     {
         Conn {
             tcb: Tcb::make(alloc),
             service,
+            most,
             heard: now,
             quiet_until: 0,
             congestion: Congestion::fresh(),
@@ -182,9 +185,10 @@ impl Conn {
         ensures conn { OnOk result (self.new ≡ emptied self.old) }
         ensures sent { OnOk result (out.new.items ≡ out.old.items ++ sent_by tuple.now self.old) }
     {
+        let most = self.most;
         let replies = self.tcb.take_replies(alloc);
         for reply in &replies {
-            out.push(encoded(alloc, tuple, reply)?)?;
+            out.push(announced(alloc, tuple, reply, most)?)?;
         }
         Ok(())
     }
