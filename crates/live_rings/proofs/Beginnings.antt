@@ -65,7 +65,7 @@ module _ {S K : Type 0} (server : ServerOf) (ends : List (Ends S K)) (rings : Li
 
     -- what is left of them when they have ended
     pub ended_all : (rest : S → Option (List ℕ)) (reads : S → ℕ) (contents : K → Option (List ℕ)) (faults : K → ℕ) (tasks : List (Task S)) (ds : List (Ended S K)) → tasks ≡ tasks_for rings
-        → WereBrought rest reads contents faults o 0 tasks ds → AllEnded rest contents faults server ends ds
+        → WereBrought rest reads contents faults o 0 tasks ds → AllEnded rest reads contents faults server ends ds
     ended_all rest reads contents faults tasks ds is were =
         all_ended rest reads contents faults o server 0 ends rings ds are.rings_long
         (λ k e ring at ring_at.

@@ -45,15 +45,15 @@ module _ {S K : Type 0} where
   many_more [] g = omega arith
   many_more (h ∷ gs) g = omega (arith, many_more gs g)
 
-module _ {S K : Type 0} (rest : S → Option (List ℕ)) (contents : K → Option (List ℕ)) (faults : K → ℕ) (server : ServerOf) where
+module _ {S K : Type 0} (rest : S → Option (List ℕ)) (reads : S → ℕ) (contents : K → Option (List ℕ)) (faults : K → ℕ) (server : ServerOf) where
   -- what ended before, and what ended behind it
-  ended_both : (es fs : List (Ends S K)) (ds ns : List (Ended S K)) → AllEnded rest contents faults server es ds → AllEnded rest contents faults server fs ns → AllEnded rest contents faults server (es ++ fs) (ds ++ ns)
+  ended_both : (es fs : List (Ends S K)) (ds ns : List (Ended S K)) → AllEnded rest reads contents faults server es ds → AllEnded rest reads contents faults server fs ns → AllEnded rest reads contents faults server (es ++ fs) (ds ++ ns)
   ended_both [] fs [] ns x y = y
   ended_both [] fs (d ∷ ds) ns x y = absurd x
   ended_both (e ∷ es) fs [] ns x y = absurd x
   ended_both (e ∷ es) fs (d ∷ ds) ns x y = (x.0, ended_both es fs ds ns x.1 y)
 
-  as_many : (es : List (Ends S K)) (ds : List (Ended S K)) → AllEnded rest contents faults server es ds → length ds ≡ length es
+  as_many : (es : List (Ends S K)) (ds : List (Ended S K)) → AllEnded rest reads contents faults server es ds → length ds ≡ length es
   as_many [] [] x = refl
   as_many [] (d ∷ ds) x = absurd x
   as_many (e ∷ es) [] x = absurd x
@@ -61,7 +61,7 @@ module _ {S K : Type 0} (rest : S → Option (List ℕ)) (contents : K → Optio
 
   -- of each group, by number
   abbrev ServedEach : List (Group S K) → List (Group S K) → Type 0
-  ServedEach olds news = (k : ℕ) (d : Group S K) → k < length olds → HasServed rest contents faults server (slice_index_or olds k d) (slice_index_or news k d)
+  ServedEach olds news = (k : ℕ) (d : Group S K) → k < length olds → HasServed rest reads contents faults server (slice_index_or olds k d) (slice_index_or news k d)
 
   others : (g h : Group S K) (olds news : List (Group S K)) → ServedEach (g ∷ olds) (h ∷ news) → ServedEach olds news
   others g h olds news each k d lt = each (suc k) d (omega (arith, lt))
@@ -75,19 +75,19 @@ module _ {S K : Type 0} (rest : S → Option (List ℕ)) (contents : K → Optio
       let more = few_ended olds news (omega (arith, n)) (others g h olds news each) in
       omega (arith, one h (each 0 g (omega arith)), more, length-append (ends_in g) (all_in olds))
     where
-      one : (h : Group S K) → HasServed rest contents faults server g h → ended_in h ≤ length (ends_in g)
+      one : (h : Group S K) → HasServed rest reads contents faults server g h → ended_in h ≤ length (ends_in g)
       one (Group'.Before ends) x = absurd x
       one (Group'.After ended) x = let n = as_many (ends_in g) ended.items x in omega (arith, n)
       one Group'.Short x = omega arith
 
   -- what is left of all groups is what is left of all streams
-  pub all_groups : (olds news : List (Group S K)) (ds : List (Ended S K)) → length news ≡ length olds → ServedEach olds news → HaveEnded news ds → AllEnded rest contents faults server (all_in olds) ds
-  all_groups [] [] ds n each e = subst (AllEnded rest contents faults server []) (sym e) tt
+  pub all_groups : (olds news : List (Group S K)) (ds : List (Ended S K)) → length news ≡ length olds → ServedEach olds news → HaveEnded news ds → AllEnded rest reads contents faults server (all_in olds) ds
+  all_groups [] [] ds n each e = subst (AllEnded rest reads contents faults server []) (sym e) tt
   all_groups [] (h ∷ news) ds n each e = absurd (omega (arith, n))
   all_groups (g ∷ olds) [] ds n each e = absurd (omega (arith, n))
   all_groups (g ∷ olds) (Group'.Before ends ∷ news) ds n each e = absurd e
   all_groups (g ∷ olds) (Group'.After ended ∷ news) ds n each e =
       let first = each 0 g (omega arith) in
       let more = all_groups olds news e.0 (omega (arith, n)) (others g (Group'.After ended) olds news each) e.2 in
-      subst (AllEnded rest contents faults server (ends_in g ++ all_in olds)) (sym e.1) (ended_both (ends_in g) (all_in olds) ended.items e.0 first more)
+      subst (AllEnded rest reads contents faults server (ends_in g ++ all_in olds)) (sym e.1) (ended_both (ends_in g) (all_in olds) ended.items e.0 first more)
   all_groups (g ∷ olds) (Group'.Short ∷ news) ds n each e = absurd e

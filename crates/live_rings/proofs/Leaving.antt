@@ -1,7 +1,6 @@
 -- What is left of a stream, as it is taken apart.
-use Rattle.std.proofs.Common.{◌≡◌, ◌==◌, ℕ, zero, suc, ◌+◌, Bool, true, false, if◌then◌else◌, Option, Some, None, List, [], ◌∷◌, ◌++◌, length, slice_get, refl, ap, sym, ◌∙◌, subst, arith}
+use Rattle.std.proofs.Common.{◌≡◌, ℕ, ◌+◌, true, Option, Some, None, List, [], ◌∷◌, ◌++◌, length, slice_get, refl, ap, sym, ◌∙◌, subst}
 use Rattle.std.specs.Prelude.{is_some, reverse}
-use Rattle.std.proofs.lemmas.Bool.Decides.{nat_tests}
 use Rattle.std.proofs.lemmas.List.{reverse-append}
 use Rattle.perimeter_core.specs.declared.entries.Act.{Act}
 use Rattle.perimeter_core.specs.Blocks.{Blocks}
@@ -13,7 +12,6 @@ use Rattle.squeue_serve.proofs.Lent.{get_end}
 use Rattle.squeue_streams.specs.declared.streams.Stream.{Stream}
 use Rattle.squeue_streams.specs.Sourcing.{sent_of}
 use Rattle.squeue_streams.specs.Taking.{IsStreamOf, items_of, state_of}
-use Rattle.live_tables.specs.declared.fault.Fault.{Fault}
 use Rattle.live_tables.specs.declared.fault.Fault.TheVariants as Fault'
 use Rattle.live_tables.specs.declared.frame.Frame.{Frame}
 use Rattle.live_tables.specs.declared.table.Serving.{Serving}
@@ -33,25 +31,10 @@ here_now Stands blocks c stands is_so = by (blocks c) refl is_so
     by (Some had) is is_so = record { blocks = blocks; had = had; stands = stands; here = is }
     by None is is_so = cc is_so
 
--- where nothing went wrong, nothing did at the table and at the ring, and no frame is left
-pub none_first : (table ring : Option Fault) (n : ℕ) → first_fault table ring n ≡ None → (table ≡ None) × (ring ≡ None) × (n ≡ 0)
-none_first (Some why) ring n is = cc is
-none_first None (Some why) n is = cc is
-none_first None None zero is = (refl, refl, refl)
-none_first None None (suc n) is = absurd (some_left (suc n == 0) (let b : (suc n == 0) ≡ false = grind (arith, nat_tests) in b) is)
-  where
-    some_left : (b : Bool) → b ≡ false → (if b then None else Some Fault'.Left) ≡ None → ⊥
-    some_left true e is = cc e
-    some_left false e is = cc is
-
-no_items : {A : Type 0} (xs : List A) → length xs ≡ 0 → xs ≡ []
-no_items [] is = refl
-no_items (x ∷ xs) is = absurd (omega (arith, is))
-
 module _ {S K : Type 0} (contents : K → Option (List ℕ)) (faults : K → ℕ) (o : Serving K) (c : ℕ) (ring : Ring S) (e : Ended S K) where
   -- a stream that isn't here
   pub left_none : e.reader ≡ ring.reader → e.fault ≡ Some Fault'.Left → e.table ≡ None → IsLeftOf contents faults o c ring e
-  left_none reads failed none = record { reads = reads; well = λ well. cc (sym failed ∙ well); took = λ t is. cc (sym none ∙ is) }
+  left_none reads failed none = record { reads = reads; gone = λ _. failed; took = λ t is. cc (sym none ∙ is) }
 
   -- a stream that was taken out, and whose ring was looked at from both ends
   pub left_some : (stream now : Stream Frame (Table K)) (t : Table K) (n : ℕ) (left : List Frame) → e.reader ≡ ring.reader → e.table ≡ Some t → e.fault ≡ first_fault (fault_of t) ring.fault n → t ≡ state_of now → state_of now ≡ state_of stream
@@ -59,7 +42,7 @@ module _ {S K : Type 0} (contents : K → Option (List ℕ)) (faults : K → ℕ
   left_some stream now t n left reads table fault state same of long all =
       record {
         reads = reads;
-        well = λ none. ((none_first (fault_of t) ring.fault n (sym fault ∙ none)).1, (t, table));
+        gone = λ none. cc (sym table ∙ none);
         took = λ u is.
             let u_is : t ≡ u = cc (sym table ∙ is) in (
               stream,
@@ -67,7 +50,7 @@ module _ {S K : Type 0} (contents : K → Option (List ℕ)) (faults : K → ℕ
               of,
               sym (state ∙ same) ∙ u_is,
               all,
-              λ none. let f = none_first (fault_of t) ring.fault n (sym fault ∙ none) in (no_items left (long ∙ f.2), ap (λ (x : Table K). fault_of x) (sym u_is) ∙ f.0),
+              fault ∙ (ap (λ (x : Table K). first_fault (fault_of x) ring.fault n) u_is ∙ ap (λ (m : ℕ). first_fault (fault_of u) ring.fault m) (sym long)),
             );
       }
 

@@ -4,6 +4,7 @@ pub mod Fresh
 pub mod Jobs
 pub mod OneRun
 pub mod Reading
+pub mod Causes
 pub mod Pairs
 pub mod Leaving
 pub mod Endings

@@ -1,8 +1,9 @@
 -- What is known of each stream when its squeue has ended.
-use Rattle.std.specs.Prelude.{◌≡◌, ℕ, ◌+◌, ◌<◌, ◌==◌, Option, None, Some, IfSome, List, [], ◌∷◌, ◌++◌, if◌then◌else◌, length, slice_get}
+use Rattle.std.specs.Prelude.{◌≡◌, ◌≢◌, ℕ, ◌+◌, ◌<◌, ◌==◌, Option, None, Some, IfSome, List, [], ◌∷◌, ◌++◌, if◌then◌else◌, length, slice_get}
 use Rattle.std.specs.Io.KnownBytes.{Appends}
 use Rattle.rtrb.specs.Ring.{IsPair}
-use Rattle.live_server.specs.Frames.{answers, rest_of}
+use Rattle.sq_base.specs.Ends.{Rose}
+use Rattle.live_server.specs.Frames.{FrameOf, answers, frames_in, rest_of, serves_frames}
 use Rattle.live_server.specs.Serving.{ServerOf}
 use Rattle.live_tables.specs.Fronts.{AppendsFront}
 use Rattle.squeue_streams.specs.declared.streams.Stream.{Stream}
@@ -13,13 +14,13 @@ use Rattle.live_tables.specs.declared.fault.Fault.TheVariants as Fault'
 use Rattle.live_tables.specs.declared.frame.Frame.{Frame}
 use Rattle.live_tables.specs.declared.table.Serving.{Serving}
 use Rattle.live_tables.specs.declared.table.Table.{Table}
-use Rattle.live_tables.specs.Tables.{IsFirst, Serves, fault_of, first_of, sink_of}
+use Rattle.live_tables.specs.Tables.{IsFirst, Serves, fault_of, first_of, server_of, sink_of}
 use Rattle.live_streams.specs.declared.reading.Ring.{Ring}
 use Rattle.live_rings.specs.declared.making.Ends.{Ends}
 use Rattle.live_rings.specs.declared.gathering.Ended.{Ended}
 use Rattle.live_rings.specs.declared.running.Task.{Task}
 use Rattle.live_rings.specs.declared.running.Task.TheVariants as Task'
-use Rattle.live_rings.specs.Making.{IsNewRing}
+use Rattle.live_rings.specs.Making.{IsNewRing, most_frames}
 use Rattle.live_rings.specs.Running.{HasRead}
 
 -- at the table, or else at the ring; or frames are left
@@ -43,13 +44,13 @@ module _ {S K : Type 0} where
     pub each : (c : ℕ) (t : Task S) → slice_get tasks c ≡ Some t → IsTask o rings c t
 
 module _ {S K : Type 0} (contents : K → Option (List ℕ)) (faults : K → ℕ) where
-  -- What is left of stream c, whose ring ended so: its table is what was made of the frames that were popped, and where nothing went wrong
-  -- these are all that its ring has pushed
+  -- What is left of stream c, whose ring ended so: its table is what was made of the frames that were popped, the others that its ring has
+  -- pushed are left, and what went wrong first tells both. There is no table where the stream isn't at its squeue
   pub record IsLeftOf (o : Serving K) (c : ℕ) (ring : Ring S) (e : Ended S K) : Type 0 where
     pub reads : e.reader ≡ ring.reader
-    pub well : e.fault ≡ None → (ring.fault ≡ None) × ((t : Table K) × (e.table ≡ Some t))
+    pub gone : e.table ≡ None → e.fault ≡ Some Fault'.Left
     pub took : (t : Table K) → e.table ≡ Some t → (stream : Stream Frame (Table K)) × (left : List Frame) × IsStreamOf IsFirst (λ (o : Serving K). Serves contents faults) o c stream
-        × (state_of stream ≡ t) × (items_of stream ++ left ≡ sent_of ring.feeds) × (e.fault ≡ None → (left ≡ []) × (fault_of t ≡ None))
+        × (state_of stream ≡ t) × (items_of stream ++ left ≡ sent_of ring.feeds) × (e.fault ≡ first_fault (fault_of t) ring.fault (length left))
 
   abbrev pub AreLeft : Serving K → ℕ → List (Task S) → List (Ended S K) → Type 0
   AreLeft o c [] [] = Unit {0}
@@ -70,13 +71,22 @@ module _ {S K : Type 0} (rest : S → Option (List ℕ)) (reads : S → ℕ) (co
   WereBrought o c (Task'.Bring ring ∷ ts) [] = ⊥
   WereBrought o c (Task'.Work ∷ ts) es = WereBrought o (c + 1) ts es
 
-module _ {S K : Type 0} (rest : S → Option (List ℕ)) (contents : K → Option (List ℕ)) (faults : K → ℕ) where
   -- A stream with these ends, whose table began with this server. Where nothing went wrong its input was whole frames, and its sink got
-  -- what one server answers to them; in any case the sink got a front of that
+  -- what one server answers to them; in any case the sink got a front of that, where the table is handed back. What went wrong has its
+  -- cause: a read failed there, or a write; its input isn't whole frames, or has more than a stream may bring; or its table has taken the
+  -- first of them only. Memory may be missing at any time
   pub record HasEnded (server : ServerOf) (e : Ends S K) (d : Ended S K) : Type 0 where
     pub well : d.fault ≡ None → (t : Table K) × (d.table ≡ Some t)
         × IfSome (rest e.reader) (λ input. (rest_of input ≡ []) × Appends (contents e.sink) (contents (sink_of t)) (answers input server))
     pub front : (t : Table K) → d.table ≡ Some t → IfSome (rest e.reader) (λ input. AppendsFront (contents e.sink) (contents (sink_of t)) (answers input server))
+    pub gone : d.table ≡ None → d.fault ≡ Some Fault'.Left
+    pub reading : d.fault ≡ Some Fault'.Reading → Rose (reads e.reader) (reads d.reader)
+    pub writing : d.fault ≡ Some Fault'.Writing → (t : Table K) × (d.table ≡ Some t) × Rose (faults e.sink) (faults (sink_of t))
+    pub frames : d.fault ≡ Some Fault'.Frames → IfSome (rest e.reader) (λ input. rest_of input ≢ [])
+    pub life : d.fault ≡ Some Fault'.Life → IfSome (rest e.reader) (λ input. most_frames < length (frames_in input))
+    pub left : d.fault ≡ Some Fault'.Left → (t : Table K) → d.table ≡ Some t → IfSome (rest e.reader) (λ input. (taken behind : List FrameOf)
+        × (frames_in input ≡ taken ++ behind) × (behind ≢ []) × (server_of t ≡ (serves_frames taken server).server))
+    pub others : d.fault ≢ Some Fault'.Words
 
   -- so it is of each stream, by number
   abbrev pub AllEnded : ServerOf → List (Ends S K) → List (Ended S K) → Type 0

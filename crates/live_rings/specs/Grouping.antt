@@ -43,11 +43,11 @@ module _ {S K : Type 0} where
   HaveEnded (Group'.After ended ∷ gs) ds = (more : List (Ended S K)) × (ds ≡ ended.items ++ more) × HaveEnded gs more
   HaveEnded (Group'.Short ∷ gs) ds = ⊥
 
-module _ {S K : Type 0} (rest : S → Option (List ℕ)) (contents : K → Option (List ℕ)) (faults : K → ℕ) where
+module _ {S K : Type 0} (rest : S → Option (List ℕ)) (reads : S → ℕ) (contents : K → Option (List ℕ)) (faults : K → ℕ) where
   -- the streams of a group have ended, or memory was missing for its squeue
   abbrev pub IsServedOf : ServerOf → List (Ends S K) → Group S K → Type 0
   IsServedOf server ends (Group'.Before more) = ⊥
-  IsServedOf server ends (Group'.After ended) = AllEnded rest contents faults server ends ended.items
+  IsServedOf server ends (Group'.After ended) = AllEnded rest reads contents faults server ends ended.items
   IsServedOf server ends Group'.Short = Unit {0}
 
   abbrev pub HasServed : ServerOf → Group S K → Group S K → Type 0

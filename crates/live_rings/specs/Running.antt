@@ -8,18 +8,18 @@ use Rattle.squeue_state.specs.Naming.{Named, setting_of}
 use Rattle.histories.specs.Elements.{number_of}
 use Rattle.squeue_serve.specs.declared.jobs.Job.{Job}
 use Rattle.squeue_serve.specs.Places.{MayEnd}
-use Rattle.squeue_streams.specs.Sourcing.{Brings, SameSource, entered_of, pushed_of, sent_of}
+use Rattle.squeue_streams.specs.Sourcing.{Brings, SameSource, entered_of, left_of, pushed_of, sent_of}
 use Rattle.live_server.specs.Frames.{frames_in, rest_of}
 use Rattle.live_tables.specs.declared.fault.Fault.TheVariants as Fault'
 use Rattle.live_tables.specs.Taken.{EndsARead, frames_of}
-use Rattle.live_streams.specs.Cutting.{AreFront}
+use Rattle.live_streams.specs.Cutting.{AreFront, CarryOneEach}
 use Rattle.live_streams.specs.declared.reading.Ring.{Ring}
 use Rattle.live_rings.specs.declared.running.Task.{Task}
 use Rattle.live_rings.specs.declared.running.Task.TheVariants as Task'
 use Rattle.live_rings.specs.Making.{IsNewRing}
 
--- A ring, which brought nothing before, has brought the frames of its input, or the first of them where it met a fault; and the fault
--- has its cause
+-- A ring, which brought nothing before, has brought the frames of its input, each by itself, or the first of them where it met a fault;
+-- and the fault has its cause
 module _ {S : Type 0} (rest : S → Option (List ℕ)) (faults : S → ℕ) where
   pub record HasRead (old new : Ring S) : Type 0 where
     pub same : SameSource old.feeds new.feeds
@@ -29,6 +29,9 @@ module _ {S : Type 0} (rest : S → Option (List ℕ)) (faults : S → ℕ) wher
     pub ends : new.fault ≡ None → EndsARead (sent_of new.feeds)
     pub reading : new.fault ≡ Some Fault'.Reading → Rose (faults old.reader) (faults new.reader)
     pub frames : new.fault ≡ Some Fault'.Frames → IfSome (rest old.reader) (λ input. rest_of input ≢ [])
+    pub life : new.fault ≡ Some Fault'.Life → IfSome (rest old.reader) (λ input. left_of old.feeds < length (frames_in input))
+    pub others : (new.fault ≢ Some Fault'.Writing) × (new.fault ≢ Some Fault'.Words) × (new.fault ≢ Some Fault'.Left)
+    pub each : CarryOneEach (sent_of new.feeds)
 
   -- a task is done
   abbrev pub HasDone : Task S → Task S → Type 0

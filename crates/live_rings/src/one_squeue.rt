@@ -34,7 +34,7 @@ pub fn serve_squeue<S: Source + Drop + Send, K: Sink + Drop + Send, W: Threads +
 ) -> Result<Vec<Ended<S, K>>, AllocError>
     requires setup { IsInRange setup.now }
     requires ends { (1 ≤ length ends.items) × (length ends.items ≤ 63) }
-    ensures { IfOk result (λ v. AllEnded S.rest K.contents K.write_faults (server_of setup.now) ends.items v.items) }
+    ensures { IfOk result (λ v. AllEnded S.rest S.read_faults K.contents K.write_faults (server_of setup.now) ends.items v.items) }
 {
     let count = ends.len() as u32;
     let room = Vec::with_capacity(alloc, ends.len() + 1)?;

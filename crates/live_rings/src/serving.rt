@@ -35,7 +35,7 @@ pub fn serve_streams<S: Source + Drop + Send, K: Sink + Drop + Send, W: Threads 
 ) -> Result<Vec<Ended<S, K>>, AllocError>
     requires setup { IsInRange setup.now }
     requires ends { length ends.items ≤ 63 }
-    ensures { IfOk result (λ v. AllEnded S.rest K.contents K.write_faults (server_of setup.now) ends.items v.items) }
+    ensures { IfOk result (λ v. AllEnded S.rest S.read_faults K.contents K.write_faults (server_of setup.now) ends.items v.items) }
 {
     let room = Vec::with_capacity(alloc, ends.len())?;
     let mut groups = deal(alloc, ends, setup.squeues)?;
@@ -53,7 +53,7 @@ fn serve_groups<S: Source + Drop + Send, K: Sink + Drop + Send, W: Threads + Wai
     requires setup { IsInRange setup.now }
     requires groups { All MayServe groups.old }
     ensures { (k : ℕ) (d : Group S K) → k < length groups.old
-        → HasServed S.rest K.contents K.write_faults (server_of setup.now) (slice_index_or groups.old k d) (slice_index_or groups.new k d) }
+        → HasServed S.rest S.read_faults K.contents K.write_faults (server_of setup.now) (slice_index_or groups.old k d) (slice_index_or groups.new k d) }
 {
     run_each(
         rt,
@@ -61,7 +61,7 @@ fn serve_groups<S: Source + Drop + Send, K: Sink + Drop + Send, W: Threads + Wai
         &|_, group: &mut Group<S, K>|
             requires setup { IsInRange setup.now }
             requires group { MayServe group.now }
-            ensures { HasServed S.rest K.contents K.write_faults (server_of setup.entry.now) group.entry.now group.exit.now }
+            ensures { HasServed S.rest S.read_faults K.contents K.write_faults (server_of setup.entry.now) group.entry.now group.exit.now }
         { serve_group(rt, alloc, setup, group) },
     );
 }
@@ -74,7 +74,7 @@ fn serve_group<S: Source + Drop + Send, K: Sink + Drop + Send, W: Threads + Wait
 )
     requires setup { IsInRange setup.now }
     requires group { MayServe group.old }
-    ensures { HasServed S.rest K.contents K.write_faults (server_of setup.now) group.old group.new }
+    ensures { HasServed S.rest S.read_faults K.contents K.write_faults (server_of setup.now) group.old group.new }
 {
     let before = replace(group, Group::Short);
     *group = served(rt, alloc, setup, before);
@@ -89,7 +89,7 @@ fn served<S: Source + Drop + Send, K: Sink + Drop + Send, W: Threads + Wait + Sy
 ) -> Group<S, K>
     requires setup { IsInRange setup.now }
     requires group { MayServe group }
-    ensures { IsServedOf S.rest K.contents K.write_faults (server_of setup.now) (ends_in group) result }
+    ensures { IsServedOf S.rest S.read_faults K.contents K.write_faults (server_of setup.now) (ends_in group) result }
 {
     let Group::Before(ends) = group else {
         return Group::Short;

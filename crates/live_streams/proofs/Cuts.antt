@@ -1,15 +1,16 @@
 -- A frame that is cut off the front of some bytes.
-use Rattle.std.proofs.Common.{◌≡◌, ℕ, zero, suc, ◌+◌, ◌^◌, ◌≤◌, ◌||◌, nat_lt, true, false, List, [], ◌∷◌, ◌++◌, length, take, drop, refl, sym, ap, ◌∙◌, arith, take-append-drop, length-take-le, length-drop, append_assoc, append-nil}
+use Rattle.std.proofs.Common.{◌≡◌, ℕ, zero, suc, ◌+◌, ◌^◌, ◌≤◌, ◌||◌, nat_lt, true, false, List, [], ◌∷◌, ◌++◌, length, take, drop, refl, sym, ap, ◌∙◌, arith, take-append-drop, length-take-le, length-drop, append_assoc, append-nil, subst}
 use Rattle.std.proofs.lemmas.List.{drop-append-le}
 use Rattle.std.proofs.lemmas.Bool.{le-ltb}
+use Rattle.std.proofs.lemmas.List.Elements.{All-append, All-cons, All-nil}
 use Rattle.std.proofs.lemmas.Grind.{flat_map-append}
 use Rattle.byteorder.specs.Numbers.{big_from-append}
-use Rattle.live_server.specs.Frames.{FrameOf, body_size, frames_in, is_broken, is_end, rest_of, time_of}
-use Rattle.live_server.proofs.FrameLemmas.{frames_last, is_whole, rest_last, rest_next}
+use Rattle.live_server.specs.Frames.{FrameOf, body_size, frame_at, frames_in, is_broken, is_end, rest_of, time_of}
+use Rattle.live_server.proofs.FrameLemmas.{frames_last, frames_next, is_whole, rest_last, rest_next}
 use Rattle.live_server.proofs.PieceLemmas.{pieces_join_proof}
 use Rattle.live_tables.specs.declared.frame.Frame.{Frame}
 use Rattle.live_tables.specs.Taken.{EndsARead, frames_of}
-use Rattle.live_streams.specs.Cutting.{AreFront}
+use Rattle.live_streams.specs.Cutting.{AreFront, AreProperFront, CarryOneEach}
 
 module _ (xs : List ℕ) (e : is_end xs ≡ false) where
   abbrev n : ℕ
@@ -54,6 +55,12 @@ module _ (xs : List ℕ) (e : is_end xs ≡ false) where
       nothing_left (suc k) [] le = refl
       nothing_left (suc k) (x ∷ l) le = nothing_left k l (omega (arith, le))
 
+  -- it carries one datagram
+  one_frame : length (frames_in front) ≡ 1
+  one_frame =
+      ap (λ (fs : List FrameOf). length fs)
+      (frames_next front begins ∙ (ap (λ (l : List ℕ). frame_at front ∷ frames_in l) none_behind ∙ ap (λ (fs : List FrameOf). frame_at front ∷ fs) (frames_last [] refl)))
+
   none_left : rest_of front ≡ []
   none_left = sym (rest_next front [] begins (sym none_behind)) ∙ rest_last [] refl
 
@@ -75,6 +82,9 @@ module _ (xs : List ℕ) (size : ℕ) (piece others : List ℕ) (e : is_end xs �
   pub rest_cut : rest_of xs ≡ rest_of others
   rest_cut = cut_rest xs e ∙ (ap (λ (n : ℕ). rest_of (drop n xs)) (sym is) ∙ ap (λ (l : List ℕ). rest_of l) (sym is_others))
 
+  pub piece_carries_one : length (frames_in piece) ≡ 1
+  piece_carries_one = ap (λ (l : List ℕ). length (frames_in l)) (is_piece ∙ ap (λ (n : ℕ). take n xs) is) ∙ one_frame xs e
+
 -- one frame more
 pub frames_more : (fs : List Frame) (f : Frame) → frames_of (fs ++ f ∷ []) ≡ frames_of fs ++ frames_in f.bytes.items
 frames_more fs f = flat_map-append (λ (g : Frame). frames_in g.bytes.items) fs (f ∷ []) ∙ ap (λ (l : List FrameOf). frames_of fs ++ l) (append-nil (frames_in f.bytes.items))
@@ -93,9 +103,18 @@ brought_more old new f xs size others e is is_piece is_others more =
     ∙ (append_assoc (frames_of old) (frames_in f.bytes.items) (frames_in others)
     ∙ ap (λ (l : List FrameOf). frames_of old ++ l) (sym (frames_cut xs size f.bytes.items others e is is_piece is_others))))
 
+pub each_more : (old new : List Frame) (f : Frame) → length (frames_in f.bytes.items) ≡ 1 → new ≡ old ++ f ∷ [] → CarryOneEach old → CarryOneEach new
+each_more old new f one is each =
+    let carries : Frame → Type 0 = λ f. length (frames_in f.bytes.items) ≡ 1 in
+    subst CarryOneEach (sym is) (All-append carries old (f ∷ []) each (All-cons carries f [] one (All-nil carries)))
+
 -- what was brought so far is a front of all
 pub front_brought : (fs : List Frame) (left all : List FrameOf) → frames_of fs ++ left ≡ all → AreFront (frames_of fs) all
 front_brought fs left all is = (left, sym is)
+
+-- and not all of it where a whole frame is left
+pub more_came : (fs : List Frame) (xs : List ℕ) (all : List FrameOf) → is_end xs ≡ false → frames_of fs ++ frames_in xs ≡ all → AreProperFront (frames_of fs) all
+more_came fs xs all e is = (frame_at xs, frames_in (drop (16 + body_size xs) xs), sym is ∙ ap (λ (l : List FrameOf). frames_of fs ++ l) (frames_next xs e))
 
 -- and all of it where no whole frame is left
 pub all_brought : (fs : List Frame) (xs : List ℕ) (all : List FrameOf) → is_end xs ≡ true → frames_of fs ++ frames_in xs ≡ all → frames_of fs ≡ all

@@ -1,11 +1,11 @@
 -- A stream that is read in pieces.
-use Rattle.std.proofs.Common.{◌≡◌, ℕ, ◌≤◌, true, Option, None, Some, IfSome, Result, Ok, Err, List, [], ◌++◌, length, refl, sym, ap, subst, ◌∙◌, arith, length-append, append_assoc, append-nil}
+use Rattle.std.proofs.Common.{◌≡◌, ℕ, ◌≤◌, true, Option, None, Some, IfSome, Result, Ok, Err, List, [], ◌∷◌, ◌++◌, length, refl, sym, ap, subst, ◌∙◌, arith, length-append, append_assoc, append-nil}
 use Rattle.std.specs.Prelude.{OnOk}
 use Rattle.std.specs.Result.{result_err}
 use Rattle.std.specs.Io.KnownBytes.{Consumes, IsAtEnd}
 use Rattle.live_server.specs.Frames.{FrameOf, frames_in, is_broken, rest_of}
 use Rattle.live_server.proofs.PieceLemmas.{broken_stays, pieces_join_proof}
-use Rattle.live_streams.specs.Cutting.{AreFront}
+use Rattle.live_streams.specs.Cutting.{AreFront, AreProperFront}
 
 -- what was read is all that there was
 pub all_read : (first last : Option (List ℕ)) (there : List ℕ) (P : List ℕ → Type 0) → Consumes first last there → IsAtEnd last → P there → IfSome first P
@@ -49,6 +49,15 @@ module _ (first so_far : List FrameOf) (there pending : List ℕ) (left : pendin
           front.0 ++ behind,
           ap (λ (l : List FrameOf). first ++ l) (pieces_join_proof (there ++ got) more).0 ∙ (sym (append_assoc first (frames_in (there ++ got)) behind)
               ∙ (ap (λ (l : List FrameOf). l ++ behind) (sym joined ∙ front.1) ∙ append_assoc next front.0 behind)),
+        )
+
+    pub proper_of_piece : (next : List FrameOf) → AreProperFront next (so_far ++ frames_in (pending ++ got)) → (more : List ℕ) → AreProperFront next (first ++ frames_in ((there ++ got) ++ more))
+    proper_of_piece next front more =
+        let behind = frames_in (rest_of (there ++ got) ++ more) in (
+          front.0,
+          front.1 ++ behind,
+          ap (λ (l : List FrameOf). first ++ l) (pieces_join_proof (there ++ got) more).0 ∙ (sym (append_assoc first (frames_in (there ++ got)) behind)
+              ∙ (ap (λ (l : List FrameOf). l ++ behind) (sym joined ∙ front.2) ∙ append_assoc next (front.0 ∷ front.1) behind)),
         )
 
     -- where a broken frame is left, all isn't whole frames

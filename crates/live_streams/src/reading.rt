@@ -7,7 +7,7 @@ ghost use Rattle.squeue_streams.specs.Sourcing.{Brings, SameSource, entered_of, 
 ghost use Rattle.live_server.specs.Frames.{frames_in, is_broken, is_end, rest_of};
 ghost use Rattle.live_server.specs.Limits.{frame_head};
 ghost use Rattle.live_tables.specs.Taken.{EndsARead, frames_of};
-ghost use Rattle.live_streams.specs.Cutting.{AreFront};
+ghost use Rattle.live_streams.specs.Cutting.{AreFront, AreProperFront, CarryOneEach, life_of};
 
 use crate::cutting::frame_size;
 use live_server::{FRAME_HEAD, is_broken};
@@ -57,7 +57,10 @@ pub fn bring_stream<R: Renews, S: Source + Drop, W: Wait>(
     ensures reading { ring.new.fault ≡ Some Fault.Reading → Rose (S.read_faults ring.old.reader) (S.read_faults ring.new.reader) }
     ensures frames { ring.new.fault ≡ Some Fault.Frames → IfSome (S.rest ring.old.reader) (λ input. rest_of input ≢ []) }
     ensures life { ring.new.fault ≡ Some Fault.Life → left_of ring.new.feeds ≡ 0 }
-    ensures others { (ring.new.fault ≢ Some Fault.Writing) × (ring.new.fault ≢ Some Fault.Words) }
+    ensures over { ring.new.fault ≡ Some Fault.Life → IfSome (S.rest ring.old.reader) (λ input. AreProperFront (frames_of (sent_of ring.new.feeds)) (frames_of (sent_of ring.old.feeds) ++ frames_in input)) }
+    ensures others { (ring.new.fault ≢ Some Fault.Writing) × (ring.new.fault ≢ Some Fault.Words) × (ring.new.fault ≢ Some Fault.Left) }
+    ensures counted { life_of ring.new.feeds ≡ life_of ring.old.feeds }
+    ensures each { CarryOneEach (sent_of ring.old.feeds) → CarryOneEach (sent_of ring.new.feeds) }
 {
     let Ok(mut piece) = vec![in alloc; 0u8; PIECE] else {
         ring.fault = Some(Fault::NoMemory);
@@ -103,7 +106,10 @@ fn bring_pieces<R: Renews, S: Source, W: Wait>(
     ensures reading { result.1 ≡ Err Fault.Reading → Rose (S.read_faults reader.old) (S.read_faults reader.new) }
     ensures frames { result.1 ≡ Err Fault.Frames → IfSome (S.rest reader.old) (λ input. rest_of input ≢ []) }
     ensures life { result.1 ≡ Err Fault.Life → left_of feeds.new ≡ 0 }
-    ensures others { (result.1 ≢ Err Fault.Writing) × (result.1 ≢ Err Fault.Words) }
+    ensures over { result.1 ≡ Err Fault.Life → IfSome (S.rest reader.old) (λ input. AreProperFront (frames_of (sent_of feeds.new)) (frames_of (sent_of feeds.old) ++ frames_in input)) }
+    ensures others { (result.1 ≢ Err Fault.Writing) × (result.1 ≢ Err Fault.Words) × (result.1 ≢ Err Fault.Left) }
+    ensures counted { life_of feeds.new ≡ life_of feeds.old }
+    ensures each { CarryOneEach (sent_of feeds.old) → CarryOneEach (sent_of feeds.new) }
 {
     let mut pass = pass;
     let mut pending = Vec::new(alloc);
@@ -157,7 +163,10 @@ fn bring_piece<R: Renews, W: Wait>(
     ensures front { AreFront (frames_of (sent_of feeds.new)) (frames_of (sent_of feeds.old) ++ frames_in (pending.old.items ++ piece.now)) }
     ensures frames { result.1 ≡ Err Fault.Frames → (frame_head ≤ length (rest_of (pending.old.items ++ piece.now))) × (is_broken (rest_of (pending.old.items ++ piece.now)) ≡ true) }
     ensures life { result.1 ≡ Err Fault.Life → left_of feeds.new ≡ 0 }
-    ensures others { (result.1 ≢ Err Fault.Writing) × (result.1 ≢ Err Fault.Words) × (result.1 ≢ Err Fault.Reading) }
+    ensures over { result.1 ≡ Err Fault.Life → AreProperFront (frames_of (sent_of feeds.new)) (frames_of (sent_of feeds.old) ++ frames_in (pending.old.items ++ piece.now)) }
+    ensures others { (result.1 ≢ Err Fault.Writing) × (result.1 ≢ Err Fault.Words) × (result.1 ≢ Err Fault.Left) × (result.1 ≢ Err Fault.Reading) }
+    ensures counted { life_of feeds.new ≡ life_of feeds.old }
+    ensures each { CarryOneEach (sent_of feeds.old) → CarryOneEach (sent_of feeds.new) }
 {
     let Ok(()) = pending.extend_from_slice(piece) else {
         return (pass, Err(Fault::NoMemory));
@@ -196,7 +205,10 @@ fn bring_whole<'a, R: Renews, W: Wait>(
     ensures ends { OnOk result.1 (EndsARead (sent_of feeds.new)) }
     ensures front { AreFront (frames_of (sent_of feeds.new)) (frames_of (sent_of feeds.old) ++ frames_in bytes.now) }
     ensures life { result.1 ≡ Err Fault.Life → left_of feeds.new ≡ 0 }
-    ensures others { (result.1 ≢ Err Fault.Writing) × (result.1 ≢ Err Fault.Words) × (result.1 ≢ Err Fault.Reading) × (result.1 ≢ Err Fault.Frames) }
+    ensures over { result.1 ≡ Err Fault.Life → AreProperFront (frames_of (sent_of feeds.new)) (frames_of (sent_of feeds.old) ++ frames_in bytes.now) }
+    ensures others { (result.1 ≢ Err Fault.Writing) × (result.1 ≢ Err Fault.Words) × (result.1 ≢ Err Fault.Left) × (result.1 ≢ Err Fault.Reading) × (result.1 ≢ Err Fault.Frames) }
+    ensures counted { life_of feeds.new ≡ life_of feeds.old }
+    ensures each { CarryOneEach (sent_of feeds.old) → CarryOneEach (sent_of feeds.new) }
 {
     let (pass, brought) = bring_frames(rt, sq, alloc, pace, pass, feeds, bytes);
     let pass = enter_rest(rt, sq, alloc, pace, pass, feeds);
@@ -207,7 +219,7 @@ fn bring_whole<'a, R: Renews, W: Wait>(
 fn kept(alloc: Global, rest: &[u8]) -> Result<Vec<u8>, Fault>
     ensures same { IfOk result (λ v. v.items ≡ rest.now) }
     ensures frames { result ≡ Err Fault.Frames → (frame_head ≤ length rest.now) × (is_broken rest.now ≡ true) }
-    ensures others { (result ≢ Err Fault.Writing) × (result ≢ Err Fault.Words) × (result ≢ Err Fault.Reading) × (result ≢ Err Fault.Life) }
+    ensures others { (result ≢ Err Fault.Writing) × (result ≢ Err Fault.Words) × (result ≢ Err Fault.Left) × (result ≢ Err Fault.Reading) × (result ≢ Err Fault.Life) }
 {
     if rest.len() >= FRAME_HEAD && is_broken(rest) {
         return Err(Fault::Frames);
@@ -238,7 +250,10 @@ fn bring_frames<'a, R: Renews, W: Wait>(
     ensures ends { OnOk result.1 (EndsARead (sent_of feeds.new)) }
     ensures front { AreFront (frames_of (sent_of feeds.new)) (frames_of (sent_of feeds.old) ++ frames_in bytes.now) }
     ensures life { result.1 ≡ Err Fault.Life → left_of feeds.new ≡ 0 }
-    ensures others { (result.1 ≢ Err Fault.Writing) × (result.1 ≢ Err Fault.Words) × (result.1 ≢ Err Fault.Reading) × (result.1 ≢ Err Fault.Frames) }
+    ensures over { result.1 ≡ Err Fault.Life → AreProperFront (frames_of (sent_of feeds.new)) (frames_of (sent_of feeds.old) ++ frames_in bytes.now) }
+    ensures others { (result.1 ≢ Err Fault.Writing) × (result.1 ≢ Err Fault.Words) × (result.1 ≢ Err Fault.Left) × (result.1 ≢ Err Fault.Reading) × (result.1 ≢ Err Fault.Frames) }
+    ensures counted { life_of feeds.new ≡ life_of feeds.old }
+    ensures each { CarryOneEach (sent_of feeds.old) → CarryOneEach (sent_of feeds.new) }
 {
     let mut pass = pass;
     let mut rest = bytes;
@@ -283,6 +298,7 @@ fn bring_one<R: Renews, W: Wait>(
     ensures number { number result ≡ number pass }
     ensures same { SameSource feeds.old feeds.new }
     ensures sent { sent_of feeds.new ≡ sent_of feeds.old ++ frame ∷ [] }
+    ensures counted { life_of feeds.new ≡ life_of feeds.old }
 {
     let mut pass = pass;
     let mut frame = frame;
@@ -310,6 +326,7 @@ fn enter_many<R: Renews, W: Wait>(
     ensures may { Brings R.limits sq.now result feeds.new }
     ensures number { number result ≡ number pass }
     ensures same { SameSource feeds.old feeds.new }
+    ensures left { left_of feeds.new ≡ left_of feeds.old }
     ensures sent { sent_of feeds.new ≡ sent_of feeds.old }
 {
     if feeds.waiting() < MANY {

@@ -1,5 +1,5 @@
 -- Of all frames of a stream, one after another.
-use Rattle.std.proofs.Common.{◌≡◌, ℕ, zero, suc, ◌+◌, ◌-◌, ◌^◌, ◌≤◌, ◌⊎◌, inl, inr, min, Bool, true, false, true≢false, take, drop, take-append-drop, Option, Some, None, List, [], ◌∷◌, ◌++◌, refl, sym, ap, ◌∙◌, subst, arith, append_assoc, append-nil}
+use Rattle.std.proofs.Common.{◌≡◌, ℕ, ◌≤◌, ◌⊎◌, inl, inr, Bool, true, false, true≢false, take, drop, take-append-drop, Option, Some, None, List, [], ◌∷◌, ◌++◌, refl, sym, ap, ◌∙◌, subst, arith, append_assoc, append-nil}
 use Rattle.std.specs.List.{flat_map}
 use Rattle.std.specs.Io.KnownBytes.{Appends}
 use Rattle.std.proofs.KnownBytes.{Appends-nil, Appends-trans}
@@ -15,7 +15,7 @@ use Rattle.live_tables.specs.declared.fault.Fault.TheVariants as Fault'
 use Rattle.live_tables.specs.declared.frame.Frame.{Frame}
 use Rattle.live_tables.specs.declared.table.Table.{Table}
 use Rattle.live_tables.specs.Taken.{EndsARead, frames_of}
-use Rattle.live_tables.specs.Tables.{HasServed, IsNew, OutputsAnswer, Serves, TablesAnswer, Tells, Writes, answers_to, fault_of, server_of, sink_of, waiting_of}
+use Rattle.live_tables.specs.Tables.{OutputsAnswer, Serves, TablesAnswer, Tells, Writes, answers_to, fault_of, server_of, sink_of, waiting_of}
 
 none_or_one : (o : Option Fault) → (o ≡ None) ⊎ ((why : Fault) × (o ≡ Some why))
 none_or_one None = inl refl
@@ -70,6 +70,7 @@ module _ {K : Type 0} (contents : K → Option (List ℕ)) (faults : K → ℕ) 
     written : fault_of to ≡ None → Ended from frames → waiting_of to ≡ []
     front : AppendsFront (contents (sink_of from)) (contents (sink_of to)) (waiting_of from ++ answers_to (frames_of frames) (server_of from))
     cause : fault_of to ≡ Some Fault'.Writing → Rose (faults (sink_of from)) (faults (sink_of to))
+    kinds : (why : Fault) → fault_of to ≡ Some why → (why ≡ Fault'.NoMemory) ⊎ (why ≡ Fault'.Writing)
 
   nothing : (from : Table K) → fault_of from ≡ None → SoFar from [] from
   nothing from well =
@@ -79,6 +80,7 @@ module _ {K : Type 0} (contents : K → Option (List ℕ)) (faults : K → ℕ) 
         written = λ _ ended. ended;
         front = ([], (waiting_of from ++ [], refl), Appends-nil (contents (sink_of from)));
         cause = λ is. absurd (not_both (fault_of from) Fault'.Writing well is);
+        kinds = λ why is. absurd (not_both (fault_of from) why well is);
       }
 
   -- what is told in two goes
@@ -133,12 +135,17 @@ module _ {K : Type 0} (contents : K → Option (List ℕ)) (faults : K → ℕ) 
           front = subst (λ (l : List ℕ). AppendsFront (contents (sink_of from)) (contents (sink_of at)) (waiting_of from ++ l)) (sym joined)
               (front_of_more _ _ (waiting_of from) (answers f.bytes.items (server_of from)) (answers_to (frames_of frames) behind) (one.front well));
           cause = λ writing. caused (one.cause writing);
+          kinds = λ kind is_kind. of_kind kind (one.kinds kind is_kind);
         } in
         subst (λ (t : Table K). SoFar from (f ∷ frames) t) (sym same) there
       where
         caused : (fault_of from ≡ Some Fault'.Writing) ⊎ Rose (faults (sink_of from)) (faults (sink_of at)) → Rose (faults (sink_of from)) (faults (sink_of at))
         caused (inl before) = absurd (not_both (fault_of from) Fault'.Writing well before)
         caused (inr rose) = rose
+
+        of_kind : (kind : Fault) → (fault_of from ≡ Some kind) ⊎ (kind ≡ Fault'.NoMemory) ⊎ (kind ≡ Fault'.Writing) → (kind ≡ Fault'.NoMemory) ⊎ (kind ≡ Fault'.Writing)
+        of_kind kind (inl before) = absurd (not_both (fault_of from) kind well before)
+        of_kind kind (inr it) = it
 
     -- it met none
     met_none : fault_of at ≡ None → SoFar at frames to → SoFar from (f ∷ frames) to
@@ -154,6 +161,7 @@ module _ {K : Type 0} (contents : K → Option (List ℕ)) (faults : K → ℕ) 
               (front_on from at to (answers f.bytes.items (server_of from)) (answers_to (frames_of frames) behind) told
               (subst (λ (l : List ℕ). AppendsFront (contents (sink_of at)) (contents (sink_of to)) (waiting_of at ++ l)) same on.front));
           cause = λ writing. rose_after _ _ _ one.never_falls (on.cause writing);
+          kinds = on.kinds;
         }
 
     on_from : Takes (Serves contents faults) at frames to → (fault_of at ≡ None → SoFar at frames to) → (fault_of at ≡ None) ⊎ ((why : Fault) × (fault_of at ≡ Some why)) → SoFar from (f ∷ frames) to
@@ -176,6 +184,7 @@ module _ {K : Type 0} (contents : K → Option (List ℕ)) (faults : K → ℕ) 
         written = λ well ends. whole (s.told well) (s.written well (ended_first frames ends));
         front = subst (λ (l : List ℕ). AppendsFront (contents (sink_of first)) (contents (sink_of to)) (l ++ all)) new.none_waits s.front;
         cause = s.cause;
+        kinds = s.kinds;
       }
     where
       ended_first : (frames : List Frame) → EndsARead frames → Ended first frames
@@ -210,6 +219,7 @@ module _ {K : Type 0} (contents : K → Option (List ℕ)) (faults : K → ℕ) 
         written = λ none _. absurd (not_both (fault_of t) why none is);
         front = λ none. absurd (not_both (fault_of t) why none is);
         cause = λ writing. inl writing;
+        kinds = λ _ before. inl before;
         never_falls = omega arith;
         stopped = λ _ _. refl;
       }
@@ -225,6 +235,7 @@ module _ {K : Type 0} (contents : K → Option (List ℕ)) (faults : K → ℕ) 
         front = λ _. subst (λ (k : K). AppendsFront (contents (sink_of from)) (contents k) (waiting_of from ++ answers f.bytes.items (server_of from))) (sym same)
             ([], (waiting_of from ++ answers f.bytes.items (server_of from), refl), Appends-nil (contents (sink_of from)));
         cause = λ writing. absurd (no_writing (sym short ∙ writing));
+        kinds = λ why is. let same : Fault'.NoMemory ≡ why = cc (sym short ∙ is) in inr (inl (sym same));
         never_falls = omega (arith, ap faults same);
         stopped = λ why is. absurd (not_both (fault_of from) why well is);
       }
@@ -245,10 +256,15 @@ module _ {K : Type 0} (contents : K → Option (List ℕ)) (faults : K → ℕ) 
         written = w.written;
         front = λ _. subst (λ (k : K). AppendsFront (contents k) (contents (sink_of to)) (waiting_of from ++ answers f.bytes.items (server_of from))) sink (subst (λ (l : List ℕ). AppendsFront (contents (sink_of at)) (contents (sink_of to)) l) waiting w.front);
         cause = λ writing. inr (subst (λ (k : K). Rose (faults k) (faults (sink_of to))) sink (w.cause writing));
+        kinds = λ why is. inr (inr (wrote why is w.fault));
         never_falls = subst (λ (k : K). faults k ≤ faults (sink_of to)) sink w.never_falls;
         stopped = λ why is. absurd (not_both (fault_of from) why well is);
       }
     where
+      wrote : (why : Fault) → fault_of to ≡ Some why → (fault_of to ≡ None) ⊎ (fault_of to ≡ Some Fault'.Writing) → why ≡ Fault'.Writing
+      wrote why is (inl none) = absurd (not_both (fault_of to) why none is)
+      wrote why is (inr failed) = cc (sym is ∙ failed)
+
       told_on : waiting_of at ≡ waiting_of from ++ answers f.bytes.items (server_of from) → Tells contents faults at [] to → Tells contents faults from (answers f.bytes.items (server_of from)) to
       told_on waiting t =
           record {

@@ -70,8 +70,8 @@ module _ {K : Type 0} where
       pub never_falls : faults (sink_of from) ≤ faults (sink_of to)
 
     -- Of a frame a table became this one. Where it met no fault, its server is what the frame makes of it, and it has told the answers; all is
-    -- written where no frame follows at once. In any case a front of what it had to tell is written. A write failed where it says so. After
-    -- a fault a table stays as it is
+    -- written where no frame follows at once. In any case a front of what it had to tell is written. A write failed where it says so, and else
+    -- memory was missing. After a fault a table stays as it is
     pub record Serves (from : Table K) (f : Frame) (to : Table K) : Type 0 where
       pub well : fault_of to ≡ None → fault_of from ≡ None
       pub served : fault_of to ≡ None → server_of to ≡ (serves_frames (frames_in f.bytes.items) (server_of from)).server
@@ -79,17 +79,20 @@ module _ {K : Type 0} where
       pub written : fault_of to ≡ None → f.more ≡ false → waiting_of to ≡ []
       pub front : fault_of from ≡ None → AppendsFront (contents (sink_of from)) (contents (sink_of to)) (waiting_of from ++ answers f.bytes.items (server_of from))
       pub cause : fault_of to ≡ Some Fault'.Writing → (fault_of from ≡ Some Fault'.Writing) ⊎ Rose (faults (sink_of from)) (faults (sink_of to))
+      pub kinds : (why : Fault) → fault_of to ≡ Some why → (fault_of from ≡ Some why) ⊎ (why ≡ Fault'.NoMemory) ⊎ (why ≡ Fault'.Writing)
       pub never_falls : faults (sink_of from) ≤ faults (sink_of to)
       pub stopped : (why : Fault) → fault_of from ≡ Some why → to ≡ from
 
     -- Of all these frames, one after another, a table to which nothing came became this one. Where it met no fault, its server is what serving
-    -- them makes of it, and it has told the answers: they are written where the last frame ends a read. In any case a front of them is
+    -- them makes of it, and it has told the answers: they are written where the last frame ends a read. In any case a front of them is. A
+    -- write failed where it says so, and else memory was missing
     pub record HasServed (first : Table K) (frames : List Frame) (to : Table K) : Type 0 where
       pub served : fault_of to ≡ None → server_of to ≡ (serves_frames (frames_of frames) (server_of first)).server
       pub told : fault_of to ≡ None → Tells first (answers_to (frames_of frames) (server_of first)) to
       pub written : fault_of to ≡ None → EndsARead frames → Appends (contents (sink_of first)) (contents (sink_of to)) (answers_to (frames_of frames) (server_of first))
       pub front : AppendsFront (contents (sink_of first)) (contents (sink_of to)) (answers_to (frames_of frames) (server_of first))
       pub cause : fault_of to ≡ Some Fault'.Writing → Rose (faults (sink_of first)) (faults (sink_of to))
+      pub kinds : (why : Fault) → fault_of to ≡ Some why → (why ≡ Fault'.NoMemory) ⊎ (why ≡ Fault'.Writing)
 
     -- so it is of whatever frames
     abbrev pub TablesAnswer : Type 0

@@ -16,4 +16,4 @@ returns-clause-ended g c =
 pub returns-clause-read : goal.returns-clause-read
 returns-clause-read g c =
     let e = c.bring_stream-pass.ensures in
-    has_read g.S.Source.rest g.S.Source.read_faults c.args.ring.now c.bring_stream-pass.new.ring c.requires.none_sent e.same e.front e.brought e.whole e.ends e.reading e.frames
+    has_read g.S.Source.rest g.S.Source.read_faults c.args.ring.now c.bring_stream-pass.new.ring c.requires.none_sent e.same e.front e.brought e.whole e.ends e.reading e.frames e.life e.over e.others e.counted e.each

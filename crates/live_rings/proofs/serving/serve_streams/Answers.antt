@@ -30,7 +30,7 @@ pub gather_all-requires : goal.gather_all-requires
 gather_all-requires g c =
     let at = (goal.at.gather_all-requires g c).After-serve_groups in
     let few =
-    few_ended g.S.Source.rest g.K.Sink.contents g.K.Sink.write_faults (server_of c.args.setup.now) c.deref_mut.result.now c.serve_groups.new.groups (omega (arith, c.serve_groups.auto.groups)) c.serve_groups.ensures in
+    few_ended g.S.Source.rest g.S.Source.read_faults g.K.Sink.contents g.K.Sink.write_faults (server_of c.args.setup.now) c.deref_mut.result.now c.serve_groups.new.groups (omega (arith, c.serve_groups.auto.groups)) c.serve_groups.ensures in
     let many : many_in c.serve_groups.new.groups ≤ vec_capacity c.in_ok-room.room =
     omega (arith, few, ap length (dealt g at), c.in_ok-room.ensures.exact, c.len.ensures, c.args.ends.ok.0) in
     (c.in_ok-room.ensures.items, subst (λ (gs : List (Group g.row.S.Denot g.row.K.Denot)). many_in gs ≤ vec_capacity c.in_ok-room.room) (sym (back g at)) many)
@@ -40,7 +40,7 @@ returns g c =
     let at = (goal.at.returns g c).After-serve_groups in
     IfOk-weaker c.gather_all.result _ _
     (λ v h.
-    subst (λ (es : List (Ends g.row.S.Denot g.row.K.Denot)). AllEnded g.S.Source.rest g.K.Sink.contents g.K.Sink.write_faults (server_of c.args.setup.now) es v.items) (dealt g at)
-    (all_groups g.S.Source.rest g.K.Sink.contents g.K.Sink.write_faults (server_of c.args.setup.now) c.deref_mut.result.now c.serve_groups.new.groups v.items (omega (arith, c.serve_groups.auto.groups)) c.serve_groups.ensures
+    subst (λ (es : List (Ends g.row.S.Denot g.row.K.Denot)). AllEnded g.S.Source.rest g.S.Source.read_faults g.K.Sink.contents g.K.Sink.write_faults (server_of c.args.setup.now) es v.items) (dealt g at)
+    (all_groups g.S.Source.rest g.S.Source.read_faults g.K.Sink.contents g.K.Sink.write_faults (server_of c.args.setup.now) c.deref_mut.result.now c.serve_groups.new.groups v.items (omega (arith, c.serve_groups.auto.groups)) c.serve_groups.ensures
     (subst (λ (gs : List (Group g.row.S.Denot g.row.K.Denot)). HaveEnded gs v.items) (back g at) h)))
     c.gather_all.ensures

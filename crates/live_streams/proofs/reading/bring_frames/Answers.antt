@@ -5,11 +5,11 @@ use Rattle.live_server.proofs.FrameLemmas.{rest_last}
 use Rattle.live_tables.specs.declared.frame.Frame.{Frame}
 use Rattle.live_tables.specs.Taken.{EndsARead}
 use Rattle.live_streams.proofs.Bringing.{same_self}
-use Rattle.live_streams.proofs.Cuts.{all_brought, brought_more, ends_more, front_brought, rest_cut}
+use Rattle.live_streams.proofs.Cuts.{all_brought, brought_more, each_more, ends_more, front_brought, more_came, piece_carries_one, rest_cut}
 use Rattle.live_streams.proofs.reading.bring_frames.Goals as goal
 
 pub frames-init : goal.frames-init
-frames-init g c = record { may = c.requires.may; number = refl; same = same_self c.args.feeds.now; frames = refl; rest = refl; ends = λ _. c.requires.ends }
+frames-init g c = record { may = c.requires.may; number = refl; same = same_self c.args.feeds.now; frames = refl; rest = refl; ends = λ _. c.requires.ends; counted = refl; each = λ all. all }
 
 pub frames-preserved : goal.frames-preserved
 frames-preserved g c =
@@ -27,6 +27,10 @@ frames-preserved g c =
           ∙ i.frames;
       rest = sym (rest_cut xs c.in-Some.size f.bytes.items others c.in-Some.ensures.begins c.in-Some.ensures.size.0 piece c.split_at.ensures.back) ∙ i.rest;
       ends = λ e. subst EndsARead (sym c.bring_one-pass.ensures.sent) (ends_more (sent_of c.frames.feeds) f (c.follows-more.ensures e));
+      counted = c.bring_one-pass.ensures.counted ∙ i.counted;
+      each = λ all.
+          each_more (sent_of c.frames.feeds) (sent_of c.bring_one-pass.new.feeds) f
+          (piece_carries_one xs c.in-Some.size f.bytes.items others c.in-Some.ensures.begins c.in-Some.ensures.size.0 piece c.split_at.ensures.back) c.bring_one-pass.ensures.sent (i.each all);
     }
 
 pub returns-clause-brought : goal.returns-clause-brought
@@ -43,3 +47,6 @@ returns-clause-front g c = front_brought (sent_of c.frames.feeds) _ _ c.frames.i
 
 pub returns-in_default-from_slice-clause-front : goal.returns-in_default-from_slice-clause-front
 returns-in_default-from_slice-clause-front g c = front_brought (sent_of c.frames.feeds) _ _ c.frames.invariant.frames
+
+pub returns-then-left-eq0-clause-over : goal.returns-then-left-eq0-clause-over
+returns-then-left-eq0-clause-over g c = λ _. more_came (sent_of c.frames.feeds) c.frames.rest.now _ c.in-Some.ensures.begins c.frames.invariant.frames

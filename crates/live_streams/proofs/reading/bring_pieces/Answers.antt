@@ -5,7 +5,7 @@ use Rattle.squeue_streams.specs.Sourcing.{sent_of}
 use Rattle.squeue_streams.proofs.Chains.{same_both}
 use Rattle.live_tables.specs.Taken.{frames_of}
 use Rattle.live_streams.proofs.Bringing.{same_self}
-use Rattle.live_streams.proofs.Pieces.{front_of_piece, front_read, front_so_far, never_whole, ok_of, piece_brought, piece_kept}
+use Rattle.live_streams.proofs.Pieces.{front_of_piece, front_read, front_so_far, never_whole, ok_of, piece_brought, piece_kept, proper_of_piece}
 use Rattle.live_streams.proofs.reading.bring_pieces.Goals as goal
 
 pub pieces-init : goal.pieces-init
@@ -20,6 +20,8 @@ pieces-init g c = record {
   frames = sym (append-nil (frames_of (sent_of c.args.feeds.now)));
   left = c.new-pending.ensures.items;
   ends = c.requires.ends;
+  counted = refl;
+  each = λ all. all;
   read_well = refl;
 }
 
@@ -49,6 +51,13 @@ returns-in-Err-clause-frames g c = λ is.
     let broken = c.bring_piece-next.ensures.frames (c.in-Err.is ∙ is) in
     front_read _ _ (i.there ++ got) _ (Consumes-trans _ _ _ i.there got i.read c.in-Ok.ensures.bytes.0) (never_whole _ _ i.there c.pieces.pending.items i.left i.frames got broken.0 broken.1)
 
+pub returns-in-Err-clause-over : goal.returns-in-Err-clause-over
+returns-in-Err-clause-over g c = λ is.
+    let i = c.pieces.invariant in
+    let got = take c.in-Ok.read c.read.new.buf in
+    front_read _ _ (i.there ++ got) _ (Consumes-trans _ _ _ i.there got i.read c.in-Ok.ensures.bytes.0)
+    (proper_of_piece _ _ i.there c.pieces.pending.items i.left i.frames got _ (c.bring_piece-next.ensures.over (c.in-Err.is ∙ is)))
+
 pub pieces-preserved : goal.pieces-preserved
 pieces-preserved g c =
     let i = c.pieces.invariant in
@@ -66,5 +75,10 @@ pieces-preserved g c =
       frames = piece_brought _ _ i.there c.pieces.pending.items i.left i.frames got _ (ok_of brought none e.brought);
       left = piece_kept _ _ i.there c.pieces.pending.items i.left i.frames got _ (ok_of brought none e.left);
       ends = ok_of brought none e.ends;
+      counted = e.counted ∙ i.counted;
+      each = λ all. e.each (i.each all);
       read_well = c.in-Ok.ensures.kept ∙ i.read_well;
     }
+
+pub returns-in-Err-clause-each : goal.returns-in-Err-clause-each
+returns-in-Err-clause-each g c = λ all. c.bring_piece-next.ensures.each (c.pieces.invariant.each all)

@@ -20,7 +20,13 @@ returns-clause-frames g c = λ is. c.bring_pieces-pass.ensures.frames (err_where
 pub returns-clause-life : goal.returns-clause-life
 returns-clause-life g c = λ is. c.bring_pieces-pass.ensures.life (err_where c.bring_pieces-pass.result.1 c.err-ring.result Fault'.Life c.err-ring.ensures.value is)
 
+pub returns-clause-over : goal.returns-clause-over
+returns-clause-over g c = λ is. c.bring_pieces-pass.ensures.over (err_where c.bring_pieces-pass.result.1 c.err-ring.result Fault'.Life c.err-ring.ensures.value is)
+
 pub returns-clause-others : goal.returns-clause-others
 returns-clause-others g c =
-    let others = c.bring_pieces-pass.ensures.others in
-    (λ is. others.0 (err_where c.bring_pieces-pass.result.1 c.err-ring.result Fault'.Writing c.err-ring.ensures.value is), λ is. others.1 (err_where c.bring_pieces-pass.result.1 c.err-ring.result Fault'.Words c.err-ring.ensures.value is))
+    let others = c.bring_pieces-pass.ensures.others in (
+      λ is. others.0 (err_where c.bring_pieces-pass.result.1 c.err-ring.result Fault'.Writing c.err-ring.ensures.value is),
+      λ is. others.1 (err_where c.bring_pieces-pass.result.1 c.err-ring.result Fault'.Words c.err-ring.ensures.value is),
+      λ is. others.2 (err_where c.bring_pieces-pass.result.1 c.err-ring.result Fault'.Left c.err-ring.ensures.value is),
+    )

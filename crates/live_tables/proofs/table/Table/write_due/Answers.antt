@@ -1,5 +1,4 @@
-use Rattle.std.proofs.Common.{◌≡◌, rules, true}
-use Rattle.live_tables.proofs.Answering.{lets_wait, more_follows}
+use Rattle.live_tables.proofs.Answering.{more_follows}
 use Rattle.live_tables.proofs.table.Table.write_due.Goals as goal
 
 pub returns : goal.returns
