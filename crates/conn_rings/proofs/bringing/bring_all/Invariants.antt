@@ -1,0 +1,20 @@
+use Rattle.std.proofs.Common.{◌≡◌, length, None}
+use Rattle.turn_gate.specs.Passes.{number}
+use Rattle.placed_parts.specs.Placing.{limits_of}
+use Rattle.squeue_state.specs.Naming.{setting_of}
+use Rattle.live_server.specs.Frames.{frames_in}
+use Rattle.conn_table.specs.Lines.{seats_of}
+use Rattle.conn_rings.specs.Knowing.{KnowsConns}
+use Rattle.conn_rings.specs.Ports.{OnlyFares}
+use Rattle.conn_rings.proofs.Walks.{Walked}
+use Rattle.conn_rings.proofs.bringing.bring_all.Given as goal
+
+abbrev pub invariant-loop-c : goal.invariant-loop-c
+invariant-loop-c g l =
+    record {
+      knows : KnowsConns l.sq l.pass l.lines;
+      number : number l.pass ≡ number l.fn.pass;
+      count : length (seats_of l.lines) ≡ length (seats_of l.fn.lines);
+      walked : l.port.fault ≡ None → Walked (setting_of limits_of l.sq.given) (frames_in l.frame) l.c l.fn.lines l.lines;
+      port : OnlyFares g.K.Sink.write_faults l.fn.port l.port;
+    }

@@ -1,0 +1,36 @@
+use Rattle.std.proofs.Common.{◌∙◌, refl, [], arith}
+use Rattle.placed_parts.specs.Placing.{limits_of}
+use Rattle.squeue_state.specs.Naming.{setting_of}
+use Rattle.conn_rings.proofs.Faring.{only_self, only_then}
+use Rattle.conn_rings.proofs.Walks.{emptied_all, emptied_on, walked_all, walked_none, walked_on}
+use Rattle.conn_rings.proofs.bringing.close_all.Goals as goal
+
+pub loop-c-init : goal.loop-c-init
+loop-c-init g c =
+    record {
+      knows = c.requires.knows;
+      number = refl;
+      count = refl;
+      walked = λ none. walked_none (setting_of limits_of c.args.sq.now.given) [] c.args.lines.now;
+      emptied = λ none d lt. absurd (omega (arith, lt));
+      port = only_self g.K.Sink.write_faults c.args.port.now;
+    }
+
+pub loop-c-preserved : goal.loop-c-preserved
+loop-c-preserved g c =
+    let i = c.loop-c.invariant in
+    let e = c.close_one-pass.ensures in
+    record {
+      knows = e.knows;
+      number = e.number ∙ i.number;
+      count = e.elsewhere.count ∙ i.count;
+      walked = λ none. walked_on (setting_of limits_of c.args.sq.now.given) [] c.loop-c.c c.args.lines.now c.loop-c.lines c.close_one-pass.new.lines (i.walked (c.close_one-pass.ensures.port.fares.well none)) e.elsewhere (e.became none);
+      emptied = λ none. emptied_on c.loop-c.c c.loop-c.lines c.close_one-pass.new.lines (i.emptied (c.close_one-pass.ensures.port.fares.well none)) e.elsewhere (e.none none);
+      port = only_then g.K.Sink.write_faults c.args.port.now c.loop-c.port c.close_one-pass.new.port i.port e.port;
+    }
+
+pub returns-clause-all : goal.returns-clause-all
+returns-clause-all g c = λ none. walked_all (setting_of limits_of c.args.sq.now.given) [] c.loop-c.c c.args.lines.now c.loop-c.lines (omega (arith, c.loop-c-test.false, c.count-c-end.ensures)) (c.loop-c.invariant.walked none)
+
+pub returns-clause-none : goal.returns-clause-none
+returns-clause-none g c = λ none. emptied_all c.loop-c.c c.loop-c.lines (let count = c.loop-c.invariant.count in omega (arith, c.loop-c-test.false, c.count-c-end.ensures, count)) (c.loop-c.invariant.emptied none)

@@ -1,0 +1,5 @@
+pub mod Ports
+pub mod Opening
+pub mod Knowing
+pub mod Going
+pub mod Serving

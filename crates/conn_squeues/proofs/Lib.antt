@@ -1,0 +1,4 @@
+pub mod Jobs
+pub mod OneRun
+pub mod Groups
+pub mod Rings
