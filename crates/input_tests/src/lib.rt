@@ -17,3 +17,5 @@ mod plans;
 mod segments;
 #[cfg(test)]
 mod streams;
+#[cfg(test)]
+mod words;
