@@ -97,7 +97,7 @@ class Client:
         self.server, self.port, self.service, self.fields = server, port, service, fields
         answer, = server.step(self.segment(isn, 0, SYN, options=options))
         assert (answer.flags, answer.ack) == (SYN | ACK, isn + 1), answer
-        self.seq, self.ack = isn + 1, answer.seq + 1
+        self.seq, self.ack, self.announced = isn + 1, answer.seq + 1, answer.options
         assert server.step(self.segment(self.seq, self.ack, ACK)) == []
 
     def segment(self, seq, ack, flags, **fields):

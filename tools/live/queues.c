@@ -1,6 +1,6 @@
 /* Moves datagrams between the queues of a TUN device and the pipes of a server's rings.
 
-     queues JOIN COUNTS TUN IN OUT [TUN IN OUT ..]       from COUNTS on, each word is the number of a descriptor that it inherits
+     queues JOIN COUNTS CAPTURE TUN IN OUT [TUN IN OUT ..]       from COUNTS on, each word is the number of a descriptor that it inherits
 
    For each queue, one thread takes datagrams from TUN and writes them to the pipe IN as frames, and one takes frames from the pipe OUT and
    writes their datagrams to TUN. A frame is a length and a time in eight bytes each, big-endian, and so many bytes; the time is in
@@ -15,7 +15,9 @@
    the device has one segment in each datagram, and no head.
 
    SIGTERM ends each IN, so that the server answers what came, and ends. When each OUT has ended, so does the program.
-   COUNTS is a file of memory that the launcher reads: what each queue brought and took. */
+   COUNTS is a file of memory that the launcher reads: what each queue brought and took.
+   CAPTURE, where it isn't -1, gets what is brought and taken as pcap (raw IP, TCP alone), what is brought with the time of its frame: so the
+   capture has the times that the server had, which a tap beside the device has not. JOIN is 0 then. */
 #define _GNU_SOURCE
 #include <arpa/inet.h>
 #include <errno.h>
@@ -34,6 +36,7 @@
 #include <unistd.h>
 
 enum { HEAD = 16, LONGEST = 65535, GATHERED = 1 << 16, TICK = 20000 };
+enum { PCAP_MAGIC = 0xA1B2C3D4, RAW_IP = 101, TCP_PROTOCOL = 6, PROTOCOL = 9 };
 enum { IP_LENGTH = 2, IP_SUM = 10, ENDS = 12, TCP = 20, SEQ = 24, ACK = 28, FLAGS = 33, WINDOW = 34, TCP_SUM = 36, TEXT = 40, PSH_FLAG = 8, ACK_FLAG = 16 };
 
 /* One direction of a queue, in a line of the processor's cache that no other thread writes. */
@@ -46,6 +49,10 @@ static atomic_bool ending;
 /* How long the device's head of a datagram is: it has its place in the end of a frame's head, which is read by then, or isn't written yet. */
 static size_t device_head;
 static struct timespec start;
+/* What was brought and taken, in the order of its times, where it is kept; and the time at the start, in microseconds since 1970. */
+static FILE *capture;
+static pthread_mutex_t capturing = PTHREAD_MUTEX_INITIALIZER;
+static uint64_t begun;
 
 static uint64_t now(void) {
     struct timespec t;
@@ -81,6 +88,36 @@ static int write_whole(int to, const unsigned char *bytes, size_t length) {
         if (n > 0) at += n;
     }
     return 1;
+}
+
+static void begin_capture(int to) {
+    uint32_t head[6] = { PCAP_MAGIC, 2 | 4 << 16, 0, 0, LONGEST, RAW_IP };
+    struct timespec t;
+    clock_gettime(CLOCK_REALTIME, &t);
+    begun = t.tv_sec * 1000000ull + t.tv_nsec / 1000;
+    capture = fdopen(to, "wb");
+    if (capture) fwrite(head, sizeof head, 1, capture);
+}
+
+/* Keeps a datagram that is brought or taken now, where it is to be kept, and tells the time. */
+static uint64_t kept(const unsigned char *datagram, size_t length) {
+    if (!capture) return now();
+    pthread_mutex_lock(&capturing);
+    uint64_t time = now(), at = begun + time;
+    if (length >= TCP && datagram[0] >> 4 == 4 && datagram[PROTOCOL] == TCP_PROTOCOL) {
+        uint32_t head[4] = { at / 1000000, at % 1000000, length, length };
+        fwrite(head, sizeof head, 1, capture);
+        fwrite(datagram, length, 1, capture);
+    }
+    pthread_mutex_unlock(&capturing);
+    return time;
+}
+
+/* Ends the capture: it lacks something where it couldn't be written. */
+static int end_capture(void) {
+    if (!capture) return 1;
+    int lacks = ferror(capture);
+    return !(fclose(capture) || lacks);
 }
 
 /* The sum of RFC 1071, in this machine's order of bytes, and not negated. */
@@ -126,7 +163,7 @@ static ssize_t take_datagrams(struct queue *q, unsigned char *frames, size_t use
             break;
         }
         if (device_head) fill_sum(frames + used + HEAD, n);
-        used += put_head(frames + used, n, now()) + n;
+        used += put_head(frames + used, n, kept(frames + used + HEAD, n)) + n;
         datagrams++;
         bytes += n;
     }
@@ -144,6 +181,7 @@ static void *take(void *of) {
         if (at >= next) {
             used = put_head(frames, 0, at);
             next = at + TICK;
+            if (capture) fflush(capture);
         } else {
             struct pollfd waits = { q->tun, POLLIN, 0 };
             poll(&waits, 1, (next - at) / 1000 + 1);
@@ -173,12 +211,13 @@ static void put_datagram(struct queue *q, struct joined *all) {
             ip[IP_LENGTH + 1] = all->length;
             put_sum(ip + IP_SUM, 0);
             put_sum(ip + IP_SUM, ~sum_of(ip, TCP, 0));
-            put_sum(ip + TCP_SUM, sum_of(ip + ENDS, TCP - ENDS, htons(6) + htons(all->length - TCP)));
+            put_sum(ip + TCP_SUM, sum_of(ip + ENDS, TCP - ENDS, htons(TCP_PROTOCOL) + htons(all->length - TCP)));
             head = (struct virtio_net_hdr){ .flags = VIRTIO_NET_HDR_F_NEEDS_CSUM, .gso_type = VIRTIO_NET_HDR_GSO_TCPV4, .hdr_len = TEXT, .gso_size = all->text,
                                             .csum_start = TCP, .csum_offset = TCP_SUM - TCP };
         }
         memcpy(all->datagram - device_head, &head, device_head);
     }
+    kept(all->datagram, all->length);
     if (write(q->tun, all->datagram - device_head, device_head + all->length) < 0)
         atomic_fetch_add_explicit(&q->outward->refused, all->count, memory_order_relaxed);
     all->count = 0;
@@ -186,7 +225,7 @@ static void put_datagram(struct queue *q, struct joined *all) {
 
 /* Whether a datagram is a segment with text over IPv4, neither with options, that only acknowledges and may push. */
 static int is_plain(const unsigned char *datagram, size_t length) {
-    return length > TEXT && datagram[0] == 0x45 && datagram[9] == 6 && datagram[32] == 0x50 && (datagram[FLAGS] & ~PSH_FLAG) == ACK_FLAG;
+    return length > TEXT && datagram[0] == 0x45 && datagram[PROTOCOL] == TCP_PROTOCOL && datagram[32] == 0x50 && (datagram[FLAGS] & ~PSH_FLAG) == ACK_FLAG;
 }
 
 static uint32_t seq_of(const unsigned char *datagram) {
@@ -263,11 +302,11 @@ static void *await_end(void *signals) {
 }
 
 int main(int words, char **word) {
-    if (words < 6 || words % 3 != 0) {
-        fputs("usage: queues JOIN COUNTS TUN IN OUT [TUN IN OUT ..]\n", stderr);
+    if (words < 7 || words % 3 != 1) {
+        fputs("usage: queues JOIN COUNTS CAPTURE TUN IN OUT [TUN IN OUT ..]\n", stderr);
         return 2;
     }
-    long queues = (words - 3) / 3;
+    long queues = (words - 4) / 3;
     device_head = atoi(word[1]) ? sizeof(struct virtio_net_hdr) : 0;
     struct queue *of = calloc(queues, sizeof *of);
     struct counts *counts = mmap(0, 2 * queues * sizeof *counts, PROT_READ | PROT_WRITE, MAP_SHARED, atoi(word[2]), 0);
@@ -276,6 +315,7 @@ int main(int words, char **word) {
         return 1;
     }
     clock_gettime(CLOCK_MONOTONIC, &start);
+    if (atoi(word[3]) >= 0) begin_capture(atoi(word[3]));
     signal(SIGPIPE, SIG_IGN);
     sigset_t end;
     sigemptyset(&end);
@@ -284,7 +324,7 @@ int main(int words, char **word) {
     pthread_t other;
     int failed = pthread_create(&other, 0, await_end, &end);
     for (long k = 0; k < queues; k++) {
-        char **its = word + 3 + 3 * k;
+        char **its = word + 4 + 3 * k;
         of[k] = (struct queue){ atoi(its[0]), atoi(its[1]), atoi(its[2]), k, counts + 2 * k, counts + 2 * k + 1, 0 };
         fcntl(of[k].tun, F_SETFL, O_NONBLOCK);
         failed |= pthread_create(&of[k].reads, 0, give, of + k) || pthread_create(&other, 0, take, of + k);
@@ -294,5 +334,7 @@ int main(int words, char **word) {
         return 1;
     }
     for (long k = 0; k < queues; k++) pthread_join(of[k].reads, 0);
-    return 0;
+    if (end_capture()) return 0;
+    fputs("queues: the capture lacks what couldn't be written\n", stderr);
+    return 1;
 }

@@ -47,19 +47,21 @@ class Pipes:
 
 
 class Rings:
-    """The server and what moves its datagrams, both as nobody. The queues are handed over, and closed here."""
-    def __init__(self, program, queues, words, long_segments, **layout):
+    """The server and what moves its datagrams, both as nobody. The queues are handed over, and closed here; so is the capture, where one is kept."""
+    def __init__(self, program, queues, words, long_segments, capture=None, **layout):
         pipes, size = Pipes(len(queues)), 2 * DIRECTION * len(queues)
         counts = os.memfd_create("counts")
         os.ftruncate(counts, size)
         self.rings, self.counts = len(queues), mmap.mmap(counts, size, prot=mmap.PROT_READ)
-        of_mover = [counts, *(end for queue, to, back in zip(queues, pipes.to_rings, pipes.from_rings) for end in (queue, to[1], back[0]))]
+        of_mover = [end for queue, to, back in zip(queues, pipes.to_rings, pipes.from_rings) for end in (queue, to[1], back[0])]
         apart = {"stdin": subprocess.DEVNULL, "start_new_session": True}
         with tempfile.TemporaryDirectory() as folder:
             mover = compiled(folder)
             self.server = as_nobody(program, ["sqlive_rings", *rings_words(self.rings, **layout), *words, *pipes.words()], pipes.of_server, **apart)
-            self.mover = as_nobody(mover, ["queues", str(int(long_segments)), *map(str, of_mover)], of_mover, **apart)
-        for end in (*pipes.of_server, *of_mover):
+            kept = [] if capture is None else [os.open(capture, os.O_WRONLY | os.O_CREAT | os.O_TRUNC, 0o644)]
+            told = [int(long_segments), counts, *(kept or [-1]), *of_mover]
+            self.mover = as_nobody(mover, ["queues", *map(str, told)], [counts, *kept, *of_mover], **apart)
+        for end in (*pipes.of_server, counts, *kept, *of_mover):
             os.close(end)
 
     def counted(self):
@@ -84,6 +86,9 @@ class Rings:
         except subprocess.TimeoutExpired:
             self.server.kill()
         self.server.wait()
-        self.mover.kill()
+        try:
+            self.mover.wait(seconds)
+        except subprocess.TimeoutExpired:
+            self.mover.kill()
         self.mover.wait()
         return self.server.returncode

@@ -1,4 +1,6 @@
 """What a server beside its blocks does with what strangers send: one function a rule, each over frames."""
+import struct
+
 from framed import SECOND, Client, Framed, datagram
 from tcp_segments import ACK, FIN, PSH, RST, SYN
 
@@ -131,9 +133,10 @@ def ports(program):
 
 
 def path_mtu(program):
-    """Where the paths take 1,300 bytes nothing longer is sent (RFC 9293, 3.7.1), also to a client that takes more, and also where it comes again."""
+    """Where the paths take 1,300 bytes nothing longer is announced or sent (RFC 9293, 3.7.1), also to a client that takes more, and also where it comes again."""
     with Framed(program, mtu=1300) as server:
         client, text = Client(server), bytes(range(250)) * 10
+        assert client.announced == struct.pack(">BBH", 2, 4, 1260), client.announced
         sent = client.send(text[:1400]) + client.send(text[1400:])
         assert b"".join(s.text for s in sent) == text and {len(s.text) for s in sent} == {1260, 140, 1100}, sent
         again = server.step(after=SECOND)

@@ -33,6 +33,7 @@ class Segment:
     ack: int
     flags: int
     text: bytes
+    options: bytes = b""
 
     def seq_end(self):
         """The sequence number behind the segment, a SYN and a FIN counted."""
@@ -46,4 +47,4 @@ def read(datagram):
     tcp = datagram[20:]
     assert inet_sum(datagram[12:20] + struct.pack(">BBH", 0, 6, len(tcp)) + tcp) == 0, "the segment's sum"
     source_port, target_port, seq, ack, offset, flags = struct.unpack(">HHIIBB", tcp[:14])
-    return Segment(datagram[12:16], source_port, datagram[16:20], target_port, seq, ack, flags, tcp[4 * (offset >> 4):])
+    return Segment(datagram[12:16], source_port, datagram[16:20], target_port, seq, ack, flags, tcp[4 * (offset >> 4):], tcp[20:4 * (offset >> 4)])

@@ -117,7 +117,7 @@ class Queues(unittest.TestCase):
     HEAD, DEVICE = struct.Struct(">QQ"), struct.Struct("=BBHHHH")
     NEEDS_SUM, TCP = 1, 1
 
-    def start(self, join):
+    def start(self, join, capture=None):
         need("cc")
         folder = tempfile.TemporaryDirectory()
         self.addCleanup(folder.cleanup)
@@ -125,8 +125,9 @@ class Queues(unittest.TestCase):
         self.device.settimeout(30)
         to_ring, from_ring, self.counts = os.pipe(), os.pipe(), os.memfd_create("counts")
         os.ftruncate(self.counts, 2 * rings.DIRECTION)
-        ends = [self.counts, queue.fileno(), to_ring[1], from_ring[0]]
-        self.program = subprocess.Popen([rings.compiled(folder.name), str(int(join)), *map(str, ends)], pass_fds=ends, stderr=subprocess.PIPE)
+        ends, kept = [queue.fileno(), to_ring[1], from_ring[0]], [] if capture is None else [capture]
+        words = [int(join), self.counts, *(kept or [-1]), *ends]
+        self.program = subprocess.Popen([rings.compiled(folder.name), *map(str, words)], pass_fds=[self.counts, *kept, *ends], stderr=subprocess.PIPE)
         queue.close()
         for pipe in (to_ring[1], from_ring[0]):
             os.close(pipe)
@@ -146,8 +147,8 @@ class Queues(unittest.TestCase):
         """A datagram of the device, and the frame that the ring gets for it."""
         self.device.send((self.DEVICE.pack(*head) if self.join else b"") + datagram)
         while True:
-            length, time = self.HEAD.unpack(self.ring[0].read(16))
-            self.assertGreater(time, 0)
+            length, self.time = self.HEAD.unpack(self.ring[0].read(16))
+            self.assertGreater(self.time, 0)
             if length:
                 return self.ring[0].read(length)
 
@@ -173,6 +174,29 @@ class Queues(unittest.TestCase):
             self.assertEqual(self.got(), (None, datagram))
         counts = os.pread(self.counts, 128, 0)
         self.assertEqual(struct.unpack_from("QQQ", counts), (4, sum(map(len, some)), 0))
+
+    def test_a_capture(self):
+        """What is brought stands in the capture with the time of its frame; what is no TCP doesn't."""
+        with tempfile.NamedTemporaryFile(buffering=0) as capture:
+            self.start(join=False, capture=capture.fileno())
+            some = [self.segment(0, b"one"), b"no datagram", self.segment(3, bytes(1460))]
+            brought = [(self.comes(datagram), self.time)[1] for datagram in some]
+            self.goes(some[0])
+            self.got()
+            self.program.terminate()
+            self.ring[1].close()
+            self.assertEqual(self.program.wait(30), 0)
+            capture.seek(0)
+            told = capture.read()
+        self.assertEqual(told[:24], struct.pack("<IHHIIII", 0xA1B2C3D4, 2, 4, 0, 0, 65535, 101))
+        found, at = [], 24
+        while at < len(told):
+            seconds, part, length, whole = struct.unpack_from("<IIII", told, at)
+            self.assertEqual(length, whole)
+            found.append((seconds * 10**6 + part, told[at + 16:at + 16 + length]))
+            at += 16 + length
+        self.assertEqual([datagram for _, datagram in found], [some[0], some[2], some[0]])
+        self.assertEqual(found[1][0] - found[0][0], brought[2] - brought[0])
 
     def test_the_time_alone(self):
         self.start(join=True)
