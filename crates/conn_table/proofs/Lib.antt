@@ -1,3 +1,4 @@
 pub mod Keeping
 pub mod Looks
 pub mod Comings
+pub mod Sights

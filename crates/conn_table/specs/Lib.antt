@@ -1,2 +1,4 @@
 pub mod Lines
 pub mod Knowing
+pub mod Glances
+pub mod Looking

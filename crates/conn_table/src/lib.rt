@@ -14,6 +14,7 @@ mod looking;
 mod opening;
 mod over;
 mod seat;
+mod sight;
 
 pub use bringing::bring_line;
 pub use closing::{Gone, close_line, enter_line};
@@ -21,3 +22,4 @@ pub use lines::{Lines, MOST};
 pub use looking::look_over;
 pub use opening::open_line;
 pub use seat::{Line, Seat};
+pub use sight::Sight;

@@ -1,42 +1,72 @@
-//! Which connections are over.
+//! What a look reads of the parts.
+
+ghost use Rattle.std.specs.Prelude.{◌≡◌, IfOk, map};
+ghost use Rattle.placed_parts.specs.Placing.{parts_of};
+ghost use Rattle.conn_table.specs.Glances.{glance_at, glance_of};
 
 use live_conns::{Conversations, Item};
-use live_tables::Table;
+use live_tables::{Fault, Table};
 use sq_base::Sink;
 use squeue_look::Reads;
 use squeue_streams::Stream;
-use std::alloc::Global;
+use std::alloc::{AllocError, Global};
 use std::sync::Wait;
 
-/// Reads of the part of each place whether it is over: its server has no connection.
+/// What is read of the table at a place: whether its server has no connection, and what went wrong there first.
+#[derive(Clone, Copy, Debug, PartialEq, Eq)]
+pub(crate) struct Glance {
+    pub(crate) over: bool,
+    pub(crate) fault: Option<Fault>,
+}
+
+/// Reads the part of each place. There is nothing to read where no part is here, or no connection began there yet.
 #[derive(Drop)]
 pub(crate) struct Over {
     pub(crate) alloc: Global,
 }
 
 impl<K: Sink + Drop, H: Wait + Drop> Reads<Conversations<K, H>> for Over {
-    type Seen = Vec<bool>;
+    type Seen = Result<Vec<Option<Glance>>, AllocError>;
 
-    ghost says = { λ _ _ _. Unit {0} };
+    ghost says = { λ _ seats seen. IfOk seen (λ glances. glances.items ≡ map glance_at (parts_of seats)) };
 
-    fn read(&self, seats: &Conversations<K, H>) -> Vec<bool> {
-        let mut over = Vec::new(self.alloc);
-        for part in seats.parts() {
-            if over.push(is_over(part)).is_err() {
-                return over;
-            }
-        }
-        over
+    fn read(&self, seats: &Conversations<K, H>) -> Result<Vec<Option<Glance>>, AllocError> {
+        glances(self.alloc, seats.parts())
     }
 }
 
-// Whether a part is here, and its server has no connection.
-fn is_over<K: Sink + Drop>(part: &Option<Stream<Item<K>, Option<Table<K>>>>) -> bool {
+// What is read of each of these.
+fn glances<K: Sink + Drop>(
+    alloc: Global,
+    parts: &[Option<Stream<Item<K>, Option<Table<K>>>>],
+) -> Result<Vec<Option<Glance>>, AllocError>
+    ensures { IfOk result (λ glances. glances.items ≡ map glance_at parts.now) }
+{
+    let mut glances = Vec::with_capacity(alloc, parts.len())?;
+    for part in parts {
+        glances.push_reserved(read_part(part));
+    }
+    Ok(glances)
+}
+
+// What is read of one.
+fn read_part<K: Sink + Drop>(part: &Option<Stream<Item<K>, Option<Table<K>>>>) -> Option<Glance>
+    ensures { result ≡ glance_at part.now }
+{
     match part {
         Some(stream) => match stream.state() {
-            Some(table) => table.connections() == 0,
-            None => true,
+            Some(table) => Some(glance_of(table)),
+            None => None,
         },
-        None => false,
+        None => None,
+    }
+}
+
+fn glance_of<K: Sink + Drop>(table: &Table<K>) -> Glance
+    ensures { result ≡ glance_of table.now }
+{
+    Glance {
+        over: table.connections() == 0,
+        fault: table.fault(),
     }
 }
