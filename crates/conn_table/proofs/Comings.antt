@@ -1,9 +1,9 @@
 -- How a connection comes to a place and leaves it.
-use Rattle.std.proofs.Common.{◌≡◌, ◌≢◌, ℕ, ◌+◌, ◌%◌, ◌<◌, ◌≤◌, Option, Some, List, [], ◌∷◌, ◌++◌, length, refl, ap, sym, ◌∙◌, subst, arith, Global}
+use Rattle.std.proofs.Common.{◌≡◌, ℕ, ◌+◌, ◌≤◌, Option, Some, List, [], ◌∷◌, ◌++◌, length, refl, ap, sym, ◌∙◌, subst, Global}
 use Rattle.rtrb.specs.declared.AnyItems.{AnyItems}
 use Rattle.rtrb.specs.declared.producer.Producer.{Producer}
 use Rattle.rtrb.specs.Ring.{sent}
-use Rattle.turn_gate.specs.Passes.{number, seen}
+use Rattle.turn_gate.specs.Passes.{number}
 use Rattle.turn_gate.specs.declared.pass.Pass.{Pass}
 use Rattle.perimeter_core.specs.History.{Element, Limits, Setting}
 use Rattle.perimeter_core.specs.Deeds.{acts, fed}
@@ -12,7 +12,7 @@ use Rattle.squeue_streams.specs.declared.streams.Stream.{Stream}
 use Rattle.squeue_streams.specs.Taking.{IsStreamOf, state_of}
 use Rattle.stream_stays.specs.declared.stay.Stay.{Stay}
 use Rattle.stream_stays.specs.declared.stay.Vacant.{Vacant}
-use Rattle.stream_stays.specs.Staying.{IsAway, IsBegun, IsOfRing, LeavesOthers, SameStay, StaysAt, before_of, entered_of, leaves_of, producer_of, sent_of, stream_of}
+use Rattle.stream_stays.specs.Staying.{IsAway, IsBegun, IsOfRing, LeavesOthers, SameStay, StaysAt, before_of, entered_of, producer_of, sent_of, stream_of}
 use Rattle.stream_stays.proofs.Rings.{of_ring}
 use Rattle.live_server.specs.Serving.{ServerOf}
 use Rattle.live_tables.specs.declared.frame.Frame.{Frame}

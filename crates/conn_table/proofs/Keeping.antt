@@ -1,6 +1,5 @@
 -- What a pass knows of its places after a call at one of them.
-use Rattle.std.proofs.Common.{◌≡◌, ◌≢◌, ℕ, zero, suc, ◌+◌, ◌%◌, ◌<◌, ◌≤◌, ◌==◌, Bool, true, false, Option, Some, List, [], ◌∷◌, ◌++◌, length, slice_get, refl, ap, sym, ◌∙◌, subst, arith, append_assoc}
-use Rattle.std.specs.Prelude.{map}
+use Rattle.std.proofs.Common.{◌≡◌, ◌≢◌, ℕ, ◌+◌, ◌%◌, ◌<◌, ◌==◌, Bool, true, false, Option, Some, List, [], ◌∷◌, ◌++◌, length, refl, ap, sym, ◌∙◌, subst, arith, append_assoc}
 use Rattle.std.proofs.lemmas.Bool.Decides.{nat_tests}
 use Rattle.std.proofs.lemmas.List.{map-append}
 use Rattle.turn_gate.specs.Passes.{number, seen}
@@ -11,8 +10,7 @@ use Rattle.perimeter_core.specs.Deeds.{due}
 use Rattle.squeue_state.specs.Naming.{Named, setting_of}
 use Rattle.conn_migrate.specs.Moving.{IsKept}
 use Rattle.stream_stays.specs.declared.stay.Stay.{Stay}
-use Rattle.stream_stays.specs.declared.stay.Vacant.{Vacant}
-use Rattle.stream_stays.specs.Staying.{HasLife, IsAway, IsOfRing, LeavesOthers, SameStay, StaysAt, before_of, entered_of, leaves_of, producer_of, sent_of, stream_of}
+use Rattle.stream_stays.specs.Staying.{HasLife, IsAway, IsOfRing, LeavesOthers, SameStay, StaysAt, before_of, entered_of, producer_of, sent_of, stream_of}
 use Rattle.stream_stays.proofs.Rings.{of_ring}
 use Rattle.live_tables.specs.declared.frame.Frame.{Frame}
 use Rattle.live_tables.specs.declared.table.Table.{Table}
@@ -26,7 +24,7 @@ use Rattle.conn_table.specs.declared.seat.Seat.{Seat}
 use Rattle.conn_table.specs.declared.seat.Seat.TheVariants.{Free, Taken, Out}
 use Rattle.sq_base.specs.declared.kinds.Tuple.{Tuple}
 use Rattle.conn_table.specs.Lines.{CanOpen, HasEnds, HasFrame, IsBrought, IsOpen, IsFresh, SameElsewhere, SameLine, WasBrought, ends_of, life_of, seat_at, seats_of, stay_of}
-use Rattle.conn_table.specs.Knowing.{FreeAt, IsSeat, Knows, TakenAt, WasServed}
+use Rattle.conn_table.specs.Knowing.{IsSeat, Knows, TakenAt, WasServed}
 
 -- a stay goes on at a pass that has changed nothing of its stream
 module _ {R : Type 0} (limits : R → Limits) (s : Named R) (p q : Pass Element) (same : number q ≡ number p) where

@@ -1,25 +1,23 @@
 -- What was read of a ring's places, and what it tells.
-use Rattle.std.proofs.Common.{◌≡◌, ℕ, zero, suc, ◌+◌, ◌%◌, ◌<◌, ◌==◌, ◌++◌, Bool, true, false, if◌then◌else◌, Option, None, Some, List, [], ◌∷◌, length, map, slice_get, slice_index_or, refl, ap, sym, ◌∙◌, subst, arith}
+use Rattle.std.proofs.Common.{◌≡◌, ℕ, zero, suc, ◌%◌, ◌++◌, Bool, true, false, if◌then◌else◌, Option, None, Some, List, [], ◌∷◌, length, map, slice_get, slice_index_or, refl, ap, sym, ◌∙◌, subst}
 use Rattle.turn_gate.specs.Passes.{number, seen}
 use Rattle.turn_gate.specs.declared.pass.Pass.{Pass}
 use Rattle.perimeter_core.specs.declared.entries.Act.{Act}
 use Rattle.perimeter_core.specs.Perimeter.{is_here}
 use Rattle.perimeter_core.specs.History.{Element, Setting, run}
 use Rattle.perimeter_core.specs.Deeds.{acts, due, fed}
-use Rattle.perimeter_core.specs.Blocks.{Blocks, peri}
+use Rattle.perimeter_core.specs.Blocks.{peri}
 use Rattle.placed_parts.specs.declared.parts.Parts.{Ghosts}
 use Rattle.placed_parts.specs.declared.places.Places.{Places}
 use Rattle.placed_parts.specs.Placing.{MayBe, Stands, limits_of, origin_of, parts_of}
 use Rattle.placed_parts.specs.Standing.{PlaceAt}
-use Rattle.rtrb.specs.Ring.{IsPair}
 use Rattle.squeue_state.specs.Naming.{Named, setting_of}
 use Rattle.squeue_streams.specs.declared.streams.Stream.{Stream}
-use Rattle.squeue_streams.specs.Taking.{HasTaken, IsStreamOf, Takes, input_of, items_of, state_of}
-use Rattle.stream_stays.specs.Staying.{IsOfRing, before_of, entered_of, producer_of, stream_of}
+use Rattle.squeue_streams.specs.Taking.{HasTaken, IsStreamOf, Takes, state_of}
+use Rattle.stream_stays.specs.Staying.{IsOfRing, before_of, entered_of, producer_of}
 use Rattle.stream_stays.proofs.Rings.{its_pair, takes_behind}
-use Rattle.live_tables.specs.declared.frame.Frame.{Frame}
 use Rattle.live_tables.specs.declared.table.Table.{Table}
-use Rattle.live_tables.specs.Tables.{HasServed, fault_of, server_of, sink_of}
+use Rattle.live_tables.specs.Tables.{server_of, sink_of}
 use Rattle.live_conns.specs.declared.item.Item.{Item}
 use Rattle.live_conns.specs.declared.place.Conns.{Conns}
 use Rattle.live_conns.specs.Conns.{Comes, IsFirst, brought}
@@ -30,7 +28,7 @@ use Rattle.conn_table.specs.declared.seat.Line.{Line}
 use Rattle.conn_table.specs.declared.seat.Seat.{Seat}
 use Rattle.conn_table.specs.declared.seat.Seat.TheVariants.{Free, Taken, Out}
 use Rattle.conn_table.specs.declared.sight.Sight.{Sight}
-use Rattle.conn_table.specs.Lines.{IsFresh, is_taken, seat_at, seats_of, stay_of}
+use Rattle.conn_table.specs.Lines.{is_taken, stay_of}
 use Rattle.conn_table.specs.Knowing.{Knows, TakenAt}
 use Rattle.conn_table.specs.Glances.{AreSights, glance_at, glanced, seat_sight, sight_by}
 use Rattle.conn_table.specs.Looking.{TellsAll, WasSeen, sight_of}

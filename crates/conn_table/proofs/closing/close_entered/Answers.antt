@@ -1,12 +1,12 @@
-use Rattle.std.proofs.Common.{◌≡◌, ◌≤◌, ℕ, ◌∙◌, Some, sym, subst, refl, ap}
+use Rattle.std.proofs.Common.{◌≡◌, ℕ, sym, subst}
 use Rattle.placed_parts.specs.Placing.{limits_of, origin_of}
 use Rattle.squeue_state.specs.Naming.{setting_of}
 use Rattle.squeue_state.specs.declared.guarded.Life.{Life}
 use Rattle.turn_gate.specs.Passes.{seen}
-use Rattle.stream_stays.specs.Staying.{HasLife, LeavesOthers, entered_of, pushed_of, stream_of}
+use Rattle.stream_stays.specs.Staying.{HasLife, LeavesOthers, entered_of, pushed_of}
 use Rattle.conn_table.specs.declared.seat.Line.{Line}
 use Rattle.conn_table.specs.declared.seat.Seat.TheVariants.{Free, Taken}
-use Rattle.conn_table.specs.Lines.{ends_of, stay_of}
+use Rattle.conn_table.specs.Lines.{stay_of}
 use Rattle.conn_table.specs.Knowing.{FreeAt, TakenAt, WasServed}
 use Rattle.conn_table.proofs.Keeping.{elsewhere_by, knows_next, same_taken}
 use Rattle.conn_table.proofs.Comings.{taken_here}

@@ -1,4 +1,4 @@
-use Rattle.std.proofs.Common.{◌≡◌, ◌∙◌, ◌⊎◌, inl, inr, ap, subst, arith}
+use Rattle.std.proofs.Common.{◌≡◌, ◌∙◌, inl, inr, ap, subst, arith}
 use Rattle.turn_gate.specs.Passes.{seen}
 use Rattle.placed_parts.specs.Placing.{limits_of}
 use Rattle.squeue_state.specs.Naming.{setting_of}

@@ -1,11 +1,10 @@
-use Rattle.std.proofs.Common.{◌≡◌, ◌≤◌, ℕ, ◌∙◌, Some, sym, subst, refl, ap}
+use Rattle.std.proofs.Common.{ℕ, sym, subst, refl}
 use Rattle.placed_parts.specs.Placing.{limits_of, origin_of}
 use Rattle.squeue_state.specs.declared.guarded.Life.{Life}
-use Rattle.stream_stays.specs.Staying.{HasLife, LeavesOthers, StaysAt, stream_of}
+use Rattle.stream_stays.specs.Staying.{HasLife, LeavesOthers}
 use Rattle.conn_table.specs.declared.seat.Line.{Line}
-use Rattle.conn_table.specs.declared.seat.Seat.TheVariants.{Free, Taken}
-use Rattle.conn_table.specs.Lines.{SameLine, stay_of}
-use Rattle.conn_table.specs.Knowing.{FreeAt, IsSeat, TakenAt}
+use Rattle.conn_table.specs.declared.seat.Seat.TheVariants.{Taken}
+use Rattle.conn_table.specs.Knowing.{TakenAt}
 use Rattle.conn_table.proofs.Keeping.{brought_by, elsewhere_by, knows_next, taken_on}
 use Rattle.conn_table.proofs.closing.enter_line.Goals as goal
 

@@ -1,5 +1,4 @@
-use Rattle.std.proofs.Common.{◌≡◌, [], length, refl, arith}
-use Rattle.turn_gate.specs.Passes.{number, seen}
+use Rattle.std.proofs.Common.{[], refl, arith}
 use Rattle.perimeter_core.specs.declared.marks.SynchAct.TheVariants as Done
 use Rattle.conn_migrate.specs.Moving.{Moved}
 use Rattle.synch_enter.proofs.Exiting.{at, exits}

@@ -18,8 +18,8 @@ returns-clause-told g c =
     c.look_between-pass.ensures.life (λ k. refl) c.requires.knows in
     IfOk-weaker c.sights-told.result _ _
     (λ sights h.
-        tells g.K.Sink.contents g.K.Sink.write_faults (λ o d part is. is) (λ part done is. is) c.args.sq.now _ c.look_between-pass.result.0 knows
-        (λ d ring here. c.look_between-pass.ensures.fed d (sym c.look_between-pass.ensures.number ∙ ring) here)
-        seen.resident seen.stands.stands_for seen.stands.same_origin h.0.items sights.items
-        (subst (λ r. IfOk r (λ glances. glances.items ≡ map glance_at (parts_of seen.resident))) h.1 seen.says) h.2)
+    tells g.K.Sink.contents g.K.Sink.write_faults (λ o d part is. is) (λ part done is. is) c.args.sq.now _ c.look_between-pass.result.0 knows
+    (λ d ring here. c.look_between-pass.ensures.fed d (sym c.look_between-pass.ensures.number ∙ ring) here)
+    seen.resident seen.stands.stands_for seen.stands.same_origin h.0.items sights.items
+    (subst (λ r. IfOk r (λ glances. glances.items ≡ map glance_at (parts_of seen.resident))) h.1 seen.says) h.2)
     c.sights-told.ensures

@@ -1,11 +1,9 @@
-use Rattle.std.proofs.Common.{◌≡◌, ◌≤◌, ℕ, ◌∙◌, Some, sym, subst, refl, ap}
+use Rattle.std.proofs.Common.{ℕ, sym, subst}
 use Rattle.placed_parts.specs.Placing.{limits_of, origin_of}
 use Rattle.squeue_state.specs.declared.guarded.Life.{Life}
-use Rattle.stream_stays.specs.Staying.{HasLife, LeavesOthers, StaysAt, stream_of}
-use Rattle.conn_table.specs.declared.seat.Line.{Line}
-use Rattle.conn_table.specs.declared.seat.Seat.TheVariants.{Free, Taken}
-use Rattle.conn_table.specs.Lines.{SameLine, stay_of}
-use Rattle.conn_table.specs.Knowing.{FreeAt, IsSeat, TakenAt}
+use Rattle.stream_stays.specs.Staying.{HasLife, LeavesOthers}
+use Rattle.conn_table.specs.declared.seat.Seat.TheVariants.{Free}
+use Rattle.conn_table.specs.Knowing.{FreeAt, IsSeat}
 use Rattle.conn_table.proofs.Keeping.{elsewhere_by, knows_next}
 use Rattle.conn_table.proofs.Comings.{free_here}
 use Rattle.conn_table.proofs.opening.open_line.Goals as goal

@@ -1,13 +1,6 @@
-use Rattle.std.proofs.Common.{◌≡◌, ◌≤◌, ℕ, ◌∙◌, Some, sym, subst, refl, ap, arith}
+use Rattle.std.proofs.Common.{◌∙◌, refl, arith}
 use Rattle.placed_parts.specs.Placing.{limits_of, origin_of}
-use Rattle.squeue_state.specs.declared.guarded.Life.{Life}
-use Rattle.stream_stays.specs.Staying.{HasLife, LeavesOthers, StaysAt, stream_of}
-use Rattle.conn_table.specs.declared.seat.Line.{Line}
-use Rattle.conn_table.specs.declared.seat.Seat.TheVariants.{Free, Taken}
-use Rattle.conn_table.specs.Lines.{SameLine, stay_of}
-use Rattle.conn_table.specs.Knowing.{FreeAt, IsSeat, TakenAt}
-use Rattle.stream_stays.proofs.Stays.{others_then}
-use Rattle.stream_stays.specs.Staying.{leaves_of}
+use Rattle.stream_stays.specs.Staying.{stream_of}
 use Rattle.conn_table.proofs.Keeping.{stays_same}
 use Rattle.conn_table.proofs.Comings.{begun_brought, begun_ring, closed_free, opened_taken, others_both}
 use Rattle.conn_table.proofs.opening.opened.Goals as goal

@@ -1,4 +1,4 @@
-use Rattle.std.proofs.Common.{◌≡◌, ℕ, ◌<◌, arith}
+use Rattle.std.proofs.Common.{◌<◌, arith}
 use Rattle.std.proofs.lemmas.Option.{slice_get_within}
 use Rattle.conn_table.specs.Lines.{seats_of}
 use Rattle.conn_table.specs.declared.seat.Seat.TheVariants.{Taken}
