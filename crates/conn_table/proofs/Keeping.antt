@@ -23,7 +23,7 @@ use Rattle.conn_table.specs.declared.seat.Line.{Line}
 use Rattle.conn_table.specs.declared.seat.Seat.{Seat}
 use Rattle.conn_table.specs.declared.seat.Seat.TheVariants.{Free, Taken, Out}
 use Rattle.sq_base.specs.declared.kinds.Tuple.{Tuple}
-use Rattle.conn_table.specs.Lines.{CanOpen, HasEnds, HasFrame, IsBrought, IsOpen, IsFresh, SameElsewhere, SameLine, WasBrought, ends_of, life_of, seat_at, seats_of, stay_of}
+use Rattle.conn_table.specs.Lines.{HasEnds, HasFrame, IsBrought, IsFresh, SameElsewhere, SameLine, WasBrought, ends_of, life_of, seat_at, seats_of, stay_of}
 use Rattle.conn_table.specs.Knowing.{IsSeat, Knows, TakenAt, WasServed}
 
 -- a stay goes on at a pass that has changed nothing of its stream
@@ -178,33 +178,6 @@ module _ {K : Type 0} where
   found_here l ends c (Free v) at h = absurd h
   found_here l ends c (Taken line) at h = (line, at, h)
   found_here l ends c Out at h = absurd h
-
-  pub open_here : (l : Lines K) (c : ℕ) (seat : Seat K) → seat_at l c ≡ Some seat → IsOpen seat → CanOpen l c
-  open_here l c (Free v) at h = (v, at, h)
-  open_here l c (Taken line) at h = absurd h
-  open_here l c Out at h = absurd h
-
-  -- it isn't among one place more
-  pub find_more : (l : Lines K) (ends : Tuple) (c : ℕ) (seat : Seat K) → seat_at l c ≡ Some seat → (HasEnds ends seat → ⊥) → ((k : ℕ) (line : Line K) → k < c → seat_at l k ≡ Some (Taken line) → ends_of line ≢ ends)
-      → (k : ℕ) (line : Line K) → k < c + 1 → seat_at l k ≡ Some (Taken line) → ends_of line ≢ ends
-  find_more l ends c seat at nobody before k line lt there = go (k == c) refl
-    where
-      go : (b : Bool) → (k == c) ≡ b → ends_of line ≢ ends
-      go true e = λ is.
-          let same : k ≡ c = grind (arith, nat_tests) in
-          let one : Taken line ≡ seat = cc (sym there ∙ (ap (seat_at l) same ∙ at)) in
-          nobody (subst (HasEnds ends) one is)
-      go false e = before k line (let other : k ≢ c = λ (same : k ≡ c). (let t : (k == c) ≡ true = grind (arith, nat_tests) in cc (sym t ∙ e)) in omega (arith, lt, other)) there
-
-  pub open_more : (l : Lines K) (c : ℕ) (seat : Seat K) → seat_at l c ≡ Some seat → (IsOpen seat → ⊥) → ((k : ℕ) → k < c → CanOpen l k → ⊥) → (k : ℕ) → k < c + 1 → CanOpen l k → ⊥
-  open_more l c seat at nobody before k lt can = go (k == c) refl
-    where
-      go : (b : Bool) → (k == c) ≡ b → ⊥
-      go true e =
-          let same : k ≡ c = grind (arith, nat_tests) in
-          let one : Free can.0 ≡ seat = cc (sym can.1 ∙ (ap (seat_at l) same ∙ at)) in
-          nobody (subst IsOpen one can.2)
-      go false e = before k (let other : k ≢ c = λ (same : k ≡ c). (let t : (k == c) ≡ true = grind (arith, nat_tests) in cc (sym t ∙ e)) in omega (arith, lt, other)) can
 
   -- the connection is still at its place, where a frame was brought to it or not
   pub taken_brought : (contents : K → Option (List ℕ)) (faults : K → ℕ) {R : Type 0} (limits : R → Limits) (s : Named R) (o : Conns K) (p q : Pass Element) (c : ℕ) (a b : Line K) (f : Frame) (did : Bool) → ends_of b ≡ ends_of a

@@ -2,3 +2,5 @@ pub mod Keeping
 pub mod Looks
 pub mod Comings
 pub mod Sights
+pub mod Noting
+pub mod Indexes

@@ -1,3 +1,4 @@
+pub mod Indexing
 pub mod Lines
 pub mod Knowing
 pub mod Glances

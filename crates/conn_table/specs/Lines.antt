@@ -15,6 +15,7 @@ use Rattle.conn_table.specs.declared.lines.Lines.{Lines}
 use Rattle.conn_table.specs.declared.seat.Line.{Line}
 use Rattle.conn_table.specs.declared.seat.Seat.{Seat}
 use Rattle.conn_table.specs.declared.seat.Seat.TheVariants.{Free, Taken, Out}
+use Rattle.conn_table.specs.Indexing.{place_of}
 
 module _ {K : Type 0} where
   -- a table to which nothing came
@@ -49,6 +50,10 @@ module _ {K : Type 0} where
 
   abbrev pub CanOpen : Lines K → ℕ → Type 0
   CanOpen lines c = (v : Vacant (Item K) (Option (Table K))) × (seat_at lines c ≡ Some (Free v)) × (1 ≤ v.leaves)
+
+  -- a connection with these ends is noted to be at this place
+  abbrev pub IsNoted : Lines K → Tuple → ℕ → Type 0
+  IsNoted lines ends c = place_of ends lines.index ≡ Some c
 
   -- nothing changed but at this place
   pub record SameElsewhere (c : ℕ) (a b : Lines K) : Type 0 where
@@ -89,9 +94,3 @@ module _ {K : Type 0} where
   HasEnds ends (Free v) = ⊥
   HasEnds ends (Taken line) = ends_of line ≡ ends
   HasEnds ends Out = ⊥
-
-  -- nobody is there, and the place may still be left
-  abbrev pub IsOpen : Seat K → Type 0
-  IsOpen (Free v) = 1 ≤ v.leaves
-  IsOpen (Taken line) = ⊥
-  IsOpen Out = ⊥

@@ -12,7 +12,7 @@ ghost use Rattle.conn_table.specs.Knowing.{Knows};
 
 use crate::closing::enter_waiting;
 use crate::lines::{Lines, MOST};
-use crate::seat::{Line, Seat};
+use crate::seat::Line;
 use live_conns::{Conversations, Item};
 use live_tables::Frame;
 use perimeter_core::{Feed, Resident};
@@ -63,7 +63,7 @@ pub fn bring_line<K: Sink + Drop, H: Wait + Drop, W: Wait>(
         Item::Brings(frame),
     );
     let count = counted(count, brought);
-    let _ = lines.put(c, Seat::Taken(Line { ends, stay, count }));
+    lines.put_line(c, Line { ends, stay, count });
     (pass, brought)
 }
 

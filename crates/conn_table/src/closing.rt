@@ -14,7 +14,7 @@ ghost use Rattle.conn_table.specs.Lines.{IsTaken, SameElsewhere, SameLine, ends_
 ghost use Rattle.conn_table.specs.Knowing.{FreeAt, IsSeat, Knows, TakenAt, WasServed};
 
 use crate::lines::{Lines, MOST};
-use crate::seat::{Line, Seat};
+use crate::seat::Line;
 use live_conns::{Conversations, Item, close_conn};
 use live_tables::Table;
 use perimeter_core::{Feed, NoHook, Resident};
@@ -69,7 +69,7 @@ pub fn enter_line<K: Sink + Drop, H: Wait + Drop, W: Wait>(
         &mut stay,
         pace,
     );
-    let _ = lines.put(c, Seat::Taken(Line { ends, stay, count }));
+    lines.put_line(c, Line { ends, stay, count });
     (pass, all)
 }
 
@@ -163,7 +163,7 @@ fn close_entered<K: Sink + Drop, H: Wait + Drop, W: Wait>(
 {
     let line = lines.take_line(c);
     let (pass, vacant, gone) = ended(sq, rt, alloc, pass, &mut lines.life, line);
-    let _ = lines.put(c, Seat::Free(vacant));
+    lines.vacate(c, &gone.ends, vacant);
     (pass, gone)
 }
 

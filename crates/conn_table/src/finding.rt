@@ -1,9 +1,9 @@
 //! Which place has a connection, and which is free.
 
-ghost use Rattle.std.specs.Prelude.{◌≡◌, ◌≢◌, ◌⊎◌, ◌≤◌, ◌<◌, ℕ, Some, true, false, length, IfNone, IfSome};
+ghost use Rattle.std.specs.Prelude.{◌≡◌, ◌≢◌, ◌⊎◌, ◌≤◌, ◌<◌, ℕ, Some, true, false, IfNone, IfSome};
 ghost use Rattle.conn_table.specs.declared.seat.Line.{Line};
 ghost use Rattle.conn_table.specs.declared.seat.Seat.TheVariants.{Taken};
-ghost use Rattle.conn_table.specs.Lines.{CanOpen, HasEnds, IsOpen, ends_of, life_of, seat_at};
+ghost use Rattle.conn_table.specs.Lines.{CanOpen, HasEnds, ends_of, life_of, seat_at};
 
 use crate::lines::Lines;
 use crate::seat::Seat;
@@ -14,13 +14,21 @@ impl<K: Drop> Lines<K> {
     pub fn find(&self, ends: &Tuple) -> Option<usize>
         ensures found { IfSome result (λ c. (line : Line K) × (seat_at self.now c ≡ Some (Taken line)) × (ends_of line ≡ ends.now)) }
         ensures none { IfNone result ((c : ℕ) (line : Line K) → seat_at self.now c ≡ Some (Taken line) → ends_of line ≢ ends.now) }
+        ensures only { IfSome result (λ c. (d : ℕ) (line : Line K) → seat_at self.now d ≡ Some (Taken line) → ends_of line ≡ ends.now → d ≡ c) }
     {
-        for c in 0..self.count() {
-            if self.seat(c).has_ends(ends) {
-                return Some(c);
-            }
+        let c = self.index.find(ends)?;
+        if self.has_at(c, ends) { Some(c) } else { None }
+    }
+
+    // Whether the connection with these ends is at a place.
+    fn has_at(&self, c: usize, ends: &Tuple) -> bool
+        ensures yes { result ≡ true → (line : Line K) × (seat_at self.now c ≡ Some (Taken line)) × (ends_of line ≡ ends.now) }
+        ensures no { result ≡ false → (line : Line K) → seat_at self.now c ≡ Some (Taken line) → ends_of line ≢ ends.now }
+    {
+        match self.seats.get(c) {
+            Some(seat) => seat.has_ends(ends),
+            None => false,
         }
-        None
     }
 
     /// A place where a connection may be opened. There is none where no place is free that may still be left, or the pass's life has fewer
@@ -32,12 +40,7 @@ impl<K: Drop> Lines<K> {
         if self.life.asks < 2 {
             return None;
         }
-        for c in 0..self.count() {
-            if self.seat(c).is_open() {
-                return Some(c);
-            }
-        }
-        None
+        self.index.last_free()
     }
 }
 
@@ -49,17 +52,6 @@ impl<K: Drop> Seat<K> {
     {
         match self {
             Seat::Taken(line) => line.ends == *ends,
-            _ => false,
-        }
-    }
-
-    // Whether nobody is there, and the place may still be left.
-    fn is_open(&self) -> bool
-        ensures yes { result ≡ true → IsOpen self.now }
-        ensures no { result ≡ false → IsOpen self.now → ⊥ }
-    {
-        match self {
-            Seat::Free(vacant) => vacant.leaves > 0,
             _ => false,
         }
     }

@@ -9,6 +9,7 @@
 mod bringing;
 mod closing;
 mod finding;
+mod index;
 mod lines;
 mod looking;
 mod opening;

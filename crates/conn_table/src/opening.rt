@@ -1,12 +1,14 @@
 //! How a connection comes to a place.
 
-ghost use Rattle.std.specs.Prelude.{◌≡◌, ◌≤◌, ◌+◌, ◌++◌, ◌∷◌, [], Some, true};
+ghost use Rattle.std.specs.Prelude.{◌≡◌, ◌≤◌, ◌+◌, ◌++◌, ◌∷◌, [], ℕ, Some, true, false};
 ghost use Rattle.turn_gate.specs.Passes.{number};
 ghost use Rattle.placed_parts.specs.Placing.{limits_of, origin_of};
 ghost use Rattle.stream_stays.specs.Staying.{HasLife, LeavesOthers, SameStay, entered_of, pushed_of, sent_of};
 ghost use Rattle.live_conns.specs.declared.item.Item.TheVariants.{Opens};
+ghost use Rattle.conn_table.specs.declared.seat.Line.{Line};
 ghost use Rattle.conn_table.specs.declared.seat.Seat.{Seat};
-ghost use Rattle.conn_table.specs.Lines.{CanOpen, IsFresh, IsOpened, SameElsewhere, is_taken, life_of, seat_at};
+ghost use Rattle.conn_table.specs.declared.seat.Seat.TheVariants.{Taken};
+ghost use Rattle.conn_table.specs.Lines.{CanOpen, IsFresh, IsOpened, SameElsewhere, ends_of, is_taken, life_of, seat_at, seats_of};
 ghost use Rattle.conn_table.specs.Knowing.{FreeAt, IsSeat, Knows};
 
 use crate::lines::Lines;
@@ -20,7 +22,8 @@ use std::sync::Wait;
 use stream_stays::{Closed, Stay, Vacant, close, open};
 
 /// Opens a connection at a free place: its part is put in, and its table brought to it. It takes at most two asks of the pass's life.
-/// It answers whether the connection is there: where the place's ring has no room for the table it isn't, and the place is free again.
+/// It answers whether the connection is there. Where the place's ring has no room for the table it isn't, and the place is free again.
+/// Nothing is done where a connection with these ends is there already, or where memory is missing.
 pub fn open_line<K: Sink + Drop, H: Wait + Drop, W: Wait>(
     sq: &Squeue<Conversations<K, H>>,
     rt: &W,
@@ -39,11 +42,15 @@ pub fn open_line<K: Sink + Drop, H: Wait + Drop, W: Wait>(
     ensures number { number result.0 ≡ number pass }
     ensures elsewhere { SameElsewhere c lines.old lines.new }
     ensures opened { (seat : Seat K) × (seat_at lines.new c ≡ Some seat) × IsOpened ends table seat × (result.1 ≡ is_taken seat) }
+    ensures once { (d : ℕ) (line : Line K) → seat_at lines.old d ≡ Some (Taken line) → ends_of line ≡ ends
+        → (result.1 ≡ false) × (result.0 ≡ pass) × (seats_of lines.new ≡ seats_of lines.old) × (life_of lines.new ≡ life_of lines.old) }
 {
-    let vacant = lines.take_free(c);
+    let Some(vacant) = lines.claim(c, ends) else {
+        return (pass, false);
+    };
     let (pass, seat) = opened(sq, rt, alloc, pass, &mut lines.life, vacant, ends, table);
     let there = seat.is_taken();
-    let _ = lines.put(c, seat);
+    lines.settle(c, &ends, seat);
     (pass, there)
 }
 

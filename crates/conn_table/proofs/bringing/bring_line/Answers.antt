@@ -23,19 +23,19 @@ returns-clause-knows g c =
     let was : Line g.row.K.Denot = c.take_line-line.result in
     let at : TakenAt g.K.Sink.contents g.K.Sink.write_faults limits_of c.args.sq.now (origin_of c.args.sq.now.given.first) c.args.pass c.args.c was = c.requires.knows.each c.args.c (Taken was) c.take_line-line.ensures.was in
     let now = c.push_waiting-pass.ensures in
-    knows_next g.K.Sink.contents g.K.Sink.write_faults limits_of c.args.sq.now (origin_of c.args.sq.now.given.first) c.args.pass c.push_waiting-pass.result.0 now.number c.args.c c.args.lines.now c.put.new.self _
+    knows_next g.K.Sink.contents g.K.Sink.write_faults limits_of c.args.sq.now (origin_of c.args.sq.now.given.first) c.args.pass c.push_waiting-pass.result.0 now.number c.args.c c.args.lines.now c.put_line.new.self _
     (subst (λ (d : ℕ). LeavesOthers limits_of c.args.sq.now d c.args.pass c.push_waiting-pass.result.0) at.stream now.others)
-    (subst (λ (l : Life). HasLife limits_of c.args.sq.now l c.push_waiting-pass.result.0) (sym c.put.ensures.life) now.life)
-    (elsewhere_by c.args.c c.args.lines.now c.take_line-line.new.self c.put.new.self c.take_line-line.ensures.others c.put.ensures.others.count c.put.ensures.others.others)
-    c.put.ensures.now
+    (subst (λ (l : Life). HasLife limits_of c.args.sq.now l c.push_waiting-pass.result.0) (sym c.put_line.ensures.life) now.life)
+    (elsewhere_by c.args.c c.args.lines.now c.take_line-line.new.self c.put_line.new.self c.take_line-line.ensures.others c.put_line.ensures.others.count c.put_line.ensures.others.others)
+    c.put_line.ensures.now
     (taken_brought g.K.Sink.contents g.K.Sink.write_faults limits_of c.args.sq.now (origin_of c.args.sq.now.given.first) c.push_waiting-pass.result.0 c.args.pass c.args.c was _ c.args.frame c.push_waiting-pass.result.1 refl now.same now.stays (λ t. (now.brought t).0) (λ f. (now.kept f).0) at)
     c.requires.knows
 
 pub returns-clause-elsewhere : goal.returns-clause-elsewhere
-returns-clause-elsewhere g c = elsewhere_by c.args.c c.args.lines.now c.take_line-line.new.self c.put.new.self c.take_line-line.ensures.others c.put.ensures.others.count c.put.ensures.others.others
+returns-clause-elsewhere g c = elsewhere_by c.args.c c.args.lines.now c.take_line-line.new.self c.put_line.new.self c.take_line-line.ensures.others c.put_line.ensures.others.count c.put_line.ensures.others.others
 
 pub returns-clause-line : goal.returns-clause-line
 returns-clause-line g c =
     let was : Line g.row.K.Denot = c.take_line-line.result in
     let now = c.push_waiting-pass.ensures in
-    (was, _, c.take_line-line.ensures.was, c.put.ensures.now, is_brought was _ c.args.frame c.push_waiting-pass.result.1 refl now.same (λ t. (now.brought t).0) (λ f. (now.kept f).0), λ no. rw c.put.ensures.life (now.short no))
+    (was, _, c.take_line-line.ensures.was, c.put_line.ensures.now, is_brought was _ c.args.frame c.push_waiting-pass.result.1 refl now.same (λ t. (now.brought t).0) (λ f. (now.kept f).0), λ no. rw c.put_line.ensures.life (now.short no))

@@ -29,16 +29,16 @@ returns-clause-knows g c =
     let was : Line g.row.K.Denot = c.take_line-line.result in
     let at : TakenAt g.K.Sink.contents g.K.Sink.write_faults limits_of c.args.sq.now (origin_of c.args.sq.now.given.first) c.args.pass c.args.c was = c.requires.knows.each c.args.c (Taken was) c.take_line-line.ensures.was in
     let now = c.ended-pass.ensures in
-    knows_next g.K.Sink.contents g.K.Sink.write_faults limits_of c.args.sq.now (origin_of c.args.sq.now.given.first) c.args.pass c.ended-pass.result.0 now.number c.args.c c.args.lines.now c.put.new.self (Free c.ended-pass.result.1)
+    knows_next g.K.Sink.contents g.K.Sink.write_faults limits_of c.args.sq.now (origin_of c.args.sq.now.given.first) c.args.pass c.ended-pass.result.0 now.number c.args.c c.args.lines.now c.vacate.new.self (Free c.ended-pass.result.1)
     (subst (λ (d : ℕ). LeavesOthers limits_of c.args.sq.now d c.args.pass c.ended-pass.result.0) at.stream now.others)
-    (subst (λ (l : Life). HasLife limits_of c.args.sq.now l c.ended-pass.result.0) (sym c.put.ensures.life) now.life)
-    (elsewhere_by c.args.c c.args.lines.now c.take_line-line.new.self c.put.new.self c.take_line-line.ensures.others c.put.ensures.others.count c.put.ensures.others.others)
-    c.put.ensures.now
+    (subst (λ (l : Life). HasLife limits_of c.args.sq.now l c.ended-pass.result.0) (sym c.vacate.ensures.life) now.life)
+    (elsewhere_by c.args.c c.args.lines.now c.take_line-line.new.self c.vacate.new.self c.take_line-line.ensures.others c.vacate.ensures.others.count c.vacate.ensures.others.others)
+    c.vacate.ensures.now
     (subst (λ (d : ℕ). FreeAt g.K.Sink.contents g.K.Sink.write_faults limits_of c.args.sq.now (origin_of c.args.sq.now.given.first) c.ended-pass.result.0 d c.ended-pass.result.1) at.stream now.free)
     c.requires.knows
 
 pub returns-clause-elsewhere : goal.returns-clause-elsewhere
-returns-clause-elsewhere g c = elsewhere_by c.args.c c.args.lines.now c.take_line-line.new.self c.put.new.self c.take_line-line.ensures.others c.put.ensures.others.count c.put.ensures.others.others
+returns-clause-elsewhere g c = elsewhere_by c.args.c c.args.lines.now c.take_line-line.new.self c.vacate.new.self c.take_line-line.ensures.others c.vacate.ensures.others.count c.vacate.ensures.others.others
 
 pub returns-clause-served : goal.returns-clause-served
 returns-clause-served g c =
@@ -48,7 +48,7 @@ returns-clause-served g c =
       was,
       c.ended-pass.result.1,
       c.take_line-line.ensures.was,
-      c.put.ensures.now,
+      c.vacate.ensures.now,
       now.gone,
       subst (λ (d : ℕ). WasServed g.K.Sink.contents g.K.Sink.write_faults (setting_of limits_of c.args.sq.now.given) (seen c.ended-pass.result.0) d was c.ended-pass.result.2.left c.ended-pass.result.1.part) at.stream now.served,
     )
