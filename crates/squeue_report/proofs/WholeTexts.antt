@@ -1,5 +1,5 @@
 -- Whole texts, told part by part.
-use Rattle.std.proofs.Common.{◌≡◌, ℕ, List, [], ◌∷◌, ◌++◌, length, map, codes, Bool, Option, Result, Ok, Err, OnOk, OnErr, refl, ap, subst, sym, ◌∙◌, append_assoc}
+use Rattle.std.proofs.Common.{◌≡◌, ℕ, List, [], ◌∷◌, ◌++◌, length, map, codes, Option, Result, Ok, Err, OnOk, OnErr, refl, ap, subst, sym, ◌∙◌, append_assoc}
 use Rattle.std.specs.List.{flat_map, enumerate_from}
 use Rattle.std.specs.Io.KnownBytes.{Appends}
 use Rattle.sq_base.specs.Ends.{AppendsProperly, Rose, end_of}
