@@ -145,7 +145,7 @@ fn text(alloc: Global, draws: &mut Draws, c: u32, round: u32) -> Result<Octets, 
     let len = text_len(c, round);
     let mut bytes = Vec::with_capacity(alloc, len as usize)?;
     for _ in 0..len {
-        bytes.push((draws.draw() % 256) as u8)?;
+        bytes.push_reserved((draws.draw() % 256) as u8);
     }
     Ok(Octets::wrap(bytes))
 }
