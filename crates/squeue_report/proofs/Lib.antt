@@ -1,3 +1,4 @@
+mod RestTexts
 mod Marked
 mod Elements
 mod WholeTexts

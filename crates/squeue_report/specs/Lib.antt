@@ -1,3 +1,4 @@
 pub mod SummaryText
 pub mod Countable
 pub mod Written
+pub mod Rest

@@ -3,6 +3,7 @@
 #![tactic(auto)]
 
 mod checking;
+mod desks;
 mod reporting;
 mod summing;
 mod tracing;

@@ -1,19 +1,20 @@
 //! The report of what was served.
 
-ghost use Rattle.std.specs.Prelude.{◌≡◌, ◌≤◌, length, map, vec_capacity, IfOk, OnOk};
+ghost use Rattle.std.specs.Prelude.{◌≡◌, ◌<◌, ◌≤◌, length, map, vec_capacity, IfOk, OnOk};
 ghost use Rattle.segment_codec.specs.Datagrams.{most_datagram};
 ghost use Rattle.conn_blocks.specs.CallLists.{CallLists};
 ghost use Rattle.conn_blocks.specs.ServedBlocks.{AreServed};
 ghost use Rattle.report_lines.specs.ReportText.{body_text, report_text};
 ghost use Rattle.squeue_report.specs.Written.{HasTold};
 
-use conn_blocks::service_in;
+use crate::desks::{Desk, push_conns, push_conns_by};
 use conn_classifier::Plan;
-use report_lines::{push_conn, push_counts};
+use report_lines::push_counts;
 use ring_threads::Served;
 use segment_codec::MOST_DATAGRAM;
 use sq_base::Octets;
 use std::alloc::{AllocError, Global};
+use std::thread::Threads;
 use text_digits::TextEnd;
 
 /// The report of what was served: the counts, and for each connection its order, its replies, its answers and its last state.
@@ -67,9 +68,28 @@ pub fn push_body<T: TextEnd>(
         → told ≡ body_text plan.now calls (map (λ b. b.order) served.now.blocks)) (T.told text.old) (T.told text.new)) }
 {
     push_counts(text, &plan.counts(), plan.conns())?;
-    for c in 0..plan.conns() {
-        let service = service_in(&plan.view(), c);
-        push_conn(text, datagram, c, &plan.tuple(c), service, served.block(c))?;
-    }
+    push_conns(text, datagram, plan, served, 0, plan.conns())?;
+    Ok(())
+}
+
+/// Appends the report of what was served, made by threads at these desks. Each datagram that isn't made at one is made in `datagram`.
+pub(crate) fn push_report_by<R: Threads + Sync, T: TextEnd>(
+    rt: &R,
+    text: &mut T,
+    datagram: &mut Vec<u8>,
+    desks: &mut [Desk],
+    plan: &Plan<'_>,
+    served: &Served,
+) -> Result<(), T::Fault>
+    requires blocks { length served.now.blocks ≡ length plan.now.tuples }
+    requires room { most_datagram ≤ vec_capacity datagram.old }
+    requires desks { (0 < length desks.old) × (length desks.old ≤ 64) }
+    ensures { OnOk result (HasTold (λ told. (calls : CallLists) → AreServed plan.now calls served.now.blocks
+        → told ≡ report_text plan.now calls (map (λ b. b.order) served.now.blocks)) (T.told text.old) (T.told text.new)) }
+{
+    text.put(b"report 1\n")?;
+    push_counts(text, &plan.counts(), plan.conns())?;
+    push_conns_by(rt, text, datagram, desks, plan, served)?;
+    text.put(b"done\n")?;
     Ok(())
 }

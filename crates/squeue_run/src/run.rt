@@ -210,6 +210,7 @@ fn long_trace(plan: &Plan<'_>, calls: &Calls, setup: &Setup) -> Option<u64>
 
 /// Writes the report of what was served, with the marks where a trace is asked for. At an error nothing is written.
 fn reported<K: Sink>(
+    rt: &(impl Threads + Sync),
     alloc: Global,
     plan: &Plan<'_>,
     words: &Words,
@@ -224,9 +225,9 @@ fn reported<K: Sink>(
         then trace_text plan.now words.now.calls words.now.setup (rules_of (asked_by_words words.now)) (orders_of served.now) (map marks_of served.now.traces)
         else report_text plan.now words.now.calls (orders_of served.now))) (end_of K.contents K.write_faults out.old out.new) wrote) }
 {
-    let room = Room::make(alloc)?;
+    let room = Room::make(alloc, words.setup.rings.max(words.setup.squeues))?;
     if !words.setup.trace {
-        return Ok(write_report(out, room, plan, served));
+        return Ok(write_report(rt, out, room, plan, served));
     }
     countable(&words.setup, served)?;
     Ok(write_report2(
@@ -265,7 +266,7 @@ fn replayed<K: Sink, H: Hook + Sync>(
         return Err(Refusal::LongTrace(marks));
     }
     let served = serve(rt, alloc, &plan, &words.calls, &words.setup, hook)?;
-    let wrote = reported(alloc, &plan, words, &served, out)?;
+    let wrote = reported(rt, alloc, &plan, words, &served, out)?;
     Ok(Written { wrote, served })
 }
 
