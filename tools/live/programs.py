@@ -8,7 +8,7 @@ from pathlib import Path
 TOP = Path(__file__).resolve().parents[2]
 # The user and the group "nobody" of Debian.
 NOBODY = 65534
-PR_SET_PDEATHSIG, PR_SET_NO_NEW_PRIVS = 1, 38
+PR_SET_PDEATHSIG, PR_SET_NO_NEW_PRIVS, PR_CAP_AMBIENT, PR_CAP_AMBIENT_CLEAR_ALL = 1, 38, 47, 4
 
 
 def built(name):
@@ -30,18 +30,19 @@ def rings_words(rings, squeues=None, mode="process", budget=64):
 
 
 def end_with_the_launcher():
-    """The process ends when its parent does, and never gains a privilege."""
+    """The process ends when its parent does, hands on no capability, and never gains a privilege."""
     libc = ctypes.CDLL(None, use_errno=True)
-    if libc.prctl(PR_SET_PDEATHSIG, signal.SIGKILL, 0, 0, 0) or libc.prctl(PR_SET_NO_NEW_PRIVS, 1, 0, 0, 0):
-        os._exit(126)
+    for words in ((PR_SET_PDEATHSIG, signal.SIGKILL, 0), (PR_CAP_AMBIENT, PR_CAP_AMBIENT_CLEAR_ALL, 0), (PR_SET_NO_NEW_PRIVS, 1, 0)):
+        if libc.prctl(*words, 0, 0):
+            os._exit(126)
 
 
 def as_nobody(program, words, descriptors=(), **streams):
-    """Starts a program as nobody, with these descriptors. Nobody may not see the folder that it lies in."""
+    """Starts a program as nobody, with these descriptors; by a launcher that isn't root, as its own user. Nobody may not see the folder that it lies in."""
     file = os.open(program, os.O_RDONLY | os.O_CLOEXEC)
+    user = {"user": NOBODY, "group": NOBODY, "extra_groups": []} if os.geteuid() == 0 else {}
     try:
-        return subprocess.Popen(words, executable=f"/proc/self/fd/{file}", pass_fds=[file, *descriptors], user=NOBODY, group=NOBODY, extra_groups=[],
-                                preexec_fn=end_with_the_launcher, **streams)
+        return subprocess.Popen(words, executable=f"/proc/self/fd/{file}", pass_fds=[file, *descriptors], preexec_fn=end_with_the_launcher, **user, **streams)
     finally:
         os.close(file)
 

@@ -4,7 +4,8 @@
 
    For each queue, one thread takes datagrams from TUN and writes them to the pipe IN as frames, and one takes frames from the pipe OUT and
    writes their datagrams to TUN. A frame is a length and a time in eight bytes each, big-endian, and so many bytes; the time is in
-   microseconds since the start. Every 20 ms IN gets a frame without bytes, the time alone.
+   microseconds since 1970: the system's at the start, and from there on by a clock that nobody sets. Every 20 ms IN gets a frame
+   without bytes, the time alone.
 
    The thread that reads OUT waits for nothing else, so a server that writes is never held up for long. A full IN is waited for, and
    meanwhile the device keeps datagrams, and loses what is too many for its queue.
@@ -16,8 +17,9 @@
 
    SIGTERM ends each IN, so that the server answers what came, and ends. When each OUT has ended, so does the program.
    COUNTS is a file of memory that the launcher reads: what each queue brought and took.
-   CAPTURE, where it isn't -1, gets what is brought and taken as pcap (raw IP, TCP alone), what is brought with the time of its frame: so the
-   capture has the times that the server had, which a tap beside the device has not. JOIN is 0 then. */
+   CAPTURE, where it isn't -1, has a head of pcap (raw IP), and gets what is brought and taken of TCP, what is brought with the time of its
+   frame: so the capture has the times that the server had, which a tap beside the device has not. JOIN is 0 then. Where it can't be
+   written any more, it ends behind its last whole record; that is told, and so is the status. */
 #define _GNU_SOURCE
 #include <arpa/inet.h>
 #include <errno.h>
@@ -36,7 +38,7 @@
 #include <unistd.h>
 
 enum { HEAD = 16, LONGEST = 65535, GATHERED = 1 << 16, TICK = 20000 };
-enum { PCAP_MAGIC = 0xA1B2C3D4, RAW_IP = 101, TCP_PROTOCOL = 6, PROTOCOL = 9 };
+enum { TCP_PROTOCOL = 6, PROTOCOL = 9 };
 enum { IP_LENGTH = 2, IP_SUM = 10, ENDS = 12, TCP = 20, SEQ = 24, ACK = 28, FLAGS = 33, WINDOW = 34, TCP_SUM = 36, TEXT = 40, PSH_FLAG = 8, ACK_FLAG = 16 };
 
 /* One direction of a queue, in a line of the processor's cache that no other thread writes. */
@@ -48,16 +50,23 @@ struct queue { int tun, in, out; long number; struct counts *inward, *outward; p
 static atomic_bool ending;
 /* How long the device's head of a datagram is: it has its place in the end of a frame's head, which is read by then, or isn't written yet. */
 static size_t device_head;
-static struct timespec start;
-/* What was brought and taken, in the order of its times, where it is kept; and the time at the start, in microseconds since 1970. */
-static FILE *capture;
-static pthread_mutex_t capturing = PTHREAD_MUTEX_INITIALIZER;
+/* How far the system's time was before the clock that nobody sets, at the start. */
 static uint64_t begun;
+/* What was brought and taken, in the order of its times: a descriptor, or -1 where it isn't kept; where its last whole record ends; and whether
+   the next one couldn't be written. */
+static int capture;
+static off_t captured;
+static int lacks;
+static pthread_mutex_t capturing = PTHREAD_MUTEX_INITIALIZER;
+
+static uint64_t micros(clockid_t clock) {
+    struct timespec t;
+    clock_gettime(clock, &t);
+    return t.tv_sec * 1000000ull + t.tv_nsec / 1000;
+}
 
 static uint64_t now(void) {
-    struct timespec t;
-    clock_gettime(CLOCK_MONOTONIC, &t);
-    return (t.tv_sec - start.tv_sec) * 1000000ll + (t.tv_nsec - start.tv_nsec) / 1000 + 1;
+    return begun + micros(CLOCK_MONOTONIC);
 }
 
 static void put_number(unsigned char *to, uint64_t number) {
@@ -90,34 +99,29 @@ static int write_whole(int to, const unsigned char *bytes, size_t length) {
     return 1;
 }
 
-static void begin_capture(int to) {
-    uint32_t head[6] = { PCAP_MAGIC, 2 | 4 << 16, 0, 0, LONGEST, RAW_IP };
-    struct timespec t;
-    clock_gettime(CLOCK_REALTIME, &t);
-    begun = t.tv_sec * 1000000ull + t.tv_nsec / 1000;
-    capture = fdopen(to, "wb");
-    if (capture) fwrite(head, sizeof head, 1, capture);
+/* Appends a datagram to the capture. Where that can't be, the capture ends behind its last whole record. */
+static void append(uint64_t time, const unsigned char *datagram, uint32_t length) {
+    static unsigned char record[HEAD + LONGEST];
+    uint32_t head[4] = { time / 1000000, time % 1000000, length, length };
+    memcpy(record, head, HEAD);
+    memcpy(record + HEAD, datagram, length);
+    lacks = !write_whole(capture, record, HEAD + length);
+    if (!lacks) {
+        captured += HEAD + length;
+        return;
+    }
+    fprintf(stderr, "queues: the capture ends here: %s\n", strerror(errno));
+    if (ftruncate(capture, captured)) perror("queues: the capture's last record is cut");
 }
 
 /* Keeps a datagram that is brought or taken now, where it is to be kept, and tells the time. */
 static uint64_t kept(const unsigned char *datagram, size_t length) {
-    if (!capture) return now();
+    if (capture < 0) return now();
     pthread_mutex_lock(&capturing);
-    uint64_t time = now(), at = begun + time;
-    if (length >= TCP && datagram[0] >> 4 == 4 && datagram[PROTOCOL] == TCP_PROTOCOL) {
-        uint32_t head[4] = { at / 1000000, at % 1000000, length, length };
-        fwrite(head, sizeof head, 1, capture);
-        fwrite(datagram, length, 1, capture);
-    }
+    uint64_t time = now();
+    if (!lacks && length >= TCP && datagram[0] >> 4 == 4 && datagram[PROTOCOL] == TCP_PROTOCOL) append(time, datagram, length);
     pthread_mutex_unlock(&capturing);
     return time;
-}
-
-/* Ends the capture: it lacks something where it couldn't be written. */
-static int end_capture(void) {
-    if (!capture) return 1;
-    int lacks = ferror(capture);
-    return !(fclose(capture) || lacks);
 }
 
 /* The sum of RFC 1071, in this machine's order of bytes, and not negated. */
@@ -181,7 +185,6 @@ static void *take(void *of) {
         if (at >= next) {
             used = put_head(frames, 0, at);
             next = at + TICK;
-            if (capture) fflush(capture);
         } else {
             struct pollfd waits = { q->tun, POLLIN, 0 };
             poll(&waits, 1, (next - at) / 1000 + 1);
@@ -314,9 +317,11 @@ int main(int words, char **word) {
         perror("queues");
         return 1;
     }
-    clock_gettime(CLOCK_MONOTONIC, &start);
-    if (atoi(word[3]) >= 0) begin_capture(atoi(word[3]));
+    begun = micros(CLOCK_REALTIME) - micros(CLOCK_MONOTONIC);
+    capture = atoi(word[3]);
+    captured = lseek(capture, 0, SEEK_CUR);
     signal(SIGPIPE, SIG_IGN);
+    signal(SIGXFSZ, SIG_IGN);
     sigset_t end;
     sigemptyset(&end);
     sigaddset(&end, SIGTERM);
@@ -334,7 +339,5 @@ int main(int words, char **word) {
         return 1;
     }
     for (long k = 0; k < queues; k++) pthread_join(of[k].reads, 0);
-    if (end_capture()) return 0;
-    fputs("queues: the capture lacks what couldn't be written\n", stderr);
-    return 1;
+    return lacks;
 }

@@ -5,12 +5,13 @@ A pipe has no datagrams' bounds and no time, so it carries frames, as docs/LIVE.
 import fcntl
 import mmap
 import os
-import shutil
 import struct
 import subprocess
-import tempfile
+import sys
 from pathlib import Path
 
+sys.path.append(str(Path(__file__).resolve().parents[1] / "parts"))
+from compiled import compiled
 from programs import NOBODY, as_nobody, cpu_seconds, most_memory_kb, rings_words
 
 F_SETPIPE_SZ, PIPE = 1031, 1 << 20
@@ -18,18 +19,16 @@ F_SETPIPE_SZ, PIPE = 1031, 1 << 20
 COUNTS, DIRECTION = struct.Struct("QQQ"), 64
 
 
-def compiled(folder):
-    """The program that moves datagrams, in this folder."""
-    if not shutil.which("cc"):
-        raise FileNotFoundError("several rings take a C compiler (Debian: gcc libc6-dev)")
-    subprocess.run(["cc", "-O3", "-pthread", "-o", f"{folder}/queues", Path(__file__).with_name("queues.c")], check=True)
-    return f"{folder}/queues"
+def mover():
+    """The program that moves datagrams, as `compiled` keeps it."""
+    return compiled(Path(__file__).with_name("queues.c"), "-O3", "-pthread")
 
 
 def pipe_for_nobody():
     """A pipe that nobody may open by /dev/fd: the end to read, and the one to write."""
     ends = os.pipe2(os.O_CLOEXEC)
-    os.fchown(ends[0], NOBODY, NOBODY)
+    if os.geteuid() == 0:
+        os.fchown(ends[0], NOBODY, NOBODY)
     fcntl.fcntl(ends[0], F_SETPIPE_SZ, PIPE)
     return ends
 
@@ -48,19 +47,17 @@ class Pipes:
 
 class Rings:
     """The server and what moves its datagrams, both as nobody. The queues are handed over, and closed here; so is the capture, where one is kept."""
-    def __init__(self, program, queues, words, long_segments, capture=None, **layout):
+    def __init__(self, program, mover, queues, words, long_segments, capture=None, **layout):
         pipes, size = Pipes(len(queues)), 2 * DIRECTION * len(queues)
         counts = os.memfd_create("counts")
         os.ftruncate(counts, size)
         self.rings, self.counts = len(queues), mmap.mmap(counts, size, prot=mmap.PROT_READ)
         of_mover = [end for queue, to, back in zip(queues, pipes.to_rings, pipes.from_rings) for end in (queue, to[1], back[0])]
         apart = {"stdin": subprocess.DEVNULL, "start_new_session": True}
-        with tempfile.TemporaryDirectory() as folder:
-            mover = compiled(folder)
-            self.server = as_nobody(program, ["sqlive_rings", *rings_words(self.rings, **layout), *words, *pipes.words()], pipes.of_server, **apart)
-            kept = [] if capture is None else [os.open(capture, os.O_WRONLY | os.O_CREAT | os.O_TRUNC, 0o644)]
-            told = [int(long_segments), counts, *(kept or [-1]), *of_mover]
-            self.mover = as_nobody(mover, ["queues", *map(str, told)], [counts, *kept, *of_mover], **apart)
+        self.server = as_nobody(program, ["sqlive_rings", *rings_words(self.rings, **layout), *words, *pipes.words()], pipes.of_server, **apart)
+        kept = [] if capture is None else [capture]
+        told = [int(long_segments), counts, *(kept or [-1]), *of_mover]
+        self.mover = as_nobody(mover, ["queues", *map(str, told)], [counts, *kept, *of_mover], **apart)
         for end in (*pipes.of_server, counts, *kept, *of_mover):
             os.close(end)
 
@@ -79,7 +76,7 @@ class Rings:
         return {**taken, "rings": self.rings, **each}
 
     def end(self, seconds=10):
-        """Ends the input of each ring, so that the server ends; kills it where it doesn't. The server's status."""
+        """Ends the input of each ring, so that the server ends; kills it where it doesn't. The server's status, and whether its capture is whole."""
         self.mover.terminate()
         try:
             self.server.wait(seconds)
@@ -91,4 +88,4 @@ class Rings:
         except subprocess.TimeoutExpired:
             self.mover.kill()
         self.mover.wait()
-        return self.server.returncode
+        return self.server.returncode, self.mover.returncode <= 0

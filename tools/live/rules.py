@@ -100,6 +100,61 @@ def half_open(program):
         assert server.step(youngest) == [] and len(server.step(older)) == 1
 
 
+def own_age(program):
+    """Who comes again from the same port has its own age: it doesn't give way for its first SYN, whose connection is over."""
+    with Framed(program, places=2) as server:
+        server.step(datagram(5000, 7, 1000, 0, SYN))
+        server.step(datagram(5000, 7, 1001, 0, RST), after=1)
+        again, = server.step(datagram(5000, 7, 9000, 0, SYN), after=1)
+        assert len(server.step(datagram(5001, 7, 1, 0, SYN), after=1)) == 1
+        assert server.step(datagram(5000, 7, 9001, again.seq + 1, ACK)) == [], "it was taken for an old one"
+
+
+def half_closed(server, port):
+    """A client of daytime that acknowledges the server's FIN and doesn't close: FIN-WAIT-2. The acknowledgement."""
+    opened, = server.step(datagram(port, 13, 1000, 0, SYN))
+    told, closed = server.step(datagram(port, 13, 1001, opened.seq + 1, ACK))
+    assert server.step(datagram(port, 13, 1001, closed.seq_end(), ACK)) == []
+    return closed.seq_end()
+
+
+def closing(server, port, ack):
+    """The flags of what the client's FIN is answered by."""
+    answer, = server.step(datagram(port, 13, 1001, ack, FIN | ACK))
+    return answer.flags
+
+
+def silent(program):
+    """Half open for three minutes, or silent in FIN-WAIT-2 for one: a connection leaves at the tick, and not before."""
+    with Framed(program, ports={"echo": 7, "daytime": 13}) as server:
+        (first,), (second,) = (server.step(datagram(port, 7, 1000, 0, SYN)) for port in (5000, 5001))
+        server.step(after=180 * SECOND - 1)
+        assert server.step(datagram(5000, 7, 1001, first.seq + 1, ACK)) == [], "it left too early"
+        server.step(after=1)
+        refused, = server.step(datagram(5001, 7, 1001, second.seq + 1, ACK))
+        assert refused.flags & RST, "it is half open for ever"
+        first, second = half_closed(server, 6000), half_closed(server, 6001)
+        server.step(after=60 * SECOND - 1)
+        assert closing(server, 6000, first) == ACK, "it left too early"
+        server.step(after=1)
+        assert closing(server, 6001, second) & RST, "it is half closed for ever"
+
+
+def time_wait(program):
+    """Connections in TIME-WAIT leave where three quarters of the places are taken, and else stay."""
+    with Framed(program, places=4, ports={"echo": 7, "daytime": 13}) as server:
+        acks = {}
+        for ports in ((6000, 6001), (6002, 6003)):
+            for port in ports:
+                acks[port] = half_closed(server, port)
+                assert closing(server, port, acks[port]) == ACK
+            if ports[0] == 6000:
+                server.step(after=1)
+                assert all(closing(server, port, acks[port]) == ACK for port in ports), "it left too early"
+        server.step(after=1)
+        assert all(len(server.step(datagram(7000 + i, 7, 1, 0, SYN))) == 1 for i in range(4)), "nobody left"
+
+
 def memory(program):
     """All connections hold at most so many bytes: text beyond is passed over with its FIN, and what is acknowledged makes room again."""
     with Framed(program, memory=3000) as server:
@@ -144,4 +199,4 @@ def path_mtu(program):
 
 
 RULES = {function.__name__.replace("_", "-"): function
-         for function in (addresses, challenges, blind, fresh, idle, vanished, half_open, memory, path_mtu, ports)}
+         for function in (addresses, challenges, blind, fresh, idle, vanished, half_open, own_age, silent, time_wait, memory, path_mtu, ports)}

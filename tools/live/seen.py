@@ -1,8 +1,11 @@
 """What is seen of a live server from beside it: a capture of its device, and counts. The server itself isn't asked."""
 import ctypes
+import os
 import select
 import socket
+import stat
 import struct
+import sys
 import threading
 import time
 from collections import OrderedDict
@@ -14,9 +17,17 @@ from tcp_segments import ACK, FIN, RST, SYN
 ETH_P_ALL, SOL_PACKET, PACKET_STATISTICS, SO_ATTACH_FILTER, SO_RCVBUFFORCE = 3, 263, 6, 26, 33
 # So much memory holds what isn't read yet.
 ROOM = 64 << 20
-# Takes the head of each first TCP fragment over IPv4 that has SYN, FIN or RST: BPF, as (code, where to if so, if not, number).
-OPENS_OR_ENDS = ((0x30, 0, 0, 0), (0x54, 0, 0, 0xF0), (0x15, 0, 8, 0x40), (0x30, 0, 0, 9), (0x15, 0, 6, 6), (0x28, 0, 0, 6), (0x45, 4, 0, 0x1FFF),
-                 (0xB1, 0, 0, 0), (0x50, 0, 0, 13), (0x45, 0, 1, SYN | FIN | RST), (0x06, 0, 0, 80), (0x06, 0, 0, 0))
+# What a server has sent at most that isn't acknowledged.
+MOST_UNDER_WAY = 65535
+
+
+def opens_or_ends(server):
+    """Takes the head of each first TCP fragment over IPv4 that has SYN, FIN or RST, or comes to the server without text, as a handshake's
+    third segment does: BPF, as (code, where to if so, if not, number)."""
+    return ((0x30, 0, 0, 0), (0x54, 0, 0, 0xF0), (0x15, 0, 17, 0x40), (0x30, 0, 0, 9), (0x15, 0, 15, 6), (0x28, 0, 0, 6), (0x45, 13, 0, 0x1FFF),
+            (0xB1, 0, 0, 0), (0x50, 0, 0, 13), (0x45, 9, 0, SYN | FIN | RST), (0x20, 0, 0, 16), (0x15, 0, 8, int(server)),
+            (0x50, 0, 0, 12), (0x54, 0, 0, 0xF0), (0x74, 0, 0, 2), (0x0C, 0, 0, 0), (0x07, 0, 0, 0), (0x28, 0, 0, 2), (0x1D, 0, 1, 0),
+            (0x06, 0, 0, 80), (0x06, 0, 0, 0))
 
 
 def tap(name, only=()):
@@ -52,9 +63,9 @@ def each_of(taps, use, when_idle=lambda: None):
 
 
 class Lossy:
-    """How many datagrams a tap lost, since they came faster than they were read."""
-    def __init__(self, taps, thread):
-        self.taps, self.thread, self.lost = taps, thread, 0
+    """Gives what a tap gets to a function, and counts what it lost, since it came faster than it was read."""
+    def __init__(self, taps, *use):
+        self.taps, self.thread, self.lost = taps, each_of(taps, *use), 0
 
     def count(self):
         self.lost += struct.unpack("II", self.taps.getsockopt(SOL_PACKET, PACKET_STATISTICS, 8))[1]
@@ -66,39 +77,86 @@ class Lossy:
         return self.count()
 
 
-def keep_datagrams(name, path):
-    """Writes each TCP datagram of the device to a capture of raw IP. The file is there when this returns."""
-    file = open(path, "wb", 1 << 20)
-    file.write(struct.pack("<IHHIIII", 0xA1B2C3D4, 2, 4, 0, 0, 65535, 101))
+def begin_capture(file):
+    """Empties an open file, and writes the head of a capture of raw IP."""
+    if stat.S_ISREG(os.fstat(file).st_mode):
+        os.ftruncate(file, 0)
+    os.write(file, struct.pack("<IHHIIII", 0xA1B2C3D4, 2, 4, 0, 0, 65535, 101))
 
-    def keep(datagram):
-        if datagram[0] >> 4 == 4 and len(datagram) > 19 and datagram[9] == socket.IPPROTO_TCP:
-            at = time.time_ns() // 1000
-            file.write(struct.pack("<IIII", at // 10**6, at % 10**6, len(datagram), len(datagram)) + datagram)
 
-    taps = tap(name)
-    return Lossy(taps, each_of(taps, keep, file.flush))
+class Capture:
+    """A capture that is begun. Where it can't be written any more, it ends behind its last whole record; `.lacks` counts what comes later."""
+    MOST_WAITING = 256
+
+    def __init__(self, file):
+        self.file, self.end, self.waiting, self.lacks = file, os.fstat(file).st_size, [], 0
+
+    def keep(self, datagram):
+        """Appends a TCP datagram, with the present time."""
+        if datagram[0] >> 4 != 4 or len(datagram) < 20 or datagram[9] != socket.IPPROTO_TCP:
+            return
+        if self.lacks:
+            self.lacks += 1
+            return
+        at = time.time_ns() // 1000
+        self.waiting.append(struct.pack("<IIII", at // 10**6, at % 10**6, len(datagram), len(datagram)) + datagram)
+        if len(self.waiting) == self.MOST_WAITING:
+            self.write()
+
+    def write(self):
+        """Writes what waits."""
+        written, all_waiting = 0, b"".join(self.waiting)
+        try:
+            while written < len(all_waiting):
+                written += os.write(self.file, all_waiting[written:])
+            self.end += written
+        except OSError as error:
+            self.cut(written)
+            print(f"sqlive: the capture ends here: {error.strerror}", file=sys.stderr, flush=True)
+        self.waiting = []
+
+    def cut(self, written):
+        """Ends the capture behind the last whole record of so many bytes that were written."""
+        self.lacks, reached = len(self.waiting), self.end + written
+        for record in self.waiting:
+            if self.end + len(record) > reached:
+                break
+            self.end, self.lacks = self.end + len(record), self.lacks - 1
+        if stat.S_ISREG(os.fstat(self.file).st_mode):
+            os.ftruncate(self.file, self.end)
 
 
 @dataclass
 class Connection:
-    """What was seen of one: the number that it began with, whether it was answered, and whose FIN came (1 the client's, 2 the server's)."""
+    """What was seen of one: the number that it began with, the one behind the server's SYN, whether the handshake is over, and whose FIN
+    came (1 the client's, 2 the server's)."""
     began: int
-    answered: bool = False
+    answer: int | None = None
+    opened: bool = False
     fins: int = 0
+
+    def shows_opened(self, inward, flags, ack):
+        """Whether this segment shows that the handshake is over: it acknowledges the server's SYN, or is the server's FIN."""
+        if self.answer is None or not inward:
+            return self.answer is not None and bool(flags & FIN)
+        return bool(flags & ACK) and (ack - self.answer) % 2**32 <= MOST_UNDER_WAY
 
 
 class Connections:
-    """How many connections there were, by the segments that open or end one."""
+    """How many connections there were at these ports of a server, by the segments that open or end one.
+
+    Open are those whose handshake was seen to be over, and whose end wasn't seen. So who left the server's table in silence still counts. A
+    handshake whose third segment has text shows by the client's next segment without any, or by the server's FIN.
+    """
     MOST = 1 << 17
 
-    def __init__(self, server):
-        self.server, self.known = server.packed, OrderedDict()
+    def __init__(self, server, ports):
+        self.server, self.ports, self.known = server.packed, frozenset(ports), OrderedDict()
         self.asked = self.opened = self.open = self.refused = self.resets_in = self.resets_out = 0
 
     def over(self, ends):
         found = self.known.pop(ends, None)
-        self.open -= bool(found and found.answered)
+        self.open -= bool(found and found.opened)
 
     def see(self, datagram):
         tcp = datagram[4 * (datagram[0] & 15):]
@@ -107,8 +165,9 @@ class Connections:
         inward, flags = datagram[16:20] == self.server, tcp[13]
         ours, theirs = (tcp[2:4], tcp[:2]) if inward else (tcp[:2], tcp[2:4])
         ends = (datagram[12:16] if inward else datagram[16:20]) + theirs + ours
+        seq, ack = struct.unpack(">II", tcp[4:12])
         if inward and flags & (SYN | ACK | RST) == SYN:
-            self.asks(ends, struct.unpack(">I", tcp[4:8])[0])
+            self.asks(ends, seq)
             return
         if flags & RST:
             self.reset(ends, inward, struct.unpack(">H", ours)[0])
@@ -116,8 +175,10 @@ class Connections:
         found = self.known.get(ends)
         if not found:
             return
-        if flags & SYN and not inward and not found.answered:
-            found.answered = True
+        if flags & SYN and not inward:
+            found.answer = (seq + 1) % 2**32
+        elif not found.opened and found.shows_opened(inward, flags, ack):
+            found.opened = True
             self.opened += 1
             self.open += 1
         if flags & FIN:
@@ -130,7 +191,7 @@ class Connections:
         if (found := self.known.get(ends)) and found.began == began:
             return
         self.over(ends)
-        if struct.unpack(">H", ends[-2:])[0] in (7, 9):
+        if struct.unpack(">H", ends[-2:])[0] in self.ports:
             self.asked += 1
             self.known[ends] = Connection(began)
             if len(self.known) > self.MOST:
@@ -139,7 +200,7 @@ class Connections:
     def reset(self, ends, inward, port):
         if inward:
             self.resets_in += 1
-        elif port in (7, 9):
+        elif port in self.ports:
             self.resets_out += 1
         else:
             self.refused += 1

@@ -64,6 +64,7 @@ def set_up(name, interface, mtu=1500):
 
 def why_none(error, name):
     """What is in the way of a TUN device."""
-    in_use = f"{name} is in use, so another tools/sqlive runs (--device names another one)"
-    return {errno.EBUSY: in_use, errno.EINVAL: in_use, errno.EPERM: "it takes root", errno.EACCES: "it takes root",
+    in_use = f"there is a device {name} already, as another tools/sqlive has it (--device names another one)"
+    rights = "it takes root, or the rights that tools/live/sqlive.service names"
+    return {errno.EBUSY: in_use, errno.EINVAL: in_use, errno.EPERM: rights, errno.EACCES: rights,
             errno.ENOENT: "there is no /dev/net/tun (modprobe tun)", errno.ENODEV: "there is no /dev/net/tun (modprobe tun)"}.get(error.errno, error.strerror)

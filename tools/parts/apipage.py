@@ -16,9 +16,12 @@ BOUND = re.compile(r"\b([A-Z]\w*): ([A-Z]\w*(?: \+ [A-Z]\w*)*)")
 GROUPS = (("trait", "Traits"), ("struct enum type", "Types"), ("fn", "Functions"), ("const", "Constants"))
 TITLE = "The crates of squeues"
 NOT_PROVED = "Made by tools/api from the sources. The checker has proved the clauses; that this page shows them rightly is only tested."
+# What a reader begins with: a crate's page, or an item by its crate; where it has moved, in the crate that has it now.
 BEGIN = (
-    ("A resident of your own, served by a squeue",
-     (("placed_parts", "Parts"), ("placed_parts", "Places"), ("squeue_state", "Squeue.make"), ("squeue_enter", "enter"), ("squeue_drain", "worker"),
+    ("Parts of your own, served by key", (("squeue", ""), ("placed_parts", "Parts"), ("squeue_pool", "Pool"), ("squeue_pool", "serve_by_key"),
+                                          ("squeue_pool", "Served"), ("squeue_calls", "serve_called"), ("key_counters", "count"))),
+    ("A squeue by itself, for a resident of your own",
+     (("placed_parts", "Places"), ("squeue_state", "Squeue.make"), ("squeue_enter", "enter"), ("squeue_drain", "worker"),
       ("synch_enter", "synch_enter"), ("synch_enter", "call"), ("squeue_serve", "run_each"), ("squeue_state", "Squeue.finish"))),
     ("TCP alone", (("segment_codec", "decode"), ("echo_services", "serve"), ("echo_services", "tick"), ("echo_services", "ask"), ("tcb_machine", "Tcb"), ("segment_codec", "encode"))),
     ("A server over the net", (("live_server", "Server"), ("live_run", "serve_frames_of"))),
@@ -51,6 +54,12 @@ def code(text):
 def first_sentence(doc):
     words = " ".join(doc[:next((i for i, line in enumerate(doc) if not line.strip()), len(doc))])
     return re.split(r"(?<=\.) (?=[A-Z`])", words, maxsplit=1)[0]
+
+
+def behind_first_sentence(doc):
+    """The lines of a docstring without its first sentence."""
+    end = next((i for i, line in enumerate(doc) if not line.strip()), len(doc))
+    return [" ".join(doc[:end])[len(first_sentence(doc)):].strip(), *doc[end:]]
 
 
 # Docstrings
@@ -490,8 +499,13 @@ def begin_list(site):
     said = {(crate, link.rpartition("#")[2]): words for _, _, crate, link, words in site.index}
     out = []
     for title, ways in BEGIN:
-        rows = [f'<li><a href="{crate}.html#{ident}">{code(crate + "::" + ident.replace(".", "::"))}</a> {inline(said.get((crate, ident), ""), link_plain)}'
-                for crate, ident in ways if crate in site.chosen]
+        rows = []
+        for crate, ident in ways:
+            if ident:
+                crate = crate if (crate, ident) in said else next((other for other, name in said if name == ident), crate)
+            if crate in site.chosen:
+                link, words = (f"{crate}.html#{ident}", said.get((crate, ident), "")) if ident else (f"{crate}.html", first_sentence(site.library.crates[crate].head))
+                rows.append(f'<li><a href="{link}">{code("::".join([crate, *filter(None, ident.split("."))]))}</a> {inline(words, link_plain)}')
         if rows:
             out.append(f"<h3>{title}</h3><ol class=begin>{''.join(rows)}</ol>")
     return "".join(out)
@@ -503,6 +517,8 @@ def index_page(site):
     for name in site.chosen:
         crate = site.library.crates[name]
         words = inline(first_sentence(crate.head), link_plain)
+        more = prose(behind_first_sentence(crate.head), link_plain)
+        words += f"<details><summary>More</summary>{more}</details>" if more else ""
         rows[bool(crate.public)].append(f'<tr><td><a href="{name}.html">{name}</a><td>{words}<td class=on>{names_of_crates(site, below[name])}')
     head = "<tr><th>Crate<th>What it is for<th>Stands on"
     body = (f"<h1>{TITLE}</h1><p>The public items of each crate: what they are for, what they promise, and the definitions that say it. Press <kbd>/</kbd> to search.</p>"

@@ -5,7 +5,7 @@ from pathlib import Path
 import drawing
 import ladder
 from capture import RST, SYN
-from drawing import figure, plural, seconds, text
+from drawing import display_filter, figure, plural, seconds, text
 from segments import SCALE, options
 from served import rows
 from standards import KINDS, VERDICTS
@@ -17,9 +17,12 @@ WIDTH, LEFT, MIDDLE, RIGHT, ROW, HEAD = 1180, 110, 600, 1090, 31, 66
 MOST, FIRST, LAST = 90, 60, 25
 STYLE = """
 .fig .arrow.MUST,.fig .arrow.SHOULD{stroke:var(--again);stroke-width:2.2}.fig text.MUST,.fig text.SHOULD{fill:var(--again)}
-.verdict{font-weight:600}.MUST{color:#b42318}.SHOULD{color:#a15c07}.choice,.service,.unjudged{color:inherit}
+"""
+PAGE_STYLE = """
+.verdict{white-space:nowrap}.MUST,.SHOULD{font-weight:600}.MUST{color:#b42318}.SHOULD{color:#a15c07}.choice,.service,.unjudged{color:inherit}
 @media (prefers-color-scheme:dark){.MUST{color:#ff9b6a}.SHOULD{color:#e3b341}}
-section{content-visibility:auto;contain-intrinsic-size:auto 900px}.fit{overflow-x:auto}td,th{vertical-align:top;text-align:left}
+main{max-width:1180px;margin:0 auto}section{content-visibility:auto;contain-intrinsic-size:auto 900px}
+td,th{vertical-align:top;text-align:left}td:nth-child(2),.short{white-space:nowrap}td.long{min-width:18em}
 """
 
 
@@ -120,38 +123,40 @@ def difference_rows(compared):
     for d in sorted(compared.differences, key=lambda d: VERDICTS.index(d.verdict)):
         kind = KINDS[d.kind]
         frames = ", ".join(map(str, d.frames)) + (" .." if d.count > len(d.frames) > 0 else "")
-        out.append(f'<tr><td class="verdict {d.verdict}">{d.verdict}<td>{escape(d.kind)}<td class="n">{d.count:,}<td>{frames}<td>{escape(d.captured)}'
-                   f'<td>{escape(d.reference)}<td>{escape(kind.section)}')
+        out.append(f'<tr><td class="verdict {d.verdict}">{d.verdict}<td>{escape(d.kind)}<td class="n">{d.count:,}<td>{frames}<td class="long">{escape(d.captured)}'
+                   f'<td class="long">{escape(d.reference)}<td class="long">{escape(kind.section)}')
     return "".join(out)
 
 
 def one(compared, drawn):
     conn, life = compared.conn, f", life {compared.life + 1}" if compared.life else ""
     client, server = conn.tuple.split(" ")
-    where = f"ip.addr == {client.split(':')[0]} &amp;&amp; tcp.port == {client.split(':')[1]} &amp;&amp; ip.addr == {server.split(':')[0]}"
-    table = (f'<div class="fit"><table><tr><th><th>kind<th class="n">times<th>frames<th>captured server<th>sqrun<th>section{difference_rows(compared)}</table></div>'
-             if compared.differences else "<p>No difference.</p>")
+    where = escape(display_filter(conn.tuple))
+    table = (f'<div class="rows"><table><tr><th>verdict<th>kind<th class="n">times<th>frames<th>captured server<th>sqrun<th>section{difference_rows(compared)}'
+             '</table></div>')
     return (f'<section id="conn{compared.number}life{compared.life}"><h2>Connection {compared.number}{life}: {escape(conn.tuple.replace(" ", " → "))}</h2>'
             f'<p class="quiet">Display filter: <code>{where}</code></p>{table}'
             + (f'<div class="fit">{diagram(compared)}</div>' if drawn else "") + "</section>")
 
 
-def page(title, compared, summary, drawn, notes):
-    """The whole page; `drawn` are the places in `compared` whose diagrams are shown."""
+def page(title, outcome, compared, summary, drawn, notes):
+    """The whole page; `drawn` are the places in `compared` whose diagrams are shown. Connections without a difference are counted in the outcome alone."""
     head = ("<!DOCTYPE html>\n<html lang=\"en\"><head><meta charset=\"utf-8\">"
             "<meta http-equiv=\"Content-Security-Policy\" content=\"default-src 'none'; style-src 'unsafe-inline'\">"
             "<meta name=\"viewport\" content=\"width=device-width\">"
-            f"<title>{escape(title)}</title><style>{(HERE / 'page.css').read_text()}{drawing.STYLE}{ladder.STYLE}{STYLE}</style></head><body>")
+            f"<title>{escape(title)}</title><style>{(HERE / 'page.css').read_text()}{drawing.STYLE}{ladder.STYLE}{STYLE}{PAGE_STYLE}</style></head><body>")
     lines = "".join(f'<tr><td class="verdict {s.verdict}">{s.verdict}<td>{escape(s.kind.name)}<td class="n">{s.connections:,}<td class="n">{s.times:,}'
-                    f'<td>{links_of(s.first)}<td>{escape(s.kind.section)}<td>{escape(s.kind.rule)}' for s in summary)
-    out = [head, f"<h1>{escape(title)}</h1>", f'<p class="quiet">{plural(len({c.number for c in compared}), "connection")}{escape("; " + notes if notes else "")}.</p>',
-           f'<p class="quiet">{NOT_PROVED}</p>',
-           f'<div class="fit"><table><tr><th><th>kind<th class="n">connections<th class="n">times<th>first in<th>section<th>what it says{lines}</table></div>' if summary else "<p>No difference.</p>"]
-    left = len(compared) - len(drawn)
+                    f'<td class="short">{links_of(s.first)}<td class="long">{escape(s.kind.section)}<td class="long">{escape(s.kind.rule)}' for s in summary)
+    out = [head, f"<main><h1>{escape(title)}</h1>", f'<p>{escape("; ".join([outcome, *notes]))}.</p>', f'<p class="quiet">{NOT_PROVED}</p>']
+    if summary:
+        out.append('<div class="rows"><table><tr><th>verdict<th>kind<th class="n">connections<th class="n">times<th>first in<th>section<th>what it says'
+                   f'{lines}</table></div>')
+    shown = [n for n, c in enumerate(compared) if c.differences or n in drawn]
+    left = len(shown) - len(drawn)
     if left:
         out.append(f'<p class="quiet">Drawn are the {len(drawn):,} that differ most; {left:,} are listed without a diagram. --conn names others.</p>')
-    out += [one(c, n in drawn) for n, c in enumerate(compared)]
-    return "".join(out) + "</body></html>\n"
+    out += [one(compared[n], n in drawn) for n in shown]
+    return "".join(out) + "</main></body></html>\n"
 
 
 def links_of(first):

@@ -5,9 +5,12 @@ import subprocess
 from itertools import zip_longest
 from pathlib import Path
 
+import builds
 import front
 import report as reports
-from files import Refused
+from drawing import plural
+from files import Refused, map_file
+from links import AnyRecords
 from refusals import reason
 
 BESIDE = 3                  # lines shown before and behind a wrong one
@@ -24,13 +27,28 @@ def check(asked, words, folder, told):
     except OSError as fault:
         raise Refused(f"{name!r}: {fault.strerror}", 4) from None
     lines = data.decode("ascii", errors="replace").split("\n")
-    captures, _, _ = front.prepared(front.Asked(asked.files[1:], words, dict(asked.port)), folder, told)
-    if lines[0] == "report 1":
-        told_lines = plain(asked, words, lines, captures, folder, told)
+    if data[:4] in front.STARTS:
+        raise Refused(f"{name!r} is a capture: the report stands first, --check REPORT CAPTURE", 2)
+    captures, _, _ = front.prepared(front.Asked(asked.files[1:], words, asked.port), folder, told)
+    other = another(lines, captures)
+    if other:
+        told_lines = ["no: capture", other]
+    elif lines[0] == "report 1":
+        told_lines = unmarked(asked, words, lines, captures, folder, told)
     else:
         told_lines = traced(asked, data, lines, captures, folder, told)
     print("\n".join(told_lines))
     return 0 if told_lines[0] == "yes" else 1
+
+
+def another(lines, captures):
+    """Says it where the report is of another capture than these: they have another number of records."""
+    said = re.match(r"records (\d{1,15}) ", lines[1]) if len(lines) > 1 else None
+    try:
+        there = sum(1 for path in captures for _ in AnyRecords(path, map_file(path)))
+    except Refused:
+        return ""
+    return f"The report is of a capture with {plural(int(said[1]), 'record')}, and this one has {there:,}." if said and int(said[1]) != there else ""
 
 
 def served(asked, words, captures, folder, told):
@@ -40,7 +58,7 @@ def served(asked, words, captures, folder, told):
     return run.report.read_text("ascii").split("\n")
 
 
-def plain(asked, words, lines, captures, folder, told):
+def unmarked(asked, words, lines, captures, folder, told):
     """A report without marks or answers is a function of the capture, and so of a run of its own."""
     if any(line.startswith("answer ") for line in lines):
         raise Refused("a report with answers of CALLs is judged with its marks alone: take one of sqrun --trace")
@@ -56,7 +74,7 @@ def traced(asked, data, lines, captures, folder, told):
     """What sqreplay says, with what it means."""
     given = data + b"".join(path.read_bytes() for path in captures)
     told.begin("checking", len(given))
-    done = subprocess.run(front.program("sqreplay", asked.sqreplay), input=given, capture_output=True)
+    done = subprocess.run(builds.command("sqreplay", asked.sqreplay), input=given, capture_output=True)
     told.end()
     said = done.stdout.decode(errors="replace").strip()
     if done.returncode not in (0, 1) or not said:

@@ -4,10 +4,10 @@ from dataclasses import dataclass, replace
 from capture import ACK, FIN, PSH, RST, SYN
 from drawing import plural, seconds
 from findings import Found
-from segments import MSS, SACK_PERMITTED, SCALE, TIMESTAMP, option_text, options
+from segments import MSS, SACK_PERMITTED, SCALE, TIMESTAMP, accepts, opens, option_text, options
 from served import rows
 from timeseq import lives, near
-from watching import Handshake, Watch, judge_timeouts
+from watching import LATE, Handshake, Watch, judge_timeouts
 
 SOON = 1_000                # microseconds, below which no timer sends again
 
@@ -25,15 +25,30 @@ class Compared:
     trip: int                   # microseconds from the SYN to its answer
 
 
-def compare(number, conn, served):
-    """All lives of a connection, compared."""
-    out = []
-    for n, life in enumerate(lives(conn, served)):
-        found = Found()
-        life.server = once(life.server, found)
-        state, trip = compare_life(life, found, served.end, in_order(life, rows(conn, served)))
+def compare(number, conn, served, sums):
+    """All lives of a connection, compared. `sums` says which segments have a wrong checksum."""
+    out, used = [], lives(conn, served)
+    ends = [life.client[0].at if life.client else 1 << 63 for life in used[1:]] + [1 << 63]
+    spoilt, begin = sums.spoilt.get(conn.tuple, []), 0
+    for n, (life, stop) in enumerate(zip(used, ends)):
+        found, listed = Found(), in_order(life, rows(conn, served))
+        life = heard(life, [s for s in spoilt if begin <= s.at < stop], found)
+        card = [s for s in life.server if s.record in sums.card]
+        if card:
+            found.add("checksums of the card", card[0], f"{len(card)} of {plural(len(life.server), 'segment')}", "none")
+        state, trip = compare_life(life, found, served.end, listed, bool(card))
         out.append(Compared(number, n, conn, served, life, found.differences(), state, trip))
+        begin = stop
     return out
+
+
+def heard(life, spoilt, found):
+    """The life without what no receiver takes, and without what the capture holds a second time."""
+    for s in spoilt:
+        found.add("wrong checksum", s, plural(len(spoilt), "segment"), "")
+    left_out = {s.record for s in spoilt}
+    return replace(life, client=[s for s in life.client if s.record not in left_out],
+                   server=once([s for s in life.server if s.record not in left_out], found))
 
 
 def once(segments, found):
@@ -50,37 +65,61 @@ def once(segments, found):
 
 
 def in_order(life, listed):
-    """The segments of a life with sqrun's answers, each behind what it answers."""
+    """The segments of a life with sqrun's answers, each behind what it answers, from the SYN on that sqrun answered."""
     mine = {id(s) for s in life.client + life.replies}
-    return [thing for _, kind, thing in listed if kind in ("segment", "reply") and id(thing) in mine]
+    out = [thing for _, kind, thing in listed if kind in ("segment", "reply") and id(thing) in mine]
+    return out[next((n for n, s in enumerate(out) if opens(s) and s.seq == life.irs), 0):]
 
 
-def compare_life(life, found, end, beside):
+def compare_life(life, found, end, beside, offloaded):
     """The captured server's state at the end, and the way to the capture's place and back. `beside` are the client's segments and sqrun's answers."""
-    syn = next((s for s in life.client if s.has(SYN) and not s.has(ACK)), None)
     if not life.server:
         found.add("no answer", life.client[0] if life.client else None, "nothing", plural(len(life.replies), "segment"))
         return "", 0
+    syn = next(filter(opens, life.client), None)
     if syn is None:
         found.add("begins inside", life.client[0] if life.client else None, plural(len(life.server), "segment"), plural(len(life.replies), "segment"))
         return "", 0
-    answer = next((s for s in life.server if s.has(SYN)), None)
-    if answer is None:
+    stretches = handshakes(life)
+    if not stretches:
         return no_syn_ack(life, syn, found), 0
-    shake = Handshake(next((s for s in reversed(life.client) if s.has(SYN) and s.record < answer.record), syn), answer)
-    compare_handshake(life, shake, found)
-    watch = watched(life, shake, found, sorted(life.client + life.server, key=lambda s: s.record))
     ours = next((s for s in life.replies if s.has(SYN)), None)
-    if ours is not None:
-        reference = watched(replace(life, server=life.replies), Handshake(syn, ours), Found(), beside)
-        compare_watches(life, watch, reference, found)
+    beside_us = next((n for n, (one, _) in enumerate(stretches) if one.irs == life.irs), 0)
+    found.wire = any(shake.trip >= LATE for _, shake in stretches)
+    for n, (one, shake) in enumerate(stretches):
+        watch = watched(one, shake, found, sorted(one.client + one.server, key=lambda s: s.record), offloaded)
+        compare_handshake(one, shake, found)
+        if n == beside_us and ours is not None:
+            reference = watched(replace(life, server=life.replies), Handshake([syn], ours), Found(), beside, False)
+            compare_watches(one, watch, reference, found)
     compare_end(life, watch, found, end)
-    return watch.state, shake.trip
+    return watch.state, stretches[beside_us][1].trip
 
 
-def watched(life, shake, found, segments):
+def handshakes(life):
+    """Of each handshake of the captured server what belongs to it, as a life, and the handshake itself.
+
+    A SYN with another number begins a new one; so does one that gets an answer with another number.
+    """
+    shakes, since, servers = [], {}, {id(s) for s in life.server}       # `since`: by number the SYNs since the last one began
+    for s in sorted(life.client + life.server, key=lambda s: s.record):
+        if id(s) not in servers:
+            if opens(s):
+                since.setdefault(s.seq, []).append(s)
+        elif accepts(s) and since:
+            asked = since.get((s.ack - 1) % 2 ** 32) or next(reversed(since.values()))
+            if not shakes or (shakes[-1][0][0].seq, shakes[-1][1].seq) != (asked[0].seq, s.seq):
+                shakes.append((asked, s))
+                since = {}
+    ends = [(asked[0].record, answer.record) for asked, answer in shakes[1:]] + [(1 << 63, 1 << 63)]
+    return [(replace(life, client=[s for s in life.client if asked[0].record <= s.record < client_end],
+                     server=[s for s in life.server if answer.record <= s.record < server_end], irs=asked[0].seq), Handshake(asked, answer))
+            for (asked, answer), (client_end, server_end) in zip(shakes, ends)]
+
+
+def watched(life, shake, found, segments, offloaded):
     """A server watched from the first segment to the last."""
-    watch = Watch(life, shake, found)
+    watch = Watch(life, shake, found, offloaded)
     for segment in segments:
         watch.take(segment)
     watch.end()
@@ -88,14 +127,29 @@ def watched(life, shake, found, segments):
 
 
 def no_syn_ack(life, syn, found):
-    first = life.server[0]
-    if first.has(RST):
-        found.add("SYN refused", first, "reset", "SYN,ACK")
-        if not first.has(ACK) or near(first.ack, syn.seq) != syn.span() or first.seq:
-            found.add("reset with a wrong number", first, f"seq {first.seq}, ack {near(first.ack, syn.seq)}", f"seq 0, ack {syn.span()}")
-        return "LISTEN"
-    found.add("no answer", first, "no SYN,ACK in the capture", "SYN,ACK")
-    return ""
+    """The state of a server that answered no SYN by SYN,ACK. A reset may answer another segment than the SYN, whatever came before it."""
+    answers = [s for s in life.server if s.record > syn.record]
+    refusals = [s for s in answers if s.has(RST) and not of_another(s, life.client)]
+    if not refusals:
+        found.add("no answer", syn, "no SYN,ACK in the capture", "SYN,ACK")
+        return ""
+    first = refusals[0]
+    found.add("SYN refused", first, "reset", "SYN,ACK")
+    asked = [s for s in life.client if opens(s) and s.record < first.record]
+    if not any(first.has(ACK) and first.seq == 0 and near(first.ack, s.seq) == s.span() for s in asked) and not inside(life, first):
+        found.add("reset with a wrong number", first, f"seq {first.seq}" + f", ack {near(first.ack, syn.seq)}" * first.has(ACK), f"seq 0, ack {syn.span()}")
+    return "LISTEN"
+
+
+def of_another(reset, client):
+    """Whether the reset answers a segment of the client that is no SYN, as RFC 9293, 3.10.7.1 says."""
+    before = (s for s in client if s.record < reset.record and not opens(s))
+    return any(reset.seq == s.ack if s.has(ACK) else reset.seq == 0 and reset.has(ACK) and reset.ack == (s.seq + s.span()) % 2 ** 32 for s in before)
+
+
+def inside(life, segment):
+    """Whether the server may know of an older connection, whose numbers the capture hasn't got: then a reset may have any."""
+    return any(s.record < segment.record and not s.has(RST) for s in life.server) or not opens(life.client[0])
 
 
 # The handshake.
@@ -104,10 +158,10 @@ NAMED = ((MSS, "maximum segment size"), (SCALE, "window scale"), (SACK_PERMITTED
 
 
 def compare_handshake(life, shake, found):
-    answer, syn = shake.answer, shake.syn
-    if not 1 <= near(answer.ack, syn.seq) <= syn.span():
-        found.add("SYN acknowledged wrongly", answer, f"ack {near(answer.ack, syn.seq)}", "ack 1")
+    answer = shake.answer
     ours = next((r for r in life.replies if r.has(SYN)), None)
+    if not any(1 <= near(answer.ack, syn.seq) <= syn.span() for syn in shake.syns) and not taken(life.client, answer):
+        found.add("SYN acknowledged wrongly", answer, f"ack {near(answer.ack, shake.syns[0].seq)}", "ack 1")
     theirs = options(ours) if ours else {}
     for kind, name in NAMED:
         one, other = option_text(kind, shake.offered), option_text(kind, theirs)
@@ -121,6 +175,11 @@ def compare_handshake(life, shake, found):
     if len(again) != len(again_ours):
         found.add("SYN,ACK again", again[min(1, len(again) - 1)], times(again), times(again_ours))
     judge_timeouts([s.at for s in unasked(again, life.client)], again[-1], found)
+
+
+def taken(client, answer):
+    """Whether the client goes on from the numbers of this answer: then it sent a SYN that the capture hasn't got."""
+    return any(s.has(ACK) and not s.has(RST) and s.record > answer.record and s.seq == answer.ack and near(s.ack, answer.seq) >= 1 for s in client)
 
 
 def unasked(answers, client):
@@ -210,7 +269,7 @@ def compare_windows(watch, reference, found):
     if not theirs or not ours:
         return
     if (min(theirs), max(theirs)) != (min(ours), max(ours)):
-        found.add("window", None, f"{min(theirs):,} to {max(theirs):,} bytes", f"{min(ours):,} to {max(ours):,} bytes")
+        found.add("window", None, span(theirs), span(ours))
     if 0 in theirs and 0 not in ours:
         found.add("window closed", next(s for size, s in watch.incoming.windows if size == 0), f"{plural(theirs.count(0), 'time')}", "never")
 
@@ -224,10 +283,14 @@ def compare_again(life, watch, reference, found):
         found.add("window probed", theirs.probes[0], probed(theirs), probed(ours))
 
 
+def span(sizes):
+    return f"{min(sizes):,} bytes" if min(sizes) == max(sizes) else f"{min(sizes):,} to {max(sizes):,} bytes"
+
+
 def probed(side):
     if not side.probes:
         return "never"
-    closed = [one[0].at for one in side.closed] + ([side.closed_at.at] if side.closed_at else [])
+    closed = [one.by.at for one in side.closed] + ([side.closed_at.at] if side.closed_at else [])
     first = side.probes[0].at
     return f"{plural(len(side.probes), 'time')}, first {seconds(first - max((at for at in closed if at <= first), default=first))} after it closed"
 

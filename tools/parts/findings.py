@@ -5,9 +5,11 @@ from standards import KINDS
 
 FRAMES = 20                 # that are named of one kind
 # What a capture with gaps, or of segments that changed places, can't tell: there it is unjudged.
-DOUBTS = ("acknowledged what isn't captured", "text isn't captured", "acknowledgement went back")
+DOUBTS = ("acknowledged what isn't captured", "text isn't captured", "acknowledgement went back", "wrong checksum")
 NEEDS_WHOLE = ("SYN acknowledged wrongly", "acknowledged too late", "acknowledged too seldom", "acknowledged before it came", "gap not acknowledged",
                "window shrunk", "window opened by little", "past the window", "window not probed", "sent again early", "reset with a wrong number", "SYN not challenged")
+# What a long or lossy wire can do to a right server: unjudged where it's far, or where either side sent again.
+NEEDS_WIRE = ("acknowledged too late", "acknowledged too seldom", "acknowledged before it came", "gap not acknowledged", "window not probed")
 
 
 @dataclass
@@ -25,6 +27,7 @@ class Difference:
 class Found:
     def __init__(self):
         self.by_kind = {}
+        self.wire = False           # the wire may count: the server is far, or something was sent again
 
     def add(self, kind, segment=None, captured="", reference=""):
         frame = segment.record + 1 if segment is not None and segment.record >= 0 else None
@@ -38,8 +41,8 @@ class Found:
 
     def differences(self):
         """All of them; where the capture leaves doubts, what depends on them is unjudged."""
-        if any(kind in self.by_kind for kind in DOUBTS):
-            for kind in NEEDS_WHOLE:
-                if kind in self.by_kind:
-                    self.by_kind[kind].verdict = "unjudged"
+        doubted = NEEDS_WHOLE if any(kind in self.by_kind for kind in DOUBTS) else NEEDS_WIRE if self.wire else ()
+        for kind in doubted:
+            if kind in self.by_kind:
+                self.by_kind[kind].verdict = "unjudged"
         return list(self.by_kind.values())

@@ -10,13 +10,16 @@ import signal
 import subprocess
 import sys
 import time
+from contextlib import contextmanager
 from dataclasses import dataclass, field
 from pathlib import Path
 
+import builds
+import drawing
 import links
 from capture import captures_of
-from files import Refused, map_file, plain
-from packets import KINDS
+from files import MAGICS, SECTION, Refused, map_file, plain
+from packets import KINDS, SERVICES
 from refusals import explained
 
 TOOLS = Path(__file__).resolve().parents[1]
@@ -24,6 +27,8 @@ TOP = TOOLS.parent
 MOST_BYTES = 67_108_864
 PACKED = ((b"\x1f\x8b", gzip.open), (b"\xfd7zXZ\0", lzma.open), (b"BZh", bz2.open), (b"\x28\xb5\x2f\xfd", None))
 PIECE = 1 << 20
+MOST_UNPACKED = 1 << 30     # bytes of what is unpacked, so that a small file can't fill a disk
+STARTS = (*MAGICS, SECTION)
 COUNTS = re.compile(rb"report [12]\nrecords (\d+) tail ([01]) " + b" ".join(kind.encode() + rb" (\d+)" for kind in KINDS) + rb" connections (\d+)\n")
 
 
@@ -60,7 +65,7 @@ class Progress:
         now = time.monotonic()
         if self.terminal and now - self.said >= 0.2:
             self.said = now
-            self.line(f"{self.what}: {now - self.begun:.0f} s")
+            self.line(f"{self.what}{f' {self.whole / 1e6:,.1f} MB' if self.whole else ''}: {now - self.begun:.0f} s")
 
     def line(self, text):
         self.out.write("\r" + text + " " * max(0, self.length - len(text)))
@@ -98,7 +103,7 @@ class Explained(Refused):
     """A line of sqrun's in place of a report, with what it means."""
 
     def __init__(self, line, status):
-        super().__init__(line or f"sqrun ended with {status}", status if status > 0 else 1)
+        super().__init__(line.removeprefix("sqrun: ") or f"sqrun ended with {status}", status if status > 0 else 1)
         self.meaning = explained(line)
 
 
@@ -108,20 +113,6 @@ def lines_of(fault):
         return f"{fault.strerror}: {plain(repr(fault.filename))}"
     meaning = getattr(fault, "meaning", "")
     return plain(fault) + (f"\n{meaning}" if meaning else "")
-
-
-def program(name, given=""):
-    """The command of a program: the one given, the one that the environment names, the built one, the unproved one, or that on the path."""
-    if given:
-        return shlex.split(given)
-    if os.environ.get(name.upper()):
-        return shlex.split(os.environ[name.upper()])
-    for path in (TOP / name, TOP / f"{name}-unproved"):
-        if os.access(path, os.X_OK):
-            return [str(path)]
-    if shutil.which(name):
-        return [name]
-    raise Refused(f"no {name}: ./build proves and builds it, tools/try-build {name} builds it unproved in two minutes, --{name} names another", 2)
 
 
 def opened(path, folder, number, told):
@@ -169,17 +160,42 @@ def copied(source, end, told):
 
 
 def unpacked(path, opener, end, told):
-    """What the opener reads, as a file; Zstandard is unpacked by its own program."""
+    """What the opener reads, as a file; Zstandard is unpacked by its own program. What begins as no capture does isn't unpacked any further."""
+    if opener is None and not shutil.which("zstd"):
+        raise Refused(f"{str(path)!r} is a Zstandard file: needs the Debian package zstd", 2)
+    with bounded(path, opener) as source, open(end, "wb") as out:
+        while piece := source.read(PIECE):
+            if out.tell() + len(piece) > MOST_UNPACKED:
+                raise Refused(f"{str(path)!r} has more than {MOST_UNPACKED >> 30} GiB in it: unpack it by hand, and name what comes out", 7)
+            if not out.tell() and piece[:4] not in STARTS:
+                raise Refused(f"{str(path)!r} has no capture in it: it begins with {piece[:4].hex()}", 6)
+            out.write(piece)
+            told.tell(out.tell())
+    return end
+
+
+@contextmanager
+def bounded(path, opener):
+    """What is in a compressed file, as something to read from; no more of it is unpacked than is read."""
     if opener:
         with opener(path, "rb") as source:
-            return copied(source, end, told)
-    if not shutil.which("zstd"):
-        raise Refused(f"{str(path)!r} is a Zstandard file: needs the Debian package zstd", 2)
-    with open(path, "rb") as source, open(end, "wb") as out:
-        done = subprocess.run(["zstd", "-dcq"], stdin=source, stdout=out, stderr=subprocess.PIPE)
-    if done.returncode:
-        raise Refused(f"{str(path)!r}: {done.stderr.decode(errors='replace').strip()[:200]!r}", 4)
-    return end
+            yield source
+        return
+    with open(path, "rb") as data, subprocess.Popen(["zstd", "-dcq"], stdin=data, stdout=subprocess.PIPE, stderr=subprocess.PIPE) as running:
+        try:
+            yield running.stdout
+            said = running.stderr.read()
+        except Refused:
+            running.kill()
+            raise
+    if running.returncode:
+        raise Refused(f"{str(path)!r}: {said.decode(errors='replace').strip()[:200]!r}", 4)
+
+
+def writable(path):
+    """Refuses a place where nothing can be written before there is anything to write."""
+    if path and (os.path.isdir(path) or not os.access(path if os.path.exists(path) else os.path.dirname(path) or ".", os.W_OK)):
+        raise Refused(f"{path!r}: {'it is a folder' if os.path.isdir(path) else 'nothing can be written there'}", 2)
 
 
 def files_of(names):
@@ -221,13 +237,34 @@ def run(asked, folder, told):
         made = shard(asked, captures, folder, told)
         notes = notes + ["served in shards, since one run is limited"]
     made.ports = ports
-    made.notes = notes + ["served by a program without proof"] * program("sqrun", asked.sqrun)[0].endswith("-unproved")
+    made.notes = notes + [builds.NOTE] * builds.is_unproved(builds.command("sqrun", asked.sqrun))
     return made
 
 
 def split(asked):
     """Whether shards may serve it: they have neither CALLs nor marks."""
     return not any(word == "--trace" or not word.startswith("-") and ":" in word for word in asked.words)
+
+
+def without(captures, records, folder, told):
+    """The captures as one, without these records, which keep their places."""
+    end = place(folder, "received", Path(captures[0]).name)
+    told.begin("reading", sum(os.stat(path).st_size for path in captures))
+    links.convert(captures, end, None, told.tell, records)
+    told.end()
+    return end
+
+
+def nothing_served(run):
+    """What is there instead, where nothing was served, and what to do."""
+    seen = links.Seen(run.captures)
+    if run.counts["cut"] and any(port in seen.tcp for port in SERVICES):
+        return (f"nothing whole to port 7 or 9: {drawing.plural(run.counts['cut'], 'packet')} {'is' if run.counts['cut'] == 1 else 'are'} cut short. "
+                "Capture again with whole packets: `tcpdump -s 0`")
+    busiest = seen.tcp.most_common(1)
+    advice = f"--port {busiest[0][0]}=9 serves the first as discard, ={7} as echo" if busiest else "sqrun serves TCP over IPv4"
+    mistaken = "; UDP to port 7 or 9 is sqmore's" if {7, 9, 19} & set(seen.udp) else ""
+    return f"nothing to port 7 or 9: the capture has {seen.words()}. {advice}{mistaken}"
 
 
 def serve(asked, captures, folder, told):
@@ -238,7 +275,7 @@ def serve(asked, captures, folder, told):
     report = folder / "report"
     told.begin("serving", size)
     with open(captures[0], "rb") as data, open(report, "wb") as out:
-        done = subprocess.Popen([*program("sqrun", asked.sqrun), *asked.words], stdin=data, stdout=out, stderr=subprocess.PIPE)
+        done = subprocess.Popen([*builds.command("sqrun", asked.sqrun), *asked.words], stdin=data, stdout=out, stderr=subprocess.PIPE)
         try:
             said = waited(done, told)
         finally:
@@ -288,7 +325,7 @@ def shard(asked, captures, folder, told):
     """One report by sqshard."""
     work, report = Path(asked.work) if asked.work else folder / "shards", folder / "report"
     told.begin("serving in shards", 0)
-    words = [sys.executable, TOOLS / "sqshard", "run", *["--verify"] * ("--verify" in asked.words), "--sqrun", shlex.join(program("sqrun", asked.sqrun)), work, *captures]
+    words = [sys.executable, TOOLS / "sqshard", "run", *["--verify"] * ("--verify" in asked.words), "--sqrun", shlex.join(builds.command("sqrun", asked.sqrun)), work, *captures]
     with open(report, "wb") as out:
         done = subprocess.run(list(map(str, words)), stdin=subprocess.DEVNULL, stdout=out, stderr=None if told.terminal else subprocess.PIPE)
     told.end()

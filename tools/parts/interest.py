@@ -3,6 +3,7 @@ from dataclasses import dataclass
 
 import timeseq
 from capture import ACK, RST, SYN
+from drawing import plural
 
 
 @dataclass
@@ -16,10 +17,6 @@ class Interest:
         return -len(self.reasons), -self.again, self.number
 
 
-def counted(n, words):
-    return [f"{words} {n:,}"] if n else []
-
-
 def of(number, conn, served):
     again = late = by_client = 0
     lives = timeseq.lives(conn, served)
@@ -28,7 +25,8 @@ def of(number, conn, served):
         came = timeseq.kinds(life.client, life.irs)
         by_client += came.count("again")
         late += came.count("late")
-    reasons = counted(again, "sent again") + counted(by_client, "again from the client") + counted(late, "late from the client")
+    twice = [f"{who} repeated {plural(n, 'segment')}" for who, n in (("sqrun", again), ("the client", by_client)) if n]
+    reasons = twice + [f"{plural(late, 'segment')} of the client came late"] * bool(late)
     reasons += ["reset by the client"] * any(s.has(RST) for s in conn.client) + ["reset by sqrun"] * any(s.has(RST) for s in served.replies)
     reasons += ["window closed"] * any(s.window == 0 and s.has(ACK) and not s.has(RST | SYN) for s in [*conn.client, *served.replies])
     reasons += [f"used {len(lives)} times"] * (len(lives) > 1) + ["still open"] * (served.end not in ("LISTEN", "TIME-WAIT"))

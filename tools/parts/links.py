@@ -10,6 +10,7 @@ from files import MOST_BODY, SECTION, Records, Refused, header, map_file
 from packets import LINK_SIZE, SERVICES
 
 RAW_IP = 101
+SYN, ACK = 2, 16            # in the header's byte 13
 IPV4, TAGS, PPPOE = b"\x08\0", (b"\x81\0", b"\x88\xa8", b"\x91\0"), b"\x88\x64"
 AROUND = (*TAGS, PPPOE)
 NOTHING, WRONG_VERSION = b"\x60", b"\0"
@@ -154,10 +155,10 @@ class Ports:
         return f"{client} {server.partition(':')[0]}:{self.real_port(client, server)}"
 
 
-def convert(paths, to, ports, told):
+def convert(paths, to, ports, told, without=frozenset()):
     """Writes the records of all files as one pcap of raw IP. Answers how many there are, and whether a tail was cut.
 
-    `told` is called with the bytes and records done so far.
+    `told` is called with the bytes and records done so far. Of the records in `without`, numbered from 0, nothing is left but their place.
     """
     done = number = 0
     cut = False
@@ -166,7 +167,7 @@ def convert(paths, to, ports, told):
         for path in paths:
             records = AnyRecords(path, map_file(path))
             for at, body in records:
-                data = packet(records.link, body)
+                data = NOTHING if number in without else packet(records.link, body)
                 data = ports.turned(data) if ports else data
                 seconds = min(at // 1_000_000, 0xffff_ffff)
                 if at - seconds * 1_000_000 > 0xffff_ffff:
@@ -183,13 +184,18 @@ def convert(paths, to, ports, told):
 
 
 class Seen:
-    """What a capture has, where nothing of it is served."""
+    """What captures have, where nothing of them is served."""
 
-    def __init__(self, path):
-        self.tcp, self.udp, self.other = Counter(), Counter(), Counter()
-        records = AnyRecords(path, map_file(path))
-        for _, body in records:
-            self.count(packet(records.link, body), body, records.link)
+    def __init__(self, paths):
+        self.pairs, self.asked, self.udp, self.other = Counter(), set(), Counter(), Counter()
+        for path in paths:
+            records = AnyRecords(path, map_file(path))
+            for _, body in records:
+                self.count(packet(records.link, body), body, records.link)
+        # A server's port is one that a SYN went to; where none shows it, the lower of the two.
+        self.tcp = Counter()
+        for (source, destination), count in self.pairs.items():
+            self.tcp[min([port for port in (source, destination) if port in self.asked] or (source, destination))] += count
 
     def count(self, data, body, link):
         if data == NOTHING or not data:
@@ -199,7 +205,14 @@ class Seen:
         if len(data) < 20 or data[9] not in (6, 17) or len(data) < at + 4 or data[6] & 0x1f or data[7]:
             self.other["other IPv4"] += 1
             return
-        (self.tcp if data[9] == 6 else self.udp)[min(PORTS.unpack_from(data, at))] += 1
+        ports = PORTS.unpack_from(data, at)
+        if data[9] == 17:
+            self.udp[min(ports)] += 1
+            return
+        self.pairs[ports] += 1
+        flags = data[at + 13] if len(data) > at + 13 else 0
+        if flags & SYN:
+            self.asked.add(ports[0 if flags & ACK else 1])
 
     def words(self, most=6):
         """`TCP ports 443 (1,000 segments), 22 (17); UDP ports 53 (8); 12 of IPv6`."""

@@ -10,7 +10,7 @@ import drawing
 import ladder
 import squeues
 import timeseq
-from drawing import plural
+from drawing import display_filter, plural
 from served import PLACED
 
 HERE = Path(__file__).resolve().parent
@@ -21,12 +21,15 @@ TABLE_MOST = 500
 TABLES_MOST = 60        # connections drawn, each with a table of its segments
 PLAIN_MOST = 1_000      # rows of the table without the script
 SCRIPTS = ("gestures.js", "page.js", "timeline.js", "table.js")
-HINT = "Drag to zoom, with Shift to pan; Ctrl and wheel zoom too. Arrow keys walk the segments, w a s d zoom and pan, Escape for all."
+HINT = "In a graph drag to zoom, with Shift to pan; Ctrl and wheel zoom too. Arrow keys walk the segments, w a s d zoom and pan, Escape for all."
+HINT_COARSE = "In a graph drag to zoom, or use two fingers; a tap names the segment below it."
 TIMELINE_HINT = ("Drag, or Shift and wheel, to pan; Ctrl and wheel, two fingers, or double click to zoom; the strip above shows where you are. "
                  "Click or use the arrow keys to choose a bar, w a s d to zoom and pan, / to find a connection, n and p for its next and previous bar, Escape for all.")
+TIMELINE_COARSE = "Drag to pan, two fingers zoom; the strip above shows where you are. A tap says what a bar is."
 SHARES = "Where too many marks are in view, a bar's height is the share of the width in which a pass had the squeue; full height is all of it."
 NO_CLOCK = "Marks stand in the order of their squeue; between squeues what happened before stands to the left. There is no clock."
-NOT_PROVED = "Drawn by sqplot from what the report says. Nothing on this page is proved, and whether the marks may stand so isn't judged here."
+NOT_PROVED = "Drawn by sqplot from what the report says. Nothing on this page is proved"
+NOT_JUDGED = ", and whether the marks may stand so isn't judged here"
 COUNTED = (("server", "from the server"), ("other", "other"), ("fragment", "fragments"), ("cut", "cut"), ("malformed", "malformed"),
            ("badsum", "with a wrong checksum"), ("nofit", "beyond 4,096 connections"))
 
@@ -55,12 +58,6 @@ def clock(us, date=True):
     return moment.strftime("%Y-%m-%d %H:%M:%S" if date else "%H:%M:%S") + f".{us % 1_000_000:06}" + " UTC" * date
 
 
-def display_filter(ends):
-    """What shows this connection alone in Wireshark and tshark."""
-    (a, p), (b, q) = (end.rsplit(":", 1) for end in ends.split(" "))
-    return f"ip.addr == {a} && tcp.port == {p} && ip.addr == {b} && tcp.port == {q}"
-
-
 def listing(life, begun, whole):
     """The same in words: a table for those who can't see the graph."""
     rows = sorted([(s.at, 0, "client", s, timeseq.near(s.seq, life.irs)) for s in life.client]
@@ -80,7 +77,7 @@ def begin_of(conn, served):
 def about(c, conn, served, whole, lives, reasons, marked):
     """The lines below a connection's name."""
     out = [f'<p class="quiet">{plural(len(conn.client), "segment")} from the client, {replies(len(served.replies))}; it ends in {escape(served.end)}.'
-           + (f" Its address pair was used {len(lives)} times." if len(lives) > 1 else "") + (f" To be seen: {', '.join(reasons)}." if reasons else "") + "</p>"]
+           + (f" Its address pair was used {len(lives)} times." if len(lives) > 1 else "") + (f" See: {', '.join(reasons)}." if reasons else "") + "</p>"]
     begins = f"Begins {clock(begin_of(conn, served))}"
     if conn.client:
         name, frame = whole.frame(conn.client[0].record)
@@ -99,7 +96,7 @@ def figures(c, conn, served, report, whole, lives, few):
         for way in timeseq.directions(life):
             ident = f"c{c}" + (f"life{n}" if n else "") + way.name
             panel = timeseq.Panel(ident, life, way, whole.frame)
-            out.append(f'<div class="fit">{panel.draw()}</div><p class="read" id="{ident}-read" aria-live="polite" data-hint="{HINT}"></p>'
+            out.append(f'<div class="fit">{panel.draw()}</div><p class="read" id="{ident}-read" aria-live="polite"></p>'
                        + data(panel.told(), ident))
         if few:
             out.append(listing(life, panel.begun, whole))
@@ -119,15 +116,16 @@ def connection(c, report, whole, reasons, few):
             + f'<noscript>{figures(c, conn, served, report, whole, lives, few)}</noscript></section>')
 
 
+SHORT = ("client", "server", "service", "begins", "end")     # columns of words that stay on one line
 COLUMNS = (("#", 1), ("client", 0), ("server", 0), ("service", 0), ("begins", 0), ("ms", 1), ("segments", 1), ("replies", 1), ("bytes", 1), ("again", 1),
-           ("to be seen", 0), ("end", 0))
+           ("end", 0), ("see", 0))
 
 
 def row(c, conn, served, interest):
     a, b = conn.tuple.split(" ")
     times = [s.at for s in conn.client] + [s.at for s in served.replies]
     return [c, a, b, served.service, clock(min(times, default=0), date=False), (max(times, default=0) - min(times, default=0)) // 1000, len(conn.client),
-            len(served.replies), sum(r.length for r in served.replies), interest.again, "; ".join(interest.reasons), served.end]
+            len(served.replies), sum(r.length for r in served.replies), interest.again, served.end, "; ".join(interest.reasons)]
 
 
 def table(whole, report, drawn, interests):
@@ -136,12 +134,12 @@ def table(whole, report, drawn, interests):
     rows, has = [row(c, whole.conns[c], report.conns[c], interests[c]) for c in order], set(drawn)
     head = "".join(f'<th{" class=n" * numeric}>{name}' for name, numeric in COLUMNS)
     buttons = "".join(f'<th{" class=n" * numeric}><button type="button">{name}</button>' for name, numeric in COLUMNS)
-    plain = "".join("<tr>" + "".join(f'<td{" class=n" * numeric}>' + (f'<a href="#conn{value}">{value}</a>' if name == "#" and value in has else escape(
+    plain = "".join("<tr>" + "".join(f'<td{" class=n" * numeric}{" class=short" * (name in SHORT)}>' + (f'<a href="#conn{value}">{value}</a>' if name == "#" and value in has else escape(
         f"{value:,}" if isinstance(value, int) and name != "#" else str(value))) for (name, numeric), value in zip(COLUMNS, one)) for one in rows[:PLAIN_MOST])
     return ('<div class="list" hidden><form role="search"><label>Filter <input type="search" placeholder="address, state, again .."></label>'
-            '<span class="count quiet" aria-live="polite"></span><span class="quiet">A column\'s name sorts.</span></form>'
+            '<span class="count quiet" aria-live="polite"></span><span class="quiet">Click a column\'s name to sort.</span></form>'
             f'<div class="rows"><table><thead><tr>{buttons}</thead><tbody></tbody></table></div><button type="button" class="more">more</button>'
-            + data({"columns": COLUMNS, "rows": rows, "drawn": sorted(has)}) + f'</div><noscript><div class="rows"><table><tr>{head}{plain}</table></div></noscript>')
+            + data({"columns": [(name, numeric, name in SHORT) for name, numeric in COLUMNS], "rows": rows, "drawn": sorted(has)}) + f'</div><noscript><div class="rows"><table><tr>{head}{plain}</table></div></noscript>')
 
 
 def head(title, script):
@@ -166,7 +164,7 @@ def timeline(report, whole, drawn, chosen, marks):
             'aria-label="zoom in">+</button><button type="button" data-do="all">all</button></form>'
             f'<div class="key">{squeues.legend()}</div><canvas class="strip" height="44" aria-hidden="true"></canvas>'
             f'<div class="scroll"><div class="tall"><canvas class="lanes" tabindex="0" role="img" aria-label="Timeline of the squeues. {escape(desc)}"></canvas></div></div>'
-            f'<p class="read" aria-live="polite" data-hint="{TIMELINE_HINT}"></p>{data(told)}</div>'
+            f'<p class="read" aria-live="polite" data-hint="{TIMELINE_HINT}" data-coarse="{TIMELINE_COARSE}"></p>{data(told)}</div>'
             f'<noscript><p class="page quiet">{escape(plain)}</p><div class="wide" tabindex="0" role="region" aria-label="Timeline of the squeues">{names}{svg}</div></noscript>')
 
 
@@ -176,9 +174,12 @@ def page(title, report, whole, drawn, chosen_squeues, marks, left_out, interests
     begins = min((begin_of(*pair) for pair in zip(whole.conns, report.conns)), default=None)
     out = [head(title, script), f'<div class="page"><h1>{escape(title)}</h1>',
            f'<p class="quiet">{plural(counts["records"], "record")}, {counts["served"]:,} served in {plural(counts["connections"], "connection")}{beside}.'
-           + (f" The first begins {clock(begins)}." if begins is not None else "") + "</p>", f'<p class="quiet">{NOT_PROVED}</p>']
+           + (f" The first begins {clock(begins)}." if begins is not None else "") + "</p>", f'<p class="quiet">{NOT_PROVED}{NOT_JUDGED if report.squeues else ""}.</p>']
+    if whole.conns and report.squeues:
+        out.append('<p><a href="#connections">Connections</a> · <a href="#squeues">Squeues</a></p>')
     if whole.conns:
-        out.append(f'<h2 id="connections">Connections</h2>{table(whole, report, drawn, interests)}')
+        out.append(f'<h2 id="connections">Connections</h2>{table(whole, report, drawn, interests)}'
+                   + f'<p class="quiet help"><span class="fine">{HINT}</span><span class="coarse">{HINT_COARSE}</span></p>' * bool(drawn))
     if left_out:
         out.append(f"<p>{left_out}</p>")
     out.append("</div>")

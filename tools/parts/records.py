@@ -2,19 +2,16 @@
 with cc, and kept in the user's cache. Without cc the same is done here in Python, some twenty times slower.
 """
 import ctypes
-import hashlib
 import mmap
 import os
-import shutil
-import subprocess
 import sys
-import tempfile
 from array import array
 from ctypes import Structure, byref, c_uint8, c_uint32, c_uint64, c_void_p
 from itertools import accumulate
 from pathlib import Path
 from struct import Struct
 
+from compiled import compiled
 from files import MOST_BODY, Refused
 from packets import KINDS, SERVED, classify
 
@@ -167,38 +164,15 @@ class Dealing(Structure):
     _fields_ = [("shards", c_void_p)] + [(name, c_uint64) for name in ("conns", "total", "first_rest", "rest_weight", "weight", "end")]
 
 
-def cache():
-    return Path(os.environ.get("XDG_CACHE_HOME") or Path.home() / ".cache") / "squeues"
-
-
-def compiled():
-    """The library's path, compiled if need be; None without cc."""
-    cc = shutil.which("cc")
-    if not cc:
-        return None
-    name = hashlib.sha256(SOURCE.read_bytes()).hexdigest()[:16]
-    path = cache() / f"records-{name}.so"
-    if not (path.exists() and path.stat().st_uid == os.geteuid()):
-        path.parent.mkdir(mode=0o700, parents=True, exist_ok=True)
-        with tempfile.TemporaryDirectory(dir=path.parent) as folder:
-            made = Path(folder) / "records.so"
-            if subprocess.run([cc, "-O2", "-shared", "-fPIC", "-o", made, SOURCE], stderr=subprocess.DEVNULL).returncode:
-                return None
-            made.rename(path)
-    return path
-
-
 def load():
     if os.environ.get("SQSHARD_PYTHON") or sys.byteorder != "little":
         return None
     try:
-        path = compiled()
-        library = ctypes.CDLL(str(path)) if path else None
-    except (OSError, RuntimeError):         # no place to keep it
+        library = ctypes.CDLL(str(compiled(SOURCE, "-O2", "-shared", "-fPIC")))
+    except (OSError, RuntimeError):         # no cc, or no place to keep it
         return None
-    if library:
-        library.walk.restype = library.measure.restype = library.scatter.restype = c_uint64
-        library.scan.restype = library.forget.restype = library.take_packets.restype = None
+    library.walk.restype = library.measure.restype = library.scatter.restype = c_uint64
+    library.scan.restype = library.forget.restype = library.take_packets.restype = None
     return library
 
 

@@ -3,6 +3,7 @@ import re
 
 MAGICS = {"1f8b": "a gzip file", "fd37": "an xz file", "28b5": "a Zstandard file", "425a": "a bzip2 file", "504b": "a zip file",
           "736e": "a snoop file (editcap turns it into pcap)", "7265": "text: a report, perhaps"}
+TEXT = "No capture begins so: it looks like text."
 SAVED = "Save it as pcap or pcapng: `editcap IN OUT.pcapng` reads what Wireshark reads."
 BROKEN = "The file is damaged there. `editcap IN OUT.pcapng` keeps what can still be read."
 # Each line that sqrun writes in place of a report, with what it means; {0}, {1}.. are what the line shows.
@@ -35,6 +36,8 @@ def explained(line):
     for form, told in LINES:
         found = re.fullmatch(form, line)
         if found:
+            if "magic" in form and found[1][:4] not in MAGICS and all(32 <= byte < 127 or byte in (9, 10, 13) for byte in bytes.fromhex(found[1])):
+                return TEXT
             magic = MAGICS.get(found[1][:4]) if "magic" in form else None
             conns = int(found[2]) if "call on" in form else 0
             return told.format(*found.groups(), magic=f": it looks like {magic}" if magic else "", link=LINK, shard=SHARD,

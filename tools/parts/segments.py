@@ -1,5 +1,5 @@
 """What a segment's bytes say beyond its numbers: options, text, checksum."""
-from capture import SYN
+from capture import ACK, RST, SYN
 from packets import total
 
 USUAL_MSS, ETHERNET_MOST = 536, 1_500
@@ -40,10 +40,14 @@ def text(segment):
     return tcp[start:start + segment.length]
 
 
-def sum_holds(segment):
-    data = segment.datagram
-    tcp = header(segment)
-    return total(data[12:20] + bytes((0, 6)) + len(tcp).to_bytes(2, "big") + tcp) == 0xffff
+def opens(segment):
+    """Whether it asks for a connection: a SYN that is neither an answer nor a reset."""
+    return segment.flags & (SYN | ACK | RST) == SYN
+
+
+def accepts(segment):
+    """Whether it's a SYN,ACK."""
+    return segment.flags & (SYN | ACK | RST) == SYN | ACK
 
 
 def room(segment, shift):

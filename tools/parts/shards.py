@@ -25,6 +25,7 @@ import sys
 from array import array
 from struct import Struct
 
+from drawing import plural
 from files import MOST_BODY, Records, Refused, header, is_pcapng
 from packets import KINDS, LINK_SIZE, OTHER
 from records import CONNECTION, LINE, Mapped, One, TooLong, deal as deal_records, little, packets_of, scan as scan_records, walk
@@ -211,7 +212,8 @@ class Whole:
             one.wait(last)
             report = one.report + 4 * LINE + 12 * one.records
             if one.octets > room or one.records > MOST_RECORDS - 1:
-                raise Refused(f"connection {c} {tuple_text(one.ends)} alone has {one.records} records in {one.octets} bytes: no shard can hold it", 7)
+                raise Refused(f"connection {c} {tuple_text(one.ends)} alone has {one.records:,} records in {one.octets:,} bytes, more than one run takes: "
+                              "cut the capture by time, as by `editcap -B TIME IN OUT`", 7)
             now = shards[-1] if shards else None
             if not now or now["bytes"] + one.octets > min(room, wanted_bytes) or now["records"] + one.records > MOST_RECORDS - 1 or \
                     now["report"] + report > MOST_REPORT or c - now["first"] == wanted_connections:
@@ -260,7 +262,7 @@ def plan(work, shard_bytes=MOST_BYTES, shard_conns=MOST_CONNECTIONS):
         "reports": [one["report"] for one in shards], "memory": needed, "cut": any(about["cut"] for about in whole.files),
         "counts": [sum(about["counts"][k] for about in whole.files) for k in range(len(KINDS))]})
     largest = max(shards, key=lambda one: one["report"], default={"bytes": 0, "report": 0})
-    return (f"{sum(sum(about['counts']) for about in whole.files):,} records, {len(whole.ones):,} connections: {len(shards)} shards, and {rests} of what is "
+    return (f"{sum(sum(about['counts']) for about in whole.files):,} records, {plural(len(whole.ones), 'connection')}: {plural(len(shards), 'shard')}, and {rests} of what is "
             f"served nowhere; no report has more than about {megabytes(largest['report'])}, and no shard needs more than about {megabytes(needed)} of memory")
 
 

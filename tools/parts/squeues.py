@@ -50,7 +50,7 @@ def runs(feeds):
 
 def wide(words):
     """About how wide the words are in a bar, in pixels."""
-    return sum(3.1 if c in ". " else 6.1 for c in words)
+    return sum(3.1 if c in ". il" else 8 if c in "→" else 5.7 for c in words)
 
 
 def act_words(act):
@@ -61,12 +61,12 @@ def act_words(act):
     return "looked for a block elsewhere" if act[0] == "away" else f"took {act[1]} out" if act[0] == "out" else f"put {act[1]} in"
 
 
-def short_words(stretch):
-    """What stands in a bar: the feeds, or the act."""
+def short_words(stretch, room):
+    """What stands in a bar of this width: the feeds and the act, or one of them, or a sign; the longest that fits."""
     act, feeds = stretch.act or ("",), runs(stretch.feeds)
-    if act[0] in ("out", "in"):
-        return f"{feeds} {act[0]} {act[1]}".strip()
-    return feeds or {"call": "call", "away": "away"}.get(act[0], "")
+    word = f"{act[0]} {act[1]}" if act[0] in ("out", "in") else {"call": "call", "away": "away"}.get(act[0], "")
+    sign = {"out": f"{act[1]}→", "in": f"→{act[1]}"}.get(act[0], "") if len(act) > 1 else ""
+    return next((one for one in (f"{feeds} {word}".strip(), word or feeds.split(" ")[0], sign) if one and wide(one) <= room), "")
 
 
 def lanes_of(marks):
@@ -153,8 +153,8 @@ class Timeline:
     def bar(self, s, end, left, right, y):
         said = ", ".join(filter(None, [runs(s.feeds), act_words(s.act)]))
         told = f"marks {s.first} to {end}: {lane_name(s.p, self.rings)} {CAME[s.came]}" + (f"; {said}" if said else "")
-        short, inset = short_words(s), 10 if s.act and s.act[0] == "in" else 4
-        words = text(left + inset, y + 14.5, short, "in") if wide(short) <= right - left - inset - 2 else ""
+        short = short_words(s, right - left - 4)
+        words = text(left + min(4, (right - left - wide(short)) / 2), y + 14.5, short, "in") if short else ""
         return (f'<g><title>{escape(told)}</title><rect class="own {role(s.p, self.rings)} {s.came}" x="{num(left + 1)}" y="{y + 3}" '
                 f'width="{num(right - left - 2)}" height="{LANE - 6}" rx="3"/>{words}</g>')
 
@@ -181,17 +181,15 @@ class Timeline:
     def queue(self, q):
         """The queue's length after each mark, and where the next squeue begins."""
         story, base = self.stories[q], self.tops[q] + len(self.lanes[q]) * LANE + 4
-        shown = [i for i in self.shown[q] if i < len(story.chain)]
-        high = CURVE if any(story.chain[i] for i in shown) else 0
-        out = self.curve(q, shown, base) if high else []
+        out = self.curve(q, [i for i in self.shown[q] if i < len(story.chain)], base)
         for i in self.shown[q]:
             if i % (5 if self.step > 16 else 10) == 0:
-                out.append(text(self.x(q, i), base + high + 14, i, "m t c"))
-        return out + [text(LEFT - 12, base + high + 14, "mark", "m t e")], base + high + GAP
+                out.append(text(self.x(q, i), base + CURVE + 14, i, "m t c"))
+        return out + [text(LEFT - 12, base + CURVE + 14, "mark", "m t e")], base + CURVE + GAP
 
     def curve(self, q, shown, base):
         story, floor = self.stories[q], base + CURVE
-        most = max(story.chain[i] for i in shown)
+        most = max([1, *(story.chain[i] for i in shown)])
         scale = (CURVE - 8) / most
         points, polls, waits = [], [], []
         for i in shown:
@@ -221,7 +219,7 @@ class Timeline:
             if start not in self.shown[r] or self.column[r][start] <= self.column[q][i]:
                 start = k
             ax, ay = self.x(q, i) + self.step / 2 - 1, self.tops[q] + self.lanes[q][p] * LANE + LANE / 2
-            bx, by = self.x(r, start) - self.step / 2 + 3, self.tops[r] + self.lanes[r][p] * LANE + LANE / 2
+            bx, by = self.x(r, start) - self.step / 2 - 1, self.tops[r] + self.lanes[r][p] * LANE + LANE / 2
             reach = min(60, max(10, (bx - ax) / 2))
             out.append(f'<g class="moved"><title>connection {c} moved from squeue {q} (mark {i}) to squeue {r} (mark {k})</title>'
                        f'<path class="move" d="M{num(ax)} {num(ay)}C{num(ax + reach)} {num(ay)} {num(bx - reach)} {num(by)} {num(bx)} {num(by)}"/>'
@@ -304,9 +302,8 @@ def told(report, conns, followed, chosen, window, linked):
 
 
 def legend():
-    """The signs of the timeline, as a figure of their own."""
-    signs, high = key(KEY, 1_000, 4)
-    return f'<svg class="fig" viewBox="0 0 1000 {high}" width="1000" height="{high}" aria-hidden="true">{signs}</svg>'
+    """The signs of the timeline with their words, which wrap as words do."""
+    return "".join(f'<span><svg class="fig" viewBox="0 0 30 18" width="30" height="18" aria-hidden="true">{sign}</svg>{escape(words)}</span>' for sign, words in KEY)
 
 
 def stays(names, height, under):

@@ -2,8 +2,8 @@
 
 `MUST` is said where the captured server breaks a MUST, or what TCP is defined by without that word; `SHOULD` where it departs from a
 SHOULD; `choice` where the standard leaves both free; `service` where the application above TCP differs; and `unjudged` where the capture
-alone can't tell. Where it has gaps, or segments that changed places, findings.NEEDS_WHOLE are unjudged too. Numbers like MUST-40 are
-those of RFC 9293, appendix B.
+alone can't tell. Where it has gaps, wrong sums, or segments that changed places, findings.NEEDS_WHOLE are unjudged too; where the wire is
+long or loses, findings.NEEDS_WIRE. Numbers like MUST-40 are those of RFC 9293, appendix B.
 """
 from dataclasses import dataclass
 
@@ -39,7 +39,7 @@ KINDS = kinds(
     ("timestamp missing", "MUST", "RFC 7323, 3.2", "Once both sides have sent them in the handshake, each segment but a reset must have one."),
     ("maximum segment size later", "MUST", "RFC 9293, 3.2 (MUST-65)", "The option must not stand in a segment without SYN."),
     ("SYN,ACK again", "choice", "RFC 9293, 3.8.1; RFC 6298, 2.1", "An unanswered SYN,ACK goes again; the first timeout should be one second."),
-    ("congestion notification", "choice", "RFC 3168, 6.1", "ECE and CWR are used where both sides agreed; the reference has neither."),
+    ("congestion notification", "choice", "RFC 3168, 6.1; RFC 9768", "ECE, CWR and AE are used where both sides agreed; the reference has none."),
     ("captured twice", "unjudged", "RFC 791, 3.1", "The same datagram, by its identification, stands twice in the capture, as where it crosses a bridge; the second is left out."),
     # Acknowledgements.
     ("acknowledged later", "choice", "RFC 9293, 3.8.6.3 (SHLD-18)", "An acknowledgement should be delayed a little, below 0.5 s. The reference sends each at once."),
@@ -71,14 +71,14 @@ KINDS = kinds(
     ("text after FIN", "MUST", "RFC 9293, 3.6", "Behind FIN nothing more is sent, and FIN keeps its number."),
     ("text changed", "MUST", "RFC 9293, 3.4", "Each byte has its own number: what is sent again is what was sent."),
     ("without ACK", "MUST", "RFC 9293, 3.1", "Once a connection is established, each segment has ACK."),
-    ("reserved bits", "MUST", "RFC 9293, 3.1", "Reserved bits must be zero in what is sent."),
+    ("reserved bits", "MUST", "RFC 9293, 3.1", "Reserved bits must be zero in what is sent. (The last of the four is AE of RFC 9768.)"),
     ("urgent", "choice", "RFC 9293, 3.8.5 (SHLD-13)", "Urgent data is supported, and new applications should not use it."),
-    ("wrong checksum", "MUST", "RFC 9293, 3.1 (MUST-2)", "The sender must generate the checksum."),
-    ("checksums of the card", "unjudged", "RFC 9293, 3.1 (MUST-2)", "Most sums are wrong: the capture was taken before the card filled them in."),
+    ("wrong checksum", "unjudged", "RFC 9293, 3.1 (MUST-2, MUST-3)", "The wire may have spoilt it, or its sender computes wrong. A receiver drops it; so it is left out of all else, for sqrun too."),
+    ("checksums of the card", "unjudged", "RFC 9293, 3.1 (MUST-2)", "The capture was taken before the sender's card filled the sums in. All else is judged."),
     # What is sent again.
     ("sent again", "choice", "RFC 9293, 3.8.1; RFC 6298, 5", "What isn't acknowledged in time is sent again; the wire that was captured lost, the reference's timer is fixed."),
     ("sent again early", "SHOULD", "RFC 6298, 2.4", "A timeout below one second should be rounded up to it. (RFC 8985 allows a probe after two round trips.)"),
-    ("no backoff", "MUST", "RFC 9293, 3.8.2 (MUST-19); RFC 6298, 5.5", "The timeout must double each time."),
+    ("no backoff", "MUST", "RFC 9293, 3.8.2 (MUST-19); RFC 6298, 5.5", "The timeout must double each time. (Said where it doesn't grow.)"),
     ("window probed", "choice", "RFC 9293, 3.8.6.1 (SHLD-29, SHLD-30)", "A window of 0 is probed first after a timeout, then at growing intervals."),
     ("window probed without text", "unjudged", "RFC 9293, 3.8.6.1 (MUST-36)", "A probe has a byte of new text or one sent again; an empty segment below the window draws the same answer."),
     ("window not probed", "MUST", "RFC 9293, 3.8.6.1 (MUST-36)", "Where text waits, a window of 0 must be probed regularly."),

@@ -51,7 +51,7 @@ if (list) {
   let sorted = rows, by = -1, down = false, shown = MOST;
   const cell = (row, n) => {
     const td = document.createElement("td");
-    if (columns[n][1]) td.className = "n";
+    td.className = columns[n][1] ? "n" : columns[n][2] ? "short" : "long";
     if (n === 0 && has.has(row[0])) td.append(Object.assign(document.createElement("a"), {href: "#conn" + row[0], textContent: row[0]}));
     else td.textContent = typeof row[n] === "number" && n ? row[n].toLocaleString("en-US") : row[n] ?? "";
     return td;

@@ -1,5 +1,6 @@
 // Squeues: all marks on a canvas, at any width from an overview of all to single ones. A column is a place to the right of what happened before.
-const LEFT = 92, LANE = 22, CURVE = 36, HEAD = 26, GAP = 30, LEAST = 8, EACH = 1500, ARCS = 2000, POLLING = 16;
+const LEFT = 92, LANE = 22, CURVE = 36, HEAD = 26, GAP = 30, LEAST = 8, EACH = 1500, ARCS = 100, POLLING = 16;
+const coarse = matchMedia("(pointer: coarse)").matches;
 const CAME = {f: "came straight in", c: "claimed it", w: "was woken", A: "was granted it"};
 // Numbers as the page has them: a character each from ] on, or plain ones where some are large; odd ones are negative.
 const unpacked = told => {
@@ -148,8 +149,20 @@ class Timeline {
     this.drawChosen();
     pen.restore();
     for (const one of seen) this.drawNames(one);
+    this.drawEdges(at);
     this.drawStrip();
     Object.assign(this.box.dataset, {view: this.view.join(" "), ...this.drawn, followed: this.followed, hits: this.hits.length});
+  }
+  // Where squeues stand above or below what is in view, and how many.
+  drawEdges(at) {
+    const pen = this.pen, cut = {above: this.squeues.filter(one => one.y < at - 4).length, below: this.squeues.filter(one => one.bottom > at + this.high + 4).length};
+    for (const [where, count] of Object.entries(cut)) if (count) {
+      const y = where === "above" ? at : at + this.high - 20;
+      Object.assign(pen, {fillStyle: this.colours.wash, globalAlpha: .92});
+      pen.fillRect(0, y, this.width, 20);
+      pen.globalAlpha = 1;
+      this.words(this.width / 2, y + 14, `${where === "above" ? "↑" : "↓"} ${count} more squeue${count > 1 ? "s" : ""} ${where}: scroll`, "ink", "600 11px", "center");
+    }
   }
   drawNames(one) {
     this.words(10, one.y + 16, `squeue ${one.q}`, "ink", "600 12px");
@@ -192,9 +205,10 @@ class Timeline {
       const act = one.act[s], c = one.actConn[s], word = {c: "call", o: "out " + c, i: "in " + c, a: "away"}[act] ?? "";
       const text = [one.feeds(s), word].filter(Boolean).join(" "), short = {o: c + "→", i: "→" + c}[act];
       const shown = [left, left + width], from = Math.max(shown[0], LEFT), to = Math.min(shown[1], this.width - 8);
-      pen.font = '9.5px system-ui,"DejaVu Sans",sans-serif';
-      const fits = [text, word || text.split(" ")[0], short].find(one => one && pen.measureText(one).width < to - from - 6);
-      if (fits) this.words(from + 4, top + 11.5, fits, "paper", "9.5px");
+      const wide = (one, size) => { pen.font = size + ' system-ui,"DejaVu Sans",sans-serif'; return pen.measureText(one).width; };
+      const tried = [text, word || text.split(" ")[0], short].filter(Boolean).flatMap(one => [[one, "9.5px"], [one, "8px"]]);
+      const fits = tried.find(one => wide(...one) <= to - from - 2);
+      if (fits) this.words(from + Math.min(4, (to - from - wide(...fits)) / 2), top + 11.5, fits[0], "paper", fits[1]);
     }
     pen.globalAlpha = 1;
   }
@@ -297,7 +311,7 @@ class Timeline {
     let right = 0;
     for (let n = Math.ceil(i / each) * each; n < k; n += each) {
       const x = this.x(one.column[n] + .5);
-      if (x < right || x < LEFT + 8 || x > this.width - 30) continue;
+      if (x < right || x < LEFT + 2 || x > this.width - 30) continue;
       this.words(x, one.base + CURVE + 16, n.toLocaleString("en-US"), "muted", "9.5px", "center");
       right = x + 50;
     }
@@ -305,7 +319,7 @@ class Timeline {
   arc(move) {
     const ax = this.x(move.from.column[move.mark] + 1) - 1, ay = move.from.laneY(move.from.pass(move.mark)) + LANE / 2;
     const column = move.to.column[move.begin] > move.from.column[move.mark] ? move.begin : move.end;
-    const bx = this.x(move.to.column[column]) + 3, by = move.to.laneY(move.to.pass(move.end)) + LANE / 2, reach = Math.min(60, Math.max(10, (bx - ax) / 2));
+    const bx = this.x(move.to.column[column]) - 1, by = move.to.laneY(move.to.pass(move.end)) + LANE / 2, reach = Math.min(60, Math.max(10, (bx - ax) / 2));
     return [ax, ay, ax + reach, ay, bx - reach, by, bx, by];
   }
   // Those that are seen; where they are too many, those that begin or end in view.
@@ -469,7 +483,7 @@ class Timeline {
   }
   read() {
     const thing = this.pointed ?? this.chosen, out = this.readout;
-    out.textContent = thing ? this.said(thing) : this.followed >= 0 ? this.saidOfFollowed() : out.dataset.hint;
+    out.textContent = thing ? this.said(thing) : this.followed >= 0 ? this.saidOfFollowed() : out.dataset[coarse ? "coarse" : "hint"];
     const conns = thing ? thing.move ? [thing.move.conn] : thing.one.conns(thing) : this.followed >= 0 ? [this.followed] : [];
     const put = (name, told) => out.append(" ", Object.assign(document.createElement(name), told));
     for (const c of conns) {

@@ -9,23 +9,24 @@ from statistics import median
 from capture import ACK, FIN, RST, SYN
 from drawing import plural, seconds
 from segments import (CWR, ECE, ETHERNET_MOST, MSS, SACK, SACK_PERMITTED, SCALE, TIMESTAMP, URG, USUAL_MSS, all_flags, header, option_text, options, room,
-                      sum_holds, text)
+                      text)
 from timeseq import near
 
 LATE = 10_000               # microseconds beyond the way to the capture's place and back, from which an acknowledgement counts as delayed
 TOO_LATE = 500_000
 SECOND = 1_000_000
 LONG_CLOSED = 60 * SECOND   # a window of 0 for so long is probed by any timer
+RESERVED = 14               # in the header's byte 12; the bit below them is AE of RFC 9768
 MOST_HELD = 4_096           # texts that wait, and acknowledgements of what didn't come, so that no capture makes this slow
 PAGE = 512
 
 
 class Handshake:
-    """What both sides agreed on, read off the first SYN and the first SYN,ACK."""
+    """What both sides agreed on, read off the SYN, as often as it was sent, and its first SYN,ACK."""
 
-    def __init__(self, syn, answer):
-        self.syn, self.answer = syn, answer
-        asked, offered = options(syn), options(answer)
+    def __init__(self, syns, answer):
+        self.syns, self.answer = syns, answer
+        asked, offered = {kind: value for syn in syns for kind, value in options(syn).items()}, options(answer)
         self.asked, self.offered = asked, offered
         self.scaled = SCALE in asked and SCALE in offered
         self.client_shift = min(asked[SCALE][0], 14) if self.scaled else 0
@@ -33,7 +34,7 @@ class Handshake:
         self.stamped = TIMESTAMP in asked and TIMESTAMP in offered
         self.client_takes = int.from_bytes(asked[MSS], "big") if MSS in asked else USUAL_MSS
         self.server_takes = int.from_bytes(offered[MSS], "big") if MSS in offered else USUAL_MSS
-        self.trip = max(0, answer.at - syn.at)
+        self.trip = max(0, answer.at - syns[-1].at)
 
 
 def judge_timeouts(sent, last, found):
@@ -41,8 +42,9 @@ def judge_timeouts(sent, last, found):
     waits = [b - a for a, b in zip(sent, sent[1:])]
     if any(wait < SECOND * 98 // 100 for wait in waits):
         found.add("sent again early", last, f"after {seconds(min(waits))}", "after 1 s")
+    # Where the wire lost some of them, two waits are one: even then each is longer than the one before.
     for before, wait in zip(waits[1:], waits[2:]):
-        if wait < before * 3 // 2 and before < 60 * SECOND:
+        if wait < before * 21 // 20 and before < 60 * SECOND:
             found.add("no backoff", last, " then ".join(map(seconds, waits[:5])), "each twice the one before")
             return
 
@@ -50,8 +52,8 @@ def judge_timeouts(sent, last, found):
 class Watch:
     """The captured connection in order: what the client sent and had room for, what the server acknowledged and sent."""
 
-    def __init__(self, life, shake, found):
-        self.life, self.shake, self.found = life, shake, found
+    def __init__(self, life, shake, found, offloaded):
+        self.life, self.shake, self.found, self.offloaded = life, shake, found, offloaded
         self.incoming, self.outgoing = Incoming(self), Outgoing(self)
         self.state = "LISTEN"
         self.client_fin = self.server_fin = None
@@ -108,14 +110,15 @@ class Watch:
     def form(self, s):
         """What each segment of a server must look like."""
         tcp, flags, held, found = header(s), all_flags(s), options(s), self.found
-        if tcp[12] & 15:
+        if tcp[12] & RESERVED:
             found.add("reserved bits", s, f"{tcp[12] & 15:04b}", "0000")
         if not flags & (ACK | RST | SYN):
             found.add("without ACK", s, "no ACK", "ACK")
         if flags & URG:
             found.add("urgent", s, "URG", "none")
-        if flags & (ECE | CWR):
-            found.add("congestion notification", s, "+".join(name for name, bit in (("ECE", ECE), ("CWR", CWR)) if flags & bit), "none")
+        if flags & (ECE | CWR) or tcp[12] & 1:
+            told = [name for name, there in (("AE", tcp[12] & 1), ("CWR", flags & CWR), ("ECE", flags & ECE)) if there]
+            found.add("congestion notification", s, "+".join(told), "none")
         if MSS in held and not flags & SYN:
             found.add("maximum segment size later", s, option_text(MSS, held), "none")
         if SACK in held and SACK_PERMITTED not in self.shake.asked:
@@ -172,6 +175,7 @@ class Incoming:
         if not s.length:
             return
         self.largest = max(self.largest, s.length)
+        self.found.wire = self.found.wire or self.holds(lo, hi)
         self.early_ones(hi, s)
         self.note_again(lo, hi)
         if hi > self.acked and (self.edge is None or hi <= self.edge) and not self.holds(lo, hi) and len(self.waiting) < MOST_HELD:
@@ -337,12 +341,23 @@ class Stream:
         return b"".join(out)
 
 
+@dataclass
+class Closed:
+    """A window of 0 that the client opened again."""
+    by: object                  # the segment that closed it
+    opened: int                 # when
+    probes: int                 # up to then
+    top: int                    # what the server had sent by then
+    waited: bool = False        # text went as soon as it was open, and the client had sent none: so it was there before
+
+
 class Outgoing:
     """The server's direction: its text, and the client's acknowledgements and windows."""
 
     def __init__(self, watch):
         self.watch, self.found, self.shake, self.base = watch, watch.found, watch.shake, watch.shake.answer.seq
         self.edge, self.window, self.heard_ack = None, None, 0
+        self.last_text = 0              # when the client sent text last
         self.acks = {0}                 # the client's acknowledgements, which a reset may take its number from
         self.top, self.fin = 1, None
         self.stream = Stream()
@@ -351,12 +366,11 @@ class Outgoing:
         self.selected = 0               # the greatest end of what the client has beyond a gap, by selective acknowledgements
         self.closed_at, self.probes, self.empty_probes, self.closed = None, [], [], []
         self.again = []
-        self.sums = [0, 0]              # wrong ones and all
-        self.wrong_sum = None
         self.large = []                 # segments larger than the client takes
 
     def heard(self, s):
         """A segment of the client."""
+        self.last_text = s.at if s.length else self.last_text
         if not s.has(ACK):
             return
         ack = near(s.ack, self.base)
@@ -375,15 +389,11 @@ class Outgoing:
         if now == 0 and self.closed_at is None:
             self.closed_at = s
         elif now and self.closed_at is not None:
-            self.closed.append((self.closed_at, s.at, len(self.probes) + len(self.empty_probes), self.top))
+            self.closed.append(Closed(self.closed_at, s.at, len(self.probes) + len(self.empty_probes), self.top))
             self.closed_at = None
 
     def sent(self, s):
         """A segment of the server, no reset."""
-        self.sums[1] += 1
-        if not sum_holds(s):
-            self.sums[0] += 1
-            self.wrong_sum = self.wrong_sum or s
         lo = near(s.seq, self.base)
         hi = lo + s.length
         if self.closed_at is not None and s.at > self.closed_at.at + LATE and not s.length and lo < self.heard_ack:
@@ -392,11 +402,17 @@ class Outgoing:
             self.judge_fin(s, hi)
         if not s.length:
             return
+        self.note_waited(s, hi)
         self.judge_size(s)
         self.judge_room(s, lo, hi)
         self.judge_again(s, lo, hi)
         self.keep(s, lo, hi)
         self.top = max(self.top, hi)
+
+    def note_waited(self, s, hi):
+        last = self.closed[-1] if self.closed else None
+        if last and not last.waited and hi > last.top and self.last_text <= last.by.at:
+            last.waited = s.at - last.opened <= self.shake.trip + LATE
 
     def judge_fin(self, s, hi):
         if self.fin is not None and (s.length and hi > self.fin or s.has(FIN) and hi != self.fin):
@@ -419,6 +435,7 @@ class Outgoing:
         before = self.last_sent.get(lo)
         if hi <= self.top and before is not None and self.closed_at is None:
             self.again.append(s)
+            self.found.wire = True
             if self.doubled.get(lo, 0) >= 3 or lo < self.selected:
                 self.timeouts[lo] = [s.at]              # it was asked for, not timed out
             else:
@@ -427,7 +444,9 @@ class Outgoing:
         self.last_sent[lo] = s.at
 
     def keep(self, s, lo, hi):
-        """Puts the text into the stream; what stood there must be the same."""
+        """Puts the text into the stream; what stood there must be the same, but for the one byte that a keep-alive may have (RFC 9293, 3.8.4)."""
+        if s.length == 1 and hi == self.top and self.heard_ack >= hi:
+            return
         if not self.stream.put(lo - 1, text(s)):
             self.found.add("text changed", s, f"bytes {lo} to {hi - 1} differ from what was sent before", "")
 
@@ -448,20 +467,15 @@ class Outgoing:
         missing = self.length() - len(self.stream.whole())
         if missing > 0:
             self.found.add("text isn't captured", None, f"{plural(missing, 'byte')} of the server, which the client acknowledged", "")
-        wrong, whole = self.sums
-        if wrong and wrong * 2 < whole:
-            self.found.add("wrong checksum", self.wrong_sum, f"{wrong} of {whole} segments", "none")
-        elif wrong:
-            self.found.add("checksums of the card", self.wrong_sum, f"{wrong} of {whole} segments", "none")
-        offloaded = wrong or any(len(s.datagram) > ETHERNET_MOST for s in self.watch.life.client + self.watch.life.server)
+        offloaded = self.watch.offloaded or any(len(s.datagram) > ETHERNET_MOST for s in self.watch.life.client + self.watch.life.server)
         for s, words in self.large:
             self.found.add("larger than a packet" if offloaded else "larger than the client takes", s, words, "")
         last = {near(s.seq, self.base): s for s in self.again}
         for lo, sent in self.timeouts.items():
             if lo in last:
                 judge_timeouts(sent, last[lo], self.found)
-        for closed, opened, probes, top in self.closed:
-            if opened - closed.at >= LONG_CLOSED and not probes and self.top > top:
-                self.found.add("window not probed", closed, f"closed for {seconds(opened - closed.at)}", "probed after 1 s")
+        for one in self.closed:
+            if one.opened - one.by.at >= LONG_CLOSED and not one.probes and one.waited:
+                self.found.add("window not probed", one.by, f"closed for {seconds(one.opened - one.by.at)}", "probed after 1 s")
         if self.empty_probes:
             self.found.add("window probed without text", self.empty_probes[0], f"{plural(len(self.empty_probes), 'time')}", "one byte")

@@ -1,10 +1,32 @@
 """Readers of command line words, which say what was wrong and what is right."""
 import argparse
 import re
+import subprocess
+from pathlib import Path
 
 from packets import SERVICES
 
+TOP = Path(__file__).resolve().parents[2]
 CALL = re.compile(r"([0-3]):(\d{1,10}):(status|close|buffer=\d{1,5})", re.ASCII)
+
+
+def version():
+    """The repository's, as git tells it."""
+    try:
+        return subprocess.run(["git", "describe", "--tags", "--always", "--dirty"], cwd=TOP, capture_output=True, text=True, check=True).stdout.strip()
+    except (OSError, subprocess.CalledProcessError):
+        return "of an unknown commit"
+
+
+class Version(argparse.Action):
+    """`--version` of every tool."""
+
+    def __init__(self, **more):
+        super().__init__(nargs=0, help="the commit of the repository", **more)
+
+    def __call__(self, parser, *_):
+        print(f"{parser.prog} of squeues {version()}")
+        parser.exit()
 
 
 def between(least, most):
@@ -21,6 +43,15 @@ def port_pair(text):
     if not (real.isascii() and real.isdigit() and 0 < int(real) < 65_536 and served in map(str, SERVICES)):
         raise argparse.ArgumentTypeError(f"{text!r} isn't like 80=7 (served as echo) or 80=9 (as discard)")
     return int(real), int(served)
+
+
+def port_table(parser, pairs):
+    """The services by their ports; a port that stands twice is refused."""
+    ports = [port for port, _ in pairs]
+    for port in ports:
+        if ports.count(port) > 1:
+            parser.error(f"--port {port} stands {ports.count(port)} times")
+    return dict(pairs)
 
 
 def call_word(text):

@@ -5,7 +5,9 @@ import os
 import shutil
 import subprocess
 import tempfile
+import time
 from pathlib import Path
+from urllib.parse import quote
 
 COMMAND = next((name for name in ("chromium-headless-shell", "chromium") if shutil.which(name)), "chromium-headless-shell")
 CONTROL, SHIFT = 2, 8           # of a key that is held
@@ -60,6 +62,15 @@ class Browser:
         self.call("Page.navigate", url=Path(path).resolve().as_uri())
         while not any(e.get("method") == "Page.loadEventFired" for e in self.events):
             self.events.append(self.receive())
+        self.until(f"document.readyState === 'complete' && location.pathname === {json.dumps(quote(str(Path(path).resolve())))}")
+
+    def until(self, code, seconds=60):
+        """Waits for something on the page that may take a while."""
+        end = time.monotonic() + seconds
+        while not self.js(code):
+            if time.monotonic() > end:
+                raise RuntimeError(f"after {seconds} s not yet: {code}")
+            time.sleep(0.05)
 
     def js(self, code):
         answer = self.call("Runtime.evaluate", expression=code, returnByValue=True)

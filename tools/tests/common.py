@@ -10,7 +10,9 @@ TOP = Path(__file__).resolve().parents[2]
 TOOLS = TOP / "tools"
 sys.path.insert(0, str(TOOLS / "parts"))
 
-SQRUN = os.environ.get("SQRUN", str(TOP / "sqrun"))
+from builds import path         # noqa: E402
+
+SQRUN = path("sqrun")
 MODEL = os.environ.get("SQORACLE", "")
 KEPT = Path(__file__).resolve().parent / "kept"
 

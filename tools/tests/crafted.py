@@ -10,16 +10,17 @@ CLIENT_START, SERVER_START = 5_000, 900_000
 MSS, SCALED, SACKED, STAMPED = b"\x02\x04\x05\xb4", b"\x01\x03\x03\x07", b"\x01\x01\x04\x02", b"\x01\x01\x08\x0a" + bytes(7) + b"\1" + bytes(4)
 
 
-def segment(source, destination, seq, ack, flags, window, text, options, reserved=0, wrong=False, number=0):
-    """An IPv4 datagram with this segment."""
+def segment(source, destination, seq, ack, flags, window, text, options, reserved=0, wrong=False, card=False, number=0):
+    """An IPv4 datagram with this segment. Its checksum may be `wrong`, or the one that a host leaves to its `card`."""
     options += b"\1" * (-len(options) % 4)
     size = 20 + len(options) + len(text)
     ip = struct.pack(">BBHHHBBHII", 0x45, 0, 20 + size, number, 0x4000, 64, 6, 0, source[0], destination[0])
     ip = ip[:10] + struct.pack(">H", checksum(ip)) + ip[12:]
     tcp = struct.pack(">HHIIBBHHH", source[1], destination[1], seq % 2 ** 32, ack % 2 ** 32, (20 + len(options)) // 4 << 4 | reserved, flags, window, 0, 0)
     tcp += options + text
-    found = checksum(struct.pack(">IIHH", source[0], destination[0], 6, size) + tcp)
-    return ip + tcp[:16] + struct.pack(">H", found ^ wrong) + tcp[18:]
+    addresses = struct.pack(">IIHH", source[0], destination[0], 6, size)
+    found = checksum(addresses) ^ 0xffff if card else checksum(addresses + tcp) ^ wrong
+    return ip + tcp[:16] + struct.pack(">H", found) + tcp[18:]
 
 
 class Talk:

@@ -3,7 +3,6 @@ import re
 import shutil
 import subprocess
 import tempfile
-import time
 import unittest
 from pathlib import Path
 
@@ -196,6 +195,11 @@ class Pages(Small):
         self.assertIn("<tr><th>Word<th>Meaning<tr><td><code>a</code><td>one</table>", add)
         self.assertIn('See <a href="#Total"><code>Total</code></a>, and <a href="#total.add"><code>total::add</code></a>.', low)
 
+    def test_the_index_has_each_head_whole(self):
+        index = self.made()["index.html"]
+        self.assertIn("Sums of numbers.<details><summary>More</summary><p>See <code>Total</code>, and <code>total::add</code>.</p></details>", index)
+        self.assertIn('<td>On top.<td class=on><a href="low.html">', index)
+
     def test_fields_and_ghost_members(self):
         low = self.made()["low.html"]
         total = self.section(low, "Total")
@@ -306,17 +310,13 @@ class Repository(unittest.TestCase):
         browser.key("Escape")
         self.assertTrue(browser.js("hits.hidden"))
         browser.js("document.querySelector('#enter a[target=beside]').click()")
-        for _ in range(50):
-            if browser.js("frames.beside.length !== undefined && !beside.hidden"):
-                break
-            time.sleep(0.1)
-        self.assertFalse(browser.js("beside.hidden"))
+        browser.until("!beside.hidden")
         self.assertIn("definitions/squeue_enter.html#Entering.MayEnter", browser.js("whole.href"))
-        browser.js("document.getElementById('close').focus()")
+        browser.js("document.getElementById('beside.close').focus()")
         browser.key("Escape")
         self.assertTrue(browser.js("beside.hidden"))
         browser.phone()
-        for name in ("index", "squeue_state", "tcb_machine", "cases_tcp"):
+        for name in ("index", "squeue_state", "tcb_machine", "case_rows"):
             browser.open(self.pages / f"{name}.html")
             browser.settle()
             self.assertLessEqual(browser.js("document.documentElement.scrollWidth"), 390, name)

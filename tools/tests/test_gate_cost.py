@@ -30,6 +30,22 @@ class Cost(unittest.TestCase):
         self.assertEqual(work([*PROVER[:3], "low_tests", "src/lib.rt"], "/top/crates/low_tests"), ("low_tests", "proofs"))
         self.assertIsNone(work([], "/top"))
 
+    def test_a_kit_whose_gate_takes_no_names(self):
+        """It's found out by asking; a crate then goes through the two commands that this kit has."""
+        script = '#!/bin/sh\necho "$(basename "$PWD") $*" >> "$SAID"\n[ "$1 $2" = "ci low" ] && [ $NAMES = no ] && { echo "usage: rt" >&2; exit 2; }\nexit 0\n'
+        for names, said in (("no", ["top ci low", "low verdict", "top must-fail low"]), ("yes", ["top ci low"])):
+            with tempfile.TemporaryDirectory() as folder:
+                top = Path(folder) / "top"
+                for name in ("tools", "bin", "crates/low"):
+                    (top / name).mkdir(parents=True)
+                shutil.copy2(TOOLS / "gate-cost", top / "tools")
+                (top / "crates.txt").write_text("low:\n")
+                (top / "bin" / "rt").write_text(script)
+                (top / "bin" / "rt").chmod(0o755)
+                its = {**os.environ, "PATH": f"{top / 'bin'}:{os.environ['PATH']}", "SAID": str(top / "said"), "NAMES": names}
+                done = subprocess.run([top / "tools" / "gate-cost", "low"], capture_output=True, text=True, timeout=100, env=its)
+                self.assertEqual((done.returncode, (top / "said").read_text().splitlines()), (0, said), done.stderr)
+
     def test_what_a_command_costs(self):
         with tempfile.TemporaryDirectory() as folder:
             top = Path(folder)
@@ -42,9 +58,12 @@ class Cost(unittest.TestCase):
             (top / "crates.txt").write_text("# NAME: what it stands on\nlow:\nhigh may_wait=1: low\n")
             prover = top / "rattle"
             shutil.copy2("/bin/bash", prover)           # its name alone tells the prover
+            beside = subprocess.Popen([prover, "-c", "while :; do :; done", "--crate-name", "low"])      # of somebody else: not counted
+            self.addCleanup(beside.wait)
+            self.addCleanup(beside.kill)
             busy = "end=$((SECONDS + 3)); while [ $SECONDS -lt $end ]; do :; done; exit 4"
             done = subprocess.run([top / "tools" / "gate-cost", "--table", str(prover), "-c", busy, "--crate-name", "high"],
-                                  capture_output=True, text=True, timeout=60, env=os.environ)
+                                  capture_output=True, text=True, timeout=300, env=os.environ)
         self.assertEqual(done.returncode, 4)
         lines = done.stdout.splitlines()
         rows = [[word.strip() for word in line.strip("|").split("|")] for line in lines[2:4]]

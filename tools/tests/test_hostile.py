@@ -56,7 +56,7 @@ class Hostile(unittest.TestCase):
         status, said = self.table(self.careless(), *rows)
         self.assertEqual(status, 1, said)
         self.assertIn("\n0 rows passed, 7 failed, 0 known to fail, 0 skipped\n", said)
-        self.assertEqual(sorted(self.told.splitlines()), sorted(f"begins: {row}" for row in rows))
+        self.assertEqual(sorted(line for line in self.told.splitlines() if "without any proof" not in line), sorted(f"begins: {row}" for row in rows))
 
     def test_a_careless_checker_fails(self):
         """In the place of sqreplay and sqmore, a program that always says the same."""

@@ -1,15 +1,22 @@
 """Tests of the live server's tools: datagrams written and read again, what is counted, and a few cases of live_test where they can run."""
+import contextlib
+import io
 import ipaddress
 import os
 import random
+import resource
 import shutil
 import socket
+import stat
 import struct
 import subprocess
 import sys
 import tempfile
+import time
 import unittest
 from importlib.machinery import SourceFileLoader
+from pathlib import Path
+from unittest import mock
 
 from common import TOOLS, TOP, need
 
@@ -17,7 +24,9 @@ sys.path.insert(0, str(TOOLS / "live"))
 import floods
 import rings
 import seen
+import status
 import tcp_segments
+from compiled import compiled
 from programs import built
 from tcp_segments import ACK, FIN, PSH, RST, SYN
 
@@ -65,10 +74,10 @@ class Deadlines(unittest.TestCase):
 class Counted(unittest.TestCase):
     """What `status` tells of connections, by the segments that open or end one."""
     def setUp(self):
-        self.connections = seen.Connections(ipaddress.ip_address(SERVER))
+        self.connections = seen.Connections(ipaddress.ip_address(SERVER), (7, 9))
 
-    def comes(self, flags, seq=1, client=40000, port=7):
-        self.connections.see(tcp_segments.segment(CLIENT, client, SERVER, port, seq, 0, flags))
+    def comes(self, flags, seq=1, client=40000, port=7, ack=10):
+        self.connections.see(tcp_segments.segment(CLIENT, client, SERVER, port, seq, ack, flags))
 
     def goes(self, flags, client=40000, port=7):
         self.connections.see(tcp_segments.segment(SERVER, port, CLIENT, client, 9, 0, flags))
@@ -80,6 +89,8 @@ class Counted(unittest.TestCase):
         for _ in range(2):
             self.comes(SYN)
             self.goes(SYN | ACK)
+        self.assert_counted(asked=1)
+        self.comes(ACK)
         self.assert_counted(asked=1, opened=1, open=1)
         self.comes(FIN | ACK)
         self.assert_counted(asked=1, opened=1, open=1)
@@ -91,7 +102,34 @@ class Counted(unittest.TestCase):
         for seq in (1, 2):
             self.comes(SYN, seq)
             self.goes(SYN | ACK)
+            self.comes(ACK, seq + 1)
         self.assert_counted(asked=2, opened=2, open=1)
+
+    def test_half_open(self):
+        """Neither a SYN that is answered nor a segment that acknowledges something else opens a connection."""
+        for client in range(100):
+            self.comes(SYN, client=client)
+            self.goes(SYN | ACK, client=client)
+            self.comes(ACK, client=client, ack=9)
+            self.comes(ACK, client=client, ack=10 + 65536)
+        self.assert_counted(asked=100)
+
+    def test_a_third_segment_with_text(self):
+        """It isn't seen; the next one without text shows the connection, and so does the server's FIN."""
+        for client in (1, 2):
+            self.comes(SYN, client=client)
+            self.goes(SYN | ACK, client=client)
+        self.comes(ACK, client=1, ack=10 + 65535)
+        self.assert_counted(asked=2, opened=1, open=1)
+        self.goes(FIN | ACK, client=2)
+        self.assert_counted(asked=2, opened=2, open=2)
+
+    def test_other_ports(self):
+        self.connections = seen.Connections(ipaddress.ip_address(SERVER), (7007,))
+        for port in (7, 7007):
+            self.comes(SYN, port=port)
+            self.goes(RST | ACK, port=port)
+        self.assert_counted(asked=1, refused=1, resets_out=1)
 
     def test_resets(self):
         for port in (7, 80):
@@ -100,6 +138,7 @@ class Counted(unittest.TestCase):
         self.assert_counted(asked=1, refused=1, resets_out=1)
         self.comes(SYN, seq=5)
         self.goes(SYN | ACK)
+        self.comes(ACK)
         self.comes(RST)
         self.assert_counted(asked=2, opened=1, refused=1, resets_out=1, resets_in=1)
 
@@ -108,8 +147,129 @@ class Counted(unittest.TestCase):
         for client in range(5):
             self.comes(SYN, client=client)
             self.goes(SYN | ACK, client=client)
+            self.comes(ACK, client=client)
         self.assert_counted(asked=5, opened=5, open=3)
         self.assertEqual(len(self.connections.known), 3)
+
+
+def captured(told):
+    """The time in microseconds and the datagram of each record of a capture, which ends at a whole one."""
+    found, at = [], 24
+    while at < len(told):
+        seconds, part, length, whole = struct.unpack_from("<IIII", told, at)
+        assert length == whole and at + 16 + length <= len(told)
+        found.append((seconds * 10**6 + part, told[at + 16:at + 16 + length]))
+        at += 16 + length
+    return found
+
+
+class Captures(unittest.TestCase):
+    """What a capture on one thread holds."""
+    def setUp(self):
+        self.file = tempfile.NamedTemporaryFile(buffering=0)
+        self.addCleanup(self.file.close)
+        Path(self.file.name).write_bytes(b"of an earlier run" * 1000)
+        seen.begin_capture(self.file.fileno())
+        self.capture = seen.Capture(self.file.fileno())
+        self.some = [tcp_segments.segment(CLIENT, 40000, SERVER, 7, 5, 9, ACK, text=bytes(size)) for size in (0, 1460, 1460, 0)]
+
+    def told(self):
+        return Path(self.file.name).read_bytes()
+
+    def test_what_is_kept(self):
+        before = time.time_ns() // 1000
+        for datagram in (*self.some, b"no datagram", bytes(40)):
+            self.capture.keep(datagram)
+        self.capture.write()
+        self.assertEqual(self.told()[:24], struct.pack("<IHHIIII", 0xA1B2C3D4, 2, 4, 0, 0, 65535, 101))
+        self.assertEqual([datagram for _, datagram in captured(self.told())], self.some)
+        self.assertTrue(all(before <= at <= time.time_ns() // 1000 for at, _ in captured(self.told())))
+        self.assertEqual(self.capture.lacks, 0)
+
+    def test_a_full_disk(self):
+        """It is told once, and the capture ends behind its last whole record."""
+        limits = resource.getrlimit(resource.RLIMIT_FSIZE)
+        said = io.StringIO()
+        resource.setrlimit(resource.RLIMIT_FSIZE, (3000, limits[1]))
+        try:
+            with contextlib.redirect_stderr(said):
+                for datagram in self.some:
+                    self.capture.keep(datagram)
+                    if datagram is self.some[0] or datagram is self.some[2]:
+                        self.capture.write()
+        finally:
+            resource.setrlimit(resource.RLIMIT_FSIZE, limits)
+        self.assertEqual([datagram for _, datagram in captured(self.told())], self.some[:2])
+        self.assertEqual((self.capture.lacks, said.getvalue()), (2, "sqlive: the capture ends here: File too large\n"))
+
+
+class Status(unittest.TestCase):
+    """What a launcher tells to whoever asks, by a socket in a folder of the test's own."""
+    class Knows:
+        def facts(self):
+            return {"open": 3, "lost_in": 0}
+
+    def setUp(self):
+        folder = tempfile.TemporaryDirectory()
+        self.addCleanup(folder.cleanup)
+        self.places = [Path(folder.name) / name / "sqlive0" for name in ("first", "other")]
+        self.addCleanup(setattr, status, "places", status.places)
+        status.places = lambda device: self.places
+
+    def test_who_asks_is_told(self):
+        self.assertIsNone(status.facts_of("sqlive0"))
+        with status.told("sqlive0", self.Knows()):
+            for _ in range(3):
+                self.assertEqual(status.facts_of("sqlive0"), {"open": "3", "lost_in": "0"})
+            self.assertEqual(stat.S_IMODE(self.places[0].stat().st_mode), 0o666)
+        self.assertFalse(self.places[0].exists())
+        self.assertIsNone(status.facts_of("sqlive0"))
+
+    def test_what_a_killed_launcher_left(self):
+        self.places[0].parent.mkdir()
+        with socket.socket(socket.AF_UNIX) as left:
+            left.bind(str(self.places[0]))
+        self.assertIsNone(status.facts_of("sqlive0"))
+        with status.told("sqlive0", self.Knows()):
+            self.assertEqual(status.facts_of("sqlive0"), {"open": "3", "lost_in": "0"})
+
+    def test_a_folder_that_cannot_be_written(self):
+        self.places[0].parent.write_text("a file")
+        with status.told("sqlive0", self.Knows()):
+            self.assertTrue(self.places[1].is_socket())
+            self.assertEqual(status.facts_of("sqlive0"), {"open": "3", "lost_in": "0"})
+
+    def test_no_place(self):
+        """The server serves without it, and a line says so."""
+        for place in self.places:
+            place.parent.write_text("a file")
+        with contextlib.redirect_stderr(io.StringIO()) as said, status.told("sqlive0", self.Knows()):
+            self.assertIsNone(status.facts_of("sqlive0"))
+        self.assertRegex(said.getvalue(), "^sqlive: it serves without status: .*\n$")
+
+    def test_only_this_machines_users_may_write_there(self):
+        self.doCleanups()
+        self.assertEqual([place.parent for place in status.places("sqlive0")][0], Path("/run/sqlive"))
+        self.assertTrue(all(place.name.startswith("sqlive0-") and place.is_absolute() for place in status.places("sqlive0")))
+
+
+class Compiled(unittest.TestCase):
+    """What is compiled is kept, and needs no compiler any more."""
+    def test_it_is_kept(self):
+        need("cc")
+        with tempfile.TemporaryDirectory() as folder, mock.patch.dict(os.environ, XDG_CACHE_HOME=f"{folder}/cache"):
+            source = Path(folder, "answer.c")
+            source.write_text("int main(void) { return 3; }")
+            first = compiled(source)
+            self.assertEqual(subprocess.run([first]).returncode, 3)
+            with mock.patch.dict(os.environ, PATH=""):
+                self.assertEqual(compiled(source), first)
+                source.write_text("int main(void) { return 4; }")
+                self.assertRaisesRegex(OSError, "takes a C compiler", compiled, source)
+            self.assertEqual(subprocess.run([compiled(source)]).returncode, 4)
+            source.write_text("no C")
+            self.assertRaisesRegex(OSError, "can't compile", compiled, source)
+            self.assertEqual(len(list(first.parent.iterdir())), 2)
 
 
 class Queues(unittest.TestCase):
@@ -117,17 +277,16 @@ class Queues(unittest.TestCase):
     HEAD, DEVICE = struct.Struct(">QQ"), struct.Struct("=BBHHHH")
     NEEDS_SUM, TCP = 1, 1
 
-    def start(self, join, capture=None):
+    def start(self, join, capture=None, longest=resource.RLIM_INFINITY):
         need("cc")
-        folder = tempfile.TemporaryDirectory()
-        self.addCleanup(folder.cleanup)
         self.device, queue = socket.socketpair(socket.AF_UNIX, socket.SOCK_DGRAM)
         self.device.settimeout(30)
         to_ring, from_ring, self.counts = os.pipe(), os.pipe(), os.memfd_create("counts")
         os.ftruncate(self.counts, 2 * rings.DIRECTION)
         ends, kept = [queue.fileno(), to_ring[1], from_ring[0]], [] if capture is None else [capture]
         words = [int(join), self.counts, *(kept or [-1]), *ends]
-        self.program = subprocess.Popen([rings.compiled(folder.name), *map(str, words)], pass_fds=[self.counts, *kept, *ends], stderr=subprocess.PIPE)
+        self.program = subprocess.Popen([rings.mover(), *map(str, words)], pass_fds=[self.counts, *kept, *ends], stderr=subprocess.PIPE,
+                                        preexec_fn=lambda: resource.setrlimit(resource.RLIMIT_FSIZE, (longest, longest)))
         queue.close()
         for pipe in (to_ring[1], from_ring[0]):
             os.close(pipe)
@@ -178,6 +337,7 @@ class Queues(unittest.TestCase):
     def test_a_capture(self):
         """What is brought stands in the capture with the time of its frame; what is no TCP doesn't."""
         with tempfile.NamedTemporaryFile(buffering=0) as capture:
+            seen.begin_capture(capture.fileno())
             self.start(join=False, capture=capture.fileno())
             some = [self.segment(0, b"one"), b"no datagram", self.segment(3, bytes(1460))]
             brought = [(self.comes(datagram), self.time)[1] for datagram in some]
@@ -186,22 +346,30 @@ class Queues(unittest.TestCase):
             self.program.terminate()
             self.ring[1].close()
             self.assertEqual(self.program.wait(30), 0)
-            capture.seek(0)
-            told = capture.read()
-        self.assertEqual(told[:24], struct.pack("<IHHIIII", 0xA1B2C3D4, 2, 4, 0, 0, 65535, 101))
-        found, at = [], 24
-        while at < len(told):
-            seconds, part, length, whole = struct.unpack_from("<IIII", told, at)
-            self.assertEqual(length, whole)
-            found.append((seconds * 10**6 + part, told[at + 16:at + 16 + length]))
-            at += 16 + length
+            found = captured(Path(capture.name).read_bytes())
         self.assertEqual([datagram for _, datagram in found], [some[0], some[2], some[0]])
-        self.assertEqual(found[1][0] - found[0][0], brought[2] - brought[0])
+        self.assertEqual([at for at, _ in found[:2]], [brought[0], brought[2]])
+
+    def test_a_full_disk(self):
+        """It is told once, and by the status; the capture ends behind its last whole record, and datagrams are moved as before."""
+        with tempfile.NamedTemporaryFile(buffering=0) as capture:
+            seen.begin_capture(capture.fileno())
+            self.start(join=False, capture=capture.fileno(), longest=3000)
+            some = [self.segment(0, bytes(size)) for size in (0, 1460, 1460, 0)]
+            self.assertEqual([self.comes(datagram) for datagram in some], some)
+            self.goes(some[0])
+            self.assertEqual(self.got(), (None, some[0]))
+            self.program.terminate()
+            self.ring[1].close()
+            self.assertEqual((self.program.wait(30), self.program.stderr.read()), (1, b"queues: the capture ends here: File too large\n"))
+            self.assertEqual([datagram for _, datagram in captured(Path(capture.name).read_bytes())], some[:2])
 
     def test_the_time_alone(self):
+        before = time.time_ns() // 1000
         self.start(join=True)
         times = [self.HEAD.unpack(self.ring[0].read(16)) for _ in range(4)]
         self.assertTrue(all(length == 0 for length, _ in times) and times == sorted(times), times)
+        self.assertTrue(before <= times[0][1] <= times[-1][1] <= time.time_ns() // 1000, times)
 
     def test_an_open_sum(self):
         self.start(join=True)
@@ -269,16 +437,46 @@ class Queues(unittest.TestCase):
 
 
 class Launcher(unittest.TestCase):
-    def refused(self, *words):
-        done = subprocess.run([TOOLS / "sqlive", "--program", "/bin/true", *words], capture_output=True, text=True)
+    def refused(self, *words, files=None):
+        """What is said of words that are refused with the usage line, before a device is opened; the launcher may have so many files."""
+        limit = (files,) * 2 if files else resource.getrlimit(resource.RLIMIT_NOFILE)
+        done = subprocess.run([TOOLS / "sqlive", "--program", "/bin/true", *words], capture_output=True, text=True,
+                              preexec_fn=lambda: resource.setrlimit(resource.RLIMIT_NOFILE, limit))
         self.assertEqual((done.returncode, done.stdout), (2, ""), words)
+        self.assertIn("usage: sqlive", done.stderr)
         return done.stderr
 
     def test_words_that_are_none(self):
         self.assertIn("--squeues goes with --rings", self.refused("--squeues", "2"))
-        self.assertIn("at most 63", self.refused("--rings", "64"))
+        self.assertIn("from 1 to 63", self.refused("--rings", "64"))
         for words in (("--rings", "0"), ("--rings", "2", "--mode", "none"), ("--places", "-1"), ("--server", "10.9.0.1"), ("--server", "10.8.0.2"), ("--mtu", "500")):
             self.refused(*words)
+
+    def test_bounds_are_told(self):
+        for words, said in (("--memory 4096", "from 1 to 4095"), ("--idle 4294967296", "from 1 to 4294967295"), ("--places 4294967296", "from 1 to 4294967295"),
+                            ("--mtu 1501", "from 576 to 1500"), ("--rings 2 --squeues 64", "from 1 to 63"), ("--rings 2 --budget 0", "from 1 to 4294967295"),
+                            ("--rings 2 --conns --places 65537", "at most 65536 with --conns"), ("--device a/b", "no device's name"),
+                            ("--device tun%d", "no device's name"), ("--device sixteen.letters0", "no device's name"),
+                            ("--capture /nonexistent/run.pcap", "--capture /nonexistent/run.pcap: No such file or directory"),
+                            ("--capture /", "--capture /: Is a directory")):
+            self.assertIn(said, self.refused(*words.split()))
+        self.assertIn("it takes 56 file descriptors, 5 of them for each ring, and may have 32", self.refused("--rings", "8", files=32))
+
+    def test_a_capture_is_kept_until_the_device_is_there(self):
+        """A launcher that is refused empties no capture: another one may be writing it."""
+        with tempfile.NamedTemporaryFile() as capture:
+            Path(capture.name).write_text("of another launcher")
+            done = subprocess.run([TOOLS / "sqlive", "--program", "/bin/true", "--device", "lo", "--capture", capture.name], capture_output=True, text=True)
+            self.assertEqual((done.returncode, Path(capture.name).read_text()), (1, "of another launcher"))
+        self.assertIn("no TUN device", done.stderr)
+
+    def test_the_unit_file(self):
+        need("systemd-analyze")
+        with tempfile.TemporaryDirectory() as folder:
+            unit = Path(folder, "sqlive.service")
+            unit.write_text((TOOLS / "live" / unit.name).read_text().replace("/opt/squeues", str(TOP)))
+            done = subprocess.run(["systemd-analyze", "verify", unit], capture_output=True, text=True)
+        self.assertEqual((done.returncode, done.stdout + done.stderr), (0, ""))
 
     def test_no_server_to_ask(self):
         done = subprocess.run([TOOLS / "sqlive", "status", "--device", "nowhere"], capture_output=True, text=True)

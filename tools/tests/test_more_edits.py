@@ -9,6 +9,12 @@ from pathlib import Path
 from common import TOOLS, output
 
 RT = """#!/bin/sh
+if [ "$1" = lib ]; then
+    basename "$PWD" >> "$SEEN.lib"
+    [ "$(cat out/rlib/stamp 2> /dev/null)" = built ] || echo "proved $(basename "$PWD")" >> "$SEEN.lib"
+    exit
+fi
+echo "$2" >> "$SEEN.crates"
 ls crates/$2/must-fail > "$SEEN"
 for edit in crates/$2/must-fail/*.edit; do
     name=$(basename $edit)
@@ -32,6 +38,8 @@ class Edits(unittest.TestCase):
             (self.top / "crates" / name).mkdir(parents=True)
             for edit in edits:
                 (self.top / "crates" / name / f"{edit}.edit").write_text("file: src/lib.rt\n")
+        (self.top / ".gitignore").write_text("crates/*/out/\n")
+        (self.top / "crates.txt").write_text("# NAME: what it stands on\nlow:\nmid: low hex\nhigh may_wait=1: mid\n")
         (self.top / "tools").mkdir()
         shutil.copy2(TOOLS / "more-edits", self.top / "tools")
         subprocess.run(["git", "init", "-q", self.top], check=True)
@@ -50,6 +58,31 @@ class Edits(unittest.TestCase):
         self.assertEqual([line.split(":")[0] for line in said.split("\n")[:2]], ["low one", "low two"])
         self.assertIn("\n2 of 2 refused\n", said)
 
+    def test_all_of_them(self):
+        """What was refused stands in the list with the commit, and isn't tried again until the crate or one below it changes."""
+        listed = self.top / "tools" / "edits-tried"
+        said = self.tried("--all", "--jobs", "2", status=1)
+        self.assertEqual(sorted(Path(f"{self.seen}.crates").read_text().split()), ["high", "low", "mid"])
+        self.assertEqual([line.split()[:2] for line in listed.read_text().splitlines()[1:]], [["low", "2"]])
+        Path(f"{self.seen}.crates").unlink()
+        self.tried("--all", status=1)
+        self.assertEqual(sorted(Path(f"{self.seen}.crates").read_text().split()), ["high", "mid"])
+        (self.top / "crates/low/src").mkdir()
+        (self.top / "crates/low/src/lib.rt").write_text("fn f() {}\n")
+        Path(f"{self.seen}.crates").unlink()
+        self.tried("--all", status=1)
+        self.assertIn("low", Path(f"{self.seen}.crates").read_text().split())
+
+    def test_libraries_are_handed_on(self):
+        """Lowest first, each once; what is built in this checkout, or in one that is named, comes with its stamp."""
+        (self.top / "crates/low/out/rlib").mkdir(parents=True)
+        (self.top / "crates/low/out/rlib/stamp").write_text("built")
+        self.tried("high", status=1)
+        self.assertEqual(Path(f"{self.seen}.lib").read_text().splitlines(), ["low", "mid", "proved mid"])
+        Path(f"{self.seen}.lib").unlink()
+        self.tried("high", "--built", self.seen.parent, status=1)
+        self.assertEqual(Path(f"{self.seen}.lib").read_text().splitlines(), ["low", "proved low", "mid", "proved mid"])
+
     def test_one_of_them(self):
         self.assertIn("1 of 1 refused", self.tried("low", "two"))
         self.assertEqual(self.seen.read_text(), "two.edit\n")
@@ -62,7 +95,7 @@ class Edits(unittest.TestCase):
     def test_proved_and_silent_edits_fail(self):
         self.tried("high", status=1)
         self.tried("mid", status=1)
-        done = subprocess.run([self.top / "tools" / "more-edits"], capture_output=True, env={**os.environ, **self.environment})
+        done = subprocess.run([self.top / "tools" / "more-edits", "--all"], capture_output=True, env={**os.environ, **self.environment})
         self.assertEqual(done.returncode, 1)
         for line in (b"high proved: NOT REFUSED", b"mid silent: not tried", b"2 of 4 refused"):
             self.assertIn(line, done.stdout)

@@ -1,4 +1,4 @@
-"""reading: the page is up to date, the same at each run, and lists each file behind those that it stands on."""
+"""reading: the sums are up to date, the lists the same at each run, and each file stands behind those of its list that it stands on."""
 import re
 import shutil
 import subprocess
@@ -8,35 +8,43 @@ from pathlib import Path
 
 from common import TOOLS, TOP, output
 
+ROW = re.compile(r'<tr><td>(\d+)<td><a href="\.\./definitions/(\w+)\.html#(\w+)">[^<]*</a><td>(\d+) of (\d+)<td>')
 
-class Page(unittest.TestCase):
+
+class Lists(unittest.TestCase):
     def setUp(self):
         folder = tempfile.TemporaryDirectory()
         self.addCleanup(folder.cleanup)
         self.top = Path(folder.name)
         shutil.copy2(TOP / "crates.txt", self.top)
-        (self.top / "docs").mkdir()
-        (self.top / "tools").mkdir()
-        shutil.copy2(TOOLS / "reading", self.top / "tools")
-        (self.top / "tools" / "parts").mkdir()
-        shutil.copy2(TOOLS / "parts" / "definitions.py", self.top / "tools" / "parts")
+        for name in ("docs/READING.md", "tools/reading", "tools/parts/definitions.py"):
+            (self.top / name).parent.mkdir(parents=True, exist_ok=True)
+            shutil.copy2(TOP / name, self.top / name)
         for part in TOP.glob("crates/*/s[pr]*c*"):
             shutil.copytree(part, self.top / part.relative_to(TOP))
-        output([self.top / "tools" / "reading"])
         self.page = self.top / "docs" / "READING.md"
+        self.lists = self.top / "api-pages" / "reading"
+        output([self.top / "tools" / "reading"])
 
-    def listed(self):
-        """The rows of the page by their numbers, lowest first."""
-        rows = re.findall(r"^\| (\d+) \| \[(\w+)/(\w+)\]\(\.\./(\S+)\) \| (\d+) \| (\d+) \|", self.page.read_text(), re.M)
-        self.assertEqual(sorted(int(row[0]) for row in rows), list(range(1, len(rows) + 1)))
-        return [row[1:] for row in sorted(rows, key=lambda row: int(row[0]))]
+    def listed(self, name="squeue_run"):
+        """By part of a list its rows: crate, file, lines reached, lines."""
+        parts = []
+        for number, *row in ROW.findall((self.lists / f"{name}.html").read_text()):
+            if number == "1":
+                parts.append([])
+            self.assertEqual(int(number), len(parts[-1]) + 1)
+            parts[-1].append(row)
+        return parts
 
-    def test_this_repository_s_pages_are_up_to_date(self):
-        said = output([TOOLS / "reading", "--check"])
-        self.assertEqual(said.count(b"up to date"), 4, said)
+    def imports(self, crate, name):
+        text = (self.top / "crates" / crate / "specs" / f"{name}.antt").read_text()
+        return set(re.findall(r"^use Rattle\.(\w+)\.specs\.(\w+)\.", text, re.M)) - {(crate, name)}
+
+    def test_this_repository_s_sums_are_up_to_date(self):
+        self.assertIn(b"up to date", output([TOOLS / "reading", "--check"]))
 
     def test_what_stands_in_a_module_with_parameters_is_followed(self):
-        listed = {(crate, name) for crate, name, *_ in self.listed()}
+        listed = {(crate, name) for part in self.listed() for crate, name, *_ in part}
         for row in [("ring_quotas", "Fits"), ("perimeter_core", "Legal"), ("histories", "Stays"), ("histories", "Keeping"), ("histories", "Endings")]:
             self.assertIn(row, listed)
 
@@ -47,41 +55,51 @@ class Page(unittest.TestCase):
         self.assertEqual(said.returncode, 1)
         self.assertIn(b"reading: Fits is imported from crates/ring_quotas/specs/Fits.antt, and isn't defined there", said.stderr)
 
-    def test_traits_and_types_seen_as_values_are_listed(self):
-        text = self.page.read_text()
-        for row in ["`Sink`, `Source`", "`Served`", "`Ended`"]:
-            self.assertIn(row, text)
+    def test_a_call_that_is_gone_is_an_error(self):
+        file = self.top / "crates/trace_replay/src/run.rt"
+        file.write_text(file.read_text().replace("pub fn replay_run", "pub fn replay_all"))
+        said = subprocess.run([self.top / "tools" / "reading"], capture_output=True, check=False)
+        self.assertEqual((said.returncode, said.stderr), (1, b"reading: the call replay_run stands in 0 files\n"))
 
-    def test_lowest_first_and_nothing_missing(self):
-        above = set()
-        for crate, name, where, lines, whole in self.listed():
-            text = (self.top / where).read_text()
-            imports = set(re.findall(r"^use Rattle\.(\w+)\.specs\.(\w+)\.", text, re.M)) - {(crate, name)}
-            listed = {(c, n) for c, n, *_ in self.listed()}
-            self.assertLessEqual(imports & listed, above, where)
-            self.assertLessEqual(int(lines), int(whole))
-            above.add((crate, name))
-        self.assertEqual([row[:2] for row in self.listed()][-1], ("squeue_run", "Ran"))
-        self.assertIn(("squeue_run", "Output"), above)
+    def test_traits_types_seen_as_values_and_private_types_are_listed(self):
+        text = (self.lists / "squeue_run.html").read_text()
+        for row in ["<code>Sink</code>, <code>Source</code>", "<code>Served</code>", "<code>Ended</code>"]:
+            self.assertIn(row, text)
+        self.assertRegex(text, r"<code>Way</code><td>[1-9]")
+
+    def test_every_type_has_lines(self):
+        for path in self.lists.glob("*.html"):
+            self.assertNotIn("</code><td>0", path.read_text(), path.name)
+
+    def test_lowest_first(self):
+        for path in self.lists.glob("*.html"):
+            for part in self.listed(path.stem):
+                rows = [(crate, name) for crate, name, *_ in part]
+                for at, row in enumerate(rows):
+                    self.assertLessEqual(self.imports(*row) & set(rows), set(rows[:at]), (path.stem, row))
+        self.assertEqual([row[:2] for row in self.listed()[0]][-1], ["squeue_run", "Ran"])
 
     def test_sums(self):
-        files, whole, lines = re.search(r"In sum: (\d+) files with ([\d,]+) lines, of which the clauses reach ([\d,]+)", self.page.read_text()).groups()
-        rows = self.listed()
-        self.assertEqual((int(files), int(whole.replace(",", "")), int(lines.replace(",", ""))),
-                         (len(rows), sum(int(row[4]) for row in rows), sum(int(row[3]) for row in rows)))
+        """The sums of the page are those of the lists, whose lines a file has."""
+        text = self.page.read_text()
+        self.assertEqual(len(re.findall(r"^\| [^–-].* \| \d+ \| [\d,]+ \| \d+ \|$", text, re.M)), len(list(self.lists.glob("*.html"))))
+        rows = [row for part in self.listed() for row in part]
+        for *_, reached, whole in rows:
+            self.assertLessEqual(int(reached), int(whole))
+        self.assertIn(f"| {len(rows)} | {sum(int(row[2]) for row in rows):,} |", text)
 
     def test_check_sees_a_change(self):
         output([self.top / "tools" / "reading", "--check"])
         before = self.page.read_text()
-        changed = self.top / self.listed()[3][2]
-        changed.write_text(changed.read_text().replace("\n-- ", "\n-- more\n-- ", 1))
+        changed = self.top / "crates" / "ring_quotas" / "specs" / "Fits.antt"
+        changed.write_text(changed.read_text().replace("  -- the history", "  -- more\n  -- the history", 1))
         self.assertIn(b"out of date", output([self.top / "tools" / "reading", "--check"], status=1))
         output([self.top / "tools" / "reading"])
         self.assertNotEqual(self.page.read_text(), before)
         output([self.top / "tools" / "reading", "--check"])
 
     def test_links_lead_somewhere(self):
-        for where in re.findall(r"\]\(\.\./(\S+?)\)", self.page.read_text()):
+        for where in re.findall(r"\]\(\.\./([^)#]+)", self.page.read_text()):
             self.assertTrue((TOP / where).exists(), where)
 
 

@@ -1,6 +1,7 @@
 """README: its commands can be followed in the order in which they stand, and its links lead somewhere."""
 import re
 import unittest
+from itertools import permutations
 
 from common import TOP
 
@@ -12,6 +13,15 @@ MADE = {"./sqrun": "./build ", "./sqreplay": "./build ", "./sqmore": "./build ",
 def commands():
     """The lines of a shell, in order."""
     return [line.strip() for line in re.findall(r"^    ((?:\(cd |\./|tools/|cat |sudo |nc ).*)$", TEXT, re.M)]
+
+
+def stands_on(page, figure):
+    """Whether the page has the figure, or two in one row of a table that make it."""
+    if re.search(rf"(?<![\d.]){re.escape(figure)}(?!\d)", page):
+        return True
+    digits = len(figure.partition(".")[2])
+    rows = [[float(cell) for cell in re.findall(r"\d+\.\d+", line)] for line in page.splitlines() if line.startswith("|")]
+    return any(f"{a / b:.{digits}f}" == figure for row in rows for a, b in permutations(row, 2) if b)
 
 
 class Order(unittest.TestCase):
@@ -33,9 +43,22 @@ class Order(unittest.TestCase):
             written |= set(re.findall(r"> (\S+)", line)) | set(re.findall(r"-o (\S+)", line))
 
     def test_the_first_commands_need_no_build(self):
-        first = commands()[:2]
-        self.assertTrue(first[0].startswith("(cd crates/sqrun && rt try"))
-        self.assertTrue(first[1].startswith("tools/sqplot "))
+        first = commands()[:3]
+        self.assertEqual(first[0], "tools/sqplot crates/sqrun/stdout --capture crates/sqrun/stdin > a.html")
+        self.assertTrue(first[1].startswith("(cd crates/sqrun && rt try"))
+        self.assertTrue(first[2].startswith("tools/sqplot "))
+
+    def test_figures_are_those_of_their_pages(self):
+        """Each figure of the table of numbers stands on the page that its row links, or that the row above it does; or it's a ratio of two of a row there."""
+        rows = [line.strip("| ").split(" | ") for line in TEXT.partition("## Numbers")[2].partition("\n## ")[0].splitlines() if line.startswith("| ")][1:]
+        self.assertGreater(len(rows), 4)
+        page = ""
+        for row in rows:
+            told = " ".join(row[1:])
+            for target in re.findall(r"\]\(([^)#]+\.md)", told):
+                page = (TOP / target).read_text()
+            for figure in re.findall(r"(?<![\w/])\d+\.\d+", told):
+                self.assertTrue(stands_on(page, figure), f"{figure} of {row[0]!r}")
 
     def test_links(self):
         for name, page in (("README.md", TEXT), ("docs/TOOLS.md", (TOP / "docs" / "TOOLS.md").read_text())):

@@ -18,6 +18,7 @@ from common import TOOLS, TOP, captures, need, output
 from crafted import Talk
 from generated import records, write
 from test_sqdiff import program
+import builds
 import front
 import links
 import refusals
@@ -213,7 +214,7 @@ class Told(Folder):
 
     def test_counts_in_words(self):
         said = sq(EXAMPLE, said=True)
-        self.assertIn("46 records: 24 served in 4 connections, 15 from the served ports, dropped, 7 that aren't TCP over IPv4", said)
+        self.assertIn("46 records: 24 served in 4 connections, 15 from the served ports, dropped, 7 of other protocols or ports", said)
         self.assertEqual(sq("--quiet", EXAMPLE, said=True), "")
 
     def test_nothing_served(self):
@@ -410,7 +411,7 @@ class Check(Folder):
 
     def replay(self):
         try:
-            return front.program("sqreplay", os.environ.get("SQREPLAY", ""))
+            return builds.command("sqreplay")
         except front.Refused:
             raise unittest.SkipTest("no sqreplay: run ./build sqreplay") from None
 

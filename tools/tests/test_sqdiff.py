@@ -1,4 +1,6 @@
 """sqdiff: each kind shows where a crafted server does it, and nothing where sqrun itself is the captured server."""
+import gzip
+import io
 import json
 import os
 import random
@@ -7,19 +9,21 @@ import subprocess
 import sys
 import tempfile
 import unittest
+from contextlib import redirect_stderr, redirect_stdout
 from html.parser import HTMLParser
+from importlib.machinery import SourceFileLoader
+from importlib.util import module_from_spec, spec_from_loader
 from pathlib import Path
+from unittest import mock
 
 from common import MODEL, SQRUN, TOOLS, TOP, captures, need, output
 from crafted import ACK, ECE, FIN, MSS, PSH, RST, SACKED, SCALED, STAMPED, SYN, URG, Talk
 from browser import Browser, COMMAND
-from generated import write
+from generated import BEGIN, write
 from standards import KINDS, VERDICTS
 
 GRAVE = ("MUST", "SHOULD", "unjudged")
 SECOND = 1_000_000
-UNPROVED = str(TOP / "sqrun-unproved")
-
 
 # Runs a command with the same Python, and tells its most memory in kilobytes. (getrusage would tell that of the process which started it, where
 # that is larger.)
@@ -38,20 +42,30 @@ sys.exit(status)
 
 def program():
     """The command of some sqrun: a built one, an unproved one, or the model."""
-    for path in (SQRUN, UNPROVED):
-        if os.access(path, os.X_OK):
-            return path
+    if os.access(SQRUN, os.X_OK):
+        return SQRUN
     if MODEL:
         return f"{sys.executable} {MODEL} run"
     raise unittest.SkipTest("no sqrun: run ./build, or name it by SQRUN")
 
 
-def lines(path, *words, status=None):
-    """The differences and the summary that sqdiff finds."""
-    done = subprocess.run([TOOLS / "sqdiff", "--json", "--sqrun", program(), *words, path], capture_output=True, text=True)
-    assert done.returncode in (0, 1) and status in (None, done.returncode), (done.returncode, done.stderr)
-    *found, summary = map(json.loads, done.stdout.splitlines())
-    return found, summary, done.returncode
+def lines(path, *words):
+    """The differences and the summary that sqdiff finds, and its status."""
+    status, said, told = called("--json", "--sqrun", program(), *words, path)
+    assert status in (0, 1, 2) and said, (status, told)
+    *found, summary = map(json.loads, said.splitlines())
+    return found, summary, status
+
+
+def called(*words):
+    """sqdiff's status, output and error output, without a process of its own."""
+    out, told = io.TextIOWrapper(io.BytesIO(), encoding="utf-8"), io.StringIO()
+    loader = SourceFileLoader("sqdiff", str(TOOLS / "sqdiff"))
+    tool = module_from_spec(spec_from_loader("sqdiff", loader))
+    loader.exec_module(tool)
+    with mock.patch.object(sys, "argv", ["sqdiff", *map(str, words)]), redirect_stdout(out), redirect_stderr(told):
+        status = tool.main()
+    return status, out.buffer.getvalue().decode(), told.getvalue()
 
 
 def texts(port=9, **more):
@@ -142,8 +156,40 @@ STORIES = {
     "state at the end": lambda: Talk().open().echo().up(ACK | FIN).down(),
 }
 # What a story has beside its own kind, of what is grave.
-BESIDE = {"text isn't captured": {"not acknowledged"}}
+BESIDE = {"text isn't captured": {"not acknowledged"}, "wrong checksum": {"text isn't captured", "not acknowledged"}}
+# Right servers, which a careless reader takes for wrong ones.
 CONTROLS = {
+    "a reset of what came before the SYN": lambda: Talk().up(seq=-4_000, ack=2_000).down(RST, seq=2_000).up(SYN, options=MSS),
+    "that, and the SYN is refused": lambda: Talk().up(seq=-4_000, ack=2_000).down(RST, seq=2_000).up(SYN, options=MSS).down(RST | ACK, seq=-900_000),
+    "that, and the SYN is answered": lambda: Talk().up(seq=-4_000, ack=2_000).down(RST, seq=2_000).open().echo().close(),
+    "a connection that goes on from before, and then anew": lambda: Talk().up(ACK | PSH, b"hello", seq=70_000, ack=80_000).down(
+        ACK | PSH, b"hello", seq=80_000, ack=70_005).up(ACK | RST, seq=70_005, ack=80_005).open().echo().close(),
+    "a SYN that is also a reset": lambda: Talk().up(ACK, seq=-4_000, ack=2_000).down(RST, seq=2_000).up(SYN | RST | FIN, seq=7).up(
+        ACK, seq=-4_000, ack=2_000).down(RST, seq=2_000),
+    "a SYN refused, then answered": lambda: Talk().up(SYN, options=MSS).down(RST | ACK, seq=-900_000).up(SYN, seq=0, options=MSS, wait=SECOND).down(
+        SYN | ACK, options=MSS).up().echo().close(),
+    "a second SYN with another number": lambda: again(Talk().up(SYN, options=MSS).down(SYN | ACK, options=MSS, window=0xffff)).up(SYN, options=MSS).down(
+        SYN | ACK, options=MSS, window=1_000).up().echo().close(),
+    "the answer to the first of two SYNs": lambda: Talk().up(SYN, options=MSS + SCALED).up(SYN, seq=500_000, options=MSS).down(
+        SYN | ACK, options=MSS + SCALED, ack=1).up(),
+    "a SYN without options behind one that has them": lambda: Talk().up(SYN, options=MSS + SCALED).up(SYN, seq=0).down(SYN | ACK, options=MSS + SCALED).up(),
+    "a text that the wire spoils, and that is sent again": lambda: texts().up(ACK | PSH, b"hello", wrong=True).up(
+        ACK | PSH, b"world").down(ack=1).up(ACK | PSH, b"hello", seq=1, wait=SECOND * 6 // 10).down(),
+    "acknowledgements that the wire spoils": lambda: texts().up(ACK | PSH, b"one").down(wrong=True).up(ACK | PSH, b"two", wait=SECOND * 7 // 10).down().up(
+        ACK | PSH, b"three").down().up(ACK | PSH, b"four").down(),
+    "numbers and flags that the wire spoils": lambda: Talk().open().echo().down(FIN | ACK, seq=3_000_000, wrong=True).down(
+        ACK | PSH, b"HELLO", seq=1, wrong=True).down(RST, seq=77, wrong=True).down(ACK, reserved=4, wrong=True).echo().echo().echo().echo().close(),
+    "two segments that a card was to cut": lambda: Talk(asked=b"\x02\x04\x01\xf4").open().up(ACK | PSH, b"x" * 600).down(
+        ACK | PSH, b"x" * 600, card=True).up().echo().echo(),
+    "a late acknowledgement on a long way": lambda: Talk(9).up(SYN, options=MSS).down(SYN | ACK, options=MSS, wait=50_000).up().up(ACK | PSH, b"hello").down(
+        wait=SECOND * 7 // 10),
+    "a late acknowledgement where the wire loses": lambda: texts().up(ACK | PSH, b"one").down().up(ACK | PSH, b"one", seq=1, wait=SECOND // 5).down().up(
+        ACK | PSH, b"two", wait=50_000).down(wait=SECOND * 6 // 10),
+    "timeouts of which the wire lost one": lambda: Talk().open().up(ACK | PSH, b"hello").down(ACK | PSH, b"hello").down(
+        ACK | PSH, b"hello", seq=1, wait=SECOND).down(ACK | PSH, b"hello", seq=1, wait=6 * SECOND).down(ACK | PSH, b"hello", seq=1, wait=8 * SECOND).up(),
+    "a keep-alive with a byte": lambda: Talk().open().echo().down(ACK, b"\0", seq=5, wait=60 * SECOND).up(),
+    "accurate congestion notification": lambda: Talk().open().echo(reserved=1),
+    "a text that came when the window was open again": lambda: Talk().open().echo().up(window=0).up(wait=70 * SECOND).echo().close(),
     "echo": lambda: Talk().open().echo().echo(b"x" * 1_460).close(),
     "discard": lambda: texts().up(ACK | PSH, b"hello").down().close(),
     "a late half of a second less": lambda: Talk().open().up(ACK | PSH, b"hello").down(ACK | PSH, b"hello", wait=SECOND * 49 // 100).up(),
@@ -172,6 +218,13 @@ CONTROLS = {
 }
 
 
+def again(talk):
+    """The client begins with another number, on the same two ends and in the same life of the server's."""
+    talk.start = talk.start[0] + 600_000_000, talk.start[1] + 40_000
+    talk.mine = talk.theirs = 0
+    return talk
+
+
 class Kinds(unittest.TestCase):
     def setUp(self):
         folder = tempfile.TemporaryDirectory()
@@ -194,7 +247,7 @@ class Kinds(unittest.TestCase):
                     self.assertEqual(mine[0]["frame"], talk.marked)
                 grave = {line["kind"] for line in found if line["verdict"] in GRAVE} - {name}
                 self.assertLessEqual(grave, BESIDE.get(name, set()), found)
-                self.assertEqual(status, int(any(line["verdict"] == "MUST" for line in found)))
+                self.assertEqual(status, 2 if name == "no answer" else int(any(line["verdict"] == "MUST" for line in found)))
                 self.assertEqual(summary["must"], sum(line["count"] for line in found if line["verdict"] == "MUST"))
 
     def test_what_is_right_has_none(self):
@@ -213,6 +266,24 @@ class Kinds(unittest.TestCase):
         found, summary, _ = lines(Talk().open().echo().close().anew(SECOND).open().echo(reserved=4, mark=True).close().save(self.folder))
         self.assertEqual([(line["life"], line["kind"], line["frame"]) for line in found], [(1, "reserved bits", 14)])
         self.assertEqual((summary["connections"], summary["must"]), (1, 1))
+
+    def test_nothing_compared(self):
+        """It's told, with what the capture has, and is no pass: a port that isn't served, packets cut short, UDP, clients alone."""
+        talk = Talk(8080).open().echo()
+        cut = [(at, body[:60]) for at, body in Talk().open().echo(b"x" * 100).records if len(body) > 60]
+        write(self.folder / "cut.pcap", cut, 101)
+        udp = bytes.fromhex("4500001d000000004011" "0000" "0a0000010a000002" "0fa00007000900" "0061")
+        write(self.folder / "udp.pcap", [(BEGIN, udp)], 101)
+        for path, words in ((talk.save(self.folder, "port.pcap"), ("TCP ports 8080 (6 segments)", "--port 8080=9")), (self.folder / "cut.pcap", ("2 packets are cut", "-s 0")),
+                            (self.folder / "udp.pcap", ("UDP ports 7", "sqmore")), (Talk().up(SYN, options=MSS).save(self.folder), ("no segment of a server",))):
+            for shape in ((), ("--json",), ("--page",)):
+                with self.subTest(path.name, shape=shape):
+                    status, said, told = called("--sqrun", program(), *shape, path)
+                    self.assertEqual(status, 2, told)
+                    for word in ("nothing is compared", *words):
+                        self.assertIn(word, told)
+                    if shape == ("--json",):
+                        self.assertEqual(json.loads(said.splitlines()[-1])["compared"], 0)
 
     def test_gaps_make_unjudged(self):
         """Where the capture lacks a text, a late acknowledgement breaks no MUST: the one that was in time may be missing too."""
@@ -246,6 +317,16 @@ class Recorded(unittest.TestCase):
                 found, summary, status = lines(path)
                 self.assertEqual((status, summary["must"]), (0, 0), [line for line in found if line["verdict"] == "MUST"])
                 self.assertTrue(found)
+
+    def test_nor_where_the_wire_spoils_bits(self):
+        """The same captures with bytes changed behind the Ethernet header, few or many, as a bad wire would."""
+        rnd = random.Random(5)
+        for path in recorded():
+            for share in (0.005, 0.03):
+                with self.subTest(path.name, share=share):
+                    (self.folder / "spoilt.pcap").write_bytes(spoilt(rnd, path, share))
+                    found, summary, _ = lines(self.folder / "spoilt.pcap")
+                    self.assertEqual(summary["must"], 0, [line for line in found if line["verdict"] == "MUST"])
 
     def test_what_tshark_says_of_them(self):
         """Options of SYN,ACK, sizes of texts and late acknowledgements are those that tshark shows."""
@@ -295,6 +376,18 @@ OPTIONS = {"maximum segment size": "tcp.options.mss_val", "window scale": "tcp.o
 def recorded():
     """Captures of real servers: those of all tools, and of other implementations of TCP."""
     return captures() + sorted((Path(__file__).resolve().parent / "recorded").glob("*.pcap.gz"))
+
+
+def spoilt(rnd, path, share):
+    """The capture with a byte changed in this share of its packets."""
+    data = bytearray(gzip.decompress(path.read_bytes()) if path.suffix == ".gz" else path.read_bytes())
+    at = 24
+    while at + 16 <= len(data):
+        size = int.from_bytes(data[at + 8:at + 12], "little")
+        if rnd.random() < share and size > 14:
+            data[at + 16 + rnd.randrange(14, size)] ^= 1 << rnd.randrange(8)
+        at += 16 + size
+    return bytes(data)
 
 
 class Dissected:
@@ -395,7 +488,12 @@ class Shapes(unittest.TestCase):
         text = self.said(self.path)
         self.assertIn("10.0.0.1:4000 -> 10.0.0.2:7 (connection 0, echo)", text)
         self.assertRegex(text, r"MUST     reserved bits: frame 5 at [\d.]+ .s: captured: 0100; sqrun: 0000 \[RFC 9293, 3\.1\]")
-        self.assertRegex(text, r"(?s)summary.*MUST +reserved bits +1 connection +1 time +RFC 9293, 3\.1")
+        self.assertRegex(text, r"(?m)\A1 connection: 1 differs, 0 are alike; a MUST is broken 1 time\n(.*\n)?  MUST +reserved bits +1 connection +1 time +RFC 9293, 3\.1$")
+
+    def test_what_is_alike_is_counted(self):
+        text = called("--sqrun", program(), Talk().open().echo().close().save(self.folder, "alike.pcap"))[1]
+        self.assertRegex(text, r"\A1 connection: 0 differ, 1 is alike; no MUST is broken\n")
+        self.assertNotIn("10.0.0.1", text)
 
     def test_must_alone_and_chosen_connections(self):
         text = self.said("--must", self.path)

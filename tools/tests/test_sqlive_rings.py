@@ -2,6 +2,7 @@
 import hashlib
 import itertools
 import os
+import shutil
 import socket
 import struct
 import subprocess
@@ -55,6 +56,14 @@ class Streams(unittest.TestCase):
             words = ["--rings", str(rings), "--squeues", str(squeues), "--mode", mode, "--budget", str(budget), *frames_words(), *files]
             ran = subprocess.run([SQLIVE_RINGS, *words], capture_output=True, timeout=60)
             return ran.returncode, [path.read_bytes() if path.exists() else b"" for _, path in ends]
+
+    def test_the_stored_run(self):
+        """What the gate runs, with its bytes: there a program may not open its own output, so the gate itself sees the status alone."""
+        crate = TOOLS.parent / "crates" / "sqlive_rings"
+        with tempfile.TemporaryDirectory() as folder:
+            shutil.copy(crate / "data" / "in.0", folder)
+            ran = subprocess.run([SQLIVE_RINGS, *(crate / "args").read_text().split()], capture_output=True, cwd=folder, timeout=60)
+            self.assertEqual((ran.returncode, Path(folder, "out.0").read_bytes()), (0, (crate / "data" / "answers.0").read_bytes()))
 
     def by_one_thread(self, text):
         return subprocess.run([SQLIVE, *frames_words()], input=text, capture_output=True, timeout=60).stdout

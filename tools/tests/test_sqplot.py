@@ -297,7 +297,7 @@ class Page(InBrowser):
 
         def count(node, name):
             return (node["nodeName"].lower() == name) + sum(count(child, name) for child in node.get("children", []))
-        self.assertEqual(count(tree["root"], "svg"), 1 + 2 + 4 * 5)       # the key; names and figure; of four connections two graphs with plots, and a ladder
+        self.assertEqual(count(tree["root"], "svg"), 11 + 2 + 4 * 5)      # the signs of the key; names and figure; of four connections two graphs with plots, and a ladder
         b.scripts(True)
 
     def test_zoom_and_keys(self):
@@ -380,7 +380,7 @@ class Page(InBrowser):
         report = reports.read(text, "report")
         b = self.show(text, path)
         column = lambda n: b.js(f"[...document.querySelectorAll('.list tbody tr')].map(row => row.children[{n}].textContent)")
-        special = column(10)
+        special = column(11)
         self.assertEqual(len(special), len(report.conns))
         self.assertEqual([bool(words) for words in special], sorted([bool(words) for words in special], reverse=True))
         b.js("document.querySelectorAll('.list th button')[8].click()")

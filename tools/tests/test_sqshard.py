@@ -361,7 +361,7 @@ class Shards(unittest.TestCase):
         path = self.folder / "a.pcap"
         write(path, records(3, 600, 6), 101)
         said = subprocess.run([TOOLS / "sqshard", "run", "--sqrun", SQRUN, self.work, path], capture_output=True, text=True, check=True).stderr
-        self.assertRegex(said, r"^sqshard: scan: 1 done, .*\nsqshard: plan: 600 records, \d+ connections: 1 shards.* of memory\nsqshard: deal: 1 done.*\n"
+        self.assertRegex(said, r"^sqshard: scan: 1 done, .*\nsqshard: plan: 600 records, \d+ connections: 1 shard,.* of memory\nsqshard: deal: 1 done.*\n"
                                r"sqshard: serve: \d done, .*\n$")
 
     def test_other_captures_in_the_same_directory(self):

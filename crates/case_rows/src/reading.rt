@@ -6,7 +6,7 @@ use std::{fmt, mem};
 
 /// What is wrong with a line.
 #[derive(Clone, Copy, Debug, PartialEq, Eq, Drop)]
-pub enum Wrong {
+pub enum BadLine {
     /// It is indented by less than four blanks, or by a tab.
     Indented,
     /// It is an indented line with no field or part above it, or a field with no row above it.
@@ -19,17 +19,17 @@ pub enum Wrong {
     NoPart,
 }
 
-impl fmt::Display for Wrong {
+impl fmt::Display for BadLine {
     fn fmt<W: fmt::Write>(&self, f: &mut fmt::Formatter<W>) -> fmt::Result {
         write!(
             f,
             "{}",
             match self {
-                Wrong::Indented => "a line is indented by four blanks or by none",
-                Wrong::Nowhere => "a line that belongs to no row",
-                Wrong::NoName => "a name is missing",
-                Wrong::Again => "this name is taken",
-                Wrong::NoPart => "no part above has this name",
+                BadLine::Indented => "a line is indented by four blanks or by none",
+                BadLine::Nowhere => "a line that belongs to no row",
+                BadLine::NoName => "a name is missing",
+                BadLine::Again => "this name is taken",
+                BadLine::NoPart => "no part above has this name",
             }
         )
     }
@@ -41,7 +41,7 @@ pub enum Broken {
     /// Memory was missing.
     NoMemory,
     /// What is wrong with which line, counted from 1.
-    Line(usize, Wrong),
+    Line(usize, BadLine),
 }
 
 impl From<AllocError> for Broken {
@@ -75,7 +75,7 @@ struct Reader<'a> {
 #[derive(Clone, Copy, Drop)]
 enum Refused {
     NoMemory,
-    Wrong(Wrong),
+    BadLine(BadLine),
 }
 
 impl<T: Drop> From<AllocFailed<T>> for Refused {
@@ -106,7 +106,7 @@ pub fn rows_of<'a>(alloc: Global, text: &'a str) -> Result<Vec<Row<'a>>, Broken>
         match reader.take(number, line) {
             Ok(()) => {}
             Err(Refused::NoMemory) => return Err(Broken::NoMemory),
-            Err(Refused::Wrong(wrong)) => return Err(Broken::Line(number, wrong)),
+            Err(Refused::BadLine(bad)) => return Err(Broken::Line(number, bad)),
         }
     }
     reader.close()?;
@@ -132,7 +132,7 @@ fn add<'a>(lines: &mut Vec<&'a str>, parts: &[Field<'a>], line: &'a str) -> Resu
             lines.extend_from_slice(more)?;
             Ok(())
         }
-        None => Err(Refused::Wrong(Wrong::NoPart)),
+        None => Err(Refused::BadLine(BadLine::NoPart)),
     }
 }
 
@@ -154,7 +154,7 @@ impl<'a> Reader<'a> {
             return self.go_on(more);
         }
         if line.starts_with(' ') || line.starts_with('\t') {
-            return Err(Refused::Wrong(Wrong::Indented));
+            return Err(Refused::BadLine(BadLine::Indented));
         }
         self.close()?;
         let (word, name) = first_word(line);
@@ -188,10 +188,10 @@ impl<'a> Reader<'a> {
 
     fn begin_row(&mut self, at: usize, name: &'a str) -> Result<(), Refused> {
         if name.is_empty() {
-            return Err(Refused::Wrong(Wrong::NoName));
+            return Err(Refused::BadLine(BadLine::NoName));
         }
         if self.rows.iter().any(|row| row.name == name) {
-            return Err(Refused::Wrong(Wrong::Again));
+            return Err(Refused::BadLine(BadLine::Again));
         }
         let fields = Vec::new(self.alloc);
         self.rows.push(Row { name, at, fields })?;
@@ -201,10 +201,10 @@ impl<'a> Reader<'a> {
 
     fn begin_part(&mut self, name: &'a str) -> Result<(), Refused> {
         if name.is_empty() {
-            return Err(Refused::Wrong(Wrong::NoName));
+            return Err(Refused::BadLine(BadLine::NoName));
         }
         if named(&self.parts, name).is_some() {
-            return Err(Refused::Wrong(Wrong::Again));
+            return Err(Refused::BadLine(BadLine::Again));
         }
         self.place = Place::Part;
         self.name = name;
@@ -213,10 +213,10 @@ impl<'a> Reader<'a> {
 
     fn begin_field(&mut self, name: &'a str, text: &'a str) -> Result<(), Refused> {
         if self.place == Place::Nowhere {
-            return Err(Refused::Wrong(Wrong::Nowhere));
+            return Err(Refused::BadLine(BadLine::Nowhere));
         }
         if has_field(&self.rows, name) {
-            return Err(Refused::Wrong(Wrong::Again));
+            return Err(Refused::BadLine(BadLine::Again));
         }
         self.place = Place::Field;
         self.name = name;
@@ -230,7 +230,7 @@ impl<'a> Reader<'a> {
     fn go_on(&mut self, line: &'a str) -> Result<(), Refused> {
         match self.place {
             Place::Part | Place::Field => add(&mut self.lines, &self.parts, line),
-            Place::Nowhere | Place::Row => Err(Refused::Wrong(Wrong::Nowhere)),
+            Place::Nowhere | Place::Row => Err(Refused::BadLine(BadLine::Nowhere)),
         }
     }
 }

@@ -16,12 +16,12 @@ struct Count {
     failed: u64,
 }
 
-/// Runs the rows of the files that the process' words name. `judge` does what a row says, and compares what came with what is wanted; its
-/// fault says what differs, or that the row has a field that is none there ([`Row::expect_fields`]). Prints a line for each row that fails, and one with the count: `N rows passed, M failed`.
+/// Runs the rows of the files that the process' words name. `judge` does what a row of a file says, and compares what came with what is
+/// wanted; its fault says what differs, or that the row has a field that is none there ([`Row::expect_fields`]). Prints a line for each row that fails, and one with the count: `N rows passed, M failed`.
 /// The status is 0 where none failed, else 1.
 pub fn run_cases<
     R: Env + Files + AllocGlobal + Print,
-    J: Fn(Global, &Row<'_>) -> Result<(), Fault>,
+    J: Fn(Global, &str, &Row<'_>) -> Result<(), Fault>,
 >(rt: &R, judge: &J) -> io::Result<ExitCode>
     requires { J.IsAlwaysCallable judge.now }
 {
@@ -38,7 +38,7 @@ pub fn run_cases<
 }
 
 /// Runs the rows of a file.
-fn run_file<R: Files + AllocGlobal + Print, J: Fn(Global, &Row<'_>) -> Result<(), Fault>>(
+fn run_file<R: Files + AllocGlobal + Print, J: Fn(Global, &str, &Row<'_>) -> Result<(), Fault>>(
     rt: &R,
     judge: &J,
     file: &str,
@@ -61,7 +61,7 @@ fn run_file<R: Files + AllocGlobal + Print, J: Fn(Global, &Row<'_>) -> Result<()
 }
 
 /// Runs these rows.
-fn run_rows<R: AllocGlobal + Print, J: Fn(Global, &Row<'_>) -> Result<(), Fault>>(
+fn run_rows<R: AllocGlobal + Print, J: Fn(Global, &str, &Row<'_>) -> Result<(), Fault>>(
     rt: &R,
     judge: &J,
     file: &str,
@@ -71,7 +71,7 @@ fn run_rows<R: AllocGlobal + Print, J: Fn(Global, &Row<'_>) -> Result<(), Fault>
     requires { J.IsAlwaysCallable judge.now }
 {
     for row in rows {
-        match judge(rt.alloc(), row) {
+        match judge(rt.alloc(), file, row) {
             Ok(()) => count.passed = count.passed.saturating_add(1),
             Err(fault) => {
                 count.failed = count.failed.saturating_add(1);

@@ -10,7 +10,7 @@ ghost use Rattle.perimeter_core.specs.Legal.{Legal};
 ghost use Rattle.placed_parts.specs.Placing.{limits_of, origin_of};
 ghost use Rattle.squeue_state.specs.Naming.{setting_of};
 ghost use Rattle.squeue_drain.specs.Draining.{GoesOn};
-ghost use Rattle.squeue_look.specs.Seeing.{HasSeen};
+ghost use Rattle.synch_enter.specs.Seeing.{HasSeen};
 ghost use Rattle.conn_migrate.specs.Moving.{IsKept};
 ghost use Rattle.stream_stays.specs.Staying.{HasLife};
 ghost use Rattle.conn_table.specs.Lines.{life_of, seats_of};
@@ -24,12 +24,11 @@ use live_conns::Conversations;
 use perimeter_core::{NoHook, Resident};
 use sq_base::Sink;
 use squeue_drain::Owner;
-use squeue_look::Reads;
 use squeue_state::{Life, Pass, Squeue};
 use std::alloc::{AllocError, Global};
 use std::marker::Brand;
 use std::sync::Wait;
-use synch_enter::synch_enter;
+use synch_enter::{Reads, synch_enter};
 
 /// Looks at an Ask of the ring, behind all that it has entered, at each of its connections. What is told is of one resident of the squeue,
 /// which stands for what the history has done by then: at any time it proves the front of one history. By number of the places, there is

@@ -7,10 +7,10 @@ ghost use Rattle.conn_table.specs.Glances.{glance_at, glance_of};
 use live_conns::{Conversations, Item};
 use live_tables::{Fault, Table};
 use sq_base::Sink;
-use squeue_look::Reads;
 use squeue_streams::Stream;
 use std::alloc::{AllocError, Global};
 use std::sync::Wait;
+use synch_enter::Reads;
 
 /// What is read of the table at a place: whether its server has no connection, and what went wrong there first.
 #[derive(Clone, Copy, Debug, PartialEq, Eq)]

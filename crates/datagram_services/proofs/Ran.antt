@@ -18,10 +18,10 @@ use Rattle.squeue_pool.specs.Keys.{key_lists, quotas_at}
 use Rattle.squeue_pool.specs.Runs.{IsHereOnce, IsLeft, ends_of, list_for}
 use Rattle.squeue_pool.specs.Works.{WorkOf}
 use Rattle.squeue_pool.proofs.Made.{number_at}
-use Rattle.squeue_ends.specs.Finishing.{FinishedOf, HasFinished, LayIn}
+use Rattle.squeue_pool.specs.Finishing.{FinishedOf, HasFinished, LayIn}
 use Rattle.ring_quotas.specs.declared.setup.Setup.{Setup}
-use Rattle.feed_lists.specs.Lists.{list_of}
-use Rattle.feed_lists.proofs.RingLists.{has_all}
+use Rattle.histories.specs.Lists.{list_of}
+use Rattle.histories.proofs.RingLists.{has_all}
 use Rattle.stream_plan.specs.Streams.{MorePlanOf, StreamOf, item_count}
 use Rattle.stream_blocks.specs.contracts.blocks.StreamBlocksResident.TheImpl.{ghosts}
 use Rattle.stream_blocks.specs.declared.block.StreamBlock.{StreamBlock}

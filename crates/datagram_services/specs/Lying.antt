@@ -1,6 +1,6 @@
 -- Where the blocks lie that were served, and what is served so.
 use Rattle.std.specs.Prelude.{◌≡◌, ℕ, ◌<◌, false, Option, Some, None, List, [], ◌∷◌, length, slice_get}
-use Rattle.squeue_ends.specs.Finishing.{FinishedOf}
+use Rattle.squeue_pool.specs.Finishing.{FinishedOf}
 use Rattle.stream_blocks.specs.Served.{ServedOf}
 use Rattle.stream_blocks.specs.Standing.{served_of}
 use Rattle.stream_blocks.specs.declared.block.StreamBlock.{StreamBlock}

@@ -1,6 +1,6 @@
 //! Who serves the streams of a plan: threads over squeues, as the connections of another program are served.
 //!
-//! `serving` serves them by one call of `squeue_ends`. `work` says what its threads have to do: work by key, the
+//! `serving` serves them by one call of `squeue_pool`. `work` says what its threads have to do: work by key, the
 //! items of each stream as its feeds. `served` is what is handed out. There are no calls and no moves: a stream stays at its squeue, and
 //! one ring brings all its items.
 //!

@@ -5,7 +5,7 @@ ghost use Rattle.stream_blocks.specs.declared.block.StreamBlock.{StreamBlock as 
 ghost use Rattle.datagram_services.specs.Lying.{AreThere, HandsOut};
 
 use chargen_service::GenBlock;
-use squeue_ends::Finished;
+use squeue_pool::Finished;
 use std::alloc::AllocError;
 use std::marker::Model;
 use stream_blocks::{Answer, StreamBlock};

@@ -1,9 +1,7 @@
 //! Runs whose streams are put in again as they go, whose room is full most of the time, and in which somebody looks.
 ghost use Rattle.std.specs.Prelude.{◌≤◌, ◌^◌};
 
-use crate::making::LIFE;
-use crate::serving::{RunEnd, Size, sum_for};
-use endless_sums::{Stint, Sums, Total};
+use endless_sums::{LIFE, RunEnd, Size, Stint, Sums, Total, sum_for};
 use std::process::Abort;
 use std::sync::Wait;
 use std::test::*;

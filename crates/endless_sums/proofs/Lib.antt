@@ -2,3 +2,10 @@ pub mod Looks
 pub mod Rounds
 pub mod Sums
 pub mod Told
+pub mod Passing
+pub mod Fresh
+pub mod Kept
+pub mod Jobs
+pub mod Lasts
+pub mod OneRun
+pub mod Made

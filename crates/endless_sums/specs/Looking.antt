@@ -8,7 +8,7 @@ use Rattle.perimeter_core.specs.declared.resident.Resident.{Ghosts}
 use Rattle.perimeter_core.specs.Legal.{Legal, asks_by}
 use Rattle.histories.specs.Elements.{number_of}
 use Rattle.squeue_state.specs.Naming.{Named, setting_of}
-use Rattle.squeue_look.specs.Seeing.{HasSeen}
+use Rattle.synch_enter.specs.Seeing.{HasSeen}
 
 -- After what the pass has seen it may look n times
 pub record MayLook {R : Type 0} (limits : R → Limits) (s : Named R) (n : ℕ) (p : Pass Element) : Type 0 where

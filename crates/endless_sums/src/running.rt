@@ -1,216 +1,165 @@
-//! What the threads do with their passes: each ring brings amounts round after round, and one thread looks each second.
-ghost use Rattle.std.specs.Prelude.{◌≡◌, ◌+◌, ◌<◌, ◌⊎◌, ◌++◌, ◌∷◌, [], true, IsSome};
-ghost use Rattle.turn_gate.specs.History.{Begins};
-ghost use Rattle.turn_gate.specs.Passes.{number, seen};
+//! The jobs of a run, and how they run beside each other.
+ghost use Rattle.std.specs.Prelude.{◌≡◌, ◌<◌, ℕ, All, Some, length, slice_index_or};
+ghost use Rattle.turn_gate.specs.Passes.{IsPassOf, number, seen};
+ghost use Rattle.perimeter_core.specs.History.{worker as worker_of};
 ghost use Rattle.perimeter_core.specs.Legal.{asks_by};
-ghost use Rattle.squeue_streams.specs.Sourcing.{Brings, entered_of, left_of, pushed_of, sent_of};
-ghost use Rattle.endless_sums.specs.Looking.{HasLooked, MayLook};
-ghost use Rattle.endless_sums.specs.Rounds.{HasPushed, HasPushedRounds};
+ghost use Rattle.squeue_state.specs.Naming.{setting_of};
+ghost use Rattle.histories.specs.Elements.{number_of};
+ghost use Rattle.squeue_serve.specs.declared.jobs.Job.{Job};
+ghost use Rattle.squeue_serve.specs.Places.{MayEnd};
+ghost use Rattle.squeue_streams.specs.Sourcing.{Brings};
+ghost use Rattle.endless_sums.specs.Looking.{MayLook};
+ghost use Rattle.endless_sums.specs.declared.running.Role.{Role};
+ghost use Rattle.endless_sums.specs.Running.{HasBrought, HasDone, IsReady, LookedWithin, MayRun, Ran};
 
+use crate::bringing::{Stint, bring};
+use crate::watching::{Looked, watch};
 use perimeter_core::{NoHook, Resident};
-use squeue_look::{Reads, look};
+use squeue_drain::worker;
+use squeue_serve::{Job, put_pass, run_each, take_pass};
 use squeue_state::{Pass, Squeue};
 use squeue_streams::{Renews, Source, SourcePace};
 use std::alloc::Global;
 use std::fmt::Display;
 use std::sync::Wait;
-use std::time::{Clock, Duration, Instant};
-use std::{io, thread};
+use std::thread::Threads;
+use std::time::Clock;
+use synch_enter::Reads;
 
-/// How many amounts a ring brings before it looks whether its time is over: 0, 1, 2 and so on.
-pub const ROUND: u32 = 1_000;
-
-/// How long a ring brings: so many seconds, and so many rounds at least; and how many microseconds it rests after each amount.
-#[derive(Clone, Copy)]
-pub struct Stint {
-    pub seconds: u32,
-    pub rounds: u32,
-    pub pause: u32,
-}
-
-/// What who looked has at its end: what the last look has seen, and whether all that was seen could be told.
+/// What a pass is used for: to bring what a source pushes, to look, or to work. Who looked keeps what was seen last, and who brought
+/// the source as it is then.
 #[derive(Drop)]
-pub struct Looked<S: Drop> {
-    pub last: Option<S>,
-    pub told: bool,
+pub enum Role<S: Drop> {
+    Bring(Source<u32>),
+    Look(Looked<S>),
+    Work,
 }
 
-/// Brings rounds of amounts, one at least, until the stint is over, and enters the feeds of all. The seconds are over too where
-/// the clock fails, and the stint where the source's life has no round more. Where it hasn't got one at first, this waits for ever.
-pub fn bring<R: Renews, W: Wait + Clock>(
+/// Runs the jobs beside each other until all are done. Who looks does so in each second of the stint. The worker's job waits for the
+/// others, so it stands last.
+pub fn run<R: Renews + Send, V: Reads<R> + Sync, W: Threads + Wait + Clock + Print + Sync>(
     rt: &W,
     sq: &Squeue<R>,
     alloc: Global,
     pace: SourcePace,
-    pass: Pass,
-    source: &mut Source<u32>,
+    reader: &V,
     stint: Stint,
-) -> Pass
-    requires may { Brings R.limits sq.now pass source.old }
-    ensures may { Brings R.limits sq.now result source.new }
-    ensures number { number result ≡ number pass }
-    ensures all { entered_of source.new ≡ pushed_of source.new }
-    ensures pushed { HasPushedRounds stint.rounds source.old source.new }
+    jobs: &mut [Job<Role<V::Seen>>],
+)
+where
+    V::Seen: Display + Drop + Send + Sync,
+    requires { All (IsReady R.limits sq.now stint.seconds) jobs.old }
+    ensures { (k : ℕ) (d : Job (Role V.Seen)) → k < length jobs.old
+        → Ran R.Resident sq.now (V.says reader.now) stint (slice_index_or jobs.old k d) (slice_index_or jobs.new k d) }
 {
-    let start = Instant::now(rt);
-    let mut pass = pass;
-    let mut rounds = stint.rounds;
-    for _ in rt.forever() {
-        pass = bring_round(rt, sq, alloc, pace, pass, source, stint.pause);
-        rounds = rounds.saturating_sub(1);
-        let over = is_done(rt, &start, stint.seconds, rounds, source.left());
-        if over {
-            return bring_rest(rt, sq, alloc, pace, pass, source);
-        }
-    }
-    unreachable!()
+    run_each(
+        rt,
+        jobs,
+        &|_, job: &mut Job<Role<V::Seen>>|
+            requires { IsReady R.limits sq.now stint.seconds job.now }
+            ensures { Ran R.Resident sq.entry.now (V.says reader.entry.now) stint job.entry.now job.exit.now }
+        { run_job(rt, sq, alloc, pace, reader, stint, job) },
+    );
 }
 
-// Brings the amounts of one round, and rests after each.
-fn bring_round<R: Renews, W: Wait + Clock>(
+fn run_job<R: Renews, V: Reads<R>, W: Wait + Clock + Print>(
     rt: &W,
     sq: &Squeue<R>,
     alloc: Global,
     pace: SourcePace,
-    pass: Pass,
-    source: &mut Source<u32>,
-    pause: u32,
-) -> Pass
-    requires may { Brings R.limits sq.now pass source.old }
-    ensures may { Brings R.limits sq.now result source.new }
-    ensures number { number result ≡ number pass }
-    ensures pushed { HasPushed 1000 source.old source.new }
+    reader: &V,
+    stint: Stint,
+    job: &mut Job<Role<V::Seen>>,
+)
+where
+    V::Seen: Display + Drop + Send + Sync,
+    requires { IsReady R.limits sq.now stint.seconds job.old }
+    ensures { Ran R.Resident sq.now (V.says reader.now) stint job.old job.new }
 {
-    let mut pass = pass;
-    for amount in 0..ROUND {
-        pass = bring_one(rt, sq, alloc, pace, pass, source, amount);
-        rest(rt, pause);
-    }
-    pass
+    let pass = take_pass(&mut job.places[0]);
+    let pass = run_pass(rt, sq, alloc, pace, reader, stint, pass, &mut job.task);
+    put_pass(&mut job.places[0], pass);
 }
 
-// Whether the stint is over by so many rounds that are left of it, or what is left of the life has no round more.
-fn is_done<W: Clock>(
-    rt: &W,
-    start: &io::Result<Instant>,
-    seconds: u32,
-    rounds: u32,
-    left: u64,
-) -> bool
-    ensures { result ≡ true → (rounds ≡ 0) ⊎ (left < 1000) }
-{
-    if left < u64::from(ROUND) {
-        return true;
-    }
-    rounds == 0 && is_over(rt, start, seconds)
-}
-
-// Whether so many seconds are over since the start.
-fn is_over<W: Clock>(rt: &W, start: &io::Result<Instant>, seconds: u32) -> bool {
-    match start {
-        Ok(start) => match start.elapsed(rt) {
-            Ok(time) => time.as_secs() >= u64::from(seconds),
-            Err(_) => true,
-        },
-        Err(_) => true,
-    }
-}
-
-// Sleeps for so many microseconds, where there are some.
-fn rest<W: Clock>(rt: &W, pause: u32) {
-    if pause > 0 {
-        thread::sleep(rt, Duration::from_micros(u64::from(pause)));
-    }
-}
-
-// Brings one amount. Where ring and room are full it waits.
-fn bring_one<R: Renews, W: Wait>(
+fn run_pass<R: Renews, V: Reads<R>, W: Wait + Clock + Print>(
     rt: &W,
     sq: &Squeue<R>,
     alloc: Global,
     pace: SourcePace,
+    reader: &V,
+    stint: Stint,
     pass: Pass,
-    source: &mut Source<u32>,
-    amount: u32,
+    task: &mut Role<V::Seen>,
 ) -> Pass
-    requires may { Brings R.limits sq.now pass source.old }
-    ensures may { Brings R.limits sq.now result source.new }
-    ensures number { number result ≡ number pass }
-    ensures pushed { sent_of source.new ≡ sent_of source.old ++ amount ∷ [] }
+where
+    V::Seen: Display + Drop + Send + Sync,
+    requires { MayRun R.limits sq.now stint.seconds task.old pass }
+    ensures ended { MayEnd R.limits (number pass) sq.now result }
+    ensures done { HasDone R.Resident sq.now (V.says reader.now) stint task.old task.new (Some result) }
 {
-    let mut pass = pass;
-    for _ in rt.forever() {
-        let (next, pushed) = source.bring(sq, rt, alloc, &NoHook, pass, pace, amount);
-        match pushed {
-            Ok(()) => return next,
-            Err(_) => pass = next,
-        }
-        thread::yield_now();
+    match task {
+        Role::Bring(source) => bring_all(rt, sq, alloc, pace, stint, pass, source),
+        Role::Look(looked) => look_on(rt, sq, alloc, reader, stint.seconds, pass, looked),
+        Role::Work => work(rt, sq, alloc, pass),
     }
-    unreachable!()
 }
 
-// Enters what is pushed, and waits until all of it has found room.
-fn bring_rest<R: Resident, W: Wait>(
+// Brings what the source pushes until its stint is over, and closes the pass.
+fn bring_all<R: Renews, W: Wait + Clock>(
     rt: &W,
     sq: &Squeue<R>,
     alloc: Global,
     pace: SourcePace,
+    stint: Stint,
     pass: Pass,
     source: &mut Source<u32>,
 ) -> Pass
-    requires may { Brings R.limits sq.now pass source.old }
-    ensures may { Brings R.limits sq.now result source.new }
-    ensures number { number result ≡ number pass }
-    ensures all { entered_of source.new ≡ pushed_of source.new }
-    ensures same { (sent_of source.new ≡ sent_of source.old) × (left_of source.new ≡ left_of source.old) }
+    requires { Brings R.limits sq.now pass source.old }
+    ensures ended { MayEnd R.limits (number pass) sq.now result }
+    ensures brought { HasBrought R.limits sq.now stint source.old source.new result }
 {
-    let mut pass = pass;
-    for _ in rt.forever() {
-        let (next, all) = source.enter_pushed(sq, rt, alloc, &NoHook, pass, pace);
-        if all {
-            return next;
-        }
-        pass = next;
-        thread::yield_now();
-    }
-    unreachable!()
+    let stint = stint_of(pass.number(), stint);
+    let pass = bring(rt, sq, alloc, pace, pass, source, stint);
+    sq.close_pass(rt, pass)
 }
 
-/// Looks after each second, so many times, and tells what was seen. What the last look has seen comes back: it is of the history
-/// that the pass has seen then, of which what it saw before is a beginning. There each look is an ask of the pass, and no other.
-pub fn watch<R: Resident, V: Reads<R>, W: Wait + Clock + Print>(
+// The stint of this ring: the first alone rests.
+fn stint_of(ring: u32, stint: Stint) -> Stint
+    ensures { (result.seconds ≡ stint.seconds) × (result.rounds ≡ stint.rounds) }
+{
+    match ring {
+        0 => stint,
+        _ => Stint { pause: 0, ..stint },
+    }
+}
+
+// Looks each second, and closes the pass. What was seen last is kept: it is of a beginning of the history that the pass has seen.
+fn look_on<R: Resident, V: Reads<R>, W: Wait + Clock + Print>(
     rt: &W,
     sq: &Squeue<R>,
     alloc: Global,
-    pass: Pass,
     reader: &V,
     seconds: u32,
-) -> (Pass, Looked<V::Seen>)
+    pass: Pass,
+    looked: &mut Looked<V::Seen>,
+) -> Pass
 where
-    V::Seen: Display + Drop,
+    V::Seen: Display + Drop + Send + Sync,
     requires may { MayLook R.limits sq.now seconds pass }
-    ensures may { MayLook R.limits sq.now 0 result.0 }
-    ensures number { number result.0 ≡ number pass }
-    ensures grows { Begins (seen pass) (seen result.0) }
-    ensures asks { asks_by (number pass) (seen result.0) ≡ asks_by (number pass) (seen pass) + seconds }
-    ensures some { 0 < seconds → IsSome result.1.last }
-    ensures looked { HasLooked R.Resident sq.now (V.says reader.now) (seen result.0) result.1.last }
+    requires none { asks_by (number pass) (seen pass) ≡ 0 }
+    ensures ended { MayEnd R.limits (number pass) sq.now result }
+    ensures kept { LookedWithin R.Resident sq.now (V.says reader.now) (number result) seconds (seen result) looked.new.last }
 {
-    let mut pass = pass;
-    let mut looked = Looked {
-        last: None,
-        told: true,
-    };
-    for second in 0..seconds {
-        thread::sleep(rt, Duration::from_secs(1));
-        let (next, seen) = look(sq, rt, alloc, pass, reader);
-        pass = next;
-        let line = println!(rt; "second {second} {seen}");
-        looked = Looked {
-            last: Some(seen),
-            told: looked.told && line.is_ok(),
-        };
-    }
-    (pass, looked)
+    let (pass, now) = watch(rt, sq, alloc, pass, reader, seconds);
+    *looked = now;
+    sq.close_pass(rt, pass)
+}
+
+// Works until all is over.
+fn work<R: Resident, W: Wait>(rt: &W, sq: &Squeue<R>, alloc: Global, pass: Pass) -> Pass
+    requires pass { IsPassOf number_of sq.now.gate pass }
+    requires worker { number pass ≡ worker_of (setting_of R.limits sq.now.given) }
+    ensures { MayEnd R.limits (number pass) sq.now result }
+{
+    worker(sq, rt, alloc, &NoHook, pass)
 }

@@ -1,11 +1,9 @@
-//! A diary behind a gate, written by several threads: the tests of `turn_gate`, and the smallest example of its use.
+//! A diary behind a gate, written by several threads: what the tests of `turn_gate` run on, and the smallest example of its use.
 #![tactic(auto)]
 
 mod diary;
 mod jobs;
 mod lending;
-#[cfg(test)]
-mod tests;
 mod unshared;
 mod writers;
 

@@ -9,3 +9,4 @@ pub mod StaysJoin
 pub mod StaysSeen
 pub mod Keeping
 pub mod AllFed
+pub mod RingLists

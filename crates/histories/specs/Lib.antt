@@ -9,3 +9,4 @@ pub mod Stays
 pub mod Noted
 pub mod Keeping
 pub mod Fitting
+pub mod Lists

@@ -2,7 +2,8 @@
 //!
 //! A history is a list of marks, as `perimeter_core` has it. Here is what is said of the histories of several squeues together: how
 //! one has ended, the stays of a connection whose block moves and how they are linked, where a connection is at home, what the marks
-//! of a ring keep. No thread is here and no squeue, so that who has histories alone, from a file, needs no more than this.
+//! of a ring keep, and which feeds a ring brings, key by key. No thread is here and no squeue, so that who has histories alone, from a
+//! file, needs no more than this.
 //!
 //! - `homes` says where a connection is at home.
 //! - `mode` has the modes of entering, `pace` how a ring enters its feeds, `quota` how much a pass may enter.

@@ -1,4 +1,4 @@
-//! A capture that is put together, and sources. What files are read as stands as rows of `cases_input`.
+//! A capture that is put together, and sources. What files are read as stands as rows of `cases_library`.
 
 use capture_reader::{Capture, CaptureFault, Record, parse_capture, read_capture};
 use sq_base::{Failed, Link, MemSource, Octets, Source};

@@ -1,4 +1,4 @@
-//! One datagram. What bytes are read as and written stands as rows of `cases_input`.
+//! One datagram. What bytes are read as and written stands as rows of `cases_library`.
 
 use sq_base::{Addr, Link};
 use std::alloc::Global;

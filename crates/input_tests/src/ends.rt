@@ -1,4 +1,4 @@
-//! The ends of a run. Sequence numbers, checksums and link types stand as rows of `cases_input`.
+//! The ends of a run. Sequence numbers, checksums and link types stand as rows of `cases_library`.
 
 use sq_base::{MemSink, MemSource, Octets, Sink, Source, Status, StdSink, StdSource, put};
 use std::fs::File;

@@ -1,4 +1,4 @@
-//! One file. What else files are read as stands as rows of `cases_input`.
+//! One file. What else files are read as stands as rows of `cases_library`.
 
 use capture_reader::{Capture, Record};
 use pcapng_reader::{PcapngFault, parse_pcapng};

@@ -1,4 +1,4 @@
-//! As many connections as may be, and ports that a caller gives. What captures are planned as stands as rows of `cases_input`.
+//! As many connections as may be, and ports that a caller gives. What captures are planned as stands as rows of `cases_library`.
 
 use capture_reader::{Capture, parse_capture};
 use conn_classifier::{Ports, Rules, plan, plan_with};

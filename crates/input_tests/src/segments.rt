@@ -1,4 +1,4 @@
-//! Where datagrams begin, and a reset behind other bytes. What bytes are read as and written stands as rows of `cases_input`.
+//! Where datagrams begin, and a reset behind other bytes. What bytes are read as and written stands as rows of `cases_library`.
 
 use segment_codec::{Options, Packet, Seg, encode_into, ip_place, refusal, tuple_of};
 use sq_base::{Addr, Link, Tuple};

@@ -1,4 +1,4 @@
-//! One stream of each service. What else captures are planned as stands as rows of `cases_input`.
+//! One stream of each service. What else captures are planned as stands as rows of `cases_library`.
 
 use capture_reader::{Capture, parse_capture};
 use sq_base::{Addr, Octets, Tuple};

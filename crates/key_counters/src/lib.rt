@@ -8,8 +8,6 @@
 mod counters;
 mod counting;
 mod reading;
-#[cfg(test)]
-mod tests;
 
 pub use counters::{Amounts, Counter, Counters};
 pub use counting::count;

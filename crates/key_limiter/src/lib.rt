@@ -6,8 +6,6 @@
 
 mod deciding;
 mod limiter;
-#[cfg(test)]
-mod tests;
 
 pub use deciding::decide;
 pub use limiter::{Bucket, Level, Limit, Requests};

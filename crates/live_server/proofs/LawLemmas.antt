@@ -12,7 +12,7 @@ use Rattle.live_server.specs.Acts.{emptied, is_half_open, is_over, judged, new_c
 use Rattle.live_server.specs.Initial.{number_for}
 use Rattle.live_server.specs.Services.{service_at}
 use Rattle.live_server.specs.Isolation.{conn_of, kept_as, IsTable, Loses, OthersStay, OwnConnActs, SegmentKeepsTable, Stays}
-use Rattle.live_server.specs.Serving.{Outcome, ServerOf, becomes, comes, fits, gives_way, goes_on, has_place, heeded, heeded_text, heeds, holding, judging, noting, on_segment, opens, overfull, sends_nothing, sends_of, served, takes_free, takes_place, time_to, turns_away, without_text, yielding, yields, yields_at}
+use Rattle.live_server.specs.Serving.{Outcome, ServerOf, becomes, comes, fits, gives_way, goes_on, has_place, heeded, heeded_text, heeds, holding, is_waiting, judging, noting, numbered, on_segment, opens, overfull, sends_nothing, sends_of, served, takes_free, takes_place, time_to, turns_away, without_text, yielding, yields, yields_at}
 use Rattle.live_server.specs.Table.{Conns, conn_at, place_of, tuple_eq, without, IsNew}
 use Rattle.live_server.specs.declared.conn.Conn.{Conn}
 use Rattle.live_server.specs.declared.setting.Setting.{Setting}
@@ -34,12 +34,15 @@ chosen : (b : Bool) (v : Bool) (x y : Option Conn) → v ≡ b → cond v x y �
 chosen b v x y e = ap (λ w. cond w x y) e
 
 -- ---- one that gives way
-module _ (t : Tuple) (sv : ServerOf) (table : IsTable sv) where
+module _ (w : Tuple × ℕ) (sv : ServerOf) (table : IsTable sv) where
+  abbrev t : Tuple
+  t = w.0
+
   module _ (i : ℕ) (at : place_of t sv.conns ≡ Some i) where
     lt : i < length sv.conns
     lt = within_at t sv.conns i at
 
-    yielded_table : (h : Bool) → is_half_open (conn_at i sv.conns) ≡ h → IsTable (yields_at i sv)
+    yielded_table : (h : Bool) → is_waiting w.1 (conn_at i sv.conns) ≡ h → IsTable (yields_at w.1 i sv)
     unfolding yields_at
     yielded_table false whole = subst IsTable (sym (ap (λ b. cond b (gives_way i sv) sv) whole)) table
     yielded_table true half = subst IsTable (sym (ap (λ b. cond b (gives_way i sv) sv) half)) (record {
@@ -47,7 +50,7 @@ module _ (t : Tuple) (sv : ServerOf) (table : IsTable sv) where
       bounded = omega (arith, length_without sv.conns i lt, table.bounded);
     })
 
-    yielded_stays : (q : Tuple) (h : Bool) → is_half_open (conn_at i sv.conns) ≡ h → Stays q sv (yields_at i sv)
+    yielded_stays : (q : Tuple) (h : Bool) → is_waiting w.1 (conn_at i sv.conns) ≡ h → Stays q sv (yields_at w.1 i sv)
     unfolding yields_at
     yielded_stays q false whole = subst (Stays q sv) (sym (ap (λ b. cond b (gives_way i sv) sv) whole)) (inl refl)
     yielded_stays q true half = subst (Stays q sv) (sym (ap (λ b. cond b (gives_way i sv) sv) half)) (by (tuple_eq t q) refl)
@@ -60,27 +63,27 @@ module _ (t : Tuple) (sv : ServerOf) (table : IsTable sv) where
         by false e = inl (look ∙ chosen false (tuple_eq t q) None _ e)
         by true e =
             let own : place_of q sv.conns ≡ Some i = ap (λ x. place_of x sv.conns) (sym (same t q e)) ∙ at in
-            inr (look ∙ chosen true (tuple_eq t q) None _ e, subst (λ o. IfSome o (λ c. is_half_open c ≡ true)) (sym (conn_looked q sv.conns i own)) half)
+            inr (look ∙ chosen true (tuple_eq t q) None _ e, subst (λ o. IfSome o (λ c. is_half_open c ≡ true)) (sym (conn_looked q sv.conns i own)) (and_parts _ _ half).0)
 
-  yields_by : (r : Option ℕ) → place_of t sv.conns ≡ r → yields t sv ≡ option_map_or (λ i. yields_at i sv) r sv
+  pub yields_by : (r : Option ℕ) → place_of t sv.conns ≡ r → yields w sv ≡ option_map_or (λ i. yields_at w.1 i sv) r sv
   unfolding yields
-  yields_by r at = ap (λ o. option_map_or (λ i. yields_at i sv) o sv) at
+  yields_by r at = ap (λ o. option_map_or (λ i. yields_at w.1 i sv) o sv) at
 
-  yields_table : IsTable (yields t sv)
+  pub yields_table : IsTable (yields w sv)
   yields_table = by (place_of t sv.conns) refl
     where
-      by : (r : Option ℕ) → place_of t sv.conns ≡ r → IsTable (yields t sv)
+      by : (r : Option ℕ) → place_of t sv.conns ≡ r → IsTable (yields w sv)
       by None at = subst IsTable (sym (yields_by None at)) table
-      by (Some i) at = subst IsTable (sym (yields_by (Some i) at)) (yielded_table i at (is_half_open (conn_at i sv.conns)) refl)
+      by (Some i) at = subst IsTable (sym (yields_by (Some i) at)) (yielded_table i at (is_waiting w.1 (conn_at i sv.conns)) refl)
 
-  yields_stays : (q : Tuple) → Stays q sv (yields t sv)
+  yields_stays : (q : Tuple) → Stays q sv (yields w sv)
   yields_stays q = by (place_of t sv.conns) refl
     where
-      by : (r : Option ℕ) → place_of t sv.conns ≡ r → Stays q sv (yields t sv)
+      by : (r : Option ℕ) → place_of t sv.conns ≡ r → Stays q sv (yields w sv)
       by None at = subst (Stays q sv) (sym (yields_by None at)) (inl refl)
-      by (Some i) at = subst (Stays q sv) (sym (yields_by (Some i) at)) (yielded_stays i at q (is_half_open (conn_at i sv.conns)) refl)
+      by (Some i) at = subst (Stays q sv) (sym (yields_by (Some i) at)) (yielded_stays i at q (is_waiting w.1 (conn_at i sv.conns)) refl)
 
-with_waiting : (ts : List Tuple) (sv : ServerOf) → IsTable sv → IsTable (record sv { waiting = ts })
+pub with_waiting : (ts : List (Tuple × ℕ)) (sv : ServerOf) → IsTable sv → IsTable (record sv { waiting = ts })
 with_waiting ts sv table = record { once = table.once; bounded = table.bounded }
 
 chosen_table : (b : Bool) (x y : ServerOf) → IsTable x → IsTable y → IsTable (cond b x y)
@@ -91,12 +94,12 @@ chosen_stays : (q : Tuple) (sv : ServerOf) (b : Bool) (x y : ServerOf) → Stays
 chosen_stays q sv true x y here there = here
 chosen_stays q sv false x y here there = there
 
-yielding_table : (ts : List Tuple) (sv : ServerOf) → IsTable sv → IsTable (yielding ts sv)
+yielding_table : (ts : List (Tuple × ℕ)) (sv : ServerOf) → IsTable sv → IsTable (yielding ts sv)
 yielding_table [] sv table = table
 yielding_table (t ∷ ts) sv table =
     chosen_table (has_place sv) _ _ table (yielding_table ts (yields t (record sv { waiting = ts })) (yields_table t (record sv { waiting = ts }) (with_waiting ts sv table)))
 
-yielding_stays : (q : Tuple) (ts : List Tuple) (sv : ServerOf) → IsTable sv → Stays q sv (yielding ts sv)
+yielding_stays : (q : Tuple) (ts : List (Tuple × ℕ)) (sv : ServerOf) → IsTable sv → Stays q sv (yielding ts sv)
 yielding_stays q [] sv table = inl refl
 yielding_stays q (t ∷ ts) sv table =
     let here = record sv { waiting = ts } in
@@ -117,13 +120,13 @@ module _ (t : Tuple) (c : Conn) (sv : ServerOf) (new : IsNew t sv.conns) where
       let free : nat_lt (length sv.conns) sv.setting.places ≡ true = (and_parts _ _ e).0 in
       let room : length sv.conns < sv.setting.places = grind (arith, nat_tests) in
       subst (λ (o : Outcome). IsTable o.server) (sym (taken_by true e)) (record {
-        once = distinct_appended t (emptied c) sv.conns new table.once;
-        bounded = omega (arith, length-append sv.conns ((t, emptied c) ∷ []), room);
+        once = distinct_appended t (emptied (numbered sv c)) sv.conns new table.once;
+        bounded = omega (arith, length-append sv.conns ((t, emptied (numbered sv c)) ∷ []), room);
       })
   taken_table table false e = subst (λ (o : Outcome). IsTable o.server) (sym (taken_by false e)) (record { once = table.once; bounded = table.bounded })
 
   taken_stays : (q : Tuple) → tuple_eq t q ≡ false → (b : Bool) → has_place sv ≡ b → conn_of q (takes_place t c sv).server ≡ conn_of q sv
-  taken_stays q apart true e = ap (λ (o : Outcome). conn_of q o.server) (taken_by true e) ∙ look_appended t (emptied c) sv.conns new q ∙ chosen false (tuple_eq t q) _ _ apart
+  taken_stays q apart true e = ap (λ (o : Outcome). conn_of q o.server) (taken_by true e) ∙ look_appended t (emptied (numbered sv c)) sv.conns new q ∙ chosen false (tuple_eq t q) _ _ apart
   taken_stays q apart false e = ap (λ (o : Outcome). conn_of q o.server) (taken_by false e)
 
 -- ---- the connection at a place becomes another one

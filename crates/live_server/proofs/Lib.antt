@@ -7,7 +7,9 @@ pub mod TurnLemmas
 pub mod ReachLemmas
 pub mod ServerLemmas
 pub mod LawLemmas
+pub mod AgeLemmas
 pub mod SentLemmas
+pub mod TickLemmas
 pub mod LossLemmas
 pub mod FrameLemmas
 pub mod PieceLemmas

@@ -26,9 +26,9 @@ use Rattle.live_server.specs.declared.conn.Judged.TheVariants.{Challenged, Late,
 use Rattle.live_server.specs.declared.service.Service.{Service}
 use Rattle.live_server.specs.declared.service.Service.TheVariants.{Discard}
 
--- a connection that nothing is known of, with its service, and with the most text that a segment may have on its path
+-- a connection that nothing is known of, with its service, and the most text that a segment may have on its path; it has no place yet, so no number
 abbrev pub new_conn : Service → ℕ → ℕ → Conn
-new_conn service most now = record { tcb = new_block; service = service; most = most; heard = now; quiet_until = 0; congestion = no_congestion }
+new_conn service most now = record { tcb = new_block; number = 0; service = service; most = most; since = now; heard = now; quiet_until = 0; congestion = no_congestion }
 
 -- what stands for one where there is none
 abbrev pub no_conn : Conn

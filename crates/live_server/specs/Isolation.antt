@@ -1,5 +1,5 @@
 -- What holds of every table, and what a segment does to others.
-use Rattle.std.specs.Prelude.{◌≡◌, ℕ, ◌≤◌, ◌⊎◌, true, false, List, length, All, Option, None, Some, IfSome, option_map, if◌then◌else◌}
+use Rattle.std.specs.Prelude.{◌≡◌, ℕ, ◌≤◌, ◌⊎◌, ◌||◌, true, false, List, length, All, Contains, Option, None, Some, IfSome, option_map, if◌then◌else◌}
 use Rattle.std.specs.List.{IsDistinct}
 use Rattle.std.specs.Map.{keys_of, lookup}
 use Rattle.segment_codec.specs.Refusal.{tuple_of}
@@ -8,8 +8,9 @@ use Rattle.segment_codec.specs.declared.packet.Seg.{Seg}
 use Rattle.sq_base.specs.declared.kinds.Tuple.{Tuple}
 use Rattle.live_server.specs.Acts.{datagram_of, emptied, is_half_open, is_over, reached, receives}
 use Rattle.live_server.specs.Initial.{number_for}
-use Rattle.live_server.specs.Serving.{ServerOf, heeded, heeded_text, on_segment, on_time}
-use Rattle.live_server.specs.Table.{tuple_eq}
+use Rattle.live_server.specs.Leaving.{is_leaving}
+use Rattle.live_server.specs.Serving.{ServerOf, heeded, heeded_text, makes_place, on_segment, on_time}
+use Rattle.live_server.specs.Table.{all_reached, tuple_eq, without_over}
 use Rattle.live_server.specs.declared.acting.Datagram.{Datagram}
 use Rattle.live_server.specs.declared.conn.Conn.{Conn}
 
@@ -50,6 +51,19 @@ Stays q before after = (conn_of q after ≡ conn_of q before) ⊎ ((conn_of q af
 abbrev pub OthersStay : Type 0
 OthersStay = (now : ℕ) (s : Seg) (text : List ℕ) (sv : ServerOf) (other : Tuple) → IsTable sv → tuple_eq other (tuple_of s) ≡ false
     → Stays other sv (on_segment now s text sv).server
+
+-- who gives way to a new connection is half open, and its own entry is among those that wait: one that comes again between the same ends
+-- has its own age
+abbrev pub OwnEntryGivesWay : Type 0
+OwnEntryGivesWay = (q : Tuple) (sv : ServerOf) (c : Conn) → IsTable sv → conn_of q sv ≡ Some c
+    → (conn_of q (makes_place sv) ≡ Some c) ⊎ ((is_half_open c ≡ true) × Contains sv.waiting (q, c.number))
+
+-- the time leaves each connection as it reached it, but for one that is over or is to leave
+abbrev pub TimeLeaves : Type 0
+TimeLeaves = (now : ℕ) (q : Tuple) (sv : ServerOf) (c : Conn) → IsTable sv → conn_of q sv ≡ Some c
+    → conn_of q (on_time now sv).server
+    ≡ (if is_over (reached now c) || is_leaving sv.setting now (length (without_over (all_reached now sv.conns))) (emptied (reached now c)) then None
+    else Some (emptied (reached now c)))
 
 -- where memory was missing, the connection of two ends is gone, and every other one stays
 abbrev pub Loses : Tuple → ServerOf → ServerOf → Type 0

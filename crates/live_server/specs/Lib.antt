@@ -7,6 +7,7 @@ pub mod Services
 pub mod Acts
 pub mod Counting
 pub mod Table
+pub mod Leaving
 pub mod Serving
 pub mod Isolation
 pub mod Frames

@@ -1,5 +1,5 @@
 -- What a server makes of a datagram and of the time.
-use Rattle.std.specs.Prelude.{ℕ, ◌+◌, ◌-◌, ◌^◌, min, nat_le, nat_lt, ◌&&◌, not, bit_and, Bool, true, Some, unwrap_or, List, [], ◌∷◌, ◌++◌, length, if◌then◌else◌}
+use Rattle.std.specs.Prelude.{ℕ, ◌+◌, ◌-◌, ◌^◌, ◌==◌, min, nat_le, nat_lt, ◌&&◌, not, bit_and, Bool, true, Some, unwrap_or, List, [], ◌∷◌, ◌++◌, length, if◌then◌else◌}
 use Rattle.std.specs.List.{flat_map}
 use Rattle.std.specs.Option.{option_map_or}
 use Rattle.segment_codec.specs.Packet.{packet_in}
@@ -15,19 +15,20 @@ use Rattle.live_server.specs.Acts.{datagram_of, emptied, is_half_open, is_over, 
 use Rattle.live_server.specs.Addresses.{is_for_us}
 use Rattle.live_server.specs.Counting.{counting_judged, more}
 use Rattle.live_server.specs.Initial.{number_for}
+use Rattle.live_server.specs.Leaving.{without_leaving}
 use Rattle.live_server.specs.Services.{is_served_at, service_at}
-use Rattle.live_server.specs.Table.{Conns, all_reached, conn_at, held_by, place_of, replaced, without, without_idle, without_over}
+use Rattle.live_server.specs.Table.{Conns, all_reached, conn_at, held_by, place_of, replaced, without, without_over}
 use Rattle.live_server.specs.declared.acting.Datagram.{Datagram}
 use Rattle.live_server.specs.declared.conn.Conn.{Conn}
 use Rattle.live_server.specs.declared.conn.Judged.{Judged}
 use Rattle.live_server.specs.declared.counts.Counts.{Counts}
 use Rattle.live_server.specs.declared.setting.Setting.{Setting}
 
--- the connections; the ends of those that were opened last, which may be half open, by age; how many bytes all held when the time
--- last came to them, with the text that came since; what it was started with; what it met
+-- the connections; the ends and the number of those that were opened last, which may be half open, by age; how many bytes all held when
+-- the time last came to them, with the text that came since; what it was started with; what it met
 pub record ServerOf : Type 0 where
   pub conns : Conns
-  pub waiting : List Tuple
+  pub waiting : List (Tuple × ℕ)
   pub held : ℕ
   pub setting : Setting
   pub secret : List ℕ
@@ -66,29 +67,37 @@ goes_on now s text place sv =
 unfoldable pub has_place : ServerOf → Bool
 has_place sv = nat_lt (length sv.conns) sv.setting.places && nat_lt (length sv.waiting) sv.setting.places
 
--- the connection at a place gives way, where it is half open
+-- it is half open, and the one that was opened with a number
+abbrev pub is_waiting : ℕ → Conn → Bool
+is_waiting number c = is_half_open c && (c.number == number)
+
+-- the connection at a place gives way, where that is so
 abbrev pub gives_way : ℕ → ServerOf → ServerOf
 gives_way place sv = record sv { conns = without place sv.conns; counts = record sv.counts { gave_way = more 1 sv.counts.gave_way } }
 
-unfoldable pub yields_at : ℕ → ServerOf → ServerOf
-yields_at place sv = if is_half_open (conn_at place sv.conns) then gives_way place sv else sv
+unfoldable pub yields_at : ℕ → ℕ → ServerOf → ServerOf
+yields_at number place sv = if is_waiting number (conn_at place sv.conns) then gives_way place sv else sv
 
 -- and that of two ends, where it has a place
-unfoldable pub yields : Tuple → ServerOf → ServerOf
-yields t sv = option_map_or (λ place. yields_at place sv) (place_of t sv.conns) sv
+unfoldable pub yields : Tuple × ℕ → ServerOf → ServerOf
+yields w sv = option_map_or (λ place. yields_at w.1 place sv) (place_of w.0 sv.conns) sv
 
 -- in a full table the oldest half-open connection gives way; and none stays half open behind as many later ones as there are places
-abbrev pub yielding : List Tuple → ServerOf → ServerOf
+abbrev pub yielding : List (Tuple × ℕ) → ServerOf → ServerOf
 yielding [] sv = sv
-yielding (t ∷ ts) sv = if has_place sv then sv else yielding ts (yields t (record sv { waiting = ts }))
+yielding (w ∷ ws) sv = if has_place sv then sv else yielding ws (yields w (record sv { waiting = ws }))
 
 abbrev pub makes_place : ServerOf → ServerOf
 makes_place sv = yielding sv.waiting sv
 
+-- the how-manyth it is of those that were opened, modulo 2^64
+abbrev pub numbered : ServerOf → Conn → Conn
+numbered sv c = record c { number = sv.counts.opened }
+
 -- a connection takes a place that is free
 abbrev pub takes_free : Tuple → Conn → ServerOf → Outcome
 takes_free t c sv = record {
-  server = record sv { conns = sv.conns ++ (t, emptied c) ∷ []; waiting = sv.waiting ++ t ∷ []; counts = record sv.counts { opened = more 1 sv.counts.opened } };
+  server = record sv { conns = sv.conns ++ (t, emptied (numbered sv c)) ∷ []; waiting = sv.waiting ++ (t, sv.counts.opened) ∷ []; counts = record sv.counts { opened = more 1 sv.counts.opened } };
   sent = sent_by t c;
 }
 
@@ -176,12 +185,12 @@ on_packet now body packet.BadSum sv = passes_over sv
 unfoldable pub on_datagram : ℕ → List ℕ → ServerOf → Outcome
 on_datagram now body sv = on_packet now body (packet_in RawIp body true) sv
 
--- the time comes to every connection
+-- the time comes to every connection, and who is to leave does
 unfoldable pub on_time : ℕ → ServerOf → Outcome
 on_time now sv =
     let here = without_over (all_reached now sv.conns) in
-    let kept = without_idle sv.setting.places now sv.setting.idle here in
+    let kept = without_leaving sv.setting now here in
     record {
-      server = record sv { conns = kept; held = held_by kept; counts = record sv.counts { idled = more (length here - length kept) sv.counts.idled } };
+      server = record sv { conns = kept; held = held_by kept; counts = record sv.counts { left = more (length here - length kept) sv.counts.left } };
       sent = flat_map (λ c. sent_by c.0 (reached now c.1)) sv.conns;
     }

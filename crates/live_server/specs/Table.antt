@@ -1,10 +1,10 @@
 -- The table of connections: the two ends of each, with what is known of it.
-use Rattle.std.specs.Prelude.{◌≡◌, ℕ, ◌+◌, ◌-◌, ◌^◌, min, ◌==◌, ◌&&◌, not, [], ◌∷◌, ◌++◌, take, drop, nat_lt, Bool, List, length, map, filter, position, slice_get, swap_remove, Option, None, if◌then◌else◌}
+use Rattle.std.specs.Prelude.{◌≡◌, ℕ, ◌+◌, ◌-◌, ◌^◌, min, ◌==◌, ◌&&◌, not, [], ◌∷◌, ◌++◌, take, drop, Bool, List, map, filter, position, slice_get, swap_remove, Option, None, if◌then◌else◌}
 use Rattle.std.specs.Map.{keys_of, lookup}
 use Rattle.std.specs.Option.{option_map_or}
 use Rattle.sq_base.specs.declared.kinds.Tuple.{Tuple}
 use Rattle.tcb_machine.specs.BlockState.{held_in}
-use Rattle.live_server.specs.Acts.{emptied, is_idle, is_over, no_conn, reached}
+use Rattle.live_server.specs.Acts.{emptied, is_over, no_conn, reached}
 use Rattle.indexmap.specs.IndexMap.{set_value_at}
 use Rattle.live_server.specs.declared.conn.Conn.{Conn}
 
@@ -49,10 +49,6 @@ reached_until now i cs = all_reached now (take i cs) ++ drop i cs
 -- those that are over leave
 unfoldable pub without_over : Conns → Conns
 without_over cs = filter (λ c. not (is_over c.1)) cs
-
--- from a full table all leave that are idle
-unfoldable pub without_idle : ℕ → ℕ → ℕ → Conns → Conns
-without_idle places now limit cs = if nat_lt (length cs) places then cs else filter (λ c. not (is_idle now limit c.1)) cs
 
 -- how many bytes all hold, as far as 64 bits can say
 abbrev pub total_of : Conns → ℕ

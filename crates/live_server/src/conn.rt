@@ -2,6 +2,8 @@
 
 ghost use Rattle.std.specs.Prelude.{◌≡◌, ◌++◌, ◌≤◌, IfOk, OnOk};
 ghost use Rattle.live_server.specs.Acts.{after, emptied, has_room, is_half_open, is_idle, is_outside, is_over, judged, new_conn, oldest_ack, provokes, reached, receives, renewed, resent, sent_by, taken, takes};
+ghost use Rattle.live_server.specs.Leaving.{is_given_up};
+ghost use Rattle.tcb_machine.specs.TcpStep.{is_time_wait};
 ghost use Rattle.tcb_machine.specs.Room.{HasRoom};
 ghost use Rattle.tcb_machine.specs.Limits.{last_time};
 
@@ -17,6 +19,12 @@ use tcb_machine::{State, Tcb};
 /// A connection sends one challenge in so many microseconds (RFC 5961, 7).
 const CHALLENGE_INTERVAL: u64 = 500_000;
 
+/// A connection is half open for so many microseconds at most (RFC 9293, 3.8.3 gives a SYN three minutes at least).
+const HANDSHAKE_LIMIT: u64 = 180_000_000;
+
+/// A connection is silent in FIN-WAIT-2 for so many microseconds at most.
+const HALF_CLOSED_LIMIT: u64 = 60_000_000;
+
 /// The most that is ever sent and not acknowledged, in bytes.
 const SEND_SPACE: u32 = 65_535;
 
@@ -27,6 +35,10 @@ pub struct Conn {
     pub service: Service,
     /// How many bytes of text a segment has at most on the path to its peer: no longer MSS is announced.
     pub most: u16,
+    /// When it was opened.
+    pub since: u64,
+    /// The how-manyth it is of those that took a place, modulo 2^64.
+    pub number: u64,
     /// When the last segment came that wasn't dropped.
     pub heard: u64,
     /// Before this time no challenge is sent.
@@ -56,6 +68,8 @@ impl Conn {
             tcb: Tcb::make(alloc),
             service,
             most,
+            since: now,
+            number: 0,
             heard: now,
             quiet_until: 0,
             congestion: Congestion::fresh(),
@@ -79,6 +93,23 @@ impl Conn {
         ensures { result ≡ is_idle now limit self.now }
     {
         now.saturating_sub(self.heard) >= limit
+    }
+
+    pub fn is_in_time_wait(&self) -> bool
+        ensures { result ≡ is_time_wait self.now.tcb.state }
+    {
+        matches!(self.tcb.state(), State::TimeWait)
+    }
+
+    /// Whether it is half open, or silent in FIN-WAIT-2, for too long.
+    pub fn is_given_up(&self, now: u64) -> bool
+        ensures { result ≡ is_given_up now self.now }
+    {
+        match self.tcb.state() {
+            State::SynReceived => now.saturating_sub(self.since) >= HANDSHAKE_LIMIT,
+            State::FinWait2 => self.is_idle(now, HALF_CLOSED_LIMIT),
+            _ => false,
+        }
     }
 
     /// What becomes of a segment that comes at a time.

@@ -20,8 +20,8 @@ pub struct Counts {
     pub turned_away: u64,
     /// Half-open connections that gave way to later ones.
     pub gave_way: u64,
-    /// Idle connections that left a full table.
-    pub idled: u64,
+    /// Connections that left at a tick, though nobody ended them: half open or half closed too long, or crowded out.
+    pub left: u64,
     /// Challenges that were sent (RFC 5961).
     pub challenges: u64,
     /// Segments that would have got a challenge, so shortly behind another one.

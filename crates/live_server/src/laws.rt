@@ -3,7 +3,7 @@
 ghost use Rattle.std.specs.Prelude.{◌≡◌, codes};
 ghost use Rattle.live_server.specs.DaytimeText.{date_of, daytime_text};
 ghost use Rattle.live_server.specs.Frames.{PiecesJoin};
-ghost use Rattle.live_server.specs.Isolation.{AnswersItsEnds, OthersStay, OwnConnActs, SegmentKeepsTable, TimeKeepsTable};
+ghost use Rattle.live_server.specs.Isolation.{AnswersItsEnds, OthersStay, OwnConnActs, OwnEntryGivesWay, SegmentKeepsTable, TimeKeepsTable, TimeLeaves};
 
 /// Each connection stands once in the table, and there are no more than there are places.
 pub fn the_table_is_bounded()
@@ -19,6 +19,17 @@ pub fn own_connection_acts()
 /// Every other connection stays as it is, but for one that is half open, which may leave.
 pub fn others_stay()
     ensures { OthersStay }
+{}
+
+/// Who gives way to a new connection is half open, and does so by its own age, never by that of an earlier connection between the same
+/// ends.
+pub fn own_entry_gives_way()
+    ensures { OwnEntryGivesWay }
+{}
+
+/// The time ends no connection but one that is over, half open or half closed too long, or crowded out.
+pub fn only_these_leave_in_time()
+    ensures { TimeLeaves }
 {}
 
 /// What is sent for a segment goes to its own ends.

@@ -26,8 +26,8 @@ pub use counts::Counts;
 pub use frames::{FRAME_HEAD, is_broken, serve_frames};
 pub use initial::Secret;
 pub use laws::{
-    answers_go_to_its_ends, days_have_their_dates, others_stay, own_connection_acts, pieces_join,
-    the_table_is_bounded,
+    answers_go_to_its_ends, days_have_their_dates, only_these_leave_in_time, others_stay,
+    own_connection_acts, own_entry_gives_way, pieces_join, the_table_is_bounded,
 };
 pub use ports::{NO_PORTS, PLAIN_PORTS, Ports};
 pub use server::Server;

@@ -20,7 +20,7 @@ use crate::initial::{Secret, initial_number};
 use crate::ports::{is_served_at, service_at};
 use crate::setting::Setting;
 use crate::table::{
-    Table, drop_idle, drop_over, held_by, is_half_open_at, leave, reach_all, reach_at, take_at,
+    Table, drop_leaving, drop_over, held_by, is_waiting_at, leave, reach_all, reach_at, take_at,
 };
 use indexmap::IndexMap;
 use segment_codec::{Options, Packet, SYN, Seg, decode, refusal, tuple_of};
@@ -45,8 +45,8 @@ use tcb_machine::DEFAULT_MSS;
 #[derive(Drop)]
 pub struct Server {
     conns: Table,
-    /// The ends of the connections that were opened last, by age: one that is half open is among them.
-    waiting: VecDeque<Tuple>,
+    /// The ends and the number of the connections that were opened last, by age: one that is half open is among them.
+    waiting: VecDeque<(Tuple, u64)>,
     /// How many bytes all held when the time last came to them, with the text that came since.
     held: u64,
     setting: Setting,
@@ -126,7 +126,9 @@ impl Server {
         }
     }
 
-    /// The time comes to every connection. What is sent goes behind the datagrams that are there, connection by connection.
+    /// The time comes to every connection, and who is to leave does: half open for three minutes, silent in FIN-WAIT-2 for one, in
+    /// TIME-WAIT where three quarters of the places are taken, or idle where all are. What is sent goes behind the datagrams that are
+    /// there, connection by connection.
     /// An error says that memory was missing: then one connection is gone, and to those behind it the time didn't come.
     #[tactic(auto, unfolding(crate::specs::Serving::on_time))]
     pub fn tick(
@@ -143,9 +145,9 @@ impl Server {
         reach_all(&mut self.conns, alloc, now, out)?;
         drop_over(&mut self.conns);
         let here = self.conns.len();
-        drop_idle(&mut self.conns, self.setting.places, now, self.setting.idle);
+        drop_leaving(&mut self.conns, &self.setting, now);
         let left = (here - self.conns.len()) as u64;
-        self.counts.idled = self.counts.idled.wrapping_add(left);
+        self.counts.left = self.counts.left.wrapping_add(left);
         self.held = held_by(&self.conns);
         Ok(())
     }
@@ -348,8 +350,9 @@ impl Server {
             self.counts.turned_away = self.counts.turned_away.wrapping_add(1);
             return Ok(());
         }
+        conn.number = self.counts.opened;
         conn.send(alloc, &tuple, out)?;
-        self.waiting.push_back(tuple)?;
+        self.waiting.push_back((tuple, self.counts.opened))?;
         self.conns.insert(tuple, conn)?;
         self.counts.opened = self.counts.opened.wrapping_add(1);
         Ok(())
@@ -362,10 +365,10 @@ impl Server {
         ensures new { (t : Tuple) → IsNew t self.old.conns → IsNew t self.new.conns }
     {
         'yielding: while !self.has_place() {
-            let Some(tuple) = self.waiting.pop_front() else {
+            let Some(waiting) = self.waiting.pop_front() else {
                 return;
             };
-            self.yield_place(&tuple);
+            self.yield_place(&waiting);
         }
     }
 
@@ -377,14 +380,14 @@ impl Server {
         self.conns.len() < self.setting.places && self.waiting.len() < self.setting.places
     }
 
-    /// The connection of two ends gives way, where it is half open.
+    /// The connection of two ends gives way, where it is half open and was opened with this number.
     #[tactic(auto, unfolding(crate::specs::Serving::yields, crate::specs::Serving::yields_at))]
-    fn yield_place(&mut self, tuple: &Tuple)
-        ensures yields { self.new ≡ yields tuple.now self.old }
+    fn yield_place(&mut self, waiting: &(Tuple, u64))
+        ensures yields { self.new ≡ yields waiting.now self.old }
         ensures new { (t : Tuple) → IsNew t self.old.conns → IsNew t self.new.conns }
     {
-        if let Some(place) = self.conns.get_index_of(tuple) {
-            if is_half_open_at(&self.conns, place) {
+        if let Some(place) = self.conns.get_index_of(&waiting.0) {
+            if is_waiting_at(&self.conns, place, waiting.1) {
                 leave(&mut self.conns, place);
                 self.counts.gave_way = self.counts.gave_way.wrapping_add(1);
             }

@@ -4,11 +4,14 @@ ghost use Rattle.std.specs.Prelude.{◌≡◌, ℕ, ◌++◌, ◌<◌, ◌≤◌
 ghost use Rattle.std.specs.List.{flat_map};
 ghost use Rattle.tcb_machine.specs.BlockState.{held_in};
 ghost use Rattle.tcb_machine.specs.Limits.{last_time};
-ghost use Rattle.live_server.specs.Acts.{is_half_open, is_over, judged, reached, receives, sent_by};
-ghost use Rattle.live_server.specs.Table.{all_reached, conn_at, held_by, reached_until, replaced, settled, without, without_idle, without_over};
+ghost use Rattle.live_server.specs.Acts.{is_over, judged, reached, receives, sent_by};
+ghost use Rattle.live_server.specs.Leaving.{is_leaving, without_leaving};
+ghost use Rattle.live_server.specs.Serving.{is_waiting};
+ghost use Rattle.live_server.specs.Table.{all_reached, conn_at, held_by, reached_until, replaced, settled, without, without_over};
 
 use crate::acting::Datagram;
 use crate::conn::{Conn, Judged};
+use crate::setting::Setting;
 use indexmap::IndexMap;
 use segment_codec::Seg;
 use sq_base::Tuple;
@@ -44,11 +47,12 @@ fn is_over_at(table: &Table, place: usize) -> bool
     }
 }
 
-pub(crate) fn is_half_open_at(table: &Table, place: usize) -> bool
-    ensures { result ≡ is_half_open (conn_at place table.now.entries) }
+/// Whether the connection at a place is half open, and the one that was opened with a number.
+pub(crate) fn is_waiting_at(table: &Table, place: usize, number: u64) -> bool
+    ensures { result ≡ is_waiting number (conn_at place table.now.entries) }
 {
     match table.get_index(place) {
-        Some((_, conn)) => conn.is_half_open(),
+        Some((_, conn)) => conn.is_half_open() && conn.number == number,
         None => false,
     }
 }
@@ -60,15 +64,23 @@ pub(crate) fn drop_over(table: &mut Table)
     table.retain(|_, conn| !conn.is_over());
 }
 
-/// From a table that is full all leave that are idle.
-#[tactic(auto, unfolding(crate::specs::Table::without_idle))]
-pub(crate) fn drop_idle(table: &mut Table, places: usize, now: u64, limit: u64)
-    ensures table { table.new.entries ≡ without_idle places now limit table.old.entries }
+/// All leave that are to leave at a tick.
+pub(crate) fn drop_leaving(table: &mut Table, setting: &Setting, now: u64)
+    ensures table { table.new.entries ≡ without_leaving setting.now now table.old.entries }
     ensures fewer { length table.new.entries ≤ length table.old.entries }
 {
-    if table.len() >= places {
-        table.retain(|_, conn| !conn.is_idle(now, limit));
-    }
+    let taken = table.len();
+    table.retain(|_, conn| !is_leaving(setting, now, taken, conn));
+}
+
+/// Whether a connection leaves at a tick, where so many places are taken.
+fn is_leaving(setting: &Setting, now: u64, taken: usize, conn: &Conn) -> bool
+    ensures { result ≡ is_leaving setting.now now taken conn.now }
+{
+    let places = setting.places;
+    conn.is_given_up(now)
+        || (taken >= places - places / 4 && conn.is_in_time_wait())
+        || (taken >= places && conn.is_idle(now, setting.idle))
 }
 
 /// How many bytes all hold.

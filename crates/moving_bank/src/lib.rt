@@ -6,8 +6,6 @@
 
 mod accounts;
 mod settling;
-#[cfg(test)]
-mod tests;
 
 pub use accounts::{Account, Bank, Statement, Transfer};
 pub use settling::settle;

@@ -2,8 +2,6 @@
 #![tactic(auto)]
 
 mod logs;
-#[cfg(test)]
-mod tests;
 pub mod worked;
 
 pub use logs::{Log, Logs};

@@ -1,7 +1,7 @@
 -- Lists by number, as they grow.
 use Rattle.std.proofs.Common.{◌≡◌, ℕ, ◌+◌, List, [], ◌∷◌, ◌++◌, length-append, map, refl, sym, subst, arith}
 use Rattle.std.proofs.lemmas.List.{map-append}
-use Rattle.ring_jobs.proofs.Tasked.{each_more}
+use Rattle.squeue_rings.proofs.Tasked.{each_more}
 use Rattle.ring_threads.specs.Working.{AreEach}
 
 pub none_yet : {A : Type 0} (Is : ℕ → A → Type 0) → AreEach Is 0 []

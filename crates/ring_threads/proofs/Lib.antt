@@ -6,3 +6,5 @@ mod Lying
 mod Listing
 mod Totals
 mod Sufficing
+pub mod AllActs
+pub mod Ends

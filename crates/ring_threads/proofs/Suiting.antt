@@ -8,8 +8,8 @@ use Rattle.squeue_state.specs.Naming.{Named}
 use Rattle.placed_parts.specs.Standing.{first_here}
 use Rattle.histories.proofs.ListPlaces.{some_at}
 use Rattle.squeue_rings.specs.Calling.{MayMake}
-use Rattle.ring_jobs.specs.Doing.{called_by}
-use Rattle.ring_jobs.proofs.Works.{got_or}
+use Rattle.squeue_rings.specs.Doing.{called_by}
+use Rattle.squeue_rings.proofs.Works.{got_or}
 use Rattle.squeue_pool.specs.declared.pool.Pool.{Pool}
 use Rattle.squeue_pool.specs.Works as Pooled
 use Rattle.squeue_pool.specs.Works.{IsFor, Suits, WorkOf}

@@ -17,13 +17,13 @@ use Rattle.histories.proofs.ListPlaces.{some_at, got_map}
 use Rattle.squeue_rings.specs.Made.{once_on}
 use Rattle.histories.specs.Noted.{AreNoted}
 use Rattle.histories.specs.Runs.{brought, place}
-use Rattle.ring_jobs.proofs.Works.{got_or}
+use Rattle.squeue_rings.proofs.Works.{got_or}
 use Rattle.squeue_pool.specs.declared.pool.Pool.{Pool}
 use Rattle.squeue_pool.specs.declared.work.Left.{Left}
 use Rattle.squeue_pool.specs.Runs.{IsLeft, ends_of, list_for, made_in_all}
 use Rattle.squeue_pool.specs.Runs.{IsHereOnce as IsHereAlone}
 use Rattle.squeue_pool.specs.Works.{WorkOf}
-use Rattle.squeue_ends.specs.Finishing.{FinishedOf, HasFinished, LayIn}
+use Rattle.squeue_pool.specs.Finishing.{FinishedOf, HasFinished, LayIn}
 use Rattle.conn_classifier.specs.Plan.{PlanOf, IsPlan, items_in}
 use Rattle.conn_blocks.specs.contracts.blocks.BlocksResident.TheImpl.{ghosts}
 use Rattle.conn_blocks.specs.declared.blocks.Blocks.{Blocks}
@@ -33,9 +33,9 @@ use Rattle.conn_blocks.specs.Orders.{IsAll, IsWhole, settle}
 use Rattle.conn_blocks.specs.ServeOrder.{BlockOf, ConnectionOf, OriginOf, serve, serving_of}
 use Rattle.conn_blocks.proofs.Conns.{conns_of_thread}
 use Rattle.ring_threads.proofs.Totals.{whole}
-use Rattle.run_histories.proofs.AllActs.{are_all}
-use Rattle.called_acts.proofs.Called.{calls_of_all}
-use Rattle.run_histories.proofs.Ends.{numbered}
+use Rattle.ring_threads.proofs.AllActs.{are_all}
+use Rattle.squeue_pool.proofs.Called.{calls_of_all}
+use Rattle.ring_threads.proofs.Ends.{numbered}
 use Rattle.ring_quotas.specs.Fits.{HistoryFits}
 use Rattle.histories.specs.Fitting.{IsHereOnce}
 use Rattle.ring_threads.specs.Served.{HasServed, ServedOf}

@@ -12,7 +12,7 @@ use conn_classifier::Plan;
 use conn_classifier::laws::all_items_are_few;
 use perimeter_core::Hook;
 use ring_quotas::Setup;
-use squeue_ends::run_for_parts;
+use squeue_pool::run_for_parts;
 use std::alloc::{AllocError, Global};
 use std::sync::Wait;
 use std::thread::Threads;

@@ -5,7 +5,7 @@ ghost use Rattle.conn_blocks.specs.ServeOrder.{BlockOf};
 ghost use Rattle.ring_threads.specs.Lying.{AreThere};
 
 use conn_blocks::Block;
-use squeue_ends::Finished;
+use squeue_pool::Finished;
 use squeue_state::Trace;
 use std::alloc::AllocError;
 use std::marker::Model;

@@ -1,4 +1,4 @@
 pub use Rattle.perimeter_core.proofs.NextFeed
 pub use Rattle.squeue_pool.proofs.Rows
-pub use Rattle.squeue_calls.proofs.ActSums
-pub use Rattle.squeue_calls.proofs.Named
+pub use Rattle.squeue_pool.proofs.ActSums
+pub use Rattle.squeue_pool.proofs.Named

@@ -11,5 +11,5 @@ pub use Rattle.squeue_pool.specs.Placed
 pub use Rattle.squeue_pool.specs.Runs
 pub use Rattle.squeue_pool.specs.ServedParts
 pub use Rattle.squeue_pool.specs.Works
-pub use Rattle.squeue_calls.specs.Calls
-pub use Rattle.squeue_ends.specs.Finishing
+pub use Rattle.squeue_pool.specs.Calls
+pub use Rattle.squeue_pool.specs.Finishing

@@ -10,10 +10,9 @@
 pub use histories::{Mode, Quota};
 pub use perimeter_core::{Act, Entry, Feed, Hook, NoHook, Resident, SynchAct};
 pub use placed_parts::{Parts, Places};
-pub use squeue_calls::{Errand, calls_for, serve_called};
-pub use squeue_ends::Finished;
 pub use squeue_enter::{Entered, enter};
 pub use squeue_pool::{
-    Left, Pool, Served, Work, lengths, places_of, run, run_by_key, serve_by_key,
+    Errand, Finished, Left, Pool, Served, Work, calls_for, lengths, places_of, run, run_by_key,
+    serve_by_key, serve_called,
 };
 pub use squeue_state::{Ended, Pass, Squeue, Trace};

@@ -11,7 +11,7 @@ use Rattle.squeue_serve.specs.Places.{MayEnd}
 use Rattle.squeue_serve.proofs.Coming.{holds_last, one_only}
 use Rattle.squeue_serve.proofs.Lent.{get_end}
 use Rattle.squeue_serve.proofs.Unused.{each_at}
-use Rattle.ring_jobs.proofs.ComesBack.{AreBack, all_came, came_knows, each_behind, none_came, one_came}
+use Rattle.squeue_rings.proofs.ComesBack.{AreBack, all_came, came_knows, each_behind, none_came, one_came}
 use Rattle.squeue_pool.specs.declared.work.Left.{Left}
 use Rattle.squeue_pool.specs.Leftovers.{HaveLeft, Leaves}
 

@@ -22,9 +22,9 @@ use Rattle.histories.specs.Endings.{Ending}
 use Rattle.histories.proofs.ListPlaces.{some_at, got_map}
 use Rattle.squeue_rings.specs.Rings.{MayBring}
 use Rattle.histories.specs.Runs.{InOrder, brought, count, is_at, place}
-use Rattle.ring_jobs.proofs.Works.{got_or}
-use Rattle.feed_lists.specs.Lists.{list_of}
-use Rattle.feed_lists.proofs.RingLists.{has_all}
+use Rattle.squeue_rings.proofs.Works.{got_or}
+use Rattle.histories.specs.Lists.{list_of}
+use Rattle.histories.proofs.RingLists.{has_all}
 use Rattle.squeue_pool.specs.declared.pool.Pool.{Pool}
 use Rattle.squeue_pool.specs.declared.work.Left.{Left}
 use Rattle.squeue_pool.specs.declared.work.Work.{Work}

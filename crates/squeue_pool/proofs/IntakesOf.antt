@@ -6,13 +6,13 @@ use Rattle.std.proofs.lemmas.Option.{slice_get_within}
 use Rattle.perimeter_core.specs.declared.entries.Feed.{Feed}
 use Rattle.histories.specs.Quotas.{pairs}
 use Rattle.histories.proofs.ListPlaces.{some_at, got_map}
-use Rattle.ring_jobs.specs.declared.intake.Ends.{Ends}
-use Rattle.ring_jobs.specs.declared.intake.Intake.{Intake}
-use Rattle.ring_jobs.proofs.Works.{got_or}
+use Rattle.squeue_rings.specs.declared.intake.Ends.{Ends}
+use Rattle.squeue_rings.specs.declared.intake.Intake.{Intake}
+use Rattle.squeue_rings.proofs.Works.{got_or}
 use Rattle.squeue_pool.specs.declared.work.Work.{Work}
 use Rattle.squeue_pool.specs.Works.{work_by, work_of}
-use Rattle.ring_jobs.specs.Tasks.{AreUnused, IsUnused}
-use Rattle.ring_jobs.proofs.Tasked.{each_more}
+use Rattle.squeue_rings.specs.Tasks.{AreUnused, IsUnused}
+use Rattle.squeue_rings.proofs.Tasked.{each_more}
 
 abbrev pub list_in : Ends → List Feed
 list_in e = e.intake.list.items

@@ -11,8 +11,8 @@ use Rattle.perimeter_core.specs.History.{feed_quotas}
 use Rattle.histories.specs.Quotas.{ask_quotas}
 use Rattle.histories.specs.Runs.{count, is_at}
 use Rattle.squeue_rings.proofs.Counting.{count_more}
-use Rattle.feed_lists.specs.Lists.{items_of, list_of}
-use Rattle.feed_lists.proofs.RingLists.{length_items}
+use Rattle.histories.specs.Lists.{items_of, list_of}
+use Rattle.histories.proofs.RingLists.{length_items}
 use Rattle.squeue_pool.specs.Keys.{key_lists, quotas_at}
 
 -- the feeds of n rings from r on, of the keys from c on

@@ -16,9 +16,9 @@ use Rattle.perimeter_core.specs.History.{Setting}
 use Rattle.squeue_serve.proofs.Lent.{get_end}
 use Rattle.squeue_rings.proofs.Slots.{got_at}
 use Rattle.histories.proofs.ListPlaces.{got_map}
-use Rattle.ring_jobs.proofs.Starts.{first_flag, stands_empty}
-use Rattle.ring_jobs.proofs.Tasked.{each_more}
-use Rattle.ring_jobs.proofs.Works.{got_or}
+use Rattle.squeue_rings.proofs.Starts.{first_flag, stands_empty}
+use Rattle.squeue_rings.proofs.Tasked.{each_more}
+use Rattle.squeue_rings.proofs.Works.{got_or}
 use Rattle.squeue_pool.specs.declared.pool.Pool.{Pool}
 use Rattle.squeue_pool.specs.Works.{AreFor, IsFor, SuitSqueues, SuitsSqueue}
 

@@ -7,7 +7,6 @@ use Rattle.std.proofs.lemmas.Bool.Decides.{nat_tests}
 use Rattle.std.proofs.lemmas.Option.{slice_get_within}
 use Rattle.std.proofs.Math.Nat.{mod-lt}
 use Rattle.perimeter_core.specs.declared.entries.Act.{Act}
-use Rattle.perimeter_core.specs.declared.resident.Resident.{Ghosts as ResidentGhosts}
 use Rattle.perimeter_core.specs.Blocks.{Blocks, fresh, none_done}
 use Rattle.placed_parts.specs.declared.parts.Parts.{Ghosts}
 use Rattle.placed_parts.specs.declared.places.Places.{Places}
@@ -15,11 +14,11 @@ use Rattle.placed_parts.specs.Placing.{IsItsPart, MayBe, Stands, limits_of, orig
 use Rattle.placed_parts.specs.Standing.{HasFed, InOrder, PlaceAt, PlacesStand, first_here}
 use Rattle.histories.proofs.ListPlaces.{some_at}
 use Rattle.squeue_rings.proofs.Slots.{got_at}
-use Rattle.ring_jobs.proofs.Tasked.{each_more}
+use Rattle.squeue_rings.proofs.Tasked.{each_more}
 use Rattle.squeue_pool.specs.declared.pool.Pool.{Pool}
 use Rattle.squeue_pool.specs.declared.work.Left.{Left}
 use Rattle.squeue_pool.specs.Keys.{HadAll, HaveKeys, key_work}
-use Rattle.squeue_pool.specs.Placed.{AreNew, HaveHad, IsNewAt}
+use Rattle.squeue_pool.specs.Placed.{AreNew, HaveHad, IsNewAt, as_resident}
 use Rattle.squeue_pool.specs.Runs.{HasRun}
 
 -- the flags of the numbers below n
@@ -75,10 +74,6 @@ module _ {S P O : Type 0} {G : Ghosts S P O} (shared : S) (count squeues : ℕ) 
 -- the same by other words for the numbers
 pub new_by : {S P O : Type 0} {G : Ghosts S P O} (shared : S) (n m k l : ℕ) (rs : List (Places S P O G)) → n ≡ m → k ≡ l → AreNew shared n k rs → AreNew shared m l rs
 new_by shared n m k l rs a b new = subst (λ (x : ℕ). AreNew shared m x rs) b (subst (λ (x : ℕ). AreNew shared x k rs) a new)
-
--- places as a resident
-abbrev pub as_resident : {S P O : Type 0} (G : Ghosts S P O) → ResidentGhosts (Places S P O G) P O
-as_resident G = record { stands = Stands; part_stands = InOrder G.part_stands; limits = limits_of; size = size_of; origin = origin_of; is_part_of = G.is_part_of }
 
 module _ {S P O : Type 0} (G : Ghosts S P O) (shared : S) (counts : List ℕ) (pool : Pool) (rs : List (Places S P O G)) (new : AreNew shared (length counts) pool.pace.homes.squeues rs) where
   same_origin_as : (q : ℕ) (r : Places S P O G) → slice_get rs q ≡ Some r → origin_of r ≡ G.origin shared

@@ -11,8 +11,8 @@ use Rattle.squeue_rings.specs.Calling.{MayMake, MayMakeEach}
 use Rattle.squeue_rings.specs.Rings.{MayBring}
 use Rattle.squeue_rings.specs.Starts.{StartAtHome}
 use Rattle.histories.proofs.ListPlaces.{got_map}
-use Rattle.ring_jobs.specs.declared.intake.Intake.{Intake}
-use Rattle.ring_jobs.specs.Doing.{called_by}
+use Rattle.squeue_rings.specs.declared.intake.Intake.{Intake}
+use Rattle.squeue_rings.specs.Doing.{called_by}
 use Rattle.squeue_pool.specs.declared.pool.Pool.{Pool}
 use Rattle.squeue_pool.specs.AllJobs.{MayRun}
 use Rattle.squeue_pool.specs.Works.{AreFor, IsFor, Suits, WorkOf}

@@ -10,7 +10,7 @@ use Rattle.perimeter_core.specs.Deeds.{entries, feeds_of}
 use Rattle.perimeter_core.proofs.FeedLists.{length-up}
 use Rattle.histories.specs.Runs.{InOrder, brought, comes, count, is_left_by, leaves}
 use Rattle.squeue_rings.proofs.Counting.{feeds_more}
-use Rattle.feed_lists.specs.Lists.{items_of, list_of}
+use Rattle.histories.specs.Lists.{items_of, list_of}
 
 -- no connection moves
 both_ways : (b : Bool) → (b && not b) ≡ false

@@ -34,12 +34,12 @@ use Rattle.histories.specs.Runs.{brought, place}
 use Rattle.squeue_rings.specs.Seen.{seen_ends, seen_in}
 use Rattle.squeue_rings.proofs.CallMarks.{none_beyond as no_thread_beyond}
 use Rattle.squeue_rings.proofs.Slots.{at_got, at_length}
-use Rattle.ring_jobs.specs.declared.intake.Intake.{Intake}
-use Rattle.ring_jobs.specs.Ends.{CallerEnds, RingEnds}
-use Rattle.ring_jobs.specs.Doing.{called_by}
-use Rattle.ring_jobs.specs.Tasks.{lists_of}
-use Rattle.ring_jobs.proofs.Works.{got_or}
-use Rattle.ring_jobs.proofs.AtTheEnd.{end_due, end_exact, end_here, end_made, end_paced, end_stays, linked_same, noted_same, seen_count, seen_got}
+use Rattle.squeue_rings.specs.declared.intake.Intake.{Intake}
+use Rattle.squeue_rings.specs.Ends.{CallerEnds, RingEnds}
+use Rattle.squeue_rings.specs.Doing.{called_by}
+use Rattle.squeue_rings.specs.Tasks.{lists_of}
+use Rattle.squeue_rings.proofs.Works.{got_or}
+use Rattle.squeue_rings.proofs.AtTheEnd.{end_due, end_exact, end_here, end_made, end_paced, end_stays, linked_same, noted_same, seen_count, seen_got}
 use Rattle.squeue_pool.specs.declared.pool.Pool.{Pool}
 use Rattle.squeue_pool.specs.declared.work.Left.{Left}
 use Rattle.squeue_pool.specs.Leftovers.{HaveLeft, Leaves}

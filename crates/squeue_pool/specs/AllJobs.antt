@@ -9,10 +9,10 @@ use Rattle.squeue_rings.specs.Bringing.{AllBelow, AreOneRun, MayBringAll}
 use Rattle.squeue_rings.specs.Calling.{MayMakeEach}
 use Rattle.squeue_rings.specs.Paced.{ArePaced}
 use Rattle.squeue_rings.specs.Starts.{StartAtHome}
-use Rattle.ring_jobs.specs.declared.intake.Intake.{Intake}
-use Rattle.ring_jobs.specs.Ends.{CallersEnd, CallersKeep, RingsEnd, WorkerEnds}
-use Rattle.ring_jobs.specs.Doing.{called_by}
-use Rattle.ring_jobs.specs.Tasks.{lists_of}
+use Rattle.squeue_rings.specs.declared.intake.Intake.{Intake}
+use Rattle.squeue_rings.specs.Ends.{CallersEnd, CallersKeep, RingsEnd, WorkerEnds}
+use Rattle.squeue_rings.specs.Doing.{called_by}
+use Rattle.squeue_rings.specs.Tasks.{lists_of}
 use Rattle.squeue_pool.specs.declared.pool.Pool.{Pool}
 
 module _ {R P O : Type 0} (G : Ghosts R P O) (pool : Pool) (intakes : List Intake) (calls : List (List ℕ)) (ss : List (Named R)) where

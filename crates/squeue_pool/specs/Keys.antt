@@ -6,7 +6,7 @@ use Rattle.perimeter_core.specs.declared.resident.Resident.{Ghosts}
 use Rattle.perimeter_core.specs.Residing.{HadFeeds}
 use Rattle.placed_parts.specs.Standing.{first_here}
 use Rattle.histories.specs.Runs.{count, is_at}
-use Rattle.feed_lists.specs.Lists.{list_of}
+use Rattle.histories.specs.Lists.{list_of}
 use Rattle.squeue_pool.specs.declared.work.Left.{Left}
 use Rattle.squeue_pool.specs.Works.{WorkOf}
 

@@ -6,3 +6,7 @@ pub mod Runs
 pub mod Keys
 pub mod Placed
 pub mod ServedParts
+pub mod Finishing
+pub mod Counting
+pub mod Quotas
+pub mod Calls

@@ -1,11 +1,16 @@
 -- Parts that are served by key: their residents at first, and what is known of what is left of the squeues.
 use Rattle.std.specs.Prelude.{◌≡◌, ℕ, ◌%◌, ◌<◌, Some, List, length, slice_get, slice_index}
+use Rattle.perimeter_core.specs.declared.resident.Resident.{Ghosts as ResidentGhosts}
 use Rattle.perimeter_core.specs.Residing.{HadFeeds}
 use Rattle.placed_parts.specs.declared.parts.Parts.{Ghosts}
 use Rattle.placed_parts.specs.declared.places.Places.{Places}
-use Rattle.placed_parts.specs.Placing.{Stands, origin_of, shared_of, size_of}
-use Rattle.placed_parts.specs.Standing.{first_here}
+use Rattle.placed_parts.specs.Placing.{Stands, limits_of, origin_of, shared_of, size_of}
+use Rattle.placed_parts.specs.Standing.{InOrder, first_here}
 use Rattle.squeue_pool.specs.declared.work.Left.{Left}
+
+-- places as a resident
+abbrev pub as_resident : {S P O : Type 0} (G : Ghosts S P O) → ResidentGhosts (Places S P O G) P O
+as_resident G = record { stands = Stands; part_stands = InOrder G.part_stands; limits = limits_of; size = size_of; origin = origin_of; is_part_of = G.is_part_of }
 
 module _ {S P O : Type 0} {G : Ghosts S P O} (shared : S) where
   -- a resident of squeue q, of so many: of so many connections those are here that are first at home there, and nothing was done to them

@@ -13,7 +13,7 @@ use Rattle.histories.specs.Keeping.{KeepsPace}
 use Rattle.squeue_rings.specs.Made.{once_on, times_made}
 use Rattle.histories.specs.Noted.{AreNoted}
 use Rattle.histories.specs.Runs.{brought, place}
-use Rattle.ring_jobs.specs.Doing.{called_by}
+use Rattle.squeue_rings.specs.Doing.{called_by}
 use Rattle.squeue_pool.specs.declared.pool.Pool.{Pool}
 use Rattle.squeue_pool.specs.declared.work.Left.{Left}
 use Rattle.squeue_pool.specs.Keeping.{PassesKeep}

@@ -14,8 +14,8 @@ use Rattle.squeue_state.specs.Naming.{Named, setting_of}
 use Rattle.squeue_rings.specs.Calling.{MayMake}
 use Rattle.squeue_rings.specs.Rings.{MayBring}
 use Rattle.histories.specs.Runs.{InOrder}
-use Rattle.ring_jobs.specs.Doing.{called_by}
-use Rattle.ring_jobs.specs.declared.intake.Intake.{Intake}
+use Rattle.squeue_rings.specs.Doing.{called_by}
+use Rattle.squeue_rings.specs.declared.intake.Intake.{Intake}
 use Rattle.squeue_pool.specs.declared.pool.Pool.{Pool}
 use Rattle.squeue_pool.specs.declared.work.Work.{Work}
 

@@ -4,14 +4,13 @@ ghost use Rattle.synch_enter.specs.Hinting.{conns_of, squeues_of};
 ghost use Rattle.squeue_serve.specs.Lending.{AreLent, lent_to, tasks_in};
 ghost use Rattle.squeue_serve.specs.Places.{IsNew, MayEnd};
 ghost use Rattle.squeue_rings.specs.Bringing.{AllBelow, AreOneRun};
-ghost use Rattle.ring_jobs.specs.Tasks.{AreTasks, HaveRings};
-ghost use Rattle.ring_jobs.specs.Doing.{HasDone, HaveDone, MayDo, MayDoAll};
+ghost use Rattle.squeue_rings.specs.Tasks.{AreTasks, HaveRings};
+ghost use Rattle.squeue_rings.specs.Doing.{HasDone, HaveDone, MayDo, MayDoAll};
 ghost use Rattle.squeue_pool.specs.AllJobs.{AllDone, MayRun};
 
 use crate::pool::Pool;
 use perimeter_core::{Hook, Resident};
-use ring_jobs::{Intake, Task, run_job};
-use squeue_rings::{Access, Pace};
+use squeue_rings::{Access, Intake, Pace, Task, run_job};
 use squeue_serve::{Job, run_each};
 use std::sync::Wait;
 use std::thread::Threads;

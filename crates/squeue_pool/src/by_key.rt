@@ -4,7 +4,7 @@ ghost use Rattle.perimeter_core.specs.Residing.{IsWithin};
 ghost use Rattle.histories.specs.Limits.{most_feeds};
 ghost use Rattle.squeue_pool.specs.Keys.{HadAll, HaveKeys, key_work};
 ghost use Rattle.squeue_pool.specs.Runs.{HasRun};
-ghost use Rattle.squeue_pool.specs.ServedParts.{IsServed, counts_of, shared_of};
+ghost use Rattle.squeue_pool.specs.ServedParts.{IsServed, WasServedBy, counts_of, shared_of};
 ghost use Rattle.squeue_pool.specs.Works.{IsInRange, work_of};
 
 use crate::keys::{key_lists, key_quotas};
@@ -47,6 +47,7 @@ where
     ensures served { IfOk result (λ v. IsServed v) }
     ensures shared { IfOk result (λ v. shared_of v ≡ shared) }
     ensures counts { IfOk result (λ v. counts_of v ≡ counts.items) }
+    ensures ran { IfOk result (λ v. WasServedBy pool.now v) }
 {
     let residents = places_of(alloc, shared, counts.len() as u32, pool.squeues())?;
     let left = run_by_key(rt, alloc, &NoHook, pool, residents, &counts)?;

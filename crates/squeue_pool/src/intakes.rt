@@ -1,9 +1,9 @@
 //! What comes in by each ring.
 ghost use Rattle.std.specs.Prelude.{◌≡◌, ◌<◌, ◌^◌, All, IfOk, length, map};
-ghost use Rattle.ring_jobs.specs.Tasks.{AreUnused};
+ghost use Rattle.squeue_rings.specs.Tasks.{AreUnused};
 
 use perimeter_core::Feed;
-use ring_jobs::{Ends, intake_of};
+use squeue_rings::{Ends, intake_of};
 use std::alloc::{AllocError, Global};
 
 /// The intakes of the rings that bring these lists, by number. Fails only for want of memory.

@@ -2,7 +2,7 @@
 ghost use Rattle.std.specs.Prelude.{◌≡◌, ◌<◌, ◌≤◌, ◌^◌, ◌++◌, All, IfOk, OnOk, length, map};
 ghost use Rattle.histories.specs.Quotas.{pairs};
 ghost use Rattle.histories.specs.Runs.{count, is_at};
-ghost use Rattle.feed_lists.specs.Lists.{items_of, list_of};
+ghost use Rattle.histories.specs.Lists.{items_of, list_of};
 ghost use Rattle.squeue_pool.specs.Keys.{key_lists, key_quotas, quotas_at};
 
 use perimeter_core::Feed;

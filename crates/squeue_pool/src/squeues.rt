@@ -7,7 +7,7 @@ ghost use Rattle.squeue_pool.specs.Works.{AreFor, IsInRange, SuitSqueues};
 
 use crate::pool::Pool;
 use perimeter_core::Resident;
-use ring_jobs::FRONT;
+use squeue_rings::FRONT;
 use squeue_serve::{Job, Squeues, lend};
 use squeue_state::{Quota, Squeue};
 use std::alloc::{AllocError, Global};

@@ -3,7 +3,7 @@ ghost use Rattle.std.specs.Prelude.{◌≡◌, ◌+◌, ◌≤◌, [], All, IfOk
 ghost use Rattle.synch_enter.specs.Hinting.{conns_of, squeues_of};
 ghost use Rattle.squeue_serve.specs.Places.{IsNew, MayEnd};
 ghost use Rattle.squeue_serve.specs.Lending.{AreLent, HaveRoom, lent_to, tasks_in};
-ghost use Rattle.ring_jobs.specs.Tasks.{AreTasks};
+ghost use Rattle.squeue_rings.specs.Tasks.{AreTasks};
 ghost use Rattle.squeue_pool.specs.AllJobs.{AllDone, MayRun};
 ghost use Rattle.squeue_pool.specs.Runs.{HasRun};
 ghost use Rattle.squeue_pool.specs.Works.{IsInRange, Suits, work_by, work_of};
@@ -15,8 +15,7 @@ use crate::pool::Pool;
 use crate::squeues::make_all;
 use crate::work::{Left, Work};
 use perimeter_core::{Hook, Resident};
-use ring_jobs::{FRONT, Intake, Task, tasks_of};
-use squeue_rings::Access;
+use squeue_rings::{Access, FRONT, Intake, Task, tasks_of};
 use squeue_serve::{Job, Squeues, discard, jobs_of, run_unused};
 use squeue_state::Quota;
 use std::alloc::{AllocError, Global};

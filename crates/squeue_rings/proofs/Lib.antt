@@ -24,3 +24,15 @@ pub mod Pacing
 pub mod PacedMarks
 pub mod PacedPasses
 pub mod PacedAll
+pub mod Tasked
+pub mod Intakes
+pub mod Fed
+pub mod Works
+pub mod Lends
+pub mod Starts
+pub mod ComesBack
+pub mod Closes
+pub mod AtTheEnd
+pub mod Closing
+pub mod Ready
+pub mod Finished

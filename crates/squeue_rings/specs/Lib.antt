@@ -6,3 +6,6 @@ pub mod Paced
 pub mod Rings
 pub mod Bringing
 pub mod Calling
+pub mod Tasks
+pub mod Doing
+pub mod Ends

@@ -13,8 +13,8 @@ use Rattle.perimeter_core.specs.Deeds.{due, entries, feeds_of}
 use Rattle.perimeter_core.specs.Legal.{Enters, asks_by, feeds_by, one_more}
 use Rattle.squeue_state.specs.Naming.{Named, setting_of}
 use Rattle.squeue_enter.specs.Entering.{Brought, MayEnter, MayGoOn}
-use Rattle.feed_lists.specs.Lists.{items_of}
-use Rattle.feed_lists.proofs.RingLists.{length_items}
+use Rattle.histories.specs.Lists.{items_of}
+use Rattle.histories.proofs.RingLists.{length_items}
 use Rattle.squeue_streams.specs.declared.source.Source.{Source}
 use Rattle.squeue_streams.specs.Sourcing.{Brings, IsRefused, IsSpent, SameCounts, SameSource, again_of, entered_of, left_of, pushed_of, sent_of, span_of, stream_of}
 

@@ -4,7 +4,7 @@ ghost use Rattle.rtrb.specs.Ring.{known_free, sent};
 ghost use Rattle.turn_gate.specs.Passes.{number};
 ghost use Rattle.turn_gate.specs.declared.pass.Pass.{Pass};
 ghost use Rattle.perimeter_core.specs.History.{Element};
-ghost use Rattle.feed_lists.specs.Lists.{items_of};
+ghost use Rattle.histories.specs.Lists.{items_of};
 ghost use Rattle.squeue_enter.specs.Entering.{WasFull};
 ghost use Rattle.squeue_streams.specs.Sourcing.{Brings, IsRefused, IsSpent, SameCounts, SameSource, again_of, entered_of, left_of, most_of, producer_of, pushed_of, sent_of, span_of, stream_of};
 

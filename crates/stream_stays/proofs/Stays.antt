@@ -15,8 +15,8 @@ use Rattle.squeue_state.specs.declared.guarded.Life.{Life}
 use Rattle.squeue_enter.specs.Entering.{Brought, MayEnter, MayGoOn}
 use Rattle.synch_enter.specs.Synch.{MayAsk}
 use Rattle.conn_migrate.specs.Moving.{MayCome, MayLeave, Moved, RingLearns}
-use Rattle.feed_lists.specs.Lists.{items_of}
-use Rattle.feed_lists.proofs.RingLists.{length_items}
+use Rattle.histories.specs.Lists.{items_of}
+use Rattle.histories.proofs.RingLists.{length_items}
 use Rattle.squeue_streams.proofs.Chains.{all_of, enters_items}
 use Rattle.stream_stays.specs.declared.stay.Stay.{Stay}
 use Rattle.stream_stays.specs.Staying.{HasLife, IsAway, LeavesOthers, StaysAt, entered_of, leaves_of, pushed_of, stream_of}

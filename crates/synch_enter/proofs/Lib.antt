@@ -5,3 +5,4 @@ pub mod Exiting
 pub mod Asking
 pub mod Claiming
 pub mod Knowing
+pub mod NothingDone

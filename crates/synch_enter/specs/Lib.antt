@@ -1,3 +1,4 @@
 pub mod Synch
 pub mod HandingOn
 pub mod Hinting
+pub mod Seeing

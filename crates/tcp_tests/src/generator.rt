@@ -1,4 +1,4 @@
-//! One connection, and the pattern. Further connections stand as rows of `cases_tcp`.
+//! One connection, and the pattern. Further connections stand as rows of `cases_library`.
 
 ghost use Rattle.std.specs.Prelude.{◌^◌, ◌<◌, length};
 

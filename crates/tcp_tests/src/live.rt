@@ -32,6 +32,12 @@ const SYNS: [[u8; 40]; 2] = [
     ],
 ];
 
+/// A reset of what the first of them opened.
+const RESET: [u8; 40] = [
+    0x45, 0, 0, 0x28, 0, 0, 0x40, 0, 0x40, 6, 0x26, 0xbc, 10, 9, 0, 1, 10, 9, 0, 2, 0x9c, 0x40, 0,
+    7, 0, 0, 0, 0x65, 0, 0, 0, 0, 0x50, 4, 0x10, 0, 0xef, 0x1f, 0, 0,
+];
+
 /// 29 November 2026, 13:07:42, and some microseconds.
 const BEGUN: u64 = 1_795_957_662_123_456;
 
@@ -83,6 +89,36 @@ fn one_place(rt: HostRuntime) -> Result<(), Fail> {
     );
     server.tick(rt.alloc(), 3_000_001, &mut sent)?;
     assert_eq!(rt; (sent.len(), server.counts().gave_way), (4, 1));
+    Ok(())
+}
+
+#[test]
+fn own_age(rt: HostRuntime) -> Result<(), Fail> {
+    let setting = Setting {
+        places: 2,
+        ..SETTING
+    };
+    let mut server = Server::new(rt.alloc(), setting, SECRET);
+    let mut sent = Vec::new(rt.alloc());
+    server.datagram(rt.alloc(), 1_000_000, &SYNS[0], &mut sent)?;
+    server.datagram(rt.alloc(), 1_000_001, &RESET, &mut sent)?;
+    assert_eq!(rt; server.connections(), 0);
+    // It comes again. The next one finds two entries of its ends, and the first of them is not its own.
+    server.datagram(rt.alloc(), 1_000_002, &SYNS[0], &mut sent)?;
+    server.datagram(rt.alloc(), 1_000_003, &SYNS[1], &mut sent)?;
+    assert_eq!(rt; (server.connections(), server.counts().gave_way), (2, 0));
+    Ok(())
+}
+
+#[test]
+fn half_open_for_three_minutes(rt: HostRuntime) -> Result<(), Fail> {
+    let mut server = Server::new(rt.alloc(), SETTING, SECRET);
+    let mut sent = Vec::new(rt.alloc());
+    server.datagram(rt.alloc(), 1_000_000, &SYNS[0], &mut sent)?;
+    server.tick(rt.alloc(), 180_999_999, &mut sent)?;
+    assert_eq!(rt; (server.connections(), server.counts().left), (1, 0));
+    server.tick(rt.alloc(), 181_000_000, &mut sent)?;
+    assert_eq!(rt; (server.connections(), server.counts().left), (0, 1));
     Ok(())
 }
 

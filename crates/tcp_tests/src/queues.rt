@@ -1,4 +1,4 @@
-//! The two queues, and the receive queue beside a plain map from position to byte. Rows of their calls stand in `cases_tcp`.
+//! The two queues, and the receive queue beside a plain map from position to byte. Rows of their calls stand in `cases_library`.
 
 use byte_queues::{Placed, RecvQueue, SendQueue};
 use std::alloc::{AllocError, Global};

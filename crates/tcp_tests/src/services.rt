@@ -1,4 +1,4 @@
-//! The crates as a library. What a connection is given and what it sends then stands as rows of `cases_tcp`.
+//! The crates as a library. What a connection is given and what it sends then stands as rows of `cases_library`.
 
 mod library;
 mod resending;

@@ -2,7 +2,7 @@ use Rattle.std.proofs.Common.{[], refl, arith}
 use Rattle.perimeter_core.specs.declared.marks.SynchAct.TheVariants as Done
 use Rattle.conn_migrate.specs.Moving.{Moved}
 use Rattle.synch_enter.proofs.Exiting.{at, exits}
-use Rattle.squeue_look.proofs.Looks.{stands_now}
+use Rattle.synch_enter.proofs.NothingDone.{stands_now}
 use Rattle.conn_table.proofs.Looks.{all_done, life_looked, look_keeps, looked}
 use Rattle.conn_table.proofs.looking.look_between.Goals as goal
 

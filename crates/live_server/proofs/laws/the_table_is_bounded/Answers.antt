@@ -1,5 +1,5 @@
 use Rattle.live_server.proofs.LawLemmas.{segment_keeps_table}
-use Rattle.live_server.proofs.SentLemmas.{time_keeps_table}
+use Rattle.live_server.proofs.TickLemmas.{time_keeps_table}
 use Rattle.live_server.proofs.laws.the_table_is_bounded.Goals as goal
 
 pub returns-clause-segment : goal.returns-clause-segment

@@ -57,7 +57,7 @@ pub part_there-requires : goal.part_there-requires
 part_there-requires g c =
     let bank : Bank = record { deposits = c.args.deposits; transfers = c.args.transfers } in
     let counts : c.deref.result.now ≡ map (λ row. length row.items) c.args.deposits.now = c.deref.ensures.value ∙ c.in_ok-counts.ensures in
-    let had = had_theirs bank c.in_ok-finished.finished c.deref.result.now (map (λ (called : Vec ℕ Global). called.items) c.in_ok-calls.calls.items) c.in_ok-finished.ensures counts c.in_ok-calls.ensures in
+    let had = had_theirs bank c.in_ok-finished.finished c.deref.result.now (map (λ (called : Vec ℕ Global). called.items) c.in_ok-calls.calls.items) c.in_ok-finished.ensures.had counts c.in_ok-calls.ensures in
     let n = length-map c.args.deposits.now (λ (row : Vec ℕ Global). length row.items) in
     let m = length-map (deposits_of bank) length in
     let k = length-map c.args.deposits.now (λ (row : Vec ℕ Global). row.items) in
@@ -70,7 +70,7 @@ loop-c-preserved g c =
     let transfers : List (List Transfer) = map (λ row. row.items) c.args.transfers.now in
     let bank : Bank = record { deposits = c.args.deposits; transfers = c.args.transfers } in
     let counts : c.deref.result.now ≡ map (λ row. length row.items) c.args.deposits.now = c.deref.ensures.value ∙ c.in_ok-counts.ensures in
-    let had = had_theirs bank c.in_ok-finished.finished c.deref.result.now (map (λ (called : Vec ℕ Global). called.items) c.in_ok-calls.calls.items) c.in_ok-finished.ensures counts c.in_ok-calls.ensures in
+    let had = had_theirs bank c.in_ok-finished.finished c.deref.result.now (map (λ (called : Vec ℕ Global). called.items) c.in_ok-calls.calls.items) c.in_ok-finished.ensures.had counts c.in_ok-calls.ensures in
     let n = length-map c.args.deposits.now (λ (row : Vec ℕ Global). length row.items) in
     let m = length-map deposits length in
     let k = length-map c.args.deposits.now (λ (row : Vec ℕ Global). row.items) in

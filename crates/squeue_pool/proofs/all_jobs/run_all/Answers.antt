@@ -1,7 +1,7 @@
 use Rattle.std.proofs.Common.{ℕ, List, map, sym, subst}
 use Rattle.squeue_serve.specs.declared.jobs.Job.{Job}
-use Rattle.ring_jobs.specs.declared.task.Task.{Task}
-use Rattle.ring_jobs.specs.Doing.{MayDo}
+use Rattle.squeue_rings.specs.declared.task.Task.{Task}
+use Rattle.squeue_rings.specs.Doing.{MayDo}
 use Rattle.squeue_pool.proofs.all_jobs.run_all.Goals as goal
 
 pub run_each-requires-after_bounds : goal.run_each-requires-after_bounds

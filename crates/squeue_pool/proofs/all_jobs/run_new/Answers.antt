@@ -3,9 +3,9 @@ use Rattle.std.proofs.lemmas.List.{length-map}
 use Rattle.turn_gate.specs.declared.pass.Pass.{Pass}
 use Rattle.perimeter_core.specs.History.{Element}
 use Rattle.squeue_serve.specs.Lending.{lent_to}
-use Rattle.ring_jobs.specs.Ends.{WorkerEnds}
-use Rattle.ring_jobs.proofs.Finished.{caller_done, caller_kept, lent_back, ring_done, ring_paced, worker_left}
-use Rattle.ring_jobs.proofs.Ready.{all_ready}
+use Rattle.squeue_rings.specs.Ends.{WorkerEnds}
+use Rattle.squeue_rings.proofs.Finished.{caller_done, caller_kept, lent_back, ring_done, ring_paced, worker_left}
+use Rattle.squeue_rings.proofs.Ready.{all_ready}
 use Rattle.squeue_pool.proofs.all_jobs.run_new.Goals as goal
 
 pub run_all-requires-clause-run : goal.run_all-requires-clause-run

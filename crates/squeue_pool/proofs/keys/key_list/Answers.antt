@@ -1,7 +1,7 @@
 use Rattle.std.proofs.Common.{◌<◌, length, get_or, refl, ap, ◌∙◌, arith}
 use Rattle.std.proofs.lemmas.List.{take_all}
-use Rattle.feed_lists.specs.Lists.{list_of}
-use Rattle.feed_lists.proofs.RingLists.{list_taken, list_skipped}
+use Rattle.histories.specs.Lists.{list_of}
+use Rattle.histories.proofs.RingLists.{list_taken, list_skipped}
 use Rattle.squeue_pool.proofs.keys.key_list.Goals as goal
 use Rattle.squeue_pool.proofs.keys.key_list.Goals.{then-c-rings+in_ok-push_items, else-c-rings}
 

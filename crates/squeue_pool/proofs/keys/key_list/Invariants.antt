@@ -1,5 +1,5 @@
 use Rattle.std.proofs.Common.{◌≡◌, take}
-use Rattle.feed_lists.specs.Lists.{list_of}
+use Rattle.histories.specs.Lists.{list_of}
 use Rattle.squeue_pool.proofs.keys.key_list.Given as goal
 
 abbrev pub invariant-loop-c : goal.invariant-loop-c

@@ -3,8 +3,8 @@ use Rattle.std.specs.List.{range_with_len}
 use Rattle.std.specs.declared.alloc.Global.{Global}
 use Rattle.std.proofs.lemmas.List.{map-append}
 use Rattle.perimeter_core.specs.declared.entries.Feed.{Feed}
-use Rattle.feed_lists.specs.Lists.{list_of}
-use Rattle.ring_jobs.proofs.Tasked.{numbers_more}
+use Rattle.histories.specs.Lists.{list_of}
+use Rattle.squeue_rings.proofs.Tasked.{numbers_more}
 use Rattle.squeue_pool.proofs.keys.key_lists.Goals as goal
 
 pub loop-ring-init : goal.loop-ring-init

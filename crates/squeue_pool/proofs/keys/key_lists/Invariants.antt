@@ -1,6 +1,6 @@
 use Rattle.std.proofs.Common.{◌≡◌, map}
 use Rattle.std.specs.List.{range_with_len}
-use Rattle.feed_lists.specs.Lists.{list_of}
+use Rattle.histories.specs.Lists.{list_of}
 use Rattle.squeue_pool.proofs.keys.key_lists.Given as goal
 
 abbrev pub invariant-loop-ring : goal.invariant-loop-ring

@@ -5,7 +5,7 @@ use Rattle.std.proofs.lemmas.List.{map-append}
 use Rattle.perimeter_core.specs.declared.entries.Feed.{Feed}
 use Rattle.histories.specs.Quotas.{pairs}
 use Rattle.histories.specs.declared.quota.Quota.{Quota}
-use Rattle.ring_jobs.proofs.Tasked.{numbers_more}
+use Rattle.squeue_rings.proofs.Tasked.{numbers_more}
 use Rattle.squeue_pool.specs.Keys.{quotas_at}
 use Rattle.squeue_pool.proofs.keys.key_quotas.Goals as goal
 

@@ -1,4 +1,4 @@
-use Rattle.feed_lists.proofs.RingLists.{items_more}
+use Rattle.histories.proofs.RingLists.{items_more}
 use Rattle.squeue_pool.proofs.keys.push_items.Goals as goal
 
 pub loop-n-preserved : goal.loop-n-preserved

@@ -1,5 +1,5 @@
 use Rattle.std.proofs.Common.{◌≡◌, ◌++◌}
-use Rattle.feed_lists.specs.Lists.{items_of}
+use Rattle.histories.specs.Lists.{items_of}
 use Rattle.squeue_pool.proofs.keys.push_items.Given as goal
 
 abbrev pub invariant-loop-n : goal.invariant-loop-n

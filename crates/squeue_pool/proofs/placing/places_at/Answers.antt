@@ -1,7 +1,7 @@
 use Rattle.std.proofs.Common.{◌≡◌, ℕ, ◌%◌, ◌==◌, [], ◌∷◌, length, length-append, map, ap, sym, ◌∙◌, subst, arith}
 use Rattle.std.specs.List.{range_with_len}
 use Rattle.perimeter_core.specs.Residing.{IsWithin}
-use Rattle.ring_jobs.proofs.Tasked.{numbers_more}
+use Rattle.squeue_rings.proofs.Tasked.{numbers_more}
 use Rattle.squeue_pool.proofs.Placed.{new_at}
 use Rattle.squeue_pool.proofs.placing.places_at.Goals as goal
 

@@ -4,7 +4,7 @@ use Rattle.histories.specs.Quotas.{pairs}
 use Rattle.squeue_state.specs.Naming.{Named}
 use Rattle.squeue_serve.specs.Places.{IsNew}
 use Rattle.squeue_serve.specs.Lending.{AreLent, lent_to}
-use Rattle.ring_jobs.proofs.Lends.{fits, none_yet, one_more}
+use Rattle.squeue_rings.proofs.Lends.{fits, none_yet, one_more}
 use Rattle.squeue_pool.proofs.Made.{SoFar, all_made, few_made, next_count, next_empty, next_is, next_made, next_passes, next_suits, none_made}
 use Rattle.squeue_pool.proofs.squeues.make_all.Given.{Over}
 use Rattle.squeue_pool.proofs.squeues.make_all.Goals.{After-len-q}

@@ -4,7 +4,7 @@ use Rattle.std.specs.declared.alloc.Global.{Global}
 use Rattle.histories.specs.declared.quota.Quota.{Quota}
 use Rattle.squeue_serve.specs.Lending.{tasks_in}
 use Rattle.synch_enter.specs.Hinting.{conns_of}
-use Rattle.ring_jobs.specs.Tasks.{AreTasks}
+use Rattle.squeue_rings.specs.Tasks.{AreTasks}
 use Rattle.squeue_pool.specs.Works.{Suits, WorkOf, work_by}
 use Rattle.squeue_pool.specs.Runs.{HasRun}
 use Rattle.squeue_pool.proofs.IntakesOf.{all_short, intakes_have, list_in, same_work}

@@ -5,7 +5,7 @@ use Rattle.histories.specs.Quotas.{pairs}
 use Rattle.squeue_serve.specs.Lending.{lent_to}
 use Rattle.squeue_serve.proofs.Lent.{none_lent_to}
 use Rattle.synch_enter.specs.Hinting.{conns_of}
-use Rattle.ring_jobs.proofs.Starts.{from_ok}
+use Rattle.squeue_rings.proofs.Starts.{from_ok}
 use Rattle.squeue_pool.specs.Leftovers.{HaveLeft}
 use Rattle.squeue_pool.specs.AllJobs.{AllDone, MayRun}
 use Rattle.squeue_pool.specs.Works.{AreFor, SuitSqueues, work_by}

@@ -1,6 +1,6 @@
 use Rattle.std.proofs.Common.{◌≡◌}
 use Rattle.std.specs.Prelude.{vec_capacity, vec_len}
-use Rattle.feed_lists.specs.Lists.{items_of}
+use Rattle.histories.specs.Lists.{items_of}
 use Rattle.squeue_streams.proofs.bringing.fill_chain.Given as goal
 
 abbrev pub invariant-loop-n : goal.invariant-loop-n

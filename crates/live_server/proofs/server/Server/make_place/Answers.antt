@@ -8,12 +8,12 @@ use Rattle.live_server.proofs.server.Server.make_place.Goals as goal
 pub yielding-smaller : goal.yielding-smaller
 yielding-smaller c =
     subst (λ (s : ServerOf). length c.yield_place.new.self.waiting < length s.waiting) c.self.view_is
-    (fewer_wait c.in-Some.tuple c.pop_front.new.self.items (the_view c.self.inside) c.yield_place.new.self c.in-Some.ensures.items c.yield_place.ensures.yields)
+    (fewer_wait c.in-Some.waiting c.pop_front.new.self.items (the_view c.self.inside) c.yield_place.new.self c.in-Some.ensures.items c.yield_place.ensures.yields)
 
 pub yielding-preserved : goal.yielding-preserved
 yielding-preserved c =
     let full : has_place c.yielding.self ≡ false = search rules in record {
-      leads = goes_on_yielding c.in-Some.tuple c.pop_front.new.self.items (the_view c.self.inside) c.yield_place.new.self (ap has_place c.self.view_is ∙ full) c.in-Some.ensures.items c.yield_place.ensures.yields
+      leads = goes_on_yielding c.in-Some.waiting c.pop_front.new.self.items (the_view c.self.inside) c.yield_place.new.self (ap has_place c.self.view_is ∙ full) c.in-Some.ensures.items c.yield_place.ensures.yields
           ∙ ap makes_place c.self.view_is ∙ c.yielding.invariant.leads;
       new = λ t new. c.yield_place.ensures.new t (subst (λ (s : ServerOf). IsNew t s.conns) (sym c.self.view_is) (c.yielding.invariant.new t new));
     }

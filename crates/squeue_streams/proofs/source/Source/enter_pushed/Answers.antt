@@ -1,7 +1,7 @@
 use Rattle.std.proofs.Common.{◌≡◌, ◌+◌, ◌-◌, ◌≤◌, ℕ, List, length, min, refl, sym, ap, ◌∙◌, subst, arith}
 use Rattle.perimeter_core.specs.declared.entries.Feed.{Feed as FeedOf}
-use Rattle.feed_lists.specs.Lists.{items_of}
-use Rattle.feed_lists.proofs.RingLists.{length_items}
+use Rattle.histories.specs.Lists.{items_of}
+use Rattle.histories.proofs.RingLists.{length_items}
 use Rattle.squeue_enter.specs.Entering.{Brought, MayEnter, MayGoOn, WasFull}
 use Rattle.squeue_streams.proofs.Chains.{brings_on, may_chain}
 use Rattle.squeue_streams.proofs.source.Source.enter_pushed.Goals as goal

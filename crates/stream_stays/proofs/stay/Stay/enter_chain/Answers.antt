@@ -1,6 +1,6 @@
 use Rattle.std.proofs.Common.{◌≡◌, ◌-◌, ◌≤◌, ℕ, List, length, min, refl, sym, ap, ◌∙◌, subst, arith}
 use Rattle.perimeter_core.specs.declared.entries.Feed.{Feed as FeedOf}
-use Rattle.feed_lists.proofs.RingLists.{length_items}
+use Rattle.histories.proofs.RingLists.{length_items}
 use Rattle.squeue_enter.specs.Entering.{Brought, MayEnter, MayGoOn, WasFull}
 use Rattle.stream_stays.specs.Staying.{entered_of, stream_of}
 use Rattle.stream_stays.proofs.Stays.{life_on, may_enter, others_stay, stays_on}

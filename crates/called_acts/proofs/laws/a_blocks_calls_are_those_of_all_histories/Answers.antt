@@ -1,5 +1,0 @@
-use Rattle.called_acts.proofs.Called.{calls_of_all}
-use Rattle.called_acts.proofs.laws.a_blocks_calls_are_those_of_all_histories.Goals as goal
-
-pub returns : goal.returns
-returns c = calls_of_all

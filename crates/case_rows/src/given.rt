@@ -1,0 +1,94 @@
+//! What a row gives to a program.
+
+use crate::captures::bytes_of;
+use crate::fault::Fault;
+use crate::rows::{Row, words_of};
+use std::alloc::Global;
+
+/// The words, the input, and which reads and writes fail.
+#[derive(Drop)]
+pub struct Given {
+    pub words: Vec<String>,
+    pub input: Vec<u8>,
+    /// How many bytes a read gives and a write takes at most.
+    pub reads: usize,
+    pub writes: usize,
+    pub failing_reads: Vec<u64>,
+    pub failing_writes: Vec<u64>,
+    pub failing_tellings: Vec<u64>,
+}
+
+/// What a row gives.
+pub fn given_of(alloc: Global, row: &Row<'_>) -> Result<Given, Fault> {
+    Ok(Given {
+        words: words_of(alloc, row.text(alloc, "words", "none")?)?,
+        input: input_of(alloc, row)?,
+        reads: piece(alloc, row, "reads")?,
+        writes: piece(alloc, row, "writes")?,
+        failing_reads: row.numbers(alloc, "failing_reads")?,
+        failing_writes: row.numbers(alloc, "failing_writes")?,
+        failing_tellings: row.numbers(alloc, "failing_tellings")?,
+    })
+}
+
+/// How many bytes a call moves at most.
+fn piece(alloc: Global, row: &Row<'_>, name: &str) -> Result<usize, Fault> {
+    Ok(row.number(alloc, name, 65_536)? as usize)
+}
+
+/// The row's text, and behind it the bytes of its input.
+fn input_of(alloc: Global, row: &Row<'_>) -> Result<Vec<u8>, Fault> {
+    let bytes = bytes_of(alloc, row.lines("input"))?;
+    if !row.has("text") {
+        return Ok(bytes);
+    }
+    let mut input = text_of(alloc, row)?;
+    input.extend_from_slice(&bytes)?;
+    Ok(input)
+}
+
+/// The row's text with its changes.
+fn text_of(alloc: Global, row: &Row<'_>) -> Result<Vec<u8>, Fault> {
+    let changes = row.lines("change");
+    let mut text = Vec::new(alloc);
+    let mut found = 0usize;
+    for (number, line) in row.lines("text").iter().enumerate() {
+        match changed(changes, number) {
+            Some(line) => {
+                found = found.saturating_add(1);
+                add_changed(&mut text, line)?;
+            }
+            None => {
+                text.extend_from_slice(line.as_bytes())?;
+                text.push(b'\n')?;
+            }
+        }
+    }
+    if found == changes.len() {
+        return Ok(text);
+    }
+    Err(Fault::Told(format!(in alloc; "a change isn't of a line of the text")?))
+}
+
+/// What stands in the place of a line, where it is changed.
+fn changed<'a>(changes: &[&'a str], number: usize) -> Option<&'a str> {
+    for change in changes {
+        let (at, line) = change.split_once(' ').unwrap_or((change, ""));
+        if at.parse::<usize>() == Ok(number) {
+            return Some(line);
+        }
+    }
+    None
+}
+
+/// A line that was changed: nothing, or lines between `\n`.
+fn add_changed(text: &mut Vec<u8>, line: &str) -> Result<(), Fault> {
+    if line.is_empty() {
+        return Ok(());
+    }
+    for piece in line.split("\\n") {
+        text.extend_from_slice(piece.as_bytes())?;
+        text.push(b'\n')?;
+    }
+    Ok(())
+}

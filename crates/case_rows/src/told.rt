@@ -1,0 +1,21 @@
+//! What is wrong with a row, by the line that says it.
+
+use crate::fault::Fault;
+use crate::wrong::Wrong;
+use std::alloc::Global;
+
+/// The fault of a line.
+fn fault_at(alloc: Global, line: &str, wrong: Wrong) -> Fault {
+    match format!(in alloc; "{wrong}: {line}") {
+        Ok(told) => Fault::Told(told),
+        Err(_) => Fault::NoMemory,
+    }
+}
+
+/// What a line gave; or why it can't be run, with the line.
+pub fn told_at<T>(alloc: Global, line: &str, given: Result<T, Wrong>) -> Result<T, Fault> {
+    match given {
+        Ok(value) => Ok(value),
+        Err(wrong) => Err(fault_at(alloc, line, wrong)),
+    }
+}

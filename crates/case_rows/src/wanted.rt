@@ -1,0 +1,188 @@
+//! What a row wants of what came.
+
+use crate::comparing::{expect_lines, expect_number};
+use crate::fault::Fault;
+use crate::program::Came;
+use crate::rows::Row;
+use std::alloc::{AllocError, Global};
+
+/// What came is what the row wants; of its `out` so many bytes.
+pub fn expect(alloc: Global, row: &Row<'_>, came: &Came, len: usize) -> Result<(), Fault> {
+    expect_lines(alloc, "err", row.lines("err"), came.err.bytes())?;
+    let status = row.number(alloc, "status", 0)?;
+    expect_number(alloc, "status", status, u64::from(came.status))?;
+    expect_out(alloc, row, came.out.bytes(), len)
+}
+
+/// What was written is what the row wants: what it says in place of `out`, or `out`.
+fn expect_out(alloc: Global, row: &Row<'_>, out: &[u8], len: usize) -> Result<(), Fault> {
+    let mut whole = true;
+    if row.has("begins") {
+        whole = false;
+        expect_begins(alloc, row.lines("begins"), out)?;
+    }
+    if row.has("ends") {
+        whole = false;
+        expect_ends(alloc, row.lines("ends"), out)?;
+    }
+    if row.has("among") {
+        whole = false;
+        expect_among(alloc, row.lines("among"), out)?;
+    }
+    if row.has("marks") {
+        whole = false;
+        expect_marks(alloc, &row.numbers(alloc, "marks")?, out)?;
+    }
+    if row.has("sum") {
+        whole = false;
+        expect_sum(alloc, row.text(alloc, "sum", "")?, out)?;
+    }
+    if !whole {
+        return expect_no_out(alloc, row);
+    }
+    if len == usize::MAX {
+        expect_one_of(alloc, row.lines("out"), out)
+    } else {
+        expect_front(alloc, row.lines("out"), out, len)
+    }
+}
+
+/// A row whose output is said otherwise has no `out`, and none of the forms that take a part of it: they would say nothing.
+fn expect_no_out(alloc: Global, row: &Row<'_>) -> Result<(), Fault> {
+    if row.has("out") || row.has("out_bytes") || row.has("each_write") {
+        return Err(Fault::Told(format!(in alloc; "out isn't looked at in this row")?));
+    }
+    Ok(())
+}
+
+/// Lines, each with a newline.
+fn joined(alloc: Global, lines: &[&str]) -> Result<Vec<u8>, AllocError> {
+    let mut bytes = Vec::new(alloc);
+    for line in lines {
+        bytes.extend_from_slice(line.as_bytes())?;
+        bytes.push(b'\n')?;
+    }
+    Ok(bytes)
+}
+
+/// The first so many bytes, or all.
+pub fn front(bytes: &[u8], len: usize) -> &[u8] {
+    bytes.split_at(len.min(bytes.len())).0
+}
+
+fn expect_begins(alloc: Global, lines: &[&str], out: &[u8]) -> Result<(), Fault> {
+    let wanted = joined(alloc, lines)?;
+    expect_lines(alloc, "out", lines, front(out, wanted.len()))
+}
+
+fn expect_ends(alloc: Global, lines: &[&str], out: &[u8]) -> Result<(), Fault> {
+    let wanted = joined(alloc, lines)?;
+    let from = out.len().saturating_sub(wanted.len());
+    expect_lines(alloc, "out's end", lines, out.get(from..).unwrap_or(&[]))
+}
+
+/// The output is one of those that an `or` parts.
+fn expect_one_of(alloc: Global, lines: &[&str], out: &[u8]) -> Result<(), Fault> {
+    let mut told = expect_first(alloc, lines, out);
+    for wanted in lines.split(|line| *line == "or").skip(1) {
+        if told.is_ok() {
+            return Ok(());
+        }
+        let next = expect_lines(alloc, "out", wanted, out);
+        if next.is_ok() {
+            told = next;
+        }
+    }
+    told
+}
+
+/// The output is the first of those that an `or` parts.
+fn expect_first(alloc: Global, lines: &[&str], out: &[u8]) -> Result<(), Fault> {
+    match lines.split(|line| *line == "or").next() {
+        Some(wanted) => expect_lines(alloc, "out", wanted, out),
+        None => expect_lines(alloc, "out", &[], out),
+    }
+}
+
+/// The output is the first so many bytes of the lines, which have as many.
+fn expect_front(alloc: Global, lines: &[&str], out: &[u8], len: usize) -> Result<(), Fault> {
+    let wanted = joined(alloc, lines)?;
+    expect_number(
+        alloc,
+        "out's length",
+        len.min(wanted.len()) as u64,
+        out.len() as u64,
+    )?;
+    if wanted.starts_with(out) {
+        return Ok(());
+    }
+    Err(Fault::Told(format!(in alloc; "out isn't a front of what is wanted")?))
+}
+
+/// Each line stands as often in the output as is said before it.
+fn expect_among(alloc: Global, lines: &[&str], out: &[u8]) -> Result<(), Fault> {
+    let Ok(text) = str::from_utf8(out) else {
+        return Err(Fault::Told(format!(in alloc; "out isn't text")?));
+    };
+    if lines.is_empty() {
+        return Err(Fault::Told(format!(in alloc; "among has no lines")?));
+    }
+    for line in lines {
+        let (times, wanted) = line.split_once(' ').unwrap_or((line, ""));
+        let Ok(times) = times.parse::<u64>() else {
+            return Err(Fault::Told(format!(in alloc; "this isn't read: {line}")?));
+        };
+        let found = text.lines().filter(|line| *line == wanted).count();
+        expect_number(alloc, wanted, times, found as u64)?;
+    }
+    Ok(())
+}
+
+/// So many lines are marks: those behind a line `squeue Q marks N`, of which there are N, up to the next such line or the last line. They
+/// are at least the first number, and at most the second.
+fn expect_marks(alloc: Global, limits: &[u64], out: &[u8]) -> Result<(), Fault> {
+    let ([least, most], Ok(text)) = (limits, str::from_utf8(out)) else {
+        return Err(Fault::Told(format!(in alloc; "marks isn't two numbers, or out isn't text")?));
+    };
+    let mut told = 0u64;
+    let mut found = 0u64;
+    for line in text.lines() {
+        if let Some(count) = marks_of(line) {
+            told = told.saturating_add(count);
+        } else if told > 0 && line != "done" {
+            found = found.saturating_add(1);
+        }
+    }
+    expect_number(alloc, "how many marks are told", found, told)?;
+    if found < *least || found > *most {
+        return Err(Fault::Told(format!(in alloc; "marks: wanted {least} to {most}, got {found}")?));
+    }
+    Ok(())
+}
+
+/// How many marks a line tells of.
+fn marks_of(line: &str) -> Option<u64> {
+    let (_, count) = line.strip_prefix("squeue ")?.split_once(" marks ")?;
+    count.parse::<u64>().ok()
+}
+
+/// The output's length and check value are these.
+fn expect_sum(alloc: Global, text: &str, out: &[u8]) -> Result<(), Fault> {
+    let (len, check) = text.split_once(' ').unwrap_or((text, ""));
+    let (Ok(len), Ok(check)) = (len.parse::<u64>(), u64::from_str_radix(check, 16)) else {
+        return Err(Fault::Told(format!(in alloc; "this isn't read: sum {text}")?));
+    };
+    expect_number(alloc, "out's length", len, out.len() as u64)?;
+    expect_number(alloc, "out's check value", check, check_of(out))
+}
+
+/// Each byte in turn, at the multiplier of the 64-bit FNV hash, from 0.
+fn check_of(bytes: &[u8]) -> u64 {
+    let mut check = 0u64;
+    for byte in bytes {
+        check = check
+            .wrapping_mul(1_099_511_628_211)
+            .wrapping_add(u64::from(*byte));
+    }
+    check
+}

@@ -1,4 +1,0 @@
-pub mod Making
-pub mod Running
-pub mod Preparing
-pub mod Serving

@@ -1,0 +1,12 @@
+use Rattle.std.proofs.Common.{◌≡◌, ◌+◌, ◌≤◌, length, replicate, vec_capacity}
+use Rattle.squeue_state.specs.Behind.{ever}
+use Rattle.endless_sums.specs.Making.{ring_life}
+use Rattle.endless_sums.proofs.making.lives.Given as goal
+
+abbrev pub invariant-loop-k : goal.invariant-loop-k
+invariant-loop-k l =
+    record {
+      lives : ever l.lives.items ≡ replicate l._k ring_life;
+      len : length l.lives.items ≡ l._k;
+      room : l.rings + 1 ≤ vec_capacity l.lives;
+    }

@@ -1,0 +1,42 @@
+-- What the door has to know of the blocks, behind a settle: who is there, with which number, and who is half open.
+use Rattle.std.specs.Prelude.{◌≡◌, ℕ, Bool, List, [], ◌∷◌, ◌++◌, map}
+use Rattle.segment_codec.specs.declared.packet.Seg.{Seg}
+use Rattle.sq_base.specs.declared.kinds.Tuple.{Tuple}
+use Rattle.live_server.specs.Acts.{is_half_open}
+use Rattle.live_server.specs.Serving.{ServerOf}
+use Rattle.live_server.specs.declared.conn.Conn.{Conn}
+use Rattle.live_chats.specs.Seats.{left_free}
+use Rattle.live_chats.specs.Stale.{IsStale}
+use Rattle.live_chats.specs.Ways.{way_heeds}
+
+-- a connection's ends, whether it is half open, and its number
+pub record Seat : Type 0 where
+  pub ends : Tuple
+  pub half : Bool
+  pub number : ℕ
+
+abbrev pub seat_of : Tuple × Conn → Seat
+seat_of c = record { ends = c.0; half = is_half_open c.1; number = c.1.number }
+
+-- the door as a server of whose connections only that is read
+pub record IsDoorOf (door sv : ServerOf) : Type 0 where
+  pub seats : map seat_of door.conns ≡ map seat_of sv.conns
+  pub waiting : door.waiting ≡ sv.waiting
+  pub held : door.held ≡ sv.held
+  pub setting : door.setting ≡ sv.setting
+  pub secret : door.secret ≡ sv.secret
+  pub opened : door.counts.opened ≡ sv.counts.opened
+
+-- behind the time, it decides as the server does
+abbrev pub DoorDecides : Type 0
+DoorDecides = (now : ℕ) (s : Seg) (text : List ℕ) (door sv : ServerOf) → IsDoorOf door sv → way_heeds now s text door ≡ way_heeds now s text sv
+
+-- and it is a door for the next read
+abbrev pub SettledDoorsAreStale : Type 0
+SettledDoorsAreStale = (door sv : ServerOf) → IsDoorOf door sv → IsStale door sv
+
+-- why the order has to follow the steps: one leaves and one comes, or one comes and one leaves
+abbrev pub OrderIsSeen : Type 0
+OrderIsSeen =
+    (a b c d : Tuple)
+    → (left_free 0 (a ∷ b ∷ c ∷ []) ++ d ∷ [] ≡ c ∷ b ∷ d ∷ []) × (left_free 0 (a ∷ b ∷ c ∷ d ∷ []) ≡ d ∷ b ∷ c ∷ [])

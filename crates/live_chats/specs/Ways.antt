@@ -1,0 +1,101 @@
+-- Ways: what the table does with each frame, as steps. Its rules are those of `Serving`.
+use Rattle.std.specs.Prelude.{◌≡◌, ℕ, ◌==◌, not, true, List, [], ◌∷◌, ◌++◌, length, map, filter, if◌then◌else◌}
+use Rattle.std.specs.Option.{option_map_or}
+use Rattle.segment_codec.specs.Packet.{packet_in}
+use Rattle.segment_codec.specs.Refusal.{tuple_of}
+use Rattle.segment_codec.specs.SentIsRead.{text_in}
+use Rattle.segment_codec.specs.declared.packet.Packet.{Packet}
+use Rattle.segment_codec.specs.declared.packet.Packet.TheVariants as packet
+use Rattle.segment_codec.specs.declared.packet.Seg.{Seg}
+use Rattle.sq_base.specs.declared.kinds.Link.TheVariants.{RawIp}
+use Rattle.sq_base.specs.declared.kinds.Tuple.{Tuple}
+use Rattle.live_server.specs.Acts.{is_over, sent_by}
+use Rattle.live_server.specs.Addresses.{is_for_us}
+use Rattle.live_server.specs.Frames.{FrameOf, on_frame, serves_frames}
+use Rattle.live_server.specs.Initial.{number_for}
+use Rattle.live_server.specs.Isolation.{IsTable}
+use Rattle.live_server.specs.Leaving.{is_leaving}
+use Rattle.live_server.specs.Services.{is_served_at}
+use Rattle.live_server.specs.Serving.{Outcome, ServerOf, has_place, heeded, heeded_text, is_waiting, limited, makes_place, noting, numbered, refused, served, time_to, yields}
+use Rattle.live_server.specs.Table.{Conns, all_reached, conn_at, place_of, without_over}
+use Rattle.live_server.specs.declared.conn.Conn.{Conn}
+use Rattle.live_server.specs.declared.setting.Setting.{Setting}
+use Rattle.live_chats.specs.Chats.{Step, chats_of, fresh, leaves, opens, runs, segment, sends, tells, time}
+
+-- the connection of two ends gives way, where it is half open and was opened with this number
+abbrev pub way_yields : Tuple × ℕ → ServerOf → List Step
+way_yields w sv = option_map_or (λ place. if is_waiting w.1 (conn_at place sv.conns) then tells w.0 leaves ∷ [] else []) (place_of w.0 sv.conns) []
+
+abbrev pub way_yielding : List (Tuple × ℕ) → ServerOf → List Step
+way_yielding [] sv = []
+way_yielding (w ∷ ws) sv =
+    if has_place sv then [] else way_yields w (record sv { waiting = ws }) ++ way_yielding ws (yields w (record sv { waiting = ws }))
+
+abbrev pub way_takes : Tuple → Conn → ServerOf → List Step
+way_takes t c sv = if has_place sv then tells t (opens (numbered sv c)) ∷ [] else []
+
+unfoldable pub way_opens : ℕ → Seg → List ℕ → ServerOf → List Step
+way_opens now s text sv =
+    let c = served now s text sv (fresh sv.setting now s) in
+    if is_over c then sends (sent_by (tuple_of s) c) ∷ [] else way_yielding sv.waiting sv ++ way_takes (tuple_of s) c (makes_place sv)
+
+abbrev pub way_goes_on : ℕ → Seg → List ℕ → ServerOf → List Step
+way_goes_on now s text sv = tells (tuple_of s) (segment now (number_for sv.secret now s) s text) ∷ []
+
+unfoldable pub way_comes : ℕ → Seg → List ℕ → ServerOf → List Step
+way_comes now s text sv = option_map_or (λ place. way_goes_on now s text sv) (place_of (tuple_of s) sv.conns) (way_opens now s text sv)
+
+unfoldable pub way_heeds : ℕ → Seg → List ℕ → ServerOf → List Step
+way_heeds now s text sv = way_comes now (heeded s text sv) (heeded_text text sv) (noting text sv)
+
+abbrev pub way_time_to : ℕ → Tuple → ServerOf → List Step
+way_time_to now t sv = option_map_or (λ place. tells t (time now) ∷ []) (place_of t sv.conns) []
+
+unfoldable pub way_segment : ℕ → Seg → List ℕ → ServerOf → List Step
+way_segment now s text sv = way_time_to now (tuple_of s) sv ++ way_heeds now s text (time_to now (tuple_of s) sv).server
+
+unfoldable pub way_addressed : ℕ → Seg → List ℕ → ServerOf → List Step
+way_addressed now s text sv =
+    if not (is_for_us sv.setting s) then []
+    else if is_served_at sv.setting.ports s.dst_port then way_segment now (limited sv.setting.segment s) text sv
+    else sends (refused now s) ∷ []
+
+unfoldable pub way_packet : ℕ → List ℕ → Packet → ServerOf → List Step
+way_packet now body (packet.Segment s) sv = way_addressed now s (text_in s body) sv
+way_packet now body packet.Other sv = []
+way_packet now body packet.Fragment sv = []
+way_packet now body packet.Cut sv = []
+way_packet now body (packet.Malformed why) sv = []
+way_packet now body packet.BadSum sv = []
+
+unfoldable pub way_datagram : ℕ → List ℕ → ServerOf → List Step
+way_datagram now body sv = way_packet now body (packet_in RawIp body true) sv
+
+-- each of these is told something
+abbrev pub telling_time : ℕ → Conns → List Step
+telling_time now cs = map (λ c. tells c.0 (time now)) cs
+
+abbrev pub telling_leave : Conns → List Step
+telling_leave cs = map (λ c. tells c.0 leaves) cs
+
+-- those that leave in time
+abbrev pub leaving_of : Setting → ℕ → Conns → Conns
+leaving_of g now cs = filter (λ c. is_leaving g now (length cs) c.1) cs
+
+unfoldable pub way_time : ℕ → ServerOf → List Step
+way_time now sv = telling_time now sv.conns ++ telling_leave (leaving_of sv.setting now (without_over (all_reached now sv.conns)))
+
+abbrev pub way_of : FrameOf → ServerOf → List Step
+way_of f sv = if length f.body == 0 then way_time f.at sv else way_datagram f.at f.body sv
+
+abbrev pub ways : List FrameOf → ServerOf → List Step
+ways [] sv = []
+ways (f ∷ fs) sv = way_of f sv ++ ways fs (on_frame f sv).server
+
+-- steps make of the chats of a server what it becomes, and send what it sends
+abbrev pub Shows : ServerOf → List Step → Outcome → Type 0
+Shows sv ws o = runs sv.setting ws (chats_of sv) ≡ record { chats = chats_of o.server; sent = o.sent }
+
+-- one server is its chats, told what its ways tell
+abbrev pub ServerIsChats : Type 0
+ServerIsChats = (frames : List FrameOf) (sv : ServerOf) → IsTable sv → Shows sv (ways frames sv) (serves_frames frames sv)

@@ -1,9 +1,0 @@
-use Rattle.std.proofs.Common.{length, reverse}
-use Rattle.ring_jobs.proofs.Tasked.{SoFar}
-use Rattle.ring_jobs.proofs.task.take_apart.Given as goal
-
-abbrev pub invariant-loop-ring : goal.invariant-loop-ring
-invariant-loop-ring l = SoFar l.squeues l.fn.rings.items (reverse l.rings.items) l.intakes.items l.ends.items l.tasks.items
-
-abbrev pub decreases-loop-ring : goal.decreases-loop-ring
-decreases-loop-ring l = length l.rings.items

@@ -1,2 +1,0 @@
-pub mod AllActs
-pub mod Ends

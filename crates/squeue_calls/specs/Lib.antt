@@ -1,2 +1,0 @@
-pub mod Quotas
-pub mod Calls

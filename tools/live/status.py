@@ -1,0 +1,102 @@
+"""What a launcher knows of its server, told over a socket to whoever asks: `tools/sqlive status`."""
+import contextlib
+import os
+import socket
+import sys
+import threading
+import time
+from pathlib import Path
+
+
+def places(device):
+    """Where the socket may be: for root and for a service, and for a user. No other user may write there. Networks may have devices of equal names."""
+    users = os.environ.get("XDG_RUNTIME_DIR") or f"/run/user/{os.getuid()}"
+    return [Path(folder) / "sqlive" / f"{device}-{os.stat('/proc/self/ns/net').st_ino}" for folder in ("/run", users)]
+
+
+def bind_for_all(listens, place):
+    """Binds a socket that every user may ask. Its mode is set at once, not later by its name: another file could have that by then."""
+    mask = os.umask(0o111)
+    try:
+        listens.bind(str(place))
+    finally:
+        os.umask(mask)
+
+
+def listening(device):
+    """The socket; None where there is no place for it, and that is told. Whoever has the device may take its name."""
+    for place in places(device):
+        listens = socket.socket(socket.AF_UNIX)
+        try:
+            place.parent.mkdir(exist_ok=True)
+            place.unlink(missing_ok=True)
+            bind_for_all(listens, place)
+            listens.listen()
+            return listens
+        except OSError as error:
+            listens.close()
+            why = error
+    print(f"sqlive: it serves without status: {why}", file=sys.stderr)
+    return None
+
+
+@contextlib.contextmanager
+def told(device, *who):
+    """Gives all facts that these know to each who asks, a fact a line, as a context."""
+    def answer():
+        while True:
+            with listens.accept()[0] as asks:
+                try:
+                    facts = {fact: value for knows in who for fact, value in knows.facts().items()}
+                    asks.sendall("".join(f"{fact} {value}\n" for fact, value in facts.items()).encode())
+                except (OSError, IndexError):
+                    pass  # who asked is gone, or the server is, or it has ended and isn't waited for yet
+
+    listens = listening(device)
+    if listens:
+        threading.Thread(target=answer, daemon=True).start()
+    try:
+        yield
+    finally:
+        if listens:
+            Path(listens.getsockname()).unlink(missing_ok=True)
+
+
+def facts_of(device):
+    """The facts of the server on a device; None where no launcher tells any."""
+    for place in places(device):
+        with socket.socket(socket.AF_UNIX) as asks:
+            asks.settimeout(30)
+            try:
+                asks.connect(str(place))
+                return dict(line.split(" ", 1) for line in asks.makefile().read().splitlines()) or None
+            except OSError:
+                continue
+    return None
+
+
+def tell(device, follow):
+    """What the server on a device met so far: a fact a line, or to follow it a line a second until it ends. Whether there is one."""
+    facts = facts_of(device)
+    if not follow:
+        for fact, value in (facts or {}).items():
+            print(fact, value)
+        return bool(facts)
+    found = bool(facts)
+    with contextlib.suppress(KeyboardInterrupt):
+        while facts:
+            time.sleep(1)
+            before, facts = facts, facts_of(device)
+            if facts:
+                print(line_of_second(before, facts), flush=True)
+    return found
+
+
+def line_of_second(before, now):
+    """What a second brought."""
+    seconds = float(now["seconds"]) - float(before["seconds"])
+    a_second = {fact: (float(now[fact]) - float(before[fact])) / seconds for fact in now if fact in before}
+    cpu = sum(a_second[fact] for fact in ("cpu_seconds", "mover_cpu_seconds") if fact in a_second)
+    ways = [f"{way} {a_second[f'datagrams_{way}']:8.0f}/s {a_second[f'bytes_{way}'] * 8e-6:8.1f} Mbit/s" for way in ("in", "out")]
+    return (f"{time.strftime('%H:%M:%S')}  {'   '.join(ways)}   open {now['open']} (+{a_second['opened']:.0f}/s)   lost {a_second['lost_in']:.0f}/s"
+            f"   processor {100 * cpu:.0f} %   {now['most_memory_kb']} kB")

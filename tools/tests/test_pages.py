@@ -1,0 +1,75 @@
+"""The pages: each link leads somewhere, and the map has each crate and the edges of crates.txt."""
+import re
+import unittest
+
+from common import TOP
+
+import definitions
+
+PAGES = sorted([*TOP.glob("*.md"), *TOP.glob("docs/*.md"), *TOP.glob("bench/*/README.md"), *TOP.glob("examples/*.md")])
+
+
+def text_of(page):
+    """A page without what it shows as code."""
+    return re.sub(r"^```.*?^```", "", page.read_text(encoding="utf-8"), flags=re.M | re.S)
+
+
+def places(page):
+    """The places of a page to which a link may lead: its heads."""
+    return {re.sub(r"[^\w\- ]", "", head.lower()).replace(" ", "-") for head in re.findall(r"^#+ (.*)$", text_of(page), re.M)}
+
+
+def drawn():
+    """The edges of the map's drawing: (a crate, what it stands on)."""
+    drawing = re.search(r"^```\n(.*?)^```", (TOP / "docs" / "MAP.md").read_text(encoding="utf-8"), re.M | re.S)[1]
+    out = set()
+    for line in drawing.splitlines():
+        steps = [[name.strip() for name in step.split(",")] for step in line.split(" ─ ")]
+        out |= {(high, low) for below, above in zip(steps, steps[1:]) for low in below for high in above}
+    return out
+
+
+def without_what_follows(below):
+    """The edges of these crates, but for those that follow from others."""
+    reached = {}
+
+    def all_below(name):
+        if name not in reached:
+            reached[name] = set().union(set(), *({low} | all_below(low) for low in below[name]))
+        return reached[name]
+
+    return {(name, low) for name in below for low in below[name] if not any(low in all_below(other) for other in below[name] if other != low)}
+
+
+class Pages(unittest.TestCase):
+    maxDiff = None
+
+    def test_links(self):
+        dead = []
+        for page in PAGES:
+            for target in re.findall(r"\]\(([^)\s]+)\)", text_of(page)):
+                path, _, place = target.partition("#")
+                found = page.parent / path if path else page
+                if "://" not in target and (not found.exists() or place and place not in places(found)):
+                    dead.append(f"{page.relative_to(TOP)}: {target}")
+        self.assertEqual(dead, [])
+
+
+class Map(unittest.TestCase):
+    maxDiff = None
+
+    def test_edges_are_those_of_crates_txt(self):
+        shown = drawn()
+        names = {name for edge in shown for name in edge}
+        real = without_what_follows(definitions.directly())
+        self.assertEqual(sorted(shown - real), [], "drawn, and no edge")
+        self.assertEqual(sorted(edge for edge in real - shown if names.issuperset(edge)), [], "an edge, and not drawn")
+
+    def test_each_crate_has_its_place(self):
+        text = (TOP / "docs" / "MAP.md").read_text(encoding="utf-8")
+        named = set(re.findall(r"\.\./crates/(\w+)/", text)) | set(re.findall(r"`(\w+)`", text))
+        self.assertEqual([name for name in definitions.directly() if name not in named and not name.endswith("_refused")], [])
+
+
+if __name__ == "__main__":
+    unittest.main()
