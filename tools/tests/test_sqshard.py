@@ -361,6 +361,7 @@ class Shards(unittest.TestCase):
         path = self.folder / "a.pcap"
         write(path, records(3, 600, 6), 101)
         said = subprocess.run([TOOLS / "sqshard", "run", "--sqrun", SQRUN, self.work, path], capture_output=True, text=True, check=True).stderr
+        said = "".join(line for line in said.splitlines(keepends=True) if not re.search(r" of \d+ done|without proof$", line))     # of a busy machine, and of the program
         self.assertRegex(said, r"^sqshard: scan: 1 done, .*\nsqshard: plan: 600 records, \d+ connections: 1 shard,.* of memory\nsqshard: deal: 1 done.*\n"
                                r"sqshard: serve: \d done, .*\n$")
 
@@ -466,6 +467,15 @@ class Shards(unittest.TestCase):
         os.close(ours)
         self.assertRegex(said, rb"\d+% \d+:\d+=")
         self.assertIn(b"sqshard: serve: ", said)
+
+    def test_told_how_far_it_is(self):
+        """Where there is no bar, a stage says now and then how many jobs are done, and of how many."""
+        path, slow = self.folder / "a.pcap", self.folder / "slow"
+        write(path, records(3, 600, 6), 101)
+        slow.write_text(f"#!/bin/sh\nsleep 2\nexec {os.path.abspath(SQRUN)} \"$@\"\n")
+        slow.chmod(0o755)
+        said = subprocess.run([TOOLS / "sqshard", "run", "--tell", "1", "--sqrun", slow, self.work, path], capture_output=True, text=True, check=True).stderr
+        self.assertRegex(said, r"(?m)^sqshard: serve: 0 of 2 done, \d+ s$")       # a shard, and one of what is served nowhere
 
     def test_other_tools_read_what_it_makes(self):
         """sqplot and sqpcap take the folder, its files, and one shard; more connections than one run has, too."""
