@@ -400,9 +400,14 @@ class Page(InBrowser):
         """1,400 of them: in a page of figures that are made when they are near."""
         path = Path(self.folder.name) / "many.pcap"
         write(path, records(2, 14_000, 1_400, 101, span=30), 101)
-        (Path(self.folder.name) / "a.report").write_bytes(sqrun(path))
+        text = sqrun(path)
+        count = text.count(b"\nconn ")
+        (Path(self.folder.name) / "a.report").write_bytes(text)
         page = Path(self.folder.name) / "page.html"
         output([TOOLS / "sqplot", "--capture", path, "-o", page, Path(self.folder.name) / "a.report"])
+        self.assertLess(page.stat().st_size, 5_000_000)
+        self.assertIn(f"Drawn are 150 of {count:,} connections", page.read_text())
+        output([TOOLS / "sqplot", "--capture", path, "--conn", f"0-{count - 1}", "-o", page, Path(self.folder.name) / "a.report"])
         b, begun = self.browser, self.browser.processor_seconds()
         b.open(page)
         b.settle()
