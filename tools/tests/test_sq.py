@@ -292,7 +292,7 @@ class Told(Folder):
         except OSError:
             pass
         self.assertEqual(done.wait(), 0)
-        self.assertRegex(said.decode(), r"\r(reading: [\d.]+ of [\d.]+ MB, [\d,]+ records|serving: \d+ s)")
+        self.assertRegex(said.decode(), r"\r(reading: [\d.]+ of [\d.]+ MB, [\d,]+ records|serving [\d.]+ MB: \d+ s)")
         self.assertNotIn("\r", sq(self.folder / "a.pcap", said=True))
 
     def test_seconds_left(self):
@@ -335,6 +335,14 @@ class Shapes(Folder):
         said = sq("--page", "-o", self.folder / "a.html", EXAMPLE, said=True)
         self.assertIn("a.html", said)
         self.assertIn("<!DOCTYPE html>", (self.folder / "a.html").read_text())
+
+    def test_chosen_connections(self):
+        page = sq("--page", "--conn", "1-2", EXAMPLE).decode()
+        self.assertEqual(re.findall(r'<section [^>]*id="conn(\d+)"', page), ["1", "2"])
+        report = self.folder / "a.report"
+        report.write_bytes(sq(EXAMPLE))
+        self.assertEqual(sq("--pcap", "--conn", "3", EXAMPLE), output([TOOLS / "sqpcap", "--conn", "3", report, "--capture", EXAMPLE]))
+        self.assertIn("--conn goes with", sq("--conn", "1", EXAMPLE, status=2))
 
     def test_a_page_for_a_terminal_goes_into_a_file(self):
         shutil.copy(EXAMPLE, self.folder / "mine.pcap")
