@@ -76,12 +76,14 @@ impl Conn {
         }
     }
 
+    /// Whether it is over: its block is in LISTEN.
     pub fn is_over(&self) -> bool
         ensures { result ≡ is_over self.now }
     {
         matches!(self.tcb.state(), State::Listen)
     }
 
+    /// Whether it is half open: its block is in SYN-RECEIVED.
     pub fn is_half_open(&self) -> bool
         ensures { result ≡ is_half_open self.now }
     {
@@ -95,6 +97,7 @@ impl Conn {
         now.saturating_sub(self.heard) >= limit
     }
 
+    /// Whether it is in TIME-WAIT (RFC 9293, 3.3.2).
     pub fn is_in_time_wait(&self) -> bool
         ensures { result ≡ is_time_wait self.now.tcb.state }
     {

@@ -29,7 +29,7 @@ pub use laws::{
     answers_go_to_its_ends, days_have_their_dates, only_these_leave_in_time, others_stay,
     own_connection_acts, own_entry_gives_way, pieces_join, the_table_is_bounded,
 };
-pub use ports::{NO_PORTS, PLAIN_PORTS, Ports};
-pub use server::Server;
+pub use ports::{NO_PORTS, PLAIN_PORTS, Ports, service_at};
+pub use server::{Server, number_for, without_text};
 pub use service::Service;
 pub use setting::Setting;

@@ -47,7 +47,7 @@ pub(crate) fn is_served_at(ports: &Ports, port: u16) -> bool
 }
 
 /// The service of a port that is served, for a connection that begins at this time.
-pub(crate) fn service_at(ports: &Ports, now: u64, port: u16) -> Service
+pub fn service_at(ports: &Ports, now: u64, port: u16) -> Service
     ensures { result ≡ service_at ports.now now port }
 {
     if port == ports.echo {

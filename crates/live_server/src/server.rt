@@ -396,7 +396,7 @@ impl Server {
 }
 
 /// The initial sequence number for a segment that opens its connection, and 0 for another one, which needs none.
-fn number_for(secret: &Secret, now: u64, seg: &Seg, tuple: &Tuple) -> u32
+pub fn number_for(secret: &Secret, now: u64, seg: &Seg, tuple: &Tuple) -> u32
     requires { tuple.now ≡ tuple_of seg.now }
     ensures { result ≡ number_for secret.now.0 now seg.now }
 {
@@ -422,7 +422,7 @@ fn limited(seg: &Seg, most: u16) -> Seg
 }
 
 /// A segment without its text and its FIN.
-fn without_text(seg: &Seg) -> Seg
+pub fn without_text(seg: &Seg) -> Seg
     ensures { result ≡ without_text seg.now }
 {
     Seg {
