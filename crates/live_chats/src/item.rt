@@ -8,7 +8,10 @@ use sq_base::Tuple;
 #[derive(Drop)]
 pub enum Item {
     /// The connection of these two ends begins, and what its block has sent goes out.
-    Opens { ends: Tuple, conn: Conn },
+    Opens {
+        ends: Tuple,
+        conn: Conn,
+    },
     /// It gives way, or leaves in time.
     Leaves,
     /// A segment comes with its text, and with the initial sequence number for one that opens.
@@ -19,5 +22,7 @@ pub enum Item {
         text: Vec<u8>,
     },
     /// The time comes.
-    Time { now: u64 },
+    Time {
+        now: u64,
+    },
 }

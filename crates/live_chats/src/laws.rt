@@ -1,6 +1,7 @@
 //! Laws of the door and the chats: each is a function that does nothing, whose contract is the law.
 
 ghost use Rattle.live_chats.specs.Facts.{DoorDecides, OrderIsSeen, SettledDoorsAreStale};
+ghost use Rattle.live_chats.specs.Places.{CollectedStand};
 ghost use Rattle.live_chats.specs.Reads.{ReadsServe};
 ghost use Rattle.live_chats.specs.Seats.{DoorKeepsOrder};
 ghost use Rattle.live_chats.specs.Stale.{OnlySynsOpen, StaleDoorsServe};
@@ -63,4 +64,9 @@ pub fn the_order_is_seen()
 /// Behind a time that came to all, the door's seats and how much all hold are read off a few facts of each chat.
 pub fn the_door_times()
     ensures { DoorTimes }
+{}
+
+/// A chat's stream stands for the same items when its answers were taken out.
+pub fn collected_chats_stand()
+    ensures { CollectedStand }
 {}

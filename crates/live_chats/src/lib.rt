@@ -7,11 +7,12 @@
 
 mod answer;
 mod chat;
+mod chats;
 mod item;
 pub mod laws;
 mod said;
 
 pub use answer::{Answer, Standing};
 pub use chat::Chat;
+pub use chats::Chats;
 pub use item::Item;
-
