@@ -1,5 +1,5 @@
 //! How a stay at a squeue begins and ends.
-ghost use Rattle.std.specs.Prelude.{◌≡◌, ◌+◌, ◌≤◌, ◌++◌, [], List};
+ghost use Rattle.std.specs.Prelude.{◌≡◌, ◌+◌, ◌≤◌, ◌++◌, [], List, length};
 ghost use Rattle.turn_gate.specs.Passes.{number, seen};
 ghost use Rattle.perimeter_core.specs.declared.marks.SynchAct.TheVariants as Done;
 ghost use Rattle.perimeter_core.specs.Deeds.{acts, fed};
@@ -93,6 +93,7 @@ pub fn close<X: Steps + Drop, H: Wait + Drop, W: Wait>(
     ensures part { IsStreamOf X.begins X.step (origin_of sq.now.given.first) (stream_of stay) result.1.vacant.part }
     ensures ring { IsOfRing X.begins (origin_of sq.now.given.first) (stream_of stay) result.1.vacant.producer }
     ensures fed { fed (acts (setting_of limits_of sq.now.given) (seen result.0) (stream_of stay)) ≡ entered_of stay }
+    ensures left { (more : List X.Item) × (length more ≡ result.1.left) × (items_of result.1.vacant.part ++ more ≡ sent_of stay) }
     ensures taken { result.1.left ≡ 0 → (mine : List X.Item) → sent_of stay ≡ before_of stay ++ mine
         → (from : X.State) × Takes (X.step (origin_of sq.now.given.first)) from mine (state_of result.1.vacant.part) }
 {
@@ -121,7 +122,7 @@ fn paired<T: Drop, S: Drop>(
     ensures stream { (result.0.stream ≡ stream) × (result.0.leaves ≡ leaves) }
     ensures producer { SameProducer producer result.0.producer }
     ensures part { SameStream part result.0.part }
-    ensures left { result.1 ≡ 0 → items_of result.0.part ≡ sent producer }
+    ensures left { (more : List T) × (length more ≡ result.1) × (items_of result.0.part ++ more ≡ sent producer) }
 {
     let mut producer = producer;
     let mut part = part;

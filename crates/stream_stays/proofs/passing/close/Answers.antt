@@ -1,8 +1,9 @@
 use Rattle.std.proofs.Common.{◌≡◌, ◌+◌, ◌-◌, arith, refl, ◌∙◌}
+use Rattle.squeue_streams.specs.Taking.{items_of}
 use Rattle.placed_parts.specs.Placing.{limits_of, origin_of}
 use Rattle.stream_stays.specs.Staying.{before_of, producer_of, sent_of, stream_of}
-use Rattle.stream_stays.proofs.Rings.{its_pair, made_of, of_ring, still_its}
-use Rattle.stream_stays.proofs.Stays.{is_away, life_moved, may_leave}
+use Rattle.stream_stays.proofs.Rings.{all_left, its_pair, made_of, of_ring, still_its}
+use Rattle.stream_stays.proofs.Knowing.{is_away, life_moved, may_leave}
 use Rattle.stream_stays.proofs.passing.close.Goals as goal
 
 pub take_from-pass-requires : goal.take_from-pass-requires
@@ -37,4 +38,4 @@ returns-clause-fed g c = c.take_from-pass.ensures.all ∙ c.requires.stays.due
 pub returns-clause-taken : goal.returns-clause-taken
 returns-clause-taken g c = λ none mine split.
     made_of g.X.Steps.begins g.X.Steps.step (origin_of c.args.sq.now.given.first) (stream_of c.args.stay) c.take_from-pass.result.1 c.take_from-pass.ensures.part c.paired-vacant.result.0.part (before_of c.args.stay) mine (sent_of c.args.stay)
-    c.paired-vacant.ensures.part (c.paired-vacant.ensures.left none) split
+    c.paired-vacant.ensures.part (all_left (items_of c.paired-vacant.result.0.part) c.paired-vacant.ensures.left.0 (sent_of c.args.stay) (c.paired-vacant.ensures.left.1 ∙ none) c.paired-vacant.ensures.left.2) split

@@ -1,7 +1,7 @@
 use Rattle.std.proofs.Common.{arith, refl}
 use Rattle.squeue_streams.proofs.Items.{stream_same, taken_none}
 use Rattle.placed_parts.specs.Placing.{limits_of, origin_of}
-use Rattle.stream_stays.proofs.Stays.{life_moved, may_come, stays_opened}
+use Rattle.stream_stays.proofs.Knowing.{life_moved, may_come, stays_opened}
 use Rattle.stream_stays.proofs.passing.open.Goals as goal
 
 pub put_into-pass-requires-clause-may : goal.put_into-pass-requires-clause-may

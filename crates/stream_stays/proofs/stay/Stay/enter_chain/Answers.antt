@@ -3,7 +3,7 @@ use Rattle.perimeter_core.specs.declared.entries.Feed.{Feed as FeedOf}
 use Rattle.histories.proofs.RingLists.{length_items}
 use Rattle.squeue_enter.specs.Entering.{Brought, MayEnter, MayGoOn, WasFull}
 use Rattle.stream_stays.specs.Staying.{entered_of, stream_of}
-use Rattle.stream_stays.proofs.Stays.{life_on, may_enter, others_stay, stays_on}
+use Rattle.stream_stays.proofs.Knowing.{life_on, may_enter, others_stay, stays_on}
 use Rattle.stream_stays.proofs.stay.Stay.enter_chain.Goals as goal
 
 pub enter_or_full-requires-clause-may : goal.enter_or_full-requires-clause-may
