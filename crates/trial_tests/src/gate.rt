@@ -74,6 +74,41 @@ fn misses<R: Abort>(
 }
 
 #[test]
+fn try_hold_finds_the_gate_free(rt: HostRuntime) -> Result<(), Fail> {
+    let diary = Diary::with_room(rt.alloc(), 1)?;
+    let (gate, mut passes) = Gate::make(rt.alloc(), diary, 2)?;
+    let Some(one) = passes.pop() else {
+        unreachable!()
+    };
+    let Some(zero) = passes.pop() else {
+        unreachable!()
+    };
+    let held = gate.hold(&rt, zero);
+    let one = misses(&rt, &gate, one, 0, 1);
+    let zero = Diary::write(&gate, held, 7);
+    let one = finds(&rt, &gate, one, 1);
+    let zero = finds(&rt, &gate, zero, 1);
+    passes.push_reserved(zero);
+    passes.push_reserved(one);
+    assert_eq!(rt; gate.close(passes).lines().len(), 1);
+    Ok(())
+}
+
+// The gate is free, and `try_hold` takes it behind so many marks; it is released without one.
+fn finds<R: Abort>(rt: &R, gate: &Gate<Diary>, pass: Pass<Line>, count: u64) -> Pass<Line>
+    requires { IsPassOf writer (gate_id gate.now) pass }
+    ensures { IsPassOf writer (gate_id gate.now) result × (number result ≡ number pass) }
+{
+    match gate.try_hold(pass) {
+        Ok(held) => {
+            assert_eq!(rt; held.count(), count);
+            gate.release_plain(held)
+        }
+        Err(_) => panic!(rt; "nobody holds the gate"),
+    }
+}
+
+#[test]
 fn each_thread_finds_its_lines_in_order(rt: HostRuntime) -> Result<(), Fail> {
     // passes, threads, turns of each pass, rounds of spinning in a turn; the last is a gate that is mostly held
     for (passes, threads, turns, pause) in [(2, 2, 400, 0), (4, 4, 200, 10), (64, 8, 20, 400)] {
