@@ -1,16 +1,18 @@
-//! Runs rows of whole runs of `sqrun`, `sqreplay` and `sqmore` over memory: words and an input, and the status, the output and the error line
+//! Runs rows of whole runs of `sqrun`, `sqreplay`, `sqmore` and the live servers over memory: words and an input, and the status, the output and the error line
 //! that are wanted. What a row may say stands in `case_rows`; a row with `asks` or `calls` has words of `sqrun` alone, and what they ask for.
-//! A file whose name begins with `sqreplay` or `sqmore` has rows of that program, every other file rows of `sqrun`. What is expected comes from
-//! an independent model.
+//! A file whose name begins with `sqreplay` or `sqmore` has rows of that program, one with `sqlive` those of `live`, every other file rows of
+//! `sqrun`. What is expected comes from an independent model.
 //!
 //! Each row of the files `refused` is wrong in one field, and must fail: what the program writes has a line for each.
 #![tactic(auto)]
 
 mod asking;
+mod live;
 
 use asking::judge_words;
 use case_rows::{Fault, Row, judge_run, run_cases};
 use datagram_services::more_run;
+use live::judge_live;
 use sq_base::{MemSink, MemSource, Status};
 use squeue_run::squeue_run;
 use std::alloc::Global;
@@ -74,6 +76,8 @@ fn judge(
         judge_sqreplay(rt, alloc, row)
     } else if file.starts_with("sqmore") {
         judge_sqmore(rt, alloc, row)
+    } else if file.starts_with("sqlive") {
+        judge_live(rt, alloc, row)
     } else {
         judge_sqrun(rt, alloc, row)
     }
