@@ -1,7 +1,7 @@
 //! Runs at the limits, over inputs that are too large for rows: each is built in memory.
 
 use crate::runs::{Ended, HEADER, S, Sent, ends_over, push, run};
-use sq_base::Status;
+use sq_base::{MemSink, Status};
 use std::alloc::{AllocError, Global};
 use std::process::Abort;
 use std::sync::Wait;
@@ -94,6 +94,18 @@ fn record_limits(rt: HostRuntime) -> Result<(), Fail> {
     Ok(())
 }
 
+/// Where what is wrong can't be told, the status is the same.
+#[test]
+fn record_limit_untold(rt: HostRuntime) -> Result<(), Fail> {
+    let mut file = Vec::from_slice(rt.alloc(), &HEADER)?;
+    file.resize(16_777_241, 0)?;
+    let mut ends = ends_over(rt.alloc(), file.as_slice())?;
+    ends.err = MemSink::make(rt.alloc(), 1000, 1000, &[0])?;
+    let ended = run(&rt, rt.alloc(), "", ends)?;
+    expect(&rt, "untold", &ended, &(Status::TooLarge, "", ""));
+    Ok(())
+}
+
 #[test]
 fn size_limit(rt: HostRuntime) -> Result<(), Fail> {
     for zeros in &SIZES {
@@ -140,6 +152,12 @@ const SETUPS: [&str; 2] = [
     "--gen=7|--squeues=16|--rings=8|--mode=nodrain|--budget=3|--spread=5",
     "--gen=7|--verify",
 ];
+
+#[test]
+fn generated_capture_alone(rt: HostRuntime) -> Result<(), Fail> {
+    expect_run(&rt, rt.alloc(), "--gen|7", &[], &GENERATED)?;
+    Ok(())
+}
 
 #[test]
 fn generated_capture(rt: HostRuntime) -> Result<(), Fail> {

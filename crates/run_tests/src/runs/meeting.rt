@@ -394,7 +394,7 @@ fn calls_and_moves(rt: HostRuntime) -> Result<(), Fail> {
 }
 
 /// How often one looks for the other before it gives up.
-const TURNS: u32 = 1 << 22;
+const TURNS: u32 = 1 << 26;
 
 /// Holds the first feed of each of the two connections until that of the other has come, too.
 #[derive(Drop)]
