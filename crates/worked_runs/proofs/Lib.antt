@@ -1,4 +1,6 @@
+pub mod OneConnection
 pub mod Witness
+pub mod OneCall
 pub mod Moved
 pub mod Told
 pub mod Whole

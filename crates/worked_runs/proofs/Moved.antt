@@ -32,7 +32,8 @@ use Rattle.histories.specs.Fitting.{IsHereOnce}
 use Rattle.ring_threads.specs.Served.{HasServed}
 use Rattle.worked_runs.specs.OneSqueue.{plan, order, no_trace}
 use Rattle.worked_runs.specs.TwoSqueues.{setup, first_setting, second_setting, first_history, second_history, first, second, both, served}
-use Rattle.worked_runs.proofs.Witness.{is_zero, one_served, only, settles}
+use Rattle.worked_runs.proofs.OneConnection.{is_zero, only}
+use Rattle.worked_runs.proofs.Witness.{one_served, settles}
 
 -- the places of a list of two
 of_two : {A : Type 0} (x y z : A) (q : ℕ) → slice_get (x ∷ y ∷ []) q ≡ Some z → ((q ≡ 0) × (x ≡ z)) ⊎ ((q ≡ 1) × (y ≡ z))

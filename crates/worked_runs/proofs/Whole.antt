@@ -41,7 +41,8 @@ use Rattle.shell.specs.Words.{uses_from}
 use Rattle.worked_runs.specs.OneSqueue.{setup, block_of}
 use Rattle.worked_runs.specs.FiveSegments.{records, form, file, plan, no_calls, setting, history, ending, order, served, text, source, out, err}
 use Rattle.worked_runs.proofs.Told.{told}
-use Rattle.worked_runs.proofs.Witness.{Goes, has_served, is_zero}
+use Rattle.worked_runs.proofs.OneConnection.{is_zero}
+use Rattle.worked_runs.proofs.Witness.{Goes, has_served}
 
 -- The capture
 
@@ -112,8 +113,7 @@ settles = refl
 goes : Goes plan no_calls setting history order
 goes = record {
   one = refl;
-  starts = refl;
-  one_stay = refl;
+  stayed = record { starts = refl; one_stay = refl };
   here = refl;
   acts_are = refl;
   settles = settles;

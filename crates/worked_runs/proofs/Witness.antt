@@ -1,7 +1,6 @@
 -- What is written out was served.
-use Rattle.std.specs.Prelude.{◌≡◌, ℕ, zero, suc, ◌+◌, ◌/◌, ◌%◌, ◌<◌, ◌==◌, true, List, [], ◌∷◌, length, slice_get, Some, IfSome, if◌then◌else◌}
-use Rattle.std.proofs.Common.{refl, sym, subst, ap, ◌∙◌, arith}
-use Rattle.std.proofs.lemmas.Option.{slice_get_within}
+use Rattle.std.specs.Prelude.{◌≡◌, ℕ, ◌<◌, ◌==◌, true, List, [], ◌∷◌, length, slice_get, Some, IfSome, if◌then◌else◌}
+use Rattle.std.proofs.Common.{refl, sym, subst, ◌∙◌, arith}
 use Rattle.sq_base.specs.declared.kinds.Tuple.{Tuple}
 use Rattle.capture_reader.specs.Outcome.{CaptureFile}
 use Rattle.conn_classifier.specs.declared.kinds.Counts.{Counts}
@@ -9,8 +8,8 @@ use Rattle.conn_classifier.specs.declared.kinds.Item.{Item}
 use Rattle.conn_classifier.specs.Plan.{PlanOf}
 use Rattle.perimeter_core.specs.declared.entries.Act.{Act}
 use Rattle.perimeter_core.specs.Perimeter.{is_here}
-use Rattle.perimeter_core.specs.History.{Element, Setting, run, start}
-use Rattle.perimeter_core.specs.Deeds.{acts, fed}
+use Rattle.perimeter_core.specs.History.{Element, Setting, run}
+use Rattle.perimeter_core.specs.Deeds.{acts}
 use Rattle.perimeter_core.specs.Legal.{Legal}
 use Rattle.perimeter_core.specs.Ending.{IsOver}
 use Rattle.histories.specs.Endings.{Ending}
@@ -18,8 +17,7 @@ use Rattle.squeue_state.specs.Told.{marks_of}
 use Rattle.histories.specs.declared.mode.Mode.TheVariants as Mode'
 use Rattle.histories.specs.Keeping.{KeepsPace}
 use Rattle.squeue_pool.specs.Keeping.{PassesKeep}
-use Rattle.histories.specs.Noted.{AreNoted}
-use Rattle.histories.specs.Stays.{AreLinked, IsLinked, StartsAtHome, Stay, all_in, stay, stays, stays_in}
+use Rattle.histories.specs.Stays.{AreLinked}
 use Rattle.tcb_machine.specs.declared.kinds.Call.{Call}
 use Rattle.std.specs.Option.{option_map_or}
 use Rattle.conn_blocks.specs.CallLists.{CallLists, call_at}
@@ -31,19 +29,8 @@ use Rattle.ring_quotas.specs.Fits.{Fits, HistoryFits}
 use Rattle.histories.specs.Fitting.{IsHereOnce}
 use Rattle.ring_threads.specs.Served.{HasServed}
 use Rattle.conn_blocks.specs.ServedBlocks.{AreServed, IsServing}
+use Rattle.worked_runs.proofs.OneConnection.{Stayed, is_zero, linked, noted, only}
 use Rattle.worked_runs.specs.OneSqueue.{plan, setup, setting, history, ending, order, block, no_trace, only_block, served}
-
--- the only place of a list of one
-pub only : {A : Type 0} (x y : A) (q : ℕ) → slice_get (x ∷ []) q ≡ Some y → (q ≡ 0) × (x ≡ y)
-only x y zero e = (refl, cc e)
-only x y (suc q) e = absurd (omega (arith, slice_get_within (x ∷ []) (suc q) y e))
-
-pub is_zero : (c : ℕ) → c < 1 → c ≡ 0
-is_zero c lt = omega (arith, lt)
-
--- with one squeue, stay s is stay s of squeue 0
-at_one : (s : ℕ) → ((0 + s) % 1 ≡ 0) × (s / 1 ≡ s)
-at_one s = (omega arith, omega arith)
 
 -- one block, that of the only connection
 pub one_block : (p : PlanOf) (calls : CallLists) (b : BlockOf) → length p.tuples ≡ 1 → IsServing p calls 0 b → AreServed p calls (b ∷ [])
@@ -56,14 +43,10 @@ module _ (p : PlanOf) (calls : CallLists) (S : Setting) (H : List Element) (had 
   abbrev end : Ending
   end = record { number = 0; setting = S; history = H }
 
-  abbrev only_stay : Stay
-  only_stay = record { note = []; own = had; had = had }
-
   -- what one sees of a run of one connection by computing it: its block has one stay, in which it had this order
   pub record Goes : Type 0 where
     pub one : length p.tuples ≡ 1
-    pub starts : is_here (start S) 0 ≡ true
-    pub one_stay : all_in (stays S H 0) ≡ only_stay ∷ []
+    pub stayed : Stayed S H had
     pub here : is_here (run S H) 0 ≡ true
     pub acts_are : had ≡ acts S H 0
     pub settles : had ≡ settle calls 0 had
@@ -73,15 +56,6 @@ module _ (p : PlanOf) (calls : CallLists) (S : Setting) (H : List Element) (had 
   module _ (goes : Goes) (legal : Legal S H) (over : IsOver S (run S H)) (keeps : KeepsPace 1 0 Mode'.Process 64 0 S 0 H) (set : S ≡ setting_at p calls 1 1 0 0) (passes : PassesKeep Mode'.Process end) where
     zeroth : (c : ℕ) → c < length p.tuples → c ≡ 0
     zeroth c lt = is_zero c (omega (arith, lt, goes.one))
-
-    the_stay : (s : ℕ) (v : Stay) → stay (end ∷ []) 0 s ≡ Some v → (s ≡ 0) × (v.note ≡ [])
-    the_stay s v e =
-        let a = at_one s in
-        let there : slice_get (all_in (stays S H 0)) s ≡ Some v =
-        subst (λ k. slice_get (all_in (stays S H 0)) k ≡ Some v) a.1
-        (subst (λ k. slice_get (all_in (stays_in (slice_get (end ∷ []) k) 0)) (s / 1) ≡ Some v) a.0 e) in
-        let o = only only_stay v s (subst (λ (l : List Stay). slice_get l s ≡ Some v) goes.one_stay there) in
-        (o.0, ap (λ (w : Stay). w.note) (sym o.1))
 
     its_fit : HistoryFits p calls setup 0 end
     its_fit = record {
@@ -95,19 +69,6 @@ module _ (p : PlanOf) (calls : CallLists) (S : Setting) (H : List Element) (had 
     each q e at =
         let o = only end e q at in
         subst (λ k. HistoryFits p calls setup k e) (sym o.0) (subst (λ f. HistoryFits p calls setup 0 f) o.1 its_fit)
-
-    at_home : StartsAtHome (end ∷ []) 0
-    at_home q h at = let o = only end h q at in subst (λ k. is_here (start h.setting) 0 ≡ (k == 0 % 1)) (sym o.0) (subst (λ (f : Ending). is_here (start f.setting) 0 ≡ (0 == 0 % 1)) o.1 goes.starts)
-
-    linked : AreLinked (length p.tuples) (end ∷ [])
-    linked = record {
-      legal = λ q h at. subst (λ (f : Ending). Legal f.setting f.history) (only end h q at).1 legal;
-      home = λ c lt. subst (StartsAtHome (end ∷ [])) (sym (zeroth c lt)) at_home;
-      linked = λ c lt. subst (IsLinked (end ∷ [])) (sym (zeroth c lt)) (λ s v e. absurd (omega (arith, (the_stay (s + 1) v e).0)));
-    }
-
-    noted : (c : ℕ) → c < length p.tuples → AreNoted 0 (end ∷ []) c
-    noted c lt = subst (AreNoted 0 (end ∷ [])) (sym (zeroth c lt)) (λ s v e. let o = the_stay s v e in ap fed o.1 ∙ (omega arith))
 
     once : IsHereOnce (end ∷ []) 0 had
     once = record {
@@ -123,8 +84,8 @@ module _ (p : PlanOf) (calls : CallLists) (S : Setting) (H : List Element) (had 
     fits = record {
       count = refl;
       each = each;
-      linked = linked;
-      noted = noted;
+      linked = subst (λ n. AreLinked n (end ∷ [])) (sym goes.one) (linked S H had goes.stayed legal);
+      noted = λ c lt. noted S H had goes.stayed legal c (omega (arith, lt, goes.one));
       settled = λ c o at. let i = only had o c at in
           subst (λ k. (done : List Act) × IsHereOnce (end ∷ []) k done × (o ≡ settle calls k done)) (sym i.0)
           (had, once, sym i.1 ∙ goes.settles);
@@ -159,8 +120,7 @@ module _ (file : CaptureFile) (counts : Counts) (t : Tuple) (x y : Item) where
   goes : Goes p [] setting history order
   goes = record {
     one = refl;
-    starts = refl;
-    one_stay = refl;
+    stayed = record { starts = refl; one_stay = refl };
     here = refl;
     acts_are = refl;
     settles = settles;

@@ -1,3 +1,4 @@
 pub mod OneSqueue
 pub mod TwoSqueues
 pub mod FiveSegments
+pub mod OneCall

@@ -1,4 +1,4 @@
-//! What is written out was served.
+//! What is written out was served, and what was done was all that was asked.
 
 ghost use Rattle.std.specs.Prelude.{◌≡◌, false, Some, []};
 ghost use Rattle.sq_base.specs.declared.kinds.Status.TheVariants as status;
@@ -11,7 +11,9 @@ ghost use Rattle.conn_classifier.specs.declared.kinds.Item.{Item};
 ghost use Rattle.perimeter_core.specs.Ending.{IsOver};
 ghost use Rattle.perimeter_core.specs.History.{run};
 ghost use Rattle.perimeter_core.specs.Legal.{Legal};
+ghost use Rattle.placed_parts.specs.declared.places.Places.{Places};
 ghost use Rattle.histories.specs.declared.mode.Mode.TheVariants as Mode;
+ghost use Rattle.squeue_pool.specs.Calls.{HaveHadAll, WasDoneBy};
 ghost use Rattle.squeue_pool.specs.Keeping.{PassesKeep};
 ghost use Rattle.histories.specs.Keeping.{KeepsPace};
 ghost use Rattle.ring_quotas.specs.Quotas.{setting_at};
@@ -19,8 +21,12 @@ ghost use Rattle.ring_threads.specs.Served.{HasServed};
 ghost use Rattle.squeue_run.specs.Asked.{asked};
 ghost use Rattle.squeue_run.specs.Ran.{Accepts, HasRan};
 ghost use Rattle.worked_runs.specs.FiveSegments as Five;
+ghost use Rattle.worked_runs.specs.OneCall as Called;
+ghost use Rattle.worked_runs.specs.OneCall.{AreResidents};
 ghost use Rattle.worked_runs.specs.OneSqueue as One;
 ghost use Rattle.worked_runs.specs.TwoSqueues as Two;
+
+use placed_parts::Parts;
 
 /// The history is legal, ends, keeps the pace of its setup, each mark of all passes is the one for what its turn found, and it has the
 /// setting of its homes and quotas.
@@ -90,4 +96,24 @@ pub fn there_is_a_run_that_ends_well()
     ensures accepted { Accepts (asked []) (Some Five.file.bytes) }
 {
     a_history_of_six_feeds_fits();
+}
+
+/// Of a run with a call, the history is legal, ends, and keeps the pace of its pool, and each mark of all passes is the one for what its
+/// turn found.
+pub fn a_history_with_a_call_fits()
+    ensures legal { Legal Called.setting Called.history }
+    ensures over { IsOver Called.setting (run Called.setting Called.history) }
+    ensures keeps { KeepsPace 1 0 Mode.Process 64 0 Called.setting 0 Called.history }
+    ensures passes { PassesKeep Mode.Process Called.ending }
+{}
+
+/// There is work with a call: for parts of every kind, the pool did what is written out, and the part has had all its feeds and its
+/// call.
+pub fn there_is_work_with_a_call<S: Parts>()
+    ensures done { (shared : S) (first last : Places S S.Part S.Origin S.Parts) (new part : S.Part) → AreResidents S.Parts shared first last new part
+        → WasDoneBy S.Parts shared Called.counts Called.calls Called.pool (Called.finished part) }
+    ensures had { (shared : S) (first last : Places S S.Part S.Origin S.Parts) (new part : S.Part) → AreResidents S.Parts shared first last new part
+        → HaveHadAll S.Parts shared Called.counts Called.calls (Called.finished part) }
+{
+    a_history_with_a_call_fits();
 }
