@@ -1,11 +1,15 @@
 -- What the door has to know of the blocks, behind a settle: who is there, with which number, and who is half open.
-use Rattle.std.specs.Prelude.{◌≡◌, ℕ, Bool, List, [], ◌∷◌, ◌++◌, map}
+use Rattle.std.specs.Prelude.{◌≡◌, ℕ, Bool, true, false, Option, None, Some, List, [], ◌∷◌, ◌++◌, map}
 use Rattle.segment_codec.specs.declared.packet.Seg.{Seg}
 use Rattle.sq_base.specs.declared.kinds.Tuple.{Tuple}
-use Rattle.live_server.specs.Acts.{is_half_open}
+use Rattle.tcb_machine.specs.BlockState.{held_in}
+use Rattle.tcb_machine.specs.TcpStep.{is_time_wait}
+use Rattle.live_server.specs.Acts.{is_half_open, is_idle}
+use Rattle.live_server.specs.Leaving.{is_given_up}
 use Rattle.live_server.specs.Serving.{ServerOf}
 use Rattle.live_server.specs.declared.conn.Conn.{Conn}
 use Rattle.live_chats.specs.Seats.{left_free}
+use Rattle.live_chats.specs.declared.fact.Fact.{Fact}
 use Rattle.live_chats.specs.Stale.{IsStale}
 use Rattle.live_chats.specs.Ways.{way_heeds}
 
@@ -40,3 +44,9 @@ abbrev pub OrderIsSeen : Type 0
 OrderIsSeen =
     (a b c d : Tuple)
     → (left_free 0 (a ∷ b ∷ c ∷ []) ++ d ∷ [] ≡ c ∷ b ∷ d ∷ []) × (left_free 0 (a ∷ b ∷ c ∷ d ∷ []) ≡ d ∷ b ∷ c ∷ [])
+
+-- what a chat tells of itself behind the time, for the door to say who leaves
+abbrev pub fact_in : ℕ → ℕ → Option Conn → Fact
+fact_in now limit None = record { over = true; given_up = false; closed = false; idle = false; held = 0 }
+fact_in now limit (Some c) =
+    record { over = false; given_up = is_given_up now c; closed = is_time_wait c.tcb.state; idle = is_idle now limit c; held = held_in c.tcb }

@@ -5,7 +5,7 @@ ghost use Rattle.live_chats.specs.Hearing.{Hears};
 ghost use Rattle.live_chats.specs.Places.{IsFirst, first_of, setting_of};
 
 use crate::chat::Chat;
-use crate::item::Item;
+use crate::item::Told;
 use live_server::Setting;
 use perimeter_core::Known;
 use squeue_streams::{Steps, Stream};
@@ -16,12 +16,12 @@ use std::alloc::{AllocError, Global};
 #[derive(Drop)]
 pub struct Chats {
     setting: Setting,
-    first: Known<Vec<Stream<Item, Chat>>>,
+    first: Known<Vec<Stream<Told, Chat>>>,
 }
 
 impl Chats {
     /// Chats of a server that was started with this, whose streams begin as these, by number.
-    pub fn of(setting: Setting, streams: &Vec<Stream<Item, Chat>>) -> Chats
+    pub fn of(setting: Setting, streams: &Vec<Stream<Told, Chat>>) -> Chats
         ensures setting { setting_of result ≡ setting }
         ensures first { first_of result ≡ streams.now.items }
     {
@@ -33,7 +33,7 @@ impl Chats {
 }
 
 impl Steps for Chats {
-    type Item = Item;
+    type Item = Told;
 
     type State = Chat;
 
@@ -50,7 +50,7 @@ impl Steps for Chats {
         Err(AllocError)
     }
 
-    fn take(&self, alloc: Global, chat: &mut Chat, item: Item) {
+    fn take(&self, alloc: Global, chat: &mut Chat, item: Told) {
         chat.take(alloc, &self.setting, item);
     }
 }

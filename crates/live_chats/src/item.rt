@@ -26,3 +26,11 @@ pub enum Item {
         now: u64,
     },
 }
+
+/// An item as a ring brings it: how often the ring had settled before. What a chat answers to the items of one round lies in it until
+/// an item of a later round comes, so it is a function of the items alone, and a settle need only look.
+#[derive(Drop)]
+pub struct Told {
+    pub round: u64,
+    pub item: Item,
+}

@@ -2,7 +2,7 @@
 
 ghost use Rattle.live_chats.specs.Doors.{MeetsServe};
 ghost use Rattle.live_chats.specs.Facts.{DoorDecides, OrderIsSeen, SettledDoorsAreStale};
-ghost use Rattle.live_chats.specs.Places.{CollectedStand};
+ghost use Rattle.live_chats.specs.Places.{ItemsTell};
 ghost use Rattle.live_chats.specs.Reads.{ReadsServe};
 ghost use Rattle.live_chats.specs.Seats.{DoorKeepsOrder};
 ghost use Rattle.live_chats.specs.Stale.{OnlySynsOpen, StaleDoorsServe};
@@ -67,9 +67,9 @@ pub fn the_door_times()
     ensures { DoorTimes }
 {}
 
-/// A chat's stream stands for the same items when its answers were taken out.
-pub fn collected_chats_stand()
-    ensures { CollectedStand }
+/// What a chat has heard follows from the items that it was told.
+pub fn items_tell()
+    ensures { ItemsTell }
 {}
 
 /// Where a door is sure of a segment, its steps make of each connection and send what the server does, and it stays a door of that server.

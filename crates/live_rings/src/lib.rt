@@ -9,16 +9,28 @@
 //! beside the others, `words` and `process` are the program. It knows no clock and no device.
 #![tactic(auto)]
 
+mod answering;
+mod chat_making;
+mod chat_ring;
+mod chat_serving;
+mod coming;
+mod ending;
 mod gathering;
 mod making;
 mod one_squeue;
+mod placing;
 mod process;
+mod rings;
 mod running;
 mod serving;
+mod telling;
+mod timing;
 mod words;
 
+pub use ending::{EndedStream, Served};
 pub use gathering::Ended;
 pub use making::Ends;
 pub use process::run_process;
+pub use rings::serve_rings;
 pub use serving::serve_streams;
 pub use words::{Setup, Words, rings_asked};

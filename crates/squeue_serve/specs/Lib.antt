@@ -1,3 +1,4 @@
 pub mod Places
 pub mod Lending
 pub mod Numbering
+pub mod Alone

@@ -3,16 +3,18 @@
 //! A run has some squeues and a list of jobs, each of which a thread does. A job is lent passes: a ring or a caller one of each
 //! squeue, under the same number everywhere; a worker that of its one squeue. `places` is what is done with a pass that lies in
 //! a place of a job, `jobs` how passes are lent, `beside` how the jobs are done in threads, `start` where these wait for one
-//! another before any begins, `ending` how the passes come back and the squeues end, whether they were served or not. Nothing here
+//! another before any begins, `ending` how the passes come back and the squeues end, whether they were served or not; `alone` is all of that for one squeue. Nothing here
 //! takes memory once the jobs are made, so that no pass is lost.
 #![tactic(auto)]
 
+mod alone;
 mod beside;
 mod ending;
 mod jobs;
 mod places;
 mod start;
 
+pub use alone::{Alone, Room, do_tasks};
 pub use beside::{run_each, run_each_after};
 pub use ending::{end_last, run_unused};
 pub use jobs::{Job, Squeues, discard, jobs_of, lend};
