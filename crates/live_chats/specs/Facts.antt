@@ -47,6 +47,6 @@ OrderIsSeen =
 
 -- what a chat tells of itself behind the time, for the door to say who leaves
 abbrev pub fact_in : ℕ → ℕ → Option Conn → Fact
-fact_in now limit None = record { over = true; given_up = false; closed = false; idle = false; held = 0 }
+fact_in now limit None = record { over = true; half_open = false; given_up = false; closed = false; idle = false; held = 0 }
 fact_in now limit (Some c) =
-    record { over = false; given_up = is_given_up now c; closed = is_time_wait c.tcb.state; idle = is_idle now limit c; held = held_in c.tcb }
+    record { over = false; half_open = is_half_open c; given_up = is_given_up now c; closed = is_time_wait c.tcb.state; idle = is_idle now limit c; held = held_in c.tcb }

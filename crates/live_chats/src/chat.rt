@@ -113,6 +113,7 @@ impl Chat {
             None => Fact::OVER,
             Some(conn) => Fact {
                 over: false,
+                half_open: conn.is_half_open(),
                 given_up: conn.is_given_up(now),
                 closed: conn.is_in_time_wait(),
                 idle: conn.is_idle(now, limit),

@@ -46,14 +46,14 @@ pub enum Way {
 #[derive(Drop)]
 pub struct Door {
     /// Who had a place at the last settle, in the order of the table.
-    seats: IndexMap<Tuple, Seat>,
+    pub(crate) seats: IndexMap<Tuple, Seat>,
     /// Who came since.
-    come: IndexMap<Tuple, Seat>,
+    pub(crate) come: IndexMap<Tuple, Seat>,
     /// The ends and the number of the connections that were opened last, by age: one that is half open is among them.
-    waiting: VecDeque<(Tuple, u64)>,
+    pub(crate) waiting: VecDeque<(Tuple, u64)>,
     /// How many bytes all held when the time last came to them, with the text that came since.
-    held: u64,
-    setting: Setting,
+    pub(crate) held: u64,
+    pub(crate) setting: Setting,
     secret: Secret,
     /// How many connections took a place, modulo 2^64.
     opened: u64,
@@ -138,7 +138,7 @@ impl Door {
     }
 
     /// The connection that a segment opens where nobody has its ends, unless it is over at once.
-    fn opened_by(
+    pub(crate) fn opened_by(
         &self,
         alloc: Global,
         now: u64,
@@ -172,7 +172,7 @@ impl Door {
     }
 
     /// A segment that opens nothing goes to the chat of its ends, or is answered as nobody's.
-    fn pass(&self, alloc: Global, now: u64, seg: &Seg, text: &[u8]) -> Result<Way, AllocError>
+    pub(crate) fn pass(&self, alloc: Global, now: u64, seg: &Seg, text: &[u8]) -> Result<Way, AllocError>
         requires time { now ≤ last_time }
         requires over { is_over (new_of now seg.now text.now (as_server self.now)) ≡ true }
         ensures { IfOk result (λ way. Directs now seg.now text.now self.now way self.now) }
@@ -197,7 +197,7 @@ impl Door {
     }
 
     /// A connection takes a place, where nobody has its ends and a place is free.
-    fn seat(&mut self, ends: Tuple, conn: Conn, place: u32) -> Result<Way, AllocError>
+    pub(crate) fn seat(&mut self, ends: Tuple, conn: Conn, place: u32) -> Result<Way, AllocError>
         ensures seats { IfOk result (λ way. Seats ends conn self.old way self.new) }
         ensures same { OnErr result (self.new ≡ self.old) }
     {
@@ -219,7 +219,7 @@ impl Door {
     }
 
     /// The seat of two ends.
-    fn seat_of(&self, ends: &Tuple) -> Option<Seat>
+    pub(crate) fn seat_of(&self, ends: &Tuple) -> Option<Seat>
         ensures { result ≡ seat_at ends.now self.now }
     {
         match self.seats.get(ends) {
@@ -230,7 +230,7 @@ impl Door {
 
     /// Whether a place is free, and one of those that may be half open.
     #[tactic(auto, unfolding(live_server::specs::Serving::has_place))]
-    fn has_place(&self) -> bool
+    pub(crate) fn has_place(&self) -> bool
         ensures { result ≡ has_place (as_server self.now) }
     {
         let places = self.setting.places;
@@ -239,7 +239,7 @@ impl Door {
 
     /// Whether all may hold so much more.
     #[tactic(auto, unfolding(live_server::specs::Serving::fits))]
-    fn fits(&self, text: &[u8]) -> bool
+    pub(crate) fn fits(&self, text: &[u8]) -> bool
         ensures { result ≡ fits text.now (as_server self.now) }
     {
         text.len() as u64 <= self.setting.bytes.saturating_sub(self.held)

@@ -12,6 +12,7 @@ mod door;
 mod fact;
 mod item;
 pub mod laws;
+mod leaving;
 mod said;
 
 pub use answer::{Answer, Standing};
@@ -20,3 +21,4 @@ pub use chats::Chats;
 pub use door::{Door, Seat, Way};
 pub use fact::Fact;
 pub use item::{Item, Told};
+pub use leaving::{Leaver, Leavers};

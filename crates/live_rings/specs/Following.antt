@@ -120,6 +120,7 @@ module _ {S K : Type 0} where
     pub enough : ring.door.setting.places ≤ length ring.free.items + length (seats_of ring.door)
     pub unread : ring.cursors.items ≡ replicate (length ring.cursors.items) 0
     pub reach : (c : ℕ) → IsOpen ring.stays c → c < length ring.cursors.items
+    pub rounds : ring.round + (life_of ring.stays).asks ≤ most_work + 1
     pub never_full : (c : ℕ) (stay : Stay Told) → place_at ring.stays c ≡ Some (Open stay) → pushed_of stay < 2 ^ 31 + length (touched_of ring.stays)
     pub never_worn : (c : ℕ) (stay : Stay Told) → place_at ring.stays c ≡ Some (Open stay) → (life_of ring.stays).asks ≤ leaves_of stay
 

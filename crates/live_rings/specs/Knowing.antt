@@ -58,7 +58,7 @@ strays_before (suc n) (d ∷ more) = strays_before n more
 -- Where memory was missing in the chat, or for this, it says so
 pub record Reads (from to : Gathering) (c : ℕ) (chat : ChatOf) : Type 0 where
   pub due : to.due ≡ from.due
-  pub well : to.lost ≡ false → from.lost ≡ false
+  pub well : to.lost ≡ false → (from.lost ≡ false) × (chat.lost ≡ false)
   pub read : to.lost ≡ false → (a : AnswerOf) × (cursor : ℕ) × (ends : Tuple) × (slice_get from.cursors.items c ≡ Some cursor) × (slice_get chat.answers cursor ≡ Some a)
       × (to.cursors.items ≡ slice_set from.cursors.items c (cursor + 1))
       × (slice_get from.due.items (from.at + strays_before from.at from.due.items) ≡ Some (Of ends)) × (to.at ≡ from.at + strays_before from.at from.due.items + 1)

@@ -1,5 +1,5 @@
 -- The lives of connections: what came to each, and the stays at a squeue in which it was served.
-use Rattle.std.specs.Prelude.{◌≡◌, ℕ, ◌+◌, Option, None, Some, IfSome, List, [], ◌∷◌, ◌++◌, Contains, length}
+use Rattle.std.specs.Prelude.{◌≡◌, ℕ, ◌+◌, Option, None, Some, IfSome, List, [], ◌∷◌, ◌++◌, All, Contains, length}
 use Rattle.turn_gate.specs.History.{Begins}
 use Rattle.perimeter_core.specs.declared.marks.SynchAct.TheVariants as Done
 use Rattle.perimeter_core.specs.Deeds.{acts, fed, times_left}
@@ -77,15 +77,25 @@ module _ (S : Setting) (p c : ℕ) where
   AreStays from [] = Unit {0}
   AreStays from (s ∷ ss) = IsStay from s × AreStays s.taken ss
 
+-- a segment or the time, which may still be told where nobody is
+abbrev pub MayBeLate : Item → Type 0
+MayBeLate (opens c) = ⊥
+MayBeLate leaves = ⊥
+MayBeLate (segment now iss s text) = Unit {0}
+MayBeLate (time now) = Unit {0}
+
 -- A connection was served in stays at one place of its ring's pass, which began behind `from` and ended before H: they had a feed for each item
--- that it was told. It had more than one only where the feeds' numbers were used up
+-- that it was told, and for what came for its ends before the ring learned that it was over. It had more stays than one only where the feeds'
+-- numbers were used up
 pub record HasLived (S : Setting) (H : List Element) (p : ℕ) (from : List Element) (l : LifeOf) : Type 0 where
   pub place : ℕ
   pub first : StayOf
   pub more : List StayOf
   pub stays : AreStays S p place from (first ∷ more)
   pub within : Begins (last_taken first.taken more) H
-  pub fed : feeds_in (first ∷ more) ≡ length l.items
+  pub late : List Item
+  pub to_nobody : All MayBeLate late
+  pub fed : feeds_in (first ∷ more) ≡ length (l.items ++ late)
 
 -- so it is of each of these, which began one behind another: so no two of them had the same stay
 abbrev pub HaveLived : Setting → List Element → ℕ → List Element → List LifeOf → Type 0

@@ -11,7 +11,7 @@ use Rattle.live_server.specs.Serving.{Outcome, ServerOf}
 use Rattle.live_server.specs.declared.acting.Datagram.{Datagram}
 use Rattle.live_chats.specs.Chats.{chats_of, leaves, runs, tells}
 use Rattle.live_chats.specs.declared.chats.Chats.{Chats}
-use Rattle.live_chats.specs.declared.door.Leaver.{Leaver}
+use Rattle.live_chats.specs.declared.leaving.Leaver.{Leaver}
 use Rattle.live_chats.specs.declared.door.Way.{Way}
 use Rattle.live_chats.specs.declared.door.Way.TheVariants.{Opens, SettleFirst, Strays, To}
 use Rattle.live_chats.specs.declared.item.Item.{Item}

@@ -1,7 +1,7 @@
 //! How a ring settles: it comes to an Ask of its own, reads what its chats answered, in the order in which they were told, and learns
 //! from that who is over.
 
-ghost use Rattle.std.specs.Prelude.{◌≡◌, ◌+◌, ◌++◌, ◌≤◌, ◌⊎◌, ℕ, [], None, Some, false, replicate, length, OnOk};
+ghost use Rattle.std.specs.Prelude.{◌≡◌, ◌+◌, ◌++◌, ◌≤◌, ◌⊎◌, ◌^◌, ℕ, [], None, Some, false, replicate, length, OnOk};
 ghost use Rattle.std.specs.List.{flat_map};
 ghost use Rattle.live_server.specs.Frames.{frame_of};
 ghost use Rattle.turn_gate.specs.Passes.{number};
@@ -131,22 +131,25 @@ pub(crate) fn gather<S: Drop, K: Drop, H: Wait + Drop, W: Wait>(
 ) -> (Pass, Vec<Heard>, Vec<Fact>)
     requires knows { KnowsChats sq.now pass ring.old.stays }
     requires asks { 1 ≤ (life_of ring.old.stays).asks }
+    requires rounds { ring.old.round ≤ 2 ^ 63 }
     requires unread { ring.old.cursors.items ≡ replicate (length ring.old.cursors.items) 0 }
     ensures knows { KnowsChats sq.now result.0 ring.new.stays }
     ensures number { number result.0 ≡ number pass }
     ensures same { SamePlaces ring.old.stays ring.new.stays × SameButGathered ring.old ring.new }
-    ensures settled { (touched_of ring.new.stays ≡ []) × (chain_of ring.new.stays ≡ []) × (ring.new.due.items ≡ []) × (ring.new.round ≡ ring.old.round + 1) }
+    ensures settled { (touched_of ring.new.stays ≡ []) × (chain_of ring.new.stays ≡ []) × (ring.new.due.items ≡ []) }
+    ensures rounds { (ring.old.round ≤ ring.new.round) × (ring.new.round + (life_of ring.new.stays).asks ≡ ring.old.round + (life_of ring.old.stays).asks) }
     ensures gathered { ring.new.fault ≡ None → HasGathered (origin_of sq.now.given.first) now ring.old ring.new result.1.items result.2.items }
     ensures why { (why : Fault) → ring.new.fault ≡ Some why → (ring.old.fault ≡ Some why) ⊎ (why ≡ Fault.NoMemory) }
     ensures spent { ((life_of ring.new.stays).feeds ≡ (life_of ring.old.stays).feeds) × ((life_of ring.old.stays).asks ≤ (life_of ring.new.stays).asks + 1) }
 {
     let pass = enter_rest(rt, sq, alloc, pace, pass, ring);
     let mut gathering = begun(alloc, ring, now);
-    let pass = match ring.stays.is_settled() {
-        true => pass,
-        false => settle(sq, rt, alloc, pass, &mut ring.stays, &mut gathering),
-    };
-    let (heard, facts) = take_in(alloc, ring, gathering);
+    let mut pass = pass;
+    if !ring.stays.is_settled() {
+        pass = settle(sq, rt, alloc, pass, &mut ring.stays, &mut gathering);
+        ring.round += 1;
+    }
+    let (heard, facts) = take_in(ring, gathering);
     (pass, heard, facts)
 }
 
@@ -165,9 +168,8 @@ fn begun<S: Drop, K: Drop>(alloc: Global, ring: &mut ChatRing<S, K>, now: u64) -
     }
 }
 
-// The ring gets back what it lent, and a round is over.
+// The ring gets back what it lent.
 fn take_in<S: Drop, K: Drop>(
-    alloc: Global,
     ring: &mut ChatRing<S, K>,
     gathering: Gathering,
 ) -> (Vec<Heard>, Vec<Fact>) {
@@ -189,7 +191,6 @@ fn take_in<S: Drop, K: Drop>(
     ring.due = due;
     ring.cursors = cursors;
     ring.out = out;
-    ring.round += 1;
     (heard, facts)
 }
 

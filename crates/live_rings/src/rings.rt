@@ -1,20 +1,22 @@
 //! Streams by rings of chats: those of one squeue, and the squeues beside each other.
 
-ghost use Rattle.std.specs.Prelude.{◌≡◌, ◌≤◌, ◌++◌, ℕ, [], All, IfOk, length, map};
+ghost use Rattle.std.specs.Prelude.{◌≡◌, ◌+◌, ◌<◌, ◌≤◌, ◌∷◌, ◌++◌, ℕ, [], All, IfOk, length, map, reverse, slice_index_or, vec_capacity};
 ghost use Rattle.turn_gate.specs.Passes.{number};
 ghost use Rattle.squeue_serve.specs.Lending.{tasks_in};
 ghost use Rattle.squeue_serve.specs.Places.{MayEnd};
 ghost use Rattle.live_rings.specs.Making.{IsInRange, server_of};
 ghost use Rattle.live_rings.specs.EndedStreams.{AllEnded};
 ghost use Rattle.live_rings.specs.Lives.{AllLived};
-ghost use Rattle.live_rings.specs.ChatTasks.{HasDone, MayRun, WereServed};
+ghost use Rattle.live_rings.specs.declared.rings.Group.{Group};
+ghost use Rattle.live_rings.specs.ChatTasks.{HasDone, HaveAllEnded, HaveEndedSo, IsEndedOf, MayRun, MayServeGroup, WereServed, all_in, ends_in, many_in};
+ghost use Rattle.placed_parts.specs.Placing.{limits_of};
 
 use crate::chat_making::{new_chat_squeue, new_rings, no_parts, places_of};
 use crate::chat_ring::{ChatRing, Conversations};
 use crate::chat_serving::serve_ring;
 use crate::ending::{EndedStream, Served};
 use crate::making::Ends;
-use crate::serving::{add_all, deal};
+use crate::serving::{share, take_front};
 use crate::words::Setup;
 use perimeter_core::NoHook;
 use sq_base::{Sink, Source};
@@ -188,7 +190,7 @@ fn serve_groups<S: Source + Drop + Send, K: Sink + Drop + Send, W: Threads + Wai
     groups: &mut [Group<S, K>],
 )
     requires setup { IsInRange setup.now }
-    requires groups { All MayServe groups.old }
+    requires groups { All MayServeGroup groups.old }
     ensures { (k : ℕ) (d : Group S K) → k < length groups.old
         → HaveEndedSo S.rest S.read_faults K.contents K.write_faults (server_of setup.now) (slice_index_or groups.old k d) (slice_index_or groups.new k d) }
 {
@@ -197,7 +199,7 @@ fn serve_groups<S: Source + Drop + Send, K: Sink + Drop + Send, W: Threads + Wai
         groups,
         &|_, group: &mut Group<S, K>|
             requires setup { IsInRange setup.now }
-            requires group { MayServe group.now }
+            requires group { MayServeGroup group.now }
             ensures { HaveEndedSo S.rest S.read_faults K.contents K.write_faults (server_of setup.entry.now) group.entry.now group.exit.now }
         { serve_group(rt, alloc, setup, group) },
     );
@@ -210,7 +212,7 @@ fn serve_group<S: Source + Drop + Send, K: Sink + Drop + Send, W: Threads + Wait
     group: &mut Group<S, K>,
 )
     requires setup { IsInRange setup.now }
-    requires group { MayServe group.old }
+    requires group { MayServeGroup group.old }
     ensures { HaveEndedSo S.rest S.read_faults K.contents K.write_faults (server_of setup.now) group.old group.new }
 {
     let before = replace(group, Group::Short);
@@ -225,7 +227,7 @@ fn served<S: Source + Drop + Send, K: Sink + Drop + Send, W: Threads + Wait + Sy
     group: Group<S, K>,
 ) -> Group<S, K>
     requires setup { IsInRange setup.now }
-    requires group { MayServe group }
+    requires group { MayServeGroup group }
     ensures { IsEndedOf S.rest S.read_faults K.contents K.write_faults (server_of setup.now) (ends_in group) result }
 {
     let Group::Before(ends) = group else {
@@ -237,11 +239,35 @@ fn served<S: Source + Drop + Send, K: Sink + Drop + Send, W: Threads + Wait + Sy
     }
 }
 
+// Deals streams to so many groups, or to fewer where there are fewer streams: in order, and as evenly as may be.
+fn deal<S: Drop, K: Drop>(
+    alloc: Global,
+    ends: Vec<Ends<S, K>>,
+    squeues: u32,
+) -> Result<Vec<Group<S, K>>, AllocError>
+    requires { length ends.items ≤ 63 }
+    ensures groups { IfOk result (λ v. all_in v.items ≡ ends.items) }
+    ensures may { IfOk result (λ v. All MayServeGroup v.items) }
+{
+    let mut ends = ends;
+    let mut groups = Vec::with_capacity(alloc, ends.len())?;
+    let mut left = squeues as usize;
+    ends.reverse();
+    'groups: while !ends.is_empty() {
+        let size = share(ends.len(), left);
+        let front = take_front(alloc, &mut ends, size)?;
+        groups.push_reserved(Group::Before(front));
+        left = left.saturating_sub(1);
+    }
+    Ok(groups)
+}
+
 // What is left of all groups, by number.
 fn gather_all<S: Drop, K: Drop>(
     groups: Vec<Group<S, K>>,
     room: Served<S, K>,
 ) -> Result<Served<S, K>, AllocError>
+    requires { (room.streams.items ≡ []) × (room.squeues.items ≡ []) × (many_in groups.items ≤ vec_capacity room.streams) × (length groups.items ≤ vec_capacity room.squeues) }
     ensures { IfOk result (λ v. HaveAllEnded groups.items v.streams.items v.squeues.items) }
 {
     let mut groups = groups;
@@ -256,4 +282,16 @@ fn gather_all<S: Drop, K: Drop>(
     all.streams.reverse();
     all.squeues.reverse();
     Ok(all)
+}
+
+// Adds what is left of a group's streams, the last first.
+fn add_all<S: Drop, K: Drop>(all: &mut Vec<EndedStream<S, K>>, streams: Vec<EndedStream<S, K>>)
+    requires { length all.old.items + length streams.items ≤ vec_capacity all.old }
+    ensures added { all.new.items ≡ all.old.items ++ reverse streams.items }
+    ensures room { vec_capacity all.new ≡ vec_capacity all.old }
+{
+    let mut streams = streams;
+    'streams: while let Some(last) = streams.pop() {
+        all.push_reserved(last);
+    }
 }

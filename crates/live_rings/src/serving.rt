@@ -125,7 +125,7 @@ fn deal<S: Drop, K: Drop>(
 
 // How many of so many streams the next group gets, where so many groups are left.
 #[tactic(auto, using(crate::proofs::Groups::share_fits))]
-fn share(streams: usize, groups: usize) -> usize
+pub(crate) fn share(streams: usize, groups: usize) -> usize
     requires { 1 ≤ streams }
     ensures { (1 ≤ result) × (result ≤ streams) }
 {
@@ -137,7 +137,7 @@ fn share(streams: usize, groups: usize) -> usize
 }
 
 // Takes so many streams, the first of which stands last.
-fn take_front<S: Drop, K: Drop>(
+pub(crate) fn take_front<S: Drop, K: Drop>(
     alloc: Global,
     ends: &mut Vec<Ends<S, K>>,
     size: usize,

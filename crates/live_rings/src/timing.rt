@@ -53,7 +53,7 @@ pub(crate) fn tick<S: Drop, K: Drop, H: Wait + Drop, W: Wait>(
         ring.fail(Fault::NoMemory);
         return pass;
     };
-    let pass = close_over(rt, sq, alloc, pass, ring, leavers.over.as_slice());
+    let pass = close_these(rt, sq, alloc, pass, ring, leavers.over.as_slice());
     all_leave(rt, sq, alloc, pace, pass, ring, leavers.leave.as_slice())
 }
 
@@ -98,23 +98,23 @@ fn renew_all<S: Drop, K: Drop, H: Wait + Drop, W: Wait>(
     pass
 }
 
-/// The places of those that are over are closed; the door has dropped their seats.
-fn close_over<S: Drop, K: Drop, H: Wait + Drop, W: Wait>(
+/// The places of these are closed; the door has dropped their seats.
+fn close_these<S: Drop, K: Drop, H: Wait + Drop, W: Wait>(
     rt: &W,
     sq: &Squeue<Conversations<H>>,
     alloc: Global,
     pass: Pass,
     ring: &mut ChatRing<S, K>,
-    over: &[u32],
+    these: &[Leaver],
 ) -> Pass {
     let mut pass = pass;
-    for place in over {
-        pass = close(rt, sq, alloc, pass, ring, *place);
+    for one in these {
+        pass = close(rt, sq, alloc, pass, ring, one.place);
     }
     pass
 }
 
-/// These connections are told to leave, and leave their places. They hold nothing then, and send nothing.
+/// These connections, whose seats the door has dropped, are told to leave, and leave their places. They hold nothing then, and send nothing.
 pub(crate) fn all_leave<S: Drop, K: Drop, H: Wait + Drop, W: Wait>(
     rt: &W,
     sq: &Squeue<Conversations<H>>,
@@ -137,5 +137,6 @@ pub(crate) fn all_leave<S: Drop, K: Drop, H: Wait + Drop, W: Wait>(
         let Leaver { ends, place } = *leaver;
         pass = tell(rt, sq, alloc, pace, pass, ring, place, ends, Item::Leaves);
     }
-    settle_all(rt, sq, alloc, pace, pass, ring)
+    let (pass, _heard, _facts) = gather(rt, sq, alloc, pace, pass, ring, 0);
+    close_these(rt, sq, alloc, pass, ring, leavers)
 }

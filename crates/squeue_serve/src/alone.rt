@@ -92,7 +92,7 @@ impl<R: Resident> Alone<R> {
         ensures tasks { tasks_in result.2.items ≡ tasks_in jobs.items }
         ensures empty { All (λ j. j.places.items ≡ []) result.2.items }
     {
-        let mut squeues = self.squeues;
+        let Alone { mut squeues } = self;
         let mut jobs = jobs;
         let count = jobs.len() - 1;
         let Some((resident, ended, _trace)) = end_last(&mut squeues, &mut jobs, 0, count) else {
