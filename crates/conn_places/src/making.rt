@@ -36,7 +36,7 @@ const CAPACITY: usize = 64;
 const ROOM: u32 = 16_384;
 
 // How often a place may be left.
-const LEAVES: u32 = 1 << 26;
+const LEAVES: u64 = 1 << 52;
 
 /// What is left of a ring's pass at first: so many feeds it may enter, and so often it may ask.
 pub const LIFE: Life = Life {

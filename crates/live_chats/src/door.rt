@@ -155,13 +155,7 @@ impl Door {
     }
 
     /// What a new connection makes of a segment.
-    fn answerer(
-        &self,
-        alloc: Global,
-        now: u64,
-        seg: &Seg,
-        text: &[u8],
-    ) -> Result<Conn, AllocError>
+    fn answerer(&self, alloc: Global, now: u64, seg: &Seg, text: &[u8]) -> Result<Conn, AllocError>
         requires { now ≤ last_time }
         ensures { IfOk result (λ c. c ≡ new_of now seg.now text.now (as_server self.now)) }
     {
@@ -172,7 +166,13 @@ impl Door {
     }
 
     /// A segment that opens nothing goes to the chat of its ends, or is answered as nobody's.
-    pub(crate) fn pass(&self, alloc: Global, now: u64, seg: &Seg, text: &[u8]) -> Result<Way, AllocError>
+    pub(crate) fn pass(
+        &self,
+        alloc: Global,
+        now: u64,
+        seg: &Seg,
+        text: &[u8],
+    ) -> Result<Way, AllocError>
         requires time { now ≤ last_time }
         requires over { is_over (new_of now seg.now text.now (as_server self.now)) ≡ true }
         ensures { IfOk result (λ way. Directs now seg.now text.now self.now way self.now) }
@@ -190,7 +190,8 @@ impl Door {
             }),
             None => {
                 let mut sent = Vec::new(alloc);
-                self.answerer(alloc, now, seg, text)?.send(alloc, &tuple, &mut sent)?;
+                self.answerer(alloc, now, seg, text)?
+                    .send(alloc, &tuple, &mut sent)?;
                 Ok(Way::Strays(sent))
             }
         }

@@ -53,11 +53,7 @@ impl Door {
     }
 
     /// At a settle: how a connection stands behind an item. The answer is the place of its chat, where it is over and had a seat.
-    pub fn learns(
-        &mut self,
-        ends: &Tuple,
-        standing: Standing,
-    ) -> Result<Option<u32>, AllocError> {
+    pub fn learns(&mut self, ends: &Tuple, standing: Standing) -> Result<Option<u32>, AllocError> {
         let Some(seat) = self.seat_of(ends) else {
             return Ok(None);
         };
@@ -98,13 +94,7 @@ impl Door {
     }
 
     /// Whether a segment opens a connection, where a place is free.
-    fn opens(
-        &self,
-        alloc: Global,
-        now: u64,
-        seg: &Seg,
-        text: &[u8],
-    ) -> Result<bool, AllocError>
+    fn opens(&self, alloc: Global, now: u64, seg: &Seg, text: &[u8]) -> Result<bool, AllocError>
         requires { now ≤ last_time }
     {
         if self.seat_of(&tuple_of(seg)).is_some() {
@@ -223,7 +213,5 @@ fn alive(facts: &[Fact]) -> usize {
 /// Who is to leave, where so many places are taken.
 fn leaves_by(setting: &Setting, taken: usize, fact: &Fact) -> bool {
     let places = setting.places;
-    fact.given_up
-        || (taken >= places - places / 4 && fact.closed)
-        || (taken >= places && fact.idle)
+    fact.given_up || (taken >= places - places / 4 && fact.closed) || (taken >= places && fact.idle)
 }

@@ -37,7 +37,6 @@ use Rattle.live_rings.specs.declared.chat_ring.Due.{Due}
 use Rattle.live_rings.specs.declared.chat_ring.Due.TheVariants.{Of, Strays}
 use Rattle.live_rings.specs.Work.{all_work, most_work}
 
-
 -- what the chat of a place is when it has taken all that was pushed there, where `first` is the one with which it began
 abbrev pub chat_at : Chats → Stays Told ChatOf → ℕ → ChatOf → ChatOf
 chat_at o st c first = hearing_all (setting_of o) (sent_in (place_at st c)) first
@@ -84,7 +83,7 @@ AreNoted d _ _ _ = ⊥
 
 -- At the places the items of these steps were pushed, in this round; what was pushed before is of earlier rounds
 pub record WerePushed (d : DoorOf) (round : ℕ) (ws : List Step) (was is : Stays Told ChatOf) : Type 0 where
-  pub open : (c : ℕ) → IsOpen was c → IsOpen is c
+  pub stay_open : (c : ℕ) → IsOpen was c → IsOpen is c
   pub there : (t : Tuple) (c : ℕ) → place_in d t ≡ Some c → (mine : List Told) × (sent_in (place_at is c) ≡ sent_in (place_at was c) ++ mine)
       × (map (λ x. told x.item) mine ≡ items_to t ws) × All (λ x. x.round ≡ round) mine × All (λ x. x.round < round) (sent_in (place_at was c))
   pub elsewhere : (c : ℕ) → ((t : Tuple) → place_in d t ≢ Some c) → place_at is c ≡ place_at was c

@@ -1,5 +1,5 @@
 -- What a ring of chats makes of frames, and what of its whole input.
-use Rattle.std.specs.Prelude.{◌≡◌, ◌≢◌, ◌⊎◌, ℕ, ◌+◌, ◌*◌, ◌<◌, ◌≤◌, Option, None, Some, IfSome, List, [], ◌∷◌, ◌++◌, length, map}
+use Rattle.std.specs.Prelude.{◌≡◌, ◌≢◌, ◌⊎◌, ℕ, ◌+◌, ◌*◌, ◌<◌, ◌≤◌, Option, None, Some, IfSome, List, [], ◌∷◌, ◌++◌, length, map, vec_capacity}
 use Rattle.std.specs.Io.KnownBytes.{Appends}
 use Rattle.std.specs.List.{flat_map}
 use Rattle.sq_base.specs.Ends.{Rose}
@@ -44,6 +44,8 @@ module _ {S K : Type 0} where
     pub tidy : IsTidy ring
     pub life : (length (touched_of ring.stays) + 2 * ring.door.setting.places + 4 ≤ (life_of ring.stays).feeds)
         × (3 * length (touched_of ring.stays) + 4 * ring.door.setting.places + 8 ≤ (life_of ring.stays).asks)
+    pub room : (length (touched_of ring.stays) + 2 * ring.door.setting.places + 4 ≤ vec_capacity ring.stays.touched)
+        × (length ring.due.items + 2 * ring.door.setting.places + 4 ≤ vec_capacity ring.due)
 
   -- a way may be gone: who is told has a place, and who begins has one that is free
   abbrev pub MayGo : ChatRing S K → Tuple → ℕ → Way → Type 0

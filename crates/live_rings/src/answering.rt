@@ -61,14 +61,12 @@ impl Collects<Chats> for Gathering {
 impl Gathering {
     // Reads the next answer of the chat at a place.
     fn read(&mut self, c: u32, chat: &Chat) -> Result<(), AllocError>
-        ensures { OnOk result (self.old.lost ≡ false → self.new.lost ≡ false × Reads self.old self.new c chat.now) }
+        requires { chat.now.lost ≡ false }
+        ensures read { OnOk result (Reads self.old self.new c chat.now) }
+        ensures same { self.new.lost ≡ self.old.lost }
     {
         let ends = self.pass_strays()?;
-        let cursor = self.cursors[c as usize];
-        let Some(answer) = chat.answers().get(cursor as usize) else {
-            return Err(AllocError);
-        };
-        self.cursors[c as usize] = cursor + 1;
+        let answer = self.next_answer(c, chat)?;
         self.heard.push(Heard {
             ends,
             place: c,
@@ -76,6 +74,14 @@ impl Gathering {
         })?;
         self.facts.push(chat.fact(self.now, self.idle))?;
         push_all(answer.sent(), &mut self.out)
+    }
+
+    // The next answer of the chat at a place, which counts as read.
+    fn next_answer<'a>(&mut self, c: u32, chat: &'a Chat) -> Result<&'a Answer, AllocError> {
+        let cursor = self.cursors.get_mut(c as usize).ok_or(AllocError)?;
+        let answer = chat.answers().get(*cursor as usize).ok_or(AllocError)?;
+        *cursor += 1;
+        Ok(answer)
     }
 
     // What goes out before the next answer does; the answer is of these ends.
@@ -103,7 +109,9 @@ impl Gathering {
     // So many answers of the chats are read no more: the next settle begins anew.
     fn forget(&mut self) {
         for heard in &self.heard {
-            self.cursors[heard.place as usize] = 0;
+            if let Some(cursor) = self.cursors.get_mut(heard.place as usize) {
+                *cursor = 0;
+            }
         }
     }
 }

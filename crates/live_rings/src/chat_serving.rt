@@ -20,8 +20,8 @@ use crate::chat_ring::{ChatRing, Conversations};
 use crate::coming::datagram;
 use crate::placing::close;
 use crate::timing::tick;
-use live_server::FRAME_HEAD;
-use live_streams::{frame_size, kept, time_in};
+use live_server::{FRAME_HEAD, time_of};
+use live_streams::{frame_size, kept};
 use live_tables::Fault;
 use sq_base::{Sink, Source, put};
 use squeue_state::{Pass, Squeue};
@@ -202,7 +202,7 @@ fn serve_frame<S: Source + Drop, K: Sink + Drop, H: Wait + Drop, W: Wait>(
         return pass;
     }
     let (_, body) = frame.split_at(FRAME_HEAD);
-    let now = time_in(frame);
+    let now = time_of(frame);
     let pass = match body.is_empty() {
         true => tick(rt, sq, alloc, pace, pass, ring, now),
         false => datagram(rt, sq, alloc, pace, pass, ring, now, body),

@@ -53,7 +53,17 @@ pub(crate) fn datagram<S: Drop, K: Drop, H: Wait + Drop, W: Wait>(
     }
     if is_served_at(&setting.ports, seg.dst_port) {
         let seg = limited(&seg, setting.segment);
-        return segment(rt, sq, alloc, pace, pass, ring, now, &seg, text_of(&seg, body));
+        return segment(
+            rt,
+            sq,
+            alloc,
+            pace,
+            pass,
+            ring,
+            now,
+            &seg,
+            text_of(&seg, body),
+        );
     }
     let mut sent = Vec::new(alloc);
     match refuse(alloc, now, &seg, &mut sent) {

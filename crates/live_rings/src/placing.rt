@@ -2,6 +2,7 @@
 
 ghost use Rattle.std.specs.Prelude.{◌≡◌, ◌+◌, ◌≤◌, ◌∷◌, ◌++◌, [], IfSome, Some};
 ghost use Rattle.turn_gate.specs.Passes.{number};
+ghost use Rattle.std.specs.VecDeque.{deque_capacity, deque_len};
 ghost use Rattle.perimeter_core.specs.declared.marks.SynchAct.TheVariants as Done;
 ghost use Rattle.placed_parts.specs.Placing.{limits_of};
 ghost use Rattle.conn_migrate.specs.Moving.{Moved};
@@ -56,7 +57,7 @@ pub(crate) fn close<S: Drop, K: Drop, H: Wait + Drop, W: Wait>(
 ) -> Pass
     requires knows { KnowsChats sq.now pass ring.old.stays }
     requires open { IsOpen ring.old.stays place }
-    requires room { length ring.old.free.items < deque_capacity ring.old.free }
+    requires room { deque_len ring.old.free < deque_capacity ring.old.free }
     requires asks { 1 ≤ (life_of ring.old.stays).asks }
     requires settled { (chain_of ring.old.stays ≡ []) × (touched_of ring.old.stays ≡ []) }
     ensures knows { KnowsChats sq.now result ring.new.stays }

@@ -68,7 +68,7 @@ fn is_longer(mss: Option<u16>, most: u16) -> bool
 }
 
 /// The segment's text in its datagram.
-pub(crate) fn text_of<'a>(seg: &Seg, body: &'a [u8]) -> &'a [u8]
+pub fn text_of<'a>(seg: &Seg, body: &'a [u8]) -> &'a [u8]
     ensures { result.now ≡ text_in seg.now body.now }
 {
     let (_, rest) = body.split_at((seg.text_from as usize).min(body.len()));

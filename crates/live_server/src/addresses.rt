@@ -8,7 +8,7 @@ use segment_codec::Seg;
 use sq_base::Addr;
 
 /// Whether a segment is to the server's own address, from another host's (RFC 9293, 3.9.2.3).
-pub(crate) fn is_for_us(setting: &Setting, seg: &Seg) -> bool
+pub fn is_for_us(setting: &Setting, seg: &Seg) -> bool
     ensures { result ≡ is_for_us setting.now seg.now }
 {
     seg.dst.0 == setting.address.0

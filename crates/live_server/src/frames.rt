@@ -65,7 +65,8 @@ fn body_size(rest: &[u8]) -> usize
     BigEndian::read_u64(rest) as usize
 }
 
-fn time_of(rest: &[u8]) -> u64
+/// The time in microseconds of the frame that begins here.
+pub fn time_of(rest: &[u8]) -> u64
     requires { frame_head ≤ length rest.now }
     ensures { result ≡ time_of rest.now }
 {
@@ -130,7 +131,8 @@ fn push_frames(sent: &[Datagram], out: &mut Vec<u8>) -> Result<(), AllocError>
     Ok(())
 }
 
-fn push_frame(datagram: &Datagram, out: &mut Vec<u8>) -> Result<(), AllocError>
+/// A datagram goes as a frame behind the bytes that are there: its length, its time in microseconds, and its bytes.
+pub fn push_frame(datagram: &Datagram, out: &mut Vec<u8>) -> Result<(), AllocError>
     ensures { OnOk result (out.new.items ≡ out.old.items ++ frame_of datagram.now) }
 {
     let bytes = datagram.bytes.as_slice();

@@ -19,17 +19,18 @@ mod service;
 mod setting;
 mod table;
 
-pub use acting::Datagram;
+pub use acting::{Datagram, text_of};
+pub use addresses::is_for_us;
 pub use congestion::Congestion;
 pub use conn::{Conn, Judged};
 pub use counts::Counts;
-pub use frames::{FRAME_HEAD, is_broken, serve_frames};
+pub use frames::{FRAME_HEAD, is_broken, push_frame, serve_frames, time_of};
 pub use initial::Secret;
 pub use laws::{
     answers_go_to_its_ends, days_have_their_dates, only_these_leave_in_time, others_stay,
     own_connection_acts, own_entry_gives_way, pieces_join, the_table_is_bounded,
 };
-pub use ports::{NO_PORTS, PLAIN_PORTS, Ports, service_at};
-pub use server::{Server, number_for, without_text};
+pub use ports::{NO_PORTS, PLAIN_PORTS, Ports, is_served_at, service_at};
+pub use server::{Server, limited, number_for, refuse, without_text};
 pub use service::Service;
 pub use setting::Setting;

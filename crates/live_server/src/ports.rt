@@ -36,7 +36,7 @@ pub const NO_PORTS: Ports = Ports {
 };
 
 /// Whether a service has this port.
-pub(crate) fn is_served_at(ports: &Ports, port: u16) -> bool
+pub fn is_served_at(ports: &Ports, port: u16) -> bool
     ensures { result ≡ is_served_at ports.now port }
 {
     port != 0

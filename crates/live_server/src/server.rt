@@ -408,7 +408,7 @@ pub fn number_for(secret: &Secret, now: u64, seg: &Seg, tuple: &Tuple) -> u32
 }
 
 /// A segment whose peer takes no longer text than the path does.
-fn limited(seg: &Seg, most: u16) -> Seg
+pub fn limited(seg: &Seg, most: u16) -> Seg
     ensures { result ≡ limited most seg.now }
 {
     let mss = seg.options.mss.unwrap_or(DEFAULT_MSS).min(most);
@@ -432,7 +432,12 @@ pub fn without_text(seg: &Seg) -> Seg
 }
 
 /// A segment to a port that isn't served is answered by a reset.
-fn refuse(alloc: Global, now: u64, seg: &Seg, out: &mut Vec<Datagram>) -> Result<(), AllocError>
+pub fn refuse(
+    alloc: Global,
+    now: u64,
+    seg: &Seg,
+    out: &mut Vec<Datagram>,
+) -> Result<(), AllocError>
     ensures { OnOk result (out.new.items ≡ out.old.items ++ refused now seg.now) }
 {
     if let Some(reset) = refusal(alloc, now, seg) {

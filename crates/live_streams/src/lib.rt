@@ -5,4 +5,5 @@
 mod cutting;
 mod reading;
 
-pub use reading::{MANY, Ring, bring_stream};
+pub use cutting::frame_size;
+pub use reading::{MANY, Ring, bring_stream, kept};

@@ -215,8 +215,8 @@ fn bring_whole<'a, R: Renews, W: Wait>(
     (pass, brought)
 }
 
-// What is left, where no broken frame begins there.
-fn kept(alloc: Global, rest: &[u8]) -> Result<Vec<u8>, Fault>
+/// What is left, where no broken frame begins there.
+pub fn kept(alloc: Global, rest: &[u8]) -> Result<Vec<u8>, Fault>
     ensures same { IfOk result (λ v. v.items ≡ rest.now) }
     ensures frames { result ≡ Err Fault.Frames → (frame_head ≤ length rest.now) × (is_broken rest.now ≡ true) }
     ensures others { (result ≢ Err Fault.Writing) × (result ≢ Err Fault.Words) × (result ≢ Err Fault.Left) × (result ≢ Err Fault.Reading) × (result ≢ Err Fault.Life) }

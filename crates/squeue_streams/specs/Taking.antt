@@ -82,7 +82,7 @@ abbrev pub most_feeds : ℕ
 most_feeds = 2 ^ 32 - 1
 
 abbrev pub most_leaves : ℕ
-most_leaves = 2 ^ 26
+most_leaves = 2 ^ 52
 
 abbrev pub limits_of : {X H T S O : Type 0} → Streams X H T S O → Limits
 limits_of r = record { feeds = replicate (streams_of r) most_feeds; leaves = replicate (streams_of r) most_leaves; calls = calls_of r }

@@ -26,7 +26,7 @@ impl<T: Drop> Stay<T> {
     }
 
     /// How often it may still leave a squeue.
-    pub fn leaves(&self) -> u32
+    pub fn leaves(&self) -> u64
         ensures { result ≡ leaves_of self.now }
     {
         self.leaves

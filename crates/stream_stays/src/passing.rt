@@ -116,7 +116,7 @@ fn paired<T: Drop, S: Drop>(
     producer: Producer<T>,
     part: Stream<T, S>,
     stream: u32,
-    leaves: u32,
+    leaves: u64,
 ) -> (Vacant<T, S>, usize)
     requires { IsPair producer (input_of part) }
     ensures stream { (result.0.stream ≡ stream) × (result.0.leaves ≡ leaves) }

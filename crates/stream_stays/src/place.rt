@@ -26,7 +26,9 @@ pub struct Stays<T: Drop, S: Drop> {
 }
 
 impl<T: Drop, S: Drop> Stays<T, S> {
-    ghost use Rattle.std.specs.Prelude.{◌∷◌, ◌++◌, ◌+◌, ◌<◌, Some, [], true, false, length};
+    ghost use Rattle.std.specs.Prelude.{◌∷◌, ◌++◌, ◌+◌, ◌<◌, ◌≤◌, Some, [], true, false, length};
+    ghost use Rattle.stream_stays.specs.declared.stay.Stay.{Stay};
+    ghost use Rattle.stream_stays.specs.Staying.{pushed_of};
     ghost use Rattle.stream_stays.specs.declared.place.Place.TheVariants.{Open, Vacant as Vacant'};
     ghost use Rattle.stream_stays.specs.Places.{CanOpen, HasNoRoom, HasRoom, IsOpen, SameButPlaces, SameElsewhere, chain_of, life_of, place_at, places_of, touched_of};
 
@@ -58,6 +60,24 @@ impl<T: Drop, S: Drop> Stays<T, S> {
         ensures { result ≡ life_of self.now }
     {
         self.life
+    }
+
+    /// Whether nothing was pushed since the places were settled.
+    pub fn is_settled(&self) -> bool
+        ensures { (result ≡ true → touched_of self.now ≡ []) × (result ≡ false → 1 ≤ length (touched_of self.now)) }
+    {
+        self.touched.is_empty()
+    }
+
+    /// How many items were pushed at a place since its part came there, and 0 where none is there.
+    pub fn pushed(&self, c: u32) -> u32
+        requires { c < length (places_of self.now) }
+        ensures { (stay : Stay T) → place_at self.now c ≡ Some (Open stay) → result ≡ pushed_of stay }
+    {
+        match &self.places[c as usize] {
+            Place::Open(stay) => stay.pushed,
+            _ => 0,
+        }
     }
 
     /// How many items are pushed whose feeds are not entered.
