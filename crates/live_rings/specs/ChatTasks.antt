@@ -1,5 +1,6 @@
 -- What the threads of one squeue of chats need, and what they leave.
-use Rattle.std.specs.Prelude.{◌≡◌, ℕ, ◌+◌, ◌<◌, ◌≤◌, Option, Some, None, IfSome, List, [], ◌∷◌, ◌++◌, length}
+use Rattle.std.specs.Prelude.{◌≡◌, ℕ, ◌+◌, ◌<◌, ◌≤◌, Option, Some, None, IfSome, List, [], ◌∷◌, ◌++◌, length, slice_get}
+use Rattle.turn_gate.specs.History.{Begins}
 use Rattle.turn_gate.specs.Passes.{IsPassOf, number, seen}
 use Rattle.turn_gate.specs.declared.pass.Pass.{Pass}
 use Rattle.perimeter_core.specs.History.{Element, worker}
@@ -11,6 +12,7 @@ use Rattle.placed_parts.specs.Placing.{limits_of, origin_of}
 use Rattle.squeue_state.specs.Naming.{Named, setting_of}
 use Rattle.live_server.specs.Frames.{frames_in}
 use Rattle.live_server.specs.Serving.{ServerOf}
+use Rattle.live_chats.specs.Places.{first_of}
 use Rattle.live_chats.specs.declared.chats.Chats.{Chats}
 use Rattle.live_rings.specs.declared.chat_ring.ChatRing.{ChatRing}
 use Rattle.live_rings.specs.declared.ending.EndedStream.{EndedStream}
@@ -21,6 +23,7 @@ use Rattle.live_rings.specs.declared.rings.Task.{Task}
 use Rattle.live_rings.specs.declared.rings.Task.TheVariants as Task'
 use Rattle.live_rings.specs.EndedStreams.{AllEnded}
 use Rattle.live_rings.specs.Knowing.{KnowsChats}
+use Rattle.live_rings.specs.Placing.{IsNewRing}
 use Rattle.live_rings.specs.Lives.{AllLived, HaveLived, lives_in}
 use Rattle.live_rings.specs.Serving.{HasServedInput, IsRingOf, MayServe}
 
@@ -45,6 +48,16 @@ module _ {X P : Type 0} {G : Ghosts X P Chats} (s : Named (Places X P Chats G)) 
     HasDone Task'.Work Task'.Work p = Unit {0}
 
 module _ {S K : Type 0} where
+  -- there is a task for each pass, by number: of each ring, to which nothing came and whose places are those of its number, and then that of the
+  -- worker
+  abbrev pub IsNewTask : Chats → ℕ → ℕ → Task S K → Type 0
+  IsNewTask o rings k (Task'.Serve ring) = (k < rings) × ((server : ServerOf) × (e : Ends S K) × IsNewRing server rings k (first_of o) e ring)
+  IsNewTask o rings k Task'.Work = k ≡ rings
+
+  pub record AreNewTasks (o : Chats) (rings : ℕ) (tasks : List (Task S K)) : Type 0 where
+    pub count : length tasks ≡ rings + 1
+    pub each : (k : ℕ) (t : Task S K) → slice_get tasks k ≡ Some t → IsNewTask o rings k t
+
   -- what is left of the ring of each task that served
   abbrev pub WereServed : List (Task S K) → List (EndedStream S K) → Type 0
   WereServed [] ds = ds ≡ []
@@ -83,6 +96,15 @@ module _ {S K : Type 0} where
   HaveAllEnded (Group'.After streams squeue ∷ gs) ds qs = (more : List (EndedStream S K)) × (others : List Ending)
       × (ds ≡ streams.items ++ more) × (qs ≡ squeue ∷ others) × HaveAllEnded gs more others
   HaveAllEnded (Group'.Short ∷ gs) ds qs = ⊥
+
+-- Each task that served has served so by a pass that has seen a beginning of the squeue's history, which has ended; and this is left of it
+module _ {X P S K : Type 0} {G : Ghosts X P Chats} (rest : S → Option (List ℕ)) (reads : S → ℕ) (contents : K → Option (List ℕ)) (faults : K → ℕ) (s : Named (Places X P Chats G)) (e : Ending) where
+  abbrev pub WereRun : List (Task S K) → List (EndedStream S K) → Type 0
+  WereRun [] ds = ds ≡ []
+  WereRun (Task'.Serve ring ∷ ts) [] = ⊥
+  WereRun (Task'.Serve ring ∷ ts) (d ∷ ds) = (now : ChatRing S K) × (p : Pass Element) × HasRun s rest reads contents faults ring now p × Begins (seen p) e.history
+      × (d ≡ record { reader = now.reader; sink = now.sink; fault = now.fault }) × WereRun ts ds
+  WereRun (Task'.Work ∷ ts) ds = WereRun ts ds
 
 module _ {S K : Type 0} (rest : S → Option (List ℕ)) (reads : S → ℕ) (contents : K → Option (List ℕ)) (faults : K → ℕ) where
   -- the streams of a group have ended, or memory was missing for its squeue

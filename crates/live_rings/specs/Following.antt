@@ -2,6 +2,7 @@
 use Rattle.std.specs.Prelude.{◌≡◌, ◌≢◌, ℕ, ◌+◌, ◌^◌, ◌<◌, ◌≤◌, true, Option, None, Some, List, [], ◌∷◌, ◌++◌, All, Contains, length, map, replicate, slice_get}
 use Rattle.std.specs.Io.KnownBytes.{Appends}
 use Rattle.std.specs.List.{flat_map}
+use Rattle.std.specs.Map.{keys_of}
 use Rattle.std.specs.Option.{option_map, option_map_or}
 use Rattle.sq_base.specs.declared.kinds.Tuple.{Tuple}
 use Rattle.squeue_streams.specs.Taking.{state_of}
@@ -23,7 +24,7 @@ use Rattle.live_chats.specs.Doors.{DoorOf, as_server, seat_at}
 use Rattle.live_chats.specs.Facts.{IsDoorOf, fact_in}
 use Rattle.live_chats.specs.Hearing.{ChatOf, hearing_all, standing_of, told}
 use Rattle.live_chats.specs.Places.{first_of, setting_of}
-use Rattle.live_chats.specs.Seats.{SeatsShow}
+use Rattle.live_chats.specs.Seats.{SeatsShow, seats_after}
 use Rattle.live_chats.specs.Stale.{IsStale}
 use Rattle.live_chats.specs.Ways.{Shows}
 use Rattle.live_chats.specs.Weaving.{items_to}
@@ -150,10 +151,22 @@ module _ {S K : Type 0} (contents : K → Option (List ℕ)) where
     pub paid : HasPaid frames ring
 
 module _ {S K : Type 0} where
+  -- A ring whose places were settled, and whose door has still to learn what was heard: its chats are the server's connections, and what was
+  -- heard, answer by answer, leaves the seats in the server's order
+  pub record IsHeard (o : Chats) (sv : ServerOf) (heard : List Heard) (ring : ChatRing S K) : Type 0 where
+    pub table : IsTable sv
+    pub stale : IsStale (as_server ring.door) sv
+    pub chats : (t : Tuple) (c : ℕ) → place_in ring.door t ≡ Some c → IsOpen ring.stays c
+        × ((first : ChatOf) → BeganAs o c first → ((chat_at o ring.stays c first).ends ≡ t) × ((chat_at o ring.stays c first).conn ≡ conn_of t sv))
+    pub apart : (t u : Tuple) (c : ℕ) → place_in ring.door t ≡ Some c → place_in ring.door u ≡ Some c → tuple_eq t u ≡ true
+    pub nobody_else : (c : ℕ) → IsOpen ring.stays c → (t : Tuple) × (place_in ring.door t ≡ Some c)
+    pub order : (g : ServerSetting) × (steps : List Step) × (all : AllChats) × HaveHeard g steps all heard × (keys_of sv.conns ≡ seats_after g steps all (keys_of ring.door.seats))
+    pub rounds : (c : ℕ) → All (λ x. x.round < ring.round) (sent_in (place_at ring.stays c))
+
   -- A ring whose places were settled: what was due goes out, and each chat has told how it stands and, at this time, what the door asks
   pub record HasGathered (o : Chats) (now : ℕ) (old new : ChatRing S K) (heard : List Heard) (facts : List Fact) : Type 0 where
     pub out : (sv : ServerOf) (sent : List Datagram) → Follows o sv sent old → new.out.items ≡ old.out.items ++ flat_map frame_of sent
-    pub heard : (sv : ServerOf) (sent : List Datagram) (f : Follows o sv sent old) → HaveHeard f.was.setting f.steps (chats_of f.was) heard
+    pub heard : (sv : ServerOf) (sent : List Datagram) → Follows o sv sent old → IsHeard o sv heard new
     pub facts : (sv : ServerOf) (sent : List Datagram) → Follows o sv sent old → map (λ (h : Heard). fact_in now sv.setting.idle (conn_of h.ends sv)) heard ≡ facts
 
   -- Behind a settle nothing is due, and the door knows the server's seats: the ring is the server that it was, and what that sent is in its

@@ -54,6 +54,12 @@ strays_before zero (Strays v ∷ more) = 1 + strays_before zero more
 strays_before zero (Of t ∷ more) = 0
 strays_before (suc n) (d ∷ more) = strays_before n more
 
+-- no answer is due any more
+abbrev pub AllStrays : List Due → Type 0
+AllStrays [] = Unit {0}
+AllStrays (Strays v ∷ more) = AllStrays more
+AllStrays (Of t ∷ more) = ⊥
+
 -- The collector reads at place c the next answer that it hasn't read of this chat: it goes out, and how the connection stands then is noted.
 -- Where memory was missing in the chat, or for this, it says so
 pub record Reads (from to : Gathering) (c : ℕ) (chat : ChatOf) : Type 0 where

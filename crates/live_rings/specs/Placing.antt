@@ -32,6 +32,11 @@ pub record IsNewPair (producer : Producer Told Global AnyItems) (part : Stream T
   pub uncounted : count_of part ≡ 0
   pub nobody : ((state_of part).answers ≡ []) × ((state_of part).lost ≡ false) × ((state_of part).round ≡ 0)
 
+-- there are so many of each, and those of one number are a pair
+pub record AreNewPairs (count : ℕ) (producers : List (Producer Told Global AnyItems)) (parts : List (Stream Told ChatOf)) : Type 0 where
+  pub many : (length producers ≡ count) × (length parts ≡ count)
+  pub each : (c : ℕ) (producer : Producer Told Global AnyItems) (part : Stream Told ChatOf) → slice_get producers c ≡ Some producer → slice_get parts c ≡ Some part → IsNewPair producer part
+
 -- Nobody was ever at this place: the part of its number lies at it, and the other end of that part's ring. It may be left as often as its
 -- ring may ask
 pub record IsNewPlace (parts : List (Stream Told ChatOf)) (c : ℕ) (place : Place Told ChatOf) : Type 0 where

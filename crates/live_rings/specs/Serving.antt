@@ -1,5 +1,5 @@
 -- What a ring of chats makes of frames, and what of its whole input.
-use Rattle.std.specs.Prelude.{◌≡◌, ◌≢◌, ◌⊎◌, ℕ, ◌+◌, ◌*◌, ◌<◌, ◌≤◌, Option, None, Some, IfSome, List, [], ◌∷◌, ◌++◌, length, map, vec_capacity}
+use Rattle.std.specs.Prelude.{◌≡◌, ◌≢◌, ◌⊎◌, ℕ, ◌+◌, ◌*◌, ◌<◌, ◌≤◌, Option, None, Some, IfSome, List, [], ◌∷◌, ◌++◌, All, length, map, vec_capacity}
 use Rattle.std.specs.Io.KnownBytes.{Appends}
 use Rattle.std.specs.List.{flat_map}
 use Rattle.sq_base.specs.Ends.{Rose}
@@ -71,6 +71,11 @@ module _ {S K : Type 0} where
   -- each that has a seat was told this time, in the order of the table
   abbrev pub AllToldTime : ℕ → ChatRing S K → ChatRing S K → Type 0
   AllToldTime now old new = (touched_of new.stays ≡ touched_of old.stays ++ map (λ e. e.1.place) (seats_of old.door)) × (new.due.items ≡ old.due.items ++ map (λ e. Due'.Of e.0) (seats_of old.door))
+
+  -- the places of these are open, and each is another's
+  abbrev pub AreOpenApart : List Leaver → ChatRing S K → Type 0
+  AreOpenApart [] ring = Unit {0}
+  AreOpenApart (l ∷ ls) ring = IsOpen ring.stays l.place × All (λ other. other.place ≢ l.place) ls × AreOpenApart ls ring
 
   -- these have left, and their places are free: the ring is what the server is without them
   abbrev pub HaveLeft : Chats → List Leaver → ChatRing S K → ChatRing S K → Type 0

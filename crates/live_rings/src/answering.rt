@@ -1,15 +1,16 @@
 //! How a ring settles: it comes to an Ask of its own, reads what its chats answered, in the order in which they were told, and learns
 //! from that who is over.
 
-ghost use Rattle.std.specs.Prelude.{◌≡◌, ◌+◌, ◌++◌, ◌≤◌, ◌⊎◌, ◌^◌, ℕ, [], None, Some, false, replicate, length, OnOk};
+ghost use Rattle.std.specs.Prelude.{◌≡◌, ◌+◌, ◌++◌, ◌≤◌, ◌⊎◌, ◌^◌, ◌*◌, ◌≢◌, ℕ, [], None, Some, All, false, drop, replicate, length, slice_get, slice_index_or, slice_set, IfOk, OnOk};
 ghost use Rattle.std.specs.List.{flat_map};
 ghost use Rattle.live_server.specs.Frames.{frame_of};
+ghost use Rattle.live_server.specs.Serving.{ServerOf};
 ghost use Rattle.turn_gate.specs.Passes.{number};
 ghost use Rattle.placed_parts.specs.Placing.{origin_of};
 ghost use Rattle.stream_stays.specs.Places.{chain_of, life_of, touched_of};
 ghost use Rattle.stream_stays.specs.Settling.{SamePlaces};
-ghost use Rattle.live_rings.specs.Following.{HasGathered, Settles};
-ghost use Rattle.live_rings.specs.Knowing.{KnowsChats, Reads, SameButGathered, SettlesWithin};
+ghost use Rattle.live_rings.specs.Following.{HasGathered, IsHeard, IsSettled, IsTidy, Settles};
+ghost use Rattle.live_rings.specs.Knowing.{AllStrays, KnowsChats, Reads, SameButGathered, SettlesWithin, strays_before, strays_behind};
 
 use crate::chat_ring::{ChatRing, Conversations, Due};
 use crate::placing::{close, renew};
@@ -77,7 +78,11 @@ impl Gathering {
     }
 
     // The next answer of the chat at a place, which counts as read.
-    fn next_answer<'a>(&mut self, c: u32, chat: &'a Chat) -> Result<&'a Answer, AllocError> {
+    fn next_answer<'a>(&mut self, c: u32, chat: &'a Chat) -> Result<&'a Answer, AllocError>
+        ensures next { IfOk result (λ a. (cursor : ℕ) × (slice_get self.old.cursors.items c ≡ Some cursor) × (slice_get chat.now.answers cursor ≡ Some a.now)
+            × (self.new.cursors.items ≡ slice_set self.old.cursors.items c (cursor + 1))) }
+        ensures same { self.new ≡ record self.old { cursors = self.new.cursors } }
+    {
         let cursor = self.cursors.get_mut(c as usize).ok_or(AllocError)?;
         let answer = chat.answers().get(*cursor as usize).ok_or(AllocError)?;
         *cursor += 1;
@@ -85,7 +90,12 @@ impl Gathering {
     }
 
     // What goes out before the next answer does; the answer is of these ends.
-    fn pass_strays(&mut self) -> Result<Tuple, AllocError> {
+    fn pass_strays(&mut self) -> Result<Tuple, AllocError>
+        ensures next { IfOk result (λ ends. slice_get self.old.due.items (self.old.at + strays_before self.old.at self.old.due.items) ≡ Some (Due.Of ends)) }
+        ensures at { OnOk result (self.new.at ≡ self.old.at + strays_before self.old.at self.old.due.items + 1) }
+        ensures out { OnOk result (self.new.out.items ≡ self.old.out.items ++ strays_behind self.old.at self.old.due.items) }
+        ensures same { self.new ≡ record self.old { at = self.new.at; out = self.new.out } }
+    {
         'due: while let Some(due) = self.due.get(self.at) {
             self.at += 1;
             match due {
@@ -97,7 +107,11 @@ impl Gathering {
     }
 
     // What goes out behind the last answer.
-    fn pass_rest(&mut self) -> Result<(), AllocError> {
+    fn pass_rest(&mut self) -> Result<(), AllocError>
+        requires { self.old.at ≤ length self.old.due.items }
+        ensures out { OnOk result (AllStrays (drop self.old.at self.old.due.items) → self.new.out.items ≡ self.old.out.items ++ strays_behind self.old.at self.old.due.items) }
+        ensures same { self.new ≡ record self.old { out = self.new.out } }
+    {
         for due in &self.due[self.at..] {
             if let Due::Strays(sent) = due {
                 push_all(sent, &mut self.out)?;
@@ -107,7 +121,11 @@ impl Gathering {
     }
 
     // So many answers of the chats are read no more: the next settle begins anew.
-    fn forget(&mut self) {
+    fn forget(&mut self)
+        ensures zero { All (λ h. slice_index_or self.new.cursors.items h.place 0 ≡ 0) self.old.heard.items }
+        ensures others { (c : ℕ) → All (λ h. h.place ≢ c) self.old.heard.items → slice_get self.new.cursors.items c ≡ slice_get self.old.cursors.items c }
+        ensures same { self.new ≡ record self.old { cursors = self.new.cursors } }
+    {
         for heard in &self.heard {
             if let Some(cursor) = self.cursors.get_mut(heard.place as usize) {
                 *cursor = 0;
@@ -162,7 +180,12 @@ pub(crate) fn gather<S: Drop, K: Drop, H: Wait + Drop, W: Wait>(
 }
 
 // What a settle begins with: it is lent what is due, the bytes that wait, and the cursors.
-fn begun<S: Drop, K: Drop>(alloc: Global, ring: &mut ChatRing<S, K>, now: u64) -> Gathering {
+fn begun<S: Drop, K: Drop>(alloc: Global, ring: &mut ChatRing<S, K>, now: u64) -> Gathering
+    ensures lent { (result.due ≡ ring.old.due) × (result.cursors ≡ ring.old.cursors) × (result.out ≡ ring.old.out) }
+    ensures new { (result.at ≡ 0) × (result.heard.items ≡ []) × (result.facts.items ≡ []) × (result.lost ≡ false) }
+    ensures time { (result.now ≡ now) × (result.idle ≡ ring.old.door.setting.idle) }
+    ensures same { ring.new ≡ record ring.old { due = ring.new.due; cursors = ring.new.cursors; out = ring.new.out } }
+{
     Gathering {
         due: replace(&mut ring.due, Vec::new(alloc)),
         at: 0,
@@ -180,7 +203,15 @@ fn begun<S: Drop, K: Drop>(alloc: Global, ring: &mut ChatRing<S, K>, now: u64) -
 fn take_in<S: Drop, K: Drop>(
     ring: &mut ChatRing<S, K>,
     gathering: Gathering,
-) -> (Vec<Heard>, Vec<Fact>) {
+) -> (Vec<Heard>, Vec<Fact>)
+    requires { gathering.at ≤ length gathering.due.items }
+    ensures heard { (result.0 ≡ gathering.heard) × (result.1 ≡ gathering.facts) }
+    ensures due { ring.new.due.items ≡ [] }
+    ensures out { ring.new.fault ≡ None → (gathering.lost ≡ false) × (AllStrays (drop gathering.at gathering.due.items) → ring.new.out.items ≡ gathering.out.items ++ strays_behind gathering.at gathering.due.items) }
+    ensures zero { All (λ h. slice_index_or ring.new.cursors.items h.place 0 ≡ 0) gathering.heard.items }
+    ensures same { ring.new ≡ record ring.old { fault = ring.new.fault; due = ring.new.due; cursors = ring.new.cursors; out = ring.new.out } }
+    ensures why { (why : Fault) → ring.new.fault ≡ Some why → (ring.old.fault ≡ Some why) ⊎ (why ≡ Fault.NoMemory) }
+{
     let mut gathering = gathering;
     gathering.forget();
     let short = gathering.pass_rest().is_err();
@@ -235,7 +266,18 @@ fn learn<S: Drop, K: Drop, H: Wait + Drop, W: Wait>(
     pass: Pass,
     ring: &mut ChatRing<S, K>,
     heard: &[Heard],
-) -> Pass {
+) -> Pass
+    requires knows { KnowsChats sq.now pass ring.old.stays }
+    requires settled { (touched_of ring.old.stays ≡ []) × (chain_of ring.old.stays ≡ []) }
+    requires asks { 3 * length heard.now ≤ (life_of ring.old.stays).asks }
+    requires well { ring.old.fault ≡ None }
+    ensures knows { KnowsChats sq.now result ring.new.stays }
+    ensures number { number result ≡ number pass }
+    ensures learned { ring.new.fault ≡ None → (sv : ServerOf) → IsHeard (origin_of sq.now.given.first) sv heard.now ring.old → IsSettled (origin_of sq.now.given.first) sv ring.new }
+    ensures tidy { ring.new.fault ≡ None → IsTidy ring.old → IsTidy ring.new }
+    ensures same { ring.new ≡ record ring.old { fault = ring.new.fault; door = ring.new.door; stays = ring.new.stays; free = ring.new.free } }
+    ensures why { (why : Fault) → ring.new.fault ≡ Some why → why ≡ Fault.NoMemory }
+{
     let mut pass = pass;
     for one in heard {
         match ring.door.learns(&one.ends, one.standing) {

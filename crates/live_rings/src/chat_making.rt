@@ -1,6 +1,6 @@
 //! How the rings of chats, their places and a squeue of them are made.
 
-ghost use Rattle.std.specs.Prelude.{◌≡◌, ◌≢◌, ◌*◌, ◌%◌, ◌<◌, ◌≤◌, ◌^◌, ℕ, [], Some, IfOk, length, replicate, slice_get};
+ghost use Rattle.std.specs.Prelude.{◌≡◌, ◌≢◌, ◌*◌, ◌%◌, ◌<◌, ◌≤◌, ◌^◌, ℕ, List, [], Some, IfOk, length, replicate, slice_get};
 ghost use Rattle.turn_gate.specs.Passes.{AreFresh};
 ghost use Rattle.histories.specs.Elements.{number_of};
 ghost use Rattle.placed_parts.specs.Placing.{Stands, limits_of, origin_of, size_of};
@@ -9,7 +9,7 @@ ghost use Rattle.squeue_state.specs.Behind.{ever};
 ghost use Rattle.squeue_streams.specs.Taking.{most_feeds, most_leaves};
 ghost use Rattle.live_chats.specs.Places.{first_of};
 ghost use Rattle.live_rings.specs.Making.{IsInRange, server_of};
-ghost use Rattle.live_rings.specs.Placing.{AreNewPlaces, AreNewRings, AreOwnPlaces, ServesChats, lives_of_chats};
+ghost use Rattle.live_rings.specs.Placing.{AreNewPairs, AreNewPlaces, AreNewRings, AreOwnPlaces, IsNewRing, ServesChats, lives_of_chats};
 
 use crate::chat_ring::{ChatRing, Conversations};
 use crate::making::Ends;
@@ -90,7 +90,9 @@ pub(crate) fn new_rings<S: Drop, K: Drop>(
 fn new_pairs(
     alloc: Global,
     count: u32,
-) -> Result<(Vec<Producer<Told>>, Vec<Stream<Told, Chat>>), AllocError> {
+) -> Result<(Vec<Producer<Told>>, Vec<Stream<Told, Chat>>), AllocError>
+    ensures { IfOk result (λ r. AreNewPairs count r.0.items r.1.items) }
+{
     let mut producers = Vec::with_capacity(alloc, count as usize)?;
     let mut parts = Vec::with_capacity(alloc, count as usize)?;
     for _c in 0..count {
@@ -106,7 +108,10 @@ fn vacant_places(
     alloc: Global,
     producers: Vec<Producer<Told>>,
     parts: Vec<Stream<Told, Chat>>,
-) -> Result<Vec<Place<Told, Chat>>, AllocError> {
+) -> Result<Vec<Place<Told, Chat>>, AllocError>
+    requires { AreNewPairs (length parts.items) producers.items parts.items }
+    ensures { IfOk result (λ v. AreNewPlaces parts.items v.items) }
+{
     let mut producers = producers;
     let mut parts = parts;
     let mut places = Vec::with_capacity(alloc, parts.len())?;
@@ -151,6 +156,10 @@ fn take_for(
     c: usize,
 ) -> Place<Told, Chat>
     requires { (1 ≤ rings) × (c < length places.old.items) }
+    ensures own { c % rings ≡ ring → slice_get places.old.items c ≡ Some result }
+    ensures out { c % rings ≢ ring → (result ≡ Place.Out) × (places.new.items ≡ places.old.items) }
+    ensures others { (d : ℕ) → d ≢ c → slice_get places.new.items d ≡ slice_get places.old.items d }
+    ensures count { length places.new.items ≡ length places.old.items }
 {
     if c % rings as usize == ring as usize {
         replace(&mut places[c], Place::Out)
@@ -167,7 +176,11 @@ fn new_ring<S: Drop, K: Drop>(
     number: u32,
     end: Ends<S, K>,
     places: Vec<Place<Told, Chat>>,
-) -> Result<ChatRing<S, K>, AllocError> {
+) -> Result<ChatRing<S, K>, AllocError>
+    requires { length places.items ≡ rings * setup.now.setting.places }
+    ensures { IfOk result (λ r. (parts : List (Stream Told Chat)) (all : List (Place Told Chat)) → AreNewPlaces parts all → AreOwnPlaces rings number all places.items
+        → IsNewRing (server_of setup.now) rings number parts end r) }
+{
     let count = places.len();
     let own = setup.setting.places;
     let at_most = own.saturating_mul(2).saturating_add(16);

@@ -8,8 +8,11 @@ ghost use Rattle.live_rings.specs.Making.{IsInRange, server_of};
 ghost use Rattle.live_rings.specs.EndedStreams.{AllEnded};
 ghost use Rattle.live_rings.specs.Lives.{AllLived};
 ghost use Rattle.live_rings.specs.declared.rings.Group.{Group};
-ghost use Rattle.live_rings.specs.ChatTasks.{HasDone, HaveAllEnded, HaveEndedSo, IsEndedOf, MayRun, MayServeGroup, WereServed, all_in, ends_in, many_in};
-ghost use Rattle.placed_parts.specs.Placing.{limits_of};
+ghost use Rattle.live_rings.specs.ChatTasks.{AreNewTasks, HasDone, HaveAllEnded, HaveEndedSo, IsEndedOf, MayRun, MayServeGroup, WereRun, WereServed, all_in, ends_in, many_in};
+ghost use Rattle.turn_gate.specs.Passes.{AreFresh};
+ghost use Rattle.histories.specs.Elements.{number_of};
+ghost use Rattle.placed_parts.specs.Placing.{limits_of, origin_of, size_of};
+ghost use Rattle.live_rings.specs.Placing.{ServesChats};
 
 use crate::chat_making::{new_chat_squeue, new_rings, no_parts, places_of};
 use crate::chat_ring::{ChatRing, Conversations};
@@ -93,7 +96,13 @@ fn serve<'a, S: Source + Drop + Send, K: Sink + Drop + Send, W: Threads + Wait +
     squeue: Squeue<Conversations<&'a W>>,
     passes: Vec<Pass>,
     left: Vec<EndedStream<S, K>>,
-) -> (Vec<EndedStream<S, K>>, Ended) {
+) -> (Vec<EndedStream<S, K>>, Ended)
+    requires squeue { ServesChats limits_of squeue.given (length squeue.given.quotas) (size_of squeue.given.first) }
+    requires passes { (length passes.items ≡ length squeue.given.quotas + 1) × AreFresh number_of squeue.gate 0 passes.items }
+    requires tasks { AreNewTasks (origin_of squeue.given.first) (length squeue.given.quotas) (tasks_in room.jobs.items) }
+    requires room { (left.items ≡ []) × (length squeue.given.quotas ≤ vec_capacity left) }
+    ensures { WereRun S.rest S.read_faults K.contents K.write_faults squeue.entry result.1 (tasks_in room.jobs.items) result.0.items }
+{
     let (alone, mut jobs) = Alone::lend(room, squeue, passes);
     let sq = alone.squeue();
     do_tasks(

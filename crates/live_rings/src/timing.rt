@@ -1,12 +1,14 @@
 //! What a ring does when the time comes to all: each chat is told, and who is to leave does.
 
-ghost use Rattle.std.specs.Prelude.{◌≡◌, ◌≤◌, None};
+ghost use Rattle.std.specs.Prelude.{◌≡◌, ◌≢◌, ◌≤◌, ◌*◌, ◌++◌, ℕ, [], None, All, length, map};
+ghost use Rattle.stream_stays.specs.Places.{chain_of, life_of, place_at, touched_of};
+ghost use Rattle.stream_stays.specs.Settling.{sent_in};
 ghost use Rattle.turn_gate.specs.Passes.{number};
 ghost use Rattle.placed_parts.specs.Placing.{origin_of};
 ghost use Rattle.tcb_machine.specs.Limits.{last_time};
 ghost use Rattle.live_server.specs.Serving.{on_time};
-ghost use Rattle.live_rings.specs.Knowing.{KnowsChats};
-ghost use Rattle.live_rings.specs.Serving.{AllToldTime, Comes, Faults, HaveLeft, KeepsEnds, MayComeTo};
+ghost use Rattle.live_rings.specs.Knowing.{KnowsChats, SameButPlaced};
+ghost use Rattle.live_rings.specs.Serving.{AllToldTime, AreOpenApart, Comes, Faults, HaveLeft, KeepsEnds, MayComeTo};
 
 use crate::answering::{Heard, gather, settle_all};
 use crate::chat_ring::{ChatRing, Conversations};
@@ -90,7 +92,15 @@ fn renew_all<S: Drop, K: Drop, H: Wait + Drop, W: Wait>(
     pass: Pass,
     ring: &mut ChatRing<S, K>,
     heard: &[Heard],
-) -> Pass {
+) -> Pass
+    requires knows { KnowsChats sq.now pass ring.old.stays }
+    requires settled { (touched_of ring.old.stays ≡ []) × (chain_of ring.old.stays ≡ []) }
+    requires asks { 2 * length heard.now ≤ (life_of ring.old.stays).asks }
+    ensures knows { KnowsChats sq.now result ring.new.stays }
+    ensures number { number result ≡ number pass }
+    ensures sent { (c : ℕ) → sent_in (place_at ring.new.stays c) ≡ sent_in (place_at ring.old.stays c) }
+    ensures same { ring.new ≡ record ring.old { stays = ring.new.stays } }
+{
     let mut pass = pass;
     for one in heard {
         pass = renew(rt, sq, alloc, pass, ring, one.place);
@@ -106,7 +116,17 @@ fn close_these<S: Drop, K: Drop, H: Wait + Drop, W: Wait>(
     pass: Pass,
     ring: &mut ChatRing<S, K>,
     these: &[Leaver],
-) -> Pass {
+) -> Pass
+    requires knows { KnowsChats sq.now pass ring.old.stays }
+    requires settled { (touched_of ring.old.stays ≡ []) × (chain_of ring.old.stays ≡ []) }
+    requires asks { length these.now ≤ (life_of ring.old.stays).asks }
+    requires open { AreOpenApart these.now ring.old }
+    ensures knows { KnowsChats sq.now result ring.new.stays }
+    ensures number { number result ≡ number pass }
+    ensures free { ring.new.free.items ≡ ring.old.free.items ++ map (λ l. l.place) these.now }
+    ensures others { (c : ℕ) → All (λ l. l.place ≢ c) these.now → place_at ring.new.stays c ≡ place_at ring.old.stays c }
+    ensures same { SameButPlaced ring.old ring.new }
+{
     let mut pass = pass;
     for one in these {
         pass = close(rt, sq, alloc, pass, ring, one.place);

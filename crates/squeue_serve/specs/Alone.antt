@@ -18,7 +18,7 @@ pass_in (o ∷ []) = o
 pass_in (o ∷ n ∷ os) = None
 
 -- the squeue, of which there is one
-abbrev pub IsSqueueOf : {R : Type 0} → Alone R → Named R → Type 0
+abbrev pub IsSqueueOf : {R P O : Type 0} → Alone R P O → Named R → Type 0
 IsSqueueOf a s = a.squeues.all.items ≡ s ∷ []
 
 module _ {F T : Type 0} (g : Shared F (Pass Element × (MutBor T × Unit {0})) (Pass Element × (MutBor T × Unit {0}))) (f : F) where
