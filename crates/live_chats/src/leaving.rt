@@ -1,6 +1,16 @@
 //! What a door does behind a settle, when it knows who is over: who leaves, and where a segment goes then.
 
-ghost use Rattle.std.specs.Prelude.{◌≡◌, ◌+◌, ◌<◌, ◌≤◌, length};
+ghost use Rattle.std.specs.Prelude.{◌≡◌, ◌-◌, ◌/◌, ◌<◌, ◌≤◌, ◌∷◌, ◌&&◌, ◌||◌, [], Some, IfOk, IfSome, filter, length, nat_le, not, slice_get};
+ghost use Rattle.std.specs.Option.{option_map_or};
+ghost use Rattle.sq_base.specs.declared.kinds.Tuple.{Tuple};
+ghost use Rattle.live_server.specs.Isolation.{IsTable};
+ghost use Rattle.live_server.specs.Serving.{ServerOf, yields};
+ghost use Rattle.live_chats.specs.Chats.{leaves, tells};
+ghost use Rattle.live_chats.specs.Doors.{as_server};
+ghost use Rattle.live_chats.specs.Facts.{IsDoorOf};
+ghost use Rattle.live_chats.specs.Settled.{Heeds, Learns, MakesPlace, Ticks, opens_one, place_in};
+ghost use Rattle.live_chats.specs.Ways.{way_yields};
+ghost use Rattle.live_chats.specs.declared.door.Seat.{Seat};
 ghost use Rattle.tcb_machine.specs.Limits.{last_time};
 
 use crate::answer::Standing;
@@ -28,18 +38,23 @@ pub struct Leavers {
 
 impl Door {
     /// What its server was started with.
-    pub fn setting(&self) -> &Setting {
+    pub fn setting(&self) -> &Setting
+        ensures { result.now ≡ self.now.setting }
+    {
         &self.setting
     }
 
     /// How many seats there are behind a settle.
-    pub fn count(&self) -> usize {
+    pub fn count(&self) -> usize
+        ensures { result ≡ length self.now.seats }
+    {
         self.seats.len()
     }
 
     /// The two ends of a seat behind a settle, and the place of their chat.
     pub fn at(&self, n: usize) -> (Tuple, u32)
         requires { n < length self.now.seats }
+        ensures { (seat : Seat) × (slice_get self.now.seats n ≡ Some (result.0, seat)) × (result.1 ≡ seat.place) }
     {
         match self.seats.get_index(n) {
             Some((ends, seat)) => (*ends, seat.place),
@@ -48,12 +63,16 @@ impl Door {
     }
 
     /// The place of the chat of two ends, where they have a seat.
-    pub fn place_of(&self, ends: &Tuple) -> Option<u32> {
+    pub fn place_of(&self, ends: &Tuple) -> Option<u32>
+        ensures { result ≡ place_in self.now ends.now }
+    {
         Some(self.seat_of(ends)?.place)
     }
 
     /// At a settle: how a connection stands behind an item. The answer is the place of its chat, where it is over and had a seat.
-    pub fn learns(&mut self, ends: &Tuple, standing: Standing) -> Result<Option<u32>, AllocError> {
+    pub fn learns(&mut self, ends: &Tuple, standing: Standing) -> Result<Option<u32>, AllocError>
+        ensures { IfOk result (λ left. Learns ends.now standing self.old left self.new) }
+    {
         let Some(seat) = self.seat_of(ends) else {
             return Ok(None);
         };
@@ -77,6 +96,7 @@ impl Door {
         text: &[u8],
     ) -> Result<Vec<Leaver>, AllocError>
         requires { now ≤ last_time }
+        ensures { IfOk result (λ leavers. MakesPlace now seg.now text.now self.old leavers.items self.new) }
     {
         let mut leavers = Vec::new(alloc);
         if !self.opens(alloc, now, seg, text)? {
@@ -96,6 +116,7 @@ impl Door {
     /// Whether a segment opens a connection, where a place is free.
     fn opens(&self, alloc: Global, now: u64, seg: &Seg, text: &[u8]) -> Result<bool, AllocError>
         requires { now ≤ last_time }
+        ensures { IfOk result (λ opens. opens ≡ opens_one now seg.now text.now (as_server self.now)) }
     {
         if self.seat_of(&tuple_of(seg)).is_some() {
             return Ok(false);
@@ -108,7 +129,11 @@ impl Door {
     }
 
     /// The connection of two ends leaves its seat, where it is half open and was opened with this number.
-    fn yields(&mut self, ends: &Tuple, number: u64) -> Option<Leaver> {
+    fn yields(&mut self, ends: &Tuple, number: u64) -> Option<Leaver>
+        ensures door { (sv : ServerOf) → IsTable sv → IsDoorOf (as_server self.old) sv → IsDoorOf (as_server self.new) (yields (ends.now, number) sv) }
+        ensures way { (sv : ServerOf) → IsTable sv → IsDoorOf (as_server self.old) sv → way_yields (ends.now, number) sv ≡ option_map_or (λ l. tells l.ends leaves ∷ []) result [] }
+        ensures place { IfSome result (λ l. place_in self.old l.ends ≡ Some l.place) }
+    {
         let seat = self.seat_of(ends)?;
         if !seat.half_open || seat.number != number {
             return None;
@@ -130,6 +155,7 @@ impl Door {
         place: u32,
     ) -> Result<Way, AllocError>
         requires { now ≤ last_time }
+        ensures { IfOk result (λ way. Heeds now seg.now text.now place self.old way self.new) }
     {
         let way = match self.fits(text) {
             true => self.goes(alloc, now, seg, text, place)?,
@@ -164,7 +190,10 @@ impl Door {
 
     /// The time has come to all, and this is what each chat says of itself, in the order of the table: who is over or is to leave has no
     /// seat then.
-    pub fn tick(&mut self, alloc: Global, facts: &[Fact]) -> Result<Leavers, AllocError> {
+    pub fn tick(&mut self, alloc: Global, facts: &[Fact]) -> Result<Leavers, AllocError>
+        requires { length facts.now ≡ length self.old.seats }
+        ensures { IfOk result (λ l. Ticks facts.now self.old l.over.items l.leave.items self.new) }
+    {
         let taken = alive(facts);
         let mut over = Vec::new(alloc);
         let mut leave = Vec::new(alloc);
@@ -188,7 +217,10 @@ impl Door {
     }
 
     /// The seat at a place of the table, as its chat stands.
-    fn seated(&self, n: usize, fact: &Fact) -> Seat {
+    fn seated(&self, n: usize, fact: &Fact) -> Seat
+        requires { n < length self.now.seats }
+        ensures { (t : Tuple) × (seat : Seat) × (slice_get self.now.seats n ≡ Some (t, seat)) × (result ≡ record seat { half_open = fact.now.half_open }) }
+    {
         match self.seats.get_index(n) {
             Some((_, seat)) => Seat {
                 half_open: fact.half_open,
@@ -200,7 +232,9 @@ impl Door {
 }
 
 /// How many aren't over.
-fn alive(facts: &[Fact]) -> usize {
+fn alive(facts: &[Fact]) -> usize
+    ensures { result ≡ length (filter (λ f. not f.over) facts.now) }
+{
     let mut count = 0;
     for fact in facts {
         if !fact.over {
@@ -211,7 +245,9 @@ fn alive(facts: &[Fact]) -> usize {
 }
 
 /// Who is to leave, where so many places are taken.
-fn leaves_by(setting: &Setting, taken: usize, fact: &Fact) -> bool {
+fn leaves_by(setting: &Setting, taken: usize, fact: &Fact) -> bool
+    ensures { result ≡ (fact.now.given_up || ((nat_le (setting.now.places - setting.now.places / 4) taken && fact.now.closed) || (nat_le setting.now.places taken && fact.now.idle))) }
+{
     let places = setting.places;
     fact.given_up || (taken >= places - places / 4 && fact.closed) || (taken >= places && fact.idle)
 }

@@ -20,11 +20,12 @@ use Rattle.live_server.specs.Table.{tuple_eq}
 use Rattle.live_server.specs.declared.acting.Datagram.{Datagram}
 use Rattle.live_server.specs.declared.setting.Setting.{Setting as ServerSetting}
 use Rattle.live_chats.specs.Chats.{Chats as AllChats, Step, chats_of, said, sends, tells, with_chat}
-use Rattle.live_chats.specs.Doors.{DoorOf, as_server, seat_at}
+use Rattle.live_chats.specs.Doors.{DoorOf, as_server}
 use Rattle.live_chats.specs.Facts.{IsDoorOf, fact_in}
 use Rattle.live_chats.specs.Hearing.{ChatOf, hearing_all, standing_of, told}
 use Rattle.live_chats.specs.Places.{first_of, setting_of}
 use Rattle.live_chats.specs.Seats.{SeatsShow, seats_after}
+use Rattle.live_chats.specs.Settled.{place_in}
 use Rattle.live_chats.specs.Stale.{IsStale}
 use Rattle.live_chats.specs.Ways.{Shows}
 use Rattle.live_chats.specs.Weaving.{items_to}
@@ -49,10 +50,6 @@ BeganAs o c first = option_map (λ stream. state_of stream) (slice_get (first_of
 -- who has a seat
 abbrev pub seats_of : DoorOf → List (Tuple × Seat)
 seats_of d = d.seats ++ d.come
-
--- where the chat of two ends is
-abbrev pub place_in : DoorOf → Tuple → Option ℕ
-place_in d t = option_map (λ (s : Seat). s.place) (seat_at t d)
 
 -- The door knows the server's seats in their order, each at a place of its own; there its chat is the connection that the server has, and
 -- at no other place is a part

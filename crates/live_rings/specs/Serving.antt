@@ -10,6 +10,7 @@ use Rattle.live_server.specs.Frames.{FrameOf, frame_of, frames_in, rest_of, serv
 use Rattle.live_server.specs.Serving.{Outcome, ServerOf}
 use Rattle.live_server.specs.declared.acting.Datagram.{Datagram}
 use Rattle.live_chats.specs.Chats.{chats_of, leaves, runs, tells}
+use Rattle.live_chats.specs.Settled.{place_in}
 use Rattle.live_chats.specs.declared.chats.Chats.{Chats}
 use Rattle.live_chats.specs.declared.leaving.Leaver.{Leaver}
 use Rattle.live_chats.specs.declared.door.Way.{Way}
@@ -21,7 +22,7 @@ use Rattle.live_tables.specs.declared.fault.Fault.{Fault}
 use Rattle.live_tables.specs.declared.fault.Fault.TheVariants as Fault'
 use Rattle.live_rings.specs.declared.chat_ring.ChatRing.{ChatRing}
 use Rattle.live_rings.specs.declared.chat_ring.Due.TheVariants as Due'
-use Rattle.live_rings.specs.Following.{HasServed, Holds, IsSettled, IsTidy, place_in, seats_of}
+use Rattle.live_rings.specs.Following.{HasServed, Holds, IsSettled, IsTidy, seats_of}
 use Rattle.live_rings.specs.Work.{all_work, kept_back, most_work}
 
 module _ {S K : Type 0} where
