@@ -1,5 +1,6 @@
 //! Laws of the door and the chats: each is a function that does nothing, whose contract is the law.
 
+ghost use Rattle.live_chats.specs.Doors.{MeetsServe};
 ghost use Rattle.live_chats.specs.Facts.{DoorDecides, OrderIsSeen, SettledDoorsAreStale};
 ghost use Rattle.live_chats.specs.Places.{CollectedStand};
 ghost use Rattle.live_chats.specs.Reads.{ReadsServe};
@@ -69,4 +70,9 @@ pub fn the_door_times()
 /// A chat's stream stands for the same items when its answers were taken out.
 pub fn collected_chats_stand()
     ensures { CollectedStand }
+{}
+
+/// Where a door is sure of a segment, its steps make of each connection and send what the server does, and it stays a door of that server.
+pub fn doors_serve()
+    ensures { MeetsServe }
 {}

@@ -8,6 +8,7 @@
 mod answer;
 mod chat;
 mod chats;
+mod door;
 mod item;
 pub mod laws;
 mod said;
@@ -15,4 +16,5 @@ mod said;
 pub use answer::{Answer, Standing};
 pub use chat::Chat;
 pub use chats::Chats;
+pub use door::{Door, Seat, Way};
 pub use item::Item;
