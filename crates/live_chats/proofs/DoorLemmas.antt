@@ -31,19 +31,19 @@ module _ {X : Type 0} (t : Tuple) (b : List (Tuple × X)) where
 
   pub found_first : (a : List (Tuple × X)) (x : X) → found a ≡ Some x → found (a ++ b) ≡ Some x
   found_first [] x e = absurd (true≢false (sym (ap is_some e)))
-  found_first (e ∷ es) x is = by (tuple_eq t e.0) refl is
+  found_first (e ∷ es) x is = by (tuple_eq t e.0) (found_first es x) is
     where
-      by : (v : Bool) → tuple_eq t e.0 ≡ v → cond v (Some e.1) (found es) ≡ Some x → found ((e ∷ es) ++ b) ≡ Some x
-      by true at is = ap (λ (v : Bool). cond v (Some e.1) (found (es ++ b))) at ∙ is
-      by false at is = ap (λ (v : Bool). cond v (Some e.1) (found (es ++ b))) at ∙ found_first es x is
+      by : (v : Bool) → (found es ≡ Some x → found (es ++ b) ≡ Some x) → cond v (Some e.1) (found es) ≡ Some x → cond v (Some e.1) (found (es ++ b)) ≡ Some x
+      by true on is = is
+      by false on is = on is
 
   pub found_behind : (a : List (Tuple × X)) → found a ≡ None → found (a ++ b) ≡ found b
   found_behind [] e = refl
-  found_behind (e ∷ es) none = by (tuple_eq t e.0) refl none
+  found_behind (e ∷ es) none = by (tuple_eq t e.0) (found_behind es) none
     where
-      by : (v : Bool) → tuple_eq t e.0 ≡ v → cond v (Some e.1) (found es) ≡ None → found ((e ∷ es) ++ b) ≡ found b
-      by true at none = absurd (true≢false (ap is_some none))
-      by false at none = ap (λ (v : Bool). cond v (Some e.1) (found (es ++ b))) at ∙ found_behind es none
+      by : (v : Bool) → (found es ≡ None → found (es ++ b) ≡ found b) → cond v (Some e.1) (found es) ≡ None → cond v (Some e.1) (found (es ++ b)) ≡ found b
+      by true on none = absurd (true≢false (ap is_some none))
+      by false on none = on none
 
 pub seen : (t : Tuple) (d : DoorOf) → is_some (place_of t (as_server d).conns) ≡ is_some (seat_at t d)
 seen t d = ap (λ ks. is_some (position (tuple_eq t) ks)) (keys_of-map_values seated_conn (d.seats ++ d.come)) ∙ some_index (tuple_eq t) (d.seats ++ d.come)
@@ -209,8 +209,8 @@ meets_serve now s text from w to sv m sure table stale =
     let all = stale_doors_serve now s text (as_server from) sv table stale is in
     let left = settled_doors_are_stale (as_server to) (door_sure_of now s text (as_server from)) (m.becomes is) in (
       subst (λ ws. Shows sv ws (on_segment now s text sv)) (sym (m.told_so is)) all.0,
-      stale_on (as_server to) (door_sure_of now s text (as_server from)) (on_segment now s text sv).server left all.1.0,
-      subst (λ ws. SeatsShow sv ws (on_segment now s text sv)) (sym (m.told_so is)) all.1.1,
+      stale_on (as_server to) (door_sure_of now s text (as_server from)) (on_segment now s text sv).server left all.1,
+      subst (λ ws. SeatsShow sv ws (on_segment now s text sv)) (sym (m.told_so is)) all.2,
     )
   where
     stale_on : (a b c : ServerOf) → IsStale a b → IsStale b c → IsStale a c

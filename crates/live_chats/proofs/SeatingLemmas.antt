@@ -25,11 +25,11 @@ none_of (Some x) e = absurd (true≢false e)
 
 none_behind : {X : Type 0} (t : Tuple) (a b : List (Tuple × X)) → lookup (tuple_eq t) (a ++ b) ≡ None → lookup (tuple_eq t) b ≡ None
 none_behind t [] b none = none
-none_behind {X} t (e ∷ es) b none = by (tuple_eq t e.0) none
+none_behind {X} t (e ∷ es) b none = by (tuple_eq t e.0) (none_behind t es b) none
   where
-    by : (v : Bool) → cond v (Some e.1) (lookup (tuple_eq t) (es ++ b)) ≡ None → lookup (tuple_eq t) b ≡ None
-    by true is = absurd (true≢false (ap is_some is))
-    by false is = none_behind t es b is
+    by : (v : Bool) → (lookup (tuple_eq t) (es ++ b) ≡ None → lookup (tuple_eq t) b ≡ None) → cond v (Some e.1) (lookup (tuple_eq t) (es ++ b)) ≡ None → lookup (tuple_eq t) b ≡ None
+    by true on is = absurd (true≢false (ap is_some is))
+    by false on is = on is
 
 refused : (a b : Bool) → a || not b ≡ true → not a && b ≡ false
 refused true b e = refl
