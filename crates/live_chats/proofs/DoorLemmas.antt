@@ -1,7 +1,7 @@
 -- What a door as data does is what a stale door does.
-use Rattle.std.proofs.Common.{◌≡◌, ℕ, ◌+◌, ◌-◌, ◌^◌, min, ◌&&◌, not, Bool, true, false, cond, Option, None, Some, is_some, List, [], ◌∷◌, ◌++◌, length, map, position, refl, sym, ap, subst, ◌∙◌, true≢false, arith}
+use Rattle.std.proofs.Common.{◌≡◌, ℕ, ◌+◌, ◌-◌, ◌^◌, min, ◌&&◌, not, Bool, true, false, cond, Option, None, Some, is_some, List, [], ◌∷◌, ◌++◌, length, map, position, refl, sym, ap, subst, ◌∙◌, true≢false, unwrap_or, arith}
 use Rattle.std.specs.Map.{keys_of, lookup}
-use Rattle.std.specs.Option.{option_map, option_map_or}
+use Rattle.std.specs.Option.{option_map, option_map_or, option_or}
 use Rattle.std.proofs.lemmas.List.{append_assoc, map-append}
 use Rattle.std.proofs.lemmas.Map.Made.{keys_of-map_values}
 use Rattle.indexmap.proofs.MapLemmas.{some_index}
@@ -14,13 +14,14 @@ use Rattle.live_server.specs.Serving.{ServerOf, on_segment, fits, has_place, hee
 use Rattle.live_server.specs.Table.{place_of, tuple_eq, IsNew}
 use Rattle.live_server.specs.declared.conn.Conn.{Conn}
 use Rattle.live_chats.specs.Chats.{Step, opens, sends, tells, time}
-use Rattle.live_chats.specs.Doors.{Directs, DoorOf, Goes, Meets, MeetsServe, Seats, as_server, is_sure_way, place_told, seat_at, seated_conn, steps_of}
+use Rattle.live_chats.specs.Doors.{Directs, DoorOf, Goes, IsSeated, Meets, MeetsServe, Seats, as_server, is_free, is_sure_way, place_told, seat_at, seated_conn, steps_of}
 use Rattle.live_chats.specs.Facts.{IsDoorOf, seat_of}
 use Rattle.live_chats.specs.Seats.{SeatsShow}
 use Rattle.live_chats.specs.Ways.{Shows}
 use Rattle.live_chats.specs.Stale.{IsStale, arrives, is_sure, is_sure_of, new_of, sure_door, sure_way, way_sure_of, door_sure_of}
 use Rattle.live_chats.specs.declared.door.Seat.{Seat}
 use Rattle.live_chats.specs.declared.door.Way.{Way}
+use Rattle.live_chats.specs.declared.door.Way.TheVariants.{Opens, SettleFirst, Strays, To}
 use Rattle.live_chats.proofs.FactLemmas.{settled_doors_are_stale}
 use Rattle.live_chats.proofs.StaleLemmas.{stale_doors_serve}
 
@@ -29,21 +30,13 @@ module _ {X : Type 0} (t : Tuple) (b : List (Tuple × X)) where
   abbrev found : List (Tuple × X) → Option X
   found es = lookup (tuple_eq t) es
 
-  pub found_first : (a : List (Tuple × X)) (x : X) → found a ≡ Some x → found (a ++ b) ≡ Some x
-  found_first [] x e = absurd (true≢false (sym (ap is_some e)))
-  found_first (e ∷ es) x is = by (tuple_eq t e.0) (found_first es x) is
+  pub found_or : (a : List (Tuple × X)) → found (a ++ b) ≡ option_or (found a) (found b)
+  found_or [] = refl
+  found_or (e ∷ es) = by (tuple_eq t e.0) (found_or es)
     where
-      by : (v : Bool) → (found es ≡ Some x → found (es ++ b) ≡ Some x) → cond v (Some e.1) (found es) ≡ Some x → cond v (Some e.1) (found (es ++ b)) ≡ Some x
-      by true on is = is
-      by false on is = on is
-
-  pub found_behind : (a : List (Tuple × X)) → found a ≡ None → found (a ++ b) ≡ found b
-  found_behind [] e = refl
-  found_behind (e ∷ es) none = by (tuple_eq t e.0) (found_behind es) none
-    where
-      by : (v : Bool) → (found es ≡ None → found (es ++ b) ≡ found b) → cond v (Some e.1) (found es) ≡ None → cond v (Some e.1) (found (es ++ b)) ≡ found b
-      by true on none = absurd (true≢false (ap is_some none))
-      by false on none = on none
+      by : (v : Bool) → found (es ++ b) ≡ option_or (found es) (found b) → cond v (Some e.1) (found (es ++ b)) ≡ option_or (cond v (Some e.1) (found es)) (found b)
+      by true on = refl
+      by false on = on
 
 pub seen : (t : Tuple) (d : DoorOf) → is_some (place_of t (as_server d).conns) ≡ is_some (seat_at t d)
 seen t d = ap (λ ks. is_some (position (tuple_eq t) ks)) (keys_of-map_values seated_conn (d.seats ++ d.come)) ∙ some_index (tuple_eq t) (d.seats ++ d.come)
@@ -81,24 +74,27 @@ module _ (now : ℕ) (s : Seg) (text : List ℕ) (d : DoorOf) (over : is_over (n
 
   -- told at its place
   pub passes_to : (w : Way) (seat : Seat) → seat_at t d ≡ Some seat → is_sure_way w ≡ true → place_told w ≡ Some seat.place
-      → steps_of now t w ≡ arrives now t (number_for sv.secret now s) s text → Directs now s text d w d
-  passes_to w seat at sure there steps =
+      → steps_of now t w ≡ arrives now t (number_for sv.secret now s) s text → (place : ℕ) → IsSeated place t d w d → Directs now s text place d w d
+  passes_to w seat at sure there steps place seated =
       record {
         knows = sure ∙ passes_sure;
         told_so = λ _. steps ∙ passes_way true (ap is_some at);
         becomes = λ _. passes_door;
-        there = λ place is. ap (option_map (λ (x : Seat). x.place)) at ∙ (sym there ∙ is);
+        there = λ its is. ap (option_map (λ (x : Seat). x.place)) at ∙ (sym there ∙ is);
+        seated = seated;
         waits = λ no. absurd (true≢false (passes_sure ∙ no));
       }
 
   -- or answered as nobody's
-  pub passes_none : (w : Way) → seat_at t d ≡ None → is_sure_way w ≡ true → place_told w ≡ None → steps_of now t w ≡ sends (sent_by t first) ∷ [] → Directs now s text d w d
-  passes_none w at sure there steps =
+  pub passes_none : (w : Way) → seat_at t d ≡ None → is_sure_way w ≡ true → place_told w ≡ None → steps_of now t w ≡ sends (sent_by t first) ∷ []
+      → (place : ℕ) → IsSeated place t d w d → Directs now s text place d w d
+  passes_none w at sure there steps place seated =
       record {
         knows = sure ∙ passes_sure;
         told_so = λ _. steps ∙ passes_way false (ap is_some at);
         becomes = λ _. passes_door;
-        there = λ place is. absurd (true≢false (sym (ap is_some (sym there ∙ is))));
+        there = λ its is. absurd (true≢false (sym (ap is_some (sym there ∙ is))));
+        seated = seated;
         waits = λ no. absurd (true≢false (passes_sure ∙ no));
       }
 
@@ -113,9 +109,11 @@ module _ (now : ℕ) (s : Seg) (text : List ℕ) (d : DoorOf) (here : is_over (n
   abbrev first' : Conn
   first' = new_of now s text sv'
 
-  opens_sure : is_sure now t' s text sv' ≡ not (is_some (place_of t' sv'.conns)) && has_place sv'
+  opens_sure : is_sure now t' s text sv' ≡ is_free t' d
   unfolding is_sure
-  opens_sure = ap (λ b. cond b true (not (is_some (place_of t' sv'.conns)) && has_place sv')) here
+  opens_sure =
+      ap (λ b. cond b true (not (is_some (place_of t' sv'.conns)) && has_place sv')) here
+      ∙ ap (λ b. not b && has_place sv') (seen t' d)
 
   opens_way : sure_way now t' s text sv' ≡ tells t' (opens (numbered sv' first')) ∷ []
   unfolding sure_way
@@ -126,16 +124,30 @@ module _ (now : ℕ) (s : Seg) (text : List ℕ) (d : DoorOf) (here : is_over (n
   unfolding sure_door
   opens_door = ap (λ b. cond b sv' (takes_free t' first' sv').server) here
 
-  pub opening : (w : Way) (to : DoorOf) → Seats t' first' d w to → Directs now s text d w to
-  opening w to seats =
+  pub opening : (place : ℕ) (w : Way) (to : DoorOf) → Seats t' first' place d w to → Directs now s text place d w to
+  opening place w to seats =
       let g = seats now in
       record {
         knows = g.knows ∙ sym opens_sure;
         told_so = λ e. g.told_so (sym opens_sure ∙ e) ∙ sym opens_way;
         becomes = λ e. subst (λ x. IsDoorOf (as_server to) x) (sym opens_door) (g.becomes (sym opens_sure ∙ e));
         there = g.there;
+        seated = g.seated;
         waits = λ e. g.waits (sym opens_sure ∙ e);
       }
+
+-- what a connection that isn't over at once makes of the door
+pub opening_by : (now : ℕ) (s : Seg) (text : List ℕ) (d : DoorOf) (c : Conn)
+    → Some c ≡ cond (is_over (new_of now s text (as_server d))) None (Some (new_of now s text (as_server d)))
+    → (t : Tuple) → t ≡ tuple_of s → (place : ℕ) (w : Way) (to : DoorOf) → Seats t c place d w to → Directs now s text place d w to
+opening_by now s text d c is t ends place w to seats =
+    let here = by (is_over (new_of now s text (as_server d))) is in
+    opening now s text d here.0 place w to
+    (subst (λ x. Seats (tuple_of s) x place d w to) here.1 (subst (λ x. Seats x c place d w to) ends seats))
+  where
+    by : (v : Bool) → Some c ≡ cond v None (Some (new_of now s text (as_server d))) → (v ≡ false) × (c ≡ new_of now s text (as_server d))
+    by true e = absurd (true≢false (ap is_some e))
+    by false e = (refl, ap (λ o. unwrap_or o c) e)
 
 -- ---- the text is counted first
 module _ (now : ℕ) (s : Seg) (text : List ℕ) (d : DoorOf) where
@@ -179,32 +191,52 @@ module _ (now : ℕ) (s : Seg) (text : List ℕ) (d : DoorOf) where
   part_becomes to x = part_door to (is_over (new_of now (without_text s) [] (as_server d))) (tuple_of s) (new_of now (without_text s) [] (as_server d)) x
 
   -- the door notes the text where it is sure
-  pub meets_whole : (w : Way) (mid to : DoorOf) (held : ℕ) → fits text (as_server d) ≡ true → Directs now s text d w mid → (is_sure_way w ≡ false → to ≡ mid)
-      → held ≡ min (2 ^ 64 - 1) (mid.held + length text) → (is_sure_way w ≡ true → to ≡ record mid { held = held }) → Meets now s text d w to
-  meets_whole w mid to held fit g still is noted =
+  abbrev counted : DoorOf → DoorOf
+  counted mid = record mid { held = min (2 ^ 64 - 1) (mid.held + length text) }
+
+  -- who sits where is as it was
+  moved_seated : (place : ℕ) (t : Tuple) (w : Way) (mid to : DoorOf) → IsSeated place t d w mid → to.seats ≡ mid.seats → to.come ≡ mid.come → IsSeated place t d w to
+  moved_seated place t (To its segment) mid to x seats come = (x.0, seats ∙ x.1, come ∙ x.2)
+  moved_seated place t (Strays sent) mid to x seats come = (seats ∙ x.0, come ∙ x.1)
+  moved_seated place t (Opens conn) mid to x seats come = (x.0, seats ∙ x.1, come ∙ x.2)
+  moved_seated place t SettleFirst mid to x seats come = (seats ∙ x.0, come ∙ x.1)
+
+  counted_seats : (mid : DoorOf) (b : Bool) → (cond b (counted mid) mid).seats ≡ mid.seats
+  counted_seats mid true = refl
+  counted_seats mid false = refl
+
+  counted_come : (mid : DoorOf) (b : Bool) → (cond b (counted mid) mid).come ≡ mid.come
+  counted_come mid true = refl
+  counted_come mid false = refl
+
+  pub meets_whole : (place : ℕ) (w : Way) (mid to : DoorOf) → fits text (as_server d) ≡ true → Directs now s text place d w mid → to ≡ cond (is_sure_way w) (counted mid) mid
+      → Meets now s text place d w to
+  meets_whole place w mid to fit g is =
       record {
         knows = g.knows ∙ sym (fit_sure true fit);
         told_so = λ y. g.told_so (sym (fit_sure true fit) ∙ y) ∙ sym (fit_way true fit);
         becomes = λ y. let e = sym (fit_sure true fit) ∙ y in
-            subst (λ (x : DoorOf). IsDoorOf (as_server x) (door_sure_of now s text (as_server d))) (sym (noted (g.knows ∙ e)))
-            (subst (λ (x : ServerOf). IsDoorOf (as_server (record mid { held = held })) x) (sym (fit_door true fit)) (whole_becomes mid held is (g.becomes e)));
+            subst (λ (x : DoorOf). IsDoorOf (as_server x) (door_sure_of now s text (as_server d))) (sym (is ∙ ap (λ b. cond b (counted mid) mid) (g.knows ∙ e)))
+            (subst (λ (x : ServerOf). IsDoorOf (as_server (counted mid)) x) (sym (fit_door true fit)) (whole_becomes mid (counted mid).held refl (g.becomes e)));
         there = g.there;
-        waits = λ no. let e = sym (fit_sure true fit) ∙ no in still (g.knows ∙ e) ∙ g.waits e;
+        seated = moved_seated place (tuple_of s) w mid to g.seated (ap (λ (x : DoorOf). x.seats) is ∙ counted_seats mid (is_sure_way w)) (ap (λ (x : DoorOf). x.come) is ∙ counted_come mid (is_sure_way w));
+        waits = λ no. let e = sym (fit_sure true fit) ∙ no in is ∙ ap (λ b. cond b (counted mid) mid) (g.knows ∙ e) ∙ g.waits e;
       }
 
   -- and passes it over where it is too much
-  pub meets_part : (w : Way) (to : DoorOf) → fits text (as_server d) ≡ false → Directs now (without_text s) [] d w to → Meets now s text d w to
-  meets_part w to fit g =
+  pub meets_part : (place : ℕ) (w : Way) (to : DoorOf) → fits text (as_server d) ≡ false → Directs now (without_text s) [] place d w to → Meets now s text place d w to
+  meets_part place w to fit g =
       record {
         knows = g.knows ∙ sym (fit_sure false fit);
         told_so = λ y. g.told_so (sym (fit_sure false fit) ∙ y) ∙ sym (fit_way false fit);
         becomes = λ y. subst (λ (x : ServerOf). IsDoorOf (as_server to) x) (sym (fit_door false fit)) (part_becomes to (g.becomes (sym (fit_sure false fit) ∙ y)));
         there = g.there;
+        seated = g.seated;
         waits = λ no. g.waits (sym (fit_sure false fit) ∙ no);
       }
 
 pub meets_serve : MeetsServe
-meets_serve now s text from w to sv m sure table stale =
+meets_serve now s text place from w to sv m sure table stale =
     let is : is_sure_of now s text (as_server from) ≡ true = sym m.knows ∙ sure in
     let all = stale_doors_serve now s text (as_server from) sv table stale is in
     let left = settled_doors_are_stale (as_server to) (door_sure_of now s text (as_server from)) (m.becomes is) in (

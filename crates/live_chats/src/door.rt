@@ -1,13 +1,11 @@
 //! The door: who has a place, and where a segment goes. It knows no block.
 
-ghost use Rattle.std.specs.Prelude.{◌≡◌, ◌++◌, ◌∷◌, ◌≤◌, ◌^◌, [], true, false, not, None, Some, IfOk, OnErr, OnOk, is_some, if◌then◌else◌};
-ghost use Rattle.std.specs.Map.{lookup};
+ghost use Rattle.std.specs.Prelude.{◌≡◌, ℕ, ◌+◌, ◌-◌, ◌≤◌, ◌^◌, [], true, None, Some, IfOk, OnErr, length, min, if◌then◌else◌};
 ghost use Rattle.segment_codec.specs.Refusal.{tuple_of};
 ghost use Rattle.tcb_machine.specs.Limits.{last_time};
 ghost use Rattle.live_server.specs.Acts.{is_over};
-ghost use Rattle.live_server.specs.Counting.{no_counts};
-ghost use Rattle.live_server.specs.Serving.{fits, has_place, without_text};
-ghost use Rattle.live_chats.specs.Doors.{Directs, Meets, Seats, as_server, seat_at};
+ghost use Rattle.live_server.specs.Serving.{fits, has_place};
+ghost use Rattle.live_chats.specs.Doors.{Directs, Meets, Seats, as_server, is_free, is_sure_way, seat_at};
 ghost use Rattle.live_chats.specs.Stale.{is_opening, new_of};
 
 use crate::item::Item;
@@ -40,6 +38,20 @@ pub enum Way {
     Opens(Conn),
     /// It may open a connection, and that needs a door which knows who is over.
     SettleFirst,
+}
+
+impl Way {
+    /// Whether it says where the segment goes.
+    pub fn is_sure(&self) -> bool
+        ensures { result ≡ is_sure_way self.now }
+    {
+        match self {
+            Way::To { .. } => true,
+            Way::Strays(_) => true,
+            Way::Opens(_) => true,
+            Way::SettleFirst => false,
+        }
+    }
 }
 
 /// Who has a place, without the blocks. It learns only at a settle which connections are over.
@@ -94,7 +106,6 @@ impl Door {
     /// A segment to a service comes at a time in microseconds, its MSS no longer than the path takes. Where the door is sure, this says
     /// where it goes. A connection that it opens is to have its chat at this place. An error says that memory was missing; then
     /// nothing happened.
-    #[tactic(auto, unfolding(crate::specs::Stale::is_sure))]
     pub fn meet(
         &mut self,
         alloc: Global,
@@ -104,17 +115,24 @@ impl Door {
         place: u32,
     ) -> Result<Way, AllocError>
         requires { now ≤ last_time }
-        ensures meets { IfOk result (λ way. Meets now seg.now text.now self.old way self.new) }
+        ensures meets { IfOk result (λ way. Meets now seg.now text.now place self.old way self.new) }
         ensures same { OnErr result (self.new ≡ self.old) }
     {
         if self.fits(text) {
             let way = self.direct(alloc, now, seg, text, place)?;
-            if !matches!(way, Way::SettleFirst) {
-                self.held = self.held.saturating_add(text.len() as u64);
-            }
+            self.count(&way, text);
             Ok(way)
         } else {
             self.direct(alloc, now, &without_text(seg), &[], place)
+        }
+    }
+
+    /// The text of a segment that goes somewhere is counted.
+    fn count(&mut self, way: &Way, text: &[u8])
+        ensures { self.new ≡ (if is_sure_way way.now then record self.old { held = min (2 ^ 64 - 1) (self.old.held + length text.now) } else self.old) }
+    {
+        if way.is_sure() {
+            self.held = self.held.saturating_add(text.len() as u64);
         }
     }
 
@@ -128,10 +146,11 @@ impl Door {
         place: u32,
     ) -> Result<Way, AllocError>
         requires { now ≤ last_time }
-        ensures directs { IfOk result (λ way. Directs now seg.now text.now self.old way self.new) }
+        ensures directs { IfOk result (λ way. Directs now seg.now text.now place self.old way self.new) }
         ensures same { OnErr result (self.new ≡ self.old) }
     {
-        match self.opened_by(alloc, now, seg, text)? {
+        let opened = self.opened_by(alloc, now, seg, text)?;
+        match opened {
             Some(conn) => self.seat(tuple_of(seg), conn, place),
             None => self.pass(alloc, now, seg, text),
         }
@@ -175,7 +194,7 @@ impl Door {
     fn pass(&self, alloc: Global, now: u64, seg: &Seg, text: &[u8]) -> Result<Way, AllocError>
         requires time { now ≤ last_time }
         requires over { is_over (new_of now seg.now text.now (as_server self.now)) ≡ true }
-        ensures { IfOk result (λ way. Directs now seg.now text.now self.now way self.now) }
+        ensures { IfOk result (λ way. (place : ℕ) → Directs now seg.now text.now place self.now way self.now) }
     {
         let tuple = tuple_of(seg);
         match self.seat_of(&tuple) {
@@ -198,10 +217,10 @@ impl Door {
 
     /// A connection takes a place, where nobody has its ends and a place is free.
     fn seat(&mut self, ends: Tuple, conn: Conn, place: u32) -> Result<Way, AllocError>
-        ensures seats { IfOk result (λ way. Seats ends conn self.old way self.new) }
+        ensures seats { IfOk result (λ way. Seats ends conn place self.old way self.new) }
         ensures same { OnErr result (self.new ≡ self.old) }
     {
-        if self.seat_of(&ends).is_some() || !self.has_place() {
+        if !self.is_free(&ends) {
             return Ok(Way::SettleFirst);
         }
         let mut conn = conn;
@@ -222,10 +241,16 @@ impl Door {
     fn seat_of(&self, ends: &Tuple) -> Option<Seat>
         ensures { result ≡ seat_at ends.now self.now }
     {
-        match self.seats.get(ends) {
-            Some(seat) => Some(*seat),
-            None => self.come.get(ends).copied(),
-        }
+        let settled = self.seats.get(ends);
+        let come = self.come.get(ends);
+        settled.copied().or(come.copied())
+    }
+
+    /// Whether nobody has these ends, and a place is free.
+    fn is_free(&self, ends: &Tuple) -> bool
+        ensures { result ≡ is_free ends.now self.now }
+    {
+        self.seat_of(ends).is_none() && self.has_place()
     }
 
     /// Whether a place is free, and one of those that may be half open.
