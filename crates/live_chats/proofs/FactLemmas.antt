@@ -20,7 +20,7 @@ use Rattle.live_chats.specs.Stale.{new_of}
 use Rattle.live_chats.specs.Ways.{way_comes, way_heeds, way_opens, way_takes, way_yielding, way_yields}
 use Rattle.live_chats.proofs.SeatLemmas.{left_map, place_none}
 
-keys_seats : (cs : Conns) → keys_of cs ≡ map (λ (s : Seat). s.ends) (map seat_of cs)
+pub keys_seats : (cs : Conns) → keys_of cs ≡ map (λ (s : Seat). s.ends) (map seat_of cs)
 keys_seats [] = refl
 keys_seats (c ∷ cs) = ap (λ (l : List Tuple). c.0 ∷ l) (keys_seats cs)
 

@@ -1,13 +1,15 @@
 //! The door: who has a place, and where a segment goes. It knows no block.
 
-ghost use Rattle.std.specs.Prelude.{◌≡◌, ℕ, ◌+◌, ◌-◌, ◌≤◌, ◌^◌, [], true, None, Some, IfOk, OnErr, length, min, if◌then◌else◌};
+ghost use Rattle.std.specs.Prelude.{◌≡◌, ℕ, ◌+◌, ◌-◌, ◌≤◌, ◌^◌, [], true, None, Some, IfOk, OnErr, OnOk, length, min, if◌then◌else◌};
 ghost use Rattle.segment_codec.specs.Refusal.{tuple_of};
 ghost use Rattle.tcb_machine.specs.Limits.{last_time};
 ghost use Rattle.live_server.specs.Acts.{is_over};
 ghost use Rattle.live_server.specs.Serving.{fits, has_place};
 ghost use Rattle.live_chats.specs.Doors.{Directs, Meets, Seats, as_server, is_free, is_sure_way, seat_at};
+ghost use Rattle.live_chats.specs.Learning.{learning, settling, sitting};
 ghost use Rattle.live_chats.specs.Stale.{is_opening, new_of};
 
+use crate::answer::Standing;
 use crate::item::Item;
 use crate::said::{fresh, kept};
 use indexmap::IndexMap;
@@ -251,6 +253,40 @@ impl Door {
         ensures { result ≡ is_free ends.now self.now }
     {
         self.seat_of(ends).is_none() && self.has_place()
+    }
+
+    /// Behind a settle it learns how a connection stands behind one item, in the order in which all items were told: whether it is over,
+    /// and so has no seat any more, half open or open. An error says that memory was missing; then nothing happened.
+    pub fn learn(&mut self, ends: &Tuple, standing: Standing) -> Result<(), AllocError>
+        ensures learns { OnOk result (self.new ≡ learning ends.now standing self.old) }
+        ensures same { OnErr result (self.new ≡ self.old) }
+    {
+        match standing {
+            Standing::Over => {
+                self.seats.swap_remove(ends);
+                Ok(())
+            }
+            Standing::HalfOpen => self.sit(ends, true),
+            Standing::Open => self.sit(ends, false),
+        }
+    }
+
+    /// Who isn't over keeps the seat, or takes the last one where it came since.
+    fn sit(&mut self, ends: &Tuple, half_open: bool) -> Result<(), AllocError>
+        ensures sits { OnOk result (self.new ≡ sitting ends.now half_open self.old) }
+        ensures same { OnErr result (self.new ≡ self.old) }
+    {
+        if let Some(seat) = self.seat_of(ends) {
+            self.seats.insert(*ends, Seat { half_open, ..seat })?;
+        }
+        Ok(())
+    }
+
+    /// Behind the last answer of a settle: whoever came since has a seat by now, or is over.
+    pub fn settle(&mut self)
+        ensures { self.new ≡ settling self.old }
+    {
+        self.come.clear();
     }
 
     /// Whether a place is free, and one of those that may be half open.

@@ -2,6 +2,7 @@
 
 ghost use Rattle.live_chats.specs.Doors.{MeetsServe};
 ghost use Rattle.live_chats.specs.Facts.{DoorDecides, OrderIsSeen, SettledDoorsAreStale};
+ghost use Rattle.live_chats.specs.Learning.{DoorsRead, LearntDoorsKnow};
 ghost use Rattle.live_chats.specs.Places.{CollectedStand};
 ghost use Rattle.live_chats.specs.Reads.{ReadsServe};
 ghost use Rattle.live_chats.specs.Seats.{DoorKeepsOrder};
@@ -75,4 +76,14 @@ pub fn collected_chats_stand()
 /// Where a door is sure of a segment, its steps make of each connection and send what the server does, and it stays a door of that server.
 pub fn doors_serve()
     ensures { MeetsServe }
+{}
+
+/// A door that was sure of all steps since the last settle knows the server again where it has learnt how its chats stand behind them.
+pub fn learnt_doors_know()
+    ensures { LearntDoorsKnow }
+{}
+
+/// From settle to settle, a door that is sure of each segment sends what the server sends, and knows it again behind the settle.
+pub fn doors_read()
+    ensures { DoorsRead }
 {}
