@@ -3,6 +3,7 @@
 ghost use Rattle.live_chats.specs.Doors.{MeetsServe};
 ghost use Rattle.live_chats.specs.Facts.{DoorDecides, OrderIsSeen, SettledDoorsAreStale};
 ghost use Rattle.live_chats.specs.Learning.{DoorsRead, LearntDoorsKnow};
+ghost use Rattle.live_chats.specs.Lives.{AnswersSay, ChatsSay, LivesSay};
 ghost use Rattle.live_chats.specs.Places.{CollectedStand};
 ghost use Rattle.live_chats.specs.Reads.{ReadsServe};
 ghost use Rattle.live_chats.specs.Seats.{DoorKeepsOrder};
@@ -86,4 +87,11 @@ pub fn learnt_doors_know()
 /// From settle to settle, a door that is sure of each segment sends what the server sends, and knows it again behind the settle.
 pub fn doors_read()
     ensures { DoorsRead }
+{}
+
+/// What a chat answers between the same two ends is what their connection says alone; so is each of its lives.
+pub fn chats_say()
+    ensures answers { AnswersSay }
+    ensures chats { ChatsSay }
+    ensures lives { LivesSay }
 {}
