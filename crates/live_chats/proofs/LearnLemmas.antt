@@ -120,7 +120,7 @@ after_number Challenged now iss s text c = refl
 after_number Unanswered now iss s text c = refl
 after_number Late now iss s text c = refl
 
-number_or : Option Conn → ℕ
+abbrev number_or : Option Conn → ℕ
 number_or o = option_map_or (λ (c : Conn). c.number) o 0
 
 kept_number : (b : Bool) (c new : Conn) → cond b None (Some (emptied c)) ≡ Some new → c.number ≡ new.number
@@ -187,7 +187,7 @@ learns_one g d all seats t x expected = by (said g t x (all t)).conn refl
         let has = seat_for d all seats t g x (all t) refl expected c e in
         let seat : Seat = record has.0 { half_open = is_half_open c } in
         let is : learning t (standing_of (Some c)) d ≡ record d { seats = insert_entry tuple_eq d.seats t seat } =
-        stands_is t d (is_half_open c) ∙ ap (λ (o : Option Seat). record d { seats = option_map_or (λ s. insert_entry tuple_eq d.seats t (record s { half_open = is_half_open c })) o d.seats }) has.1 in
+        stands_is t d (is_half_open c) ∙ ap (λ (o : Option Seat). record d { seats = option_map_or (λ (s : Seat). insert_entry tuple_eq d.seats t (record s { half_open = is_half_open c })) o d.seats }) has.1 in
         subst (λ (to : DoorOf). Learns d to (with_chat t (Some c) all) (seated t (Some c) (keys_of d.seats))) (sym is)
         (record {
           seats = moved_seats t d.seats _ all (Some seat) (Some c) seats (sits t d.seats seat seats.once) (λ i. Some (is_half_open c, has.2 i));
@@ -228,8 +228,14 @@ none_among q [] apart = refl
 none_among q (e ∷ es) apart = ap (λ b. cond b (Some e.1) (lookup (tuple_eq q) es)) apart.0 ∙ none_among q es apart.1
 
 module _ {X Y F : Type 0} (f : X → F) (h : Y → F) where
+  abbrev left_row : Tuple × X → Tuple × F
+  left_row e = (e.0, f e.1)
+
+  abbrev right_row : Tuple × Y → Tuple × F
+  right_row c = (c.0, h c.1)
+
   rows_same : (es : List (Tuple × X)) (cs : List (Tuple × Y)) → keys_of es ≡ keys_of cs → IsDistinct tuple_eq (keys_of cs)
-      → ((q : Tuple) → option_map f (lookup (tuple_eq q) es) ≡ option_map h (lookup (tuple_eq q) cs)) → map (λ e. (e.0, f e.1)) es ≡ map (λ c. (c.0, h c.1)) cs
+      → ((q : Tuple) → option_map f (lookup (tuple_eq q) es) ≡ option_map h (lookup (tuple_eq q) cs)) → map left_row es ≡ map right_row cs
   unfolding IsDistinct
   rows_same [] [] keys once looks = refl
   rows_same [] (c ∷ cs) keys once looks = absurd (true≢false (sym (ap has_first keys)))
@@ -270,13 +276,16 @@ module _ {X Y F : Type 0} (f : X → F) (h : Y → F) where
 abbrev row : Tuple × (Bool × ℕ) → SeatFacts
 row r = record { ends = r.0; half = r.1.0; number = r.1.1 }
 
-seat_rows : (es : List (Tuple × Seat)) → map seat_of (map (λ e. (e.0, seated_conn e.1)) es) ≡ map row (map (λ e. (e.0, seat_knows e.1)) es)
+abbrev pub entry : Tuple × Seat → Tuple × Conn
+entry e = (e.0, seated_conn e.1)
+
+seat_rows : (es : List (Tuple × Seat)) → map seat_of (map entry es) ≡ map row (map (left_row seat_knows known_of) es)
 seat_rows [] = refl
 seat_rows (e ∷ es) = λ i. record { ends = e.0; half = half_is e.1 i; number = e.1.number } ∷ seat_rows es i
 
-conn_rows : (cs : Conns) → map seat_of cs ≡ map row (map (λ c. (c.0, known_of c.1)) cs)
+conn_rows : (cs : Conns) → map seat_of cs ≡ map row (map (right_row seat_knows known_of) cs)
 conn_rows [] = refl
-conn_rows (c ∷ cs) = ap (λ l. seat_of c ∷ l) (conn_rows cs)
+conn_rows (c ∷ cs) = ap (λ (l : List SeatFacts). seat_of c ∷ l) (conn_rows cs)
 
 pub learnt_doors_know : LearntDoorsKnow
 learnt_doors_know d sv ws o seats keys expected shows sits_so table stale =
@@ -288,7 +297,7 @@ learnt_doors_know d sv ws o seats keys expected shows sits_so table stale =
       known,
       record {
         seats =
-            ap (λ (l : List (Tuple × Seat)). map seat_of (map (λ e. (e.0, seated_conn e.1)) l)) (append-nil to.seats)
+            ap (λ (l : List (Tuple × Seat)). map seat_of (map entry l)) (append-nil to.seats)
             ∙ seat_rows to.seats ∙ ap (map row) rows ∙ sym (conn_rows o.server.conns);
         waiting = ap (λ (x : DoorOf). x.waiting) all.rest ∙ stale.waiting;
         held = ap (λ (x : DoorOf). x.held) all.rest ∙ stale.held;

@@ -24,7 +24,7 @@ use Rattle.live_chats.specs.declared.door.Way.TheVariants.{Opens, SettleFirst, S
 use Rattle.live_chats.specs.declared.item.Item.TheVariants as item
 use Rattle.live_chats.proofs.DoorLemmas.{found_or, meets_serve, seen}
 use Rattle.live_chats.proofs.FactLemmas.{keys_seats, settled_doors_are_stale}
-use Rattle.live_chats.proofs.LearnLemmas.{learnt_doors_know}
+use Rattle.live_chats.proofs.LearnLemmas.{entry, learnt_doors_know}
 use Rattle.live_chats.proofs.RunLemmas.{IsRight, nothing_right, then_right}
 use Rattle.live_chats.proofs.SeatLemmas.{then_seated}
 use Rattle.live_chats.proofs.SeatingLemmas.{none_behind, none_of}
@@ -55,13 +55,13 @@ expected_append g (tells t x ∷ ws) vs all come first next = (first.0, expected
 -- ---- one way
 module _ (place : ℕ) (t : Tuple) (d next : DoorOf) where
   seats_stay : (w : Way) → IsSeated place t d w next → next.seats ≡ d.seats
-  seats_stay (To its segment) x = x.1
+  seats_stay (To its heard) x = x.1
   seats_stay (Strays sent) x = x.0
   seats_stay (Opens conn) x = x.1
   seats_stay SettleFirst x = x.0
 
   come_grows : (w : Way) → IsSeated place t d w next → Grows d.come next.come
-  come_grows (To its segment) x q s at = ap (λ (l : List (Tuple × Seat)). lookup (tuple_eq q) l) x.2 ∙ at
+  come_grows (To its heard) x q s at = ap (λ (l : List (Tuple × Seat)). lookup (tuple_eq q) l) x.2 ∙ at
   come_grows (Strays sent) x q s at = ap (λ (l : List (Tuple × Seat)). lookup (tuple_eq q) l) x.1 ∙ at
   come_grows (Opens conn) x q s at =
       let last : List (Tuple × Seat) = (t, record { place = place; half_open = is_half_open conn; number = conn.number }) ∷ [] in
@@ -77,9 +77,9 @@ module _ (place : ℕ) (t : Tuple) (d next : DoorOf) where
 
   way_expected : (g : Setting) (now : ℕ) (all : Chats) → (seat_at t d ≡ None → all t ≡ None) → (w : Way) → IsSeated place t d w next → AreExpected g (steps_of now t w) all next.come
   way_expected g now all alone (To its (item.Opens ends conn)) x = absurd (true≢false x.0)
-  way_expected g now all alone (To its item.Leaves) x = (tt, tt, tt)
-  way_expected g now all alone (To its (item.Segment at iss s text)) x = (tt, tt, tt)
-  way_expected g now all alone (To its (item.Time at)) x = (tt, tt, tt)
+  way_expected g now all alone (To its item.Leaves) x = (tt, (tt, tt))
+  way_expected g now all alone (To its (item.Segment at iss s text)) x = (tt, (tt, tt))
+  way_expected g now all alone (To its (item.Time at)) x = (tt, (tt, tt))
   way_expected g now all alone (Strays sent) x = tt
   way_expected g now all alone (Opens conn) x =
       let seat : Seat = record { place = place; half_open = is_half_open conn; number = conn.number } in (
@@ -138,7 +138,7 @@ doors_read d to ms sv table knows all =
     let served = all_served ms d to sv table (settled_doors_are_stale (as_server d) sv knows.door) all in
     let keys : keys_of d.seats ≡ keys_of sv.conns =
     sym (keys_of-map_values seated_conn d.seats)
-    ∙ ap (λ (l : List (Tuple × Seat)). keys_of (map (λ e. (e.0, seated_conn e.1)) l)) (sym (append-nil d.seats) ∙ ap (λ (l : List (Tuple × Seat)). d.seats ++ l) (sym knows.nobody))
+    ∙ ap (λ (l : List (Tuple × Seat)). keys_of (map entry l)) (sym (append-nil d.seats) ∙ ap (λ (l : List (Tuple × Seat)). d.seats ++ l) (sym knows.nobody))
     ∙ keys_seats (as_server d).conns
     ∙ ap (λ (ss : List SeatFacts). map (λ (s : SeatFacts). s.ends) ss) knows.door.seats
     ∙ sym (keys_seats sv.conns) in
