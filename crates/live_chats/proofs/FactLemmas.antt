@@ -44,7 +44,7 @@ waits_seats n i cs = by (slice_get cs i) refl ∙ ap (λ (o : Option Seat). opti
         ∙ (λ j. option_map_or (waits n) (option_map seat_of (sym at j)) false)
     by (Some c) at = (λ j. is_waiting n (option_map_or (λ (e : Tuple × Conn). e.1) (at j) no_conn)) ∙ (λ j. option_map_or (waits n) (option_map seat_of (sym at j)) false)
 
-seats_without : (i : ℕ) (cs : Conns) → map seat_of (without i cs) ≡ left_free i (map seat_of cs)
+pub seats_without : (i : ℕ) (cs : Conns) → map seat_of (without i cs) ≡ left_free i (map seat_of cs)
 unfolding without
 seats_without i cs = left_map seat_of i cs
 
@@ -100,11 +100,11 @@ chosen_door : (h : Bool) (a b c d : ServerOf) → IsDoorOf a b → IsDoorOf c d 
 chosen_door true a b c d here there = here
 chosen_door false a b c d here there = there
 
-record Decides (ts : List (Tuple × ℕ)) (a b : ServerOf) : Type 0 where
-  ways : way_yielding ts a ≡ way_yielding ts b
-  door : IsDoorOf (yielding ts a) (yielding ts b)
+pub record Decides (ts : List (Tuple × ℕ)) (a b : ServerOf) : Type 0 where
+  pub ways : way_yielding ts a ≡ way_yielding ts b
+  pub door : IsDoorOf (yielding ts a) (yielding ts b)
 
-yielding_same : (ts : List (Tuple × ℕ)) (a b : ServerOf) → IsDoorOf a b → Decides ts a b
+pub yielding_same : (ts : List (Tuple × ℕ)) (a b : ServerOf) → IsDoorOf a b → Decides ts a b
 yielding_same [] a b d = record { ways = refl; door = d }
 yielding_same (t ∷ ts) a b d =
     let a1 : ServerOf = record a { waiting = ts } in

@@ -35,7 +35,7 @@ record Moved {X : Type 0} (t : Tuple) (es : List (Tuple × X)) (w : Option X) (n
   look : (q : Tuple) → lookup (tuple_eq q) new ≡ cond (tuple_eq t q) w (lookup (tuple_eq q) es)
   once : IsDistinct tuple_eq (keys_of new)
 
-entry_there : {X : Type 0} (xs : List X) (i : ℕ) → i < length xs → (x : X) × (slice_get xs i ≡ Some x)
+pub entry_there : {X : Type 0} (xs : List X) (i : ℕ) → i < length xs → (x : X) × (slice_get xs i ≡ Some x)
 entry_there [] i lt = absurd (omega arith)
 entry_there (x ∷ xs) zero lt = (x, refl)
 entry_there (x ∷ xs) (suc i) lt = entry_there xs i (omega arith)
@@ -97,7 +97,7 @@ module _ {X : Type 0} (t : Tuple) (es : List (Tuple × X)) where
         by None at = ap (λ (l : List (Tuple × X)). keys_of l) (insert_entry-absent tuple_eq t v es (Missing-position (tuple_eq t) es at).absent) ∙ keys_push es (t, v)
         by (Some i) at = ap (λ (l : List (Tuple × X)). keys_of l) (insert_entry-first tuple_eq t v es i (Found-position (tuple_eq t) es i at).first) ∙ keys_set_value_at es i v
 
-known_where : {A B : Type 0} (f : A → B) (b : Bool) (x y : Option A) → option_map f (cond b x y) ≡ cond b (option_map f x) (option_map f y)
+pub known_where : {A B : Type 0} (f : A → B) (b : Bool) (x y : Option A) → option_map f (cond b x y) ≡ cond b (option_map f x) (option_map f y)
 known_where f true x y = refl
 known_where f false x y = refl
 

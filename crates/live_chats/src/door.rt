@@ -1,6 +1,6 @@
 //! The door: who has a place, and where a segment goes. It knows no block.
 
-ghost use Rattle.std.specs.Prelude.{◌≡◌, ℕ, ◌+◌, ◌-◌, ◌≤◌, ◌^◌, [], true, None, Some, IfOk, OnErr, OnOk, length, min, if◌then◌else◌};
+ghost use Rattle.std.specs.Prelude.{◌≡◌, ℕ, ◌+◌, ◌-◌, ◌≤◌, ◌^◌, [], true, None, Some, IfNone, IfOk, IfSome, OnErr, OnOk, length, min, if◌then◌else◌};
 ghost use Rattle.segment_codec.specs.Refusal.{tuple_of};
 ghost use Rattle.tcb_machine.specs.Limits.{last_time};
 ghost use Rattle.live_server.specs.Acts.{is_over};
@@ -8,6 +8,7 @@ ghost use Rattle.live_server.specs.Serving.{fits, has_place};
 ghost use Rattle.live_chats.specs.Doors.{Directs, Meets, Seats, as_server, is_free, is_sure_way, seat_at};
 ghost use Rattle.live_chats.specs.Learning.{learning, settling, sitting};
 ghost use Rattle.live_chats.specs.Stale.{is_opening, new_of};
+ghost use Rattle.live_chats.specs.Yielding.{Asks, AsksNext};
 
 use crate::answer::Standing;
 use crate::item::Item;
@@ -289,9 +290,34 @@ impl Door {
         self.come.clear();
     }
 
+    /// Behind a settle, where no place is free: the oldest of the connections that may be half open is asked, and gives way where it is.
+    /// The answer has its ends, and its seat where it gave way: then its chat is to be told. `None` says that nobody is left to be asked.
+    pub fn ask_next(&mut self) -> Option<(Tuple, Option<Seat>)>
+        requires { self.old.come ≡ [] }
+        ensures next { IfSome result (λ r. AsksNext self.old r self.new) }
+        ensures none { IfNone result ((self.old.waiting ≡ []) × (self.new ≡ self.old)) }
+    {
+        let waiting = self.waiting.pop_front()?;
+        let gone = self.ask(&waiting);
+        Some((waiting.0, gone))
+    }
+
+    /// One of them is asked.
+    fn ask(&mut self, waiting: &(Tuple, u64)) -> Option<Seat>
+        requires { self.old.come ≡ [] }
+        ensures { Asks waiting.now self.old result self.new }
+    {
+        let seat = self.seat_of(&waiting.0)?;
+        if !(seat.half_open && seat.number == waiting.1) {
+            return None;
+        }
+        self.seats.swap_remove(&waiting.0);
+        Some(seat)
+    }
+
     /// Whether a place is free, and one of those that may be half open.
     #[tactic(auto, unfolding(live_server::specs::Serving::has_place))]
-    fn has_place(&self) -> bool
+    pub fn has_place(&self) -> bool
         ensures { result ≡ has_place (as_server self.now) }
     {
         let places = self.setting.places;

@@ -10,6 +10,7 @@ ghost use Rattle.live_chats.specs.Seats.{DoorKeepsOrder};
 ghost use Rattle.live_chats.specs.Stale.{OnlySynsOpen, StaleDoorsServe};
 ghost use Rattle.live_chats.specs.Times.{DoorTimes};
 ghost use Rattle.live_chats.specs.Ways.{ServerIsChats};
+ghost use Rattle.live_chats.specs.Yielding.{DoorsMakePlace};
 ghost use Rattle.live_chats.specs.Weaving.{ChatsAreApart, ServersAreChats};
 
 /// Chats don't hear one another: whatever is told to all, each says and becomes what it does of what is told to it alone.
@@ -94,4 +95,9 @@ pub fn chats_say()
     ensures answers { AnswersSay }
     ensures chats { ChatsSay }
     ensures lives { LivesSay }
+{}
+
+/// Behind a settle a door makes place as the server does, and tells those whom the server lets go.
+pub fn doors_make_place()
+    ensures { DoorsMakePlace }
 {}
