@@ -1,13 +1,36 @@
--- The place of a datagram lies within the record's body, and where none begins there is no text.
-use Rattle.std.proofs.Common.{◌≡◌, ℕ, ◌-◌, ◌≤◌, ◌==◌, ◌&&◌, ◌⊎◌, nat_le, nat_lt, Bool, true, false, List, length, Result, inl, inr, refl, arith, if◌then◌else◌}
+-- Numbers at a place of the bytes. The place of a datagram lies within the record's body, and where none begins there is no text.
+use Rattle.std.proofs.Common.{◌≡◌, ℕ, ◌+◌, ◌-◌, ◌≤◌, ◌==◌, ◌&&◌, ◌⊎◌, nat_le, nat_lt, Bool, true, false, List, length, drop, slice_index, Result, inl, inr, refl, ap, ◌∙◌, arith, if◌then◌else◌}
 use Rattle.std.specs.Prelude.{MatchResult}
+use Rattle.std.proofs.lemmas.List.{get_or-drop}
+use Rattle.byteorder.specs.Endian.{big_number}
 use Rattle.std.proofs.lemmas.Bool.{ltb-false}
 use Rattle.sq_base.specs.declared.kinds.Link.{Link}
 use Rattle.sq_base.specs.declared.kinds.Link.TheVariants.{Ethernet, RawIp, Cooked}
-use Rattle.segment_codec.specs.Places.{byte, word, high}
+use Rattle.segment_codec.specs.Places.{byte, word, long, high}
 use Rattle.segment_codec.specs.Packet.{behind_header, ip_place}
 use Rattle.segment_codec.specs.declared.packet.Packet.{Packet}
 use Rattle.segment_codec.specs.declared.packet.Packet.TheVariants as packet
+
+-- a byte of those from a place on
+byte_read : (bytes : List ℕ) (at i k : ℕ) → at + i ≡ k → slice_index (drop at bytes) i ≡ slice_index bytes k
+byte_read bytes at i k e = get_or-drop at bytes i 0 ∙ ap (λ j. slice_index bytes j) e
+
+-- the number that is read from the bytes from a place on
+pub word_read : (bytes : List ℕ) (at : ℕ) → big_number 2 (drop at bytes) ≡ word bytes at
+unfolding word
+word_read bytes at =
+    let first = byte_read bytes at 0 at (omega arith) in
+    let second = byte_read bytes at 1 (at + 1) (omega arith) in
+    omega (arith, first, second)
+
+pub long_read : (bytes : List ℕ) (at : ℕ) → big_number 4 (drop at bytes) ≡ long bytes at
+unfolding word long
+long_read bytes at =
+    let first = byte_read bytes at 0 at (omega arith) in
+    let second = byte_read bytes at 1 (at + 1) (omega arith) in
+    let third = byte_read bytes at 2 (at + 2) (omega arith) in
+    let fourth = byte_read bytes at 3 (at + 2 + 1) (omega arith) in
+    omega (arith, first, second, third, fourth)
 
 -- a place within so many bytes, or one of the answers without a segment
 abbrev pub IsPlace : ℕ → Result ℕ Packet → Type 0

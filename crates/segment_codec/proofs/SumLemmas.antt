@@ -1,5 +1,5 @@
 -- A checksum makes the sum whole.
-use Rattle.std.proofs.Common.{◌≡◌, ℕ, zero, suc, ◌+◌, ◌-◌, ◌<◌, ◌≤◌, List, [], ◌∷◌, ◌++◌, length, slice_index, refl, take, length-append, append_assoc, ap, ◌∙◌, arith, Option, Some, None, subst}
+use Rattle.std.proofs.Common.{◌≡◌, ℕ, zero, suc, ◌+◌, ◌-◌, ◌<◌, ◌≤◌, List, [], ◌∷◌, ◌++◌, length, take, length-append, append_assoc, ap, ◌∙◌, arith, Option, Some, None, subst}
 use Rattle.std.proofs.Math.ListN.{get_or}
 use Rattle.std.proofs.lemmas.List.{take_more}
 use Rattle.std.proofs.lemmas.Bool.Decides.{nat_tests}
@@ -68,16 +68,6 @@ datagram_is_joined t r old reserved header whole total first second p q s size f
     ∙ ap (λ l. old ++ l) (ap (λ k. ip_with t total first ++ tcp_with t r k) g
     ∙ (ap (λ k. ip_with t total k ++ tcp_with t r (tcp_sum t r)) f
     ∙ ap (λ k. ip_with t k (ip_sum t k) ++ tcp_with t r (tcp_sum t r)) size))))
-
--- five words by their places
-pub five : (xs : List ℕ) → length xs ≡ 5 → xs ≡ slice_index xs 0 ∷ slice_index xs 1 ∷ slice_index xs 2 ∷ slice_index xs 3 ∷ slice_index xs 4 ∷ []
-five [] h = absurd (omega (arith, h))
-five (a ∷ []) h = absurd (omega (arith, h))
-five (a ∷ b ∷ []) h = absurd (omega (arith, h))
-five (a ∷ b ∷ c ∷ []) h = absurd (omega (arith, h))
-five (a ∷ b ∷ c ∷ d ∷ []) h = absurd (omega (arith, h))
-five (a ∷ b ∷ c ∷ d ∷ e ∷ []) h = refl
-five (a ∷ b ∷ c ∷ d ∷ e ∷ f ∷ rest) h = absurd (omega (arith, h))
 
 -- a word that is carried has its room among all of them
 pub word_within : (words : List (Option ℕ)) (i w : ℕ) → i < length words → get_or words i None ≡ Some w

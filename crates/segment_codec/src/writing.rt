@@ -10,6 +10,7 @@ ghost use Rattle.segment_codec.specs.Limits.{most_text, most_option_words};
 ghost use Rattle.segment_codec.specs.Datagrams.{most_datagram};
 
 use crate::packet::Reply;
+use byteorder::{BigEndian, ByteOrder};
 use sq_base::{Octets, Tuple, inet_sum};
 use std::alloc::{AllocError, Global};
 
@@ -176,15 +177,9 @@ fn push_header(out: &mut Vec<u8>, header: [u32; 5]) -> Result<(), AllocError>
     ensures succeeds { vec_len out.old + 20 ≤ vec_capacity out.old → IsOk result }
     ensures capacity { vec_capacity out.old ≤ vec_capacity out.new }
 {
-    let [a, b, c, d, e] = header;
-    let [a0, a1, a2, a3] = a.to_be_bytes();
-    let [b0, b1, b2, b3] = b.to_be_bytes();
-    let [c0, c1, c2, c3] = c.to_be_bytes();
-    let [d0, d1, d2, d3] = d.to_be_bytes();
-    let [e0, e1, e2, e3] = e.to_be_bytes();
-    out.extend_from_slice(&[
-        a0, a1, a2, a3, b0, b1, b2, b3, c0, c1, c2, c3, d0, d1, d2, d3, e0, e1, e2, e3,
-    ])
+    let mut bytes = [0u8; 20];
+    BigEndian::write_u32_into(&header, &mut bytes);
+    out.extend_from_slice(&bytes)
 }
 
 /// Appends the TCP part with this checksum, or a front of it where memory is missing.
