@@ -26,7 +26,7 @@
 //! | Field | What it says |
 //! |---|---|
 //! | `words LINE` | the words, between blanks, or between bars where the line has any |
-//! | `input` | the input, in lines as [`bytes_of`](captures.rt) reads them |
+//! | `input` | the input, in lines as [`bytes_of`] reads them |
 //! | `text` | lines that stand before the input |
 //! | `change N TEXT` .. | the Nth of these lines, counted from 0, is another; with no TEXT it is left out, and `\n` in TEXT ends a line |
 //! | `reads N`, `writes N` | how many bytes a read gives and a write takes at most; else 65,536 |

@@ -20,11 +20,13 @@ use squeue_streams::{Source, Stream, Streams};
 use std::alloc::{AllocError, Global};
 use std::sync::Wait;
 
-// How many amounts a stream has in its life, how often it is put in again at most, and how often its ring asks for that.
+/// How many amounts a stream has in its life at most.
 pub const LIFE: u64 = 1 << 52;
 
+/// How often a stream is put in again at most.
 pub const AGAIN: u32 = 1 << 21;
 
+// How often a stream's ring asks for that.
 const ASKS: u64 = 1 << 22;
 
 /// How a stream is brought: how many amounts its ring holds, how many feeds are entered at most at once, and after how many
