@@ -17,6 +17,13 @@ filled_more n len items d b copied rest behind e f inside le =
     take-take m len ((take n d ++ (copied ++ rest)) ++ behind) inside
     ∙ (λ k. take m ((take n (e k) ++ (f k ++ rest)) ++ behind)) ∙ ap (take m) joined ∙ take_at (take n items ++ b) (rest ++ behind) m long
 
+-- the same of a list whose length is known as k
+pub filled_by : (n k len : ℕ) (items d b copied rest behind : List ℕ) → length b ≡ k → d ≡ items → copied ≡ b → n + k ≤ len → n ≤ length items
+    → take (n + k) (take len ((take n d ++ (copied ++ rest)) ++ behind)) ≡ take n items ++ b
+filled_by n k len items d b copied rest behind long e f inside le =
+    subst (λ j. take (n + j) (take len ((take n d ++ (copied ++ rest)) ++ behind)) ≡ take n items ++ b) long
+    (filled_more n len items d b copied rest behind e f (omega (arith, long, inside)) le)
+
 pub more_place : (t : Told) (bytes : List ℕ) → (more t bytes).place ≡ t.place
 unfolding more
 more_place t bytes = refl

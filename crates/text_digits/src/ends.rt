@@ -1,10 +1,12 @@
 //! Where a text goes.
 
+use crate::digits_in;
 use std::alloc::AllocError;
 
 /// The end of a text of bytes, which grows there.
 pub trait TextEnd {
-    ghost use Rattle.std.specs.Prelude.{◌≡◌, ℕ, ◌+◌, IsOk, OnOk, if◌then◌else◌, is_ok, length};
+    ghost use Rattle.std.specs.Prelude.{◌≡◌, ℕ, ◌+◌, ◌*◌, ◌≤◌, IsOk, OnOk, if◌then◌else◌, is_ok, length};
+    ghost use Rattle.hex.specs.Hex.{encode_lower};
     ghost use Rattle.text_digits.specs.Told.{Told, more};
 
     /// Why a text doesn't grow.
@@ -27,6 +29,17 @@ pub trait TextEnd {
         ensures told { told self.new ≡ (if is_ok result then more (told self.old) bytes.now else told self.old) }
         ensures succeeds { has_room self.old (length bytes.now) → IsOk result }
         ensures left { (n : ℕ) → has_room self.old (length bytes.now + n) → OnOk result (has_room self.new n) };
+
+    /// Appends each of at most 64 bytes as two hexadecimal digits, in lower case. After an error the text is as it was.
+    fn put_hex(&mut self, bytes: &[u8]) -> Result<(), Self::Fault>
+        requires { length bytes.now ≤ 64 }
+        ensures told { told self.new ≡ (if is_ok result then more (told self.old) (encode_lower bytes.now) else told self.old) }
+        ensures succeeds { has_room self.old (2 * length bytes.now) → IsOk result }
+        ensures left { (n : ℕ) → has_room self.old (2 * length bytes.now + n) → OnOk result (has_room self.new n) }
+    {
+        let mut room = [0u8; 128];
+        self.put(digits_in(&mut room, bytes))
+    }
 
     /// Where there is room, there is room for less.
     ghost less: { (s : Self) (n m : ℕ) → has_room s (n + m) → has_room s n };

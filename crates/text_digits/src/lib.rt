@@ -1,11 +1,11 @@
 //! Numbers and bytes as digits, at the end of a text of bytes.
 //!
-//! Each digit comes from a table by its index, without any format machinery, so that a report may have millions of them. A call fails
-//! only where the text's end does: one that grows in memory for want of it, and none that appends digits alone where there is room.
+//! Digits are made without any format machinery, so that a report may have millions of them. A call fails only where the text's end
+//! does: one that grows in memory for want of it, and none that appends digits alone where there is room.
 #![tactic(auto)]
 
-ghost use Rattle.std.specs.Prelude.{◌≡◌, ℕ, ◌+◌, ◌*◌, ◌≤◌, ◌++◌, IsOk, OnOk, if◌then◌else◌, is_ok, length, take};
-ghost use Rattle.hex.specs.Hex.{encode_lower};
+ghost use Rattle.std.specs.Prelude.{◌≡◌, ◌<◌, slice_index, ℕ, ◌+◌, ◌*◌, ◌≤◌, ◌++◌, IsOk, OnOk, if◌then◌else◌, is_ok, length};
+ghost use Rattle.hex.specs.Hex.{encode_lower, lower_digits};
 ghost use Rattle.text_digits.specs.Told.{more};
 
 mod ends;
@@ -14,9 +14,6 @@ mod pieces;
 pub use ends::TextEnd;
 use itoa::{Buffer, Integer};
 pub use pieces::Pieces;
-
-/// The digits of a hexadecimal number, in lower case.
-const DIGITS: [u8; 16] = *b"0123456789abcdef";
 
 /// Appends a number in decimal. After an error the text is as it was.
 ///
@@ -49,34 +46,40 @@ pub fn push_hex<T: TextEnd>(text: &mut T, bytes: &[u8]) -> Result<(), T::Fault>
     ensures succeeds { T.has_room text.old (2 * length bytes.now) → IsOk result }
 {
     text.reserve(2 * bytes.len())?;
-    let mut digits = [0u8; 128];
     let mut rest = bytes;
     while !rest.is_empty() {
         let (part, behind) = rest.split_at(rest.len().min(64));
-        push_part(text, part, &mut digits)?;
+        text.put_hex(part)?;
         rest = behind;
     }
     Ok(())
 }
 
-/// Appends the digits of at most 64 bytes, which are made in `digits`.
-fn push_part<T: TextEnd>(text: &mut T, part: &[u8], digits: &mut [u8; 128]) -> Result<(), T::Fault>
-    requires { length part.now ≤ 64 }
-    ensures items { OnOk result (T.told text.new ≡ more (T.told text.old) (encode_lower part.now)) }
-    ensures succeeds { T.has_room text.old (2 * length part.now) → IsOk result }
-    ensures left { (n : ℕ) → T.has_room text.old (2 * length part.now + n) → OnOk result (T.has_room text.new n) }
+/// Makes the digits of at most 64 bytes, at the front of `room`.
+pub(crate) fn digits_in<'r>(room: &'r mut [u8; 128], bytes: &[u8]) -> &'r [u8]
+    requires { length bytes.now ≤ 64 }
+    ensures { result.now ≡ encode_lower bytes.now }
 {
-    fill(digits, part);
-    text.put(&digits[..2 * part.len()])
+    let digits = &mut room[..2 * bytes.len()];
+    write_digits(digits, bytes);
+    digits
 }
 
-/// Makes the digits of these bytes at the front of `digits`.
-fn fill(digits: &mut [u8; 128], part: &[u8])
-    requires { length part.now ≤ 64 }
-    ensures { take (2 * length part.now) digits.new ≡ encode_lower part.now }
+/// Makes the digits of these bytes, where there is just the room: by arithmetic and not by a table, so that many are made at once.
+pub(crate) fn write_digits(digits: &mut [u8], bytes: &[u8])
+    requires { length digits.old ≡ 2 * length bytes.now }
+    ensures { digits.new ≡ encode_lower bytes.now }
 {
-    for at in 0..part.len() {
-        digits[2 * at] = DIGITS[(part[at] / 16) as usize];
-        digits[2 * at + 1] = DIGITS[(part[at] % 16) as usize];
+    for at in 0..bytes.len() {
+        digits[2 * at] = digit(bytes[at] / 16);
+        digits[2 * at + 1] = digit(bytes[at] % 16);
     }
+}
+
+/// The digit of a number below 16.
+fn digit(n: u8) -> u8
+    requires { n < 16 }
+    ensures { result ≡ slice_index lower_digits n }
+{
+    if n < 10 { n + b'0' } else { n - 10 + b'a' }
 }

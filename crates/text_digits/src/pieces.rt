@@ -1,13 +1,15 @@
 //! A text that is written in pieces.
 
-ghost use Rattle.std.specs.Prelude.{◌≡◌, ⊤, ◌+◌, ◌<◌, ◌≤◌, ◌++◌, true, false, length, take, vec_len, OnOk, OnErr};
+ghost use Rattle.std.specs.Prelude.{◌≡◌, ⊤, ◌+◌, ◌*◌, ◌<◌, ◌≤◌, ◌++◌, true, false, length, take, vec_len, OnOk, OnErr};
 ghost use Rattle.std.specs.Io.KnownBytes.{Appends};
 ghost use Rattle.std.proofs.Props.{props};
 ghost use Rattle.sq_base.specs.Ends.{AppendsProperly, Rose};
+ghost use Rattle.hex.specs.Hex.{encode_lower};
 ghost use Rattle.text_digits.specs.Told.{more};
 ghost use Rattle.text_digits.specs.Pieces.{Telling, told_first, IsWhole, IsCut, Appends-prop, HasFront-prop};
 
 use crate::ends::TextEnd;
+use crate::{digits_in, write_digits};
 use perimeter_core::Known;
 use sq_base::{Failed, Sink, put};
 use std::convert::Infallible;
@@ -110,6 +112,16 @@ impl<'k, K: Sink> Pieces<'k, K> {
         self.said = grown(&self.said, bytes);
     }
 
+    /// Keeps the digits of these bytes.
+    fn keep_hex(&mut self, bytes: &[u8])
+        requires { self.old.filled + 2 * length bytes.now ≤ vec_len self.old.piece }
+        ensures { self.new.said.value.told ≡ more self.old.said.value.told (encode_lower bytes.now) }
+    {
+        fill_hex(&mut self.piece, self.filled, bytes);
+        self.filled += 2 * bytes.len();
+        self.said = grown_hex(&self.said, bytes);
+    }
+
     /// Writes what is kept, where no write has failed.
     fn flush(&mut self)
         ensures told { self.new.said.value.told ≡ self.old.said.value.told }
@@ -135,9 +147,25 @@ fn fill(piece: &mut Vec<u8>, filled: usize, bytes: &[u8])
     piece[filled..filled + bytes.len()].copy_from_slice(bytes);
 }
 
+/// Makes the digits of these bytes behind the first `filled`.
+fn fill_hex(piece: &mut Vec<u8>, filled: usize, bytes: &[u8])
+    requires { filled + 2 * length bytes.now ≤ vec_len piece.old }
+    ensures front { take (filled + 2 * length bytes.now) piece.new.items ≡ take filled piece.old.items ++ encode_lower bytes.now }
+    ensures room { vec_len piece.new ≡ vec_len piece.old }
+{
+    write_digits(&mut piece[filled..filled + 2 * bytes.len()], bytes);
+}
+
 // The text that was told, with more bytes behind it.
 fn grown(said: &Known<Said>, bytes: &[u8]) -> Known<Said>
     ensures { result.value ≡ record { told = more said.now.value.told bytes.now; written = said.now.value.written } }
+{
+    said_as(said, bytes)
+}
+
+// The text that was told, with the digits of these bytes behind it.
+fn grown_hex(said: &Known<Said>, bytes: &[u8]) -> Known<Said>
+    ensures { result.value ≡ record { told = more said.now.value.told (encode_lower bytes.now); written = said.now.value.written } }
 {
     said_as(said, bytes)
 }
@@ -173,6 +201,16 @@ impl<K: Sink> TextEnd for Pieces<'_, K> {
             self.keep(bytes);
         } else {
             self.pass(bytes);
+        }
+        Ok(())
+    }
+
+    fn put_hex(&mut self, bytes: &[u8]) -> Result<(), Infallible> {
+        if 2 * bytes.len() <= self.piece.len() - self.filled {
+            self.keep_hex(bytes);
+        } else {
+            let mut room = [0u8; 128];
+            self.pass(digits_in(&mut room, bytes));
         }
         Ok(())
     }
