@@ -3,6 +3,8 @@
 ghost use Rattle.std.specs.Prelude.{◌≡◌, ◌+◌, ◌≤◌, length, drop, take};
 ghost use Rattle.segment_codec.specs.Places.{word, long};
 
+use byteorder::{BigEndian, ByteOrder};
+
 /// The bytes from a place on.
 pub fn rest_at(bytes: &[u8], at: usize) -> &[u8]
     requires { at ≤ length bytes.now }
@@ -20,19 +22,17 @@ pub fn front(bytes: &[u8], n: usize) -> &[u8]
 }
 
 /// The number in two bytes.
-#[tactic(auto, unfolding(segment_codec::specs::Places::word))]
 pub fn word_at(bytes: &[u8], at: usize) -> u16
     requires { at + 2 ≤ length bytes.now }
     ensures { result ≡ word bytes.now at }
 {
-    u16::from(bytes[at]) << 8 | u16::from(bytes[at + 1])
+    BigEndian::read_u16(rest_at(bytes, at))
 }
 
 /// The number in four bytes.
-#[tactic(auto, unfolding(segment_codec::specs::Places::long))]
 pub fn long_at(bytes: &[u8], at: usize) -> u32
     requires { at + 4 ≤ length bytes.now }
     ensures { result ≡ long bytes.now at }
 {
-    u32::from(word_at(bytes, at)) << 16 | u32::from(word_at(bytes, at + 2))
+    BigEndian::read_u32(rest_at(bytes, at))
 }

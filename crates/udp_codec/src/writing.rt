@@ -1,11 +1,12 @@
 //! A sent datagram in bytes. Both checksums are taken over the fields as numbers first, so each byte is written once.
 
-ghost use Rattle.std.specs.Prelude.{◌≡◌, ◌+◌, ◌*◌, ◌++◌, ◌≤◌, length, IfOk, OnOk};
+ghost use Rattle.std.specs.Prelude.{◌≡◌, ◌+◌, ◌*◌, ◌++◌, ◌≤◌, length, flat_map, IfOk, OnOk};
 ghost use Rattle.byteorder.specs.Endian.{big_bytes};
 ghost use Rattle.sq_base.specs.InternetSum.{word_sum, reduced};
 ghost use Rattle.udp_codec.specs.UdpBytes.{udp_bytes, ip_with, udp_with, ip_sum, udp_sum, not_none};
 ghost use Rattle.udp_codec.specs.Limits.{most_text};
 
+use byteorder::{BigEndian, ByteOrder};
 use sq_base::{Octets, Tuple, inet_sum};
 use std::alloc::{AllocError, Global};
 
@@ -70,13 +71,29 @@ fn not_none(sum: u16) -> u16
 fn push_header(out: &mut Vec<u8>, tuple: &Tuple, total: u16, sum: u16) -> Result<(), AllocError>
     ensures { OnOk result (out.new.items ≡ out.old.items ++ ip_with tuple.now total sum) }
 {
-    let [t0, t1] = total.to_be_bytes();
-    let [s0, s1] = sum.to_be_bytes();
-    let [a0, a1, a2, a3] = tuple.server.0.to_be_bytes();
-    let [b0, b1, b2, b3] = tuple.client.0.to_be_bytes();
-    out.extend_from_slice(&[
-        0x45, 0, t0, t1, 0, 0, 0x40, 0, 0x40, 17, s0, s1, a0, a1, a2, a3, b0, b1, b2, b3,
-    ])
+    let mut header = [0; 20];
+    BigEndian::write_u32_into(&ip_header(tuple, total, sum), &mut header);
+    out.extend_from_slice(&header)
+}
+
+/// The IPv4 header with this checksum, in words of 32 bits: no fragment, 64 hops, UDP.
+fn ip_header(tuple: &Tuple, total: u16, sum: u16) -> [u32; 5]
+    ensures { flat_map (big_bytes 4) result ≡ ip_with tuple.now total sum }
+{
+    [
+        joined(0x4500, total),
+        joined(0, 0x4000),
+        joined(0x4011, sum),
+        tuple.server.0,
+        tuple.client.0,
+    ]
+}
+
+/// Two words of 16 bits as one of 32.
+fn joined(high: u16, low: u16) -> u32
+    ensures { big_bytes 4 result ≡ big_bytes 2 high ++ big_bytes 2 low }
+{
+    u32::from(high) * 0x1_0000 + u32::from(low)
 }
 
 /// Appends the UDP part with this checksum.
@@ -85,10 +102,14 @@ fn push_part(out: &mut Vec<u8>, tuple: &Tuple, text: &[u8], sum: u16) -> Result<
     requires { length text.now ≤ most_text }
     ensures { OnOk result (out.new.items ≡ out.old.items ++ udp_with tuple.now text.now sum) }
 {
-    let [p0, p1] = tuple.server_port.to_be_bytes();
-    let [q0, q1] = tuple.client_port.to_be_bytes();
-    let [n0, n1] = (8 + text.len() as u16).to_be_bytes();
-    let [c0, c1] = sum.to_be_bytes();
-    out.extend_from_slice(&[p0, p1, q0, q1, n0, n1, c0, c1])?;
+    let words = [
+        tuple.server_port,
+        tuple.client_port,
+        8 + text.len() as u16,
+        sum,
+    ];
+    let mut header = [0; 8];
+    BigEndian::write_u16_into(&words, &mut header);
+    out.extend_from_slice(&header)?;
     out.extend_from_slice(text)
 }
