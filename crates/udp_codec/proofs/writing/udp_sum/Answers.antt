@@ -1,5 +1,5 @@
 use Rattle.std.proofs.Common.{ℕ, ◌-◌, ap, ◌∙◌, arith}
-use Rattle.sq_base.specs.InternetSum.{reduced, word_sum}
+use Rattle.sq_base.specs.InternetSum.{reduced}
 use Rattle.segment_codec.proofs.SumLemmas.{goes_on}
 use Rattle.udp_codec.specs.UdpBytes.{udp_sum, not_none}
 use Rattle.udp_codec.proofs.writing.udp_sum.Goals as goal
