@@ -18,20 +18,21 @@ pub fn run_each<W: Threads + Wait + Sync, T: Send, F: Fn(usize, &mut T) + Sync>(
     requires { AcceptsEach F.Fn f.now jobs.old }
     ensures { ChangesEach F.Fn f.now jobs.old jobs.new }
 {
-    run_from(rt, &Start::of(jobs.len().saturating_sub(1)), jobs, f);
+    run_each_after(rt, jobs.len().saturating_sub(1), jobs, f);
 }
 
-// The same, from such a start.
-fn run_from<W: Threads + Wait + Sync, T: Send, F: Fn(usize, &mut T) + Sync>(
+/// Does the jobs as [`run_each`] does, where none begins before `others` threads beside this one have been made. Where there are fewer
+/// other jobs than that, it is as if a thread couldn't be made.
+pub fn run_each_after<W: Threads + Wait + Sync, T: Send, F: Fn(usize, &mut T) + Sync>(
     rt: &W,
-    start: &Start,
+    others: usize,
     jobs: &mut [T],
     f: &F,
 )
     requires { AcceptsEach F.Fn f.now jobs.old }
     ensures { ChangesEach F.Fn f.now jobs.old jobs.new }
 {
-    run_all(rt, f, start, jobs);
+    run_all(rt, f, &Start::of(others), jobs);
 }
 
 // Does the jobs: the first on this thread, each other in a new one, which are made from the last down.
@@ -119,6 +120,3 @@ fn do_one<T, F: Fn(usize, &mut T)>(f: &F, i: usize, job: &mut T)
 {
     f(i, job);
 }
-
-#[cfg(test)]
-mod tests;

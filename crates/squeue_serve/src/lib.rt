@@ -13,7 +13,7 @@ mod jobs;
 mod places;
 mod start;
 
-pub use beside::run_each;
+pub use beside::{run_each, run_each_after};
 pub use ending::{end_last, run_unused};
 pub use jobs::{Job, Squeues, discard, jobs_of, lend};
 pub use places::{close_all, put_pass, take_pass, work};

@@ -1,7 +1,6 @@
 //! Jobs beside each other, and one after another where threads are refused.
 
-use super::{run_each, run_from};
-use crate::start::Start;
+use squeue_serve::{run_each, run_each_after};
 use std::sync::Barrier;
 use std::sync::atomic::{AtomicU64, Ordering};
 use std::test::*;
@@ -25,9 +24,9 @@ fn one_thread_is_missing(rt: HostRuntime) -> Result<(), Fail> {
     let begun = AtomicU64::new(0);
     let inside = AtomicU64::new(0);
     let mut jobs = [UNSEEN; 6];
-    run_from(
+    run_each_after(
         &rt,
-        &Start::of(6),
+        6,
         &mut jobs,
         &|_, job: &mut Seen| {
             job.before = begun.fetch_add(1, Ordering::SeqCst);
