@@ -8,7 +8,6 @@ mod Settled
 mod Held
 mod LettingGo
 mod NewBlock
-pub mod FeedsInOrder
 pub mod PlaceSteps
 pub mod SettledOrders
 pub mod Named

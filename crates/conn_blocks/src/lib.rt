@@ -13,8 +13,6 @@ pub mod laws;
 mod limits;
 mod services;
 mod stages;
-#[cfg(test)]
-mod tests;
 
 pub use block::{Block, serve_one};
 pub use blocks::Blocks;

@@ -5,7 +5,7 @@ use Rattle.perimeter_core.specs.Blocks.{with_act}
 use Rattle.perimeter_core.proofs.ActLists.{here_of_feeds}
 use Rattle.perimeter_core.proofs.OneBlock.{after_call}
 use Rattle.perimeter_core.proofs.NextFeed.{fed-append}
-use Rattle.conn_blocks.proofs.tests.call_now.Goals as goal
+use Rattle.run_tests.proofs.blocks.call_now.Goals as goal
 
 pub call-requires-clause-here : goal.call-requires-clause-here
 call-requires-clause-here g c = here_of_feeds _ 0 c.args._n c.requires.here

@@ -5,7 +5,7 @@ use Rattle.perimeter_core.specs.Deeds.{fed}
 use Rattle.perimeter_core.specs.Blocks.{with_feeds}
 use Rattle.perimeter_core.proofs.OneBlock.{after_feed}
 use Rattle.perimeter_core.proofs.NextFeed.{fed-append}
-use Rattle.conn_blocks.proofs.tests.feed_next.Goals as goal
+use Rattle.run_tests.proofs.blocks.feed_next.Goals as goal
 
 pub returns-clause-next : goal.returns-clause-next
 returns-clause-next g c =

@@ -4,9 +4,9 @@ use Rattle.std.proofs.lemmas.List.{take_all, take_more}
 use Rattle.perimeter_core.specs.declared.entries.Act.TheVariants as act
 use Rattle.conn_classifier.specs.Plan.{items_in}
 use Rattle.conn_blocks.specs.ServeOrder.{FeedsRise, IsActOf}
-use Rattle.conn_blocks.proofs.FeedsInOrder.{RisesTo, rises, rises_feed, rises_call}
-use Rattle.conn_blocks.proofs.tests.can_serve.Goals.{in-Feed+else-n-least+else-n-items, in-Call+else-not-is_call}
-use Rattle.conn_blocks.proofs.tests.can_serve.Goals as goal
+use Rattle.run_tests.proofs.FeedsInOrder.{RisesTo, rises, rises_feed, rises_call}
+use Rattle.run_tests.proofs.blocks.can_serve.Goals.{in-Feed+else-n-least+else-n-items, in-Call+else-not-is_call}
+use Rattle.run_tests.proofs.blocks.can_serve.Goals as goal
 use Rattle.capture_reader.proofs.Pieces.{all_push}
 
 pub loop-act-preserved : goal.loop-act-preserved

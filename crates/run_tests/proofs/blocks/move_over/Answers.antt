@@ -2,7 +2,7 @@ use Rattle.std.proofs.Common.{refl, subst}
 use Rattle.perimeter_core.specs.declared.marks.SynchAct.TheVariants as Done
 use Rattle.perimeter_core.specs.Blocks.{with_act}
 use Rattle.perimeter_core.proofs.ActLists.{here_of_feeds}
-use Rattle.conn_blocks.proofs.tests.move_over.Goals as goal
+use Rattle.run_tests.proofs.blocks.move_over.Goals as goal
 
 pub take_out-part-requires-clause-here : goal.take_out-part-requires-clause-here
 take_out-part-requires-clause-here g c = here_of_feeds _ 0 2 c.requires.here

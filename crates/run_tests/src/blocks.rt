@@ -1,18 +1,17 @@
-ghost use Rattle.std.specs.Prelude.{◌≡◌, ◌+◌, ◌*◌, ◌<◌, ◌≤◌, true, All, Contains, List, length, slice_index, IfOk};
+//! The blocks of connections: a connection served in an order, acts that come to a block early and again, and a block that moves.
+
+ghost use Rattle.std.specs.Prelude.{◌≡◌, ◌+◌, ◌*◌, ◌<◌, ◌≤◌, true, All, Contains, length, slice_index, IfOk};
 ghost use Rattle.std.specs.List.{AllByRecursion};
-ghost use Rattle.perimeter_core.specs.declared.entries.Act.{Act};
 ghost use Rattle.perimeter_core.specs.declared.entries.Act.TheVariants as Act;
 ghost use Rattle.perimeter_core.specs.Residing.{HadFeeds, NotHere};
 ghost use Rattle.conn_classifier.specs.Plan.{items_in};
 ghost use Rattle.conn_blocks.specs.Allowed.{all_calls};
 ghost use Rattle.conn_blocks.specs.Limits.{most_calls};
 ghost use Rattle.conn_blocks.specs.ServeOrder.{IsActOf, IsCallOn, FeedsRise};
-ghost use Rattle.perimeter_core.specs.Deeds.{feed_numbers};
-ghost use Rattle.conn_blocks.specs.Holding.{StandsFor};
 
-use crate::{Act, Block, Blocks, Calls, serve_one};
 use capture_reader::{Capture, parse_capture};
-use conn_classifier::{Plan, PlanView, plan};
+use conn_blocks::{Act, Block, Blocks, Calls, serve_one};
+use conn_classifier::{Plan, plan};
 use perimeter_core::Resident;
 use sq_base::Octets;
 use std::alloc::{AllocError, Global};
@@ -144,78 +143,6 @@ fn can_serve(plan: &Plan, calls: &Calls, order: &[Act]) -> bool
         }
     }
     true
-}
-
-/// How many feeds an order has.
-fn feeds(order: &[Act]) -> usize
-    ensures { result ≡ length (feed_numbers order.now) }
-{
-    let mut count = 0;
-    for act in order {
-        match *act {
-            Act::Feed { .. } => count += 1,
-            Act::Call { .. } => {}
-        }
-    }
-    count
-}
-
-/// An act comes to the block of connection 0, where there is such an act and it can come now.
-fn give(block: &mut Block, alloc: Global, plan: &PlanView<'_>, calls: &Calls, act: Act) -> bool
-    requires conn { 0 < length plan.now.tuples }
-    requires stands { (came : List Act) × StandsFor plan.now calls.now 0 came block.old }
-    ensures { (came : List Act) × StandsFor plan.now calls.now 0 came block.new }
-{
-    match act {
-        Act::Feed { n } => {
-            if n >= plan.items(0) || n as usize != feeds(block.order()) {
-                return false;
-            }
-            block.feed(alloc, plan, calls, 0, n);
-        }
-        Act::Call { j, k } => {
-            if !is_call(calls, j, k) {
-                return false;
-            }
-            block.call(alloc, plan, calls, 0, j, k);
-        }
-    }
-    true
-}
-
-/// Acts come to the block of connection 0, one after another.
-fn give_all(
-    block: &mut Block,
-    alloc: Global,
-    plan: &PlanView<'_>,
-    calls: &Calls,
-    acts: &[Act],
-) -> bool
-    requires conn { 0 < length plan.now.tuples }
-    requires stands { (came : List Act) × StandsFor plan.now calls.now 0 came block.old }
-    ensures { (came : List Act) × StandsFor plan.now calls.now 0 came block.new }
-{
-    for act in acts {
-        if !give(block, alloc, plan, calls, *act) {
-            return false;
-        }
-    }
-    true
-}
-
-/// The block of connection 0 to which these acts came.
-fn given(
-    alloc: Global,
-    plan: &PlanView<'_>,
-    calls: &Calls,
-    acts: &[Act],
-) -> Result<Option<Box<Block>>, AllocError> {
-    if plan.conns() == 0 {
-        return Ok(None);
-    }
-    let mut block = Block::fresh(alloc, plan, calls, 0)?;
-    let all = give_all(&mut block, alloc, plan, calls, acts);
-    Ok(all.then_some(block))
 }
 
 /// A reply: time, flags, sequence number, acknowledgement number, window, text.
@@ -414,68 +341,6 @@ const HELLO_AND_CLOSE: Wanted = Wanted {
     ],
 };
 
-/// The same acts, with calls that come early and again.
-const EARLY_AND_AGAIN: [Act; 13] = [
-    Act::Feed { n: 0 },
-    Act::Feed { n: 1 },
-    Act::Call { j: 0, k: 1 },
-    Act::Call { j: 0, k: 1 },
-    Act::Feed { n: 2 },
-    Act::Call { j: 0, k: 0 },
-    Act::Call { j: 0, k: 0 },
-    Act::Call { j: 1, k: 0 },
-    Act::Call { j: 0, k: 1 },
-    Act::Feed { n: 3 },
-    Act::Feed { n: 4 },
-    Act::Feed { n: 5 },
-    Act::Call { j: 1, k: 0 },
-];
-
-/// These acts come to a block, and it is served in the order without them.
-fn expect_closed(
-    rt: &impl Abort,
-    alloc: Global,
-    plan: &Plan,
-    calls: &Calls,
-) -> Result<(), AllocError> {
-    let block = given(alloc, &plan.view(), calls, &EARLY_AND_AGAIN)?;
-    expect(
-        rt,
-        "early, repeated and late calls",
-        &block,
-        &HELLO_AND_CLOSE,
-    );
-    Ok(())
-}
-
-/// Call 1 of thread 0 comes, and call 0 never does.
-const NEVER_LET_GO: [Act; 3] = [
-    Act::Call { j: 0, k: 1 },
-    Act::Feed { n: 0 },
-    Act::Call { j: 1, k: 0 },
-];
-
-/// Whether call 1 of thread 0 is still held, and the others were done.
-fn is_held(block: &Option<Box<Block>>) -> bool {
-    let order = [Act::Feed { n: 0 }, Act::Call { j: 1, k: 0 }];
-    match block {
-        None => false,
-        Some(block) => block.order() == order.as_slice() && block.answers() == 1,
-    }
-}
-
-/// These acts come to a block, and it holds the call to the end.
-fn expect_held(
-    rt: &impl Abort,
-    alloc: Global,
-    plan: &Plan,
-    calls: &Calls,
-) -> Result<(), AllocError> {
-    let block = given(alloc, &plan.view(), calls, &NEVER_LET_GO)?;
-    assert!(rt; is_held(&block), "a call that is held to the end");
-    Ok(())
-}
-
 /// Feed `n` of connection 0 comes to a resident, which is the next one.
 fn feed_next<R: Resident>(resident: &mut R, alloc: Global, n: u32)
     requires range { 0 < R.size resident.old }
@@ -510,6 +375,7 @@ fn first_acts<R: Resident>(resident: &mut R, alloc: Global)
     requires close { Contains (R.limits resident.old).calls (0, 0, 1) }
     ensures here { HadFeeds (R.stands resident.new) 0 2 }
     ensures size { R.size resident.new ≡ R.size resident.old }
+    ensures limits { R.limits resident.new ≡ R.limits resident.old }
     ensures origin { R.origin resident.new ≡ R.origin resident.old }
 {
     feed_next(resident, alloc, 0);
@@ -550,6 +416,19 @@ fn last_acts<R: Resident>(resident: &mut R, alloc: Global)
     call_now(resident, alloc, 6, 1, 0);
 }
 
+/// Call 1 of thread 0, which waits for its call 0, a feed, and the call of thread 1.
+fn held_acts<R: Resident>(resident: &mut R, alloc: Global)
+    requires range { 0 < R.size resident.old }
+    requires fresh { HadFeeds (R.stands resident.old) 0 0 }
+    requires limit { slice_index (R.limits resident.old).feeds 0 ≡ 6 }
+    requires close { Contains (R.limits resident.old).calls (0, 0, 1) }
+    requires other { Contains (R.limits resident.old).calls (0, 1, 0) }
+{
+    call_now(resident, alloc, 0, 0, 1);
+    feed_next(resident, alloc, 0);
+    call_now(resident, alloc, 1, 1, 0);
+}
+
 /// The block of connection 0, after two feeds, goes from one resident to another.
 fn move_over<R: Resident>(from: &mut R, to: &mut R)
     requires from { 0 < R.size from.old }
@@ -564,6 +443,43 @@ fn move_over<R: Resident>(from: &mut R, to: &mut R)
 {
     let part = from.take_out(0);
     to.put_in(0, part);
+}
+
+/// The places of the only squeue, to which all of these acts came.
+fn unmoved(
+    rt: &impl Abort,
+    alloc: Global,
+    plan: &Plan,
+    calls: &Calls,
+) -> Result<Vec<Option<Box<Block>>>, AllocError>
+    requires below { All (λ call. call.0 < 1) (all_calls calls.now) }
+    requires status { Contains (all_calls calls.now) (0, 0, 0) }
+    requires close { Contains (all_calls calls.now) (0, 0, 1) }
+    requires other { Contains (all_calls calls.now) (0, 1, 0) }
+{
+    assert!(rt; plan.conns() == 1 && plan.items(0) == 6);
+    let mut blocks = Blocks::make(alloc, plan, calls, 0, 1, 0)?;
+    first_acts(&mut blocks, alloc);
+    middle_acts(&mut blocks, alloc);
+    last_acts(&mut blocks, alloc);
+    Ok(blocks.into_places())
+}
+
+/// The places of the only squeue, to which call 1 of thread 0 came, and call 0 never did.
+fn never_let_go(
+    rt: &impl Abort,
+    alloc: Global,
+    plan: &Plan,
+    calls: &Calls,
+) -> Result<Vec<Option<Box<Block>>>, AllocError>
+    requires below { All (λ call. call.0 < 1) (all_calls calls.now) }
+    requires close { Contains (all_calls calls.now) (0, 0, 1) }
+    requires other { Contains (all_calls calls.now) (0, 1, 0) }
+{
+    assert!(rt; plan.conns() == 1 && plan.items(0) == 6);
+    let mut blocks = Blocks::make(alloc, plan, calls, 0, 1, 0)?;
+    held_acts(&mut blocks, alloc);
+    Ok(blocks.into_places())
 }
 
 /// The places of squeue 1 of two, to which connection 0 came before feed 2.
@@ -592,7 +508,51 @@ fn moved(
     Ok(second.into_places())
 }
 
-/// There is one place, and its block is as that of the acts without a move.
+/// All acts come to one squeue: the block is as in the order without those that come early, repeated and late.
+fn expect_unmoved(
+    rt: &impl Abort,
+    alloc: Global,
+    plan: &Plan,
+    calls: &Calls,
+) -> Result<(), AllocError>
+    requires below { All (λ call. call.0 < 1) (all_calls calls.now) }
+    requires status { Contains (all_calls calls.now) (0, 0, 0) }
+    requires close { Contains (all_calls calls.now) (0, 0, 1) }
+    requires other { Contains (all_calls calls.now) (0, 1, 0) }
+{
+    let places = unmoved(rt, alloc, plan, calls)?;
+    assert!(rt; places.len() == 1);
+    expect(
+        rt,
+        "early, repeated and late calls",
+        &places[0],
+        &HELLO_AND_CLOSE,
+    );
+    Ok(())
+}
+
+/// Whether call 1 of thread 0 is still held, and the others were done.
+fn is_held(block: &Option<Box<Block>>) -> bool {
+    let order = [Act::Feed { n: 0 }, Act::Call { j: 1, k: 0 }];
+    match block {
+        None => false,
+        Some(block) => block.order() == order.as_slice() && block.answers() == 1,
+    }
+}
+
+/// A call comes whose thread's call before it never does: the block holds it to the end.
+fn expect_held(rt: &impl Abort, alloc: Global, plan: &Plan, calls: &Calls) -> Result<(), AllocError>
+    requires below { All (λ call. call.0 < 1) (all_calls calls.now) }
+    requires close { Contains (all_calls calls.now) (0, 0, 1) }
+    requires other { Contains (all_calls calls.now) (0, 1, 0) }
+{
+    let places = never_let_go(rt, alloc, plan, calls)?;
+    assert!(rt; places.len() == 1);
+    assert!(rt; is_held(&places[0]), "a call that is held to the end");
+    Ok(())
+}
+
+/// The block moves between these acts, and is as that of the acts without a move.
 fn expect_moved(
     rt: &impl Abort,
     alloc: Global,
@@ -610,7 +570,7 @@ fn expect_moved(
     Ok(())
 }
 
-/// The acts come, one after another, to a block of a capture's plan, and to two squeues.
+/// The acts come, one after another, to the block of a capture's plan, at one squeue and at two.
 fn expect_acts(
     rt: &(impl Threads + Sync + Abort),
     alloc: Global,
@@ -623,7 +583,7 @@ fn expect_acts(
     requires other { Contains (all_calls calls.now) (0, 1, 0) }
 {
     let plan = plan(rt, alloc, capture, false)?;
-    expect_closed(rt, alloc, &plan, calls)?;
+    expect_unmoved(rt, alloc, &plan, calls)?;
     expect_held(rt, alloc, &plan, calls)?;
     expect_moved(rt, alloc, &plan, calls)
 }

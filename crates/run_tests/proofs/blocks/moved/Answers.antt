@@ -1,7 +1,7 @@
 use Rattle.std.proofs.Common.{rules, ◌<◌, [], length, refl, arith}
 use Rattle.placed_parts.specs.Standing.{first_here}
 use Rattle.conn_blocks.proofs.PlaceSteps.{here_first, away_first}
-use Rattle.conn_blocks.proofs.tests.moved.Goals as goal
+use Rattle.run_tests.proofs.blocks.moved.Goals as goal
 
 pub first_acts-requires-clause-fresh : goal.first_acts-requires-clause-fresh
 first_acts-requires-clause-fresh g c =

@@ -1,8 +1,8 @@
 use Rattle.std.proofs.Common.{take}
 use Rattle.std.specs.List.{AllByRecursion}
 use Rattle.conn_blocks.specs.ServeOrder.{IsActOf}
-use Rattle.conn_blocks.proofs.FeedsInOrder.{RisesTo}
-use Rattle.conn_blocks.proofs.tests.can_serve.Given as goal
+use Rattle.run_tests.proofs.FeedsInOrder.{RisesTo}
+use Rattle.run_tests.proofs.blocks.can_serve.Given as goal
 
 abbrev pub invariant-loop-act : goal.invariant-loop-act
 invariant-loop-act l = record {
