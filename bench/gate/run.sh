@@ -3,8 +3,8 @@
 set -e
 cd "$(dirname "$0")"
 (cd baseline && cargo build --release --offline --quiet)
-(cd ../../crates/gate_bench && rt run >/dev/null 2>&1)
-gate=../../crates/gate_bench/out/gate_bench
+(cd ../../crates/squeue_bench && rt run >/dev/null 2>&1)
+gate=../../crates/squeue_bench/out/squeue_bench
 base=baseline/target/release/baseline
 
 measure() {
@@ -16,7 +16,7 @@ echo "|---|---|---|---|---|"
 while read -r threads turns rounds; do
     : >gate.times; : >mutex.times; : >ticket.times
     for _ in 1 2 3 4 5; do
-        measure $gate "$threads" "$turns" "$rounds" >>gate.times
+        measure $gate gate "$threads" "$turns" "$rounds" >>gate.times
         measure $base mutex "$threads" "$turns" "$rounds" >>mutex.times
         measure $base ticket "$threads" "$turns" "$rounds" >>ticket.times
     done

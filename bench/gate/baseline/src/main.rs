@@ -1,5 +1,5 @@
-//! The turns of `gate_bench` over two other locks: std's `Mutex`, and a plain ticket lock that parks.
-//! Words: `mutex` or `ticket`, and then THREADS TURNS ROUNDS as `gate_bench` takes them.
+//! The turns of `squeue_bench gate` over two other locks: std's `Mutex`, and a plain ticket lock that parks.
+//! Words: `mutex` or `ticket`, and then THREADS TURNS ROUNDS as `squeue_bench gate` takes them.
 
 use std::cell::UnsafeCell;
 use std::ffi::{c_int, c_long};

@@ -1,7 +1,7 @@
 -- What a tally stands for.
 use Rattle.std.specs.Prelude.{◌≡◌, ℕ, List, length}
-use Rattle.gate_bench.specs.declared.tally.Turn.{Turn}
-use Rattle.gate_bench.specs.declared.tally.Tally.{Tally}
+use Rattle.squeue_bench.specs.declared.tally.Turn.{Turn}
+use Rattle.squeue_bench.specs.declared.tally.Tally.{Tally}
 
 -- the number of the pass that took the turn
 abbrev pub taker : Turn → ℕ

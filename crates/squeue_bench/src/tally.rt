@@ -25,7 +25,7 @@ pub struct Tally {
 }
 
 impl Storied for Tally {
-    ghost use Rattle.gate_bench.specs.Tally.{IsTally, taker};
+    ghost use Rattle.squeue_bench.specs.Tally.{IsTally, taker};
 
     type Mark = ();
 
@@ -37,7 +37,7 @@ impl Storied for Tally {
 }
 
 impl Tally {
-    ghost use Rattle.gate_bench.specs.Tally.{IsTally, taker};
+    ghost use Rattle.squeue_bench.specs.Tally.{IsTally, taker};
 
     pub(crate) fn turns(&self) -> u64
         ensures { result ≡ self.now.turns }
