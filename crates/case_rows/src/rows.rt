@@ -37,7 +37,12 @@ impl<'a> Row<'a> {
 
     /// The lines of a field, or none where the row hasn't it.
     pub fn lines<'s>(&'s self, name: &str) -> &'s [&'a str] {
-        named(&self.fields, name).unwrap_or(&[])
+        for field in &self.fields {
+            if field.name == name {
+                return field.lines.as_slice();
+            }
+        }
+        &[]
     }
 
     /// The only line of a field, or `other` where the row hasn't the field. An error where the field has no line, or several.
@@ -75,7 +80,8 @@ impl<'a> Row<'a> {
     pub fn expect_fields(&self, alloc: Global, known: &[&str]) -> Result<(), Fault> {
         for field in &self.fields {
             if !known.contains(&field.name) {
-                return Err(Fault::told(alloc, &["no field is called ", field.name]));
+                let name = field.name;
+                return Err(Fault::Told(format!(in alloc; "no field is called {name}")?));
             }
         }
         Ok(())
