@@ -58,6 +58,13 @@ module _ {T S : Type 0} where
     pub taken : Takes (step o) first (received stream.input) stream.state
     pub counted : stream.count ≡ length (received stream.input) % 2 ^ 64
 
+  -- The stream has taken some items more, and no feed: it is still that of each number of which it was, as often fed
+  pub record HasTakenMore {O : Type 0} (begins : O → ℕ → Consumer T Global AnyItems → S → Type 0) (step : O → S → T → S → Type 0) (o : O) (from to : Stream T S) : Type 0 where
+    pub ring : SameConsumer from.input to.input
+    pub feeds : feeds_of to ≡ feeds_of from
+    pub more : length (items_of from) ≤ length (items_of to)
+    pub its : (c : ℕ) → IsStreamOf begins step o c from → IsStreamOf begins step o c to
+
 module _ {X H T S O : Type 0} where
   -- what is made of the items, and how many streams there are
   abbrev pub steps_of : Streams X H T S O → X

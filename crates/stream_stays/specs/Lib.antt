@@ -1,1 +1,3 @@
 pub mod Staying
+pub mod Places
+pub mod Settling

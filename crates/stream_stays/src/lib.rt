@@ -9,7 +9,15 @@
 
 mod entering;
 mod passing;
+mod place;
+mod pushing;
+mod settling;
 mod stay;
+mod turning;
 
 pub use passing::{Closed, close, open};
+pub use place::{Place, Stays};
+pub use pushing::{enter_all, push_at};
+pub use settling::{Collects, settle};
 pub use stay::{Stay, Vacant};
+pub use turning::{close_at, open_at};

@@ -1,0 +1,1 @@
+use Rattle.stream_stays.proofs.settling.settle.Goals as goal
