@@ -1,6 +1,6 @@
 -- What a pass knows of its places after a push, and after its chain was entered.
 use Rattle.std.proofs.Common.{◌≡◌, ◌≢◌, Global, ℕ, zero, suc, ◌+◌, ◌%◌, ◌==◌, ◌≤◌, ◌<◌, Bool, true, false, if◌then◌else◌, inl, inr, Option, Some, List, [], ◌∷◌, ◌++◌, length, slice_index, refl, ap, sym, ◌∙◌, subst, arith}
-use Rattle.std.specs.Prelude.{Contains, slice_get}
+use Rattle.std.specs.Prelude.{◌⊎◌, Contains, Vec, slice_get, vec_capacity}
 use Rattle.std.proofs.lemmas.Bool.Decides.{nat_tests}
 use Rattle.std.proofs.lemmas.List.{append-nil, length-append}
 use Rattle.std.proofs.lemmas.List.Elements.{Contains-push_cases}
@@ -23,7 +23,7 @@ use Rattle.stream_stays.specs.declared.place.Place.TheVariants.{Open, Out, Vacan
 use Rattle.stream_stays.specs.declared.place.Stays.{Stays}
 use Rattle.stream_stays.specs.declared.stay.Stay.{Stay}
 use Rattle.stream_stays.specs.Staying.{HasLife, IsOfRing, SameStay, entered_of, leaves_of, producer_of, pushed_of, stream_of}
-use Rattle.stream_stays.specs.Places.{IsPlace, Knows, OpenAt, SameElsewhere, WasPushedAt, chain_of, life_of, place_at, places_of, touched_of}
+use Rattle.stream_stays.specs.Places.{HasNoRoom, IsPlace, Knows, OpenAt, SameButPlaces, SameElsewhere, WasPushedAt, chain_of, life_of, place_at, places_of, touched_of}
 use Rattle.stream_stays.proofs.Rings.{of_ring}
 
 longer_first : (b : Bool) (m k : ℕ) (xs ys : List ℕ) → length xs ≡ length ys + k → length (if b then m ∷ xs else xs) ≡ length (if b then m ∷ ys else ys) + k
@@ -50,7 +50,7 @@ enters_end S t p next (f ∷ es) c n e ring here is below =
     (e.0, e.1, e.2, e.3, enters_end S t p (one_more f.c next) es c n e.4 ring here (is ∙ count_first (f.c == c) (next c) f.n (feeds_of c (entries es))) below)
 
 -- one stay is at a place
-one_open : {T S : Type 0} (x : Option (Place T S)) (a b : Stay T) → x ≡ Some (Open a) → x ≡ Some (Open b) → a ≡ b
+pub one_open : {T S : Type 0} (x : Option (Place T S)) (a b : Stay T) → x ≡ Some (Open a) → x ≡ Some (Open b) → a ≡ b
 one_open {T} {S} x a b is as = let e : Some (Open {T = T} {S = S} a) ≡ Some (Open b) = sym is ∙ as in cc e
 
 module _ {T S O : Type 0} (begins : O → ℕ → Consumer T Global AnyItems → S → Type 0) (step : O → S → T → S → Type 0) {R : Type 0} (limits : R → Limits) (s : Named R) (o : O) where
@@ -302,6 +302,39 @@ module _ {T S O : Type 0} (begins : O → ℕ → Consumer T Global AnyItems →
         ring = at.ring;
       }
 
+  kept_waiting : (p q : Pass Element) (e : ℕ) → Brought limits s [] p q → number p ≡ e % s.given.rings → IsKept (setting_of limits s.given) e (seen p) (seen q)
+  kept_waiting p q e b ring =
+      let next : due (seen q) e ≡ due (seen p) e + 0 = b.next e ring in
+      record { here = b.here e ring; next = omega (arith, next); left = b.left e ring }
+
+  -- the turn found no room for the chain, and entered nothing
+  pub knows_waited : (p q : Pass Element) (st : Stays T S) → number q ≡ number p → Brought limits s [] p q → MayGoOn limits s [] p q → Knows begins step limits s o p st → Knows begins step limits s o q st
+  knows_waited p q st same b on knows =
+      let S0 : Setting = setting_of limits s.given in
+      let may : MayEnter limits s q (chain_of st) = on (chain_of st) (may_enter_chain p st knows) in
+      let feeds_at : feeds_by (number q) (seen q) ≡ feeds_by (number p) (seen q) = ap (λ (n : ℕ). feeds_by n (seen q)) same in
+      let asks_at : asks_by (number q) (seen q) ≡ asks_by (number p) (seen q) = ap (λ (n : ℕ). asks_by n (seen q)) same in
+      let feed_at : feed_quota S0 (number q) ≡ feed_quota S0 (number p) = ap (feed_quota S0) same in
+      let ask_at : ask_quota S0 (number q) ≡ ask_quota S0 (number p) = ap (ask_quota S0) same in
+      let no_feed : feeds_by (number p) (seen q) ≡ feeds_by (number p) (seen p) + 0 = b.feeds in
+      let few = knows.quota in
+      let feeds = knows.life.feeds in
+      let asks = knows.life.asks in
+      record {
+        life =
+            record {
+              pass = may.pass;
+              no_worker = may.no_worker;
+              idle = may.idle;
+              feeds = omega (arith, feeds_at, feed_at, no_feed, feeds);
+              asks = omega (arith, asks_at, ask_at, b.asks, asks);
+            };
+        chain = may.enters;
+        quota = omega (arith, feeds_at, feed_at, no_feed, few);
+        each = λ d place there. place_kept p q (chain_of st) d place same (λ e at ring. kept_waiting p q e b ring) (knows.each d place there);
+        touched = knows.touched;
+      }
+
 module _ {T S : Type 0} where
   -- nothing changed elsewhere, twice
   pub elsewhere_on : (c : ℕ) (a b d : Stays T S) → SameElsewhere c a b → SameElsewhere c b d → SameElsewhere c a d
@@ -310,3 +343,32 @@ module _ {T S : Type 0} where
   pub elsewhere_same : (c : ℕ) (a b d : Stays T S) → SameElsewhere c a b → places_of d ≡ places_of b → SameElsewhere c a d
   elsewhere_same c a b d x same =
       record { count = ap length same ∙ x.count; others = λ e other. ap (λ (xs : List (Place T S)). slice_get xs e) same ∙ x.others e other }
+
+  pub but_on : (a b d : Stays T S) → SameButPlaces a b → SameButPlaces b d → SameButPlaces a d
+  but_on a b d x y = record { life = y.life ∙ x.life; chain = y.chain ∙ x.chain; touched = y.touched ∙ x.touched }
+
+  -- there is no room still
+  no_room_same : (a b : Stays T S) → SameButPlaces a b → HasNoRoom a → HasNoRoom b
+  no_room_same a b same full =
+      subst (λ (l : Life). (length (chain_of b) ≡ vec_capacity b.chain) ⊎ (length (touched_of b) ≡ vec_capacity b.touched) ⊎ (l.feeds ≡ 0)) (sym same.life)
+      (subst (λ (v : Vec ℕ Global). (length (chain_of b) ≡ vec_capacity b.chain) ⊎ (length v.items ≡ vec_capacity v) ⊎ ((life_of a).feeds ≡ 0)) (sym same.touched)
+      (subst (λ (v : Vec FeedOf Global). (length v.items ≡ vec_capacity v) ⊎ (length (touched_of a) ≡ vec_capacity a.touched) ⊎ ((life_of a).feeds ≡ 0)) (sym same.chain) full))
+
+  -- why an item came back
+  pub refused : (room : Bool) (a b : Stays T S) (A : Type 0) → SameButPlaces a b → (room ≡ false → HasNoRoom a) → (room ≡ false) ⊎ A → HasNoRoom b ⊎ A
+  refused room a b A same full (inl none) = inl (no_room_same a b same (full none))
+  refused room a b A same full (inr other) = inr other
+
+module _ {T S O : Type 0} (begins : O → ℕ → Consumer T Global AnyItems → S → Type 0) (step : O → S → T → S → Type 0) {R : Type 0} (limits : R → Limits) (s : Named R) (o : O) (p : Pass Element) (c : ℕ) (old put : Stays T S) (a b : Stay T) (was : place_at old c ≡ Some (Open a)) (now : place_at put c ≡ Some (Open b)) (elsewhere : SameElsewhere c old put) (same : SameButPlaces old put) (stay : SameStay a b) (knows : Knows begins step limits s o p old) where
+  -- the stay was put back, and then the feed was added
+  pub knows_pushed_by : (n : ℕ) (new : Stays T S) → n ≡ pushed_of a → pushed_of b ≡ n + 1 → entered_of b ≡ n + 1 → (life_of put).feeds ≡ (life_of new).feeds + 1 → (life_of new).asks ≡ (life_of put).asks
+      → chain_of new ≡ chain_of put ++ record { c = c; n = n } ∷ [] → touched_of new ≡ touched_of put ++ c ∷ [] → places_of new ≡ places_of put → Knows begins step limits s o p new
+  knows_pushed_by n new number_is pushed entered feeds asks chain touched places =
+      knows_pushed begins step limits s o p c n old new a b was (ap (λ (xs : List (Place T S)). slice_get xs c) places ∙ now) (elsewhere_same c old put new elsewhere places) stay number_is pushed entered
+      (ap (λ (l : Life). l.feeds) (sym same.life) ∙ feeds) (asks ∙ ap (λ (l : Life). l.asks) same.life) (chain ∙ ap (λ (v : Vec FeedOf Global). v.items ++ record { c = c; n = n } ∷ []) same.chain)
+      (touched ∙ ap (λ (v : Vec ℕ Global). v.items ++ c ∷ []) same.touched) knows
+
+  -- or it was just put back
+  pub knows_refused_by : pushed_of b ≡ pushed_of a → entered_of b ≡ entered_of a → Knows begins step limits s o p put
+  knows_refused_by pushed entered =
+      knows_refused begins step limits s o p c old put a b was now elsewhere stay pushed entered same.life (ap (λ (v : Vec FeedOf Global). v.items) same.chain) (ap (λ (v : Vec ℕ Global). v.items) same.touched) knows

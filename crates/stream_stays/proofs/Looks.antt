@@ -5,6 +5,7 @@ use Rattle.turn_gate.specs.Passes.{IsPassOf, number, seen, mine}
 use Rattle.turn_gate.specs.declared.pass.Pass.{Pass}
 use Rattle.perimeter_core.specs.declared.marks.SynchAct.TheVariants as Done
 use Rattle.perimeter_core.specs.declared.resident.Resident.{Ghosts}
+use Rattle.perimeter_core.specs.Blocks.{Blocks}
 use Rattle.perimeter_core.specs.declared.entries.Entry.{Entry}
 use Rattle.perimeter_core.specs.declared.marks.Mark.TheVariants as On
 use Rattle.perimeter_core.specs.declared.marks.Own.TheVariants.{Out}
@@ -29,6 +30,7 @@ use Rattle.squeue_drain.specs.declared.owner.Owner.{Owner}
 use Rattle.squeue_drain.proofs.Deciding.{marked_on}
 use Rattle.synch_enter.specs.Synch.{Came, IsWay, StandsAtItsAsk}
 use Rattle.synch_enter.proofs.Exiting.{at, exits, idle_again, left_by}
+use Rattle.synch_enter.proofs.NothingDone.{still}
 use Rattle.conn_migrate.specs.Moving.{IsKept, Moved}
 use Rattle.conn_migrate.proofs.Halves.{moved}
 use Rattle.squeue_enter.proofs.Bringing.{here_append, none_count, due_append}
@@ -192,3 +194,19 @@ module _ {R P O : Type 0} {G : Ghosts R P O} {s : Named R} {from q : Pass Elemen
       let empty : feeds_of c (queue (run S (seen q))) ≡ [] = ap (feeds_of c) queued ∙ behind in
       let count = had S c (seen q) looked.goes_on.legal here in
       omega (arith, count, ap length empty)
+
+-- an owner whose resident was changed, and stands for whatever it stood for
+pub stands_still : {R P O : Type 0} {G : Ghosts R P O} {s : Named R} (o : Owner R) (r : R) → ((b : Blocks) → G.stands o.resident b → G.stands r b) → G.limits r ≡ G.limits o.resident → G.size r ≡ G.size o.resident → G.origin r ≡ G.origin o.resident
+    → StandsAtItsAsk G s [] o → StandsAtItsAsk G s [] (record { pass = o.pass; resident = r; hand = o.hand; act = o.act })
+stands_still {R} {P} {O} {G} {s} o r stands limits size origin at =
+    record {
+      owns = record { pass = at.owns.pass; legal = at.owns.legal; own = at.owns.own; hand = at.owns.hand; resident = still G s.given stands limits size origin at.owns.resident };
+      no_worker = at.no_worker;
+      open_pass = at.open_pass;
+      left = at.left;
+      at_ask = at.at_ask;
+      only = at.only;
+      range = at.range;
+      fits = at.fits;
+      note_fits = at.note_fits;
+    }

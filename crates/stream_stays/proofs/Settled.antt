@@ -82,7 +82,7 @@ module _ {T S : Type 0} where
   at_self (Some Out) = refl
 
   pub at_on : (a b c : Option (Place T S)) → SameAt a b → SameAt b c → SameAt a c
-  at_on None b c x y = rw x y
+  at_on None b c x y = subst (λ (p : Option (Place T S)). SameAt p c → c ≡ None) (sym x) (λ z. z) y
   at_on (Some (Vacant' v)) b c x y = subst (λ (p : Option (Place T S)). SameAt p c → c ≡ Some (Vacant' v)) (sym x) (λ z. z) y
   at_on (Some Out) b c x y = subst (λ (p : Option (Place T S)). SameAt p c → c ≡ Some Out) (sym x) (λ z. z) y
   at_on (Some (Open a)) None c x y = absurd x
@@ -108,10 +108,10 @@ module _ {T S : Type 0} where
           let is : d ≡ c = grind (arith, nat_tests) in
           let was_d : place_at old d ≡ Some (Open a) = ap (place_at old) is ∙ was in
           let now_d : place_at new d ≡ Some (Open b) = ap (place_at new) is ∙ now in
-          rw (was_d, now_d) same
+          subst (λ (x : Option (Place T S)). SameAt x (place_at new d)) (sym was_d) (subst (λ (x : Option (Place T S)). SameAt (Some (Open a)) x) (sym now_d) same)
       go d false e =
           let away : d ≢ c = λ (is : d ≡ c). (let t : (d == c) ≡ true = grind (arith, nat_tests) in cc (sym t ∙ e)) in
-          rw (elsewhere.others d away) (at_self (place_at old d))
+          subst (λ (x : Option (Place T S)). SameAt (place_at old d) x) (sym (elsewhere.others d away)) (at_self (place_at old d))
 
   -- what was sent at a place that is the same
   pub same_sent_in : (a b : Option (Place T S)) → SameAt a b → sent_in b ≡ sent_in a
@@ -122,12 +122,6 @@ module _ {T S : Type 0} where
   same_sent_in (Some (Open a)) (Some (Vacant' v)) x = absurd x
   same_sent_in (Some (Open a)) (Some Out) x = absurd x
   same_sent_in (Some (Open a)) (Some (Open b)) x = x.sent
-
--- the rest of a list from one place on
-pub drop_next : {A : Type 0} (xs : List A) (k : ℕ) (x : A) → slice_get xs k ≡ Some x → drop k xs ≡ x ∷ drop (k + 1) xs
-drop_next [] k x e = absurd cc
-drop_next (y ∷ ys) zero x e = cc e
-drop_next (y ∷ ys) (suc k) x e = drop_next ys k x e
 
 -- a block that is here for one of what a resident stands for is here for each
 here_by_feeds : (a b : Option (List Act)) (had : List Act) → b ≡ Some had → feeds_in a ≡ feeds_in b → (is : List Act) × (a ≡ Some is)
@@ -152,7 +146,7 @@ module _ {X T S O : Type 0} {G : Ghosts X (Stream T S) O} where
   pub away_now : (was mid : Places X (Stream T S) O G) (c : ℕ) → Here (Stands was) c → ((blocks : Blocks) → Stands was blocks → Stands mid (with_act (Done.Out c) [] blocks)) → NotHere (Stands mid) c
   away_now was mid c here took =
       let one : (c == c) ≡ true = grind (arith, nat_tests) in
-      record { blocks = with_act (Done.Out c) [] here.blocks; stands = took here.blocks here.stands; away = rw one refl }
+      record { blocks = with_act (Done.Out c) [] here.blocks; stands = took here.blocks here.stands; away = subst (λ (b : Bool). (if b then None else here.blocks c) ≡ None) (sym one) refl }
 
   -- a part that was taken out and put in again stands for what it stood for
   pub stands_again : (was mid is : Places X (Stream T S) O G) (c : ℕ) (part after : Stream T S) → ((p : Stream T S) (a b : List Act) → G.part_stands p a → G.part_stands p b → fed a ≡ fed b) → Here (Stands was) c

@@ -1,14 +1,20 @@
 //! How a thread settles its places: at an Ask of its own, where both ends of each place's ring are in its hands.
 
-ghost use Rattle.std.specs.Prelude.{◌≡◌, ◌+◌, ◌≤◌, ◌<◌, ℕ, [], Some, Contains, length};
+ghost use Rattle.std.specs.Prelude.{◌≡◌, ◌+◌, ◌%◌, ◌≤◌, ℕ, [], Some, true, Contains, length};
 ghost use Rattle.rtrb.specs.Ring.{ProducerLooked, sent};
 ghost use Rattle.turn_gate.specs.History.{Begins};
 ghost use Rattle.turn_gate.specs.Passes.{number, seen};
-ghost use Rattle.perimeter_core.specs.Deeds.{acts, fed};
+ghost use Rattle.turn_gate.specs.declared.pass.Pass.{Pass};
+ghost use Rattle.perimeter_core.specs.declared.marks.SynchAct.TheVariants as Done;
+ghost use Rattle.perimeter_core.specs.Perimeter.{is_here};
+ghost use Rattle.perimeter_core.specs.History.{Element, run};
+ghost use Rattle.perimeter_core.specs.Deeds.{acts, due, fed};
 ghost use Rattle.perimeter_core.specs.Legal.{Legal};
 ghost use Rattle.perimeter_core.specs.Residing.{Here};
 ghost use Rattle.placed_parts.specs.Placing.{Stands, limits_of, origin_of};
 ghost use Rattle.squeue_state.specs.Naming.{setting_of};
+ghost use Rattle.synch_enter.specs.Synch.{Came, StandsAtItsAsk};
+ghost use Rattle.conn_migrate.specs.Moving.{Moved};
 ghost use Rattle.stream_stays.specs.declared.stay.Stay.{Stay};
 ghost use Rattle.stream_stays.specs.declared.place.Place.TheVariants.{Open};
 ghost use Rattle.stream_stays.specs.Staying.{IsOfRing, producer_of, pushed_of, sent_of};
@@ -62,16 +68,27 @@ pub fn settle<X: Steps + Drop, H: Wait + Drop, V: Collects<X>, W: Wait>(
     ensures fed { (c : ℕ) (stay : Stay X.Item) → place_at stays.old c ≡ Some (Open stay) → fed (acts (setting_of limits_of sq.now.given) (seen result) c) ≡ pushed_of stay }
     ensures settled { Collected X.begins X.step V.takes (origin_of sq.now.given.first) stays.old (touched_of stays.old) collector.old collector.new }
 {
-    let owner = synch_enter(sq, rt, alloc, &NoHook, pass);
+    let mut owner = synch_enter(sq, rt, alloc, &NoHook, pass);
+    settle_touched(alloc, &mut owner.resident, stays, collector);
+    stays.life.asks -= 1;
+    stays.touched.clear();
+    leave(sq, rt, owner)
+}
+
+// Leaves with nothing done. All feeds that were entered for a connection of the pass's ring before it came are done.
+fn leave<R: Resident, W: Wait>(sq: &Squeue<R>, rt: &W, owner: Owner<R>) -> Pass
+    requires stands { StandsAtItsAsk R.Resident sq.now [] owner }
+    requires nothing { owner.act ≡ Done.None }
+    ensures moved { (from : Pass Element) → Came R.limits sq.now from owner.pass → Moved R.limits sq.now Done.None [] from result }
+    ensures fed { (from : Pass Element) (d : ℕ) → Came R.limits sq.now from owner.pass → number from ≡ d % sq.now.given.rings → is_here (run (setting_of R.limits sq.now.given) (seen result)) d ≡ true
+        → fed (acts (setting_of R.limits sq.now.given) (seen result) d) ≡ due (seen result) d }
+{
     let Owner {
         pass,
-        mut resident,
+        resident,
         hand,
         act,
     } = owner;
-    settle_touched(alloc, &mut resident, stays, collector);
-    stays.life.asks -= 1;
-    stays.touched.clear();
     let turn = sq.turn(rt, pass);
     sq.leave::<Brand>(turn, resident, hand, act)
 }
@@ -89,7 +106,8 @@ fn settle_touched<X: Steps + Drop, H: Wait + Drop, V: Collects<X>>(
     ensures rest { (life_of stays.new ≡ life_of stays.old) × (touched_of stays.new ≡ touched_of stays.old) }
     ensures collected { Collected X.begins X.step V.takes (origin_of resident.old) stays.old (touched_of stays.old) collector.old collector.new }
 {
-    for k in 0..stays.touched.len() {
+    let count = stays.touched.len();
+    for k in 0..count {
         let c = stays.touched[k];
         settle_place(alloc, resident, stays, c, collector);
     }

@@ -85,17 +85,17 @@ pub fn close_at<X: Steps + Drop, H: Wait + Drop, W: Wait>(
     let Stay {
         mut producer,
         first: _,
-        stream,
+        stream: _,
         leaves,
         pushed: _,
         entered: _,
     } = stay;
-    let (pass, part) = take_whole(sq, rt, alloc, pass, stream, &mut producer);
+    let (pass, part) = take_whole(sq, rt, alloc, pass, c, &mut producer);
     stays.life.asks -= 1;
     let vacant = Vacant {
         producer,
         part,
-        stream,
+        stream: c,
         leaves: leaves - 1,
     };
     let _ = stays.put(c as usize, Place::Vacant(vacant));

@@ -3,7 +3,7 @@ use Rattle.perimeter_core.specs.declared.entries.Feed.{Feed as FeedOf}
 use Rattle.placed_parts.specs.Placing.{limits_of, origin_of}
 use Rattle.squeue_enter.specs.Entering.{Brought, MayEnter, MayGoOn, WasFull}
 use Rattle.stream_stays.specs.Places.{chain_of}
-use Rattle.stream_stays.proofs.Chained.{knows_entered, may_enter_chain}
+use Rattle.stream_stays.proofs.Chained.{knows_entered, knows_waited, may_enter_chain}
 use Rattle.stream_stays.proofs.pushing.enter_all.Goals as goal
 
 pub enter_or_full-requires-clause-may : goal.enter_or_full-requires-clause-may
@@ -17,3 +17,8 @@ returns-in-Ok-clause-knows g c =
     knows_entered g.X.Steps.begins g.X.Steps.step limits_of s (origin_of s.given.first) c.args.pass c.in-Ok.field-0.pass c.args.stays.now _ c.in-Ok.ensures.entered.goes_on.same_number
     (subst (λ (es : List FeedOf). Brought limits_of s es c.args.pass c.in-Ok.field-0.pass) c.as_slice.ensures.value c.in-Ok.ensures.brought)
     (subst (λ (es : List FeedOf). MayGoOn limits_of s es c.args.pass c.in-Ok.field-0.pass) c.as_slice.ensures.value c.in-Ok.ensures.more) refl refl refl c.clear.ensures.items c.requires.knows
+
+pub returns-in-Err-clause-knows : goal.returns-in-Err-clause-knows
+returns-in-Err-clause-knows g c =
+    let s = c.args.sq.now in
+    knows_waited g.X.Steps.begins g.X.Steps.step limits_of s (origin_of s.given.first) c.args.pass c.in-Err.back c.args.stays.now c.in-Err.ensures.full.goes_on.same_number c.in-Err.ensures.brought c.in-Err.ensures.more c.requires.knows

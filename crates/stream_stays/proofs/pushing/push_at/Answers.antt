@@ -1,19 +1,36 @@
-use Rattle.std.proofs.Common.{◌≡◌, ◌+◌, ◌++◌, ◌∷◌, [], ◌∙◌, ap, refl, sym, List, ℕ}
+use Rattle.std.proofs.Common.{◌≡◌, ◌+◌, ◌∙◌, ap, ℕ}
 use Rattle.std.specs.Prelude.{slice_get}
 use Rattle.placed_parts.specs.Placing.{limits_of, origin_of}
-use Rattle.stream_stays.specs.declared.place.Place.{Place}
-use Rattle.stream_stays.specs.Places.{SameElsewhere}
-use Rattle.stream_stays.proofs.Chained.{elsewhere_on, elsewhere_same, knows_pushed, knows_refused}
+use Rattle.stream_stays.proofs.Chained.{but_on, elsewhere_on, elsewhere_same, knows_pushed_by, knows_refused_by, refused}
 use Rattle.stream_stays.proofs.pushing.push_at.Goals as goal
 
 pub returns-in-Ok-clause-knows : goal.returns-in-Ok-clause-knows
 returns-in-Ok-clause-knows g c =
     let took = c.take_open-stay.ensures in
-    let handed = c.in-Ok.ensures in
     let put = c.put.ensures in
     let added = c.add.ensures in
-    let elsewhere = elsewhere_same c.args.c c.args.stays.now c.put.new.self c.add.new.self (elsewhere_on c.args.c c.args.stays.now c.take_open-stay.new.self c.put.new.self took.others put.others) added.places in
-    knows_pushed g.X.Steps.begins g.X.Steps.step limits_of c.args.sq.now (origin_of c.args.sq.now.given.first) c.args.pass.now c.args.c c.in-Ok.n c.args.stays.now c.add.new.self c.take_open-stay.result c.hand_on-handed.new.self took.was
-    (ap (λ xs. slice_get xs c.args.c) added.places ∙ put.now) elsewhere c.hand_on-handed.ensures.same handed.pushed.0 handed.pushed.1 handed.pushed.2
-    (ap (λ l. l.feeds) (sym (put.same.life ∙ took.same.life)) ∙ added.life.0) (added.life.1 ∙ ap (λ l. l.asks) (put.same.life ∙ took.same.life)) (added.chain ∙ ap (λ v. v.items ++ _ ∷ []) (put.same.chain ∙ took.same.chain))
-    (added.touched ∙ ap (λ v. v.items ++ _ ∷ []) (put.same.touched ∙ took.same.touched)) c.requires.knows
+    let handed = c.in-Ok.ensures.pushed in
+    knows_pushed_by g.X.Steps.begins g.X.Steps.step limits_of c.args.sq.now (origin_of c.args.sq.now.given.first) c.args.pass.now c.args.c c.args.stays.now c.put.new.self c.take_open-stay.result c.hand_on-handed.new.self took.was put.now
+    (elsewhere_on c.args.c c.args.stays.now c.take_open-stay.new.self c.put.new.self took.others put.others) (but_on c.args.stays.now c.take_open-stay.new.self c.put.new.self took.same put.same) c.hand_on-handed.ensures.same c.requires.knows
+    c.in-Ok.n c.add.new.self handed.0 handed.1 handed.2 added.life.0 added.life.1 added.chain added.touched added.places
+
+pub returns-in-Ok-clause-same : goal.returns-in-Ok-clause-same
+returns-in-Ok-clause-same g c =
+    let handed = c.in-Ok.ensures.pushed in
+    (c.take_open-stay.result, c.hand_on-handed.new.self, c.take_open-stay.ensures.was, ap (λ xs. slice_get xs c.args.c) c.add.ensures.places ∙ c.put.ensures.now, c.hand_on-handed.ensures.same,
+     (handed.3, handed.1 ∙ ap (λ (k : ℕ). k + 1) handed.0), tt)
+
+pub returns-in-Err-clause-knows : goal.returns-in-Err-clause-knows
+returns-in-Err-clause-knows g c =
+    let took = c.take_open-stay.ensures in
+    let put = c.put.ensures in
+    let handed = c.in-Err.ensures.pushed in
+    knows_refused_by g.X.Steps.begins g.X.Steps.step limits_of c.args.sq.now (origin_of c.args.sq.now.given.first) c.args.pass.now c.args.c c.args.stays.now c.put.new.self c.take_open-stay.result c.hand_on-handed.new.self took.was put.now
+    (elsewhere_on c.args.c c.args.stays.now c.take_open-stay.new.self c.put.new.self took.others put.others) (but_on c.args.stays.now c.take_open-stay.new.self c.put.new.self took.same put.same) c.hand_on-handed.ensures.same c.requires.knows
+    handed.1 handed.2
+
+pub returns-in-Err-clause-same : goal.returns-in-Err-clause-same
+returns-in-Err-clause-same g c =
+    let handed = c.in-Err.ensures.pushed in
+    (c.take_open-stay.result, c.hand_on-handed.new.self, c.take_open-stay.ensures.was, c.put.ensures.now, c.hand_on-handed.ensures.same, (handed.0, handed.3, handed.1),
+     refused c.has_room-room.result c.args.stays.now c.put.new.self _ (but_on c.args.stays.now c.take_open-stay.new.self c.put.new.self c.take_open-stay.ensures.same c.put.ensures.same) c.has_room-room.ensures.full c.in-Err.ensures.full)
