@@ -2,7 +2,8 @@ use Rattle.std.proofs.Common.{◌≡◌, ◌+◌, ◌-◌, arith, refl, ◌∙�
 use Rattle.squeue_streams.specs.Taking.{items_of}
 use Rattle.placed_parts.specs.Placing.{limits_of, origin_of}
 use Rattle.stream_stays.specs.Staying.{before_of, producer_of, sent_of, stream_of}
-use Rattle.stream_stays.proofs.Rings.{all_left, its_pair, made_of, of_ring, still_its}
+use Rattle.squeue_streams.proofs.Items.{all_left}
+use Rattle.stream_stays.proofs.Rings.{its_pair, made_of, of_ring, still_its}
 use Rattle.stream_stays.proofs.Knowing.{is_away, life_moved, may_leave}
 use Rattle.stream_stays.proofs.passing.close.Goals as goal
 
