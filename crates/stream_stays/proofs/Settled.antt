@@ -30,6 +30,28 @@ use Rattle.stream_stays.specs.Places.{SameElsewhere, chain_of, place_at, places_
 use Rattle.stream_stays.specs.Settling.{Collected, KeepsParts, MaySettle, SameAt, SamePlaces, SameSent, WasCollected, sent_in}
 use Rattle.stream_stays.proofs.Rings.{of_ring}
 
+module _ {T : Type 0} where
+  pub sent_self : (a : Stay T) → SameSent a a
+  sent_self a = record { stay = record { ring = ((refl, refl, refl, refl), refl); stream = refl; leaves = refl; before = refl }; sent = refl; pushed = refl; entered = refl }
+
+  sent_on : (a b c : Stay T) → SameSent a b → SameSent b c → SameSent a c
+  sent_on a b c x y =
+      record {
+        stay =
+            record {
+              ring = (
+                (y.stay.ring.0.0 ∙ x.stay.ring.0.0, y.stay.ring.0.1 ∙ x.stay.ring.0.1, y.stay.ring.0.2 ∙ x.stay.ring.0.2, y.stay.ring.0.3 ∙ x.stay.ring.0.3),
+                y.stay.ring.1 ∙ x.stay.ring.1,
+              );
+              stream = y.stay.stream ∙ x.stay.stream;
+              leaves = y.stay.leaves ∙ x.stay.leaves;
+              before = y.stay.before ∙ x.stay.before;
+            };
+        sent = y.sent ∙ x.sent;
+        pushed = y.pushed ∙ x.pushed;
+        entered = y.entered ∙ x.entered;
+      }
+
 module _ {T S : Type 0} where
   -- what is left of a state that something was taken out of may follow by the same items
   pub takes_kept : (step : S → T → S → Type 0) (first was is : S) (xs : List T) → 1 ≤ length xs → ((from : S) (x : T) → step from x was → step from x is) → Takes step first xs was → Takes step first xs is
@@ -53,27 +75,6 @@ module _ {T S : Type 0} where
   -- and has had what it had
   pub had_still : (a b : Stream T S) (had : List Act) → had_of b ≡ had_of a → length (items_of a) ≤ length (items_of b) → HasTaken a had → HasTaken b had
   had_still a b had same more h = let few = h.popped in record { feeds = h.feeds ∙ sym same; popped = omega (arith, same, few, more) }
-
-  pub sent_self : (a : Stay T) → SameSent a a
-  sent_self a = record { stay = record { ring = ((refl, refl, refl, refl), refl); stream = refl; leaves = refl; before = refl }; sent = refl; pushed = refl; entered = refl }
-
-  sent_on : (a b c : Stay T) → SameSent a b → SameSent b c → SameSent a c
-  sent_on a b c x y =
-      record {
-        stay =
-            record {
-              ring = (
-                (y.stay.ring.0.0 ∙ x.stay.ring.0.0, y.stay.ring.0.1 ∙ x.stay.ring.0.1, y.stay.ring.0.2 ∙ x.stay.ring.0.2, y.stay.ring.0.3 ∙ x.stay.ring.0.3),
-                y.stay.ring.1 ∙ x.stay.ring.1,
-              );
-              stream = y.stay.stream ∙ x.stay.stream;
-              leaves = y.stay.leaves ∙ x.stay.leaves;
-              before = y.stay.before ∙ x.stay.before;
-            };
-        sent = y.sent ∙ x.sent;
-        pushed = y.pushed ∙ x.pushed;
-        entered = y.entered ∙ x.entered;
-      }
 
   at_self : (a : Option (Place T S)) → SameAt a a
   at_self None = refl

@@ -17,7 +17,7 @@ use Rattle.stream_stays.specs.declared.stay.Stay.{Stay}
 use Rattle.stream_stays.specs.Staying.{IsOfRing, SameStay, entered_of, producer_of, pushed_of, sent_of}
 use Rattle.stream_stays.specs.Places.{chain_of, life_of, place_at, touched_of}
 
-module _ {T S : Type 0} where
+module _ {T : Type 0} where
   -- the same stay, in which the same was pushed
   pub record SameSent (a b : Stay T) : Type 0 where
     pub stay : SameStay a b
@@ -25,6 +25,7 @@ module _ {T S : Type 0} where
     pub pushed : pushed_of b ≡ pushed_of a
     pub entered : entered_of b ≡ entered_of a
 
+module _ {T S : Type 0} where
   abbrev pub SameAt : Option (Place T S) → Option (Place T S) → Type 0
   SameAt (Some (Open a)) (Some (Open b)) = SameSent a b
   SameAt (Some (Open a)) is = ⊥
