@@ -51,7 +51,7 @@ enters_end S t p next (f ∷ es) c n e ring here is below =
 
 -- one stay is at a place
 pub one_open : {T S : Type 0} (x : Option (Place T S)) (a b : Stay T) → x ≡ Some (Open a) → x ≡ Some (Open b) → a ≡ b
-one_open {T} {S} x a b is other = let e : Some (Open {T = T} {S = S} a) ≡ Some (Open b) = sym is ∙ other in cc e
+one_open x a b is other = cc (sym is ∙ other)
 
 module _ {T S O : Type 0} (begins : O → ℕ → Consumer T Global AnyItems → S → Type 0) (step : O → S → T → S → Type 0) {R : Type 0} (limits : R → Limits) (s : Named R) (o : O) where
   -- the same stay with the same counts

@@ -29,10 +29,10 @@ use Rattle.stream_stays.proofs.Rings.{of_ring}
 
 -- a place isn't both
 not_both : {T S : Type 0} (x : Option (Place T S)) (a : Stay T) (v : Vacant T S) → x ≡ Some (Open a) → x ≡ Some (Vacant' v) → ⊥
-not_both {T} {S} x a v is other = let e : Some (Open {T = T} {S = S} a) ≡ Some (Vacant' v) = sym is ∙ other in cc e
+not_both x a v is other = cc (sym is ∙ other)
 
 pub one_vacant : {T S : Type 0} (x : Option (Place T S)) (a b : Vacant T S) → x ≡ Some (Vacant' a) → x ≡ Some (Vacant' b) → a ≡ b
-one_vacant {T} {S} x a b is other = let e : Some (Vacant' {T = T} {S = S} a) ≡ Some (Vacant' b) = sym is ∙ other in cc e
+one_vacant x a b is other = cc (sym is ∙ other)
 
 module _ {T S : Type 0} where
   -- what is elsewhere doesn't depend on the life
