@@ -8,7 +8,7 @@ import tempfile
 import unittest
 from pathlib import Path
 
-from common import TOOLS
+from common import TOOLS, TOP
 
 loader = importlib.machinery.SourceFileLoader("gate_cost", str(TOOLS / "gate-cost"))
 gate_cost = importlib.util.module_from_spec(importlib.util.spec_from_loader("gate_cost", loader))
@@ -51,8 +51,6 @@ class Cost(unittest.TestCase):
             top = Path(folder)
             (top / "tools").mkdir()
             shutil.copy2(TOOLS / "gate-cost", top / "tools")
-            (top / "docs").mkdir()
-            (top / "docs" / "GATE.md").write_text("| Crate | Notes |\n|---|---|\n| `high` | 9 | a program |\n")
             (top / "crates" / "high" / "must-fail").mkdir(parents=True)
             (top / "crates" / "high" / "must-fail" / "one.edit").write_text("file: src/lib.rt\n")
             (top / "crates.txt").write_text("# NAME: what it stands on\nlow:\nhigh may_wait=1: low\n")
@@ -67,8 +65,16 @@ class Cost(unittest.TestCase):
         self.assertEqual(done.returncode, 4)
         lines = done.stdout.splitlines()
         rows = [[word.strip() for word in line.strip("|").split("|")] for line in lines[2:4]]
-        self.assertEqual([[row[0], *row[6:]] for row in rows], [["`high`", "1", "–", "–", "a program"], ["all", "1", "–", "–", ""]])
+        self.assertEqual([[row[0], *row[6:]] for row in rows], [["`high`", "1", "–", "–"], ["all", "1", "–", "–"]])
         self.assertIn("of 0.", lines[-1])
+
+
+class Page(unittest.TestCase):
+    def test_counts_are_those_of_the_tree(self):
+        """docs/GATE.md has a line for each crate, with how many edits and tests there are."""
+        rows = [[cell.strip() for cell in line.strip("|").split("|")] for line in (TOP / "docs" / "GATE.md").read_text().splitlines() if line.startswith("| `")]
+        told = {row[0].strip("`"): row[6:] for row in rows if len(row) == 9}
+        self.assertEqual(told, {crate: [str(count) if count else "–" for count in gate_cost.counts(crate)] for crate in gate_cost.order()})
 
 
 if __name__ == "__main__":

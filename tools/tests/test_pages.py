@@ -1,12 +1,15 @@
-"""The pages: each link leads somewhere, and the map has each crate and the edges of crates.txt."""
+"""The pages: they are short, each link leads somewhere, the map has each crate and the edges of crates.txt, the glossary each name of two crates."""
 import re
 import unittest
+from collections import defaultdict
 
 from common import TOP
 
 import definitions
 
 PAGES = sorted([*TOP.glob("*.md"), *TOP.glob("docs/*.md"), *TOP.glob("bench/*/README.md"), *TOP.glob("examples/*.md")])
+
+MOST_WORDS, MOST_OF_README = 42_000, 1_500
 
 
 def text_of(page):
@@ -53,6 +56,28 @@ class Pages(unittest.TestCase):
                 if "://" not in target and (not found.exists() or place and place not in places(found)):
                     dead.append(f"{page.relative_to(TOP)}: {target}")
         self.assertEqual(dead, [])
+
+
+    def test_words(self):
+        words = {page: len(page.read_text(encoding="utf-8").split()) for page in PAGES}
+        self.assertLessEqual(words[TOP / "README.md"], MOST_OF_README)
+        self.assertLessEqual(sum(words.values()), MOST_WORDS)
+
+
+class Glossary(unittest.TestCase):
+    maxDiff = None
+
+    def test_names_of_two_crates(self):
+        """Each public type that has its name in two crates and more stands in the glossary, with these crates."""
+        found = defaultdict(set)
+        for crate in definitions.directly():
+            for path in (TOP / "crates" / crate / "src").rglob("*.rt"):
+                for name in re.findall(r"(?m)^pub (?:struct|enum|trait|type) (\w+)", path.read_text(encoding="utf-8")):
+                    found[name].add(crate)
+        rows = [line.strip("| ").split(" | ") for line in (TOP / "docs" / "GLOSSARY.md").read_text(encoding="utf-8").partition("## One name in two crates")[2].splitlines()]
+        told = {name: row[1] for row in rows if len(row) == 2 for name in re.findall(r"`(\w+)`", row[0])}
+        missing = [(name, crate) for name, crates in sorted(found.items()) if len(crates) > 1 for crate in sorted(crates) if f"`{crate}`" not in told.get(name, "")]
+        self.assertEqual(missing, [])
 
 
 class Map(unittest.TestCase):
