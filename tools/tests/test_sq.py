@@ -214,7 +214,7 @@ class Told(Folder):
 
     def test_counts_in_words(self):
         said = sq(EXAMPLE, said=True)
-        self.assertIn("46 records: 24 served in 4 connections, 15 from the served ports, dropped, 7 of other protocols or ports", said)
+        self.assertIn("46 records: 24 served in 4 connections, 15 from the served ports (dropped), 7 of other protocols or ports", said)
         self.assertEqual(sq("--quiet", EXAMPLE, said=True), "")
 
     def test_nothing_served(self):
