@@ -180,7 +180,7 @@ class Shards(unittest.TestCase):
         write(self.folder / "a.pcap", [syn] * 1_048_575, 101)
         self.assertIn(b"\nrecords 1048575 tail 0 served 1048575 ", self.merged([self.folder / "a.pcap"], size=1 << 26))
         write(self.folder / "a.pcap", [syn] * 1_048_576, 101)
-        self.assertIn(b"no shard can hold it", self.merged([self.folder / "a.pcap"], status=7))
+        self.assertIn(b"more than one run takes", self.merged([self.folder / "a.pcap"], status=7))
 
     def test_refusals(self):
         listed = records(3, 200, 3)
