@@ -1,5 +1,6 @@
-"""manual: the page of sqrun is up to date, and its usage line is the program's own."""
+"""manual: the page of sqrun is up to date, its usage line is the program's own, and those of tools have their options."""
 import os
+import re
 import shutil
 import subprocess
 import unittest
@@ -19,6 +20,13 @@ class Manual(unittest.TestCase):
         said = output([SQRUN, "--no-such-word"], status=2).decode()
         shown = PAGE.read_text().split(".B sqrun\n")[1].split("\n")[0].replace("\\-", "-")
         self.assertEqual(said, f"usage: sqrun {shown}\n")
+
+    def test_options_of_the_tools(self):
+        """The page of a tool has the options that its --help has."""
+        for name in ("sq", "sqdiff", "api"):
+            shown = PAGE.with_name(f"{name}.1").read_text().replace("\\-", "-")
+            said = output([TOOLS / name, "--help"]).decode()
+            self.assertEqual(*(set(re.findall(r"--[a-z]+", text)) for text in (shown, said)), name)
 
     def test_man_reads_it(self):
         if not shutil.which("man"):
