@@ -20,6 +20,7 @@ from traces import long_trace
 
 SVG = "{http://www.w3.org/2000/svg}"
 EXAMPLE = TOP / "examples" / "echo_short.pcap"
+SLOWER = 2.3            # times that a slow or busy machine needs, beside a quiet one of today (docs/GATE.md)
 
 
 def plot(text, *words, status=0):
@@ -411,7 +412,7 @@ class Page(InBrowser):
         b, begun = self.browser, self.browser.processor_seconds()
         b.open(page)
         b.settle()
-        self.assertLess(b.processor_seconds() - begun, 3)
+        self.assertLess(b.processor_seconds() - begun, 3 * SLOWER)
         self.assertGreater(b.js("document.querySelectorAll('section.conn').length"), 1_300)
         self.assertLess(b.js("document.querySelectorAll('svg[data-view]').length"), 100)
         b.js("location.hash = '#conn700'")
@@ -434,7 +435,7 @@ class Page(InBrowser):
         b.open(page)
         b.js("fill(document.querySelector('#conn0'))")
         b.settle()
-        self.assertLess(b.processor_seconds() - begun, 2)
+        self.assertLess(b.processor_seconds() - begun, 2 * SLOWER)
         self.quiet(b)
         length = "document.querySelector('#c0up .plot .dot.new').getAttribute('d').length"
         self.assertEqual(b.js(length), 0)               # merged
@@ -594,7 +595,7 @@ class Squeues(InBrowser):
         self.assertGreater(b.js(inked), 100)            # names, of the lanes that are in view now
 
     def test_four_hundred_thousand_marks(self):
-        """From the overview to single marks in under 2 s of processor time, in under 200 MB."""
+        """From the overview to single marks in under 2 s of a quiet processor, in under 200 MB."""
         (Path(self.folder.name) / "long.report").write_text(long_trace(400_000))
         page = Path(self.folder.name) / "page.html"
         output([TOOLS / "sqplot", "-o", page, Path(self.folder.name) / "long.report"])
@@ -603,14 +604,14 @@ class Squeues(InBrowser):
         begun = b.processor_seconds()
         b.open(page)
         told = self.told(b)
-        self.assertLess(b.processor_seconds() - begun, 2.5)
+        self.assertLess(b.processor_seconds() - begun, 2.5 * SLOWER)
         self.assertGreater(told["marks"], 250_000)          # of the squeues that are in view
         self.assertEqual(told["bars"], 0)
         begun = b.processor_seconds()
         while told["bars"] == 0 or told["marks"] > 100:
             b.js("timeline.zoom(.2, .5)")
             told = self.told(b)
-        self.assertLess(b.processor_seconds() - begun, 2)
+        self.assertLess(b.processor_seconds() - begun, 2 * SLOWER)
         self.assertGreater(told["bars"], 0)
         b.js("timeline.all(); timeline.follow(17)")
         told = self.told(b)
