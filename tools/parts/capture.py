@@ -10,7 +10,7 @@ from pathlib import Path
 from struct import unpack_from
 
 from files import Records, Refused, map_file
-from packets import SERVED, SERVICES, classify
+from packets import CUT, FRAGMENT, MALFORMED, SERVED, SERVICES, classify, ends_of
 
 FIN, SYN, RST, PSH, ACK = 1, 2, 4, 8, 16
 TIMER_GAP = 100_000         # microseconds without a segment, after which sqrun is told the time
@@ -44,6 +44,8 @@ class Connection:
     client: list = field(default_factory=list)      # Segments of the client
     server: list = field(default_factory=list)      # Segments of the captured server
     items: list = field(default_factory=list)       # what sqrun is fed: a Segment of the client, or a time
+    broken: list = field(default_factory=list)      # of its ends, what is no whole segment, in order: Segments with a time and a record alone
+    shared: list = field(default_factory=list)      # the same of its two addresses, where the ports aren't told
 
 
 @dataclass
@@ -118,7 +120,7 @@ def read(names, verify=False, most=MOST_CONNECTIONS):
     `verify` leaves out segments with a wrong checksum, as sqrun --verify does. At most `most` connections are kept, as in one run;
     None keeps all, as in a merged report.
     """
-    conns, files, number, last, link = {}, [], 0, 0, None
+    conns, files, broken, number, last, link = {}, [], [], 0, 0, None
     for name, data in sources([names] if isinstance(names, (str, Path)) else names):
         records = Records(name, data)
         files.append((name, number))
@@ -129,10 +131,13 @@ def read(names, verify=False, most=MOST_CONNECTIONS):
                 segment = tcp_segment(at, body[ip:end], tcp - ip)
                 segment.record = number
                 place(conns, kind, body[ip + 12:ip + 20] + body[tcp:tcp + 4], segment, most)
+            elif kind in (CUT, FRAGMENT, MALFORMED):
+                broken.append((Segment(at, 0, 0, 0, 0, 0, record=number), ends_of(body, 0, len(body), records.link)))
             number += 1
         if link not in (None, records.link):
             raise Refused(f"{name}: second link type {records.link}", 6)
         link = records.link
+    place_broken(conns, broken)
     for conn in conns.values():
         conn.items = items(conn.client, last)
     return Capture(list(conns.values()), number, last, files)
@@ -147,9 +152,31 @@ def place(conns, kind, ends, segment, most):
             key = f"{address(ends, 0, 8)} {address(ends, 4, 10)}"
             conns[ends] = Connection(key, SERVICES[ends[11]], [segment])
     else:
-        conn = conns.get(ends[4:8] + ends[:4] + ends[10:] + ends[8:10])
+        conn = conns.get(turned(ends))
         if conn:
             conn.server.append(segment)
+
+
+def turned(ends):
+    """The same ends from the other side."""
+    return ends[4:8] + ends[:4] + ends[10:] + ends[8:10]
+
+
+def place_broken(conns, broken):
+    """Notes at each connection what may belong to it, and is no whole segment."""
+    shared = {}
+    for segment, ends in broken:
+        addresses, ports = ends or (b"", b"")
+        if ports:
+            conn = conns.get(addresses + ports) or conns.get(turned(addresses + ports))
+            if conn:
+                conn.broken.append(segment)
+        elif addresses:
+            shared.setdefault(frozenset((addresses[:4], addresses[4:])), []).append(segment)
+    for listed in shared.values():
+        listed.sort(key=lambda s: s.at)
+    for ends, conn in conns.items() if shared else ():
+        conn.shared = shared.get(frozenset((ends[:4], ends[4:8])), conn.shared)
 
 
 def items(segments, last):

@@ -1,4 +1,5 @@
 """What a captured server did otherwise than sqrun: both are watched, and what they did is compared."""
+from bisect import bisect_left
 from dataclasses import dataclass, replace
 
 from capture import ACK, FIN, PSH, RST, SYN
@@ -32,6 +33,7 @@ def compare(number, conn, served, sums):
     spoilt, begin = sums.spoilt.get(conn.tuple, []), 0
     for n, (life, stop) in enumerate(zip(used, ends)):
         found, listed = Found(), in_order(life, rows(conn, served))
+        note_broken(conn, begin, stop, found)
         life = heard(life, [s for s in spoilt if begin <= s.at < stop], found)
         card = [s for s in life.server if s.record in sums.card]
         if card:
@@ -40,6 +42,14 @@ def compare(number, conn, served, sums):
         out.append(Compared(number, n, conn, served, life, found.differences(), state, trip))
         begin = stop
     return out
+
+
+def note_broken(conn, begin, stop, found):
+    """What of this time is no whole segment, and perhaps of this connection."""
+    first, end = (bisect_left(conn.shared, at, key=lambda s: s.at) for at in (begin, stop))
+    mine = [s for s in conn.broken if begin <= s.at < stop]
+    if mine or first < end:
+        found.add("not whole in the capture", (mine or conn.shared[first:end])[0], "cut short, a fragment, or malformed", "", len(mine) + end - first)
 
 
 def heard(life, spoilt, found):

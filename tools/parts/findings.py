@@ -5,11 +5,14 @@ from standards import KINDS
 
 FRAMES = 20                 # that are named of one kind
 # What a capture with gaps, or of segments that changed places, can't tell: there it is unjudged.
-DOUBTS = ("acknowledged what isn't captured", "text isn't captured", "acknowledgement went back", "wrong checksum")
+DOUBTS = ("not whole in the capture", "acknowledged what isn't captured", "text isn't captured", "acknowledgement went back", "wrong checksum")
 NEEDS_WHOLE = ("SYN acknowledged wrongly", "acknowledged too late", "acknowledged too seldom", "acknowledged before it came", "gap not acknowledged",
                "window shrunk", "window opened by little", "past the window", "window not probed", "sent again early", "reset with a wrong number", "SYN not challenged")
 # What a long or lossy wire can do to a right server: unjudged where it's far, or where either side sent again.
 NEEDS_WIRE = ("acknowledged too late", "acknowledged too seldom", "acknowledged before it came", "gap not acknowledged", "window not probed")
+
+# What a capture that lacks a single segment makes of a right server: unjudged, unless more of the connection speaks for it (`Found.sure`).
+NEEDS_MORE = ("acknowledged too late", "past the window")
 
 
 @dataclass
@@ -28,21 +31,22 @@ class Found:
     def __init__(self):
         self.by_kind = {}
         self.wire = False           # the wire may count: the server is far, or something was sent again
+        self.sure = set()           # of NEEDS_MORE what more than one segment speaks for
 
-    def add(self, kind, segment=None, captured="", reference=""):
+    def add(self, kind, segment=None, captured="", reference="", count=1):
         frame = segment.record + 1 if segment is not None and segment.record >= 0 else None
         seen = self.by_kind.get(kind)
         if seen is None:
-            self.by_kind[kind] = Difference(kind, KINDS[kind].verdict, frame, segment.at if segment is not None else None, captured, reference, 1, [frame] if frame else [])
+            self.by_kind[kind] = Difference(kind, KINDS[kind].verdict, frame, segment.at if segment is not None else None, captured, reference, count, [frame] if frame else [])
             return
-        seen.count += 1
+        seen.count += count
         if frame and len(seen.frames) < FRAMES:
             seen.frames.append(frame)
 
     def differences(self):
         """All of them; where the capture leaves doubts, what depends on them is unjudged."""
         doubted = NEEDS_WHOLE if any(kind in self.by_kind for kind in DOUBTS) else NEEDS_WIRE if self.wire else ()
-        for kind in doubted:
+        for kind in (*doubted, *(kind for kind in NEEDS_MORE if kind not in self.sure)):
             if kind in self.by_kind:
                 self.by_kind[kind].verdict = "unjudged"
         return list(self.by_kind.values())

@@ -54,6 +54,17 @@ def classify(data, at, end, link, verify):
     return segment(data, ip, ip + header, ip + length, verify)
 
 
+def ends_of(data, at, end, link):
+    """Of a body that is no whole segment the two addresses, and the two ports where they are there; None where it's no TCP, or tells no address."""
+    _, ip = datagram_at(data, at, end, link)
+    if ip is None or end - ip < 20 or data[ip] >> 4 != 4:
+        return None
+    first, _, fragment, protocol = IPV4.unpack_from(data, ip)
+    tcp = ip + max(20, 4 * (first & 15))
+    ports = b"" if fragment & 0x1fff or end - tcp < 4 else bytes(data[tcp:tcp + 4])
+    return (bytes(data[ip + 12:ip + 20]), ports) if protocol == 6 else None
+
+
 def segment(data, ip, tcp, end, verify):
     """The same for the TCP part of a whole datagram."""
     size = end - tcp

@@ -2,8 +2,8 @@
 
 `MUST` is said where the captured server breaks a MUST, or what TCP is defined by without that word; `SHOULD` where it departs from a
 SHOULD; `choice` where the standard leaves both free; `service` where the application above TCP differs; and `unjudged` where the capture
-alone can't tell. Where it has gaps, wrong sums, or segments that changed places, findings.NEEDS_WHOLE are unjudged too; where the wire is
-long or loses, findings.NEEDS_WIRE. Numbers like MUST-40 are those of RFC 9293, appendix B.
+alone can't tell. Where it has gaps, records that aren't whole, wrong sums, or segments that changed places, findings.NEEDS_WHOLE are
+unjudged too; where the wire is long or loses, findings.NEEDS_WIRE. Numbers like MUST-40 are those of RFC 9293, appendix B.
 """
 from dataclasses import dataclass
 
@@ -41,9 +41,10 @@ KINDS = kinds(
     ("SYN,ACK again", "choice", "RFC 9293, 3.8.1; RFC 6298, 2.1", "An unanswered SYN,ACK goes again; the first timeout should be one second."),
     ("congestion notification", "choice", "RFC 3168, 6.1; RFC 9768", "ECE, CWR and AE are used where both sides agreed; the reference has none."),
     ("captured twice", "unjudged", "RFC 791, 3.1", "The same datagram, by its identification, stands twice in the capture, as where it crosses a bridge; the second is left out."),
+    ("not whole in the capture", "unjudged", "RFC 791, 3.1; RFC 9293, 3.1", "A record of these ends is cut short, a fragment, or malformed, so it doesn't tell what was sent. What needs a whole capture isn't judged."),
     # Acknowledgements.
     ("acknowledged later", "choice", "RFC 9293, 3.8.6.3 (SHLD-18)", "An acknowledgement should be delayed a little, below 0.5 s. The reference sends each at once."),
-    ("acknowledged too late", "MUST", "RFC 9293, 3.8.6.3 (MUST-40)", "The delay must be below 0.5 s."),
+    ("acknowledged too late", "MUST", "RFC 9293, 3.8.6.3 (MUST-40)", "The delay must be below 0.5 s. (Said where most of a connection's are later: the capture may lack one.)"),
     ("acknowledged together", "choice", "RFC 9293, 3.10.7.4 (MUST-58, MUST-59)", "What waits is processed before one acknowledgement is sent; how much waits is chance."),
     ("acknowledged too seldom", "SHOULD", "RFC 9293, 3.8.6.3 (SHLD-19)", "At least every second full-sized segment should be acknowledged."),
     ("acknowledged apart", "choice", "RFC 9293, 3.10.7.4", "An acknowledgement should go with text where that costs no undue delay; the service needs time, the reference's none."),
@@ -64,7 +65,7 @@ KINDS = kinds(
     ("boundaries", "choice", "RFC 9293, 3.7 and 3.9.1.2 (SHLD-28)", "How a stream is cut into segments is free."),
     ("larger than the client takes", "MUST", "RFC 9293, 3.7.1 (MUST-15, MUST-16)", "Text and options must fit the client's maximum segment size, 536 where it named none."),
     ("larger than a packet", "unjudged", "RFC 9293, 3.7.1", "The capture was taken before the card cut the segment (segmentation offload), or behind one that joins."),
-    ("past the window", "MUST", "RFC 9293, 3.8.6 and 3.10.2", "A sender may send what the client's window has room for, and one byte to probe a window of 0."),
+    ("past the window", "MUST", "RFC 9293, 3.8.6 and 3.10.2", "A sender may send what the client's window has room for, and one byte to probe a window of 0. (Said where the client takes nothing of it.)"),
     ("PSH", "choice", "RFC 9293, 3.9.1.2 (MAY-15, MUST-61)", "The last segment of what an application sends has PSH, where SEND can't say so itself."),
     ("FIN with text", "choice", "RFC 9293, 3.10.4", "FIN may go with the last text or alone."),
     ("FIN", "service", "RFC 9293, 3.6", "When a server closes is its application's matter."),

@@ -155,6 +155,7 @@ class Incoming:
         self.acked, self.last_ack, self.edge, self.last_window = 0, None, None, None
         self.wl1, self.wl2 = None, 0        # number and acknowledgement of the segment with the newest window
         self.waiting, self.delays, self.windows = [], [], []
+        self.judged = self.too_late = 0         # how many acknowledgements were judged by their delay, and how many of them came too late
         self.gap = None             # (segment above a gap, what was next)
         self.early = []             # (acknowledgement beyond what had come, its number)
         self.together, self.first_together, self.pure = 0, None, 0
@@ -268,6 +269,7 @@ class Incoming:
 
     def judge_delay(self, s, one):
         delay = s.at - one.ready - self.shake.trip
+        self.judged, self.too_late = self.judged + 1, self.too_late + (delay >= TOO_LATE)
         if delay >= LATE:
             self.delays.append((delay, one.segment))
         if delay >= TOO_LATE:
@@ -292,6 +294,8 @@ class Incoming:
     def end(self):
         if self.silent_syn:
             self.found.add("SYN not challenged", self.silent_syn, "no answer", "acknowledged at once")
+        if 2 * self.too_late > self.judged:             # the capture may lack one that was in time, and not most of them
+            self.found.sure.add("acknowledged too late")
         fin = self.watch.client_fin
         missing = self.acked - (fin is not None and self.acked > fin) - self.next
         if missing > 0:
@@ -367,10 +371,12 @@ class Outgoing:
         self.closed_at, self.probes, self.empty_probes, self.closed = None, [], [], []
         self.again = []
         self.large = []                 # segments larger than the client takes
+        self.past = None                # the greatest edge of the client's window that a text went past, and when
+        self.heard_at = 0
 
     def heard(self, s):
         """A segment of the client."""
-        self.last_text = s.at if s.length else self.last_text
+        self.last_text, self.heard_at = s.at if s.length else self.last_text, s.at
         if not s.has(ACK):
             return
         ack = near(s.ack, self.base)
@@ -430,6 +436,7 @@ class Outgoing:
             self.probes.append(s)
         if self.edge is not None and hi > self.edge and not (s.length == 1 and lo <= self.edge):
             self.found.add("past the window", s, f"up to {hi}, the window ends at {self.edge}", "")
+            self.past = self.edge, s.at
 
     def judge_again(self, s, lo, hi):
         before = self.last_sent.get(lo)
@@ -467,6 +474,8 @@ class Outgoing:
         missing = self.length() - len(self.stream.whole())
         if missing > 0:
             self.found.add("text isn't captured", None, f"{plural(missing, 'byte')} of the server, which the client acknowledged", "")
+        if self.past and self.heard_at > self.past[1] and self.heard_ack <= self.past[0]:       # the client took nothing of it, so it had opened no more
+            self.found.sure.add("past the window")
         offloaded = self.watch.offloaded or any(len(s.datagram) > ETHERNET_MOST for s in self.watch.life.client + self.watch.life.server)
         for s, words in self.large:
             self.found.add("larger than a packet" if offloaded else "larger than the client takes", s, words, "")

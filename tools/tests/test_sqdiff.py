@@ -80,6 +80,14 @@ def stamped(talk, count=1):
     return talk
 
 
+def late_behind(change):
+    """An echo whose own acknowledgement is too late, behind one that was in time and of which the capture has no whole segment."""
+    talk = Talk().open().up(ACK | PSH, b"hello").down(mark=True)
+    at, body = talk.records[-1]
+    talk.records[-1] = at, change(body)
+    return talk.down(ACK | PSH, b"hello", wait=SECOND * 7 // 10).up()
+
+
 def opened(asked=MSS, offered=MSS, late=b"", **more):
     talk = Talk(asked=asked, offered=offered, **more)
     return talk.up(SYN, options=asked).down(SYN | ACK, options=offered, mark=True).up(options=late)
@@ -107,6 +115,7 @@ STORIES = {
     "congestion notification": lambda: Talk().open().up(ACK | PSH, b"hello").down(ACK | PSH | ECE, b"hello", mark=True).up(),
     "captured twice": lambda: Talk().open().up(ACK | PSH, b"hello").down(ACK | PSH, b"hello", number=77).down(
         ACK | PSH, b"hello", seq=1, number=77, wait=20, mark=True).up(),
+    "not whole in the capture": lambda: late_behind(lambda body: body[:-1]),
     "acknowledged later": lambda: Talk().open().up(ACK | PSH, b"hello", mark=True).down(ACK | PSH, b"hello", wait=SECOND // 5).up(),
     "acknowledged too late": lambda: Talk().open().up(ACK | PSH, b"hello").down(ACK | PSH, b"hello", wait=SECOND * 7 // 10, mark=True).up(),
     "acknowledged together": lambda: Talk().open().up(ACK | PSH, b"one").up(ACK | PSH, b"two").down(ACK | PSH, b"one").down(ACK | PSH, b"two").up(),
@@ -129,7 +138,7 @@ STORIES = {
     "boundaries": lambda: Talk().open().up(ACK | PSH, b"hello").down(ACK, b"he", mark=True).down(ACK | PSH, b"llo").up(),
     "larger than the client takes": lambda: Talk(asked=b"\x02\x04\x01\xf4").open().up(ACK | PSH, b"x" * 600).down(ACK | PSH, b"x" * 600, mark=True).up(),
     "larger than a packet": lambda: Talk().open().up(ACK | PSH, b"x" * 1_460).up(ACK | PSH, b"x" * 1_460).down(ACK | PSH, b"x" * 2_920, mark=True).up(),
-    "past the window": lambda: Talk(window=100).open().up(ACK | PSH, b"x" * 300).down(ACK | PSH, b"x" * 300, mark=True).up(),
+    "past the window": lambda: Talk(window=100).open().up(ACK | PSH, b"x" * 300).down(ACK | PSH, b"x" * 300, mark=True).up(ack=101),
     "PSH": lambda: Talk().open().up(ACK | PSH, b"hello").down(ACK, b"hello", mark=True).up(),
     "FIN with text": lambda: Talk().open().up(ACK | PSH | FIN, b"hello").down(ACK | PSH | FIN, b"hello", mark=True).up(),
     "FIN": lambda: Talk().open().echo().up(ACK | FIN).down(),
@@ -156,7 +165,7 @@ STORIES = {
     "state at the end": lambda: Talk().open().echo().up(ACK | FIN).down(),
 }
 # What a story has beside its own kind, of what is grave.
-BESIDE = {"text isn't captured": {"not acknowledged"}, "wrong checksum": {"text isn't captured", "not acknowledged"}}
+BESIDE = {"text isn't captured": {"not acknowledged"}, "not whole in the capture": {"acknowledged too late"}, "wrong checksum": {"text isn't captured", "not acknowledged"}}
 # Right servers, which a careless reader takes for wrong ones.
 CONTROLS = {
     "a reset of what came before the SYN": lambda: Talk().up(seq=-4_000, ack=2_000).down(RST, seq=2_000).up(SYN, options=MSS),
@@ -187,6 +196,13 @@ CONTROLS = {
         ACK | PSH, b"two", wait=50_000).down(wait=SECOND * 6 // 10),
     "timeouts of which the wire lost one": lambda: Talk().open().up(ACK | PSH, b"hello").down(ACK | PSH, b"hello").down(
         ACK | PSH, b"hello", seq=1, wait=SECOND).down(ACK | PSH, b"hello", seq=1, wait=6 * SECOND).down(ACK | PSH, b"hello", seq=1, wait=8 * SECOND).up(),
+    "an acknowledgement of which the capture has the addresses": lambda: late_behind(lambda body: body[:20]),
+    "an acknowledgement in a fragment": lambda: late_behind(lambda body: body[:6] + b"\x20\0" + body[8:]),
+    "an acknowledgement in a fragment without ports": lambda: late_behind(lambda body: body[:6] + b"\0\x10" + body[8:]),
+    "an acknowledgement whose header is too long": lambda: late_behind(lambda body: body[:32] + b"\xf0" + body[33:]),
+    "a late acknowledgement behind one that the capture lacks": lambda: texts().up(ACK | PSH, b"one").down().up(ACK | PSH, b"two").up(
+        ACK | PSH, b"three", wait=SECOND * 7 // 10).down(),
+    "a text into a window of which the capture lacks the opening": lambda: Talk(window=100).open().up(ACK | PSH, b"x" * 300).down(ACK | PSH, b"x" * 300).up(),
     "a keep-alive with a byte": lambda: Talk().open().echo().down(ACK, b"\0", seq=5, wait=60 * SECOND).up(),
     "accurate congestion notification": lambda: Talk().open().echo(reserved=1),
     "a text that came when the window was open again": lambda: Talk().open().echo().up(window=0).up(wait=70 * SECOND).echo().close(),
@@ -328,6 +344,16 @@ class Recorded(unittest.TestCase):
                     found, summary, _ = lines(self.folder / "spoilt.pcap")
                     self.assertEqual(summary["must"], 0, [line for line in found if line["verdict"] == "MUST"])
 
+    def test_records_left_out(self):
+        """The same captures without some of their records, as of a capture that couldn't keep up."""
+        rnd = random.Random(6)
+        for path in recorded():
+            for share in (0.005, 0.02, 0.05):
+                with self.subTest(path.name, share=share):
+                    (self.folder / "fewer.pcap").write_bytes(fewer(rnd, path, share))
+                    found, summary, _ = lines(self.folder / "fewer.pcap")
+                    self.assertEqual(summary["must"], 0, [line for line in found if line["verdict"] == "MUST"])
+
     def test_what_tshark_says_of_them(self):
         """Options of SYN,ACK, sizes of texts and late acknowledgements are those that tshark shows."""
         need("tshark")
@@ -378,9 +404,23 @@ def recorded():
     return captures() + sorted((Path(__file__).resolve().parent / "recorded").glob("*.pcap.gz"))
 
 
+def whole(path):
+    return gzip.decompress(path.read_bytes()) if path.suffix == ".gz" else path.read_bytes()
+
+
+def fewer(rnd, path, share):
+    """The capture without this share of its records."""
+    data, out, at = whole(path), [], 24
+    while at + 16 <= len(data):
+        end = at + 16 + int.from_bytes(data[at + 8:at + 12], "little")
+        out += [data[at:end]] * (rnd.random() >= share)
+        at = end
+    return data[:24] + b"".join(out)
+
+
 def spoilt(rnd, path, share):
     """The capture with a byte changed in this share of its packets."""
-    data = bytearray(gzip.decompress(path.read_bytes()) if path.suffix == ".gz" else path.read_bytes())
+    data = bytearray(whole(path))
     at = 24
     while at + 16 <= len(data):
         size = int.from_bytes(data[at + 8:at + 12], "little")
