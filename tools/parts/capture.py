@@ -4,6 +4,7 @@ Several files are one capture: all whole records of the first, then those of the
 captures that it is of, and one shard's folder (WORK/shards/S) for that shard.
 """
 import json
+from array import array
 from bisect import bisect_right
 from dataclasses import dataclass, field
 from pathlib import Path
@@ -44,8 +45,8 @@ class Connection:
     client: list = field(default_factory=list)      # Segments of the client
     server: list = field(default_factory=list)      # Segments of the captured server
     items: list = field(default_factory=list)       # what sqrun is fed: a Segment of the client, or a time
-    broken: list = field(default_factory=list)      # of its ends, what is no whole segment, in order: Segments with a time and a record alone
-    shared: list = field(default_factory=list)      # the same of its two addresses, where the ports aren't told
+    broken: array = field(default_factory=lambda: array("Q"))       # of its ends, what is no whole segment: of each the time and the record
+    shared: array = field(default_factory=lambda: array("Q"))       # the same of its two addresses, where the ports aren't told
 
 
 @dataclass
@@ -120,7 +121,7 @@ def read(names, verify=False, most=MOST_CONNECTIONS):
     `verify` leaves out segments with a wrong checksum, as sqrun --verify does. At most `most` connections are kept, as in one run;
     None keeps all, as in a merged report.
     """
-    conns, files, broken, number, last, link = {}, [], [], 0, 0, None
+    conns, files, broken, number, last, link = {}, [], {}, 0, 0, None
     for name, data in sources([names] if isinstance(names, (str, Path)) else names):
         records = Records(name, data)
         files.append((name, number))
@@ -132,7 +133,7 @@ def read(names, verify=False, most=MOST_CONNECTIONS):
                 segment.record = number
                 place(conns, kind, body[ip + 12:ip + 20] + body[tcp:tcp + 4], segment, most)
             elif kind in (CUT, FRAGMENT, MALFORMED):
-                broken.append((Segment(at, 0, 0, 0, 0, 0, record=number), ends_of(body, 0, len(body), records.link)))
+                broken.setdefault(ends_of(body, 0, len(body), records.link), array("Q")).extend((at, number))
             number += 1
         if link not in (None, records.link):
             raise Refused(f"{name}: second link type {records.link}", 6)
@@ -165,16 +166,13 @@ def turned(ends):
 def place_broken(conns, broken):
     """Notes at each connection what may belong to it, and is no whole segment."""
     shared = {}
-    for segment, ends in broken:
-        addresses, ports = ends or (b"", b"")
-        if ports:
-            conn = conns.get(addresses + ports) or conns.get(turned(addresses + ports))
-            if conn:
-                conn.broken.append(segment)
-        elif addresses:
-            shared.setdefault(frozenset((addresses[:4], addresses[4:])), []).append(segment)
-    for listed in shared.values():
-        listed.sort(key=lambda s: s.at)
+    broken.pop(None, None)
+    for (addresses, ports), listed in broken.items():
+        conn = conns.get(addresses + ports) or conns.get(turned(addresses + ports)) if ports else None
+        if conn:
+            conn.broken.extend(listed)
+        elif not ports:
+            shared.setdefault(frozenset((addresses[:4], addresses[4:])), array("Q")).extend(listed)
     for ends, conn in conns.items() if shared else ():
         conn.shared = shared.get(frozenset((ends[:4], ends[4:8])), conn.shared)
 

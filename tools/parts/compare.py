@@ -1,8 +1,7 @@
 """What a captured server did otherwise than sqrun: both are watched, and what they did is compared."""
-from bisect import bisect_left
 from dataclasses import dataclass, replace
 
-from capture import ACK, FIN, PSH, RST, SYN
+from capture import ACK, FIN, PSH, RST, SYN, Segment
 from drawing import plural, seconds
 from findings import Found
 from segments import MSS, SACK_PERMITTED, SCALE, TIMESTAMP, accepts, opens, option_text, options
@@ -11,6 +10,7 @@ from timeseq import lives, near
 from watching import LATE, Handshake, Watch, judge_timeouts
 
 SOON = 1_000                # microseconds, below which no timer sends again
+MOST_BROKEN = 2_000         # times and records that are looked at of what is no whole segment
 
 
 @dataclass
@@ -45,11 +45,12 @@ def compare(number, conn, served, sums):
 
 
 def note_broken(conn, begin, stop, found):
-    """What of this time is no whole segment, and perhaps of this connection."""
-    first, end = (bisect_left(conn.shared, at, key=lambda s: s.at) for at in (begin, stop))
-    mine = [s for s in conn.broken if begin <= s.at < stop]
-    if mine or first < end:
-        found.add("not whole in the capture", (mine or conn.shared[first:end])[0], "cut short, a fragment, or malformed", "", len(mine) + end - first)
+    """What of this time is no whole segment, and perhaps of this connection. Where there is very much, its time doesn't matter."""
+    listed = (conn.broken[:MOST_BROKEN] + conn.shared[:MOST_BROKEN])[:MOST_BROKEN]
+    mine = [(at, record) for at, record in zip(listed[::2], listed[1::2]) if begin <= at < stop or len(listed) == MOST_BROKEN]
+    if mine:
+        at, record = mine[0]
+        found.add("not whole in the capture", Segment(at, 0, 0, 0, 0, 0, record=record), "cut short, a fragment, or malformed", "", len(mine))
 
 
 def heard(life, spoilt, found):
