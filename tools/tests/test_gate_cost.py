@@ -46,6 +46,10 @@ class Cost(unittest.TestCase):
                 done = subprocess.run([top / "tools" / "gate-cost", "low"], capture_output=True, text=True, timeout=100, env=its)
                 self.assertEqual((done.returncode, (top / "said").read_text().splitlines()), (0, said), done.stderr)
 
+    def test_no_command(self):
+        done = subprocess.run([TOOLS / "gate-cost", "no_such_crate"], capture_output=True, text=True)
+        self.assertEqual((done.returncode, done.stderr.splitlines()[-1].partition("error: ")[2]), (2, "'no_such_crate' is no crate of crates.txt, and no command"))
+
     def test_what_a_command_costs(self):
         with tempfile.TemporaryDirectory() as folder:
             top = Path(folder)

@@ -39,6 +39,7 @@ class Taken(unittest.TestCase):
 
     def test_refusals(self):
         self.assertIn(b"no library of crates.txt", output([TOOLS / "take", "sqrun", self.to], status=2))
+        self.assertIn(b"error: /proc/x: No such", output([TOOLS / "take", "squeue", "/proc/x"], status=2))
         self.to.mkdir()
         (self.to / "notes").write_text("mine")
         self.assertIn(b"isn't empty", output([TOOLS / "take", "squeue", self.to], status=2))
