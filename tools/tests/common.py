@@ -12,7 +12,7 @@ sys.path.insert(0, str(TOOLS / "parts"))
 
 from builds import path         # noqa: E402
 
-SQRUN = path("sqrun")
+SQRUN, SQREPLAY = path("sqrun"), path("sqreplay")
 MODEL = os.environ.get("SQORACLE", "")
 KEPT = Path(__file__).resolve().parent / "kept"
 

@@ -1,9 +1,10 @@
-"""The pages: they are short, each link leads somewhere, the map has each crate and the edges of crates.txt, the glossary each name of two crates."""
+"""The pages: they are short, what they show is so, links lead somewhere, the map has each crate, the glossary each name of two crates."""
+import os
 import re
 import unittest
 from collections import defaultdict
 
-from common import TOP
+from common import SQREPLAY, TOP, output
 
 import definitions
 
@@ -62,6 +63,21 @@ class Pages(unittest.TestCase):
         words = {page: len(page.read_text(encoding="utf-8").split()) for page in PAGES}
         self.assertLessEqual(words[TOP / "README.md"], MOST_OF_README)
         self.assertLessEqual(sum(words.values()), MOST_WORDS)
+
+
+class Shown(unittest.TestCase):
+    """What the pages show as a program's output or as code is so."""
+
+    def test_the_trace_replays(self):
+        if not os.access(SQREPLAY, os.X_OK):
+            self.skipTest("no sqreplay: run ./build, or name it by SQREPLAY")
+        lines = re.search(r"(?m)^    report 2\n(?:    .*\n)+", (TOP / "docs" / "RUN.md").read_text())[0]
+        report = re.sub(r"(?m)^    ", "", lines).encode()
+        self.assertEqual(output([SQREPLAY], report + (TOP / "crates" / "sqrun" / "stdin").read_bytes()), b"yes\n")
+
+    def test_the_example_is_that_of_the_test(self):
+        code = re.search(r"```rust\n(.*?)```", (TOP / "docs" / "TCP_LIBRARY.md").read_text(), re.S)[1]
+        self.assertIn(" ".join(code.split()), " ".join((TOP / "crates" / "tcp_tests" / "src" / "services" / "library.rt").read_text().split()))
 
 
 class Glossary(unittest.TestCase):
