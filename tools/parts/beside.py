@@ -22,7 +22,7 @@ PAGE_STYLE = """
 .verdict{white-space:nowrap}.MUST,.SHOULD{font-weight:600}.MUST{color:#b42318}.SHOULD{color:#a15c07}.choice,.service,.unjudged{color:inherit}
 @media (prefers-color-scheme:dark){.MUST{color:#ff9b6a}.SHOULD{color:#e3b341}}
 main{max-width:1180px;margin:0 auto}section{content-visibility:auto;contain-intrinsic-size:auto 900px}
-td,th{vertical-align:top;text-align:left}td:nth-child(2),.short{white-space:nowrap}td.long{min-width:12em}@media (max-width:640px){td.long{min-width:26em}}
+td,th{vertical-align:top;text-align:left}td:nth-child(2),.short{white-space:nowrap}td.long{min-width:12em}td.section{min-width:9em;max-width:15em}td.rule{min-width:24em}@media (max-width:640px){td.long{min-width:26em}td.section{min-width:15em}td.rule{min-width:44em}}
 """
 
 
@@ -124,7 +124,7 @@ def difference_rows(compared):
         kind = KINDS[d.kind]
         frames = ", ".join(map(str, d.frames)) + (" .." if d.count > len(d.frames) > 0 else "")
         out.append(f'<tr><td class="verdict {d.verdict}">{d.verdict}<td>{escape(d.kind)}<td class="n">{d.count:,}<td>{frames}<td class="long">{escape(d.captured)}'
-                   f'<td class="long">{escape(d.reference)}<td class="short">{escape(kind.section)}')
+                   f'<td class="long">{escape(d.reference)}<td class="section">{escape(kind.section)}')
     return "".join(out)
 
 
@@ -146,7 +146,7 @@ def page(title, outcome, compared, summary, drawn, notes):
             "<meta name=\"viewport\" content=\"width=device-width\">"
             f"<title>{escape(title)}</title><style>{(HERE / 'page.css').read_text()}{drawing.STYLE}{ladder.STYLE}{STYLE}{PAGE_STYLE}</style></head><body>")
     lines = "".join(f'<tr><td class="verdict {s.verdict}">{s.verdict}<td>{escape(s.kind.name)}<td class="n">{s.connections:,}<td class="n">{s.times:,}'
-                    f'<td class="short">{links_of(s.first)}<td class="short">{escape(s.kind.section)}<td class="long">{escape(s.kind.rule)}' for s in summary)
+                    f'<td class="short">{links_of(s.first)}<td class="section">{escape(s.kind.section)}<td class="rule">{escape(s.kind.rule)}' for s in summary)
     out = [head, f"<main><h1>{escape(title)}</h1>", f'<p>{escape("; ".join([outcome, *notes]))}.</p>', f'<p class="quiet">{NOT_PROVED}</p>']
     if summary:
         out.append('<div class="rows"><table><tr><th>verdict<th>kind<th class="n">connections<th class="n">times<th>first in<th>section<th>what it says'
