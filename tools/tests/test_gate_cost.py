@@ -2,6 +2,7 @@
 import importlib.machinery
 import importlib.util
 import os
+import re
 import shutil
 import subprocess
 import tempfile
@@ -9,6 +10,8 @@ import unittest
 from pathlib import Path
 
 from common import TOOLS, TOP
+
+import definitions
 
 loader = importlib.machinery.SourceFileLoader("gate_cost", str(TOOLS / "gate-cost"))
 gate_cost = importlib.util.module_from_spec(importlib.util.spec_from_loader("gate_cost", loader))
@@ -79,6 +82,20 @@ class Page(unittest.TestCase):
         rows = [[cell.strip() for cell in line.strip("|").split("|")] for line in (TOP / "docs" / "GATE.md").read_text().splitlines() if line.startswith("| `")]
         told = {row[0].strip("`"): row[6:] for row in rows if len(row) == 8}
         self.assertEqual(told, {crate: [str(count) if count else "–" for count in gate_cost.counts(crate)] for crate in gate_cost.order()})
+
+    def test_sums_are_those_of_the_lines(self):
+        """What it costs to prove a program with all below it, as the second table says, follows from the first one."""
+        text = (TOP / "docs" / "GATE.md").read_text()
+        proofs = {name: float(figure) for name, figure in re.findall(r"(?m)^\| `(\w+)` \| [\d.]+ \| ([\d.]+) ", text)}
+        stands_on, checked = definitions.directly(), 0
+        for told, figure in re.findall(r"(?m)^\| (.*`.*) \| (\d+)", text.partition("To prove, ")[2]):
+            left, needed = [name for name in re.findall(r"`(\w+)`", told) if name in proofs], set()
+            while left:
+                needed.add(left[-1])
+                left += [name for name in stands_on[left.pop()] if name not in needed]
+            self.assertEqual(int(figure), round(sum(proofs[name] for name in needed)), told)
+            checked += 1
+        self.assertGreater(checked, 4)
 
 
 if __name__ == "__main__":
