@@ -190,11 +190,13 @@ class Incoming:
         return hi <= self.next or any(first <= lo and hi <= end for first, end in self.beyond)
 
     def early_ones(self, hi, s):
+        """What this brings was acknowledged before: a fault, but where two records of about one time changed places."""
+        if not self.early or hi <= self.top:
+            return
         for ack, number in self.early:
-            if number <= hi and hi > self.top and s.at - ack.at > LATE:
+            if number <= hi and s.at - ack.at > LATE:
                 self.found.add("acknowledged before it came", ack, f"ack {number}, and byte {hi - 1} came {seconds(s.at - ack.at)} later", "")
-                self.early.remove((ack, number))
-                return
+        self.early = [(ack, number) for ack, number in self.early if number > hi]
 
     def note_again(self, lo, hi):
         """A text that is sent again may have been lost behind the capture, and what was sent after it waits for it."""
@@ -269,7 +271,8 @@ class Incoming:
 
     def judge_delay(self, s, one):
         delay = s.at - one.ready - self.shake.trip
-        self.judged, self.too_late = self.judged + 1, self.too_late + (delay >= TOO_LATE)
+        # A client that waits for a second and sends nothing again has got an acknowledgement that the capture lacks, or a long timer.
+        self.judged, self.too_late = self.judged + 1, self.too_late + (TOO_LATE <= delay < SECOND)
         if delay >= LATE:
             self.delays.append((delay, one.segment))
         if delay >= TOO_LATE:

@@ -88,6 +88,12 @@ def late_behind(change):
     return talk.down(ACK | PSH, b"hello", wait=SECOND * 7 // 10).up()
 
 
+def swapped(talk):
+    """The last two records have changed places, with their times."""
+    talk.records[-2:] = talk.records[:-3:-1]
+    return talk
+
+
 def opened(asked=MSS, offered=MSS, late=b"", **more):
     talk = Talk(asked=asked, offered=offered, **more)
     return talk.up(SYN, options=asked).down(SYN | ACK, options=offered, mark=True).up(options=late)
@@ -203,6 +209,9 @@ CONTROLS = {
     "a late acknowledgement behind one that the capture lacks": lambda: texts().up(ACK | PSH, b"one").down().up(ACK | PSH, b"two").up(
         ACK | PSH, b"three", wait=SECOND * 7 // 10).down(),
     "a text into a window of which the capture lacks the opening": lambda: Talk(window=100).open().up(ACK | PSH, b"x" * 300).down(ACK | PSH, b"x" * 300).up(),
+    "a text and its echo that changed places, and more text": lambda: swapped(Talk().open().up(ACK | PSH, b"one").down(ACK | PSH, b"one")).up().up(
+        ACK | PSH, b"two", wait=SECOND // 3).down(ACK | PSH, b"two").up(),
+    "acknowledgements that are too late by more than a timer": lambda: texts().up(ACK | PSH, b"one").down(wait=SECOND * 2),
     "a keep-alive with a byte": lambda: Talk().open().echo().down(ACK, b"\0", seq=5, wait=60 * SECOND).up(),
     "accurate congestion notification": lambda: Talk().open().echo(reserved=1),
     "a text that came when the window was open again": lambda: Talk().open().echo().up(window=0).up(wait=70 * SECOND).echo().close(),
@@ -344,14 +353,14 @@ class Recorded(unittest.TestCase):
                     found, summary, _ = lines(self.folder / "spoilt.pcap")
                     self.assertEqual(summary["must"], 0, [line for line in found if line["verdict"] == "MUST"])
 
-    def test_records_left_out(self):
-        """The same captures without some of their records, as of a capture that couldn't keep up."""
+    def test_records_left_out_and_neighbours_that_changed_places(self):
+        """The same captures without some of their records, as of a capture that couldn't keep up; and noted by two processors."""
         rnd = random.Random(6)
         for path in recorded():
-            for share in (0.005, 0.02, 0.05):
-                with self.subTest(path.name, share=share):
-                    (self.folder / "fewer.pcap").write_bytes(fewer(rnd, path, share))
-                    found, summary, _ = lines(self.folder / "fewer.pcap")
+            for change, share in ((fewer, 0.005), (fewer, 0.02), (fewer, 0.05), (disordered, 0.05)):
+                with self.subTest(path.name, change=change, share=share):
+                    (self.folder / "changed.pcap").write_bytes(change(rnd, path, share))
+                    found, summary, _ = lines(self.folder / "changed.pcap")
                     self.assertEqual(summary["must"], 0, [line for line in found if line["verdict"] == "MUST"])
 
     def test_what_tshark_says_of_them(self):
@@ -408,14 +417,30 @@ def whole(path):
     return gzip.decompress(path.read_bytes()) if path.suffix == ".gz" else path.read_bytes()
 
 
-def fewer(rnd, path, share):
-    """The capture without this share of its records."""
-    data, out, at = whole(path), [], 24
+def cut(data):
+    """The header of a capture, and its records."""
+    out, at = [], 24
     while at + 16 <= len(data):
         end = at + 16 + int.from_bytes(data[at + 8:at + 12], "little")
-        out += [data[at:end]] * (rnd.random() >= share)
+        out.append(data[at:end])
         at = end
-    return data[:24] + b"".join(out)
+    return data[:24], out
+
+
+def fewer(rnd, path, share):
+    """The capture without this share of its records."""
+    head, records = cut(whole(path))
+    return head + b"".join(record for record in records if rnd.random() >= share)
+
+
+def disordered(rnd, path, share):
+    """The capture where this share of its records stands before the one before it, if they are of about one time."""
+    head, records = cut(whole(path))
+    time = lambda record: SECOND * int.from_bytes(record[:4], "little") + int.from_bytes(record[4:8], "little")
+    for n in range(1, len(records)):
+        if rnd.random() < share and time(records[n]) - time(records[n - 1]) < 1_000:
+            records[n - 1:n + 1] = records[n], records[n - 1]
+    return head + b"".join(records)
 
 
 def spoilt(rnd, path, share):
