@@ -14,6 +14,7 @@ from timeseq import near
 
 LATE = 10_000               # microseconds beyond the way to the capture's place and back, from which an acknowledgement counts as delayed
 TOO_LATE = 500_000
+SOON = 1_000                # microseconds in which two segments may have changed places in the capture
 SECOND = 1_000_000
 LONG_CLOSED = 60 * SECOND   # a window of 0 for so long is probed by any timer
 RESERVED = 14               # in the header's byte 12; the bit below them is AE of RFC 9768
@@ -153,7 +154,7 @@ class Incoming:
         self.watch, self.found, self.shake, self.irs = watch, watch.found, watch.shake, watch.life.irs
         self.next, self.beyond, self.top = 1, [], 1         # what came without a gap, stretches beyond it, the greatest end
         self.acked, self.last_ack, self.edge, self.last_window = 0, None, None, None
-        self.wl1, self.wl2 = None, 0        # number and acknowledgement of the segment with the newest window
+        self.wl1, self.wl2, self.told_at = None, 0, 0       # number and acknowledgement of the segment with the newest window, and the time of the last
         self.waiting, self.delays, self.windows = [], [], []
         self.judged = self.too_late = 0         # how many acknowledgements were judged by their delay, and how many of them came too late
         self.gap = None             # (segment above a gap, what was next)
@@ -285,9 +286,11 @@ class Incoming:
             self.windows.append((now, s))
         slack = 1 << self.shake.server_shift
         newer = self.wl1 is None or (near(s.seq, self.wl1), ack) >= (0, self.wl2)         # RFC 9293, 3.10.7.4: not an older segment's window
+        told_at, self.told_at = self.told_at, s.at
+        same = (s.seq, ack) == (self.wl1, self.wl2) and abs(s.at - told_at) < SOON        # which of the two went first isn't told
         if newer:
             self.wl1, self.wl2 = s.seq, ack
-        if newer and self.edge is not None and ack >= self.acked and self.edge - edge >= slack:
+        if newer and not same and self.edge is not None and ack >= self.acked and self.edge - edge >= slack:
             self.found.add("window shrunk", s, f"edge from {self.edge:,} to {edge:,}", "")
         if self.last_window == 0 and 0 < now < min(self.shake.server_takes, self.largest, self.most_window // 2):
             self.found.add("window opened by little", s, f"from 0 to {now}", "")
