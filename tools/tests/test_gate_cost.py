@@ -93,7 +93,7 @@ class Page(unittest.TestCase):
             while left:
                 needed.add(left[-1])
                 left += [name for name in stands_on[left.pop()] if name not in needed]
-            self.assertEqual(int(figure), round(sum(proofs[name] for name in needed)), told)
+            self.assertLessEqual(abs(10 * int(figure) - sum(round(10 * proofs[name]) for name in needed)), 5, told)
             checked += 1
         self.assertGreater(checked, 4)
 
