@@ -36,7 +36,7 @@ impl Fault {
     pub fn line(self) -> &'static str {
         match self {
             Fault::Words =>
-                "usage: sqlive frames SECRET SETTING | device SETTING, where SETTING is ADDRESS BROADCAST PLACES IDLE BYTES SEGMENT [PORTS]",
+                "usage: sqlive [--rings N --squeues N --mode process|nodrain|fill --budget N] frames SECRET SETTING | device SETTING, where SETTING is ADDRESS BROADCAST PLACES IDLE BYTES SEGMENT [PORTS], and behind it with --rings an IN and an OUT for each ring",
             Fault::NoMemory => "out of memory",
             Fault::Reading => "cannot read",
             Fault::Writing => "cannot write",

@@ -1,14 +1,15 @@
 //! Frames from a source and to a sink.
 
-ghost use Rattle.std.specs.Prelude.{◌≡◌, ◌≢◌, ◌++◌, ◌<◌, ◌≤◌, [], true, length, Err, IfSome, OnErr, OnOk};
+ghost use Rattle.std.specs.Prelude.{◌≡◌, ◌≢◌, ◌++◌, ◌<◌, ◌≤◌, [], false, true, length, Err, IfSome, OnErr, OnOk};
 ghost use Rattle.std.specs.Io.KnownBytes.{Appends};
 ghost use Rattle.sq_base.specs.Ends.{Rose};
 ghost use Rattle.live_server.specs.Frames.{answers, frames_in, is_broken, rest_of, serves_frames};
 ghost use Rattle.live_server.specs.Limits.{frame_head};
+ghost use Rattle.live_server.specs.Serving.{server_of};
 ghost use Rattle.live_run.specs.Fronts.{AppendsFront};
 
 use crate::fault::Fault;
-use live_server::{FRAME_HEAD, Server, is_broken, serve_frames};
+use live_server::{ConnTable, FRAME_HEAD, Rules, Server, is_broken, serve_by_rules};
 use sq_base::{Sink, Source, put};
 use std::alloc::Global;
 
@@ -31,30 +32,64 @@ pub fn serve_frames_of<S: Source, K: Sink>(
     ensures frames { result ≡ Err Fault.Frames → IfSome (S.rest source.old) (λ input. rest_of input ≢ []) }
     ensures words { result ≢ Err Fault.Words }
 {
-    let Ok(mut piece) = vec![in alloc; 0u8; PIECE] else {
-        return Err(Fault::NoMemory);
-    };
-    serve_pieces(alloc, server, source, sink, &mut piece[..])
+    let mut rules = server.into_rules();
+    let mut lost = false;
+    serve_stream(alloc, &mut rules, source, sink, false, &mut lost)
 }
 
-/// The same, by pieces of at most so many bytes.
-fn serve_pieces<S: Source, K: Sink>(
+/// The same by rules over any table. Where memory is missing at a frame, and `goes_on` says so, that is noted in `lost`, and the next
+/// frame is served: then a connection, or some of what it sent, is missing.
+pub fn serve_stream<T: ConnTable, S: Source, K: Sink>(
     alloc: Global,
-    server: Server,
+    rules: &mut Rules<T>,
     source: &mut S,
     sink: &mut K,
-    piece: &mut [u8],
+    goes_on: bool,
+    lost: &mut bool,
 ) -> Result<(), Fault>
-    requires { 0 < length piece.old }
-    ensures written { OnOk result (IfSome (S.rest source.old) (λ input. Appends (K.contents sink.old) (K.contents sink.new) (answers input server))) }
+    requires good { T.good rules.old.table }
+    ensures good { T.good rules.new.table }
+    ensures sticky { lost.old ≡ true → lost.new ≡ true }
+    ensures stops { goes_on ≡ false → lost.new ≡ lost.old }
+    ensures written { OnOk result (lost.new ≡ false
+        → IfSome (S.rest source.old) (λ input. Appends (K.contents sink.old) (K.contents sink.new) (answers input (server_of T.conns rules.old)))) }
     ensures whole { OnOk result (IfSome (S.rest source.old) (λ input. rest_of input ≡ [])) }
-    ensures front { IfSome (S.rest source.old) (λ input. AppendsFront (K.contents sink.old) (K.contents sink.new) (answers input server)) }
+    ensures front { lost.new ≡ false → IfSome (S.rest source.old) (λ input. AppendsFront (K.contents sink.old) (K.contents sink.new) (answers input (server_of T.conns rules.old))) }
     ensures reading { result ≡ Err Fault.Reading → Rose (S.read_faults source.old) (S.read_faults source.new) }
     ensures writing { result ≡ Err Fault.Writing → Rose (K.write_faults sink.old) (K.write_faults sink.new) }
     ensures frames { result ≡ Err Fault.Frames → IfSome (S.rest source.old) (λ input. rest_of input ≢ []) }
     ensures words { result ≢ Err Fault.Words }
 {
-    let mut server = server;
+    let Ok(mut piece) = vec![in alloc; 0u8; PIECE] else {
+        return Err(Fault::NoMemory);
+    };
+    serve_pieces(alloc, rules, source, sink, &mut piece[..], goes_on, lost)
+}
+
+/// The same, by pieces of at most so many bytes.
+fn serve_pieces<T: ConnTable, S: Source, K: Sink>(
+    alloc: Global,
+    rules: &mut Rules<T>,
+    source: &mut S,
+    sink: &mut K,
+    piece: &mut [u8],
+    goes_on: bool,
+    lost: &mut bool,
+) -> Result<(), Fault>
+    requires good { T.good rules.old.table }
+    requires piece { 0 < length piece.old }
+    ensures good { T.good rules.new.table }
+    ensures sticky { lost.old ≡ true → lost.new ≡ true }
+    ensures stops { goes_on ≡ false → lost.new ≡ lost.old }
+    ensures written { OnOk result (lost.new ≡ false
+        → IfSome (S.rest source.old) (λ input. Appends (K.contents sink.old) (K.contents sink.new) (answers input (server_of T.conns rules.old)))) }
+    ensures whole { OnOk result (IfSome (S.rest source.old) (λ input. rest_of input ≡ [])) }
+    ensures front { lost.new ≡ false → IfSome (S.rest source.old) (λ input. AppendsFront (K.contents sink.old) (K.contents sink.new) (answers input (server_of T.conns rules.old))) }
+    ensures reading { result ≡ Err Fault.Reading → Rose (S.read_faults source.old) (S.read_faults source.new) }
+    ensures writing { result ≡ Err Fault.Writing → Rose (K.write_faults sink.old) (K.write_faults sink.new) }
+    ensures frames { result ≡ Err Fault.Frames → IfSome (S.rest source.old) (λ input. rest_of input ≢ []) }
+    ensures words { result ≢ Err Fault.Words }
+{
     let mut pending = Vec::new(alloc);
     'pieces: for _ in 0..u64::MAX {
         let Ok(read) = source.read(piece) else {
@@ -63,7 +98,15 @@ fn serve_pieces<S: Source, K: Sink>(
         if read == 0 {
             return end_of(pending.as_slice());
         }
-        if let Err(fault) = serve_piece(&mut server, alloc, &mut pending, &piece[..read], sink) {
+        if let Err(fault) = serve_piece(
+            rules,
+            alloc,
+            &mut pending,
+            &piece[..read],
+            sink,
+            goes_on,
+            lost,
+        ) {
             return Err(fault);
         }
     }
@@ -72,18 +115,24 @@ fn serve_pieces<S: Source, K: Sink>(
 }
 
 /// Serves the whole frames of what was left and of a piece behind it, and writes what is sent.
-fn serve_piece<K: Sink>(
-    server: &mut Server,
+fn serve_piece<T: ConnTable, K: Sink>(
+    rules: &mut Rules<T>,
     alloc: Global,
     pending: &mut Vec<u8>,
     piece: &[u8],
     sink: &mut K,
+    goes_on: bool,
+    lost: &mut bool,
 ) -> Result<(), Fault>
-    ensures server { OnOk result (server.new ≡ (serves_frames (frames_in (pending.old.items ++ piece.now)) server.old).server) }
-    ensures written { OnOk result (Appends (K.contents sink.old) (K.contents sink.new) (answers (pending.old.items ++ piece.now) server.old)) }
+    requires good { T.good rules.old.table }
+    ensures good { T.good rules.new.table }
+    ensures sticky { lost.old ≡ true → lost.new ≡ true }
+    ensures stops { goes_on ≡ false → lost.new ≡ lost.old }
+    ensures server { OnOk result (lost.new ≡ false → server_of T.conns rules.new ≡ (serves_frames (frames_in (pending.old.items ++ piece.now)) (server_of T.conns rules.old)).server) }
+    ensures written { OnOk result (lost.new ≡ false → Appends (K.contents sink.old) (K.contents sink.new) (answers (pending.old.items ++ piece.now) (server_of T.conns rules.old))) }
     ensures left { OnOk result (pending.new.items ≡ rest_of (pending.old.items ++ piece.now)) }
     ensures kept { OnOk result (K.write_faults sink.new ≡ K.write_faults sink.old) }
-    ensures front { OnErr result (AppendsFront (K.contents sink.old) (K.contents sink.new) (answers (pending.old.items ++ piece.now) server.old)) }
+    ensures front { OnErr result (lost.new ≡ false → AppendsFront (K.contents sink.old) (K.contents sink.new) (answers (pending.old.items ++ piece.now) (server_of T.conns rules.old))) }
     ensures writing { result ≡ Err Fault.Writing → Rose (K.write_faults sink.old) (K.write_faults sink.new) }
     ensures frames { result ≡ Err Fault.Frames → (frame_head ≤ length (rest_of (pending.old.items ++ piece.now))) × (is_broken (rest_of (pending.old.items ++ piece.now)) ≡ true) }
     ensures reading { result ≢ Err Fault.Reading }
@@ -93,7 +142,7 @@ fn serve_piece<K: Sink>(
         return Err(Fault::NoMemory);
     }
     let mut out = Vec::new(alloc);
-    let Ok(rest) = serve_frames(server, alloc, pending.as_slice(), &mut out) else {
+    let Ok(rest) = serve_by_rules(rules, alloc, pending.as_slice(), &mut out, goes_on, lost) else {
         return Err(Fault::NoMemory);
     };
     let broken = begins_broken(rest);

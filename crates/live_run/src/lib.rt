@@ -21,6 +21,6 @@ mod words;
 
 pub use drawing::secret;
 pub use fault::Fault;
-pub use frames::serve_frames_of;
+pub use frames::{serve_frames_of, serve_stream};
 pub use process::run_process;
 pub use words::{Mode, Words, asked_in};

@@ -1,6 +1,7 @@
 pub mod NumberLemmas
 pub mod ConnLemmas
 pub mod TableLemmas
+pub mod MeetLemmas
 pub mod PlaceLemmas
 pub mod HeldLemmas
 pub mod TurnLemmas
@@ -11,5 +12,6 @@ pub mod AgeLemmas
 pub mod SentLemmas
 pub mod TickLemmas
 pub mod LossLemmas
+pub mod ArriveLemmas
 pub mod FrameLemmas
 pub mod PieceLemmas

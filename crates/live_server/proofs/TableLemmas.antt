@@ -1,5 +1,5 @@
 -- The table: who leaves it, who joins, and what each connection is then.
-use Rattle.std.proofs.Common.{◌≡◌, ℕ, zero, suc, ◌+◌, ◌<◌, ◌≤◌, Bool, true, false, cond, [], ◌∷◌, ◌++◌, length, remove, slice_get, Option, None, Some, IfSome, IfNone, refl, sym, ap, subst, ◌∙◌, arith, Bor}
+use Rattle.std.proofs.Common.{◌≡◌, ℕ, zero, suc, ◌+◌, ◌<◌, ◌≤◌, Bool, true, false, cond, [], ◌∷◌, ◌++◌, length, position, remove, slice_get, Option, None, Some, IfSome, IfNone, unwrap_or, is_some, true≢false, refl, sym, ap, subst, ◌∙◌, arith, Bor}
 use Rattle.std.specs.Cmp.{IsEquivalence}
 use Rattle.std.specs.List.{swap_remove, IsDistinct}
 use Rattle.std.specs.Map.{keys_of, lookup, IsKeyTest}
@@ -7,7 +7,7 @@ use Rattle.std.specs.Map.Iter.{deref_pair}
 use Rattle.std.specs.Option.{option_map, option_map_or}
 use Rattle.std_collections.proofs.Entries.{keys_set_value_at, length-set_value_at}
 use Rattle.std_collections.proofs.HashLookup.{IsAbsent, IsFirst, Updated-push, Updated-set, Updated-take, distinct_push, distinct_swap_remove, length-swap_remove, lookup-IsAbsent, Rearranges-swap_remove, IsFirst-set_value_at, swap_remove-set_value_at}
-use Rattle.indexmap.specs.IndexMap.{insert_entry, set_value_at}
+use Rattle.indexmap.specs.IndexMap.{IndexMap, insert_entry, set_value_at, Updates}
 use Rattle.indexmap.proofs.MapLemmas.{absent_from_lookup, Found-position, Missing-position, insert_entry-absent}
 use Rattle.sq_base.specs.declared.kinds.Tuple.{Tuple}
 use Rattle.tcb_machine.specs.BlockState.{new_block}
@@ -47,6 +47,22 @@ entry_at (c ∷ cs) (suc i) lt = entry_at cs i (omega arith)
 
 pub conn_read : (cs : Conns) (i : ℕ) (k : Tuple) (c : Conn) → slice_get cs i ≡ Some (k, c) → conn_at i cs ≡ c
 conn_read cs i k c at = ap (λ o. option_map_or (λ e. e.1) o no_conn) at
+
+-- the ends of the entry at their place
+own_ends : (t : Tuple) (cs : Conns) (i : ℕ) (e : Tuple × Conn) → IsFirst (tuple_eq t) cs i → slice_get cs i ≡ Some e → t ≡ e.0
+own_ends t [] i e h at = absurd h
+own_ends t (c ∷ cs) zero e h at = same t c.0 h ∙ ap (λ o. (unwrap_or o c).0) at
+own_ends t (c ∷ cs) (suc i) e h at = own_ends t cs i e h.1 at
+
+-- who left by place isn't there
+pub gone_from : {S : Type 0} (t : Tuple) (i : ℕ) (m n : IndexMap Tuple Conn S) (r : Option (Tuple × Conn)) → r ≡ slice_get m.entries i → IfSome r (λ p. Updates tuple_eq m n p.0 None)
+    → place_of t m.entries ≡ Some i → IsNew t n.entries
+gone_from t i m n None is updates at = absurd (true≢false (sym (ap is_some (is ∙ (entry_at m.entries i (within_at t m.entries i at)).1))))
+gone_from t i m n (Some p) is updates at = ap (λ q. lookup (tuple_eq q) n.entries) (own_ends t m.entries i p (first_at t m.entries i at) (sym is)) ∙ updates.1
+
+-- nor does a write by place move anybody
+pub place_written : (t : Tuple) (cs : Conns) (i : ℕ) (c : Conn) → place_of t (set_value_at cs i c) ≡ place_of t cs
+place_written t cs i c = ap (position (tuple_eq t)) (keys_set_value_at cs i c)
 
 pub none_is_over : is_over no_conn ≡ true
 unfolding new_block

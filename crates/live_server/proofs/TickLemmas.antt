@@ -56,7 +56,7 @@ left_once : (g : Setting) (now : ℕ) (cs : Conns) → IsDistinct tuple_eq (keys
 unfolding without_leaving
 left_once g now cs once = IsDistinct-keys_filter tuple_eq _ cs once
 
-left_short : (g : Setting) (now : ℕ) (cs : Conns) → length (without_leaving g now cs) ≤ length cs
+pub left_short : (g : Setting) (now : ℕ) (cs : Conns) → length (without_leaving g now cs) ≤ length cs
 unfolding without_leaving
 left_short g now cs = shorter _ cs
 

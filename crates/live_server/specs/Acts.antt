@@ -1,5 +1,5 @@
 -- What one connection makes of a segment and of the time, and the datagrams of what it sends.
-use Rattle.std.specs.Prelude.{ℕ, ◌+◌, ◌-◌, ◌%◌, ◌^◌, ◌==◌, nat_le, nat_lt, ◌&&◌, ◌||◌, not, Bool, false, Option, None, Some, List, [], ◌∷◌, length, map, if◌then◌else◌}
+use Rattle.std.specs.Prelude.{ℕ, ◌+◌, ◌-◌, ◌%◌, ◌^◌, ◌==◌, nat_le, nat_lt, ◌&&◌, ◌||◌, not, Bool, false, Option, None, Some, List, [], ◌∷◌, ◌++◌, length, map, if◌then◌else◌}
 use Rattle.sq_base.specs.SerialOrder.{dist}
 use Rattle.byte_queues.specs.Limits.{send_space}
 use Rattle.byte_queues.specs.ReceiveQueue.{next_of}
@@ -23,6 +23,8 @@ use Rattle.live_server.specs.declared.acting.Datagram.{Datagram}
 use Rattle.live_server.specs.declared.conn.Conn.{Conn}
 use Rattle.live_server.specs.declared.conn.Judged.{Judged}
 use Rattle.live_server.specs.declared.conn.Judged.TheVariants.{Challenged, Late, Taken, Unanswered}
+use Rattle.live_server.specs.declared.conn.Met.{Met}
+use Rattle.live_server.specs.declared.conn.Met.TheVariants.{Gone, Judged as judges}
 use Rattle.live_server.specs.declared.service.Service.{Service}
 use Rattle.live_server.specs.declared.service.Service.TheVariants.{Discard}
 
@@ -137,3 +139,17 @@ announcing most r = if is_longer most r.options.mss then record r { options = re
 -- the datagrams of what it sent
 abbrev pub sent_by : Tuple → Conn → List Datagram
 sent_by t c = map (λ r. datagram_of t (announcing c.most r)) c.tcb.replies
+
+-- what becomes of a connection and a segment that comes to it, and what is sent
+pub record Meeting : Type 0 where
+  pub conn : Conn
+  pub sent : List Datagram
+  pub met : Met
+
+-- a segment comes to a connection, behind the time: where the time ends the connection, the segment meets nobody
+unfoldable pub meets : ℕ → ℕ → Seg → List ℕ → Tuple → Conn → Meeting
+meets now iss s text t c =
+    let r = reached now c in
+    let d = receives now iss s text (emptied r) in
+    if is_over r then record { conn = r; sent = sent_by t r; met = Gone }
+    else record { conn = d; sent = sent_by t r ++ sent_by t d; met = judges (judged now s text (emptied r)) }

@@ -73,6 +73,10 @@ Loses t before after = IsTable before → IsTable after × (conn_of t after ≡ 
 abbrev pub Costs : Seg → ServerOf → ServerOf → Type 0
 Costs s before after = Loses (tuple_of s) before after ⊎ (after.conns ≡ before.conns)
 
+-- and what the server was started with stays
+abbrev pub KeepsStart : ServerOf → ServerOf → Type 0
+KeepsStart before after = (after.setting ≡ before.setting) × (after.secret ≡ before.secret)
+
 -- and what the time does: one connection is gone, and each other one is as it was, or as the time leaves it
 abbrev pub LosesOne : ℕ → ServerOf → ServerOf → Type 0
 LosesOne now before after = IsTable before → IsTable after × ((t : Tuple) × (conn_of t after ≡ None) × ((q : Tuple) → tuple_eq t q ≡ false

@@ -22,6 +22,7 @@ use Rattle.live_server.specs.declared.acting.Datagram.{Datagram}
 use Rattle.live_server.specs.declared.conn.Conn.{Conn}
 use Rattle.live_server.specs.declared.conn.Judged.{Judged}
 use Rattle.live_server.specs.declared.counts.Counts.{Counts}
+use Rattle.live_server.specs.declared.rules.Rules.{Rules}
 use Rattle.live_server.specs.declared.setting.Setting.{Setting}
 
 -- the connections; the ends and the number of those that were opened last, which may be half open, by age; how many bytes all held when
@@ -33,6 +34,17 @@ pub record ServerOf : Type 0 where
   pub setting : Setting
   pub secret : List ℕ
   pub counts : Counts
+
+-- the state of the rules over a table, whose connections a function tells
+abbrev pub server_of : {T : Type 0} → (T → Conns) → Rules T → ServerOf
+server_of conns r = record {
+  conns = conns r.table;
+  waiting = r.waiting.items;
+  held = r.held;
+  setting = r.setting;
+  secret = r.secret.0;
+  counts = r.counts;
+}
 
 -- what becomes of a server, and what it sends
 pub record Outcome : Type 0 where
@@ -154,6 +166,10 @@ heeds now s text sv = comes now (heeded s text sv) (heeded_text text sv) (noting
 -- a segment to a service: the time comes to its connection first, so that the deadlines before it fire
 unfoldable pub on_segment : ℕ → Seg → List ℕ → ServerOf → Outcome
 on_segment now s text sv = then_sends (time_to now (tuple_of s) sv) (heeds now s text)
+
+-- the same behind what was noted: the time, and then the segment
+unfoldable pub arrives : ℕ → Seg → List ℕ → ServerOf → Outcome
+arrives now s text sv = then_sends (time_to now (tuple_of s) sv) (comes now s text)
 
 -- a segment elsewhere is answered by a reset (RFC 9293, 3.10.7.1)
 abbrev pub refused : ℕ → Seg → List Datagram

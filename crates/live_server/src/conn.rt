@@ -1,7 +1,8 @@
 //! One connection: its block, and what the server keeps beside it.
 
 ghost use Rattle.std.specs.Prelude.{◌≡◌, ◌++◌, ◌≤◌, IfOk, OnOk};
-ghost use Rattle.live_server.specs.Acts.{after, emptied, has_room, is_half_open, is_idle, is_outside, is_over, judged, new_conn, oldest_ack, provokes, reached, receives, renewed, resent, sent_by, taken, takes};
+ghost use Rattle.live_server.specs.Acts.{after, emptied, has_room, is_half_open, is_idle, is_outside, is_over, judged, meets, new_conn, oldest_ack, provokes, reached, receives, renewed, resent, sent_by, taken, takes};
+ghost use Rattle.live_server.specs.Facts.{facts_of};
 ghost use Rattle.live_server.specs.Leaving.{is_given_up};
 ghost use Rattle.tcb_machine.specs.TcpStep.{is_time_wait};
 ghost use Rattle.tcb_machine.specs.Room.{HasRoom};
@@ -9,6 +10,7 @@ ghost use Rattle.tcb_machine.specs.Limits.{last_time};
 
 use crate::acting::{Datagram, announced};
 use crate::congestion::Congestion;
+use crate::facts::Facts;
 use crate::service::Service;
 use echo_services::{serve, tick};
 use segment_codec::{ACK, RST, SYN, Seg};
@@ -18,12 +20,6 @@ use tcb_machine::{State, Tcb};
 
 /// A connection sends one challenge in so many microseconds (RFC 5961, 7).
 const CHALLENGE_INTERVAL: u64 = 500_000;
-
-/// A connection is half open for so many microseconds at most (RFC 9293, 3.8.3 gives a SYN three minutes at least).
-const HANDSHAKE_LIMIT: u64 = 180_000_000;
-
-/// A connection is silent in FIN-WAIT-2 for so many microseconds at most.
-const HALF_CLOSED_LIMIT: u64 = 60_000_000;
 
 /// The most that is ever sent and not acknowledged, in bytes.
 const SEND_SPACE: u32 = 65_535;
@@ -59,6 +55,15 @@ pub enum Judged {
     Late,
 }
 
+/// What a segment meets at a connection to which the time comes first.
+#[derive(Clone, Copy, Debug, PartialEq, Eq)]
+pub enum Met {
+    /// Nobody: the time ended the connection.
+    Gone,
+    /// The connection, which judged it.
+    Judged(Judged),
+}
+
 impl Conn {
     /// A connection that nothing is known of, with its service, and with the most text that a segment may have on its path.
     pub fn make(alloc: Global, service: Service, most: u16, now: u64) -> Conn
@@ -73,6 +78,19 @@ impl Conn {
             heard: now,
             quiet_until: 0,
             congestion: Congestion::fresh(),
+        }
+    }
+
+    /// What a table has to know of it.
+    pub fn facts(&self) -> Facts
+        ensures { result ≡ facts_of self.now }
+    {
+        Facts {
+            state: self.tcb.state(),
+            number: self.number,
+            since: self.since,
+            heard: self.heard,
+            held: self.tcb.held(),
         }
     }
 
@@ -94,25 +112,21 @@ impl Conn {
     pub fn is_idle(&self, now: u64, limit: u64) -> bool
         ensures { result ≡ is_idle now limit self.now }
     {
-        now.saturating_sub(self.heard) >= limit
+        self.facts().is_idle(now, limit)
     }
 
     /// Whether it is in TIME-WAIT (RFC 9293, 3.3.2).
     pub fn is_in_time_wait(&self) -> bool
         ensures { result ≡ is_time_wait self.now.tcb.state }
     {
-        matches!(self.tcb.state(), State::TimeWait)
+        self.facts().is_in_time_wait()
     }
 
     /// Whether it is half open, or silent in FIN-WAIT-2, for too long.
     pub fn is_given_up(&self, now: u64) -> bool
         ensures { result ≡ is_given_up now self.now }
     {
-        match self.tcb.state() {
-            State::SynReceived => now.saturating_sub(self.since) >= HANDSHAKE_LIMIT,
-            State::FinWait2 => self.is_idle(now, HALF_CLOSED_LIMIT),
-            _ => false,
-        }
+        self.facts().is_given_up(now)
     }
 
     /// What becomes of a segment that comes at a time.
@@ -263,6 +277,31 @@ impl Conn {
         let judged = self.take(alloc, now, iss, seg, text)?;
         self.send(alloc, tuple, out)?;
         Ok(judged)
+    }
+
+    /// A segment comes, behind the time: what the block sends for both leaves it. Where the time ends the connection, the segment
+    /// meets nobody. After an error nothing more is promised of the connection.
+    pub fn meet(
+        &mut self,
+        alloc: Global,
+        now: u64,
+        iss: u32,
+        seg: &Seg,
+        text: &[u8],
+        tuple: &Tuple,
+        out: &mut Vec<Datagram>,
+    ) -> Result<Met, AllocError>
+        requires { now ≤ last_time }
+        ensures met { IfOk result (λ m. m ≡ (meets now iss seg.now text.now tuple.now self.old).met) }
+        ensures conn { OnOk result (self.new ≡ emptied (meets now iss seg.now text.now tuple.now self.old).conn) }
+        ensures sent { OnOk result (out.new.items ≡ out.old.items ++ (meets now iss seg.now text.now tuple.now self.old).sent) }
+    {
+        self.time(alloc, now, tuple, out)?;
+        if self.is_over() {
+            return Ok(Met::Gone);
+        }
+        let judged = self.segment(alloc, now, iss, seg, text, tuple, out)?;
+        Ok(Met::Judged(judged))
     }
 }
 

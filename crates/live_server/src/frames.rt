@@ -4,9 +4,12 @@ ghost use Rattle.std.specs.Prelude.{◌≡◌, ◌++◌, ◌+◌, ◌≤◌, fal
 ghost use Rattle.std.specs.List.{flat_map};
 ghost use Rattle.live_server.specs.Frames.{answers, body_size, frame_at, frame_of, frames_in, is_broken, is_end, on_frame, rest_of, serves_frames, time_of};
 ghost use Rattle.live_server.specs.Limits.{frame_head, most_body};
+ghost use Rattle.live_server.specs.Serving.{server_of};
 ghost use Rattle.tcb_machine.specs.Limits.{last_time};
 
 use crate::acting::Datagram;
+use crate::conn_table::ConnTable;
+use crate::rules::Rules;
 use crate::server::Server;
 use byteorder::{BigEndian, ByteOrder};
 use std::alloc::{AllocError, Global};
@@ -31,9 +34,33 @@ pub fn serve_frames<'a>(
     ensures rest { IfOk result (λ rest. rest.now ≡ rest_of bytes.now) }
     ensures ended { IfOk result (λ rest. is_end rest.now ≡ true) }
 {
+    let mut lost = false;
+    serve_by_rules(&mut server.rules, alloc, bytes, out, false, &mut lost)
+}
+
+/// The same by rules over any table. Where memory is missing at a frame, and `goes_on` says so, that is noted in `lost`, and the next
+/// frame is served.
+pub fn serve_by_rules<'a, T: ConnTable>(
+    rules: &mut Rules<T>,
+    alloc: Global,
+    bytes: &'a [u8],
+    out: &mut Vec<u8>,
+    goes_on: bool,
+    lost: &mut bool,
+) -> Result<&'a [u8], AllocError>
+    requires good { T.good rules.old.table }
+    ensures good { T.good rules.new.table }
+    ensures sticky { lost.old ≡ true → lost.new ≡ true }
+    ensures stops { goes_on ≡ false → lost.new ≡ lost.old }
+    ensures server { OnOk result (lost.new ≡ false
+        → server_of T.conns rules.new ≡ (serves_frames (frames_in bytes.now) (server_of T.conns rules.old)).server) }
+    ensures sent { OnOk result (lost.new ≡ false → out.new.items ≡ out.old.items ++ answers bytes.now (server_of T.conns rules.old)) }
+    ensures rest { IfOk result (λ rest. rest.now ≡ rest_of bytes.now) }
+    ensures ended { IfOk result (λ rest. is_end rest.now ≡ true) }
+{
     let mut rest = bytes;
     'frames: while !is_end(rest) {
-        serve_front(server, alloc, rest, out)?;
+        serve_next(rules, alloc, rest, out, goes_on, lost)?;
         let (_, others) = rest.split_at(frame_size(rest));
         rest = others;
     }
@@ -81,42 +108,78 @@ fn frame_size(rest: &[u8]) -> usize
     FRAME_HEAD + body_size(rest)
 }
 
-/// Serves the frame that begins here.
-fn serve_front(
-    server: &mut Server,
+/// Serves the frame that begins here. Where memory is missing, and all goes on, nothing is sent for it.
+fn serve_next<T: ConnTable>(
+    rules: &mut Rules<T>,
+    alloc: Global,
+    rest: &[u8],
+    out: &mut Vec<u8>,
+    goes_on: bool,
+    lost: &mut bool,
+) -> Result<(), AllocError>
+    requires good { T.good rules.old.table }
+    requires whole { is_end rest.now ≡ false }
+    ensures good { T.good rules.new.table }
+    ensures sticky { lost.old ≡ true → lost.new ≡ true }
+    ensures stops { goes_on ≡ false → lost.new ≡ lost.old }
+    ensures server { OnOk result (lost.new ≡ false → server_of T.conns rules.new ≡ (on_frame (frame_at rest.now) (server_of T.conns rules.old)).server) }
+    ensures sent { OnOk result (lost.new ≡ false
+        → out.new.items ≡ out.old.items ++ flat_map frame_of (on_frame (frame_at rest.now) (server_of T.conns rules.old)).sent) }
+{
+    let whole = out.len();
+    match serve_front(rules, alloc, rest, out) {
+        Ok(()) => Ok(()),
+        Err(error) => {
+            if !goes_on {
+                return Err(error);
+            }
+            out.truncate(whole);
+            *lost = true;
+            Ok(())
+        }
+    }
+}
+
+/// Serves the frame that begins here, and writes what is sent for it.
+fn serve_front<T: ConnTable>(
+    rules: &mut Rules<T>,
     alloc: Global,
     rest: &[u8],
     out: &mut Vec<u8>,
 ) -> Result<(), AllocError>
-    requires { is_end rest.now ≡ false }
-    ensures server { OnOk result (server.new ≡ (on_frame (frame_at rest.now) server.old).server) }
-    ensures sent { OnOk result (out.new.items ≡ out.old.items ++ flat_map frame_of (on_frame (frame_at rest.now) server.old).sent) }
+    requires good { T.good rules.old.table }
+    requires whole { is_end rest.now ≡ false }
+    ensures good { T.good rules.new.table }
+    ensures server { OnOk result (server_of T.conns rules.new ≡ (on_frame (frame_at rest.now) (server_of T.conns rules.old)).server) }
+    ensures sent { OnOk result (out.new.items ≡ out.old.items ++ flat_map frame_of (on_frame (frame_at rest.now) (server_of T.conns rules.old)).sent) }
 {
     let (_, behind) = rest.split_at(FRAME_HEAD);
     let (body, _) = behind.split_at(body_size(rest));
     let mut sent = Vec::new(alloc);
-    serve_frame(server, alloc, time_of(rest), body, &mut sent)?;
+    serve_frame(rules, alloc, time_of(rest), body, &mut sent)?;
     push_frames(&sent, out)?;
     Ok(())
 }
 
 /// Serves a datagram, or the time alone where there is none.
-fn serve_frame(
-    server: &mut Server,
+fn serve_frame<T: ConnTable>(
+    rules: &mut Rules<T>,
     alloc: Global,
     at: u64,
     body: &[u8],
     sent: &mut Vec<Datagram>,
 ) -> Result<(), AllocError>
+    requires good { T.good rules.old.table }
     requires time { at ≤ last_time }
     requires body { length body.now ≤ most_body }
-    ensures server { OnOk result (server.new ≡ (on_frame (record { at = at; body = body.now }) server.old).server) }
-    ensures sent { OnOk result (sent.new.items ≡ sent.old.items ++ (on_frame (record { at = at; body = body.now }) server.old).sent) }
+    ensures good { T.good rules.new.table }
+    ensures server { OnOk result (server_of T.conns rules.new ≡ (on_frame (record { at = at; body = body.now }) (server_of T.conns rules.old)).server) }
+    ensures sent { OnOk result (sent.new.items ≡ sent.old.items ++ (on_frame (record { at = at; body = body.now }) (server_of T.conns rules.old)).sent) }
 {
     if body.is_empty() {
-        server.tick(alloc, at, sent)
+        rules.tick(alloc, at, sent)
     } else {
-        server.datagram(alloc, at, body, sent)
+        rules.datagram(alloc, at, body, sent)
     }
 }
 

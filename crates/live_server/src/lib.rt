@@ -8,12 +8,15 @@ mod acting;
 mod addresses;
 mod congestion;
 mod conn;
+mod conn_table;
 mod counts;
 mod daytime;
+mod facts;
 mod frames;
 mod initial;
 mod laws;
 mod ports;
+mod rules;
 mod server;
 mod service;
 mod setting;
@@ -21,15 +24,19 @@ mod table;
 
 pub use acting::Datagram;
 pub use congestion::Congestion;
-pub use conn::{Conn, Judged};
+pub use conn::{Conn, Judged, Met};
+pub use conn_table::ConnTable;
 pub use counts::Counts;
-pub use frames::{FRAME_HEAD, is_broken, serve_frames};
+pub use facts::Facts;
+pub use frames::{FRAME_HEAD, is_broken, serve_by_rules, serve_frames};
 pub use initial::Secret;
 pub use laws::{
     answers_go_to_its_ends, days_have_their_dates, only_these_leave_in_time, others_stay,
     own_connection_acts, own_entry_gives_way, pieces_join, the_table_is_bounded,
 };
 pub use ports::{NO_PORTS, PLAIN_PORTS, Ports, service_at};
-pub use server::{Server, number_for, without_text};
+pub use rules::{Rules, number_for, without_text};
+pub use server::Server;
 pub use service::Service;
 pub use setting::Setting;
+pub use table::Table;

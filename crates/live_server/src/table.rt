@@ -1,16 +1,19 @@
-//! The table of connections, and who leaves it.
+//! The table of one thread: a map in order, and who leaves it.
 
-ghost use Rattle.std.specs.Prelude.{◌≡◌, ℕ, ◌++◌, ◌<◌, ◌≤◌, length, IfOk, OnErr, OnOk};
+ghost use Rattle.std.specs.Prelude.{◌≡◌, ℕ, ◌++◌, ◌<◌, ◌≤◌, length, true, Some, IfOk, OnErr, OnOk};
 ghost use Rattle.std.specs.List.{flat_map};
 ghost use Rattle.tcb_machine.specs.BlockState.{held_in};
 ghost use Rattle.tcb_machine.specs.Limits.{last_time};
-ghost use Rattle.live_server.specs.Acts.{is_over, judged, reached, receives, sent_by};
-ghost use Rattle.live_server.specs.Leaving.{is_leaving, without_leaving};
+ghost use Rattle.live_server.specs.Acts.{is_over, meets, reached, sent_by};
+ghost use Rattle.live_server.specs.Leaving.{without_leaving};
 ghost use Rattle.live_server.specs.Serving.{is_waiting};
-ghost use Rattle.live_server.specs.Table.{all_reached, conn_at, held_by, reached_until, replaced, settled, without, without_over};
+ghost use Rattle.live_server.specs.Table.{all_reached, conn_at, held_by, place_of, reached_until, replaced, settled, without, without_over, IsNew};
+ghost use Rattle.live_server.specs.declared.conn.Met.TheVariants.{Gone};
+ghost use Rattle.sq_base.specs.declared.kinds.Tuple.{Tuple};
 
 use crate::acting::Datagram;
-use crate::conn::{Conn, Judged};
+use crate::conn::{Conn, Met};
+use crate::conn_table::ConnTable;
 use crate::setting::Setting;
 use indexmap::IndexMap;
 use segment_codec::Seg;
@@ -18,20 +21,90 @@ use sq_base::Tuple;
 use std::alloc::{AllocError, Global};
 
 /// Connections by their two ends.
-pub(crate) type Table = IndexMap<Tuple, Conn>;
+pub type Table = IndexMap<Tuple, Conn>;
+
+impl ConnTable for Table {
+    ghost use Rattle.std.specs.Prelude.{◌≡◌, ℕ, ◌<◌, length};
+    ghost use Rattle.live_server.specs.Table.{reached_until, without};
+
+    ghost conns = { λ m. m.entries };
+
+    ghost good = { λ _. Unit {0} };
+
+    // The connection at which memory was missing left, and those behind it are as they were.
+    ghost spoils = { λ now was is. (i : ℕ) × (i < length was) × (is ≡ without i (reached_until now i was)) };
+
+    fn len(&self) -> usize {
+        self.len()
+    }
+
+    fn find(&self, ends: &Tuple) -> Option<usize> {
+        self.get_index_of(ends)
+    }
+
+    fn is_waiting_at(&self, place: usize, number: u64) -> bool {
+        is_waiting_at(self, place, number)
+    }
+
+    fn held(&self) -> u64 {
+        held_by(self)
+    }
+
+    fn insert(&mut self, alloc: Global, ends: Tuple, conn: Conn) -> Result<(), AllocError> {
+        self.insert(ends, conn)?;
+        Ok(())
+    }
+
+    fn leave(&mut self, alloc: Global, place: usize) {
+        leave(self, place);
+    }
+
+    fn meet(
+        &mut self,
+        place: usize,
+        alloc: Global,
+        now: u64,
+        iss: u32,
+        seg: &Seg,
+        text: &[u8],
+        tuple: &Tuple,
+        out: &mut Vec<Datagram>,
+    ) -> Result<Met, AllocError> {
+        meet_at(self, place, alloc, now, iss, seg, text, tuple, out)
+    }
+
+    fn reach_all(
+        &mut self,
+        alloc: Global,
+        now: u64,
+        out: &mut Vec<Datagram>,
+    ) -> Result<(), AllocError> {
+        reach_all(self, alloc, now, out)
+    }
+
+    fn drop_over(&mut self, alloc: Global) {
+        drop_over(self);
+    }
+
+    fn drop_leaving(&mut self, alloc: Global, setting: &Setting, now: u64) {
+        drop_leaving(self, setting, now);
+    }
+}
 
 /// The connection at a place leaves; the last one takes its place.
 #[tactic(auto, unfolding(crate::specs::Table::without))]
-pub(crate) fn leave(table: &mut Table, place: usize)
-    ensures { table.new.entries ≡ without place table.old.entries }
+fn leave(table: &mut Table, place: usize)
+    ensures table { table.new.entries ≡ without place table.old.entries }
+    ensures gone { (t : Tuple) → place_of t table.old.entries ≡ Some place → IsNew t table.new.entries }
 {
     table.swap_remove_index(place);
 }
 
 /// The connection at a place leaves where it is over.
 #[tactic(auto, unfolding(crate::specs::Table::settled))]
-pub(crate) fn settle(table: &mut Table, place: usize)
-    ensures { table.new.entries ≡ settled place table.old.entries }
+fn settle(table: &mut Table, place: usize)
+    ensures table { table.new.entries ≡ settled place table.old.entries }
+    ensures gone { (t : Tuple) → is_over (conn_at place table.old.entries) ≡ true → place_of t table.old.entries ≡ Some place → IsNew t table.new.entries }
 {
     if is_over_at(table, place) {
         leave(table, place);
@@ -48,7 +121,7 @@ fn is_over_at(table: &Table, place: usize) -> bool
 }
 
 /// Whether the connection at a place is half open, and the one that was opened with a number.
-pub(crate) fn is_waiting_at(table: &Table, place: usize, number: u64) -> bool
+fn is_waiting_at(table: &Table, place: usize, number: u64) -> bool
     ensures { result ≡ is_waiting number (conn_at place table.now.entries) }
 {
     match table.get_index(place) {
@@ -58,33 +131,23 @@ pub(crate) fn is_waiting_at(table: &Table, place: usize, number: u64) -> bool
 }
 
 /// All leave that are over.
-pub(crate) fn drop_over(table: &mut Table)
+fn drop_over(table: &mut Table)
     ensures { table.new.entries ≡ without_over table.old.entries }
 {
     table.retain(|_, conn| !conn.is_over());
 }
 
 /// All leave that are to leave at a tick.
-pub(crate) fn drop_leaving(table: &mut Table, setting: &Setting, now: u64)
+fn drop_leaving(table: &mut Table, setting: &Setting, now: u64)
     ensures table { table.new.entries ≡ without_leaving setting.now now table.old.entries }
     ensures fewer { length table.new.entries ≤ length table.old.entries }
 {
     let taken = table.len();
-    table.retain(|_, conn| !is_leaving(setting, now, taken, conn));
-}
-
-/// Whether a connection leaves at a tick, where so many places are taken.
-fn is_leaving(setting: &Setting, now: u64, taken: usize, conn: &Conn) -> bool
-    ensures { result ≡ is_leaving setting.now now taken conn.now }
-{
-    let places = setting.places;
-    conn.is_given_up(now)
-        || (taken >= places - places / 4 && conn.is_in_time_wait())
-        || (taken >= places && conn.is_idle(now, setting.idle))
+    table.retain(|_, conn| !conn.facts().is_leaving(setting, now, taken));
 }
 
 /// How many bytes all hold.
-pub(crate) fn held_by(table: &Table) -> u64
+fn held_by(table: &Table) -> u64
     ensures { result ≡ held_by table.now.entries }
 {
     let mut total = 0u64;
@@ -105,7 +168,7 @@ fn held_at(table: &Table, place: usize) -> u64
 
 /// The time comes to each connection in turn. What is sent goes behind the datagrams that are there. The connection at which memory
 /// is missing leaves, and those behind it are as they were.
-pub(crate) fn reach_all(
+fn reach_all(
     table: &mut Table,
     alloc: Global,
     now: u64,
@@ -126,35 +189,10 @@ pub(crate) fn reach_all(
     Ok(())
 }
 
-/// The time comes to the connection at a place, which leaves where it is over, or where memory is missing.
-#[tactic(auto, unfolding(crate::specs::Table::replaced), using(crate::proofs::TableLemmas::without_set))]
-pub(crate) fn reach_at(
-    table: &mut Table,
-    place: usize,
-    alloc: Global,
-    now: u64,
-    tuple: &Tuple,
-    out: &mut Vec<Datagram>,
-) -> Result<(), AllocError>
-    requires time { now ≤ last_time }
-    requires place { place < length table.old.entries }
-    ensures table { OnOk result (table.new.entries ≡ replaced place (reached now (conn_at place table.old.entries)) table.old.entries) }
-    ensures sent { OnOk result (out.new.items ≡ out.old.items ++ sent_by tuple.now (reached now (conn_at place table.old.entries))) }
-    ensures lost { OnErr result (table.new.entries ≡ without place table.old.entries) }
-{
-    let (_, conn) = table.pair_mut(place);
-    if let Err(error) = conn.time(alloc, now, tuple, out) {
-        leave(table, place);
-        return Err(error);
-    }
-    settle(table, place);
-    Ok(())
-}
-
-/// A segment comes to the connection at a place, which leaves where it is over, or where memory is missing. The answer says what
-/// became of the segment.
-#[tactic(auto, unfolding(crate::specs::Table::replaced), using(crate::proofs::TableLemmas::without_set))]
-pub(crate) fn take_at(
+/// A segment comes to the connection at a place, behind the time. The connection leaves where it is over, or where memory is missing.
+/// The answer says what became of the segment.
+#[tactic(auto, unfolding(crate::specs::Table::replaced))]
+fn meet_at(
     table: &mut Table,
     place: usize,
     alloc: Global,
@@ -164,21 +202,22 @@ pub(crate) fn take_at(
     text: &[u8],
     tuple: &Tuple,
     out: &mut Vec<Datagram>,
-) -> Result<Judged, AllocError>
+) -> Result<Met, AllocError>
     requires time { now ≤ last_time }
-    requires place { place < length table.old.entries }
-    ensures judged { IfOk result (λ j. j ≡ judged now seg.now text.now (conn_at place table.old.entries)) }
+    requires place { place_of tuple.now table.old.entries ≡ Some place }
+    ensures met { IfOk result (λ m. m ≡ (meets now iss seg.now text.now tuple.now (conn_at place table.old.entries)).met) }
     ensures table { OnOk result (table.new.entries ≡ replaced place
-        (receives now iss seg.now text.now (conn_at place table.old.entries)) table.old.entries) }
+        (meets now iss seg.now text.now tuple.now (conn_at place table.old.entries)).conn table.old.entries) }
     ensures sent { OnOk result (out.new.items ≡ out.old.items
-        ++ sent_by tuple.now (receives now iss seg.now text.now (conn_at place table.old.entries))) }
+        ++ (meets now iss seg.now text.now tuple.now (conn_at place table.old.entries)).sent) }
+    ensures gone { IfOk result (λ m. m ≡ Gone → IsNew tuple.now table.new.entries) }
     ensures lost { OnErr result (table.new.entries ≡ without place table.old.entries) }
 {
     let (_, conn) = table.pair_mut(place);
-    match conn.segment(alloc, now, iss, seg, text, tuple, out) {
-        Ok(judged) => {
+    match conn.meet(alloc, now, iss, seg, text, tuple, out) {
+        Ok(met) => {
             settle(table, place);
-            Ok(judged)
+            Ok(met)
         }
         Err(error) => {
             leave(table, place);

@@ -1,10 +1,13 @@
-use Rattle.std.proofs.Common.{◌++◌, ◌∙◌, [], refl, subst, take}
+use Rattle.std.proofs.Common.{◌≡◌, ◌≢◌, ◌++◌, ◌∙◌, ◌<◌, [], None, length, refl, rules, subst, sym, take, OnErr, Result}
 use Rattle.std.proofs.KnownBytes.{Appends-nil, Appends-trans, Consumes-nil, Consumes-trans}
-use Rattle.std.specs.Io.KnownBytes.{Appends}
-use Rattle.live_server.specs.Frames.{frames_in}
+use Rattle.std.specs.Io.KnownBytes.{Appends, Consumes}
+use Rattle.live_server.specs.Frames.{frames_in, rest_of, serves_frames}
+use Rattle.live_server.specs.Serving.{server_of}
+use Rattle.live_server.proofs.ArriveLemmas.{not_yet}
 use Rattle.live_server.proofs.PieceLemmas.{piece_answered, piece_left, piece_served}
 use Rattle.live_run.proofs.FrontLemmas.{broken_left, wrote_further, wrote_so_far}
-use Rattle.live_run.proofs.ReadLemmas.{front_read}
+use Rattle.live_run.proofs.ReadLemmas.{all_read, front_read, map_ok, nothing_read, on_ok}
+use Rattle.live_run.specs.declared.fault.Fault.{Fault}
 use Rattle.live_run.proofs.frames.serve_pieces.Goals as goal
 
 pub pieces-init : goal.pieces-init
@@ -12,54 +15,93 @@ unfolding frames_in
 pieces-init g c = record {
   there = [];
   read = Consumes-nil _;
-  server = refl;
-  written = Appends-nil _;
+  good = c.requires.good;
+  sticky = λ was. was;
+  stops = λ ends. refl;
+  server = λ still. refl;
+  written = λ still. Appends-nil _;
   left = c.new-pending.ensures.items;
   read_well = refl;
   written_well = refl;
 }
 
 pub returns-in_default-clause-front : goal.returns-in_default-clause-front
-returns-in_default-clause-front g c =
+returns-in_default-clause-front g c = λ still.
     let so_far = c.pieces.invariant in
-    front_read _ _ so_far.there _ so_far.read (wrote_so_far so_far.there c.pieces.pending.items c.args.server c.pieces.server so_far.left so_far.server _ _ so_far.written)
+    front_read _ _ so_far.there _ so_far.read (wrote_so_far so_far.there c.pieces.pending.items (server_of g.T.ConnTable.conns c.args.rules.now) (server_of g.T.ConnTable.conns c.pieces.rules) so_far.left (so_far.server still) _ _ (so_far.written still))
 
 pub returns-then-read-eq0-clause-front : goal.returns-then-read-eq0-clause-front
-returns-then-read-eq0-clause-front g c =
+returns-then-read-eq0-clause-front g c = λ still.
     let so_far = c.pieces.invariant in
-    front_read _ _ so_far.there _ so_far.read (wrote_so_far so_far.there c.pieces.pending.items c.args.server c.pieces.server so_far.left so_far.server _ _ so_far.written)
+    front_read _ _ so_far.there _ so_far.read (wrote_so_far so_far.there c.pieces.pending.items (server_of g.T.ConnTable.conns c.args.rules.now) (server_of g.T.ConnTable.conns c.pieces.rules) so_far.left (so_far.server still) _ _ (so_far.written still))
 
 pub returns-clause-front : goal.returns-clause-front
-returns-clause-front g c =
+returns-clause-front g c = λ still.
     let so_far = c.pieces.invariant in
-    front_read _ _ so_far.there _ so_far.read (wrote_so_far so_far.there c.pieces.pending.items c.args.server c.pieces.server so_far.left so_far.server _ _ so_far.written)
+    front_read _ _ so_far.there _ so_far.read (wrote_so_far so_far.there c.pieces.pending.items (server_of g.T.ConnTable.conns c.args.rules.now) (server_of g.T.ConnTable.conns c.pieces.rules) so_far.left (so_far.server still) _ _ (so_far.written still))
 
 pub returns-in-Err-clause-front : goal.returns-in-Err-clause-front
-returns-in-Err-clause-front g c =
+returns-in-Err-clause-front g c = λ still.
     let so_far = c.pieces.invariant in
+    let before = not_yet c.pieces.lost c.serve_piece.new.lost c.serve_piece.ensures.sticky still in
     let got = take c.in-Ok.read c.read.new.buf in
     front_read _ _ (so_far.there ++ got) _ (Consumes-trans _ _ _ so_far.there got so_far.read c.in-Ok.ensures.bytes.0)
-    (wrote_further so_far.there c.pieces.pending.items c.args.server c.pieces.server so_far.left so_far.server _ _ so_far.written got _ c.in-Err.ensures.front)
+    (wrote_further so_far.there c.pieces.pending.items (server_of g.T.ConnTable.conns c.args.rules.now) (server_of g.T.ConnTable.conns c.pieces.rules) so_far.left (so_far.server before) _ _ (so_far.written before) got _ (c.in-Err.ensures.front still))
 
 pub returns-in-Err-clause-frames : goal.returns-in-Err-clause-frames
 returns-in-Err-clause-frames g c = λ is.
     let so_far = c.pieces.invariant in
+    let first = server_of g.T.ConnTable.conns c.args.rules.now in
     let got = take c.in-Ok.read c.read.new.buf in
     let broken = c.in-Err.ensures.frames is in
     front_read _ _ (so_far.there ++ got) _ (Consumes-trans _ _ _ so_far.there got so_far.read c.in-Ok.ensures.bytes.0)
-    (broken_left so_far.there c.pieces.pending.items c.args.server c.pieces.server so_far.left so_far.server _ _ so_far.written got broken.0 broken.1)
+    (broken_left so_far.there c.pieces.pending.items first (serves_frames (frames_in so_far.there) first).server so_far.left refl None None tt got broken.0 broken.1)
 
 pub pieces-preserved : goal.pieces-preserved
 pieces-preserved g c =
     let so_far = c.pieces.invariant in
+    let first = server_of g.T.ConnTable.conns c.args.rules.now in
     let got = take c.in-Ok.read c.read.new.buf in
+    let before = not_yet c.pieces.lost c.serve_piece.new.lost c.serve_piece.ensures.sticky in
     record {
       there = so_far.there ++ got;
       read = Consumes-trans _ _ _ so_far.there got so_far.read c.in-Ok.ensures.bytes.0;
-      server = c.in_default-serve_piece.ensures.server ∙ piece_served so_far.there got c.pieces.pending.items c.args.server c.pieces.server so_far.left so_far.server;
-      written = subst (Appends _ _) (piece_answered so_far.there got c.pieces.pending.items c.args.server c.pieces.server so_far.left so_far.server)
-          (Appends-trans _ _ _ _ _ so_far.written c.in_default-serve_piece.ensures.written);
-      left = c.in_default-serve_piece.ensures.left ∙ piece_left so_far.there got c.pieces.pending.items c.args.server c.pieces.server so_far.left so_far.server;
+      good = c.serve_piece.ensures.good;
+      sticky = λ was. c.serve_piece.ensures.sticky (so_far.sticky was);
+      stops = λ ends. c.serve_piece.ensures.stops ends ∙ so_far.stops ends;
+      server = λ still. c.in_default-serve_piece.ensures.server still
+          ∙ piece_served so_far.there got c.pieces.pending.items first (server_of g.T.ConnTable.conns c.pieces.rules) so_far.left (so_far.server (before still));
+      written = λ still. subst (Appends _ _) (piece_answered so_far.there got c.pieces.pending.items first (server_of g.T.ConnTable.conns c.pieces.rules) so_far.left (so_far.server (before still)))
+          (Appends-trans _ _ _ _ _ (so_far.written (before still)) (c.in_default-serve_piece.ensures.written still));
+      left = c.in_default-serve_piece.ensures.left ∙ piece_left so_far.there got c.pieces.pending.items first (serves_frames (frames_in so_far.there) first).server so_far.left refl;
       read_well = c.in-Ok.ensures.kept ∙ so_far.read_well;
       written_well = c.in_default-serve_piece.ensures.kept ∙ so_far.written_well;
     }
+
+pub returns-then-read-eq0-clause-written : goal.returns-then-read-eq0-clause-written
+returns-then-read-eq0-clause-written g c =
+    let so_far = c.pieces.invariant in
+    let got = take c.in-Ok.read c.read.new.buf in
+    let nothing : c.in-Ok.read ≡ 0 = search rules in
+    let room : 0 < length c.read.new.buf = search rules in
+    let read = subst (Consumes _ _) (nothing_read c.in-Ok.read so_far.there c.read.new.buf nothing) (Consumes-trans _ _ _ so_far.there got so_far.read c.in-Ok.ensures.bytes.0) in
+    on_ok c.end_of.result _ (λ still. all_read _ _ so_far.there _ read (c.in-Ok.ensures.bytes.1 nothing room) (so_far.written still))
+
+pub returns-then-read-eq0-clause-whole : goal.returns-then-read-eq0-clause-whole
+returns-then-read-eq0-clause-whole g c =
+    let so_far = c.pieces.invariant in
+    let got = take c.in-Ok.read c.read.new.buf in
+    let nothing : c.in-Ok.read ≡ 0 = search rules in
+    let room : 0 < length c.read.new.buf = search rules in
+    let read = subst (Consumes _ _) (nothing_read c.in-Ok.read so_far.there c.read.new.buf nothing) (Consumes-trans _ _ _ so_far.there got so_far.read c.in-Ok.ensures.bytes.0) in
+    map_ok c.end_of.result _ _ (λ none. all_read _ _ so_far.there (λ input. rest_of input ≡ []) read (c.in-Ok.ensures.bytes.1 nothing room) (sym so_far.left ∙ sym c.as_slice.ensures.value ∙ none)) c.end_of.ensures.ok
+
+pub returns-then-read-eq0-clause-frames : goal.returns-then-read-eq0-clause-frames
+returns-then-read-eq0-clause-frames g c = λ is.
+    let so_far = c.pieces.invariant in
+    let got = take c.in-Ok.read c.read.new.buf in
+    let nothing : c.in-Ok.read ≡ 0 = search rules in
+    let room : 0 < length c.read.new.buf = search rules in
+    let read = subst (Consumes _ _) (nothing_read c.in-Ok.read so_far.there c.read.new.buf nothing) (Consumes-trans _ _ _ so_far.there got so_far.read c.in-Ok.ensures.bytes.0) in
+    let some : c.as_slice.result.now ≢ [] = subst (λ (r : Result (Unit {0}) Fault). OnErr r (c.as_slice.result.now ≢ [])) is c.end_of.ensures.err in
+    all_read _ _ so_far.there (λ input. rest_of input ≢ []) read (c.in-Ok.ensures.bytes.1 nothing room) (λ none. some (c.as_slice.ensures.value ∙ so_far.left ∙ none))

@@ -15,7 +15,7 @@ loop-place-preserved c =
 pub returns-in-Err-clause-lost : goal.returns-in-Err-clause-lost
 returns-in-Err-clause-lost c =
     let lt : c.loop-place.place < length c.args.table.now.entries = omega (arith, c.loop-place.invariant.2, c.loop-place-test.true) in
-    (c.loop-place.place, lt, one_lost c.args.now c.args.table.now.entries c.loop-place.place c.loop-place.table.entries c.loop-place.invariant.0 _ _ c.pair_mut-conn.ensures.value c.time.new.self _ c.leave.ensures)
+    (c.loop-place.place, lt, one_lost c.args.now c.args.table.now.entries c.loop-place.place c.loop-place.table.entries c.loop-place.invariant.0 _ _ c.pair_mut-conn.ensures.value c.time.new.self _ c.leave.ensures.table)
 
 pub returns-clause-table : goal.returns-clause-table
 returns-clause-table c =

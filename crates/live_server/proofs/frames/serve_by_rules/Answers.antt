@@ -1,0 +1,42 @@
+use Rattle.std.proofs.Common.{rules, ◌≡◌, ◌∙◌, ◌++◌, ◌+◌, ap, sym, append-nil, drop, true, false}
+use Rattle.std.specs.List.{flat_map}
+use Rattle.live_server.specs.Frames.{body_size, frame_of, is_end, serves_frames}
+use Rattle.live_server.specs.Serving.{ServerOf, server_of}
+use Rattle.live_server.proofs.FrameLemmas.{front_served, front_told, frames_last, rest_last, rest_next}
+use Rattle.live_server.proofs.ArriveLemmas.{not_yet}
+use Rattle.live_server.proofs.frames.serve_by_rules.Goals as goal
+
+pub frames-preserved : goal.frames-preserved
+frames-preserved g c =
+    let xs = c.frames.rest.now in
+    let before : ServerOf = server_of g.T.ConnTable.conns c.frames.rules in
+    let after : ServerOf = server_of g.T.ConnTable.conns c.serve_next.new.rules in
+    let begins : is_end xs ≡ false = search rules in
+    let cut : c.split_at.result.1.now ≡ drop (16 + body_size xs) xs = c.split_at.ensures.back ∙ ap (λ n. drop n xs) c.frame_size.ensures.value in record {
+      good = c.serve_next.ensures.good;
+      sticky = λ was. c.serve_next.ensures.sticky (c.frames.invariant.sticky was);
+      stops = λ ends. c.serve_next.ensures.stops ends ∙ c.frames.invariant.stops ends;
+      server = λ still. front_served xs c.split_at.result.1.now before after begins cut (c.in_ok-serve_next.ensures.server still)
+          ∙ c.frames.invariant.server (not_yet c.frames.lost c.serve_next.new.lost c.serve_next.ensures.sticky still);
+      sent = λ still. front_told xs c.split_at.result.1.now before after begins cut (c.in_ok-serve_next.ensures.server still) c.frames.out.items c.serve_next.new.out.items (c.in_ok-serve_next.ensures.sent still)
+          ∙ c.frames.invariant.sent (not_yet c.frames.lost c.serve_next.new.lost c.serve_next.ensures.sticky still);
+      rest = rest_next xs c.split_at.result.1.now begins cut ∙ c.frames.invariant.rest;
+    }
+
+pub returns-clause-server : goal.returns-clause-server
+returns-clause-server g c = λ still.
+    let before : ServerOf = server_of g.T.ConnTable.conns c.frames.rules in
+    let ended : is_end c.frames.rest.now ≡ true = search rules in
+    sym (ap (λ fs. (serves_frames fs before).server) (frames_last c.frames.rest.now ended)) ∙ c.frames.invariant.server still
+
+pub returns-clause-sent : goal.returns-clause-sent
+returns-clause-sent g c = λ still.
+    let before : ServerOf = server_of g.T.ConnTable.conns c.frames.rules in
+    let ended : is_end c.frames.rest.now ≡ true = search rules in
+    sym (append-nil c.frames.out.items) ∙ ap (λ fs. c.frames.out.items ++ flat_map frame_of (serves_frames fs before).sent) (sym (frames_last c.frames.rest.now ended))
+    ∙ c.frames.invariant.sent still
+
+pub returns-clause-rest : goal.returns-clause-rest
+returns-clause-rest g c =
+    let ended : is_end c.frames.rest.now ≡ true = search rules in
+    sym (rest_last c.frames.rest.now ended) ∙ c.frames.invariant.rest

@@ -1,0 +1,19 @@
+use Rattle.std.proofs.Common.{◌≡◌, ◌++◌, length, true, false}
+use Rattle.live_server.specs.Frames.{answers, frames_in, rest_of, serves_frames}
+use Rattle.live_server.specs.Serving.{server_of}
+use Rattle.live_server.proofs.frames.serve_by_rules.Given as goal
+
+-- what is left leads where all led
+abbrev pub invariant-frames : goal.invariant-frames
+invariant-frames g l = record {
+  good : g.T.ConnTable.good l.rules.table;
+  sticky : l.fn.lost ≡ true → l.lost ≡ true;
+  stops : l.goes_on ≡ false → l.lost ≡ l.fn.lost;
+  server : l.lost ≡ false
+      → (serves_frames (frames_in l.rest) (server_of g.T.ConnTable.conns l.rules)).server ≡ (serves_frames (frames_in l.bytes) (server_of g.T.ConnTable.conns l.fn.rules)).server;
+  sent : l.lost ≡ false → l.out.items ++ answers l.rest (server_of g.T.ConnTable.conns l.rules) ≡ l.fn.out.items ++ answers l.bytes (server_of g.T.ConnTable.conns l.fn.rules);
+  rest : rest_of l.rest ≡ rest_of l.bytes;
+}
+
+abbrev pub decreases-frames : goal.decreases-frames
+decreases-frames g l = length l.rest

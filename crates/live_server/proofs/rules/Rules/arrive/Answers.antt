@@ -1,0 +1,26 @@
+use Rattle.std.proofs.Common.{◌≡◌, ◌++◌, ◌∙◌, None, ap, rules}
+use Rattle.segment_codec.specs.Refusal.{tuple_of}
+use Rattle.live_server.specs.Serving.{ServerOf, arrives, server_of}
+use Rattle.live_server.specs.Table.{place_of}
+use Rattle.live_server.proofs.ArriveLemmas.{map_ok, opens_sent, opens_server}
+use Rattle.live_server.proofs.TableLemmas.{new_from_place}
+use Rattle.live_server.proofs.rules.Rules.arrive.Goals as goal
+
+pub open-requires-clause-new : goal.open-requires-clause-new
+open-requires-clause-new g c =
+    let none : place_of (tuple_of c.args.seg.now) (g.T.ConnTable.conns c.args.self.now.table) ≡ None = search rules in
+    new_from_place (tuple_of c.args.seg.now) (g.T.ConnTable.conns c.args.self.now.table) none
+
+pub returns-in-None-clause-server : goal.returns-in-None-clause-server
+returns-in-None-clause-server g c =
+    let before : ServerOf = server_of g.T.ConnTable.conns c.args.self.now in
+    let none : place_of (tuple_of c.args.seg.now) (g.T.ConnTable.conns c.args.self.now.table) ≡ None = search rules in
+    map_ok c.open.result _ (server_of g.T.ConnTable.conns c.open.new.self ≡ (arrives c.args.now c.args.seg.now c.args.text.now before).server)
+    (λ is. is ∙ opens_server c.args.now c.args.seg.now c.args.text.now before none) c.open.ensures.server
+
+pub returns-in-None-clause-sent : goal.returns-in-None-clause-sent
+returns-in-None-clause-sent g c =
+    let before : ServerOf = server_of g.T.ConnTable.conns c.args.self.now in
+    let none : place_of (tuple_of c.args.seg.now) (g.T.ConnTable.conns c.args.self.now.table) ≡ None = search rules in
+    map_ok c.open.result _ (c.open.new.out.items ≡ c.args.out.now.items ++ (arrives c.args.now c.args.seg.now c.args.text.now before).sent)
+    (λ is. is ∙ ap (λ l. c.args.out.now.items ++ l) (opens_sent c.args.now c.args.seg.now c.args.text.now before none)) c.open.ensures.sent

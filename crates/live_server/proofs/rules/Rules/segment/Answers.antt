@@ -1,0 +1,38 @@
+use Rattle.std.proofs.Common.{◌≡◌, ◌++◌, ◌+◌, ◌-◌, ◌^◌, ◌∙◌, [], ap, arith, length, min, refl, sym}
+use Rattle.live_server.specs.Serving.{ServerOf, arrives, on_segment, overfull, server_of}
+use Rattle.live_server.proofs.ArriveLemmas.{full_sent, full_server, held_sent, held_server, map_ok}
+use Rattle.live_server.proofs.rules.Rules.segment.Goals as goal
+
+pub returns-then-fits-clause-server : goal.returns-then-fits-clause-server
+returns-then-fits-clause-server g c =
+    let sv : ServerOf = server_of g.T.ConnTable.conns c.args.self.now in
+    let text = c.args.text.now in
+    let sum : c.saturating_add-self.result ≡ min (2 ^ 64 - 1) (sv.held + length text) = omega (arith, c.saturating_add-self.ensures) in
+    map_ok c.arrive.result _ (server_of g.T.ConnTable.conns c.arrive.new.self ≡ (on_segment c.args.now c.args.seg.now text sv).server)
+    (λ is. is ∙ held_server c.args.now c.args.seg.now text sv (record sv { held = c.saturating_add-self.result }) (sym c.if-fits.ensures) (ap (λ h. record sv { held = h }) sum)) c.arrive.ensures.server
+
+pub returns-then-fits-clause-sent : goal.returns-then-fits-clause-sent
+returns-then-fits-clause-sent g c =
+    let sv : ServerOf = server_of g.T.ConnTable.conns c.args.self.now in
+    let text = c.args.text.now in
+    let sum : c.saturating_add-self.result ≡ min (2 ^ 64 - 1) (sv.held + length text) = omega (arith, c.saturating_add-self.ensures) in
+    map_ok c.arrive.result _ (c.arrive.new.out.items ≡ c.args.out.now.items ++ (on_segment c.args.now c.args.seg.now text sv).sent)
+    (λ is. is ∙ ap (λ l. c.args.out.now.items ++ l) (held_sent c.args.now c.args.seg.now text sv (record sv { held = c.saturating_add-self.result }) (sym c.if-fits.ensures) (ap (λ h. record sv { held = h }) sum)))
+    c.arrive.ensures.sent
+
+pub returns-else-fits-clause-server : goal.returns-else-fits-clause-server
+returns-else-fits-clause-server g c =
+    let sv : ServerOf = server_of g.T.ConnTable.conns c.args.self.now in
+    let text = c.args.text.now in
+    map_ok c.arrive-else-fits.result _ (server_of g.T.ConnTable.conns c.arrive-else-fits.new.self ≡ (on_segment c.args.now c.args.seg.now text sv).server)
+    (λ is. is ∙ ap (λ s. (arrives c.args.now s [] (overfull sv)).server) c.without_text.ensures ∙ full_server c.args.now c.args.seg.now text sv (overfull sv) (sym c.if-fits.ensures) refl)
+    c.arrive-else-fits.ensures.server
+
+pub returns-else-fits-clause-sent : goal.returns-else-fits-clause-sent
+returns-else-fits-clause-sent g c =
+    let sv : ServerOf = server_of g.T.ConnTable.conns c.args.self.now in
+    let text = c.args.text.now in
+    map_ok c.arrive-else-fits.result _ (c.arrive-else-fits.new.out.items ≡ c.args.out.now.items ++ (on_segment c.args.now c.args.seg.now text sv).sent)
+    (λ is. is
+    ∙ ap (λ l. c.args.out.now.items ++ l) (ap (λ s. (arrives c.args.now s [] (overfull sv)).sent) c.without_text.ensures ∙ full_sent c.args.now c.args.seg.now text sv (overfull sv) (sym c.if-fits.ensures) refl))
+    c.arrive-else-fits.ensures.sent

@@ -1,0 +1,115 @@
+//! What the rules of a server ask of the table that keeps its connections.
+
+ghost use Rattle.std.specs.Prelude.{◌≡◌, ℕ, ◌++◌, ◌<◌, ◌≤◌, [], ◌∷◌, length, Some, IfOk, OnErr, OnOk};
+ghost use Rattle.std.specs.List.{flat_map};
+ghost use Rattle.tcb_machine.specs.Limits.{last_time};
+ghost use Rattle.live_server.specs.Acts.{emptied, meets, reached, sent_by};
+ghost use Rattle.live_server.specs.Leaving.{without_leaving};
+ghost use Rattle.live_server.specs.Serving.{is_waiting};
+ghost use Rattle.live_server.specs.Table.{Conns, all_reached, conn_at, held_by, place_of, replaced, without, without_over, IsNew};
+ghost use Rattle.live_server.specs.declared.conn.Met.TheVariants.{Gone};
+
+use crate::acting::Datagram;
+use crate::conn::{Conn, Met};
+use crate::setting::Setting;
+use segment_codec::Seg;
+use sq_base::Tuple;
+use std::alloc::{AllocError, Global};
+
+/// Connections by their two ends, in order: what the rules of a server work on. A connection stands at a place below the length.
+/// Between two calls of the table nothing that a connection sent is left in it, and none is over.
+pub trait ConnTable {
+    /// The connections, each with its ends.
+    ghost conns: { Self → Conns };
+
+    /// What holds between two calls.
+    ghost good: { Self → Type 0 };
+
+    /// What a time leaves where memory was missing, of the connections that there were.
+    ghost spoils: { ℕ → Conns → Conns → Type 0 };
+
+    /// How many connections there are.
+    fn len(&self) -> usize
+        requires good { good self.now }
+        ensures { result ≡ length (conns self.now) };
+
+    /// The place of the connection of two ends.
+    fn find(&self, ends: &Tuple) -> Option<usize>
+        requires good { good self.now }
+        ensures { result ≡ place_of ends.now (conns self.now) };
+
+    /// Whether the connection at a place is half open, and the one that was opened with a number.
+    fn is_waiting_at(&self, place: usize, number: u64) -> bool
+        requires good { good self.now }
+        ensures { result ≡ is_waiting number (conn_at place (conns self.now)) };
+
+    /// How many bytes all hold.
+    fn held(&self) -> u64
+        requires good { good self.now }
+        ensures { result ≡ held_by (conns self.now) };
+
+    /// A connection takes a place behind the others. An error says that the table has none for it.
+    fn insert(&mut self, alloc: Global, ends: Tuple, conn: Conn) -> Result<(), AllocError>
+        requires good { good self.old }
+        requires new { IsNew ends (conns self.old) }
+        requires sent { emptied conn ≡ conn }
+        ensures good { good self.new }
+        ensures put { OnOk result (conns self.new ≡ conns self.old ++ (ends, conn) ∷ []) }
+        ensures kept { OnErr result (conns self.new ≡ conns self.old) };
+
+    /// The connection at a place leaves; the last one takes its place.
+    fn leave(&mut self, alloc: Global, place: usize)
+        requires good { good self.old }
+        requires place { place < length (conns self.old) }
+        ensures good { good self.new }
+        ensures table { conns self.new ≡ without place (conns self.old) };
+
+    /// A segment comes to the connection at a place, behind the time. The connection leaves where it is over, or where memory is
+    /// missing. What is sent goes behind the datagrams that are there. The answer says what became of the segment.
+    fn meet(
+        &mut self,
+        place: usize,
+        alloc: Global,
+        now: u64,
+        iss: u32,
+        seg: &Seg,
+        text: &[u8],
+        tuple: &Tuple,
+        out: &mut Vec<Datagram>,
+    ) -> Result<Met, AllocError>
+        requires good { good self.old }
+        requires time { now ≤ last_time }
+        requires place { place_of tuple.now (conns self.old) ≡ Some place }
+        ensures good { good self.new }
+        ensures met { IfOk result (λ m. m ≡ (meets now iss seg.now text.now tuple.now (conn_at place (conns self.old))).met) }
+        ensures table { OnOk result (conns self.new ≡ replaced place (meets now iss seg.now text.now tuple.now (conn_at place (conns self.old))).conn (conns self.old)) }
+        ensures sent { OnOk result (out.new.items ≡ out.old.items ++ (meets now iss seg.now text.now tuple.now (conn_at place (conns self.old))).sent) }
+        ensures gone { IfOk result (λ m. m ≡ Gone → IsNew tuple.now (conns self.new)) }
+        ensures lost { OnErr result (conns self.new ≡ without place (conns self.old)) };
+
+    /// The time comes to each connection in turn. What is sent goes behind the datagrams that are there. Who is over stays for now.
+    fn reach_all(
+        &mut self,
+        alloc: Global,
+        now: u64,
+        out: &mut Vec<Datagram>,
+    ) -> Result<(), AllocError>
+        requires good { good self.old }
+        requires time { now ≤ last_time }
+        ensures good { good self.new }
+        ensures table { OnOk result (conns self.new ≡ all_reached now (conns self.old)) }
+        ensures sent { OnOk result (out.new.items ≡ out.old.items ++ flat_map (λ c. sent_by c.0 (reached now c.1)) (conns self.old)) }
+        ensures lost { OnErr result (spoils now (conns self.old) (conns self.new)) };
+
+    /// All leave that are over.
+    fn drop_over(&mut self, alloc: Global)
+        requires good { good self.old }
+        ensures good { good self.new }
+        ensures table { conns self.new ≡ without_over (conns self.old) };
+
+    /// All leave that are to leave at a tick.
+    fn drop_leaving(&mut self, alloc: Global, setting: &Setting, now: u64)
+        requires good { good self.old }
+        ensures good { good self.new }
+        ensures table { conns self.new ≡ without_leaving setting.now now (conns self.old) };
+}

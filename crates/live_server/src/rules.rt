@@ -1,0 +1,406 @@
+//! What a datagram and the time do to a table of connections: who gets a place, who gives way, and where a segment goes.
+
+ghost use Rattle.std.specs.Prelude.{◌≡◌, ◌++◌, ◌<◌, ◌≤◌, ◌^◌, [], true, length, Some, OnErr, OnOk};
+ghost use Rattle.segment_codec.specs.Packet.{packet_in};
+ghost use Rattle.segment_codec.specs.Refusal.{tuple_of};
+ghost use Rattle.segment_codec.specs.declared.packet.Seg.{Seg};
+ghost use Rattle.sq_base.specs.declared.kinds.Link.TheVariants.{RawIp};
+ghost use Rattle.sq_base.specs.declared.kinds.Tuple.{Tuple};
+ghost use Rattle.tcb_machine.specs.Limits.{last_time};
+ghost use Rattle.live_server.specs.Initial.{number_for};
+ghost use Rattle.live_server.specs.Isolation.{Costs, KeepsStart, Loses};
+ghost use Rattle.live_server.specs.Serving.{addressed, arrives, fits, has_place, limited, makes_place, on_datagram, on_segment, on_time, opens, refused, server_of, takes_place, without_text, yields};
+ghost use Rattle.live_server.specs.Table.{place_of, IsNew};
+
+use crate::acting::{Datagram, encoded, text_of};
+use crate::addresses::is_for_us;
+use crate::conn::{Conn, Met};
+use crate::conn_table::ConnTable;
+use crate::counts::Counts;
+use crate::initial::{Secret, initial_number};
+use crate::ports::{is_served_at, service_at};
+use crate::setting::Setting;
+use segment_codec::{Options, Packet, SYN, Seg, decode, refusal, tuple_of};
+use sq_base::{Link, Tuple};
+use std::alloc::{AllocError, Global};
+use std::collections::VecDeque;
+use tcb_machine::DEFAULT_MSS;
+
+/// The rules over a table of connections, and what they keep beside it.
+#[derive(Drop)]
+pub struct Rules<T> {
+    pub table: T,
+    /// The ends and the number of the connections that were opened last, by age: one that is half open is among them.
+    waiting: VecDeque<(Tuple, u64)>,
+    /// How many bytes all held when the time last came to them, with the text that came since.
+    held: u64,
+    setting: Setting,
+    secret: Secret,
+    counts: Counts,
+}
+
+impl<T: ConnTable> Rules<T> {
+    ghost use Rattle.live_server.specs.Counting.{no_counts};
+
+    /// The rules over a table. They take no memory.
+    pub fn over(alloc: Global, table: T, setting: Setting, secret: Secret) -> Rules<T>
+        ensures table { result.table ≡ table }
+        ensures server { server_of T.conns result ≡ record { conns = T.conns table; waiting = []; held = 0; setting = setting; secret = secret.0; counts = no_counts } }
+    {
+        Rules {
+            table,
+            waiting: VecDeque::new(alloc),
+            held: 0,
+            setting,
+            secret,
+            counts: Counts::default(),
+        }
+    }
+
+    /// The table alone.
+    pub fn into_table(self) -> T
+        ensures { result ≡ self.table }
+    {
+        self.table
+    }
+
+    /// How many connections there are.
+    pub fn connections(&self) -> usize
+        requires good { T.good self.now.table }
+        ensures { result ≡ length (T.conns self.now.table) }
+    {
+        self.table.len()
+    }
+
+    /// What they met since they were made.
+    pub fn counts(&self) -> Counts
+        ensures { result ≡ (server_of T.conns self.now).counts }
+    {
+        self.counts
+    }
+
+    /// An IPv4 datagram comes at a time in microseconds. What is sent goes behind the datagrams that are there. Both checksums are
+    /// verified; what is no whole TCP segment is passed over. An error says that memory was missing: then the segment's own connection
+    /// is gone, and some of what it sent may be.
+    #[tactic(auto, unfolding(crate::specs::Serving::on_datagram, crate::specs::Serving::on_packet))]
+    pub fn datagram(
+        &mut self,
+        alloc: Global,
+        now: u64,
+        body: &[u8],
+        out: &mut Vec<Datagram>,
+    ) -> Result<(), AllocError>
+        requires good { T.good self.old.table }
+        requires time { now ≤ last_time }
+        requires body { length body.now < 2 ^ 32 }
+        ensures good { T.good self.new.table }
+        ensures server { OnOk result (server_of T.conns self.new ≡ (on_datagram now body.now (server_of T.conns self.old)).server) }
+        ensures sent { OnOk result (out.new.items ≡ out.old.items ++ (on_datagram now body.now (server_of T.conns self.old)).sent) }
+        ensures lost { OnErr result ((s : Seg) × (packet_in RawIp body.now true ≡ Packet.Segment s)
+            × Costs s (server_of T.conns self.old) (server_of T.conns self.new)) }
+        ensures start { OnErr result (KeepsStart (server_of T.conns self.old) (server_of T.conns self.new)) }
+    {
+        match decode(Link::RawIp, body, true) {
+            Packet::Segment(seg) => self.addressed(alloc, now, &seg, text_of(&seg, body), out),
+            _ => {
+                self.counts.passed_over = self.counts.passed_over.wrapping_add(1);
+                Ok(())
+            }
+        }
+    }
+
+    /// The time comes to every connection, and who is to leave does: half open for three minutes, silent in FIN-WAIT-2 for one, in
+    /// TIME-WAIT where three quarters of the places are taken, or idle where all are. What is sent goes behind the datagrams that are
+    /// there, connection by connection.
+    /// An error says that memory was missing: then only the table changed, as it says itself.
+    #[tactic(auto, unfolding(crate::specs::Serving::on_time))]
+    pub fn tick(
+        &mut self,
+        alloc: Global,
+        now: u64,
+        out: &mut Vec<Datagram>,
+    ) -> Result<(), AllocError>
+        requires good { T.good self.old.table }
+        requires time { now ≤ last_time }
+        ensures good { T.good self.new.table }
+        ensures server { OnOk result (server_of T.conns self.new ≡ (on_time now (server_of T.conns self.old)).server) }
+        ensures sent { OnOk result (out.new.items ≡ out.old.items ++ (on_time now (server_of T.conns self.old)).sent) }
+        ensures lost { OnErr result (T.spoils now (T.conns self.old.table) (T.conns self.new.table)) }
+        ensures rest { OnErr result (server_of T.conns self.new ≡ record (server_of T.conns self.old) { conns = T.conns self.new.table }) }
+    {
+        self.table.reach_all(alloc, now, out)?;
+        self.table.drop_over(alloc);
+        let here = self.table.len();
+        self.table.drop_leaving(alloc, &self.setting, now);
+        let left = (here - self.table.len()) as u64;
+        self.counts.left = self.counts.left.wrapping_add(left);
+        self.held = self.table.held();
+        Ok(())
+    }
+
+    /// A segment with right sums.
+    #[tactic(auto, unfolding(crate::specs::Serving::addressed))]
+    fn addressed(
+        &mut self,
+        alloc: Global,
+        now: u64,
+        seg: &Seg,
+        text: &[u8],
+        out: &mut Vec<Datagram>,
+    ) -> Result<(), AllocError>
+        requires good { T.good self.old.table }
+        requires time { now ≤ last_time }
+        ensures good { T.good self.new.table }
+        ensures server { OnOk result (server_of T.conns self.new ≡ (addressed now seg.now text.now (server_of T.conns self.old)).server) }
+        ensures sent { OnOk result (out.new.items ≡ out.old.items ++ (addressed now seg.now text.now (server_of T.conns self.old)).sent) }
+        ensures lost { OnErr result (Costs seg.now (server_of T.conns self.old) (server_of T.conns self.new)) }
+        ensures start { OnErr result (KeepsStart (server_of T.conns self.old) (server_of T.conns self.new)) }
+    {
+        if !is_for_us(&self.setting, seg) {
+            self.counts.astray = self.counts.astray.wrapping_add(1);
+            Ok(())
+        } else if is_served_at(&self.setting.ports, seg.dst_port) {
+            self.segment(alloc, now, &limited(seg, self.setting.segment), text, out)
+        } else {
+            self.counts.refused = self.counts.refused.wrapping_add(1);
+            refuse(alloc, now, seg, out)
+        }
+    }
+
+    /// A segment to a service. Where its text would take all past what they may hold, it counts without it.
+    fn segment(
+        &mut self,
+        alloc: Global,
+        now: u64,
+        seg: &Seg,
+        text: &[u8],
+        out: &mut Vec<Datagram>,
+    ) -> Result<(), AllocError>
+        requires good { T.good self.old.table }
+        requires time { now ≤ last_time }
+        ensures good { T.good self.new.table }
+        ensures server { OnOk result (server_of T.conns self.new ≡ (on_segment now seg.now text.now (server_of T.conns self.old)).server) }
+        ensures sent { OnOk result (out.new.items ≡ out.old.items ++ (on_segment now seg.now text.now (server_of T.conns self.old)).sent) }
+        ensures lost { OnErr result (Loses (tuple_of seg.now) (server_of T.conns self.old) (server_of T.conns self.new)) }
+        ensures start { OnErr result (KeepsStart (server_of T.conns self.old) (server_of T.conns self.new)) }
+    {
+        if self.fits(text) {
+            self.held = self.held.saturating_add(text.len() as u64);
+            self.arrive(alloc, now, seg, text, out)
+        } else {
+            self.counts.over_full = self.counts.over_full.wrapping_add(1);
+            self.arrive(alloc, now, &without_text(seg), &[], out)
+        }
+    }
+
+    /// Whether all may hold so much more.
+    #[tactic(auto, unfolding(crate::specs::Serving::fits))]
+    fn fits(&self, text: &[u8]) -> bool
+        ensures { result ≡ fits text.now (server_of T.conns self.now) }
+    {
+        text.len() as u64 <= self.setting.bytes.saturating_sub(self.held)
+    }
+
+    /// A segment to a service comes to its connection, or opens one. The time comes to the connection first.
+    fn arrive(
+        &mut self,
+        alloc: Global,
+        now: u64,
+        seg: &Seg,
+        text: &[u8],
+        out: &mut Vec<Datagram>,
+    ) -> Result<(), AllocError>
+        requires good { T.good self.old.table }
+        requires time { now ≤ last_time }
+        ensures good { T.good self.new.table }
+        ensures server { OnOk result (server_of T.conns self.new ≡ (arrives now seg.now text.now (server_of T.conns self.old)).server) }
+        ensures sent { OnOk result (out.new.items ≡ out.old.items ++ (arrives now seg.now text.now (server_of T.conns self.old)).sent) }
+        ensures lost { OnErr result (Loses (tuple_of seg.now) (server_of T.conns self.old) (server_of T.conns self.new)) }
+        ensures start { OnErr result (KeepsStart (server_of T.conns self.old) (server_of T.conns self.new)) }
+    {
+        match self.table.find(&tuple_of(seg)) {
+            Some(place) => self.meet(alloc, now, seg, text, place, out),
+            None => self.open(alloc, now, seg, text, out),
+        }
+    }
+
+    /// A segment meets the connection at a place. Where the time ended that one, the segment opens a new one.
+    fn meet(
+        &mut self,
+        alloc: Global,
+        now: u64,
+        seg: &Seg,
+        text: &[u8],
+        place: usize,
+        out: &mut Vec<Datagram>,
+    ) -> Result<(), AllocError>
+        requires good { T.good self.old.table }
+        requires time { now ≤ last_time }
+        requires place { place_of (tuple_of seg.now) (T.conns self.old.table) ≡ Some place }
+        ensures good { T.good self.new.table }
+        ensures server { OnOk result (server_of T.conns self.new ≡ (arrives now seg.now text.now (server_of T.conns self.old)).server) }
+        ensures sent { OnOk result (out.new.items ≡ out.old.items ++ (arrives now seg.now text.now (server_of T.conns self.old)).sent) }
+        ensures lost { OnErr result (Loses (tuple_of seg.now) (server_of T.conns self.old) (server_of T.conns self.new)) }
+        ensures start { OnErr result (KeepsStart (server_of T.conns self.old) (server_of T.conns self.new)) }
+    {
+        let tuple = tuple_of(seg);
+        let iss = number_for(&self.secret, now, seg, &tuple);
+        let met = self
+            .table
+            .meet(place, alloc, now, iss, seg, text, &tuple, out)?;
+        match met {
+            Met::Judged(judged) => {
+                self.counts.judge(judged);
+                Ok(())
+            }
+            Met::Gone => self.open(alloc, now, seg, text, out),
+        }
+    }
+
+    /// A segment of a connection that has no place: it takes one, unless it is over at once.
+    #[tactic(auto, unfolding(crate::specs::Serving::opens))]
+    fn open(
+        &mut self,
+        alloc: Global,
+        now: u64,
+        seg: &Seg,
+        text: &[u8],
+        out: &mut Vec<Datagram>,
+    ) -> Result<(), AllocError>
+        requires good { T.good self.old.table }
+        requires time { now ≤ last_time }
+        requires new { IsNew (tuple_of seg.now) (T.conns self.old.table) }
+        ensures good { T.good self.new.table }
+        ensures server { OnOk result (server_of T.conns self.new ≡ (opens now seg.now text.now (server_of T.conns self.old)).server) }
+        ensures sent { OnOk result (out.new.items ≡ out.old.items ++ (opens now seg.now text.now (server_of T.conns self.old)).sent) }
+        ensures lost { OnErr result (Loses (tuple_of seg.now) (server_of T.conns self.old) (server_of T.conns self.new)) }
+        ensures start { OnErr result (KeepsStart (server_of T.conns self.old) (server_of T.conns self.new)) }
+    {
+        let tuple = tuple_of(seg);
+        let iss = number_for(&self.secret, now, seg, &tuple);
+        let service = service_at(&self.setting.ports, now, seg.dst_port);
+        let mut conn = Conn::make(alloc, service, self.setting.segment, now);
+        conn.take(alloc, now, iss, seg, text)?;
+        if conn.is_over() {
+            return conn.send(alloc, &tuple, out);
+        }
+        self.make_place(alloc);
+        self.take_place(alloc, tuple, conn, out)
+    }
+
+    /// A connection takes a place, where one is free.
+    #[tactic(auto, unfolding(crate::specs::Serving::takes_place))]
+    fn take_place(
+        &mut self,
+        alloc: Global,
+        tuple: Tuple,
+        mut conn: Conn,
+        out: &mut Vec<Datagram>,
+    ) -> Result<(), AllocError>
+        requires good { T.good self.old.table }
+        requires new { IsNew tuple (T.conns self.old.table) }
+        ensures good { T.good self.new.table }
+        ensures server { OnOk result (server_of T.conns self.new ≡ (takes_place tuple conn (server_of T.conns self.old)).server) }
+        ensures sent { OnOk result (out.new.items ≡ out.old.items ++ (takes_place tuple conn (server_of T.conns self.old)).sent) }
+        ensures lost { OnErr result (Loses tuple (server_of T.conns self.old) (server_of T.conns self.new)) }
+        ensures start { OnErr result (KeepsStart (server_of T.conns self.old) (server_of T.conns self.new)) }
+    {
+        if !self.has_place() {
+            self.counts.turned_away = self.counts.turned_away.wrapping_add(1);
+            return Ok(());
+        }
+        conn.number = self.counts.opened;
+        conn.send(alloc, &tuple, out)?;
+        self.waiting.push_back((tuple, self.counts.opened))?;
+        self.table.insert(alloc, tuple, conn)?;
+        self.counts.opened = self.counts.opened.wrapping_add(1);
+        Ok(())
+    }
+
+    /// Half-open connections give way by age, until a place is free.
+    #[tactic(auto, unfolding(crate::specs::Serving::has_place))]
+    fn make_place(&mut self, alloc: Global)
+        requires good { T.good self.old.table }
+        ensures good { T.good self.new.table }
+        ensures place { server_of T.conns self.new ≡ makes_place (server_of T.conns self.old) }
+        ensures new { (t : Tuple) → IsNew t (T.conns self.old.table) → IsNew t (T.conns self.new.table) }
+    {
+        'yielding: while !self.has_place() {
+            let Some(waiting) = self.waiting.pop_front() else {
+                return;
+            };
+            self.yield_place(alloc, &waiting);
+        }
+    }
+
+    /// Whether a place is free, and one of those that may be half open.
+    #[tactic(auto, unfolding(crate::specs::Serving::has_place))]
+    fn has_place(&self) -> bool
+        requires good { T.good self.now.table }
+        ensures { result ≡ has_place (server_of T.conns self.now) }
+    {
+        self.table.len() < self.setting.places && self.waiting.len() < self.setting.places
+    }
+
+    /// The connection of two ends gives way, where it is half open and was opened with this number.
+    #[tactic(auto, unfolding(crate::specs::Serving::yields, crate::specs::Serving::yields_at))]
+    fn yield_place(&mut self, alloc: Global, waiting: &(Tuple, u64))
+        requires good { T.good self.old.table }
+        ensures good { T.good self.new.table }
+        ensures yields { server_of T.conns self.new ≡ yields waiting.now (server_of T.conns self.old) }
+        ensures new { (t : Tuple) → IsNew t (T.conns self.old.table) → IsNew t (T.conns self.new.table) }
+    {
+        if let Some(place) = self.table.find(&waiting.0) {
+            if self.table.is_waiting_at(place, waiting.1) {
+                self.table.leave(alloc, place);
+                self.counts.gave_way = self.counts.gave_way.wrapping_add(1);
+            }
+        }
+    }
+}
+
+/// The initial sequence number for a segment that opens its connection, and 0 for another one, which needs none.
+pub fn number_for(secret: &Secret, now: u64, seg: &Seg, tuple: &Tuple) -> u32
+    requires { tuple.now ≡ tuple_of seg.now }
+    ensures { result ≡ number_for secret.now.0 now seg.now }
+{
+    if seg.flags & SYN == SYN {
+        initial_number(secret, now, tuple)
+    } else {
+        0
+    }
+}
+
+/// A segment whose peer takes no longer text than the path does.
+fn limited(seg: &Seg, most: u16) -> Seg
+    ensures { result ≡ limited most seg.now }
+{
+    let mss = seg.options.mss.unwrap_or(DEFAULT_MSS).min(most);
+    Seg {
+        options: Options {
+            mss: Some(mss),
+            ..seg.options
+        },
+        ..*seg
+    }
+}
+
+/// A segment without its text and its FIN.
+pub fn without_text(seg: &Seg) -> Seg
+    ensures { result ≡ without_text seg.now }
+{
+    Seg {
+        flags: seg.flags & 62,
+        ..*seg
+    }
+}
+
+/// A segment to a port that isn't served is answered by a reset.
+fn refuse(alloc: Global, now: u64, seg: &Seg, out: &mut Vec<Datagram>) -> Result<(), AllocError>
+    ensures { OnOk result (out.new.items ≡ out.old.items ++ refused now seg.now) }
+{
+    if let Some(reset) = refusal(alloc, now, seg) {
+        out.push(encoded(alloc, &tuple_of(seg), &reset)?)?;
+    }
+    Ok(())
+}
