@@ -1,6 +1,7 @@
 -- A stream that takes one item more.
 use Rattle.std.proofs.Common.{◌≡◌, Global, ℕ, zero, suc, ◌+◌, ◌%◌, ◌^◌, ◌≤◌, ◌<◌, List, [], ◌∷◌, ◌++◌, length, replicate, slice_index, refl, ap, sym, ◌∙◌, subst, arith, length-append}
 use Rattle.std.proofs.Math.Nat.{mod-add-mod}
+use Rattle.std.proofs.lemmas.List.{append-nil}
 use Rattle.perimeter_core.specs.declared.entries.Act.{Act}
 use Rattle.perimeter_core.specs.declared.entries.Act.TheVariants as Did
 use Rattle.perimeter_core.proofs.NextFeed.{fed-append}
@@ -9,7 +10,7 @@ use Rattle.rtrb.specs.declared.AnyItems.{AnyItems}
 use Rattle.rtrb.specs.declared.consumer.Consumer.{Consumer}
 use Rattle.rtrb.specs.Ring.{SameConsumer, received}
 use Rattle.squeue_streams.specs.declared.streams.Stream.{Stream}
-use Rattle.squeue_streams.specs.Taking.{HasTaken, IsStreamOf, Takes, count_of, input_of, most_feeds, state_of}
+use Rattle.squeue_streams.specs.Taking.{HasTaken, HasTakenMore, IsStreamOf, Takes, count_of, input_of, most_feeds, state_of}
 
 -- the same end of the same ring
 pub same_end : {T : Type 0} (a b c : Consumer T Global AnyItems) → SameConsumer a b → SameConsumer b c → SameConsumer a c
@@ -25,6 +26,11 @@ limit_within : (count most c : ℕ) → slice_index (replicate count most) c ≤
 limit_within zero most c = omega arith
 limit_within (suc count) most zero = omega arith
 limit_within (suc count) most (suc c) = limit_within count most c
+
+-- where nothing is left it is all
+pub all_left : {T : Type 0} (xs more ys : List T) → length more ≡ 0 → xs ++ more ≡ ys → xs ≡ ys
+all_left xs [] ys none is = sym (append-nil xs) ∙ is
+all_left xs (y ∷ more) ys none is = absurd (let e : length (y ∷ more) ≡ 0 = none in omega (arith, e))
 
 module _ {T S : Type 0} where
   -- a feed below the limit can be counted
@@ -85,4 +91,45 @@ module _ {T S : Type 0} where
         its_ring = rw input is.its_ring;
         taken = rw (input, state) is.taken;
         counted = rw (input, count) is.counted;
+      }
+
+  -- a look at the ring takes nothing
+  pub has_looked : {O : Type 0} (begins : O → ℕ → Consumer T Global AnyItems → S → Type 0) (step : O → S → T → S → Type 0) (o : O) (stream next : Stream T S)
+      → SameConsumer stream.input next.input → received next.input ≡ received stream.input → next.state ≡ stream.state → next.had ≡ stream.had → next.count ≡ stream.count → HasTakenMore begins step o stream next
+  has_looked begins step o stream next ring popped state had count =
+      record {
+        ring = ring;
+        feeds = had;
+        more = omega (arith, ap length popped);
+        its = λ c is.
+            record {
+              first = is.first;
+              first_input = is.first_input;
+              begun = is.begun;
+              its_ring = same_end is.first_input stream.input next.input is.its_ring ring;
+              taken = subst (λ (xs : List T). Takes (step o) is.first xs next.state) (sym popped) (subst (λ (s : S). Takes (step o) is.first (received stream.input) s) (sym state) is.taken);
+              counted = count ∙ (is.counted ∙ sym (ap (λ (xs : List T). length xs % 2 ^ 64) popped));
+            };
+      }
+
+  -- one item more is more
+  pub has_one_more : {O : Type 0} (begins : O → ℕ → Consumer T Global AnyItems → S → Type 0) (step : O → S → T → S → Type 0) (o : O) (stream next : Stream T S) (x : T)
+      → SameConsumer stream.input next.input → received next.input ≡ received stream.input ++ x ∷ [] → next.had ≡ stream.had → step o stream.state x next.state → next.count ≡ (stream.count + 1) % 2 ^ 64 → HasTakenMore begins step o stream next
+  has_one_more begins step o stream next x ring popped had one more =
+      record {
+        ring = ring;
+        feeds = had;
+        more = omega (arith, ap length popped, length-append (received stream.input) (x ∷ []));
+        its = λ c is. stream_more begins step o c stream next x is ring popped one more;
+      }
+
+  pub has_more_on : {O : Type 0} (begins : O → ℕ → Consumer T Global AnyItems → S → Type 0) (step : O → S → T → S → Type 0) (o : O) (a b c : Stream T S) → HasTakenMore begins step o a b → HasTakenMore begins step o b c → HasTakenMore begins step o a c
+  has_more_on begins step o a b c x y =
+      let less = x.more in
+      let few = y.more in
+      record {
+        ring = same_end a.input b.input c.input x.ring y.ring;
+        feeds = y.feeds ∙ x.feeds;
+        more = omega (arith, less, few);
+        its = λ d is. y.its d (x.its d is);
       }

@@ -43,7 +43,7 @@ module _ {T S : Type 0} where
     pub feeds : feeds_of b ≡ feeds_of a
     pub count : count_of b ≡ count_of a
 
-  -- a stream has had as many feeds as it counts since it was put in, and popped an item for each
+  -- a stream has had as many feeds as it counts since it was put in, and at least as many items were ever popped
   pub record HasTaken (stream : Stream T S) (had : List Act) : Type 0 where
     pub feeds : fed had ≡ stream.had
     pub popped : stream.had ≤ length (received stream.input)
@@ -57,6 +57,13 @@ module _ {T S : Type 0} where
     pub its_ring : SameConsumer first_input stream.input
     pub taken : Takes (step o) first (received stream.input) stream.state
     pub counted : stream.count ≡ length (received stream.input) % 2 ^ 64
+
+  -- The stream has taken some items more, and no feed: it is still that of each number of which it was, as often fed
+  pub record HasTakenMore {O : Type 0} (begins : O → ℕ → Consumer T Global AnyItems → S → Type 0) (step : O → S → T → S → Type 0) (o : O) (from to : Stream T S) : Type 0 where
+    pub ring : SameConsumer from.input to.input
+    pub feeds : feeds_of to ≡ feeds_of from
+    pub more : length (items_of from) ≤ length (items_of to)
+    pub its : (c : ℕ) → IsStreamOf begins step o c from → IsStreamOf begins step o c to
 
 module _ {X H T S O : Type 0} where
   -- what is made of the items, and how many streams there are
@@ -75,7 +82,7 @@ abbrev pub most_feeds : ℕ
 most_feeds = 2 ^ 32 - 1
 
 abbrev pub most_leaves : ℕ
-most_leaves = 2 ^ 26
+most_leaves = 2 ^ 52
 
 abbrev pub limits_of : {X H T S O : Type 0} → Streams X H T S O → Limits
 limits_of r = record { feeds = replicate (streams_of r) most_feeds; leaves = replicate (streams_of r) most_leaves; calls = calls_of r }

@@ -3,9 +3,9 @@ ghost use Rattle.std.specs.Prelude.{◌≡◌, ◌+◌, ◌^◌, ◌<◌, ℕ, [
 ghost use Rattle.std.proofs.Common.{Global, List};
 ghost use Rattle.rtrb.specs.declared.AnyItems.{AnyItems};
 ghost use Rattle.rtrb.specs.declared.consumer.Consumer.{Consumer};
-ghost use Rattle.rtrb.specs.Ring.{IsPair, ProducerLooked, SameConsumer, received, sent};
+ghost use Rattle.rtrb.specs.Ring.{IsPair, ProducerLooked, SameConsumer, known_items, received, sent};
 ghost use Rattle.squeue_streams.specs.Sourcing.{SameCounts, entered_of, producer_of, sent_of};
-ghost use Rattle.squeue_streams.specs.Taking.{SameStream, calls_of, count_of, feeds_of, input_of, items_of, state_of, steps_of, streams_of};
+ghost use Rattle.squeue_streams.specs.Taking.{HasTakenMore, SameStream, calls_of, count_of, feeds_of, input_of, items_of, state_of, steps_of, streams_of};
 
 use crate::renewing::Renews;
 use crate::source::Source;
@@ -47,7 +47,7 @@ pub trait Steps {
 #[derive(Drop)]
 pub struct Stream<T: Drop, S: Drop> {
     input: Consumer<T>,
-    state: S,
+    pub state: S,
     had: u32,
     count: u64,
 }
@@ -149,6 +149,37 @@ impl<X: Steps + Drop, H: Wait + Drop> Streams<X, H> {
             count,
             calls,
         }
+    }
+
+    /// Takes all items that are pushed and not popped yet, where the end of the ring that pushes is at hand. It isn't for a stream with
+    /// feeds on their way, which would wait for items that are taken.
+    pub fn take_rest(
+        &self,
+        alloc: Global,
+        stream: &mut Stream<X::Item, X::State>,
+        producer: &mut Producer<X::Item>,
+    )
+        requires { IsPair producer.old (input_of stream.old) }
+        ensures items { items_of stream.new ≡ sent producer.old }
+        ensures producer { ProducerLooked producer.old producer.new }
+        ensures taken { HasTakenMore X.begins X.step (X.origin (steps_of self.now)) stream.old stream.new }
+    {
+        let left = stream.input.slots_beside(producer);
+        for _k in 0..left {
+            self.take_known(alloc, stream);
+        }
+    }
+
+    // Takes an item that the consumer has seen.
+    fn take_known(&self, alloc: Global, stream: &mut Stream<X::Item, X::State>)
+        requires { 0 < length (known_items (input_of stream.old)) }
+        ensures left { length (known_items (input_of stream.old)) ≡ length (known_items (input_of stream.new)) + 1 }
+        ensures same { items_of stream.new ++ known_items (input_of stream.new) ≡ items_of stream.old ++ known_items (input_of stream.old) }
+        ensures taken { HasTakenMore X.begins X.step (X.origin (steps_of self.now)) stream.old stream.new }
+    {
+        let item = stream.input.pop_known();
+        self.steps.take(alloc, &mut stream.state, item);
+        stream.count = stream.count.wrapping_add(1);
     }
 
     /// The next item of a ring. It waits for it.

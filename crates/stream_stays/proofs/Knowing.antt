@@ -98,7 +98,7 @@ module _ {R : Type 0} (limits : R → Limits) (s : Named R) where
       record { here = b.here ∙ a.here; next = b.next ∙ a.next; left = b.left ∙ a.left }
 
   -- a pass with an ask left may ask
-  may_ask : (p : Pass Element) (life : Life) → 1 ≤ life.asks → HasLife limits s life p → MayAsk limits s p
+  pub may_ask : (p : Pass Element) (life : Life) → 1 ≤ life.asks → HasLife limits s life p → MayAsk limits s p
   may_ask p life some l = let a = l.asks in record { pass = l.pass; no_worker = l.no_worker; idle = l.idle; quota = omega (arith, a, some) }
 
   pub may_come : (p : Pass Element) (life : Life) (c leaves : ℕ) → 1 ≤ life.asks → HasLife limits s life p → IsAway limits s p c leaves → MayCome limits s c p

@@ -1,6 +1,5 @@
 -- The two ends of a ring, and what was made of its items.
-use Rattle.std.proofs.Common.{◌≡◌, Global, ℕ, ◌%◌, ◌^◌, List, [], ◌∷◌, ◌++◌, length, ap, sym, ◌∙◌, subst, arith}
-use Rattle.std.proofs.lemmas.List.{append-nil}
+use Rattle.std.proofs.Common.{◌≡◌, Global, ℕ, ◌%◌, ◌^◌, List, [], ◌∷◌, ◌++◌, length, ap, sym, ◌∙◌, subst}
 use Rattle.rtrb.specs.declared.AnyItems.{AnyItems}
 use Rattle.rtrb.specs.declared.consumer.Consumer.{Consumer}
 use Rattle.rtrb.specs.declared.producer.Producer.{Producer}
@@ -14,11 +13,6 @@ use Rattle.stream_stays.specs.Staying.{IsOfRing}
 pub takes_behind : {T S : Type 0} (step : S → T → S → Type 0) (from to : S) (xs ys : List T) → Takes step from (xs ++ ys) to → (at : S) × Takes step at ys to
 takes_behind step from to [] ys t = (from, t)
 takes_behind step from to (x ∷ xs) ys t = takes_behind step t.0 to xs ys t.2
-
--- where nothing is left it is all
-pub all_left : {T : Type 0} (xs more ys : List T) → length more ≡ 0 → xs ++ more ≡ ys → xs ≡ ys
-all_left xs [] ys none is = sym (append-nil xs) ∙ is
-all_left xs (y ∷ more) ys none is = absurd (let e : length (y ∷ more) ≡ 0 = none in omega (arith, e))
 
 module _ {T : Type 0} where
   -- who has one end has it also where the other one went on

@@ -1,1 +1,4 @@
 pub mod Staying
+pub mod Places
+pub mod Settling
+pub mod Beginning

@@ -12,7 +12,7 @@ pub struct Vacant<T: Drop, S: Drop> {
     pub producer: Producer<T>,
     pub part: Stream<T, S>,
     pub stream: u32,
-    pub leaves: u32,
+    pub leaves: u64,
 }
 
 /// A stream that stays at a squeue: the end of its ring that pushes, and for contracts alone that end as it was when the stay began;
@@ -22,7 +22,7 @@ pub struct Stay<T: Drop> {
     pub(crate) producer: Producer<T>,
     pub(crate) first: Known<Producer<T>>,
     pub(crate) stream: u32,
-    pub(crate) leaves: u32,
+    pub(crate) leaves: u64,
     pub(crate) pushed: u32,
     pub(crate) entered: u32,
     ghost order: { (entered ≤ pushed) × (pushed < 2 ^ 32) },
