@@ -78,13 +78,24 @@ fn byte(text: &str) -> Result<u8, Wrong> {
 /// An address and a port, as in `10.0.0.1:4000`.
 fn address_of(text: &str) -> Result<Address, Wrong> {
     let (ip, port) = two(text, ':')?;
-    let (first, rest) = two(ip, '.')?;
-    let (second, rest) = two(rest, '.')?;
-    let (third, fourth) = two(rest, '.')?;
     Ok(Address {
-        ip: [byte(first)?, byte(second)?, byte(third)?, byte(fourth)?],
+        ip: ip_of(ip)?,
         port: port.parse::<u16>().map_err(|_| Wrong::Word)?,
     })
+}
+
+/// An address, as in `10.0.0.1`.
+fn ip_of(text: &str) -> Result<[u8; 4], Wrong> {
+    let (first, rest) = byte_before(text)?;
+    let (second, rest) = byte_before(rest)?;
+    let (third, rest) = byte_before(rest)?;
+    Ok([first, second, third, byte(rest)?])
+}
+
+/// A byte of an address, and what stands behind its dot.
+fn byte_before(text: &str) -> Result<(u8, &str), Wrong> {
+    let (first, rest) = two(text, '.')?;
+    Ok((byte(first)?, rest))
 }
 
 /// The bytes 0, 1, 2 .. modulo 251, so many.

@@ -60,7 +60,7 @@ pub fn expect_text(alloc: Global, what: &str, wanted: &str, got: &str) -> Result
     if wanted == got {
         return Ok(());
     }
-    Err(Fault::Told(format!(in alloc; "{what}: wanted {wanted}, got {got}")?))
+    Err(Fault::told(alloc, &[what, ": wanted ", wanted, ", got ", got]))
 }
 
 /// The number is this one.

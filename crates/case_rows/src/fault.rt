@@ -1,6 +1,6 @@
 //! Why a row fails.
 
-use std::alloc::{AllocError, AllocFailed};
+use std::alloc::{AllocError, AllocFailed, Global};
 use std::fmt;
 
 /// Why a row fails.
@@ -10,6 +10,25 @@ pub enum Fault {
     NoMemory,
     /// What differs, or what of the row isn't understood, as one line.
     Told(String),
+}
+
+impl Fault {
+    /// The fault whose line is these pieces, one behind another.
+    pub fn told(alloc: Global, pieces: &[&str]) -> Fault {
+        match joined(alloc, pieces) {
+            Ok(line) => Fault::Told(line),
+            Err(_) => Fault::NoMemory,
+        }
+    }
+}
+
+/// The pieces, one behind another.
+fn joined(alloc: Global, pieces: &[&str]) -> Result<String, AllocError> {
+    let mut line = String::new(alloc);
+    for piece in pieces {
+        line.push_str(piece)?;
+    }
+    Ok(line)
 }
 
 impl<T: Drop> From<AllocFailed<T>> for Fault {

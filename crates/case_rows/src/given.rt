@@ -13,9 +13,15 @@ pub struct Given {
     /// How many bytes a read gives and a write takes at most.
     pub reads: usize,
     pub writes: usize,
-    pub failing_reads: Vec<u64>,
-    pub failing_writes: Vec<u64>,
-    pub failing_tellings: Vec<u64>,
+    pub failing: Failing,
+}
+
+/// Which reads, writes and writes to the error line fail, counted from 0.
+#[derive(Drop)]
+pub struct Failing {
+    pub reads: Vec<u64>,
+    pub writes: Vec<u64>,
+    pub tellings: Vec<u64>,
 }
 
 /// What a row gives.
@@ -25,9 +31,16 @@ pub fn given_of(alloc: Global, row: &Row<'_>) -> Result<Given, Fault> {
         input: input_of(alloc, row)?,
         reads: piece(alloc, row, "reads")?,
         writes: piece(alloc, row, "writes")?,
-        failing_reads: row.numbers(alloc, "failing_reads")?,
-        failing_writes: row.numbers(alloc, "failing_writes")?,
-        failing_tellings: row.numbers(alloc, "failing_tellings")?,
+        failing: failing_of(alloc, row)?,
+    })
+}
+
+/// Which calls a row lets fail.
+fn failing_of(alloc: Global, row: &Row<'_>) -> Result<Failing, Fault> {
+    Ok(Failing {
+        reads: row.numbers(alloc, "failing_reads")?,
+        writes: row.numbers(alloc, "failing_writes")?,
+        tellings: row.numbers(alloc, "failing_tellings")?,
     })
 }
 
@@ -53,21 +66,25 @@ fn text_of(alloc: Global, row: &Row<'_>) -> Result<Vec<u8>, Fault> {
     let mut text = Vec::new(alloc);
     let mut found = 0usize;
     for (number, line) in row.lines("text").iter().enumerate() {
-        match changed(changes, number) {
-            Some(line) => {
-                found = found.saturating_add(1);
-                add_changed(&mut text, line)?;
-            }
-            None => {
-                text.extend_from_slice(line.as_bytes())?;
-                text.push(b'\n')?;
-            }
+        if add_line(&mut text, line, changed(changes, number))? {
+            found = found.saturating_add(1);
         }
     }
     if found == changes.len() {
         return Ok(text);
     }
-    Err(Fault::Told(format!(in alloc; "a change isn't of a line of the text")?))
+    Err(Fault::told(alloc, &["a change isn't of a line of the text"]))
+}
+
+/// Adds a line, or what stands in its place. Answers whether something does.
+fn add_line(text: &mut Vec<u8>, line: &str, change: Option<&str>) -> Result<bool, Fault> {
+    if let Some(change) = change {
+        add_changed(text, change)?;
+        return Ok(true);
+    }
+    text.extend_from_slice(line.as_bytes())?;
+    text.push(b'\n')?;
+    Ok(false)
 }
 
 /// What stands in the place of a line, where it is changed.

@@ -46,18 +46,46 @@ pub fn judge_run<P: Fn(Global, &[String], &mut MemSource, &mut MemSink, &mut Mem
     requires { P.IsAlwaysCallable program.now }
 {
     row.expect_fields(alloc, &FIELDS)?;
+    let form = form_of(alloc, row)?;
     let mut given = given_of(alloc, row)?;
-    match form_of(alloc, row)? {
-        "each" => each_words(program, alloc, row, &mut given),
-        "fronts" => each_front(program, alloc, row, &given),
-        "each_read" => each_read(program, alloc, row, &mut given),
-        "each_write" => each_write(program, alloc, row, &mut given),
+    judge_form(program, alloc, row, form, &mut given)
+}
+
+/// The same for a row of this form, which gives this.
+fn judge_form<P: Fn(Global, &[String], &mut MemSource, &mut MemSink, &mut MemSink) -> u8>(
+    program: &P,
+    alloc: Global,
+    row: &Row<'_>,
+    form: &str,
+    given: &mut Given,
+) -> Result<(), Fault>
+    requires { P.IsAlwaysCallable program.now }
+{
+    match form {
+        "each" => each_words(program, alloc, row, given),
+        "fronts" => each_front(program, alloc, row, given),
+        "each_read" => each_read(program, alloc, row, given),
+        "each_write" => each_write(program, alloc, row, given),
         _ => {
             let len = row.number(alloc, "out_bytes", u64::MAX)?;
-            let came = came_of(program, alloc, &given, &given.input)?;
-            expect(alloc, row, &came, len as usize)
+            judge_one(program, alloc, row, given, &given.input, len as usize)
         }
     }
+}
+
+/// One run over this input: what came is what the row wants; of its `out` so many bytes.
+fn judge_one<P: Fn(Global, &[String], &mut MemSource, &mut MemSink, &mut MemSink) -> u8>(
+    program: &P,
+    alloc: Global,
+    row: &Row<'_>,
+    given: &Given,
+    input: &[u8],
+    len: usize,
+) -> Result<(), Fault>
+    requires { P.IsAlwaysCallable program.now }
+{
+    let came = came_of(program, alloc, given, input)?;
+    expect(alloc, row, &came, len)
 }
 
 /// Which of the forms the row has, or an empty text.
@@ -66,7 +94,7 @@ fn form_of(alloc: Global, row: &Row<'_>) -> Result<&'static str, Fault> {
     for form in FORMS {
         if row.has(form) {
             if !found.is_empty() {
-                return Err(Fault::Told(format!(in alloc; "both {found} and {form}")?));
+                return Err(Fault::told(alloc, &["both ", found, " and ", form]));
             }
             found = form;
         }
@@ -77,7 +105,7 @@ fn form_of(alloc: Global, row: &Row<'_>) -> Result<&'static str, Fault> {
 /// A row of several runs has one at least.
 fn expect_some(alloc: Global, none: bool) -> Result<(), Fault> {
     if none {
-        return Err(Fault::Told(format!(in alloc; "the row runs nothing")?));
+        return Err(Fault::told(alloc, &["the row runs nothing"]));
     }
     Ok(())
 }
@@ -85,9 +113,32 @@ fn expect_some(alloc: Global, none: bool) -> Result<(), Fault> {
 /// The same fault with its run named.
 fn in_run(alloc: Global, run: &str, judged: Result<(), Fault>) -> Result<(), Fault> {
     match judged {
-        Err(Fault::Told(line)) => Err(Fault::Told(format!(in alloc; "{run}: {line}")?)),
+        Err(Fault::Told(line)) => Err(Fault::told(alloc, &[run, ": ", line.as_str()])),
         other => other,
     }
+}
+
+/// The same with a number in the run's name.
+fn in_numbered(
+    alloc: Global,
+    before: &str,
+    number: u64,
+    behind: &str,
+    judged: Result<(), Fault>,
+) -> Result<(), Fault> {
+    match judged {
+        Err(Fault::Told(line)) => {
+            Err(Fault::Told(format!(in alloc; "{before}{number}{behind}: {line}")?))
+        }
+        other => other,
+    }
+}
+
+/// Makes this the only call that fails.
+fn let_fail(calls: &mut Vec<u64>, call: u64) -> Result<(), Fault> {
+    calls.clear();
+    calls.push(call)?;
+    Ok(())
 }
 
 /// A run with each line of words.
@@ -102,8 +153,8 @@ fn each_words<P: Fn(Global, &[String], &mut MemSource, &mut MemSink, &mut MemSin
     expect_some(alloc, row.lines("each").is_empty())?;
     for line in row.lines("each") {
         given.words = words_of(alloc, line)?;
-        let came = came_of(program, alloc, given, &given.input)?;
-        in_run(alloc, line, expect(alloc, row, &came, usize::MAX))?;
+        let judged = judge_one(program, alloc, row, given, &given.input, usize::MAX);
+        in_run(alloc, line, judged)?;
     }
     Ok(())
 }
@@ -117,17 +168,22 @@ fn each_front<P: Fn(Global, &[String], &mut MemSource, &mut MemSink, &mut MemSin
 ) -> Result<(), Fault>
     requires { P.IsAlwaysCallable program.now }
 {
-    let lengths = row.numbers(alloc, "fronts")?;
-    let [first, end] = lengths.as_slice() else {
-        return Err(Fault::Told(format!(in alloc; "fronts isn't two numbers")?));
-    };
+    let (first, end) = fronts_of(alloc, row)?;
     expect_some(alloc, first >= end)?;
-    for len in *first..*end {
-        let came = came_of(program, alloc, given, front(&given.input, len as usize))?;
-        let run = format!(in alloc; "{len} bytes")?;
-        in_run(alloc, run.as_str(), expect(alloc, row, &came, usize::MAX))?;
+    for len in first..end {
+        let input = front(&given.input, len as usize);
+        let judged = judge_one(program, alloc, row, given, input, usize::MAX);
+        in_numbered(alloc, "", len, " bytes", judged)?;
     }
     Ok(())
+}
+
+/// The least length of the row's fronts, and the first that is none.
+fn fronts_of(alloc: Global, row: &Row<'_>) -> Result<(u64, u64), Fault> {
+    match row.numbers(alloc, "fronts")?.as_slice() {
+        [first, end] => Ok((*first, *end)),
+        _ => Err(Fault::told(alloc, &["fronts isn't two numbers"])),
+    }
 }
 
 /// A run with each read failing.
@@ -142,10 +198,9 @@ fn each_read<P: Fn(Global, &[String], &mut MemSource, &mut MemSink, &mut MemSink
     let runs = row.number(alloc, "each_read", 0)?;
     expect_some(alloc, runs == 0)?;
     for call in 0..runs {
-        given.failing_reads = Vec::from_slice(alloc, &[call])?;
-        let came = came_of(program, alloc, given, &given.input)?;
-        let run = format!(in alloc; "read {call}")?;
-        in_run(alloc, run.as_str(), expect(alloc, row, &came, usize::MAX))?;
+        let_fail(&mut given.failing.reads, call)?;
+        let judged = judge_one(program, alloc, row, given, &given.input, usize::MAX);
+        in_numbered(alloc, "read ", call, "", judged)?;
     }
     Ok(())
 }
@@ -162,11 +217,10 @@ fn each_write<P: Fn(Global, &[String], &mut MemSource, &mut MemSink, &mut MemSin
     let runs = row.number(alloc, "each_write", 0)?;
     expect_some(alloc, runs == 0)?;
     for call in 0..runs {
-        given.failing_writes = Vec::from_slice(alloc, &[call])?;
-        let came = came_of(program, alloc, given, &given.input)?;
-        let run = format!(in alloc; "write {call}")?;
+        let_fail(&mut given.failing.writes, call)?;
         let len = (call as usize).saturating_mul(given.writes);
-        in_run(alloc, run.as_str(), expect(alloc, row, &came, len))?;
+        let judged = judge_one(program, alloc, row, given, &given.input, len);
+        in_numbered(alloc, "write ", call, "", judged)?;
     }
     Ok(())
 }

@@ -28,9 +28,9 @@ pub fn came_of<P: Fn(Global, &[String], &mut MemSource, &mut MemSink, &mut MemSi
 ) -> Result<Came, Fault>
     requires { P.IsAlwaysCallable program.now }
 {
-    let mut src = MemSource::make(alloc, input, given.reads.max(1), &given.failing_reads)?;
-    let mut out = MemSink::make(alloc, ROOM, given.writes.max(1), &given.failing_writes)?;
-    let mut err = MemSink::make(alloc, ROOM_TO_TELL, ROOM_TO_TELL, &given.failing_tellings)?;
+    let mut src = MemSource::make(alloc, input, given.reads.max(1), &given.failing.reads)?;
+    let mut out = MemSink::make(alloc, ROOM, given.writes.max(1), &given.failing.writes)?;
+    let mut err = MemSink::make(alloc, ROOM_TO_TELL, ROOM_TO_TELL, &given.failing.tellings)?;
     let status = program(alloc, &given.words, &mut src, &mut out, &mut err);
     Ok(Came { status, out, err })
 }

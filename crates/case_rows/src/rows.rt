@@ -50,7 +50,7 @@ impl<'a> Row<'a> {
         match named(&self.fields, name) {
             None => Ok(other),
             Some([line]) => Ok(line),
-            Some(_) => Err(Fault::Told(format!(in alloc; "{name} isn't one line")?)),
+            Some(_) => Err(Fault::told(alloc, &[name, " isn't one line"])),
         }
     }
 
@@ -62,22 +62,18 @@ impl<'a> Row<'a> {
         let text = self.text(alloc, name, "")?;
         match text.parse::<u64>() {
             Ok(number) => Ok(number),
-            Err(_) => Err(Fault::Told(format!(in alloc; "{name} isn't a number")?)),
+            Err(_) => Err(Fault::told(alloc, &[name, " isn't a number"])),
         }
     }
 
     /// The numbers of a field, between blanks; none where the row hasn't the field. An error where one is no number.
     pub fn numbers(&self, alloc: Global, name: &str) -> Result<Vec<u64>, Fault> {
+        let text = self.text(alloc, name, "")?;
         let mut numbers = Vec::new(alloc);
-        for word in self.text(alloc, name, "")?.split_ascii_whitespace() {
-            match word.parse::<u64>() {
-                Ok(number) => numbers.push(number)?,
-                Err(_) => {
-                    return Err(Fault::Told(format!(in alloc; "{name} isn't made of numbers")?));
-                }
-            }
+        if add_numbers(&mut numbers, text)? {
+            return Ok(numbers);
         }
-        Ok(numbers)
+        Err(Fault::told(alloc, &[name, " isn't made of numbers"]))
     }
 
     /// An error where the row has a field that isn't among these.
@@ -92,16 +88,32 @@ impl<'a> Row<'a> {
     }
 }
 
+/// Adds the numbers of a text, between blanks, up to what is none. Answers whether all are numbers.
+fn add_numbers(numbers: &mut Vec<u64>, text: &str) -> Result<bool, AllocError> {
+    for word in text.split_ascii_whitespace() {
+        match word.parse::<u64>() {
+            Ok(number) => numbers.push(number)?,
+            Err(_) => return Ok(false),
+        }
+    }
+    Ok(true)
+}
+
 /// The words of a line, between blanks; or between bars where the line has any, so that words may be empty or have blanks. `none` stands
 /// for no words.
 pub fn words_of(alloc: Global, line: &str) -> Result<Vec<String>, AllocError> {
     let mut words = Vec::new(alloc);
-    if line == "none" {
-        return Ok(words);
+    if line != "none" {
+        add_words(&mut words, alloc, line)?;
     }
+    Ok(words)
+}
+
+/// Adds these words, of which there are some.
+fn add_words(words: &mut Vec<String>, alloc: Global, line: &str) -> Result<(), AllocError> {
     let separator = if line.contains('|') { '|' } else { ' ' };
     for word in line.split(separator) {
         words.push(String::from_str(alloc, word)?)?;
     }
-    Ok(words)
+    Ok(())
 }

@@ -49,14 +49,18 @@ fn run_file<R: Files + AllocGlobal + Print, J: Fn(Global, &str, &Row<'_>) -> Res
     let text = fs::read_to_string(rt, file)?;
     match rows_of(rt.alloc(), text.as_str()) {
         Ok(rows) => run_rows(rt, judge, file, &rows, count),
-        Err(Broken::NoMemory) => {
+        Err(broken) => {
             count.failed = count.failed.saturating_add(1);
-            println!(rt; "{file}: out of memory")
+            tell(rt, file, broken)
         }
-        Err(Broken::Line(number, wrong)) => {
-            count.failed = count.failed.saturating_add(1);
-            println!(rt; "{file}:{number}: {wrong}")
-        }
+    }
+}
+
+/// Prints why a file isn't read.
+fn tell<R: Print>(rt: &R, file: &str, broken: Broken) -> io::Result<()> {
+    match broken {
+        Broken::NoMemory => println!(rt; "{file}: out of memory"),
+        Broken::Line(number, wrong) => println!(rt; "{file}:{number}: {wrong}"),
     }
 }
 
@@ -75,11 +79,16 @@ fn run_rows<R: AllocGlobal + Print, J: Fn(Global, &str, &Row<'_>) -> Result<(), 
             Ok(()) => count.passed = count.passed.saturating_add(1),
             Err(fault) => {
                 count.failed = count.failed.saturating_add(1);
-                let at = row.at;
-                let name = row.name;
-                println!(rt; "{file}:{at}: {name}: {fault}")?;
+                tell_row(rt, file, row, &fault)?;
             }
         }
     }
     Ok(())
+}
+
+/// Prints why a row fails.
+fn tell_row<R: Print>(rt: &R, file: &str, row: &Row<'_>, fault: &Fault) -> io::Result<()> {
+    let at = row.at;
+    let name = row.name;
+    println!(rt; "{file}:{at}: {name}: {fault}")
 }

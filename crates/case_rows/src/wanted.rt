@@ -16,28 +16,9 @@ pub fn expect(alloc: Global, row: &Row<'_>, came: &Came, len: usize) -> Result<(
 
 /// What was written is what the row wants: what it says in place of `out`, or `out`.
 fn expect_out(alloc: Global, row: &Row<'_>, out: &[u8], len: usize) -> Result<(), Fault> {
-    let mut whole = true;
-    if row.has("begins") {
-        whole = false;
-        expect_begins(alloc, row.lines("begins"), out)?;
-    }
-    if row.has("ends") {
-        whole = false;
-        expect_ends(alloc, row.lines("ends"), out)?;
-    }
-    if row.has("among") {
-        whole = false;
-        expect_among(alloc, row.lines("among"), out)?;
-    }
-    if row.has("marks") {
-        whole = false;
-        expect_marks(alloc, &row.numbers(alloc, "marks")?, out)?;
-    }
-    if row.has("sum") {
-        whole = false;
-        expect_sum(alloc, row.text(alloc, "sum", "")?, out)?;
-    }
-    if !whole {
+    let lines = expect_parts(alloc, row, out)?;
+    let numbers = expect_numbers(alloc, row, out)?;
+    if lines || numbers {
         return expect_no_out(alloc, row);
     }
     if len == usize::MAX {
@@ -47,10 +28,35 @@ fn expect_out(alloc: Global, row: &Row<'_>, out: &[u8], len: usize) -> Result<()
     }
 }
 
+/// What the row says of some lines of the output. Answers whether it does.
+fn expect_parts(alloc: Global, row: &Row<'_>, out: &[u8]) -> Result<bool, Fault> {
+    if row.has("begins") {
+        expect_begins(alloc, row.lines("begins"), out)?;
+    }
+    if row.has("ends") {
+        expect_ends(alloc, row.lines("ends"), out)?;
+    }
+    if row.has("among") {
+        expect_among(alloc, row.lines("among"), out)?;
+    }
+    Ok(row.has("begins") || row.has("ends") || row.has("among"))
+}
+
+/// What the row says of the output in numbers. Answers whether it does.
+fn expect_numbers(alloc: Global, row: &Row<'_>, out: &[u8]) -> Result<bool, Fault> {
+    if row.has("marks") {
+        expect_marks(alloc, &row.numbers(alloc, "marks")?, out)?;
+    }
+    if row.has("sum") {
+        expect_sum(alloc, row.text(alloc, "sum", "")?, out)?;
+    }
+    Ok(row.has("marks") || row.has("sum"))
+}
+
 /// A row whose output is said otherwise has no `out`, and none of the forms that take a part of it: they would say nothing.
 fn expect_no_out(alloc: Global, row: &Row<'_>) -> Result<(), Fault> {
     if row.has("out") || row.has("out_bytes") || row.has("each_write") {
-        return Err(Fault::Told(format!(in alloc; "out isn't looked at in this row")?));
+        return Err(Fault::told(alloc, &["out isn't looked at in this row"]));
     }
     Ok(())
 }
@@ -116,34 +122,49 @@ fn expect_front(alloc: Global, lines: &[&str], out: &[u8], len: usize) -> Result
     if wanted.starts_with(out) {
         return Ok(());
     }
-    Err(Fault::Told(format!(in alloc; "out isn't a front of what is wanted")?))
+    Err(Fault::told(alloc, &["out isn't a front of what is wanted"]))
 }
 
 /// Each line stands as often in the output as is said before it.
 fn expect_among(alloc: Global, lines: &[&str], out: &[u8]) -> Result<(), Fault> {
     let Ok(text) = str::from_utf8(out) else {
-        return Err(Fault::Told(format!(in alloc; "out isn't text")?));
+        return Err(Fault::told(alloc, &["out isn't text"]));
     };
     if lines.is_empty() {
-        return Err(Fault::Told(format!(in alloc; "among has no lines")?));
+        return Err(Fault::told(alloc, &["among has no lines"]));
     }
     for line in lines {
-        let (times, wanted) = line.split_once(' ').unwrap_or((line, ""));
-        let Ok(times) = times.parse::<u64>() else {
-            return Err(Fault::Told(format!(in alloc; "this isn't read: {line}")?));
-        };
-        let found = text.lines().filter(|line| *line == wanted).count();
-        expect_number(alloc, wanted, times, found as u64)?;
+        expect_times(alloc, line, text)?;
     }
     Ok(())
 }
 
-/// So many lines are marks: those behind a line `squeue Q marks N`, of which there are N, up to the next such line or the last line. They
-/// are at least the first number, and at most the second.
+/// A line stands as often in a text as is said before it.
+fn expect_times(alloc: Global, line: &str, text: &str) -> Result<(), Fault> {
+    let (times, wanted) = line.split_once(' ').unwrap_or((line, ""));
+    let Ok(times) = times.parse::<u64>() else {
+        return Err(Fault::told(alloc, &["this isn't read: ", line]));
+    };
+    let found = text.lines().filter(|line| *line == wanted).count();
+    expect_number(alloc, wanted, times, found as u64)
+}
+
+/// So many lines are marks, as many as is told of. They are at least the first number, and at most the second.
 fn expect_marks(alloc: Global, limits: &[u64], out: &[u8]) -> Result<(), Fault> {
     let ([least, most], Ok(text)) = (limits, str::from_utf8(out)) else {
-        return Err(Fault::Told(format!(in alloc; "marks isn't two numbers, or out isn't text")?));
+        return Err(Fault::told(alloc, &["marks isn't two numbers, or out isn't text"]));
     };
+    let (told, found) = marks_in(text);
+    expect_number(alloc, "how many marks are told", found, told)?;
+    if found < *least || found > *most {
+        return Err(Fault::Told(format!(in alloc; "marks: wanted {least} to {most}, got {found}")?));
+    }
+    Ok(())
+}
+
+/// How many marks a text tells of, and how many lines are marks: those behind a line `squeue Q marks N`, of which there are N, up to
+/// the next such line or the last line.
+fn marks_in(text: &str) -> (u64, u64) {
     let mut told = 0u64;
     let mut found = 0u64;
     for line in text.lines() {
@@ -153,11 +174,7 @@ fn expect_marks(alloc: Global, limits: &[u64], out: &[u8]) -> Result<(), Fault> 
             found = found.saturating_add(1);
         }
     }
-    expect_number(alloc, "how many marks are told", found, told)?;
-    if found < *least || found > *most {
-        return Err(Fault::Told(format!(in alloc; "marks: wanted {least} to {most}, got {found}")?));
-    }
-    Ok(())
+    (told, found)
 }
 
 /// How many marks a line tells of.
@@ -170,7 +187,7 @@ fn marks_of(line: &str) -> Option<u64> {
 fn expect_sum(alloc: Global, text: &str, out: &[u8]) -> Result<(), Fault> {
     let (len, check) = text.split_once(' ').unwrap_or((text, ""));
     let (Ok(len), Ok(check)) = (len.parse::<u64>(), u64::from_str_radix(check, 16)) else {
-        return Err(Fault::Told(format!(in alloc; "this isn't read: sum {text}")?));
+        return Err(Fault::told(alloc, &["this isn't read: sum ", text]));
     };
     expect_number(alloc, "out's length", len, out.len() as u64)?;
     expect_number(alloc, "out's check value", check, check_of(out))

@@ -1,3 +1,5 @@
+pub mod OneMore
+pub mod Placing
 mod Counting
 mod Joins
 mod LineParts

@@ -1,7 +1,7 @@
 -- The blocks that lie at places.
 use Rattle.std.proofs.Common.{◌≡◌, ℕ, zero, suc, Option, Some, None, List, [], ◌∷◌, length, slice_get, refl, ap, subst, arith}
-use Rattle.stream_blocks.specs.Standing.{served_of}
-use Rattle.stream_blocks.specs.declared.block.StreamBlock.{StreamBlock}
+use Rattle.datagram_services.specs.Standing.{served_of}
+use Rattle.datagram_services.specs.declared.block.StreamBlock.{StreamBlock}
 use Rattle.datagram_services.specs.Lying.{AreThere, streams_at}
 
 later : (o : Option StreamBlock) (places : List (Option StreamBlock)) → AreThere (o ∷ places) → AreThere places

@@ -23,12 +23,12 @@ use Rattle.ring_quotas.specs.declared.setup.Setup.{Setup}
 use Rattle.histories.specs.Lists.{list_of}
 use Rattle.histories.proofs.RingLists.{has_all}
 use Rattle.stream_plan.specs.Streams.{MorePlanOf, StreamOf, item_count}
-use Rattle.stream_blocks.specs.contracts.blocks.StreamBlocksResident.TheImpl.{ghosts}
-use Rattle.stream_blocks.specs.declared.block.StreamBlock.{StreamBlock}
-use Rattle.stream_blocks.specs.declared.blocks.StreamBlocks.{StreamBlocks}
-use Rattle.stream_blocks.specs.Served.{all_served, served}
-use Rattle.stream_blocks.specs.Standing.{HasServed, IsPartOf, served_of}
-use Rattle.stream_blocks.proofs.Placing.{had_is}
+use Rattle.datagram_services.specs.contracts.blocks.StreamBlocksResident.TheImpl.{ghosts}
+use Rattle.datagram_services.specs.declared.block.StreamBlock.{StreamBlock}
+use Rattle.datagram_services.specs.declared.blocks.StreamBlocks.{StreamBlocks}
+use Rattle.datagram_services.specs.Items.{all_served, served}
+use Rattle.datagram_services.specs.Standing.{HasServed, IsPartOf, served_of}
+use Rattle.datagram_services.proofs.Placing.{had_is}
 use Rattle.datagram_services.specs.Fits.{Fits, HistoryFits, counts_of, setting_at}
 use Rattle.datagram_services.specs.Lying.{AreThere, HandsOut}
 use Rattle.datagram_services.specs.Served.{HasMoreServed, IsMoreServed, MoreServedOf}

@@ -10,8 +10,8 @@ use Rattle.sq_base.specs.declared.kinds.Tuple.{Tuple}
 use Rattle.chargen_service.specs.Chargen.{Generating}
 use Rattle.report_lines.specs.ReportText.{done_line, end_line, line, reply_line}
 use Rattle.stream_plan.specs.Streams.{MorePlanOf, StreamOf, item_count}
-use Rattle.stream_blocks.specs.declared.answer.Answer.{Answer}
-use Rattle.stream_blocks.specs.Served.{ServedOf, all_served}
+use Rattle.datagram_services.specs.declared.answer.Answer.{Answer}
+use Rattle.datagram_services.specs.Items.{ServedOf, all_served}
 use Rattle.conn_classifier.proofs.RingLaw.{drop_at}
 use Rattle.datagram_services.specs.MoreText.{answer_line, counts_line, is_generator, items_line, plan_text, stream_line, stream_text}
 use Rattle.datagram_services.specs.Served.{IsMoreServed}

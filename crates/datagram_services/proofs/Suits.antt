@@ -10,9 +10,9 @@ use Rattle.squeue_pool.specs.Works.{Suits, WorkOf}
 use Rattle.squeue_pool.proofs.ByKey.{keys_suit}
 use Rattle.stream_plan.specs.Sound.{IsMorePlan}
 use Rattle.stream_plan.specs.Streams.{MorePlanOf, item_count}
-use Rattle.stream_blocks.specs.contracts.blocks.StreamBlocksResident.TheImpl.{ghosts}
-use Rattle.stream_blocks.specs.declared.blocks.StreamBlocks.{StreamBlocks}
-use Rattle.stream_blocks.specs.Standing.{Stands, limits_of}
+use Rattle.datagram_services.specs.contracts.blocks.StreamBlocksResident.TheImpl.{ghosts}
+use Rattle.datagram_services.specs.declared.blocks.StreamBlocks.{StreamBlocks}
+use Rattle.datagram_services.specs.Standing.{Stands, limits_of}
 use Rattle.datagram_services.specs.Fits.{counts_of}
 use Rattle.datagram_services.specs.Work.{IsFirst, IsWorkFor}
 

@@ -1,3 +1,6 @@
+pub mod Items
+pub mod Standing
+pub mod StandingLaws
 pub mod Fits
 pub mod Served
 pub mod Work

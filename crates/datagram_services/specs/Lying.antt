@@ -1,9 +1,9 @@
 -- Where the blocks lie that were served, and what is served so.
 use Rattle.std.specs.Prelude.{◌≡◌, ℕ, ◌<◌, false, Option, Some, None, List, [], ◌∷◌, length, slice_get}
 use Rattle.squeue_pool.specs.Finishing.{FinishedOf}
-use Rattle.stream_blocks.specs.Served.{ServedOf}
-use Rattle.stream_blocks.specs.Standing.{served_of}
-use Rattle.stream_blocks.specs.declared.block.StreamBlock.{StreamBlock}
+use Rattle.datagram_services.specs.Items.{ServedOf}
+use Rattle.datagram_services.specs.Standing.{served_of}
+use Rattle.datagram_services.specs.declared.block.StreamBlock.{StreamBlock}
 use Rattle.datagram_services.specs.Served.{MoreServedOf}
 
 -- a block lies at each of these places

@@ -8,8 +8,8 @@ use Rattle.capture_reader.specs.Outcome.{CaptureFile}
 use Rattle.report_lines.specs.ReportText.{datagram_line, done_line, end_field, end_line, line, reply_line}
 use Rattle.stream_plan.specs.declared.kinds.Counts.{Counts}
 use Rattle.stream_plan.specs.Streams.{MorePlanOf, StreamOf, item_count, more_plan_of}
-use Rattle.stream_blocks.specs.declared.answer.Answer.{Answer}
-use Rattle.stream_blocks.specs.Served.{ServedOf, all_served}
+use Rattle.datagram_services.specs.declared.answer.Answer.{Answer}
+use Rattle.datagram_services.specs.Items.{ServedOf, all_served}
 
 -- by the server's port: echo and discard are served over UDP, the character generator over TCP
 abbrev pub is_generator : ℕ → Bool

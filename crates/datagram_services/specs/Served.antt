@@ -3,7 +3,7 @@ use Rattle.std.specs.Prelude.{◌≡◌, List, map}
 use Rattle.histories.specs.Endings.{Ending}
 use Rattle.ring_quotas.specs.declared.setup.Setup.{Setup}
 use Rattle.stream_plan.specs.Streams.{MorePlanOf}
-use Rattle.stream_blocks.specs.Served.{ServedOf, all_served}
+use Rattle.datagram_services.specs.Items.{ServedOf, all_served}
 use Rattle.datagram_services.specs.Fits.{Fits}
 
 -- for each stream, by number, the answers to its datagrams and the generator's block, and the end of each squeue, by number

@@ -4,8 +4,8 @@ use Rattle.placed_parts.specs.Standing.{first_here}
 use Rattle.squeue_pool.specs.Keys.{key_work}
 use Rattle.squeue_pool.specs.Works.{WorkOf}
 use Rattle.stream_plan.specs.Streams.{MorePlanOf}
-use Rattle.stream_blocks.specs.declared.blocks.StreamBlocks.{StreamBlocks}
-use Rattle.stream_blocks.specs.Standing.{Stands, calls_of, origin_of, size_of}
+use Rattle.datagram_services.specs.declared.blocks.StreamBlocks.{StreamBlocks}
+use Rattle.datagram_services.specs.Standing.{Stands, calls_of, origin_of, size_of}
 use Rattle.datagram_services.specs.Fits.{counts_of}
 
 -- the first resident of squeue q: the streams are here whose number leaves q, divided by the squeues

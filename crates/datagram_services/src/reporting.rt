@@ -5,18 +5,18 @@ ghost use Rattle.std.specs.List.{flat_map};
 ghost use Rattle.segment_codec.specs.Datagrams.{most_datagram};
 ghost use Rattle.text_digits.specs.Told.{more};
 ghost use Rattle.report_lines.specs.ReportText.{end_line, reply_line};
-ghost use Rattle.stream_blocks.specs.Served.{all_served};
+ghost use Rattle.datagram_services.specs.Items.{all_served};
 ghost use Rattle.datagram_services.specs.MoreText.{answer_line, counts_line, is_generator, items_line, plan_text};
 ghost use Rattle.datagram_services.specs.MoreText.{protocol_word, service_word, stream_line, stream_text};
 ghost use Rattle.datagram_services.specs.Served.{IsMoreServed};
 
+use crate::answer::Answer;
 use crate::served::MoreServed;
 use chargen_service::GenBlock;
 use report_lines::{push_datagram, push_last, push_next_end, push_replies};
 use segment_codec::MOST_DATAGRAM;
 use sq_base::{CHARGEN_PORT, ECHO_PORT, Octets, Tuple};
 use std::alloc::{AllocError, Global};
-use stream_blocks::Answer;
 use stream_plan::MorePlan;
 use text_digits::{TextEnd, push_field};
 

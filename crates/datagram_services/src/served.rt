@@ -1,14 +1,15 @@
 //! What was served.
 ghost use Rattle.std.specs.Prelude.{◌≡◌, ◌<◌, ℕ, false, IfOk, IfSome, Some, length, slice_get};
-ghost use Rattle.stream_blocks.specs.Standing.{served_of};
-ghost use Rattle.stream_blocks.specs.declared.block.StreamBlock.{StreamBlock as BlockOf};
+ghost use Rattle.datagram_services.specs.Standing.{served_of};
+ghost use Rattle.datagram_services.specs.declared.block.StreamBlock.{StreamBlock as BlockOf};
 ghost use Rattle.datagram_services.specs.Lying.{AreThere, HandsOut};
 
+use crate::answer::Answer;
+use crate::block::StreamBlock;
 use chargen_service::GenBlock;
 use squeue_pool::Finished;
 use std::alloc::AllocError;
 use std::marker::Model;
-use stream_blocks::{Answer, StreamBlock};
 
 /// What the items of each stream of a plan were served into, by the stream's number, and the end of each squeue, by number. No memory
 /// was missing. Each block lay in the resident of a squeue that ended: that is the type of `Finished`.

@@ -49,7 +49,7 @@ pub const TABLE: Table = Table {
     most_calls: 0,
 };
 
-/// The setup that the words name. `Usage` comes exactly where they are refused.
+/// The setup that the words name. `Usage` comes only where they are refused.
 #[tactic(auto, unfolding(crate::specs::MoreWords::more_setup))]
 pub fn setup_words(alloc: Global, words: &[String]) -> Result<Setup, WordFault>
     ensures ok { IfOk result (λ s. more_setup (map (λ w. string_bytes w) words.now) ≡ Some s) }

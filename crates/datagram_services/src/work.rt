@@ -2,14 +2,14 @@
 ghost use Rattle.std.specs.Prelude.{◌≡◌, ◌<◌, ◌≤◌, ℕ, IfOk, Some, length, slice_get};
 ghost use Rattle.squeue_pool.specs.Works.{work_of};
 ghost use Rattle.ring_quotas.specs.Quotas.{IsInRange};
-ghost use Rattle.stream_blocks.specs.declared.blocks.StreamBlocks.{StreamBlocks as BlocksOf};
+ghost use Rattle.datagram_services.specs.declared.blocks.StreamBlocks.{StreamBlocks as BlocksOf};
 ghost use Rattle.datagram_services.specs.Fits.{counts_of};
 ghost use Rattle.datagram_services.specs.Work.{IsFirst, IsWorkFor};
 
+use crate::blocks::StreamBlocks;
 use ring_quotas::Setup;
 use squeue_pool::{Work, work_by_key};
 use std::alloc::{AllocError, Global};
-use stream_blocks::StreamBlocks;
 use stream_plan::MorePlan;
 
 /// The streams of a plan as work for squeues and rings: each squeue has the new blocks of its streams, each ring brings the items of

@@ -7,3 +7,5 @@ mod datagrams;
 mod quotas;
 #[cfg(test)]
 mod reports;
+#[cfg(test)]
+mod streams;

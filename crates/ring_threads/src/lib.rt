@@ -7,6 +7,7 @@
 #![tactic(auto)]
 
 mod all_conns;
+mod kept;
 pub mod laws;
 mod plan_work;
 mod ring_lists;

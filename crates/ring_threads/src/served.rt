@@ -1,35 +1,45 @@
 //! What was served.
-ghost use Rattle.std.specs.Prelude.{◌≡◌, ℕ, ◌<◌, false, Box, IfOk, Some, length, slice_get};
+ghost use Rattle.std.specs.Prelude.{◌≡◌, ℕ, ◌<◌, [], false, Box, IfOk, Some, length, map, slice_get};
 ghost use Rattle.std.specs.declared.alloc.Global.{Global};
 ghost use Rattle.conn_blocks.specs.ServeOrder.{BlockOf};
-ghost use Rattle.ring_threads.specs.Lying.{AreThere};
+ghost use Rattle.ring_threads.specs.Lying.{AreThere, blocks_at};
 
+use crate::kept::Kept;
 use conn_blocks::Block;
 use squeue_pool::Finished;
 use squeue_state::Trace;
-use std::alloc::AllocError;
+use std::alloc::{AllocError, Global};
 use std::marker::Model;
 
-/// One block for each connection of the plan, by number, and the end and the trace of each squeue, by number. No block is short.
-/// A block lies where it lay when its squeue ended: so there is none that no squeue served.
+/// One block for each connection of the plan, by number, and the end and the trace of each squeue, by number.
+/// Where there is an end, each block lies where it lay when its squeue ended, and none is short: squeues alone leave ends.
 #[derive(Drop)]
 pub struct Served {
-    /// What squeues left that have ended, the block of each connection at its number.
-    finished: Finished<Box<Block>>,
+    kept: Kept,
 }
 
 impl Model for Served {
     ghost use Rattle.ring_threads.specs.Served.{ServedOf};
-    ghost use Rattle.ring_threads.specs.Lying.{AreThere, blocks_at};
+    ghost use Rattle.ring_threads.specs.Lying.{IsSound, served_in};
 
     ghost Value = { ServedOf };
 
-    ghost view = { λ s. record { blocks = blocks_at s.finished.parts; ended = s.finished.ended; traces = s.finished.traces } };
+    ghost view = { λ s. served_in s.kept };
 
-    ghost invariant = { λ s. AreThere s.finished.parts };
+    ghost invariant = { λ s. IsSound s.kept };
 }
 
 impl Served {
+    /// These blocks, of which no squeue tells: no end and no trace. It takes no memory.
+    pub fn of(_alloc: Global, blocks: Vec<Box<Block>>) -> Result<Served, AllocError>
+        ensures blocks { IfOk result (λ v. v.blocks ≡ map (λ b. b.value) blocks.items) }
+        ensures none { IfOk result (λ v. (v.ended ≡ []) × (v.traces ≡ [])) }
+    {
+        Ok(Served {
+            kept: Kept::Made(blocks),
+        })
+    }
+
     /// What squeues left, if the block of none of these connections is short. Takes no memory.
     pub(crate) fn left(finished: Finished<Box<Block>>, conns: u32) -> Result<Served, AllocError>
         requires count { length finished.parts ≡ conns }
@@ -43,7 +53,9 @@ impl Served {
         if is_short(&finished, conns) {
             return Err(AllocError);
         }
-        Ok(Served { finished })
+        Ok(Served {
+            kept: Kept::Left(finished),
+        })
     }
 
     /// The block of connection `c`.
@@ -51,10 +63,10 @@ impl Served {
         requires { c < length self.now.blocks }
         ensures { slice_get self.now.blocks c ≡ Some result.now }
     {
-        let Some(block) = self.finished.part(c) else {
-            unreachable!()
-        };
-        block
+        match &self.kept {
+            Kept::Left(finished) => left_block(finished, c),
+            Kept::Made(blocks) => &blocks[c as usize],
+        }
     }
 
     /// The trace of squeue `q`: the marks of its history where they were kept, else nothing.
@@ -62,8 +74,23 @@ impl Served {
         requires { q < length self.now.traces }
         ensures { slice_get self.now.traces q ≡ Some result.now }
     {
-        self.finished.trace(q)
+        match &self.kept {
+            Kept::Left(finished) => finished.trace(q),
+            Kept::Made(_) => unreachable!(),
+        }
     }
+}
+
+// The block of connection `c`, which lies where its squeue left it.
+fn left_block(finished: &Finished<Box<Block>>, c: u32) -> &Block
+    requires there { AreThere finished.now.parts }
+    requires range { c < length (blocks_at finished.now.parts) }
+    ensures { slice_get (blocks_at finished.now.parts) c ≡ Some result.now }
+{
+    let Some(block) = finished.part(c) else {
+        unreachable!()
+    };
+    block
 }
 
 // Whether the block of one of these connections is short.

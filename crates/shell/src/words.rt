@@ -27,7 +27,7 @@ pub enum WordFault {
     NoMemory,
 }
 
-/// What the words of the command line, without the program's name, ask for. `Usage` comes exactly where they are refused.
+/// What the words of the command line, without the program's name, ask for. `Usage` comes only where they are refused.
 ///
 /// # Example
 ///

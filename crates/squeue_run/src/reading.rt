@@ -41,7 +41,7 @@ impl Words {
     }
 }
 
-/// What the words of the command line, without the program's name, ask for. `Usage` comes exactly where they are refused.
+/// What the words of the command line, without the program's name, ask for. `Usage` comes only where they are refused.
 pub fn read_words(alloc: Global, words: &[String]) -> Result<Words, WordFault>
     ensures ok { IfOk result (λ w. asked (map (λ s. string_bytes s) words.now) ≡ Some (asked_by_words w)) }
     ensures setup { IfOk result (λ w. IsInRange w.setup) }

@@ -87,7 +87,7 @@ pub struct AskedWords {
     pub calls: Vec<CallWord>,
 }
 
-/// What the words of the command line, without the program's name, ask for. `Usage` comes exactly where they are refused.
+/// What the words of the command line, without the program's name, ask for. `Usage` comes only where they are refused.
 pub fn asked_in(alloc: Global, words: &[String]) -> Result<AskedWords, WordFault>
     ensures ok { IfOk result (λ w. asked (map (λ s. string_bytes s) words.now)
         ≡ Some (record { setup = w.setup; verify = w.verify; number = w.number; calls = w.calls.items })) }

@@ -1,7 +1,7 @@
 use Rattle.std.proofs.Common.{◌≡◌, ◌<◌, false, None, Some, slice_get, ap, sym, ◌∙◌, subst, arith, inl, inr}
 use Rattle.std.proofs.lemmas.Bool.{cases_lt}
 use Rattle.std.proofs.lemmas.Option.{slice_get_within}
-use Rattle.stream_blocks.specs.declared.block.StreamBlock.{StreamBlock}
+use Rattle.datagram_services.specs.declared.block.StreamBlock.{StreamBlock}
 use Rattle.datagram_services.proofs.served.is_short.Goals as goal
 
 pub unreachable-requires : goal.unreachable-requires

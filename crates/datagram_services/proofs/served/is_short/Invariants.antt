@@ -1,5 +1,5 @@
 use Rattle.std.proofs.Common.{◌≡◌, ℕ, ◌<◌, false, Some, slice_get}
-use Rattle.stream_blocks.specs.declared.block.StreamBlock.{StreamBlock}
+use Rattle.datagram_services.specs.declared.block.StreamBlock.{StreamBlock}
 use Rattle.datagram_services.proofs.served.is_short.Given as goal
 
 abbrev pub invariant-loop-c : goal.invariant-loop-c

@@ -2,7 +2,7 @@ use Rattle.std.proofs.Common.{length, ap, sym, ◌∙◌, arith}
 use Rattle.std.proofs.lemmas.List.{length-map}
 use Rattle.std.proofs.lemmas.Result.{IfOk-weaker}
 use Rattle.squeue_pool.specs.Works.{WorkOf, work_of}
-use Rattle.stream_blocks.specs.declared.blocks.StreamBlocks.{StreamBlocks}
+use Rattle.datagram_services.specs.declared.blocks.StreamBlocks.{StreamBlocks}
 use Rattle.stream_plan.specs.Streams.{item_count}
 use Rattle.datagram_services.proofs.Ran.{filled, has_served}
 use Rattle.datagram_services.proofs.Suits.{by_pool, suits}

@@ -1,6 +1,6 @@
 use Rattle.std.proofs.Common.{◌≡◌, ℕ, Some, List, [], ◌∷◌, length, length-append, slice_get, ap, sym, ◌∙◌, subst, arith}
 use Rattle.squeue_rings.proofs.Tasked.{each_more}
-use Rattle.stream_blocks.specs.declared.blocks.StreamBlocks.{StreamBlocks}
+use Rattle.datagram_services.specs.declared.blocks.StreamBlocks.{StreamBlocks}
 use Rattle.datagram_services.specs.Work.{IsFirst}
 use Rattle.datagram_services.proofs.work.residents_for.Goals as goal
 

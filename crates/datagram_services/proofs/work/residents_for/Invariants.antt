@@ -1,5 +1,5 @@
 use Rattle.std.proofs.Common.{◌≡◌, ℕ, Some, length, slice_get}
-use Rattle.stream_blocks.specs.declared.blocks.StreamBlocks.{StreamBlocks}
+use Rattle.datagram_services.specs.declared.blocks.StreamBlocks.{StreamBlocks}
 use Rattle.datagram_services.specs.Work.{IsFirst}
 use Rattle.datagram_services.proofs.work.residents_for.Given as goal
 

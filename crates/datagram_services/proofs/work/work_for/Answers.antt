@@ -5,7 +5,7 @@ use Rattle.std.proofs.lemmas.Result.{IfOk-weaker}
 use Rattle.histories.specs.Limits.{most_feeds}
 use Rattle.squeue_pool.specs.Keys.{key_work}
 use Rattle.squeue_pool.specs.Works.{WorkOf, work_of}
-use Rattle.stream_blocks.specs.declared.blocks.StreamBlocks.{StreamBlocks}
+use Rattle.datagram_services.specs.declared.blocks.StreamBlocks.{StreamBlocks}
 use Rattle.stream_plan.specs.Streams.{MorePlanOf, item_count}
 use Rattle.datagram_services.specs.Fits.{counts_of}
 use Rattle.datagram_services.specs.Work.{IsFirst, IsWorkFor}

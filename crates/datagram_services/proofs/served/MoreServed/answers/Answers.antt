@@ -1,5 +1,5 @@
 use Rattle.std.proofs.Common.{◌≡◌, IfSome, Option, sym, subst}
-use Rattle.stream_blocks.specs.Served.{ServedOf}
+use Rattle.datagram_services.specs.Items.{ServedOf}
 use Rattle.datagram_services.proofs.served.MoreServed.answers.Goals as goal
 
 pub returns : goal.returns

@@ -1,6 +1,0 @@
-use Rattle.placed_parts.proofs.PlaceSteps.{in_stands}
-use Rattle.stream_blocks.specs.Standing.{BlockAt}
-use Rattle.stream_blocks.proofs.blocks.StreamBlocksResident.put_in.Goals as goal
-
-pub returns-clause-stands : goal.returns-clause-stands
-returns-clause-stands c blocks note old had = in_stands (BlockAt c.args.self.now.plan.now) c.args.self.now.places.items blocks c.args.c c.args.part note c.requires.range (c.requires.owner, had) old

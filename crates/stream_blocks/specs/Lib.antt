@@ -1,3 +1,0 @@
-pub mod Served
-pub mod Standing
-pub mod StandingLaws
