@@ -1,6 +1,6 @@
 //! Rows of the live servers: frames in, and what is sent to them.
 //!
-//! The first word names the server, the others are its words. In place of the files IN and OUT of a ring stand which frames of the input it
+//! The first word is `sqlive`, the others are its words. In place of the files IN and OUT of a ring stand which frames of the input it
 //! reads, `FIRST-END` or `FIRST-`, counted from 0, and how many bytes a read gives and a write takes at most. What is sent is a line for each
 //! frame, AT and the datagram, ring by ring. What is told to the error line isn't tried here.
 
@@ -9,11 +9,9 @@ ghost use Rattle.live_rings.specs.Making.{IsInRange};
 ghost use Rattle.live_rings.specs.Words.{AreFew};
 
 use case_rows::{Fault as RowFault, Row, add_text, judge_run};
-use conn_squeues::serve_conns;
-use live_rings::{Ended, Ends, Setup, Words, rings_asked, serve_streams};
-use live_run::{Mode, asked_in, serve_frames_of};
+use live_rings::{Ends, Setup, Words, rings_asked, serve_rings, setup_by};
+use live_run::{Fault, Mode, asked_in, serve_frames_of};
 use live_server::Server;
-use live_tables::Fault;
 use sq_base::{MemSink, MemSource, Source, put};
 use std::alloc::Global;
 use std::sync::Wait;
@@ -57,14 +55,41 @@ fn run_server(
         return Err(Fault::Words);
     };
     match name.as_str() {
+        "sqlive" if are_for_rings(words) => by_rings(rt, alloc, words, src, out),
         "sqlive" => by_one_thread(alloc, words, src, out),
-        "sqlive_rings" => by_tables(rt, alloc, words, src, out),
-        "sqlive_conns" => by_conns(rt, alloc, words, src, out),
         _ => Err(Fault::Words),
     }
 }
 
-/// Serves by `sqlive`.
+/// Whether `sqlive` is asked to serve by several rings.
+fn are_for_rings(words: &[String]) -> bool {
+    match words {
+        [first, ..] => first.as_str() == "--rings",
+        [] => false,
+    }
+}
+
+/// Serves by `sqlive`, by several rings.
+fn by_rings(
+    rt: &(impl Threads + Wait + Sync),
+    alloc: Global,
+    words: &[String],
+    src: &mut MemSource,
+    out: &mut MemSink,
+) -> Result<(), Fault> {
+    let (setup, ends) = laid_out(alloc, words, src)?;
+    let Ok(ended) = serve_rings(rt, alloc, &setup, ends) else {
+        return Err(Fault::NoMemory);
+    };
+    let mut ran = Ok(());
+    for stream in &ended {
+        write_lines(alloc, stream.sink.bytes(), out)?;
+        ran = first_fault(ran, stream.fault);
+    }
+    ran
+}
+
+/// Serves by `sqlive`, by one thread.
 fn by_one_thread(
     alloc: Global,
     words: &[String],
@@ -83,58 +108,7 @@ fn by_one_thread(
     let server = Server::new(alloc, asked.setting, secret);
     let served = serve_frames_of(alloc, server, src, &mut sink);
     write_lines(alloc, sink.bytes(), out)?;
-    served.map_err(same_fault)
-}
-
-/// The fault that has the same exit code.
-fn same_fault(fault: live_run::Fault) -> Fault {
-    match fault {
-        live_run::Fault::Words => Fault::Words,
-        live_run::Fault::NoMemory => Fault::NoMemory,
-        live_run::Fault::Reading => Fault::Reading,
-        live_run::Fault::Writing => Fault::Writing,
-        live_run::Fault::Frames => Fault::Frames,
-    }
-}
-
-/// Serves by `sqlive_rings`.
-fn by_tables(
-    rt: &(impl Threads + Wait + Sync),
-    alloc: Global,
-    words: &[String],
-    src: &mut MemSource,
-    out: &mut MemSink,
-) -> Result<(), Fault> {
-    let (setup, ends) = laid_out(alloc, words, src)?;
-    let Ok(ended) = serve_streams(rt, alloc, &setup, ends) else {
-        return Err(Fault::NoMemory);
-    };
-    let mut ran = Ok(());
-    for stream in &ended {
-        write_sent(alloc, stream, out)?;
-        ran = first_fault(ran, stream.fault);
-    }
-    ran
-}
-
-/// Serves by `sqlive_conns`.
-fn by_conns(
-    rt: &(impl Threads + Wait + Sync),
-    alloc: Global,
-    words: &[String],
-    src: &mut MemSource,
-    out: &mut MemSink,
-) -> Result<(), Fault> {
-    let (setup, ends) = laid_out(alloc, words, src)?;
-    let Ok(rings) = serve_conns(rt, alloc, &setup, ends) else {
-        return Err(Fault::NoMemory);
-    };
-    let mut ran = Ok(());
-    for ring in &rings {
-        write_lines(alloc, ring.port.sink.bytes(), out)?;
-        ran = first_fault(ran, ring.port.fault);
-    }
-    ran
+    served
 }
 
 /// What a run ends with: the fault of the first ring, by number, that has one.
@@ -168,17 +142,10 @@ fn setup_of(asked: &Words) -> Result<Setup, Fault>
     requires { AreFew asked.now }
     ensures { IfOk result (λ s. IsInRange s) }
 {
-    let Some(secret) = asked.secret else {
-        return Err(Fault::Words);
-    };
-    Ok(Setup {
-        rings: asked.rings,
-        squeues: asked.squeues,
-        mode: asked.mode,
-        budget: asked.budget,
-        setting: asked.setting,
-        secret,
-    })
+    match asked.secret {
+        Some(secret) => Ok(setup_by(asked, secret)),
+        None => Err(Fault::Words),
+    }
 }
 
 /// All that a source gives, up to the room for it.
@@ -298,18 +265,6 @@ fn split_frame(bytes: &[u8]) -> Option<(u64, &[u8], &[u8])> {
     let (body, behind) = rest.split_at(len.min(rest.len()));
     let at = u64::from_be_bytes([*t0, *t1, *t2, *t3, *t4, *t5, *t6, *t7]);
     Some((at, body, behind))
-}
-
-/// Writes what a stream was sent.
-fn write_sent(
-    alloc: Global,
-    stream: &Ended<MemSource, MemSink>,
-    out: &mut MemSink,
-) -> Result<(), Fault> {
-    match &stream.table {
-        Some(table) => write_lines(alloc, table.sink().bytes(), out),
-        None => Ok(()),
-    }
 }
 
 /// Writes a line for each frame.

@@ -1,224 +1,294 @@
--- The seats in order.
-use Rattle.std.proofs.Common.{◌≡◌, ℕ, zero, suc, ◌-◌, Bool, true, false, cond, List, [], ◌∷◌, ◌++◌, length, map, take, set, get_or, slice_get, Option, None, Some, refl, sym, ap, ◌∙◌, not, true≢false, is_some}
-use Rattle.std.specs.List.{swap_remove}
-use Rattle.std.specs.Map.{keys_of, lookup}
-use Rattle.std.specs.Option.{option_map, option_map_or}
-use Rattle.std.proofs.lemmas.List.{map-set, take-map}
-use Rattle.std.proofs.lemmas.Option.{slice_get-map}
+-- The seats of a table, where one chat changes, leaves or comes.
+use Rattle.std.proofs.Common.{◌≡◌, ◌≢◌, ℕ, ◌+◌, ◌<◌, ◌≤◌, min, ◌⊎◌, inl, inr, Bool, true, false, cond, Option, None, Some, IfSome, IfNone, List, [], ◌∷◌, ◌++◌, length, map, filter, slice_get, refl, sym, ap, subst, ◌∙◌, arith}
+use Rattle.std.specs.List.{IsDistinct, swap_remove}
+use Rattle.std.specs.Map.{keys_of}
+use Rattle.std.specs.Option.{option_map}
+use Rattle.std.proofs.lemmas.Option.{slice_get-map, slice_get_within}
 use Rattle.std_collections.proofs.Entries.{keys_set_value_at}
-use Rattle.std_collections.proofs.HashLookup.{keys_push}
-use Rattle.indexmap.specs.IndexMap.{set_value_at}
-use Rattle.segment_codec.specs.Packet.{packet_in}
-use Rattle.segment_codec.specs.Refusal.{tuple_of}
-use Rattle.segment_codec.specs.SentIsRead.{text_in}
-use Rattle.segment_codec.specs.declared.packet.Packet.{Packet}
-use Rattle.segment_codec.specs.declared.packet.Packet.TheVariants as packet
-use Rattle.segment_codec.specs.declared.packet.Seg.{Seg}
-use Rattle.sq_base.specs.declared.kinds.Link.TheVariants.{RawIp}
+use Rattle.std_collections.proofs.HashLookup.{IsAbsent, distinct_push, distinct_swap_remove, length-swap_remove}
+use Rattle.indexmap.specs.IndexMap.{insert_entry, set_value_at}
+use Rattle.indexmap.proofs.MapLemmas.{absent_from_lookup, insert_entry-absent}
+use Rattle.indexmap.specs.Layout.{length-set_value_at}
 use Rattle.sq_base.specs.declared.kinds.Tuple.{Tuple}
-use Rattle.live_server.specs.Acts.{emptied, is_over, judged, reached, sent_by}
-use Rattle.live_server.specs.Addresses.{is_for_us}
-use Rattle.live_server.specs.Counting.{more}
-use Rattle.live_server.specs.Initial.{number_for}
-use Rattle.live_server.specs.Isolation.{conn_of, IsTable}
-use Rattle.live_server.specs.Services.{is_served_at}
-use Rattle.live_server.specs.Serving.{Outcome, ServerOf, addressed, becomes, comes, fits, gives_way, goes_on, has_place, heeded, heeded_text, heeds, is_waiting, judging, limited, makes_place, noting, numbered, on_datagram, on_packet, on_segment, opens as opening, refused, sends_nothing, sends_of, served, takes_free, takes_place, time_to, turns_away, yielding, yields, yields_at}
-use Rattle.live_server.specs.Table.{Conns, conn_at, place_of, replaced, settled, tuple_eq, without, IsNew}
+use Rattle.turn_gate.specs.declared.pass.Pass.{Pass}
+use Rattle.perimeter_core.specs.History.{Element, Limits}
+use Rattle.squeue_state.specs.Naming.{Named}
+use Rattle.stream_stays.specs.declared.place.Stays.{Stays}
+use Rattle.stream_stays.specs.Places.{IsOpen, life_of, place_at}
+use Rattle.stream_stays.specs.Settling.{sent_in}
+use Rattle.tcb_machine.specs.Limits.{last_time}
+use Rattle.live_server.specs.Acts.{emptied, is_over, reached, sent_by}
+use Rattle.live_server.specs.Facts.{facts_of, is_over_by}
+use Rattle.live_server.specs.Table.{Conns, conn_at, settled, tuple_eq, without, IsNew}
+use Rattle.live_server.specs.declared.acting.Datagram.{Datagram}
 use Rattle.live_server.specs.declared.conn.Conn.{Conn}
-use Rattle.live_server.specs.declared.setting.Setting.{Setting}
-use Rattle.live_server.proofs.TableLemmas.{conn_written, new_from_place, within_at}
-use Rattle.live_server.proofs.PlaceLemmas.{conn_looked}
-use Rattle.live_chats.specs.Chats.{Chats, Item, Said, Step, becoming, chats_of, fresh, leaves, opens, runs, said, segment, segment_said, sends, tells, time, time_said, with_chat}
-use Rattle.live_chats.specs.Seats.{DoorKeepsOrder, Seats, SeatsShow, left_free, seated, seated_at, seats_after}
-use Rattle.live_chats.specs.Ways.{way_addressed, way_comes, way_datagram, way_goes_on, way_heeds, way_opens, way_packet, way_segment, way_takes, way_time_to, way_yielding, way_yields}
-use Rattle.live_chats.proofs.RunLemmas.{IsRight, quiet_right}
-use Rattle.live_chats.proofs.WayLemmas.{noted_same, time_to_right, yielding_new, yielding_right, yields_right}
+use Rattle.live_server.specs.declared.conn.Met.{Met}
+use Rattle.live_server.specs.declared.facts.Facts.{Facts}
+use Rattle.live_server.proofs.TableLemmas.{conn_written, tuple_equivalence}
+use Rattle.live_chats.specs.Hearing.{ChatOf, conn_in, hearing, hearing_all, nobody, silent}
+use Rattle.live_chats.specs.Listening.{IsAnswer}
+use Rattle.live_chats.specs.Seating.{AllSeated, Begins, HasSeats, HasSeatsBut, HeardAt, IsGood, IsSeated, IsSettled, Judges, KeepsEnds, MetAt, KeptBut, KeptOpen, chat_at, chat_of, conn_of_seat, conns_of, left_at}
+use Rattle.live_chats.specs.declared.chats.Chats.{Chats}
+use Rattle.live_chats.specs.declared.ear.Heard.{Heard}
+use Rattle.live_chats.specs.declared.item.Item.{Item}
+use Rattle.live_chats.specs.declared.item.Item.TheVariants.{Time}
+use Rattle.live_chats.specs.declared.seat.Seat.{Seat}
+use Rattle.live_chats.proofs.HearLemmas.{hearing-silent, hearing_all-lost}
+use Rattle.live_chats.proofs.ListLemmas.{entry_there, in_left, in_pushed, in_set, length_map, map_agrees, map_append, map_left, map_written, one_place}
 
--- ---- what a map makes of the others, where one leaves
-module _ {X Y : Type 0} (f : X → Y) where
-  got : (xs : List X) (n : ℕ) (d : X) → get_or (map f xs) n (f d) ≡ f (get_or xs n d)
-  got [] n d = refl
-  got (x ∷ xs) zero d = refl
-  got (x ∷ xs) (suc n) d = got xs n d
+abbrev Entry : Type 0
+Entry = Tuple × Seat
 
-  long : (xs : List X) → length (map f xs) ≡ length xs
-  long [] = refl
-  long (x ∷ xs) = ap suc (long xs)
+pub of_some : {X : Type 0} (P : X → Type 0) (o : Option X) (x : X) → o ≡ Some x → IfSome o P → P x
+of_some P o x is h = let Q : Option _ → Type 0 = λ r. IfSome r P in subst Q is h
 
-  swapped : (xs : List X) (i : ℕ) (d : X) → map f (swap_remove xs i d) ≡ swap_remove (map f xs) i (f d)
-  swapped xs i d =
-      let n = length xs - 1 in
-      sym (take-map f n (set xs i (get_or xs n d)))
-      ∙ ap (λ (l : List Y). take n l) (map-set f xs i (get_or xs n d) ∙ ap (λ (y : Y). set (map f xs) i y) (sym (got xs n d)))
-      ∙ ap (λ (k : ℕ). take (k - 1) (set (map f xs) i (get_or (map f xs) (k - 1) (f d)))) (sym (long xs))
+pub none_of : {X : Type 0} (Q : Type 0) (o : Option X) → o ≡ None → IfNone o Q → Q
+none_of Q o is h = let P : Option _ → Type 0 = λ r. IfNone r Q in subst P is h
 
-  pub left_map : (i : ℕ) (xs : List X) → map f (left_free i xs) ≡ left_free i (map f xs)
-  left_map i xs = by (slice_get xs i) ∙ ap (λ (o : Option Y). option_map_or (λ (y : Y). swap_remove (map f xs) i y) o (map f xs)) (sym (slice_get-map f xs i))
+pub chat_here : (st : Stays Item ChatOf) (c : ℕ) → (chat_at st c).lost ≡ false
+unfolding chat_at
+chat_here st c = hearing_all-lost (sent_in (place_at st c)) nobody
+
+-- what an item makes of a chat is read off its ends and its connection
+pub heard_of : (x : Item) (c : ChatOf) (t : Tuple) (d : Conn) → c.ends ≡ t → c.conn ≡ Some d → c.lost ≡ false → hearing x c ≡ hearing x (chat_of t d)
+heard_of x c t d ends conn here =
+    let same : silent c ≡ chat_of t d = λ j. record { ends = ends j; conn = conn j; sent = []; met = None; lost = here j } in
+    sym (hearing-silent x c) ∙ ap (hearing x) same
+
+-- the entry at a place, of the connections
+pub conns_at : (st : Stays Item ChatOf) (es : List Entry) (i : ℕ) (e : Entry) → slice_get es i ≡ Some e → slice_get (conns_of st es) i ≡ Some (conn_of_seat st e)
+conns_at st es i e at = slice_get-map (conn_of_seat st) es i ∙ ap (λ (o : Option Entry). option_map (conn_of_seat st) o) at
+
+pub seated_kept : (c : ℕ) (a b : Stays Item ChatOf) (e : Entry) → KeptBut c a b → e.1.place ≢ c → IsSeated a e → IsSeated b e
+seated_kept c a b e k ne s = record {
+  is_open = k.opens e.1.place ne s.is_open;
+  ends = ap (λ (x : ChatOf). x.ends) (k.chats e.1.place ne) ∙ s.ends;
+  conn = s.conn;
+  its_conn = ap (λ (x : ChatOf). x.conn) (k.chats e.1.place ne) ∙ s.its_conn;
+  facts = s.facts;
+}
+
+pub seated_open : (a b : Stays Item ChatOf) (e : Entry) → KeptOpen a b → IsSeated a e → IsSeated b e
+seated_open a b e k s = record {
+  is_open = k.opens e.1.place s.is_open;
+  ends = ap (λ (x : ChatOf). x.ends) (k.chats e.1.place s.is_open) ∙ s.ends;
+  conn = s.conn;
+  its_conn = ap (λ (x : ChatOf). x.conn) (k.chats e.1.place s.is_open) ∙ s.its_conn;
+  facts = s.facts;
+}
+
+pub same_entry : (es : List Entry) (i : ℕ) (e f : Entry) → slice_get es i ≡ Some e → slice_get es i ≡ Some f → f ≡ e
+same_entry es i e f p q = cc
+
+pub left_length : (es : List Entry) (i : ℕ) (e : Entry) → slice_get es i ≡ Some e → length (left_at i es) + 1 ≡ length es
+left_length es i e at = ap (λ (o : Option Entry). length (Rattle.std.specs.Option.option_map_or (λ x. swap_remove es i x) o es) + 1) at ∙ length-swap_remove es i e (slice_get_within es i e at)
+
+pub left_distinct : (es : List Entry) (i : ℕ) (e : Entry) → slice_get es i ≡ Some e → IsDistinct tuple_eq (keys_of es) → IsDistinct tuple_eq (keys_of (left_at i es))
+left_distinct es i e at d =
+    subst (λ (o : Option Entry). IsDistinct tuple_eq (keys_of (Rattle.std.specs.Option.option_map_or (λ x. swap_remove es i x) o es))) (sym at)
+    (distinct_swap_remove tuple_eq tuple_equivalence es i e (slice_get_within es i e at) d)
+
+module _ (a b : Stays Item ChatOf) (es : List Entry) (i : ℕ) (e : Entry) (at : slice_get es i ≡ Some e) (kept : KeptBut e.1.place a b) (ends : (chat_at a e.1.place).ends ≡ e.0)
+    (distinct : IsDistinct tuple_eq (keys_of es)) (others : (k : ℕ) (f : Entry) → slice_get es k ≡ Some f → k ≢ i → IsSeated a f) where
+  apart : (k : ℕ) (f : Entry) → slice_get es k ≡ Some f → k ≢ i → f.1.place ≢ e.1.place
+  apart k f there ne same =
+      ne (one_place tuple_eq tuple_equivalence.refl es k i f e distinct there at (sym ((others k f there ne).ends) ∙ ap (λ (p : ℕ). (chat_at a p).ends) same ∙ ends))
+
+  pub others_kept : (k : ℕ) (f : Entry) → slice_get es k ≡ Some f → k ≢ i → IsSeated b f
+  others_kept k f there ne = seated_kept e.1.place a b f kept (apart k f there ne) (others k f there ne)
+
+  pub others_same : (k : ℕ) (f : Entry) → slice_get es k ≡ Some f → k ≢ i → conn_of_seat b f ≡ conn_of_seat a f
+  others_same k f there ne = ap (λ (x : ChatOf). (f.0, conn_in x.conn)) (kept.chats f.1.place (apart k f there ne))
+
+  -- where it leaves
+  pub left_seated : AllSeated b (left_at i es)
+  left_seated k f there = let was = in_left i es k f (slice_get_within es i e at) there in others_kept was.0 f was.1 was.2
+
+  pub left_conns : conns_of b (left_at i es) ≡ without i (conns_of a es)
+  unfolding without
+  left_conns =
+      map_agrees (conn_of_seat b) (conn_of_seat a) (left_at i es) (λ k f there. let was = in_left i es k f (slice_get_within es i e at) there in others_same was.0 f was.1 was.2)
+      ∙ map_left (conn_of_seat a) i es
+
+  pub without_same : without i (conns_of b es) ≡ without i (conns_of a es)
+  unfolding without
+  without_same =
+      sym (map_left (conn_of_seat b) i es)
+      ∙ map_agrees (conn_of_seat b) (conn_of_seat a) (left_at i es) (λ k f there. let was = in_left i es k f (slice_get_within es i e at) there in others_same was.0 f was.1 was.2)
+      ∙ map_left (conn_of_seat a) i es
+
+  -- where something is heard of it
+  module _ (x : Item) (h : Heard) (is_open : IsOpen b e.1.place) (keeps : KeepsEnds x) (told : chat_at b e.1.place ≡ hearing x (chat_at a e.1.place))
+      (before after : List Datagram) (answer : IsAnswer (chat_at b e.1.place) h before after) where
+    abbrev learnt : Seat
+    learnt = record e.1 { facts = h.facts }
+
+    learnt_seated : IsSeated b (e.0, learnt)
+    learnt_seated = record {
+      is_open = is_open;
+      ends = ap (λ (c : ChatOf). c.ends) told ∙ keeps (chat_at a e.1.place) ∙ ends;
+      conn = answer.conn;
+      its_conn = answer.its_conn;
+      facts = answer.facts;
+    }
+
+    pub heard_seated : AllSeated b (set_value_at es i learnt)
+    heard_seated k f there = elim (in_set es i learnt k f there) [
+      | inl r ↦ others_kept k f r.1 r.0
+      | inr r ↦ (let g = r.1.0 in
+          let its : f ≡ (e.0, learnt) = r.1.2 ∙ ap (λ (y : Entry). (y.0, learnt)) (same_entry es i e g at r.1.1) in
+          subst (IsSeated b) (sym its) learnt_seated)
+    ]
+
+    heard_conns : conns_of b (set_value_at es i learnt) ≡ set_value_at (conns_of a es) i (conn_in (chat_at b e.1.place).conn)
+    heard_conns = map_written (conn_of_seat a) (conn_of_seat b) es i learnt (conn_in (chat_at b e.1.place).conn) e at (λ _. refl) refl others_same
+
+    pub heard_there : (d0 : Conn) → (chat_at a e.1.place).conn ≡ Some d0 → (t : Tuple) (d : Conn) → slice_get (conns_of a es) i ≡ Some (t, d)
+        → HeardAt x t d i h (conns_of a es) (conns_of b (set_value_at es i learnt)) before after
+    heard_there d0 has t d there =
+        let entry : (t, d) ≡ conn_of_seat a e = pair_is (sym there ∙ conns_at a es i e at) in
+        let its_t : (chat_at a e.1.place).ends ≡ t = ends ∙ ap (λ (y : Tuple × Conn). y.0) (sym entry) in
+        let its_d : (chat_at a e.1.place).conn ≡ Some d = has ∙ ap Some (ap conn_in (sym has) ∙ ap (λ (y : Tuple × Conn). y.1) (sym entry)) in
+        let is : chat_at b e.1.place ≡ hearing x (chat_of t d) = told ∙ heard_of x (chat_at a e.1.place) t d its_t its_d (chat_here a e.1.place) in
+        record {
+          table = heard_conns ∙ ap (λ (c : ChatOf). set_value_at (conns_of a es) i (conn_in c.conn)) is;
+          facts = answer.facts ∙ ap facts_of (ap conn_in (sym answer.its_conn) ∙ ap (λ (c : ChatOf). conn_in c.conn) is);
+          met = answer.met ∙ ap (λ (c : ChatOf). c.met) is;
+          sent = answer.sent ∙ ap (λ (c : ChatOf). before ++ c.sent) is;
+        }
+      where
+        pair_is : Some (t, d) ≡ Some (conn_of_seat a e) → (t, d) ≡ conn_of_seat a e
+        pair_is p = cc
+
+pub kept_ends : (x : Item) (c : ℕ) (a b : Stays Item ChatOf) (t : Tuple) → KeepsEnds x → (chat_at b c ≡ hearing x (chat_at a c)) ⊎ (chat_at b c ≡ chat_at a c) → (chat_at a c).ends ≡ t → (chat_at b c).ends ≡ t
+kept_ends x c a b t keeps (inl h) ends = ap (λ (y : ChatOf). y.ends) h ∙ keeps (chat_at a c) ∙ ends
+kept_ends x c a b t keeps (inr h) ends = ap (λ (y : ChatOf). y.ends) h ∙ ends
+
+pub if_some : {X : Type 0} (P : X → Type 0) (o : Option X) → ((x : X) → o ≡ Some x → P x) → IfSome o P
+if_some P None h = tt
+if_some P (Some x) h = h x refl
+
+pub if_none : {X : Type 0} (Q : Type 0) (o : Option X) → (o ≡ None → Q) → IfNone o Q
+if_none Q None h = h refl
+if_none Q (Some x) h = tt
+
+pub conns_length : (st : Stays Item ChatOf) (es : List Entry) → length (conns_of st es) ≡ length es
+conns_length st es = length_map (conn_of_seat st) es
+
+pub conns_keys : (st : Stays Item ChatOf) (es : List Entry) → keys_of (conns_of st es) ≡ keys_of es
+conns_keys st [] = refl
+conns_keys st (e ∷ es) = ap (λ (ks : List Tuple). e.0 ∷ ks) (conns_keys st es)
+
+-- what was heard, read off a table
+module _ (x : Item) (t : Tuple) (d : Conn) (i : ℕ) (h : Heard) (was is : Conns) (before after : List Datagram) (heard : HeardAt x t d i h was is before after) (lt : i < length was) where
+  abbrev then_conn : Conn
+  then_conn = conn_in (hearing x (chat_of t d)).conn
+
+  over_by : (b : Bool) → is_over_by h.facts ≡ b → is_over (conn_at i (set_value_at was i then_conn)) ≡ b
+  over_by b e = ap is_over (conn_written was i then_conn lt) ∙ ap is_over_by (sym heard.facts) ∙ e
+
+  pub met_over : is_over_by h.facts ≡ true → (m : Met) → h.met ≡ Some m → (left : Conns) → left ≡ without i is → MetAt x t d i m was left before after
+  unfolding settled
+  met_over over m its left gone = record {
+    table = gone ∙ ap (without i) heard.table ∙ ap (λ (b : Bool). cond b (without i (set_value_at was i then_conn)) (set_value_at was i then_conn)) (sym (over_by true over));
+    met = sym heard.met ∙ its;
+    sent = heard.sent;
+  }
+
+  pub met_here : is_over_by h.facts ≡ false → (m : Met) → h.met ≡ Some m → MetAt x t d i m was is before after
+  unfolding settled
+  met_here over m its = record {
+    table = heard.table ∙ ap (λ (b : Bool). cond b (without i (set_value_at was i then_conn)) (set_value_at was i then_conn)) (sym (over_by false over));
+    met = sym heard.met ∙ its;
+    sent = heard.sent;
+  }
+
+  pub judged_so : Judges x → h.met ≡ None → ⊥
+  judged_so judges none = let m = judges t d in clash m.0 (sym none ∙ heard.met ∙ m.1)
     where
-      by : (o : Option X) → map f (option_map_or (λ (x : X). swap_remove xs i x) o xs) ≡ option_map_or (λ (y : Y). swap_remove (map f xs) i y) (option_map f o) (map f xs)
-      by None = refl
-      by (Some x) = swapped xs i x
+      clash : (m : Met) → None ≡ Some m → ⊥
+      clash m e = cc
 
-pub keys_without : (i : ℕ) (cs : Conns) → keys_of (without i cs) ≡ left_free i (keys_of cs)
-unfolding without
-keys_without i cs = left_map (λ (e : Tuple × Conn). e.0) i cs
+pub heard_length : (a b : Stays Item ChatOf) (es fs : List Entry) (i : ℕ) (v : Conn) → conns_of b fs ≡ set_value_at (conns_of a es) i v → length fs ≡ length es
+heard_length a b es fs i v table = sym (conns_length b fs) ∙ ap length table ∙ length-set_value_at (conns_of a es) i v ∙ conns_length a es
 
--- ---- one step behind others
-pub seats_append : (g : Setting) (ws vs : List Step) (all : Chats) (ks : Seats) → seats_after g (ws ++ vs) all ks ≡ seats_after g vs (runs g ws all).chats (seats_after g ws all ks)
-seats_append g [] vs all ks = refl
-seats_append g (sends ds ∷ ws) vs all ks = seats_append g ws vs all ks
-seats_append g (tells t x ∷ ws) vs all ks = seats_append g ws vs (with_chat t (said g t x (all t)).conn all) (seated t (said g t x (all t)).conn ks)
+-- where all parts that were there are kept
+pub open_conns : (a b : Stays Item ChatOf) (es : List Entry) → AllSeated a es → KeptOpen a b → conns_of b es ≡ conns_of a es
+open_conns a b es seated k =
+    map_agrees (conn_of_seat b) (conn_of_seat a) es (λ n f at. ap (λ (x : ChatOf). (f.0, conn_in x.conn)) (k.chats f.1.place ((seated n f at).is_open)))
 
-pub then_seated : (sv : ServerOf) (ws vs : List Step) (o p : Outcome) → IsRight sv ws o → SeatsShow sv ws o → SeatsShow o.server vs p → SeatsShow sv (ws ++ vs) p
-then_seated sv ws vs o p right first next =
-    next ∙ (λ j. seats_after (right.setting j) vs (sym right.shows j).chats (first j)) ∙ sym (seats_append sv.setting ws vs (chats_of sv) (keys_of sv.conns))
+absent_seat : (st : Stays Item ChatOf) (t : Tuple) (es : List Entry) → IsAbsent (tuple_eq t) (conns_of st es) → IsAbsent (tuple_eq t) es
+absent_seat st t [] h = tt
+absent_seat st t (e ∷ es) h = (h.0, absent_seat st t es h.1)
 
-pub moved_seated : (a b : ServerOf) → a.conns ≡ b.conns → a.setting ≡ b.setting → (ws : List Step) (o : Outcome) → SeatsShow a ws o → SeatsShow b ws o
-moved_seated a b conns setting ws o h = h ∙ (λ j. seats_after (setting j) ws (λ q. lookup (tuple_eq q) (conns j)) (keys_of (conns j)))
+-- a connection comes behind the others
+module _ (a b : Stays Item ChatOf) (es : List Entry) (c : ℕ) (t : Tuple) (d : Conn) (facts : Facts) (facts_are : facts ≡ facts_of d) (seated : AllSeated a es) (kept : KeptOpen a b) (begun : Begins c t d a b)
+    (new : IsNew t (conns_of a es)) where
+  abbrev its_seat : Seat
+  its_seat = record { place = c; facts = facts }
 
-pub chosen_seated : (b : Bool) (sv : ServerOf) (ws vs : List Step) (o p : Outcome) → SeatsShow sv ws o → SeatsShow sv vs p → SeatsShow sv (cond b ws vs) (cond b o p)
-chosen_seated true sv ws vs o p here there = here
-chosen_seated false sv ws vs o p here there = there
+  absent : IsAbsent (tuple_eq t) es
+  absent = absent_seat a t es (absent_from_lookup (tuple_eq t) (conns_of a es) new)
 
-pub silent_seated : (b : Bool) (sv : ServerOf) (ws vs : List Step) (x y : ServerOf) → SeatsShow sv ws (sends_nothing x) → SeatsShow sv vs (sends_nothing y) → SeatsShow sv (cond b ws vs) (sends_nothing (cond b x y))
-silent_seated true sv ws vs x y here there = here
-silent_seated false sv ws vs x y here there = there
+  pub entered_last : insert_entry tuple_eq es t its_seat ≡ es ++ (t, its_seat) ∷ []
+  entered_last = insert_entry-absent tuple_eq t its_seat es absent
 
--- one that is told something
-pub told_seated : (sv : ServerOf) (t : Tuple) (x : Item) (o : Outcome) (s : Said) (r : Option ℕ) → said sv.setting t x (conn_of t sv) ≡ s → place_of t sv.conns ≡ r
-    → keys_of o.server.conns ≡ seated_at t s.conn r (keys_of sv.conns) → SeatsShow sv (tells t x ∷ []) o
-told_seated sv t x o s r is at h = h ∙ (λ j. seated_at t (sym is j).conn (sym at j) (keys_of sv.conns))
+  pub pushed_seated : AllSeated b (es ++ (t, its_seat) ∷ [])
+  pushed_seated k f there = elim (in_pushed es (t, its_seat) k f there) [
+    | inl r ↦ seated_open a b f kept (seated r.0 f r.1)
+    | inr r ↦ subst (IsSeated b) (sym r) (record { is_open = begun.is_open; ends = begun.ends_are; conn = d; its_conn = begun.conn_is; facts = facts_are })
+  ]
 
-module _ (i : ℕ) (t : Tuple) (c : Conn) (sv : ServerOf) (at : place_of t sv.conns ≡ Some i) where
-  abbrev set_there : Conns
-  set_there = set_value_at sv.conns i (emptied c)
+  pub pushed_conns : conns_of b (es ++ (t, its_seat) ∷ []) ≡ conns_of a es ++ (t, d) ∷ []
+  pushed_conns =
+      map_append (conn_of_seat b) es ((t, its_seat) ∷ [])
+      ∙ (λ j. open_conns a b es seated kept j ++ (t, conn_in (begun.conn_is j)) ∷ [])
 
-  replaced_is : replaced i c sv.conns ≡ cond (is_over c) (without i set_there) set_there
-  unfolding replaced settled emptied
-  replaced_is = ap (λ (x : Conn). cond (is_over x) (without i set_there) set_there) (conn_written sv.conns i (emptied c) (within_at t sv.conns i at))
+  pub pushed_distinct : IsDistinct tuple_eq (keys_of es) → IsDistinct tuple_eq (keys_of (es ++ (t, its_seat) ∷ []))
+  pushed_distinct h = distinct_push tuple_eq tuple_equivalence es (t, its_seat) h absent
 
-  kept_keys : (b : Bool) → keys_of (cond b (without i set_there) set_there) ≡ seated_at t (cond b None (Some (emptied c))) (Some i) (keys_of sv.conns)
-  kept_keys true = keys_without i set_there ∙ ap (left_free i) (keys_set_value_at sv.conns i (emptied c))
-  kept_keys false = keys_set_value_at sv.conns i (emptied c)
+module _ {R : Type 0} (limits : R → Limits) (s : Named R) (o : Chats) where
+  pub but_one : (i : ℕ) (p : Pass Element) (st : Stays Item ChatOf) (es : List Entry) → HasSeats limits s o p st es → i < length es → HasSeatsBut limits s o i p st es
+  but_one i p st es h lt =
+      let at = entry_there es i lt in
+      let its = h.seated i at.0 at.1 in
+      record {
+        settled = h.settled;
+        seated = λ k e there _. h.seated k e there;
+        left = at.0;
+        its_place = at.1;
+        is_open = its.is_open;
+        ends = its.ends;
+        distinct = h.distinct;
+        paid = h.paid;
+      }
 
-  becomes_seated : (x : Item) → said sv.setting t x (conn_of t sv) ≡ becoming t c → SeatsShow sv (tells t x ∷ []) (becomes i t c sv)
-  unfolding becomes
-  becomes_seated x is = told_seated sv t x (becomes i t c sv) (becoming t c) (Some i) is at (ap (λ (l : Conns). keys_of l) replaced_is ∙ kept_keys (is_over c))
+  pub kept_seats : (p q : Pass Element) (a b : Stays Item ChatOf) (es : List Entry) → HasSeats limits s o p a es → IsSettled limits s o q b → KeptOpen a b → length es ≤ (life_of b).asks → HasSeats limits s o q b es
+  kept_seats p q a b es h settled k paid = record {
+    settled = settled;
+    seated = λ n f at. seated_open a b f k (h.seated n f at);
+    distinct = h.distinct;
+    paid = paid;
+  }
 
-pub time_to_seated : (now : ℕ) (t : Tuple) (sv : ServerOf) → SeatsShow sv (way_time_to now t sv) (time_to now t sv)
-unfolding time_to
-time_to_seated now t sv = by (place_of t sv.conns) refl
-  where
-    by : (r : Option ℕ) → place_of t sv.conns ≡ r
-        → SeatsShow sv (option_map_or (λ (place : ℕ). tells t (time now) ∷ []) r []) (option_map_or (λ (place : ℕ). becomes place t (reached now (conn_at place sv.conns)) sv) r (sends_nothing sv))
-    by None at = refl
-    by (Some i) at = becomes_seated i t (reached now (conn_at i sv.conns)) sv at (time now) (ap (λ (o : Option Conn). time_said t now o) (conn_looked t sv.conns i at))
+-- what a time makes of a connection
+module _ (now : ℕ) (time : now ≤ last_time) (t : Tuple) (d : Conn) where
+  least : min now last_time ≡ now
+  least = omega (arith, time)
 
-pub goes_on_seated : (now : ℕ) (s : Seg) (text : List ℕ) (sv : ServerOf) (i : ℕ) → place_of (tuple_of s) sv.conns ≡ Some i → SeatsShow sv (way_goes_on now s text sv) (goes_on now s text i sv)
-unfolding goes_on
-goes_on_seated now s text sv i at =
-    let t = tuple_of s in
-    let c = conn_at i sv.conns in
-    let sv1 : ServerOf = judging (judged now s text c) sv in
-    moved_seated sv1 sv refl refl (way_goes_on now s text sv) (becomes i t (served now s text sv c) sv1)
-    (becomes_seated i t (served now s text sv c) sv1 at (segment now (number_for sv.secret now s) s text)
-    (ap (λ (o : Option Conn). segment_said sv.setting t now (number_for sv.secret now s) s text o) (conn_looked t sv.conns i at)))
+  pub timed_conn : conn_in (hearing (Time now) (chat_of t d)).conn ≡ emptied (reached now d)
+  unfolding hearing
+  timed_conn = ap (λ (n : ℕ). emptied (reached n d)) least
 
-pub yields_seated : (w : Tuple × ℕ) (sv : ServerOf) → SeatsShow sv (way_yields w sv) (sends_nothing (yields w sv))
-unfolding yields yields_at
-yields_seated w sv = by (place_of w.0 sv.conns) refl
-  where
-    by : (r : Option ℕ) → place_of w.0 sv.conns ≡ r
-        → SeatsShow sv (option_map_or (λ (place : ℕ). cond (is_waiting w.1 (conn_at place sv.conns)) (tells w.0 leaves ∷ []) []) r [])
-        (sends_nothing (option_map_or (λ (place : ℕ). cond (is_waiting w.1 (conn_at place sv.conns)) (gives_way place sv) sv) r sv))
-    by None at = refl
-    by (Some i) at =
-        silent_seated (is_waiting w.1 (conn_at i sv.conns)) sv (tells w.0 leaves ∷ []) [] (gives_way i sv) sv
-        (told_seated sv w.0 leaves (sends_nothing (gives_way i sv)) (record { conn = None; sent = [] }) (Some i) refl at (keys_without i sv.conns)) refl
+  pub timed_sent : (hearing (Time now) (chat_of t d)).sent ≡ sent_by t (reached now d)
+  unfolding hearing
+  timed_sent = ap (λ (n : ℕ). sent_by t (reached n d)) least
 
-pub yielding_seated : (ts : List (Tuple × ℕ)) (sv : ServerOf) → IsTable sv → SeatsShow sv (way_yielding ts sv) (sends_nothing (yielding ts sv))
-yielding_seated [] sv table = refl
-yielding_seated (t ∷ ts) sv table =
-    let sv1 : ServerOf = record sv { waiting = ts } in
-    let table1 : IsTable sv1 = record { once = table.once; bounded = table.bounded } in
-    let next : ServerOf = yields t sv1 in
-    let one = yields_right t sv1 table1 in
-    silent_seated (has_place sv) sv [] (way_yields t sv1 ++ way_yielding ts next) sv (yielding ts next) refl
-    (then_seated sv1 (way_yields t sv1) (way_yielding ts next) (sends_nothing next) (sends_nothing (yielding ts next)) one (yields_seated t sv1) (yielding_seated ts next one.table))
-
-pub place_none : (t : Tuple) (cs : Conns) → IsNew t cs → place_of t cs ≡ None
-place_none t cs new = by (place_of t cs) refl
-  where
-    by : (r : Option ℕ) → place_of t cs ≡ r → place_of t cs ≡ None
-    by None at = at
-    by (Some i) at = absurd (true≢false (sym (ap is_some (conn_looked t cs i at)) ∙ ap is_some new))
-
-pub takes_seated : (t : Tuple) (c : Conn) (sv : ServerOf) → IsNew t sv.conns → SeatsShow sv (way_takes t c sv) (takes_place t c sv)
-unfolding takes_place
-takes_seated t c sv new =
-    chosen_seated (has_place sv) sv (tells t (opens (numbered sv c)) ∷ []) [] (takes_free t c sv) (turns_away sv)
-    (told_seated sv t (opens (numbered sv c)) (takes_free t c sv) (record { conn = Some (emptied (numbered sv c)); sent = sent_by t c }) None refl (place_none t sv.conns new)
-    (keys_push sv.conns (t, emptied (numbered sv c)))) refl
-
-pub opens_seated : (now : ℕ) (s : Seg) (text : List ℕ) (sv : ServerOf) → IsTable sv → IsNew (tuple_of s) sv.conns → SeatsShow sv (way_opens now s text sv) (opening now s text sv)
-unfolding way_opens opening
-opens_seated now s text sv table new =
-    let t = tuple_of s in
-    let c : Conn = served now s text sv (fresh sv.setting now s) in
-    let room : ServerOf = makes_place sv in
-    let left = yielding_right sv.waiting sv table in
-    chosen_seated (is_over c) sv (sends (sent_by t c) ∷ []) (way_yielding sv.waiting sv ++ way_takes t c room) (sends_of t c sv) (takes_place t c room) refl
-    (then_seated sv (way_yielding sv.waiting sv) (way_takes t c room) (sends_nothing room) (takes_place t c room) left (yielding_seated sv.waiting sv table)
-    (takes_seated t c room (yielding_new t sv.waiting sv new)))
-
-pub comes_seated : (now : ℕ) (s : Seg) (text : List ℕ) (sv : ServerOf) → IsTable sv → SeatsShow sv (way_comes now s text sv) (comes now s text sv)
-unfolding way_comes comes
-comes_seated now s text sv table = by (place_of (tuple_of s) sv.conns) refl
-  where
-    by : (r : Option ℕ) → place_of (tuple_of s) sv.conns ≡ r
-        → SeatsShow sv (option_map_or (λ (place : ℕ). way_goes_on now s text sv) r (way_opens now s text sv)) (option_map_or (λ (place : ℕ). goes_on now s text place sv) r (opening now s text sv))
-    by None at = opens_seated now s text sv table (new_from_place (tuple_of s) sv.conns at)
-    by (Some i) at = goes_on_seated now s text sv i at
-
-pub heeds_seated : (now : ℕ) (s : Seg) (text : List ℕ) (sv : ServerOf) → IsTable sv → SeatsShow sv (way_heeds now s text sv) (heeds now s text sv)
-unfolding way_heeds heeds
-heeds_seated now s text sv table =
-    let noted : ServerOf = noting text sv in
-    let same = noted_same text sv (fits text sv) in
-    let s1 : Seg = heeded s text sv in
-    let text1 : List ℕ = heeded_text text sv in
-    moved_seated noted sv same.0 same.1 (way_comes now s1 text1 noted) (comes now s1 text1 noted) (comes_seated now s1 text1 noted (quiet_right sv noted same.0 same.1 table))
-
-pub segment_seated : (now : ℕ) (s : Seg) (text : List ℕ) (sv : ServerOf) → IsTable sv → SeatsShow sv (way_segment now s text sv) (on_segment now s text sv)
-unfolding way_segment on_segment
-segment_seated now s text sv table =
-    let t = tuple_of s in
-    let first = time_to_right now t sv table in
-    let here : ServerOf = (time_to now t sv).server in
-    then_seated sv (way_time_to now t sv) (way_heeds now s text here) (time_to now t sv) (heeds now s text here) first (time_to_seated now t sv) (heeds_seated now s text here first.table)
-
-pub addressed_seated : (now : ℕ) (s : Seg) (text : List ℕ) (sv : ServerOf) → IsTable sv → SeatsShow sv (way_addressed now s text sv) (addressed now s text sv)
-unfolding way_addressed addressed
-addressed_seated now s text sv table =
-    let astray : ServerOf = record sv { counts = record sv.counts { astray = more 1 sv.counts.astray } } in
-    let refusing : ServerOf = record sv { counts = record sv.counts { refused = more 1 sv.counts.refused } } in
-    let s1 : Seg = limited sv.setting.segment s in
-    let elsewhere : Outcome = record { server = refusing; sent = refused now s } in
-    chosen_seated (not (is_for_us sv.setting s)) sv [] (cond (is_served_at sv.setting.ports s.dst_port) (way_segment now s1 text sv) (sends (refused now s) ∷ []))
-    (sends_nothing astray) (cond (is_served_at sv.setting.ports s.dst_port) (on_segment now s1 text sv) elsewhere)
-    refl
-    (chosen_seated (is_served_at sv.setting.ports s.dst_port) sv (way_segment now s1 text sv) (sends (refused now s) ∷ []) (on_segment now s1 text sv) elsewhere
-    (segment_seated now s1 text sv table) refl)
-
-pub packet_seated : (now : ℕ) (body : List ℕ) (p : Packet) (sv : ServerOf) → IsTable sv → SeatsShow sv (way_packet now body p sv) (on_packet now body p sv)
-unfolding way_packet on_packet
-packet_seated now body (packet.Segment s) sv table = addressed_seated now s (text_in s body) sv table
-packet_seated now body packet.Other sv table = refl
-packet_seated now body packet.Fragment sv table = refl
-packet_seated now body packet.Cut sv table = refl
-packet_seated now body (packet.Malformed why) sv table = refl
-packet_seated now body packet.BadSum sv table = refl
-
-pub door_keeps_order : DoorKeepsOrder
-unfolding way_datagram on_datagram
-door_keeps_order now body sv table = packet_seated now body (packet_in RawIp body true) sv table
+module _ {R : Type 0} (limits : R → Limits) (s : Named R) (o : Chats) where
+  pub good_but : (closes : Pass Element → Type 0) (pass : Option (Pass Element)) (q : Pass Element) (st : Stays Item ChatOf) (es : List Entry) (i : ℕ) → IsGood limits s o closes pass st es → pass ≡ Some q → i < length es
+      → HasSeatsBut limits s o i q st es
+  good_but closes pass q st es i h is lt =
+      subst (λ (p : Pass Element). HasSeatsBut limits s o i p st es) (one (sym h.is_there ∙ is)) (but_one limits s o i h.its_pass st es h.seats lt)
+    where
+      one : Some h.its_pass ≡ Some q → h.its_pass ≡ q
+      one e = cc

@@ -1,70 +1,73 @@
--- A chat at its place: what an item tells it, and what it becomes. Times after the last one count as the last one.
-use Rattle.std.specs.Prelude.{◌≡◌, ℕ, min, Bool, true, false, Option, None, Some, List, [], ◌∷◌, ◌++◌, drop, if◌then◌else◌}
+-- A chat: one connection at its place, and what each item makes of it. Times after the last one count as the last one.
+use Rattle.std.specs.Prelude.{◌≡◌, ℕ, min, Bool, true, false, Option, None, Some, List, [], ◌∷◌}
+use Rattle.segment_codec.specs.declared.packet.Seg.{Seg}
 use Rattle.sq_base.specs.declared.kinds.Tuple.{Tuple}
 use Rattle.tcb_machine.specs.Limits.{last_time}
-use Rattle.live_server.specs.Acts.{is_half_open}
+use Rattle.live_server.specs.Acts.{Meeting, emptied, meets, no_conn, reached, sent_by}
 use Rattle.live_server.specs.declared.acting.Datagram.{Datagram}
 use Rattle.live_server.specs.declared.conn.Conn.{Conn}
-use Rattle.live_server.specs.declared.setting.Setting.{Setting}
-use Rattle.live_chats.specs.Chats.{Item, Said, leaves, opens, said, segment, time}
-use Rattle.live_chats.specs.declared.answer.Standing.{Standing}
-use Rattle.live_chats.specs.declared.answer.Standing.TheVariants as standing
-use Rattle.live_chats.specs.declared.item.Item.{Item as Brought}
-use Rattle.live_chats.specs.declared.item.Item.TheVariants as item
+use Rattle.live_server.specs.declared.conn.Met.{Met}
+use Rattle.live_chats.specs.declared.item.Item.{Item}
+use Rattle.live_chats.specs.declared.item.Item.TheVariants.{Meets, Opens, Time}
 
--- what an item tells
-abbrev pub told : Brought → Item
-told (item.Opens ends conn) = opens conn
-told item.Leaves = leaves
-told (item.Segment now iss seg text) = segment (min now last_time) iss seg text.items
-told (item.Time now) = time (min now last_time)
-
--- the two ends of the connection that began last
-abbrev pub ends_behind : Brought → Tuple → Tuple
-ends_behind (item.Opens ends conn) before = ends
-ends_behind item.Leaves before = before
-ends_behind (item.Segment now iss seg text) before = before
-ends_behind (item.Time now) before = before
-
--- how what stands at two ends stands
-abbrev pub standing_of : Option Conn → Standing
-standing_of None = standing.Over
-standing_of (Some c) = if is_half_open c then standing.HalfOpen else standing.Open
-
--- what is answered to one item
-pub record AnswerOf : Type 0 where
-  pub sent : List Datagram
-  pub standing : Standing
-
-abbrev pub answer_of : Said → AnswerOf
-answer_of x = record { sent = x.sent; standing = standing_of x.conn }
-
--- the two ends of the connection that began last, the connection, where it isn't over, what was answered and isn't taken out yet, and
--- whether memory was missing
+-- the two ends; the connection, where one began, also when it is over; what was sent at the last item, and, where that was a segment, what
+-- became of it; and whether memory was missing
 pub record ChatOf : Type 0 where
   pub ends : Tuple
   pub conn : Option Conn
-  pub answers : List AnswerOf
+  pub sent : List Datagram
+  pub met : Option Met
   pub lost : Bool
 
--- what an item says to it
-abbrev pub said_to : Setting → Brought → ChatOf → Said
-said_to g x c = said g (ends_behind x c.ends) (told x) c.conn
+-- no ends
+abbrev pub no_ends : Tuple
+no_ends = record { client = record { 0 = 0 }; client_port = 0; server = record { 0 = 0 }; server_port = 0 }
 
--- it becomes what is said, and the answer goes behind those that are there
-abbrev pub hearing : Setting → Brought → ChatOf → ChatOf
-hearing g x c = record c { ends = ends_behind x c.ends; conn = (said_to g x c).conn; answers = c.answers ++ answer_of (said_to g x c) ∷ [] }
+-- a chat in which nobody is yet
+abbrev pub nobody : ChatOf
+nobody = record { ends = no_ends; conn = None; sent = []; met = None; lost = false }
+
+-- nothing is sent
+abbrev pub silent : ChatOf → ChatOf
+silent c = record c { sent = []; met = None }
+
+-- a segment has come to its connection, or the time has
+abbrev pub met_by : Meeting → ChatOf → ChatOf
+met_by m c = record c { conn = Some (emptied m.conn); sent = m.sent; met = Some m.met }
+
+abbrev pub timed : Conn → ChatOf → ChatOf
+timed d c = record c { conn = Some (emptied d); sent = sent_by c.ends d; met = None }
+
+abbrev pub meeting : ℕ → ℕ → Seg → List ℕ → Option Conn → ChatOf → ChatOf
+meeting now iss s text None c = silent c
+meeting now iss s text (Some d) c = met_by (meets now iss s text c.ends d) c
+
+abbrev pub timing : ℕ → Option Conn → ChatOf → ChatOf
+timing now None c = silent c
+timing now (Some d) c = timed (reached now d) c
+
+-- what an item makes of a chat
+unfoldable pub hearing : Item → ChatOf → ChatOf
+hearing (Opens ends conn) c = record c { ends = ends; conn = Some conn.value; sent = []; met = None }
+hearing (Meets now iss seg text) c = meeting (min now last_time) iss seg text.items c.conn c
+hearing (Time now) c = timing (min now last_time) c.conn c
+
+-- one after another
+abbrev pub hearing_all : List Item → ChatOf → ChatOf
+hearing_all [] c = c
+hearing_all (x ∷ xs) c = hearing_all xs (hearing x c)
+
+-- the connection of a chat
+abbrev pub conn_in : Option Conn → Conn
+conn_in None = no_conn
+conn_in (Some c) = c
 
 -- memory was missing
 abbrev pub losing : ChatOf → ChatOf
-losing c = record c { conn = None; lost = true }
+losing c = record c { conn = None; sent = []; met = None; lost = true }
 
--- the first k answers were taken out
-abbrev pub collecting : ℕ → ChatOf → ChatOf
-collecting k c = record c { answers = drop k c.answers }
-
--- A chat was told x, and some of the answers may have been taken out since. Where memory was missing it stays as it is
-pub record Hears (g : Setting) (from : ChatOf) (x : Brought) (to : ChatOf) : Type 0 where
-  pub hears : to.lost ≡ false → (k : ℕ) × (to ≡ collecting k (hearing g x from))
+-- A chat was told x. Where memory is missing its connection is lost, and from then on it stays as it is
+pub record Hears (from : ChatOf) (x : Item) (to : ChatOf) : Type 0 where
+  pub hears : to.lost ≡ false → to ≡ hearing x from
   pub loses : from.lost ≡ false → to.lost ≡ true → to ≡ losing from
   pub stopped : from.lost ≡ true → to ≡ from

@@ -1,111 +1,178 @@
-//! A chat: one connection after another at one place, what it answered, and whether memory was missing.
+//! A chat: the connection at one place, what it answered last, and whether memory was missing.
 
-ghost use Rattle.std.specs.Prelude.{◌≡◌, ◌∷◌, ◌++◌, [], true, false, None, IfOk, OnErr, OnOk};
-ghost use Rattle.live_chats.specs.Chats.{said};
-ghost use Rattle.live_chats.specs.Hearing.{answer_of, ends_behind, hearing, losing, told};
+ghost use Rattle.std.specs.Prelude.{◌≡◌, ◌≤◌, [], None, OnErr, OnOk};
+ghost use Rattle.std.specs.Option.{option_copied};
+ghost use Rattle.tcb_machine.specs.Limits.{last_time};
+ghost use Rattle.live_chats.specs.Hearing.{Hears, hearing, losing, meeting, nobody, timing};
 
-use crate::answer::Answer;
 use crate::item::Item;
-use crate::said::said;
-use live_server::{Conn, Datagram, Setting};
-use sq_base::Tuple;
+use live_server::{Conn, Datagram, Met};
+use segment_codec::Seg;
+use sq_base::{Addr, Tuple};
 use std::alloc::{AllocError, Global};
 use std::marker::Model;
 use std::mem::replace;
+use tcb_machine::LAST_TIME;
 
-/// A chat: the two ends of the connection that began last, the connection where it isn't over, what was answered and not taken out
-/// yet, item by item, and whether memory was missing.
+/// A chat: the two ends of the connection that began last, that connection, also when it is over, what was sent at the last item and, where
+/// that was a segment, what became of it; and whether memory was missing.
 #[derive(Drop)]
 pub struct Chat {
     ends: Tuple,
-    conn: Option<Conn>,
-    answers: Vec<Answer>,
+    conn: Option<Box<Conn>>,
+    sent: Vec<Datagram>,
+    met: Option<Met>,
     lost: bool,
 }
 
 impl Model for Chat {
+    ghost use Rattle.std.specs.Option.{option_map};
     ghost use Rattle.live_chats.specs.Hearing.{ChatOf};
 
     ghost Value = { ChatOf };
 
-    ghost view = { λ c. record { ends = c.ends; conn = c.conn; answers = c.answers.items; lost = c.lost } };
+    ghost view = { λ c. record { ends = c.ends; conn = option_map (λ b. b.value) c.conn; sent = c.sent.items; met = c.met; lost = c.lost } };
 }
 
 impl Chat {
-    /// A chat where nobody was yet, and the two ends for which it answers until a connection begins. It takes no memory.
-    pub fn new(alloc: Global, ends: Tuple) -> Chat
-        ensures { result ≡ record { ends = ends; conn = None; answers = []; lost = false } }
+    /// A chat in which nobody is yet. It takes no memory.
+    pub fn new(alloc: Global) -> Chat
+        ensures { result ≡ nobody }
     {
+        let ends = Tuple {
+            client: Addr(0),
+            client_port: 0,
+            server: Addr(0),
+            server_port: 0,
+        };
         Chat {
             ends,
             conn: None,
-            answers: Vec::new(alloc),
+            sent: Vec::new(alloc),
+            met: None,
             lost: false,
         }
     }
 
-    /// Whether memory was missing. Then its connection is gone, what it answered stays, and it takes nothing more.
+    /// Whether memory was missing. Then its connection is lost, and it takes nothing more.
     pub fn is_lost(&self) -> bool
         ensures { result ≡ self.now.lost }
     {
         self.lost
     }
 
-    /// It is told an item, and answers it. Where memory is missing, its connection is lost.
-    pub fn take(&mut self, alloc: Global, setting: &Setting, item: Item)
-        ensures heard { self.new.lost ≡ false → self.new ≡ hearing setting.now item self.old }
-        ensures loses { self.old.lost ≡ false → self.new.lost ≡ true → self.new ≡ losing self.old }
-        ensures stopped { self.old.lost ≡ true → self.new ≡ self.old }
+    /// What was sent at the last item, oldest first.
+    pub fn sent(&self) -> &[Datagram]
+        ensures { result.now ≡ self.now.sent }
+    {
+        self.sent.as_slice()
+    }
+
+    /// What became of the last item, where that was a segment.
+    pub fn met(&self) -> Option<Met>
+        ensures { result ≡ self.now.met }
+    {
+        self.met
+    }
+
+    /// The connection that began last.
+    pub fn conn(&self) -> Option<&Conn>
+        ensures { option_copied result ≡ self.now.conn }
+    {
+        match &self.conn {
+            Some(conn) => Some(conn),
+            None => None,
+        }
+    }
+
+    /// It is told an item. Where memory is missing, its connection is lost.
+    pub fn take(&mut self, alloc: Global, item: Item)
+        ensures { Hears self.old item self.new }
     {
         if self.lost {
             return;
         }
-        let ends = ends_behind(&item, self.ends);
-        let conn = replace(&mut self.conn, None);
-        match self.answer(alloc, setting, &ends, item, conn) {
-            Ok(conn) => {
-                self.ends = ends;
-                self.conn = conn;
-            }
-            Err(_) => self.lost = true,
+        self.sent.clear();
+        self.met = None;
+        match self.hear(alloc, item) {
+            Ok(()) => {}
+            Err(_) => self.lose(),
         }
     }
 
-    // What the item makes of what stands at the two ends; the answer goes behind those that are there.
-    fn answer(
+    // What an item makes of it. After an error only its ends are known.
+    #[tactic(auto, unfolding(crate::specs::Hearing::hearing))]
+    fn hear(&mut self, alloc: Global, item: Item) -> Result<(), AllocError>
+        requires sent { self.old.sent ≡ [] }
+        requires met { self.old.met ≡ None }
+        ensures hears { OnOk result (self.new ≡ hearing item self.old) }
+        ensures ends { OnErr result (self.new.ends ≡ self.old.ends) }
+    {
+        match item {
+            Item::Opens { ends, conn } => {
+                self.ends = ends;
+                self.conn = Some(conn);
+                Ok(())
+            }
+            Item::Meets {
+                now,
+                iss,
+                seg,
+                text,
+            } => self.meet(alloc, now.min(LAST_TIME), iss, &seg, text.as_slice()),
+            Item::Time { now } => self.time(alloc, now.min(LAST_TIME)),
+        }
+    }
+
+    // A segment comes, behind the time.
+    fn meet(
         &mut self,
         alloc: Global,
-        setting: &Setting,
-        ends: &Tuple,
-        item: Item,
-        conn: Option<Conn>,
-    ) -> Result<Option<Conn>, AllocError>
-        ensures conn { IfOk result (λ r. r ≡ (said setting.now ends.now (told item) conn).conn) }
-        ensures chat { OnOk result (self.new ≡ record self.old { answers = self.old.answers ++ answer_of (said setting.now ends.now (told item) conn) ∷ [] }) }
-        ensures same { OnErr result (self.new ≡ self.old) }
+        now: u64,
+        iss: u32,
+        seg: &Seg,
+        text: &[u8],
+    ) -> Result<(), AllocError>
+        requires time { now ≤ last_time }
+        requires sent { self.old.sent ≡ [] }
+        requires met { self.old.met ≡ None }
+        ensures hears { OnOk result (self.new ≡ meeting now iss seg.now text.now self.old.conn self.old) }
+        ensures ends { OnErr result (self.new.ends ≡ self.old.ends) }
     {
-        let mut sent = Vec::new(alloc);
-        let conn = said(alloc, setting, ends, item, conn, &mut sent)?;
-        self.answers.push(Answer::of(sent, &conn))?;
-        Ok(conn)
+        let Some(mut conn) = replace(&mut self.conn, None) else {
+            return Ok(());
+        };
+        let ends = self.ends;
+        let met = conn.meet(alloc, now, iss, seg, text, &ends, &mut self.sent)?;
+        self.conn = Some(conn);
+        self.met = Some(met);
+        Ok(())
     }
 
-    /// What it answered is taken out, item by item.
-    pub fn collect(&mut self, alloc: Global) -> Vec<Answer>
-        requires { self.old.lost ≡ false }
-        ensures answers { result.items ≡ self.old.answers }
-        ensures rest { self.new ≡ record self.old { answers = [] } }
+    // The time comes.
+    fn time(&mut self, alloc: Global, now: u64) -> Result<(), AllocError>
+        requires time { now ≤ last_time }
+        requires sent { self.old.sent ≡ [] }
+        requires met { self.old.met ≡ None }
+        ensures hears { OnOk result (self.new ≡ timing now self.old.conn self.old) }
+        ensures ends { OnErr result (self.new.ends ≡ self.old.ends) }
     {
-        replace(&mut self.answers, Vec::new(alloc))
+        let Some(mut conn) = replace(&mut self.conn, None) else {
+            return Ok(());
+        };
+        let ends = self.ends;
+        conn.time(alloc, now, &ends, &mut self.sent)?;
+        self.conn = Some(conn);
+        Ok(())
     }
-}
 
-/// The two ends of the connection that began last.
-fn ends_behind(item: &Item, before: Tuple) -> Tuple
-    ensures { result ≡ ends_behind item.now before }
-{
-    match item {
-        Item::Opens { ends, .. } => *ends,
-        _ => before,
+    // Memory was missing.
+    fn lose(&mut self)
+        ensures { self.new ≡ losing self.old }
+    {
+        self.conn = None;
+        self.sent.clear();
+        self.met = None;
+        self.lost = true;
     }
 }

@@ -1,32 +1,26 @@
 //! Chats as the parts of a squeue's resident: whoever owns the squeue tells them what was brought.
 
 ghost use Rattle.std.specs.Prelude.{◌≡◌};
-ghost use Rattle.live_chats.specs.Hearing.{Hears};
-ghost use Rattle.live_chats.specs.Places.{IsFirst, first_of, setting_of};
+ghost use Rattle.live_chats.specs.Telling.{IsFirst, Tells, first_of};
 
 use crate::chat::Chat;
 use crate::item::Item;
-use live_server::Setting;
 use perimeter_core::Known;
 use squeue_streams::{Steps, Stream};
 use std::alloc::{AllocError, Global};
 
-/// What all chats of a squeue have in common: what their server was started with, and for contracts alone the streams with which a run
-/// begins, by number.
+/// What all chats of a squeue have in common: for contracts alone the streams with which a run begins, by number.
 #[derive(Drop)]
 pub struct Chats {
-    setting: Setting,
     first: Known<Vec<Stream<Item, Chat>>>,
 }
 
 impl Chats {
-    /// Chats of a server that was started with this, whose streams begin as these, by number.
-    pub fn of(setting: Setting, streams: &Vec<Stream<Item, Chat>>) -> Chats
-        ensures setting { setting_of result ≡ setting }
-        ensures first { first_of result ≡ streams.now.items }
+    /// Chats whose streams begin as these, by number.
+    pub fn of(streams: &Vec<Stream<Item, Chat>>) -> Chats
+        ensures { first_of result ≡ streams.now.items }
     {
         Chats {
-            setting,
             first: Known::of(streams),
         }
     }
@@ -43,7 +37,7 @@ impl Steps for Chats {
 
     ghost begins = { IsFirst };
 
-    ghost step = { λ o. Hears (setting_of o) };
+    ghost step = { Tells };
 
     // A stream's ring is made with it, and there is no other: so none is begun here.
     fn begin(&self, _alloc: Global, _c: u32) -> Result<Chat, AllocError> {
@@ -51,6 +45,6 @@ impl Steps for Chats {
     }
 
     fn take(&self, alloc: Global, chat: &mut Chat, item: Item) {
-        chat.take(alloc, &self.setting, item);
+        chat.take(alloc, item);
     }
 }

@@ -7,15 +7,13 @@ use sq_base::Tuple;
 /// What a chat is told. Times are in microseconds, and one after 2^62 counts as 2^62.
 #[derive(Drop)]
 pub enum Item {
-    /// The connection of these two ends begins, and what its block has sent goes out.
+    /// A connection of these two ends begins, of which everything is sent that it had to send.
     Opens {
         ends: Tuple,
-        conn: Conn,
+        conn: Box<Conn>,
     },
-    /// It gives way, or leaves in time.
-    Leaves,
-    /// A segment comes with its text, and with the initial sequence number for one that opens.
-    Segment {
+    /// A segment comes with its text, behind the time, and with the initial sequence number for one that opens.
+    Meets {
         now: u64,
         iss: u32,
         seg: Seg,

@@ -1,11 +1,6 @@
-//! Laws of the door and the chats: each is a function that does nothing, whose contract is the law.
+//! Laws of chats: each is a function that does nothing, whose contract is the law.
 
-ghost use Rattle.live_chats.specs.Facts.{DoorDecides, OrderIsSeen, SettledDoorsAreStale};
-ghost use Rattle.live_chats.specs.Places.{CollectedStand};
-ghost use Rattle.live_chats.specs.Reads.{ReadsServe};
-ghost use Rattle.live_chats.specs.Seats.{DoorKeepsOrder};
-ghost use Rattle.live_chats.specs.Stale.{OnlySynsOpen, StaleDoorsServe};
-ghost use Rattle.live_chats.specs.Times.{DoorTimes};
+ghost use Rattle.live_chats.specs.Telling.{ItemsTell};
 ghost use Rattle.live_chats.specs.Ways.{ServerIsChats};
 ghost use Rattle.live_chats.specs.Weaving.{ChatsAreApart, ServersAreChats};
 
@@ -14,7 +9,7 @@ pub fn chats_are_apart()
     ensures { ChatsAreApart }
 {}
 
-/// The steps that the door makes of frames leave each connection as the server does, and send what it sends.
+/// The steps that rules make of frames leave each connection as the server does, and send what it sends.
 pub fn a_server_is_chats()
     ensures { ServerIsChats }
 {}
@@ -24,49 +19,7 @@ pub fn servers_are_chats()
     ensures { ServersAreChats }
 {}
 
-/// Behind each datagram the door's seats are the ends in the table, in its order: they follow from the steps and from which chats are over.
-pub fn the_door_keeps_order()
-    ensures { DoorKeepsOrder }
-{}
-
-/// A door that doesn't know which chats are over serves a segment as the server does, where it is sure: the segment opens nothing, or
-/// nobody has its ends and a place is free.
-pub fn stale_doors_serve()
-    ensures { StaleDoorsServe }
-{}
-
-/// Only a SYN alone opens a connection, so the door is sure of each other segment by its flags.
-pub fn only_syns_open()
-    ensures { OnlySynsOpen }
-{}
-
-/// Such a door serves all datagrams of a read, where it is sure of each: the answers of its chats, woven as it noted them.
-pub fn reads_serve()
-    ensures { ReadsServe }
-{}
-
-/// Behind a settle the door decides as the server does, and reads no more of a connection than its ends, whether it is half open, and its
-/// number.
-pub fn the_door_decides()
-    ensures { DoorDecides }
-{}
-
-/// Behind a settle the door may serve the next read.
-pub fn settled_doors_are_stale()
-    ensures { SettledDoorsAreStale }
-{}
-
-/// It matters whether one leaves before another comes or behind it: the table is in another order then.
-pub fn the_order_is_seen()
-    ensures { OrderIsSeen }
-{}
-
-/// Behind a time that came to all, the door's seats and how much all hold are read off a few facts of each chat.
-pub fn the_door_times()
-    ensures { DoorTimes }
-{}
-
-/// A chat's stream stands for the same items when its answers were taken out.
-pub fn collected_chats_stand()
-    ensures { CollectedStand }
+/// Where memory wasn't missing a chat is what its items make of it, one after another.
+pub fn items_tell()
+    ensures { ItemsTell }
 {}

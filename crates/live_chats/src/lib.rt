@@ -1,18 +1,24 @@
-//! A live server as a door and its chats.
+//! The connections of a live server as chats, each of which is a part at a squeue.
 //!
-//! A chat is one connection by itself: what it is told, and what it answers. The door is the rest of the server: who has a place, who gives
-//! way, and where a datagram goes; it knows no block. The laws say that the two make the server, also where the door learns only now
-//! and then which chats are over. No thread, no squeue and no file is known here.
+//! A chat is one connection by itself: what it is told, and what it answered last. It is a function of its items. [`Chats`] are the parts of
+//! a squeue's resident, and [`Seats`] is a table of connections for a server's rules, whose connections are chats at the places of one pass:
+//! each call tells a chat, settles at an Ask of the pass, and looks at the answer, so that between two calls nothing is under way. The laws
+//! say that a server is its chats, told what its rules tell. No socket and no file is known here, and no thread is started.
 #![tactic(auto)]
 
-mod answer;
+mod asking;
 mod chat;
 mod chats;
+mod ear;
 mod item;
 pub mod laws;
-mod said;
+mod leaving;
+mod line;
+mod seat;
+mod seats;
+mod table;
 
-pub use answer::{Answer, Standing};
 pub use chat::Chat;
 pub use chats::Chats;
 pub use item::Item;
+pub use table::{Closes, Seats};

@@ -1,24 +1,24 @@
-//! The live server by several rings on squeues: each ring brings the datagrams of one stream, and the table that serves a stream is a
-//! part at a squeue.
+//! The live server by several rings on squeues: each ring is a server of one stream, by the rules of one thread, and its connections are
+//! parts at a squeue.
 //!
-//!     sqlive_rings --rings N --squeues M --mode MODE --budget N frames SECRET SETTING IN OUT ..
+//!     sqlive --rings N --squeues M --mode MODE --budget N frames SECRET SETTING IN OUT ..
 //!
-//! IN and OUT are N pairs of files or FIFOs: ring k reads frames from the k-th IN, and what its table sends goes as frames to the k-th
-//! OUT. A stream's time comes in its own frames. `making` is how rings, tables and a squeue are made, `running` what threads do with
-//! them, `gathering` what is left of them, and `one_squeue` all of it for the streams of one squeue. `serving` does so for each squeue
-//! beside the others, `words` and `process` are the program. It knows no clock and no device.
+//! IN and OUT are N pairs of files or FIFOs: ring k reads frames from the k-th IN, and what its connections and its rules send goes as
+//! frames to the k-th OUT. A stream's time comes in its own frames. `seating` is how places are made, dealt to rings and given to a squeue,
+//! `ring` what the threads of a squeue do, and `ring_squeue` a squeue from its making to its end. `groups` deals streams to squeues, `rings`
+//! serves these beside each other, `words` and `program` are the program. It knows no clock and no device.
 #![tactic(auto)]
 
-mod gathering;
-mod making;
-mod one_squeue;
-mod process;
-mod running;
-mod serving;
+mod ending;
+mod groups;
+mod program;
+mod ring;
+mod ring_squeue;
+mod rings;
+mod seating;
 mod words;
 
-pub use gathering::Ended;
-pub use making::Ends;
-pub use process::run_process;
-pub use serving::serve_streams;
+pub use ending::{Ended, Ends};
+pub use program::{asks_for_rings, run_program, setup_by};
+pub use rings::serve_rings;
 pub use words::{Setup, Words, rings_asked};

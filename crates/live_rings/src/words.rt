@@ -2,17 +2,16 @@
 
 ghost use Rattle.std.specs.Prelude.{◌≡◌, ◌≤◌, ◌+◌, ◌*◌, true, length, map, IfSome};
 ghost use Rattle.std.specs.String.{string_bytes};
-ghost use Rattle.live_rings.specs.Making.{server_of};
 ghost use Rattle.live_rings.specs.Words.{AreFew, are_in_range, asked, asked_behind, most_rings, secret_in, with_servers};
 
 use live_run::{Mode as Ends, Words as ServerWords, asked_in};
-use live_server::{Secret, Server, Setting};
+use live_server::{Secret, Setting};
 use shell::numeral;
 use squeue_enter::Mode;
 use squeue_streams::SourcePace;
-use std::alloc::Global;
 
-/// How a run is set up: its rings and squeues, how rings enter, and what each stream's server is started with.
+/// How a run is set up: its rings and squeues, how rings enter, what each stream's server is started with, and whether a ring goes on where
+/// memory is missing, which then costs a connection.
 #[derive(Clone, Copy)]
 pub struct Setup {
     pub rings: u32,
@@ -21,16 +20,10 @@ pub struct Setup {
     pub budget: u32,
     pub setting: Setting,
     pub secret: Secret,
+    pub goes_on: bool,
 }
 
 impl Setup {
-    /// A server of a stream to which nothing came.
-    pub fn server(&self, alloc: Global) -> Server
-        ensures { result ≡ server_of self.now }
-    {
-        Server::new(alloc, self.setting, self.secret)
-    }
-
     /// How rings enter.
     pub fn pace(&self) -> SourcePace
         requires { 1 ≤ self.now.budget }
@@ -52,10 +45,6 @@ pub struct Words {
     pub setting: Setting,
     pub secret: Option<Secret>,
 }
-
-/// What is told where the words are refused.
-pub const USAGE: &str =
-    "usage: sqlive_rings --rings N --squeues N --mode process|nodrain|fill --budget N frames SECRET SETTING IN OUT .., with an IN and an OUT for each ring";
 
 /// The most rings, one for each quota that a squeue may have, and the most squeues.
 pub const MOST_RINGS: u32 = 63;

@@ -2,9 +2,14 @@
 //! port that nobody serves, and what answers that has neither a time nor a secret in it.
 #![tactic(auto)]
 
+use live_rings::{asks_for_rings, run_program};
 use live_run::run_process;
 use std::process::ExitCode;
 
 fn main(rt: HostRuntime) -> ExitCode {
-    run_process(&rt)
+    if asks_for_rings(&rt) {
+        run_program(&rt)
+    } else {
+        run_process(&rt)
+    }
 }

@@ -10,5 +10,3 @@ mod live;
 mod queues;
 #[cfg(test)]
 mod services;
-#[cfg(test)]
-mod tables;

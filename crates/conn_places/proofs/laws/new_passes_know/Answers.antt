@@ -1,6 +1,0 @@
-use Rattle.placed_parts.specs.Placing.{limits_of, origin_of}
-use Rattle.conn_places.proofs.Fresh.{new_passes_know_of}
-use Rattle.conn_places.proofs.laws.new_passes_know.Goals as goal
-
-pub returns : goal.returns
-returns g c = new_passes_know_of g.K.Sink.contents g.K.Sink.write_faults limits_of c.args._sq.now (origin_of c.args._sq.now.given.first)

@@ -1,4 +1,0 @@
-pub mod Jobs
-pub mod OneRun
-pub mod Groups
-pub mod Rings

@@ -1,4 +1,0 @@
-pub mod Keeping
-pub mod Looks
-pub mod Comings
-pub mod Sights

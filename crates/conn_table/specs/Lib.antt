@@ -1,4 +1,0 @@
-pub mod Lines
-pub mod Knowing
-pub mod Glances
-pub mod Looking

@@ -1,0 +1,75 @@
+//! What is heard of a chat where its place is settled.
+
+ghost use Rattle.std.specs.Prelude.{◌≡◌, ◌++◌, IfOk, IfSome, OnOk};
+ghost use Rattle.live_chats.specs.Listening.{IsAnswer, Listens};
+
+use crate::chat::Chat;
+use crate::chats::Chats;
+use live_server::{Datagram, Facts, Met};
+use sq_base::Octets;
+use std::alloc::{AllocError, Global};
+use stream_stays::Collects;
+
+/// What a chat tells of its last item, beside what was sent: what became of a segment, and how its connection stands.
+#[derive(Clone, Copy)]
+pub struct Heard {
+    pub met: Option<Met>,
+    pub facts: Facts,
+}
+
+/// Who listens where a place is settled: what was sent at the last item goes behind the datagrams that are there. Nothing is heard where the
+/// chat is lost, or where memory is missing for what was sent.
+#[derive(Drop)]
+pub struct Ear {
+    pub alloc: Global,
+    pub out: Vec<Datagram>,
+    pub heard: Option<Heard>,
+}
+
+impl Ear {
+    fn listen(&mut self, chat: &Chat) -> Option<Heard>
+        ensures { IfSome result (λ h. IsAnswer chat.now h self.old.out.items self.new.out.items) }
+    {
+        if chat.is_lost() {
+            return None;
+        }
+        let Some(conn) = chat.conn() else {
+            return None;
+        };
+        let facts = conn.facts();
+        match copy_all(self.alloc, chat.sent(), &mut self.out) {
+            Ok(()) => Some(Heard {
+                met: chat.met(),
+                facts,
+            }),
+            Err(_) => None,
+        }
+    }
+}
+
+impl Collects<Chats> for Ear {
+    ghost takes = { Listens };
+
+    fn collect(&mut self, _c: u32, state: &Chat) {
+        self.heard = self.listen(state);
+    }
+}
+
+/// Copies of these datagrams go behind those that are there.
+fn copy_all(alloc: Global, sent: &[Datagram], out: &mut Vec<Datagram>) -> Result<(), AllocError>
+    ensures { OnOk result (out.new.items ≡ out.old.items ++ sent.now) }
+{
+    for datagram in sent {
+        out.push(copied(alloc, datagram)?)?;
+    }
+    Ok(())
+}
+
+fn copied(alloc: Global, datagram: &Datagram) -> Result<Datagram, AllocError>
+    ensures { IfOk result (λ d. d ≡ datagram.now) }
+{
+    Ok(Datagram {
+        at: datagram.at,
+        bytes: Octets::of(alloc, datagram.bytes.as_slice())?,
+    })
+}

@@ -1,2 +1,0 @@
-pub mod Conns
-pub mod Backs

@@ -1,0 +1,39 @@
+-- What a stream that was served leaves.
+use Rattle.std.proofs.Common.{◌≡◌, ℕ, Bool, Option, Some, Result, Ok, Err, List, ap, ◌∙◌, sym}
+use Rattle.live_run.specs.declared.fault.Fault.{Fault}
+use Rattle.live_run.specs.declared.fault.Fault.TheVariants as Fault'
+use Rattle.live_rings.specs.declared.words.Setup.{Setup}
+use Rattle.live_rings.specs.Served.{HasEnded, HasServed, fault_of}
+
+-- a stream that failed so
+abbrev failed : Fault → Result (Unit {0}) Fault
+failed fault = Err fault
+
+module _ {S K : Type 0} (rest : S → Option (List ℕ)) (reads : S → ℕ) (contents : K → Option (List ℕ)) (faults : K → ℕ) (setup : Setup) where
+  pub has_ended : (reader reader' : S) (sink sink' : K) (lost : Bool) (result : Result (Unit {0}) Fault) (fault : Option Fault) → fault ≡ fault_of result → HasServed rest reads contents faults setup reader sink reader' sink' lost result
+      → HasEnded rest reads contents faults setup (record { reader = reader; sink = sink }) (record { reader = reader'; sink = sink'; fault = fault; lost = lost })
+  has_ended reader reader' sink sink' lost (Ok x) fault is served =
+      record {
+        well = λ none kept. served.written kept;
+        whole = λ none. served.whole;
+        front = served.front;
+        stops = served.stops;
+        reading = λ why. cc (sym is ∙ why);
+        writing = λ why. cc (sym is ∙ why);
+        frames = λ why. cc (sym is ∙ why);
+        others = λ why. cc (sym is ∙ why);
+      }
+  has_ended reader reader' sink sink' lost (Err e) fault is served =
+      record {
+        well = λ none kept. cc (sym is ∙ none);
+        whole = λ none. cc (sym is ∙ none);
+        front = served.front;
+        stops = served.stops;
+        reading = λ why. served.reading (same Fault'.Reading (sym is ∙ why));
+        writing = λ why. served.writing (same Fault'.Writing (sym is ∙ why));
+        frames = λ why. served.frames (same Fault'.Frames (sym is ∙ why));
+        others = λ why. served.words (same Fault'.Words (sym is ∙ why));
+      }
+    where
+      same : (f : Fault) → Some e ≡ Some f → failed e ≡ failed f
+      same f eq = let one : e ≡ f = cc eq in ap failed one

@@ -1,0 +1,49 @@
+-- What is known of each stream when its ring has ended.
+use Rattle.std.specs.Prelude.{◌≡◌, ◌≢◌, ℕ, Bool, false, Option, None, Some, IfSome, Result, Ok, Err, OnOk, List, []}
+use Rattle.std.specs.Io.KnownBytes.{Appends}
+use Rattle.sq_base.specs.Ends.{Rose}
+use Rattle.live_server.specs.Frames.{answers, rest_of}
+use Rattle.live_run.specs.Fronts.{AppendsFront}
+use Rattle.live_run.specs.declared.fault.Fault.{Fault}
+use Rattle.live_run.specs.declared.fault.Fault.TheVariants as Fault'
+use Rattle.live_rings.specs.declared.ending.Ends.{Ends}
+use Rattle.live_rings.specs.declared.ending.Ended.{Ended}
+use Rattle.live_rings.specs.declared.words.Setup.{Setup}
+use Rattle.live_rings.specs.Making.{server_of}
+use Rattle.live_rings.specs.Groups.{AllBecame}
+
+-- what went wrong, where something did
+abbrev pub fault_of : Result (Unit {0}) Fault → Option Fault
+fault_of (Ok x) = None
+fault_of (Err fault) = Some fault
+
+module _ {S K : Type 0} (rest : S → Option (List ℕ)) (reads : S → ℕ) (contents : K → Option (List ℕ)) (faults : K → ℕ) where
+  -- A stream was read here and written there, by a server that was set up so. Where nothing of a connection was lost for want of memory, the
+  -- sink got what this server answers, or where it failed a front of that. Nothing is lost where the run doesn't go on
+  pub record HasServed (setup : Setup) (reader : S) (sink : K) (reader' : S) (sink' : K) (lost : Bool) (result : Result (Unit {0}) Fault) : Type 0 where
+    pub written : OnOk result (lost ≡ false → IfSome (rest reader) (λ input. Appends (contents sink) (contents sink') (answers input (server_of setup))))
+    pub whole : OnOk result (IfSome (rest reader) (λ input. rest_of input ≡ []))
+    pub front : lost ≡ false → IfSome (rest reader) (λ input. AppendsFront (contents sink) (contents sink') (answers input (server_of setup)))
+    pub stops : setup.goes_on ≡ false → lost ≡ false
+    pub reading : result ≡ Err Fault'.Reading → Rose (reads reader) (reads reader')
+    pub writing : result ≡ Err Fault'.Writing → Rose (faults sink) (faults sink')
+    pub frames : result ≡ Err Fault'.Frames → IfSome (rest reader) (λ input. rest_of input ≢ [])
+    pub words : result ≢ Err Fault'.Words
+
+  -- A stream with these ends, which was served by a server that was set up so. Where nothing went wrong its input was whole frames, and its
+  -- sink got what one server answers to them; in any case the sink got a front of that. What went wrong has its cause: a read failed there,
+  -- or a write, or its input isn't whole frames. Memory may be missing at any time; where the run goes on, that may cost a connection, and
+  -- then nothing is known of what the sink got
+  pub record HasEnded (setup : Setup) (e : Ends S K) (d : Ended S K) : Type 0 where
+    pub well : d.fault ≡ None → d.lost ≡ false → IfSome (rest e.reader) (λ input. Appends (contents e.sink) (contents d.sink) (answers input (server_of setup)))
+    pub whole : d.fault ≡ None → IfSome (rest e.reader) (λ input. rest_of input ≡ [])
+    pub front : d.lost ≡ false → IfSome (rest e.reader) (λ input. AppendsFront (contents e.sink) (contents d.sink) (answers input (server_of setup)))
+    pub stops : setup.goes_on ≡ false → d.lost ≡ false
+    pub reading : d.fault ≡ Some Fault'.Reading → Rose (reads e.reader) (reads d.reader)
+    pub writing : d.fault ≡ Some Fault'.Writing → Rose (faults e.sink) (faults d.sink)
+    pub frames : d.fault ≡ Some Fault'.Frames → IfSome (rest e.reader) (λ input. rest_of input ≢ [])
+    pub others : d.fault ≢ Some Fault'.Words
+
+  -- so it is of each stream, by number
+  abbrev pub AllEnded : Setup → List (Ends S K) → List (Ended S K) → Type 0
+  AllEnded setup = AllBecame (HasEnded setup)

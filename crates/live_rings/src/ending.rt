@@ -1,0 +1,20 @@
+//! The ends of a stream: before it is served, and when it has ended.
+
+use live_run::Fault;
+
+/// The two ends of a stream: where it is read, and where what is answered is written.
+#[derive(Drop)]
+pub struct Ends<S, K> {
+    pub reader: S,
+    pub sink: K,
+}
+
+/// A stream that has ended: where it was read, where it was written, and what went wrong, where something did; and whether memory was
+/// missing and a connection, or some of what it sent, was lost.
+#[derive(Drop)]
+pub struct Ended<S, K> {
+    pub reader: S,
+    pub sink: K,
+    pub fault: Option<Fault>,
+    pub lost: bool,
+}

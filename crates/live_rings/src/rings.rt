@@ -1,0 +1,96 @@
+//! Streams by several squeues, which are served beside each other: each by a ring of its squeue.
+
+ghost use Rattle.std.specs.Prelude.{◌≡◌, ◌≤◌, ◌<◌, ℕ, All, IfOk, length, slice_index_or};
+ghost use Rattle.live_rings.specs.declared.ending.Ended.{Ended};
+ghost use Rattle.live_rings.specs.declared.groups.Group.{Group};
+ghost use Rattle.live_rings.specs.declared.ending.Ends.{Ends};
+ghost use Rattle.live_rings.specs.Making.{IsInRange};
+ghost use Rattle.live_rings.specs.Groups.{HasServed, IsServedOf, MayServe, before_in};
+ghost use Rattle.live_rings.specs.Served.{AllEnded, HasEnded};
+
+use crate::ending::{Ended, Ends};
+use crate::groups::{Group, deal, gather_all};
+use crate::ring_squeue::serve_squeue;
+use crate::words::Setup;
+use sq_base::{Sink, Source};
+use squeue_serve::run_each;
+use std::alloc::{AllocError, Global};
+use std::mem::replace;
+use std::sync::Wait;
+use std::thread::Threads;
+
+/// Serves streams by a ring for each and by as many squeues as are asked for, or as there are streams, until all have ended: what is left
+/// of each stream, by number. Each ring is a server of its stream, whose connections are parts at its squeue. It fails only for want of
+/// memory before a squeue begins; what went wrong later stands with each stream.
+pub fn serve_rings<S: Source + Drop + Send, K: Sink + Drop + Send, W: Threads + Wait + Sync>(
+    rt: &W,
+    alloc: Global,
+    setup: &Setup,
+    ends: Vec<Ends<S, K>>,
+) -> Result<Vec<Ended<S, K>>, AllocError>
+    requires setup { IsInRange setup.now }
+    requires ends { length ends.items ≤ 63 }
+    ensures ended { IfOk result (λ v. AllEnded S.rest S.read_faults K.contents K.write_faults setup.now ends.items v.items) }
+{
+    let room = Vec::with_capacity(alloc, ends.len())?;
+    let mut groups = deal(alloc, ends, setup.squeues)?;
+    serve_groups(rt, alloc, setup, &mut groups);
+    gather_all(groups, room)
+}
+
+// Serves the groups beside each other.
+fn serve_groups<S: Source + Drop + Send, K: Sink + Drop + Send, W: Threads + Wait + Sync>(
+    rt: &W,
+    alloc: Global,
+    setup: &Setup,
+    groups: &mut [Group<Ends<S, K>, Ended<S, K>>],
+)
+    requires setup { IsInRange setup.now }
+    requires groups { All MayServe groups.old }
+    ensures { (k : ℕ) (d : Group (Ends S K) (Ended S K)) → k < length groups.old
+        → HasServed (HasEnded S.rest S.read_faults K.contents K.write_faults setup.now) (slice_index_or groups.old k d) (slice_index_or groups.new k d) }
+{
+    run_each(
+        rt,
+        groups,
+        &|_, group: &mut Group<Ends<S, K>, Ended<S, K>>|
+            requires setup { IsInRange setup.now }
+            requires group { MayServe group.now }
+            ensures { HasServed (HasEnded S.rest S.read_faults K.contents K.write_faults setup.entry.now) group.entry.now group.exit.now }
+        { serve_group(rt, alloc, setup, group) },
+    );
+}
+
+fn serve_group<S: Source + Drop + Send, K: Sink + Drop + Send, W: Threads + Wait + Sync>(
+    rt: &W,
+    alloc: Global,
+    setup: &Setup,
+    group: &mut Group<Ends<S, K>, Ended<S, K>>,
+)
+    requires setup { IsInRange setup.now }
+    requires group { MayServe group.old }
+    ensures { HasServed (HasEnded S.rest S.read_faults K.contents K.write_faults setup.now) group.old group.new }
+{
+    let before = replace(group, Group::Short);
+    *group = served(rt, alloc, setup, before);
+}
+
+// The group when its streams have ended.
+fn served<S: Source + Drop + Send, K: Sink + Drop + Send, W: Threads + Wait + Sync>(
+    rt: &W,
+    alloc: Global,
+    setup: &Setup,
+    group: Group<Ends<S, K>, Ended<S, K>>,
+) -> Group<Ends<S, K>, Ended<S, K>>
+    requires setup { IsInRange setup.now }
+    requires group { MayServe group }
+    ensures { IsServedOf (HasEnded S.rest S.read_faults K.contents K.write_faults setup.now) (before_in group) result }
+{
+    let Group::Before(ends) = group else {
+        return Group::Short;
+    };
+    match serve_squeue(rt, alloc, setup, ends) {
+        Ok(ended) => Group::After(ended),
+        Err(_) => Group::Short,
+    }
+}

@@ -1,4 +1,0 @@
-pub mod Faults
-pub mod Taken
-pub mod Fronts
-pub mod Tables
