@@ -25,7 +25,7 @@ class Alone:
 
 
 class Shared:
-    """`sqlive_rings`: whoever uses one of its rings shares the process with those who use the others."""
+    """`sqlive` by several rings: whoever uses one of its rings shares the process with those who use the others."""
     def __init__(self, program, rings, **layout):
         self.words, self.lock, self.server = (program, rings, layout), threading.Lock(), None
 

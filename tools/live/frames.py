@@ -18,7 +18,7 @@ def frames_words(**its):
 
 
 class Frames:
-    """A server over frames as a process: `sqlive`, or where rings are told, `sqlive_rings`.
+    """A server over frames as a process: `sqlive`, by several rings where these are told.
 
     `.ends` has a pair of descriptors for each ring: what to write to, and what to read.
     """
@@ -30,7 +30,7 @@ class Frames:
             self.process.stdout.close()
             return
         pipes = Pipes(rings)
-        words = ["sqlive_rings", *rings_words(rings, **(layout or {})), *frames_words(**its), *pipes.words()]
+        words = ["sqlive", *rings_words(rings, **(layout or {})), *frames_words(**its), *pipes.words()]
         self.process = subprocess.Popen(words, executable=program, stdin=subprocess.DEVNULL, pass_fds=pipes.of_server)
         for end in pipes.of_server:
             os.close(end)

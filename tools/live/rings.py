@@ -54,7 +54,7 @@ class Rings:
         self.rings, self.counts = len(queues), mmap.mmap(counts, size, prot=mmap.PROT_READ)
         of_mover = [end for queue, to, back in zip(queues, pipes.to_rings, pipes.from_rings) for end in (queue, to[1], back[0])]
         apart = {"stdin": subprocess.DEVNULL, "start_new_session": True}
-        self.server = as_nobody(program, ["sqlive_rings", *rings_words(self.rings, **layout), *words, *pipes.words()], pipes.of_server, **apart)
+        self.server = as_nobody(program, ["sqlive", *rings_words(self.rings, **layout), *words, *pipes.words()], pipes.of_server, **apart)
         kept = [] if capture is None else [capture]
         told = [int(long_segments), counts, *(kept or [-1]), *of_mover]
         self.mover = as_nobody(mover, ["queues", *map(str, told)], [counts, *kept, *of_mover], **apart)

@@ -11,7 +11,7 @@ BINDER = re.compile(r"λ ((?:[^\W\d]|_)[\w' ]*)\.|λ? ?[({]((?:[^\W\d]|_)[\w' ]*
 GIVEN = re.compile(r"(?:^|[;{(] ?)\s*(\w+) = ")
 LET = re.compile(r"\blet (?:mut )?([\w']+) =")
 TAKEN = re.compile(r"[(,<]\s*(?:mut )?&?'?(?:const )?(\w+)(?=[:,>])")
-BUILT_IN = set("Type record elim if then else let in case of row result self Self old new now entry exit sem true false _ where pub data abbrev unfoldable as Some None Ok Err tt λ 𝓛".split())
+BUILT_IN = set("Type Unit record elim if then else let in case of row result self Self old new now entry exit sem true false _ where pub data abbrev unfoldable as Some None Ok Err tt λ 𝓛".split())
 
 
 @dataclass

@@ -34,7 +34,6 @@ live_test = SourceFileLoader("live_test", str(TOOLS / "live_test")).load_module(
 
 CLIENT, SERVER = b"\x0a\x09\0\1", b"\x0a\x09\0\2"
 SQLIVE = os.environ.get("SQLIVE", built("sqlive"))
-SQLIVE_RINGS = os.environ.get("SQLIVE_RINGS", built("sqlive_rings"))
 
 
 class Packets(unittest.TestCase):
@@ -455,7 +454,7 @@ class Launcher(unittest.TestCase):
     def test_bounds_are_told(self):
         for words, said in (("--memory 4096", "from 1 to 4095"), ("--idle 4294967296", "from 1 to 4294967295"), ("--places 4294967296", "from 1 to 4294967295"),
                             ("--mtu 1501", "from 576 to 1500"), ("--rings 2 --squeues 64", "from 1 to 63"), ("--rings 2 --budget 0", "from 1 to 4294967295"),
-                            ("--rings 2 --conns --places 65537", "at most 65536 with --conns"), ("--device a/b", "no device's name"),
+                            ("--rings 2 --places 65537", "at most 65536 with --rings"), ("--rings 2 --conns", "--conns is no more"), ("--device a/b", "no device's name"),
                             ("--device tun%d", "no device's name"), ("--device sixteen.letters0", "no device's name"),
                             ("--capture /nonexistent/run.pcap", "--capture /nonexistent/run.pcap: No such file or directory"),
                             ("--capture /", "--capture /: Is a directory")):
@@ -519,8 +518,6 @@ class Live(unittest.TestCase):
 
     def test_on_rings(self):
         need("cc")
-        if not os.access(SQLIVE_RINGS, os.X_OK):
-            self.skipTest("no sqlive_rings: run tools/try-build --fast sqlive_rings, or name it by SQLIVE_RINGS")
         self.run_live_test("rings-status", "rings-pause", "rings-half-open")
 
     def test_with_lwip(self):

@@ -19,7 +19,6 @@ from programs import built
 from tcp_segments import ACK, FIN, PSH, SYN, segment
 
 SQLIVE = os.environ.get("SQLIVE", built("sqlive"))
-SQLIVE_RINGS = os.environ.get("SQLIVE_RINGS", built("sqlive_rings"))
 AT, SECRET = 1_000_000, bytes(range(16))
 
 
@@ -44,7 +43,7 @@ def frames(stream, conns=6, texts=8):
     return b"".join(HEAD.pack(len(body), AT) + body for bodies in rounds for body in (*filter(None, bodies), b""))
 
 
-@unittest.skipUnless(os.path.exists(SQLIVE) and os.path.exists(SQLIVE_RINGS), "no sqlive and sqlive_rings (SQLIVE, SQLIVE_RINGS)")
+@unittest.skipUnless(os.path.exists(SQLIVE), "no sqlive (SQLIVE)")
 class Streams(unittest.TestCase):
     def serve(self, inputs, rings, squeues=1, mode="process", budget=64):
         """The status, and what each output got."""
@@ -54,15 +53,15 @@ class Streams(unittest.TestCase):
                 path.write_bytes(text)
             files = [str(path) for pair in ends for path in pair]
             words = ["--rings", str(rings), "--squeues", str(squeues), "--mode", mode, "--budget", str(budget), *frames_words(), *files]
-            ran = subprocess.run([SQLIVE_RINGS, *words], capture_output=True, timeout=60)
+            ran = subprocess.run([SQLIVE, *words], capture_output=True, timeout=60)
             return ran.returncode, [path.read_bytes() if path.exists() else b"" for _, path in ends]
 
     def test_the_stored_run(self):
         """What the gate runs, with its bytes: there a program may not open its own output, so the gate itself sees the status alone."""
-        crate = TOOLS.parent / "crates" / "sqlive_rings"
+        crate = TOOLS.parent / "crates" / "sqlive_on_rings"
         with tempfile.TemporaryDirectory() as folder:
             shutil.copy(crate / "data" / "in.0", folder)
-            ran = subprocess.run([SQLIVE_RINGS, *(crate / "args").read_text().split()], capture_output=True, cwd=folder, timeout=60)
+            ran = subprocess.run([SQLIVE, *(crate / "args").read_text().split()], capture_output=True, cwd=folder, timeout=60)
             self.assertEqual((ran.returncode, Path(folder, "out.0").read_bytes()), (0, (crate / "data" / "answers.0").read_bytes()))
 
     def by_one_thread(self, text):
@@ -84,4 +83,4 @@ class Streams(unittest.TestCase):
 
     def test_words_that_are_none(self):
         for words in ([], ["--rings", "0"], ["--rings", "1", "--squeues", "1", "--mode", "process", "--budget", "1", *frames_words(), "one"]):
-            self.assertEqual(subprocess.run([SQLIVE_RINGS, *words], capture_output=True, timeout=60).returncode, 2)
+            self.assertEqual(subprocess.run([SQLIVE, *words], capture_output=True, timeout=60).returncode, 2)
