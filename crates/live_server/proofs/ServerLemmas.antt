@@ -51,7 +51,7 @@ unfolding yields_at
 kept_at n i sv true e = ap (λ b. (cond b (gives_way i sv) sv).waiting) e
 kept_at n i sv false e = ap (λ b. (cond b (gives_way i sv) sv).waiting) e
 
-waiting_kept : (w : Tuple × ℕ) (sv : ServerOf) (r : Option ℕ) → place_of w.0 sv.conns ≡ r → (yields w sv).waiting ≡ sv.waiting
+pub waiting_kept : (w : Tuple × ℕ) (sv : ServerOf) (r : Option ℕ) → place_of w.0 sv.conns ≡ r → (yields w sv).waiting ≡ sv.waiting
 unfolding yields
 waiting_kept w sv None at = ap (λ o. (option_map_or (λ i. yields_at w.1 i sv) o sv).waiting) at
 waiting_kept w sv (Some i) at = ap (λ o. (option_map_or (λ j. yields_at w.1 j sv) o sv).waiting) at ∙ kept_at w.1 i sv (is_waiting w.1 (conn_at i sv.conns)) refl

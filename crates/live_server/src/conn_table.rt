@@ -1,13 +1,17 @@
 //! What the rules of a server ask of the table that keeps its connections.
 
-ghost use Rattle.std.specs.Prelude.{◌≡◌, ℕ, ◌++◌, ◌<◌, ◌≤◌, [], ◌∷◌, length, Some, IfOk, OnErr, OnOk};
+ghost use Rattle.std.specs.Prelude.{◌≡◌, ℕ, List, ◌++◌, ◌<◌, ◌≤◌, [], ◌∷◌, length, Some, IfOk, OnErr, OnOk};
 ghost use Rattle.std.specs.List.{flat_map};
 ghost use Rattle.tcb_machine.specs.Limits.{last_time};
 ghost use Rattle.live_server.specs.Acts.{emptied, meets, reached, sent_by};
 ghost use Rattle.live_server.specs.Leaving.{without_leaving};
 ghost use Rattle.live_server.specs.Serving.{is_waiting};
 ghost use Rattle.live_server.specs.Table.{Conns, all_reached, conn_at, held_by, place_of, replaced, without, without_over, IsNew};
+ghost use Rattle.live_server.specs.Ways.{leaving_of, telling_leave, telling_time, way_of_leaving, way_of_meeting, way_of_opening, way_of_sending, Step};
+ghost use Rattle.live_server.specs.declared.acting.Datagram.{Datagram};
+ghost use Rattle.live_server.specs.declared.conn.Conn.{Conn};
 ghost use Rattle.live_server.specs.declared.conn.Met.TheVariants.{Gone};
+ghost use Rattle.sq_base.specs.declared.kinds.Tuple.{Tuple};
 
 use crate::acting::Datagram;
 use crate::conn::{Conn, Met};
@@ -27,6 +31,9 @@ pub trait ConnTable {
 
     /// What a time leaves where memory was missing, of the connections that there were.
     ghost spoils: { ℕ → Conns → Conns → Type 0 };
+
+    /// What the table's connections were told, step by step.
+    ghost tells: { Self → List Step → Self → Type 0 };
 
     /// How many connections there are.
     fn len(&self) -> usize
@@ -55,6 +62,7 @@ pub trait ConnTable {
         requires sent { emptied conn ≡ conn }
         ensures good { good self.new }
         ensures put { OnOk result (conns self.new ≡ conns self.old ++ (ends, conn) ∷ []) }
+        ensures told { OnOk result ((c : Conn) → emptied c ≡ conn → tells self.old (way_of_opening ends c) self.new) }
         ensures kept { OnErr result (conns self.new ≡ conns self.old) };
 
     /// The connection at a place leaves; the last one takes its place.
@@ -62,6 +70,7 @@ pub trait ConnTable {
         requires good { good self.old }
         requires place { place < length (conns self.old) }
         ensures good { good self.new }
+        ensures told { (t : Tuple) → place_of t (conns self.old) ≡ Some place → tells self.old (way_of_leaving t) self.new }
         ensures table { conns self.new ≡ without place (conns self.old) };
 
     /// A segment comes to the connection at a place, behind the time. The connection leaves where it is over, or where memory is
@@ -84,6 +93,7 @@ pub trait ConnTable {
         ensures met { IfOk result (λ m. m ≡ (meets now iss seg.now text.now tuple.now (conn_at place (conns self.old))).met) }
         ensures table { OnOk result (conns self.new ≡ replaced place (meets now iss seg.now text.now tuple.now (conn_at place (conns self.old))).conn (conns self.old)) }
         ensures sent { OnOk result (out.new.items ≡ out.old.items ++ (meets now iss seg.now text.now tuple.now (conn_at place (conns self.old))).sent) }
+        ensures told { OnOk result (tells self.old (way_of_meeting now iss seg.now text.now tuple.now (conn_at place (conns self.old))) self.new) }
         ensures gone { IfOk result (λ m. m ≡ Gone → IsNew tuple.now (conns self.new)) }
         ensures lost { OnErr result (conns self.new ≡ without place (conns self.old)) };
 
@@ -99,17 +109,27 @@ pub trait ConnTable {
         ensures good { good self.new }
         ensures table { OnOk result (conns self.new ≡ all_reached now (conns self.old)) }
         ensures sent { OnOk result (out.new.items ≡ out.old.items ++ flat_map (λ c. sent_by c.0 (reached now c.1)) (conns self.old)) }
+        ensures told { OnOk result (tells self.old (telling_time now (conns self.old)) self.new) }
         ensures lost { OnErr result (spoils now (conns self.old) (conns self.new)) };
 
     /// All leave that are over.
     fn drop_over(&mut self, alloc: Global)
         requires good { good self.old }
         ensures good { good self.new }
+        ensures told { tells self.old [] self.new }
         ensures table { conns self.new ≡ without_over (conns self.old) };
 
     /// All leave that are to leave at a tick.
     fn drop_leaving(&mut self, alloc: Global, setting: &Setting, now: u64)
         requires good { good self.old }
         ensures good { good self.new }
+        ensures told { tells self.old (telling_leave (leaving_of setting.now now (conns self.old))) self.new }
         ensures table { conns self.new ≡ without_leaving setting.now now (conns self.old) };
+
+    // Where nobody is told anything, nothing need be done, and steps follow steps.
+    ghost tells_nothing: { (a : Self) → tells a [] a };
+
+    ghost tells_nobody: { (a : Self) (ds : List Datagram) → tells a (way_of_sending ds) a };
+
+    ghost tells_on: { (a b c : Self) (ws vs : List Step) → tells a ws b → tells b vs c → tells a (ws ++ vs) c };
 }

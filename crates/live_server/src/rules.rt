@@ -11,6 +11,7 @@ ghost use Rattle.live_server.specs.Initial.{number_for};
 ghost use Rattle.live_server.specs.Isolation.{Costs, KeepsStart, Loses};
 ghost use Rattle.live_server.specs.Serving.{addressed, arrives, fits, has_place, limited, makes_place, on_datagram, on_segment, on_time, opens, refused, server_of, takes_place, without_text, yields};
 ghost use Rattle.live_server.specs.Table.{place_of, IsNew};
+ghost use Rattle.live_server.specs.Ways.{way_addressed, way_arrives, way_datagram, way_opens, way_segment, way_takes, way_time, way_yielding, way_yields};
 
 use crate::acting::{Datagram, encoded, text_of};
 use crate::addresses::is_for_us;
@@ -96,6 +97,7 @@ impl<T: ConnTable> Rules<T> {
         ensures good { T.good self.new.table }
         ensures server { OnOk result (server_of T.conns self.new ≡ (on_datagram now body.now (server_of T.conns self.old)).server) }
         ensures sent { OnOk result (out.new.items ≡ out.old.items ++ (on_datagram now body.now (server_of T.conns self.old)).sent) }
+        ensures told { OnOk result (T.tells self.old.table (way_datagram now body.now (server_of T.conns self.old)) self.new.table) }
         ensures lost { OnErr result ((s : Seg) × (packet_in RawIp body.now true ≡ Packet.Segment s)
             × Costs s (server_of T.conns self.old) (server_of T.conns self.new)) }
         ensures start { OnErr result (KeepsStart (server_of T.conns self.old) (server_of T.conns self.new)) }
@@ -125,6 +127,7 @@ impl<T: ConnTable> Rules<T> {
         ensures good { T.good self.new.table }
         ensures server { OnOk result (server_of T.conns self.new ≡ (on_time now (server_of T.conns self.old)).server) }
         ensures sent { OnOk result (out.new.items ≡ out.old.items ++ (on_time now (server_of T.conns self.old)).sent) }
+        ensures told { OnOk result (T.tells self.old.table (way_time now (server_of T.conns self.old)) self.new.table) }
         ensures lost { OnErr result (T.spoils now (T.conns self.old.table) (T.conns self.new.table)) }
         ensures rest { OnErr result (server_of T.conns self.new ≡ record (server_of T.conns self.old) { conns = T.conns self.new.table }) }
     {
@@ -153,6 +156,7 @@ impl<T: ConnTable> Rules<T> {
         ensures good { T.good self.new.table }
         ensures server { OnOk result (server_of T.conns self.new ≡ (addressed now seg.now text.now (server_of T.conns self.old)).server) }
         ensures sent { OnOk result (out.new.items ≡ out.old.items ++ (addressed now seg.now text.now (server_of T.conns self.old)).sent) }
+        ensures told { OnOk result (T.tells self.old.table (way_addressed now seg.now text.now (server_of T.conns self.old)) self.new.table) }
         ensures lost { OnErr result (Costs seg.now (server_of T.conns self.old) (server_of T.conns self.new)) }
         ensures start { OnErr result (KeepsStart (server_of T.conns self.old) (server_of T.conns self.new)) }
     {
@@ -181,6 +185,7 @@ impl<T: ConnTable> Rules<T> {
         ensures good { T.good self.new.table }
         ensures server { OnOk result (server_of T.conns self.new ≡ (on_segment now seg.now text.now (server_of T.conns self.old)).server) }
         ensures sent { OnOk result (out.new.items ≡ out.old.items ++ (on_segment now seg.now text.now (server_of T.conns self.old)).sent) }
+        ensures told { OnOk result (T.tells self.old.table (way_segment now seg.now text.now (server_of T.conns self.old)) self.new.table) }
         ensures lost { OnErr result (Loses (tuple_of seg.now) (server_of T.conns self.old) (server_of T.conns self.new)) }
         ensures start { OnErr result (KeepsStart (server_of T.conns self.old) (server_of T.conns self.new)) }
     {
@@ -215,6 +220,7 @@ impl<T: ConnTable> Rules<T> {
         ensures good { T.good self.new.table }
         ensures server { OnOk result (server_of T.conns self.new ≡ (arrives now seg.now text.now (server_of T.conns self.old)).server) }
         ensures sent { OnOk result (out.new.items ≡ out.old.items ++ (arrives now seg.now text.now (server_of T.conns self.old)).sent) }
+        ensures told { OnOk result (T.tells self.old.table (way_arrives now seg.now text.now (server_of T.conns self.old)) self.new.table) }
         ensures lost { OnErr result (Loses (tuple_of seg.now) (server_of T.conns self.old) (server_of T.conns self.new)) }
         ensures start { OnErr result (KeepsStart (server_of T.conns self.old) (server_of T.conns self.new)) }
     {
@@ -240,6 +246,7 @@ impl<T: ConnTable> Rules<T> {
         ensures good { T.good self.new.table }
         ensures server { OnOk result (server_of T.conns self.new ≡ (arrives now seg.now text.now (server_of T.conns self.old)).server) }
         ensures sent { OnOk result (out.new.items ≡ out.old.items ++ (arrives now seg.now text.now (server_of T.conns self.old)).sent) }
+        ensures told { OnOk result (T.tells self.old.table (way_arrives now seg.now text.now (server_of T.conns self.old)) self.new.table) }
         ensures lost { OnErr result (Loses (tuple_of seg.now) (server_of T.conns self.old) (server_of T.conns self.new)) }
         ensures start { OnErr result (KeepsStart (server_of T.conns self.old) (server_of T.conns self.new)) }
     {
@@ -273,6 +280,7 @@ impl<T: ConnTable> Rules<T> {
         ensures good { T.good self.new.table }
         ensures server { OnOk result (server_of T.conns self.new ≡ (opens now seg.now text.now (server_of T.conns self.old)).server) }
         ensures sent { OnOk result (out.new.items ≡ out.old.items ++ (opens now seg.now text.now (server_of T.conns self.old)).sent) }
+        ensures told { OnOk result (T.tells self.old.table (way_opens now seg.now text.now (server_of T.conns self.old)) self.new.table) }
         ensures lost { OnErr result (Loses (tuple_of seg.now) (server_of T.conns self.old) (server_of T.conns self.new)) }
         ensures start { OnErr result (KeepsStart (server_of T.conns self.old) (server_of T.conns self.new)) }
     {
@@ -302,6 +310,7 @@ impl<T: ConnTable> Rules<T> {
         ensures good { T.good self.new.table }
         ensures server { OnOk result (server_of T.conns self.new ≡ (takes_place tuple conn (server_of T.conns self.old)).server) }
         ensures sent { OnOk result (out.new.items ≡ out.old.items ++ (takes_place tuple conn (server_of T.conns self.old)).sent) }
+        ensures told { OnOk result (T.tells self.old.table (way_takes tuple conn (server_of T.conns self.old)) self.new.table) }
         ensures lost { OnErr result (Loses tuple (server_of T.conns self.old) (server_of T.conns self.new)) }
         ensures start { OnErr result (KeepsStart (server_of T.conns self.old) (server_of T.conns self.new)) }
     {
@@ -323,6 +332,7 @@ impl<T: ConnTable> Rules<T> {
         requires good { T.good self.old.table }
         ensures good { T.good self.new.table }
         ensures place { server_of T.conns self.new ≡ makes_place (server_of T.conns self.old) }
+        ensures told { T.tells self.old.table (way_yielding self.old.waiting.items (server_of T.conns self.old)) self.new.table }
         ensures new { (t : Tuple) → IsNew t (T.conns self.old.table) → IsNew t (T.conns self.new.table) }
     {
         'yielding: while !self.has_place() {
@@ -348,6 +358,7 @@ impl<T: ConnTable> Rules<T> {
         requires good { T.good self.old.table }
         ensures good { T.good self.new.table }
         ensures yields { server_of T.conns self.new ≡ yields waiting.now (server_of T.conns self.old) }
+        ensures told { T.tells self.old.table (way_yields waiting.now (server_of T.conns self.old)) self.new.table }
         ensures new { (t : Tuple) → IsNew t (T.conns self.old.table) → IsNew t (T.conns self.new.table) }
     {
         if let Some(place) = self.table.find(&waiting.0) {

@@ -1,6 +1,8 @@
-use Rattle.std.proofs.Common.{◌≡◌, ◌∙◌, true, false, rules}
+use Rattle.std.proofs.Common.{◌≡◌, ◌++◌, ◌∙◌, [], ap, append-nil, refl, rules, subst, sym, true, false}
 use Rattle.live_server.specs.Serving.{ServerOf, has_place, server_of}
-use Rattle.live_server.proofs.ServerLemmas.{fewer_wait, goes_on_yielding, stops}
+use Rattle.live_server.specs.Ways.{way_yields}
+use Rattle.live_server.proofs.WayLemmas.{none_yields, yielding_way}
+use Rattle.live_server.proofs.ServerLemmas.{fewer_wait, goes_on_yielding, stops, waiting_kept}
 use Rattle.live_server.proofs.rules.Rules.make_place.Goals as goal
 
 pub yielding-smaller : goal.yielding-smaller
@@ -12,6 +14,11 @@ yielding-preserved g c =
     let before : ServerOf = server_of g.T.ConnTable.conns c.yielding.self in
     let full : has_place before ≡ false = search rules in record {
       good = c.yield_place.ensures.good;
+      so_far = c.yielding.invariant.so_far ++ way_yields c.in-Some.waiting (record before { waiting = c.pop_front.new.self.items });
+      told = g.met.T.ConnTable.tells_on c.args.self.now.table c.yielding.self.table c.yield_place.new.self.table c.yielding.invariant.so_far _ c.yielding.invariant.told c.yield_place.ensures.told;
+      all = yielding_way c.in-Some.waiting c.pop_front.new.self.items before (server_of g.T.ConnTable.conns c.yield_place.new.self) c.yielding.invariant.so_far _ full c.in-Some.ensures.items c.yield_place.ensures.yields
+          (ap (λ (s : ServerOf). s.waiting) c.yield_place.ensures.yields ∙ waiting_kept c.in-Some.waiting (record before { waiting = c.pop_front.new.self.items }) _ refl) refl
+          ∙ c.yielding.invariant.all;
       leads = goes_on_yielding c.in-Some.waiting c.pop_front.new.self.items before (server_of g.T.ConnTable.conns c.yield_place.new.self) full c.in-Some.ensures.items c.yield_place.ensures.yields ∙ c.yielding.invariant.leads;
       new = λ t new. c.yield_place.ensures.new t (c.yielding.invariant.new t new);
     }
@@ -20,3 +27,14 @@ pub returns-clause-place : goal.returns-clause-place
 returns-clause-place g c =
     let free : has_place (server_of g.T.ConnTable.conns c.yielding.self) ≡ true = search rules in
     stops c.yielding.self.waiting.items (server_of g.T.ConnTable.conns c.yielding.self) free ∙ c.yielding.invariant.leads
+
+pub yielding-init : goal.yielding-init
+yielding-init g c = record { good = c.requires.good; so_far = []; told = g.met.T.ConnTable.tells_nothing c.args.self.now.table; all = refl; leads = refl; new = λ t new. new }
+
+pub returns-clause-told : goal.returns-clause-told
+returns-clause-told g c =
+    let here : ServerOf = server_of g.T.ConnTable.conns c.yielding.self in
+    let free : has_place here ≡ true = search rules in
+    subst (λ ws. g.T.ConnTable.tells c.args.self.now.table ws c.yielding.self.table)
+    (sym (append-nil c.yielding.invariant.so_far) ∙ ap (λ ws. c.yielding.invariant.so_far ++ ws) (sym (none_yields c.yielding.self.waiting.items here free)) ∙ c.yielding.invariant.all)
+    c.yielding.invariant.told

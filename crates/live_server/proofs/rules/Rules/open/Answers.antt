@@ -1,10 +1,14 @@
-use Rattle.std.proofs.Common.{subst}
+use Rattle.std.proofs.Common.{◌≡◌, ◌++◌, ◌∙◌, List, ap, false, rules, subst, sym, true}
 use Rattle.segment_codec.specs.Refusal.{tuple_of}
 use Rattle.live_server.specs.Isolation.{KeepsStart, Loses}
-use Rattle.live_server.specs.Serving.{ServerOf, server_of}
-use Rattle.live_server.proofs.ArriveLemmas.{start_behind}
+use Rattle.live_server.specs.Acts.{is_over, sent_by}
+use Rattle.live_server.specs.Serving.{ServerOf, served, server_of}
+use Rattle.live_server.specs.Ways.{Step, fresh, way_opens, way_takes, way_yielding}
+use Rattle.live_server.proofs.ArriveLemmas.{map_ok, on_ok, start_behind}
+use Rattle.live_server.proofs.WayLemmas.{new_way, over_way}
 use Rattle.live_server.proofs.LawLemmas.{lost_behind}
 use Rattle.live_server.proofs.LossLemmas.{map_err}
+use Rattle.live_server.specs.declared.conn.Conn.{Conn}
 use Rattle.live_server.proofs.rules.Rules.open.Goals as goal
 
 pub returns-clause-lost : goal.returns-clause-lost
@@ -21,3 +25,27 @@ returns-clause-start g c =
     let mid : ServerOf = server_of g.T.ConnTable.conns c.make_place.new.self in
     let after : ServerOf = server_of g.T.ConnTable.conns c.take_place.new.self in
     map_err c.take_place.result _ (KeepsStart before after) (start_behind before mid after c.make_place.ensures.place) c.take_place.ensures.start
+
+pub returns-then-is_over-clause-told : goal.returns-then-is_over-clause-told
+returns-then-is_over-clause-told g c =
+    let sv : ServerOf = server_of g.T.ConnTable.conns c.args.self.now in
+    let conn : Conn = served c.args.now c.args.seg.now c.args.text.now sv (fresh sv.setting c.args.now c.args.seg.now) in
+    let made : c.take.new.self ≡ conn = search rules in
+    let over : is_over conn ≡ true = ap is_over (sym made) ∙ sym c.is_over.ensures ∙ c.if-is_over.true in
+    on_ok c.send.result _
+    (subst (λ ws. g.T.ConnTable.tells c.args.self.now.table ws c.args.self.now.table) (sym (over_way c.args.now c.args.seg.now c.args.text.now sv over))
+    (g.met.T.ConnTable.tells_nobody c.args.self.now.table (sent_by (tuple_of c.args.seg.now) conn)))
+
+pub returns-clause-told : goal.returns-clause-told
+returns-clause-told g c =
+    let sv : ServerOf = server_of g.T.ConnTable.conns c.args.self.now in
+    let mid : ServerOf = server_of g.T.ConnTable.conns c.make_place.new.self in
+    let conn : Conn = served c.args.now c.args.seg.now c.args.text.now sv (fresh sv.setting c.args.now c.args.seg.now) in
+    let made : c.take.new.self ≡ conn = search rules in
+    let whole : is_over conn ≡ false = ap is_over (sym made) ∙ sym c.is_over.ensures ∙ c.if-is_over.false in
+    let yielding : List Step = way_yielding sv.waiting sv in
+    map_ok c.take_place.result _ (g.T.ConnTable.tells c.args.self.now.table (way_opens c.args.now c.args.seg.now c.args.text.now sv) c.take_place.new.self.table)
+    (λ told. subst (λ ws. g.T.ConnTable.tells c.args.self.now.table ws c.take_place.new.self.table)
+    ((λ j. yielding ++ way_takes (c.tuple_of-tuple.ensures j) (made j) (c.make_place.ensures.place j)) ∙ sym (new_way c.args.now c.args.seg.now c.args.text.now sv whole))
+    (g.met.T.ConnTable.tells_on c.args.self.now.table c.make_place.new.self.table c.take_place.new.self.table yielding (way_takes c.tuple_of-tuple.result c.take.new.self mid) c.make_place.ensures.told told))
+    c.take_place.ensures.told
