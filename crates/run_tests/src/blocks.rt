@@ -13,7 +13,6 @@ use capture_reader::{Capture, parse_capture};
 use conn_blocks::{Act, Block, Blocks, Calls, serve_one};
 use conn_classifier::{Plan, plan};
 use perimeter_core::Resident;
-use ring_threads::Served;
 use sq_base::Octets;
 use std::alloc::{AllocError, Global};
 use std::process::Abort;
@@ -233,7 +232,7 @@ fn served(
     Ok(Some(serve_one(alloc, &plan, calls, 0, order)?))
 }
 
-/// Connection 0 of a capture is served in the order that is wanted, and the block is as it is wanted, also where it is kept beside squeues.
+/// Connection 0 of a capture is served in the order that is wanted, and the block is as it is wanted.
 fn expect_served(
     rt: &(impl Threads + Sync + Abort),
     alloc: Global,
@@ -242,8 +241,7 @@ fn expect_served(
     wanted: &Wanted,
 ) -> Result<(), AllocError> {
     let block = served(rt, alloc, capture, calls, wanted.order)?;
-    let kept = Served::of(alloc, Vec::from_array(alloc, [block])?)?;
-    expect(rt, "served in an order", kept.block(0), wanted);
+    expect(rt, "served in an order", &block, wanted);
     Ok(())
 }
 
