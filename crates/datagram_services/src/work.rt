@@ -1,5 +1,5 @@
 //! What the threads of a run have to do.
-ghost use Rattle.std.specs.Prelude.{◌≡◌, ◌<◌, ◌≤◌, ℕ, IfOk, Some, length, slice_get};
+ghost use Rattle.std.specs.Prelude.{◌≡◌, ◌<◌, ℕ, IfOk, Some, length, slice_get};
 ghost use Rattle.squeue_pool.specs.Works.{work_of};
 ghost use Rattle.ring_quotas.specs.Quotas.{IsInRange};
 ghost use Rattle.datagram_services.specs.declared.blocks.StreamBlocks.{StreamBlocks as BlocksOf};

@@ -1,11 +1,11 @@
 -- What the seats of a table tell of its connections.
-use Rattle.std.proofs.Common.{◌≡◌, ℕ, ◌<◌, ◌&&◌, ◌==◌, Bool, false, Option, None, Some, List, [], ◌∷◌, length, slice_get, refl, sym, ap, ◌∙◌}
+use Rattle.std.proofs.Common.{◌≡◌, ℕ, ◌&&◌, ◌==◌, Bool, false, Option, None, Some, List, [], ◌∷◌, slice_get, refl, sym, ap, ◌∙◌}
 use Rattle.std.specs.Map.{keys_of}
 use Rattle.std.specs.Option.{option_map, option_map_or}
 use Rattle.std.proofs.lemmas.Option.{slice_get-map}
 use Rattle.sq_base.specs.declared.kinds.Tuple.{Tuple}
 use Rattle.stream_stays.specs.declared.place.Stays.{Stays}
-use Rattle.live_server.specs.Acts.{is_half_open, no_conn}
+use Rattle.live_server.specs.Acts.{no_conn}
 use Rattle.live_server.specs.Facts.{facts_of, is_waiting_by}
 use Rattle.live_server.specs.Serving.{is_waiting}
 use Rattle.live_server.specs.Table.{conn_at}

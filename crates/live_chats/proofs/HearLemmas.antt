@@ -7,8 +7,8 @@ use Rattle.live_server.specs.declared.acting.Datagram.{Datagram}
 use Rattle.live_server.specs.declared.conn.Conn.{Conn}
 use Rattle.live_server.specs.declared.conn.Met.{Met}
 use Rattle.squeue_streams.specs.Taking.{Takes, items_of, state_of}
-use Rattle.live_chats.specs.Hearing.{ChatOf, Hears, hearing, hearing_all, meeting, nobody, silent, timing}
-use Rattle.live_chats.specs.Telling.{ItemsTell, Tells}
+use Rattle.live_chats.specs.Hearing.{ChatOf, Hears, hearing, hearing_all, meeting, silent, timing}
+use Rattle.live_chats.specs.Telling.{ItemsTell}
 use Rattle.live_chats.specs.declared.item.Item.{Item}
 use Rattle.live_chats.specs.declared.item.Item.TheVariants.{Meets, Opens, Time}
 

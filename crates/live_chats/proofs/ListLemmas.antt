@@ -1,9 +1,9 @@
 -- Lists of entries: what a map makes of them where one leaves, some leave, or one changes.
-use Rattle.std.proofs.Common.{◌≡◌, ◌≢◌, ℕ, zero, suc, ◌+◌, ◌-◌, ◌<◌, ◌≤◌, ◌⊎◌, inl, inr, Bool, true, false, cond, List, [], ◌∷◌, ◌++◌, length, map, take, set, get_or, filter, slice_get, Option, None, Some, refl, sym, ap, subst, ◌∙◌, arith, true≢false}
+use Rattle.std.proofs.Common.{◌≡◌, ◌≢◌, ℕ, zero, suc, ◌+◌, ◌-◌, ◌<◌, ◌⊎◌, inl, inr, Bool, true, false, cond, List, [], ◌∷◌, ◌++◌, length, map, take, set, get_or, filter, slice_get, Option, None, Some, refl, sym, ap, ◌∙◌, arith, true≢false}
 use Rattle.std.specs.List.{swap_remove, AllByRecursion, IsDistinct}
 use Rattle.std.specs.Map.{keys_of}
 use Rattle.std.specs.Option.{option_map, option_map_or}
-use Rattle.std.proofs.lemmas.List.{map-set, take-map, get_or-take, get_or-set_other, get_or-set_same, length-set, length-take}
+use Rattle.std.proofs.lemmas.List.{map-set, take-map, get_or-take, get_or-set_other, get_or-set_same, length-take}
 use Rattle.std.proofs.lemmas.Option.{slice_get-map, slice_get_within, get_or_from_slice_get, slice_get-get_or}
 use Rattle.std.proofs.lemmas.Bool.Decides.{eqb_tells}
 use Rattle.std.proofs.lemmas.Map.Keys.{IsDistinct-head, IsDistinct-tail}

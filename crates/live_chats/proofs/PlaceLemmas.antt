@@ -1,5 +1,5 @@
 -- What stands at places, from one call to the next.
-use Rattle.std.proofs.Common.{◌≡◌, ◌≢◌, ℕ, ◌⊎◌, inl, inr, false, Option, None, Some, List, [], ◌∷◌, ◌++◌, slice_get, refl, sym, ap, subst, ◌∙◌, Global, Box}
+use Rattle.std.proofs.Common.{◌≡◌, ℕ, Option, None, Some, List, [], ◌∷◌, ◌++◌, slice_get, refl, sym, ap, subst, ◌∙◌, Global, Box}
 use Rattle.sq_base.specs.declared.kinds.Tuple.{Tuple}
 use Rattle.live_server.specs.declared.conn.Conn.{Conn}
 use Rattle.squeue_streams.specs.Taking.{state_of}
@@ -16,7 +16,6 @@ use Rattle.live_chats.specs.Seating.{Begins, KeptBut, KeptOpen, chat_at}
 use Rattle.live_chats.specs.Telling.{IsFirst, Tells}
 use Rattle.live_chats.specs.declared.chats.Chats.{Chats}
 use Rattle.live_chats.specs.declared.ear.Ear.{Ear}
-use Rattle.live_chats.specs.declared.ear.Heard.{Heard}
 use Rattle.live_chats.specs.declared.item.Item.{Item}
 use Rattle.live_chats.specs.declared.item.Item.TheVariants.{Opens}
 use Rattle.live_chats.proofs.HearLemmas.{hearing_all-append, items_tell}

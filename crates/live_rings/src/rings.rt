@@ -1,6 +1,6 @@
 //! Streams by several squeues, which are served beside each other: each by a ring of its squeue.
 
-ghost use Rattle.std.specs.Prelude.{◌≡◌, ◌≤◌, ◌<◌, ℕ, All, IfOk, length, slice_index_or};
+ghost use Rattle.std.specs.Prelude.{◌≤◌, ◌<◌, ℕ, All, IfOk, length, slice_index_or};
 ghost use Rattle.live_rings.specs.declared.ending.Ended.{Ended};
 ghost use Rattle.live_rings.specs.declared.groups.Group.{Group};
 ghost use Rattle.live_rings.specs.declared.ending.Ends.{Ends};

@@ -4,15 +4,14 @@
 //! both ends of which lie at it as long as its part is at no squeue. Each ring gets all places of the squeue, by number, of which those of
 //! other rings are out; and its pass has a life that no run uses up.
 
-ghost use Rattle.std.specs.Prelude.{◌≡◌, ◌≢◌, ◌+◌, ◌*◌, ◌%◌, ◌<◌, ◌≤◌, ◌^◌, ℕ, [], Some, IfOk, length, replicate, slice_get};
+ghost use Rattle.std.specs.Prelude.{◌≡◌, ◌≢◌, ◌+◌, ◌*◌, ◌%◌, ◌<◌, ◌≤◌, ◌^◌, ℕ, Some, IfOk, length, replicate, slice_get};
 ghost use Rattle.turn_gate.specs.Passes.{AreFresh};
 ghost use Rattle.histories.specs.Elements.{number_of};
 ghost use Rattle.placed_parts.specs.Placing.{Stands, limits_of, origin_of, size_of};
 ghost use Rattle.placed_parts.specs.Standing.{all_new};
 ghost use Rattle.squeue_state.specs.Behind.{ever};
 ghost use Rattle.squeue_streams.specs.Taking.{most_feeds, most_leaves};
-ghost use Rattle.stream_stays.specs.Places.{chain_of, life_of, places_of, touched_of};
-ghost use Rattle.live_rings.specs.Seating.{AreNewPairs, AreNewPlaces, AreOwnPlaces, AreOwnStays, ServesPlaces, lives_of, numbers_of, one_life};
+ghost use Rattle.live_rings.specs.Seating.{AreNewPairs, AreNewPlaces, AreOwnStays, ServesPlaces, lives_of, numbers_of};
 
 use live_chats::{Chat, Chats, Item};
 use perimeter_core::Resident;

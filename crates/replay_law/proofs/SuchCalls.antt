@@ -1,13 +1,11 @@
 -- Accepted words ask for a setup and calls such as lines can say.
-use Rattle.std.proofs.Common.{◌≡◌, ℕ, ◌<◌, ◌≤◌, ◌==◌, ◌&&◌, Bool, true, false, Option, Some, None, List, [], ◌∷◌, suc, length, map, filter, refl, ap, subst, if◌then◌else◌, arith}
-use Rattle.std.specs.Prelude.{All, nat_le, codes, option_and_then, option_map}
+use Rattle.std.proofs.Common.{◌≡◌, ℕ, ◌<◌, ◌≤◌, ◌==◌, Bool, true, false, Option, Some, None, List, [], ◌∷◌, suc, length, map, filter, refl, subst, if◌then◌else◌, arith}
+use Rattle.std.specs.Prelude.{All, codes, option_and_then, option_map}
 use Rattle.std.specs.Str.{bytes_eq}
 use Rattle.std.proofs.lemmas.Bool.{false≢true}
 use Rattle.std.proofs.lemmas.List.Elements.{All-cons, All-filter, All-from_recursion, All-map, All-nil}
 use Rattle.tcb_machine.specs.declared.kinds.Call.{Call}
 use Rattle.tcb_machine.specs.declared.kinds.Call.TheVariants as Asks
-use Rattle.conn_blocks.specs.Limits.{most_calls}
-use Rattle.ring_quotas.specs.declared.setup.Setup.{Setup}
 use Rattle.shell.specs.Asked.{calls_of}
 use Rattle.shell.specs.Numbers.{number_between}
 use Rattle.shell.specs.Words.{calls_in}

@@ -4,7 +4,7 @@ use Rattle.std.specs.List.{flat_map, enumerate_from}
 use Rattle.std.specs.Option.{option_map}
 use Rattle.text_digits.specs.Told.{Told, more}
 use Rattle.text_digits.proofs.Joins.{more_more, more_none}
-use Rattle.std.proofs.lemmas.List.{drop_all, append-nil}
+use Rattle.std.proofs.lemmas.List.{drop_all}
 use Rattle.std.proofs.lemmas.Option.{get_or_from_slice_get, slice_get-map}
 use Rattle.perimeter_core.specs.declared.entries.Act.{Act}
 use Rattle.sq_base.specs.declared.kinds.Tuple.{Tuple}

@@ -1,5 +1,5 @@
 -- A text that grows by one line for each element of a list.
-use Rattle.std.proofs.Common.{◌≡◌, ℕ, ◌+◌, List, [], ◌∷◌, ◌++◌, take, slice_get, Some, sym, ap, ◌∙◌, append_assoc}
+use Rattle.std.proofs.Common.{◌≡◌, ℕ, ◌+◌, List, [], ◌∷◌, ◌++◌, take, slice_get, Some, sym, ap, ◌∙◌}
 use Rattle.text_digits.specs.Told.{Told, more}
 use Rattle.text_digits.proofs.Joins.{more_more}
 use Rattle.std.specs.List.{flat_map}

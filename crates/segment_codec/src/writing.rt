@@ -1,6 +1,6 @@
 //! A sent segment in bytes. Both checksums are taken over the fields as numbers first, so each byte is written once.
 
-ghost use Rattle.std.specs.Prelude.{◌≡◌, ◌≤◌, ◌+◌, ◌*◌, ◌/◌, ◌<◌, length, take, IfOk, IsOk, OnOk, OnErr, ◌++◌, ◌∷◌, [], if◌then◌else◌, is_ok, flat_map};
+ghost use Rattle.std.specs.Prelude.{◌≡◌, ◌≤◌, ◌+◌, ◌*◌, ◌<◌, length, take, IfOk, IsOk, OnOk, OnErr, ◌++◌, ◌∷◌, [], if◌then◌else◌, is_ok, flat_map};
 ghost use Rattle.std.specs.Prelude.{vec_capacity, vec_len};
 ghost use Rattle.byteorder.specs.Endian.{big_bytes};
 ghost use Rattle.sq_base.specs.InternetSum.{word_sum, reduced};

@@ -1,6 +1,6 @@
 //! Lines under the program's name. Where a write fails nothing is tried behind it, since there is nobody left to tell.
 
-ghost use Rattle.std.specs.Prelude.{◌≡◌, ◌++◌};
+ghost use Rattle.std.specs.Prelude.{◌++◌};
 ghost use Rattle.sq_base.specs.Ends.{end_of};
 ghost use Rattle.shell.specs.Telling.{TellsLine};
 

@@ -1,6 +1,5 @@
 //! The line that says which words a program takes. It is written from the program's table, and takes no memory.
 
-ghost use Rattle.std.specs.Prelude.{◌≡◌};
 ghost use Rattle.sq_base.specs.Ends.{end_of};
 ghost use Rattle.shell.specs.Table.{option_of, options_of, table_of, takes_of};
 ghost use Rattle.shell.specs.Telling.{TellsLine, WritesAll};

@@ -10,8 +10,8 @@ use Rattle.perimeter_core.specs.declared.entries.Act.{Act}
 use Rattle.perimeter_core.specs.Blocks.{Blocks, fresh, none_done}
 use Rattle.placed_parts.specs.declared.parts.Parts.{Ghosts}
 use Rattle.placed_parts.specs.declared.places.Places.{Places}
-use Rattle.placed_parts.specs.Placing.{IsItsPart, MayBe, Stands, limits_of, origin_of, shared_of, size_of}
-use Rattle.placed_parts.specs.Standing.{HasFed, InOrder, PlaceAt, PlacesStand, first_here}
+use Rattle.placed_parts.specs.Placing.{IsItsPart, MayBe, Stands, origin_of, shared_of, size_of}
+use Rattle.placed_parts.specs.Standing.{HasFed, PlaceAt, PlacesStand, first_here}
 use Rattle.histories.proofs.ListPlaces.{some_at}
 use Rattle.squeue_rings.proofs.Slots.{got_at}
 use Rattle.squeue_rings.proofs.Tasked.{each_more}

@@ -17,7 +17,7 @@ ghost use Rattle.synch_enter.specs.Synch.{Came, StandsAtItsAsk};
 ghost use Rattle.conn_migrate.specs.Moving.{Moved};
 ghost use Rattle.stream_stays.specs.declared.stay.Stay.{Stay};
 ghost use Rattle.stream_stays.specs.declared.place.Place.TheVariants.{Open};
-ghost use Rattle.stream_stays.specs.Staying.{IsOfRing, producer_of, pushed_of, sent_of};
+ghost use Rattle.stream_stays.specs.Staying.{IsOfRing, pushed_of};
 ghost use Rattle.stream_stays.specs.Places.{Knows, chain_of, life_of, place_at, touched_of};
 ghost use Rattle.stream_stays.specs.Settling.{Collected, KeepsParts, MaySettle, SamePlaces, WasCollected, sent_in};
 

@@ -4,7 +4,7 @@
 //! does: one that grows in memory for want of it, and none that appends digits alone where there is room.
 #![tactic(auto)]
 
-ghost use Rattle.std.specs.Prelude.{◌≡◌, ℕ, ◌+◌, ◌*◌, ◌≤◌, ◌++◌, IsOk, OnOk, if◌then◌else◌, is_ok, length};
+ghost use Rattle.std.specs.Prelude.{◌≡◌, ◌+◌, ◌*◌, ◌≤◌, ◌++◌, IsOk, OnOk, if◌then◌else◌, is_ok, length};
 ghost use Rattle.hex.specs.Hex.{encode_lower};
 ghost use Rattle.text_digits.specs.Told.{more};
 

@@ -1,4 +1,4 @@
-use Rattle.std.proofs.Common.{◌≡◌, ◌<◌, ◌≤◌, ◌∙◌, inl, length, refl, arith}
+use Rattle.std.proofs.Common.{◌≤◌, ◌∙◌, inl, length, refl, arith}
 use Rattle.placed_parts.specs.Placing.{limits_of, origin_of}
 use Rattle.live_chats.specs.Seating.{goes}
 use Rattle.live_chats.proofs.ClosingLemmas.{closed_conns, closed_seats, closing_at_first, closing_on, closing_pays}

@@ -1,8 +1,8 @@
-use Rattle.std.proofs.Common.{◌≡◌, ◌≤◌, ◌<◌, ◌++◌, List, length, slice_get, Some, ap, sym, ◌∙◌, arith}
+use Rattle.std.proofs.Common.{◌≡◌, ◌<◌, ◌++◌, List, length, slice_get, Some, ap, sym, ◌∙◌, arith}
 use Rattle.sq_base.specs.declared.kinds.Tuple.{Tuple}
 use Rattle.live_server.specs.declared.acting.Datagram.{Datagram}
 use Rattle.live_server.specs.declared.conn.Conn.{Conn}
-use Rattle.live_server.proofs.ReachLemmas.{all_told, all_turned_by, one_lost, one_told, one_turn}
+use Rattle.live_server.proofs.ReachLemmas.{one_lost, one_told, one_turn}
 use Rattle.live_server.proofs.TableLemmas.{without_set}
 use Rattle.live_chats.specs.Seating.{HeardAt, conn_of_seat, conns_of}
 use Rattle.live_chats.specs.declared.ear.Heard.{Heard}

@@ -1,10 +1,10 @@
-use Rattle.std.proofs.Common.{◌≡◌, ◌+◌, ◌≤◌, ℕ, length, ap, sym, subst, ◌∙◌, arith, ◌++◌, ◌∷◌, []}
+use Rattle.std.proofs.Common.{◌+◌, ℕ, length, ap, sym, ◌∙◌, arith, ◌++◌, ◌∷◌, []}
 use Rattle.std.proofs.lemmas.List.{length-append}
 use Rattle.squeue_state.specs.declared.guarded.Life.{Life}
 use Rattle.placed_parts.specs.Placing.{limits_of, origin_of}
 use Rattle.live_server.specs.Facts.{facts_of}
 use Rattle.live_server.specs.declared.conn.Conn.{Conn}
-use Rattle.live_chats.specs.Seating.{Begins, KeptOpen, conns_of}
+use Rattle.live_chats.specs.Seating.{Begins, conns_of}
 use Rattle.live_chats.proofs.PlaceLemmas.{open_on}
 use Rattle.live_chats.proofs.SeatLemmas.{entered_last, kept_seats, of_some, open_conns, pushed_conns, pushed_distinct, pushed_seated}
 use Rattle.live_chats.proofs.seats.seat_new.Goals as goal

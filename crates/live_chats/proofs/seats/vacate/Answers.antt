@@ -1,7 +1,7 @@
-use Rattle.std.proofs.Common.{◌≡◌, ap, sym, subst, ◌∙◌, arith}
+use Rattle.std.proofs.Common.{sym, subst, arith}
 use Rattle.sq_base.specs.declared.kinds.Tuple.{Tuple}
 use Rattle.stream_stays.specs.Places.{IsOpen}
-use Rattle.live_chats.specs.Seating.{KeptBut, left_at}
+use Rattle.live_chats.specs.Seating.{KeptBut}
 use Rattle.live_chats.specs.declared.seat.Seat.{Seat}
 use Rattle.live_chats.proofs.SeatLemmas.{left_conns, left_distinct, left_length, left_seated, same_entry}
 use Rattle.live_chats.proofs.seats.vacate.Goals as goal

@@ -1,5 +1,4 @@
-use Rattle.std.proofs.Common.{◌≡◌, None, Some, length, rules, slice_get, ap, sym, ◌∙◌, arith}
-use Rattle.ring_threads.specs.Lying.{blocks_at}
+use Rattle.std.proofs.Common.{◌≡◌, None, Some, rules, ap, sym, ◌∙◌, arith}
 use Rattle.ring_threads.proofs.Lying.{as_many, lies_at}
 use Rattle.ring_threads.proofs.served.left_block.Goals as goal
 

@@ -25,7 +25,7 @@ use denote.Shadow.{makes_shadow}
 use denote.Signature.{types_at, type_at}
 use denote.Steps.{nothing}
 use denote.Triple.Clauses.{Clauses, closing}
-use denote.Triple.Entry.{on_entry, alive}
+use denote.Triple.Entry.{alive}
 use denote.Triple.Spec.{Meets, triple_of}
 use denote.Triple.Table.{entered}
 use denote.Triple.Walked.{says, Stays, walk_of, ends_at, walk_Meets}
