@@ -3,7 +3,8 @@
 //! | Line | What it adds |
 //! |---|---|
 //! | `pcap` or `pcap LINK` | a file's header: little-endian, microseconds, of this link type or of raw IP |
-//! | `AT FLAGS SEQ ACK WINDOW [options HEX] [TEXT]` | a record at AT microseconds with a segment, its checksums 0; FLAGS are letters of `SAPFRU`, or `-` for none |
+//! | `AT FLAGS SEQ ACK WINDOW [options HEX] [TEXT]` | a record at AT microseconds with a segment, its checksums 0; FLAGS are letters of
+//! `SAPFRU`, or `-` for none |
 //! | `AT udp [TEXT]` | a record with a datagram, its checksums 0 |
 //! | `hex HEX` | these bytes |
 //! | `zeros N` | so many zeros |

@@ -17,7 +17,8 @@ struct Count {
 }
 
 /// Runs the rows of the files that the process' words name. `judge` does what a row of a file says, and compares what came with what is
-/// wanted; its fault says what differs, or that the row has a field that is none there ([`Row::expect_fields`]). Prints a line for each row that fails, and one with the count: `N rows passed, M failed`.
+/// wanted; its fault says what differs, or that the row has a field that is none there ([`Row::expect_fields`]). Prints a line for each row
+/// that fails, and one with the count: `N rows passed, M failed`.
 /// The status is 0 where none failed, else 1.
 pub fn run_cases<
     R: Env + Files + AllocGlobal + Print,

@@ -177,7 +177,8 @@ pub fn sort(
     packets: &[Packet],
 ) -> Result<Sorted, AllocError>
     requires { length packets.now ≡ length capture.now.packets }
-    ensures { IfOk result (λ s. s ≡ sorted_of ports (length capture.now.packets) capture.now.cut (conns ports packets.now) (seen_of capture.now.packets packets.now)) }
+    ensures { IfOk result (λ s. s ≡ sorted_of ports (length capture.now.packets) capture.now.cut
+        (conns ports packets.now) (seen_of capture.now.packets packets.now)) }
 {
     let mut sorted = Sorted {
         tuples: IndexSet::new(alloc),

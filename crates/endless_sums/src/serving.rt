@@ -8,7 +8,8 @@ ghost use Rattle.squeue_serve.specs.Lending.{tasks_in};
 ghost use Rattle.endless_sums.specs.Telling.{AreTotalsOf};
 ghost use Rattle.endless_sums.specs.Making.{AreSources, setting_for};
 ghost use Rattle.endless_sums.specs.Preparing.{IsPrepared};
-ghost use Rattle.endless_sums.specs.Serving.{AreBrought, AreTasks, AreTotalsIn, HasSeenAll, HasSeenStreams, SawLast, ServesStreams, last_from, last_of, source_of, sources_in};
+ghost use Rattle.endless_sums.specs.Serving.{AreBrought, AreTasks, AreTotalsIn, HasSeenAll, HasSeenStreams, SawLast};
+ghost use Rattle.endless_sums.specs.Serving.{ServesStreams, last_from, last_of, source_of, sources_in};
 
 use crate::adding::Sums;
 use crate::bringing::Stint;
@@ -193,7 +194,8 @@ where
     requires passes { (length passes.items ≡ length squeue.given.quotas + 1) × AreFresh number_of squeue.gate 0 passes.items }
     requires tasks { AreTasks squeue.given.rings (tasks_in prepared.jobs.items) }
     requires prepared { IsPrepared prepared }
-    ensures { HasSeenStreams squeue (λ r seen. V.says reader.now.reader (parts_of r) seen) stint result.ended result.resident result.sources.items result.last result.end }
+    ensures { HasSeenStreams squeue (λ r seen. V.says reader.now.reader (parts_of r) seen)
+        stint result.ended result.resident result.sources.items result.last result.end }
 {
     serve(rt, squeue, alloc, reader, stint, passes, prepared)
 }

@@ -16,7 +16,8 @@ use Rattle.live_server.specs.Initial.{number_for}
 use Rattle.live_server.specs.Isolation.{IsTable}
 use Rattle.live_server.specs.Leaving.{is_leaving}
 use Rattle.live_server.specs.Services.{is_served_at}
-use Rattle.live_server.specs.Serving.{Outcome, ServerOf, has_place, heeded, heeded_text, is_waiting, limited, makes_place, noting, numbered, refused, served, time_to, yields}
+use Rattle.live_server.specs.Serving.{Outcome, ServerOf, has_place, heeded, heeded_text, is_waiting, limited, makes_place}
+use Rattle.live_server.specs.Serving.{noting, numbered, refused, served, time_to, yields}
 use Rattle.live_server.specs.Table.{Conns, all_reached, conn_at, place_of, without_over}
 use Rattle.live_server.specs.declared.conn.Conn.{Conn}
 use Rattle.live_server.specs.declared.setting.Setting.{Setting}

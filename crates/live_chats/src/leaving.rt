@@ -97,9 +97,11 @@ fn close_all<H: Wait + Drop, W: Wait>(
     who: &Who,
 ) -> Pass
     requires { HasSeats limits_of line.now.squeue.now (origin_of line.now.squeue.now.given.first) pass stays.old seats.now.entries }
-    ensures seats { HasSeats limits_of line.now.squeue.now (origin_of line.now.squeue.now.given.first) result stays.new (filter (λ e. not (goes who.now e.1.facts)) seats.now.entries) }
+    ensures seats { HasSeats limits_of line.now.squeue.now (origin_of line.now.squeue.now.given.first) result stays.new
+        (filter (λ e. not (goes who.now e.1.facts)) seats.now.entries) }
     ensures number { number result ≡ number pass }
-    ensures table { conns_of stays.new (filter (λ e. not (goes who.now e.1.facts)) seats.now.entries) ≡ filter (λ c. not (goes who.now (facts_of c.1))) (conns_of stays.old seats.now.entries) }
+    ensures table { conns_of stays.new (filter (λ e. not (goes who.now e.1.facts)) seats.now.entries)
+        ≡ filter (λ c. not (goes who.now (facts_of c.1))) (conns_of stays.old seats.now.entries) }
 {
     let mut pass = pass;
     for i in 0..seats.len() {

@@ -108,7 +108,8 @@ impl<H: Wait + Drop, W: Wait> Line<'_, Places<Streams<Chats, H>>, W> {
         ensures others { KeptBut c stays.old stays.new }
         ensures asks { (life_of stays.old).asks ≤ (life_of stays.new).asks + 1 }
         ensures chat { (chat_at stays.new c ≡ hearing item (chat_at stays.old c)) ⊎ (chat_at stays.new c ≡ chat_at stays.old c) }
-        ensures heard { IfSome result.1 (λ h. (chat_at stays.new c ≡ hearing item (chat_at stays.old c)) × IsAnswer (chat_at stays.new c) h out.old.items out.new.items) }
+        ensures heard { IfSome result.1 (λ h. (chat_at stays.new c ≡ hearing item (chat_at stays.old c))
+            × IsAnswer (chat_at stays.new c) h out.old.items out.new.items) }
     {
         let mut ear = Ear {
             alloc,

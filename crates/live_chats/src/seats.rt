@@ -47,7 +47,8 @@ pub(crate) fn seat_at(seats: &Table, i: usize) -> Seat
 /// What a seat knows of its connection is learnt anew.
 fn learn(seats: &mut Table, i: usize, facts: Facts)
     requires { i < length seats.old.entries }
-    ensures { (t : Tuple) (seat : Seat) → slice_get seats.old.entries i ≡ Some (t, seat) → seats.new.entries ≡ set_value_at seats.old.entries i (record seat { facts = facts }) }
+    ensures { (t : Tuple) (seat : Seat) → slice_get seats.old.entries i ≡ Some (t, seat)
+        → seats.new.entries ≡ set_value_at seats.old.entries i (record seat { facts = facts }) }
 {
     let (_, seat) = seats.pair_mut(i);
     seat.facts = facts;

@@ -68,7 +68,8 @@ impl<'q, H: Wait + Drop, W: Wait, N: Closes> Seats<'q, Places<Streams<Chats, H>>
         requires knows { Knows IsFirst Tells limits_of squeue.now (origin_of squeue.now.given.first) pass stays }
         requires none { (chain_of stays ≡ []) × (touched_of stays ≡ []) }
         requires closes { (q : Pass Element) → MayClose limits_of squeue.now q → number q ≡ number pass → N.closes q }
-        ensures good { IsGood limits_of result.line.squeue.now (origin_of result.line.squeue.now.given.first) N.closes result.pass result.stays result.seats.entries }
+        ensures good { IsGood limits_of result.line.squeue.now (origin_of result.line.squeue.now.given.first)
+            N.closes result.pass result.stays result.seats.entries }
         ensures conns { conns_of result.stays result.seats.entries ≡ [] }
     {
         Seats {

@@ -14,7 +14,8 @@ are_for_rings (w ∷ ws) = bytes_eq w (codes "--rings")
 
 -- a run that is set up as asked for, with this secret; it goes on where memory is missing, unless its secret was given
 abbrev pub setup_by : Words → Secret → Setup
-setup_by w secret = record { rings = w.rings; squeues = w.squeues; mode = w.mode; budget = w.budget; setting = w.setting; secret = secret; goes_on = is_none w.secret }
+setup_by w secret = record { rings = w.rings; squeues = w.squeues; mode = w.mode; budget = w.budget; setting = w.setting; secret = secret;
+    goes_on = is_none w.secret }
 
 -- the fault of the first stream that has one
 abbrev pub first_fault : List (Option Fault) → Option Fault

@@ -1,5 +1,6 @@
 -- How places are made and dealt to rings, and what their squeue is made with.
-use Rattle.std.specs.Prelude.{◌≡◌, ◌≢◌, ℕ, zero, suc, ◌+◌, ◌*◌, ◌%◌, ◌^◌, ◌<◌, ◌≤◌, false, Some, List, [], ◌∷◌, ◌++◌, length, replicate, slice_get, slice_index, slice_index_or}
+use Rattle.std.specs.Prelude.{◌≡◌, ◌≢◌, ℕ, zero, suc, ◌+◌, ◌*◌, ◌%◌, ◌^◌, ◌<◌, ◌≤◌, false, Some, List, [], ◌∷◌, ◌++◌, length}
+use Rattle.std.specs.Prelude.{replicate, slice_get, slice_index, slice_index_or}
 use Rattle.std.proofs.Common.{Global}
 use Rattle.rtrb.specs.declared.AnyItems.{AnyItems}
 use Rattle.rtrb.specs.declared.producer.Producer.{Producer}
@@ -38,7 +39,8 @@ pub record IsNewPair (producer : Producer Item Global AnyItems) (part : Stream I
 -- there are so many of each, and those of one number are a pair
 pub record AreNewPairs (count : ℕ) (producers : List (Producer Item Global AnyItems)) (parts : List (Stream Item ChatOf)) : Type 0 where
   pub many : (length producers ≡ count) × (length parts ≡ count)
-  pub each : (c : ℕ) (producer : Producer Item Global AnyItems) (part : Stream Item ChatOf) → slice_get producers c ≡ Some producer → slice_get parts c ≡ Some part → IsNewPair producer part
+  pub each : (c : ℕ) (producer : Producer Item Global AnyItems) (part : Stream Item ChatOf) → slice_get producers c ≡ Some producer
+      → slice_get parts c ≡ Some part → IsNewPair producer part
 
 -- Nobody was ever at this place: the part of its number lies at it, and the other end of that part's ring. It may be left so often
 pub record IsNewPlace (parts : List (Stream Item ChatOf)) (c : ℕ) (place : Place Item ChatOf) : Type 0 where

@@ -60,7 +60,8 @@ pub(crate) fn run_rings<
 >(rt: &W, sq: &Squeue<Parts<H>>, alloc: Global, setup: &Setup, jobs: &mut [Job<Task<S, K>>])
     requires setup { IsInRange setup.now }
     requires jobs { All (IsReady sq.now) jobs.old }
-    ensures { (k : ℕ) (d : Job (Task S K)) → k < length jobs.old → Ran limits_of sq.now (HasEnded S.rest S.read_faults K.contents K.write_faults setup.now) (slice_index_or jobs.old k d) (slice_index_or jobs.new k d) }
+    ensures { (k : ℕ) (d : Job (Task S K)) → k < length jobs.old
+        → Ran limits_of sq.now (HasEnded S.rest S.read_faults K.contents K.write_faults setup.now) (slice_index_or jobs.old k d) (slice_index_or jobs.new k d) }
 {
     run_each(
         rt,

@@ -54,7 +54,8 @@ pub fn serve_stream<T: ConnTable, S: Source, K: Sink>(
     ensures written { OnOk result (lost.new ≡ false
         → IfSome (S.rest source.old) (λ input. Appends (K.contents sink.old) (K.contents sink.new) (answers input (server_of T.conns rules.old)))) }
     ensures whole { OnOk result (IfSome (S.rest source.old) (λ input. rest_of input ≡ [])) }
-    ensures front { lost.new ≡ false → IfSome (S.rest source.old) (λ input. AppendsFront (K.contents sink.old) (K.contents sink.new) (answers input (server_of T.conns rules.old))) }
+    ensures front { lost.new ≡ false → IfSome (S.rest source.old)
+        (λ input. AppendsFront (K.contents sink.old) (K.contents sink.new) (answers input (server_of T.conns rules.old))) }
     ensures reading { result ≡ Err Fault.Reading → Rose (S.read_faults source.old) (S.read_faults source.new) }
     ensures writing { result ≡ Err Fault.Writing → Rose (K.write_faults sink.old) (K.write_faults sink.new) }
     ensures frames { result ≡ Err Fault.Frames → IfSome (S.rest source.old) (λ input. rest_of input ≢ []) }
@@ -84,7 +85,8 @@ fn serve_pieces<T: ConnTable, S: Source, K: Sink>(
     ensures written { OnOk result (lost.new ≡ false
         → IfSome (S.rest source.old) (λ input. Appends (K.contents sink.old) (K.contents sink.new) (answers input (server_of T.conns rules.old)))) }
     ensures whole { OnOk result (IfSome (S.rest source.old) (λ input. rest_of input ≡ [])) }
-    ensures front { lost.new ≡ false → IfSome (S.rest source.old) (λ input. AppendsFront (K.contents sink.old) (K.contents sink.new) (answers input (server_of T.conns rules.old))) }
+    ensures front { lost.new ≡ false → IfSome (S.rest source.old)
+        (λ input. AppendsFront (K.contents sink.old) (K.contents sink.new) (answers input (server_of T.conns rules.old))) }
     ensures reading { result ≡ Err Fault.Reading → Rose (S.read_faults source.old) (S.read_faults source.new) }
     ensures writing { result ≡ Err Fault.Writing → Rose (K.write_faults sink.old) (K.write_faults sink.new) }
     ensures frames { result ≡ Err Fault.Frames → IfSome (S.rest source.old) (λ input. rest_of input ≢ []) }
@@ -128,13 +130,17 @@ fn serve_piece<T: ConnTable, K: Sink>(
     ensures good { T.good rules.new.table }
     ensures sticky { lost.old ≡ true → lost.new ≡ true }
     ensures stops { goes_on ≡ false → lost.new ≡ lost.old }
-    ensures server { OnOk result (lost.new ≡ false → server_of T.conns rules.new ≡ (serves_frames (frames_in (pending.old.items ++ piece.now)) (server_of T.conns rules.old)).server) }
-    ensures written { OnOk result (lost.new ≡ false → Appends (K.contents sink.old) (K.contents sink.new) (answers (pending.old.items ++ piece.now) (server_of T.conns rules.old))) }
+    ensures server { OnOk result (lost.new ≡ false → server_of T.conns rules.new
+        ≡ (serves_frames (frames_in (pending.old.items ++ piece.now)) (server_of T.conns rules.old)).server) }
+    ensures written { OnOk result (lost.new ≡ false
+        → Appends (K.contents sink.old) (K.contents sink.new) (answers (pending.old.items ++ piece.now) (server_of T.conns rules.old))) }
     ensures left { OnOk result (pending.new.items ≡ rest_of (pending.old.items ++ piece.now)) }
     ensures kept { OnOk result (K.write_faults sink.new ≡ K.write_faults sink.old) }
-    ensures front { OnErr result (lost.new ≡ false → AppendsFront (K.contents sink.old) (K.contents sink.new) (answers (pending.old.items ++ piece.now) (server_of T.conns rules.old))) }
+    ensures front { OnErr result (lost.new ≡ false → AppendsFront (K.contents sink.old) (K.contents sink.new)
+        (answers (pending.old.items ++ piece.now) (server_of T.conns rules.old))) }
     ensures writing { result ≡ Err Fault.Writing → Rose (K.write_faults sink.old) (K.write_faults sink.new) }
-    ensures frames { result ≡ Err Fault.Frames → (frame_head ≤ length (rest_of (pending.old.items ++ piece.now))) × (is_broken (rest_of (pending.old.items ++ piece.now)) ≡ true) }
+    ensures frames { result ≡ Err Fault.Frames → (frame_head ≤ length (rest_of (pending.old.items ++ piece.now)))
+        × (is_broken (rest_of (pending.old.items ++ piece.now)) ≡ true) }
     ensures reading { result ≢ Err Fault.Reading }
     ensures words { result ≢ Err Fault.Words }
 {

@@ -1,5 +1,6 @@
 -- What one connection makes of a segment and of the time, and the datagrams of what it sends.
-use Rattle.std.specs.Prelude.{ℕ, ◌+◌, ◌-◌, ◌%◌, ◌^◌, ◌==◌, nat_le, nat_lt, ◌&&◌, ◌||◌, not, Bool, false, Option, None, Some, List, [], ◌∷◌, ◌++◌, length, map, if◌then◌else◌}
+use Rattle.std.specs.Prelude.{ℕ, ◌+◌, ◌-◌, ◌%◌, ◌^◌, ◌==◌, nat_le, nat_lt, ◌&&◌, ◌||◌, not, Bool, false, Option, None, Some}
+use Rattle.std.specs.Prelude.{List, [], ◌∷◌, ◌++◌, length, map, if◌then◌else◌}
 use Rattle.sq_base.specs.SerialOrder.{dist}
 use Rattle.byte_queues.specs.Limits.{send_space}
 use Rattle.byte_queues.specs.ReceiveQueue.{next_of}
@@ -30,7 +31,8 @@ use Rattle.live_server.specs.declared.service.Service.TheVariants.{Discard}
 
 -- a connection that nothing is known of, with its service, and the most text that a segment may have on its path; it has no place yet, so no number
 abbrev pub new_conn : Service → ℕ → ℕ → Conn
-new_conn service most now = record { tcb = new_block; number = 0; service = service; most = most; since = now; heard = now; quiet_until = 0; congestion = no_congestion }
+new_conn service most now = record { tcb = new_block; number = 0; service = service; most = most; since = now; heard = now; quiet_until = 0;
+    congestion = no_congestion }
 
 -- what stands for one where there is none
 abbrev pub no_conn : Conn

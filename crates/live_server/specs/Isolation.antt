@@ -84,4 +84,5 @@ LosesOne now before after = IsTable before → IsTable after × ((t : Tuple) × 
 
 -- what is sent for a segment goes to its own ends
 abbrev pub AnswersItsEnds : Type 0
-AnswersItsEnds = (now : ℕ) (s : Seg) (text : List ℕ) (sv : ServerOf) → All (λ (d : Datagram). (r : Reply) × (d ≡ datagram_of (tuple_of s) r)) (on_segment now s text sv).sent
+AnswersItsEnds = (now : ℕ) (s : Seg) (text : List ℕ) (sv : ServerOf)
+    → All (λ (d : Datagram). (r : Reply) × (d ≡ datagram_of (tuple_of s) r)) (on_segment now s text sv).sent

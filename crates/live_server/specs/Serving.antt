@@ -1,5 +1,6 @@
 -- What a server makes of a datagram and of the time.
-use Rattle.std.specs.Prelude.{ℕ, ◌+◌, ◌-◌, ◌^◌, ◌==◌, min, nat_le, nat_lt, ◌&&◌, not, bit_and, Bool, true, Some, unwrap_or, List, [], ◌∷◌, ◌++◌, length, if◌then◌else◌}
+use Rattle.std.specs.Prelude.{ℕ, ◌+◌, ◌-◌, ◌^◌, ◌==◌, min, nat_le, nat_lt, ◌&&◌, not, bit_and, Bool, true, Some, unwrap_or, List}
+use Rattle.std.specs.Prelude.{[], ◌∷◌, ◌++◌, length, if◌then◌else◌}
 use Rattle.std.specs.List.{flat_map}
 use Rattle.std.specs.Option.{option_map_or}
 use Rattle.segment_codec.specs.Packet.{packet_in}
@@ -109,7 +110,8 @@ numbered sv c = record c { number = sv.counts.opened }
 -- a connection takes a place that is free
 abbrev pub takes_free : Tuple → Conn → ServerOf → Outcome
 takes_free t c sv = record {
-  server = record sv { conns = sv.conns ++ (t, emptied (numbered sv c)) ∷ []; waiting = sv.waiting ++ (t, sv.counts.opened) ∷ []; counts = record sv.counts { opened = more 1 sv.counts.opened } };
+  server = record sv { conns = sv.conns ++ (t, emptied (numbered sv c)) ∷ []; waiting = sv.waiting ++ (t, sv.counts.opened) ∷ [];
+      counts = record sv.counts { opened = more 1 sv.counts.opened } };
   sent = sent_by t c;
 }
 

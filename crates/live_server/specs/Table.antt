@@ -1,5 +1,6 @@
 -- The table of connections: the two ends of each, with what is known of it.
-use Rattle.std.specs.Prelude.{◌≡◌, ℕ, ◌+◌, ◌-◌, ◌^◌, min, ◌==◌, ◌&&◌, not, [], ◌∷◌, ◌++◌, take, drop, Bool, List, map, filter, position, slice_get, swap_remove, Option, None, if◌then◌else◌}
+use Rattle.std.specs.Prelude.{◌≡◌, ℕ, ◌+◌, ◌-◌, ◌^◌, min, ◌==◌, ◌&&◌, not, [], ◌∷◌, ◌++◌, take, drop, Bool, List, map, filter}
+use Rattle.std.specs.Prelude.{position, slice_get, swap_remove, Option, None, if◌then◌else◌}
 use Rattle.std.specs.Map.{keys_of, lookup}
 use Rattle.std.specs.Option.{option_map_or}
 use Rattle.sq_base.specs.declared.kinds.Tuple.{Tuple}

@@ -3,7 +3,8 @@
 
 ghost use Rattle.std.specs.Prelude.{◌≡◌, ◌+◌, ◌*◌, ◌≤◌, not, nat_lt, if◌then◌else◌};
 ghost use Rattle.sq_base.specs.SerialOrder.{dist};
-ghost use Rattle.live_server.specs.Congestion.{bounded, calls_again, eased, flight, grown, halved, is_duplicate, is_fresh, is_open, no_congestion, reaches, recovers, repeated, seen, seen_window, segments, timed_out, tolerance};
+ghost use Rattle.live_server.specs.Congestion.{bounded, calls_again, eased, flight, grown, halved, is_duplicate, is_fresh};
+ghost use Rattle.live_server.specs.Congestion.{is_open, no_congestion, reaches, recovers, repeated, seen, seen_window, segments, timed_out, tolerance};
 
 use segment_codec::{ACK, FIN, RST, SYN, Seg};
 use sq_base::seq_dist;
@@ -112,7 +113,8 @@ impl Congestion {
 
     /// New bytes are acknowledged.
     fn acknowledge(&mut self, tcb: &Tcb, seg: &Seg)
-        ensures { self.new ≡ (if self.old.recovering then recovers (dist tcb.now.una seg.now.ack) seg.now tcb.now self.old else grown (dist tcb.now.una seg.now.ack) tcb.now self.old) }
+        ensures { self.new ≡ (if self.old.recovering then recovers (dist tcb.now.una seg.now.ack) seg.now tcb.now self.old
+            else grown (dist tcb.now.una seg.now.ack) tcb.now self.old) }
     {
         let count = seq_dist(tcb.snd_una(), seg.ack);
         if self.recovering {

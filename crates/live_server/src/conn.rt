@@ -1,7 +1,8 @@
 //! One connection: its block, and what the server keeps beside it.
 
 ghost use Rattle.std.specs.Prelude.{◌≡◌, ◌++◌, ◌≤◌, IfOk, OnOk};
-ghost use Rattle.live_server.specs.Acts.{after, emptied, has_room, is_half_open, is_idle, is_outside, is_over, judged, meets, new_conn, oldest_ack, provokes, reached, receives, renewed, resent, sent_by, taken, takes};
+ghost use Rattle.live_server.specs.Acts.{after, emptied, has_room, is_half_open, is_idle, is_outside, is_over, judged, meets};
+ghost use Rattle.live_server.specs.Acts.{new_conn, oldest_ack, provokes, reached, receives, renewed, resent, sent_by, taken, takes};
 ghost use Rattle.live_server.specs.Facts.{facts_of};
 ghost use Rattle.live_server.specs.Leaving.{is_given_up};
 ghost use Rattle.tcb_machine.specs.TcpStep.{is_time_wait};

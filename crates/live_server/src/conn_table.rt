@@ -82,7 +82,8 @@ pub trait ConnTable {
         requires place { place_of tuple.now (conns self.old) ≡ Some place }
         ensures good { good self.new }
         ensures met { IfOk result (λ m. m ≡ (meets now iss seg.now text.now tuple.now (conn_at place (conns self.old))).met) }
-        ensures table { OnOk result (conns self.new ≡ replaced place (meets now iss seg.now text.now tuple.now (conn_at place (conns self.old))).conn (conns self.old)) }
+        ensures table { OnOk result (conns self.new
+            ≡ replaced place (meets now iss seg.now text.now tuple.now (conn_at place (conns self.old))).conn (conns self.old)) }
         ensures sent { OnOk result (out.new.items ≡ out.old.items ++ (meets now iss seg.now text.now tuple.now (conn_at place (conns self.old))).sent) }
         ensures gone { IfOk result (λ m. m ≡ Gone → IsNew tuple.now (conns self.new)) }
         ensures lost { OnErr result (conns self.new ≡ without place (conns self.old)) };

@@ -9,7 +9,8 @@ ghost use Rattle.sq_base.specs.declared.kinds.Tuple.{Tuple};
 ghost use Rattle.tcb_machine.specs.Limits.{last_time};
 ghost use Rattle.live_server.specs.Initial.{number_for};
 ghost use Rattle.live_server.specs.Isolation.{Costs, KeepsStart, Loses};
-ghost use Rattle.live_server.specs.Serving.{addressed, arrives, fits, has_place, limited, makes_place, on_datagram, on_segment, on_time, opens, refused, server_of, takes_place, without_text, yields};
+ghost use Rattle.live_server.specs.Serving.{addressed, arrives, fits, has_place, limited, makes_place, on_datagram, on_segment};
+ghost use Rattle.live_server.specs.Serving.{on_time, opens, refused, server_of, takes_place, without_text, yields};
 ghost use Rattle.live_server.specs.Table.{place_of, IsNew};
 
 use crate::acting::{Datagram, encoded, text_of};
@@ -45,7 +46,8 @@ impl<T: ConnTable> Rules<T> {
     /// The rules over a table. They take no memory.
     pub fn over(alloc: Global, table: T, setting: Setting, secret: Secret) -> Rules<T>
         ensures table { result.table ≡ table }
-        ensures server { server_of T.conns result ≡ record { conns = T.conns table; waiting = []; held = 0; setting = setting; secret = secret.0; counts = no_counts } }
+        ensures server { server_of T.conns result ≡ record { conns = T.conns table; waiting = []; held = 0; setting = setting; secret = secret.0;
+            counts = no_counts } }
     {
         Rules {
             table,

@@ -58,7 +58,8 @@ pub record HasBooked (k : Account) (had : List Act) : Type 0 where
   pub feeds : fed had ≡ k.had
   pub credit : k.sums.credit ≡ min most (sum_by (credit_of (row_of (deposits_of k.bank) k.number) (transfers_of k.bank)) had)
   pub debit : k.sums.debit ≡ min most (sum_by (debit_of (transfers_of k.bank)) had)
-  pub small : sum_by (credit_of (row_of (deposits_of k.bank) k.number) (transfers_of k.bank)) had + sum_by (debit_of (transfers_of k.bank)) had ≤ most_amount * length had
+  pub small : sum_by (credit_of (row_of (deposits_of k.bank) k.number) (transfers_of k.bank)) had
+      + sum_by (debit_of (transfers_of k.bank)) had ≤ most_amount * length had
 
 -- an account is of its number, and of this bank
 pub record IsPartOf (bank : Bank) (c : ℕ) (k : Account) : Type 0 where

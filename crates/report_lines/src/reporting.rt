@@ -103,7 +103,8 @@ pub fn push_counts<T: TextEnd>(text: &mut T, counts: &Counts, conns: u32) -> Res
 /// The counts of the records, and of those that are served.
 #[tactic(auto, using(crate::proofs::Joins::joins))]
 fn push_served<T: TextEnd>(text: &mut T, counts: &Counts) -> Result<(), T::Fault>
-    ensures { OnOk result (T.told text.new ≡ more (T.told text.old) (codes "records " ++ (decimal counts.now.records ++ (codes " tail " ++ (decimal counts.now.tail
+    ensures { OnOk result (T.told text.new ≡ more (T.told text.old) (codes "records "
+        ++ (decimal counts.now.records ++ (codes " tail " ++ (decimal counts.now.tail
         ++ (codes " served " ++ (decimal counts.now.served ++ (codes " nofit " ++ decimal counts.now.nofit)))))))) }
 {
     push_field(text, b"records ", counts.records)?;
@@ -115,7 +116,8 @@ fn push_served<T: TextEnd>(text: &mut T, counts: &Counts) -> Result<(), T::Fault
 /// The counts of those that are dropped.
 #[tactic(auto, using(crate::proofs::Joins::joins))]
 fn push_dropped<T: TextEnd>(text: &mut T, counts: &Counts) -> Result<(), T::Fault>
-    ensures { OnOk result (T.told text.new ≡ more (T.told text.old) (codes " server " ++ (decimal counts.now.server ++ (codes " other " ++ (decimal counts.now.other
+    ensures { OnOk result (T.told text.new ≡ more (T.told text.old) (codes " server "
+        ++ (decimal counts.now.server ++ (codes " other " ++ (decimal counts.now.other
         ++ (codes " fragment " ++ (decimal counts.now.fragment ++ (codes " cut " ++ (decimal counts.now.cut
         ++ (codes " malformed " ++ (decimal counts.now.malformed ++ (codes " badsum " ++ decimal counts.now.badsum)))))))))))) }
 {

@@ -1,5 +1,6 @@
 -- The options of a TCP header (RFC 9293, 3.2; the window scale: RFC 7323, 2.2): what they say, read from bytes and written to bytes.
-use Rattle.std.specs.Prelude.{ℕ, ◌-◌, ◌<◌, ◌≡◌, ◌^◌, ◌==◌, nat_lt, ◌&&◌, ◌||◌, not, Bool, List, [], ◌∷◌, ◌++◌, length, take, Option, None, Some, IfSome, option_map, find, suc, zero, if◌then◌else◌}
+use Rattle.std.specs.Prelude.{ℕ, ◌-◌, ◌<◌, ◌≡◌, ◌^◌, ◌==◌, nat_lt, ◌&&◌, ◌||◌, not, Bool, List, [], ◌∷◌, ◌++◌, length, take}
+use Rattle.std.specs.Prelude.{Option, None, Some, IfSome, option_map, find, suc, zero, if◌then◌else◌}
 use Rattle.byteorder.specs.Endian.{big_bytes}
 use Rattle.segment_codec.specs.Places.{byte, word}
 use Rattle.segment_codec.specs.declared.options.Options.{Options}

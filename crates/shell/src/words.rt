@@ -3,7 +3,8 @@
 ghost use Rattle.std.specs.Prelude.{◌≡◌, ◌≢◌, None, Some, Err, IfOk, List, map, option_map, true};
 ghost use Rattle.std.specs.String.{string_bytes};
 ghost use Rattle.clap.specs.Words.{found_of, rows_of};
-ghost use Rattle.shell.specs.Asked.{asked, asked_of, calls_of, given_by, given_is, given_named, givens, givens_of, is_number, is_text, number_by, text_by, value_by, value_of};
+ghost use Rattle.shell.specs.Asked.{asked, asked_of, calls_of, given_by, given_is, given_named, givens, givens_of, is_number};
+ghost use Rattle.shell.specs.Asked.{is_text, number_by, text_by, value_by, value_of};
 ghost use Rattle.shell.specs.Command.{Holds, HoldsOne};
 ghost use Rattle.shell.specs.Table.{is_table, option_of, options_of, table_of};
 ghost use Rattle.shell.specs.Words.{Use, uses_of};

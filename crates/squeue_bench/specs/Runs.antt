@@ -10,7 +10,8 @@ use Rattle.squeue_bench.specs.declared.threads.Ring.{Ring}
 use Rattle.squeue_bench.specs.Rows.{IsRow}
 use Rattle.squeue_bench.specs.Places.{AtEach, MayBring}
 
--- the squeue has room for all that its rings enter where it has no bound, a ring for each pass but the worker's, and the key of each ring, which is here, has so many items
+-- the squeue has room for all that its rings enter where it has no bound, a ring for each pass but the worker's, and the key of each ring,
+-- which is here, has so many items
 pub record Suits {R : Type 0} (limits : R → Limits) (bound items : ℕ) (s : Named R) : Type 0 where
   pub its_rings : s.given.rings ≡ length s.given.quotas
   pub room : bound ≡ 0 → HasAllRoom s.given

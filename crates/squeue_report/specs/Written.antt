@@ -13,7 +13,8 @@ pub record HasTold (Is : List ℕ → Type 0) (old new : Told) : Type 0 where
 
 -- the text was written whole, and no write failed; or one failed, and a front of the text was written that isn't all of it
 abbrev pub Wrote : End → List ℕ → Result (Unit {0}) Failed → Type 0
-Wrote out text r = MatchResult r (λ _. Appends out.was out.is text × MetNoFault out) (λ _. AppendsProperly out.was out.is text × Rose out.faults_were out.faults_are)
+Wrote out text r = MatchResult r (λ _. Appends out.was out.is text × MetNoFault out)
+    (λ _. AppendsProperly out.was out.is text × Rose out.faults_were out.faults_are)
 
 -- a text of this kind was written so
 pub record IsWritten (Is : List ℕ → Type 0) (out : End) (r : Result (Unit {0}) Failed) : Type 0 where

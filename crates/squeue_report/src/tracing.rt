@@ -1,6 +1,7 @@
 //! The report of a run that kept its marks.
 
-ghost use Rattle.std.specs.Prelude.{[], ◌≡◌, ◌+◌, ◌<◌, ◌≤◌, ◌∷◌, ◌++◌, ◌^◌, true, codes, decimal, if◌then◌else◌, length, vec_capacity, drop, map, take, IfOk, OnOk};
+ghost use Rattle.std.specs.Prelude.{[], ◌≡◌, ◌+◌, ◌<◌, ◌≤◌, ◌∷◌, ◌++◌, ◌^◌, true, codes, decimal, if◌then◌else◌, length};
+ghost use Rattle.std.specs.Prelude.{vec_capacity, drop, map, take, IfOk, OnOk};
 ghost use Rattle.std.specs.List.{flat_map};
 ghost use Rattle.perimeter_core.specs.declared.marks.Mark.TheVariants as On;
 ghost use Rattle.squeue_state.specs.Told.{Within, mark_of, marks_of};

@@ -1,4 +1,5 @@
--- The lines that `sqrun` alone writes where it gives no output: those of a trace and of a CALL; `Words` has the usage line. The others are those of `shell` under its name.
+-- The lines that `sqrun` alone writes where it gives no output: those of a trace and of a CALL; `Words` has the usage line. The others are
+-- those of `shell` under its name.
 use Rattle.std.specs.Prelude.{ℕ, List, [], ◌++◌, codes}
 use Rattle.std.specs.Fmt.{decimal}
 use Rattle.shell.specs.Lines.{line}

@@ -50,7 +50,8 @@ pub record Found {R : Type 0} (limits : R → Limits) (s : Named R) (p : Pass El
   pub own : only number_of u.number u.found ≡ u.mine
   pub no_turn_yet : waited (steps p) u.made
   -- so what is queued can be counted in 32 bits
-  pub few : (length (run (setting_of limits s.given) u.found).hand + length (run (setting_of limits s.given) u.found).chain ≤ s.given.room) × (s.given.room ≤ most_room)
+  pub few : (length (run (setting_of limits s.given) u.found).hand + length (run (setting_of limits s.given) u.found).chain ≤ s.given.room)
+      × (s.given.room ≤ most_room)
 
 -- the pass afterwards has seen what the turn found and then the element, and made one more step, which freed the lock
 pub record Marked {R : Type 0} (u : Turned R) (e : Element) (p : Pass Element) : Type 0 where

@@ -264,7 +264,8 @@ impl<R: Resident> Inner<R> {
         requires out { self.old.resident ≡ None }
         ensures behind { (g : Given R) (H : List Element) (note : List Act) (p : ℕ) → Behind R.Resident g self.old H → IsLeft R.limits g H hand
             → IsPeri R.Resident g resident (peri_left R.limits g H hand act note)
-            → May (setting_of R.limits g) H (left_by_pass p (length hand.left) act note) → Behind R.Resident g self.new (H ++ left_by_pass p (length hand.left) act note ∷ []) }
+            → May (setting_of R.limits g) H (left_by_pass p (length hand.left) act note)
+            → Behind R.Resident g self.new (H ++ left_by_pass p (length hand.left) act note ∷ []) }
     {
         self.give_back(resident, hand);
         set_here(&mut self.here, act);

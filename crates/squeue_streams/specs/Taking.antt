@@ -50,7 +50,8 @@ module _ {T S : Type 0} where
 
   -- The state of stream c is what the steps make of all items that were popped, in order, from one in which it may begin with this end of
   -- a ring, of which it still holds the same end; and the stream counts these items
-  pub record IsStreamOf {O : Type 0} (begins : O → ℕ → Consumer T Global AnyItems → S → Type 0) (step : O → S → T → S → Type 0) (o : O) (c : ℕ) (stream : Stream T S) : Type 0 where
+  pub record IsStreamOf {O : Type 0} (begins : O → ℕ → Consumer T Global AnyItems → S → Type 0)
+      (step : O → S → T → S → Type 0) (o : O) (c : ℕ) (stream : Stream T S) : Type 0 where
     pub first : S
     pub first_input : Consumer T Global AnyItems
     pub begun : begins o c first_input first
@@ -59,7 +60,8 @@ module _ {T S : Type 0} where
     pub counted : stream.count ≡ length (received stream.input) % 2 ^ 64
 
   -- The stream has taken some items more, and no feed: it is still that of each number of which it was, as often fed
-  pub record HasTakenMore {O : Type 0} (begins : O → ℕ → Consumer T Global AnyItems → S → Type 0) (step : O → S → T → S → Type 0) (o : O) (from to : Stream T S) : Type 0 where
+  pub record HasTakenMore {O : Type 0} (begins : O → ℕ → Consumer T Global AnyItems → S → Type 0)
+      (step : O → S → T → S → Type 0) (o : O) (from to : Stream T S) : Type 0 where
     pub ring : SameConsumer from.input to.input
     pub feeds : feeds_of to ≡ feeds_of from
     pub more : length (items_of from) ≤ length (items_of to)

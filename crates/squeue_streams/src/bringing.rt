@@ -6,7 +6,8 @@ ghost use Rattle.turn_gate.specs.declared.pass.Pass.{Pass};
 ghost use Rattle.perimeter_core.specs.History.{Element};
 ghost use Rattle.histories.specs.Lists.{items_of};
 ghost use Rattle.squeue_enter.specs.Entering.{WasFull};
-ghost use Rattle.squeue_streams.specs.Sourcing.{Brings, IsRefused, IsSpent, SameCounts, SameSource, again_of, entered_of, left_of, most_of, producer_of, pushed_of, sent_of, span_of, stream_of};
+ghost use Rattle.squeue_streams.specs.Sourcing.{Brings, IsRefused, IsSpent, SameCounts, SameSource, again_of, entered_of};
+ghost use Rattle.squeue_streams.specs.Sourcing.{left_of, most_of, producer_of, pushed_of, sent_of, span_of, stream_of};
 
 use crate::renewing::{Renews, renew};
 use crate::source::{Source, SourcePace};
@@ -75,7 +76,8 @@ impl<T: Drop> Source<T> {
     /// in again first.
     pub fn push(&mut self, item: T) -> Result<(), T>
         ensures same { SameSource self.old self.new × (entered_of self.new ≡ entered_of self.old) × (again_of self.new ≡ again_of self.old) }
-        ensures pushed { OnOk result ((sent_of self.new ≡ sent_of self.old ++ item ∷ []) × (pushed_of self.new ≡ pushed_of self.old + 1) × (left_of self.old ≡ left_of self.new + 1)) }
+        ensures pushed { OnOk result ((sent_of self.new ≡ sent_of self.old ++ item ∷ []) × (pushed_of self.new ≡ pushed_of self.old + 1)
+            × (left_of self.old ≡ left_of self.new + 1)) }
         ensures back { IfErr result (λ x. (x ≡ item) × SameCounts self.old self.new) }
         ensures full { IfErr result (λ _. IsRefused self.new) }
     {
@@ -109,7 +111,8 @@ impl<T: Drop> Source<T> {
         ensures number { number result.0 ≡ number pass }
         ensures same { SameCounts self.old self.new }
         ensures all { result.1 ≡ true → entered_of self.new ≡ pushed_of self.new }
-        ensures full { result.1 ≡ false → (at : Pass Element) × WasFull R.limits sq.now (min (pushed_of self.new - entered_of self.new) (most_of self.new)) at result.0 }
+        ensures full { result.1 ≡ false → (at : Pass Element)
+            × WasFull R.limits sq.now (min (pushed_of self.new - entered_of self.new) (most_of self.new)) at result.0 }
     {
         let mut pass = pass;
         'chains: while self.entered < self.pushed {

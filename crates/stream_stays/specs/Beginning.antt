@@ -17,7 +17,8 @@ use Rattle.stream_stays.specs.declared.stay.Vacant.{Vacant}
 use Rattle.stream_stays.specs.Staying.{IsOfRing}
 use Rattle.stream_stays.specs.Places.{Knows, chain_of, life_of, place_at, touched_of}
 
-module _ {T S O : Type 0} (begins : O → ℕ → Consumer T Global AnyItems → S → Type 0) (step : O → S → T → S → Type 0) {R : Type 0} (limits : R → Limits) (s : Named R) (o : O) where
+module _ {T S O : Type 0} (begins : O → ℕ → Consumer T Global AnyItems → S → Type 0) (step : O → S → T → S → Type 0) {R : Type 0}
+    (limits : R → Limits) (s : Named R) (o : O) where
   -- The part of place c, which is of the pass's ring, is elsewhere at the start; both ends of its ring are here, and the ring is empty
   pub record IsNewVacant (p : Pass Element) (c : ℕ) (v : Vacant T S) : Type 0 where
     pub stream : v.stream ≡ c

@@ -43,7 +43,8 @@ module _ {T S : Type 0} where
   sent_in (Some (Vacant' v)) = sent v.producer
   sent_in _ = []
 
-module _ {V T S O : Type 0} (begins : O → ℕ → Consumer T Global AnyItems → S → Type 0) (step : O → S → T → S → Type 0) (takes : V → V → ℕ → S → Type 0) (o : O) where
+module _ {V T S O : Type 0} (begins : O → ℕ → Consumer T Global AnyItems → S → Type 0) (step : O → S → T → S → Type 0)
+    (takes : V → V → ℕ → S → Type 0) (o : O) where
   -- The collector was shown the state at place c, which the steps had made of all these items
   pub record WasCollected (from to : V) (c : ℕ) (sent : List T) : Type 0 where
     pub part : Stream T S

@@ -31,7 +31,8 @@ impl<T: Drop, S: Drop> Stays<T, S> {
     ghost use Rattle.stream_stays.specs.declared.stay.Vacant.{Vacant};
     ghost use Rattle.stream_stays.specs.Staying.{pushed_of};
     ghost use Rattle.stream_stays.specs.declared.place.Place.TheVariants.{Open, Vacant as Vacant'};
-    ghost use Rattle.stream_stays.specs.Places.{CanOpen, HasNoRoom, HasRoom, IsOpen, SameButPlaces, SameElsewhere, chain_of, life_of, place_at, places_of, touched_of};
+    ghost use Rattle.stream_stays.specs.Places.{CanOpen, HasNoRoom, HasRoom, IsOpen, SameButPlaces, SameElsewhere, chain_of};
+    ghost use Rattle.stream_stays.specs.Places.{life_of, place_at, places_of, touched_of};
 
     /// These places of a pass that has this life. `chain` has room for the feeds that are entered at once at most, and `touched` for the
     /// items that are pushed between two times that the places are settled.

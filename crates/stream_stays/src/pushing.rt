@@ -28,8 +28,10 @@ impl<T: Drop> Stay<T> {
     // Pushes an item where there is room for its feed, which somebody else enters. It answers the number of the feed.
     fn hand_on(&mut self, room: bool, item: T) -> Result<u32, T>
         ensures same { SameStay self.old self.new }
-        ensures pushed { MatchResult result (λ n. (n ≡ pushed_of self.old) × (pushed_of self.new ≡ n + 1) × (entered_of self.new ≡ n + 1) × (sent_of self.new ≡ sent_of self.old ++ item ∷ []))
-            (λ x. (x ≡ item) × (pushed_of self.new ≡ pushed_of self.old) × (entered_of self.new ≡ entered_of self.old) × (sent_of self.new ≡ sent_of self.old)) }
+        ensures pushed { MatchResult result (λ n. (n ≡ pushed_of self.old) × (pushed_of self.new ≡ n + 1) × (entered_of self.new ≡ n + 1)
+            × (sent_of self.new ≡ sent_of self.old ++ item ∷ []))
+            (λ x. (x ≡ item) × (pushed_of self.new ≡ pushed_of self.old) × (entered_of self.new ≡ entered_of self.old)
+                × (sent_of self.new ≡ sent_of self.old)) }
         ensures room { OnOk result (room ≡ true) }
         ensures full { OnErr result ((room ≡ false) ⊎ (known_free (producer_of self.new) ≡ 0) ⊎ (pushed_of self.new ≡ most_feeds)) }
     {
@@ -65,10 +67,13 @@ pub fn push_at<X: Steps + Drop, H: Wait + Drop>(
     requires open { IsOpen stays.old c }
     ensures knows { Knows X.begins X.step limits_of sq.now (origin_of sq.now.given.first) pass.now stays.new }
     ensures elsewhere { SameElsewhere c stays.old stays.new }
-    ensures same { (stay : Stay X.Item) × (next : Stay X.Item) × (place_at stays.old c ≡ Some (Open stay)) × (place_at stays.new c ≡ Some (Open next)) × SameStay stay next
-        × MatchResult result (λ _. (sent_of next ≡ sent_of stay ++ item ∷ []) × (pushed_of next ≡ pushed_of stay + 1)) (λ x. (x ≡ item) × (sent_of next ≡ sent_of stay) × (pushed_of next ≡ pushed_of stay))
+    ensures same { (stay : Stay X.Item) × (next : Stay X.Item) × (place_at stays.old c ≡ Some (Open stay))
+        × (place_at stays.new c ≡ Some (Open next)) × SameStay stay next
+        × MatchResult result (λ _. (sent_of next ≡ sent_of stay ++ item ∷ []) × (pushed_of next ≡ pushed_of stay + 1))
+            (λ x. (x ≡ item) × (sent_of next ≡ sent_of stay) × (pushed_of next ≡ pushed_of stay))
         × OnErr result (HasNoRoom stays.new ⊎ (known_free (producer_of next) ≡ 0) ⊎ (pushed_of next ≡ most_feeds)) }
-    ensures sent { MatchResult result (λ _. sent_in (place_at stays.new c) ≡ sent_in (place_at stays.old c) ++ item ∷ []) (λ _. sent_in (place_at stays.new c) ≡ sent_in (place_at stays.old c)) }
+    ensures sent { MatchResult result (λ _. sent_in (place_at stays.new c) ≡ sent_in (place_at stays.old c) ++ item ∷ [])
+        (λ _. sent_in (place_at stays.new c) ≡ sent_in (place_at stays.old c)) }
     ensures touched { MatchResult result (λ _. touched_of stays.new ≡ touched_of stays.old ++ c ∷ []) (λ _. touched_of stays.new ≡ touched_of stays.old) }
     ensures waiting { MatchResult result (λ _. length (chain_of stays.new) ≡ length (chain_of stays.old) + 1) (λ _. chain_of stays.new ≡ chain_of stays.old) }
     ensures life { (life_of stays.new).asks ≡ (life_of stays.old).asks }

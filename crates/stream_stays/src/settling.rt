@@ -65,7 +65,8 @@ pub fn settle<X: Steps + Drop, H: Wait + Drop, V: Collects<X>, W: Wait>(
     ensures spent { ((life_of stays.new).feeds ≡ (life_of stays.old).feeds) × ((life_of stays.old).asks ≡ (life_of stays.new).asks + 1) }
     ensures legal { Legal (setting_of limits_of sq.now.given) (seen result) }
     ensures grows { Begins (seen pass) (seen result) }
-    ensures fed { (c : ℕ) (stay : Stay X.Item) → place_at stays.old c ≡ Some (Open stay) → fed (acts (setting_of limits_of sq.now.given) (seen result) c) ≡ pushed_of stay }
+    ensures fed { (c : ℕ) (stay : Stay X.Item) → place_at stays.old c ≡ Some (Open stay)
+        → fed (acts (setting_of limits_of sq.now.given) (seen result) c) ≡ pushed_of stay }
     ensures settled { Collected X.begins X.step V.takes (origin_of sq.now.given.first) stays.old (touched_of stays.old) collector.old collector.new }
 {
     let mut owner = synch_enter(sq, rt, alloc, &NoHook, pass);
@@ -80,7 +81,8 @@ fn leave<R: Resident, W: Wait>(sq: &Squeue<R>, rt: &W, owner: Owner<R>) -> Pass
     requires stands { StandsAtItsAsk R.Resident sq.now [] owner }
     requires nothing { owner.act ≡ Done.None }
     ensures moved { (from : Pass Element) → Came R.limits sq.now from owner.pass → Moved R.limits sq.now Done.None [] from result }
-    ensures fed { (from : Pass Element) (d : ℕ) → Came R.limits sq.now from owner.pass → number from ≡ d % sq.now.given.rings → is_here (run (setting_of R.limits sq.now.given) (seen result)) d ≡ true
+    ensures fed { (from : Pass Element) (d : ℕ) → Came R.limits sq.now from owner.pass → number from ≡ d % sq.now.given.rings
+        → is_here (run (setting_of R.limits sq.now.given) (seen result)) d ≡ true
         → fed (acts (setting_of R.limits sq.now.given) (seen result) d) ≡ due (seen result) d }
 {
     let Owner {

@@ -46,7 +46,8 @@ pub fn open_at<X: Steps + Drop, H: Wait + Drop, W: Wait>(
     ensures put { Moved limits_of sq.now (Done.In c) [] pass result }
     ensures number { number result ≡ number pass }
     ensures elsewhere { SameElsewhere c stays.old stays.new }
-    ensures opened { (vacant : Vacant X.Item X.State) × (stay : Stay X.Item) × (place_at stays.old c ≡ Some (Vacant' vacant)) × (place_at stays.new c ≡ Some (Open stay)) × IsBegun vacant stay }
+    ensures opened { (vacant : Vacant X.Item X.State) × (stay : Stay X.Item) × (place_at stays.old c ≡ Some (Vacant' vacant))
+        × (place_at stays.new c ≡ Some (Open stay)) × IsBegun vacant stay }
     ensures sent { sent_in (place_at stays.new c) ≡ sent_in (place_at stays.old c) }
     ensures rest { (chain_of stays.new ≡ []) × (touched_of stays.new ≡ touched_of stays.old) }
     ensures spent { ((life_of stays.new).feeds ≡ (life_of stays.old).feeds) × ((life_of stays.old).asks ≡ (life_of stays.new).asks + 1) }
@@ -77,9 +78,11 @@ pub fn close_at<X: Steps + Drop, H: Wait + Drop, W: Wait>(
     ensures out { Moved limits_of sq.now (Done.Out c) [] pass result }
     ensures number { number result ≡ number pass }
     ensures elsewhere { SameElsewhere c stays.old stays.new }
-    ensures closed { (stay : Stay X.Item) × (vacant : Vacant X.Item X.State) × (place_at stays.old c ≡ Some (Open stay)) × (place_at stays.new c ≡ Some (Vacant' vacant)) × (leaves_of stay ≡ vacant.leaves + 1)
+    ensures closed { (stay : Stay X.Item) × (vacant : Vacant X.Item X.State) × (place_at stays.old c ≡ Some (Open stay))
+        × (place_at stays.new c ≡ Some (Vacant' vacant)) × (leaves_of stay ≡ vacant.leaves + 1)
         × (fed (acts (setting_of limits_of sq.now.given) (seen result) c) ≡ pushed_of stay) × (items_of vacant.part ≡ sent_of stay)
-        × ((mine : List X.Item) → sent_of stay ≡ before_of stay ++ mine → (from : X.State) × Takes (X.step (origin_of sq.now.given.first)) from mine (state_of vacant.part)) }
+        × ((mine : List X.Item) → sent_of stay ≡ before_of stay ++ mine
+            → (from : X.State) × Takes (X.step (origin_of sq.now.given.first)) from mine (state_of vacant.part)) }
     ensures sent { sent_in (place_at stays.new c) ≡ sent_in (place_at stays.old c) }
     ensures rest { (chain_of stays.new ≡ []) × (touched_of stays.new ≡ []) }
     ensures spent { ((life_of stays.new).feeds ≡ (life_of stays.old).feeds) × ((life_of stays.old).asks ≡ (life_of stays.new).asks + 1) }

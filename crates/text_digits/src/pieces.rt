@@ -40,7 +40,8 @@ pub struct Pieces<'k, K: Sink> {
     said: Known<Said>,
     ghost place: { sink.ghost_name ≡ said.value.told.place },
     ghost room: { filled ≤ length piece.items },
-    ghost whole: { cut ≡ false → IsWhole said.value (K.contents sink.now) (K.write_faults sink.now) (take filled piece.items) } by { Prim.hlevel (props, Appends-prop) },
+    ghost whole: {
+        cut ≡ false → IsWhole said.value (K.contents sink.now) (K.write_faults sink.now) (take filled piece.items) } by { Prim.hlevel (props, Appends-prop) },
     ghost front: { cut ≡ true → IsCut said.value.told (K.contents sink.now) (K.write_faults sink.now) } by { Prim.hlevel (props, HasFront-prop) },
 }
 
@@ -65,7 +66,8 @@ impl<'k, K: Sink> Pieces<'k, K> {
     /// was written that isn't all of it.
     pub fn finish(self) -> (&'k mut K, Result<(), Failed>)
         ensures place { result.0.ghost_name ≡ self.entry.said.value.told.place }
-        ensures ok { OnOk result.1 (Appends self.entry.said.value.told.was (K.contents result.0.now) self.entry.said.value.told.text × (K.write_faults result.0.now ≡ self.entry.said.value.told.faults)) }
+        ensures ok { OnOk result.1 (Appends self.entry.said.value.told.was (K.contents result.0.now) self.entry.said.value.told.text
+            × (K.write_faults result.0.now ≡ self.entry.said.value.told.faults)) }
         ensures failed { OnErr result.1 (AppendsProperly self.entry.said.value.told.was (K.contents result.0.now) self.entry.said.value.told.text
             × Rose self.entry.said.value.told.faults (K.write_faults result.0.now)) }
     {

@@ -21,7 +21,8 @@ pub record HasGone (setup : Setup) (q : ℕ) (e : Ending) (guests : List GuestOf
   pub unfit : MatchOption broken (AreFit setup q e) (IsUnfitAt setup q e)
 
 -- one more legal mark: what is kept stands for the longer history, and whether the mark fits is told
-pub record HasAdded (old : ReplayedSqueue) (was : PaceCheck) (past : List Mark) (m : Mark) (new : ReplayedSqueue) (pace : PaceCheck) (keeps : Bool) : Type 0 where
+pub record HasAdded (old : ReplayedSqueue) (was : PaceCheck) (past : List Mark) (m : Mark)
+    (new : ReplayedSqueue) (pace : PaceCheck) (keeps : Bool) : Type 0 where
   pub stands : Stands (setting_of old) (history_of old (past ++ m ∷ [])) (squeue_of new)
   pub paced : PaceStands (setting_of old) (history_of old (past ++ m ∷ [])) pace
   pub fits : Decides keeps (KeepsAt was.setup was.squeue (setting_of old) (history_of old past)
