@@ -63,7 +63,7 @@ any_more f xs ys h = list_any-append f xs ys ∙ ap (λ b. b || list_any f ys) h
 abbrev pub IsListed : Ports → List Tuple → Packet → Type 0
 IsListed ports ts p = (t : Tuple) → served_tuple ports p ≡ Some t → list_any (tuple_eq t) ts ≡ true
 
-all_listed : (ts : List Tuple) → AllByRecursion (λ t. list_any (tuple_eq t) (distinct ts) ≡ true) ts
+pub all_listed : (ts : List Tuple) → AllByRecursion (λ t. list_any (tuple_eq t) (distinct ts) ≡ true) ts
 all_listed [] = tt
 all_listed (t ∷ ts) = (let here = same_tuple t in rw here refl, all_to _ _ behind ts (all_listed ts))
   where

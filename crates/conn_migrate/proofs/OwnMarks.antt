@@ -42,7 +42,7 @@ both p d a b t u h k m n T U x y =
       left = omega (arith, left_append d T U, x.left, y.left);
     }
 
-one_count : (p : ℕ) → (if p == p then 1 else 0) + 0 ≡ 1
+pub one_count : (p : ℕ) → (if p == p then 1 else 0) + 0 ≡ 1
 one_count p = let e : (p == p) ≡ true = grind (arith, nat_tests) in rw e refl
 
 tells_ask : (p d : ℕ) → Tells p d 1 0 (λ b. b) (λ n. n) (asked_by p ∷ [])

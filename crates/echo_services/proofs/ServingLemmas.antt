@@ -18,7 +18,7 @@ use Rattle.tcb_machine.specs.declared.kinds.Call.TheVariants as call
 use Rattle.tcb_machine.specs.declared.kinds.State.{State}
 use Rattle.tcb_machine.specs.declared.kinds.State.TheVariants.{Listen, SynReceived, Established, FinWait1, FinWait2, CloseWait, Closing, LastAck, TimeWait}
 use Rattle.tcb_machine.proofs.KeepLemmas.{output-same, output-offered, time-less, time-offered}
-use Rattle.tcb_machine.proofs.ValidLemmas.{Moved, moves, as_new, Says, new-valid, moves-valid, moved-valid, segment-says, segment-next, segment-offered, call-says, call-next, buffer-offered, output-moved, time-moved, not-listen, new-taken, new-acked}
+use Rattle.tcb_machine.proofs.ValidLemmas.{Moved, moves, as_new, Says, new-valid, moves-valid, moved-valid, segment-says, segment-next, segment-offered, call-says, call-next, output-moved, time-moved, not-listen, new-taken, new-acked, call-offered}
 use Rattle.echo_services.specs.Pumping.{IsPump, Pumps, may_offer}
 use Rattle.echo_services.specs.Serving.{Entry, segment, time, asks, enters, followed, serves}
 use Rattle.echo_services.specs.WholeStreams.{Whole, follows, whole_followed, whole_enters, whole_serves, whole_new, IsBeside, IsEntry, AreEntries, AreBetween}
@@ -200,26 +200,8 @@ asks-silent call.Status b = tt
 asks-silent (call.Buffer n) b = tt
 asks-silent call.Close b = close-silent b.state b
 
-close-left : (st : State) (b : Block) → offered (left_by (close_in st b).verdict) ≡ offered b
-unfolding offered
-close-left Listen b = refl
-close-left SynReceived b = refl
-close-left Established b = refl
-close-left CloseWait b = refl
-close-left FinWait1 b = refl
-close-left FinWait2 b = refl
-close-left Closing b = refl
-close-left LastAck b = refl
-close-left TimeWait b = refl
-
-asks-left : (c : Call) (b : Block) → offered (left_by (tcp_call c b).verdict) ≡ offered b
-unfolding tcp_call
-asks-left call.Status b = refl
-asks-left (call.Buffer n) b = buffer-offered b.state n b
-asks-left call.Close b = close-left b.state b
-
 asks-offered : (pump : Block → Block) (law : IsPump pump) (c : Call) (b : Block) → IsAskable c → IsValid b → offered (followed pump (tcp_call c b).verdict) ≡ offered b
-asks-offered pump law c b h v = silent-offered pump law b (tcp_call c b).verdict (call-says c b h v) (asks-silent c b) ∙ asks-left c b
+asks-offered pump law c b h v = silent-offered pump law b (tcp_call c b).verdict (call-says c b h v) (asks-silent c b) ∙ call-offered c b
 
 between-next : (pump : Block → Block) (law : IsPump pump) (es : List Entry) (b : Block) → AreBetween es → IsValid b → next_of (serves pump es b).recv ≤ next_of b.recv
 between-next pump law [] b h v = omega arith

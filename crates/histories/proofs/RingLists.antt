@@ -7,7 +7,7 @@ use Rattle.perimeter_core.specs.Deeds.{entries, feeds_of}
 use Rattle.histories.specs.Lists.{items_of, list_of}
 
 -- one feed more of a key
-items_end : (c n k : ℕ) → items_of c n (suc k) ≡ items_of c n k ++ record { c = c; n = n + k } ∷ []
+pub items_end : (c n k : ℕ) → items_of c n (suc k) ≡ items_of c n k ++ record { c = c; n = n + k } ∷ []
 items_end c n zero = ap (λ (m : ℕ). record { c = c; n = m } ∷ []) (let e : n ≡ n + 0 = omega arith in e)
 items_end c n (suc k) =
     ap (λ (fs : List FeedOf). record { c = c; n = n } ∷ fs) (items_end c (suc n) k ∙ ap (λ (m : ℕ). items_of c (suc n) k ++ record { c = c; n = m } ∷ []) (let e : suc n + k ≡ n + suc k = omega arith in e))
@@ -67,11 +67,11 @@ count_append c (e ∷ es) fs = by (e.c == c) (count_append c es fs)
     by false r = r
 
 -- how many feeds of a key a list has
-same_key : (c n k : ℕ) → length (feeds_of c (entries (items_of c n k))) ≡ k
+pub same_key : (c n k : ℕ) → length (feeds_of c (entries (items_of c n k))) ≡ k
 same_key c n zero = refl
 same_key c n (suc k) = let b : (c == c) ≡ true = grind (arith, nat_tests) in rw b (ap suc (same_key c (suc n) k))
 
-other_key : (c d n k : ℕ) → d ≢ c → length (feeds_of d (entries (items_of c n k))) ≡ 0
+pub other_key : (c d n k : ℕ) → d ≢ c → length (feeds_of d (entries (items_of c n k))) ≡ 0
 other_key c d n zero h = refl
 other_key c d n (suc k) h = let b : (c == d) ≡ false = grind (arith, nat_tests) in rw b (other_key c d (suc n) k h)
 

@@ -15,8 +15,9 @@ use Rattle.live_server.specs.Table.{Conns, all_reached, tuple_eq, without_over}
 use Rattle.live_server.specs.declared.acting.Datagram.{Datagram}
 use Rattle.live_server.specs.declared.conn.Conn.{Conn}
 use Rattle.live_server.specs.declared.setting.Setting.{Setting}
-use Rattle.live_server.proofs.TickLemmas.{empty_over, here_once, keys_reached, look_reached, time_keeps_table}
+use Rattle.live_server.proofs.TickLemmas.{here_once, keys_reached, look_reached, time_keeps_table}
 use Rattle.live_server.proofs.TableLemmas.{tuple_equivalence}
+use Rattle.live_server.proofs.MeetLemmas.{emptied_over}
 use Rattle.live_chats.specs.Chats.{Chats, Run, Said, becoming, chats_of, runs, time_said, with_chat}
 use Rattle.live_chats.specs.Ways.{leaving_of, telling_leave, telling_time, way_time}
 use Rattle.live_chats.proofs.RunLemmas.{IsRight, behind, runs_append}
@@ -107,7 +108,7 @@ all_left g (e ∷ cs) all =
 -- ---- what the table has then
 kept_by : (now : ℕ) (o : Option Conn) → option_filter (λ (c : Conn). not (is_over c)) (option_map (λ (c : Conn). emptied (reached now c)) o) ≡ option_map_or (after_time now) o o
 kept_by now None = refl
-kept_by now (Some c) = ap (λ (b : Bool). cond (not b) (Some (emptied (reached now c))) None) (empty_over (reached now c)) ∙ turn (is_over (reached now c))
+kept_by now (Some c) = ap (λ (b : Bool). cond (not b) (Some (emptied (reached now c))) None) (emptied_over (reached now c)) ∙ turn (is_over (reached now c))
   where
     turn : (b : Bool) → cond (not b) (Some (emptied (reached now c))) None ≡ cond b None (Some (emptied (reached now c)))
     turn true = refl

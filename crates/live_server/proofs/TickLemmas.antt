@@ -14,6 +14,7 @@ use Rattle.live_server.specs.Table.{Conns, all_reached, tuple_eq, without_over}
 use Rattle.live_server.specs.declared.conn.Conn.{Conn}
 use Rattle.live_server.specs.declared.setting.Setting.{Setting}
 use Rattle.live_server.proofs.TableLemmas.{tuple_equivalence}
+use Rattle.live_server.proofs.MeetLemmas.{emptied_over}
 
 pub keys_reached : (now : ℕ) (cs : Conns) → keys_of (all_reached now cs) ≡ keys_of cs
 keys_reached now [] = refl
@@ -39,10 +40,6 @@ look_reached now q (e ∷ cs) = by (tuple_eq q e.0) (look_reached now q cs)
         → cond b (Some (emptied (reached now e.1))) (lookup (tuple_eq q) (all_reached now cs)) ≡ option_map (λ (c : Conn). emptied (reached now c)) (cond b (Some e.1) (lookup (tuple_eq q) cs))
     by true h = refl
     by false h = h
-
-pub empty_over : (c : Conn) → is_over (emptied c) ≡ is_over c
-unfolding emptied
-empty_over c = refl
 
 pub here_once : (now : ℕ) (cs : Conns) → IsDistinct tuple_eq (keys_of cs) → IsDistinct tuple_eq (keys_of (without_over (all_reached now cs)))
 unfolding without_over
@@ -88,5 +85,5 @@ time_leaves now q sv c table look =
     ∙ ap (option_filter (λ (e : Conn). not (goes e)))
     (lookup-filter-values tuple_equivalence (λ (e : Conn). not (is_over e)) q reached_all all_once
     ∙ ap (option_filter (λ (e : Conn). not (is_over e))) (look_reached now q sv.conns ∙ ap (option_map (λ (e : Conn). emptied (reached now e))) look)
-    ∙ ap (λ (b : Bool). cond (not b) (Some x) None) (empty_over (reached now c)))
+    ∙ ap (λ (b : Bool). cond (not b) (Some x) None) (emptied_over (reached now c)))
     ∙ both_filters now q x (is_over (reached now c)) (goes x) (λ (e : Conn). not (goes e)) refl

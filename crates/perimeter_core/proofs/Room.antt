@@ -40,7 +40,7 @@ no_asks p (Ask q ∷ es) h = at (q == p) (has_ask p es) h (no_asks p es)
     at false b h f = omega (arith, f h)
 
 -- the Asks of a list are those of the passes, one pass after another
-count_le : (S : Setting) (es : List Entry) → QueuedInRange S es → ask_count es ≤ sum_first (worker S) (λ p. asks_of p es)
+pub count_le : (S : Setting) (es : List Entry) → QueuedInRange S es → ask_count es ≤ sum_first (worker S) (λ p. asks_of p es)
 count_le S [] h = omega (arith, sum_none (worker S))
 count_le S (Feed c k ∷ es) h = count_le S es h.2
 count_le S (Ask q ∷ es) h =
@@ -48,7 +48,7 @@ count_le S (Ask q ∷ es) h =
     sum_more (worker S) q 1 (λ p. asks_of p es) (λ p. asks_of p (Ask q ∷ es)) h.0 (λ p. omega arith) (omega (arith, own_count q 1)) in
     omega (arith, count_le S es h.1, r)
 
-few_asks : (S : Setting) (es : List Entry) → QueuedInRange S es → ((p : ℕ) → asks_of p es ≤ 1) → ask_count es ≤ worker S
+pub few_asks : (S : Setting) (es : List Entry) → QueuedInRange S es → ((p : ℕ) → asks_of p es ≤ 1) → ask_count es ≤ worker S
 few_asks S es range one =
     let m = sum_mono (worker S) (λ p. asks_of p es) (λ p. 1) one in omega (arith, count_le S es range, m, sum_ones (worker S))
 

@@ -22,11 +22,6 @@ all_here zero c = let e : nat_lt c 0 ≡ false = grind (arith, nat_tests) in rw 
 all_here (suc n) zero = let e : nat_lt 0 (suc n) ≡ true = grind (arith, nat_tests) in rw e refl
 all_here (suc n) (suc c) = let e : nat_lt (suc c) (suc n) ≡ nat_lt c n = grind (arith, nat_tests) in rw e (all_here n c)
 
--- one element more at the end of a list
-get_last : {A : Type 0} (xs : List A) (x : A) → slice_get (xs ++ x ∷ []) (length xs) ≡ Some x
-get_last [] x = refl
-get_last (y ∷ xs) x = get_last xs x
-
 get_before : {A : Type 0} (xs : List A) (x : A) (c : ℕ) → c ≢ length xs → slice_get (xs ++ x ∷ []) c ≡ slice_get xs c
 get_before [] x zero h = absurd (h refl)
 get_before [] x (suc c) h = refl
@@ -147,7 +142,7 @@ module _ {P : Type 0} (At : ℕ → P → List Act → Type 0) where
       → ((d : ℕ) → d ≢ n → next d ≡ blocks d) → PlacesStand At (places ++ v ∷ []) next
   push_stands places v n blocks next long old new others c =
       elim (cases_eq c n) [
-        | inl e ↦ rw e (rw (ap (slice_get (places ++ v ∷ [])) (sym long) ∙ get_last places v) new)
+        | inl e ↦ rw e (rw (ap (slice_get (places ++ v ∷ [])) (sym long) ∙ get_seam places v) new)
         | inr e ↦ rw (get_before places v c (λ w. e (w ∙ long)), others c e) (old c)
       ]
 

@@ -22,6 +22,7 @@ use Rattle.perimeter_core.specs.Backlog.{queue}
 use Rattle.squeue_state.proofs.Turns.{one_turn}
 use Rattle.squeue_state.specs.Clauses.{Found, Unmarked}
 use Rattle.squeue_state.specs.Naming.{Named, Turned, setting_of}
+use Rattle.squeue_state.proofs.QueuedRoom.{feed_entries}
 use Rattle.histories.specs.Elements.{number_of, filled_by, fast_by, claimed_by, taken_by}
 use Rattle.squeue_drain.specs.Draining.{plain, Ends, GoesOn}
 use Rattle.histories.specs.declared.mode.Mode.{Mode}
@@ -31,7 +32,7 @@ use Rattle.squeue_enter.specs.declared.entering.Entered.{Entered}
 use Rattle.squeue_enter.specs.Ways.{way_of}
 use Rattle.squeue_enter.specs.Entering.{MayEnter, HasEntered, HasFilled, WasFull, Went, Brought, MayGoOn}
 use Rattle.squeue_enter.proofs.Entries.{idle_here}
-use Rattle.squeue_enter.proofs.Carrying.{enters_carried, count_entries, no_asks_in, by_append, own_count}
+use Rattle.squeue_enter.proofs.Carrying.{enters_carried, no_asks_in, by_append, own_count}
 use Rattle.histories.proofs.Counts.{only_feeds, left_append}
 
 pub due_append : (c n : ℕ) (H K : List Element) → due_from c n (H ++ K) ≡ due_from c (due_from c n H) K
@@ -94,7 +95,7 @@ no_asks : (p : ℕ) (es : List FeedOf) → (if p == p then ask_count (entries es
 no_asks p es = own_count p (ask_count (entries es)) ∙ no_asks_in (entries es) (only_feeds es)
 
 all_count : (p : ℕ) (es : List FeedOf) → (if p == p then feed_count (entries es) else 0) + 0 ≡ length es
-all_count p es = own_count p (feed_count (entries es)) ∙ count_entries es
+all_count p es = own_count p (feed_count (entries es)) ∙ feed_entries es
 
 brings_fill : (p : ℕ) (es : List FeedOf) → Brings p es (filled_by p es ∷ [])
 brings_fill p es = record { feeds = all_count p es; asks = no_asks p es; next = λ c n. refl; here = λ c b. refl; left = λ c. refl }
@@ -134,7 +135,7 @@ pub entries_append : (es fs : List FeedOf) → entries (es ++ fs) ≡ entries es
 entries_append [] fs = refl
 entries_append (e ∷ es) fs = ap (λ (xs : List Entry). Feed e.c e.n ∷ xs) (entries_append es fs)
 
-one_first : (b : Bool) (x n : ℕ) (ns : List ℕ) → x + length (if b then n ∷ ns else ns) ≡ (if b then x + 1 else x) + length ns
+pub one_first : (b : Bool) (x n : ℕ) (ns : List ℕ) → x + length (if b then n ∷ ns else ns) ≡ (if b then x + 1 else x) + length ns
 one_first true x n ns = omega arith
 one_first false x n ns = refl
 

@@ -3,12 +3,11 @@ use Rattle.std.proofs.Common.{◌≡◌, ℕ, zero, suc, ◌+◌, ◌≤◌, ◌
 use Rattle.std.proofs.lemmas.List.{append-nil}
 use Rattle.std.proofs.lemmas.Bool.Decides.{nat_tests}
 use Rattle.std.specs.Prelude.{slice_index_or}
-use Rattle.perimeter_core.specs.declared.entries.Feed.{Feed as FeedOf}
 use Rattle.perimeter_core.specs.declared.entries.Entry.{Entry}
 use Rattle.perimeter_core.specs.declared.entries.Entry.TheVariants.{Feed, Ask}
 use Rattle.perimeter_core.specs.Perimeter.{State, Idle, is_here}
 use Rattle.perimeter_core.specs.History.{Element, Setting, start, feed_quota, run, pass_of, made_by}
-use Rattle.perimeter_core.specs.Deeds.{entries, entries_of, due}
+use Rattle.perimeter_core.specs.Deeds.{entries_of, due}
 use Rattle.perimeter_core.specs.Legal.{Legal, WithinQuota, Enters, EntriesInRange, one_more, all_feeds, feeds_by, asks_by, feed_count, ask_count}
 use Rattle.perimeter_core.specs.Knowledge.{here_by}
 use Rattle.perimeter_core.proofs.RingKnows.{ring_knows}
@@ -58,10 +57,6 @@ entries_in_range S H p next [] f e = tt
 entries_in_range S H p next (Feed c n ∷ es) f e =
     (subst (λ (k : ℕ). c < k) (flags (start S) H) (here_below (run S H).here c e.1), entries_in_range S H p (one_more c next) es f e.4)
 entries_in_range S H p next (Ask q ∷ es) f e = absurd (cc f)
-
-pub count_entries : (fs : List FeedOf) → feed_count (entries fs) ≡ length fs
-count_entries [] = refl
-count_entries (f ∷ fs) = omega (arith, count_entries fs)
 
 pub no_asks_in : (es : List Entry) → all_feeds es ≡ true → ask_count es ≡ 0
 no_asks_in [] f = refl

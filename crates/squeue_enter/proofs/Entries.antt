@@ -38,7 +38,7 @@ use Rattle.squeue_drain.proofs.Turning.{others}
 use Rattle.squeue_drain.proofs.Deciding.{marked_on}
 use Rattle.squeue_state.specs.AllRoom.{HasAllRoom}
 use Rattle.squeue_enter.specs.Entering.{MayEnter, DrainsFrom}
-use Rattle.squeue_enter.proofs.Carrying.{idle_carried, due_carried, here_carried, enters_carried, entries_in_range, count_entries, quota_enters}
+use Rattle.squeue_enter.proofs.Carrying.{idle_carried, due_carried, here_carried, enters_carried, entries_in_range, quota_enters}
 use Rattle.histories.proofs.Counts.{only_feeds}
 
 pub some_entries : (fs : List FeedOf) → 0 < length fs → entries fs ≢ []
@@ -75,7 +75,7 @@ module _ {R : Type 0} (limits : R → Limits) (s : Named R) (p : Pass Element) (
   enters_here = enters_carried S (run S H) (run S (H ++ K)) n (due H) (due (H ++ K)) (entries es) (due_carried S n H K legal none) (here_carried S n H K legal none) may.enters
 
   room : feeds_by n H + feed_count (entries es) ≤ feed_quota S n
-  room = omega (arith, may.quota, count_entries es)
+  room = omega (arith, may.quota, feed_entries es)
 
   pub may_fill : 0 < length es → May S u.found (filled_by u.number es)
   may_fill some =

@@ -1,26 +1,14 @@
 -- How the parts are taken out of a resident, connection by connection.
-use Rattle.std.proofs.Common.{◌≡◌, ◌≢◌, ℕ, zero, suc, ◌<◌, ◌≤◌, ◌==◌, true, false, Option, Some, None, List, [], ◌∷◌, length, slice_get, slice_set, refl, ap, sym, ◌∙◌, subst, arith, inl, inr}
+use Rattle.std.proofs.Common.{◌≡◌, ◌≢◌, ℕ, zero, suc, ◌<◌, ◌≤◌, ◌==◌, true, false, Option, Some, None, List, [], length, slice_get, refl, sym, ◌∙◌, subst, arith, inl, inr}
 use Rattle.std.specs.Prelude.{is_some}
 use Rattle.std.proofs.lemmas.Bool.Decides.{nat_tests}
 use Rattle.std.proofs.lemmas.Bool.{cases_eq}
-use Rattle.std.proofs.lemmas.List.{get_or-set_same, length-set}
-use Rattle.std.proofs.lemmas.Option.{slice_get-get_or}
 use Rattle.perimeter_core.specs.declared.entries.Act.{Act}
 use Rattle.perimeter_core.specs.declared.marks.SynchAct.TheVariants as Done
 use Rattle.perimeter_core.specs.declared.resident.Resident.{Ghosts}
 use Rattle.perimeter_core.specs.Blocks.{Blocks, with_act}
 use Rattle.perimeter_core.specs.Residing.{Here}
 use Rattle.squeue_pool.specs.Finishing.{AreTaken, PartTaken, taken, taken_if}
-
-pub set_here : {A : Type 0} (xs : List A) (i : ℕ) (x : A) → i < length xs → slice_get (slice_set xs i x) i ≡ Some x
-set_here xs i x lt = slice_get-get_or (slice_set xs i x) i x (let n = length-set xs i x in omega (arith, n, lt)) ∙ ap Some (get_or-set_same xs i x x lt)
-
-pub set_elsewhere : {A : Type 0} (xs : List A) (i k : ℕ) (x : A) → k ≢ i → slice_get (slice_set xs i x) k ≡ slice_get xs k
-set_elsewhere [] i k x apart = refl
-set_elsewhere (y ∷ xs) zero zero x apart = absurd (apart refl)
-set_elsewhere (y ∷ xs) zero (suc k) x apart = refl
-set_elsewhere (y ∷ xs) (suc i) zero x apart = refl
-set_elsewhere (y ∷ xs) (suc i) (suc k) x apart = set_elsewhere xs i k x (λ e. apart (ap suc e))
 
 -- the blocks that are left when those of the first connections were taken
 abbrev pub left_after : ℕ → Blocks → Blocks

@@ -1,33 +1,19 @@
 -- What is queued fits the room, where its feeds leave room for an Ask of each pass.
 use Rattle.std.proofs.Common.{◌≡◌, ℕ, ◌+◌, ◌≤◌, List, [], ◌∷◌, ◌++◌, length, length-append, refl, ap, arith}
 use Rattle.perimeter_core.specs.declared.entries.Entry.{Entry}
-use Rattle.perimeter_core.specs.declared.entries.Entry.TheVariants.{Feed, Ask}
 use Rattle.perimeter_core.specs.declared.entries.Feed.{Feed as FeedOf}
 use Rattle.perimeter_core.specs.Perimeter.{after}
 use Rattle.perimeter_core.specs.History.{Element, Setting, worker, start, run}
 use Rattle.perimeter_core.specs.Deeds.{entries, entries_of, done_by}
-use Rattle.perimeter_core.specs.Legal.{Legal, May, feed_count, ask_count}
-use Rattle.perimeter_core.specs.Backlog.{queue, QueuedInRange}
+use Rattle.perimeter_core.specs.Legal.{Legal, May, feed_count}
+use Rattle.perimeter_core.specs.Backlog.{queue}
 use Rattle.perimeter_core.proofs.OneMore.{run_push}
 use Rattle.perimeter_core.proofs.OrderAndWake.{sound}
 use Rattle.perimeter_core.proofs.FeedOrder.{queue_after}
 use Rattle.perimeter_core.proofs.QueuedRange.{queued_range}
-use Rattle.perimeter_core.proofs.PassSums.{sum_first, sum_mono, sum_more, sum_none, sum_ones}
-use Rattle.perimeter_core.proofs.Quotas.{count_both, feed_count-append, own_count}
-use Rattle.perimeter_core.proofs.Room.{asks_of, one_ask}
+use Rattle.perimeter_core.proofs.Quotas.{count_both, feed_count-append}
+use Rattle.perimeter_core.proofs.Room.{one_ask, few_asks}
 use Rattle.squeue_state.specs.Behind.{FeedsFit}
-
--- the Asks of a list are those of the passes, one pass after another
-count_le : (S : Setting) (es : List Entry) → QueuedInRange S es → ask_count es ≤ sum_first (worker S) (λ p. asks_of p es)
-count_le S [] h = omega (arith, sum_none (worker S))
-count_le S (Feed c k ∷ es) h = count_le S es h.2
-count_le S (Ask q ∷ es) h =
-    let r = sum_more (worker S) q 1 (λ p. asks_of p es) (λ p. asks_of p (Ask q ∷ es)) h.0 (λ p. omega arith) (omega (arith, own_count q 1)) in
-    omega (arith, count_le S es h.1, r)
-
-few_asks : (S : Setting) (es : List Entry) → QueuedInRange S es → ((p : ℕ) → asks_of p es ≤ 1) → ask_count es ≤ worker S
-few_asks S es range one =
-    let m = sum_mono (worker S) (λ p. asks_of p es) (λ p. 1) one in omega (arith, count_le S es range, m, sum_ones (worker S))
 
 -- each pass but the worker's has at most one Ask queued
 pub queued_few : (S : Setting) (H : List Element) → Legal S H → length (queue (run S H)) ≤ feed_count (queue (run S H)) + worker S

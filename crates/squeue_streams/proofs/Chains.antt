@@ -1,6 +1,6 @@
 -- A source that enters one chain more of the feeds of its items.
 use Rattle.std.specs.Prelude.{IfErr, OnOk}
-use Rattle.std.proofs.Common.{◌≡◌, ℕ, Result, Ok, Err, zero, suc, ◌+◌, ◌-◌, ◌≤◌, ◌<◌, ◌%◌, ◌==◌, ◌⊎◌, inl, inr, if◌then◌else◌, true, List, [], ◌∷◌, ◌++◌, length, slice_index, refl, ap, sym, ◌∙◌, subst, arith}
+use Rattle.std.proofs.Common.{◌≡◌, ℕ, Result, Ok, Err, zero, suc, ◌+◌, ◌-◌, ◌≤◌, ◌<◌, ◌%◌, ◌==◌, ◌⊎◌, inl, inr, if◌then◌else◌, true, List, [], ◌∷◌, ◌++◌, length, slice_index, ap, sym, ◌∙◌, subst, arith}
 use Rattle.std.proofs.lemmas.Bool.Decides.{nat_tests}
 use Rattle.std.proofs.lemmas.List.{append-nil}
 use Rattle.rtrb.specs.Ring.{known_free}
@@ -9,27 +9,18 @@ use Rattle.turn_gate.specs.declared.pass.Pass.{Pass}
 use Rattle.perimeter_core.specs.declared.entries.Feed.{Feed as FeedOf}
 use Rattle.perimeter_core.specs.Perimeter.{State, is_here}
 use Rattle.perimeter_core.specs.History.{Element, Limits, Setting, ask_quota, feed_quota, run}
-use Rattle.perimeter_core.specs.Deeds.{due, entries, feeds_of}
+use Rattle.perimeter_core.specs.Deeds.{due, entries}
 use Rattle.perimeter_core.specs.Legal.{Enters, asks_by, feeds_by, one_more}
 use Rattle.squeue_state.specs.Naming.{Named, setting_of}
 use Rattle.squeue_enter.specs.Entering.{Brought, MayEnter, MayGoOn}
 use Rattle.histories.specs.Lists.{items_of}
-use Rattle.histories.proofs.RingLists.{length_items}
+use Rattle.histories.proofs.RingLists.{length_items, items_end as items_longer, same_key}
 use Rattle.squeue_streams.specs.declared.source.Source.{Source}
 use Rattle.squeue_streams.specs.Sourcing.{Brings, IsRefused, IsSpent, SameCounts, SameSource, again_of, entered_of, left_of, pushed_of, sent_of, span_of, stream_of}
 
-one_longer : (c n k : ℕ) → items_of c n (suc k) ≡ items_of c n k ++ record { c = c; n = n + k } ∷ []
-one_longer c n zero = ap (λ (m : ℕ). record { c = c; n = m } ∷ []) (let e : n ≡ n + 0 = omega arith in e)
-one_longer c n (suc k) =
-    ap (λ (fs : List FeedOf). record { c = c; n = n } ∷ fs) (one_longer c (suc n) k ∙ ap (λ (m : ℕ). items_of c (suc n) k ++ record { c = c; n = m } ∷ []) (let e : suc n + k ≡ n + suc k = omega arith in e))
-
 -- one feed more
 pub items_end : (c n k : ℕ) → items_of c n (k + 1) ≡ items_of c n k ++ record { c = c; n = n + k } ∷ []
-items_end c n k = ap (items_of c n) (let e : k + 1 ≡ suc k = omega arith in e) ∙ one_longer c n k
-
-pub all_of : (c n k : ℕ) → length (feeds_of c (entries (items_of c n k))) ≡ k
-all_of c n zero = refl
-all_of c n (suc k) = let b : (c == c) ≡ true = grind (arith, nat_tests) in rw b (ap suc (all_of c (suc n) k))
+items_end c n k = ap (items_of c n) (let e : k + 1 ≡ suc k = omega arith in e) ∙ items_longer c n k
 
 -- k feeds of one stream, from the next one on
 pub enters_items : (S : Setting) (t : State) (p c n k : ℕ) (next : ℕ → ℕ) → p ≡ c % S.rings → is_here t c ≡ true → n ≡ next c → n + k ≤ slice_index S.limits.feeds c → Enters S t p next (entries (items_of c n k))
@@ -78,7 +69,7 @@ module _ {R : Type 0} (limits : R → Limits) (s : Named R) where
         ring = same ∙ (b.ring ∙ ap (λ (d : ℕ). d % s.given.rings) (sym stream));
         range = subst (λ (d : ℕ). d < length s.given.starts) (sym stream) b.range;
         here = ap (λ (d : ℕ). is_here (run S (seen to)) d) stream ∙ (brought.here c b.ring ∙ b.here);
-        due = ap (due (seen to)) stream ∙ omega (arith, brought.next c b.ring, all_of c (entered_of old) k, b.due, entered);
+        due = ap (due (seen to)) stream ∙ omega (arith, brought.next c b.ring, same_key c (entered_of old) k, b.due, entered);
         numbers = rw (stream, span) b.numbers;
         feeds = omega (arith, feeds_at, feed_at, brought.feeds, length_items c (entered_of old) k, was_feeds, few);
         asks = omega (arith, asks_at, ask_at, brought.asks, was_asks, again);

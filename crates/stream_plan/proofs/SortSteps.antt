@@ -8,9 +8,9 @@ use Rattle.std.proofs.lemmas.List.Folds.{list_any-append}
 use Rattle.sq_base.specs.declared.kinds.Tuple.{Tuple}
 use Rattle.conn_classifier.specs.Connections.{distinct, tuple_eq}
 use Rattle.conn_classifier.proofs.Conns.{push_none, push_some, same}
-use Rattle.conn_classifier.proofs.Distinct.{any_without, filter_push}
+use Rattle.conn_classifier.proofs.Distinct.{filter_push}
 use Rattle.conn_classifier.proofs.OneKey.{none_any, some_any}
-use Rattle.conn_classifier.proofs.PlanLaw.{all_to, same_tuple}
+use Rattle.conn_classifier.proofs.Joining.{all_listed}
 use Rattle.stream_plan.specs.Limits.{most_streams}
 use Rattle.stream_plan.specs.declared.kinds.Arrived.{Arrived}
 use Rattle.stream_plan.specs.declared.kinds.Datagram.{Datagram}
@@ -177,18 +177,6 @@ module _ (ts : List Tuple) (xs : List Arrived) (x : Arrived) where
     where
       apart : (t u : Tuple) → tuple_eq (tuple_of x.found) t ≡ true → tuple_eq t u ≡ false → tuple_eq (tuple_of x.found) u ≡ false
       apart t u q h = ap (λ v. tuple_eq v u) (same (tuple_of x.found) t q) ∙ h
-
--- where there is room for more streams, all that arrived is of one of them
-all_listed : (ts : List Tuple) → AllByRecursion (λ t. list_any (tuple_eq t) (distinct ts) ≡ true) ts
-all_listed [] = tt
-all_listed (t ∷ ts) = (let here = same_tuple t in rw here refl, all_to _ _ behind ts (all_listed ts))
-  where
-    behind : (u : Tuple) → list_any (tuple_eq u) (distinct ts) ≡ true → list_any (tuple_eq u) (distinct (t ∷ ts)) ≡ true
-    behind u h = by (tuple_eq u t) refl
-      where
-        by : (b : Bool) → tuple_eq u t ≡ b → list_any (tuple_eq u) (distinct (t ∷ ts)) ≡ true
-        by true e = rw e refl
-        by false e = rw e (any_without tuple_eq same u t e (distinct ts) ∙ h)
 
 from_tuples : (ds : List Tuple) (xs : List Arrived) → AllByRecursion (λ t. list_any (tuple_eq t) ds ≡ true) (map (λ x. tuple_of x.found) xs) → AllByRecursion (λ x. is_among ds x ≡ true) xs
 from_tuples ds [] h = tt

@@ -16,6 +16,7 @@ use Rattle.perimeter_core.specs.Legal.{Enters, asks_by, feeds_by, one_more}
 use Rattle.squeue_state.specs.Naming.{Named, setting_of}
 use Rattle.squeue_state.specs.declared.guarded.Life.{Life}
 use Rattle.squeue_enter.specs.Entering.{Brought, MayEnter, MayGoOn}
+use Rattle.squeue_enter.proofs.Bringing.{one_first}
 use Rattle.conn_migrate.specs.Moving.{IsKept}
 use Rattle.squeue_streams.specs.Taking.{most_feeds}
 use Rattle.stream_stays.specs.declared.place.Place.{Place}
@@ -39,15 +40,11 @@ feeds_end : (d c n : ℕ) (es : List FeedOf) → length (feeds_of d (entries (es
 feeds_end d c n [] = one_feed (c == d) n
 feeds_end d c n (e ∷ es) = longer_first (e.c == d) e.n (if c == d then 1 else 0) _ _ (feeds_end d c n es)
 
-count_first : (b : Bool) (x n : ℕ) (ns : List ℕ) → x + length (if b then n ∷ ns else ns) ≡ (if b then x + 1 else x) + length ns
-count_first true x n ns = omega arith
-count_first false x n ns = refl
-
 enters_end : (S : Setting) (t : State) (p : ℕ) (next : ℕ → ℕ) (es : List FeedOf) (c n : ℕ) → Enters S t p next (entries es) → p ≡ c % S.rings → is_here t c ≡ true → n ≡ next c + length (feeds_of c (entries es)) → n < slice_index S.limits.feeds c
     → Enters S t p next (entries (es ++ record { c = c; n = n } ∷ []))
 enters_end S t p next [] c n e ring here is below = (ring, here, omega (arith, is), below, tt)
 enters_end S t p next (f ∷ es) c n e ring here is below =
-    (e.0, e.1, e.2, e.3, enters_end S t p (one_more f.c next) es c n e.4 ring here (is ∙ count_first (f.c == c) (next c) f.n (feeds_of c (entries es))) below)
+    (e.0, e.1, e.2, e.3, enters_end S t p (one_more f.c next) es c n e.4 ring here (is ∙ one_first (f.c == c) (next c) f.n (feeds_of c (entries es))) below)
 
 -- one stay is at a place
 pub one_open : {T S : Type 0} (x : Option (Place T S)) (a b : Stay T) → x ≡ Some (Open a) → x ≡ Some (Open b) → a ≡ b

@@ -1,6 +1,5 @@
 -- What a thread knows of its pass and of a stay after it has entered a chain, opened or closed.
-use Rattle.std.proofs.Common.{◌≡◌, ◌≢◌, ℕ, zero, suc, ◌+◌, ◌-◌, ◌%◌, ◌^◌, ◌==◌, ◌≤◌, ◌<◌, Bool, true, false, List, [], length, refl, ap, sym, ◌∙◌, subst, arith}
-use Rattle.std.proofs.lemmas.Bool.Decides.{nat_tests}
+use Rattle.std.proofs.Common.{◌≡◌, ℕ, ◌+◌, ◌-◌, ◌%◌, ◌^◌, ◌≤◌, ◌<◌, Bool, true, false, List, [], length, refl, ap, sym, ◌∙◌, subst, arith}
 use Rattle.std.proofs.lemmas.List.{append-nil}
 use Rattle.turn_gate.specs.Passes.{number, seen}
 use Rattle.turn_gate.specs.declared.pass.Pass.{Pass}
@@ -8,7 +7,7 @@ use Rattle.perimeter_core.specs.declared.entries.Feed.{Feed as FeedOf}
 use Rattle.perimeter_core.specs.declared.marks.SynchAct.{SynchAct}
 use Rattle.perimeter_core.specs.Perimeter.{Idle, is_here}
 use Rattle.perimeter_core.specs.History.{Element, Limits, Setting, ask_quota, feed_quota, run}
-use Rattle.perimeter_core.specs.Deeds.{due, entries, feeds_of}
+use Rattle.perimeter_core.specs.Deeds.{due}
 use Rattle.perimeter_core.specs.Legal.{asks_by, feeds_by}
 use Rattle.squeue_state.specs.Naming.{Named, setting_of}
 use Rattle.squeue_state.specs.declared.guarded.Life.{Life}
@@ -16,15 +15,10 @@ use Rattle.squeue_enter.specs.Entering.{Brought, MayEnter, MayGoOn}
 use Rattle.synch_enter.specs.Synch.{MayAsk}
 use Rattle.conn_migrate.specs.Moving.{MayCome, MayLeave, Moved, RingLearns}
 use Rattle.histories.specs.Lists.{items_of}
-use Rattle.histories.proofs.RingLists.{length_items}
-use Rattle.squeue_streams.proofs.Chains.{all_of, enters_items}
+use Rattle.histories.proofs.RingLists.{length_items, same_key, other_key}
+use Rattle.squeue_streams.proofs.Chains.{enters_items}
 use Rattle.stream_stays.specs.declared.stay.Stay.{Stay}
 use Rattle.stream_stays.specs.Staying.{HasLife, IsAway, LeavesOthers, StaysAt, entered_of, leaves_of, pushed_of, stream_of}
-
--- no feed of one stream is another's
-none_of : (c d n k : ℕ) → d ≢ c → length (feeds_of d (entries (items_of c n k))) ≡ 0
-none_of c d n zero other = refl
-none_of c d n (suc k) other = let b : (c == d) ≡ false = grind (arith, nat_tests) in rw b (none_of c d (suc n) k other)
 
 module _ {R : Type 0} (limits : R → Limits) (s : Named R) where
   abbrev S : Setting
@@ -74,7 +68,7 @@ module _ {R : Type 0} (limits : R → Limits) (s : Named R) where
           ring = same ∙ (at.ring ∙ ap (λ (d : ℕ). d % s.given.rings) (sym stream));
           range = subst (λ (d : ℕ). d < length s.given.starts) (sym stream) at.range;
           here = ap (λ (d : ℕ). is_here (run S (seen to)) d) stream ∙ (brought.here (stream_of old) at.ring ∙ at.here);
-          due = ap (due (seen to)) stream ∙ omega (arith, brought.next (stream_of old) at.ring, all_of (stream_of old) (entered_of old) k, at.due, entered);
+          due = ap (due (seen to)) stream ∙ omega (arith, brought.next (stream_of old) at.ring, same_key (stream_of old) (entered_of old) k, at.due, entered);
           numbers = rw stream at.numbers;
           leaves = rw (stream, leaves) (omega (arith, brought.left (stream_of old) at.ring, was));
         }
@@ -83,7 +77,7 @@ module _ {R : Type 0} (limits : R → Limits) (s : Named R) where
   others_stay c n k from to b d other ring =
       record {
         here = b.here d ring;
-        next = omega (arith, b.next d ring, none_of c d n k other);
+        next = omega (arith, b.next d ring, other_key c d n k other);
         left = b.left d ring;
       }
 

@@ -1,6 +1,5 @@
 -- What the own marks of a ring's pass tell after a look.
-use Rattle.std.proofs.Common.{◌≡◌, ◌⊎◌, ℕ, ◌+◌, ◌%◌, ◌==◌, ◌<◌, length, Bool, true, false, if◌then◌else◌, inl, inr, List, [], ◌∷◌, ◌++◌, refl, ap, sym, ◌∙◌, subst, append_assoc, arith}
-use Rattle.std.proofs.lemmas.Bool.Decides.{nat_tests}
+use Rattle.std.proofs.Common.{◌≡◌, ◌⊎◌, ℕ, ◌+◌, ◌%◌, ◌==◌, ◌<◌, length, Bool, true, false, inl, inr, List, [], ◌∷◌, ◌++◌, refl, ap, sym, ◌∙◌, subst, append_assoc, arith}
 use Rattle.turn_gate.specs.Passes.{IsPassOf, number, seen, mine}
 use Rattle.turn_gate.specs.declared.pass.Pass.{Pass}
 use Rattle.perimeter_core.specs.declared.marks.SynchAct.TheVariants as Done
@@ -33,6 +32,7 @@ use Rattle.synch_enter.proofs.Exiting.{at, exits, idle_again, left_by}
 use Rattle.synch_enter.proofs.NothingDone.{still}
 use Rattle.conn_migrate.specs.Moving.{IsKept, Moved}
 use Rattle.conn_migrate.proofs.Halves.{moved}
+use Rattle.conn_migrate.proofs.OwnMarks.{one_count}
 use Rattle.squeue_enter.proofs.Bringing.{here_append, none_count, due_append}
 use Rattle.histories.proofs.Counts.{left_append}
 use Rattle.squeue_enter.proofs.Carrying.{by_append}
@@ -54,9 +54,6 @@ both p d a b T U x y =
       next_feed = λ z. due_append d z T U ∙ (ap (λ w. due_from d w U) (x.next_feed z) ∙ y.next_feed z);
       left = omega (arith, left_append d T U, x.left, y.left);
     }
-
-one_count : (p : ℕ) → (if p == p then 1 else 0) + 0 ≡ 1
-one_count p = let e : (p == p) ≡ true = grind (arith, nat_tests) in rw e refl
 
 tells_ask : (p d : ℕ) → Tells p d 1 (asked_by p ∷ [])
 tells_ask p d = record { feeds = none_count (p == p); asks_made = one_count p; is_here_now = λ b. refl; next_feed = λ n. omega arith; left = refl }

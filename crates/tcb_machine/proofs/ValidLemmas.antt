@@ -825,7 +825,7 @@ buffer-offered Closing n b = refl
 buffer-offered LastAck n b = refl
 buffer-offered TimeWait n b = refl
 
-close-offered : (st : State) (b : Block) → offered (left_by (close_in st b).verdict) ≡ offered b
+pub close-offered : (st : State) (b : Block) → offered (left_by (close_in st b).verdict) ≡ offered b
 unfolding offered
 close-offered Listen b = refl
 close-offered SynReceived b = refl

@@ -2,8 +2,10 @@ use Rattle.std.proofs.Common.{◌≡◌, true, false, rules, slice_get, sym, ◌
 use Rattle.std.specs.Prelude.{is_some}
 use Rattle.std.proofs.lemmas.List.{length-set}
 use Rattle.squeue_pool.specs.Finishing.{PartTaken}
-use Rattle.squeue_pool.proofs.Taking.{here_now, lies_now, lies_on, set_elsewhere, set_here, stands_on, stands_without}
+use Rattle.squeue_pool.proofs.Taking.{here_now, lies_now, lies_on, stands_on, stands_without}
 use Rattle.squeue_pool.proofs.finished.take_one.Goals as goal
+use Rattle.perimeter_core.proofs.ActLists.{get_same}
+use Rattle.squeue_rings.proofs.Slots.{got_other}
 
 pub returns-then-not-is_here-clause-part : goal.returns-then-not-is_here-clause-part
 returns-then-not-is_here-clause-part g c = λ blocks stands.
@@ -26,11 +28,11 @@ returns-clause-part g c = λ blocks stands.
     let there : is_some (blocks c.args.c) ≡ true = sym (c.is_here.ensures blocks stands) ∙ is_so in
     let o = g.R.Resident.origin c.args.resident.now in
     let old = c.args.places.now.items in
-    subst (PartTaken g.R.Resident o c.args.c (blocks c.args.c) (slice_get old c.args.c)) (sym (set_here old c.args.c _ c.requires.range))
+    subst (PartTaken g.R.Resident o c.args.c (blocks c.args.c) (slice_get old c.args.c)) (sym (get_same old c.args.c _ c.requires.range))
     (lies_now g.R.Resident o c.args.c (blocks c.args.c) (slice_get old c.args.c) c.take_out.result there c.take_out.ensures.owner (λ had is. c.take_out.ensures.part blocks had stands is))
 
 pub returns-clause-others : goal.returns-clause-others
-returns-clause-others g c = λ k apart. set_elsewhere c.args.places.now.items c.args.c k _ apart
+returns-clause-others g c = λ k apart. got_other c.args.places.now.items c.args.c k _ apart
 
 pub returns-clause-count : goal.returns-clause-count
 returns-clause-count g c = length-set c.args.places.now.items c.args.c _
