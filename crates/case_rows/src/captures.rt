@@ -17,9 +17,9 @@
 //! TEXT is `"characters"`, or `hex HEX`, or `count N`, which is the numbers 0, 1, 2 .. modulo 251. HEX is pairs of hexadecimal digits.
 
 use crate::bytes::{add_bytes, spelled};
-use crate::fault::Fault;
+use crate::fault::RowFault;
 use crate::told::told_at;
-use crate::words::Words;
+use crate::words::RowWords;
 use crate::wrong::Wrong;
 use std::alloc::Global;
 
@@ -40,7 +40,7 @@ struct Maker {
 }
 
 /// The bytes that these lines make. A line that isn't read is a fault that names it.
-pub fn bytes_of(alloc: Global, lines: &[&str]) -> Result<Vec<u8>, Fault> {
+pub fn bytes_of(alloc: Global, lines: &[&str]) -> Result<Vec<u8>, RowFault> {
     let mut maker = Maker {
         alloc,
         bytes: Vec::new(alloc),
@@ -54,7 +54,7 @@ pub fn bytes_of(alloc: Global, lines: &[&str]) -> Result<Vec<u8>, Fault> {
         },
     };
     for line in lines {
-        told_at(alloc, line, maker.take(Words::of(line)))?;
+        told_at(alloc, line, maker.take(RowWords::of(line)))?;
     }
     Ok(maker.bytes)
 }
@@ -109,7 +109,7 @@ fn counted(alloc: Global, count: u32) -> Result<Vec<u8>, Wrong> {
 }
 
 /// The bytes of a TEXT; none where nothing is left.
-fn text_of(alloc: Global, mut words: Words<'_>) -> Result<Vec<u8>, Wrong> {
+fn text_of(alloc: Global, mut words: RowWords<'_>) -> Result<Vec<u8>, Wrong> {
     if words.is_done() {
         return Ok(Vec::new(alloc));
     }
@@ -125,7 +125,7 @@ fn text_of(alloc: Global, mut words: Words<'_>) -> Result<Vec<u8>, Wrong> {
 }
 
 /// The options of a segment, where the next word says that there are any.
-fn options_of(alloc: Global, words: &mut Words<'_>) -> Result<Vec<u8>, Wrong> {
+fn options_of(alloc: Global, words: &mut RowWords<'_>) -> Result<Vec<u8>, Wrong> {
     if !words.begin_with("options") {
         return Ok(Vec::new(alloc));
     }
@@ -143,7 +143,7 @@ struct Numbers {
 }
 
 /// The numbers of a segment's line.
-fn numbers_of(words: &mut Words<'_>) -> Result<Numbers, Wrong> {
+fn numbers_of(words: &mut RowWords<'_>) -> Result<Numbers, Wrong> {
     Ok(Numbers {
         flags: words.flags()?,
         seq: words.number()?,
@@ -175,7 +175,7 @@ fn tcp_header(from: u16, to: u16, numbers: &Numbers, offset: u8) -> [u8; 20] {
 
 impl Maker {
     /// What a line says.
-    fn take(&mut self, mut words: Words<'_>) -> Result<(), Wrong> {
+    fn take(&mut self, mut words: RowWords<'_>) -> Result<(), Wrong> {
         match words.word() {
             "front" => self.keep(words.last()?),
             "from" => self.from = address_of(words.rest())?,
@@ -216,13 +216,13 @@ impl Maker {
 
     /// What a line adds that adds something.
     fn add_line(&mut self, line: &str) -> Result<(), Wrong> {
-        let mut words = Words::of(line);
+        let mut words = RowWords::of(line);
         let word = words.word();
         self.add(word, words)
     }
 
     /// What a line adds, by its first word.
-    fn add(&mut self, word: &str, mut words: Words<'_>) -> Result<(), Wrong> {
+    fn add(&mut self, word: &str, mut words: RowWords<'_>) -> Result<(), Wrong> {
         match word {
             "pcap" => self.add_header(words),
             "hex" => add_bytes(&mut self.bytes, self.alloc, words.rest()),
@@ -248,7 +248,7 @@ impl Maker {
     }
 
     /// A file's header.
-    fn add_header(&mut self, mut words: Words<'_>) -> Result<(), Wrong> {
+    fn add_header(&mut self, mut words: RowWords<'_>) -> Result<(), Wrong> {
         let link = if words.is_done() { 101 } else { words.last()? };
         self.add_all(&[
             &[0xd4, 0xc3, 0xb2, 0xa1, 2, 0, 4, 0],
@@ -258,7 +258,7 @@ impl Maker {
     }
 
     /// A record with a segment or a datagram.
-    fn add_packet(&mut self, at: &str, mut words: Words<'_>) -> Result<(), Wrong> {
+    fn add_packet(&mut self, at: &str, mut words: RowWords<'_>) -> Result<(), Wrong> {
         let at = time(at)?;
         if !words.begin_with("udp") {
             return self.add_segment(at, words);
@@ -269,7 +269,7 @@ impl Maker {
     }
 
     /// A record with a segment.
-    fn add_segment(&mut self, at: (u32, u32), mut words: Words<'_>) -> Result<(), Wrong> {
+    fn add_segment(&mut self, at: (u32, u32), mut words: RowWords<'_>) -> Result<(), Wrong> {
         let numbers = numbers_of(&mut words)?;
         let options = options_of(self.alloc, &mut words)?;
         let text = text_of(self.alloc, words)?;

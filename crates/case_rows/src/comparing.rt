@@ -1,6 +1,6 @@
 //! What is wanted beside what came. A difference is told as one line: of what, which line, wanted, got.
 
-use crate::fault::Fault;
+use crate::fault::RowFault;
 use std::alloc::Global;
 
 /// What stands before the first newline, or all.
@@ -12,15 +12,15 @@ fn first_line(bytes: &[u8]) -> &[u8] {
 }
 
 /// The fault that says what differs.
-fn differs(alloc: Global, what: &str, number: usize, wanted: &str, got: &[u8]) -> Fault {
+fn differs(alloc: Global, what: &str, number: usize, wanted: &str, got: &[u8]) -> RowFault {
     let line = first_line(got);
     let told = match str::from_utf8(line) {
         Ok(text) => format!(in alloc; "{what} line {number}: wanted {wanted}, got {text}"),
         Err(_) => format!(in alloc; "{what} line {number}: wanted {wanted}, got {line:?}"),
     };
     match told {
-        Ok(told) => Fault::Told(told),
-        Err(_) => Fault::NoMemory,
+        Ok(told) => RowFault::Told(told),
+        Err(_) => RowFault::NoMemory,
     }
 }
 
@@ -30,7 +30,12 @@ fn after_line<'a>(bytes: &'a [u8], line: &str) -> Option<&'a [u8]> {
 }
 
 /// The bytes are these lines, each with a newline at its end, and no more.
-pub fn expect_lines(alloc: Global, what: &str, wanted: &[&str], got: &[u8]) -> Result<(), Fault> {
+pub fn expect_lines(
+    alloc: Global,
+    what: &str,
+    wanted: &[&str],
+    got: &[u8],
+) -> Result<(), RowFault> {
     let mut rest = got;
     let mut number = 0usize;
     for line in wanted {
@@ -48,25 +53,25 @@ pub fn expect_lines(alloc: Global, what: &str, wanted: &[&str], got: &[u8]) -> R
 }
 
 /// The bytes are these.
-pub fn expect_bytes(alloc: Global, what: &str, wanted: &[u8], got: &[u8]) -> Result<(), Fault> {
+pub fn expect_bytes(alloc: Global, what: &str, wanted: &[u8], got: &[u8]) -> Result<(), RowFault> {
     if wanted == got {
         return Ok(());
     }
-    Err(Fault::Told(format!(in alloc; "{what}: wanted {wanted:?}, got {got:?}")?))
+    Err(RowFault::Told(format!(in alloc; "{what}: wanted {wanted:?}, got {got:?}")?))
 }
 
 /// The text is this one.
-pub fn expect_text(alloc: Global, what: &str, wanted: &str, got: &str) -> Result<(), Fault> {
+pub fn expect_text(alloc: Global, what: &str, wanted: &str, got: &str) -> Result<(), RowFault> {
     if wanted == got {
         return Ok(());
     }
-    Err(Fault::told(alloc, &[what, ": wanted ", wanted, ", got ", got]))
+    Err(RowFault::told(alloc, &[what, ": wanted ", wanted, ", got ", got]))
 }
 
 /// The number is this one.
-pub fn expect_number(alloc: Global, what: &str, wanted: u64, got: u64) -> Result<(), Fault> {
+pub fn expect_number(alloc: Global, what: &str, wanted: u64, got: u64) -> Result<(), RowFault> {
     if wanted == got {
         return Ok(());
     }
-    Err(Fault::Told(format!(in alloc; "{what}: wanted {wanted}, got {got}")?))
+    Err(RowFault::Told(format!(in alloc; "{what}: wanted {wanted}, got {got}")?))
 }

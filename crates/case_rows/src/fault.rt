@@ -5,19 +5,19 @@ use std::fmt;
 
 /// Why a row fails.
 #[derive(Debug, Drop)]
-pub enum Fault {
+pub enum RowFault {
     /// Memory was missing.
     NoMemory,
     /// What differs, or what of the row isn't understood, as one line.
     Told(String),
 }
 
-impl Fault {
+impl RowFault {
     /// The fault whose line is these pieces, one behind another.
-    pub fn told(alloc: Global, pieces: &[&str]) -> Fault {
+    pub fn told(alloc: Global, pieces: &[&str]) -> RowFault {
         match joined(alloc, pieces) {
-            Ok(line) => Fault::Told(line),
-            Err(_) => Fault::NoMemory,
+            Ok(line) => RowFault::Told(line),
+            Err(_) => RowFault::NoMemory,
         }
     }
 }
@@ -31,23 +31,23 @@ fn joined(alloc: Global, pieces: &[&str]) -> Result<String, AllocError> {
     Ok(line)
 }
 
-impl<T: Drop> From<AllocFailed<T>> for Fault {
-    fn from(_: AllocFailed<T>) -> Fault {
-        Fault::NoMemory
+impl<T: Drop> From<AllocFailed<T>> for RowFault {
+    fn from(_: AllocFailed<T>) -> RowFault {
+        RowFault::NoMemory
     }
 }
 
-impl From<AllocError> for Fault {
-    fn from(_: AllocError) -> Fault {
-        Fault::NoMemory
+impl From<AllocError> for RowFault {
+    fn from(_: AllocError) -> RowFault {
+        RowFault::NoMemory
     }
 }
 
-impl fmt::Display for Fault {
+impl fmt::Display for RowFault {
     fn fmt<W: fmt::Write>(&self, f: &mut fmt::Formatter<W>) -> fmt::Result {
         match self {
-            Fault::NoMemory => write!(f, "out of memory"),
-            Fault::Told(line) => write!(f, "{line}"),
+            RowFault::NoMemory => write!(f, "out of memory"),
+            RowFault::Told(line) => write!(f, "{line}"),
         }
     }
 }

@@ -1,7 +1,7 @@
 //! What a row gives to a program.
 
 use crate::captures::bytes_of;
-use crate::fault::Fault;
+use crate::fault::RowFault;
 use crate::rows::{Row, words_of};
 use std::alloc::Global;
 
@@ -25,7 +25,7 @@ pub struct Failing {
 }
 
 /// What a row gives.
-pub fn given_of(alloc: Global, row: &Row<'_>) -> Result<Given, Fault> {
+pub fn given_of(alloc: Global, row: &Row<'_>) -> Result<Given, RowFault> {
     Ok(Given {
         words: words_of(alloc, row.text(alloc, "words", "none")?)?,
         input: input_of(alloc, row)?,
@@ -36,7 +36,7 @@ pub fn given_of(alloc: Global, row: &Row<'_>) -> Result<Given, Fault> {
 }
 
 /// Which calls a row lets fail.
-fn failing_of(alloc: Global, row: &Row<'_>) -> Result<Failing, Fault> {
+fn failing_of(alloc: Global, row: &Row<'_>) -> Result<Failing, RowFault> {
     Ok(Failing {
         reads: row.numbers(alloc, "failing_reads")?,
         writes: row.numbers(alloc, "failing_writes")?,
@@ -45,12 +45,12 @@ fn failing_of(alloc: Global, row: &Row<'_>) -> Result<Failing, Fault> {
 }
 
 /// How many bytes a call moves at most.
-fn piece(alloc: Global, row: &Row<'_>, name: &str) -> Result<usize, Fault> {
+fn piece(alloc: Global, row: &Row<'_>, name: &str) -> Result<usize, RowFault> {
     Ok(row.number(alloc, name, 65_536)? as usize)
 }
 
 /// The row's text, and behind it the bytes of its input.
-fn input_of(alloc: Global, row: &Row<'_>) -> Result<Vec<u8>, Fault> {
+fn input_of(alloc: Global, row: &Row<'_>) -> Result<Vec<u8>, RowFault> {
     let bytes = bytes_of(alloc, row.lines("input"))?;
     if !row.has("text") {
         return Ok(bytes);
@@ -61,7 +61,7 @@ fn input_of(alloc: Global, row: &Row<'_>) -> Result<Vec<u8>, Fault> {
 }
 
 /// The row's text with its changes.
-fn text_of(alloc: Global, row: &Row<'_>) -> Result<Vec<u8>, Fault> {
+fn text_of(alloc: Global, row: &Row<'_>) -> Result<Vec<u8>, RowFault> {
     let changes = row.lines("change");
     let mut text = Vec::new(alloc);
     let mut found = 0usize;
@@ -73,11 +73,11 @@ fn text_of(alloc: Global, row: &Row<'_>) -> Result<Vec<u8>, Fault> {
     if found == changes.len() {
         return Ok(text);
     }
-    Err(Fault::told(alloc, &["a change isn't of a line of the text"]))
+    Err(RowFault::told(alloc, &["a change isn't of a line of the text"]))
 }
 
 /// Adds a line, or what stands in its place. Answers whether something does.
-fn add_line(text: &mut Vec<u8>, line: &str, change: Option<&str>) -> Result<bool, Fault> {
+fn add_line(text: &mut Vec<u8>, line: &str, change: Option<&str>) -> Result<bool, RowFault> {
     if let Some(change) = change {
         add_changed(text, change)?;
         return Ok(true);
@@ -99,7 +99,7 @@ fn changed<'a>(changes: &[&'a str], number: usize) -> Option<&'a str> {
 }
 
 /// A line that was changed: nothing, or lines between `\n`.
-fn add_changed(text: &mut Vec<u8>, line: &str) -> Result<(), Fault> {
+fn add_changed(text: &mut Vec<u8>, line: &str) -> Result<(), RowFault> {
     if line.is_empty() {
         return Ok(());
     }

@@ -1,6 +1,6 @@
 //! Does what a row says: one run, or several that differ in their words, in how much of the input there is, or in what fails.
 
-use crate::fault::Fault;
+use crate::fault::RowFault;
 use crate::given::{Given, given_of};
 use crate::program::came_of;
 use crate::rows::{Row, words_of};
@@ -42,7 +42,7 @@ pub fn judge_run<P: Fn(Global, &[String], &mut MemSource, &mut MemSink, &mut Mem
     program: &P,
     alloc: Global,
     row: &Row<'_>,
-) -> Result<(), Fault>
+) -> Result<(), RowFault>
     requires { P.IsAlwaysCallable program.now }
 {
     row.expect_fields(alloc, &FIELDS)?;
@@ -58,7 +58,7 @@ fn judge_form<P: Fn(Global, &[String], &mut MemSource, &mut MemSink, &mut MemSin
     row: &Row<'_>,
     form: &str,
     given: &mut Given,
-) -> Result<(), Fault>
+) -> Result<(), RowFault>
     requires { P.IsAlwaysCallable program.now }
 {
     match form {
@@ -81,7 +81,7 @@ fn judge_one<P: Fn(Global, &[String], &mut MemSource, &mut MemSink, &mut MemSink
     given: &Given,
     input: &[u8],
     len: usize,
-) -> Result<(), Fault>
+) -> Result<(), RowFault>
     requires { P.IsAlwaysCallable program.now }
 {
     let came = came_of(program, alloc, given, input)?;
@@ -89,12 +89,12 @@ fn judge_one<P: Fn(Global, &[String], &mut MemSource, &mut MemSink, &mut MemSink
 }
 
 /// Which of the forms the row has, or an empty text.
-fn form_of(alloc: Global, row: &Row<'_>) -> Result<&'static str, Fault> {
+fn form_of(alloc: Global, row: &Row<'_>) -> Result<&'static str, RowFault> {
     let mut found = "";
     for form in FORMS {
         if row.has(form) {
             if !found.is_empty() {
-                return Err(Fault::told(alloc, &["both ", found, " and ", form]));
+                return Err(RowFault::told(alloc, &["both ", found, " and ", form]));
             }
             found = form;
         }
@@ -103,17 +103,17 @@ fn form_of(alloc: Global, row: &Row<'_>) -> Result<&'static str, Fault> {
 }
 
 /// A row of several runs has one at least.
-fn expect_some(alloc: Global, none: bool) -> Result<(), Fault> {
+fn expect_some(alloc: Global, none: bool) -> Result<(), RowFault> {
     if none {
-        return Err(Fault::told(alloc, &["the row runs nothing"]));
+        return Err(RowFault::told(alloc, &["the row runs nothing"]));
     }
     Ok(())
 }
 
 /// The same fault with its run named.
-fn in_run(alloc: Global, run: &str, judged: Result<(), Fault>) -> Result<(), Fault> {
+fn in_run(alloc: Global, run: &str, judged: Result<(), RowFault>) -> Result<(), RowFault> {
     match judged {
-        Err(Fault::Told(line)) => Err(Fault::told(alloc, &[run, ": ", line.as_str()])),
+        Err(RowFault::Told(line)) => Err(RowFault::told(alloc, &[run, ": ", line.as_str()])),
         other => other,
     }
 }
@@ -124,18 +124,18 @@ fn in_numbered(
     before: &str,
     number: u64,
     behind: &str,
-    judged: Result<(), Fault>,
-) -> Result<(), Fault> {
+    judged: Result<(), RowFault>,
+) -> Result<(), RowFault> {
     match judged {
-        Err(Fault::Told(line)) => {
-            Err(Fault::Told(format!(in alloc; "{before}{number}{behind}: {line}")?))
+        Err(RowFault::Told(line)) => {
+            Err(RowFault::Told(format!(in alloc; "{before}{number}{behind}: {line}")?))
         }
         other => other,
     }
 }
 
 /// Makes this the only call that fails.
-fn let_fail(calls: &mut Vec<u64>, call: u64) -> Result<(), Fault> {
+fn let_fail(calls: &mut Vec<u64>, call: u64) -> Result<(), RowFault> {
     calls.clear();
     calls.push(call)?;
     Ok(())
@@ -147,7 +147,7 @@ fn each_words<P: Fn(Global, &[String], &mut MemSource, &mut MemSink, &mut MemSin
     alloc: Global,
     row: &Row<'_>,
     given: &mut Given,
-) -> Result<(), Fault>
+) -> Result<(), RowFault>
     requires { P.IsAlwaysCallable program.now }
 {
     expect_some(alloc, row.lines("each").is_empty())?;
@@ -165,7 +165,7 @@ fn each_front<P: Fn(Global, &[String], &mut MemSource, &mut MemSink, &mut MemSin
     alloc: Global,
     row: &Row<'_>,
     given: &Given,
-) -> Result<(), Fault>
+) -> Result<(), RowFault>
     requires { P.IsAlwaysCallable program.now }
 {
     let (first, end) = fronts_of(alloc, row)?;
@@ -179,10 +179,10 @@ fn each_front<P: Fn(Global, &[String], &mut MemSource, &mut MemSink, &mut MemSin
 }
 
 /// The least length of the row's fronts, and the first that is none.
-fn fronts_of(alloc: Global, row: &Row<'_>) -> Result<(u64, u64), Fault> {
+fn fronts_of(alloc: Global, row: &Row<'_>) -> Result<(u64, u64), RowFault> {
     match row.numbers(alloc, "fronts")?.as_slice() {
         [first, end] => Ok((*first, *end)),
-        _ => Err(Fault::told(alloc, &["fronts isn't two numbers"])),
+        _ => Err(RowFault::told(alloc, &["fronts isn't two numbers"])),
     }
 }
 
@@ -192,7 +192,7 @@ fn each_read<P: Fn(Global, &[String], &mut MemSource, &mut MemSink, &mut MemSink
     alloc: Global,
     row: &Row<'_>,
     given: &mut Given,
-) -> Result<(), Fault>
+) -> Result<(), RowFault>
     requires { P.IsAlwaysCallable program.now }
 {
     let runs = row.number(alloc, "each_read", 0)?;
@@ -211,7 +211,7 @@ fn each_write<P: Fn(Global, &[String], &mut MemSource, &mut MemSink, &mut MemSin
     alloc: Global,
     row: &Row<'_>,
     given: &mut Given,
-) -> Result<(), Fault>
+) -> Result<(), RowFault>
     requires { P.IsAlwaysCallable program.now }
 {
     let runs = row.number(alloc, "each_write", 0)?;

@@ -1,6 +1,6 @@
 //! What is run, and what came of it.
 
-use crate::fault::Fault;
+use crate::fault::RowFault;
 use crate::given::Given;
 use sq_base::{MemSink, MemSource};
 use std::alloc::Global;
@@ -25,7 +25,7 @@ pub fn came_of<P: Fn(Global, &[String], &mut MemSource, &mut MemSink, &mut MemSi
     alloc: Global,
     given: &Given,
     input: &[u8],
-) -> Result<Came, Fault>
+) -> Result<Came, RowFault>
     requires { P.IsAlwaysCallable program.now }
 {
     let mut src = MemSource::make(alloc, input, given.reads.max(1), &given.failing.reads)?;

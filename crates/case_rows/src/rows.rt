@@ -1,6 +1,6 @@
 //! A row and its fields. Both are parts of the text that they were read from.
 
-use crate::fault::Fault;
+use crate::fault::RowFault;
 use std::alloc::{AllocError, Global};
 
 /// Lines with a name.
@@ -46,42 +46,42 @@ impl<'a> Row<'a> {
     }
 
     /// The only line of a field, or `other` where the row hasn't the field. An error where the field has no line, or several.
-    pub fn text(&self, alloc: Global, name: &str, other: &'a str) -> Result<&'a str, Fault> {
+    pub fn text(&self, alloc: Global, name: &str, other: &'a str) -> Result<&'a str, RowFault> {
         match named(&self.fields, name) {
             None => Ok(other),
             Some([line]) => Ok(line),
-            Some(_) => Err(Fault::told(alloc, &[name, " isn't one line"])),
+            Some(_) => Err(RowFault::told(alloc, &[name, " isn't one line"])),
         }
     }
 
     /// The number that a field is, or `other` where the row hasn't the field. An error where the field is no number.
-    pub fn number(&self, alloc: Global, name: &str, other: u64) -> Result<u64, Fault> {
+    pub fn number(&self, alloc: Global, name: &str, other: u64) -> Result<u64, RowFault> {
         if !self.has(name) {
             return Ok(other);
         }
         let text = self.text(alloc, name, "")?;
         match text.parse::<u64>() {
             Ok(number) => Ok(number),
-            Err(_) => Err(Fault::told(alloc, &[name, " isn't a number"])),
+            Err(_) => Err(RowFault::told(alloc, &[name, " isn't a number"])),
         }
     }
 
     /// The numbers of a field, between blanks; none where the row hasn't the field. An error where one is no number.
-    pub fn numbers(&self, alloc: Global, name: &str) -> Result<Vec<u64>, Fault> {
+    pub fn numbers(&self, alloc: Global, name: &str) -> Result<Vec<u64>, RowFault> {
         let text = self.text(alloc, name, "")?;
         let mut numbers = Vec::new(alloc);
         if add_numbers(&mut numbers, text)? {
             return Ok(numbers);
         }
-        Err(Fault::told(alloc, &[name, " isn't made of numbers"]))
+        Err(RowFault::told(alloc, &[name, " isn't made of numbers"]))
     }
 
     /// An error where the row has a field that isn't among these.
-    pub fn expect_fields(&self, alloc: Global, known: &[&str]) -> Result<(), Fault> {
+    pub fn expect_fields(&self, alloc: Global, known: &[&str]) -> Result<(), RowFault> {
         for field in &self.fields {
             if !known.contains(&field.name) {
                 let name = field.name;
-                return Err(Fault::Told(format!(in alloc; "no field is called {name}")?));
+                return Err(RowFault::Told(format!(in alloc; "no field is called {name}")?));
             }
         }
         Ok(())

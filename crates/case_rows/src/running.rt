@@ -1,6 +1,6 @@
 //! Runs files of rows, whose names are the program's words, and counts.
 
-use crate::fault::Fault;
+use crate::fault::RowFault;
 use crate::reading::{Broken, rows_of};
 use crate::rows::Row;
 use std::alloc::{AllocGlobal, Global};
@@ -22,7 +22,7 @@ struct Count {
 /// The status is 0 where none failed, else 1.
 pub fn run_cases<
     R: Env + Files + AllocGlobal + Print,
-    J: Fn(Global, &str, &Row<'_>) -> Result<(), Fault>,
+    J: Fn(Global, &str, &Row<'_>) -> Result<(), RowFault>,
 >(rt: &R, judge: &J) -> io::Result<ExitCode>
     requires { J.IsAlwaysCallable judge.now }
 {
@@ -39,7 +39,7 @@ pub fn run_cases<
 }
 
 /// Runs the rows of a file.
-fn run_file<R: Files + AllocGlobal + Print, J: Fn(Global, &str, &Row<'_>) -> Result<(), Fault>>(
+fn run_file<R: Files + AllocGlobal + Print, J: Fn(Global, &str, &Row<'_>) -> Result<(), RowFault>>(
     rt: &R,
     judge: &J,
     file: &str,
@@ -66,7 +66,7 @@ fn tell<R: Print>(rt: &R, file: &str, broken: Broken) -> io::Result<()> {
 }
 
 /// Runs these rows.
-fn run_rows<R: AllocGlobal + Print, J: Fn(Global, &str, &Row<'_>) -> Result<(), Fault>>(
+fn run_rows<R: AllocGlobal + Print, J: Fn(Global, &str, &Row<'_>) -> Result<(), RowFault>>(
     rt: &R,
     judge: &J,
     file: &str,
@@ -88,7 +88,7 @@ fn run_rows<R: AllocGlobal + Print, J: Fn(Global, &str, &Row<'_>) -> Result<(), 
 }
 
 /// Prints why a row fails.
-fn tell_row<R: Print>(rt: &R, file: &str, row: &Row<'_>, fault: &Fault) -> io::Result<()> {
+fn tell_row<R: Print>(rt: &R, file: &str, row: &Row<'_>, fault: &RowFault) -> io::Result<()> {
     let at = row.at;
     let name = row.name;
     println!(rt; "{file}:{at}: {name}: {fault}")

@@ -1,19 +1,19 @@
 //! What is wrong with a row, by the line that says it.
 
-use crate::fault::Fault;
+use crate::fault::RowFault;
 use crate::wrong::Wrong;
 use std::alloc::Global;
 
 /// The fault of a line.
-fn fault_at(alloc: Global, line: &str, wrong: Wrong) -> Fault {
+fn fault_at(alloc: Global, line: &str, wrong: Wrong) -> RowFault {
     match format!(in alloc; "{wrong}: {line}") {
-        Ok(told) => Fault::Told(told),
-        Err(_) => Fault::NoMemory,
+        Ok(told) => RowFault::Told(told),
+        Err(_) => RowFault::NoMemory,
     }
 }
 
 /// What a line gave; or why it can't be run, with the line.
-pub fn told_at<T>(alloc: Global, line: &str, given: Result<T, Wrong>) -> Result<T, Fault> {
+pub fn told_at<T>(alloc: Global, line: &str, given: Result<T, Wrong>) -> Result<T, RowFault> {
     match given {
         Ok(value) => Ok(value),
         Err(wrong) => Err(fault_at(alloc, line, wrong)),

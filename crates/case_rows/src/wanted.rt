@@ -1,13 +1,13 @@
 //! What a row wants of what came.
 
 use crate::comparing::{expect_lines, expect_number};
-use crate::fault::Fault;
+use crate::fault::RowFault;
 use crate::program::Came;
 use crate::rows::Row;
 use std::alloc::{AllocError, Global};
 
 /// What came is what the row wants; of its `out` so many bytes.
-pub fn expect(alloc: Global, row: &Row<'_>, came: &Came, len: usize) -> Result<(), Fault> {
+pub fn expect(alloc: Global, row: &Row<'_>, came: &Came, len: usize) -> Result<(), RowFault> {
     expect_lines(alloc, "err", row.lines("err"), came.err.bytes())?;
     let status = row.number(alloc, "status", 0)?;
     expect_number(alloc, "status", status, u64::from(came.status))?;
@@ -15,7 +15,7 @@ pub fn expect(alloc: Global, row: &Row<'_>, came: &Came, len: usize) -> Result<(
 }
 
 /// What was written is what the row wants: what it says in place of `out`, or `out`.
-fn expect_out(alloc: Global, row: &Row<'_>, out: &[u8], len: usize) -> Result<(), Fault> {
+fn expect_out(alloc: Global, row: &Row<'_>, out: &[u8], len: usize) -> Result<(), RowFault> {
     let lines = expect_parts(alloc, row, out)?;
     let numbers = expect_numbers(alloc, row, out)?;
     if lines || numbers {
@@ -29,7 +29,7 @@ fn expect_out(alloc: Global, row: &Row<'_>, out: &[u8], len: usize) -> Result<()
 }
 
 /// What the row says of some lines of the output. Answers whether it does.
-fn expect_parts(alloc: Global, row: &Row<'_>, out: &[u8]) -> Result<bool, Fault> {
+fn expect_parts(alloc: Global, row: &Row<'_>, out: &[u8]) -> Result<bool, RowFault> {
     if row.has("begins") {
         expect_begins(alloc, row.lines("begins"), out)?;
     }
@@ -43,7 +43,7 @@ fn expect_parts(alloc: Global, row: &Row<'_>, out: &[u8]) -> Result<bool, Fault>
 }
 
 /// What the row says of the output in numbers. Answers whether it does.
-fn expect_numbers(alloc: Global, row: &Row<'_>, out: &[u8]) -> Result<bool, Fault> {
+fn expect_numbers(alloc: Global, row: &Row<'_>, out: &[u8]) -> Result<bool, RowFault> {
     if row.has("marks") {
         expect_marks(alloc, &row.numbers(alloc, "marks")?, out)?;
     }
@@ -54,9 +54,9 @@ fn expect_numbers(alloc: Global, row: &Row<'_>, out: &[u8]) -> Result<bool, Faul
 }
 
 /// A row whose output is said otherwise has no `out`, and none of the forms that take a part of it: they would say nothing.
-fn expect_no_out(alloc: Global, row: &Row<'_>) -> Result<(), Fault> {
+fn expect_no_out(alloc: Global, row: &Row<'_>) -> Result<(), RowFault> {
     if row.has("out") || row.has("out_bytes") || row.has("each_write") {
-        return Err(Fault::told(alloc, &["out isn't looked at in this row"]));
+        return Err(RowFault::told(alloc, &["out isn't looked at in this row"]));
     }
     Ok(())
 }
@@ -76,19 +76,19 @@ pub fn front(bytes: &[u8], len: usize) -> &[u8] {
     bytes.split_at(len.min(bytes.len())).0
 }
 
-fn expect_begins(alloc: Global, lines: &[&str], out: &[u8]) -> Result<(), Fault> {
+fn expect_begins(alloc: Global, lines: &[&str], out: &[u8]) -> Result<(), RowFault> {
     let wanted = joined(alloc, lines)?;
     expect_lines(alloc, "out", lines, front(out, wanted.len()))
 }
 
-fn expect_ends(alloc: Global, lines: &[&str], out: &[u8]) -> Result<(), Fault> {
+fn expect_ends(alloc: Global, lines: &[&str], out: &[u8]) -> Result<(), RowFault> {
     let wanted = joined(alloc, lines)?;
     let from = out.len().saturating_sub(wanted.len());
     expect_lines(alloc, "out's end", lines, out.get(from..).unwrap_or(&[]))
 }
 
 /// The output is one of those that an `or` parts.
-fn expect_one_of(alloc: Global, lines: &[&str], out: &[u8]) -> Result<(), Fault> {
+fn expect_one_of(alloc: Global, lines: &[&str], out: &[u8]) -> Result<(), RowFault> {
     let mut told = expect_first(alloc, lines, out);
     for wanted in lines.split(|line| *line == "or").skip(1) {
         if told.is_ok() {
@@ -103,7 +103,7 @@ fn expect_one_of(alloc: Global, lines: &[&str], out: &[u8]) -> Result<(), Fault>
 }
 
 /// The output is the first of those that an `or` parts.
-fn expect_first(alloc: Global, lines: &[&str], out: &[u8]) -> Result<(), Fault> {
+fn expect_first(alloc: Global, lines: &[&str], out: &[u8]) -> Result<(), RowFault> {
     match lines.split(|line| *line == "or").next() {
         Some(wanted) => expect_lines(alloc, "out", wanted, out),
         None => expect_lines(alloc, "out", &[], out),
@@ -111,7 +111,7 @@ fn expect_first(alloc: Global, lines: &[&str], out: &[u8]) -> Result<(), Fault> 
 }
 
 /// The output is the first so many bytes of the lines, which have as many.
-fn expect_front(alloc: Global, lines: &[&str], out: &[u8], len: usize) -> Result<(), Fault> {
+fn expect_front(alloc: Global, lines: &[&str], out: &[u8], len: usize) -> Result<(), RowFault> {
     let wanted = joined(alloc, lines)?;
     expect_number(
         alloc,
@@ -122,16 +122,16 @@ fn expect_front(alloc: Global, lines: &[&str], out: &[u8], len: usize) -> Result
     if wanted.starts_with(out) {
         return Ok(());
     }
-    Err(Fault::told(alloc, &["out isn't a front of what is wanted"]))
+    Err(RowFault::told(alloc, &["out isn't a front of what is wanted"]))
 }
 
 /// Each line stands as often in the output as is said before it.
-fn expect_among(alloc: Global, lines: &[&str], out: &[u8]) -> Result<(), Fault> {
+fn expect_among(alloc: Global, lines: &[&str], out: &[u8]) -> Result<(), RowFault> {
     let Ok(text) = str::from_utf8(out) else {
-        return Err(Fault::told(alloc, &["out isn't text"]));
+        return Err(RowFault::told(alloc, &["out isn't text"]));
     };
     if lines.is_empty() {
-        return Err(Fault::told(alloc, &["among has no lines"]));
+        return Err(RowFault::told(alloc, &["among has no lines"]));
     }
     for line in lines {
         expect_times(alloc, line, text)?;
@@ -140,24 +140,26 @@ fn expect_among(alloc: Global, lines: &[&str], out: &[u8]) -> Result<(), Fault> 
 }
 
 /// A line stands as often in a text as is said before it.
-fn expect_times(alloc: Global, line: &str, text: &str) -> Result<(), Fault> {
+fn expect_times(alloc: Global, line: &str, text: &str) -> Result<(), RowFault> {
     let (times, wanted) = line.split_once(' ').unwrap_or((line, ""));
     let Ok(times) = times.parse::<u64>() else {
-        return Err(Fault::told(alloc, &["this isn't read: ", line]));
+        return Err(RowFault::told(alloc, &["this isn't read: ", line]));
     };
     let found = text.lines().filter(|line| *line == wanted).count();
     expect_number(alloc, wanted, times, found as u64)
 }
 
 /// So many lines are marks, as many as is told of. They are at least the first number, and at most the second.
-fn expect_marks(alloc: Global, limits: &[u64], out: &[u8]) -> Result<(), Fault> {
+fn expect_marks(alloc: Global, limits: &[u64], out: &[u8]) -> Result<(), RowFault> {
     let ([least, most], Ok(text)) = (limits, str::from_utf8(out)) else {
-        return Err(Fault::told(alloc, &["marks isn't two numbers, or out isn't text"]));
+        return Err(RowFault::told(alloc, &["marks isn't two numbers, or out isn't text"]));
     };
     let (told, found) = marks_in(text);
     expect_number(alloc, "how many marks are told", found, told)?;
     if found < *least || found > *most {
-        return Err(Fault::Told(format!(in alloc; "marks: wanted {least} to {most}, got {found}")?));
+        return Err(RowFault::Told(format!(in alloc;
+            "marks: wanted {least} to {most}, got {found}"
+        )?));
     }
     Ok(())
 }
@@ -184,10 +186,10 @@ fn marks_of(line: &str) -> Option<u64> {
 }
 
 /// The output's length and check value are these.
-fn expect_sum(alloc: Global, text: &str, out: &[u8]) -> Result<(), Fault> {
+fn expect_sum(alloc: Global, text: &str, out: &[u8]) -> Result<(), RowFault> {
     let (len, check) = text.split_once(' ').unwrap_or((text, ""));
     let (Ok(len), Ok(check)) = (len.parse::<u64>(), u64::from_str_radix(check, 16)) else {
-        return Err(Fault::told(alloc, &["this isn't read: sum ", text]));
+        return Err(RowFault::told(alloc, &["this isn't read: sum ", text]));
     };
     expect_number(alloc, "out's length", len, out.len() as u64)?;
     expect_number(alloc, "out's check value", check, check_of(out))

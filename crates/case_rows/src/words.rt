@@ -15,14 +15,14 @@ const LETTERS: [(u8, u8, &str); 6] = [
 
 /// What of a line wasn't read yet.
 #[derive(Drop)]
-pub struct Words<'a> {
+pub struct RowWords<'a> {
     rest: &'a str,
 }
 
-impl<'a> Words<'a> {
+impl<'a> RowWords<'a> {
     /// A line, of which nothing was read.
-    pub fn of(line: &'a str) -> Words<'a> {
-        Words { rest: line }
+    pub fn of(line: &'a str) -> RowWords<'a> {
+        RowWords { rest: line }
     }
 
     /// The next word, without the space behind it; empty at the end of the line.

@@ -2,7 +2,7 @@
 
 use crate::items::segment_of;
 use crate::telling::tell_text;
-use case_rows::{Words, Wrong};
+use case_rows::{RowWords, Wrong};
 use std::alloc::Global;
 use std::fmt::Write;
 use tcb_machine::{LAST_TIME, State, Tcb};
@@ -64,7 +64,7 @@ pub fn service_call(
     line: &str,
     out: &mut String,
 ) -> Result<(), Wrong> {
-    let mut words = Words::of(line);
+    let mut words = RowWords::of(line);
     match words.word() {
         "take" => writeln!(out, "took {}", tcb.take_replies(alloc).len())?,
         "reset" => tcb.reset(alloc),

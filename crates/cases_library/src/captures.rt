@@ -1,7 +1,7 @@
 //! Files, as captures or refused.
 
 use capture_reader::{Capture, CaptureFault, read_bytes, read_capture};
-use case_rows::{Fault, Words, Wrong, add_text, told_at};
+use case_rows::{RowFault, RowWords, Wrong, add_text, told_at};
 use pcapng_reader::{InputFault, parse_input};
 use sq_base::{MemSource, Octets};
 use std::alloc::{AllocError, Global};
@@ -79,7 +79,7 @@ pub fn tell_parsed(
     bytes: &[u8],
     words: &str,
     out: &mut String,
-) -> Result<(), Fault> {
+) -> Result<(), RowFault> {
     let told = tell_file(out, alloc, bytes, words);
     told_at(alloc, words, told)
 }
@@ -115,7 +115,7 @@ pub fn tell_each_front(
     bytes: &[u8],
     least: &str,
     out: &mut String,
-) -> Result<(), Fault> {
+) -> Result<(), RowFault> {
     let told = match least.parse::<usize>() {
         Ok(least) => tell_fronts(out, alloc, bytes, least),
         Err(_) => Err(Wrong::Word),
@@ -146,7 +146,7 @@ fn tell_bytes(
 
 /// Tells what a source of the bytes gives: a capture or bytes, where no read fails, or that with this number.
 fn tell_source(out: &mut String, alloc: Global, bytes: &[u8], line: &str) -> Result<(), Wrong> {
-    let mut words = Words::of(line);
+    let mut words = RowWords::of(line);
     let what = words.word();
     let failing = if words.is_done() {
         u64::MAX
@@ -168,7 +168,7 @@ pub fn tell_sources(
     bytes: &[u8],
     lines: &[&str],
     out: &mut String,
-) -> Result<(), Fault> {
+) -> Result<(), RowFault> {
     for line in lines {
         let told = tell_source(out, alloc, bytes, line);
         told_at(alloc, line, told)?;

@@ -14,46 +14,46 @@
 
 use crate::calls::service_call;
 use crate::items::{Arrives, call_of, segment_of, syn_of};
-use crate::served::Served;
+use crate::served::ServedRow;
 use crate::telling::tell_block;
-use case_rows::{Fault, Row, Words, Wrong, told_at};
+use case_rows::{Row, RowFault, RowWords, Wrong, told_at};
 use std::alloc::Global;
 use std::fmt::Write;
 use tcb_machine::Ending;
 
 /// A segment comes.
-fn arrive(served: &mut Served, alloc: Global, arrives: &Arrives) -> Result<(), Wrong> {
+fn arrive(served: &mut ServedRow, alloc: Global, arrives: &Arrives) -> Result<(), Wrong> {
     let Arrives { at, iss, seg, text } = arrives;
     served.segment(alloc, *at, *iss, seg, text.as_slice())
 }
 
 /// A segment comes that a line writes.
-fn segment(served: &mut Served, alloc: Global, line: &str) -> Result<(), Wrong> {
+fn segment(served: &mut ServedRow, alloc: Global, line: &str) -> Result<(), Wrong> {
     let arrives = segment_of(alloc, line)?;
     arrive(served, alloc, &arrives)
 }
 
 /// A SYN comes that a line writes.
-fn syn(served: &mut Served, alloc: Global, line: &str) -> Result<(), Wrong> {
+fn syn(served: &mut ServedRow, alloc: Global, line: &str) -> Result<(), Wrong> {
     let arrives = syn_of(alloc, line)?;
     arrive(served, alloc, &arrives)
 }
 
 /// The time comes that a line writes.
-fn time(served: &mut Served, alloc: Global, line: &str) -> Result<(), Wrong> {
-    let at = Words::of(line).long()?;
+fn time(served: &mut ServedRow, alloc: Global, line: &str) -> Result<(), Wrong> {
+    let at = RowWords::of(line).long()?;
     served.time(alloc, at)
 }
 
 /// A call whose answer is told.
-fn ask(served: &mut Served, alloc: Global, line: &str, out: &mut String) -> Result<(), Wrong> {
+fn ask(served: &mut ServedRow, alloc: Global, line: &str, out: &mut String) -> Result<(), Wrong> {
     let answer = served.ask(alloc, call_of(line)?)?;
     writeln!(out, "answer {answer:?}")?;
     Ok(())
 }
 
 /// A time or a segment comes, and why the connection is over is told.
-fn why(served: &mut Served, alloc: Global, line: &str, out: &mut String) -> Result<(), Wrong> {
+fn why(served: &mut ServedRow, alloc: Global, line: &str, out: &mut String) -> Result<(), Wrong> {
     let before = served.tcb().state();
     let ending = match line.strip_prefix("time ") {
         Some(at) => {
@@ -71,7 +71,7 @@ fn why(served: &mut Served, alloc: Global, line: &str, out: &mut String) -> Resu
 }
 
 /// What the block says is told.
-fn tell(served: &Served, name: &str, out: &mut String) -> Result<(), Wrong> {
+fn tell(served: &ServedRow, name: &str, out: &mut String) -> Result<(), Wrong> {
     let tcb = served.tcb();
     match name {
         "state" => writeln!(out, "state {:?}", tcb.state())?,
@@ -89,8 +89,8 @@ fn tell(served: &Served, name: &str, out: &mut String) -> Result<(), Wrong> {
 }
 
 /// What a line says.
-fn give(served: &mut Served, alloc: Global, line: &str, out: &mut String) -> Result<(), Wrong> {
-    let mut words = Words::of(line);
+fn give(served: &mut ServedRow, alloc: Global, line: &str, out: &mut String) -> Result<(), Wrong> {
+    let mut words = RowWords::of(line);
     match words.word() {
         "syn" => syn(served, alloc, words.rest()),
         "time" => time(served, alloc, words.rest()),
@@ -110,11 +110,11 @@ fn give(served: &mut Served, alloc: Global, line: &str, out: &mut String) -> Res
 
 /// What all lines say, and what was sent then.
 fn give_all(
-    served: &mut Served,
+    served: &mut ServedRow,
     alloc: Global,
     lines: &[&str],
     out: &mut String,
-) -> Result<(), Fault> {
+) -> Result<(), RowFault> {
     for line in lines {
         let given = give(served, alloc, line, out);
         told_at(alloc, line, given)?;
@@ -128,11 +128,11 @@ pub fn tell_exchange(
     port: &str,
     lines: &[&str],
     out: &mut String,
-) -> Result<(), Fault> {
+) -> Result<(), RowFault> {
     let made = port
         .parse::<u16>()
         .map_err(|_| Wrong::Word)
-        .and_then(|port| Served::at(alloc, port));
+        .and_then(|port| ServedRow::at(alloc, port));
     let mut served = told_at(alloc, port, made)?;
     give_all(&mut served, alloc, lines, out)
 }

@@ -1,6 +1,6 @@
 //! What a line gives to a connection.
 
-use case_rows::{Words, Wrong};
+use case_rows::{RowWords, Wrong};
 use segment_codec::Seg;
 use sq_base::{Addr, Tuple};
 use std::alloc::Global;
@@ -39,7 +39,7 @@ pub fn text_of(alloc: Global, words: &str) -> Result<Vec<u8>, Wrong> {
 
 /// A segment: time, control bits, sequence number, acknowledgement number, window, text.
 pub fn segment_of(alloc: Global, line: &str) -> Result<Arrives, Wrong> {
-    let mut words = Words::of(line);
+    let mut words = RowWords::of(line);
     let at = words.long()?;
     let flags = words.flags()?;
     let seq = words.number()?;
@@ -74,7 +74,7 @@ fn set(seg: &mut Seg, word: &str) -> Result<(), Wrong> {
 
 /// A SYN: time, hint for our initial sequence number, sequence number, and what differs from a window of 4,096 without options.
 pub fn syn_of(alloc: Global, line: &str) -> Result<Arrives, Wrong> {
-    let mut words = Words::of(line);
+    let mut words = RowWords::of(line);
     let at = words.long()?;
     let iss = words.number()?;
     let seq = words.number()?;
@@ -92,7 +92,7 @@ pub fn syn_of(alloc: Global, line: &str) -> Result<Arrives, Wrong> {
 
 /// What a program asks: `status`, `close`, or `buffer` and a number.
 pub fn call_of(line: &str) -> Result<Call, Wrong> {
-    let mut words = Words::of(line);
+    let mut words = RowWords::of(line);
     match words.word() {
         "status" => Ok(Call::Status),
         "close" => Ok(Call::Close),

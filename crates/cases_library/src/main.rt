@@ -24,7 +24,7 @@ mod telling;
 
 use capture_reader::{Capture, parse_capture};
 use captures::{tell_each_front, tell_parsed, tell_sources};
-use case_rows::{Fault, Row, bytes_of, expect_lines, run_cases};
+use case_rows::{Row, RowFault, bytes_of, expect_lines, run_cases};
 use exchange::tell_exchange;
 use numbers::tell_numbers;
 use packets::{Form, tell_packets};
@@ -73,10 +73,10 @@ const FIELDS: [&str; 15] = [
 const TCP_FIELDS: [&str; 5] = ["port", "given", "queue", "calls", "out"];
 
 /// The capture that bytes are.
-fn capture_of(alloc: Global, bytes: Vec<u8>) -> Result<Capture, Fault> {
+fn capture_of(alloc: Global, bytes: Vec<u8>) -> Result<Capture, RowFault> {
     match parse_capture(alloc, Octets::wrap(bytes)) {
         Ok(capture) => Ok(capture),
-        Err(fault) => Err(Fault::Told(format!(in alloc; "no capture: {fault:?}")?)),
+        Err(fault) => Err(RowFault::Told(format!(in alloc; "no capture: {fault:?}")?)),
     }
 }
 
@@ -87,7 +87,7 @@ fn planned(
     row: &Row<'_>,
     bytes: Vec<u8>,
     out: &mut String,
-) -> Result<(), Fault> {
+) -> Result<(), RowFault> {
     let capture = capture_of(alloc, bytes)?;
     tell_plans(
         rt,
@@ -100,7 +100,12 @@ fn planned(
 }
 
 /// Tells a capture's streams.
-fn streamed(alloc: Global, row: &Row<'_>, bytes: Vec<u8>, out: &mut String) -> Result<(), Fault> {
+fn streamed(
+    alloc: Global,
+    row: &Row<'_>,
+    bytes: Vec<u8>,
+    out: &mut String,
+) -> Result<(), RowFault> {
     let most = row.number(alloc, "streams", 0)?;
     let capture = capture_of(alloc, bytes)?;
     Ok(tell_streams(alloc, &capture, most.min(100) as u32, out)?)
@@ -112,7 +117,7 @@ fn told_file(
     alloc: Global,
     row: &Row<'_>,
     out: &mut String,
-) -> Result<(), Fault> {
+) -> Result<(), RowFault> {
     let bytes = bytes_of(alloc, row.lines("file"))?;
     if row.has("plan") {
         planned(rt, alloc, row, bytes, out)
@@ -133,7 +138,7 @@ fn told(
     alloc: Global,
     row: &Row<'_>,
     out: &mut String,
-) -> Result<(), Fault> {
+) -> Result<(), RowFault> {
     for (field, form) in &PACKETS {
         if row.has(field) {
             return tell_packets(*form, alloc, row.lines(field), out);
@@ -146,7 +151,7 @@ fn told(
 }
 
 /// Tells what a connection sends, or a queue answers.
-fn told_tcp(alloc: Global, row: &Row<'_>, out: &mut String) -> Result<(), Fault> {
+fn told_tcp(alloc: Global, row: &Row<'_>, out: &mut String) -> Result<(), RowFault> {
     if row.has("port") {
         return tell_exchange(alloc, row.text(alloc, "port", "")?, row.lines("given"), out);
     }
@@ -155,7 +160,7 @@ fn told_tcp(alloc: Global, row: &Row<'_>, out: &mut String) -> Result<(), Fault>
 }
 
 /// Does what a row says, and compares.
-fn judge(rt: &(impl Threads + Sync), alloc: Global, row: &Row<'_>) -> Result<(), Fault> {
+fn judge(rt: &(impl Threads + Sync), alloc: Global, row: &Row<'_>) -> Result<(), RowFault> {
     let mut out = String::new(alloc);
     if row.has("port") || row.has("queue") {
         row.expect_fields(alloc, &TCP_FIELDS)?;

@@ -1,6 +1,6 @@
 //! Sequence numbers, checksums and link types, each line as a call: `add A N`, `distance A B`, `before A B`, `most A B`, `sum START [HEX]`, `link N`.
 
-use case_rows::{Fault, Words, Wrong, spelled, told_at};
+use case_rows::{RowFault, RowWords, Wrong, spelled, told_at};
 use sq_base::{Link, inet_sum, seq_add, seq_dist, seq_le, seq_lt};
 use std::alloc::Global;
 use std::fmt::Write;
@@ -18,7 +18,7 @@ fn sum(out: &mut String, alloc: Global, start: u16, digits: &str) -> Result<(), 
 
 /// Tells what a call answers.
 fn tell(out: &mut String, alloc: Global, line: &str) -> Result<(), Wrong> {
-    let mut words = Words::of(line);
+    let mut words = RowWords::of(line);
     match words.word() {
         "add" => writeln!(out, "{}", seq_add(words.number()?, words.number()?))?,
         "distance" => writeln!(out, "{}", seq_dist(words.number()?, words.number()?))?,
@@ -32,7 +32,7 @@ fn tell(out: &mut String, alloc: Global, line: &str) -> Result<(), Wrong> {
 }
 
 /// Tells what calls answer, one line after another.
-pub fn tell_numbers(alloc: Global, lines: &[&str], out: &mut String) -> Result<(), Fault> {
+pub fn tell_numbers(alloc: Global, lines: &[&str], out: &mut String) -> Result<(), RowFault> {
     for line in lines {
         let told = tell(out, alloc, line);
         told_at(alloc, line, told)?;

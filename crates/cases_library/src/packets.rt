@@ -12,7 +12,7 @@
 ghost use Rattle.std.specs.Prelude.{◌≤◌, IfOk, length};
 
 use crate::ends::tell_end;
-use case_rows::{Fault, Words, Wrong, add_bytes, add_flags, add_text, spelled, told_at};
+use case_rows::{RowFault, RowWords, Wrong, add_bytes, add_flags, add_text, spelled, told_at};
 use segment_codec::{MOST_TEXT, Options, Packet, Reply, Seg, decode, encode, ip_place, refusal};
 use sq_base::{Addr, Link, Octets, Tuple};
 use std::alloc::{AllocError, Global};
@@ -103,7 +103,7 @@ fn tell_packet(out: &mut String, packet: &Packet) -> Result<(), AllocError> {
 
 /// Tells the packet in a record's bytes.
 fn packet(out: &mut String, alloc: Global, line: &str) -> Result<(), Wrong> {
-    let mut words = Words::of(line);
+    let mut words = RowWords::of(line);
     let link = link_of(words.word())?;
     let (verify, digits) = match words.rest().strip_prefix("verify ") {
         Some(digits) => (true, digits),
@@ -116,7 +116,7 @@ fn packet(out: &mut String, alloc: Global, line: &str) -> Result<(), Wrong> {
 
 /// Tells where the datagram begins in a record's bytes.
 fn place(out: &mut String, alloc: Global, line: &str) -> Result<(), Wrong> {
-    let mut words = Words::of(line);
+    let mut words = RowWords::of(line);
     let link = link_of(words.word())?;
     let body = body_of(alloc, words.rest())?;
     match ip_place(link, body.as_slice()) {
@@ -136,7 +136,7 @@ fn tell_datagram(out: &mut String, udp: &Udp) -> Result<(), AllocError> {
 
 /// Tells the UDP datagram in a record's bytes.
 fn datagram(out: &mut String, alloc: Global, line: &str) -> Result<(), Wrong> {
-    let mut words = Words::of(line);
+    let mut words = RowWords::of(line);
     let link = link_of(words.word())?;
     let body = body_of(alloc, words.rest())?;
     match decode_udp(link, body.as_slice()) {
@@ -162,7 +162,7 @@ fn set(reply: &mut Reply, word: &str) -> Result<bool, Wrong> {
 
 /// A reply that a line writes.
 fn reply_of(alloc: Global, line: &str) -> Result<Reply, Wrong> {
-    let mut words = Words::of(line);
+    let mut words = RowWords::of(line);
     let flags = words.flags()?;
     let seq = words.number()?;
     let ack = words.number()?;
@@ -202,7 +202,7 @@ fn text(out: &mut String, alloc: Global, line: &str) -> Result<(), Wrong> {
 
 /// Tells the reset that answers a segment.
 fn refused(out: &mut String, alloc: Global, line: &str) -> Result<(), Wrong> {
-    let mut words = Words::of(line);
+    let mut words = RowWords::of(line);
     let flags = words.flags()?;
     let seq = words.number()?;
     let ack = words.number()?;
@@ -236,7 +236,7 @@ pub fn tell_packets(
     alloc: Global,
     lines: &[&str],
     out: &mut String,
-) -> Result<(), Fault> {
+) -> Result<(), RowFault> {
     for line in lines {
         let told = tell(form, out, alloc, line);
         told_at(alloc, line, told)?;

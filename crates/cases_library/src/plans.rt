@@ -5,7 +5,7 @@
 
 use crate::ends::tell_ends;
 use capture_reader::Capture;
-use case_rows::{Fault, Words, Wrong, told_at};
+use case_rows::{RowFault, RowWords, Wrong, told_at};
 use conn_classifier::{Item, Plan, plan};
 use std::alloc::{AllocError, Global};
 use std::fmt::Write;
@@ -83,7 +83,7 @@ fn tell_conn(out: &mut String, plan: &Plan<'_>, word: &str, c: u32, of: u32) -> 
 
 /// Tells what a line names.
 fn tell(out: &mut String, alloc: Global, plan: &Plan<'_>, line: &str) -> Result<(), Wrong> {
-    let mut words = Words::of(line);
+    let mut words = RowWords::of(line);
     let word = words.word();
     match word {
         "counts" => writeln!(out, "{:?}", plan.counts())?,
@@ -99,7 +99,12 @@ fn tell(out: &mut String, alloc: Global, plan: &Plan<'_>, line: &str) -> Result<
 }
 
 /// Tells of a plan what lines name.
-fn tell_all(out: &mut String, alloc: Global, plan: &Plan<'_>, lines: &[&str]) -> Result<(), Fault> {
+fn tell_all(
+    out: &mut String,
+    alloc: Global,
+    plan: &Plan<'_>,
+    lines: &[&str],
+) -> Result<(), RowFault> {
     for line in lines {
         let told = tell(out, alloc, plan, line);
         told_at(alloc, line, told)?;
@@ -115,7 +120,7 @@ pub fn tell_plans(
     verify: bool,
     lines: &[&str],
     out: &mut String,
-) -> Result<(), Fault> {
+) -> Result<(), RowFault> {
     let plan = plan(rt, alloc, capture, verify)?;
     tell_all(out, alloc, &plan, lines)
 }

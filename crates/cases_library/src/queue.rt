@@ -8,7 +8,7 @@
 //! | `offer TEXT`, `acked N`, `slice FROM N` | a text is offered, bytes are acknowledged, held bytes are told |
 
 use byte_queues::{RecvQueue, SendQueue};
-use case_rows::{Fault, Words, Wrong, told_at};
+use case_rows::{RowFault, RowWords, Wrong, told_at};
 use std::alloc::{AllocError, Global};
 use std::fmt::Write;
 
@@ -58,7 +58,7 @@ fn run(queue: &RecvQueue, i: u32, out: &mut String) -> Result<(), Wrong> {
 
 /// What a queue says is told.
 fn tell(queues: &Queues, line: &str, out: &mut String) -> Result<(), Wrong> {
-    let mut words = Words::of(line);
+    let mut words = RowWords::of(line);
     match words.word() {
         "runs" => writeln!(out, "runs {}", queues.received.runs())?,
         "run" => return run(&queues.received, words.number()?, out),
@@ -104,7 +104,7 @@ fn slice(
 
 /// What a line says.
 fn give(queues: &mut Queues, alloc: Global, line: &str, out: &mut String) -> Result<(), Wrong> {
-    let mut words = Words::of(line);
+    let mut words = RowWords::of(line);
     match words.word() {
         "place" => {
             let at = words.long()?;
@@ -125,7 +125,7 @@ pub fn tell_queue(
     capacity: u32,
     lines: &[&str],
     out: &mut String,
-) -> Result<(), Fault> {
+) -> Result<(), RowFault> {
     let mut queues = Queues {
         received: RecvQueue::make(alloc, capacity),
         sent: SendQueue::make(alloc),

@@ -12,22 +12,22 @@ const DAYTIME: &str = "Tuesday, February 22, 1982 17:37:43-PST";
 
 /// A connection with what serves it.
 #[derive(Drop)]
-pub enum Served {
+pub enum ServedRow {
     Plain(Service, Tcb),
     Dated(Daytime, Tcb),
     Generated(GenBlock),
 }
 
-impl Served {
+impl ServedRow {
     /// A new connection to a port; an error where no service has it.
-    pub fn at(alloc: Global, port: u16) -> Result<Served, Wrong> {
+    pub fn at(alloc: Global, port: u16) -> Result<ServedRow, Wrong> {
         match port {
-            7 | 9 => Ok(Served::Plain(Service::of(port), Tcb::make(alloc))),
+            7 | 9 => Ok(ServedRow::Plain(Service::of(port), Tcb::make(alloc))),
             13 => {
                 let text = Vec::from_slice(alloc, DAYTIME.as_bytes())?;
-                Ok(Served::Dated(Daytime { text }, Tcb::make(alloc)))
+                Ok(ServedRow::Dated(Daytime { text }, Tcb::make(alloc)))
             }
-            19 => Ok(Served::Generated(GenBlock::make(alloc))),
+            19 => Ok(ServedRow::Generated(GenBlock::make(alloc))),
             _ => Err(Wrong::Word),
         }
     }
@@ -35,15 +35,15 @@ impl Served {
     /// The connection's block.
     pub fn tcb(&self) -> &Tcb {
         match self {
-            Served::Plain(_, tcb) | Served::Dated(_, tcb) => tcb,
-            Served::Generated(block) => block.tcb(),
+            ServedRow::Plain(_, tcb) | ServedRow::Dated(_, tcb) => tcb,
+            ServedRow::Generated(block) => block.tcb(),
         }
     }
 
     /// The block, where echo or discard serves it.
     pub fn plain(&mut self) -> Result<&mut Tcb, Wrong> {
         match self {
-            Served::Plain(_, tcb) => Ok(tcb),
+            ServedRow::Plain(_, tcb) => Ok(tcb),
             _ => Err(Wrong::Call),
         }
     }
@@ -51,9 +51,9 @@ impl Served {
     /// What the service is called.
     pub fn name(&self) -> &'static str {
         match self {
-            Served::Plain(service, _) => service.name(),
-            Served::Dated(..) => "daytime",
-            Served::Generated(_) => "chargen",
+            ServedRow::Plain(service, _) => service.name(),
+            ServedRow::Dated(..) => "daytime",
+            ServedRow::Generated(_) => "chargen",
         }
     }
 
@@ -67,22 +67,22 @@ impl Served {
         text: &[u8],
     ) -> Result<(), Wrong> {
         match self {
-            Served::Plain(service, tcb) => segment_to(service, tcb, alloc, at, iss, seg, text),
-            Served::Dated(service, tcb) => segment_to(service, tcb, alloc, at, iss, seg, text),
-            Served::Generated(block) => generated_segment(block, alloc, at, iss, seg, text),
+            ServedRow::Plain(service, tcb) => segment_to(service, tcb, alloc, at, iss, seg, text),
+            ServedRow::Dated(service, tcb) => segment_to(service, tcb, alloc, at, iss, seg, text),
+            ServedRow::Generated(block) => generated_segment(block, alloc, at, iss, seg, text),
         }
     }
 
     /// The time comes.
     pub fn time(&mut self, alloc: Global, at: u64) -> Result<(), Wrong> {
         match self {
-            Served::Plain(_, tcb) | Served::Dated(_, tcb) => {
+            ServedRow::Plain(_, tcb) | ServedRow::Dated(_, tcb) => {
                 if tcb.clock() > at || at > LAST_TIME {
                     return Err(Wrong::Call);
                 }
                 tick(tcb, alloc, at)?;
             }
-            Served::Generated(block) => {
+            ServedRow::Generated(block) => {
                 if block.tcb().clock() > at || at > LAST_TIME {
                     return Err(Wrong::Call);
                 }
@@ -95,9 +95,9 @@ impl Served {
     /// A program calls.
     pub fn ask(&mut self, alloc: Global, call: Call) -> Result<Answer, Wrong> {
         match self {
-            Served::Plain(service, tcb) => Ok(ask(service, tcb, alloc, call)?),
-            Served::Dated(service, tcb) => Ok(ask(service, tcb, alloc, call)?),
-            Served::Generated(_) => Err(Wrong::Call),
+            ServedRow::Plain(service, tcb) => Ok(ask(service, tcb, alloc, call)?),
+            ServedRow::Dated(service, tcb) => Ok(ask(service, tcb, alloc, call)?),
+            ServedRow::Generated(_) => Err(Wrong::Call),
         }
     }
 }

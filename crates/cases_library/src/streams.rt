@@ -5,10 +5,10 @@ use capture_reader::Capture;
 use conn_classifier::Item;
 use std::alloc::{AllocError, Global};
 use std::fmt::Write;
-use stream_plan::{MorePlan, Stream, more_plan};
+use stream_plan::{CapturedStream, MorePlan, more_plan};
 
 /// Tells a stream: its two ends, its datagrams and its items.
-fn tell_stream(out: &mut String, stream: &Stream) -> Result<(), AllocError> {
+fn tell_stream(out: &mut String, stream: &CapturedStream) -> Result<(), AllocError> {
     tell_ends(out, "stream", &stream.tuple())?;
     for datagram in stream.datagrams() {
         writeln!(out, "datagram {} record {}", datagram.at, datagram.rec)?;

@@ -1,6 +1,6 @@
 //! Rows of words alone: what they ask for, in lines.
 
-use case_rows::{Fault, Row, expect_lines, expect_number, words_of};
+use case_rows::{Row, RowFault, expect_lines, expect_number, words_of};
 use squeue_run::{CallWord, WordFault, Words, read_words};
 use std::alloc::{AllocError, Global};
 
@@ -9,18 +9,18 @@ use std::alloc::{AllocError, Global};
 const FIELDS: [&str; 4] = ["words", "times", "asks", "calls"];
 
 /// Reads the words of a row, and compares what they ask for.
-pub fn judge_words(alloc: Global, row: &Row<'_>) -> Result<(), Fault> {
+pub fn judge_words(alloc: Global, row: &Row<'_>) -> Result<(), RowFault> {
     row.expect_fields(alloc, &FIELDS)?;
     let words = repeated(alloc, row)?;
     match read_words(alloc, &words) {
         Ok(words) => judge_asked(alloc, row, &words),
         Err(WordFault::Usage) => expect_lines(alloc, "asks", row.lines("asks"), b"refused\n"),
-        Err(WordFault::NoMemory) => Err(Fault::NoMemory),
+        Err(WordFault::NoMemory) => Err(RowFault::NoMemory),
     }
 }
 
 /// The words of a row, so many times as it says.
-fn repeated(alloc: Global, row: &Row<'_>) -> Result<Vec<String>, Fault> {
+fn repeated(alloc: Global, row: &Row<'_>) -> Result<Vec<String>, RowFault> {
     let line = row.text(alloc, "words", "none")?;
     let mut words = Vec::new(alloc);
     for _ in 0..row.number(alloc, "times", 1)? {
@@ -32,7 +32,7 @@ fn repeated(alloc: Global, row: &Row<'_>) -> Result<Vec<String>, Fault> {
 }
 
 /// What accepted words ask for is what the row has.
-fn judge_asked(alloc: Global, row: &Row<'_>, words: &Words) -> Result<(), Fault> {
+fn judge_asked(alloc: Global, row: &Row<'_>, words: &Words) -> Result<(), RowFault> {
     if row.has("calls") {
         let calls = row.number(alloc, "calls", 0)?;
         return expect_number(alloc, "calls", calls, words.named.len() as u64);

@@ -6,11 +6,11 @@
 
 ghost use Rattle.std.specs.Prelude.{◌≤◌, IfOk, length};
 ghost use Rattle.live_rings.specs.Making.{IsInRange};
-ghost use Rattle.live_rings.specs.Words.{AreFew};
+ghost use Rattle.live_rings.specs.RingWords.{AreFew};
 
-use case_rows::{Fault as RowFault, Row, add_text, judge_run};
-use live_rings::{Ends, Setup, Words, rings_asked, serve_rings, setup_by};
-use live_run::{Fault, Mode, asked_in, serve_frames_of};
+use case_rows::{Row, RowFault, add_text, judge_run};
+use live_rings::{Ends, Layout, RingWords, rings_asked, serve_rings, setup_by};
+use live_run::{Fault, Medium, asked_in, serve_frames_of};
 use live_server::Server;
 use sq_base::{MemSink, MemSource, Source, put};
 use std::alloc::Global;
@@ -99,7 +99,7 @@ fn by_one_thread(
     let Some(asked) = asked_in(words) else {
         return Err(Fault::Words);
     };
-    let Mode::Frames(secret) = asked.mode else {
+    let Medium::Frames(secret) = asked.mode else {
         return Err(Fault::Words);
     };
     let Ok(mut sink) = MemSink::make(alloc, ROOM, ROOM, &[]) else {
@@ -124,7 +124,7 @@ fn laid_out(
     alloc: Global,
     words: &[String],
     src: &mut MemSource,
-) -> Result<(Setup, Vec<Ends<MemSource, MemSink>>), Fault>
+) -> Result<(Layout, Vec<Ends<MemSource, MemSink>>), Fault>
     ensures range { IfOk result (λ r. IsInRange r.0) }
     ensures few { IfOk result (λ r. length r.1.items ≤ 63) }
 {
@@ -138,7 +138,7 @@ fn laid_out(
 }
 
 /// How a run over frames is set up.
-fn setup_of(asked: &Words) -> Result<Setup, Fault>
+fn setup_of(asked: &RingWords) -> Result<Layout, Fault>
     requires { AreFew asked.now }
     ensures { IfOk result (λ s. IsInRange s) }
 {

@@ -10,7 +10,7 @@ mod asking;
 mod live;
 
 use asking::judge_words;
-use case_rows::{Fault, Row, judge_run, run_cases};
+use case_rows::{Row, RowFault, judge_run, run_cases};
 use datagram_services::more_run;
 use live::judge_live;
 use sq_base::{MemSink, MemSource, Status};
@@ -30,7 +30,7 @@ fn judge_sqrun(
     rt: &(impl Threads + Wait + Sync),
     alloc: Global,
     row: &Row<'_>,
-) -> Result<(), Fault> {
+) -> Result<(), RowFault> {
     if row.has("asks") || row.has("calls") {
         return judge_words(alloc, row);
     }
@@ -46,7 +46,11 @@ fn judge_sqrun(
 }
 
 /// Runs `sqreplay` on these threads as the row says.
-fn judge_sqreplay(rt: &(impl Threads + Sync), alloc: Global, row: &Row<'_>) -> Result<(), Fault> {
+fn judge_sqreplay(
+    rt: &(impl Threads + Sync),
+    alloc: Global,
+    row: &Row<'_>,
+) -> Result<(), RowFault> {
     let program = |alloc: Global, words: &[String], src: &mut MemSource, out: &mut MemSink, err: &mut MemSink| {
         replay_run(rt, alloc, words, src, out, err).code()
     };
@@ -58,7 +62,7 @@ fn judge_sqmore(
     rt: &(impl Threads + Wait + Sync),
     alloc: Global,
     row: &Row<'_>,
-) -> Result<(), Fault> {
+) -> Result<(), RowFault> {
     let program = |alloc: Global, words: &[String], src: &mut MemSource, out: &mut MemSink, err: &mut MemSink| {
         more_run(rt, alloc, words, src, out, err).code()
     };
@@ -71,7 +75,7 @@ fn judge(
     alloc: Global,
     file: &str,
     row: &Row<'_>,
-) -> Result<(), Fault> {
+) -> Result<(), RowFault> {
     if file.starts_with("sqreplay") {
         judge_sqreplay(rt, alloc, row)
     } else if file.starts_with("sqmore") {

@@ -11,19 +11,19 @@ use Rattle.capture_reader.specs.Limits.{latest_time}
 use Rattle.capture_reader.specs.Outcome.{CaptureFile}
 use Rattle.conn_classifier.specs.Plan.{Rises, time_of}
 use Rattle.conn_classifier.specs.declared.kinds.Item.{Item}
-use Rattle.stream_plan.specs.declared.kinds.Datagram.{Datagram}
+use Rattle.stream_plan.specs.declared.kinds.ServedDatagram.{ServedDatagram}
 use Rattle.stream_plan.specs.Sound.{IsStream}
 use Rattle.stream_plan.specs.Streams.{StreamOf}
 use Rattle.datagram_services.specs.Items.{ServedOf, answers_to, entry_of, served}
 use Rattle.datagram_services.specs.Standing.{HasServed, IsNew, served_of}
-use Rattle.datagram_services.specs.declared.answer.Answer.{Answer}
+use Rattle.datagram_services.specs.declared.answer.SentDatagram.{SentDatagram}
 use Rattle.datagram_services.specs.declared.block.StreamBlock.{StreamBlock}
 
 serves_more : (es : List Entry) (e : Entry) (x : Generating) → serves (es ++ e ∷ []) x ≡ enters e (serves es x)
 serves_more [] e x = refl
 serves_more (d ∷ es) e x = serves_more es e (enters d x)
 
-one_answer : (f : Datagram → List Answer) (ds : List Datagram) (n : ℕ) (d : Datagram) → n < length ds → d ≡ get_or ds n d → flat_map f (take n ds) ++ f d ≡ flat_map f (take (n + 1) ds)
+one_answer : (f : ServedDatagram → List SentDatagram) (ds : List ServedDatagram) (n : ℕ) (d : ServedDatagram) → n < length ds → d ≡ get_or ds n d → flat_map f (take n ds) ++ f d ≡ flat_map f (take (n + 1) ds)
 one_answer f ds n d lt is =
     sym (ap (flat_map f) (take_more ds n d lt) ∙ (flat_map-append f (take n ds) (get_or ds n d ∷ []) ∙ ap (λ l. flat_map f (take n ds) ++ l) (append-nil (f (get_or ds n d)) ∙ ap f (sym is))))
 
@@ -34,7 +34,7 @@ rises_next last most xs n x lt is h =
     subst (λ (y : Item). (last ≤ time_of y) × Rises (time_of y) most (drop (n + 1) xs)) (sym is) now
 
 module _ (file : CaptureFile) (s : StreamOf) (k next : StreamBlock) (h : HasServed file s k) (had : next.had ≡ k.had + 1) where
-  same_by : (f : Datagram → List Answer) (e : Item → Entry) → next.answers.items ≡ flat_map f (take next.had s.datagrams)
+  same_by : (f : ServedDatagram → List SentDatagram) (e : Item → Entry) → next.answers.items ≡ flat_map f (take next.had s.datagrams)
       → next.generator ≡ serves (map e (take (next.had - length s.datagrams) s.items)) new_generating
       → served_of next ≡ record { answers = flat_map f (take next.had s.datagrams); generator = serves (map e (take (next.had - length s.datagrams) s.items)) new_generating }
   same_by f e a g = λ j. record { answers = a j; generator = g j }
@@ -47,7 +47,7 @@ module _ (file : CaptureFile) (s : StreamOf) (k next : StreamBlock) (h : HasServ
   unfolding served
   generator_so_far = ap (λ (v : ServedOf). v.generator) h.same
 
-  module _ (d : Datagram) (lt : k.had < length s.datagrams) (is : d ≡ get_or s.datagrams k.had d) (answered : next.answers.items ≡ k.answers.items ++ answers_to file s.tuple d) (kept : next.generator ≡ k.generator) where
+  module _ (d : ServedDatagram) (lt : k.had < length s.datagrams) (is : d ≡ get_or s.datagrams k.had d) (answered : next.answers.items ≡ k.answers.items ++ answers_to file s.tuple d) (kept : next.generator ≡ k.generator) where
     same_datagram : served_of next ≡ served file s next.had
     unfolding served
     same_datagram =

@@ -10,7 +10,7 @@ use Rattle.sq_base.specs.declared.kinds.Tuple.{Tuple}
 use Rattle.chargen_service.specs.Chargen.{Generating}
 use Rattle.report_lines.specs.ReportText.{done_line, end_line, line, reply_line}
 use Rattle.stream_plan.specs.Streams.{MorePlanOf, StreamOf, item_count}
-use Rattle.datagram_services.specs.declared.answer.Answer.{Answer}
+use Rattle.datagram_services.specs.declared.answer.SentDatagram.{SentDatagram}
 use Rattle.datagram_services.specs.Items.{ServedOf, all_served}
 use Rattle.conn_classifier.proofs.RingLaw.{drop_at}
 use Rattle.datagram_services.specs.MoreText.{answer_line, counts_line, is_generator, items_line, plan_text, stream_line, stream_text}
@@ -33,7 +33,7 @@ from_some P None x e h = absurd (let no : ⊥ = cc in no)
 from_some P (Some y) x e h = let same : y ≡ x = cc in subst P same h
 
 -- one stream
-one_stream : (c count : ℕ) (s : StreamOf) (v : ServedOf) (t : Tuple) (answers : List Answer) (g : Generating) (old a b d new : Told) → t ≡ s.tuple → count ≡ item_count s
+one_stream : (c count : ℕ) (s : StreamOf) (v : ServedOf) (t : Tuple) (answers : List SentDatagram) (g : Generating) (old a b d new : Told) → t ≡ s.tuple → count ≡ item_count s
     → answers ≡ v.answers → g ≡ v.generator → a ≡ more old (stream_line c t) → b ≡ more a (items_line count) → d ≡ more b (flat_map answer_line answers) → new ≡ more d (generated t g)
     → new ≡ more old (stream_text c s v)
 unfolding stream_text
@@ -54,7 +54,7 @@ has_place p v c is lt = let same : length v ≡ length p.streams = ap (λ (l : L
 
 module _ (p : MorePlanOf) (v : List ServedOf) (c : ℕ) (s : StreamOf) (is : IsMoreServed p v) (here : slice_get p.streams c ≡ Some s) where
   -- one stream of the plan, with what was served of it
-  pub stream_told : (count : ℕ) (t : Tuple) (answers : List Answer) (g : Generating) (old a b d new : Told) → t ≡ s.tuple → IfSome (slice_get p.streams c) (λ s. count ≡ item_count s)
+  pub stream_told : (count : ℕ) (t : Tuple) (answers : List SentDatagram) (g : Generating) (old a b d new : Told) → t ≡ s.tuple → IfSome (slice_get p.streams c) (λ s. count ≡ item_count s)
       → IfSome (slice_get v c) (λ s. answers ≡ s.answers) → IfSome (slice_get v c) (λ s. g ≡ s.generator)
       → a ≡ more old (stream_line c t) → b ≡ more a (items_line count) → d ≡ more b (flat_map answer_line answers) → new ≡ more d (generated t g)
       → IfSome (slice_get p.streams c) (λ s. new ≡ more old (told p (c, s)))

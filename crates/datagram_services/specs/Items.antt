@@ -10,16 +10,16 @@ use Rattle.udp_codec.specs.UdpBytes.{udp_bytes}
 use Rattle.chargen_service.specs.Chargen.{Generating, new_generating, Entry, segment, time, serves}
 use Rattle.conn_classifier.specs.declared.kinds.Item.{Item}
 use Rattle.conn_classifier.specs.declared.kinds.Item.TheVariants as item
-use Rattle.stream_plan.specs.declared.kinds.Datagram.{Datagram}
+use Rattle.stream_plan.specs.declared.kinds.ServedDatagram.{ServedDatagram}
 use Rattle.stream_plan.specs.Streams.{StreamOf, item_count}
-use Rattle.datagram_services.specs.declared.answer.Answer.{Answer}
+use Rattle.datagram_services.specs.declared.answer.SentDatagram.{SentDatagram}
 
 -- a text of the capture: so many bytes of a record's body, from a place on
 abbrev pub text_in : CaptureFile → ℕ → ℕ → ℕ → List ℕ
 text_in file rec from len = take len (drop from (option_map_or (λ p. p.body) (slice_get file.packets rec) []))
 
 -- echo answers a datagram at its time with the same text, discard with nothing
-abbrev pub answers_to : CaptureFile → Tuple → Datagram → List Answer
+abbrev pub answers_to : CaptureFile → Tuple → ServedDatagram → List SentDatagram
 answers_to file t d =
     if t.server_port == echo_port then record { at = d.at; datagram = udp_bytes t (text_in file d.rec d.udp.text_from d.udp.text_len) } ∷ []
     else []
@@ -30,7 +30,7 @@ entry_of file (item.Time at) = time at
 entry_of file (item.Segment at rec iss seg) = segment at iss seg (text_in file rec seg.text_from seg.text_len)
 
 pub record ServedOf : Type 0 where
-  pub answers : List Answer
+  pub answers : List SentDatagram
   pub generator : Generating
 
 -- what the first n items of a stream leave; one of its two lists is empty

@@ -8,7 +8,7 @@ use Rattle.capture_reader.specs.Outcome.{CaptureFile}
 use Rattle.report_lines.specs.ReportText.{datagram_line, done_line, end_field, end_line, line, reply_line}
 use Rattle.stream_plan.specs.declared.kinds.Counts.{Counts}
 use Rattle.stream_plan.specs.Streams.{MorePlanOf, StreamOf, item_count, more_plan_of}
-use Rattle.datagram_services.specs.declared.answer.Answer.{Answer}
+use Rattle.datagram_services.specs.declared.answer.SentDatagram.{SentDatagram}
 use Rattle.datagram_services.specs.Items.{ServedOf, all_served}
 
 -- by the server's port: echo and discard are served over UDP, the character generator over TCP
@@ -36,7 +36,7 @@ stream_line c t = line (
 unfoldable pub items_line : ℕ → List ℕ
 items_line n = line (codes "order" ∷ (if n == 1 then codes "f0" else codes "f0-" ++ decimal (n - 1)) ∷ [])
 
-unfoldable pub answer_line : Answer → List ℕ
+unfoldable pub answer_line : SentDatagram → List ℕ
 answer_line a = datagram_line a.at a.datagram
 
 -- a stream, and what its items were served into

@@ -4,7 +4,7 @@ use sq_base::Octets;
 
 /// An answer: when it is sent, in microseconds, and its IPv4 datagram.
 #[derive(Debug, Drop)]
-pub struct Answer {
+pub struct SentDatagram {
     pub at: u64,
     pub datagram: Octets,
 }

@@ -6,19 +6,19 @@ ghost use Rattle.stream_plan.specs.Sound.{IsStream};
 ghost use Rattle.stream_plan.specs.Streams.{item_count};
 ghost use Rattle.datagram_services.specs.Standing.{HasServed};
 
-use crate::answer::Answer;
+use crate::answer::SentDatagram;
 use crate::items::{answer, enter};
 use capture_reader::Capture;
 use chargen_service::GenBlock;
 use std::alloc::{AllocError, Global};
-use stream_plan::Stream;
+use stream_plan::CapturedStream;
 
 /// What a stream's first items were served into: the answers to its datagrams, in order, and the generator's block.
 #[derive(Drop)]
 pub struct StreamBlock {
     /// How many items were served.
     had: u64,
-    answers: Vec<Answer>,
+    answers: Vec<SentDatagram>,
     generator: GenBlock,
     /// Memory was missing: what is here is of no use.
     short: bool,
@@ -41,7 +41,7 @@ impl StreamBlock {
     }
 
     /// The answers to datagrams, in order.
-    pub fn answers(&self) -> &[Answer]
+    pub fn answers(&self) -> &[SentDatagram]
         ensures { result.now ≡ self.now.answers.items }
     {
         self.answers.as_slice()
@@ -62,7 +62,7 @@ impl StreamBlock {
     }
 
     /// The stream's next item is served.
-    pub(crate) fn feed(&mut self, alloc: Global, capture: &Capture, stream: &Stream)
+    pub(crate) fn feed(&mut self, alloc: Global, capture: &Capture, stream: &CapturedStream)
         requires stream { IsStream capture.now stream.now }
         requires few { item_count stream.now < 2 ^ 32 }
         requires next { self.old.had < item_count stream.now }
@@ -81,7 +81,7 @@ impl StreamBlock {
         &mut self,
         alloc: Global,
         capture: &Capture,
-        stream: &Stream,
+        stream: &CapturedStream,
     ) -> Result<(), AllocError>
         requires stream { IsStream capture.now stream.now }
         requires few { item_count stream.now < 2 ^ 32 }

@@ -9,22 +9,22 @@ ghost use Rattle.conn_classifier.specs.Plan.{IsInside, time_of};
 ghost use Rattle.stream_plan.specs.Sound.{HasText};
 ghost use Rattle.datagram_services.specs.Items.{answers_to, entry_of, text_in};
 
-use crate::answer::Answer;
+use crate::answer::SentDatagram;
 use capture_reader::Capture;
 use chargen_service::GenBlock;
 use conn_classifier::Item;
 use sq_base::{ECHO_PORT, Tuple};
 use std::alloc::{AllocError, Global};
-use stream_plan::Datagram;
+use stream_plan::ServedDatagram;
 use udp_codec::encode_udp;
 
 /// Echo answers the datagram at its time with the same text, discard with nothing. Fails only for want of memory.
 pub fn answer(
-    answers: &mut Vec<Answer>,
+    answers: &mut Vec<SentDatagram>,
     alloc: Global,
     capture: &Capture,
     tuple: &Tuple,
-    datagram: &Datagram,
+    datagram: &ServedDatagram,
 ) -> Result<(), AllocError>
     requires { HasText capture.now datagram.now }
     ensures { OnOk result (answers.new.items ≡ answers.old.items ++ answers_to capture.now tuple.now datagram.now) }
@@ -33,7 +33,7 @@ pub fn answer(
         let udp = datagram.udp;
         let text = text_at(capture, datagram.rec, udp.text_from, udp.text_len);
         let sent = encode_udp(alloc, tuple, text)?;
-        answers.push(Answer {
+        answers.push(SentDatagram {
             at: datagram.at,
             datagram: sent,
         })?;

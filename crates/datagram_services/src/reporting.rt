@@ -10,7 +10,7 @@ ghost use Rattle.datagram_services.specs.MoreText.{answer_line, counts_line, is_
 ghost use Rattle.datagram_services.specs.MoreText.{protocol_word, service_word, stream_line, stream_text};
 ghost use Rattle.datagram_services.specs.Served.{IsMoreServed};
 
-use crate::answer::Answer;
+use crate::answer::SentDatagram;
 use crate::served::MoreServed;
 use chargen_service::GenBlock;
 use report_lines::{push_datagram, push_last, push_next_end, push_replies};
@@ -183,7 +183,7 @@ fn push_items<T: TextEnd>(text: &mut T, count: u32) -> Result<(), T::Fault>
     text.put(b"\n")
 }
 
-fn push_answers<T: TextEnd>(text: &mut T, answers: &[Answer]) -> Result<(), T::Fault>
+fn push_answers<T: TextEnd>(text: &mut T, answers: &[SentDatagram]) -> Result<(), T::Fault>
     ensures { OnOk result (T.told text.new ≡ more (T.told text.old) (flat_map answer_line answers.now)) }
 {
     for answer in answers {
@@ -193,7 +193,7 @@ fn push_answers<T: TextEnd>(text: &mut T, answers: &[Answer]) -> Result<(), T::F
 }
 
 #[tactic(auto, using(crate::proofs::Joins::joins), unfolding(crate::specs::MoreText::answer_line))]
-fn push_answer<T: TextEnd>(text: &mut T, answer: &Answer) -> Result<(), T::Fault>
+fn push_answer<T: TextEnd>(text: &mut T, answer: &SentDatagram) -> Result<(), T::Fault>
     ensures { OnOk result (T.told text.new ≡ more (T.told text.old) (answer_line answer.now)) }
 {
     push_datagram(text, answer.at, answer.datagram.as_slice())

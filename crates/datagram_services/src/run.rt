@@ -11,7 +11,7 @@ ghost use Rattle.datagram_services.specs.MoreWords.{more_setup};
 use crate::refusal::{Refusal, refuse};
 use crate::serving::serve_more;
 use crate::words::setup_words;
-use crate::writing::{Room, write_more};
+use crate::writing::{DatagramRoom, write_more};
 use capture_reader::{Capture, read_bytes};
 use pcapng_reader::{InputFault, parse_input};
 use perimeter_core::NoHook;
@@ -119,7 +119,7 @@ fn report<K: Sink>(
 {
     let plan = more_plan(alloc, capture)?;
     let served = serve_more(rt, alloc, &plan, setup, &NoHook)?;
-    let room = Room::make(alloc)?;
+    let room = DatagramRoom::make(alloc)?;
     match write_more(out, room, &plan, &served) {
         Ok(()) => Ok(()),
         Err(_) => Err(Refusal::Write),

@@ -4,7 +4,7 @@ ghost use Rattle.datagram_services.specs.Standing.{served_of};
 ghost use Rattle.datagram_services.specs.declared.block.StreamBlock.{StreamBlock as BlockOf};
 ghost use Rattle.datagram_services.specs.Lying.{AreThere, HandsOut};
 
-use crate::answer::Answer;
+use crate::answer::SentDatagram;
 use crate::block::StreamBlock;
 use chargen_service::GenBlock;
 use squeue_pool::Finished;
@@ -47,7 +47,7 @@ impl MoreServed {
     }
 
     /// The answers to the datagrams of stream `c`, in order.
-    pub fn answers(&self, c: u32) -> &[Answer]
+    pub fn answers(&self, c: u32) -> &[SentDatagram]
         requires { c < length self.now.streams }
         ensures { IfSome (slice_get self.now.streams c) (λ s. result.now ≡ s.answers) }
     {

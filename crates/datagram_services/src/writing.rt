@@ -1,6 +1,6 @@
 //! The report, written in pieces, so that it is never whole in memory.
 //!
-//! All memory that it needs is taken as a `Room` before its first byte is written; from there on only a write can fail.
+//! All memory that it needs is taken as a `DatagramRoom` before its first byte is written; from there on only a write can fail.
 
 ghost use Rattle.std.specs.Prelude.{◌≤◌, vec_capacity};
 ghost use Rattle.sq_base.specs.Ends.{end_of};
@@ -22,18 +22,18 @@ const PIECE: usize = 65_536;
 
 /// The memory that a report needs while it is written.
 #[derive(Drop)]
-pub struct Room {
+pub struct DatagramRoom {
     piece: Vec<u8>,
     datagram: Vec<u8>,
     ghost datagrams: { most_datagram ≤ vec_capacity datagram },
 }
 
-impl Room {
+impl DatagramRoom {
     /// Takes it.
-    pub fn make(alloc: Global) -> Result<Room, AllocError> {
+    pub fn make(alloc: Global) -> Result<DatagramRoom, AllocError> {
         let mut piece = Vec::with_capacity(alloc, PIECE)?;
         piece.resize(PIECE, 0)?;
-        Ok(Room {
+        Ok(DatagramRoom {
             piece,
             datagram: Vec::with_capacity(alloc, MOST_DATAGRAM)?,
         })
@@ -43,14 +43,14 @@ impl Room {
 /// Writes the report of what was served of the plan.
 pub fn write_more<K: Sink>(
     out: &mut K,
-    room: Room,
+    room: DatagramRoom,
     plan: &MorePlan<'_>,
     served: &MoreServed,
 ) -> Result<(), Failed>
     requires { IsMoreServed plan.now served.now.streams }
     ensures { WritesAll result (end_of K.contents K.write_faults out.old out.new) (plan_text plan.now) }
 {
-    let Room {
+    let DatagramRoom {
         piece,
         mut datagram,
     } = room;

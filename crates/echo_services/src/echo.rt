@@ -62,8 +62,7 @@ fn move_text(tcb: &mut Tcb) -> Result<(), AllocError>
 }
 
 /// The next bytes are offered as they came.
-#[tactic(auto, using(crate::proofs::PumpLemmas::next_length, crate::proofs::PumpLemmas::echo_length),
-    unfolding(byte_queues::specs::ReceiveQueue::without, byte_queues::specs::ReceiveQueue::ready_of, tcb_machine::specs::BlockState::offered))]
+#[tactic(auto, using(crate::proofs::PumpLemmas::next_length, crate::proofs::PumpLemmas::echo_length), unfolding(byte_queues::specs::ReceiveQueue::without, byte_queues::specs::ReceiveQueue::ready_of, tcb_machine::specs::BlockState::offered))]
 fn offer_again(tcb: &mut Tcb) -> Result<(), AllocError>
     ensures moved { OnOk result (tcb.new ≡ echoes (min (ready_of tcb.old.recv) (room_of tcb.old.out)) tcb.old) }
     ensures clock { OnOk result (tcb.new.clock ≡ tcb.old.clock) }

@@ -11,7 +11,7 @@ use Rattle.squeue_state.specs.Naming.{Named, setting_of}
 use Rattle.histories.specs.Elements.{number_of}
 use Rattle.squeue_serve.proofs.Unused.{start_idle}
 use Rattle.squeue_streams.specs.Taking.{most_feeds}
-use Rattle.squeue_streams.specs.declared.source.Source.{Source}
+use Rattle.squeue_streams.specs.declared.source.ItemSource.{ItemSource}
 use Rattle.squeue_streams.specs.Sourcing.{Brings, stream_of}
 use Rattle.endless_sums.specs.Looking.{MayLook}
 use Rattle.endless_sums.specs.declared.running.Role.{Role}
@@ -27,7 +27,7 @@ module _ {R : Type 0} (limits : R → Limits) (s : Named R) (looks : ℕ) (serve
   abbrev S : Setting
   S = setting_of limits s.given
 
-  may_bring : (p : Pass Element) (source : Source ℕ) (k : ℕ) → IsPassOf number_of s.gate p → number p ≡ k → seen p ≡ [] → k < s.given.rings → IsNewSource k source → Brings limits s p source
+  may_bring : (p : Pass Element) (source : ItemSource ℕ) (k : ℕ) → IsPassOf number_of s.gate p → number p ≡ k → seen p ≡ [] → k < s.given.rings → IsNewSource k source → Brings limits s p source
   may_bring p source k pass is none lt new =
       let c : ℕ = stream_of source in
       let no_feeds : feeds_by (number p) (seen p) ≡ 0 = ap (feeds_by (number p)) none in

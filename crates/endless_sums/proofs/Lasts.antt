@@ -17,7 +17,7 @@ use Rattle.histories.specs.Endings.{HasEnded}
 use Rattle.squeue_state.specs.Naming.{Named, setting_of}
 use Rattle.histories.specs.Endings.{Ending}
 use Rattle.squeue_drain.proofs.Deciding.{begins_trans}
-use Rattle.squeue_streams.specs.declared.source.Source.{Source}
+use Rattle.squeue_streams.specs.declared.source.ItemSource.{ItemSource}
 use Rattle.squeue_streams.specs.Sourcing.{sent_of, stream_of}
 use Rattle.endless_sums.specs.declared.bringing.Stint.{Stint}
 use Rattle.endless_sums.specs.Rounds.{AreOfRounds, HasPushedRounds}
@@ -36,7 +36,7 @@ last_more (u ∷ ts) t o = ap (last_of u) (last_more ts t o)
 
 sources_more : {A : Type 0} (ts : List (Role A)) (t : Role A) → sources_in (ts ++ t ∷ []) ≡ sources_in ts ++ source_of t
 sources_more [] t = append-nil (source_of t)
-sources_more (Role'.Bring source ∷ ts) t = ap (λ (l : List (Source ℕ)). source ∷ l) (sources_more ts t)
+sources_more (Role'.Bring source ∷ ts) t = ap (λ (l : List (ItemSource ℕ)). source ∷ l) (sources_more ts t)
 sources_more (Role'.Look looked ∷ ts) t = sources_more ts t
 sources_more (Role'.Work ∷ ts) t = sources_more ts t
 
@@ -51,11 +51,11 @@ turned (Role'.Look looked) = refl
 turned Role'.Work = refl
 
 -- the sources of the tasks that were taken away last stand in turned order
-pub sources_off : {A : Type 0} (all : List (Source ℕ)) (ts : List (Role A)) (t : Role A) (had now : List (Source ℕ)) → all ≡ sources_in (ts ++ t ∷ []) ++ reverse had → now ≡ had ++ source_of t → all ≡ sources_in ts ++ reverse now
+pub sources_off : {A : Type 0} (all : List (ItemSource ℕ)) (ts : List (Role A)) (t : Role A) (had now : List (ItemSource ℕ)) → all ≡ sources_in (ts ++ t ∷ []) ++ reverse had → now ≡ had ++ source_of t → all ≡ sources_in ts ++ reverse now
 sources_off all ts t had now is next =
-    is ∙ (ap (λ (l : List (Source ℕ)). l ++ reverse had) (sources_more ts t)
+    is ∙ (ap (λ (l : List (ItemSource ℕ)). l ++ reverse had) (sources_more ts t)
     ∙ (append_assoc (sources_in ts) (source_of t) (reverse had)
-    ∙ ap (λ (l : List (Source ℕ)). sources_in ts ++ l) (sym (ap reverse next ∙ (reverse-append had (source_of t) ∙ ap (λ (l : List (Source ℕ)). l ++ reverse had) (turned t))))))
+    ∙ ap (λ (l : List (ItemSource ℕ)). sources_in ts ++ l) (sym (ap reverse next ∙ (reverse-append had (source_of t) ∙ ap (λ (l : List (ItemSource ℕ)). l ++ reverse had) (turned t))))))
 
 module _ {R P O A : Type 0} (G : Ghosts R P O) (s : Named R) (Says : R → A → Type 0) (stint : Stint) (e : Ending) (setting : e.setting ≡ setting_of G.limits s.given) (ended : HasEnded e) where
   abbrev S : Setting
@@ -77,7 +77,7 @@ module _ {R P O A : Type 0} (G : Ghosts R P O) (s : Named R) (Says : R → A →
         looked = l.looked;
       })
 
-  sent : (old new : Source ℕ) → sent_of old ≡ [] → HasPushedRounds stint.rounds old new → HasSentRounds stint new
+  sent : (old new : ItemSource ℕ) → sent_of old ≡ [] → HasPushedRounds stint.rounds old new → HasSentRounds stint new
   sent old new none h =
       record {
         rounds = h.rounds;
@@ -90,7 +90,7 @@ module _ {R P O A : Type 0} (G : Ghosts R P O) (s : Named R) (Says : R → A →
   small c rings k lt is = let same : c ≡ c % rings = grind (arith, nat_tests) in same ∙ sym is
 
   -- what was brought is entered and processed in the whole
-  brought : ServesStreams G.limits s.given s.given.rings stint.seconds → (k : ℕ) (old new : Source ℕ) (q : Pass Element) → sent_of old ≡ [] → number q ≡ k → only number_of (number q) (seen q) ≡ mine q → Begins (seen q) e.history
+  brought : ServesStreams G.limits s.given s.given.rings stint.seconds → (k : ℕ) (old new : ItemSource ℕ) (q : Pass Element) → sent_of old ≡ [] → number q ≡ k → only number_of (number q) (seen q) ≡ mine q → Begins (seen q) e.history
       → only number_of (number q) e.history ≡ mine q → HasBrought G.limits s stint old new q → IsBrought stint e k new
   brought serves k old new q none is own begins known h =
       let c : ℕ = stream_of new in
@@ -141,12 +141,12 @@ module _ {R P O A : Type 0} (G : Ghosts R P O) (s : Named R) (Says : R → A →
   last_is n (Role'.Look l ∷ ts) each long le = (each 0 (Role'.Look l) refl).1
   last_is n (Role'.Work ∷ ts) each long le = absurd (let at = each 0 Role'.Work refl in omega (arith, at, le))
 
-  no_source : (k : ℕ) (x : Source ℕ) → slice_get [] k ≡ Some x → ⊥
+  no_source : (k : ℕ) (x : ItemSource ℕ) → slice_get [] k ≡ Some x → ⊥
   no_source k x e = cc e
 
   sources_are : (n : ℕ) (ts : List (Role A)) → ((k : ℕ) (t : Role A) → slice_get ts k ≡ Some t → IsDone (n + k) t) → n + length ts ≡ s.given.rings + 2
       → ((n ≤ s.given.rings) → n + length (sources_in ts) ≡ s.given.rings) × ((s.given.rings < n) → sources_in ts ≡ [])
-      × ((k : ℕ) (source : Source ℕ) → slice_get (sources_in ts) k ≡ Some source → IsBrought stint e (n + k) source)
+      × ((k : ℕ) (source : ItemSource ℕ) → slice_get (sources_in ts) k ≡ Some source → IsBrought stint e (n + k) source)
   sources_are n [] each long = (λ le. absurd (omega (arith, long, le)), λ lt. refl, λ k source at. cc at)
   sources_are n (Role'.Bring source ∷ ts) each long =
       let here = each 0 (Role'.Bring source) refl in
@@ -156,20 +156,20 @@ module _ {R P O A : Type 0} (G : Ghosts R P O) (s : Named R) (Says : R → A →
         at_each here.1 r.2,
       )
     where
-      at_each : IsBrought stint e (n + 0) source → ((k : ℕ) (x : Source ℕ) → slice_get (sources_in ts) k ≡ Some x → IsBrought stint e (n + 1 + k) x)
-          → (k : ℕ) (x : Source ℕ) → slice_get (source ∷ sources_in ts) k ≡ Some x → IsBrought stint e (n + k) x
+      at_each : IsBrought stint e (n + 0) source → ((k : ℕ) (x : ItemSource ℕ) → slice_get (sources_in ts) k ≡ Some x → IsBrought stint e (n + 1 + k) x)
+          → (k : ℕ) (x : ItemSource ℕ) → slice_get (source ∷ sources_in ts) k ≡ Some x → IsBrought stint e (n + k) x
       at_each first rest zero x at = let same : source ≡ x = cc at in subst (IsBrought stint e (n + 0)) same first
       at_each first rest (suc k) x at = subst (λ (j : ℕ). IsBrought stint e j x) (let z : n + 1 + k ≡ n + suc k = omega arith in z) (rest k x at)
   sources_are n (Role'.Look l ∷ ts) each long =
       let is = (each 0 (Role'.Look l) refl).0 in
       let r = sources_are (n + 1) ts (λ k t at. subst (λ (j : ℕ). IsDone j t) (let z : n + suc k ≡ n + 1 + k = omega arith in z) (each (suc k) t at)) (omega (arith, long)) in
       let none : sources_in ts ≡ [] = r.1 (omega (arith, is)) in
-      (λ le. (let z = ap length none in omega (arith, z, is)), λ lt. none, λ k x at. absurd (no_source k x (sym (ap (λ (l : List (Source ℕ)). slice_get l k) none) ∙ at)))
+      (λ le. (let z = ap length none in omega (arith, z, is)), λ lt. none, λ k x at. absurd (no_source k x (sym (ap (λ (l : List (ItemSource ℕ)). slice_get l k) none) ∙ at)))
   sources_are n (Role'.Work ∷ ts) each long =
       let is = each 0 Role'.Work refl in
       let r = sources_are (n + 1) ts (λ k t at. subst (λ (j : ℕ). IsDone j t) (let z : n + suc k ≡ n + 1 + k = omega arith in z) (each (suc k) t at)) (omega (arith, long)) in
       let none : sources_in ts ≡ [] = r.1 (omega (arith, is)) in
-      (λ le. absurd (omega (arith, is, le)), λ lt. none, λ k x at. absurd (no_source k x (sym (ap (λ (l : List (Source ℕ)). slice_get l k) none) ∙ at)))
+      (λ le. absurd (omega (arith, is, le)), λ lt. none, λ k x at. absurd (no_source k x (sym (ap (λ (l : List (ItemSource ℕ)). slice_get l k) none) ∙ at)))
 
   -- what is kept is what the last look has seen, and each source was brought
   pub all_over : (ts : List (Role A)) → ((k : ℕ) (t : Role A) → slice_get ts k ≡ Some t → IsDone k t) → length ts ≡ s.given.rings + 2

@@ -19,7 +19,7 @@ use Rattle.histories.specs.Endings.{Ending}
 use Rattle.squeue_state.specs.Clauses.{IsMade, StandsEmpty}
 use Rattle.histories.specs.Quotas.{ask_quotas}
 use Rattle.squeue_streams.specs.Taking.{most_feeds, most_leaves}
-use Rattle.squeue_streams.specs.declared.source.Source.{Source}
+use Rattle.squeue_streams.specs.declared.source.ItemSource.{ItemSource}
 use Rattle.endless_sums.specs.declared.watching.Looked.{Looked}
 use Rattle.endless_sums.specs.declared.bringing.Stint.{Stint}
 use Rattle.endless_sums.specs.declared.totals.Total.{Total}
@@ -102,20 +102,20 @@ one_put_in c d = at (c == d) refl
         below false l e = grind (arith, nat_tests)
 
 -- one source more
-pub none_made : (sources : List (Source ℕ)) → sources ≡ [] → AreSources 0 sources
-none_made sources is = record { count = ap length is; each = λ k source at. absurd (none k source (sym (ap (λ (l : List (Source ℕ)). slice_get l k) is) ∙ at)) }
+pub none_made : (sources : List (ItemSource ℕ)) → sources ≡ [] → AreSources 0 sources
+none_made sources is = record { count = ap length is; each = λ k source at. absurd (none k source (sym (ap (λ (l : List (ItemSource ℕ)). slice_get l k) is) ∙ at)) }
   where
-    none : (k : ℕ) (source : Source ℕ) → slice_get [] k ≡ Some source → ⊥
+    none : (k : ℕ) (source : ItemSource ℕ) → slice_get [] k ≡ Some source → ⊥
     none k source e = cc e
 
-pub one_made : (c : ℕ) (old new : List (Source ℕ)) (source : Source ℕ) → AreSources c old → IsNewSource c source → new ≡ old ++ source ∷ [] → AreSources (c + 1) new
+pub one_made : (c : ℕ) (old new : List (ItemSource ℕ)) (source : ItemSource ℕ) → AreSources c old → IsNewSource c source → new ≡ old ++ source ∷ [] → AreSources (c + 1) new
 one_made c old new source are one is =
     record {
       count = omega (arith, ap length is, length-append old (source ∷ []), are.count);
-      each = λ k x at. subst (λ (j : ℕ). IsNewSource j x) (let z : 0 + k ≡ k = omega arith in z) (go 0 old k x (let e : 0 + length old ≡ c = omega (arith, are.count) in e) (λ i y h. subst (λ (j : ℕ). IsNewSource j y) (let e : i ≡ 0 + i = omega arith in e) (are.each i y h)) (sym (ap (λ (l : List (Source ℕ)). slice_get l k) is) ∙ at));
+      each = λ k x at. subst (λ (j : ℕ). IsNewSource j x) (let z : 0 + k ≡ k = omega arith in z) (go 0 old k x (let e : 0 + length old ≡ c = omega (arith, are.count) in e) (λ i y h. subst (λ (j : ℕ). IsNewSource j y) (let e : i ≡ 0 + i = omega arith in e) (are.each i y h)) (sym (ap (λ (l : List (ItemSource ℕ)). slice_get l k) is) ∙ at));
     }
   where
-    go : (n : ℕ) (xs : List (Source ℕ)) (k : ℕ) (x : Source ℕ) → n + length xs ≡ c → ((i : ℕ) (y : Source ℕ) → slice_get xs i ≡ Some y → IsNewSource (n + i) y) → slice_get (xs ++ source ∷ []) k ≡ Some x → IsNewSource (n + k) x
+    go : (n : ℕ) (xs : List (ItemSource ℕ)) (k : ℕ) (x : ItemSource ℕ) → n + length xs ≡ c → ((i : ℕ) (y : ItemSource ℕ) → slice_get xs i ≡ Some y → IsNewSource (n + i) y) → slice_get (xs ++ source ∷ []) k ≡ Some x → IsNewSource (n + k) x
     go n [] zero x e each at = let same : source ≡ x = cc at in subst (IsNewSource (n + 0)) same (subst (λ (j : ℕ). IsNewSource j source) (let z : c ≡ n + 0 = omega (arith, e) in z) one)
     go n [] (suc k) x e each at = cc at
     go n (y ∷ xs) zero x e each at = each 0 x at
@@ -124,16 +124,16 @@ one_made c old new source are one is =
         (go (suc n) xs k x (omega (arith, e)) (λ i z h. subst (λ (j : ℕ). IsNewSource j z) (let q : n + suc i ≡ suc n + i = omega arith in q) (each (suc i) z h)) at)
 
 -- a task for each source, then who looks, and the worker's
-pub are_tasks : {A : Type 0} (rings : ℕ) (sources : List (Source ℕ)) (tasks : List (Role A)) (looked : Looked A) → AreSources rings sources → tasks ≡ (map (λ x. Role'.Bring x) sources ++ Role'.Look looked ∷ []) ++ Role'.Work ∷ [] → AreTasks rings tasks
+pub are_tasks : {A : Type 0} (rings : ℕ) (sources : List (ItemSource ℕ)) (tasks : List (Role A)) (looked : Looked A) → AreSources rings sources → tasks ≡ (map (λ x. Role'.Bring x) sources ++ Role'.Look looked ∷ []) ++ Role'.Work ∷ [] → AreTasks rings tasks
 are_tasks {A = A} rings sources tasks looked are is =
-    let bring : Source ℕ → Role A = λ x. Role'.Bring x in
+    let bring : ItemSource ℕ → Role A = λ x. Role'.Bring x in
     let front : List (Role A) = map bring sources in
     record {
       count = omega (arith, ap length is, length-append (front ++ Role'.Look looked ∷ []) (Role'.Work ∷ []), length-append front (Role'.Look looked ∷ []), length-map sources bring, are.count);
       each = λ k t at. subst (λ (j : ℕ). IsTask rings j t) (let z : 0 + k ≡ k = omega arith in z) (go 0 sources k t (let e : 0 + length sources ≡ rings = omega (arith, are.count) in e) (λ i y h. subst (λ (j : ℕ). IsNewSource j y) (let e : i ≡ 0 + i = omega arith in e) (are.each i y h)) (sym (ap (λ (l : List (Role A)). slice_get l k) is) ∙ at));
     }
   where
-    go : (n : ℕ) (xs : List (Source ℕ)) (k : ℕ) (t : Role A) → n + length xs ≡ rings → ((i : ℕ) (y : Source ℕ) → slice_get xs i ≡ Some y → IsNewSource (n + i) y)
+    go : (n : ℕ) (xs : List (ItemSource ℕ)) (k : ℕ) (t : Role A) → n + length xs ≡ rings → ((i : ℕ) (y : ItemSource ℕ) → slice_get xs i ≡ Some y → IsNewSource (n + i) y)
         → slice_get ((map (λ x. Role'.Bring x) xs ++ Role'.Look looked ∷ []) ++ Role'.Work ∷ []) k ≡ Some t → IsTask rings (n + k) t
     go n [] zero t e each at = let same : Role'.Look looked ≡ t = cc at in subst (IsTask rings (n + 0)) same (let z : n + 0 ≡ rings = omega (arith, e) in z)
     go n [] (suc zero) t e each at = let same : Role'.Work ≡ t = cc at in subst (IsTask rings (n + 1)) same (let z : n + 1 ≡ rings + 1 = omega (arith, e) in z)
@@ -207,7 +207,7 @@ set_for rings room quotas first g m are new size feeds leaves calls =
     some_at false h = cc h
 
 -- what is read of parts at the end is of a whole history, and what was seen last of a beginning of it
-pub whole_streams : {S P O A : Type 0} {G : Ghosts S P O} (R : ResidentOf (Places S P O G) P O) (s : Named (Places S P O G)) (Says : Places S P O G → A → Type 0) (stint : Stint) (e : Ending) (parts : Places S P O G) (sources : List (Source ℕ))
+pub whole_streams : {S P O A : Type 0} {G : Ghosts S P O} (R : ResidentOf (Places S P O G) P O) (s : Named (Places S P O G)) (Says : Places S P O G → A → Type 0) (stint : Stint) (e : Ending) (parts : Places S P O G) (sources : List (ItemSource ℕ))
     (last : Option A) (seen : A) → ((r : Places S P O G) (blocks : Blocks) → R.stands r blocks → Stands r blocks) → R.limits s.given.first ≡ limits_of s.given.first → HasSeenAll R s Says stint e parts sources last seen
     → HasSeenStreams s Says stint e parts sources last seen
 whole_streams {S = S} {P = P} {O = O} {A = A} {G = G} R s Says stint e parts sources last seen stand limits h =

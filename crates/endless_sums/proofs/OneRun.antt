@@ -18,7 +18,7 @@ use Rattle.squeue_serve.proofs.Lent.{lent_none}
 use Rattle.squeue_serve.proofs.Coming.{lent_as, less_lent, none_lent_at_all, one_only}
 use Rattle.endless_sums.proofs.Passing.{whole_back}
 use Rattle.endless_sums.specs.declared.running.Role.{Role}
-use Rattle.squeue_streams.specs.declared.source.Source.{Source}
+use Rattle.squeue_streams.specs.declared.source.ItemSource.{ItemSource}
 use Rattle.endless_sums.specs.declared.bringing.Stint.{Stint}
 use Rattle.endless_sums.specs.Running.{LookedWithin, Ran}
 use Rattle.endless_sums.specs.Serving.{AreBrought, AreTasks, HasSeenAll, ServesStreams, last_from, sources_in}
@@ -103,7 +103,7 @@ module _ {R P O : Type 0} (G : Ghosts R P O) (s : Named R) {count : ℕ} {all : 
 
   -- what is read of the resident is of the whole history, and what the tasks have done is so in it
   pub seen_all : {A : Type 0} (Says : R → A → Type 0) (stint : Stint) (seen : A) (jobs new : List (Job (Role A))) → ServesStreams G.limits s.given s.given.rings stint.seconds → AreTasks s.given.rings (tasks_in jobs) → Says r seen
-      → having ≡ lent_to new → length new ≡ count + 1 → length jobs ≡ length new → AreLent (MayGo G Says stint jobs new) 0 count (s ∷ []) (lent_to new) → (last : Option A) (sources : List (Source ℕ)) → last ≡ last_from (tasks_in new) None
+      → having ≡ lent_to new → length new ≡ count + 1 → length jobs ≡ length new → AreLent (MayGo G Says stint jobs new) 0 count (s ∷ []) (lent_to new) → (last : Option A) (sources : List (ItemSource ℕ)) → last ≡ last_from (tasks_in new) None
       → sources ≡ sources_in (tasks_in new) → HasSeenAll G s Says stint e r sources last seen
   seen_all {A = A} Says stint seen jobs new serves tasks says same long as_many lent last sources kept back =
       let handed = subst (λ (h : ℕ → List (Option (Pass Element))). AreHanded 0 count 0 its.passes without h) same its.handed in

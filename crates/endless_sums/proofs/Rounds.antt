@@ -2,7 +2,7 @@
 use Rattle.std.proofs.Common.{◌≡◌, ℕ, zero, suc, ◌+◌, ◌-◌, ◌*◌, ◌%◌, ◌<◌, ◌≤◌, ◌⊎◌, inl, inr, List, [], ◌∷◌, ◌++◌, length, slice_index, refl, ap, sym, ◌∙◌, subst, arith, append_assoc, length-append}
 use Rattle.std.proofs.lemmas.Bool.{cases_eq}
 use Rattle.std.proofs.lemmas.List.{append-nil}
-use Rattle.squeue_streams.specs.declared.source.Source.{Source}
+use Rattle.squeue_streams.specs.declared.source.ItemSource.{ItemSource}
 use Rattle.squeue_streams.specs.Sourcing.{left_of, sent_of}
 use Rattle.endless_sums.specs.Rounds.{AreOfRounds, HasPushed, HasPushedRounds}
 
@@ -27,10 +27,10 @@ next_amount k amounts x is are =
       ];
     }
 
-pub none_yet : (old new : Source ℕ) → sent_of new ≡ sent_of old → HasPushed 0 old new
+pub none_yet : (old new : ItemSource ℕ) → sent_of new ≡ sent_of old → HasPushed 0 old new
 none_yet old new same = record { more = []; sent = same ∙ sym (append-nil (sent_of old)); are = record { count = refl; each = λ i lt. absurd (omega (arith, lt)) } }
 
-pub one_more : (k : ℕ) (old was new : Source ℕ) (x : ℕ) → x ≡ k % 1000 → HasPushed k old was → sent_of new ≡ sent_of was ++ x ∷ [] → HasPushed (k + 1) old new
+pub one_more : (k : ℕ) (old was new : ItemSource ℕ) (x : ℕ) → x ≡ k % 1000 → HasPushed k old was → sent_of new ≡ sent_of was ++ x ∷ [] → HasPushed (k + 1) old new
 one_more k old was new x is h now =
     record {
       more = h.more ++ x ∷ [];
@@ -38,7 +38,7 @@ one_more k old was new x is h now =
       are = next_amount k h.more x is h.are;
     }
 
-pub same_pushed : (k j : ℕ) (old was new : Source ℕ) → k ≡ j → sent_of new ≡ sent_of was → HasPushed k old was → HasPushed j old new
+pub same_pushed : (k j : ℕ) (old was new : ItemSource ℕ) → k ≡ j → sent_of new ≡ sent_of was → HasPushed k old was → HasPushed j old new
 same_pushed k j old was new e same h = subst (λ (n : ℕ). HasPushed n old new) e (record { more = h.more; sent = same ∙ h.sent; are = h.are })
 
 -- after k amounts of rounds, and one round more
@@ -68,15 +68,15 @@ next_round n amounts more a b =
     nat_cases i k = grind arith
 
 -- of all rounds so many are left
-pub record HasGone (all left : ℕ) (old new : Source ℕ) : Type 0 where
+pub record HasGone (all left : ℕ) (old new : ItemSource ℕ) : Type 0 where
   pub done : ℕ
   pub is_left : left ≡ all - done
   pub pushed : HasPushed (done * 1000) old new
 
-pub gone_none : (all : ℕ) (old : Source ℕ) → HasGone all all old old
+pub gone_none : (all : ℕ) (old : ItemSource ℕ) → HasGone all all old old
 gone_none all old = record { done = 0; is_left = omega arith; pushed = none_yet old old refl }
 
-pushed_round : (n : ℕ) (old was new : Source ℕ) → HasPushed (n * 1000) old was → HasPushed 1000 was new → HasPushed ((n + 1) * 1000) old new
+pushed_round : (n : ℕ) (old was new : ItemSource ℕ) → HasPushed (n * 1000) old was → HasPushed 1000 was new → HasPushed ((n + 1) * 1000) old new
 pushed_round n old was new g h =
     record {
       more = g.more ++ h.more;
@@ -84,11 +84,11 @@ pushed_round n old was new g h =
       are = next_round n g.more h.more g.are h.are;
     }
 
-pub gone_round : (all left now : ℕ) (old was new : Source ℕ) → now ≡ left - 1 → HasGone all left old was → HasPushed 1000 was new → HasGone all now old new
+pub gone_round : (all left now : ℕ) (old was new : ItemSource ℕ) → now ≡ left - 1 → HasGone all left old was → HasPushed 1000 was new → HasGone all now old new
 gone_round all left now old was new is g h = record { done = g.done + 1; is_left = omega (arith, g.is_left, is); pushed = pushed_round g.done old was new g.pushed h }
 
 -- the stint is over, or the life has no round more
-pub gone_all : (least left now more : ℕ) (old was mid new : Source ℕ) → now ≡ left - 1 → HasGone least left old was → HasPushed 1000 was mid → more ≡ left_of mid → (now ≡ 0) ⊎ (more < 1000)
+pub gone_all : (least left now more : ℕ) (old was mid new : ItemSource ℕ) → now ≡ left - 1 → HasGone least left old was → HasPushed 1000 was mid → more ≡ left_of mid → (now ≡ 0) ⊎ (more < 1000)
     → (sent_of new ≡ sent_of mid) × (left_of new ≡ left_of mid) → HasPushedRounds least old new
 gone_all least left now more old was mid new is g h life over same =
     record {
@@ -101,5 +101,5 @@ gone_all least left now more old was mid new is g h life over same =
       ];
     }
 
-pub least_same : {a b : ℕ} (old new : Source ℕ) → a ≡ b → HasPushedRounds a old new → HasPushedRounds b old new
+pub least_same : {a b : ℕ} (old new : ItemSource ℕ) → a ≡ b → HasPushedRounds a old new → HasPushedRounds b old new
 least_same old new is h = subst (λ (n : ℕ). HasPushedRounds n old new) is h

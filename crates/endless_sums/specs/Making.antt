@@ -1,6 +1,6 @@
 -- The ends of streams as they are made.
 use Rattle.std.specs.Prelude.{◌≡◌, ℕ, ◌*◌, ◌^◌, ◌≤◌, Some, List, [], ◌∷◌, ◌++◌, true, length, replicate, slice_get}
-use Rattle.squeue_streams.specs.declared.source.Source.{Source}
+use Rattle.squeue_streams.specs.declared.source.ItemSource.{ItemSource}
 use Rattle.squeue_streams.specs.Sourcing.{again_of, entered_of, left_of, pushed_of, sent_of, span_of, stream_of}
 use Rattle.squeue_streams.specs.Taking.{most_feeds, most_leaves}
 use Rattle.perimeter_core.specs.History.{Setting}
@@ -13,7 +13,7 @@ abbrev pub most_again : ℕ
 most_again = 2 ^ 21
 
 -- the source of stream c, into whose ring nothing was pushed
-pub record IsNewSource (c : ℕ) (source : Source ℕ) : Type 0 where
+pub record IsNewSource (c : ℕ) (source : ItemSource ℕ) : Type 0 where
   pub stream : stream_of source ≡ c
   pub entered : entered_of source ≡ 0
   pub pushed : pushed_of source ≡ 0
@@ -23,9 +23,9 @@ pub record IsNewSource (c : ℕ) (source : Source ℕ) : Type 0 where
   pub again : again_of source ≡ most_again
 
 -- there is a new source of each of so many streams, by number
-pub record AreSources (streams : ℕ) (sources : List (Source ℕ)) : Type 0 where
+pub record AreSources (streams : ℕ) (sources : List (ItemSource ℕ)) : Type 0 where
   pub count : length sources ≡ streams
-  pub each : (k : ℕ) (source : Source ℕ) → slice_get sources k ≡ Some source → IsNewSource k source
+  pub each : (k : ℕ) (source : ItemSource ℕ) → slice_get sources k ≡ Some source → IsNewSource k source
 
 -- each ring may enter the feeds of one stream's life, and ask twice each time that the stream is put in again; and who looks may ask
 -- so often

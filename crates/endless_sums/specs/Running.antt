@@ -12,7 +12,7 @@ use Rattle.squeue_state.specs.Naming.{Named, setting_of}
 use Rattle.histories.specs.Elements.{number_of}
 use Rattle.squeue_serve.specs.declared.jobs.Job.{Job}
 use Rattle.squeue_serve.specs.Places.{MayEnd}
-use Rattle.squeue_streams.specs.declared.source.Source.{Source}
+use Rattle.squeue_streams.specs.declared.source.ItemSource.{ItemSource}
 use Rattle.squeue_streams.specs.Sourcing.{Brings, pushed_of, stream_of}
 use Rattle.endless_sums.specs.declared.bringing.Stint.{Stint}
 use Rattle.endless_sums.specs.Looking.{HasLooked, MayLook}
@@ -49,7 +49,7 @@ module _ {R : Type 0} (limits : R → Limits) (s : Named R) where
 
   -- The pass of the stream's ring has brought rounds of amounts until the stint was over, and the feeds of all that was pushed
   -- since the stream was put in the last time are entered
-  pub record HasBrought (stint : Stint) (old new : Source ℕ) (q : Pass Element) : Type 0 where
+  pub record HasBrought (stint : Stint) (old new : ItemSource ℕ) (q : Pass Element) : Type 0 where
     pub rounds : HasPushedRounds stint.rounds old new
     pub ring : number q ≡ stream_of new % s.given.rings
     pub range : stream_of new < length s.given.starts

@@ -15,7 +15,7 @@ use Rattle.squeue_state.specs.Naming.{Given, Named, setting_of}
 use Rattle.histories.specs.Endings.{Ending}
 use Rattle.squeue_state.specs.Behind.{IsPeri}
 use Rattle.squeue_streams.specs.Taking.{most_feeds}
-use Rattle.squeue_streams.specs.declared.source.Source.{Source}
+use Rattle.squeue_streams.specs.declared.source.ItemSource.{ItemSource}
 use Rattle.squeue_streams.specs.declared.streams.Stream.{Stream}
 use Rattle.squeue_streams.specs.Sourcing.{left_of, pushed_of, sent_of, stream_of}
 use Rattle.endless_sums.specs.declared.bringing.Stint.{Stint}
@@ -52,12 +52,12 @@ module _ {A : Type 0} where
   last_from (t ∷ ts) last = last_of t (last_from ts last)
 
   -- the sources of these tasks
-  abbrev pub source_of : Role A → List (Source ℕ)
+  abbrev pub source_of : Role A → List (ItemSource ℕ)
   source_of (Role'.Bring source) = source ∷ []
   source_of (Role'.Look looked) = []
   source_of Role'.Work = []
 
-  abbrev pub sources_in : List (Role A) → List (Source ℕ)
+  abbrev pub sources_in : List (Role A) → List (ItemSource ℕ)
   sources_in [] = []
   sources_in (t ∷ ts) = source_of t ++ sources_in ts
 
@@ -78,7 +78,7 @@ pub record ServesStreams {R : Type 0} (limits : R → Limits) (g : Given R) (rin
 
 -- By this source rounds of amounts were pushed until the stint was over, one at least; as many as the stint has, or the source's life
 -- has no round more
-pub record HasSentRounds (stint : Stint) (source : Source ℕ) : Type 0 where
+pub record HasSentRounds (stint : Stint) (source : ItemSource ℕ) : Type 0 where
   pub rounds : ℕ
   pub some : 1 ≤ rounds
   pub are : AreOfRounds (rounds * 1000) (sent_of source)
@@ -86,7 +86,7 @@ pub record HasSentRounds (stint : Stint) (source : Source ℕ) : Type 0 where
 
 -- The source of stream k has done its stint. Each item that was pushed since the stream was put in the last time is entered and
 -- processed in the whole history: the stream is here, and has had so many feeds
-pub record IsBrought (stint : Stint) (end : Ending) (k : ℕ) (source : Source ℕ) : Type 0 where
+pub record IsBrought (stint : Stint) (end : Ending) (k : ℕ) (source : ItemSource ℕ) : Type 0 where
   pub stream : stream_of source ≡ k
   pub rounds : HasSentRounds stint source
   pub had : List Act
@@ -94,16 +94,16 @@ pub record IsBrought (stint : Stint) (end : Ending) (k : ℕ) (source : Source �
   pub all : fed had ≡ pushed_of source
 
 -- there is such a source of each of so many streams, by number
-pub record AreBrought (stint : Stint) (end : Ending) (streams : ℕ) (sources : List (Source ℕ)) : Type 0 where
+pub record AreBrought (stint : Stint) (end : Ending) (streams : ℕ) (sources : List (ItemSource ℕ)) : Type 0 where
   pub count : length sources ≡ streams
-  pub each : (k : ℕ) (source : Source ℕ) → slice_get sources k ≡ Some source → IsBrought stint end k source
+  pub each : (k : ℕ) (source : ItemSource ℕ) → slice_get sources k ≡ Some source → IsBrought stint end k source
 
 -- A run of the squeue is over. Its end is that of a legal history of the squeue: all its passes but the worker's are closed, and nothing
 -- is queued. The resident stands for just what this history did, and what is read at the end, as Says tells it, is of this resident.
 -- What was seen last in between is of a beginning of this history, and of a resident that stood for just what that did. And what the
 -- sources pushed is entered and processed
 pub record HasSeenAll {R P O A : Type 0} (G : Ghosts R P O) (s : Named R) (Says : R → A → Type 0) (stint : Stint) (end : Ending) (resident : R)
-    (sources : List (Source ℕ)) (last : Option A) (seen : A) : Type 0 where
+    (sources : List (ItemSource ℕ)) (last : Option A) (seen : A) : Type 0 where
   pub its_number : end.number ≡ s.given.number
   pub its_setting : end.setting ≡ setting_of G.limits s.given
   pub stands : IsPeri G s.given resident (peri (setting_of G.limits s.given) end.history)
@@ -127,7 +127,7 @@ pub record SawLast {A : Type 0} (Of : Blocks → A → Type 0) (k looks : ℕ) (
 
 -- The same of a squeue of parts: the parts stand for what the whole history did, and for what a beginning of it did at the last look
 pub record HasSeenStreams {S P O A : Type 0} {G : PartsOf S P O} (s : Named (Places S P O G)) (Says : Places S P O G → A → Type 0)
-    (stint : Stint) (end : Ending) (parts : Places S P O G) (sources : List (Source ℕ)) (last : Option A) (seen : A) : Type 0 where
+    (stint : Stint) (end : Ending) (parts : Places S P O G) (sources : List (ItemSource ℕ)) (last : Option A) (seen : A) : Type 0 where
   pub its_setting : end.setting ≡ setting_of limits_of s.given
   pub stands : Stands parts (peri end.setting end.history)
   pub says : Says parts seen

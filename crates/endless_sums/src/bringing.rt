@@ -6,7 +6,7 @@ ghost use Rattle.endless_sums.specs.Rounds.{HasPushed, HasPushedRounds};
 
 use perimeter_core::{NoHook, Resident};
 use squeue_state::{Pass, Squeue};
-use squeue_streams::{Renews, Source, SourcePace};
+use squeue_streams::{ItemSource, Renews, SourcePace};
 use std::alloc::Global;
 use std::sync::Wait;
 use std::time::{Clock, Duration, Instant};
@@ -31,7 +31,7 @@ pub fn bring<R: Renews, W: Wait + Clock>(
     alloc: Global,
     pace: SourcePace,
     pass: Pass,
-    source: &mut Source<u32>,
+    source: &mut ItemSource<u32>,
     stint: Stint,
 ) -> Pass
     requires may { Brings R.limits sq.now pass source.old }
@@ -61,7 +61,7 @@ fn bring_round<R: Renews, W: Wait + Clock>(
     alloc: Global,
     pace: SourcePace,
     pass: Pass,
-    source: &mut Source<u32>,
+    source: &mut ItemSource<u32>,
     pause: u32,
 ) -> Pass
     requires may { Brings R.limits sq.now pass source.old }
@@ -118,7 +118,7 @@ fn bring_one<R: Renews, W: Wait>(
     alloc: Global,
     pace: SourcePace,
     pass: Pass,
-    source: &mut Source<u32>,
+    source: &mut ItemSource<u32>,
     amount: u32,
 ) -> Pass
     requires may { Brings R.limits sq.now pass source.old }
@@ -145,7 +145,7 @@ fn bring_rest<R: Resident, W: Wait>(
     alloc: Global,
     pace: SourcePace,
     pass: Pass,
-    source: &mut Source<u32>,
+    source: &mut ItemSource<u32>,
 ) -> Pass
     requires may { Brings R.limits sq.now pass source.old }
     ensures may { Brings R.limits sq.now result source.new }

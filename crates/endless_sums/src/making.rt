@@ -16,7 +16,7 @@ use perimeter_core::Resident;
 use placed_parts::Places;
 use rtrb::RingBuffer;
 use squeue_state::{Life, Pass, Squeue};
-use squeue_streams::{Source, Stream, Streams};
+use squeue_streams::{ItemSource, Stream, Streams};
 use std::alloc::{AllocError, Global};
 use std::sync::Wait;
 
@@ -44,7 +44,7 @@ pub fn new_sums<H: Wait + Drop>(
     rt: H,
     streams: u32,
     shape: Shape,
-) -> Result<(Sums<H>, Vec<Source<u32>>), AllocError>
+) -> Result<(Sums<H>, Vec<ItemSource<u32>>), AllocError>
     requires { (1 ≤ shape.most) × (1 ≤ shape.span) }
     ensures stands { IfOk result (λ r. Stands r.0 (all_new streams)) }
     ensures count { IfOk result (λ r. size_of r.0 ≡ streams) }
@@ -84,14 +84,14 @@ fn new_stream(
     alloc: Global,
     c: u32,
     shape: Shape,
-) -> Result<(Stream<u32, Sum>, Source<u32>), AllocError>
+) -> Result<(Stream<u32, Sum>, ItemSource<u32>), AllocError>
     requires { (1 ≤ shape.most) × (1 ≤ shape.span) }
     ensures input { IfOk result (λ r. received (input_of r.0) ≡ []) }
     ensures sum { IfOk result (λ r. ((state_of r.0).sum ≡ 0) × (count_of r.0 ≡ 0) × (feeds_of r.0 ≡ 0)) }
     ensures source { IfOk result (λ r. IsNewSource c r.1) }
 {
     let (producer, input) = RingBuffer::new(alloc, shape.capacity as usize)?;
-    let source = Source::of(alloc, producer, c, shape.most, LIFE, shape.span, AGAIN)?;
+    let source = ItemSource::of(alloc, producer, c, shape.most, LIFE, shape.span, AGAIN)?;
     Ok((Stream::of(input, Sum { sum: 0 }), source))
 }
 

@@ -18,7 +18,7 @@ use perimeter_core::{NoHook, Resident};
 use squeue_drain::worker;
 use squeue_serve::{Job, put_pass, run_each, take_pass};
 use squeue_state::{Pass, Squeue};
-use squeue_streams::{Renews, Source, SourcePace};
+use squeue_streams::{ItemSource, Renews, SourcePace};
 use std::alloc::Global;
 use std::fmt::Display;
 use std::sync::Wait;
@@ -30,7 +30,7 @@ use synch_enter::Reads;
 /// the source as it is then.
 #[derive(Drop)]
 pub enum Role<S: Drop> {
-    Bring(Source<u32>),
+    Bring(ItemSource<u32>),
     Look(Looked<S>),
     Work,
 }
@@ -112,7 +112,7 @@ fn bring_all<R: Renews, W: Wait + Clock>(
     pace: SourcePace,
     stint: Stint,
     pass: Pass,
-    source: &mut Source<u32>,
+    source: &mut ItemSource<u32>,
 ) -> Pass
     requires { Brings R.limits sq.now pass source.old }
     ensures ended { MayEnd R.limits (number pass) sq.now result }

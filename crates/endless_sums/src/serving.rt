@@ -23,7 +23,7 @@ use placed_parts::Places;
 use squeue_enter::Mode;
 use squeue_serve::{Job, Squeues, discard, end_last, jobs_of, lend};
 use squeue_state::{Ended, Pass, Squeue};
-use squeue_streams::{Renews, Source, SourcePace, Steps, Stream, Streams};
+use squeue_streams::{ItemSource, Renews, SourcePace, Steps, Stream, Streams};
 use std::alloc::{AllocError, Global};
 use std::fmt::Display;
 use std::io;
@@ -51,7 +51,7 @@ pub struct RunEnd<R: Drop, S: Drop> {
     pub resident: R,
     pub end: S,
     pub last: Option<S>,
-    pub sources: Vec<Source<u32>>,
+    pub sources: Vec<ItemSource<u32>>,
     pub told: bool,
     pub again: u64,
 }
@@ -60,7 +60,7 @@ pub struct RunEnd<R: Drop, S: Drop> {
 pub struct Prepared<R: Resident, S: Drop> {
     pub jobs: Vec<Job<Role<S>>>,
     pub squeues: Squeues<R>,
-    pub sources: Vec<Source<u32>>,
+    pub sources: Vec<ItemSource<u32>>,
 }
 
 // How many amounts a stream's ring holds.
@@ -133,7 +133,7 @@ fn when_told<R: Drop>(left: RunEnd<R, Total>) -> io::Result<RunEnd<R, Total>>
 fn prepare<R: Resident>(
     alloc: Global,
     rings: u32,
-    sources: Vec<Source<u32>>,
+    sources: Vec<ItemSource<u32>>,
 ) -> Result<Prepared<R, Total>, AllocError>
     requires { AreSources rings sources.items }
     ensures tasks { IfOk result (λ p. AreTasks rings (tasks_in p.jobs.items)) }
@@ -154,7 +154,7 @@ fn prepare<R: Resident>(
 }
 
 // The tasks of the passes: each ring brings what its source pushes, the next pass looks, and the last works.
-fn tasks_of(alloc: Global, sources: Vec<Source<u32>>) -> Result<Vec<Role<Total>>, AllocError>
+fn tasks_of(alloc: Global, sources: Vec<ItemSource<u32>>) -> Result<Vec<Role<Total>>, AllocError>
     ensures { IfOk result (λ v. (rings : ℕ) → AreSources rings sources.items → AreTasks rings v.items) }
 {
     let mut sources = sources;
@@ -250,8 +250,8 @@ where
 // Frees jobs that hold no pass, and keeps what was seen last, the sources, and how often streams were put in again.
 fn noted_by<S: Drop>(
     jobs: Vec<Job<Role<S>>>,
-    room: Vec<Source<u32>>,
-) -> (Looked<S>, Vec<Source<u32>>, u64)
+    room: Vec<ItemSource<u32>>,
+) -> (Looked<S>, Vec<ItemSource<u32>>, u64)
     requires empty { All (λ j. j.places.items ≡ []) jobs.items }
     requires room { (room.items ≡ []) × (length jobs.items ≤ vec_capacity room) }
     ensures last { result.0.last ≡ last_from (tasks_in jobs.items) None }
@@ -285,7 +285,11 @@ fn times_again<S: Drop>(task: &Role<S>) -> u64 {
 }
 
 // What was seen last, where the task has kept it; else what is kept already. A source is put behind the others.
-fn with_task<S: Drop>(looked: Looked<S>, task: Role<S>, sources: &mut Vec<Source<u32>>) -> Looked<S>
+fn with_task<S: Drop>(
+    looked: Looked<S>,
+    task: Role<S>,
+    sources: &mut Vec<ItemSource<u32>>,
+) -> Looked<S>
     requires { length sources.old.items < vec_capacity sources.old }
     ensures last { result.last ≡ last_of task looked.last }
     ensures sources { sources.new.items ≡ sources.old.items ++ source_of task }

@@ -1,6 +1,6 @@
 //! A capture in lines, and lines that mean nothing.
 
-use case_rows::{Fault, bytes_of, spelled};
+use case_rows::{RowFault, bytes_of, spelled};
 
 /// A capture in lines: a segment with options, one with text, a datagram, and one that is cut.
 const LINES: [&str; 7] = [
@@ -46,6 +46,6 @@ const UNREAD: [&str; 9] = [
 fn lines_that_are_not_read(rt: HostRuntime) {
     for line in UNREAD {
         let bytes = bytes_of(rt.alloc(), &[line]);
-        assert!(rt; matches!(bytes, Err(Fault::Told(_))), "{line}");
+        assert!(rt; matches!(bytes, Err(RowFault::Told(_))), "{line}");
     }
 }

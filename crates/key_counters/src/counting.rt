@@ -5,7 +5,7 @@ ghost use Rattle.squeue.specs.Works.{IsInRange};
 ghost use Rattle.key_counters.specs.Counting.{rows_of};
 
 use crate::counters::Amounts;
-use squeue::{Pool, Served, lengths, serve_by_key};
+use squeue::{Pool, ServedParts, lengths, serve_by_key};
 use std::alloc::{AllocError, Global};
 use std::sync::Wait;
 use std::thread::Threads;
@@ -45,7 +45,7 @@ pub fn count<W: Threads + Wait + Sync>(
 }
 
 // The totals of counters that had all their amounts.
-fn totals_in(alloc: Global, served: &Served<Amounts<'_>>) -> Result<Vec<u64>, AllocError>
+fn totals_in(alloc: Global, served: &ServedParts<Amounts<'_>>) -> Result<Vec<u64>, AllocError>
     requires served { IsServed served.now }
     requires counts { counts_of served.now ≡ map length (rows_of (shared_of served.now)) }
     ensures { IfOk result (λ v. v.items ≡ map sum (rows_of (shared_of served.now))) }

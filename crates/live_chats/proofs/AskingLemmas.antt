@@ -13,25 +13,25 @@ use Rattle.live_server.specs.declared.conn.Conn.{Conn}
 use Rattle.live_server.proofs.TableLemmas.{none_is_whole}
 use Rattle.live_chats.specs.Hearing.{ChatOf, conn_in}
 use Rattle.live_chats.specs.Seating.{AllSeated, conn_of_seat, conns_of}
-use Rattle.live_chats.specs.declared.item.Item.{Item}
+use Rattle.live_chats.specs.declared.item.ChatItem.{ChatItem}
 use Rattle.live_chats.specs.declared.seat.Seat.{Seat}
 use Rattle.live_chats.proofs.SeatLemmas.{conns_at}
 
-pub keys_same : (st : Stays Item ChatOf) (es : List (Tuple × Seat)) → keys_of (conns_of st es) ≡ keys_of es
+pub keys_same : (st : Stays ChatItem ChatOf) (es : List (Tuple × Seat)) → keys_of (conns_of st es) ≡ keys_of es
 keys_same st [] = refl
 keys_same st (e ∷ es) = ap (λ (ts : List Tuple). e.0 ∷ ts) (keys_same st es)
 
 -- the facts of a seat are those of its connection
-pub facts_at : (st : Stays Item ChatOf) (es : List (Tuple × Seat)) (i : ℕ) (e : Tuple × Seat) → slice_get es i ≡ Some e → AllSeated st es → e.1.facts ≡ facts_of (conn_at i (conns_of st es))
+pub facts_at : (st : Stays ChatItem ChatOf) (es : List (Tuple × Seat)) (i : ℕ) (e : Tuple × Seat) → slice_get es i ≡ Some e → AllSeated st es → e.1.facts ≡ facts_of (conn_at i (conns_of st es))
 facts_at st es i e at seated =
     let its = seated i e at in
     let conn : conn_at i (conns_of st es) ≡ its.conn = ap (λ (o : Option (Tuple × Conn)). option_map_or (λ c. c.1) o no_conn) (conns_at st es i e at) ∙ ap conn_in its.its_conn in
     its.facts ∙ ap facts_of (sym conn)
 
-pub waiting_at : (n : ℕ) (st : Stays Item ChatOf) (es : List (Tuple × Seat)) (i : ℕ) (e : Tuple × Seat) → slice_get es i ≡ Some e → AllSeated st es → is_waiting_by n e.1.facts ≡ is_waiting n (conn_at i (conns_of st es))
+pub waiting_at : (n : ℕ) (st : Stays ChatItem ChatOf) (es : List (Tuple × Seat)) (i : ℕ) (e : Tuple × Seat) → slice_get es i ≡ Some e → AllSeated st es → is_waiting_by n e.1.facts ≡ is_waiting n (conn_at i (conns_of st es))
 waiting_at n st es i e at seated = ap (is_waiting_by n) (facts_at st es i e at seated)
 
-pub nobody_waits : (n : ℕ) (st : Stays Item ChatOf) (es : List (Tuple × Seat)) (i : ℕ) → slice_get es i ≡ None → false ≡ is_waiting n (conn_at i (conns_of st es))
+pub nobody_waits : (n : ℕ) (st : Stays ChatItem ChatOf) (es : List (Tuple × Seat)) (i : ℕ) → slice_get es i ≡ None → false ≡ is_waiting n (conn_at i (conns_of st es))
 nobody_waits n st es i none =
     let no : conn_at i (conns_of st es) ≡ no_conn = ap (λ (o : Option (Tuple × Conn)). option_map_or (λ c. c.1) o no_conn) (slice_get-map (conn_of_seat st) es i ∙ ap (λ (o : Option (Tuple × Seat)). option_map (conn_of_seat st) o) none) in
     sym (ap (λ (b : Bool). b && (no_conn.number == n)) none_is_whole) ∙ ap (is_waiting n) (sym no)

@@ -17,7 +17,7 @@ use Rattle.live_server.proofs.TableLemmas.{tuple_equivalence}
 use Rattle.live_chats.specs.Hearing.{ChatOf, conn_in}
 use Rattle.live_chats.specs.Seating.{AllSeated, HasSeats, IsSeated, IsSettled, KeptBut, chat_at, conn_of_seat, conns_of}
 use Rattle.live_chats.specs.declared.chats.Chats.{Chats}
-use Rattle.live_chats.specs.declared.item.Item.{Item}
+use Rattle.live_chats.specs.declared.item.ChatItem.{ChatItem}
 use Rattle.live_chats.specs.declared.seat.Seat.{Seat}
 use Rattle.live_chats.proofs.ListLemmas.{filter_agrees, filter_map_is, map_agrees, one_place}
 use Rattle.live_chats.proofs.SeatLemmas.{same_entry, seated_kept}
@@ -79,33 +79,33 @@ not_true false e = refl
 
 module _ {R : Type 0} (limits : R → Limits) (s : Named R) (o : Chats) (who : Facts → Bool) where
   -- The places of those of the first so many that go are closed; all others are as they were
-  pub record IsClosing (p : Pass Element) (first st : Stays Item ChatOf) (i : ℕ) (es : List Entry) : Type 0 where
+  pub record IsClosing (p : Pass Element) (first st : Stays ChatItem ChatOf) (i : ℕ) (es : List Entry) : Type 0 where
     pub settled : IsSettled limits s o p st
     pub seated : (k : ℕ) (e : Entry) → slice_get es k ≡ Some e → (i ≤ k) ⊎ (who e.1.facts ≡ false) → IsSeated st e
     pub same : (k : ℕ) (e : Entry) → slice_get es k ≡ Some e → (i ≤ k) ⊎ (who e.1.facts ≡ false) → conn_of_seat st e ≡ conn_of_seat first e
     pub distinct : IsDistinct tuple_eq (keys_of es)
     pub paid : left_of (λ (e : Entry). who e.1.facts) i es ≤ (life_of st).asks
 
-  pub closing_at_first : (p : Pass Element) (st : Stays Item ChatOf) (es : List Entry) → HasSeats limits s o p st es → IsClosing p st st 0 es
+  pub closing_at_first : (p : Pass Element) (st : Stays ChatItem ChatOf) (es : List Entry) → HasSeats limits s o p st es → IsClosing p st st 0 es
   closing_at_first p st es h = record { settled = h.settled; seated = λ k e at _. h.seated k e at; same = λ k e at _. refl; distinct = h.distinct; paid = h.paid }
 
   later : (i k : ℕ) (A : Type 0) → (i + 1 ≤ k) ⊎ A → (i ≤ k) ⊎ A
   later i k A (inl h) = inl (omega (arith, h))
   later i k A (inr h) = inr h
 
-  module _ (p q : Pass Element) (first a b : Stays Item ChatOf) (es : List Entry) (i : ℕ) (e : Entry) (at : slice_get es i ≡ Some e) (c : IsClosing p first a i es) (settled : IsSettled limits s o q b) where
+  module _ (p q : Pass Element) (first a b : Stays ChatItem ChatOf) (es : List Entry) (i : ℕ) (e : Entry) (at : slice_get es i ≡ Some e) (c : IsClosing p first a i es) (settled : IsSettled limits s o q b) where
     -- one that stays
     closing_stays : who e.1.facts ≡ false → b ≡ a → IsClosing q first b (i + 1) es
     closing_stays left same =
         let paid = c.paid in
         let more = left_more (λ (x : Entry). who x.1.facts) es i e at in
         let less : cost (who e.1.facts) ≡ 0 = ap cost left in
-        let asks : (life_of b).asks ≡ (life_of a).asks = ap (λ (x : Stays Item ChatOf). (life_of x).asks) same in
+        let asks : (life_of b).asks ≡ (life_of a).asks = ap (λ (x : Stays ChatItem ChatOf). (life_of x).asks) same in
         let next : left_of (λ (x : Entry). who x.1.facts) (i + 1) es ≡ left_of (λ (x : Entry). who x.1.facts) (suc i) es = ap (λ (n : ℕ). left_of (λ (x : Entry). who x.1.facts) n es) (add-one i) in
         record {
           settled = settled;
-          seated = λ k f there or. subst (λ (x : Stays Item ChatOf). IsSeated x f) (sym same) (c.seated k f there (later i k _ or));
-          same = λ k f there or. ap (λ (x : Stays Item ChatOf). conn_of_seat x f) same ∙ c.same k f there (later i k _ or);
+          seated = λ k f there or. subst (λ (x : Stays ChatItem ChatOf). IsSeated x f) (sym same) (c.seated k f there (later i k _ or));
+          same = λ k f there or. ap (λ (x : Stays ChatItem ChatOf). conn_of_seat x f) same ∙ c.same k f there (later i k _ or);
           distinct = c.distinct;
           paid = omega (arith, paid, more, less, asks, next);
         }
@@ -153,7 +153,7 @@ module _ {R : Type 0} (limits : R → Limits) (s : Named R) (o : Chats) (who : F
         let one : cost (who e.1.facts) ≡ 1 = ap cost so in
         omega (arith, paid, more, one)
 
-  module _ (p : Pass Element) (first st : Stays Item ChatOf) (es : List Entry) (i : ℕ) (c : IsClosing p first st i es) (past : length es ≤ i) where
+  module _ (p : Pass Element) (first st : Stays ChatItem ChatOf) (es : List Entry) (i : ℕ) (c : IsClosing p first st i es) (past : length es ≤ i) where
     abbrev stays : Entry → Bool
     stays e = not (who e.1.facts)
 

@@ -17,7 +17,7 @@ use Rattle.live_server.proofs.MeetLemmas.{gone_is_over}
 use Rattle.live_server.proofs.TableLemmas.{conn_written, first_at, look_without, same, tuple_equivalence, within_at, without_set}
 use Rattle.live_chats.specs.Hearing.{ChatOf, conn_in, hearing, met_by}
 use Rattle.live_chats.specs.Seating.{Judges, MetAt, chat_of}
-use Rattle.live_chats.specs.declared.item.Item.TheVariants.{Meets}
+use Rattle.live_chats.specs.declared.item.ChatItem.TheVariants.{Meets}
 
 -- a segment tells what became of it
 pub meets_judge : (now iss : ℕ) (seg : Seg) (text : Vec ℕ Global) → Judges (Meets now iss seg text)

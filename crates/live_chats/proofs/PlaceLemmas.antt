@@ -16,57 +16,57 @@ use Rattle.live_chats.specs.Seating.{Begins, KeptBut, KeptOpen, chat_at}
 use Rattle.live_chats.specs.Telling.{IsFirst, Tells}
 use Rattle.live_chats.specs.declared.chats.Chats.{Chats}
 use Rattle.live_chats.specs.declared.ear.Ear.{Ear}
-use Rattle.live_chats.specs.declared.item.Item.{Item}
-use Rattle.live_chats.specs.declared.item.Item.TheVariants.{Opens}
+use Rattle.live_chats.specs.declared.item.ChatItem.{ChatItem}
+use Rattle.live_chats.specs.declared.item.ChatItem.TheVariants.{Opens}
 use Rattle.live_chats.proofs.HearLemmas.{hearing_all-append, items_tell}
 
 -- the same was pushed at a place
-pub chat_same : (a b : Stays Item ChatOf) (c : ℕ) → sent_in (place_at b c) ≡ sent_in (place_at a c) → chat_at b c ≡ chat_at a c
+pub chat_same : (a b : Stays ChatItem ChatOf) (c : ℕ) → sent_in (place_at b c) ≡ sent_in (place_at a c) → chat_at b c ≡ chat_at a c
 unfolding chat_at
-chat_same a b c e = ap (λ (xs : List Item). hearing_all xs nobody) e
+chat_same a b c e = ap (λ (xs : List ChatItem). hearing_all xs nobody) e
 
 -- one item more was
-pub chat_told : (a b : Stays Item ChatOf) (c : ℕ) (x : Item) → sent_in (place_at b c) ≡ sent_in (place_at a c) ++ x ∷ [] → chat_at b c ≡ hearing x (chat_at a c)
+pub chat_told : (a b : Stays ChatItem ChatOf) (c : ℕ) (x : ChatItem) → sent_in (place_at b c) ≡ sent_in (place_at a c) ++ x ∷ [] → chat_at b c ≡ hearing x (chat_at a c)
 unfolding chat_at
-chat_told a b c x e = ap (λ (xs : List Item). hearing_all xs nobody) e ∙ hearing_all-append (sent_in (place_at a c)) (x ∷ []) nobody
+chat_told a b c x e = ap (λ (xs : List ChatItem). hearing_all xs nobody) e ∙ hearing_all-append (sent_in (place_at a c)) (x ∷ []) nobody
 
-pub elsewhere_kept : (c : ℕ) (a b : Stays Item ChatOf) → SameElsewhere c a b → KeptBut c a b
+pub elsewhere_kept : (c : ℕ) (a b : Stays ChatItem ChatOf) → SameElsewhere c a b → KeptBut c a b
 elsewhere_kept c a b h = record {
   opens = λ d ne o. (o.0, h.others d ne ∙ o.1);
   chats = λ d ne. chat_same a b d (ap sent_in (h.others d ne));
 }
 
-open_so : (p q : Option (Place Item ChatOf)) (stay : Stay Item) → SameAt p q → p ≡ Some (Open stay) → (s : Stay Item) × (q ≡ Some (Open s))
+open_so : (p q : Option (Place ChatItem ChatOf)) (stay : Stay ChatItem) → SameAt p q → p ≡ Some (Open stay) → (s : Stay ChatItem) × (q ≡ Some (Open s))
 open_so p q stay h e = by q (subst (λ o. SameAt o q) e h)
   where
-    by : (o : Option (Place Item ChatOf)) → SameAt (Some (Open stay)) o → (s : Stay Item) × (o ≡ Some (Open s))
+    by : (o : Option (Place ChatItem ChatOf)) → SameAt (Some (Open stay)) o → (s : Stay ChatItem) × (o ≡ Some (Open s))
     by None x = absurd x
     by (Some (Vacant' v)) x = absurd x
     by (Some (Open s)) x = (s, refl)
     by (Some Out) x = absurd x
 
 -- a part stays where the places are settled
-pub open_kept : (a b : Stays Item ChatOf) → SamePlaces a b → (d : ℕ) → IsOpen a d → IsOpen b d
+pub open_kept : (a b : Stays ChatItem ChatOf) → SamePlaces a b → (d : ℕ) → IsOpen a d → IsOpen b d
 open_kept a b h d o = open_so (place_at a d) (place_at b d) o.0 (h.each d) o.1
 
 -- so the others are kept from a push over an entry to where it is settled
-pub told_kept : (c : ℕ) (a b d e : Stays Item ChatOf) → SameElsewhere c a b → places_of d ≡ places_of b → SamePlaces d e → ((k : ℕ) → sent_in (place_at e k) ≡ sent_in (place_at d k)) → KeptBut c a e
+pub told_kept : (c : ℕ) (a b d e : Stays ChatItem ChatOf) → SameElsewhere c a b → places_of d ≡ places_of b → SamePlaces d e → ((k : ℕ) → sent_in (place_at e k) ≡ sent_in (place_at d k)) → KeptBut c a e
 told_kept c a b d e push enter settle sent =
-    let there : (k : ℕ) → place_at d k ≡ place_at b k = λ k. ap (λ (ps : List (Place Item ChatOf)). slice_get ps k) enter in
+    let there : (k : ℕ) → place_at d k ≡ place_at b k = λ k. ap (λ (ps : List (Place ChatItem ChatOf)). slice_get ps k) enter in
     record {
       opens = λ k ne o. open_kept d e settle k (o.0, there k ∙ push.others k ne ∙ o.1);
       chats = λ k ne. chat_same a e k (sent k ∙ ap sent_in (there k ∙ push.others k ne));
     }
 
-pub told_open : (c : ℕ) (b d e : Stays Item ChatOf) → IsOpen b c → places_of d ≡ places_of b → SamePlaces d e → IsOpen e c
-told_open c b d e o enter settle = open_kept d e settle c (o.0, ap (λ (ps : List (Place Item ChatOf)). slice_get ps c) enter ∙ o.1)
+pub told_open : (c : ℕ) (b d e : Stays ChatItem ChatOf) → IsOpen b c → places_of d ≡ places_of b → SamePlaces d e → IsOpen e c
+told_open c b d e o enter settle = open_kept d e settle c (o.0, ap (λ (ps : List (Place ChatItem ChatOf)). slice_get ps c) enter ∙ o.1)
 
-pub told_so : (c : ℕ) (x : Item) (a b d e : Stays Item ChatOf) → sent_in (place_at b c) ≡ sent_in (place_at a c) ++ x ∷ [] → places_of d ≡ places_of b → ((k : ℕ) → sent_in (place_at e k) ≡ sent_in (place_at d k))
+pub told_so : (c : ℕ) (x : ChatItem) (a b d e : Stays ChatItem ChatOf) → sent_in (place_at b c) ≡ sent_in (place_at a c) ++ x ∷ [] → places_of d ≡ places_of b → ((k : ℕ) → sent_in (place_at e k) ≡ sent_in (place_at d k))
     → chat_at e c ≡ hearing x (chat_at a c)
-told_so c x a b d e push enter sent = chat_told a e c x (sent c ∙ ap (λ (ps : List (Place Item ChatOf)). sent_in (slice_get ps c)) enter ∙ push)
+told_so c x a b d e push enter sent = chat_told a e c x (sent c ∙ ap (λ (ps : List (Place ChatItem ChatOf)). sent_in (slice_get ps c)) enter ∙ push)
 
 -- who listened where one place was settled heard its chat
-pub listened : (o : Chats) (c : ℕ) (d e : Stays Item ChatOf) (ts : List ℕ) (from to : Ear) → ts ≡ c ∷ [] → Collected IsFirst Tells Listens o d ts from to
+pub listened : (o : Chats) (c : ℕ) (d e : Stays ChatItem ChatOf) (ts : List ℕ) (from to : Ear) → ts ≡ c ∷ [] → Collected IsFirst Tells Listens o d ts from to
     → ((k : ℕ) → sent_in (place_at e k) ≡ sent_in (place_at d k)) → Listens from to c (chat_at e c)
 unfolding chat_at
 listened o c d e ts from to one all sent h is =
@@ -74,12 +74,12 @@ listened o c d e ts from to one all sent h is =
     let shown = there.1 in
     let answer = shown.took h (ap (λ (x : Ear). x.heard) (sym there.2) ∙ is) in
     let its : state_of shown.part ≡ hearing_all (sent_in (place_at e c)) nobody =
-    items_tell o c shown.part shown.its_own answer.here ∙ ap (λ (xs : List Item). hearing_all xs nobody) (shown.all ∙ sym (sent c)) in
+    items_tell o c shown.part shown.its_own answer.here ∙ ap (λ (xs : List ChatItem). hearing_all xs nobody) (shown.all ∙ sym (sent c)) in
     subst (λ (x : Ear). IsAnswer (hearing_all (sent_in (place_at e c)) nobody) h from.out.items x.out.items) (sym there.2)
     (subst (λ (x : ChatOf). IsAnswer x h from.out.items there.0.out.items) its answer)
 
 -- a place was opened
-pub opened_so : (c : ℕ) (a b : Stays Item ChatOf) → SameElsewhere c a b → (v : Vacant Item ChatOf) (s : Stay Item) → place_at a c ≡ Some (Vacant' v) → place_at b c ≡ Some (Open s)
+pub opened_so : (c : ℕ) (a b : Stays ChatItem ChatOf) → SameElsewhere c a b → (v : Vacant ChatItem ChatOf) (s : Stay ChatItem) → place_at a c ≡ Some (Vacant' v) → place_at b c ≡ Some (Open s)
     → IsOpen b c × (IsOpen a c → ⊥) × KeptBut c a b
 opened_so c a b h v s was is = ((s, is), no, elsewhere_kept c a b h)
   where
@@ -89,33 +89,33 @@ opened_so c a b h v s was is = ((s, is), no, elsewhere_kept c a b h)
         clash : Some (Vacant' v) ≡ Some (Open o.0) → ⊥
         clash e = cc
 
-pub kept_on : (c : ℕ) (a b d : Stays Item ChatOf) → KeptBut c a b → KeptBut c b d → KeptBut c a d
+pub kept_on : (c : ℕ) (a b d : Stays ChatItem ChatOf) → KeptBut c a b → KeptBut c b d → KeptBut c a d
 kept_on c a b d h k = record {
   opens = λ e ne o. k.opens e ne (h.opens e ne o);
   chats = λ e ne. k.chats e ne ∙ h.chats e ne;
 }
 
 -- where no part was at the one place, all others are kept
-pub kept_open : (c : ℕ) (a b : Stays Item ChatOf) → (IsOpen a c → ⊥) → KeptBut c a b → KeptOpen a b
+pub kept_open : (c : ℕ) (a b : Stays ChatItem ChatOf) → (IsOpen a c → ⊥) → KeptBut c a b → KeptOpen a b
 kept_open c a b out k = record {
   opens = λ d o. k.opens d (λ e. out (subst (IsOpen a) e o)) o;
   chats = λ d o. k.chats d (λ e. out (subst (IsOpen a) e o));
 }
 
-pub open_on : (c : ℕ) (a b d : Stays Item ChatOf) → (IsOpen a c → ⊥) → KeptOpen a b → KeptBut c b d → KeptOpen a d
+pub open_on : (c : ℕ) (a b d : Stays ChatItem ChatOf) → (IsOpen a c → ⊥) → KeptOpen a b → KeptBut c b d → KeptOpen a d
 open_on c a b d out h k = record {
   opens = λ e o. k.opens e (λ x. out (subst (IsOpen a) x o)) (h.opens e o);
   chats = λ e o. k.chats e (λ x. out (subst (IsOpen a) x o)) ∙ h.chats e o;
 }
 
-pub all_open : (a b : Stays Item ChatOf) → b ≡ a → KeptOpen a b
+pub all_open : (a b : Stays ChatItem ChatOf) → b ≡ a → KeptOpen a b
 all_open a b e = record {
-  opens = λ d o. subst (λ (x : Stays Item ChatOf). IsOpen x d) (sym e) o;
-  chats = λ d o. ap (λ (x : Stays Item ChatOf). chat_at x d) e;
+  opens = λ d o. subst (λ (x : Stays ChatItem ChatOf). IsOpen x d) (sym e) o;
+  chats = λ d o. ap (λ (x : Stays ChatItem ChatOf). chat_at x d) e;
 }
 
 -- a connection began
-pub begun : (c : ℕ) (ends : Tuple) (conn : Box Conn Global) (a b d : Stays Item ChatOf) → (IsOpen a c → ⊥) → IsOpen d c → chat_at d c ≡ hearing (Opens ends conn) (chat_at b c) → Begins c ends conn.value a d
+pub begun : (c : ℕ) (ends : Tuple) (conn : Box Conn Global) (a b d : Stays ChatItem ChatOf) → (IsOpen a c → ⊥) → IsOpen d c → chat_at d c ≡ hearing (Opens ends conn) (chat_at b c) → Begins c ends conn.value a d
 unfolding hearing
 begun c ends conn a b d out is told = record {
   was_not = out;

@@ -29,8 +29,8 @@ use Rattle.live_chats.specs.Listening.{IsAnswer}
 use Rattle.live_chats.specs.Seating.{AllSeated, Begins, HasSeats, HasSeatsBut, HeardAt, IsGood, IsSeated, IsSettled, Judges, KeepsEnds, MetAt, KeptBut, KeptOpen, chat_at, chat_of, conn_of_seat, conns_of, left_at}
 use Rattle.live_chats.specs.declared.chats.Chats.{Chats}
 use Rattle.live_chats.specs.declared.ear.Heard.{Heard}
-use Rattle.live_chats.specs.declared.item.Item.{Item}
-use Rattle.live_chats.specs.declared.item.Item.TheVariants.{Time}
+use Rattle.live_chats.specs.declared.item.ChatItem.{ChatItem}
+use Rattle.live_chats.specs.declared.item.ChatItem.TheVariants.{Time}
 use Rattle.live_chats.specs.declared.seat.Seat.{Seat}
 use Rattle.live_chats.proofs.HearLemmas.{hearing-silent, hearing_all-lost}
 use Rattle.live_chats.proofs.ListLemmas.{entry_there, in_left, in_pushed, in_set, length_map, map_agrees, map_append, map_left, map_written, one_place}
@@ -44,21 +44,21 @@ of_some P o x is h = let Q : Option _ → Type 0 = λ r. IfSome r P in subst Q i
 pub none_of : {X : Type 0} (Q : Type 0) (o : Option X) → o ≡ None → IfNone o Q → Q
 none_of Q o is h = let P : Option _ → Type 0 = λ r. IfNone r Q in subst P is h
 
-pub chat_here : (st : Stays Item ChatOf) (c : ℕ) → (chat_at st c).lost ≡ false
+pub chat_here : (st : Stays ChatItem ChatOf) (c : ℕ) → (chat_at st c).lost ≡ false
 unfolding chat_at
 chat_here st c = hearing_all-lost (sent_in (place_at st c)) nobody
 
 -- what an item makes of a chat is read off its ends and its connection
-pub heard_of : (x : Item) (c : ChatOf) (t : Tuple) (d : Conn) → c.ends ≡ t → c.conn ≡ Some d → c.lost ≡ false → hearing x c ≡ hearing x (chat_of t d)
+pub heard_of : (x : ChatItem) (c : ChatOf) (t : Tuple) (d : Conn) → c.ends ≡ t → c.conn ≡ Some d → c.lost ≡ false → hearing x c ≡ hearing x (chat_of t d)
 heard_of x c t d ends conn here =
     let same : silent c ≡ chat_of t d = λ j. record { ends = ends j; conn = conn j; sent = []; met = None; lost = here j } in
     sym (hearing-silent x c) ∙ ap (hearing x) same
 
 -- the entry at a place, of the connections
-pub conns_at : (st : Stays Item ChatOf) (es : List Entry) (i : ℕ) (e : Entry) → slice_get es i ≡ Some e → slice_get (conns_of st es) i ≡ Some (conn_of_seat st e)
+pub conns_at : (st : Stays ChatItem ChatOf) (es : List Entry) (i : ℕ) (e : Entry) → slice_get es i ≡ Some e → slice_get (conns_of st es) i ≡ Some (conn_of_seat st e)
 conns_at st es i e at = slice_get-map (conn_of_seat st) es i ∙ ap (λ (o : Option Entry). option_map (conn_of_seat st) o) at
 
-pub seated_kept : (c : ℕ) (a b : Stays Item ChatOf) (e : Entry) → KeptBut c a b → e.1.place ≢ c → IsSeated a e → IsSeated b e
+pub seated_kept : (c : ℕ) (a b : Stays ChatItem ChatOf) (e : Entry) → KeptBut c a b → e.1.place ≢ c → IsSeated a e → IsSeated b e
 seated_kept c a b e k ne s = record {
   is_open = k.opens e.1.place ne s.is_open;
   ends = ap (λ (x : ChatOf). x.ends) (k.chats e.1.place ne) ∙ s.ends;
@@ -67,7 +67,7 @@ seated_kept c a b e k ne s = record {
   facts = s.facts;
 }
 
-pub seated_open : (a b : Stays Item ChatOf) (e : Entry) → KeptOpen a b → IsSeated a e → IsSeated b e
+pub seated_open : (a b : Stays ChatItem ChatOf) (e : Entry) → KeptOpen a b → IsSeated a e → IsSeated b e
 seated_open a b e k s = record {
   is_open = k.opens e.1.place s.is_open;
   ends = ap (λ (x : ChatOf). x.ends) (k.chats e.1.place s.is_open) ∙ s.ends;
@@ -87,7 +87,7 @@ left_distinct es i e at d =
     subst (λ (o : Option Entry). IsDistinct tuple_eq (keys_of (Rattle.std.specs.Option.option_map_or (λ x. swap_remove es i x) o es))) (sym at)
     (distinct_swap_remove tuple_eq tuple_equivalence es i e (slice_get_within es i e at) d)
 
-module _ (a b : Stays Item ChatOf) (es : List Entry) (i : ℕ) (e : Entry) (at : slice_get es i ≡ Some e) (kept : KeptBut e.1.place a b) (ends : (chat_at a e.1.place).ends ≡ e.0)
+module _ (a b : Stays ChatItem ChatOf) (es : List Entry) (i : ℕ) (e : Entry) (at : slice_get es i ≡ Some e) (kept : KeptBut e.1.place a b) (ends : (chat_at a e.1.place).ends ≡ e.0)
     (distinct : IsDistinct tuple_eq (keys_of es)) (others : (k : ℕ) (f : Entry) → slice_get es k ≡ Some f → k ≢ i → IsSeated a f) where
   apart : (k : ℕ) (f : Entry) → slice_get es k ≡ Some f → k ≢ i → f.1.place ≢ e.1.place
   apart k f there ne same =
@@ -117,7 +117,7 @@ module _ (a b : Stays Item ChatOf) (es : List Entry) (i : ℕ) (e : Entry) (at :
       ∙ map_left (conn_of_seat a) i es
 
   -- where something is heard of it
-  module _ (x : Item) (h : Heard) (is_open : IsOpen b e.1.place) (keeps : KeepsEnds x) (told : chat_at b e.1.place ≡ hearing x (chat_at a e.1.place))
+  module _ (x : ChatItem) (h : Heard) (is_open : IsOpen b e.1.place) (keeps : KeepsEnds x) (told : chat_at b e.1.place ≡ hearing x (chat_at a e.1.place))
       (before after : List Datagram) (answer : IsAnswer (chat_at b e.1.place) h before after) where
     abbrev learnt : Seat
     learnt = record e.1 { facts = h.facts }
@@ -159,7 +159,7 @@ module _ (a b : Stays Item ChatOf) (es : List Entry) (i : ℕ) (e : Entry) (at :
         pair_is : Some (t, d) ≡ Some (conn_of_seat a e) → (t, d) ≡ conn_of_seat a e
         pair_is p = cc
 
-pub kept_ends : (x : Item) (c : ℕ) (a b : Stays Item ChatOf) (t : Tuple) → KeepsEnds x → (chat_at b c ≡ hearing x (chat_at a c)) ⊎ (chat_at b c ≡ chat_at a c) → (chat_at a c).ends ≡ t → (chat_at b c).ends ≡ t
+pub kept_ends : (x : ChatItem) (c : ℕ) (a b : Stays ChatItem ChatOf) (t : Tuple) → KeepsEnds x → (chat_at b c ≡ hearing x (chat_at a c)) ⊎ (chat_at b c ≡ chat_at a c) → (chat_at a c).ends ≡ t → (chat_at b c).ends ≡ t
 kept_ends x c a b t keeps (inl h) ends = ap (λ (y : ChatOf). y.ends) h ∙ keeps (chat_at a c) ∙ ends
 kept_ends x c a b t keeps (inr h) ends = ap (λ (y : ChatOf). y.ends) h ∙ ends
 
@@ -171,15 +171,15 @@ pub if_none : {X : Type 0} (Q : Type 0) (o : Option X) → (o ≡ None → Q) �
 if_none Q None h = h refl
 if_none Q (Some x) h = tt
 
-pub conns_length : (st : Stays Item ChatOf) (es : List Entry) → length (conns_of st es) ≡ length es
+pub conns_length : (st : Stays ChatItem ChatOf) (es : List Entry) → length (conns_of st es) ≡ length es
 conns_length st es = length_map (conn_of_seat st) es
 
-pub conns_keys : (st : Stays Item ChatOf) (es : List Entry) → keys_of (conns_of st es) ≡ keys_of es
+pub conns_keys : (st : Stays ChatItem ChatOf) (es : List Entry) → keys_of (conns_of st es) ≡ keys_of es
 conns_keys st [] = refl
 conns_keys st (e ∷ es) = ap (λ (ks : List Tuple). e.0 ∷ ks) (conns_keys st es)
 
 -- what was heard, read off a table
-module _ (x : Item) (t : Tuple) (d : Conn) (i : ℕ) (h : Heard) (was is : Conns) (before after : List Datagram) (heard : HeardAt x t d i h was is before after) (lt : i < length was) where
+module _ (x : ChatItem) (t : Tuple) (d : Conn) (i : ℕ) (h : Heard) (was is : Conns) (before after : List Datagram) (heard : HeardAt x t d i h was is before after) (lt : i < length was) where
   abbrev then_conn : Conn
   then_conn = conn_in (hearing x (chat_of t d)).conn
 
@@ -208,20 +208,20 @@ module _ (x : Item) (t : Tuple) (d : Conn) (i : ℕ) (h : Heard) (was is : Conns
       clash : (m : Met) → None ≡ Some m → ⊥
       clash m e = cc
 
-pub heard_length : (a b : Stays Item ChatOf) (es fs : List Entry) (i : ℕ) (v : Conn) → conns_of b fs ≡ set_value_at (conns_of a es) i v → length fs ≡ length es
+pub heard_length : (a b : Stays ChatItem ChatOf) (es fs : List Entry) (i : ℕ) (v : Conn) → conns_of b fs ≡ set_value_at (conns_of a es) i v → length fs ≡ length es
 heard_length a b es fs i v table = sym (conns_length b fs) ∙ ap length table ∙ length-set_value_at (conns_of a es) i v ∙ conns_length a es
 
 -- where all parts that were there are kept
-pub open_conns : (a b : Stays Item ChatOf) (es : List Entry) → AllSeated a es → KeptOpen a b → conns_of b es ≡ conns_of a es
+pub open_conns : (a b : Stays ChatItem ChatOf) (es : List Entry) → AllSeated a es → KeptOpen a b → conns_of b es ≡ conns_of a es
 open_conns a b es seated k =
     map_agrees (conn_of_seat b) (conn_of_seat a) es (λ n f at. ap (λ (x : ChatOf). (f.0, conn_in x.conn)) (k.chats f.1.place ((seated n f at).is_open)))
 
-absent_seat : (st : Stays Item ChatOf) (t : Tuple) (es : List Entry) → IsAbsent (tuple_eq t) (conns_of st es) → IsAbsent (tuple_eq t) es
+absent_seat : (st : Stays ChatItem ChatOf) (t : Tuple) (es : List Entry) → IsAbsent (tuple_eq t) (conns_of st es) → IsAbsent (tuple_eq t) es
 absent_seat st t [] h = tt
 absent_seat st t (e ∷ es) h = (h.0, absent_seat st t es h.1)
 
 -- a connection comes behind the others
-module _ (a b : Stays Item ChatOf) (es : List Entry) (c : ℕ) (t : Tuple) (d : Conn) (facts : Facts) (facts_are : facts ≡ facts_of d) (seated : AllSeated a es) (kept : KeptOpen a b) (begun : Begins c t d a b)
+module _ (a b : Stays ChatItem ChatOf) (es : List Entry) (c : ℕ) (t : Tuple) (d : Conn) (facts : Facts) (facts_are : facts ≡ facts_of d) (seated : AllSeated a es) (kept : KeptOpen a b) (begun : Begins c t d a b)
     (new : IsNew t (conns_of a es)) where
   abbrev its_seat : Seat
   its_seat = record { place = c; facts = facts }
@@ -247,7 +247,7 @@ module _ (a b : Stays Item ChatOf) (es : List Entry) (c : ℕ) (t : Tuple) (d : 
   pushed_distinct h = distinct_push tuple_eq tuple_equivalence es (t, its_seat) h absent
 
 module _ {R : Type 0} (limits : R → Limits) (s : Named R) (o : Chats) where
-  pub but_one : (i : ℕ) (p : Pass Element) (st : Stays Item ChatOf) (es : List Entry) → HasSeats limits s o p st es → i < length es → HasSeatsBut limits s o i p st es
+  pub but_one : (i : ℕ) (p : Pass Element) (st : Stays ChatItem ChatOf) (es : List Entry) → HasSeats limits s o p st es → i < length es → HasSeatsBut limits s o i p st es
   but_one i p st es h lt =
       let at = entry_there es i lt in
       let its = h.seated i at.0 at.1 in
@@ -262,7 +262,7 @@ module _ {R : Type 0} (limits : R → Limits) (s : Named R) (o : Chats) where
         paid = h.paid;
       }
 
-  pub kept_seats : (p q : Pass Element) (a b : Stays Item ChatOf) (es : List Entry) → HasSeats limits s o p a es → IsSettled limits s o q b → KeptOpen a b → length es ≤ (life_of b).asks → HasSeats limits s o q b es
+  pub kept_seats : (p q : Pass Element) (a b : Stays ChatItem ChatOf) (es : List Entry) → HasSeats limits s o p a es → IsSettled limits s o q b → KeptOpen a b → length es ≤ (life_of b).asks → HasSeats limits s o q b es
   kept_seats p q a b es h settled k paid = record {
     settled = settled;
     seated = λ n f at. seated_open a b f k (h.seated n f at);
@@ -284,7 +284,7 @@ module _ (now : ℕ) (time : now ≤ last_time) (t : Tuple) (d : Conn) where
   timed_sent = ap (λ (n : ℕ). sent_by t (reached n d)) least
 
 module _ {R : Type 0} (limits : R → Limits) (s : Named R) (o : Chats) where
-  pub good_but : (closes : Pass Element → Type 0) (pass : Option (Pass Element)) (q : Pass Element) (st : Stays Item ChatOf) (es : List Entry) (i : ℕ) → IsGood limits s o closes pass st es → pass ≡ Some q → i < length es
+  pub good_but : (closes : Pass Element → Type 0) (pass : Option (Pass Element)) (q : Pass Element) (st : Stays ChatItem ChatOf) (es : List Entry) (i : ℕ) → IsGood limits s o closes pass st es → pass ≡ Some q → i < length es
       → HasSeatsBut limits s o i q st es
   good_but closes pass q st es i h is lt =
       subst (λ (p : Pass Element). HasSeatsBut limits s o i p st es) (one (sym h.is_there ∙ is)) (but_one limits s o i h.its_pass st es h.seats lt)

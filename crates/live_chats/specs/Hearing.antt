@@ -7,8 +7,8 @@ use Rattle.live_server.specs.Acts.{Meeting, emptied, meets, no_conn, reached, se
 use Rattle.live_server.specs.declared.acting.Datagram.{Datagram}
 use Rattle.live_server.specs.declared.conn.Conn.{Conn}
 use Rattle.live_server.specs.declared.conn.Met.{Met}
-use Rattle.live_chats.specs.declared.item.Item.{Item}
-use Rattle.live_chats.specs.declared.item.Item.TheVariants.{Meets, Opens, Time}
+use Rattle.live_chats.specs.declared.item.ChatItem.{ChatItem}
+use Rattle.live_chats.specs.declared.item.ChatItem.TheVariants.{Meets, Opens, Time}
 
 -- the two ends; the connection, where one began, also when it is over; what was sent at the last item, and, where that was a segment, what
 -- became of it; and whether memory was missing
@@ -47,13 +47,13 @@ timing now None c = silent c
 timing now (Some d) c = timed (reached now d) c
 
 -- what an item makes of a chat
-unfoldable pub hearing : Item → ChatOf → ChatOf
+unfoldable pub hearing : ChatItem → ChatOf → ChatOf
 hearing (Opens ends conn) c = record c { ends = ends; conn = Some conn.value; sent = []; met = None }
 hearing (Meets now iss seg text) c = meeting (min now last_time) iss seg text.items c.conn c
 hearing (Time now) c = timing (min now last_time) c.conn c
 
 -- one after another
-abbrev pub hearing_all : List Item → ChatOf → ChatOf
+abbrev pub hearing_all : List ChatItem → ChatOf → ChatOf
 hearing_all [] c = c
 hearing_all (x ∷ xs) c = hearing_all xs (hearing x c)
 
@@ -67,7 +67,7 @@ abbrev pub losing : ChatOf → ChatOf
 losing c = record c { conn = None; sent = []; met = None; lost = true }
 
 -- A chat was told x. Where memory is missing its connection is lost, and from then on it stays as it is
-pub record Hears (from : ChatOf) (x : Item) (to : ChatOf) : Type 0 where
+pub record Hears (from : ChatOf) (x : ChatItem) (to : ChatOf) : Type 0 where
   pub hears : to.lost ≡ false → to ≡ hearing x from
   pub loses : from.lost ≡ false → to.lost ≡ true → to ≡ losing from
   pub stopped : from.lost ≡ true → to ≡ from

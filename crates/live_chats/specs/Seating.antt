@@ -23,48 +23,48 @@ use Rattle.live_chats.specs.Hearing.{ChatOf, conn_in, hearing, hearing_all, nobo
 use Rattle.live_chats.specs.Telling.{IsFirst, Tells}
 use Rattle.live_chats.specs.declared.chats.Chats.{Chats}
 use Rattle.live_chats.specs.declared.ear.Heard.{Heard}
-use Rattle.live_chats.specs.declared.item.Item.{Item}
+use Rattle.live_chats.specs.declared.item.ChatItem.{ChatItem}
 use Rattle.live_chats.specs.declared.seat.Seat.{Seat}
 use Rattle.live_chats.specs.declared.seat.Who.{Who}
 use Rattle.live_chats.specs.declared.seat.Who.TheVariants.{Due, Over}
 
 -- what the chat at a place is, or will be
-unfoldable pub chat_at : Stays Item ChatOf → ℕ → ChatOf
+unfoldable pub chat_at : Stays ChatItem ChatOf → ℕ → ChatOf
 chat_at st c = hearing_all (sent_in (place_at st c)) nobody
 
 -- at all other places a part stays, and each chat is what it was
-pub record KeptBut (c : ℕ) (a b : Stays Item ChatOf) : Type 0 where
+pub record KeptBut (c : ℕ) (a b : Stays ChatItem ChatOf) : Type 0 where
   pub opens : (d : ℕ) → d ≢ c → IsOpen a d → IsOpen b d
   pub chats : (d : ℕ) → d ≢ c → chat_at b d ≡ chat_at a d
 
 -- the same of every part that is at its place
-pub record KeptOpen (a b : Stays Item ChatOf) : Type 0 where
+pub record KeptOpen (a b : Stays ChatItem ChatOf) : Type 0 where
   pub opens : (d : ℕ) → IsOpen a d → IsOpen b d
   pub chats : (d : ℕ) → IsOpen a d → chat_at b d ≡ chat_at a d
 
 -- a connection with these ends began at a place at which no part was
-pub record Begins (c : ℕ) (ends : Tuple) (conn : Conn) (a b : Stays Item ChatOf) : Type 0 where
+pub record Begins (c : ℕ) (ends : Tuple) (conn : Conn) (a b : Stays ChatItem ChatOf) : Type 0 where
   pub was_not : IsOpen a c → ⊥
   pub is_open : IsOpen b c
   pub ends_are : (chat_at b c).ends ≡ ends
   pub conn_is : (chat_at b c).conn ≡ Some conn
 
 -- the connections of these seats
-abbrev pub conn_of_seat : Stays Item ChatOf → Tuple × Seat → Tuple × Conn
+abbrev pub conn_of_seat : Stays ChatItem ChatOf → Tuple × Seat → Tuple × Conn
 conn_of_seat st e = (e.0, conn_in (chat_at st e.1.place).conn)
 
-abbrev pub conns_of : Stays Item ChatOf → List (Tuple × Seat) → Conns
+abbrev pub conns_of : Stays ChatItem ChatOf → List (Tuple × Seat) → Conns
 conns_of st es = map (conn_of_seat st) es
 
 -- a part is at the place of a seat, whose connection has these ends and these facts
-pub record IsSeated (st : Stays Item ChatOf) (e : Tuple × Seat) : Type 0 where
+pub record IsSeated (st : Stays ChatItem ChatOf) (e : Tuple × Seat) : Type 0 where
   pub is_open : IsOpen st e.1.place
   pub ends : (chat_at st e.1.place).ends ≡ e.0
   pub conn : Conn
   pub its_conn : (chat_at st e.1.place).conn ≡ Some conn
   pub facts : e.1.facts ≡ facts_of conn
 
-abbrev pub AllSeated : Stays Item ChatOf → List (Tuple × Seat) → Type 0
+abbrev pub AllSeated : Stays ChatItem ChatOf → List (Tuple × Seat) → Type 0
 AllSeated st es = (k : ℕ) (e : Tuple × Seat) → slice_get es k ≡ Some e → IsSeated st e
 
 -- who is at a place leaves it, and the last one takes it
@@ -76,22 +76,22 @@ abbrev pub chat_of : Tuple → Conn → ChatOf
 chat_of t d = record nobody { ends = t; conn = Some d }
 
 -- whichever chat hears it, its ends stay
-abbrev pub KeepsEnds : Item → Type 0
+abbrev pub KeepsEnds : ChatItem → Type 0
 KeepsEnds x = (c : ChatOf) → (hearing x c).ends ≡ c.ends
 
 -- the connection with these ends at a place of a table heard an item, and this was heard of it
-pub record HeardAt (x : Item) (t : Tuple) (d : Conn) (i : ℕ) (h : Heard) (was is : Conns) (before after : List Datagram) : Type 0 where
+pub record HeardAt (x : ChatItem) (t : Tuple) (d : Conn) (i : ℕ) (h : Heard) (was is : Conns) (before after : List Datagram) : Type 0 where
   pub table : is ≡ set_value_at was i (conn_in (hearing x (chat_of t d)).conn)
   pub facts : h.facts ≡ facts_of (conn_in (hearing x (chat_of t d)).conn)
   pub met : h.met ≡ (hearing x (chat_of t d)).met
   pub sent : after ≡ before ++ (hearing x (chat_of t d)).sent
 
 -- whichever connection hears it tells what became of it
-abbrev pub Judges : Item → Type 0
+abbrev pub Judges : ChatItem → Type 0
 Judges x = (t : Tuple) (d : Conn) → (m : Met) × ((hearing x (chat_of t d)).met ≡ Some m)
 
 -- so a connection heard it, and left where it was over then
-pub record MetAt (x : Item) (t : Tuple) (d : Conn) (i : ℕ) (m : Met) (was is : Conns) (before after : List Datagram) : Type 0 where
+pub record MetAt (x : ChatItem) (t : Tuple) (d : Conn) (i : ℕ) (m : Met) (was is : Conns) (before after : List Datagram) : Type 0 where
   pub table : is ≡ settled i (set_value_at was i (conn_in (hearing x (chat_of t d)).conn))
   pub met : (hearing x (chat_of t d)).met ≡ Some m
   pub sent : after ≡ before ++ (hearing x (chat_of t d)).sent
@@ -107,20 +107,20 @@ Spoils now was is = (i : ℕ) × (i < length was) × (is ≡ without i (reached_
 
 module _ {R : Type 0} (limits : R → Limits) (s : Named R) (o : Chats) where
   -- all that was pushed is entered and settled
-  pub record IsSettled (p : Pass Element) (st : Stays Item ChatOf) : Type 0 where
+  pub record IsSettled (p : Pass Element) (st : Stays ChatItem ChatOf) : Type 0 where
     pub knows : Knows IsFirst Tells limits s o p st
     pub entered : chain_of st ≡ []
     pub settled : touched_of st ≡ []
 
   -- each of these seats has its connection, no two the same ends, and the pass may close the place of each
-  pub record HasSeats (p : Pass Element) (st : Stays Item ChatOf) (es : List (Tuple × Seat)) : Type 0 where
+  pub record HasSeats (p : Pass Element) (st : Stays ChatItem ChatOf) (es : List (Tuple × Seat)) : Type 0 where
     pub settled : IsSettled p st
     pub seated : AllSeated st es
     pub distinct : IsDistinct tuple_eq (keys_of es)
     pub paid : length es ≤ (life_of st).asks
 
   -- so it is of all seats but the one at a place, at which a part with its ends is
-  pub record HasSeatsBut (i : ℕ) (p : Pass Element) (st : Stays Item ChatOf) (es : List (Tuple × Seat)) : Type 0 where
+  pub record HasSeatsBut (i : ℕ) (p : Pass Element) (st : Stays ChatItem ChatOf) (es : List (Tuple × Seat)) : Type 0 where
     pub settled : IsSettled p st
     pub seated : (k : ℕ) (e : Tuple × Seat) → slice_get es k ≡ Some e → k ≢ i → IsSeated st e
     pub left : Tuple × Seat
@@ -131,7 +131,7 @@ module _ {R : Type 0} (limits : R → Limits) (s : Named R) (o : Chats) where
     pub paid : length es ≤ (life_of st).asks
 
   -- and the pass is there; where a pass with its number may be closed it may be closed
-  pub record IsGood (closes : Pass Element → Type 0) (pass : Option (Pass Element)) (st : Stays Item ChatOf) (es : List (Tuple × Seat)) : Type 0 where
+  pub record IsGood (closes : Pass Element → Type 0) (pass : Option (Pass Element)) (st : Stays ChatItem ChatOf) (es : List (Tuple × Seat)) : Type 0 where
     pub its_pass : Pass Element
     pub is_there : pass ≡ Some its_pass
     pub may_close : (q : Pass Element) → MayClose limits s q → number q ≡ number its_pass → closes q

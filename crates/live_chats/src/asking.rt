@@ -6,28 +6,28 @@ ghost use Rattle.live_server.specs.Serving.{is_waiting};
 ghost use Rattle.live_server.specs.Table.{conn_at, held_by, place_of};
 ghost use Rattle.live_chats.specs.Hearing.{ChatOf};
 ghost use Rattle.live_chats.specs.Seating.{AllSeated, conns_of};
-ghost use Rattle.live_chats.specs.declared.item.Item.{Item};
+ghost use Rattle.live_chats.specs.declared.item.ChatItem.{ChatItem};
 
 use crate::seats::{Table, seat_at};
 use sq_base::Tuple;
 
 /// How many connections there are.
 pub(crate) fn len(seats: &Table) -> usize
-    ensures { (st : Stays Item ChatOf) → result ≡ length (conns_of st seats.now.entries) }
+    ensures { (st : Stays ChatItem ChatOf) → result ≡ length (conns_of st seats.now.entries) }
 {
     seats.len()
 }
 
 /// The place of the connection of two ends.
 pub(crate) fn find(seats: &Table, ends: &Tuple) -> Option<usize>
-    ensures { (st : Stays Item ChatOf) → result ≡ place_of ends.now (conns_of st seats.now.entries) }
+    ensures { (st : Stays ChatItem ChatOf) → result ≡ place_of ends.now (conns_of st seats.now.entries) }
 {
     seats.get_index_of(ends)
 }
 
 /// Whether the connection at a place is half open, and the one that was opened with a number.
 pub(crate) fn is_waiting_at(seats: &Table, place: usize, number: u64) -> bool
-    ensures { (st : Stays Item ChatOf) → AllSeated st seats.now.entries → result ≡ is_waiting number (conn_at place (conns_of st seats.now.entries)) }
+    ensures { (st : Stays ChatItem ChatOf) → AllSeated st seats.now.entries → result ≡ is_waiting number (conn_at place (conns_of st seats.now.entries)) }
 {
     match seats.get_index(place) {
         Some((_, seat)) => seat.facts.is_waiting(number),
@@ -37,7 +37,7 @@ pub(crate) fn is_waiting_at(seats: &Table, place: usize, number: u64) -> bool
 
 /// How many bytes all hold.
 pub(crate) fn held(seats: &Table) -> u64
-    ensures { (st : Stays Item ChatOf) → AllSeated st seats.now.entries → result ≡ held_by (conns_of st seats.now.entries) }
+    ensures { (st : Stays ChatItem ChatOf) → AllSeated st seats.now.entries → result ≡ held_by (conns_of st seats.now.entries) }
 {
     let mut total = 0u64;
     for i in 0..seats.len() {

@@ -5,7 +5,7 @@ ghost use Rattle.std.specs.Option.{option_copied};
 ghost use Rattle.tcb_machine.specs.Limits.{last_time};
 ghost use Rattle.live_chats.specs.Hearing.{Hears, hearing, losing, meeting, nobody, timing};
 
-use crate::item::Item;
+use crate::item::ChatItem;
 use live_server::{Conn, Datagram, Met};
 use segment_codec::Seg;
 use sq_base::{Addr, Tuple};
@@ -86,7 +86,7 @@ impl Chat {
     }
 
     /// It is told an item. Where memory is missing, its connection is lost.
-    pub fn take(&mut self, alloc: Global, item: Item)
+    pub fn take(&mut self, alloc: Global, item: ChatItem)
         ensures { Hears self.old item self.new }
     {
         if self.lost {
@@ -102,25 +102,25 @@ impl Chat {
 
     // What an item makes of it. After an error only its ends are known.
     #[tactic(auto, unfolding(crate::specs::Hearing::hearing))]
-    fn hear(&mut self, alloc: Global, item: Item) -> Result<(), AllocError>
+    fn hear(&mut self, alloc: Global, item: ChatItem) -> Result<(), AllocError>
         requires sent { self.old.sent ≡ [] }
         requires met { self.old.met ≡ None }
         ensures hears { OnOk result (self.new ≡ hearing item self.old) }
         ensures ends { OnErr result (self.new.ends ≡ self.old.ends) }
     {
         match item {
-            Item::Opens { ends, conn } => {
+            ChatItem::Opens { ends, conn } => {
                 self.ends = ends;
                 self.conn = Some(conn);
                 Ok(())
             }
-            Item::Meets {
+            ChatItem::Meets {
                 now,
                 iss,
                 seg,
                 text,
             } => self.meet(alloc, now.min(LAST_TIME), iss, &seg, text.as_slice()),
-            Item::Time { now } => self.time(alloc, now.min(LAST_TIME)),
+            ChatItem::Time { now } => self.time(alloc, now.min(LAST_TIME)),
         }
     }
 

@@ -4,7 +4,7 @@ ghost use Rattle.std.specs.Prelude.{◌≡◌};
 ghost use Rattle.live_chats.specs.Telling.{IsFirst, Tells, first_of};
 
 use crate::chat::Chat;
-use crate::item::Item;
+use crate::item::ChatItem;
 use perimeter_core::Known;
 use squeue_streams::{Steps, Stream};
 use std::alloc::{AllocError, Global};
@@ -12,12 +12,12 @@ use std::alloc::{AllocError, Global};
 /// What all chats of a squeue have in common: for contracts alone the streams with which a run begins, by number.
 #[derive(Drop)]
 pub struct Chats {
-    first: Known<Vec<Stream<Item, Chat>>>,
+    first: Known<Vec<Stream<ChatItem, Chat>>>,
 }
 
 impl Chats {
     /// Chats whose streams begin as these, by number.
-    pub fn of(streams: &Vec<Stream<Item, Chat>>) -> Chats
+    pub fn of(streams: &Vec<Stream<ChatItem, Chat>>) -> Chats
         ensures { first_of result ≡ streams.now.items }
     {
         Chats {
@@ -27,7 +27,7 @@ impl Chats {
 }
 
 impl Steps for Chats {
-    type Item = Item;
+    type Item = ChatItem;
 
     type State = Chat;
 
@@ -44,7 +44,7 @@ impl Steps for Chats {
         Err(AllocError)
     }
 
-    fn take(&self, alloc: Global, chat: &mut Chat, item: Item) {
+    fn take(&self, alloc: Global, chat: &mut Chat, item: ChatItem) {
         chat.take(alloc, item);
     }
 }

@@ -6,7 +6,7 @@ use sq_base::Tuple;
 
 /// What a chat is told. Times are in microseconds, and one after 2^62 counts as 2^62.
 #[derive(Drop)]
-pub enum Item {
+pub enum ChatItem {
     /// A connection of these two ends begins, of which everything is sent that it had to send.
     Opens {
         ends: Tuple,

@@ -11,7 +11,7 @@ ghost use Rattle.live_chats.specs.Seating.{HasSeats, IsSettled, KeptBut, conns_o
 
 use crate::chat::Chat;
 use crate::chats::Chats;
-use crate::item::Item;
+use crate::item::ChatItem;
 use crate::line::Line;
 use crate::seat::{Seat, Who};
 use crate::seats::{Table, seat_at};
@@ -29,7 +29,7 @@ pub(crate) fn drop_over<H: Wait + Drop, W: Wait>(
     line: &Line<'_, Places<Streams<Chats, H>>, W>,
     alloc: Global,
     pass: Pass,
-    stays: &mut Stays<Item, Chat>,
+    stays: &mut Stays<ChatItem, Chat>,
     seats: &mut Table,
     free: &mut VecDeque<u32>,
 ) -> Pass
@@ -46,7 +46,7 @@ pub(crate) fn drop_leaving<H: Wait + Drop, W: Wait>(
     line: &Line<'_, Places<Streams<Chats, H>>, W>,
     alloc: Global,
     pass: Pass,
-    stays: &mut Stays<Item, Chat>,
+    stays: &mut Stays<ChatItem, Chat>,
     seats: &mut Table,
     free: &mut VecDeque<u32>,
     setting: &Setting,
@@ -71,7 +71,7 @@ fn drop_who<H: Wait + Drop, W: Wait>(
     line: &Line<'_, Places<Streams<Chats, H>>, W>,
     alloc: Global,
     pass: Pass,
-    stays: &mut Stays<Item, Chat>,
+    stays: &mut Stays<ChatItem, Chat>,
     seats: &mut Table,
     free: &mut VecDeque<u32>,
     who: &Who,
@@ -91,7 +91,7 @@ fn close_all<H: Wait + Drop, W: Wait>(
     line: &Line<'_, Places<Streams<Chats, H>>, W>,
     alloc: Global,
     pass: Pass,
-    stays: &mut Stays<Item, Chat>,
+    stays: &mut Stays<ChatItem, Chat>,
     seats: &Table,
     free: &mut VecDeque<u32>,
     who: &Who,
@@ -116,7 +116,7 @@ fn close_one<H: Wait + Drop, W: Wait>(
     line: &Line<'_, Places<Streams<Chats, H>>, W>,
     alloc: Global,
     pass: Pass,
-    stays: &mut Stays<Item, Chat>,
+    stays: &mut Stays<ChatItem, Chat>,
     free: &mut VecDeque<u32>,
     who: &Who,
     seat: Seat,

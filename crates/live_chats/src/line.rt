@@ -13,7 +13,7 @@ ghost use Rattle.live_chats.specs.declared.ear.Heard.{Heard};
 use crate::chat::Chat;
 use crate::chats::Chats;
 use crate::ear::{Ear, Heard};
-use crate::item::Item;
+use crate::item::ChatItem;
 use live_server::{Conn, Datagram};
 use perimeter_core::Resident;
 use placed_parts::Places;
@@ -36,7 +36,7 @@ pub struct Line<'q, R: Resident, W: Wait> {
 
 impl<H: Wait + Drop, W: Wait> Line<'_, Places<Streams<Chats, H>>, W> {
     /// Enters the feeds of all that was pushed. It waits while the squeue is full.
-    fn enter(&self, alloc: Global, pass: Pass, stays: &mut Stays<Item, Chat>) -> Pass
+    fn enter(&self, alloc: Global, pass: Pass, stays: &mut Stays<ChatItem, Chat>) -> Pass
         requires { Knows IsFirst Tells limits_of self.now.squeue.now (origin_of self.now.squeue.now.given.first) pass stays.old }
         ensures knows { Knows IsFirst Tells limits_of self.now.squeue.now (origin_of self.now.squeue.now.given.first) result stays.new }
         ensures number { number result ≡ number pass }
@@ -63,9 +63,9 @@ impl<H: Wait + Drop, W: Wait> Line<'_, Places<Streams<Chats, H>>, W> {
         &self,
         alloc: Global,
         pass: Pass,
-        stays: &mut Stays<Item, Chat>,
+        stays: &mut Stays<ChatItem, Chat>,
         c: u32,
-        item: Item,
+        item: ChatItem,
         ear: &mut Ear,
     ) -> (Pass, bool)
         requires settled { IsSettled limits_of self.now.squeue.now (origin_of self.now.squeue.now.given.first) pass stays.old }
@@ -94,9 +94,9 @@ impl<H: Wait + Drop, W: Wait> Line<'_, Places<Streams<Chats, H>>, W> {
         &self,
         alloc: Global,
         pass: Pass,
-        stays: &mut Stays<Item, Chat>,
+        stays: &mut Stays<ChatItem, Chat>,
         c: u32,
-        item: Item,
+        item: ChatItem,
         out: &mut Vec<Datagram>,
     ) -> (Pass, Option<Heard>)
         requires settled { IsSettled limits_of self.now.squeue.now (origin_of self.now.squeue.now.given.first) pass stays.old }
@@ -130,7 +130,7 @@ impl<H: Wait + Drop, W: Wait> Line<'_, Places<Streams<Chats, H>>, W> {
         &self,
         alloc: Global,
         pass: Pass,
-        stays: &mut Stays<Item, Chat>,
+        stays: &mut Stays<ChatItem, Chat>,
         free: &mut VecDeque<u32>,
         c: u32,
     ) -> Pass
@@ -152,7 +152,7 @@ impl<H: Wait + Drop, W: Wait> Line<'_, Places<Streams<Chats, H>>, W> {
         &self,
         alloc: Global,
         pass: Pass,
-        stays: &mut Stays<Item, Chat>,
+        stays: &mut Stays<ChatItem, Chat>,
         free: &mut VecDeque<u32>,
     ) -> (Pass, Option<u32>)
         requires settled { IsSettled limits_of self.now.squeue.now (origin_of self.now.squeue.now.given.first) pass stays.old }
@@ -180,7 +180,7 @@ impl<H: Wait + Drop, W: Wait> Line<'_, Places<Streams<Chats, H>>, W> {
         &self,
         alloc: Global,
         pass: Pass,
-        stays: &mut Stays<Item, Chat>,
+        stays: &mut Stays<ChatItem, Chat>,
         free: &mut VecDeque<u32>,
         ends: Tuple,
         conn: Box<Conn>,
@@ -198,7 +198,7 @@ impl<H: Wait + Drop, W: Wait> Line<'_, Places<Streams<Chats, H>>, W> {
             return (pass, None);
         };
         let mut none = Vec::new(alloc);
-        let item = Item::Opens { ends, conn };
+        let item = ChatItem::Opens { ends, conn };
         let (pass, heard) = self.hear(alloc, pass, stays, c, item, &mut none);
         match heard {
             Some(_) => (pass, Some(c)),

@@ -16,7 +16,7 @@ ghost use Rattle.live_chats.specs.declared.seat.Seat.{Seat};
 use crate::chat::Chat;
 use crate::chats::Chats;
 use crate::ear::Heard;
-use crate::item::Item;
+use crate::item::ChatItem;
 use crate::line::Line;
 use crate::seat::Seat;
 use indexmap::IndexMap;
@@ -66,7 +66,7 @@ pub(crate) fn vacate<H: Wait + Drop, W: Wait>(
     line: &Line<'_, Places<Streams<Chats, H>>, W>,
     alloc: Global,
     pass: Pass,
-    stays: &mut Stays<Item, Chat>,
+    stays: &mut Stays<ChatItem, Chat>,
     seats: &mut Table,
     free: &mut VecDeque<u32>,
     i: usize,
@@ -86,11 +86,11 @@ fn hear_at<H: Wait + Drop, W: Wait>(
     line: &Line<'_, Places<Streams<Chats, H>>, W>,
     alloc: Global,
     pass: Pass,
-    stays: &mut Stays<Item, Chat>,
+    stays: &mut Stays<ChatItem, Chat>,
     seats: &mut Table,
     free: &mut VecDeque<u32>,
     i: usize,
-    item: Item,
+    item: ChatItem,
     out: &mut Vec<Datagram>,
 ) -> (Pass, Option<Heard>)
     requires seats { HasSeats limits_of line.now.squeue.now (origin_of line.now.squeue.now.given.first) pass stays.old seats.old.entries }
@@ -126,11 +126,11 @@ pub(crate) fn meet_at<H: Wait + Drop, W: Wait>(
     line: &Line<'_, Places<Streams<Chats, H>>, W>,
     alloc: Global,
     pass: Pass,
-    stays: &mut Stays<Item, Chat>,
+    stays: &mut Stays<ChatItem, Chat>,
     seats: &mut Table,
     free: &mut VecDeque<u32>,
     i: usize,
-    item: Item,
+    item: ChatItem,
     out: &mut Vec<Datagram>,
 ) -> (Pass, Option<Met>)
     requires seats { HasSeats limits_of line.now.squeue.now (origin_of line.now.squeue.now.given.first) pass stays.old seats.old.entries }
@@ -160,7 +160,7 @@ pub(crate) fn reach_each<H: Wait + Drop, W: Wait>(
     line: &Line<'_, Places<Streams<Chats, H>>, W>,
     alloc: Global,
     pass: Pass,
-    stays: &mut Stays<Item, Chat>,
+    stays: &mut Stays<ChatItem, Chat>,
     seats: &mut Table,
     free: &mut VecDeque<u32>,
     now: u64,
@@ -176,7 +176,7 @@ pub(crate) fn reach_each<H: Wait + Drop, W: Wait>(
 {
     let mut pass = pass;
     'turns: for i in 0..seats.len() {
-        let item = Item::Time { now };
+        let item = ChatItem::Time { now };
         let (next, heard) = hear_at(line, alloc, pass, stays, seats, free, i, item, out);
         pass = next;
         match heard {
@@ -192,7 +192,7 @@ pub(crate) fn seat_new<H: Wait + Drop, W: Wait>(
     line: &Line<'_, Places<Streams<Chats, H>>, W>,
     alloc: Global,
     pass: Pass,
-    stays: &mut Stays<Item, Chat>,
+    stays: &mut Stays<ChatItem, Chat>,
     seats: &mut Table,
     free: &mut VecDeque<u32>,
     ends: Tuple,
@@ -230,7 +230,7 @@ pub(crate) fn leave_all<H: Wait + Drop, W: Wait>(
     line: &Line<'_, Places<Streams<Chats, H>>, W>,
     alloc: Global,
     pass: Pass,
-    stays: &mut Stays<Item, Chat>,
+    stays: &mut Stays<ChatItem, Chat>,
     seats: &mut Table,
     free: &mut VecDeque<u32>,
 ) -> Pass

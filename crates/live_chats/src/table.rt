@@ -5,7 +5,7 @@ ghost use Rattle.perimeter_core.specs.History.{Element};
 
 use crate::chat::Chat;
 use crate::chats::Chats;
-use crate::item::Item;
+use crate::item::ChatItem;
 use crate::line::Line;
 use crate::seats::{Table, leave_all, meet_at, reach_each, seat_new, vacate};
 use crate::{asking, leaving};
@@ -39,7 +39,7 @@ pub struct Seats<'q, R: Resident, W: Wait, N: Closes> {
     line: Line<'q, R, W>,
     /// The pass, which is there between two calls.
     pass: Option<Pass>,
-    stays: Stays<Item, Chat>,
+    stays: Stays<ChatItem, Chat>,
     seats: Table,
     /// Places that are free, longest first.
     free: VecDeque<u32>,
@@ -61,7 +61,7 @@ impl<'q, H: Wait + Drop, W: Wait, N: Closes> Seats<'q, Places<Streams<Chats, H>>
         squeue: &'q Squeue<Places<Streams<Chats, H>>>,
         alloc: Global,
         pass: Pass,
-        stays: Stays<Item, Chat>,
+        stays: Stays<ChatItem, Chat>,
         free: VecDeque<u32>,
         pace: SourcePace,
     ) -> Self
@@ -178,7 +178,7 @@ impl<'q, H: Wait + Drop, W: Wait, N: Closes> ConnTable
             self.leave(alloc, place);
             return Err(AllocError);
         };
-        let item = Item::Meets {
+        let item = ChatItem::Meets {
             now,
             iss,
             seg: *seg,

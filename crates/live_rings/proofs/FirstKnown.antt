@@ -21,7 +21,7 @@ use Rattle.stream_stays.specs.Places.{Knows}
 use Rattle.stream_stays.specs.Beginning.{AreNew, IsNewVacant, IsNewPlace as IsFirstPlace}
 use Rattle.stream_stays.proofs.Fresh.{new_passes_know_of}
 use Rattle.live_chats.specs.declared.chats.Chats.{Chats}
-use Rattle.live_chats.specs.declared.item.Item.{Item}
+use Rattle.live_chats.specs.declared.item.ChatItem.{ChatItem}
 use Rattle.live_chats.specs.Hearing.{ChatOf}
 use Rattle.live_chats.specs.Telling.{IsFirst, Tells, first_of}
 use Rattle.live_rings.specs.Seating.{AreNewStays, IsNewPlace, ServesPlaces, one_life}
@@ -41,12 +41,12 @@ module _ {R : Type 0} (limits : R → Limits) (s : Named R) (o : Chats) (rings k
   quota_is = ap (λ (qs : List (ℕ × ℕ)). slice_index_or qs (number p) (0, 0)) serves.quotas ∙ one_is rings (number p) one_life (0, 0) (omega (arith, number_is, lt))
 
   -- whichever end of a ring place c may begin with is the other end of this one
-  its_ring : (c : ℕ) (place : Place Item ChatOf) (new : IsNewPlace (first_of o) c place) → IsOfRing IsFirst o c new.producer
+  its_ring : (c : ℕ) (place : Place ChatItem ChatOf) (new : IsNewPlace (first_of o) c place) → IsOfRing IsFirst o c new.producer
   its_ring c place new = λ input state begun.
       let same : new.part ≡ begun.stream = cc (sym new.its_part ∙ begun.its_number) in
-      subst (λ (i : Consumer Item Global AnyItems). IsPair new.producer i) begun.its_input (subst (λ (t : Stream Item ChatOf). IsPair new.producer (input_of t)) same new.new.pair)
+      subst (λ (i : Consumer ChatItem Global AnyItems). IsPair new.producer i) begun.its_input (subst (λ (t : Stream ChatItem ChatOf). IsPair new.producer (input_of t)) same new.new.pair)
 
-  new_is : (c : ℕ) (place : Place Item ChatOf) → c % rings ≡ k → IsNewPlace (first_of o) c place → IsFirstPlace IsFirst Tells limits s o p c place
+  new_is : (c : ℕ) (place : Place ChatItem ChatOf) → c % rings ≡ k → IsNewPlace (first_of o) c place → IsFirstPlace IsFirst Tells limits s o p c place
   new_is c place mine new =
       let within : c < length (first_of o) = slice_get_within (first_of o) c new.part new.its_part in
       let at : IsNewVacant IsFirst Tells limits s o p c (record { producer = new.producer; part = new.part; stream = c; leaves = most_leaves }) = record {
@@ -62,7 +62,7 @@ module _ {R : Type 0} (limits : R → Limits) (s : Named R) (o : Chats) (rings k
       } in
       subst (IsFirstPlace IsFirst Tells limits s o p c) (sym new.place_is) at
 
-  pub knows_first : (stays : Stays Item ChatOf) → AreNewStays rings k (first_of o) stays → Knows IsFirst Tells limits s o p stays
+  pub knows_first : (stays : Stays ChatItem ChatOf) → AreNewStays rings k (first_of o) stays → Knows IsFirst Tells limits s o p stays
   knows_first stays are = new_passes_know_of IsFirst Tells limits s o p stays new
     where
       new : AreNew IsFirst Tells limits s o p stays

@@ -2,14 +2,14 @@
 use Rattle.std.proofs.Common.{◌≡◌, ℕ, Bool, Option, Some, Result, Ok, Err, List, ap, ◌∙◌, sym}
 use Rattle.live_run.specs.declared.fault.Fault.{Fault}
 use Rattle.live_run.specs.declared.fault.Fault.TheVariants as Fault'
-use Rattle.live_rings.specs.declared.words.Setup.{Setup}
+use Rattle.live_rings.specs.declared.words.Layout.{Layout}
 use Rattle.live_rings.specs.Served.{HasEnded, HasServed, fault_of}
 
 -- a stream that failed so
 abbrev failed : Fault → Result (Unit {0}) Fault
 failed fault = Err fault
 
-module _ {S K : Type 0} (rest : S → Option (List ℕ)) (reads : S → ℕ) (contents : K → Option (List ℕ)) (faults : K → ℕ) (setup : Setup) where
+module _ {S K : Type 0} (rest : S → Option (List ℕ)) (reads : S → ℕ) (contents : K → Option (List ℕ)) (faults : K → ℕ) (setup : Layout) where
   pub has_ended : (reader reader' : S) (sink sink' : K) (lost : Bool) (result : Result (Unit {0}) Fault) (fault : Option Fault) → fault ≡ fault_of result → HasServed rest reads contents faults setup reader sink reader' sink' lost result
       → HasEnded rest reads contents faults setup (record { reader = reader; sink = sink }) (record { reader = reader'; sink = sink'; fault = fault; lost = lost })
   has_ended reader reader' sink sink' lost (Ok x) fault is served =

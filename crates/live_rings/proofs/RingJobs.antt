@@ -19,20 +19,20 @@ use Rattle.placed_parts.specs.declared.places.Places.{Places}
 use Rattle.placed_parts.specs.Placing.{limits_of, origin_of}
 use Rattle.squeue_streams.specs.declared.streams.Stream.{Stream}
 use Rattle.live_chats.specs.declared.chats.Chats.{Chats}
-use Rattle.live_chats.specs.declared.item.Item.{Item}
+use Rattle.live_chats.specs.declared.item.ChatItem.{ChatItem}
 use Rattle.live_chats.specs.Hearing.{ChatOf}
 use Rattle.live_chats.specs.Telling.{first_of}
-use Rattle.live_rings.specs.declared.ending.Ended.{Ended}
+use Rattle.live_rings.specs.declared.ending.EndedRing.{EndedRing}
 use Rattle.live_rings.specs.declared.ending.Ends.{Ends}
 use Rattle.live_rings.specs.Seating.{ServesPlaces}
 use Rattle.live_rings.proofs.FirstKnown.{fresh_at, knows_first}
-use Rattle.live_rings.specs.declared.ring.Task.{Task}
-use Rattle.live_rings.specs.declared.ring.Task.TheVariants as Task'
+use Rattle.live_rings.specs.declared.ring.ServerTask.{ServerTask}
+use Rattle.live_rings.specs.declared.ring.ServerTask.TheVariants as Task'
 use Rattle.live_rings.specs.Tasks.{AreNewTasks, EndedFrom, HasDone, IsNewTask, IsReady, MayRun, Ran, ReadyFor, pass_in}
 
-pub task_got : {S K : Type 0} (jobs : List (Job (Task S K))) (k : ℕ) (j : Job (Task S K)) → slice_get jobs k ≡ Some j → slice_get (tasks_in jobs) k ≡ Some j.task
+pub task_got : {S K : Type 0} (jobs : List (Job (ServerTask S K))) (k : ℕ) (j : Job (ServerTask S K)) → slice_get jobs k ≡ Some j → slice_get (tasks_in jobs) k ≡ Some j.task
 task_got [] k j is = cc is
-task_got {S = S} {K = K} (o ∷ jobs) zero j is = let same : o ≡ j = cc is in ap (λ (j : Job (Task S K)). Some j.task) same
+task_got {S = S} {K = K} (o ∷ jobs) zero j is = let same : o ≡ j = cc is in ap (λ (j : Job (ServerTask S K)). Some j.task) same
 task_got (o ∷ jobs) (suc k) j is = task_got jobs k j is
 
 one_place : (os : List (Option (Pass Element))) (q : Pass Element) → pass_in os ≡ Some q → os ≡ Some q ∷ []
@@ -46,23 +46,23 @@ module _ {R : Type 0} (limits : R → Limits) (s : Named R) where
   ended_at p (Some q) h = (q, refl, h)
 
 -- the parts with which the squeue began
-abbrev pub parts_of : {X P : Type 0} {G : Ghosts X P Chats} → Named (Places X P Chats G) → List (Stream Item ChatOf)
+abbrev pub parts_of : {X P : Type 0} {G : Ghosts X P Chats} → Named (Places X P Chats G) → List (Stream ChatItem ChatOf)
 parts_of s = first_of (origin_of s.given.first)
 
 module _ {X P S K : Type 0} {G : Ghosts X P Chats} (s : Named (Places X P Chats G)) where
   -- a pass that has seen nothing may do its task
-  may_new : (rings : ℕ) → ServesPlaces limits_of s.given rings (length (parts_of s)) → length s.given.quotas ≡ rings → (task : Task S K) (p : Pass Element) (k : ℕ) → IsNewTask rings (parts_of s) k task → IsPassOf number_of s.gate p → number p ≡ k → seen p ≡ [] → MayRun s task p
+  may_new : (rings : ℕ) → ServesPlaces limits_of s.given rings (length (parts_of s)) → length s.given.quotas ≡ rings → (task : ServerTask S K) (p : Pass Element) (k : ℕ) → IsNewTask rings (parts_of s) k task → IsPassOf number_of s.gate p → number p ≡ k → seen p ≡ [] → MayRun s task p
   may_new rings serves many (Task'.Serve ring) p k t is number_is none = (knows_first limits_of s (origin_of s.given.first) rings k serves p is number_is t.0 none ring.stays t.1, t.1.none.0, t.1.none.1)
   may_new rings serves many (Task'.Served ended) p k t is number_is none = absurd t
   may_new rings serves many Task'.Work p k t is number_is none = (is, omega (arith, number_is, t, many))
 
   -- the job holds the pass of this number, which may do the job's task
-  abbrev pub ReadyAt : ℕ → Job (Task S K) → Type 0
+  abbrev pub ReadyAt : ℕ → Job (ServerTask S K) → Type 0
   ReadyAt k j = (x : Pass Element) × (j.places.items ≡ Some x ∷ []) × MayRun s j.task x × (number x ≡ k)
 
-  pub all_new : (rings : ℕ) → ServesPlaces limits_of s.given rings (length (parts_of s)) → length s.given.quotas ≡ rings → (count : ℕ) (jobs : List (Job (Task S K))) (passes : List (Pass Element)) (old : ℕ → List (Option (Pass Element)))
+  pub all_new : (rings : ℕ) → ServesPlaces limits_of s.given rings (length (parts_of s)) → length s.given.quotas ≡ rings → (count : ℕ) (jobs : List (Job (ServerTask S K))) (passes : List (Pass Element)) (old : ℕ → List (Option (Pass Element)))
       → AreNewTasks rings (parts_of s) (tasks_in jobs) → AreHanded 0 count 0 passes old (lent_to jobs) → ((i : ℕ) → old i ≡ []) → AreFresh number_of s.gate 0 passes
-      → (k : ℕ) (j : Job (Task S K)) → k ≤ count → slice_get jobs k ≡ Some j → ReadyAt k j
+      → (k : ℕ) (j : Job (ServerTask S K)) → k ≤ count → slice_get jobs k ≡ Some j → ReadyAt k j
   all_new rings serves many count jobs passes old tasks handed none fresh k j le is =
       let r = handed.each k le in
       let at : holder 0 count 0 k ≡ k = elim (cases_eq k count) [
@@ -74,30 +74,30 @@ module _ {X P S K : Type 0} {G : Ghosts X P Chats} (s : Named (Places X P Chats 
       let places : j.places.items ≡ Some r.0 ∷ [] = sym (lent_got jobs k j is) ∙ (ap (lent_to jobs) (sym at) ∙ (r.2 ∙ ap (λ l. l ++ Some r.0 ∷ []) (none (holder 0 count 0 k)))) in
       (r.0, places, may_new rings serves many j.task r.0 k (tasks.each k j.task (task_got jobs k j is)) f.0 n f.2, n)
 
-  pub all_ready : (jobs : List (Job (Task S K))) → ((k : ℕ) (j : Job (Task S K)) → slice_get jobs k ≡ Some j → ReadyAt k j) → (k : ℕ) (d : Job (Task S K)) → k < length jobs → IsReady s (slice_index_or jobs k d)
+  pub all_ready : (jobs : List (Job (ServerTask S K))) → ((k : ℕ) (j : Job (ServerTask S K)) → slice_get jobs k ≡ Some j → ReadyAt k j) → (k : ℕ) (d : Job (ServerTask S K)) → k < length jobs → IsReady s (slice_index_or jobs k d)
   all_ready jobs new k d lt =
       let o = some_at jobs k lt in
       let n = new k o.0 o.1 in
       subst (IsReady s) (sym (get_or_from_slice_get jobs k o.0 d o.1)) (subst (ReadyFor s o.0.task) (ap pass_in (sym n.1)) n.2)
 
-  module _ (Q : Ends S K → Ended S K → Type 0) (old new : List (Job (Task S K))) (n : length old ≡ length new)
-      (ran : (k : ℕ) (d : Job (Task S K)) → k < length old → Ran limits_of s Q (slice_index_or old k d) (slice_index_or new k d)) where
+  module _ (Q : Ends S K → EndedRing S K → Type 0) (old new : List (Job (ServerTask S K))) (n : length old ≡ length new)
+      (ran : (k : ℕ) (d : Job (ServerTask S K)) → k < length old → Ran limits_of s Q (slice_index_or old k d) (slice_index_or new k d)) where
     -- what each job did
-    did_at : (k : ℕ) (o j : Job (Task S K)) → slice_get old k ≡ Some o → slice_get new k ≡ Some j → Ran limits_of s Q o j
+    did_at : (k : ℕ) (o j : Job (ServerTask S K)) → slice_get old k ≡ Some o → slice_get new k ≡ Some j → Ran limits_of s Q o j
     did_at k o j was is =
-        let r = subst (λ (a : Job (Task S K)). Ran limits_of s Q a (slice_index_or new k j)) (get_or_from_slice_get old k o j was) (ran k j (slice_get_within old k o was)) in
-        subst (λ (b : Job (Task S K)). Ran limits_of s Q o b) (get_or_from_slice_get new k j j is) r
+        let r = subst (λ (a : Job (ServerTask S K)). Ran limits_of s Q a (slice_index_or new k j)) (get_or_from_slice_get old k o j was) (ran k j (slice_get_within old k o was)) in
+        subst (λ (b : Job (ServerTask S K)). Ran limits_of s Q o b) (get_or_from_slice_get new k j j is) r
 
-    pub tasks_done : (k : ℕ) (t u : Task S K) → slice_get (tasks_in old) k ≡ Some t → slice_get (tasks_in new) k ≡ Some u → HasDone Q t u
+    pub tasks_done : (k : ℕ) (t u : ServerTask S K) → slice_get (tasks_in old) k ≡ Some t → slice_get (tasks_in new) k ≡ Some u → HasDone Q t u
     tasks_done k t u was is =
-        let o = some_at old k (omega (arith, slice_get_within (tasks_in old) k t was, length-map old (λ (j : Job (Task S K)). j.task))) in
-        let j = some_at new k (omega (arith, slice_get_within (tasks_in new) k u is, length-map new (λ (j : Job (Task S K)). j.task))) in
+        let o = some_at old k (omega (arith, slice_get_within (tasks_in old) k t was, length-map old (λ (j : Job (ServerTask S K)). j.task))) in
+        let j = some_at new k (omega (arith, slice_get_within (tasks_in new) k u is, length-map new (λ (j : Job (ServerTask S K)). j.task))) in
         let first : o.0.task ≡ t = cc (sym (task_got old k o.0 o.1) ∙ was) in
         let then : j.0.task ≡ u = cc (sym (task_got new k j.0 j.1) ∙ is) in
-        subst (HasDone Q t) then (subst (λ (a : Task S K). HasDone Q a j.0.task) first (did_at k o.0 j.0 o.1 j.1).1)
+        subst (HasDone Q t) then (subst (λ (a : ServerTask S K). HasDone Q a j.0.task) first (did_at k o.0 j.0 o.1 j.1).1)
 
-    module _ (are : (k : ℕ) (j : Job (Task S K)) → slice_get old k ≡ Some j → ReadyAt k j) where
-      all_done : (k : ℕ) (j : Job (Task S K)) → slice_get new k ≡ Some j → (q : Pass Element) × (j.places.items ≡ Some q ∷ []) × MayEnd limits_of k s q
+    module _ (are : (k : ℕ) (j : Job (ServerTask S K)) → slice_get old k ≡ Some j → ReadyAt k j) where
+      all_done : (k : ℕ) (j : Job (ServerTask S K)) → slice_get new k ≡ Some j → (q : Pass Element) × (j.places.items ≡ Some q ∷ []) × MayEnd limits_of k s q
       all_done k j is =
           let o = some_at old k (omega (arith, slice_get_within new k j is, n)) in
           let w = are k o.0 o.1 in

@@ -20,10 +20,10 @@ use Rattle.placed_parts.specs.declared.parts.Parts.{Ghosts as PartGhosts}
 use Rattle.placed_parts.specs.declared.places.Places.{Places}
 use Rattle.placed_parts.specs.Placing.{limits_of}
 use Rattle.live_chats.specs.declared.chats.Chats.{Chats}
-use Rattle.live_rings.specs.declared.ending.Ended.{Ended}
+use Rattle.live_rings.specs.declared.ending.EndedRing.{EndedRing}
 use Rattle.live_rings.specs.declared.ending.Ends.{Ends}
 use Rattle.live_rings.specs.Seating.{ServesPlaces}
-use Rattle.live_rings.specs.declared.ring.Task.{Task}
+use Rattle.live_rings.specs.declared.ring.ServerTask.{ServerTask}
 use Rattle.live_rings.specs.Tasks.{AreDone, AreNewTasks, HasDone, Ran}
 use Rattle.live_rings.proofs.RingJobs.{ReadyAt, all_new, done_lent, parts_of, tasks_done}
 
@@ -44,24 +44,24 @@ whole_back n xs new a b = go n new (drop (length new) xs) a (rest (length new) x
     go (suc n) (x ∷ new) ys a e = ap (λ l. x ∷ l) (go n new ys (omega (arith, a)) e)
 
 -- the squeue is lent to these jobs, one for each of its passes, and each is ready
-pub record Lends {X P S K : Type 0} {G : PartGhosts X P Chats} (s : Named (Places X P Chats G)) (jobs : List (Job (Task S K))) (n : ℕ) (all : List (Named (Places X P Chats G))) : Type 0 where
+pub record Lends {X P S K : Type 0} {G : PartGhosts X P Chats} (s : Named (Places X P Chats G)) (jobs : List (Job (ServerTask S K))) (n : ℕ) (all : List (Named (Places X P Chats G))) : Type 0 where
   pub passes : length s.given.quotas ≡ n - 1
   pub many : length jobs ≡ (n - 1) + 1
-  pub are : (k : ℕ) (j : Job (Task S K)) → slice_get jobs k ≡ Some j → ReadyAt s k j
+  pub are : (k : ℕ) (j : Job (ServerTask S K)) → slice_get jobs k ≡ Some j → ReadyAt s k j
   pub single : all ≡ s ∷ []
 
 module _ {X P S K : Type 0} {G : PartGhosts X P Chats} (s : Named (Places X P Chats G)) where
   -- so it is where each pass of a new squeue went to a job without places
-  pub lends : ServesPlaces limits_of s.given (length s.given.quotas) (length (parts_of s)) → (first items jobs : List (Job (Task S K))) (n : ℕ) (old all : List (Named (Places X P Chats G))) (passes : List (Pass Element)) → n ≡ length first
+  pub lends : ServesPlaces limits_of s.given (length s.given.quotas) (length (parts_of s)) → (first items jobs : List (Job (ServerTask S K))) (n : ℕ) (old all : List (Named (Places X P Chats G))) (passes : List (Pass Element)) → n ≡ length first
       → AreNewTasks (length s.given.quotas) (parts_of s) (tasks_in first) → All (λ j. j.places.items ≡ []) first → tasks_in items ≡ tasks_in first → jobs ≡ items → old ≡ [] → all ≡ old ++ s ∷ []
       → AreHanded 0 (n - 1) (length old) passes (lent_to first) (lent_to items) → AreFresh number_of s.gate 0 passes → Lends s jobs n all
   lends serves first items jobs n old all passes counted tasks empty kept same none is handed fresh =
       let stays : tasks_in jobs ≡ tasks_in first = ap tasks_in same ∙ kept in
-      let count : length s.given.quotas ≡ n - 1 = omega (arith, counted, tasks.count, length-map first (λ (j : Job (Task S K)). j.task)) in
+      let count : length s.given.quotas ≡ n - 1 = omega (arith, counted, tasks.count, length-map first (λ (j : Job (ServerTask S K)). j.task)) in
       let many : length jobs ≡ (n - 1) + 1 =
-      omega (arith, counted, tasks.count, length-map first (λ (j : Job (Task S K)). j.task), ap length stays, length-map jobs (λ (j : Job (Task S K)). j.task)) in
+      omega (arith, counted, tasks.count, length-map first (λ (j : Job (ServerTask S K)). j.task), ap length stays, length-map jobs (λ (j : Job (ServerTask S K)). j.task)) in
       let none_yet = subst (λ (q : ℕ). AreHanded 0 (n - 1) q passes (lent_to first) (lent_to items)) (ap length none) handed in
-      let each = subst (λ (l : List (Job (Task S K))). AreHanded 0 (n - 1) 0 passes (lent_to first) (lent_to l)) (sym same) none_yet in
+      let each = subst (λ (l : List (Job (ServerTask S K))). AreHanded 0 (n - 1) 0 passes (lent_to first) (lent_to l)) (sym same) none_yet in
       let now = subst (AreNewTasks (length s.given.quotas) (parts_of s)) (sym stays) tasks in
       record {
         passes = count;
@@ -77,37 +77,37 @@ module _ {R : Type 0} (s : Named R) where
   is_it all t is at = at ∙ ap (λ l. slice_index_or l 0 t) is
 
 -- the jobs ran, and are again the vector that was lent
-pub record CameBack {X P S K : Type 0} {G : PartGhosts X P Chats} (Q : Ends S K → Ended S K → Type 0) (s : Named (Places X P Chats G)) (n : ℕ) (all : List (Named (Places X P Chats G))) (old back new : List (Job (Task S K))) : Type 0 where
+pub record CameBack {X P S K : Type 0} {G : PartGhosts X P Chats} (Q : Ends S K → EndedRing S K → Type 0) (s : Named (Places X P Chats G)) (n : ℕ) (all : List (Named (Places X P Chats G))) (old back new : List (Job (ServerTask S K))) : Type 0 where
   pub same : back ≡ new
   pub many : length new ≡ (n - 1) + 1
   pub as_many : length (tasks_in new) ≡ length (tasks_in old)
   pub ends : AreLent (MayEnd limits_of) 0 (n - 1) all (lent_to back)
-  pub did : (k : ℕ) (t u : Task S K) → slice_get (tasks_in old) k ≡ Some t → slice_get (tasks_in new) k ≡ Some u → HasDone Q t u
+  pub did : (k : ℕ) (t u : ServerTask S K) → slice_get (tasks_in old) k ≡ Some t → slice_get (tasks_in new) k ≡ Some u → HasDone Q t u
 
 module _ {X P S K : Type 0} {G : PartGhosts X P Chats} (s : Named (Places X P Chats G)) where
-  pub came_back : {jobs : List (Job (Task S K))} {n : ℕ} {all : List (Named (Places X P Chats G))} (Q : Ends S K → Ended S K → Type 0) (items new : List (Job (Task S K))) (m : ℕ) (t : Named (Places X P Chats G)) → Lends s jobs n all → jobs ≡ items → m ≡ length items → length new ≡ length jobs
-      → t ≡ slice_index_or all 0 t → ((k : ℕ) (d : Job (Task S K)) → k < length jobs → Ran limits_of t Q (slice_index_or jobs k d) (slice_index_or new k d))
+  pub came_back : {jobs : List (Job (ServerTask S K))} {n : ℕ} {all : List (Named (Places X P Chats G))} (Q : Ends S K → EndedRing S K → Type 0) (items new : List (Job (ServerTask S K))) (m : ℕ) (t : Named (Places X P Chats G)) → Lends s jobs n all → jobs ≡ items → m ≡ length items → length new ≡ length jobs
+      → t ≡ slice_index_or all 0 t → ((k : ℕ) (d : Job (ServerTask S K)) → k < length jobs → Ran limits_of t Q (slice_index_or jobs k d) (slice_index_or new k d))
       → CameBack Q s n all jobs (take m (new ++ drop (length new) items)) new
   came_back {jobs} {n} {all} Q items new m t l same long count at ran =
       let many : length new ≡ (n - 1) + 1 = omega (arith, l.many, count) in
       let back : take m (new ++ drop (length new) items) ≡ new = whole_back m items new (omega (arith, count, long, ap length same)) (sym long) in
-      let did = subst (λ (t : Named (Places X P Chats G)). (k : ℕ) (d : Job (Task S K)) → k < length jobs → Ran limits_of t Q (slice_index_or jobs k d) (slice_index_or new k d)) (is_it s all t l.single at) ran in
+      let did = subst (λ (t : Named (Places X P Chats G)). (k : ℕ) (d : Job (ServerTask S K)) → k < length jobs → Ran limits_of t Q (slice_index_or jobs k d) (slice_index_or new k d)) (is_it s all t l.single at) ran in
       let ends : AreLent (MayEnd limits_of) 0 (n - 1) (s ∷ []) (lent_to new) = done_lent s Q jobs new (sym count) did l.are (n - 1) l.passes many in
       record {
         same = back;
         many = many;
-        as_many = length-map new (λ (j : Job (Task S K)). j.task) ∙ (count ∙ sym (length-map jobs (λ (j : Job (Task S K)). j.task)));
+        as_many = length-map new (λ (j : Job (ServerTask S K)). j.task) ∙ (count ∙ sym (length-map jobs (λ (j : Job (ServerTask S K)). j.task)));
         ends = subst (λ (ss : List (Named (Places X P Chats G))). AreLent (MayEnd limits_of) 0 (n - 1) ss (lent_to (take m (new ++ drop (length new) items)))) (sym l.single)
-            (subst (λ (xs : List (Job (Task S K))). AreLent (MayEnd limits_of) 0 (n - 1) (s ∷ []) (lent_to xs)) (sym back) ends);
+            (subst (λ (xs : List (Job (ServerTask S K))). AreLent (MayEnd limits_of) 0 (n - 1) (s ∷ []) (lent_to xs)) (sym back) ends);
         did = tasks_done s Q jobs new (sym count) did;
       }
 
 -- the tasks of all are done
-pub are_done : {S K : Type 0} {Q : Ends S K → Ended S K → Type 0} (first olds news last : List (Task S K)) → olds ≡ first → last ≡ news → length news ≡ length olds
-    → ((k : ℕ) (t u : Task S K) → slice_get olds k ≡ Some t → slice_get news k ≡ Some u → HasDone Q t u) → AreDone Q first last
+pub are_done : {S K : Type 0} {Q : Ends S K → EndedRing S K → Type 0} (first olds news last : List (ServerTask S K)) → olds ≡ first → last ≡ news → length news ≡ length olds
+    → ((k : ℕ) (t u : ServerTask S K) → slice_get olds k ≡ Some t → slice_get news k ≡ Some u → HasDone Q t u) → AreDone Q first last
 are_done {S = S} {K = K} {Q = Q} first olds news last begun same n did =
     let all : AreDone Q olds news = record { many = n; each = did } in
-    subst (λ (ts : List (Task S K)). AreDone Q ts last) begun (subst (λ (ts : List (Task S K)). AreDone Q olds ts) (sym same) all)
+    subst (λ (ts : List (ServerTask S K)). AreDone Q ts last) begun (subst (λ (ts : List (ServerTask S K)). AreDone Q olds ts) (sym same) all)
 
 module _ {R P O : Type 0} (G : Ghosts R P O) (s : Named R) {count : ℕ} {all : List (Named R)} (left : List (Named R)) {t : Named R} {having without : ℕ → List (Option (Pass Element))} {r : R} {e : Ending} {trace : Traced}
     (is : all ≡ s ∷ []) (split : all ≡ left ++ t ∷ []) (come : HasCome G 0 count (length left) t having without r e trace) where

@@ -5,12 +5,12 @@ use Rattle.std.proofs.lemmas.List.{length-map, reverse-append}
 use Rattle.std.proofs.lemmas.Option.{slice_get_within}
 use Rattle.squeue_streams.specs.declared.streams.Stream.{Stream}
 use Rattle.live_chats.specs.Hearing.{ChatOf}
-use Rattle.live_chats.specs.declared.item.Item.{Item}
-use Rattle.live_rings.specs.declared.ending.Ended.{Ended}
+use Rattle.live_chats.specs.declared.item.ChatItem.{ChatItem}
+use Rattle.live_rings.specs.declared.ending.EndedRing.{EndedRing}
 use Rattle.live_rings.specs.declared.ending.Ends.{Ends}
 use Rattle.live_rings.specs.declared.ring.Ring.{Ring}
-use Rattle.live_rings.specs.declared.ring.Task.{Task}
-use Rattle.live_rings.specs.declared.ring.Task.TheVariants as Task'
+use Rattle.live_rings.specs.declared.ring.ServerTask.{ServerTask}
+use Rattle.live_rings.specs.declared.ring.ServerTask.TheVariants as Task'
 use Rattle.live_rings.specs.Groups.{AllBecame}
 use Rattle.live_rings.specs.Seating.{AreNewStays}
 use Rattle.live_rings.specs.Tasks.{AreNewRings, AreNewTasks, HasDone, IsNewTask, ended_of, tasks_for}
@@ -22,18 +22,18 @@ none_long [] n = refl
 none_long (x ∷ xs) n = absurd (omega (arith, n))
 
 module _ {S K : Type 0} where
-  pub as_many : (parts : List (Stream Item ChatOf)) (es : List (Ends S K)) (rs : List (Ring S K)) → AreNewRings parts es rs → length rs ≡ length es
+  pub as_many : (parts : List (Stream ChatItem ChatOf)) (es : List (Ends S K)) (rs : List (Ring S K)) → AreNewRings parts es rs → length rs ≡ length es
   as_many parts es rs are = sym (length-map rs (λ (r : Ring S K). r.ends)) ∙ ap length are.ends_are
 
-  serve_got : (rs : List (Ring S K)) (k : ℕ) (t : Task S K) → slice_get (map (λ r. Task'.Serve r) rs) k ≡ Some t → (r : Ring S K) × (slice_get rs k ≡ Some r) × (Task'.Serve r ≡ t)
+  serve_got : (rs : List (Ring S K)) (k : ℕ) (t : ServerTask S K) → slice_get (map (λ r. Task'.Serve r) rs) k ≡ Some t → (r : Ring S K) × (slice_get rs k ≡ Some r) × (Task'.Serve r ≡ t)
   serve_got [] k t is = cc is
   serve_got (r ∷ rs) zero t is = let same : Task'.Serve r ≡ t = cc is in (r, refl, same)
   serve_got (r ∷ rs) (suc k) t is = serve_got rs k t is
 
   -- the rings have their tasks
-  pub are_tasks : (n : ℕ) (parts : List (Stream Item ChatOf)) (es : List (Ends S K)) (rs : List (Ring S K)) → n ≡ length es → AreNewRings parts es rs → AreNewTasks n parts (tasks_for rs)
+  pub are_tasks : (n : ℕ) (parts : List (Stream ChatItem ChatOf)) (es : List (Ends S K)) (rs : List (Ring S K)) → n ≡ length es → AreNewRings parts es rs → AreNewTasks n parts (tasks_for rs)
   are_tasks n parts es rs counted are =
-      let front : List (Task S K) = map (λ r. Task'.Serve r) rs in
+      let front : List (ServerTask S K) = map (λ r. Task'.Serve r) rs in
       let many : length front ≡ n = length-map rs (λ (r : Ring S K). Task'.Serve r) ∙ (as_many parts es rs are ∙ sym counted) in
       record {
         count = omega (arith, length-append front (Task'.Work ∷ []), many);
@@ -46,23 +46,23 @@ module _ {S K : Type 0} where
         ];
       }
 
-  pub one_at_most : (t : Task S K) → length (ended_of (t ∷ [])) ≤ 1
+  pub one_at_most : (t : ServerTask S K) → length (ended_of (t ∷ [])) ≤ 1
   one_at_most (Task'.Serve ring) = omega arith
   one_at_most (Task'.Served ended) = omega arith
   one_at_most Task'.Work = omega arith
 
   -- what is left of one task more
-  pub ended_left : (t : Task S K) (ts : List (Task S K)) (old new : List (Ended S K)) → new ≡ old ++ ended_of (t ∷ []) → ended_of ts ≡ reverse old → ended_of (t ∷ ts) ≡ reverse new
+  pub ended_left : (t : ServerTask S K) (ts : List (ServerTask S K)) (old new : List (EndedRing S K)) → new ≡ old ++ ended_of (t ∷ []) → ended_of ts ≡ reverse old → ended_of (t ∷ ts) ≡ reverse new
   ended_left (Task'.Serve ring) ts old new is left = left ∙ ap reverse (sym (append-nil old) ∙ sym is)
-  ended_left (Task'.Served ended) ts old new is left = ap (λ (l : List (Ended S K)). ended ∷ l) left ∙ (sym (reverse-append old (ended ∷ [])) ∙ ap reverse (sym is))
+  ended_left (Task'.Served ended) ts old new is left = ap (λ (l : List (EndedRing S K)). ended ∷ l) left ∙ (sym (reverse-append old (ended ∷ [])) ∙ ap reverse (sym is))
   ended_left Task'.Work ts old new is left = left ∙ ap reverse (sym (append-nil old) ∙ sym is)
 
-  module _ (P : Ends S K → Ended S K → Type 0) where
-    abbrev DidEach : List (Task S K) → List (Task S K) → Type 0
-    DidEach olds news = (k : ℕ) (t u : Task S K) → slice_get olds k ≡ Some t → slice_get news k ≡ Some u → HasDone P t u
+  module _ (P : Ends S K → EndedRing S K → Type 0) where
+    abbrev DidEach : List (ServerTask S K) → List (ServerTask S K) → Type 0
+    DidEach olds news = (k : ℕ) (t u : ServerTask S K) → slice_get olds k ≡ Some t → slice_get news k ≡ Some u → HasDone P t u
 
     -- when all are done this is left of each stream
-    pub all_ended : (rs : List (Ring S K)) (news : List (Task S K)) → length news ≡ length (tasks_for rs) → DidEach (tasks_for rs) news → AllBecame P (map (λ r. r.ends) rs) (ended_of news)
+    pub all_ended : (rs : List (Ring S K)) (news : List (ServerTask S K)) → length news ≡ length (tasks_for rs) → DidEach (tasks_for rs) news → AllBecame P (map (λ r. r.ends) rs) (ended_of news)
     all_ended [] [] n did = absurd (omega (arith, n))
     all_ended [] (u ∷ v ∷ us) n did = absurd (omega (arith, n))
     all_ended [] (Task'.Work ∷ []) n did = tt

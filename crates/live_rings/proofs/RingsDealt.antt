@@ -6,7 +6,7 @@ use Rattle.squeue_streams.specs.declared.streams.Stream.{Stream}
 use Rattle.stream_stays.specs.declared.place.Place.{Place}
 use Rattle.stream_stays.specs.declared.place.Stays.{Stays}
 use Rattle.live_chats.specs.Hearing.{ChatOf}
-use Rattle.live_chats.specs.declared.item.Item.{Item}
+use Rattle.live_chats.specs.declared.item.ChatItem.{ChatItem}
 use Rattle.live_rings.specs.declared.ending.Ends.{Ends}
 use Rattle.live_rings.specs.declared.ring.Ring.{Ring}
 use Rattle.live_rings.specs.Seating.{AreNewPlaces, AreNewStays, AreOwnStays}
@@ -14,7 +14,7 @@ use Rattle.live_rings.specs.Tasks.{AreNewRings}
 use Rattle.live_rings.proofs.Seated.{get_more}
 
 -- a ring's own of those that are left are its own of all
-own_of_all : (rings ring : ℕ) (all left : List (Place Item ChatOf)) (stays : Stays Item ChatOf) → ((c : ℕ) → ring ≤ c % rings → slice_get left c ≡ slice_get all c) → length left ≡ length all → AreOwnStays rings ring left stays → AreOwnStays rings ring all stays
+own_of_all : (rings ring : ℕ) (all left : List (Place ChatItem ChatOf)) (stays : Stays ChatItem ChatOf) → ((c : ℕ) → ring ≤ c % rings → slice_get left c ≡ slice_get all c) → length left ≡ length all → AreOwnStays rings ring left stays → AreOwnStays rings ring all stays
 own_of_all rings ring all left stays same count is =
     record {
       own = record {
@@ -27,7 +27,7 @@ own_of_all rings ring all left stays same count is =
     }
 
 -- and where all are new, so are its own
-new_of_own : (rings ring : ℕ) (parts : List (Stream Item ChatOf)) (all : List (Place Item ChatOf)) (stays : Stays Item ChatOf) → AreNewPlaces parts all → AreOwnStays rings ring all stays → AreNewStays rings ring parts stays
+new_of_own : (rings ring : ℕ) (parts : List (Stream ChatItem ChatOf)) (all : List (Place ChatItem ChatOf)) (stays : Stays ChatItem ChatOf) → AreNewPlaces parts all → AreOwnStays rings ring all stays → AreNewStays rings ring parts stays
 new_of_own rings ring parts all stays new is =
     record {
       count = is.own.many ∙ new.many;
@@ -39,7 +39,7 @@ new_of_own rings ring parts all stays new is =
 
 module _ {S K : Type 0} where
   -- the first so many rings have their places, and the others' places and ends are left
-  pub record IsDealt (rings n : ℕ) (all left : List (Place Item ChatOf)) (first ends : List (Ends S K)) (made : List (Ring S K)) : Type 0 where
+  pub record IsDealt (rings n : ℕ) (all left : List (Place ChatItem ChatOf)) (first ends : List (Ends S K)) (made : List (Ring S K)) : Type 0 where
     pub many : length made ≡ n
     pub ends_are : first ≡ map (λ r. r.ends) made ++ reverse ends
     pub each : (k : ℕ) (r : Ring S K) → slice_get made k ≡ Some r → AreOwnStays rings k all r.stays
@@ -49,17 +49,17 @@ module _ {S K : Type 0} where
   no_ring : (k : ℕ) (r : Ring S K) → slice_get {X = Ring S K} [] k ≡ Some r → ⊥
   no_ring k r is = cc is
 
-  pub none_dealt : (rings : ℕ) (all left : List (Place Item ChatOf)) (first ends : List (Ends S K)) (made : List (Ring S K)) → left ≡ all → ends ≡ reverse first → made ≡ [] → IsDealt rings 0 all left first ends made
+  pub none_dealt : (rings : ℕ) (all left : List (Place ChatItem ChatOf)) (first ends : List (Ends S K)) (made : List (Ring S K)) → left ≡ all → ends ≡ reverse first → made ≡ [] → IsDealt rings 0 all left first ends made
   none_dealt rings all left first ends made same turned none =
       record {
         many = ap length none;
         ends_are = sym (ap (λ (m : List (Ring S K)). map (λ r. r.ends) m ++ reverse ends) none ∙ (ap reverse turned ∙ reverse-reverse first));
         each = λ k r at. absurd (no_ring k r (ap (λ (l : List (Ring S K)). slice_get l k) (sym none) ∙ at));
-        left_of = λ c le. ap (λ (l : List (Place Item ChatOf)). slice_get l c) same;
+        left_of = λ c le. ap (λ (l : List (Place ChatItem ChatOf)). slice_get l c) same;
         count = ap length same;
       }
 
-  pub one_dealt : (rings n : ℕ) (all left next : List (Place Item ChatOf)) (first ends more : List (Ends S K)) (made news : List (Ring S K)) (e : Ends S K) (r : Ring S K) → IsDealt rings n all left first ends made
+  pub one_dealt : (rings n : ℕ) (all left next : List (Place ChatItem ChatOf)) (first ends more : List (Ends S K)) (made news : List (Ring S K)) (e : Ends S K) (r : Ring S K) → IsDealt rings n all left first ends made
       → ends ≡ more ++ e ∷ [] → r.ends ≡ e → news ≡ made ++ r ∷ [] → AreOwnStays rings n left r.stays → ((c : ℕ) → c % rings ≢ n → slice_get next c ≡ slice_get left c) → length next ≡ length left
       → IsDealt rings (n + 1) all next first more news
   one_dealt rings n all left next first ends more made news e r was split its_ends is own others count =
@@ -79,7 +79,7 @@ module _ {S K : Type 0} where
       }
 
   -- all rings have their places
-  pub all_dealt : (rings n : ℕ) (all left : List (Place Item ChatOf)) (first ends : List (Ends S K)) (made : List (Ring S K)) (parts : List (Stream Item ChatOf)) → IsDealt rings n all left first ends made → ends ≡ [] → rings ≡ length first → AreNewPlaces parts all
+  pub all_dealt : (rings n : ℕ) (all left : List (Place ChatItem ChatOf)) (first ends : List (Ends S K)) (made : List (Ring S K)) (parts : List (Stream ChatItem ChatOf)) → IsDealt rings n all left first ends made → ends ≡ [] → rings ≡ length first → AreNewPlaces parts all
       → AreNewRings parts first made
   all_dealt rings n all left first ends made parts is none counted new =
       record {

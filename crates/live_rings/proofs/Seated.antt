@@ -23,7 +23,7 @@ use Rattle.squeue_streams.specs.Taking.{count_of, input_of, most_feeds, most_lea
 use Rattle.stream_stays.specs.declared.place.Place.{Place}
 use Rattle.stream_stays.specs.declared.place.Place.TheVariants.{Vacant}
 use Rattle.live_chats.specs.Hearing.{ChatOf, nobody}
-use Rattle.live_chats.specs.declared.item.Item.{Item}
+use Rattle.live_chats.specs.declared.item.ChatItem.{ChatItem}
 use Rattle.live_rings.specs.Seating.{AreNewPairs, IsNewPair, IsNewPlace, ServesPlaces, lives_of, one_life}
 
 pub long : {A : Type 0} (n : ℕ) (x : A) → length (replicate n x) ≡ n
@@ -121,7 +121,7 @@ get_more (z ∷ xs) x y zero is = inl is
 get_more (z ∷ xs) x y (suc c) is = elim (get_more xs x y c is) [ inl a ↦ inl a | inr b ↦ inr (ap suc b.0, b.1) ]
 
 -- one pair more
-pub pairs_more : (n : ℕ) (ps : List (Producer Item Global AnyItems)) (ss : List (Stream Item ChatOf)) (p : Producer Item Global AnyItems) (s : Stream Item ChatOf)
+pub pairs_more : (n : ℕ) (ps : List (Producer ChatItem Global AnyItems)) (ss : List (Stream ChatItem ChatOf)) (p : Producer ChatItem Global AnyItems) (s : Stream ChatItem ChatOf)
     → AreNewPairs n ps ss → IsNewPair p s → AreNewPairs (n + 1) (ps ++ p ∷ []) (ss ++ s ∷ [])
 pairs_more n ps ss p s are new =
     record {
@@ -133,43 +133,43 @@ pairs_more n ps ss p s are new =
         ]
         | inr last ↦ elim (get_more ss s t c at_s) [
           | inl too ↦ absurd (omega (arith, slice_get_within ss c t too, last.0, are.many.0, are.many.1))
-          | inr both ↦ subst (λ (x : Producer Item Global AnyItems). IsNewPair x t) last.1 (subst (λ (x : Stream Item ChatOf). IsNewPair p x) both.1 new)
+          | inr both ↦ subst (λ (x : Producer ChatItem Global AnyItems). IsNewPair x t) last.1 (subst (λ (x : Stream ChatItem ChatOf). IsNewPair p x) both.1 new)
         ]
       ];
     }
 
-pub no_pairs : (ps : List (Producer Item Global AnyItems)) (ss : List (Stream Item ChatOf)) → ps ≡ [] → ss ≡ [] → AreNewPairs 0 ps ss
+pub no_pairs : (ps : List (Producer ChatItem Global AnyItems)) (ss : List (Stream ChatItem ChatOf)) → ps ≡ [] → ss ≡ [] → AreNewPairs 0 ps ss
 no_pairs ps ss p s =
     record {
       many = (ap length p, ap length s);
-      each = λ c q t at_p at_s. (let none : slice_get {X = Producer Item Global AnyItems} [] c ≡ Some q = ap (λ (l : List (Producer Item Global AnyItems)). slice_get l c) (sym p) ∙ at_p in absurd (nothing c q none));
+      each = λ c q t at_p at_s. (let none : slice_get {X = Producer ChatItem Global AnyItems} [] c ≡ Some q = ap (λ (l : List (Producer ChatItem Global AnyItems)). slice_get l c) (sym p) ∙ at_p in absurd (nothing c q none));
     }
   where
-    nothing : (c : ℕ) (q : Producer Item Global AnyItems) → slice_get {X = Producer Item Global AnyItems} [] c ≡ Some q → ⊥
+    nothing : (c : ℕ) (q : Producer ChatItem Global AnyItems) → slice_get {X = Producer ChatItem Global AnyItems} [] c ≡ Some q → ⊥
     nothing c q is = cc is
 
-pub new_pair : (p : Producer Item Global AnyItems) (input : Consumer Item Global AnyItems) (s : Stream Item ChatOf) → IsPair p input → sent p ≡ [] → received input ≡ [] → input_of s ≡ input → count_of s ≡ 0 → state_of s ≡ nobody → IsNewPair p s
+pub new_pair : (p : Producer ChatItem Global AnyItems) (input : Consumer ChatItem Global AnyItems) (s : Stream ChatItem ChatOf) → IsPair p input → sent p ≡ [] → received input ≡ [] → input_of s ≡ input → count_of s ≡ 0 → state_of s ≡ nobody → IsNewPair p s
 new_pair p input s pair unsent none is count first =
     record {
-      pair = subst (λ (i : Consumer Item Global AnyItems). IsPair p i) (sym is) pair;
+      pair = subst (λ (i : Consumer ChatItem Global AnyItems). IsPair p i) (sym is) pair;
       unsent = unsent;
-      none = ap (λ (i : Consumer Item Global AnyItems). received i) is ∙ none;
+      none = ap (λ (i : Consumer ChatItem Global AnyItems). received i) is ∙ none;
       uncounted = count;
       nobody_is = first;
     }
 
-module _ (ss : List (Stream Item ChatOf)) where
-  abbrev pub EachNew : List (Place Item ChatOf) → Type 0
-  EachNew places = (k : ℕ) (place : Place Item ChatOf) → slice_get places k ≡ Some place → IsNewPlace ss k place
+module _ (ss : List (Stream ChatItem ChatOf)) where
+  abbrev pub EachNew : List (Place ChatItem ChatOf) → Type 0
+  EachNew places = (k : ℕ) (place : Place ChatItem ChatOf) → slice_get places k ≡ Some place → IsNewPlace ss k place
 
-  pub none_new : (places : List (Place Item ChatOf)) → places ≡ [] → EachNew places
-  none_new places none = λ k place at. absurd (nothing k place (ap (λ (l : List (Place Item ChatOf)). slice_get l k) (sym none) ∙ at))
+  pub none_new : (places : List (Place ChatItem ChatOf)) → places ≡ [] → EachNew places
+  none_new places none = λ k place at. absurd (nothing k place (ap (λ (l : List (Place ChatItem ChatOf)). slice_get l k) (sym none) ∙ at))
     where
-      nothing : (k : ℕ) (place : Place Item ChatOf) → slice_get {X = Place Item ChatOf} [] k ≡ Some place → ⊥
+      nothing : (k : ℕ) (place : Place ChatItem ChatOf) → slice_get {X = Place ChatItem ChatOf} [] k ≡ Some place → ⊥
       nothing k place is = cc is
 
   -- one place more
-  pub new_more : (c : ℕ) (places : List (Place Item ChatOf)) (p : Producer Item Global AnyItems) (s : Stream Item ChatOf) → length places ≡ c → EachNew places → slice_get ss c ≡ Some s → IsNewPair p s
+  pub new_more : (c : ℕ) (places : List (Place ChatItem ChatOf)) (p : Producer ChatItem Global AnyItems) (s : Stream ChatItem ChatOf) → length places ≡ c → EachNew places → slice_get ss c ≡ Some s → IsNewPair p s
       → EachNew (places ++ Vacant (record { producer = p; part = s; stream = c; leaves = most_leaves }) ∷ [])
   new_more c places p s many each at_s pair = λ k place at. elim (get_more places (Vacant (record { producer = p; part = s; stream = c; leaves = most_leaves })) place k at) [
     | inl there ↦ each k place there

@@ -2,13 +2,13 @@
 use Rattle.std.specs.Prelude.{◌≤◌, []}
 use Rattle.live_server.specs.Serving.{ServerOf}
 use Rattle.live_server.specs.Counting.{no_counts}
-use Rattle.live_rings.specs.declared.words.Setup.{Setup}
+use Rattle.live_rings.specs.declared.words.Layout.{Layout}
 
 -- a server of a stream to which nothing came
-abbrev pub server_of : Setup → ServerOf
+abbrev pub server_of : Layout → ServerOf
 server_of s = record { conns = []; waiting = []; held = 0; setting = s.setting; secret = s.secret.0; counts = no_counts }
 
 -- there are squeues, and an owner processes something
-pub record IsInRange (s : Setup) : Type 0 where
+pub record IsInRange (s : Layout) : Type 0 where
   pub squeues : 1 ≤ s.squeues
   pub budget : 1 ≤ s.budget

@@ -4,8 +4,8 @@ use Rattle.std.specs.Str.{bytes_eq}
 use Rattle.live_server.specs.declared.initial.Secret.{Secret}
 use Rattle.live_run.specs.declared.fault.Fault.{Fault}
 use Rattle.shell.specs.Table.{Text}
-use Rattle.live_rings.specs.declared.words.Setup.{Setup}
-use Rattle.live_rings.specs.declared.words.Words.{Words}
+use Rattle.live_rings.specs.declared.words.Layout.{Layout}
+use Rattle.live_rings.specs.declared.words.RingWords.{RingWords}
 
 -- several rings are asked for
 abbrev pub are_for_rings : List Text → Bool
@@ -13,9 +13,16 @@ are_for_rings [] = false
 are_for_rings (w ∷ ws) = bytes_eq w (codes "--rings")
 
 -- a run that is set up as asked for, with this secret; it goes on where memory is missing, unless its secret was given
-abbrev pub setup_by : Words → Secret → Setup
-setup_by w secret = record { rings = w.rings; squeues = w.squeues; mode = w.mode; budget = w.budget; setting = w.setting; secret = secret;
-    goes_on = is_none w.secret }
+abbrev pub setup_by : RingWords → Secret → Layout
+setup_by w secret = record {
+  rings = w.rings;
+  squeues = w.squeues;
+  mode = w.mode;
+  budget = w.budget;
+  setting = w.setting;
+  secret = secret;
+  goes_on = is_none w.secret;
+}
 
 -- the fault of the first stream that has one
 abbrev pub first_fault : List (Option Fault) → Option Fault

@@ -14,7 +14,7 @@ use Rattle.stream_stays.specs.declared.place.Place.TheVariants.{Out, Vacant}
 use Rattle.stream_stays.specs.declared.place.Stays.{Stays}
 use Rattle.stream_stays.specs.Places.{chain_of, life_of, places_of, touched_of}
 use Rattle.live_chats.specs.Hearing.{ChatOf, nobody}
-use Rattle.live_chats.specs.declared.item.Item.{Item}
+use Rattle.live_chats.specs.declared.item.ChatItem.{ChatItem}
 
 -- so much a ring's pass may enter and ask in its life
 abbrev pub one_life : ℕ × ℕ
@@ -29,7 +29,7 @@ numbers_of rings ring zero = []
 numbers_of rings ring (suc n) = numbers_of rings ring n ++ (ring + n * rings) ∷ []
 
 -- the two ends of one ring, into which nothing was pushed; and nobody is in the chat
-pub record IsNewPair (producer : Producer Item Global AnyItems) (part : Stream Item ChatOf) : Type 0 where
+pub record IsNewPair (producer : Producer ChatItem Global AnyItems) (part : Stream ChatItem ChatOf) : Type 0 where
   pub pair : IsPair producer (input_of part)
   pub unsent : sent producer ≡ []
   pub none : received (input_of part) ≡ []
@@ -37,40 +37,40 @@ pub record IsNewPair (producer : Producer Item Global AnyItems) (part : Stream I
   pub nobody_is : state_of part ≡ nobody
 
 -- there are so many of each, and those of one number are a pair
-pub record AreNewPairs (count : ℕ) (producers : List (Producer Item Global AnyItems)) (parts : List (Stream Item ChatOf)) : Type 0 where
+pub record AreNewPairs (count : ℕ) (producers : List (Producer ChatItem Global AnyItems)) (parts : List (Stream ChatItem ChatOf)) : Type 0 where
   pub many : (length producers ≡ count) × (length parts ≡ count)
-  pub each : (c : ℕ) (producer : Producer Item Global AnyItems) (part : Stream Item ChatOf) → slice_get producers c ≡ Some producer
+  pub each : (c : ℕ) (producer : Producer ChatItem Global AnyItems) (part : Stream ChatItem ChatOf) → slice_get producers c ≡ Some producer
       → slice_get parts c ≡ Some part → IsNewPair producer part
 
 -- Nobody was ever at this place: the part of its number lies at it, and the other end of that part's ring. It may be left so often
-pub record IsNewPlace (parts : List (Stream Item ChatOf)) (c : ℕ) (place : Place Item ChatOf) : Type 0 where
-  pub producer : Producer Item Global AnyItems
-  pub part : Stream Item ChatOf
+pub record IsNewPlace (parts : List (Stream ChatItem ChatOf)) (c : ℕ) (place : Place ChatItem ChatOf) : Type 0 where
+  pub producer : Producer ChatItem Global AnyItems
+  pub part : Stream ChatItem ChatOf
   pub its_part : slice_get parts c ≡ Some part
   pub new : IsNewPair producer part
   pub place_is : place ≡ Vacant (record { producer = producer; part = part; stream = c; leaves = most_leaves })
 
-pub record AreNewPlaces (parts : List (Stream Item ChatOf)) (places : List (Place Item ChatOf)) : Type 0 where
+pub record AreNewPlaces (parts : List (Stream ChatItem ChatOf)) (places : List (Place ChatItem ChatOf)) : Type 0 where
   pub many : length places ≡ length parts
-  pub each : (c : ℕ) (place : Place Item ChatOf) → slice_get places c ≡ Some place → IsNewPlace parts c place
+  pub each : (c : ℕ) (place : Place ChatItem ChatOf) → slice_get places c ≡ Some place → IsNewPlace parts c place
 
 -- Of these places each that is the ring's is here, at its number, and the others are out. Place c is that of ring c modulo rings
-pub record AreOwnPlaces (rings ring : ℕ) (all own : List (Place Item ChatOf)) : Type 0 where
+pub record AreOwnPlaces (rings ring : ℕ) (all own : List (Place ChatItem ChatOf)) : Type 0 where
   pub many : length own ≡ length all
-  pub here : (c : ℕ) (place : Place Item ChatOf) → slice_get own c ≡ Some place → c % rings ≡ ring → slice_get all c ≡ Some place
-  pub others : (c : ℕ) (place : Place Item ChatOf) → slice_get own c ≡ Some place → c % rings ≢ ring → place ≡ Out
+  pub here : (c : ℕ) (place : Place ChatItem ChatOf) → slice_get own c ≡ Some place → c % rings ≡ ring → slice_get all c ≡ Some place
+  pub others : (c : ℕ) (place : Place ChatItem ChatOf) → slice_get own c ≡ Some place → c % rings ≢ ring → place ≡ Out
 
 -- a ring's pass begins with its own of these places and a whole life, and nothing was pushed
-pub record AreOwnStays (rings ring : ℕ) (all : List (Place Item ChatOf)) (stays : Stays Item ChatOf) : Type 0 where
+pub record AreOwnStays (rings ring : ℕ) (all : List (Place ChatItem ChatOf)) (stays : Stays ChatItem ChatOf) : Type 0 where
   pub own : AreOwnPlaces rings ring all (places_of stays)
   pub life : ((life_of stays).feeds ≡ one_life.0) × ((life_of stays).asks ≡ one_life.1)
   pub none : (chain_of stays ≡ []) × (touched_of stays ≡ [])
 
 -- the same of places with these parts, where nobody was ever
-pub record AreNewStays (rings ring : ℕ) (parts : List (Stream Item ChatOf)) (stays : Stays Item ChatOf) : Type 0 where
+pub record AreNewStays (rings ring : ℕ) (parts : List (Stream ChatItem ChatOf)) (stays : Stays ChatItem ChatOf) : Type 0 where
   pub count : length (places_of stays) ≡ length parts
-  pub own : (c : ℕ) (place : Place Item ChatOf) → slice_get (places_of stays) c ≡ Some place → c % rings ≡ ring → IsNewPlace parts c place
-  pub others : (c : ℕ) (place : Place Item ChatOf) → slice_get (places_of stays) c ≡ Some place → c % rings ≢ ring → place ≡ Out
+  pub own : (c : ℕ) (place : Place ChatItem ChatOf) → slice_get (places_of stays) c ≡ Some place → c % rings ≡ ring → IsNewPlace parts c place
+  pub others : (c : ℕ) (place : Place ChatItem ChatOf) → slice_get (places_of stays) c ≡ Some place → c % rings ≢ ring → place ≡ Out
   pub life : ((life_of stays).feeds ≡ one_life.0) × ((life_of stays).asks ≡ one_life.1)
   pub none : (chain_of stays ≡ []) × (touched_of stays ≡ [])
 

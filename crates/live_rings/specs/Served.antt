@@ -7,8 +7,8 @@ use Rattle.live_run.specs.Fronts.{AppendsFront}
 use Rattle.live_run.specs.declared.fault.Fault.{Fault}
 use Rattle.live_run.specs.declared.fault.Fault.TheVariants as Fault'
 use Rattle.live_rings.specs.declared.ending.Ends.{Ends}
-use Rattle.live_rings.specs.declared.ending.Ended.{Ended}
-use Rattle.live_rings.specs.declared.words.Setup.{Setup}
+use Rattle.live_rings.specs.declared.ending.EndedRing.{EndedRing}
+use Rattle.live_rings.specs.declared.words.Layout.{Layout}
 use Rattle.live_rings.specs.Making.{server_of}
 use Rattle.live_rings.specs.Groups.{AllBecame}
 
@@ -20,7 +20,7 @@ fault_of (Err fault) = Some fault
 module _ {S K : Type 0} (rest : S → Option (List ℕ)) (reads : S → ℕ) (contents : K → Option (List ℕ)) (faults : K → ℕ) where
   -- A stream was read here and written there, by a server that was set up so. Where nothing of a connection was lost for want of memory, the
   -- sink got what this server answers, or where it failed a front of that. Nothing is lost where the run doesn't go on
-  pub record HasServed (setup : Setup) (reader : S) (sink : K) (reader' : S) (sink' : K) (lost : Bool) (result : Result (Unit {0}) Fault) : Type 0 where
+  pub record HasServed (setup : Layout) (reader : S) (sink : K) (reader' : S) (sink' : K) (lost : Bool) (result : Result (Unit {0}) Fault) : Type 0 where
     pub written : OnOk result (lost ≡ false → IfSome (rest reader) (λ input. Appends (contents sink) (contents sink') (answers input (server_of setup))))
     pub whole : OnOk result (IfSome (rest reader) (λ input. rest_of input ≡ []))
     pub front : lost ≡ false → IfSome (rest reader) (λ input. AppendsFront (contents sink) (contents sink') (answers input (server_of setup)))
@@ -34,7 +34,7 @@ module _ {S K : Type 0} (rest : S → Option (List ℕ)) (reads : S → ℕ) (co
   -- sink got what one server answers to them; in any case the sink got a front of that. What went wrong has its cause: a read failed there,
   -- or a write, or its input isn't whole frames. Memory may be missing at any time; where the run goes on, that may cost a connection, and
   -- then nothing is known of what the sink got
-  pub record HasEnded (setup : Setup) (e : Ends S K) (d : Ended S K) : Type 0 where
+  pub record HasEnded (setup : Layout) (e : Ends S K) (d : EndedRing S K) : Type 0 where
     pub well : d.fault ≡ None → d.lost ≡ false → IfSome (rest e.reader) (λ input. Appends (contents e.sink) (contents d.sink) (answers input (server_of setup)))
     pub whole : d.fault ≡ None → IfSome (rest e.reader) (λ input. rest_of input ≡ [])
     pub front : d.lost ≡ false → IfSome (rest e.reader) (λ input. AppendsFront (contents e.sink) (contents d.sink) (answers input (server_of setup)))
@@ -45,5 +45,5 @@ module _ {S K : Type 0} (rest : S → Option (List ℕ)) (reads : S → ℕ) (co
     pub others : d.fault ≢ Some Fault'.Words
 
   -- so it is of each stream, by number
-  abbrev pub AllEnded : Setup → List (Ends S K) → List (Ended S K) → Type 0
+  abbrev pub AllEnded : Layout → List (Ends S K) → List (EndedRing S K) → Type 0
   AllEnded setup = AllBecame (HasEnded setup)

@@ -15,48 +15,48 @@ use Rattle.stream_stays.specs.Places.{Knows, chain_of, touched_of}
 use Rattle.live_chats.specs.Hearing.{ChatOf}
 use Rattle.live_chats.specs.Telling.{IsFirst, Tells}
 use Rattle.live_chats.specs.declared.chats.Chats.{Chats}
-use Rattle.live_chats.specs.declared.item.Item.{Item}
-use Rattle.live_rings.specs.declared.ending.Ended.{Ended}
+use Rattle.live_chats.specs.declared.item.ChatItem.{ChatItem}
+use Rattle.live_rings.specs.declared.ending.EndedRing.{EndedRing}
 use Rattle.live_rings.specs.declared.ending.Ends.{Ends}
 use Rattle.live_rings.specs.declared.ring.Ring.{Ring}
-use Rattle.live_rings.specs.declared.ring.Task.{Task}
-use Rattle.live_rings.specs.declared.ring.Task.TheVariants as Task'
+use Rattle.live_rings.specs.declared.ring.ServerTask.{ServerTask}
+use Rattle.live_rings.specs.declared.ring.ServerTask.TheVariants as Task'
 use Rattle.live_rings.specs.Seating.{AreNewStays}
 
 module _ {S K : Type 0} where
   -- ring k of so many has its own of the places with these parts, where nobody was ever
-  abbrev pub IsNewRing : ℕ → List (Stream Item ChatOf) → ℕ → Ring S K → Type 0
+  abbrev pub IsNewRing : ℕ → List (Stream ChatItem ChatOf) → ℕ → Ring S K → Type 0
   IsNewRing rings parts k ring = AreNewStays rings k parts ring.stays
 
   -- there is one for each of these ends, by number
-  pub record AreNewRings (parts : List (Stream Item ChatOf)) (ends : List (Ends S K)) (rings : List (Ring S K)) : Type 0 where
+  pub record AreNewRings (parts : List (Stream ChatItem ChatOf)) (ends : List (Ends S K)) (rings : List (Ring S K)) : Type 0 where
     pub ends_are : map (λ r. r.ends) rings ≡ ends
     pub each : (k : ℕ) (ring : Ring S K) → slice_get rings k ≡ Some ring → IsNewRing (length ends) parts k ring
 
   -- there is a task for each pass, by number: a new ring's of each stream, and then that of the worker
-  abbrev pub IsNewTask : ℕ → List (Stream Item ChatOf) → ℕ → Task S K → Type 0
+  abbrev pub IsNewTask : ℕ → List (Stream ChatItem ChatOf) → ℕ → ServerTask S K → Type 0
   IsNewTask rings parts c (Task'.Serve ring) = (c < rings) × IsNewRing rings parts c ring
   IsNewTask rings parts c (Task'.Served ended) = ⊥
   IsNewTask rings parts c Task'.Work = c ≡ rings
 
-  pub record AreNewTasks (rings : ℕ) (parts : List (Stream Item ChatOf)) (tasks : List (Task S K)) : Type 0 where
+  pub record AreNewTasks (rings : ℕ) (parts : List (Stream ChatItem ChatOf)) (tasks : List (ServerTask S K)) : Type 0 where
     pub count : length tasks ≡ rings + 1
-    pub each : (c : ℕ) (t : Task S K) → slice_get tasks c ≡ Some t → IsNewTask rings parts c t
+    pub each : (c : ℕ) (t : ServerTask S K) → slice_get tasks c ≡ Some t → IsNewTask rings parts c t
 
   -- the tasks of rings, and behind them the worker's
-  abbrev pub tasks_for : List (Ring S K) → List (Task S K)
+  abbrev pub tasks_for : List (Ring S K) → List (ServerTask S K)
   tasks_for rings = map (λ r. Task'.Serve r) rings ++ Task'.Work ∷ []
 
   -- what is left of the streams of some tasks
-  abbrev pub ended_of : List (Task S K) → List (Ended S K)
+  abbrev pub ended_of : List (ServerTask S K) → List (EndedRing S K)
   ended_of [] = []
   ended_of (Task'.Serve ring ∷ ts) = ended_of ts
   ended_of (Task'.Served ended ∷ ts) = ended ∷ ended_of ts
   ended_of (Task'.Work ∷ ts) = ended_of ts
 
-  module _ (P : Ends S K → Ended S K → Type 0) where
+  module _ (P : Ends S K → EndedRing S K → Type 0) where
     -- a task is done
-    abbrev pub HasDone : Task S K → Task S K → Type 0
+    abbrev pub HasDone : ServerTask S K → ServerTask S K → Type 0
     HasDone (Task'.Serve ring) (Task'.Serve new) = ⊥
     HasDone (Task'.Serve ring) (Task'.Served ended) = P ring.ends ended
     HasDone (Task'.Serve ring) Task'.Work = ⊥
@@ -66,9 +66,9 @@ module _ {S K : Type 0} where
     HasDone Task'.Work Task'.Work = Unit {0}
 
     -- all of them are
-    pub record AreDone (olds news : List (Task S K)) : Type 0 where
+    pub record AreDone (olds news : List (ServerTask S K)) : Type 0 where
       pub many : length news ≡ length olds
-      pub each : (k : ℕ) (t u : Task S K) → slice_get olds k ≡ Some t → slice_get news k ≡ Some u → HasDone t u
+      pub each : (k : ℕ) (t u : ServerTask S K) → slice_get olds k ≡ Some t → slice_get news k ≡ Some u → HasDone t u
 
 -- the pass that lies in one place, where there is no other
 abbrev pub pass_in : List (Option (Pass Element)) → Option (Pass Element)
@@ -82,17 +82,17 @@ module _ {R P : Type 0} {G : Ghosts R P Chats} (s : Named (Places R P Chats G)) 
   MayServe p ring = Knows IsFirst Tells limits_of s (origin_of s.given.first) p ring.stays × (chain_of ring.stays ≡ []) × (touched_of ring.stays ≡ [])
 
   -- what a task needs of its pass: a ring's knows the ring's places, and the other one is the worker's
-  abbrev pub MayRun : {S K : Type 0} → Task S K → Pass Element → Type 0
+  abbrev pub MayRun : {S K : Type 0} → ServerTask S K → Pass Element → Type 0
   MayRun (Task'.Serve ring) p = MayServe p ring
   MayRun (Task'.Served ended) p = ⊥
   MayRun Task'.Work p = IsPassOf number_of s.gate p × (number p ≡ worker (setting_of limits_of s.given))
 
-  abbrev pub ReadyFor : {S K : Type 0} → Task S K → Option (Pass Element) → Type 0
+  abbrev pub ReadyFor : {S K : Type 0} → ServerTask S K → Option (Pass Element) → Type 0
   ReadyFor task None = ⊥
   ReadyFor task (Some p) = MayRun task p
 
   -- the job has a pass for its task
-  abbrev pub IsReady : {S K : Type 0} → Job (Task S K) → Type 0
+  abbrev pub IsReady : {S K : Type 0} → Job (ServerTask S K) → Type 0
   IsReady j = ReadyFor j.task (pass_in j.places.items)
 
 module _ {R : Type 0} (limits : R → Limits) (s : Named R) where
@@ -103,5 +103,5 @@ module _ {R : Type 0} (limits : R → Limits) (s : Named R) where
   EndedFrom None q = ⊥
 
   -- the job is done
-  abbrev pub Ran : {S K : Type 0} → (Ends S K → Ended S K → Type 0) → Job (Task S K) → Job (Task S K) → Type 0
+  abbrev pub Ran : {S K : Type 0} → (Ends S K → EndedRing S K → Type 0) → Job (ServerTask S K) → Job (ServerTask S K) → Type 0
   Ran P old new = EndedFrom (pass_in old.places.items) (pass_in new.places.items) × HasDone P old.task new.task

@@ -12,7 +12,7 @@ pub struct Ends<S, K> {
 /// A stream that has ended: where it was read, where it was written, and what went wrong, where something did; and whether memory was
 /// missing and a connection, or some of what it sent, was lost.
 #[derive(Drop)]
-pub struct Ended<S, K> {
+pub struct EndedRing<S, K> {
     pub reader: S,
     pub sink: K,
     pub fault: Option<Fault>,

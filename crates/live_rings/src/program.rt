@@ -4,11 +4,11 @@ ghost use Rattle.std.specs.Prelude.{◌≡◌, ◌≤◌, ◌*◌, IfOk, Some, l
 ghost use Rattle.std.specs.String.{string_bytes};
 ghost use Rattle.live_rings.specs.Making.{IsInRange};
 ghost use Rattle.live_rings.specs.Program.{are_for_rings, first_fault, setup_by};
-ghost use Rattle.live_rings.specs.Words.{AreFew};
+ghost use Rattle.live_rings.specs.RingWords.{AreFew};
 
-use crate::ending::{Ended, Ends};
+use crate::ending::{EndedRing, Ends};
 use crate::rings::serve_rings;
-use crate::words::{Setup, Words, rings_asked};
+use crate::words::{Layout, RingWords, rings_asked};
 use live_run::{Fault, secret};
 use live_server::Secret;
 use shell::{WordFault, exit, words_of};
@@ -81,7 +81,7 @@ fn are_for_rings(words: &[String]) -> bool
 }
 
 /// What went wrong at the first stream, by number, where something did.
-fn first_fault<S, K>(ended: &[Ended<S, K>]) -> Option<Fault>
+fn first_fault<S, K>(ended: &[EndedRing<S, K>]) -> Option<Fault>
     ensures { result ≡ first_fault (map (λ d. d.fault) ended.now) }
 {
     for stream in ended {
@@ -93,7 +93,7 @@ fn first_fault<S, K>(ended: &[Ended<S, K>]) -> Option<Fault>
 }
 
 /// How the run is set up. Where no secret is given, it is drawn from the system's random source.
-fn setup_of<W: Files>(rt: &W, asked: &Words) -> Result<Setup, Fault>
+fn setup_of<W: Files>(rt: &W, asked: &RingWords) -> Result<Layout, Fault>
     requires { AreFew asked.now }
     ensures range { IfOk result (λ s. IsInRange s) }
     ensures given { (secret : Secret) → asked.now.secret ≡ Some secret → IfOk result (λ s. s ≡ setup_by asked.now secret) }
@@ -109,10 +109,10 @@ fn setup_of<W: Files>(rt: &W, asked: &Words) -> Result<Setup, Fault>
 }
 
 /// A run that is set up as asked for, with this secret. It goes on where memory is missing, unless its secret was given.
-pub fn setup_by(asked: &Words, secret: Secret) -> Setup
+pub fn setup_by(asked: &RingWords, secret: Secret) -> Layout
     ensures { result ≡ setup_by asked.now secret }
 {
-    Setup {
+    Layout {
         rings: asked.rings,
         squeues: asked.squeues,
         mode: asked.mode,

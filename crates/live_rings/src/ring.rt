@@ -11,15 +11,15 @@ ghost use Rattle.squeue_serve.specs.declared.jobs.Job.{Job};
 ghost use Rattle.squeue_serve.specs.Places.{MayClose, MayEnd};
 ghost use Rattle.stream_stays.specs.Places.{Knows, chain_of, touched_of};
 ghost use Rattle.live_chats.specs.Telling.{IsFirst, Tells};
-ghost use Rattle.live_rings.specs.declared.ring.Task.{Task};
+ghost use Rattle.live_rings.specs.declared.ring.ServerTask.{ServerTask};
 ghost use Rattle.live_rings.specs.Making.{IsInRange};
 ghost use Rattle.live_rings.specs.Served.{HasEnded, HasServed, fault_of};
 ghost use Rattle.live_rings.specs.Tasks.{HasDone, IsReady, MayRun, MayServe, Ran};
 
-use crate::ending::{Ended, Ends};
+use crate::ending::{EndedRing, Ends};
 use crate::seating::Parts;
-use crate::words::Setup;
-use live_chats::{Chat, Closes, Item, Seats};
+use crate::words::Layout;
+use live_chats::{Chat, ChatItem, Closes, Seats};
 use live_run::{Fault, serve_stream};
 use live_server::{ConnTable, Rules};
 use perimeter_core::{NoHook, Resident};
@@ -39,15 +39,15 @@ use stream_stays::Stays;
 #[derive(Drop)]
 pub struct Ring<S: Drop, K: Drop> {
     pub ends: Ends<S, K>,
-    pub stays: Stays<Item, Chat>,
+    pub stays: Stays<ChatItem, Chat>,
     pub free: VecDeque<u32>,
 }
 
 /// What a pass is used for: to serve a stream, or to work the squeue to its end. `Served` is what is left of a stream.
 #[derive(Drop)]
-pub enum Task<S: Drop, K: Drop> {
+pub enum ServerTask<S: Drop, K: Drop> {
     Serve(Ring<S, K>),
-    Served(Ended<S, K>),
+    Served(EndedRing<S, K>),
     Work,
 }
 
@@ -57,16 +57,16 @@ pub(crate) fn run_rings<
     S: Source + Drop + Send,
     K: Sink + Drop + Send,
     W: Threads + Wait + Sync,
->(rt: &W, sq: &Squeue<Parts<H>>, alloc: Global, setup: &Setup, jobs: &mut [Job<Task<S, K>>])
+>(rt: &W, sq: &Squeue<Parts<H>>, alloc: Global, setup: &Layout, jobs: &mut [Job<ServerTask<S, K>>])
     requires setup { IsInRange setup.now }
     requires jobs { All (IsReady sq.now) jobs.old }
-    ensures { (k : ℕ) (d : Job (Task S K)) → k < length jobs.old
+    ensures { (k : ℕ) (d : Job (ServerTask S K)) → k < length jobs.old
         → Ran limits_of sq.now (HasEnded S.rest S.read_faults K.contents K.write_faults setup.now) (slice_index_or jobs.old k d) (slice_index_or jobs.new k d) }
 {
     run_each(
         rt,
         jobs,
-        &|_, job: &mut Job<Task<S, K>>|
+        &|_, job: &mut Job<ServerTask<S, K>>|
             requires setup { IsInRange setup.now }
             requires job { IsReady sq.now job.now }
             ensures { Ran limits_of sq.entry.now (HasEnded S.rest S.read_faults K.contents K.write_faults setup.entry.now) job.entry.now job.exit.now }
@@ -78,8 +78,8 @@ fn run_job<H: Wait + Drop, S: Source + Drop, K: Sink + Drop, W: Wait>(
     rt: &W,
     sq: &Squeue<Parts<H>>,
     alloc: Global,
-    setup: &Setup,
-    job: &mut Job<Task<S, K>>,
+    setup: &Layout,
+    job: &mut Job<ServerTask<S, K>>,
 )
     requires setup { IsInRange setup.now }
     requires job { IsReady sq.now job.old }
@@ -94,20 +94,20 @@ fn run_pass<H: Wait + Drop, S: Source + Drop, K: Sink + Drop, W: Wait>(
     rt: &W,
     sq: &Squeue<Parts<H>>,
     alloc: Global,
-    setup: &Setup,
+    setup: &Layout,
     pass: Pass,
-    task: &mut Task<S, K>,
+    task: &mut ServerTask<S, K>,
 ) -> Pass
     requires setup { IsInRange setup.now }
     requires may { MayRun sq.now task.old pass }
     ensures ended { MayEnd limits_of (number pass) sq.now result }
     ensures done { HasDone (HasEnded S.rest S.read_faults K.contents K.write_faults setup.now) task.old task.new }
 {
-    let Task::Serve(ring) = replace(task, Task::Work) else {
+    let ServerTask::Serve(ring) = replace(task, ServerTask::Work) else {
         return work(rt, sq, alloc, pass);
     };
     let (pass, ended) = serve_ring(rt, sq, alloc, setup, pass, ring);
-    *task = Task::Served(ended);
+    *task = ServerTask::Served(ended);
     pass
 }
 
@@ -116,10 +116,10 @@ fn serve_ring<H: Wait + Drop, S: Source + Drop, K: Sink + Drop, W: Wait>(
     rt: &W,
     sq: &Squeue<Parts<H>>,
     alloc: Global,
-    setup: &Setup,
+    setup: &Layout,
     pass: Pass,
     ring: Ring<S, K>,
-) -> (Pass, Ended<S, K>)
+) -> (Pass, EndedRing<S, K>)
     requires setup { IsInRange setup.now }
     requires may { MayServe sq.now pass ring }
     ensures ended { MayEnd limits_of (number pass) sq.now result.0 }
@@ -145,7 +145,7 @@ fn serve_ring<H: Wait + Drop, S: Source + Drop, K: Sink + Drop, W: Wait>(
     let fault = fault_of(served);
     (
         pass,
-        Ended {
+        EndedRing {
             reader,
             sink,
             fault,
@@ -159,9 +159,9 @@ fn serve_seated<N: Closes, H: Wait + Drop, S: Source, K: Sink, W: Wait>(
     rt: &W,
     sq: &Squeue<Parts<H>>,
     alloc: Global,
-    setup: &Setup,
+    setup: &Layout,
     pass: Pass,
-    stays: Stays<Item, Chat>,
+    stays: Stays<ChatItem, Chat>,
     free: VecDeque<u32>,
     reader: &mut S,
     sink: &mut K,
@@ -181,7 +181,7 @@ fn serve_seated<N: Closes, H: Wait + Drop, S: Source, K: Sink, W: Wait>(
 // Serves a stream by the rules of one server over a table in which nobody is. It answers whether something was lost for want of memory.
 fn serve_by<T: ConnTable, S: Source, K: Sink>(
     alloc: Global,
-    setup: &Setup,
+    setup: &Layout,
     table: T,
     reader: &mut S,
     sink: &mut K,

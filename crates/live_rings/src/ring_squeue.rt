@@ -6,20 +6,20 @@ ghost use Rattle.placed_parts.specs.Placing.{limits_of, origin_of};
 ghost use Rattle.histories.specs.Elements.{number_of};
 ghost use Rattle.squeue_serve.specs.Lending.{HaveRoom, tasks_in};
 ghost use Rattle.squeue_streams.specs.declared.streams.Stream.{Stream};
-ghost use Rattle.live_chats.specs.declared.item.Item.{Item};
+ghost use Rattle.live_chats.specs.declared.item.ChatItem.{ChatItem};
 ghost use Rattle.live_chats.specs.Hearing.{ChatOf};
 ghost use Rattle.live_chats.specs.Telling.{first_of};
-ghost use Rattle.live_rings.specs.declared.ring.Task.{Task};
+ghost use Rattle.live_rings.specs.declared.ring.ServerTask.{ServerTask};
 ghost use Rattle.live_rings.specs.Making.{IsInRange};
 ghost use Rattle.live_rings.specs.Seating.{AreNewPlaces, ServesPlaces};
 ghost use Rattle.live_rings.specs.Served.{AllEnded, HasEnded};
 ghost use Rattle.live_rings.specs.Tasks.{AreDone, AreNewRings, AreNewTasks, ended_of, tasks_for};
 
-use crate::ending::{Ended, Ends};
-use crate::ring::{Ring, Task, run_rings};
+use crate::ending::{EndedRing, Ends};
+use crate::ring::{Ring, ServerTask, run_rings};
 use crate::seating::{Parts, new_pairs, new_places, new_squeue, no_parts, own_numbers, own_stays};
-use crate::words::Setup;
-use live_chats::{Chat, Chats, Item};
+use crate::words::Layout;
+use live_chats::{Chat, ChatItem, Chats};
 use sq_base::{Sink, Source};
 use squeue_serve::{Job, Squeues, discard, end_last, jobs_of, lend};
 use squeue_state::{Pass, Squeue};
@@ -36,9 +36,9 @@ pub(crate) fn serve_squeue<
 >(
     rt: &W,
     alloc: Global,
-    setup: &Setup,
+    setup: &Layout,
     ends: Vec<Ends<S, K>>,
-) -> Result<Vec<Ended<S, K>>, AllocError>
+) -> Result<Vec<EndedRing<S, K>>, AllocError>
     requires setup { IsInRange setup.now }
     requires ends { (1 ≤ length ends.items) × (length ends.items ≤ 63) }
     ensures { IfOk result (λ v. AllEnded S.rest S.read_faults K.contents K.write_faults setup.now ends.items v.items) }
@@ -68,7 +68,7 @@ pub(crate) fn serve_squeue<
 }
 
 // How many places each of so many rings of a squeue has. So many that they have no numbers are no memory's.
-fn places_of(setup: &Setup, rings: u32) -> Result<u32, AllocError>
+fn places_of(setup: &Layout, rings: u32) -> Result<u32, AllocError>
     ensures { IfOk result (λ n. rings * n < 2 ^ 32) }
 {
     let Ok(places) = u32::try_from(setup.setting.places) else {
@@ -104,10 +104,10 @@ fn deal_places<S: Drop, K: Drop>(
     count: u32,
     own: u32,
     ends: Vec<Ends<S, K>>,
-    places: Vec<Place<Item, Chat>>,
+    places: Vec<Place<ChatItem, Chat>>,
 ) -> Result<Vec<Ring<S, K>>, AllocError>
     requires { (1 ≤ count) × (length ends.items ≡ count) × (count * own < 2 ^ 32) × (length places.items ≡ count * own) }
-    ensures { IfOk result (λ v. (parts : List (Stream Item ChatOf)) → AreNewPlaces parts places.items → AreNewRings parts ends.items v.items) }
+    ensures { IfOk result (λ v. (parts : List (Stream ChatItem ChatOf)) → AreNewPlaces parts places.items → AreNewRings parts ends.items v.items) }
 {
     let mut ends = ends;
     let mut places = places;
@@ -128,16 +128,16 @@ fn deal_places<S: Drop, K: Drop>(
 fn tasks_of<S: Drop, K: Drop>(
     alloc: Global,
     rings: Vec<Ring<S, K>>,
-) -> Result<Vec<Task<S, K>>, AllocError>
+) -> Result<Vec<ServerTask<S, K>>, AllocError>
     ensures { IfOk result (λ v. v.items ≡ tasks_for rings.items) }
 {
     let mut rings = rings;
     let mut tasks = Vec::with_capacity(alloc, rings.len() + 1)?;
     rings.reverse();
     'rings: while let Some(ring) = rings.pop() {
-        tasks.push_reserved(Task::Serve(ring));
+        tasks.push_reserved(ServerTask::Serve(ring));
     }
-    tasks.push_reserved(Task::Work);
+    tasks.push_reserved(ServerTask::Work);
     Ok(tasks)
 }
 
@@ -150,12 +150,12 @@ fn run_to_end<
 >(
     rt: &W,
     alloc: Global,
-    setup: &Setup,
+    setup: &Layout,
     squeue: Squeue<Parts<H>>,
     passes: Vec<Pass>,
-    jobs: Vec<Job<Task<S, K>>>,
+    jobs: Vec<Job<ServerTask<S, K>>>,
     squeues: Squeues<Parts<H>>,
-) -> Vec<Job<Task<S, K>>>
+) -> Vec<Job<ServerTask<S, K>>>
     requires setup { IsInRange setup.now }
     requires squeue { ServesPlaces limits_of squeue.given (length squeue.given.quotas) (length (first_of (origin_of squeue.given.first))) }
     requires passes { (length passes.items ≡ length squeue.given.quotas + 1) × AreFresh number_of squeue.gate 0 passes.items }
@@ -178,7 +178,10 @@ fn run_to_end<
 }
 
 // Takes apart jobs that hold no pass: what is left of each stream, by number.
-fn gather<S: Drop, K: Drop>(jobs: Vec<Job<Task<S, K>>>, room: Vec<Ended<S, K>>) -> Vec<Ended<S, K>>
+fn gather<S: Drop, K: Drop>(
+    jobs: Vec<Job<ServerTask<S, K>>>,
+    room: Vec<EndedRing<S, K>>,
+) -> Vec<EndedRing<S, K>>
     requires empty { All (λ j. j.places.items ≡ []) jobs.items }
     requires room { (room.items ≡ []) × (length jobs.items ≤ vec_capacity room) }
     ensures { result.items ≡ ended_of (tasks_in jobs.items) }
@@ -196,14 +199,14 @@ fn gather<S: Drop, K: Drop>(jobs: Vec<Job<Task<S, K>>>, room: Vec<Ended<S, K>>) 
 }
 
 // Puts what is left of the stream of a task, where it is one's, behind the others.
-fn push_ended<S: Drop, K: Drop>(left: &mut Vec<Ended<S, K>>, task: Task<S, K>)
+fn push_ended<S: Drop, K: Drop>(left: &mut Vec<EndedRing<S, K>>, task: ServerTask<S, K>)
     requires { length left.old.items < vec_capacity left.old }
     ensures left { left.new.items ≡ left.old.items ++ ended_of (task ∷ []) }
     ensures room { vec_capacity left.new ≡ vec_capacity left.old }
 {
     match task {
-        Task::Served(ended) => left.push_reserved(ended),
-        Task::Serve(_) => {}
-        Task::Work => {}
+        ServerTask::Served(ended) => left.push_reserved(ended),
+        ServerTask::Serve(_) => {}
+        ServerTask::Work => {}
     }
 }

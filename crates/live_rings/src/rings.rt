@@ -1,17 +1,17 @@
 //! Streams by several squeues, which are served beside each other: each by a ring of its squeue.
 
 ghost use Rattle.std.specs.Prelude.{◌≤◌, ◌<◌, ℕ, All, IfOk, length, slice_index_or};
-ghost use Rattle.live_rings.specs.declared.ending.Ended.{Ended};
+ghost use Rattle.live_rings.specs.declared.ending.EndedRing.{EndedRing};
 ghost use Rattle.live_rings.specs.declared.groups.Group.{Group};
 ghost use Rattle.live_rings.specs.declared.ending.Ends.{Ends};
 ghost use Rattle.live_rings.specs.Making.{IsInRange};
 ghost use Rattle.live_rings.specs.Groups.{HasServed, IsServedOf, MayServe, before_in};
 ghost use Rattle.live_rings.specs.Served.{AllEnded, HasEnded};
 
-use crate::ending::{Ended, Ends};
+use crate::ending::{EndedRing, Ends};
 use crate::groups::{Group, deal, gather_all};
 use crate::ring_squeue::serve_squeue;
-use crate::words::Setup;
+use crate::words::Layout;
 use sq_base::{Sink, Source};
 use squeue_serve::run_each;
 use std::alloc::{AllocError, Global};
@@ -25,9 +25,9 @@ use std::thread::Threads;
 pub fn serve_rings<S: Source + Drop + Send, K: Sink + Drop + Send, W: Threads + Wait + Sync>(
     rt: &W,
     alloc: Global,
-    setup: &Setup,
+    setup: &Layout,
     ends: Vec<Ends<S, K>>,
-) -> Result<Vec<Ended<S, K>>, AllocError>
+) -> Result<Vec<EndedRing<S, K>>, AllocError>
     requires setup { IsInRange setup.now }
     requires ends { length ends.items ≤ 63 }
     ensures ended { IfOk result (λ v. AllEnded S.rest S.read_faults K.contents K.write_faults setup.now ends.items v.items) }
@@ -42,18 +42,18 @@ pub fn serve_rings<S: Source + Drop + Send, K: Sink + Drop + Send, W: Threads + 
 fn serve_groups<S: Source + Drop + Send, K: Sink + Drop + Send, W: Threads + Wait + Sync>(
     rt: &W,
     alloc: Global,
-    setup: &Setup,
-    groups: &mut [Group<Ends<S, K>, Ended<S, K>>],
+    setup: &Layout,
+    groups: &mut [Group<Ends<S, K>, EndedRing<S, K>>],
 )
     requires setup { IsInRange setup.now }
     requires groups { All MayServe groups.old }
-    ensures { (k : ℕ) (d : Group (Ends S K) (Ended S K)) → k < length groups.old
+    ensures { (k : ℕ) (d : Group (Ends S K) (EndedRing S K)) → k < length groups.old
         → HasServed (HasEnded S.rest S.read_faults K.contents K.write_faults setup.now) (slice_index_or groups.old k d) (slice_index_or groups.new k d) }
 {
     run_each(
         rt,
         groups,
-        &|_, group: &mut Group<Ends<S, K>, Ended<S, K>>|
+        &|_, group: &mut Group<Ends<S, K>, EndedRing<S, K>>|
             requires setup { IsInRange setup.now }
             requires group { MayServe group.now }
             ensures { HasServed (HasEnded S.rest S.read_faults K.contents K.write_faults setup.entry.now) group.entry.now group.exit.now }
@@ -64,8 +64,8 @@ fn serve_groups<S: Source + Drop + Send, K: Sink + Drop + Send, W: Threads + Wai
 fn serve_group<S: Source + Drop + Send, K: Sink + Drop + Send, W: Threads + Wait + Sync>(
     rt: &W,
     alloc: Global,
-    setup: &Setup,
-    group: &mut Group<Ends<S, K>, Ended<S, K>>,
+    setup: &Layout,
+    group: &mut Group<Ends<S, K>, EndedRing<S, K>>,
 )
     requires setup { IsInRange setup.now }
     requires group { MayServe group.old }
@@ -79,9 +79,9 @@ fn serve_group<S: Source + Drop + Send, K: Sink + Drop + Send, W: Threads + Wait
 fn served<S: Source + Drop + Send, K: Sink + Drop + Send, W: Threads + Wait + Sync>(
     rt: &W,
     alloc: Global,
-    setup: &Setup,
-    group: Group<Ends<S, K>, Ended<S, K>>,
-) -> Group<Ends<S, K>, Ended<S, K>>
+    setup: &Layout,
+    group: Group<Ends<S, K>, EndedRing<S, K>>,
+) -> Group<Ends<S, K>, EndedRing<S, K>>
     requires setup { IsInRange setup.now }
     requires group { MayServe group }
     ensures { IsServedOf (HasEnded S.rest S.read_faults K.contents K.write_faults setup.now) (before_in group) result }

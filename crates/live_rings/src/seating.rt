@@ -13,7 +13,7 @@ ghost use Rattle.squeue_state.specs.Behind.{ever};
 ghost use Rattle.squeue_streams.specs.Taking.{most_feeds, most_leaves};
 ghost use Rattle.live_rings.specs.Seating.{AreNewPairs, AreNewPlaces, AreOwnStays, ServesPlaces, lives_of, numbers_of};
 
-use live_chats::{Chat, Chats, Item};
+use live_chats::{Chat, ChatItem, Chats};
 use perimeter_core::Resident;
 use placed_parts::Places;
 use rtrb::{Producer, RingBuffer};
@@ -50,7 +50,7 @@ const LIFE: Life = Life {
 pub(crate) fn new_pairs(
     alloc: Global,
     count: u32,
-) -> Result<(Vec<Producer<Item>>, Vec<Stream<Item, Chat>>), AllocError>
+) -> Result<(Vec<Producer<ChatItem>>, Vec<Stream<ChatItem, Chat>>), AllocError>
     ensures { IfOk result (λ r. AreNewPairs count r.0.items r.1.items) }
 {
     let mut producers = Vec::with_capacity(alloc, count as usize)?;
@@ -67,9 +67,9 @@ pub(crate) fn new_pairs(
 pub(crate) fn new_places(
     alloc: Global,
     count: u32,
-    producers: Vec<Producer<Item>>,
-    parts: Vec<Stream<Item, Chat>>,
-) -> Result<Vec<Place<Item, Chat>>, AllocError>
+    producers: Vec<Producer<ChatItem>>,
+    parts: Vec<Stream<ChatItem, Chat>>,
+) -> Result<Vec<Place<ChatItem, Chat>>, AllocError>
     requires { AreNewPairs count producers.items parts.items }
     ensures { IfOk result (λ v. AreNewPlaces parts.items v.items) }
 {
@@ -101,8 +101,8 @@ pub(crate) fn own_stays(
     alloc: Global,
     rings: u32,
     ring: u32,
-    places: &mut Vec<Place<Item, Chat>>,
-) -> Result<Stays<Item, Chat>, AllocError>
+    places: &mut Vec<Place<ChatItem, Chat>>,
+) -> Result<Stays<ChatItem, Chat>, AllocError>
     requires { 1 ≤ rings }
     ensures own { IfOk result (λ r. AreOwnStays rings ring places.old.items r) }
     ensures others { (c : ℕ) → c % rings ≢ ring → slice_get places.new.items c ≡ slice_get places.old.items c }
@@ -122,9 +122,9 @@ pub(crate) fn own_stays(
 fn take_for(
     rings: u32,
     ring: u32,
-    places: &mut Vec<Place<Item, Chat>>,
+    places: &mut Vec<Place<ChatItem, Chat>>,
     c: usize,
-) -> Place<Item, Chat>
+) -> Place<ChatItem, Chat>
     requires rings { 1 ≤ rings }
     requires range { c < length places.old.items }
     ensures own { c % rings ≡ ring → slice_get places.old.items c ≡ Some result }

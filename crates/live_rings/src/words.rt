@@ -2,9 +2,9 @@
 
 ghost use Rattle.std.specs.Prelude.{◌≡◌, ◌≤◌, ◌+◌, ◌*◌, true, length, map, IfSome};
 ghost use Rattle.std.specs.String.{string_bytes};
-ghost use Rattle.live_rings.specs.Words.{AreFew, are_in_range, asked, asked_behind, most_rings, secret_in, with_servers};
+ghost use Rattle.live_rings.specs.RingWords.{AreFew, are_in_range, asked, asked_behind, most_rings, secret_in, with_servers};
 
-use live_run::{Mode as Ends, Words as ServerWords, asked_in};
+use live_run::{Medium, ServerWords, asked_in};
 use live_server::{Secret, Setting};
 use shell::numeral;
 use squeue_enter::Mode;
@@ -13,7 +13,7 @@ use squeue_streams::SourcePace;
 /// How a run is set up: its rings and squeues, how rings enter, what each stream's server is started with, and whether a ring goes on where
 /// memory is missing, which then costs a connection.
 #[derive(Clone, Copy)]
-pub struct Setup {
+pub struct Layout {
     pub rings: u32,
     pub squeues: u32,
     pub mode: Mode,
@@ -23,7 +23,7 @@ pub struct Setup {
     pub goes_on: bool,
 }
 
-impl Setup {
+impl Layout {
     /// How rings enter.
     pub fn pace(&self) -> SourcePace
         requires { 1 ≤ self.now.budget }
@@ -37,7 +37,7 @@ impl Setup {
 
 /// What is asked for: how many rings and squeues, how rings enter, what the servers are started with, and whether their secret is given.
 #[derive(Clone, Copy)]
-pub struct Words {
+pub struct RingWords {
     pub rings: u32,
     pub squeues: u32,
     pub mode: Mode,
@@ -50,7 +50,7 @@ pub struct Words {
 pub const MOST_RINGS: u32 = 63;
 
 /// What the words behind the program's name ask for, where they do, and how many of them there are before the files' names.
-pub fn rings_asked(words: &[String]) -> Option<(Words, usize)>
+pub fn rings_asked(words: &[String]) -> Option<(RingWords, usize)>
     ensures asked { result ≡ asked (map (λ s. string_bytes s) words.now) }
     ensures few { IfSome result (λ r. AreFew r.0) }
     ensures files { IfSome result (λ r. r.1 + 2 * r.0.rings ≡ length words.now) }
@@ -80,7 +80,7 @@ fn asked_behind(
     mode: Mode,
     budget: u32,
     rest: &[String],
-) -> Option<(Words, usize)>
+) -> Option<(RingWords, usize)>
     ensures asked { result ≡ asked_behind rings squeues mode budget (map (λ s. string_bytes s) rest.now) }
     ensures few { IfSome result (λ r. AreFew r.0) }
     ensures files { IfSome result (λ r. r.1 + 2 * r.0.rings ≡ 8 + length rest.now) }
@@ -102,10 +102,10 @@ fn are_in_range(rings: u32, squeues: u32, budget: u32) -> bool
     rings >= 1 && rings <= MOST_RINGS && squeues >= 1 && squeues <= MOST_RINGS && budget >= 1
 }
 
-fn with_servers(rings: u32, squeues: u32, mode: Mode, budget: u32, asked: &ServerWords) -> Words
+fn with_servers(rings: u32, squeues: u32, mode: Mode, budget: u32, asked: &ServerWords) -> RingWords
     ensures { result ≡ with_servers rings squeues mode budget asked.now }
 {
-    Words {
+    RingWords {
         rings,
         squeues,
         mode,
@@ -115,11 +115,11 @@ fn with_servers(rings: u32, squeues: u32, mode: Mode, budget: u32, asked: &Serve
     }
 }
 
-fn secret_in(ends: Ends) -> Option<Secret>
+fn secret_in(ends: Medium) -> Option<Secret>
     ensures { result ≡ secret_in ends }
 {
     match ends {
-        Ends::Frames(secret) => Some(secret),
-        Ends::Device => None,
+        Medium::Frames(secret) => Some(secret),
+        Medium::Device => None,
     }
 }

@@ -11,8 +11,8 @@ use Rattle.live_server.specs.declared.ports.Ports.{Ports}
 use Rattle.live_server.specs.declared.setting.Setting.{Setting}
 use Rattle.sq_base.specs.declared.kinds.Addr.{Addr}
 use Rattle.live_run.specs.PortWords.{ports_in}
-use Rattle.live_run.specs.declared.words.Mode.TheVariants.{Device, Frames}
-use Rattle.live_run.specs.declared.words.Words.{Words}
+use Rattle.live_run.specs.declared.words.Medium.TheVariants.{Device, Frames}
+use Rattle.live_run.specs.declared.words.ServerWords.{ServerWords}
 
 -- so many bytes in hexadecimal digits
 abbrev pub hex_bytes : ℕ → Text → Option (List ℕ)
@@ -46,20 +46,20 @@ setting_of (_ ∷ _ ∷ _ ∷ _ ∷ []) = None
 setting_of (_ ∷ _ ∷ _ ∷ _ ∷ _ ∷ []) = None
 
 -- what the words behind the mode's ask for: SECRET and the setting's, and the setting's
-abbrev pub frames_asked : List Text → Option Words
+abbrev pub frames_asked : List Text → Option ServerWords
 frames_asked [] = None
 frames_asked (secret ∷ rest) = option_and_then (λ s. option_map (λ g. record { mode = Frames s; setting = g }) (setting_of rest)) (secret_of secret)
 
-abbrev pub device_asked : List Text → Option Words
+abbrev pub device_asked : List Text → Option ServerWords
 device_asked words = option_map (λ g. record { mode = Device; setting = g }) (setting_of words)
 
 -- what all words ask for, the mode's first
-abbrev pub asked_in : Text → List Text → Option Words
+abbrev pub asked_in : Text → List Text → Option ServerWords
 asked_in mode rest =
     if bytes_eq mode (codes "frames") then frames_asked rest
     else if bytes_eq mode (codes "device") then device_asked rest
     else None
 
-abbrev pub asked : List Text → Option Words
+abbrev pub asked : List Text → Option ServerWords
 asked [] = None
 asked (mode ∷ rest) = asked_in mode rest

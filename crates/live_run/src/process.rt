@@ -2,15 +2,15 @@
 
 use crate::fault::Fault;
 use crate::frames::serve_frames_of;
-use crate::words::{Mode, asked_in};
+use crate::words::{Medium, asked_in};
 use crate::{device, drawing};
 use live_server::Server;
-use shell::{Ending, WordFault, exit, words_of};
+use shell::{ProgramEnd, WordFault, exit, words_of};
 use sq_base::{StdSink, StdSource};
 use std::io;
 use std::process::ExitCode;
 
-impl Ending for Fault {
+impl ProgramEnd for Fault {
     ghost use Rattle.live_run.specs.Faults.{code_of};
 
     ghost code = { λ f. code_of f };
@@ -41,13 +41,13 @@ fn run(rt: &HostRuntime) -> Result<(), Fault> {
         return Err(Fault::Words);
     };
     match asked.mode {
-        Mode::Frames(secret) => {
+        Medium::Frames(secret) => {
             let mut source = StdSource::over(rt.reader());
             let mut sink = StdSink::over(io::writer(rt));
             let server = Server::new(rt.alloc(), asked.setting, secret);
             serve_frames_of(rt.alloc(), server, &mut source, &mut sink)
         }
-        Mode::Device => {
+        Medium::Device => {
             let secret = drawing::secret(rt)?;
             device::serve(rt, Server::new(rt.alloc(), asked.setting, secret))
         }

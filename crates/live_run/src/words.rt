@@ -3,7 +3,7 @@
 ghost use Rattle.std.specs.Prelude.{◌≡◌, ◌<◌, map};
 ghost use Rattle.std.specs.String.{string_bytes};
 ghost use Rattle.shell.specs.Numbers.{numeral};
-ghost use Rattle.live_run.specs.Words.{address_of, asked, device_asked, frames_asked, length_of, secret_of, setting_of};
+ghost use Rattle.live_run.specs.ServerWords.{address_of, asked, device_asked, frames_asked, length_of, secret_of, setting_of};
 
 use crate::port_words::ports_in;
 use byteorder::{BigEndian, ByteOrder};
@@ -14,7 +14,7 @@ use sq_base::Addr;
 
 /// Where datagrams come from and go to.
 #[derive(Clone, Copy)]
-pub enum Mode {
+pub enum Medium {
     /// Frames, with the secret behind the initial sequence numbers.
     Frames(Secret),
     /// A device. Its secret is nobody's to give.
@@ -23,13 +23,13 @@ pub enum Mode {
 
 /// What is asked for.
 #[derive(Clone, Copy)]
-pub struct Words {
-    pub mode: Mode,
+pub struct ServerWords {
+    pub mode: Medium,
     pub setting: Setting,
 }
 
 /// What the words behind the program's name ask for, where they do.
-pub fn asked_in(words: &[String]) -> Option<Words>
+pub fn asked_in(words: &[String]) -> Option<ServerWords>
     ensures { result ≡ asked (map (λ s. string_bytes s) words.now) }
 {
     let [mode, rest @ ..] = words else {
@@ -42,23 +42,23 @@ pub fn asked_in(words: &[String]) -> Option<Words>
     }
 }
 
-fn frames_asked(words: &[String]) -> Option<Words>
+fn frames_asked(words: &[String]) -> Option<ServerWords>
     ensures { result ≡ frames_asked (map (λ s. string_bytes s) words.now) }
 {
     let [secret, rest @ ..] = words else {
         return None;
     };
-    Some(Words {
-        mode: Mode::Frames(secret_of(secret.as_str())?),
+    Some(ServerWords {
+        mode: Medium::Frames(secret_of(secret.as_str())?),
         setting: setting_of(rest)?,
     })
 }
 
-fn device_asked(words: &[String]) -> Option<Words>
+fn device_asked(words: &[String]) -> Option<ServerWords>
     ensures { result ≡ device_asked (map (λ s. string_bytes s) words.now) }
 {
-    Some(Words {
-        mode: Mode::Device,
+    Some(ServerWords {
+        mode: Medium::Device,
         setting: setting_of(words)?,
     })
 }

@@ -26,13 +26,21 @@ use Rattle.live_server.specs.declared.conn.Judged.{Judged}
 use Rattle.live_server.specs.declared.conn.Judged.TheVariants.{Challenged, Late, Taken, Unanswered}
 use Rattle.live_server.specs.declared.conn.Met.{Met}
 use Rattle.live_server.specs.declared.conn.Met.TheVariants.{Gone, Judged as judges}
-use Rattle.live_server.specs.declared.service.Service.{Service}
-use Rattle.live_server.specs.declared.service.Service.TheVariants.{Discard}
+use Rattle.live_server.specs.declared.service.LiveService.{LiveService}
+use Rattle.live_server.specs.declared.service.LiveService.TheVariants.{Discard}
 
 -- a connection that nothing is known of, with its service, and the most text that a segment may have on its path; it has no place yet, so no number
-abbrev pub new_conn : Service → ℕ → ℕ → Conn
-new_conn service most now = record { tcb = new_block; number = 0; service = service; most = most; since = now; heard = now; quiet_until = 0;
-    congestion = no_congestion }
+abbrev pub new_conn : LiveService → ℕ → ℕ → Conn
+new_conn service most now = record {
+  tcb = new_block;
+  number = 0;
+  service = service;
+  most = most;
+  since = now;
+  heard = now;
+  quiet_until = 0;
+  congestion = no_congestion;
+}
 
 -- what stands for one where there is none
 abbrev pub no_conn : Conn

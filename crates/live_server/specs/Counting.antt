@@ -5,8 +5,19 @@ use Rattle.live_server.specs.declared.conn.Judged.TheVariants.{Challenged, Late,
 use Rattle.live_server.specs.declared.counts.Counts.{Counts}
 
 abbrev pub no_counts : Counts
-no_counts = record { passed_over = 0; astray = 0; refused = 0; opened = 0; turned_away = 0; gave_way = 0; left = 0; challenges = 0; unanswered = 0;
-    late = 0; over_full = 0 }
+no_counts = record {
+  passed_over = 0;
+  astray = 0;
+  refused = 0;
+  opened = 0;
+  turned_away = 0;
+  gave_way = 0;
+  left = 0;
+  challenges = 0;
+  unanswered = 0;
+  late = 0;
+  over_full = 0;
+}
 
 -- so many more, modulo 2^64
 abbrev pub more : ℕ → ℕ → ℕ

@@ -8,8 +8,8 @@ use Rattle.echo_services.specs.Discard.{discard}
 use Rattle.echo_services.specs.Echo.{echo}
 use Rattle.live_server.specs.DaytimeText.{daytime_text}
 use Rattle.live_server.specs.declared.ports.Ports.{Ports}
-use Rattle.live_server.specs.declared.service.Service.{Service}
-use Rattle.live_server.specs.declared.service.Service.TheVariants.{Chargen, Daytime, Discard, Echo}
+use Rattle.live_server.specs.declared.service.LiveService.{LiveService}
+use Rattle.live_server.specs.declared.service.LiveService.TheVariants.{Chargen, Daytime, Discard, Echo}
 
 -- echo (RFC 862) and discard (RFC 863) at their own ports, and nothing else
 abbrev pub plain_ports : Ports
@@ -24,7 +24,7 @@ abbrev pub is_served_at : Ports → ℕ → Bool
 is_served_at p port = not (port == 0) && ((port == p.echo) || ((port == p.discard) || ((port == p.daytime) || (port == p.chargen))))
 
 -- the service of a port that is served, for a connection that begins at this time
-abbrev pub service_at : Ports → ℕ → ℕ → Service
+abbrev pub service_at : Ports → ℕ → ℕ → LiveService
 service_at p now port =
     if port == p.echo then Echo
     else if port == p.daytime then Daytime now
@@ -32,14 +32,14 @@ service_at p now port =
     else Discard
 
 -- what a pump makes of a block, by what the service keeps
-unfoldable pub pump_of : Service → Block → Block
+unfoldable pub pump_of : LiveService → Block → Block
 pump_of Echo b = echo b
 pump_of Discard b = discard b
 pump_of (Daytime begun) b = daytime (daytime_text begun) b
 pump_of (Chargen given) b = chargen given b
 
 -- and what the service keeps then
-unfoldable pub after_pump : Service → Block → Service
+unfoldable pub after_pump : LiveService → Block → LiveService
 after_pump Echo b = Echo
 after_pump Discard b = Discard
 after_pump (Daytime begun) b = Daytime begun

@@ -110,8 +110,11 @@ numbered sv c = record c { number = sv.counts.opened }
 -- a connection takes a place that is free
 abbrev pub takes_free : Tuple → Conn → ServerOf → Outcome
 takes_free t c sv = record {
-  server = record sv { conns = sv.conns ++ (t, emptied (numbered sv c)) ∷ []; waiting = sv.waiting ++ (t, sv.counts.opened) ∷ [];
-      counts = record sv.counts { opened = more 1 sv.counts.opened } };
+  server = record sv {
+    conns = sv.conns ++ (t, emptied (numbered sv c)) ∷ [];
+    waiting = sv.waiting ++ (t, sv.counts.opened) ∷ [];
+    counts = record sv.counts { opened = more 1 sv.counts.opened };
+  };
   sent = sent_by t c;
 }
 

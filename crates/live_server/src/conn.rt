@@ -12,7 +12,7 @@ ghost use Rattle.tcb_machine.specs.Limits.{last_time};
 use crate::acting::{Datagram, announced};
 use crate::congestion::Congestion;
 use crate::facts::Facts;
-use crate::service::Service;
+use crate::service::LiveService;
 use echo_services::{serve, tick};
 use segment_codec::{ACK, RST, SYN, Seg};
 use sq_base::{Tuple, seq_dist};
@@ -29,7 +29,7 @@ const SEND_SPACE: u32 = 65_535;
 #[derive(Drop)]
 pub struct Conn {
     pub tcb: Tcb,
-    pub service: Service,
+    pub service: LiveService,
     /// How many bytes of text a segment has at most on the path to its peer: no longer MSS is announced.
     pub most: u16,
     /// When it was opened.
@@ -67,7 +67,7 @@ pub enum Met {
 
 impl Conn {
     /// A connection that nothing is known of, with its service, and with the most text that a segment may have on its path.
-    pub fn make(alloc: Global, service: Service, most: u16, now: u64) -> Conn
+    pub fn make(alloc: Global, service: LiveService, most: u16, now: u64) -> Conn
         ensures { result ≡ new_conn service most now }
     {
         Conn {

@@ -3,7 +3,7 @@
 ghost use Rattle.std.specs.Prelude.{◌≡◌};
 ghost use Rattle.live_server.specs.Services.{is_served_at, service_at};
 
-use crate::service::Service;
+use crate::service::LiveService;
 use sq_base::{DISCARD_PORT, ECHO_PORT};
 
 /// The port of each service. Port 0 is none: the service isn't had.
@@ -47,16 +47,16 @@ pub(crate) fn is_served_at(ports: &Ports, port: u16) -> bool
 }
 
 /// The service of a port that is served, for a connection that begins at this time.
-pub fn service_at(ports: &Ports, now: u64, port: u16) -> Service
+pub fn service_at(ports: &Ports, now: u64, port: u16) -> LiveService
     ensures { result ≡ service_at ports.now now port }
 {
     if port == ports.echo {
-        Service::Echo
+        LiveService::Echo
     } else if port == ports.daytime {
-        Service::Daytime { begun: now }
+        LiveService::Daytime { begun: now }
     } else if port == ports.chargen {
-        Service::Chargen { given: 0 }
+        LiveService::Chargen { given: 0 }
     } else {
-        Service::Discard
+        LiveService::Discard
     }
 }

@@ -46,8 +46,14 @@ impl<T: ConnTable> Rules<T> {
     /// The rules over a table. They take no memory.
     pub fn over(alloc: Global, table: T, setting: Setting, secret: Secret) -> Rules<T>
         ensures table { result.table ≡ table }
-        ensures server { server_of T.conns result ≡ record { conns = T.conns table; waiting = []; held = 0; setting = setting; secret = secret.0;
-            counts = no_counts } }
+        ensures server { server_of T.conns result ≡ record {
+          conns = T.conns table;
+          waiting = [];
+          held = 0;
+          setting = setting;
+          secret = secret.0;
+          counts = no_counts;
+        } }
     {
         Rules {
             table,

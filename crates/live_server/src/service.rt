@@ -7,7 +7,7 @@ use tcb_machine::Tcb;
 
 /// The service behind a connection.
 #[derive(Clone, Copy, Debug, PartialEq, Eq)]
-pub enum Service {
+pub enum LiveService {
     /// What was received comes back (RFC 862).
     Echo,
     /// What was received is thrown away (RFC 863).
@@ -18,7 +18,7 @@ pub enum Service {
     Chargen { given: u16 },
 }
 
-impl PortService for Service {
+impl PortService for LiveService {
     ghost use Rattle.live_server.specs.Services.{after_pump, pump_of};
 
     ghost pumps = { pump_of };
@@ -28,24 +28,24 @@ impl PortService for Service {
     #[tactic(auto, unfolding(crate::specs::Services::pump_of, crate::specs::Services::after_pump))]
     fn pump(&mut self, tcb: &mut Tcb, alloc: Global) -> Result<(), AllocError> {
         match *self {
-            Service::Echo => {
+            LiveService::Echo => {
                 let mut echo = Echo;
                 echo.pump(tcb, alloc)
             }
-            Service::Discard => {
+            LiveService::Discard => {
                 let mut discard = Discard;
                 discard.pump(tcb, alloc)
             }
-            Service::Daytime { begun } => {
+            LiveService::Daytime { begun } => {
                 let line = daytime_text(alloc, begun)?;
                 let text = Vec::from_slice(alloc, line.as_bytes())?;
                 let mut daytime = Daytime { text };
                 daytime.pump(tcb, alloc)
             }
-            Service::Chargen { given } => {
+            LiveService::Chargen { given } => {
                 let mut chargen = Chargen { given };
                 chargen.pump(tcb, alloc)?;
-                *self = Service::Chargen {
+                *self = LiveService::Chargen {
                     given: chargen.given,
                 };
                 Ok(())

@@ -9,7 +9,7 @@ use perimeter_core::{Feed, Kind, SynchAct};
 use ring_quotas::Setup;
 use sq_base::Octets;
 use squeue_enter::Mode;
-use squeue_replay::{ReadMark, ReplayedSqueue, Run};
+use squeue_replay::{ReadMark, ReplayedSqueue, RunSetup};
 use std::alloc::{AllocError, AllocGlobal, Global};
 use std::process::Abort;
 use std::test::Fail;
@@ -72,7 +72,7 @@ fn add(
 }
 
 /// The squeue of a run takes the history, and then not its first mark again.
-fn take_history(rt: &(impl Abort + AllocGlobal), run: Run<'_, '_>) -> Result<(), AllocError>
+fn take_history(rt: &(impl Abort + AllocGlobal), run: RunSetup<'_, '_>) -> Result<(), AllocError>
     requires { 0 < run.setup.squeues }
 {
     let mut squeue = ReplayedSqueue::make(rt.alloc(), run, 0)?;
@@ -88,7 +88,7 @@ fn take_history(rt: &(impl Abort + AllocGlobal), run: Run<'_, '_>) -> Result<(),
 /// The same of a plan, without calls.
 fn take_history_of(rt: &(impl Abort + AllocGlobal), plan: &Plan<'_>) -> Result<(), AllocError> {
     let calls = Calls::make(rt.alloc());
-    let run = Run {
+    let run = RunSetup {
         plan,
         calls: &calls,
         setup: SETUP,

@@ -11,7 +11,7 @@ use std::process::ExitCode;
 use std::{env, io};
 
 /// How a program may end.
-pub trait Ending: Copy {
+pub trait ProgramEnd: Copy {
     /// The exit code of it.
     ghost code: { Self → ℕ };
 
@@ -20,7 +20,7 @@ pub trait Ending: Copy {
         ensures { result ≡ code self };
 }
 
-impl Ending for Status {
+impl ProgramEnd for Status {
     ghost use Rattle.sq_base.specs.StatusCode.{code_of};
 
     ghost code = { λ s. code_of s };
@@ -31,7 +31,7 @@ impl Ending for Status {
 }
 
 /// What the process ends with.
-pub fn exit<S: Ending>(status: S) -> ExitCode
+pub fn exit<S: ProgramEnd>(status: S) -> ExitCode
     ensures { exit_status result ≡ S.code status }
 {
     ExitCode::from(status.exit_code())

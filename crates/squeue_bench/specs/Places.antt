@@ -9,7 +9,7 @@ use Rattle.squeue_state.specs.Naming.{Named, setting_of}
 use Rattle.histories.specs.Elements.{number_of}
 use Rattle.squeue_state.specs.AllRoom.{HasAllRoom}
 use Rattle.squeue_enter.specs.Entering.{MayEnter}
-use Rattle.squeue_bench.specs.declared.threads.Ring.{Ring}
+use Rattle.squeue_bench.specs.declared.threads.Bringer.{Bringer}
 use Rattle.squeue_bench.specs.declared.threads.Worker.{Worker}
 
 -- to each squeue belongs what stands at its place
@@ -28,8 +28,8 @@ module _ {R : Type 0} where
   IsWorker s w = HasPass (length s.given.quotas) s w.pass × (w.room.items ≡ []) × (length s.given.quotas + 1 ≤ vec_capacity w.room)
 
   -- ring k has pass k of each squeue
-  abbrev pub HaveClosed : List (Named R) → List Ring → Type 0
-  HaveClosed squeues rings = (k : ℕ) (d : Ring) → k < length rings → AtEach (HasPass k) squeues (slice_index_or rings k d).passes.items
+  abbrev pub HaveClosed : List (Named R) → List Bringer → Type 0
+  HaveClosed squeues rings = (k : ℕ) (d : Bringer) → k < length rings → AtEach (HasPass k) squeues (slice_index_or rings k d).passes.items
 
 module _ {R : Type 0} (limits : R → Limits) where
   -- a pass that has seen the squeue's end
@@ -48,6 +48,6 @@ module _ {R : Type 0} (limits : R → Limits) (bound : ℕ) where
   MayBring k es s None = ⊥
 
   -- ring k has pass k of each squeue, with which it may enter all its feeds
-  abbrev pub MayRun : List (Named R) → List Ring → Type 0
-  MayRun squeues rings = (k : ℕ) (d : Ring) → k < length rings
+  abbrev pub MayRun : List (Named R) → List Bringer → Type 0
+  MayRun squeues rings = (k : ℕ) (d : Bringer) → k < length rings
       → AtEach (MayBring k (slice_index_or rings k d).feeds.items) squeues (slice_index_or rings k d).passes.items

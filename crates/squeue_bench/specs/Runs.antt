@@ -6,7 +6,7 @@ use Rattle.perimeter_core.specs.History.{Element, Limits, feed_quota}
 use Rattle.squeue_state.specs.Naming.{Named, setting_of}
 use Rattle.histories.specs.Elements.{number_of}
 use Rattle.squeue_state.specs.AllRoom.{HasAllRoom}
-use Rattle.squeue_bench.specs.declared.threads.Ring.{Ring}
+use Rattle.squeue_bench.specs.declared.threads.Bringer.{Bringer}
 use Rattle.squeue_bench.specs.Rows.{IsRow}
 use Rattle.squeue_bench.specs.Places.{AtEach, MayBring}
 
@@ -26,13 +26,13 @@ pub record IsNewPass {R : Type 0} (k : ℕ) (s : Named R) (p : Pass Element) : T
   pub nothing_seen : seen p ≡ []
 
 -- ring k brings the items of key k, has a new pass at each squeue, and room for its passes at n squeues
-pub record IsReady {R : Type 0} (limits : R → Limits) (bound items n : ℕ) (squeues : List (Named R)) (k : ℕ) (r : Ring) : Type 0 where
+pub record IsReady {R : Type 0} (limits : R → Limits) (bound items n : ℕ) (squeues : List (Named R)) (k : ℕ) (r : Bringer) : Type 0 where
   pub row : IsRow k items r.feeds.items
   pub places : AtEach (MayBring limits bound k r.feeds.items) squeues r.passes.items
   pub room : n ≤ vec_capacity r.passes
 
-abbrev pub AreReady : {R : Type 0} → (R → Limits) → ℕ → ℕ → ℕ → List (Named R) → List Ring → Type 0
-AreReady limits bound items n squeues rings = (k : ℕ) (d : Ring) → k < length rings → IsReady limits bound items n squeues k (slice_index_or rings k d)
+abbrev pub AreReady : {R : Type 0} → (R → Limits) → ℕ → ℕ → ℕ → List (Named R) → List Bringer → Type 0
+AreReady limits bound items n squeues rings = (k : ℕ) (d : Bringer) → k < length rings → IsReady limits bound items n squeues k (slice_index_or rings k d)
 
 -- each squeue has so many passes beside the worker's
 abbrev pub HavePasses : {R : Type 0} → ℕ → List (Named R) → Type 0

@@ -8,7 +8,7 @@ ghost use Rattle.squeue_bench.specs.Places.{AtEach, HasPass, HasWorked, HaveClos
 ghost use Rattle.squeue_bench.specs.Runs.{AreReady, HavePasses, IsNewPass, IsReady, Suits};
 
 use crate::items::{feeds_of, lives_of, quotas_of};
-use crate::threads::{Ring, Worker};
+use crate::threads::{Bringer, Worker};
 use key_counters::{Counters, new_counters};
 use perimeter_core::Resident;
 use squeue_state::{Pass, Squeue};
@@ -21,7 +21,7 @@ pub fn make_rings(
     bound: u32,
     items: u32,
     squeues: usize,
-) -> Result<Vec<Ring>, AllocError>
+) -> Result<Vec<Bringer>, AllocError>
     ensures as_many { IfOk result (λ v. length v.items ≡ rings) }
     ensures ready { IfOk result (λ v. AreReady limits_of bound items squeues [] v.items) }
 {
@@ -44,22 +44,22 @@ fn make_ring(
     bound: u32,
     items: u32,
     squeues: usize,
-) -> Result<Ring, AllocError>
+) -> Result<Bringer, AllocError>
     ensures { IfOk result (λ r. IsReady limits_of bound items squeues [] key r) }
 {
     let _bound = bound;
     let feeds = feeds_of(alloc, key, items)?;
     let passes = Vec::with_capacity(alloc, squeues)?;
-    Ok(Ring { feeds, passes })
+    Ok(Bringer { feeds, passes })
 }
 
 /// Spends rings that have no pass.
-pub fn spend(rings: Vec<Ring>)
-    requires { (k : ℕ) (d : Ring) → k < length rings.items → vec_len (slice_index_or rings.items k d).passes ≡ 0 }
+pub fn spend(rings: Vec<Bringer>)
+    requires { (k : ℕ) (d : Bringer) → k < length rings.items → vec_len (slice_index_or rings.items k d).passes ≡ 0 }
 {
     let mut rings = rings;
     while let Some(ring) = rings.pop() {
-        let Ring { feeds: _, passes } = ring;
+        let Bringer { feeds: _, passes } = ring;
         passes.destroy_empty();
     }
     rings.destroy_empty();
@@ -73,7 +73,7 @@ pub fn make_squeues<'a>(
     bound: u32,
     wanted: u32,
     squeues: &mut Vec<Squeue<Counters<'a>>>,
-    rings: &mut [Ring],
+    rings: &mut [Bringer],
     workers: &mut Vec<Worker>,
 )
     requires few { (1 ≤ length rings.old) × (length rings.old ≤ 63) × (length rings.old * items ≤ 2 ^ 30) }
@@ -164,7 +164,7 @@ fn deal<R: Resident>(
     bound: u32,
     items: u32,
     wanted: u32,
-    rings: &mut [Ring],
+    rings: &mut [Bringer],
     passes: &mut Vec<Pass>,
 )
     requires squeue { Suits R.limits bound items squeue.now × (length squeue.now.given.quotas ≡ length rings.old) }
@@ -196,7 +196,7 @@ fn give<R: Resident>(
     bound: u32,
     items: u32,
     wanted: u32,
-    ring: &mut Ring,
+    ring: &mut Bringer,
     pass: Pass,
 )
     requires squeue { Suits R.limits bound items squeue.now }
@@ -211,7 +211,7 @@ fn give<R: Resident>(
 /// Ends the squeues, the last one first, and gives what they served.
 pub fn finish_all<R: Resident>(
     squeues: Vec<Squeue<R>>,
-    rings: &mut [Ring],
+    rings: &mut [Bringer],
     workers: Vec<Worker>,
     ends: &mut Vec<R>,
 )
@@ -220,7 +220,7 @@ pub fn finish_all<R: Resident>(
     requires rings { HaveClosed squeues.items rings.old }
     requires workers { AtEach (HasWorked R.limits) squeues.items workers.items }
     ensures ends { vec_len ends.new ≡ vec_len ends.old + length squeues.items }
-    ensures rings { (k : ℕ) (d : Ring) → k < length rings.new → vec_len (slice_index_or rings.new k d).passes ≡ 0 }
+    ensures rings { (k : ℕ) (d : Bringer) → k < length rings.new → vec_len (slice_index_or rings.new k d).passes ≡ 0 }
 {
     let mut squeues = squeues;
     let mut workers = workers;
@@ -242,7 +242,7 @@ pub fn finish_all<R: Resident>(
 fn gather<R: Resident>(
     squeues: &[Squeue<R>],
     squeue: &Squeue<R>,
-    rings: &mut [Ring],
+    rings: &mut [Bringer],
     room: &mut Vec<Pass>,
 )
     requires rings { HaveClosed (squeues.now ++ squeue.now ∷ []) rings.old }
@@ -261,7 +261,7 @@ fn take_back<R: Resident>(
     squeues: &[Squeue<R>],
     squeue: &Squeue<R>,
     k: usize,
-    ring: &mut Ring,
+    ring: &mut Bringer,
 ) -> Pass
     requires { AtEach (HasPass k) (squeues.now ++ squeue.now ∷ []) ring.old.passes.items }
     ensures ring { AtEach (HasPass k) squeues.now ring.new.passes.items }

@@ -35,7 +35,7 @@ pub struct Way {
 }
 
 /// What a ring brings to each squeue, and its pass at each.
-pub struct Ring {
+pub struct Bringer {
     pub feeds: Vec<Feed>,
     pub passes: Vec<Option<Pass>>,
 }
@@ -52,7 +52,7 @@ pub fn run_all<W: Threads + Wait + Sync>(
     rt: &W,
     alloc: Global,
     squeues: &[Squeue<Counters<'_>>],
-    rings: &mut [Ring],
+    rings: &mut [Bringer],
     workers: &mut [Worker],
     way: Way,
 )
@@ -80,7 +80,7 @@ fn run_rings<W: Threads + Wait + Sync>(
     alloc: Global,
     squeues: &[Squeue<Counters<'_>>],
     way: Way,
-    rings: &mut [Ring],
+    rings: &mut [Bringer],
 )
     requires chain { 1 ≤ way.chain }
     requires rings { MayRun limits_of way.bound squeues.now rings.old }
@@ -90,7 +90,7 @@ fn run_rings<W: Threads + Wait + Sync>(
     run_each(
         rt,
         rings,
-        &|k, ring: &mut Ring|
+        &|k, ring: &mut Bringer|
             requires { (1 ≤ way.chain) × AtEach (MayBring limits_of way.bound k ring.now.feeds.items) squeues.now ring.now.passes.items }
             ensures { AtEach (HasPass k) squeues.entry.now ring.exit.now.passes.items }
         { run_ring(rt, alloc, squeues, k, ring, way) },
@@ -122,14 +122,14 @@ fn run_ring<R: Resident, W: Wait>(
     alloc: Global,
     squeues: &[Squeue<R>],
     k: usize,
-    ring: &mut Ring,
+    ring: &mut Bringer,
     way: Way,
 )
     requires chain { 1 ≤ way.chain }
     requires passes { AtEach (MayBring R.limits way.bound k ring.old.feeds.items) squeues.now ring.old.passes.items }
     ensures { AtEach (HasPass k) squeues.now ring.new.passes.items }
 {
-    let Ring { feeds, passes } = ring;
+    let Bringer { feeds, passes } = ring;
     let mut rest = feeds.as_slice();
     'chains: while !rest.is_empty() {
         let chain = cmp::min(way.chain, rest.len());

@@ -10,8 +10,14 @@ use Rattle.squeue_pool.specs.declared.work.Left.{Left}
 
 -- places as a resident
 abbrev pub as_resident : {S P O : Type 0} (G : Ghosts S P O) → ResidentGhosts (Places S P O G) P O
-as_resident G = record { stands = Stands; part_stands = InOrder G.part_stands; limits = limits_of; size = size_of; origin = origin_of;
-    is_part_of = G.is_part_of }
+as_resident G = record {
+  stands = Stands;
+  part_stands = InOrder G.part_stands;
+  limits = limits_of;
+  size = size_of;
+  origin = origin_of;
+  is_part_of = G.is_part_of;
+}
 
 module _ {S P O : Type 0} {G : Ghosts S P O} (shared : S) where
   -- a resident of squeue q, of so many: of so many connections those are here that are first at home there, and nothing was done to them

@@ -10,7 +10,7 @@ ghost use Rattle.squeue_pool.specs.Works.{IsInRange, work_of};
 use crate::keys::{key_lists, key_quotas};
 use crate::placing::places_of;
 use crate::pool::Pool;
-use crate::served::Served;
+use crate::served::ServedParts;
 use crate::whole_run::run;
 use crate::work::{Left, Work};
 use perimeter_core::{Hook, NoHook, Resident};
@@ -37,7 +37,7 @@ pub fn serve_by_key<S: Parts + Copy + Send, W: Threads + Wait + Sync>(
     pool: &Pool,
     shared: S,
     counts: Vec<u32>,
-) -> Result<Served<S>, AllocError>
+) -> Result<ServedParts<S>, AllocError>
 where
     S::Part: Send,
     requires pool { IsInRange pool.now 0 × (pool.now.pace.homes.spread ≡ 0) }
@@ -51,7 +51,7 @@ where
 {
     let residents = places_of(alloc, shared, counts.len() as u32, pool.squeues())?;
     let left = run_by_key(rt, alloc, &NoHook, pool, residents, &counts)?;
-    Ok(Served {
+    Ok(ServedParts {
         shared,
         counts,
         left,

@@ -6,7 +6,7 @@ use placed_parts::{Parts, Places};
 
 /// The part of each connection, after all its feeds.
 #[derive(Drop)]
-pub struct Served<S: Parts> {
+pub struct ServedParts<S: Parts> {
     pub(crate) shared: S,
     pub(crate) counts: Vec<u32>,
     pub(crate) left: Vec<Left<Places<S>>>,
@@ -14,7 +14,7 @@ pub struct Served<S: Parts> {
     ghost some: { 1 ≤ length left.items },
 }
 
-impl<S: Parts> Served<S> {
+impl<S: Parts> ServedParts<S> {
     ghost use Rattle.std.specs.Prelude.{slice_index};
     ghost use Rattle.placed_parts.specs.Standing.{HasFed};
     ghost use Rattle.squeue_pool.specs.ServedParts.{IsServed, counts_of, shared_of};

@@ -33,7 +33,7 @@ struct Pass {
 
 /// What all squeues of a run have in common.
 #[derive(Clone, Copy)]
-pub struct Run<'p, 'c> {
+pub struct RunSetup<'p, 'c> {
     pub plan: &'p Plan<'c>,
     pub calls: &'p Calls,
     pub setup: Setup,
@@ -55,7 +55,7 @@ pub struct Run<'p, 'c> {
 /// ```
 #[derive(Drop)]
 pub struct ReplayedSqueue<'p, 'c> {
-    run: Run<'p, 'c>,
+    run: RunSetup<'p, 'c>,
     number: u32,
     own: Own,
     wake: bool,
@@ -87,7 +87,7 @@ impl<'p, 'c> ReplayedSqueue<'p, 'c> {
     /// The squeue of this number before its first mark. Fails only for want of memory.
     pub fn make(
         alloc: Global,
-        run: Run<'p, 'c>,
+        run: RunSetup<'p, 'c>,
         number: u32,
     ) -> Result<ReplayedSqueue<'p, 'c>, AllocError>
         requires { number < run.setup.squeues }

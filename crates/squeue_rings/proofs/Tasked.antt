@@ -5,7 +5,7 @@ use Rattle.std.proofs.lemmas.List.FromFn.{length-map-range_with_len}
 use Rattle.std.proofs.lemmas.List.{append-nil, map-append}
 use Rattle.std.specs.declared.alloc.Global.{Global}
 use Rattle.poll_ring.specs.Rings.{FeedCount}
-use Rattle.squeue_rings.specs.declared.intake.Ends.{Ends}
+use Rattle.squeue_rings.specs.declared.intake.IntakeEnds.{IntakeEnds}
 use Rattle.squeue_rings.specs.declared.intake.Intake.{Intake}
 use Rattle.squeue_rings.specs.declared.task.RingTask.{RingTask}
 use Rattle.squeue_rings.specs.declared.task.Task.{Task}
@@ -21,9 +21,9 @@ each_more P [] x each new (suc k) a is = cc is
 each_more P (y ∷ xs) x each new zero a is = each 0 a is
 each_more P (y ∷ xs) x each new (suc k) a is = each_more (λ k a. P (suc k) a) xs x (λ k a is. each (suc k) a is) new k a is
 
-module _ (squeues : ℕ) (all : List Ends) where
+module _ (squeues : ℕ) (all : List IntakeEnds) where
   -- the first rings have their intakes, their ends and their tasks, and these are left
-  pub record SoFar (left : List Ends) (intakes : List Intake) (ends : List (Option FeedCount)) (tasks : List Task) : Type 0 where
+  pub record SoFar (left : List IntakeEnds) (intakes : List Intake) (ends : List (Option FeedCount)) (tasks : List Task) : Type 0 where
     pub is : intakes ++ map (λ e. e.intake) left ≡ map (λ e. e.intake) all
     pub unused : AreUnused left
     pub have : HaveRings intakes
@@ -33,7 +33,7 @@ module _ (squeues : ℕ) (all : List Ends) where
   pub none_yet : AreUnused all → SoFar all [] [] []
   none_yet unused = record { is = refl; unused = unused; have = λ r l is. cc is; ends_are = refl; tasks_are = record { count = refl; each = λ r l is. cc is } }
 
-  pub one_more : (left : List Ends) (intakes : List Intake) (ends : List (Option FeedCount)) (tasks : List Task) (e : Ends) (t : RingTask) → SoFar (e ∷ left) intakes ends tasks
+  pub one_more : (left : List IntakeEnds) (intakes : List Intake) (ends : List (Option FeedCount)) (tasks : List Task) (e : IntakeEnds) (t : RingTask) → SoFar (e ∷ left) intakes ends tasks
       → t.number ≡ length intakes → t.end ≡ e.poll → length t.polling.items ≡ squeues → SoFar left (intakes ++ e.intake ∷ []) (ends ++ e.feed ∷ []) (tasks ++ Task'.Bring t ∷ [])
   one_more left intakes ends tasks e t so number poll polling =
       let it = so.unused 0 e refl in
@@ -50,8 +50,8 @@ module _ (squeues : ℕ) (all : List Ends) where
         };
       }
 
-  pub all_apart : (intakes : List Intake) (ends : List (Option FeedCount)) (tasks : List Task) (left : List Ends) → left ≡ [] → SoFar left intakes ends tasks → intakes ≡ map (λ e. e.intake) all
-  all_apart intakes ends tasks left none so = sym (append-nil intakes) ∙ (ap (λ (l : List Ends). intakes ++ map (λ e. e.intake) l) (sym none) ∙ so.is)
+  pub all_apart : (intakes : List Intake) (ends : List (Option FeedCount)) (tasks : List Task) (left : List IntakeEnds) → left ≡ [] → SoFar left intakes ends tasks → intakes ≡ map (λ e. e.intake) all
+  all_apart intakes ends tasks left none so = sym (append-nil intakes) ∙ (ap (λ (l : List IntakeEnds). intakes ++ map (λ e. e.intake) l) (sym none) ∙ so.is)
 
 -- one number more
 numbers_from : {A : Type 0} (f : ℕ → A) (a n : ℕ) → map f (range_with_len a (suc n)) ≡ map f (range_with_len a n) ++ f (a + n) ∷ []

@@ -3,7 +3,7 @@ use Rattle.std.specs.Prelude.{◌≡◌, ℕ, ◌+◌, ◌<◌, List, MatchOptio
 use Rattle.std.specs.declared.alloc.Global.{Global}
 use Rattle.perimeter_core.specs.declared.entries.Feed.{Feed}
 use Rattle.poll_ring.specs.Rings.{FeedCount, PollCount, RingSize}
-use Rattle.squeue_rings.specs.declared.intake.Ends.{Ends}
+use Rattle.squeue_rings.specs.declared.intake.IntakeEnds.{IntakeEnds}
 use Rattle.squeue_rings.specs.declared.intake.Intake.{Intake}
 use Rattle.squeue_rings.specs.declared.task.RingTask.{RingTask}
 use Rattle.squeue_rings.specs.declared.task.Task.{Task}
@@ -37,13 +37,13 @@ pub record AreIntakes (P : ℕ → List Feed → Type 0) (rings : ℕ) (intakes 
   pub each : (r : ℕ) (l : Intake) → slice_get intakes r ≡ Some l → P r l.list.items
 
 -- by the two ends of the intake's ring nothing was put and nothing taken
-pub record IsUnused (e : Ends) : Type 0 where
+pub record IsUnused (e : IntakeEnds) : Type 0 where
   pub ring : HasRing e.intake
   pub feed : e.feed ≡ option_map feed_end e.intake.ring
   pub poll : e.poll ≡ option_map poll_end e.intake.ring
 
-abbrev pub AreUnused : List Ends → Type 0
-AreUnused es = (r : ℕ) (e : Ends) → slice_get es r ≡ Some e → IsUnused e
+abbrev pub AreUnused : List IntakeEnds → Type 0
+AreUnused es = (r : ℕ) (e : IntakeEnds) → slice_get es r ≡ Some e → IsUnused e
 
 -- the task of an intake's ring: it has the ring's number, its end of the receive ring, and a flag for each squeue
 pub record IsRingTask (squeues r : ℕ) (l : Intake) (t : RingTask) : Type 0 where

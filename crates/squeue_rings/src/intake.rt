@@ -15,20 +15,20 @@ pub struct Intake {
 
 /// A ring's intake with the two ends of its receive ring.
 #[derive(Drop)]
-pub struct Ends {
+pub struct IntakeEnds {
     pub intake: Intake,
     pub feed: Option<FeedEnd>,
     pub poll: Option<PollEnd>,
 }
 
 /// The intake of a ring that brings these feeds. Fails only for want of memory.
-pub fn intake_of(alloc: Global, list: Vec<Feed>) -> Result<Ends, AllocError>
+pub fn intake_of(alloc: Global, list: Vec<Feed>) -> Result<IntakeEnds, AllocError>
     requires { length list.items < 2 ^ 32 }
     ensures list { IfOk result (λ e. e.intake.list.items ≡ list.items) }
     ensures unused { IfOk result (λ e. IsUnused e) }
 {
     if list.is_empty() {
-        return Ok(Ends {
+        return Ok(IntakeEnds {
             intake: Intake { list, ring: None },
             feed: None,
             poll: None,
@@ -39,7 +39,7 @@ pub fn intake_of(alloc: Global, list: Vec<Feed>) -> Result<Ends, AllocError>
         list,
         ring: Some(ring),
     };
-    Ok(Ends {
+    Ok(IntakeEnds {
         intake,
         feed: Some(feed),
         poll: Some(poll),

@@ -2,7 +2,7 @@
 ghost use Rattle.std.specs.Prelude.{◌≡◌, IfOk, length, map};
 ghost use Rattle.squeue_rings.specs.Tasks.{AreEnds, AreRingTasks, AreTasks, AreUnused, HaveRings};
 
-use crate::intake::{Ends, Intake};
+use crate::intake::{Intake, IntakeEnds};
 use poll_ring::{FeedEnd, PollEnd};
 use std::alloc::{AllocError, Global};
 
@@ -39,7 +39,7 @@ struct Rings {
 /// workers'. Fails only for want of memory.
 pub fn tasks_of(
     alloc: Global,
-    rings: Vec<Ends>,
+    rings: Vec<IntakeEnds>,
     callers: u32,
     squeues: u32,
 ) -> Result<(Vec<Intake>, Vec<Task>), AllocError>
@@ -66,7 +66,7 @@ pub fn tasks_of(
 }
 
 // The intakes, the feeder's ends, and a task for each ring.
-fn take_apart(alloc: Global, rings: Vec<Ends>, squeues: u32) -> Result<Rings, AllocError>
+fn take_apart(alloc: Global, rings: Vec<IntakeEnds>, squeues: u32) -> Result<Rings, AllocError>
     requires { AreUnused rings.items }
     ensures intakes { IfOk result (λ r. r.intakes.items ≡ map (λ e. e.intake) rings.items) }
     ensures have { IfOk result (λ r. HaveRings r.intakes.items) }
@@ -79,7 +79,7 @@ fn take_apart(alloc: Global, rings: Vec<Ends>, squeues: u32) -> Result<Rings, Al
     let mut tasks = Vec::new(alloc);
     rings.reverse();
     while let Some(ring) = rings.pop() {
-        let Ends { intake, feed, poll } = ring;
+        let IntakeEnds { intake, feed, poll } = ring;
         let number = intakes.len();
         let polling = vec![in alloc; false; squeues as usize]?;
         intakes.push(intake)?;

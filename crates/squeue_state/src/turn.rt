@@ -58,7 +58,7 @@ impl<R: Resident> Turn<R> {
         ensures fits { result ≡ true → FeedsFit (setting_of R.limits self.now.squeue.given) self.now.squeue.given.room self.now.found feeds }
         ensures full { result ≡ false
             → self.now.squeue.given.room < length (queue (run (setting_of R.limits self.now.squeue.given) self.now.found))
-                + feeds + length self.now.squeue.given.quotas }
+            + feeds + length self.now.squeue.given.quotas }
     {
         let inner = &self.held.get().inner;
         let taken = inner.in_hand + inner.chain.len() + (inner.closed.len() - 1);

@@ -15,7 +15,7 @@ use Rattle.squeue_state.specs.Naming.{Named, setting_of}
 use Rattle.squeue_enter.specs.Entering.{Brought, MayEnter, MayGoOn}
 use Rattle.histories.specs.Lists.{items_of}
 use Rattle.histories.proofs.RingLists.{length_items, items_end as items_longer, same_key}
-use Rattle.squeue_streams.specs.declared.source.Source.{Source}
+use Rattle.squeue_streams.specs.declared.source.ItemSource.{ItemSource}
 use Rattle.squeue_streams.specs.Sourcing.{Brings, IsRefused, IsSpent, SameCounts, SameSource, again_of, entered_of, left_of, pushed_of, sent_of, span_of, stream_of}
 
 -- one feed more
@@ -35,7 +35,7 @@ module _ {R : Type 0} (limits : R → Limits) (s : Named R) where
   S = setting_of limits s.given
 
   -- the feeds of items that are pushed may be entered
-  pub may_chain : {T : Type 0} (p : Pass Element) (source : Source T) (k : ℕ) → k ≤ pushed_of source - entered_of source → entered_of source + k ≤ span_of source → Brings limits s p source
+  pub may_chain : {T : Type 0} (p : Pass Element) (source : ItemSource T) (k : ℕ) → k ≤ pushed_of source - entered_of source → entered_of source + k ≤ span_of source → Brings limits s p source
       → MayEnter limits s p (items_of (stream_of source) (entered_of source) k)
   may_chain p source k some within b =
       record {
@@ -47,7 +47,7 @@ module _ {R : Type 0} (limits : R → Limits) (s : Named R) where
       }
 
   -- k of them were entered
-  pub brings_on : {T : Type 0} (from to : Pass Element) (old new : Source T) (k : ℕ) → stream_of new ≡ stream_of old → span_of new ≡ span_of old → again_of new ≡ again_of old → entered_of new ≡ entered_of old + k
+  pub brings_on : {T : Type 0} (from to : Pass Element) (old new : ItemSource T) (k : ℕ) → stream_of new ≡ stream_of old → span_of new ≡ span_of old → again_of new ≡ again_of old → entered_of new ≡ entered_of old + k
       → ((pushed_of new - entered_of new) + left_of new) + k ≤ (pushed_of old - entered_of old) + left_of old
       → k ≤ pushed_of old - entered_of old → entered_of old + k ≤ span_of old → Brings limits s from old
       → Brought limits s (items_of (stream_of old) (entered_of old) k) from to → MayGoOn limits s (items_of (stream_of old) (entered_of old) k) from to → number to ≡ number from → Brings limits s to new
@@ -77,7 +77,7 @@ module _ {R : Type 0} (limits : R → Limits) (s : Named R) where
       }
 
   -- nothing was entered
-  pub brings_same : {T : Type 0} (p : Pass Element) (old new : Source T) → stream_of new ≡ stream_of old → span_of new ≡ span_of old → again_of new ≡ again_of old → entered_of new ≡ entered_of old
+  pub brings_same : {T : Type 0} (p : Pass Element) (old new : ItemSource T) → stream_of new ≡ stream_of old → span_of new ≡ span_of old → again_of new ≡ again_of old → entered_of new ≡ entered_of old
       → (pushed_of new - entered_of new) + left_of new ≤ (pushed_of old - entered_of old) + left_of old → Brings limits s p old → Brings limits s p new
   brings_same p old new stream span again entered few b =
       let was_feeds = b.feeds in
@@ -96,7 +96,7 @@ module _ {R : Type 0} (limits : R → Limits) (s : Named R) where
       }
 
 -- the same source twice
-pub same_both : {T : Type 0} (a b c : Source T) → SameSource a b → SameSource b c → SameSource a c
+pub same_both : {T : Type 0} (a b c : ItemSource T) → SameSource a b → SameSource b c → SameSource a c
 same_both a b c x y =
     record {
       ring = ((y.ring.0.0 ∙ x.ring.0.0, y.ring.0.1 ∙ x.ring.0.1, y.ring.0.2 ∙ x.ring.0.2, y.ring.0.3 ∙ x.ring.0.3), y.ring.1 ∙ x.ring.1);
@@ -114,7 +114,7 @@ pub if_err : {A E : Type 0} {P Q S : E → Type 0} (r : Result A E) → ((e : E)
 if_err (Ok x) f h k = tt
 if_err (Err e) f h k = f e h k
 
-module _ {T : Type 0} (old new : Source T) where
+module _ {T : Type 0} (old new : ItemSource T) where
   -- what a source counts after a push
   pub push_few : {A : Type 0} (item : T) (r : Result A T) → OnOk r ((sent_of new ≡ sent_of old ++ item ∷ []) × (pushed_of new ≡ pushed_of old + 1) × (left_of old ≡ left_of new + 1)) → IfErr r (λ x. (x ≡ item) × SameCounts old new)
       → entered_of new ≡ entered_of old → entered_of old ≤ pushed_of old → (pushed_of new - entered_of new) + left_of new ≤ (pushed_of old - entered_of old) + left_of old
@@ -131,5 +131,5 @@ module _ {T : Type 0} (old new : Source T) where
   refused_still k same way is = elim is [ inl z ↦ inl z | inr more ↦ elim more [ inl z ↦ inr (inl z) | inr full ↦ inr (inr (spent_still k same way full)) ] ]
 
 -- where not all numbers are used up, or the stream can't be put in again
-pub spent_or_not : {T : Type 0} (s : Source T) → entered_of s ≤ pushed_of s → (entered_of s < span_of s) ⊎ (again_of s ≡ 0) → pushed_of s ≡ span_of s → IsSpent s
+pub spent_or_not : {T : Type 0} (s : ItemSource T) → entered_of s ≤ pushed_of s → (entered_of s < span_of s) ⊎ (again_of s ≡ 0) → pushed_of s ≡ span_of s → IsSpent s
 spent_or_not s order is full = (full, elim is [ inl l ↦ inr (omega (arith, l, full)) | inr z ↦ inl z ])

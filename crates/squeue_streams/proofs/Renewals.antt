@@ -10,7 +10,7 @@ use Rattle.perimeter_core.specs.declared.marks.SynchAct.TheVariants as Done
 use Rattle.squeue_state.specs.Naming.{Named, setting_of}
 use Rattle.conn_migrate.specs.Moving.{MayCome, MayLeave, Moved}
 use Rattle.conn_migrate.proofs.OwnMarks.{knows_in, knows_out, next_in}
-use Rattle.squeue_streams.specs.declared.source.Source.{Source}
+use Rattle.squeue_streams.specs.declared.source.ItemSource.{ItemSource}
 use Rattle.squeue_streams.specs.Sourcing.{Brings, again_of, entered_of, left_of, pushed_of, span_of, stream_of}
 use Rattle.squeue_streams.specs.Renewing.{IsRenewed, MayRenew}
 
@@ -43,7 +43,7 @@ module _ {R : Type 0} (limits : R → Limits) (s : Named R) where
           away = learns.now_here;
         }
 
-  module _ {T : Type 0} (from : Pass Element) (old : Source T) (b : Brings limits s from old) where
+  module _ {T : Type 0} (from : Pass Element) (old : ItemSource T) (b : Brings limits s from old) where
     pub may_renew : 0 < again_of old → MayRenew limits s (stream_of old) from
     may_renew some =
         let asks = b.asks in
@@ -60,7 +60,7 @@ module _ {R : Type 0} (limits : R → Limits) (s : Named R) where
         }
 
     -- its feeds begin anew
-    pub brings_anew : (to : Pass Element) (new : Source T) → stream_of new ≡ stream_of old → span_of new ≡ span_of old → again_of old ≡ again_of new + 1 → entered_of new ≡ 0 → pushed_of new ≡ 0
+    pub brings_anew : (to : Pass Element) (new : ItemSource T) → stream_of new ≡ stream_of old → span_of new ≡ span_of old → again_of old ≡ again_of new + 1 → entered_of new ≡ 0 → pushed_of new ≡ 0
         → left_of new ≡ left_of old → IsRenewed limits s (stream_of old) from to → Brings limits s to new
     brings_anew to new stream span again entered pushed left is =
         let c : ℕ = stream_of old in

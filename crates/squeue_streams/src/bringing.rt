@@ -10,7 +10,7 @@ ghost use Rattle.squeue_streams.specs.Sourcing.{Brings, IsRefused, IsSpent, Same
 ghost use Rattle.squeue_streams.specs.Sourcing.{left_of, most_of, producer_of, pushed_of, sent_of, span_of, stream_of};
 
 use crate::renewing::{Renews, renew};
-use crate::source::{Source, SourcePace};
+use crate::source::{ItemSource, SourcePace};
 use perimeter_core::{Feed, Hook, Resident};
 use rtrb::{Producer, PushError};
 use squeue_enter::{Entered, enter_or_full};
@@ -18,7 +18,7 @@ use squeue_state::{Pass, Squeue};
 use std::alloc::{AllocError, Global};
 use std::sync::Wait;
 
-impl<T: Drop> Source<T> {
+impl<T: Drop> ItemSource<T> {
     /// The source of stream `c`, whose ring nothing was pushed into. It pushes at most `life` items, and enters at most
     /// `most` feeds at once. After `span` items its stream is put in again, so that feeds are numbered anew, at most `again` times.
     /// Fails only for want of memory.
@@ -30,7 +30,7 @@ impl<T: Drop> Source<T> {
         life: u64,
         span: u32,
         again: u32,
-    ) -> Result<Source<T>, AllocError>
+    ) -> Result<ItemSource<T>, AllocError>
         requires { (1 ≤ most) × (1 ≤ span) }
         ensures stream { IfOk result (λ s. (stream_of s ≡ c) × (most_of s ≡ most)) }
         ensures lives { IfOk result (λ s. (left_of s ≡ life) × (span_of s ≡ span) × (again_of s ≡ again)) }
@@ -38,7 +38,7 @@ impl<T: Drop> Source<T> {
         ensures ring { IfOk result (λ s. producer_of s ≡ producer) }
         ensures sent { IfOk result (λ s. sent_of s ≡ sent producer) }
     {
-        Ok(Source {
+        Ok(ItemSource {
             producer,
             chain: Vec::with_capacity(alloc, most as usize)?,
             most,

@@ -18,7 +18,7 @@ pub struct SourcePace {
 /// stream is put in at most `span` items are pushed, and it is put in again at most `again` times more. `left` more items are pushed
 /// at most.
 #[derive(Drop)]
-pub struct Source<T: Drop> {
+pub struct ItemSource<T: Drop> {
     pub(crate) producer: Producer<T>,
     pub(crate) chain: Vec<Feed>,
     pub(crate) most: u32,

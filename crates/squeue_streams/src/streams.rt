@@ -8,7 +8,7 @@ ghost use Rattle.squeue_streams.specs.Sourcing.{SameCounts, entered_of, producer
 ghost use Rattle.squeue_streams.specs.Taking.{HasTakenMore, SameStream, calls_of, count_of, feeds_of, input_of, items_of, state_of, steps_of, streams_of};
 
 use crate::renewing::Renews;
-use crate::source::Source;
+use crate::source::ItemSource;
 use placed_parts::{Parts, Places};
 use rtrb::{Consumer, Producer, RingBuffer};
 use std::alloc::{AllocError, Global};
@@ -98,7 +98,7 @@ impl<T: Drop, S: Drop> Stream<T, S> {
     }
 
     /// How many items are pushed and not popped yet, where the source of the same ring is at hand.
-    pub fn left_beside(&mut self, source: &mut Source<T>) -> usize
+    pub fn left_beside(&mut self, source: &mut ItemSource<T>) -> usize
         requires { IsPair (producer_of source.old) (input_of self.old) }
         ensures same { (state_of self.new ≡ state_of self.old) × (items_of self.new ≡ items_of self.old) }
         ensures source { SameCounts source.old source.new × (entered_of source.new ≡ entered_of source.old) }

@@ -13,7 +13,7 @@ use Rattle.conn_classifier.proofs.OneKey.{none_any, some_any}
 use Rattle.conn_classifier.proofs.Joining.{all_listed}
 use Rattle.stream_plan.specs.Limits.{most_streams}
 use Rattle.stream_plan.specs.declared.kinds.Arrived.{Arrived}
-use Rattle.stream_plan.specs.declared.kinds.Datagram.{Datagram}
+use Rattle.stream_plan.specs.declared.kinds.ServedDatagram.{ServedDatagram}
 use Rattle.stream_plan.specs.declared.kinds.Found.{Found}
 use Rattle.stream_plan.specs.declared.kinds.Found.TheVariants as found
 use Rattle.stream_plan.specs.Streams.{StreamOf, as_datagram, as_segment, datagrams_of, is_among, is_of, of_stream, rising, segments_of, tuple_of, tuples_in}
@@ -22,23 +22,23 @@ use Rattle.stream_plan.proofs.Together.{apart_tuples}
 use Rattle.stream_plan.proofs.TupleSteps.{few_tuples, tuples_full, tuples_some}
 
 -- the time of the last datagram
-last_more : (from : ℕ) (d : Datagram) (ds : List Datagram) (e : Datagram) → slice_get (d ∷ ds) (length ds) ≡ Some e → last_at from (d ∷ ds) ≡ e.at
-last_more from d [] e h = let is : d ≡ e = cc in ap (λ (z : Datagram). z.at) is
+last_more : (from : ℕ) (d : ServedDatagram) (ds : List ServedDatagram) (e : ServedDatagram) → slice_get (d ∷ ds) (length ds) ≡ Some e → last_at from (d ∷ ds) ≡ e.at
+last_more from d [] e h = let is : d ≡ e = cc in ap (λ (z : ServedDatagram). z.at) is
 last_more from d (x ∷ ds) e h = last_more d.at x ds e h
 
-pub last_some : (ds : List Datagram) (e : Datagram) → slice_get ds (length ds - 1) ≡ Some e → last_at 0 ds ≡ e.at
+pub last_some : (ds : List ServedDatagram) (e : ServedDatagram) → slice_get ds (length ds - 1) ≡ Some e → last_at 0 ds ≡ e.at
 last_some [] e h = absurd (let no : ⊥ = cc in no)
 last_some (d ∷ ds) e h = let one : length ds ≡ suc (length ds) - 1 = omega arith in last_more 0 d ds e (ap (slice_get (d ∷ ds)) one ∙ h)
 
-none_last : (d : Datagram) (ds : List Datagram) → slice_get (d ∷ ds) (length ds) ≡ None → ⊥
+none_last : (d : ServedDatagram) (ds : List ServedDatagram) → slice_get (d ∷ ds) (length ds) ≡ None → ⊥
 none_last d [] h = cc
 none_last d (x ∷ ds) h = none_last x ds h
 
-pub last_none : (ds : List Datagram) → slice_get ds (length ds - 1) ≡ None → last_at 0 ds ≡ 0
+pub last_none : (ds : List ServedDatagram) → slice_get ds (length ds - 1) ≡ None → last_at 0 ds ≡ 0
 last_none [] h = refl
 last_none (d ∷ ds) h = let one : length ds ≡ suc (length ds) - 1 = omega arith in absurd (none_last d ds (ap (slice_get (d ∷ ds)) one ∙ h))
 
-rising_push : (from : ℕ) (ds : List Datagram) (d : Datagram) → rising from (ds ++ d ∷ []) ≡ rising from ds ++ record d { at = max (last_at from (rising from ds)) d.at } ∷ []
+rising_push : (from : ℕ) (ds : List ServedDatagram) (d : ServedDatagram) → rising from (ds ++ d ∷ []) ≡ rising from ds ++ record d { at = max (last_at from (rising from ds)) d.at } ∷ []
 rising_push from [] d = refl
 rising_push from (e ∷ ds) d = ap (λ l. record e { at = max from e.at } ∷ l) (rising_push (max from e.at) ds d)
 

@@ -19,7 +19,7 @@ use Rattle.conn_classifier.proofs.Conns.{same}
 use Rattle.conn_classifier.proofs.PlanLaw.{IsIn}
 use Rattle.conn_classifier.proofs.TextWithin.{EndsWithin, text_within}
 use Rattle.stream_plan.specs.declared.kinds.Arrived.{Arrived}
-use Rattle.stream_plan.specs.declared.kinds.Datagram.{Datagram}
+use Rattle.stream_plan.specs.declared.kinds.ServedDatagram.{ServedDatagram}
 use Rattle.stream_plan.specs.declared.kinds.Found.{Found}
 use Rattle.stream_plan.specs.declared.kinds.Found.TheVariants as found
 use Rattle.stream_plan.specs.Streams.{arrived_from, datagrams_of, is_of, of_stream, rising, segments_of, served_in, served_tcp, served_udp, stream_in, tuple_of}
@@ -63,7 +63,7 @@ tcp_found n packet.Cut f le e = absurd (let no : ⊥ = cc in no)
 tcp_found n (packet.Malformed why) f le e = absurd (let no : ⊥ = cc in no)
 tcp_found n packet.BadSum f le e = absurd (let no : ⊥ = cc in no)
 
-pub length-rising : (from : ℕ) (ds : List Datagram) → length (rising from ds) ≡ length ds
+pub length-rising : (from : ℕ) (ds : List ServedDatagram) → length (rising from ds) ≡ length ds
 length-rising from [] = refl
 length-rising from (d ∷ ds) = ap suc (length-rising (max from d.at) ds)
 
@@ -186,7 +186,7 @@ module _ (file : CaptureFile) (last : ℕ) where
               rest (max from x.at),
             )
 
-    climbs : (from : ℕ) (ds : List Datagram) → Climbs from (map (λ d. d.at) (rising from ds))
+    climbs : (from : ℕ) (ds : List ServedDatagram) → Climbs from (map (λ d. d.at) (rising from ds))
     climbs from [] = tt
     climbs from (d ∷ ds) = (omega arith, climbs (max from d.at) ds)
 

@@ -8,7 +8,7 @@ use Rattle.conn_classifier.specs.Items.{items_of}
 use Rattle.conn_classifier.specs.declared.kinds.Arrival.{Arrival}
 use Rattle.stream_plan.specs.Limits.{most_streams}
 use Rattle.stream_plan.specs.declared.kinds.Arrived.{Arrived}
-use Rattle.stream_plan.specs.declared.kinds.Datagram.{Datagram}
+use Rattle.stream_plan.specs.declared.kinds.ServedDatagram.{ServedDatagram}
 use Rattle.stream_plan.specs.declared.kinds.Found.{Found}
 use Rattle.stream_plan.specs.declared.kinds.Found.TheVariants as found
 use Rattle.stream_plan.specs.Streams.{StreamOf, datagrams_of, is_among, of_stream, rising, segments_of, tuples_in}
@@ -52,7 +52,7 @@ with_stream t s =
     else record s { tuples = s.tuples ++ t ∷ []; streams = s.streams ++ new_stream t ∷ []; segments = s.segments ++ [] ∷ [] }
 
 -- the time of the last of these, or else this one
-abbrev pub last_at : ℕ → List Datagram → ℕ
+abbrev pub last_at : ℕ → List ServedDatagram → ℕ
 last_at from [] = from
 last_at from (d ∷ ds) = last_at d.at ds
 

@@ -7,11 +7,11 @@ use Rattle.capture_reader.specs.Outcome.{CaptureFile}
 use Rattle.conn_classifier.specs.Plan.{Climbs, IsInside, Rises}
 use Rattle.udp_codec.specs.Limits.{most_text}
 use Rattle.stream_plan.specs.Limits.{most_streams}
-use Rattle.stream_plan.specs.declared.kinds.Datagram.{Datagram}
+use Rattle.stream_plan.specs.declared.kinds.ServedDatagram.{ServedDatagram}
 use Rattle.stream_plan.specs.Streams.{MorePlanOf, StreamOf, item_count}
 
 -- a datagram's text lies within its record's body, and is short enough to be sent in a datagram
-pub record HasText (file : CaptureFile) (d : Datagram) : Type 0 where
+pub record HasText (file : CaptureFile) (d : ServedDatagram) : Type 0 where
   pub within : d.rec < length file.packets
   pub text : IfSome (slice_get file.packets d.rec) (λ r. d.udp.text_from + d.udp.text_len ≤ length r.body)
   pub short : d.udp.text_len ≤ most_text

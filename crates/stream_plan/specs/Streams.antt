@@ -22,7 +22,7 @@ use Rattle.stream_plan.specs.declared.kinds.Found.{Found}
 use Rattle.stream_plan.specs.declared.kinds.Found.TheVariants as found
 use Rattle.stream_plan.specs.declared.kinds.Arrived.{Arrived}
 use Rattle.stream_plan.specs.declared.kinds.Counts.{Counts}
-use Rattle.stream_plan.specs.declared.kinds.Datagram.{Datagram}
+use Rattle.stream_plan.specs.declared.kinds.ServedDatagram.{ServedDatagram}
 
 -- a datagram to echo or discard is served, and so is a segment to the generator
 abbrev pub served_udp : Udp → Option Found
@@ -74,7 +74,7 @@ abbrev pub of_stream : Tuple → List Arrived → List Arrived
 of_stream t xs = filter (is_of t) xs
 
 -- the datagrams and the segments among them
-abbrev pub as_datagram : ℕ → ℕ → Found → Option Datagram
+abbrev pub as_datagram : ℕ → ℕ → Found → Option ServedDatagram
 as_datagram rec at (found.Datagram u) = Some (record { at = at; rec = rec; udp = u })
 as_datagram rec at (found.Segment s) = None
 
@@ -82,21 +82,21 @@ abbrev pub as_segment : ℕ → ℕ → Found → Option Arrival
 as_segment rec at (found.Datagram u) = None
 as_segment rec at (found.Segment s) = Some (record { rec = rec; at = at; seg = s })
 
-abbrev pub datagrams_of : List Arrived → List Datagram
+abbrev pub datagrams_of : List Arrived → List ServedDatagram
 datagrams_of xs = filter_map (λ x. as_datagram x.rec x.at x.found) xs
 
 abbrev pub segments_of : List Arrived → List Arrival
 segments_of xs = filter_map (λ x. as_segment x.rec x.at x.found) xs
 
 -- a datagram's time never falls behind that of the one before it
-abbrev pub rising : ℕ → List Datagram → List Datagram
+abbrev pub rising : ℕ → List ServedDatagram → List ServedDatagram
 rising last [] = []
 rising last (d ∷ ds) = record d { at = max last d.at } ∷ rising (max last d.at) ds
 
 -- a stream: its two ends, the datagrams to echo or discard, and the items of the segments to the generator, of which one list is empty
 pub record StreamOf : Type 0 where
   pub tuple : Tuple
-  pub datagrams : List Datagram
+  pub datagrams : List ServedDatagram
   pub items : List Item
 
 -- how many it has of both

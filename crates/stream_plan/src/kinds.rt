@@ -7,7 +7,7 @@ use udp_codec::Udp;
 #[derive(Clone, Copy, Debug, PartialEq, Eq)]
 pub enum Found {
     /// To echo or discard.
-    Datagram(Udp),
+    ServedDatagram(Udp),
     /// To the generator.
     Segment(Seg),
 }
@@ -22,7 +22,7 @@ pub struct Arrived {
 
 /// A served datagram, with its record's number. Times are in microseconds and never fall from one of a stream to the next.
 #[derive(Clone, Copy, Debug, PartialEq, Eq)]
-pub struct Datagram {
+pub struct ServedDatagram {
     pub at: u64,
     pub rec: u32,
     pub udp: Udp,

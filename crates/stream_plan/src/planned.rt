@@ -8,7 +8,7 @@ ghost use Rattle.stream_plan.specs.Streams.{item_count};
 ghost use Rattle.stream_plan.specs.Sorting.{last_at, new_stream, with_datagram};
 ghost use Rattle.conn_classifier.specs.Items.{items_of};
 
-use crate::kinds::{Counts, Datagram};
+use crate::kinds::{Counts, ServedDatagram};
 use capture_reader::Capture;
 use conn_classifier::{Arrival, Item, hints, items_in};
 use sq_base::Tuple;
@@ -21,18 +21,18 @@ use udp_codec::Udp;
 pub struct MorePlan<'c> {
     pub(crate) capture: &'c Capture,
     pub(crate) counts: Counts,
-    pub(crate) streams: Vec<Stream>,
+    pub(crate) streams: Vec<CapturedStream>,
 }
 
 /// A stream: its two ends, the datagrams to echo or discard, and the items of the segments to the generator. One list is empty.
 #[derive(Drop)]
-pub struct Stream {
+pub struct CapturedStream {
     pub(crate) tuple: Tuple,
-    pub(crate) datagrams: Vec<Datagram>,
+    pub(crate) datagrams: Vec<ServedDatagram>,
     pub(crate) items: Vec<Item>,
 }
 
-impl Model for Stream {
+impl Model for CapturedStream {
     ghost use Rattle.stream_plan.specs.Streams.{StreamOf};
 
     ghost Value = { StreamOf };
@@ -52,7 +52,7 @@ impl<'c> Model for MorePlan<'c> {
 }
 
 /// The time of the last datagram, or 0.
-fn last_time(datagrams: &[Datagram]) -> u64
+fn last_time(datagrams: &[ServedDatagram]) -> u64
     ensures { result ≡ last_at 0 datagrams.now }
 {
     match datagrams.last() {
@@ -61,12 +61,12 @@ fn last_time(datagrams: &[Datagram]) -> u64
     }
 }
 
-impl Stream {
+impl CapturedStream {
     /// A stream without datagrams and items. It takes no memory.
-    pub(crate) fn new(alloc: Global, tuple: Tuple) -> Stream
+    pub(crate) fn new(alloc: Global, tuple: Tuple) -> CapturedStream
         ensures { result ≡ new_stream tuple }
     {
-        Stream {
+        CapturedStream {
             tuple,
             datagrams: Vec::new(alloc),
             items: Vec::new(alloc),
@@ -78,7 +78,7 @@ impl Stream {
         ensures { OnOk result (self.new ≡ with_datagram rec at udp self.old) }
     {
         let at = last_time(self.datagrams.as_slice()).max(at);
-        self.datagrams.push(Datagram { at, rec, udp })?;
+        self.datagrams.push(ServedDatagram { at, rec, udp })?;
         Ok(())
     }
 
@@ -104,7 +104,7 @@ impl Stream {
     }
 
     /// The datagrams to echo or discard, in record order.
-    pub fn datagrams(&self) -> &[Datagram]
+    pub fn datagrams(&self) -> &[ServedDatagram]
         ensures { result.now ≡ self.now.datagrams }
     {
         self.datagrams.as_slice()
@@ -148,8 +148,8 @@ impl<'c> MorePlan<'c> {
         self.streams.len() as u32
     }
 
-    /// Stream number `c`.
-    pub fn stream(&self, c: u32) -> &Stream
+    /// CapturedStream number `c`.
+    pub fn stream(&self, c: u32) -> &CapturedStream
         requires { c < length self.now.streams }
         ensures { slice_get self.now.streams c ≡ Some result.now }
     {

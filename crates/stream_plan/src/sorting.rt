@@ -9,7 +9,7 @@ ghost use Rattle.stream_plan.specs.declared.kinds.Arrived.{Arrived as ArrivedOf}
 
 use crate::finding::{served, tuple_of};
 use crate::kinds::{Arrived, Found};
-use crate::planned::Stream;
+use crate::planned::CapturedStream;
 use capture_reader::Capture;
 use conn_classifier::Arrival;
 use indexmap::IndexSet;
@@ -25,7 +25,7 @@ pub struct Sorted {
     /// The first 4,096 streams, by first appearance.
     pub tuples: IndexSet<Tuple>,
     /// The same by number, each with its datagrams, and without items.
-    pub streams: Vec<Stream>,
+    pub streams: Vec<CapturedStream>,
     /// By stream its segments, in record order.
     pub segments: Vec<Vec<Arrival>>,
     /// How many records are of these streams, and how many of all streams.
@@ -69,7 +69,7 @@ impl Sorted {
             return Ok(None);
         }
         self.tuples.insert(tuple)?;
-        self.streams.push(Stream::new(alloc, tuple))?;
+        self.streams.push(CapturedStream::new(alloc, tuple))?;
         self.segments.push(Vec::new(alloc))?;
         Ok(Some(next))
     }

@@ -3,7 +3,7 @@
 ghost use Rattle.std.specs.Prelude.{◌≡◌, ◌≤◌, length, map, OnOk};
 ghost use Rattle.stream_plan.specs.Sorting.{filled};
 
-use crate::planned::Stream;
+use crate::planned::CapturedStream;
 use conn_classifier::Arrival;
 use std::alloc::{AllocError, Global};
 
@@ -11,7 +11,7 @@ use std::alloc::{AllocError, Global};
 pub fn fill(
     alloc: Global,
     last: u64,
-    streams: &mut Vec<Stream>,
+    streams: &mut Vec<CapturedStream>,
     segments: &[Vec<Arrival>],
 ) -> Result<(), AllocError>
     requires { length segments.now ≤ length streams.old.items }

@@ -31,7 +31,7 @@ impl<T: Drop> Stay<T> {
         ensures pushed { MatchResult result (λ n. (n ≡ pushed_of self.old) × (pushed_of self.new ≡ n + 1) × (entered_of self.new ≡ n + 1)
             × (sent_of self.new ≡ sent_of self.old ++ item ∷ []))
             (λ x. (x ≡ item) × (pushed_of self.new ≡ pushed_of self.old) × (entered_of self.new ≡ entered_of self.old)
-                × (sent_of self.new ≡ sent_of self.old)) }
+            × (sent_of self.new ≡ sent_of self.old)) }
         ensures room { OnOk result (room ≡ true) }
         ensures full { OnErr result ((room ≡ false) ⊎ (known_free (producer_of self.new) ≡ 0) ⊎ (pushed_of self.new ≡ most_feeds)) }
     {
@@ -70,7 +70,7 @@ pub fn push_at<X: Steps + Drop, H: Wait + Drop>(
     ensures same { (stay : Stay X.Item) × (next : Stay X.Item) × (place_at stays.old c ≡ Some (Open stay))
         × (place_at stays.new c ≡ Some (Open next)) × SameStay stay next
         × MatchResult result (λ _. (sent_of next ≡ sent_of stay ++ item ∷ []) × (pushed_of next ≡ pushed_of stay + 1))
-            (λ x. (x ≡ item) × (sent_of next ≡ sent_of stay) × (pushed_of next ≡ pushed_of stay))
+        (λ x. (x ≡ item) × (sent_of next ≡ sent_of stay) × (pushed_of next ≡ pushed_of stay))
         × OnErr result (HasNoRoom stays.new ⊎ (known_free (producer_of next) ≡ 0) ⊎ (pushed_of next ≡ most_feeds)) }
     ensures sent { MatchResult result (λ _. sent_in (place_at stays.new c) ≡ sent_in (place_at stays.old c) ++ item ∷ [])
         (λ _. sent_in (place_at stays.new c) ≡ sent_in (place_at stays.old c)) }

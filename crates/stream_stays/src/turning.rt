@@ -82,7 +82,7 @@ pub fn close_at<X: Steps + Drop, H: Wait + Drop, W: Wait>(
         × (place_at stays.new c ≡ Some (Vacant' vacant)) × (leaves_of stay ≡ vacant.leaves + 1)
         × (fed (acts (setting_of limits_of sq.now.given) (seen result) c) ≡ pushed_of stay) × (items_of vacant.part ≡ sent_of stay)
         × ((mine : List X.Item) → sent_of stay ≡ before_of stay ++ mine
-            → (from : X.State) × Takes (X.step (origin_of sq.now.given.first)) from mine (state_of vacant.part)) }
+        → (from : X.State) × Takes (X.step (origin_of sq.now.given.first)) from mine (state_of vacant.part)) }
     ensures sent { sent_in (place_at stays.new c) ≡ sent_in (place_at stays.old c) }
     ensures rest { (chain_of stays.new ≡ []) × (touched_of stays.new ≡ []) }
     ensures spent { ((life_of stays.new).feeds ≡ (life_of stays.old).feeds) × ((life_of stays.old).asks ≡ (life_of stays.new).asks + 1) }

@@ -40,8 +40,7 @@ pub struct Pieces<'k, K: Sink> {
     said: Known<Said>,
     ghost place: { sink.ghost_name ≡ said.value.told.place },
     ghost room: { filled ≤ length piece.items },
-    ghost whole: {
-        cut ≡ false → IsWhole said.value (K.contents sink.now) (K.write_faults sink.now) (take filled piece.items) } by { Prim.hlevel (props, Appends-prop) },
+    ghost whole: { cut ≡ false → IsWhole said.value (K.contents sink.now) (K.write_faults sink.now) (take filled piece.items) } by { Prim.hlevel (props, Appends-prop) },
     ghost front: { cut ≡ true → IsCut said.value.told (K.contents sink.now) (K.write_faults sink.now) } by { Prim.hlevel (props, HasFront-prop) },
 }
 

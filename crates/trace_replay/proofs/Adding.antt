@@ -11,7 +11,7 @@ use Rattle.perimeter_core.proofs.OneMore.{legal_next}
 use Rattle.ring_quotas.specs.declared.setup.Setup.{Setup}
 use Rattle.ring_quotas.specs.Quotas.{setting_at}
 use Rattle.squeue_replay.specs.declared.pace.PaceCheck.{PaceCheck}
-use Rattle.squeue_replay.specs.declared.squeue.Run.{Run}
+use Rattle.squeue_replay.specs.declared.squeue.RunSetup.{RunSetup}
 use Rattle.squeue_replay.specs.declared.squeue.ReplayedSqueue.{ReplayedSqueue}
 use Rattle.squeue_replay.specs.Histories.{note_of, noted}
 use Rattle.squeue_replay.specs.Pacing.{HasMet, KeepsAt, PaceStands}
@@ -54,30 +54,30 @@ module _ (old : ReplayedSqueue) (was : PaceCheck) (past : List Mark) (m : Mark) 
       record { stands = now.0; paced = subst (λ (G : List Element). PaceStands S G pace) (sym pushed) k.0; fits = k.1 }
 
 -- the squeue and the pace are those of a run and a number
-module _ (run : Run) (number : ℕ) (old : ReplayedSqueue) (was : PaceCheck) (run_is : old.run ≡ run) (number_is : old.number ≡ number) (setup_is : was.setup ≡ run.setup) (squeue_is : was.squeue ≡ number) where
-  abbrev pub Standing : Run → ℕ → List Mark → SqueueOf → Type 0
+module _ (run : RunSetup) (number : ℕ) (old : ReplayedSqueue) (was : PaceCheck) (run_is : old.run ≡ run) (number_is : old.number ≡ number) (setup_is : was.setup ≡ run.setup) (squeue_is : was.squeue ≡ number) where
+  abbrev pub Standing : RunSetup → ℕ → List Mark → SqueueOf → Type 0
   Standing r n ms s = Stands (setting_at r.plan.now r.calls.now r.setup.squeues r.setup.rings r.setup.spread n) (noted r.setup.squeues r.setup.spread n ms) s
 
-  abbrev pub Pacing : Run → ℕ → List Mark → PaceCheck → Type 0
+  abbrev pub Pacing : RunSetup → ℕ → List Mark → PaceCheck → Type 0
   Pacing r n ms pace = PaceStands (setting_at r.plan.now r.calls.now r.setup.squeues r.setup.rings r.setup.spread n) (noted r.setup.squeues r.setup.spread n ms) pace
 
   pub its_stands : (ms : List Mark) (s : SqueueOf) → Standing old.run old.number ms s → Standing run number ms s
-  its_stands ms s h = subst (λ (n : ℕ). Standing run n ms s) number_is (subst (λ (r : Run). Standing r old.number ms s) run_is h)
+  its_stands ms s h = subst (λ (n : ℕ). Standing run n ms s) number_is (subst (λ (r : RunSetup). Standing r old.number ms s) run_is h)
 
   pub stands_of : (ms : List Mark) (s : SqueueOf) → Standing run number ms s → Standing old.run old.number ms s
-  stands_of ms s h = subst (λ (r : Run). Standing r old.number ms s) (sym run_is) (subst (λ (n : ℕ). Standing run n ms s) (sym number_is) h)
+  stands_of ms s h = subst (λ (r : RunSetup). Standing r old.number ms s) (sym run_is) (subst (λ (n : ℕ). Standing run n ms s) (sym number_is) h)
 
   pub its_pace : (ms : List Mark) (pace : PaceCheck) → Pacing old.run old.number ms pace → Pacing run number ms pace
-  its_pace ms pace h = subst (λ (n : ℕ). Pacing run n ms pace) number_is (subst (λ (r : Run). Pacing r old.number ms pace) run_is h)
+  its_pace ms pace h = subst (λ (n : ℕ). Pacing run n ms pace) number_is (subst (λ (r : RunSetup). Pacing r old.number ms pace) run_is h)
 
   pub pace_of : (ms : List Mark) (pace : PaceCheck) → Pacing run number ms pace → Pacing old.run old.number ms pace
-  pace_of ms pace h = subst (λ (r : Run). Pacing r old.number ms pace) (sym run_is) (subst (λ (n : ℕ). Pacing run n ms pace) (sym number_is) h)
+  pace_of ms pace h = subst (λ (r : RunSetup). Pacing r old.number ms pace) (sym run_is) (subst (λ (n : ℕ). Pacing run n ms pace) (sym number_is) h)
 
   pub its_legal : (ms : List Mark) → (Legal (setting_of old) (history_of old ms) → ⊥)
       → Legal (setting_at run.plan.now run.calls.now run.setup.squeues run.setup.rings run.setup.spread number) (noted run.setup.squeues run.setup.spread number ms) → ⊥
   its_legal ms illegal legal =
       illegal
-      (subst (λ (r : Run). Legal (setting_at r.plan.now r.calls.now r.setup.squeues r.setup.rings r.setup.spread old.number) (noted r.setup.squeues r.setup.spread old.number ms)) (sym run_is)
+      (subst (λ (r : RunSetup). Legal (setting_at r.plan.now r.calls.now r.setup.squeues r.setup.rings r.setup.spread old.number) (noted r.setup.squeues r.setup.spread old.number ms)) (sym run_is)
       (subst (λ (n : ℕ). Legal (setting_at run.plan.now run.calls.now run.setup.squeues run.setup.rings run.setup.spread n) (noted run.setup.squeues run.setup.spread n ms)) (sym number_is) legal))
 
   pub its_fit : (past : List Mark) (m : Mark) (keeps : Bool)
@@ -85,6 +85,6 @@ module _ (run : Run) (number : ℕ) (old : ReplayedSqueue) (was : PaceCheck) (ru
       → Decides keeps (KeepsAt run.setup number (setting_at run.plan.now run.calls.now run.setup.squeues run.setup.rings run.setup.spread number) (noted run.setup.squeues run.setup.spread number past) (record { mark = m; note = note_of run.setup.squeues run.setup.spread number past m }))
   its_fit past m keeps h =
       subst (λ (n : ℕ). Decides keeps (KeepsAt run.setup number (setting_at run.plan.now run.calls.now run.setup.squeues run.setup.rings run.setup.spread n) (noted run.setup.squeues run.setup.spread n past) (record { mark = m; note = note_of run.setup.squeues run.setup.spread n past m }))) number_is
-      (subst (λ (r : Run). Decides keeps (KeepsAt run.setup number (setting_at r.plan.now r.calls.now r.setup.squeues r.setup.rings r.setup.spread old.number) (noted r.setup.squeues r.setup.spread old.number past) (record { mark = m; note = note_of r.setup.squeues r.setup.spread old.number past m }))) run_is
+      (subst (λ (r : RunSetup). Decides keeps (KeepsAt run.setup number (setting_at r.plan.now r.calls.now r.setup.squeues r.setup.rings r.setup.spread old.number) (noted r.setup.squeues r.setup.spread old.number past) (record { mark = m; note = note_of r.setup.squeues r.setup.spread old.number past m }))) run_is
       (subst (λ (n : ℕ). Decides keeps (KeepsAt run.setup n (setting_of old) (history_of old past) (record { mark = m; note = note_of old.run.setup.squeues old.run.setup.spread old.number past m }))) squeue_is
       (subst (λ (s : Setup). Decides keeps (KeepsAt s was.squeue (setting_of old) (history_of old past) (record { mark = m; note = note_of old.run.setup.squeues old.run.setup.spread old.number past m }))) setup_is h)))

@@ -10,7 +10,7 @@ use Rattle.perimeter_core.specs.Legal.{Legal}
 use Rattle.ring_quotas.specs.Quotas.{setting_at}
 use Rattle.report_lines.specs.TraceText.{mark_line}
 use Rattle.squeue_replay.specs.declared.pace.PaceCheck.{PaceCheck}
-use Rattle.squeue_replay.specs.declared.squeue.Run.{Run}
+use Rattle.squeue_replay.specs.declared.squeue.RunSetup.{RunSetup}
 use Rattle.squeue_replay.specs.declared.squeue.ReplayedSqueue.{ReplayedSqueue}
 use Rattle.squeue_replay.specs.Histories.{ending_of}
 use Rattle.squeue_replay.specs.Marks.{IsPrinted}
@@ -22,7 +22,7 @@ use Rattle.trace_replay.specs.Reasons.{IsIllegalAt}
 use Rattle.trace_replay.proofs.Adding.{its_fit, its_legal, its_pace, its_stands, pace_of, stands_of}
 use Rattle.trace_replay.proofs.Reaching.{Reached, ends, goes_on, illegal}
 
-module _ (r : Run) (q : ℕ) (old : ReplayedSqueue) (was : PaceCheck) (run_is : old.run ≡ r) (number_is : old.number ≡ q) (setup_is : was.setup ≡ r.setup) (squeue_is : was.squeue ≡ q) (ms : List Mark) (text : List ℕ) (count : ℕ) (unfit : Option ℕ)
+module _ (r : RunSetup) (q : ℕ) (old : ReplayedSqueue) (was : PaceCheck) (run_is : old.run ≡ r) (number_is : old.number ≡ q) (setup_is : was.setup ≡ r.setup) (squeue_is : was.squeue ≡ q) (ms : List Mark) (text : List ℕ) (count : ℕ) (unfit : Option ℕ)
     (reached : Reached r.plan.now r.calls.now r.setup q ms text count unfit (squeue_of old) was) where
   -- one mark more was read, and added
   module _ (m : Mark) (rest : List ℕ) (printed : IsPrinted m) (is : text ≡ mark_line m ++ rest) (next : ReplayedSqueue) (after : PaceCheck) (HasRead : Type 0) (read : HasRead) (o : Option Bool)
@@ -54,5 +54,5 @@ module _ (r : Run) (q : ℕ) (old : ReplayedSqueue) (was : PaceCheck) (run_is : 
       (ends r.plan.now r.calls.now r.setup q ms text count unfit (squeue_of old) was has reached none
       (subst (λ (n : ℕ). (H : List Element) → Stands (setting_at r.plan.now r.calls.now r.setup.squeues r.setup.rings r.setup.spread n) H (squeue_of old)
       → (IsTrue has ↔ IsOver (setting_at r.plan.now r.calls.now r.setup.squeues r.setup.rings r.setup.spread n) (history.run (setting_at r.plan.now r.calls.now r.setup.squeues r.setup.rings r.setup.spread n) H))) number_is
-      (subst (λ (u : Run). (H : List Element) → Stands (setting_at u.plan.now u.calls.now u.setup.squeues u.setup.rings u.setup.spread old.number) H (squeue_of old)
+      (subst (λ (u : RunSetup). (H : List Element) → Stands (setting_at u.plan.now u.calls.now u.setup.squeues u.setup.rings u.setup.spread old.number) H (squeue_of old)
       → (IsTrue has ↔ IsOver (setting_at u.plan.now u.calls.now u.setup.squeues u.setup.rings u.setup.spread old.number) (history.run (setting_at u.plan.now u.calls.now u.setup.squeues u.setup.rings u.setup.spread old.number) H))) run_is over)))

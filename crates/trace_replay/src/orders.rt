@@ -23,7 +23,7 @@ ghost use Rattle.trace_replay.specs.Reasons.{AreOrdered, AreRight, IsUnordered};
 use crate::reason::{Reason, Refusal};
 use conn_blocks::{Block, Blocks};
 use perimeter_core::{Act, Resident};
-use squeue_replay::{Guest, Run};
+use squeue_replay::{Guest, RunSetup};
 use std::alloc::{AllocError, Global};
 
 /// More stays than memory has room for.
@@ -33,7 +33,7 @@ const MOST_STAYS: usize = 1 << 60;
 /// that came to a squeue without having left the one before, or whose order isn't whole.
 pub fn serve_orders(
     alloc: Global,
-    run: Run<'_, '_>,
+    run: RunSetup<'_, '_>,
     guests: &[Vec<Guest>],
 ) -> Result<Vec<Box<Block>>, Refusal>
     requires range { IsInRange run.setup }
@@ -68,7 +68,7 @@ pub fn serve_orders(
 /// there is no whole order.
 fn serve_order(
     alloc: Global,
-    run: Run<'_, '_>,
+    run: RunSetup<'_, '_>,
     guests: &[Vec<Guest>],
     c: u32,
     blocks: &mut Blocks<'_>,
@@ -103,7 +103,11 @@ fn serve_order(
 
 /// How many stays the connection had at all squeues, where each but the first began after the one before had ended. Nothing where
 /// one didn't.
-fn count_stays(run: Run<'_, '_>, guests: &[Vec<Guest>], c: u32) -> Result<Option<usize>, AllocError>
+fn count_stays(
+    run: RunSetup<'_, '_>,
+    guests: &[Vec<Guest>],
+    c: u32,
+) -> Result<Option<usize>, AllocError>
     requires conn { c < length run.plan.now.tuples }
     requires range { (0 < run.setup.squeues) × (run.setup.squeues ≤ most_squeues) }
     requires squeues { length guests.now ≡ run.setup.squeues }
@@ -124,7 +128,7 @@ fn count_stays(run: Run<'_, '_>, guests: &[Vec<Guest>], c: u32) -> Result<Option
 }
 
 /// Whether no stay follows behind the number of one that isn't there. Each squeue is looked at once, since its stays have no gaps.
-fn is_last(run: Run<'_, '_>, guests: &[Vec<Guest>], c: u32, stay: usize) -> bool
+fn is_last(run: RunSetup<'_, '_>, guests: &[Vec<Guest>], c: u32, stay: usize) -> bool
     requires conn { c < length run.plan.now.tuples }
     requires range { (0 < run.setup.squeues) × (run.setup.squeues ≤ most_squeues) }
     requires squeues { length guests.now ≡ run.setup.squeues }
@@ -142,7 +146,7 @@ fn is_last(run: Run<'_, '_>, guests: &[Vec<Guest>], c: u32, stay: usize) -> bool
 }
 
 /// Whether the connection was taken out in its stay of this number.
-fn has_left(run: Run<'_, '_>, guests: &[Vec<Guest>], c: u32, stay: usize) -> bool
+fn has_left(run: RunSetup<'_, '_>, guests: &[Vec<Guest>], c: u32, stay: usize) -> bool
     requires conn { c < length run.plan.now.tuples }
     requires range { 0 < run.setup.squeues }
     requires squeues { length guests.now ≡ run.setup.squeues }
@@ -155,7 +159,12 @@ fn has_left(run: Run<'_, '_>, guests: &[Vec<Guest>], c: u32, stay: usize) -> boo
 }
 
 /// What was done to the connection in its stay of this number, of all its stays.
-fn stay_at<'g>(run: Run<'_, '_>, guests: &'g [Vec<Guest>], c: u32, stay: usize) -> Option<&'g [Act]>
+fn stay_at<'g>(
+    run: RunSetup<'_, '_>,
+    guests: &'g [Vec<Guest>],
+    c: u32,
+    stay: usize,
+) -> Option<&'g [Act]>
     requires conn { c < length run.plan.now.tuples }
     requires range { 0 < run.setup.squeues }
     requires squeues { length guests.now ≡ run.setup.squeues }
@@ -170,7 +179,7 @@ fn stay_at<'g>(run: Run<'_, '_>, guests: &'g [Vec<Guest>], c: u32, stay: usize) 
 /// Gives the block all that was done to the connection in its first stays. Whether its feeds came in order, none that there isn't.
 fn give_all(
     alloc: Global,
-    run: Run<'_, '_>,
+    run: RunSetup<'_, '_>,
     guests: &[Vec<Guest>],
     c: u32,
     stays: usize,
@@ -207,7 +216,7 @@ fn give_all(
 /// Gives the block these acts, up to a feed that isn't the next one, or that there isn't. Whether it has had all of them.
 fn give(
     alloc: Global,
-    run: Run<'_, '_>,
+    run: RunSetup<'_, '_>,
     c: u32,
     acts: &[Act],
     fed: &mut u32,

@@ -1,7 +1,7 @@
 //! A replay as a process: its words, its standard ends, and what it ends with.
 
 use crate::run::{Replayed, replay_run, told, told_usage};
-use shell::{Ending, NO_MEMORY, WordFault, exit, words_of};
+use shell::{NO_MEMORY, ProgramEnd, WordFault, exit, words_of};
 use sq_base::{StdSink, StdSource};
 use std::alloc::AllocGlobal;
 use std::env::Env;
@@ -10,7 +10,7 @@ use std::io::{Input, Print, Write};
 use std::process::ExitCode;
 use std::thread::Threads;
 
-impl Ending for Replayed {
+impl ProgramEnd for Replayed {
     ghost use Rattle.trace_replay.specs.Answers.{code_of};
 
     ghost code = { λ r. code_of r };

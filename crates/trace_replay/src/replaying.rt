@@ -16,7 +16,7 @@ ghost use Rattle.trace_replay.specs.Going.{HasAdded, HasGone};
 ghost use Rattle.trace_replay.specs.Reasons.{AreRight, IsIllegalAt, MarksFail};
 
 use crate::reason::{Reason, Refusal};
-use squeue_replay::{Guest, Met, PaceCheck, ReadMark, ReplayedSqueue, Run};
+use squeue_replay::{Guest, Met, PaceCheck, ReadMark, ReplayedSqueue, RunSetup};
 use std::alloc::{AllocError, Global};
 use trace_lines::read_mark;
 
@@ -32,7 +32,7 @@ struct Replay {
 /// What each squeue had of each connection, by number, where all their marks are legal and fit, and each squeue has ended.
 pub fn replay_all(
     alloc: Global,
-    run: Run<'_, '_>,
+    run: RunSetup<'_, '_>,
     histories: &[&[u8]],
 ) -> Result<Vec<Vec<Guest>>, Refusal>
     requires { (marks : List (List Mark)) × ArePrintedMarks run.setup.squeues marks × (map (λ l. l.now) histories.now ≡ map (flat_map mark_line) marks) }
@@ -72,7 +72,7 @@ fn unfit_at(squeue: u32, unfit: Option<u64>) -> Option<Reason>
 /// The marks of one squeue.
 fn replay_one(
     alloc: Global,
-    run: Run<'_, '_>,
+    run: RunSetup<'_, '_>,
     number: u32,
     mark: &mut ReadMark,
     lines: &[u8],

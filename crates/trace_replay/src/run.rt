@@ -26,7 +26,7 @@ use conn_classifier::plan_with;
 use report_lines::report_of;
 use shell::{NO_MEMORY, READ_FAULT, TOO_LARGE, Table, WRITE_FAULT, tell, tell_usage};
 use sq_base::{Sink, Source, put};
-use squeue_replay::Run;
+use squeue_replay::RunSetup;
 use std::alloc::{AllocError, Global};
 use std::thread::Threads;
 use trace_lines::{calls, histories, setup_line};
@@ -220,7 +220,7 @@ fn judge_report(
     let Some(histories) = histories(alloc, behind_calls, setup.squeues)? else {
         return Err(Refusal::No(Reason::Form));
     };
-    let run = Run {
+    let run = RunSetup {
         plan: &plan,
         calls: &calls,
         setup,
@@ -231,7 +231,7 @@ fn judge_report(
 /// Whether the marks are those of a right run, and the lines before the setup those of its report.
 fn judge_run(
     alloc: Global,
-    run: Run<'_, '_>,
+    run: RunSetup<'_, '_>,
     histories: &[&[u8]],
     head: &[u8],
 ) -> Result<(), Refusal>

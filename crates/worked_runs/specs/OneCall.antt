@@ -18,8 +18,16 @@ use Rattle.squeue_pool.specs.Finishing.{FinishedOf}
 use Rattle.squeue_pool.specs.declared.pool.Pool.{Pool}
 
 abbrev pub pool : Pool
-pool = record { pace = record { homes = record { squeues = 1; spread = 0; some = omega arith }; mode = Mode'.Process; budget = 64;
-    spends = omega arith }; rings = 1; trace = false }
+pool = record {
+  pace = record {
+    homes = record { squeues = 1; spread = 0; some = omega arith };
+    mode = Mode'.Process;
+    budget = 64;
+    spends = omega arith;
+  };
+  rings = 1;
+  trace = false;
+}
 
 -- the connection has two feeds, and the only thread calls it once
 abbrev pub counts : List ℕ

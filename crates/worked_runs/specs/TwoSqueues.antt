@@ -40,7 +40,7 @@ first_history =
 abbrev pub second_history : List Element
 second_history =
     plain (On.Claim 0 (Ask 0 ∷ [])) ∷ record { mark = On.Leave 0 0 (Done.In 0); note = Did.Feed 0 ∷ [] } ∷ plain (On.Fast 0 (Feed 0 1))
-        ∷ plain (On.Leave 0 0 Done.None)
+    ∷ plain (On.Leave 0 0 Done.None)
     ∷ plain (On.Close 0) ∷ plain (On.Close 1) ∷ plain (On.Close 2) ∷ plain (On.Close 3) ∷ plain (On.Close 4) ∷ []
 
 abbrev pub first : Ending

@@ -109,8 +109,7 @@ impl Tcb {
     }
 
     /// Checks 1 to 5 of a segment in a state other than LISTEN (3.10.7.4). `On` says that text and FIN are to be looked at.
-    #[tactic(auto, unfolding(crate::specs::TcpStep::first_checks, crate::specs::TcpStep::check_sequence, crate::specs::TcpStep::check_reset,
-        crate::specs::TcpStep::check_syn))]
+    #[tactic(auto, unfolding(crate::specs::TcpStep::first_checks, crate::specs::TcpStep::check_sequence, crate::specs::TcpStep::check_reset, crate::specs::TcpStep::check_syn))]
     fn first_checks(&mut self, alloc: Global, seg: &Seg, text: &[u8]) -> Result<Step, AllocError>
         requires open { is_listen self.old.state ≡ false }
         requires few { self.old.acked + length self.old.out ≤ most_streamed }

@@ -115,8 +115,7 @@ impl Tcb {
     }
 
     /// The next `n` received bytes, which leave the block. After NoMemory nothing more is promised.
-    #[tactic(auto, using(crate::proofs::QueueLemmas::without_below, crate::proofs::QueueLemmas::without_read,
-        crate::proofs::QueueLemmas::next_without), unfolding(byte_queues::specs::ReceiveQueue::without))]
+    #[tactic(auto, using(crate::proofs::QueueLemmas::without_below, crate::proofs::QueueLemmas::without_read, crate::proofs::QueueLemmas::next_without), unfolding(byte_queues::specs::ReceiveQueue::without))]
     pub fn take(&mut self, alloc: Global, n: u32) -> Result<Octets, AllocError>
         requires { n ≤ ready_of self.old.recv }
         ensures bytes { IfOk result (λ text. text ≡ next_bytes n self.old.recv) }
@@ -148,8 +147,7 @@ impl Tcb {
     }
 
     /// Throws the next `n` received bytes away.
-    #[tactic(auto, using(crate::proofs::QueueLemmas::without_below, crate::proofs::QueueLemmas::without_read,
-        crate::proofs::QueueLemmas::next_without), unfolding(byte_queues::specs::ReceiveQueue::without))]
+    #[tactic(auto, using(crate::proofs::QueueLemmas::without_below, crate::proofs::QueueLemmas::without_read, crate::proofs::QueueLemmas::next_without), unfolding(byte_queues::specs::ReceiveQueue::without))]
     pub fn skip(&mut self, n: u32)
         requires { n ≤ ready_of self.old.recv }
         ensures rest { self.new ≡ record self.old { recv = without n self.old.recv } }

@@ -73,8 +73,7 @@ impl Tcb {
     }
 
     /// What is new of a text. Where too many runs would stand, neither it nor the FIN is kept.
-    #[tactic(auto, using(crate::proofs::QueueLemmas::placed_taken, crate::proofs::QueueLemmas::placed_edge, crate::proofs::QueueLemmas::placed_cap,
-        crate::proofs::QueueLemmas::placed_below, crate::proofs::QueueLemmas::placed_read))]
+    #[tactic(auto, using(crate::proofs::QueueLemmas::placed_taken, crate::proofs::QueueLemmas::placed_edge, crate::proofs::QueueLemmas::placed_cap, crate::proofs::QueueLemmas::placed_below, crate::proofs::QueueLemmas::placed_read))]
     fn take_text(&mut self, seg: &Seg, at: u64, fresh: &[u8], fin_at: u64) -> Result<(), AllocError>
         requires open { is_listen self.old.state ≡ false }
         requires behind { next_of self.old.recv ≤ at }
@@ -91,8 +90,7 @@ impl Tcb {
     }
 
     /// The FIN's position is kept where it is in the window, not before bytes that are held in order, and the first.
-    #[tactic(auto, unfolding(crate::specs::TcpStep::takes_fin, crate::specs::TcpStep::keeps_end, byte_queues::specs::ReceiveQueue::with_end,
-        byte_queues::specs::ReceiveQueue::next_of))]
+    #[tactic(auto, unfolding(crate::specs::TcpStep::takes_fin, crate::specs::TcpStep::keeps_end, byte_queues::specs::ReceiveQueue::with_end, byte_queues::specs::ReceiveQueue::next_of))]
     fn take_fin(&mut self, seg: &Seg, fin_at: u64)
         requires open { is_listen self.old.state ≡ false }
         ensures is { self.new ≡ takes_fin seg.now fin_at self.old }

@@ -6,7 +6,7 @@ use Rattle.live_server.proofs.ReachLemmas.{one_lost, one_told, one_turn}
 use Rattle.live_server.proofs.TableLemmas.{without_set}
 use Rattle.live_chats.specs.Seating.{HeardAt, conn_of_seat, conns_of}
 use Rattle.live_chats.specs.declared.ear.Heard.{Heard}
-use Rattle.live_chats.specs.declared.item.Item.TheVariants.{Time}
+use Rattle.live_chats.specs.declared.item.ChatItem.TheVariants.{Time}
 use Rattle.live_chats.proofs.HearLemmas.{time_keeps_ends}
 use Rattle.live_chats.proofs.ListLemmas.{entry_there}
 use Rattle.live_chats.proofs.SeatLemmas.{conns_at, conns_length, heard_length, none_of, of_some, timed_conn, timed_sent}

@@ -4,7 +4,7 @@ use Rattle.std.proofs.lemmas.List.Elements.{All-pop}
 use Rattle.squeue_serve.specs.declared.jobs.Job.{Job}
 use Rattle.squeue_serve.specs.Lending.{tasks_in}
 use Rattle.squeue_serve.proofs.Coming.{all_less}
-use Rattle.live_rings.specs.declared.ring.Task.{Task}
+use Rattle.live_rings.specs.declared.ring.ServerTask.{ServerTask}
 use Rattle.live_rings.specs.Tasks.{ended_of}
 use Rattle.live_rings.proofs.RingTasks.{one_at_most, ended_left}
 use Rattle.live_rings.proofs.ring_squeue.gather.Goals as goal
@@ -21,7 +21,7 @@ jobs-init g c = record {
 pub destroy_empty-requires : goal.destroy_empty-requires
 destroy_empty-requires g c =
     let none =
-    (All-pop (λ (j : Job (Task g.row.S.Denot g.row.K.Denot)). j.places.items ≡ []) c.jobs.jobs.items c.pop.new.self.items (Some c.in-Some.job) c.in-Some.ensures.items c.jobs.invariant.empty).1 in
+    (All-pop (λ (j : Job (ServerTask g.row.S.Denot g.row.K.Denot)). j.places.items ≡ []) c.jobs.jobs.items c.pop.new.self.items (Some c.in-Some.job) c.in-Some.ensures.items c.jobs.invariant.empty).1 in
     omega (arith, ap length none, c.in-Some.job.places.ok)
 
 pub push_ended-requires : goal.push_ended-requires

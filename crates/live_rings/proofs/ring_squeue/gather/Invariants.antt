@@ -2,14 +2,14 @@ use Rattle.std.proofs.Common.{◌≡◌, ◌+◌, ◌≤◌, ◌++◌, List, [],
 use Rattle.std.specs.Prelude.{All, reverse}
 use Rattle.squeue_serve.specs.declared.jobs.Job.{Job}
 use Rattle.squeue_serve.specs.Lending.{tasks_in}
-use Rattle.live_rings.specs.declared.ring.Task.{Task}
+use Rattle.live_rings.specs.declared.ring.ServerTask.{ServerTask}
 use Rattle.live_rings.specs.Tasks.{ended_of}
 use Rattle.live_rings.proofs.ring_squeue.gather.Given as goal
 
 -- the jobs from some number on are taken apart, and this is left of their streams
 abbrev pub invariant-jobs : goal.invariant-jobs
 invariant-jobs g l = record {
-  gone : List (Job (Task g.row.S.Denot g.row.K.Denot));
+  gone : List (Job (ServerTask g.row.S.Denot g.row.K.Denot));
   all : l.fn.jobs.items ≡ l.jobs.items ++ gone;
   empty : All (λ j. j.places.items ≡ []) l.jobs.items;
   left : ended_of (tasks_in gone) ≡ reverse l.left.items;

@@ -4,7 +4,7 @@ use Rattle.placed_parts.specs.Placing.{limits_of, origin_of}
 use Rattle.squeue_serve.specs.Lending.{tasks_in}
 use Rattle.squeue_streams.specs.Taking.{most_feeds, most_leaves}
 use Rattle.live_chats.specs.Telling.{first_of}
-use Rattle.live_rings.specs.declared.ring.Task.TheVariants as Task'
+use Rattle.live_rings.specs.declared.ring.ServerTask.TheVariants as Task'
 use Rattle.live_rings.specs.Groups.{AllBecame}
 use Rattle.live_rings.specs.Seating.{ServesPlaces}
 use Rattle.live_rings.specs.Served.{HasEnded}

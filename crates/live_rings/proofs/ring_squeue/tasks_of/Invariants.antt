@@ -1,6 +1,6 @@
 use Rattle.std.proofs.Common.{◌≡◌, ◌+◌, ◌≤◌, ◌++◌, length, map, vec_capacity, vec_len}
 use Rattle.std.specs.Prelude.{reverse}
-use Rattle.live_rings.specs.declared.ring.Task.TheVariants as Task'
+use Rattle.live_rings.specs.declared.ring.ServerTask.TheVariants as Task'
 use Rattle.live_rings.proofs.ring_squeue.tasks_of.Given as goal
 
 abbrev pub invariant-rings : goal.invariant-rings

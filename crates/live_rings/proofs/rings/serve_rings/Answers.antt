@@ -3,7 +3,7 @@ use Rattle.std.specs.Prelude.{All}
 use Rattle.std.proofs.lemmas.Result.{IfOk-weaker}
 use Rattle.live_rings.specs.declared.ending.Ends.{Ends}
 use Rattle.live_rings.specs.declared.groups.Group.{Group}
-use Rattle.live_rings.specs.declared.ending.Ended.{Ended}
+use Rattle.live_rings.specs.declared.ending.EndedRing.{EndedRing}
 use Rattle.live_rings.specs.Groups.{HaveEnded, MayServe, all_in, many_in}
 use Rattle.live_rings.specs.Served.{AllEnded, HasEnded}
 use Rattle.live_rings.proofs.Grouped.{all_groups, few_ended}
@@ -33,7 +33,7 @@ gather_all-requires g c =
     few_ended (HasEnded g.S.Source.rest g.S.Source.read_faults g.K.Sink.contents g.K.Sink.write_faults c.args.setup.now) c.deref_mut.result.now c.serve_groups.new.groups (omega (arith, c.serve_groups.auto.groups)) c.serve_groups.ensures in
     let many : many_in c.serve_groups.new.groups ≤ vec_capacity c.in_ok-room.room =
     omega (arith, few, ap length (dealt g at), c.in_ok-room.ensures.exact, c.len.ensures, c.args.ends.ok.0) in
-    (c.in_ok-room.ensures.items, subst (λ (gs : List (Group (Ends g.row.S.Denot g.row.K.Denot) (Ended g.row.S.Denot g.row.K.Denot))). many_in gs ≤ vec_capacity c.in_ok-room.room) (sym (back g at)) many)
+    (c.in_ok-room.ensures.items, subst (λ (gs : List (Group (Ends g.row.S.Denot g.row.K.Denot) (EndedRing g.row.S.Denot g.row.K.Denot))). many_in gs ≤ vec_capacity c.in_ok-room.room) (sym (back g at)) many)
 
 pub returns : goal.returns
 returns g c =
@@ -44,6 +44,6 @@ returns g c =
           (λ v h.
           subst (λ (es : List (Ends g.row.S.Denot g.row.K.Denot)). AllEnded g.S.Source.rest g.S.Source.read_faults g.K.Sink.contents g.K.Sink.write_faults c.args.setup.now es v.items) (dealt g at)
           (all_groups (HasEnded g.S.Source.rest g.S.Source.read_faults g.K.Sink.contents g.K.Sink.write_faults c.args.setup.now) c.deref_mut.result.now c.serve_groups.new.groups v.items (omega (arith, c.serve_groups.auto.groups)) c.serve_groups.ensures
-          (subst (λ (gs : List (Group (Ends g.row.S.Denot g.row.K.Denot) (Ended g.row.S.Denot g.row.K.Denot))). HaveEnded gs v.items) (back g at) h)))
+          (subst (λ (gs : List (Group (Ends g.row.S.Denot g.row.K.Denot) (EndedRing g.row.S.Denot g.row.K.Denot))). HaveEnded gs v.items) (back g at) h)))
           c.gather_all.ensures;
     }

@@ -2,7 +2,7 @@ use Rattle.std.proofs.Common.{◌≡◌, ◌≤◌, ℕ, Some, drop, length, sli
 use Rattle.std.specs.Prelude.{reverse}
 use Rattle.stream_stays.specs.declared.place.Place.{Place}
 use Rattle.live_chats.specs.Hearing.{ChatOf}
-use Rattle.live_chats.specs.declared.item.Item.{Item}
+use Rattle.live_chats.specs.declared.item.ChatItem.{ChatItem}
 use Rattle.live_rings.specs.Seating.{IsNewPlace}
 use Rattle.live_rings.proofs.seating.new_places.Given as goal
 
@@ -13,6 +13,6 @@ invariant-loop-stream l =
       push_left : reverse l.producers.items ≡ drop l.stream l.fn.producers.items;
       pop_left : reverse l.parts.items ≡ drop l.stream l.fn.parts.items;
       made : length l.places.items ≡ l.stream;
-      each : (k : ℕ) (place : Place Item ChatOf) → slice_get l.places.items k ≡ Some place → IsNewPlace l.fn.parts.items k place;
+      each : (k : ℕ) (place : Place ChatItem ChatOf) → slice_get l.places.items k ≡ Some place → IsNewPlace l.fn.parts.items k place;
       room : l.count ≤ vec_capacity l.places;
     }

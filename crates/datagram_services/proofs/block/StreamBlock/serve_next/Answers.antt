@@ -10,7 +10,7 @@ use Rattle.conn_classifier.specs.Plan.{time_of}
 use Rattle.conn_classifier.specs.declared.kinds.Item.{Item}
 use Rattle.conn_classifier.specs.declared.kinds.Item.TheVariants.{Time}
 use Rattle.conn_classifier.proofs.PlanFacts.{rises_most}
-use Rattle.stream_plan.specs.declared.kinds.Datagram.{Datagram}
+use Rattle.stream_plan.specs.declared.kinds.ServedDatagram.{ServedDatagram}
 use Rattle.datagram_services.specs.Items.{answers_to, entry_of}
 use Rattle.datagram_services.proofs.OneMore.{on_ok_of_four, one_datagram, one_item, rises_next}
 use Rattle.datagram_services.proofs.block.StreamBlock.serve_next.Goals as goal
@@ -21,7 +21,7 @@ enter-requires-clause-time c =
     let items = c.items.result.now in
     let m = c.args.self.now.had - length c.datagrams-datagrams.result.now in
     let lt : m < length s.items = omega (arith, c.requires.next, c.if-n-datagrams.false, ap length c.datagrams-datagrams.ensures) in
-    let at : m ≡ c.args.self.now.had - length s.datagrams = ap (λ (l : List Datagram). c.args.self.now.had - length l) c.datagrams-datagrams.ensures in
+    let at : m ≡ c.args.self.now.had - length s.datagrams = ap (λ (l : List ServedDatagram). c.args.self.now.had - length l) c.datagrams-datagrams.ensures in
     let i : Item = get_or items m (Time 0) in
     let is : i ≡ get_or s.items (c.args.self.now.had - length s.datagrams) i =
     get_or_default items m (Time 0) i (omega (arith, lt, ap length c.items.ensures)) ∙ (ap (λ (l : List Item). get_or l m i) c.items.ensures ∙ ap (λ n. get_or s.items n i) at) in
@@ -34,8 +34,8 @@ returns-then-n-datagrams-clause-served c =
     let s = c.args.stream.now in
     let ds = c.datagrams-datagrams.result.now in
     let n = c.args.self.now.had in
-    let d : Datagram = get_or ds n (record { at = 0; rec = 0; udp = record { src = record { 0 = 0 }; src_port = 0; dst = record { 0 = 0 }; dst_port = 0; text_from = 0; text_len = 0 } }) in
-    let is : d ≡ get_or s.datagrams n d = get_or_default ds n _ d c.if-n-datagrams.true ∙ ap (λ (l : List Datagram). get_or l n d) c.datagrams-datagrams.ensures in
+    let d : ServedDatagram = get_or ds n (record { at = 0; rec = 0; udp = record { src = record { 0 = 0 }; src_port = 0; dst = record { 0 = 0 }; dst_port = 0; text_from = 0; text_len = 0 } }) in
+    let is : d ≡ get_or s.datagrams n d = get_or_default ds n _ d c.if-n-datagrams.true ∙ ap (λ (l : List ServedDatagram). get_or l n d) c.datagrams-datagrams.ensures in
     let lt : n < length s.datagrams = omega (arith, c.if-n-datagrams.true, ap length c.datagrams-datagrams.ensures) in
     on_ok_weaker c.answer.result
     (λ (a : c.answer.new.answers.items ≡ c.args.self.now.answers.items ++ answers_to c.args.capture.now c.tuple.result d).
@@ -48,7 +48,7 @@ returns-else-n-datagrams-clause-served c =
     let items = c.items.result.now in
     let m = c.args.self.now.had - length c.datagrams-datagrams.result.now in
     let lt : m < length s.items = omega (arith, c.requires.next, c.if-n-datagrams.false, ap length c.datagrams-datagrams.ensures) in
-    let at : m ≡ c.args.self.now.had - length s.datagrams = ap (λ (l : List Datagram). c.args.self.now.had - length l) c.datagrams-datagrams.ensures in
+    let at : m ≡ c.args.self.now.had - length s.datagrams = ap (λ (l : List ServedDatagram). c.args.self.now.had - length l) c.datagrams-datagrams.ensures in
     let i : Item = get_or items m (Time 0) in
     let is : i ≡ get_or s.items (c.args.self.now.had - length s.datagrams) i =
     get_or_default items m (Time 0) i (omega (arith, lt, ap length c.items.ensures)) ∙ (ap (λ (l : List Item). get_or l m i) c.items.ensures ∙ ap (λ n. get_or s.items n i) at) in

@@ -3,7 +3,7 @@ use Rattle.live_chats.specs.Hearing.{hearing}
 use Rattle.live_chats.specs.Listening.{IsAnswer}
 use Rattle.live_chats.specs.Seating.{KeptBut, chat_at}
 use Rattle.stream_stays.specs.Places.{IsOpen}
-use Rattle.live_chats.specs.declared.item.Item.TheVariants.{Opens}
+use Rattle.live_chats.specs.declared.item.ChatItem.TheVariants.{Opens}
 use Rattle.live_chats.proofs.PlaceLemmas.{all_open, begun, kept_on, kept_open}
 use Rattle.live_chats.proofs.SeatLemmas.{none_of, of_some}
 use Rattle.live_chats.proofs.line.Line+Places+Streams+Chats+H+W.begin.Goals as goal

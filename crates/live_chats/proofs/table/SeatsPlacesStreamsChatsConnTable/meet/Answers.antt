@@ -5,8 +5,8 @@ use Rattle.live_server.specs.Table.{conn_at, tuple_eq}
 use Rattle.live_server.specs.declared.conn.Conn.{Conn}
 use Rattle.live_server.specs.declared.conn.Met.{Met}
 use Rattle.live_chats.specs.Seating.{MetAt, conns_of}
-use Rattle.live_chats.specs.declared.item.Item.{Item}
-use Rattle.live_chats.specs.declared.item.Item.TheVariants.{Meets}
+use Rattle.live_chats.specs.declared.item.ChatItem.{ChatItem}
+use Rattle.live_chats.specs.declared.item.ChatItem.TheVariants.{Meets}
 use Rattle.live_chats.proofs.HearLemmas.{meets_keeps_ends}
 use Rattle.live_chats.proofs.MeetLemmas.{gone_left, looked_up, meets_judge, met_is, sent_is, table_is}
 use Rattle.live_chats.proofs.SeatLemmas.{conns_keys, of_some}
@@ -25,7 +25,7 @@ returns-in-Some-clause-met g c =
     let is = conns_of c.meet_at-pass.new.stays c.meet_at-pass.new.seats.entries in
     let t = c.args._tuple.now in
     let d : Conn = conn_at c.args.place was in
-    let x : Item = Meets c.args.now c.args.iss c.args.seg.now c.in-Ok.text in
+    let x : ChatItem = Meets c.args.now c.args.iss c.args.seg.now c.in-Ok.text in
     let met = of_some (λ (m : Met). (k : Tuple) (e : Conn) → slice_get was c.args.place ≡ Some (k, e) → MetAt x k e c.args.place m was is c.args.out.now.items c.meet_at-pass.new.out.items)
     c.meet_at-pass.result.1 c.in-Some.met c.in-Some.is c.meet_at-pass.ensures.met t d (looked_up t was c.args.place c.requires.place) in
     met_is c.args.now c.args.iss c.requires.time c.args.seg.now c.in-Ok.text c.args.text.now c.in-Ok.ensures.items t d c.args.place c.in-Some.met was is c.args.out.now.items c.meet_at-pass.new.out.items met
@@ -37,7 +37,7 @@ returns-in-Some-clause-table g c =
     let is = conns_of c.meet_at-pass.new.stays c.meet_at-pass.new.seats.entries in
     let t = c.args._tuple.now in
     let d : Conn = conn_at c.args.place was in
-    let x : Item = Meets c.args.now c.args.iss c.args.seg.now c.in-Ok.text in
+    let x : ChatItem = Meets c.args.now c.args.iss c.args.seg.now c.in-Ok.text in
     let met = of_some (λ (m : Met). (k : Tuple) (e : Conn) → slice_get was c.args.place ≡ Some (k, e) → MetAt x k e c.args.place m was is c.args.out.now.items c.meet_at-pass.new.out.items)
     c.meet_at-pass.result.1 c.in-Some.met c.in-Some.is c.meet_at-pass.ensures.met t d (looked_up t was c.args.place c.requires.place) in
     table_is c.args.now c.args.iss c.requires.time c.args.seg.now c.in-Ok.text c.args.text.now c.in-Ok.ensures.items t d c.args.place c.in-Some.met was is c.args.out.now.items c.meet_at-pass.new.out.items met
@@ -49,7 +49,7 @@ returns-in-Some-clause-sent g c =
     let is = conns_of c.meet_at-pass.new.stays c.meet_at-pass.new.seats.entries in
     let t = c.args._tuple.now in
     let d : Conn = conn_at c.args.place was in
-    let x : Item = Meets c.args.now c.args.iss c.args.seg.now c.in-Ok.text in
+    let x : ChatItem = Meets c.args.now c.args.iss c.args.seg.now c.in-Ok.text in
     let met = of_some (λ (m : Met). (k : Tuple) (e : Conn) → slice_get was c.args.place ≡ Some (k, e) → MetAt x k e c.args.place m was is c.args.out.now.items c.meet_at-pass.new.out.items)
     c.meet_at-pass.result.1 c.in-Some.met c.in-Some.is c.meet_at-pass.ensures.met t d (looked_up t was c.args.place c.requires.place) in
     sent_is c.args.now c.args.iss c.requires.time c.args.seg.now c.in-Ok.text c.args.text.now c.in-Ok.ensures.items t d c.args.place c.in-Some.met was is c.args.out.now.items c.meet_at-pass.new.out.items met
@@ -61,7 +61,7 @@ returns-in-Some-clause-gone g c = λ gone.
     let is = conns_of c.meet_at-pass.new.stays c.meet_at-pass.new.seats.entries in
     let t = c.args._tuple.now in
     let d : Conn = conn_at c.args.place was in
-    let x : Item = Meets c.args.now c.args.iss c.args.seg.now c.in-Ok.text in
+    let x : ChatItem = Meets c.args.now c.args.iss c.args.seg.now c.in-Ok.text in
     let met = of_some (λ (m : Met). (k : Tuple) (e : Conn) → slice_get was c.args.place ≡ Some (k, e) → MetAt x k e c.args.place m was is c.args.out.now.items c.meet_at-pass.new.out.items)
     c.meet_at-pass.result.1 c.in-Some.met c.in-Some.is c.meet_at-pass.ensures.met t d (looked_up t was c.args.place c.requires.place) in
     gone_left c.args.now c.args.iss c.args.seg.now c.args.text.now t was c.args.place c.requires.place (subst (IsDistinct tuple_eq) (sym (conns_keys self.stays self.seats.entries)) c.requires.good.seats.distinct)

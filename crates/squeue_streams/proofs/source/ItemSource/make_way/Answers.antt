@@ -1,6 +1,6 @@
 use Rattle.std.proofs.Common.{◌∙◌}
 use Rattle.squeue_streams.proofs.Chains.{same_both, spent_or_not}
-use Rattle.squeue_streams.proofs.source.Source.make_way.Goals as goal
+use Rattle.squeue_streams.proofs.source.ItemSource.make_way.Goals as goal
 
 pub returns-then-is_used_up-clause-same : goal.returns-then-is_used_up-clause-same
 returns-then-is_used_up-clause-same g c =

@@ -1,7 +1,7 @@
 use Rattle.std.proofs.Common.{◌+◌, ◌++◌, ◌∷◌, [], ap, sym, ◌∙◌}
 use Rattle.squeue_streams.specs.Sourcing.{sent_of}
 use Rattle.squeue_streams.proofs.Chains.{brings_same, if_err, on_ok, push_few, refused_still, same_both}
-use Rattle.squeue_streams.proofs.source.Source.bring.Goals as goal
+use Rattle.squeue_streams.proofs.source.ItemSource.bring.Goals as goal
 
 pub enter_pushed-pass-requires : goal.enter_pushed-pass-requires
 enter_pushed-pass-requires g c =

@@ -1,7 +1,7 @@
 use Rattle.std.proofs.Common.{◌≡◌, true, subst, arith}
 use Rattle.std.specs.Prelude.{is_some}
 use Rattle.squeue_pool.proofs.Placed.{is_there, its_feeds, its_own, read_at}
-use Rattle.squeue_pool.proofs.served.Served.part.Goals as goal
+use Rattle.squeue_pool.proofs.served.ServedParts.part.Goals as goal
 
 pub unreachable-requires : goal.unreachable-requires
 unreachable-requires g c =

@@ -1,7 +1,7 @@
 use Rattle.std.proofs.Common.{◌≡◌, ◌-◌}
 use Rattle.turn_gate.specs.Passes.{number}
 use Rattle.squeue_streams.specs.Sourcing.{Brings, SameCounts}
-use Rattle.squeue_streams.proofs.source.Source.enter_pushed.Given as goal
+use Rattle.squeue_streams.proofs.source.ItemSource.enter_pushed.Given as goal
 
 abbrev pub invariant-chains : goal.invariant-chains
 invariant-chains g l =

@@ -1,6 +1,6 @@
 use Rattle.std.proofs.Common.{◌∙◌, refl, arith}
 use Rattle.squeue_streams.proofs.Renewals.{brings_anew, may_renew}
-use Rattle.squeue_streams.proofs.source.Source.begin_anew.Goals as goal
+use Rattle.squeue_streams.proofs.source.ItemSource.begin_anew.Goals as goal
 
 pub renew-pass-requires : goal.renew-pass-requires
 renew-pass-requires g c = record { may = may_renew g.R.Resident.limits c.args.sq.now c.args.pass c.args.self.now c.requires.may c.requires.again }

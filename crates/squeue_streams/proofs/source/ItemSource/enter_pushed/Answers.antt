@@ -4,7 +4,7 @@ use Rattle.histories.specs.Lists.{items_of}
 use Rattle.histories.proofs.RingLists.{length_items}
 use Rattle.squeue_enter.specs.Entering.{Brought, MayEnter, MayGoOn, WasFull}
 use Rattle.squeue_streams.proofs.Chains.{brings_on, may_chain}
-use Rattle.squeue_streams.proofs.source.Source.enter_pushed.Goals as goal
+use Rattle.squeue_streams.proofs.source.ItemSource.enter_pushed.Goals as goal
 
 pub enter_or_full-requires-clause-may : goal.enter_or_full-requires-clause-may
 enter_or_full-requires-clause-may g c =
