@@ -1,7 +1,7 @@
 //! The door of the library: what one names to serve parts of one's own from several threads, or to enter a squeue. A crate that
 //! stands on this one lists it alone; what it passes on is proved where it stands.
 //!
-//! Write [`Parts`] for what is done to one part, and call [`serve_by_key`] with a [`Pool`]: it hands back the [`ServedParts`] parts.
+//! Write [`Parts`] for what is done to one part, and call [`serve_by_key`] with a [`Pool`]: it hands back the parts, as [`ServedParts`].
 //! [`serve_called`] serves parts that move from squeue to squeue, and that threads call beside; [`calls_for`] makes these calls of the
 //! [`Errand`]s of each thread. [`run`] does any work, as a [`Work`] says
 //! it, and leaves a [`Left`] for each squeue.
