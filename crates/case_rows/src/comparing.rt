@@ -1,5 +1,8 @@
 //! What is wanted beside what came. A difference is told as one line: of what, which line, wanted, got.
 
+ghost use Rattle.std.specs.Prelude.{◌≡◌, ◌≢◌, ◌∷◌, ◌++◌, [], IfSome, MatchResult, OnOk};
+ghost use Rattle.std.specs.List.{flat_map};
+
 use crate::fault::RowFault;
 use std::alloc::Global;
 
@@ -25,7 +28,9 @@ fn differs(alloc: Global, what: &str, number: usize, wanted: &str, got: &[u8]) -
 }
 
 /// What stands behind a line and its newline, where the bytes begin with them.
-fn after_line<'a>(bytes: &'a [u8], line: &str) -> Option<&'a [u8]> {
+fn after_line<'a>(bytes: &'a [u8], line: &str) -> Option<&'a [u8]>
+    ensures { IfSome result (λ more. bytes.now ≡ line.now ++ 10 ∷ more.now) }
+{
     bytes.strip_prefix(line.as_bytes())?.strip_prefix(b"\n")
 }
 
@@ -53,7 +58,9 @@ pub fn expect_lines(
 }
 
 /// The bytes are these.
-pub fn expect_bytes(alloc: Global, what: &str, wanted: &[u8], got: &[u8]) -> Result<(), RowFault> {
+pub fn expect_bytes(alloc: Global, what: &str, wanted: &[u8], got: &[u8]) -> Result<(), RowFault>
+    ensures { MatchResult result (λ _. wanted.now ≡ got.now) (λ _. wanted.now ≢ got.now) }
+{
     if wanted == got {
         return Ok(());
     }
@@ -61,7 +68,9 @@ pub fn expect_bytes(alloc: Global, what: &str, wanted: &[u8], got: &[u8]) -> Res
 }
 
 /// The text is this one.
-pub fn expect_text(alloc: Global, what: &str, wanted: &str, got: &str) -> Result<(), RowFault> {
+pub fn expect_text(alloc: Global, what: &str, wanted: &str, got: &str) -> Result<(), RowFault>
+    ensures { MatchResult result (λ _. wanted.now ≡ got.now) (λ _. wanted.now ≢ got.now) }
+{
     if wanted == got {
         return Ok(());
     }
@@ -69,7 +78,9 @@ pub fn expect_text(alloc: Global, what: &str, wanted: &str, got: &str) -> Result
 }
 
 /// The number is this one.
-pub fn expect_number(alloc: Global, what: &str, wanted: u64, got: u64) -> Result<(), RowFault> {
+pub fn expect_number(alloc: Global, what: &str, wanted: u64, got: u64) -> Result<(), RowFault>
+    ensures { MatchResult result (λ _. wanted ≡ got) (λ _. wanted ≢ got) }
+{
     if wanted == got {
         return Ok(());
     }

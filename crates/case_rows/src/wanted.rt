@@ -1,5 +1,8 @@
 //! What a row wants of what came.
 
+ghost use Rattle.std.specs.Prelude.{◌≡◌, ◌∷◌, ◌++◌, [], IfOk, take};
+ghost use Rattle.std.specs.List.{flat_map};
+
 use crate::comparing::{expect_lines, expect_number};
 use crate::fault::RowFault;
 use crate::program::Came;
@@ -62,7 +65,9 @@ fn expect_no_out(alloc: Global, row: &Row<'_>) -> Result<(), RowFault> {
 }
 
 /// Lines, each with a newline.
-fn joined(alloc: Global, lines: &[&str]) -> Result<Vec<u8>, AllocError> {
+fn joined(alloc: Global, lines: &[&str]) -> Result<Vec<u8>, AllocError>
+    ensures { IfOk result (λ bytes. bytes.items ≡ flat_map (λ line. line.now ++ 10 ∷ []) lines.now) }
+{
     let mut bytes = Vec::new(alloc);
     for line in lines {
         bytes.extend_from_slice(line.as_bytes())?;
@@ -72,7 +77,9 @@ fn joined(alloc: Global, lines: &[&str]) -> Result<Vec<u8>, AllocError> {
 }
 
 /// The first so many bytes, or all.
-pub fn front(bytes: &[u8], len: usize) -> &[u8] {
+pub fn front(bytes: &[u8], len: usize) -> &[u8]
+    ensures { result.now ≡ take len bytes.now }
+{
     bytes.split_at(len.min(bytes.len())).0
 }
 
