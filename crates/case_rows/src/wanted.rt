@@ -1,7 +1,6 @@
 //! What a row wants of what came.
 
-ghost use Rattle.std.specs.Prelude.{◌≡◌, ◌∷◌, ◌++◌, [], IfOk, take};
-ghost use Rattle.std.specs.List.{flat_map};
+ghost use Rattle.std.specs.Prelude.{◌≡◌, take};
 
 use crate::comparing::{expect_lines, expect_number};
 use crate::fault::RowFault;
@@ -65,9 +64,7 @@ fn expect_no_out(alloc: Global, row: &Row<'_>) -> Result<(), RowFault> {
 }
 
 /// Lines, each with a newline.
-fn joined(alloc: Global, lines: &[&str]) -> Result<Vec<u8>, AllocError>
-    ensures { IfOk result (λ bytes. bytes.items ≡ flat_map (λ line. line.now ++ 10 ∷ []) lines.now) }
-{
+fn joined(alloc: Global, lines: &[&str]) -> Result<Vec<u8>, AllocError> {
     let mut bytes = Vec::new(alloc);
     for line in lines {
         bytes.extend_from_slice(line.as_bytes())?;
