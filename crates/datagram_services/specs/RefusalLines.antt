@@ -1,5 +1,7 @@
 -- What the program calls itself, and how it is used: its other lines are those of `shell` under this name.
-use Rattle.std.specs.Prelude.{ℕ, List, codes}
+use Rattle.std.specs.Prelude.{ℕ, List, ◌++◌, codes}
+use Rattle.histories.specs.ModeWords.{mode_words}
+use Rattle.shell.specs.Lines.{line}
 
 abbrev pub sqmore : List ℕ
 sqmore = codes "sqmore"
