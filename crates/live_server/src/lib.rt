@@ -37,6 +37,6 @@ pub use laws::{
 pub use ports::{NO_PORTS, PLAIN_PORTS, Ports, service_at};
 pub use rules::{Rules, number_for, without_text};
 pub use server::Server;
-pub use service::Service;
+pub use service::LiveService;
 pub use setting::Setting;
 pub use table::Table;
