@@ -26,7 +26,7 @@ mod words;
 mod work;
 mod writing;
 
-pub use answer::Answer;
+pub use answer::SentDatagram;
 pub use block::StreamBlock;
 pub use blocks::StreamBlocks;
 pub use process::run_process;

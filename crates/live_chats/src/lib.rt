@@ -20,5 +20,5 @@ mod table;
 
 pub use chat::Chat;
 pub use chats::Chats;
-pub use item::Item;
+pub use item::ChatItem;
 pub use table::{Closes, Seats};

@@ -18,7 +18,7 @@ mod rings;
 mod seating;
 mod words;
 
-pub use ending::{Ended, Ends};
+pub use ending::{EndedRing, Ends};
 pub use program::{asks_for_rings, run_program, setup_by};
 pub use rings::serve_rings;
-pub use words::{Setup, Words, rings_asked};
+pub use words::{Layout, RingWords, rings_asked};

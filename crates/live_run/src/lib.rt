@@ -23,4 +23,4 @@ pub use drawing::secret;
 pub use fault::Fault;
 pub use frames::{serve_frames_of, serve_stream};
 pub use process::run_process;
-pub use words::{Mode, Words, asked_in};
+pub use words::{Medium, ServerWords, asked_in};

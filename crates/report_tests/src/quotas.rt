@@ -1,9 +1,9 @@
-ghost use Rattle.std.specs.Prelude.{◌<◌, All, IfOk};
+ghost use Rattle.std.specs.Prelude.{◌<◌, All, IfOk, length};
 ghost use Rattle.conn_blocks.specs.Allowed.{all_calls};
 
 use capture_reader::{Capture, parse_capture};
 use conn_blocks::{Blocks, Calls};
-use conn_classifier::plan;
+use conn_classifier::{Plan, plan};
 use ring_quotas::{Setup, coming, feeds, leaving, marks_most, quotas_at};
 use ring_threads::laws::{
     a_rings_list_is_whole, a_rings_list_may_be_brought, a_threads_calls_may_be_made,
@@ -12,6 +12,7 @@ use sq_base::Octets;
 use squeue_enter::Mode;
 use squeue_rings::Homes;
 use std::alloc::{AllocError, Global};
+use std::process::Abort;
 use std::test::Fail;
 use tcb_machine::Call;
 
@@ -91,52 +92,74 @@ fn four_calls(alloc: Global) -> Result<Calls, AllocError>
     Ok(calls)
 }
 
+/// Three squeues and two rings, and two feeds at each home.
+const SETUP: Setup = Setup {
+    squeues: 3,
+    rings: 2,
+    mode: Mode::Process,
+    budget: 1,
+    spread: 2,
+    trace: false,
+};
+
+/// The passes of a squeue may bring so many feeds, and ask so often.
+fn expect_quotas<A: Abort>(
+    rt: &A,
+    alloc: Global,
+    plan: &Plan<'_>,
+    calls: &Calls,
+    q: u32,
+    wanted: &[(u32, u64)],
+) -> Result<(), Fail>
+    requires squeue { q < 3 }
+    requires calls { All (λ call. call.0 < length plan.now.tuples) (all_calls calls.now) }
+{
+    let quotas = quotas_at(alloc, plan, calls, &SETUP, q)?;
+    let pairs: Vec<(u32, u64)> = quotas
+        .iter()
+        .map(|quota| (quota.feeds, quota.asks))
+        .collect(alloc)?;
+    assert_eq!(rt; pairs.as_slice(), wanted, "squeue {q}");
+    Ok(())
+}
+
+/// A setup of so many squeues and rings, with this spread, makes at most so many marks.
+fn expect_marks<A: Abort>(rt: &A, plan: &Plan<'_>, calls: &Calls, row: (u32, u32, u32, u64))
+    requires calls { All (λ call. call.0 < length plan.now.tuples) (all_calls calls.now) }
+{
+    let (squeues, rings, spread, marks) = row;
+    assert!(rt; squeues > 0 && squeues <= 16 && rings > 0 && rings <= 8 && spread <= 2);
+    let setup = Setup {
+        squeues,
+        rings,
+        spread,
+        ..SETUP
+    };
+    assert_eq!(rt; marks_most(plan, calls, &setup), marks);
+}
+
 #[test]
 fn quotas_of_three_connections(rt: HostRuntime) -> Result<(), Fail> {
     let capture = three(&rt, [6, 11, 4])?;
     let plan = plan(&rt, rt.alloc(), &capture, false)?;
     let calls = four_calls(rt.alloc())?;
     assert_eq!(rt; plan.conns(), 3);
-    let setup = Setup {
-        squeues: 3,
-        rings: 2,
-        mode: Mode::Process,
-        budget: 1,
-        spread: 2,
-        trace: false,
-    };
     let wanted = [
         [(5, 4), (4, 3), (0, 4), (0, 0), (0, 0), (0, 4)],
         [(3, 3), (4, 3), (0, 3), (0, 0), (0, 0), (0, 6)],
         [(4, 3), (4, 4), (0, 4), (0, 0), (0, 0), (0, 6)],
     ];
     for q in 0..3 {
-        let quotas = quotas_at(rt.alloc(), &plan, &calls, &setup, q)?;
-        let pairs: Vec<(u32, u64)> = quotas
-            .iter()
-            .map(|quota| (quota.feeds, quota.asks))
-            .collect(rt.alloc())?;
-        assert_eq!(rt;
-            pairs.as_slice(),
-            wanted[q as usize].as_slice(),
-            "squeue {q}"
-        );
+        expect_quotas(&rt, rt.alloc(), &plan, &calls, q, &wanted[q as usize])?;
     }
-    let rows: [(u32, u32, u32, u64); 4] = [
+    let rows = [
         (3, 2, 2, 652),
         (2, 1, 1, 896),
         (1, 8, 0, 276),
         (16, 3, 1, 1808),
     ];
-    for (squeues, rings, spread, marks) in rows {
-        assert!(rt; squeues > 0 && squeues <= 16 && rings > 0 && rings <= 8 && spread <= 2);
-        let setup = Setup {
-            squeues,
-            rings,
-            spread,
-            ..setup
-        };
-        assert_eq!(rt; marks_most(&plan, &calls, &setup), marks);
+    for row in rows {
+        expect_marks(&rt, &plan, &calls, row);
     }
     Ok(())
 }

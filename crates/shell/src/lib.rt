@@ -19,7 +19,7 @@ mod words;
 
 pub use asked::{Asked, Given, NoCall, ReadsCall, Value};
 pub use numbers::{number_between, numeral};
-pub use process::{Ending, exit, words_of};
+pub use process::{ProgramEnd, exit, words_of};
 pub use refusal::{refuse_capture, refuse_pcapng, refuse_words, told, told_line};
 pub use table::{OptionRow, Table, Takes};
 pub use telling::{NO_MEMORY, READ_FAULT, TOO_LARGE, WRITE_FAULT, tell};

@@ -39,7 +39,7 @@ pub use finished::{Finished, run_for_parts};
 pub use keys::{key_lists, lengths};
 pub use placing::places_of;
 pub use pool::Pool;
-pub use served::Served;
+pub use served::ServedParts;
 pub use serving::serve_called;
 pub use whole_run::run;
 pub use work::{Left, Work};

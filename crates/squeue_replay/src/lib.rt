@@ -18,4 +18,4 @@ mod squeue;
 pub use guest::Guest;
 pub use marks::ReadMark;
 pub use pace::{Met, PaceCheck};
-pub use squeue::{ReplayedSqueue, Run, stay_of};
+pub use squeue::{ReplayedSqueue, RunSetup, stay_of};

@@ -26,6 +26,6 @@ pub use bringing::{bring_all, bring_piece};
 pub use calling::{make_calls, try_call};
 pub use doing::run_job;
 pub use histories::{Homes, Pace};
-pub use intake::{Ends, Intake, intake_of};
+pub use intake::{Intake, IntakeEnds, intake_of};
 pub use places::{put_at, take_at};
 pub use task::{FRONT, RingTask, Task, tasks_of};

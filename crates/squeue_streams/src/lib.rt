@@ -15,5 +15,5 @@ mod streams;
 
 pub use bringing::fill_chain;
 pub use renewing::{Renews, put_into, renew, take_from};
-pub use source::{Source, SourcePace};
+pub use source::{ItemSource, SourcePace};
 pub use streams::{Steps, Stream, Streams};

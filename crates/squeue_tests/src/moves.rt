@@ -58,6 +58,53 @@ fn hinted(hints: &Hints) -> [u32; 3]
     [hints.get(0), hints.get(1), hints.get(2)]
 }
 
+// The marks that a squeue keeps from which the block was taken: what was queued, and the turn that took it.
+fn has_left<A: Abort>(rt: &A, trace: &Trace) {
+    let marks = [
+        TraceMark::Fill {
+            p: 0,
+            first: 0,
+            len: 2,
+        },
+        TraceMark::Claim {
+            p: 0,
+            first: 2,
+            len: 1,
+        },
+        TraceMark::Leave {
+            p: 0,
+            rest: 0,
+            act: SynchAct::Out { c: 2 },
+        },
+        TraceMark::Close { p: 0 },
+        TraceMark::Close { p: 1 },
+    ];
+    assert!(rt; has_marks(trace, &marks));
+    let feeds = [Entry::Feed { c: 2, n: 0 }, Entry::Feed { c: 2, n: 1 }];
+    has_entries(rt, trace, 0, &feeds);
+    has_entries(rt, trace, 1, &[Entry::Ask { p: 0 }]);
+}
+
+// The marks of the squeue to which it came.
+fn has_come<A: Abort>(rt: &A, trace: &Trace) {
+    let marks = [
+        TraceMark::Claim {
+            p: 0,
+            first: 0,
+            len: 1,
+        },
+        TraceMark::Leave {
+            p: 0,
+            rest: 0,
+            act: SynchAct::In { c: 2 },
+        },
+        TraceMark::Close { p: 0 },
+        TraceMark::Close { p: 1 },
+    ];
+    assert!(rt; has_marks(trace, &marks));
+    has_entries(rt, trace, 0, &[Entry::Ask { p: 0 }]);
+}
+
 // Connection 2 moves, one of three. The hints of the others stay.
 #[test]
 fn one_migration(rt: HostRuntime) -> Result<(), Fail> {
@@ -80,46 +127,14 @@ fn one_migration(rt: HostRuntime) -> Result<(), Fail> {
     assert_eq!(rt; hinted(&hints), [0, 1, 1]);
 
     let (logs, _ended, trace) = ended(&rt, alloc, a, room_a, ring_a, thread_a, last_a);
-    let act = SynchAct::Out { c: 2 };
-    let marks = [
-        TraceMark::Fill {
-            p: 0,
-            first: 0,
-            len: 2,
-        },
-        TraceMark::Claim {
-            p: 0,
-            first: 2,
-            len: 1,
-        },
-        TraceMark::Leave { p: 0, rest: 0, act },
-        TraceMark::Close { p: 0 },
-        TraceMark::Close { p: 1 },
-    ];
-    assert!(rt; has_marks(&trace, &marks));
-    let feeds = [Entry::Feed { c: 2, n: 0 }, Entry::Feed { c: 2, n: 1 }];
-    has_entries(&rt, &trace, 0, &feeds);
-    has_entries(&rt, &trace, 1, &[Entry::Ask { p: 0 }]);
+    has_left(&rt, &trace);
     assert!(rt; logs.log(2).is_none());
     for c in 0..2 {
         let log = logs.log(c).expect(&rt, "the block stays");
         assert!(rt; log.acts().is_empty());
     }
-
     let (logs, _ended, trace) = ended(&rt, alloc, b, room_b, ring_b, thread_b, last_b);
-    let act = SynchAct::In { c: 2 };
-    let marks = [
-        TraceMark::Claim {
-            p: 0,
-            first: 0,
-            len: 1,
-        },
-        TraceMark::Leave { p: 0, rest: 0, act },
-        TraceMark::Close { p: 0 },
-        TraceMark::Close { p: 1 },
-    ];
-    assert!(rt; has_marks(&trace, &marks));
-    has_entries(&rt, &trace, 0, &[Entry::Ask { p: 0 }]);
+    has_come(&rt, &trace);
     let log = logs.log(2).expect(&rt, "the block is here");
     assert!(rt; matches!(log.acts(), [Act::Feed { n: 0 }, Act::Feed { n: 1 }]));
     assert!(rt; !log.short());

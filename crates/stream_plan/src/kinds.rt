@@ -7,7 +7,7 @@ use udp_codec::Udp;
 #[derive(Clone, Copy, Debug, PartialEq, Eq)]
 pub enum Found {
     /// To echo or discard.
-    ServedDatagram(Udp),
+    Datagram(Udp),
     /// To the generator.
     Segment(Seg),
 }

@@ -12,6 +12,6 @@ mod planned;
 mod sorting;
 mod streams;
 
-pub use kinds::{Arrived, Counts, Datagram, Found};
+pub use kinds::{Arrived, Counts, Found, ServedDatagram};
 pub use making::more_plan;
-pub use planned::{MorePlan, Stream};
+pub use planned::{CapturedStream, MorePlan};

@@ -128,60 +128,103 @@ fn compare(rt: &impl Abort, queue: &RecvQueue, plain: &Plain) {
     assert_eq!(rt; count, plain.held.len());
 }
 
+/// Both of them, which are told the same, and the numbers that are drawn.
+#[derive(Drop)]
+struct Beside {
+    queue: RecvQueue,
+    plain: Plain,
+    drawn: u64,
+}
+
+impl Beside {
+    fn make(alloc: Global, cap: u32) -> Beside {
+        Beside {
+            queue: RecvQueue::make(alloc, cap),
+            plain: Plain {
+                held: BTreeMap::new(alloc),
+                taken: 0,
+                edge: u64::from(cap),
+                cap: u64::from(cap),
+                end: u64::MAX,
+            },
+            drawn: 7,
+        }
+    }
+
+    /// Places a text fewer bytes behind the next one than this. Both answer the same.
+    fn place(
+        &mut self,
+        rt: &impl Abort,
+        alloc: Global,
+        below: u32,
+        text: &[u8],
+    ) -> Result<Placed, AllocError> {
+        let ahead = draw(&mut self.drawn, below);
+        let at = self.queue.next().wrapping_add(u64::from(ahead));
+        let answer = placed(rt, &mut self.queue, at, text)?;
+        assert_eq!(rt; self.plain.place(alloc, at, text)?, answer);
+        Ok(answer)
+    }
+
+    /// Takes away some of the bytes that are ready.
+    fn skip(&mut self, rt: &impl Abort) {
+        let n = draw(&mut self.drawn, self.queue.ready().wrapping_add(1));
+        assert!(rt; n <= self.queue.ready());
+        self.queue.skip(n);
+        self.plain.skip(u64::from(n));
+    }
+
+    /// Another capacity; the edge of the window never goes back.
+    fn resize(&mut self) {
+        let cap = draw(&mut self.drawn, 400);
+        self.queue.set_cap(cap);
+        self.plain.cap = u64::from(cap);
+        let edge = self.plain.taken.wrapping_add(self.plain.cap);
+        self.plain.edge = self.plain.edge.max(edge);
+    }
+
+    /// No more bytes come from so far behind the next one on.
+    fn end(&mut self, rt: &impl Abort, ahead: u32) {
+        let end = self.queue.next().wrapping_add(u64::from(ahead));
+        assert_eq!(rt; self.queue.stream_end(), None);
+        self.queue.end_at(end);
+        self.plain.end = end;
+    }
+}
+
+const LETTERS: &[u8; 26] = b"abcdefghijklmnopqrstuvwxyz";
+
 /// Several thousand placements, takes and changed capacities, at sizes that make runs join, stick out and block.
 #[test]
 fn beside_a_plain_map(rt: HostRuntime) -> Result<(), Fail> {
-    let mut queue = RecvQueue::make(rt.alloc(), 300);
-    let mut plain = Plain {
-        held: BTreeMap::new(rt.alloc()),
-        taken: 0,
-        edge: 300,
-        cap: 300,
-        end: u64::MAX,
-    };
-    let mut x = 7;
-    let text = b"abcdefghijklmnopqrstuvwxyz";
+    let mut both = Beside::make(rt.alloc(), 300);
     let mut blocks = 0u32;
     for turn in 0..2000u32 {
         let most = if turn % 1000 < 600 { 2 } else { 26 };
-        let length = draw(&mut x, most) as usize;
-        let from = draw(&mut x, 26) as usize;
+        let length = draw(&mut both.drawn, most) as usize;
+        let from = draw(&mut both.drawn, 26) as usize;
         assert!(rt; from <= 26 && length <= 26);
-        let piece = &text[from..(from + length).min(26)];
-        let at = queue.next().wrapping_add(u64::from(draw(&mut x, 320)));
-        let answer = placed(&rt, &mut queue, at, piece)?;
-        assert_eq!(rt; plain.place(rt.alloc(), at, piece)?, answer);
-        if answer == Placed::Blocks {
+        let piece = &LETTERS[from..(from + length).min(26)];
+        if both.place(&rt, rt.alloc(), 320, piece)? == Placed::Blocks {
             blocks = blocks.wrapping_add(1);
         }
-        if draw(&mut x, 60) == 0 {
-            let n = draw(&mut x, queue.ready().wrapping_add(1));
-            assert!(rt; n <= queue.ready());
-            queue.skip(n);
-            plain.skip(u64::from(n));
+        if draw(&mut both.drawn, 60) == 0 {
+            both.skip(&rt);
         }
-        if draw(&mut x, 200) == 0 {
-            let cap = draw(&mut x, 400);
-            queue.set_cap(cap);
-            plain.cap = u64::from(cap);
-            plain.edge = plain.edge.max(plain.taken.wrapping_add(plain.cap));
+        if draw(&mut both.drawn, 200) == 0 {
+            both.resize();
         }
         if turn % 16 == 0 {
-            compare(&rt, &queue, &plain);
+            compare(&rt, &both.queue, &both.plain);
         }
     }
     assert!(rt; blocks > 0);
-    let end = queue.next().wrapping_add(40);
-    assert_eq!(rt; queue.stream_end(), None);
-    queue.end_at(end);
-    plain.end = end;
+    both.end(&rt, 40);
     for _ in 0..200 {
-        let at = queue.next().wrapping_add(u64::from(draw(&mut x, 60)));
-        let answer = placed(&rt, &mut queue, at, text)?;
-        assert_eq!(rt; plain.place(rt.alloc(), at, text)?, answer);
-        compare(&rt, &queue, &plain);
+        both.place(&rt, rt.alloc(), 60, LETTERS)?;
+        compare(&rt, &both.queue, &both.plain);
     }
-    assert!(rt; queue.ended());
+    assert!(rt; both.queue.ended());
     Ok(())
 }
 

@@ -6,9 +6,11 @@ ghost use Rattle.turn_gate.specs.Passes.{AreFresh};
 use super::has_marks;
 use perimeter_core::{NoHook, Own, Resident};
 use perimeter_trial::Logs;
+use small_squeue::three;
 use squeue_drain::worker;
 use squeue_state::{Missed, Pass, Quota, Squeue, TraceMark};
 use std::alloc::{AllocError, Global};
+use std::process::Abort;
 use std::test::Fail;
 
 // Two connections, of which the first is here; a ring, an application thread and the worker.
@@ -21,19 +23,24 @@ fn opened(alloc: Global) -> Result<(Squeue<Logs>, Vec<Pass>), AllocError>
     Squeue::make(alloc, 7, logs, 1, &quotas, true)
 }
 
+// What somebody missed who came to a held gate for the first time, and so took it for the free one of the beginning.
+fn missed<A: Abort>(rt: &A, missed: Missed) -> Pass
+    ensures { result ≡ missed.pass }
+{
+    let Missed {
+        pass,
+        expected,
+        found,
+    } = missed;
+    assert_eq!(rt; (expected, found), (0, 1));
+    pass
+}
+
 #[test]
 fn a_new_squeue(rt: HostRuntime) -> Result<(), Fail> {
     let alloc = rt.alloc();
     let (squeue, mut passes) = opened(alloc)?;
-    let Some(last) = passes.pop() else {
-        unreachable!()
-    };
-    let Some(thread) = passes.pop() else {
-        unreachable!()
-    };
-    let Some(ring) = passes.pop() else {
-        unreachable!()
-    };
+    let (ring, thread, last) = three(&mut passes);
     let numbers = (ring.number(), thread.number(), last.number());
     assert_eq!(rt; numbers, (0, 1, 2));
     assert_eq!(rt; squeue.number(), 7);
@@ -44,16 +51,7 @@ fn a_new_squeue(rt: HostRuntime) -> Result<(), Fail> {
     assert_eq!(rt; tells, (true, false, false));
     let ring = match squeue.try_turn(ring) {
         Ok(_) => panic!(rt; "the gate is held"),
-        Err(
-            Missed {
-                pass,
-                expected,
-                found,
-            },
-        ) => {
-            assert_eq!(rt; (expected, found), (0, 1));
-            pass
-        }
+        Err(held) => missed(&rt, held),
     };
     let last = squeue.plain(turn);
     let ring = squeue.close_pass(&rt, ring);
@@ -64,10 +62,9 @@ fn a_new_squeue(rt: HostRuntime) -> Result<(), Fail> {
     };
     assert!(rt; turn.others_closed());
     let last = squeue.plain(turn);
-    let last = worker(&squeue, &rt, alloc, &NoHook, last);
     passes.push_reserved(ring);
     passes.push_reserved(thread);
-    passes.push_reserved(last);
+    passes.push_reserved(worker(&squeue, &rt, alloc, &NoHook, last));
     let (logs, ended, trace) = squeue.finish(passes);
     assert_eq!(rt; (ended.number(), logs.conns()), (7, 2));
     let marks = [TraceMark::Close { p: 0 }, TraceMark::Close { p: 1 }];
