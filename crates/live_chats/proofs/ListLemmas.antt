@@ -1,9 +1,11 @@
 -- Lists of entries: what a map makes of them where one leaves, some leave, or one changes.
-use Rattle.std.proofs.Common.{◌≡◌, ◌≢◌, ℕ, zero, suc, ◌+◌, ◌-◌, ◌<◌, ◌⊎◌, inl, inr, Bool, true, false, cond, List, [], ◌∷◌, ◌++◌, length, map, take, set, get_or, filter, slice_get, Option, None, Some, refl, sym, ap, ◌∙◌, arith, true≢false}
+use Rattle.std.proofs.Common.{◌≡◌, ◌≢◌, ℕ, zero, suc, ◌+◌, ◌-◌, ◌<◌, ◌≤◌, ◌⊎◌, inl, inr, Bool, true, false, cond, List, [], ◌∷◌, ◌++◌, length, map, take, set, get_or, filter, slice_get, Option, None, Some, refl, sym, ap, subst, ◌∙◌, arith, true≢false}
 use Rattle.std.specs.List.{swap_remove, AllByRecursion, IsDistinct}
+use Rattle.std.specs.List.Sorted.{IsPermutation}
 use Rattle.std.specs.Map.{keys_of}
 use Rattle.std.specs.Option.{option_map, option_map_or}
 use Rattle.std.proofs.lemmas.List.{map-set, take-map, get_or-take, get_or-set_other, get_or-set_same, length-take}
+use Rattle.std.proofs.lemmas.List.Sorted.{IsPermutation-swap_remove}
 use Rattle.std.proofs.lemmas.Option.{slice_get-map, slice_get_within, get_or_from_slice_get, slice_get-get_or}
 use Rattle.std.proofs.lemmas.Bool.Decides.{eqb_tells}
 use Rattle.std.proofs.lemmas.Map.Keys.{IsDistinct-head, IsDistinct-tail}
@@ -86,6 +88,12 @@ module _ {X : Type 0} where
       by None e h = cc
       by (Some y) e h = in_swapped xs i k y x lt h
 
+  -- who leaves, and those that are left, are those that were there
+  pub left_moves : (i : ℕ) (xs : List X) (x : X) → slice_get xs i ≡ Some x → IsPermutation xs (x ∷ left_at i xs)
+  left_moves i xs x at =
+      subst (λ (o : Option X). IsPermutation xs (x ∷ option_map_or (λ (y : X). swap_remove xs i y) o xs)) (sym at)
+      (IsPermutation-swap_remove xs i x (slice_get_within xs i x at) (sym (get_or_from_slice_get xs i x x at)))
+
   -- who is there behind one that comes last
   pub in_pushed : (xs : List X) (y : X) (k : ℕ) (x : X) → slice_get (xs ++ y ∷ []) k ≡ Some x → ((j : ℕ) × (slice_get xs j ≡ Some x)) ⊎ (x ≡ y)
   in_pushed [] y zero x at = inr (sym (cc))
@@ -152,3 +160,15 @@ module _ {X : Type 0} where
   pub map_append : {Y : Type 0} (f : X → Y) (xs ys : List X) → map f (xs ++ ys) ≡ map f xs ++ map f ys
   map_append f [] ys = refl
   map_append f (x ∷ xs) ys = ap (λ l. f x ∷ l) (map_append f xs ys)
+
+-- the key at a place; and all that is taken past the end
+pub key_at : {K X : Type 0} (es : List (K × X)) (i : ℕ) (e : K × X) → slice_get es i ≡ Some e → slice_get (keys_of es) i ≡ Some e.0
+key_at [] i e at = cc
+key_at (x ∷ es) zero e at = ap (λ (o : Option _). option_map (λ y. y.0) o) at
+key_at (x ∷ es) (suc i) e at = key_at es i e at
+
+pub take_past : {X : Type 0} (xs : List X) (i : ℕ) → length xs ≤ i → take i xs ≡ xs
+take_past [] zero past = refl
+take_past [] (suc i) past = refl
+take_past (x ∷ xs) zero past = absurd (let no : ⊥ = omega (arith, past) in no)
+take_past (x ∷ xs) (suc i) past = ap (λ (l : List _). x ∷ l) (take_past xs i (omega (arith, past)))

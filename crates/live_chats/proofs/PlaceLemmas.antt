@@ -1,5 +1,5 @@
 -- What stands at places, from one call to the next.
-use Rattle.std.proofs.Common.{◌≡◌, ℕ, Option, None, Some, List, [], ◌∷◌, ◌++◌, slice_get, refl, sym, ap, subst, ◌∙◌, Global, Box}
+use Rattle.std.proofs.Common.{◌≡◌, ℕ, Option, None, Some, List, [], ◌∷◌, ◌++◌, ◌+◌, slice_get, refl, sym, ap, subst, ◌∙◌, Global, Box}
 use Rattle.sq_base.specs.declared.kinds.Tuple.{Tuple}
 use Rattle.live_server.specs.declared.conn.Conn.{Conn}
 use Rattle.squeue_streams.specs.Taking.{state_of}
@@ -9,7 +9,9 @@ use Rattle.stream_stays.specs.declared.place.Stays.{Stays}
 use Rattle.stream_stays.specs.declared.stay.Stay.{Stay}
 use Rattle.stream_stays.specs.declared.stay.Vacant.{Vacant}
 use Rattle.stream_stays.specs.Places.{IsOpen, SameElsewhere, place_at, places_of}
+use Rattle.stream_stays.specs.Staying.{pushed_of}
 use Rattle.stream_stays.specs.Settling.{Collected, SameAt, SamePlaces, sent_in}
+use Rattle.live_chats.specs.Accounts.{pushed_at, pushed_in}
 use Rattle.live_chats.specs.Hearing.{ChatOf, hearing, hearing_all, nobody}
 use Rattle.live_chats.specs.Listening.{IsAnswer, Listens}
 use Rattle.live_chats.specs.Seating.{Begins, KeptBut, KeptOpen, chat_at}
@@ -34,6 +36,7 @@ pub elsewhere_kept : (c : ℕ) (a b : Stays ChatItem ChatOf) → SameElsewhere c
 elsewhere_kept c a b h = record {
   opens = λ d ne o. (o.0, h.others d ne ∙ o.1);
   chats = λ d ne. chat_same a b d (ap sent_in (h.others d ne));
+  pushed = λ d ne. ap pushed_in (h.others d ne);
 }
 
 open_so : (p q : Option (Place ChatItem ChatOf)) (stay : Stay ChatItem) → SameAt p q → p ≡ Some (Open stay) → (s : Stay ChatItem) × (q ≡ Some (Open s))
@@ -49,6 +52,16 @@ open_so p q stay h e = by q (subst (λ o. SameAt o q) e h)
 pub open_kept : (a b : Stays ChatItem ChatOf) → SamePlaces a b → (d : ℕ) → IsOpen a d → IsOpen b d
 open_kept a b h d o = open_so (place_at a d) (place_at b d) o.0 (h.each d) o.1
 
+-- and as much was pushed
+pushed_same : (p q : Option (Place ChatItem ChatOf)) → SameAt p q → pushed_in q ≡ pushed_in p
+pushed_same None q h = ap pushed_in h
+pushed_same (Some (Vacant' v)) q h = ap pushed_in h
+pushed_same (Some Out) q h = ap pushed_in h
+pushed_same (Some (Open a)) None h = absurd h
+pushed_same (Some (Open a)) (Some (Vacant' v)) h = absurd h
+pushed_same (Some (Open a)) (Some Out) h = absurd h
+pushed_same (Some (Open a)) (Some (Open b)) h = h.pushed
+
 -- so the others are kept from a push over an entry to where it is settled
 pub told_kept : (c : ℕ) (a b d e : Stays ChatItem ChatOf) → SameElsewhere c a b → places_of d ≡ places_of b → SamePlaces d e → ((k : ℕ) → sent_in (place_at e k) ≡ sent_in (place_at d k)) → KeptBut c a e
 told_kept c a b d e push enter settle sent =
@@ -56,6 +69,7 @@ told_kept c a b d e push enter settle sent =
     record {
       opens = λ k ne o. open_kept d e settle k (o.0, there k ∙ push.others k ne ∙ o.1);
       chats = λ k ne. chat_same a e k (sent k ∙ ap sent_in (there k ∙ push.others k ne));
+      pushed = λ k ne. pushed_same (place_at d k) (place_at e k) (settle.each k) ∙ ap pushed_in (there k ∙ push.others k ne);
     }
 
 pub told_open : (c : ℕ) (b d e : Stays ChatItem ChatOf) → IsOpen b c → places_of d ≡ places_of b → SamePlaces d e → IsOpen e c
@@ -64,6 +78,14 @@ told_open c b d e o enter settle = open_kept d e settle c (o.0, ap (λ (ps : Lis
 pub told_so : (c : ℕ) (x : ChatItem) (a b d e : Stays ChatItem ChatOf) → sent_in (place_at b c) ≡ sent_in (place_at a c) ++ x ∷ [] → places_of d ≡ places_of b → ((k : ℕ) → sent_in (place_at e k) ≡ sent_in (place_at d k))
     → chat_at e c ≡ hearing x (chat_at a c)
 told_so c x a b d e push enter sent = chat_told a e c x (sent c ∙ ap (λ (ps : List (Place ChatItem ChatOf)). sent_in (slice_get ps c)) enter ∙ push)
+
+-- where one item was pushed, one more was when it is settled
+pub told_pushed : (c : ℕ) (a b d e : Stays ChatItem ChatOf) (stay next : Stay ChatItem) → place_at a c ≡ Some (Open stay) → place_at b c ≡ Some (Open next)
+    → pushed_of next ≡ pushed_of stay + 1 → places_of d ≡ places_of b → SamePlaces d e → pushed_at e c ≡ pushed_at a c + 1
+told_pushed c a b d e stay next was is more enter settle =
+    pushed_same (place_at d c) (place_at e c) (settle.each c)
+    ∙ ap pushed_in (ap (λ (ps : List (Place ChatItem ChatOf)). slice_get ps c) enter ∙ is)
+    ∙ more ∙ ap (λ (o : Option (Place ChatItem ChatOf)). pushed_in o + 1) (sym was)
 
 -- who listened where one place was settled heard its chat
 pub listened : (o : Chats) (c : ℕ) (d e : Stays ChatItem ChatOf) (ts : List ℕ) (from to : Ear) → ts ≡ c ∷ [] → Collected IsFirst Tells Listens o d ts from to
@@ -93,6 +115,7 @@ pub kept_on : (c : ℕ) (a b d : Stays ChatItem ChatOf) → KeptBut c a b → Ke
 kept_on c a b d h k = record {
   opens = λ e ne o. k.opens e ne (h.opens e ne o);
   chats = λ e ne. k.chats e ne ∙ h.chats e ne;
+  pushed = λ e ne. k.pushed e ne ∙ h.pushed e ne;
 }
 
 -- where no part was at the one place, all others are kept
@@ -100,26 +123,31 @@ pub kept_open : (c : ℕ) (a b : Stays ChatItem ChatOf) → (IsOpen a c → ⊥)
 kept_open c a b out k = record {
   opens = λ d o. k.opens d (λ e. out (subst (IsOpen a) e o)) o;
   chats = λ d o. k.chats d (λ e. out (subst (IsOpen a) e o));
+  pushed = λ d o. k.pushed d (λ e. out (subst (IsOpen a) e o));
 }
 
 pub open_on : (c : ℕ) (a b d : Stays ChatItem ChatOf) → (IsOpen a c → ⊥) → KeptOpen a b → KeptBut c b d → KeptOpen a d
 open_on c a b d out h k = record {
   opens = λ e o. k.opens e (λ x. out (subst (IsOpen a) x o)) (h.opens e o);
   chats = λ e o. k.chats e (λ x. out (subst (IsOpen a) x o)) ∙ h.chats e o;
+  pushed = λ e o. k.pushed e (λ x. out (subst (IsOpen a) x o)) ∙ h.pushed e o;
 }
 
 pub all_open : (a b : Stays ChatItem ChatOf) → b ≡ a → KeptOpen a b
 all_open a b e = record {
   opens = λ d o. subst (λ (x : Stays ChatItem ChatOf). IsOpen x d) (sym e) o;
   chats = λ d o. ap (λ (x : Stays ChatItem ChatOf). chat_at x d) e;
+  pushed = λ d o. ap (λ (x : Stays ChatItem ChatOf). pushed_at x d) e;
 }
 
 -- a connection began
-pub begun : (c : ℕ) (ends : Tuple) (conn : Box Conn Global) (a b d : Stays ChatItem ChatOf) → (IsOpen a c → ⊥) → IsOpen d c → chat_at d c ≡ hearing (Opens ends conn) (chat_at b c) → Begins c ends conn.value a d
+pub begun : (c : ℕ) (ends : Tuple) (conn : Box Conn Global) (a b d : Stays ChatItem ChatOf) → (IsOpen a c → ⊥) → IsOpen d c → chat_at d c ≡ hearing (Opens ends conn) (chat_at b c)
+    → pushed_at b c ≡ 0 → pushed_at d c ≡ pushed_at b c + 1 → Begins c ends conn.value a d
 unfolding hearing
-begun c ends conn a b d out is told = record {
+begun c ends conn a b d out is told none one = record {
   was_not = out;
   is_open = is;
   ends_are = ap (λ (x : ChatOf). x.ends) told;
   conn_is = ap (λ (x : ChatOf). x.conn) told;
+  one = one ∙ ap (λ (n : ℕ). n + 1) none;
 }

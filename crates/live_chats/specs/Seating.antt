@@ -19,6 +19,7 @@ use Rattle.live_server.specs.declared.acting.Datagram.{Datagram}
 use Rattle.live_server.specs.declared.conn.Conn.{Conn}
 use Rattle.live_server.specs.declared.conn.Met.{Met}
 use Rattle.live_server.specs.declared.facts.Facts.{Facts}
+use Rattle.live_chats.specs.Accounts.{pushed_at}
 use Rattle.live_chats.specs.Hearing.{ChatOf, conn_in, hearing, hearing_all, nobody}
 use Rattle.live_chats.specs.Telling.{IsFirst, Tells}
 use Rattle.live_chats.specs.declared.chats.Chats.{Chats}
@@ -32,22 +33,25 @@ use Rattle.live_chats.specs.declared.seat.Who.TheVariants.{Due, Over}
 unfoldable pub chat_at : Stays ChatItem ChatOf → ℕ → ChatOf
 chat_at st c = hearing_all (sent_in (place_at st c)) nobody
 
--- at all other places a part stays, and each chat is what it was
+-- at all other places a part stays, each chat is what it was, and nothing was pushed
 pub record KeptBut (c : ℕ) (a b : Stays ChatItem ChatOf) : Type 0 where
   pub opens : (d : ℕ) → d ≢ c → IsOpen a d → IsOpen b d
   pub chats : (d : ℕ) → d ≢ c → chat_at b d ≡ chat_at a d
+  pub pushed : (d : ℕ) → d ≢ c → pushed_at b d ≡ pushed_at a d
 
 -- the same of every part that is at its place
 pub record KeptOpen (a b : Stays ChatItem ChatOf) : Type 0 where
   pub opens : (d : ℕ) → IsOpen a d → IsOpen b d
   pub chats : (d : ℕ) → IsOpen a d → chat_at b d ≡ chat_at a d
+  pub pushed : (d : ℕ) → IsOpen a d → pushed_at b d ≡ pushed_at a d
 
--- a connection with these ends began at a place at which no part was
+-- a connection with these ends began at a place at which no part was, by the first item that was pushed there
 pub record Begins (c : ℕ) (ends : Tuple) (conn : Conn) (a b : Stays ChatItem ChatOf) : Type 0 where
   pub was_not : IsOpen a c → ⊥
   pub is_open : IsOpen b c
   pub ends_are : (chat_at b c).ends ≡ ends
   pub conn_is : (chat_at b c).conn ≡ Some conn
+  pub one : pushed_at b c ≡ 1
 
 -- the connections of these seats
 abbrev pub conn_of_seat : Stays ChatItem ChatOf → Tuple × Seat → Tuple × Conn

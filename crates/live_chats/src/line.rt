@@ -1,9 +1,12 @@
 //! How a thread tells chats at the places of its pass, and opens and closes places.
 
 ghost use Rattle.std.specs.Prelude.{◌≡◌, ◌+◌, ◌≤◌, ◌⊎◌, [], true, false, IfSome, IfNone};
-ghost use Rattle.turn_gate.specs.Passes.{number};
+ghost use Rattle.turn_gate.specs.History.{Begins as Grows};
+ghost use Rattle.turn_gate.specs.Passes.{number, seen};
 ghost use Rattle.placed_parts.specs.Placing.{limits_of, origin_of};
+ghost use Rattle.squeue_state.specs.Naming.{setting_of};
 ghost use Rattle.stream_stays.specs.Places.{IsOpen, Knows, chain_of, life_of, places_of, touched_of};
+ghost use Rattle.live_chats.specs.Accounts.{HasEndedStay, pushed_at};
 ghost use Rattle.live_chats.specs.Hearing.{hearing};
 ghost use Rattle.live_chats.specs.Listening.{IsAnswer, Listens};
 ghost use Rattle.live_chats.specs.Seating.{Begins, IsSettled, KeptBut, KeptOpen, chat_at};
@@ -40,6 +43,7 @@ impl<H: Wait + Drop, W: Wait> Line<'_, Places<Streams<Chats, H>>, W> {
         requires { Knows IsFirst Tells limits_of self.now.squeue.now (origin_of self.now.squeue.now.given.first) pass stays.old }
         ensures knows { Knows IsFirst Tells limits_of self.now.squeue.now (origin_of self.now.squeue.now.given.first) result stays.new }
         ensures number { number result ≡ number pass }
+        ensures grows { Grows (seen pass) (seen result) }
         ensures places { places_of stays.new ≡ places_of stays.old }
         ensures touched { touched_of stays.new ≡ touched_of stays.old }
         ensures life { life_of stays.new ≡ life_of stays.old }
@@ -76,6 +80,8 @@ impl<H: Wait + Drop, W: Wait> Line<'_, Places<Streams<Chats, H>>, W> {
         ensures place { IsOpen stays.new c }
         ensures others { KeptBut c stays.old stays.new }
         ensures asks { (life_of stays.old).asks ≤ (life_of stays.new).asks + 1 }
+        ensures grows { Grows (seen pass) (seen result.0) }
+        ensures pushed { result.1 ≡ true → pushed_at stays.new c ≡ pushed_at stays.old c + 1 }
         ensures told { result.1 ≡ true → (chat_at stays.new c ≡ hearing item (chat_at stays.old c)) × Listens ear.old ear.new c (chat_at stays.new c) }
         ensures refused { result.1 ≡ false → chat_at stays.new c ≡ chat_at stays.old c }
     {
@@ -107,6 +113,8 @@ impl<H: Wait + Drop, W: Wait> Line<'_, Places<Streams<Chats, H>>, W> {
         ensures place { IsOpen stays.new c }
         ensures others { KeptBut c stays.old stays.new }
         ensures asks { (life_of stays.old).asks ≤ (life_of stays.new).asks + 1 }
+        ensures grows { Grows (seen pass) (seen result.0) }
+        ensures pushed { IfSome result.1 (λ _. pushed_at stays.new c ≡ pushed_at stays.old c + 1) }
         ensures chat { (chat_at stays.new c ≡ hearing item (chat_at stays.old c)) ⊎ (chat_at stays.new c ≡ chat_at stays.old c) }
         ensures heard { IfSome result.1 (λ h. (chat_at stays.new c ≡ hearing item (chat_at stays.old c))
             × IsAnswer (chat_at stays.new c) h out.old.items out.new.items) }
@@ -125,7 +133,8 @@ impl<H: Wait + Drop, W: Wait> Line<'_, Places<Streams<Chats, H>>, W> {
         (pass, heard)
     }
 
-    /// Closes a place, which may be opened again behind all others.
+    /// Closes a place, which may be opened again behind all others. In the squeue's history its stay has ended, with a feed for each item
+    /// that was pushed since it was opened.
     pub fn close(
         &self,
         alloc: Global,
@@ -139,6 +148,7 @@ impl<H: Wait + Drop, W: Wait> Line<'_, Places<Streams<Chats, H>>, W> {
         requires asks { 1 ≤ (life_of stays.old).asks }
         ensures settled { IsSettled limits_of self.now.squeue.now (origin_of self.now.squeue.now.given.first) result stays.new }
         ensures number { number result ≡ number pass }
+        ensures ended { HasEndedStay (setting_of limits_of self.now.squeue.now.given) (number pass) (seen pass) (seen result) (pushed_at stays.old c) }
         ensures others { KeptBut c stays.old stays.new }
         ensures asks { (life_of stays.old).asks ≤ (life_of stays.new).asks + 1 }
     {
@@ -161,6 +171,8 @@ impl<H: Wait + Drop, W: Wait> Line<'_, Places<Streams<Chats, H>>, W> {
         ensures number { number result.0 ≡ number pass }
         ensures asks { (life_of stays.old).asks ≤ (life_of stays.new).asks + 1 }
         ensures place { IfSome result.1 (λ c. IsOpen stays.new c × (IsOpen stays.old c → ⊥) × KeptBut c stays.old stays.new) }
+        ensures new { IfSome result.1 (λ c. pushed_at stays.new c ≡ 0) }
+        ensures grows { Grows (seen pass) (seen result.0) }
         ensures none { IfNone result.1 (stays.new ≡ stays.old) }
     {
         let Some(c) = free.pop_front() else {
@@ -190,6 +202,7 @@ impl<H: Wait + Drop, W: Wait> Line<'_, Places<Streams<Chats, H>>, W> {
         ensures settled { IsSettled limits_of self.now.squeue.now (origin_of self.now.squeue.now.given.first) result.0 stays.new }
         ensures number { number result.0 ≡ number pass }
         ensures asks { (life_of stays.old).asks ≤ (life_of stays.new).asks + 3 }
+        ensures grows { Grows (seen pass) (seen result.0) }
         ensures kept { KeptOpen stays.old stays.new }
         ensures begun { IfSome result.1 (λ c. Begins c ends conn.value stays.old stays.new) }
     {

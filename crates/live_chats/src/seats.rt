@@ -1,7 +1,8 @@
 //! A table of connections, each of which is a chat at a place of one pass.
 
-ghost use Rattle.std.specs.Prelude.{◌≡◌, ◌++◌, ◌∷◌, [], ◌<◌, ◌≤◌, true, false, length, slice_get, Some, IfSome, IfNone, OnErr, OnOk};
+ghost use Rattle.std.specs.Prelude.{◌≡◌, ◌++◌, ◌∷◌, [], ◌<◌, ◌≤◌, true, false, length, map, slice_get, Some, IfSome, IfNone, OnErr, OnOk};
 ghost use Rattle.std.specs.List.{flat_map};
+ghost use Rattle.std.specs.Map.{keys_of};
 ghost use Rattle.turn_gate.specs.Passes.{number};
 ghost use Rattle.placed_parts.specs.Placing.{limits_of, origin_of};
 ghost use Rattle.sq_base.specs.declared.kinds.Tuple.{Tuple};
@@ -9,7 +10,9 @@ ghost use Rattle.tcb_machine.specs.Limits.{last_time};
 ghost use Rattle.indexmap.specs.IndexMap.{set_value_at};
 ghost use Rattle.live_server.specs.Acts.{reached, sent_by};
 ghost use Rattle.live_server.specs.Table.{all_reached, without, IsNew};
+ghost use Rattle.live_server.specs.Told.Told.{begins, hears};
 ghost use Rattle.live_server.specs.declared.conn.Conn.{Conn};
+ghost use Rattle.live_chats.specs.Accounts.{SeatsWereTold};
 ghost use Rattle.live_chats.specs.Seating.{HasSeats, HasSeatsBut, HeardAt, Judges, KeepsEnds, MetAt, Spoils, conns_of, left_at};
 ghost use Rattle.live_chats.specs.declared.seat.Seat.{Seat};
 
@@ -75,6 +78,7 @@ pub(crate) fn vacate<H: Wait + Drop, W: Wait>(
     ensures seats { HasSeats limits_of line.now.squeue.now (origin_of line.now.squeue.now.given.first) result stays.new seats.new.entries }
     ensures number { number result ≡ number pass }
     ensures table { conns_of stays.new seats.new.entries ≡ without i (conns_of stays.old seats.old.entries) }
+    ensures told { SeatsWereTold limits_of line.now.squeue.now pass result stays.old stays.new seats.old.entries seats.new.entries [] }
 {
     let seat = seat_at(seats, i);
     unseat(seats, i);
@@ -101,6 +105,8 @@ fn hear_at<H: Wait + Drop, W: Wait>(
     ensures heard { IfSome result.1 (λ h. (t : Tuple) (d : Conn) → slice_get (conns_of stays.old seats.old.entries) i ≡ Some (t, d)
         → HeardAt item t d i h (conns_of stays.old seats.old.entries) (conns_of stays.new seats.new.entries) out.old.items out.new.items) }
     ensures lost { IfNone result.1 (conns_of stays.new seats.new.entries ≡ without i (conns_of stays.old seats.old.entries)) }
+    ensures told { IfSome result.1 (λ _. (t : Tuple) (seat : Seat) → slice_get seats.old.entries i ≡ Some (t, seat)
+        → SeatsWereTold limits_of line.now.squeue.now pass result.0 stays.old stays.new seats.old.entries seats.new.entries (hears t ∷ [])) }
 {
     if stays.life().asks <= seats.len() as u64 {
         let pass = vacate(line, alloc, pass, stays, seats, free, i);
@@ -142,6 +148,8 @@ pub(crate) fn meet_at<H: Wait + Drop, W: Wait>(
     ensures met { IfSome result.1 (λ m. (t : Tuple) (d : Conn) → slice_get (conns_of stays.old seats.old.entries) i ≡ Some (t, d)
         → MetAt item t d i m (conns_of stays.old seats.old.entries) (conns_of stays.new seats.new.entries) out.old.items out.new.items) }
     ensures lost { IfNone result.1 (conns_of stays.new seats.new.entries ≡ without i (conns_of stays.old seats.old.entries)) }
+    ensures told { IfSome result.1 (λ _. (t : Tuple) (seat : Seat) → slice_get seats.old.entries i ≡ Some (t, seat)
+        → SeatsWereTold limits_of line.now.squeue.now pass result.0 stays.old stays.new seats.old.entries seats.new.entries (hears t ∷ [])) }
 {
     let (pass, heard) = hear_at(line, alloc, pass, stays, seats, free, i, item, out);
     let Some(heard) = heard else {
@@ -172,6 +180,8 @@ pub(crate) fn reach_each<H: Wait + Drop, W: Wait>(
     ensures number { number result.0 ≡ number pass }
     ensures table { result.1 ≡ true → conns_of stays.new seats.new.entries ≡ all_reached now (conns_of stays.old seats.old.entries) }
     ensures sent { result.1 ≡ true → out.new.items ≡ out.old.items ++ flat_map (λ c. sent_by c.0 (reached now c.1)) (conns_of stays.old seats.old.entries) }
+    ensures told { result.1 ≡ true
+        → SeatsWereTold limits_of line.now.squeue.now pass result.0 stays.old stays.new seats.old.entries seats.new.entries (map hears (keys_of seats.old.entries)) }
     ensures lost { result.1 ≡ false → Spoils now (conns_of stays.old seats.old.entries) (conns_of stays.new seats.new.entries) }
 {
     let mut pass = pass;
@@ -203,6 +213,7 @@ pub(crate) fn seat_new<H: Wait + Drop, W: Wait>(
     ensures seats { HasSeats limits_of line.now.squeue.now (origin_of line.now.squeue.now.given.first) result.0 stays.new seats.new.entries }
     ensures number { number result.0 ≡ number pass }
     ensures put { OnOk result.1 (conns_of stays.new seats.new.entries ≡ conns_of stays.old seats.old.entries ++ (ends, conn) ∷ []) }
+    ensures told { OnOk result.1 (SeatsWereTold limits_of line.now.squeue.now pass result.0 stays.old stays.new seats.old.entries seats.new.entries (begins ends ∷ [])) }
     ensures kept { OnErr result.1 (conns_of stays.new seats.new.entries ≡ conns_of stays.old seats.old.entries) }
 {
     if stays.life().asks <= seats.len() as u64 + 3 {
@@ -238,6 +249,7 @@ pub(crate) fn leave_all<H: Wait + Drop, W: Wait>(
     ensures seats { HasSeats limits_of line.now.squeue.now (origin_of line.now.squeue.now.given.first) result stays.new seats.new.entries }
     ensures number { number result ≡ number pass }
     ensures none { seats.new.entries ≡ [] }
+    ensures told { SeatsWereTold limits_of line.now.squeue.now pass result stays.old stays.new seats.old.entries seats.new.entries [] }
 {
     let mut pass = pass;
     'leaving: while let Some(i) = seats.len().checked_sub(1) {
