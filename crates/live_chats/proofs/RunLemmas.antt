@@ -8,7 +8,7 @@ use Rattle.live_server.specs.Serving.{Outcome, ServerOf, sends_nothing}
 use Rattle.live_server.specs.Table.{Conns, tuple_eq}
 use Rattle.live_server.specs.declared.acting.Datagram.{Datagram}
 use Rattle.live_server.specs.declared.setting.Setting.{Setting}
-use Rattle.live_chats.specs.Chats.{Chats, ChatItem, Run, Said, Step, chats_of, one_step, runs, said, sends, tells, with_chat}
+use Rattle.live_chats.specs.Chats.{Chats, Item, Run, Said, Step, chats_of, one_step, runs, said, sends, tells, with_chat}
 use Rattle.live_chats.specs.Ways.{Shows}
 
 -- a run behind what was sent
@@ -66,7 +66,7 @@ moved_right a b conns setting ws o right = record {
 }
 
 -- one connection is told something
-pub told_shows : (sv : ServerOf) (t : Tuple) (x : ChatItem) (o : Outcome) (s : Said) → said sv.setting t x (conn_of t sv) ≡ s
+pub told_shows : (sv : ServerOf) (t : Tuple) (x : Item) (o : Outcome) (s : Said) → said sv.setting t x (conn_of t sv) ≡ s
     → ((q : Tuple) → conn_of q o.server ≡ cond (tuple_eq t q) s.conn (conn_of q sv)) → o.sent ≡ s.sent → Shows sv (tells t x ∷ []) o
 told_shows sv t x o s is looks sent = heard ∙ known
   where

@@ -24,13 +24,13 @@ use Rattle.live_server.specs.Table.{conn_at, place_of, tuple_eq, IsNew}
 use Rattle.live_server.specs.declared.conn.Conn.{Conn}
 use Rattle.live_server.proofs.TableLemmas.{distinct_appended, distinct_replaced, distinct_without, first_at, length_replaced, length_without, look_appended, look_replaced, look_without, new_from_place, new_without, within_at}
 use Rattle.live_server.proofs.PlaceLemmas.{conn_looked}
-use Rattle.live_chats.specs.Chats.{ChatItem, Step, becoming, fresh, leaves, opens, said, segment, segment_said, sends, tells, time, time_said}
+use Rattle.live_chats.specs.Chats.{Item, Step, becoming, fresh, leaves, opens, said, segment, segment_said, sends, tells, time, time_said}
 use Rattle.live_chats.specs.Ways.{way_addressed, way_comes, way_datagram, way_goes_on, way_heeds, way_opens, way_packet, way_segment, way_takes, way_time_to, way_yielding, way_yields}
 use Rattle.live_chats.proofs.RunLemmas.{IsRight, chosen_right, moved_right, nothing_right, quiet_right, sent_shows, then_right, told_shows}
 
 -- ---- the connection at a place becomes another one
 module _ (i : ℕ) (t : Tuple) (c : Conn) (sv : ServerOf) (at : place_of t sv.conns ≡ Some i) (table : IsTable sv) where
-  becomes_right : (x : ChatItem) → said sv.setting t x (conn_of t sv) ≡ becoming t c → IsRight sv (tells t x ∷ []) (becomes i t c sv)
+  becomes_right : (x : Item) → said sv.setting t x (conn_of t sv) ≡ becoming t c → IsRight sv (tells t x ∷ []) (becomes i t c sv)
   unfolding becomes
   becomes_right x is = record {
     shows = told_shows sv t x (becomes i t c sv) (becoming t c) is (look_replaced sv.conns i c (within_at t sv.conns i at) t (first_at t sv.conns i at) table.once) refl;

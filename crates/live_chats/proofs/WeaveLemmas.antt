@@ -6,14 +6,14 @@ use Rattle.live_server.specs.declared.acting.Datagram.{Datagram}
 use Rattle.live_server.specs.declared.conn.Conn.{Conn}
 use Rattle.live_server.specs.declared.setting.Setting.{Setting}
 use Rattle.live_server.proofs.TableLemmas.{same, tuple_equivalence}
-use Rattle.live_chats.specs.Chats.{ChatItem, Step, said, sends, tells, with_chat}
+use Rattle.live_chats.specs.Chats.{Item, Step, said, sends, tells, with_chat}
 use Rattle.live_chats.specs.Weaving.{Answers, ChatsAreApart, answers_to, behind_first, chat_ends, chat_says, first_of_all, items_to, one_out, woven}
 
-module _ (g : Setting) (t : Tuple) (x : ChatItem) (ws : List Step) (all : Tuple → Option Conn) where
+module _ (g : Setting) (t : Tuple) (x : Item) (ws : List Step) (all : Tuple → Option Conn) where
   abbrev next : Tuple → Option Conn
   next = with_chat t (said g t x (all t)).conn all
 
-  abbrev told_by : Tuple → Bool → List ChatItem
+  abbrev told_by : Tuple → Bool → List Item
   told_by q b = cond b (x ∷ items_to q ws) (items_to q ws)
 
   -- what is behind the first answer of the one that is told something, and all of each other one

@@ -8,21 +8,21 @@ use Rattle.live_server.specs.Table.{tuple_eq}
 use Rattle.live_server.specs.declared.acting.Datagram.{Datagram}
 use Rattle.live_server.specs.declared.conn.Conn.{Conn}
 use Rattle.live_server.specs.declared.setting.Setting.{Setting}
-use Rattle.live_chats.specs.Chats.{ChatItem, Step, chats_of, runs, said, sends, tells}
+use Rattle.live_chats.specs.Chats.{Item, Step, chats_of, runs, said, sends, tells}
 use Rattle.live_chats.specs.Ways.{ways}
 
 -- what the chat of two ends is told
-abbrev pub items_to : Tuple → List Step → List ChatItem
+abbrev pub items_to : Tuple → List Step → List Item
 items_to q [] = []
 items_to q (sends ds ∷ ws) = items_to q ws
 items_to q (tells t x ∷ ws) = if tuple_eq t q then x ∷ items_to q ws else items_to q ws
 
 -- and what it says, item by item
-abbrev pub chat_says : Setting → Tuple → List ChatItem → Option Conn → List (List Datagram)
+abbrev pub chat_says : Setting → Tuple → List Item → Option Conn → List (List Datagram)
 chat_says g t [] o = []
 chat_says g t (x ∷ xs) o = (said g t x o).sent ∷ chat_says g t xs (said g t x o).conn
 
-abbrev pub chat_ends : Setting → Tuple → List ChatItem → Option Conn → Option Conn
+abbrev pub chat_ends : Setting → Tuple → List Item → Option Conn → Option Conn
 chat_ends g t [] o = o
 chat_ends g t (x ∷ xs) o = chat_ends g t xs (said g t x o).conn
 
