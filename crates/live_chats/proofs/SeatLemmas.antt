@@ -1,5 +1,5 @@
 -- The seats of a table, where one chat changes, leaves or comes.
-use Rattle.std.proofs.Common.{◌≡◌, ◌≢◌, ℕ, ◌+◌, ◌<◌, ◌≤◌, min, ◌⊎◌, inl, inr, Bool, true, false, cond, Option, None, Some, IfSome, IfNone, List, [], ◌∷◌, ◌++◌, length, map, slice_get, refl, sym, ap, subst, ◌∙◌, arith}
+use Rattle.std.proofs.Common.{◌≡◌, ◌≢◌, ℕ, ◌+◌, ◌<◌, ◌≤◌, min, ◌⊎◌, inl, inr, Bool, true, false, cond, Option, None, Some, IfSome, IfNone, List, [], ◌∷◌, ◌++◌, length, slice_get, refl, sym, ap, subst, ◌∙◌, arith}
 use Rattle.std.specs.List.{IsDistinct, swap_remove}
 use Rattle.std.specs.Map.{keys_of}
 use Rattle.std.specs.Option.{option_map}
@@ -24,7 +24,7 @@ use Rattle.live_server.specs.declared.conn.Conn.{Conn}
 use Rattle.live_server.specs.declared.conn.Met.{Met}
 use Rattle.live_server.specs.declared.facts.Facts.{Facts}
 use Rattle.live_server.proofs.TableLemmas.{conn_written, tuple_equivalence}
-use Rattle.live_chats.specs.Hearing.{ChatOf, conn_in, hearing, hearing_all, nobody, silent}
+use Rattle.live_chats.specs.Hearing.{ChatOf, conn_in, hearing, nobody, silent}
 use Rattle.live_chats.specs.Listening.{IsAnswer}
 use Rattle.live_chats.specs.Seating.{AllSeated, Begins, HasSeats, HasSeatsBut, HeardAt, IsGood, IsSeated, IsSettled, Judges, KeepsEnds, MetAt, KeptBut, KeptOpen, chat_at, chat_of, conn_of_seat, conns_of, left_at}
 use Rattle.live_chats.specs.declared.chats.Chats.{Chats}

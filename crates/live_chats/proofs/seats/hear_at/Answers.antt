@@ -1,4 +1,4 @@
-use Rattle.std.proofs.Common.{◌≡◌, length, ap, sym, subst, ◌∙◌, arith, Some}
+use Rattle.std.proofs.Common.{◌≡◌, ap, sym, subst, ◌∙◌, arith}
 use Rattle.std_collections.proofs.Entries.{keys_set_value_at}
 use Rattle.std.specs.List.{IsDistinct}
 use Rattle.indexmap.specs.Layout.{length-set_value_at}
