@@ -294,6 +294,6 @@ module _ {R : Type 0} (limits : R → Limits) (s : Named R) (o : Chats) (who : F
       let counts : accounts_of first (still leaving i es) ≡ accounts_of st left =
       ap (accounts_of first) (still_all leaving es i past)
       ∙ map_agrees (account_of first) (account_of st) left
-          (λ k e there. let was = in_kept (λ (x : Entry). not (who x.1.facts)) es k e there in
-              ap (λ (n : ℕ). (e.0, n)) (sym (c.counted was.0 e was.1 (inr (not_true (who e.1.facts) was.2))))) in
+      (λ k e there. let was = in_kept (λ (x : Entry). not (who x.1.facts)) es k e there in
+      ap (λ (n : ℕ). (e.0, n)) (sym (c.counted was.0 e was.1 (inr (not_true (who e.1.facts) was.2))))) in
       subst (λ (l : Accounts). WereTold (setting_of limits s.given) (number p) (seen p) (seen q) (accounts_of first es) l []) counts told

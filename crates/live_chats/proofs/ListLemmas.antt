@@ -68,8 +68,9 @@ module _ {X : Type 0} where
       by true (suc n) h rest = let r = rest n h in (suc r.0, r.1)
       by false n h rest = let r = rest n h in (suc r.0, r.1)
 
-  -- who is there behind a removal was there, at another place
-  in_swapped : (xs : List X) (i k : ℕ) (d x : X) → i < length xs → slice_get (swap_remove xs i d) k ≡ Some x → (j : ℕ) × (slice_get xs j ≡ Some x) × (j ≢ i)
+  -- who is there behind a removal was there, at another place: at the same, or it was the last one and took the place that was left
+  in_swapped : (xs : List X) (i k : ℕ) (d x : X) → i < length xs → slice_get (swap_remove xs i d) k ≡ Some x
+      → (j : ℕ) × (slice_get xs j ≡ Some x) × (j ≢ i) × ((j ≡ k) ⊎ ((k ≡ i) × (i < j)))
   in_swapped xs i k d x lt at =
       let n : ℕ = length xs - 1 in
       let last : X = get_or xs n d in
@@ -77,16 +78,21 @@ module _ {X : Type 0} where
       let there : get_or (set xs i last) k x ≡ x = sym (get_or-take n (set xs i last) k x below) ∙ get_or_from_slice_get (take n (set xs i last)) k x x at in
       elim (eqb_tells k i) [
         | inl e ↦ (let its : last ≡ x = sym (get_or-set_same xs i last x lt) ∙ ap (λ (m : ℕ). get_or (set xs i last) m x) (sym e.1) ∙ there in
-            (n, slice_get-get_or xs n d (omega arith) ∙ ap Some its, λ h. omega (arith, e.1, below, h)))
-        | inr e ↦ (k, slice_get-get_or xs k x (omega (arith, below)) ∙ ap Some (sym (get_or-set_other xs i k last x e.1) ∙ there), e.1)
+            (n, slice_get-get_or xs n d (omega arith) ∙ ap Some its, (λ h. omega (arith, e.1, below, h)), inr (e.1, omega (arith, e.1, below))))
+        | inr e ↦ (k, slice_get-get_or xs k x (omega (arith, below)) ∙ ap Some (sym (get_or-set_other xs i k last x e.1) ∙ there), e.1, inl refl)
       ]
 
-  pub in_left : (i : ℕ) (xs : List X) (k : ℕ) (x : X) → i < length xs → slice_get (left_at i xs) k ≡ Some x → (j : ℕ) × (slice_get xs j ≡ Some x) × (j ≢ i)
-  in_left i xs k x lt at = by (slice_get xs i) (slice_get-get_or xs i x lt) at
+  pub in_left_from : (i : ℕ) (xs : List X) (k : ℕ) (x : X) → i < length xs → slice_get (left_at i xs) k ≡ Some x
+      → (j : ℕ) × (slice_get xs j ≡ Some x) × (j ≢ i) × ((j ≡ k) ⊎ ((k ≡ i) × (i < j)))
+  in_left_from i xs k x lt at = by (slice_get xs i) (slice_get-get_or xs i x lt) at
     where
-      by : (o : Option X) → o ≡ Some (get_or xs i x) → slice_get (option_map_or (λ y. swap_remove xs i y) o xs) k ≡ Some x → (j : ℕ) × (slice_get xs j ≡ Some x) × (j ≢ i)
+      by : (o : Option X) → o ≡ Some (get_or xs i x) → slice_get (option_map_or (λ y. swap_remove xs i y) o xs) k ≡ Some x
+          → (j : ℕ) × (slice_get xs j ≡ Some x) × (j ≢ i) × ((j ≡ k) ⊎ ((k ≡ i) × (i < j)))
       by None e h = cc
       by (Some y) e h = in_swapped xs i k y x lt h
+
+  pub in_left : (i : ℕ) (xs : List X) (k : ℕ) (x : X) → i < length xs → slice_get (left_at i xs) k ≡ Some x → (j : ℕ) × (slice_get xs j ≡ Some x) × (j ≢ i)
+  in_left i xs k x lt at = let was = in_left_from i xs k x lt at in (was.0, was.1, was.2)
 
   -- who leaves, and those that are left, are those that were there
   pub left_moves : (i : ℕ) (xs : List X) (x : X) → slice_get xs i ≡ Some x → IsPermutation xs (x ∷ left_at i xs)
@@ -160,15 +166,3 @@ module _ {X : Type 0} where
   pub map_append : {Y : Type 0} (f : X → Y) (xs ys : List X) → map f (xs ++ ys) ≡ map f xs ++ map f ys
   map_append f [] ys = refl
   map_append f (x ∷ xs) ys = ap (λ l. f x ∷ l) (map_append f xs ys)
-
--- the key at a place; and all that is taken past the end
-pub key_at : {K X : Type 0} (es : List (K × X)) (i : ℕ) (e : K × X) → slice_get es i ≡ Some e → slice_get (keys_of es) i ≡ Some e.0
-key_at [] i e at = cc
-key_at (x ∷ es) zero e at = ap (λ (o : Option _). option_map (λ y. y.0) o) at
-key_at (x ∷ es) (suc i) e at = key_at es i e at
-
-pub take_past : {X : Type 0} (xs : List X) (i : ℕ) → length xs ≤ i → take i xs ≡ xs
-take_past [] zero past = refl
-take_past [] (suc i) past = refl
-take_past (x ∷ xs) zero past = absurd (let no : ⊥ = omega (arith, past) in no)
-take_past (x ∷ xs) (suc i) past = ap (λ (l : List _). x ∷ l) (take_past xs i (omega (arith, past)))

@@ -34,7 +34,7 @@ module _ (S : Setting) (p : ℕ) where
   stays_append past (x ∷ xs) ys =
       let here : List Element = past ++ x ∷ [] in
       ap (λ (l : List ℕ). stay_of S p past x ++ l)
-          (stays_append here xs ys ∙ ap (λ (l : List Element). stays_behind S p here xs ++ stays_behind S p l ys) (append_assoc past (x ∷ []) xs))
+      (stays_append here xs ys ∙ ap (λ (l : List Element). stays_behind S p here xs ++ stays_behind S p l ys) (append_assoc past (x ∷ []) xs))
       ∙ sym (append_assoc (stay_of S p past x) (stays_behind S p here xs) (stays_behind S p (past ++ x ∷ xs) ys))
 
 -- ---- numbers that are made of stays
@@ -255,7 +255,7 @@ module _ (S : Setting) (p : ℕ) where
         let its : n + more t ≡ n = let none = h t away in omega (arith, none) in
         let back : IsPermutation ((t, n) ∷ is) was = IsPermutation-sym was ((t, n) ∷ is) moved in
         let all : IsPermutation (n ∷ in_the_end more is) (in_the_end more was) = subst (λ (m : ℕ). IsPermutation (m ∷ in_the_end more is) (in_the_end more was)) its
-            (IsPermutation-map (λ (x : Tuple × ℕ). x.1 + more x.0) ((t, n) ∷ is) was back) in
+        (IsPermutation-map (λ (x : Tuple × ℕ). x.1 + more x.0) ((t, n) ∷ is) was back) in
         let one = one_stay ended.before (stays_behind S p now rest) (in_the_end more is ++ others) n made in
         let numbers = in_other_order _ _ (in_the_end more was ++ others) (IsPermutation-append_left others (n ∷ in_the_end more is) (in_the_end more was) all) one in
         subst (λ (l : List ℕ). AreMadeOf l (in_the_end more was ++ others)) (from_first past now ended.grown rest (ended.before ++ n ∷ []) ended.goes_on ended.ended) numbers;
@@ -300,15 +300,59 @@ module _ {R : Type 0} (limits : R → Limits) (s : Named R) (p q : Pass Element)
             ∙ ap (λ (l : List ℕ). stays_behind S (number p) (seen p) came.0 ++ l) (append-nil (stay_of S (number p) (seen p ++ came.0) e) ∙ last);
       }
 
--- one more of them hears it
-pub one_more_hears : (ks : List Tuple) (i : ℕ) (t : Tuple) → slice_get ks i ≡ Some t → map hears (take i ks) ++ hears t ∷ [] ≡ map hears (take (i + 1) ks)
-one_more_hears ks i t at = by ks i at ∙ ap (λ (n : ℕ). map hears (take n ks)) (sym (add-one i))
-  where
-    by : (ls : List Tuple) (k : ℕ) → slice_get ls k ≡ Some t → map hears (take k ls) ++ hears t ∷ [] ≡ map hears (take (suc k) ls)
-    by [] k h = absurd (nobody h)
-      where
-        nobody : slice_get [] k ≡ Some t → ⊥
-        nobody e = cc
-    by (l ∷ ls) zero h = let same : l ≡ t = cc in ap (λ (u : Tuple). hears u ∷ []) (sym same)
-    by (l ∷ ls) (suc k) h = ap (λ (ws : List Told). hears l ∷ ws) (by ls k h)
+-- each of them heard a frame
+abbrev pub one_more_each : Accounts → Accounts
+one_more_each accounts = map (λ x. (x.0, x.1 + 1)) accounts
 
+all_unheard : (more : Tuple → ℕ) (ks : List Tuple) (t : Tuple) → AllByRecursion (λ (k : Tuple). tuple_eq t k ≡ false) ks → heard_with more (map hears ks) t ≡ more t
+all_unheard more [] t h = refl
+all_unheard more (k ∷ ks) t h = ap (λ (b : Bool). cond b (1 + heard_with more (map hears ks) t) (heard_with more (map hears ks) t)) h.0 ∙ all_unheard more ks t h.1
+
+keys_away : (t : Tuple) (xs : Accounts) → IsAway t xs → AllByRecursion (λ (k : Tuple). tuple_eq t k ≡ false) (keys_of xs)
+keys_away t [] h = tt
+keys_away t (x ∷ xs) h = (h.0, keys_away t xs h.1)
+
+each_away : (t : Tuple) (xs : Accounts) → IsAway t xs → IsAway t (one_more_each xs)
+each_away t [] h = tt
+each_away t (x ∷ xs) h = (h.0, each_away t xs h.1)
+
+each_key : (xs : Accounts) → keys_of (one_more_each xs) ≡ keys_of xs
+each_key [] = refl
+each_key (x ∷ xs) = ap (λ (ks : List Tuple). x.0 ∷ ks) (each_key xs)
+
+no_lives : (more : Tuple → ℕ) (ks : List Tuple) → lives_with more (map hears ks) ≡ []
+no_lives more [] = refl
+no_lives more (k ∷ ks) = no_lives more ks
+
+all_counted : (more : Tuple → ℕ) (was : Accounts) → IsDistinct tuple_eq (keys_of was) → in_the_end more (one_more_each was) ≡ in_the_end (heard_with more (map hears (keys_of was))) was
+all_counted more [] distinct = refl
+all_counted more (x ∷ xs) distinct =
+    let ks = keys_of xs in
+    let apart = IsDistinct-head tuple_eq x.0 ks distinct in
+    let its : heard_with more (hears x.0 ∷ map hears ks) x.0 ≡ 1 + more x.0 =
+    ap (λ (b : Bool). cond b (1 + heard_with more (map hears ks) x.0) (heard_with more (map hears ks) x.0)) (tuple_equivalence.refl x.0) ∙ ap (λ (n : ℕ). 1 + n) (all_unheard more ks x.0 apart) in
+    let first : (x.1 + 1) + more x.0 ≡ x.1 + heard_with more (hears x.0 ∷ map hears ks) x.0 = omega (arith, its) in
+    λ j. first j ∷ (all_counted more xs (IsDistinct-tail tuple_eq x.0 ks distinct)
+    ∙ ends_agree (heard_with more (map hears ks)) (heard_with more (hears x.0 ∷ map hears ks)) xs (every_so ks xs (keys_others x.0 xs apart))) j
+  where
+    every_so : (ks : List Tuple) (ys : Accounts) → AllByRecursion (λ (y : Tuple × ℕ). tuple_eq y.0 x.0 ≡ false) ys
+        → AllByRecursion (λ (y : Tuple × ℕ). heard_with more (map hears ks) y.0 ≡ heard_with more (hears x.0 ∷ map hears ks) y.0) ys
+    every_so ks [] h = tt
+    every_so ks (y ∷ ys) h =
+        (ap (λ (b : Bool). cond b (1 + heard_with more (map hears ks) y.0) (heard_with more (map hears ks) y.0)) (sym h.0), every_so ks ys h.1)
+
+module _ (S : Setting) (p : ℕ) where
+  pub each_heard : (past now : List Element) (was is : Accounts) → IsDistinct tuple_eq (keys_of was) → is ≡ one_more_each was → Begins past now
+      → WereTold S p past now was is (map hears (keys_of was))
+  each_heard past now was is distinct each grows =
+      let ws = map hears (keys_of was) in
+      record {
+        grown = grows.0;
+        goes_on = grows.1;
+        here = λ more h u away. all_unheard more (keys_of was) u (keys_away u was away) ∙ h u (subst (IsAway u) (sym each) (each_away u was away));
+        lived = λ more rest others h made.
+            let ends = ap (in_the_end more) each ∙ all_counted more was distinct in
+            let numbers : in_the_end more is ++ others ≡ in_the_end (heard_with more ws) was ++ (lives_with more ws ++ others) =
+            ap (λ (l : List ℕ). l ++ others) ends ∙ ap (λ (l : List ℕ). in_the_end (heard_with more ws) was ++ (l ++ others)) (sym (no_lives more (keys_of was))) in
+            subst (AreMadeOf (stays_behind S p past (grows.0 ++ rest))) numbers (grew S p past now rest (in_the_end more is ++ others) grows made);
+      }

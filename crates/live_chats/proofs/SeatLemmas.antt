@@ -137,7 +137,7 @@ module _ (a b : Stays ChatItem ChatOf) (es : List Entry) (i : ℕ) (e : Entry) (
   left_accounts =
       let rest : accounts_of b (left_at i es) ≡ left_at i (accounts_of a es) =
       map_agrees (account_of b) (account_of a) (left_at i es)
-          (λ k f there. let was = in_left i es k f (slice_get_within es i e at) there in others_counted was.0 f was.1 was.2)
+      (λ k f there. let was = in_left i es k f (slice_get_within es i e at) there in others_counted was.0 f was.1 was.2)
       ∙ map_left (account_of a) i es in
       subst (λ (l : Accounts). IsPermutation (accounts_of a es) (account_of a e ∷ l)) (sym rest) (left_moves i (accounts_of a es) (account_of a e) (account_at a es i e at))
 
@@ -361,6 +361,11 @@ module _ {R : Type 0} (limits : R → Limits) (s : Named R) where
   pub seats_untold : (p : Pass Element) (st : Stays ChatItem ChatOf) (es : List Entry) → SeatsWereTold limits s p p st st es es []
   seats_untold p st es = untold S (number p) (seen p) (accounts_of st es)
 
+  -- nor does anybody hear where nobody is
+  pub nobody_heard : (p : Pass Element) (st : Stays ChatItem ChatOf) (es : List Entry) → length es ≡ 0 → SeatsWereTold limits s p p st st es es (map hears (keys_of es))
+  nobody_heard p st [] none = seats_untold p st []
+  nobody_heard p st (e ∷ es) none = absurd (omega (arith, none))
+
   pub seats_told_on : (p m q : Pass Element) (a b d : Stays ChatItem ChatOf) (es fs gs : List Entry) (ws vs : List Told) → number m ≡ number p
       → SeatsWereTold limits s p m a b es fs ws → SeatsWereTold limits s m q b d fs gs vs → SeatsWereTold limits s p q a d es gs (ws ++ vs)
   seats_told_on p m q a b d es fs gs ws vs is first more =
@@ -385,7 +390,8 @@ module _ {R : Type 0} (limits : R → Limits) (s : Named R) where
   pub table_told : (old new : Option (Pass Element)) (p q : Pass Element) (a b : Stays ChatItem ChatOf) (es fs : List Entry) (ws : List Told)
       → old ≡ Some p → new ≡ Some q → number q ≡ number p → SeatsWereTold limits s p q a b es fs ws
       → (number_in new ≡ number_in old) × WereTold S (number_in old) (seen_in old) (seen_in new) (accounts_of a es) (accounts_of b fs) ws
-  table_told old new p q a b es fs ws was is same_number told =
-      (ap number_in is ∙ same_number ∙ ap number_in (sym was),
-      subst (λ (o : Option (Pass Element)). WereTold S (number_in o) (seen_in o) (seen_in new) (accounts_of a es) (accounts_of b fs) ws) (sym was)
-      (subst (λ (o : Option (Pass Element)). WereTold S (number p) (seen p) (seen_in o) (accounts_of a es) (accounts_of b fs) ws) (sym is) told))
+  table_told old new p q a b es fs ws was is same_number told = (
+    ap number_in is ∙ same_number ∙ ap number_in (sym was),
+    subst (λ (o : Option (Pass Element)). WereTold S (number_in o) (seen_in o) (seen_in new) (accounts_of a es) (accounts_of b fs) ws) (sym was)
+        (subst (λ (o : Option (Pass Element)). WereTold S (number p) (seen p) (seen_in o) (accounts_of a es) (accounts_of b fs) ws) (sym is) told),
+  )

@@ -37,7 +37,7 @@ module _ (S : Setting) (p : ℕ) where
         let first = b.lived more rest others h made in
         let last = a.lived (heard_with more vs) (b.grown ++ rest) (later ++ others) (b.here more h) first in
         let numbers : in_the_end (heard_with (heard_with more vs) ws) was ++ (lives_with (heard_with more vs) ws ++ (later ++ others))
-            ≡ in_the_end (heard_with more (ws ++ vs)) was ++ (lives_with more (ws ++ vs) ++ others) =
+        ≡ in_the_end (heard_with more (ws ++ vs)) was ++ (lives_with more (ws ++ vs) ++ others) =
         (λ j. in_the_end (heard_both more ws vs j) was ++ sym (append_assoc (lives_with (heard_with more vs) ws) later others) j)
         ∙ ap (λ (l : List ℕ). in_the_end (heard_with more (ws ++ vs)) was ++ (l ++ others)) (sym (lives_append more ws vs)) in
         subst (λ (l : List ℕ). AreMadeOf l (in_the_end (heard_with more (ws ++ vs)) was ++ (lives_with more (ws ++ vs) ++ others)))

@@ -1,6 +1,6 @@
 //! How a thread tells chats at the places of its pass, and opens and closes places.
 
-ghost use Rattle.std.specs.Prelude.{◌≡◌, ◌+◌, ◌≤◌, ◌⊎◌, [], true, false, IfSome, IfNone};
+ghost use Rattle.std.specs.Prelude.{◌≡◌, ◌+◌, ◌≤◌, ◌⊎◌, [], true, false, IfSome, IfNone, ◌++◌, ◌∷◌, length, map, vec_capacity};
 ghost use Rattle.turn_gate.specs.History.{Begins as Grows};
 ghost use Rattle.turn_gate.specs.Passes.{number, seen};
 ghost use Rattle.placed_parts.specs.Placing.{limits_of, origin_of};
@@ -8,14 +8,14 @@ ghost use Rattle.squeue_state.specs.Naming.{setting_of};
 ghost use Rattle.stream_stays.specs.Places.{IsOpen, Knows, chain_of, life_of, places_of, touched_of};
 ghost use Rattle.live_chats.specs.Accounts.{HasEndedStay, pushed_at};
 ghost use Rattle.live_chats.specs.Hearing.{hearing};
-ghost use Rattle.live_chats.specs.Listening.{IsAnswer, Listens};
+ghost use Rattle.live_chats.specs.Listening.{AreAnswers, IsAnswer, Listens};
 ghost use Rattle.live_chats.specs.Seating.{Begins, IsSettled, KeptBut, KeptOpen, chat_at};
 ghost use Rattle.live_chats.specs.Telling.{IsFirst, Tells};
 ghost use Rattle.live_chats.specs.declared.ear.Heard.{Heard};
 
 use crate::chat::Chat;
 use crate::chats::Chats;
-use crate::ear::{Ear, Heard};
+use crate::ear::{Ear, Ears, Heard};
 use crate::item::ChatItem;
 use live_server::{Conn, Datagram};
 use perimeter_core::Resident;
@@ -130,6 +130,77 @@ impl<H: Wait + Drop, W: Wait> Line<'_, Places<Streams<Chats, H>>, W> {
         if !taken {
             return (pass, None);
         }
+        (pass, heard)
+    }
+
+    /// Pushes an item at a place, whose feed waits. Where there is no room for it, what was pushed is entered first. It answers whether the
+    /// item was taken; else nothing changed.
+    pub fn push(
+        &self,
+        alloc: Global,
+        pass: Pass,
+        stays: &mut Stays<ChatItem, Chat>,
+        c: u32,
+        item: ChatItem,
+    ) -> (Pass, bool)
+        requires knows { Knows IsFirst Tells limits_of self.now.squeue.now (origin_of self.now.squeue.now.given.first) pass stays.old }
+        requires place { IsOpen stays.old c }
+        ensures knows { Knows IsFirst Tells limits_of self.now.squeue.now (origin_of self.now.squeue.now.given.first) result.0 stays.new }
+        ensures number { number result.0 ≡ number pass }
+        ensures place { IsOpen stays.new c }
+        ensures others { KeptBut c stays.old stays.new }
+        ensures asks { (life_of stays.new).asks ≡ (life_of stays.old).asks }
+        ensures grows { Grows (seen pass) (seen result.0) }
+        ensures pushed { result.1 ≡ true → pushed_at stays.new c ≡ pushed_at stays.old c + 1 }
+        ensures unpushed { result.1 ≡ false → pushed_at stays.new c ≡ pushed_at stays.old c }
+        ensures taken { result.1 ≡ true → (chat_at stays.new c ≡ hearing item (chat_at stays.old c))
+            × (touched_of stays.new ≡ touched_of stays.old ++ c ∷ []) }
+        ensures refused { result.1 ≡ false → (chat_at stays.new c ≡ chat_at stays.old c) × (touched_of stays.new ≡ touched_of stays.old) }
+    {
+        match push_at(self.squeue, &pass, stays, c, item) {
+            Ok(()) => (pass, true),
+            Err(item) => {
+                let pass = self.enter(alloc, pass, stays);
+                let pushed = push_at(self.squeue, &pass, stays, c, item);
+                (pass, pushed.is_ok())
+            }
+        }
+    }
+
+    /// Enters all that was pushed, settles it at an Ask of the pass, and listens to the chat of each item that was pushed, in order. It
+    /// answers what was heard of each, for which there is room, and what was sent goes behind the datagrams that are there.
+    pub fn listen(
+        &self,
+        alloc: Global,
+        pass: Pass,
+        stays: &mut Stays<ChatItem, Chat>,
+        room: Vec<Option<Heard>>,
+        out: &mut Vec<Datagram>,
+    ) -> (Pass, Vec<Option<Heard>>)
+        requires knows { Knows IsFirst Tells limits_of self.now.squeue.now (origin_of self.now.squeue.now.given.first) pass stays.old }
+        requires asks { 1 ≤ (life_of stays.old).asks }
+        requires room { (room.items ≡ []) × (length (touched_of stays.old) ≤ vec_capacity room) }
+        ensures settled { IsSettled limits_of self.now.squeue.now (origin_of self.now.squeue.now.given.first) result.0 stays.new }
+        ensures number { number result.0 ≡ number pass }
+        ensures grows { Grows (seen pass) (seen result.0) }
+        ensures kept { KeptOpen stays.old stays.new }
+        ensures asks { (life_of stays.old).asks ≤ (life_of stays.new).asks + 1 }
+        ensures room { vec_capacity result.1 ≡ vec_capacity room }
+        ensures answers { AreAnswers (map (chat_at stays.new) (touched_of stays.old)) result.1.items out.old.items out.new.items }
+    {
+        let mut ears = Ears {
+            alloc,
+            out: replace(out, Vec::new(alloc)),
+            heard: room,
+        };
+        let pass = self.enter(alloc, pass, stays);
+        let pass = settle(self.squeue, self.rt, alloc, pass, stays, &mut ears);
+        let Ears {
+            alloc: _,
+            out: sent,
+            heard,
+        } = ears;
+        *out = sent;
         (pass, heard)
     }
 

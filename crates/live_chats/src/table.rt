@@ -7,7 +7,8 @@ use crate::chat::Chat;
 use crate::chats::Chats;
 use crate::item::ChatItem;
 use crate::line::Line;
-use crate::seats::{Table, leave_all, meet_at, reach_each, seat_new, vacate};
+use crate::reaching::reach_each;
+use crate::seats::{Table, leave_all, meet_at, seat_new, vacate};
 use crate::{asking, leaving};
 use indexmap::IndexMap;
 use live_server::{Conn, ConnTable, Datagram, Met, Setting};
@@ -134,7 +135,7 @@ impl<'q, H: Wait + Drop, W: Wait, N: Closes> ConnTable
     // By the history of the pass, which goes on at the same squeue.
     ghost tells = { λ a told b. (b.line.squeue.now.given ≡ a.line.squeue.now.given) × (number_in b.pass ≡ number_in a.pass)
         × WereTold (setting_of limits_of a.line.squeue.now.given) (number_in a.pass) (seen_in a.pass) (seen_in b.pass)
-            (accounts_of a.stays a.seats.entries) (accounts_of b.stays b.seats.entries) told };
+        (accounts_of a.stays a.seats.entries) (accounts_of b.stays b.seats.entries) told };
 
     fn len(&self) -> usize {
         asking::len(&self.seats)
@@ -271,11 +272,18 @@ impl<'q, H: Wait + Drop, W: Wait, N: Closes> ConnTable
         put_pass(&mut self.pass, pass);
     }
 
-    ghost tells_nothing = { λ a. (refl, refl, untold (setting_of limits_of a.line.squeue.now.given) (number_in a.pass) (seen_in a.pass)
-        (accounts_of a.stays a.seats.entries)) };
+    ghost tells_nothing = { λ a. (
+      refl,
+      refl,
+      untold (setting_of limits_of a.line.squeue.now.given) (number_in a.pass) (seen_in a.pass)
+          (accounts_of a.stays a.seats.entries),
+    ) };
 
-    ghost tells_on = { λ a b c first then told more. (more.0 ∙ told.0, more.1 ∙ told.1,
-        same_pass_on (setting_of limits_of a.line.squeue.now.given) (setting_of limits_of b.line.squeue.now.given) (number_in a.pass) (number_in b.pass)
-            (seen_in a.pass) (seen_in b.pass) (seen_in c.pass) (accounts_of a.stays a.seats.entries) (accounts_of b.stays b.seats.entries)
-            (accounts_of c.stays c.seats.entries) first then (ap (setting_of limits_of) told.0) told.1 told.2 more.2) };
+    ghost tells_on = { λ a b c first then told more. (
+      more.0 ∙ told.0,
+      more.1 ∙ told.1,
+      same_pass_on (setting_of limits_of a.line.squeue.now.given) (setting_of limits_of b.line.squeue.now.given) (number_in a.pass) (number_in b.pass)
+          (seen_in a.pass) (seen_in b.pass) (seen_in c.pass) (accounts_of a.stays a.seats.entries) (accounts_of b.stays b.seats.entries)
+          (accounts_of c.stays c.seats.entries) first then (ap (setting_of limits_of) told.0) told.1 told.2 more.2,
+    ) };
 }

@@ -74,8 +74,9 @@ module _ {S K : Type 0} (P : Ends S K → EndedRing S K → Type 0) (Q : ℕ →
   all_ended_from (r ∷ rs) [] m n did f = absurd (omega (arith, n))
   all_ended_from (r ∷ rs) (Task'.Serve ring ∷ us) m n did f = absurd (did 0 (Task'.Serve r) (Task'.Serve ring) refl refl)
   all_ended_from (r ∷ rs) (Task'.Served ended ∷ us) m n did f =
-      let none : m + 0 ≡ m = omega arith in
-      (subst (λ (k : ℕ). Q k r.ends ended) none (f 0 r.ends ended refl (did 0 (Task'.Serve r) (Task'.Served ended) refl refl)),
-      all_ended_from rs us (m + 1) (omega (arith, n)) (λ k t u was is. did (suc k) t u was is)
-      (λ k e d at h. let same : m + suc k ≡ (m + 1) + k = omega arith in subst (λ (j : ℕ). Q j e d) same (f (suc k) e d at h)))
+      let none : m + 0 ≡ m = omega arith in (
+        subst (λ (k : ℕ). Q k r.ends ended) none (f 0 r.ends ended refl (did 0 (Task'.Serve r) (Task'.Served ended) refl refl)),
+        all_ended_from rs us (m + 1) (omega (arith, n)) (λ k t u was is. did (suc k) t u was is)
+            (λ k e d at h. let same : m + suc k ≡ (m + 1) + k = omega arith in subst (λ (j : ℕ). Q j e d) same (f (suc k) e d at h)),
+      )
   all_ended_from (r ∷ rs) (Task'.Work ∷ us) m n did f = absurd (did 0 (Task'.Serve r) Task'.Work refl refl)

@@ -64,7 +64,7 @@ pub(crate) fn run_rings<
     requires jobs { All (IsReady sq.now) jobs.old }
     ensures { (k : ℕ) (d : Job (ServerTask S K)) → k < length jobs.old
         → Ran limits_of sq.now (EndedAt S.rest S.read_faults K.contents K.write_faults (setting_of limits_of sq.now.given) setup.now)
-            (slice_index_or jobs.old k d) (slice_index_or jobs.new k d) }
+        (slice_index_or jobs.old k d) (slice_index_or jobs.new k d) }
 {
     run_each(
         rt,

@@ -83,7 +83,7 @@ returns-then-is_over-clause-told g c =
     let b = c.hear_at-pass.new.stays in
     let fs = c.hear_at-pass.new.seats.entries in
     let first = of_some (λ (h : Heard). (t : Tuple) (seat : Seat) → slice_get es c.args.i ≡ Some (t, seat)
-        → SeatsWereTold limits_of s c.args.pass c.hear_at-pass.result.0 a b es fs (hears t ∷ []))
+    → SeatsWereTold limits_of s c.args.pass c.hear_at-pass.result.0 a b es fs (hears t ∷ []))
     c.hear_at-pass.result.1 c.in-Some.heard c.in-Some.is c.hear_at-pass.ensures.told in
     if_some _ c.in-Some.heard.met (λ m is t seat there.
     seats_told_on limits_of s c.args.pass c.hear_at-pass.result.0 c.vacate-pass.result a b c.vacate-pass.new.stays es fs c.vacate-pass.new.seats.entries (hears t ∷ []) []
@@ -97,6 +97,6 @@ returns-clause-told g c =
     let b = c.hear_at-pass.new.stays in
     let fs = c.hear_at-pass.new.seats.entries in
     let first = of_some (λ (h : Heard). (t : Tuple) (seat : Seat) → slice_get es c.args.i ≡ Some (t, seat)
-        → SeatsWereTold limits_of s c.args.pass c.hear_at-pass.result.0 a b es fs (hears t ∷ []))
+    → SeatsWereTold limits_of s c.args.pass c.hear_at-pass.result.0 a b es fs (hears t ∷ []))
     c.hear_at-pass.result.1 c.in-Some.heard c.in-Some.is c.hear_at-pass.ensures.told in
     if_some _ c.in-Some.heard.met (λ m is t seat there. first t seat there)

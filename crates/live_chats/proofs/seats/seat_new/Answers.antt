@@ -1,4 +1,4 @@
-use Rattle.std.proofs.Common.{◌+◌, ℕ, length, ap, sym, ◌∙◌, arith, ◌++◌, ◌∷◌, []}
+use Rattle.std.proofs.Common.{ℕ, ap, sym, ◌∙◌, arith, ◌++◌, ◌∷◌, []}
 use Rattle.std.proofs.lemmas.List.{length-append}
 use Rattle.squeue_state.specs.declared.guarded.Life.{Life}
 use Rattle.placed_parts.specs.Placing.{limits_of, origin_of}

@@ -65,7 +65,7 @@ returns-in-Ok-new_squeue g c =
     let done = subst (λ ts. AreDone P ts news) begun c.run_to_end-jobs.ensures.done in
     let all = all_ended_from P Q c.in_ok-chats.rings.items news 0 done.many done.each
     (λ k e d is h. let seen = c.run_to_end-jobs.ensures.seen k d is in
-        let same : 0 + k ≡ k = omega arith in
-        subst (λ n. Q n e d) (sym same) (ended_in g.S.Source.rest g.S.Source.read_faults g.K.Sink.contents g.K.Sink.write_faults c.args.setup.now at c.run_to_end-jobs.result.1 k e d
-        c.run_to_end-jobs.ensures.setting seen.0 seen.1 h)) in
+    let same : 0 + k ≡ k = omega arith in
+    subst (λ n. Q n e d) (sym same) (ended_in g.S.Source.rest g.S.Source.read_faults g.K.Sink.contents g.K.Sink.write_faults c.args.setup.now at c.run_to_end-jobs.result.1 k e d
+    c.run_to_end-jobs.ensures.setting seen.0 seen.1 h)) in
     subst (λ es. AllBecameFrom Q 0 es c.gather.result.items) c.in_ok-chats.ensures.rings.ends_are (subst (AllBecameFrom Q 0 _) (sym c.gather.ensures) all)

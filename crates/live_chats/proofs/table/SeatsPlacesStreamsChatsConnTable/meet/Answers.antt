@@ -85,7 +85,7 @@ returns-in-Some-clause-told g c =
     let e = entry_there es c.args.place lt in
     let ends : e.0.0 ≡ t = pair_is (conn_of_seat self.stays e.0) (t, conn_at c.args.place was) (sym (conns_at self.stays es c.args.place e.0 e.1) ∙ looked_up t was c.args.place c.requires.place) in
     let told = of_some (λ (m : Met). (k : Tuple) (seat : Seat) → slice_get es c.args.place ≡ Some (k, seat)
-        → SeatsWereTold limits_of s c.take_pass-pass.result c.meet_at-pass.result.0 self.stays new.stays es new.seats.entries (hears k ∷ []))
+    → SeatsWereTold limits_of s c.take_pass-pass.result c.meet_at-pass.result.0 self.stays new.stays es new.seats.entries (hears k ∷ []))
     c.meet_at-pass.result.1 c.in-Some.met c.in-Some.is c.meet_at-pass.ensures.told e.0.0 e.0.1 e.1 in
     let its = table_told limits_of s self.pass c.put_pass.new.place c.take_pass-pass.result c.meet_at-pass.result.0 self.stays new.stays es new.seats.entries (hears t ∷ [])
     c.take_pass-pass.ensures.taken c.put_pass.ensures c.meet_at-pass.ensures.number
