@@ -82,7 +82,7 @@ fn by_rings(
         return Err(Fault::NoMemory);
     };
     let mut ran = Ok(());
-    for stream in &ended {
+    for stream in &ended.streams {
         write_lines(alloc, stream.sink.bytes(), out)?;
         ran = first_fault(ran, stream.fault);
     }

@@ -1,9 +1,11 @@
 -- Lists of entries: what a map makes of them where one leaves, some leave, or one changes.
-use Rattle.std.proofs.Common.{◌≡◌, ◌≢◌, ℕ, zero, suc, ◌+◌, ◌-◌, ◌<◌, ◌⊎◌, inl, inr, Bool, true, false, cond, List, [], ◌∷◌, ◌++◌, length, map, take, set, get_or, filter, slice_get, Option, None, Some, refl, sym, ap, ◌∙◌, arith, true≢false}
+use Rattle.std.proofs.Common.{◌≡◌, ◌≢◌, ℕ, zero, suc, ◌+◌, ◌-◌, ◌<◌, ◌≤◌, ◌⊎◌, inl, inr, Bool, true, false, cond, List, [], ◌∷◌, ◌++◌, length, map, take, set, get_or, filter, slice_get, Option, None, Some, refl, sym, ap, subst, ◌∙◌, arith, true≢false}
 use Rattle.std.specs.List.{swap_remove, AllByRecursion, IsDistinct}
+use Rattle.std.specs.List.Sorted.{IsPermutation}
 use Rattle.std.specs.Map.{keys_of}
 use Rattle.std.specs.Option.{option_map, option_map_or}
 use Rattle.std.proofs.lemmas.List.{map-set, take-map, get_or-take, get_or-set_other, get_or-set_same, length-take}
+use Rattle.std.proofs.lemmas.List.Sorted.{IsPermutation-swap_remove}
 use Rattle.std.proofs.lemmas.Option.{slice_get-map, slice_get_within, get_or_from_slice_get, slice_get-get_or}
 use Rattle.std.proofs.lemmas.Bool.Decides.{eqb_tells}
 use Rattle.std.proofs.lemmas.Map.Keys.{IsDistinct-head, IsDistinct-tail}
@@ -66,8 +68,9 @@ module _ {X : Type 0} where
       by true (suc n) h rest = let r = rest n h in (suc r.0, r.1)
       by false n h rest = let r = rest n h in (suc r.0, r.1)
 
-  -- who is there behind a removal was there, at another place
-  in_swapped : (xs : List X) (i k : ℕ) (d x : X) → i < length xs → slice_get (swap_remove xs i d) k ≡ Some x → (j : ℕ) × (slice_get xs j ≡ Some x) × (j ≢ i)
+  -- who is there behind a removal was there, at another place: at the same, or it was the last one and took the place that was left
+  in_swapped : (xs : List X) (i k : ℕ) (d x : X) → i < length xs → slice_get (swap_remove xs i d) k ≡ Some x
+      → (j : ℕ) × (slice_get xs j ≡ Some x) × (j ≢ i) × ((j ≡ k) ⊎ ((k ≡ i) × (i < j)))
   in_swapped xs i k d x lt at =
       let n : ℕ = length xs - 1 in
       let last : X = get_or xs n d in
@@ -75,16 +78,27 @@ module _ {X : Type 0} where
       let there : get_or (set xs i last) k x ≡ x = sym (get_or-take n (set xs i last) k x below) ∙ get_or_from_slice_get (take n (set xs i last)) k x x at in
       elim (eqb_tells k i) [
         | inl e ↦ (let its : last ≡ x = sym (get_or-set_same xs i last x lt) ∙ ap (λ (m : ℕ). get_or (set xs i last) m x) (sym e.1) ∙ there in
-            (n, slice_get-get_or xs n d (omega arith) ∙ ap Some its, λ h. omega (arith, e.1, below, h)))
-        | inr e ↦ (k, slice_get-get_or xs k x (omega (arith, below)) ∙ ap Some (sym (get_or-set_other xs i k last x e.1) ∙ there), e.1)
+            (n, slice_get-get_or xs n d (omega arith) ∙ ap Some its, (λ h. omega (arith, e.1, below, h)), inr (e.1, omega (arith, e.1, below))))
+        | inr e ↦ (k, slice_get-get_or xs k x (omega (arith, below)) ∙ ap Some (sym (get_or-set_other xs i k last x e.1) ∙ there), e.1, inl refl)
       ]
 
-  pub in_left : (i : ℕ) (xs : List X) (k : ℕ) (x : X) → i < length xs → slice_get (left_at i xs) k ≡ Some x → (j : ℕ) × (slice_get xs j ≡ Some x) × (j ≢ i)
-  in_left i xs k x lt at = by (slice_get xs i) (slice_get-get_or xs i x lt) at
+  pub in_left_from : (i : ℕ) (xs : List X) (k : ℕ) (x : X) → i < length xs → slice_get (left_at i xs) k ≡ Some x
+      → (j : ℕ) × (slice_get xs j ≡ Some x) × (j ≢ i) × ((j ≡ k) ⊎ ((k ≡ i) × (i < j)))
+  in_left_from i xs k x lt at = by (slice_get xs i) (slice_get-get_or xs i x lt) at
     where
-      by : (o : Option X) → o ≡ Some (get_or xs i x) → slice_get (option_map_or (λ y. swap_remove xs i y) o xs) k ≡ Some x → (j : ℕ) × (slice_get xs j ≡ Some x) × (j ≢ i)
+      by : (o : Option X) → o ≡ Some (get_or xs i x) → slice_get (option_map_or (λ y. swap_remove xs i y) o xs) k ≡ Some x
+          → (j : ℕ) × (slice_get xs j ≡ Some x) × (j ≢ i) × ((j ≡ k) ⊎ ((k ≡ i) × (i < j)))
       by None e h = cc
       by (Some y) e h = in_swapped xs i k y x lt h
+
+  pub in_left : (i : ℕ) (xs : List X) (k : ℕ) (x : X) → i < length xs → slice_get (left_at i xs) k ≡ Some x → (j : ℕ) × (slice_get xs j ≡ Some x) × (j ≢ i)
+  in_left i xs k x lt at = let was = in_left_from i xs k x lt at in (was.0, was.1, was.2)
+
+  -- who leaves, and those that are left, are those that were there
+  pub left_moves : (i : ℕ) (xs : List X) (x : X) → slice_get xs i ≡ Some x → IsPermutation xs (x ∷ left_at i xs)
+  left_moves i xs x at =
+      subst (λ (o : Option X). IsPermutation xs (x ∷ option_map_or (λ (y : X). swap_remove xs i y) o xs)) (sym at)
+      (IsPermutation-swap_remove xs i x (slice_get_within xs i x at) (sym (get_or_from_slice_get xs i x x at)))
 
   -- who is there behind one that comes last
   pub in_pushed : (xs : List X) (y : X) (k : ℕ) (x : X) → slice_get (xs ++ y ∷ []) k ≡ Some x → ((j : ℕ) × (slice_get xs j ≡ Some x)) ⊎ (x ≡ y)

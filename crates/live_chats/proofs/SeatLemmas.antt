@@ -1,6 +1,7 @@
 -- The seats of a table, where one chat changes, leaves or comes.
-use Rattle.std.proofs.Common.{◌≡◌, ◌≢◌, ℕ, ◌+◌, ◌<◌, ◌≤◌, min, ◌⊎◌, inl, inr, Bool, true, false, cond, Option, None, Some, IfSome, IfNone, List, [], ◌∷◌, ◌++◌, length, map, slice_get, refl, sym, ap, subst, ◌∙◌, arith}
+use Rattle.std.proofs.Common.{◌≡◌, ◌≢◌, ℕ, ◌+◌, ◌<◌, ◌≤◌, min, ◌⊎◌, inl, inr, suc, Bool, true, false, cond, Option, None, Some, IfSome, IfNone, List, [], ◌∷◌, ◌++◌, length, map, slice_get, refl, sym, ap, subst, ◌∙◌, arith}
 use Rattle.std.specs.List.{IsDistinct, swap_remove}
+use Rattle.std.specs.List.Sorted.{IsPermutation}
 use Rattle.std.specs.Map.{keys_of}
 use Rattle.std.specs.Option.{option_map}
 use Rattle.std.proofs.lemmas.Option.{slice_get-map, slice_get_within}
@@ -9,9 +10,11 @@ use Rattle.indexmap.specs.IndexMap.{insert_entry, set_value_at}
 use Rattle.indexmap.proofs.MapLemmas.{absent_from_lookup, insert_entry-absent}
 use Rattle.indexmap.specs.Layout.{length-set_value_at}
 use Rattle.sq_base.specs.declared.kinds.Tuple.{Tuple}
+use Rattle.turn_gate.specs.History.{Begins as Grows}
+use Rattle.turn_gate.specs.Passes.{number, seen}
 use Rattle.turn_gate.specs.declared.pass.Pass.{Pass}
-use Rattle.perimeter_core.specs.History.{Element, Limits}
-use Rattle.squeue_state.specs.Naming.{Named}
+use Rattle.perimeter_core.specs.History.{Element, Limits, Setting}
+use Rattle.squeue_state.specs.Naming.{Named, setting_of}
 use Rattle.stream_stays.specs.declared.place.Stays.{Stays}
 use Rattle.stream_stays.specs.Places.{IsOpen, life_of, place_at}
 use Rattle.stream_stays.specs.Settling.{sent_in}
@@ -23,7 +26,10 @@ use Rattle.live_server.specs.declared.acting.Datagram.{Datagram}
 use Rattle.live_server.specs.declared.conn.Conn.{Conn}
 use Rattle.live_server.specs.declared.conn.Met.{Met}
 use Rattle.live_server.specs.declared.facts.Facts.{Facts}
-use Rattle.live_server.proofs.TableLemmas.{conn_written, tuple_equivalence}
+use Rattle.live_server.specs.Told.{Told}
+use Rattle.live_server.specs.Told.Told.{begins, hears}
+use Rattle.live_server.proofs.TableLemmas.{conn_written, same, tuple_equivalence}
+use Rattle.live_chats.specs.Accounts.{Accounts, HasEndedStay, IsAway, SeatsWereTold, WereTold, account_of, accounts_of, number_in, pushed_at, seen_in}
 use Rattle.live_chats.specs.Hearing.{ChatOf, conn_in, hearing, hearing_all, nobody, silent}
 use Rattle.live_chats.specs.Listening.{IsAnswer}
 use Rattle.live_chats.specs.Seating.{AllSeated, Begins, HasSeats, HasSeatsBut, HeardAt, IsGood, IsSeated, IsSettled, Judges, KeepsEnds, MetAt, KeptBut, KeptOpen, chat_at, chat_of, conn_of_seat, conns_of, left_at}
@@ -33,7 +39,9 @@ use Rattle.live_chats.specs.declared.item.ChatItem.{ChatItem}
 use Rattle.live_chats.specs.declared.item.ChatItem.TheVariants.{Time}
 use Rattle.live_chats.specs.declared.seat.Seat.{Seat}
 use Rattle.live_chats.proofs.HearLemmas.{hearing-silent, hearing_all-lost}
-use Rattle.live_chats.proofs.ListLemmas.{entry_there, in_left, in_pushed, in_set, length_map, map_agrees, map_append, map_left, map_written, one_place}
+use Rattle.live_chats.specs.Onward.{told_on, untold}
+use Rattle.live_chats.proofs.LivedLemmas.{frame_told, one_left}
+use Rattle.live_chats.proofs.ListLemmas.{entry_there, in_left, in_pushed, in_set, left_moves, length_map, map_agrees, map_append, map_left, map_written, one_place}
 
 abbrev Entry : Type 0
 Entry = Tuple × Seat
@@ -87,6 +95,19 @@ left_distinct es i e at d =
     subst (λ (o : Option Entry). IsDistinct tuple_eq (keys_of (Rattle.std.specs.Option.option_map_or (λ x. swap_remove es i x) o es))) (sym at)
     (distinct_swap_remove tuple_eq tuple_equivalence es i e (slice_get_within es i e at) d)
 
+-- the account at a place
+pub account_at : (st : Stays ChatItem ChatOf) (es : List Entry) (i : ℕ) (e : Entry) → slice_get es i ≡ Some e → slice_get (accounts_of st es) i ≡ Some (account_of st e)
+account_at st es i e at = slice_get-map (account_of st) es i ∙ ap (λ (o : Option Entry). option_map (account_of st) o) at
+
+pub accounts_keys : (st : Stays ChatItem ChatOf) (es : List Entry) → keys_of (accounts_of st es) ≡ keys_of es
+accounts_keys st [] = refl
+accounts_keys st (e ∷ es) = ap (λ (ks : List Tuple). e.0 ∷ ks) (accounts_keys st es)
+
+pub away_by : (t : Tuple) (st : Stays ChatItem ChatOf) (es : List Entry) → ((k : ℕ) (f : Entry) → slice_get es k ≡ Some f → tuple_eq t f.0 ≡ false)
+    → IsAway t (accounts_of st es)
+away_by t st [] h = tt
+away_by t st (e ∷ es) h = (h 0 e refl, away_by t st es (λ k f there. h (suc k) f there))
+
 module _ (a b : Stays ChatItem ChatOf) (es : List Entry) (i : ℕ) (e : Entry) (at : slice_get es i ≡ Some e) (kept : KeptBut e.1.place a b) (ends : (chat_at a e.1.place).ends ≡ e.0)
     (distinct : IsDistinct tuple_eq (keys_of es)) (others : (k : ℕ) (f : Entry) → slice_get es k ≡ Some f → k ≢ i → IsSeated a f) where
   apart : (k : ℕ) (f : Entry) → slice_get es k ≡ Some f → k ≢ i → f.1.place ≢ e.1.place
@@ -99,6 +120,9 @@ module _ (a b : Stays ChatItem ChatOf) (es : List Entry) (i : ℕ) (e : Entry) (
   pub others_same : (k : ℕ) (f : Entry) → slice_get es k ≡ Some f → k ≢ i → conn_of_seat b f ≡ conn_of_seat a f
   others_same k f there ne = ap (λ (x : ChatOf). (f.0, conn_in x.conn)) (kept.chats f.1.place (apart k f there ne))
 
+  pub others_counted : (k : ℕ) (f : Entry) → slice_get es k ≡ Some f → k ≢ i → account_of b f ≡ account_of a f
+  others_counted k f there ne = ap (λ (n : ℕ). (f.0, n)) (kept.pushed f.1.place (apart k f there ne))
+
   -- where it leaves
   pub left_seated : AllSeated b (left_at i es)
   left_seated k f there = let was = in_left i es k f (slice_get_within es i e at) there in others_kept was.0 f was.1 was.2
@@ -108,6 +132,27 @@ module _ (a b : Stays ChatItem ChatOf) (es : List Entry) (i : ℕ) (e : Entry) (
   left_conns =
       map_agrees (conn_of_seat b) (conn_of_seat a) (left_at i es) (λ k f there. let was = in_left i es k f (slice_get_within es i e at) there in others_same was.0 f was.1 was.2)
       ∙ map_left (conn_of_seat a) i es
+
+  pub left_accounts : IsPermutation (accounts_of a es) (account_of a e ∷ accounts_of b (left_at i es))
+  left_accounts =
+      let rest : accounts_of b (left_at i es) ≡ left_at i (accounts_of a es) =
+      map_agrees (account_of b) (account_of a) (left_at i es)
+      (λ k f there. let was = in_left i es k f (slice_get_within es i e at) there in others_counted was.0 f was.1 was.2)
+      ∙ map_left (account_of a) i es in
+      subst (λ (l : Accounts). IsPermutation (accounts_of a es) (account_of a e ∷ l)) (sym rest) (left_moves i (accounts_of a es) (account_of a e) (account_at a es i e at))
+
+  pub left_away : IsAway e.0 (accounts_of b (left_at i es))
+  left_away = away_by e.0 b (left_at i es) (λ k f there. let was = in_left i es k f (slice_get_within es i e at) there in not_its (tuple_eq e.0 f.0) refl was.0 was.1 was.2)
+    where
+      not_its : {f : Entry} (r : Bool) → tuple_eq e.0 f.0 ≡ r → (j : ℕ) → slice_get es j ≡ Some f → j ≢ i → tuple_eq e.0 f.0 ≡ false
+      not_its false is j there ne = is
+      not_its {f} true is j there ne = absurd (ne (one_place tuple_eq tuple_equivalence.refl es j i f e distinct there at (sym (same e.0 f.0 is))))
+
+  pub heard_accounts : (seat : Seat) → seat.place ≡ e.1.place → pushed_at b e.1.place ≡ pushed_at a e.1.place + 1
+      → accounts_of b (set_value_at es i seat) ≡ set_value_at (accounts_of a es) i (pushed_at a e.1.place + 1)
+  heard_accounts seat place more =
+      map_written (account_of a) (account_of b) es i seat (pushed_at a e.1.place + 1) e at (λ _. refl)
+      (λ j. (e.0, (ap (pushed_at b) place ∙ more) j)) others_counted
 
   pub without_same : without i (conns_of b es) ≡ without i (conns_of a es)
   unfolding without
@@ -216,6 +261,14 @@ pub open_conns : (a b : Stays ChatItem ChatOf) (es : List Entry) → AllSeated a
 open_conns a b es seated k =
     map_agrees (conn_of_seat b) (conn_of_seat a) es (λ n f at. ap (λ (x : ChatOf). (f.0, conn_in x.conn)) (k.chats f.1.place ((seated n f at).is_open)))
 
+pub open_accounts : (a b : Stays ChatItem ChatOf) (es : List Entry) → AllSeated a es → KeptOpen a b → accounts_of b es ≡ accounts_of a es
+open_accounts a b es seated k =
+    map_agrees (account_of b) (account_of a) es (λ n f at. ap (λ (m : ℕ). (f.0, m)) (k.pushed f.1.place ((seated n f at).is_open)))
+
+away_absent : (st : Stays ChatItem ChatOf) (t : Tuple) (es : List Entry) → IsAbsent (tuple_eq t) es → IsAway t (accounts_of st es)
+away_absent st t [] h = tt
+away_absent st t (e ∷ es) h = (h.0, away_absent st t es h.1)
+
 absent_seat : (st : Stays ChatItem ChatOf) (t : Tuple) (es : List Entry) → IsAbsent (tuple_eq t) (conns_of st es) → IsAbsent (tuple_eq t) es
 absent_seat st t [] h = tt
 absent_seat st t (e ∷ es) h = (h.0, absent_seat st t es h.1)
@@ -242,6 +295,14 @@ module _ (a b : Stays ChatItem ChatOf) (es : List Entry) (c : ℕ) (t : Tuple) (
   pushed_conns =
       map_append (conn_of_seat b) es ((t, its_seat) ∷ [])
       ∙ (λ j. open_conns a b es seated kept j ++ (t, conn_in (begun.conn_is j)) ∷ [])
+
+  pub pushed_accounts : accounts_of b (es ++ (t, its_seat) ∷ []) ≡ accounts_of a es ++ (t, 1) ∷ []
+  pushed_accounts =
+      map_append (account_of b) es ((t, its_seat) ∷ [])
+      ∙ (λ j. open_accounts a b es seated kept j ++ (t, begun.one j) ∷ [])
+
+  pub new_away : IsAway t (accounts_of a es)
+  new_away = away_absent a t es absent
 
   pub pushed_distinct : IsDistinct tuple_eq (keys_of es) → IsDistinct tuple_eq (keys_of (es ++ (t, its_seat) ∷ []))
   pushed_distinct h = distinct_push tuple_eq tuple_equivalence es (t, its_seat) h absent
@@ -291,3 +352,46 @@ module _ {R : Type 0} (limits : R → Limits) (s : Named R) (o : Chats) where
     where
       one : Some h.its_pass ≡ Some q → h.its_pass ≡ q
       one e = cc
+
+-- what seats were told
+module _ {R : Type 0} (limits : R → Limits) (s : Named R) where
+  abbrev S : Setting
+  S = setting_of limits s.given
+
+  pub seats_untold : (p : Pass Element) (st : Stays ChatItem ChatOf) (es : List Entry) → SeatsWereTold limits s p p st st es es []
+  seats_untold p st es = untold S (number p) (seen p) (accounts_of st es)
+
+  -- nor does anybody hear where nobody is
+  pub nobody_heard : (p : Pass Element) (st : Stays ChatItem ChatOf) (es : List Entry) → length es ≡ 0 → SeatsWereTold limits s p p st st es es (map hears (keys_of es))
+  nobody_heard p st [] none = seats_untold p st []
+  nobody_heard p st (e ∷ es) none = absurd (omega (arith, none))
+
+  pub seats_told_on : (p m q : Pass Element) (a b d : Stays ChatItem ChatOf) (es fs gs : List Entry) (ws vs : List Told) → number m ≡ number p
+      → SeatsWereTold limits s p m a b es fs ws → SeatsWereTold limits s m q b d fs gs vs → SeatsWereTold limits s p q a d es gs (ws ++ vs)
+  seats_told_on p m q a b d es fs gs ws vs is first more =
+      told_on S (number p) (seen p) (seen m) (seen q) (accounts_of a es) (accounts_of b fs) (accounts_of d gs) ws vs first
+      (subst (λ (n : ℕ). WereTold S n (seen m) (seen q) (accounts_of b fs) (accounts_of d gs) vs) is more)
+
+  module _ (p q : Pass Element) (a b : Stays ChatItem ChatOf) (es : List Entry) (i : ℕ) (e : Entry) (at : slice_get es i ≡ Some e) (kept : KeptBut e.1.place a b)
+      (ends : (chat_at a e.1.place).ends ≡ e.0) (distinct : IsDistinct tuple_eq (keys_of es)) (others : (k : ℕ) (f : Entry) → slice_get es k ≡ Some f → k ≢ i → IsSeated a f) where
+    pub seat_left : HasEndedStay S (number p) (seen p) (seen q) (pushed_at a e.1.place) → SeatsWereTold limits s p q a b es (left_at i es) []
+    seat_left ended =
+        one_left S (number p) (seen p) (seen q) (accounts_of a es) (accounts_of b (left_at i es)) e.0 (pushed_at a e.1.place)
+        (left_accounts a b es i e at kept ends distinct others) (left_away a b es i e at kept ends distinct others) ended
+
+    pub seat_heard : (seat : Seat) → seat.place ≡ e.1.place → pushed_at b e.1.place ≡ pushed_at a e.1.place + 1 → Grows (seen p) (seen q)
+        → SeatsWereTold limits s p q a b es (set_value_at es i seat) (hears e.0 ∷ [])
+    seat_heard seat place more grows =
+        frame_told S (number p) (seen p) (seen q) (accounts_of a es) (accounts_of b (set_value_at es i seat)) i (pushed_at a e.1.place) e.0
+        (account_at a es i e at) (subst (IsDistinct tuple_eq) (sym (accounts_keys a es)) distinct)
+        (heard_accounts a b es i e at kept ends distinct others seat place more) grows
+
+  -- where the pass of a table was taken, and put again
+  pub table_told : (old new : Option (Pass Element)) (p q : Pass Element) (a b : Stays ChatItem ChatOf) (es fs : List Entry) (ws : List Told)
+      → old ≡ Some p → new ≡ Some q → number q ≡ number p → SeatsWereTold limits s p q a b es fs ws
+      → (number_in new ≡ number_in old) × WereTold S (number_in old) (seen_in old) (seen_in new) (accounts_of a es) (accounts_of b fs) ws
+  table_told old new p q a b es fs ws was is same_number told = (
+    ap number_in is ∙ same_number ∙ ap number_in (sym was),
+    subst (λ (o : Option (Pass Element)). WereTold S (number_in o) (seen_in o) (seen_in new) (accounts_of a es) (accounts_of b fs) ws) (sym was)
+        (subst (λ (o : Option (Pass Element)). WereTold S (number p) (seen p) (seen_in o) (accounts_of a es) (accounts_of b fs) ws) (sym is) told),
+  )

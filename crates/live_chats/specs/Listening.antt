@@ -1,10 +1,11 @@
--- What is heard of a chat where its place is settled.
-use Rattle.std.specs.Prelude.{◌≡◌, ℕ, false, Some, List, ◌++◌}
+-- What is heard of chats where their places are settled.
+use Rattle.std.specs.Prelude.{◌≡◌, ℕ, ◌<◌, false, Option, Some, IfSome, List, [], ◌∷◌, ◌++◌, length, vec_capacity}
 use Rattle.live_server.specs.Facts.{facts_of}
 use Rattle.live_server.specs.declared.acting.Datagram.{Datagram}
 use Rattle.live_server.specs.declared.conn.Conn.{Conn}
 use Rattle.live_chats.specs.Hearing.{ChatOf}
 use Rattle.live_chats.specs.declared.ear.Ear.{Ear}
+use Rattle.live_chats.specs.declared.ear.Ears.{Ears}
 use Rattle.live_chats.specs.declared.ear.Heard.{Heard}
 
 -- the chat isn't lost, and this is what it tells of its last item; what it sent goes behind what was sent before
@@ -19,3 +20,16 @@ pub record IsAnswer (chat : ChatOf) (h : Heard) (before after : List Datagram) :
 -- a chat was listened to
 abbrev pub Listens : Ear → Ear → ℕ → ChatOf → Type 0
 Listens from to c chat = (h : Heard) → to.heard ≡ Some h → IsAnswer chat h from.out.items to.out.items
+
+-- one chat more was, where there was room for what it tells
+pub record ListensOn (from to : Ears) (c : ℕ) (chat : ChatOf) : Type 0 where
+  pub room : vec_capacity to.heard ≡ vec_capacity from.heard
+  pub told : length from.heard.items < vec_capacity from.heard
+      → (o : Option Heard) × (to.heard.items ≡ from.heard.items ++ o ∷ []) × IfSome o (λ h. IsAnswer chat h from.out.items to.out.items)
+
+-- these chats were, one after another: what each tells, where it was heard
+abbrev pub AreAnswers : List ChatOf → List (Option Heard) → List Datagram → List Datagram → Type 0
+AreAnswers [] [] before after = after ≡ before
+AreAnswers [] (o ∷ os) before after = ⊥
+AreAnswers (c ∷ cs) [] before after = ⊥
+AreAnswers (c ∷ cs) (o ∷ os) before after = (mid : List Datagram) × IfSome o (λ h. IsAnswer c h before mid) × AreAnswers cs os mid after

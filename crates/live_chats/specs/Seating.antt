@@ -1,5 +1,5 @@
 -- What stands at the places of a pass, and at the seats of a table.
-use Rattle.std.specs.Prelude.{◌≡◌, ◌≢◌, ℕ, ◌<◌, ◌≤◌, Bool, Option, Some, List, [], ◌++◌, length, map, slice_get, swap_remove}
+use Rattle.std.specs.Prelude.{◌≡◌, ◌≢◌, ℕ, ◌+◌, ◌<◌, ◌≤◌, ◌⊎◌, Bool, Option, None, Some, List, [], ◌∷◌, ◌++◌, length, map, slice_get, swap_remove}
 use Rattle.std.specs.List.{IsDistinct}
 use Rattle.std.specs.Map.{keys_of}
 use Rattle.std.specs.Option.{option_map_or}
@@ -13,17 +13,20 @@ use Rattle.squeue_serve.specs.Places.{MayClose}
 use Rattle.stream_stays.specs.declared.place.Stays.{Stays}
 use Rattle.stream_stays.specs.Places.{IsOpen, Knows, chain_of, life_of, place_at, touched_of}
 use Rattle.stream_stays.specs.Settling.{sent_in}
+use Rattle.live_server.specs.Acts.{emptied, reached}
 use Rattle.live_server.specs.Facts.{facts_of, is_leaving_by, is_over_by}
-use Rattle.live_server.specs.Table.{Conns, reached_until, settled, tuple_eq, without}
+use Rattle.live_server.specs.Table.{Conns, settled, tuple_eq}
 use Rattle.live_server.specs.declared.acting.Datagram.{Datagram}
 use Rattle.live_server.specs.declared.conn.Conn.{Conn}
 use Rattle.live_server.specs.declared.conn.Met.{Met}
 use Rattle.live_server.specs.declared.facts.Facts.{Facts}
+use Rattle.live_chats.specs.Accounts.{pushed_at}
 use Rattle.live_chats.specs.Hearing.{ChatOf, conn_in, hearing, hearing_all, nobody}
 use Rattle.live_chats.specs.Telling.{IsFirst, Tells}
 use Rattle.live_chats.specs.declared.chats.Chats.{Chats}
 use Rattle.live_chats.specs.declared.ear.Heard.{Heard}
 use Rattle.live_chats.specs.declared.item.ChatItem.{ChatItem}
+use Rattle.live_chats.specs.declared.item.ChatItem.TheVariants.{Time}
 use Rattle.live_chats.specs.declared.seat.Seat.{Seat}
 use Rattle.live_chats.specs.declared.seat.Who.{Who}
 use Rattle.live_chats.specs.declared.seat.Who.TheVariants.{Due, Over}
@@ -32,22 +35,25 @@ use Rattle.live_chats.specs.declared.seat.Who.TheVariants.{Due, Over}
 unfoldable pub chat_at : Stays ChatItem ChatOf → ℕ → ChatOf
 chat_at st c = hearing_all (sent_in (place_at st c)) nobody
 
--- at all other places a part stays, and each chat is what it was
+-- at all other places a part stays, each chat is what it was, and nothing was pushed
 pub record KeptBut (c : ℕ) (a b : Stays ChatItem ChatOf) : Type 0 where
   pub opens : (d : ℕ) → d ≢ c → IsOpen a d → IsOpen b d
   pub chats : (d : ℕ) → d ≢ c → chat_at b d ≡ chat_at a d
+  pub pushed : (d : ℕ) → d ≢ c → pushed_at b d ≡ pushed_at a d
 
 -- the same of every part that is at its place
 pub record KeptOpen (a b : Stays ChatItem ChatOf) : Type 0 where
   pub opens : (d : ℕ) → IsOpen a d → IsOpen b d
   pub chats : (d : ℕ) → IsOpen a d → chat_at b d ≡ chat_at a d
+  pub pushed : (d : ℕ) → IsOpen a d → pushed_at b d ≡ pushed_at a d
 
--- a connection with these ends began at a place at which no part was
+-- a connection with these ends began at a place at which no part was, by the first item that was pushed there
 pub record Begins (c : ℕ) (ends : Tuple) (conn : Conn) (a b : Stays ChatItem ChatOf) : Type 0 where
   pub was_not : IsOpen a c → ⊥
   pub is_open : IsOpen b c
   pub ends_are : (chat_at b c).ends ≡ ends
   pub conn_is : (chat_at b c).conn ≡ Some conn
+  pub one : pushed_at b c ≡ 1
 
 -- the connections of these seats
 abbrev pub conn_of_seat : Stays ChatItem ChatOf → Tuple × Seat → Tuple × Conn
@@ -101,9 +107,32 @@ abbrev pub goes : Who → Facts → Bool
 goes Over f = is_over_by f
 goes (Due setting now taken) f = is_leaving_by setting now taken f
 
--- what a time leaves where memory was missing: one connection is gone, and to those behind it the time didn't come
+-- what a time leaves where memory was missing: some connections are gone, and to some of the others the time didn't come
 abbrev pub Spoils : ℕ → Conns → Conns → Type 0
-Spoils now was is = (i : ℕ) × (i < length was) × (is ≡ without i (reached_until now i was))
+Spoils now was is = (k : ℕ) (t : Tuple) (c : Conn) → slice_get is k ≡ Some (t, c)
+    → (j : ℕ) × (d : Conn) × (slice_get was j ≡ Some (t, d)) × ((c ≡ d) ⊎ (c ≡ emptied (reached now d)))
+
+-- the time is told at the first so many of these seats, and at no other one
+pub record AreTold (now i : ℕ) (a b : Stays ChatItem ChatOf) (es : List (Tuple × Seat)) : Type 0 where
+  pub opens : (d : ℕ) → IsOpen a d → IsOpen b d
+  pub told : (k : ℕ) (e : Tuple × Seat) → slice_get es k ≡ Some e → k < i → chat_at b e.1.place ≡ hearing (Time now) (chat_at a e.1.place)
+  pub others : (k : ℕ) (e : Tuple × Seat) → slice_get es k ≡ Some e → i ≤ k → chat_at b e.1.place ≡ chat_at a e.1.place
+  pub pushed : (k : ℕ) (e : Tuple × Seat) → slice_get es k ≡ Some e → k < i → pushed_at b e.1.place ≡ pushed_at a e.1.place + 1
+  pub unpushed : (k : ℕ) (e : Tuple × Seat) → slice_get es k ≡ Some e → i ≤ k → pushed_at b e.1.place ≡ pushed_at a e.1.place
+
+-- the places of seats
+abbrev pub places_in : List (Tuple × Seat) → List ℕ
+places_in es = map (λ e. e.1.place) es
+
+-- what was heard of the first seats, one after another, is learnt there
+abbrev pub learnt : Option Heard → Seat → Seat
+learnt None seat = seat
+learnt (Some h) seat = record seat { facts = h.facts }
+
+abbrev pub all_learnt : List (Option Heard) → List (Tuple × Seat) → List (Tuple × Seat)
+all_learnt [] es = es
+all_learnt (o ∷ os) [] = []
+all_learnt (o ∷ os) (e ∷ es) = (e.0, learnt o e.1) ∷ all_learnt os es
 
 module _ {R : Type 0} (limits : R → Limits) (s : Named R) (o : Chats) where
   -- all that was pushed is entered and settled
@@ -127,6 +156,15 @@ module _ {R : Type 0} (limits : R → Limits) (s : Named R) (o : Chats) where
     pub its_place : slice_get es i ≡ Some left
     pub is_open : IsOpen st left.1.place
     pub ends : (chat_at st left.1.place).ends ≡ left.0
+    pub distinct : IsDistinct tuple_eq (keys_of es)
+    pub paid : length es ≤ (life_of st).asks
+
+  -- so it is of all seats but those of the first so many of which nothing was heard, at each of which a part with its ends is
+  pub record HasHeardSeats (hs : List (Option Heard)) (m : ℕ) (p : Pass Element) (st : Stays ChatItem ChatOf) (es : List (Tuple × Seat)) : Type 0 where
+    pub settled : IsSettled p st
+    pub seated : (k : ℕ) (e : Tuple × Seat) → slice_get es k ≡ Some e → (m ≤ k) ⊎ (slice_get hs k ≢ Some None) → IsSeated st e
+    pub is_open : (k : ℕ) (e : Tuple × Seat) → slice_get es k ≡ Some e → IsOpen st e.1.place
+    pub ends : (k : ℕ) (e : Tuple × Seat) → slice_get es k ≡ Some e → (chat_at st e.1.place).ends ≡ e.0
     pub distinct : IsDistinct tuple_eq (keys_of es)
     pub paid : length es ≤ (life_of st).asks
 

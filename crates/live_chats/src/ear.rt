@@ -1,7 +1,7 @@
-//! What is heard of a chat where its place is settled.
+//! What is heard of chats where their places are settled.
 
 ghost use Rattle.std.specs.Prelude.{◌≡◌, ◌++◌, IfOk, IfSome, OnOk};
-ghost use Rattle.live_chats.specs.Listening.{IsAnswer, Listens};
+ghost use Rattle.live_chats.specs.Listening.{IsAnswer, Listens, ListensOn};
 
 use crate::chat::Chat;
 use crate::chats::Chats;
@@ -26,32 +26,50 @@ pub struct Ear {
     pub heard: Option<Heard>,
 }
 
-impl Ear {
-    fn listen(&mut self, chat: &Chat) -> Option<Heard>
-        ensures { IfSome result (λ h. IsAnswer chat.now h self.old.out.items self.new.out.items) }
-    {
-        if chat.is_lost() {
-            return None;
-        }
-        let Some(conn) = chat.conn() else {
-            return None;
-        };
-        let facts = conn.facts();
-        match copy_all(self.alloc, chat.sent(), &mut self.out) {
-            Ok(()) => Some(Heard {
-                met: chat.met(),
-                facts,
-            }),
-            Err(_) => None,
-        }
-    }
+/// Who listens where many places are settled: so it hears the chat at each, in order. What it has no room for isn't kept.
+#[derive(Drop)]
+pub struct Ears {
+    pub alloc: Global,
+    pub out: Vec<Datagram>,
+    pub heard: Vec<Option<Heard>>,
 }
 
 impl Collects<Chats> for Ear {
     ghost takes = { Listens };
 
     fn collect(&mut self, _c: u32, state: &Chat) {
-        self.heard = self.listen(state);
+        self.heard = listen(self.alloc, state, &mut self.out);
+    }
+}
+
+impl Collects<Chats> for Ears {
+    ghost takes = { ListensOn };
+
+    fn collect(&mut self, _c: u32, state: &Chat) {
+        let heard = listen(self.alloc, state, &mut self.out);
+        if self.heard.len() < self.heard.capacity() {
+            self.heard.push_reserved(heard);
+        }
+    }
+}
+
+/// What a chat tells of its last item; what it sent goes behind the datagrams that are there.
+fn listen(alloc: Global, chat: &Chat, out: &mut Vec<Datagram>) -> Option<Heard>
+    ensures { IfSome result (λ h. IsAnswer chat.now h out.old.items out.new.items) }
+{
+    if chat.is_lost() {
+        return None;
+    }
+    let Some(conn) = chat.conn() else {
+        return None;
+    };
+    let facts = conn.facts();
+    match copy_all(alloc, chat.sent(), out) {
+        Ok(()) => Some(Heard {
+            met: chat.met(),
+            facts,
+        }),
+        Err(_) => None,
     }
 }
 

@@ -1,12 +1,14 @@
 //! How all leave a table who are over, or who are to leave at a tick.
 
-ghost use Rattle.std.specs.Prelude.{◌≡◌, ◌+◌, ◌≤◌, not, true, false, filter};
-ghost use Rattle.turn_gate.specs.Passes.{number};
+ghost use Rattle.std.specs.Prelude.{◌≡◌, ◌+◌, ◌≤◌, [], not, true, false, filter};
+ghost use Rattle.turn_gate.specs.Passes.{number, seen};
 ghost use Rattle.placed_parts.specs.Placing.{limits_of, origin_of};
+ghost use Rattle.squeue_state.specs.Naming.{setting_of};
 ghost use Rattle.stream_stays.specs.Places.{IsOpen, life_of};
 ghost use Rattle.live_server.specs.Facts.{facts_of};
 ghost use Rattle.live_server.specs.Leaving.{without_leaving};
 ghost use Rattle.live_server.specs.Table.{without_over};
+ghost use Rattle.live_chats.specs.Accounts.{HasEndedStay, SeatsWereTold, pushed_at};
 ghost use Rattle.live_chats.specs.Seating.{HasSeats, IsSettled, KeptBut, conns_of, goes};
 
 use crate::chat::Chat;
@@ -37,6 +39,7 @@ pub(crate) fn drop_over<H: Wait + Drop, W: Wait>(
     ensures seats { HasSeats limits_of line.now.squeue.now (origin_of line.now.squeue.now.given.first) result stays.new seats.new.entries }
     ensures number { number result ≡ number pass }
     ensures table { conns_of stays.new seats.new.entries ≡ without_over (conns_of stays.old seats.old.entries) }
+    ensures told { SeatsWereTold limits_of line.now.squeue.now pass result stays.old stays.new seats.old.entries seats.new.entries [] }
 {
     drop_who(line, alloc, pass, stays, seats, free, &Who::Over)
 }
@@ -56,6 +59,7 @@ pub(crate) fn drop_leaving<H: Wait + Drop, W: Wait>(
     ensures seats { HasSeats limits_of line.now.squeue.now (origin_of line.now.squeue.now.given.first) result stays.new seats.new.entries }
     ensures number { number result ≡ number pass }
     ensures table { conns_of stays.new seats.new.entries ≡ without_leaving setting.now now (conns_of stays.old seats.old.entries) }
+    ensures told { SeatsWereTold limits_of line.now.squeue.now pass result stays.old stays.new seats.old.entries seats.new.entries [] }
 {
     let taken = seats.len();
     let who = Who::Due {
@@ -80,6 +84,7 @@ fn drop_who<H: Wait + Drop, W: Wait>(
     ensures seats { HasSeats limits_of line.now.squeue.now (origin_of line.now.squeue.now.given.first) result stays.new seats.new.entries }
     ensures number { number result ≡ number pass }
     ensures table { conns_of stays.new seats.new.entries ≡ filter (λ c. not (goes who.now (facts_of c.1))) (conns_of stays.old seats.old.entries) }
+    ensures told { SeatsWereTold limits_of line.now.squeue.now pass result stays.old stays.new seats.old.entries seats.new.entries [] }
 {
     let pass = close_all(line, alloc, pass, stays, seats, free, who);
     seats.retain(|_, seat| !who.goes(&seat.facts));
@@ -102,6 +107,8 @@ fn close_all<H: Wait + Drop, W: Wait>(
     ensures number { number result ≡ number pass }
     ensures table { conns_of stays.new (filter (λ e. not (goes who.now e.1.facts)) seats.now.entries)
         ≡ filter (λ c. not (goes who.now (facts_of c.1))) (conns_of stays.old seats.now.entries) }
+    ensures told { SeatsWereTold limits_of line.now.squeue.now pass result stays.old stays.new seats.now.entries
+        (filter (λ e. not (goes who.now e.1.facts)) seats.now.entries) [] }
 {
     let mut pass = pass;
     for i in 0..seats.len() {
@@ -127,6 +134,9 @@ fn close_one<H: Wait + Drop, W: Wait>(
     ensures settled { IsSettled limits_of line.now.squeue.now (origin_of line.now.squeue.now.given.first) result stays.new }
     ensures number { number result ≡ number pass }
     ensures same { goes who.now seat.facts ≡ false → stays.new ≡ stays.old }
+    ensures passed { goes who.now seat.facts ≡ false → result ≡ pass }
+    ensures ended { goes who.now seat.facts ≡ true
+        → HasEndedStay (setting_of limits_of line.now.squeue.now.given) (number pass) (seen pass) (seen result) (pushed_at stays.old seat.place) }
     ensures others { goes who.now seat.facts ≡ true → KeptBut seat.place stays.old stays.new }
     ensures spent { goes who.now seat.facts ≡ true → (life_of stays.old).asks ≤ (life_of stays.new).asks + 1 }
 {

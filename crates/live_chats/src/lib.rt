@@ -14,6 +14,7 @@ mod item;
 pub mod laws;
 mod leaving;
 mod line;
+mod reaching;
 mod seat;
 mod seats;
 mod table;

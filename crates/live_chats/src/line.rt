@@ -1,18 +1,21 @@
 //! How a thread tells chats at the places of its pass, and opens and closes places.
 
-ghost use Rattle.std.specs.Prelude.{◌≡◌, ◌+◌, ◌≤◌, ◌⊎◌, [], true, false, IfSome, IfNone};
-ghost use Rattle.turn_gate.specs.Passes.{number};
+ghost use Rattle.std.specs.Prelude.{◌≡◌, ◌+◌, ◌≤◌, ◌⊎◌, [], true, false, IfSome, IfNone, ◌++◌, ◌∷◌, length, map, vec_capacity};
+ghost use Rattle.turn_gate.specs.History.{Begins as Grows};
+ghost use Rattle.turn_gate.specs.Passes.{number, seen};
 ghost use Rattle.placed_parts.specs.Placing.{limits_of, origin_of};
+ghost use Rattle.squeue_state.specs.Naming.{setting_of};
 ghost use Rattle.stream_stays.specs.Places.{IsOpen, Knows, chain_of, life_of, places_of, touched_of};
+ghost use Rattle.live_chats.specs.Accounts.{HasEndedStay, pushed_at};
 ghost use Rattle.live_chats.specs.Hearing.{hearing};
-ghost use Rattle.live_chats.specs.Listening.{IsAnswer, Listens};
+ghost use Rattle.live_chats.specs.Listening.{AreAnswers, IsAnswer, Listens};
 ghost use Rattle.live_chats.specs.Seating.{Begins, IsSettled, KeptBut, KeptOpen, chat_at};
 ghost use Rattle.live_chats.specs.Telling.{IsFirst, Tells};
 ghost use Rattle.live_chats.specs.declared.ear.Heard.{Heard};
 
 use crate::chat::Chat;
 use crate::chats::Chats;
-use crate::ear::{Ear, Heard};
+use crate::ear::{Ear, Ears, Heard};
 use crate::item::ChatItem;
 use live_server::{Conn, Datagram};
 use perimeter_core::Resident;
@@ -40,6 +43,7 @@ impl<H: Wait + Drop, W: Wait> Line<'_, Places<Streams<Chats, H>>, W> {
         requires { Knows IsFirst Tells limits_of self.now.squeue.now (origin_of self.now.squeue.now.given.first) pass stays.old }
         ensures knows { Knows IsFirst Tells limits_of self.now.squeue.now (origin_of self.now.squeue.now.given.first) result stays.new }
         ensures number { number result ≡ number pass }
+        ensures grows { Grows (seen pass) (seen result) }
         ensures places { places_of stays.new ≡ places_of stays.old }
         ensures touched { touched_of stays.new ≡ touched_of stays.old }
         ensures life { life_of stays.new ≡ life_of stays.old }
@@ -76,6 +80,8 @@ impl<H: Wait + Drop, W: Wait> Line<'_, Places<Streams<Chats, H>>, W> {
         ensures place { IsOpen stays.new c }
         ensures others { KeptBut c stays.old stays.new }
         ensures asks { (life_of stays.old).asks ≤ (life_of stays.new).asks + 1 }
+        ensures grows { Grows (seen pass) (seen result.0) }
+        ensures pushed { result.1 ≡ true → pushed_at stays.new c ≡ pushed_at stays.old c + 1 }
         ensures told { result.1 ≡ true → (chat_at stays.new c ≡ hearing item (chat_at stays.old c)) × Listens ear.old ear.new c (chat_at stays.new c) }
         ensures refused { result.1 ≡ false → chat_at stays.new c ≡ chat_at stays.old c }
     {
@@ -107,6 +113,8 @@ impl<H: Wait + Drop, W: Wait> Line<'_, Places<Streams<Chats, H>>, W> {
         ensures place { IsOpen stays.new c }
         ensures others { KeptBut c stays.old stays.new }
         ensures asks { (life_of stays.old).asks ≤ (life_of stays.new).asks + 1 }
+        ensures grows { Grows (seen pass) (seen result.0) }
+        ensures pushed { IfSome result.1 (λ _. pushed_at stays.new c ≡ pushed_at stays.old c + 1) }
         ensures chat { (chat_at stays.new c ≡ hearing item (chat_at stays.old c)) ⊎ (chat_at stays.new c ≡ chat_at stays.old c) }
         ensures heard { IfSome result.1 (λ h. (chat_at stays.new c ≡ hearing item (chat_at stays.old c))
             × IsAnswer (chat_at stays.new c) h out.old.items out.new.items) }
@@ -125,7 +133,79 @@ impl<H: Wait + Drop, W: Wait> Line<'_, Places<Streams<Chats, H>>, W> {
         (pass, heard)
     }
 
-    /// Closes a place, which may be opened again behind all others.
+    /// Pushes an item at a place, whose feed waits. Where there is no room for it, what was pushed is entered first. It answers whether the
+    /// item was taken; else nothing changed.
+    pub fn push(
+        &self,
+        alloc: Global,
+        pass: Pass,
+        stays: &mut Stays<ChatItem, Chat>,
+        c: u32,
+        item: ChatItem,
+    ) -> (Pass, bool)
+        requires knows { Knows IsFirst Tells limits_of self.now.squeue.now (origin_of self.now.squeue.now.given.first) pass stays.old }
+        requires place { IsOpen stays.old c }
+        ensures knows { Knows IsFirst Tells limits_of self.now.squeue.now (origin_of self.now.squeue.now.given.first) result.0 stays.new }
+        ensures number { number result.0 ≡ number pass }
+        ensures place { IsOpen stays.new c }
+        ensures others { KeptBut c stays.old stays.new }
+        ensures asks { (life_of stays.new).asks ≡ (life_of stays.old).asks }
+        ensures grows { Grows (seen pass) (seen result.0) }
+        ensures pushed { result.1 ≡ true → pushed_at stays.new c ≡ pushed_at stays.old c + 1 }
+        ensures unpushed { result.1 ≡ false → pushed_at stays.new c ≡ pushed_at stays.old c }
+        ensures taken { result.1 ≡ true → (chat_at stays.new c ≡ hearing item (chat_at stays.old c))
+            × (touched_of stays.new ≡ touched_of stays.old ++ c ∷ []) }
+        ensures refused { result.1 ≡ false → (chat_at stays.new c ≡ chat_at stays.old c) × (touched_of stays.new ≡ touched_of stays.old) }
+    {
+        match push_at(self.squeue, &pass, stays, c, item) {
+            Ok(()) => (pass, true),
+            Err(item) => {
+                let pass = self.enter(alloc, pass, stays);
+                let pushed = push_at(self.squeue, &pass, stays, c, item);
+                (pass, pushed.is_ok())
+            }
+        }
+    }
+
+    /// Enters all that was pushed, settles it at an Ask of the pass, and listens to the chat of each item that was pushed, in order. It
+    /// answers what was heard of each, for which there is room, and what was sent goes behind the datagrams that are there.
+    pub fn listen(
+        &self,
+        alloc: Global,
+        pass: Pass,
+        stays: &mut Stays<ChatItem, Chat>,
+        room: Vec<Option<Heard>>,
+        out: &mut Vec<Datagram>,
+    ) -> (Pass, Vec<Option<Heard>>)
+        requires knows { Knows IsFirst Tells limits_of self.now.squeue.now (origin_of self.now.squeue.now.given.first) pass stays.old }
+        requires asks { 1 ≤ (life_of stays.old).asks }
+        requires room { (room.items ≡ []) × (length (touched_of stays.old) ≤ vec_capacity room) }
+        ensures settled { IsSettled limits_of self.now.squeue.now (origin_of self.now.squeue.now.given.first) result.0 stays.new }
+        ensures number { number result.0 ≡ number pass }
+        ensures grows { Grows (seen pass) (seen result.0) }
+        ensures kept { KeptOpen stays.old stays.new }
+        ensures asks { (life_of stays.old).asks ≤ (life_of stays.new).asks + 1 }
+        ensures room { vec_capacity result.1 ≡ vec_capacity room }
+        ensures answers { AreAnswers (map (chat_at stays.new) (touched_of stays.old)) result.1.items out.old.items out.new.items }
+    {
+        let mut ears = Ears {
+            alloc,
+            out: replace(out, Vec::new(alloc)),
+            heard: room,
+        };
+        let pass = self.enter(alloc, pass, stays);
+        let pass = settle(self.squeue, self.rt, alloc, pass, stays, &mut ears);
+        let Ears {
+            alloc: _,
+            out: sent,
+            heard,
+        } = ears;
+        *out = sent;
+        (pass, heard)
+    }
+
+    /// Closes a place, which may be opened again behind all others. In the squeue's history its stay has ended, with a feed for each item
+    /// that was pushed since it was opened.
     pub fn close(
         &self,
         alloc: Global,
@@ -139,6 +219,7 @@ impl<H: Wait + Drop, W: Wait> Line<'_, Places<Streams<Chats, H>>, W> {
         requires asks { 1 ≤ (life_of stays.old).asks }
         ensures settled { IsSettled limits_of self.now.squeue.now (origin_of self.now.squeue.now.given.first) result stays.new }
         ensures number { number result ≡ number pass }
+        ensures ended { HasEndedStay (setting_of limits_of self.now.squeue.now.given) (number pass) (seen pass) (seen result) (pushed_at stays.old c) }
         ensures others { KeptBut c stays.old stays.new }
         ensures asks { (life_of stays.old).asks ≤ (life_of stays.new).asks + 1 }
     {
@@ -161,6 +242,8 @@ impl<H: Wait + Drop, W: Wait> Line<'_, Places<Streams<Chats, H>>, W> {
         ensures number { number result.0 ≡ number pass }
         ensures asks { (life_of stays.old).asks ≤ (life_of stays.new).asks + 1 }
         ensures place { IfSome result.1 (λ c. IsOpen stays.new c × (IsOpen stays.old c → ⊥) × KeptBut c stays.old stays.new) }
+        ensures new { IfSome result.1 (λ c. pushed_at stays.new c ≡ 0) }
+        ensures grows { Grows (seen pass) (seen result.0) }
         ensures none { IfNone result.1 (stays.new ≡ stays.old) }
     {
         let Some(c) = free.pop_front() else {
@@ -190,6 +273,7 @@ impl<H: Wait + Drop, W: Wait> Line<'_, Places<Streams<Chats, H>>, W> {
         ensures settled { IsSettled limits_of self.now.squeue.now (origin_of self.now.squeue.now.given.first) result.0 stays.new }
         ensures number { number result.0 ≡ number pass }
         ensures asks { (life_of stays.old).asks ≤ (life_of stays.new).asks + 3 }
+        ensures grows { Grows (seen pass) (seen result.0) }
         ensures kept { KeptOpen stays.old stays.new }
         ensures begun { IfSome result.1 (λ c. Begins c ends conn.value stays.old stays.new) }
     {

@@ -1,16 +1,17 @@
 //! A table of connections, each of which is a chat at a place of one pass.
 
-ghost use Rattle.std.specs.Prelude.{◌≡◌, ◌++◌, ◌∷◌, [], ◌<◌, ◌≤◌, true, false, length, slice_get, Some, IfSome, IfNone, OnErr, OnOk};
-ghost use Rattle.std.specs.List.{flat_map};
-ghost use Rattle.turn_gate.specs.Passes.{number};
+ghost use Rattle.std.specs.Prelude.{◌≡◌, ◌++◌, ◌∷◌, [], ◌<◌, ◌≤◌, true, false, length, slice_get, Some, IfSome, IfNone, OnErr, OnOk, ◌+◌};
+ghost use Rattle.turn_gate.specs.Passes.{number, seen};
 ghost use Rattle.placed_parts.specs.Placing.{limits_of, origin_of};
+ghost use Rattle.squeue_state.specs.Naming.{setting_of};
 ghost use Rattle.sq_base.specs.declared.kinds.Tuple.{Tuple};
-ghost use Rattle.tcb_machine.specs.Limits.{last_time};
 ghost use Rattle.indexmap.specs.IndexMap.{set_value_at};
-ghost use Rattle.live_server.specs.Acts.{reached, sent_by};
-ghost use Rattle.live_server.specs.Table.{all_reached, without, IsNew};
+ghost use Rattle.live_server.specs.Table.{without, IsNew};
+ghost use Rattle.live_server.specs.Told.Told.{begins, hears};
 ghost use Rattle.live_server.specs.declared.conn.Conn.{Conn};
-ghost use Rattle.live_chats.specs.Seating.{HasSeats, HasSeatsBut, HeardAt, Judges, KeepsEnds, MetAt, Spoils, conns_of, left_at};
+ghost use Rattle.live_chats.specs.Accounts.{HasEndedStay, SeatsWereTold, pushed_at};
+ghost use Rattle.live_chats.specs.Seating.{HasSeats, HasSeatsBut, HeardAt, Judges, KeepsEnds, MetAt, conns_of, left_at, IsSettled, KeptBut};
+ghost use Rattle.stream_stays.specs.Places.{IsOpen, life_of};
 ghost use Rattle.live_chats.specs.declared.seat.Seat.{Seat};
 
 use crate::chat::Chat;
@@ -45,7 +46,7 @@ pub(crate) fn seat_at(seats: &Table, i: usize) -> Seat
 }
 
 /// What a seat knows of its connection is learnt anew.
-fn learn(seats: &mut Table, i: usize, facts: Facts)
+pub(crate) fn learn(seats: &mut Table, i: usize, facts: Facts)
     requires { i < length seats.old.entries }
     ensures { (t : Tuple) (seat : Seat) → slice_get seats.old.entries i ≡ Some (t, seat)
         → seats.new.entries ≡ set_value_at seats.old.entries i (record seat { facts = facts }) }
@@ -59,6 +60,33 @@ fn unseat(seats: &mut Table, i: usize)
     ensures { seats.new.entries ≡ left_at i seats.old.entries }
 {
     seats.swap_remove_index(i);
+}
+
+/// The place of a seat is closed, and the seat goes; the last one takes its place in the table.
+pub(crate) fn close_seat<H: Wait + Drop, W: Wait>(
+    line: &Line<'_, Places<Streams<Chats, H>>, W>,
+    alloc: Global,
+    pass: Pass,
+    stays: &mut Stays<ChatItem, Chat>,
+    seats: &mut Table,
+    free: &mut VecDeque<u32>,
+    i: usize,
+) -> Pass
+    requires settled { IsSettled limits_of line.now.squeue.now (origin_of line.now.squeue.now.given.first) pass stays.old }
+    requires range { i < length seats.old.entries }
+    requires place { (e : Tuple × Seat) → slice_get seats.old.entries i ≡ Some e → IsOpen stays.old e.1.place }
+    requires asks { 1 ≤ (life_of stays.old).asks }
+    ensures settled { IsSettled limits_of line.now.squeue.now (origin_of line.now.squeue.now.given.first) result stays.new }
+    ensures number { number result ≡ number pass }
+    ensures seats { seats.new.entries ≡ left_at i seats.old.entries }
+    ensures ended { (e : Tuple × Seat) → slice_get seats.old.entries i ≡ Some e
+        → HasEndedStay (setting_of limits_of line.now.squeue.now.given) (number pass) (seen pass) (seen result) (pushed_at stays.old e.1.place) }
+    ensures others { (e : Tuple × Seat) → slice_get seats.old.entries i ≡ Some e → KeptBut e.1.place stays.old stays.new }
+    ensures asks { (life_of stays.old).asks ≤ (life_of stays.new).asks + 1 }
+{
+    let seat = seat_at(seats, i);
+    unseat(seats, i);
+    line.close(alloc, pass, stays, free, seat.place)
 }
 
 /// The connection at a place of the table leaves; the last one takes its place there.
@@ -75,10 +103,9 @@ pub(crate) fn vacate<H: Wait + Drop, W: Wait>(
     ensures seats { HasSeats limits_of line.now.squeue.now (origin_of line.now.squeue.now.given.first) result stays.new seats.new.entries }
     ensures number { number result ≡ number pass }
     ensures table { conns_of stays.new seats.new.entries ≡ without i (conns_of stays.old seats.old.entries) }
+    ensures told { SeatsWereTold limits_of line.now.squeue.now pass result stays.old stays.new seats.old.entries seats.new.entries [] }
 {
-    let seat = seat_at(seats, i);
-    unseat(seats, i);
-    line.close(alloc, pass, stays, free, seat.place)
+    close_seat(line, alloc, pass, stays, seats, free, i)
 }
 
 /// The connection at a place of the table hears an item. Where nothing is heard of it, it leaves.
@@ -101,6 +128,8 @@ fn hear_at<H: Wait + Drop, W: Wait>(
     ensures heard { IfSome result.1 (λ h. (t : Tuple) (d : Conn) → slice_get (conns_of stays.old seats.old.entries) i ≡ Some (t, d)
         → HeardAt item t d i h (conns_of stays.old seats.old.entries) (conns_of stays.new seats.new.entries) out.old.items out.new.items) }
     ensures lost { IfNone result.1 (conns_of stays.new seats.new.entries ≡ without i (conns_of stays.old seats.old.entries)) }
+    ensures told { IfSome result.1 (λ _. (t : Tuple) (seat : Seat) → slice_get seats.old.entries i ≡ Some (t, seat)
+        → SeatsWereTold limits_of line.now.squeue.now pass result.0 stays.old stays.new seats.old.entries seats.new.entries (hears t ∷ [])) }
 {
     if stays.life().asks <= seats.len() as u64 {
         let pass = vacate(line, alloc, pass, stays, seats, free, i);
@@ -142,6 +171,8 @@ pub(crate) fn meet_at<H: Wait + Drop, W: Wait>(
     ensures met { IfSome result.1 (λ m. (t : Tuple) (d : Conn) → slice_get (conns_of stays.old seats.old.entries) i ≡ Some (t, d)
         → MetAt item t d i m (conns_of stays.old seats.old.entries) (conns_of stays.new seats.new.entries) out.old.items out.new.items) }
     ensures lost { IfNone result.1 (conns_of stays.new seats.new.entries ≡ without i (conns_of stays.old seats.old.entries)) }
+    ensures told { IfSome result.1 (λ _. (t : Tuple) (seat : Seat) → slice_get seats.old.entries i ≡ Some (t, seat)
+        → SeatsWereTold limits_of line.now.squeue.now pass result.0 stays.old stays.new seats.old.entries seats.new.entries (hears t ∷ [])) }
 {
     let (pass, heard) = hear_at(line, alloc, pass, stays, seats, free, i, item, out);
     let Some(heard) = heard else {
@@ -152,39 +183,6 @@ pub(crate) fn meet_at<H: Wait + Drop, W: Wait>(
         return (pass, heard.met);
     }
     (pass, heard.met)
-}
-
-/// The time comes to each connection in turn. It answers whether it came to all; the first of which nothing is heard leaves, and those
-/// behind it are as they were.
-pub(crate) fn reach_each<H: Wait + Drop, W: Wait>(
-    line: &Line<'_, Places<Streams<Chats, H>>, W>,
-    alloc: Global,
-    pass: Pass,
-    stays: &mut Stays<ChatItem, Chat>,
-    seats: &mut Table,
-    free: &mut VecDeque<u32>,
-    now: u64,
-    out: &mut Vec<Datagram>,
-) -> (Pass, bool)
-    requires seats { HasSeats limits_of line.now.squeue.now (origin_of line.now.squeue.now.given.first) pass stays.old seats.old.entries }
-    requires time { now ≤ last_time }
-    ensures seats { HasSeats limits_of line.now.squeue.now (origin_of line.now.squeue.now.given.first) result.0 stays.new seats.new.entries }
-    ensures number { number result.0 ≡ number pass }
-    ensures table { result.1 ≡ true → conns_of stays.new seats.new.entries ≡ all_reached now (conns_of stays.old seats.old.entries) }
-    ensures sent { result.1 ≡ true → out.new.items ≡ out.old.items ++ flat_map (λ c. sent_by c.0 (reached now c.1)) (conns_of stays.old seats.old.entries) }
-    ensures lost { result.1 ≡ false → Spoils now (conns_of stays.old seats.old.entries) (conns_of stays.new seats.new.entries) }
-{
-    let mut pass = pass;
-    'turns: for i in 0..seats.len() {
-        let item = ChatItem::Time { now };
-        let (next, heard) = hear_at(line, alloc, pass, stays, seats, free, i, item, out);
-        pass = next;
-        match heard {
-            Some(_) => {}
-            None => return (pass, false),
-        }
-    }
-    (pass, true)
 }
 
 /// A connection of new ends takes a seat behind the others, where a place is free for it.
@@ -203,6 +201,7 @@ pub(crate) fn seat_new<H: Wait + Drop, W: Wait>(
     ensures seats { HasSeats limits_of line.now.squeue.now (origin_of line.now.squeue.now.given.first) result.0 stays.new seats.new.entries }
     ensures number { number result.0 ≡ number pass }
     ensures put { OnOk result.1 (conns_of stays.new seats.new.entries ≡ conns_of stays.old seats.old.entries ++ (ends, conn) ∷ []) }
+    ensures told { OnOk result.1 (SeatsWereTold limits_of line.now.squeue.now pass result.0 stays.old stays.new seats.old.entries seats.new.entries (begins ends ∷ [])) }
     ensures kept { OnErr result.1 (conns_of stays.new seats.new.entries ≡ conns_of stays.old seats.old.entries) }
 {
     if stays.life().asks <= seats.len() as u64 + 3 {
@@ -238,6 +237,7 @@ pub(crate) fn leave_all<H: Wait + Drop, W: Wait>(
     ensures seats { HasSeats limits_of line.now.squeue.now (origin_of line.now.squeue.now.given.first) result stays.new seats.new.entries }
     ensures number { number result ≡ number pass }
     ensures none { seats.new.entries ≡ [] }
+    ensures told { SeatsWereTold limits_of line.now.squeue.now pass result stays.old stays.new seats.old.entries seats.new.entries [] }
 {
     let mut pass = pass;
     'leaving: while let Some(i) = seats.len().checked_sub(1) {

@@ -7,7 +7,8 @@ use crate::chat::Chat;
 use crate::chats::Chats;
 use crate::item::ChatItem;
 use crate::line::Line;
-use crate::seats::{Table, leave_all, meet_at, reach_each, seat_new, vacate};
+use crate::reaching::reach_each;
+use crate::seats::{Table, leave_all, meet_at, seat_new, vacate};
 use crate::{asking, leaving};
 use indexmap::IndexMap;
 use live_server::{Conn, ConnTable, Datagram, Met, Setting};
@@ -52,6 +53,9 @@ impl<'q, H: Wait + Drop, W: Wait, N: Closes> Seats<'q, Places<Streams<Chats, H>>
     ghost use Rattle.placed_parts.specs.Placing.{limits_of, origin_of};
     ghost use Rattle.squeue_serve.specs.Places.{MayClose};
     ghost use Rattle.stream_stays.specs.Places.{Knows, chain_of, touched_of};
+    ghost use Rattle.turn_gate.specs.Passes.{seen};
+    ghost use Rattle.squeue_state.specs.Naming.{setting_of};
+    ghost use Rattle.live_chats.specs.Accounts.{WereTold, accounts_of, number_in, seen_in};
     ghost use Rattle.live_chats.specs.Seating.{IsGood, conns_of};
     ghost use Rattle.live_chats.specs.Telling.{IsFirst, Tells};
 
@@ -71,6 +75,9 @@ impl<'q, H: Wait + Drop, W: Wait, N: Closes> Seats<'q, Places<Streams<Chats, H>>
         ensures good { IsGood limits_of result.line.squeue.now (origin_of result.line.squeue.now.given.first)
             N.closes result.pass result.stays result.seats.entries }
         ensures conns { conns_of result.stays result.seats.entries ≡ [] }
+        ensures squeue { result.line.squeue.now ≡ squeue.now }
+        ensures pass { (number_in result.pass ≡ number pass) × (seen_in result.pass ≡ seen pass) }
+        ensures accounts { accounts_of result.stays result.seats.entries ≡ [] }
     {
         Seats {
             line: Line { rt, squeue, pace },
@@ -85,7 +92,10 @@ impl<'q, H: Wait + Drop, W: Wait, N: Closes> Seats<'q, Places<Streams<Chats, H>>
     /// All connections leave, each of whose places is closed, and the table ends.
     pub fn end(self, alloc: Global) -> Pass
         requires { IsGood limits_of self.line.squeue.now (origin_of self.line.squeue.now.given.first) N.closes self.pass self.stays self.seats.entries }
-        ensures { N.closes result }
+        ensures closes { N.closes result }
+        ensures number { number result ≡ number_in self.entry.pass }
+        ensures told { WereTold (setting_of limits_of self.entry.line.squeue.now.given) (number result) (seen_in self.entry.pass) (seen result)
+            (accounts_of self.entry.stays self.entry.seats.entries) [] [] }
     {
         let Seats {
             line,
@@ -108,7 +118,12 @@ impl<'q, H: Wait + Drop, W: Wait, N: Closes> Seats<'q, Places<Streams<Chats, H>>
 
 impl<'q, H: Wait + Drop, W: Wait, N: Closes> ConnTable
     for Seats<'q, Places<Streams<Chats, H>>, W, N> {
+    ghost use Rattle.std.specs.Prelude.{◌≡◌};
+    ghost use Rattle.std.proofs.Common.{◌∙◌, ap, refl};
     ghost use Rattle.placed_parts.specs.Placing.{limits_of, origin_of};
+    ghost use Rattle.squeue_state.specs.Naming.{setting_of};
+    ghost use Rattle.live_chats.specs.Accounts.{WereTold, accounts_of, number_in, seen_in};
+    ghost use Rattle.live_chats.specs.Onward.{same_pass_on, untold};
     ghost use Rattle.live_chats.specs.Seating.{IsGood, Spoils, conns_of};
 
     ghost conns = { λ s. conns_of s.stays s.seats.entries };
@@ -116,6 +131,11 @@ impl<'q, H: Wait + Drop, W: Wait, N: Closes> ConnTable
     ghost good = { λ s. IsGood limits_of s.line.squeue.now (origin_of s.line.squeue.now.given.first) N.closes s.pass s.stays s.seats.entries };
 
     ghost spoils = { Spoils };
+
+    // By the history of the pass, which goes on at the same squeue.
+    ghost tells = { λ a told b. (b.line.squeue.now.given ≡ a.line.squeue.now.given) × (number_in b.pass ≡ number_in a.pass)
+        × WereTold (setting_of limits_of a.line.squeue.now.given) (number_in a.pass) (seen_in a.pass) (seen_in b.pass)
+        (accounts_of a.stays a.seats.entries) (accounts_of b.stays b.seats.entries) told };
 
     fn len(&self) -> usize {
         asking::len(&self.seats)
@@ -251,4 +271,19 @@ impl<'q, H: Wait + Drop, W: Wait, N: Closes> ConnTable
         );
         put_pass(&mut self.pass, pass);
     }
+
+    ghost tells_nothing = { λ a. (
+      refl,
+      refl,
+      untold (setting_of limits_of a.line.squeue.now.given) (number_in a.pass) (seen_in a.pass)
+          (accounts_of a.stays a.seats.entries),
+    ) };
+
+    ghost tells_on = { λ a b c first then told more. (
+      more.0 ∙ told.0,
+      more.1 ∙ told.1,
+      same_pass_on (setting_of limits_of a.line.squeue.now.given) (setting_of limits_of b.line.squeue.now.given) (number_in a.pass) (number_in b.pass)
+          (seen_in a.pass) (seen_in b.pass) (seen_in c.pass) (accounts_of a.stays a.seats.entries) (accounts_of b.stays b.seats.entries)
+          (accounts_of c.stays c.seats.entries) first then (ap (setting_of limits_of) told.0) told.1 told.2 more.2,
+    ) };
 }

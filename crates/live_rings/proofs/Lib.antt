@@ -9,3 +9,4 @@ pub mod RingRun
 pub mod RingsDealt
 pub mod Outcomes
 pub mod Faults
+pub mod Lives

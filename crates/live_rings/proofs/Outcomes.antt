@@ -1,7 +1,8 @@
 -- What a stream that was served leaves.
-use Rattle.std.proofs.Common.{◌≡◌, ℕ, Bool, Option, Some, Result, Ok, Err, List, ap, ◌∙◌, sym}
+use Rattle.std.proofs.Common.{◌≡◌, ℕ, Option, Some, Result, Ok, Err, List, ap, ◌∙◌, sym}
 use Rattle.live_run.specs.declared.fault.Fault.{Fault}
 use Rattle.live_run.specs.declared.fault.Fault.TheVariants as Fault'
+use Rattle.live_rings.specs.declared.ending.EndedRing.{EndedRing}
 use Rattle.live_rings.specs.declared.words.Layout.{Layout}
 use Rattle.live_rings.specs.Served.{HasEnded, HasServed, fault_of}
 
@@ -10,9 +11,9 @@ abbrev failed : Fault → Result (Unit {0}) Fault
 failed fault = Err fault
 
 module _ {S K : Type 0} (rest : S → Option (List ℕ)) (reads : S → ℕ) (contents : K → Option (List ℕ)) (faults : K → ℕ) (setup : Layout) where
-  pub has_ended : (reader reader' : S) (sink sink' : K) (lost : Bool) (result : Result (Unit {0}) Fault) (fault : Option Fault) → fault ≡ fault_of result → HasServed rest reads contents faults setup reader sink reader' sink' lost result
-      → HasEnded rest reads contents faults setup (record { reader = reader; sink = sink }) (record { reader = reader'; sink = sink'; fault = fault; lost = lost })
-  has_ended reader reader' sink sink' lost (Ok x) fault is served =
+  pub has_ended : (reader : S) (sink : K) (d : EndedRing S K) (result : Result (Unit {0}) Fault) → d.fault ≡ fault_of result
+      → HasServed rest reads contents faults setup reader sink d.reader d.sink d.lost result → HasEnded rest reads contents faults setup (record { reader = reader; sink = sink }) d
+  has_ended reader sink d (Ok x) is served =
       record {
         well = λ none kept. served.written kept;
         whole = λ none. served.whole;
@@ -23,7 +24,7 @@ module _ {S K : Type 0} (rest : S → Option (List ℕ)) (reads : S → ℕ) (co
         frames = λ why. cc (sym is ∙ why);
         others = λ why. cc (sym is ∙ why);
       }
-  has_ended reader reader' sink sink' lost (Err e) fault is served =
+  has_ended reader sink d (Err e) is served =
       record {
         well = λ none kept. cc (sym is ∙ none);
         whole = λ none. cc (sym is ∙ none);

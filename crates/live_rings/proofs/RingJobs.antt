@@ -28,7 +28,7 @@ use Rattle.live_rings.specs.Seating.{ServesPlaces}
 use Rattle.live_rings.proofs.FirstKnown.{fresh_at, knows_first}
 use Rattle.live_rings.specs.declared.ring.ServerTask.{ServerTask}
 use Rattle.live_rings.specs.declared.ring.ServerTask.TheVariants as Task'
-use Rattle.live_rings.specs.Tasks.{AreNewTasks, EndedFrom, HasDone, IsNewTask, IsReady, MayRun, Ran, ReadyFor, pass_in}
+use Rattle.live_rings.specs.Tasks.{AreNewTasks, EndedFrom, HasDone, IsNewTask, IsReady, KnowsPass, MayRun, Ran, ReadyFor, pass_in}
 
 pub task_got : {S K : Type 0} (jobs : List (Job (ServerTask S K))) (k : ℕ) (j : Job (ServerTask S K)) → slice_get jobs k ≡ Some j → slice_get (tasks_in jobs) k ≡ Some j.task
 task_got [] k j is = cc is
@@ -104,6 +104,20 @@ module _ {X P S K : Type 0} {G : Ghosts X P Chats} (s : Named (Places X P Chats 
           let t = did_at k o.0 j o.1 is in
           let d = ended_at limits_of s w.0 (pass_in j.places.items) (subst (λ (a : Option (Pass Element)). EndedFrom limits_of s a (pass_in j.places.items)) (ap pass_in w.1) t.0) in
           (d.0, one_place j.places.items d.0 d.1, subst (λ (m : ℕ). MayEnd limits_of m s d.0) w.3 d.2)
+
+      -- what is left of a stream knows the pass that is left, which has its number
+      pub known_pass : (k : ℕ) (d : EndedRing S K) → slice_get (tasks_in new) k ≡ Some (Task'.Served d) → (lent_to new k ≡ Some d.pass.value ∷ []) × (number d.pass.value ≡ k)
+      known_pass k d is =
+          let j = some_at new k (omega (arith, slice_get_within (tasks_in new) k (Task'.Served d) is, length-map new (λ (j : Job (ServerTask S K)). j.task))) in
+          let o = some_at old k (omega (arith, slice_get_within new k j.0 j.1, n)) in
+          let task : j.0.task ≡ Task'.Served d = cc (sym (task_got new k j.0 j.1) ∙ is) in
+          let knows : pass_in j.0.places.items ≡ Some d.pass.value = subst (λ (u : ServerTask S K). KnowsPass u (pass_in j.0.places.items)) task (did_at k o.0 j.0 o.1 j.1).2 in
+          let all = all_done k j.0 j.1 in
+          let same : all.0 ≡ d.pass.value = one (sym (ap pass_in all.1) ∙ knows) in
+          (lent_got new k j.0 j.1 ∙ one_place j.0.places.items d.pass.value knows, ap number (sym same) ∙ all.2.is_number)
+        where
+          one : {x y : Pass Element} → Some x ≡ Some y → x ≡ y
+          one e = cc e
 
       -- so the passes are lent when all jobs are done
       pub done_lent : (count : ℕ) → length s.given.quotas ≡ count → length new ≡ count + 1 → AreLent (MayEnd limits_of) 0 count (s ∷ []) (lent_to new)

@@ -1,21 +1,21 @@
 -- One squeue is lent to the jobs of its passes, and comes back when all are done.
-use Rattle.std.proofs.Common.{◌≡◌, ℕ, zero, suc, ◌+◌, ◌-◌, ◌<◌, Option, List, [], ◌∷◌, ◌++◌, All, length, slice_get, slice_index_or, take, drop, refl, ap, sym, ◌∙◌, subst, arith}
+use Rattle.std.proofs.Common.{◌≡◌, ℕ, zero, suc, ◌+◌, ◌-◌, ◌<◌, ◌≤◌, inl, inr, Option, List, [], ◌∷◌, ◌++◌, All, length, slice_get, slice_index_or, take, drop, refl, ap, sym, ◌∙◌, subst, arith}
 use Rattle.std.proofs.lemmas.List.{length-map}
 use Rattle.std.proofs.lemmas.Option.{slice_get_within}
 use Rattle.std.specs.Prelude.{Some}
-use Rattle.turn_gate.specs.Passes.{AreFresh}
+use Rattle.turn_gate.specs.Passes.{AreFresh, number, seen}
 use Rattle.turn_gate.specs.declared.pass.Pass.{Pass}
 use Rattle.perimeter_core.specs.History.{Element}
 use Rattle.perimeter_core.specs.declared.resident.Resident.{Ghosts}
 use Rattle.squeue_state.specs.Told.{Traced}
-use Rattle.squeue_state.specs.Naming.{Named}
+use Rattle.squeue_state.specs.Naming.{Named, setting_of}
 use Rattle.histories.specs.Endings.{Ending}
 use Rattle.histories.specs.Elements.{number_of}
 use Rattle.squeue_serve.specs.declared.jobs.Job.{Job}
 use Rattle.squeue_serve.specs.Places.{MayEnd}
-use Rattle.squeue_serve.specs.Lending.{AreHanded, AreLent, HasCome, lent_to, tasks_in}
+use Rattle.squeue_serve.specs.Lending.{AreHanded, AreLent, HasCome, holder, lent_to, tasks_in}
 use Rattle.squeue_serve.proofs.Lent.{lent_none}
-use Rattle.squeue_serve.proofs.Coming.{less_lent, none_lent_at_all, one_only}
+use Rattle.squeue_serve.proofs.Coming.{holds_last, holds_other, less_lent, none_lent_at_all, one_only}
 use Rattle.placed_parts.specs.declared.parts.Parts.{Ghosts as PartGhosts}
 use Rattle.placed_parts.specs.declared.places.Places.{Places}
 use Rattle.placed_parts.specs.Placing.{limits_of}
@@ -25,7 +25,12 @@ use Rattle.live_rings.specs.declared.ending.Ends.{Ends}
 use Rattle.live_rings.specs.Seating.{ServesPlaces}
 use Rattle.live_rings.specs.declared.ring.ServerTask.{ServerTask}
 use Rattle.live_rings.specs.Tasks.{AreDone, AreNewTasks, HasDone, Ran}
-use Rattle.live_rings.proofs.RingJobs.{ReadyAt, all_new, done_lent, parts_of, tasks_done}
+use Rattle.turn_gate.specs.History.{Begins}
+use Rattle.squeue_state.specs.Clauses.{Knows}
+use Rattle.squeue_serve.proofs.Unused.{each_at}
+use Rattle.std.proofs.lemmas.Bool.{cases_eq}
+use Rattle.live_rings.specs.declared.ring.ServerTask.TheVariants as Task'
+use Rattle.live_rings.proofs.RingJobs.{ReadyAt, all_new, done_lent, known_pass, parts_of, tasks_done}
 
 -- what a slice of the whole leaves in its Vec
 pub whole_back : {A : Type 0} (n : ℕ) (xs new : List A) → length new ≡ n → length xs ≡ n → take n (new ++ drop (length new) xs) ≡ new
@@ -82,24 +87,28 @@ pub record CameBack {X P S K : Type 0} {G : PartGhosts X P Chats} (Q : Ends S K 
   pub many : length new ≡ (n - 1) + 1
   pub as_many : length (tasks_in new) ≡ length (tasks_in old)
   pub ends : AreLent (MayEnd limits_of) 0 (n - 1) all (lent_to back)
+  pub passes : (k : ℕ) (d : EndedRing S K) → slice_get (tasks_in new) k ≡ Some (Task'.Served d) → (lent_to back k ≡ Some d.pass.value ∷ []) × (number d.pass.value ≡ k)
   pub did : (k : ℕ) (t u : ServerTask S K) → slice_get (tasks_in old) k ≡ Some t → slice_get (tasks_in new) k ≡ Some u → HasDone Q t u
 
 module _ {X P S K : Type 0} {G : PartGhosts X P Chats} (s : Named (Places X P Chats G)) where
-  pub came_back : {jobs : List (Job (ServerTask S K))} {n : ℕ} {all : List (Named (Places X P Chats G))} (Q : Ends S K → EndedRing S K → Type 0) (items new : List (Job (ServerTask S K))) (m : ℕ) (t : Named (Places X P Chats G)) → Lends s jobs n all → jobs ≡ items → m ≡ length items → length new ≡ length jobs
-      → t ≡ slice_index_or all 0 t → ((k : ℕ) (d : Job (ServerTask S K)) → k < length jobs → Ran limits_of t Q (slice_index_or jobs k d) (slice_index_or new k d))
-      → CameBack Q s n all jobs (take m (new ++ drop (length new) items)) new
+  pub came_back : {jobs : List (Job (ServerTask S K))} {n : ℕ} {all : List (Named (Places X P Chats G))} (Q : Named (Places X P Chats G) → Ends S K → EndedRing S K → Type 0) (items new : List (Job (ServerTask S K))) (m : ℕ) (t : Named (Places X P Chats G)) → Lends s jobs n all → jobs ≡ items → m ≡ length items → length new ≡ length jobs
+      → t ≡ slice_index_or all 0 t → ((k : ℕ) (d : Job (ServerTask S K)) → k < length jobs → Ran limits_of t (Q t) (slice_index_or jobs k d) (slice_index_or new k d))
+      → CameBack (Q s) s n all jobs (take m (new ++ drop (length new) items)) new
   came_back {jobs} {n} {all} Q items new m t l same long count at ran =
       let many : length new ≡ (n - 1) + 1 = omega (arith, l.many, count) in
       let back : take m (new ++ drop (length new) items) ≡ new = whole_back m items new (omega (arith, count, long, ap length same)) (sym long) in
-      let did = subst (λ (t : Named (Places X P Chats G)). (k : ℕ) (d : Job (ServerTask S K)) → k < length jobs → Ran limits_of t Q (slice_index_or jobs k d) (slice_index_or new k d)) (is_it s all t l.single at) ran in
-      let ends : AreLent (MayEnd limits_of) 0 (n - 1) (s ∷ []) (lent_to new) = done_lent s Q jobs new (sym count) did l.are (n - 1) l.passes many in
+      let did = subst (λ (t : Named (Places X P Chats G)). (k : ℕ) (d : Job (ServerTask S K)) → k < length jobs → Ran limits_of t (Q t) (slice_index_or jobs k d) (slice_index_or new k d)) (is_it s all t l.single at) ran in
+      let ends : AreLent (MayEnd limits_of) 0 (n - 1) (s ∷ []) (lent_to new) = done_lent s (Q s) jobs new (sym count) did l.are (n - 1) l.passes many in
       record {
         same = back;
         many = many;
         as_many = length-map new (λ (j : Job (ServerTask S K)). j.task) ∙ (count ∙ sym (length-map jobs (λ (j : Job (ServerTask S K)). j.task)));
         ends = subst (λ (ss : List (Named (Places X P Chats G))). AreLent (MayEnd limits_of) 0 (n - 1) ss (lent_to (take m (new ++ drop (length new) items)))) (sym l.single)
             (subst (λ (xs : List (Job (ServerTask S K))). AreLent (MayEnd limits_of) 0 (n - 1) (s ∷ []) (lent_to xs)) (sym back) ends);
-        did = tasks_done s Q jobs new (sym count) did;
+        passes = λ k d is.
+            let known = known_pass s (Q s) jobs new (sym count) did l.are k d is in
+            (ap (λ (xs : List (Job (ServerTask S K))). lent_to xs k) back ∙ known.0, known.1);
+        did = tasks_done s (Q s) jobs new (sym count) did;
       }
 
 -- the tasks of all are done
@@ -123,3 +132,21 @@ module _ {R P O : Type 0} (G : Ghosts R P O) (s : Named R) {count : ℕ} {all : 
   nothing_left lent =
       none_lent_at_all (MayEnd G.limits) 0 count without
       (less_lent (MayEnd G.limits) 0 count [] s its.passes without having its.handed (subst (λ (ss : List (Named R)). AreLent (MayEnd G.limits) 0 count ss having) is lent))
+
+  -- each pass that was lent has seen a beginning of the squeue's history
+  pub seen_by_end : AreLent (MayEnd G.limits) 0 count all having → (k : ℕ) (v : Pass Element) → k ≤ count → having k ≡ Some v ∷ [] → Begins (seen v) e.history
+  seen_by_end lent k v le there =
+      let at : holder 0 count 0 k ≡ k = elim (cases_eq k count) [
+        | inl e ↦ ap (holder 0 count 0) e ∙ (holds_last 0 count 0 ∙ (let e : 0 + count + 0 ≡ k = omega (arith, e) in e))
+        | inr n ↦ holds_other 0 count 0 k (omega (arith, le, n)) ∙ (let e : 0 + k ≡ k = omega arith in e)
+      ] in
+      let r = its.handed.each k le in
+      let gone = nothing_left lent (holder 0 count 0 k) in
+      let same : v ≡ r.0 = one (sym there ∙ (ap having (sym at) ∙ (r.2 ∙ ap (λ (l : List (Option (Pass Element))). l ++ Some r.0 ∷ []) gone))) in
+      subst (λ (x : Pass Element). Begins (seen x) e.history) (sym same) (each_at (Knows e.history) its.passes k r.0 its.knows r.1).0
+    where
+      one : {x y : Pass Element} → Some x ∷ [] ≡ Some y ∷ [] → x ≡ y
+      one e = cc e
+
+  pub end_setting : e.setting ≡ setting_of G.limits s.given
+  end_setting = its.its_setting

@@ -1,5 +1,5 @@
 -- Tasks of rings, and what is left of their streams.
-use Rattle.std.proofs.Common.{◌≡◌, ℕ, zero, suc, ◌<◌, ◌≤◌, inl, inr, Some, List, [], ◌∷◌, ◌++◌, length, map, slice_get, refl, ap, sym, ◌∙◌, subst, arith, length-append, append-nil}
+use Rattle.std.proofs.Common.{◌≡◌, ℕ, zero, suc, ◌+◌, ◌<◌, ◌≤◌, inl, inr, Some, List, [], ◌∷◌, ◌++◌, length, map, slice_get, refl, ap, sym, ◌∙◌, subst, arith, length-append, append-nil}
 use Rattle.std.specs.Prelude.{reverse}
 use Rattle.std.proofs.lemmas.List.{length-map, reverse-append}
 use Rattle.std.proofs.lemmas.Option.{slice_get_within}
@@ -11,7 +11,7 @@ use Rattle.live_rings.specs.declared.ending.Ends.{Ends}
 use Rattle.live_rings.specs.declared.ring.Ring.{Ring}
 use Rattle.live_rings.specs.declared.ring.ServerTask.{ServerTask}
 use Rattle.live_rings.specs.declared.ring.ServerTask.TheVariants as Task'
-use Rattle.live_rings.specs.Groups.{AllBecame}
+use Rattle.live_rings.specs.Groups.{AllBecameFrom}
 use Rattle.live_rings.specs.Seating.{AreNewStays}
 use Rattle.live_rings.specs.Tasks.{AreNewRings, AreNewTasks, HasDone, IsNewTask, ended_of, tasks_for}
 use Rattle.live_rings.proofs.Seated.{get_more}
@@ -58,18 +58,25 @@ module _ {S K : Type 0} where
   ended_left Task'.Work ts old new is left = left ∙ ap reverse (sym (append-nil old) ∙ sym is)
 
   module _ (P : Ends S K → EndedRing S K → Type 0) where
-    abbrev DidEach : List (ServerTask S K) → List (ServerTask S K) → Type 0
+    abbrev pub DidEach : List (ServerTask S K) → List (ServerTask S K) → Type 0
     DidEach olds news = (k : ℕ) (t u : ServerTask S K) → slice_get olds k ≡ Some t → slice_get news k ≡ Some u → HasDone P t u
 
-    -- when all are done this is left of each stream
-    pub all_ended : (rs : List (Ring S K)) (news : List (ServerTask S K)) → length news ≡ length (tasks_for rs) → DidEach (tasks_for rs) news → AllBecame P (map (λ r. r.ends) rs) (ended_of news)
-    all_ended [] [] n did = absurd (omega (arith, n))
-    all_ended [] (u ∷ v ∷ us) n did = absurd (omega (arith, n))
-    all_ended [] (Task'.Work ∷ []) n did = tt
-    all_ended [] (Task'.Serve ring ∷ []) n did = absurd (did 0 Task'.Work (Task'.Serve ring) refl refl)
-    all_ended [] (Task'.Served ended ∷ []) n did = absurd (did 0 Task'.Work (Task'.Served ended) refl refl)
-    all_ended (r ∷ rs) [] n did = absurd (omega (arith, n))
-    all_ended (r ∷ rs) (Task'.Serve ring ∷ us) n did = absurd (did 0 (Task'.Serve r) (Task'.Serve ring) refl refl)
-    all_ended (r ∷ rs) (Task'.Served ended ∷ us) n did =
-        (did 0 (Task'.Serve r) (Task'.Served ended) refl refl, all_ended rs us (omega (arith, n)) (λ k t u was is. did (suc k) t u was is))
-    all_ended (r ∷ rs) (Task'.Work ∷ us) n did = absurd (did 0 (Task'.Serve r) Task'.Work refl refl)
+module _ {S K : Type 0} (P : Ends S K → EndedRing S K → Type 0) (Q : ℕ → Ends S K → EndedRing S K → Type 0) where
+  -- when all are done this is left of each stream, by number
+  pub all_ended_from : (rs : List (Ring S K)) (news : List (ServerTask S K)) (m : ℕ) → length news ≡ length (tasks_for rs) → DidEach P (tasks_for rs) news
+      → ((k : ℕ) (e : Ends S K) (d : EndedRing S K) → slice_get news k ≡ Some (Task'.Served d) → P e d → Q (m + k) e d)
+      → AllBecameFrom Q m (map (λ r. r.ends) rs) (ended_of news)
+  all_ended_from [] [] m n did f = absurd (omega (arith, n))
+  all_ended_from [] (u ∷ v ∷ us) m n did f = absurd (omega (arith, n))
+  all_ended_from [] (Task'.Work ∷ []) m n did f = tt
+  all_ended_from [] (Task'.Serve ring ∷ []) m n did f = absurd (did 0 Task'.Work (Task'.Serve ring) refl refl)
+  all_ended_from [] (Task'.Served ended ∷ []) m n did f = absurd (did 0 Task'.Work (Task'.Served ended) refl refl)
+  all_ended_from (r ∷ rs) [] m n did f = absurd (omega (arith, n))
+  all_ended_from (r ∷ rs) (Task'.Serve ring ∷ us) m n did f = absurd (did 0 (Task'.Serve r) (Task'.Serve ring) refl refl)
+  all_ended_from (r ∷ rs) (Task'.Served ended ∷ us) m n did f =
+      let none : m + 0 ≡ m = omega arith in (
+        subst (λ (k : ℕ). Q k r.ends ended) none (f 0 r.ends ended refl (did 0 (Task'.Serve r) (Task'.Served ended) refl refl)),
+        all_ended_from rs us (m + 1) (omega (arith, n)) (λ k t u was is. did (suc k) t u was is)
+            (λ k e d at h. let same : m + suc k ≡ (m + 1) + k = omega arith in subst (λ (j : ℕ). Q j e d) same (f (suc k) e d at h)),
+      )
+  all_ended_from (r ∷ rs) (Task'.Work ∷ us) m n did f = absurd (did 0 (Task'.Serve r) Task'.Work refl refl)

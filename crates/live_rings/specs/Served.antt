@@ -2,7 +2,7 @@
 use Rattle.std.specs.Prelude.{◌≡◌, ◌≢◌, ℕ, Bool, false, Option, None, Some, IfSome, Result, Ok, Err, OnOk, List, []}
 use Rattle.std.specs.Io.KnownBytes.{Appends}
 use Rattle.sq_base.specs.Ends.{Rose}
-use Rattle.live_server.specs.Frames.{answers, rest_of}
+use Rattle.live_server.specs.Frames.{answers, frames_in, rest_of}
 use Rattle.live_run.specs.Fronts.{AppendsFront}
 use Rattle.live_run.specs.declared.fault.Fault.{Fault}
 use Rattle.live_run.specs.declared.fault.Fault.TheVariants as Fault'
@@ -10,12 +10,24 @@ use Rattle.live_rings.specs.declared.ending.Ends.{Ends}
 use Rattle.live_rings.specs.declared.ending.EndedRing.{EndedRing}
 use Rattle.live_rings.specs.declared.words.Layout.{Layout}
 use Rattle.live_rings.specs.Making.{server_of}
-use Rattle.live_rings.specs.Groups.{AllBecame}
+use Rattle.histories.specs.Endings.{Ending}
+use Rattle.live_rings.specs.Groups.{AllBecame, AllOfGroups}
+use Rattle.turn_gate.specs.History.{Begins}
+use Rattle.turn_gate.specs.Passes.{number, seen}
+use Rattle.turn_gate.specs.declared.pass.Pass.{Pass}
+use Rattle.perimeter_core.specs.History.{Element, Setting}
+use Rattle.live_server.specs.Told.{Told, told_frames}
+use Rattle.live_chats.specs.Lived.{AreMadeOf, lives, stays_by}
 
 -- what went wrong, where something did
 abbrev pub fault_of : Result (Unit {0}) Fault → Option Fault
 fault_of (Ok x) = None
 fault_of (Err fault) = Some fault
+
+-- However the history goes on of which this pass has seen a beginning: each connection that begins had its own stays in it, with a feed for
+-- its beginning and one for each frame that it heard
+abbrev pub LivedBy : Setting → Pass Element → List Told → Type 0
+LivedBy S p told = (H : List Element) → Begins (seen p) H → AreMadeOf (stays_by S (number p) H) (lives told)
 
 module _ {S K : Type 0} (rest : S → Option (List ℕ)) (reads : S → ℕ) (contents : K → Option (List ℕ)) (faults : K → ℕ) where
   -- A stream was read here and written there, by a server that was set up so. Where nothing of a connection was lost for want of memory, the
@@ -44,6 +56,22 @@ module _ {S K : Type 0} (rest : S → Option (List ℕ)) (reads : S → ℕ) (co
     pub frames : d.fault ≡ Some Fault'.Frames → IfSome (rest e.reader) (λ input. rest_of input ≢ [])
     pub others : d.fault ≢ Some Fault'.Words
 
+  -- and where nothing went wrong, and nothing was lost, all that its frames tell was done at a squeue of this setting by the ring's pass
+  pub record EndedAt (at : Setting) (setup : Layout) (e : Ends S K) (d : EndedRing S K) : Type 0 where
+    pub ended : HasEnded setup e d
+    pub lived : d.fault ≡ None → d.lost ≡ false → IfSome (rest e.reader) (λ input. LivedBy at d.pass.value (told_frames (frames_in input) (server_of setup)))
+
+  -- In the history of an ended squeue, in which it had this number, each connection that begins had its own stays, with a feed for its beginning
+  -- and one for each frame that it heard
+  pub record EndedIn (setup : Layout) (end : Ending) (k : ℕ) (e : Ends S K) (d : EndedRing S K) : Type 0 where
+    pub ended : HasEnded setup e d
+    pub lived : d.fault ≡ None → d.lost ≡ false
+        → IfSome (rest e.reader) (λ input. AreMadeOf (stays_by end.setting k end.history) (lives (told_frames (frames_in input) (server_of setup))))
+
   -- so it is of each stream, by number
   abbrev pub AllEnded : Layout → List (Ends S K) → List (EndedRing S K) → Type 0
   AllEnded setup = AllBecame (HasEnded setup)
+
+  -- and of each stream by its squeue and its number there, in order: these are the squeues' ends
+  abbrev pub AllLived : Layout → List Ending → List (Ends S K) → List (EndedRing S K) → Type 0
+  AllLived setup = AllOfGroups (EndedIn setup)

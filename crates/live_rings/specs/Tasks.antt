@@ -95,6 +95,12 @@ module _ {R P : Type 0} {G : Ghosts R P Chats} (s : Named (Places R P Chats G)) 
   abbrev pub IsReady : {S K : Type 0} → Job (ServerTask S K) → Type 0
   IsReady j = ReadyFor j.task (pass_in j.places.items)
 
+-- what is left of a stream knows the pass that is left
+abbrev pub KnowsPass : {S K : Type 0} → ServerTask S K → Option (Pass Element) → Type 0
+KnowsPass (Task'.Serve ring) o = Unit {0}
+KnowsPass (Task'.Served ended) o = o ≡ Some ended.pass.value
+KnowsPass Task'.Work o = Unit {0}
+
 module _ {R : Type 0} (limits : R → Limits) (s : Named R) where
   -- a pass that may end came of one with its number
   abbrev pub EndedFrom : Option (Pass Element) → Option (Pass Element) → Type 0
@@ -104,4 +110,4 @@ module _ {R : Type 0} (limits : R → Limits) (s : Named R) where
 
   -- the job is done
   abbrev pub Ran : {S K : Type 0} → (Ends S K → EndedRing S K → Type 0) → Job (ServerTask S K) → Job (ServerTask S K) → Type 0
-  Ran P old new = EndedFrom (pass_in old.places.items) (pass_in new.places.items) × HasDone P old.task new.task
+  Ran P old new = EndedFrom (pass_in old.places.items) (pass_in new.places.items) × HasDone P old.task new.task × KnowsPass new.task (pass_in new.places.items)

@@ -5,20 +5,21 @@ ghost use Rattle.live_rings.specs.Groups.{AreGroups, HaveEnded, MayServe, many_i
 
 use std::alloc::{AllocError, Global};
 
-/// What one squeue serves: before it is served, and when all of it has ended. `Short` is where memory was missing for the squeue.
+/// What one squeue serves: before it is served, and when all of it has ended, with what is left of the squeue. `Short` is where memory was
+/// missing for the squeue.
 #[derive(Drop)]
-pub enum Group<B, A> {
+pub enum Group<B, A, Z> {
     Before(Vec<B>),
-    After(Vec<A>),
+    After(Vec<A>, Z),
     Short,
 }
 
 /// Deals these to so many groups, or to fewer where there are fewer of them: in order, and as evenly as may be.
-pub(crate) fn deal<B: Drop, A: Drop>(
+pub(crate) fn deal<B: Drop, A: Drop, Z: Drop>(
     alloc: Global,
     all: Vec<B>,
     squeues: u32,
-) -> Result<Vec<Group<B, A>>, AllocError>
+) -> Result<Vec<Group<B, A, Z>>, AllocError>
     requires { length all.items ≤ 63 }
     ensures groups { IfOk result (λ v. AreGroups all.items v.items) }
     ensures may { IfOk result (λ v. All MayServe v.items) }
@@ -65,24 +66,29 @@ fn take_front<B: Drop>(alloc: Global, all: &mut Vec<B>, size: usize) -> Result<V
     Ok(front)
 }
 
-/// What is left of all groups, by number.
-pub(crate) fn gather_all<B: Drop, A: Drop>(
-    groups: Vec<Group<B, A>>,
+/// What is left of all groups, and of their squeues, by number.
+pub(crate) fn gather_all<B: Drop, A: Drop, Z: Drop>(
+    groups: Vec<Group<B, A, Z>>,
     room: Vec<A>,
-) -> Result<Vec<A>, AllocError>
-    requires { (room.items ≡ []) × (many_in groups.items ≤ vec_capacity room) }
-    ensures { IfOk result (λ v. HaveEnded groups.items v.items) }
+    squeues: Vec<Z>,
+) -> Result<(Vec<A>, Vec<Z>), AllocError>
+    requires room { (room.items ≡ []) × (many_in groups.items ≤ vec_capacity room) }
+    requires squeues { (squeues.items ≡ []) × (length groups.items ≤ vec_capacity squeues) }
+    ensures { IfOk result (λ r. HaveEnded groups.items r.0.items r.1.items) }
 {
     let mut groups = groups;
     let mut all = room;
+    let mut ends = squeues;
     'groups: while let Some(group) = groups.pop() {
-        let Group::After(ended) = group else {
+        let Group::After(ended, end) = group else {
             return Err(AllocError);
         };
         add_all(&mut all, ended);
+        ends.push_reserved(end);
     }
     all.reverse();
-    Ok(all)
+    ends.reverse();
+    Ok((all, ends))
 }
 
 // Adds what is left of a group, the last first.

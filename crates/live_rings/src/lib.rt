@@ -11,6 +11,7 @@
 
 mod ending;
 mod groups;
+pub mod laws;
 mod program;
 mod ring;
 mod ring_squeue;
@@ -18,7 +19,7 @@ mod rings;
 mod seating;
 mod words;
 
-pub use ending::{EndedRing, Ends};
+pub use ending::{EndedRing, EndedRings, Ends};
 pub use program::{asks_for_rings, run_program, setup_by};
 pub use rings::serve_rings;
 pub use words::{Layout, RingWords, rings_asked};

@@ -62,7 +62,7 @@ where
     let setup = setup_of(rt, &asked)?;
     let ends = open_all(rt, &words[front..])?;
     match serve_rings(rt, rt.alloc(), &setup, ends) {
-        Ok(ended) => match first_fault(ended.as_slice()) {
+        Ok(ended) => match first_fault(ended.streams.as_slice()) {
             None => Ok(()),
             Some(fault) => Err(fault),
         },

@@ -1,6 +1,8 @@
 //! A ring: what it has before it serves its stream, and what is left of it; and what the threads of one squeue do.
 
-ghost use Rattle.std.specs.Prelude.{◌≡◌, ℕ, ◌<◌, [], All, length, slice_index_or};
+ghost use Rattle.std.specs.Prelude.{◌≡◌, ℕ, ◌<◌, [], All, false, length, slice_index_or, Some, IfSome, OnOk};
+ghost use Rattle.live_server.specs.Frames.{frames_in};
+ghost use Rattle.live_server.specs.Told.{told_frames};
 ghost use Rattle.turn_gate.specs.Passes.{IsPassOf, number};
 ghost use Rattle.turn_gate.specs.declared.pass.Pass.{Pass};
 ghost use Rattle.perimeter_core.specs.History.{Element, worker as worker_of};
@@ -12,9 +14,9 @@ ghost use Rattle.squeue_serve.specs.Places.{MayClose, MayEnd};
 ghost use Rattle.stream_stays.specs.Places.{Knows, chain_of, touched_of};
 ghost use Rattle.live_chats.specs.Telling.{IsFirst, Tells};
 ghost use Rattle.live_rings.specs.declared.ring.ServerTask.{ServerTask};
-ghost use Rattle.live_rings.specs.Making.{IsInRange};
-ghost use Rattle.live_rings.specs.Served.{HasEnded, HasServed, fault_of};
-ghost use Rattle.live_rings.specs.Tasks.{HasDone, IsReady, MayRun, MayServe, Ran};
+ghost use Rattle.live_rings.specs.Making.{IsInRange, server_of};
+ghost use Rattle.live_rings.specs.Served.{EndedAt, HasServed, LivedBy, fault_of};
+ghost use Rattle.live_rings.specs.Tasks.{HasDone, IsReady, KnowsPass, MayRun, MayServe, Ran};
 
 use crate::ending::{EndedRing, Ends};
 use crate::seating::Parts;
@@ -22,7 +24,7 @@ use crate::words::Layout;
 use live_chats::{Chat, ChatItem, Closes, Seats};
 use live_run::{Fault, serve_stream};
 use live_server::{ConnTable, Rules};
-use perimeter_core::{NoHook, Resident};
+use perimeter_core::{Known, NoHook, Resident};
 use sq_base::{Sink, Source};
 use squeue_drain::worker;
 use squeue_serve::{Job, put_pass, run_each, take_pass};
@@ -61,7 +63,8 @@ pub(crate) fn run_rings<
     requires setup { IsInRange setup.now }
     requires jobs { All (IsReady sq.now) jobs.old }
     ensures { (k : ℕ) (d : Job (ServerTask S K)) → k < length jobs.old
-        → Ran limits_of sq.now (HasEnded S.rest S.read_faults K.contents K.write_faults setup.now) (slice_index_or jobs.old k d) (slice_index_or jobs.new k d) }
+        → Ran limits_of sq.now (EndedAt S.rest S.read_faults K.contents K.write_faults (setting_of limits_of sq.now.given) setup.now)
+        (slice_index_or jobs.old k d) (slice_index_or jobs.new k d) }
 {
     run_each(
         rt,
@@ -69,7 +72,8 @@ pub(crate) fn run_rings<
         &|_, job: &mut Job<ServerTask<S, K>>|
             requires setup { IsInRange setup.now }
             requires job { IsReady sq.now job.now }
-            ensures { Ran limits_of sq.entry.now (HasEnded S.rest S.read_faults K.contents K.write_faults setup.entry.now) job.entry.now job.exit.now }
+            ensures { Ran limits_of sq.entry.now
+                (EndedAt S.rest S.read_faults K.contents K.write_faults (setting_of limits_of sq.entry.now.given) setup.entry.now) job.entry.now job.exit.now }
         { run_job(rt, sq, alloc, setup, job) },
     );
 }
@@ -83,7 +87,7 @@ fn run_job<H: Wait + Drop, S: Source + Drop, K: Sink + Drop, W: Wait>(
 )
     requires setup { IsInRange setup.now }
     requires job { IsReady sq.now job.old }
-    ensures { Ran limits_of sq.now (HasEnded S.rest S.read_faults K.contents K.write_faults setup.now) job.old job.new }
+    ensures { Ran limits_of sq.now (EndedAt S.rest S.read_faults K.contents K.write_faults (setting_of limits_of sq.now.given) setup.now) job.old job.new }
 {
     let pass = take_pass(&mut job.places[0]);
     let pass = run_pass(rt, sq, alloc, setup, pass, &mut job.task);
@@ -101,7 +105,8 @@ fn run_pass<H: Wait + Drop, S: Source + Drop, K: Sink + Drop, W: Wait>(
     requires setup { IsInRange setup.now }
     requires may { MayRun sq.now task.old pass }
     ensures ended { MayEnd limits_of (number pass) sq.now result }
-    ensures done { HasDone (HasEnded S.rest S.read_faults K.contents K.write_faults setup.now) task.old task.new }
+    ensures done { HasDone (EndedAt S.rest S.read_faults K.contents K.write_faults (setting_of limits_of sq.now.given) setup.now) task.old task.new }
+    ensures knows { KnowsPass task.new (Some result) }
 {
     let ServerTask::Serve(ring) = replace(task, ServerTask::Work) else {
         return work(rt, sq, alloc, pass);
@@ -123,7 +128,8 @@ fn serve_ring<H: Wait + Drop, S: Source + Drop, K: Sink + Drop, W: Wait>(
     requires setup { IsInRange setup.now }
     requires may { MayServe sq.now pass ring }
     ensures ended { MayEnd limits_of (number pass) sq.now result.0 }
-    ensures served { HasEnded S.rest S.read_faults K.contents K.write_faults setup.now ring.ends result.1 }
+    ensures served { EndedAt S.rest S.read_faults K.contents K.write_faults (setting_of limits_of sq.now.given) setup.now ring.ends result.1 }
+    ensures knows { result.1.pass.value ≡ result.0 }
 {
     let Ring { ends, stays, free } = ring;
     let Ends {
@@ -143,6 +149,7 @@ fn serve_ring<H: Wait + Drop, S: Source + Drop, K: Sink + Drop, W: Wait>(
     );
     let pass = sq.close_pass(rt, pass);
     let fault = fault_of(served);
+    let last = Known::of(&pass);
     (
         pass,
         EndedRing {
@@ -150,6 +157,7 @@ fn serve_ring<H: Wait + Drop, S: Source + Drop, K: Sink + Drop, W: Wait>(
             sink,
             fault,
             lost,
+            pass: last,
         },
     )
 }
@@ -172,6 +180,8 @@ fn serve_seated<N: Closes, H: Wait + Drop, S: Source, K: Sink, W: Wait>(
     requires none { (chain_of stays ≡ []) × (touched_of stays ≡ []) }
     ensures closes { N.closes result.0 }
     ensures served { HasServed S.rest S.read_faults K.contents K.write_faults setup.now reader.old sink.old reader.new sink.new result.2 result.1 }
+    ensures lived { OnOk result.1 (result.2 ≡ false → IfSome (S.rest reader.old) (λ input.
+        LivedBy (setting_of limits_of sq.now.given) result.0 (told_frames (frames_in input) (server_of setup.now)))) }
 {
     let seats = Seats::<Parts<H>, W, N>::begin(rt, sq, alloc, pass, stays, free, setup.pace());
     let (seats, served, lost) = serve_by(alloc, setup, seats, reader, sink);
@@ -190,6 +200,8 @@ fn serve_by<T: ConnTable, S: Source, K: Sink>(
     requires none { T.conns table ≡ [] }
     ensures good { T.good result.0 }
     ensures served { HasServed S.rest S.read_faults K.contents K.write_faults setup.now reader.old sink.old reader.new sink.new result.2 result.1 }
+    ensures told { OnOk result.1 (result.2 ≡ false → IfSome (S.rest reader.old) (λ input.
+        T.tells table (told_frames (frames_in input) (server_of setup.now)) result.0)) }
 {
     let mut rules = Rules::over(alloc, table, setup.setting, setup.secret);
     let mut lost = false;

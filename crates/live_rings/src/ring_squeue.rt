@@ -1,18 +1,23 @@
 //! The streams of one squeue, from their making to their end.
 
-ghost use Rattle.std.specs.Prelude.{◌≡◌, ◌<◌, ◌≤◌, ◌+◌, ◌*◌, ◌^◌, ◌++◌, ◌∷◌, List, [], All, IfOk, length, vec_capacity};
-ghost use Rattle.turn_gate.specs.Passes.{AreFresh};
+ghost use Rattle.std.specs.Prelude.{◌≡◌, ◌<◌, ◌≤◌, ◌+◌, ◌*◌, ◌^◌, ◌++◌, ◌∷◌, ℕ, List, [], All, IfOk, Some, length, slice_get, vec_capacity};
+ghost use Rattle.turn_gate.specs.History.{Begins};
+ghost use Rattle.turn_gate.specs.Passes.{AreFresh, number, seen};
 ghost use Rattle.placed_parts.specs.Placing.{limits_of, origin_of};
 ghost use Rattle.histories.specs.Elements.{number_of};
+ghost use Rattle.squeue_state.specs.Naming.{setting_of};
 ghost use Rattle.squeue_serve.specs.Lending.{HaveRoom, tasks_in};
 ghost use Rattle.squeue_streams.specs.declared.streams.Stream.{Stream};
 ghost use Rattle.live_chats.specs.declared.item.ChatItem.{ChatItem};
 ghost use Rattle.live_chats.specs.Hearing.{ChatOf};
 ghost use Rattle.live_chats.specs.Telling.{first_of};
 ghost use Rattle.live_rings.specs.declared.ring.ServerTask.{ServerTask};
+ghost use Rattle.live_rings.specs.declared.ring.ServerTask.TheVariants.{Served};
 ghost use Rattle.live_rings.specs.Making.{IsInRange};
 ghost use Rattle.live_rings.specs.Seating.{AreNewPlaces, ServesPlaces};
-ghost use Rattle.live_rings.specs.Served.{AllEnded, HasEnded};
+ghost use Rattle.live_rings.specs.Groups.{AllBecameFrom};
+ghost use Rattle.live_rings.specs.Served.{EndedAt, EndedIn};
+ghost use Rattle.live_rings.specs.declared.ending.EndedRing.{EndedRing};
 ghost use Rattle.live_rings.specs.Tasks.{AreDone, AreNewRings, AreNewTasks, ended_of, tasks_for};
 
 use crate::ending::{EndedRing, Ends};
@@ -22,7 +27,7 @@ use crate::words::Layout;
 use live_chats::{Chat, ChatItem, Chats};
 use sq_base::{Sink, Source};
 use squeue_serve::{Job, Squeues, discard, end_last, jobs_of, lend};
-use squeue_state::{Pass, Squeue};
+use squeue_state::{Ended, Pass, Squeue};
 use std::alloc::{AllocError, Global};
 use std::sync::Wait;
 use std::thread::Threads;
@@ -38,10 +43,10 @@ pub(crate) fn serve_squeue<
     alloc: Global,
     setup: &Layout,
     ends: Vec<Ends<S, K>>,
-) -> Result<Vec<EndedRing<S, K>>, AllocError>
+) -> Result<(Vec<EndedRing<S, K>>, Ended), AllocError>
     requires setup { IsInRange setup.now }
     requires ends { (1 ≤ length ends.items) × (length ends.items ≤ 63) }
-    ensures { IfOk result (λ v. AllEnded S.rest S.read_faults K.contents K.write_faults setup.now ends.items v.items) }
+    ensures { IfOk result (λ r. AllBecameFrom (EndedIn S.rest S.read_faults K.contents K.write_faults setup.now r.1) 0 ends.items r.0.items) }
 {
     let count = ends.len() as u32;
     let own = places_of(setup, count)?;
@@ -56,8 +61,8 @@ pub(crate) fn serve_squeue<
     };
     match new_squeue(alloc, count, parts) {
         Ok((squeue, passes)) => {
-            let jobs = run_to_end(rt, alloc, setup, squeue, passes, jobs, squeues);
-            Ok(gather(jobs, room))
+            let (jobs, end) = run_to_end(rt, alloc, setup, squeue, passes, jobs, squeues);
+            Ok((gather(jobs, room), end))
         }
         Err(error) => {
             discard(jobs);
@@ -141,7 +146,8 @@ fn tasks_of<S: Drop, K: Drop>(
     Ok(tasks)
 }
 
-// Lends a new squeue to the jobs, has them done, and ends it: the jobs, which hold no pass any more.
+// Lends a new squeue to the jobs, has them done, and ends it: the jobs, which hold no pass any more, and the squeue's end. Each ring's pass has
+// seen a beginning of its history.
 fn run_to_end<
     H: Wait + Drop + Sync + Send,
     S: Source + Drop + Send,
@@ -155,26 +161,30 @@ fn run_to_end<
     passes: Vec<Pass>,
     jobs: Vec<Job<ServerTask<S, K>>>,
     squeues: Squeues<Parts<H>>,
-) -> Vec<Job<ServerTask<S, K>>>
+) -> (Vec<Job<ServerTask<S, K>>>, Ended)
     requires setup { IsInRange setup.now }
     requires squeue { ServesPlaces limits_of squeue.given (length squeue.given.quotas) (length (first_of (origin_of squeue.given.first))) }
     requires passes { (length passes.items ≡ length squeue.given.quotas + 1) × AreFresh number_of squeue.gate 0 passes.items }
     requires tasks { AreNewTasks (length squeue.given.quotas) (first_of (origin_of squeue.given.first)) (tasks_in jobs.items) }
     requires jobs { All (λ j. j.places.items ≡ []) jobs.items × HaveRoom 1 jobs.items }
     requires squeues { (squeues.all.items ≡ []) × (squeues.rooms.items ≡ []) × (1 ≤ vec_capacity squeues.all) × (1 ≤ vec_capacity squeues.rooms) }
-    ensures empty { All (λ j. j.places.items ≡ []) result.items }
-    ensures done { AreDone (HasEnded S.rest S.read_faults K.contents K.write_faults setup.now) (tasks_in jobs.items) (tasks_in result.items) }
+    ensures empty { All (λ j. j.places.items ≡ []) result.0.items }
+    ensures setting { result.1.setting ≡ setting_of limits_of squeue.given }
+    ensures seen { (k : ℕ) (d : EndedRing S K) → slice_get (tasks_in result.0.items) k ≡ Some (Served d)
+        → (number d.pass.value ≡ k) × Begins (seen d.pass.value) result.1.history }
+    ensures done { AreDone (EndedAt S.rest S.read_faults K.contents K.write_faults (setting_of limits_of squeue.given) setup.now)
+        (tasks_in jobs.items) (tasks_in result.0.items) }
 {
     let mut jobs = jobs;
     let mut squeues = squeues;
     let count = jobs.len() - 1;
     lend(&mut squeues, &mut jobs, 0, count, squeue, passes);
     run_rings(rt, &squeues.all[0], alloc, setup, &mut jobs);
-    let Some((_parts, _ended, _trace)) = end_last(&mut squeues, &mut jobs, 0, count) else {
+    let Some((_parts, end, _trace)) = end_last(&mut squeues, &mut jobs, 0, count) else {
         unreachable!()
     };
     squeues.destroy_empty();
-    jobs
+    (jobs, end)
 }
 
 // Takes apart jobs that hold no pass: what is left of each stream, by number.

@@ -6,6 +6,7 @@ ghost use Rattle.sq_base.specs.Ends.{Rose};
 ghost use Rattle.live_server.specs.Frames.{answers, frames_in, is_broken, rest_of, serves_frames};
 ghost use Rattle.live_server.specs.Limits.{frame_head};
 ghost use Rattle.live_server.specs.Serving.{server_of};
+ghost use Rattle.live_server.specs.Told.{told_frames};
 ghost use Rattle.live_run.specs.Fronts.{AppendsFront};
 
 use crate::fault::Fault;
@@ -53,6 +54,8 @@ pub fn serve_stream<T: ConnTable, S: Source, K: Sink>(
     ensures stops { goes_on ≡ false → lost.new ≡ lost.old }
     ensures written { OnOk result (lost.new ≡ false
         → IfSome (S.rest source.old) (λ input. Appends (K.contents sink.old) (K.contents sink.new) (answers input (server_of T.conns rules.old)))) }
+    ensures told { OnOk result (lost.new ≡ false
+        → IfSome (S.rest source.old) (λ input. T.tells rules.old.table (told_frames (frames_in input) (server_of T.conns rules.old)) rules.new.table)) }
     ensures whole { OnOk result (IfSome (S.rest source.old) (λ input. rest_of input ≡ [])) }
     ensures front { lost.new ≡ false → IfSome (S.rest source.old)
         (λ input. AppendsFront (K.contents sink.old) (K.contents sink.new) (answers input (server_of T.conns rules.old))) }
@@ -84,6 +87,8 @@ fn serve_pieces<T: ConnTable, S: Source, K: Sink>(
     ensures stops { goes_on ≡ false → lost.new ≡ lost.old }
     ensures written { OnOk result (lost.new ≡ false
         → IfSome (S.rest source.old) (λ input. Appends (K.contents sink.old) (K.contents sink.new) (answers input (server_of T.conns rules.old)))) }
+    ensures told { OnOk result (lost.new ≡ false
+        → IfSome (S.rest source.old) (λ input. T.tells rules.old.table (told_frames (frames_in input) (server_of T.conns rules.old)) rules.new.table)) }
     ensures whole { OnOk result (IfSome (S.rest source.old) (λ input. rest_of input ≡ [])) }
     ensures front { lost.new ≡ false → IfSome (S.rest source.old)
         (λ input. AppendsFront (K.contents sink.old) (K.contents sink.new) (answers input (server_of T.conns rules.old))) }
@@ -134,6 +139,8 @@ fn serve_piece<T: ConnTable, K: Sink>(
         ≡ (serves_frames (frames_in (pending.old.items ++ piece.now)) (server_of T.conns rules.old)).server) }
     ensures written { OnOk result (lost.new ≡ false
         → Appends (K.contents sink.old) (K.contents sink.new) (answers (pending.old.items ++ piece.now) (server_of T.conns rules.old))) }
+    ensures told { OnOk result (lost.new ≡ false
+        → T.tells rules.old.table (told_frames (frames_in (pending.old.items ++ piece.now)) (server_of T.conns rules.old)) rules.new.table) }
     ensures left { OnOk result (pending.new.items ≡ rest_of (pending.old.items ++ piece.now)) }
     ensures kept { OnOk result (K.write_faults sink.new ≡ K.write_faults sink.old) }
     ensures front { OnErr result (lost.new ≡ false → AppendsFront (K.contents sink.old) (K.contents sink.new)

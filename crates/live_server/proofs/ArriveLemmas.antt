@@ -13,6 +13,8 @@ use Rattle.live_server.specs.Initial.{number_for}
 use Rattle.live_server.specs.Isolation.{KeepsStart, LosesOne}
 use Rattle.live_server.specs.Serving.{Outcome, ServerOf, arrives, becomes, comes, fits, gives_way, goes_on, has_place, heeds, holding, is_waiting, judging, makes_place, on_segment, opens, overfull, sends_nothing, served, time_to, without_text, yielding, yields, yields_at}
 use Rattle.live_server.specs.Table.{Conns, conn_at, place_of, reached_until, replaced, settled, tuple_eq, without, IsNew}
+use Rattle.live_server.specs.Told.{Told, told_arriving, told_coming, told_its_own, told_opening, told_segment}
+use Rattle.live_server.specs.Told.Told.{hears}
 use Rattle.live_server.specs.declared.acting.Datagram.{Datagram}
 use Rattle.live_server.specs.declared.conn.Conn.{Conn}
 use Rattle.live_server.specs.declared.conn.Judged.{Judged}
@@ -27,6 +29,10 @@ use Rattle.live_server.proofs.TableLemmas.{conn_written, place_written, within_a
 pub map_ok : {X E : Type 0} (r : Result X E) (P Q : Type 0) → (P → Q) → OnOk r P → OnOk r Q
 map_ok (Ok x) P Q f h = f h
 map_ok (Err e) P Q f h = tt
+
+pub on_ok : {X E : Type 0} (r : Result X E) (P : Type 0) → P → OnOk r P
+on_ok (Ok x) P p = p
+on_ok (Err e) P p = tt
 
 -- what is noted for good wasn't noted before, where it isn't now
 pub not_yet : (was is : Bool) → (was ≡ true → is ≡ true) → is ≡ false → was ≡ false
@@ -56,6 +62,10 @@ module _ (now : ℕ) (s : Seg) (text : List ℕ) (sv : ServerOf) where
   unfolding comes
   came_by r at = ap (λ o. option_map_or (λ i. goes_on now s text i sv) o (opens now s text sv)) at
 
+  told_came_by : (r : Option ℕ) → place_of (tuple_of s) sv.conns ≡ r → told_coming now s text sv ≡ option_map_or (λ (i : ℕ). []) r (told_opening now s text sv)
+  unfolding told_coming
+  told_came_by r at = ap (λ o. option_map_or (λ (i : ℕ). []) o (told_opening now s text sv)) at
+
   -- nobody has these ends
   module _ (none : place_of (tuple_of s) sv.conns ≡ None) where
     pub opens_server : (opens now s text sv).server ≡ (arrives now s text sv).server
@@ -65,6 +75,12 @@ module _ (now : ℕ) (s : Seg) (text : List ℕ) (sv : ServerOf) where
     pub opens_sent : (opens now s text sv).sent ≡ (arrives now s text sv).sent
     unfolding arrives
     opens_sent = sym (ap (λ (o : Outcome). o.sent ++ (comes now s text o.server).sent) (timed_by now (tuple_of s) sv None none) ∙ ap (λ (o : Outcome). o.sent) (came_by None none))
+
+    pub opens_told : told_opening now s text sv ≡ told_arriving now s text sv
+    unfolding told_arriving
+    opens_told =
+        sym ((λ j. option_map_or (λ (i : ℕ). hears (tuple_of s) ∷ []) (none j) [] ++ told_coming now s text (timed_by now (tuple_of s) sv None none j).server)
+        ∙ told_came_by None none)
 
 -- ---- the connection at a place meets it
 module _ (now : ℕ) (s : Seg) (text : List ℕ) (sv : ServerOf) (i : ℕ) (at : place_of (tuple_of s) sv.conns ≡ Some i) where
@@ -115,6 +131,10 @@ module _ (now : ℕ) (s : Seg) (text : List ℕ) (sv : ServerOf) (i : ℕ) (at :
   unfolding arrives
   arrives_sent = λ j. time_sent j ++ (comes now s text (time_server j)).sent
 
+  arrives_told : told_arriving now s text sv ≡ hears t ∷ told_coming now s text timed
+  unfolding told_arriving
+  arrives_told = λ j. option_map_or (λ (x : ℕ). hears t ∷ []) (at j) [] ++ told_coming now s text (time_server j)
+
   -- where it goes on
   module _ (whole : is_over r ≡ false) where
     abbrev here : Conns
@@ -164,6 +184,9 @@ module _ (now : ℕ) (s : Seg) (text : List ℕ) (sv : ServerOf) (i : ℕ) (at :
     told_on : m.sent ≡ (arrives now s text sv).sent
     told_on = ap (λ (x : Meeting). x.sent) (met_by false whole) ∙ sym (arrives_sent ∙ ap (λ (o : Outcome). sent_by t r ++ o.sent) (goes ∙ goes_is) ∙ ap (λ l. sent_by t r ++ l) went_sent)
 
+    heard_on : hears t ∷ [] ≡ told_arriving now s text sv
+    heard_on = sym (arrives_told ∙ ap (λ ws. hears t ∷ ws) (ap (told_coming now s text) there ∙ told_came_by now s text (record sv { conns = here }) (Some i) again))
+
   is_whole : (j : Judged) → judges j ≡ m.met → (b : Bool) → is_over r ≡ b → is_over r ≡ false
   is_whole j met false e = e
   is_whole j met true e = absurd (true≢false (ap is_judged (met ∙ ap (λ (x : Meeting). x.met) (met_by true e))))
@@ -177,6 +200,9 @@ module _ (now : ℕ) (s : Seg) (text : List ℕ) (sv : ServerOf) (i : ℕ) (at :
 
   pub judged_sent : (j : Judged) → judges j ≡ m.met → (start told : List Datagram) → told ≡ start ++ m.sent → told ≡ start ++ (arrives now s text sv).sent
   judged_sent j met start told is = is ∙ ap (λ l. start ++ l) (told_on (is_whole j met (is_over r) refl))
+
+  pub judged_told : (j : Judged) → judges j ≡ m.met → hears t ∷ [] ≡ told_arriving now s text sv
+  judged_told j met = heard_on (is_whole j met (is_over r) refl)
 
   -- where the time ended it, the segment opens a new one
   module _ (met : Gone ≡ m.met) (after : ServerOf) (table : after ≡ record sv { conns = replaced i m.conn sv.conns }) where
@@ -194,6 +220,11 @@ module _ (now : ℕ) (s : Seg) (text : List ℕ) (sv : ServerOf) (i : ℕ) (at :
 
       pub gone_server : (opens now s text after).server ≡ (arrives now s text sv).server
       gone_server = ap (λ (o : Outcome). o.server) opens_there ∙ sym arrives_server
+
+      pub gone_told : hears t ∷ told_opening now s text after ≡ told_arriving now s text sv
+      gone_told =
+          ap (λ ws. hears t ∷ ws) (sym (told_came_by now s text after None (no_place t after.conns new)) ∙ ap (told_coming now s text) (gone_in_time ∙ time_server))
+          ∙ sym arrives_told
 
       pub gone_sent : (start mid told : List Datagram) → mid ≡ start ++ m.sent → told ≡ mid ++ (opens now s text after).sent → told ≡ start ++ (arrives now s text sv).sent
       gone_sent start mid told first last =
@@ -270,6 +301,29 @@ module _ (now : ℕ) (s : Seg) (text : List ℕ) (sv before : ServerOf) where
       ap (λ (x : ServerOf). (time_to now (tuple_of s) x).sent ++ (comes now (without_text s) [] (time_to now (tuple_of s) x).server).sent) is
       ∙ ap (λ (o : Outcome). o.sent ++ (comes now (without_text s) [] o.server).sent) (full_in_time now (tuple_of s) text sv (place_of (tuple_of s) sv.conns) refl)
       ∙ sym (segment_sent_by false e)
+
+  abbrev told_heeding : Bool → List Told
+  told_heeding b = told_coming now (cond b s (without_text s)) (cond b text []) (cond b (holding text first.server) (overfull first.server))
+
+  segment_told_by : (b : Bool) → fits text sv ≡ b → told_segment now s text sv ≡ told_its_own (tuple_of s) sv ++ told_heeding b
+  unfolding told_segment
+  segment_told_by b e = ap (λ v. told_its_own (tuple_of s) sv ++ told_heeding v) (fits_in_time now (tuple_of s) text sv (place_of (tuple_of s) sv.conns) refl ∙ e)
+
+  pub held_told : fits text sv ≡ true → before ≡ holding text sv → told_arriving now s text before ≡ told_segment now s text sv
+  unfolding told_arriving
+  held_told e is =
+      ap (λ (x : ServerOf). told_its_own (tuple_of s) x ++ told_coming now s text (time_to now (tuple_of s) x).server) is
+      ∙ ap (λ (o : Outcome). told_its_own (tuple_of s) sv ++ told_coming now s text o.server)
+      (held_in_time now (tuple_of s) text sv (place_of (tuple_of s) sv.conns) refl)
+      ∙ sym (segment_told_by true e)
+
+  pub full_told : fits text sv ≡ false → before ≡ overfull sv → told_arriving now (without_text s) [] before ≡ told_segment now s text sv
+  unfolding told_arriving
+  full_told e is =
+      ap (λ (x : ServerOf). told_its_own (tuple_of s) x ++ told_coming now (without_text s) [] (time_to now (tuple_of s) x).server) is
+      ∙ ap (λ (o : Outcome). told_its_own (tuple_of s) sv ++ told_coming now (without_text s) [] o.server)
+      (full_in_time now (tuple_of s) text sv (place_of (tuple_of s) sv.conns) refl)
+      ∙ sym (segment_told_by false e)
 
 -- ---- what a server was started with stays where some give way
 start_on : (a b c : ServerOf) → KeepsStart a b → KeepsStart b c → KeepsStart a c

@@ -15,3 +15,4 @@ pub mod LossLemmas
 pub mod ArriveLemmas
 pub mod FrameLemmas
 pub mod PieceLemmas
+pub mod ToldLemmas

@@ -12,3 +12,4 @@ pub mod Facts
 pub mod Serving
 pub mod Isolation
 pub mod Frames
+pub mod Told

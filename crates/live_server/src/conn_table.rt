@@ -1,12 +1,15 @@
 //! What the rules of a server ask of the table that keeps its connections.
 
-ghost use Rattle.std.specs.Prelude.{◌≡◌, ℕ, ◌++◌, ◌<◌, ◌≤◌, [], ◌∷◌, length, Some, IfOk, OnErr, OnOk};
+ghost use Rattle.std.specs.Prelude.{◌≡◌, ℕ, List, ◌++◌, ◌<◌, ◌≤◌, [], ◌∷◌, length, map, Some, IfOk, OnErr, OnOk};
 ghost use Rattle.std.specs.List.{flat_map};
+ghost use Rattle.std.specs.Map.{keys_of};
 ghost use Rattle.tcb_machine.specs.Limits.{last_time};
 ghost use Rattle.live_server.specs.Acts.{emptied, meets, reached, sent_by};
 ghost use Rattle.live_server.specs.Leaving.{without_leaving};
 ghost use Rattle.live_server.specs.Serving.{is_waiting};
 ghost use Rattle.live_server.specs.Table.{Conns, all_reached, conn_at, held_by, place_of, replaced, without, without_over, IsNew};
+ghost use Rattle.live_server.specs.Told.{Told};
+ghost use Rattle.live_server.specs.Told.Told.{begins, hears};
 ghost use Rattle.live_server.specs.declared.conn.Met.TheVariants.{Gone};
 
 use crate::acting::Datagram;
@@ -27,6 +30,9 @@ pub trait ConnTable {
 
     /// What a time leaves where memory was missing, of the connections that there were.
     ghost spoils: { ℕ → Conns → Conns → Type 0 };
+
+    /// What the table's connections were told between two moments, one after another.
+    ghost tells: { Self → List Told → Self → Type 0 };
 
     /// How many connections there are.
     fn len(&self) -> usize
@@ -55,6 +61,7 @@ pub trait ConnTable {
         requires sent { emptied conn ≡ conn }
         ensures good { good self.new }
         ensures put { OnOk result (conns self.new ≡ conns self.old ++ (ends, conn) ∷ []) }
+        ensures told { OnOk result (tells self.old (begins ends ∷ []) self.new) }
         ensures kept { OnErr result (conns self.new ≡ conns self.old) };
 
     /// The connection at a place leaves; the last one takes its place.
@@ -62,6 +69,7 @@ pub trait ConnTable {
         requires good { good self.old }
         requires place { place < length (conns self.old) }
         ensures good { good self.new }
+        ensures told { tells self.old [] self.new }
         ensures table { conns self.new ≡ without place (conns self.old) };
 
     /// A segment comes to the connection at a place, behind the time. The connection leaves where it is over, or where memory is
@@ -85,6 +93,7 @@ pub trait ConnTable {
         ensures table { OnOk result (conns self.new
             ≡ replaced place (meets now iss seg.now text.now tuple.now (conn_at place (conns self.old))).conn (conns self.old)) }
         ensures sent { OnOk result (out.new.items ≡ out.old.items ++ (meets now iss seg.now text.now tuple.now (conn_at place (conns self.old))).sent) }
+        ensures told { OnOk result (tells self.old (hears tuple.now ∷ []) self.new) }
         ensures gone { IfOk result (λ m. m ≡ Gone → IsNew tuple.now (conns self.new)) }
         ensures lost { OnErr result (conns self.new ≡ without place (conns self.old)) };
 
@@ -100,17 +109,25 @@ pub trait ConnTable {
         ensures good { good self.new }
         ensures table { OnOk result (conns self.new ≡ all_reached now (conns self.old)) }
         ensures sent { OnOk result (out.new.items ≡ out.old.items ++ flat_map (λ c. sent_by c.0 (reached now c.1)) (conns self.old)) }
+        ensures told { OnOk result (tells self.old (map hears (keys_of (conns self.old))) self.new) }
         ensures lost { OnErr result (spoils now (conns self.old) (conns self.new)) };
 
     /// All leave that are over.
     fn drop_over(&mut self, alloc: Global)
         requires good { good self.old }
         ensures good { good self.new }
+        ensures told { tells self.old [] self.new }
         ensures table { conns self.new ≡ without_over (conns self.old) };
 
     /// All leave that are to leave at a tick.
     fn drop_leaving(&mut self, alloc: Global, setting: &Setting, now: u64)
         requires good { good self.old }
         ensures good { good self.new }
+        ensures told { tells self.old [] self.new }
         ensures table { conns self.new ≡ without_leaving setting.now now (conns self.old) };
+
+    // Between a moment and itself nothing is told, and what is told later comes behind.
+    ghost tells_nothing: { (a : Self) → tells a [] a };
+
+    ghost tells_on: { (a b c : Self) (first then : List Told) → tells a first b → tells b then c → tells a (first ++ then) c };
 }

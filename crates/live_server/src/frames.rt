@@ -5,6 +5,7 @@ ghost use Rattle.std.specs.List.{flat_map};
 ghost use Rattle.live_server.specs.Frames.{answers, body_size, frame_at, frame_of, frames_in, is_broken, is_end, on_frame, rest_of, serves_frames, time_of};
 ghost use Rattle.live_server.specs.Limits.{frame_head, most_body};
 ghost use Rattle.live_server.specs.Serving.{server_of};
+ghost use Rattle.live_server.specs.Told.{told_frame, told_frames};
 ghost use Rattle.tcb_machine.specs.Limits.{last_time};
 
 use crate::acting::Datagram;
@@ -55,6 +56,8 @@ pub fn serve_by_rules<'a, T: ConnTable>(
     ensures server { OnOk result (lost.new ≡ false
         → server_of T.conns rules.new ≡ (serves_frames (frames_in bytes.now) (server_of T.conns rules.old)).server) }
     ensures sent { OnOk result (lost.new ≡ false → out.new.items ≡ out.old.items ++ answers bytes.now (server_of T.conns rules.old)) }
+    ensures told { OnOk result (lost.new ≡ false
+        → T.tells rules.old.table (told_frames (frames_in bytes.now) (server_of T.conns rules.old)) rules.new.table) }
     ensures rest { IfOk result (λ rest. rest.now ≡ rest_of bytes.now) }
     ensures ended { IfOk result (λ rest. is_end rest.now ≡ true) }
 {
@@ -125,6 +128,7 @@ fn serve_next<T: ConnTable>(
     ensures server { OnOk result (lost.new ≡ false → server_of T.conns rules.new ≡ (on_frame (frame_at rest.now) (server_of T.conns rules.old)).server) }
     ensures sent { OnOk result (lost.new ≡ false
         → out.new.items ≡ out.old.items ++ flat_map frame_of (on_frame (frame_at rest.now) (server_of T.conns rules.old)).sent) }
+    ensures told { OnOk result (lost.new ≡ false → T.tells rules.old.table (told_frame (frame_at rest.now) (server_of T.conns rules.old)) rules.new.table) }
 {
     let whole = out.len();
     match serve_front(rules, alloc, rest, out) {
@@ -152,6 +156,7 @@ fn serve_front<T: ConnTable>(
     ensures good { T.good rules.new.table }
     ensures server { OnOk result (server_of T.conns rules.new ≡ (on_frame (frame_at rest.now) (server_of T.conns rules.old)).server) }
     ensures sent { OnOk result (out.new.items ≡ out.old.items ++ flat_map frame_of (on_frame (frame_at rest.now) (server_of T.conns rules.old)).sent) }
+    ensures told { OnOk result (T.tells rules.old.table (told_frame (frame_at rest.now) (server_of T.conns rules.old)) rules.new.table) }
 {
     let (_, behind) = rest.split_at(FRAME_HEAD);
     let (body, _) = behind.split_at(body_size(rest));
@@ -175,6 +180,7 @@ fn serve_frame<T: ConnTable>(
     ensures good { T.good rules.new.table }
     ensures server { OnOk result (server_of T.conns rules.new ≡ (on_frame (record { at = at; body = body.now }) (server_of T.conns rules.old)).server) }
     ensures sent { OnOk result (sent.new.items ≡ sent.old.items ++ (on_frame (record { at = at; body = body.now }) (server_of T.conns rules.old)).sent) }
+    ensures told { OnOk result (T.tells rules.old.table (told_frame (record { at = at; body = body.now }) (server_of T.conns rules.old)) rules.new.table) }
 {
     if body.is_empty() {
         rules.tick(alloc, at, sent)

@@ -12,6 +12,7 @@ ghost use Rattle.live_server.specs.Isolation.{Costs, KeepsStart, Loses};
 ghost use Rattle.live_server.specs.Serving.{addressed, arrives, fits, has_place, limited, makes_place, on_datagram, on_segment};
 ghost use Rattle.live_server.specs.Serving.{on_time, opens, refused, server_of, takes_place, without_text, yields};
 ghost use Rattle.live_server.specs.Table.{place_of, IsNew};
+ghost use Rattle.live_server.specs.Told.{told_addressed, told_arriving, told_datagram, told_opening, told_segment, told_taking, told_time};
 
 use crate::acting::{Datagram, encoded, text_of};
 use crate::addresses::is_for_us;
@@ -104,6 +105,7 @@ impl<T: ConnTable> Rules<T> {
         ensures good { T.good self.new.table }
         ensures server { OnOk result (server_of T.conns self.new ≡ (on_datagram now body.now (server_of T.conns self.old)).server) }
         ensures sent { OnOk result (out.new.items ≡ out.old.items ++ (on_datagram now body.now (server_of T.conns self.old)).sent) }
+        ensures told { OnOk result (T.tells self.old.table (told_datagram now body.now (server_of T.conns self.old)) self.new.table) }
         ensures lost { OnErr result ((s : Seg) × (packet_in RawIp body.now true ≡ Packet.Segment s)
             × Costs s (server_of T.conns self.old) (server_of T.conns self.new)) }
         ensures start { OnErr result (KeepsStart (server_of T.conns self.old) (server_of T.conns self.new)) }
@@ -133,6 +135,7 @@ impl<T: ConnTable> Rules<T> {
         ensures good { T.good self.new.table }
         ensures server { OnOk result (server_of T.conns self.new ≡ (on_time now (server_of T.conns self.old)).server) }
         ensures sent { OnOk result (out.new.items ≡ out.old.items ++ (on_time now (server_of T.conns self.old)).sent) }
+        ensures told { OnOk result (T.tells self.old.table (told_time (server_of T.conns self.old)) self.new.table) }
         ensures lost { OnErr result (T.spoils now (T.conns self.old.table) (T.conns self.new.table)) }
         ensures rest { OnErr result (server_of T.conns self.new ≡ record (server_of T.conns self.old) { conns = T.conns self.new.table }) }
     {
@@ -161,6 +164,7 @@ impl<T: ConnTable> Rules<T> {
         ensures good { T.good self.new.table }
         ensures server { OnOk result (server_of T.conns self.new ≡ (addressed now seg.now text.now (server_of T.conns self.old)).server) }
         ensures sent { OnOk result (out.new.items ≡ out.old.items ++ (addressed now seg.now text.now (server_of T.conns self.old)).sent) }
+        ensures told { OnOk result (T.tells self.old.table (told_addressed now seg.now text.now (server_of T.conns self.old)) self.new.table) }
         ensures lost { OnErr result (Costs seg.now (server_of T.conns self.old) (server_of T.conns self.new)) }
         ensures start { OnErr result (KeepsStart (server_of T.conns self.old) (server_of T.conns self.new)) }
     {
@@ -189,6 +193,7 @@ impl<T: ConnTable> Rules<T> {
         ensures good { T.good self.new.table }
         ensures server { OnOk result (server_of T.conns self.new ≡ (on_segment now seg.now text.now (server_of T.conns self.old)).server) }
         ensures sent { OnOk result (out.new.items ≡ out.old.items ++ (on_segment now seg.now text.now (server_of T.conns self.old)).sent) }
+        ensures told { OnOk result (T.tells self.old.table (told_segment now seg.now text.now (server_of T.conns self.old)) self.new.table) }
         ensures lost { OnErr result (Loses (tuple_of seg.now) (server_of T.conns self.old) (server_of T.conns self.new)) }
         ensures start { OnErr result (KeepsStart (server_of T.conns self.old) (server_of T.conns self.new)) }
     {
@@ -223,6 +228,7 @@ impl<T: ConnTable> Rules<T> {
         ensures good { T.good self.new.table }
         ensures server { OnOk result (server_of T.conns self.new ≡ (arrives now seg.now text.now (server_of T.conns self.old)).server) }
         ensures sent { OnOk result (out.new.items ≡ out.old.items ++ (arrives now seg.now text.now (server_of T.conns self.old)).sent) }
+        ensures told { OnOk result (T.tells self.old.table (told_arriving now seg.now text.now (server_of T.conns self.old)) self.new.table) }
         ensures lost { OnErr result (Loses (tuple_of seg.now) (server_of T.conns self.old) (server_of T.conns self.new)) }
         ensures start { OnErr result (KeepsStart (server_of T.conns self.old) (server_of T.conns self.new)) }
     {
@@ -248,6 +254,7 @@ impl<T: ConnTable> Rules<T> {
         ensures good { T.good self.new.table }
         ensures server { OnOk result (server_of T.conns self.new ≡ (arrives now seg.now text.now (server_of T.conns self.old)).server) }
         ensures sent { OnOk result (out.new.items ≡ out.old.items ++ (arrives now seg.now text.now (server_of T.conns self.old)).sent) }
+        ensures told { OnOk result (T.tells self.old.table (told_arriving now seg.now text.now (server_of T.conns self.old)) self.new.table) }
         ensures lost { OnErr result (Loses (tuple_of seg.now) (server_of T.conns self.old) (server_of T.conns self.new)) }
         ensures start { OnErr result (KeepsStart (server_of T.conns self.old) (server_of T.conns self.new)) }
     {
@@ -281,6 +288,7 @@ impl<T: ConnTable> Rules<T> {
         ensures good { T.good self.new.table }
         ensures server { OnOk result (server_of T.conns self.new ≡ (opens now seg.now text.now (server_of T.conns self.old)).server) }
         ensures sent { OnOk result (out.new.items ≡ out.old.items ++ (opens now seg.now text.now (server_of T.conns self.old)).sent) }
+        ensures told { OnOk result (T.tells self.old.table (told_opening now seg.now text.now (server_of T.conns self.old)) self.new.table) }
         ensures lost { OnErr result (Loses (tuple_of seg.now) (server_of T.conns self.old) (server_of T.conns self.new)) }
         ensures start { OnErr result (KeepsStart (server_of T.conns self.old) (server_of T.conns self.new)) }
     {
@@ -297,7 +305,7 @@ impl<T: ConnTable> Rules<T> {
     }
 
     /// A connection takes a place, where one is free.
-    #[tactic(auto, unfolding(crate::specs::Serving::takes_place))]
+    #[tactic(auto, unfolding(crate::specs::Serving::takes_place, crate::specs::Told::told_taking))]
     fn take_place(
         &mut self,
         alloc: Global,
@@ -310,6 +318,7 @@ impl<T: ConnTable> Rules<T> {
         ensures good { T.good self.new.table }
         ensures server { OnOk result (server_of T.conns self.new ≡ (takes_place tuple conn (server_of T.conns self.old)).server) }
         ensures sent { OnOk result (out.new.items ≡ out.old.items ++ (takes_place tuple conn (server_of T.conns self.old)).sent) }
+        ensures told { OnOk result (T.tells self.old.table (told_taking tuple (server_of T.conns self.old)) self.new.table) }
         ensures lost { OnErr result (Loses tuple (server_of T.conns self.old) (server_of T.conns self.new)) }
         ensures start { OnErr result (KeepsStart (server_of T.conns self.old) (server_of T.conns self.new)) }
     {
@@ -331,6 +340,7 @@ impl<T: ConnTable> Rules<T> {
         requires good { T.good self.old.table }
         ensures good { T.good self.new.table }
         ensures place { server_of T.conns self.new ≡ makes_place (server_of T.conns self.old) }
+        ensures told { T.tells self.old.table [] self.new.table }
         ensures new { (t : Tuple) → IsNew t (T.conns self.old.table) → IsNew t (T.conns self.new.table) }
     {
         'yielding: while !self.has_place() {
@@ -356,6 +366,7 @@ impl<T: ConnTable> Rules<T> {
         requires good { T.good self.old.table }
         ensures good { T.good self.new.table }
         ensures yields { server_of T.conns self.new ≡ yields waiting.now (server_of T.conns self.old) }
+        ensures told { T.tells self.old.table [] self.new.table }
         ensures new { (t : Tuple) → IsNew t (T.conns self.old.table) → IsNew t (T.conns self.new.table) }
     {
         if let Some(place) = self.table.find(&waiting.0) {

@@ -34,6 +34,9 @@ impl ConnTable for Table {
     // The connection at which memory was missing left, and those behind it are as they were.
     ghost spoils = { λ now was is. (i : ℕ) × (i < length was) × (is ≡ without i (reached_until now i was)) };
 
+    // A map alone tells nobody.
+    ghost tells = { λ _ _ _. Unit {0} };
+
     fn len(&self) -> usize {
         self.len()
     }
@@ -89,6 +92,10 @@ impl ConnTable for Table {
     fn drop_leaving(&mut self, alloc: Global, setting: &Setting, now: u64) {
         drop_leaving(self, setting, now);
     }
+
+    ghost tells_nothing = { λ a. tt };
+
+    ghost tells_on = { λ a b c first then told more. tt };
 }
 
 /// The connection at a place leaves; the last one takes its place.

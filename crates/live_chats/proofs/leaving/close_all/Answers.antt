@@ -1,13 +1,14 @@
 use Rattle.std.proofs.Common.{◌≤◌, ◌∙◌, inl, length, refl, arith}
 use Rattle.placed_parts.specs.Placing.{limits_of, origin_of}
 use Rattle.live_chats.specs.Seating.{goes}
-use Rattle.live_chats.proofs.ClosingLemmas.{closed_conns, closed_seats, closing_at_first, closing_on, closing_pays}
+use Rattle.live_chats.proofs.ClosingLemmas.{closed_conns, closed_seats, closing_at_first, closing_on, closing_pays, told_closed, told_closing}
+use Rattle.live_chats.proofs.SeatLemmas.{seats_untold}
 use Rattle.live_chats.proofs.leaving.close_all.Goals as goal
 
 pub loop-i-init : goal.loop-i-init
 loop-i-init g c =
     let s = c.args.line.now.squeue.now in
-    record { closing = closing_at_first limits_of s (origin_of s.given.first) (goes c.args.who.now) c.args.pass c.args.stays.now c.args.seats.now.entries c.requires; number = refl; all = c.len-i-end.ensures.len }
+    record { closing = closing_at_first limits_of s (origin_of s.given.first) (goes c.args.who.now) c.args.pass c.args.stays.now c.args.seats.now.entries c.requires; told = seats_untold limits_of s c.args.pass c.args.stays.now c.args.seats.now.entries; number = refl; all = c.len-i-end.ensures.len }
 
 pub seat_at-seat-requires : goal.seat_at-seat-requires
 seat_at-seat-requires g c = omega (arith, c.loop-i.invariant.all, c.loop-i-test.true)
@@ -37,6 +38,8 @@ loop-i-preserved g c =
       closing =
           closing_on limits_of s (origin_of s.given.first) (goes c.args.who.now) c.loop-i.pass c.close_one-pass.result c.args.stays.now c.loop-i.stays c.close_one-pass.new.stays c.args.seats.now.entries c.loop-i.i (e.0, c.seat_at-seat.result) e.1
           i.closing one.settled one.same one.others one.spent;
+      told = told_closing limits_of s (origin_of s.given.first) (goes c.args.who.now) c.args.pass c.loop-i.pass c.close_one-pass.result c.args.stays.now c.loop-i.stays
+          c.args.seats.now.entries c.loop-i.i (e.0, c.seat_at-seat.result) e.1 i.closing i.number i.told one.passed one.ended;
       number = one.number ∙ i.number;
       all = i.all;
     }
@@ -52,3 +55,10 @@ returns-clause-table g c =
     let s = c.args.line.now.squeue.now in
     let past : length c.args.seats.now.entries ≤ c.loop-i.i = omega (arith, c.loop-i.invariant.all, c.loop-i-test.false) in
     closed_conns limits_of s (origin_of s.given.first) (goes c.args.who.now) c.loop-i.pass c.args.stays.now c.loop-i.stays c.args.seats.now.entries c.loop-i.i c.loop-i.invariant.closing past c.requires.seated
+
+pub returns-clause-told : goal.returns-clause-told
+returns-clause-told g c =
+    let s = c.args.line.now.squeue.now in
+    let past : length c.args.seats.now.entries ≤ c.loop-i.i = omega (arith, c.loop-i.invariant.all, c.loop-i-test.false) in
+    told_closed limits_of s (origin_of s.given.first) (goes c.args.who.now) c.args.pass c.loop-i.pass c.args.stays.now c.loop-i.stays c.args.seats.now.entries c.loop-i.i
+    c.loop-i.invariant.closing past c.loop-i.invariant.told

@@ -7,10 +7,11 @@ use Rattle.live_rings.proofs.groups.gather_all.Given as goal
 -- the groups from some number on are taken apart, and this is left of their streams
 abbrev pub invariant-groups : goal.invariant-groups
 invariant-groups g l = record {
-  gone : List (Group g.row.B.Denot g.row.A.Denot);
+  gone : List (Group g.row.B.Denot g.row.A.Denot g.row.Z.Denot);
   all : l.fn.groups.items ≡ l.groups.items ++ gone;
-  ended : HaveEnded gone (reverse l.all.items);
+  ended : HaveEnded gone (reverse l.all.items) (reverse l.ends.items);
   room : length l.all.items + many_in l.groups.items ≤ vec_capacity l.all;
+  end_room : length l.ends.items + length l.groups.items ≤ vec_capacity l.ends;
 }
 
 abbrev pub decreases-groups : goal.decreases-groups

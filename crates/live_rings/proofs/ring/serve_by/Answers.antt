@@ -1,10 +1,12 @@
-use Rattle.std.proofs.Common.{◌≡◌, ◌∙◌, false, ap, subst}
+use Rattle.std.proofs.Common.{◌≡◌, ◌∙◌, false, ap, subst, sym}
 use Rattle.std.specs.Prelude.{IfSome, OnOk}
 use Rattle.std.specs.Io.KnownBytes.{Appends}
-use Rattle.live_server.specs.Frames.{answers}
+use Rattle.live_server.specs.Frames.{answers, frames_in}
+use Rattle.live_server.specs.Told.{told_frames}
 use Rattle.live_run.specs.Fronts.{AppendsFront}
 use Rattle.live_server.specs.Serving.{server_of as server_by}
 use Rattle.live_rings.specs.Making.{server_of}
+use Rattle.live_rings.proofs.Lives.{lived_still}
 use Rattle.live_rings.proofs.ring.serve_by.Goals as goal
 
 pub returns-clause-served : goal.returns-clause-served
@@ -23,3 +25,16 @@ returns-clause-served g c =
       frames = e.frames;
       words = e.words;
     }
+
+pub returns-clause-told : goal.returns-clause-told
+returns-clause-told g c =
+    let e = c.serve_stream-served.ensures in
+    let first : server_by g.T.ConnTable.conns c.over-rules.result ≡ server_of c.args.setup.now =
+    c.over-rules.ensures.server ∙ ap (λ conns. record (server_of c.args.setup.now) { conns = conns }) c.requires.none in
+    let lost = c.serve_stream-served.new.lost in
+    lived_still (λ input. g.T.ConnTable.tells c.over-rules.result.table (told_frames (frames_in input) (server_by g.T.ConnTable.conns c.over-rules.result)) c.serve_stream-served.new.rules.table)
+    (λ input. g.T.ConnTable.tells c.args.table (told_frames (frames_in input) (server_of c.args.setup.now)) c.into_table.result)
+    c.serve_stream-served.result lost (g.S.Source.rest c.args.reader.now)
+    (λ input told. subst (λ t. g.T.ConnTable.tells c.args.table (told_frames (frames_in input) (server_of c.args.setup.now)) t) (sym c.into_table.ensures)
+    (subst (λ t. g.T.ConnTable.tells t (told_frames (frames_in input) (server_of c.args.setup.now)) c.serve_stream-served.new.rules.table) c.over-rules.ensures.table
+    (subst (λ s. g.T.ConnTable.tells c.over-rules.result.table (told_frames (frames_in input) s) c.serve_stream-served.new.rules.table) first told))) e.told

@@ -1,11 +1,16 @@
-use Rattle.std.proofs.Common.{◌-◌, ◌++◌, length, take, drop, slice_index_or, sym, ap, ◌∙◌, subst, arith}
+use Rattle.std.proofs.Common.{◌-◌, ◌≤◌, ◌++◌, length, slice_get, take, drop, slice_index_or, sym, ap, ◌∙◌, subst, arith}
 use Rattle.squeue_serve.specs.Lending.{holder, tasks_in}
 use Rattle.squeue_serve.proofs.Lent.{lent_none, none_lent_to}
-use Rattle.live_rings.specs.Served.{HasEnded}
+use Rattle.placed_parts.specs.Placing.{limits_of}
+use Rattle.squeue_state.specs.Naming.{setting_of}
+use Rattle.live_rings.specs.Served.{EndedAt}
 use Rattle.live_rings.specs.Tasks.{IsReady}
 use Rattle.squeue_serve.proofs.Coming.{one_only}
 use Rattle.live_rings.proofs.RingJobs.{all_ready}
-use Rattle.live_rings.proofs.RingRun.{CameBack, Lends, are_done, came_back, is_it, lends, nothing_left}
+use Rattle.std.proofs.lemmas.List.{length-map}
+use Rattle.std.proofs.lemmas.Option.{slice_get_within}
+use Rattle.live_rings.specs.declared.ring.ServerTask.TheVariants.{Served}
+use Rattle.live_rings.proofs.RingRun.{CameBack, Lends, are_done, came_back, end_setting, is_it, lends, nothing_left, seen_by_end}
 use Rattle.live_rings.proofs.RingTasks.{none_long}
 use Rattle.live_rings.proofs.ring_squeue.run_to_end.Given.{Over}
 use Rattle.live_rings.proofs.ring_squeue.run_to_end.Goals.{After-deref_mut, After-run_rings}
@@ -21,11 +26,11 @@ lent g c =
 
 -- each job has done its task
 did : (g : Over) (c : After-run_rings g) → Lends c.args.squeue c.deref_mut.result.now c.len-count.result c.lend.new.squeues.all.items
-    → CameBack (HasEnded g.S.Source.rest g.S.Source.read_faults g.K.Sink.contents g.K.Sink.write_faults c.args.setup.now) c.args.squeue c.len-count.result c.lend.new.squeues.all.items c.deref_mut.result.now
+    → CameBack (EndedAt g.S.Source.rest g.S.Source.read_faults g.K.Sink.contents g.K.Sink.write_faults (setting_of limits_of c.args.squeue.given) c.args.setup.now) c.args.squeue c.len-count.result c.lend.new.squeues.all.items c.deref_mut.result.now
     (take c.lend.new.jobs.len (c.run_rings.new.jobs ++ drop (length c.run_rings.new.jobs) c.lend.new.jobs.items)) c.run_rings.new.jobs
 did g c l =
     let jobs = c.lend.new.jobs in
-    came_back c.args.squeue (HasEnded g.S.Source.rest g.S.Source.read_faults g.K.Sink.contents g.K.Sink.write_faults c.args.setup.now) jobs.items c.run_rings.new.jobs jobs.len c.index.result.now l c.deref_mut.ensures.value jobs.ok.0 (omega (arith, c.run_rings.auto.jobs))
+    came_back c.args.squeue (λ s. EndedAt g.S.Source.rest g.S.Source.read_faults g.K.Sink.contents g.K.Sink.write_faults (setting_of limits_of s.given) c.args.setup.now) jobs.items c.run_rings.new.jobs jobs.len c.index.result.now l c.deref_mut.ensures.value jobs.ok.0 (omega (arith, c.run_rings.auto.jobs))
     c.index.ensures c.run_rings.ensures
 
 pub lend-requires-clause-fit : goal.lend-requires-clause-fit
@@ -73,3 +78,22 @@ returns-clause-done g c =
     let d = did g at.After-run_rings (lent g at.After-deref_mut) in
     are_done (tasks_in c.args.jobs.items) (tasks_in c.deref_mut.result.now) (tasks_in c.run_rings.new.jobs) (tasks_in c.end_last.new.jobs.items) (ap tasks_in c.deref_mut.ensures.value ∙ c.lend.ensures.tasks)
     (c.end_last.ensures.tasks ∙ ap tasks_in d.same) d.as_many d.did
+
+pub returns-clause-setting : goal.returns-clause-setting
+returns-clause-setting g c =
+    let at = goal.at.returns-clause-setting g c in
+    let l = lent g at.After-deref_mut in
+    let some = c.in-Some.ensures.some in
+    end_setting _ c.args.squeue c.end_last.new.squeues.all.items l.single some.1 some.2
+
+pub returns-clause-seen : goal.returns-clause-seen
+returns-clause-seen g c = λ k d is.
+    let at = goal.at.returns-clause-seen g c in
+    let l = lent g at.After-deref_mut in
+    let some = c.in-Some.ensures.some in
+    let back = did g at.After-run_rings l in
+    let there = ap (λ ts. slice_get ts k) (sym (c.end_last.ensures.tasks ∙ ap tasks_in back.same)) ∙ is in
+    let known = back.passes k d there in
+    let le : k ≤ c.len-count.result - 1 =
+    omega (arith, slice_get_within (tasks_in c.run_rings.new.jobs) k (Served d) there, length-map c.run_rings.new.jobs (λ j. j.task), back.many) in
+    (known.1, seen_by_end _ c.args.squeue c.end_last.new.squeues.all.items l.single some.1 some.2 back.ends k d.pass.value le known.0)

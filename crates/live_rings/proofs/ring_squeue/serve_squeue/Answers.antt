@@ -1,16 +1,18 @@
-use Rattle.std.proofs.Common.{◌≡◌, ◌∙◌, ◌*◌, ℕ, length, replicate, sym, ap, subst, arith, length-append, ◌∷◌, [], map}
+use Rattle.std.proofs.Common.{◌≡◌, ◌∙◌, ◌+◌, ◌*◌, ℕ, length, replicate, sym, ap, subst, arith, length-append, ◌∷◌, [], map}
 use Rattle.std.proofs.lemmas.List.{length-map}
 use Rattle.placed_parts.specs.Placing.{limits_of, origin_of}
 use Rattle.squeue_serve.specs.Lending.{tasks_in}
 use Rattle.squeue_streams.specs.Taking.{most_feeds, most_leaves}
 use Rattle.live_chats.specs.Telling.{first_of}
 use Rattle.live_rings.specs.declared.ring.ServerTask.TheVariants as Task'
-use Rattle.live_rings.specs.Groups.{AllBecame}
+use Rattle.live_rings.specs.Groups.{AllBecameFrom}
 use Rattle.live_rings.specs.Seating.{ServesPlaces}
-use Rattle.live_rings.specs.Served.{HasEnded}
+use Rattle.squeue_state.specs.Naming.{setting_of}
+use Rattle.live_rings.specs.Served.{EndedAt, EndedIn}
+use Rattle.live_rings.proofs.Lives.{ended_in}
 use Rattle.live_rings.specs.Tasks.{AreDone, AreNewTasks, tasks_for}
 use Rattle.live_rings.proofs.Seated.{lives_long}
-use Rattle.live_rings.proofs.RingTasks.{all_ended, are_tasks, as_many}
+use Rattle.live_rings.proofs.RingTasks.{all_ended_from, are_tasks, as_many}
 use Rattle.live_rings.proofs.ring_squeue.serve_squeue.Goals as goal
 
 pub new_squeue-requires-clause-feeds : goal.new_squeue-requires-clause-feeds
@@ -46,7 +48,7 @@ gather-requires-clause-room g c =
     let rings = c.in_ok-chats.rings.items in
     let tasks = c.in_ok-jobs.ensures.tasks ∙ c.in_ok-tasks.ensures in
     let jobs = length-map c.in_ok-jobs.jobs.items (λ j. j.task) in
-    let now = length-map c.run_to_end-jobs.result.items (λ j. j.task) in
+    let now = length-map c.run_to_end-jobs.result.0.items (λ j. j.task) in
     let front = length-map rings (λ r. Task'.Serve r) in
     let many = as_many (first_of c.in_ok-chats.chats) c.args.ends.items rings c.in_ok-chats.ensures.rings in (
       c.in_ok-room.ensures.items,
@@ -55,9 +57,15 @@ gather-requires-clause-room g c =
 
 pub returns-in-Ok-new_squeue : goal.returns-in-Ok-new_squeue
 returns-in-Ok-new_squeue g c =
-    let P = HasEnded g.S.Source.rest g.S.Source.read_faults g.K.Sink.contents g.K.Sink.write_faults c.args.setup.now in
+    let at = setting_of limits_of c.in-Ok-new_squeue.squeue.given in
+    let P = EndedAt g.S.Source.rest g.S.Source.read_faults g.K.Sink.contents g.K.Sink.write_faults at c.args.setup.now in
+    let Q = EndedIn g.S.Source.rest g.S.Source.read_faults g.K.Sink.contents g.K.Sink.write_faults c.args.setup.now c.run_to_end-jobs.result.1 in
     let begun = c.in_ok-jobs.ensures.tasks ∙ c.in_ok-tasks.ensures in
-    let news = tasks_in c.run_to_end-jobs.result.items in
+    let news = tasks_in c.run_to_end-jobs.result.0.items in
     let done = subst (λ ts. AreDone P ts news) begun c.run_to_end-jobs.ensures.done in
-    let all = all_ended P c.in_ok-chats.rings.items news done.many done.each in
-    subst (λ es. AllBecame P es c.gather.result.items) c.in_ok-chats.ensures.rings.ends_are (subst (AllBecame P _) (sym c.gather.ensures) all)
+    let all = all_ended_from P Q c.in_ok-chats.rings.items news 0 done.many done.each
+    (λ k e d is h. let seen = c.run_to_end-jobs.ensures.seen k d is in
+    let same : 0 + k ≡ k = omega arith in
+    subst (λ n. Q n e d) (sym same) (ended_in g.S.Source.rest g.S.Source.read_faults g.K.Sink.contents g.K.Sink.write_faults c.args.setup.now at c.run_to_end-jobs.result.1 k e d
+    c.run_to_end-jobs.ensures.setting seen.0 seen.1 h)) in
+    subst (λ es. AllBecameFrom Q 0 es c.gather.result.items) c.in_ok-chats.ensures.rings.ends_are (subst (AllBecameFrom Q 0 _) (sym c.gather.ensures) all)

@@ -5,6 +5,7 @@ use Rattle.live_server.specs.Frames.{frames_in, rest_of, serves_frames}
 use Rattle.live_server.specs.Serving.{server_of}
 use Rattle.live_server.proofs.ArriveLemmas.{not_yet}
 use Rattle.live_server.proofs.PieceLemmas.{piece_answered, piece_left, piece_served}
+use Rattle.live_server.proofs.ToldLemmas.{piece_heard}
 use Rattle.live_run.proofs.FrontLemmas.{broken_left, wrote_further, wrote_so_far}
 use Rattle.live_run.proofs.ReadLemmas.{all_read, front_read, map_ok, nothing_read, on_ok}
 use Rattle.live_run.specs.declared.fault.Fault.{Fault}
@@ -20,6 +21,7 @@ pieces-init g c = record {
   stops = λ ends. refl;
   server = λ still. refl;
   written = λ still. Appends-nil _;
+  told = λ still. g.met.T.ConnTable.tells_nothing c.args.rules.now.table;
   left = c.new-pending.ensures.items;
   read_well = refl;
   written_well = refl;
@@ -73,6 +75,10 @@ pieces-preserved g c =
           ∙ piece_served so_far.there got c.pieces.pending.items first (server_of g.T.ConnTable.conns c.pieces.rules) so_far.left (so_far.server (before still));
       written = λ still. subst (Appends _ _) (piece_answered so_far.there got c.pieces.pending.items first (server_of g.T.ConnTable.conns c.pieces.rules) so_far.left (so_far.server (before still)))
           (Appends-trans _ _ _ _ _ (so_far.written (before still)) (c.in_default-serve_piece.ensures.written still));
+      told = λ still. subst (λ ws. g.T.ConnTable.tells c.args.rules.now.table ws c.serve_piece.new.rules.table)
+          (piece_heard so_far.there got c.pieces.pending.items first (server_of g.T.ConnTable.conns c.pieces.rules) so_far.left (so_far.server (before still)))
+          (g.met.T.ConnTable.tells_on c.args.rules.now.table c.pieces.rules.table c.serve_piece.new.rules.table _ _ (so_far.told (before still))
+          (c.in_default-serve_piece.ensures.told still));
       left = c.in_default-serve_piece.ensures.left ∙ piece_left so_far.there got c.pieces.pending.items first (serves_frames (frames_in so_far.there) first).server so_far.left refl;
       read_well = c.in-Ok.ensures.kept ∙ so_far.read_well;
       written_well = c.in_default-serve_piece.ensures.kept ∙ so_far.written_well;
@@ -86,6 +92,15 @@ returns-then-read-eq0-clause-written g c =
     let room : 0 < length c.read.new.buf = search rules in
     let read = subst (Consumes _ _) (nothing_read c.in-Ok.read so_far.there c.read.new.buf nothing) (Consumes-trans _ _ _ so_far.there got so_far.read c.in-Ok.ensures.bytes.0) in
     on_ok c.end_of.result _ (λ still. all_read _ _ so_far.there _ read (c.in-Ok.ensures.bytes.1 nothing room) (so_far.written still))
+
+pub returns-then-read-eq0-clause-told : goal.returns-then-read-eq0-clause-told
+returns-then-read-eq0-clause-told g c =
+    let so_far = c.pieces.invariant in
+    let got = take c.in-Ok.read c.read.new.buf in
+    let nothing : c.in-Ok.read ≡ 0 = search rules in
+    let room : 0 < length c.read.new.buf = search rules in
+    let read = subst (Consumes _ _) (nothing_read c.in-Ok.read so_far.there c.read.new.buf nothing) (Consumes-trans _ _ _ so_far.there got so_far.read c.in-Ok.ensures.bytes.0) in
+    on_ok c.end_of.result _ (λ still. all_read _ _ so_far.there _ read (c.in-Ok.ensures.bytes.1 nothing room) (so_far.told still))
 
 pub returns-then-read-eq0-clause-whole : goal.returns-then-read-eq0-clause-whole
 returns-then-read-eq0-clause-whole g c =

@@ -1,9 +1,11 @@
-use Rattle.std.proofs.Common.{rules, ◌≡◌, ◌∙◌, ◌++◌, ◌+◌, ap, sym, append-nil, drop, true, false}
+use Rattle.std.proofs.Common.{rules, ◌≡◌, ◌∙◌, ◌++◌, ◌+◌, ap, sym, append-nil, drop, true, false, subst, refl, []}
 use Rattle.std.specs.List.{flat_map}
-use Rattle.live_server.specs.Frames.{body_size, frame_of, is_end, serves_frames}
+use Rattle.live_server.specs.Frames.{body_size, frame_at, frame_of, is_end, serves_frames}
 use Rattle.live_server.specs.Serving.{ServerOf, server_of}
 use Rattle.live_server.proofs.FrameLemmas.{front_served, front_told, frames_last, rest_last, rest_next}
+use Rattle.live_server.specs.Told.{told_frame, told_frames}
 use Rattle.live_server.proofs.ArriveLemmas.{not_yet}
+use Rattle.live_server.proofs.ToldLemmas.{front_heard}
 use Rattle.live_server.proofs.frames.serve_by_rules.Goals as goal
 
 pub frames-preserved : goal.frames-preserved
@@ -16,6 +18,12 @@ frames-preserved g c =
       good = c.serve_next.ensures.good;
       sticky = λ was. c.serve_next.ensures.sticky (c.frames.invariant.sticky was);
       stops = λ ends. c.serve_next.ensures.stops ends ∙ c.frames.invariant.stops ends;
+      so_far = c.frames.invariant.so_far ++ told_frame (frame_at xs) before;
+      told = λ still. g.met.T.ConnTable.tells_on c.args.rules.now.table c.frames.rules.table c.serve_next.new.rules.table c.frames.invariant.so_far
+          (told_frame (frame_at xs) before) (c.frames.invariant.told (not_yet c.frames.lost c.serve_next.new.lost c.serve_next.ensures.sticky still))
+          (c.in_ok-serve_next.ensures.told still);
+      all = λ still. front_heard xs c.split_at.result.1.now before after c.frames.invariant.so_far begins cut (c.in_ok-serve_next.ensures.server still)
+          ∙ c.frames.invariant.all (not_yet c.frames.lost c.serve_next.new.lost c.serve_next.ensures.sticky still);
       server = λ still. front_served xs c.split_at.result.1.now before after begins cut (c.in_ok-serve_next.ensures.server still)
           ∙ c.frames.invariant.server (not_yet c.frames.lost c.serve_next.new.lost c.serve_next.ensures.sticky still);
       sent = λ still. front_told xs c.split_at.result.1.now before after begins cut (c.in_ok-serve_next.ensures.server still) c.frames.out.items c.serve_next.new.out.items (c.in_ok-serve_next.ensures.sent still)
@@ -40,3 +48,25 @@ pub returns-clause-rest : goal.returns-clause-rest
 returns-clause-rest g c =
     let ended : is_end c.frames.rest.now ≡ true = search rules in
     sym (rest_last c.frames.rest.now ended) ∙ c.frames.invariant.rest
+
+pub frames-init : goal.frames-init
+frames-init g c = record {
+  good = c.requires.good;
+  sticky = λ was. was;
+  stops = λ ends. refl;
+  so_far = [];
+  told = λ still. g.met.T.ConnTable.tells_nothing c.args.rules.now.table;
+  all = λ still. refl;
+  server = λ still. refl;
+  sent = λ still. refl;
+  rest = refl;
+}
+
+pub returns-clause-told : goal.returns-clause-told
+returns-clause-told g c = λ still.
+    let here : ServerOf = server_of g.T.ConnTable.conns c.frames.rules in
+    let so_far = c.frames.invariant.so_far in
+    let ended : is_end c.frames.rest.now ≡ true = search rules in
+    subst (λ ws. g.T.ConnTable.tells c.args.rules.now.table ws c.frames.rules.table)
+    (sym (append-nil so_far) ∙ ap (λ fs. so_far ++ told_frames fs here) (sym (frames_last c.frames.rest.now ended)) ∙ c.frames.invariant.all still)
+    (c.frames.invariant.told still)

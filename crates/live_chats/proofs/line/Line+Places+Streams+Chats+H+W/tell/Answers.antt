@@ -1,6 +1,7 @@
 use Rattle.std.proofs.Common.{ℕ, List, [], ◌∷◌, ◌++◌, ap, ◌∙◌}
 use Rattle.placed_parts.specs.Placing.{origin_of}
-use Rattle.live_chats.proofs.PlaceLemmas.{chat_same, elsewhere_kept, listened, told_kept, told_open, told_so}
+use Rattle.live_chats.proofs.LivedLemmas.{begins_itself, begins_on}
+use Rattle.live_chats.proofs.PlaceLemmas.{chat_same, elsewhere_kept, listened, told_kept, told_open, told_pushed, told_so}
 use Rattle.live_chats.proofs.line.Line+Places+Streams+Chats+H+W.tell.Goals as goal
 
 pub returns-clause-others : goal.returns-clause-others
@@ -32,3 +33,14 @@ returns-in-Err-clause-others g c = elsewhere_kept c.args.c c.args.stays.now c.pu
 
 pub returns-in-Err-clause-refused : goal.returns-in-Err-clause-refused
 returns-in-Err-clause-refused g c = λ _. chat_same c.args.stays.now c.push_at.new.stays c.args.c c.in-Err.ensures.sent
+
+pub returns-clause-grows : goal.returns-clause-grows
+returns-clause-grows g c = begins_on _ _ _ c.enter-pass.ensures.grows c.settle-pass.ensures.grows
+
+pub returns-clause-pushed : goal.returns-clause-pushed
+returns-clause-pushed g c = λ _.
+    let s = c.in-Ok.ensures.same in
+    told_pushed c.args.c c.args.stays.now c.push_at.new.stays c.enter-pass.new.stays c.settle-pass.new.stays s.0 s.1 s.2 s.3 s.5.1 c.enter-pass.ensures.places c.settle-pass.ensures.same
+
+pub returns-in-Err-clause-grows : goal.returns-in-Err-clause-grows
+returns-in-Err-clause-grows g c = begins_itself _

@@ -1,11 +1,13 @@
-use Rattle.std.proofs.Common.{◌≡◌, ◌++◌, ◌∙◌, ap, refl, subst, sym}
+use Rattle.std.proofs.Common.{◌≡◌, ◌∷◌, [], ◌++◌, ◌∙◌, ap, refl, subst, sym}
 use Rattle.segment_codec.specs.Refusal.{tuple_of}
 use Rattle.live_server.specs.Acts.{Meeting, meets}
 use Rattle.live_server.specs.Initial.{number_for}
 use Rattle.live_server.specs.Isolation.{Loses}
 use Rattle.live_server.specs.Serving.{ServerOf, arrives, server_of}
 use Rattle.live_server.specs.Table.{Conns, conn_at, replaced, IsNew}
-use Rattle.live_server.proofs.ArriveLemmas.{gone_in_time, gone_sent, gone_server, judged_sent, judged_server, map_ok}
+use Rattle.live_server.specs.Told.{told_arriving, told_opening}
+use Rattle.live_server.specs.Told.Told.{hears}
+use Rattle.live_server.proofs.ArriveLemmas.{gone_in_time, gone_sent, gone_server, gone_told, judged_sent, judged_server, judged_told, map_ok}
 use Rattle.live_server.proofs.LawLemmas.{lost_at, lost_in_time}
 use Rattle.live_server.proofs.LossLemmas.{map_err, on_err}
 use Rattle.live_server.proofs.rules.Rules.meet.Goals as goal
@@ -71,3 +73,29 @@ returns-in-Gone-clause-lost g c =
     (lost_in_time (tuple_of c.args.seg.now) before c.args.now (record before { conns = here }) after
     (gone_in_time c.args.now c.args.seg.now c.args.text.now before c.args.place c.requires.place (sym c.in-Gone.is ∙ c.in_ok-met.ensures.met ∙ ap (λ (m : Meeting). m.met) same)
     (record before { conns = here }) (ap (λ (l : Conns). record before { conns = l }) (c.in_ok-met.ensures.table ∙ ap (λ (m : Meeting). replaced c.args.place m.conn before.conns) same)))) c.open.ensures.lost
+
+pub returns-in-Judged-clause-told : goal.returns-in-Judged-clause-told
+returns-in-Judged-clause-told g c =
+    let before : ServerOf = server_of g.T.ConnTable.conns c.args.self.now in
+    let met : Meeting = meets c.args.now (number_for before.secret c.args.now c.args.seg.now) c.args.seg.now c.args.text.now (tuple_of c.args.seg.now) (conn_at c.args.place before.conns) in
+    let same : meets c.args.now c.number_for-iss.result c.args.seg.now c.args.text.now c.tuple_of-tuple.result (conn_at c.args.place before.conns) ≡ met =
+    λ j. meets c.args.now (c.number_for-iss.ensures j) c.args.seg.now c.args.text.now (c.tuple_of-tuple.ensures j) (conn_at c.args.place before.conns) in
+    subst (λ ws. g.T.ConnTable.tells c.args.self.now.table ws c.meet.new.self)
+    (ap (λ t. hears t ∷ []) c.tuple_of-tuple.ensures
+    ∙ judged_told c.args.now c.args.seg.now c.args.text.now before c.args.place c.requires.place c.in-Judged.judged (sym c.in-Judged.is ∙ c.in_ok-met.ensures.met ∙ ap (λ (m : Meeting). m.met) same))
+    c.in_ok-met.ensures.told
+
+pub returns-in-Gone-clause-told : goal.returns-in-Gone-clause-told
+returns-in-Gone-clause-told g c =
+    let before : ServerOf = server_of g.T.ConnTable.conns c.args.self.now in
+    let met : Meeting = meets c.args.now (number_for before.secret c.args.now c.args.seg.now) c.args.seg.now c.args.text.now (tuple_of c.args.seg.now) (conn_at c.args.place before.conns) in
+    let same : meets c.args.now c.number_for-iss.result c.args.seg.now c.args.text.now c.tuple_of-tuple.result (conn_at c.args.place before.conns) ≡ met =
+    λ j. meets c.args.now (c.number_for-iss.ensures j) c.args.seg.now c.args.text.now (c.tuple_of-tuple.ensures j) (conn_at c.args.place before.conns) in
+    let here : Conns = g.T.ConnTable.conns c.meet.new.self in
+    let new : IsNew (tuple_of c.args.seg.now) here = subst (λ t. IsNew t here) c.tuple_of-tuple.ensures (c.in_ok-met.ensures.gone c.in-Gone.is) in
+    map_ok c.open.result _ (g.T.ConnTable.tells c.args.self.now.table (told_arriving c.args.now c.args.seg.now c.args.text.now before) c.open.new.self.table)
+    (λ told. subst (λ ws. g.T.ConnTable.tells c.args.self.now.table ws c.open.new.self.table)
+    (ap (λ t. hears t ∷ told_opening c.args.now c.args.seg.now c.args.text.now (record before { conns = here })) c.tuple_of-tuple.ensures
+    ∙ gone_told c.args.now c.args.seg.now c.args.text.now before c.args.place c.requires.place (sym c.in-Gone.is ∙ c.in_ok-met.ensures.met ∙ ap (λ (m : Meeting). m.met) same)
+    (record before { conns = here }) (ap (λ (l : Conns). record before { conns = l }) (c.in_ok-met.ensures.table ∙ ap (λ (m : Meeting). replaced c.args.place m.conn before.conns) same)) new)
+    (g.met.T.ConnTable.tells_on c.args.self.now.table c.meet.new.self c.open.new.self.table _ _ c.in_ok-met.ensures.told told)) c.open.ensures.told

@@ -1,6 +1,7 @@
-use Rattle.std.proofs.Common.{◌≡◌, ◌++◌, ◌+◌, ◌-◌, ◌^◌, ◌∙◌, [], ap, arith, length, min, refl, sym}
+use Rattle.std.proofs.Common.{◌≡◌, ◌++◌, ◌+◌, ◌-◌, ◌^◌, ◌∙◌, [], ap, arith, length, min, refl, sym, subst}
 use Rattle.live_server.specs.Serving.{ServerOf, arrives, on_segment, overfull, server_of}
-use Rattle.live_server.proofs.ArriveLemmas.{full_sent, full_server, held_sent, held_server, map_ok}
+use Rattle.live_server.specs.Told.{told_arriving, told_segment}
+use Rattle.live_server.proofs.ArriveLemmas.{full_sent, full_server, full_told, held_sent, held_server, held_told, map_ok}
 use Rattle.live_server.proofs.rules.Rules.segment.Goals as goal
 
 pub returns-then-fits-clause-server : goal.returns-then-fits-clause-server
@@ -36,3 +37,22 @@ returns-else-fits-clause-sent g c =
     (λ is. is
     ∙ ap (λ l. c.args.out.now.items ++ l) (ap (λ s. (arrives c.args.now s [] (overfull sv)).sent) c.without_text.ensures ∙ full_sent c.args.now c.args.seg.now text sv (overfull sv) (sym c.if-fits.ensures) refl))
     c.arrive-else-fits.ensures.sent
+
+pub returns-then-fits-clause-told : goal.returns-then-fits-clause-told
+returns-then-fits-clause-told g c =
+    let sv : ServerOf = server_of g.T.ConnTable.conns c.args.self.now in
+    let text = c.args.text.now in
+    let sum : c.saturating_add-self.result ≡ min (2 ^ 64 - 1) (sv.held + length text) = omega (arith, c.saturating_add-self.ensures) in
+    map_ok c.arrive.result _ (g.T.ConnTable.tells c.args.self.now.table (told_segment c.args.now c.args.seg.now text sv) c.arrive.new.self.table)
+    (λ told. subst (λ ws. g.T.ConnTable.tells c.args.self.now.table ws c.arrive.new.self.table)
+    (held_told c.args.now c.args.seg.now text sv (record sv { held = c.saturating_add-self.result }) (sym c.if-fits.ensures) (ap (λ h. record sv { held = h }) sum)) told)
+    c.arrive.ensures.told
+
+pub returns-else-fits-clause-told : goal.returns-else-fits-clause-told
+returns-else-fits-clause-told g c =
+    let sv : ServerOf = server_of g.T.ConnTable.conns c.args.self.now in
+    let text = c.args.text.now in
+    map_ok c.arrive-else-fits.result _ (g.T.ConnTable.tells c.args.self.now.table (told_segment c.args.now c.args.seg.now text sv) c.arrive-else-fits.new.self.table)
+    (λ told. subst (λ ws. g.T.ConnTable.tells c.args.self.now.table ws c.arrive-else-fits.new.self.table)
+    (ap (λ s. told_arriving c.args.now s [] (overfull sv)) c.without_text.ensures ∙ full_told c.args.now c.args.seg.now text sv (overfull sv) (sym c.if-fits.ensures) refl) told)
+    c.arrive-else-fits.ensures.told

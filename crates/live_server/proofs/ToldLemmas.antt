@@ -1,0 +1,74 @@
+-- What connections are told, by the rules.
+use Rattle.std.proofs.Common.{◌≡◌, ℕ, ◌+◌, Bool, true, false, cond, not, List, [], ◌∷◌, ◌++◌, drop, refl, sym, ap, ◌∙◌, append_assoc}
+use Rattle.segment_codec.specs.Packet.{packet_in}
+use Rattle.segment_codec.specs.Refusal.{tuple_of}
+use Rattle.segment_codec.specs.SentIsRead.{text_in}
+use Rattle.segment_codec.specs.declared.packet.Packet.{Packet}
+use Rattle.segment_codec.specs.declared.packet.Packet.TheVariants as packet
+use Rattle.segment_codec.specs.declared.packet.Seg.{Seg}
+use Rattle.sq_base.specs.declared.kinds.Link.TheVariants.{RawIp}
+use Rattle.live_server.specs.Acts.{is_over, new_conn}
+use Rattle.live_server.specs.Addresses.{is_for_us}
+use Rattle.live_server.specs.Frames.{FrameOf, body_size, frame_at, frames_in, is_end, on_frame, rest_of, serves_frames}
+use Rattle.live_server.specs.Services.{is_served_at, service_at}
+use Rattle.live_server.specs.Serving.{ServerOf, limited, makes_place, served}
+use Rattle.live_server.specs.Told.{Told, told_addressed, told_datagram, told_frame, told_frames, told_opening, told_packet, told_segment, told_taking}
+use Rattle.live_server.specs.declared.conn.Conn.{Conn}
+use Rattle.live_server.proofs.FrameLemmas.{frames_next}
+use Rattle.live_server.proofs.PieceLemmas.{pieces_join_proof}
+
+module _ (now : ℕ) (s : Seg) (text : List ℕ) (sv : ServerOf) where
+  abbrev pub new_one : Conn
+  new_one = served now s text sv (new_conn (service_at sv.setting.ports now s.dst_port) sv.setting.segment now)
+
+  pub opening_told : (b : Bool) → is_over new_one ≡ b → told_opening now s text sv ≡ cond b [] (told_taking (tuple_of s) (makes_place sv))
+  unfolding told_opening
+  opening_told b e = ap (λ (v : Bool). cond v [] (told_taking (tuple_of s) (makes_place sv))) e
+
+  abbrev told_for : Bool → Bool → List Told
+  told_for ours at_port = cond (not ours) [] (cond at_port (told_segment now (limited sv.setting.segment s) text sv) [])
+
+  pub addressed_told : (ours at_port : Bool) → is_for_us sv.setting s ≡ ours → is_served_at sv.setting.ports s.dst_port ≡ at_port
+      → told_addressed now s text sv ≡ told_for ours at_port
+  unfolding told_addressed
+  addressed_told ours at_port e f = λ j. told_for (e j) (f j)
+
+module _ (now : ℕ) (body : List ℕ) (sv : ServerOf) where
+  pub packet_told : (s : Seg) → packet_in RawIp body true ≡ packet.Segment s → told_datagram now body sv ≡ told_addressed now s (text_in s body) sv
+  unfolding told_datagram told_packet
+  packet_told s e = ap (λ p. told_packet now body p sv) e
+
+  no_segment : (p : Packet) → ((s : Seg) → p ≡ packet.Segment s → ⊥) → told_packet now body p sv ≡ []
+  unfolding told_packet
+  no_segment (packet.Segment s) other = absurd (other s refl)
+  no_segment packet.Other other = refl
+  no_segment packet.Fragment other = refl
+  no_segment packet.Cut other = refl
+  no_segment (packet.Malformed why) other = refl
+  no_segment packet.BadSum other = refl
+
+  pub other_told : (p : Packet) → p ≡ packet_in RawIp body true → ((s : Seg) → p ≡ packet.Segment s → ⊥) → told_datagram now body sv ≡ []
+  unfolding told_datagram
+  other_told p is other = ap (λ q. told_packet now body q sv) (sym is) ∙ no_segment p other
+
+-- one frame more
+pub front_heard : (xs rest : List ℕ) (sv next : ServerOf) (so_far : List Told) → is_end xs ≡ false → rest ≡ drop (16 + body_size xs) xs
+    → next ≡ (on_frame (frame_at xs) sv).server
+    → (so_far ++ told_frame (frame_at xs) sv) ++ told_frames (frames_in rest) next ≡ so_far ++ told_frames (frames_in xs) sv
+front_heard xs rest sv next so_far e cut served =
+    append_assoc so_far (told_frame (frame_at xs) sv) (told_frames (frames_in rest) next)
+    ∙ ap (λ l. so_far ++ l) ((λ j. told_frame (frame_at xs) sv ++ told_frames (frames_in (cut j)) (served j)) ∙ ap (λ fs. told_frames fs sv) (sym (frames_next xs e)))
+
+told_append : (fs more : List FrameOf) (sv : ServerOf) → told_frames (fs ++ more) sv ≡ told_frames fs sv ++ told_frames more (serves_frames fs sv).server
+told_append [] more sv = refl
+told_append (f ∷ fs) more sv =
+    ap (λ l. told_frame f sv ++ l) (told_append fs more (on_frame f sv).server)
+    ∙ sym (append_assoc (told_frame f sv) (told_frames fs (on_frame f sv).server) (told_frames more (serves_frames fs (on_frame f sv).server).server))
+
+-- one piece more
+pub piece_heard : (there piece pending : List ℕ) (first next : ServerOf) → pending ≡ rest_of there → next ≡ (serves_frames (frames_in there) first).server
+    → told_frames (frames_in there) first ++ told_frames (frames_in (pending ++ piece)) next ≡ told_frames (frames_in (there ++ piece)) first
+piece_heard there piece pending first next left so_far =
+    (λ j. told_frames (frames_in there) first ++ told_frames (frames_in (left j ++ piece)) (so_far j))
+    ∙ sym (told_append (frames_in there) (frames_in (rest_of there ++ piece)) first)
+    ∙ ap (λ fs. told_frames fs first) (sym (pieces_join_proof there piece).0)

@@ -1,0 +1,21 @@
+use Rattle.std.proofs.Common.{◌∙◌, ap, subst, sym}
+use Rattle.live_server.specs.Serving.{ServerOf, server_of}
+use Rattle.live_server.specs.Told.{told_addressed, told_datagram}
+use Rattle.live_server.proofs.ArriveLemmas.{map_ok}
+use Rattle.live_server.proofs.ToldLemmas.{other_told, packet_told}
+use Rattle.live_server.proofs.rules.Rules.datagram.Goals as goal
+
+pub returns-in-Segment-clause-told : goal.returns-in-Segment-clause-told
+returns-in-Segment-clause-told g c =
+    let sv : ServerOf = server_of g.T.ConnTable.conns c.args.self.now in
+    map_ok c.addressed.result _ (g.T.ConnTable.tells c.args.self.now.table (told_datagram c.args.now c.args.body.now sv) c.addressed.new.self.table)
+    (λ told. subst (λ ws. g.T.ConnTable.tells c.args.self.now.table ws c.addressed.new.self.table)
+    (ap (λ text. told_addressed c.args.now c.in-Segment.seg text sv) c.text_of.ensures
+    ∙ sym (packet_told c.args.now c.args.body.now sv c.in-Segment.seg (sym c.decode.ensures ∙ c.in-Segment.is))) told)
+    c.addressed.ensures.told
+
+pub returns-in_default-clause-told : goal.returns-in_default-clause-told
+returns-in_default-clause-told g c =
+    let sv : ServerOf = server_of g.T.ConnTable.conns c.args.self.now in
+    subst (λ ws. g.T.ConnTable.tells c.args.self.now.table ws c.args.self.now.table)
+    (sym (other_told c.args.now c.args.body.now sv c.decode.result c.decode.ensures c.in_default.not-Segment)) (g.met.T.ConnTable.tells_nothing c.args.self.now.table)
