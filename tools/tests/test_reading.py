@@ -63,8 +63,9 @@ class Lists(unittest.TestCase):
 
     def test_traits_types_seen_as_values_and_private_types_are_listed(self):
         text = (self.lists / "squeue_run.html").read_text()
-        for row in ["<code>Sink</code>, <code>Source</code>", "<code>Served</code>", "<code>Ended</code>"]:
+        for row in ["<code>Sink</code>, <code>Source</code>", "<code>Served</code>"]:
             self.assertIn(row, text)
+        self.assertIn("<code>Ended</code>", (self.lists / "serve_by_key.html").read_text())
         self.assertRegex(text, r"<code>Way</code><td>[1-9]")
 
     def test_every_type_has_lines(self):

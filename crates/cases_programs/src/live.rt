@@ -6,7 +6,7 @@
 
 ghost use Rattle.std.specs.Prelude.{◌≤◌, IfOk, length};
 ghost use Rattle.live_rings.specs.Making.{IsInRange};
-ghost use Rattle.live_rings.specs.RingWords.{AreFew};
+ghost use Rattle.live_rings.specs.Words.{AreFew};
 
 use case_rows::{Row, RowFault, add_text, judge_run};
 use live_rings::{Ends, Layout, RingWords, rings_asked, serve_rings, setup_by};

@@ -9,7 +9,7 @@ use Rattle.segment_codec.specs.declared.packet.Packet.{Packet}
 use Rattle.conn_classifier.specs.Limits.{least_gap}
 use Rattle.conn_classifier.specs.Hints.{hints_of, IsAhead}
 use Rattle.conn_classifier.specs.Items.{gap, hint, items_after, items_of}
-use Rattle.conn_classifier.specs.Slots.{IsKept, item_of, segment_at, slot_gap}
+use Rattle.conn_classifier.specs.Slots.{IsKept, item_of, no_segment, segment_at, slot_gap}
 use Rattle.conn_classifier.specs.declared.ahead.Ahead.{Ahead}
 use Rattle.conn_classifier.specs.declared.ahead.Ahead.TheVariants as ahead
 use Rattle.conn_classifier.specs.declared.kinds.Arrival.{Arrival}
@@ -36,7 +36,7 @@ module _ (rs : List Captured) (ps : List Packet) where
   -- what is kept of an arrival, by its record's number
   kept_slot : (a : Arrival) (at rec iss : ℕ) → IsKept rs ps a → rec ≡ a.rec → item_of ps (slot.Segment at rec iss) ≡ Segment at a.rec iss a.seg
   kept_slot a at rec iss k e =
-      ap (λ n. item_of ps (slot.Segment at n iss)) e ∙ ap (λ o. option_map_or (λ s. Segment at a.rec iss s) o (Time at)) k.segment
+      ap (λ n. item_of ps (slot.Segment at n iss)) e ∙ ap (λ o. Segment at a.rec iss (option_map_or (λ s. s) o no_segment)) k.segment
 
   kept_time : (a : Arrival) (rec : ℕ) (p : Captured) → IsKept rs ps a → rec ≡ a.rec → slice_get rs rec ≡ Some p → p.time ≡ a.at
   kept_time a rec p k e r =

@@ -1,6 +1,6 @@
 -- What a ring brings, and in which order: the items of its connections in record order, a time item just before its segment, and then
 -- the last time items by connection.
-use Rattle.std.specs.Prelude.{ℕ, ◌≡◌, ◌==◌, ◌-◌, ◌<◌, ◌%◌, List, [], ◌∷◌, ◌++◌, drop, filter, length, map, suc, if◌then◌else◌}
+use Rattle.std.specs.Prelude.{Bool, true, false, ℕ, ◌≡◌, ◌==◌, ◌-◌, ◌<◌, ◌%◌, List, [], ◌∷◌, ◌++◌, drop, filter, length, map, suc, if◌then◌else◌}
 use Rattle.std.specs.List.{AllByRecursion, range_with_len}
 use Rattle.perimeter_core.specs.declared.entries.Feed.{Feed}
 use Rattle.conn_classifier.specs.declared.kinds.Item.{Item}
@@ -16,6 +16,10 @@ abbrev pub first_record : List Item → ℕ
 first_record [] = 0
 first_record (Time at ∷ xs) = first_record xs
 first_record (Segment at rec iss seg ∷ xs) = rec
+
+abbrev pub is_time : Item → Bool
+is_time (Time at) = true
+is_time (Segment at rec iss seg) = false
 
 -- how many items there are up to and with the first segment
 abbrev pub to_segment : List Item → ℕ

@@ -5,6 +5,7 @@ use Rattle.capture_reader.specs.CaptureFile.{Packet as Captured}
 use Rattle.segment_codec.specs.declared.packet.Packet.{Packet}
 use Rattle.segment_codec.specs.declared.packet.Packet.TheVariants as packet
 use Rattle.segment_codec.specs.declared.packet.Seg.{Seg}
+use Rattle.segment_codec.specs.PlainSegments.{plain_from}
 use Rattle.conn_classifier.specs.Limits.{least_gap}
 use Rattle.conn_classifier.specs.declared.kinds.Arrival.{Arrival}
 use Rattle.conn_classifier.specs.declared.kinds.Item.{Item}
@@ -25,10 +26,14 @@ segment_of packet.BadSum = None
 abbrev pub segment_at : List Packet → ℕ → Option Seg
 segment_at ps n = option_and_then segment_of (slice_get ps n)
 
--- the item that is kept so beside these packets
+-- stands for the segment of a record that has none, which no slot of a plan names
+abbrev pub no_segment : Seg
+no_segment = plain_from (record { client = record { 0 = 0 }; client_port = 0; server = record { 0 = 0 }; server_port = 0 }) 0 0 0 0 0 0
+
+-- the item that is kept so beside these packets: a time item exactly where the slot is one
 abbrev pub item_of : List Packet → Slot → Item
 item_of ps (slot.Time at) = Time at
-item_of ps (slot.Segment at rec iss) = option_map_or (λ s. Segment at rec iss s) (segment_at ps rec) (Time at)
+item_of ps (slot.Segment at rec iss) = Segment at rec iss (option_map_or (λ s. s) (segment_at ps rec) no_segment)
 
 -- the time item of a gap, as it is kept
 abbrev pub slot_gap : ℕ → ℕ → List Slot

@@ -5,7 +5,6 @@ ghost use Rattle.conn_classifier.specs.Limits.{most_items};
 ghost use Rattle.conn_classifier.specs.Plan.{items_in, records_of, IsSpaced};
 ghost use Rattle.conn_classifier.specs.RingList.{feeds, to_segment, IsFront, IsRingList};
 
-use crate::kinds::Item;
 use crate::planned::Plan;
 use perimeter_core::Feed;
 use std::alloc::{AllocError, Global};
@@ -57,12 +56,10 @@ impl<'c> Plan<'c> {
         ensures list { OnOk result (list.new.items ≡ list.old.items ++ feeds c n (to_segment (drop n (items_in self.now c)))) }
     {
         list.push(Feed { c, n })?;
-        match self.item(c, n) {
-            Item::Segment { .. } => Ok(n + 1),
-            Item::Time { .. } => {
-                list.push(Feed { c, n: n + 1 })?;
-                Ok(n + 2)
-            }
+        if !self.view().is_time(c, n) {
+            return Ok(n + 1);
         }
+        list.push(Feed { c, n: n + 1 })?;
+        Ok(n + 2)
     }
 }

@@ -6,12 +6,13 @@ ghost use Rattle.segment_codec.specs.declared.packet.Packet.{Packet};
 ghost use Rattle.conn_classifier.specs.declared.kinds.Arrival.{Arrival};
 ghost use Rattle.conn_classifier.specs.Hints.{hints_of};
 ghost use Rattle.conn_classifier.specs.Items.{items_of};
-ghost use Rattle.conn_classifier.specs.Slots.{IsKept, slot_gap, item_of as kept_item, segment_at as kept_segment, segment_of as segment_in};
+ghost use Rattle.conn_classifier.specs.Slots.{IsKept, slot_gap, item_of as kept_item, no_segment as kept_none, segment_at as kept_segment, segment_of as segment_in};
 
 use crate::items::GAP;
 use crate::kinds::{Item, Slot};
 use capture_reader::Capture;
 use segment_codec::{Packet, Seg};
+use sq_base::{Addr, Tuple};
 use std::alloc::{AllocError, Global};
 
 /// The segment of a packet, where it is one.
@@ -31,6 +32,19 @@ pub fn segment_at(packets: &[Packet], rec: u32) -> Option<Seg>
     segment_of(packets.get(rec as usize)?)
 }
 
+/// Stands for the segment of a record that has none, which no slot of a plan names.
+fn no_segment() -> Seg
+    ensures { result ≡ kept_none }
+{
+    let nobody = Tuple {
+        client: Addr(0),
+        client_port: 0,
+        server: Addr(0),
+        server_port: 0,
+    };
+    Seg::plain(&nobody, 0, 0, 0, 0, 0, 0)
+}
+
 /// The item that is kept so.
 pub fn item_of(packets: &[Packet], slot: Slot) -> Item
     ensures { result ≡ kept_item packets.now slot }
@@ -39,7 +53,12 @@ pub fn item_of(packets: &[Packet], slot: Slot) -> Item
         Slot::Time { at } => Item::Time { at },
         Slot::Segment { at, rec, iss } => match segment_at(packets, rec) {
             Some(seg) => Item::Segment { at, rec, iss, seg },
-            None => Item::Time { at },
+            None => Item::Segment {
+                at,
+                rec,
+                iss,
+                seg: no_segment(),
+            },
         },
     }
 }

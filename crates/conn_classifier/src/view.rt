@@ -4,10 +4,11 @@
 ghost use Rattle.std.specs.Prelude.{◌≡◌, ℕ, ◌<◌, ◌≤◌, true, length, slice_get, IfSome, Some};
 ghost use Rattle.capture_reader.specs.Limits.{latest_time};
 ghost use Rattle.conn_classifier.specs.Limits.{most_conns, most_items};
+ghost use Rattle.conn_classifier.specs.RingList.{is_time};
 ghost use Rattle.conn_classifier.specs.Rules.{is_served};
 ghost use Rattle.conn_classifier.specs.Plan.{items_in, time_of, text_of, text_len_of};
 
-use crate::kinds::Item;
+use crate::kinds::{Item, Slot};
 use crate::planned::Table;
 use crate::rules::Ports;
 use crate::slots::item_of;
@@ -96,6 +97,15 @@ impl<'p> PlanView<'p> {
     {
         let slot = self.table.items[c as usize][n as usize];
         item_of(self.table.packets.as_slice(), slot)
+    }
+
+    /// Whether item `n` of connection `c` is a time item. It looks at the slot alone, and not at the packet.
+    pub(crate) fn is_time(&self, c: u32, n: u32) -> bool
+        requires conn { c < length self.now.tuples }
+        requires item { n < length (items_in self.now c) }
+        ensures { IfSome (slice_get (items_in self.now c) n) (λ item. result ≡ is_time item) }
+    {
+        matches!(self.table.items[c as usize][n as usize], Slot::Time { .. })
     }
 
     /// The text of item `n` of connection `c`: the segment's, or none for a time item.

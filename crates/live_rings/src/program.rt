@@ -4,7 +4,7 @@ ghost use Rattle.std.specs.Prelude.{◌≡◌, ◌≤◌, ◌*◌, IfOk, Some, l
 ghost use Rattle.std.specs.String.{string_bytes};
 ghost use Rattle.live_rings.specs.Making.{IsInRange};
 ghost use Rattle.live_rings.specs.Program.{are_for_rings, first_fault, setup_by};
-ghost use Rattle.live_rings.specs.RingWords.{AreFew};
+ghost use Rattle.live_rings.specs.Words.{AreFew};
 
 use crate::ending::{EndedRing, Ends};
 use crate::rings::serve_rings;

@@ -2,7 +2,7 @@
 
 ghost use Rattle.std.specs.Prelude.{◌≡◌, ◌≤◌, ◌+◌, ◌*◌, true, length, map, IfSome};
 ghost use Rattle.std.specs.String.{string_bytes};
-ghost use Rattle.live_rings.specs.RingWords.{AreFew, are_in_range, asked, asked_behind, most_rings, secret_in, with_servers};
+ghost use Rattle.live_rings.specs.Words.{AreFew, are_in_range, asked, asked_behind, most_rings, secret_in, with_servers};
 
 use live_run::{Medium, ServerWords, asked_in};
 use live_server::{Secret, Setting};

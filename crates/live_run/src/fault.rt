@@ -7,7 +7,7 @@ ghost use Rattle.live_run.specs.Faults.{code_of};
 #[derive(Clone, Copy, Debug, PartialEq, Eq)]
 pub enum Fault {
     /// The words are none of the usage line.
-    ServerWords,
+    Words,
     /// Memory was missing.
     NoMemory,
     /// The input, the clock or the random source can't be read.

@@ -3,7 +3,7 @@
 ghost use Rattle.std.specs.Prelude.{◌≡◌, ◌<◌, map};
 ghost use Rattle.std.specs.String.{string_bytes};
 ghost use Rattle.shell.specs.Numbers.{numeral};
-ghost use Rattle.live_run.specs.ServerWords.{address_of, asked, device_asked, frames_asked, length_of, secret_of, setting_of};
+ghost use Rattle.live_run.specs.Words.{address_of, asked, device_asked, frames_asked, length_of, secret_of, setting_of};
 
 use crate::port_words::ports_in;
 use byteorder::{BigEndian, ByteOrder};

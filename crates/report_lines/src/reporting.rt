@@ -322,7 +322,9 @@ fn push_reply<T: TextEnd>(
 pub fn push_datagram<T: TextEnd>(text: &mut T, at: u64, bytes: &[u8]) -> Result<(), T::Fault>
     ensures { OnOk result (T.told text.new ≡ more (T.told text.old) (datagram_line at bytes.now)) }
 {
-    push_field(text, b"reply ", at)?;
+    // A word that is put by itself is copied as the constant that it is: a report has millions of these lines.
+    text.put(b"reply ")?;
+    push_decimal(text, at)?;
     text.put(b" ")?;
     push_hex(text, bytes)?;
     text.put(b"\n")

@@ -3,7 +3,7 @@ use Rattle.std.proofs.lemmas.List.{set-get_or}
 use Rattle.conn_classifier.proofs.SortLemmas.{grown_at}
 use Rattle.stream_plan.specs.Sorting.{SortedOf, entered, heard, with_datagram}
 use Rattle.stream_plan.proofs.SortSteps.{same_at}
-use Rattle.stream_plan.proofs.sorting.Sorted.add.Goals.{in-ServedDatagram+in_ok-hear-in-ServedDatagram, in-Segment+in_ok-push-in-Segment}
+use Rattle.stream_plan.proofs.sorting.Sorted.add.Goals.{in-Datagram+in_ok-hear-in-Datagram, in-Segment+in_ok-push-in-Segment}
 use Rattle.stream_plan.proofs.sorting.Sorted.add.Goals as goal
 
 pub returns : goal.returns
@@ -20,11 +20,11 @@ returns c = λ d.
       arrived = s.arrived + 1;
     }) c.self.view_is in
     elim c.match-found.branch [
-      | in-ServedDatagram+in_ok-hear-in-ServedDatagram w ↦
+      | in-Datagram+in_ok-hear-in-Datagram w ↦
           let lt : n < length ss = subst (λ (s : SortedOf). n < length s.streams) (sym c.self.view_is) c.requires.stream in
-          let streams = ap (set ss n) (w.in_ok-hear-in-ServedDatagram.ensures ∙ ap (with_datagram rec at w.in-ServedDatagram.udp) (w.index_mut.ensures.value ∙ same_at ss n w.index_mut.result.now d lt)
-          ∙ ap (λ f. heard rec at f (get_or ss n d)) (sym w.in-ServedDatagram.is)) in
-          let segments = sym (ap (λ f. set (map (λ v. v.items) vs) n (entered rec at f (get_or (map (λ v. v.items) vs) n []))) w.in-ServedDatagram.is ∙ set-get_or (map (λ v. v.items) vs) n []) in
+          let streams = ap (set ss n) (w.in_ok-hear-in-Datagram.ensures ∙ ap (with_datagram rec at w.in-Datagram.udp) (w.index_mut.ensures.value ∙ same_at ss n w.index_mut.result.now d lt)
+          ∙ ap (λ f. heard rec at f (get_or ss n d)) (sym w.in-Datagram.is)) in
+          let segments = sym (ap (λ f. set (map (λ v. v.items) vs) n (entered rec at f (get_or (map (λ v. v.items) vs) n []))) w.in-Datagram.is ∙ set-get_or (map (λ v. v.items) vs) n []) in
           (λ k. record {
             tuples = (w.self-inside-is k).tuples.keys;
             streams = (w.self-inside-is k).streams.items;
