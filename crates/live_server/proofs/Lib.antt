@@ -15,3 +15,5 @@ pub mod LossLemmas
 pub mod ArriveLemmas
 pub mod FrameLemmas
 pub mod PieceLemmas
+pub mod PromiseLemmas
+pub mod OneLemmas

@@ -11,4 +11,5 @@ pub mod Leaving
 pub mod Facts
 pub mod Serving
 pub mod Isolation
+pub mod Promises
 pub mod Frames
