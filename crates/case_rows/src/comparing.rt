@@ -1,7 +1,6 @@
 //! What is wanted beside what came. A difference is told as one line: of what, which line, wanted, got.
 
-ghost use Rattle.std.specs.Prelude.{◌≡◌, ◌≢◌, ◌∷◌, ◌++◌, [], IfSome, MatchResult, OnOk};
-ghost use Rattle.std.specs.List.{flat_map};
+ghost use Rattle.std.specs.Prelude.{◌≡◌, ◌≢◌, ◌∷◌, ◌++◌, IfSome, MatchResult};
 
 use crate::fault::RowFault;
 use std::alloc::Global;

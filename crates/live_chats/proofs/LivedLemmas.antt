@@ -1,6 +1,6 @@
 -- Stays and lives, from one moment of a table to the next.
-use Rattle.std.proofs.Common.{◌≡◌, ◌≢◌, ℕ, zero, suc, ◌+◌, ◌<◌, ◌≤◌, ◌==◌, Bool, true, false, cond, List, [], ◌∷◌, ◌++◌, length, map, take, slice_get, Option, None, Some, refl, sym, ap, subst, ◌∙◌, append_assoc, append-nil, add-one, arith, true≢false}
-use Rattle.std.specs.List.{AllByRecursion, IsDistinct, count_by, flat_map, sum, swap_remove}
+use Rattle.std.proofs.Common.{◌≡◌, ℕ, zero, suc, ◌+◌, ◌==◌, Bool, true, false, cond, List, [], ◌∷◌, ◌++◌, map, slice_get, None, Some, refl, sym, ap, subst, ◌∙◌, append_assoc, append-nil, arith}
+use Rattle.std.specs.List.{AllByRecursion, IsDistinct, count_by, flat_map, sum}
 use Rattle.std.specs.List.Sorted.{IsPermutation}
 use Rattle.std.specs.Map.{keys_of}
 use Rattle.std.specs.Option.{option_map_or}
@@ -11,7 +11,7 @@ use Rattle.turn_gate.specs.History.{Begins}
 use Rattle.turn_gate.specs.Passes.{number, seen}
 use Rattle.turn_gate.specs.declared.pass.Pass.{Pass}
 use Rattle.live_server.proofs.TableLemmas.{tuple_equivalence}
-use Rattle.std.proofs.lemmas.List.Sorted.{All-permutation, IsPermutation-append_left, IsPermutation-cons, IsPermutation-map, IsPermutation-middle, IsPermutation-refl, IsPermutation-sym, IsPermutation-trans}
+use Rattle.std.proofs.lemmas.List.Sorted.{All-permutation, IsPermutation-append_left, IsPermutation-cons, IsPermutation-map, IsPermutation-refl, IsPermutation-sym, IsPermutation-trans}
 use Rattle.std.proofs.lemmas.List.Elements.{All-from_recursion, recursion_from_All}
 use Rattle.sq_base.specs.declared.kinds.Tuple.{Tuple}
 use Rattle.perimeter_core.specs.declared.marks.SynchAct.TheVariants as Done
@@ -23,8 +23,7 @@ use Rattle.conn_migrate.specs.Moving.{Moved}
 use Rattle.live_server.specs.Table.{tuple_eq}
 use Rattle.live_server.specs.Told.{Told}
 use Rattle.live_server.specs.Told.Told.{begins, hears}
-use Rattle.live_chats.specs.Accounts.{Accounts, HasEndedStay, HearIfHere, IsAway, WereTold, heard_with, in_the_end, lives_with}
-use Rattle.live_chats.specs.Onward.{heard_both, lives_append}
+use Rattle.live_chats.specs.Accounts.{Accounts, HasEndedStay, IsAway, WereTold, heard_with, in_the_end, lives_with}
 use Rattle.live_chats.specs.Lived.{AreMadeOf, heard_by, lives, stay_of, stays_behind, stays_by}
 
 -- ---- histories

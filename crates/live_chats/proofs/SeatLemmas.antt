@@ -27,7 +27,7 @@ use Rattle.live_server.specs.declared.conn.Conn.{Conn}
 use Rattle.live_server.specs.declared.conn.Met.{Met}
 use Rattle.live_server.specs.declared.facts.Facts.{Facts}
 use Rattle.live_server.specs.Told.{Told}
-use Rattle.live_server.specs.Told.Told.{begins, hears}
+use Rattle.live_server.specs.Told.Told.{hears}
 use Rattle.live_server.proofs.TableLemmas.{conn_written, same, tuple_equivalence}
 use Rattle.live_chats.specs.Accounts.{Accounts, HasEndedStay, IsAway, SeatsWereTold, WereTold, account_of, accounts_of, number_in, pushed_at, seen_in}
 use Rattle.live_chats.specs.Hearing.{ChatOf, conn_in, hearing, hearing_all, nobody, silent}

@@ -55,7 +55,8 @@ pub(crate) fn reach_each<H: Wait + Drop, W: Wait>(
     ensures table { result.1 ≡ true → conns_of stays.new seats.new.entries ≡ all_reached now (conns_of stays.old seats.old.entries) }
     ensures sent { result.1 ≡ true → out.new.items ≡ out.old.items ++ flat_map (λ c. sent_by c.0 (reached now c.1)) (conns_of stays.old seats.old.entries) }
     ensures told { result.1 ≡ true
-        → SeatsWereTold limits_of line.now.squeue.now pass result.0 stays.old stays.new seats.old.entries seats.new.entries (map hears (keys_of seats.old.entries)) }
+        → SeatsWereTold limits_of line.now.squeue.now pass result.0 stays.old stays.new seats.old.entries
+        seats.new.entries (map hears (keys_of seats.old.entries)) }
     ensures lost { result.1 ≡ false → Spoils now (conns_of stays.old seats.old.entries) (conns_of stays.new seats.new.entries) }
 {
     if seats.is_empty() {

@@ -1,6 +1,6 @@
 //! A table of connections, each of which is a chat at a place of one pass.
 
-ghost use Rattle.std.specs.Prelude.{◌≡◌, ◌++◌, ◌∷◌, [], ◌<◌, ◌≤◌, true, false, length, slice_get, Some, IfSome, IfNone, OnErr, OnOk, ◌+◌};
+ghost use Rattle.std.specs.Prelude.{◌≡◌, ◌++◌, ◌∷◌, [], ◌<◌, ◌≤◌, length, slice_get, Some, IfSome, IfNone, OnErr, OnOk, ◌+◌};
 ghost use Rattle.turn_gate.specs.Passes.{number, seen};
 ghost use Rattle.placed_parts.specs.Placing.{limits_of, origin_of};
 ghost use Rattle.squeue_state.specs.Naming.{setting_of};
@@ -201,7 +201,8 @@ pub(crate) fn seat_new<H: Wait + Drop, W: Wait>(
     ensures seats { HasSeats limits_of line.now.squeue.now (origin_of line.now.squeue.now.given.first) result.0 stays.new seats.new.entries }
     ensures number { number result.0 ≡ number pass }
     ensures put { OnOk result.1 (conns_of stays.new seats.new.entries ≡ conns_of stays.old seats.old.entries ++ (ends, conn) ∷ []) }
-    ensures told { OnOk result.1 (SeatsWereTold limits_of line.now.squeue.now pass result.0 stays.old stays.new seats.old.entries seats.new.entries (begins ends ∷ [])) }
+    ensures told { OnOk result.1 (SeatsWereTold limits_of line.now.squeue.now pass result.0 stays.old stays.new seats.old.entries
+        seats.new.entries (begins ends ∷ [])) }
     ensures kept { OnErr result.1 (conns_of stays.new seats.new.entries ≡ conns_of stays.old seats.old.entries) }
 {
     if stays.life().asks <= seats.len() as u64 + 3 {

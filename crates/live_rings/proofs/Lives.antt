@@ -1,5 +1,5 @@
 -- What the connections of a ring had at its squeue.
-use Rattle.std.proofs.Common.{◌≡◌, ℕ, Bool, false, Option, None, Some, Result, Ok, Err, List, [], ◌∷◌, ◌++◌, refl, sym, ap, subst, ◌∙◌, append-nil}
+use Rattle.std.proofs.Common.{◌≡◌, ℕ, Bool, false, Option, None, Some, Result, Ok, Err, List, [], ◌++◌, sym, subst, ◌∙◌, append-nil}
 use Rattle.std.specs.Prelude.{IfSome, OnOk}
 use Rattle.turn_gate.specs.History.{Begins}
 use Rattle.perimeter_core.specs.History.{Element, Setting}

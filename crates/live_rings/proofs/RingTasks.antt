@@ -8,7 +8,7 @@ use Rattle.live_chats.specs.Hearing.{ChatOf}
 use Rattle.live_chats.specs.declared.item.ChatItem.{ChatItem}
 use Rattle.live_rings.specs.declared.ending.EndedRing.{EndedRing}
 use Rattle.live_rings.specs.declared.ending.Ends.{Ends}
-use Rattle.live_rings.specs.declared.ring.Ring.{Ring}
+use Rattle.live_rings.specs.declared.ring.RingThread.{RingThread}
 use Rattle.live_rings.specs.declared.ring.ServerTask.{ServerTask}
 use Rattle.live_rings.specs.declared.ring.ServerTask.TheVariants as Task'
 use Rattle.live_rings.specs.Groups.{AllBecameFrom}
@@ -22,19 +22,19 @@ none_long [] n = refl
 none_long (x ∷ xs) n = absurd (omega (arith, n))
 
 module _ {S K : Type 0} where
-  pub as_many : (parts : List (Stream ChatItem ChatOf)) (es : List (Ends S K)) (rs : List (Ring S K)) → AreNewRings parts es rs → length rs ≡ length es
-  as_many parts es rs are = sym (length-map rs (λ (r : Ring S K). r.ends)) ∙ ap length are.ends_are
+  pub as_many : (parts : List (Stream ChatItem ChatOf)) (es : List (Ends S K)) (rs : List (RingThread S K)) → AreNewRings parts es rs → length rs ≡ length es
+  as_many parts es rs are = sym (length-map rs (λ (r : RingThread S K). r.ends)) ∙ ap length are.ends_are
 
-  serve_got : (rs : List (Ring S K)) (k : ℕ) (t : ServerTask S K) → slice_get (map (λ r. Task'.Serve r) rs) k ≡ Some t → (r : Ring S K) × (slice_get rs k ≡ Some r) × (Task'.Serve r ≡ t)
+  serve_got : (rs : List (RingThread S K)) (k : ℕ) (t : ServerTask S K) → slice_get (map (λ r. Task'.Serve r) rs) k ≡ Some t → (r : RingThread S K) × (slice_get rs k ≡ Some r) × (Task'.Serve r ≡ t)
   serve_got [] k t is = cc is
   serve_got (r ∷ rs) zero t is = let same : Task'.Serve r ≡ t = cc is in (r, refl, same)
   serve_got (r ∷ rs) (suc k) t is = serve_got rs k t is
 
   -- the rings have their tasks
-  pub are_tasks : (n : ℕ) (parts : List (Stream ChatItem ChatOf)) (es : List (Ends S K)) (rs : List (Ring S K)) → n ≡ length es → AreNewRings parts es rs → AreNewTasks n parts (tasks_for rs)
+  pub are_tasks : (n : ℕ) (parts : List (Stream ChatItem ChatOf)) (es : List (Ends S K)) (rs : List (RingThread S K)) → n ≡ length es → AreNewRings parts es rs → AreNewTasks n parts (tasks_for rs)
   are_tasks n parts es rs counted are =
       let front : List (ServerTask S K) = map (λ r. Task'.Serve r) rs in
-      let many : length front ≡ n = length-map rs (λ (r : Ring S K). Task'.Serve r) ∙ (as_many parts es rs are ∙ sym counted) in
+      let many : length front ≡ n = length-map rs (λ (r : RingThread S K). Task'.Serve r) ∙ (as_many parts es rs are ∙ sym counted) in
       record {
         count = omega (arith, length-append front (Task'.Work ∷ []), many);
         each = λ c t at. elim (get_more front Task'.Work t c at) [
@@ -63,7 +63,7 @@ module _ {S K : Type 0} where
 
 module _ {S K : Type 0} (P : Ends S K → EndedRing S K → Type 0) (Q : ℕ → Ends S K → EndedRing S K → Type 0) where
   -- when all are done this is left of each stream, by number
-  pub all_ended_from : (rs : List (Ring S K)) (news : List (ServerTask S K)) (m : ℕ) → length news ≡ length (tasks_for rs) → DidEach P (tasks_for rs) news
+  pub all_ended_from : (rs : List (RingThread S K)) (news : List (ServerTask S K)) (m : ℕ) → length news ≡ length (tasks_for rs) → DidEach P (tasks_for rs) news
       → ((k : ℕ) (e : Ends S K) (d : EndedRing S K) → slice_get news k ≡ Some (Task'.Served d) → P e d → Q (m + k) e d)
       → AllBecameFrom Q m (map (λ r. r.ends) rs) (ended_of news)
   all_ended_from [] [] m n did f = absurd (omega (arith, n))

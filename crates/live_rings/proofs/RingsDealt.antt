@@ -8,7 +8,7 @@ use Rattle.stream_stays.specs.declared.place.Stays.{Stays}
 use Rattle.live_chats.specs.Hearing.{ChatOf}
 use Rattle.live_chats.specs.declared.item.ChatItem.{ChatItem}
 use Rattle.live_rings.specs.declared.ending.Ends.{Ends}
-use Rattle.live_rings.specs.declared.ring.Ring.{Ring}
+use Rattle.live_rings.specs.declared.ring.RingThread.{RingThread}
 use Rattle.live_rings.specs.Seating.{AreNewPlaces, AreNewStays, AreOwnStays}
 use Rattle.live_rings.specs.Tasks.{AreNewRings}
 use Rattle.live_rings.proofs.Seated.{get_more}
@@ -39,27 +39,27 @@ new_of_own rings ring parts all stays new is =
 
 module _ {S K : Type 0} where
   -- the first so many rings have their places, and the others' places and ends are left
-  pub record IsDealt (rings n : ℕ) (all left : List (Place ChatItem ChatOf)) (first ends : List (Ends S K)) (made : List (Ring S K)) : Type 0 where
+  pub record IsDealt (rings n : ℕ) (all left : List (Place ChatItem ChatOf)) (first ends : List (Ends S K)) (made : List (RingThread S K)) : Type 0 where
     pub many : length made ≡ n
     pub ends_are : first ≡ map (λ r. r.ends) made ++ reverse ends
-    pub each : (k : ℕ) (r : Ring S K) → slice_get made k ≡ Some r → AreOwnStays rings k all r.stays
+    pub each : (k : ℕ) (r : RingThread S K) → slice_get made k ≡ Some r → AreOwnStays rings k all r.stays
     pub left_of : (c : ℕ) → n ≤ c % rings → slice_get left c ≡ slice_get all c
     pub count : length left ≡ length all
 
-  no_ring : (k : ℕ) (r : Ring S K) → slice_get {X = Ring S K} [] k ≡ Some r → ⊥
+  no_ring : (k : ℕ) (r : RingThread S K) → slice_get {X = RingThread S K} [] k ≡ Some r → ⊥
   no_ring k r is = cc is
 
-  pub none_dealt : (rings : ℕ) (all left : List (Place ChatItem ChatOf)) (first ends : List (Ends S K)) (made : List (Ring S K)) → left ≡ all → ends ≡ reverse first → made ≡ [] → IsDealt rings 0 all left first ends made
+  pub none_dealt : (rings : ℕ) (all left : List (Place ChatItem ChatOf)) (first ends : List (Ends S K)) (made : List (RingThread S K)) → left ≡ all → ends ≡ reverse first → made ≡ [] → IsDealt rings 0 all left first ends made
   none_dealt rings all left first ends made same turned none =
       record {
         many = ap length none;
-        ends_are = sym (ap (λ (m : List (Ring S K)). map (λ r. r.ends) m ++ reverse ends) none ∙ (ap reverse turned ∙ reverse-reverse first));
-        each = λ k r at. absurd (no_ring k r (ap (λ (l : List (Ring S K)). slice_get l k) (sym none) ∙ at));
+        ends_are = sym (ap (λ (m : List (RingThread S K)). map (λ r. r.ends) m ++ reverse ends) none ∙ (ap reverse turned ∙ reverse-reverse first));
+        each = λ k r at. absurd (no_ring k r (ap (λ (l : List (RingThread S K)). slice_get l k) (sym none) ∙ at));
         left_of = λ c le. ap (λ (l : List (Place ChatItem ChatOf)). slice_get l c) same;
         count = ap length same;
       }
 
-  pub one_dealt : (rings n : ℕ) (all left next : List (Place ChatItem ChatOf)) (first ends more : List (Ends S K)) (made news : List (Ring S K)) (e : Ends S K) (r : Ring S K) → IsDealt rings n all left first ends made
+  pub one_dealt : (rings n : ℕ) (all left next : List (Place ChatItem ChatOf)) (first ends more : List (Ends S K)) (made news : List (RingThread S K)) (e : Ends S K) (r : RingThread S K) → IsDealt rings n all left first ends made
       → ends ≡ more ++ e ∷ [] → r.ends ≡ e → news ≡ made ++ r ∷ [] → AreOwnStays rings n left r.stays → ((c : ℕ) → c % rings ≢ n → slice_get next c ≡ slice_get left c) → length next ≡ length left
       → IsDealt rings (n + 1) all next first more news
   one_dealt rings n all left next first ends more made news e r was split its_ends is own others count =
@@ -67,19 +67,19 @@ module _ {S K : Type 0} where
         many = ap length is ∙ (length-append made (r ∷ []) ∙ ap (λ (m : ℕ). m + 1) was.many);
         ends_are =
             was.ends_are ∙ (ap (λ (l : List (Ends S K)). map (λ r. r.ends) made ++ l) (ap reverse split ∙ reverse-append more (e ∷ [])) ∙ (sym (append_assoc (map (λ r. r.ends) made) (e ∷ []) (reverse more))
-            ∙ ap (λ (l : List (Ends S K)). l ++ reverse more) (sym (ap (map (λ (r : Ring S K). r.ends)) is ∙ (map-append (λ (r : Ring S K). r.ends) made (r ∷ []) ∙ ap (λ (x : Ends S K). map (λ (r : Ring S K). r.ends) made ++ x ∷ []) its_ends)))));
-        each = λ k x at. elim (get_more made r x k (ap (λ (l : List (Ring S K)). slice_get l k) (sym is) ∙ at)) [
+            ∙ ap (λ (l : List (Ends S K)). l ++ reverse more) (sym (ap (map (λ (r : RingThread S K). r.ends)) is ∙ (map-append (λ (r : RingThread S K). r.ends) made (r ∷ []) ∙ ap (λ (x : Ends S K). map (λ (r : RingThread S K). r.ends) made ++ x ∷ []) its_ends)))));
+        each = λ k x at. elim (get_more made r x k (ap (λ (l : List (RingThread S K)). slice_get l k) (sym is) ∙ at)) [
           | inl there ↦ was.each k x there
           | inr last ↦
               let here : n ≡ k = sym was.many ∙ sym last.0 in
-              subst (λ (j : ℕ). AreOwnStays rings j all x.stays) here (subst (λ (y : Ring S K). AreOwnStays rings n all y.stays) last.1 (own_of_all rings n all left r.stays was.left_of was.count own))
+              subst (λ (j : ℕ). AreOwnStays rings j all x.stays) here (subst (λ (y : RingThread S K). AreOwnStays rings n all y.stays) last.1 (own_of_all rings n all left r.stays was.left_of was.count own))
         ];
         left_of = λ c le. others c (λ e. absurd (omega (arith, e, le))) ∙ was.left_of c (omega (arith, le));
         count = count ∙ was.count;
       }
 
   -- all rings have their places
-  pub all_dealt : (rings n : ℕ) (all left : List (Place ChatItem ChatOf)) (first ends : List (Ends S K)) (made : List (Ring S K)) (parts : List (Stream ChatItem ChatOf)) → IsDealt rings n all left first ends made → ends ≡ [] → rings ≡ length first → AreNewPlaces parts all
+  pub all_dealt : (rings n : ℕ) (all left : List (Place ChatItem ChatOf)) (first ends : List (Ends S K)) (made : List (RingThread S K)) (parts : List (Stream ChatItem ChatOf)) → IsDealt rings n all left first ends made → ends ≡ [] → rings ≡ length first → AreNewPlaces parts all
       → AreNewRings parts first made
   all_dealt rings n all left first ends made parts is none counted new =
       record {

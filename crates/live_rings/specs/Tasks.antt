@@ -18,20 +18,20 @@ use Rattle.live_chats.specs.declared.chats.Chats.{Chats}
 use Rattle.live_chats.specs.declared.item.ChatItem.{ChatItem}
 use Rattle.live_rings.specs.declared.ending.EndedRing.{EndedRing}
 use Rattle.live_rings.specs.declared.ending.Ends.{Ends}
-use Rattle.live_rings.specs.declared.ring.Ring.{Ring}
+use Rattle.live_rings.specs.declared.ring.RingThread.{RingThread}
 use Rattle.live_rings.specs.declared.ring.ServerTask.{ServerTask}
 use Rattle.live_rings.specs.declared.ring.ServerTask.TheVariants as Task'
 use Rattle.live_rings.specs.Seating.{AreNewStays}
 
 module _ {S K : Type 0} where
   -- ring k of so many has its own of the places with these parts, where nobody was ever
-  abbrev pub IsNewRing : ℕ → List (Stream ChatItem ChatOf) → ℕ → Ring S K → Type 0
+  abbrev pub IsNewRing : ℕ → List (Stream ChatItem ChatOf) → ℕ → RingThread S K → Type 0
   IsNewRing rings parts k ring = AreNewStays rings k parts ring.stays
 
   -- there is one for each of these ends, by number
-  pub record AreNewRings (parts : List (Stream ChatItem ChatOf)) (ends : List (Ends S K)) (rings : List (Ring S K)) : Type 0 where
+  pub record AreNewRings (parts : List (Stream ChatItem ChatOf)) (ends : List (Ends S K)) (rings : List (RingThread S K)) : Type 0 where
     pub ends_are : map (λ r. r.ends) rings ≡ ends
-    pub each : (k : ℕ) (ring : Ring S K) → slice_get rings k ≡ Some ring → IsNewRing (length ends) parts k ring
+    pub each : (k : ℕ) (ring : RingThread S K) → slice_get rings k ≡ Some ring → IsNewRing (length ends) parts k ring
 
   -- there is a task for each pass, by number: a new ring's of each stream, and then that of the worker
   abbrev pub IsNewTask : ℕ → List (Stream ChatItem ChatOf) → ℕ → ServerTask S K → Type 0
@@ -44,7 +44,7 @@ module _ {S K : Type 0} where
     pub each : (c : ℕ) (t : ServerTask S K) → slice_get tasks c ≡ Some t → IsNewTask rings parts c t
 
   -- the tasks of rings, and behind them the worker's
-  abbrev pub tasks_for : List (Ring S K) → List (ServerTask S K)
+  abbrev pub tasks_for : List (RingThread S K) → List (ServerTask S K)
   tasks_for rings = map (λ r. Task'.Serve r) rings ++ Task'.Work ∷ []
 
   -- what is left of the streams of some tasks
@@ -78,7 +78,7 @@ pass_in (o ∷ n ∷ os) = None
 
 module _ {R P : Type 0} {G : Ghosts R P Chats} (s : Named (Places R P Chats G)) where
   -- a ring may serve by this pass, which knows its places; nothing is pushed
-  abbrev pub MayServe : {S K : Type 0} → Pass Element → Ring S K → Type 0
+  abbrev pub MayServe : {S K : Type 0} → Pass Element → RingThread S K → Type 0
   MayServe p ring = Knows IsFirst Tells limits_of s (origin_of s.given.first) p ring.stays × (chain_of ring.stays ≡ []) × (touched_of ring.stays ≡ [])
 
   -- what a task needs of its pass: a ring's knows the ring's places, and the other one is the worker's

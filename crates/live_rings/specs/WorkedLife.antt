@@ -1,5 +1,5 @@
 -- A connection that lived, written out: it begins, hears one frame, and leaves.
-use Rattle.std.specs.Prelude.{ℕ, false, List, [], ◌∷◌}
+use Rattle.std.specs.Prelude.{false, List, [], ◌∷◌}
 use Rattle.sq_base.specs.declared.kinds.Tuple.{Tuple}
 use Rattle.perimeter_core.specs.declared.entries.Entry.TheVariants.{Ask, Feed}
 use Rattle.perimeter_core.specs.declared.marks.Mark.TheVariants as On

@@ -39,7 +39,7 @@ use stream_stays::Stays;
 
 /// What a ring has before it serves: where it reads and writes, the places of its pass, and the numbers of those that are free.
 #[derive(Drop)]
-pub struct Ring<S: Drop, K: Drop> {
+pub struct RingThread<S: Drop, K: Drop> {
     pub ends: Ends<S, K>,
     pub stays: Stays<ChatItem, Chat>,
     pub free: VecDeque<u32>,
@@ -48,7 +48,7 @@ pub struct Ring<S: Drop, K: Drop> {
 /// What a pass is used for: to serve a stream, or to work the squeue to its end. `Served` is what is left of a stream.
 #[derive(Drop)]
 pub enum ServerTask<S: Drop, K: Drop> {
-    Serve(Ring<S, K>),
+    Serve(RingThread<S, K>),
     Served(EndedRing<S, K>),
     Work,
 }
@@ -123,7 +123,7 @@ fn serve_ring<H: Wait + Drop, S: Source + Drop, K: Sink + Drop, W: Wait>(
     alloc: Global,
     setup: &Layout,
     pass: Pass,
-    ring: Ring<S, K>,
+    ring: RingThread<S, K>,
 ) -> (Pass, EndedRing<S, K>)
     requires setup { IsInRange setup.now }
     requires may { MayServe sq.now pass ring }
@@ -131,7 +131,7 @@ fn serve_ring<H: Wait + Drop, S: Source + Drop, K: Sink + Drop, W: Wait>(
     ensures served { EndedAt S.rest S.read_faults K.contents K.write_faults (setting_of limits_of sq.now.given) setup.now ring.ends result.1 }
     ensures knows { result.1.pass.value ≡ result.0 }
 {
-    let Ring { ends, stays, free } = ring;
+    let RingThread { ends, stays, free } = ring;
     let Ends {
         mut reader,
         mut sink,

@@ -21,7 +21,7 @@ ghost use Rattle.live_rings.specs.declared.ending.EndedRing.{EndedRing};
 ghost use Rattle.live_rings.specs.Tasks.{AreDone, AreNewRings, AreNewTasks, ended_of, tasks_for};
 
 use crate::ending::{EndedRing, Ends};
-use crate::ring::{Ring, ServerTask, run_rings};
+use crate::ring::{RingThread, ServerTask, run_rings};
 use crate::seating::{Parts, new_pairs, new_places, new_squeue, no_parts, own_numbers, own_stays};
 use crate::words::Layout;
 use live_chats::{Chat, ChatItem, Chats};
@@ -90,7 +90,7 @@ fn new_rings<S: Drop, K: Drop>(
     alloc: Global,
     own: u32,
     ends: Vec<Ends<S, K>>,
-) -> Result<(Chats, Vec<Ring<S, K>>), AllocError>
+) -> Result<(Chats, Vec<RingThread<S, K>>), AllocError>
     requires { (1 ≤ length ends.items) × (length ends.items ≤ 63) × (length ends.items * own < 2 ^ 32) }
     ensures many { IfOk result (λ r. length (first_of r.0) ≡ length ends.items * own) }
     ensures rings { IfOk result (λ r. AreNewRings (first_of r.0) ends.items r.1.items) }
@@ -110,7 +110,7 @@ fn deal_places<S: Drop, K: Drop>(
     own: u32,
     ends: Vec<Ends<S, K>>,
     places: Vec<Place<ChatItem, Chat>>,
-) -> Result<Vec<Ring<S, K>>, AllocError>
+) -> Result<Vec<RingThread<S, K>>, AllocError>
     requires { (1 ≤ count) × (length ends.items ≡ count) × (count * own < 2 ^ 32) × (length places.items ≡ count * own) }
     ensures { IfOk result (λ v. (parts : List (Stream ChatItem ChatOf)) → AreNewPlaces parts places.items → AreNewRings parts ends.items v.items) }
 {
@@ -124,7 +124,7 @@ fn deal_places<S: Drop, K: Drop>(
         };
         let stays = own_stays(alloc, count, ring, &mut places)?;
         let free = own_numbers(alloc, count, ring, own)?;
-        rings.push_reserved(Ring { ends, stays, free });
+        rings.push_reserved(RingThread { ends, stays, free });
     }
     Ok(rings)
 }
@@ -132,7 +132,7 @@ fn deal_places<S: Drop, K: Drop>(
 // The tasks of the passes: each ring serves its stream, and the last pass works.
 fn tasks_of<S: Drop, K: Drop>(
     alloc: Global,
-    rings: Vec<Ring<S, K>>,
+    rings: Vec<RingThread<S, K>>,
 ) -> Result<Vec<ServerTask<S, K>>, AllocError>
     ensures { IfOk result (λ v. v.items ≡ tasks_for rings.items) }
 {

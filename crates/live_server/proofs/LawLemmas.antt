@@ -26,11 +26,11 @@ stays_on q a b c (inl here) (inr there) = inr (there.0, subst (λ o. IfSome o (�
 stays_on q a b c (inr here) (inl there) = inr (there ∙ here.0, here.1)
 stays_on q a b c (inr here) (inr there) = inr (there.0, here.1)
 
-still_new : (q : Tuple) (a b : ServerOf) → Stays q a b → IsNew q a.conns → IsNew q b.conns
+pub still_new : (q : Tuple) (a b : ServerOf) → Stays q a b → IsNew q a.conns → IsNew q b.conns
 still_new q a b (inl e) new = e ∙ new
 still_new q a b (inr e) new = e.0
 
-chosen : (b : Bool) (v : Bool) (x y : Option Conn) → v ≡ b → cond v x y ≡ cond b x y
+pub chosen : (b : Bool) (v : Bool) (x y : Option Conn) → v ≡ b → cond v x y ≡ cond b x y
 chosen b v x y e = ap (λ w. cond w x y) e
 
 -- ---- one that gives way
@@ -94,12 +94,12 @@ chosen_stays : (q : Tuple) (sv : ServerOf) (b : Bool) (x y : ServerOf) → Stays
 chosen_stays q sv true x y here there = here
 chosen_stays q sv false x y here there = there
 
-yielding_table : (ts : List (Tuple × ℕ)) (sv : ServerOf) → IsTable sv → IsTable (yielding ts sv)
+pub yielding_table : (ts : List (Tuple × ℕ)) (sv : ServerOf) → IsTable sv → IsTable (yielding ts sv)
 yielding_table [] sv table = table
 yielding_table (t ∷ ts) sv table =
     chosen_table (has_place sv) _ _ table (yielding_table ts (yields t (record sv { waiting = ts })) (yields_table t (record sv { waiting = ts }) (with_waiting ts sv table)))
 
-yielding_stays : (q : Tuple) (ts : List (Tuple × ℕ)) (sv : ServerOf) → IsTable sv → Stays q sv (yielding ts sv)
+pub yielding_stays : (q : Tuple) (ts : List (Tuple × ℕ)) (sv : ServerOf) → IsTable sv → Stays q sv (yielding ts sv)
 yielding_stays q [] sv table = inl refl
 yielding_stays q (t ∷ ts) sv table =
     let here = record sv { waiting = ts } in
@@ -125,7 +125,7 @@ module _ (t : Tuple) (c : Conn) (sv : ServerOf) (new : IsNew t sv.conns) where
       })
   taken_table table false e = subst (λ (o : Outcome). IsTable o.server) (sym (taken_by false e)) (record { once = table.once; bounded = table.bounded })
 
-  taken_stays : (q : Tuple) → tuple_eq t q ≡ false → (b : Bool) → has_place sv ≡ b → conn_of q (takes_place t c sv).server ≡ conn_of q sv
+  pub taken_stays : (q : Tuple) → tuple_eq t q ≡ false → (b : Bool) → has_place sv ≡ b → conn_of q (takes_place t c sv).server ≡ conn_of q sv
   taken_stays q apart true e = ap (λ (o : Outcome). conn_of q o.server) (taken_by true e) ∙ look_appended t (emptied (numbered sv c)) sv.conns new q ∙ chosen false (tuple_eq t q) _ _ apart
   taken_stays q apart false e = ap (λ (o : Outcome). conn_of q o.server) (taken_by false e)
 
@@ -138,25 +138,25 @@ module _ (i : ℕ) (t : Tuple) (c : Conn) (sv : ServerOf) (at : place_of t sv.co
     bounded = omega (arith, length_replaced sv.conns i c (within_at t sv.conns i at), table.bounded);
   }
 
-  become_look : (q : Tuple) → conn_of q (becomes i t c sv).server ≡ cond (tuple_eq t q) (kept_as c) (conn_of q sv)
+  pub become_look : (q : Tuple) → conn_of q (becomes i t c sv).server ≡ cond (tuple_eq t q) (kept_as c) (conn_of q sv)
   unfolding becomes
   become_look q = look_replaced sv.conns i c (within_at t sv.conns i at) t (first_at t sv.conns i at) table.once q
 
 module _ (now : ℕ) (t : Tuple) (sv : ServerOf) where
-  timed_by : (r : Option ℕ) → place_of t sv.conns ≡ r → time_to now t sv ≡ option_map_or (λ i. becomes i t (reached now (conn_at i sv.conns)) sv) r (sends_nothing sv)
+  pub timed_by : (r : Option ℕ) → place_of t sv.conns ≡ r → time_to now t sv ≡ option_map_or (λ i. becomes i t (reached now (conn_at i sv.conns)) sv) r (sends_nothing sv)
   unfolding time_to
   timed_by r at = ap (λ o. option_map_or (λ i. becomes i t (reached now (conn_at i sv.conns)) sv) o (sends_nothing sv)) at
 
-  timed_table : IsTable sv → (r : Option ℕ) → place_of t sv.conns ≡ r → IsTable (time_to now t sv).server
+  pub timed_table : IsTable sv → (r : Option ℕ) → place_of t sv.conns ≡ r → IsTable (time_to now t sv).server
   timed_table table None at = subst (λ (o : Outcome). IsTable o.server) (sym (timed_by None at)) table
   timed_table table (Some i) at = subst (λ (o : Outcome). IsTable o.server) (sym (timed_by (Some i) at)) (become_table i t (reached now (conn_at i sv.conns)) sv at table)
 
-  timed_stays : (q : Tuple) → tuple_eq t q ≡ false → IsTable sv → (r : Option ℕ) → place_of t sv.conns ≡ r → conn_of q (time_to now t sv).server ≡ conn_of q sv
+  pub timed_stays : (q : Tuple) → tuple_eq t q ≡ false → IsTable sv → (r : Option ℕ) → place_of t sv.conns ≡ r → conn_of q (time_to now t sv).server ≡ conn_of q sv
   timed_stays q apart table None at = ap (λ (o : Outcome). conn_of q o.server) (timed_by None at)
   timed_stays q apart table (Some i) at =
       ap (λ (o : Outcome). conn_of q o.server) (timed_by (Some i) at) ∙ become_look i t (reached now (conn_at i sv.conns)) sv at table q ∙ chosen false (tuple_eq t q) _ _ apart
 
-  timed_kept : (r : Option ℕ) → place_of t sv.conns ≡ r → ((time_to now t sv).server.setting ≡ sv.setting) × ((time_to now t sv).server.secret ≡ sv.secret) × ((time_to now t sv).server.held ≡ sv.held)
+  pub timed_kept : (r : Option ℕ) → place_of t sv.conns ≡ r → ((time_to now t sv).server.setting ≡ sv.setting) × ((time_to now t sv).server.secret ≡ sv.secret) × ((time_to now t sv).server.held ≡ sv.held)
   unfolding becomes
   timed_kept None at = (ap (λ (o : Outcome). o.server.setting) (timed_by None at), ap (λ (o : Outcome). o.server.secret) (timed_by None at), ap (λ (o : Outcome). o.server.held) (timed_by None at))
   timed_kept (Some i) at = (ap (λ (o : Outcome). o.server.setting) (timed_by (Some i) at), ap (λ (o : Outcome). o.server.secret) (timed_by (Some i) at), ap (λ (o : Outcome). o.server.held) (timed_by (Some i) at))
@@ -171,7 +171,7 @@ module _ (now : ℕ) (s : Seg) (text : List ℕ) (sv : ServerOf) (table : IsTabl
   abbrev room_made : ServerOf
   room_made = yielding sv.waiting sv
 
-  opened_by : (b : Bool) → is_over fresh ≡ b → opens now s text sv ≡ cond b (sends_of ends fresh sv) (takes_place ends fresh room_made)
+  pub opened_by : (b : Bool) → is_over fresh ≡ b → opens now s text sv ≡ cond b (sends_of ends fresh sv) (takes_place ends fresh room_made)
   unfolding opens
   opened_by b e = ap (λ v. cond v (sends_of ends fresh sv) (takes_place ends fresh room_made)) e
 
@@ -191,14 +191,14 @@ module _ (now : ℕ) (s : Seg) (text : List ℕ) (sv : ServerOf) (table : IsTabl
   abbrev gone_on : ℕ → Outcome
   gone_on i = goes_on now s text i sv
 
-  went_on : (i : ℕ) → goes_on now s text i sv ≡ becomes i ends (served now s text sv (conn_at i sv.conns)) (judging (judged now s text (conn_at i sv.conns)) sv)
+  pub went_on : (i : ℕ) → goes_on now s text i sv ≡ becomes i ends (served now s text sv (conn_at i sv.conns)) (judging (judged now s text (conn_at i sv.conns)) sv)
   unfolding goes_on
   went_on i = refl
 
-  judged_table : (i : ℕ) → IsTable (judging (judged now s text (conn_at i sv.conns)) sv)
+  pub judged_table : (i : ℕ) → IsTable (judging (judged now s text (conn_at i sv.conns)) sv)
   judged_table i = record { once = table.once; bounded = table.bounded }
 
-  came_by : (r : Option ℕ) → place_of ends sv.conns ≡ r → comes now s text sv ≡ option_map_or gone_on r (opens now s text sv)
+  pub came_by : (r : Option ℕ) → place_of ends sv.conns ≡ r → comes now s text sv ≡ option_map_or gone_on r (opens now s text sv)
   unfolding comes
   came_by r at = ap (λ o. option_map_or gone_on o (opens now s text sv)) at
 
@@ -207,11 +207,14 @@ module _ (now : ℕ) (s : Seg) (text : List ℕ) (sv : ServerOf) (table : IsTabl
   came_table (Some i) at =
       subst (λ (o : Outcome). IsTable o.server) (sym (came_by (Some i) at ∙ went_on i)) (become_table i ends _ (judging (judged now s text (conn_at i sv.conns)) sv) at (judged_table i))
 
+  pub became_others : (i : ℕ) → place_of ends sv.conns ≡ Some i → (q : Tuple) → tuple_eq ends q ≡ false → conn_of q (comes now s text sv).server ≡ conn_of q sv
+  became_others i at q apart =
+      ap (λ (o : Outcome). conn_of q o.server) (came_by (Some i) at ∙ went_on i)
+      ∙ become_look i ends _ (judging (judged now s text (conn_at i sv.conns)) sv) at (judged_table i) q ∙ chosen false (tuple_eq ends q) _ _ apart
+
   came_stays : (q : Tuple) → tuple_eq ends q ≡ false → (r : Option ℕ) → place_of ends sv.conns ≡ r → Stays q sv (comes now s text sv).server
   came_stays q apart None at = subst (λ (o : Outcome). Stays q sv o.server) (sym (came_by None at)) (opened_stays q apart (new_from_place ends sv.conns at) (is_over fresh) refl)
-  came_stays q apart (Some i) at =
-      subst (λ (o : Outcome). Stays q sv o.server) (sym (came_by (Some i) at ∙ went_on i))
-      (inl (become_look i ends _ (judging (judged now s text (conn_at i sv.conns)) sv) at (judged_table i) q ∙ chosen false (tuple_eq ends q) _ _ apart))
+  came_stays q apart (Some i) at = inl (became_others i at q apart)
 
   came_own : (i : ℕ) → place_of ends sv.conns ≡ Some i → conn_of ends (comes now s text sv).server ≡ kept_as (served now s text sv (conn_at i sv.conns))
   came_own i at =
@@ -224,22 +227,22 @@ placed_at t cs c look None at = absurd (true≢false (sym (ap is_some look) ∙ 
 placed_at t cs c look (Some i) at = (i, at, ap (λ o. unwrap_or o c) (sym (conn_looked t cs i at) ∙ look))
 
 module _ (now : ℕ) (s : Seg) (text : List ℕ) (sv : ServerOf) (table : IsTable sv) where
-  noted_conns : (b : Bool) → fits text sv ≡ b → (noting text sv).conns ≡ sv.conns
+  pub noted_conns : (b : Bool) → fits text sv ≡ b → (noting text sv).conns ≡ sv.conns
   noted_conns true e = ap (λ v. (cond v (holding text sv) (overfull sv)).conns) e
   noted_conns false e = ap (λ v. (cond v (holding text sv) (overfull sv)).conns) e
 
-  noted_rest : (b : Bool) → fits text sv ≡ b → ((noting text sv).setting ≡ sv.setting) × ((noting text sv).secret ≡ sv.secret)
+  pub noted_rest : (b : Bool) → fits text sv ≡ b → ((noting text sv).setting ≡ sv.setting) × ((noting text sv).secret ≡ sv.secret)
   noted_rest true e = (ap (λ v. (cond v (holding text sv) (overfull sv)).setting) e, ap (λ v. (cond v (holding text sv) (overfull sv)).secret) e)
   noted_rest false e = (ap (λ v. (cond v (holding text sv) (overfull sv)).setting) e, ap (λ v. (cond v (holding text sv) (overfull sv)).secret) e)
 
-  same_ends : (b : Bool) → tuple_of (cond b s (without_text s)) ≡ tuple_of s
+  pub same_ends : (b : Bool) → tuple_of (cond b s (without_text s)) ≡ tuple_of s
   same_ends true = refl
   same_ends false = refl
 
   abbrev noted : ServerOf
   noted = noting text sv
 
-  noted_table : IsTable noted
+  pub noted_table : IsTable noted
   noted_table =
       let same = noted_conns (fits text sv) refl in
       let rest = noted_rest (fits text sv) refl in

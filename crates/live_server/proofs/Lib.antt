@@ -16,3 +16,5 @@ pub mod ArriveLemmas
 pub mod FrameLemmas
 pub mod PieceLemmas
 pub mod ToldLemmas
+pub mod PromiseLemmas
+pub mod OneLemmas

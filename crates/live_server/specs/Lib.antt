@@ -11,5 +11,6 @@ pub mod Leaving
 pub mod Facts
 pub mod Serving
 pub mod Isolation
+pub mod Promises
 pub mod Frames
 pub mod Told

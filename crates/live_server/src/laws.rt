@@ -4,6 +4,8 @@ ghost use Rattle.std.specs.Prelude.{◌≡◌, codes};
 ghost use Rattle.live_server.specs.DaytimeText.{date_of, daytime_text};
 ghost use Rattle.live_server.specs.Frames.{PiecesJoin};
 ghost use Rattle.live_server.specs.Isolation.{AnswersItsEnds, OthersStay, OwnConnActs, OwnEntryGivesWay, SegmentKeepsTable, TimeKeepsTable, TimeLeaves};
+ghost use Rattle.live_server.specs.Promises.{ChallengesAreApart, FirstIsWide, OneGivesWay, SegmentKeepsFew, SegmentKeepsWide, ShownIsNarrow};
+ghost use Rattle.live_server.specs.Promises.{TextIsBounded, TextIsCounted, TimeCountsAnew, TimeKeepsFew, TimeoutIsWide};
 
 /// Each connection stands once in the table, and there are no more than there are places.
 pub fn the_table_is_bounded()
@@ -52,4 +54,32 @@ pub fn days_have_their_dates()
     ensures last_of_february { date_of 47540 ≡ record { year = 2100; month = 2; day = 28 } }
     ensures no_leap_day { date_of 47541 ≡ record { year = 2100; month = 3; day = 1 } }
     ensures line { daytime_text 1795957662123456 ≡ codes "2026-11-29 13:07:42 UTC\r\n" }
+{}
+
+/// What all held when the time last came to them, with the text that was heeded since, never passes what they may hold.
+pub fn text_is_bounded()
+    ensures counted { TextIsCounted }
+    ensures bounded { TextIsBounded }
+    ensures time { TimeCountsAnew }
+{}
+
+/// Two challenges of one connection are half a second apart.
+pub fn challenges_are_apart()
+    ensures { ChallengesAreApart }
+{}
+
+/// Beside its own connection one leaves at most at a segment. That holds where no more wait than there are places, as it is from the start on.
+pub fn one_gives_way()
+    ensures one { OneGivesWay }
+    ensures segment { SegmentKeepsFew }
+    ensures time { TimeKeepsFew }
+{}
+
+/// The threshold of congestion control is two segments at least, and a block is shown no window that is wider than the congestion window,
+/// but for one unit of its scale.
+pub fn congestion_is_bounded()
+    ensures first { FirstIsWide }
+    ensures segment { SegmentKeepsWide }
+    ensures timeout { TimeoutIsWide }
+    ensures shown { ShownIsNarrow }
 {}

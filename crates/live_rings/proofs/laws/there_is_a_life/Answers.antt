@@ -1,4 +1,4 @@
-use Rattle.std.proofs.Common.{◌≡◌, ◌+◌, List, [], ◌∷◌, Bool, cond, ap, subst, sym}
+use Rattle.std.proofs.Common.{◌≡◌, ◌+◌, [], ◌∷◌, Bool, cond, ap, subst, sym}
 use Rattle.live_server.proofs.TableLemmas.{tuple_equivalence}
 use Rattle.live_chats.specs.Lived.{AreMadeOf, lives}
 use Rattle.live_chats.proofs.LivedLemmas.{none_made, one_stay}

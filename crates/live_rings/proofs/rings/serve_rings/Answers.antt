@@ -1,6 +1,5 @@
 use Rattle.std.proofs.Common.{◌≡◌, ◌∙◌, ◌≤◌, sym, ap, subst, arith, length, take, drop, ◌++◌, List, vec_capacity}
 use Rattle.std.specs.Prelude.{All}
-use Rattle.std.proofs.lemmas.Result.{IfOk-weaker}
 use Rattle.live_rings.specs.declared.ending.Ends.{Ends}
 use Rattle.live_rings.specs.declared.groups.Group.{Group}
 use Rattle.live_rings.specs.declared.ending.EndedRing.{EndedRing}

@@ -1,5 +1,5 @@
-use Rattle.std.proofs.Common.{◌≡◌, ◌+◌, sym}
-use Rattle.live_chats.specs.Accounts.{HasEndedStay, pushed_at}
+use Rattle.std.proofs.Common.{◌≡◌, ◌+◌}
+use Rattle.live_chats.specs.Accounts.{pushed_at}
 use Rattle.live_chats.specs.Hearing.{hearing}
 use Rattle.live_chats.specs.Listening.{IsAnswer}
 use Rattle.live_chats.specs.Seating.{KeptBut, chat_at}

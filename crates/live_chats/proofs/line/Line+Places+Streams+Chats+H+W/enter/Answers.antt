@@ -1,4 +1,4 @@
-use Rattle.std.proofs.Common.{◌∙◌, [], append-nil, refl, sym}
+use Rattle.std.proofs.Common.{◌∙◌, refl}
 use Rattle.turn_gate.specs.Passes.{seen}
 use Rattle.live_chats.proofs.LivedLemmas.{begins_itself, begins_on}
 use Rattle.live_chats.proofs.line.Line+Places+Streams+Chats+H+W.enter.Goals as goal

@@ -1,4 +1,4 @@
-use Rattle.std.proofs.Common.{◌≡◌, ◌∷◌, [], ◌<◌, length, slice_get, Some, ap, arith, refl, sym, subst, ◌∙◌}
+use Rattle.std.proofs.Common.{◌≡◌, ◌∷◌, [], ◌<◌, length, slice_get, Some, arith, refl, sym, subst, ◌∙◌}
 use Rattle.std.specs.List.{IsDistinct}
 use Rattle.sq_base.specs.declared.kinds.Tuple.{Tuple}
 use Rattle.live_server.specs.Table.{conn_at, tuple_eq}

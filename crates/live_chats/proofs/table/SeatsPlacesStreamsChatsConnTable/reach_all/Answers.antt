@@ -1,8 +1,6 @@
-use Rattle.std.proofs.Common.{List, ap, map, refl, subst, sym}
+use Rattle.std.proofs.Common.{List, map, refl, subst, sym}
 use Rattle.placed_parts.specs.Placing.{limits_of}
-use Rattle.std.specs.Map.{keys_of}
 use Rattle.sq_base.specs.declared.kinds.Tuple.{Tuple}
-use Rattle.live_server.specs.Told.{Told}
 use Rattle.live_server.specs.Told.Told.{hears}
 use Rattle.live_chats.specs.Accounts.{SeatsWereTold}
 use Rattle.live_chats.proofs.SeatLemmas.{conns_keys, table_told}

@@ -1,0 +1,103 @@
+-- What the rules promise: of the text that all hold, of challenges, of who gives way, and of the congestion window.
+use Rattle.std.specs.Prelude.{◌≡◌, ◌≢◌, ℕ, ◌+◌, ◌-◌, ◌*◌, ◌^◌, ◌<◌, ◌≤◌, min, max, false, suc, List, [], ◌∷◌, ◌++◌, length, slice_get, Some, None}
+use Rattle.segment_codec.specs.ControlBits.{syn}
+use Rattle.segment_codec.specs.Refusal.{tuple_of}
+use Rattle.segment_codec.specs.declared.packet.Seg.{Seg}
+use Rattle.sq_base.specs.declared.kinds.Tuple.{Tuple}
+use Rattle.tcb_machine.specs.BlockState.{Block, has}
+use Rattle.live_server.specs.Acts.{emptied, judged, reached, receives}
+use Rattle.live_server.specs.Congestion.{eased, no_congestion, seen_window, timed_out}
+use Rattle.live_server.specs.Isolation.{IsTable, conn_of}
+use Rattle.live_server.specs.Limits.{challenge_interval}
+use Rattle.live_server.specs.Serving.{ServerOf, heeded_text, on_segment, on_time}
+use Rattle.live_server.specs.Table.{held_by, tuple_eq}
+use Rattle.live_server.specs.declared.congestion.Congestion.{Congestion}
+use Rattle.live_server.specs.declared.conn.Conn.{Conn}
+use Rattle.live_server.specs.declared.conn.Judged.{Judged}
+use Rattle.live_server.specs.declared.conn.Judged.TheVariants.{Challenged, Late, Taken, Unanswered}
+
+-- ---- text
+-- what all held when the time last came, with the text that was heeded since, counts as held
+abbrev pub TextIsCounted : Type 0
+TextIsCounted = (now : ℕ) (s : Seg) (text : List ℕ) (sv : ServerOf) → sv.held < 2 ^ 64
+    → (on_segment now s text sv).server.held ≡ min (2 ^ 64 - 1) (sv.held + length (heeded_text text sv))
+
+-- no segment takes that past what all may hold
+abbrev pub TextIsBounded : Type 0
+TextIsBounded = (now : ℕ) (s : Seg) (text : List ℕ) (sv : ServerOf) → sv.held ≤ sv.setting.bytes → (on_segment now s text sv).server.held ≤ sv.setting.bytes
+
+-- and the time counts anew
+abbrev pub TimeCountsAnew : Type 0
+TimeCountsAnew = (now : ℕ) (sv : ServerOf) → (on_time now sv).server.held ≡ held_by (on_time now sv).server.conns
+
+-- ---- challenges
+-- what comes to one connection: a segment, with the initial number for one that opens, or the time alone
+pub data Coming : Type 0 where
+  segment : ℕ → ℕ → Seg → List ℕ → Coming
+  time : ℕ → Coming
+
+abbrev pub came : Coming → Conn → Conn
+came (segment now iss s text) c = emptied (receives now iss s text (emptied (reached now c)))
+came (time now) c = emptied (reached now c)
+
+-- whether the connection is challenged then, and when
+abbrev pub when_challenged : ℕ → Judged → List ℕ
+when_challenged now Challenged = now ∷ []
+when_challenged now Taken = []
+when_challenged now Unanswered = []
+when_challenged now Late = []
+
+abbrev pub challenge_at : Coming → Conn → List ℕ
+challenge_at (segment now iss s text) c = when_challenged now (judged now s text (emptied (reached now c)))
+challenge_at (time now) c = []
+
+-- the moments of all its challenges
+abbrev pub challenges : List Coming → Conn → List ℕ
+challenges [] c = []
+challenges (x ∷ xs) c = challenge_at x c ++ challenges xs (came x c)
+
+-- two of one connection are so far apart
+abbrev pub ChallengesAreApart : Type 0
+ChallengesAreApart = (xs : List Coming) (c : Conn) (k a b : ℕ) → slice_get (challenges xs c) k ≡ Some a → slice_get (challenges xs c) (suc k) ≡ Some b
+    → a + challenge_interval ≤ b
+
+-- ---- who gives way
+-- no more wait that may be half open than there are places; so it is from the start on
+abbrev pub FewWait : ServerOf → Type 0
+FewWait sv = length sv.waiting ≤ sv.setting.places
+
+abbrev pub SegmentKeepsFew : Type 0
+SegmentKeepsFew = (now : ℕ) (s : Seg) (text : List ℕ) (sv : ServerOf) → FewWait sv → FewWait (on_segment now s text sv).server
+
+abbrev pub TimeKeepsFew : Type 0
+TimeKeepsFew = (now : ℕ) (sv : ServerOf) → FewWait sv → FewWait (on_time now sv).server
+
+-- a connection of other ends left at a segment
+pub record HasLeft (now : ℕ) (s : Seg) (text : List ℕ) (sv : ServerOf) (q : Tuple) : Type 0 where
+  pub other : tuple_eq (tuple_of s) q ≡ false
+  pub was : conn_of q sv ≢ None
+  pub gone : conn_of q (on_segment now s text sv).server ≡ None
+
+-- there is one at most
+abbrev pub OneGivesWay : Type 0
+OneGivesWay = (now : ℕ) (s : Seg) (text : List ℕ) (sv : ServerOf) (q r : Tuple) → IsTable sv → FewWait sv → HasLeft now s text sv q → HasLeft now s text sv r
+    → q ≡ r
+
+-- ---- congestion
+-- ssthresh is two segments at least (RFC 5681, 3.1, (4)): at first, and behind each segment and each timeout
+abbrev pub IsWide : Block → Congestion → Type 0
+IsWide b x = 2 * b.agreed.mss ≤ x.threshold
+
+abbrev pub FirstIsWide : Type 0
+FirstIsWide = (b : Block) → b.agreed.mss ≤ 65535 → IsWide b no_congestion
+
+abbrev pub SegmentKeepsWide : Type 0
+SegmentKeepsWide = (s : Seg) (text : List ℕ) (b : Block) (x : Congestion) → IsWide b x → IsWide b (eased s text b x)
+
+abbrev pub TimeoutIsWide : Type 0
+TimeoutIsWide = (b : Block) (x : Congestion) → IsWide b (timed_out b x)
+
+-- the window that a block is shown is no wider than cwnd, but for one unit of its scale, which keeps it open; nor than the peer's
+abbrev pub ShownIsNarrow : Type 0
+ShownIsNarrow = (s : Seg) (b : Block) (x : Congestion) → has s.flags syn ≡ false
+    → (seen_window s b x * 2 ^ b.agreed.snd_shift ≤ max (2 ^ b.agreed.snd_shift) x.window) × (seen_window s b x ≤ s.wnd)
