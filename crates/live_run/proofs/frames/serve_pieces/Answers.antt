@@ -22,7 +22,7 @@ pieces-init g c = record {
   server = λ still. refl;
   written = λ still. Appends-nil _;
   told = λ still. g.met.T.ConnTable.tells_nothing c.args.rules.now.table;
-  left = c.new-pending.ensures.items;
+  left = c.room_for_pieces-pending.ensures;
   read_well = refl;
   written_well = refl;
 }
@@ -78,7 +78,7 @@ pieces-preserved g c =
       told = λ still. subst (λ ws. g.T.ConnTable.tells c.args.rules.now.table ws c.serve_piece.new.rules.table)
           (piece_heard so_far.there got c.pieces.pending.items first (server_of g.T.ConnTable.conns c.pieces.rules) so_far.left (so_far.server (before still)))
           (g.met.T.ConnTable.tells_on c.args.rules.now.table c.pieces.rules.table c.serve_piece.new.rules.table _ _ (so_far.told (before still))
-              (c.in_default-serve_piece.ensures.told still));
+          (c.in_default-serve_piece.ensures.told still));
       left = c.in_default-serve_piece.ensures.left ∙ piece_left so_far.there got c.pieces.pending.items first (serves_frames (frames_in so_far.there) first).server so_far.left refl;
       read_well = c.in-Ok.ensures.kept ∙ so_far.read_well;
       written_well = c.in_default-serve_piece.ensures.kept ∙ so_far.written_well;
