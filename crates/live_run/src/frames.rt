@@ -13,9 +13,13 @@ use crate::fault::Fault;
 use live_server::{ConnTable, FRAME_HEAD, Rules, Server, is_broken, serve_by_rules};
 use sq_base::{Sink, Source, put};
 use std::alloc::Global;
+use std::mem::swap;
 
 /// How many bytes are read at once.
 const PIECE: usize = 1 << 20;
+
+/// The most bytes of a frame's body.
+const MOST_BODY: usize = 65_535;
 
 /// Serves the frames up to the end of the input, and writes what is sent after each read. What was answered before a fault is written,
 /// but for want of memory, where only what was answered to earlier reads may be.
@@ -97,7 +101,8 @@ fn serve_pieces<T: ConnTable, S: Source, K: Sink>(
     ensures frames { result ≡ Err Fault.Frames → IfSome (S.rest source.old) (λ input. rest_of input ≢ []) }
     ensures words { result ≢ Err Fault.Words }
 {
-    let mut pending = Vec::new(alloc);
+    let mut pending = room_for_pieces(alloc);
+    let mut spare = room_for_pieces(alloc);
     'pieces: for _ in 0..u64::MAX {
         let Ok(read) = source.read(piece) else {
             return Err(Fault::Reading);
@@ -109,6 +114,7 @@ fn serve_pieces<T: ConnTable, S: Source, K: Sink>(
             rules,
             alloc,
             &mut pending,
+            &mut spare,
             &piece[..read],
             sink,
             goes_on,
@@ -121,11 +127,23 @@ fn serve_pieces<T: ConnTable, S: Source, K: Sink>(
     Err(Fault::NoMemory)
 }
 
-/// Serves the whole frames of what was left and of a piece behind it, and writes what is sent.
+/// Nothing, with room for what is left of a frame and a read behind it, so that a read takes no memory later. Where memory is missing,
+/// there is no room yet.
+fn room_for_pieces(alloc: Global) -> Vec<u8>
+    ensures { result.items ≡ [] }
+{
+    match Vec::with_capacity(alloc, FRAME_HEAD + MOST_BODY + PIECE) {
+        Ok(room) => room,
+        Err(_) => Vec::new(alloc),
+    }
+}
+
+/// Serves the whole frames of what was left and of a piece behind it, and writes what is sent. `spare` is for what is left then.
 fn serve_piece<T: ConnTable, K: Sink>(
     rules: &mut Rules<T>,
     alloc: Global,
     pending: &mut Vec<u8>,
+    spare: &mut Vec<u8>,
     piece: &[u8],
     sink: &mut K,
     goes_on: bool,
@@ -159,7 +177,8 @@ fn serve_piece<T: ConnTable, K: Sink>(
         return Err(Fault::NoMemory);
     };
     let broken = begins_broken(rest);
-    let Ok(left) = Vec::from_slice(alloc, rest) else {
+    spare.clear();
+    let Ok(()) = spare.extend_from_slice(rest) else {
         return Err(Fault::NoMemory);
     };
     if put(sink, out.as_slice()).is_err() {
@@ -168,7 +187,7 @@ fn serve_piece<T: ConnTable, K: Sink>(
     if broken {
         return Err(Fault::Frames);
     }
-    *pending = left;
+    swap(pending, spare);
     Ok(())
 }
 

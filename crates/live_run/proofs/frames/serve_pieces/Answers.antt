@@ -22,7 +22,7 @@ pieces-init g c = record {
   server = λ still. refl;
   written = λ still. Appends-nil _;
   told = λ still. g.met.T.ConnTable.tells_nothing c.args.rules.now.table;
-  left = c.new-pending.ensures.items;
+  left = c.room_for_pieces-pending.ensures;
   read_well = refl;
   written_well = refl;
 }
