@@ -16,7 +16,7 @@ pub struct Setting {
     pub idle: u64,
     /// How many bytes of text all connections may hold: what was received and not taken, and what is sent and not acknowledged.
     pub bytes: u64,
-    /// How many bytes of text a segment has at most that is sent; no longer MSS is announced.
+    /// How many bytes of text a segment has at most that is sent, or 64 where that is more; no longer MSS is announced.
     pub segment: u16,
     /// At which ports it has which service.
     pub ports: Ports,
