@@ -4,4 +4,9 @@ pub mod OneCall
 pub mod Moved
 pub mod Told
 pub mod Whole
+pub mod ToldTraced
+pub mod TracedRun
+pub mod DatagramRun
+pub mod EchoAnswers
+pub mod EchoRun
 mod Paces

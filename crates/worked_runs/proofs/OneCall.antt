@@ -30,11 +30,11 @@ use Rattle.worked_runs.proofs.OneConnection.{Stayed, is_zero, linked, noted, onl
 stayed : Stayed setting history order
 stayed = record { starts = refl; one_stay = refl }
 
-no_third : (a b : Bool) → b ≡ false → (a && (true && b)) ≡ false
+pub no_third : (a b : Bool) → b ≡ false → (a && (true && b)) ≡ false
 no_third true b is = is
 no_third false b is = refl
 
-no_second : (a b d : Bool) → b ≡ false → (a && (b && d)) ≡ false
+pub no_second : (a b d : Bool) → b ≡ false → (a && (b && d)) ≡ false
 no_second true b d is = rw is refl
 no_second false b d is = refl
 

@@ -38,7 +38,7 @@ use Rattle.squeue_run.specs.Output.{AreOrders, IsReport, items_alone, told_of}
 use Rattle.squeue_run.specs.Ran.{Accepts, HasRan, IsServable}
 use Rattle.shell.specs.Reading.{Reads, TakesFew}
 use Rattle.shell.specs.Words.{uses_from}
-use Rattle.worked_runs.specs.OneSqueue.{setup, block_of}
+use Rattle.worked_runs.specs.OneSqueue.{setup, block_of, no_trace}
 use Rattle.worked_runs.specs.FiveSegments.{records, form, file, plan, no_calls, setting, history, ending, order, served, text, source, out, err}
 use Rattle.worked_runs.proofs.Told.{told}
 use Rattle.worked_runs.proofs.OneConnection.{is_zero}
@@ -50,7 +50,7 @@ header_is : header_answer file.bytes ≡ Ok (form, RawIp)
 unfolding header_answer number file_header record_of
 header_is = refl
 
-header_long : length file_header ≡ 24
+pub header_long : length file_header ≡ 24
 unfolding file_header
 header_long = refl
 
@@ -61,7 +61,7 @@ size = refl
 few : length file.bytes ≤ most_bytes
 few = omega (arith, size)
 
-spelled_by : (bytes : List ℕ) (n : ℕ) → length bytes ≡ 16 + n → named_length form bytes ≡ n → n ≤ 45 → IsSpelling form bytes
+pub spelled_by : (bytes : List ℕ) (n : ℕ) → length bytes ≡ 16 + n → named_length form bytes ≡ n → n ≤ 45 → IsSpelling form bytes
 spelled_by bytes n long names most = record { header = omega (arith, long); most = omega (arith, names, most); whole = omega (arith, long, names) }
 
 spelled : AllByRecursion (IsSpelling form) records
@@ -137,13 +137,13 @@ differ e = cc e
 servable : IsServable file no_words
 servable = record { there = tt; marks = λ traced. absurd (differ traced) }
 
-same_bytes : file.bytes ≡ file.bytes ++ []
+pub same_bytes : file.bytes ≡ file.bytes ++ []
 same_bytes = sym (append-nil file.bytes)
 
-takes_few : TakesFew source
+pub takes_few : TakesFew source
 takes_few = record { bytes = file.bytes; taken = same_bytes; count = omega (arith, size) }
 
-reads : Reads source file
+pub reads : Reads source file
 reads = record { read = record { taken = same_bytes; ended = refl }; capture = is_input }
 
 pub accepts : Accepts (asked []) (Some file.bytes)
@@ -152,7 +152,7 @@ accepts = subst (λ (a : Option Asked). Accepts a (Some file.bytes)) (sym asked_
 module _ (legal : Legal setting history) (over : IsOver setting (run setting history)) (keeps : KeepsPace 1 0 Mode'.Process 64 0 setting 0 history) (set : setting ≡ setting_at plan no_calls 1 1 0 0)
     (passes : PassesKeep Mode'.Process ending) where
   was_served : HasServed plan no_calls setup served
-  was_served = has_served plan no_calls setting history order goes legal over keeps set passes (block_of plan no_calls order) refl (record { whole = refl; served = refl })
+  was_served = has_served plan no_calls setting history order goes legal over keeps set passes false no_trace refl (block_of plan no_calls order) refl (record { whole = refl; served = refl })
 
   orders_whole : AreOrders plan no_calls (order ∷ [])
   orders_whole = record { count = refl; whole = λ c lt. subst (λ k. IsWhole plan no_calls k (get_or (order ∷ []) k [])) (sym (is_zero c lt)) whole }

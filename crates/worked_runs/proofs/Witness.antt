@@ -1,5 +1,5 @@
 -- What is written out was served.
-use Rattle.std.specs.Prelude.{◌≡◌, ℕ, ◌<◌, ◌==◌, true, List, [], ◌∷◌, length, slice_get, Some, IfSome, if◌then◌else◌}
+use Rattle.std.specs.Prelude.{◌≡◌, ℕ, ◌<◌, ◌==◌, Bool, true, false, List, [], ◌∷◌, length, map, slice_get, Some, IfSome, if◌then◌else◌}
 use Rattle.std.proofs.Common.{refl, sym, subst, ◌∙◌, arith}
 use Rattle.sq_base.specs.declared.kinds.Tuple.{Tuple}
 use Rattle.capture_reader.specs.Outcome.{CaptureFile}
@@ -13,7 +13,7 @@ use Rattle.perimeter_core.specs.Deeds.{acts}
 use Rattle.perimeter_core.specs.Legal.{Legal}
 use Rattle.perimeter_core.specs.Ending.{IsOver}
 use Rattle.histories.specs.Endings.{Ending}
-use Rattle.squeue_state.specs.Told.{marks_of}
+use Rattle.squeue_state.specs.Told.{Traced, marks_of}
 use Rattle.histories.specs.declared.mode.Mode.TheVariants as Mode'
 use Rattle.histories.specs.Keeping.{KeepsPace}
 use Rattle.squeue_pool.specs.Keeping.{PassesKeep}
@@ -25,12 +25,13 @@ use Rattle.conn_blocks.specs.Orders.{IsWhole, settle}
 use Rattle.conn_blocks.specs.ServeOrder.{BlockOf}
 use Rattle.squeue_pool.specs.Runs.{made_in_all}
 use Rattle.ring_quotas.specs.Quotas.{setting_at}
+use Rattle.ring_quotas.specs.declared.setup.Setup.{Setup}
 use Rattle.ring_quotas.specs.Fits.{Fits, HistoryFits}
 use Rattle.histories.specs.Fitting.{IsHereOnce}
 use Rattle.ring_threads.specs.Served.{HasServed}
 use Rattle.conn_blocks.specs.ServedBlocks.{AreServed, IsServing}
 use Rattle.worked_runs.proofs.OneConnection.{Stayed, is_zero, linked, noted, only}
-use Rattle.worked_runs.specs.OneSqueue.{plan, setup, setting, history, ending, order, block, no_trace, only_block, served}
+use Rattle.worked_runs.specs.OneSqueue.{plan, setup, setup_by, setting, history, ending, order, block, no_trace, only_block, served}
 
 -- one block, that of the only connection
 pub one_block : (p : PlanOf) (calls : CallLists) (b : BlockOf) → length p.tuples ≡ 1 → IsServing p calls 0 b → AreServed p calls (b ∷ [])
@@ -53,11 +54,14 @@ module _ (p : PlanOf) (calls : CallLists) (S : Setting) (H : List Element) (had 
     pub whole : IsWhole p calls 0 had
     pub called : (j k : ℕ) → made_in_all 0 j k (end ∷ []) ≡ option_map_or (λ (x : ℕ × Call). if x.0 == 0 then 1 else 0) (call_at calls j k) 0
 
-  module _ (goes : Goes) (legal : Legal S H) (over : IsOver S (run S H)) (keeps : KeepsPace 1 0 Mode'.Process 64 0 S 0 H) (set : S ≡ setting_at p calls 1 1 0 0) (passes : PassesKeep Mode'.Process end) where
+  module _ (goes : Goes) (legal : Legal S H) (over : IsOver S (run S H)) (keeps : KeepsPace 1 0 Mode'.Process 64 0 S 0 H) (set : S ≡ setting_at p calls 1 1 0 0) (passes : PassesKeep Mode'.Process end) (traced : Bool) where
+    abbrev its_setup : Setup
+    its_setup = setup_by traced
+
     zeroth : (c : ℕ) → c < length p.tuples → c ≡ 0
     zeroth c lt = is_zero c (omega (arith, lt, goes.one))
 
-    its_fit : HistoryFits p calls setup 0 end
+    its_fit : HistoryFits p calls its_setup 0 end
     its_fit = record {
       number = refl;
       setting = set;
@@ -65,10 +69,10 @@ module _ (p : PlanOf) (calls : CallLists) (S : Setting) (H : List Element) (had 
       keeps = λ r lt. subst (λ k. KeepsPace 1 0 Mode'.Process 64 0 S k H) (sym (is_zero r lt)) keeps;
     }
 
-    each : (q : ℕ) (e : Ending) → slice_get (end ∷ []) q ≡ Some e → HistoryFits p calls setup q e
+    each : (q : ℕ) (e : Ending) → slice_get (end ∷ []) q ≡ Some e → HistoryFits p calls its_setup q e
     each q e at =
         let o = only end e q at in
-        subst (λ k. HistoryFits p calls setup k e) (sym o.0) (subst (λ f. HistoryFits p calls setup 0 f) o.1 its_fit)
+        subst (λ k. HistoryFits p calls its_setup k e) (sym o.0) (subst (λ f. HistoryFits p calls its_setup 0 f) o.1 its_fit)
 
     once : IsHereOnce (end ∷ []) 0 had
     once = record {
@@ -80,7 +84,7 @@ module _ (p : PlanOf) (calls : CallLists) (S : Setting) (H : List Element) (had 
       nowhere_else = λ q e other at. absurd (other (only end e q at).0);
     }
 
-    fits : Fits p calls setup (end ∷ []) (had ∷ [])
+    fits : Fits p calls its_setup (end ∷ []) (had ∷ [])
     fits = record {
       count = refl;
       each = each;
@@ -92,14 +96,19 @@ module _ (p : PlanOf) (calls : CallLists) (S : Setting) (H : List Element) (had 
       whole = λ c o at. let i = only had o c at in subst (λ k. IsWhole p calls k o) (sym i.0) (subst (IsWhole p calls 0) i.1 goes.whole);
     }
 
-    pub has_served : (b : BlockOf) → b.order ≡ had → IsServing p calls 0 b → HasServed p calls setup (only_block b end)
-    has_served b same is = record {
-      fits = subst (λ o. Fits p calls setup (end ∷ []) (o ∷ [])) (sym same) fits;
+    -- with this trace, which has the marks where they are kept
+    pub has_served : (t : Traced) → marks_of t ≡ (if traced then map (λ m. m.mark) H else []) → (b : BlockOf) → b.order ≡ had → IsServing p calls 0 b
+        → HasServed p calls its_setup (only_block b end t)
+    has_served t told b same is = record {
+      fits = subst (λ o. Fits p calls its_setup (end ∷ []) (o ∷ [])) (sym same) fits;
       served = one_block p calls b goes.one is;
       called = λ c j k lt. subst (λ d. made_in_all d j k (end ∷ []) ≡ option_map_or (λ (x : ℕ × Call). if x.0 == d then 1 else 0) (call_at calls j k) 0) (sym (zeroth c lt)) (goes.called j k);
       keep = λ q e at. subst (PassesKeep Mode'.Process) (only end e q at).1 passes;
       traces = refl;
-      traced = λ q e at. subst (λ k. IfSome (slice_get (no_trace ∷ []) k) (λ t. marks_of t ≡ [])) (sym (only end e q at).0) refl;
+      traced = λ q e at.
+          let o = only end e q at in
+          subst (λ k. IfSome (slice_get (t ∷ []) k) (λ u. marks_of u ≡ (if traced then map (λ m. m.mark) e.history else []))) (sym o.0)
+          (subst (λ (f : Ending). marks_of t ≡ (if traced then map (λ m. m.mark) f.history else [])) o.1 told);
     }
 
 pub settles : order ≡ settle [] 0 order
@@ -129,4 +138,4 @@ module _ (file : CaptureFile) (counts : Counts) (t : Tuple) (x y : Item) where
   }
 
   pub is_served : Legal setting history → IsOver setting (run setting history) → KeepsPace 1 0 Mode'.Process 64 0 setting 0 history → setting ≡ setting_at p [] 1 1 0 0 → PassesKeep Mode'.Process ending → HasServed p [] setup (served p)
-  is_served legal over keeps set passes = has_served p [] setting history order goes legal over keeps set passes (block p) refl is_serving
+  is_served legal over keeps set passes = has_served p [] setting history order goes legal over keeps set passes false no_trace refl (block p) refl is_serving

@@ -26,7 +26,7 @@ use Rattle.histories.specs.Endings.{Ending}
 use Rattle.conn_blocks.specs.CallLists.{CallLists}
 use Rattle.ring_threads.specs.Served.{ServedOf}
 use Rattle.squeue_run.specs.GeneratedCapture.{file_header, record_of}
-use Rattle.worked_runs.specs.OneSqueue.{block_of, only_block}
+use Rattle.worked_runs.specs.OneSqueue.{block_of, no_trace, only_block}
 
 -- the client is 10.0.0.1:4000, the server 10.0.0.2:7
 abbrev pub ends : Tuple
@@ -102,7 +102,7 @@ abbrev pub order : List Act
 order = Did.Feed 0 ∷ Did.Feed 1 ∷ Did.Feed 2 ∷ Did.Feed 3 ∷ Did.Feed 4 ∷ Did.Feed 5 ∷ []
 
 abbrev pub served : ServedOf
-served = only_block (block_of plan no_calls order) ending
+served = only_block (block_of plan no_calls order) ending no_trace
 
 -- the report, line by line
 abbrev pub text : List ℕ

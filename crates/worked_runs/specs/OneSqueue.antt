@@ -1,5 +1,5 @@
 -- A run written out: one squeue, one ring, and one connection with two items, whatever these are.
-use Rattle.std.specs.Prelude.{true, false, List, [], ◌∷◌}
+use Rattle.std.specs.Prelude.{Bool, true, false, List, [], ◌∷◌}
 use Rattle.sq_base.specs.declared.kinds.Tuple.{Tuple}
 use Rattle.capture_reader.specs.Outcome.{CaptureFile}
 use Rattle.conn_classifier.specs.declared.kinds.Counts.{Counts}
@@ -24,8 +24,12 @@ use Rattle.ring_threads.specs.Served.{ServedOf}
 abbrev pub plan : CaptureFile → Counts → Tuple → Item → Item → PlanOf
 plan file counts t x y = record { file = file; ports = usual_ports; tuples = t ∷ []; items = (x ∷ y ∷ []) ∷ []; order = []; counts = counts }
 
+-- whether marks are kept
+abbrev pub setup_by : Bool → Setup
+setup_by trace = record { squeues = 1; rings = 1; mode = Mode'.Process; budget = 64; spread = 0; trace = trace }
+
 abbrev pub setup : Setup
-setup = record { squeues = 1; rings = 1; mode = Mode'.Process; budget = 64; spread = 0; trace = false }
+setup = setup_by false
 
 abbrev pub setting : Setting
 setting = record {
@@ -66,9 +70,9 @@ block p = block_of p [] order
 abbrev pub no_trace : Traced
 no_trace = record { marks = []; entries = []; mark_room = 0; entry_room = 0 }
 
--- one block, and one end, of which no marks were kept
-abbrev pub only_block : BlockOf → Ending → ServedOf
-only_block b e = record { blocks = b ∷ []; ended = e ∷ []; traces = no_trace ∷ [] }
+-- one block, and one end with its trace
+abbrev pub only_block : BlockOf → Ending → Traced → ServedOf
+only_block b e trace = record { blocks = b ∷ []; ended = e ∷ []; traces = trace ∷ [] }
 
 abbrev pub served : PlanOf → ServedOf
-served p = only_block (block p) ending
+served p = only_block (block p) ending no_trace

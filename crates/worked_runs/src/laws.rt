@@ -1,6 +1,6 @@
 //! What is written out was served, and what was done was all that was asked.
 
-ghost use Rattle.std.specs.Prelude.{◌≡◌, false, Some, []};
+ghost use Rattle.std.specs.Prelude.{◌≡◌, ◌∷◌, true, false, Some, []};
 ghost use Rattle.sq_base.specs.declared.kinds.Status.TheVariants as status;
 ghost use Rattle.sq_base.specs.declared.kinds.Tuple.{Tuple};
 ghost use Rattle.capture_reader.specs.Outcome.{CaptureFile};
@@ -18,15 +18,26 @@ ghost use Rattle.squeue_pool.specs.Keeping.{PassesKeep};
 ghost use Rattle.histories.specs.Keeping.{KeepsPace};
 ghost use Rattle.ring_quotas.specs.Quotas.{setting_at};
 ghost use Rattle.ring_threads.specs.Served.{HasServed};
+ghost use Rattle.datagram_services.specs.MoreRan.{HasMoreRan, MoreAccepts};
+ghost use Rattle.datagram_services.specs.MoreWords.{more_setup};
+ghost use Rattle.datagram_services.specs.Served.{HasMoreServed};
+ghost use Rattle.trace_replay.specs.Answers.{HasReplayed};
+ghost use Rattle.trace_replay.specs.Replays.{Replays, most_input};
+ghost use Rattle.trace_replay.specs.declared.run.Replayed.TheVariants as replayed;
+ghost use Rattle.live_rings.specs.Served.{AllEnded};
 ghost use Rattle.squeue_run.specs.Asked.{asked};
 ghost use Rattle.squeue_run.specs.Ran.{Accepts, HasRan};
 ghost use Rattle.worked_runs.specs.FiveSegments as Five;
 ghost use Rattle.worked_runs.specs.OneCall as Called;
 ghost use Rattle.worked_runs.specs.OneCall.{AreResidents};
+ghost use Rattle.worked_runs.specs.OneDatagram as Echoed;
+ghost use Rattle.worked_runs.specs.OneEcho as Frames;
 ghost use Rattle.worked_runs.specs.OneSqueue as One;
+ghost use Rattle.worked_runs.specs.TracedCall as Traced;
 ghost use Rattle.worked_runs.specs.TwoSqueues as Two;
 
 use placed_parts::Parts;
+use replay_law::laws::a_traced_run_replays;
 
 /// The history is legal, ends, keeps the pace of its setup, each mark of all passes is the one for what its turn found, and it has the
 /// setting of its homes and quotas.
@@ -97,6 +108,63 @@ pub fn there_is_a_run_that_ends_well()
 {
     a_history_of_six_feeds_fits();
 }
+
+/// Of a run over it with a call, the history of its squeue.
+pub fn a_history_with_a_call_between_fits()
+    ensures legal { Legal Traced.setting Traced.history }
+    ensures over { IsOver Traced.setting (run Traced.setting Traced.history) }
+    ensures keeps { KeepsPace 1 0 Mode.Process 64 0 Traced.setting 0 Traced.history }
+    ensures passes { PassesKeep Mode.Process Traced.ending }
+    ensures set { Traced.setting ≡ setting_at Five.plan Traced.calls 1 1 0 0 }
+{}
+
+/// There is a run of a connection with a call: what is written out was served, between two segments a call, and its marks were kept.
+pub fn there_is_a_run_with_a_call()
+    ensures { HasServed Five.plan Traced.calls (One.setup_by true) Traced.served }
+{
+    a_history_with_a_call_between_fits();
+}
+
+/// And such a whole run, for words that ask for the call and for the marks: its report was written with them. So with these words over this
+/// capture a run has to end, but for want of memory, or a read or a write that fails.
+pub fn there_is_a_traced_run()
+    ensures ran { HasRan (asked Traced.words) Five.source Traced.out Five.err (Some Traced.served) status.Ok }
+    ensures accepted { Accepts (asked Traced.words) (Some Five.file.bytes) }
+{
+    a_history_with_a_call_between_fits();
+}
+
+/// What that run wrote replays, with the capture behind it, and there is a run of the replay that says so.
+pub fn there_is_a_replay()
+    ensures replays { Replays Traced.input }
+    ensures replayed { HasReplayed most_input false Traced.replay_source Traced.replay_out Five.err replayed.Yes }
+{
+    there_is_a_traced_run();
+    a_traced_run_replays();
+}
+
+/// Of a run of `sqmore`, the history of its squeue.
+pub fn a_history_of_one_feed_fits()
+    ensures legal { Legal Echoed.setting Echoed.history }
+    ensures over { IsOver Echoed.setting (run Echoed.setting Echoed.history) }
+    ensures keeps { KeepsPace 1 0 Mode.Process 64 0 Echoed.setting 0 Echoed.history }
+{}
+
+/// There is a run of `sqmore` that ends well: without words, over a capture of one datagram, its report was written; with that capture a run
+/// has to end so, but for want of memory, or a read or a write that fails. And what is written out was served by a squeue.
+pub fn there_is_a_run_over_datagrams()
+    ensures ran { HasMoreRan (more_setup []) Echoed.source Echoed.out Five.err status.Ok }
+    ensures accepted { MoreAccepts (more_setup []) (Some Echoed.file.bytes) }
+    ensures served { HasMoreServed Echoed.plan One.setup Echoed.served }
+{
+    a_history_of_one_feed_fits();
+}
+
+/// There is a run of live servers that ends well: of the one stream, whose ends are lists, all frames were read, of a connection that opens,
+/// sends a text and closes; and what was written is a SYN,ACK, the text, and a FIN.
+pub fn there_is_a_run_over_frames()
+    ensures { AllEnded (λ bytes. Some bytes) (λ _. 0) (λ bytes. Some bytes) (λ _. 0) Frames.layout (Frames.before ∷ []) (Frames.after ∷ []) }
+{}
 
 /// Of a run with a call, the history is legal, ends, and keeps the pace of its pool, and each mark of all passes is the one for what its
 /// turn found.
