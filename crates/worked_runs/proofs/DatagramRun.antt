@@ -1,5 +1,5 @@
 -- A whole run of `sqmore` ends well, and squeues served what it writes of.
-use Rattle.std.specs.Prelude.{◌≡◌, ℕ, ◌+◌, ◌%◌, ◌≤◌, Ok, Option, Some, List, [], ◌∷◌, ◌++◌, length, get_or, slice_get}
+use Rattle.std.specs.Prelude.{◌≡◌, ℕ, ◌+◌, ◌%◌, Ok, Option, Some, List, [], ◌∷◌, ◌++◌, length, get_or, slice_get}
 use Rattle.std.specs.List.{AllByRecursion, concat}
 use Rattle.std.specs.Fmt.{digits}
 use Rattle.std.specs.Io.KnownBytes.{Appends}
@@ -13,7 +13,6 @@ use Rattle.segment_codec.specs.Packet.{segment_of, tcp_packet, datagram, ip_plac
 use Rattle.capture_reader.specs.CaptureFile.{IsSpelling, IsSplit}
 use Rattle.capture_reader.specs.Form.{number}
 use Rattle.capture_reader.specs.Header.{header_answer}
-use Rattle.capture_reader.specs.Limits.{most_bytes}
 use Rattle.capture_reader.specs.Outcome.{IsCapture}
 use Rattle.pcapng_reader.specs.Input.{IsInput}
 use Rattle.pcapng_reader.specs.PcapngFile.{BeginsSection}

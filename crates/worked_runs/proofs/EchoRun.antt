@@ -1,5 +1,5 @@
 -- A stream of frames that is served by rings ends well.
-use Rattle.std.specs.Prelude.{◌≡◌, ℕ, false, Option, None, Some, List, []}
+use Rattle.std.specs.Prelude.{◌≡◌, ℕ, Option, None, Some, List, []}
 use Rattle.std.specs.Io.KnownBytes.{Appends}
 use Rattle.std.proofs.Common.{refl, sym, ◌∙◌}
 use Rattle.std.proofs.lemmas.List.{append-nil}

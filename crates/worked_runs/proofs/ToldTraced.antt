@@ -1,5 +1,5 @@
 -- The report of the traced run, by evaluation of the definitions.
-use Rattle.std.specs.Prelude.{◌≡◌, [], ◌∷◌}
+use Rattle.std.specs.Prelude.{◌≡◌}
 use Rattle.std.specs.Fmt.{digits}
 use Rattle.std.proofs.Common.{refl}
 use Rattle.hex.specs.Hex.{encode_with}

@@ -1,12 +1,11 @@
 -- A whole run with a call and with its marks ends well, and what it wrote replays.
-use Rattle.std.specs.Prelude.{◌≡◌, ℕ, zero, suc, ◌<◌, ◌≤◌, ◌==◌, ◌&&◌, true, false, Option, Some, List, [], ◌∷◌, ◌++◌, length, get_or, slice_get, if◌then◌else◌}
+use Rattle.std.specs.Prelude.{◌≡◌, ℕ, zero, suc, ◌≤◌, ◌==◌, ◌&&◌, true, false, Option, Some, List, [], ◌∷◌, ◌++◌, length, get_or, slice_get, if◌then◌else◌}
 use Rattle.std.specs.Option.{option_map_or}
 use Rattle.std.proofs.Common.{refl, sym, subst, ap, ◌∙◌, arith}
 use Rattle.std.proofs.lemmas.Bool.Decides.{nat_tests}
 use Rattle.std.proofs.lemmas.List.{append-nil}
-use Rattle.sq_base.specs.Ends.{End}
 use Rattle.sq_base.specs.declared.kinds.Status.TheVariants as status
-use Rattle.conn_classifier.specs.Plan.{PlanOf, plan_of}
+use Rattle.conn_classifier.specs.Plan.{PlanOf}
 use Rattle.tcb_machine.specs.declared.kinds.Call.{Call}
 use Rattle.perimeter_core.specs.History.{run}
 use Rattle.perimeter_core.specs.Legal.{Legal}
@@ -16,16 +15,15 @@ use Rattle.histories.specs.Keeping.{KeepsPace}
 use Rattle.histories.specs.ModeWords.{mode_word}
 use Rattle.squeue_pool.specs.Keeping.{PassesKeep}
 use Rattle.squeue_pool.specs.Runs.{made_in_all}
-use Rattle.squeue_state.specs.Told.{marks_of}
 use Rattle.conn_blocks.specs.CallLists.{call_at, calls_of}
 use Rattle.conn_blocks.specs.Orders.{IsWhole, call_numbers, numbers_from, numbers_on, settle}
 use Rattle.ring_quotas.specs.Quotas.{marks_most, setting_at}
-use Rattle.ring_threads.specs.Served.{HasServed, orders_of}
+use Rattle.ring_threads.specs.Served.{HasServed}
 use Rattle.squeue_run.specs.Asked.{Asked, asked}
 use Rattle.squeue_run.specs.CallWords.{AllThere}
 use Rattle.squeue_run.specs.GeneratedCapture.{file_header, record_of}
 use Rattle.squeue_run.specs.Limits.{most_marks}
-use Rattle.squeue_run.specs.Output.{AreOrders, IsReport, items_alone, told_of}
+use Rattle.squeue_run.specs.Output.{AreOrders, IsReport, told_of}
 use Rattle.squeue_run.specs.Ran.{Accepts, HasRan, IsServable}
 use Rattle.squeue_run.specs.declared.calls.CallWord.{CallWord}
 use Rattle.shell.specs.Words.{uses_from}

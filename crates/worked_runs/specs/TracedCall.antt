@@ -1,6 +1,6 @@
 -- A whole run written out with a call, of which the marks are kept: that of `FiveSegments`, where a thread asks for the status of the
 -- connection behind its text, from the words of the command line to the report with its marks.
-use Rattle.std.specs.Prelude.{ℕ, true, false, List, [], ◌∷◌, ◌++◌, length, codes, None, Some}
+use Rattle.std.specs.Prelude.{ℕ, true, false, List, [], ◌∷◌, ◌++◌, codes, None, Some}
 use Rattle.std.specs.List.{flat_map}
 use Rattle.sq_base.specs.Ends.{End}
 use Rattle.tcb_machine.specs.declared.kinds.Call.TheVariants.{Status}
