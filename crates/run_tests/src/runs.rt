@@ -1,6 +1,5 @@
 //! One whole run over memory, runs over inputs too large for rows, and runs whose threads are held by hooks. All other whole runs are rows
-//! of `cases_programs`. What is expected comes from an
-//! independent model.
+//! of `cases_programs`. What is expected comes from an independent model.
 
 use sq_base::{MemSink, MemSource, Status};
 use squeue_run::squeue_run;
