@@ -1,0 +1,12 @@
+use Rattle.std.proofs.Common.{◌≤◌, vec_capacity}
+use Rattle.squeue_arrivals.specs.Seating.{AreNewPairs}
+use Rattle.squeue_arrivals.proofs.seating.new_pairs.Given as goal
+
+-- the rings of those before are made
+abbrev pub invariant-loop-c : goal.invariant-loop-c
+invariant-loop-c l =
+    record {
+      pairs : AreNewPairs l._c l.producers.items l.parts.items;
+      push_room : l.count ≤ vec_capacity l.producers;
+      pop_room : l.count ≤ vec_capacity l.parts;
+    }
