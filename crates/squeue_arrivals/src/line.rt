@@ -20,6 +20,7 @@ use std::thread;
 use stream_stays::{Collects, Stays, enter_all, open_at, push_at, settle};
 
 /// How a thread reaches the parts of its squeue: how it waits, the squeue, and in which mode and with which budget it enters.
+#[derive(Drop)]
 pub(crate) struct Line<'q, R: Resident, W: Wait> {
     pub(crate) rt: &'q W,
     pub(crate) squeue: &'q Squeue<R>,
@@ -27,6 +28,7 @@ pub(crate) struct Line<'q, R: Resident, W: Wait> {
 }
 
 // Who is shown states, and learns nothing.
+#[derive(Drop)]
 struct Nobody;
 
 impl<X: KeySteps + Drop> Collects<Keyed<X>> for Nobody {
