@@ -18,21 +18,19 @@ use Rattle.placed_parts.specs.declared.parts.Parts.{Ghosts}
 use Rattle.placed_parts.specs.declared.places.Places.{Places}
 use Rattle.placed_parts.specs.Placing.{limits_of, origin_of}
 use Rattle.squeue_streams.specs.declared.streams.Stream.{Stream}
-use Rattle.live_chats.specs.declared.chats.Chats.{Chats}
-use Rattle.live_chats.specs.declared.item.ChatItem.{ChatItem}
-use Rattle.live_chats.specs.Hearing.{ChatOf}
-use Rattle.live_chats.specs.Telling.{first_of}
-use Rattle.squeue_arrivals.specs.declared.ending.EndedRing.{EndedRing}
-use Rattle.squeue_arrivals.specs.declared.ending.Ends.{Ends}
+use Rattle.squeue_arrivals.specs.declared.steps.Keyed.{Keyed}
+use Rattle.squeue_arrivals.specs.Keyed.{first_of}
+use Rattle.squeue_arrivals.specs.declared.served.ServedSource.{ServedSource}
 use Rattle.squeue_arrivals.specs.Seating.{ServesPlaces}
-use Rattle.squeue_arrivals.proofs.FirstKnown.{fresh_at, knows_first}
+use Rattle.squeue_arrivals.proofs.FirstKnown.{fresh_at}
+use Rattle.squeue_arrivals.proofs.FirstServed.{may_serve}
 use Rattle.squeue_arrivals.specs.declared.ring.RingTask.{RingTask}
 use Rattle.squeue_arrivals.specs.declared.ring.RingTask.TheVariants as Task'
 use Rattle.squeue_arrivals.specs.Tasks.{AreNewTasks, EndedFrom, HasDone, IsNewTask, IsReady, MayRun, Ran, ReadyFor, pass_in}
 
-pub task_got : {S K : Type 0} (jobs : List (Job (RingTask T S A))) (k : ℕ) (j : Job (RingTask T S A)) → slice_get jobs k ≡ Some j → slice_get (tasks_in jobs) k ≡ Some j.task
+pub task_got : {T S A : Type 0} (jobs : List (Job (RingTask T S A))) (k : ℕ) (j : Job (RingTask T S A)) → slice_get jobs k ≡ Some j → slice_get (tasks_in jobs) k ≡ Some j.task
 task_got [] k j is = cc is
-task_got {S = S} {K = K} (o ∷ jobs) zero j is = let same : o ≡ j = cc is in ap (λ (j : Job (RingTask T S A)). Some j.task) same
+task_got {T = T} {S = S} {A = A} (o ∷ jobs) zero j is = let same : o ≡ j = cc is in ap (λ (j : Job (RingTask T S A)). Some j.task) same
 task_got (o ∷ jobs) (suc k) j is = task_got jobs k j is
 
 one_place : (os : List (Option (Pass Element))) (q : Pass Element) → pass_in os ≡ Some q → os ≡ Some q ∷ []
@@ -46,22 +44,22 @@ module _ {R : Type 0} (limits : R → Limits) (s : Named R) where
   ended_at p (Some q) h = (q, refl, h)
 
 -- the parts with which the squeue began
-abbrev pub parts_of : {X P : Type 0} {G : Ghosts X P Chats} → Named (Places X P Chats G) → List (Stream T S)
+abbrev pub parts_of : {X P W T S : Type 0} {G : Ghosts X P (Keyed W T S)} → Named (Places X P (Keyed W T S) G) → List (Stream T S)
 parts_of s = first_of (origin_of s.given.first)
 
-module _ {X P S K : Type 0} {G : Ghosts X P Chats} (s : Named (Places X P Chats G)) where
+module _ {X P W T S A : Type 0} {G : Ghosts X P (Keyed W T S)} (step : Keyed W T S → S → T → S → Type 0) (s : Named (Places X P (Keyed W T S) G)) (most : ℕ) where
   -- a pass that has seen nothing may do its task
-  may_new : (rings : ℕ) → ServesPlaces limits_of s.given rings (length (parts_of s)) → length s.given.quotas ≡ rings → (task : RingTask T S A) (p : Pass Element) (k : ℕ) → IsNewTask rings (parts_of s) k task → IsPassOf number_of s.gate p → number p ≡ k → seen p ≡ [] → MayRun s task p
-  may_new rings serves many (Task'.Serve ring) p k t is number_is none = (knows_first limits_of s (origin_of s.given.first) rings k serves p is number_is t.0 none ring.stays t.1, t.1.none.0, t.1.none.1)
+  may_new : (rings : ℕ) → ServesPlaces limits_of s.given rings (length (parts_of s)) → length s.given.quotas ≡ rings → (task : RingTask T S A) (p : Pass Element) (k : ℕ) → IsNewTask rings most (parts_of s) k task → IsPassOf number_of s.gate p → number p ≡ k → seen p ≡ [] → MayRun step s most task p
+  may_new rings serves many (Task'.Serve ring) p k t is number_is none = may_serve step s rings most k serves p is number_is t.0 none ring t.1
   may_new rings serves many (Task'.Served ended) p k t is number_is none = absurd t
   may_new rings serves many Task'.Work p k t is number_is none = (is, omega (arith, number_is, t, many))
 
   -- the job holds the pass of this number, which may do the job's task
   abbrev pub ReadyAt : ℕ → Job (RingTask T S A) → Type 0
-  ReadyAt k j = (x : Pass Element) × (j.places.items ≡ Some x ∷ []) × MayRun s j.task x × (number x ≡ k)
+  ReadyAt k j = (x : Pass Element) × (j.places.items ≡ Some x ∷ []) × MayRun step s most j.task x × (number x ≡ k)
 
   pub all_new : (rings : ℕ) → ServesPlaces limits_of s.given rings (length (parts_of s)) → length s.given.quotas ≡ rings → (count : ℕ) (jobs : List (Job (RingTask T S A))) (passes : List (Pass Element)) (old : ℕ → List (Option (Pass Element)))
-      → AreNewTasks rings (parts_of s) (tasks_in jobs) → AreHanded 0 count 0 passes old (lent_to jobs) → ((i : ℕ) → old i ≡ []) → AreFresh number_of s.gate 0 passes
+      → AreNewTasks rings most (parts_of s) (tasks_in jobs) → AreHanded 0 count 0 passes old (lent_to jobs) → ((i : ℕ) → old i ≡ []) → AreFresh number_of s.gate 0 passes
       → (k : ℕ) (j : Job (RingTask T S A)) → k ≤ count → slice_get jobs k ≡ Some j → ReadyAt k j
   all_new rings serves many count jobs passes old tasks handed none fresh k j le is =
       let r = handed.each k le in
@@ -74,11 +72,11 @@ module _ {X P S K : Type 0} {G : Ghosts X P Chats} (s : Named (Places X P Chats 
       let places : j.places.items ≡ Some r.0 ∷ [] = sym (lent_got jobs k j is) ∙ (ap (lent_to jobs) (sym at) ∙ (r.2 ∙ ap (λ l. l ++ Some r.0 ∷ []) (none (holder 0 count 0 k)))) in
       (r.0, places, may_new rings serves many j.task r.0 k (tasks.each k j.task (task_got jobs k j is)) f.0 n f.2, n)
 
-  pub all_ready : (jobs : List (Job (RingTask T S A))) → ((k : ℕ) (j : Job (RingTask T S A)) → slice_get jobs k ≡ Some j → ReadyAt k j) → (k : ℕ) (d : Job (RingTask T S A)) → k < length jobs → IsReady s (slice_index_or jobs k d)
+  pub all_ready : (jobs : List (Job (RingTask T S A))) → ((k : ℕ) (j : Job (RingTask T S A)) → slice_get jobs k ≡ Some j → ReadyAt k j) → (k : ℕ) (d : Job (RingTask T S A)) → k < length jobs → IsReady step s most (slice_index_or jobs k d)
   all_ready jobs new k d lt =
       let o = some_at jobs k lt in
       let n = new k o.0 o.1 in
-      subst (IsReady s) (sym (get_or_from_slice_get jobs k o.0 d o.1)) (subst (ReadyFor s o.0.task) (ap pass_in (sym n.1)) n.2)
+      subst (IsReady step s most) (sym (get_or_from_slice_get jobs k o.0 d o.1)) (subst (ReadyFor step s most o.0.task) (ap pass_in (sym n.1)) n.2)
 
   module _ (Q : A → ServedSource A T S → Type 0) (old new : List (Job (RingTask T S A))) (n : length old ≡ length new)
       (ran : (k : ℕ) (d : Job (RingTask T S A)) → k < length old → Ran limits_of s Q (slice_index_or old k d) (slice_index_or new k d)) where
@@ -120,10 +118,10 @@ module _ {X P S K : Type 0} {G : Ghosts X P Chats} (s : Named (Places X P Chats 
             last_none = λ i le. past_jobs new i (omega (arith, le, m));
           }
         where
-          last : (q : ℕ) (t : Named (Places X P Chats G)) → slice_get (s ∷ []) q ≡ Some t → (x : Pass Element) × (lent_to new (0 + count + q) ≡ Some x ∷ []) × MayEnd limits_of count t x
+          last : (q : ℕ) (t : Named (Places X P (Keyed W T S) G)) → slice_get (s ∷ []) q ≡ Some t → (x : Pass Element) × (lent_to new (0 + count + q) ≡ Some x ∷ []) × MayEnd limits_of count t x
           last zero t is =
               let z : 0 + count + 0 ≡ count = omega arith in
               let j = some_at new count (omega (arith, m)) in
               let d = all_done count j.0 j.1 in
-              (d.0, ap (lent_to new) z ∙ (lent_got new count j.0 j.1 ∙ d.1), (let same : s ≡ t = cc is in subst (λ (t : Named (Places X P Chats G)). MayEnd limits_of count t d.0) same d.2))
+              (d.0, ap (lent_to new) z ∙ (lent_got new count j.0 j.1 ∙ d.1), (let same : s ≡ t = cc is in subst (λ (t : Named (Places X P (Keyed W T S) G)). MayEnd limits_of count t d.0) same d.2))
           last (suc q) t is = cc is

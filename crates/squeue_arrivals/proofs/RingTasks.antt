@@ -1,19 +1,15 @@
--- Tasks of rings, and what is left of their streams.
+-- Tasks of rings, and what is left of their sources.
 use Rattle.std.proofs.Common.{◌≡◌, ℕ, zero, suc, ◌<◌, ◌≤◌, inl, inr, Some, List, [], ◌∷◌, ◌++◌, length, map, slice_get, refl, ap, sym, ◌∙◌, subst, arith, length-append, append-nil}
 use Rattle.std.specs.Prelude.{reverse}
 use Rattle.std.proofs.lemmas.List.{length-map, reverse-append}
 use Rattle.std.proofs.lemmas.Option.{slice_get_within}
 use Rattle.squeue_streams.specs.declared.streams.Stream.{Stream}
-use Rattle.live_chats.specs.Hearing.{ChatOf}
-use Rattle.live_chats.specs.declared.item.ChatItem.{ChatItem}
-use Rattle.squeue_arrivals.specs.declared.ending.EndedRing.{EndedRing}
-use Rattle.squeue_arrivals.specs.declared.ending.Ends.{Ends}
+use Rattle.squeue_arrivals.specs.declared.served.ServedSource.{ServedSource}
 use Rattle.squeue_arrivals.specs.declared.ring.Ring.{Ring}
 use Rattle.squeue_arrivals.specs.declared.ring.RingTask.{RingTask}
 use Rattle.squeue_arrivals.specs.declared.ring.RingTask.TheVariants as Task'
 use Rattle.squeue_arrivals.specs.Groups.{AllBecame}
-use Rattle.squeue_arrivals.specs.Seating.{AreNewStays}
-use Rattle.squeue_arrivals.specs.Tasks.{AreNewRings, AreNewTasks, HasDone, IsNewTask, ended_of, tasks_for}
+use Rattle.squeue_arrivals.specs.Tasks.{AreNewRings, AreNewTasks, HasDone, IsNewRing, IsNewTask, ended_of, tasks_for}
 use Rattle.squeue_arrivals.proofs.Seated.{get_more}
 
 -- a list of no length has nothing
@@ -21,9 +17,9 @@ pub none_long : {A : Type 0} (xs : List A) → length xs ≡ 0 → xs ≡ []
 none_long [] n = refl
 none_long (x ∷ xs) n = absurd (omega (arith, n))
 
-module _ {S K : Type 0} where
-  pub as_many : (parts : List (Stream T S)) (es : List (A)) (rs : List (Ring T S A)) → AreNewRings parts es rs → length rs ≡ length es
-  as_many parts es rs are = sym (length-map rs (λ (r : Ring T S A). r.ends)) ∙ ap length are.ends_are
+module _ {T S A : Type 0} where
+  pub as_many : (most : ℕ) (parts : List (Stream T S)) (es : List A) (rs : List (Ring T S A)) → AreNewRings most parts es rs → length rs ≡ length es
+  as_many most parts es rs are = sym (length-map rs (λ (r : Ring T S A). r.source)) ∙ ap length are.sources_are
 
   serve_got : (rs : List (Ring T S A)) (k : ℕ) (t : RingTask T S A) → slice_get (map (λ r. Task'.Serve r) rs) k ≡ Some t → (r : Ring T S A) × (slice_get rs k ≡ Some r) × (Task'.Serve r ≡ t)
   serve_got [] k t is = cc is
@@ -31,18 +27,18 @@ module _ {S K : Type 0} where
   serve_got (r ∷ rs) (suc k) t is = serve_got rs k t is
 
   -- the rings have their tasks
-  pub are_tasks : (n : ℕ) (parts : List (Stream T S)) (es : List (A)) (rs : List (Ring T S A)) → n ≡ length es → AreNewRings parts es rs → AreNewTasks n parts (tasks_for rs)
-  are_tasks n parts es rs counted are =
+  pub are_tasks : (n most : ℕ) (parts : List (Stream T S)) (es : List A) (rs : List (Ring T S A)) → n ≡ length es → AreNewRings most parts es rs → AreNewTasks n most parts (tasks_for rs)
+  are_tasks n most parts es rs counted are =
       let front : List (RingTask T S A) = map (λ r. Task'.Serve r) rs in
-      let many : length front ≡ n = length-map rs (λ (r : Ring T S A). Task'.Serve r) ∙ (as_many parts es rs are ∙ sym counted) in
+      let many : length front ≡ n = length-map rs (λ (r : Ring T S A). Task'.Serve r) ∙ (as_many most parts es rs are ∙ sym counted) in
       record {
         count = omega (arith, length-append front (Task'.Work ∷ []), many);
         each = λ c t at. elim (get_more front Task'.Work t c at) [
           | inl there ↦
               let r = serve_got rs c t there in
               let within : c < n = omega (arith, slice_get_within front c t there, many) in
-              subst (IsNewTask n parts c) r.2 (within, subst (λ (m : ℕ). AreNewStays m c parts r.0.stays) (sym counted) (are.each c r.0 r.1))
-          | inr last ↦ subst (IsNewTask n parts c) last.1 (last.0 ∙ many)
+              subst (IsNewTask n most parts c) r.2 (within, subst (λ (m : ℕ). IsNewRing m most parts c r.0) (sym counted) (are.each c r.0 r.1))
+          | inr last ↦ subst (IsNewTask n most parts c) last.1 (last.0 ∙ many)
         ];
       }
 
@@ -61,8 +57,8 @@ module _ {S K : Type 0} where
     abbrev DidEach : List (RingTask T S A) → List (RingTask T S A) → Type 0
     DidEach olds news = (k : ℕ) (t u : RingTask T S A) → slice_get olds k ≡ Some t → slice_get news k ≡ Some u → HasDone P t u
 
-    -- when all are done this is left of each stream
-    pub all_ended : (rs : List (Ring T S A)) (news : List (RingTask T S A)) → length news ≡ length (tasks_for rs) → DidEach (tasks_for rs) news → AllBecame P (map (λ r. r.ends) rs) (ended_of news)
+    -- when all are done this is left of each source
+    pub all_ended : (rs : List (Ring T S A)) (news : List (RingTask T S A)) → length news ≡ length (tasks_for rs) → DidEach (tasks_for rs) news → AllBecame P (map (λ r. r.source) rs) (ended_of news)
     all_ended [] [] n did = absurd (omega (arith, n))
     all_ended [] (u ∷ v ∷ us) n did = absurd (omega (arith, n))
     all_ended [] (Task'.Work ∷ []) n did = tt

@@ -19,11 +19,9 @@ use Rattle.squeue_state.specs.Naming.{Given}
 use Rattle.squeue_state.specs.Clauses.{IsMade, StandsEmpty}
 use Rattle.histories.specs.Quotas.{ask_quotas}
 use Rattle.squeue_streams.specs.declared.streams.Stream.{Stream}
-use Rattle.squeue_streams.specs.Taking.{count_of, input_of, most_feeds, most_leaves, state_of}
+use Rattle.squeue_streams.specs.Taking.{count_of, input_of, most_feeds, most_leaves}
 use Rattle.stream_stays.specs.declared.place.Place.{Place}
 use Rattle.stream_stays.specs.declared.place.Place.TheVariants.{Vacant}
-use Rattle.live_chats.specs.Hearing.{ChatOf, nobody}
-use Rattle.live_chats.specs.declared.item.ChatItem.{ChatItem}
 use Rattle.squeue_arrivals.specs.Seating.{AreNewPairs, IsNewPair, IsNewPlace, ServesPlaces, lives_of, one_life}
 
 pub long : {A : Type 0} (n : ℕ) (x : A) → length (replicate n x) ≡ n
@@ -120,60 +118,60 @@ get_more [] x y (suc c) is = cc is
 get_more (z ∷ xs) x y zero is = inl is
 get_more (z ∷ xs) x y (suc c) is = elim (get_more xs x y c is) [ inl a ↦ inl a | inr b ↦ inr (ap suc b.0, b.1) ]
 
--- one pair more
-pub pairs_more : (n : ℕ) (ps : List (Producer T Global AnyItems)) (ss : List (Stream T S)) (p : Producer T Global AnyItems) (s : Stream T S)
-    → AreNewPairs n ps ss → IsNewPair p s → AreNewPairs (n + 1) (ps ++ p ∷ []) (ss ++ s ∷ [])
-pairs_more n ps ss p s are new =
-    record {
-      many = (omega (arith, length-append ps (p ∷ []), are.many.0), omega (arith, length-append ss (s ∷ []), are.many.1));
-      each = λ c q t at_p at_s. elim (get_more ps p q c at_p) [
-        | inl there ↦ elim (get_more ss s t c at_s) [
-          | inl too ↦ are.each c q t there too
-          | inr last ↦ absurd (omega (arith, slice_get_within ps c q there, last.0, are.many.0, are.many.1))
-        ]
-        | inr last ↦ elim (get_more ss s t c at_s) [
-          | inl too ↦ absurd (omega (arith, slice_get_within ss c t too, last.0, are.many.0, are.many.1))
-          | inr both ↦ subst (λ (x : Producer T Global AnyItems). IsNewPair x t) last.1 (subst (λ (x : Stream T S). IsNewPair p x) both.1 new)
-        ]
-      ];
-    }
+module _ {T S : Type 0} where
+  -- one pair more
+  pub pairs_more : (n : ℕ) (ps : List (Producer T Global AnyItems)) (ss : List (Stream T S)) (p : Producer T Global AnyItems) (s : Stream T S)
+      → AreNewPairs n ps ss → IsNewPair p s → AreNewPairs (n + 1) (ps ++ p ∷ []) (ss ++ s ∷ [])
+  pairs_more n ps ss p s are new =
+      record {
+        many = (omega (arith, length-append ps (p ∷ []), are.many.0), omega (arith, length-append ss (s ∷ []), are.many.1));
+        each = λ c q t at_p at_s. elim (get_more ps p q c at_p) [
+          | inl there ↦ elim (get_more ss s t c at_s) [
+            | inl too ↦ are.each c q t there too
+            | inr last ↦ absurd (omega (arith, slice_get_within ps c q there, last.0, are.many.0, are.many.1))
+          ]
+          | inr last ↦ elim (get_more ss s t c at_s) [
+            | inl too ↦ absurd (omega (arith, slice_get_within ss c t too, last.0, are.many.0, are.many.1))
+            | inr both ↦ subst (λ (x : Producer T Global AnyItems). IsNewPair x t) last.1 (subst (λ (x : Stream T S). IsNewPair p x) both.1 new)
+          ]
+        ];
+      }
 
-pub no_pairs : (ps : List (Producer T Global AnyItems)) (ss : List (Stream T S)) → ps ≡ [] → ss ≡ [] → AreNewPairs 0 ps ss
-no_pairs ps ss p s =
-    record {
-      many = (ap length p, ap length s);
-      each = λ c q t at_p at_s. (let none : slice_get {X = Producer T Global AnyItems} [] c ≡ Some q = ap (λ (l : List (Producer T Global AnyItems)). slice_get l c) (sym p) ∙ at_p in absurd (nothing c q none));
-    }
-  where
-    nothing : (c : ℕ) (q : Producer T Global AnyItems) → slice_get {X = Producer T Global AnyItems} [] c ≡ Some q → ⊥
-    nothing c q is = cc is
-
-pub new_pair : (p : Producer T Global AnyItems) (input : Consumer T Global AnyItems) (s : Stream T S) → IsPair p input → sent p ≡ [] → received input ≡ [] → input_of s ≡ input → count_of s ≡ 0 → state_of s ≡ nobody → IsNewPair p s
-new_pair p input s pair unsent none is count first =
-    record {
-      pair = subst (λ (i : Consumer T Global AnyItems). IsPair p i) (sym is) pair;
-      unsent = unsent;
-      none = ap (λ (i : Consumer T Global AnyItems). received i) is ∙ none;
-      uncounted = count;
-      nobody_is = first;
-    }
-
-module _ (ss : List (Stream T S)) where
-  abbrev pub EachNew : List (Place T S) → Type 0
-  EachNew places = (k : ℕ) (place : Place T S) → slice_get places k ≡ Some place → IsNewPlace ss k place
-
-  pub none_new : (places : List (Place T S)) → places ≡ [] → EachNew places
-  none_new places none = λ k place at. absurd (nothing k place (ap (λ (l : List (Place T S)). slice_get l k) (sym none) ∙ at))
+  pub no_pairs : (ps : List (Producer T Global AnyItems)) (ss : List (Stream T S)) → ps ≡ [] → ss ≡ [] → AreNewPairs 0 ps ss
+  no_pairs ps ss p s =
+      record {
+        many = (ap length p, ap length s);
+        each = λ c q t at_p at_s. (let none : slice_get {X = Producer T Global AnyItems} [] c ≡ Some q = ap (λ (l : List (Producer T Global AnyItems)). slice_get l c) (sym p) ∙ at_p in absurd (nothing c q none));
+      }
     where
-      nothing : (k : ℕ) (place : Place T S) → slice_get {X = Place T S} [] k ≡ Some place → ⊥
-      nothing k place is = cc is
+      nothing : (c : ℕ) (q : Producer T Global AnyItems) → slice_get {X = Producer T Global AnyItems} [] c ≡ Some q → ⊥
+      nothing c q is = cc is
 
-  -- one place more
-  pub new_more : (c : ℕ) (places : List (Place T S)) (p : Producer T Global AnyItems) (s : Stream T S) → length places ≡ c → EachNew places → slice_get ss c ≡ Some s → IsNewPair p s
-      → EachNew (places ++ Vacant (record { producer = p; part = s; stream = c; leaves = most_leaves }) ∷ [])
-  new_more c places p s many each at_s pair = λ k place at. elim (get_more places (Vacant (record { producer = p; part = s; stream = c; leaves = most_leaves })) place k at) [
-    | inl there ↦ each k place there
-    | inr last ↦
-        let here : c ≡ k = sym many ∙ sym last.0 in
-        subst (λ (j : ℕ). IsNewPlace ss j place) here (record { producer = p; part = s; its_part = at_s; new = pair; place_is = sym last.1 })
-  ]
+  pub new_pair : (p : Producer T Global AnyItems) (input : Consumer T Global AnyItems) (s : Stream T S) → IsPair p input → sent p ≡ [] → received input ≡ [] → input_of s ≡ input → count_of s ≡ 0 → IsNewPair p s
+  new_pair p input s pair unsent none is count =
+      record {
+        pair = subst (λ (i : Consumer T Global AnyItems). IsPair p i) (sym is) pair;
+        unsent = unsent;
+        none = ap (λ (i : Consumer T Global AnyItems). received i) is ∙ none;
+        uncounted = count;
+      }
+
+  module _ (ss : List (Stream T S)) where
+    abbrev pub EachNew : List (Place T S) → Type 0
+    EachNew places = (k : ℕ) (place : Place T S) → slice_get places k ≡ Some place → IsNewPlace ss k place
+
+    pub none_new : (places : List (Place T S)) → places ≡ [] → EachNew places
+    none_new places none = λ k place at. absurd (nothing k place (ap (λ (l : List (Place T S)). slice_get l k) (sym none) ∙ at))
+      where
+        nothing : (k : ℕ) (place : Place T S) → slice_get {X = Place T S} [] k ≡ Some place → ⊥
+        nothing k place is = cc is
+
+    -- one place more
+    pub new_more : (c : ℕ) (places : List (Place T S)) (p : Producer T Global AnyItems) (s : Stream T S) → length places ≡ c → EachNew places → slice_get ss c ≡ Some s → IsNewPair p s
+        → EachNew (places ++ Vacant (record { producer = p; part = s; stream = c; leaves = most_leaves }) ∷ [])
+    new_more c places p s many each at_s pair = λ k place at. elim (get_more places (Vacant (record { producer = p; part = s; stream = c; leaves = most_leaves })) place k at) [
+      | inl there ↦ each k place there
+      | inr last ↦
+          let here : c ≡ k = sym many ∙ sym last.0 in
+          subst (λ (j : ℕ). IsNewPlace ss j place) here (record { producer = p; part = s; its_part = at_s; new = pair; place_is = sym last.1 })
+    ]

@@ -1,0 +1,14 @@
+pub mod Shares
+pub mod Grouped
+pub mod KeyLists
+pub mod Fronts
+pub mod PlacesKept
+pub mod KeysKept
+pub mod Seated
+pub mod Owned
+pub mod FirstKnown
+pub mod FirstServed
+pub mod RingTasks
+pub mod RingJobs
+pub mod RingRun
+pub mod RingsDealt

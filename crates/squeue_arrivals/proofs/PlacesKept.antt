@@ -1,0 +1,65 @@
+-- What stays at places.
+use Rattle.std.proofs.Common.{◌≡◌, ◌≢◌, ℕ, Option, None, Some, List, refl, ap, sym, ◌∙◌, subst}
+use Rattle.std.specs.Prelude.{slice_get}
+use Rattle.stream_stays.specs.declared.place.Place.{Place}
+use Rattle.stream_stays.specs.declared.place.Place.TheVariants.{Open, Out, Vacant as Vacant'}
+use Rattle.stream_stays.specs.declared.place.Stays.{Stays}
+use Rattle.stream_stays.specs.declared.stay.Stay.{Stay}
+use Rattle.stream_stays.specs.declared.stay.Vacant.{Vacant}
+use Rattle.stream_stays.specs.Places.{CanOpen, IsOpen, SameElsewhere, place_at, places_of}
+use Rattle.stream_stays.specs.Settling.{SameAt, SamePlaces, sent_in}
+use Rattle.squeue_arrivals.specs.Keeping.{Keeps, KeepsBut}
+
+module _ {T S : Type 0} where
+  open_at_both : (was is : Option (Place T S)) (stay : Stay T) → was ≡ Some (Open stay) → SameAt was is → (next : Stay T) × (is ≡ Some (Open next))
+  open_at_both None is stay e same = cc e
+  open_at_both (Some (Open a)) None stay e same = absurd same
+  open_at_both (Some (Open a)) (Some (Open b)) stay e same = (b, refl)
+  open_at_both (Some (Open a)) (Some (Vacant' v)) stay e same = absurd same
+  open_at_both (Some (Open a)) (Some Out) stay e same = absurd same
+  open_at_both (Some (Vacant' v)) is stay e same = cc e
+  open_at_both (Some Out) is stay e same = cc e
+
+  vacant_at_both : (was is : Option (Place T S)) (v : Vacant T S) → was ≡ Some (Vacant' v) → SameAt was is → is ≡ Some (Vacant' v)
+  vacant_at_both None is v e same = cc e
+  vacant_at_both (Some (Open a)) is v e same = cc e
+  vacant_at_both (Some (Vacant' w)) is v e same = same ∙ e
+  vacant_at_both (Some Out) is v e same = cc e
+
+  -- places that are the same, or were settled
+  pub keeps_same : (a b : Stays T S) → places_of b ≡ places_of a → Keeps a b
+  keeps_same a b same =
+      record {
+        opens = λ d is. (is.0, at d ∙ is.1);
+        vacant = λ d is. (is.0, at d ∙ is.1, is.2);
+        sent = λ d. ap sent_in (at d);
+      }
+    where
+      at : (d : ℕ) → place_at b d ≡ place_at a d
+      at d = ap (λ (l : List (Place T S)). slice_get l d) same
+
+  pub keeps_settled : (a b : Stays T S) → SamePlaces a b → ((d : ℕ) → sent_in (place_at b d) ≡ sent_in (place_at a d)) → Keeps a b
+  keeps_settled a b same sent =
+      record {
+        opens = λ d is. open_at_both (place_at a d) (place_at b d) is.0 is.1 (same.each d);
+        vacant = λ d is. (is.0, vacant_at_both (place_at a d) (place_at b d) is.0 is.1 (same.each d), is.2);
+        sent = sent;
+      }
+
+  pub keeps_on : (a b c : Stays T S) → Keeps a b → Keeps b c → Keeps a c
+  keeps_on a b c x y = record { opens = λ d is. y.opens d (x.opens d is); vacant = λ d is. y.vacant d (x.vacant d is); sent = λ d. y.sent d ∙ x.sent d }
+
+  -- all but one place
+  pub but_elsewhere : (c : ℕ) (a b : Stays T S) → SameElsewhere c a b → KeepsBut c a b
+  but_elsewhere c a b same =
+      record {
+        opens = λ d n is. (is.0, same.others d n ∙ is.1);
+        vacant = λ d n is. (is.0, same.others d n ∙ is.1, is.2);
+        sent = λ d n. ap sent_in (same.others d n);
+      }
+
+  pub but_of : (c : ℕ) (a b : Stays T S) → Keeps a b → KeepsBut c a b
+  but_of c a b x = record { opens = λ d n. x.opens d; vacant = λ d n. x.vacant d; sent = λ d n. x.sent d }
+
+  pub but_on : (e : ℕ) (a b c : Stays T S) → KeepsBut e a b → KeepsBut e b c → KeepsBut e a c
+  but_on e a b c x y = record { opens = λ d n is. y.opens d n (x.opens d n is); vacant = λ d n is. y.vacant d n (x.vacant d n is); sent = λ d n. y.sent d n ∙ x.sent d n }
