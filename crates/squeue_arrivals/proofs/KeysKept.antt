@@ -2,7 +2,7 @@
 use Rattle.std.proofs.Common.{◌≡◌, ◌≢◌, ℕ, zero, suc, ◌+◌, ◌*◌, ◌-◌, ◌^◌, ◌<◌, ◌≤◌, ◌⊎◌, inl, inr, None, Some, List, [], ◌∷◌, ◌++◌, length, slice_get, refl, ap, sym, ◌∙◌, subst, arith, length-append}
 use Rattle.std.specs.Prelude.{Contains, nat_eq}
 use Rattle.std.specs.HashSet.{IsUnique, spare}
-use Rattle.std.proofs.Math.Nat.{le_of_mul-le-mul_right}
+use Rattle.std.proofs.Math.Nat.{le_of_mul-le-mul_right, mul-le-mul_right}
 use Rattle.std.proofs.lemmas.Bool.{cases_eq}
 use Rattle.std.proofs.lemmas.Option.{get_or_from_slice_get, slice_get_within}
 use Rattle.std.proofs.lemmas.List.Elements.{Contains-append_left}
@@ -14,7 +14,7 @@ use Rattle.stream_stays.specs.Places.{CanOpen, IsOpen, Knows, place_at}
 use Rattle.stream_stays.specs.Settling.{sent_in}
 use Rattle.squeue_arrivals.specs.Arriving.{items_for, most_of_key}
 use Rattle.squeue_arrivals.specs.Keyed.{IsFirst}
-use Rattle.squeue_arrivals.specs.Keeping.{AllCame, AllCameBut, HasKeys, IsTable, Keeps, KeepsBut}
+use Rattle.squeue_arrivals.specs.Keeping.{AllCame, AllCameBut, HasAll, HasKeys, HasSeated, IsTable, Keeps, KeepsBut}
 use Rattle.squeue_arrivals.specs.Placed.{SameRing, keys_in, most_in, place_of}
 use Rattle.squeue_arrivals.specs.declared.ring_keys.RingKeys.{RingKeys}
 use Rattle.squeue_arrivals.specs.declared.steps.Keyed.{Keyed}
@@ -32,13 +32,31 @@ place_apart k i j other same =
 pub place_same : (a b : RingKeys) (i : ℕ) → SameRing a b → place_of b i ≡ place_of a i
 place_same a b i same = rw (same.number, same.rings) refl
 
+pub ring_on : (a b c : RingKeys) → SameRing a b → SameRing b c → SameRing a c
+ring_on a b c x y = record { number = y.number ∙ x.number; rings = y.rings ∙ x.rings; most = y.most ∙ x.most }
+
 pub is_among : (ks : List ℕ) (i k : ℕ) → slice_get ks i ≡ Some k → Contains ks k
 is_among ks i k at = (i, slice_get_within ks i k at, get_or_from_slice_get ks i k k at)
 
+-- what was added last is there
+pub last_there : (ks new : List ℕ) (key : ℕ) → new ≡ ks ++ key ∷ [] → slice_get new (length ks) ≡ Some key
+last_there ks new key is = ap (λ (l : List ℕ). slice_get l (length ks)) is ∙ last_got ks key
+  where
+    last_got : (ks : List ℕ) (x : ℕ) → slice_get (ks ++ x ∷ []) (length ks) ≡ Some x
+    last_got [] x = refl
+    last_got (y ∷ ks) x = last_got ks x
+
+-- there are fewer places than numbers
+pub few_places : (k : RingKeys) → most_in k < 2 ^ 32
+few_places k =
+    let one : 1 ≤ k.rings = omega (arith, k.fits.0) in
+    let le : 1 * k.most ≤ k.rings * k.most = mul-le-mul_right k.most one in
+    omega (arith, le, k.fits.1)
+
 -- a list that isn't another than the empty one is empty
 none_of : {T : Type 0} (xs : List T) → (xs ≢ [] → ⊥) → xs ≡ []
-none_of [] no = refl
-none_of (x ∷ xs) no = absurd (no (λ e. cc e))
+none_of [] some = refl
+none_of (x ∷ xs) some = absurd (some (λ e. cc e))
 
 more_than_none : {T : Type 0} (xs : List T) (x : T) → xs ++ x ∷ [] ≢ []
 more_than_none [] x e = cc e
@@ -200,9 +218,18 @@ module _ {R W T S : Type 0} (step : Keyed W T S → S → T → S → Type 0) (l
       | inr last ↦ absurd (apart (sym last.1))
     ]
 
-    pub key_there : slice_get (keys_in next) (length (keys_in k)) ≡ Some key
-    key_there = ap (λ (l : List ℕ). slice_get l (length (keys_in k))) more ∙ last_got (keys_in k) key
-      where
-        last_got : (ks : List ℕ) (x : ℕ) → slice_get (ks ++ x ∷ []) (length ks) ≡ Some x
-        last_got [] x = refl
-        last_got (y ∷ ks) x = last_got ks x
+-- a key takes the next place, which is number c
+module _ {R W T S : Type 0} (step : Keyed W T S → S → T → S → Type 0) (limits : R → Limits) (s : Named R) (o : Keyed W T S) (all : List (ℕ × T)) where
+  pub seated_one : (p q : Pass Element) (a b : Stays T S) (k next : RingKeys) (key c : ℕ) → HasAll step limits s o all p a k → (Contains (keys_in k) key → ⊥) → length (keys_in k) < most_in k
+      → c ≡ place_of k (length (keys_in k)) → Knows IsFirst step limits s o q b → IsOpen b c → KeepsBut c a b → sent_in (place_at b c) ≡ sent_in (place_at a c) → keys_in next ≡ keys_in k ++ key ∷ [] → SameRing k next
+      → spare k.set ≤ spare next.set + 1 → IsUnique nat_eq next.set → HasSeated step limits s o all key q b next (Some c)
+  seated_one p q a b k next key c has new left c_is knows is_open keeps sent more ring room distinct =
+      let n = length (keys_in k) in
+      let open_there = subst (IsOpen b) c_is is_open in
+      let keeps_there = subst (λ (d : ℕ). KeepsBut d a b) c_is keeps in
+      let sent_there = subst (λ (d : ℕ). sent_in (place_at b d) ≡ sent_in (place_at a d)) c_is sent in
+      record {
+        keys = keys_one step limits s o all p q a b k next key has.0 new left knows open_there keeps_there sent_there more ring room distinct;
+        came = came_one step limits s o all p q a b k next key has.0 new left knows open_there keeps_there sent_there more ring room distinct has.1;
+        none = λ none. cc none;
+      }

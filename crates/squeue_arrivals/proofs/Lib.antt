@@ -2,8 +2,13 @@ pub mod Shares
 pub mod Grouped
 pub mod KeyLists
 pub mod Fronts
+pub mod Cases
 pub mod PlacesKept
 pub mod KeysKept
+pub mod Closing
+pub mod Given
+pub mod Parts
+pub mod Whole
 pub mod Seated
 pub mod Owned
 pub mod FirstKnown

@@ -1,30 +1,29 @@
 -- What stays at places.
-use Rattle.std.proofs.Common.{◌≡◌, ◌≢◌, ℕ, Option, None, Some, List, refl, ap, sym, ◌∙◌, subst}
-use Rattle.std.specs.Prelude.{slice_get}
+use Rattle.std.proofs.Common.{◌≡◌, ◌≢◌, ℕ, ◌≤◌, Option, None, Some, Result, Ok, Err, List, [], ◌∷◌, ◌++◌, length, refl, ap, sym, ◌∙◌, subst, arith}
+use Rattle.std.specs.Prelude.{MatchResult, slice_get}
 use Rattle.stream_stays.specs.declared.place.Place.{Place}
 use Rattle.stream_stays.specs.declared.place.Place.TheVariants.{Open, Out, Vacant as Vacant'}
 use Rattle.stream_stays.specs.declared.place.Stays.{Stays}
 use Rattle.stream_stays.specs.declared.stay.Stay.{Stay}
 use Rattle.stream_stays.specs.declared.stay.Vacant.{Vacant}
+use Rattle.stream_stays.specs.Staying.{pushed_of}
+use Rattle.squeue_arrivals.specs.Arriving.{most_of_key}
 use Rattle.stream_stays.specs.Places.{CanOpen, IsOpen, SameElsewhere, place_at, places_of}
 use Rattle.stream_stays.specs.Settling.{SameAt, SamePlaces, sent_in}
 use Rattle.squeue_arrivals.specs.Keeping.{Keeps, KeepsBut}
 
 module _ {T S : Type 0} where
   open_at_both : (was is : Option (Place T S)) (stay : Stay T) → was ≡ Some (Open stay) → SameAt was is → (next : Stay T) × (is ≡ Some (Open next))
-  open_at_both None is stay e same = cc e
-  open_at_both (Some (Open a)) None stay e same = absurd same
-  open_at_both (Some (Open a)) (Some (Open b)) stay e same = (b, refl)
-  open_at_both (Some (Open a)) (Some (Vacant' v)) stay e same = absurd same
-  open_at_both (Some (Open a)) (Some Out) stay e same = absurd same
-  open_at_both (Some (Vacant' v)) is stay e same = cc e
-  open_at_both (Some Out) is stay e same = cc e
+  open_at_both was is stay e same = by is (subst (λ (o : Option (Place T S)). SameAt o is) e same)
+    where
+      by : (o : Option (Place T S)) → SameAt (Some (Open stay)) o → (next : Stay T) × (o ≡ Some (Open next))
+      by None x = absurd x
+      by (Some (Vacant' v)) x = absurd x
+      by (Some (Open next)) x = (next, refl)
+      by (Some Out) x = absurd x
 
   vacant_at_both : (was is : Option (Place T S)) (v : Vacant T S) → was ≡ Some (Vacant' v) → SameAt was is → is ≡ Some (Vacant' v)
-  vacant_at_both None is v e same = cc e
-  vacant_at_both (Some (Open a)) is v e same = cc e
-  vacant_at_both (Some (Vacant' w)) is v e same = same ∙ e
-  vacant_at_both (Some Out) is v e same = cc e
+  vacant_at_both was is v e same = subst (λ (o : Option (Place T S)). SameAt o is) e same
 
   -- places that are the same, or were settled
   pub keeps_same : (a b : Stays T S) → places_of b ≡ places_of a → Keeps a b
@@ -63,3 +62,14 @@ module _ {T S : Type 0} where
 
   pub but_on : (e : ℕ) (a b c : Stays T S) → KeepsBut e a b → KeepsBut e b c → KeepsBut e a c
   but_on e a b c x y = record { opens = λ d n is. y.opens d n (x.opens d n is); vacant = λ d n is. y.vacant d n (x.vacant d n is); sent = λ d n. y.sent d n ∙ x.sent d n }
+
+  -- a place to which so much was pushed that no more can be
+  pub full_place : (st : Stays T S) (c n : ℕ) → IsOpen st c → ((stay : Stay T) → place_at st c ≡ Some (Open stay) → n ≡ pushed_of stay) → n ≡ most_of_key → most_of_key ≤ length (sent_in (place_at st c))
+  full_place st c n is pushed full = omega (arith, ap (λ p. length (sent_in p)) is.1, pushed is.0 is.1, full, is.0.count)
+
+-- an item was brought, where it was from a place at which the same was sent
+pub brought_from : {T : Type 0} (r : Result (Unit {0}) T) (item back : T) (old mid now : List T) (n : ℕ) → back ≡ item → mid ≡ old
+    → MatchResult r (λ _. now ≡ mid ++ back ∷ []) (λ x. (x ≡ back) × (now ≡ mid) × (n ≤ length now))
+    → MatchResult r (λ _. now ≡ old ++ item ∷ []) (λ x. (x ≡ item) × (now ≡ old) × (n ≤ length now))
+brought_from {T} (Ok u) item back old mid now n same kept brought = brought ∙ (ap (λ (l : List T). l ++ back ∷ []) kept ∙ ap (λ (x : T). old ++ x ∷ []) same)
+brought_from {T} (Err x) item back old mid now n same kept brought = (brought.0 ∙ same, brought.1 ∙ kept, brought.2)

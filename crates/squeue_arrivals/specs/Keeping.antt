@@ -1,5 +1,5 @@
 -- What stands at the places of a ring, and which key is at which of them.
-use Rattle.std.specs.Prelude.{◌≡◌, ◌≢◌, ℕ, ◌+◌, ◌*◌, ◌<◌, ◌≤◌, nat_eq, Some, List, [], Contains, length, slice_get}
+use Rattle.std.specs.Prelude.{◌≡◌, ◌≢◌, ℕ, ◌+◌, ◌*◌, ◌<◌, ◌≤◌, nat_eq, Option, None, Some, List, [], ◌∷◌, ◌++◌, Contains, length, slice_get}
 use Rattle.std.specs.HashSet.{IsUnique, spare}
 use Rattle.turn_gate.specs.declared.pass.Pass.{Pass}
 use Rattle.perimeter_core.specs.History.{Element, Limits}
@@ -9,9 +9,10 @@ use Rattle.stream_stays.specs.declared.place.Stays.{Stays}
 use Rattle.stream_stays.specs.declared.stay.Vacant.{Vacant}
 use Rattle.stream_stays.specs.Places.{CanOpen, IsOpen, Knows, chain_of, place_at, touched_of}
 use Rattle.stream_stays.specs.Settling.{sent_in}
-use Rattle.squeue_arrivals.specs.Arriving.{items_for}
+use Rattle.squeue_arrivals.specs.Arriving.{HasCause, items_for}
 use Rattle.squeue_arrivals.specs.Keyed.{IsFirst}
 use Rattle.squeue_arrivals.specs.Placed.{keys_in, most_in, place_of}
+use Rattle.squeue_arrivals.specs.declared.served.Refused.{Refused}
 use Rattle.squeue_arrivals.specs.declared.ring_keys.RingKeys.{RingKeys}
 use Rattle.squeue_arrivals.specs.declared.steps.Keyed.{Keyed}
 
@@ -39,6 +40,14 @@ pub record IsTable {T : Type 0} (all : List (ℕ × T)) (k : RingKeys) : Type 0 
   pub distinct : IsUnique nat_eq k.set
   pub every : (key : ℕ) → items_for key all ≢ [] → Contains (keys_in k) key
 
+module _ {T : Type 0} (all : List (ℕ × T)) (k : RingKeys) where
+  -- an item of each key came; or of each other key
+  abbrev pub AllCame : Type 0
+  AllCame = (i key : ℕ) → slice_get (keys_in k) i ≡ Some key → items_for key all ≢ []
+
+  abbrev pub AllCameBut : ℕ → Type 0
+  AllCameBut but = (i key : ℕ) → slice_get (keys_in k) i ≡ Some key → key ≢ but → items_for key all ≢ []
+
 module _ {W T S : Type 0} (step : Keyed W T S → S → T → S → Type 0) {R : Type 0} (limits : R → Limits) (s : Named R) (o : Keyed W T S) where
   -- all that was pushed is entered and settled
   pub record IsSettled (p : Pass Element) (st : Stays T S) : Type 0 where
@@ -55,16 +64,24 @@ module _ {W T S : Type 0} (step : Keyed W T S → S → T → S → Type 0) {R :
         → IsOpen st (place_of k i) × (sent_in (place_at st (place_of k i)) ≡ items_for key all)
     pub free : (i : ℕ) → length (keys_in k) ≤ i → i < most_in k → CanOpen st (place_of k i) × (sent_in (place_at st (place_of k i)) ≡ [])
 
+  -- and an item of each key came
+  abbrev pub HasAll : List (ℕ × T) → Pass Element → Stays T S → RingKeys → Type 0
+  HasAll all p st k = HasKeys all p st k × AllCame all k
+
+  -- a key has a place, or there is none for it
+  pub record HasSeated (all : List (ℕ × T)) (key : ℕ) (p : Pass Element) (st : Stays T S) (k : RingKeys) (place : Option ℕ) : Type 0 where
+    pub keys : HasKeys all p st k
+    pub came : AllCameBut all k key
+    pub none : place ≡ None → (length (keys_in k) ≡ most_in k) × (items_for key all ≡ []) × AllCame all k
+
+  -- an item came to its key, or was refused
+  abbrev pub HasArrived : List (ℕ × T) → ℕ → T → Pass Element → Stays T S → RingKeys → Option (Refused T) → Type 0
+  HasArrived all key item p st k None = HasAll (all ++ (key, item) ∷ []) p st k
+  HasArrived all key item p st k (Some r) = HasAll all p st k × (r.key ≡ key) × (r.item ≡ item)
+      × HasCause r.cause (most_in k) (length (keys_in k)) all key
+
   -- the parts of all keys are at no squeue any more
   pub record AreClosed (all : List (ℕ × T)) (p : Pass Element) (st : Stays T S) (k : RingKeys) : Type 0 where
     pub knows : Knows IsFirst step limits s o p st
     pub at : (i key : ℕ) → slice_get (keys_in k) i ≡ Some key
         → IsVacant st (place_of k i) × (sent_in (place_at st (place_of k i)) ≡ items_for key all)
-
-module _ {T : Type 0} (all : List (ℕ × T)) (k : RingKeys) where
-  -- an item of each key came; or of each other key
-  abbrev pub AllCame : Type 0
-  AllCame = (i key : ℕ) → slice_get (keys_in k) i ≡ Some key → items_for key all ≢ []
-
-  abbrev pub AllCameBut : ℕ → Type 0
-  AllCameBut but = (i key : ℕ) → slice_get (keys_in k) i ≡ Some key → key ≢ but → items_for key all ≢ []

@@ -75,7 +75,7 @@ where
         &|_, group: &mut Group<A, ServedSource<A, X::Item, X::State>>|
             requires pool { IsInRange pool.now }
             requires group { MayServe group.now }
-            ensures { HasServed (IsServed X.begins X.step A.origin A.given A.is_over steps.entry pool.entry.now.places) group.entry.now group.exit.now }
+            ensures { HasServed (IsServed X.begins X.step A.origin A.given A.is_over steps pool.entry.now.places) group.entry.now group.exit.now }
         { serve_group(rt, alloc, pool, steps, group) },
     );
 }

@@ -1,15 +1,13 @@
 //! Which key is at which place of a ring, and how items come to their keys.
 
-ghost use Rattle.std.specs.Prelude.{◌≡◌, ◌+◌, ◌≤◌, ◌++◌, ◌∷◌, [], ℕ, Some, IfNone, IfSome, Contains, length, slice_get};
+ghost use Rattle.std.specs.Prelude.{◌≡◌, ◌+◌, ◌≤◌, ℕ, Some, IfSome, Contains, slice_get};
 ghost use Rattle.std.proofs.Common.{List};
 ghost use Rattle.turn_gate.specs.Passes.{number};
 ghost use Rattle.placed_parts.specs.Placing.{limits_of, origin_of};
-ghost use Rattle.squeue_arrivals.specs.Arriving.{HasCause, items_for};
 ghost use Rattle.squeue_arrivals.specs.Keyed.{Tells};
-ghost use Rattle.squeue_arrivals.specs.Keeping.{AllCame, AllCameBut, HasKeys};
-ghost use Rattle.squeue_arrivals.specs.Placed.{SameRing, keys_in, most_in, place_of};
+ghost use Rattle.squeue_arrivals.specs.Keeping.{HasAll, HasArrived, HasSeated};
+ghost use Rattle.squeue_arrivals.specs.Placed.{SameRing, keys_in, place_of};
 ghost use Rattle.stream_stays.specs.Places.{life_of};
-ghost use Rattle.squeue_arrivals.specs.declared.served.Refused.{Refused};
 
 use crate::line::Line;
 use crate::ring_keys::RingKeys;
@@ -31,18 +29,13 @@ pub(crate) fn arrive<X: KeySteps + Drop, H: Wait + Drop, W: Wait>(
     key: u64,
     item: X::Item,
 ) -> (Pass, Option<Refused<X::Item>>)
-    ghost all: { List (ℕ × X.Item) }
-    requires keys { HasKeys (Tells X.step) limits_of line.now.squeue.now (origin_of line.now.squeue.now.given.first) all pass stays.old keys.old }
-    requires came { AllCame all keys.old }
+    requires keys { (all : List (ℕ × X.Item)) × HasAll (Tells X.step) limits_of line.now.squeue.now (origin_of line.now.squeue.now.given.first) all pass stays.old keys.old }
     requires asks { 3 ≤ (life_of stays.old).asks }
     ensures number { number result.0 ≡ number pass }
     ensures asks { (life_of stays.old).asks ≤ (life_of stays.new).asks + 3 }
     ensures ring { SameRing keys.old keys.new }
-    ensures brought { IfNone result.1 (HasKeys (Tells X.step) limits_of line.now.squeue.now (origin_of line.now.squeue.now.given.first)
-        (all ++ (key, item) ∷ []) result.0 stays.new keys.new × AllCame (all ++ (key, item) ∷ []) keys.new) }
-    ensures refused { IfSome result.1 (λ r. HasKeys (Tells X.step) limits_of line.now.squeue.now (origin_of line.now.squeue.now.given.first)
-        all result.0 stays.new keys.new × AllCame all keys.new × (r.key ≡ key) × (r.item ≡ item)
-        × HasCause r.cause (most_in keys.new) (length (keys_in keys.new)) all key) }
+    ensures arrived { (all : List (ℕ × X.Item)) → HasAll (Tells X.step) limits_of line.now.squeue.now (origin_of line.now.squeue.now.given.first) all pass stays.old keys.old
+        → HasArrived (Tells X.step) limits_of line.now.squeue.now (origin_of line.now.squeue.now.given.first) all key item result.0 stays.new keys.new result.1 }
 {
     let (pass, at) = seat(line, alloc, pass, stays, keys, key);
     let Some(c) = at else {
@@ -68,17 +61,14 @@ fn seat<X: KeySteps + Drop, H: Wait + Drop, W: Wait>(
     keys: &mut RingKeys,
     key: u64,
 ) -> (Pass, Option<u32>)
-    ghost all: { List (ℕ × X.Item) }
-    requires keys { HasKeys (Tells X.step) limits_of line.now.squeue.now (origin_of line.now.squeue.now.given.first) all pass stays.old keys.old }
-    requires came { AllCame all keys.old }
+    requires keys { (all : List (ℕ × X.Item)) × HasAll (Tells X.step) limits_of line.now.squeue.now (origin_of line.now.squeue.now.given.first) all pass stays.old keys.old }
     requires asks { 2 ≤ (life_of stays.old).asks }
     ensures number { number result.0 ≡ number pass }
     ensures asks { (life_of stays.old).asks ≤ (life_of stays.new).asks + 2 }
-    ensures keys { HasKeys (Tells X.step) limits_of line.now.squeue.now (origin_of line.now.squeue.now.given.first) all result.0 stays.new keys.new }
-    ensures came { AllCameBut all keys.new key }
+    ensures seated { (all : List (ℕ × X.Item)) → HasAll (Tells X.step) limits_of line.now.squeue.now (origin_of line.now.squeue.now.given.first) all pass stays.old keys.old
+        → HasSeated (Tells X.step) limits_of line.now.squeue.now (origin_of line.now.squeue.now.given.first) all key result.0 stays.new keys.new result.1 }
     ensures ring { SameRing keys.old keys.new }
-    ensures seated { IfSome result.1 (λ c. (i : ℕ) × (slice_get (keys_in keys.new) i ≡ Some key) × (c ≡ place_of keys.new i)) }
-    ensures none { IfNone result.1 ((length (keys_in keys.new) ≡ most_in keys.new) × (items_for key all ≡ []) × AllCame all keys.new) }
+    ensures place { IfSome result.1 (λ c. (i : ℕ) × (slice_get (keys_in keys.new) i ≡ Some key) × (c ≡ place_of keys.new i)) }
 {
     match keys.index_of(key) {
         Some(i) => (pass, Some(keys.place(i))),
@@ -95,18 +85,15 @@ fn seat_new<X: KeySteps + Drop, H: Wait + Drop, W: Wait>(
     keys: &mut RingKeys,
     key: u64,
 ) -> (Pass, Option<u32>)
-    ghost all: { List (ℕ × X.Item) }
     requires new { Contains (keys_in keys.old) key → ⊥ }
-    requires keys { HasKeys (Tells X.step) limits_of line.now.squeue.now (origin_of line.now.squeue.now.given.first) all pass stays.old keys.old }
-    requires came { AllCame all keys.old }
+    requires keys { (all : List (ℕ × X.Item)) × HasAll (Tells X.step) limits_of line.now.squeue.now (origin_of line.now.squeue.now.given.first) all pass stays.old keys.old }
     requires asks { 2 ≤ (life_of stays.old).asks }
     ensures number { number result.0 ≡ number pass }
     ensures asks { (life_of stays.old).asks ≤ (life_of stays.new).asks + 2 }
-    ensures keys { HasKeys (Tells X.step) limits_of line.now.squeue.now (origin_of line.now.squeue.now.given.first) all result.0 stays.new keys.new }
-    ensures came { AllCameBut all keys.new key }
+    ensures seated { (all : List (ℕ × X.Item)) → HasAll (Tells X.step) limits_of line.now.squeue.now (origin_of line.now.squeue.now.given.first) all pass stays.old keys.old
+        → HasSeated (Tells X.step) limits_of line.now.squeue.now (origin_of line.now.squeue.now.given.first) all key result.0 stays.new keys.new result.1 }
     ensures ring { SameRing keys.old keys.new }
-    ensures seated { IfSome result.1 (λ c. (i : ℕ) × (slice_get (keys_in keys.new) i ≡ Some key) × (c ≡ place_of keys.new i)) }
-    ensures none { IfNone result.1 ((length (keys_in keys.new) ≡ most_in keys.new) × (items_for key all ≡ []) × AllCame all keys.new) }
+    ensures place { IfSome result.1 (λ c. (i : ℕ) × (slice_get (keys_in keys.new) i ≡ Some key) × (c ≡ place_of keys.new i)) }
 {
     let i = keys.len();
     if i == keys.most as usize {

@@ -32,8 +32,6 @@ pub(crate) struct Line<'q, R: Resident, W: Wait> {
 struct Nobody;
 
 impl<X: KeySteps + Drop> Collects<Keyed<X>> for Nobody {
-    ghost use Rattle.std.specs.Prelude.{Unit};
-
     ghost takes = { λ _ _ _ _. Unit {0} };
 
     fn collect(&mut self, _c: u32, _state: &X::State) {}

@@ -1,6 +1,6 @@
 //! A ring: what it has before it serves its source, and what is left of it; and what the threads of one squeue do.
 
-ghost use Rattle.std.specs.Prelude.{◌≡◌, ℕ, ◌+◌, ◌*◌, ◌^◌, ◌<◌, ◌≤◌, ◌++◌, [], All, IfNone, IfSome, List, Contains, length, slice_get, slice_index_or, vec_capacity};
+ghost use Rattle.std.specs.Prelude.{◌≡◌, ◌≢◌, ℕ, ◌^◌, ◌<◌, ◌≤◌, [], All, List, Some, length, slice_get, slice_index_or, vec_capacity};
 ghost use Rattle.turn_gate.specs.Passes.{IsPassOf, number};
 ghost use Rattle.perimeter_core.specs.History.{worker as worker_of};
 ghost use Rattle.placed_parts.specs.Placing.{limits_of, origin_of};
@@ -15,7 +15,7 @@ ghost use Rattle.stream_stays.specs.declared.stay.Vacant.{Vacant};
 ghost use Rattle.squeue_arrivals.specs.declared.served.KeyPart.{KeyPart};
 ghost use Rattle.squeue_arrivals.specs.Arriving.{keys_of, HasGiven, IsServed};
 ghost use Rattle.squeue_arrivals.specs.Keyed.{AreBegun, Tells, work_of};
-ghost use Rattle.squeue_arrivals.specs.Keeping.{AllCame, AreClosed, HasKeys};
+ghost use Rattle.squeue_arrivals.specs.Keeping.{AreClosed, HasAll, HasKeys};
 ghost use Rattle.squeue_arrivals.specs.Pooling.{IsInRange};
 ghost use Rattle.squeue_arrivals.specs.Placed.{SameRing, keys_in, most_in, place_of};
 ghost use Rattle.squeue_arrivals.specs.Tasks.{HasDone, IsReady, MayRun, MayServe, Ran};
@@ -38,7 +38,7 @@ use std::mem::replace;
 use std::sync::Wait;
 use std::thread;
 use std::thread::Threads;
-use stream_stays::{Place, Stays, close_at};
+use stream_stays::{Place, Stays, Vacant, close_at};
 
 // So many items a ring serves.
 const LIFE: u64 = 1 << 50;
@@ -196,13 +196,14 @@ fn serve_all<X: KeySteps + Drop, A: Arrivals<Item = X::Item>, H: Wait + Drop, W:
     ensures number { number result.0 ≡ number pass }
     ensures ring { SameRing keys.old keys.new }
     ensures asks { 2 ^ 50 ≤ (life_of stays.new).asks }
-    ensures given { (all : List (ℕ × X.Item)) × HasKeys (Tells X.step) limits_of line.now.squeue.now (origin_of line.now.squeue.now.given.first) all result.0 stays.new keys.new
-        × AllCame all keys.new × HasGiven A.origin A.given A.is_over (most_in keys.new) (length (keys_in keys.new)) all source.old source.new result.1 }
+    ensures given { (all : List (ℕ × X.Item)) × HasAll (Tells X.step) limits_of line.now.squeue.now (origin_of line.now.squeue.now.given.first) all result.0 stays.new keys.new
+        × HasGiven A.origin A.given A.is_over (most_in keys.new) (length (keys_in keys.new)) all source.old source.new result.1 }
 {
     let mut pass = pass;
     let mut left = LIFE;
     'items: for _ in line.rt.forever() {
-        match source.next() {
+        let arrival = source.next();
+        match arrival {
             Arrival::Item(key, item) => {
                 if left == 0 {
                     let cause = Cause::LifeIsOver;
@@ -233,11 +234,11 @@ fn close_keys<X: KeySteps + Drop, H: Wait + Drop, W: Wait>(
     stays: &mut Stays<X::Item, X::State>,
     keys: &RingKeys,
 ) -> Pass
-    ghost all: { List (ℕ × X.Item) }
-    requires keys { HasKeys (Tells X.step) limits_of line.now.squeue.now (origin_of line.now.squeue.now.given.first) all pass stays.old keys.now }
+    requires keys { (all : List (ℕ × X.Item)) × HasKeys (Tells X.step) limits_of line.now.squeue.now (origin_of line.now.squeue.now.given.first) all pass stays.old keys.now }
     requires asks { 2 ^ 50 ≤ (life_of stays.old).asks }
     ensures number { number result ≡ number pass }
-    ensures closed { AreClosed (Tells X.step) limits_of line.now.squeue.now (origin_of line.now.squeue.now.given.first) all result stays.new keys.now }
+    ensures closed { (all : List (ℕ × X.Item)) → HasKeys (Tells X.step) limits_of line.now.squeue.now (origin_of line.now.squeue.now.given.first) all pass stays.old keys.now
+        → AreClosed (Tells X.step) limits_of line.now.squeue.now (origin_of line.now.squeue.now.given.first) all result stays.new keys.now }
 {
     let mut pass = line.settle(alloc, pass, stays);
     for i in 0..keys.len() {
@@ -263,11 +264,21 @@ fn take_parts<T: Drop, S: Drop>(
     let mut parts = room;
     for i in 0..keys.len() {
         let key = keys.key(i);
-        let Place::Vacant(vacant) = replace(&mut places[keys.place(i) as usize], Place::Out) else {
-            unreachable!()
-        };
+        let vacant = take_at(&mut places, keys.place(i) as usize);
         let state = vacant.part.into_state();
         parts.push_reserved(KeyPart { key, state });
     }
     parts
+}
+
+// What is at a place at which no part is out.
+fn take_at<T: Drop, S: Drop>(places: &mut Vec<Place<T, S>>, c: usize) -> Vacant<T, S>
+    requires { (v : Vacant T S) × (slice_get places.old.items c ≡ Some (Vacant' v)) }
+    ensures was { slice_get places.old.items c ≡ Some (Vacant' result) }
+    ensures others { (d : ℕ) → d ≢ c → slice_get places.new.items d ≡ slice_get places.old.items d }
+{
+    match replace(&mut places[c], Place::Out) {
+        Place::Vacant(vacant) => vacant,
+        _ => unreachable!(),
+    }
 }

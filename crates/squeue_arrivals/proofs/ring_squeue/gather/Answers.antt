@@ -21,7 +21,7 @@ jobs-init g c = record {
 pub destroy_empty-requires : goal.destroy_empty-requires
 destroy_empty-requires g c =
     let none =
-    (All-pop (λ (j : Job (RingTask g.row.S.Denot g.row.K.Denot)). j.places.items ≡ []) c.jobs.jobs.items c.pop.new.self.items (Some c.in-Some.job) c.in-Some.ensures.items c.jobs.invariant.empty).1 in
+    (All-pop (λ (j : Job (RingTask g.row.T.Denot g.row.S.Denot g.row.A.Denot)). j.places.items ≡ []) c.jobs.jobs.items c.pop.new.self.items (Some c.in-Some.job) c.in-Some.ensures.items c.jobs.invariant.empty).1 in
     omega (arith, ap length none, c.in-Some.job.places.ok)
 
 pub push_ended-requires : goal.push_ended-requires

@@ -1,7 +1,9 @@
 use Rattle.std.proofs.Common.{◌-◌, ◌++◌, length, take, drop, slice_index_or, sym, ap, ◌∙◌, subst, arith}
 use Rattle.squeue_serve.specs.Lending.{holder, tasks_in}
 use Rattle.squeue_serve.proofs.Lent.{lent_none, none_lent_to}
-use Rattle.squeue_arrivals.specs.Served.{HasEnded}
+use Rattle.placed_parts.specs.Placing.{origin_of}
+use Rattle.squeue_arrivals.specs.Arriving.{IsServed}
+use Rattle.squeue_arrivals.specs.Keyed.{AreBegun, Tells, work_of}
 use Rattle.squeue_arrivals.specs.Tasks.{IsReady}
 use Rattle.squeue_serve.proofs.Coming.{one_only}
 use Rattle.squeue_arrivals.proofs.RingJobs.{all_ready}
@@ -12,20 +14,20 @@ use Rattle.squeue_arrivals.proofs.ring_squeue.run_to_end.Goals.{After-deref_mut,
 use Rattle.squeue_arrivals.proofs.ring_squeue.run_to_end.Goals as goal
 
 -- the squeue is lent to the jobs
-lent : (g : Over) (c : After-deref_mut g) → Lends c.args.squeue c.deref_mut.result.now c.len-count.result c.lend.new.squeues.all.items
+lent : (g : Over) (c : After-deref_mut g) → Lends (Tells g.X.KeySteps.step) c.args.pool.now.places c.args.squeue c.deref_mut.result.now c.len-count.result c.lend.new.squeues.all.items
 lent g c =
     let r = c.requires in
     let l = c.lend.ensures in
-    lends c.args.squeue r.squeue c.args.jobs.items c.lend.new.jobs.items c.deref_mut.result.now c.len-count.result c.args.squeues.all.items c.lend.new.squeues.all.items c.args.passes.items
+    lends (Tells g.X.KeySteps.step) c.args.pool.now.places c.args.squeue r.squeue c.args.jobs.items c.lend.new.jobs.items c.deref_mut.result.now c.len-count.result c.args.squeues.all.items c.lend.new.squeues.all.items c.args.passes.items
     (omega (arith, c.len-count.ensures, c.args.jobs.ok)) r.tasks r.jobs.0 l.tasks c.deref_mut.ensures.value r.squeues.0 l.squeues l.handed r.passes.1
 
 -- each job has done its task
-did : (g : Over) (c : After-run_rings g) → Lends c.args.squeue c.deref_mut.result.now c.len-count.result c.lend.new.squeues.all.items
-    → CameBack (HasEnded g.S.Source.rest g.S.Source.read_faults g.K.Sink.contents g.K.Sink.write_faults c.args.setup.now) c.args.squeue c.len-count.result c.lend.new.squeues.all.items c.deref_mut.result.now
+did : (g : Over) (c : After-run_rings g) → Lends (Tells g.X.KeySteps.step) c.args.pool.now.places c.args.squeue c.deref_mut.result.now c.len-count.result c.lend.new.squeues.all.items
+    → CameBack (IsServed g.X.KeySteps.begins g.X.KeySteps.step g.A.Arrivals.origin g.A.Arrivals.given g.A.Arrivals.is_over (work_of (origin_of c.args.squeue.given.first)) c.args.pool.now.places) c.args.squeue c.len-count.result c.lend.new.squeues.all.items c.deref_mut.result.now
     (take c.lend.new.jobs.len (c.run_rings.new.jobs ++ drop (length c.run_rings.new.jobs) c.lend.new.jobs.items)) c.run_rings.new.jobs
 did g c l =
     let jobs = c.lend.new.jobs in
-    came_back c.args.squeue (HasEnded g.S.Source.rest g.S.Source.read_faults g.K.Sink.contents g.K.Sink.write_faults c.args.setup.now) jobs.items c.run_rings.new.jobs jobs.len c.index.result.now l c.deref_mut.ensures.value jobs.ok.0 (omega (arith, c.run_rings.auto.jobs))
+    came_back (Tells g.X.KeySteps.step) c.args.pool.now.places c.args.squeue (IsServed g.X.KeySteps.begins g.X.KeySteps.step g.A.Arrivals.origin g.A.Arrivals.given g.A.Arrivals.is_over (work_of (origin_of c.args.squeue.given.first)) c.args.pool.now.places) jobs.items c.run_rings.new.jobs jobs.len c.index.result.now l c.deref_mut.ensures.value jobs.ok.0 (omega (arith, c.run_rings.auto.jobs))
     c.index.ensures c.run_rings.ensures
 
 pub lend-requires-clause-fit : goal.lend-requires-clause-fit
@@ -38,7 +40,7 @@ run_rings-requires-clause-jobs g c κs within k d lt =
     let at = goal.at.run_rings-requires-clause-jobs g c in
     let l = lent g at.After-deref_mut in
     let it = is_it c.args.squeue c.lend.new.squeues.all.items c.index.result.now l.single c.index.ensures in
-    subst (λ t. IsReady t (slice_index_or c.deref_mut.result.now k d)) (sym it) (all_ready c.args.squeue c.deref_mut.result.now l.are k d lt)
+    subst (λ t. IsReady (Tells g.X.KeySteps.step) t c.args.pool.now.places (slice_index_or c.deref_mut.result.now k d)) (sym it) (all_ready (Tells g.X.KeySteps.step) c.args.squeue c.args.pool.now.places c.deref_mut.result.now l.are k d lt)
 
 pub end_last-requires-clause-lent : goal.end_last-requires-clause-lent
 end_last-requires-clause-lent g c =
@@ -73,3 +75,10 @@ returns-clause-done g c =
     let d = did g at.After-run_rings (lent g at.After-deref_mut) in
     are_done (tasks_in c.args.jobs.items) (tasks_in c.deref_mut.result.now) (tasks_in c.run_rings.new.jobs) (tasks_in c.end_last.new.jobs.items) (ap tasks_in c.deref_mut.ensures.value ∙ c.lend.ensures.tasks)
     (c.end_last.ensures.tasks ∙ ap tasks_in d.same) d.as_many d.did
+
+pub run_rings-requires-clause-begun : goal.run_rings-requires-clause-begun
+run_rings-requires-clause-begun g c κs within =
+    let at = goal.at.run_rings-requires-clause-begun g c in
+    let l = lent g at.After-deref_mut in
+    let it = is_it c.args.squeue c.lend.new.squeues.all.items c.index.result.now l.single c.index.ensures in
+    subst (λ t. AreBegun g.X.KeySteps.begins (origin_of t.given.first)) (sym it) c.requires.begun

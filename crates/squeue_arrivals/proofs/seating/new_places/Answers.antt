@@ -5,7 +5,7 @@ use Rattle.squeue_arrivals.proofs.Seated.{new_more, none_new, popped_next}
 use Rattle.squeue_arrivals.proofs.seating.new_places.Goals as goal
 
 pub loop-stream-init : goal.loop-stream-init
-loop-stream-init c =
+loop-stream-init g c =
     record {
       push_left = ap reverse c.reverse.ensures.items ∙ reverse-reverse c.args.producers.items;
       pop_left = ap reverse c.reverse-2.ensures.items ∙ reverse-reverse c.args.parts.items;
@@ -15,7 +15,7 @@ loop-stream-init c =
     }
 
 pub loop-stream-preserved : goal.loop-stream-preserved
-loop-stream-preserved c =
+loop-stream-preserved g c =
     let i = c.loop-stream.invariant in
     let p = popped_next c.args.producers.items c.loop-stream.stream c.loop-stream.producers.items c.pop.new.self.items c.in-Some.producer i.push_left c.in-Some.ensures.items in
     let s = popped_next c.args.parts.items c.loop-stream.stream c.loop-stream.parts.items c.pop-in-loop-stream.new.self.items c.in-Some-pop.part i.pop_left c.in-Some-pop.ensures.items in

@@ -4,7 +4,7 @@ use Rattle.squeue_arrivals.proofs.Owned.{all_taken, one_taken}
 use Rattle.squeue_arrivals.proofs.seating.own_stays.Goals as goal
 
 pub loop-c-preserved : goal.loop-c-preserved
-loop-c-preserved c =
+loop-c-preserved g c =
     let i = c.loop-c.invariant in
     let w = c.take_for.ensures in
     record {
@@ -14,7 +14,7 @@ loop-c-preserved c =
     }
 
 pub returns-clause-own : goal.returns-clause-own
-returns-clause-own c =
+returns-clause-own g c =
     let i = c.loop-c.invariant in
     let last : c.loop-c.c ≡ length c.args.places.now.items = omega (arith, c.loop-c-test.false, c.loop-c.auto, i.counted) in
     let own = all_taken c.args.rings c.args.ring c.loop-c.c c.args.places.now.items c.loop-c.places.items c.loop-c.own.items last i.taken in

@@ -4,7 +4,7 @@ use Rattle.squeue_arrivals.proofs.seating.own_stays.Given as goal
 
 -- the places before this one are looked at
 abbrev pub invariant-loop-c : goal.invariant-loop-c
-invariant-loop-c l =
+invariant-loop-c g l =
     record {
       taken : IsTaken l.rings l.ring l.c l.fn.places.items l.places.items l.own.items;
       counted : l.count ≡ length l.fn.places.items;
