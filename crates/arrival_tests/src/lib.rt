@@ -2,6 +2,5 @@
 #![tactic(auto)]
 
 pub mod summing;
-
 #[cfg(test)]
 mod sums;

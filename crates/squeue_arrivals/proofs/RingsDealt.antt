@@ -87,7 +87,7 @@ module _ {T S A : Type 0} (rings most : ℕ) where
   all_dealt n all left first sources made parts is none counted new many =
       record {
         sources_are = sym (is.sources_are ∙ (ap (λ (l : List A). map (λ r. r.source) made ++ reverse l) none ∙ append-nil (map (λ r. r.source) made)));
-        each = λ k r at. 
+        each = λ k r at.
             (let own = is.each k r at in
             subst (λ (m : ℕ). IsNewRing m most parts k r) counted (record { stays = new_of_own rings k parts all r.stays new own.0; count = many; keys = own.1.0; room = own.1.1 }));
       }

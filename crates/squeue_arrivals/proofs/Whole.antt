@@ -36,8 +36,7 @@ module _ {R W T S A O : Type 0} (begins : W → S → Type 0) (step : W → S �
         distinct = subst (IsDistinct nat_eq) (sym keys) table.distinct;
         each = λ i part at.
             let key : slice_get (keys_in k) i ≡ Some part.key = ap (λ (l : List ℕ). slice_get l i) (sym keys) ∙ (slice_get-map (λ p. p.key) left.parts.items i ∙ ap (λ x. option_map (λ p. p.key) x) at) in
-            let h = states i part at in
-            (
+            let h = states i part at in (
               came i part.key key,
               subst (IsMadeOf begins step (work_of o) (items_for part.key all)) (sym h.2) (made_of begins step limits s o all p st k i part.key h.0 begun closed key h.1),
             );

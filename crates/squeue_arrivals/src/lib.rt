@@ -1,6 +1,6 @@
 //! Work that arrives: each ring takes items from a source of its own, of which nobody knows before which keys come, nor how many items.
 //!
-//! Write [`KeySteps`] for what is made of the items of one key, and [`Arrivals`] for a source, unless a list is one ([`Listed`]). Then
+//! Write [`KeySteps`] for what is made of the items of one key, and [`Arrivals`] for a source, unless a list is one ([`Listed`]) or a ring ([`Piped`]). Then
 //! [`serve_arriving`] has a ring bring the items of each source to a squeue, and hands back what was made of each key. A key takes a
 //! place of its ring when its first item comes, and keeps it to the end. A ring has so many places as it is told; what comes for a key
 //! that finds none is refused, and ends its source.
@@ -14,6 +14,7 @@ mod arriving;
 mod groups;
 mod keys;
 mod line;
+mod piped;
 mod pool;
 mod ring;
 mod ring_keys;
@@ -24,6 +25,7 @@ mod source;
 mod steps;
 
 pub use arriving::serve_arriving;
+pub use piped::Piped;
 pub use pool::ArrivalPool;
 pub use served::{Cause, KeyPart, Refused, ServedSource};
 pub use source::{Arrival, Arrivals, Listed};

@@ -39,10 +39,9 @@ returns-in-Ok-clause-arrived g c = λ all has.
     let line = c.args.line.now.squeue.now in
     let o = origin_of line.given.first in
     let is_open = subst (IsOpen b) at.2 e.open in
-    let keeps = subst (λ (d : ℕ). KeepsBut d a b) at.2 e.others in
-    (
+    let keeps = subst (λ (d : ℕ). KeepsBut d a b) at.2 e.others in (
       keys_more (Tells g.X.KeySteps.step) limits_of line o all c.seat-pass.result.0 c.bring-pass.result.0 a b k at.0 c.args.key s.keys at.1 e.knows is_open keeps c.args.item
-      (subst (λ (d : ℕ). sent_in (place_at b d) ≡ sent_in (place_at a d) ++ c.args.item ∷ []) at.2 sent),
+          (subst (λ (d : ℕ). sent_in (place_at b d) ≡ sent_in (place_at a d) ++ c.args.item ∷ []) at.2 sent),
       all_came_more (Tells g.X.KeySteps.step) limits_of line o all c.seat-pass.result.0 c.bring-pass.result.0 a b k at.0 c.args.key s.keys at.1 e.knows is_open keeps c.args.item s.came,
     )
 

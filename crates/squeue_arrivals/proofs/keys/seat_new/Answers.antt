@@ -30,8 +30,7 @@ returns-clause-seated g c = λ all has.
 
 pub returns-clause-place : goal.returns-clause-place
 returns-clause-place g c =
-    let k = c.args.keys.now in
-    (
+    let k = c.args.keys.now in (
       length (keys_in k),
       last_there (keys_in k) (keys_in c.add.new.self) c.args.key c.add.ensures.keys,
       c.place-c.ensures ∙ (ap (place_of k) c.len-i.ensures ∙ sym (place_same k c.add.new.self (length (keys_in k)) c.add.ensures.ring)),

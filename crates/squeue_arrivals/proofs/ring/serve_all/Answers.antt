@@ -1,4 +1,4 @@
-use Rattle.std.proofs.Common.{◌≡◌, ◌∙◌, ◌++◌, ◌∷◌, [], ◌≤◌, ◌+◌, ◌*◌, ◌^◌, true, false, length, length-append, refl, ap, sym, subst, arith, rules, append-nil, append_assoc}
+use Rattle.std.proofs.Common.{◌≡◌, ◌∙◌, ◌++◌, ◌∷◌, [], ◌≤◌, ◌+◌, ◌*◌, ◌^◌, ℕ, true, false, length, length-append, refl, ap, sym, subst, arith, rules, append-nil, append_assoc}
 use Rattle.std.specs.Prelude.{is_some}
 use Rattle.placed_parts.specs.Placing.{limits_of, origin_of}
 use Rattle.squeue_state.specs.declared.guarded.Life.{Life}
@@ -71,7 +71,7 @@ pub items-preserved-else-is_some-2 : goal.items-preserved-else-is_some-2
 items-preserved-else-is_some-2 g c =
     let i = c.items.invariant in
     let given = g.A.Arrivals.given in
-    let item = (c.in-Item.key, c.in-Item.item) in
+    let item : ℕ × g.row.X-Item.Denot = (c.in-Item.key, c.in-Item.item) in
     let next = c.next-arrival.ensures.given ∙ ap (λ a. given c.items.source ++ told a) c.in-Item.is in
     let none : is_some c.arrive-next.result.1 ≡ false = search rules in
     let long = length-append i.all (item ∷ []) in
