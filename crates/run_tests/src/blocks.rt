@@ -218,7 +218,7 @@ fn expect(rt: &impl Abort, name: &str, block: &Option<Box<Block>>, wanted: &Want
 }
 
 /// Connection 0 of a capture served in this order, where it can be.
-fn served(
+pub fn served(
     rt: &(impl Threads + Sync),
     alloc: Global,
     capture: &Capture,

@@ -1,12 +1,19 @@
+ghost use Rattle.std.specs.Prelude.{◌≡◌, []};
+ghost use Rattle.conn_blocks.specs.Allowed.{all_calls};
+
+use crate::blocks::served as served_alone;
 use capture_reader::{Capture, parse_capture};
 use conn_blocks::{Act, Block, Calls};
 use conn_classifier::plan;
 use perimeter_core::NoHook;
-use ring_threads::{Setup, serve};
+use ring_threads::{Served, Setup, serve};
 use sq_base::Octets;
 use squeue_enter::Mode;
 use squeue_state::{Trace, TraceMark};
+use std::alloc::Global;
+use std::sync::Wait;
 use std::test::Fail;
+use std::thread::Threads;
 use tcb_machine::State;
 
 /// A capture of an echo connection, opened, with "hello" sent and closed, and of a discard connection with "x" sent: the
@@ -103,5 +110,40 @@ fn feeds_that_move(rt: HostRuntime) -> Result<(), Fail> {
     assert!(rt; is_echo(&rt, served.block(0))?);
     assert!(rt; is_discard(&rt, served.block(1))?);
     assert!(rt; is_over(served.trace(0)) && is_over(served.trace(1)));
+    Ok(())
+}
+
+/// The order of the first connection, as squeues served it.
+fn order_of<W: Threads + Wait + Sync>(
+    rt: &W,
+    alloc: Global,
+    capture: &Capture,
+    calls: &Calls,
+) -> Result<Vec<Act>, Fail>
+    requires { all_calls calls.now ≡ [] }
+{
+    let plan = plan(rt, alloc, capture, false)?;
+    if plan.conns() == 0 {
+        return Ok(Vec::new(alloc));
+    }
+    let served = serve(rt, alloc, &plan, calls, &MOVING, &NoHook)?;
+    Ok(Vec::from_slice(alloc, served.block(0).order())?)
+}
+
+/// One thread serves the order of a run, and its block, of which no squeue tells, is the run's.
+#[test]
+fn a_block_of_one_thread(rt: HostRuntime) -> Result<(), Fail> {
+    let alloc = rt.alloc();
+    let capture = two(&rt)?;
+    let calls = Calls::make(alloc);
+    let order = order_of(&rt, alloc, &capture, &calls)?;
+    let mut blocks = Vec::new(alloc);
+    if let Some(block) = served_alone(&rt, alloc, &capture, &calls, &order)? {
+        blocks.push(block)?;
+    }
+    assert!(rt; blocks.len() == 1);
+    let served = Served::of(alloc, blocks)?;
+    assert_eq!(rt; served.block(0).order(), order.as_slice());
+    assert!(rt; is_echo(&rt, served.block(0))?);
     Ok(())
 }

@@ -65,7 +65,8 @@ module _ (most : ℕ) where
   HasReplayed false source out err replayed.Yes = GetsWhole IsYes source out err
   HasReplayed false source out err replayed.No = GetsWhole IsNo source out err
   HasReplayed false source out err replayed.Usage = ⊥
-  HasReplayed false source out err replayed.NoMemory = MetNoFault source × OnlyTells out err (line (codes "sqreplay: out of memory"))
+  HasReplayed false source out err replayed.NoMemory =
+      MetNoFault source × Takes (λ n. n ≤ most + 1) source.was source.is × OnlyTells out err (line (codes "sqreplay: out of memory"))
   HasReplayed false source out err replayed.ReadFault =
       Rose source.faults_were source.faults_are × Takes (λ n. n ≤ most) source.was source.is × OnlyTells out err (line (codes "sqreplay: read fault"))
   HasReplayed false source out err replayed.WriteFault = GetsFront IsEither source out × TellsLine err (line (codes "sqreplay: write fault"))
