@@ -3,6 +3,9 @@ use Rattle.std.specs.Prelude.{◌≡◌, ℕ, Option, None, Some, List, []}
 use Rattle.std.specs.Io.KnownBytes.{Appends}
 use Rattle.std.proofs.Common.{refl, sym, ◌∙◌}
 use Rattle.std.proofs.lemmas.List.{append-nil}
+use Rattle.turn_gate.specs.declared.pass.Pass.{Pass}
+use Rattle.perimeter_core.specs.History.{Element}
+use Rattle.perimeter_core.specs.declared.known.Known.{Known}
 use Rattle.live_server.specs.Frames.{answers}
 use Rattle.live_run.specs.declared.fault.Fault.{Fault}
 use Rattle.live_rings.specs.Making.{server_of}
@@ -23,8 +26,8 @@ no_fault e = cc e
 written : Appends (Some []) (Some output) (answers input (server_of layout))
 written = answered_so
 
-pub has_ended : HasEnded known never known never layout before after
-has_ended = record {
+pub has_ended : (pass : Known (Pass Element)) → HasEnded known never known never layout before (after pass)
+has_ended pass = record {
   well = λ _ _. written;
   whole = λ _. whole;
   front = λ _. (output, ([], sym answered_so ∙ sym (append-nil output)), refl);

@@ -5,6 +5,9 @@ use Rattle.sq_base.specs.declared.kinds.Tuple.{Tuple}
 use Rattle.segment_codec.specs.ControlBits.{ack, fin, psh, syn}
 use Rattle.segment_codec.specs.PlainSegments.{plain}
 use Rattle.segment_codec.specs.declared.packet.Reply.{Reply}
+use Rattle.turn_gate.specs.declared.pass.Pass.{Pass}
+use Rattle.perimeter_core.specs.History.{Element}
+use Rattle.perimeter_core.specs.declared.known.Known.{Known}
 use Rattle.histories.specs.declared.mode.Mode.TheVariants as Mode'
 use Rattle.live_server.specs.Acts.{datagram_of}
 use Rattle.live_server.specs.Frames.{frame_of}
@@ -74,9 +77,9 @@ answered =
 abbrev pub output : List ℕ
 output = flat_map frame_of answered
 
--- The stream's ends as lists: what is left to be read, and what was written
+-- The stream's ends as lists: what is left to be read, and what was written. Which pass the ring had in the end is anybody's to say
 abbrev pub before : Ends (List ℕ) (List ℕ)
 before = record { reader = input; sink = [] }
 
-abbrev pub after : EndedRing (List ℕ) (List ℕ)
-after = record { reader = []; sink = output; fault = None; lost = false }
+abbrev pub after : Known (Pass Element) → EndedRing (List ℕ) (List ℕ)
+after pass = record { reader = []; sink = output; fault = None; lost = false; pass = pass }

@@ -8,9 +8,11 @@ ghost use Rattle.pcapng_reader.specs.Input.{IsInput};
 ghost use Rattle.conn_classifier.specs.Plan.{plan_of};
 ghost use Rattle.conn_classifier.specs.declared.kinds.Counts.{Counts};
 ghost use Rattle.conn_classifier.specs.declared.kinds.Item.{Item};
+ghost use Rattle.turn_gate.specs.declared.pass.Pass.{Pass};
 ghost use Rattle.perimeter_core.specs.Ending.{IsOver};
-ghost use Rattle.perimeter_core.specs.History.{run};
+ghost use Rattle.perimeter_core.specs.History.{Element, run};
 ghost use Rattle.perimeter_core.specs.Legal.{Legal};
+ghost use Rattle.perimeter_core.specs.declared.known.Known.{Known};
 ghost use Rattle.placed_parts.specs.declared.places.Places.{Places};
 ghost use Rattle.histories.specs.declared.mode.Mode.TheVariants as Mode;
 ghost use Rattle.squeue_pool.specs.Calls.{HaveHadAll, WasDoneBy};
@@ -163,7 +165,8 @@ pub fn there_is_a_run_over_datagrams()
 /// There is a run of live servers that ends well: of the one stream, whose ends are lists, all frames were read, of a connection that opens,
 /// sends a text and closes; and what was written is a SYN,ACK, the text, and a FIN.
 pub fn there_is_a_run_over_frames()
-    ensures { AllEnded (λ bytes. Some bytes) (λ _. 0) (λ bytes. Some bytes) (λ _. 0) Frames.layout (Frames.before ∷ []) (Frames.after ∷ []) }
+    ensures { (pass : Known (Pass Element))
+        → AllEnded (λ bytes. Some bytes) (λ _. 0) (λ bytes. Some bytes) (λ _. 0) Frames.layout (Frames.before ∷ []) (Frames.after pass ∷ []) }
 {}
 
 /// Of a run with a call, the history is legal, ends, and keeps the pace of its pool, and each mark of all passes is the one for what its
