@@ -30,6 +30,7 @@ use Rattle.datagram_services.specs.Items.{all_served, served}
 use Rattle.datagram_services.specs.Standing.{HasServed, IsPartOf, served_of}
 use Rattle.datagram_services.proofs.Placing.{had_is}
 use Rattle.datagram_services.specs.Fits.{Fits, HistoryFits, counts_of, setting_at}
+use Rattle.squeue_pool.specs.Keeping.{PassesKeep}
 use Rattle.datagram_services.specs.Lying.{AreThere, HandsOut}
 use Rattle.datagram_services.specs.Served.{HasMoreServed, IsMoreServed, MoreServedOf}
 use Rattle.datagram_services.specs.Work.{IsFirst, IsWorkFor}
@@ -192,6 +193,9 @@ module _ (p : MorePlanOf) (pool : Pool) (w : WorkOf StreamBlocks) (work : IsWork
           here = λ c s stream. subst (λ (k : ℕ). IsHereOnce es c (c % k) (item_count s)) squeues_are (here c s stream);
         }
 
+    all_keep : (q : ℕ) (e : Ending) → slice_get es q ≡ Some e → PassesKeep setup.mode e
+    all_keep q e there = subst (λ m. PassesKeep m e) mode_is (done.ran.keep q e there)
+
     -- what is handed out holds the blocks as they lie
     module _ (v : MoreServedOf) (held : HandsOut f v) where
       served_at : (c : ℕ) (s : StreamOf) → slice_get p.streams c ≡ Some s → slice_get v.streams c ≡ Some (all_served p.file s)
@@ -211,4 +215,10 @@ module _ (p : MorePlanOf) (pool : Pool) (w : WorkOf StreamBlocks) (work : IsWork
           served_at c s.0 s.1 ∙ same)
 
       pub has_served : HasMoreServed p setup v
-      has_served = record { fits = subst (Fits p setup) (sym (held.ended ∙ done.ended)) fits; served = all_streams }
+      has_served =
+          let same : es ≡ v.ended = sym (held.ended ∙ done.ended) in
+          record {
+            fits = subst (Fits p setup) same fits;
+            keep = subst (λ (hs : List Ending). (q : ℕ) (e : Ending) → slice_get hs q ≡ Some e → PassesKeep setup.mode e) same all_keep;
+            served = all_streams;
+          }

@@ -1,6 +1,7 @@
 -- What was served of a plan.
-use Rattle.std.specs.Prelude.{◌≡◌, List, map}
+use Rattle.std.specs.Prelude.{◌≡◌, ℕ, Some, List, map, slice_get}
 use Rattle.histories.specs.Endings.{Ending}
+use Rattle.squeue_pool.specs.Keeping.{PassesKeep}
 use Rattle.ring_quotas.specs.declared.setup.Setup.{Setup}
 use Rattle.stream_plan.specs.Streams.{MorePlanOf}
 use Rattle.datagram_services.specs.Items.{ServedOf, all_served}
@@ -15,8 +16,9 @@ pub record MoreServedOf : Type 0 where
 abbrev pub IsMoreServed : MorePlanOf → List ServedOf → Type 0
 IsMoreServed p v = v ≡ map (all_served p.file) p.streams
 
--- threads over squeues served the streams of the plan: the squeues ended with histories that fit the setup, and what was served of the
--- streams is what all their items leave
+-- threads over squeues served the streams of the plan: the squeues ended with histories that fit the setup, in which every mark of all
+-- passes is the one for what its turn found; and what was served of the streams is what all their items leave
 pub record HasMoreServed (p : MorePlanOf) (setup : Setup) (v : MoreServedOf) : Type 0 where
   pub fits : Fits p setup v.ended
+  pub keep : (q : ℕ) (e : Ending) → slice_get v.ended q ≡ Some e → PassesKeep setup.mode e
   pub served : IsMoreServed p v.streams

@@ -10,5 +10,5 @@ mod writing;
 
 pub use reporting::{push_report, report};
 pub use summing::summary;
-pub use tracing::{countable, push_report2, report2};
+pub use tracing::{countable, is_countable, push_report2, push_squeue, report2};
 pub use writing::{Room, write_report, write_report2};

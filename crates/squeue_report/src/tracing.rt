@@ -105,7 +105,8 @@ pub fn countable(setup: &Setup, served: &Served) -> Result<(), AllocError>
     Ok(())
 }
 
-fn is_countable(trace: &Trace) -> bool
+/// Whether the places in a trace can be counted.
+pub fn is_countable(trace: &Trace) -> bool
     ensures { result ≡ true → IsCountable trace.now }
 {
     for i in 0..trace.len() {
@@ -201,7 +202,7 @@ fn push_call<T: TextEnd>(text: &mut T, j: u32, c: u32, call: Call) -> Result<(),
 }
 
 /// What squeue `q` has in the report.
-fn push_squeue<T: TextEnd>(text: &mut T, q: u32, trace: &Trace) -> Result<(), T::Fault>
+pub fn push_squeue<T: TextEnd>(text: &mut T, q: u32, trace: &Trace) -> Result<(), T::Fault>
     requires { IsCountable trace.now }
     ensures { OnOk result (T.told text.new ≡ more (T.told text.old) (squeue_text (q, marks_of trace.now))) }
 {

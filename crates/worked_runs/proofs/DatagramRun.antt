@@ -24,6 +24,7 @@ use Rattle.histories.specs.Endings.{Ending}
 use Rattle.histories.specs.declared.mode.Mode.TheVariants as Mode'
 use Rattle.histories.specs.Keeping.{KeepsPace}
 use Rattle.histories.specs.ModeWords.{mode_word}
+use Rattle.squeue_pool.specs.Keeping.{PassesKeep}
 use Rattle.squeue_pool.specs.Runs.{IsHereOnce}
 use Rattle.ring_quotas.specs.declared.setup.Setup.{Setup}
 use Rattle.report_lines.specs.ReportText.{datagram_line, end_field}
@@ -87,7 +88,7 @@ plan_is = refl
 
 -- What was served
 
-module _ (legal : Legal setting history) (over : IsOver setting (run setting history)) (keeps : KeepsPace 1 0 Mode'.Process 64 0 setting 0 history) where
+module _ (legal : Legal setting history) (over : IsOver setting (run setting history)) (keeps : KeepsPace 1 0 Mode'.Process 64 0 setting 0 history) (passes : PassesKeep Mode'.Process ending) where
   its_fit : HistoryFits plan setup 0 ending
   its_fit = record {
     number = refl;
@@ -120,7 +121,7 @@ module _ (legal : Legal setting history) (over : IsOver setting (run setting his
 
   pub has_served : HasMoreServed plan setup served
   unfolding served_so record_of
-  has_served = record { fits = fits; served = refl }
+  has_served = record { fits = fits; keep = λ q e at. subst (PassesKeep Mode'.Process) (only ending e q at).1 passes; served = refl }
 
 -- The run
 

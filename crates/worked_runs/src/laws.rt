@@ -150,6 +150,7 @@ pub fn a_history_of_one_feed_fits()
     ensures legal { Legal Echoed.setting Echoed.history }
     ensures over { IsOver Echoed.setting (run Echoed.setting Echoed.history) }
     ensures keeps { KeepsPace 1 0 Mode.Process 64 0 Echoed.setting 0 Echoed.history }
+    ensures passes { PassesKeep Mode.Process Echoed.ending }
 {}
 
 /// There is a run of `sqmore` that ends well: without words, over a capture of one datagram, its report was written; with that capture a run

@@ -12,6 +12,7 @@ use perimeter_core::{Feed, NoHook, Resident};
 use perimeter_trial::Logs;
 use squeue_drain::worker;
 use squeue_enter::{How, Mode};
+use squeue_report::{is_countable, push_squeue};
 use squeue_state::{Pass, Quota, Squeue, Trace, TraceMark};
 use std::alloc::{AllocError, Global};
 use std::process::Abort;
@@ -75,6 +76,7 @@ fn three_passes<R: Resident + Drop, W: Wait + Abort>(
     passes.push_reserved(last);
     let (resident, _ended, trace) = squeue.finish(passes);
     tells(rt, &trace, &first, &second, &third);
+    prints(rt, alloc, &trace)?;
     Ok(resident)
 }
 
@@ -94,6 +96,28 @@ fn tells<A: Abort>(rt: &A, trace: &Trace, first: &[Feed], second: &[Feed], third
     has_filled(rt, trace, 0, first);
     has_filled(rt, trace, 1, second);
     has_filled(rt, trace, 2, third);
+}
+
+// The lines of the trace in a report.
+const PRINTED: &str = concat!(
+    "squeue 0 marks 8\n",
+    "fill 0 0.0 0.1\n",
+    "fill 1 1.0 1.1\n",
+    "fill 2 2.0\n",
+    "close 0\n",
+    "close 1\n",
+    "close 2\n",
+    "work 3\n",
+    "leave 3 0 none\n",
+);
+
+// A report prints it so.
+fn prints<A: Abort>(rt: &A, alloc: Global, trace: &Trace) -> Result<(), AllocError> {
+    assert!(rt; is_countable(trace));
+    let mut text = Vec::new(alloc);
+    push_squeue(&mut text, 0, trace)?;
+    assert_eq!(rt; text.as_slice(), PRINTED.as_bytes());
+    Ok(())
 }
 
 #[test]

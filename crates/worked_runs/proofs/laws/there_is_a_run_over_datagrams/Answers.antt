@@ -8,4 +8,4 @@ pub returns-clause-accepted : goal.returns-clause-accepted
 returns-clause-accepted c = accepts
 
 pub returns-clause-served : goal.returns-clause-served
-returns-clause-served c = let h = c.a_history_of_one_feed_fits.ensures in has_served h.legal h.over h.keeps
+returns-clause-served c = let h = c.a_history_of_one_feed_fits.ensures in has_served h.legal h.over h.keeps h.passes
