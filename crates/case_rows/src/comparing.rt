@@ -1,6 +1,7 @@
 //! What is wanted beside what came. A difference is told as one line: of what, which line, wanted, got.
 
-ghost use Rattle.std.specs.Prelude.{◌≡◌, ◌≢◌, ◌∷◌, ◌++◌, IfSome, MatchResult};
+ghost use Rattle.std.specs.Prelude.{◌≡◌, ◌≢◌, ◌∷◌, ◌++◌, [], IfSome, MatchResult, OnOk};
+ghost use Rattle.std.specs.List.{flat_map};
 
 use crate::fault::RowFault;
 use std::alloc::Global;
@@ -34,12 +35,9 @@ fn after_line<'a>(bytes: &'a [u8], line: &str) -> Option<&'a [u8]>
 }
 
 /// The bytes are these lines, each with a newline at its end, and no more.
-pub fn expect_lines(
-    alloc: Global,
-    what: &str,
-    wanted: &[&str],
-    got: &[u8],
-) -> Result<(), RowFault> {
+pub fn expect_lines(alloc: Global, what: &str, wanted: &[&str], got: &[u8]) -> Result<(), RowFault>
+    ensures { OnOk result (got.now ≡ flat_map (λ line. line.now ++ 10 ∷ []) wanted.now) }
+{
     let mut rest = got;
     let mut number = 0usize;
     for line in wanted {
