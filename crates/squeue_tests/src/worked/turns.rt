@@ -62,9 +62,10 @@ fn a_new_squeue(rt: HostRuntime) -> Result<(), Fail> {
     };
     assert!(rt; turn.others_closed());
     let last = squeue.plain(turn);
+    let last = worker(&squeue, &rt, alloc, &NoHook, last);
     passes.push_reserved(ring);
     passes.push_reserved(thread);
-    passes.push_reserved(worker(&squeue, &rt, alloc, &NoHook, last));
+    passes.push_reserved(last);
     let (logs, ended, trace) = squeue.finish(passes);
     assert_eq!(rt; (ended.number(), logs.conns()), (7, 2));
     let marks = [TraceMark::Close { p: 0 }, TraceMark::Close { p: 1 }];
