@@ -76,6 +76,12 @@ class Library:
             return self.item(declared[1], declared[2] or "", declared[3]) or self.public(declared[1], declared[3])
         own = MODULE.match(module)
         file = self.spec(module) if own else None
+        if file is None:
+            # (a constructor: its module is that of a data type in a file)
+            above, _, data = module.rpartition(".")
+            kept = MODULE.match(above)
+            if kept and self.spec(above) and data in self.spec(above).blocks:
+                return self.meaning(above, data, depth + 1)
         if own and file is None and depth <= 8:
             below = passed_on(*own.groups())
             return below and self.meaning(below, word, depth + 1)
