@@ -139,11 +139,10 @@ fn expect_second<W: Abort>(rt: &W, alloc: Global, plan: &MorePlan<'_>) -> Result
     );
     blocks.call(alloc, 1, 0, 0);
     let block = blocks.take_out(1);
+    assert!(rt; !block.short() && block.answers().is_empty());
     assert!(rt; !blocks.is_here(1));
     blocks.put_in(1, block);
     assert!(rt; blocks.is_here(1) && !blocks.is_here(2));
-    let block = blocks.take_out(1);
-    assert!(rt; !block.short() && block.answers().is_empty());
     Ok(())
 }
 
