@@ -131,15 +131,15 @@ fn laid_out(
     let Some((asked, front)) = rings_asked(words) else {
         return Err(Fault::Words);
     };
-    let setup = setup_of(&asked)?;
+    let setup = setup_of(asked)?;
     let input = input_of(alloc, src)?;
     let ends = ends_of(alloc, &words[front..], &input)?;
     Ok((setup, ends))
 }
 
 /// How a run over frames is set up.
-fn setup_of(asked: &RingWords) -> Result<Layout, Fault>
-    requires { AreFew asked.now }
+fn setup_of(asked: RingWords) -> Result<Layout, Fault>
+    requires { AreFew asked }
     ensures { IfOk result (λ s. IsInRange s) }
 {
     match asked.secret {

@@ -9,7 +9,7 @@ ghost use Rattle.live_rings.specs.Words.{AreFew};
 use crate::ending::{EndedRing, Ends};
 use crate::rings::serve_rings;
 use crate::words::{Layout, RingWords, rings_asked};
-use live_run::{Fault, secret};
+use live_run::{Fault, pages_named, secret, site_in};
 use live_server::Secret;
 use shell::{WordFault, exit, words_of};
 use sq_base::{StdSink, StdSource};
@@ -24,7 +24,10 @@ use std::thread::Threads;
 /// Whether the process' words ask for several rings. Where memory is missing for them, they don't.
 pub fn asks_for_rings<W: Env + AllocGlobal>(rt: &W) -> bool {
     match words_of(rt) {
-        Ok(words) => are_for_rings(words.as_slice()),
+        Ok(words) => {
+            let (_, words) = pages_named(words.as_slice());
+            are_for_rings(words)
+        }
         Err(_) => false,
     }
 }
@@ -56,10 +59,12 @@ where
         Err(WordFault::Usage) => return Err(Fault::Words),
         Err(WordFault::NoMemory) => return Err(Fault::NoMemory),
     };
-    let Some((asked, front)) = rings_asked(words.as_slice()) else {
+    let (pages, words) = pages_named(words.as_slice());
+    let Some((asked, front)) = rings_asked(words) else {
         return Err(Fault::Words);
     };
-    let setup = setup_of(rt, &asked)?;
+    let mut setup = setup_of(rt, asked)?;
+    setup.setting.site = site_in(rt, pages)?;
     let ends = open_all(rt, &words[front..])?;
     match serve_rings(rt, rt.alloc(), &setup, ends) {
         Ok(ended) => match first_fault(ended.streams.as_slice()) {
@@ -93,10 +98,10 @@ fn first_fault<S, K>(ended: &[EndedRing<S, K>]) -> Option<Fault>
 }
 
 /// How the run is set up. Where no secret is given, it is drawn from the system's random source.
-fn setup_of<W: Files>(rt: &W, asked: &RingWords) -> Result<Layout, Fault>
-    requires { AreFew asked.now }
+fn setup_of<W: Files>(rt: &W, asked: RingWords) -> Result<Layout, Fault>
+    requires { AreFew asked }
     ensures range { IfOk result (λ s. IsInRange s) }
-    ensures given { (secret : Secret) → asked.now.secret ≡ Some secret → IfOk result (λ s. s ≡ setup_by asked.now secret) }
+    ensures given { (secret : Secret) → asked.secret ≡ Some secret → IfOk result (λ s. s ≡ setup_by asked secret) }
 {
     let secret = match asked.secret {
         Some(given) => given,
@@ -109,9 +114,10 @@ fn setup_of<W: Files>(rt: &W, asked: &RingWords) -> Result<Layout, Fault>
 }
 
 /// A run that is set up as asked for, with this secret. It goes on where memory is missing, unless its secret was given.
-pub fn setup_by(asked: &RingWords, secret: Secret) -> Layout
-    ensures { result ≡ setup_by asked.now secret }
+pub fn setup_by(asked: RingWords, secret: Secret) -> Layout
+    ensures { result ≡ setup_by asked secret }
 {
+    let goes_on = asked.secret.is_none();
     Layout {
         rings: asked.rings,
         squeues: asked.squeues,
@@ -119,7 +125,7 @@ pub fn setup_by(asked: &RingWords, secret: Secret) -> Layout
         budget: asked.budget,
         setting: asked.setting,
         secret,
-        goes_on: asked.secret.is_none(),
+        goes_on,
     }
 }
 

@@ -203,7 +203,10 @@ fn serve_by<T: ConnTable, S: Source, K: Sink>(
     ensures told { OnOk result.1 (result.2 ≡ false → IfSome (S.rest reader.old) (λ input.
         T.tells table (told_frames (frames_in input) (server_of setup.now)) result.0)) }
 {
-    let mut rules = Rules::over(alloc, table, setup.setting, setup.secret);
+    let Ok(setting) = setup.setting.share() else {
+        return (table, Err(Fault::NoMemory), false);
+    };
+    let mut rules = Rules::over(alloc, table, setting, setup.secret);
     let mut lost = false;
     let served = serve_stream(alloc, &mut rules, reader, sink, setup.goes_on, &mut lost);
     (rules.into_table(), served, lost)

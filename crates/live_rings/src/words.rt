@@ -12,7 +12,7 @@ use squeue_streams::SourcePace;
 
 /// How a run is set up: its rings and squeues, how rings enter, what each stream's server is started with, and whether a ring goes on where
 /// memory is missing, which then costs a connection.
-#[derive(Clone, Copy)]
+#[derive(Drop)]
 pub struct Layout {
     pub rings: u32,
     pub squeues: u32,
@@ -36,7 +36,7 @@ impl Layout {
 }
 
 /// What is asked for: how many rings and squeues, how rings enter, what the servers are started with, and whether their secret is given.
-#[derive(Clone, Copy)]
+#[derive(Drop)]
 pub struct RingWords {
     pub rings: u32,
     pub squeues: u32,
@@ -91,7 +91,7 @@ fn asked_behind(
     }
     let (own, _) = rest.split_at(rest.len() - files);
     let asked = asked_in(own)?;
-    let words = with_servers(rings, squeues, mode, budget, &asked);
+    let words = with_servers(rings, squeues, mode, budget, asked);
     Some((words, 8 + own.len()))
 }
 
@@ -102,8 +102,8 @@ fn are_in_range(rings: u32, squeues: u32, budget: u32) -> bool
     rings >= 1 && rings <= MOST_RINGS && squeues >= 1 && squeues <= MOST_RINGS && budget >= 1
 }
 
-fn with_servers(rings: u32, squeues: u32, mode: Mode, budget: u32, asked: &ServerWords) -> RingWords
-    ensures { result ≡ with_servers rings squeues mode budget asked.now }
+fn with_servers(rings: u32, squeues: u32, mode: Mode, budget: u32, asked: ServerWords) -> RingWords
+    ensures { result ≡ with_servers rings squeues mode budget asked }
 {
     RingWords {
         rings,

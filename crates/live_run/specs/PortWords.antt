@@ -15,7 +15,7 @@ split_at byte text =
 
 -- a service has this port
 abbrev pub has_port : Ports → ℕ → Bool
-has_port p port = (port == p.echo) || ((port == p.discard) || ((port == p.daytime) || (port == p.chargen)))
+has_port p port = (port == p.echo) || ((port == p.discard) || ((port == p.daytime) || ((port == p.chargen) || (port == p.web))))
 
 -- the service of this name, which has no port yet, gets one
 unfoldable pub gets_port : Ports → Text → ℕ → Option Ports
@@ -24,6 +24,7 @@ gets_port p name port =
     else if bytes_eq name (codes "discard") && (p.discard == 0) then Some (record p { discard = port })
     else if bytes_eq name (codes "daytime") && (p.daytime == 0) then Some (record p { daytime = port })
     else if bytes_eq name (codes "chargen") && (p.chargen == 0) then Some (record p { chargen = port })
+    else if bytes_eq name (codes "web") && (p.web == 0) then Some (record p { web = port })
     else None
 
 -- that no service has
@@ -43,5 +44,5 @@ ports_named (suc more) p text =
 -- without the word there is echo at 7 and discard at 9; with it, those that it names
 abbrev pub ports_in : List Text → Option Ports
 ports_in [] = Some plain_ports
-ports_in (word ∷ []) = ports_named 3 no_ports word
+ports_in (word ∷ []) = ports_named 4 no_ports word
 ports_in (_ ∷ _ ∷ _) = None

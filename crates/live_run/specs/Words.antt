@@ -32,7 +32,7 @@ length_of text = option_and_then (λ n. if nat_lt n (2 ^ 16) then Some n else No
 abbrev pub setting_by : Option Addr → Option Addr → Option ℕ → Option ℕ → Option ℕ → Option ℕ → Option Ports → Option Setting
 setting_by address broadcast places idle bytes segment ports =
     option_and_then (λ a. option_and_then (λ b. option_and_then (λ p. option_and_then (λ i. option_and_then (λ h. option_and_then (λ t. option_map (λ s.
-    record { address = a; broadcast = b; places = p; idle = i * 1000000; bytes = h; segment = t; ports = s })
+    record { address = a; broadcast = b; places = p; idle = i * 1000000; bytes = h; segment = t; ports = s; site = None })
     ports) segment) bytes) idle) places) broadcast) address
 
 abbrev pub setting_of : List Text → Option Setting
@@ -52,6 +52,12 @@ frames_asked (secret ∷ rest) = option_and_then (λ s. option_map (λ g. record
 
 abbrev pub device_asked : List Text → Option ServerWords
 device_asked words = option_map (λ g. record { mode = Device; setting = g }) (setting_of words)
+
+-- the file of pages, where `--pages FILE` stands first, and the words behind it
+abbrev pub pages_named : List Text → Option Text × List Text
+pages_named [] = (None, [])
+pages_named (a ∷ []) = (None, a ∷ [])
+pages_named (a ∷ name ∷ rest) = if bytes_eq a (codes "--pages") then (Some name, rest) else (None, a ∷ name ∷ rest)
 
 -- what all words ask for, the mode's first
 abbrev pub asked_in : Text → List Text → Option ServerWords

@@ -10,7 +10,7 @@ pub enum Fault {
     Words,
     /// Memory was missing.
     NoMemory,
-    /// The input, the clock or the random source can't be read.
+    /// The input, the clock, the random source or the pages can't be read.
     Reading,
     /// The output can't be written.
     Writing,
@@ -36,7 +36,7 @@ impl Fault {
     pub fn line(self) -> &'static str {
         match self {
             Fault::Words =>
-                "usage: sqlive [--rings N --squeues N --mode process|nodrain|fill --budget N] frames SECRET SETTING | device SETTING, where SETTING is ADDRESS BROADCAST PLACES IDLE BYTES SEGMENT [PORTS], and behind it with --rings an IN and an OUT for each ring",
+                "usage: sqlive [--pages FILE] [--rings N --squeues N --mode process|nodrain|fill --budget N] frames SECRET SETTING | device SETTING, where SETTING is ADDRESS BROADCAST PLACES IDLE BYTES SEGMENT [PORTS], and behind it with --rings an IN and an OUT for each ring",
             Fault::NoMemory => "out of memory",
             Fault::Reading => "cannot read",
             Fault::Writing => "cannot write",

@@ -7,7 +7,8 @@
 //! PLACES IDLE BYTES SEGMENT [PORTS]: the address that is answered for and the network's broadcast address, in eight hexadecimal digits
 //! each; how many connections are kept at once; after how many seconds without a word one may leave a full table; how many bytes of text
 //! all may hold, and how many a segment that is sent has at most. PORTS says which services there are and at which ports, as
-//! `echo=7,discard=9,daytime=13,chargen=19`; without it there are echo at 7 and discard at 9. A frame is a length in eight bytes and a
+//! `echo=7,discard=9,daytime=13,chargen=19,web=80`; without it there are echo at 7 and discard at 9. Before all words may stand `--pages FILE`,
+//! a file of pages in one piece, which are handed out at the port of `web`. A frame is a length in eight bytes and a
 //! time in microseconds in eight, both big-endian, and so many bytes; one without bytes only carries the time.
 #![tactic(auto)]
 
@@ -15,6 +16,7 @@ mod device;
 mod drawing;
 mod fault;
 mod frames;
+mod pages;
 mod port_words;
 mod process;
 mod words;
@@ -22,5 +24,6 @@ mod words;
 pub use drawing::secret;
 pub use fault::Fault;
 pub use frames::{serve_frames_of, serve_stream};
+pub use pages::{pages_named, site_in};
 pub use process::run_process;
 pub use words::{Medium, ServerWords, asked_in};

@@ -14,7 +14,7 @@ pub fn ports_in(words: &[String]) -> Option<Ports>
 {
     match words {
         [] => Some(PLAIN_PORTS),
-        [word] => ports_named(3, NO_PORTS, word.as_str()),
+        [word] => ports_named(4, NO_PORTS, word.as_str()),
         _ => None,
     }
 }
@@ -56,7 +56,11 @@ fn named_by(ports: Ports, name: &str, port: u16) -> Option<Ports>
 fn has_port(ports: Ports, port: u16) -> bool
     ensures { result ≡ has_port ports port }
 {
-    port == ports.echo || port == ports.discard || port == ports.daytime || port == ports.chargen
+    port == ports.echo
+        || port == ports.discard
+        || port == ports.daytime
+        || port == ports.chargen
+        || port == ports.web
 }
 
 /// The service of this name gets a port, where it has none.
@@ -84,6 +88,8 @@ fn gets_port(ports: Ports, name: &str, port: u16) -> Option<Ports>
             chargen: port,
             ..ports
         })
+    } else if name == "web" && ports.web == 0 {
+        Some(Ports { web: port, ..ports })
     } else {
         None
     }

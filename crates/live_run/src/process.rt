@@ -2,7 +2,8 @@
 
 use crate::fault::Fault;
 use crate::frames::serve_frames_of;
-use crate::words::{Medium, asked_in};
+use crate::pages::{pages_named, site_in};
+use crate::words::{Medium, ServerWords, asked_in};
 use crate::{device, drawing};
 use live_server::Server;
 use shell::{ProgramEnd, WordFault, exit, words_of};
@@ -37,19 +38,21 @@ fn run(rt: &HostRuntime) -> Result<(), Fault> {
         Err(WordFault::Usage) => return Err(Fault::Words),
         Err(WordFault::NoMemory) => return Err(Fault::NoMemory),
     };
-    let Some(asked) = asked_in(words.as_slice()) else {
+    let (pages, words) = pages_named(words.as_slice());
+    let Some(ServerWords { mode, mut setting }) = asked_in(words) else {
         return Err(Fault::Words);
     };
-    match asked.mode {
+    setting.site = site_in(rt, pages)?;
+    match mode {
         Medium::Frames(secret) => {
             let mut source = StdSource::over(rt.reader());
             let mut sink = StdSink::over(io::writer(rt));
-            let server = Server::new(rt.alloc(), asked.setting, secret);
+            let server = Server::new(rt.alloc(), setting, secret);
             serve_frames_of(rt.alloc(), server, &mut source, &mut sink)
         }
         Medium::Device => {
             let secret = drawing::secret(rt)?;
-            device::serve(rt, Server::new(rt.alloc(), asked.setting, secret))
+            device::serve(rt, Server::new(rt.alloc(), setting, secret))
         }
     }
 }

@@ -22,7 +22,7 @@ pub enum Medium {
 }
 
 /// What is asked for.
-#[derive(Clone, Copy)]
+#[derive(Drop)]
 pub struct ServerWords {
     pub mode: Medium,
     pub setting: Setting,
@@ -80,6 +80,7 @@ fn setting_of(words: &[String]) -> Option<Setting>
         bytes: u64::from(numeral(bytes.as_str())?),
         segment: length_of(segment.as_str())?,
         ports: ports_in(rest)?,
+        site: None,
     })
 }
 

@@ -47,7 +47,7 @@ unfolding opens takes_place
 opened_held now s text sv = by (is_over fresh)
   where
     fresh : Conn
-    fresh = served now s text sv (new_conn (service_at sv.setting.ports now s.dst_port) sv.setting.segment now)
+    fresh = served now s text sv (new_conn (service_at sv.setting now s.dst_port) sv.setting.segment now)
 
     placed : (b : Bool) → (cond b (takes_free (tuple_of s) fresh (makes_place sv)) (turns_away (makes_place sv))).server.held ≡ sv.held
     placed true = yielding_held sv.waiting sv

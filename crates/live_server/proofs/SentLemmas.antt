@@ -50,7 +50,7 @@ came : (now : ℕ) (s : Seg) (text : List ℕ) (sv : ServerOf) → AreOfEnds (tu
 unfolding comes goes_on becomes opens
 came now s text sv =
     let t = tuple_of s in
-    let c = served now s text sv (new_conn (service_at sv.setting.ports now s.dst_port) sv.setting.segment now) in
+    let c = served now s text sv (new_conn (service_at sv.setting now s.dst_port) sv.setting.segment now) in
     by_place t (place_of t sv.conns) _ _ (λ i. of_replies t _ _)
     (chosen t (is_over c) (sends_of t c sv) (takes_place t c (makes_place sv)) (of_replies t c.most c.tcb.replies) (taken t c (makes_place sv)))
 

@@ -132,7 +132,7 @@ sends_of t c sv = record { server = sv; sent = sent_by t c }
 -- a segment of a connection that has no place: it takes one, unless it is over at once
 unfoldable pub opens : ℕ → Seg → List ℕ → ServerOf → Outcome
 opens now s text sv =
-    let c = served now s text sv (new_conn (service_at sv.setting.ports now s.dst_port) sv.setting.segment now) in
+    let c = served now s text sv (new_conn (service_at sv.setting now s.dst_port) sv.setting.segment now) in
     if is_over c then sends_of (tuple_of s) c sv else takes_place (tuple_of s) c (makes_place sv)
 
 unfoldable pub comes : ℕ → Seg → List ℕ → ServerOf → Outcome

@@ -34,7 +34,7 @@ told_taking t sv = if has_place sv then begins t ∷ [] else []
 -- one begins where a segment finds none, unless it is over at once
 unfoldable pub told_opening : ℕ → Seg → List ℕ → ServerOf → List Told
 told_opening now s text sv =
-    let c = served now s text sv (new_conn (service_at sv.setting.ports now s.dst_port) sv.setting.segment now) in
+    let c = served now s text sv (new_conn (service_at sv.setting now s.dst_port) sv.setting.segment now) in
     if is_over c then [] else told_taking (tuple_of s) (makes_place sv)
 
 unfoldable pub told_coming : ℕ → Seg → List ℕ → ServerOf → List Told

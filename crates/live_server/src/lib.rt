@@ -20,6 +20,7 @@ mod rules;
 mod server;
 mod service;
 mod setting;
+mod site;
 mod table;
 
 pub use acting::Datagram;
@@ -39,4 +40,5 @@ pub use rules::{Rules, number_for, without_text};
 pub use server::Server;
 pub use service::LiveService;
 pub use setting::Setting;
+pub use site::Site;
 pub use table::Table;

@@ -294,7 +294,7 @@ impl<T: ConnTable> Rules<T> {
     {
         let tuple = tuple_of(seg);
         let iss = number_for(&self.secret, now, seg, &tuple);
-        let service = service_at(&self.setting.ports, now, seg.dst_port);
+        let service = service_at(&self.setting, now, seg.dst_port)?;
         let mut conn = Conn::make(alloc, service, self.setting.segment, now);
         conn.take(alloc, now, iss, seg, text)?;
         if conn.is_over() {

@@ -1,12 +1,15 @@
 //! The service behind a connection of the server, with what it keeps.
 
 use crate::daytime::daytime_text;
+use crate::site::Site;
 use echo_services::{Chargen, Daytime, Discard, Echo, PortService};
+use http_pages::Answer;
+use page_service::{Behind, Phase};
 use std::alloc::{AllocError, Global};
 use tcb_machine::Tcb;
 
 /// The service behind a connection.
-#[derive(Clone, Copy, Debug, PartialEq, Eq)]
+#[derive(Drop)]
 pub enum LiveService {
     /// What was received comes back (RFC 862).
     Echo,
@@ -16,6 +19,13 @@ pub enum LiveService {
     Daytime { begun: u64 },
     /// A pattern is sent, of which so many bytes were given (RFC 864).
     Chargen { given: u16 },
+    /// Requests for pages are answered (RFC 9112).
+    Web {
+        /// How far it has come.
+        phase: Phase<Answer>,
+        /// The pages.
+        site: Site,
+    },
 }
 
 impl PortService for LiveService {
@@ -27,7 +37,7 @@ impl PortService for LiveService {
 
     #[tactic(auto, unfolding(crate::specs::Services::pump_of, crate::specs::Services::after_pump))]
     fn pump(&mut self, tcb: &mut Tcb, alloc: Global) -> Result<(), AllocError> {
-        match *self {
+        match self {
             LiveService::Echo => {
                 let mut echo = Echo;
                 echo.pump(tcb, alloc)
@@ -37,17 +47,24 @@ impl PortService for LiveService {
                 discard.pump(tcb, alloc)
             }
             LiveService::Daytime { begun } => {
-                let line = daytime_text(alloc, begun)?;
+                let line = daytime_text(alloc, *begun)?;
                 let text = Vec::from_slice(alloc, line.as_bytes())?;
                 let mut daytime = Daytime { text };
                 daytime.pump(tcb, alloc)
             }
             LiveService::Chargen { given } => {
-                let mut chargen = Chargen { given };
+                let mut chargen = Chargen { given: *given };
                 chargen.pump(tcb, alloc)?;
-                *self = LiveService::Chargen {
-                    given: chargen.given,
+                *given = chargen.given;
+                Ok(())
+            }
+            LiveService::Web { phase, site } => {
+                let mut behind = Behind {
+                    phase: *phase,
+                    answerer: site.pages(),
                 };
+                behind.pump(tcb, alloc)?;
+                *phase = behind.phase;
                 Ok(())
             }
         }

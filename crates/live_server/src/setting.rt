@@ -1,10 +1,14 @@
 //! What a server is started with.
 
+ghost use Rattle.std.specs.Prelude.{◌≡◌, IfOk};
+
 use crate::ports::Ports;
+use crate::site::{Site, share};
 use sq_base::Addr;
+use std::alloc::AllocError;
 
 /// What a server is started with.
-#[derive(Clone, Copy)]
+#[derive(Drop)]
 pub struct Setting {
     /// The address that it answers for.
     pub address: Addr,
@@ -20,4 +24,24 @@ pub struct Setting {
     pub segment: u16,
     /// At which ports it has which service.
     pub ports: Ports,
+    /// The pages that it hands out, where it has any.
+    pub site: Option<Site>,
+}
+
+impl Setting {
+    /// The same, with the same pages. An error says that memory was missing.
+    pub fn share(&self) -> Result<Setting, AllocError>
+        ensures { IfOk result (λ s. s ≡ self.now) }
+    {
+        Ok(Setting {
+            address: self.address,
+            broadcast: self.broadcast,
+            places: self.places,
+            idle: self.idle,
+            bytes: self.bytes,
+            segment: self.segment,
+            ports: self.ports,
+            site: share(&self.site)?,
+        })
+    }
 }
