@@ -29,6 +29,11 @@ def rings_words(rings, squeues=None, mode="process", budget=64):
     return ["--rings", str(rings), "--squeues", str(squeues or rings), "--mode", mode, "--budget", str(budget)]
 
 
+def pages_words(site):
+    """The words that name the file of pages, where there is one."""
+    return [word for file in site for word in ("--pages", f"/dev/fd/{file}")]
+
+
 def end_with_the_launcher():
     """The process ends when its parent does, hands on no capability, and never gains a privilege."""
     libc = ctypes.CDLL(None, use_errno=True)

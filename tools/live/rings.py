@@ -12,7 +12,7 @@ from pathlib import Path
 
 sys.path.append(str(Path(__file__).resolve().parents[1] / "parts"))
 from compiled import compiled
-from programs import NOBODY, as_nobody, cpu_seconds, most_memory_kb, rings_words
+from programs import NOBODY, as_nobody, cpu_seconds, most_memory_kb, pages_words, rings_words
 
 F_SETPIPE_SZ, PIPE = 1031, 1 << 20
 # What a queue counts, by direction: datagrams, their bytes, and those that the device refused; each direction in 64 bytes.
@@ -47,14 +47,14 @@ class Pipes:
 
 class Rings:
     """The server and what moves its datagrams, both as nobody. The queues are handed over, and closed here; so is the capture, where one is kept."""
-    def __init__(self, program, mover, queues, words, long_segments, capture=None, **layout):
+    def __init__(self, program, mover, queues, words, long_segments, capture=None, site=(), **layout):
         pipes, size = Pipes(len(queues)), 2 * DIRECTION * len(queues)
         counts = os.memfd_create("counts")
         os.ftruncate(counts, size)
         self.rings, self.counts = len(queues), mmap.mmap(counts, size, prot=mmap.PROT_READ)
         of_mover = [end for queue, to, back in zip(queues, pipes.to_rings, pipes.from_rings) for end in (queue, to[1], back[0])]
         apart = {"stdin": subprocess.DEVNULL, "start_new_session": True}
-        self.server = as_nobody(program, ["sqlive", *rings_words(self.rings, **layout), *words, *pipes.words()], pipes.of_server, **apart)
+        self.server = as_nobody(program, ["sqlive", *pages_words(site), *rings_words(self.rings, **layout), *words, *pipes.words()], [*pipes.of_server, *site], **apart)
         kept = [] if capture is None else [capture]
         told = [int(long_segments), counts, *(kept or [-1]), *of_mover]
         self.mover = as_nobody(mover, ["queues", *map(str, told)], [counts, *kept, *of_mover], **apart)
