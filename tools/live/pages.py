@@ -13,6 +13,8 @@ MOST_PAGES, MOST_PACK, MOST_PATH = 4096, 64 << 20, 1024
 INDEX = "index.html"
 # The types of the standard library alone, whatever the machine's own list says.
 TYPES = mimetypes.MimeTypes(filenames=())
+for kind, suffix in (("text/markdown", ".md"), ("text/javascript", ".js"), ("font/woff2", ".woff2"), ("font/woff", ".woff"), ("image/webp", ".webp")):
+    TYPES.add_type(kind, suffix)
 ZIPPED = {"gzip": "application/gzip", "bzip2": "application/x-bzip2", "xz": "application/x-xz", "br": "application/octet-stream", "compress": "application/octet-stream"}
 
 
@@ -26,7 +28,7 @@ def kind_of(name):
     if zipped:
         return ZIPPED[zipped]
     kind = kind or "application/octet-stream"
-    return f"{kind}; charset=utf-8" if kind.startswith("text/") or kind in ("application/javascript", "application/json") else kind
+    return f"{kind}; charset=utf-8" if kind.startswith("text/") or kind == "application/json" else kind
 
 
 def part(value):
