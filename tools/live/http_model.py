@@ -1,0 +1,179 @@
+"""What a server of pages answers to bytes that come: a small model, written from RFC 9110 and RFC 9112 alone, for tests.
+
+`answers(pages, received)` gives an `Answer` for each request, and whether the connection ends behind the last one. What the RFCs leave
+open is as docs/WEB.md tells it.
+"""
+import re
+from dataclasses import dataclass, field
+
+MOST_HEAD = 8192
+TOKEN = rb"[!#$%&'*+.^_`|~0-9A-Za-z-]+"
+REQUEST_LINE = re.compile(rb"(" + TOKEN + rb") ([!-~\x80-\xff]+) HTTP/(\d)\.(\d)")
+FIELD_LINE = re.compile(rb"(" + TOKEN + rb"):([\t -~\x80-\xff]*)")
+HOST = re.compile(rb"[A-Za-z0-9._~%!$&'()*+,;=:\[\]-]*")
+OTHER_METHODS = {b"POST", b"PUT", b"DELETE", b"CONNECT", b"OPTIONS", b"TRACE", b"PATCH"}
+
+
+@dataclass
+class Page:
+    kind: bytes
+    tag: bytes
+    body: bytes
+
+
+@dataclass
+class Answer:
+    status: int
+    body: bytes | None = None
+    fields: dict = field(default_factory=dict)
+    keeps: bool = False
+
+
+def pages_in(pack):
+    """The pages of a pack, by path."""
+    parts = []
+    while pack:
+        length = int.from_bytes(pack[:4], "big")
+        parts.append(pack[4:4 + length])
+        pack = pack[4 + length:]
+    return {parts[k]: Page(*parts[k + 1:k + 4]) for k in range(0, len(parts), 4)}
+
+
+def without_escapes(path):
+    return re.sub(rb"%([0-9A-Fa-f]{2})", lambda found: bytes([int(found[1], 16)]), path)
+
+
+def elements(values):
+    """The elements of a field's list (RFC 9110, 5.6.1), of all lines of that name."""
+    return [part.strip(b" \t") for value in values for part in value.split(b",") if part.strip(b" \t")]
+
+
+def lower(values):
+    return [value.lower() for value in elements(values)]
+
+
+class Request:
+    """A request's head; `fault` is the status of one that can't be taken."""
+    def __init__(self, lines):
+        self.fault, self.method, self.fields = None, b"", {}
+        found = REQUEST_LINE.fullmatch(lines[0])
+        self.method = lines[0].split(b" ")[0]
+        if not found:
+            self.fault = 400
+            return
+        _, self.target, major, minor = found.groups()
+        self.old = minor == b"0"
+        if major != b"1":
+            self.fault = 505
+            return
+        for line in lines[1:]:
+            if not (found := FIELD_LINE.fullmatch(line)):
+                self.fault = 400
+                return
+            self.fields.setdefault(found[1].lower(), []).append(found[2].strip(b" \t"))
+        hosts = self.of(b"host")
+        if len(hosts) > 1 or not hosts and not self.old or not all(map(HOST.fullmatch, hosts)):
+            self.fault = 400
+            return
+        self.read_framing()
+
+    def of(self, name):
+        return self.fields.get(name, [])
+
+    def read_framing(self):
+        """RFC 9112, 6.1 to 6.3."""
+        lengths, codings = elements(self.of(b"content-length")), lower(self.of(b"transfer-encoding"))
+        self.content = bool(codings)
+        if self.of(b"transfer-encoding") and (self.old or self.of(b"content-length")):
+            self.fault = 400
+        elif codings and codings != [b"chunked"]:
+            self.fault = 400 if codings.count(b"chunked") > 1 or b"chunked" in codings[:-1] or codings[-1] != b"chunked" else 501
+        elif self.of(b"content-length"):
+            if len(set(lengths)) != 1 or not re.fullmatch(rb"\d+", lengths[0]):
+                self.fault = 400
+            else:
+                self.content = int(lengths[0]) > 0
+
+    def keeps(self):
+        said = lower(self.of(b"connection"))
+        return not self.content and b"close" not in said and (not self.old or b"keep-alive" in said)
+
+    def path(self):
+        """The path that is asked for (RFC 9112, 3.2.1 and 3.2.2); None where the target has neither form."""
+        target = self.target.split(b"?")[0]
+        if target[:1] == b"/":
+            return target
+        if target[:7].lower() == b"http://":
+            rest = target[7:]
+            return rest[rest.index(b"/"):] if b"/" in rest else b"/"
+        return None
+
+
+def tags_match(values, tag, weak):
+    return any(given in (b"*", tag) or weak and given == b"W/" + tag for given in elements(values))
+
+
+def of_page(pages, request, path, answer):
+    page = pages[path]
+    if request.of(b"if-match") and not tags_match(request.of(b"if-match"), page.tag, False):
+        answer.status = 412
+    elif tags_match(request.of(b"if-none-match"), page.tag, True):
+        answer.status, answer.fields = 304, {b"etag": page.tag}
+    else:
+        answer.status, answer.body = 200, page.body
+        answer.fields = {b"etag": page.tag, b"content-type": page.kind, b"content-length": b"%d" % len(page.body)}
+    return answer
+
+
+def answer_of(pages, lines):
+    request = Request(lines)
+    if request.fault:
+        return Answer(request.fault)
+    answer = Answer(0, keeps=request.keeps())
+    if request.method not in (b"GET", b"HEAD"):
+        answer.status = 405 if request.method in OTHER_METHODS else 501
+        answer.fields = {b"allow": b"GET, HEAD"} if answer.status == 405 else {}
+    elif request.content:
+        answer.status = 413
+    elif (path := request.path()) is None:
+        return Answer(400)
+    elif (plain := without_escapes(path)) in pages:
+        answer = of_page(pages, request, plain, answer)
+    elif plain + b"/" in pages:
+        answer.status, answer.fields = 301, {b"location": plain + b"/"}
+    else:
+        answer.status = 404
+    return answer
+
+
+def head_of(received):
+    """Where the head at the front ends, and its lines; None while it isn't whole."""
+    at = re.match(rb"(\r?\n)*", received).end()
+    found = re.search(rb"\n\r?\n", received[at:MOST_HEAD])
+    if not found:
+        return None
+    end = at + found.end()
+    return end, [line for line in (line.removesuffix(b"\r") for line in received[at:end].split(b"\n")) if line]
+
+
+def answers(pages, received):
+    """What is answered to all of this, in order, and whether the connection ends then."""
+    given = []
+    while received:
+        at = re.match(rb"(\r?\n)*", received[:MOST_HEAD]).end()
+        first = received[at:at + 1]
+        if first and first != b"\r" and not re.fullmatch(TOKEN, first):
+            return [*given, Answer(400)], True
+        head = head_of(received)
+        if head is None:
+            if len(received) < MOST_HEAD:
+                break
+            return [*given, Answer(431 if b"\n" in received[at:MOST_HEAD] else 414)], True
+        end, lines = head
+        given.append(answer_of(pages, lines))
+        if lines[0].startswith(b"HEAD "):
+            given[-1].body = b""
+        if not given[-1].keeps:
+            return given, True
+        received = received[end:]
+    return given, False
