@@ -89,9 +89,10 @@ judged now s text c =
     else if nat_lt now c.quiet_until then Unanswered
     else Challenged
 
--- where something new is acknowledged, retransmissions count from 0 again: RFC 9293, 3.8.3 counts those of one segment
-unfoldable pub renewed : ℕ → Block → Block
-renewed una b = if b.una == una then b else record b { retransmissions = 0 }
+-- where something new is acknowledged, retransmissions count from 0 again: RFC 9293, 3.8.3 counts those of one segment. So they do where
+-- the peer's window is 0, since who answers probes keeps the connection (3.8.6.1)
+unfoldable pub renewed : ℕ → ℕ → Block → Block
+renewed una field b = if (b.una == una) && not (field == 0) then b else record b { retransmissions = 0 }
 
 -- the first segment that isn't acknowledged is sent again
 unfoldable pub resent : Bool → Block → Block
@@ -103,7 +104,7 @@ taken now iss s text c =
     let x = eased s text c.tcb c.congestion in
     let b = serves (pump_of c.service) (segment now iss (seen s c.tcb x) text ∷ []) c.tcb in
     record c {
-      tcb = resent (calls_again s text c.tcb c.congestion) (renewed c.tcb.una b);
+      tcb = resent (calls_again s text c.tcb c.congestion) (renewed c.tcb.una s.wnd b);
       service = kept after_pump c.service (tcp_segment now iss (seen s c.tcb x) text c.tcb);
       congestion = x;
       heard = now;
@@ -123,9 +124,9 @@ receives now iss s text c = after (judged now s text c) now iss s text c
 unfoldable pub reaches : ℕ → Block → Block
 reaches now b = if nat_le b.clock now then tcp_time now b else b
 
--- and the window falls where the retransmission timer fired
+-- and the congestion window falls where the retransmission timer fired, unless the peer's window is 0: a probe is no loss (RFC 9293, 3.8.6.1)
 unfoldable pub slowed : ℕ → Block → Congestion → Congestion
-slowed before b x = if nat_lt before b.retransmissions then timed_out b x else x
+slowed before b x = if nat_lt before b.retransmissions && not (x.field == 0) then timed_out b x else x
 
 abbrev pub reached : ℕ → Conn → Conn
 reached now c = record c { tcb = reaches now c.tcb; congestion = slowed c.tcb.retransmissions (reaches now c.tcb) c.congestion }

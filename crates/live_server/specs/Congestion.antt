@@ -84,11 +84,16 @@ eased s text b x =
     else x in
     record y { field = s.wnd }
 
--- whether the first segment that isn't acknowledged is to be sent again: as recovery begins, and at each partial acknowledgement
+-- the peer's window was 0, and opens: the probe that is under way needn't wait for its timer (RFC 9293, 3.8.6.1)
+unfoldable pub reopens : Seg → Block → Congestion → Bool
+reopens s b x = has s.flags ack && (is_open b && ((s.ack == b.una) && ((x.field == 0) && not (s.wnd == 0))))
+
+-- whether the first segment that isn't acknowledged is to be sent again: as recovery begins, at each partial acknowledgement, and where
+-- the window opens
 unfoldable pub calls_again : Seg → List ℕ → Block → Congestion → Bool
 calls_again s text b x =
     if is_fresh s b then x.recovering && not (reaches s.ack x)
-    else is_duplicate s text b x && (not x.recovering && not (nat_lt (x.duplicates + 1) (tolerance b)))
+    else reopens s b x || (is_duplicate s text b x && (not x.recovering && not (nat_lt (x.duplicates + 1) (tolerance b))))
 
 -- the window field as the block is to see it: no more than cwnd, and never closed where it isn't
 unfoldable pub seen_window : Seg → Block → Congestion → ℕ

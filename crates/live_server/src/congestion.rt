@@ -4,7 +4,7 @@
 ghost use Rattle.std.specs.Prelude.{◌≡◌, ◌+◌, ◌*◌, ◌≤◌, not, nat_lt, if◌then◌else◌};
 ghost use Rattle.sq_base.specs.SerialOrder.{dist};
 ghost use Rattle.live_server.specs.Congestion.{bounded, calls_again, eased, flight, grown, halved, is_duplicate, is_fresh};
-ghost use Rattle.live_server.specs.Congestion.{is_open, no_congestion, reaches, recovers, repeated, seen, seen_window, segments, timed_out, tolerance};
+ghost use Rattle.live_server.specs.Congestion.{is_open, no_congestion, reaches, recovers, reopens, repeated, seen, seen_window, segments, timed_out, tolerance};
 
 use segment_codec::{ACK, FIN, RST, SYN, Seg};
 use sq_base::seq_dist;
@@ -59,7 +59,7 @@ impl Congestion {
         self.field = seg.wnd;
     }
 
-    /// Whether a segment tells, before the block sees it, that the first segment that isn't acknowledged was lost.
+    /// Whether a segment tells, before the block sees it, that the first segment that isn't acknowledged is to be sent again.
     #[tactic(auto, unfolding(crate::specs::Congestion::calls_again))]
     pub fn calls_again(&self, tcb: &Tcb, seg: &Seg, text: &[u8]) -> bool
         ensures { result ≡ calls_again seg.now text.now tcb.now self.now }
@@ -67,8 +67,21 @@ impl Congestion {
         if is_fresh(tcb, seg) {
             self.recovering && !self.reaches(seg.ack)
         } else {
-            self.is_duplicate(tcb, seg, text) && !self.recovering && self.is_last(tcb)
+            self.reopens(tcb, seg)
+                || (self.is_duplicate(tcb, seg, text) && !self.recovering && self.is_last(tcb))
         }
+    }
+
+    /// Whether the peer's window was 0, and opens.
+    #[tactic(auto, unfolding(crate::specs::Congestion::reopens))]
+    fn reopens(&self, tcb: &Tcb, seg: &Seg) -> bool
+        ensures { result ≡ reopens seg.now tcb.now self.now }
+    {
+        seg.flags & ACK != 0
+            && is_open(tcb)
+            && seg.ack == tcb.snd_una()
+            && self.field == 0
+            && seg.wnd != 0
     }
 
     /// Whether the next duplicate is the last one that is waited for.

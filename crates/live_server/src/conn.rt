@@ -201,7 +201,7 @@ impl Conn {
             &seen,
             text,
         )?;
-        renew(&mut self.tcb, una);
+        renew(&mut self.tcb, una, seg.wnd);
         resend(&mut self.tcb, alloc, again)?;
         self.heard = now;
         Ok(())
@@ -217,7 +217,7 @@ impl Conn {
         if self.tcb.clock() <= now {
             tick(&mut self.tcb, alloc, now)?;
         }
-        if before < self.tcb.retransmissions() {
+        if before < self.tcb.retransmissions() && self.congestion.field != 0 {
             self.congestion.time_out(&self.tcb);
         }
         Ok(())
@@ -306,12 +306,12 @@ impl Conn {
     }
 }
 
-/// Where something new was acknowledged, retransmissions count from 0 again.
+/// Where something new was acknowledged, or the peer's window is 0, retransmissions count from 0 again.
 #[tactic(auto, unfolding(crate::specs::Acts::renewed))]
-fn renew(tcb: &mut Tcb, una: u32)
-    ensures { tcb.new ≡ renewed una tcb.old }
+fn renew(tcb: &mut Tcb, una: u32, field: u16)
+    ensures { tcb.new ≡ renewed una field tcb.old }
 {
-    if tcb.snd_una() != una {
+    if tcb.snd_una() != una || field == 0 {
         tcb.forget_retransmissions();
     }
 }
