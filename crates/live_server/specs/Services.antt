@@ -8,7 +8,7 @@ use Rattle.echo_services.specs.Discard.{discard}
 use Rattle.echo_services.specs.Echo.{echo}
 use Rattle.live_server.specs.DaytimeText.{daytime_text}
 use Rattle.http_pages.specs.Pages.{Page}
-use Rattle.page_service.specs.Pump.{pump}
+use Rattle.page_service.specs.Pump.{pages_protocol, pump}
 use Rattle.page_service.specs.declared.phase.Phase.TheVariants.{Reads}
 use Rattle.live_server.specs.declared.ports.Ports.{Ports}
 use Rattle.live_server.specs.declared.service.LiveService.{LiveService}
