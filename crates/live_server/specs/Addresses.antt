@@ -1,6 +1,7 @@
--- Which segments are for the server (RFC 9293, 3.9.2.3; RFC 1122, 3.2.1.3).
+-- Which datagrams are for the server (RFC 9293, 3.9.2.3; RFC 1122, 3.2.1.3).
 use Rattle.std.specs.Prelude.{ℕ, ◌/◌, ◌^◌, ◌==◌, nat_le, ◌&&◌, ◌||◌, not, Bool}
 use Rattle.segment_codec.specs.declared.packet.Seg.{Seg}
+use Rattle.sq_base.specs.declared.kinds.Addr.{Addr}
 use Rattle.live_server.specs.declared.setting.Setting.{Setting}
 
 -- the first eight bits of an address
@@ -11,6 +12,9 @@ first_byte a = a / 2 ^ 24
 abbrev pub is_no_host : ℕ → Bool
 is_no_host a = (first_byte a == 0) || ((first_byte a == 127) || nat_le 224 (first_byte a))
 
--- a segment to the server's own address, from another host's
+-- between such addresses: from another host's to the server's own
+abbrev pub is_to_us : Setting → Addr → Addr → Bool
+is_to_us g src dst = (dst.0 == g.address.0) && not (is_no_host src.0 || ((src.0 == g.address.0) || (src.0 == g.broadcast.0)))
+
 abbrev pub is_for_us : Setting → Seg → Bool
-is_for_us g s = (s.dst.0 == g.address.0) && not (is_no_host s.src.0 || ((s.src.0 == g.address.0) || (s.src.0 == g.broadcast.0)))
+is_for_us g s = is_to_us g s.src s.dst

@@ -7,6 +7,7 @@ use Rattle.live_server.specs.declared.counts.Counts.{Counts}
 abbrev pub no_counts : Counts
 no_counts = record {
   passed_over = 0;
+  pinged = 0;
   astray = 0;
   refused = 0;
   opened = 0;

@@ -1,7 +1,7 @@
-//! Which segments are for the server.
+//! Which datagrams are for the server.
 
 ghost use Rattle.std.specs.Prelude.{◌≡◌};
-ghost use Rattle.live_server.specs.Addresses.{first_byte, is_for_us, is_no_host};
+ghost use Rattle.live_server.specs.Addresses.{first_byte, is_for_us, is_no_host, is_to_us};
 
 use crate::setting::Setting;
 use segment_codec::Seg;
@@ -11,10 +11,15 @@ use sq_base::Addr;
 pub(crate) fn is_for_us(setting: &Setting, seg: &Seg) -> bool
     ensures { result ≡ is_for_us setting.now seg.now }
 {
-    seg.dst.0 == setting.address.0
-        && !(is_no_host(seg.src)
-            || seg.src.0 == setting.address.0
-            || seg.src.0 == setting.broadcast.0)
+    is_to_us(setting, seg.src, seg.dst)
+}
+
+/// Whether what goes between these addresses does.
+pub(crate) fn is_to_us(setting: &Setting, src: Addr, dst: Addr) -> bool
+    ensures { result ≡ is_to_us setting.now src dst }
+{
+    dst.0 == setting.address.0
+        && !(is_no_host(src) || src.0 == setting.address.0 || src.0 == setting.broadcast.0)
 }
 
 /// Whether an address is no host's own (RFC 1122, 3.2.1.3).

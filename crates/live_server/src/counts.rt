@@ -8,8 +8,10 @@ use crate::conn::Judged;
 /// What a server met, by cause; each count is modulo 2^64.
 #[derive(Clone, Copy, Debug, Default, PartialEq, Eq)]
 pub struct Counts {
-    /// Datagrams that are no whole TCP segment, or have a wrong sum.
+    /// Datagrams that are neither a whole TCP segment nor an echo request that is answered, or have a wrong sum.
     pub passed_over: u64,
+    /// Echo requests that were answered (RFC 792).
+    pub pinged: u64,
     /// Segments to another address, or from one that is no other host's (RFC 9293, 3.9.2.3).
     pub astray: u64,
     /// Segments to ports that aren't served.
