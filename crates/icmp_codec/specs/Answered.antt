@@ -1,5 +1,6 @@
 -- How a request is answered.
 use Rattle.std.specs.Prelude.{ℕ, ◌≡◌, ◌<◌, ◌^◌, ◌≤◌, List, length, None, Some}
+use Rattle.segment_codec.specs.Places.{word}
 use Rattle.icmp_codec.specs.Limits.{least_rest, most_rest}
 use Rattle.icmp_codec.specs.EchoRequest.{PingOf, ping_in, pong_in}
 use Rattle.icmp_codec.specs.EchoReply.{pong_bytes, total_of}
@@ -23,3 +24,8 @@ pub record ReadsAsReply (p : PingOf) : Type 0 where
 -- a reply is no request
 abbrev pub IsNoRequest : List ℕ → Type 0
 IsNoRequest bytes = ping_in bytes ≡ None
+
+-- what was read from a datagram: its numbers fit, and the reply is as long as the datagram without its padding
+pub record IsReadFrom (ip : List ℕ) (p : PingOf) : Type 0 where
+  pub fits : Fits p
+  pub size : total_of p ≡ word ip 2
