@@ -1,11 +1,11 @@
 -- What is read from bytes fits its fields.
-use Rattle.std.proofs.Common.{◌≡◌, ℕ, ◌⊎◌, inl, inr, ◌+◌, ◌-◌, ◌*◌, ◌<◌, ◌≤◌, List, length, length-drop, drop, take, slice_index, Some, true, sym, ap, ◌∙◌, arith, subst, leb, eqb, ◌&&◌}
-use Rattle.std.specs.Prelude.{All, bit_and}
+use Rattle.std.proofs.Common.{◌≡◌, ℕ, inl, inr, ◌+◌, ◌-◌, ◌<◌, ◌≤◌, List, length, length-drop, drop, take, Some, true, arith, subst, ◌&&◌}
+use Rattle.std.specs.Prelude.{All}
 use Rattle.std.proofs.lemmas.Bool.{and_parts, leb-true, cases_lt}
 use Rattle.std.proofs.lemmas.List.{length-take-le, get_or_past}
 use Rattle.std.proofs.lemmas.Option.{cond_some}
 use Rattle.segment_codec.specs.Places.{byte, word, long}
-use Rattle.icmp_codec.specs.EchoRequest.{PingOf, is_icmp, message_of, is_echo, message_in, echo_in, ping_in, sum_holds}
+use Rattle.icmp_codec.specs.EchoRequest.{PingOf, is_icmp, message_of, is_echo, message_in, echo_in, ping_in}
 use Rattle.icmp_codec.specs.Answered.{IsReadFrom}
 
 byte_small : (ip : List ℕ) (i : ℕ) → All (λ b. b < 256) ip → byte ip i < 256
@@ -34,7 +34,7 @@ unfolding message_in
 fits_of ip small least whole =
     let uncut : length (take (word ip 2) ip) ≡ word ip 2 = length-take-le (word ip 2) ip whole in
     let size : length (drop 4 (message_of ip)) ≡ word ip 2 - 20 - 4 =
-        omega (arith, length-drop 4 (message_of ip), length-drop 20 (take (word ip 2) ip), uncut) in
+    omega (arith, length-drop 4 (message_of ip), length-drop 20 (take (word ip 2) ip), uncut) in
     record {
       fits = record {
         src = long_small ip 12 small;
