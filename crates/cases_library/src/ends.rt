@@ -4,10 +4,16 @@ use sq_base::{Addr, Tuple};
 use std::alloc::AllocError;
 use std::fmt::Write;
 
+/// Tells an address, behind a blank.
+pub fn tell_address(out: &mut String, address: Addr) -> Result<(), AllocError> {
+    let [a, b, c, d] = address.0.to_be_bytes();
+    write!(out, " {a}.{b}.{c}.{d}")
+}
+
 /// Tells an address and a port, behind a blank.
 pub fn tell_end(out: &mut String, address: Addr, port: u16) -> Result<(), AllocError> {
-    let [a, b, c, d] = address.0.to_be_bytes();
-    write!(out, " {a}.{b}.{c}.{d}:{port}")
+    tell_address(out, address)?;
+    write!(out, ":{port}")
 }
 
 /// Tells the two ends of a connection or a stream on a line, behind a word.

@@ -41,20 +41,22 @@ use streams::tell_streams;
 const TOLD: &str = "link cut count records";
 
 /// The fields of packets.
-const PACKETS: [(&str, Form); 6] = [
+const PACKETS: [(&str, Form); 7] = [
     ("packets", Form::Packets),
     ("places", Form::Places),
     ("datagrams", Form::Datagrams),
+    ("pings", Form::Pings),
     ("replies", Form::Replies),
     ("texts", Form::Texts),
     ("refused", Form::Refused),
 ];
 
 /// The fields of a row of what is read.
-const FIELDS: [&str; 15] = [
+const FIELDS: [&str; 16] = [
     "packets",
     "places",
     "datagrams",
+    "pings",
     "replies",
     "texts",
     "refused",

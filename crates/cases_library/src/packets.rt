@@ -5,14 +5,16 @@
 //! | `packets` | LINK HEX, or LINK `verify` HEX | the segment, or what the bytes are else |
 //! | `places` | LINK HEX | where the datagram begins |
 //! | `datagrams` | LINK HEX | the UDP datagram |
+//! | `pings` | HEX | the echo request, and the reply's bytes |
 //! | `replies` | FLAGS SEQ ACK WINDOW, maybe `mss=N` and `scale=N`, maybe HEX of a text | its bytes |
 //! | `texts` | HEX | the bytes of a UDP datagram with this text |
 //! | `refused` | FLAGS SEQ ACK LENGTH | the reset that answers a segment with so long a text |
 
 ghost use Rattle.std.specs.Prelude.{◌≤◌, IfOk, length};
 
-use crate::ends::tell_end;
+use crate::ends::{tell_address, tell_end};
 use case_rows::{RowFault, RowWords, Wrong, add_bytes, add_flags, add_text, spelled, told_at};
+use icmp_codec::{ping_in, pong};
 use segment_codec::{MOST_TEXT, Options, Packet, Reply, Seg, decode, encode, ip_place, refusal};
 use sq_base::{Addr, Link, Octets, Tuple};
 use std::alloc::{AllocError, Global};
@@ -25,6 +27,7 @@ pub enum Form {
     Packets,
     Places,
     Datagrams,
+    Pings,
     Replies,
     Texts,
     Refused,
@@ -146,6 +149,23 @@ fn datagram(out: &mut String, alloc: Global, line: &str) -> Result<(), Wrong> {
     Ok(())
 }
 
+/// Tells an echo request: who asks and who is asked, how many bytes the reply takes from it, and the reply's bytes.
+fn ping(out: &mut String, alloc: Global, line: &str) -> Result<(), Wrong> {
+    let body = body_of(alloc, line)?;
+    match ping_in(body.as_slice()) {
+        Some(ping) => {
+            out.push_str("ping")?;
+            tell_address(out, ping.src())?;
+            tell_address(out, ping.dst())?;
+            write!(out, " rest {} reply ", ping.rest().len())?;
+            add_text(out, pong(alloc, &ping)?.as_slice())?;
+            out.push_str("\n")?;
+        }
+        None => out.push_str("none\n")?,
+    }
+    Ok(())
+}
+
 /// A word sets an option of a reply. Says whether it was one.
 fn set(reply: &mut Reply, word: &str) -> Result<bool, Wrong> {
     match word.split_once('=') {
@@ -224,6 +244,7 @@ fn tell(form: Form, out: &mut String, alloc: Global, line: &str) -> Result<(), W
         Form::Packets => packet(out, alloc, line),
         Form::Places => place(out, alloc, line),
         Form::Datagrams => datagram(out, alloc, line),
+        Form::Pings => ping(out, alloc, line),
         Form::Replies => reply(out, alloc, line),
         Form::Texts => text(out, alloc, line),
         Form::Refused => refused(out, alloc, line),

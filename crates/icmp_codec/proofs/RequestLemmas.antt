@@ -1,0 +1,53 @@
+-- What is read from bytes fits its fields.
+use Rattle.std.proofs.Common.{◌≡◌, ℕ, inl, inr, ◌+◌, ◌-◌, ◌<◌, ◌≤◌, List, length, length-drop, drop, take, Some, true, arith, subst, ◌&&◌}
+use Rattle.std.specs.Prelude.{All}
+use Rattle.std.proofs.lemmas.Bool.{and_parts, leb-true, cases_lt}
+use Rattle.std.proofs.lemmas.List.{length-take-le, get_or_past}
+use Rattle.std.proofs.lemmas.Option.{cond_some}
+use Rattle.segment_codec.specs.Places.{byte, word, long}
+use Rattle.icmp_codec.specs.EchoRequest.{PingOf, is_icmp, message_of, is_echo, message_in, echo_in, ping_in}
+use Rattle.icmp_codec.specs.Answered.{IsReadFrom}
+
+byte_small : (ip : List ℕ) (i : ℕ) → All (λ b. b < 256) ip → byte ip i < 256
+byte_small ip i small = elim (cases_lt i (length ip)) [
+  | inl h ↦ small i 0 h
+  | inr h ↦ omega (arith, get_or_past ip i 0 h)
+]
+
+word_small : (ip : List ℕ) (i : ℕ) → All (λ b. b < 256) ip → word ip i < 65536
+unfolding word
+word_small ip i small = omega (arith, byte_small ip i small, byte_small ip (i + 1) small)
+
+long_small : (ip : List ℕ) (i : ℕ) → All (λ b. b < 256) ip → long ip i < 4294967296
+unfolding long
+long_small ip i small = omega (arith, word_small ip i small, word_small ip (i + 2) small)
+
+named : (ip : List ℕ) → is_icmp ip ≡ true → (28 ≤ word ip 2) × (word ip 2 ≤ length ip)
+unfolding is_icmp
+named ip e =
+    let behind = and_parts _ _ (and_parts _ _ (and_parts _ _ e).1).1 in
+    (leb-true 28 (word ip 2) behind.0, leb-true (word ip 2) (length ip) (and_parts _ _ behind.1).0)
+
+-- what is read of a datagram with this total length
+fits_of : (ip : List ℕ) → All (λ b. b < 256) ip → 28 ≤ word ip 2 → word ip 2 ≤ length ip → IsReadFrom ip (message_in ip)
+unfolding message_in
+fits_of ip small least whole =
+    let uncut : length (take (word ip 2) ip) ≡ word ip 2 = length-take-le (word ip 2) ip whole in
+    let size : length (drop 4 (message_of ip)) ≡ word ip 2 - 20 - 4 =
+    omega (arith, length-drop 4 (message_of ip), length-drop 20 (take (word ip 2) ip), uncut) in
+    record {
+      fits = record {
+        src = long_small ip 12 small;
+        dst = long_small ip 16 small;
+        least = omega (arith, size, least);
+        most = omega (arith, size, word_small ip 2 small);
+      };
+      size = omega (arith, size, least);
+    }
+
+pub read_from : (ip : List ℕ) (p : PingOf) → All (λ b. b < 256) ip → ping_in ip ≡ Some p → IsReadFrom ip p
+unfolding echo_in
+read_from ip p small e =
+    let found = cond_some (is_icmp ip && is_echo 8 (message_of ip)) (message_in ip) p e in
+    let n = named ip (and_parts _ _ found.0).0 in
+    subst (λ (q : PingOf). IsReadFrom ip q) found.1 (fits_of ip small n.0 n.1)

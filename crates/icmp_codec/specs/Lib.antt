@@ -1,0 +1,4 @@
+pub mod Limits
+pub mod EchoRequest
+pub mod EchoReply
+pub mod Answered
