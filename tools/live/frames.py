@@ -22,15 +22,16 @@ class Frames:
 
     `.ends` has a pair of descriptors for each ring: what to write to, and what to read.
     """
-    def __init__(self, program, rings=0, layout=None, **its):
+    def __init__(self, program, rings=0, layout=None, pages=None, **its):
+        site = ["--pages", pages] if pages else []
         if not rings:
-            self.process = subprocess.Popen(["sqlive", *frames_words(**its)], executable=program, stdin=subprocess.PIPE, stdout=subprocess.PIPE, bufsize=0)
+            self.process = subprocess.Popen(["sqlive", *site, *frames_words(**its)], executable=program, stdin=subprocess.PIPE, stdout=subprocess.PIPE, bufsize=0)
             self.ends = [(os.dup(self.process.stdin.fileno()), os.dup(self.process.stdout.fileno()))]
             self.process.stdin.close()
             self.process.stdout.close()
             return
         pipes = Pipes(rings)
-        words = ["sqlive", *rings_words(rings, **(layout or {})), *frames_words(**its), *pipes.words()]
+        words = ["sqlive", *site, *rings_words(rings, **(layout or {})), *frames_words(**its), *pipes.words()]
         self.process = subprocess.Popen(words, executable=program, stdin=subprocess.DEVNULL, pass_fds=pipes.of_server)
         for end in pipes.of_server:
             os.close(end)

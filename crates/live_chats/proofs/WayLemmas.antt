@@ -13,19 +13,20 @@ use Rattle.segment_codec.specs.declared.packet.Packet.TheVariants as packet
 use Rattle.segment_codec.specs.declared.packet.Seg.{Seg}
 use Rattle.sq_base.specs.declared.kinds.Link.TheVariants.{RawIp}
 use Rattle.sq_base.specs.declared.kinds.Tuple.{Tuple}
+use Rattle.icmp_codec.specs.EchoRequest.{PingOf, ping_in}
 use Rattle.live_server.specs.Acts.{emptied, is_over, judged, reached, sent_by}
 use Rattle.live_server.specs.Addresses.{is_for_us}
 use Rattle.live_server.specs.Counting.{more}
 use Rattle.live_server.specs.Initial.{number_for}
 use Rattle.live_server.specs.Isolation.{conn_of, IsTable}
 use Rattle.live_server.specs.Services.{is_served_at}
-use Rattle.live_server.specs.Serving.{Outcome, ServerOf, addressed, becomes, comes, fits, gives_way, goes_on, has_place, heeded, heeded_text, heeds, holding, is_waiting, judging, limited, makes_place, noting, numbered, on_datagram, on_packet, on_segment, opens as opening, overfull, refused, sends_nothing, sends_of, served, takes_free, takes_place, time_to, turns_away, yielding, yields, yields_at}
+use Rattle.live_server.specs.Serving.{Outcome, ServerOf, addressed, becomes, comes, echoes, fits, gives_way, goes_on, has_place, heeded, heeded_text, heeds, holding, is_echoed, is_waiting, judging, limited, makes_place, noting, numbered, on_datagram, on_other, on_packet, on_segment, opens as opening, overfull, passes_over, refused, sends_nothing, sends_of, served, takes_free, takes_place, time_to, turns_away, yielding, yields, yields_at}
 use Rattle.live_server.specs.Table.{conn_at, place_of, tuple_eq, IsNew}
 use Rattle.live_server.specs.declared.conn.Conn.{Conn}
 use Rattle.live_server.proofs.TableLemmas.{distinct_appended, distinct_replaced, distinct_without, first_at, length_replaced, length_without, look_appended, look_replaced, look_without, new_from_place, new_without, within_at}
 use Rattle.live_server.proofs.PlaceLemmas.{conn_looked}
 use Rattle.live_chats.specs.Chats.{Item, Step, becoming, fresh, leaves, opens, said, segment, segment_said, sends, tells, time, time_said}
-use Rattle.live_chats.specs.Ways.{way_addressed, way_comes, way_datagram, way_goes_on, way_heeds, way_opens, way_packet, way_segment, way_takes, way_time_to, way_yielding, way_yields}
+use Rattle.live_chats.specs.Ways.{way_addressed, way_comes, way_datagram, way_goes_on, way_heeds, way_opens, way_other, way_packet, way_segment, way_takes, way_time_to, way_yielding, way_yields}
 use Rattle.live_chats.proofs.RunLemmas.{IsRight, chosen_right, moved_right, nothing_right, quiet_right, sent_shows, then_right, told_shows}
 
 -- ---- the connection at a place becomes another one
@@ -205,10 +206,19 @@ addressed_right now s text sv table =
     (segment_right now s1 text sv table)
     (record { shows = sent_shows sv refusing (refused now s) refl; setting = refl; table = quiet_right sv refusing refl refl table }))
 
+other_right : (now : ℕ) (p : Option PingOf) (sv : ServerOf) → IsTable sv → IsRight sv (way_other now p sv) (on_other now p sv)
+unfolding way_other on_other
+other_right now None sv table = quiet_counts sv _ refl refl table
+other_right now (Some p) sv table =
+    let echoing : ServerOf = (echoes now p sv).server in
+    chosen_right (is_echoed p sv) sv (sends (echoes now p sv).sent ∷ []) [] (echoes now p sv) (passes_over sv)
+    (record { shows = sent_shows sv echoing (echoes now p sv).sent refl; setting = refl; table = quiet_right sv echoing refl refl table })
+    (quiet_counts sv _ refl refl table)
+
 pub packet_right : (now : ℕ) (body : List ℕ) (p : Packet) (sv : ServerOf) → IsTable sv → IsRight sv (way_packet now body p sv) (on_packet now body p sv)
 unfolding way_packet on_packet
 packet_right now body (packet.Segment s) sv table = addressed_right now s (text_in s body) sv table
-packet_right now body packet.Other sv table = quiet_counts sv _ refl refl table
+packet_right now body packet.Other sv table = other_right now (ping_in body) sv table
 packet_right now body packet.Fragment sv table = quiet_counts sv _ refl refl table
 packet_right now body packet.Cut sv table = quiet_counts sv _ refl refl table
 packet_right now body (packet.Malformed why) sv table = quiet_counts sv _ refl refl table

@@ -1,5 +1,5 @@
 -- Ways: what the table does with each frame, as steps. Its rules are those of `Serving`.
-use Rattle.std.specs.Prelude.{◌≡◌, ℕ, ◌==◌, not, true, List, [], ◌∷◌, ◌++◌, length, map, filter, if◌then◌else◌}
+use Rattle.std.specs.Prelude.{◌≡◌, ℕ, ◌==◌, not, true, List, [], ◌∷◌, ◌++◌, length, map, filter, Option, None, Some, if◌then◌else◌}
 use Rattle.std.specs.Option.{option_map_or}
 use Rattle.segment_codec.specs.Packet.{packet_in}
 use Rattle.segment_codec.specs.Refusal.{tuple_of}
@@ -9,6 +9,7 @@ use Rattle.segment_codec.specs.declared.packet.Packet.TheVariants as packet
 use Rattle.segment_codec.specs.declared.packet.Seg.{Seg}
 use Rattle.sq_base.specs.declared.kinds.Link.TheVariants.{RawIp}
 use Rattle.sq_base.specs.declared.kinds.Tuple.{Tuple}
+use Rattle.icmp_codec.specs.EchoRequest.{PingOf, ping_in}
 use Rattle.live_server.specs.Acts.{is_over, sent_by}
 use Rattle.live_server.specs.Addresses.{is_for_us}
 use Rattle.live_server.specs.Frames.{FrameOf, on_frame, serves_frames}
@@ -16,7 +17,7 @@ use Rattle.live_server.specs.Initial.{number_for}
 use Rattle.live_server.specs.Isolation.{IsTable}
 use Rattle.live_server.specs.Leaving.{is_leaving}
 use Rattle.live_server.specs.Services.{is_served_at}
-use Rattle.live_server.specs.Serving.{Outcome, ServerOf, has_place, heeded, heeded_text, is_waiting, limited, makes_place}
+use Rattle.live_server.specs.Serving.{Outcome, ServerOf, echoes, has_place, heeded, heeded_text, is_echoed, is_waiting, limited, makes_place}
 use Rattle.live_server.specs.Serving.{noting, numbered, refused, served, time_to, yields}
 use Rattle.live_server.specs.Table.{Conns, all_reached, conn_at, place_of, without_over}
 use Rattle.live_server.specs.declared.conn.Conn.{Conn}
@@ -61,9 +62,13 @@ way_addressed now s text sv =
     else if is_served_at sv.setting.ports s.dst_port then way_segment now (limited sv.setting.segment s) text sv
     else sends (refused now s) ∷ []
 
+unfoldable pub way_other : ℕ → Option PingOf → ServerOf → List Step
+way_other now None sv = []
+way_other now (Some p) sv = if is_echoed p sv then sends (echoes now p sv).sent ∷ [] else []
+
 unfoldable pub way_packet : ℕ → List ℕ → Packet → ServerOf → List Step
 way_packet now body (packet.Segment s) sv = way_addressed now s (text_in s body) sv
-way_packet now body packet.Other sv = []
+way_packet now body packet.Other sv = way_other now (ping_in body) sv
 way_packet now body packet.Fragment sv = []
 way_packet now body packet.Cut sv = []
 way_packet now body (packet.Malformed why) sv = []

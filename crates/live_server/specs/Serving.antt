@@ -1,5 +1,5 @@
 -- What a server makes of a datagram and of the time.
-use Rattle.std.specs.Prelude.{ℕ, ◌+◌, ◌-◌, ◌^◌, ◌==◌, min, nat_le, nat_lt, ◌&&◌, not, bit_and, Bool, true, Some, unwrap_or, List}
+use Rattle.std.specs.Prelude.{ℕ, ◌+◌, ◌-◌, ◌^◌, ◌==◌, min, nat_le, nat_lt, ◌&&◌, not, bit_and, Bool, true, Option, None, Some, unwrap_or, List}
 use Rattle.std.specs.Prelude.{[], ◌∷◌, ◌++◌, length, if◌then◌else◌}
 use Rattle.std.specs.List.{flat_map}
 use Rattle.std.specs.Option.{option_map_or}
@@ -13,10 +13,13 @@ use Rattle.tcb_machine.specs.Limits.{default_mss}
 use Rattle.sq_base.specs.declared.kinds.Link.TheVariants.{RawIp}
 use Rattle.sq_base.specs.declared.kinds.Tuple.{Tuple}
 use Rattle.live_server.specs.Acts.{datagram_of, emptied, is_half_open, is_over, judged, new_conn, reached, receives, sent_by}
-use Rattle.live_server.specs.Addresses.{is_for_us}
+use Rattle.icmp_codec.specs.EchoReply.{pong_bytes}
+use Rattle.icmp_codec.specs.EchoRequest.{PingOf, ping_in}
+use Rattle.live_server.specs.Addresses.{is_for_us, is_to_us}
 use Rattle.live_server.specs.Counting.{counting_judged, more}
 use Rattle.live_server.specs.Initial.{number_for}
 use Rattle.live_server.specs.Leaving.{without_leaving}
+use Rattle.live_server.specs.Limits.{most_pings}
 use Rattle.live_server.specs.Services.{is_served_at, service_at}
 use Rattle.live_server.specs.Table.{Conns, all_reached, conn_at, held_by, place_of, replaced, without, without_over}
 use Rattle.live_server.specs.declared.acting.Datagram.{Datagram}
@@ -27,11 +30,13 @@ use Rattle.live_server.specs.declared.rules.Rules.{Rules}
 use Rattle.live_server.specs.declared.setting.Setting.{Setting}
 
 -- the connections; the ends and the number of those that were opened last, which may be half open, by age; how many bytes all held when
--- the time last came to them, with the text that came since; what it was started with; what it met
+-- the time last came to them, with the text that came since; how many echo requests were answered since then; what it was started with;
+-- what it met
 pub record ServerOf : Type 0 where
   pub conns : Conns
   pub waiting : List (Tuple × ℕ)
   pub held : ℕ
+  pub pings : ℕ
   pub setting : Setting
   pub secret : List ℕ
   pub counts : Counts
@@ -42,6 +47,7 @@ server_of conns r = record {
   conns = conns r.table;
   waiting = r.waiting.items;
   held = r.held;
+  pings = r.pings;
   setting = r.setting;
   secret = r.secret.0;
   counts = r.counts;
@@ -194,9 +200,25 @@ addressed now s text sv =
     else if is_served_at sv.setting.ports s.dst_port then on_segment now (limited sv.setting.segment s) text sv
     else record { server = record sv { counts = record sv.counts { refused = more 1 sv.counts.refused } }; sent = refused now s }
 
+-- an echo request is answered (RFC 1122, 3.2.2.6)
+abbrev pub echoes : ℕ → PingOf → ServerOf → Outcome
+echoes now p sv = record {
+  server = record sv { pings = sv.pings + 1; counts = record sv.counts { pinged = more 1 sv.counts.pinged } };
+  sent = record { at = now; bytes = pong_bytes p } ∷ [];
+}
+
+-- where it is for us, and not many were since the time last came
+unfoldable pub is_echoed : PingOf → ServerOf → Bool
+is_echoed p sv = is_to_us sv.setting p.src p.dst && nat_lt sv.pings most_pings
+
+-- another protocol's datagram
+unfoldable pub on_other : ℕ → Option PingOf → ServerOf → Outcome
+on_other now None sv = passes_over sv
+on_other now (Some p) sv = if is_echoed p sv then echoes now p sv else passes_over sv
+
 unfoldable pub on_packet : ℕ → List ℕ → Packet → ServerOf → Outcome
 on_packet now body (packet.Segment s) sv = addressed now s (text_in s body) sv
-on_packet now body packet.Other sv = passes_over sv
+on_packet now body packet.Other sv = on_other now (ping_in body) sv
 on_packet now body packet.Fragment sv = passes_over sv
 on_packet now body packet.Cut sv = passes_over sv
 on_packet now body (packet.Malformed why) sv = passes_over sv
@@ -212,6 +234,6 @@ on_time now sv =
     let here = without_over (all_reached now sv.conns) in
     let kept = without_leaving sv.setting now here in
     record {
-      server = record sv { conns = kept; held = held_by kept; counts = record sv.counts { left = more (length here - length kept) sv.counts.left } };
+      server = record sv { conns = kept; held = held_by kept; pings = 0; counts = record sv.counts { left = more (length here - length kept) sv.counts.left } };
       sent = flat_map (λ c. sent_by c.0 (reached now c.1)) sv.conns;
     }

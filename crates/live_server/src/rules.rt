@@ -1,6 +1,6 @@
 //! What a datagram and the time do to a table of connections: who gets a place, who gives way, and where a segment goes.
 
-ghost use Rattle.std.specs.Prelude.{◌≡◌, ◌++◌, ◌<◌, ◌≤◌, ◌^◌, [], true, length, Some, OnErr, OnOk};
+ghost use Rattle.std.specs.Prelude.{◌≡◌, ◌⊎◌, ◌++◌, ◌<◌, ◌≤◌, ◌^◌, [], true, length, Some, OnErr, OnOk};
 ghost use Rattle.segment_codec.specs.Packet.{packet_in};
 ghost use Rattle.segment_codec.specs.Refusal.{tuple_of};
 ghost use Rattle.segment_codec.specs.declared.packet.Seg.{Seg};
@@ -9,24 +9,29 @@ ghost use Rattle.sq_base.specs.declared.kinds.Tuple.{Tuple};
 ghost use Rattle.tcb_machine.specs.Limits.{last_time};
 ghost use Rattle.live_server.specs.Initial.{number_for};
 ghost use Rattle.live_server.specs.Isolation.{Costs, KeepsStart, Loses};
-ghost use Rattle.live_server.specs.Serving.{addressed, arrives, fits, has_place, limited, makes_place, on_datagram, on_segment};
+ghost use Rattle.icmp_codec.specs.EchoRequest.{ping_in};
+ghost use Rattle.live_server.specs.Serving.{addressed, arrives, echoes, fits, has_place, limited, is_echoed, makes_place, on_datagram, on_other, on_segment, passes_over};
 ghost use Rattle.live_server.specs.Serving.{on_time, opens, refused, server_of, takes_place, without_text, yields};
 ghost use Rattle.live_server.specs.Table.{place_of, IsNew};
 ghost use Rattle.live_server.specs.Told.{told_addressed, told_arriving, told_datagram, told_opening, told_segment, told_taking, told_time};
 
 use crate::acting::{Datagram, encoded, text_of};
-use crate::addresses::is_for_us;
+use crate::addresses::{is_for_us, is_to_us};
 use crate::conn::{Conn, Met};
 use crate::conn_table::ConnTable;
 use crate::counts::Counts;
 use crate::initial::{Secret, initial_number};
 use crate::ports::{is_served_at, service_at};
 use crate::setting::Setting;
+use icmp_codec::{Ping, ping_in, pong};
 use segment_codec::{Options, Packet, SYN, Seg, decode, refusal, tuple_of};
 use sq_base::{Link, Tuple};
 use std::alloc::{AllocError, Global};
 use std::collections::VecDeque;
 use tcb_machine::DEFAULT_MSS;
+
+/// How many echo requests are answered from one tick to the next.
+const MOST_PINGS: u32 = 1000;
 
 /// The rules over a table of connections, and what they keep beside it.
 #[derive(Drop)]
@@ -36,6 +41,8 @@ pub struct Rules<T> {
     waiting: VecDeque<(Tuple, u64)>,
     /// How many bytes all held when the time last came to them, with the text that came since.
     held: u64,
+    /// How many echo requests were answered since the time last came.
+    pings: u32,
     setting: Setting,
     secret: Secret,
     counts: Counts,
@@ -51,6 +58,7 @@ impl<T: ConnTable> Rules<T> {
           conns = T.conns table;
           waiting = [];
           held = 0;
+          pings = 0;
           setting = setting;
           secret = secret.0;
           counts = no_counts;
@@ -60,6 +68,7 @@ impl<T: ConnTable> Rules<T> {
             table,
             waiting: VecDeque::new(alloc),
             held: 0,
+            pings: 0,
             setting,
             secret,
             counts: Counts::default(),
@@ -89,8 +98,8 @@ impl<T: ConnTable> Rules<T> {
     }
 
     /// An IPv4 datagram comes at a time in microseconds. What is sent goes behind the datagrams that are there. Both checksums are
-    /// verified; what is no whole TCP segment is passed over. An error says that memory was missing: then the segment's own connection
-    /// is gone, and some of what it sent may be.
+    /// verified. An echo request is answered, and what else is no whole TCP segment is passed over. An error says that memory was missing:
+    /// then the segment's own connection is gone, and some of what it sent may be; or nothing has changed.
     #[tactic(auto, unfolding(crate::specs::Serving::on_datagram, crate::specs::Serving::on_packet))]
     pub fn datagram(
         &mut self,
@@ -106,17 +115,78 @@ impl<T: ConnTable> Rules<T> {
         ensures server { OnOk result (server_of T.conns self.new ≡ (on_datagram now body.now (server_of T.conns self.old)).server) }
         ensures sent { OnOk result (out.new.items ≡ out.old.items ++ (on_datagram now body.now (server_of T.conns self.old)).sent) }
         ensures told { OnOk result (T.tells self.old.table (told_datagram now body.now (server_of T.conns self.old)) self.new.table) }
-        ensures lost { OnErr result ((s : Seg) × (packet_in RawIp body.now true ≡ Packet.Segment s)
-            × Costs s (server_of T.conns self.old) (server_of T.conns self.new)) }
+        ensures lost { OnErr result (((s : Seg) × (packet_in RawIp body.now true ≡ Packet.Segment s)
+            × Costs s (server_of T.conns self.old) (server_of T.conns self.new)) ⊎ (server_of T.conns self.new ≡ server_of T.conns self.old)) }
         ensures start { OnErr result (KeepsStart (server_of T.conns self.old) (server_of T.conns self.new)) }
     {
         match decode(Link::RawIp, body, true) {
             Packet::Segment(seg) => self.addressed(alloc, now, &seg, text_of(&seg, body), out),
+            Packet::Other => self.other(alloc, now, body, out),
             _ => {
-                self.counts.passed_over = self.counts.passed_over.wrapping_add(1);
+                self.pass_over();
                 Ok(())
             }
         }
+    }
+
+    /// A datagram of another protocol: an echo request is answered, where it is for us, and not many were since the time last came.
+    #[tactic(auto, unfolding(crate::specs::Serving::on_other))]
+    fn other(
+        &mut self,
+        alloc: Global,
+        now: u64,
+        body: &[u8],
+        out: &mut Vec<Datagram>,
+    ) -> Result<(), AllocError>
+        ensures table { self.new.table ≡ self.old.table }
+        ensures server { OnOk result (server_of T.conns self.new ≡ (on_other now (ping_in body.now) (server_of T.conns self.old)).server) }
+        ensures sent { OnOk result (out.new.items ≡ out.old.items ++ (on_other now (ping_in body.now) (server_of T.conns self.old)).sent) }
+        ensures kept { OnErr result (server_of T.conns self.new ≡ server_of T.conns self.old) }
+    {
+        match ping_in(body) {
+            Some(ping) if self.is_echoed(&ping) => self.echo(alloc, now, &ping, out),
+            _ => {
+                self.pass_over();
+                Ok(())
+            }
+        }
+    }
+
+    /// Whether an echo request is answered.
+    #[tactic(auto, unfolding(crate::specs::Serving::is_echoed))]
+    fn is_echoed(&self, ping: &Ping<'_>) -> bool
+        ensures { result ≡ is_echoed ping.now (server_of T.conns self.now) }
+    {
+        is_to_us(&self.setting, ping.src(), ping.dst()) && self.pings < MOST_PINGS
+    }
+
+    /// An echo request is answered. After an error nothing has changed.
+    fn echo(
+        &mut self,
+        alloc: Global,
+        now: u64,
+        ping: &Ping<'_>,
+        out: &mut Vec<Datagram>,
+    ) -> Result<(), AllocError>
+        requires { is_echoed ping.now (server_of T.conns self.old) ≡ true }
+        ensures table { self.new.table ≡ self.old.table }
+        ensures server { OnOk result (server_of T.conns self.new ≡ (echoes now ping.now (server_of T.conns self.old)).server) }
+        ensures sent { OnOk result (out.new.items ≡ out.old.items ++ (echoes now ping.now (server_of T.conns self.old)).sent) }
+        ensures kept { OnErr result (server_of T.conns self.new ≡ server_of T.conns self.old) }
+    {
+        let bytes = pong(alloc, ping)?;
+        out.push(Datagram { at: now, bytes })?;
+        self.pings += 1;
+        self.counts.pinged = self.counts.pinged.wrapping_add(1);
+        Ok(())
+    }
+
+    /// A datagram counts, and changes nothing.
+    fn pass_over(&mut self)
+        ensures table { self.new.table ≡ self.old.table }
+        ensures server { server_of T.conns self.new ≡ (passes_over (server_of T.conns self.old)).server }
+    {
+        self.counts.passed_over = self.counts.passed_over.wrapping_add(1);
     }
 
     /// The time comes to every connection, and who is to leave does: half open for three minutes, silent in FIN-WAIT-2 for one, in
@@ -146,6 +216,7 @@ impl<T: ConnTable> Rules<T> {
         let left = (here - self.table.len()) as u64;
         self.counts.left = self.counts.left.wrapping_add(left);
         self.held = self.table.held();
+        self.pings = 0;
         Ok(())
     }
 

@@ -1,6 +1,6 @@
 //! The server of one thread: the rules over a map of connections, seen as the state that the definitions speak of.
 
-ghost use Rattle.std.specs.Prelude.{◌≡◌, ◌++◌, ◌<◌, ◌≤◌, ◌^◌, [], true, length, OnErr, OnOk};
+ghost use Rattle.std.specs.Prelude.{◌≡◌, ◌⊎◌, ◌++◌, ◌<◌, ◌≤◌, ◌^◌, [], true, length, OnErr, OnOk};
 ghost use Rattle.segment_codec.specs.Packet.{packet_in};
 ghost use Rattle.segment_codec.specs.declared.packet.Seg.{Seg};
 ghost use Rattle.sq_base.specs.declared.kinds.Link.TheVariants.{RawIp};
@@ -51,7 +51,7 @@ impl Server {
 
     /// A server with no connection. It takes no memory.
     pub fn new(alloc: Global, setting: Setting, secret: Secret) -> Server
-        ensures { result ≡ record { conns = []; waiting = []; held = 0; setting = setting; secret = secret.0; counts = no_counts } }
+        ensures { result ≡ record { conns = []; waiting = []; held = 0; pings = 0; setting = setting; secret = secret.0; counts = no_counts } }
     {
         Server {
             rules: Rules::over(alloc, IndexMap::new(alloc), setting, secret),
@@ -80,8 +80,8 @@ impl Server {
     }
 
     /// An IPv4 datagram comes at a time in microseconds. What is sent goes behind the datagrams that are there. Both checksums are
-    /// verified; what is no whole TCP segment is passed over. An error says that memory was missing: then the segment's own connection
-    /// is gone, and some of what it sent may be.
+    /// verified. An echo request is answered, and what else is no whole TCP segment is passed over. An error says that memory was missing:
+    /// then the segment's own connection is gone, and some of what it sent may be; or nothing has changed.
     pub fn datagram(
         &mut self,
         alloc: Global,
@@ -93,7 +93,7 @@ impl Server {
         requires body { length body.now < 2 ^ 32 }
         ensures server { OnOk result (self.new ≡ (on_datagram now body.now self.old).server) }
         ensures sent { OnOk result (out.new.items ≡ out.old.items ++ (on_datagram now body.now self.old).sent) }
-        ensures lost { OnErr result ((s : Seg) × (packet_in RawIp body.now true ≡ Packet.Segment s) × Costs s self.old self.new) }
+        ensures lost { OnErr result (((s : Seg) × (packet_in RawIp body.now true ≡ Packet.Segment s) × Costs s self.old self.new) ⊎ (self.new ≡ self.old)) }
     {
         self.rules.datagram(alloc, now, body, out)
     }

@@ -32,6 +32,7 @@ layout = record {
     bytes = 268435456;
     segment = 1460;
     ports = plain_ports;
+    site = None;
   };
   secret = record { 0 = 0 ∷ 1 ∷ 2 ∷ 3 ∷ 4 ∷ 5 ∷ 6 ∷ 7 ∷ 8 ∷ 9 ∷ 10 ∷ 11 ∷ 12 ∷ 13 ∷ 14 ∷ 15 ∷ [] };
   goes_on = false;

@@ -14,6 +14,15 @@ returns-in-Segment-clause-told g c =
     ∙ sym (packet_told c.args.now c.args.body.now sv c.in-Segment.seg (sym c.decode.ensures ∙ c.in-Segment.is))) told)
     c.addressed.ensures.told
 
+pub returns-in-Other-clause-told : goal.returns-in-Other-clause-told
+returns-in-Other-clause-told g c =
+    let sv : ServerOf = server_of g.T.ConnTable.conns c.args.self.now in
+    map_ok c.other.result _ (g.T.ConnTable.tells c.args.self.now.table (told_datagram c.args.now c.args.body.now sv) c.other.new.self.table)
+    (λ _. subst (λ t. g.T.ConnTable.tells c.args.self.now.table (told_datagram c.args.now c.args.body.now sv) t) (sym c.other.ensures.table)
+    (subst (λ ws. g.T.ConnTable.tells c.args.self.now.table ws c.args.self.now.table)
+    (sym (other_told c.args.now c.args.body.now sv c.decode.result c.decode.ensures c.in-Other.not-Segment)) (g.met.T.ConnTable.tells_nothing c.args.self.now.table)))
+    c.other.ensures.server
+
 pub returns-in_default-clause-told : goal.returns-in_default-clause-told
 returns-in_default-clause-told g c =
     let sv : ServerOf = server_of g.T.ConnTable.conns c.args.self.now in
