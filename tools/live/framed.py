@@ -70,21 +70,25 @@ class Framed:
     def step(self, *datagrams, after=0):
         """What is sent for each datagram, or for the time alone, so many microseconds later.
 
-        Behind them goes a segment to a port that isn't served: its reset is the mark of the end.
         """
+        return list(map(tcp_segments.read, self.raw(*(datagrams or (b"",)), after=after)))
+
+    def raw(self, *datagrams, after=0):
+        """The same as bytes. Behind them goes a segment to a port that isn't served: its reset is the mark of the end."""
         self.now += after
         self.mark += 1
         mark = datagram(40000, 1, self.mark, 0, SYN, source="10.9.0.250")
-        for body in (*(datagrams or (b"",)), mark):
+        for body in (*datagrams, mark):
             self.into.write(HEAD.pack(len(body), self.now) + body)
         self.into.flush()
         sent = []
         while True:
             length, _ = HEAD.unpack(self.out_of.read(HEAD.size))
-            found = tcp_segments.read(self.out_of.read(length))
-            if (found.source_port, found.ack) == (1, self.mark + 1):
-                return sent
-            sent.append(found)
+            sent.append(self.out_of.read(length))
+            if sent[-1][9] == 6:
+                found = tcp_segments.read(sent[-1])
+                if (found.source_port, found.ack) == (1, self.mark + 1):
+                    return sent[:-1]
 
 
 def datagram(source_port, port, seq, ack, flags, source=CLIENT, target=SERVER, **fields):

@@ -57,6 +57,12 @@ def nc(text, port=7):
     return subprocess.run(["nc.openbsd", "-N", SERVER, str(port)], input=text, stdout=subprocess.PIPE, check=True, timeout=60).stdout
 
 
+def ping(*words, answered, target=SERVER):
+    """ping with these words gets so many answers, none of them twice and none damaged."""
+    said = subprocess.run(["ping", "-q", *words, target], capture_output=True, text=True, timeout=60).stdout
+    assert f" {answered} received" in said and "duplicates" not in said and "corrupted" not in said, said
+
+
 def socat(text, port=7):
     need("socat", "socat")
     return subprocess.run(["socat", "-t", "60", "-", f"TCP:{SERVER}:{port}"], input=text, stdout=subprocess.PIPE, check=True, timeout=60).stdout

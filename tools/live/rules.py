@@ -187,6 +187,46 @@ def ports(program):
         assert refused.flags & RST, refused
 
 
+def zero_window(program):
+    """A window that is 0 for hours keeps the connection, whose probes are answered (RFC 9293, 3.8.6.1); as it opens the text comes at once."""
+    with Framed(program) as server:
+        client = Client(server, window=0)
+        assert [s.text for s in client.send(b"text")] == [b""]
+        for k in range(100):
+            probe, = server.step(after=(SECOND if k == 0 else 64 * SECOND))
+            assert (probe.seq, probe.text) == (client.ack, b"t"), probe
+            assert server.step(client.segment(client.seq, client.ack, ACK)) == []
+        sent = server.step(client.segment(client.seq, client.ack, ACK, window=64240))
+        told = bytearray(4)
+        for found in sent:
+            told[found.seq - client.ack:found.seq - client.ack + len(found.text)] = found.text
+        assert told == b"text", sent
+        client.ack += 4
+        client.fields["window"] = 64240
+        client.close()
+
+
+def echo_requests(program):
+    """Echo requests (RFC 792) between a connection's segments: each is answered as it came, in order; a spoiled one, and one that isn't for us, aren't."""
+    us, them = socket.inet_aton(SERVER), socket.inet_aton(CLIENT)
+    with Framed(program) as server:
+        client = Client(server)
+        asked = [tcp_segments.echo(them, us, 8, b"\0\1\0" + bytes([k]) + bytes(range(k))) for k in range(20)]
+        told = server.raw(asked[0], client.segment(client.seq, client.ack, PSH | ACK, text=b"x"), *asked[1:])
+        client.seq, client.ack = client.seq + 1, client.ack + 1
+        wanted = [tcp_segments.echo(us, them, 0, datagram[24:]) for datagram in asked]
+        assert [told[0], *told[2:]] == wanted and tcp_segments.read(told[1]).text == b"x", told
+        spoiled = [asked[5][:-1] + b"\7", asked[5][:20] + b"\10\1" + asked[5][22:], tcp_segments.echo(them, us, 0, b"abcd"),
+                   tcp_segments.echo(them, socket.inet_aton("10.9.0.3"), 8, b"abcd"), tcp_segments.echo(socket.inet_aton("10.9.0.255"), us, 8, b"abcd"),
+                   tcp_segments.echo(us, us, 8, b"abcd"), tcp_segments.echo(them, us, 8, b"abc")]
+        assert server.raw(*spoiled) == []
+        # so many between two ticks, and again behind a tick
+        for _ in range(2):
+            assert len(server.raw(*[asked[3]] * 1100)) in (1000, 1000 - len(asked))
+            server.step(after=SECOND)
+        client.close()
+
+
 def path_mtu(program):
     """Where the paths take 1,300 bytes nothing longer is announced or sent (RFC 9293, 3.7.1), also to a client that takes more, and also where it comes again."""
     with Framed(program, mtu=1300) as server:

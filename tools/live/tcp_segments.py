@@ -23,6 +23,13 @@ def segment(source, source_port, target, target_port, seq, ack, flags, window=64
     return header[:10] + struct.pack(">H", inet_sum(header)) + header[12:] + tcp
 
 
+def echo(source, target, kind, rest):
+    """An echo message of ICMP (RFC 792) in its datagram: 8 asks, 0 answers."""
+    message = bytes((kind, 0)) + struct.pack(">H", inet_sum(bytes((kind, 0, 0, 0)) + rest)) + rest
+    header = struct.pack(">BBHHHBBH", 0x45, 0, 20 + len(message), 0, 0x4000, 64, 1, 0) + source + target
+    return header[:10] + struct.pack(">H", inet_sum(header)) + header[12:] + message
+
+
 @dataclass
 class Segment:
     source: bytes
