@@ -68,9 +68,7 @@ class Framed:
         assert status == 0, f"the program ended with status {status}"
 
     def step(self, *datagrams, after=0):
-        """What is sent for each datagram, or for the time alone, so many microseconds later.
-
-        """
+        """What is sent for each datagram, or for the time alone, so many microseconds later."""
         return list(map(tcp_segments.read, self.raw(*(datagrams or (b"",)), after=after)))
 
     def raw(self, *datagrams, after=0):

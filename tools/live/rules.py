@@ -1,7 +1,10 @@
 """What a server beside its blocks does with what strangers send: one function a rule, each over frames."""
+import socket
 import struct
 
+import tcp_segments
 from framed import SECOND, Client, Framed, datagram
+from frames import CLIENT, SERVER
 from tcp_segments import ACK, FIN, PSH, RST, SYN
 
 
@@ -239,4 +242,4 @@ def path_mtu(program):
 
 
 RULES = {function.__name__.replace("_", "-"): function
-         for function in (addresses, challenges, blind, fresh, idle, vanished, half_open, own_age, silent, time_wait, memory, path_mtu, ports)}
+         for function in (addresses, challenges, blind, fresh, idle, vanished, half_open, own_age, silent, time_wait, memory, zero_window, echo_requests, path_mtu, ports)}
