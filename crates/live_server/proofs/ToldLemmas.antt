@@ -38,6 +38,10 @@ module _ (now : ℕ) (body : List ℕ) (sv : ServerOf) where
   unfolding told_datagram told_packet
   packet_told s e = ap (λ p. told_packet now body p sv) e
 
+  pub protocol_told : packet_in RawIp body true ≡ packet.Other → told_datagram now body sv ≡ []
+  unfolding told_datagram told_packet
+  protocol_told e = ap (λ p. told_packet now body p sv) e
+
   no_segment : (p : Packet) → ((s : Seg) → p ≡ packet.Segment s → ⊥) → told_packet now body p sv ≡ []
   unfolding told_packet
   no_segment (packet.Segment s) other = absurd (other s refl)

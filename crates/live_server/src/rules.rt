@@ -161,6 +161,7 @@ impl<T: ConnTable> Rules<T> {
     }
 
     /// An echo request is answered. After an error nothing has changed.
+    #[tactic(auto, unfolding(crate::specs::Serving::is_echoed))]
     fn echo(
         &mut self,
         alloc: Global,
