@@ -76,7 +76,7 @@ module _ {R : Type 0} (limits : R → Limits) (s : Named R) (o : Chats) (rings k
             no_worker = omega (arith, number_is, lt, many);
             feeds = omega (arith, feeds, are.life.0);
             asks = omega (arith, asks, are.life.1);
-            none = are.none;
+            none = are.idle.none;
             each = λ c place at. elim (cases_eq (c % rings) k) [
               | inl mine ↦ new_is c place mine (are.own c place at mine)
               | inr other ↦ subst (IsFirstPlace IsFirst Tells limits s o p c) (sym (are.others c place at other)) tt

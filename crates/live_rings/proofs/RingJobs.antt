@@ -51,19 +51,21 @@ parts_of s = first_of (origin_of s.given.first)
 
 module _ {X P S K : Type 0} {G : Ghosts X P Chats} (s : Named (Places X P Chats G)) where
   -- a pass that has seen nothing may do its task
-  may_new : (rings : ℕ) → ServesPlaces limits_of s.given rings (length (parts_of s)) → length s.given.quotas ≡ rings → (task : ServerTask S K) (p : Pass Element) (k : ℕ) → IsNewTask rings (parts_of s) k task → IsPassOf number_of s.gate p → number p ≡ k → seen p ≡ [] → MayRun s task p
-  may_new rings serves many (Task'.Serve ring) p k t is number_is none = (knows_first limits_of s (origin_of s.given.first) rings k serves p is number_is t.0 none ring.stays t.1, t.1.none.0, t.1.none.1)
-  may_new rings serves many (Task'.Served ended) p k t is number_is none = absurd t
-  may_new rings serves many Task'.Work p k t is number_is none = (is, omega (arith, number_is, t, many))
+  may_new : (rings places : ℕ) → ServesPlaces limits_of s.given rings (length (parts_of s)) → length s.given.quotas ≡ rings → (task : ServerTask S K) (p : Pass Element) (k : ℕ) → IsNewTask rings places (parts_of s) k task → IsPassOf number_of s.gate p → number p ≡ k → seen p ≡ [] → MayRun s task p
+  may_new rings places serves many (Task'.Serve ring) p k t is number_is none =
+      let own = t.1.0 in
+      (knows_first limits_of s (origin_of s.given.first) rings k serves p is number_is t.0 none ring.stays own, own.idle.none.0, own.idle.none.1)
+  may_new rings places serves many (Task'.Served ended) p k t is number_is none = absurd t
+  may_new rings places serves many Task'.Work p k t is number_is none = (is, omega (arith, number_is, t, many))
 
   -- the job holds the pass of this number, which may do the job's task
   abbrev pub ReadyAt : ℕ → Job (ServerTask S K) → Type 0
   ReadyAt k j = (x : Pass Element) × (j.places.items ≡ Some x ∷ []) × MayRun s j.task x × (number x ≡ k)
 
-  pub all_new : (rings : ℕ) → ServesPlaces limits_of s.given rings (length (parts_of s)) → length s.given.quotas ≡ rings → (count : ℕ) (jobs : List (Job (ServerTask S K))) (passes : List (Pass Element)) (old : ℕ → List (Option (Pass Element)))
-      → AreNewTasks rings (parts_of s) (tasks_in jobs) → AreHanded 0 count 0 passes old (lent_to jobs) → ((i : ℕ) → old i ≡ []) → AreFresh number_of s.gate 0 passes
+  pub all_new : (rings places : ℕ) → ServesPlaces limits_of s.given rings (length (parts_of s)) → length s.given.quotas ≡ rings → (count : ℕ) (jobs : List (Job (ServerTask S K))) (passes : List (Pass Element)) (old : ℕ → List (Option (Pass Element)))
+      → AreNewTasks rings places (parts_of s) (tasks_in jobs) → AreHanded 0 count 0 passes old (lent_to jobs) → ((i : ℕ) → old i ≡ []) → AreFresh number_of s.gate 0 passes
       → (k : ℕ) (j : Job (ServerTask S K)) → k ≤ count → slice_get jobs k ≡ Some j → ReadyAt k j
-  all_new rings serves many count jobs passes old tasks handed none fresh k j le is =
+  all_new rings places serves many count jobs passes old tasks handed none fresh k j le is =
       let r = handed.each k le in
       let at : holder 0 count 0 k ≡ k = elim (cases_eq k count) [
         | inl e ↦ ap (holder 0 count 0) e ∙ (holds_last 0 count 0 ∙ (let e : 0 + count + 0 ≡ k = omega (arith, e) in e))
@@ -72,7 +74,7 @@ module _ {X P S K : Type 0} {G : Ghosts X P Chats} (s : Named (Places X P Chats 
       let f = fresh_at number_of s.gate 0 passes k r.0 fresh r.1 in
       let n : number r.0 ≡ k = omega (arith, f.1) in
       let places : j.places.items ≡ Some r.0 ∷ [] = sym (lent_got jobs k j is) ∙ (ap (lent_to jobs) (sym at) ∙ (r.2 ∙ ap (λ l. l ++ Some r.0 ∷ []) (none (holder 0 count 0 k)))) in
-      (r.0, places, may_new rings serves many j.task r.0 k (tasks.each k j.task (task_got jobs k j is)) f.0 n f.2, n)
+      (r.0, places, may_new rings places serves many j.task r.0 k (tasks.each k j.task (task_got jobs k j is)) f.0 n f.2, n)
 
   pub all_ready : (jobs : List (Job (ServerTask S K))) → ((k : ℕ) (j : Job (ServerTask S K)) → slice_get jobs k ≡ Some j → ReadyAt k j) → (k : ℕ) (d : Job (ServerTask S K)) → k < length jobs → IsReady s (slice_index_or jobs k d)
   all_ready jobs new k d lt =

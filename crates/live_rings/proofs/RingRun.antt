@@ -57,22 +57,22 @@ pub record Lends {X P S K : Type 0} {G : PartGhosts X P Chats} (s : Named (Place
 
 module _ {X P S K : Type 0} {G : PartGhosts X P Chats} (s : Named (Places X P Chats G)) where
   -- so it is where each pass of a new squeue went to a job without places
-  pub lends : ServesPlaces limits_of s.given (length s.given.quotas) (length (parts_of s)) → (first items jobs : List (Job (ServerTask S K))) (n : ℕ) (old all : List (Named (Places X P Chats G))) (passes : List (Pass Element)) → n ≡ length first
-      → AreNewTasks (length s.given.quotas) (parts_of s) (tasks_in first) → All (λ j. j.places.items ≡ []) first → tasks_in items ≡ tasks_in first → jobs ≡ items → old ≡ [] → all ≡ old ++ s ∷ []
+  pub lends : ServesPlaces limits_of s.given (length s.given.quotas) (length (parts_of s)) → (first items jobs : List (Job (ServerTask S K))) (n : ℕ) (old all : List (Named (Places X P Chats G))) (passes : List (Pass Element)) (places : ℕ) → n ≡ length first
+      → AreNewTasks (length s.given.quotas) places (parts_of s) (tasks_in first) → All (λ j. j.places.items ≡ []) first → tasks_in items ≡ tasks_in first → jobs ≡ items → old ≡ [] → all ≡ old ++ s ∷ []
       → AreHanded 0 (n - 1) (length old) passes (lent_to first) (lent_to items) → AreFresh number_of s.gate 0 passes → Lends s jobs n all
-  lends serves first items jobs n old all passes counted tasks empty kept same none is handed fresh =
+  lends serves first items jobs n old all passes places counted tasks empty kept same none is handed fresh =
       let stays : tasks_in jobs ≡ tasks_in first = ap tasks_in same ∙ kept in
       let count : length s.given.quotas ≡ n - 1 = omega (arith, counted, tasks.count, length-map first (λ (j : Job (ServerTask S K)). j.task)) in
       let many : length jobs ≡ (n - 1) + 1 =
       omega (arith, counted, tasks.count, length-map first (λ (j : Job (ServerTask S K)). j.task), ap length stays, length-map jobs (λ (j : Job (ServerTask S K)). j.task)) in
       let none_yet = subst (λ (q : ℕ). AreHanded 0 (n - 1) q passes (lent_to first) (lent_to items)) (ap length none) handed in
       let each = subst (λ (l : List (Job (ServerTask S K))). AreHanded 0 (n - 1) 0 passes (lent_to first) (lent_to l)) (sym same) none_yet in
-      let now = subst (AreNewTasks (length s.given.quotas) (parts_of s)) (sym stays) tasks in
+      let now = subst (AreNewTasks (length s.given.quotas) places (parts_of s)) (sym stays) tasks in
       record {
         passes = count;
         many = many;
         are = λ k j got.
-            all_new s (length s.given.quotas) serves refl (n - 1) jobs passes (lent_to first) now each (lent_none first empty) fresh k j
+            all_new s (length s.given.quotas) places serves refl (n - 1) jobs passes (lent_to first) now each (lent_none first empty) fresh k j
             (let lt = slice_get_within jobs k j got in omega (arith, lt, many)) got;
         single = is ∙ ap (λ l. l ++ s ∷ []) none;
       }

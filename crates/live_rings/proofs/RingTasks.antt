@@ -12,7 +12,7 @@ use Rattle.live_rings.specs.declared.ring.RingThread.{RingThread}
 use Rattle.live_rings.specs.declared.ring.ServerTask.{ServerTask}
 use Rattle.live_rings.specs.declared.ring.ServerTask.TheVariants as Task'
 use Rattle.live_rings.specs.Groups.{AllBecameFrom}
-use Rattle.live_rings.specs.Seating.{AreNewStays}
+use Rattle.live_rings.specs.Seating.{AreNewStays, numbers_of}
 use Rattle.live_rings.specs.Tasks.{AreNewRings, AreNewTasks, HasDone, IsNewTask, ended_of, tasks_for}
 use Rattle.live_rings.proofs.Seated.{get_more}
 
@@ -22,8 +22,8 @@ none_long [] n = refl
 none_long (x ∷ xs) n = absurd (omega (arith, n))
 
 module _ {S K : Type 0} where
-  pub as_many : (parts : List (Stream ChatItem ChatOf)) (es : List (Ends S K)) (rs : List (RingThread S K)) → AreNewRings parts es rs → length rs ≡ length es
-  as_many parts es rs are = sym (length-map rs (λ (r : RingThread S K). r.ends)) ∙ ap length are.ends_are
+  pub as_many : (places : ℕ) (parts : List (Stream ChatItem ChatOf)) (es : List (Ends S K)) (rs : List (RingThread S K)) → AreNewRings places parts es rs → length rs ≡ length es
+  as_many places parts es rs are = sym (length-map rs (λ (r : RingThread S K). r.ends)) ∙ ap length are.ends_are
 
   serve_got : (rs : List (RingThread S K)) (k : ℕ) (t : ServerTask S K) → slice_get (map (λ r. Task'.Serve r) rs) k ≡ Some t → (r : RingThread S K) × (slice_get rs k ≡ Some r) × (Task'.Serve r ≡ t)
   serve_got [] k t is = cc is
@@ -31,18 +31,19 @@ module _ {S K : Type 0} where
   serve_got (r ∷ rs) (suc k) t is = serve_got rs k t is
 
   -- the rings have their tasks
-  pub are_tasks : (n : ℕ) (parts : List (Stream ChatItem ChatOf)) (es : List (Ends S K)) (rs : List (RingThread S K)) → n ≡ length es → AreNewRings parts es rs → AreNewTasks n parts (tasks_for rs)
-  are_tasks n parts es rs counted are =
+  pub are_tasks : (n places : ℕ) (parts : List (Stream ChatItem ChatOf)) (es : List (Ends S K)) (rs : List (RingThread S K)) → n ≡ length es → AreNewRings places parts es rs → AreNewTasks n places parts (tasks_for rs)
+  are_tasks n places parts es rs counted are =
       let front : List (ServerTask S K) = map (λ r. Task'.Serve r) rs in
-      let many : length front ≡ n = length-map rs (λ (r : RingThread S K). Task'.Serve r) ∙ (as_many parts es rs are ∙ sym counted) in
+      let many : length front ≡ n = length-map rs (λ (r : RingThread S K). Task'.Serve r) ∙ (as_many places parts es rs are ∙ sym counted) in
       record {
         count = omega (arith, length-append front (Task'.Work ∷ []), many);
         each = λ c t at. elim (get_more front Task'.Work t c at) [
           | inl there ↦
               let r = serve_got rs c t there in
               let within : c < n = omega (arith, slice_get_within front c t there, many) in
-              subst (IsNewTask n parts c) r.2 (within, subst (λ (m : ℕ). AreNewStays m c parts r.0.stays) (sym counted) (are.each c r.0 r.1))
-          | inr last ↦ subst (IsNewTask n parts c) last.1 (last.0 ∙ many)
+              let own = are.each c r.0 r.1 in
+              subst (IsNewTask n places parts c) r.2 (within, subst (λ (m : ℕ). AreNewStays m c parts r.0.stays × (r.0.free.items ≡ numbers_of m c places)) (sym counted) own)
+          | inr last ↦ subst (IsNewTask n places parts c) last.1 (last.0 ∙ many)
         ];
       }
 

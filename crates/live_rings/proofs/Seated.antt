@@ -7,7 +7,7 @@ use Rattle.std.proofs.lemmas.Bool.Decides.{nat_tests}
 use Rattle.rtrb.specs.declared.AnyItems.{AnyItems}
 use Rattle.rtrb.specs.declared.consumer.Consumer.{Consumer}
 use Rattle.rtrb.specs.declared.producer.Producer.{Producer}
-use Rattle.rtrb.specs.Ring.{IsPair, received, sent}
+use Rattle.rtrb.specs.Ring.{IsPair, known_free, received, sent}
 use Rattle.perimeter_core.specs.declared.entries.Act.{Act}
 use Rattle.perimeter_core.specs.Blocks.{Blocks, none_done}
 use Rattle.perimeter_core.specs.History.{Limits, feed_quotas}
@@ -24,7 +24,7 @@ use Rattle.stream_stays.specs.declared.place.Place.{Place}
 use Rattle.stream_stays.specs.declared.place.Place.TheVariants.{Vacant}
 use Rattle.live_chats.specs.Hearing.{ChatOf, nobody}
 use Rattle.live_chats.specs.declared.item.ChatItem.{ChatItem}
-use Rattle.live_rings.specs.Seating.{AreNewPairs, IsNewPair, IsNewPlace, ServesPlaces, lives_of, one_life}
+use Rattle.live_rings.specs.Seating.{AreNewPairs, IsNewPair, IsNewPlace, ServesPlaces, lives_of, most_at_once, most_items, one_life}
 
 pub long : {A : Type 0} (n : ℕ) (x : A) → length (replicate n x) ≡ n
 long zero x = refl
@@ -78,13 +78,14 @@ pub lives_long : (n : ℕ) → length (lives_of n) ≡ n
 lives_long n = long n one_life
 
 -- a squeue of places where nobody is
-pub serves : {R : Type 0} (stands : R → Blocks → Type 0) (size : R → ℕ) (limits : R → Limits) (rings room : ℕ) (quotas : List (ℕ × ℕ)) (first : R) (g : Given R) → IsMade stands size 0 rings quotas false room first g → 1 ≤ rings
+pub serves : {R : Type 0} (stands : R → Blocks → Type 0) (size : R → ℕ) (limits : R → Limits) (rings room : ℕ) (quotas : List (ℕ × ℕ)) (first : R) (g : Given R) → IsMade stands size 0 rings quotas false room first g → 1 ≤ rings → rings * most_at_once + rings ≤ room
     → quotas ≡ lives_of rings → stands first (all_new 0) → (limits first).feeds ≡ replicate (size first) most_feeds → (limits first).leaves ≡ replicate (size first) most_leaves → ServesPlaces limits g rings (size first)
-serves stands size limits rings room quotas first g m few are new feeds leaves =
+serves stands size limits rings room quotas first g m few enough are new feeds leaves =
     record {
       its_rings = m.its_rings;
       few = few;
       quotas = m.its_quotas ∙ are;
+      room = omega (arith, enough, m.its_room);
       conns = m.its_conns;
       away = λ c.
           let none : nat_lt c 0 ≡ false = grind (arith, nat_tests) in
@@ -148,11 +149,12 @@ no_pairs ps ss p s =
     nothing : (c : ℕ) (q : Producer ChatItem Global AnyItems) → slice_get {X = Producer ChatItem Global AnyItems} [] c ≡ Some q → ⊥
     nothing c q is = cc is
 
-pub new_pair : (p : Producer ChatItem Global AnyItems) (input : Consumer ChatItem Global AnyItems) (s : Stream ChatItem ChatOf) → IsPair p input → sent p ≡ [] → received input ≡ [] → input_of s ≡ input → count_of s ≡ 0 → state_of s ≡ nobody → IsNewPair p s
-new_pair p input s pair unsent none is count first =
+pub new_pair : (p : Producer ChatItem Global AnyItems) (input : Consumer ChatItem Global AnyItems) (s : Stream ChatItem ChatOf) → IsPair p input → sent p ≡ [] → known_free p ≡ most_items → received input ≡ [] → input_of s ≡ input → count_of s ≡ 0 → state_of s ≡ nobody → IsNewPair p s
+new_pair p input s pair unsent room none is count first =
     record {
       pair = subst (λ (i : Consumer ChatItem Global AnyItems). IsPair p i) (sym is) pair;
       unsent = unsent;
+      room = room;
       none = ap (λ (i : Consumer ChatItem Global AnyItems). received i) is ∙ none;
       uncounted = count;
       nobody_is = first;

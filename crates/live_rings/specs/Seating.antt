@@ -4,7 +4,7 @@ use Rattle.std.specs.Prelude.{replicate, slice_get, slice_index, slice_index_or}
 use Rattle.std.proofs.Common.{Global}
 use Rattle.rtrb.specs.declared.AnyItems.{AnyItems}
 use Rattle.rtrb.specs.declared.producer.Producer.{Producer}
-use Rattle.rtrb.specs.Ring.{IsPair, received, sent}
+use Rattle.rtrb.specs.Ring.{IsPair, known_free, received, sent}
 use Rattle.perimeter_core.specs.History.{Limits}
 use Rattle.squeue_state.specs.Naming.{Given}
 use Rattle.squeue_streams.specs.declared.streams.Stream.{Stream}
@@ -12,7 +12,7 @@ use Rattle.squeue_streams.specs.Taking.{count_of, input_of, most_feeds, most_lea
 use Rattle.stream_stays.specs.declared.place.Place.{Place}
 use Rattle.stream_stays.specs.declared.place.Place.TheVariants.{Out, Vacant}
 use Rattle.stream_stays.specs.declared.place.Stays.{Stays}
-use Rattle.stream_stays.specs.Places.{chain_of, life_of, places_of, touched_of}
+use Rattle.stream_stays.specs.Places.{chain_of, chain_room, life_of, places_of, touched_of, touched_room}
 use Rattle.live_chats.specs.Hearing.{ChatOf, nobody}
 use Rattle.live_chats.specs.declared.item.ChatItem.{ChatItem}
 
@@ -28,10 +28,18 @@ abbrev pub numbers_of : ℕ → ℕ → ℕ → List ℕ
 numbers_of rings ring zero = []
 numbers_of rings ring (suc n) = numbers_of rings ring n ++ (ring + n * rings) ∷ []
 
--- the two ends of one ring, into which nothing was pushed; and nobody is in the chat
+-- a place's ring takes so many items at once, and a ring enters so many feeds at once at most
+abbrev pub most_items : ℕ
+most_items = 4
+
+abbrev pub most_at_once : ℕ
+most_at_once = 1024
+
+-- the two ends of one ring, which is empty and into which nothing was pushed; and nobody is in the chat
 pub record IsNewPair (producer : Producer ChatItem Global AnyItems) (part : Stream ChatItem ChatOf) : Type 0 where
   pub pair : IsPair producer (input_of part)
   pub unsent : sent producer ≡ []
+  pub room : known_free producer ≡ most_items
   pub none : received (input_of part) ≡ []
   pub uncounted : count_of part ≡ 0
   pub nobody_is : state_of part ≡ nobody
@@ -60,11 +68,17 @@ pub record AreOwnPlaces (rings ring : ℕ) (all own : List (Place ChatItem ChatO
   pub here : (c : ℕ) (place : Place ChatItem ChatOf) → slice_get own c ≡ Some place → c % rings ≡ ring → slice_get all c ≡ Some place
   pub others : (c : ℕ) (place : Place ChatItem ChatOf) → slice_get own c ≡ Some place → c % rings ≢ ring → place ≡ Out
 
+-- nothing waits and nothing was touched; so many feeds may wait, and each place of the ring may be touched before the places are settled
+pub record IsIdle (rings count : ℕ) (stays : Stays ChatItem ChatOf) : Type 0 where
+  pub none : (chain_of stays ≡ []) × (touched_of stays ≡ [])
+  pub at_once : chain_room stays ≡ most_at_once
+  pub touched : count < rings * touched_room stays
+
 -- a ring's pass begins with its own of these places and a whole life, and nothing was pushed
 pub record AreOwnStays (rings ring : ℕ) (all : List (Place ChatItem ChatOf)) (stays : Stays ChatItem ChatOf) : Type 0 where
   pub own : AreOwnPlaces rings ring all (places_of stays)
   pub life : ((life_of stays).feeds ≡ one_life.0) × ((life_of stays).asks ≡ one_life.1)
-  pub none : (chain_of stays ≡ []) × (touched_of stays ≡ [])
+  pub idle : IsIdle rings (length all) stays
 
 -- the same of places with these parts, where nobody was ever
 pub record AreNewStays (rings ring : ℕ) (parts : List (Stream ChatItem ChatOf)) (stays : Stays ChatItem ChatOf) : Type 0 where
@@ -72,14 +86,15 @@ pub record AreNewStays (rings ring : ℕ) (parts : List (Stream ChatItem ChatOf)
   pub own : (c : ℕ) (place : Place ChatItem ChatOf) → slice_get (places_of stays) c ≡ Some place → c % rings ≡ ring → IsNewPlace parts c place
   pub others : (c : ℕ) (place : Place ChatItem ChatOf) → slice_get (places_of stays) c ≡ Some place → c % rings ≢ ring → place ≡ Out
   pub life : ((life_of stays).feeds ≡ one_life.0) × ((life_of stays).asks ≡ one_life.1)
-  pub none : (chain_of stays ≡ []) × (touched_of stays ≡ [])
+  pub idle : IsIdle rings (length parts) stays
 
 -- A squeue with so many rings and so many places, whose parts are elsewhere at its start: each may have so many feeds each time that it is
--- put in, and leave so often; and each ring's pass has a whole life
+-- put in, and leave so often; each ring's pass has a whole life; and there is room for all that rings enter at once, and an Ask of each
 pub record ServesPlaces {R : Type 0} (limits : R → Limits) (g : Given R) (rings count : ℕ) : Type 0 where
   pub its_rings : g.rings ≡ rings
   pub few : 1 ≤ rings
   pub quotas : g.quotas ≡ lives_of rings
+  pub room : rings * most_at_once + rings ≤ g.room
   pub conns : length g.starts ≡ count
   pub away : (c : ℕ) → slice_index_or g.starts c false ≡ false
   pub feeds : (c : ℕ) → c < count → most_feeds ≤ slice_index (limits g.first).feeds c

@@ -21,27 +21,27 @@ use Rattle.live_rings.specs.declared.ending.Ends.{Ends}
 use Rattle.live_rings.specs.declared.ring.RingThread.{RingThread}
 use Rattle.live_rings.specs.declared.ring.ServerTask.{ServerTask}
 use Rattle.live_rings.specs.declared.ring.ServerTask.TheVariants as Task'
-use Rattle.live_rings.specs.Seating.{AreNewStays}
+use Rattle.live_rings.specs.Seating.{AreNewStays, numbers_of}
 
 module _ {S K : Type 0} where
-  -- ring k of so many has its own of the places with these parts, where nobody was ever
-  abbrev pub IsNewRing : ℕ → List (Stream ChatItem ChatOf) → ℕ → RingThread S K → Type 0
-  IsNewRing rings parts k ring = AreNewStays rings k parts ring.stays
+  -- ring k of so many has its own of the places with these parts, where nobody was ever; so many of them are free
+  abbrev pub IsNewRing : ℕ → ℕ → List (Stream ChatItem ChatOf) → ℕ → RingThread S K → Type 0
+  IsNewRing rings places parts k ring = AreNewStays rings k parts ring.stays × (ring.free.items ≡ numbers_of rings k places)
 
-  -- there is one for each of these ends, by number
-  pub record AreNewRings (parts : List (Stream ChatItem ChatOf)) (ends : List (Ends S K)) (rings : List (RingThread S K)) : Type 0 where
+  -- there is one for each of these ends, by number, with so many places
+  pub record AreNewRings (places : ℕ) (parts : List (Stream ChatItem ChatOf)) (ends : List (Ends S K)) (rings : List (RingThread S K)) : Type 0 where
     pub ends_are : map (λ r. r.ends) rings ≡ ends
-    pub each : (k : ℕ) (ring : RingThread S K) → slice_get rings k ≡ Some ring → IsNewRing (length ends) parts k ring
+    pub each : (k : ℕ) (ring : RingThread S K) → slice_get rings k ≡ Some ring → IsNewRing (length ends) places parts k ring
 
   -- there is a task for each pass, by number: a new ring's of each stream, and then that of the worker
-  abbrev pub IsNewTask : ℕ → List (Stream ChatItem ChatOf) → ℕ → ServerTask S K → Type 0
-  IsNewTask rings parts c (Task'.Serve ring) = (c < rings) × IsNewRing rings parts c ring
-  IsNewTask rings parts c (Task'.Served ended) = ⊥
-  IsNewTask rings parts c Task'.Work = c ≡ rings
+  abbrev pub IsNewTask : ℕ → ℕ → List (Stream ChatItem ChatOf) → ℕ → ServerTask S K → Type 0
+  IsNewTask rings places parts c (Task'.Serve ring) = (c < rings) × IsNewRing rings places parts c ring
+  IsNewTask rings places parts c (Task'.Served ended) = ⊥
+  IsNewTask rings places parts c Task'.Work = c ≡ rings
 
-  pub record AreNewTasks (rings : ℕ) (parts : List (Stream ChatItem ChatOf)) (tasks : List (ServerTask S K)) : Type 0 where
+  pub record AreNewTasks (rings places : ℕ) (parts : List (Stream ChatItem ChatOf)) (tasks : List (ServerTask S K)) : Type 0 where
     pub count : length tasks ≡ rings + 1
-    pub each : (c : ℕ) (t : ServerTask S K) → slice_get tasks c ≡ Some t → IsNewTask rings parts c t
+    pub each : (c : ℕ) (t : ServerTask S K) → slice_get tasks c ≡ Some t → IsNewTask rings places parts c t
 
   -- the tasks of rings, and behind them the worker's
   abbrev pub tasks_for : List (RingThread S K) → List (ServerTask S K)

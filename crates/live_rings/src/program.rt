@@ -1,6 +1,6 @@
 //! A run of `sqlive` by several rings as a process: its words, its files, and what it ends with. A run by one thread is that of `live_run`.
 
-ghost use Rattle.std.specs.Prelude.{◌≡◌, ◌≤◌, ◌*◌, IfOk, Some, length, map};
+ghost use Rattle.std.specs.Prelude.{◌≡◌, ◌/◌, IfOk, Some, length, map};
 ghost use Rattle.std.specs.String.{string_bytes};
 ghost use Rattle.live_rings.specs.Making.{IsInRange};
 ghost use Rattle.live_rings.specs.Program.{are_for_rings, first_fault, setup_by};
@@ -134,7 +134,7 @@ fn open_all<W: AllocGlobal + Files>(
     rt: &W,
     names: &[String],
 ) -> Result<Vec<Ends<StdSource<W::File>, StdSink<W::File>>>, Fault>
-    ensures { IfOk result (λ v. 2 * length v.items ≤ length names.now) }
+    ensures { IfOk result (λ v. length v.items ≡ length names.now / 2) }
 {
     let mut all = Vec::new(rt.alloc());
     let mut rest = names;

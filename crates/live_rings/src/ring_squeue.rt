@@ -72,9 +72,10 @@ pub(crate) fn serve_squeue<
     }
 }
 
-// How many places each of so many rings of a squeue has. So many that they have no numbers are no memory's.
+// How many places each of so many rings of a squeue has: as many as a server is set to. So many that they have no numbers are no memory's.
 fn places_of(setup: &Layout, rings: u32) -> Result<u32, AllocError>
-    ensures { IfOk result (λ n. rings * n < 2 ^ 32) }
+    ensures set { IfOk result (λ n. n ≡ setup.now.setting.places) }
+    ensures range { IfOk result (λ n. rings * n < 2 ^ 32) }
 {
     let Ok(places) = u32::try_from(setup.setting.places) else {
         return Err(AllocError);
@@ -93,7 +94,7 @@ fn new_rings<S: Drop, K: Drop>(
 ) -> Result<(Chats, Vec<RingThread<S, K>>), AllocError>
     requires { (1 ≤ length ends.items) × (length ends.items ≤ 63) × (length ends.items * own < 2 ^ 32) }
     ensures many { IfOk result (λ r. length (first_of r.0) ≡ length ends.items * own) }
-    ensures rings { IfOk result (λ r. AreNewRings (first_of r.0) ends.items r.1.items) }
+    ensures rings { IfOk result (λ r. AreNewRings own (first_of r.0) ends.items r.1.items) }
 {
     let count = ends.len() as u32;
     let (producers, parts) = new_pairs(alloc, count * own)?;
@@ -112,7 +113,7 @@ fn deal_places<S: Drop, K: Drop>(
     places: Vec<Place<ChatItem, Chat>>,
 ) -> Result<Vec<RingThread<S, K>>, AllocError>
     requires { (1 ≤ count) × (length ends.items ≡ count) × (count * own < 2 ^ 32) × (length places.items ≡ count * own) }
-    ensures { IfOk result (λ v. (parts : List (Stream ChatItem ChatOf)) → AreNewPlaces parts places.items → AreNewRings parts ends.items v.items) }
+    ensures { IfOk result (λ v. (parts : List (Stream ChatItem ChatOf)) → AreNewPlaces parts places.items → AreNewRings own parts ends.items v.items) }
 {
     let mut ends = ends;
     let mut places = places;
@@ -165,7 +166,7 @@ fn run_to_end<
     requires setup { IsInRange setup.now }
     requires squeue { ServesPlaces limits_of squeue.given (length squeue.given.quotas) (length (first_of (origin_of squeue.given.first))) }
     requires passes { (length passes.items ≡ length squeue.given.quotas + 1) × AreFresh number_of squeue.gate 0 passes.items }
-    requires tasks { AreNewTasks (length squeue.given.quotas) (first_of (origin_of squeue.given.first)) (tasks_in jobs.items) }
+    requires tasks { AreNewTasks (length squeue.given.quotas) setup.now.setting.places (first_of (origin_of squeue.given.first)) (tasks_in jobs.items) }
     requires jobs { All (λ j. j.places.items ≡ []) jobs.items × HaveRoom 1 jobs.items }
     requires squeues { (squeues.all.items ≡ []) × (squeues.rooms.items ≡ []) × (1 ≤ vec_capacity squeues.all) × (1 ≤ vec_capacity squeues.rooms) }
     ensures empty { All (λ j. j.places.items ≡ []) result.0.items }

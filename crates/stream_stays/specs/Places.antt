@@ -36,6 +36,13 @@ module _ {T S : Type 0} where
   abbrev pub touched_of : Stays T S → List ℕ
   touched_of st = st.touched.items
 
+  -- so many feeds are entered at once at most, and so many items pushed until the places are settled
+  abbrev pub chain_room : Stays T S → ℕ
+  chain_room st = vec_capacity st.chain
+
+  abbrev pub touched_room : Stays T S → ℕ
+  touched_room st = vec_capacity st.touched
+
   abbrev pub place_at : Stays T S → ℕ → Option (Place T S)
   place_at st c = slice_get (places_of st) c
 

@@ -26,13 +26,13 @@ pub struct Stays<T: Drop, S: Drop> {
 }
 
 impl<T: Drop, S: Drop> Stays<T, S> {
-    ghost use Rattle.std.specs.Prelude.{◌∷◌, ◌++◌, ◌+◌, ◌<◌, ◌≤◌, Some, [], true, false, length};
+    ghost use Rattle.std.specs.Prelude.{◌∷◌, ◌++◌, ◌+◌, ◌<◌, ◌≤◌, Some, [], true, false, length, vec_capacity};
     ghost use Rattle.stream_stays.specs.declared.stay.Stay.{Stay};
     ghost use Rattle.stream_stays.specs.declared.stay.Vacant.{Vacant};
     ghost use Rattle.stream_stays.specs.Staying.{pushed_of};
     ghost use Rattle.stream_stays.specs.declared.place.Place.TheVariants.{Open, Vacant as Vacant'};
-    ghost use Rattle.stream_stays.specs.Places.{CanOpen, HasNoRoom, HasRoom, IsOpen, SameButPlaces, SameElsewhere, chain_of};
-    ghost use Rattle.stream_stays.specs.Places.{life_of, place_at, places_of, touched_of};
+    ghost use Rattle.stream_stays.specs.Places.{CanOpen, HasNoRoom, HasRoom, IsOpen, SameButPlaces, SameElsewhere, chain_of, chain_room};
+    ghost use Rattle.stream_stays.specs.Places.{life_of, place_at, places_of, touched_of, touched_room};
 
     /// These places of a pass that has this life. `chain` has room for the feeds that are entered at once at most, and `touched` for the
     /// items that are pushed between two times that the places are settled.
@@ -48,6 +48,7 @@ impl<T: Drop, S: Drop> Stays<T, S> {
         ensures life { life_of result ≡ life }
         ensures chain { chain_of result ≡ [] }
         ensures touched { touched_of result ≡ [] }
+        ensures room { (chain_room result ≡ vec_capacity chain) × (touched_room result ≡ vec_capacity touched) }
     {
         Stays {
             places,

@@ -21,7 +21,7 @@ lent : (g : Over) (c : After-deref_mut g) → Lends c.args.squeue c.deref_mut.re
 lent g c =
     let r = c.requires in
     let l = c.lend.ensures in
-    lends c.args.squeue r.squeue c.args.jobs.items c.lend.new.jobs.items c.deref_mut.result.now c.len-count.result c.args.squeues.all.items c.lend.new.squeues.all.items c.args.passes.items
+    lends c.args.squeue r.squeue c.args.jobs.items c.lend.new.jobs.items c.deref_mut.result.now c.len-count.result c.args.squeues.all.items c.lend.new.squeues.all.items c.args.passes.items c.args.setup.now.setting.places
     (omega (arith, c.len-count.ensures, c.args.jobs.ok)) r.tasks r.jobs.0 l.tasks c.deref_mut.ensures.value r.squeues.0 l.squeues l.handed r.passes.1
 
 -- each job has done its task

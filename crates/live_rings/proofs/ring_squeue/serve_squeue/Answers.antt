@@ -38,10 +38,12 @@ run_to_end-jobs-requires-clause-tasks g c κs within =
     let rings : length c.in-Ok-new_squeue.squeue.given.quotas ≡ c.len-count.result = ap length made.serves.quotas ∙ lives_long c.len-count.result in
     let first = ap (λ r. first_of (origin_of r)) made.first ∙ ap first_of c.in_ok-parts.ensures.origin in
     let counted : c.len-count.result ≡ length c.args.ends.items = omega (arith, c.len-count.ensures, c.args.ends.ok.0) in
-    let tasks = are_tasks c.len-count.result (first_of c.in_ok-chats.chats) c.args.ends.items c.in_ok-chats.rings.items counted c.in_ok-chats.ensures.rings in
-    let here = subst (λ parts. AreNewTasks c.len-count.result parts (tasks_for c.in_ok-chats.rings.items)) (sym first) tasks in
-    let many = subst (λ (n : ℕ). AreNewTasks n (first_of (origin_of c.in-Ok-new_squeue.squeue.given.first)) (tasks_for c.in_ok-chats.rings.items)) (sym rings) here in
-    subst (AreNewTasks (length c.in-Ok-new_squeue.squeue.given.quotas) (first_of (origin_of c.in-Ok-new_squeue.squeue.given.first))) (sym (c.in_ok-jobs.ensures.tasks ∙ c.in_ok-tasks.ensures)) many
+    let own = c.in_ok-own.ensures.set in
+    let tasks = are_tasks c.len-count.result c.in_ok-own.own (first_of c.in_ok-chats.chats) c.args.ends.items c.in_ok-chats.rings.items counted c.in_ok-chats.ensures.rings in
+    let set = subst (λ (n : ℕ). AreNewTasks c.len-count.result n (first_of c.in_ok-chats.chats) (tasks_for c.in_ok-chats.rings.items)) own tasks in
+    let here = subst (λ parts. AreNewTasks c.len-count.result c.args.setup.now.setting.places parts (tasks_for c.in_ok-chats.rings.items)) (sym first) set in
+    let many = subst (λ (n : ℕ). AreNewTasks n c.args.setup.now.setting.places (first_of (origin_of c.in-Ok-new_squeue.squeue.given.first)) (tasks_for c.in_ok-chats.rings.items)) (sym rings) here in
+    subst (AreNewTasks (length c.in-Ok-new_squeue.squeue.given.quotas) c.args.setup.now.setting.places (first_of (origin_of c.in-Ok-new_squeue.squeue.given.first))) (sym (c.in_ok-jobs.ensures.tasks ∙ c.in_ok-tasks.ensures)) many
 
 pub gather-requires-clause-room : goal.gather-requires-clause-room
 gather-requires-clause-room g c =
@@ -50,7 +52,7 @@ gather-requires-clause-room g c =
     let jobs = length-map c.in_ok-jobs.jobs.items (λ j. j.task) in
     let now = length-map c.run_to_end-jobs.result.0.items (λ j. j.task) in
     let front = length-map rings (λ r. Task'.Serve r) in
-    let many = as_many (first_of c.in_ok-chats.chats) c.args.ends.items rings c.in_ok-chats.ensures.rings in (
+    let many = as_many c.in_ok-own.own (first_of c.in_ok-chats.chats) c.args.ends.items rings c.in_ok-chats.ensures.rings in (
       c.in_ok-room.ensures.items,
       omega (arith, c.in_ok-room.ensures.exact, c.len.ensures, c.args.ends.ok.0, jobs, now, c.run_to_end-jobs.ensures.done.many, ap length tasks, length-append (map (λ r. Task'.Serve r) rings) (Task'.Work ∷ []), front, many),
     )

@@ -16,7 +16,7 @@ loop-c-preserved c =
     record {
       pairs = rw (c.push_reserved.ensures.items, c.push_reserved-in-loop-c.ensures.items)
           (pairs_more c.loop-c._c c.loop-c.producers.items c.loop-c.parts.items _ _ i.pairs
-          (new_pair _ _ _ c.in_ok-producer.ensures.pair c.in_ok-producer.ensures.producer.0 c.in_ok-producer.ensures.consumer.0 c.of.ensures.input c.of.ensures.count (c.of.ensures.state ∙ c.new-in-loop-c.ensures)));
+          (new_pair _ _ _ c.in_ok-producer.ensures.pair c.in_ok-producer.ensures.producer.0 c.in_ok-producer.ensures.producer.1 c.in_ok-producer.ensures.consumer.0 c.of.ensures.input c.of.ensures.count (c.of.ensures.state ∙ c.new-in-loop-c.ensures)));
       push_room = omega (arith, i.push_room, c.push_reserved.ensures.capacity);
       pop_room = omega (arith, i.pop_room, c.push_reserved-in-loop-c.ensures.capacity);
     }

@@ -44,7 +44,7 @@ pub returns-clause-serves : goal.returns-clause-serves
 returns-clause-serves g c =
     let r = c.requires in
     let is = given g (goal.at.returns-clause-serves g c).After-deref in
-    IfOk-weaker c.make_bounded.result _ _ (λ made m. serves g.R.Resident.stands g.R.Resident.size g.R.Resident.limits c.args.rings _ (ever c.deref.result.now) c.args.parts made.0.given m r.rings.0 is r.new r.feeds r.leaves) c.make_bounded.ensures.given
+    IfOk-weaker c.make_bounded.result _ _ (λ made m. serves g.R.Resident.stands g.R.Resident.size g.R.Resident.limits c.args.rings _ (ever c.deref.result.now) c.args.parts made.0.given m r.rings.0 (omega (arith, counted g (goal.at.returns-clause-serves g c).After-deref)) is r.new r.feeds r.leaves) c.make_bounded.ensures.given
 
 pub returns-clause-first : goal.returns-clause-first
 returns-clause-first g c = IfOk-weaker c.make_bounded.result _ _ (λ made m. m.its_first) c.make_bounded.ensures.given

@@ -1,4 +1,5 @@
-use Rattle.std.proofs.Common.{◌≡◌, arith, ap, sym, subst, length}
+use Rattle.std.proofs.Common.{◌≡◌, ℕ, ◌<◌, ◌+◌, ◌*◌, ◌/◌, ◌∙◌, arith, ap, sym, subst, length}
+use Rattle.std.proofs.Math.Nat.{lt-mul-div-succ}
 use Rattle.live_rings.specs.Seating.{AreOwnPlaces}
 use Rattle.live_rings.proofs.Owned.{all_taken, one_taken}
 use Rattle.live_rings.proofs.seating.own_stays.Goals as goal
@@ -18,4 +19,15 @@ returns-clause-own c =
     let i = c.loop-c.invariant in
     let last : c.loop-c.c ≡ length c.args.places.now.items = omega (arith, c.loop-c-test.false, c.loop-c.auto, i.counted) in
     let own = all_taken c.args.rings c.args.ring c.loop-c.c c.args.places.now.items c.loop-c.places.items c.loop-c.own.items last i.taken in
-    record { own = subst (AreOwnPlaces c.args.rings c.args.ring c.args.places.now.items) (sym c.of.ensures.places) own; life = (ap (λ l. l.feeds) c.of.ensures.life, ap (λ l. l.asks) c.of.ensures.life); none = (c.of.ensures.chain, c.of.ensures.touched) }
+    let count : ℕ = length c.args.places.now.items in
+    let some : 0 < c.args.rings = omega (arith, c.requires) in
+    let room = c.of.ensures.room.1 ∙ (c.in_ok-touched.ensures.exact ∙ ap (λ (n : ℕ). n / c.args.rings + 1) i.counted) in
+    record {
+      own = subst (AreOwnPlaces c.args.rings c.args.ring c.args.places.now.items) (sym c.of.ensures.places) own;
+      life = (ap (λ l. l.feeds) c.of.ensures.life, ap (λ l. l.asks) c.of.ensures.life);
+      idle = record {
+        none = (c.of.ensures.chain, c.of.ensures.touched);
+        at_once = c.of.ensures.room.0 ∙ c.in_ok-chain.ensures.exact;
+        touched = subst (λ (n : ℕ). count < c.args.rings * n) (sym room) (lt-mul-div-succ count some);
+      };
+    }
