@@ -25,11 +25,12 @@ timed now ticked sv = if nat_le tick_interval (now - ticked) then on_time now sv
 abbrev pub round : ℕ → ℕ → List ℕ → ServerOf → Outcome
 round now ticked body sv = then_sends (timed now ticked sv) (on_datagram now body)
 
--- Where memory was missing: as the time came to all, and then only the connections changed; or behind it, at the segment of the datagram
+-- Where memory was missing: as the time came to all, and then only the connections changed; or behind it, at the segment of the datagram, or
+-- at the answer to an echo request, and then nothing more changed
 abbrev pub LosesAtRound : ℕ → ℕ → List ℕ → ServerOf → ServerOf → Type 0
 LosesAtRound now ticked body before after =
     ((nat_le tick_interval (now - ticked) ≡ true) × LosesOne now before after × (after ≡ record before { conns = after.conns }))
-    ⊎ ((s : Seg) × (packet_in RawIp body true ≡ Segment s) × Costs s (timed now ticked before).server after)
+    ⊎ (((s : Seg) × (packet_in RawIp body true ≡ Segment s) × Costs s (timed now ticked before).server after) ⊎ (after ≡ (timed now ticked before).server))
 
 -- of each datagram a front is written: all of it, or nothing where the device refuses it
 abbrev pub AreFronts : List (List ℕ) → List Datagram → Type 0
