@@ -40,7 +40,7 @@ module _ (S : Setting) (p : ℕ) where
 abbrev pub times : ℕ → List ℕ → ℕ
 times n xs = count_by (λ m. m == n) xs
 
-times_append : (n : ℕ) (xs ys : List ℕ) → times n (xs ++ ys) ≡ times n xs + times n ys
+pub times_append : (n : ℕ) (xs ys : List ℕ) → times n (xs ++ ys) ≡ times n xs + times n ys
 times_append n xs ys = sum_by-append (λ (m : ℕ). cond (m == n) 1 0) xs ys
 
 -- other stays don't matter
@@ -121,7 +121,7 @@ module _ (more : Tuple → ℕ) (t u : Tuple) (other : tuple_eq u t ≡ false) w
   unbegun : more u ≡ heard_with more (begins t ∷ []) u
   unbegun = ap (λ (b : Bool). cond b 0 (more u)) (sym other)
 
-abbrev IsOther : Tuple → Tuple × ℕ → Type 0
+abbrev pub IsOther : Tuple → Tuple × ℕ → Type 0
 IsOther u x = tuple_eq u x.0 ≡ false
 
 turned : (t u : Tuple) → tuple_eq t u ≡ false → tuple_eq u t ≡ false
@@ -187,7 +187,7 @@ begun_ends more t was away = ends_agree more (heard_with more (begins t ∷ []))
 -- ---- from one moment to the next
 module _ (S : Setting) (p : ℕ) where
   -- the stays behind the first moment, where those between are given
-  from_first : (past now grown rest : List Element) (between : List ℕ) → now ≡ past ++ grown → stays_behind S p past grown ≡ between
+  pub from_first : (past now grown rest : List Element) (between : List ℕ) → now ≡ past ++ grown → stays_behind S p past grown ≡ between
       → between ++ stays_behind S p now rest ≡ stays_behind S p past (grown ++ rest)
   from_first past now grown rest between goes_on ended =
       (λ j. sym ended j ++ stays_behind S p (goes_on j) rest) ∙ sym (stays_append S p past grown rest)

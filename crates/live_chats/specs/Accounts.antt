@@ -1,7 +1,8 @@
 -- What a table's pass may say of its connections: how much was pushed for each, and how that goes on with its history.
-use Rattle.std.specs.Prelude.{◌≡◌, ℕ, ◌+◌, false, if◌then◌else◌, Option, None, Some, List, [], ◌∷◌, ◌++◌, map}
+use Rattle.std.specs.Prelude.{◌≡◌, ℕ, ◌+◌, ◌^◌, false, if◌then◌else◌, Option, None, Some, List, [], ◌∷◌, ◌++◌, map}
 use Rattle.std.specs.List.{AllByRecursion}
 use Rattle.sq_base.specs.declared.kinds.Tuple.{Tuple}
+use Rattle.turn_gate.specs.History.{Begins}
 use Rattle.turn_gate.specs.Passes.{number, seen}
 use Rattle.turn_gate.specs.declared.pass.Pass.{Pass}
 use Rattle.perimeter_core.specs.History.{Element, Limits, Setting}
@@ -10,7 +11,7 @@ use Rattle.stream_stays.specs.declared.place.Place.{Place}
 use Rattle.stream_stays.specs.declared.place.Place.TheVariants.{Open}
 use Rattle.stream_stays.specs.declared.place.Stays.{Stays}
 use Rattle.stream_stays.specs.Places.{place_at}
-use Rattle.stream_stays.specs.Staying.{pushed_of}
+use Rattle.stream_stays.specs.Staying.{leaves_of, pushed_of}
 use Rattle.live_server.specs.Table.{tuple_eq}
 use Rattle.live_server.specs.Told.{Told}
 use Rattle.live_server.specs.Told.Told.{begins, hears}
@@ -26,6 +27,18 @@ pushed_in _ = 0
 
 abbrev pub pushed_at : Stays ChatItem ChatOf → ℕ → ℕ
 pushed_at st c = pushed_in (place_at st c)
+
+-- how often the part at a place may still leave the squeue
+abbrev pub leaves_in : Option (Place ChatItem ChatOf) → ℕ
+leaves_in (Some (Open stay)) = leaves_of stay
+leaves_in _ = 0
+
+abbrev pub leaves_at : Stays ChatItem ChatOf → ℕ → ℕ
+leaves_at st c = leaves_in (place_at st c)
+
+-- from so many items on the place of a connection is closed and opened again: while it is open it has fewer than 2^32
+abbrev pub many_feeds : ℕ
+many_feeds = 2 ^ 31
 
 -- the ends of each connection, and how many items were pushed for it
 abbrev pub Accounts : Type 0
@@ -92,3 +105,9 @@ pub record HasEndedStay (S : Setting) (p : ℕ) (past now : List Element) (n : �
   pub goes_on : now ≡ past ++ grown
   pub before : List ℕ
   pub ended : stays_behind S p past grown ≡ before ++ n ∷ []
+
+-- by this such a stay has ended, and then the history went on
+pub record HasRenewedStay (S : Setting) (p : ℕ) (past now : List Element) (n : ℕ) : Type 0 where
+  pub mid : List Element
+  pub ended : HasEndedStay S p past mid n
+  pub goes_on : Begins mid now
