@@ -1,5 +1,5 @@
 -- What a table's pass may say of its connections: how much was pushed for each, and how that goes on with its history.
-use Rattle.std.specs.Prelude.{◌≡◌, ℕ, ◌+◌, ◌^◌, false, if◌then◌else◌, Option, None, Some, List, [], ◌∷◌, ◌++◌, map}
+use Rattle.std.specs.Prelude.{◌≡◌, ℕ, ◌+◌, ◌^◌, false, Option, None, Some, List, [], ◌∷◌, ◌++◌, map}
 use Rattle.std.specs.List.{AllByRecursion}
 use Rattle.sq_base.specs.declared.kinds.Tuple.{Tuple}
 use Rattle.turn_gate.specs.History.{Begins}
@@ -14,9 +14,8 @@ use Rattle.stream_stays.specs.Places.{place_at}
 use Rattle.stream_stays.specs.Staying.{leaves_of, pushed_of}
 use Rattle.live_server.specs.Table.{tuple_eq}
 use Rattle.live_server.specs.Told.{Told}
-use Rattle.live_server.specs.Told.Told.{begins, hears}
 use Rattle.live_chats.specs.Hearing.{ChatOf}
-use Rattle.live_chats.specs.Lived.{AreMadeOf, stays_behind}
+use Rattle.live_chats.specs.Lived.{AreMadeOf, heard_with, lives_with, stays_behind}
 use Rattle.live_chats.specs.declared.item.ChatItem.{ChatItem}
 use Rattle.live_chats.specs.declared.seat.Seat.{Seat}
 
@@ -49,17 +48,6 @@ account_of st e = (e.0, pushed_at st e.1.place)
 
 abbrev pub accounts_of : Stays ChatItem ChatOf → List (Tuple × Seat) → Accounts
 accounts_of st es = map (account_of st) es
-
--- how many frames the connection of these ends hears, where it hears so many more behind this
-abbrev pub heard_with : (Tuple → ℕ) → List Told → Tuple → ℕ
-heard_with more [] t = more t
-heard_with more (begins u ∷ ws) t = if tuple_eq t u then 0 else heard_with more ws t
-heard_with more (hears u ∷ ws) t = if tuple_eq t u then 1 + heard_with more ws t else heard_with more ws t
-
-abbrev pub lives_with : (Tuple → ℕ) → List Told → List ℕ
-lives_with more [] = []
-lives_with more (begins t ∷ ws) = (1 + heard_with more ws t) ∷ lives_with more ws
-lives_with more (hears t ∷ ws) = lives_with more ws
 
 -- nobody has these ends
 abbrev pub IsAway : Tuple → Accounts → Type 0
