@@ -85,9 +85,9 @@ module _ (x : ChatItem) (ends : Tuple) (conn : Option Conn) (sent now_sent : Lis
       }
 
   -- memory was missing
-  pub lost_so : (then : ChatOf) → is_opening x ≡ false → then.ends ≡ ends → to ≡ losing then → Hears old x to
-  lost_so then other same is =
-      let its : to ≡ losing old = is ∙ (λ j. losing (record then { ends = (same ∙ ap (λ (c : ChatOf). c.ends) was) j })) in
+  pub lost_so : (t : Tuple) → is_opening x ≡ false → t ≡ ends → to ≡ record { ends = t; conn = None; sent = []; met = None; lost = true } → Hears old x to
+  lost_so t other same is =
+      let its : to ≡ losing old = is ∙ (λ j. record { ends = (same ∙ ap (λ (c : ChatOf). c.ends) was) j; conn = None; sent = []; met = None; lost = true }) in
       record {
         begins = λ b. absurd (true≢false (sym b ∙ other));
         hears = λ h. absurd (true≢false (ap (λ (c : ChatOf). c.lost) (sym is) ∙ h));

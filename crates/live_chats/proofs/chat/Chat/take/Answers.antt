@@ -1,4 +1,4 @@
-use Rattle.std.proofs.Common.{sym, ◌∙◌}
+use Rattle.std.proofs.Common.{refl, sym, ◌∙◌}
 use Rattle.live_chats.proofs.HearLemmas.{heard_so, lost_so, passed_over}
 use Rattle.live_chats.proofs.chat.Chat.take.Goals as goal
 
