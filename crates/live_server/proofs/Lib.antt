@@ -18,3 +18,4 @@ pub mod PieceLemmas
 pub mod ToldLemmas
 pub mod PromiseLemmas
 pub mod OneLemmas
+pub mod SiteLemmas

@@ -7,8 +7,12 @@ use Rattle.echo_services.specs.Daytime.{daytime}
 use Rattle.echo_services.specs.Discard.{discard}
 use Rattle.echo_services.specs.Echo.{echo}
 use Rattle.live_server.specs.DaytimeText.{daytime_text}
+use Rattle.http_pages.specs.AnswerText.{answer_text}
 use Rattle.http_pages.specs.Pages.{Page}
-use Rattle.page_service.specs.Pump.{pages_protocol, pump}
+use Rattle.http_pages.specs.Reading.{answer_to}
+use Rattle.http_pages.specs.declared.answer.Answer.{Answer}
+use Rattle.page_service.specs.Protocol.{Protocol}
+use Rattle.page_service.specs.Pump.{pump}
 use Rattle.page_service.specs.declared.phase.Phase.TheVariants.{Reads}
 use Rattle.live_server.specs.declared.ports.Ports.{Ports}
 use Rattle.live_server.specs.declared.service.LiveService.{LiveService}
@@ -41,6 +45,10 @@ service_at g now port =
     else if port == g.ports.chargen then Chargen 0
     else if port == g.ports.web then pages_of g.site
     else Discard
+
+-- HTTP as a protocol of requests and answers
+abbrev pub pages_protocol : List Page → Protocol Answer
+pages_protocol pages = record { answers = answer_to pages; text = answer_text pages; keeps = λ a. a.keeps }
 
 -- what a pump makes of a block, by what the service keeps
 unfoldable pub pump_of : LiveService → Block → Block

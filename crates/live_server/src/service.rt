@@ -61,7 +61,7 @@ impl PortService for LiveService {
             LiveService::Web { phase, site } => {
                 let mut behind = Behind {
                     phase: *phase,
-                    answerer: site.pages(),
+                    answerer: site,
                 };
                 behind.pump(tcb, alloc)?;
                 *phase = behind.phase;

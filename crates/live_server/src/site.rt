@@ -2,7 +2,8 @@
 
 ghost use Rattle.std.specs.Prelude.{◌≡◌, IfOk};
 
-use http_pages::Pages;
+use http_pages::{Answer, Pages, answer_to, body_of, head_of};
+use page_service::Answerer;
 use std::alloc::{AllocError, Global};
 use std::marker::Model;
 use std::sync::Arc;
@@ -40,13 +41,37 @@ impl Site {
         let pages = Arc::try_clone(&self.pages)?;
         Ok(Site { pages })
     }
+}
 
-    /// The pages.
-    pub fn pages(&self) -> &Pages
-        ensures { result.now ≡ self.now }
-    {
-        &self.pages
+impl Answerer for Site {
+    ghost use Rattle.http_pages.specs.AnswerText.{answer_body};
+    ghost use Rattle.live_server.specs.Services.{pages_protocol};
+    ghost use Rattle.live_server.proofs.SiteLemmas.{is_protocol};
+
+    type Answer = Answer;
+
+    ghost protocol = { pages_protocol };
+
+    ghost behind_head = { answer_body };
+
+    fn answer(&self, at: u64, bytes: &[u8]) -> Option<(Answer, usize)> {
+        answer_to(&self.pages, at, bytes)
     }
+
+    fn keeps(&self, answer: Answer) -> bool {
+        answer.keeps
+    }
+
+    #[tactic(auto, unfolding(http_pages::specs::AnswerText::answer_text))]
+    fn head(&self, alloc: Global, answer: Answer) -> Result<Vec<u8>, AllocError> {
+        head_of(alloc, &self.pages, answer)
+    }
+
+    fn body(&self, answer: Answer) -> &[u8] {
+        body_of(&self.pages, answer)
+    }
+
+    ghost sound = { is_protocol };
 }
 
 /// The same pages, where there are any.
