@@ -1,9 +1,13 @@
--- What is read from bytes fits its fields.
-use Rattle.std.proofs.Common.{◌≡◌, ℕ, inl, inr, ◌+◌, ◌-◌, ◌<◌, ◌≤◌, List, length, length-drop, drop, take, Some, true, arith, subst, ◌&&◌}
-use Rattle.std.specs.Prelude.{All}
-use Rattle.std.proofs.lemmas.Bool.{and_parts, leb-true, cases_lt}
+-- What is read from bytes fits its fields, and is no segment.
+use Rattle.std.proofs.Common.{◌≡◌, ℕ, inl, inr, ◌+◌, ◌-◌, ◌<◌, ◌≤◌, List, length, length-drop, drop, take, Some, Bool, true, false, arith, subst, eqb, ltb, ◌&&◌}
+use Rattle.std.specs.Prelude.{All, bit_and}
+use Rattle.std.proofs.lemmas.Bool.{and_parts, leb-true, eqb-true, cases_lt}
+use Rattle.std.proofs.lemmas.Bool.Decides.{nat_tests}
 use Rattle.std.proofs.lemmas.List.{length-take-le, get_or_past}
 use Rattle.std.proofs.lemmas.Option.{cond_some}
+use Rattle.sq_base.specs.declared.kinds.Link.TheVariants.{RawIp}
+use Rattle.segment_codec.specs.Packet.{packet_in, ip_place, datagram}
+use Rattle.segment_codec.specs.declared.packet.Packet.TheVariants as packet
 use Rattle.segment_codec.specs.Places.{byte, word, long}
 use Rattle.icmp_codec.specs.EchoRequest.{PingOf, is_icmp, message_of, is_echo, message_in, echo_in, ping_in}
 use Rattle.icmp_codec.specs.Answered.{IsReadFrom}
@@ -51,3 +55,26 @@ read_from ip p small e =
     let found = cond_some (is_icmp ip && is_echo 8 (message_of ip)) (message_in ip) p e in
     let n = named ip (and_parts _ _ found.0).0 in
     subst (λ (q : PingOf). IsReadFrom ip q) found.1 (fits_of ip small n.0 n.1)
+
+-- the datagram of a request, to the reader of segments
+other_protocol : (verify : Bool) (ip : List ℕ) → 28 ≤ word ip 2 → word ip 2 ≤ length ip → byte ip 0 ≡ 69 → eqb (bit_and (word ip 6) 0x3fff) 0 ≡ true → byte ip 9 ≡ 1
+    → packet_in RawIp ip verify ≡ packet.Other
+unfolding packet_in ip_place datagram
+other_protocol verify ip least whole first flags proto =
+    let t1 : ltb 0 (length ip) ≡ true = grind (arith, nat_tests) in
+    let t2 : eqb (length ip) 0 ≡ false = grind (arith, nat_tests) in
+    let t3 : ltb (length ip) 20 ≡ false = grind (arith, nat_tests) in
+    let t4 : ltb (word ip 2) 20 ≡ false = grind (arith, nat_tests) in
+    let t5 : eqb (word ip 2) 0 ≡ false = grind (arith, nat_tests) in
+    simp (first, t1, t2, t3, t4, t5, flags, proto)
+
+pub no_segment : (ip : List ℕ) (p : PingOf) (verify : Bool) → ping_in ip ≡ Some p → packet_in RawIp ip verify ≡ packet.Other
+unfolding echo_in is_icmp
+no_segment ip p verify e =
+    let found = cond_some (is_icmp ip && is_echo 8 (message_of ip)) (message_in ip) p e in
+    let icmp = (and_parts _ _ found.0).0 in
+    let n = named ip icmp in
+    let first = and_parts _ _ (and_parts _ _ icmp).1 in
+    let flags = and_parts _ _ (and_parts _ _ (and_parts _ _ first.1).1).1 in
+    let proto = and_parts _ _ flags.1 in
+    other_protocol verify ip n.0 n.1 (eqb-true _ _ first.0) flags.0 (eqb-true _ _ proto.0)

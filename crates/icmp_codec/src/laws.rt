@@ -1,6 +1,9 @@
 //! A request is answered in its own length, and its reply is read as one, and as nothing else.
 
-ghost use Rattle.std.specs.Prelude.{◌≡◌, ◌<◌, ℕ, List, All, Some};
+ghost use Rattle.std.specs.Prelude.{◌≡◌, ◌<◌, ℕ, Bool, List, All, Some};
+ghost use Rattle.sq_base.specs.declared.kinds.Link.TheVariants.{RawIp};
+ghost use Rattle.segment_codec.specs.Packet.{packet_in};
+ghost use Rattle.segment_codec.specs.declared.packet.Packet.TheVariants as packet;
 ghost use Rattle.icmp_codec.specs.Answered.{Fits, IsReadFrom, ReadsAsReply, IsNoRequest};
 ghost use Rattle.icmp_codec.specs.EchoRequest.{PingOf, ping_in};
 ghost use Rattle.icmp_codec.specs.EchoReply.{pong_bytes};
@@ -8,6 +11,11 @@ ghost use Rattle.icmp_codec.specs.EchoReply.{pong_bytes};
 /// A request that was read from bytes has numbers that fit their fields, and its reply is as long as its datagram was.
 pub fn a_request_fits()
     ensures { (ip : List ℕ) (ping : PingOf) → All (λ b. b < 256) ip → ping_in ip ≡ Some ping → IsReadFrom ip ping }
+{}
+
+/// What is read as a request is another protocol than TCP to `segment_codec`'s reader, with or without its checksums verified.
+pub fn a_request_is_no_segment()
+    ensures { (ip : List ℕ) (ping : PingOf) (verify : Bool) → ping_in ip ≡ Some ping → packet_in RawIp ip verify ≡ packet.Other }
 {}
 
 /// The bytes of a reply are read as an echo reply, with the request's ends exchanged and its rest as it came.
