@@ -57,11 +57,7 @@ pub(crate) fn is_served_at(ports: &Ports, port: u16) -> bool
 
 /// The service of a port that is served, for a connection that begins at this time. Where no pages are given, the port of pages has
 /// discard. An error says that memory was missing.
-pub fn service_at(
-    setting: &Setting,
-    now: u64,
-    port: u16,
-) -> Result<LiveService, AllocError>
+pub fn service_at(setting: &Setting, now: u64, port: u16) -> Result<LiveService, AllocError>
     ensures { IfOk result (λ s. s ≡ service_at setting.now now port) }
 {
     let ports = &setting.ports;

@@ -16,9 +16,13 @@ pub enum LiveService {
     /// What was received is thrown away (RFC 863).
     Discard,
     /// The time at which the connection began, in microseconds since 1970, is told as a line in UTC, and then our FIN is sent (RFC 867).
-    Daytime { begun: u64 },
+    Daytime {
+        begun: u64,
+    },
     /// A pattern is sent, of which so many bytes were given (RFC 864).
-    Chargen { given: u16 },
+    Chargen {
+        given: u16,
+    },
     /// Requests for pages are answered (RFC 9112).
     Web {
         /// How far it has come.
