@@ -4,6 +4,7 @@ use Rattle.std.specs.List.{AllByRecursion, flat_map, sum, sum_by, swap}
 use Rattle.std.specs.List.Sorted.{IsPermutation, SwapsInRange, apply_swaps}
 use Rattle.std.proofs.lemmas.Bool.Decides.{eqb_tells}
 use Rattle.std.proofs.lemmas.List.Elements.{All-from_recursion, recursion_from_All}
+use Rattle.std.proofs.lemmas.List.Sums.{sum_by-cons}
 use Rattle.std.proofs.lemmas.List.Sorted.{All-permutation, IsPermutation-append_left, IsPermutation-map, IsPermutation-refl, IsPermutation-sym, sum_by-IsPermutation}
 use Rattle.indexmap.proofs.ReorderLemmas.{map-swap}
 use Rattle.sq_base.specs.declared.kinds.Tuple.{Tuple}
@@ -41,7 +42,7 @@ in_order groups numbers h = (
 
 times_all : (n : ℕ) (gs : List (List ℕ)) → times n (flat_map (λ (g : List ℕ). g) gs) ≡ sum_by (times n) gs
 times_all n [] = refl
-times_all n (g ∷ gs) = times_append n g (flat_map (λ (h : List ℕ). h) gs) ∙ ap (λ (m : ℕ). times n g + m) (times_all n gs)
+times_all n (g ∷ gs) = times_append n g (flat_map (λ (h : List ℕ). h) gs) ∙ ap (λ (m : ℕ). times n g + m) (times_all n gs) ∙ sym (sum_by-cons (times n) g gs)
 
 -- a stay that ended is of the same life as the next one
 longer : (before stays numbers : List ℕ) (n m : ℕ) → AreMadeOf stays (m ∷ numbers) → AreMadeOf ((before ++ n ∷ []) ++ stays) ((n + m) ∷ numbers)
@@ -55,7 +56,8 @@ longer before stays numbers n m made = let h = in_order made.groups (m ∷ numbe
     by (g ∷ gs) moved sums =
         let first : sum g ≡ m = cc in
         let rest : map sum gs ≡ numbers = cc in
-        let its : sum (n ∷ g) ≡ n + m = omega (arith, first) in
+        let more : sum (n ∷ g) ≡ n + sum g = sum_by-cons (λ (k : ℕ). k) n g in
+        let its : sum (n ∷ g) ≡ n + m = omega (arith, first, more) in
         record {
           groups = (n ∷ g) ∷ gs;
           sums = subst (λ (l : List ℕ). IsPermutation (sum (n ∷ g) ∷ map sum gs) l) (λ j. its j ∷ rest j) (IsPermutation-refl (sum (n ∷ g) ∷ map sum gs));
@@ -65,9 +67,11 @@ longer before stays numbers n m made = let h = in_order made.groups (m ∷ numbe
               let same = sum_by-IsPermutation (times k) made.groups (g ∷ gs) moved in
               let one = times_append k (n ∷ []) g in
               let mine = times_all k ((n ∷ g) ∷ gs) in
+              let with_it = sum_by-cons (times k) (n ∷ g) gs in
+              let without_it = sum_by-cons (times k) g gs in
               let all = times_append k (before ++ n ∷ []) stays in
               let last = times_append k before (n ∷ []) in
-              omega (arith, fits, was, same, one, mine, all, last);
+              omega (arith, fits, was, same, one, mine, with_it, without_it, all, last);
         }
 
 -- ---- from one moment to the next
@@ -90,8 +94,10 @@ module _ (S : Setting) (p : ℕ) where
         IsPermutation-append_left others ((n + more t) ∷ in_the_end more left) (in_the_end more was)
         (IsPermutation-map ends ((t, n) ∷ left) was (IsPermutation-sym was ((t, n) ∷ left) moved)) in
         let one = longer ended.before (stays_behind S p now rest) (in_the_end more left ++ others) n (0 + more t) (in_other_order _ _ _ here made) in
+        let nothing : n + (0 + more t) ≡ n + more t = omega arith in
+        let both = subst (λ (k : ℕ). AreMadeOf ((ended.before ++ n ∷ []) ++ stays_behind S p now rest) (k ∷ (in_the_end more left ++ others))) nothing one in
         subst (λ (l : List ℕ). AreMadeOf l (in_the_end more was ++ others)) (from_first S p past now ended.grown rest (ended.before ++ n ∷ []) ended.goes_on ended.ended)
-        (in_other_order _ _ _ back one);
+        (in_other_order _ _ _ back both);
   }
 
   renewed_told : (past now : List Element) (was is left : Accounts) (t : Tuple) (n : ℕ) → IsPermutation was ((t, n) ∷ left) → IsPermutation is ((t, 0) ∷ left)
