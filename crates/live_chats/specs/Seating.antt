@@ -105,7 +105,7 @@ pub record MetAt (x : ChatItem) (t : Tuple) (d : Conn) (i : ℕ) (m : Met) (was 
 -- who of them is to leave
 abbrev pub goes : Who → Facts → Bool
 goes Over f = is_over_by f
-goes (Due setting now taken) f = is_leaving_by setting now taken f
+goes (Due setting now taken) f = is_leaving_by setting.now now taken f
 
 -- what a time leaves where memory was missing: some connections are gone, and to some of the others the time didn't come
 abbrev pub Spoils : ℕ → Conns → Conns → Type 0

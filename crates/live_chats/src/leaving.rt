@@ -63,7 +63,7 @@ pub(crate) fn drop_leaving<H: Wait + Drop, W: Wait>(
 {
     let taken = seats.len();
     let who = Who::Due {
-        setting: *setting,
+        setting,
         now,
         taken,
     };
@@ -78,7 +78,7 @@ fn drop_who<H: Wait + Drop, W: Wait>(
     stays: &mut Stays<ChatItem, Chat>,
     seats: &mut Table,
     free: &mut VecDeque<u32>,
-    who: &Who,
+    who: &Who<'_>,
 ) -> Pass
     requires { HasSeats limits_of line.now.squeue.now (origin_of line.now.squeue.now.given.first) pass stays.old seats.old.entries }
     ensures seats { HasSeats limits_of line.now.squeue.now (origin_of line.now.squeue.now.given.first) result stays.new seats.new.entries }
@@ -99,7 +99,7 @@ fn close_all<H: Wait + Drop, W: Wait>(
     stays: &mut Stays<ChatItem, Chat>,
     seats: &Table,
     free: &mut VecDeque<u32>,
-    who: &Who,
+    who: &Who<'_>,
 ) -> Pass
     requires { HasSeats limits_of line.now.squeue.now (origin_of line.now.squeue.now.given.first) pass stays.old seats.now.entries }
     ensures seats { HasSeats limits_of line.now.squeue.now (origin_of line.now.squeue.now.given.first) result stays.new
@@ -125,7 +125,7 @@ fn close_one<H: Wait + Drop, W: Wait>(
     pass: Pass,
     stays: &mut Stays<ChatItem, Chat>,
     free: &mut VecDeque<u32>,
-    who: &Who,
+    who: &Who<'_>,
     seat: Seat,
 ) -> Pass
     requires settled { IsSettled limits_of line.now.squeue.now (origin_of line.now.squeue.now.given.first) pass stays.old }

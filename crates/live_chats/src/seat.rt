@@ -14,16 +14,16 @@ pub struct Seat {
 
 /// Who is to leave: who is over, or who is to leave at a tick where so many places are taken.
 #[derive(Clone, Copy)]
-pub enum Who {
+pub enum Who<'a> {
     Over,
     Due {
-        setting: Setting,
+        setting: &'a Setting,
         now: u64,
         taken: usize,
     },
 }
 
-impl Who {
+impl Who<'_> {
     /// Whether a connection with these facts is to leave.
     pub fn goes(&self, facts: &Facts) -> bool
         ensures { result ≡ goes self.now facts.now }

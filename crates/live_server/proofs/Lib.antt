@@ -18,4 +18,3 @@ pub mod PieceLemmas
 pub mod ToldLemmas
 pub mod PromiseLemmas
 pub mod OneLemmas
-pub mod SiteLemmas

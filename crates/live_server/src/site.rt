@@ -46,7 +46,8 @@ impl Site {
 impl Answerer for Site {
     ghost use Rattle.http_pages.specs.AnswerText.{answer_body};
     ghost use Rattle.live_server.specs.Services.{pages_protocol};
-    ghost use Rattle.live_server.proofs.SiteLemmas.{is_protocol};
+    ghost use Rattle.std.specs.Prelude.{take};
+    ghost use Rattle.http_pages.proofs.Standing.{answer_to-alone, answer_to-append, answer_to-count, answer_text-length};
 
     type Answer = Answer;
 
@@ -71,7 +72,12 @@ impl Answerer for Site {
         body_of(&self.pages, answer)
     }
 
-    ghost sound = { is_protocol };
+    // HTTP is a protocol: a request is known by its own bytes, and each answer has some.
+    ghost sound = { λ pages. record {
+      counted = λ at bytes found e. (answer_to-count pages at bytes found e).1;
+      alone = λ at bytes more found e. answer_to-append pages at (take found.1 bytes) more found (answer_to-alone pages at bytes found e);
+      long = answer_text-length pages;
+    } };
 }
 
 /// The same pages, where there are any.
