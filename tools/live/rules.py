@@ -196,8 +196,8 @@ def zero_window(program):
         client = Client(server, window=0)
         assert [s.text for s in client.send(b"text")] == [b""]
         for k in range(100):
-            probe, = server.step(after=(SECOND if k == 0 else 64 * SECOND))
-            assert (probe.seq, probe.text) == (client.ack, b"t"), probe
+            probes = server.step(after=(SECOND if k == 0 else 64 * SECOND))
+            assert {(probe.seq, probe.text) for probe in probes} == {(client.ack, b"t")}, probes
             assert server.step(client.segment(client.seq, client.ack, ACK)) == []
         sent = server.step(client.segment(client.seq, client.ack, ACK, window=64240))
         told = bytearray(4)

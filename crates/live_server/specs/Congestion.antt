@@ -71,10 +71,11 @@ is_open b = not (is_listen b.state || is_syn_received b.state)
 unfoldable pub is_fresh : Seg → Block → Bool
 is_fresh s b = has s.flags ack && (is_open b && (nat_lt 0 (dist b.una s.ack) && nat_le (dist b.una s.ack) (flight b)))
 
+-- the answer to a probe of a window that is 0 tells no loss (RFC 9293, 3.8.6.1)
 unfoldable pub is_duplicate : Seg → List ℕ → Block → Congestion → Bool
 is_duplicate s text b x =
     if has s.flags syn || (has s.flags fin || has s.flags rst) then false
-    else has s.flags ack && (is_open b && ((s.ack == b.una) && (nat_lt 0 (flight b) && ((length text == 0) && (s.wnd == x.field)))))
+    else has s.flags ack && (is_open b && ((s.ack == b.una) && (nat_lt 0 (flight b) && ((length text == 0) && ((s.wnd == x.field) && not (s.wnd == 0))))))
 
 -- what a segment makes of it
 unfoldable pub eased : Seg → List ℕ → Block → Congestion → Congestion

@@ -203,6 +203,7 @@ impl Congestion {
             && flight(tcb) > 0
             && text.is_empty()
             && seg.wnd == self.field
+            && seg.wnd != 0
     }
 }
 
