@@ -8,7 +8,7 @@ abbrev pub is_line_feed : ℕ → Bool
 is_line_feed b = b == line_feed
 
 -- a line ends in CR LF, or in LF alone (2.2): what stands before its LF, without a CR behind it
-abbrev pub without_cr : List ℕ → List ℕ
+unfoldable pub without_cr : List ℕ → List ℕ
 without_cr line = if slice_index line (length line - 1) == carriage_return then take (length line - 1) line else line
 
 abbrev pub is_filled : List ℕ → Bool

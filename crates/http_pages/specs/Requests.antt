@@ -1,5 +1,5 @@
 -- What a request's head says (RFC 9112, 3 and 5 to 7), and what of it is refused whatever it asks for.
-use Rattle.std.specs.Prelude.{ℕ, ◌==◌, nat_lt, Bool, true, false, not, ◌&&◌, ◌||◌, if◌then◌else◌, List, [], ◌∷◌, map, length, take, drop, codes, bytes_eq, slice_index, Option, None, Some, Result, Ok, Err}
+use Rattle.std.specs.Prelude.{ℕ, ◌+◌, ◌==◌, nat_lt, Bool, true, false, not, ◌&&◌, ◌||◌, if◌then◌else◌, List, [], ◌∷◌, map, length, take, drop, codes, bytes_eq, slice_index, Option, None, Some, Result, Ok, Err}
 use Rattle.std.specs.List.{list_all, list_any, before_first, after_first, filter, slice_split}
 use Rattle.std.specs.Char.{is_ascii_alphanumeric, is_ascii_digit}
 use Rattle.httparse.specs.Ascii.{space, colon, comma, digit_zero}
@@ -69,8 +69,8 @@ abbrev pub header_of : List ℕ → Header
 header_of line = (name_of line, value_of line)
 
 -- what the field lines say of host, content and connection
-abbrev pub known : List (List ℕ) → KnownFields
-known fields = known_fields (map header_of fields)
+abbrev pub known_of : List (List ℕ) → KnownFields
+known_of fields = known_fields (map header_of fields)
 
 -- the elements of a list value, but for empty ones (RFC 9110, 5.6.1)
 unfoldable pub list_elements : List ℕ → List (List ℕ)
@@ -94,7 +94,7 @@ has_host_bytes line = not (eq_ignore_case (name_of line) (codes "host")) || list
 -- one Host field with 1.1, at most one with 1.0, and only hosts in it (RFC 9112, 3.2)
 abbrev pub has_host : ℕ → List (List ℕ) → Bool
 has_host minor fields =
-    ((known fields).hosts == 1 || ((minor == 0) && ((known fields).hosts == 0))) && list_all has_host_bytes fields
+    ((known_of fields).hosts == 1 || ((minor == 0) && ((known_of fields).hosts == 0))) && list_all has_host_bytes fields
 
 -- content comes behind the head (RFC 9112, 6)
 abbrev pub is_content : Framing → Bool
@@ -112,7 +112,7 @@ has_content_by (Ok framing) = is_content framing
 has_content_by (Err e) = true
 
 abbrev pub framing_of : List ℕ → List (List ℕ) → Result Framing FramingError
-framing_of line fields = request_framing (method_kind (method_of line)) (minor_of (version_of line)) (known fields)
+framing_of line fields = request_framing (method_kind (method_of line)) (minor_of (version_of line)) (known_of fields)
 
 abbrev pub has_content : List ℕ → List (List ℕ) → Bool
 has_content line fields = has_content_by (framing_of line fields)
@@ -125,11 +125,11 @@ fault_of line fields =
     if not (is_request_line line) then Some BadRequest
     else (if not (is_major_one (version_of line)) then Some VersionNotSupported
     else (if not (list_all is_field_line fields && has_host (minor_of (version_of line)) fields) then Some BadRequest
-    else framing_fault (known fields).other_coding (framing_of line fields)))
+    else framing_fault (known_of fields).other_coding (framing_of line fields)))
 
 -- the connection stays behind this request (RFC 9112, 9.3): by default with 1.1, by `keep-alive` with 1.0; not with `close`, and not
 -- where content follows, since it is not read
 abbrev pub keeps : List ℕ → List (List ℕ) → Bool
 keeps line fields =
-    not (known fields).close && (not (has_content line fields)
-    && (not (minor_of (version_of line) == 0) || (known fields).keep_alive))
+    not (known_of fields).close && (not (has_content line fields)
+    && (not (minor_of (version_of line) == 0) || (known_of fields).keep_alive))

@@ -1,13 +1,14 @@
 //! Where a request's head begins and ends.
 
-ghost use Rattle.std.specs.Prelude.{◌≡◌, ◌+◌, ◌<◌, ◌≤◌, Bor, IfSome, length, option_map};
+ghost use Rattle.std.specs.Prelude.{◌≡◌, ◌<◌, ◌≤◌, IfSome, length};
+ghost use Rattle.std.specs.Option.{option_copied};
 ghost use Rattle.http_pages.specs.Heads.{begins_badly, behind_empty_line, behind_head, from_request_line, head_length};
 
 use httparse::is_method_token;
 
 /// What stands behind an empty line at the front.
 fn behind_empty_line(bytes: &[u8]) -> Option<&[u8]>
-    ensures is { option_map (λ r. r.now) result ≡ behind_empty_line bytes.now }
+    ensures is { option_copied result ≡ behind_empty_line bytes.now }
     ensures less { IfSome result (λ r. length r.now < length bytes.now) }
 {
     match bytes {
@@ -18,6 +19,7 @@ fn behind_empty_line(bytes: &[u8]) -> Option<&[u8]>
 }
 
 /// What came, from the request line on.
+#[tactic(auto, using(crate::proofs::HeadLemmas::empty_skipped, crate::proofs::HeadLemmas::full_stays))]
 pub fn from_request_line(mut bytes: &[u8]) -> &[u8]
     ensures is { result.now ≡ from_request_line bytes.now }
     ensures less { length result.now ≤ length bytes.now }
@@ -29,8 +31,9 @@ pub fn from_request_line(mut bytes: &[u8]) -> &[u8]
 }
 
 /// What stands behind the first empty line, from within a line on.
+#[tactic(auto, unfolding(crate::specs::Heads::behind_head))]
 fn behind_head(mut bytes: &[u8]) -> Option<&[u8]>
-    ensures is { option_map (λ r. r.now) result ≡ behind_head bytes.now }
+    ensures is { option_copied result ≡ behind_head bytes.now }
     ensures less { IfSome result (λ r. length r.now < length bytes.now) }
 {
     while let [first, rest @ ..] = bytes {

@@ -5,9 +5,7 @@
 #![tactic(auto)]
 
 mod answer;
-mod choosing;
 mod cuts;
-mod dates;
 mod heads;
 mod laws;
 mod pages;

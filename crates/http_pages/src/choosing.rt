@@ -1,1 +1,0 @@
-//! Which answer a request gets.

@@ -1,1 +1,0 @@
-//! The date of an answer.
