@@ -1,13 +1,12 @@
 -- The answer to a request (RFC 9110, 9.1, 9.3, 13 and 15).
-use Rattle.std.specs.Prelude.{ℕ, ◌+◌, ◌==◌, Bool, true, false, not, ◌&&◌, ◌||◌, if◌then◌else◌, List, [], ◌∷◌, ◌++◌, length, take, drop, map, codes, bytes_eq, slice_index, slice_index_or, Option, None, Some}
+use Rattle.std.specs.Prelude.{ℕ, ◌==◌, nat_le, nat_lt, Bool, true, false, not, ◌&&◌, ◌||◌, if◌then◌else◌, List, [], ◌∷◌, length, take, drop, codes, bytes_eq, slice_index, slice_index_or, Option, None, Some}
 use Rattle.std.specs.List.{list_any, before_first, position_or_len}
-use Rattle.std.specs.Char.{to_ascii_lowercase}
 use Rattle.http_pages.specs.declared.answer.Status.{Status}
 use Rattle.http_pages.specs.declared.answer.Status.TheVariants as s
 use Rattle.http_pages.specs.declared.answer.Answer.{Answer}
 use Rattle.http1.specs.Text.{eq_ignore_case}
 use Rattle.http_pages.specs.Pages.{Page, page_named, folder_named}
-use Rattle.http_pages.specs.Heads.{lines, is_filled}
+use Rattle.http_pages.specs.Heads.{lines}
 use Rattle.http_pages.specs.Requests.{method_of, target_of, version_of, minor_of, fault_of, has_content, keeps, has_element, has_field}
 
 abbrev pub is_slash : ℕ → Bool
@@ -18,10 +17,10 @@ is_question b = b == 63
 
 -- from the first slash on, or a slash where there is none
 abbrev pub from_slash : List ℕ → List ℕ
-from_slash rest = if list_any is_slash rest then drop (position_or_len is_slash rest) rest else 47 ∷ []
+from_slash rest = let n = position_or_len is_slash rest in if nat_lt n (length rest) then drop n rest else 47 ∷ []
 
 abbrev pub has_scheme : List ℕ → Bool
-has_scheme target = eq_ignore_case (take 7 target) (codes "http://")
+has_scheme target = nat_le 7 (length target) && eq_ignore_case (take 7 target) (codes "http://")
 
 -- the path of a target, without its query: of the origin form (RFC 9112, 3.2.1), and of the absolute form (3.2.2), whose authority
 -- nobody looks at, since there is one site
@@ -34,7 +33,7 @@ path_of target =
 abbrev pub is_same : Bool → List ℕ → List ℕ → Bool
 is_same weak tag element =
     (bytes_eq element tag || bytes_eq element (codes "*"))
-    || (weak && (bytes_eq (take 2 element) (codes "W/") && bytes_eq (drop 2 element) tag))
+    || (weak && (nat_le 2 (length element) && (bytes_eq (take 2 element) (codes "W/") && bytes_eq (drop 2 element) tag)))
 
 -- If-Match (13.1.1): what is changed elsewhere isn't wanted
 abbrev pub is_matched : List ℕ → List (List ℕ) → Bool

@@ -1,5 +1,5 @@
 -- How pages stand in their pack.
-use Rattle.std.specs.Prelude.{ℕ, ◌≤◌, List, slice_range}
+use Rattle.std.specs.Prelude.{ℕ, ◌≤◌, List, map, drop, slice_range}
 use Rattle.http_pages.specs.declared.pages.Place.{Place}
 use Rattle.http_pages.specs.declared.pages.PagePlaces.{PagePlaces}
 use Rattle.http_pages.specs.Pages.{Page}
@@ -11,6 +11,16 @@ abbrev pub page_of : List ℕ → PagePlaces → Page
 page_of pack p = record {
   path = bytes_at pack p.path; kind = bytes_at pack p.kind; tag = bytes_at pack p.tag; body = bytes_at pack p.body;
 }
+
+-- a part, and what stands behind it
+abbrev pub part_with : List ℕ → Place → List ℕ × List ℕ
+part_with pack p = (bytes_at pack p, drop p.to pack)
+
+abbrev pub page_with_rest : List ℕ → PagePlaces → Page × List ℕ
+page_with_rest pack p = (page_of pack p, drop p.body.to pack)
+
+abbrev pub pages_at : List ℕ → List PagePlaces → List Page
+pages_at pack places = map (page_of pack) places
 
 abbrev pub IsWithin : ℕ → Place → Type 0
 IsWithin n p = (p.from ≤ p.to) × (p.to ≤ n)

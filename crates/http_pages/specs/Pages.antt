@@ -58,9 +58,11 @@ is_tag tag =
     (nat_le 2 (length tag) && nat_le (length tag) most_word)
     && (((slice_index tag 0 == 34) && (slice_index tag (length tag - 1) == 34)) && list_all is_tag_byte tag)
 
+abbrev pub is_path : List ℕ → Bool
+is_path path = (slice_index path 0 == 47) && nat_le (length path) most_path
+
 abbrev pub is_page : Page → Bool
-is_page page =
-    ((slice_index page.path 0 == 47) && nat_le (length page.path) most_path) && (is_kind page.kind && is_tag page.tag)
+is_page page = is_path page.path && (is_kind page.kind && is_tag page.tag)
 
 abbrev pub is_at : List ℕ → Page → Bool
 is_at path page = bytes_eq page.path path
@@ -81,10 +83,14 @@ pages_of pack = if nat_le (length pack) most_pack then option_and_then if_good (
 unfoldable pub page_at : List Page → List ℕ → Option ℕ
 page_at pages path = position_from (is_at path) 0 pages
 
--- which page an escaped path names (RFC 3986, 2.1 and 6.2.2.2): the path without its escapes is compared byte for byte
-abbrev pub page_named : List Page → List ℕ → Option ℕ
-page_named pages path = page_at pages (percent_decode path)
+-- which page has the path that an escaped one stands for (RFC 3986, 2.1), with this end: the path without its escapes is compared byte for
+-- byte, so no dots lead anywhere
+abbrev pub page_with : List Page → List ℕ → List ℕ → Option ℕ
+page_with pages path end = page_at pages (percent_decode path ++ end)
 
--- which page is the index of the folder that the path names, where its slash is missing
+-- a page itself, or the index of a folder, where the slash behind its name is missing
+abbrev pub page_named : List Page → List ℕ → Option ℕ
+page_named pages path = page_with pages path []
+
 abbrev pub folder_named : List Page → List ℕ → Option ℕ
-folder_named pages path = page_at pages (percent_decode path ++ 47 ∷ [])
+folder_named pages path = page_with pages path (47 ∷ [])

@@ -9,7 +9,7 @@ ghost use Rattle.http_pages.specs.Requests.{list_elements};
 use httparse::is_space_or_tab;
 
 /// Where the first byte of this value stands.
-fn place_of(bytes: &[u8], at: u8) -> Option<usize>
+pub fn place_of(bytes: &[u8], at: u8) -> Option<usize>
     ensures { MatchOption result
         ((k : ℕ) → k < length bytes.now → slice_index bytes.now k ≢ at)
         (λ n. (n < length bytes.now) × (slice_index bytes.now n ≡ at) × ((k : ℕ) → k < n → slice_index bytes.now k ≢ at)) }

@@ -5,6 +5,7 @@
 #![tactic(auto)]
 
 mod answer;
+mod choosing;
 mod cuts;
 mod heads;
 mod laws;
