@@ -1,3 +1,4 @@
 pub mod Pieces
 pub mod HeadLemmas
 pub mod PackLemmas
+pub mod DateLemmas

@@ -1,12 +1,13 @@
 -- A text in its pieces: the first one and the rest.
 use Rattle.std.proofs.Common.{◌≡◌, ◌≢◌, ◌∙◌, ℕ, ◌+◌, ◌<◌, ◌≤◌, ◌⊎◌, inl, inr, Bool, true, false, nat_lt, List, [], ◌∷◌, get_or, length, take, drop, map, refl, sym, ap, cond, arith, length-drop}
-use Rattle.std.proofs.lemmas.Bool.{cases_order, ne_eqb}
+use Rattle.std.proofs.lemmas.Bool.{cases_order, le-ltb, lt-ltb, ne_eqb}
 use Rattle.std.proofs.lemmas.List.{take_all, drop_all}
 use Rattle.std.proofs.lemmas.List.Sums.{position_or_len_is, fails_before_first}
 use Rattle.std.proofs.lemmas.List.Splits.{slice_split_first, slice_split_none}
 use Rattle.std.specs.Prelude.{◌==◌, slice_index}
 use Rattle.std.specs.List.{filter, slice_split, before_first, after_first, position_or_len}
 use Rattle.httparse.specs.Grammar.{trim_ows}
+use Rattle.http_pages.specs.Choosing.{from_slash, is_slash}
 use Rattle.http_pages.specs.Heads.{is_filled, is_line_feed, lines, without_cr}
 use Rattle.http_pages.specs.Requests.{is_comma, list_elements}
 
@@ -84,3 +85,14 @@ pub elements_skip : (bytes element rest : List ℕ) → element ≡ trim_ows (be
 unfolding list_elements trim_ows
 elements_skip bytes element rest is behind none =
     pieces-step trim_ows is_comma bytes refl ∙ rw (← is, ← behind, empty element none) refl
+
+-- from the first slash on
+pub slash_found : (rest : List ℕ) (n : ℕ) → position_or_len is_slash rest ≡ n → n < length rest → from_slash rest ≡ drop n rest
+slash_found rest n at within =
+    let yes : nat_lt n (length rest) ≡ true = lt-ltb n (length rest) within in
+    rw (at, yes) refl
+
+pub slash_missed : (rest : List ℕ) → position_or_len is_slash rest ≡ length rest → from_slash rest ≡ 47 ∷ []
+slash_missed rest at =
+    let no : nat_lt (length rest) (length rest) ≡ false = le-ltb (length rest) (length rest) (omega arith) in
+    rw (at, no) refl

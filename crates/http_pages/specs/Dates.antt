@@ -6,12 +6,12 @@ use Rattle.httpdate.specs.Text.{imf_fixdate}
 use Rattle.http_pages.specs.Limits.{last_second}
 
 -- the year in which a day falls, and how many days of it have passed, where the count begins at this year and passes so many
-abbrev pub year_of : ℕ → ℕ → ℕ → ℕ × ℕ
+unfoldable pub year_of : ℕ → ℕ → ℕ → ℕ × ℕ
 year_of zero year day = (year, day)
 year_of (suc n) year day = if nat_lt day (days_in_year year) then (year, day) else year_of n (suc year) (day - days_in_year year)
 
 -- the same of the months of a year
-abbrev pub month_of : ℕ → ℕ → ℕ → ℕ → ℕ × ℕ
+unfoldable pub month_of : ℕ → ℕ → ℕ → ℕ → ℕ × ℕ
 month_of zero year month day = (month, day)
 month_of (suc n) year month day =
     if nat_lt day (days_in_month year month) then (month, day) else month_of n year (suc month) (day - days_in_month year month)

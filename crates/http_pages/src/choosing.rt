@@ -92,7 +92,6 @@ fn has_scheme(target: &[u8]) -> bool
     target.len() >= 7 && eq_ignore_case(target.split_at(7).0, b"http://")
 }
 
-#[tactic(auto, using(crate::proofs::Pieces::first_at, crate::proofs::Pieces::nowhere))]
 fn from_slash(rest: &[u8]) -> &[u8]
     ensures { result.now ≡ from_slash rest.now }
 {

@@ -7,6 +7,7 @@
 mod answer;
 mod choosing;
 mod cuts;
+mod dates;
 mod heads;
 mod laws;
 mod pages;

@@ -44,9 +44,9 @@ fn by_front(pages: &Pages, at: u64, front: &[u8]) -> Option<(Answer, usize)>
 
 /// The answer to the request at the front of these bytes, and how many of them it takes; none where its head isn't whole yet. Only the first
 /// 8,192 bytes are looked at. `at` is the time, in microseconds since 1970.
-#[tactic(auto, unfolding(crate::specs::Reading::answer_to))]
+#[tactic(auto, using(std::proofs::lemmas::List::take_min), unfolding(crate::specs::Reading::answer_to))]
 pub fn answer_to(pages: &Pages, at: u64, bytes: &[u8]) -> Option<(Answer, usize)>
     ensures { result ≡ answer_to pages.now at bytes.now }
 {
-    by_front(pages, at, bytes.split_at(bytes.len().min(MOST_HEAD)).0)
+    by_front(pages, at, bytes.split_at(MOST_HEAD.min(bytes.len())).0)
 }
