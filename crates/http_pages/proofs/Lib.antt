@@ -2,3 +2,4 @@ pub mod Pieces
 pub mod HeadLemmas
 pub mod PackLemmas
 pub mod DateLemmas
+pub mod Standing

@@ -26,7 +26,7 @@ reason HeadTooLarge = codes "431 Request Header Fields Too Large\r\n"
 reason NotImplemented = codes "501 Not Implemented\r\n"
 reason VersionNotSupported = codes "505 HTTP Version Not Supported\r\n"
 
-abbrev pub field : List ℕ → List ℕ → List ℕ
+unfoldable pub field : List ℕ → List ℕ → List ℕ
 field name value = name ++ (codes ": " ++ (value ++ codes "\r\n"))
 
 -- a byte of a path that needs no escape (RFC 3986, 3.3), and the path in a URI
@@ -58,11 +58,11 @@ content_by HeadTooLarge page a = reason HeadTooLarge
 content_by NotImplemented page a = reason NotImplemented
 content_by VersionNotSupported page a = reason VersionNotSupported
 
-abbrev pub content : List Page → Answer → List ℕ
+unfoldable pub content : List Page → Answer → List ℕ
 content pages a = content_by a.status (nth_page pages a.page) a
 
 -- the length of what GET would be told (8.6), and its type
-abbrev pub sized : List ℕ → List ℕ → List ℕ
+unfoldable pub sized : List ℕ → List ℕ → List ℕ
 sized kind said = field (codes "Content-Type") kind ++ field (codes "Content-Length") (decimal (length said))
 
 abbrev pub in_words : List ℕ → List ℕ

@@ -40,6 +40,7 @@ fn part_of(body: &[u8], answer: Answer) -> &[u8]
 }
 
 /// What the answer says to GET.
+#[tactic(auto, unfolding(crate::specs::AnswerText::content))]
 fn content(pages: &Pages, answer: Answer) -> &[u8]
     ensures { result.now ≡ content pages.now answer }
 {
@@ -58,6 +59,7 @@ pub fn body_of(pages: &Pages, answer: Answer) -> &[u8]
     if answer.only_head { &[] } else { content(pages, answer) }
 }
 
+#[tactic(auto, unfolding(crate::specs::AnswerText::field))]
 fn push_field(text: &mut Vec<u8>, name: &[u8], value: &[u8]) -> Result<(), AllocError>
     ensures { OnOk result (text.new.items ≡ text.old.items ++ field name.now value.now) }
 {
@@ -85,6 +87,7 @@ fn push_escaped_byte(text: &mut Vec<u8>, b: u8) -> Result<(), AllocError>
 }
 
 /// A path, as it stands in a URI.
+#[tactic(auto, unfolding(crate::specs::AnswerText::escaped))]
 fn push_escaped(text: &mut Vec<u8>, mut path: &[u8]) -> Result<(), AllocError>
     ensures { OnOk result (text.new.items ≡ text.old.items ++ escaped path.now) }
 {
@@ -95,15 +98,24 @@ fn push_escaped(text: &mut Vec<u8>, mut path: &[u8]) -> Result<(), AllocError>
     Ok(())
 }
 
+fn push_length(alloc: Global, text: &mut Vec<u8>, len: usize) -> Result<(), AllocError>
+    ensures { OnOk result (text.new.items ≡ text.old.items ++ field (codes "Content-Length") (decimal len)) }
+{
+    let digits = format!(in alloc; "{len}")?;
+    push_field(text, b"Content-Length", digits.as_bytes())
+}
+
 /// The type and the length of what GET would be told.
+#[tactic(auto, unfolding(crate::specs::AnswerText::sized))]
 fn push_sized(alloc: Global, text: &mut Vec<u8>, kind: &[u8], said: &[u8]) -> Result<(), AllocError>
     ensures { OnOk result (text.new.items ≡ text.old.items ++ sized kind.now said.now) }
 {
-    let len = said.len();
     push_field(text, b"Content-Type", kind)?;
-    push_field(text, b"Content-Length", format!(in alloc; "{len}")?.as_bytes())
+    push_length(alloc, text, said.len())?;
+    Ok(())
 }
 
+#[tactic(auto, unfolding(crate::specs::AnswerText::field))]
 fn push_location(text: &mut Vec<u8>, path: &[u8]) -> Result<(), AllocError>
     ensures { OnOk result (text.new.items ≡ text.old.items ++ field (codes "Location") (escaped path.now)) }
 {
@@ -131,7 +143,14 @@ fn push_fields(alloc: Global, text: &mut Vec<u8>, pages: &Pages, answer: Answer)
             push_field(text, b"Allow", b"GET, HEAD")?;
             push_sized(alloc, text, b"text/plain", said)
         }
-        _ => push_sized(alloc, text, b"text/plain", said),
+        Status::BadRequest
+        | Status::NotFound
+        | Status::PreconditionFailed
+        | Status::ContentTooLarge
+        | Status::UriTooLong
+        | Status::HeadTooLarge
+        | Status::NotImplemented
+        | Status::VersionNotSupported => push_sized(alloc, text, b"text/plain", said),
     }
 }
 
