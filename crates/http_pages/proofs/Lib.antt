@@ -3,3 +3,4 @@ pub mod HeadLemmas
 pub mod PackLemmas
 pub mod DateLemmas
 pub mod Standing
+pub mod TextLemmas
