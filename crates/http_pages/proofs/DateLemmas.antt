@@ -45,8 +45,8 @@ year_found (suc n) year day days low count sum few =
     choose (IsYear days) (nat_lt day (days_in_year year)) (year, day) (year_of n (suc year) (day - days_in_year year))
     (λ t. record { low = low; high = omega (arith, count); sum = sum; within = ltb-true day (days_in_year year) t })
     (λ t.
-        let past = ltb-false day (days_in_year year) t in
-        year_found n (suc year) (day - days_in_year year) days (omega (arith, low)) (omega (arith, count)) (omega (arith, sum, past, next_year year low)) few)
+    let past = ltb-false day (days_in_year year) t in
+    year_found n (suc year) (day - days_in_year year) days (omega (arith, low)) (omega (arith, count)) (omega (arith, sum, past, next_year year low)) few)
 
 record IsMonth (year day : ℕ) (m : ℕ × ℕ) : Type 0 where
   pub low : 1 ≤ m.0
@@ -67,10 +67,10 @@ month_found (suc n) year month left day low count sum few =
     choose (IsMonth year day) (nat_lt left (days_in_month year month)) (month, left) (month_of n year (suc month) (left - days_in_month year month))
     (λ t. record { low = low; high = omega (arith, count); sum = sum; within = ltb-true left (days_in_month year month) t })
     (λ t.
-        let past = ltb-false left (days_in_month year month) t in
-        let back : suc month - 1 ≡ month = omega arith in
-        let more = days_of_months_more year month low in
-        month_found n year (suc month) (left - days_in_month year month) day (omega arith) (omega (arith, count)) (rw back (omega (arith, sum, past, more))) few)
+    let past = ltb-false left (days_in_month year month) t in
+    let back : suc month - 1 ≡ month = omega arith in
+    let more = days_of_months_more year month low in
+    month_found n year (suc month) (left - days_in_month year month) day (omega arith) (omega (arith, count)) (rw back (omega (arith, sum, past, more))) few)
 
 none_passed : (year days : ℕ) → days_of_years (1970 - 1970) + days ≡ days
 unfolding days_of_years

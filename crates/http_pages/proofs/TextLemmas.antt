@@ -59,8 +59,19 @@ lengths VersionNotSupported page said = omega (arith, sized-length (codes "text/
 in_all : (start status date fields last end body : List ℕ) → 9 ≤ length start → 31 ≤ length date → 22 ≤ length status + length fields → 2 ≤ length end
     → 64 ≤ length ((start ++ (status ++ (date ++ (fields ++ (last ++ end))))) ++ body)
 in_all start status date fields last end body a b c d =
-    omega (arith, a, b, c, d, length-append (start ++ (status ++ (date ++ (fields ++ (last ++ end))))) body, length-append start (status ++ (date ++ (fields ++ (last ++ end)))),
-    length-append status (date ++ (fields ++ (last ++ end))), length-append date (fields ++ (last ++ end)), length-append fields (last ++ end), length-append last end)
+    omega (
+      arith,
+      a,
+      b,
+      c,
+      d,
+      length-append (start ++ (status ++ (date ++ (fields ++ (last ++ end))))) body,
+      length-append start (status ++ (date ++ (fields ++ (last ++ end)))),
+      length-append status (date ++ (fields ++ (last ++ end))),
+      length-append date (fields ++ (last ++ end)),
+      length-append fields (last ++ end),
+      length-append last end,
+    )
 
 pub answer_text-length : (pages : List Page) (a : Answer) → 64 ≤ length (answer_text pages a)
 unfolding answer_text answer_head

@@ -59,14 +59,27 @@ is_known method =
 -- behind this answer the connection ends
 abbrev pub refused : Status → Bool → ℕ → Answer
 refused status only_head at = record {
-  status = status; page = 0; from = 0; to = 0; only_head = only_head; keeps = false; old = false; at = at;
+  status = status;
+  page = 0;
+  from = 0;
+  to = 0;
+  only_head = only_head;
+  keeps = false;
+  old = false;
+  at = at;
 }
 
 -- an answer without a page
 abbrev pub plain : List ℕ → List (List ℕ) → ℕ → Status → Answer
 plain line fields at status = record {
-  status = status; page = 0; from = 0; to = 0;
-  only_head = is_head (method_of line); keeps = keeps line fields; old = minor_of (version_of line) == 0; at = at;
+  status = status;
+  page = 0;
+  from = 0;
+  to = 0;
+  only_head = is_head (method_of line);
+  keeps = keeps line fields;
+  old = minor_of (version_of line) == 0;
+  at = at;
 }
 
 -- all of a page

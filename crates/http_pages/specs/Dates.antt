@@ -18,8 +18,13 @@ month_of (suc n) year month day =
 
 abbrev pub with_month : ℕ → ℕ → ℕ × ℕ → ℕ → Parts
 with_month days year month second = record {
-  year = year; mon = month.0; day = month.1 + 1;
-  hour = second / 3600; min = second / 60 % 60; sec = second % 60; wday = weekday days;
+  year = year;
+  mon = month.0;
+  day = month.1 + 1;
+  hour = second / 3600;
+  min = second / 60 % 60;
+  sec = second % 60;
+  wday = weekday days;
 }
 
 abbrev pub with_year : ℕ → ℕ × ℕ → ℕ → Parts

@@ -9,7 +9,10 @@ bytes_at pack p = slice_range pack p.from p.to
 
 abbrev pub page_of : List ℕ → PagePlaces → Page
 page_of pack p = record {
-  path = bytes_at pack p.path; kind = bytes_at pack p.kind; tag = bytes_at pack p.tag; body = bytes_at pack p.body;
+  path = bytes_at pack p.path;
+  kind = bytes_at pack p.kind;
+  tag = bytes_at pack p.tag;
+  body = bytes_at pack p.body;
 }
 
 -- a part, and what stands behind it

@@ -31,9 +31,9 @@ with_body path kind tag body = (record { path = path; kind = kind; tag = tag; bo
 abbrev pub page_in : List ℕ → Option (Page × List ℕ)
 page_in bytes =
     option_and_then (λ path.
-        option_and_then (λ kind.
-            option_and_then (λ tag. option_map (with_body path.0 kind.0 tag.0) (part_in tag.1)) (part_in kind.1))
-        (part_in path.1))
+    option_and_then (λ kind.
+    option_and_then (λ tag. option_map (with_body path.0 kind.0 tag.0) (part_in tag.1)) (part_in kind.1))
+    (part_in path.1))
     (part_in bytes)
 
 abbrev pub onto_pages : Page → Option (List Page) → Option (List Page)

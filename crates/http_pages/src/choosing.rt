@@ -10,7 +10,9 @@ ghost use Rattle.http_pages.specs.Requests.{fault_of, has_content, known_of, met
 use crate::answer::{Answer, Status};
 use crate::cuts::{cut, next_line, place_of};
 use crate::pages::Pages;
-use crate::requests::{fault_of, has_content, has_field, keeps, known_in, minor_of, names_tag, words_of};
+use crate::requests::{
+    fault_of, has_content, has_field, keeps, known_in, minor_of, names_tag, words_of,
+};
 use http1::fields::KnownFields;
 use http1::text::eq_ignore_case;
 
@@ -78,7 +80,11 @@ fn unserved(content: bool, method: &[u8]) -> Option<Status>
     ensures { result ≡ unserved content method.now }
 {
     if is_served(method) {
-        if content { Some(Status::ContentTooLarge) } else { None }
+        if content {
+            Some(Status::ContentTooLarge)
+        } else {
+            None
+        }
     } else if is_known(method) {
         Some(Status::MethodNotAllowed)
     } else {
@@ -126,9 +132,15 @@ fn by_conditions(tag: &[u8], fields: &[u8], answer: Answer) -> Answer
     ensures { result ≡ by_conditions tag.now (lines fields.now) answer }
 {
     if !is_matched(tag, fields) {
-        Answer { status: Status::PreconditionFailed, ..answer }
+        Answer {
+            status: Status::PreconditionFailed,
+            ..answer
+        }
     } else if names_tag(fields, b"if-none-match", tag, true) {
-        Answer { status: Status::NotModified, ..answer }
+        Answer {
+            status: Status::NotModified,
+            ..answer
+        }
     } else {
         answer
     }
@@ -138,8 +150,15 @@ fn at_folder(folder: Option<usize>, answer: Answer) -> Answer
     ensures { result ≡ at_folder folder answer }
 {
     match folder {
-        None => Answer { status: Status::NotFound, ..answer },
-        Some(page) => Answer { status: Status::MovedPermanently, page, ..answer },
+        None => Answer {
+            status: Status::NotFound,
+            ..answer
+        },
+        Some(page) => Answer {
+            status: Status::MovedPermanently,
+            page,
+            ..answer
+        },
     }
 }
 
@@ -159,7 +178,11 @@ fn by_path(pages: &Pages, target: &[u8], fields: &[u8], answer: Answer) -> Answe
     ensures { result ≡ by_path pages.now (lines fields.now) answer (path_of target.now) }
 {
     match path_of(target) {
-        None => Answer { status: Status::BadRequest, keeps: false, ..answer },
+        None => Answer {
+            status: Status::BadRequest,
+            keeps: false,
+            ..answer
+        },
         Some(path) => at_page(pages, path, fields, answer),
     }
 }
@@ -171,7 +194,12 @@ fn by_method(pages: &Pages, line: &[u8], fields: &[u8], known: &KnownFields, at:
     let (method, target, _) = words_of(line);
     match unserved(has_content(line, fields, known), method) {
         Some(status) => plain(line, fields, known, at, status),
-        None => by_path(pages, target, fields, plain(line, fields, known, at, Status::Ok)),
+        None => by_path(
+            pages,
+            target,
+            fields,
+            plain(line, fields, known, at, Status::Ok),
+        ),
     }
 }
 

@@ -254,5 +254,7 @@ pub fn keeps(line: &[u8], fields: &[u8], known: &KnownFields) -> bool
     ensures { result ≡ keeps line.now (lines fields.now) }
 {
     let version = words_of(line).2;
-    !known.close && !has_content(line, fields, known) && (minor_of(version) != 0 || known.keep_alive)
+    !known.close
+        && !has_content(line, fields, known)
+        && (minor_of(version) != 0 || known.keep_alive)
 }

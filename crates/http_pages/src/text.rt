@@ -36,7 +36,8 @@ fn part_of(body: &[u8], answer: Answer) -> &[u8]
     ensures { result.now ≡ part_of body.now answer }
 {
     let rest = body.split_at(answer.from.min(body.len())).1;
-    rest.split_at(answer.to.saturating_sub(answer.from).min(rest.len())).0
+    rest.split_at(answer.to.saturating_sub(answer.from).min(rest.len()))
+        .0
 }
 
 /// What the answer says to GET.
@@ -56,7 +57,11 @@ fn content(pages: &Pages, answer: Answer) -> &[u8]
 pub fn body_of(pages: &Pages, answer: Answer) -> &[u8]
     ensures { result.now ≡ answer_body pages.now answer }
 {
-    if answer.only_head { &[] } else { content(pages, answer) }
+    if answer.only_head {
+        &[]
+    } else {
+        content(pages, answer)
+    }
 }
 
 #[tactic(auto, unfolding(crate::specs::AnswerText::field))]
@@ -125,7 +130,12 @@ fn push_location(text: &mut Vec<u8>, path: &[u8]) -> Result<(), AllocError>
 }
 
 /// The fields that belong to a status.
-fn push_fields(alloc: Global, text: &mut Vec<u8>, pages: &Pages, answer: Answer) -> Result<(), AllocError>
+fn push_fields(
+    alloc: Global,
+    text: &mut Vec<u8>,
+    pages: &Pages,
+    answer: Answer,
+) -> Result<(), AllocError>
     ensures { OnOk result (text.new.items ≡ text.old.items ++ fields_by answer.status (nth_page pages.now answer.page) (content pages.now answer)) }
 {
     let said = content(pages, answer);
