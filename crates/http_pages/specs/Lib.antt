@@ -1,0 +1,9 @@
+pub mod Limits
+pub mod Heads
+pub mod Requests
+pub mod Pages
+pub mod Inside
+pub mod Choosing
+pub mod Dates
+pub mod AnswerText
+pub mod Reading

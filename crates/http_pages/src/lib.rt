@@ -1,0 +1,22 @@
+//! Static pages over HTTP/1.1 (RFC 9110, RFC 9112): the pages of a site, what a request's head says, and the bytes of its answer.
+//!
+//! All here is a function of bytes and a time: it knows no connection, no clock and no file. A head is judged once it is whole, so whoever
+//! calls keeps what came until then, and offers the answer's head and its body, which stands in the pack that the pages were read from.
+#![tactic(auto)]
+
+mod answer;
+mod choosing;
+mod cuts;
+mod dates;
+mod heads;
+mod laws;
+mod pages;
+mod reading;
+mod requests;
+mod text;
+
+pub use answer::{Answer, Status};
+pub use laws::answers_stand;
+pub use pages::{PackError, Pages};
+pub use reading::answer_to;
+pub use text::{body_of, head_of};
