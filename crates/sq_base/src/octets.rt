@@ -2,13 +2,17 @@
 
 ghost use Rattle.std.specs.Prelude.{◌≡◌, IfOk};
 
+use smallvec::SmallVec;
 use std::alloc::{AllocError, Global};
 use std::marker::Model;
 
-/// A list of bytes that stays as it was made.
+/// How many bytes take no memory of their own.
+const SHORT: usize = 16;
+
+/// A list of bytes that stays as it was made. Up to sixteen of them lie in the value itself.
 #[derive(Debug, Drop)]
 pub struct Octets {
-    bytes: Vec<u8>,
+    bytes: SmallVec<u8, SHORT>,
 }
 
 impl Model for Octets {
@@ -24,7 +28,7 @@ impl Octets {
     pub fn of(alloc: Global, bytes: &[u8]) -> Result<Octets, AllocError>
         ensures { IfOk result (λ o. o ≡ bytes.now) }
     {
-        let bytes = Vec::from_slice(alloc, bytes)?;
+        let bytes = SmallVec::from_slice(alloc, bytes)?;
         Ok(Octets { bytes })
     }
 
@@ -32,7 +36,9 @@ impl Octets {
     pub fn wrap(bytes: Vec<u8>) -> Octets
         ensures { result ≡ bytes.items }
     {
-        Octets { bytes }
+        Octets {
+            bytes: SmallVec::from_vec(bytes),
+        }
     }
 
     /// The bytes, in their order.

@@ -146,6 +146,15 @@ impl Tcb {
         self.send.offer(self.recv.peek(n))
     }
 
+    /// The next `n` received bytes, which stay in the block.
+    pub fn peek(&self, n: u32) -> &[u8]
+        requires { n ≤ ready_of self.now.recv }
+        ensures bytes { result.now ≡ next_bytes n self.now.recv }
+        ensures count { length result.now ≡ n }
+    {
+        self.recv.peek(n)
+    }
+
     /// Throws the next `n` received bytes away.
     #[tactic(auto, using(crate::proofs::QueueLemmas::without_below, crate::proofs::QueueLemmas::without_read, crate::proofs::QueueLemmas::next_without), unfolding(byte_queues::specs::ReceiveQueue::without))]
     pub fn skip(&mut self, n: u32)
