@@ -1,0 +1,45 @@
+-- Serving by a service that keeps something from one pump to the next, with the whole streams beside the block. A connection that is over
+-- leaves a new service to the next one.
+use Rattle.std.specs.Prelude.{List, [], ◌∷◌, if◌then◌else◌}
+use Rattle.tcb_machine.specs.BlockState.{Block}
+use Rattle.tcb_machine.specs.CallAnswers.{tcp_call}
+use Rattle.tcb_machine.specs.States.{is_listen}
+use Rattle.tcb_machine.specs.TcpStep.{tcp_segment}
+use Rattle.echo_services.specs.Serving.{Entry, segment, time, asks, kept}
+use Rattle.echo_services.specs.WholeStreams.{Whole, whole_enters, whole_new}
+use Rattle.page_service.specs.declared.phase.Phase.{Phase}
+use Rattle.page_service.specs.declared.phase.Phase.TheVariants.{Reads}
+use Rattle.page_service.specs.Protocol.{Protocol}
+use Rattle.page_service.specs.Pump.{pump}
+
+pub record Held (S : Type 0) : Type 0 where
+  pub whole : Whole
+  pub service : S
+
+-- what a service is: what a pump makes of a block, what it keeps then, and what it is at first
+pub record Service (S : Type 0) : Type 0 where
+  pub pumps : S → Block → Block
+  pub after : S → Block → S
+  pub new : S
+
+module _ {S : Type 0} (v : Service S) where
+  abbrev pub kept_by : Entry → Block → S → S
+  kept_by (segment now iss s text) b x = kept v.after x (tcp_segment now iss s text b)
+  kept_by (time to) b x = x
+  kept_by (asks call) b x = kept v.after x (tcp_call call b).verdict
+
+  abbrev pub kept_enters : Entry → Held S → Held S
+  kept_enters e h =
+      let w = whole_enters (v.pumps h.service) e h.whole in
+      record { whole = w; service = if is_listen w.block.state then v.new else kept_by e h.whole.block h.service }
+
+  abbrev pub kept_serves : List Entry → Held S → Held S
+  kept_serves [] h = h
+  kept_serves (e ∷ es) h = kept_serves es (kept_enters e h)
+
+  abbrev pub kept_new : Held S
+  kept_new = record { whole = whole_new; service = v.new }
+
+-- that of a protocol
+abbrev pub service_of : {A : Type 0} → Protocol A → Service (Phase A)
+service_of p = record { pumps = λ w b. (pump p w b).1; after = λ w b. (pump p w b).0; new = Reads }
