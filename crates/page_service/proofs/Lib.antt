@@ -6,3 +6,4 @@ pub mod SentLemmas
 pub mod KeptLemmas
 pub mod OfferLemmas
 pub mod TurnLemmas
+pub mod CloseLemmas

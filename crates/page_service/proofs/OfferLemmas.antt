@@ -4,6 +4,7 @@ use Rattle.std.specs.Prelude.{suc, zero}
 use Rattle.std.proofs.lemmas.List.{take_min}
 use Rattle.byte_queues.specs.SendQueue.{room_of}
 use Rattle.byte_queues.proofs.ListLemmas.{drop_clamped}
+use Rattle.tcb_machine.specs.BlockState.{Block, offered}
 
 -- the rest of a text, as it is cut
 pub rest_offered : (from room : ℕ) (text : List ℕ) → take (min room (length (drop (min from (length text)) text))) (drop (min from (length text)) text) ≡ take room (drop from text)
@@ -36,19 +37,11 @@ both_offered from out head body =
     append_assoc out (take n xs) (take (room_of (out ++ take n xs)) ys)
     ∙ ap (λ (zs : List ℕ). out ++ zs) (ap (λ (k : ℕ). take n xs ++ take k ys) e ∙ (take-both n xs ys ∙ ap (take n) (sym (drop-both from head body))))
 
--- how far it came
-pub place_after : (out text : List ℕ) (from : ℕ) → room_of out - room_of (out ++ take (room_of out) (drop from text)) ≡ length (take (room_of out) (drop from text))
-place_after out text from =
-    let l = length-append out (take (room_of out) (drop from text)) in
-    let t = length-take (room_of out) (drop from text) in
-    omega (arith, l, t)
-
-pub place_fits : (room from most : ℕ) (text : List ℕ) → from ≤ most → length text ≤ most → from + length (take room (drop from text)) ≤ most
-place_fits room from most text f h = let t = length-take room (drop from text) in let d = length-drop from text in omega (arith, t, d, f, h)
-
 -- what was offered took up room
-pub room_kept : (room from : ℕ) (out text : List ℕ) → room ≡ room_of out → length (out ++ take room (drop from text)) + room_of (out ++ take room (drop from text)) ≡ length out + room_of out
-room_kept room from out text e =
-    let l = length-append out (take room (drop from text)) in
-    let t = length-take room (drop from text) in
-    omega (arith, l, t, e)
+pub offered_kept : (from : ℕ) (b : Block) (text : List ℕ) → let c : Block = record b { out = b.out ++ take (room_of b.out) (drop from text) } in
+    offered c + room_of c.out ≡ offered b + room_of b.out
+unfolding offered
+offered_kept from b text =
+    let l = length-append b.out (take (room_of b.out) (drop from text)) in
+    let t = length-take (room_of b.out) (drop from text) in
+    omega (arith, l, t)

@@ -45,7 +45,7 @@ module _ {A : Type 0} (p : Protocol A) (law : IsProtocol p) where
       let whole = answered p (responses p (times ++ more)) (bytes ++ rest) in
       let same : drop n (bytes ++ rest) ≡ drop n bytes ++ rest = drop-append-le n bytes rest (law.counted at bytes found e) in
       let f = front-text (p.text found.0) (responses p times (drop n bytes)) (responses p (times ++ more) (drop n (bytes ++ rest))) (p.keeps found.0)
-          (subst (λ (bs : List ℕ). IsFront (responses p times (drop n bytes)) (responses p (times ++ more) bs)) (sym same) (h (drop n bytes))) in
+      (subst (λ (bs : List ℕ). IsFront (responses p times (drop n bytes)) (responses p (times ++ more) bs)) (sym same) (h (drop n bytes))) in
       (f.0, f.1 ∙ ap whole (sym (found-more at bytes rest found e)))
 
   pub goes-on : (times more bytes rest : List ℕ) → IsFront (responses p times bytes) (responses p (times ++ more) (bytes ++ rest))
@@ -78,11 +78,11 @@ module _ {A : Type 0} (p : Protocol A) (law : IsProtocol p) where
       (found, ap (p.answers at) (sym (append-nil head)) ∙ own [], keeps, drop_all found.1 head w)
   kept-more (first ∷ times) bytes head at found k own keeps w =
       let f = k.0 in
-      let n = f.1 in
-      ( f
-      , found-more first bytes head f k.1
-      , k.2
-      , subst (λ (bs : List ℕ). KeptAll p (times ++ at ∷ []) bs) (sym (drop-append-le n bytes head (law.counted first bytes f k.1))) (kept-more times (drop n bytes) head at found k.3 own keeps w)
+      let n = f.1 in (
+        f,
+        found-more first bytes head f k.1,
+        k.2,
+        subst (λ (bs : List ℕ). KeptAll p (times ++ at ∷ []) bs) (sym (drop-append-le n bytes head (law.counted first bytes f k.1))) (kept-more times (drop n bytes) head at found k.3 own keeps w),
       )
 
   -- nothing that stands behind them has an answer yet

@@ -17,12 +17,12 @@ use Rattle.page_service.specs.declared.phase.Phase.{Phase}
 use Rattle.page_service.specs.declared.phase.Phase.TheVariants.{Reads, Answers, Ends}
 use Rattle.page_service.specs.Protocol.{Protocol, IsProtocol}
 use Rattle.page_service.specs.Pump.{Turn, goes, rests, RestsAt, behind, closes, left_from, more_of, most_turns, pump, reads, said, then_on, turn, turns, waiting}
-use Rattle.page_service.proofs.PumpsLemmas.{more-fits}
+use Rattle.page_service.proofs.CloseLemmas.{closed_recv}
 
 -- all is over once CLOSE was called
-closed-in : (st : State) (c : Block) → may_offer st ≡ true → ((left_by (close_in st c).verdict).fin_wanted ≡ true) × ((left_by (close_in st c).verdict).recv ≡ c.recv)
-closed-in Established c m = (refl, refl)
-closed-in CloseWait c m = (refl, refl)
+closed-in : (st : State) (c : Block) → may_offer st ≡ true → (left_by (close_in st c).verdict).fin_wanted ≡ true
+closed-in Established c m = refl
+closed-in CloseWait c m = refl
 closed-in Listen c m = absurd (false≢true m)
 closed-in SynReceived c m = absurd (false≢true m)
 closed-in FinWait1 c m = absurd (false≢true m)
@@ -37,8 +37,8 @@ none-ready b = let n = next_without (ready_of b.recv) b.recv (omega arith) in om
 
 pub closed-rests : (b : Block) → may_offer b.state ≡ true → ((closes b).fin_wanted ≡ true) × (ready_of (closes b).recv ≡ 0)
 closed-rests b m =
-    let h = closed-in b.state (throws (ready_of b.recv) b) m in
-    (h.0, ap ready_of h.1 ∙ none-ready b)
+    let c = throws (ready_of b.recv) b in
+    (closed-in b.state c m, ap ready_of (closed_recv b.state c) ∙ none-ready b)
 
 module _ {A : Type 0} (p : Protocol A) (law : IsProtocol p) where
   -- that many turns are enough: two for each answer for which there is room, and two at the end

@@ -8,46 +8,21 @@ use Rattle.byte_queues.specs.ReceiveQueue.{Recv, next_bytes, ready_of}
 use Rattle.byte_queues.specs.SendQueue.{room_of}
 use Rattle.byte_queues.proofs.WholeLemmas.{next-count}
 use Rattle.tcb_machine.specs.BlockState.{Block}
-use Rattle.tcb_machine.specs.CallAnswers.{close_in}
-use Rattle.tcb_machine.specs.Validity.{left_by}
-use Rattle.tcb_machine.specs.declared.kinds.State.{State}
-use Rattle.tcb_machine.specs.declared.kinds.State.TheVariants.{Listen, SynReceived, Established, FinWait1, FinWait2, CloseWait, Closing, LastAck, TimeWait}
 use Rattle.echo_services.specs.Closing.{is_close_wait, throws}
 use Rattle.echo_services.specs.Pumping.{may_offer}
 use Rattle.page_service.specs.declared.phase.Phase.{Phase}
 use Rattle.page_service.specs.declared.phase.Phase.TheVariants.{Reads, Answers, Ends}
 use Rattle.page_service.specs.Protocol.{Protocol, IsProtocol, responses}
 use Rattle.page_service.specs.Pump.{Turn, goes, rests, behind, closes, left_from, left_of, more_of, most_turns, pump, reads, said, then_on, turn, turns, waiting}
+use Rattle.page_service.proofs.CloseLemmas.{closed_recv, closed_out}
 use Rattle.page_service.proofs.PumpsLemmas.{found-ready}
 use Rattle.page_service.proofs.ResponseLemmas.{KeptAll, IsOwn, one-more, kept-more, kept-stays}
 use Rattle.page_service.proofs.WorkLemmas.{Adds, adds-nothing, adds-taken, adds-offered, adds-both, first-ready}
 
-closed-recv : (st : State) (c : Block) → (left_by (close_in st c).verdict).recv ≡ c.recv
-closed-recv Established c = refl
-closed-recv CloseWait c = refl
-closed-recv Listen c = refl
-closed-recv SynReceived c = refl
-closed-recv FinWait1 c = refl
-closed-recv FinWait2 c = refl
-closed-recv Closing c = refl
-closed-recv LastAck c = refl
-closed-recv TimeWait c = refl
-
-closed-out : (st : State) (c : Block) → (left_by (close_in st c).verdict).out ≡ c.out
-closed-out Established c = refl
-closed-out CloseWait c = refl
-closed-out Listen c = refl
-closed-out SynReceived c = refl
-closed-out FinWait1 c = refl
-closed-out FinWait2 c = refl
-closed-out Closing c = refl
-closed-out LastAck c = refl
-closed-out TimeWait c = refl
-
 adds-closed : (b : Block) → Adds b (closes b) (next_bytes (ready_of b.recv) b.recv ++ []) ([] ++ [])
 adds-closed b =
     let c = throws (ready_of b.recv) b in
-    adds-both b c (closes b) (next_bytes (ready_of b.recv) b.recv) [] [] [] (adds-taken (ready_of b.recv) b) (adds-nothing c (closes b) (closed-recv b.state c) (closed-out b.state c))
+    adds-both b c (closes b) (next_bytes (ready_of b.recv) b.recv) [] [] [] (adds-taken (ready_of b.recv) b) (adds-nothing c (closes b) (closed_recv b.state c) (closed_out b.state c))
 
 module _ {A : Type 0} (p : Protocol A) where
   -- so much was read at these times, and so much was sent, in this phase

@@ -65,11 +65,7 @@ impl<R: Answerer> Behind<'_, R> {
     }
 
     /// One turn: how far it takes the service, and whether another one follows.
-    fn turn(
-        &self,
-        tcb: &mut Tcb,
-        alloc: Global,
-    ) -> Result<(Phase<R::Answer>, bool), AllocError>
+    fn turn(&self, tcb: &mut Tcb, alloc: Global) -> Result<(Phase<R::Answer>, bool), AllocError>
         ensures turned { IfOk result (λ left. turn (R.protocol self.now.answerer.now) self.now.phase tcb.old ≡ said left.1 left.0 tcb.new) }
         ensures clock { OnOk result (tcb.new.clock ≡ tcb.old.clock) }
         ensures next { OnOk result (next_of tcb.new.recv ≡ next_of tcb.old.recv) }
@@ -86,6 +82,7 @@ impl<R: Answerer> Behind<'_, R> {
     }
 
     /// The next request is taken once it is whole. Where it never will be, all is over.
+    #[tactic(auto, unfolding(tcb_machine::specs::BlockState::offered))]
     fn read(&self, tcb: &mut Tcb) -> (Phase<R::Answer>, bool)
         ensures taken { reads (R.protocol self.now.answerer.now) ((R.protocol self.now.answerer.now).answers tcb.old.clock (waiting tcb.old)) tcb.old ≡ said result.1 result.0 tcb.new }
         ensures clock { tcb.new.clock ≡ tcb.old.clock }
@@ -141,6 +138,7 @@ impl<R: Answerer> Behind<'_, R> {
 fn offer_both(tcb: &mut Tcb, head: &[u8], body: &[u8], from: u64) -> Result<u64, AllocError>
     ensures text { OnOk result (tcb.new ≡ record tcb.old { out = tcb.old.out ++ take (room_of tcb.old.out) (drop from (head.now ++ body.now)) }) }
     ensures place { IfOk result (λ to. to ≡ from + length (take (room_of tcb.old.out) (drop from (head.now ++ body.now)))) }
+    ensures offered { OnOk result (offered tcb.new + room_of tcb.new.out ≡ offered tcb.old + room_of tcb.old.out) }
 {
     let before = tcb.room();
     offer(tcb, head, from)?;
@@ -149,6 +147,7 @@ fn offer_both(tcb: &mut Tcb, head: &[u8], body: &[u8], from: u64) -> Result<u64,
 }
 
 /// Offers a text from a place on, as far as there is room.
+#[tactic(auto, using(crate::proofs::OfferLemmas::rest_offered))]
 fn offer(tcb: &mut Tcb, text: &[u8], from: u64) -> Result<(), AllocError>
     ensures { OnOk result (tcb.new ≡ record tcb.old { out = tcb.old.out ++ take (room_of tcb.old.out) (drop from text.now) }) }
 {
