@@ -1,6 +1,6 @@
 -- A served connection: all that was offered, with what is left of the answer under way, is the answers to what was taken.
-use Rattle.std.proofs.Common.{◌≡◌, ℕ, ◌+◌, ◌-◌, ◌≤◌, List, [], ◌∷◌, ◌++◌, Bool, true, false, cond, length, take, drop, refl, sym, ap, ◌∙◌, subst, arith, append_assoc, append-nil}
-use Rattle.std.proofs.lemmas.Bool.{false≢true, false_from_ne_true}
+use Rattle.std.proofs.Common.{◌≡◌, ℕ, ◌-◌, List, [], ◌∷◌, ◌++◌, Bool, true, false, cond, take, refl, sym, ap, ◌∙◌, subst, arith, append_assoc, append-nil}
+use Rattle.std.proofs.lemmas.Bool.{false≢true}
 use Rattle.std.proofs.lemmas.List.{take-append-drop}
 use Rattle.byte_queues.specs.ReceiveQueue.{next_bytes}
 use Rattle.tcb_machine.specs.BlockState.{Block, new_block}
@@ -12,16 +12,16 @@ use Rattle.tcb_machine.specs.Timers.{tcp_time}
 use Rattle.tcb_machine.specs.Validity.{IsValid}
 use Rattle.tcb_machine.proofs.ValidLemmas.{Moves, Moved, moves, as_new, Says, new-valid, moves-valid, segment-says, call-says, output-moved, time-moved, new-out}
 use Rattle.echo_services.specs.Serving.{Entry, segment, time, asks, kept}
-use Rattle.echo_services.specs.WholeStreams.{Whole, follows, all_offered, whole_followed, whole_enters, whole_new, IsEntry, AreEntries}
+use Rattle.echo_services.specs.WholeStreams.{Whole, follows, all_offered, whole_followed, IsEntry, AreEntries}
 use Rattle.echo_services.proofs.EchoLemmas.{clock-says, no-bytes}
 use Rattle.echo_services.proofs.ServingLemmas.{pumps-valid, enters-valid, enters-block}
 use Rattle.page_service.specs.declared.phase.Phase.{Phase}
-use Rattle.page_service.specs.declared.phase.Phase.TheVariants.{Reads, Answers, Ends}
-use Rattle.page_service.specs.Protocol.{Protocol, IsProtocol, responses}
-use Rattle.page_service.specs.Pump.{left_of, pump}
-use Rattle.page_service.specs.Kept.{Held, kept_by, kept_enters, kept_serves, kept_new, service_of}
+use Rattle.page_service.specs.declared.phase.Phase.TheVariants.{Reads}
+use Rattle.page_service.specs.Protocol.{Protocol, IsProtocol}
+use Rattle.page_service.specs.Pump.{pump}
+use Rattle.page_service.specs.Kept.{Held, kept_enters, kept_serves, kept_new, service_of}
 use Rattle.page_service.proofs.PumpsLemmas.{pump-pumps}
-use Rattle.page_service.proofs.SentLemmas.{Sent, Open, Pumped, pump-sends, sent-at}
+use Rattle.page_service.proofs.SentLemmas.{Sent, Open, pump-sends, sent-at}
 use Rattle.page_service.proofs.WorkLemmas.{Adds}
 
 -- the lists beside a block after a step

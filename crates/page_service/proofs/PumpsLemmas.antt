@@ -1,8 +1,8 @@
 -- The pump is such as the laws of serving speak of.
-use Rattle.std.proofs.Common.{◌≡◌, ℕ, ◌+◌, ◌-◌, ◌≤◌, List, [], ◌∷◌, ◌++◌, Option, None, Some, Bool, true, false, cond, ◌⊎◌, inl, inr, length, take, drop, refl, sym, ap, ◌∙◌, subst, arith, length-take}
+use Rattle.std.proofs.Common.{◌≡◌, ℕ, ◌+◌, ◌≤◌, ◌++◌, Option, None, Some, Bool, true, false, cond, ◌⊎◌, inl, inr, length, refl, sym, ap, ◌∙◌, subst, arith, length-take}
 use Rattle.std.specs.Prelude.{nat_le, suc, zero}
 use Rattle.std.proofs.lemmas.Bool.{false≢true}
-use Rattle.byte_queues.specs.ReceiveQueue.{next_of, ready_of, next_bytes}
+use Rattle.byte_queues.specs.ReceiveQueue.{ready_of}
 use Rattle.byte_queues.specs.SendQueue.{room_of}
 use Rattle.byte_queues.proofs.WholeLemmas.{next-count}
 use Rattle.tcb_machine.specs.BlockState.{Block}
@@ -17,7 +17,7 @@ use Rattle.echo_services.specs.Pumping.{IsPump, Pumps, may_offer}
 use Rattle.page_service.specs.declared.phase.Phase.{Phase}
 use Rattle.page_service.specs.declared.phase.Phase.TheVariants.{Reads, Answers, Ends}
 use Rattle.page_service.specs.Protocol.{Protocol, IsProtocol}
-use Rattle.page_service.specs.Pump.{Turn, goes, rests, behind, closes, gives, more_of, left_from, most_turns, pump, reads, said, then_on, turn, turns, waiting}
+use Rattle.page_service.specs.Pump.{Turn, goes, rests, behind, closes, more_of, left_from, most_turns, pump, reads, said, then_on, turn, turns, waiting}
 use Rattle.page_service.proofs.WorkLemmas.{Works, works-same, works-both, works-taken, works-offered}
 
 -- what was worked on is such as a pump leaves

@@ -1,9 +1,9 @@
 -- Behind a pump nothing waits that could go: so many turns are always enough.
-use Rattle.std.proofs.Common.{◌≡◌, ℕ, ◌+◌, ◌-◌, ◌*◌, ◌<◌, ◌≤◌, List, [], ◌∷◌, ◌++◌, Option, None, Some, Bool, true, false, cond, ◌⊎◌, inl, inr, length, take, drop, min, refl, sym, ap, ◌∙◌, subst, arith, length-take, length-drop, length-append}
+use Rattle.std.proofs.Common.{◌≡◌, ℕ, ◌+◌, ◌-◌, ◌*◌, ◌<◌, ◌≤◌, ◌++◌, Option, None, Some, Bool, true, false, cond, ◌⊎◌, inl, inr, length, min, refl, sym, ap, ◌∙◌, arith, length-take, length-drop, length-append}
 use Rattle.std.specs.Prelude.{nat_le, suc, zero}
 use Rattle.std.proofs.lemmas.Bool.{false≢true}
 use Rattle.std.proofs.lemmas.Bool.Decides.{leb_tells}
-use Rattle.byte_queues.specs.ReceiveQueue.{next_of, ready_of, without}
+use Rattle.byte_queues.specs.ReceiveQueue.{ready_of, without}
 use Rattle.byte_queues.specs.SendQueue.{room_of}
 use Rattle.tcb_machine.specs.BlockState.{Block}
 use Rattle.tcb_machine.specs.CallAnswers.{close_in}

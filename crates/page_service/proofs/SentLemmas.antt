@@ -1,10 +1,10 @@
 -- What a pump offers, with what is left of the answer under way, is the answers to what was taken.
-use Rattle.std.proofs.Common.{◌≡◌, ℕ, ◌+◌, ◌-◌, ◌<◌, ◌≤◌, List, [], ◌∷◌, ◌++◌, Option, None, Some, Bool, true, false, cond, ◌⊎◌, inl, inr, length, take, drop, refl, sym, ap, ◌∙◌, subst, arith, append_assoc, append-nil, length-drop}
+use Rattle.std.proofs.Common.{◌≡◌, ℕ, ◌+◌, ◌<◌, ◌≤◌, List, [], ◌∷◌, ◌++◌, Option, None, Some, Bool, true, false, cond, ◌⊎◌, inl, inr, length, take, drop, refl, sym, ap, ◌∙◌, subst, arith, append_assoc, append-nil}
 use Rattle.std.specs.Prelude.{nat_le, suc, zero}
 use Rattle.std.proofs.lemmas.Bool.{false≢true}
 use Rattle.std.proofs.lemmas.Bool.Decides.{leb_tells}
-use Rattle.std.proofs.lemmas.List.{take-append-drop, drop-drop, drop_all}
-use Rattle.byte_queues.specs.ReceiveQueue.{Recv, next_bytes, ready_of}
+use Rattle.std.proofs.lemmas.List.{drop-drop, drop_all}
+use Rattle.byte_queues.specs.ReceiveQueue.{next_bytes, ready_of}
 use Rattle.byte_queues.specs.SendQueue.{room_of}
 use Rattle.byte_queues.proofs.WholeLemmas.{next-count}
 use Rattle.tcb_machine.specs.BlockState.{Block}
@@ -16,7 +16,7 @@ use Rattle.page_service.specs.Protocol.{Protocol, IsProtocol, responses}
 use Rattle.page_service.specs.Pump.{Turn, goes, rests, behind, closes, left_from, left_of, more_of, most_turns, pump, reads, said, then_on, turn, turns, waiting}
 use Rattle.page_service.proofs.CloseLemmas.{closed_recv, closed_out}
 use Rattle.page_service.proofs.PumpsLemmas.{found-ready}
-use Rattle.page_service.proofs.ResponseLemmas.{KeptAll, IsOwn, one-more, kept-more, kept-stays}
+use Rattle.page_service.proofs.ResponseLemmas.{KeptAll, IsOwn, one-more, kept-more}
 use Rattle.page_service.proofs.WorkLemmas.{Adds, adds-nothing, adds-taken, adds-offered, adds-both, first-ready}
 
 adds-closed : (b : Block) → Adds b (closes b) (next_bytes (ready_of b.recv) b.recv ++ []) ([] ++ [])

@@ -1,10 +1,10 @@
 -- Turns one after another.
-use Rattle.std.proofs.Common.{◌≡◌, ℕ, ◌-◌, ◌≤◌, Bool, true, false, refl, sym, ap, ◌∙◌, arith}
+use Rattle.std.proofs.Common.{◌≡◌, ℕ, ◌-◌, ◌≤◌, Bool, true, false, refl, ap, ◌∙◌, arith}
 use Rattle.std.specs.Prelude.{suc, zero}
 use Rattle.tcb_machine.specs.BlockState.{Block}
 use Rattle.page_service.specs.declared.phase.Phase.{Phase}
 use Rattle.page_service.specs.Protocol.{Protocol}
-use Rattle.page_service.specs.Pump.{Turn, goes, rests, said, then_on, turn, turns}
+use Rattle.page_service.specs.Pump.{said, then_on, turn, turns}
 
 module _ {A : Type 0} (p : Protocol A) where
   -- another one follows

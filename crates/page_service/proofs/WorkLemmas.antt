@@ -1,5 +1,5 @@
 -- What turns do to a block before its FIN is wanted: bytes are taken from the front, and bytes are offered at the end.
-use Rattle.std.proofs.Common.{◌≡◌, ℕ, ◌+◌, ◌-◌, ◌≤◌, List, [], ◌∷◌, ◌++◌, Option, None, Some, Bool, true, false, cond, length, take, drop, refl, sym, ap, ◌∙◌, subst, arith, append_assoc, append-nil, length-append, length-take}
+use Rattle.std.proofs.Common.{◌≡◌, ℕ, ◌+◌, ◌-◌, ◌≤◌, List, [], ◌∷◌, ◌++◌, Option, None, Some, false, length, take, drop, refl, sym, ap, ◌∙◌, arith, append_assoc, append-nil, length-append}
 use Rattle.std.specs.Prelude.{suc, zero}
 use Rattle.std.proofs.lemmas.Bool.{false≢true}
 use Rattle.std.proofs.lemmas.List.{drop-drop}
@@ -7,7 +7,7 @@ use Rattle.byte_queues.specs.ReceiveQueue.{Cells, Recv, bytes, front, next_bytes
 use Rattle.byte_queues.specs.SendQueue.{room_of}
 use Rattle.tcb_machine.specs.BlockState.{Block}
 use Rattle.tcb_machine.specs.States.{is_listen}
-use Rattle.tcb_machine.specs.Validity.{IsValid, IsReceiving, IsSending}
+use Rattle.tcb_machine.specs.Validity.{IsValid}
 use Rattle.tcb_machine.proofs.QueueLemmas.{next_without}
 use Rattle.tcb_machine.proofs.ValidLemmas.{without-receiving}
 use Rattle.echo_services.specs.Closing.{throws}

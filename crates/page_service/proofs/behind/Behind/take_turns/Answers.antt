@@ -1,5 +1,4 @@
-use Rattle.std.proofs.Common.{rules, ◌≡◌, ◌+◌, ◌-◌, Bool, true, false, sym, ap, ◌∙◌, arith}
-use Rattle.tcb_machine.specs.BlockState.{Block}
+use Rattle.std.proofs.Common.{rules, ◌≡◌, ◌+◌, ◌-◌, true, false, sym, ap, ◌∙◌, arith}
 use Rattle.page_service.specs.Pump.{most_turns, turns}
 use Rattle.page_service.proofs.TurnLemmas.{turn_goes, turn_rests, turns_over}
 use Rattle.page_service.proofs.behind.Behind.take_turns.Goals as goal
