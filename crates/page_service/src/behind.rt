@@ -18,6 +18,15 @@ use tcb_machine::{Call, State, Tcb};
 const MOST_TURNS: u32 = 4096;
 
 /// A connection's service, and who answers its requests.
+///
+/// # Example
+///
+/// ```
+/// let mut behind = Behind { phase: connection.phase, answerer: &letters };
+/// serve(&mut behind, &mut connection.tcb, alloc, now, iss, &seg, text)?;
+/// connection.phase = behind.phase;
+/// ```
+#[derive(Drop)]
 pub struct Behind<'a, R: Answerer> {
     /// How far the service has come.
     pub phase: Phase<R::Answer>,
