@@ -4,3 +4,4 @@ pub mod PackLemmas
 pub mod DateLemmas
 pub mod Standing
 pub mod TextLemmas
+pub mod AloneLemmas

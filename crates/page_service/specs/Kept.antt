@@ -1,6 +1,7 @@
 -- Serving by a service that keeps something from one pump to the next, with the whole streams beside the block. A connection that is over
 -- leaves a new service to the next one.
-use Rattle.std.specs.Prelude.{List, [], ◌∷◌, if◌then◌else◌}
+use Rattle.std.specs.Prelude.{◌≡◌, ℕ, ◌⊎◌, List, [], ◌∷◌, if◌then◌else◌}
+use Rattle.std.specs.List.{AllByRecursion}
 use Rattle.tcb_machine.specs.BlockState.{Block}
 use Rattle.tcb_machine.specs.CallAnswers.{tcp_call}
 use Rattle.tcb_machine.specs.States.{is_listen}
@@ -39,6 +40,16 @@ module _ {S : Type 0} (v : Service S) where
 
   abbrev pub kept_new : Held S
   kept_new = record { whole = whole_new; service = v.new }
+
+-- a segment came at this time, and at each of these
+abbrev pub IsTimeOf : List Entry → ℕ → Type 0
+IsTimeOf [] at = ⊥
+IsTimeOf (segment now iss s text ∷ es) at = (at ≡ now) ⊎ IsTimeOf es at
+IsTimeOf (time to ∷ es) at = IsTimeOf es at
+IsTimeOf (asks call ∷ es) at = IsTimeOf es at
+
+abbrev pub AreTimesOf : List Entry → List ℕ → Type 0
+AreTimesOf es times = AllByRecursion (IsTimeOf es) times
 
 -- that of a protocol
 abbrev pub service_of : {A : Type 0} → Protocol A → Service (Phase A)

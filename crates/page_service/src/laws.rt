@@ -8,7 +8,7 @@ ghost use Rattle.echo_services.specs.Serving.{Entry};
 ghost use Rattle.echo_services.specs.WholeStreams.{AreEntries, all_offered};
 ghost use Rattle.page_service.specs.Protocol.{Protocol, IsProtocol, IsFront, responses};
 ghost use Rattle.page_service.specs.Pump.{RestsAt, left_of, pump};
-ghost use Rattle.page_service.specs.Kept.{kept_serves, kept_new, service_of};
+ghost use Rattle.page_service.specs.Kept.{AreTimesOf, kept_serves, kept_new, service_of};
 ghost use Rattle.page_service.specs.declared.phase.Phase.{Phase};
 
 /// The pump is such as the laws of served connections speak of: a block stays valid, and a segment adds little.
@@ -17,11 +17,12 @@ pub fn answers_are_a_pump<A>()
 {}
 
 /// Whatever came, in whatever pieces and at whatever times: what was offered since LISTEN, with what is left of the answer under way, is
-/// the answers to the requests that were taken, in order and each once. More bytes and times only go on behind them.
+/// the answers to the requests that were taken, in order and each once, each read when a segment came. More bytes and times only go on
+/// behind them.
 pub fn answers_come_in_order<A>()
     ensures sent { (p : Protocol A) (es : List Entry) → IsProtocol p → AreEntries es →
         let h = kept_serves (service_of p) es (kept_new (service_of p)) in
-        (times : List ℕ) × (all_offered h.whole ++ left_of p h.service ≡ responses p times h.whole.read) }
+        (times : List ℕ) × (all_offered h.whole ++ left_of p h.service ≡ responses p times h.whole.read) × AreTimesOf es times }
     ensures goes_on { (p : Protocol A) (times more bytes rest : List ℕ) → IsProtocol p → IsFront (responses p times bytes) (responses p (times ++ more) (bytes ++ rest)) }
 {}
 

@@ -1,5 +1,6 @@
 use Rattle.http_pages.proofs.Standing.{answer_to-append, answer_to-take, answer_to-count}
 use Rattle.http_pages.proofs.TextLemmas.{answer_text-length}
+use Rattle.http_pages.proofs.AloneLemmas.{answer_to-alone}
 use Rattle.http_pages.proofs.laws.answers_stand.Goals as goal
 
 pub returns-clause-goes_on : goal.returns-clause-goes_on
@@ -13,3 +14,6 @@ returns-clause-counted c = answer_to-count
 
 pub returns-clause-long : goal.returns-clause-long
 returns-clause-long c = answer_text-length
+
+pub returns-clause-alone : goal.returns-clause-alone
+returns-clause-alone c = answer_to-alone
