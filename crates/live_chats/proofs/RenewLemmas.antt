@@ -1,6 +1,6 @@
 -- Where a place is closed and opened again: what stands at the seats, and that the stay which ended and the next one make up one life.
-use Rattle.std.proofs.Common.{◌≡◌, ◌≢◌, ℕ, ◌+◌, ◌<◌, ◌≤◌, ◌⊎◌, inl, inr, eqb, Option, None, Some, List, [], ◌∷◌, ◌++◌, length, map, slice_get, refl, sym, ap, subst, ◌∙◌, append_assoc, arith}
-use Rattle.std.specs.List.{AllByRecursion, flat_map, sum, sum_by, swap}
+use Rattle.std.proofs.Common.{◌≡◌, ◌≢◌, ℕ, ◌+◌, ◌≤◌, inl, inr, Some, List, [], ◌∷◌, ◌++◌, length, map, slice_get, refl, sym, ap, subst, ◌∙◌, arith}
+use Rattle.std.specs.List.{flat_map, sum, sum_by, swap}
 use Rattle.std.specs.List.Sorted.{IsPermutation, SwapsInRange, apply_swaps}
 use Rattle.std.proofs.lemmas.Bool.Decides.{eqb_tells}
 use Rattle.std.proofs.lemmas.List.Elements.{All-from_recursion, recursion_from_All}
@@ -8,21 +8,19 @@ use Rattle.std.proofs.lemmas.List.Sums.{sum_by-cons}
 use Rattle.std.proofs.lemmas.List.Sorted.{All-permutation, IsPermutation-append_left, IsPermutation-map, IsPermutation-refl, IsPermutation-sym, sum_by-IsPermutation}
 use Rattle.indexmap.proofs.ReorderLemmas.{map-swap}
 use Rattle.sq_base.specs.declared.kinds.Tuple.{Tuple}
-use Rattle.turn_gate.specs.History.{Begins as Grows}
 use Rattle.turn_gate.specs.Passes.{number, seen}
 use Rattle.turn_gate.specs.declared.pass.Pass.{Pass}
 use Rattle.perimeter_core.specs.History.{Element, Limits, Setting}
 use Rattle.squeue_state.specs.Naming.{Named, setting_of}
 use Rattle.stream_stays.specs.declared.place.Stays.{Stays}
 use Rattle.stream_stays.specs.Places.{IsOpen, life_of}
-use Rattle.live_chats.specs.Accounts.{Accounts, HasEndedStay, HasRenewedStay, IsAway, SeatsWereTold, WereTold, account_of, accounts_of, in_the_end, pushed_at}
+use Rattle.live_chats.specs.Accounts.{Accounts, HasEndedStay, HasRenewedStay, SeatsWereTold, WereTold, account_of, accounts_of, in_the_end, pushed_at}
 use Rattle.live_chats.specs.Hearing.{ChatOf, conn_in}
 use Rattle.live_chats.specs.Lived.{AreMadeOf, stays_behind}
 use Rattle.live_chats.specs.Onward.{told_on}
 use Rattle.live_chats.specs.Seating.{HasSeats, IsSeated, IsSettled, KeptBut, chat_at, conn_of_seat, conns_of, left_at}
 use Rattle.live_chats.specs.declared.chats.Chats.{Chats}
 use Rattle.live_chats.specs.declared.item.ChatItem.{ChatItem}
-use Rattle.live_chats.specs.declared.seat.Seat.{Seat}
 use Rattle.live_chats.proofs.ListLemmas.{left_moves, length_map, map_agrees, map_left}
 use Rattle.live_chats.proofs.LivedLemmas.{IsOther, from_first, in_other_order, nothing_told, times, times_append}
 use Rattle.live_chats.proofs.SeatLemmas.{Entry, account_at, left_accounts, others_kept, others_same, same_entry}

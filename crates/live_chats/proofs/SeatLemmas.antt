@@ -30,7 +30,7 @@ use Rattle.live_server.specs.Told.{Told}
 use Rattle.live_server.specs.Told.Told.{hears}
 use Rattle.live_server.proofs.TableLemmas.{conn_written, same, tuple_equivalence}
 use Rattle.live_chats.specs.Accounts.{Accounts, HasEndedStay, IsAway, SeatsWereTold, WereTold, account_of, accounts_of, number_in, pushed_at, seen_in}
-use Rattle.live_chats.specs.Hearing.{ChatOf, conn_in, hearing, hearing_all, nobody, silent}
+use Rattle.live_chats.specs.Hearing.{ChatOf, conn_in, hearing, nobody, silent}
 use Rattle.live_chats.specs.Listening.{IsAnswer}
 use Rattle.live_chats.specs.Seating.{AllSeated, Begins, HasSeats, HasSeatsBut, HeardAt, IsGood, IsSeated, IsSettled, Judges, KeepsEnds, MetAt, KeptBut, KeptOpen, chat_at, chat_of, conn_of_seat, conns_of, left_at}
 use Rattle.live_chats.specs.declared.chats.Chats.{Chats}

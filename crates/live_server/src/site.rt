@@ -47,7 +47,9 @@ impl Answerer for Site {
     ghost use Rattle.http_pages.specs.AnswerText.{answer_body};
     ghost use Rattle.live_server.specs.Services.{pages_protocol};
     ghost use Rattle.std.specs.Prelude.{take};
-    ghost use Rattle.http_pages.proofs.Standing.{answer_to-alone, answer_to-append, answer_to-count, answer_text-length};
+    ghost use Rattle.http_pages.proofs.AloneLemmas.{answer_to-alone};
+    ghost use Rattle.http_pages.proofs.Standing.{answer_to-append, answer_to-count};
+    ghost use Rattle.http_pages.proofs.TextLemmas.{answer_text-length};
 
     type Answer = Answer;
 

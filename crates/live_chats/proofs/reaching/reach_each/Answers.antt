@@ -1,4 +1,4 @@
-use Rattle.std.proofs.Common.{[], List, ◌++◌, map, ap, subst, ◌∙◌}
+use Rattle.std.proofs.Common.{[], ◌++◌, map, ap, subst, ◌∙◌}
 use Rattle.std.specs.List.{flat_map}
 use Rattle.std.specs.Map.{keys_of}
 use Rattle.placed_parts.specs.Placing.{limits_of}

@@ -1,4 +1,4 @@
-use Rattle.std.proofs.Common.{[], ◌∙◌, refl, arith}
+use Rattle.std.proofs.Common.{[], ◌∙◌, refl}
 use Rattle.placed_parts.specs.Placing.{limits_of}
 use Rattle.live_chats.proofs.SeatLemmas.{seats_told_on, seats_untold}
 use Rattle.live_chats.proofs.renewing.renew_all.Goals as goal

@@ -1,4 +1,4 @@
-use Rattle.std.proofs.Common.{◌≤◌, ◌+◌, ◌<◌, ◌⊎◌, inl, length, sym, ap, subst, arith}
+use Rattle.std.proofs.Common.{◌≤◌, ◌+◌, ◌<◌, ◌⊎◌, inl, length, sym, subst, arith}
 use Rattle.sq_base.specs.declared.kinds.Tuple.{Tuple}
 use Rattle.placed_parts.specs.Placing.{limits_of, origin_of}
 use Rattle.stream_stays.specs.Places.{life_of}

@@ -1,4 +1,4 @@
-use Rattle.std.proofs.Common.{◌≡◌, ◌∷◌, [], Some, slice_get, List, sym, ap, subst, ◌∙◌}
+use Rattle.std.proofs.Common.{◌≡◌, ◌∷◌, [], Some, slice_get, subst}
 use Rattle.sq_base.specs.declared.kinds.Tuple.{Tuple}
 use Rattle.placed_parts.specs.Placing.{limits_of}
 use Rattle.live_server.specs.Table.{Conns, without}
@@ -7,7 +7,7 @@ use Rattle.live_server.specs.declared.conn.Conn.{Conn}
 use Rattle.live_chats.specs.Seating.{HeardAt, conns_of}
 use Rattle.live_chats.specs.Accounts.{SeatsWereTold}
 use Rattle.live_chats.specs.declared.seat.Seat.{Seat}
-use Rattle.live_chats.proofs.SeatLemmas.{if_none, if_some, none_of, of_some, seats_told_on}
+use Rattle.live_chats.proofs.SeatLemmas.{if_some, of_some, seats_told_on}
 use Rattle.live_chats.proofs.seats.hear_at.Goals as goal
 
 pub returns-clause-heard : goal.returns-clause-heard
