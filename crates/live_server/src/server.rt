@@ -5,7 +5,7 @@ ghost use Rattle.segment_codec.specs.Packet.{packet_in};
 ghost use Rattle.segment_codec.specs.declared.packet.Seg.{Seg};
 ghost use Rattle.sq_base.specs.declared.kinds.Link.TheVariants.{RawIp};
 ghost use Rattle.tcb_machine.specs.Limits.{last_time};
-ghost use Rattle.live_server.specs.Isolation.{Costs, LosesOne};
+ghost use Rattle.live_server.specs.Isolation.{Costs, KeepsStart, LosesOne};
 ghost use Rattle.live_server.specs.Serving.{on_datagram, on_time};
 
 use crate::acting::Datagram;
@@ -94,6 +94,7 @@ impl Server {
         ensures server { OnOk result (self.new ≡ (on_datagram now body.now self.old).server) }
         ensures sent { OnOk result (out.new.items ≡ out.old.items ++ (on_datagram now body.now self.old).sent) }
         ensures lost { OnErr result ((s : Seg) × (packet_in RawIp body.now true ≡ Packet.Segment s) × Costs s self.old self.new) }
+        ensures start { OnErr result (KeepsStart self.old self.new) }
     {
         self.rules.datagram(alloc, now, body, out)
     }
@@ -112,6 +113,7 @@ impl Server {
         ensures server { OnOk result (self.new ≡ (on_time now self.old).server) }
         ensures sent { OnOk result (out.new.items ≡ out.old.items ++ (on_time now self.old).sent) }
         ensures lost { OnErr result (LosesOne now self.old self.new) }
+        ensures rest { OnErr result (self.new ≡ record self.old { conns = self.new.conns }) }
     {
         self.rules.tick(alloc, now, out)
     }
