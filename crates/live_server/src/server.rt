@@ -93,11 +93,7 @@ impl Server {
         requires body { length body.now < 2 ^ 32 }
         ensures server { OnOk result (self.new ≡ (on_datagram now body.now self.old).server) }
         ensures sent { OnOk result (out.new.items ≡ out.old.items ++ (on_datagram now body.now self.old).sent) }
-<<<<<<< HEAD
         ensures lost { OnErr result (((s : Seg) × (packet_in RawIp body.now true ≡ Packet.Segment s) × Costs s self.old self.new) ⊎ (self.new ≡ self.old)) }
-=======
-        ensures lost { OnErr result ((s : Seg) × (packet_in RawIp body.now true ≡ Packet.Segment s) × Costs s self.old self.new) }
->>>>>>> 9fb96b618c58d380fe9c216983184a614d759fa5
         ensures start { OnErr result (KeepsStart self.old self.new) }
     {
         self.rules.datagram(alloc, now, body, out)
