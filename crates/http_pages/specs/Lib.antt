@@ -7,3 +7,4 @@ pub mod Choosing
 pub mod Dates
 pub mod AnswerText
 pub mod Reading
+pub mod Worked

@@ -14,9 +14,11 @@ mod pages;
 mod reading;
 mod requests;
 mod text;
+mod worked;
 
 pub use answer::{Answer, Status};
 pub use laws::answers_stand;
 pub use pages::{PackError, Pages};
 pub use reading::answer_to;
 pub use text::{body_of, head_of};
+pub use worked::{others_are_told, pages_are_told};
