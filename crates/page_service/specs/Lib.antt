@@ -1,3 +1,4 @@
 pub mod Protocol
 pub mod Pump
 pub mod Kept
+pub mod Site

@@ -9,8 +9,10 @@ mod answerer;
 mod behind;
 mod laws;
 mod phase;
+mod site;
 
 pub use answerer::Answerer;
 pub use behind::Behind;
 pub use laws::{answers_are_a_pump, answers_come_in_order, requests_are_answered};
 pub use phase::Phase;
+pub use site::{Web, pages_answer_what_came};
