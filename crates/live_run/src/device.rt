@@ -1,8 +1,9 @@
 //! Standard input and output as a TUN device: each read is a datagram, and each write is one.
 
-ghost use Rattle.std.specs.Prelude.{◌≡◌, ◌<◌, ◌≤◌, ◌^◌, length, OnOk};
+ghost use Rattle.std.specs.Prelude.{◌≡◌, ◌<◌, ◌≤◌, ◌^◌, length, OnErr, OnOk};
 ghost use Rattle.tcb_machine.specs.Limits.{last_time};
-ghost use Rattle.live_run.specs.Rounds.{round, ticked_by, AppendsEach};
+ghost use Rattle.live_server.specs.Isolation.{KeepsStart};
+ghost use Rattle.live_run.specs.Rounds.{round, ticked_by, AppendsEach, LosesAtRound};
 
 use crate::fault::Fault;
 use live_server::{Datagram, Server};
@@ -102,6 +103,8 @@ fn round(
     ensures server { OnOk result (server.new ≡ (round now ticked.old body.now server.old).server) }
     ensures sent { OnOk result (sent.new.items ≡ (round now ticked.old body.now server.old).sent) }
     ensures ticked { ticked.new ≡ ticked_by now ticked.old }
+    ensures lost { OnErr result (LosesAtRound now ticked.old body.now server.old server.new) }
+    ensures start { OnErr result (KeepsStart server.old server.new) }
 {
     sent.clear();
     if now.saturating_sub(*ticked) >= TICK {
