@@ -4,3 +4,4 @@ pub mod ReadLemmas
 pub mod FrontLemmas
 pub mod PutLemmas
 pub mod EachLemmas
+pub mod RoundLemmas

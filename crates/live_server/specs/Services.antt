@@ -7,12 +7,9 @@ use Rattle.echo_services.specs.Daytime.{daytime}
 use Rattle.echo_services.specs.Discard.{discard}
 use Rattle.echo_services.specs.Echo.{echo}
 use Rattle.live_server.specs.DaytimeText.{daytime_text}
-use Rattle.http_pages.specs.AnswerText.{answer_text}
 use Rattle.http_pages.specs.Pages.{Page}
-use Rattle.http_pages.specs.Reading.{answer_to}
-use Rattle.http_pages.specs.declared.answer.Answer.{Answer}
-use Rattle.page_service.specs.Protocol.{Protocol}
 use Rattle.page_service.specs.Pump.{pump}
+use Rattle.page_service.specs.Site.{site}
 use Rattle.page_service.specs.declared.phase.Phase.TheVariants.{Reads}
 use Rattle.live_server.specs.declared.ports.Ports.{Ports}
 use Rattle.live_server.specs.declared.service.LiveService.{LiveService}
@@ -46,17 +43,13 @@ service_at g now port =
     else if port == g.ports.web then pages_of g.site
     else Discard
 
--- HTTP as a protocol of requests and answers
-abbrev pub pages_protocol : List Page → Protocol Answer
-pages_protocol pages = record { answers = answer_to pages; text = answer_text pages; keeps = λ a. a.keeps }
-
 -- what a pump makes of a block, by what the service keeps
 unfoldable pub pump_of : LiveService → Block → Block
 pump_of Echo b = echo b
 pump_of Discard b = discard b
 pump_of (Daytime begun) b = daytime (daytime_text begun) b
 pump_of (Chargen given) b = chargen given b
-pump_of (Web phase pages) b = (pump (pages_protocol pages) phase b).1
+pump_of (Web phase pages) b = (pump (site pages) phase b).1
 
 -- and what the service keeps then
 unfoldable pub after_pump : LiveService → Block → LiveService
@@ -64,4 +57,4 @@ after_pump Echo b = Echo
 after_pump Discard b = Discard
 after_pump (Daytime begun) b = Daytime begun
 after_pump (Chargen given) b = Chargen (given_after given b)
-after_pump (Web phase pages) b = Web (pump (pages_protocol pages) phase b).0 pages
+after_pump (Web phase pages) b = Web (pump (site pages) phase b).0 pages

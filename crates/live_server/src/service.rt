@@ -65,7 +65,7 @@ impl PortService for LiveService {
             LiveService::Web { phase, site } => {
                 let mut behind = Behind {
                     phase: *phase,
-                    answerer: site,
+                    answerer: site.pages(),
                 };
                 behind.pump(tcb, alloc)?;
                 *phase = behind.phase;
