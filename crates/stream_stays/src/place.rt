@@ -57,6 +57,13 @@ impl<T: Drop, S: Drop> Stays<T, S> {
         }
     }
 
+    /// What is at each place, where the pass is done with its places.
+    pub fn into_places(self) -> Vec<Place<T, S>>
+        ensures { result.items ≡ places_of self }
+    {
+        self.places
+    }
+
     /// How many more items may be pushed in the pass's life, and how many asks it may make.
     pub fn life(&self) -> Life
         ensures { result ≡ life_of self.now }
