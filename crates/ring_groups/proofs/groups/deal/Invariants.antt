@@ -1,0 +1,17 @@
+use Rattle.std.proofs.Common.{◌≡◌, ◌+◌, ◌≤◌, ◌++◌, length, vec_capacity}
+use Rattle.std.specs.Prelude.{All, reverse}
+use Rattle.ring_groups.specs.Groups.{MayServe, all_in}
+use Rattle.ring_groups.proofs.groups.deal.Given as goal
+
+-- some are dealt, and the others are left
+abbrev pub invariant-groups : goal.invariant-groups
+invariant-groups g l =
+    record {
+      dealt : l.fn.all.items ≡ all_in l.groups.items ++ reverse l.all.items;
+      may : All MayServe l.groups.items;
+      few : length l.all.items ≤ 63;
+      room : length l.groups.items + length l.all.items ≤ vec_capacity l.groups;
+    }
+
+abbrev pub decreases-groups : goal.decreases-groups
+decreases-groups g l = length l.all.items

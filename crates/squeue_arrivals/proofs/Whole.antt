@@ -1,0 +1,88 @@
+-- A source whose ring is done is served.
+use Rattle.std.proofs.Common.{◌≡◌, ℕ, ◌+◌, ◌*◌, Option, Some, List, length, map, slice_get, ap, sym, ◌∙◌, subst}
+use Rattle.std.specs.Prelude.{Contains, nat_eq, option_map}
+use Rattle.std.specs.List.{IsDistinct}
+use Rattle.std.proofs.lemmas.List.{length-map}
+use Rattle.std.proofs.lemmas.Option.{slice_get-map}
+use Rattle.turn_gate.specs.History.{Begins}
+use Rattle.turn_gate.specs.Passes.{number, seen}
+use Rattle.turn_gate.specs.declared.pass.Pass.{Pass}
+use Rattle.perimeter_core.specs.History.{Element, Limits, Setting}
+use Rattle.histories.specs.Endings.{Ending, HasEnded}
+use Rattle.squeue_state.specs.Naming.{Named, setting_of}
+use Rattle.squeue_streams.specs.Taking.{state_of}
+use Rattle.stream_stays.specs.declared.place.Place.TheVariants.{Vacant as Vacant'}
+use Rattle.stream_stays.specs.declared.place.Stays.{Stays}
+use Rattle.stream_stays.specs.declared.stay.Vacant.{Vacant}
+use Rattle.stream_stays.specs.Places.{place_at}
+use Rattle.squeue_arrivals.specs.Arriving.{HasGiven, IsMadeOf, IsServed, IsServedAt, IsServedIn, items_for, keys_of}
+use Rattle.squeue_arrivals.specs.Keyed.{AreBegun, Tells, work_of}
+use Rattle.squeue_arrivals.specs.Keeping.{AllCame, AreClosed, IsTable}
+use Rattle.squeue_arrivals.specs.Placed.{keys_in, place_of}
+use Rattle.squeue_arrivals.specs.Stayed.{HasStay}
+use Rattle.squeue_arrivals.specs.declared.ring_keys.RingKeys.{RingKeys}
+use Rattle.squeue_arrivals.specs.declared.served.KeyPart.{KeyPart}
+use Rattle.squeue_arrivals.specs.declared.served.ServedSource.{ServedSource}
+use Rattle.squeue_arrivals.specs.declared.steps.Keyed.{Keyed}
+use Rattle.squeue_arrivals.proofs.Closing.{made_of}
+use Rattle.squeue_arrivals.proofs.StaysKept.{stay_on}
+
+module _ {R W T S A O : Type 0} (begins : W → S → Type 0) (step : W → S → T → S → Type 0) (origin : A → O) (given : A → List (ℕ × T)) (is_over : A → Type 0) (limits : R → Limits) (s : Named R)
+    (o : Keyed W T S) (most : ℕ) where
+  abbrev pub is_served : (all : List (ℕ × T)) (p : Pass Element) (st : Stays T S) (k : RingKeys) (source : A) (left : ServedSource A T S) → AreBegun begins o → IsTable all k → AllCame all k
+      → AreClosed (Tells step) limits s o all p st k → keys_of left.parts.items ≡ keys_in k
+      → ((i : ℕ) (part : KeyPart S) → slice_get left.parts.items i ≡ Some part → (v : Vacant T S) × (place_at st (place_of k i) ≡ Some (Vacant' v)) × (part.state ≡ state_of v.part))
+      → HasGiven origin given is_over most (length (keys_in k)) all source left.source left.refused → IsServed begins step origin given is_over (work_of o) most source left
+  is_served all p st k source left begun table came closed keys states gave =
+      let many : length (keys_in k) ≡ length left.parts.items = sym (ap length keys) ∙ length-map left.parts.items (λ p. p.key) in
+      record {
+        all = all;
+        its_items = subst (λ (n : ℕ). HasGiven origin given is_over most n all source left.source left.refused) many gave;
+        distinct = subst (IsDistinct nat_eq) (sym keys) table.distinct;
+        each = λ i part at.
+            let key : slice_get (keys_in k) i ≡ Some part.key = ap (λ (l : List ℕ). slice_get l i) (sym keys) ∙ (slice_get-map (λ p. p.key) left.parts.items i ∙ ap (λ x. option_map (λ p. p.key) x) at) in
+            let h = states i part at in (
+              came i part.key key,
+              subst (IsMadeOf begins step (work_of o) (items_for part.key all)) (sym h.2) (made_of begins step limits s o all p st k i part.key h.0 begun closed key h.1),
+            );
+        every = λ key some. subst (λ (l : List ℕ). Contains l key) (sym keys) (table.every key some);
+      }
+
+  -- and so it is by the history that its pass has seen, when that was closed
+  pub is_served_at : (all : List (ℕ × T)) (p q : Pass Element) (st : Stays T S) (k : RingKeys) (source : A) (left : ServedSource A T S) → AreBegun begins o → IsTable all k → AllCame all k
+      → AreClosed (Tells step) limits s o all p st k → keys_of left.parts.items ≡ keys_in k
+      → ((i : ℕ) (part : KeyPart S) → slice_get left.parts.items i ≡ Some part → (v : Vacant T S) × (place_at st (place_of k i) ≡ Some (Vacant' v)) × (part.state ≡ state_of v.part))
+      → HasGiven origin given is_over most (length (keys_in k)) all source left.source left.refused → left.pass.value ≡ q → Begins (seen p) (seen q) → number q ≡ number p → k.number ≡ number p
+      → k.rings ≡ s.given.rings → IsServedAt begins step origin given is_over (work_of o) most (setting_of limits s.given) source left
+  is_served_at all p q st k source left begun table came closed keys states gave last grows same number_is rings_are =
+      record {
+        served = is_served all p st k source left begun table came closed keys states gave;
+        stays = λ i part at.
+            let key : slice_get (keys_in k) i ≡ Some part.key = ap (λ (l : List ℕ). slice_get l i) (sym keys) ∙ (slice_get-map (λ p. p.key) left.parts.items i ∙ ap (λ x. option_map (λ p. p.key) x) at) in
+            let S = setting_of limits s.given in
+            let n = length (items_for part.key all) in
+            let now = stay_on S (number p) (place_of k i) n (seen p) (seen q) grows (closed.at i part.key key).2 in
+            let mine = subst (λ (m : ℕ). HasStay S m (place_of k i) n (seen q)) (sym same) now in
+            let place : place_of k i ≡ number q + i * s.given.rings =
+            ap (λ (m : ℕ). m + i * k.rings) (number_is ∙ sym same) ∙ ap (λ (m : ℕ). number q + i * m) rings_are in
+            let there = subst (λ (c : ℕ). HasStay S (number q) c n (seen q)) place mine in
+            subst (λ (x : Pass Element). HasStay S (number x) (number x + i * s.given.rings) n (seen x)) (sym last) there;
+      }
+
+-- what is so of what a ring's pass has seen is so of the history at its squeue's end
+module _ {W T S A O : Type 0} (begins : W → S → Type 0) (step : W → S → T → S → Type 0) (origin : A → O) (given : A → List (ℕ × T)) (is_over : A → Type 0) (work : W) (most : ℕ) where
+  pub served_in : (at : Setting) (end : Ending) (k : ℕ) (source : A) (left : ServedSource A T S) → HasEnded end → end.setting ≡ at → number left.pass.value ≡ k → Begins (seen left.pass.value) end.history
+      → IsServedAt begins step origin given is_over work most at source left → IsServedIn begins step origin given is_over work most end k source left
+  served_in at end k source left ended setting number_is grows h =
+      record {
+        ended = ended;
+        by = record {
+          served = h.served;
+          stays = λ i part got.
+              let n = length (items_for part.key h.served.all) in
+              let p = number left.pass.value in
+              let now = stay_on at p (p + i * at.rings) n (seen left.pass.value) end.history grows (h.stays i part got) in
+              let mine = subst (λ (m : ℕ). HasStay at m (m + i * at.rings) n end.history) number_is now in
+              subst (λ (S : Setting). HasStay S k (k + i * S.rings) n end.history) (sym setting) mine;
+        };
+      }

@@ -1,0 +1,11 @@
+pub mod Front
+pub mod Told
+pub mod Listing
+pub mod Keyed
+pub mod Pooling
+pub mod Stayed
+pub mod Arriving
+pub mod Placed
+pub mod Keeping
+pub mod Seating
+pub mod Tasks
