@@ -1,5 +1,3 @@
-pub mod Shares
-pub mod Grouped
 pub mod Seated
 pub mod Owned
 pub mod FirstKnown

@@ -30,23 +30,8 @@ use Rattle.squeue_state.specs.Clauses.{Knows}
 use Rattle.squeue_serve.proofs.Unused.{each_at}
 use Rattle.std.proofs.lemmas.Bool.{cases_eq}
 use Rattle.live_rings.specs.declared.ring.ServerTask.TheVariants as Task'
+use Rattle.ring_groups.proofs.Grouped.{whole_back}
 use Rattle.live_rings.proofs.RingJobs.{ReadyAt, all_new, done_lent, known_pass, parts_of, tasks_done}
-
--- what a slice of the whole leaves in its Vec
-pub whole_back : {A : Type 0} (n : ℕ) (xs new : List A) → length new ≡ n → length xs ≡ n → take n (new ++ drop (length new) xs) ≡ new
-whole_back n xs new a b = go n new (drop (length new) xs) a (rest (length new) xs (omega (arith, a, b)))
-  where
-    rest : {A : Type 0} (n : ℕ) (xs : List A) → length xs ≡ n → drop n xs ≡ []
-    rest zero [] h = refl
-    rest (suc n) [] h = absurd (omega (arith, h))
-    rest zero (x ∷ xs) h = absurd (omega (arith, h))
-    rest (suc n) (x ∷ xs) h = rest n xs (omega (arith, h))
-
-    go : {A : Type 0} (n : ℕ) (new ys : List A) → length new ≡ n → ys ≡ [] → take n (new ++ ys) ≡ new
-    go zero [] ys a e = refl
-    go (suc n) [] ys a e = absurd (omega (arith, a))
-    go zero (x ∷ new) ys a e = absurd (omega (arith, a))
-    go (suc n) (x ∷ new) ys a e = ap (λ l. x ∷ l) (go n new ys (omega (arith, a)) e)
 
 -- the squeue is lent to these jobs, one for each of its passes, and each is ready
 pub record Lends {X P S K : Type 0} {G : PartGhosts X P Chats} (s : Named (Places X P Chats G)) (jobs : List (Job (ServerTask S K))) (n : ℕ) (all : List (Named (Places X P Chats G))) : Type 0 where

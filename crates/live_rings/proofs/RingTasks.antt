@@ -11,7 +11,7 @@ use Rattle.live_rings.specs.declared.ending.Ends.{Ends}
 use Rattle.live_rings.specs.declared.ring.RingThread.{RingThread}
 use Rattle.live_rings.specs.declared.ring.ServerTask.{ServerTask}
 use Rattle.live_rings.specs.declared.ring.ServerTask.TheVariants as Task'
-use Rattle.live_rings.specs.Groups.{AllBecameFrom}
+use Rattle.ring_groups.specs.Groups.{AllBecameFrom}
 use Rattle.live_rings.specs.Seating.{AreNewStays, numbers_of}
 use Rattle.live_rings.specs.Tasks.{AreNewRings, AreNewTasks, HasDone, IsNewTask, ended_of, tasks_for}
 use Rattle.live_rings.proofs.Seated.{get_more}

@@ -11,7 +11,7 @@ use Rattle.live_rings.specs.declared.ending.EndedRing.{EndedRing}
 use Rattle.live_rings.specs.declared.words.Layout.{Layout}
 use Rattle.live_rings.specs.Making.{server_of}
 use Rattle.histories.specs.Endings.{Ending}
-use Rattle.live_rings.specs.Groups.{AllBecame, AllOfGroups}
+use Rattle.ring_groups.specs.Groups.{AllBecame, AllOfGroups}
 use Rattle.turn_gate.specs.History.{Begins}
 use Rattle.turn_gate.specs.Passes.{number, seen}
 use Rattle.turn_gate.specs.declared.pass.Pass.{Pass}

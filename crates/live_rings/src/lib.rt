@@ -5,12 +5,11 @@
 //!
 //! IN and OUT are N pairs of files or FIFOs: ring k reads frames from the k-th IN, and what its connections and its rules send goes as
 //! frames to the k-th OUT. A stream's time comes in its own frames. `seating` is how places are made, dealt to rings and given to a squeue,
-//! `ring` what the threads of a squeue do, and `ring_squeue` a squeue from its making to its end. `groups` deals streams to squeues, `rings`
+//! `ring` what the threads of a squeue do, and `ring_squeue` a squeue from its making to its end. `rings`
 //! serves these beside each other, `words` and `program` are the program. It knows no clock and no device.
 #![tactic(auto)]
 
 mod ending;
-mod groups;
 pub mod laws;
 mod program;
 mod ring;

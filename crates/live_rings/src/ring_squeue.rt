@@ -15,7 +15,7 @@ ghost use Rattle.live_rings.specs.declared.ring.ServerTask.{ServerTask};
 ghost use Rattle.live_rings.specs.declared.ring.ServerTask.TheVariants.{Served};
 ghost use Rattle.live_rings.specs.Making.{IsInRange};
 ghost use Rattle.live_rings.specs.Seating.{AreNewPlaces, ServesPlaces};
-ghost use Rattle.live_rings.specs.Groups.{AllBecameFrom};
+ghost use Rattle.ring_groups.specs.Groups.{AllBecameFrom};
 ghost use Rattle.live_rings.specs.Served.{EndedAt, EndedIn};
 ghost use Rattle.live_rings.specs.declared.ending.EndedRing.{EndedRing};
 ghost use Rattle.live_rings.specs.Tasks.{AreDone, AreNewRings, AreNewTasks, ended_of, tasks_for};

@@ -2,15 +2,15 @@
 
 ghost use Rattle.std.specs.Prelude.{◌≤◌, ◌<◌, ℕ, All, IfOk, length, slice_index_or};
 ghost use Rattle.live_rings.specs.declared.ending.EndedRing.{EndedRing};
-ghost use Rattle.live_rings.specs.declared.groups.Group.{Group};
+ghost use Rattle.ring_groups.specs.declared.groups.Group.{Group};
 ghost use Rattle.live_rings.specs.declared.ending.Ends.{Ends};
 ghost use Rattle.live_rings.specs.Making.{IsInRange};
-ghost use Rattle.live_rings.specs.Groups.{HasServed, IsServedOf, MayServe, before_in};
+ghost use Rattle.ring_groups.specs.Groups.{HasServed, IsServedOf, MayServe, before_in};
 ghost use Rattle.live_rings.specs.Served.{AllEnded, AllLived, EndedIn};
 ghost use Rattle.histories.specs.Endings.{Ending};
 
 use crate::ending::{EndedRing, EndedRings, Ends};
-use crate::groups::{Group, deal, gather_all};
+use ring_groups::{Group, deal, gather_all};
 use crate::ring_squeue::serve_squeue;
 use crate::words::Layout;
 use sq_base::{Sink, Source};

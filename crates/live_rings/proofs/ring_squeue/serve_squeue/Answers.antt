@@ -5,7 +5,7 @@ use Rattle.squeue_serve.specs.Lending.{tasks_in}
 use Rattle.squeue_streams.specs.Taking.{most_feeds, most_leaves}
 use Rattle.live_chats.specs.Telling.{first_of}
 use Rattle.live_rings.specs.declared.ring.ServerTask.TheVariants as Task'
-use Rattle.live_rings.specs.Groups.{AllBecameFrom}
+use Rattle.ring_groups.specs.Groups.{AllBecameFrom}
 use Rattle.live_rings.specs.Seating.{ServesPlaces}
 use Rattle.squeue_state.specs.Naming.{setting_of}
 use Rattle.live_rings.specs.Served.{EndedAt, EndedIn}

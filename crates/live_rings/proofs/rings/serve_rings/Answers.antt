@@ -1,13 +1,12 @@
 use Rattle.std.proofs.Common.{◌≡◌, ◌∙◌, ◌≤◌, sym, ap, subst, arith, length, take, drop, ◌++◌, List, vec_capacity}
 use Rattle.std.specs.Prelude.{All}
 use Rattle.live_rings.specs.declared.ending.Ends.{Ends}
-use Rattle.live_rings.specs.declared.groups.Group.{Group}
+use Rattle.ring_groups.specs.declared.groups.Group.{Group}
 use Rattle.live_rings.specs.declared.ending.EndedRing.{EndedRing}
-use Rattle.live_rings.specs.Groups.{HaveEnded, MayServe, all_in, many_in}
+use Rattle.ring_groups.specs.Groups.{HaveEnded, MayServe, all_in, many_in}
 use Rattle.histories.specs.Endings.{Ending}
 use Rattle.live_rings.specs.Served.{AllLived, EndedIn, HasEnded}
-use Rattle.live_rings.proofs.Grouped.{all_groups, few_ended, of_groups}
-use Rattle.live_rings.proofs.RingRun.{whole_back}
+use Rattle.ring_groups.proofs.Grouped.{all_groups, few_ended, of_groups, whole_back}
 use Rattle.live_rings.proofs.rings.serve_rings.Given.{Over}
 use Rattle.live_rings.proofs.rings.serve_rings.Goals.{After-serve_groups}
 use Rattle.live_rings.proofs.rings.serve_rings.Goals as goal
