@@ -1,5 +1,9 @@
 //! What a row gives to a program.
 
+ghost use Rattle.std.specs.Prelude.{IfOk};
+ghost use Rattle.case_rows.specs.Givens.{Gives, LetsFail};
+ghost use Rattle.case_rows.specs.Rows.{lines_named, IsNumber};
+
 use crate::captures::bytes_of;
 use crate::fault::RowFault;
 use crate::rows::{Row, words_of};
@@ -25,7 +29,9 @@ pub struct Failing {
 }
 
 /// What a row gives.
-pub fn given_of(alloc: Global, row: &Row<'_>) -> Result<Given, RowFault> {
+pub fn given_of(alloc: Global, row: &Row<'_>) -> Result<Given, RowFault>
+    ensures { IfOk result (λ g. Gives row.now.fields.items g) }
+{
     Ok(Given {
         words: words_of(alloc, row.text(alloc, "words", "none")?)?,
         input: input_of(alloc, row)?,
@@ -36,7 +42,9 @@ pub fn given_of(alloc: Global, row: &Row<'_>) -> Result<Given, RowFault> {
 }
 
 /// Which calls a row lets fail.
-fn failing_of(alloc: Global, row: &Row<'_>) -> Result<Failing, RowFault> {
+fn failing_of(alloc: Global, row: &Row<'_>) -> Result<Failing, RowFault>
+    ensures { IfOk result (λ f. LetsFail row.now.fields.items f) }
+{
     Ok(Failing {
         reads: row.numbers(alloc, "failing_reads")?,
         writes: row.numbers(alloc, "failing_writes")?,
@@ -45,7 +53,9 @@ fn failing_of(alloc: Global, row: &Row<'_>) -> Result<Failing, RowFault> {
 }
 
 /// How many bytes a call moves at most.
-fn piece(alloc: Global, row: &Row<'_>, name: &str) -> Result<usize, RowFault> {
+fn piece(alloc: Global, row: &Row<'_>, name: &str) -> Result<usize, RowFault>
+    ensures { IfOk result (λ n. IsNumber (lines_named row.now.fields.items name.now) 65536 n) }
+{
     Ok(row.number(alloc, name, 65_536)? as usize)
 }
 

@@ -1,6 +1,10 @@
 //! What a row wants of what came.
 
-ghost use Rattle.std.specs.Prelude.{◌≡◌, take};
+ghost use Rattle.std.specs.Prelude.{◌≡◌, ℕ, ◌-◌, ◌==◌, ◌<◌, ◌≤◌, slice_index_or, drop, length, map, take, IfOk, OnOk};
+ghost use Rattle.std.specs.List.{AllByRecursion, after_first, before_first, count_by};
+ghost use Rattle.std.specs.Str.{bytes_eq};
+ghost use Rattle.case_rows.specs.Runs.{Wants};
+ghost use Rattle.case_rows.specs.Wanted.{check_of, says_of_lines, says_of_numbers, spelled, HasSum, IsOneOf, Lines, SaysNoMore, SaysOfLines, SaysOfSum, StandsAmong, StandsAsOften, WantsOut};
 
 use crate::comparing::{expect_lines, expect_number};
 use crate::fault::RowFault;
@@ -9,7 +13,9 @@ use crate::rows::Row;
 use std::alloc::{AllocError, Global};
 
 /// What came is what the row wants; of its `out` so many bytes.
-pub fn expect(alloc: Global, row: &Row<'_>, came: &Came, len: usize) -> Result<(), RowFault> {
+pub fn expect(alloc: Global, row: &Row<'_>, came: &Came, len: usize) -> Result<(), RowFault>
+    ensures { OnOk result (Wants row.now.fields.items came.now len) }
+{
     expect_lines(alloc, "err", row.lines("err"), came.err.bytes())?;
     let status = row.number(alloc, "status", 0)?;
     expect_number(alloc, "status", status, u64::from(came.status))?;
@@ -17,7 +23,9 @@ pub fn expect(alloc: Global, row: &Row<'_>, came: &Came, len: usize) -> Result<(
 }
 
 /// What was written is what the row wants: what it says in place of `out`, or `out`.
-fn expect_out(alloc: Global, row: &Row<'_>, out: &[u8], len: usize) -> Result<(), RowFault> {
+fn expect_out(alloc: Global, row: &Row<'_>, out: &[u8], len: usize) -> Result<(), RowFault>
+    ensures { OnOk result (WantsOut row.now.fields.items out.now len) }
+{
     let lines = expect_parts(alloc, row, out)?;
     let numbers = expect_numbers(alloc, row, out)?;
     if lines || numbers {
@@ -31,7 +39,10 @@ fn expect_out(alloc: Global, row: &Row<'_>, out: &[u8], len: usize) -> Result<()
 }
 
 /// What the row says of some lines of the output. Answers whether it does.
-fn expect_parts(alloc: Global, row: &Row<'_>, out: &[u8]) -> Result<bool, RowFault> {
+fn expect_parts(alloc: Global, row: &Row<'_>, out: &[u8]) -> Result<bool, RowFault>
+    ensures says { OnOk result (SaysOfLines row.now.fields.items out.now) }
+    ensures does { IfOk result (λ b. b ≡ says_of_lines row.now.fields.items) }
+{
     if row.has("begins") {
         expect_begins(alloc, row.lines("begins"), out)?;
     }
@@ -45,7 +56,10 @@ fn expect_parts(alloc: Global, row: &Row<'_>, out: &[u8]) -> Result<bool, RowFau
 }
 
 /// What the row says of the output in numbers. Answers whether it does.
-fn expect_numbers(alloc: Global, row: &Row<'_>, out: &[u8]) -> Result<bool, RowFault> {
+fn expect_numbers(alloc: Global, row: &Row<'_>, out: &[u8]) -> Result<bool, RowFault>
+    ensures says { OnOk result (SaysOfSum row.now.fields.items out.now) }
+    ensures does { IfOk result (λ b. b ≡ says_of_numbers row.now.fields.items) }
+{
     if row.has("marks") {
         expect_marks(alloc, &row.numbers(alloc, "marks")?, out)?;
     }
@@ -56,7 +70,9 @@ fn expect_numbers(alloc: Global, row: &Row<'_>, out: &[u8]) -> Result<bool, RowF
 }
 
 /// A row whose output is said otherwise has no `out`, and none of the forms that take a part of it: they would say nothing.
-fn expect_no_out(alloc: Global, row: &Row<'_>) -> Result<(), RowFault> {
+fn expect_no_out(alloc: Global, row: &Row<'_>) -> Result<(), RowFault>
+    ensures { OnOk result (SaysNoMore row.now.fields.items) }
+{
     if row.has("out") || row.has("out_bytes") || row.has("each_write") {
         return Err(RowFault::told(alloc, &["out isn't looked at in this row"]));
     }
@@ -64,7 +80,9 @@ fn expect_no_out(alloc: Global, row: &Row<'_>) -> Result<(), RowFault> {
 }
 
 /// Lines, each with a newline.
-fn joined(alloc: Global, lines: &[&str]) -> Result<Vec<u8>, AllocError> {
+fn joined(alloc: Global, lines: &[&str]) -> Result<Vec<u8>, AllocError>
+    ensures { IfOk result (λ v. v.items ≡ spelled lines.now) }
+{
     let mut bytes = Vec::new(alloc);
     for line in lines {
         bytes.extend_from_slice(line.as_bytes())?;
@@ -80,42 +98,47 @@ pub fn front(bytes: &[u8], len: usize) -> &[u8]
     bytes.split_at(len.min(bytes.len())).0
 }
 
-fn expect_begins(alloc: Global, lines: &[&str], out: &[u8]) -> Result<(), RowFault> {
+fn expect_begins(alloc: Global, lines: &[&str], out: &[u8]) -> Result<(), RowFault>
+    ensures { OnOk result (take (length (spelled lines.now)) out.now ≡ spelled lines.now) }
+{
     let wanted = joined(alloc, lines)?;
     expect_lines(alloc, "out", lines, front(out, wanted.len()))
 }
 
-fn expect_ends(alloc: Global, lines: &[&str], out: &[u8]) -> Result<(), RowFault> {
+fn expect_ends(alloc: Global, lines: &[&str], out: &[u8]) -> Result<(), RowFault>
+    ensures { OnOk result (drop (length out.now - length (spelled lines.now)) out.now ≡ spelled lines.now) }
+{
     let wanted = joined(alloc, lines)?;
     let from = out.len().saturating_sub(wanted.len());
-    expect_lines(alloc, "out's end", lines, out.get(from..).unwrap_or(&[]))
+    expect_lines(alloc, "out's end", lines, out.split_at(from).1)
 }
 
 /// The output is one of those that an `or` parts.
-fn expect_one_of(alloc: Global, lines: &[&str], out: &[u8]) -> Result<(), RowFault> {
-    let mut told = expect_first(alloc, lines, out);
-    for wanted in lines.split(|line| *line == "or").skip(1) {
-        if told.is_ok() {
-            return Ok(());
-        }
-        let next = expect_lines(alloc, "out", wanted, out);
-        if next.is_ok() {
-            told = next;
-        }
-    }
-    told
+fn expect_one_of(alloc: Global, lines: &[&str], out: &[u8]) -> Result<(), RowFault>
+    ensures { OnOk result (IsOneOf lines.now out.now) }
+{
+    let wanted: Vec<&[&str]> = lines.split(|line| *line == "or").collect(alloc)?;
+    expect_any(alloc, &wanted, out)
 }
 
-/// The output is the first of those that an `or` parts.
-fn expect_first(alloc: Global, lines: &[&str], out: &[u8]) -> Result<(), RowFault> {
-    match lines.split(|line| *line == "or").next() {
-        Some(wanted) => expect_lines(alloc, "out", wanted, out),
-        None => expect_lines(alloc, "out", &[], out),
+/// The output is one of these. A fault is that of the first of them.
+fn expect_any(alloc: Global, wanted: &[&[&str]], out: &[u8]) -> Result<(), RowFault>
+    ensures { OnOk result ((k : ℕ) × (k < length wanted.now) × ((d : Lines) → out.now ≡ spelled (slice_index_or wanted.now k d).now)) }
+{
+    let mut told = None;
+    for lines in wanted {
+        match expect_lines(alloc, "out", lines, out) {
+            Ok(()) => return Ok(()),
+            Err(fault) => told = Some(told.unwrap_or(fault)),
+        }
     }
+    Err(told.unwrap_or(RowFault::NoMemory))
 }
 
 /// The output is the first so many bytes of the lines, which have as many.
-fn expect_front(alloc: Global, lines: &[&str], out: &[u8], len: usize) -> Result<(), RowFault> {
+fn expect_front(alloc: Global, lines: &[&str], out: &[u8], len: usize) -> Result<(), RowFault>
+    ensures { OnOk result (out.now ≡ take len (spelled lines.now)) }
+{
     let wanted = joined(alloc, lines)?;
     expect_number(
         alloc,
@@ -130,27 +153,58 @@ fn expect_front(alloc: Global, lines: &[&str], out: &[u8], len: usize) -> Result
 }
 
 /// Each line stands as often in the output as is said before it.
-fn expect_among(alloc: Global, lines: &[&str], out: &[u8]) -> Result<(), RowFault> {
+fn expect_among(alloc: Global, lines: &[&str], out: &[u8]) -> Result<(), RowFault>
+    ensures { OnOk result ((1 ≤ length lines.now) × AllByRecursion (λ l. StandsAsOften l.now out.now) lines.now) }
+{
     let Ok(text) = str::from_utf8(out) else {
         return Err(RowFault::told(alloc, &["out isn't text"]));
     };
     if lines.is_empty() {
         return Err(RowFault::told(alloc, &["among has no lines"]));
     }
+    let all: Vec<&str> = text.lines().collect(alloc)?;
+    expect_all_times(alloc, lines, &all)
+}
+
+/// Each line stands as often among these as is said before it.
+fn expect_all_times(alloc: Global, lines: &[&str], all: &[&str]) -> Result<(), RowFault>
+    ensures { OnOk result (AllByRecursion (λ l. StandsAmong l.now (map (λ line. line.now) all.now)) lines.now) }
+{
     for line in lines {
-        expect_times(alloc, line, text)?;
+        expect_times(alloc, line, all)?;
     }
     Ok(())
 }
 
-/// A line stands as often in a text as is said before it.
-fn expect_times(alloc: Global, line: &str, text: &str) -> Result<(), RowFault> {
-    let (times, wanted) = line.split_once(' ').unwrap_or((line, ""));
+/// A line stands as often among these as is said before it.
+fn expect_times(alloc: Global, line: &str, all: &[&str]) -> Result<(), RowFault>
+    ensures { OnOk result (StandsAmong line.now (map (λ line. line.now) all.now)) }
+{
+    let (times, wanted) = halves(line);
     let Ok(times) = times.parse::<u64>() else {
         return Err(RowFault::told(alloc, &["this isn't read: ", line]));
     };
-    let found = text.lines().filter(|line| *line == wanted).count();
-    expect_number(alloc, wanted, times, found as u64)
+    expect_number(alloc, wanted, times, times_among(wanted, all) as u64)
+}
+
+/// How often a line stands among these.
+fn times_among(wanted: &str, all: &[&str]) -> usize
+    ensures { result ≡ count_by (λ l. bytes_eq l.now wanted.now) all.now }
+{
+    let mut times = 0;
+    for line in all {
+        if *line == wanted {
+            times += 1;
+        }
+    }
+    times
+}
+
+/// What stands before the first blank, or all; and what stands behind it.
+fn halves(line: &str) -> (&str, &str)
+    ensures { (result.0.now ≡ before_first (λ b. b == 32) line.now) × (result.1.now ≡ after_first (λ b. b == 32) line.now) }
+{
+    line.split_once(' ').unwrap_or((line, ""))
 }
 
 /// So many lines are marks, as many as is told of. They are at least the first number, and at most the second.
@@ -190,8 +244,10 @@ fn marks_of(line: &str) -> Option<u64> {
 }
 
 /// The output's length and check value are these.
-fn expect_sum(alloc: Global, text: &str, out: &[u8]) -> Result<(), RowFault> {
-    let (len, check) = text.split_once(' ').unwrap_or((text, ""));
+fn expect_sum(alloc: Global, text: &str, out: &[u8]) -> Result<(), RowFault>
+    ensures { OnOk result (HasSum text.now out.now) }
+{
+    let (len, check) = halves(text);
     let (Ok(len), Ok(check)) = (len.parse::<u64>(), u64::from_str_radix(check, 16)) else {
         return Err(RowFault::told(alloc, &["this isn't read: sum ", text]));
     };
@@ -200,7 +256,9 @@ fn expect_sum(alloc: Global, text: &str, out: &[u8]) -> Result<(), RowFault> {
 }
 
 /// Each byte in turn, at the multiplier of the 64-bit FNV hash, from 0.
-fn check_of(bytes: &[u8]) -> u64 {
+fn check_of(bytes: &[u8]) -> u64
+    ensures { result ≡ check_of bytes.now }
+{
     let mut check = 0u64;
     for byte in bytes {
         check = check
