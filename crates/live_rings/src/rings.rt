@@ -10,9 +10,9 @@ ghost use Rattle.live_rings.specs.Served.{AllEnded, AllLived, EndedIn};
 ghost use Rattle.histories.specs.Endings.{Ending};
 
 use crate::ending::{EndedRing, EndedRings, Ends};
-use ring_groups::{Group, deal, gather_all};
 use crate::ring_squeue::serve_squeue;
 use crate::words::Layout;
+use ring_groups::{Group, deal, gather_all};
 use sq_base::{Sink, Source};
 use squeue_serve::run_each;
 use squeue_state::Ended;
