@@ -1,5 +1,5 @@
 -- How long an answer is at least.
-use Rattle.std.proofs.Common.{◌≡◌, ℕ, ◌+◌, ◌/◌, ◌≤◌, min, List, ◌++◌, length, refl, arith, length-append}
+use Rattle.std.proofs.Common.{◌≡◌, ℕ, ◌+◌, ◌/◌, ◌≤◌, min, List, [], ◌∷◌, ◌++◌, length, refl, arith, length-append}
 use Rattle.std.specs.Prelude.{codes}
 use Rattle.std.specs.Fmt.{decimal}
 use Rattle.httpdate.specs.declared.parts.Parts.{Parts}
@@ -7,7 +7,7 @@ use Rattle.httpdate.specs.Text.{imf_fixdate, day_name, month_name, two_digits, f
 use Rattle.http_pages.specs.declared.answer.Status.{Status}
 use Rattle.http_pages.specs.declared.answer.Status.TheVariants.{Ok, MovedPermanently, NotModified, BadRequest, NotFound, MethodNotAllowed, PreconditionFailed, ContentTooLarge, UriTooLong, HeadTooLarge, NotImplemented, VersionNotSupported}
 use Rattle.http_pages.specs.declared.answer.Answer.{Answer}
-use Rattle.http_pages.specs.AnswerText.{answer_text, answer_head, answer_body, connection, content, escaped, field, fields_by, reason, sized}
+use Rattle.http_pages.specs.AnswerText.{answer_text, answer_head, answer_body, connection, content, escaped, field, fields_by, in_words, reason, sized}
 use Rattle.http_pages.specs.Choosing.{nth_page}
 use Rattle.http_pages.specs.Dates.{date_at, date_text}
 use Rattle.http_pages.specs.Limits.{last_second}

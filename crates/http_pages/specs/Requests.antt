@@ -1,5 +1,5 @@
 -- What a request's head says (RFC 9112, 3 and 5 to 7), and what of it is refused whatever it asks for.
-use Rattle.std.specs.Prelude.{ℕ, ◌+◌, ◌==◌, nat_lt, Bool, true, false, not, ◌&&◌, ◌||◌, if◌then◌else◌, List, map, length, take, codes, bytes_eq, slice_index, Option, None, Some, Result, Ok, Err}
+use Rattle.std.specs.Prelude.{ℕ, ◌+◌, ◌==◌, nat_lt, Bool, true, false, not, ◌&&◌, ◌||◌, if◌then◌else◌, List, [], ◌∷◌, map, length, take, drop, codes, bytes_eq, slice_index, Option, None, Some, Result, Ok, Err}
 use Rattle.std.specs.List.{list_all, list_any, before_first, after_first, filter, slice_split}
 use Rattle.std.specs.Char.{is_ascii_alphanumeric, is_ascii_digit}
 use Rattle.httparse.specs.Ascii.{space, colon, comma, digit_zero}
