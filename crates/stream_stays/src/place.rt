@@ -29,7 +29,7 @@ impl<T: Drop, S: Drop> Stays<T, S> {
     ghost use Rattle.std.specs.Prelude.{◌∷◌, ◌++◌, ◌+◌, ◌<◌, ◌≤◌, Some, [], true, false, length};
     ghost use Rattle.stream_stays.specs.declared.stay.Stay.{Stay};
     ghost use Rattle.stream_stays.specs.declared.stay.Vacant.{Vacant};
-    ghost use Rattle.stream_stays.specs.Staying.{pushed_of};
+    ghost use Rattle.stream_stays.specs.Staying.{leaves_of, pushed_of};
     ghost use Rattle.stream_stays.specs.declared.place.Place.TheVariants.{Open, Vacant as Vacant'};
     ghost use Rattle.stream_stays.specs.Places.{CanOpen, HasNoRoom, HasRoom, IsOpen, SameButPlaces, SameElsewhere, chain_of};
     ghost use Rattle.stream_stays.specs.Places.{life_of, place_at, places_of, touched_of};
@@ -78,6 +78,17 @@ impl<T: Drop, S: Drop> Stays<T, S> {
     {
         match &self.places[c as usize] {
             Place::Open(stay) => stay.pushed,
+            _ => 0,
+        }
+    }
+
+    /// How often the part at a place may still leave the squeue, and 0 where none is there.
+    pub fn leaves(&self, c: u32) -> u64
+        requires { c < length (places_of self.now) }
+        ensures { (stay : Stay T) → place_at self.now c ≡ Some (Open stay) → result ≡ leaves_of stay }
+    {
+        match &self.places[c as usize] {
+            Place::Open(stay) => stay.leaves,
             _ => 0,
         }
     }
