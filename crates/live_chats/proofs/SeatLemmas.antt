@@ -30,7 +30,7 @@ use Rattle.live_server.specs.Told.{Told}
 use Rattle.live_server.specs.Told.Told.{hears}
 use Rattle.live_server.proofs.TableLemmas.{conn_written, same, tuple_equivalence}
 use Rattle.live_chats.specs.Accounts.{Accounts, HasEndedStay, IsAway, SeatsWereTold, WereTold, account_of, accounts_of, number_in, pushed_at, seen_in}
-use Rattle.live_chats.specs.Hearing.{ChatOf, conn_in, hearing, hearing_all, nobody, silent}
+use Rattle.live_chats.specs.Hearing.{ChatOf, conn_in, hearing, nobody, silent}
 use Rattle.live_chats.specs.Listening.{IsAnswer}
 use Rattle.live_chats.specs.Seating.{AllSeated, Begins, HasSeats, HasSeatsBut, HeardAt, IsGood, IsSeated, IsSettled, Judges, KeepsEnds, MetAt, KeptBut, KeptOpen, chat_at, chat_of, conn_of_seat, conns_of, left_at}
 use Rattle.live_chats.specs.declared.chats.Chats.{Chats}
@@ -38,12 +38,12 @@ use Rattle.live_chats.specs.declared.ear.Heard.{Heard}
 use Rattle.live_chats.specs.declared.item.ChatItem.{ChatItem}
 use Rattle.live_chats.specs.declared.item.ChatItem.TheVariants.{Time}
 use Rattle.live_chats.specs.declared.seat.Seat.{Seat}
-use Rattle.live_chats.proofs.HearLemmas.{hearing-silent, hearing_all-lost}
+use Rattle.live_chats.proofs.HearLemmas.{hearing-silent, hearing_all-here}
 use Rattle.live_chats.specs.Onward.{told_on, untold}
 use Rattle.live_chats.proofs.LivedLemmas.{frame_told, one_left}
 use Rattle.live_chats.proofs.ListLemmas.{entry_there, in_left, in_pushed, in_set, left_moves, length_map, map_agrees, map_append, map_left, map_written, one_place}
 
-abbrev Entry : Type 0
+abbrev pub Entry : Type 0
 Entry = Tuple × Seat
 
 pub of_some : {X : Type 0} (P : X → Type 0) (o : Option X) (x : X) → o ≡ Some x → IfSome o P → P x
@@ -54,7 +54,7 @@ none_of Q o is h = let P : Option _ → Type 0 = λ r. IfNone r Q in subst P is 
 
 pub chat_here : (st : Stays ChatItem ChatOf) (c : ℕ) → (chat_at st c).lost ≡ false
 unfolding chat_at
-chat_here st c = hearing_all-lost (sent_in (place_at st c)) nobody
+chat_here st c = hearing_all-here (sent_in (place_at st c)) nobody refl
 
 -- what an item makes of a chat is read off its ends and its connection
 pub heard_of : (x : ChatItem) (c : ChatOf) (t : Tuple) (d : Conn) → c.ends ≡ t → c.conn ≡ Some d → c.lost ≡ false → hearing x c ≡ hearing x (chat_of t d)

@@ -46,9 +46,15 @@ abbrev pub timing : ℕ → Option Conn → ChatOf → ChatOf
 timing now None c = silent c
 timing now (Some d) c = timed (reached now d) c
 
--- what an item makes of a chat
+-- whether a connection begins by it
+abbrev pub is_opening : ChatItem → Bool
+is_opening (Opens ends conn) = true
+is_opening (Meets now iss seg text) = false
+is_opening (Time now) = false
+
+-- What an item makes of a chat. One that begins a connection makes the same of every chat, also of one that was lost
 unfoldable pub hearing : ChatItem → ChatOf → ChatOf
-hearing (Opens ends conn) c = record c { ends = ends; conn = Some conn.value; sent = []; met = None }
+hearing (Opens ends conn) c = record { ends = ends; conn = Some conn.value; sent = []; met = None; lost = false }
 hearing (Meets now iss seg text) c = meeting (min now last_time) iss seg text.items c.conn c
 hearing (Time now) c = timing (min now last_time) c.conn c
 
@@ -66,8 +72,10 @@ conn_in (Some c) = c
 abbrev pub losing : ChatOf → ChatOf
 losing c = record c { conn = None; sent = []; met = None; lost = true }
 
--- A chat was told x. Where memory is missing its connection is lost, and from then on it stays as it is
+-- A chat was told x. Where memory is missing its connection is lost, and from then on it stays as it is, until another one begins. That
+-- takes no memory
 pub record Hears (from : ChatOf) (x : ChatItem) (to : ChatOf) : Type 0 where
+  pub begins : is_opening x ≡ true → to ≡ hearing x from
   pub hears : to.lost ≡ false → to ≡ hearing x from
   pub loses : from.lost ≡ false → to.lost ≡ true → to ≡ losing from
-  pub stopped : from.lost ≡ true → to ≡ from
+  pub stopped : from.lost ≡ true → is_opening x ≡ false → to ≡ from

@@ -1,9 +1,9 @@
 //! A chat: the connection at one place, what it answered last, and whether memory was missing.
 
-ghost use Rattle.std.specs.Prelude.{◌≡◌, ◌≤◌, [], None, OnErr, OnOk};
+ghost use Rattle.std.specs.Prelude.{◌≡◌, ◌≤◌, ◌||◌, [], None, OnErr, OnOk, false, not};
 ghost use Rattle.std.specs.Option.{option_copied};
 ghost use Rattle.tcb_machine.specs.Limits.{last_time};
-ghost use Rattle.live_chats.specs.Hearing.{Hears, hearing, losing, meeting, nobody, timing};
+ghost use Rattle.live_chats.specs.Hearing.{Hears, hearing, is_opening, losing, meeting, nobody, timing};
 
 use crate::item::ChatItem;
 use live_server::{Conn, Datagram, Met};
@@ -54,7 +54,7 @@ impl Chat {
         }
     }
 
-    /// Whether memory was missing. Then its connection is lost, and it takes nothing more.
+    /// Whether memory was missing. Then its connection is lost, and it takes nothing more until another one begins.
     pub fn is_lost(&self) -> bool
         ensures { result ≡ self.now.lost }
     {
@@ -85,11 +85,12 @@ impl Chat {
         }
     }
 
-    /// It is told an item. Where memory is missing, its connection is lost.
+    /// It is told an item. Where memory is missing, its connection is lost, and what comes then is passed over, until another one begins.
     pub fn take(&mut self, alloc: Global, item: ChatItem)
         ensures { Hears self.old item self.new }
     {
-        if self.lost {
+        let takes = self.takes(&item);
+        if !takes {
             return;
         }
         self.sent.clear();
@@ -100,18 +101,27 @@ impl Chat {
         }
     }
 
+    // Whether it takes an item: it isn't lost, or another connection begins.
+    fn takes(&self, item: &ChatItem) -> bool
+        ensures { result ≡ (not self.now.lost || is_opening item.now) }
+    {
+        !self.lost || item.is_opening()
+    }
+
     // What an item makes of it. After an error only its ends are known.
     #[tactic(auto, unfolding(crate::specs::Hearing::hearing))]
     fn hear(&mut self, alloc: Global, item: ChatItem) -> Result<(), AllocError>
         requires sent { self.old.sent ≡ [] }
         requires met { self.old.met ≡ None }
         ensures hears { OnOk result (self.new ≡ hearing item self.old) }
+        ensures begins { OnErr result (is_opening item ≡ false) }
         ensures ends { OnErr result (self.new.ends ≡ self.old.ends) }
     {
         match item {
             ChatItem::Opens { ends, conn } => {
                 self.ends = ends;
                 self.conn = Some(conn);
+                self.lost = false;
                 Ok(())
             }
             ChatItem::Meets {

@@ -1,5 +1,8 @@
 //! What a chat is told.
 
+ghost use Rattle.std.specs.Prelude.{◌≡◌};
+ghost use Rattle.live_chats.specs.Hearing.{is_opening};
+
 use live_server::Conn;
 use segment_codec::Seg;
 use sq_base::Tuple;
@@ -23,4 +26,13 @@ pub enum ChatItem {
     Time {
         now: u64,
     },
+}
+
+impl ChatItem {
+    /// Whether a connection begins by it.
+    pub fn is_opening(&self) -> bool
+        ensures { result ≡ is_opening self.now }
+    {
+        matches!(self, ChatItem::Opens { .. })
+    }
 }
