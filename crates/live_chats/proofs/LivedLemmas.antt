@@ -23,8 +23,8 @@ use Rattle.conn_migrate.specs.Moving.{Moved}
 use Rattle.live_server.specs.Table.{tuple_eq}
 use Rattle.live_server.specs.Told.{Told}
 use Rattle.live_server.specs.Told.Told.{begins, hears}
-use Rattle.live_chats.specs.Accounts.{Accounts, HasEndedStay, IsAway, WereTold, heard_with, in_the_end, lives_with}
-use Rattle.live_chats.specs.Lived.{AreMadeOf, heard_by, lives, stay_of, stays_behind, stays_by}
+use Rattle.live_chats.specs.Accounts.{Accounts, HasEndedStay, IsAway, WereTold, in_the_end}
+use Rattle.live_chats.specs.Lived.{AreMadeOf, heard_with, lives, lives_with, stay_of, stays_behind, stays_by}
 
 -- ---- histories
 module _ (S : Setting) (p : ℕ) where
@@ -40,7 +40,7 @@ module _ (S : Setting) (p : ℕ) where
 abbrev pub times : ℕ → List ℕ → ℕ
 times n xs = count_by (λ m. m == n) xs
 
-times_append : (n : ℕ) (xs ys : List ℕ) → times n (xs ++ ys) ≡ times n xs + times n ys
+pub times_append : (n : ℕ) (xs ys : List ℕ) → times n (xs ++ ys) ≡ times n xs + times n ys
 times_append n xs ys = sum_by-append (λ (m : ℕ). cond (m == n) 1 0) xs ys
 
 -- other stays don't matter
@@ -79,20 +79,6 @@ one_stay before stays numbers n made =
 pub none_made : (stays : List ℕ) → AreMadeOf stays []
 none_made stays = record { groups = []; sums = IsPermutation-refl []; fits = λ n. omega arith }
 
--- ---- what is told
-abbrev pub no_more : Tuple → ℕ
-no_more t = 0
-
-heard_alone : (ws : List Told) (t : Tuple) → heard_with no_more ws t ≡ heard_by t ws
-heard_alone [] t = refl
-heard_alone (begins u ∷ ws) t = ap (λ (n : ℕ). cond (tuple_eq t u) 0 n) (heard_alone ws t)
-heard_alone (hears u ∷ ws) t = ap (λ (n : ℕ). cond (tuple_eq t u) (1 + n) n) (heard_alone ws t)
-
-lives_alone : (ws : List Told) → lives_with no_more ws ≡ lives ws
-lives_alone [] = refl
-lives_alone (begins u ∷ ws) = λ j. (1 + heard_alone ws u j) ∷ lives_alone ws j
-lives_alone (hears u ∷ ws) = lives_alone ws
-
 -- ---- who is there
 module _ {X : Type 0} where
   pub every_from_each : (P : X → Type 0) (xs : List X) → ((k : ℕ) (x : X) → slice_get xs k ≡ Some x → P x) → AllByRecursion P xs
@@ -121,7 +107,7 @@ module _ (more : Tuple → ℕ) (t u : Tuple) (other : tuple_eq u t ≡ false) w
   unbegun : more u ≡ heard_with more (begins t ∷ []) u
   unbegun = ap (λ (b : Bool). cond b 0 (more u)) (sym other)
 
-abbrev IsOther : Tuple → Tuple × ℕ → Type 0
+abbrev pub IsOther : Tuple → Tuple × ℕ → Type 0
 IsOther u x = tuple_eq u x.0 ≡ false
 
 turned : (t u : Tuple) → tuple_eq t u ≡ false → tuple_eq u t ≡ false
@@ -187,7 +173,7 @@ begun_ends more t was away = ends_agree more (heard_with more (begins t ∷ []))
 -- ---- from one moment to the next
 module _ (S : Setting) (p : ℕ) where
   -- the stays behind the first moment, where those between are given
-  from_first : (past now grown rest : List Element) (between : List ℕ) → now ≡ past ++ grown → stays_behind S p past grown ≡ between
+  pub from_first : (past now grown rest : List Element) (between : List ℕ) → now ≡ past ++ grown → stays_behind S p past grown ≡ between
       → between ++ stays_behind S p now rest ≡ stays_behind S p past (grown ++ rest)
   from_first past now grown rest between goes_on ended =
       (λ j. sym ended j ++ stays_behind S p (goes_on j) rest) ∙ sym (stays_append S p past grown rest)
@@ -263,8 +249,8 @@ module _ (S : Setting) (p : ℕ) where
   -- where nobody was there at first, and nobody is at last, each life is made of stays, however the history goes on
   pub all_lived : (past now rest : List Element) (ws : List Told) → WereTold S p past now [] [] ws → AreMadeOf (stays_by S p (now ++ rest)) (lives ws)
   all_lived past now rest ws told =
-      let made = told.lived no_more rest [] (λ t away. refl) (none_made (stays_behind S p now rest)) in
-      let numbers : lives_with no_more ws ++ [] ≡ lives ws = append-nil (lives_with no_more ws) ∙ lives_alone ws in
+      let made = told.lived (λ t. 0) rest [] (λ t away. refl) (none_made (stays_behind S p now rest)) in
+      let numbers : lives ws ++ [] ≡ lives ws = append-nil (lives ws) in
       let whole : stays_by S p past ++ stays_behind S p past (told.grown ++ rest) ≡ stays_by S p (now ++ rest) =
       sym (stays_append S p [] past (told.grown ++ rest)) ∙ ap (stays_by S p) (sym (append_assoc past told.grown rest) ∙ ap (λ (l : List Element). l ++ rest) (sym told.goes_on)) in
       subst (λ (l : List ℕ). AreMadeOf l (lives ws)) whole

@@ -1,7 +1,8 @@
 -- What a table's pass may say of its connections: how much was pushed for each, and how that goes on with its history.
-use Rattle.std.specs.Prelude.{◌≡◌, ℕ, ◌+◌, false, if◌then◌else◌, Option, None, Some, List, [], ◌∷◌, ◌++◌, map}
+use Rattle.std.specs.Prelude.{◌≡◌, ℕ, ◌+◌, ◌^◌, false, Option, None, Some, List, [], ◌∷◌, ◌++◌, map}
 use Rattle.std.specs.List.{AllByRecursion}
 use Rattle.sq_base.specs.declared.kinds.Tuple.{Tuple}
+use Rattle.turn_gate.specs.History.{Begins}
 use Rattle.turn_gate.specs.Passes.{number, seen}
 use Rattle.turn_gate.specs.declared.pass.Pass.{Pass}
 use Rattle.perimeter_core.specs.History.{Element, Limits, Setting}
@@ -10,12 +11,11 @@ use Rattle.stream_stays.specs.declared.place.Place.{Place}
 use Rattle.stream_stays.specs.declared.place.Place.TheVariants.{Open}
 use Rattle.stream_stays.specs.declared.place.Stays.{Stays}
 use Rattle.stream_stays.specs.Places.{place_at}
-use Rattle.stream_stays.specs.Staying.{pushed_of}
+use Rattle.stream_stays.specs.Staying.{leaves_of, pushed_of}
 use Rattle.live_server.specs.Table.{tuple_eq}
 use Rattle.live_server.specs.Told.{Told}
-use Rattle.live_server.specs.Told.Told.{begins, hears}
 use Rattle.live_chats.specs.Hearing.{ChatOf}
-use Rattle.live_chats.specs.Lived.{AreMadeOf, stays_behind}
+use Rattle.live_chats.specs.Lived.{AreMadeOf, heard_with, lives_with, stays_behind}
 use Rattle.live_chats.specs.declared.item.ChatItem.{ChatItem}
 use Rattle.live_chats.specs.declared.seat.Seat.{Seat}
 
@@ -27,6 +27,18 @@ pushed_in _ = 0
 abbrev pub pushed_at : Stays ChatItem ChatOf → ℕ → ℕ
 pushed_at st c = pushed_in (place_at st c)
 
+-- how often the part at a place may still leave the squeue
+abbrev pub leaves_in : Option (Place ChatItem ChatOf) → ℕ
+leaves_in (Some (Open stay)) = leaves_of stay
+leaves_in _ = 0
+
+abbrev pub leaves_at : Stays ChatItem ChatOf → ℕ → ℕ
+leaves_at st c = leaves_in (place_at st c)
+
+-- from so many items on the place of a connection is closed and opened again: while it is open it has fewer than 2^32
+abbrev pub many_feeds : ℕ
+many_feeds = 2 ^ 31
+
 -- the ends of each connection, and how many items were pushed for it
 abbrev pub Accounts : Type 0
 Accounts = List (Tuple × ℕ)
@@ -36,17 +48,6 @@ account_of st e = (e.0, pushed_at st e.1.place)
 
 abbrev pub accounts_of : Stays ChatItem ChatOf → List (Tuple × Seat) → Accounts
 accounts_of st es = map (account_of st) es
-
--- how many frames the connection of these ends hears, where it hears so many more behind this
-abbrev pub heard_with : (Tuple → ℕ) → List Told → Tuple → ℕ
-heard_with more [] t = more t
-heard_with more (begins u ∷ ws) t = if tuple_eq t u then 0 else heard_with more ws t
-heard_with more (hears u ∷ ws) t = if tuple_eq t u then 1 + heard_with more ws t else heard_with more ws t
-
-abbrev pub lives_with : (Tuple → ℕ) → List Told → List ℕ
-lives_with more [] = []
-lives_with more (begins t ∷ ws) = (1 + heard_with more ws t) ∷ lives_with more ws
-lives_with more (hears t ∷ ws) = lives_with more ws
 
 -- nobody has these ends
 abbrev pub IsAway : Tuple → Accounts → Type 0
@@ -92,3 +93,9 @@ pub record HasEndedStay (S : Setting) (p : ℕ) (past now : List Element) (n : �
   pub goes_on : now ≡ past ++ grown
   pub before : List ℕ
   pub ended : stays_behind S p past grown ≡ before ++ n ∷ []
+
+-- by this such a stay has ended, and then the history went on
+pub record HasRenewedStay (S : Setting) (p : ℕ) (past now : List Element) (n : ℕ) : Type 0 where
+  pub mid : List Element
+  pub ended : HasEndedStay S p past mid n
+  pub goes_on : Begins mid now

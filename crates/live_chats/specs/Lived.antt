@@ -13,17 +13,21 @@ use Rattle.live_server.specs.Table.{tuple_eq}
 use Rattle.live_server.specs.Told.{Told}
 use Rattle.live_server.specs.Told.Told.{begins, hears}
 
--- how many frames the connection of these ends hears, until another one of these ends begins
-abbrev pub heard_by : Tuple → List Told → ℕ
-heard_by t [] = 0
-heard_by t (begins u ∷ ws) = if tuple_eq t u then 0 else heard_by t ws
-heard_by t (hears u ∷ ws) = if tuple_eq t u then 1 + heard_by t ws else heard_by t ws
+-- how many frames the connection of these ends hears, until another one of these ends begins, where it hears so many more behind these
+abbrev pub heard_with : (Tuple → ℕ) → List Told → Tuple → ℕ
+heard_with more [] t = more t
+heard_with more (begins u ∷ ws) t = if tuple_eq t u then 0 else heard_with more ws t
+heard_with more (hears u ∷ ws) t = if tuple_eq t u then 1 + heard_with more ws t else heard_with more ws t
 
 -- of each connection that begins: one, and one more for each frame that it hears
+abbrev pub lives_with : (Tuple → ℕ) → List Told → List ℕ
+lives_with more [] = []
+lives_with more (begins t ∷ ws) = (1 + heard_with more ws t) ∷ lives_with more ws
+lives_with more (hears t ∷ ws) = lives_with more ws
+
+-- so it is where nothing comes behind these
 abbrev pub lives : List Told → List ℕ
-lives [] = []
-lives (begins t ∷ ws) = (1 + heard_by t ws) ∷ lives ws
-lives (hears t ∷ ws) = lives ws
+lives = lives_with (λ t. 0)
 
 -- the part that the pass takes out by a mark
 abbrev pub taken_by : ℕ → Mark → Option ℕ

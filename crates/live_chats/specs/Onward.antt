@@ -5,8 +5,8 @@ use Rattle.perimeter_core.specs.History.{Element, Setting}
 use Rattle.live_server.specs.Table.{tuple_eq}
 use Rattle.live_server.specs.Told.{Told}
 use Rattle.live_server.specs.Told.Told.{begins, hears}
-use Rattle.live_chats.specs.Accounts.{Accounts, HearIfHere, WereTold, heard_with, in_the_end, lives_with}
-use Rattle.live_chats.specs.Lived.{AreMadeOf, stays_behind}
+use Rattle.live_chats.specs.Accounts.{Accounts, HearIfHere, WereTold, in_the_end}
+use Rattle.live_chats.specs.Lived.{AreMadeOf, heard_with, lives_with, stays_behind}
 
 pub heard_append : (more : Tuple → ℕ) (ws vs : List Told) (t : Tuple) → heard_with more (ws ++ vs) t ≡ heard_with (heard_with more vs) ws t
 heard_append more [] vs t = refl

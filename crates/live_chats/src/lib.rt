@@ -15,6 +15,7 @@ pub mod laws;
 mod leaving;
 mod line;
 mod reaching;
+mod renewing;
 mod seat;
 mod seats;
 mod table;

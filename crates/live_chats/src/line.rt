@@ -6,7 +6,7 @@ ghost use Rattle.turn_gate.specs.Passes.{number, seen};
 ghost use Rattle.placed_parts.specs.Placing.{limits_of, origin_of};
 ghost use Rattle.squeue_state.specs.Naming.{setting_of};
 ghost use Rattle.stream_stays.specs.Places.{IsOpen, Knows, chain_of, life_of, places_of, touched_of};
-ghost use Rattle.live_chats.specs.Accounts.{HasEndedStay, pushed_at};
+ghost use Rattle.live_chats.specs.Accounts.{HasEndedStay, HasRenewedStay, leaves_at, pushed_at};
 ghost use Rattle.live_chats.specs.Hearing.{hearing};
 ghost use Rattle.live_chats.specs.Listening.{AreAnswers, IsAnswer, Listens};
 ghost use Rattle.live_chats.specs.Seating.{Begins, IsSettled, KeptBut, KeptOpen, chat_at};
@@ -226,6 +226,32 @@ impl<H: Wait + Drop, W: Wait> Line<'_, Places<Streams<Chats, H>>, W> {
         let pass = close_at(self.squeue, self.rt, alloc, pass, stays, c);
         let _ = free.push_back(c);
         pass
+    }
+
+    /// Closes a place and opens it again, which numbers its feeds anew. The chat there stays as it is, and in the squeue's history its stay
+    /// has ended as where a place is closed.
+    pub fn renew(
+        &self,
+        alloc: Global,
+        pass: Pass,
+        stays: &mut Stays<ChatItem, Chat>,
+        c: u32,
+    ) -> Pass
+        requires settled { IsSettled limits_of self.now.squeue.now (origin_of self.now.squeue.now.given.first) pass stays.old }
+        requires place { IsOpen stays.old c }
+        requires leaves { 2 ≤ leaves_at stays.old c }
+        requires asks { 2 ≤ (life_of stays.old).asks }
+        ensures settled { IsSettled limits_of self.now.squeue.now (origin_of self.now.squeue.now.given.first) result stays.new }
+        ensures number { number result ≡ number pass }
+        ensures renewed { HasRenewedStay (setting_of limits_of self.now.squeue.now.given) (number pass) (seen pass) (seen result) (pushed_at stays.old c) }
+        ensures place { IsOpen stays.new c }
+        ensures chat { chat_at stays.new c ≡ chat_at stays.old c }
+        ensures none { pushed_at stays.new c ≡ 0 }
+        ensures others { KeptBut c stays.old stays.new }
+        ensures asks { (life_of stays.old).asks ≡ (life_of stays.new).asks + 2 }
+    {
+        let pass = close_at(self.squeue, self.rt, alloc, pass, stays, c);
+        open_at(self.squeue, self.rt, alloc, pass, stays, c)
     }
 
     /// Opens the place that has been free for longest.

@@ -26,6 +26,7 @@ use crate::chats::Chats;
 use crate::ear::Heard;
 use crate::item::ChatItem;
 use crate::line::Line;
+use crate::renewing::renew_all;
 use crate::seats::{Table, close_seat, learn, seat_at};
 use live_server::Datagram;
 use placed_parts::Places;
@@ -39,6 +40,32 @@ use stream_stays::Stays;
 /// The time comes to each connection, and what they send goes out in the order of their seats. It answers whether it came to all. Else memory
 /// was missing: the connections of which nothing was heard leave.
 pub(crate) fn reach_each<H: Wait + Drop, W: Wait>(
+    line: &Line<'_, Places<Streams<Chats, H>>, W>,
+    alloc: Global,
+    pass: Pass,
+    stays: &mut Stays<ChatItem, Chat>,
+    seats: &mut Table,
+    free: &mut VecDeque<u32>,
+    now: u64,
+    out: &mut Vec<Datagram>,
+) -> (Pass, bool)
+    requires seats { HasSeats limits_of line.now.squeue.now (origin_of line.now.squeue.now.given.first) pass stays.old seats.old.entries }
+    requires time { now ≤ last_time }
+    ensures seats { HasSeats limits_of line.now.squeue.now (origin_of line.now.squeue.now.given.first) result.0 stays.new seats.new.entries }
+    ensures number { number result.0 ≡ number pass }
+    ensures table { result.1 ≡ true → conns_of stays.new seats.new.entries ≡ all_reached now (conns_of stays.old seats.old.entries) }
+    ensures sent { result.1 ≡ true → out.new.items ≡ out.old.items ++ flat_map (λ c. sent_by c.0 (reached now c.1)) (conns_of stays.old seats.old.entries) }
+    ensures told { result.1 ≡ true
+        → SeatsWereTold limits_of line.now.squeue.now pass result.0 stays.old stays.new seats.old.entries
+        seats.new.entries (map hears (keys_of seats.old.entries)) }
+    ensures lost { result.1 ≡ false → Spoils now (conns_of stays.old seats.old.entries) (conns_of stays.new seats.new.entries) }
+{
+    let pass = renew_all(line, alloc, pass, stays, seats);
+    reach_now(line, alloc, pass, stays, seats, free, now, out)
+}
+
+/// The same in the stays that they have.
+fn reach_now<H: Wait + Drop, W: Wait>(
     line: &Line<'_, Places<Streams<Chats, H>>, W>,
     alloc: Global,
     pass: Pass,

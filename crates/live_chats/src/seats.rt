@@ -19,6 +19,7 @@ use crate::chats::Chats;
 use crate::ear::Heard;
 use crate::item::ChatItem;
 use crate::line::Line;
+use crate::renewing::renew_at;
 use crate::seat::Seat;
 use indexmap::IndexMap;
 use live_server::{Conn, Datagram, Facts, Met};
@@ -110,6 +111,33 @@ pub(crate) fn vacate<H: Wait + Drop, W: Wait>(
 
 /// The connection at a place of the table hears an item. Where nothing is heard of it, it leaves.
 fn hear_at<H: Wait + Drop, W: Wait>(
+    line: &Line<'_, Places<Streams<Chats, H>>, W>,
+    alloc: Global,
+    pass: Pass,
+    stays: &mut Stays<ChatItem, Chat>,
+    seats: &mut Table,
+    free: &mut VecDeque<u32>,
+    i: usize,
+    item: ChatItem,
+    out: &mut Vec<Datagram>,
+) -> (Pass, Option<Heard>)
+    requires seats { HasSeats limits_of line.now.squeue.now (origin_of line.now.squeue.now.given.first) pass stays.old seats.old.entries }
+    requires place { i < length seats.old.entries }
+    requires ends { KeepsEnds item }
+    ensures seats { HasSeats limits_of line.now.squeue.now (origin_of line.now.squeue.now.given.first) result.0 stays.new seats.new.entries }
+    ensures number { number result.0 ≡ number pass }
+    ensures heard { IfSome result.1 (λ h. (t : Tuple) (d : Conn) → slice_get (conns_of stays.old seats.old.entries) i ≡ Some (t, d)
+        → HeardAt item t d i h (conns_of stays.old seats.old.entries) (conns_of stays.new seats.new.entries) out.old.items out.new.items) }
+    ensures lost { IfNone result.1 (conns_of stays.new seats.new.entries ≡ without i (conns_of stays.old seats.old.entries)) }
+    ensures told { IfSome result.1 (λ _. (t : Tuple) (seat : Seat) → slice_get seats.old.entries i ≡ Some (t, seat)
+        → SeatsWereTold limits_of line.now.squeue.now pass result.0 stays.old stays.new seats.old.entries seats.new.entries (hears t ∷ [])) }
+{
+    let pass = renew_at(line, alloc, pass, stays, seats, i);
+    hear_now(line, alloc, pass, stays, seats, free, i, item, out)
+}
+
+/// The same in the stay that it has.
+fn hear_now<H: Wait + Drop, W: Wait>(
     line: &Line<'_, Places<Streams<Chats, H>>, W>,
     alloc: Global,
     pass: Pass,
