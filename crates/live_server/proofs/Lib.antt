@@ -17,4 +17,6 @@ pub mod FrameLemmas
 pub mod PieceLemmas
 pub mod ToldLemmas
 pub mod PromiseLemmas
+pub mod FlightLemmas
+pub mod ShortLemmas
 pub mod OneLemmas

@@ -1,20 +1,26 @@
--- What the rules promise: of the text that all hold, of challenges, of who gives way, and of the congestion window.
+-- What the rules promise: of the text that all hold and of that which is sent, of challenges, of who gives way, and of the congestion window.
 use Rattle.std.specs.Prelude.{◌≡◌, ◌≢◌, ℕ, ◌+◌, ◌-◌, ◌*◌, ◌^◌, ◌<◌, ◌≤◌, min, max, false, suc, List, [], ◌∷◌, ◌++◌, length, slice_get, Some, None}
+use Rattle.std.specs.List.{AllByRecursion}
 use Rattle.segment_codec.specs.ControlBits.{syn}
 use Rattle.segment_codec.specs.Refusal.{tuple_of}
 use Rattle.segment_codec.specs.declared.packet.Seg.{Seg}
 use Rattle.sq_base.specs.declared.kinds.Tuple.{Tuple}
-use Rattle.tcb_machine.specs.BlockState.{Block, has}
-use Rattle.live_server.specs.Acts.{emptied, judged, reached, receives}
-use Rattle.live_server.specs.Congestion.{eased, no_congestion, seen_window, timed_out}
+use Rattle.tcb_machine.specs.BlockState.{Block, has, one_if}
+use Rattle.tcb_machine.specs.Limits.{least_mss}
+use Rattle.tcb_machine.specs.Output.{output}
+use Rattle.tcb_machine.specs.TcpStep.{with_window}
+use Rattle.tcb_machine.specs.Validity.{IsValid}
+use Rattle.live_server.specs.Acts.{emptied, is_over, judged, new_conn, reached, receives}
+use Rattle.live_server.specs.Congestion.{eased, flight, no_congestion, seen, seen_window, timed_out}
 use Rattle.live_server.specs.Isolation.{IsTable, conn_of}
 use Rattle.live_server.specs.Limits.{challenge_interval}
-use Rattle.live_server.specs.Serving.{ServerOf, heeded_text, on_segment, on_time}
+use Rattle.live_server.specs.Serving.{ServerOf, heeded_text, limited, on_segment, on_time}
 use Rattle.live_server.specs.Table.{held_by, tuple_eq}
 use Rattle.live_server.specs.declared.congestion.Congestion.{Congestion}
 use Rattle.live_server.specs.declared.conn.Conn.{Conn}
 use Rattle.live_server.specs.declared.conn.Judged.{Judged}
 use Rattle.live_server.specs.declared.conn.Judged.TheVariants.{Challenged, Late, Taken, Unanswered}
+use Rattle.live_server.specs.declared.service.LiveService.{LiveService}
 
 -- ---- text
 -- what all held when the time last came, with the text that was heeded since, counts as held
@@ -101,3 +107,32 @@ TimeoutIsWide = (b : Block) (x : Congestion) → IsWide b (timed_out b x)
 abbrev pub ShownIsNarrow : Type 0
 ShownIsNarrow = (s : Seg) (b : Block) (x : Congestion) → has s.flags syn ≡ false
     → (seen_window s b x * 2 ^ b.agreed.snd_shift ≤ max (2 ^ b.agreed.snd_shift) x.window) × (seen_window s b x ≤ s.wnd)
+
+-- ---- what is under way
+-- Output sends what the peer's window holds, and at most our FIN beyond that
+abbrev pub OutputIsBounded : Type 0
+OutputIsBounded = (b : Block) → flight (output b) + one_if b.fin_sent ≤ max (flight b) b.wnd + one_if (output b).fin_sent
+
+-- So where a block has taken the window that it is shown, no more is under way than cwnd lets, or was before: in bytes, but for one unit of
+-- its scale, and our FIN
+abbrev pub ShownIsKept : Type 0
+ShownIsKept = (s : Seg) (b : Block) (x : Congestion) → has s.flags syn ≡ false
+    → flight (output (with_window (seen s b x) b)) + one_if b.fin_sent
+    ≤ max (flight b) (max (2 ^ b.agreed.snd_shift) x.window) + one_if (output (with_window (seen s b x) b)).fin_sent
+
+-- ---- text that is sent
+-- A segment has no more text than the path of its connection takes, but for 64 bytes: so it is of all that a connection sent, and of what it
+-- agreed to send
+pub record IsShort (c : Conn) : Type 0 where
+  pub sent : AllByRecursion (λ r. length r.text ≤ max least_mss c.most) c.tcb.replies
+  pub agreed : is_over c ≡ false → c.tcb.agreed.mss ≤ max least_mss c.most
+
+abbrev pub NewIsShort : Type 0
+NewIsShort = (service : LiveService) (most now : ℕ) → IsShort (new_conn service most now)
+
+-- a segment keeps that, whose MSS was limited as the server does, and so does the time
+abbrev pub SegmentKeepsShort : Type 0
+SegmentKeepsShort = (now iss : ℕ) (s : Seg) (text : List ℕ) (c : Conn) → IsValid c.tcb → IsShort c → IsShort (receives now iss (limited c.most s) text c)
+
+abbrev pub TimeKeepsShort : Type 0
+TimeKeepsShort = (now : ℕ) (c : Conn) → IsValid c.tcb → IsShort c → IsShort (reached now c)

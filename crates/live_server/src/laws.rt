@@ -4,8 +4,9 @@ ghost use Rattle.std.specs.Prelude.{◌≡◌, codes};
 ghost use Rattle.live_server.specs.DaytimeText.{date_of, daytime_text};
 ghost use Rattle.live_server.specs.Frames.{PiecesJoin};
 ghost use Rattle.live_server.specs.Isolation.{AnswersItsEnds, OthersStay, OwnConnActs, OwnEntryGivesWay, SegmentKeepsTable, TimeKeepsTable, TimeLeaves};
-ghost use Rattle.live_server.specs.Promises.{ChallengesAreApart, FirstIsWide, OneGivesWay, SegmentKeepsFew, SegmentKeepsWide, ShownIsNarrow};
-ghost use Rattle.live_server.specs.Promises.{TextIsBounded, TextIsCounted, TimeCountsAnew, TimeKeepsFew, TimeoutIsWide};
+ghost use Rattle.live_server.specs.Promises.{ChallengesAreApart, FirstIsWide, OneGivesWay, OutputIsBounded, SegmentKeepsFew, SegmentKeepsWide, ShownIsKept};
+ghost use Rattle.live_server.specs.Promises.{NewIsShort, SegmentKeepsShort, ShownIsNarrow, TextIsBounded, TextIsCounted, TimeCountsAnew, TimeKeepsFew};
+ghost use Rattle.live_server.specs.Promises.{TimeKeepsShort, TimeoutIsWide};
 
 /// Each connection stands once in the table, and there are no more than there are places.
 pub fn the_table_is_bounded()
@@ -82,4 +83,19 @@ pub fn congestion_is_bounded()
     ensures segment { SegmentKeepsWide }
     ensures timeout { TimeoutIsWide }
     ensures shown { ShownIsNarrow }
+{}
+
+/// What a block has under way behind output is at most what it had, or what its window holds, and one for our FIN; and the window that it is
+/// shown is no wider than the congestion window, but for one unit of its scale.
+pub fn the_window_bounds_what_is_under_way()
+    ensures output { OutputIsBounded }
+    ensures shown { ShownIsKept }
+{}
+
+/// A segment that is sent has no more text than the setting says that a path takes, and 64 bytes at least: from a new connection on, whatever
+/// comes to it.
+pub fn what_is_sent_is_short()
+    ensures new { NewIsShort }
+    ensures segment { SegmentKeepsShort }
+    ensures time { TimeKeepsShort }
 {}
