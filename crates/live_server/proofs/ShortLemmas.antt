@@ -396,9 +396,9 @@ module _ (n : ℕ) (some : 1 ≤ n) where
       short n (output (pump c)) (output_open n (pump c) (pumped c (pump c) (law c moving.opened (moves-valid a c moving)) h))
   followed_short pump law a (on c) moving h = short n c h
 
-  renewed_short : (una : ℕ) (b : Block) → Short n b → Short n (renewed una b)
+  renewed_short : (una field : ℕ) (b : Block) → Short n b → Short n (renewed una field b)
   unfolding renewed
-  renewed_short una b h = short_cond n (b.una == una) b (record b { retransmissions = 0 }) h (record { agreed = h.agreed; sent = h.sent })
+  renewed_short una field b h = short_cond n ((b.una == una) && not (field == 0)) b (record b { retransmissions = 0 }) h (record { agreed = h.agreed; sent = h.sent })
 
   resent_short : (called : Bool) (b : Block) → Short n b → Short n (resent called b)
   unfolding resent
@@ -420,7 +420,7 @@ module _ (n : ℕ) (some : 1 ≤ n) where
       let b = followed (pump_of c.service) (tcp_segment now iss t text c.tcb) in
       let one = followed_short (pump_of c.service) (pumps_of c.service) (record c.tcb { clock = now }) (tcp_segment now iss t text c.tcb) (segment-says now iss t text c.tcb valid)
       (segment_says n t limited now iss text c.tcb h) in
-      resent_short (calls_again s text c.tcb c.congestion) (renewed c.tcb.una b) (renewed_short c.tcb.una b one)
+      resent_short (calls_again s text c.tcb c.congestion) (renewed c.tcb.una s.wnd b) (renewed_short c.tcb.una s.wnd b one)
 
   after_short : (j : Judged) (now iss : ℕ) (s : Seg) (text : List ℕ) (c : Conn) → send_mss s.options.mss ≤ n → IsValid c.tcb → Short n c.tcb → Short n (after j now iss s text c).tcb
   unfolding after
