@@ -23,6 +23,8 @@ use Rattle.tcb_machine.proofs.ValidLemmas.{Says as Moving, moves-valid, segment-
 use Rattle.echo_services.specs.Pumping.{IsPump, Pumps}
 use Rattle.echo_services.specs.Serving.{followed}
 use Rattle.echo_services.proofs.PumpsLemmas.{chargen-pumps, daytime-pumps, discard-pumps, echo-pumps}
+use Rattle.page_service.specs.Site.{site, site-sound}
+use Rattle.page_service.proofs.PumpsLemmas.{pump-pumps}
 use Rattle.live_server.specs.Acts.{after, judged, reaches, renewed, resent, taken}
 use Rattle.live_server.specs.Congestion.{calls_again, eased, seen}
 use Rattle.live_server.specs.DaytimeText.{daytime_text}
@@ -33,7 +35,7 @@ use Rattle.live_server.specs.declared.conn.Conn.{Conn}
 use Rattle.live_server.specs.declared.conn.Judged.{Judged}
 use Rattle.live_server.specs.declared.conn.Judged.TheVariants.{Challenged, Late, Taken, Unanswered}
 use Rattle.live_server.specs.declared.service.LiveService.{LiveService}
-use Rattle.live_server.specs.declared.service.LiveService.TheVariants.{Chargen, Daytime, Discard, Echo}
+use Rattle.live_server.specs.declared.service.LiveService.TheVariants.{Chargen, Daytime, Discard, Echo, Web}
 
 abbrev pub AreShort : ℕ → List Reply → Type 0
 AreShort n rs = AllByRecursion (λ (r : Reply). length r.text ≤ n) rs
@@ -385,6 +387,7 @@ pumps_of Echo = echo-pumps
 pumps_of Discard = discard-pumps
 pumps_of (Daytime begun) = daytime-pumps (daytime_text begun)
 pumps_of (Chargen given) = chargen-pumps given
+pumps_of (Web phase pages) = pump-pumps (site pages) (site-sound pages) phase
 
 module _ (n : ℕ) (some : 1 ≤ n) where
   pumped : (b c : Block) → Pumps b c → Open n b → Open n c
