@@ -1,8 +1,9 @@
-//! A service that answers bytes by lines: whole connections, as their segments come.
+//! Services that answer requests: whole connections, as their segments come.
 
 ghost use Rattle.std.specs.Prelude.{◌^◌, ◌<◌, length};
 
 use echo_services::serve;
+use http_pages::Pages;
 use page_service::{Answerer, Behind, Phase};
 use segment_codec::Seg;
 use sq_base::{Addr, Tuple};
@@ -53,125 +54,216 @@ const ENDS: Tuple = Tuple {
     server_port: 80,
 };
 
-/// A connection's block, and how far its service has come.
-#[derive(Drop)]
-struct Connection {
-    tcb: Tcb,
-    phase: Phase<u8>,
-}
-
-/// A segment of the client comes.
-fn arrive(
-    rt: &impl Abort,
-    connection: &mut Connection,
-    alloc: Global,
-    flags: u8,
-    seq: u32,
-    ack: u32,
-    wnd: u16,
-    text: &[u8],
-) -> Result<(), Fail>
-    requires { length text.now < 2 ^ 32 }
-{
-    let seg = Seg::plain(&ENDS, flags, seq, ack, wnd, 40, text.len() as u32);
-    assert!(rt; connection.tcb.clock() <= 1000 && connection.tcb.has_room());
-    let mut behind = Behind {
-        phase: connection.phase,
-        answerer: &Letters,
-    };
-    serve(
-        &mut behind,
-        &mut connection.tcb,
-        alloc,
-        1000,
-        500,
-        &seg,
-        text,
-    )?;
-    connection.phase = behind.phase;
-    Ok(())
-}
-
 const SYN: u8 = 2;
 
 const ACK: u8 = 16;
 
 const FIN_ACK: u8 = 17;
 
+/// A segment of the client comes. The answer is how far the service has come then.
+fn arrive<R: Answerer>(
+    rt: &impl Abort,
+    answerer: &R,
+    tcb: &mut Tcb,
+    phase: Phase<R::Answer>,
+    alloc: Global,
+    numbers: (u8, u32, u32),
+    wnd: u16,
+    text: &[u8],
+) -> Result<Phase<R::Answer>, Fail>
+    requires { length text.now < 2 ^ 32 }
+{
+    let (flags, seq, ack) = numbers;
+    let seg = Seg::plain(&ENDS, flags, seq, ack, wnd, 40, text.len() as u32);
+    assert!(rt; tcb.clock() <= 1000 && tcb.has_room());
+    let mut behind = Behind { phase, answerer };
+    serve(&mut behind, tcb, alloc, 1000, 500, &seg, text)?;
+    Ok(behind.phase)
+}
+
 /// A connection whose client announces a window.
-fn open(rt: &impl Abort, alloc: Global, wnd: u16) -> Result<Connection, Fail> {
-    let mut connection = Connection {
-        tcb: Tcb::make(alloc),
-        phase: Phase::Reads,
-    };
-    arrive(rt, &mut connection, alloc, SYN, 100, 0, wnd, b"")?;
-    arrive(rt, &mut connection, alloc, ACK, 101, 501, wnd, b"")?;
-    Ok(connection)
+fn open<R: Answerer>(
+    rt: &impl Abort,
+    answerer: &R,
+    tcb: &mut Tcb,
+    alloc: Global,
+    wnd: u16,
+) -> Result<Phase<R::Answer>, Fail> {
+    let phase = arrive(
+        rt,
+        answerer,
+        tcb,
+        Phase::Reads,
+        alloc,
+        (SYN, 100, 0),
+        wnd,
+        b"",
+    )?;
+    arrive(rt, answerer, tcb, phase, alloc, (ACK, 101, 501), wnd, b"")
 }
 
 /// Two requests in one segment have their answers in order; the peer's FIN is followed by ours.
 #[test]
 fn two_answers(rt: HostRuntime) -> Result<(), Fail> {
-    let mut connection = open(&rt, rt.alloc(), 1000)?;
-    arrive(&rt, &mut connection, rt.alloc(), ACK, 101, 501, 1000, b"ab")?;
-    let sent = connection.tcb.take_replies(rt.alloc());
+    let mut tcb = Tcb::make(rt.alloc());
+    let phase = open(&rt, &Letters, &mut tcb, rt.alloc(), 1000)?;
+    let phase = arrive(
+        &rt,
+        &Letters,
+        &mut tcb,
+        phase,
+        rt.alloc(),
+        (ACK, 101, 501),
+        1000,
+        b"ab",
+    )?;
+    let sent = tcb.take_replies(rt.alloc());
     assert_eq!(rt; sent.len(), 2);
     let text = sent[1].text.as_slice();
     assert!(rt; text.len() == 130 && text[0] == b'a' && text[64] == b'\n' && text[65] == b'b');
-    assert_eq!(rt; connection.phase, Phase::Reads);
-    arrive(
+    assert_eq!(rt; phase, Phase::Reads);
+    let phase = arrive(
         &rt,
-        &mut connection,
+        &Letters,
+        &mut tcb,
+        phase,
         rt.alloc(),
-        FIN_ACK,
-        103,
-        631,
+        (FIN_ACK, 103, 631),
         1000,
         b"",
     )?;
-    assert_eq!(rt;
-        (connection.phase, connection.tcb.state()),
-        (Phase::Ends, State::LastAck)
-    );
+    assert_eq!(rt; (phase, tcb.state()), (Phase::Ends, State::LastAck));
     Ok(())
 }
 
 /// An answer after which none may follow: our FIN comes behind it, and what else came is thrown away.
 #[test]
 fn last_answer(rt: HostRuntime) -> Result<(), Fail> {
-    let mut connection = open(&rt, rt.alloc(), 1000)?;
-    arrive(
+    let mut tcb = Tcb::make(rt.alloc());
+    let phase = open(&rt, &Letters, &mut tcb, rt.alloc(), 1000)?;
+    let phase = arrive(
         &rt,
-        &mut connection,
+        &Letters,
+        &mut tcb,
+        phase,
         rt.alloc(),
-        ACK,
-        101,
-        501,
+        (ACK, 101, 501),
         1000,
         b"azb",
     )?;
-    assert_eq!(rt;
-        (connection.phase, connection.tcb.state()),
-        (Phase::Ends, State::FinWait1)
-    );
-    assert_eq!(rt; connection.tcb.ready(), 0);
+    assert_eq!(rt; (phase, tcb.state()), (Phase::Ends, State::FinWait1));
+    assert_eq!(rt; tcb.ready(), 0);
     Ok(())
 }
 
 /// More requests than there is room for the answers: the rest waits until the peer has acknowledged some.
 #[test]
 fn more_than_fits(rt: HostRuntime) -> Result<(), Fail> {
-    let mut connection = open(&rt, rt.alloc(), 0)?;
+    let mut tcb = Tcb::make(rt.alloc());
+    let phase = open(&rt, &Letters, &mut tcb, rt.alloc(), 0)?;
     let many = [b'a'; 1200];
-    arrive(&rt, &mut connection, rt.alloc(), ACK, 101, 501, 0, &many)?;
+    let phase = arrive(
+        &rt,
+        &Letters,
+        &mut tcb,
+        phase,
+        rt.alloc(),
+        (ACK, 101, 501),
+        0,
+        &many,
+    )?;
     // 1,008 whole answers of 65 bytes, and 15 bytes of another one
     assert_eq!(rt;
-        connection.phase,
+        phase,
         Phase::Answers {
             answer: b'a',
             given: 15
         }
     );
-    assert_eq!(rt; (connection.tcb.room(), connection.tcb.ready()), (0, 191));
+    assert_eq!(rt; (tcb.room(), tcb.ready()), (0, 191));
+    Ok(())
+}
+
+/// A part of a pack, behind its length in four bytes.
+fn put(pack: &mut Vec<u8>, part: &[u8]) -> Result<(), AllocError>
+    requires { length part.now < 2 ^ 8 }
+{
+    for byte in [0, 0, 0, part.len() as u8] {
+        pack.push(byte)?;
+    }
+    for byte in part {
+        pack.push(*byte)?;
+    }
+    Ok(())
+}
+
+/// A site of one page.
+fn site(rt: &impl Abort, alloc: Global) -> Result<Pages, Fail> {
+    let mut pack = Vec::new(alloc);
+    put(&mut pack, b"/a")?;
+    put(&mut pack, b"text/plain")?;
+    put(&mut pack, b"\"t\"")?;
+    put(&mut pack, b"hello")?;
+    let Ok(pages) = Pages::of(alloc, pack) else {
+        panic!(rt; "the pack has a page");
+    };
+    Ok(pages)
+}
+
+/// The text of the last segment that was sent.
+fn is_last(tcb: &mut Tcb, alloc: Global, text: &[u8]) -> bool {
+    let sent = tcb.take_replies(alloc);
+    match sent.last() {
+        Some(reply) => reply.text.as_slice() == text,
+        None => false,
+    }
+}
+
+/// A request cut in two (RFC 9112, 2.1 and 3) has its answer once it is whole; behind the answer to an HTTP/1.0 request (9.3) comes our FIN.
+#[test]
+fn pages(rt: HostRuntime) -> Result<(), Fail> {
+    let site = site(&rt, rt.alloc())?;
+    let mut tcb = Tcb::make(rt.alloc());
+    let phase = open(&rt, &site, &mut tcb, rt.alloc(), 1000)?;
+    let phase = arrive(
+        &rt,
+        &site,
+        &mut tcb,
+        phase,
+        rt.alloc(),
+        (ACK, 101, 501),
+        1000,
+        b"GET /a HT",
+    )?;
+    assert_eq!(rt; (phase, tcb.ready()), (Phase::Reads, 9));
+    let phase = arrive(
+        &rt,
+        &site,
+        &mut tcb,
+        phase,
+        rt.alloc(),
+        (ACK, 110, 501),
+        1000,
+        b"TP/1.1\r\nHost: x\r\n\r\n",
+    )?;
+    assert_eq!(rt; (phase, tcb.ready()), (Phase::Reads, 0));
+    assert!(rt;
+        is_last(
+            &mut tcb,
+            rt.alloc(),
+            b"HTTP/1.1 200 OK\r\nDate: Thu, 01 Jan 1970 00:00:00 GMT\r\nETag: \"t\"\r\nContent-Type: text/plain\r\nContent-Length: 5\r\n\r\nhello"
+        )
+    );
+    let phase = arrive(
+        &rt,
+        &site,
+        &mut tcb,
+        phase,
+        rt.alloc(),
+        (ACK, 129, 618),
+        1000,
+        b"GET /b HTTP/1.0\r\n\r\n",
+    )?;
+    assert_eq!(rt; (phase, tcb.state()), (Phase::Ends, State::FinWait1));
     Ok(())
 }
