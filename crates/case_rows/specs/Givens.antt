@@ -1,5 +1,5 @@
 -- What a row gives to a program.
-use Rattle.std.specs.Prelude.{◌≡◌, ℕ, Option, Some, List, codes, map}
+use Rattle.std.specs.Prelude.{◌≡◌, ℕ, Some, List, codes, map}
 use Rattle.std.specs.String.{string_bytes}
 use Rattle.case_rows.specs.Rows.{AreNumbers, IsNumber, lines_named, only_line, words_in}
 use Rattle.case_rows.specs.declared.given.Failing.{Failing}

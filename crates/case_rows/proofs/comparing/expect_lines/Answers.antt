@@ -1,4 +1,4 @@
-use Rattle.std.proofs.Common.{◌∷◌, ◌++◌, [], true, sym, ap, refl, ◌∙◌, append_assoc, append-nil}
+use Rattle.std.proofs.Common.{◌∷◌, ◌++◌, [], sym, ap, refl, ◌∙◌, append_assoc, append-nil}
 use Rattle.std.specs.List.{flat_map}
 use Rattle.std.proofs.lemmas.List.{take_all}
 use Rattle.case_rows.proofs.Lines.{line_more, no_more}

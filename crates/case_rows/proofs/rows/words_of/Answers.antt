@@ -1,4 +1,4 @@
-use Rattle.std.proofs.Common.{◌≡◌, ◌<◌, ◌∙◌, ◌==◌, ℕ, Bool, Bor, List, [], Ok, ap, cond, map, sym, subst}
+use Rattle.std.proofs.Common.{◌<◌, ◌∙◌, ◌==◌, ℕ, Bool, List, [], Ok, ap, cond, map, sym, subst}
 use Rattle.std.specs.List.{slice_split}
 use Rattle.std.specs.declared.alloc.AllocError.{AllocError}
 use Rattle.std.proofs.lemmas.Result.{IfOk-weaker}

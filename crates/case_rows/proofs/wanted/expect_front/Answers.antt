@@ -1,7 +1,6 @@
 use Rattle.std.proofs.Common.{◌≡◌, ◌∙◌, ℕ, List, ap, arith, length, min, take}
 use Rattle.std.proofs.lemmas.Bool.Decides.{Decides-eqb}
 use Rattle.std.proofs.lemmas.Slice.Eq.{starts_is}
-use Rattle.case_rows.specs.Wanted.{spelled}
 use Rattle.case_rows.proofs.Outputs.{front_of}
 use Rattle.case_rows.proofs.wanted.expect_front.Goals as goal
 

@@ -1,4 +1,4 @@
-use Rattle.std.proofs.Common.{◌≡◌, ◌∙◌, List, ℕ, Bor, inr, Ok, Option, ap, map, sym, subst, lit<}
+use Rattle.std.proofs.Common.{◌∙◌, List, ℕ, inr, Ok, ap, map, sym, subst, lit<}
 use Rattle.std.specs.Prelude.{IfSome}
 use Rattle.std.specs.declared.alloc.AllocError.{AllocError}
 use Rattle.std.proofs.lemmas.Iterator.Consumers.{map_from_collect}
