@@ -60,113 +60,133 @@ const ACK: u8 = 16;
 
 const FIN_ACK: u8 = 17;
 
-/// A segment of the client comes. The answer is how far the service has come then.
+/// A connection, and how far its service has come.
+struct Connection<A: Copy> {
+    tcb: Tcb,
+    phase: Phase<A>,
+}
+
+/// A segment of the client comes.
 fn arrive<R: Answerer>(
     rt: &impl Abort,
-    answerer: &R,
-    tcb: &mut Tcb,
-    phase: Phase<R::Answer>,
+    letters: &R,
+    connection: &mut Connection<R::Answer>,
     alloc: Global,
     numbers: (u8, u32, u32),
     wnd: u16,
     text: &[u8],
-) -> Result<Phase<R::Answer>, Fail>
+) -> Result<(), Fail>
     requires { length text.now < 2 ^ 32 }
 {
     let (flags, seq, ack) = numbers;
     let seg = Seg::plain(&ENDS, flags, seq, ack, wnd, 40, text.len() as u32);
-    assert!(rt; tcb.clock() <= 1000 && tcb.has_room());
-    let mut behind = Behind { phase, answerer };
-    serve(&mut behind, tcb, alloc, 1000, 500, &seg, text)?;
-    Ok(behind.phase)
+    let (now, iss) = (1000, 500);
+    assert!(rt; connection.tcb.clock() <= now && connection.tcb.has_room());
+    let mut behind = Behind {
+        phase: connection.phase,
+        answerer: letters,
+    };
+    serve(
+        &mut behind,
+        &mut connection.tcb,
+        alloc,
+        now,
+        iss,
+        &seg,
+        text,
+    )?;
+    connection.phase = behind.phase;
+    Ok(())
 }
 
 /// A connection whose client announces a window.
 fn open<R: Answerer>(
     rt: &impl Abort,
-    answerer: &R,
-    tcb: &mut Tcb,
+    letters: &R,
     alloc: Global,
     wnd: u16,
-) -> Result<Phase<R::Answer>, Fail> {
-    let phase = arrive(
+) -> Result<Connection<R::Answer>, Fail> {
+    let mut connection = Connection {
+        tcb: Tcb::make(alloc),
+        phase: Phase::Reads,
+    };
+    arrive(rt, letters, &mut connection, alloc, (SYN, 100, 0), wnd, b"")?;
+    arrive(
         rt,
-        answerer,
-        tcb,
-        Phase::Reads,
+        letters,
+        &mut connection,
         alloc,
-        (SYN, 100, 0),
+        (ACK, 101, 501),
         wnd,
         b"",
     )?;
-    arrive(rt, answerer, tcb, phase, alloc, (ACK, 101, 501), wnd, b"")
+    Ok(connection)
 }
 
 /// Two requests in one segment have their answers in order; the peer's FIN is followed by ours.
 #[test]
 fn two_answers(rt: HostRuntime) -> Result<(), Fail> {
-    let mut tcb = Tcb::make(rt.alloc());
-    let phase = open(&rt, &Letters, &mut tcb, rt.alloc(), 1000)?;
-    let phase = arrive(
+    let mut connection = open(&rt, &Letters, rt.alloc(), 1000)?;
+    arrive(
         &rt,
         &Letters,
-        &mut tcb,
-        phase,
+        &mut connection,
         rt.alloc(),
         (ACK, 101, 501),
         1000,
         b"ab",
     )?;
-    let sent = tcb.take_replies(rt.alloc());
+    let sent = connection.tcb.take_replies(rt.alloc());
     assert_eq!(rt; sent.len(), 2);
     let text = sent[1].text.as_slice();
     assert!(rt; text.len() == 130 && text[0] == b'a' && text[64] == b'\n' && text[65] == b'b');
-    assert_eq!(rt; phase, Phase::Reads);
-    let phase = arrive(
+    assert_eq!(rt; connection.phase, Phase::Reads);
+    arrive(
         &rt,
         &Letters,
-        &mut tcb,
-        phase,
+        &mut connection,
         rt.alloc(),
         (FIN_ACK, 103, 631),
         1000,
         b"",
     )?;
-    assert_eq!(rt; (phase, tcb.state()), (Phase::Ends, State::LastAck));
+    assert_eq!(rt;
+        (connection.phase, connection.tcb.state()),
+        (Phase::Ends, State::LastAck)
+    );
     Ok(())
 }
 
 /// An answer after which none may follow: our FIN comes behind it, and what else came is thrown away.
 #[test]
 fn last_answer(rt: HostRuntime) -> Result<(), Fail> {
-    let mut tcb = Tcb::make(rt.alloc());
-    let phase = open(&rt, &Letters, &mut tcb, rt.alloc(), 1000)?;
-    let phase = arrive(
+    let mut connection = open(&rt, &Letters, rt.alloc(), 1000)?;
+    arrive(
         &rt,
         &Letters,
-        &mut tcb,
-        phase,
+        &mut connection,
         rt.alloc(),
         (ACK, 101, 501),
         1000,
         b"azb",
     )?;
-    assert_eq!(rt; (phase, tcb.state()), (Phase::Ends, State::FinWait1));
-    assert_eq!(rt; tcb.ready(), 0);
+    assert_eq!(rt;
+        (connection.phase, connection.tcb.state()),
+        (Phase::Ends, State::FinWait1)
+    );
+    assert_eq!(rt; connection.tcb.ready(), 0);
     Ok(())
 }
 
 /// More requests than there is room for the answers: the rest waits until the peer has acknowledged some.
 #[test]
 fn more_than_fits(rt: HostRuntime) -> Result<(), Fail> {
-    let mut tcb = Tcb::make(rt.alloc());
-    let phase = open(&rt, &Letters, &mut tcb, rt.alloc(), 0)?;
+    let mut connection = open(&rt, &Letters, rt.alloc(), 0)?;
     let many = [b'a'; 1200];
-    let phase = arrive(
+    arrive(
         &rt,
         &Letters,
-        &mut tcb,
-        phase,
+        &mut connection,
         rt.alloc(),
         (ACK, 101, 501),
         0,
@@ -174,13 +194,13 @@ fn more_than_fits(rt: HostRuntime) -> Result<(), Fail> {
     )?;
     // 1,008 whole answers of 65 bytes, and 15 bytes of another one
     assert_eq!(rt;
-        phase,
+        connection.phase,
         Phase::Answers {
             answer: b'a',
             given: 15
         }
     );
-    assert_eq!(rt; (tcb.room(), tcb.ready()), (0, 191));
+    assert_eq!(rt; (connection.tcb.room(), connection.tcb.ready()), (0, 191));
     Ok(())
 }
 
@@ -223,47 +243,52 @@ fn is_last(tcb: &mut Tcb, alloc: Global, text: &[u8]) -> bool {
 #[test]
 fn pages(rt: HostRuntime) -> Result<(), Fail> {
     let site = site(&rt, rt.alloc())?;
-    let mut tcb = Tcb::make(rt.alloc());
-    let phase = open(&rt, &site, &mut tcb, rt.alloc(), 1000)?;
-    let phase = arrive(
+    let mut connection = open(&rt, &site, rt.alloc(), 1000)?;
+    arrive(
         &rt,
         &site,
-        &mut tcb,
-        phase,
+        &mut connection,
         rt.alloc(),
         (ACK, 101, 501),
         1000,
         b"GET /a HT",
     )?;
-    assert_eq!(rt; (phase, tcb.ready()), (Phase::Reads, 9));
-    let phase = arrive(
+    assert_eq!(rt;
+        (connection.phase, connection.tcb.ready()),
+        (Phase::Reads, 9)
+    );
+    arrive(
         &rt,
         &site,
-        &mut tcb,
-        phase,
+        &mut connection,
         rt.alloc(),
         (ACK, 110, 501),
         1000,
         b"TP/1.1\r\nHost: x\r\n\r\n",
     )?;
-    assert_eq!(rt; (phase, tcb.ready()), (Phase::Reads, 0));
+    assert_eq!(rt;
+        (connection.phase, connection.tcb.ready()),
+        (Phase::Reads, 0)
+    );
     assert!(rt;
         is_last(
-            &mut tcb,
+            &mut connection.tcb,
             rt.alloc(),
             b"HTTP/1.1 200 OK\r\nDate: Thu, 01 Jan 1970 00:00:00 GMT\r\nETag: \"t\"\r\nContent-Type: text/plain\r\nContent-Length: 5\r\n\r\nhello"
         )
     );
-    let phase = arrive(
+    arrive(
         &rt,
         &site,
-        &mut tcb,
-        phase,
+        &mut connection,
         rt.alloc(),
         (ACK, 129, 618),
         1000,
         b"GET /b HTTP/1.0\r\n\r\n",
     )?;
-    assert_eq!(rt; (phase, tcb.state()), (Phase::Ends, State::FinWait1));
+    assert_eq!(rt;
+        (connection.phase, connection.tcb.state()),
+        (Phase::Ends, State::FinWait1)
+    );
     Ok(())
 }
