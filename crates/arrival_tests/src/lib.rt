@@ -1,0 +1,7 @@
+//! Tests of work that arrives: sums by key.
+#![tactic(auto)]
+
+#[cfg(test)]
+mod sums;
+#[cfg(test)]
+mod through;
