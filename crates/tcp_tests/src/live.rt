@@ -18,6 +18,7 @@ const SETTING: Setting = Setting {
     bytes: 1 << 28,
     segment: 1460,
     ports: PLAIN_PORTS,
+    site: None,
 };
 
 /// SYNs of 10.9.0.1, ports 40000 and 40001, to 10.9.0.2, port 7, with both sums.
