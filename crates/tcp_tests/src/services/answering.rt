@@ -61,6 +61,7 @@ const ACK: u8 = 16;
 const FIN_ACK: u8 = 17;
 
 /// A connection, and how far its service has come.
+#[derive(Drop)]
 struct Connection<A: Copy> {
     tcb: Tcb,
     phase: Phase<A>,
