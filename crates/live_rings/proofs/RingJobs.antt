@@ -73,8 +73,8 @@ module _ {X P S K : Type 0} {G : Ghosts X P Chats} (s : Named (Places X P Chats 
       ] in
       let f = fresh_at number_of s.gate 0 passes k r.0 fresh r.1 in
       let n : number r.0 ≡ k = omega (arith, f.1) in
-      let places : j.places.items ≡ Some r.0 ∷ [] = sym (lent_got jobs k j is) ∙ (ap (lent_to jobs) (sym at) ∙ (r.2 ∙ ap (λ l. l ++ Some r.0 ∷ []) (none (holder 0 count 0 k)))) in
-      (r.0, places, may_new rings places serves many j.task r.0 k (tasks.each k j.task (task_got jobs k j is)) f.0 n f.2, n)
+      let lies : j.places.items ≡ Some r.0 ∷ [] = sym (lent_got jobs k j is) ∙ (ap (lent_to jobs) (sym at) ∙ (r.2 ∙ ap (λ l. l ++ Some r.0 ∷ []) (none (holder 0 count 0 k)))) in
+      (r.0, lies, may_new rings places serves many j.task r.0 k (tasks.each k j.task (task_got jobs k j is)) f.0 n f.2, n)
 
   pub all_ready : (jobs : List (Job (ServerTask S K))) → ((k : ℕ) (j : Job (ServerTask S K)) → slice_get jobs k ≡ Some j → ReadyAt k j) → (k : ℕ) (d : Job (ServerTask S K)) → k < length jobs → IsReady s (slice_index_or jobs k d)
   all_ready jobs new k d lt =

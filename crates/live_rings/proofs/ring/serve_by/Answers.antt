@@ -1,5 +1,5 @@
 use Rattle.std.proofs.Common.{◌≡◌, ◌∙◌, false, ap, subst, sym}
-use Rattle.std.specs.Prelude.{IfSome, OnOk}
+use Rattle.std.specs.Prelude.{IfOk, IfSome, OnOk}
 use Rattle.std.specs.Io.KnownBytes.{Appends}
 use Rattle.live_server.specs.Frames.{answers, frames_in}
 use Rattle.live_server.specs.Told.{told_frames}
@@ -12,8 +12,11 @@ use Rattle.live_rings.proofs.ring.serve_by.Goals as goal
 pub returns-clause-served : goal.returns-clause-served
 returns-clause-served g c =
     let e = c.serve_stream-served.ensures in
+    let same : c.in-Ok.setting ≡ c.args.setup.now.setting = subst (λ r. IfOk r (λ s. s ≡ c.args.setup.now.setting)) c.in-Ok.is c.share.ensures in
     let first : server_by g.T.ConnTable.conns c.over-rules.result ≡ server_of c.args.setup.now =
-    c.over-rules.ensures.server ∙ ap (λ conns. record (server_of c.args.setup.now) { conns = conns }) c.requires.none in
+    c.over-rules.ensures.server
+    ∙ ap (λ set. record (server_of c.args.setup.now) { conns = g.T.ConnTable.conns c.args.table; setting = set }) same
+    ∙ ap (λ conns. record (server_of c.args.setup.now) { conns = conns }) c.requires.none in
     let lost = c.serve_stream-served.new.lost in
     record {
       written = subst (λ s. OnOk c.serve_stream-served.result (lost ≡ false → IfSome (g.S.Source.rest c.args.reader.now) (λ input. Appends (g.K.Sink.contents c.args.sink.now) (g.K.Sink.contents c.serve_stream-served.new.sink) (answers input s)))) first e.written;
@@ -29,8 +32,11 @@ returns-clause-served g c =
 pub returns-clause-told : goal.returns-clause-told
 returns-clause-told g c =
     let e = c.serve_stream-served.ensures in
+    let same : c.in-Ok.setting ≡ c.args.setup.now.setting = subst (λ r. IfOk r (λ s. s ≡ c.args.setup.now.setting)) c.in-Ok.is c.share.ensures in
     let first : server_by g.T.ConnTable.conns c.over-rules.result ≡ server_of c.args.setup.now =
-    c.over-rules.ensures.server ∙ ap (λ conns. record (server_of c.args.setup.now) { conns = conns }) c.requires.none in
+    c.over-rules.ensures.server
+    ∙ ap (λ set. record (server_of c.args.setup.now) { conns = g.T.ConnTable.conns c.args.table; setting = set }) same
+    ∙ ap (λ conns. record (server_of c.args.setup.now) { conns = conns }) c.requires.none in
     let lost = c.serve_stream-served.new.lost in
     lived_still (λ input. g.T.ConnTable.tells c.over-rules.result.table (told_frames (frames_in input) (server_by g.T.ConnTable.conns c.over-rules.result)) c.serve_stream-served.new.rules.table)
     (λ input. g.T.ConnTable.tells c.args.table (told_frames (frames_in input) (server_of c.args.setup.now)) c.into_table.result)
