@@ -3,5 +3,3 @@
 
 #[cfg(test)]
 mod sums;
-#[cfg(test)]
-mod through;
