@@ -491,13 +491,13 @@ class Live(unittest.TestCase):
     def test_the_stored_run(self):
         folder = TOP / "crates" / "sqlive"
         words = (folder / "args").read_text().split()
-        done = subprocess.run([SQLIVE, *words], input=(folder / "stdin").read_bytes(), capture_output=True)
+        done = subprocess.run([SQLIVE, *words], input=(folder / "stdin").read_bytes(), capture_output=True, cwd=folder / "data")
         self.assertEqual((done.returncode, done.stdout), (0, (folder / "stdout").read_bytes()))
 
     def test_a_cut_input(self):
         folder = TOP / "crates" / "sqlive"
         words = (folder / "args").read_text().split()
-        done = subprocess.run([SQLIVE, *words], input=(folder / "stdin").read_bytes()[:-1], capture_output=True)
+        done = subprocess.run([SQLIVE, *words], input=(folder / "stdin").read_bytes()[:-1], capture_output=True, cwd=folder / "data")
         self.assertEqual((done.returncode, done.stderr), (6, b"the input isn't whole frames\n"))
 
     def test_its_words(self):
