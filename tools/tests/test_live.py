@@ -22,6 +22,8 @@ from common import TOOLS, TOP, need
 
 sys.path.insert(0, str(TOOLS / "live"))
 import floods
+import http_model
+import pages
 import rings
 import seen
 import status
@@ -481,6 +483,43 @@ class Launcher(unittest.TestCase):
         done = subprocess.run([TOOLS / "sqlive", "status", "--device", "nowhere"], capture_output=True, text=True)
         self.assertEqual(done.returncode, 1)
         self.assertIn("no tools/sqlive runs on nowhere", done.stderr)
+
+
+class Pages(unittest.TestCase):
+    def setUp(self):
+        self.folder = tempfile.TemporaryDirectory()
+        self.addCleanup(self.folder.cleanup)
+        self.top = Path(self.folder.name)
+
+    def test_a_pack(self):
+        """An index page stands for its folder too; what begins with a dot is left out, and told."""
+        (self.top / "sub").mkdir()
+        (self.top / "sub" / "index.html").write_bytes(b"<p>here")
+        (self.top / "a.css").write_bytes(b"")
+        (self.top / ".hidden").write_bytes(b"no")
+        pack, count, hidden = pages.pack_of(self.top)
+        found = http_model.pages_in(pack)
+        self.assertEqual((sorted(found), count, len(hidden)), ([b"/a.css", b"/sub/", b"/sub/index.html"], 3, 1))
+        self.assertEqual((found[b"/sub/"].body, found[b"/a.css"].kind), (b"<p>here", b"text/css; charset=utf-8"))
+
+    def test_refused_folders(self):
+        """No folder, no file, a link that leads out, and a name that isn't UTF-8."""
+        (self.top / "none").mkdir()
+        for name, target in (("out", "/etc/hostname"), ("folders", "/etc")):
+            (self.top / name).mkdir()
+            (self.top / name / "link").symlink_to(target)
+        (self.top / "bytes").mkdir()
+        Path(os.fsdecode(os.fsencode(self.top / "bytes") + b"/\xff")).write_bytes(b"x")
+        for name in ("none", "out", "folders", "bytes", "nowhere"):
+            with self.assertRaises(pages.Refused, msg=name):
+                pages.pack_of(self.top / name)
+
+    def test_the_model(self):
+        """What the model answers to the examples of RFC 9112: a whole request, half of one, and one that ends the connection."""
+        known = {b"/": http_model.Page(b"text/html", b'"t"', b"hello")}
+        asked = b"GET / HTTP/1.1\r\nHost: a\r\n\r\n"
+        self.assertEqual([(a.status, a.body, a.keeps) for a in http_model.answers(known, asked * 2 + asked[:9])[0]], [(200, b"hello", True)] * 2)
+        self.assertEqual([a.status for a in http_model.answers(known, b"GET / HTTP/1.1\r\n\r\n" + asked)[0]], [400])
 
 
 class Live(unittest.TestCase):
