@@ -171,7 +171,8 @@ def answers(pages, received):
             return [*given, Answer(431 if b"\n" in received[at:MOST_HEAD] else 414)], True
         end, lines = head
         given.append(answer_of(pages, lines))
-        if lines[0].startswith(b"HEAD "):
+        # whoever asks by HEAD takes no content (RFC 9110, 9.3.2), also where the rest of the line is none
+        if lines[0].split(b" ")[0] == b"HEAD":
             given[-1].body = b""
         if not given[-1].keeps:
             return given, True
