@@ -4,8 +4,8 @@
 //! does: one that grows in memory for want of it, and none that appends digits alone where there is room.
 #![tactic(auto)]
 
-ghost use Rattle.std.specs.Prelude.{◌≡◌, ◌+◌, ◌*◌, ◌≤◌, ◌++◌, IsOk, OnOk, if◌then◌else◌, is_ok, length};
-ghost use Rattle.hex.specs.Hex.{encode_lower};
+ghost use Rattle.std.specs.Prelude.{◌≡◌, ◌<◌, slice_index, ◌+◌, ◌*◌, ◌≤◌, ◌++◌, IsOk, OnOk, if◌then◌else◌, is_ok, length};
+ghost use Rattle.hex.specs.Hex.{encode_lower, lower_digits};
 ghost use Rattle.text_digits.specs.Told.{more};
 
 mod ends;
@@ -65,13 +65,21 @@ pub(crate) fn digits_in<'r>(room: &'r mut [u8; 128], bytes: &[u8]) -> &'r [u8]
     digits
 }
 
-/// Makes the digits of these bytes, where there is just the room.
+/// Makes the digits of these bytes, where there is just the room: by arithmetic and not by a table, so that many are made at once.
 pub(crate) fn write_digits(digits: &mut [u8], bytes: &[u8])
     requires { length digits.old ≡ 2 * length bytes.now }
     ensures { digits.new ≡ encode_lower bytes.now }
 {
-    match hex::encode_to_slice(bytes, digits) {
-        Ok(()) => {}
-        Err(_) => unreachable!(),
+    for at in 0..bytes.len() {
+        digits[2 * at] = digit(bytes[at] / 16);
+        digits[2 * at + 1] = digit(bytes[at] % 16);
     }
+}
+
+/// The digit of a number below 16.
+fn digit(n: u8) -> u8
+    requires { n < 16 }
+    ensures { result ≡ slice_index lower_digits n }
+{
+    if n < 10 { n + b'0' } else { n - 10 + b'a' }
 }
