@@ -6,3 +6,4 @@ pub mod QueueLemmas
 pub mod PlaceLemmas
 pub mod WholeLemmas
 pub mod HeldLemmas
+pub mod AheadLemmas

@@ -34,11 +34,11 @@ spaced-small low high (r ∷ rs) e h (suc k) d lt = spaced-small (r.start + leng
 
 -- the next byte
 
-later-front : (at high : ℕ) (rs : List Run) → IsSpaced (at + 1) high rs → front (cells_from at rs) ≡ 0
+pub later-front : (at high : ℕ) (rs : List Run) → IsSpaced (at + 1) high rs → front (cells_from at rs) ≡ 0
 later-front at high [] h = refl
 later-front at high (r ∷ rs) h = gap-front (r.start - at) (held r.bytes (cells_from (r.start + length r.bytes) rs)) (omega (arith, h.0))
 
-here-front : (at high : ℕ) (r : Run) (rs : List Run) → IsSpaced at high (r ∷ rs) → r.start ≡ at → front (cells_from at (r ∷ rs)) ≡ length r.bytes
+pub here-front : (at high : ℕ) (r : Run) (rs : List Run) → IsSpaced at high (r ∷ rs) → r.start ≡ at → front (cells_from at (r ∷ rs)) ≡ length r.bytes
 here-front at high r rs h e =
     let rest = cells_from (r.start + length r.bytes) rs in
     let none : r.start - at ≡ 0 = omega (arith, e) in
@@ -48,14 +48,14 @@ here-front at high r rs h e =
     omega (arith, a, b, c)
 
 -- whether the first run begins at a position that isn't behind it
-starts : (at high : ℕ) (r : Run) (rs : List Run) → IsSpaced at high (r ∷ rs) → ((r.start ≡ at) × (eqb r.start at ≡ true)) ⊎ ((at < r.start) × (eqb r.start at ≡ false))
+pub starts : (at high : ℕ) (r : Run) (rs : List Run) → IsSpaced at high (r ∷ rs) → ((r.start ≡ at) × (eqb r.start at ≡ true)) ⊎ ((at < r.start) × (eqb r.start at ≡ false))
 starts at high r rs h =
     elim (zero-or (r.start - at)) [
       | inl e ↦ let same : r.start ≡ at = omega (arith, e, h.0) in inl (same, grind (arith, nat_tests, same))
       | inr e ↦ let above : at < r.start = omega (arith, e) in inr (above, grind (arith, nat_tests, above))
     ]
 
-front-chosen : (t : Bool) (at : ℕ) (r : Run) (rs : List Run) → eqb r.start at ≡ t → front_of at (r ∷ rs) ≡ cond t r.bytes []
+pub front-chosen : (t : Bool) (at : ℕ) (r : Run) (rs : List Run) → eqb r.start at ≡ t → front_of at (r ∷ rs) ≡ cond t r.bytes []
 front-chosen t at r rs e = ap (λ (u : Bool). cond u r.bytes []) e
 
 pub front-is : (at high : ℕ) (rs : List Run) → IsSpaced at high rs → front (cells_from at rs) ≡ length (front_of at rs)

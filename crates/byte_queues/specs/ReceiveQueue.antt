@@ -121,6 +121,10 @@ next_bytes n q = bytes (take n q.got)
 unfoldable pub without : ℕ → Recv → Recv
 without n q = record q { got = drop n q.got; taken = q.taken + n; edge = max q.edge (q.taken + n + q.cap) }
 
+-- the queue without what it holds behind a gap
+unfoldable pub without_ahead : Recv → Recv
+without_ahead q = record q { got = take (front q.got) q.got }
+
 unfoldable pub with_cap : ℕ → Recv → Recv
 with_cap n q = record q { cap = n; edge = max q.edge (q.taken + n) }
 

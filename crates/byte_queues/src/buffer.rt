@@ -36,12 +36,19 @@ impl Buffer {
         }
     }
 
-    /// A copy of the bytes.
-    pub fn of(alloc: Global, bytes: &[u8]) -> Result<Buffer, AllocError>
+    /// A copy of the bytes, in a store that may have room for them. What the store had is gone.
+    pub fn of(store: Vec<u8>, bytes: &[u8]) -> Result<Buffer, AllocError>
         ensures { IfOk result (λ b. b ≡ bytes.now) }
     {
-        let store = Vec::from_slice(alloc, bytes)?;
+        let mut store = store;
+        store.clear();
+        store.extend_from_slice(bytes)?;
         Ok(Buffer { store, from: 0 })
+    }
+
+    /// The store, for other bytes.
+    pub fn into_store(self) -> Vec<u8> {
+        self.store
     }
 
     pub fn as_slice(&self) -> &[u8]

@@ -9,6 +9,8 @@ mod recv;
 mod run;
 mod send;
 
-pub use laws::{offered_is_kept, positions, received_is_kept, what_is_taken_was_held};
+pub use laws::{
+    offered_is_kept, positions, received_is_kept, what_is_in_order_stays, what_is_taken_was_held,
+};
 pub use recv::{Placed, RecvQueue};
 pub use send::SendQueue;

@@ -4,7 +4,7 @@
 
 ghost use Rattle.std.specs.Prelude.{◌≡◌, ◌+◌, ◌-◌, ◌^◌, ◌<◌, ◌≤◌, length, None, Some, min, ◌==◌, ◌||◌, nat_lt, IfOk, OnOk, OnErr, slice_get, false, true};
 ghost use Rattle.byte_queues.specs.ReceiveQueue.{Recv, empty_recv, next_of, front, window_of, ready_of, is_ended, runs, runs_of};
-ghost use Rattle.byte_queues.specs.ReceiveQueue.{bytes, placed, placed_as, laid, up_to, next_bytes, without, with_cap, with_end};
+ghost use Rattle.byte_queues.specs.ReceiveQueue.{bytes, placed, placed_as, laid, up_to, next_bytes, without, without_ahead, with_cap, with_end};
 ghost use Rattle.byte_queues.specs.Limits.{most_runs, position_limit};
 
 use crate::run::{Run, drop_front, front, held_in, join, runs_before, runs_touched};
@@ -41,6 +41,8 @@ pub enum Placed {
 pub struct RecvQueue {
     /// By rising position, with a gap between each two.
     runs: Vec<Run>,
+    /// A store for the next run that stands alone, since mostly the service takes each text before the next one comes.
+    spare: Vec<u8>,
     /// How many bytes the service took: the position of the next one that it takes.
     taken: u64,
     /// The right edge of the window, as a position. It never falls.
@@ -70,6 +72,7 @@ impl RecvQueue {
     {
         RecvQueue {
             runs: Vec::new(alloc),
+            spare: Vec::new(alloc),
             taken: 0,
             edge: u64::from(cap),
             cap,
@@ -122,7 +125,7 @@ impl RecvQueue {
         let first = runs_before(self.runs.as_slice(), at);
         let count = runs_touched(self.runs.as_slice(), first, at + text.len() as u64);
         if self.has_room(at, count) {
-            join(&mut self.runs, first, count, at, text)?;
+            join(&mut self.runs, &mut self.spare, first, count, at, text)?;
             Ok(Placed::Held)
         } else {
             Ok(Placed::Blocks)
@@ -247,9 +250,19 @@ impl RecvQueue {
         requires { n ≤ ready_of self.old }
         ensures { self.new ≡ without n self.old }
     {
-        drop_front(&mut self.runs, self.taken, n);
+        drop_front(&mut self.runs, &mut self.spare, self.taken, n);
         self.taken += u64::from(n);
         self.edge = self.edge.max(self.taken + u64::from(self.cap));
+    }
+
+    /// Forgets each run that doesn't begin at the next byte to be taken. None of their text was acknowledged, so the peer sends it again
+    /// (RFC 9293, 3.10.7.4).
+    #[tactic(auto, unfolding(crate::specs::ReceiveQueue::without_ahead))]
+    pub fn forget_ahead(&mut self)
+        ensures { self.new ≡ without_ahead self.old }
+    {
+        let kept = front(self.runs.as_slice(), self.taken).len().min(1);
+        self.runs.truncate(kept);
     }
 
     /// Sets the capacity. The edge rises to `taken + cap`, and doesn't fall.

@@ -5,6 +5,10 @@ ghost use Rattle.byte_queues.specs.Runs.{held_of, end_of, count_before, count_up
 
 use crate::buffer::Buffer;
 use std::alloc::{AllocError, Global};
+use std::mem;
+
+/// How many bytes of room a spare store may have. One segment's text fits.
+const MOST_SPARE: usize = 2048;
 
 /// Bytes at neighbouring positions from `start` on. A queue keeps no run without bytes.
 #[derive(Drop)]
@@ -120,8 +124,9 @@ pub fn front(runs: &[Run], at: u64) -> &[u8]
     }
 }
 
-/// The run that begins at a position, the first one, loses its first `n` bytes, and goes where none is left.
-pub fn drop_front(runs: &mut Vec<Run>, at: u64, n: u32)
+/// The run that begins at a position, the first one, loses its first `n` bytes, and goes where none is left. Where it is the only one,
+/// its store is the spare one from then on.
+pub fn drop_front(runs: &mut Vec<Run>, spare: &mut Vec<u8>, at: u64, n: u32)
     requires within { n ≤ length (front_of at runs.old.items) }
     requires small { at + n < 2 ^ 64 }
     ensures { runs.new.items ≡ dropped n runs.old.items }
@@ -133,7 +138,9 @@ pub fn drop_front(runs: &mut Vec<Run>, at: u64, n: u32)
     if run.bytes.len() == n as usize {
         // Mostly it is the only one, and none has to move up.
         if runs.len() == 1 {
-            runs.clear();
+            if let Some(run) = runs.pop() {
+                keep_spare(spare, run.bytes.into_store());
+            }
         } else {
             runs.remove(0);
         }
@@ -143,9 +150,18 @@ pub fn drop_front(runs: &mut Vec<Run>, at: u64, n: u32)
     }
 }
 
-/// A text at `at` becomes one run with the `count` runs from place `first` on, which it touches. Unchanged after an error.
+/// A store becomes the spare one, unless it is a large one.
+fn keep_spare(spare: &mut Vec<u8>, store: Vec<u8>) {
+    if store.capacity() <= MOST_SPARE {
+        *spare = store;
+    }
+}
+
+/// A text at `at` becomes one run with the `count` runs from place `first` on, which it touches; a run of its own takes the spare store.
+/// Unchanged after an error.
 pub fn join(
     runs: &mut Vec<Run>,
+    spare: &mut Vec<u8>,
     first: usize,
     count: usize,
     at: u64,
@@ -159,7 +175,7 @@ pub fn join(
 {
     let alloc = *runs.allocator();
     if count == 0 {
-        let bytes = Buffer::of(alloc, text)?;
+        let bytes = Buffer::of(mem::replace(spare, Vec::new(alloc)), text)?;
         let run = Run { start: at, bytes };
         // Mostly it is the last one, and none has to make room.
         if first == runs.len() {

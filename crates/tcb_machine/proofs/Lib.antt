@@ -6,3 +6,4 @@ pub mod SteadyLemmas
 pub mod ValidLemmas
 pub mod NumberLemmas
 pub mod ChallengeLemmas
+pub mod ForgettingLemmas

@@ -12,3 +12,4 @@ pub mod Room
 pub mod Endings
 pub mod Numbering
 pub mod Challenges
+pub mod Forgetting

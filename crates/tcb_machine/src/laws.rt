@@ -6,6 +6,8 @@ ghost use Rattle.segment_codec.specs.declared.packet.Seg.{Seg};
 ghost use Rattle.tcb_machine.specs.BlockState.{Block, new_block, offered};
 ghost use Rattle.tcb_machine.specs.CallAnswers.{tcp_call};
 ghost use Rattle.tcb_machine.specs.Challenges.{ChallengeIsAlone};
+ghost use Rattle.tcb_machine.specs.Forgetting.{ForgettingKeepsNumber, ForgettingKeepsWindow, ForgettingHoldsOrder, ForgettingHoldsLess, ForgettingKeepsValid};
+ghost use Rattle.tcb_machine.specs.Forgetting.{ForgettingKeepsNumbers, ForgettingAddsNothing};
 ghost use Rattle.tcb_machine.specs.Numbering.{IsNumbered, SegmentKeepsNumbers, TimeKeepsNumbers, CallKeepsNumbers, OutputKeepsNumbers, ResendKeepsNumbers};
 ghost use Rattle.tcb_machine.specs.Output.{output};
 ghost use Rattle.tcb_machine.specs.Room.{StreamsBelow, SegmentAddsLittle, TimeAddsNothing, CallAddsNothing, OutputAddsNothing, ResendAddsNothing};
@@ -91,4 +93,16 @@ pub fn acknowledged_numbers_and_bytes_go_together()
 /// A segment that is challenged is answered by an acknowledgement, and changes nothing else.
 pub fn a_challenge_is_alone()
     ensures { ChallengeIsAlone }
+{}
+
+/// A block that forgets the text behind a gap announces the same, and holds what is in order and what it offered, so no more than before.
+/// All that holds of every block holds of it.
+pub fn forgetting_keeps_what_is_acknowledged()
+    ensures number { ForgettingKeepsNumber }
+    ensures window { ForgettingKeepsWindow }
+    ensures held { ForgettingHoldsOrder }
+    ensures less { ForgettingHoldsLess }
+    ensures valid { ForgettingKeepsValid }
+    ensures numbers { ForgettingKeepsNumbers }
+    ensures room { ForgettingAddsNothing }
 {}

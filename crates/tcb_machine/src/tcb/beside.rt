@@ -2,6 +2,7 @@
 
 ghost use Rattle.std.specs.Prelude.{◌≡◌, ◌<◌, ◌^◌, false, OnOk};
 ghost use Rattle.tcb_machine.specs.BlockState.{held_in, sends_ack};
+ghost use Rattle.tcb_machine.specs.Forgetting.{forgetting};
 ghost use Rattle.tcb_machine.specs.States.{is_listen};
 
 use super::Tcb;
@@ -14,6 +15,14 @@ impl Tcb {
         ensures most { result < 2 ^ 34 }
     {
         self.recv.held() + u64::from(self.send.held())
+    }
+
+    /// Forgets the received text behind a gap (RFC 9293, 3.10.7.4). None of it was acknowledged, and the window stays as it is.
+    #[tactic(auto, using(crate::proofs::ForgettingLemmas::ahead_below, crate::proofs::ForgettingLemmas::next_forgotten), unfolding(crate::specs::Forgetting::forgetting, byte_queues::specs::ReceiveQueue::without_ahead))]
+    pub fn forget_ahead(&mut self)
+        ensures { self.new ≡ forgetting self.old }
+    {
+        self.recv.forget_ahead();
     }
 
     /// Sends an acknowledgement, as a challenge (RFC 5961). After NoMemory nothing more is promised.
