@@ -7,7 +7,6 @@
 
 pub mod laws;
 mod message;
-mod places;
 mod reading;
 mod writing;
 

@@ -6,7 +6,7 @@ ghost use Rattle.icmp_codec.specs.EchoRequest.{ping_in, is_icmp, is_echo, messag
 ghost use Rattle.icmp_codec.specs.Limits.{ip_header_size, icmp_header_size, least_rest, most_rest};
 
 use crate::message::Ping;
-use crate::places::{front, long_at, rest_at, word_at};
+use segment_codec::places::{front, long_at, rest_at, word_at};
 use sq_base::{Addr, inet_sum};
 
 const ICMP: u8 = 1;

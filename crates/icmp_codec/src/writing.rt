@@ -1,11 +1,11 @@
 //! The reply in bytes.
 
-ghost use Rattle.std.specs.Prelude.{◌≡◌, ◌++◌, IfOk};
-ghost use Rattle.byteorder.specs.Endian.{big_bytes};
+ghost use Rattle.std.specs.Prelude.{◌≡◌, IfOk};
 ghost use Rattle.icmp_codec.specs.EchoReply.{pong_bytes, ip_with, ip_sum, pong_sum};
 
 use crate::message::Ping;
 use byteorder::{BigEndian, ByteOrder};
+use segment_codec::words::joined;
 use sq_base::{Octets, inet_sum};
 use std::alloc::{AllocError, Global};
 
@@ -41,13 +41,6 @@ fn header_with(ping: &Ping<'_>, total: u16, sum: u16) -> [u8; 20]
     let mut bytes = [0; 20];
     BigEndian::write_u32_into(&words, &mut bytes);
     bytes
-}
-
-/// Two words of 16 bits as one of 32.
-fn joined(high: u16, low: u16) -> u32
-    ensures { big_bytes 4 result ≡ big_bytes 2 high ++ big_bytes 2 low }
-{
-    u32::from(high) * 0x1_0000 + u32::from(low)
 }
 
 /// The header's checksum.

@@ -10,14 +10,14 @@ use Rattle.shell.specs.Asked.{calls_of}
 use Rattle.shell.specs.Numbers.{number_between}
 use Rattle.shell.specs.Words.{calls_in}
 use Rattle.squeue_run.specs.Words.{Text}
-use Rattle.squeue_run.specs.Asked.{Asked, asked, asked_of, buffer_by, call_by, call_of, go_together, split_at}
+use Rattle.squeue_run.specs.Asked.{Asked, asked, asked_of, buffer_by, call_by, call_of, go_together}
+use Rattle.shell.specs.Parts.{split_at}
 use Rattle.squeue_run.specs.CallWords.{AllThere, lists_of}
 use Rattle.squeue_run.specs.declared.calls.CallWord.{CallWord}
-use Rattle.shell.proofs.Chains.{chained, guarded, mapped, number_within}
+use Rattle.shell.proofs.Chains.{chained, guarded, mapped, number_within, some_is}
 use Rattle.squeue_run.proofs.InRange.{budget_most, parts_of, setup_in_range}
 use Rattle.squeue_run.proofs.Threads.{few_asked, lists_count}
 use Rattle.trace_lines.specs.Printed.{ArePrintedCalls, IsPrintedCall, IsPrintedSetup}
-use Rattle.squeue_state.proofs.Finish.{some_is}
 
 -- what a call asks for fits its line
 abbrev IsShort : Call → Type 0

@@ -10,9 +10,10 @@ pub mod laws;
 mod limits;
 mod options;
 mod packet;
-mod places;
+pub mod places;
 mod reading;
 mod refusing;
+pub mod words;
 mod writing;
 
 pub use control::{ACK, FIN, PSH, RST, SYN};

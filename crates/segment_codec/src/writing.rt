@@ -3,13 +3,14 @@
 ghost use Rattle.std.specs.Prelude.{◌≡◌, ◌≤◌, ◌+◌, ◌*◌, ◌<◌, length, take, IfOk, IsOk, OnOk, OnErr, ◌++◌, ◌∷◌, [], if◌then◌else◌, is_ok, flat_map};
 ghost use Rattle.std.specs.Prelude.{vec_capacity, vec_len};
 ghost use Rattle.byteorder.specs.Endian.{big_bytes};
-ghost use Rattle.sq_base.specs.InternetSum.{word_sum, reduced};
+ghost use Rattle.sq_base.specs.InternetSum.{word_sum};
 ghost use Rattle.segment_codec.specs.SegmentBytes.{segment_bytes, ip_with, tcp_with, offset_of, ip_sum, tcp_sum};
 ghost use Rattle.segment_codec.specs.Options.{option_bytes, word_bytes};
 ghost use Rattle.segment_codec.specs.Limits.{most_text, most_option_words};
 ghost use Rattle.segment_codec.specs.Datagrams.{most_datagram};
 
 use crate::packet::Reply;
+use crate::words::{folded, halves, joined};
 use byteorder::{BigEndian, ByteOrder};
 use sq_base::{Octets, Tuple, inet_sum};
 use std::alloc::{AllocError, Global};
@@ -123,13 +124,6 @@ fn word(high: u8, low: u8) -> u16
     u16::from(high) * 256 + u16::from(low)
 }
 
-/// Two words of 16 bits as one of 32.
-fn joined(high: u16, low: u16) -> u32
-    ensures { big_bytes 4 result ≡ big_bytes 2 high ++ big_bytes 2 low }
-{
-    u32::from(high) * 0x1_0000 + u32::from(low)
-}
-
 /// The sum of a header's words of 16 bits.
 fn sum_of(header: [u32; 5]) -> u32
     ensures is { result ≡ word_sum (flat_map (big_bytes 4) header) }
@@ -137,21 +131,6 @@ fn sum_of(header: [u32; 5]) -> u32
 {
     let [a, b, c, d, e] = header;
     halves(a) + halves(b) + halves(c) + halves(d) + halves(e)
-}
-
-/// The sum of the two words of 16 bits.
-fn halves(long: u32) -> u32
-    ensures is { result ≡ word_sum (big_bytes 4 long) }
-    ensures small { result ≤ 2 * 0xffff }
-{
-    (long >> 16) + (long & 0xffff)
-}
-
-/// The sum with its carries added at its end.
-fn folded(sum: u32) -> u16
-    ensures { result ≡ reduced sum }
-{
-    halves(halves(sum)) as u16
 }
 
 /// The sum of the words of options.

@@ -27,3 +27,4 @@ pub mod Whole
 pub mod Pieces
 pub mod Rules
 pub mod Values
+pub mod PartsLemmas

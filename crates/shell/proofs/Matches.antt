@@ -14,6 +14,7 @@ use Rattle.shell.specs.Command.{command_app, flag_rule, flag_text, option_rule, 
 use Rattle.shell.specs.Table.{OptionOf, TableOf, TakesOf, Text, is_flag, is_option, is_table, names_in, nothing, number, stand_once, takes_nothing, text}
 use Rattle.shell.specs.Words.{Use, accepted, is_known, names_of, sets, text_of, uses_from, uses_of}
 use Rattle.shell.proofs.Agree.{Readable, end_of, from_front, quiet_from}
+use Rattle.shell.proofs.Chains.{some_is}
 use Rattle.shell.proofs.Ends.{fault_is}
 use Rattle.shell.proofs.Found.{look, look_flag, look_none, look_option, look_other, set_row, value_row, values_calls, has_row-look}
 use Rattle.shell.proofs.Known.{calls_built, clash, flag_there, names_once, rules_from, same_name}
@@ -57,9 +58,6 @@ one_default n own false rows e =
 value_back : (name : Text) (v : Option Text) → option_and_then (λ r. slice_get r.values 0) (value_row name v) ≡ v
 value_back name None = refl
 value_back name (Some v) = refl
-
-some_is : (us vs : List Use) → Some us ≡ Some vs → us ≡ vs
-some_is us vs e = cc
 
 none_is : (us : List Use) → None ≡ Some us → ⊥
 none_is us e = cc
@@ -199,7 +197,7 @@ module _ (t : TableOf) (apart : is_table t ≡ true) where
           let rows : (settled (rules_built t apart) (end_of t apart (at (hold None []) idle false) ws).held).rows ≡ apply_all vs [] = (from_front t apart ws readable).ends vs said good in
           let whole : matches_of (command_app t) ws ≡ ends vs good =
           matches_are ws ∙ (finished_is (end_of t apart (at (hold None []) idle false) ws).held ∙ ap (with_flags t.options) rows) in
-          subst (λ (r : List Row). Holds t.options r us) (sym whole) (subst (λ (x : List Use). Holds t.options (ends vs good) x) (some_is vs us is) (reads_uses vs good))
+          subst (λ (r : List Row). Holds t.options r us) (sym whole) (subst (λ (x : List Use). Holds t.options (ends vs good) x) (some_is is) (reads_uses vs good))
       by_test vs false said good is = absurd (none_is us is)
 
       by_uses : (o : Option (List Use)) → uses_from t.options ws None ≡ o → option_and_then (accepted t.options) o ≡ Some us → Holds t.options (matches_of (command_app t) ws) us

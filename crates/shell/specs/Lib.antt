@@ -1,6 +1,7 @@
 pub mod Table
 pub mod Words
 pub mod Numbers
+pub mod Parts
 pub mod Asked
 pub mod Command
 pub mod Telling

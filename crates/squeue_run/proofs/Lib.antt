@@ -1,4 +1,3 @@
-pub mod Texts
 pub mod Answered
 pub mod InRange
 pub mod Threads

@@ -7,12 +7,12 @@ use Rattle.std.proofs.lemmas.List.Elements.{filter-append}
 use Rattle.tcb_machine.specs.declared.kinds.Call.{Call}
 use Rattle.conn_blocks.specs.CallLists.{calls_of as list_of, call_count}
 use Rattle.conn_blocks.specs.Limits.{callers, most_calls}
-use Rattle.squeue_state.proofs.Finish.{some_is}
 use Rattle.squeue_run.specs.Words.{Text}
-use Rattle.squeue_run.specs.Asked.{Asked, asked, call_of, call_by, asked_of, split_at}
+use Rattle.shell.specs.Parts.{split_at}
+use Rattle.squeue_run.specs.Asked.{Asked, asked, call_of, call_by, asked_of}
 use Rattle.squeue_run.specs.CallWords.{lists_of}
 use Rattle.squeue_run.specs.declared.calls.CallWord.{CallWord}
-use Rattle.shell.proofs.Chains.{chained, mapped, guarded, number_within}
+use Rattle.shell.proofs.Chains.{chained, mapped, guarded, number_within, some_is}
 use Rattle.shell.specs.Asked.{calls_of}
 use Rattle.shell.specs.Numbers.{number_between}
 use Rattle.shell.specs.Words.{calls_in}

@@ -1,11 +1,11 @@
 -- What the words of `sqrun` ask for: the setup, the number of a generated input, and CALLs.
 use Rattle.std.specs.Prelude.{ℕ, ◌-◌, ◌==◌, ◌&&◌, ◌||◌, not, nat_lt, Bool, if◌then◌else◌, codes}
 use Rattle.std.specs.Prelude.{List, length, Option, None, Some, is_some, option_map, option_and_then}
-use Rattle.std.specs.List.{list_any, before_first, after_first}
 use Rattle.std.specs.Str.{bytes_eq}
 use Rattle.shell.specs.Asked.{AskedOf, GivenOf, is_set, number_for, text_for}
 use Rattle.shell.specs.Asked as shell
 use Rattle.shell.specs.Numbers.{number_between}
+use Rattle.shell.specs.Parts.{split_at}
 use Rattle.squeue_run.specs.Words.{Text, sqrun_table}
 use Rattle.conn_blocks.specs.Limits.{callers}
 use Rattle.ring_quotas.specs.declared.setup.Setup.{Setup}
@@ -18,11 +18,6 @@ use Rattle.squeue_run.specs.declared.calls.CallWord.{CallWord}
 use Rattle.squeue_run.specs.declared.reading.Words.{Words}
 use Rattle.conn_classifier.specs.Rules.{usual}
 use Rattle.conn_classifier.specs.declared.rules.Rules.{Rules}
-
--- the parts of a text before and behind the first of this byte
-abbrev pub split_at : ℕ → Text → Option (Text × Text)
-split_at byte text =
-    if list_any (λ b. b == byte) text then Some (before_first (λ b. b == byte) text, after_first (λ b. b == byte) text) else None
 
 -- `status`, `close`, or `buffer=N` with the `=` (61)
 abbrev pub buffer_by : Text × Text → Option Call

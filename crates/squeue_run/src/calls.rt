@@ -1,10 +1,11 @@
 //! The CALLs of the words.
 
-ghost use Rattle.std.specs.Prelude.{◌≡◌, option_map, option_and_then};
-ghost use Rattle.squeue_run.specs.Asked.{asked_of, buffer_by, call_by, call_of, split_at};
+ghost use Rattle.std.specs.Prelude.{◌≡◌, option_and_then};
+ghost use Rattle.shell.specs.Parts.{split_at};
+ghost use Rattle.squeue_run.specs.Asked.{asked_of, buffer_by, call_by, call_of};
 
 use conn_blocks::CALLERS;
-use shell::{ReadsCall, number_between};
+use shell::{ReadsCall, number_between, split_at};
 use tcb_machine::{Call, PLAIN_SPACE};
 
 /// One CALL: the thread that makes it (0 to 3), the connection that it is on, and what it asks.
@@ -40,7 +41,7 @@ fn asked_in(text: &str) -> Option<Call>
 fn buffer_in(text: &str) -> Option<Call>
     ensures { result ≡ option_and_then buffer_by (split_at 61 text.now) }
 {
-    let (name, size) = at_equals(text)?;
+    let (name, size) = split_at(text, '=')?;
     if name != "buffer" {
         return None;
     }
@@ -48,26 +49,12 @@ fn buffer_in(text: &str) -> Option<Call>
     Some(Call::Buffer(size as u16))
 }
 
-/// What stands before and behind the first `=`.
-fn at_equals(text: &str) -> Option<(&str, &str)>
-    ensures { option_map (λ parts. (parts.0.now, parts.1.now)) result ≡ split_at 61 text.now }
-{
-    text.split_once('=')
-}
-
-/// What stands before and behind the first colon.
-fn at_colon(text: &str) -> Option<(&str, &str)>
-    ensures { option_map (λ parts. (parts.0.now, parts.1.now)) result ≡ split_at 58 text.now }
-{
-    text.split_once(':')
-}
-
 /// The CALL that a word is.
 fn call_in(word: &str) -> Option<CallWord>
     ensures { result ≡ call_of word.now }
 {
-    let (thread, rest) = at_colon(word)?;
-    let (connection, asked) = at_colon(rest)?;
+    let (thread, rest) = split_at(word, ':')?;
+    let (connection, asked) = split_at(rest, ':')?;
     call_by(thread, connection, asked)
 }
 

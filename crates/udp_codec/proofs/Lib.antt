@@ -1,3 +1,2 @@
-pub mod Joins
 pub mod SumLemmas
 pub mod ReadAgainLemmas

@@ -6,7 +6,6 @@
 
 mod datagram;
 pub mod laws;
-mod places;
 mod reading;
 mod writing;
 

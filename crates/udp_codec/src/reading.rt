@@ -6,8 +6,8 @@ ghost use Rattle.udp_codec.specs.UdpDatagram.{udp_in, is_whole, header_of, part_
 ghost use Rattle.udp_codec.specs.Limits.{ip_header_size, udp_header_size};
 
 use crate::datagram::Udp;
-use crate::places::{front, long_at, rest_at, word_at};
 use segment_codec::ip_place;
+use segment_codec::places::{front, long_at, rest_at, word_at};
 use sq_base::{Addr, Link};
 
 const UDP: u8 = 17;

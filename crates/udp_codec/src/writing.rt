@@ -1,12 +1,12 @@
 //! A sent datagram in bytes. Both checksums are taken over the fields as numbers first, so each byte is written once.
 
-ghost use Rattle.std.specs.Prelude.{◌≡◌, ◌+◌, ◌*◌, ◌++◌, ◌≤◌, length, flat_map, IfOk, OnOk};
+ghost use Rattle.std.specs.Prelude.{◌≡◌, ◌+◌, ◌++◌, ◌≤◌, length, flat_map, IfOk, OnOk};
 ghost use Rattle.byteorder.specs.Endian.{big_bytes};
-ghost use Rattle.sq_base.specs.InternetSum.{word_sum, reduced};
 ghost use Rattle.udp_codec.specs.UdpBytes.{udp_bytes, ip_with, udp_with, ip_sum, udp_sum, not_none};
 ghost use Rattle.udp_codec.specs.Limits.{most_text};
 
 use byteorder::{BigEndian, ByteOrder};
+use segment_codec::words::{folded, halves, joined};
 use sq_base::{Octets, Tuple, inet_sum};
 use std::alloc::{AllocError, Global};
 
@@ -45,21 +45,6 @@ fn udp_sum(tuple: &Tuple, text: &[u8], len: u16) -> u16
     not_none(0xffff - inet_sum(folded(pseudo + header), text))
 }
 
-/// The sum of the two words of 16 bits.
-fn halves(long: u32) -> u32
-    ensures is { result ≡ word_sum (big_bytes 4 long) }
-    ensures small { result ≤ 2 * 0xffff }
-{
-    (long >> 16) + (long & 0xffff)
-}
-
-/// The sum with its carries added at its end.
-fn folded(sum: u32) -> u16
-    ensures { result ≡ reduced sum }
-{
-    halves(halves(sum)) as u16
-}
-
 /// A checksum of 0 would say that there is none.
 fn not_none(sum: u16) -> u16
     ensures { result ≡ not_none sum }
@@ -89,15 +74,8 @@ fn ip_header(tuple: &Tuple, total: u16, sum: u16) -> [u32; 5]
     ]
 }
 
-/// Two words of 16 bits as one of 32.
-fn joined(high: u16, low: u16) -> u32
-    ensures { big_bytes 4 result ≡ big_bytes 2 high ++ big_bytes 2 low }
-{
-    u32::from(high) * 0x1_0000 + u32::from(low)
-}
-
 /// Appends the UDP part with this checksum.
-#[tactic(auto, using(crate::proofs::Joins::joins))]
+#[tactic(auto, using(segment_codec::proofs::Joins::joins))]
 fn push_part(out: &mut Vec<u8>, tuple: &Tuple, text: &[u8], sum: u16) -> Result<(), AllocError>
     requires { length text.now ≤ most_text }
     ensures { OnOk result (out.new.items ≡ out.old.items ++ udp_with tuple.now text.now sum) }
