@@ -1,5 +1,8 @@
 //! What is run, and what came of it.
 
+ghost use Rattle.std.specs.Prelude.{IfOk};
+ghost use Rattle.case_rows.specs.Runs.{CameOf};
+
 use crate::fault::RowFault;
 use crate::given::Given;
 use sq_base::{MemSink, MemSource};
@@ -27,6 +30,7 @@ pub fn came_of<P: Fn(Global, &[String], &mut MemSource, &mut MemSink, &mut MemSi
     input: &[u8],
 ) -> Result<Came, RowFault>
     requires { P.IsAlwaysCallable program.now }
+    ensures { IfOk result (λ came. CameOf P.Fn program.now given.now input.now came) }
 {
     let mut src = MemSource::make(alloc, input, given.reads.max(1), &given.failing.reads)?;
     let mut out = MemSink::make(alloc, ROOM, given.writes.max(1), &given.failing.writes)?;

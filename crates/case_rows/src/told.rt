@@ -1,5 +1,8 @@
 //! What is wrong with a row, by the line that says it.
 
+ghost use Rattle.std.specs.Prelude.{◌≡◌};
+ghost use Rattle.std.specs.Result.{result_ok};
+
 use crate::fault::RowFault;
 use crate::wrong::Wrong;
 use std::alloc::Global;
@@ -13,7 +16,9 @@ fn fault_at(alloc: Global, line: &str, wrong: Wrong) -> RowFault {
 }
 
 /// What a line gave; or why it can't be run, with the line.
-pub fn told_at<T>(alloc: Global, line: &str, given: Result<T, Wrong>) -> Result<T, RowFault> {
+pub fn told_at<T>(alloc: Global, line: &str, given: Result<T, Wrong>) -> Result<T, RowFault>
+    ensures { result_ok result ≡ result_ok given }
+{
     match given {
         Ok(value) => Ok(value),
         Err(wrong) => Err(fault_at(alloc, line, wrong)),

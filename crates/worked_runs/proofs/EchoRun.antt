@@ -35,5 +35,7 @@ has_ended pass = record {
   reading = λ e. absurd (no_fault e);
   writing = λ e. absurd (no_fault e);
   frames = λ e. absurd (no_fault e);
+  answered = λ e. absurd (no_fault e);
+  so_far = λ e. absurd (no_fault e);
   others = λ e. absurd (no_fault e);
 }

@@ -1,6 +1,9 @@
 pub mod OneConnection
 pub mod Witness
 pub mod OneCall
+pub mod OneClose
+pub mod OneKey
+pub mod OneLook
 pub mod Moved
 pub mod Told
 pub mod Whole

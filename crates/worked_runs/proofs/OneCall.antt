@@ -39,7 +39,7 @@ no_second true b d is = rw is refl
 no_second false b d is = refl
 
 -- nobody is behind the only connection
-no_more : (c : ℕ) → first_here 1 0 1 (suc c) ≡ None
+pub no_more : (c : ℕ) → first_here 1 0 1 (suc c) ≡ None
 no_more c = let behind : nat_lt (suc c) 1 ≡ false = grind (arith, nat_tests) in rw behind refl
 
 -- the only thread makes its only call once, and no other

@@ -2,6 +2,10 @@ pub mod OneSqueue
 pub mod TwoSqueues
 pub mod FiveSegments
 pub mod OneCall
+pub mod OneClose
+pub mod OneKey
+pub mod OneLook
+pub mod OneTransfer
 pub mod TracedCall
 pub mod OneDatagram
 pub mod OneEcho

@@ -31,6 +31,7 @@ layout = record {
     idle = 7200000000;
     bytes = 268435456;
     segment = 1460;
+    pings = 1000;
     ports = plain_ports;
     site = None;
   };

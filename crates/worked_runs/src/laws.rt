@@ -1,6 +1,6 @@
 //! What is written out was served, and what was done was all that was asked.
 
-ghost use Rattle.std.specs.Prelude.{◌≡◌, ◌∷◌, true, false, Some, []};
+ghost use Rattle.std.specs.Prelude.{◌≡◌, ◌+◌, ◌∷◌, true, false, None, Some, [], sum, sum_by};
 ghost use Rattle.sq_base.specs.declared.kinds.Status.TheVariants as status;
 ghost use Rattle.sq_base.specs.declared.kinds.Tuple.{Tuple};
 ghost use Rattle.capture_reader.specs.Outcome.{CaptureFile};
@@ -17,7 +17,13 @@ ghost use Rattle.placed_parts.specs.declared.places.Places.{Places};
 ghost use Rattle.histories.specs.declared.mode.Mode.TheVariants as Mode;
 ghost use Rattle.squeue_pool.specs.Calls.{HaveHadAll, WasDoneBy};
 ghost use Rattle.squeue_pool.specs.Keeping.{PassesKeep};
+ghost use Rattle.squeue_pool.specs.ServedParts.{IsServed, WasServedBy};
+ghost use Rattle.squeue_pool.specs.declared.served.ServedParts.{ServedParts};
 ghost use Rattle.histories.specs.Keeping.{KeepsPace};
+ghost use Rattle.moving_bank.specs.Settling.{statements_of};
+ghost use Rattle.squeue_state.specs.Naming.{Named};
+ghost use Rattle.stream_stays.specs.declared.stay.Stay.{Stay};
+ghost use Rattle.stream_stays.specs.declared.stay.Vacant.{Vacant};
 ghost use Rattle.ring_quotas.specs.Quotas.{setting_at};
 ghost use Rattle.ring_threads.specs.Served.{HasServed};
 ghost use Rattle.datagram_services.specs.MoreRan.{HasMoreRan, MoreAccepts};
@@ -32,14 +38,22 @@ ghost use Rattle.squeue_run.specs.Ran.{Accepts, HasRan};
 ghost use Rattle.worked_runs.specs.FiveSegments as Five;
 ghost use Rattle.worked_runs.specs.OneCall as Called;
 ghost use Rattle.worked_runs.specs.OneCall.{AreResidents};
+ghost use Rattle.worked_runs.specs.OneClose as Closed;
+ghost use Rattle.worked_runs.specs.OneClose.{HasClosed, IsClosed};
 ghost use Rattle.worked_runs.specs.OneDatagram as Echoed;
 ghost use Rattle.worked_runs.specs.OneEcho as Frames;
+ghost use Rattle.worked_runs.specs.OneKey as Keyed;
+ghost use Rattle.worked_runs.specs.OneKey.{IsLeftOf};
+ghost use Rattle.worked_runs.specs.OneLook as Looked;
+ghost use Rattle.worked_runs.specs.OneLook.{HasLooked, IsLooked};
 ghost use Rattle.worked_runs.specs.OneSqueue as One;
+ghost use Rattle.worked_runs.specs.OneTransfer as Paid;
 ghost use Rattle.worked_runs.specs.TracedCall as Traced;
 ghost use Rattle.worked_runs.specs.TwoSqueues as Two;
 
 use placed_parts::Parts;
 use replay_law::laws::a_traced_run_replays;
+use squeue_streams::Steps;
 
 /// The history is legal, ends, keeps the pace of its setup, each mark of all passes is the one for what its turn found, and it has the
 /// setting of its homes and quotas.
@@ -188,4 +202,61 @@ pub fn there_is_work_with_a_call<S: Parts>()
         → HaveHadAll S.Parts shared Called.counts Called.calls (Called.finished part) }
 {
     a_history_with_a_call_fits();
+}
+
+/// Of work by key, the history is legal, ends, and keeps the pace of its pool, and each mark of all passes is the one for what its turn
+/// found.
+pub fn a_history_by_key_fits()
+    ensures legal { Legal Keyed.setting Keyed.history }
+    ensures over { IsOver Keyed.setting (run Keyed.setting Keyed.history) }
+    ensures keeps { KeepsPace 1 0 Mode.Process 64 0 Keyed.setting 0 Keyed.history }
+    ensures passes { PassesKeep Mode.Process Keyed.ending }
+{}
+
+/// There is work by key: for parts of every kind, the pool served what is written out, and the part has had all its feeds. With one feed less
+/// it wasn't served by this pool.
+pub fn there_is_work_by_key<S: Parts>()
+    ensures served { (v : ServedParts S S.Part S.Origin S.Parts) (first last : Places S S.Part S.Origin S.Parts) (new part : S.Part)
+        → IsLeftOf S.Parts Keyed.ending v first last new part → IsServed v × WasServedBy Called.pool v }
+    ensures refused { (v : ServedParts S S.Part S.Origin S.Parts) (first last : Places S S.Part S.Origin S.Parts) (new part : S.Part)
+        → IsLeftOf S.Parts Keyed.too_short v first last new part → WasServedBy Called.pool v → ⊥ }
+{
+    a_history_by_key_fits();
+}
+
+/// Of a look, the history is legal.
+pub fn a_history_with_a_look_fits()
+    ensures legal { Legal Looked.setting Looked.after }
+{}
+
+/// There is a look: for parts of every kind, what is read behind two feeds is the part that stands for both; and an empty place is no answer.
+pub fn there_is_a_look<S: Parts>()
+    ensures seen { (s : Named (Places S S.Part S.Origin S.Parts)) (r : Places S S.Part S.Origin S.Parts) (part : S.Part) (from to : Pass Element)
+        → IsLooked S.Parts s r part from to → HasLooked S.Parts s from to (Some part ∷ []) }
+    ensures refused { (s : Named (Places S S.Part S.Origin S.Parts)) (r : Places S S.Part S.Origin S.Parts) (part : S.Part) (from to : Pass Element)
+        → IsLooked S.Parts s r part from to → HasLooked S.Parts s from to (None ∷ []) → ⊥ }
+{
+    a_history_with_a_look_fits();
+}
+
+/// There are statements: these are those of two accounts, and all that was paid in and sent stands in them.
+pub fn there_are_statements()
+    ensures statements { statements_of Paid.deposits Paid.transfers ≡ Paid.statements }
+    ensures kept { sum_by (λ s. s.credit) Paid.statements ≡ sum_by sum Paid.deposits + sum_by (λ s. s.debit) Paid.statements }
+{}
+
+/// Of a place that is closed, the history is legal.
+pub fn a_history_with_a_close_fits()
+    ensures legal { Legal Closed.setting Closed.history }
+{}
+
+/// There is a place that is closed: for items and steps of every kind, its part has had a feed for its only item, and took it. In a history
+/// without the feed it wasn't closed so.
+pub fn there_is_a_close<X: Steps>()
+    ensures closed { (o : X.Origin) (stay : Stay X.Item) (vacant : Vacant X.Item X.State) (item : X.Item) (from : X.State)
+        → IsClosed (X.step o) stay vacant item from → HasClosed (X.step o) stay vacant Closed.history }
+    ensures refused { (o : X.Origin) (stay : Stay X.Item) (vacant : Vacant X.Item X.State) (item : X.Item) (from : X.State)
+        → IsClosed (X.step o) stay vacant item from → HasClosed (X.step o) stay vacant Closed.unfed → ⊥ }
+{
+    a_history_with_a_close_fits();
 }
