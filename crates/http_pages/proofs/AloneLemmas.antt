@@ -1,5 +1,5 @@
 -- A request's answer is found again in its own bytes.
-use Rattle.std.proofs.Common.{◌≡◌, ℕ, ◌+◌, ◌-◌, ◌≤◌, List, [], ◌∷◌, ◌++◌, Option, None, Some, Bool, true, false, cond, not, ◌==◌, ◌&&◌, length, take, drop, refl, sym, ap, ◌∙◌, subst, arith, length-take}
+use Rattle.std.proofs.Common.{◌≡◌, ℕ, ◌+◌, ◌-◌, ◌≤◌, List, [], ◌∷◌, Option, None, Some, Bool, true, false, cond, ◌==◌, ◌&&◌, length, take, refl, sym, ap, ◌∙◌, arith, length-take}
 use Rattle.std.specs.Prelude.{suc, zero, nat_le, option_map}
 use Rattle.std.proofs.lemmas.Bool.{false≢true}
 use Rattle.std.proofs.lemmas.List.{take-take, take_all}
@@ -146,7 +146,7 @@ empty-less (b ∷ c ∷ rest) r e = let l = two-less (b == line_feed) ((b == car
 
 -- the end of a head
 
-first-less : (o : Option (List ℕ)) (bytes r : List ℕ) → behind_empty_line bytes ≡ o → first_of o (behind_head bytes) ≡ Some r
+pub first-less : (o : Option (List ℕ)) (bytes r : List ℕ) → behind_empty_line bytes ≡ o → first_of o (behind_head bytes) ≡ Some r
     → ((s : List ℕ) → behind_head bytes ≡ Some s → length s ≤ length bytes) → length r ≤ length bytes
 first-less None bytes r e f g = g r f
 first-less (Some s) bytes r e f g = let l = empty-less bytes s e in let k = ap length (inside s r f) in omega (arith, l, k)
@@ -156,7 +156,7 @@ step-less : (t : Bool) (bytes r : List ℕ) → cond t (first_of (behind_empty_l
 step-less true bytes r e g = first-less (behind_empty_line bytes) bytes r refl e g
 step-less false bytes r e g = g r e
 
-head-less : (bytes r : List ℕ) → behind_head bytes ≡ Some r → suc (length r) ≤ length bytes
+pub head-less : (bytes r : List ℕ) → behind_head bytes ≡ Some r → suc (length r) ≤ length bytes
 unfolding behind_head
 head-less [] r e = absurd (none≢some r e)
 head-less (b ∷ bytes) r e = let l = step-less (b == line_feed) bytes r e (λ s f. let k = head-less bytes s f in omega (arith, k)) in omega (arith, l)

@@ -1,9 +1,9 @@
 -- Where a head begins and ends, a step at a time.
-use Rattle.std.proofs.Common.{◌≡◌, ◌∙◌, ℕ, Bool, true, false, ◌&&◌, List, [], ◌∷◌, ◌++◌, refl, sym, ap, cond}
+use Rattle.std.proofs.Common.{◌≡◌, ◌∙◌, ℕ, Bool, true, false, ◌&&◌, List, [], ◌∷◌, refl, sym, ap}
 use Rattle.std.proofs.lemmas.Option.{same_Some, none-some}
 use Rattle.std.specs.Prelude.{Option, Some, None, ◌==◌, if◌then◌else◌}
 use Rattle.httparse.specs.Ascii.{line_feed, carriage_return}
-use Rattle.http_pages.specs.Heads.{behind_empty_line, from_request_line, behind_head, first_of, is_line_feed}
+use Rattle.http_pages.specs.Heads.{behind_empty_line, from_request_line}
 
 skip_one : (t : Bool) (b : ℕ) (r : List ℕ) → (if t then Some [] else None) ≡ Some r → (if t then [] else b ∷ []) ≡ from_request_line r
 unfolding from_request_line

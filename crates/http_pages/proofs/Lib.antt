@@ -5,3 +5,6 @@ pub mod DateLemmas
 pub mod Standing
 pub mod TextLemmas
 pub mod AloneLemmas
+pub mod GrammarLemmas
+pub mod AcceptLemmas
+pub mod PartLemmas

@@ -1,11 +1,10 @@
 -- A pack read page by page.
-use Rattle.std.proofs.Common.{◌≡◌, ◌∙◌, ℕ, zero, suc, ◌+◌, ◌-◌, ◌*◌, ◌<◌, ◌≤◌, true, false, List, [], ◌∷◌, ◌++◌, length, take, drop, map, refl, sym, ap, cond, arith, append_assoc, append-nil, length-append, length-drop}
+use Rattle.std.proofs.Common.{◌≡◌, ◌∙◌, ℕ, zero, suc, ◌+◌, ◌-◌, ◌<◌, ◌≤◌, true, List, [], ◌∷◌, ◌++◌, length, drop, refl, sym, ap, arith, append_assoc, append-nil, length-append, length-drop}
 use Rattle.std.proofs.lemmas.Bool.{le-leb}
 use Rattle.std.proofs.lemmas.Bool.Decides.{leb_tells}
 use Rattle.std.proofs.lemmas.List.{drop-drop, drop_all, map-append}
-use Rattle.std.specs.Prelude.{Option, Some, None, option_map, nat_le, slice_range}
+use Rattle.std.specs.Prelude.{Option, Some, None, option_map, nat_le}
 use Rattle.std.specs.Option.{option_and_then}
-use Rattle.http_pages.specs.declared.pages.Place.{Place}
 use Rattle.http_pages.specs.declared.pages.PagePlaces.{PagePlaces}
 use Rattle.http_pages.specs.Inside.{page_of, pages_at, page_with_rest, part_with}
 use Rattle.http_pages.specs.Limits.{most_pages}

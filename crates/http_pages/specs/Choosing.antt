@@ -6,7 +6,10 @@ use Rattle.http_pages.specs.declared.answer.Status.TheVariants as s
 use Rattle.http_pages.specs.declared.answer.Answer.{Answer}
 use Rattle.http1.specs.Text.{eq_ignore_case}
 use Rattle.http_pages.specs.Pages.{Page, page_named, folder_named}
+use Rattle.http_pages.specs.declared.ranges.Wanted.{Wanted}
+use Rattle.http_pages.specs.declared.ranges.Wanted.TheVariants.{Whole, Part, Nothing}
 use Rattle.http_pages.specs.Heads.{lines}
+use Rattle.http_pages.specs.Ranges.{wanted_part}
 use Rattle.http_pages.specs.Requests.{method_of, target_of, version_of, minor_of, fault_of, has_content, keeps, has_element, has_field}
 
 abbrev pub is_slash : ℕ → Bool
@@ -92,11 +95,21 @@ no_page = record { path = []; kind = []; tag = []; body = [] }
 abbrev pub nth_page : List Page → ℕ → Page
 nth_page pages n = slice_index_or pages n no_page
 
--- what the conditions come to, in the order of 13.2.2
+-- with the part of the page that is wanted (15.3.7, 15.5.17)
+abbrev pub with_part : Answer → Wanted → Answer
+with_part a Whole = a
+with_part a (Part from to) = record a { status = s.PartialContent; from = from; to = to }
+with_part a Nothing = record a { status = s.RangeNotSatisfiable }
+
+-- ranges are for GET alone (14.2)
+abbrev pub by_range : List ℕ → List (List ℕ) → Answer → Answer
+by_range tag fields a = if a.only_head then a else with_part a (wanted_part tag a.to fields)
+
+-- what the conditions come to, in the order of 13.2.2, and the range behind them
 abbrev pub by_conditions : List ℕ → List (List ℕ) → Answer → Answer
 by_conditions tag fields a =
     if not (is_matched tag fields) then record a { status = s.PreconditionFailed }
-    else (if is_had tag fields then record a { status = s.NotModified } else a)
+    else (if is_had tag fields then record a { status = s.NotModified } else by_range tag fields a)
 
 abbrev pub found : List Page → List (List ℕ) → Answer → ℕ → Answer
 found pages fields a n = by_conditions (nth_page pages n).tag fields (of_page n (length (nth_page pages n).body) a)

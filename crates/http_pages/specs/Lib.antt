@@ -1,10 +1,12 @@
 pub mod Limits
 pub mod Heads
 pub mod Requests
+pub mod Ranges
 pub mod Pages
 pub mod Inside
 pub mod Choosing
 pub mod Dates
 pub mod AnswerText
 pub mod Reading
+pub mod Grammars
 pub mod Worked

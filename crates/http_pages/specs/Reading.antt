@@ -1,5 +1,5 @@
 -- The answer to the request at the front of what came.
-use Rattle.std.specs.Prelude.{ℕ, ◌+◌, ◌-◌, nat_le, Bool, false, if◌then◌else◌, List, length, take, Option, None, Some}
+use Rattle.std.specs.Prelude.{ℕ, ◌+◌, ◌-◌, nat_le, false, if◌then◌else◌, List, length, take, Option, None, Some}
 use Rattle.std.specs.List.{list_any}
 use Rattle.http_pages.specs.declared.answer.Status.TheVariants.{BadRequest, UriTooLong, HeadTooLarge}
 use Rattle.http_pages.specs.declared.answer.Answer.{Answer}

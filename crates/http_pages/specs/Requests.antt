@@ -1,5 +1,5 @@
 -- What a request's head says (RFC 9112, 3 and 5 to 7), and what of it is refused whatever it asks for.
-use Rattle.std.specs.Prelude.{ℕ, ◌+◌, ◌==◌, nat_lt, Bool, true, false, not, ◌&&◌, ◌||◌, if◌then◌else◌, List, [], ◌∷◌, map, length, take, drop, codes, bytes_eq, slice_index, Option, None, Some, Result, Ok, Err}
+use Rattle.std.specs.Prelude.{ℕ, ◌+◌, ◌==◌, nat_lt, Bool, true, false, not, ◌&&◌, ◌||◌, if◌then◌else◌, List, map, length, take, codes, bytes_eq, slice_index, Option, None, Some, Result, Ok, Err}
 use Rattle.std.specs.List.{list_all, list_any, before_first, after_first, filter, slice_split}
 use Rattle.std.specs.Char.{is_ascii_alphanumeric, is_ascii_digit}
 use Rattle.httparse.specs.Ascii.{space, colon, comma, digit_zero}
@@ -80,6 +80,13 @@ list_elements value = filter is_filled (map trim_ows (slice_split is_comma value
 abbrev pub has_element : List ℕ → (List ℕ → Bool) → List (List ℕ) → Bool
 has_element name test fields =
     list_any (λ line. eq_ignore_case (name_of line) name && list_any test (list_elements (value_of line))) fields
+
+-- the values of the fields of this name, in order
+abbrev pub is_named : List ℕ → List ℕ → Bool
+is_named name line = eq_ignore_case (name_of line) name
+
+unfoldable pub values_of : List ℕ → List (List ℕ) → List (List ℕ)
+values_of name fields = map value_of (filter (is_named name) fields)
 
 abbrev pub has_field : List ℕ → List (List ℕ) → Bool
 has_field name fields = list_any (λ line. eq_ignore_case (name_of line) name) fields

@@ -1,5 +1,5 @@
 -- Exchanges written out: what comes, and what goes back. The time is that of the example of RFC 9110, 5.6.7.
-use Rattle.std.specs.Prelude.{◌≡◌, ℕ, List, [], ◌∷◌, ◌++◌, codes, length, Option, Some, None, option_map}
+use Rattle.std.specs.Prelude.{◌≡◌, ℕ, List, [], ◌∷◌, codes, length, Option, Some, option_map}
 use Rattle.http_pages.specs.AnswerText.{answer_text}
 use Rattle.http_pages.specs.Pages.{Page}
 use Rattle.http_pages.specs.Reading.{answer_to}

@@ -1,8 +1,9 @@
 //! Which answer a request gets.
 
-ghost use Rattle.std.specs.Prelude.{◌≡◌, codes};
+ghost use Rattle.std.specs.Prelude.{◌≡◌, ◌^◌, ◌-◌, ◌<◌};
 ghost use Rattle.std.specs.Option.{option_copied};
-ghost use Rattle.http_pages.specs.Choosing.{answer, at_folder, at_page, by_conditions, by_fault, by_lines, by_method, by_path, from_slash, has_scheme, is_had, is_head, is_known, is_matched, is_served, nth_page, of_page, path_of, plain, refused, unserved};
+ghost use Rattle.http_pages.specs.Choosing.{answer, at_folder, at_page, by_conditions, by_fault, by_lines, by_method, by_path, by_range};
+ghost use Rattle.http_pages.specs.Choosing.{from_slash, has_scheme, is_head, is_known, is_matched, is_served, path_of, plain, refused, unserved, with_part};
 ghost use Rattle.http_pages.specs.Heads.{lines};
 ghost use Rattle.http_pages.specs.Pages.{folder_named, page_named};
 ghost use Rattle.http_pages.specs.Requests.{fault_of, has_content, known_of, method_of, target_of};
@@ -10,6 +11,7 @@ ghost use Rattle.http_pages.specs.Requests.{fault_of, has_content, known_of, met
 use crate::answer::{Answer, Status};
 use crate::cuts::{cut, next_line, place_of};
 use crate::pages::Pages;
+use crate::ranges::{Wanted, wanted_part};
 use crate::requests::{
     fault_of, has_content, has_field, keeps, known_in, minor_of, names_tag, words_of,
 };
@@ -127,8 +129,40 @@ fn is_matched(tag: &[u8], fields: &[u8]) -> bool
     !has_field(fields, b"if-match") || names_tag(fields, b"if-match", tag, false)
 }
 
-/// What the conditions come to (RFC 9110, 13.2.2).
+/// The answer with the part of the page that is wanted.
+fn with_part(answer: Answer, wanted: Wanted) -> Answer
+    ensures { result ≡ with_part answer wanted }
+{
+    match wanted {
+        Wanted::Whole => answer,
+        Wanted::Part { from, to } => Answer {
+            status: Status::PartialContent,
+            from,
+            to,
+            ..answer
+        },
+        Wanted::Nothing => Answer {
+            status: Status::RangeNotSatisfiable,
+            ..answer
+        },
+    }
+}
+
+/// Ranges are for GET alone (RFC 9110, 14.2).
+fn by_range(tag: &[u8], fields: &[u8], answer: Answer) -> Answer
+    requires { answer.to < 2 ^ 64 - 1 }
+    ensures { result ≡ by_range tag.now (lines fields.now) answer }
+{
+    if answer.only_head {
+        answer
+    } else {
+        with_part(answer, wanted_part(tag, answer.to, fields))
+    }
+}
+
+/// What the conditions come to (RFC 9110, 13.2.2), and the range behind them.
 fn by_conditions(tag: &[u8], fields: &[u8], answer: Answer) -> Answer
+    requires { answer.to < 2 ^ 64 - 1 }
     ensures { result ≡ by_conditions tag.now (lines fields.now) answer }
 {
     if !is_matched(tag, fields) {
@@ -142,7 +176,7 @@ fn by_conditions(tag: &[u8], fields: &[u8], answer: Answer) -> Answer
             ..answer
         }
     } else {
-        answer
+        by_range(tag, fields, answer)
     }
 }
 

@@ -11,14 +11,15 @@ mod dates;
 mod heads;
 mod laws;
 mod pages;
+mod ranges;
 mod reading;
 mod requests;
 mod text;
 mod worked;
 
 pub use answer::{Answer, Status};
-pub use laws::answers_stand;
+pub use laws::{answers_stand, heads_are_the_grammars, pages_are_sent};
 pub use pages::{PackError, Pages};
 pub use reading::answer_to;
 pub use text::{body_of, head_of};
-pub use worked::{others_are_told, pages_are_told};
+pub use worked::{others_are_told, pages_are_told, parts_are_told};

@@ -1,12 +1,14 @@
 //! What a request's head says.
 
-ghost use Rattle.std.specs.Prelude.{◌≡◌, codes, false, true};
+ghost use Rattle.std.specs.Prelude.{◌≡◌, ◌∷◌, [], IfNone, IfSome};
 ghost use Rattle.std.specs.List.{list_all, list_any};
 ghost use Rattle.httparse.specs.Grammar.{is_uri_byte};
 ghost use Rattle.http1.specs.Framing.{method_kind, request_framing};
 ghost use Rattle.http_pages.specs.Choosing.{is_same};
 ghost use Rattle.http_pages.specs.Heads.{lines};
-ghost use Rattle.http_pages.specs.Requests.{fault_of, framing_fault, framing_of, has_content, has_content_by, has_element, has_field, has_host, has_host_bytes, is_content, is_field_line, is_host_byte, is_major_one, is_request_line, is_version, keeps, known_of, list_elements, method_of, minor_of, name_of, target_of, value_of, version_of};
+ghost use Rattle.http_pages.specs.Requests.{fault_of, framing_fault, framing_of, has_content, has_element, has_field, has_host, has_host_bytes};
+ghost use Rattle.http_pages.specs.Requests.{is_content, is_field_line, is_host_byte, is_major_one, is_request_line, is_version, keeps, known_of};
+ghost use Rattle.http_pages.specs.Requests.{list_elements, method_of, minor_of, name_of, target_of, value_of, values_of, version_of};
 
 use crate::answer::Status;
 use crate::cuts::{cut, next_element, next_line, trimmed};
@@ -120,6 +122,22 @@ pub fn has_field(mut fields: &[u8], name: &[u8]) -> bool
         fields = rest;
     }
     false
+}
+
+/// The value of the next field of this name, and the fields behind it.
+#[tactic(auto, unfolding(crate::specs::Requests::values_of))]
+pub fn next_value<'a>(mut fields: &'a [u8], name: &[u8]) -> Option<(&'a [u8], &'a [u8])>
+    ensures none { IfNone result (values_of name.now (lines fields.now) ≡ []) }
+    ensures next { IfSome result (λ r. values_of name.now (lines fields.now) ≡ r.0.now ∷ values_of name.now (lines r.1.now)) }
+{
+    while let Some((line, rest)) = next_line(fields) {
+        let (named, value) = header_of(line);
+        if eq_ignore_case(named, name) {
+            return Some((value, rest));
+        }
+        fields = rest;
+    }
+    None
 }
 
 /// Whether an element of a field's list is this tag or a star: by the weak comparison, or by the strong one (RFC 9110, 8.8.3.2).

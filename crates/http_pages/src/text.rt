@@ -2,7 +2,7 @@
 
 ghost use Rattle.std.specs.Prelude.{◌≡◌, ◌++◌, IfOk, OnOk, codes, length};
 ghost use Rattle.std.specs.Fmt.{decimal};
-ghost use Rattle.http_pages.specs.AnswerText.{answer_body, answer_head, connection, content, escaped, escaped_byte, field, fields_by, in_words, is_path_byte, part_of, reason, sized};
+ghost use Rattle.http_pages.specs.AnswerText.{answer_body, answer_head, connection, content, escaped, escaped_byte, field, fields_by, in_words, is_path_byte, no_range, part_of, part_range, reason, sized};
 ghost use Rattle.http_pages.specs.Choosing.{nth_page};
 
 use crate::answer::{Answer, Status};
@@ -17,6 +17,7 @@ fn reason(status: Status) -> &'static [u8]
 {
     match status {
         Status::Ok => b"200 OK\r\n",
+        Status::PartialContent => b"206 Partial Content\r\n",
         Status::MovedPermanently => b"301 Moved Permanently\r\n",
         Status::NotModified => b"304 Not Modified\r\n",
         Status::BadRequest => b"400 Bad Request\r\n",
@@ -25,6 +26,7 @@ fn reason(status: Status) -> &'static [u8]
         Status::PreconditionFailed => b"412 Precondition Failed\r\n",
         Status::ContentTooLarge => b"413 Content Too Large\r\n",
         Status::UriTooLong => b"414 URI Too Long\r\n",
+        Status::RangeNotSatisfiable => b"416 Range Not Satisfiable\r\n",
         Status::HeadTooLarge => b"431 Request Header Fields Too Large\r\n",
         Status::NotImplemented => b"501 Not Implemented\r\n",
         Status::VersionNotSupported => b"505 HTTP Version Not Supported\r\n",
@@ -46,7 +48,7 @@ fn content(pages: &Pages, answer: Answer) -> &[u8]
     ensures { result.now ≡ content pages.now answer }
 {
     match answer.status {
-        Status::Ok => part_of(pages.body(answer.page), answer),
+        Status::Ok | Status::PartialContent => part_of(pages.body(answer.page), answer),
         Status::NotModified => &[],
         status => reason(status),
     }
@@ -129,6 +131,28 @@ fn push_location(text: &mut Vec<u8>, path: &[u8]) -> Result<(), AllocError>
     text.extend_from_slice(b"\r\n")
 }
 
+/// Which bytes of how many are sent (RFC 9110, 14.4).
+fn push_part_range(
+    alloc: Global,
+    text: &mut Vec<u8>,
+    answer: Answer,
+    size: usize,
+) -> Result<(), AllocError>
+    ensures { OnOk result (text.new.items ≡ text.old.items ++ field (codes "Content-Range") (part_range size answer)) }
+{
+    let (from, last) = (answer.from, answer.to.saturating_sub(1));
+    let range = format!(in alloc; "bytes {from}-{last}/{size}")?;
+    push_field(text, b"Content-Range", range.as_bytes())
+}
+
+/// Of how many bytes none are sent.
+fn push_no_range(alloc: Global, text: &mut Vec<u8>, size: usize) -> Result<(), AllocError>
+    ensures { OnOk result (text.new.items ≡ text.old.items ++ field (codes "Content-Range") (no_range size)) }
+{
+    let range = format!(in alloc; "bytes */{size}")?;
+    push_field(text, b"Content-Range", range.as_bytes())
+}
+
 /// The fields that belong to a status.
 fn push_fields(
     alloc: Global,
@@ -136,12 +160,17 @@ fn push_fields(
     pages: &Pages,
     answer: Answer,
 ) -> Result<(), AllocError>
-    ensures { OnOk result (text.new.items ≡ text.old.items ++ fields_by answer.status (nth_page pages.now answer.page) (content pages.now answer)) }
+    ensures { OnOk result (text.new.items ≡ text.old.items ++ fields_by answer.status (nth_page pages.now answer.page) answer (content pages.now answer)) }
 {
-    let said = content(pages, answer);
+    let (said, size) = (content(pages, answer), pages.body(answer.page).len());
     match answer.status {
         Status::Ok => {
             push_field(text, b"ETag", pages.tag(answer.page))?;
+            push_sized(alloc, text, pages.kind(answer.page), said)
+        }
+        Status::PartialContent => {
+            push_field(text, b"ETag", pages.tag(answer.page))?;
+            push_part_range(alloc, text, answer, size)?;
             push_sized(alloc, text, pages.kind(answer.page), said)
         }
         Status::NotModified => push_field(text, b"ETag", pages.tag(answer.page)),
@@ -151,6 +180,10 @@ fn push_fields(
         }
         Status::MethodNotAllowed => {
             push_field(text, b"Allow", b"GET, HEAD")?;
+            push_sized(alloc, text, b"text/plain", said)
+        }
+        Status::RangeNotSatisfiable => {
+            push_no_range(alloc, text, size)?;
             push_sized(alloc, text, b"text/plain", said)
         }
         Status::BadRequest

@@ -28,3 +28,16 @@ pub fn others_are_told()
     ensures no_host { IsAnswered (codes "GET / HTTP/1.1\r\n\r\n")
         (codes "HTTP/1.1 400 Bad Request\r\n" ++ (date ++ codes "Content-Type: text/plain\r\nContent-Length: 17\r\nConnection: close\r\n\r\n400 Bad Request\r\n")) }
 {}
+
+/// A part of a page (RFC 9110, 14.1.2, 15.3.7): up to its end, where the last byte that is wanted stands behind it; its last bytes; none, where
+/// it has no such byte (15.5.17); and all of it, where the client's part is of another page (13.1.5).
+pub fn parts_are_told()
+    ensures part { IsAnswered (codes "GET / HTTP/1.1\r\nHost: a\r\nRange: bytes=3-100\r\n\r\n")
+        (codes "HTTP/1.1 206 Partial Content\r\n" ++ (date ++ codes "ETag: \"i1\"\r\nContent-Range: bytes 3-7/8\r\nContent-Type: text/html\r\nContent-Length: 5\r\n\r\nHello")) }
+    ensures end { IsAnswered (codes "GET / HTTP/1.1\r\nHost: a\r\nIf-Range: \"i1\"\r\nRange: bytes=-2\r\n\r\n")
+        (codes "HTTP/1.1 206 Partial Content\r\n" ++ (date ++ codes "ETag: \"i1\"\r\nContent-Range: bytes 6-7/8\r\nContent-Type: text/html\r\nContent-Length: 2\r\n\r\nlo")) }
+    ensures behind { IsAnswered (codes "GET / HTTP/1.1\r\nHost: a\r\nRange: bytes=8-\r\n\r\n")
+        (codes "HTTP/1.1 416 Range Not Satisfiable\r\n" ++ (date ++ codes "Content-Range: bytes */8\r\nContent-Type: text/plain\r\nContent-Length: 27\r\n\r\n416 Range Not Satisfiable\r\n")) }
+    ensures other { IsAnswered (codes "GET / HTTP/1.1\r\nHost: a\r\nIf-Range: \"i2\"\r\nRange: bytes=3-\r\n\r\n")
+        (codes "HTTP/1.1 200 OK\r\n" ++ (date ++ codes "ETag: \"i1\"\r\nContent-Type: text/html\r\nContent-Length: 8\r\n\r\n<p>Hello")) }
+{}

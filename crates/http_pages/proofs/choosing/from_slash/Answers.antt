@@ -1,4 +1,4 @@
-use Rattle.std.proofs.Common.{◌≡◌, sym, ◌∙◌}
+use Rattle.std.proofs.Common.{sym, ◌∙◌}
 use Rattle.http_pages.proofs.Pieces.{first_at, nowhere, slash_found, slash_missed}
 use Rattle.http_pages.proofs.choosing.from_slash.Goals as goal
 

@@ -1,4 +1,4 @@
-use Rattle.std.proofs.Common.{◌≡◌, ◌+◌, length, take, drop, sym, ap, arith}
+use Rattle.std.proofs.Common.{◌+◌, length, sym, arith}
 use Rattle.std.proofs.lemmas.List.{take_all, drop_all}
 use Rattle.http_pages.proofs.Pieces.{first_at, nowhere}
 use Rattle.http_pages.proofs.cuts.cut.Goals as goal

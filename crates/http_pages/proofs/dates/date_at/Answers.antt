@@ -1,4 +1,4 @@
-use Rattle.std.proofs.Common.{◌≡◌, ◌≤◌, ◌∙◌, ap, arith}
+use Rattle.std.proofs.Common.{◌≤◌, ◌∙◌, ap, arith}
 use Rattle.httpdate.specs.Text.{imf_fixdate}
 use Rattle.http_pages.specs.Dates.{date_at}
 use Rattle.http_pages.specs.Limits.{last_second}

@@ -1,4 +1,4 @@
-use Rattle.std.proofs.Common.{◌≡◌, ◌-◌, ◌≤◌, length}
+use Rattle.std.proofs.Common.{◌-◌, ◌≤◌, length}
 use Rattle.std.specs.Prelude.{All}
 use Rattle.http_pages.specs.Inside.{IsPlaced}
 use Rattle.http_pages.specs.Limits.{most_pages}

@@ -1,4 +1,4 @@
-use Rattle.std.proofs.Common.{◌≡◌, ◌∙◌, ◌++◌, length, ap, append_assoc}
+use Rattle.std.proofs.Common.{◌∙◌, ◌++◌, length, ap, append_assoc}
 use Rattle.std.specs.Prelude.{codes}
 use Rattle.std.specs.Fmt.{decimal}
 use Rattle.http_pages.specs.AnswerText.{field, sized}
