@@ -7,9 +7,11 @@ use Rattle.sq_base.specs.declared.kinds.Tuple.{Tuple}
 use Rattle.stream_stays.specs.declared.place.Stays.{Stays}
 use Rattle.live_server.specs.Acts.{no_conn}
 use Rattle.live_server.specs.Facts.{facts_of, is_waiting_by}
+use Rattle.live_server.specs.Leaving.{peer_of}
 use Rattle.live_server.specs.Serving.{is_waiting}
 use Rattle.live_server.specs.Table.{conn_at}
 use Rattle.live_server.specs.declared.conn.Conn.{Conn}
+use Rattle.live_server.specs.declared.facts.Facts.{Facts}
 use Rattle.live_server.proofs.TableLemmas.{none_is_whole}
 use Rattle.live_chats.specs.Hearing.{ChatOf, conn_in}
 use Rattle.live_chats.specs.Seating.{AllSeated, conn_of_seat, conns_of}
@@ -30,6 +32,13 @@ facts_at st es i e at seated =
 
 pub waiting_at : (n : ℕ) (st : Stays ChatItem ChatOf) (es : List (Tuple × Seat)) (i : ℕ) (e : Tuple × Seat) → slice_get es i ≡ Some e → AllSeated st es → is_waiting_by n e.1.facts ≡ is_waiting n (conn_at i (conns_of st es))
 waiting_at n st es i e at seated = ap (is_waiting_by n) (facts_at st es i e at seated)
+
+pub peer_there : (st : Stays ChatItem ChatOf) (es : List (Tuple × Seat)) (i : ℕ) (e : Tuple × Seat) → slice_get es i ≡ Some e → AllSeated st es
+    → Some (record { address = e.0.client; heard = e.1.facts.heard }) ≡ option_map peer_of (slice_get (conns_of st es) i)
+peer_there st es i e at seated =
+    let its = seated i e at in
+    ap (λ (n : ℕ). Some (record { address = e.0.client; heard = n })) (ap (λ (f : Facts). f.heard) its.facts ∙ ap (λ (o : Option Conn). (conn_in o).heard) (sym its.its_conn))
+    ∙ sym (ap (option_map peer_of) (conns_at st es i e at))
 
 pub nobody_waits : (n : ℕ) (st : Stays ChatItem ChatOf) (es : List (Tuple × Seat)) (i : ℕ) → slice_get es i ≡ None → false ≡ is_waiting n (conn_at i (conns_of st es))
 nobody_waits n st es i none =

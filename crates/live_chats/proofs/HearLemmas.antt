@@ -18,7 +18,7 @@ unfolding hearing
 hearing-silent (Opens ends conn) c = refl
 hearing-silent (Meets now iss seg text) c =
     elim c.conn as (λ o. meeting (min now last_time) iss seg text.items o (silent c) ≡ meeting (min now last_time) iss seg text.items o c) [ None ↦ refl | Some d ↦ refl ]
-hearing-silent (Time now) c = elim c.conn as (λ o. timing (min now last_time) o (silent c) ≡ timing (min now last_time) o c) [ None ↦ refl | Some d ↦ refl ]
+hearing-silent (Time tight now) c = elim c.conn as (λ o. timing tight (min now last_time) o (silent c) ≡ timing tight (min now last_time) o c) [ None ↦ refl | Some d ↦ refl ]
 
 -- an item doesn't lose memory
 hearing-here : (x : ChatItem) (c : ChatOf) → c.lost ≡ false → (hearing x c).lost ≡ false
@@ -26,7 +26,7 @@ unfolding hearing
 hearing-here (Opens ends conn) c here = refl
 hearing-here (Meets now iss seg text) c here =
     elim c.conn as (λ o. (meeting (min now last_time) iss seg text.items o c).lost ≡ false) [ None ↦ here | Some d ↦ here ]
-hearing-here (Time now) c here = elim c.conn as (λ o. (timing (min now last_time) o c).lost ≡ false) [ None ↦ here | Some d ↦ here ]
+hearing-here (Time tight now) c here = elim c.conn as (λ o. (timing tight (min now last_time) o c).lost ≡ false) [ None ↦ here | Some d ↦ here ]
 
 pub hearing_all-here : (xs : List ChatItem) (c : ChatOf) → c.lost ≡ false → (hearing_all xs c).lost ≡ false
 hearing_all-here [] c here = here
@@ -37,16 +37,16 @@ opening_forgets : (x : ChatItem) (c d : ChatOf) → is_opening x ≡ true → he
 unfolding hearing
 opening_forgets (Opens ends conn) c d is = refl
 opening_forgets (Meets now iss seg text) c d is = absurd (true≢false (sym is))
-opening_forgets (Time now) c d is = absurd (true≢false (sym is))
+opening_forgets (Time tight now) c d is = absurd (true≢false (sym is))
 
 -- a segment and the time leave the ends
 pub meets_keeps_ends : (now iss : ℕ) (seg : Seg) (text : Vec ℕ Global) (c : ChatOf) → (hearing (Meets now iss seg text) c).ends ≡ c.ends
 unfolding hearing
 meets_keeps_ends now iss seg text c = elim c.conn as (λ o. (meeting (min now last_time) iss seg text.items o c).ends ≡ c.ends) [ None ↦ refl | Some d ↦ refl ]
 
-pub time_keeps_ends : (now : ℕ) (c : ChatOf) → (hearing (Time now) c).ends ≡ c.ends
+pub time_keeps_ends : (tight : Bool) (now : ℕ) (c : ChatOf) → (hearing (Time tight now) c).ends ≡ c.ends
 unfolding hearing
-time_keeps_ends now c = elim c.conn as (λ o. (timing (min now last_time) o c).ends ≡ c.ends) [ None ↦ refl | Some d ↦ refl ]
+time_keeps_ends tight now c = elim c.conn as (λ o. (timing tight (min now last_time) o c).ends ≡ c.ends) [ None ↦ refl | Some d ↦ refl ]
 
 -- where it is lost, and no connection begins
 passed_by : (lost opens : Bool) → (not lost || opens) ≡ false → (lost ≡ true) × (opens ≡ false)

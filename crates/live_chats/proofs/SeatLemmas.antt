@@ -19,7 +19,7 @@ use Rattle.stream_stays.specs.declared.place.Stays.{Stays}
 use Rattle.stream_stays.specs.Places.{IsOpen, life_of, place_at}
 use Rattle.stream_stays.specs.Settling.{sent_in}
 use Rattle.tcb_machine.specs.Limits.{last_time}
-use Rattle.live_server.specs.Acts.{emptied, is_over, reached, sent_by}
+use Rattle.live_server.specs.Acts.{emptied, is_over, sent_by, ticked}
 use Rattle.live_server.specs.Facts.{facts_of, is_over_by}
 use Rattle.live_server.specs.Table.{Conns, conn_at, settled, tuple_eq, without, IsNew}
 use Rattle.live_server.specs.declared.acting.Datagram.{Datagram}
@@ -332,17 +332,17 @@ module _ {R : Type 0} (limits : R → Limits) (s : Named R) (o : Chats) where
   }
 
 -- what a time makes of a connection
-module _ (now : ℕ) (time : now ≤ last_time) (t : Tuple) (d : Conn) where
+module _ (tight : Bool) (now : ℕ) (time : now ≤ last_time) (t : Tuple) (d : Conn) where
   least : min now last_time ≡ now
   least = omega (arith, time)
 
-  pub timed_conn : conn_in (hearing (Time now) (chat_of t d)).conn ≡ emptied (reached now d)
+  pub timed_conn : conn_in (hearing (Time tight now) (chat_of t d)).conn ≡ emptied (ticked tight now d)
   unfolding hearing
-  timed_conn = ap (λ (n : ℕ). emptied (reached n d)) least
+  timed_conn = ap (λ (n : ℕ). emptied (ticked tight n d)) least
 
-  pub timed_sent : (hearing (Time now) (chat_of t d)).sent ≡ sent_by t (reached now d)
+  pub timed_sent : (hearing (Time tight now) (chat_of t d)).sent ≡ sent_by t (ticked tight now d)
   unfolding hearing
-  timed_sent = ap (λ (n : ℕ). sent_by t (reached n d)) least
+  timed_sent = ap (λ (n : ℕ). sent_by t (ticked tight n d)) least
 
 module _ {R : Type 0} (limits : R → Limits) (s : Named R) (o : Chats) where
   pub good_but : (closes : Pass Element → Type 0) (pass : Option (Pass Element)) (q : Pass Element) (st : Stays ChatItem ChatOf) (es : List Entry) (i : ℕ) → IsGood limits s o closes pass st es → pass ≡ Some q → i < length es

@@ -48,9 +48,9 @@ unfolding time_to
 time_to_right now t sv table = by (place_of t sv.conns) refl
   where
     by : (r : Option ℕ) → place_of t sv.conns ≡ r
-        → IsRight sv (option_map_or (λ (place : ℕ). tells t (time now) ∷ []) r []) (option_map_or (λ (place : ℕ). becomes place t (reached now (conn_at place sv.conns)) sv) r (sends_nothing sv))
+        → IsRight sv (option_map_or (λ (place : ℕ). tells t (time false now) ∷ []) r []) (option_map_or (λ (place : ℕ). becomes place t (reached now (conn_at place sv.conns)) sv) r (sends_nothing sv))
     by None at = nothing_right sv table
-    by (Some i) at = becomes_right i t (reached now (conn_at i sv.conns)) sv at table (time now) (ap (λ (o : Option Conn). time_said t now o) (conn_looked t sv.conns i at))
+    by (Some i) at = becomes_right i t (reached now (conn_at i sv.conns)) sv at table (time false now) (ap (λ (o : Option Conn). time_said t false now o) (conn_looked t sv.conns i at))
 
 -- ---- one that goes on
 pub goes_on_right : (now : ℕ) (s : Seg) (text : List ℕ) (sv : ServerOf) (i : ℕ) → place_of (tuple_of s) sv.conns ≡ Some i → IsTable sv → IsRight sv (way_goes_on now s text sv) (goes_on now s text i sv)
@@ -130,7 +130,7 @@ pub takes_right : (t : Tuple) (c : Conn) (sv : ServerOf) → IsNew t sv.conns �
 unfolding takes_place has_place
 takes_right t c sv new table = by (has_place sv) refl
   where
-    by : (b : Bool) → has_place sv ≡ b → IsRight sv (cond b (tells t (opens (numbered sv c)) ∷ []) []) (cond b (takes_free t c sv) (turns_away sv))
+    by : (b : Bool) → has_place sv ≡ b → IsRight sv (cond b (tells t (opens (numbered sv c)) ∷ []) []) (cond b (takes_free t c sv) (turns_away t sv))
     by true e =
         let free : nat_lt (length sv.conns) sv.setting.places ≡ true = (and_parts _ _ e).0 in
         let room : length sv.conns < sv.setting.places = grind (arith, nat_tests) in

@@ -1,8 +1,8 @@
 -- Chats: what each connection is told, and what it says. A table is then the chats of all ends, and what is done to them, step by step.
-use Rattle.std.specs.Prelude.{ℕ, Option, None, Some, List, [], ◌∷◌, ◌++◌, if◌then◌else◌}
+use Rattle.std.specs.Prelude.{ℕ, Bool, Option, None, Some, List, [], ◌∷◌, ◌++◌, if◌then◌else◌}
 use Rattle.segment_codec.specs.declared.packet.Seg.{Seg}
 use Rattle.sq_base.specs.declared.kinds.Tuple.{Tuple}
-use Rattle.live_server.specs.Acts.{emptied, new_conn, reached, receives, sent_by}
+use Rattle.live_server.specs.Acts.{emptied, new_conn, receives, sent_by, ticked}
 use Rattle.live_server.specs.Isolation.{conn_of, kept_as}
 use Rattle.live_server.specs.Services.{service_at}
 use Rattle.live_server.specs.Serving.{ServerOf}
@@ -18,8 +18,8 @@ pub data Item : Type 0 where
   leaves : Item
   -- a segment comes, with the initial sequence number for one that opens
   segment : ℕ → ℕ → Seg → List ℕ → Item
-  -- the time comes
-  time : ℕ → Item
+  -- the time comes, at a tick where memory for text may be tight
+  time : Bool → ℕ → Item
 
 -- what becomes of a connection, where there is one, and what it sends
 pub record Said : Type 0 where
@@ -39,15 +39,15 @@ abbrev pub segment_said : Setting → Tuple → ℕ → ℕ → Seg → List ℕ
 segment_said g t now iss s text None = record { conn = None; sent = sent_by t (receives now iss s text (fresh g now s)) }
 segment_said g t now iss s text (Some c) = becoming t (receives now iss s text c)
 
-abbrev pub time_said : Tuple → ℕ → Option Conn → Said
-time_said t now None = record { conn = None; sent = [] }
-time_said t now (Some c) = becoming t (reached now c)
+abbrev pub time_said : Tuple → Bool → ℕ → Option Conn → Said
+time_said t tight now None = record { conn = None; sent = [] }
+time_said t tight now (Some c) = becoming t (ticked tight now c)
 
 abbrev pub said : Setting → Tuple → Item → Option Conn → Said
 said g t (opens c) o = record { conn = Some (emptied c); sent = sent_by t c }
 said g t leaves o = record { conn = None; sent = [] }
 said g t (segment now iss s text) o = segment_said g t now iss s text o
-said g t (time now) o = time_said t now o
+said g t (time tight now) o = time_said t tight now o
 
 -- what stands at each two ends
 abbrev pub Chats : Type 0

@@ -3,7 +3,7 @@ use Rattle.std.specs.Prelude.{◌≡◌, ℕ, min, Bool, true, false, Option, No
 use Rattle.segment_codec.specs.declared.packet.Seg.{Seg}
 use Rattle.sq_base.specs.declared.kinds.Tuple.{Tuple}
 use Rattle.tcb_machine.specs.Limits.{last_time}
-use Rattle.live_server.specs.Acts.{Meeting, emptied, meets, no_conn, reached, sent_by}
+use Rattle.live_server.specs.Acts.{Meeting, emptied, meets, no_conn, sent_by, ticked}
 use Rattle.live_server.specs.declared.acting.Datagram.{Datagram}
 use Rattle.live_server.specs.declared.conn.Conn.{Conn}
 use Rattle.live_server.specs.declared.conn.Met.{Met}
@@ -42,21 +42,21 @@ abbrev pub meeting : ℕ → ℕ → Seg → List ℕ → Option Conn → ChatOf
 meeting now iss s text None c = silent c
 meeting now iss s text (Some d) c = met_by (meets now iss s text c.ends d) c
 
-abbrev pub timing : ℕ → Option Conn → ChatOf → ChatOf
-timing now None c = silent c
-timing now (Some d) c = timed (reached now d) c
+abbrev pub timing : Bool → ℕ → Option Conn → ChatOf → ChatOf
+timing tight now None c = silent c
+timing tight now (Some d) c = timed (ticked tight now d) c
 
 -- whether a connection begins by it
 abbrev pub is_opening : ChatItem → Bool
 is_opening (Opens ends conn) = true
 is_opening (Meets now iss seg text) = false
-is_opening (Time now) = false
+is_opening (Time tight now) = false
 
 -- What an item makes of a chat. One that begins a connection makes the same of every chat, also of one that was lost
 unfoldable pub hearing : ChatItem → ChatOf → ChatOf
 hearing (Opens ends conn) c = record { ends = ends; conn = Some conn.value; sent = []; met = None; lost = false }
 hearing (Meets now iss seg text) c = meeting (min now last_time) iss seg text.items c.conn c
-hearing (Time now) c = timing (min now last_time) c.conn c
+hearing (Time tight now) c = timing tight (min now last_time) c.conn c
 
 -- one after another
 abbrev pub hearing_all : List ChatItem → ChatOf → ChatOf

@@ -1,5 +1,5 @@
 -- Ways: what the table does with each frame, as steps. Its rules are those of `Serving`.
-use Rattle.std.specs.Prelude.{◌≡◌, ℕ, ◌==◌, not, true, List, [], ◌∷◌, ◌++◌, length, map, filter, Option, None, Some, if◌then◌else◌}
+use Rattle.std.specs.Prelude.{◌≡◌, ℕ, ◌==◌, not, Bool, true, false, List, [], ◌∷◌, ◌++◌, length, map, filter, Option, None, Some, if◌then◌else◌}
 use Rattle.std.specs.Option.{option_map_or}
 use Rattle.segment_codec.specs.Packet.{packet_in}
 use Rattle.segment_codec.specs.Refusal.{tuple_of}
@@ -14,10 +14,10 @@ use Rattle.live_server.specs.Acts.{is_over, sent_by}
 use Rattle.live_server.specs.Addresses.{is_for_us}
 use Rattle.live_server.specs.Frames.{FrameOf, on_frame, serves_frames}
 use Rattle.live_server.specs.Initial.{number_for}
-use Rattle.live_server.specs.Isolation.{IsTable}
-use Rattle.live_server.specs.Leaving.{is_leaving}
+use Rattle.live_server.specs.Isolation.{IsTable, staying}
+use Rattle.live_server.specs.Leaving.{is_leaving, shed_ends}
 use Rattle.live_server.specs.Services.{is_served_at}
-use Rattle.live_server.specs.Serving.{Outcome, ServerOf, echoes, has_place, heeded, heeded_text, is_echoed, is_waiting, limited, makes_place}
+use Rattle.live_server.specs.Serving.{Outcome, ServerOf, echoes, has_place, heeded, heeded_text, is_echoed, is_tight, is_waiting, limited, makes_place}
 use Rattle.live_server.specs.Serving.{noting, numbered, refused, served, time_to, yields}
 use Rattle.live_server.specs.Table.{Conns, all_reached, conn_at, place_of, without_over}
 use Rattle.live_server.specs.declared.conn.Conn.{Conn}
@@ -51,7 +51,7 @@ unfoldable pub way_heeds : ℕ → Seg → List ℕ → ServerOf → List Step
 way_heeds now s text sv = way_comes now (heeded s text sv) (heeded_text text sv) (noting text sv)
 
 abbrev pub way_time_to : ℕ → Tuple → ServerOf → List Step
-way_time_to now t sv = option_map_or (λ place. tells t (time now) ∷ []) (place_of t sv.conns) []
+way_time_to now t sv = option_map_or (λ place. tells t (time false now) ∷ []) (place_of t sv.conns) []
 
 unfoldable pub way_segment : ℕ → Seg → List ℕ → ServerOf → List Step
 way_segment now s text sv = way_time_to now (tuple_of s) sv ++ way_heeds now s text (time_to now (tuple_of s) sv).server
@@ -78,8 +78,8 @@ unfoldable pub way_datagram : ℕ → List ℕ → ServerOf → List Step
 way_datagram now body sv = way_packet now body (packet_in RawIp body true) sv
 
 -- each of these is told something
-abbrev pub telling_time : ℕ → Conns → List Step
-telling_time now cs = map (λ c. tells c.0 (time now)) cs
+abbrev pub telling_time : Bool → ℕ → Conns → List Step
+telling_time tight now cs = map (λ c. tells c.0 (time tight now)) cs
 
 abbrev pub telling_leave : Conns → List Step
 telling_leave cs = map (λ c. tells c.0 leaves) cs
@@ -88,8 +88,15 @@ telling_leave cs = map (λ c. tells c.0 leaves) cs
 abbrev pub leaving_of : Setting → ℕ → Conns → Conns
 leaving_of g now cs = filter (λ c. is_leaving g now (length cs) c.1) cs
 
+-- the one that leaves for others, where one does
+abbrev pub telling_shed : Option Tuple → List Step
+telling_shed None = []
+telling_shed (Some t) = tells t leaves ∷ []
+
 unfoldable pub way_time : ℕ → ServerOf → List Step
-way_time now sv = telling_time now sv.conns ++ telling_leave (leaving_of sv.setting now (without_over (all_reached now sv.conns)))
+way_time now sv =
+    (telling_time (is_tight sv) now sv.conns ++ telling_leave (leaving_of sv.setting now (without_over (all_reached (is_tight sv) now sv.conns))))
+    ++ telling_shed (shed_ends sv.setting sv.turned (staying now sv))
 
 abbrev pub way_of : FrameOf → ServerOf → List Step
 way_of f sv = if length f.body == 0 then way_time f.at sv else way_datagram f.at f.body sv

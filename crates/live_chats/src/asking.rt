@@ -1,7 +1,8 @@
 //! What a table is asked of its connections, and tells by their seats.
 
-ghost use Rattle.std.specs.Prelude.{◌≡◌, length};
+ghost use Rattle.std.specs.Prelude.{◌≡◌, ◌<◌, Some, length, option_map, slice_get};
 ghost use Rattle.stream_stays.specs.declared.place.Stays.{Stays};
+ghost use Rattle.live_server.specs.Leaving.{peer_of};
 ghost use Rattle.live_server.specs.Serving.{is_waiting};
 ghost use Rattle.live_server.specs.Table.{conn_at, held_by, place_of};
 ghost use Rattle.live_chats.specs.Hearing.{ChatOf};
@@ -9,6 +10,7 @@ ghost use Rattle.live_chats.specs.Seating.{AllSeated, conns_of};
 ghost use Rattle.live_chats.specs.declared.item.ChatItem.{ChatItem};
 
 use crate::seats::{Table, seat_at};
+use live_server::Peer;
 use sq_base::Tuple;
 
 /// How many connections there are.
@@ -32,6 +34,20 @@ pub(crate) fn is_waiting_at(seats: &Table, place: usize, number: u64) -> bool
     match seats.get_index(place) {
         Some((_, seat)) => seat.facts.is_waiting(number),
         None => false,
+    }
+}
+
+/// Whose the connection at a place is, and when something came from it last.
+pub(crate) fn peer_at(seats: &Table, place: usize) -> Peer
+    requires { place < length seats.now.entries }
+    ensures { (st : Stays ChatItem ChatOf) → AllSeated st seats.now.entries → Some result ≡ option_map peer_of (slice_get (conns_of st seats.now.entries) place) }
+{
+    let Some((tuple, seat)) = seats.get_index(place) else {
+        unreachable!()
+    };
+    Peer {
+        address: tuple.client,
+        heard: seat.facts.heard,
     }
 }
 

@@ -130,7 +130,7 @@ impl Chat {
                 seg,
                 text,
             } => self.meet(alloc, now.min(LAST_TIME), iss, &seg, text.as_slice()),
-            ChatItem::Time { now } => self.time(alloc, now.min(LAST_TIME)),
+            ChatItem::Time { tight, now } => self.time(alloc, tight, now.min(LAST_TIME)),
         }
     }
 
@@ -160,18 +160,18 @@ impl Chat {
     }
 
     // The time comes.
-    fn time(&mut self, alloc: Global, now: u64) -> Result<(), AllocError>
+    fn time(&mut self, alloc: Global, tight: bool, now: u64) -> Result<(), AllocError>
         requires time { now ≤ last_time }
         requires sent { self.old.sent ≡ [] }
         requires met { self.old.met ≡ None }
-        ensures hears { OnOk result (self.new ≡ timing now self.old.conn self.old) }
+        ensures hears { OnOk result (self.new ≡ timing tight now self.old.conn self.old) }
         ensures ends { OnErr result (self.new.ends ≡ self.old.ends) }
     {
         let Some(mut conn) = replace(&mut self.conn, None) else {
             return Ok(());
         };
         let ends = self.ends;
-        conn.time(alloc, now, &ends, &mut self.sent)?;
+        conn.tick(alloc, tight, now, &ends, &mut self.sent)?;
         self.conn = Some(conn);
         Ok(())
     }

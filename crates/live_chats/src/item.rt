@@ -22,8 +22,9 @@ pub enum ChatItem {
         seg: Seg,
         text: Vec<u8>,
     },
-    /// The time comes.
+    /// The time comes at a tick. Where the memory for text is tight, what its connection holds behind a gap is forgotten.
     Time {
+        tight: bool,
         now: u64,
     },
 }

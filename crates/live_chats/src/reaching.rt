@@ -12,7 +12,7 @@ ghost use Rattle.sq_base.specs.declared.kinds.Tuple.{Tuple};
 ghost use Rattle.tcb_machine.specs.Limits.{last_time};
 ghost use Rattle.indexmap.specs.IndexMap.{set_value_at};
 ghost use Rattle.stream_stays.specs.Places.{IsOpen, Knows, life_of, touched_of};
-ghost use Rattle.live_server.specs.Acts.{reached, sent_by};
+ghost use Rattle.live_server.specs.Acts.{sent_by, ticked};
 ghost use Rattle.live_server.specs.Table.{all_reached};
 ghost use Rattle.live_server.specs.Told.Told.{hears};
 ghost use Rattle.live_chats.specs.Accounts.{SeatsWereTold};
@@ -37,8 +37,8 @@ use std::collections::VecDeque;
 use std::sync::Wait;
 use stream_stays::Stays;
 
-/// The time comes to each connection, and what they send goes out in the order of their seats. It answers whether it came to all. Else memory
-/// was missing: the connections of which nothing was heard leave.
+/// The time comes to each connection, which forgets text behind a gap where memory is tight, and what they send goes out in the order of
+/// their seats. It answers whether it came to all. Else memory was missing: the connections of which nothing was heard leave.
 pub(crate) fn reach_each<H: Wait + Drop, W: Wait>(
     line: &Line<'_, Places<Streams<Chats, H>>, W>,
     alloc: Global,
@@ -46,6 +46,7 @@ pub(crate) fn reach_each<H: Wait + Drop, W: Wait>(
     stays: &mut Stays<ChatItem, Chat>,
     seats: &mut Table,
     free: &mut VecDeque<u32>,
+    tight: bool,
     now: u64,
     out: &mut Vec<Datagram>,
 ) -> (Pass, bool)
@@ -53,15 +54,15 @@ pub(crate) fn reach_each<H: Wait + Drop, W: Wait>(
     requires time { now ≤ last_time }
     ensures seats { HasSeats limits_of line.now.squeue.now (origin_of line.now.squeue.now.given.first) result.0 stays.new seats.new.entries }
     ensures number { number result.0 ≡ number pass }
-    ensures table { result.1 ≡ true → conns_of stays.new seats.new.entries ≡ all_reached now (conns_of stays.old seats.old.entries) }
-    ensures sent { result.1 ≡ true → out.new.items ≡ out.old.items ++ flat_map (λ c. sent_by c.0 (reached now c.1)) (conns_of stays.old seats.old.entries) }
+    ensures table { result.1 ≡ true → conns_of stays.new seats.new.entries ≡ all_reached tight now (conns_of stays.old seats.old.entries) }
+    ensures sent { result.1 ≡ true → out.new.items ≡ out.old.items ++ flat_map (λ c. sent_by c.0 (ticked tight now c.1)) (conns_of stays.old seats.old.entries) }
     ensures told { result.1 ≡ true
         → SeatsWereTold limits_of line.now.squeue.now pass result.0 stays.old stays.new seats.old.entries
         seats.new.entries (map hears (keys_of seats.old.entries)) }
-    ensures lost { result.1 ≡ false → Spoils now (conns_of stays.old seats.old.entries) (conns_of stays.new seats.new.entries) }
+    ensures lost { result.1 ≡ false → Spoils tight now (conns_of stays.old seats.old.entries) (conns_of stays.new seats.new.entries) }
 {
     let pass = renew_all(line, alloc, pass, stays, seats);
-    reach_now(line, alloc, pass, stays, seats, free, now, out)
+    reach_now(line, alloc, pass, stays, seats, free, tight, now, out)
 }
 
 /// The same in the stays that they have.
@@ -72,6 +73,7 @@ fn reach_now<H: Wait + Drop, W: Wait>(
     stays: &mut Stays<ChatItem, Chat>,
     seats: &mut Table,
     free: &mut VecDeque<u32>,
+    tight: bool,
     now: u64,
     out: &mut Vec<Datagram>,
 ) -> (Pass, bool)
@@ -79,12 +81,12 @@ fn reach_now<H: Wait + Drop, W: Wait>(
     requires time { now ≤ last_time }
     ensures seats { HasSeats limits_of line.now.squeue.now (origin_of line.now.squeue.now.given.first) result.0 stays.new seats.new.entries }
     ensures number { number result.0 ≡ number pass }
-    ensures table { result.1 ≡ true → conns_of stays.new seats.new.entries ≡ all_reached now (conns_of stays.old seats.old.entries) }
-    ensures sent { result.1 ≡ true → out.new.items ≡ out.old.items ++ flat_map (λ c. sent_by c.0 (reached now c.1)) (conns_of stays.old seats.old.entries) }
+    ensures table { result.1 ≡ true → conns_of stays.new seats.new.entries ≡ all_reached tight now (conns_of stays.old seats.old.entries) }
+    ensures sent { result.1 ≡ true → out.new.items ≡ out.old.items ++ flat_map (λ c. sent_by c.0 (ticked tight now c.1)) (conns_of stays.old seats.old.entries) }
     ensures told { result.1 ≡ true
         → SeatsWereTold limits_of line.now.squeue.now pass result.0 stays.old stays.new seats.old.entries
         seats.new.entries (map hears (keys_of seats.old.entries)) }
-    ensures lost { result.1 ≡ false → Spoils now (conns_of stays.old seats.old.entries) (conns_of stays.new seats.new.entries) }
+    ensures lost { result.1 ≡ false → Spoils tight now (conns_of stays.old seats.old.entries) (conns_of stays.new seats.new.entries) }
 {
     if seats.is_empty() {
         return (pass, true);
@@ -95,7 +97,7 @@ fn reach_now<H: Wait + Drop, W: Wait>(
     let Ok(room) = Vec::with_capacity(alloc, seats.len()) else {
         return (pass, false);
     };
-    let (pass, _told) = tell_all(line, alloc, pass, stays, seats, now);
+    let (pass, _told) = tell_all(line, alloc, pass, stays, seats, tight, now);
     let (pass, mut heard) = line.listen(alloc, pass, stays, room, out);
     mark_next(&mut heard, seats.len());
     learn_all(seats, heard.as_slice());
@@ -114,6 +116,7 @@ fn tell_all<H: Wait + Drop, W: Wait>(
     pass: Pass,
     stays: &mut Stays<ChatItem, Chat>,
     seats: &Table,
+    tight: bool,
     now: u64,
 ) -> (Pass, usize)
     requires { HasSeats limits_of line.now.squeue.now (origin_of line.now.squeue.now.given.first) pass stays.old seats.now.entries }
@@ -121,14 +124,14 @@ fn tell_all<H: Wait + Drop, W: Wait>(
     ensures number { number result.0 ≡ number pass }
     ensures count { result.1 ≤ length seats.now.entries }
     ensures grows { Grows (seen pass) (seen result.0) }
-    ensures told { AreTold now result.1 stays.old stays.new seats.now.entries }
+    ensures told { AreTold tight now result.1 stays.old stays.new seats.now.entries }
     ensures touched { touched_of stays.new ≡ places_in (take result.1 seats.now.entries) }
     ensures asks { (life_of stays.new).asks ≡ (life_of stays.old).asks }
 {
     let mut pass = pass;
     for i in 0..seats.len() {
         let seat = seat_at(seats, i);
-        let item = ChatItem::Time { now };
+        let item = ChatItem::Time { tight, now };
         let (next, taken) = line.push(alloc, pass, stays, seat.place, item);
         pass = next;
         if !taken {

@@ -11,7 +11,7 @@ use crate::reaching::reach_each;
 use crate::seats::{Table, leave_all, meet_at, seat_new, vacate};
 use crate::{asking, leaving};
 use indexmap::IndexMap;
-use live_server::{Conn, ConnTable, Datagram, Met, Setting};
+use live_server::{Conn, ConnTable, Datagram, Met, Peer, Setting};
 use perimeter_core::Resident;
 use placed_parts::Places;
 use segment_codec::Seg;
@@ -149,6 +149,10 @@ impl<'q, H: Wait + Drop, W: Wait, N: Closes> ConnTable
         asking::is_waiting_at(&self.seats, place, number)
     }
 
+    fn peer_at(&self, place: usize) -> Peer {
+        asking::peer_at(&self.seats, place)
+    }
+
     fn held(&self) -> u64 {
         asking::held(&self.seats)
     }
@@ -226,6 +230,7 @@ impl<'q, H: Wait + Drop, W: Wait, N: Closes> ConnTable
     fn reach_all(
         &mut self,
         alloc: Global,
+        tight: bool,
         now: u64,
         out: &mut Vec<Datagram>,
     ) -> Result<(), AllocError> {
@@ -237,6 +242,7 @@ impl<'q, H: Wait + Drop, W: Wait, N: Closes> ConnTable
             &mut self.stays,
             &mut self.seats,
             &mut self.free,
+            tight,
             now,
             out,
         );

@@ -22,6 +22,8 @@ module _ {S K : Type 0} (rest : S → Option (List ℕ)) (reads : S → ℕ) (co
         reading = λ why. cc (sym is ∙ why);
         writing = λ why. cc (sym is ∙ why);
         frames = λ why. cc (sym is ∙ why);
+        answered = λ why kept. cc (sym is ∙ why);
+        so_far = λ why kept. cc (sym is ∙ why);
         others = λ why. cc (sym is ∙ why);
       }
   has_ended reader sink d (Err e) is served =
@@ -33,6 +35,8 @@ module _ {S K : Type 0} (rest : S → Option (List ℕ)) (reads : S → ℕ) (co
         reading = λ why. served.reading (same Fault'.Reading (sym is ∙ why));
         writing = λ why. served.writing (same Fault'.Writing (sym is ∙ why));
         frames = λ why. served.frames (same Fault'.Frames (sym is ∙ why));
+        answered = λ why kept. served.answered (same Fault'.Frames (sym is ∙ why)) kept;
+        so_far = λ why kept. served.so_far (same Fault'.Reading (sym is ∙ why)) kept;
         others = λ why. served.words (same Fault'.Words (sym is ∙ why));
       }
     where

@@ -1,6 +1,6 @@
 -- What is known of each stream when its ring has ended.
 use Rattle.std.specs.Prelude.{◌≡◌, ◌≢◌, ℕ, Bool, false, Option, None, Some, IfSome, Result, Ok, Err, OnOk, List, []}
-use Rattle.std.specs.Io.KnownBytes.{Appends}
+use Rattle.std.specs.Io.KnownBytes.{Appends, Consumes}
 use Rattle.sq_base.specs.Ends.{Rose}
 use Rattle.live_server.specs.Frames.{answers, frames_in, rest_of}
 use Rattle.live_run.specs.Fronts.{AppendsFront}
@@ -31,7 +31,8 @@ LivedBy S p told = (H : List Element) → Begins (seen p) H → AreMadeOf (stays
 
 module _ {S K : Type 0} (rest : S → Option (List ℕ)) (reads : S → ℕ) (contents : K → Option (List ℕ)) (faults : K → ℕ) where
   -- A stream was read here and written there, by a server that was set up so. Where nothing of a connection was lost for want of memory, the
-  -- sink got what this server answers, or where it failed a front of that. Nothing is lost where the run doesn't go on
+  -- sink got what this server answers, or where it failed a front of that: at a frame that is broken or cut all of it, and at a read that
+  -- failed what is answered to all that was read. Nothing is lost where the run doesn't go on
   pub record HasServed (setup : Layout) (reader : S) (sink : K) (reader' : S) (sink' : K) (lost : Bool) (result : Result (Unit {0}) Fault) : Type 0 where
     pub written : OnOk result (lost ≡ false → IfSome (rest reader) (λ input. Appends (contents sink) (contents sink') (answers input (server_of setup))))
     pub whole : OnOk result (IfSome (rest reader) (λ input. rest_of input ≡ []))
@@ -40,12 +41,16 @@ module _ {S K : Type 0} (rest : S → Option (List ℕ)) (reads : S → ℕ) (co
     pub reading : result ≡ Err Fault'.Reading → Rose (reads reader) (reads reader')
     pub writing : result ≡ Err Fault'.Writing → Rose (faults sink) (faults sink')
     pub frames : result ≡ Err Fault'.Frames → IfSome (rest reader) (λ input. rest_of input ≢ [])
+    pub answered : result ≡ Err Fault'.Frames → lost ≡ false → IfSome (rest reader) (λ input. Appends (contents sink) (contents sink') (answers input (server_of setup)))
+    pub so_far : result ≡ Err Fault'.Reading → lost ≡ false
+        → (there : List ℕ) × Consumes (rest reader) (rest reader') there × Appends (contents sink) (contents sink') (answers there (server_of setup))
     pub words : result ≢ Err Fault'.Words
 
   -- A stream with these ends, which was served by a server that was set up so. Where nothing went wrong its input was whole frames, and its
   -- sink got what one server answers to them; in any case the sink got a front of that. What went wrong has its cause: a read failed there,
-  -- or a write, or its input isn't whole frames. Memory may be missing at any time; where the run goes on, that may cost a connection, and
-  -- then nothing is known of what the sink got
+  -- or a write, or its input isn't whole frames. Where a read failed the sink got what is answered to all that was read, and where the input
+  -- isn't whole frames what is answered to those that are. Memory may be missing at any time; where the run goes on, that may cost a
+  -- connection, and then nothing is known of what the sink got
   pub record HasEnded (setup : Layout) (e : Ends S K) (d : EndedRing S K) : Type 0 where
     pub well : d.fault ≡ None → d.lost ≡ false → IfSome (rest e.reader) (λ input. Appends (contents e.sink) (contents d.sink) (answers input (server_of setup)))
     pub whole : d.fault ≡ None → IfSome (rest e.reader) (λ input. rest_of input ≡ [])
@@ -54,6 +59,9 @@ module _ {S K : Type 0} (rest : S → Option (List ℕ)) (reads : S → ℕ) (co
     pub reading : d.fault ≡ Some Fault'.Reading → Rose (reads e.reader) (reads d.reader)
     pub writing : d.fault ≡ Some Fault'.Writing → Rose (faults e.sink) (faults d.sink)
     pub frames : d.fault ≡ Some Fault'.Frames → IfSome (rest e.reader) (λ input. rest_of input ≢ [])
+    pub answered : d.fault ≡ Some Fault'.Frames → d.lost ≡ false → IfSome (rest e.reader) (λ input. Appends (contents e.sink) (contents d.sink) (answers input (server_of setup)))
+    pub so_far : d.fault ≡ Some Fault'.Reading → d.lost ≡ false
+        → (there : List ℕ) × Consumes (rest e.reader) (rest d.reader) there × Appends (contents e.sink) (contents d.sink) (answers there (server_of setup))
     pub others : d.fault ≢ Some Fault'.Words
 
   -- and where nothing went wrong, and nothing was lost, all that its frames tell was done at a squeue of this setting by the ring's pass

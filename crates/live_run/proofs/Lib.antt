@@ -1,4 +1,3 @@
-pub mod SplitTexts
 pub mod PortLemmas
 pub mod ReadLemmas
 pub mod FrontLemmas

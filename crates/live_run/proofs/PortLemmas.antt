@@ -4,7 +4,8 @@ use Rattle.std.specs.Prelude.{option_and_then}
 use Rattle.std.specs.Option.{option_map_or}
 use Rattle.live_server.specs.declared.ports.Ports.{Ports}
 use Rattle.shell.specs.Table.{Text}
-use Rattle.live_run.specs.PortWords.{port_named, ports_named, split_at}
+use Rattle.shell.specs.Parts.{split_at}
+use Rattle.live_run.specs.PortWords.{port_named, ports_named}
 
 pub last_named : (more : ℕ) (p : Ports) (text : Text) → more ≡ 0 → ports_named more p text ≡ port_named p text
 unfolding ports_named

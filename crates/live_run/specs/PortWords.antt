@@ -1,17 +1,12 @@
 -- The word that names the ports of the services: NAME=PORT, with commas between, as `echo=7,daytime=13`.
 use Rattle.std.specs.Prelude.{ℕ, zero, suc, ◌==◌, ◌&&◌, ◌||◌, Bool, List, [], ◌∷◌, Option, None, Some, if◌then◌else◌, codes, option_and_then}
-use Rattle.std.specs.List.{list_any, before_first, after_first}
 use Rattle.std.specs.Option.{option_map_or}
 use Rattle.std.specs.Str.{bytes_eq}
 use Rattle.shell.specs.Numbers.{number_between}
+use Rattle.shell.specs.Parts.{split_at}
 use Rattle.shell.specs.Table.{Text}
 use Rattle.live_server.specs.Services.{no_ports, plain_ports}
 use Rattle.live_server.specs.declared.ports.Ports.{Ports}
-
--- what stands before and behind the first such byte
-abbrev pub split_at : ℕ → Text → Option (Text × Text)
-split_at byte text =
-    if list_any (λ b. b == byte) text then Some (before_first (λ b. b == byte) text, after_first (λ b. b == byte) text) else None
 
 -- a service has this port
 abbrev pub has_port : Ports → ℕ → Bool
@@ -44,5 +39,4 @@ ports_named (suc more) p text =
 -- without the word there is echo at 7 and discard at 9; with it, those that it names
 abbrev pub ports_in : List Text → Option Ports
 ports_in [] = Some plain_ports
-ports_in (word ∷ []) = ports_named 4 no_ports word
-ports_in (_ ∷ _ ∷ _) = None
+ports_in (word ∷ _) = ports_named 4 no_ports word

@@ -1,5 +1,5 @@
 -- What becomes of a server on a device with each datagram that is read.
-use Rattle.std.specs.Prelude.{◌≡◌, ℕ, ◌-◌, ◌⊎◌, nat_le, true, List, [], ◌∷◌, take, Option, if◌then◌else◌}
+use Rattle.std.specs.Prelude.{◌≡◌, ℕ, ◌+◌, ◌-◌, ◌*◌, min, ◌⊎◌, nat_le, true, List, [], ◌∷◌, take, Option, if◌then◌else◌}
 use Rattle.std.specs.Io.KnownBytes.{Appends}
 use Rattle.std.specs.List.{concat}
 use Rattle.segment_codec.specs.Packet.{packet_in}
@@ -13,6 +13,11 @@ use Rattle.live_server.specs.Serving.{Outcome, ServerOf, on_datagram, on_time, s
 -- so many microseconds pass at least between two times at which all deadlines are looked at
 abbrev pub tick_interval : ℕ
 tick_interval = 20000
+
+-- what is told of the time, behind what was told at the last look at the clock: no more than twice what has passed since, of which a tenth of
+-- a second counts at most. So after a pause the time runs twice as fast, until it has caught up
+abbrev pub told_after : ℕ → ℕ → ℕ → ℕ
+told_after told looked time = min time (told + 2 * min 100000 (time - looked))
 
 -- when the time last came to all
 abbrev pub ticked_by : ℕ → ℕ → ℕ

@@ -28,16 +28,23 @@ address_of text = option_map (λ bytes. record { 0 = big_number 4 bytes }) (hex_
 abbrev pub length_of : Text → Option ℕ
 length_of text = option_and_then (λ n. if nat_lt n (2 ^ 16) then Some n else None) (numeral text)
 
--- ADDRESS BROADCAST PLACES IDLE BYTES SEGMENT [PORTS], IDLE in seconds
-abbrev pub setting_by : Option Addr → Option Addr → Option ℕ → Option ℕ → Option ℕ → Option ℕ → Option Ports → Option Setting
-setting_by address broadcast places idle bytes segment ports =
-    option_and_then (λ a. option_and_then (λ b. option_and_then (λ p. option_and_then (λ i. option_and_then (λ h. option_and_then (λ t. option_map (λ s.
-    record { address = a; broadcast = b; places = p; idle = i * 1000000; bytes = h; segment = t; ports = s; site = None })
-    ports) segment) bytes) idle) places) broadcast) address
+-- so many echo requests are answered from tick to tick: 1,000 without the word behind that of the ports
+abbrev pub pings_in : List Text → Option ℕ
+pings_in [] = Some 1000
+pings_in (_ ∷ []) = Some 1000
+pings_in (_ ∷ word ∷ []) = numeral word
+pings_in (_ ∷ _ ∷ _ ∷ _) = None
+
+-- ADDRESS BROADCAST PLACES IDLE BYTES SEGMENT [PORTS [PINGS]], IDLE in seconds
+abbrev pub setting_by : Option Addr → Option Addr → Option ℕ → Option ℕ → Option ℕ → Option ℕ → Option Ports → Option ℕ → Option Setting
+setting_by address broadcast places idle bytes segment ports pings =
+    option_and_then (λ a. option_and_then (λ b. option_and_then (λ p. option_and_then (λ i. option_and_then (λ h. option_and_then (λ t. option_and_then (λ s. option_map (λ e.
+    record { address = a; broadcast = b; places = p; idle = i * 1000000; bytes = h; segment = t; pings = e; ports = s; site = None })
+    pings) ports) segment) bytes) idle) places) broadcast) address
 
 abbrev pub setting_of : List Text → Option Setting
 setting_of (address ∷ broadcast ∷ places ∷ idle ∷ bytes ∷ segment ∷ rest) =
-    setting_by (address_of address) (address_of broadcast) (numeral places) (numeral idle) (numeral bytes) (length_of segment) (ports_in rest)
+    setting_by (address_of address) (address_of broadcast) (numeral places) (numeral idle) (numeral bytes) (length_of segment) (ports_in rest) (pings_in rest)
 setting_of [] = None
 setting_of (_ ∷ []) = None
 setting_of (_ ∷ _ ∷ []) = None

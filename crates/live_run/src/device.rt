@@ -1,9 +1,9 @@
 //! Standard input and output as a TUN device: each read is a datagram, and each write is one.
 
-ghost use Rattle.std.specs.Prelude.{◌≡◌, ◌<◌, ◌≤◌, ◌^◌, length, OnErr, OnOk};
+ghost use Rattle.std.specs.Prelude.{◌≡◌, ◌+◌, ◌<◌, ◌≤◌, ◌^◌, min, length, OnErr, OnOk};
 ghost use Rattle.tcb_machine.specs.Limits.{last_time};
 ghost use Rattle.live_server.specs.Isolation.{KeepsStart};
-ghost use Rattle.live_run.specs.Rounds.{round, ticked_by, AppendsEach, LosesAtRound};
+ghost use Rattle.live_run.specs.Rounds.{round, ticked_by, told_after, AppendsEach, LosesAtRound};
 
 use crate::fault::Fault;
 use live_server::{Datagram, Server};
@@ -19,8 +19,12 @@ const MOST: usize = 65_536;
 /// How often the time comes to every connection, in microseconds. Something has to be read for it: the launcher sends a datagram.
 const TICK: u64 = 20_000;
 
+/// The most that passes between two looks at the clock, in microseconds, of which all counts.
+const MOST_STEP: u64 = 100_000;
+
 /// Serves until nothing more can be read. Where memory is missing one connection is lost, and the others go on. The time is the
-/// system's at the start, and goes on by a clock that nobody sets.
+/// system's at the start, and goes on by a clock that nobody sets. After a pause of the machine it goes on twice as fast, until it has caught
+/// up: so deadlines of the pause don't all fire at once.
 pub fn serve(rt: &HostRuntime, server: Server) -> Result<(), Fault> {
     let mut server = server;
     let mut reader = rt.reader();
@@ -29,6 +33,7 @@ pub fn serve(rt: &HostRuntime, server: Server) -> Result<(), Fault> {
     let mut sent = Vec::new(rt.alloc());
     let begun = since_1970(rt)?;
     let start = moment(Instant::now(rt))?;
+    let (mut now, mut looked) = (begun, begun);
     let mut ticked = 0u64;
     for _ in 0..u64::MAX {
         let Ok(read) = reader.read(&mut body[..]) else {
@@ -37,7 +42,9 @@ pub fn serve(rt: &HostRuntime, server: Server) -> Result<(), Fault> {
         if read == 0 {
             break;
         }
-        let now = later(begun, micros(moment(start.elapsed(rt))?));
+        let time = later(begun, micros(moment(start.elapsed(rt))?));
+        now = told_after(now, looked, time);
+        looked = time;
         let (datagram, _) = body[..read].split_at(read.min(MOST));
         let _ = round(
             &mut server,
@@ -83,9 +90,18 @@ fn micros(since: Duration) -> u64 {
 
 /// So many microseconds later, or the last time that there is.
 fn later(begun: u64, passed: u64) -> u64
-    ensures { result ≤ last_time }
+    ensures value { result ≡ min last_time (begun + passed) }
+    ensures bound { result ≤ last_time }
 {
     begun.saturating_add(passed).min(LAST_TIME)
+}
+
+/// The time that is told at a look at the clock, behind what was told at the last one: the clock's, but no more than twice what has passed.
+fn told_after(told: u64, looked: u64, time: u64) -> u64
+    ensures { result ≡ told_after told looked time }
+{
+    let passed = time.saturating_sub(looked).min(MOST_STEP);
+    told.saturating_add(2 * passed).min(time)
 }
 
 /// A datagram that was read: the time comes to every connection first, where that is due. What is sent takes the place of what

@@ -3,6 +3,13 @@
 ghost use Rattle.std.specs.Prelude.{◌≡◌};
 ghost use Rattle.live_run.specs.Faults.{code_of};
 
+const USAGE: &str = concat!(
+    "usage: sqlive [--pages FILE] [--rings N --squeues N --mode process|nodrain|fill --budget N] ",
+    "frames SECRET SETTING | device SETTING, ",
+    "where SETTING is ADDRESS BROADCAST PLACES IDLE BYTES SEGMENT [PORTS], ",
+    "and behind it with --rings an IN and an OUT for each ring",
+);
+
 /// Why a run ends early. Each has its exit code.
 #[derive(Clone, Copy, Debug, PartialEq, Eq)]
 pub enum Fault {
@@ -35,8 +42,7 @@ impl Fault {
     /// What is told of it.
     pub fn line(self) -> &'static str {
         match self {
-            Fault::Words =>
-                "usage: sqlive [--pages FILE] [--rings N --squeues N --mode process|nodrain|fill --budget N] frames SECRET SETTING | device SETTING, where SETTING is ADDRESS BROADCAST PLACES IDLE BYTES SEGMENT [PORTS], and behind it with --rings an IN and an OUT for each ring",
+            Fault::Words => USAGE,
             Fault::NoMemory => "out of memory",
             Fault::Reading => "cannot read",
             Fault::Writing => "cannot write",

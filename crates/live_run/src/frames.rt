@@ -1,7 +1,7 @@
 //! Frames from a source and to a sink.
 
-ghost use Rattle.std.specs.Prelude.{◌≡◌, ◌≢◌, ◌++◌, ◌<◌, ◌≤◌, [], false, true, length, Err, IfSome, OnErr, OnOk};
-ghost use Rattle.std.specs.Io.KnownBytes.{Appends};
+ghost use Rattle.std.specs.Prelude.{◌≡◌, ◌≢◌, ◌++◌, ◌<◌, ◌≤◌, [], false, true, length, Err, IfSome, List, ℕ, OnErr, OnOk};
+ghost use Rattle.std.specs.Io.KnownBytes.{Appends, Consumes};
 ghost use Rattle.sq_base.specs.Ends.{Rose};
 ghost use Rattle.live_server.specs.Frames.{answers, frames_in, is_broken, rest_of, serves_frames};
 ghost use Rattle.live_server.specs.Limits.{frame_head};
@@ -35,6 +35,10 @@ pub fn serve_frames_of<S: Source, K: Sink>(
     ensures reading { result ≡ Err Fault.Reading → Rose (S.read_faults source.old) (S.read_faults source.new) }
     ensures writing { result ≡ Err Fault.Writing → Rose (K.write_faults sink.old) (K.write_faults sink.new) }
     ensures frames { result ≡ Err Fault.Frames → IfSome (S.rest source.old) (λ input. rest_of input ≢ []) }
+    ensures answered { result ≡ Err Fault.Frames → IfSome (S.rest source.old)
+        (λ input. Appends (K.contents sink.old) (K.contents sink.new) (answers input server)) }
+    ensures so_far { result ≡ Err Fault.Reading → (there : List ℕ) × Consumes (S.rest source.old) (S.rest source.new) there
+        × Appends (K.contents sink.old) (K.contents sink.new) (answers there server) }
     ensures words { result ≢ Err Fault.Words }
 {
     let mut rules = server.into_rules();
@@ -66,6 +70,10 @@ pub fn serve_stream<T: ConnTable, S: Source, K: Sink>(
     ensures reading { result ≡ Err Fault.Reading → Rose (S.read_faults source.old) (S.read_faults source.new) }
     ensures writing { result ≡ Err Fault.Writing → Rose (K.write_faults sink.old) (K.write_faults sink.new) }
     ensures frames { result ≡ Err Fault.Frames → IfSome (S.rest source.old) (λ input. rest_of input ≢ []) }
+    ensures answered { result ≡ Err Fault.Frames → lost.new ≡ false → IfSome (S.rest source.old)
+        (λ input. Appends (K.contents sink.old) (K.contents sink.new) (answers input (server_of T.conns rules.old))) }
+    ensures so_far { result ≡ Err Fault.Reading → lost.new ≡ false → (there : List ℕ) × Consumes (S.rest source.old) (S.rest source.new) there
+        × Appends (K.contents sink.old) (K.contents sink.new) (answers there (server_of T.conns rules.old)) }
     ensures words { result ≢ Err Fault.Words }
 {
     let Ok(mut piece) = vec![in alloc; 0u8; PIECE] else {
@@ -99,6 +107,10 @@ fn serve_pieces<T: ConnTable, S: Source, K: Sink>(
     ensures reading { result ≡ Err Fault.Reading → Rose (S.read_faults source.old) (S.read_faults source.new) }
     ensures writing { result ≡ Err Fault.Writing → Rose (K.write_faults sink.old) (K.write_faults sink.new) }
     ensures frames { result ≡ Err Fault.Frames → IfSome (S.rest source.old) (λ input. rest_of input ≢ []) }
+    ensures answered { result ≡ Err Fault.Frames → lost.new ≡ false → IfSome (S.rest source.old)
+        (λ input. Appends (K.contents sink.old) (K.contents sink.new) (answers input (server_of T.conns rules.old))) }
+    ensures so_far { result ≡ Err Fault.Reading → lost.new ≡ false → (there : List ℕ) × Consumes (S.rest source.old) (S.rest source.new) there
+        × Appends (K.contents sink.old) (K.contents sink.new) (answers there (server_of T.conns rules.old)) }
     ensures words { result ≢ Err Fault.Words }
 {
     let mut pending = room_for_pieces(alloc);
@@ -166,6 +178,8 @@ fn serve_piece<T: ConnTable, K: Sink>(
     ensures writing { result ≡ Err Fault.Writing → Rose (K.write_faults sink.old) (K.write_faults sink.new) }
     ensures frames { result ≡ Err Fault.Frames → (frame_head ≤ length (rest_of (pending.old.items ++ piece.now)))
         × (is_broken (rest_of (pending.old.items ++ piece.now)) ≡ true) }
+    ensures answered { result ≡ Err Fault.Frames → lost.new ≡ false
+        → Appends (K.contents sink.old) (K.contents sink.new) (answers (pending.old.items ++ piece.now) (server_of T.conns rules.old)) }
     ensures reading { result ≢ Err Fault.Reading }
     ensures words { result ≢ Err Fault.Words }
 {

@@ -1,21 +1,20 @@
 //! The word that names the ports of the services.
 
-ghost use Rattle.std.specs.Prelude.{◌≡◌, map, option_map};
+ghost use Rattle.std.specs.Prelude.{◌≡◌, map};
 ghost use Rattle.std.specs.String.{string_bytes};
-ghost use Rattle.live_run.specs.PortWords.{gets_port, has_port, named_by, port_named, ports_in, ports_named, split_at};
+ghost use Rattle.live_run.specs.PortWords.{gets_port, has_port, named_by, port_named, ports_in, ports_named};
 
 use live_server::{NO_PORTS, PLAIN_PORTS, Ports};
-use shell::number_between;
+use shell::{number_between, split_at};
 
-/// The ports that the last word names, as `echo=7,daytime=13`: the services that it leaves out aren't had. Without it echo is at 7
+/// The ports that the first word names, as `echo=7,daytime=13`: the services that it leaves out aren't had. Without it echo is at 7
 /// and discard at 9.
 pub fn ports_in(words: &[String]) -> Option<Ports>
     ensures { result ≡ ports_in (map (λ s. string_bytes s) words.now) }
 {
     match words {
         [] => Some(PLAIN_PORTS),
-        [word] => ports_named(4, NO_PORTS, word.as_str()),
-        _ => None,
+        [word, ..] => ports_named(4, NO_PORTS, word.as_str()),
     }
 }
 
@@ -27,7 +26,7 @@ fn ports_named(more: usize, ports: Ports, text: &str) -> Option<Ports>
     if more == 0 {
         return port_named(ports, text);
     }
-    match at_comma(text) {
+    match split_at(text, ',') {
         None => port_named(ports, text),
         Some((first, rest)) => ports_named(more - 1, port_named(ports, first)?, rest),
     }
@@ -38,7 +37,7 @@ fn ports_named(more: usize, ports: Ports, text: &str) -> Option<Ports>
 fn port_named(ports: Ports, text: &str) -> Option<Ports>
     ensures { result ≡ port_named ports text.now }
 {
-    let (name, port) = at_equals(text)?;
+    let (name, port) = split_at(text, '=')?;
     named_by(ports, name, number_between(port, 1, 65_535)? as u16)
 }
 
@@ -93,18 +92,4 @@ fn gets_port(ports: Ports, name: &str, port: u16) -> Option<Ports>
     } else {
         None
     }
-}
-
-/// What stands before and behind the first `=`.
-fn at_equals(text: &str) -> Option<(&str, &str)>
-    ensures { option_map (λ parts. (parts.0.now, parts.1.now)) result ≡ split_at 61 text.now }
-{
-    text.split_once('=')
-}
-
-/// What stands before and behind the first comma.
-fn at_comma(text: &str) -> Option<(&str, &str)>
-    ensures { option_map (λ parts. (parts.0.now, parts.1.now)) result ≡ split_at 44 text.now }
-{
-    text.split_once(',')
 }

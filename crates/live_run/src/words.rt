@@ -3,7 +3,7 @@
 ghost use Rattle.std.specs.Prelude.{◌≡◌, ◌<◌, map};
 ghost use Rattle.std.specs.String.{string_bytes};
 ghost use Rattle.shell.specs.Numbers.{numeral};
-ghost use Rattle.live_run.specs.Words.{address_of, asked, device_asked, frames_asked, length_of, secret_of, setting_of};
+ghost use Rattle.live_run.specs.Words.{address_of, asked, device_asked, frames_asked, length_of, pings_in, secret_of, setting_of};
 
 use crate::port_words::ports_in;
 use byteorder::{BigEndian, ByteOrder};
@@ -64,8 +64,8 @@ fn device_asked(words: &[String]) -> Option<ServerWords>
 }
 
 /// The address that is answered for and the network's broadcast address, each as eight hexadecimal digits, how many connections are
-/// kept, after how many seconds one is idle, how many bytes all may hold, and how many a segment that is sent; then, where it is given,
-/// the ports of the services.
+/// kept, after how many seconds one is idle, how many bytes all may hold, and how many a segment that is sent; then, where they are given,
+/// the ports of the services, and how many echo requests are answered from tick to tick.
 fn setting_of(words: &[String]) -> Option<Setting>
     ensures { result ≡ setting_of (map (λ s. string_bytes s) words.now) }
 {
@@ -80,8 +80,20 @@ fn setting_of(words: &[String]) -> Option<Setting>
         bytes: u64::from(numeral(bytes.as_str())?),
         segment: length_of(segment.as_str())?,
         ports: ports_in(rest)?,
+        pings: pings_in(rest)?,
         site: None,
     })
+}
+
+/// How many echo requests are answered from tick to tick: 1,000 without the word behind that of the ports.
+fn pings_in(words: &[String]) -> Option<u32>
+    ensures { result ≡ pings_in (map (λ s. string_bytes s) words.now) }
+{
+    match words {
+        [] | [_] => Some(1000),
+        [_, word] => numeral(word.as_str()),
+        _ => None,
+    }
 }
 
 fn secret_of(word: &str) -> Option<Secret>

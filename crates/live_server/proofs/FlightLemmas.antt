@@ -1,17 +1,13 @@
 -- How much is under way behind output, and behind a deadline.
-use Rattle.std.proofs.Common.{◌≡◌, ℕ, zero, suc, ◌+◌, ◌-◌, ◌*◌, ◌%◌, ◌^◌, ◌<◌, ◌≤◌, min, max, Bool, true, false, cond, not, ltb, ◌==◌, ◌&&◌, ◌||◌, List, [], ◌∷◌, length, take, Option, None, Some, refl, sym, ap, subst, ◌∙◌, arith, length-take}
-use Rattle.std.proofs.lemmas.Bool.{false≢true}
-use Rattle.segment_codec.specs.ControlBits.{ack, fin, psh, syn}
-use Rattle.segment_codec.specs.declared.packet.Reply.{Reply}
-use Rattle.segment_codec.specs.declared.packet.Seg.{Seg}
+use Rattle.std.proofs.Common.{◌≡◌, ℕ, ◌+◌, ◌-◌, ◌%◌, ◌^◌, ◌≤◌, Bool, true, false, cond, not, ltb, ◌==◌, ◌&&◌, ◌||◌, List, [], ◌∷◌, length, Option, None, Some, refl, sym, ap, subst, arith, length-take}
+use Rattle.segment_codec.specs.ControlBits.{ack, fin}
 use Rattle.sq_base.specs.SerialOrder.{dist}
-use Rattle.tcb_machine.specs.BlockState.{Block, has, one_if, seg_wnd, segment_of, sends, snd_nxt, unsent}
+use Rattle.tcb_machine.specs.BlockState.{Block, one_if, seg_wnd, segment_of, sends, snd_nxt, unsent}
 use Rattle.tcb_machine.specs.Output.{is_sending, output, outputs_ack, outputs_deadline, outputs_fin, outputs_text, pieces, sendable, sends_pieces, sends_text, starts}
 use Rattle.tcb_machine.specs.TcpStep.{with_window}
 use Rattle.tcb_machine.proofs.ValidLemmas.{pieces-total, total}
-use Rattle.live_server.specs.Congestion.{flight, seen, seen_window}
+use Rattle.live_server.specs.Congestion.{flight, seen}
 use Rattle.live_server.specs.Promises.{OutputIsBounded, ShownIsKept}
-use Rattle.live_server.specs.declared.congestion.Congestion.{Congestion}
 use Rattle.live_server.proofs.PromiseLemmas.{shown_narrow}
 
 -- from one block to another one, by which no more than n bytes were sent, and maybe our FIN

@@ -110,9 +110,9 @@ yielding_stays q (t ∷ ts) sv table =
 
 -- ---- one that takes a place
 module _ (t : Tuple) (c : Conn) (sv : ServerOf) (new : IsNew t sv.conns) where
-  taken_by : (b : Bool) → has_place sv ≡ b → takes_place t c sv ≡ cond b (takes_free t c sv) (turns_away sv)
+  taken_by : (b : Bool) → has_place sv ≡ b → takes_place t c sv ≡ cond b (takes_free t c sv) (turns_away t sv)
   unfolding takes_place
-  taken_by b e = ap (λ v. cond v (takes_free t c sv) (turns_away sv)) e
+  taken_by b e = ap (λ v. cond v (takes_free t c sv) (turns_away t sv)) e
 
   taken_table : IsTable sv → (b : Bool) → has_place sv ≡ b → IsTable (takes_place t c sv).server
   unfolding has_place

@@ -10,7 +10,10 @@ pub mod ServerLemmas
 pub mod LawLemmas
 pub mod AgeLemmas
 pub mod SentLemmas
+pub mod CrowdingLemmas
+pub mod ShedLemmas
 pub mod TickLemmas
+pub mod FairLemmas
 pub mod LossLemmas
 pub mod ArriveLemmas
 pub mod FrameLemmas
@@ -20,3 +23,4 @@ pub mod PromiseLemmas
 pub mod FlightLemmas
 pub mod ShortLemmas
 pub mod OneLemmas
+pub mod TightLemmas

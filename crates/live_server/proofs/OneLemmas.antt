@@ -197,7 +197,7 @@ placed_few : (t : Tuple) (c : Conn) (sv : ServerOf) → FewWait sv → FewWait (
 unfolding takes_place has_place
 placed_few t c sv few = by (nat_lt (length sv.conns) sv.setting.places) (nat_lt (length sv.waiting) sv.setting.places) refl
   where
-    by : (a b : Bool) → nat_lt (length sv.waiting) sv.setting.places ≡ b → FewWait (cond (a && b) (takes_free t c sv) (turns_away sv)).server
+    by : (a b : Bool) → nat_lt (length sv.waiting) sv.setting.places ≡ b → FewWait (cond (a && b) (takes_free t c sv) (turns_away t sv)).server
     by true true e = let lt : length sv.waiting < sv.setting.places = grind (arith, nat_tests, e) in omega (arith, lt, length-append sv.waiting ((t, sv.counts.opened) ∷ []))
     by true false e = few
     by false b e = few

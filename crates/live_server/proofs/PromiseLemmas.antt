@@ -9,7 +9,7 @@ use Rattle.segment_codec.specs.Refusal.{tuple_of}
 use Rattle.segment_codec.specs.declared.packet.Seg.{Seg}
 use Rattle.sq_base.specs.declared.kinds.Tuple.{Tuple}
 use Rattle.tcb_machine.specs.BlockState.{Block, has}
-use Rattle.live_server.specs.Acts.{after, emptied, is_over, judged, new_conn, provokes, reached, taken, takes}
+use Rattle.live_server.specs.Acts.{after, emptied, is_over, judged, new_conn, provokes, reached, taken, takes, ticked}
 use Rattle.live_server.specs.Congestion.{eased, grown, halved, is_duplicate, is_fresh, reaches, recovers, repeated, seen_window, timed_out, tolerance}
 use Rattle.live_server.specs.Limits.{challenge_interval}
 use Rattle.live_server.specs.Promises.{ChallengesAreApart, Coming, FirstIsWide, IsWide, SegmentKeepsWide, ShownIsNarrow, TextIsBounded, TextIsCounted, TimeCountsAnew, TimeoutIsWide, came, challenges, segment, time, when_challenged}
@@ -49,7 +49,7 @@ opened_held now s text sv = by (is_over fresh)
     fresh : Conn
     fresh = served now s text sv (new_conn (service_at sv.setting now s.dst_port) sv.setting.segment now)
 
-    placed : (b : Bool) → (cond b (takes_free (tuple_of s) fresh (makes_place sv)) (turns_away (makes_place sv))).server.held ≡ sv.held
+    placed : (b : Bool) → (cond b (takes_free (tuple_of s) fresh (makes_place sv)) (turns_away (tuple_of s) (makes_place sv))).server.held ≡ sv.held
     placed true = yielding_held sv.waiting sv
     placed false = yielding_held sv.waiting sv
 
@@ -145,6 +145,10 @@ timed_quiet : (now : ℕ) (c : Conn) → (emptied (reached now c)).quiet_until �
 unfolding emptied
 timed_quiet now c = refl
 
+ticked_quiet : (tight : Bool) (now : ℕ) (c : Conn) → (emptied (ticked tight now c)).quiet_until ≡ c.quiet_until
+unfolding emptied
+ticked_quiet tight now c = refl
+
 came_quiet : (j : Judged) (now iss : ℕ) (s : Seg) (text : List ℕ) (c : Conn) → (emptied (after j now iss s text c)).quiet_until ≡ (elim j [ Taken ↦ c.quiet_until | Challenged ↦ now + challenge_interval | Unanswered ↦ c.quiet_until | Late ↦ c.quiet_until ])
 unfolding emptied after taken
 came_quiet Taken now iss s text c = refl
@@ -177,7 +181,7 @@ segment_spaced now iss s text c rest behind = by (judged now s text before) refl
 
 spaced : (xs : List Coming) (c : Conn) → Spaced c.quiet_until (challenges xs c)
 spaced [] c = tt
-spaced (time now ∷ xs) c = subst (λ (n : ℕ). Spaced n (challenges xs (came (time now) c))) (timed_quiet now c) (spaced xs (came (time now) c))
+spaced (time tight now ∷ xs) c = subst (λ (n : ℕ). Spaced n (challenges xs (came (time tight now) c))) (ticked_quiet tight now c) (spaced xs (came (time tight now) c))
 spaced (segment now iss s text ∷ xs) c = segment_spaced now iss s text c (challenges xs (came (segment now iss s text) c)) (spaced xs (came (segment now iss s text) c))
 
 pub challenges_apart : ChallengesAreApart

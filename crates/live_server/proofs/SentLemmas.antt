@@ -44,7 +44,7 @@ module _ (t : Tuple) where
 
   taken : (c : Conn) (sv : ServerOf) → AreOfEnds (takes_place t c sv).sent
   unfolding takes_place
-  taken c sv = chosen (has_place sv) (takes_free t c sv) (turns_away sv) (of_replies _ _) tt
+  taken c sv = chosen (has_place sv) (takes_free t c sv) (turns_away t sv) (of_replies _ _) tt
 
 came : (now : ℕ) (s : Seg) (text : List ℕ) (sv : ServerOf) → AreOfEnds (tuple_of s) (comes now s text sv).sent
 unfolding comes goes_on becomes opens

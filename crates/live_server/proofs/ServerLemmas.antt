@@ -36,7 +36,7 @@ module _ (t : Tuple) (c : Conn) (sv here : ServerOf) (is : here ≡ sv) (free : 
       (λ j. record here { conns = inserted j; waiting = pushed j; counts = record here.counts { opened = more 1 here.counts.opened } })
       ∙ (λ j. record (is j) { conns = insert_entry tuple_eq (is j).conns t ((is_kept ∙ ap (λ (s : ServerOf). emptied (numbered s c)) is) j); waiting = (is j).waiting ++ (t, (is j).counts.opened) ∷ []; counts = record (is j).counts { opened = more 1 (is j).counts.opened } })
       ∙ (λ j. record sv { conns = appended t (emptied (numbered sv c)) sv.conns new j; waiting = sv.waiting ++ (t, sv.counts.opened) ∷ []; counts = record sv.counts { opened = more 1 sv.counts.opened } })
-      ∙ ap (λ b. (cond b (takes_free t c sv) (turns_away sv)).server) (sym free)
+      ∙ ap (λ b. (cond b (takes_free t c sv) (turns_away t sv)).server) (sym free)
 
 -- half-open connections give way
 pub stops : (ts : List (Tuple × ℕ)) (sv : ServerOf) → has_place sv ≡ true → sv ≡ yielding ts sv

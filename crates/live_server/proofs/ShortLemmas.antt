@@ -1,20 +1,20 @@
 -- The text of a segment that is sent is no longer than what its path takes.
-use Rattle.std.proofs.Common.{◌≡◌, ℕ, zero, suc, ◌+◌, ◌-◌, ◌<◌, ◌≤◌, min, max, nat_le, nat_lt, Bool, true, false, cond, not, ◌==◌, ◌&&◌, ◌||◌, List, [], ◌∷◌, ◌++◌, length, take, drop, Option, None, Some, refl, sym, ap, subst, ◌∙◌, arith, length-take}
+use Rattle.std.proofs.Common.{◌≡◌, ℕ, zero, suc, ◌+◌, ◌-◌, ◌≤◌, min, max, nat_le, nat_lt, Bool, true, false, cond, not, ◌==◌, ◌&&◌, ◌||◌, List, [], ◌∷◌, ◌++◌, length, take, drop, Option, None, Some, refl, sym, ap, subst, arith, length-take}
 use Rattle.std.specs.List.{AllByRecursion}
 use Rattle.std.proofs.lemmas.Bool.{false≢true}
 use Rattle.byte_queues.specs.ReceiveQueue.{Recv, is_ended, next_of, placed}
 use Rattle.segment_codec.specs.ControlBits.{ack, fin, psh, rst, syn}
 use Rattle.segment_codec.specs.declared.packet.Reply.{Reply}
 use Rattle.segment_codec.specs.declared.packet.Seg.{Seg}
-use Rattle.sq_base.specs.SerialOrder.{dist}
 use Rattle.tcb_machine.specs.Agreed.{send_mss}
 use Rattle.tcb_machine.specs.BlockState.{Block, has, in_flight, new_block, rcv_nxt, rst_of, segment_of, sends, sends_ack, snd_end, snd_nxt, syn_ack_of, to_listen, unsent}
+use Rattle.tcb_machine.specs.Forgetting.{forgetting}
 use Rattle.tcb_machine.specs.Limits.{least_mss, most_retransmissions}
 use Rattle.tcb_machine.specs.Output.{is_sending, output, outputs_ack, outputs_deadline, outputs_fin, outputs_text, pieces, sendable, sends_pieces, sends_text, starts}
 use Rattle.tcb_machine.specs.States.{is_listen}
 use Rattle.tcb_machine.specs.TcpStep.{Verdict, acknowledged, after_ack, ahead, and_then, arrives, ack_in, ack_kind, check_ack, check_reset, check_sequence, check_syn, check_text, closes, consumes, established, first_checks, go, in_state, in_time_wait, is_acceptable, is_before, is_fin_acked, is_time_wait, keeps_end, listen, on, opened, over, refused, repeated, sends_syn_ack, syn_again, takes_ack, takes_fin, takes_text, takes_window, tcp_segment, waits, with_window}
 use Rattle.tcb_machine.specs.Timers.{Firing, backed_off, fires, fires_all, firings, gives_up, retransmission, retransmissions_from, retransmits, sends_again, tcp_time, time_wait, timers, until}
-use Rattle.tcb_machine.specs.Validity.{IsValid, left_by}
+use Rattle.tcb_machine.specs.Validity.{IsValid}
 use Rattle.tcb_machine.specs.declared.kinds.AckKind.{AckKind}
 use Rattle.tcb_machine.specs.declared.kinds.AckKind.TheVariants.{Beyond, Equal, Fresh, Old}
 use Rattle.tcb_machine.specs.declared.kinds.State.{State}
@@ -25,7 +25,7 @@ use Rattle.echo_services.specs.Serving.{followed}
 use Rattle.echo_services.proofs.PumpsLemmas.{chargen-pumps, daytime-pumps, discard-pumps, echo-pumps}
 use Rattle.page_service.specs.Site.{site, site-sound}
 use Rattle.page_service.proofs.PumpsLemmas.{pump-pumps}
-use Rattle.live_server.specs.Acts.{after, judged, reaches, renewed, resent, taken}
+use Rattle.live_server.specs.Acts.{after, judged, pruned, reaches, renewed, resent, taken}
 use Rattle.live_server.specs.Congestion.{calls_again, eased, seen}
 use Rattle.live_server.specs.DaytimeText.{daytime_text}
 use Rattle.live_server.specs.Promises.{NewIsShort, SegmentKeepsShort, TimeKeepsShort}
@@ -462,7 +462,13 @@ segment_short now iss s text c valid h =
       agreed = λ e. subst (λ (m : ℕ). (after j now iss t text c).tcb.agreed.mss ≤ max least_mss m) (sym same) (one.agreed e);
     }
 
+pruned_short : (n : ℕ) (tight : Bool) (b : Block) → Short n b → Short n (pruned tight b)
+unfolding forgetting
+pruned_short n true b h = record { agreed = h.agreed; sent = h.sent }
+pruned_short n false b h = h
+
 pub time_keeps_short : TimeKeepsShort
-time_keeps_short now c valid h =
-    let one = reached_short (max least_mss c.most) (omega arith) now c.tcb valid (record { agreed = h.agreed; sent = h.sent }) in
+time_keeps_short tight now c valid h =
+    let n = max least_mss c.most in
+    let one = pruned_short n tight (reaches now c.tcb) (reached_short n (omega arith) now c.tcb valid (record { agreed = h.agreed; sent = h.sent })) in
     record { sent = one.sent; agreed = one.agreed }

@@ -6,23 +6,24 @@ use Rattle.std.specs.Option.{option_map}
 use Rattle.std.proofs.lemmas.Map.Entries.{lookup-filter-values, option_filter}
 use Rattle.std.proofs.lemmas.Map.Made.{IsDistinct-keys_filter}
 use Rattle.sq_base.specs.declared.kinds.Tuple.{Tuple}
-use Rattle.live_server.specs.Acts.{emptied, is_over, reached}
-use Rattle.live_server.specs.Isolation.{TimeKeepsTable, TimeLeaves}
+use Rattle.live_server.specs.Acts.{emptied, is_over, ticked}
+use Rattle.live_server.specs.Isolation.{IsTable, TimeKeepsTable, TimeLeaves, conn_of, is_shed, staying}
 use Rattle.live_server.specs.Leaving.{is_leaving, without_leaving}
-use Rattle.live_server.specs.Serving.{on_time}
+use Rattle.live_server.specs.Serving.{ServerOf, is_tight, on_time, timed}
 use Rattle.live_server.specs.Table.{Conns, all_reached, tuple_eq, without_over}
 use Rattle.live_server.specs.declared.conn.Conn.{Conn}
 use Rattle.live_server.specs.declared.setting.Setting.{Setting}
 use Rattle.live_server.proofs.TableLemmas.{tuple_equivalence}
 use Rattle.live_server.proofs.MeetLemmas.{emptied_over}
+use Rattle.live_server.proofs.ShedLemmas.{look_shed, shed_once, shed_short}
 
-pub keys_reached : (now : ℕ) (cs : Conns) → keys_of (all_reached now cs) ≡ keys_of cs
-keys_reached now [] = refl
-keys_reached now (c ∷ cs) = ap (λ ks. c.0 ∷ ks) (keys_reached now cs)
+pub keys_reached : (tight : Bool) (now : ℕ) (cs : Conns) → keys_of (all_reached tight now cs) ≡ keys_of cs
+keys_reached tight now [] = refl
+keys_reached tight now (c ∷ cs) = ap (λ ks. c.0 ∷ ks) (keys_reached tight now cs)
 
-long_reached : (now : ℕ) (cs : Conns) → length (all_reached now cs) ≡ length cs
-long_reached now [] = refl
-long_reached now (c ∷ cs) = let more = long_reached now cs in omega (arith, more)
+long_reached : (tight : Bool) (now : ℕ) (cs : Conns) → length (all_reached tight now cs) ≡ length cs
+long_reached tight now [] = refl
+long_reached tight now (c ∷ cs) = let more = long_reached tight now cs in omega (arith, more)
 
 pub shorter : (p : Tuple × Conn → Bool) (cs : Conns) → length (filter p cs) ≤ length cs
 shorter p [] = omega arith
@@ -32,22 +33,22 @@ shorter p (c ∷ cs) = by (p c) (shorter p cs)
     by true h = omega (arith, h)
     by false h = omega (arith, h)
 
-pub look_reached : (now : ℕ) (q : Tuple) (cs : Conns) → lookup (tuple_eq q) (all_reached now cs) ≡ option_map (λ (c : Conn). emptied (reached now c)) (lookup (tuple_eq q) cs)
-look_reached now q [] = refl
-look_reached now q (e ∷ cs) = by (tuple_eq q e.0) (look_reached now q cs)
+pub look_reached : (tight : Bool) (now : ℕ) (q : Tuple) (cs : Conns) → lookup (tuple_eq q) (all_reached tight now cs) ≡ option_map (λ (c : Conn). emptied (ticked tight now c)) (lookup (tuple_eq q) cs)
+look_reached tight now q [] = refl
+look_reached tight now q (e ∷ cs) = by (tuple_eq q e.0) (look_reached tight now q cs)
   where
-    by : (b : Bool) → lookup (tuple_eq q) (all_reached now cs) ≡ option_map (λ (c : Conn). emptied (reached now c)) (lookup (tuple_eq q) cs)
-        → cond b (Some (emptied (reached now e.1))) (lookup (tuple_eq q) (all_reached now cs)) ≡ option_map (λ (c : Conn). emptied (reached now c)) (cond b (Some e.1) (lookup (tuple_eq q) cs))
+    by : (b : Bool) → lookup (tuple_eq q) (all_reached tight now cs) ≡ option_map (λ (c : Conn). emptied (ticked tight now c)) (lookup (tuple_eq q) cs)
+        → cond b (Some (emptied (ticked tight now e.1))) (lookup (tuple_eq q) (all_reached tight now cs)) ≡ option_map (λ (c : Conn). emptied (ticked tight now c)) (cond b (Some e.1) (lookup (tuple_eq q) cs))
     by true h = refl
     by false h = h
 
-pub here_once : (now : ℕ) (cs : Conns) → IsDistinct tuple_eq (keys_of cs) → IsDistinct tuple_eq (keys_of (without_over (all_reached now cs)))
+pub here_once : (tight : Bool) (now : ℕ) (cs : Conns) → IsDistinct tuple_eq (keys_of cs) → IsDistinct tuple_eq (keys_of (without_over (all_reached tight now cs)))
 unfolding without_over
-here_once now cs once = IsDistinct-keys_filter tuple_eq _ (all_reached now cs) (subst (IsDistinct tuple_eq) (sym (keys_reached now cs)) once)
+here_once tight now cs once = IsDistinct-keys_filter tuple_eq _ (all_reached tight now cs) (subst (IsDistinct tuple_eq) (sym (keys_reached tight now cs)) once)
 
-here_short : (now : ℕ) (cs : Conns) → length (without_over (all_reached now cs)) ≤ length cs
+here_short : (tight : Bool) (now : ℕ) (cs : Conns) → length (without_over (all_reached tight now cs)) ≤ length cs
 unfolding without_over
-here_short now cs = omega (arith, shorter (λ (c : Tuple × Conn). not (is_over c.1)) (all_reached now cs), long_reached now cs)
+here_short tight now cs = omega (arith, shorter (λ (c : Tuple × Conn). not (is_over c.1)) (all_reached tight now cs), long_reached tight now cs)
 
 left_once : (g : Setting) (now : ℕ) (cs : Conns) → IsDistinct tuple_eq (keys_of cs) → IsDistinct tuple_eq (keys_of (without_leaving g now cs))
 unfolding without_leaving
@@ -57,14 +58,19 @@ pub left_short : (g : Setting) (now : ℕ) (cs : Conns) → length (without_leav
 unfolding without_leaving
 left_short g now cs = shorter _ cs
 
+-- those that stay by every other rule
+pub staying_once : (now : ℕ) (sv : ServerOf) → IsTable sv → IsDistinct tuple_eq (keys_of (staying now sv))
+staying_once now sv table = left_once sv.setting now (without_over (all_reached (is_tight sv) now sv.conns)) (here_once (is_tight sv) now sv.conns table.once)
+
+pub staying_bounded : (now : ℕ) (sv : ServerOf) → IsTable sv → length (staying now sv) ≤ sv.setting.places
+staying_bounded now sv table = omega (arith, left_short sv.setting now (without_over (all_reached (is_tight sv) now sv.conns)), here_short (is_tight sv) now sv.conns, table.bounded)
+
 pub time_keeps_table : TimeKeepsTable
 unfolding on_time
-time_keeps_table now sv table =
-    let here = without_over (all_reached now sv.conns) in
-    record {
-      once = left_once sv.setting now here (here_once now sv.conns table.once);
-      bounded = omega (arith, left_short sv.setting now here, here_short now sv.conns, table.bounded);
-    }
+time_keeps_table now sv table = record {
+  once = shed_once sv.setting sv.turned (staying now sv) (staying_once now sv table);
+  bounded = omega (arith, shed_short sv.setting sv.turned (staying now sv), staying_bounded now sv table);
+}
 
 module _ (now : ℕ) (q : Tuple) (x : Conn) where
   both_filters : (a l : Bool) (p : Conn → Bool) → p x ≡ not l → option_filter p (cond (not a) (Some x) None) ≡ cond (a || l) None (Some x)
@@ -72,18 +78,37 @@ module _ (now : ℕ) (q : Tuple) (x : Conn) where
   both_filters false true p is = ap (λ (b : Bool). cond b (Some x) None) is
   both_filters false false p is = ap (λ (b : Bool). cond b (Some x) None) is
 
-pub time_leaves : TimeLeaves
-unfolding on_time without_over without_leaving
-time_leaves now q sv c table look =
-    let reached_all = all_reached now sv.conns in
+  and_shed : (a l s : Bool) → cond s None (cond (a || l) None (Some x)) ≡ cond (a || (l || s)) None (Some x)
+  and_shed true l true = refl
+  and_shed true l false = refl
+  and_shed false true true = refl
+  and_shed false true false = refl
+  and_shed false false true = refl
+  and_shed false false false = refl
+
+-- who stays by every other rule is there as the time left it
+look_staying : (now : ℕ) (q : Tuple) (sv : ServerOf) (c : Conn) → IsTable sv → conn_of q sv ≡ Some c
+    → lookup (tuple_eq q) (staying now sv)
+    ≡ cond (is_over (timed now sv c) || is_leaving sv.setting now (length (without_over (all_reached (is_tight sv) now sv.conns))) (emptied (timed now sv c))) None (Some (emptied (timed now sv c)))
+unfolding without_over without_leaving
+look_staying now q sv c table look =
+    let reached_all = all_reached (is_tight sv) now sv.conns in
     let here = without_over reached_all in
-    let x = emptied (reached now c) in
+    let x = emptied (timed now sv c) in
     let goes = is_leaving sv.setting now (length here) in
-    let once = here_once now sv.conns table.once in
-    let all_once : IsDistinct tuple_eq (keys_of reached_all) = subst (IsDistinct tuple_eq) (sym (keys_reached now sv.conns)) table.once in
+    let once = here_once (is_tight sv) now sv.conns table.once in
+    let all_once : IsDistinct tuple_eq (keys_of reached_all) = subst (IsDistinct tuple_eq) (sym (keys_reached (is_tight sv) now sv.conns)) table.once in
     lookup-filter-values tuple_equivalence (λ (e : Conn). not (goes e)) q here once
     ∙ ap (option_filter (λ (e : Conn). not (goes e)))
     (lookup-filter-values tuple_equivalence (λ (e : Conn). not (is_over e)) q reached_all all_once
-    ∙ ap (option_filter (λ (e : Conn). not (is_over e))) (look_reached now q sv.conns ∙ ap (option_map (λ (e : Conn). emptied (reached now e))) look)
-    ∙ ap (λ (b : Bool). cond (not b) (Some x) None) (emptied_over (reached now c)))
-    ∙ both_filters now q x (is_over (reached now c)) (goes x) (λ (e : Conn). not (goes e)) refl
+    ∙ ap (option_filter (λ (e : Conn). not (is_over e))) (look_reached (is_tight sv) now q sv.conns ∙ ap (option_map (λ (e : Conn). emptied (timed now sv e))) look)
+    ∙ ap (λ (b : Bool). cond (not b) (Some x) None) (emptied_over (timed now sv c)))
+    ∙ both_filters now q x (is_over (timed now sv c)) (goes x) (λ (e : Conn). not (goes e)) refl
+
+pub time_leaves : TimeLeaves
+unfolding on_time
+time_leaves now q sv c table look =
+    let x = emptied (timed now sv c) in
+    look_shed sv.setting sv.turned (staying now sv) q (staying_once now sv table)
+    ∙ ap (cond (is_shed now sv q) None) (look_staying now q sv c table look)
+    ∙ and_shed now q x (is_over (timed now sv c)) (is_leaving sv.setting now (length (without_over (all_reached (is_tight sv) now sv.conns))) x) (is_shed now sv q)

@@ -12,6 +12,7 @@ use Rattle.segment_codec.specs.declared.packet.Seg.{Seg}
 use Rattle.sq_base.specs.declared.kinds.Tuple.{Tuple}
 use Rattle.tcb_machine.specs.BlockState.{Block, has, new_block, offered, sends_ack, snd_nxt}
 use Rattle.tcb_machine.specs.Challenges.{is_challenged, is_syn_received}
+use Rattle.tcb_machine.specs.Forgetting.{forgetting}
 use Rattle.tcb_machine.specs.Limits.{most_streamed}
 use Rattle.tcb_machine.specs.States.{is_listen}
 use Rattle.tcb_machine.specs.TcpStep.{tcp_segment}
@@ -130,6 +131,14 @@ slowed before b x = if nat_lt before b.retransmissions && not (x.field == 0) the
 
 abbrev pub reached : ℕ → Conn → Conn
 reached now c = record c { tcb = reaches now c.tcb; congestion = slowed c.tcb.retransmissions (reaches now c.tcb) c.congestion }
+
+-- where the memory for text is tight, a block forgets what it holds behind a gap
+abbrev pub pruned : Bool → Block → Block
+pruned tight b = if tight then forgetting b else b
+
+-- so the time comes at a tick
+abbrev pub ticked : Bool → ℕ → Conn → Conn
+ticked tight now c = record (reached now c) { tcb = pruned tight (reaches now c.tcb) }
 
 -- what was sent leaves the block
 unfoldable pub emptied : Conn → Conn

@@ -1,16 +1,17 @@
 -- What holds of every table, and what a segment does to others.
-use Rattle.std.specs.Prelude.{◌≡◌, ℕ, ◌≤◌, ◌⊎◌, ◌||◌, true, false, List, length, All, Contains, Option, None, Some, IfSome, option_map, if◌then◌else◌}
+use Rattle.std.specs.Prelude.{◌≡◌, ℕ, ◌≤◌, ◌⊎◌, ◌||◌, Bool, true, false, List, length, All, Contains, Option, None, Some, IfSome, option_map, if◌then◌else◌}
 use Rattle.std.specs.List.{IsDistinct}
 use Rattle.std.specs.Map.{keys_of, lookup}
+use Rattle.std.specs.Option.{option_map_or}
 use Rattle.segment_codec.specs.Refusal.{tuple_of}
 use Rattle.segment_codec.specs.declared.packet.Reply.{Reply}
 use Rattle.segment_codec.specs.declared.packet.Seg.{Seg}
 use Rattle.sq_base.specs.declared.kinds.Tuple.{Tuple}
 use Rattle.live_server.specs.Acts.{datagram_of, emptied, is_half_open, is_over, reached, receives}
 use Rattle.live_server.specs.Initial.{number_for}
-use Rattle.live_server.specs.Leaving.{is_leaving}
-use Rattle.live_server.specs.Serving.{ServerOf, heeded, heeded_text, makes_place, on_segment, on_time}
-use Rattle.live_server.specs.Table.{all_reached, tuple_eq, without_over}
+use Rattle.live_server.specs.Leaving.{is_leaving, shed_ends, without_leaving}
+use Rattle.live_server.specs.Serving.{ServerOf, heeded, heeded_text, is_tight, makes_place, on_segment, on_time, timed}
+use Rattle.live_server.specs.Table.{Conns, all_reached, tuple_eq, without_over}
 use Rattle.live_server.specs.declared.acting.Datagram.{Datagram}
 use Rattle.live_server.specs.declared.conn.Conn.{Conn}
 
@@ -58,12 +59,21 @@ abbrev pub OwnEntryGivesWay : Type 0
 OwnEntryGivesWay = (q : Tuple) (sv : ServerOf) (c : Conn) → IsTable sv → conn_of q sv ≡ Some c
     → (conn_of q (makes_place sv) ≡ Some c) ⊎ ((is_half_open c ≡ true) × Contains sv.waiting (q, c.number))
 
--- the time leaves each connection as it reached it, but for one that is over or is to leave
+-- who is neither over at a tick nor to leave
+abbrev pub staying : ℕ → ServerOf → Conns
+staying now sv = without_leaving sv.setting now (without_over (all_reached (is_tight sv) now sv.conns))
+
+-- of those the one that leaves for others
+abbrev pub is_shed : ℕ → ServerOf → Tuple → Bool
+is_shed now sv q = option_map_or (λ t. tuple_eq t q) (shed_ends sv.setting sv.turned (staying now sv)) false
+
+-- a tick leaves each connection as the time made it, but for one that is over, or is to leave, or leaves for others
 abbrev pub TimeLeaves : Type 0
 TimeLeaves = (now : ℕ) (q : Tuple) (sv : ServerOf) (c : Conn) → IsTable sv → conn_of q sv ≡ Some c
     → conn_of q (on_time now sv).server
-    ≡ (if is_over (reached now c) || is_leaving sv.setting now (length (without_over (all_reached now sv.conns))) (emptied (reached now c)) then None
-    else Some (emptied (reached now c)))
+    ≡ (if is_over (timed now sv c)
+    || (is_leaving sv.setting now (length (without_over (all_reached (is_tight sv) now sv.conns))) (emptied (timed now sv c)) || is_shed now sv q) then None
+    else Some (emptied (timed now sv c)))
 
 -- where memory was missing, the connection of two ends is gone, and every other one stays
 abbrev pub Loses : Tuple → ServerOf → ServerOf → Type 0
@@ -80,7 +90,7 @@ KeepsStart before after = (after.setting ≡ before.setting) × (after.secret �
 -- and what the time does: one connection is gone, and each other one is as it was, or as the time leaves it
 abbrev pub LosesOne : ℕ → ServerOf → ServerOf → Type 0
 LosesOne now before after = IsTable before → IsTable after × ((t : Tuple) × (conn_of t after ≡ None) × ((q : Tuple) → tuple_eq t q ≡ false
-    → (conn_of q after ≡ conn_of q before) ⊎ (conn_of q after ≡ option_map (λ c. emptied (reached now c)) (conn_of q before))))
+    → (conn_of q after ≡ conn_of q before) ⊎ (conn_of q after ≡ option_map (λ c. emptied (timed now before c)) (conn_of q before))))
 
 -- what is sent for a segment goes to its own ends
 abbrev pub AnswersItsEnds : Type 0

@@ -8,6 +8,7 @@ pub mod Acts
 pub mod Counting
 pub mod Table
 pub mod Leaving
+pub mod Candidates
 pub mod Facts
 pub mod Serving
 pub mod Isolation

@@ -9,10 +9,6 @@ frame_head = 16
 abbrev pub most_body : ℕ
 most_body = 65535
 
--- so many echo requests are answered from one tick to the next
-abbrev pub most_pings : ℕ
-most_pings = 1000
-
 -- a connection sends one challenge in so many microseconds
 abbrev pub challenge_interval : ℕ
 challenge_interval = 500000

@@ -1,20 +1,23 @@
 -- What the rules promise: of the text that all hold and of that which is sent, of challenges, of who gives way, and of the congestion window.
-use Rattle.std.specs.Prelude.{◌≡◌, ◌≢◌, ℕ, ◌+◌, ◌-◌, ◌*◌, ◌^◌, ◌<◌, ◌≤◌, min, max, false, suc, List, [], ◌∷◌, ◌++◌, length, slice_get, Some, None}
+use Rattle.std.specs.Prelude.{◌≡◌, ◌≢◌, ℕ, ◌+◌, ◌-◌, ◌*◌, ◌^◌, ◌<◌, ◌≤◌, min, max, Bool, true, false, suc, List, [], ◌∷◌, ◌++◌, length, slice_get, Some, None}
 use Rattle.std.specs.List.{AllByRecursion}
+use Rattle.std.specs.Map.{lookup}
+use Rattle.byte_queues.specs.ReceiveQueue.{front}
 use Rattle.segment_codec.specs.ControlBits.{syn}
 use Rattle.segment_codec.specs.Refusal.{tuple_of}
 use Rattle.segment_codec.specs.declared.packet.Seg.{Seg}
 use Rattle.sq_base.specs.declared.kinds.Tuple.{Tuple}
-use Rattle.tcb_machine.specs.BlockState.{Block, has, one_if}
+use Rattle.tcb_machine.specs.BlockState.{Block, has, held_in, one_if, rcv_nxt, rcv_wnd}
 use Rattle.tcb_machine.specs.Limits.{least_mss}
 use Rattle.tcb_machine.specs.Output.{output}
 use Rattle.tcb_machine.specs.TcpStep.{with_window}
 use Rattle.tcb_machine.specs.Validity.{IsValid}
-use Rattle.live_server.specs.Acts.{emptied, is_over, judged, new_conn, reached, receives}
+use Rattle.live_server.specs.Acts.{emptied, is_over, judged, new_conn, reached, receives, ticked}
 use Rattle.live_server.specs.Congestion.{eased, flight, no_congestion, seen, seen_window, timed_out}
-use Rattle.live_server.specs.Isolation.{IsTable, conn_of}
+use Rattle.live_server.specs.Isolation.{IsTable, conn_of, staying}
+use Rattle.live_server.specs.Leaving.{keeps_out, share}
 use Rattle.live_server.specs.Limits.{challenge_interval}
-use Rattle.live_server.specs.Serving.{ServerOf, heeded_text, limited, on_segment, on_time}
+use Rattle.live_server.specs.Serving.{ServerOf, heeded_text, is_tight, limited, on_segment, on_time}
 use Rattle.live_server.specs.Table.{held_by, tuple_eq}
 use Rattle.live_server.specs.declared.congestion.Congestion.{Congestion}
 use Rattle.live_server.specs.declared.conn.Conn.{Conn}
@@ -36,15 +39,25 @@ TextIsBounded = (now : ℕ) (s : Seg) (text : List ℕ) (sv : ServerOf) → sv.h
 abbrev pub TimeCountsAnew : Type 0
 TimeCountsAnew = (now : ℕ) (sv : ServerOf) → (on_time now sv).server.held ≡ held_by (on_time now sv).server.conns
 
+-- A tick takes from a connection no text in order: what it acknowledged stays acknowledged, and its window stays
+abbrev pub TickKeepsOrder : Type 0
+TickKeepsOrder = (tight : Bool) (now : ℕ) (c : Conn)
+    → (rcv_nxt (ticked tight now c).tcb ≡ rcv_nxt (reached now c).tcb) × (rcv_wnd (ticked tight now c).tcb ≡ rcv_wnd (reached now c).tcb)
+
+-- and where it is tight, none holds text behind a gap any more
+abbrev pub TightHoldsOrder : Type 0
+TightHoldsOrder = (now : ℕ) (sv : ServerOf) (q : Tuple) (c : Conn) → IsTable sv → is_tight sv ≡ true → conn_of q (on_time now sv).server ≡ Some c
+    → held_in c.tcb ≡ front c.tcb.recv.got + length c.tcb.out
+
 -- ---- challenges
--- what comes to one connection: a segment, with the initial number for one that opens, or the time alone
+-- what comes to one connection: a segment, with the initial number for one that opens, or the time at a tick
 pub data Coming : Type 0 where
   segment : ℕ → ℕ → Seg → List ℕ → Coming
-  time : ℕ → Coming
+  time : Bool → ℕ → Coming
 
 abbrev pub came : Coming → Conn → Conn
 came (segment now iss s text) c = emptied (receives now iss s text (emptied (reached now c)))
-came (time now) c = emptied (reached now c)
+came (time tight now) c = emptied (ticked tight now c)
 
 -- whether the connection is challenged then, and when
 abbrev pub when_challenged : ℕ → Judged → List ℕ
@@ -55,7 +68,7 @@ when_challenged now Late = []
 
 abbrev pub challenge_at : Coming → Conn → List ℕ
 challenge_at (segment now iss s text) c = when_challenged now (judged now s text (emptied (reached now c)))
-challenge_at (time now) c = []
+challenge_at (time tight now) c = []
 
 -- the moments of all its challenges
 abbrev pub challenges : List Coming → Conn → List ℕ
@@ -88,6 +101,35 @@ pub record HasLeft (now : ℕ) (s : Seg) (text : List ℕ) (sv : ServerOf) (q : 
 abbrev pub OneGivesWay : Type 0
 OneGivesWay = (now : ℕ) (s : Seg) (text : List ℕ) (sv : ServerOf) (q r : Tuple) → IsTable sv → FewWait sv → HasLeft now s text sv q → HasLeft now s text sv r
     → q ≡ r
+
+-- ---- who leaves for others
+-- a connection leaves at a tick that by every other rule would stay
+pub record IsShed (now : ℕ) (sv : ServerOf) (q : Tuple) : Type 0 where
+  pub stayed : lookup (tuple_eq q) (staying now sv) ≢ None
+  pub gone : conn_of q (on_time now sv).server ≡ None
+
+-- there is one at most
+abbrev pub OneIsShed : Type 0
+OneIsShed = (now : ℕ) (sv : ServerOf) (q r : Tuple) → IsTable sv → IsShed now sv q → IsShed now sv r → q ≡ r
+
+-- The table was full, the address of this one has more than a quarter of it, and somebody of another address was turned away. No other address
+-- of which that is so has more, and none of its connections was silent for longer
+pub record IsFair (now : ℕ) (sv : ServerOf) (q : Tuple) : Type 0 where
+  pub full : length (staying now sv) ≡ sv.setting.places
+  pub quarter : sv.setting.places < 4 * share q.client.0 (staying now sv)
+  pub kept_out : keeps_out sv.turned q.client.0 ≡ true
+  pub most : (address : ℕ) → keeps_out sv.turned address ≡ true → share address (staying now sv) ≤ share q.client.0 (staying now sv)
+  pub silent : (r : Tuple) (c d : Conn) → lookup (tuple_eq q) (staying now sv) ≡ Some c → lookup (tuple_eq r) (staying now sv) ≡ Some d
+      → r.client.0 ≡ q.client.0 → c.heard ≤ d.heard
+
+abbrev pub ShedIsFair : Type 0
+ShedIsFair = (now : ℕ) (sv : ServerOf) (q : Tuple) → IsTable sv → IsShed now sv q → IsFair now sv q
+
+-- One address can't keep others out: where it has more than a quarter of the places, and somebody of another one was turned away, a place is free
+-- behind the tick
+abbrev pub PlaceIsFreed : Type 0
+PlaceIsFreed = (now address : ℕ) (sv : ServerOf) → IsTable sv → keeps_out sv.turned address ≡ true → sv.setting.places < 4 * share address (staying now sv)
+    → length (on_time now sv).server.conns < sv.setting.places
 
 -- ---- congestion
 -- ssthresh is two segments at least (RFC 5681, 3.1, (4)): at first, and behind each segment and each timeout
@@ -135,4 +177,4 @@ abbrev pub SegmentKeepsShort : Type 0
 SegmentKeepsShort = (now iss : ℕ) (s : Seg) (text : List ℕ) (c : Conn) → IsValid c.tcb → IsShort c → IsShort (receives now iss (limited c.most s) text c)
 
 abbrev pub TimeKeepsShort : Type 0
-TimeKeepsShort = (now : ℕ) (c : Conn) → IsValid c.tcb → IsShort c → IsShort (reached now c)
+TimeKeepsShort = (tight : Bool) (now : ℕ) (c : Conn) → IsValid c.tcb → IsShort c → IsShort (ticked tight now c)

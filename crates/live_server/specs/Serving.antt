@@ -1,5 +1,5 @@
 -- What a server makes of a datagram and of the time.
-use Rattle.std.specs.Prelude.{ℕ, ◌+◌, ◌-◌, ◌^◌, ◌==◌, min, nat_le, nat_lt, ◌&&◌, not, bit_and, Bool, true, Option, None, Some, unwrap_or, List}
+use Rattle.std.specs.Prelude.{ℕ, ◌+◌, ◌-◌, ◌/◌, ◌^◌, ◌==◌, min, nat_le, nat_lt, ◌&&◌, not, bit_and, Bool, true, Option, None, Some, unwrap_or, List}
 use Rattle.std.specs.Prelude.{[], ◌∷◌, ◌++◌, length, if◌then◌else◌}
 use Rattle.std.specs.List.{flat_map}
 use Rattle.std.specs.Option.{option_map_or}
@@ -12,31 +12,33 @@ use Rattle.segment_codec.specs.declared.packet.Seg.{Seg}
 use Rattle.tcb_machine.specs.Limits.{default_mss}
 use Rattle.sq_base.specs.declared.kinds.Link.TheVariants.{RawIp}
 use Rattle.sq_base.specs.declared.kinds.Tuple.{Tuple}
-use Rattle.live_server.specs.Acts.{datagram_of, emptied, is_half_open, is_over, judged, new_conn, reached, receives, sent_by}
+use Rattle.live_server.specs.Acts.{datagram_of, emptied, is_half_open, is_over, judged, new_conn, reached, receives, sent_by, ticked}
 use Rattle.icmp_codec.specs.EchoReply.{pong_bytes}
 use Rattle.icmp_codec.specs.EchoRequest.{PingOf, ping_in}
 use Rattle.live_server.specs.Addresses.{is_for_us, is_to_us}
 use Rattle.live_server.specs.Counting.{counting_judged, more}
 use Rattle.live_server.specs.Initial.{number_for}
-use Rattle.live_server.specs.Leaving.{without_leaving}
-use Rattle.live_server.specs.Limits.{most_pings}
+use Rattle.live_server.specs.Leaving.{and_turned, without_leaving, without_shed}
 use Rattle.live_server.specs.Services.{is_served_at, service_at}
 use Rattle.live_server.specs.Table.{Conns, all_reached, conn_at, held_by, place_of, replaced, without, without_over}
 use Rattle.live_server.specs.declared.acting.Datagram.{Datagram}
 use Rattle.live_server.specs.declared.conn.Conn.{Conn}
 use Rattle.live_server.specs.declared.conn.Judged.{Judged}
 use Rattle.live_server.specs.declared.counts.Counts.{Counts}
+use Rattle.live_server.specs.declared.crowding.TurnedAway.{TurnedAway}
+use Rattle.live_server.specs.declared.crowding.TurnedAway.TheVariants.{Nobody}
 use Rattle.live_server.specs.declared.rules.Rules.{Rules}
 use Rattle.live_server.specs.declared.setting.Setting.{Setting}
 
 -- the connections; the ends and the number of those that were opened last, which may be half open, by age; how many bytes all held when
--- the time last came to them, with the text that came since; how many echo requests were answered since then; what it was started with;
--- what it met
+-- the time last came to them, with the text that came since; how many echo requests were answered since then, and who was turned away;
+-- what it was started with; what it met
 pub record ServerOf : Type 0 where
   pub conns : Conns
   pub waiting : List (Tuple × ℕ)
   pub held : ℕ
   pub pings : ℕ
+  pub turned : TurnedAway
   pub setting : Setting
   pub secret : List ℕ
   pub counts : Counts
@@ -48,6 +50,7 @@ server_of conns r = record {
   waiting = r.waiting.items;
   held = r.held;
   pings = r.pings;
+  turned = r.turned;
   setting = r.setting;
   secret = r.secret.0;
   counts = r.counts;
@@ -125,11 +128,12 @@ takes_free t c sv = record {
 }
 
 -- or is answered by nothing
-abbrev pub turns_away : ServerOf → Outcome
-turns_away sv = sends_nothing (record sv { counts = record sv.counts { turned_away = more 1 sv.counts.turned_away } })
+abbrev pub turns_away : Tuple → ServerOf → Outcome
+turns_away t sv =
+    sends_nothing (record sv { turned = and_turned t.client sv.turned; counts = record sv.counts { turned_away = more 1 sv.counts.turned_away } })
 
 unfoldable pub takes_place : Tuple → Conn → ServerOf → Outcome
-takes_place t c sv = if has_place sv then takes_free t c sv else turns_away sv
+takes_place t c sv = if has_place sv then takes_free t c sv else turns_away t sv
 
 -- what it sent goes out, and nothing else happens
 abbrev pub sends_of : Tuple → Conn → ServerOf → Outcome
@@ -209,7 +213,7 @@ echoes now p sv = record {
 
 -- where it is for us, and not many were since the time last came
 unfoldable pub is_echoed : PingOf → ServerOf → Bool
-is_echoed p sv = is_to_us sv.setting p.src p.dst && nat_lt sv.pings most_pings
+is_echoed p sv = is_to_us sv.setting p.src p.dst && nat_lt sv.pings sv.setting.pings
 
 -- another protocol's datagram
 unfoldable pub on_other : ℕ → Option PingOf → ServerOf → Outcome
@@ -228,12 +232,20 @@ on_packet now body packet.BadSum sv = passes_over sv
 unfoldable pub on_datagram : ℕ → List ℕ → ServerOf → Outcome
 on_datagram now body sv = on_packet now body (packet_in RawIp body true) sv
 
+-- three quarters of the text that all may hold are held
+unfoldable pub is_tight : ServerOf → Bool
+is_tight sv = nat_le (sv.setting.bytes - sv.setting.bytes / 4) sv.held
+
+-- what a tick makes of a connection
+abbrev pub timed : ℕ → ServerOf → Conn → Conn
+timed now sv c = ticked (is_tight sv) now c
+
 -- the time comes to every connection, and who is to leave does
 unfoldable pub on_time : ℕ → ServerOf → Outcome
 on_time now sv =
-    let here = without_over (all_reached now sv.conns) in
-    let kept = without_leaving sv.setting now here in
+    let here = without_over (all_reached (is_tight sv) now sv.conns) in
+    let kept = without_shed sv.setting sv.turned (without_leaving sv.setting now here) in
     record {
-      server = record sv { conns = kept; held = held_by kept; pings = 0; counts = record sv.counts { left = more (length here - length kept) sv.counts.left } };
-      sent = flat_map (λ c. sent_by c.0 (reached now c.1)) sv.conns;
+      server = record sv { conns = kept; held = held_by kept; pings = 0; turned = Nobody; counts = record sv.counts { left = more (length here - length kept) sv.counts.left } };
+      sent = flat_map (λ c. sent_by c.0 (timed now sv c.1)) sv.conns;
     }

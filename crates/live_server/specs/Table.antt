@@ -5,7 +5,7 @@ use Rattle.std.specs.Map.{keys_of, lookup}
 use Rattle.std.specs.Option.{option_map_or}
 use Rattle.sq_base.specs.declared.kinds.Tuple.{Tuple}
 use Rattle.tcb_machine.specs.BlockState.{held_in}
-use Rattle.live_server.specs.Acts.{emptied, is_over, no_conn, reached}
+use Rattle.live_server.specs.Acts.{emptied, is_over, no_conn, ticked}
 use Rattle.indexmap.specs.IndexMap.{set_value_at}
 use Rattle.live_server.specs.declared.conn.Conn.{Conn}
 
@@ -39,13 +39,13 @@ settled place cs = if is_over (conn_at place cs) then without place cs else cs
 unfoldable pub replaced : ℕ → Conn → Conns → Conns
 replaced place c cs = settled place (set_value_at cs place (emptied c))
 
--- the time comes to each
-abbrev pub all_reached : ℕ → Conns → Conns
-all_reached now cs = map (λ c. (c.0, emptied (reached now c.1))) cs
+-- the time comes to each at a tick
+abbrev pub all_reached : Bool → ℕ → Conns → Conns
+all_reached tight now cs = map (λ c. (c.0, emptied (ticked tight now c.1))) cs
 
 -- and to the first so many
-abbrev pub reached_until : ℕ → ℕ → Conns → Conns
-reached_until now i cs = all_reached now (take i cs) ++ drop i cs
+abbrev pub reached_until : Bool → ℕ → ℕ → Conns → Conns
+reached_until tight now i cs = all_reached tight now (take i cs) ++ drop i cs
 
 -- those that are over leave
 unfoldable pub without_over : Conns → Conns

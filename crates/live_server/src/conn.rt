@@ -2,7 +2,7 @@
 
 ghost use Rattle.std.specs.Prelude.{◌≡◌, ◌++◌, ◌≤◌, IfOk, OnOk};
 ghost use Rattle.live_server.specs.Acts.{after, emptied, has_room, is_half_open, is_idle, is_outside, is_over, judged, meets};
-ghost use Rattle.live_server.specs.Acts.{new_conn, oldest_ack, provokes, reached, receives, renewed, resent, sent_by, taken, takes};
+ghost use Rattle.live_server.specs.Acts.{new_conn, oldest_ack, provokes, pruned, reached, receives, renewed, resent, sent_by, taken, takes, ticked};
 ghost use Rattle.live_server.specs.Facts.{facts_of};
 ghost use Rattle.live_server.specs.Leaving.{is_given_up};
 ghost use Rattle.tcb_machine.specs.TcpStep.{is_time_wait};
@@ -243,7 +243,7 @@ impl Conn {
     }
 
     /// The time comes to the block, and what it sends leaves it. After an error nothing more is promised of the connection.
-    pub fn time(
+    fn time(
         &mut self,
         alloc: Global,
         now: u64,
@@ -255,6 +255,25 @@ impl Conn {
         ensures sent { OnOk result (out.new.items ≡ out.old.items ++ sent_by tuple.now (reached now self.old)) }
     {
         self.reach(alloc, now)?;
+        self.send(alloc, tuple, out)
+    }
+
+    /// The same at a tick: where the memory for text is tight, what the block holds behind a gap is forgotten. After an error nothing more
+    /// is promised of the connection.
+    pub fn tick(
+        &mut self,
+        alloc: Global,
+        tight: bool,
+        now: u64,
+        tuple: &Tuple,
+        out: &mut Vec<Datagram>,
+    ) -> Result<(), AllocError>
+        requires { now ≤ last_time }
+        ensures conn { OnOk result (self.new ≡ emptied (ticked tight now self.old)) }
+        ensures sent { OnOk result (out.new.items ≡ out.old.items ++ sent_by tuple.now (ticked tight now self.old)) }
+    {
+        self.reach(alloc, now)?;
+        prune(&mut self.tcb, tight);
         self.send(alloc, tuple, out)
     }
 
@@ -303,6 +322,15 @@ impl Conn {
         }
         let judged = self.segment(alloc, now, iss, seg, text, tuple, out)?;
         Ok(Met::Judged(judged))
+    }
+}
+
+/// Where the memory for text is tight, a block forgets what it holds behind a gap.
+fn prune(tcb: &mut Tcb, tight: bool)
+    ensures { tcb.new ≡ pruned tight tcb.old }
+{
+    if tight {
+        tcb.forget_ahead();
     }
 }
 

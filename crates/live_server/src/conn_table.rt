@@ -1,11 +1,11 @@
 //! What the rules of a server ask of the table that keeps its connections.
 
-ghost use Rattle.std.specs.Prelude.{◌≡◌, ℕ, List, ◌++◌, ◌<◌, ◌≤◌, [], ◌∷◌, length, map, Some, IfOk, OnErr, OnOk};
+ghost use Rattle.std.specs.Prelude.{◌≡◌, ℕ, Bool, List, ◌++◌, ◌<◌, ◌≤◌, [], ◌∷◌, length, map, option_map, slice_get, Some, IfOk, OnErr, OnOk};
 ghost use Rattle.std.specs.List.{flat_map};
 ghost use Rattle.std.specs.Map.{keys_of};
 ghost use Rattle.tcb_machine.specs.Limits.{last_time};
-ghost use Rattle.live_server.specs.Acts.{emptied, meets, reached, sent_by};
-ghost use Rattle.live_server.specs.Leaving.{without_leaving};
+ghost use Rattle.live_server.specs.Acts.{emptied, meets, sent_by, ticked};
+ghost use Rattle.live_server.specs.Leaving.{peer_of, without_leaving};
 ghost use Rattle.live_server.specs.Serving.{is_waiting};
 ghost use Rattle.live_server.specs.Table.{Conns, all_reached, conn_at, held_by, place_of, replaced, without, without_over, IsNew};
 ghost use Rattle.live_server.specs.Told.{Told};
@@ -14,6 +14,7 @@ ghost use Rattle.live_server.specs.declared.conn.Met.TheVariants.{Gone};
 
 use crate::acting::Datagram;
 use crate::conn::{Conn, Met};
+use crate::crowding::Peer;
 use crate::setting::Setting;
 use segment_codec::Seg;
 use sq_base::Tuple;
@@ -28,8 +29,8 @@ pub trait ConnTable {
     /// What holds between two calls.
     ghost good: { Self → Type 0 };
 
-    /// What a time leaves where memory was missing, of the connections that there were.
-    ghost spoils: { ℕ → Conns → Conns → Type 0 };
+    /// What a tick leaves where memory was missing, of the connections that there were.
+    ghost spoils: { Bool → ℕ → Conns → Conns → Type 0 };
 
     /// What the table's connections were told between two moments, one after another.
     ghost tells: { Self → List Told → Self → Type 0 };
@@ -48,6 +49,12 @@ pub trait ConnTable {
     fn is_waiting_at(&self, place: usize, number: u64) -> bool
         requires good { good self.now }
         ensures { result ≡ is_waiting number (conn_at place (conns self.now)) };
+
+    /// Whose the connection at a place is, and when something came from it last.
+    fn peer_at(&self, place: usize) -> Peer
+        requires good { good self.now }
+        requires place { place < length (conns self.now) }
+        ensures { Some result ≡ option_map peer_of (slice_get (conns self.now) place) };
 
     /// How many bytes all hold.
     fn held(&self) -> u64
@@ -97,20 +104,22 @@ pub trait ConnTable {
         ensures gone { IfOk result (λ m. m ≡ Gone → IsNew tuple.now (conns self.new)) }
         ensures lost { OnErr result (conns self.new ≡ without place (conns self.old)) };
 
-    /// The time comes to each connection in turn. What is sent goes behind the datagrams that are there. Who is over stays for now.
+    /// The time comes to each connection in turn, which forgets text behind a gap where memory is tight. What is sent goes behind the datagrams
+    /// that are there. Who is over stays for now.
     fn reach_all(
         &mut self,
         alloc: Global,
+        tight: bool,
         now: u64,
         out: &mut Vec<Datagram>,
     ) -> Result<(), AllocError>
         requires good { good self.old }
         requires time { now ≤ last_time }
         ensures good { good self.new }
-        ensures table { OnOk result (conns self.new ≡ all_reached now (conns self.old)) }
-        ensures sent { OnOk result (out.new.items ≡ out.old.items ++ flat_map (λ c. sent_by c.0 (reached now c.1)) (conns self.old)) }
+        ensures table { OnOk result (conns self.new ≡ all_reached tight now (conns self.old)) }
+        ensures sent { OnOk result (out.new.items ≡ out.old.items ++ flat_map (λ c. sent_by c.0 (ticked tight now c.1)) (conns self.old)) }
         ensures told { OnOk result (tells self.old (map hears (keys_of (conns self.old))) self.new) }
-        ensures lost { OnErr result (spoils now (conns self.old) (conns self.new)) };
+        ensures lost { OnErr result (spoils tight now (conns self.old) (conns self.new)) };
 
     /// All leave that are over.
     fn drop_over(&mut self, alloc: Global)

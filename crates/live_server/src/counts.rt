@@ -22,7 +22,7 @@ pub struct Counts {
     pub turned_away: u64,
     /// Half-open connections that gave way to later ones.
     pub gave_way: u64,
-    /// Connections that left at a tick, though nobody ended them: half open or half closed too long, or crowded out.
+    /// Connections that left at a tick, though nobody ended them: half open or half closed too long, crowded out, or for somebody else.
     pub left: u64,
     /// Challenges that were sent (RFC 5961).
     pub challenges: u64,

@@ -4,9 +4,9 @@ ghost use Rattle.std.specs.Prelude.{◌≡◌, codes};
 ghost use Rattle.live_server.specs.DaytimeText.{date_of, daytime_text};
 ghost use Rattle.live_server.specs.Frames.{PiecesJoin};
 ghost use Rattle.live_server.specs.Isolation.{AnswersItsEnds, OthersStay, OwnConnActs, OwnEntryGivesWay, SegmentKeepsTable, TimeKeepsTable, TimeLeaves};
-ghost use Rattle.live_server.specs.Promises.{ChallengesAreApart, FirstIsWide, OneGivesWay, OutputIsBounded, SegmentKeepsFew, SegmentKeepsWide, ShownIsKept};
+ghost use Rattle.live_server.specs.Promises.{ChallengesAreApart, FirstIsWide, OneGivesWay, OneIsShed, PlaceIsFreed, OutputIsBounded, SegmentKeepsFew, SegmentKeepsWide, ShedIsFair, ShownIsKept};
 ghost use Rattle.live_server.specs.Promises.{NewIsShort, SegmentKeepsShort, ShownIsNarrow, TextIsBounded, TextIsCounted, TimeCountsAnew, TimeKeepsFew};
-ghost use Rattle.live_server.specs.Promises.{TimeKeepsShort, TimeoutIsWide};
+ghost use Rattle.live_server.specs.Promises.{TickKeepsOrder, TightHoldsOrder, TimeKeepsShort, TimeoutIsWide};
 
 /// Each connection stands once in the table, and there are no more than there are places.
 pub fn the_table_is_bounded()
@@ -30,7 +30,7 @@ pub fn own_entry_gives_way()
     ensures { OwnEntryGivesWay }
 {}
 
-/// The time ends no connection but one that is over, half open or half closed too long, or crowded out.
+/// The time ends no connection but one that is over, half open or half closed too long, crowded out, or the one that leaves for others.
 pub fn only_these_leave_in_time()
     ensures { TimeLeaves }
 {}
@@ -64,6 +64,13 @@ pub fn text_is_bounded()
     ensures time { TimeCountsAnew }
 {}
 
+/// A tick takes no text in order from a connection: what it acknowledged stays so, and its window stays. And where three quarters of the
+/// text that all may hold are held, none holds text behind a gap any more.
+pub fn text_behind_gaps_gives_way()
+    ensures order { TickKeepsOrder }
+    ensures tight { TightHoldsOrder }
+{}
+
 /// Two challenges of one connection are half a second apart.
 pub fn challenges_are_apart()
     ensures { ChallengesAreApart }
@@ -74,6 +81,14 @@ pub fn one_gives_way()
     ensures one { OneGivesWay }
     ensures segment { SegmentKeepsFew }
     ensures time { TimeKeepsFew }
+{}
+
+/// At a tick one connection at most leaves for others, from a full table, of an address that has more than a quarter of it; and one does where
+/// such an address keeps others out.
+pub fn one_leaves_for_others()
+    ensures one { OneIsShed }
+    ensures fair { ShedIsFair }
+    ensures freed { PlaceIsFreed }
 {}
 
 /// The threshold of congestion control is two segments at least, and a block is shown no window that is wider than the congestion window,

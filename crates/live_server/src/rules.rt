@@ -8,9 +8,10 @@ ghost use Rattle.sq_base.specs.declared.kinds.Link.TheVariants.{RawIp};
 ghost use Rattle.sq_base.specs.declared.kinds.Tuple.{Tuple};
 ghost use Rattle.tcb_machine.specs.Limits.{last_time};
 ghost use Rattle.live_server.specs.Initial.{number_for};
+ghost use Rattle.live_server.specs.Leaving.{without_shed};
 ghost use Rattle.live_server.specs.Isolation.{Costs, KeepsStart, Loses};
 ghost use Rattle.icmp_codec.specs.EchoRequest.{ping_in};
-ghost use Rattle.live_server.specs.Serving.{addressed, arrives, echoes, fits, has_place, limited, is_echoed, makes_place, on_datagram, on_other, on_segment, passes_over};
+ghost use Rattle.live_server.specs.Serving.{addressed, arrives, echoes, fits, has_place, limited, is_echoed, is_tight, makes_place, on_datagram, on_other, on_segment, passes_over};
 ghost use Rattle.live_server.specs.Serving.{on_time, opens, refused, server_of, takes_place, without_text, yields};
 ghost use Rattle.live_server.specs.Table.{place_of, IsNew};
 ghost use Rattle.live_server.specs.Told.{told_addressed, told_arriving, told_datagram, told_opening, told_segment, told_taking, told_time};
@@ -20,6 +21,7 @@ use crate::addresses::{is_for_us, is_to_us};
 use crate::conn::{Conn, Met};
 use crate::conn_table::ConnTable;
 use crate::counts::Counts;
+use crate::crowding::{TurnedAway, shed_place};
 use crate::initial::{Secret, initial_number};
 use crate::ports::{is_served_at, service_at};
 use crate::setting::Setting;
@@ -29,9 +31,6 @@ use sq_base::{Link, Tuple};
 use std::alloc::{AllocError, Global};
 use std::collections::VecDeque;
 use tcb_machine::DEFAULT_MSS;
-
-/// How many echo requests are answered from one tick to the next.
-const MOST_PINGS: u32 = 1000;
 
 /// The rules over a table of connections, and what they keep beside it.
 #[derive(Drop)]
@@ -43,6 +42,8 @@ pub struct Rules<T> {
     held: u64,
     /// How many echo requests were answered since the time last came.
     pings: u32,
+    /// Who found no place since then.
+    turned: TurnedAway,
     setting: Setting,
     secret: Secret,
     counts: Counts,
@@ -50,6 +51,7 @@ pub struct Rules<T> {
 
 impl<T: ConnTable> Rules<T> {
     ghost use Rattle.live_server.specs.Counting.{no_counts};
+    ghost use Rattle.live_server.specs.declared.crowding.TurnedAway.TheVariants.{Nobody};
 
     /// The rules over a table. They take no memory.
     pub fn over(alloc: Global, table: T, setting: Setting, secret: Secret) -> Rules<T>
@@ -59,6 +61,7 @@ impl<T: ConnTable> Rules<T> {
           waiting = [];
           held = 0;
           pings = 0;
+          turned = Nobody;
           setting = setting;
           secret = secret.0;
           counts = no_counts;
@@ -69,6 +72,7 @@ impl<T: ConnTable> Rules<T> {
             waiting: VecDeque::new(alloc),
             held: 0,
             pings: 0,
+            turned: TurnedAway::Nobody,
             setting,
             secret,
             counts: Counts::default(),
@@ -157,7 +161,7 @@ impl<T: ConnTable> Rules<T> {
     fn is_echoed(&self, ping: &Ping<'_>) -> bool
         ensures { result ≡ is_echoed ping.now (server_of T.conns self.now) }
     {
-        is_to_us(&self.setting, ping.src(), ping.dst()) && self.pings < MOST_PINGS
+        is_to_us(&self.setting, ping.src(), ping.dst()) && self.pings < self.setting.pings
     }
 
     /// An echo request is answered. After an error nothing has changed.
@@ -177,6 +181,8 @@ impl<T: ConnTable> Rules<T> {
     {
         let bytes = pong(alloc, ping)?;
         out.push(Datagram { at: now, bytes })?;
+        let most = self.setting.pings;
+        prove!(self.pings < most);
         self.pings += 1;
         self.counts.pinged = self.counts.pinged.wrapping_add(1);
         Ok(())
@@ -190,9 +196,10 @@ impl<T: ConnTable> Rules<T> {
         self.counts.passed_over = self.counts.passed_over.wrapping_add(1);
     }
 
-    /// The time comes to every connection, and who is to leave does: half open for three minutes, silent in FIN-WAIT-2 for one, in
-    /// TIME-WAIT where three quarters of the places are taken, or idle where all are. What is sent goes behind the datagrams that are
-    /// there, connection by connection.
+    /// The time comes to every connection; where three quarters of the text that all may hold are held, each forgets what it holds behind a
+    /// gap, which its peer sends again. Who is to leave does: half open for three minutes, silent in FIN-WAIT-2 for one, in
+    /// TIME-WAIT where three quarters of the places are taken, or idle where all are. Where the table is still full, one may leave for
+    /// somebody who was turned away. What is sent goes behind the datagrams that are there, connection by connection.
     /// An error says that memory was missing: then only the table changed, as it says itself.
     #[tactic(auto, unfolding(crate::specs::Serving::on_time))]
     pub fn tick(
@@ -207,18 +214,50 @@ impl<T: ConnTable> Rules<T> {
         ensures server { OnOk result (server_of T.conns self.new ≡ (on_time now (server_of T.conns self.old)).server) }
         ensures sent { OnOk result (out.new.items ≡ out.old.items ++ (on_time now (server_of T.conns self.old)).sent) }
         ensures told { OnOk result (T.tells self.old.table (told_time (server_of T.conns self.old)) self.new.table) }
-        ensures lost { OnErr result (T.spoils now (T.conns self.old.table) (T.conns self.new.table)) }
+        ensures lost { OnErr result (T.spoils (is_tight (server_of T.conns self.old)) now (T.conns self.old.table) (T.conns self.new.table)) }
         ensures rest { OnErr result (server_of T.conns self.new ≡ record (server_of T.conns self.old) { conns = T.conns self.new.table }) }
     {
-        self.table.reach_all(alloc, now, out)?;
+        let tight = self.is_tight();
+        self.table.reach_all(alloc, tight, now, out)?;
         self.table.drop_over(alloc);
         let here = self.table.len();
         self.table.drop_leaving(alloc, &self.setting, now);
+        self.shed(alloc);
         let left = (here - self.table.len()) as u64;
         self.counts.left = self.counts.left.wrapping_add(left);
         self.held = self.table.held();
         self.pings = 0;
+        self.turned = TurnedAway::Nobody;
         Ok(())
+    }
+
+    /// Whether three quarters of the text that all may hold are held.
+    #[tactic(auto, unfolding(crate::specs::Serving::is_tight))]
+    fn is_tight(&self) -> bool
+        ensures { result ≡ is_tight (server_of T.conns self.now) }
+    {
+        self.held >= self.setting.bytes - self.setting.bytes / 4
+    }
+
+    /// One connection leaves a full table for somebody who was turned away, where another address has more than a quarter of it: of the
+    /// address that has the most, the one that was silent the longest.
+    #[tactic(auto, unfolding(crate::specs::Leaving::without_shed))]
+    fn shed(&mut self, alloc: Global)
+        requires good { T.good self.old.table }
+        ensures good { T.good self.new.table }
+        ensures table { T.conns self.new.table ≡ without_shed self.old.setting self.old.turned (T.conns self.old.table) }
+        ensures rest { server_of T.conns self.new ≡ record (server_of T.conns self.old) { conns = T.conns self.new.table } }
+        ensures told { T.tells self.old.table [] self.new.table }
+    {
+        if let TurnedAway::Nobody = self.turned {
+            return;
+        }
+        if self.table.len() < self.setting.places {
+            return;
+        }
+        if let Some(place) = shed_place(&self.table, self.turned) {
+            self.table.leave(alloc, place);
+        }
     }
 
     /// A segment with right sums.
@@ -395,6 +434,7 @@ impl<T: ConnTable> Rules<T> {
         ensures start { OnErr result (KeepsStart (server_of T.conns self.old) (server_of T.conns self.new)) }
     {
         if !self.has_place() {
+            self.turned = self.turned.and(tuple.client);
             self.counts.turned_away = self.counts.turned_away.wrapping_add(1);
             return Ok(());
         }

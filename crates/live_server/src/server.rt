@@ -47,11 +47,12 @@ impl Model for Server {
 
 impl Server {
     ghost use Rattle.live_server.specs.Counting.{no_counts};
+    ghost use Rattle.live_server.specs.declared.crowding.TurnedAway.TheVariants.{Nobody};
     ghost use Rattle.live_server.specs.Serving.{server_of};
 
     /// A server with no connection. It takes no memory.
     pub fn new(alloc: Global, setting: Setting, secret: Secret) -> Server
-        ensures { result ≡ record { conns = []; waiting = []; held = 0; pings = 0; setting = setting; secret = secret.0; counts = no_counts } }
+        ensures { result ≡ record { conns = []; waiting = []; held = 0; pings = 0; turned = Nobody; setting = setting; secret = secret.0; counts = no_counts } }
     {
         Server {
             rules: Rules::over(alloc, IndexMap::new(alloc), setting, secret),
@@ -99,9 +100,10 @@ impl Server {
         self.rules.datagram(alloc, now, body, out)
     }
 
-    /// The time comes to every connection, and who is to leave does: half open for three minutes, silent in FIN-WAIT-2 for one, in
-    /// TIME-WAIT where three quarters of the places are taken, or idle where all are. What is sent goes behind the datagrams that are
-    /// there, connection by connection.
+    /// The time comes to every connection; where three quarters of the text that all may hold are held, each forgets what it holds behind a
+    /// gap, which its peer sends again. Who is to leave does: half open for three minutes, silent in FIN-WAIT-2 for one, in
+    /// TIME-WAIT where three quarters of the places are taken, or idle where all are. Where the table is still full, one may leave for
+    /// somebody who was turned away. What is sent goes behind the datagrams that are there, connection by connection.
     /// An error says that memory was missing: then one connection is gone, and to those behind it the time didn't come.
     pub fn tick(
         &mut self,

@@ -22,6 +22,8 @@ pub struct Setting {
     pub bytes: u64,
     /// How many bytes of text a segment has at most that is sent, or 64 where that is more; no longer MSS is announced.
     pub segment: u16,
+    /// How many echo requests are answered from one tick to the next.
+    pub pings: u32,
     /// At which ports it has which service.
     pub ports: Ports,
     /// The pages that it hands out, where it has any.
@@ -40,6 +42,7 @@ impl Setting {
             idle: self.idle,
             bytes: self.bytes,
             segment: self.segment,
+            pings: self.pings,
             ports: self.ports,
             site: share(&self.site)?,
         })

@@ -1,11 +1,11 @@
 //! The table of one thread: a map in order, and who leaves it.
 
-ghost use Rattle.std.specs.Prelude.{◌≡◌, ℕ, ◌++◌, ◌<◌, ◌≤◌, length, true, Some, IfOk, OnErr, OnOk};
+ghost use Rattle.std.specs.Prelude.{◌≡◌, ℕ, ◌++◌, ◌<◌, ◌≤◌, length, option_map, slice_get, true, Some, IfOk, OnErr, OnOk};
 ghost use Rattle.std.specs.List.{flat_map};
 ghost use Rattle.tcb_machine.specs.BlockState.{held_in};
 ghost use Rattle.tcb_machine.specs.Limits.{last_time};
-ghost use Rattle.live_server.specs.Acts.{is_over, meets, reached, sent_by};
-ghost use Rattle.live_server.specs.Leaving.{without_leaving};
+ghost use Rattle.live_server.specs.Acts.{is_over, meets, sent_by, ticked};
+ghost use Rattle.live_server.specs.Leaving.{peer_of, without_leaving};
 ghost use Rattle.live_server.specs.Serving.{is_waiting};
 ghost use Rattle.live_server.specs.Table.{all_reached, conn_at, held_by, place_of, reached_until, replaced, settled, without, without_over, IsNew};
 ghost use Rattle.live_server.specs.declared.conn.Met.TheVariants.{Gone};
@@ -14,6 +14,7 @@ ghost use Rattle.sq_base.specs.declared.kinds.Tuple.{Tuple};
 use crate::acting::Datagram;
 use crate::conn::{Conn, Met};
 use crate::conn_table::ConnTable;
+use crate::crowding::Peer;
 use crate::setting::Setting;
 use indexmap::IndexMap;
 use segment_codec::Seg;
@@ -32,7 +33,7 @@ impl ConnTable for Table {
     ghost good = { λ _. Unit {0} };
 
     // The connection at which memory was missing left, and those behind it are as they were.
-    ghost spoils = { λ now was is. (i : ℕ) × (i < length was) × (is ≡ without i (reached_until now i was)) };
+    ghost spoils = { λ tight now was is. (i : ℕ) × (i < length was) × (is ≡ without i (reached_until tight now i was)) };
 
     // A map alone tells nobody.
     ghost tells = { λ _ _ _. Unit {0} };
@@ -47,6 +48,10 @@ impl ConnTable for Table {
 
     fn is_waiting_at(&self, place: usize, number: u64) -> bool {
         is_waiting_at(self, place, number)
+    }
+
+    fn peer_at(&self, place: usize) -> Peer {
+        peer_at(self, place)
     }
 
     fn held(&self) -> u64 {
@@ -79,10 +84,11 @@ impl ConnTable for Table {
     fn reach_all(
         &mut self,
         alloc: Global,
+        tight: bool,
         now: u64,
         out: &mut Vec<Datagram>,
     ) -> Result<(), AllocError> {
-        reach_all(self, alloc, now, out)
+        reach_all(self, alloc, tight, now, out)
     }
 
     fn drop_over(&mut self, alloc: Global) {
@@ -137,6 +143,20 @@ fn is_waiting_at(table: &Table, place: usize, number: u64) -> bool
     }
 }
 
+/// Whose the connection at a place is, and when something came from it last.
+fn peer_at(table: &Table, place: usize) -> Peer
+    requires { place < length table.now.entries }
+    ensures { Some result ≡ option_map peer_of (slice_get table.now.entries place) }
+{
+    let Some((tuple, conn)) = table.get_index(place) else {
+        unreachable!()
+    };
+    Peer {
+        address: tuple.client,
+        heard: conn.heard,
+    }
+}
+
 /// All leave that are over.
 fn drop_over(table: &mut Table)
     ensures { table.new.entries ≡ without_over table.old.entries }
@@ -173,22 +193,23 @@ fn held_at(table: &Table, place: usize) -> u64
     }
 }
 
-/// The time comes to each connection in turn. What is sent goes behind the datagrams that are there. The connection at which memory
-/// is missing leaves, and those behind it are as they were.
+/// The time comes to each connection in turn, which forgets text behind a gap where memory is tight. What is sent goes behind the datagrams
+/// that are there. The connection at which memory is missing leaves, and those behind it are as they were.
 fn reach_all(
     table: &mut Table,
     alloc: Global,
+    tight: bool,
     now: u64,
     out: &mut Vec<Datagram>,
 ) -> Result<(), AllocError>
     requires { now ≤ last_time }
-    ensures table { OnOk result (table.new.entries ≡ all_reached now table.old.entries) }
-    ensures sent { OnOk result (out.new.items ≡ out.old.items ++ flat_map (λ c. sent_by c.0 (reached now c.1)) table.old.entries) }
-    ensures lost { OnErr result ((i : ℕ) × (i < length table.old.entries) × (table.new.entries ≡ without i (reached_until now i table.old.entries))) }
+    ensures table { OnOk result (table.new.entries ≡ all_reached tight now table.old.entries) }
+    ensures sent { OnOk result (out.new.items ≡ out.old.items ++ flat_map (λ c. sent_by c.0 (ticked tight now c.1)) table.old.entries) }
+    ensures lost { OnErr result ((i : ℕ) × (i < length table.old.entries) × (table.new.entries ≡ without i (reached_until tight now i table.old.entries))) }
 {
     for place in 0..table.len() {
         let (tuple, conn) = table.pair_mut(place);
-        if let Err(error) = conn.time(alloc, now, tuple, out) {
+        if let Err(error) = conn.tick(alloc, tight, now, tuple, out) {
             leave(table, place);
             return Err(error);
         }

@@ -17,6 +17,7 @@ const SETTING: Setting = Setting {
     idle: 7_200_000_000,
     bytes: 1 << 28,
     segment: 1460,
+    pings: 1000,
     ports: PLAIN_PORTS,
     site: None,
 };

@@ -94,6 +94,12 @@ impl Plain {
         Ok(Placed::Blocks)
     }
 
+    /// Nothing is held any more behind the first position that isn't.
+    fn forget_ahead(&mut self) {
+        let next = self.next();
+        self.held.retain(|at, _| *at < next);
+    }
+
     fn skip(&mut self, n: u64) {
         for _ in 0..n.min(4096) {
             self.held.remove(&self.taken);
@@ -174,6 +180,12 @@ impl Beside {
         self.plain.skip(u64::from(n));
     }
 
+    /// What is held behind a gap is forgotten.
+    fn forget_ahead(&mut self) {
+        self.queue.forget_ahead();
+        self.plain.forget_ahead();
+    }
+
     /// Another capacity; the edge of the window never goes back.
     fn resize(&mut self) {
         let cap = draw(&mut self.drawn, 400);
@@ -194,7 +206,8 @@ impl Beside {
 
 const LETTERS: &[u8; 26] = b"abcdefghijklmnopqrstuvwxyz";
 
-/// Several thousand placements, takes and changed capacities, at sizes that make runs join, stick out and block.
+/// Several thousand placements, takes and changed capacities, at sizes that make runs join, stick out and block; now and then what is held
+/// behind a gap is forgotten.
 #[test]
 fn beside_a_plain_map(rt: HostRuntime) -> Result<(), Fail> {
     let mut both = Beside::make(rt.alloc(), 300);
@@ -213,6 +226,9 @@ fn beside_a_plain_map(rt: HostRuntime) -> Result<(), Fail> {
         }
         if draw(&mut both.drawn, 200) == 0 {
             both.resize();
+        }
+        if turn % 1000 > 800 && draw(&mut both.drawn, 40) == 0 {
+            both.forget_ahead();
         }
         if turn % 16 == 0 {
             compare(&rt, &both.queue, &both.plain);

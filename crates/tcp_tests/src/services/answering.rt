@@ -3,7 +3,7 @@
 ghost use Rattle.std.specs.Prelude.{◌^◌, ◌<◌, length};
 
 use echo_services::serve;
-use http_pages::Pages;
+use http_pages::{Answer, Pages};
 use page_service::{Answerer, Behind, Phase};
 use segment_codec::Seg;
 use sq_base::{Addr, Tuple};
@@ -240,16 +240,18 @@ fn is_last(tcb: &mut Tcb, alloc: Global, text: &[u8]) -> bool {
     }
 }
 
-/// A request cut in two (RFC 9112, 2.1 and 3) has its answer once it is whole; behind the answer to an HTTP/1.0 request (9.3) comes our FIN.
-#[test]
-fn pages(rt: HostRuntime) -> Result<(), Fail> {
-    let site = site(&rt, rt.alloc())?;
-    let mut connection = open(&rt, &site, rt.alloc(), 1000)?;
+/// A request cut in two (RFC 9112, 2.1 and 3) waits in the receive queue.
+fn half(
+    rt: &impl Abort,
+    site: &Pages,
+    connection: &mut Connection<Answer>,
+    alloc: Global,
+) -> Result<(), Fail> {
     arrive(
-        &rt,
-        &site,
-        &mut connection,
-        rt.alloc(),
+        rt,
+        site,
+        connection,
+        alloc,
         (ACK, 101, 501),
         1000,
         b"GET /a HT",
@@ -258,11 +260,21 @@ fn pages(rt: HostRuntime) -> Result<(), Fail> {
         (connection.phase, connection.tcb.ready()),
         (Phase::Reads, 9)
     );
+    Ok(())
+}
+
+/// It has its answer once it is whole.
+fn whole(
+    rt: &impl Abort,
+    site: &Pages,
+    connection: &mut Connection<Answer>,
+    alloc: Global,
+) -> Result<(), Fail> {
     arrive(
-        &rt,
-        &site,
-        &mut connection,
-        rt.alloc(),
+        rt,
+        site,
+        connection,
+        alloc,
         (ACK, 110, 501),
         1000,
         b"TP/1.1\r\nHost: x\r\n\r\n",
@@ -274,15 +286,25 @@ fn pages(rt: HostRuntime) -> Result<(), Fail> {
     assert!(rt;
         is_last(
             &mut connection.tcb,
-            rt.alloc(),
+            alloc,
             b"HTTP/1.1 200 OK\r\nDate: Thu, 01 Jan 1970 00:00:00 GMT\r\nETag: \"t\"\r\nContent-Type: text/plain\r\nContent-Length: 5\r\n\r\nhello"
         )
     );
+    Ok(())
+}
+
+/// Behind the answer to an HTTP/1.0 request (RFC 9112, 9.3) comes our FIN.
+fn last(
+    rt: &impl Abort,
+    site: &Pages,
+    connection: &mut Connection<Answer>,
+    alloc: Global,
+) -> Result<(), Fail> {
     arrive(
-        &rt,
-        &site,
-        &mut connection,
-        rt.alloc(),
+        rt,
+        site,
+        connection,
+        alloc,
         (ACK, 129, 618),
         1000,
         b"GET /b HTTP/1.0\r\n\r\n",
@@ -292,4 +314,14 @@ fn pages(rt: HostRuntime) -> Result<(), Fail> {
         (Phase::Ends, State::FinWait1)
     );
     Ok(())
+}
+
+/// A request that comes in two segments, and one that is the last of its connection.
+#[test]
+fn pages(rt: HostRuntime) -> Result<(), Fail> {
+    let site = site(&rt, rt.alloc())?;
+    let mut connection = open(&rt, &site, rt.alloc(), 1000)?;
+    half(&rt, &site, &mut connection, rt.alloc())?;
+    whole(&rt, &site, &mut connection, rt.alloc())?;
+    last(&rt, &site, &mut connection, rt.alloc())
 }

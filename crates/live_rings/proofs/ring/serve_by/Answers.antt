@@ -1,8 +1,9 @@
-use Rattle.std.proofs.Common.{◌≡◌, ◌∙◌, false, ap, subst, sym}
-use Rattle.std.specs.Prelude.{IfOk, IfSome, OnOk}
-use Rattle.std.specs.Io.KnownBytes.{Appends}
+use Rattle.std.proofs.Common.{◌≡◌, ◌∙◌, ℕ, List, false, ap, subst, sym}
+use Rattle.std.specs.Prelude.{Err, IfOk, IfSome, OnOk}
+use Rattle.std.specs.Io.KnownBytes.{Appends, Consumes}
 use Rattle.live_server.specs.Frames.{answers, frames_in}
 use Rattle.live_server.specs.Told.{told_frames}
+use Rattle.live_run.specs.declared.fault.Fault.TheVariants as Fault'
 use Rattle.live_run.specs.Fronts.{AppendsFront}
 use Rattle.live_server.specs.Serving.{server_of as server_by}
 use Rattle.live_rings.specs.Making.{server_of}
@@ -26,6 +27,9 @@ returns-clause-served g c =
       reading = e.reading;
       writing = e.writing;
       frames = e.frames;
+      answered = subst (λ s. c.serve_stream-served.result ≡ Err Fault'.Frames → lost ≡ false → IfSome (g.S.Source.rest c.args.reader.now) (λ input. Appends (g.K.Sink.contents c.args.sink.now) (g.K.Sink.contents c.serve_stream-served.new.sink) (answers input s))) first e.answered;
+      so_far = subst (λ s. c.serve_stream-served.result ≡ Err Fault'.Reading → lost ≡ false
+          → (there : List ℕ) × Consumes (g.S.Source.rest c.args.reader.now) (g.S.Source.rest c.serve_stream-served.new.source) there × Appends (g.K.Sink.contents c.args.sink.now) (g.K.Sink.contents c.serve_stream-served.new.sink) (answers there s)) first e.so_far;
       words = e.words;
     }
 

@@ -1,12 +1,12 @@
 use Rattle.std.proofs.Common.{◌≡◌, ◌≢◌, ◌++◌, ◌∙◌, ◌<◌, [], None, length, refl, rules, subst, sym, take, OnErr, Result}
-use Rattle.std.proofs.KnownBytes.{Appends-nil, Appends-trans, Consumes-nil, Consumes-trans}
+use Rattle.std.proofs.KnownBytes.{Appends-nil, Appends-trans, Consumes-kept, Consumes-nil, Consumes-trans}
 use Rattle.std.specs.Io.KnownBytes.{Appends, Consumes}
 use Rattle.live_server.specs.Frames.{frames_in, rest_of, serves_frames}
 use Rattle.live_server.specs.Serving.{server_of}
 use Rattle.live_server.proofs.ArriveLemmas.{not_yet}
 use Rattle.live_server.proofs.PieceLemmas.{piece_answered, piece_left, piece_served}
 use Rattle.live_server.proofs.ToldLemmas.{piece_heard}
-use Rattle.live_run.proofs.FrontLemmas.{broken_left, wrote_further, wrote_so_far}
+use Rattle.live_run.proofs.FrontLemmas.{broken_answered, broken_left, wrote_further, wrote_so_far}
 use Rattle.live_run.proofs.ReadLemmas.{all_read, front_read, map_ok, nothing_read, on_ok}
 use Rattle.live_run.specs.declared.fault.Fault.{Fault}
 use Rattle.live_run.proofs.frames.serve_pieces.Goals as goal
@@ -58,6 +58,16 @@ returns-in-Err-clause-frames g c = λ is.
     let broken = c.in-Err.ensures.frames is in
     front_read _ _ (so_far.there ++ got) _ (Consumes-trans _ _ _ so_far.there got so_far.read c.in-Ok.ensures.bytes.0)
     (broken_left so_far.there c.pieces.pending.items first (serves_frames (frames_in so_far.there) first).server so_far.left refl None None tt got broken.0 broken.1)
+
+pub returns-in-Err-clause-answered : goal.returns-in-Err-clause-answered
+returns-in-Err-clause-answered g c = λ is still.
+    let so_far = c.pieces.invariant in
+    let before = not_yet c.pieces.lost c.serve_piece.new.lost c.serve_piece.ensures.sticky still in
+    let got = take c.in-Ok.read c.read.new.buf in
+    let broken = c.in-Err.ensures.frames is in
+    front_read _ _ (so_far.there ++ got) _ (Consumes-trans _ _ _ so_far.there got so_far.read c.in-Ok.ensures.bytes.0)
+    (broken_answered so_far.there c.pieces.pending.items (server_of g.T.ConnTable.conns c.args.rules.now) (server_of g.T.ConnTable.conns c.pieces.rules) so_far.left (so_far.server before) _ _ (so_far.written before) got broken.0 broken.1 _
+    (c.in-Err.ensures.answered is still))
 
 pub pieces-preserved : goal.pieces-preserved
 pieces-preserved g c =
@@ -120,3 +130,17 @@ returns-then-read-eq0-clause-frames g c = λ is.
     let read = subst (Consumes _ _) (nothing_read c.in-Ok.read so_far.there c.read.new.buf nothing) (Consumes-trans _ _ _ so_far.there got so_far.read c.in-Ok.ensures.bytes.0) in
     let some : c.as_slice.result.now ≢ [] = subst (λ (r : Result (Unit {0}) Fault). OnErr r (c.as_slice.result.now ≢ [])) is c.end_of.ensures.err in
     all_read _ _ so_far.there (λ input. rest_of input ≢ []) read (c.in-Ok.ensures.bytes.1 nothing room) (λ none. some (c.as_slice.ensures.value ∙ so_far.left ∙ none))
+
+pub returns-then-read-eq0-clause-answered : goal.returns-then-read-eq0-clause-answered
+returns-then-read-eq0-clause-answered g c = λ is still.
+    let so_far = c.pieces.invariant in
+    let got = take c.in-Ok.read c.read.new.buf in
+    let nothing : c.in-Ok.read ≡ 0 = search rules in
+    let room : 0 < length c.read.new.buf = search rules in
+    let read = subst (Consumes _ _) (nothing_read c.in-Ok.read so_far.there c.read.new.buf nothing) (Consumes-trans _ _ _ so_far.there got so_far.read c.in-Ok.ensures.bytes.0) in
+    all_read _ _ so_far.there _ read (c.in-Ok.ensures.bytes.1 nothing room) (so_far.written still)
+
+pub returns-in_default-clause-so_far : goal.returns-in_default-clause-so_far
+returns-in_default-clause-so_far g c = λ is still.
+    let so_far = c.pieces.invariant in
+    (so_far.there, Consumes-kept _ _ _ so_far.there so_far.read c.in_default.ensures.bytes, so_far.written still)
